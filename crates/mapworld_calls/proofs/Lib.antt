@@ -1,0 +1,6 @@
+pub mod Folds
+pub mod Lists
+pub mod Replays
+pub mod Grown
+pub mod Kept
+pub mod Commuting

@@ -1,0 +1,65 @@
+-- What each call tells and leaves, of one key of a plain map.
+use Rattle.std.specs.Prelude.{Option, Some, None}
+use Rattle.mapworld_calls.specs.declared.ask.Ask.{Ask}
+use Rattle.mapworld_calls.specs.declared.ask.Ask.TheVariants as ask
+use Rattle.mapworld_calls.specs.declared.ask.Keyed.{Keyed}
+use Rattle.mapworld_calls.specs.declared.ask.Keyed.TheVariants as keyed
+use Rattle.mapworld_calls.specs.declared.ask.Begin.{Begin}
+use Rattle.mapworld_calls.specs.declared.ask.Begin.TheVariants as begin
+use Rattle.mapworld_calls.specs.declared.ask.Held.{Held}
+use Rattle.mapworld_calls.specs.declared.ask.Held.TheVariants as held
+use Rattle.mapworld_calls.specs.declared.reply.Answer.{Answer}
+use Rattle.mapworld_calls.specs.declared.reply.Answer.TheVariants as answer
+use Rattle.mapworld_calls.specs.Deeds.{Deeds}
+
+-- one key between two calls of a block: no guard and the key's pair, if there is one, or a guard with its pair
+pub data At (K V : Type 0) : Type 0 where
+  free : Option (K × V) → At K V
+  shared : K × V → At K V
+
+abbrev pub pair_in : {K V : Type 0} → At K V → Option (K × V)
+pair_in (free o) = o
+pair_in (shared p) = Some p
+
+-- a keyed call, by the pair that it finds
+abbrev pub keyed_answer : {K V T : Type 0} → Keyed K V → Option (K × V) → Answer K V T
+keyed_answer (keyed.Insert k w) None = answer.None
+keyed_answer (keyed.Insert k w) (Some p) = answer.Value p.1
+keyed_answer (keyed.Remove k) None = answer.None
+keyed_answer (keyed.Remove k) (Some p) = answer.Pair p.0 p.1
+
+abbrev pub keyed_leaves : {K V : Type 0} → Keyed K V → Option (K × V) → Option (K × V)
+keyed_leaves (keyed.Insert k w) None = Some (k, w)
+keyed_leaves (keyed.Insert k w) (Some p) = Some (p.0, w)
+keyed_leaves (keyed.Remove k) o = None
+
+-- an opening, by the pair that it finds
+abbrev pub opening_answer : {K V T : Type 0} → Begin K → Option (K × V) → Answer K V T
+opening_answer (begin.Get k) None = answer.None
+opening_answer (begin.Get k) (Some p) = answer.Held
+
+abbrev pub opened : {K V : Type 0} → Begin K → Option (K × V) → At K V
+opened (begin.Get k) None = free None
+opened (begin.Get k) (Some p) = shared p
+
+-- a call on the guard
+abbrev pub held_answer : {D K V T : Type 0} → Deeds D K V T → Held D → At K V → Answer K V T
+held_answer deeds h (free o) = answer.NoGuard
+held_answer deeds (held.Read d) (shared p) = answer.Read (deeds.answer d p.0 p.1)
+held_answer deeds held.Drop (shared p) = answer.Done
+
+abbrev pub held_leaves : {D K V T : Type 0} → Deeds D K V T → Held D → At K V → At K V
+held_leaves deeds h (free o) = free o
+held_leaves deeds (held.Read d) (shared p) = shared p
+held_leaves deeds held.Drop (shared p) = free (Some p)
+
+-- what a call is answered, and what it leaves
+abbrev pub told : {D K V T : Type 0} → Deeds D K V T → Ask K V D → At K V → Answer K V T
+told deeds (ask.Keyed k) s = keyed_answer k (pair_in s)
+told deeds (ask.Begin b) s = opening_answer b (pair_in s)
+told deeds (ask.Held h) s = held_answer deeds h s
+
+abbrev pub after : {D K V T : Type 0} → Deeds D K V T → Ask K V D → At K V → At K V
+after deeds (ask.Keyed k) s = free (keyed_leaves k (pair_in s))
+after deeds (ask.Begin b) s = opened b (pair_in s)
+after deeds (ask.Held h) s = held_leaves deeds h s

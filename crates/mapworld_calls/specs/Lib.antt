@@ -1,0 +1,9 @@
+pub mod Deeds
+pub mod Programs
+pub mod Calls
+pub mod Setup
+pub mod Pairs
+pub mod Replay
+pub mod Agrees
+pub mod Placed
+pub mod Laws

@@ -1,0 +1,61 @@
+-- Programs: which calls stand in a session, and what each needs.
+use Rattle.std.specs.Prelude.{◌≡◌, ℕ, zero, suc, ◌+◌, ◌<◌, Bool, true, false, List, [], ◌∷◌, Option, Some, None, slice_get, sum_by}
+use Rattle.mapworld_calls.specs.declared.ask.Ask.{Ask}
+use Rattle.mapworld_calls.specs.declared.ask.Ask.TheVariants as ask
+use Rattle.mapworld_calls.specs.declared.ask.Held.{Held}
+use Rattle.mapworld_calls.specs.declared.ask.Held.TheVariants as held
+use Rattle.mapworld_calls.specs.declared.ask.Keyed.{Keyed}
+use Rattle.mapworld_calls.specs.declared.ask.Keyed.TheVariants as keyed
+use Rattle.mapworld_calls.specs.declared.ask.Begin.TheVariants as begin
+
+-- the session that stands open behind a call: an opening begins one, and a drop ends it
+abbrev pub session_behind : {K V D : Type 0} → ℕ → Option (Ask K V D) → Option ℕ → Option ℕ
+session_behind c (Some (ask.Begin b)) s = Some c
+session_behind c (Some (ask.Held held.Drop)) s = None
+session_behind c (Some (ask.Held (held.Read d))) s = s
+session_behind c (Some (ask.Keyed k)) s = s
+session_behind c None s = s
+
+-- the opening whose session call c stands in, if there is one
+abbrev pub opening_before : {K V D : Type 0} → List (Ask K V D) → ℕ → Option ℕ
+opening_before program zero = None
+opening_before program (suc c) = session_behind c (slice_get program c) (opening_before program c)
+
+-- the call is one of a guard's, and not its last
+abbrev pub IsBeforeDrop : {K V D : Type 0} → Option (Ask K V D) → Type 0
+IsBeforeDrop {K} {V} {D} a = (d : D) × (a ≡ Some (ask.Held (held.Read d)))
+
+-- each opening has its drop behind it, with nothing but calls on the guard between
+abbrev pub HoldsOneGuard : {K V D : Type 0} → List (Ask K V D) → Type 0
+HoldsOneGuard {K} {V} {D} program =
+    (i : ℕ) (b : _) → slice_get program i ≡ Some (ask.Begin b)
+    → (j : ℕ) × (i < j) × (slice_get program j ≡ Some (ask.Held held.Drop)) × ((k : ℕ) → i < k → k < j → IsBeforeDrop (slice_get program k))
+
+-- whether a program that stands in a session, or does not, holds one guard at a time
+abbrev pub one_guard : {K V D : Type 0} → Bool → List (Ask K V D) → Bool
+one_guard false [] = true
+one_guard true [] = false
+one_guard false (ask.Keyed k ∷ asks) = one_guard false asks
+one_guard true (ask.Keyed k ∷ asks) = false
+one_guard false (ask.Begin b ∷ asks) = one_guard true asks
+one_guard true (ask.Begin b ∷ asks) = false
+one_guard within (ask.Held held.Drop ∷ asks) = one_guard false asks
+one_guard within (ask.Held (held.Read d) ∷ asks) = one_guard within asks
+
+-- how many guard numbers a call takes
+abbrev pub numbers_of : {K V D : Type 0} → Ask K V D → ℕ
+numbers_of (ask.Keyed k) = 1
+numbers_of (ask.Begin b) = 1
+numbers_of (ask.Held h) = 0
+
+-- the key that a call names
+abbrev pub key_of : {K V D : Type 0} → Ask K V D → Option K
+key_of (ask.Keyed (keyed.Insert k v)) = Some k
+key_of (ask.Keyed (keyed.Remove k)) = Some k
+key_of (ask.Begin (begin.Get k)) = Some k
+key_of (ask.Held h) = None
+
+-- the calls that may be refused for memory
+abbrev pub may_grow : {K V : Type 0} → Keyed K V → Bool
+may_grow (keyed.Insert k v) = true
+may_grow (keyed.Remove k) = false

@@ -1,0 +1,38 @@
+//! What a thread's program asks.
+
+/// One call of a program. Each counts as one.
+#[derive(Debug, Drop)]
+pub enum Ask<K, V, D> {
+    /// A call on one key, done under one hold of its shard.
+    Keyed(Keyed<K, V>),
+    /// An opening, which may give a guard.
+    Begin(Begin<K>),
+    /// A call on the guard.
+    Held(Held<D>),
+}
+
+/// A call on one key.
+#[derive(Debug, Drop)]
+pub enum Keyed<K, V> {
+    /// Stores the value at the key. On an absent key it answers `None` and adds the pair; on a present one it answers
+    /// `Value` with the old value, and the stored key stays.
+    Insert(K, V),
+    /// Takes the pair out. On an absent key it answers `None`, on a present one `Pair` with the stored key.
+    Remove(K),
+}
+
+/// An opening. The guard that it gives is held until the program's next `Held::Drop`.
+#[derive(Debug, Drop)]
+pub enum Begin<K> {
+    /// A shared guard of the key's pair, answered `Held`; `None` where the key is absent, and then there is no guard.
+    Get(K),
+}
+
+/// A call on the guard. Where no guard is held it answers `NoGuard` and changes nothing.
+#[derive(Debug, Drop)]
+pub enum Held<D> {
+    /// Answers `Read` with the deed's answer of the guarded pair.
+    Read(D),
+    /// Answers `Done`; the guard ends.
+    Drop,
+}

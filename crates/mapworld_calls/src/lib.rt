@@ -1,0 +1,16 @@
+//! The language of the world of maps: what a thread's program may ask of the map, what it is answered, and the test
+//! that a program holds one guard at a time. Beside it stand the definitions that the world's theorem speaks of: the
+//! plain map, what each call tells and leaves, and the replay of blocks in order of position.
+#![tactic(auto)]
+
+mod ask;
+mod block;
+mod deed;
+mod laws;
+mod reply;
+
+pub use ask::{Ask, Begin, Held, Keyed};
+pub use block::Block;
+pub use deed::Deed;
+pub use laws::shards_commute;
+pub use reply::{Answer, Reply};

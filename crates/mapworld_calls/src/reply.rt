@@ -1,0 +1,37 @@
+//! What a thread's program is answered.
+
+/// What a call is answered. `T` is the answer of the program's deeds.
+#[derive(Debug, Drop, PartialEq, Eq)]
+pub enum Answer<K, V, T> {
+    /// It is done.
+    Done,
+    /// The key was absent.
+    None,
+    /// The value that was replaced.
+    Value(V),
+    /// The pair that was taken out: the stored key and its value.
+    Pair(K, V),
+    /// What a deed read.
+    Read(T),
+    /// A guard is held.
+    Held,
+    /// A call on a guard where none is held.
+    NoGuard,
+    /// A growth was refused: code 99. The call changed no pair.
+    NoMemory,
+}
+
+/// The answer of one call of a program. Steps are numbered from 1 over the life of a world.
+#[derive(Debug, Drop, PartialEq, Eq)]
+pub struct Reply<K, V, T> {
+    /// Whose call it is.
+    pub thread: usize,
+    /// Its place in the thread's program, counted from 0.
+    pub call: usize,
+    /// The step at which it started.
+    pub start: u64,
+    /// The step at which it was answered.
+    pub end: u64,
+    /// What it was answered.
+    pub answer: Answer<K, V, T>,
+}
