@@ -8,17 +8,13 @@ use Rattle.mapworld_calls.specs.declared.block.Block.{Block}
 use Rattle.mapworld_calls.specs.Setup.{Setup, Laws, ask_at}
 use Rattle.mapworld_calls.specs.Pairs.{opening_pair}
 use Rattle.mapworld_calls.specs.Calls.{At, pair_in}
-use Rattle.mapworld_calls.specs.Replay.{reached, block_key, is_key, left, contents, at_key, found, told_by, AreApart}
+use Rattle.mapworld_calls.specs.Replay.{reached, block_key, is_key, left, contents, at_key, found, told_by, AreApart, IsLastOnShard}
 use Rattle.mapworld_calls.proofs.Folds.{fold-replaced, fold-last, fold-idle, slice_set-itself, take-set_above, take-set_below, slice_get-take, slice_get-from_take, take-take}
 use Rattle.mapworld_calls.proofs.Replays.{left-touched, left-untouched, contents-found, apart-untouched, apart-other}
 
 -- what c has done leaves the key's pair as what b has done
 abbrev pub IsQuiet : {K V D T : Type 0} → Setup K V D T → Block K → ℕ → Option (K × V) → Type 0
 IsQuiet w b n o = pair_in (reached w b.thread b.call n o) ≡ pair_in (reached w b.thread b.call b.done.value o)
-
--- all later blocks are on other shards
-abbrev pub IsLastOnShard : {K V D T : Type 0} → Setup K V D T → List (Block K) → ℕ → Block K → Type 0
-IsLastOnShard {K} w bs i b = (j : ℕ) (d : Block K) → i < j → slice_get bs j ≡ Some d → AreApart w b d
 
 -- the block at a place gives way to one of the same call that has done more: nothing changes by it, or it is the last on its shard
 pub record Grows {K V D T : Type 0} (w : Setup K V D T) (bs : List (Block K)) (i : ℕ) (b c : Block K) : Type 0 where

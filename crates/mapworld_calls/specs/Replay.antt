@@ -1,5 +1,5 @@
 -- The replay: one plain map takes each block whole, in the order in which the blocks are listed.
-use Rattle.std.specs.Prelude.{◌≡◌, ℕ, zero, suc, ◌+◌, Bool, false, if◌then◌else◌, List, Option, Some, None, fold, take, IsTrue, ◌≢◌}
+use Rattle.std.specs.Prelude.{◌≡◌, ℕ, zero, suc, ◌+◌, Bool, false, if◌then◌else◌, List, Option, Some, None, fold, take, slice_get, ◌<◌, ◌≢◌}
 use Rattle.std.specs.Option.{option_and_then, option_map}
 use Rattle.mapworld_calls.specs.declared.ask.Ask.{Ask}
 use Rattle.mapworld_calls.specs.declared.block.Block.{Block}
@@ -51,3 +51,7 @@ told_by w b n o = option_map (λ a. told w.deeds a (reached w b.thread b.call n 
 -- two blocks are on different shards
 abbrev pub AreApart : {K V D T : Type 0} → Setup K V D T → Block K → Block K → Type 0
 AreApart {K} w b c = (j k : K) → block_key w b ≡ Some j → block_key w c ≡ Some k → w.route j ≢ w.route k
+
+-- all later blocks of the list are on other shards than the block at that place
+abbrev pub IsLastOnShard : {K V D T : Type 0} → Setup K V D T → List (Block K) → ℕ → Block K → Type 0
+IsLastOnShard {K} w bs i b = (j : ℕ) (d : Block K) → i < j → slice_get bs j ≡ Some d → AreApart w b d

@@ -1,0 +1,6 @@
+pub mod State
+pub mod Holds
+pub mod Moves
+pub mod Steps
+pub mod Sound
+pub mod Running

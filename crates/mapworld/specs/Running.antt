@@ -1,0 +1,71 @@
+-- Which steps are refused, and what a run of steps leads to.
+use Rattle.std.specs.Prelude.{◌≡◌, ℕ, ◌+◌, ◌-◌, ◌*◌, ◌^◌, Bool, true, false, not, if◌then◌else◌, nat_lt, nat_le, List, [], ◌∷◌, length, Option, Some, None, slice_get, sum_by, ◌==◌}
+use Rattle.mapworld_calls.specs.Setup.{Setup}
+use Rattle.mapworld.specs.declared.fault.RunFault.{RunFault}
+use Rattle.mapworld.specs.declared.fault.RunFault.TheVariants as fault
+use Rattle.mapworld.specs.declared.holds.Held.{Held}
+use Rattle.mapworld.specs.declared.step.Step.{Step}
+use Rattle.mapworld.specs.declared.step.Status.{Status}
+use Rattle.mapworld.specs.declared.step.Status.TheVariants as status
+use Rattle.mapworld.specs.declared.place.Phase.{Phase}
+use Rattle.mapworld.specs.declared.place.Phase.TheVariants as phase
+use Rattle.mapworld.specs.declared.place.Place.{Place}
+use Rattle.mapworld.specs.Holds.{is_excluded}
+use Rattle.mapworld.specs.State.{State, next_step, pairs_of}
+use Rattle.mapworld.specs.Moves.{mode_of}
+use Rattle.mapworld.specs.Steps.{IsStep}
+
+-- how many calls aren't answered
+abbrev pub unanswered_of : {K V S D T A : Type 0} → State K V S D T A → ℕ
+unanswered_of w = sum_by length w.programs - length w.replies
+
+-- how many steps are enough, for n threads, s shards, p pairs and c unanswered calls
+abbrev pub bound : ℕ → ℕ → ℕ → ℕ → ℕ
+bound n s p c = 256 * (n + 1) * (n + 1) * (c + 1) * (s + 1) + 2 * (c + 1) * (p + c + 1)
+
+abbrev pub bound_of : {K V S D T A : Type 0} → State K V S D T A → ℕ
+bound_of w = bound (length w.programs) (length w.tables) (length (pairs_of w)) (unanswered_of w)
+
+-- where a thread stands that is before that phase, with that much of its program left
+abbrev pub status_before : {K V D T : Type 0} → List Held → ℕ → ℕ → Phase K V D T → Status
+status_before holds left shard phase.Rest = if left == 0 then status.Finished else status.Running
+status_before holds left shard (phase.Admit r) = if is_excluded holds shard (mode_of r) then status.Asleep else status.Running
+status_before holds left shard (phase.Find r) = status.Running
+status_before holds left shard (phase.Grow k v) = status.Running
+status_before holds left shard (phase.Append k v) = status.Running
+status_before holds left shard (phase.Replace i v) = status.Running
+status_before holds left shard (phase.Take i) = status.Running
+status_before holds left shard (phase.Read d) = status.Running
+status_before holds left shard (phase.Release a) = status.Running
+status_before holds left shard (phase.Answer a) = status.Running
+
+abbrev pub status_at : {K V D T A : Type 0} → List Held → Option (Place K V D T A) → Status
+status_at holds None = status.Finished
+status_at holds (Some p) = status_before holds (length p.asks.items) p.shard p.phase
+
+abbrev pub status_of : {K V S D T A : Type 0} → State K V S D T A → ℕ → Status
+status_of w t = status_at w.holds (slice_get w.places t)
+
+abbrev pub is_running : Status → Bool
+is_running status.Running = true
+is_running status.Asleep = false
+is_running status.Finished = false
+
+-- whether step numbers are left for one more step and all that must come after it
+abbrev pub has_numbers : {K V S D T A : Type 0} → State K V S D T A → Bool
+has_numbers w = nat_le (length w.steps + 1 + bound_of w + 2 * (unanswered_of w + 1)) (2 ^ 63)
+
+-- why a step is refused where n steps of the run are done, tried in this order
+abbrev pub refusal : {K V S D T A : Type 0} → State K V S D T A → ℕ → Step → Option RunFault
+refusal w n s =
+    if nat_lt s.thread (length w.programs)
+    then (if is_running (status_of w s.thread)
+      then (if has_numbers w then None else Some (fault.StepsShort n))
+      else Some (fault.CannotMove n))
+    else Some (fault.NoSuchThread n)
+
+-- the steps lead from one world to the other, one after another, each one of a kind and none refused
+abbrev pub Ran : {K V S D T A : Type 0} → Setup K V D T → ℕ → State K V S D T A → List Step → State K V S D T A → Type 0
+Ran x n w [] w' = w' ≡ w
+Ran {K} {V} {S} {D} {T} {A} x n w (s ∷ steps) w' =
+    (mid : State K V S D T A) × (refusal w n s ≡ None) × IsStep x w s mid × Ran x (n + 1) mid steps w'

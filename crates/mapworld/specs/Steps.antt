@@ -1,0 +1,218 @@
+-- The kinds of steps: what each changes, of which thread, and that nothing else changes.
+use Rattle.std.specs.Prelude.{◌≡◌, ◌≢◌, ℕ, ◌+◌, ◌-◌, ◌*◌, ◌<◌, ◌≤◌, ◌⊎◌, Bool, true, false, not, if◌then◌else◌, nat_lt, nat_le, List, [], ◌∷◌, ◌++◌, length, Option, Some, None, slice_get, slice_set, position, remove, sum_by, vec_len, vec_capacity, is_some}
+use Rattle.std.specs.declared.vec.Vec.{Vec}
+use Rattle.std.specs.declared.collections.VecDeque.{VecDeque}
+use Rattle.mapworld_calls.specs.declared.ask.Ask.{Ask}
+use Rattle.mapworld_calls.specs.declared.block.Block.{Block}
+use Rattle.mapworld_calls.specs.declared.reply.Answer.{Answer}
+use Rattle.mapworld_calls.specs.declared.reply.Answer.TheVariants as answer
+use Rattle.mapworld_calls.specs.Setup.{Setup}
+use Rattle.mapworld_calls.specs.Pairs.{has_key}
+use Rattle.mapworld.specs.declared.holds.Hold.{Hold}
+use Rattle.mapworld.specs.declared.holds.Held.{Held}
+use Rattle.mapworld.specs.declared.step.Step.{Step}
+use Rattle.mapworld.specs.declared.place.Request.{Request}
+use Rattle.mapworld.specs.declared.place.Phase.{Phase}
+use Rattle.mapworld.specs.declared.place.Phase.TheVariants as phase
+use Rattle.mapworld.specs.declared.place.Place.{Place}
+use Rattle.mapworld.specs.Holds.{is_excluded}
+use Rattle.mapworld.specs.State.{State, next_step, pairs_of}
+use Rattle.mapworld.specs.Moves.{request_key, mode_of, is_last, start_phase, start_shard, start_counts, found_phase, found_done, found_slot, block_behind, stepped, ListsBlock, CountsCall, EndsBlock}
+
+-- where the key's pair stands in a shard's list, and whether the list has room for one more
+abbrev pub slot_in : {K V A : Type 0} → (K → K → Bool) → Vec (K × V) A → K → Option ℕ
+slot_in eq table k = position (has_key eq k) table.items
+
+abbrev pub has_room : {X A : Type 0} → Vec X A → Bool
+has_room v = nat_lt (vec_len v) (vec_capacity v)
+
+module _ {K V S D T A : Type 0} (x : Setup K V D T) (w : State K V S D T A) (s : Step) (w' : State K V S D T A) where
+  -- a start takes the thread's next call and sets `started` to its number
+  pub record Starts : Type 0 where
+    pub place : Place K V D T A
+    pub stands : slice_get w.places s.thread ≡ Some place
+    pub before : place.phase ≡ phase.Rest
+    pub ask : Ask K V D
+    pub rest : VecDeque (Ask K V D) A
+    pub asked : place.asks.items ≡ ask ∷ rest.items
+    pub blocks : List (Block K)
+    pub counted : CountsCall w.blocks (start_counts ask place.slot place.block) place.next blocks
+    pub after : w' ≡ record (stepped w s (record place {
+        asks = rest;
+        started = Some (next_step w);
+        closes = is_last ask;
+        shard = start_shard x.route ask place.shard;
+        phase = start_phase ask place.slot;
+      })) { blocks = blocks }
+
+  -- an admission takes a hold that no other hold excludes, under a guard number that none of them has
+  pub record Admits : Type 0 where
+    pub place : Place K V D T A
+    pub stands : slice_get w.places s.thread ≡ Some place
+    pub request : Request K V
+    pub before : place.phase ≡ phase.Admit request
+    pub admitted : is_excluded w.holds place.shard (mode_of request) ≡ false
+    pub hold : Hold
+    pub hold_is : (hold.shard ≡ place.shard) × (hold.mode ≡ mode_of request)
+    pub fresh : (i : ℕ) (h : Held) → slice_get w.holds i ≡ Some h → h.hold.guard ≢ hold.guard
+    pub after : w' ≡ record (stepped w s (record place { hold = Some hold; phase = phase.Find request })) { holds = w.holds ++ record { hold = hold; party = s.thread } ∷ [] }
+
+  -- a find looks for the key in the held shard; it is the position of the block that it lists
+  pub record Finds : Type 0 where
+    pub place : Place K V D T A
+    pub stands : slice_get w.places s.thread ≡ Some place
+    pub request : Request K V
+    pub before : place.phase ≡ phase.Find request
+    pub table : Vec (K × V) A
+    pub held : slice_get w.tables place.shard ≡ Some table
+    pub done : Option ℕ
+    pub done_is : done ≡ found_done request (slot_in x.eq table (request_key request)) (has_room table)
+    pub blocks : List (Block K)
+    pub listed : ListsBlock w s.thread place done blocks
+    pub after : w' ≡ record (stepped w s (record place {
+        block = block_behind done (length w.blocks) place.block;
+        slot = found_slot request (slot_in x.eq table (request_key request));
+        phase = found_phase request (slot_in x.eq table (request_key request)) (has_room table);
+      })) { blocks = blocks }
+
+  -- a find that grows the shard's list, which keeps its pairs; it is the position of the block that it lists
+  pub record GrowsList : Type 0 where
+    pub place : Place K V D T A
+    pub stands : slice_get w.places s.thread ≡ Some place
+    pub key : K
+    pub value : V
+    pub before : place.phase ≡ phase.Grow key value
+    pub table : Vec (K × V) A
+    pub held : slice_get w.tables place.shard ≡ Some table
+    pub grown : Vec (K × V) A
+    pub pairs : grown.items ≡ table.items
+    pub room : vec_len grown < vec_capacity grown
+    pub blocks : List (Block K)
+    pub listed : ListsBlock w s.thread place (Some 0) blocks
+    pub after : w' ≡ record (stepped w s (record place { block = Some (length w.blocks); phase = phase.Append key value })) { tables = slice_set w.tables place.shard grown; blocks = blocks }
+
+  -- a find whose growth is refused: no block is listed, no pair changes, and the call goes on to its release
+  pub record IsRefusedGrowth : Type 0 where
+    pub place : Place K V D T A
+    pub stands : slice_get w.places s.thread ≡ Some place
+    pub key : K
+    pub value : V
+    pub before : place.phase ≡ phase.Grow key value
+    pub table : Vec (K × V) A
+    pub held : slice_get w.tables place.shard ≡ Some table
+    pub kept : Vec (K × V) A
+    pub pairs : kept.items ≡ table.items
+    pub full : vec_capacity table ≤ vec_len table
+    pub after : w' ≡ record (stepped w s (record place { phase = phase.Release answer.NoMemory })) { tables = slice_set w.tables place.shard kept }
+
+  -- a deed adds the pair
+  pub record Appends : Type 0 where
+    pub place : Place K V D T A
+    pub stands : slice_get w.places s.thread ≡ Some place
+    pub key : K
+    pub value : V
+    pub before : place.phase ≡ phase.Append key value
+    pub table : Vec (K × V) A
+    pub held : slice_get w.tables place.shard ≡ Some table
+    pub changed : Vec (K × V) A
+    pub pairs : changed.items ≡ table.items ++ (key, value) ∷ []
+    pub blocks : List (Block K)
+    pub counted : CountsCall w.blocks place.block place.next blocks
+    pub after : w' ≡ record (stepped w s (record place { phase = phase.Release answer.None })) { tables = slice_set w.tables place.shard changed; blocks = blocks }
+
+  -- a deed replaces the value and leaves the stored key
+  pub record Replaces : Type 0 where
+    pub place : Place K V D T A
+    pub stands : slice_get w.places s.thread ≡ Some place
+    pub slot : ℕ
+    pub value : V
+    pub before : place.phase ≡ phase.Replace slot value
+    pub table : Vec (K × V) A
+    pub held : slice_get w.tables place.shard ≡ Some table
+    pub pair : K × V
+    pub found : slice_get table.items slot ≡ Some pair
+    pub changed : Vec (K × V) A
+    pub pairs : changed.items ≡ slice_set table.items slot (pair.0, value)
+    pub blocks : List (Block K)
+    pub counted : CountsCall w.blocks place.block place.next blocks
+    pub after : w' ≡ record (stepped w s (record place { phase = phase.Release (answer.Value pair.1) })) { tables = slice_set w.tables place.shard changed; blocks = blocks }
+
+  -- a deed takes the pair out
+  pub record Takes : Type 0 where
+    pub place : Place K V D T A
+    pub stands : slice_get w.places s.thread ≡ Some place
+    pub slot : ℕ
+    pub before : place.phase ≡ phase.Take slot
+    pub table : Vec (K × V) A
+    pub held : slice_get w.tables place.shard ≡ Some table
+    pub pair : K × V
+    pub found : slice_get table.items slot ≡ Some pair
+    pub changed : Vec (K × V) A
+    pub pairs : changed.items ≡ remove table.items slot
+    pub blocks : List (Block K)
+    pub counted : CountsCall w.blocks place.block place.next blocks
+    pub after : w' ≡ record (stepped w s (record place { phase = phase.Release (answer.Pair pair.0 pair.1) })) { tables = slice_set w.tables place.shard changed; blocks = blocks }
+
+  -- a deed reads the guarded pair
+  pub record Reads : Type 0 where
+    pub place : Place K V D T A
+    pub stands : slice_get w.places s.thread ≡ Some place
+    pub deed : D
+    pub before : place.phase ≡ phase.Read deed
+    pub table : Vec (K × V) A
+    pub held : slice_get w.tables place.shard ≡ Some table
+    pub slot : ℕ
+    pub guarded : place.slot ≡ Some slot
+    pub pair : K × V
+    pub found : slice_get table.items slot ≡ Some pair
+    pub blocks : List (Block K)
+    pub counted : CountsCall w.blocks place.block place.next blocks
+    pub after : w' ≡ record (stepped w s (record place { phase = phase.Answer (answer.Read (x.deeds.answer deed pair.0 pair.1)) })) { blocks = blocks }
+
+  -- a release ends the thread's hold, and its guard with it
+  pub record Releases : Type 0 where
+    pub place : Place K V D T A
+    pub stands : slice_get w.places s.thread ≡ Some place
+    pub answer : Answer K V T
+    pub before : place.phase ≡ phase.Release answer
+    pub hold : Hold
+    pub holds : place.hold ≡ Some hold
+    pub entry : ℕ
+    pub listed : slice_get w.holds entry ≡ Some (record { hold = hold; party = s.thread })
+    pub blocks : List (Block K)
+    pub counted : CountsCall w.blocks (if is_some place.slot then place.block else None) place.next blocks
+    pub after : w' ≡ record (stepped w s (record place { hold = None; slot = None; phase = phase.Answer answer })) { holds = remove w.holds entry; blocks = blocks }
+
+  -- an answer carries the start into the reply
+  pub record Answers : Type 0 where
+    pub place : Place K V D T A
+    pub stands : slice_get w.places s.thread ≡ Some place
+    pub answer : Answer K V T
+    pub before : place.phase ≡ phase.Answer answer
+    pub start : ℕ
+    pub begun : place.started ≡ Some start
+    pub blocks : List (Block K)
+    pub ended : EndsBlock w.blocks place.block place.next (next_step w) blocks
+    pub after : w' ≡ record (stepped w s (record place {
+        next = place.next + 1;
+        started = None;
+        block = if place.closes then None else place.block;
+        phase = phase.Rest;
+      })) {
+        blocks = blocks;
+        replies = w.replies ++ record { thread = s.thread; call = place.next; start = start; end = next_step w; answer = answer } ∷ [];
+      }
+
+-- one step of a world, of one kind
+pub data IsStep {K V S D T A : Type 0} (x : Setup K V D T) (w : State K V S D T A) (s : Step) (w' : State K V S D T A) : Type 0 where
+  start : Starts x w s w' → IsStep x w s w'
+  admit : Admits x w s w' → IsStep x w s w'
+  find : Finds x w s w' → IsStep x w s w'
+  find_grows : GrowsList x w s w' → IsStep x w s w'
+  find_refused : IsRefusedGrowth x w s w' → IsStep x w s w'
+  deed_appends : Appends x w s w' → IsStep x w s w'
+  deed_replaces : Replaces x w s w' → IsStep x w s w'
+  deed_takes : Takes x w s w' → IsStep x w s w'
+  deed_reads : Reads x w s w' → IsStep x w s w'
+  release : Releases x w s w' → IsStep x w s w'
+  answers : Answers x w s w' → IsStep x w s w'

@@ -1,0 +1,60 @@
+//! Where a thread stands in its program.
+
+use crate::holds::Hold;
+use mapworld_calls::{Answer, Ask, Begin, Keyed};
+use std::alloc::Allocator;
+use std::collections::VecDeque;
+
+/// What a call wants of the shard that it is to be admitted to.
+#[derive(Drop)]
+pub(crate) enum Request<K, V> {
+    Keyed(Keyed<K, V>),
+    Begin(Begin<K>),
+}
+
+/// What a thread's next step is.
+#[derive(Drop)]
+pub(crate) enum Phase<K, V, D, T> {
+    /// Between two calls: the start of the next one, if there is one.
+    Rest,
+    /// The admission to the shard.
+    Admit(Request<K, V>),
+    /// The look into the held shard.
+    Find(Request<K, V>),
+    /// The growth of the held shard's list, which has no room for the new pair.
+    Grow(K, V),
+    /// The new pair is added.
+    Append(K, V),
+    /// The value at that place of the list is replaced.
+    Replace(usize, V),
+    /// The pair at that place of the list is taken out.
+    Take(usize),
+    /// The guarded pair is read.
+    Read(D),
+    /// The hold ends, and the call is to be answered so.
+    Release(Answer<K, V, T>),
+    /// The call is answered.
+    Answer(Answer<K, V, T>),
+}
+
+/// A thread's place: what is left of its program, and what belongs to its call or session.
+#[derive(Drop)]
+pub(crate) struct Place<K, V, D, T, A: Allocator> {
+    /// The calls that have not started, in order.
+    pub asks: VecDeque<Ask<K, V, D>, A>,
+    /// The number of the call that it is in, or that is next.
+    pub next: usize,
+    /// The step at which its call started, while it is in one.
+    pub started: Option<u64>,
+    /// Whether its block ends with the call that it is in.
+    pub closes: bool,
+    /// The shard of its call or session.
+    pub shard: usize,
+    /// Its hold, from the admission to the release.
+    pub hold: Option<Hold>,
+    /// The block of its call or session, from the position on.
+    pub block: Option<usize>,
+    /// The place of the guarded pair in its shard's list, while it has a guard.
+    pub slot: Option<usize>,
+    pub phase: Phase<K, V, D, T>,
+}
