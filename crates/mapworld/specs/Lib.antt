@@ -4,3 +4,5 @@ pub mod Moves
 pub mod Steps
 pub mod Sound
 pub mod Running
+pub mod Route
+pub mod World

@@ -14,7 +14,7 @@ use Rattle.mapworld_calls.specs.Programs.{one_guard}
 use Rattle.mapworld_calls.specs.Calls.{At, free, shared}
 use Rattle.mapworld_calls.specs.Setup.{Setup, ask_at, session_of}
 use Rattle.mapworld_calls.specs.Pairs.{pair_of, AreDistinct}
-use Rattle.mapworld_calls.specs.Replay.{reached, contents, found, IsLastOnShard}
+use Rattle.mapworld_calls.specs.Replay.{reached, block_key, contents, found, IsLastOnShard}
 use Rattle.mapworld_calls.specs.Agrees.{HasNoBlock, IsAnsweredBy, IsAnswered}
 use Rattle.mapworld_calls.specs.Placed.{IsStepOf, answered_of, WellPlaced}
 use Rattle.mapworld.specs.declared.holds.Mode.{Mode}
@@ -131,6 +131,7 @@ pub record IsBeforeDeed {K V D T A : Type 0} (x : Setup K V D T) (bs : List (Blo
   pub listed : slice_get bs index ≡ Some block
   pub thread : block.thread ≡ t
   pub call : block.call ≡ p.next
+  pub key_is : block_key x block ≡ Some key
   pub done : block.done.value ≡ 0
   pub last : IsLastOnShard x bs index block
   pub found_is : found x bs index block ≡ o

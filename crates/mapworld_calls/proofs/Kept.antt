@@ -26,7 +26,7 @@ module _ {K V D T : Type 0} (w : Setup K V D T) where
   answered-in_session bs bs' t c (Some b) a keeps below h =
       elim h [ inl told ↦ inl (keeps.told b (c - b) a told) | inr none ↦ inr (none.0, keeps.none b (below b refl) none.1) ]
 
-  answered-by : (bs bs' : List (Block K)) (t c : ℕ) (x : Ask K V D) (a : Answer K V T) → Keeps bs bs' t c → ((b : ℕ) → session_of w t c ≡ Some b → b ≤ c)
+  pub answered-by : (bs bs' : List (Block K)) (t c : ℕ) (x : Ask K V D) (a : Answer K V T) → Keeps bs bs' t c → ((b : ℕ) → session_of w t c ≡ Some b → b ≤ c)
       → IsAnsweredBy w bs t c x a → IsAnsweredBy w bs' t c x a
   answered-by bs bs' t c (ask.Keyed k) a keeps below h =
       elim h [ inl told ↦ inl (keeps.told c 0 a told) | inr none ↦ inr (none.0, none.1, keeps.none c (omega arith) none.2) ]
@@ -71,11 +71,11 @@ module _ {K V D T : Type 0} (w : Setup K V D T) (laws : Laws w) (bs : List (Bloc
         told = ap (λ o. told_by w h.block n o) (found-grown w laws bs i b c g h.place h.block (inr h.listed)) ∙ h.told;
       }
 
-  told-grown : (t x n : ℕ) (a : Answer K V T) → IsToldBy w bs t x n a → IsToldBy w (slice_set bs i c) t x n a
+  pub told-grown : (t x n : ℕ) (a : Answer K V T) → IsToldBy w bs t x n a → IsToldBy w (slice_set bs i c) t x n a
   told-grown t x n a h =
       ⊎_elim (λ e. told-grown_own t x n a h (sym e)) (λ ne. told-grown_other t x n a h ne) (cases_eq i h.place)
 
-  none-grown : (t x : ℕ) → HasNoBlock bs t x → HasNoBlock (slice_set bs i c) t x
+  pub none-grown : (t x : ℕ) → HasNoBlock bs t x → HasNoBlock (slice_set bs i c) t x
   none-grown t x none j d at thread call =
       elim (slice_get-set_cases bs i j b d c g.listed at) [
         inl own ↦ none i b g.listed (sym (ap (λ z. z.thread) own.1 ∙ g.thread) ∙ thread) (sym (ap (λ z. z.call) own.1 ∙ g.call) ∙ call)

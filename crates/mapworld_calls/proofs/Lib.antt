@@ -4,3 +4,5 @@ pub mod Replays
 pub mod Grown
 pub mod Kept
 pub mod Commuting
+pub mod Programs
+pub mod Hashes

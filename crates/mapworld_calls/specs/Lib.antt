@@ -7,3 +7,5 @@ pub mod Replay
 pub mod Agrees
 pub mod Placed
 pub mod Laws
+pub mod Sessions
+pub mod Spread

@@ -7,10 +7,17 @@ mod ask;
 mod block;
 mod deed;
 mod laws;
+mod program;
 mod reply;
+mod spread;
 
 pub use ask::{Ask, Begin, Held, Keyed};
 pub use block::Block;
 pub use deed::Deed;
 pub use laws::shards_commute;
+pub use program::{guard_numbers, holds_one_guard, sessions_are_apart};
 pub use reply::{Answer, Reply};
+pub use spread::{SpreadHasher, SpreadState, spread_hash};
+
+#[cfg(test)]
+mod tests;

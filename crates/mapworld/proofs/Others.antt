@@ -1,0 +1,137 @@
+-- What holds of a thread's place stays when another thread makes a step.
+use Rattle.std.proofs.Common.{◌≡◌, ◌≢◌, ℕ, ◌+◌, ◌-◌, ◌<◌, ◌≤◌, ◌⊎◌, inl, inr, ⊎_elim, Bool, true, false, if◌then◌else◌, List, [], ◌∷◌, ◌++◌, length, Option, Some, None, slice_get, refl, ap, sym, ◌∙◌, subst, arith}
+use Rattle.std.specs.declared.vec.Vec.{Vec}
+use Rattle.std.proofs.lemmas.Option.{slice_get_within}
+use Rattle.mapworld_calls.specs.declared.ask.Ask.{Ask}
+use Rattle.mapworld_calls.specs.declared.block.Block.{Block}
+use Rattle.mapworld_calls.specs.declared.reply.Reply.{Reply}
+use Rattle.mapworld_calls.specs.declared.reply.Answer.{Answer}
+use Rattle.mapworld_calls.specs.Calls.{At, free, shared}
+use Rattle.mapworld_calls.specs.Setup.{Setup, Laws, ask_at, session_of}
+use Rattle.mapworld_calls.specs.Programs.{opening_before}
+use Rattle.mapworld_calls.specs.Replay.{reached, found, AreApart, IsLastOnShard}
+use Rattle.mapworld_calls.specs.Agrees.{IsAnsweredBy}
+use Rattle.mapworld_calls.specs.Placed.{IsStepOf, answered_of}
+use Rattle.mapworld_calls.proofs.Lists.{slice_get-push_below}
+use Rattle.mapworld_calls.proofs.Kept.{answered-by}
+use Rattle.mapworld.specs.declared.holds.Mode.{Mode}
+use Rattle.mapworld.specs.declared.holds.Mode.TheVariants.{Shared, Exclusive}
+use Rattle.mapworld.specs.declared.place.Phase.{Phase}
+use Rattle.mapworld.specs.declared.place.Phase.TheVariants as phase
+use Rattle.mapworld.specs.declared.place.Place.{Place}
+use Rattle.mapworld.specs.Sound.{HasPair, HoldsShard, GuardIs, HasSession, IsInSessionOf, IsInSession, IsReady, IsInCall, IsBeforeDeed, HasList, IsReleasing, Claim, OwnsBlocks, Stands}
+use Rattle.mapworld.proofs.Effects.{Effect, none-other, keeps-other}
+
+pub IsStepOf-push : (threads : List ℕ) (s t n : ℕ) → IsStepOf threads t n → IsStepOf (threads ++ s ∷ []) t n
+IsStepOf-push threads s t n h = (h.0, slice_get-push_below threads (n - 1) t s h.1)
+
+module _ {K V D T A : Type 0} (x : Setup K V D T) (threads : List ℕ) (s : ℕ) (t : ℕ) (p : Place K V D T A) (a : Ask K V D) where
+  pub IsInCall-push : IsInCall x threads t p a → IsInCall x (threads ++ s ∷ []) t p a
+  IsInCall-push h = record { asked = h.asked; closes = h.closes; start = h.start; started = h.started; begun = IsStepOf-push threads s t h.start h.begun }
+
+-- where the effect of a step on a thread's own session is nothing but the growth of other blocks
+module _ {K V D T A : Type 0} (x : Setup K V D T) (bs bs' : List (Block K)) (tables tables' : List (Vec (K × V) A)) (t : ℕ) (p : Place K V D T A)
+    (kept : (m : Mode) → HoldsShard p m → slice_get tables' p.shard ≡ slice_get tables p.shard) where
+  pub pair-kept : (m : Mode) (i : ℕ) (pair : K × V) → HoldsShard p m → HasPair tables p.shard i pair → HasPair tables' p.shard i pair
+  pair-kept m i pair h has = record { table = has.table; held = kept m h ∙ has.held; pair_is = has.pair_is }
+
+  pub list-kept : (m : Mode) (IsSo : Vec (K × V) A → Type 0) → HoldsShard p m → HasList tables p.shard IsSo → HasList tables' p.shard IsSo
+  list-kept m IsSo h has = record { table = has.table; held = kept m h ∙ has.held; so = has.so }
+
+  pub guard-kept : (slot : Option ℕ) (at at' : At K V) → at' ≡ at → GuardIs tables p slot at → GuardIs tables' p slot at'
+  guard-kept None at at' same h = (h.0, same ∙ h.1)
+  guard-kept (Some i) at at' same h = (h.0, same ∙ h.1, h.2, pair-kept Shared i h.0 h.2 h.3)
+
+  session-kept : (n c : ℕ) (o : Option ℕ)
+      → ((i : ℕ) (b : Block K) → slice_get bs i ≡ Some b → b.thread ≡ t → (slice_get bs' i ≡ Some b) × (found x bs' i b ≡ found x bs i b))
+      → ((i : ℕ) (b : Block K) → slice_get bs' i ≡ Some b → b.thread ≡ t → slice_get bs i ≡ Some b)
+      → IsInSessionOf x bs tables t p n c o → IsInSessionOf x bs' tables' t p n c o
+  session-kept n c (Some i) stays back h =
+      let both = stays i h.block h.listed h.thread in
+      record {
+        block = h.block;
+        listed = both.0;
+        thread = h.thread;
+        call = h.call;
+        below = h.below;
+        done = h.done;
+        guard = guard-kept p.slot (reached x t c (n - c) (found x bs i h.block)) (reached x t c (n - c) (found x bs' i h.block)) (ap (λ o. reached x t c (n - c) o) both.1) h.guard;
+      }
+  session-kept n c None stays back h = (h.0, λ i b at thread call. h.1 i b (back i b at thread) thread call)
+
+  pub ready-kept : (n : ℕ) (o : Option ℕ) (block : Option ℕ)
+      → ((i : ℕ) (b : Block K) → slice_get bs i ≡ Some b → b.thread ≡ t → (slice_get bs' i ≡ Some b) × (found x bs' i b ≡ found x bs i b))
+      → ((i : ℕ) (b : Block K) → slice_get bs' i ≡ Some b → b.thread ≡ t → slice_get bs i ≡ Some b)
+      → IsInSession x bs tables t p n o block → IsInSession x bs' tables' t p n o block
+  ready-kept n (Some c) block stays back h = session-kept n c block stays back h
+  ready-kept n None block stays back h = h
+
+module _ {K V D T A : Type 0} (x : Setup K V D T) (threads : List ℕ) (s : ℕ) (bs bs' : List (Block K)) (replies replies' : List (Reply K V T))
+    (tables tables' : List (Vec (K × V) A)) (t u : ℕ) (p : Place K V D T A) (F : Block K → Type 0)
+    (effect : Effect x bs bs' t F) (other : u ≢ t) (count : answered_of replies' u ≡ answered_of replies u)
+    (kept : (m : Mode) → HoldsShard p m → slice_get tables' p.shard ≡ slice_get tables p.shard)
+    (foreign : (k : K) (o : Option (K × V)) (d : IsBeforeDeed x bs u p k o) → F d.block)
+    (below : (c b : ℕ) → session_of x u c ≡ Some b → b ≤ c) where
+  stays : (i : ℕ) (b : Block K) → slice_get bs i ≡ Some b → b.thread ≡ u → (slice_get bs' i ≡ Some b) × (found x bs' i b ≡ found x bs i b)
+  stays i b at own = (effect.kept i b at (λ same. other (sym own ∙ same)), effect.finds i b at)
+
+  comes : (i : ℕ) (b : Block K) → slice_get bs' i ≡ Some b → b.thread ≡ u → slice_get bs i ≡ Some b
+  comes i b at own = effect.back i b at (λ same. other (sym own ∙ same))
+
+  ready : (n : ℕ) (block : Option ℕ) → IsReady x bs tables u p n block → IsReady x bs' tables' u p n block
+  ready n block h = ready-kept x bs bs' tables tables' u p kept n (session_of x u n) block stays comes h
+
+  answered : (c : ℕ) (a : Ask K V D) (r : Answer K V T) → IsAnsweredBy x bs u c a r → IsAnsweredBy x bs' u c a r
+  answered c a r h = answered-by x bs bs' u c a r (keeps-other x bs bs' t u c F effect other) (below c) h
+
+  in_call : (a : Ask K V D) → IsInCall x threads u p a → IsInCall x (threads ++ s ∷ []) u p a
+  in_call a h = IsInCall-push x threads s u p a h
+
+  before_deed : (k : K) (o : Option (K × V)) → IsBeforeDeed x bs u p k o → IsBeforeDeed x bs' u p k o
+  before_deed k o d =
+      let both = stays d.index d.block d.listed d.thread in
+      record {
+        index = d.index;
+        block = d.block;
+        mine = d.mine;
+        listed = both.0;
+        thread = d.thread;
+        call = d.call;
+        key_is = d.key_is;
+        done = d.done;
+        last = effect.last d.index d.block d.listed (foreign k o d) d.last;
+        found_is = both.1 ∙ d.found_is;
+        slot = d.slot;
+        shard = d.shard;
+        alone = d.alone;
+      }
+
+  releasing : (a : Ask K V D) (r : Answer K V T) (slot : Option ℕ) → IsReleasing x bs tables u p a r slot → IsReleasing x bs' tables' u p a r slot
+  releasing a r (Some i) h = (h.0, h.1, ready p.next p.block h.2)
+  releasing a r None h = (answered p.next a r h.0, ready (p.next + 1) (if p.closes then None else p.block) h.1)
+
+  claim : (f : Phase K V D T) → Claim x threads bs tables u p f → Claim x (threads ++ s ∷ []) bs' tables' u p f
+  claim phase.Rest h = (h.0, h.1, ready p.next p.block h.2)
+  claim (phase.Admit r) h = (in_call _ h.0, h.1, h.2)
+  claim (phase.Find r) h = (in_call _ h.0, h.1, h.2)
+  claim (phase.Grow k v) h = (in_call _ h.0, h.1, h.2, list-kept x bs bs' tables tables' u p kept Exclusive _ h.2 h.3)
+  claim (phase.Append k v) h = (in_call _ h.0, before_deed k None h.1, list-kept x bs bs' tables tables' u p kept Exclusive _ h.1.alone h.2)
+  claim (phase.Replace i v) h =
+      (h.0, h.1, in_call _ h.2, before_deed h.0 (Some h.1) h.3, pair-kept x bs bs' tables tables' u p kept Exclusive i h.1 h.3.alone h.4)
+  claim (phase.Take i) h =
+      (h.0, h.1, in_call _ h.2, before_deed h.0 (Some h.1) h.3, pair-kept x bs bs' tables tables' u p kept Exclusive i h.1 h.3.alone h.4)
+  claim (phase.Read d) h = (h.0, in_call _ h.1, h.2, ready p.next p.block h.3)
+  claim (phase.Release r) h = (h.0, h.1, in_call h.0 h.2, h.3, releasing h.0 r p.slot h.4)
+  claim (phase.Answer r) h =
+      (h.0, in_call h.0 h.1, h.2, answered p.next h.0 r h.3, ready (p.next + 1) (if p.closes then None else p.block) h.4)
+
+  pub stands-other : Stands x threads bs replies tables u p → Stands x (threads ++ s ∷ []) bs' replies' tables' u p
+  stands-other h = record {
+      program = h.program;
+      has = h.has;
+      asks_left = h.asks_left;
+      within = h.within;
+      answered = h.answered ∙ sym count;
+      owns = λ i b at own. h.owns i b (comes i b at own) own;
+      claim = claim p.phase h.claim;
+    }

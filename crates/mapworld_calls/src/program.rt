@@ -1,0 +1,73 @@
+//! Whether a program is fit to run, and how many guard numbers it takes.
+ghost use Rattle.std.specs.Prelude.{◌≡◌, ◌↔◌, IsTrue, false, sum_by};
+ghost use Rattle.mapworld_calls.specs.Programs.{HoldsOneGuard, numbers_of, one_guard};
+ghost use Rattle.mapworld_calls.specs.Sessions.{SessionsAreApart};
+
+use crate::ask::{Ask, Held};
+
+/// Whether the program holds one guard at a time: behind each opening stands its drop, with nothing but reads between.
+/// A world takes only such programs, so that no thread waits for a shard while it holds a guard.
+///
+/// It reads the program once, takes no memory and cannot fail. A call on the guard where none is held is no fault: it
+/// is answered `NoGuard`.
+///
+/// ```text
+/// holds_one_guard(&[Begin(Get(1)), Held(Read(d)), Held(Drop)])          // true
+/// holds_one_guard(&[Begin(Get(1)), Begin(Get(2)), Held(Drop)])          // false: a second opening
+/// holds_one_guard(&[Begin(Get(1)), Keyed(Remove(2)), Held(Drop)])       // false: a keyed call under a guard
+/// holds_one_guard(&[Begin(Get(1)), Held(Read(d))])                      // false: no drop
+/// ```
+pub fn holds_one_guard<K, V, D>(program: &[Ask<K, V, D>]) -> bool
+    ensures guarded { IsTrue result ↔ HoldsOneGuard program.now }
+    ensures value { result ≡ one_guard false program.now }
+{
+    let mut held = false;
+    for ask in program {
+        match ask {
+            Ask::Keyed(_) => {
+                if held {
+                    return false;
+                }
+            }
+            Ask::Begin(_) => {
+                if held {
+                    return false;
+                }
+                held = true;
+            }
+            Ask::Held(Held::Read(_)) => {}
+            Ask::Held(Held::Drop) => held = false,
+        }
+    }
+    !held
+}
+
+/// How many guard numbers the program takes on a map of so many shards: one for each keyed call and each opening, since
+/// each takes a shard's guard once, and none for a call on the guard that is held.
+///
+/// The number of shards has no effect yet. It stands here for the calls that go through all shards, which take that many.
+///
+/// It reads the program once, takes no memory and cannot fail. The number is exact, never cut off.
+///
+/// ```text
+/// guard_numbers(&[Keyed(Insert(1, 1)), Begin(Get(1)), Held(Read(d)), Held(Drop)], 2)          // 2
+/// ```
+pub fn guard_numbers<K, V, D>(program: &[Ask<K, V, D>], _shards: u64) -> u64
+    ensures { result ≡ sum_by numbers_of program.now }
+{
+    let mut numbers = 0;
+    for ask in program {
+        match ask {
+            Ask::Keyed(_) => numbers += 1,
+            Ask::Begin(_) => numbers += 1,
+            Ask::Held(_) => {}
+        }
+    }
+    numbers
+}
+
+/// While a session is open, a program that holds one guard at a time asks for nothing else: a keyed call or an opening
+/// never stands in a session. It is a law for proofs, and does nothing when it runs.
+pub fn sessions_are_apart<K, V, D>()
+    ensures { SessionsAreApart K V D }
+{}
