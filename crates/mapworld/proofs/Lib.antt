@@ -1,3 +1,9 @@
 pub mod Effects
 pub mod Others
 pub mod Timing
+pub mod Finds
+pub mod Tables
+pub mod Joins
+pub mod Openings
+pub mod HoldsTable
+pub mod Routes

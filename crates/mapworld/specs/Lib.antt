@@ -6,3 +6,7 @@ pub mod Sound
 pub mod Running
 pub mod Route
 pub mod World
+pub mod Core
+pub mod Making
+pub mod Faults
+pub mod Tables

@@ -4,8 +4,10 @@
 mod fault;
 mod holds;
 mod place;
+mod route;
 mod step;
-mod stub;
+mod table;
+mod world_core;
 
-pub use fault::RunFault;
+pub use fault::{NoMemory, RunFault, WorldNewFault};
 pub use step::{Status, Step};

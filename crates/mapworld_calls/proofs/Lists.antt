@@ -1,7 +1,6 @@
 -- Lists by index: what stands at each index after a write, a push or a removal, and sums over a list.
-use Rattle.std.proofs.Common.{◌≡◌, ◌≢◌, ℕ, zero, suc, ◌+◌, ◌≤◌, ◌⊎◌, Bool, true, false, cond, List, [], ◌∷◌, ◌++◌, length, Option, Some, None, slice_get, slice_set, remove, sum_by, count_by, refl, sym, ap, ◌∙◌, subst, inl, inr, ⊎_elim, arith}
+use Rattle.std.proofs.Common.{◌≡◌, ◌≢◌, ℕ, zero, suc, ◌+◌, ◌≤◌, ◌⊎◌, Bool, cond, List, [], ◌∷◌, ◌++◌, length, Some, slice_get, slice_set, remove, sum_by, count_by, refl, sym, ap, ◌∙◌, subst, inl, inr, zero-add, suc-add, arith}
 use Rattle.std.proofs.lemmas.Option.{none-some, same_Some, slice_get_within, get_or_from_slice_get}
-use Rattle.std.proofs.lemmas.Bool.{cases_eq}
 use Rattle.std.proofs.lemmas.List.Sums as sums
 
 module _ {X : Type 0} where
@@ -40,8 +39,8 @@ module _ {X : Type 0} where
   slice_get-set_cases (z ∷ zs) (suc i) zero x0 x y here h = inr (λ e. omega (arith, e), h)
   slice_get-set_cases (z ∷ zs) (suc i) (suc j) x0 x y here h =
       elim (slice_get-set_cases zs i j x0 x y here h) [
-        inl a ↦ inl (ap (λ n. suc n) a.0, a.1)
-      | inr b ↦ inr (λ e. b.0 (omega (arith, e)), b.1)
+        | inl a ↦ inl (ap (λ n. suc n) a.0, a.1)
+        | inr b ↦ inr (λ e. b.0 (omega (arith, e)), b.1)
       ]
 
 -- the index at which an element stood before the one at i was removed
@@ -99,3 +98,23 @@ module _ {X : Type 0} where
 
   pub count_by-push : (p : X → Bool) (xs : List X) (y : X) → count_by p (xs ++ y ∷ []) ≡ count_by p xs + cond (p y) 1 0
   count_by-push p xs y = sums.sum_by_push (λ x. cond (p x) 1 0) xs y
+
+-- two lists one after the other
+module _ {X : Type 0} where
+  pub slice_get-append_left : (xs ys : List X) (i : ℕ) (x : X) → slice_get xs i ≡ Some x → slice_get (xs ++ ys) i ≡ Some x
+  slice_get-append_left [] ys i x h = absurd (none-some x h)
+  slice_get-append_left (z ∷ zs) ys zero x h = h
+  slice_get-append_left (z ∷ zs) ys (suc i) x h = slice_get-append_left zs ys i x h
+
+  pub slice_get-append_right : (xs ys : List X) (i : ℕ) → slice_get (xs ++ ys) (length xs + i) ≡ slice_get ys i
+  slice_get-append_right [] ys i = ap (λ n. slice_get ys n) (zero-add i)
+  slice_get-append_right (z ∷ zs) ys i =
+      ap (λ n. slice_get (z ∷ (zs ++ ys)) n) (suc-add (length zs) i) ∙ slice_get-append_right zs ys i
+
+  pub slice_get-append_cases : (xs ys : List X) (i : ℕ) (x : X) → slice_get (xs ++ ys) i ≡ Some x → (slice_get xs i ≡ Some x) ⊎ ((j : ℕ) × (i ≡ length xs + j) × (slice_get ys j ≡ Some x))
+  slice_get-append_cases [] ys i x h = inr (i, sym (zero-add i), h)
+  slice_get-append_cases (z ∷ zs) ys zero x h = inl h
+  slice_get-append_cases (z ∷ zs) ys (suc i) x h = elim (slice_get-append_cases zs ys i x h) [
+    | inl a ↦ inl a
+    | inr b ↦ inr (b.0, ap (λ n. suc n) b.1 ∙ sym (suc-add (length zs) b.0), b.2)
+  ]

@@ -1,0 +1,99 @@
+-- What the code keeps of a world, and how much room it has.
+use Rattle.std.specs.Prelude.{◌≡◌, ℕ, ◌+◌, ◌<◌, ◌≤◌, ◌^◌, Bool, true, false, if◌then◌else◌, List, length, map, Option, Some, None, slice_get, sum_by, is_some, vec_len, vec_capacity}
+use Rattle.mapworld.specs.declared.holds.Held.{Held}
+use Rattle.mapworld.specs.declared.place.Phase.{Phase}
+use Rattle.mapworld.specs.declared.place.Phase.TheVariants as phase
+use Rattle.mapworld.specs.declared.place.Place.{Place}
+use Rattle.mapworld.specs.declared.world_core.Core.{Core}
+use Rattle.mapworld.specs.Route.{IsShardAmount}
+use Rattle.mapworld.specs.State.{State, pairs_of}
+use Rattle.mapworld.specs.Running.{unanswered_of}
+
+abbrev pub state_of : {K V S D T A : Type 0} → Core K V S D T A → State K V S D T A
+state_of c = record {
+    hasher = c.hasher;
+    opening = c.opening.value.items;
+    programs = map (λ v. v.items) c.programs.value.items;
+    steps = c.steps.items;
+    places = c.places.items;
+    tables = c.tables.items;
+    holds = c.holds.items;
+    blocks = c.blocks.items;
+    replies = c.replies.items;
+  }
+
+-- whether a call before that phase isn't answered, may still list a block, and may still add a pair
+abbrev pub owes : {K V D T : Type 0} → Phase K V D T → ℕ
+owes phase.Rest = 0
+owes (phase.Admit r) = 1
+owes (phase.Find r) = 1
+owes (phase.Grow k v) = 1
+owes (phase.Append k v) = 1
+owes (phase.Replace i v) = 1
+owes (phase.Take i) = 1
+owes (phase.Read d) = 1
+owes (phase.Release a) = 1
+owes (phase.Answer a) = 1
+
+abbrev pub lists : {K V D T : Type 0} → Phase K V D T → ℕ
+lists phase.Rest = 0
+lists (phase.Admit r) = 1
+lists (phase.Find r) = 1
+lists (phase.Grow k v) = 1
+lists (phase.Append k v) = 0
+lists (phase.Replace i v) = 0
+lists (phase.Take i) = 0
+lists (phase.Read d) = 0
+lists (phase.Release a) = 0
+lists (phase.Answer a) = 0
+
+abbrev pub adds : {K V D T : Type 0} → Phase K V D T → ℕ
+adds phase.Rest = 0
+adds (phase.Admit r) = 1
+adds (phase.Find r) = 1
+adds (phase.Grow k v) = 1
+adds (phase.Append k v) = 1
+adds (phase.Replace i v) = 0
+adds (phase.Take i) = 0
+adds (phase.Read d) = 0
+adds (phase.Release a) = 0
+adds (phase.Answer a) = 0
+
+-- how many answers a thread owes, how many blocks it may list, and how many pairs it may add
+abbrev pub owed : {K V D T A : Type 0} → Place K V D T A → ℕ
+owed p = length p.asks.items + owes p.phase
+
+abbrev pub may_list : {K V D T A : Type 0} → Place K V D T A → ℕ
+may_list p = length p.asks.items + lists p.phase
+
+abbrev pub may_add : {K V D T A : Type 0} → Place K V D T A → ℕ
+may_add p = length p.asks.items + adds p.phase
+
+-- 1 without a hold
+abbrev pub unheld : {K V D T A : Type 0} → Place K V D T A → ℕ
+unheld p = if is_some p.hold then 0 else 1
+
+-- that the lists have room for all that is to come, and that the counts are right and fit
+pub record Room {K V S D T A : Type 0} (c : Core K V S D T A) : Type 0 where
+  pub count : c.count ≡ length c.steps.items
+  pub count_fits : c.count < 2 ^ 63
+  pub guards : (i : ℕ) (h : Held) → slice_get c.holds.items i ≡ Some h → h.hold.guard < c.guards
+  pub guards_fit : c.guards ≤ c.count
+  pub unanswered : c.unanswered ≡ unanswered_of (state_of c)
+  pub answers : length c.replies.items + sum_by owed c.places.items ≡ sum_by length (state_of c).programs
+  pub calls_fit : sum_by length (state_of c).programs ≤ 2 ^ 20
+  pub replies : sum_by length (state_of c).programs ≤ vec_capacity c.replies
+  pub blocks : length c.blocks.items + sum_by may_list c.places.items ≤ vec_capacity c.blocks
+  pub holds : length c.holds.items + sum_by unheld c.places.items ≤ vec_capacity c.holds
+  pub pairs : c.pairs ≡ length (pairs_of (state_of c))
+  pub pairs_fit : c.pairs + sum_by may_add c.places.items ≤ 2 ^ 31 + 2 ^ 20
+  pub places : length c.places.items ≡ length (state_of c).programs
+  pub threads_fit : length c.places.items ≤ 256
+  pub shards : IsShardAmount (length c.tables.items)
+  pub listed : (t : ℕ) (p : Place K V D T A) (i : ℕ) → slice_get c.places.items t ≡ Some p → p.block ≡ Some i → i < length c.blocks.items
+
+-- a thread stands before that phase
+pub record IsBefore {K V D T A : Type 0} (places : List (Place K V D T A)) (t : ℕ) (ph : Phase K V D T) : Type 0 where
+  pub place : Place K V D T A
+  pub stands : slice_get places t ≡ Some place
+  pub before : place.phase ≡ ph
