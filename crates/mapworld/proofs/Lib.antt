@@ -1,6 +1,8 @@
 pub mod Effects
 pub mod Others
 pub mod Timing
+pub mod Holding
+pub mod Building
 pub mod Finds
 pub mod Tables
 pub mod Joins
