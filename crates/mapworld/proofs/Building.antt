@@ -27,7 +27,7 @@ use Rattle.mapworld.specs.declared.place.Phase.{Phase}
 use Rattle.mapworld.specs.declared.place.Place.{Place}
 use Rattle.mapworld.specs.State.{State, threads_of, started_of}
 use Rattle.mapworld.specs.Moves.{stepped}
-use Rattle.mapworld.specs.Sound.{is_resting, taken, HasPair, HoldsShard, GuardIs, HasSession, IsInSessionOf, IsInSession, IsReady, IsInCall, IsBeforeDeed, Claim, Stands, TablesAgree, HoldsMatch, Sound}
+use Rattle.mapworld.specs.Sound.{is_resting, taken, block_after, HasPair, HoldsShard, GuardIs, HasSession, IsInSessionOf, IsInSession, IsReady, IsInCall, IsBeforeDeed, Claim, Stands, TablesAgree, HoldsMatch, Sound}
 use Rattle.mapworld.proofs.Effects.{Effect}
 use Rattle.mapworld.proofs.Others.{stands-other}
 use Rattle.mapworld.proofs.Timing.{count_by-before}
@@ -141,6 +141,33 @@ module _ {K V D T A : Type 0} (x : Setup K V D T) (bs bs' : List (Block K)) (tab
         | inr old ↦ agree.contents_are q other old.1 ∙ sym (elsewhere q old.0)
         ];
     }
+
+  -- one shard's list is another value with the same pairs
+  pub tables-rewritten' : (i : ℕ) (table changed : Vec (K × V) A) → slice_get tables i ≡ Some table → changed.items ≡ table.items
+      → ((q : K) → contents x bs' q ≡ contents x bs q) → TablesAgree x bs' (slice_set tables i changed)
+  tables-rewritten' i table changed at same contents =
+      tables-set i table changed at
+        (λ j pair h. agree.routed i j table pair at (ap (λ z. slice_get z j) (sym same) ∙ h))
+        (subst (λ (z : List (K × V)). AreDistinct x.eq z) (sym same) (agree.distinct i table at))
+        (λ q here. ap (λ z. pair_of x.eq z q) same ∙ agree.contents_are q table (ap (λ n. slice_get tables n) here ∙ at) ∙ sym (contents q))
+        (λ q ne. contents q)
+
+pub tables-rewritten : {K V D T A : Type 0} (x : Setup K V D T) (bs bs' : List (Block K)) (tables : List (Vec (K × V) A)) (i : ℕ) (table changed : Vec (K × V) A) → slice_get tables i ≡ Some table → changed.items ≡ table.items
+    → TablesAgree x bs tables → ((q : K) → contents x bs' q ≡ contents x bs q) → TablesAgree x bs' (slice_set tables i changed)
+tables-rewritten x bs bs' tables i table changed at same agree contents = tables-rewritten' x bs bs' tables tables agree i table changed at same contents
+
+-- outside of every session
+pub ready-outside : {K V D T A : Type 0} (x : Setup K V D T) (bs : List (Block K)) (tables : List (Vec (K × V) A)) (t : ℕ) (p : Place K V D T A) (n : ℕ) (block : Option ℕ)
+    → session_of x t n ≡ None → p.slot ≡ None → block ≡ None → IsReady x bs tables t p n block
+ready-outside x bs tables t p n block outside slot none =
+    subst (λ (o : Option ℕ). IsInSession x bs tables t p n o block) (sym outside) (slot, none)
+
+pub block_after-none : {K V D T A : Type 0} (p : Place K V D T A) → p.block ≡ None → block_after p ≡ None
+block_after-none p none = at p.closes
+  where
+    at : (b : Bool) → (if b then None else p.block) ≡ None
+    at true = refl
+    at false = none
 
 -- what an answer was told by stays, for every reply so far
 pub replies-kept : {K V D T : Type 0} (x : Setup K V D T) (bs bs' : List (Block K)) (replies : List (Reply K V T))

@@ -3,6 +3,9 @@ pub mod Others
 pub mod Timing
 pub mod Holding
 pub mod Building
+pub mod Admitting
+pub mod Listing
+pub mod Finding
 pub mod Finds
 pub mod Tables
 pub mod Joins

@@ -1,0 +1,321 @@
+-- A find lists the call's block at its position, or finds that the shard's list has to grow first.
+use Rattle.std.proofs.Common.{◌≡◌, ◌≢◌, ℕ, zero, suc, ◌+◌, ◌-◌, ◌<◌, ◌≤◌, ◌⊎◌, inl, inr, ⊎_elim, Bool, true, false, if◌then◌else◌, List, [], ◌∷◌, ◌++◌, length, Option, Some, None, IsSome, slice_get, slice_set, position, vec_len, vec_capacity, refl, ap, sym, ◌∙◌, subst, arith, length-append}
+use Rattle.std.specs.declared.vec.Vec.{Vec}
+use Rattle.std.proofs.Math.ListN.{length-set}
+use Rattle.std.proofs.lemmas.Option.{same_Some, none-some, slice_get_within}
+use Rattle.std.proofs.lemmas.Bool.{false≢true, ltb-true, ltb-false}
+use Rattle.mapworld_calls.specs.declared.ask.Ask.{Ask}
+use Rattle.mapworld_calls.specs.declared.ask.Ask.TheVariants as ask
+use Rattle.mapworld_calls.specs.declared.ask.Keyed.{Keyed}
+use Rattle.mapworld_calls.specs.declared.ask.Keyed.TheVariants as keyed
+use Rattle.mapworld_calls.specs.declared.ask.Begin.{Begin}
+use Rattle.mapworld_calls.specs.declared.ask.Begin.TheVariants as begin
+use Rattle.mapworld_calls.specs.declared.block.Block.{Block}
+use Rattle.mapworld_calls.specs.declared.reply.Reply.{Reply}
+use Rattle.mapworld_calls.specs.declared.reply.Answer.{Answer}
+use Rattle.mapworld_calls.specs.declared.reply.Answer.TheVariants as answer
+use Rattle.mapworld_calls.specs.Calls.{At, free, shared, pair_in, told, after, opened}
+use Rattle.mapworld_calls.specs.Programs.{key_of}
+use Rattle.mapworld_calls.specs.Setup.{Setup, Laws, ask_at, session_of}
+use Rattle.mapworld_calls.specs.Pairs.{has_key, pair_of}
+use Rattle.mapworld_calls.specs.Replay.{reached, block_key, contents, found, IsLastOnShard}
+use Rattle.mapworld_calls.specs.Agrees.{IsToldBy, IsAnsweredBy}
+use Rattle.mapworld_calls.specs.Placed.{IsKeyedDone, IsSessionDone, IsDoneWithin}
+use Rattle.mapworld_calls.proofs.Lists.{slice_get-push_at, slice_get-set_same}
+use Rattle.mapworld.specs.declared.holds.Mode.{Mode}
+use Rattle.mapworld.specs.declared.holds.Mode.TheVariants.{Shared, Exclusive}
+use Rattle.mapworld.specs.declared.step.Step.{Step}
+use Rattle.mapworld.specs.declared.place.Request.{Request}
+use Rattle.mapworld.specs.declared.place.Request.TheVariants as request
+use Rattle.mapworld.specs.declared.place.Phase.{Phase}
+use Rattle.mapworld.specs.declared.place.Phase.TheVariants as phase
+use Rattle.mapworld.specs.declared.place.Place.{Place}
+use Rattle.mapworld.specs.State.{State, threads_of, started_of}
+use Rattle.mapworld.specs.Moves.{ask_of, request_key, mode_of, is_last, stepped, found_phase, found_done, found_slot, block_behind, IsListed, ListsBlock}
+use Rattle.mapworld.specs.Steps.{slot_in, has_room, Finds, GrowsList}
+use Rattle.mapworld.specs.Sound.{may_own, block_after, GuardIs, HasPair, HoldsShard, HasList, IsInCall, IsOnItsWay, IsBeforeDeed, HasSession, IsInSession, IsReady, Claim, Stands, Sound}
+use Rattle.mapworld.proofs.Finds.{find-position, find-no_position, position-Some_at}
+use Rattle.mapworld.proofs.Others.{IsInCall-push}
+use Rattle.mapworld.proofs.Timing.{placed-same}
+use Rattle.mapworld.proofs.Holding.{holds-same}
+use Rattle.mapworld.proofs.Building.{in_call-moved, holds-moved, tables-same, tables-rewritten, started-stays, sound-by, claim-at, taken-at, within-at, reached-one, told-one, ready-outside}
+use Rattle.mapworld.proofs.Admitting.{leaves-same, kept-alone, owns-on, keyed-apart, begin-apart}
+use Rattle.mapworld.proofs.Listing.{new-key, new-finds, sound-listed, contents-listed}
+
+last-new : {K V D T : Type 0} (x : Setup K V D T) (bs : List (Block K)) (d : Block K) → IsLastOnShard x (bs ++ d ∷ []) (length bs) d
+last-new x bs d j e lt here = absurd (let within : j < length (bs ++ d ∷ []) = slice_get_within (bs ++ d ∷ []) j e here in omega (arith, length-append bs (d ∷ [])))
+
+-- nothing is done yet of a keyed call whose block is listed
+done-none : {K : Type 0} (d : Block K) (n : ℕ) → d.done.value ≡ n → n ≤ 1 → d.end ≡ None → IsKeyedDone d
+done-none d n done le end = record { once = rw done le; whole = λ h. absurd (let g : IsSome {T = ℕ} None = subst (λ (o : Option ℕ). IsSome o) end h in absurd cc) }
+
+module _ {K V S D T A : Type 0} (x : Setup K V D T) (laws : Laws x) (w : State K V S D T A) (s : Step) (sound : Sound x w)
+    (p : Place K V D T A) (at : slice_get w.places s.thread ≡ Some p) (a : Ask K V D) (call : IsInCall x (threads_of w) s.thread p a)
+    (key : K) (key_is : key_of a ≡ Some key) (shard : p.shard ≡ x.route key) (not_yet : may_own p.phase ≡ false)
+    (table : Vec (K × V) A) (held : slice_get w.tables p.shard ≡ Some table) (d : Block K) where
+  has-now : contents x w.blocks key ≡ pair_of x.eq table.items key
+  has-now = sym (sound.tables.contents_are key table (ap (λ n. slice_get w.tables n) (sym shard) ∙ held))
+
+  -- the block of an exclusive call is listed before its deed
+  before-deed : (holds : HoldsShard p Exclusive) (listed : IsListed w s.thread p 0 d) (p' : Place K V D T A) (o : Option (K × V)) → pair_of x.eq table.items key ≡ o
+      → p'.next ≡ p.next → p'.shard ≡ p.shard → p'.slot ≡ None → p'.hold ≡ p.hold → p'.block ≡ Some (length w.blocks)
+      → IsBeforeDeed x (w.blocks ++ d ∷ []) s.thread p' key o
+  before-deed holds listed p' o is next same slot hold mine = record {
+      index = length w.blocks;
+      block = d;
+      mine = mine;
+      listed = slice_get-push_at w.blocks d;
+      thread = listed.thread;
+      call = listed.call ∙ sym next;
+      key_is = new-key x laws w s sound p at a call key key_is Exclusive holds shard not_yet 0 d listed;
+      done = listed.done;
+      last = last-new x w.blocks d;
+      found_is = new-finds x laws w s sound p at a call key key_is Exclusive holds shard not_yet 0 d listed ∙ has-now ∙ is;
+      slot = slot;
+      shard = same ∙ shard;
+      alone = holds-moved x p p' Exclusive hold same holds;
+    }
+
+  quiet-none : (listed : IsListed w s.thread p 0 d) (o : Option (K × V)) → contents x w.blocks key ≡ o → pair_in (reached x d.thread d.call d.done.value o) ≡ o
+  quiet-none listed o h = rw listed.done refl
+
+  -- the block of a call that is done at its position tells its answer
+  told-new : (m : Mode) (holds : HoldsShard p m) (listed : IsListed w s.thread p 1 d) (o : Option (K × V)) → pair_of x.eq table.items key ≡ o
+      → IsToldBy x (w.blocks ++ d ∷ []) s.thread p.next 0 (told x.deeds a (free o))
+  told-new m holds listed o is = record {
+      place = length w.blocks;
+      block = d;
+      listed = slice_get-push_at w.blocks d;
+      thread = listed.thread;
+      call = listed.call;
+      done = rw listed.done (omega arith);
+      told = told-one x s.thread p.next a d (found x (w.blocks ++ d ∷ []) (length w.blocks) d) listed.thread listed.call call.asked
+        ∙ ap (λ z. Some (told x.deeds a (free z))) (new-finds x laws w s sound p at a call key key_is m holds shard not_yet 1 d listed ∙ has-now ∙ is);
+    }
+
+  reached-new : (listed : IsListed w s.thread p 1 d) (o : Option (K × V)) → reached x d.thread d.call d.done.value o ≡ after x.deeds a (free o)
+  reached-new listed o = rw (listed.thread, listed.call, listed.done) (reached-one x s.thread p.next a o call.asked)
+
+  -- the session that an opening begins
+  session-new : (m : Mode) (holds : HoldsShard p m) (listed : IsListed w s.thread p 1 d) (p' : Place K V D T A) (o : Option (K × V)) → pair_of x.eq table.items key ≡ o
+      → GuardIs w.tables p' p'.slot (after x.deeds a (free o))
+      → HasSession x (w.blocks ++ d ∷ []) w.tables s.thread p' (p.next + 1) p.next (length w.blocks)
+  session-new m holds listed p' o is guard =
+      let one : p.next + 1 - p.next ≡ 1 = omega arith in
+      let finds = new-finds x laws w s sound p at a call key key_is m holds shard not_yet 1 d listed ∙ has-now ∙ is in
+      record {
+        block = d;
+        listed = slice_get-push_at w.blocks d;
+        thread = listed.thread;
+        call = listed.call;
+        below = omega arith;
+        done = listed.done ∙ sym one;
+        guard = rw (one, finds) (subst (λ (z : At K V). GuardIs w.tables p' p'.slot z) (sym (reached-one x s.thread p.next a o call.asked)) guard);
+      }
+
+-- an opening leaves its key's pair
+opened-quiet : {K V : Type 0} (k : K) (o : Option (K × V)) → pair_in (opened (begin.Get k) o) ≡ o
+opened-quiet k None = refl
+opened-quiet k (Some pair) = refl
+
+-- an opening's block has done the opening at its position
+opened-done : {K V S D T A : Type 0} (x : Setup K V D T) (w : State K V S D T A) (s : Step) (p' : Place K V D T A) (d : Block K) → d.done.value ≡ 1 → IsSessionDone x (started_of (stepped w s p')) w.replies d
+opened-done x w s p' d done = record { opened = rw done (omega arith); calls = λ n pos lt. absurd (let lt' : n < 1 = subst (λ (k : ℕ). n < k) done lt in omega arith) }
+
+ready-inside : {K V D T A : Type 0} (x : Setup K V D T) (bs : List (Block K)) (tables : List (Vec (K × V) A)) (t : ℕ) (p : Place K V D T A) (n c i : ℕ) (block : Option ℕ)
+    → session_of x t n ≡ Some c → Some i ≡ block → HasSession x bs tables t p n c i → IsReady x bs tables t p n block
+ready-inside x bs tables t p n c i block inside mine h =
+    subst (λ (o : Option ℕ). IsInSession x bs tables t p n o block) (sym inside) (subst (λ (o : Option ℕ). IsInSession x bs tables t p n (Some c) o) mine h)
+
+module _ {K V S D T A : Type 0} (x : Setup K V D T) (laws : Laws x) (w : State K V S D T A) (s : Step) (sound : Sound x w) where
+  -- the world behind a find
+  abbrev pub Found : Place K V D T A → Request K V → Option ℕ → Bool → List (Block K) → Type 0
+  Found p r slot room blocks =
+      Sound x (record (stepped w s (record p { block = block_behind (found_done r slot room) (length w.blocks) p.block; slot = found_slot r slot; phase = found_phase r slot room })) { blocks = blocks })
+
+  module _ (p : Place K V D T A) (at : slice_get w.places s.thread ≡ Some p) (table : Vec (K × V) A) (held : slice_get w.tables p.shard ≡ Some table) where
+    found-by : (r : Request K V) → p.phase ≡ phase.Find r → (slot : Option ℕ) → slot_in x.eq table (request_key r) ≡ slot → (room : Bool) → has_room table ≡ room
+        → (blocks : List (Block K)) → ListsBlock w s.thread p (found_done r slot room) blocks → Found p r slot room blocks
+    found-by (request.Keyed (keyed.Insert k v)) before (Some i) slot room roomy blocks listed =
+        let r : Request K V = request.Keyed (keyed.Insert k v) in
+        let st = sound.stands s.thread p at in
+        let c = claim-at x (threads_of w) w.blocks w.replies w.tables s.thread p (phase.Find r) before st in
+        let here = position-Some_at (has_key x.eq k) table.items i slot in
+        let is : pair_of x.eq table.items k ≡ Some here.0 = find-position (has_key x.eq k) table.items i slot ∙ here.1 in
+        let p' : Place K V D T A = record p { block = Some (length w.blocks); slot = None; phase = phase.Replace i v } in
+        let not_yet : may_own p.phase ≡ false = ap may_own before in
+        let l = listed.1 in
+        subst (λ (z : List (Block K)). Sound x (record (stepped w s p') { blocks = z })) (sym listed.2)
+          (sound-listed x laws w s sound p at _ c.0 k refl Exclusive c.2 c.1.shard not_yet 0 listed.0 l p' refl refl refl refl refl
+            (done-none listed.0 0 l.done (omega arith) l.end) w.tables refl (λ u q m ne hq h. refl)
+            (k, here.0, IsInCall-push x (threads_of w) s.thread s.thread p' _ (in_call-moved x p p' (threads_of w) s.thread _ refl refl refl c.0),
+              before-deed x laws w s sound p at _ c.0 k refl c.1.shard not_yet table held listed.0 c.2 l p' (Some here.0) is refl refl refl refl refl,
+              record { table = table; held = held; pair_is = here.1 })
+            (taken-at x (threads_of w) w.blocks w.replies w.tables s.thread p (phase.Find r) before st)
+            (within-at x (threads_of w) w.blocks w.replies w.tables s.thread p (phase.Find r) before st)
+            (tables-same x w.blocks (w.blocks ++ listed.0 ∷ []) w.tables w.tables sound.tables
+              (contents-listed x laws w s sound p at _ c.0 k refl Exclusive c.2 c.1.shard not_yet 0 listed.0 l (quiet-none x laws w s sound p at _ c.0 k refl c.1.shard not_yet table held listed.0 l))))
+    found-by (request.Keyed (keyed.Insert k v)) before None slot true roomy blocks listed =
+        let r : Request K V = request.Keyed (keyed.Insert k v) in
+        let st = sound.stands s.thread p at in
+        let c = claim-at x (threads_of w) w.blocks w.replies w.tables s.thread p (phase.Find r) before st in
+        let is : pair_of x.eq table.items k ≡ None = find-no_position (has_key x.eq k) table.items slot in
+        let p' : Place K V D T A = record p { block = Some (length w.blocks); slot = None; phase = phase.Append k v } in
+        let not_yet : may_own p.phase ≡ false = ap may_own before in
+        let l = listed.1 in
+        subst (λ (z : List (Block K)). Sound x (record (stepped w s p') { blocks = z })) (sym listed.2)
+          (sound-listed x laws w s sound p at _ c.0 k refl Exclusive c.2 c.1.shard not_yet 0 listed.0 l p' refl refl refl refl refl
+            (done-none listed.0 0 l.done (omega arith) l.end) w.tables refl (λ u q m ne hq h. refl)
+            (IsInCall-push x (threads_of w) s.thread s.thread p' _ (in_call-moved x p p' (threads_of w) s.thread _ refl refl refl c.0),
+              before-deed x laws w s sound p at _ c.0 k refl c.1.shard not_yet table held listed.0 c.2 l p' None is refl refl refl refl refl,
+              record { table = table; held = held; so = ltb-true (vec_len table) (vec_capacity table) roomy })
+            (taken-at x (threads_of w) w.blocks w.replies w.tables s.thread p (phase.Find r) before st)
+            (within-at x (threads_of w) w.blocks w.replies w.tables s.thread p (phase.Find r) before st)
+            (tables-same x w.blocks (w.blocks ++ listed.0 ∷ []) w.tables w.tables sound.tables
+              (contents-listed x laws w s sound p at _ c.0 k refl Exclusive c.2 c.1.shard not_yet 0 listed.0 l (quiet-none x laws w s sound p at _ c.0 k refl c.1.shard not_yet table held listed.0 l))))
+    found-by (request.Keyed (keyed.Insert k v)) before None slot false full blocks listed =
+        let r : Request K V = request.Keyed (keyed.Insert k v) in
+        let st = sound.stands s.thread p at in
+        let c = claim-at x (threads_of w) w.blocks w.replies w.tables s.thread p (phase.Find r) before st in
+        let is : pair_of x.eq table.items k ≡ None = find-no_position (has_key x.eq k) table.items slot in
+        let p' : Place K V D T A = record p { slot = None; phase = phase.Grow k v } in
+        subst (λ (z : List (Block K)). Sound x (record (stepped w s p') { blocks = z })) (sym listed)
+          (sound-by x w s p p' at sound w.blocks w.tables w.holds w.replies _ (leaves-same x w s p p' at sound _)
+            (record {
+              program = st.program;
+              has = st.has;
+              asks_left = taken-at x (threads_of w) w.blocks w.replies w.tables s.thread p (phase.Find r) before st;
+              within = within-at x (threads_of w) w.blocks w.replies w.tables s.thread p (phase.Find r) before st;
+              answered = st.answered;
+              owns = owns-on w.blocks s.thread p p' st.owns refl refl (λ own. absurd (false≢true (sym (ap may_own before) ∙ own)));
+              claim = (
+                IsInCall-push x (threads_of w) s.thread s.thread p' _ (in_call-moved x p p' (threads_of w) s.thread _ refl refl refl c.0),
+                record { block = c.1.block; slot = refl; shard = c.1.shard },
+                holds-moved x p p' Exclusive refl refl c.2,
+                record { table = table; held = held; so = (is, ltb-false (vec_len table) (vec_capacity table) full) },
+              );
+            })
+            (tables-same x w.blocks w.blocks w.tables w.tables sound.tables (λ q. refl))
+            (holds-same w.places w.holds sound.holds s.thread p p' at refl)
+            (placed-same x (threads_of w) s.thread (started_of w) (started_of (stepped w s p')) w.blocks w.replies (started-stays x w s p p' at (λ n h. h)) sound.placed)
+            sound.replies)
+    found-by (request.Keyed (keyed.Remove k)) before (Some i) slot room roomy blocks listed =
+        let r : Request K V = request.Keyed (keyed.Remove k) in
+        let st = sound.stands s.thread p at in
+        let c = claim-at x (threads_of w) w.blocks w.replies w.tables s.thread p (phase.Find r) before st in
+        let here = position-Some_at (has_key x.eq k) table.items i slot in
+        let is : pair_of x.eq table.items k ≡ Some here.0 = find-position (has_key x.eq k) table.items i slot ∙ here.1 in
+        let p' : Place K V D T A = record p { block = Some (length w.blocks); slot = None; phase = phase.Take i } in
+        let not_yet : may_own p.phase ≡ false = ap may_own before in
+        let l = listed.1 in
+        subst (λ (z : List (Block K)). Sound x (record (stepped w s p') { blocks = z })) (sym listed.2)
+          (sound-listed x laws w s sound p at _ c.0 k refl Exclusive c.2 c.1.shard not_yet 0 listed.0 l p' refl refl refl refl refl
+            (done-none listed.0 0 l.done (omega arith) l.end) w.tables refl (λ u q m ne hq h. refl)
+            (k, here.0, IsInCall-push x (threads_of w) s.thread s.thread p' _ (in_call-moved x p p' (threads_of w) s.thread _ refl refl refl c.0),
+              before-deed x laws w s sound p at _ c.0 k refl c.1.shard not_yet table held listed.0 c.2 l p' (Some here.0) is refl refl refl refl refl,
+              record { table = table; held = held; pair_is = here.1 })
+            (taken-at x (threads_of w) w.blocks w.replies w.tables s.thread p (phase.Find r) before st)
+            (within-at x (threads_of w) w.blocks w.replies w.tables s.thread p (phase.Find r) before st)
+            (tables-same x w.blocks (w.blocks ++ listed.0 ∷ []) w.tables w.tables sound.tables
+              (contents-listed x laws w s sound p at _ c.0 k refl Exclusive c.2 c.1.shard not_yet 0 listed.0 l (quiet-none x laws w s sound p at _ c.0 k refl c.1.shard not_yet table held listed.0 l))))
+    found-by (request.Keyed (keyed.Remove k)) before None slot room roomy blocks listed =
+        let r : Request K V = request.Keyed (keyed.Remove k) in
+        let st = sound.stands s.thread p at in
+        let c = claim-at x (threads_of w) w.blocks w.replies w.tables s.thread p (phase.Find r) before st in
+        let is : pair_of x.eq table.items k ≡ None = find-no_position (has_key x.eq k) table.items slot in
+        let p' : Place K V D T A = record p { block = Some (length w.blocks); slot = None; phase = phase.Release answer.None } in
+        let not_yet : may_own p.phase ≡ false = ap may_own before in
+        let l = listed.1 in
+        let outside = keyed-apart x laws w s (record (stepped w s p') { blocks = blocks }) sound p st (keyed.Remove k) c.0.asked in
+        let closes : block_after p' ≡ None = ap (λ (b : Bool). if b then None else Some (length w.blocks)) c.0.closes in
+        subst (λ (z : List (Block K)). Sound x (record (stepped w s p') { blocks = z })) (sym listed.2)
+          (sound-listed x laws w s sound p at _ c.0 k refl Exclusive c.2 c.1.shard not_yet 1 listed.0 l p' refl refl refl refl refl
+            (done-none listed.0 1 l.done (omega arith) l.end) w.tables refl (λ u q m ne hq h. refl)
+            (ask.Keyed (keyed.Remove k), c.2.hold, IsInCall-push x (threads_of w) s.thread s.thread p' _ (in_call-moved x p p' (threads_of w) s.thread _ refl refl refl c.0), c.2.has,
+              (inl (told-new x laws w s sound p at _ c.0 k refl c.1.shard not_yet table held listed.0 Exclusive c.2 l None is),
+                ready-outside x (w.blocks ++ listed.0 ∷ []) w.tables s.thread p' (p.next + 1) (block_after p') outside.1 refl closes))
+            (taken-at x (threads_of w) w.blocks w.replies w.tables s.thread p (phase.Find r) before st)
+            (within-at x (threads_of w) w.blocks w.replies w.tables s.thread p (phase.Find r) before st)
+            (tables-same x w.blocks (w.blocks ++ listed.0 ∷ []) w.tables w.tables sound.tables
+              (contents-listed x laws w s sound p at _ c.0 k refl Exclusive c.2 c.1.shard not_yet 1 listed.0 l
+                (λ o h. ap pair_in (reached-new x laws w s sound p at _ c.0 k refl c.1.shard not_yet table held listed.0 l o)
+                  ∙ sym (sym h ∙ has-now x laws w s sound p at _ c.0 k refl c.1.shard not_yet table held listed.0 ∙ is)))))
+    found-by (request.Begin (begin.Get k)) before (Some i) slot room roomy blocks listed =
+        let r : Request K V = request.Begin (begin.Get k) in
+        let st = sound.stands s.thread p at in
+        let c = claim-at x (threads_of w) w.blocks w.replies w.tables s.thread p (phase.Find r) before st in
+        let here = position-Some_at (has_key x.eq k) table.items i slot in
+        let is : pair_of x.eq table.items k ≡ Some here.0 = find-position (has_key x.eq k) table.items i slot ∙ here.1 in
+        let p' : Place K V D T A = record p { block = Some (length w.blocks); slot = Some i; phase = phase.Answer answer.Held } in
+        let not_yet : may_own p.phase ≡ false = ap may_own before in
+        let l = listed.1 in
+        let inside = begin-apart x laws w s (record (stepped w s p') { blocks = blocks }) sound p st (begin.Get k) c.0.asked in
+        let stays : Some (length w.blocks) ≡ block_after p' = sym (ap (λ (b : Bool). if b then None else Some (length w.blocks)) c.0.closes) in
+        let session = session-new x laws w s sound p at _ c.0 k refl c.1.shard not_yet table held listed.0 Shared c.2 l p' (Some here.0) is
+          (here.0, refl, holds-moved x p p' Shared refl refl c.2, record { table = table; held = held; pair_is = here.1 }) in
+        subst (λ (z : List (Block K)). Sound x (record (stepped w s p') { blocks = z })) (sym listed.2)
+          (sound-listed x laws w s sound p at _ c.0 k refl Shared c.2 c.1.shard not_yet 1 listed.0 l p' refl refl refl refl refl
+            (opened-done x w s p' listed.0 l.done) w.tables refl (λ u q m ne hq h. refl)
+            (ask.Begin (begin.Get k), IsInCall-push x (threads_of w) s.thread s.thread p' _ (in_call-moved x p p' (threads_of w) s.thread _ refl refl refl c.0), (λ h. absurd cc),
+              told-new x laws w s sound p at _ c.0 k refl c.1.shard not_yet table held listed.0 Shared c.2 l (Some here.0) is,
+              ready-inside x (w.blocks ++ listed.0 ∷ []) w.tables s.thread p' (p.next + 1) p.next (length w.blocks) (block_after p') inside.1 stays session)
+            (taken-at x (threads_of w) w.blocks w.replies w.tables s.thread p (phase.Find r) before st)
+            (within-at x (threads_of w) w.blocks w.replies w.tables s.thread p (phase.Find r) before st)
+            (tables-same x w.blocks (w.blocks ++ listed.0 ∷ []) w.tables w.tables sound.tables
+              (contents-listed x laws w s sound p at _ c.0 k refl Shared c.2 c.1.shard not_yet 1 listed.0 l
+                (λ o h. ap pair_in (reached-new x laws w s sound p at _ c.0 k refl c.1.shard not_yet table held listed.0 l o) ∙ opened-quiet k o))))
+    found-by (request.Begin (begin.Get k)) before None slot room roomy blocks listed =
+        let r : Request K V = request.Begin (begin.Get k) in
+        let st = sound.stands s.thread p at in
+        let c = claim-at x (threads_of w) w.blocks w.replies w.tables s.thread p (phase.Find r) before st in
+        let is : pair_of x.eq table.items k ≡ None = find-no_position (has_key x.eq k) table.items slot in
+        let p' : Place K V D T A = record p { block = Some (length w.blocks); slot = None; phase = phase.Release answer.None } in
+        let not_yet : may_own p.phase ≡ false = ap may_own before in
+        let l = listed.1 in
+        let inside = begin-apart x laws w s (record (stepped w s p') { blocks = blocks }) sound p st (begin.Get k) c.0.asked in
+        let stays : Some (length w.blocks) ≡ block_after p' = sym (ap (λ (b : Bool). if b then None else Some (length w.blocks)) c.0.closes) in
+        let session = session-new x laws w s sound p at _ c.0 k refl c.1.shard not_yet table held listed.0 Shared c.2 l p' None is (None, refl) in
+        subst (λ (z : List (Block K)). Sound x (record (stepped w s p') { blocks = z })) (sym listed.2)
+          (sound-listed x laws w s sound p at _ c.0 k refl Shared c.2 c.1.shard not_yet 1 listed.0 l p' refl refl refl refl refl
+            (opened-done x w s p' listed.0 l.done) w.tables refl (λ u q m ne hq h. refl)
+            (ask.Begin (begin.Get k), c.2.hold, IsInCall-push x (threads_of w) s.thread s.thread p' _ (in_call-moved x p p' (threads_of w) s.thread _ refl refl refl c.0), c.2.has,
+              (told-new x laws w s sound p at _ c.0 k refl c.1.shard not_yet table held listed.0 Shared c.2 l None is,
+                ready-inside x (w.blocks ++ listed.0 ∷ []) w.tables s.thread p' (p.next + 1) p.next (length w.blocks) (block_after p') inside.1 stays session))
+            (taken-at x (threads_of w) w.blocks w.replies w.tables s.thread p (phase.Find r) before st)
+            (within-at x (threads_of w) w.blocks w.replies w.tables s.thread p (phase.Find r) before st)
+            (tables-same x w.blocks (w.blocks ++ listed.0 ∷ []) w.tables w.tables sound.tables
+              (contents-listed x laws w s sound p at _ c.0 k refl Shared c.2 c.1.shard not_yet 1 listed.0 l
+                (λ o h. ap pair_in (reached-new x laws w s sound p at _ c.0 k refl c.1.shard not_yet table held listed.0 l o) ∙ opened-quiet k o))))
+
+  pub sound-finds : (w' : State K V S D T A) → Finds x w s w' → Sound x w'
+  sound-finds w' f =
+      subst (Sound x) (sym (f.after ∙ ap (λ (z : Option ℕ). record (stepped w s (record (f.place) {
+          block = block_behind z (length w.blocks) f.place.block;
+          slot = found_slot f.request (slot_in x.eq f.table (request_key f.request));
+          phase = found_phase f.request (slot_in x.eq f.table (request_key f.request)) (has_room f.table);
+        })) { blocks = f.blocks }) f.done_is))
+        (found-by f.place f.stands f.table f.held f.request f.before (slot_in x.eq f.table (request_key f.request)) refl (has_room f.table) refl f.blocks
+          (subst (λ (z : Option ℕ). ListsBlock w s.thread f.place z f.blocks) f.done_is f.listed))
+
+  pub sound-grows : (w' : State K V S D T A) → GrowsList x w s w' → Sound x w'
+  sound-grows w' g =
+      let p = g.place in
+      let st = sound.stands s.thread p g.stands in
+      let c = claim-at x (threads_of w) w.blocks w.replies w.tables s.thread p (phase.Grow g.key g.value) g.before st in
+      let p' : Place K V D T A = record p { block = Some (length w.blocks); phase = phase.Append g.key g.value } in
+      let not_yet : may_own p.phase ≡ false = ap may_own g.before in
+      let l = g.listed.1 in
+      let d = g.listed.0 in
+      let is : pair_of x.eq g.table.items g.key ≡ None =
+        ap (λ (z : Vec (K × V) A). pair_of x.eq z.items g.key) (same_Some g.table c.3.table (sym g.held ∙ c.3.held)) ∙ c.3.so.0 in
+      subst (Sound x) (sym (g.after ∙ ap (λ (z : List (Block K)). record (stepped w s p') { tables = slice_set w.tables p.shard g.grown; blocks = z }) g.listed.2))
+        (sound-listed x laws w s sound p g.stands _ c.0 g.key refl Exclusive c.2 c.1.shard not_yet 0 d l p' refl refl refl refl refl
+          (done-none d 0 l.done (omega arith) l.end) (slice_set w.tables p.shard g.grown) (length-set w.tables p.shard g.grown)
+          (kept-alone x w s p g.stands sound g.grown c.2)
+          (IsInCall-push x (threads_of w) s.thread s.thread p' _ (in_call-moved x p p' (threads_of w) s.thread _ refl refl refl c.0),
+            before-deed x laws w s sound p g.stands _ c.0 g.key refl c.1.shard not_yet g.table g.held d c.2 l p' None is refl refl c.1.slot refl refl,
+            record { table = g.grown; held = slice_get-set_same w.tables p.shard g.table g.grown g.held; so = g.room })
+          (taken-at x (threads_of w) w.blocks w.replies w.tables s.thread p (phase.Grow g.key g.value) g.before st)
+          (within-at x (threads_of w) w.blocks w.replies w.tables s.thread p (phase.Grow g.key g.value) g.before st)
+          (tables-rewritten x w.blocks (w.blocks ++ d ∷ []) w.tables p.shard g.table g.grown g.held g.pairs sound.tables
+            (contents-listed x laws w s sound p g.stands _ c.0 g.key refl Exclusive c.2 c.1.shard not_yet 0 d l (quiet-none x laws w s sound p g.stands _ c.0 g.key refl c.1.shard not_yet g.table g.held d l))))
