@@ -6,6 +6,7 @@ pub mod Building
 pub mod Admitting
 pub mod Listing
 pub mod Finding
+pub mod Growing
 pub mod Finds
 pub mod Tables
 pub mod Joins

@@ -1,0 +1,199 @@
+-- A call on a guard, or where a guard was, is counted in by the session's block. It changes no pair.
+use Rattle.std.proofs.Common.{◌≡◌, ◌≢◌, ℕ, zero, suc, ◌+◌, ◌-◌, ◌<◌, ◌≤◌, ◌⊎◌, inl, inr, ⊎_elim, Bool, true, false, List, [], ◌∷◌, ◌++◌, length, take, drop, Option, Some, None, IsSome, slice_get, slice_set, refl, ap, sym, ◌∙◌, subst, arith}
+use Rattle.std.specs.declared.vec.Vec.{Vec}
+use Rattle.std.proofs.lemmas.Option.{same_Some, none-some}
+use Rattle.std.proofs.lemmas.Bool.{cases_lt, false≢true}
+use Rattle.mapworld_calls.specs.declared.ask.Ask.{Ask}
+use Rattle.mapworld_calls.specs.declared.ask.Ask.TheVariants as ask
+use Rattle.mapworld_calls.specs.declared.ask.Begin.{Begin}
+use Rattle.mapworld_calls.specs.declared.ask.Held.{Held}
+use Rattle.mapworld_calls.specs.declared.ask.Held.TheVariants as held
+use Rattle.mapworld_calls.specs.declared.block.Block.{Block}
+use Rattle.mapworld_calls.specs.declared.reply.Reply.{Reply}
+use Rattle.mapworld_calls.specs.Deeds.{Deeds}
+use Rattle.mapworld_calls.specs.Calls.{At, free, shared, pair_in, told, after, held_leaves}
+use Rattle.mapworld_calls.specs.Setup.{Setup, Laws, ask_at, session_of}
+use Rattle.mapworld_calls.specs.Replay.{reached, block_key, at_key, contents, found, told_by}
+use Rattle.mapworld_calls.specs.Agrees.{IsToldBy}
+use Rattle.mapworld_calls.specs.Placed.{answered_of, HasStarted, IsSessionDone, IsDoneWithin, WellPlaced}
+use Rattle.mapworld_calls.proofs.Lists.{slice_get-set_same, slice_get-set_cases}
+use Rattle.mapworld_calls.proofs.Programs.{opening_is}
+use Rattle.mapworld_calls.proofs.Grown.{Grows, IsQuiet, found-grown, block_key-grown, contents-quiet}
+use Rattle.mapworld_calls.proofs.Kept.{keeps-grown}
+use Rattle.mapworld.specs.declared.step.Step.{Step}
+use Rattle.mapworld.specs.declared.holds.Held.{Held as Entry}
+use Rattle.mapworld.specs.declared.place.Place.{Place}
+use Rattle.mapworld.specs.State.{State, threads_of, started_of}
+use Rattle.mapworld.specs.Moves.{stepped, CountsIn}
+use Rattle.mapworld.specs.Sound.{taken, may_own, GuardIs, HasSession, IsInSessionOf, IsInSession, IsReady, IsInCall, Claim, OwnsBlocks, Stands, HoldsMatch, Sound}
+use Rattle.mapworld.proofs.Effects.{effect-grow, Anyhow}
+use Rattle.mapworld.proofs.Timing.{SameCall, placed-grown}
+use Rattle.mapworld.proofs.Building.{started-own, started-stays, Leaves, sound-by, replies-kept, asked-at, asked-from, session-is, reached-next, told-next, tables-same}
+
+-- no call on a guard changes its pair
+held-quiet : {D K V T : Type 0} (deeds : Deeds D K V T) (h : Held D) (s : At K V) → pair_in (held_leaves deeds h s) ≡ pair_in s
+held-quiet deeds h (free o) = refl
+held-quiet deeds (held.Read d) (shared pair) = refl
+held-quiet deeds held.Drop (shared pair) = refl
+
+same-reached : {K V D T : Type 0} (x : Setup K V D T) (t u c e n m : ℕ) (o : Option (K × V)) → t ≡ u → c ≡ e → n ≡ m → reached x t c n o ≡ reached x u e m o
+same-reached x t u c e n m o ht hc hn = rw (ht, hc, hn)
+
+-- a guard is one of a session with a block
+pub session-of-guard : {K V D T A : Type 0} (x : Setup K V D T) (bs : List (Block K)) (tables : List (Vec (K × V) A)) (t : ℕ) (p : Place K V D T A) (n slot : ℕ) (o block : Option ℕ)
+    → p.slot ≡ Some slot → IsInSession x bs tables t p n o block → (c : ℕ) × (i : ℕ) × (o ≡ Some c) × (block ≡ Some i) × HasSession x bs tables t p n c i
+session-of-guard x bs tables t p n slot None block guarded h = absurd (none-some slot (sym h.0 ∙ guarded))
+session-of-guard x bs tables t p n slot (Some c) None guarded h = absurd (none-some slot (sym h.0 ∙ guarded))
+session-of-guard x bs tables t p n slot (Some c) (Some i) guarded h = (c, i, refl, refl, h)
+
+IsSome-at : (o : Option ℕ) → IsSome o → (y : ℕ) × (o ≡ Some y)
+IsSome-at None h = absurd cc
+IsSome-at (Some y) h = (y, refl)
+
+module _ {K V S D T A : Type 0} (x : Setup K V D T) (laws : Laws x) (w : State K V S D T A) (s : Step) (sound : Sound x w)
+    (p : Place K V D T A) (at : slice_get w.places s.thread ≡ Some p) (h : Held D) (asked : ask_at x s.thread p.next ≡ Some (ask.Held h)) (c i : ℕ) (inside : session_of x s.thread p.next ≡ Some c)
+    (session : HasSession x w.blocks w.tables s.thread p p.next c i) (b d : Block K) (listed : slice_get w.blocks i ≡ Some b) (counts : CountsIn p.next b d) where
+  abbrev pub st : Stands x (threads_of w) w.blocks w.replies w.tables s.thread p
+  st = sound.stands s.thread p at
+
+  -- where the session stood
+  abbrev pub was : At K V
+  was = reached x s.thread c (p.next - c) (found x w.blocks i b)
+
+  its : session.block ≡ b
+  its = same_Some session.block b (sym session.listed ∙ listed)
+
+  pub thread-is : b.thread ≡ s.thread
+  thread-is = sym (ap (λ z. z.thread) its) ∙ session.thread
+
+  pub call-is : b.call ≡ c
+  call-is = sym (ap (λ z. z.call) its) ∙ session.call
+
+  done-is : b.done.value ≡ p.next - c
+  done-is = sym (ap (λ z. z.done.value) its) ∙ session.done
+
+  asked-there : ask_at x s.thread (c + (p.next - c)) ≡ Some (ask.Held h)
+  asked-there = let below = session.below in let same : c + (p.next - c) ≡ p.next = omega arith in rw same asked
+
+  more-is : d.done.value ≡ p.next - c + 1
+  more-is = counts.done ∙ ap (λ k. p.next - k + 1) call-is
+
+  -- one call more leads there
+  pub reached-more : reached x s.thread c (p.next - c + 1) (found x w.blocks i b) ≡ held_leaves x.deeds h was
+  reached-more = reached-next x s.thread c (ask.Held h) (p.next - c) (found x w.blocks i b) asked-there
+
+  quiet : IsQuiet x b d.done.value (found x w.blocks i b)
+  quiet =
+      let o = found x w.blocks i b in
+      ap pair_in (same-reached x b.thread s.thread b.call c d.done.value (p.next - c + 1) o thread-is call-is more-is)
+      ∙ ap pair_in reached-more
+      ∙ held-quiet x.deeds h was
+      ∙ sym (ap pair_in (same-reached x b.thread s.thread b.call c b.done.value (p.next - c) o thread-is call-is done-is))
+
+  pub grows : Grows x w.blocks i b d
+  grows = record {
+      listed = listed;
+      thread = counts.thread;
+      call = counts.call;
+      done = let e = done-is in let m = more-is in omega arith;
+      settled = inl quiet;
+    }
+
+  pub finds-same : found x (slice_set w.blocks i d) i d ≡ found x w.blocks i b
+  finds-same =
+      found-grown x laws w.blocks i b d grows i d (inl (omega arith))
+      ∙ ap (λ k. at_key (contents x (take i w.blocks)) k) (block_key-grown x laws w.blocks i b d grows)
+
+  -- the grown block tells the answer
+  pub told-more : IsToldBy x (slice_set w.blocks i d) s.thread c (p.next - c) (told x.deeds (ask.Held h) was)
+  told-more = record {
+      place = i;
+      block = d;
+      listed = slice_get-set_same w.blocks i b d listed;
+      thread = counts.thread ∙ thread-is;
+      call = counts.call ∙ call-is;
+      done = let m = more-is in omega arith;
+      told = told-next x s.thread c (ask.Held h) d (p.next - c) (found x (slice_set w.blocks i d) i d) (counts.thread ∙ thread-is) (counts.call ∙ call-is) asked-there
+        ∙ ap (λ o. Some (told x.deeds (ask.Held h) (reached x s.thread c (p.next - c) o))) finds-same;
+    }
+
+  -- the session goes on behind the call
+  pub session-on : (p' : Place K V D T A) → GuardIs w.tables p' p'.slot (held_leaves x.deeds h was) → HasSession x (slice_set w.blocks i d) w.tables s.thread p' (p.next + 1) c i
+  session-on p' guard =
+      let below = session.below in
+      let one : p.next + 1 - c ≡ p.next - c + 1 = omega arith in
+      record {
+        block = d;
+        listed = slice_get-set_same w.blocks i b d listed;
+        thread = counts.thread ∙ thread-is;
+        call = counts.call ∙ call-is;
+        below = omega arith;
+        done = more-is ∙ sym one;
+        guard = rw (one, finds-same) (subst (λ (z : At K V). GuardIs w.tables p' p'.slot z) (sym reached-more) guard);
+      }
+
+  opening-asked : (g : Begin K) × (ask_at x s.thread c ≡ Some (ask.Begin g))
+  opening-asked =
+      let o = opening_is st.program p.next c (sym (session-is x s.thread st.program st.has p.next) ∙ inside) in
+      (o.0, asked-at x s.thread st.program st.has c (ask.Begin o.0) o.1)
+
+  module _ (p' : Place K V D T A) (running : IsSome p'.started) (stays : (n : ℕ) → p.started ≡ Some n → p'.started ≡ Some n) where
+    now : HasStarted (started_of (stepped w s p')) w.replies b.thread p.next
+    now = inr (st.answered ∙ ap (answered_of w.replies) (sym thread-is),
+        subst (λ (o : Option ℕ). IsSome o) (sym (started-own x w s p p' at) ∙ ap (started_of (stepped w s p')) (sym thread-is)) running)
+
+    more-done : (a : Ask K V D) → ask_at x b.thread b.call ≡ Some a → IsDoneWithin x (started_of w) w.replies b a → IsDoneWithin x (started_of (stepped w s p')) w.replies d a
+    more-done (ask.Begin g) e old = record {
+        opened = let m = more-is in omega arith;
+        calls = λ n pos lt. ⊎_elim
+          (λ below.
+            let o = old.calls n pos below in
+            (o.0, rw (counts.thread, counts.call) o.1, rw (counts.thread, counts.call) o.2, rw (counts.thread, counts.call) (mono-started b.thread (b.call + n) o.3)))
+          (λ above.
+            let m = more-is in let e' = done-is in let k = call-is in let under = session.below in
+            let last : b.call + n ≡ p.next = omega arith in
+            (h, rw (counts.thread, counts.call, last, thread-is) asked, rw (counts.thread, counts.call, last, thread-is) (inside ∙ ap (λ z. Some z) (sym call-is)),
+              rw (counts.thread, counts.call, last) now))
+          (cases_lt n b.done.value);
+      }
+      where
+        mono-started : (t k : ℕ) → HasStarted (started_of w) w.replies t k → HasStarted (started_of (stepped w s p')) w.replies t k
+        mono-started t k g = elim g [
+            inl before ↦ inl before
+          | inr here ↦ inr (here.0, let o = IsSome-at (started_of w t) here.1 in rw (started-stays x w s p p' at stays t o.0 o.1) refl)
+          ]
+    more-done (ask.Keyed g) e old =
+        let o = opening-asked in
+        absurd (let both : ◌≡◌ {A = Option (Ask K V D)} (Some (ask.Begin o.0)) (Some (ask.Keyed g)) = sym o.1 ∙ (let z : ask_at x s.thread c ≡ Some (ask.Keyed g) = rw (sym thread-is, sym call-is) e in z) in cc)
+    more-done (ask.Held g) e old = old
+
+    -- the world behind a step that counts the call in
+    pub sound-counted : (holds' : List Entry) → p'.next ≡ p.next → p'.block ≡ p.block ⊎ (p'.block ≡ None)
+        → Claim x (threads_of w ++ s.thread ∷ []) (slice_set w.blocks i d) w.tables s.thread p' p'.phase
+        → p'.asks.items ≡ drop (taken p') st.program → taken p' ≤ length st.program
+        → HoldsMatch (slice_set w.places s.thread p') holds'
+        → OwnsBlocks (slice_set w.blocks i d) s.thread p'
+        → Sound x (record (stepped w s p') { tables = w.tables; holds = holds'; blocks = slice_set w.blocks i d; replies = w.replies })
+    sound-counted holds' next block claim left within match owns =
+        sound-by x w s p p' at sound (slice_set w.blocks i d) w.tables holds' w.replies Anyhow
+          (record {
+            effect = effect-grow x laws w.blocks s.thread i b d grows thread-is;
+            count = λ u ne. refl;
+            kept = λ u q m ne hq hh. refl;
+            foreign = λ u q k o ne hq dd. tt;
+            shards = refl;
+          })
+          (record { program = st.program; has = st.has; asks_left = left; within = within; answered = next ∙ st.answered; owns = owns; claim = claim })
+          (tables-same x w.blocks (slice_set w.blocks i d) w.tables w.tables sound.tables
+            (λ q. contents-quiet x laws w.blocks i b d grows quiet q))
+          match
+          (placed-grown x (threads_of w) s.thread (started_of w) (started_of (stepped w s p')) w.blocks w.replies (started-stays x w s p p' at stays) i b d listed
+            (record { thread = counts.thread; call = counts.call; visit = counts.visit; start = counts.start; position = counts.position }) counts.end more-done sound.placed)
+          (replies-kept x w.blocks (slice_set w.blocks i d) w.replies (λ j r hr. keeps-grown x laws w.blocks i b d grows r.thread r.call) sound.replies)
+
+  -- the thread's blocks are those that it had
+  pub owns-grown : (p' : Place K V D T A) → p'.next ≡ p.next → may_own p.phase ≡ false → OwnsBlocks (slice_set w.blocks i d) s.thread p'
+  owns-grown p' next not_yet j e here thread = elim (slice_get-set_cases w.blocks i j b e d listed here) [
+      inl own ↦ inl (rw (next, own.1, counts.call, call-is) session.below)
+    | inr other ↦ elim (st.owns j e other.1 thread) [ inl below ↦ inl (rw next below) | inr mine ↦ absurd (false≢true (sym not_yet ∙ mine.2)) ]
+    ]
