@@ -7,6 +7,7 @@ pub mod Admitting
 pub mod Listing
 pub mod Finding
 pub mod Growing
+pub mod Acting
 pub mod Finds
 pub mod Tables
 pub mod Joins
