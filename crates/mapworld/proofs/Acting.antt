@@ -37,6 +37,7 @@ use Rattle.mapworld.proofs.Holding.{holds-same}
 use Rattle.mapworld.proofs.Tables.{pair_of-is, AreDistinct-push, pair_of-push, AreDistinct-set, pair_of-set, set-keys, AreDistinct-remove, pair_of-remove}
 use Rattle.mapworld.proofs.Building.{in_call-moved, started-stays, Leaves, sound-by, replies-kept, tables-set, claim-at, taken-at, within-at, reached-one, told-one, ready-outside}
 use Rattle.mapworld.proofs.Admitting.{kept-alone, keyed-apart}
+use Rattle.mapworld.proofs.Growing.{own-grown}
 
 -- the block that a step counts in is that of the claim
 pub counted-block : {K : Type 0} (bs : List (Block K)) (o : Option ℕ) (i n : ℕ) (bs' : List (Block K)) → o ≡ Some i → CountsCall bs o n bs' → CountsCall bs (Some i) n bs'
@@ -174,6 +175,7 @@ module _ {K V S D T A : Type 0} (x : Setup K V D T) (laws : Laws x) (w : State K
           asks_left = subst (λ (z : Bool). p.asks.items ≡ drop (if z then p.next else p.next + 1) st.program) resting st.asks_left;
           within = subst (λ (z : Bool). (if z then p.next else p.next + 1) ≤ length st.program) resting st.within;
           answered = st.answered;
+          own_block = λ j mine. own-grown w.blocks d.index b c s.thread listed (counts.thread ∙ thread-is) p st.own_block j mine;
           owns = λ j e here thread. elim (slice_get-set_cases w.blocks d.index j b e c listed here) [
               inl own ↦ inr (ap (λ z. z.call) own.1 ∙ counts.call ∙ call-is, d.mine ∙ ap (λ z. Some z) (sym own.0), refl)
             | inr other ↦ elim (st.owns j e other.1 thread) [ inl below ↦ inl below | inr mine ↦ inr (mine.0, mine.1, refl) ]

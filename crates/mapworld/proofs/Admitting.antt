@@ -74,6 +74,7 @@ module _ {K V S D T A : Type 0} (x : Setup K V D T) (laws : Laws x) (w : State K
           asks_left = taken-at x (threads_of w) w.blocks w.replies w.tables s.thread p (phase.Admit a.request) a.before st;
           within = within-at x (threads_of w) w.blocks w.replies w.tables s.thread p (phase.Admit a.request) a.before st;
           answered = st.answered;
+          own_block = st.own_block;
           owns = owns-on w.blocks s.thread p p' st.owns refl refl (λ own. absurd (false≢true (sym (ap may_own a.before) ∙ own)));
           claim = (
             IsInCall-push x (threads_of w) s.thread s.thread p' _ (in_call-moved x p p' (threads_of w) s.thread _ refl refl refl c.0),
@@ -132,6 +133,7 @@ module _ {K V S D T A : Type 0} (x : Setup K V D T) (laws : Laws x) (w : State K
           asks_left = taken-at x (threads_of w) w.blocks w.replies w.tables s.thread p (phase.Grow a.key a.value) a.before st;
           within = within-at x (threads_of w) w.blocks w.replies w.tables s.thread p (phase.Grow a.key a.value) a.before st;
           answered = st.answered;
+          own_block = st.own_block;
           owns = owns-on w.blocks s.thread p p' st.owns refl refl (λ own. refl);
           claim = (
             ask.Keyed (keyed.Insert a.key a.value),

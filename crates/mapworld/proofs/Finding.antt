@@ -122,7 +122,7 @@ opened-quiet k (Some pair) = refl
 opened-done : {K V S D T A : Type 0} (x : Setup K V D T) (w : State K V S D T A) (s : Step) (p' : Place K V D T A) (d : Block K) → d.done.value ≡ 1 → IsSessionDone x (started_of (stepped w s p')) w.replies d
 opened-done x w s p' d done = record { opened = rw done (omega arith); calls = λ n pos lt. absurd (let lt' : n < 1 = subst (λ (k : ℕ). n < k) done lt in omega arith) }
 
-ready-inside : {K V D T A : Type 0} (x : Setup K V D T) (bs : List (Block K)) (tables : List (Vec (K × V) A)) (t : ℕ) (p : Place K V D T A) (n c i : ℕ) (block : Option ℕ)
+pub ready-inside : {K V D T A : Type 0} (x : Setup K V D T) (bs : List (Block K)) (tables : List (Vec (K × V) A)) (t : ℕ) (p : Place K V D T A) (n c i : ℕ) (block : Option ℕ)
     → session_of x t n ≡ Some c → Some i ≡ block → HasSession x bs tables t p n c i → IsReady x bs tables t p n block
 ready-inside x bs tables t p n c i block inside mine h =
     subst (λ (o : Option ℕ). IsInSession x bs tables t p n o block) (sym inside) (subst (λ (o : Option ℕ). IsInSession x bs tables t p n (Some c) o) mine h)
@@ -187,6 +187,7 @@ module _ {K V S D T A : Type 0} (x : Setup K V D T) (laws : Laws x) (w : State K
               asks_left = taken-at x (threads_of w) w.blocks w.replies w.tables s.thread p (phase.Find r) before st;
               within = within-at x (threads_of w) w.blocks w.replies w.tables s.thread p (phase.Find r) before st;
               answered = st.answered;
+              own_block = st.own_block;
               owns = owns-on w.blocks s.thread p p' st.owns refl refl (λ own. absurd (false≢true (sym (ap may_own before) ∙ own)));
               claim = (
                 IsInCall-push x (threads_of w) s.thread s.thread p' _ (in_call-moved x p p' (threads_of w) s.thread _ refl refl refl c.0),

@@ -2,7 +2,7 @@
 use Rattle.std.proofs.Common.{◌≡◌, ◌≢◌, ℕ, zero, suc, ◌+◌, ◌-◌, ◌<◌, ◌≤◌, ◌⊎◌, inl, inr, ⊎_elim, Bool, true, false, List, [], ◌∷◌, ◌++◌, length, take, drop, Option, Some, None, IsSome, slice_get, slice_set, refl, ap, sym, ◌∙◌, subst, arith}
 use Rattle.std.specs.declared.vec.Vec.{Vec}
 use Rattle.std.proofs.lemmas.Option.{same_Some, none-some}
-use Rattle.std.proofs.lemmas.Bool.{cases_lt, false≢true}
+use Rattle.std.proofs.lemmas.Bool.{cases_lt, cases_eq, false≢true}
 use Rattle.mapworld_calls.specs.declared.ask.Ask.{Ask}
 use Rattle.mapworld_calls.specs.declared.ask.Ask.TheVariants as ask
 use Rattle.mapworld_calls.specs.declared.ask.Begin.{Begin}
@@ -16,7 +16,7 @@ use Rattle.mapworld_calls.specs.Setup.{Setup, Laws, ask_at, session_of}
 use Rattle.mapworld_calls.specs.Replay.{reached, block_key, at_key, contents, found, told_by}
 use Rattle.mapworld_calls.specs.Agrees.{IsToldBy}
 use Rattle.mapworld_calls.specs.Placed.{answered_of, HasStarted, IsSessionDone, IsDoneWithin, WellPlaced}
-use Rattle.mapworld_calls.proofs.Lists.{slice_get-set_same, slice_get-set_cases}
+use Rattle.mapworld_calls.proofs.Lists.{slice_get-set_same, slice_get-set_other, slice_get-set_cases}
 use Rattle.mapworld_calls.proofs.Programs.{opening_is}
 use Rattle.mapworld_calls.proofs.Grown.{Grows, IsQuiet, found-grown, block_key-grown, contents-quiet}
 use Rattle.mapworld_calls.proofs.Kept.{keeps-grown}
@@ -25,7 +25,7 @@ use Rattle.mapworld.specs.declared.holds.Held.{Held as Entry}
 use Rattle.mapworld.specs.declared.place.Place.{Place}
 use Rattle.mapworld.specs.State.{State, threads_of, started_of}
 use Rattle.mapworld.specs.Moves.{stepped, CountsIn}
-use Rattle.mapworld.specs.Sound.{taken, may_own, GuardIs, HasSession, IsInSessionOf, IsInSession, IsReady, IsInCall, Claim, OwnsBlocks, Stands, HoldsMatch, Sound}
+use Rattle.mapworld.specs.Sound.{taken, may_own, GuardIs, HasSession, IsInSessionOf, IsInSession, IsReady, IsInCall, Claim, OwnsBlocks, HasOwnBlock, Stands, HoldsMatch, Sound}
 use Rattle.mapworld.proofs.Effects.{effect-grow, Anyhow}
 use Rattle.mapworld.proofs.Timing.{SameCall, placed-grown}
 use Rattle.mapworld.proofs.Building.{started-own, started-stays, Leaves, sound-by, replies-kept, asked-at, asked-from, session-is, reached-next, told-next, tables-same}
@@ -38,6 +38,14 @@ held-quiet deeds held.Drop (shared pair) = refl
 
 same-reached : {K V D T : Type 0} (x : Setup K V D T) (t u c e n m : ℕ) (o : Option (K × V)) → t ≡ u → c ≡ e → n ≡ m → reached x t c n o ≡ reached x u e m o
 same-reached x t u c e n m o ht hc hn = rw (ht, hc, hn)
+
+-- a thread's block stays its own where a block of the thread grows
+pub own-grown : {K V D T A : Type 0} (bs : List (Block K)) (i : ℕ) (b c : Block K) (t : ℕ) → slice_get bs i ≡ Some b → c.thread ≡ t → (p : Place K V D T A) → HasOwnBlock bs t p
+    → (j : ℕ) → p.block ≡ Some j → (e : Block K) × (slice_get (slice_set bs i c) j ≡ Some e) × (e.thread ≡ t)
+own-grown bs i b c t at thread p own j mine = ⊎_elim
+    (λ same. (c, ap (λ k. slice_get (slice_set bs i c) k) (sym same) ∙ slice_get-set_same bs i b c at, thread))
+    (λ ne. let o = own j mine in (o.0, slice_get-set_other bs i j c ne ∙ o.1, o.2))
+    (cases_eq i j)
 
 -- a guard is one of a session with a block
 pub session-of-guard : {K V D T A : Type 0} (x : Setup K V D T) (bs : List (Block K)) (tables : List (Vec (K × V) A)) (t : ℕ) (p : Place K V D T A) (n slot : ℕ) (o block : Option ℕ)
@@ -137,6 +145,12 @@ module _ {K V S D T A : Type 0} (x : Setup K V D T) (laws : Laws x) (w : State K
       let o = opening_is st.program p.next c (sym (session-is x s.thread st.program st.has p.next) ∙ inside) in
       (o.0, asked-at x s.thread st.program st.has c (ask.Begin o.0) o.1)
 
+  own-block : (p' : Place K V D T A) → p'.block ≡ p.block ⊎ (p'.block ≡ None) → HasOwnBlock (slice_set w.blocks i d) s.thread p'
+  own-block p' block j mine = elim block [
+      inl same ↦ own-grown w.blocks i b d s.thread listed (counts.thread ∙ thread-is) p st.own_block j (sym same ∙ mine)
+    | inr none ↦ absurd (none-some j (sym none ∙ mine))
+    ]
+
   module _ (p' : Place K V D T A) (running : IsSome p'.started) (stays : (n : ℕ) → p.started ≡ Some n → p'.started ≡ Some n) where
     now : HasStarted (started_of (stepped w s p')) w.replies b.thread p.next
     now = inr (st.answered ∙ ap (answered_of w.replies) (sym thread-is),
@@ -183,7 +197,7 @@ module _ {K V S D T A : Type 0} (x : Setup K V D T) (laws : Laws x) (w : State K
             foreign = λ u q k o ne hq dd. tt;
             shards = refl;
           })
-          (record { program = st.program; has = st.has; asks_left = left; within = within; answered = next ∙ st.answered; owns = owns; claim = claim })
+          (record { program = st.program; has = st.has; asks_left = left; within = within; answered = next ∙ st.answered; owns = owns; own_block = own-block p' block; claim = claim })
           (tables-same x w.blocks (slice_set w.blocks i d) w.tables w.tables sound.tables
             (λ q. contents-quiet x laws w.blocks i b d grows quiet q))
           match

@@ -8,6 +8,7 @@ pub mod Listing
 pub mod Finding
 pub mod Growing
 pub mod Acting
+pub mod Reading
 pub mod Finds
 pub mod Tables
 pub mod Joins

@@ -108,6 +108,7 @@ module _ {K V S D T A : Type 0} (x : Setup K V D T) (laws : Laws x) (w : State K
             asks_left = left;
             within = within;
             answered = next ∙ st.answered;
+            own_block = λ i h. (d, ap (λ k. slice_get (w.blocks ++ d ∷ []) k) (sym (same_Some (length w.blocks) i (sym mine ∙ h))) ∙ slice_get-push_at w.blocks d, listed.thread);
             owns = λ i b hb thread. elim (slice_get-push_cases w.blocks i b d hb) [
                 inl old ↦ elim (st.owns i b old thread) [ inl below ↦ inl (rw next below) | inr its ↦ absurd (false≢true (sym not_yet ∙ its.2)) ]
               | inr new ↦ inr (ap (λ z. z.call) new.1 ∙ listed.call ∙ sym next, mine ∙ ap (λ k. Some k) (sym new.0), own)

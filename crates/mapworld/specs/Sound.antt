@@ -176,6 +176,10 @@ abbrev pub OwnsBlocks : {K V D T A : Type 0} → List (Block K) → ℕ → Plac
 OwnsBlocks {K} bs t p =
     (i : ℕ) (b : Block K) → slice_get bs i ≡ Some b → b.thread ≡ t → (b.call < p.next) ⊎ ((b.call ≡ p.next) × (p.block ≡ Some i) × (may_own p.phase ≡ true))
 
+-- a place names a block of its own thread
+abbrev pub HasOwnBlock : {K V D T A : Type 0} → List (Block K) → ℕ → Place K V D T A → Type 0
+HasOwnBlock {K} bs t p = (i : ℕ) → p.block ≡ Some i → (b : Block K) × (slice_get bs i ≡ Some b) × (b.thread ≡ t)
+
 pub record Stands {K V D T A : Type 0} (x : Setup K V D T) (threads : List ℕ) (bs : List (Block K)) (replies : List (Reply K V T)) (tables : List (Vec (K × V) A)) (t : ℕ) (p : Place K V D T A) : Type 0 where
   pub program : List (Ask K V D)
   pub has : slice_get x.programs t ≡ Some program
@@ -183,6 +187,7 @@ pub record Stands {K V D T A : Type 0} (x : Setup K V D T) (threads : List ℕ) 
   pub within : taken p ≤ length program
   pub answered : p.next ≡ answered_of replies t
   pub owns : OwnsBlocks bs t p
+  pub own_block : HasOwnBlock bs t p
   pub claim : Claim x threads bs tables t p p.phase
 
 -- each shard's list has the shard's keys, each once, with the pairs of the replay

@@ -1,0 +1,87 @@
+-- Steps of a session: a deed that reads the guarded pair, and the release of the guard or of a keyed call's hold.
+use Rattle.std.proofs.Common.{◌≡◌, ◌≢◌, ℕ, zero, suc, ◌+◌, ◌-◌, ◌<◌, ◌≤◌, ◌⊎◌, inl, inr, ⊎_elim, Bool, true, false, if◌then◌else◌, List, [], ◌∷◌, ◌++◌, length, drop, Option, Some, None, IsSome, is_some, slice_get, slice_set, remove, refl, ap, sym, ◌∙◌, subst, arith}
+use Rattle.std.specs.declared.vec.Vec.{Vec}
+use Rattle.std.proofs.lemmas.Option.{same_Some, none-some}
+use Rattle.std.proofs.lemmas.Bool.{false≢true}
+use Rattle.mapworld_calls.specs.declared.ask.Ask.{Ask}
+use Rattle.mapworld_calls.specs.declared.ask.Ask.TheVariants as ask
+use Rattle.mapworld_calls.specs.declared.ask.Held.TheVariants as held
+use Rattle.mapworld_calls.specs.declared.block.Block.{Block}
+use Rattle.mapworld_calls.specs.declared.reply.Answer.{Answer}
+use Rattle.mapworld_calls.specs.declared.reply.Answer.TheVariants as answer
+use Rattle.mapworld_calls.specs.Calls.{At, free, shared, told, held_answer, held_leaves}
+use Rattle.mapworld_calls.specs.Setup.{Setup, Laws, ask_at, session_of}
+use Rattle.mapworld_calls.specs.Replay.{reached, found}
+use Rattle.mapworld_calls.specs.Agrees.{IsToldBy, IsAnsweredInSession}
+use Rattle.mapworld.specs.declared.holds.Mode.TheVariants.{Shared, Exclusive}
+use Rattle.mapworld.specs.declared.step.Step.{Step}
+use Rattle.mapworld.specs.declared.place.Phase.TheVariants as phase
+use Rattle.mapworld.specs.declared.place.Place.{Place}
+use Rattle.mapworld.specs.State.{State, threads_of, started_of}
+use Rattle.mapworld.specs.Moves.{is_last, stepped, CountsIn, CountsCall}
+use Rattle.mapworld.specs.Steps.{Reads, Releases}
+use Rattle.mapworld.specs.Sound.{taken, may_own, block_after, GuardIs, HasPair, HoldsShard, HasSession, IsInSession, IsReady, IsInCall, IsReleasing, Claim, Stands, Sound}
+use Rattle.mapworld.proofs.Others.{IsInCall-push}
+use Rattle.mapworld.proofs.Timing.{placed-same}
+use Rattle.mapworld.proofs.Holding.{holds-same, holds-remove}
+use Rattle.mapworld.proofs.Building.{in_call-moved, holds-moved, ready-moved, session-next, tables-same, started-stays, sound-by, claim-at, taken-at, within-at, ready-outside}
+use Rattle.mapworld.proofs.Admitting.{leaves-same, owns-on}
+use Rattle.mapworld.proofs.Finding.{ready-inside}
+use Rattle.mapworld.proofs.Acting.{counted-block}
+use Rattle.mapworld.proofs.Growing as growing
+
+-- the answer of a call in the session of that opening
+in-session : {K V D T : Type 0} (x : Setup K V D T) (bs : List (Block K)) (t n c : ℕ) (a : Answer K V T) → session_of x t n ≡ Some c → IsToldBy x bs t c (n - c) a
+    → IsAnsweredInSession x bs t n (session_of x t n) a
+in-session x bs t n c a inside told = subst (λ (o : Option ℕ). IsAnsweredInSession x bs t n o a) (sym inside) (inl told)
+
+-- a live guard's session has come to its pair
+guard-shared : {K V D T A : Type 0} (tables : List (Vec (K × V) A)) (p : Place K V D T A) (o : Option ℕ) (slot : ℕ) (at : At K V) → o ≡ Some slot → GuardIs tables p o at
+    → (pair : K × V) × (at ≡ shared pair) × HoldsShard p Shared × HasPair tables p.shard slot pair
+guard-shared tables p None slot at same h = absurd cc
+guard-shared tables p (Some i) slot at same h = let e : i ≡ slot = cc in (h.0, h.1, h.2, subst (λ (j : ℕ). HasPair tables p.shard j h.0) e h.3)
+
+pub HasPair-is : {K V A : Type 0} (tables : List (Vec (K × V) A)) (shard slot : ℕ) (pair pair' : K × V) (table : Vec (K × V) A)
+    → HasPair tables shard slot pair → slice_get tables shard ≡ Some table → slice_get table.items slot ≡ Some pair' → pair' ≡ pair
+HasPair-is {K} {V} {A} tables shard slot pair pair' table h held at =
+    same_Some pair' pair (sym at ∙ ap (λ (z : Vec (K × V) A). slice_get z.items slot) (same_Some table h.table (sym held ∙ h.held)) ∙ h.pair_is)
+
+module _ {K V S D T A : Type 0} (x : Setup K V D T) (laws : Laws x) (w : State K V S D T A) (s : Step) (w' : State K V S D T A) (sound : Sound x w) where
+  pub sound-reads : Reads x w s w' → Sound x w'
+  sound-reads a =
+      let p = a.place in
+      let st = sound.stands s.thread p a.stands in
+      let cl = claim-at x (threads_of w) w.blocks w.replies w.tables s.thread p (phase.Read a.deed) a.before st in
+      let call = cl.1 in
+      let g = growing.session-of-guard x w.blocks w.tables s.thread p p.next cl.0 (session_of x s.thread p.next) p.block cl.2 cl.3 in
+      let c = g.0 in let i = g.1 in let inside = g.2 in let session = g.4 in
+      let n = counted-block w.blocks p.block i p.next a.blocks g.3 a.counted in
+      let b = n.0 in let d = n.1 in
+      let its : session.block ≡ b = same_Some session.block b (sym session.listed ∙ n.2) in
+      let slot : p.slot ≡ Some a.slot = a.guarded in
+      let guard = guard-shared w.tables p p.slot a.slot (reached x s.thread c (p.next - c) (found x w.blocks i session.block)) slot session.guard in
+      let stood : reached x s.thread c (p.next - c) (found x w.blocks i b) ≡ shared guard.0 = ap (λ z. reached x s.thread c (p.next - c) (found x w.blocks i z)) (sym its) ∙ guard.1 in
+      let pair : a.pair ≡ guard.0 = HasPair-is w.tables p.shard a.slot guard.0 a.pair a.table guard.3 a.held a.found in
+      let r : Answer K V T = answer.Read (x.deeds.answer a.deed a.pair.0 a.pair.1) in
+      let p' : Place K V D T A = record p { phase = phase.Answer r } in
+      let told : held_answer x.deeds (held.Read a.deed) (reached x s.thread c (p.next - c) (found x w.blocks i b)) ≡ r =
+        ap (held_answer x.deeds (held.Read a.deed)) stood ∙ ap (λ (z : K × V). answer.Read (x.deeds.answer a.deed z.0 z.1)) (sym pair) in
+      let leaves : held_leaves x.deeds (held.Read a.deed) (reached x s.thread c (p.next - c) (found x w.blocks i b)) ≡ shared guard.0 = ap (held_leaves x.deeds (held.Read a.deed)) stood in
+      let on = growing.session-on x laws w s sound p a.stands (held.Read a.deed) call.asked c i inside session b d n.2 n.3 p'
+        (subst (λ (o : Option ℕ). GuardIs w.tables p' o (held_leaves x.deeds (held.Read a.deed) (reached x s.thread c (p.next - c) (found x w.blocks i b)))) (sym slot)
+          (guard.0, leaves, holds-moved x p p' Shared refl refl guard.2, guard.3)) in
+      let behind : session_of x s.thread (p.next + 1) ≡ Some c = session-next x s.thread st.program st.has p.next (ask.Held (held.Read a.deed)) call.asked ∙ inside in
+      let stays : Some i ≡ block_after p' = sym g.3 ∙ sym (ap (λ (z : Bool). if z then None else p.block) call.closes) in
+      subst (Sound x) (sym (a.after ∙ ap (λ (z : List (Block K)). record (stepped w s p') { blocks = z }) n.4))
+        (growing.sound-counted x laws w s sound p a.stands (held.Read a.deed) call.asked c i inside session b d n.2 n.3 p'
+          (rw call.started refl) (λ m h. h) w.holds refl (inl refl)
+          (ask.Held (held.Read a.deed), IsInCall-push x (threads_of w) s.thread s.thread p' _ (in_call-moved x p p' (threads_of w) s.thread _ refl refl refl call),
+            (λ h. absurd (none-some a.slot (sym h ∙ slot))),
+            in-session x (slice_set w.blocks i d) s.thread p.next c r inside
+              (subst (λ (z : Answer K V T). IsToldBy x (slice_set w.blocks i d) s.thread c (p.next - c) z) told
+                (growing.told-more x laws w s sound p a.stands (held.Read a.deed) call.asked c i inside session b d n.2 n.3)),
+            ready-inside x (slice_set w.blocks i d) w.tables s.thread p' (p.next + 1) c i (block_after p') behind stays on)
+          (taken-at x (threads_of w) w.blocks w.replies w.tables s.thread p (phase.Read a.deed) a.before st)
+          (within-at x (threads_of w) w.blocks w.replies w.tables s.thread p (phase.Read a.deed) a.before st)
+          (holds-same w.places w.holds sound.holds s.thread p p' a.stands refl)
+          (growing.owns-grown x laws w s sound p a.stands (held.Read a.deed) call.asked c i inside session b d n.2 n.3 p' refl (ap may_own a.before)))
