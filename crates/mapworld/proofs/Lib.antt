@@ -9,6 +9,7 @@ pub mod Finding
 pub mod Growing
 pub mod Acting
 pub mod Reading
+pub mod Answering
 pub mod Finds
 pub mod Tables
 pub mod Joins

@@ -30,7 +30,7 @@ use Rattle.mapworld.proofs.Timing.{IsStepOf-below, IsStepOf-next, placed-push}
 use Rattle.mapworld.proofs.Holding.{holds-same, exclusion}
 use Rattle.mapworld.proofs.Building.{started-own, started-stays, Leaves, sound-by, replies-kept, reply-below}
 
-length-map : {X Y : Type 0} (f : X → Y) (xs : List X) → length (map f xs) ≡ length xs
+pub length-map : {X Y : Type 0} (f : X → Y) (xs : List X) → length (map f xs) ≡ length xs
 length-map f [] = refl
 length-map f (x ∷ xs) = ap suc (length-map f xs)
 

@@ -170,7 +170,7 @@ count_by-before xs p j q at passes =
     omega (arith, more, le)
 
 module _ {K V T : Type 0} (replies : List (Reply K V T)) (r : Reply K V T) where
-  answered_of-other : (t : ℕ) → r.thread ≢ t → answered_of (replies ++ r ∷ []) t ≡ answered_of replies t
+  pub answered_of-other : (t : ℕ) → r.thread ≢ t → answered_of (replies ++ r ∷ []) t ≡ answered_of replies t
   answered_of-other t ne =
       let e : (r.thread == t) ≡ false = ne_eqb r.thread t ne in
       count_by-push (λ z. z.thread == t) replies r ∙ rw e (omega arith)
