@@ -10,6 +10,8 @@ pub mod Growing
 pub mod Acting
 pub mod Reading
 pub mod Answering
+pub mod Starting
+pub mod Sounds
 pub mod Finds
 pub mod Tables
 pub mod Joins

@@ -32,12 +32,12 @@ use Rattle.mapworld.proofs.Acting.{counted-block}
 use Rattle.mapworld.proofs.Growing as growing
 
 -- the answer of a call in the session of that opening
-in-session : {K V D T : Type 0} (x : Setup K V D T) (bs : List (Block K)) (t n c : ℕ) (a : Answer K V T) → session_of x t n ≡ Some c → IsToldBy x bs t c (n - c) a
+pub in-session : {K V D T : Type 0} (x : Setup K V D T) (bs : List (Block K)) (t n c : ℕ) (a : Answer K V T) → session_of x t n ≡ Some c → IsToldBy x bs t c (n - c) a
     → IsAnsweredInSession x bs t n (session_of x t n) a
 in-session x bs t n c a inside told = subst (λ (o : Option ℕ). IsAnsweredInSession x bs t n o a) (sym inside) (inl told)
 
 -- a live guard's session has come to its pair
-guard-shared : {K V D T A : Type 0} (tables : List (Vec (K × V) A)) (p : Place K V D T A) (o : Option ℕ) (slot : ℕ) (at : At K V) → o ≡ Some slot → GuardIs tables p o at
+pub guard-shared : {K V D T A : Type 0} (tables : List (Vec (K × V) A)) (p : Place K V D T A) (o : Option ℕ) (slot : ℕ) (at : At K V) → o ≡ Some slot → GuardIs tables p o at
     → (pair : K × V) × (at ≡ shared pair) × HoldsShard p Shared × HasPair tables p.shard slot pair
 guard-shared tables p None slot at same h = absurd cc
 guard-shared tables p (Some i) slot at same h = let e : i ≡ slot = cc in (h.0, h.1, h.2, subst (λ (j : ℕ). HasPair tables p.shard j h.0) e h.3)
