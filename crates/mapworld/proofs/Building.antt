@@ -32,7 +32,7 @@ use Rattle.mapworld.proofs.Effects.{Effect}
 use Rattle.mapworld.proofs.Others.{stands-other}
 use Rattle.mapworld.proofs.Timing.{count_by-before}
 
-map-push : {X Y : Type 0} (f : X → Y) (xs : List X) (y : X) → map f (xs ++ y ∷ []) ≡ map f xs ++ f y ∷ []
+pub map-push : {X Y : Type 0} (f : X → Y) (xs : List X) (y : X) → map f (xs ++ y ∷ []) ≡ map f xs ++ f y ∷ []
 map-push f [] y = refl
 map-push f (x ∷ xs) y = ap (λ ys. f x ∷ ys) (map-push f xs y)
 

@@ -12,6 +12,10 @@ pub mod Reading
 pub mod Answering
 pub mod Starting
 pub mod Sounds
+pub mod Viewing
+pub mod Setups
+pub mod Outcomes
+pub mod Adding
 pub mod Finds
 pub mod Tables
 pub mod Joins

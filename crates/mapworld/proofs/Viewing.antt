@@ -1,0 +1,73 @@
+-- What the views of a world show, from what holds of it.
+use Rattle.std.proofs.Common.{◌≡◌, ◌≢◌, ℕ, ◌+◌, ◌<◌, ◌⊎◌, Bool, true, false, List, [], ◌∷◌, ◌++◌, length, get_or, take, map, Option, Some, None, slice_get, IsTrue, refl, ap, ap₂, sym, ◌∙◌, subst, inl, inr, ◌↔◌}
+use Rattle.std.specs.List.{flat_map}
+use Rattle.std.specs.Option.{option_and_then, option_map}
+use Rattle.std.specs.declared.vec.Vec.{Vec}
+use Rattle.std.proofs.lemmas.Grind.{flat_map-append}
+use Rattle.std.proofs.lemmas.List.{take_more, append-nil}
+use Rattle.std.proofs.lemmas.List.Folds.{flat_map-map}
+use Rattle.std.proofs.lemmas.Option.{none-some, same_Some, slice_get-map}
+use Rattle.mapworld_calls.specs.Setup.{Setup, Laws}
+use Rattle.mapworld_calls.specs.Pairs.{pair_of, AreDistinct}
+use Rattle.mapworld_calls.specs.declared.block.Block.{Block}
+use Rattle.mapworld_calls.specs.Replay.{contents}
+use Rattle.mapworld.specs.Tables.{joined, AreRouted, AreEachDistinct}
+use Rattle.mapworld.specs.Sound.{TablesAgree}
+use Rattle.mapworld.proofs.Finds.{option_cases}
+use Rattle.mapworld.proofs.Joins.{AreDistinct-joined, pair_of-joined}
+
+-- one list more
+pub flat_map_more : {X A : Type 0} (f : X → List A) (xs : List X) (i : ℕ) (x : X) (before ys now : List A) → i < length xs → x ≡ get_or xs i x → before ≡ flat_map f (take i xs) → ys ≡ f x → now ≡ before ++ ys → now ≡ flat_map f (take (i + 1) xs)
+flat_map_more f xs i x before ys now within is was same more =
+    let next : flat_map f (take (i + 1) xs) ≡ flat_map f (take i xs) ++ f x =
+    ap (λ zs. flat_map f zs) (take_more xs i x within)
+    ∙ (flat_map-append f (take i xs) (get_or xs i x ∷ [])
+    ∙ (ap (λ y. flat_map f (take i xs) ++ (f y ++ [])) (sym is)
+    ∙ ap (λ zs. flat_map f (take i xs) ++ zs) (append-nil (f x)))) in
+    more ∙ (ap₂ (λ zs ws. zs ++ ws) was same ∙ sym next)
+
+-- a mapped list's elements
+pub map_at : {X Y : Type 0} (f : X → Y) (xs : List X) (i : ℕ) (y : Y) → slice_get (map f xs) i ≡ Some y → (x : X) × (slice_get xs i ≡ Some x) × (f x ≡ y)
+map_at f xs i y at = elim (option_cases (slice_get xs i)) [
+  | inl none ↦ absurd (none-some y (sym (slice_get-map f xs i ∙ ap (λ o. option_map f o) none) ∙ at))
+  | inr some ↦
+      (some.0, some.1, same_Some (f some.0) y (sym (slice_get-map f xs i ∙ ap (λ o. option_map f o) some.1) ∙ at))
+]
+
+pub map_to : {X Y : Type 0} (f : X → Y) (xs : List X) (i : ℕ) (x : X) → slice_get xs i ≡ Some x → slice_get (map f xs) i ≡ Some (f x)
+map_to f xs i x at = slice_get-map f xs i ∙ ap (λ o. option_map f o) at
+
+module _ {K V D T A : Type 0} (x : Setup K V D T) (bs : List (Block K)) (tables : List (Vec (K × V) A)) (laws : Laws x) (agree : TablesAgree x bs tables) where
+
+  pairs_are : flat_map (λ (t : Vec (K × V) A). t.items) tables ≡ joined (map (λ t. t.items) tables)
+  pairs_are = sym (flat_map-map (λ (table : List (K × V)). table) (λ (t : Vec (K × V) A). t.items) tables)
+
+  routed : AreRouted x.route (map (λ t. t.items) tables)
+  routed i j table p at here =
+      let r = map_at (λ (t : Vec (K × V) A). t.items) tables i table at in
+      agree.routed i j r.0 p r.1 (ap (λ (l : List (K × V)). slice_get l j) r.2 ∙ here)
+
+  each : AreEachDistinct x.eq (map (λ t. t.items) tables)
+  each i table at =
+      let r = map_at (λ (t : Vec (K × V) A). t.items) tables i table at in
+      subst (λ (l : List (K × V)). AreDistinct x.eq l) r.2 (agree.distinct i r.0 r.1)
+
+  -- all pairs have distinct keys
+  pub pairs_distinct : AreDistinct x.eq (flat_map (λ t. t.items) tables)
+  pairs_distinct =
+      subst (λ (l : List (K × V)). AreDistinct x.eq l) (sym pairs_are)
+      (AreDistinct-joined x.eq laws.equivalence x.route (map (λ t. t.items) tables) laws.routes routed each)
+
+  -- a key's pair is the one in its shard's table
+  pub pair_at_route : (q : K) (table : Vec (K × V) A) → slice_get tables (x.route q) ≡ Some table → pair_of x.eq (flat_map (λ t. t.items) tables) q ≡ pair_of x.eq table.items q
+  pair_at_route q table at =
+      ap (λ (l : List (K × V)). pair_of x.eq l q) pairs_are
+      ∙ (pair_of-joined x.eq laws.equivalence x.route (map (λ t. t.items) tables) laws.routes routed each q
+      ∙ ap (λ (o : Option (List (K × V))). option_and_then (λ ps. pair_of x.eq ps q) o) (map_to (λ (t : Vec (K × V) A). t.items) tables (x.route q) table at))
+
+  -- what was found in the table of the key's shard is found among all pairs
+  pub pair_in_shard : (q : K) (shard : ℕ) (table : Vec (K × V) A) (ps : List (K × V)) (o : Option (K × V)) → shard ≡ x.route q → slice_get tables shard ≡ Some table → ps ≡ table.items → o ≡ pair_of x.eq ps q → o ≡ pair_of x.eq (flat_map (λ t. t.items) tables) q
+  pair_in_shard q shard table ps o route at same is =
+      is
+      ∙ (ap (λ (l : List (K × V)). pair_of x.eq l q) same
+      ∙ sym (pair_at_route q table (ap (λ i. slice_get tables i) (sym route) ∙ at)))
