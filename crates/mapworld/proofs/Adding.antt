@@ -96,7 +96,7 @@ module _ {K V S D T A : Type 0} (x : Setup K V D T) (w : State K V S D T A) (sou
   pub ended-stays : (o : Option ℕ) (n : ℕ) (bs' : List (Block K)) → p.block ≡ o → EndsBlock w.blocks o p.next n bs' → BlocksStay w.blocks bs'
   ended-stays None n bs' mine h = blocks-same w.blocks bs' h
   ended-stays (Some i) n bs' mine h = blocks-set w.blocks bs' i h.0 h.1 h.2 (⊎_elim
-      (λ yes_. let e : EndsAt n h.0 h.1 = subst (λ (z : Bool). MatchBool z (EndsAt n h.0 h.1) (h.1 ≡ h.0)) yes_ h.3 in
+      (λ (yes_ : (h.0.call == p.next) ≡ true). let e : EndsAt n h.0 h.1 = subst (λ (z : Bool). MatchBool z (EndsAt n h.0 h.1) (h.1 ≡ h.0)) yes_ h.3 in
         record { thread = e.thread; call = e.call; visit = e.visit; start = e.start; position = e.position; done = rw e.done (omega arith);
           end = λ k here. absurd (none-some k (sym (no-end i h.0 mine h.2 (eqb-true h.0.call p.next yes_)) ∙ here)) })
       (λ no_. let e : h.1 ≡ h.0 = subst (λ (z : Bool). MatchBool z (EndsAt n h.0 h.1) (h.1 ≡ h.0)) no_ h.3 in subst (λ (z : Block K). StaysListed h.0 z) (sym e) (stays h.0))

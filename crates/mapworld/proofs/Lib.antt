@@ -16,6 +16,7 @@ pub mod Viewing
 pub mod Setups
 pub mod Outcomes
 pub mod Adding
+pub mod Runs
 pub mod Finds
 pub mod Tables
 pub mod Joins
