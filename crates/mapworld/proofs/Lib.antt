@@ -23,3 +23,15 @@ pub mod Joins
 pub mod Openings
 pub mod HoldsTable
 pub mod Routes
+pub mod Sleeping
+pub mod Refusals
+pub mod Placing
+pub mod Filling
+pub mod Beginnings
+pub mod Faulting
+pub mod Rooms
+pub mod Facts
+pub mod Weights
+pub mod Afters
+pub mod Bounds
+pub mod Running

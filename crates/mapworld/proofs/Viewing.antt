@@ -1,5 +1,5 @@
 -- What the views of a world show, from what holds of it.
-use Rattle.std.proofs.Common.{◌≡◌, ◌≢◌, ℕ, ◌+◌, ◌<◌, ◌⊎◌, Bool, true, false, List, [], ◌∷◌, ◌++◌, length, get_or, take, map, Option, Some, None, slice_get, IsTrue, refl, ap, ap₂, sym, ◌∙◌, subst, inl, inr, ◌↔◌}
+use Rattle.std.proofs.Common.{◌≡◌, ℕ, ◌+◌, ◌<◌, List, [], ◌∷◌, ◌++◌, length, get_or, take, map, Option, Some, slice_get, ap, ap₂, sym, ◌∙◌, subst, inl, inr}
 use Rattle.std.specs.List.{flat_map}
 use Rattle.std.specs.Option.{option_and_then, option_map}
 use Rattle.std.specs.declared.vec.Vec.{Vec}
@@ -10,7 +10,6 @@ use Rattle.std.proofs.lemmas.Option.{none-some, same_Some, slice_get-map}
 use Rattle.mapworld_calls.specs.Setup.{Setup, Laws}
 use Rattle.mapworld_calls.specs.Pairs.{pair_of, AreDistinct}
 use Rattle.mapworld_calls.specs.declared.block.Block.{Block}
-use Rattle.mapworld_calls.specs.Replay.{contents}
 use Rattle.mapworld.specs.Tables.{joined, AreRouted, AreEachDistinct}
 use Rattle.mapworld.specs.Sound.{TablesAgree}
 use Rattle.mapworld.proofs.Finds.{option_cases}
@@ -38,7 +37,6 @@ pub map_to : {X Y : Type 0} (f : X → Y) (xs : List X) (i : ℕ) (x : X) → sl
 map_to f xs i x at = slice_get-map f xs i ∙ ap (λ o. option_map f o) at
 
 module _ {K V D T A : Type 0} (x : Setup K V D T) (bs : List (Block K)) (tables : List (Vec (K × V) A)) (laws : Laws x) (agree : TablesAgree x bs tables) where
-
   pairs_are : flat_map (λ (t : Vec (K × V) A). t.items) tables ≡ joined (map (λ t. t.items) tables)
   pairs_are = sym (flat_map-map (λ (table : List (K × V)). table) (λ (t : Vec (K × V) A). t.items) tables)
 

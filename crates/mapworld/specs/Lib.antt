@@ -10,3 +10,7 @@ pub mod Core
 pub mod Making
 pub mod Faults
 pub mod Tables
+pub mod Asleep
+pub mod Views
+pub mod Beginning
+pub mod Listing

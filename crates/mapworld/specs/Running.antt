@@ -1,5 +1,5 @@
 -- Which steps are refused, and what a run of steps leads to.
-use Rattle.std.specs.Prelude.{◌≡◌, ℕ, ◌+◌, ◌-◌, ◌*◌, ◌^◌, Bool, true, false, not, if◌then◌else◌, nat_lt, nat_le, List, [], ◌∷◌, length, Option, Some, None, slice_get, sum_by, ◌==◌}
+use Rattle.std.specs.Prelude.{◌≡◌, ℕ, ◌+◌, ◌-◌, ◌*◌, ◌^◌, Bool, true, false, not, if◌then◌else◌, nat_lt, nat_le, List, [], ◌∷◌, length, Option, Some, None, Result, Ok, Err, slice_get, sum_by, ◌==◌}
 use Rattle.mapworld_calls.specs.Setup.{Setup}
 use Rattle.mapworld.specs.declared.fault.RunFault.{RunFault}
 use Rattle.mapworld.specs.declared.fault.RunFault.TheVariants as fault
@@ -14,6 +14,7 @@ use Rattle.mapworld.specs.Holds.{is_excluded}
 use Rattle.mapworld.specs.State.{State, next_step, pairs_of}
 use Rattle.mapworld.specs.Moves.{mode_of}
 use Rattle.mapworld.specs.Steps.{IsStep}
+use Rattle.mapworld.specs.Faults.{run_fault_done}
 
 -- how many calls aren't answered
 abbrev pub unanswered_of : {K V S D T A : Type 0} → State K V S D T A → ℕ
@@ -60,8 +61,8 @@ abbrev pub refusal : {K V S D T A : Type 0} → State K V S D T A → ℕ → St
 refusal w n s =
     if nat_lt s.thread (length w.programs)
     then (if is_running (status_of w s.thread)
-      then (if has_numbers w then None else Some (fault.StepsShort n))
-      else Some (fault.CannotMove n))
+    then (if has_numbers w then None else Some (fault.StepsShort n))
+    else Some (fault.CannotMove n))
     else Some (fault.NoSuchThread n)
 
 -- the steps lead from one world to the other, one after another, each one of a kind and none refused
@@ -69,3 +70,8 @@ abbrev pub Ran : {K V S D T A : Type 0} → Setup K V D T → ℕ → State K V 
 Ran x n w [] w' = w' ≡ w
 Ran {K} {V} {S} {D} {T} {A} x n w (s ∷ steps) w' =
     (mid : State K V S D T A) × (refusal w n s ≡ None) × IsStep x w s mid × Ran x (n + 1) mid steps w'
+
+-- how many of n steps a run did
+abbrev pub steps_done : {X : Type 0} → Result X RunFault → ℕ → ℕ
+steps_done (Ok x) n = n
+steps_done (Err f) n = run_fault_done f

@@ -1,27 +1,27 @@
 //! Why a world isn't made, why a run stops, and that memory ran out.
 ghost use Rattle.std.specs.Prelude.{◌≡◌};
-ghost use Rattle.mapworld.specs.Faults.{new_fault_code, run_fault_code, run_fault_done};
+ghost use Rattle.mapworld.specs.Faults.{new_fault_code, new_fault_name, run_fault_code, run_fault_done, run_fault_name};
 
 use std::alloc::{AllocError, AllocFailed};
 use std::error::Error;
 use std::fmt;
 
-/// Why a world isn't made.
+/// Why a world isn't made. The refusals are tried in this order; nothing is made, and what was handed in is let go.
 #[derive(Clone, Copy, Debug, PartialEq, Eq)]
 pub enum WorldNewFault {
     /// The amount of shards isn't a power of two from 2 to 4,096: code 31.
     BadShards,
-    /// There are more programs than a world can have: code 11.
+    /// There are no programs, or more than 256: code 11.
     TooManyThreads,
-    /// A program has more calls than a world can number: code 51.
+    /// All programs together have more than 2^20 calls: code 51.
     TooManyCalls,
-    /// There are more opening pairs than a world can hold: code 52.
+    /// There are more than 2^31 pairs: code 52.
     TooManyPairs,
-    /// A program asks the map while it holds a guard, or ends with one: code 53.
+    /// A program asks for something while it holds a guard, or doesn't drop it: code 53.
     AsksWhileHolding,
-    /// The programs take more guards than there are numbers for them: code 54.
+    /// The programs take 2^32 guard numbers or more: code 54.
     NoGuardNumbers,
-    /// Memory ran out: code 99.
+    /// Room was refused: code 99.
     NoMemory,
 }
 
@@ -40,6 +40,21 @@ impl WorldNewFault {
             WorldNewFault::NoMemory => 99,
         }
     }
+
+    /// The fault's name, as `Display` writes it.
+    pub fn name(&self) -> &'static str
+        ensures { result.now ≡ new_fault_name self.now }
+    {
+        match self {
+            WorldNewFault::BadShards => "BadShards",
+            WorldNewFault::TooManyThreads => "TooManyThreads",
+            WorldNewFault::TooManyCalls => "TooManyCalls",
+            WorldNewFault::TooManyPairs => "TooManyPairs",
+            WorldNewFault::AsksWhileHolding => "AsksWhileHolding",
+            WorldNewFault::NoGuardNumbers => "NoGuardNumbers",
+            WorldNewFault::NoMemory => "NoMemory",
+        }
+    }
 }
 
 impl fmt::Display for WorldNewFault {
@@ -49,15 +64,7 @@ impl fmt::Display for WorldNewFault {
     ghost output = { λ fault. Some (new_fault_name fault) };
 
     fn fmt<W: fmt::Write>(&self, f: &mut fmt::Formatter<W>) -> fmt::Result {
-        match self {
-            WorldNewFault::BadShards => f.write_str("BadShards"),
-            WorldNewFault::TooManyThreads => f.write_str("TooManyThreads"),
-            WorldNewFault::TooManyCalls => f.write_str("TooManyCalls"),
-            WorldNewFault::TooManyPairs => f.write_str("TooManyPairs"),
-            WorldNewFault::AsksWhileHolding => f.write_str("AsksWhileHolding"),
-            WorldNewFault::NoGuardNumbers => f.write_str("NoGuardNumbers"),
-            WorldNewFault::NoMemory => f.write_str("NoMemory"),
-        }
+        f.write_str(self.name())
     }
 }
 
@@ -85,14 +92,15 @@ impl<T: Drop> From<AllocFailed<T>> for WorldNewFault {
     }
 }
 
-/// Why a run stops before its last step. Each has the number of steps that were done.
+/// Why `MapWorld::run` stopped before the end of its steps. Each case has the number of steps of that run that were done,
+/// and they stay done. At each step the refusals are tried in this order.
 #[derive(Clone, Copy, Debug, PartialEq, Eq)]
 pub enum RunFault {
-    /// The next step is of a thread that the world doesn't have: code 61.
+    /// The thread's number isn't below the number of programs: code 61.
     NoSuchThread(u64),
-    /// The next step is of a thread that can't move: code 62.
+    /// The thread is finished or asleep: code 62.
     CannotMove(u64),
-    /// The steps are at an end, and a thread isn't finished: code 63.
+    /// Step numbers run short: those of this step and of all that may have to come after it would pass 2^63: code 63.
     StepsShort(u64),
 }
 
@@ -118,6 +126,17 @@ impl RunFault {
             RunFault::StepsShort(done) => *done,
         }
     }
+
+    /// The fault's name, as `Display` writes it.
+    pub fn name(&self) -> &'static str
+        ensures { result.now ≡ run_fault_name self.now }
+    {
+        match self {
+            RunFault::NoSuchThread(_) => "NoSuchThread",
+            RunFault::CannotMove(_) => "CannotMove",
+            RunFault::StepsShort(_) => "StepsShort",
+        }
+    }
 }
 
 impl fmt::Display for RunFault {
@@ -127,11 +146,7 @@ impl fmt::Display for RunFault {
     ghost output = { λ fault. Some (run_fault_name fault) };
 
     fn fmt<W: fmt::Write>(&self, f: &mut fmt::Formatter<W>) -> fmt::Result {
-        match self {
-            RunFault::NoSuchThread(_) => f.write_str("NoSuchThread"),
-            RunFault::CannotMove(_) => f.write_str("CannotMove"),
-            RunFault::StepsShort(_) => f.write_str("StepsShort"),
-        }
+        f.write_str(self.name())
     }
 }
 

@@ -1,0 +1,208 @@
+-- A new world is sound, has its opening pairs, and has room for all its calls.
+use Rattle.std.proofs.Common.{◌≡◌, ◌≢◌, ℕ, suc, ◌+◌, ◌-◌, ◌≤◌, ◌^◌, Bool, true, false, List, [], ◌∷◌, length, Option, Some, None, slice_get, IsTrue, vec_capacity, refl, ap, ap₂, sym, ◌∙◌, subst, arith}
+use Rattle.std.specs.List.{flat_map, sum_by, list_all}
+use Rattle.std.specs.Option.{option_and_then}
+use Rattle.std.specs.Hash.{HashWrites}
+use Rattle.std.specs.Cmp.{IsEquivalence}
+use Rattle.std.specs.declared.vec.Vec.{Vec}
+use Rattle.std.specs.declared.collections.VecDeque.{VecDeque}
+use Rattle.std.specs.declared.hash.BuildHasher as builder
+use Rattle.std.specs.declared.hash.Hasher as hasher
+use Rattle.std.proofs.lemmas.Bool.{true_from_ne_false, false≢true}
+use Rattle.std.proofs.lemmas.List.{length-map}
+use Rattle.std.proofs.lemmas.List.Sums.{sum_by-cons}
+use Rattle.std.proofs.lemmas.List.Folds.{list_all_at}
+use Rattle.std.proofs.lemmas.Option.{none-some, slice_get_within, get_or_from_slice_get}
+use Rattle.mapworld_calls.specs.declared.deed.Deed as deed
+use Rattle.mapworld_calls.specs.declared.ask.Ask.{Ask}
+use Rattle.mapworld_calls.specs.declared.block.Block.{Block}
+use Rattle.mapworld_calls.specs.declared.reply.Reply.{Reply}
+use Rattle.mapworld_calls.specs.Programs.{one_guard, opening_before}
+use Rattle.mapworld_calls.specs.Pairs.{pair_of, opening_pair}
+use Rattle.mapworld_calls.specs.Setup.{Setup}
+use Rattle.mapworld_calls.specs.Placed.{WellPlaced}
+use Rattle.mapworld.specs.declared.step.Step.{Step}
+use Rattle.mapworld.specs.declared.holds.Held.{Held}
+use Rattle.mapworld.specs.declared.place.Phase.{Phase}
+use Rattle.mapworld.specs.declared.place.Phase.TheVariants as phase
+use Rattle.mapworld.specs.declared.place.Place.{Place}
+use Rattle.mapworld.specs.declared.world_core.Core.{Core}
+use Rattle.mapworld.specs.Route.{IsShardAmount, key_route}
+use Rattle.mapworld.specs.State.{State, started_of}
+use Rattle.mapworld.specs.World.{setup_of}
+use Rattle.mapworld.specs.Sound.{IsInSession, Stands, TablesAgree, HoldsMatch, Sound}
+use Rattle.mapworld.specs.Core.{state_of, owes, lists, adds, unheld, Room}
+use Rattle.mapworld.specs.Beginning.{at_start, AreAtStart, AreFilled, pairs_in}
+use Rattle.mapworld.proofs.Routes.{key_route-below}
+use Rattle.mapworld.proofs.Refusals.{sum_by-map}
+use Rattle.mapworld.proofs.Setups.{setup-laws}
+use Rattle.mapworld.proofs.Outcomes.{element-at}
+use Rattle.mapworld.proofs.Viewing.{map_to, pair_at_route}
+
+sum_by-alike : {X : Type 0} (f g : X → ℕ) (xs : List X) → ((i : ℕ) (x : X) → slice_get xs i ≡ Some x → f x ≡ g x) → sum_by f xs ≡ sum_by g xs
+sum_by-alike f g [] alike = refl
+sum_by-alike f g (x ∷ xs) alike =
+    sum_by-cons f x xs
+    ∙ (ap₂ (λ m n. m + n) (alike 0 x refl) (sum_by-alike f g xs (λ i y at. alike (suc i) y at))
+    ∙ sym (sum_by-cons g x xs))
+
+sum_by-ones : {X : Type 0} (xs : List X) → sum_by (λ x. 1) xs ≡ length xs
+sum_by-ones [] = refl
+sum_by-ones {X} (x ∷ xs) = let a = sum_by-cons (λ (y : X). 1) x xs in let b = sum_by-ones xs in omega (arith, a, b)
+
+all-at : {X : Type 0} (p : X → Bool) (xs : List X) (i : ℕ) (x : X) → list_all p xs ≡ true → slice_get xs i ≡ Some x → p x ≡ true
+all-at p xs i x all at = true_from_ne_false (p x) (λ e.
+    false≢true (sym (list_all_at p xs i x (slice_get_within xs i x at) (ap p (get_or_from_slice_get xs i x x at) ∙ e)) ∙ all))
+
+module _ {K V D T A : Type 0} (x : Setup K V D T) (tables : List (Vec (K × V) A)) where
+  start_stands : (t : ℕ) (asks : VecDeque (Ask K V D) A) → slice_get x.programs t ≡ Some asks.items → Stands x [] [] [] tables t (at_start asks)
+  start_stands t asks has = record {
+    program = asks.items;
+    has = has;
+    asks_left = refl;
+    within = omega arith;
+    answered = refl;
+    owns = λ i b at own. absurd (none-some b at);
+    own_block = λ i mine. absurd (none-some i mine);
+    claim = (
+      refl,
+      λ h. refl,
+      subst (λ (o : Option (List (Ask K V D))). IsInSession x [] tables t (at_start asks) 0 (option_and_then (λ program. opening_before program 0) o) None) (sym has) (refl, refl),
+    );
+  }
+
+  all_stand : (places : List (Place K V D T A)) → AreAtStart x.programs places → (t : ℕ) (p : Place K V D T A) → slice_get places t ≡ Some p → Stands x [] [] [] tables t p
+  all_stand places start t p at =
+      subst (λ (q : Place K V D T A). Stands x [] [] [] tables t q) (sym (start.each t p at))
+      (start_stands t p.asks (ap (λ ps. slice_get ps t) (sym start.programs_are) ∙ map_to (λ (q : Place K V D T A). q.asks.items) places t p at))
+
+  nothing_held : (places : List (Place K V D T A)) → AreAtStart x.programs places → HoldsMatch places []
+  nothing_held places start = record {
+    listed = λ t p h at has. absurd (none-some h (sym (ap (λ (q : Place K V D T A). q.hold) (start.each t p at)) ∙ has));
+    owned = λ i e at. absurd (none-some e at);
+    apart = λ i j e f at there same. absurd (none-some e at);
+    compatible = λ i j e f at there ne same. absurd (none-some e at);
+  }
+
+  nothing_placed : (threads : List ℕ) (started : ℕ → Option ℕ) → WellPlaced x threads started [] []
+  nothing_placed threads started = record {
+    placed = λ i b at. absurd (none-some b at);
+    rising = λ i j b c at there lt. absurd (none-some b at);
+    own_order = λ i j b c at there lt same. absurd (none-some b at);
+    timed = λ i r at. absurd (none-some r at);
+    ends_rise = λ i j r s at there lt. absurd (none-some r at);
+    in_turn = λ i r at. absurd (none-some r at);
+  }
+
+-- a world in which nothing has happened
+pub record IsFresh {K V S D T A : Type 0} (w : State K V S D T A) : Type 0 where
+  pub steps : w.steps ≡ []
+  pub holds : w.holds ≡ []
+  pub blocks : w.blocks ≡ []
+  pub replies : w.replies ≡ []
+
+module _ {K V S H D T A : Type 0} (d : deed.Ghosts D K V T) (b : builder.Ghosts S H) (h : hasher.Ghosts H) (eq : K → K → Bool) (writes : K → HashWrites) where
+  abbrev lists_of : State K V S D T A → List Step → List Held → List (Block K) → List (Reply K V T) → State K V S D T A
+  lists_of w steps holds blocks replies = record w { steps = steps; holds = holds; blocks = blocks; replies = replies }
+
+  agree : (w : State K V S D T A) → AreFilled eq (key_route b h writes w.hasher (length w.tables)) w.opening w.tables → TablesAgree (setup_of d b h eq writes w) [] w.tables
+  agree w filled = record { routed = filled.routed; distinct = filled.distinct; contents_are = filled.contents_are }
+
+  sound_bare : (w : State K V S D T A) → IsShardAmount (length w.tables) → list_all (one_guard false) w.programs ≡ true → AreAtStart w.programs w.places
+      → AreFilled eq (key_route b h writes w.hasher (length w.tables)) w.opening w.tables
+      → Sound (setup_of d b h eq writes (lists_of w [] [] [] [])) (lists_of w [] [] [] [])
+  sound_bare w amount guarded start filled = record {
+    guarded = λ t program at. all-at (one_guard false) w.programs t program guarded at;
+    routes = λ q. key_route-below b h writes w.hasher (length w.tables) amount q;
+    stands = λ t p at. all_stand (setup_of d b h eq writes w) w.tables w.places start t p at;
+    tables = agree w filled;
+    holds = nothing_held (setup_of d b h eq writes w) w.tables w.places start;
+    placed = nothing_placed (setup_of d b h eq writes w) w.tables [] (started_of w);
+    replies = λ i r at. absurd (none-some r at);
+  }
+
+  bare : (w : State K V S D T A) → IsFresh w → lists_of w [] [] [] [] ≡ w
+  bare w fresh =
+      ap (λ s. lists_of w s [] [] []) (sym fresh.steps)
+      ∙ (ap (λ s. lists_of w w.steps s [] []) (sym fresh.holds)
+      ∙ (ap (λ s. lists_of w w.steps w.holds s []) (sym fresh.blocks)
+      ∙ ap (λ s. lists_of w w.steps w.holds w.blocks s) (sym fresh.replies)))
+
+  pub new-sound : (w : State K V S D T A) → IsFresh w → IsShardAmount (length w.tables) → list_all (one_guard false) w.programs ≡ true → AreAtStart w.programs w.places
+      → AreFilled eq (key_route b h writes w.hasher (length w.tables)) w.opening w.tables
+      → Sound (setup_of d b h eq writes w) w
+  new-sound w fresh amount guarded start filled =
+      subst (λ (v : State K V S D T A). Sound (setup_of d b h eq writes v) v) (bare w fresh) (sound_bare w amount guarded start filled)
+
+  pub new-contents : (hasher : S) (pairs : List (K × V)) (tables : List (Vec (K × V) A)) → IsEquivalence eq → ((j k : K) → IsTrue (eq j k) → writes j ≡ writes k) → IsShardAmount (length tables)
+      → AreFilled eq (key_route b h writes hasher (length tables)) pairs tables
+      → (q : K) → pair_of eq (flat_map (λ table. table.items) tables) q ≡ opening_pair eq pairs q
+  new-contents hasher pairs tables laws respects amount filled q =
+      let w : State K V S D T A = record { hasher = hasher; opening = pairs; programs = []; steps = []; places = []; tables = tables; holds = []; blocks = []; replies = [] } in
+      let route = key_route-below b h writes hasher (length tables) amount q in
+      let there = element-at tables (key_route b h writes hasher (length tables) q) route in
+      pair_at_route (setup_of d b h eq writes w) [] tables (setup-laws d b h eq writes w laws respects) (agree w filled) q there.0 there.1
+      ∙ filled.contents_are q there.0 there.1
+
+module _ {K V D T A : Type 0} (programs : List (List (Ask K V D))) (places : List (Place K V D T A)) (start : AreAtStart programs places) where
+  start_sum : (f : Phase K V D T → ℕ) → f phase.Rest ≡ 0 → sum_by (λ p. length p.asks.items + f p.phase) places ≡ sum_by length programs
+  start_sum f none =
+      sum_by-alike (λ (p : Place K V D T A). length p.asks.items + f p.phase) (λ p. length p.asks.items) places (λ t p at.
+      let rests : f p.phase ≡ 0 = ap (λ (q : Place K V D T A). f q.phase) (start.each t p at) ∙ none in
+      omega (arith, rests))
+      ∙ (sym (sum_by-map length (λ (p : Place K V D T A). p.asks.items) places)
+      ∙ ap (λ ps. sum_by length ps) start.programs_are)
+
+  start_unheld : sum_by unheld places ≡ length places
+  start_unheld =
+      sum_by-alike unheld (λ p. 1) places (λ t p at. ap (λ (q : Place K V D T A). unheld q) (start.each t p at))
+      ∙ sum_by-ones places
+
+  start_count : length places ≡ length programs
+  start_count = sym (length-map places (λ p. p.asks.items)) ∙ ap (λ ps. length ps) start.programs_are
+
+-- what a new world's lists have room for
+pub record HasNewRoom {K V S D T A : Type 0} (c : Core K V S D T A) : Type 0 where
+  pub count : c.count ≡ 0
+  pub guards : c.guards ≡ 0
+  pub unanswered : c.unanswered ≡ sum_by length (state_of c).programs
+  pub calls_fit : sum_by length (state_of c).programs ≤ 2 ^ 20
+  pub replies : sum_by length (state_of c).programs ≤ vec_capacity c.replies
+  pub blocks : sum_by length (state_of c).programs ≤ vec_capacity c.blocks
+  pub holds : length (state_of c).programs ≤ vec_capacity c.holds
+  pub pairs : c.pairs ≡ pairs_in c.tables.items
+  pub pairs_fit : c.pairs ≤ 2 ^ 31
+  pub threads_fit : length (state_of c).programs ≤ 256
+  pub shards : IsShardAmount (length c.tables.items)
+
+pub new-room : {K V S D T A : Type 0} (c : Core K V S D T A) → IsFresh (state_of c) → AreAtStart (state_of c).programs c.places.items → HasNewRoom c → Room c
+new-room {K} {V} {S} {D} {T} {A} c fresh start room =
+    let programs = (state_of c).programs in
+    let places = c.places.items in
+    let owed_sum = start_sum programs places start owes refl in
+    let list_sum = start_sum programs places start lists refl in
+    let add_sum = start_sum programs places start adds refl in
+    let unheld_sum = start_unheld programs places start in
+    let same = start_count programs places start in
+    let no_steps : length c.steps.items ≡ 0 = ap (λ l. length l) fresh.steps in
+    let no_holds : length c.holds.items ≡ 0 = ap (λ l. length l) fresh.holds in
+    let no_blocks : length c.blocks.items ≡ 0 = ap (λ l. length l) fresh.blocks in
+    let no_replies : length c.replies.items ≡ 0 = ap (λ l. length l) fresh.replies in
+    record {
+      count = omega (arith, room.count, no_steps);
+      count_fits = omega (arith, room.count);
+      guards = λ i h at. absurd (none-some h (ap (λ l. slice_get l i) (sym fresh.holds) ∙ at));
+      guards_fit = omega (arith, room.count, room.guards);
+      unanswered = omega (arith, room.unanswered, no_replies);
+      answers = omega (arith, no_replies, owed_sum);
+      calls_fit = room.calls_fit;
+      replies = room.replies;
+      blocks = omega (arith, no_blocks, list_sum, room.blocks);
+      holds = omega (arith, no_holds, unheld_sum, same, room.holds);
+      pairs = room.pairs;
+      pairs_fit = omega (arith, add_sum, room.pairs_fit, room.calls_fit);
+      places = same;
+      threads_fit = omega (arith, same, room.threads_fit);
+      shards = room.shards;
+      listed = λ t p i at has. absurd (none-some i (sym (ap (λ (q : Place K V D T A). q.block) (start.each t p at)) ∙ has));
+    }

@@ -1,0 +1,177 @@
+-- What the code knows of a thread's place between two steps.
+use Rattle.std.proofs.Common.{◌≡◌, ℕ, ◌+◌, ◌<◌, ◌≤◌, ◌==◌, Bool, true, false, if◌then◌else◌, nat_lt, List, [], ◌∷◌, length, get_or, Vec, Option, Some, None, is_some, slice_get, sum_by, position, refl, sym, ap, inl, inr, ◌∙◌, subst, arith, eqb-true, eq-eqb}
+use Rattle.std.proofs.lemmas.Option.{get_or_from_slice_get, slice_get-get_or, slice_get_within, none-some, same_Some, cond_some}
+use Rattle.std.proofs.lemmas.Bool.{true≢false, lt-ltb, ltb-true, cases_lt, cond-true, and_from, and_parts}
+use Rattle.std.proofs.lemmas.List.Sums.{passes_at_first, fails_before_first}
+use Rattle.std.specs.List.{position_or_len}
+use Rattle.mapworld_calls.specs.declared.ask.Ask.{Ask}
+use Rattle.mapworld_calls.specs.declared.ask.Ask.TheVariants as ask
+use Rattle.mapworld_calls.specs.declared.block.Block.{Block}
+use Rattle.mapworld_calls.specs.declared.reply.Answer.{Answer}
+use Rattle.mapworld_calls.specs.Setup.{Setup}
+use Rattle.mapworld_calls.proofs.Lists.{sum_by-at}
+use Rattle.mapworld.specs.declared.holds.Hold.{Hold}
+use Rattle.mapworld.specs.declared.holds.Held.{Held}
+use Rattle.mapworld.specs.declared.place.Phase.{Phase}
+use Rattle.mapworld.specs.declared.place.Phase.TheVariants as phase
+use Rattle.mapworld.specs.declared.place.Request.{Request}
+use Rattle.mapworld.specs.declared.place.Place.{Place}
+use Rattle.mapworld.specs.State.{State, threads_of}
+use Rattle.mapworld.specs.Holds.{is_excluded, is_hold_of}
+use Rattle.mapworld.specs.Moves.{mode_of, start_counts}
+use Rattle.mapworld.specs.Sound.{Sound, Claim, HoldsMatch, HasPair, HasList, IsInSession, IsOnItsWay, IsBeforeDeed, IsReleasing, is_resting}
+use Rattle.mapworld.specs.Core.{IsBefore}
+use Rattle.mapworld.specs.Listing.{CanCount}
+
+-- the place that was read at the thread's number
+module _ {K V D T A : Type 0} {places : List (Place K V D T A)} {t : ℕ} {ph : Phase K V D T} (b : IsBefore places t ph) (r : Place K V D T A) (read : r ≡ get_or places t r) where
+  pub read_is : r ≡ b.place
+  read_is = read ∙ get_or_from_slice_get places t b.place r b.stands
+
+  pub stands_here : slice_get places t ≡ Some r
+  stands_here = subst (λ q. slice_get places t ≡ Some q) (sym read_is) b.stands
+
+  pub phase_here : r.phase ≡ ph
+  phase_here = subst (λ (q : Place K V D T A). q.phase ≡ ph) (sym read_is) b.before
+
+-- what was read at an index at which an element is known
+pub read_at : {X : Type 0} (xs : List X) (i : ℕ) (x r : X) → slice_get xs i ≡ Some x → r ≡ get_or xs i r → r ≡ x
+read_at xs i x r h e = e ∙ get_or_from_slice_get xs i x r h
+
+module _ {K V S D T A : Type 0} {x : Setup K V D T} {w : State K V S D T A} (sound : Sound x w) (t : ℕ) (p : Place K V D T A) (here : slice_get w.places t ≡ Some p) {ph : Phase K V D T} (before : p.phase ≡ ph) where
+  pub claim_at : Claim x (threads_of w) w.blocks w.tables t p ph
+  claim_at = subst (λ f. Claim x (threads_of w) w.blocks w.tables t p f) before (sound.stands t p here).claim
+
+  -- a call that has started is one of a program
+  pub call_fits : is_resting ph ≡ false → p.next + 1 ≤ sum_by length x.programs
+  call_fits busy =
+      let s = sound.stands t p here in
+      let within = subst (λ f. (if is_resting f then p.next else p.next + 1) ≤ length s.program) before s.within in
+      let started = subst (λ (b : Bool). (if b then p.next else p.next + 1) ≤ length s.program) busy within in
+      let part = sum_by-at length x.programs t s.program s.has in
+      omega (arith, started, part)
+
+  -- and so is the next one
+  pub next_fits : p.next ≤ sum_by length x.programs
+  next_fits =
+      let s = sound.stands t p here in
+      let part = sum_by-at length x.programs t s.program s.has in
+      let least = at_least (is_resting p.phase) p.next (length s.program) s.within in
+      omega (arith, least, part)
+    where
+      at_least : (b : Bool) (n m : ℕ) → (if b then n else n + 1) ≤ m → n ≤ m
+      at_least true n m h = h
+      at_least false n m h = omega (arith, h)
+
+-- the block that a place keeps was its own
+pub kept_block : (closes : Bool) (block : Option ℕ) (i : ℕ) → (if closes then None else block) ≡ Some i → block ≡ Some i
+kept_block true block i e = absurd (none-some i e)
+kept_block false block i e = e
+
+-- a start counts its call in no other block than that of its session
+pub counted_block : {K V D : Type 0} (a : Ask K V D) (slot block : Option ℕ) (i : ℕ) → start_counts a slot block ≡ Some i → block ≡ Some i
+counted_block (ask.Keyed k) slot block i e = absurd (none-some i e)
+counted_block (ask.Begin b) slot block i e = absurd (none-some i e)
+counted_block (ask.Held h) (Some s) block i e = absurd (none-some i e)
+counted_block (ask.Held h) None block i e = e
+
+module _ {K V D T A : Type 0} (x : Setup K V D T) (bs : List (Block K)) (tables : List (Vec (K × V) A)) (t : ℕ) (p : Place K V D T A) where
+  -- the block of a session is of an earlier call than that
+  pub session_counts : (n : ℕ) (session block : Option ℕ) → IsInSession x bs tables t p n session block → CanCount bs block n
+  session_counts n None block h i e = absurd (none-some i (sym h.1 ∙ e))
+  session_counts n (Some c) None h i e = absurd (none-some i e)
+  session_counts n (Some c) (Some j) h i e =
+      (h.block, subst (λ k. slice_get bs k ≡ Some h.block) (same_Some j i e) h.listed, omega (arith, h.call, h.below))
+
+  -- a guard lends a pair of its shard's list
+  pub session_pair : (n : ℕ) (session block : Option ℕ) (slot : ℕ) → IsInSession x bs tables t p n session block → p.slot ≡ Some slot
+      → (pair : K × V) × HasPair tables p.shard slot pair
+  session_pair n None block slot h e = absurd (none-some slot (sym h.0 ∙ e))
+  session_pair n (Some c) None slot h e = absurd (none-some slot (sym h.0 ∙ e))
+  session_pair n (Some c) (Some j) slot h e = let g = rw e at h.guard in (g.0, g.3)
+
+  -- the block of a deed is that of its call
+  pub deed_counts : (key : K) (o : Option (K × V)) → IsBeforeDeed x bs t p key o → CanCount bs p.block p.next
+  deed_counts key o d i e =
+      (d.block, subst (λ k. slice_get bs k ≡ Some d.block) (same_Some d.index i (sym d.mine ∙ e)) d.listed, omega (arith, d.call))
+
+  pub release_counts : (a : Ask K V D) (r : Answer K V T) (slot : Option ℕ) → IsReleasing x bs tables t p a r slot
+      → CanCount bs (if is_some slot then p.block else None) p.next
+  release_counts a r None h i e = absurd (none-some i e)
+  release_counts a r (Some s) h i e = session_counts p.next _ p.block h.2 i e
+
+-- the first place that passes a test, and that there is one
+pub position_passes : {X : Type 0} (q : X → Bool) (xs : List X) (j : ℕ) → position q xs ≡ Some j → (y : X) × (slice_get xs j ≡ Some y) × (q y ≡ true)
+position_passes q [] j e = absurd (none-some j e)
+position_passes {X} q (z ∷ zs) j e =
+    let xs : List X = z ∷ zs in
+    let at = cond_some (nat_lt (position_or_len q xs) (length xs)) (position_or_len q xs) j e in
+    let below = ltb-true (position_or_len q xs) (length xs) at.0 in (
+      get_or xs j z,
+      subst (λ k. slice_get xs k ≡ Some (get_or xs k z)) at.1 (slice_get-get_or xs (position_or_len q xs) z below),
+      subst (λ k. q (get_or xs k z) ≡ true) at.1 (passes_at_first q xs z below),
+    )
+
+pub position_there : {X : Type 0} (q : X → Bool) (xs : List X) (i : ℕ) (y : X) → slice_get xs i ≡ Some y → q y ≡ true → position q xs ≡ None → ⊥
+position_there q xs i y h passes none =
+    elim (cases_lt (position_or_len q xs) (length xs)) [
+      | inl below ↦ none-some _ (sym (sym (cond-true (nat_lt (position_or_len q xs) (length xs)) (Some (position_or_len q xs)) None (lt-ltb (position_or_len q xs) (length xs) below)) ∙ none))
+      | inr past ↦
+          let within = slice_get_within xs i y h in
+          let fails = fails_before_first q xs i y (omega (arith, within, past)) in
+          true≢false (sym passes ∙ (ap q (sym (get_or_from_slice_get xs i y y h)) ∙ fails))
+    ]
+
+module _ {K V D T A : Type 0} {places : List (Place K V D T A)} {holds : List Held} (match : HoldsMatch places holds) (t : ℕ) (p : Place K V D T A) (here : slice_get places t ≡ Some p) (hold : Hold) (has : p.hold ≡ Some hold) where
+  mine : Held
+  mine = record { hold = hold; party = t }
+
+  -- a thread's hold stands in the table of holds
+  pub hold_listed : position (is_hold_of hold.shard hold.guard) holds ≡ None → ⊥
+  unfolding mine
+  hold_listed none =
+      let entry = match.listed t p hold here has in
+      let passes = and_from (hold.shard == hold.shard) (hold.guard == hold.guard) (eq-eqb hold.shard hold.shard refl) (eq-eqb hold.guard hold.guard refl) in
+      position_there (is_hold_of hold.shard hold.guard) holds entry.0 mine entry.1 passes none
+
+  -- and what is found under its guard number is that hold
+  pub hold_found : (j : ℕ) → position (is_hold_of hold.shard hold.guard) holds ≡ Some j → slice_get holds j ≡ Some (record { hold = hold; party = t })
+  unfolding mine
+  hold_found j e =
+      let entry = match.listed t p hold here has in
+      let found = position_passes (is_hold_of hold.shard hold.guard) holds j e in
+      let guard = and_parts (found.0.hold.shard == hold.shard) (found.0.hold.guard == hold.guard) found.2 in
+      let same = match.apart j entry.0 found.0 mine found.1 entry.1 (eqb-true found.0.hold.guard hold.guard guard.1) in
+      subst (λ k. slice_get holds k ≡ Some mine) (sym same) entry.1
+
+-- the request that was read is the one that is admitted
+pub still_admitted : {K V D T A : Type 0} {places : List (Place K V D T A)} {t : ℕ} {request : Request K V} (holds : List Held) (b : IsBefore places t (phase.Admit request)) (r : Place K V D T A)
+    → r ≡ get_or places t r → (read : Request K V) → r.phase ≡ phase.Admit read
+    → is_excluded holds b.place.shard (mode_of request) ≡ false → is_excluded holds r.shard (mode_of read) ≡ false
+still_admitted {K} {V} {D} {T} {A} {request = request} holds b r at read is h =
+    let same : read ≡ request = cc (is, phase_here b r at) in
+    let place = read_is b r at in
+    rw same (subst (λ (p : Place K V D T A). is_excluded holds p.shard (mode_of request) ≡ false) (sym place) h)
+
+-- a thread on its way to a pair has the number of a shard
+pub way_fits : {K V S D T A : Type 0} {x : Setup K V D T} {w : State K V S D T A} (sound : Sound x w) (p : Place K V D T A) (key : K) → IsOnItsWay x p key → p.shard < length w.tables
+way_fits {w = w} sound p key h = subst (λ n. n < length w.tables) (sym h.shard) (sound.routes key)
+
+-- the table that was read at a shard's number
+module _ {K V A : Type 0} (tables : List (Vec (K × V) A)) (shard : ℕ) (r : Vec (K × V) A) (read : r ≡ get_or tables shard r) where
+  pub list_read : (IsSo : Vec (K × V) A → Type 0) → HasList tables shard IsSo → (slice_get tables shard ≡ Some r) × IsSo r
+  list_read IsSo h =
+      let same = read_at tables shard h.table r h.held read in
+      (subst (λ v. slice_get tables shard ≡ Some v) (sym same) h.held, subst IsSo (sym same) h.so)
+
+  pub pair_read : (slot : ℕ) (pair : K × V) → HasPair tables shard slot pair → (slice_get tables shard ≡ Some r) × (slice_get r.items slot ≡ Some pair)
+  pair_read slot pair h =
+      let same = read_at tables shard h.table r h.held read in
+      (subst (λ v. slice_get tables shard ≡ Some v) (sym same) h.held, subst (λ (v : Vec (K × V) A). slice_get v.items slot ≡ Some pair) (sym same) h.pair_is)
+
+-- the block that a release counts its call in
+pub release_listed : {K V S D T A : Type 0} {x : Setup K V D T} {w : State K V S D T A} (sound : Sound x w) (t : ℕ) (p : Place K V D T A) → slice_get w.places t ≡ Some p
+    → (r : Answer K V T) → p.phase ≡ phase.Release r → CanCount w.blocks (if is_some p.slot then p.block else None) p.next
+release_listed {x = x} {w = w} sound t p here r before =
+    let claim = claim_at sound t p here before in
+    release_counts x w.blocks w.tables t p claim.0 r p.slot claim.4

@@ -1,0 +1,103 @@
+-- A step of one thread leaves room, if what its place may still take falls by as much as is taken.
+use Rattle.std.proofs.Common.{◌≡◌, ℕ, ◌+◌, ◌<◌, ◌≤◌, ◌^◌, true, length, Some, None, slice_get, slice_set, sum_by, vec_len, vec_capacity, refl, sym, ap, ◌∙◌, subst, arith, length-set, leb-true, ⊎_elim}
+use Rattle.mapworld_calls.proofs.Lists.{slice_get-set_cases, sum_by-set, sum_by-at}
+use Rattle.mapworld.specs.declared.holds.Hold.{Hold}
+use Rattle.mapworld.specs.declared.holds.Held.{Held}
+use Rattle.mapworld.specs.declared.place.Place.{Place}
+use Rattle.mapworld.specs.declared.world_core.Core.{Core}
+use Rattle.mapworld.specs.Route.{IsShardAmount}
+use Rattle.mapworld.specs.State.{State, pairs_of}
+use Rattle.mapworld.specs.Running.{has_numbers}
+use Rattle.mapworld.specs.Core.{state_of, owed, owes, may_list, lists, may_add, adds, unheld, Room}
+
+-- what a step changes, in numbers: the place p of thread t is now p'
+pub record Shift {K V S D T A : Type 0} (c c' : Core K V S D T A) (t : ℕ) (p p' : Place K V D T A) : Type 0 where
+  pub here : slice_get c.places.items t ≡ Some p
+  pub places : c'.places.items ≡ slice_set c.places.items t p'
+  pub numbers : has_numbers (state_of c) ≡ true
+  pub steps : length c'.steps.items ≡ length c.steps.items + 1
+  pub count : c'.count ≡ c.count + 1
+  pub programs : (state_of c').programs ≡ (state_of c).programs
+  pub tables : length c'.tables.items ≡ length c.tables.items
+  pub guards : (i : ℕ) (h : Held) → slice_get c'.holds.items i ≡ Some h → h.hold.guard < c'.guards
+  pub guards_fit : c'.guards ≤ c.guards + 1
+  pub unanswered : c'.unanswered + owed p ≡ c.unanswered + owed p'
+  pub answers : length c'.replies.items + owed p' ≡ length c.replies.items + owed p
+  pub replies : vec_capacity c'.replies ≡ vec_capacity c.replies
+  pub listing : length c'.blocks.items + may_list p' ≤ length c.blocks.items + may_list p
+  pub blocks : vec_capacity c'.blocks ≡ vec_capacity c.blocks
+  pub holding : length c'.holds.items + unheld p' ≤ length c.holds.items + unheld p
+  pub holds : vec_capacity c'.holds ≡ vec_capacity c.holds
+  pub adding : c'.pairs + may_add p' ≤ c.pairs + may_add p
+  pub pairs : c'.pairs ≡ length (pairs_of (state_of c'))
+  pub more_blocks : length c.blocks.items ≤ length c'.blocks.items
+  pub listed : (i : ℕ) → p'.block ≡ Some i → i < length c'.blocks.items
+
+module _ {K V S D T A : Type 0} where
+  -- a step number is left, with one to spare
+  pub one_more : (w : State K V S D T A) → has_numbers w ≡ true → length w.steps + 1 < 2 ^ 63
+  one_more w h = let fits = leb-true _ _ h in omega arith
+
+  still_listed : (c c' : Core K V S D T A) (t : ℕ) (p p' : Place K V D T A) → Room c → Shift c c' t p p'
+      → (u : ℕ) (q : Place K V D T A) (i : ℕ) → slice_get c'.places.items u ≡ Some q → q.block ≡ Some i → i < length c'.blocks.items
+  still_listed c c' t p p' r s u q i at e =
+      ⊎_elim
+      (λ same. s.listed i (ap (λ (x : Place K V D T A). x.block) (sym same.1) ∙ e))
+      (λ other. let below = r.listed u q i other.1 e in omega (arith, below, s.more_blocks))
+      (slice_get-set_cases c.places.items t u p q p' s.here (subst (λ ps. slice_get ps u ≡ Some q) s.places at))
+
+  pub shifted : (c c' : Core K V S D T A) (t : ℕ) (p p' : Place K V D T A) → Room c → Shift c c' t p p' → Room c'
+  shifted c c' t p p' r s =
+      let owing = subst (λ ps. sum_by owed ps + owed p ≡ sum_by owed c.places.items + owed p') (sym s.places) (sum_by-set owed c.places.items t p p' s.here) in
+      let listing = subst (λ ps. sum_by may_list ps + may_list p ≡ sum_by may_list c.places.items + may_list p') (sym s.places) (sum_by-set may_list c.places.items t p p' s.here) in
+      let adding = subst (λ ps. sum_by may_add ps + may_add p ≡ sum_by may_add c.places.items + may_add p') (sym s.places) (sum_by-set may_add c.places.items t p p' s.here) in
+      let holding = subst (λ ps. sum_by unheld ps + unheld p ≡ sum_by unheld c.places.items + unheld p') (sym s.places) (sum_by-set unheld c.places.items t p p' s.here) in
+      let programs = ap (λ ps. sum_by length ps) s.programs in
+      let threads = ap length s.places ∙ length-set c.places.items t p' in
+      let fits = one_more (state_of c) s.numbers in
+      record {
+        count = s.count ∙ (ap (λ n. n + 1) r.count ∙ sym s.steps);
+        count_fits = omega (arith, s.count, r.count, fits);
+        guards = s.guards;
+        guards_fit = omega (arith, s.guards_fit, r.guards_fit, s.count);
+        unanswered = omega (arith, s.unanswered, s.answers, r.unanswered, r.answers, programs, owing);
+        answers = omega (arith, s.answers, r.answers, programs, owing);
+        calls_fit = omega (arith, r.calls_fit, programs);
+        replies = omega (arith, r.replies, s.replies, programs);
+        blocks = omega (arith, r.blocks, s.blocks, s.listing, listing);
+        holds = omega (arith, r.holds, s.holds, s.holding, holding);
+        pairs = s.pairs;
+        pairs_fit = omega (arith, r.pairs_fit, s.adding, adding);
+        places = threads ∙ (r.places ∙ sym (ap length s.programs));
+        threads_fit = omega (arith, threads, r.threads_fit);
+        shards = subst IsShardAmount (sym s.tables) r.shards;
+        listed = still_listed c c' t p p' r s;
+      }
+
+module _ {K V S D T A : Type 0} (c : Core K V S D T A) (t : ℕ) (p : Place K V D T A) (r : Room c) (here : slice_get c.places.items t ≡ Some p) where
+  -- a call that isn't answered leaves room for its reply
+  pub answer_left : owes p.phase ≡ 1 → (vec_len c.replies < vec_capacity c.replies) × (1 ≤ c.unanswered)
+  answer_left one =
+      let part = sum_by-at owed c.places.items t p here in
+      (omega (arith, one, part, r.answers, r.replies, c.replies.ok.0), omega (arith, one, part, r.answers, r.unanswered))
+
+  -- a call that may list a block has room for it
+  pub block_left : lists p.phase ≡ 1 → vec_len c.blocks < vec_capacity c.blocks
+  block_left one = let part = sum_by-at may_list c.places.items t p here in omega (arith, one, part, r.blocks, c.blocks.ok.0)
+
+  -- a thread without a hold has room for one
+  pub hold_left : p.hold ≡ None → vec_len c.holds < vec_capacity c.holds
+  hold_left none =
+      let part = sum_by-at unheld c.places.items t p here in
+      let one : unheld p ≡ 1 = rw none refl in
+      omega (arith, one, part, r.holds, c.holds.ok.0)
+
+  -- a call that may add a pair has a number for it
+  pub pair_left : adds p.phase ≡ 1 → c.pairs + 1 ≤ 2 ^ 31 + 2 ^ 20
+  pair_left one = let part = sum_by-at may_add c.places.items t p here in omega (arith, one, part, r.pairs_fit)
+
+pub without_hold : {K V D T A : Type 0} (p : Place K V D T A) → p.hold ≡ None → unheld p ≡ 1
+without_hold p none = rw none refl
+
+pub with_hold : {K V D T A : Type 0} (p : Place K V D T A) (hold : Hold) → p.hold ≡ Some hold → unheld p ≡ 0
+with_hold p hold some = rw some refl

@@ -1,0 +1,47 @@
+use Rattle.mapworld.specs.declared.place.Phase.TheVariants as phase
+use Rattle.mapworld.specs.Core.{state_of}
+use Rattle.mapworld.proofs.Running.{is_before, asks_left, not_excluded}
+use Rattle.mapworld.proofs.advance.advance.Goals as goal
+
+pub start-requires-clause-before : goal.start-requires-clause-before
+start-requires-clause-before g c = is_before c.args.core.now.places.items c.args.step.thread c.index.result.now phase.Rest c.requires.thread c.index.ensures c.in-Rest.is
+
+pub start-requires-clause-left : goal.start-requires-clause-left
+start-requires-clause-left g c = asks_left (state_of c.args.core.now) c.args.step.thread c.requires.running (start-requires-clause-before g c)
+
+pub admit-requires-clause-before : goal.admit-requires-clause-before
+admit-requires-clause-before g c =
+    let b = is_before c.args.core.now.places.items c.args.step.thread c.index.result.now (phase.Admit c.in-Admit.field-0) c.requires.thread c.index.ensures c.in-Admit.is in
+    (c.in-Admit.field-0, b, not_excluded (state_of c.args.core.now) c.args.step.thread c.requires.running c.in-Admit.field-0 b)
+
+pub find-requires-clause-before : goal.find-requires-clause-before
+find-requires-clause-before g c =
+    (c.in-Find.field-0, is_before c.args.core.now.places.items c.args.step.thread c.index.result.now (phase.Find c.in-Find.field-0) c.requires.thread c.index.ensures c.in-Find.is)
+
+pub grow-requires-clause-before : goal.grow-requires-clause-before
+grow-requires-clause-before g c =
+    (c.in-Grow.field-0, c.in-Grow.field-1, is_before c.args.core.now.places.items c.args.step.thread c.index.result.now (phase.Grow c.in-Grow.field-0 c.in-Grow.field-1) c.requires.thread c.index.ensures c.in-Grow.is)
+
+pub append-requires-clause-before : goal.append-requires-clause-before
+append-requires-clause-before g c =
+    (c.in-Append.field-0, c.in-Append.field-1, is_before c.args.core.now.places.items c.args.step.thread c.index.result.now (phase.Append c.in-Append.field-0 c.in-Append.field-1) c.requires.thread c.index.ensures c.in-Append.is)
+
+pub replace-requires-clause-before : goal.replace-requires-clause-before
+replace-requires-clause-before g c =
+    (c.in-Replace.field-0, c.in-Replace.field-1, is_before c.args.core.now.places.items c.args.step.thread c.index.result.now (phase.Replace c.in-Replace.field-0 c.in-Replace.field-1) c.requires.thread c.index.ensures c.in-Replace.is)
+
+pub take-requires-clause-before : goal.take-requires-clause-before
+take-requires-clause-before g c =
+    (c.in-Take.field-0, is_before c.args.core.now.places.items c.args.step.thread c.index.result.now (phase.Take c.in-Take.field-0) c.requires.thread c.index.ensures c.in-Take.is)
+
+pub read-requires-clause-before : goal.read-requires-clause-before
+read-requires-clause-before g c =
+    (c.in-Read.field-0, is_before c.args.core.now.places.items c.args.step.thread c.index.result.now (phase.Read c.in-Read.field-0) c.requires.thread c.index.ensures c.in-Read.is)
+
+pub release-requires-clause-before : goal.release-requires-clause-before
+release-requires-clause-before g c =
+    (c.in-Release.field-0, is_before c.args.core.now.places.items c.args.step.thread c.index.result.now (phase.Release c.in-Release.field-0) c.requires.thread c.index.ensures c.in-Release.is)
+
+pub answer-requires-clause-before : goal.answer-requires-clause-before
+answer-requires-clause-before g c =
+    (c.in-Answer.field-0, is_before c.args.core.now.places.items c.args.step.thread c.index.result.now (phase.Answer c.in-Answer.field-0) c.requires.thread c.index.ensures c.in-Answer.is)

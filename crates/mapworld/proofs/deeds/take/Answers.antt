@@ -1,0 +1,112 @@
+use Rattle.std.proofs.Common.{length, Some, refl, sym, ap, ◌∙◌, arith, length-append, length-set}
+use Rattle.std.proofs.lemmas.Option.{slice_get_within}
+use Rattle.mapworld.specs.Core.{owes, lists, adds}
+use Rattle.mapworld.proofs.Rooms.{shifted}
+use Rattle.mapworld.proofs.Facts.{stands_here, phase_here, claim_at, next_fits, pair_read, read_at, deed_counts}
+use Rattle.mapworld.proofs.Weights.{pairs_set, pairs_at}
+use Rattle.mapworld.proofs.deeds.take.Goals as goal
+
+pub index_mut-table-requires : goal.index_mut-table-requires
+index_mut-table-requires g c =
+    let b = c.requires.before.1 in
+    let p = c.index_mut-place.result.now in
+    let here = stands_here b p c.index_mut-place.ensures.value in
+    let claim = claim_at c.requires.sound c.args.step.thread p here (phase_here b p c.index_mut-place.ensures.value) in
+    omega (arith, slice_get_within c.args.core.now.tables.items p.shard claim.4.table claim.4.held, c.args.core.now.tables.ok.0)
+
+pub remove-key-requires : goal.remove-key-requires
+remove-key-requires g c =
+    let b = c.requires.before.1 in
+    let p = c.index_mut-place.result.now in
+    let here = stands_here b p c.index_mut-place.ensures.value in
+    let before = sym c.replace.ensures.value ∙ c.in-Take.is in
+    let claim = claim_at c.requires.sound c.args.step.thread p here before in
+    let table = pair_read c.args.core.now.tables.items p.shard c.index_mut-table.result.now c.index_mut-table.ensures.value c.in-Take.slot claim.1 claim.4 in
+    omega (arith, slice_get_within c.index_mut-table.result.now.items c.in-Take.slot claim.1 table.1, c.index_mut-table.result.now.ok.0)
+
+pub count_in-requires-clause-listed : goal.count_in-requires-clause-listed
+count_in-requires-clause-listed g c =
+    let b = c.requires.before.1 in
+    let p = c.index_mut-place.result.now in
+    let here = stands_here b p c.index_mut-place.ensures.value in
+    let before = sym c.replace.ensures.value ∙ c.in-Take.is in
+    let claim = claim_at c.requires.sound c.args.step.thread p here before in
+    deed_counts _ _ c.args.core.now.tables.items _ p _ _ claim.3
+
+pub count_in-requires-clause-fits : goal.count_in-requires-clause-fits
+count_in-requires-clause-fits g c =
+    let b = c.requires.before.1 in
+    let p = c.index_mut-place.result.now in
+    let here = stands_here b p c.index_mut-place.ensures.value in
+    let fits = next_fits c.requires.sound c.args.step.thread p here (phase_here b p c.index_mut-place.ensures.value) in
+    omega (arith, fits, c.requires.room.calls_fit)
+
+pub overflow_sub-core : goal.overflow_sub-core
+overflow_sub-core g c =
+    let b = c.requires.before.1 in
+    let p = c.index_mut-place.result.now in
+    let here = stands_here b p c.index_mut-place.ensures.value in
+    let before = sym c.replace.ensures.value ∙ c.in-Take.is in
+    let claim = claim_at c.requires.sound c.args.step.thread p here before in
+    let table = pair_read c.args.core.now.tables.items p.shard c.index_mut-table.result.now c.index_mut-table.ensures.value c.in-Take.slot claim.1 claim.4 in
+    let within = slice_get_within c.index_mut-table.result.now.items c.in-Take.slot claim.1 table.1 in
+    let part = pairs_at c.args.core.now.tables.items p.shard c.index_mut-table.result.now table.0 in
+    omega (arith, within, part, c.requires.room.pairs)
+
+pub returns-clause-step : goal.returns-clause-step
+returns-clause-step g c =
+    let b = c.requires.before.1 in
+    let p = c.index_mut-place.result.now in
+    let here = stands_here b p c.index_mut-place.ensures.value in
+    let before = sym c.replace.ensures.value ∙ c.in-Take.is in
+    let claim = claim_at c.requires.sound c.args.step.thread p here before in
+    let table = pair_read c.args.core.now.tables.items p.shard c.index_mut-table.result.now c.index_mut-table.ensures.value c.in-Take.slot claim.1 claim.4 in
+    let same = read_at c.index_mut-table.result.now.items c.in-Take.slot claim.1 c.remove-key.result table.1 c.remove-key.ensures.value in
+    record {
+      place = p;
+      stands = here;
+      slot = c.in-Take.slot;
+      before = before;
+      table = c.index_mut-table.result.now;
+      held = table.0;
+      pair = c.remove-key.result;
+      found = table.1 ∙ ap Some (sym same);
+      changed = c.remove-key.new.self;
+      pairs = c.remove-key.ensures.items;
+      blocks = c.count_in.new.blocks.items;
+      counted = c.count_in.ensures.counted;
+      after = rw (c.and-core.ensures, c.enter.ensures) refl;
+    }
+
+pub returns-clause-room : goal.returns-clause-room
+returns-clause-room g c =
+    let b = c.requires.before.1 in
+    let p = c.index_mut-place.result.now in
+    let here = stands_here b p c.index_mut-place.ensures.value in
+    let before = sym c.replace.ensures.value ∙ c.in-Take.is in
+    let claim = claim_at c.requires.sound c.args.step.thread p here before in
+    let table = pair_read c.args.core.now.tables.items p.shard c.index_mut-table.result.now c.index_mut-table.ensures.value c.in-Take.slot claim.1 claim.4 in
+    let change = pairs_set c.args.core.now.tables.items p.shard c.index_mut-table.result.now c.remove-key.new.self table.0 in
+    let shorter = c.remove-key.ensures.len in
+    shifted _ _ c.args.step.thread p (record p { phase = c.enter.new.phase }) c.requires.room (record {
+      here = here;
+      places = refl;
+      numbers = c.requires.numbers;
+      steps = simp length-append at (ap length c.and-core.ensures);
+      count = refl;
+      programs = refl;
+      tables = length-set c.args.core.now.tables.items p.shard c.remove-key.new.self;
+      guards = c.requires.room.guards;
+      guards_fit = omega arith;
+      unanswered = omega (arith, ap owes c.enter.ensures, ap owes before);
+      answers = omega (arith, ap owes c.enter.ensures, ap owes before);
+      replies = refl;
+      listing = omega (arith, ap lists c.enter.ensures, ap lists before, c.count_in.ensures.len);
+      blocks = c.count_in.ensures.capacity;
+      holding = omega arith;
+      holds = refl;
+      adding = omega (arith, ap adds c.enter.ensures, ap adds before);
+      pairs = omega (arith, c.requires.room.pairs, change, shorter, c.remove-key.new.self.ok.0, c.index_mut-table.result.now.ok.0);
+      more_blocks = omega (arith, c.count_in.ensures.len);
+      listed = λ i e. let below = c.requires.room.listed c.args.step.thread p i here e in omega (arith, below, c.count_in.ensures.len);
+    })

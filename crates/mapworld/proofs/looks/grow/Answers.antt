@@ -1,0 +1,151 @@
+use Rattle.std.proofs.Common.{◌≡◌, ◌+◌, length, Some, inl, inr, refl, sym, ap, ◌∙◌, arith, length-append, length-set}
+use Rattle.std.proofs.lemmas.Option.{slice_get_within, same_Some}
+use Rattle.mapworld.specs.declared.blocks.Started.{Started}
+use Rattle.mapworld.specs.Core.{state_of, owes, lists, adds}
+use Rattle.mapworld.proofs.Rooms.{shifted, block_left}
+use Rattle.mapworld.proofs.Facts.{stands_here, phase_here, claim_at, list_read}
+use Rattle.mapworld.proofs.Weights.{one_added, lists_block, pairs_kept}
+use Rattle.mapworld.proofs.looks.grow.Goals as goal
+
+pub unreachable-requires : goal.unreachable-requires
+unreachable-requires g c =
+    let b = c.requires.before.2 in
+    let p = c.index_mut-place.result.now in
+    let here = stands_here b p c.index_mut-place.ensures.value in
+    let claim = claim_at c.requires.sound c.args.step.thread p here (phase_here b p c.index_mut-place.ensures.value) in
+    c.in_default.not-Some claim.0.start claim.0.started
+
+pub unreachable-requires-in_default-replace : goal.unreachable-requires-in_default-replace
+unreachable-requires-in_default-replace g c =
+    let b = c.requires.before.2 in
+    let p = c.index_mut-place.result.now in
+    c.in_default-replace.not-Grow c.requires.before.0 c.requires.before.1 (c.replace.ensures.value ∙ phase_here b p c.index_mut-place.ensures.value)
+
+pub index_mut-table-requires : goal.index_mut-table-requires
+index_mut-table-requires g c =
+    let b = c.requires.before.2 in
+    let p = c.index_mut-place.result.now in
+    let here = stands_here b p c.index_mut-place.ensures.value in
+    let claim = claim_at c.requires.sound c.args.step.thread p here (phase_here b p c.index_mut-place.ensures.value) in
+    omega (arith, slice_get_within c.args.core.now.tables.items p.shard claim.3.table claim.3.held, c.args.core.now.tables.ok.0)
+
+pub list_block-requires : goal.list_block-requires
+list_block-requires g c =
+    let b = c.requires.before.2 in
+    let p = c.index_mut-place.result.now in
+    let here = stands_here b p c.index_mut-place.ensures.value in
+    block_left c.args.core.now c.args.step.thread p c.requires.room here (ap lists (phase_here b p c.index_mut-place.ensures.value))
+
+pub returns-clause-step : goal.returns-clause-step
+returns-clause-step g c =
+    let b = c.requires.before.2 in
+    let p = c.index_mut-place.result.now in
+    let here = stands_here b p c.index_mut-place.ensures.value in
+    let before = sym c.replace.ensures.value ∙ c.in-Grow.is in
+    let claim = claim_at c.requires.sound c.args.step.thread p here before in
+    inl (record {
+      place = p;
+      stands = here;
+      key = c.in-Grow.key;
+      value = c.in-Grow.value;
+      before = before;
+      table = c.index_mut-table.result.now;
+      held = (list_read c.args.core.now.tables.items p.shard c.index_mut-table.result.now c.index_mut-table.ensures.value _ claim.3).0;
+      grown = c.reserve.new.self;
+      pairs = c.reserve.ensures.items;
+      room = omega (arith, c.in-Ok.ensures.ok);
+      blocks = c.list_block.new.blocks.items;
+      listed = lists_block (state_of c.args.core.now) c.args.step.thread p (Some 0)
+          (record { thread = c.args.step.thread; call = p.next; start = c.in-Some.start }) (c.args.core.now.count + 1) c.list_block.new.blocks.items
+          c.list_block.ensures.listed refl refl c.in-Some.is (ap (λ n. n + 1) c.requires.room.count);
+      after = rw (c.and-core.ensures, c.len-index.ensures, c.args.core.now.blocks.ok.0, c.enter-2.ensures) refl;
+    })
+
+pub returns-clause-room : goal.returns-clause-room
+returns-clause-room g c =
+    let b = c.requires.before.2 in
+    let p = c.index_mut-place.result.now in
+    let here = stands_here b p c.index_mut-place.ensures.value in
+    let before = sym c.replace.ensures.value ∙ c.in-Grow.is in
+    let claim = claim_at c.requires.sound c.args.step.thread p here before in
+    let held = (list_read c.args.core.now.tables.items p.shard c.index_mut-table.result.now c.index_mut-table.ensures.value _ claim.3).0 in
+    let st : Started = record { thread = c.args.step.thread; call = p.next; start = c.in-Some.start } in
+    let added : length c.list_block.new.blocks.items ≡ length c.args.core.now.blocks.items + 1 =
+    one_added c.args.core.now.blocks.items st (c.args.core.now.count + 1) c.list_block.new.blocks.items 0 c.list_block.ensures.listed in
+    let kept = pairs_kept c.args.core.now.tables.items p.shard c.index_mut-table.result.now c.reserve.new.self held (ap length c.reserve.ensures.items) in
+    shifted _ _ c.args.step.thread p (record p { block = Some c.len-index.result; phase = c.enter-2.new.phase }) c.requires.room (record {
+      here = here;
+      places = refl;
+      numbers = c.requires.numbers;
+      steps = simp length-append at (ap length c.and-core.ensures);
+      count = refl;
+      programs = refl;
+      tables = length-set c.args.core.now.tables.items p.shard c.reserve.new.self;
+      guards = c.requires.room.guards;
+      guards_fit = omega arith;
+      unanswered = omega (arith, ap owes c.enter-2.ensures, ap owes before);
+      answers = omega (arith, ap owes c.enter-2.ensures, ap owes before);
+      replies = refl;
+      listing = omega (arith, added, ap lists c.enter-2.ensures, ap lists before);
+      blocks = c.list_block.ensures.capacity;
+      holding = omega arith;
+      holds = refl;
+      adding = omega (arith, ap adds c.enter-2.ensures, ap adds before);
+      pairs = c.requires.room.pairs ∙ sym kept;
+      more_blocks = omega (arith, added);
+      listed = λ i e. omega (arith, same_Some c.len-index.result i e, c.len-index.ensures, c.args.core.now.blocks.ok.0, added);
+    })
+
+pub returns-in_default-reserve-clause-step : goal.returns-in_default-reserve-clause-step
+returns-in_default-reserve-clause-step g c =
+    let b = c.requires.before.2 in
+    let p = c.index_mut-place.result.now in
+    let here = stands_here b p c.index_mut-place.ensures.value in
+    let before = sym c.replace.ensures.value ∙ c.in-Grow.is in
+    let claim = claim_at c.requires.sound c.args.step.thread p here before in
+    let table = list_read c.args.core.now.tables.items p.shard c.index_mut-table.result.now c.index_mut-table.ensures.value _ claim.3 in
+    inr (record {
+      place = p;
+      stands = here;
+      key = c.in-Grow.key;
+      value = c.in-Grow.value;
+      before = before;
+      table = c.index_mut-table.result.now;
+      held = table.0;
+      kept = c.reserve.new.self;
+      pairs = c.reserve.ensures.items;
+      full = table.1.1;
+      after = rw (c.and-core.ensures, c.enter.ensures) refl;
+    })
+
+pub returns-in_default-reserve-clause-room : goal.returns-in_default-reserve-clause-room
+returns-in_default-reserve-clause-room g c =
+    let b = c.requires.before.2 in
+    let p = c.index_mut-place.result.now in
+    let here = stands_here b p c.index_mut-place.ensures.value in
+    let before = sym c.replace.ensures.value ∙ c.in-Grow.is in
+    let claim = claim_at c.requires.sound c.args.step.thread p here before in
+    let held = (list_read c.args.core.now.tables.items p.shard c.index_mut-table.result.now c.index_mut-table.ensures.value _ claim.3).0 in
+    let kept = pairs_kept c.args.core.now.tables.items p.shard c.index_mut-table.result.now c.reserve.new.self held (ap length c.reserve.ensures.items) in
+    shifted _ _ c.args.step.thread p (record p { phase = c.enter.new.phase }) c.requires.room (record {
+      here = here;
+      places = refl;
+      numbers = c.requires.numbers;
+      steps = simp length-append at (ap length c.and-core.ensures);
+      count = refl;
+      programs = refl;
+      tables = length-set c.args.core.now.tables.items p.shard c.reserve.new.self;
+      guards = c.requires.room.guards;
+      guards_fit = omega arith;
+      unanswered = omega (arith, ap owes c.enter.ensures, ap owes before);
+      answers = omega (arith, ap owes c.enter.ensures, ap owes before);
+      replies = refl;
+      listing = omega (arith, ap lists c.enter.ensures, ap lists before);
+      blocks = refl;
+      holding = omega arith;
+      holds = refl;
+      adding = omega (arith, ap adds c.enter.ensures, ap adds before);
+      pairs = c.requires.room.pairs ∙ sym kept;
+      more_blocks = omega arith;
+      listed = λ i e. c.requires.room.listed c.args.step.thread p i here e;
+    })

@@ -1,0 +1,78 @@
+use Rattle.std.proofs.Common.{◌≡◌, length, map, sum_by, false, refl, ap, sym, ◌∙◌, subst, arith}
+use Rattle.std.specs.List.{list_all}
+use Rattle.std.proofs.lemmas.List.{length-map}
+use Rattle.mapworld_calls.specs.Programs.{one_guard}
+use Rattle.mapworld.specs.Route.{IsShardAmount, key_route}
+use Rattle.mapworld.specs.Beginning.{AreAtStart, AreFilled}
+use Rattle.mapworld.proofs.Refusals.{accepted, sum_by-map}
+use Rattle.mapworld.proofs.Beginnings.{new-sound, new-contents, new-room}
+use Rattle.mapworld.proofs.making.core_of.Goals as goal
+
+pub fill-requires-clause-shards : goal.fill-requires-clause-shards
+fill-requires-clause-shards g c =
+    let a = accepted c.args.shards (length c.args.pairs.items) (map (λ program. program.items) c.args.programs.items) c.requires in
+    subst (λ n. IsShardAmount n) (sym c.in_ok-tables.ensures.0) a.amount
+
+pub fill-requires-clause-fits : goal.fill-requires-clause-fits
+fill-requires-clause-fits g c =
+    let a = accepted c.args.shards (length c.args.pairs.items) (map (λ program. program.items) c.args.programs.items) c.requires in
+    omega (arith, a.pairs_fit)
+
+pub returns-clause-sound : goal.returns-clause-sound
+returns-clause-sound g c =
+    let a = accepted c.args.shards (length c.args.pairs.items) (map (λ program. program.items) c.args.programs.items) c.requires in
+    let kept = ap (λ v. map (λ program. program.items) v.items) c.of-kept.ensures in
+    let shards = c.in_ok-count.ensures.shards ∙ c.in_ok-tables.ensures.0 in
+    new-sound g.D.Deed g.S.BuildHasher g.S.Hasher.Hasher g.K.PartialEq.eq g.K.Hash.hash_input _
+    (record { steps = c.new.ensures; holds = c.in_ok-holds.ensures.items; blocks = c.in_ok-blocks.ensures.items; replies = c.in_ok-replies.ensures.items })
+    (subst (λ n. IsShardAmount n) (sym shards) a.amount)
+    (ap (λ ps. list_all (one_guard false) ps) kept ∙ a.guarded)
+    (subst (λ ps. AreAtStart ps c.in_ok-places.places.items) (sym kept) c.in_ok-places.ensures)
+    (subst (λ ps. AreFilled g.K.PartialEq.eq (key_route g.S.BuildHasher g.S.Hasher.Hasher g.K.Hash.hash_input c.args.hasher (length c.fill.new.tables.items)) ps c.fill.new.tables.items)
+    (sym (ap (λ v. v.items) c.of-opening.ensures)) c.in_ok-count.ensures.filled)
+
+pub returns-clause-new : goal.returns-clause-new
+returns-clause-new g c =
+    let a = accepted c.args.shards (length c.args.pairs.items) (map (λ program. program.items) c.args.programs.items) c.requires in
+    let shards = c.in_ok-count.ensures.shards ∙ c.in_ok-tables.ensures.0 in
+    record {
+      hasher_is = refl;
+      shards_are = shards;
+      opening = ap (λ v. v.items) c.of-opening.ensures;
+      programs_are = ap (λ v. map (λ program. program.items) v.items) c.of-kept.ensures;
+      contents_are = new-contents g.D.Deed g.S.BuildHasher g.S.Hasher.Hasher g.K.PartialEq.eq g.K.Hash.hash_input c.args.hasher c.args.pairs.items c.fill.new.tables.items
+          g.met.K.Eq.laws g.met.K.Hash.respects_eq (subst (λ n. IsShardAmount n) (sym shards) a.amount) c.in_ok-count.ensures.filled;
+      steps = c.new.ensures;
+      holds = c.in_ok-holds.ensures.items;
+      blocks = c.in_ok-blocks.ensures.items;
+      replies = c.in_ok-replies.ensures.items;
+    }
+
+pub returns-clause-room : goal.returns-clause-room
+returns-clause-room g c =
+    let a = accepted c.args.shards (length c.args.pairs.items) (map (λ program. program.items) c.args.programs.items) c.requires in
+    let kept = ap (λ v. map (λ program. program.items) v.items) c.of-kept.ensures in
+    let shards = c.in_ok-count.ensures.shards ∙ c.in_ok-tables.ensures.0 in
+    let programs = map (λ program. program.items) c.of-kept.result.value.items in
+    let calls : sum_by length programs ≡ sum_by length (map (λ program. program.items) c.args.programs.items) = ap (λ ps. sum_by length ps) kept in
+    let counted = sum_by-map length (λ program. program.items) c.args.programs.items in
+    let count = c.calls_in-calls.ensures ∙ ap (λ ps. sum_by (λ program. length program.items) ps) c.deref.ensures.value in
+    let threads : length programs ≡ length (map (λ program. program.items) c.args.programs.items) = ap (λ ps. length ps) kept in
+    let as_many = length-map c.args.programs.items (λ program. program.items) in
+    let own = c.args.programs.ok.0 in
+    new-room _
+    (record { steps = c.new.ensures; holds = c.in_ok-holds.ensures.items; blocks = c.in_ok-blocks.ensures.items; replies = c.in_ok-replies.ensures.items })
+    (subst (λ ps. AreAtStart ps c.in_ok-places.places.items) (sym kept) c.in_ok-places.ensures)
+    (record {
+      count = refl;
+      guards = refl;
+      unanswered = omega (arith, calls, counted, count);
+      calls_fit = omega (arith, calls, a.calls);
+      replies = omega (arith, calls, counted, count, c.in_ok-replies.ensures.exact);
+      blocks = omega (arith, calls, counted, count, c.in_ok-blocks.ensures.exact);
+      holds = omega (arith, threads, as_many, own, c.len.ensures, c.in_ok-holds.ensures.exact);
+      pairs = c.in_ok-count.ensures.count.0;
+      pairs_fit = omega (arith, a.pairs_fit, c.in_ok-count.ensures.count.1);
+      threads_fit = omega (arith, threads, a.threads);
+      shards = subst (λ n. IsShardAmount n) (sym shards) a.amount;
+    })

@@ -1,0 +1,19 @@
+use Rattle.std.proofs.Common.{sym, subst}
+use Rattle.mapworld.specs.Core.{state_of}
+use Rattle.mapworld.specs.World.{setup_of}
+use Rattle.mapworld.specs.Sound.{Sound}
+use Rattle.mapworld.proofs.Setups.{setup-laws}
+use Rattle.mapworld.proofs.Sounds.{sound-step}
+use Rattle.mapworld.proofs.Adding.{step-adds}
+use Rattle.mapworld.proofs.Runs.{setup-fixed}
+use Rattle.mapworld.proofs.world.MapWorld.make_step.Goals as goal
+
+pub invariant_of-self : goal.invariant_of-self
+invariant_of-self g c =
+    let w = state_of c.self.inside.core in
+    let w' = state_of c.advance.new.core in
+    let x = setup_of g.D.Deed g.S.BuildHasher g.S.Hasher.Hasher g.K.PartialEq.eq g.K.Hash.hash_input w in
+    let laws = setup-laws g.D.Deed g.S.BuildHasher g.S.Hasher.Hasher g.K.PartialEq.eq g.K.Hash.hash_input w g.met.K.Eq.laws g.met.K.Hash.respects_eq in
+    let added = step-adds x w c.args.step w' c.self.invariant.0 c.advance.ensures.step in
+    let fixed = setup-fixed g.D.Deed g.S.BuildHasher g.S.Hasher.Hasher g.K.PartialEq.eq g.K.Hash.hash_input w w' added.fixed in
+    (subst (λ y. Sound y w') (sym fixed) (sound-step x laws w c.args.step w' c.self.invariant.0 c.advance.ensures.step), c.advance.ensures.room)

@@ -1,0 +1,20 @@
+use Rattle.std.proofs.Common.{ap, ◌∙◌}
+use Rattle.std.proofs.lemmas.Option.{slice_get_read}
+use Rattle.mapworld.specs.Core.{state_of}
+use Rattle.mapworld.specs.Route.{route_of, hash_of}
+use Rattle.mapworld.proofs.Setups.{setup-laws}
+use Rattle.mapworld.proofs.Viewing.{pair_in_shard}
+use Rattle.mapworld.proofs.world.MapWorld.pair.Goals as goal
+
+pub returns : goal.returns
+returns g c =
+    let core = c.self.inside.core in
+    let key = c.args.key.now in
+    let count = c.len.ensures ∙ core.tables.ok.0 in
+    let laws = setup-laws g.D.Deed g.S.BuildHasher g.S.Hasher.Hasher g.K.PartialEq.eq g.K.Hash.hash_input (state_of core) g.met.K.Eq.laws g.met.K.Hash.respects_eq in
+    let route = c.shard_of-shard.ensures.value ∙ ap (λ n. route_of (hash_of g.S.BuildHasher g.S.Hasher.Hasher core.hasher (g.K.Hash.hash_input key)) n) count in
+    rw (← c.self.view_is)
+    (pair_in_shard _ core.blocks.items core.tables.items laws c.self.invariant.0.tables key c.shard_of-shard.result c.index.result.now
+    c.deref.result.now _ route
+    (slice_get_read core.tables.items c.len.result c.shard_of-shard.result c.index.result.now count c.shard_of-shard.ensures.below c.index.ensures)
+    c.deref.ensures.value c.pair_in.ensures)

@@ -1,0 +1,22 @@
+-- When a thread is asleep.
+use Rattle.std.specs.Prelude.{◌≡◌, ◌≢◌, ℕ, true, Some, slice_get}
+use Rattle.mapworld.specs.declared.holds.Held.{Held}
+use Rattle.mapworld.specs.declared.place.Request.{Request}
+use Rattle.mapworld.specs.declared.place.Phase.TheVariants as phase
+use Rattle.mapworld.specs.declared.place.Place.{Place}
+use Rattle.mapworld.specs.Holds.{excludes}
+use Rattle.mapworld.specs.State.{State}
+use Rattle.mapworld.specs.Moves.{mode_of}
+
+-- the thread is before an admission, and another thread holds the shard in a way that excludes it
+pub record IsAsleep {K V S D T A : Type 0} (w : State K V S D T A) (t : ℕ) : Type 0 where
+  pub place : Place K V D T A
+  pub stands : slice_get w.places t ≡ Some place
+  pub request : Request K V
+  pub before : place.phase ≡ phase.Admit request
+  pub index : ℕ
+  pub entry : Held
+  pub held : slice_get w.holds index ≡ Some entry
+  pub another : entry.party ≢ t
+  pub same_shard : entry.hold.shard ≡ place.shard
+  pub excluded : excludes entry.hold.mode (mode_of request) ≡ true

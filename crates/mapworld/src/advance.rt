@@ -1,0 +1,48 @@
+//! One step of a world, of the kind that its thread stands before.
+ghost use Rattle.std.specs.Prelude.{◌≡◌, ◌<◌, true, length};
+ghost use Rattle.mapworld.specs.Sound.{Sound};
+ghost use Rattle.mapworld.specs.Steps.{IsStep};
+ghost use Rattle.mapworld.specs.Running.{has_numbers, status_of, is_running};
+ghost use Rattle.mapworld.specs.World.{setup_of};
+ghost use Rattle.mapworld.specs.Core.{state_of, Room};
+
+use crate::deeds::{append, read, replace, take};
+use crate::ends::{answer, release};
+use crate::looks::{find, grow};
+use crate::place::Phase;
+use crate::starts::{admit, start};
+use crate::step::Step;
+use crate::world_core::Core;
+use mapworld_calls::Deed;
+use std::alloc::Allocator;
+use std::hash::{BuildHasher, Hash};
+
+/// The step that the thread stands before.
+pub(crate) fn advance<
+    K: Eq + Hash + Drop,
+    V: Drop,
+    S: BuildHasher,
+    D: Deed<K, V> + Drop,
+    A: Allocator,
+>(core: &mut Core<K, V, S, D, D::Answer, A>, step: Step)
+    requires sound { Sound (setup_of D.Deed S.BuildHasher S.Hasher.Hasher K.eq K.hash_input (state_of core.old)) (state_of core.old) }
+    requires room { Room core.old }
+    requires numbers { has_numbers (state_of core.old) ≡ true }
+    requires thread { step.thread < length core.old.places.items }
+    requires running { is_running (status_of (state_of core.old) step.thread) ≡ true }
+    ensures step { IsStep (setup_of D.Deed S.BuildHasher S.Hasher.Hasher K.eq K.hash_input (state_of core.old)) (state_of core.old) step (state_of core.new) }
+    ensures room { Room core.new }
+{
+    match &core.places[step.thread].phase {
+        Phase::Rest => start(core, step),
+        Phase::Admit(_) => admit(core, step),
+        Phase::Find(_) => find(core, step),
+        Phase::Grow(_, _) => grow(core, step),
+        Phase::Append(_, _) => append(core, step),
+        Phase::Replace(_, _) => replace(core, step),
+        Phase::Take(_) => take(core, step),
+        Phase::Read(_) => read(core, step),
+        Phase::Release(_) => release(core, step),
+        Phase::Answer(_) => answer(core, step),
+    }
+}

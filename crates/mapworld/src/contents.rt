@@ -1,0 +1,49 @@
+//! The pairs of all tables.
+ghost use Rattle.std.specs.Prelude.{◌≡◌, ◌++◌, map, flat_map, OnOk, IfOk};
+ghost use Rattle.std.specs.Option.{option_map};
+ghost use Rattle.mapworld_calls.specs.Pairs.{pair_of};
+ghost use Rattle.mapworld.specs.Views.{shown};
+
+use crate::fault::NoMemory;
+use crate::table;
+use std::alloc::Allocator;
+
+/// Adds a table's pairs to a list of references.
+fn add_pairs<'a, K, V, A: Allocator>(
+    list: &mut Vec<(&'a K, &'a V), A>,
+    table: &'a [(K, V)],
+) -> Result<(), NoMemory>
+    ensures { OnOk result (map shown list.new.items ≡ map shown list.old.items ++ table.now) }
+{
+    for pair in table {
+        list.push((&pair.0, &pair.1))?;
+    }
+    Ok(())
+}
+
+/// References to the pairs of all tables, in their order.
+pub(crate) fn pairs_in<'a, K, V, A: Allocator + Drop>(
+    tables: &'a [Vec<(K, V), A>],
+    alloc: A,
+) -> Result<Vec<(&'a K, &'a V), A>, NoMemory>
+    ensures { IfOk result (λ pairs. map shown pairs.items ≡ flat_map (λ table. table.items) tables.now) }
+{
+    let mut list = Vec::new(alloc);
+    for table in tables {
+        add_pairs(&mut list, table)?;
+    }
+    Ok(list)
+}
+
+/// References to the key's pair in a table, if there is one.
+pub(crate) fn pair_in<'a, K: Eq, V>(pairs: &'a [(K, V)], key: &K) -> Option<(&'a K, &'a V)>
+    ensures { option_map shown result ≡ pair_of K.eq pairs.now key.now }
+{
+    match table::slot_of(pairs, key) {
+        Some(slot) => {
+            let pair = &pairs[slot];
+            Some((&pair.0, &pair.1))
+        }
+        None => None,
+    }
+}

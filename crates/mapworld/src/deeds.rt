@@ -1,0 +1,135 @@
+//! The steps that change or read a pair.
+ghost use Rattle.std.specs.Prelude.{◌≡◌, true};
+ghost use Rattle.mapworld.specs.declared.place.Phase.TheVariants as phase;
+ghost use Rattle.mapworld.specs.Sound.{Sound};
+ghost use Rattle.mapworld.specs.Running.{has_numbers};
+ghost use Rattle.mapworld.specs.World.{setup_of};
+ghost use Rattle.mapworld.specs.Core.{state_of, Room, IsBefore};
+ghost use Rattle.mapworld.specs.Steps.{Appends, Replaces, Takes, Reads};
+
+use crate::blocks::count_in;
+use crate::moves::enter;
+use crate::place::Phase;
+use crate::step::Step;
+use crate::world_core::Core;
+use mapworld_calls::{Answer, Deed};
+use std::alloc::Allocator;
+use std::hash::{BuildHasher, Hash};
+use std::mem;
+
+/// The deed that adds a pair.
+pub(crate) fn append<
+    K: Eq + Hash + Drop,
+    V: Drop,
+    S: BuildHasher,
+    D: Deed<K, V> + Drop,
+    A: Allocator,
+>(core: &mut Core<K, V, S, D, D::Answer, A>, step: Step)
+    requires sound { Sound (setup_of D.Deed S.BuildHasher S.Hasher.Hasher K.eq K.hash_input (state_of core.old)) (state_of core.old) }
+    requires room { Room core.old }
+    requires numbers { has_numbers (state_of core.old) ≡ true }
+    requires before { (key : _) × (value : _) × IsBefore core.old.places.items step.thread (phase.Append key value) }
+    ensures step { Appends (setup_of D.Deed S.BuildHasher S.Hasher.Hasher K.eq K.hash_input (state_of core.old)) (state_of core.old) step (state_of core.new) }
+    ensures room { Room core.new }
+{
+    let place = &mut core.places[step.thread];
+    let Phase::Append(key, value) = mem::replace(&mut place.phase, Phase::Release(Answer::None))
+    else {
+        unreachable!()
+    };
+    let table = &mut core.tables[place.shard];
+    table.push_reserved((key, value));
+    count_in(&mut core.blocks, place.block, place.next);
+    core.pairs += 1;
+    core.count += 1;
+    core.steps = core.steps.and(&step);
+}
+
+/// The deed that replaces a value.
+pub(crate) fn replace<
+    K: Eq + Hash + Drop,
+    V: Drop,
+    S: BuildHasher,
+    D: Deed<K, V> + Drop,
+    A: Allocator,
+>(core: &mut Core<K, V, S, D, D::Answer, A>, step: Step)
+    requires sound { Sound (setup_of D.Deed S.BuildHasher S.Hasher.Hasher K.eq K.hash_input (state_of core.old)) (state_of core.old) }
+    requires room { Room core.old }
+    requires numbers { has_numbers (state_of core.old) ≡ true }
+    requires before { (slot : _) × (value : _) × IsBefore core.old.places.items step.thread (phase.Replace slot value) }
+    ensures step { Replaces (setup_of D.Deed S.BuildHasher S.Hasher.Hasher K.eq K.hash_input (state_of core.old)) (state_of core.old) step (state_of core.new) }
+    ensures room { Room core.new }
+{
+    let place = &mut core.places[step.thread];
+    let Phase::Replace(slot, value) = mem::replace(&mut place.phase, Phase::Rest) else {
+        unreachable!()
+    };
+    let table = &mut core.tables[place.shard];
+    let pair = &mut table[slot];
+    let old = mem::replace(&mut pair.1, value);
+    enter(&mut place.phase, Phase::Release(Answer::Value(old)));
+    count_in(&mut core.blocks, place.block, place.next);
+    core.count += 1;
+    core.steps = core.steps.and(&step);
+}
+
+/// The deed that takes a pair out.
+pub(crate) fn take<
+    K: Eq + Hash + Drop,
+    V: Drop,
+    S: BuildHasher,
+    D: Deed<K, V> + Drop,
+    A: Allocator,
+>(core: &mut Core<K, V, S, D, D::Answer, A>, step: Step)
+    requires sound { Sound (setup_of D.Deed S.BuildHasher S.Hasher.Hasher K.eq K.hash_input (state_of core.old)) (state_of core.old) }
+    requires room { Room core.old }
+    requires numbers { has_numbers (state_of core.old) ≡ true }
+    requires before { (slot : _) × IsBefore core.old.places.items step.thread (phase.Take slot) }
+    ensures step { Takes (setup_of D.Deed S.BuildHasher S.Hasher.Hasher K.eq K.hash_input (state_of core.old)) (state_of core.old) step (state_of core.new) }
+    ensures room { Room core.new }
+{
+    let place = &mut core.places[step.thread];
+    let Phase::Take(slot) = mem::replace(&mut place.phase, Phase::Rest) else {
+        unreachable!()
+    };
+    let table = &mut core.tables[place.shard];
+    let (key, value) = table.remove(slot);
+    enter(&mut place.phase, Phase::Release(Answer::Pair(key, value)));
+    count_in(&mut core.blocks, place.block, place.next);
+    core.pairs -= 1;
+    core.count += 1;
+    core.steps = core.steps.and(&step);
+}
+
+/// The deed that reads the guarded pair.
+pub(crate) fn read<
+    K: Eq + Hash + Drop,
+    V: Drop,
+    S: BuildHasher,
+    D: Deed<K, V> + Drop,
+    A: Allocator,
+>(core: &mut Core<K, V, S, D, D::Answer, A>, step: Step)
+    requires sound { Sound (setup_of D.Deed S.BuildHasher S.Hasher.Hasher K.eq K.hash_input (state_of core.old)) (state_of core.old) }
+    requires room { Room core.old }
+    requires numbers { has_numbers (state_of core.old) ≡ true }
+    requires before { (deed : _) × IsBefore core.old.places.items step.thread (phase.Read deed) }
+    ensures step { Reads (setup_of D.Deed S.BuildHasher S.Hasher.Hasher K.eq K.hash_input (state_of core.old)) (state_of core.old) step (state_of core.new) }
+    ensures room { Room core.new }
+{
+    let place = &mut core.places[step.thread];
+    let Phase::Read(deed) = mem::replace(&mut place.phase, Phase::Rest) else {
+        unreachable!()
+    };
+    let Some(slot) = place.slot else {
+        unreachable!()
+    };
+    let table = &core.tables[place.shard];
+    let pair = &table[slot];
+    enter(
+        &mut place.phase,
+        Phase::Answer(Answer::Read(deed.answer(&pair.0, &pair.1))),
+    );
+    count_in(&mut core.blocks, place.block, place.next);
+    core.count += 1;
+    core.steps = core.steps.and(&step);
+}

@@ -1,0 +1,108 @@
+//! The steps that end a hold and a call.
+ghost use Rattle.std.specs.Prelude.{◌≡◌, ◌+◌, ◌<◌, ◌^◌, true, if◌then◌else◌};
+ghost use Rattle.mapworld.specs.declared.place.Phase.TheVariants as phase;
+ghost use Rattle.mapworld.specs.Sound.{Sound};
+ghost use Rattle.mapworld.specs.Running.{has_numbers};
+ghost use Rattle.mapworld.specs.World.{setup_of};
+ghost use Rattle.mapworld.specs.Core.{state_of, Room, IsBefore};
+ghost use Rattle.mapworld.specs.Steps.{Releases, Answers};
+
+use crate::blocks::{count_in, end_block};
+use crate::holds::place_of;
+use crate::moves::{enter, release_counts};
+use crate::place::{Phase, Place};
+use crate::step::Step;
+use crate::world_core::Core;
+use mapworld_calls::{Answer, Deed, Reply};
+use std::alloc::Allocator;
+use std::hash::{BuildHasher, Hash};
+use std::mem;
+
+/// Leads a place behind the answer of its call, which it gives back.
+fn leave_call<K, V, D, T, A: Allocator>(place: &mut Place<K, V, D, T, A>) -> Answer<K, V, T>
+    requires before { (answer : _) × (place.old.phase ≡ phase.Answer answer) }
+    requires fits { place.old.next < 2 ^ 63 }
+    ensures answer { place.old.phase ≡ phase.Answer result }
+    ensures after { place.new ≡ record place.old { next = place.old.next + 1; started = None; block = if place.old.closes then None else place.old.block; phase = phase.Rest } }
+{
+    place.next += 1;
+    place.started = None;
+    if place.closes {
+        place.block = None;
+    }
+    match mem::replace(&mut place.phase, Phase::Rest) {
+        Phase::Answer(answer) => answer,
+        _ => unreachable!(),
+    }
+}
+
+/// The end of a hold, and of its guard.
+pub(crate) fn release<
+    K: Eq + Hash + Drop,
+    V: Drop,
+    S: BuildHasher,
+    D: Deed<K, V> + Drop,
+    A: Allocator,
+>(core: &mut Core<K, V, S, D, D::Answer, A>, step: Step)
+    requires sound { Sound (setup_of D.Deed S.BuildHasher S.Hasher.Hasher K.eq K.hash_input (state_of core.old)) (state_of core.old) }
+    requires room { Room core.old }
+    requires numbers { has_numbers (state_of core.old) ≡ true }
+    requires before { (answer : _) × IsBefore core.old.places.items step.thread (phase.Release answer) }
+    ensures step { Releases (setup_of D.Deed S.BuildHasher S.Hasher.Hasher K.eq K.hash_input (state_of core.old)) (state_of core.old) step (state_of core.new) }
+    ensures room { Room core.new }
+{
+    let place = &mut core.places[step.thread];
+    let Some(hold) = place.hold else {
+        unreachable!()
+    };
+    let Some(entry) = place_of(&core.holds, hold.shard, hold.guard) else {
+        unreachable!()
+    };
+    let Phase::Release(answer) = mem::replace(&mut place.phase, Phase::Rest) else {
+        unreachable!()
+    };
+    let counts = release_counts(place.slot, place.block);
+    place.hold = None;
+    place.slot = None;
+    enter(&mut place.phase, Phase::Answer(answer));
+    let _held = core.holds.remove(entry);
+    count_in(&mut core.blocks, counts, place.next);
+    core.count += 1;
+    core.steps = core.steps.and(&step);
+}
+
+/// The answer of a call.
+pub(crate) fn answer<
+    K: Eq + Hash + Drop,
+    V: Drop,
+    S: BuildHasher,
+    D: Deed<K, V> + Drop,
+    A: Allocator,
+>(core: &mut Core<K, V, S, D, D::Answer, A>, step: Step)
+    requires sound { Sound (setup_of D.Deed S.BuildHasher S.Hasher.Hasher K.eq K.hash_input (state_of core.old)) (state_of core.old) }
+    requires room { Room core.old }
+    requires numbers { has_numbers (state_of core.old) ≡ true }
+    requires before { (answer : _) × IsBefore core.old.places.items step.thread (phase.Answer answer) }
+    ensures step { Answers (setup_of D.Deed S.BuildHasher S.Hasher.Hasher K.eq K.hash_input (state_of core.old)) (state_of core.old) step (state_of core.new) }
+    ensures room { Room core.new }
+{
+    let end = core.count + 1;
+    let place = &mut core.places[step.thread];
+    let call = place.next;
+    let block = place.block;
+    let Some(start) = place.started else {
+        unreachable!()
+    };
+    let answer = leave_call(place);
+    end_block(&mut core.blocks, block, call, end);
+    core.replies.push_reserved(Reply {
+        thread: step.thread,
+        call,
+        start,
+        end,
+        answer,
+    });
+    core.unanswered -= 1;
+    core.count = end;
+    core.steps = core.steps.and(&step);
+}

@@ -1,0 +1,116 @@
+//! The steps that look into a held shard.
+ghost use Rattle.std.specs.Prelude.{◌≡◌, ◌⊎◌, true};
+ghost use Rattle.mapworld.specs.declared.place.Phase.TheVariants as phase;
+ghost use Rattle.mapworld.specs.Sound.{Sound};
+ghost use Rattle.mapworld.specs.Running.{has_numbers};
+ghost use Rattle.mapworld.specs.World.{setup_of};
+ghost use Rattle.mapworld.specs.Core.{state_of, Room, IsBefore};
+ghost use Rattle.mapworld.specs.Moves.{request_key};
+ghost use Rattle.mapworld.specs.Steps.{slot_in, has_room, Finds, GrowsList, IsRefusedGrowth};
+
+use crate::blocks::{Started, list_block};
+use crate::moves::{block_behind, enter, found_done, found_phase, found_slot, request_key};
+use crate::place::{Phase, Request};
+use crate::step::Step;
+use crate::table::slot_of;
+use crate::world_core::Core;
+use mapworld_calls::{Answer, Deed};
+use std::alloc::Allocator;
+use std::hash::{BuildHasher, Hash};
+use std::mem;
+
+/// Where the pair of the call's key stands in the table.
+fn slot_for<K: Eq, V, A: Allocator>(table: &Vec<(K, V), A>, request: &Request<K, V>) -> Option<usize>
+    ensures { result ≡ slot_in K.eq table.now (request_key request.now) }
+{
+    slot_of(table, request_key(request))
+}
+
+/// Whether the table has room for one more pair.
+fn has_room<K, V, A: Allocator>(table: &Vec<(K, V), A>) -> bool
+    ensures { result ≡ has_room table.now }
+{
+    table.len() < table.capacity()
+}
+
+/// The look into the held shard.
+pub(crate) fn find<
+    K: Eq + Hash + Drop,
+    V: Drop,
+    S: BuildHasher,
+    D: Deed<K, V> + Drop,
+    A: Allocator,
+>(core: &mut Core<K, V, S, D, D::Answer, A>, step: Step)
+    requires sound { Sound (setup_of D.Deed S.BuildHasher S.Hasher.Hasher K.eq K.hash_input (state_of core.old)) (state_of core.old) }
+    requires room { Room core.old }
+    requires numbers { has_numbers (state_of core.old) ≡ true }
+    requires before { (request : _) × IsBefore core.old.places.items step.thread (phase.Find request) }
+    ensures step { Finds (setup_of D.Deed S.BuildHasher S.Hasher.Hasher K.eq K.hash_input (state_of core.old)) (state_of core.old) step (state_of core.new) }
+    ensures room { Room core.new }
+{
+    let number = core.count + 1;
+    let index = core.blocks.len();
+    let place = &mut core.places[step.thread];
+    let Some(start) = place.started else {
+        unreachable!()
+    };
+    let Phase::Find(request) = mem::replace(&mut place.phase, Phase::Rest) else {
+        unreachable!()
+    };
+    let table = &core.tables[place.shard];
+    let room = has_room(table);
+    let slot = slot_for(table, &request);
+    let done = found_done(&request, slot, room);
+    let started = Started {
+        thread: step.thread,
+        call: place.next,
+        start,
+    };
+    place.block = block_behind(done, index, place.block);
+    place.slot = found_slot(&request, slot);
+    enter(&mut place.phase, found_phase(request, slot, room));
+    list_block(&mut core.blocks, done, started, number);
+    core.count = number;
+    core.steps = core.steps.and(&step);
+}
+
+/// The growth of the held shard's list, or its refusal.
+pub(crate) fn grow<
+    K: Eq + Hash + Drop,
+    V: Drop,
+    S: BuildHasher,
+    D: Deed<K, V> + Drop,
+    A: Allocator,
+>(core: &mut Core<K, V, S, D, D::Answer, A>, step: Step)
+    requires sound { Sound (setup_of D.Deed S.BuildHasher S.Hasher.Hasher K.eq K.hash_input (state_of core.old)) (state_of core.old) }
+    requires room { Room core.old }
+    requires numbers { has_numbers (state_of core.old) ≡ true }
+    requires before { (key : _) × (value : _) × IsBefore core.old.places.items step.thread (phase.Grow key value) }
+    ensures step { GrowsList (setup_of D.Deed S.BuildHasher S.Hasher.Hasher K.eq K.hash_input (state_of core.old)) (state_of core.old) step (state_of core.new) ⊎ IsRefusedGrowth (setup_of D.Deed S.BuildHasher S.Hasher.Hasher K.eq K.hash_input (state_of core.old)) (state_of core.old) step (state_of core.new) }
+    ensures room { Room core.new }
+{
+    let number = core.count + 1;
+    let index = core.blocks.len();
+    let place = &mut core.places[step.thread];
+    let Some(start) = place.started else {
+        unreachable!()
+    };
+    let Phase::Grow(key, value) = mem::replace(&mut place.phase, Phase::Rest) else {
+        unreachable!()
+    };
+    core.count = number;
+    core.steps = core.steps.and(&step);
+    let table = &mut core.tables[place.shard];
+    let Ok(()) = table.reserve(1) else {
+        enter(&mut place.phase, Phase::Release(Answer::NoMemory));
+        return;
+    };
+    let started = Started {
+        thread: step.thread,
+        call: place.next,
+        start,
+    };
+    list_block(&mut core.blocks, Some(0), started, number);
+    place.block = Some(index);
+    enter(&mut place.phase, Phase::Append(key, value));
+}

@@ -1,0 +1,68 @@
+//! How a world is made.
+ghost use Rattle.std.specs.Prelude.{◌≡◌, ◌≤◌, ◌^◌, length, map, sum_by, IfOk};
+ghost use Rattle.mapworld.specs.Making.{new_refusal, IsNew};
+ghost use Rattle.mapworld.specs.World.{setup_of};
+ghost use Rattle.mapworld.specs.Sound.{Sound};
+ghost use Rattle.mapworld.specs.Core.{state_of, Room};
+
+use crate::fault::NoMemory;
+use crate::beginning::{empty_tables, fill, places_of};
+use crate::world_core::Core;
+use mapworld_calls::{Ask, Deed};
+use past::Past;
+use std::alloc::Allocator;
+use std::hash::{BuildHasher, Hash};
+use std::snapshot::Snapshot;
+
+/// How many calls all programs have.
+fn calls_in<K, V, D, A: Allocator>(programs: &[Vec<Ask<K, V, D>, A>]) -> usize
+    requires { sum_by (λ program. length program.items) programs.now ≤ 2 ^ 20 }
+    ensures { result ≡ sum_by (λ program. length program.items) programs.now }
+{
+    programs.iter().map(|program| program.len()).sum()
+}
+
+/// The parts of a new world.
+pub(crate) fn core_of<
+    K: Eq + Hash + Drop,
+    V: Drop,
+    S: BuildHasher + Drop,
+    D: Deed<K, V> + Drop,
+    A: Allocator + Clone + Drop,
+>(
+    alloc: A,
+    shards: usize,
+    hasher: S,
+    pairs: Vec<(K, V), A>,
+    programs: Vec<Vec<Ask<K, V, D>, A>, A>,
+) -> Result<Core<K, V, S, D, D::Answer, A>, NoMemory>
+    requires { new_refusal shards (length pairs.items) (map (λ program. program.items) programs.items) ≡ None }
+    ensures new { IfOk result (λ core. IsNew K.eq shards hasher pairs.items (map (λ program. program.items) programs.items) (state_of core)) }
+    ensures sound { IfOk result (λ core. Sound (setup_of D.Deed S.BuildHasher S.Hasher.Hasher K.eq K.hash_input (state_of core)) (state_of core)) }
+    ensures room { IfOk result Room }
+{
+    let opening = Snapshot::of(&pairs);
+    let kept = Snapshot::of(&programs);
+    let calls = calls_in(&programs);
+    let holds = Vec::with_capacity(alloc.clone()?, programs.len())?;
+    let places = places_of(alloc.clone()?, programs)?;
+    let blocks = Vec::with_capacity(alloc.clone()?, calls)?;
+    let replies = Vec::with_capacity(alloc.clone()?, calls)?;
+    let mut tables = empty_tables(alloc, shards)?;
+    let count = fill(&mut tables, &hasher, pairs)?;
+    Ok(Core {
+        hasher,
+        opening,
+        programs: kept,
+        steps: Past::new(),
+        count: 0,
+        guards: 0,
+        pairs: count,
+        unanswered: calls as u64,
+        places,
+        tables,
+        holds,
+        blocks,
+        replies,
+    })
+}

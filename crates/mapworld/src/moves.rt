@@ -1,0 +1,163 @@
+//! Where each kind of step leads a thread.
+ghost use Rattle.std.specs.Prelude.{◌≡◌, is_some, if◌then◌else◌};
+ghost use Rattle.mapworld.specs.Route.{IsShardAmount, key_route};
+ghost use Rattle.mapworld.specs.Moves.{request_key, mode_of, is_last, start_phase, start_shard, start_counts, found_phase, found_done, found_slot, block_behind};
+
+use crate::holds::Mode;
+use crate::place::{Phase, Request};
+use crate::route::shard_of;
+use mapworld_calls::{Answer, Ask, Begin, Held, Keyed};
+use std::hash::{BuildHasher, Hash};
+
+/// The key of a call on one key.
+pub(crate) fn request_key<K, V>(request: &Request<K, V>) -> &K
+    ensures { result.now ≡ request_key request.now }
+{
+    match request {
+        Request::Keyed(Keyed::Insert(key, _)) => key,
+        Request::Keyed(Keyed::Remove(key)) => key,
+        Request::Begin(Begin::Get(key)) => key,
+    }
+}
+
+/// How a call on one key holds its shard.
+pub(crate) fn mode_of<K, V>(request: &Request<K, V>) -> Mode
+    ensures { result ≡ mode_of request.now }
+{
+    match request {
+        Request::Keyed(_) => Mode::Exclusive,
+        Request::Begin(_) => Mode::Shared,
+    }
+}
+
+/// Whether a call is the last one of its block, if it has one.
+pub(crate) fn is_last<K, V, D>(ask: &Ask<K, V, D>) -> bool
+    ensures { result ≡ is_last ask.now }
+{
+    match ask {
+        Ask::Keyed(_) => true,
+        Ask::Begin(_) => false,
+        Ask::Held(Held::Read(_)) => false,
+        Ask::Held(Held::Drop) => true,
+    }
+}
+
+/// The phase behind a call's start.
+pub(crate) fn start_phase<K: Drop, V: Drop, D: Drop, T>(
+    ask: Ask<K, V, D>,
+    slot: Option<usize>,
+) -> Phase<K, V, D, T>
+    ensures { result ≡ start_phase ask slot }
+{
+    match (ask, slot) {
+        (Ask::Keyed(keyed), _) => Phase::Admit(Request::Keyed(keyed)),
+        (Ask::Begin(begin), _) => Phase::Admit(Request::Begin(begin)),
+        (Ask::Held(Held::Read(deed)), Some(_)) => Phase::Read(deed),
+        (Ask::Held(Held::Drop), Some(_)) => Phase::Release(Answer::Done),
+        (Ask::Held(_), None) => Phase::Answer(Answer::NoGuard),
+    }
+}
+
+/// The shard of a call that starts.
+pub(crate) fn start_shard<K: Eq + Hash, V, D, S: BuildHasher>(
+    hasher: &S,
+    shards: usize,
+    ask: &Ask<K, V, D>,
+    shard: usize,
+) -> usize
+    requires { IsShardAmount shards }
+    ensures { result ≡ start_shard (key_route S.BuildHasher S.Hasher.Hasher K.hash_input hasher.now shards) ask.now shard }
+{
+    match ask {
+        Ask::Keyed(Keyed::Insert(key, _)) => shard_of(hasher, shards, key),
+        Ask::Keyed(Keyed::Remove(key)) => shard_of(hasher, shards, key),
+        Ask::Begin(Begin::Get(key)) => shard_of(hasher, shards, key),
+        Ask::Held(_) => shard,
+    }
+}
+
+/// The block that a start counts its call in.
+pub(crate) fn start_counts<K, V, D>(
+    ask: &Ask<K, V, D>,
+    slot: Option<usize>,
+    block: Option<usize>,
+) -> Option<usize>
+    ensures { result ≡ start_counts ask.now slot block }
+{
+    match (ask, slot) {
+        (Ask::Held(_), None) => block,
+        _ => None,
+    }
+}
+
+/// The phase behind a find.
+pub(crate) fn found_phase<K: Drop, V: Drop, D, T>(
+    request: Request<K, V>,
+    slot: Option<usize>,
+    room: bool,
+) -> Phase<K, V, D, T>
+    ensures { result ≡ found_phase request slot room }
+{
+    match (request, slot) {
+        (Request::Keyed(Keyed::Insert(_, value)), Some(slot)) => Phase::Replace(slot, value),
+        (Request::Keyed(Keyed::Insert(key, value)), None) => {
+            if room {
+                Phase::Append(key, value)
+            } else {
+                Phase::Grow(key, value)
+            }
+        }
+        (Request::Keyed(Keyed::Remove(_)), Some(slot)) => Phase::Take(slot),
+        (Request::Begin(_), Some(_)) => Phase::Answer(Answer::Held),
+        (_, None) => Phase::Release(Answer::None),
+    }
+}
+
+/// How many of its calls the block that a find lists has done, if it lists one.
+pub(crate) fn found_done<K, V>(
+    request: &Request<K, V>,
+    slot: Option<usize>,
+    room: bool,
+) -> Option<usize>
+    ensures { result ≡ found_done request.now slot room }
+{
+    match (request, slot) {
+        (Request::Keyed(Keyed::Insert(_, _)), None) => { if room { Some(0) } else { None } }
+        (Request::Keyed(_), Some(_)) => Some(0),
+        _ => Some(1),
+    }
+}
+
+/// The guard that a find gives.
+pub(crate) fn found_slot<K, V>(request: &Request<K, V>, slot: Option<usize>) -> Option<usize>
+    ensures { result ≡ found_slot request.now slot }
+{
+    match request {
+        Request::Keyed(_) => None,
+        Request::Begin(_) => slot,
+    }
+}
+
+/// The block of a thread behind a step that may have listed one.
+pub(crate) fn block_behind(done: Option<usize>, next: usize, block: Option<usize>) -> Option<usize>
+    ensures { result ≡ block_behind done next block }
+{
+    if done.is_some() { Some(next) } else { block }
+}
+
+/// The block that a release counts its call in: that of the guard that ends.
+pub(crate) fn release_counts(slot: Option<usize>, block: Option<usize>) -> Option<usize>
+    ensures { result ≡ (if is_some slot then block else None) }
+{
+    if slot.is_some() { block } else { None }
+}
+
+/// Puts a phase in the place of the one before.
+pub(crate) fn enter<K: Drop, V: Drop, D: Drop, T: Drop>(
+    phase: &mut Phase<K, V, D, T>,
+    next: Phase<K, V, D, T>,
+)
+    ensures { phase.new ≡ next }
+{
+    *phase = next;
+}

@@ -1,0 +1,88 @@
+//! The steps that lead a thread to its shard.
+ghost use Rattle.std.specs.Prelude.{◌≡◌, ◌<◌, true, false, length, slice_get};
+ghost use Rattle.mapworld.specs.declared.place.Phase.TheVariants as phase;
+ghost use Rattle.mapworld.specs.Sound.{Sound};
+ghost use Rattle.mapworld.specs.Running.{has_numbers};
+ghost use Rattle.mapworld.specs.World.{setup_of};
+ghost use Rattle.mapworld.specs.Core.{state_of, Room, IsBefore};
+ghost use Rattle.mapworld.specs.Holds.{is_excluded};
+ghost use Rattle.mapworld.specs.Moves.{mode_of};
+ghost use Rattle.mapworld.specs.Steps.{Starts, Admits};
+
+use crate::blocks::count_in;
+use crate::holds::{Held, Hold};
+use crate::moves::{enter, is_last, mode_of, start_counts, start_phase, start_shard};
+use crate::place::Phase;
+use crate::step::Step;
+use crate::world_core::Core;
+use mapworld_calls::Deed;
+use std::alloc::Allocator;
+use std::hash::{BuildHasher, Hash};
+use std::mem;
+
+/// The start of a call.
+pub(crate) fn start<
+    K: Eq + Hash + Drop,
+    V: Drop,
+    S: BuildHasher,
+    D: Deed<K, V> + Drop,
+    A: Allocator,
+>(core: &mut Core<K, V, S, D, D::Answer, A>, step: Step)
+    requires sound { Sound (setup_of D.Deed S.BuildHasher S.Hasher.Hasher K.eq K.hash_input (state_of core.old)) (state_of core.old) }
+    requires room { Room core.old }
+    requires numbers { has_numbers (state_of core.old) ≡ true }
+    requires before { IsBefore core.old.places.items step.thread phase.Rest }
+    requires left { (p : _) → slice_get core.old.places.items step.thread ≡ Some p → 0 < length p.asks.items }
+    ensures step { Starts (setup_of D.Deed S.BuildHasher S.Hasher.Hasher K.eq K.hash_input (state_of core.old)) (state_of core.old) step (state_of core.new) }
+    ensures room { Room core.new }
+{
+    let number = core.count + 1;
+    let shards = core.tables.len();
+    let place = &mut core.places[step.thread];
+    let Some(ask) = place.asks.pop_front() else {
+        unreachable!()
+    };
+    let counts = start_counts(&ask, place.slot, place.block);
+    place.started = Some(number);
+    place.closes = is_last(&ask);
+    place.shard = start_shard(&core.hasher, shards, &ask, place.shard);
+    enter(&mut place.phase, start_phase(ask, place.slot));
+    count_in(&mut core.blocks, counts, place.next);
+    core.count = number;
+    core.steps = core.steps.and(&step);
+}
+
+/// The admission to a shard.
+pub(crate) fn admit<
+    K: Eq + Hash + Drop,
+    V: Drop,
+    S: BuildHasher,
+    D: Deed<K, V> + Drop,
+    A: Allocator,
+>(core: &mut Core<K, V, S, D, D::Answer, A>, step: Step)
+    requires sound { Sound (setup_of D.Deed S.BuildHasher S.Hasher.Hasher K.eq K.hash_input (state_of core.old)) (state_of core.old) }
+    requires room { Room core.old }
+    requires numbers { has_numbers (state_of core.old) ≡ true }
+    requires before { (request : _) × (b : IsBefore core.old.places.items step.thread (phase.Admit request)) × (is_excluded core.old.holds.items b.place.shard (mode_of request) ≡ false) }
+    ensures step { Admits (setup_of D.Deed S.BuildHasher S.Hasher.Hasher K.eq K.hash_input (state_of core.old)) (state_of core.old) step (state_of core.new) }
+    ensures room { Room core.new }
+{
+    let place = &mut core.places[step.thread];
+    let Phase::Admit(request) = mem::replace(&mut place.phase, Phase::Rest) else {
+        unreachable!()
+    };
+    let hold = Hold {
+        shard: place.shard,
+        guard: core.guards,
+        mode: mode_of(&request),
+    };
+    place.hold = Some(hold);
+    enter(&mut place.phase, Phase::Find(request));
+    core.holds.push_reserved(Held {
+        hold,
+        party: step.thread,
+    });
+    core.guards += 1;
+    core.count += 1;
+    core.steps = core.steps.and(&step);
+}

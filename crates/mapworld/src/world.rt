@@ -1,0 +1,282 @@
+//! The world of maps: how it is made, run and looked at.
+ghost use Rattle.std.specs.Prelude.{◌≡◌, ◌<◌, ◌↔◌, IfOk, IfErr, MatchResult, length, map, take, slice_get};
+ghost use Rattle.std.specs.Option.{option_map};
+ghost use Rattle.mapworld_calls.specs.Pairs.{pair_of};
+ghost use Rattle.mapworld.specs.State.{pairs_of, started_of, threads_of};
+ghost use Rattle.mapworld.specs.Running.{status_of, is_running, bound_of, refusal, Ran, steps_done};
+ghost use Rattle.mapworld.specs.Asleep.{IsAsleep};
+ghost use Rattle.mapworld.specs.Views.{shown};
+ghost use Rattle.mapworld.specs.Making.{new_refusal, IsMadeUnless, IsNew, StaysFixed};
+ghost use Rattle.mapworld.specs.Faults.{run_fault_done};
+ghost use Rattle.mapworld.specs.Steps.{IsStep};
+ghost use Rattle.mapworld.specs.World.{setup_of};
+ghost use Rattle.mapworld.specs.Sound.{Sound, HoldsMatch};
+ghost use Rattle.mapworld_calls.specs.Agrees.{Agrees};
+ghost use Rattle.mapworld_calls.specs.Placed.{WellPlaced, OnlyAdds};
+
+use crate::fault::{NoMemory, RunFault, WorldNewFault};
+use crate::step::{Status, Step};
+use crate::world_core::Core;
+use crate::{advance, contents, counts, limits, making, route, status};
+use mapworld_calls::{Ask, Block, Deed, Reply};
+use std::alloc::{Allocator, Global};
+use std::hash::{BuildHasher, Hash};
+use std::marker::Model;
+
+/// A world: some threads, each with a finite program of map calls, and the one map that serves them all.
+///
+/// It is deterministic. Nothing in it moves by itself: [`run`](MapWorld::run) is told which thread makes each step, and
+/// the same world with the same steps ends the same. A step is small, as the start of a call, the admission to a shard,
+/// a look for a key, one change of a pair, a release or an answer, and it is done whole; so every order in which the
+/// steps of real threads may fall can be written as a list of steps, and looked at.
+///
+/// Contracts see a world as a `State`: what it was made with, the steps so far, where each thread stands, the pairs of
+/// each shard, the holds, and the blocks and replies so far. `run` says of it that its replies and its contents are those
+/// of one plain map that takes the blocks in their order.
+///
+/// `K` is a key, `V` a value, `S` makes the hasher that picks a key's shard, and `D` is what a program does with a pair
+/// that it is lent. The world keeps the allocator that it was made with, and takes all that it needs for its threads,
+/// their blocks and their replies when it is made. After that only a shard's list of pairs may grow; where memory is short
+/// then, the call is answered `NoMemory`, and nothing else is changed.
+///
+/// ```text
+/// let mut world = MapWorld::new(alloc, 2, SpreadState, pairs, programs)?;
+/// world.run(&[Step { thread: 0, fair: false }, Step { thread: 1, fair: false }])?;
+/// for reply in world.replies() { .. }
+/// ```
+#[derive(Drop)]
+pub struct MapWorld<K: Eq + Hash, V, S: BuildHasher, D: Deed<K, V>, A: Allocator = Global> {
+    core: Core<K, V, S, D, D::Answer, A>,
+}
+
+impl<K: Eq + Hash, V, S: BuildHasher, D: Deed<K, V>, A: Allocator> Model
+    for MapWorld<K, V, S, D, A> {
+    ghost use Rattle.mapworld.specs.State.{State};
+
+    ghost Value = { State K V S D D.Answer A };
+
+    ghost use Rattle.mapworld.specs.Core.{state_of, Room};
+    ghost use Rattle.mapworld.specs.Sound.{Sound};
+    ghost use Rattle.mapworld.specs.World.{setup_of};
+
+    ghost view = { λ w. state_of w.core };
+
+    ghost invariant = { λ w. Sound (setup_of D.Deed S.BuildHasher S.Hasher.Hasher K.eq K.hash_input (state_of w.core)) (state_of w.core) × Room w.core };
+}
+
+impl<K: Eq + Hash, V, S: BuildHasher, D: Deed<K, V>, A: Allocator> MapWorld<K, V, S, D, A> {
+    /// The answers so far, in the order in which they were given. It takes no memory and cannot fail.
+    pub fn replies(&self) -> &[Reply<K, V, D::Answer>]
+        ensures { result.now ≡ self.now.replies }
+    {
+        &self.core.replies
+    }
+
+    /// The blocks so far, in the order of their positions: the keyed calls, and the sessions of guards, each of which the
+    /// map takes whole. It takes no memory and cannot fail.
+    pub fn blocks(&self) -> &[Block<K>]
+        ensures { result.now ≡ self.now.blocks }
+    {
+        &self.core.blocks
+    }
+
+    /// The key's pair as the map has it now, calls half done included; `None` where it has none. It takes no memory and
+    /// cannot fail.
+    pub fn pair(&self, key: &K) -> Option<(&K, &V)>
+        ensures { option_map shown result ≡ pair_of K.eq (pairs_of self.now) key.now }
+    {
+        let shard = route::shard_of(&self.core.hasher, self.core.tables.len(), key);
+        contents::pair_in(&self.core.tables[shard], key)
+    }
+
+    /// Where a thread stands: `Finished` where all its calls are answered, `Asleep` where it is before an admission that
+    /// another thread's hold excludes, and otherwise `Running`. A thread that is asleep is `Running` again once no such
+    /// hold is left. It takes no memory and cannot fail.
+    ///
+    /// Callers show that the world has the thread: threads are numbered from 0, one for each program.
+    pub fn status(&self, thread: usize) -> Status
+        requires { thread < length self.now.programs }
+        ensures value { result ≡ status_of self.now thread }
+        ensures asleep { (result ≡ Status.Asleep) ↔ IsAsleep self.now thread }
+    {
+        status::status(&self.core, thread)
+    }
+
+    /// The step at which a thread's call started, while it is in one; `None` between two calls. Steps are numbered from 1
+    /// over the life of the world. It takes no memory and cannot fail.
+    ///
+    /// Callers show that the world has the thread.
+    pub fn started(&self, thread: usize) -> Option<u64>
+        requires { thread < length self.now.programs }
+        ensures { result ≡ started_of self.now thread }
+    {
+        self.core.places[thread].started
+    }
+
+    /// Whether a step of the thread would be done: it is `Running`. A thread that the world doesn't have can't move.
+    ///
+    /// It doesn't say that step numbers are left for it, which [`run`](MapWorld::run) tests too.
+    pub fn can_move(&self, thread: usize) -> bool
+        ensures { result ≡ is_running (status_of self.now thread) }
+    {
+        if thread >= self.core.places.len() {
+            return false;
+        }
+        matches!(status::status(&self.core, thread), Status::Running)
+    }
+
+    /// How many steps are to be enough from here, by the world's size alone: its threads, shards and pairs, and the calls
+    /// that aren't answered. It takes no memory and cannot fail.
+    pub fn bound(&self) -> u64
+        ensures { result ≡ bound_of self.now }
+    {
+        counts::bound(&self.core)
+    }
+}
+
+impl<K, V, S, D, A> MapWorld<K, V, S, D, A>
+where
+    K: Eq + Hash,
+    S: BuildHasher,
+    D: Deed<K, V>,
+    A: Allocator + Clone + Drop,
+{
+    /// All pairs of the map as it is now, calls half done included. Their order may be any.
+    ///
+    /// The list is on an allocator like the world's own, and has room for one reference to each key and value. Where
+    /// memory is short it answers [`NoMemory`].
+    pub fn contents(&self) -> Result<Vec<(&K, &V), A>, NoMemory>
+        ensures { IfOk result (λ pairs. map shown pairs.items ≡ pairs_of self.now) }
+    {
+        contents::pairs_in(&self.core.tables, self.core.tables.allocator().clone()?)
+    }
+}
+
+impl<K, V, S, D, A> MapWorld<K, V, S, D, A>
+where
+    K: Eq + Hash + Drop,
+    V: Drop,
+    S: BuildHasher + Drop,
+    D: Deed<K, V> + Drop,
+    A: Allocator + Clone + Drop,
+{
+    /// A world of so many shards that begins with these pairs, and has a thread for each program.
+    ///
+    /// Of opening pairs with equal keys the first key and the last value stay. No thread has started.
+    ///
+    /// # Errors
+    ///
+    /// The tests are made in this order, and the first that fails is answered:
+    ///
+    /// - `BadShards`: the amount of shards isn't a power of two from 2 to 4,096;
+    /// - `TooManyThreads`: there is no program, or more than 256;
+    /// - `TooManyCalls`: the programs have more than 2^20 calls in all;
+    /// - `TooManyPairs`: there are more than 2^31 opening pairs;
+    /// - `AsksWhileHolding`: a program doesn't pass `holds_one_guard`;
+    /// - `NoGuardNumbers`: the programs take 2^32 guards or more;
+    /// - `NoMemory`: memory ran out. All that the world's threads, blocks and replies will ever need is taken here.
+    ///
+    /// What was passed in is let go with the error.
+    pub fn new(
+        alloc: A,
+        shards: usize,
+        hasher: S,
+        pairs: Vec<(K, V), A>,
+        programs: Vec<Vec<Ask<K, V, D>, A>, A>,
+    ) -> Result<MapWorld<K, V, S, D, A>, WorldNewFault>
+        ensures refused { IsMadeUnless (new_refusal shards (length pairs.items) (map (λ program. program.items) programs.items)) result }
+        ensures made { IfOk result (λ world. IsNew K.eq shards hasher pairs.items (map (λ program. program.items) programs.items) world) }
+    {
+        if let Some(fault) = limits::refusal(shards, pairs.len(), &programs) {
+            return Err(fault);
+        }
+        match making::core_of(alloc, shards, hasher, pairs, programs) {
+            Ok(core) => Ok(MapWorld { core }),
+            Err(_) => Err(WorldNewFault::NoMemory),
+        }
+    }
+}
+
+impl<K, V, S, D, A> MapWorld<K, V, S, D, A>
+where
+    K: Eq + Hash + Drop,
+    V: Drop,
+    S: BuildHasher,
+    D: Deed<K, V> + Drop,
+    A: Allocator,
+{
+    /// Makes a step, or says why not, where so many steps of the run are done.
+    fn make_step(&mut self, step: Step, done: u64) -> Result<(), RunFault>
+        ensures sound { Sound (setup_of D.Deed S.BuildHasher S.Hasher.Hasher K.eq K.hash_input self.old) self.old }
+        ensures made { MatchResult result
+            (λ _. (refusal self.old done step ≡ None) × IsStep (setup_of D.Deed S.BuildHasher S.Hasher.Hasher K.eq K.hash_input self.old) self.old step self.new)
+            (λ fault. (self.new ≡ self.old) × (refusal self.old done step ≡ Some fault)) }
+    {
+        if step.thread >= self.core.places.len() {
+            return Err(RunFault::NoSuchThread(done));
+        }
+        if !matches!(status::status(&self.core, step.thread), Status::Running) {
+            return Err(RunFault::CannotMove(done));
+        }
+        if !counts::fits(&self.core) {
+            return Err(RunFault::StepsShort(done));
+        }
+        advance::advance(&mut self.core, step);
+        Ok(())
+    }
+
+    /// Makes the steps, one after another, up to the first that is refused.
+    fn make_steps(&mut self, steps: &[Step]) -> Result<(), RunFault>
+        ensures ran { Ran (setup_of D.Deed S.BuildHasher S.Hasher.Hasher K.eq K.hash_input self.old) 0 self.old (take (steps_done result (length steps.now)) steps.now) self.new }
+        ensures refused { IfErr result (λ fault. (step : _) × (slice_get steps.now (run_fault_done fault) ≡ Some step) × (refusal self.new (run_fault_done fault) step ≡ Some fault)) }
+        ensures adds { OnlyAdds (threads_of self.old) (threads_of self.new) self.old.blocks self.new.blocks self.old.replies self.new.replies }
+        ensures fixed { StaysFixed self.old self.new }
+    {
+        let mut done = 0;
+        for step in steps {
+            self.make_step(*step, done)?;
+            done += 1;
+        }
+        Ok(())
+    }
+
+    /// Makes the steps, one after another, up to the first that is refused.
+    ///
+    /// Behind it, also behind an error, the replies and the contents are those of one plain map that takes the blocks in
+    /// their order; each block stands at a step of its own thread between the start of its call and the answer; what was
+    /// listed and answered before is still there; and no two holds of a shard are at one time, unless both share it.
+    ///
+    /// # Errors
+    ///
+    /// The steps before the refused one are done, and the fault has their number. The refused one changes nothing, and
+    /// the steps behind it aren't tried. The world goes on from there with the next `run`. The tests of a step are made in
+    /// this order:
+    ///
+    /// - `NoSuchThread`: the world doesn't have the thread;
+    /// - `CannotMove`: the thread is asleep or finished;
+    /// - `StepsShort`: no step numbers are left for the step and all that must come after it.
+    ///
+    /// It takes memory only where a shard's list of pairs grows. Where that is refused it is no error of `run`: the call
+    /// is answered `NoMemory`.
+    ///
+    /// ```text
+    /// match world.run(&steps) {
+    ///     Ok(()) => {}
+    ///     Err(RunFault::CannotMove(done)) => { /* steps[done] is of a thread that sleeps, or has finished */ }
+    ///     Err(fault) => return Err(fault),
+    /// }
+    /// ```
+    pub fn run(&mut self, steps: &[Step]) -> Result<(), RunFault>
+        ensures ran { Ran (setup_of D.Deed S.BuildHasher S.Hasher.Hasher K.eq K.hash_input self.old) 0 self.old (take (steps_done result (length steps.now)) steps.now) self.new }
+        ensures refused { IfErr result (λ fault. (step : _) × (slice_get steps.now (run_fault_done fault) ≡ Some step) × (refusal self.new (run_fault_done fault) step ≡ Some fault)) }
+        ensures agrees { Agrees (setup_of D.Deed S.BuildHasher S.Hasher.Hasher K.eq K.hash_input self.new) self.new.blocks (pairs_of self.new) self.new.replies }
+        ensures placed { WellPlaced (setup_of D.Deed S.BuildHasher S.Hasher.Hasher K.eq K.hash_input self.new) (threads_of self.new) (started_of self.new) self.new.blocks self.new.replies }
+        ensures adds { OnlyAdds (threads_of self.old) (threads_of self.new) self.old.blocks self.new.blocks self.old.replies self.new.replies }
+        ensures fixed { StaysFixed self.old self.new }
+        ensures held { HoldsMatch self.new.places self.new.holds }
+    {
+        let result = self.make_steps(steps);
+        let _ = &self.core;
+        result
+    }
+}

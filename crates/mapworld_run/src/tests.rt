@@ -1,0 +1,8 @@
+//! Worlds, row by row, and the report.
+
+mod keys;
+mod limits;
+mod memory;
+mod rows;
+mod text;
+mod worlds;

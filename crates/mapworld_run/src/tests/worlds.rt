@@ -1,0 +1,109 @@
+//! Worlds of numbers for the other tests, and how they are stepped.
+
+use crate::report::ReadValue;
+use mapworld::{Answer, Ask, Begin, Deed, Held, Keyed, MapWorld, RunFault, SpreadState, Step, WorldNewFault};
+use std::alloc::{Allocator, Global};
+use std::hash::{BuildHasher, Hash};
+use std::test::Fail;
+
+pub type Asked = Ask<u64, u64, ReadValue>;
+
+pub type Answered = Answer<u64, u64, u64>;
+
+pub type World<A> = MapWorld<u64, u64, SpreadState, ReadValue, A>;
+
+pub fn insert(key: u64, value: u64) -> Asked {
+    Ask::Keyed(Keyed::Insert(key, value))
+}
+
+pub fn remove(key: u64) -> Asked {
+    Ask::Keyed(Keyed::Remove(key))
+}
+
+pub fn get(key: u64) -> Asked {
+    Ask::Begin(Begin::Get(key))
+}
+
+pub fn read() -> Asked {
+    Ask::Held(Held::Read(ReadValue))
+}
+
+pub fn drop_guard() -> Asked {
+    Ask::Held(Held::Drop)
+}
+
+/// A world of two shards.
+pub fn world(
+    alloc: Global,
+    pairs: Vec<(u64, u64)>,
+    programs: Vec<Vec<Asked>>,
+) -> Result<World<Global>, WorldNewFault> {
+    MapWorld::new(alloc, 2, SpreadState, pairs, programs)
+}
+
+pub fn step(thread: usize) -> Step {
+    Step {
+        thread,
+        fair: false,
+    }
+}
+
+/// Makes as many steps of the thread.
+pub fn step_times<K: Eq + Hash + Drop, V: Drop, S: BuildHasher, D: Deed<K, V> + Drop, A: Allocator>(
+    world: &mut MapWorld<K, V, S, D, A>,
+    thread: usize,
+    times: usize,
+) -> Result<(), RunFault> {
+    for _ in 0..times {
+        world.run(&[step(thread)])?;
+    }
+    Ok(())
+}
+
+/// Steps the thread while it can move.
+pub fn step_through<K: Eq + Hash + Drop, V: Drop, S: BuildHasher, D: Deed<K, V> + Drop, A: Allocator>(
+    world: &mut MapWorld<K, V, S, D, A>,
+    thread: usize,
+) -> Result<(), RunFault> {
+    for _ in 0..world.bound() {
+        if !world.can_move(thread) {
+            break;
+        }
+        world.run(&[step(thread)])?;
+    }
+    Ok(())
+}
+
+/// Steps the threads below that number in turn, each once if it can move, until none can.
+pub fn step_round<K: Eq + Hash + Drop, V: Drop, S: BuildHasher, D: Deed<K, V> + Drop, A: Allocator>(
+    world: &mut MapWorld<K, V, S, D, A>,
+    threads: usize,
+) -> Result<(), RunFault> {
+    for _ in 0..world.bound() {
+        let mut moved = false;
+        for thread in 0..threads {
+            if world.can_move(thread) {
+                world.run(&[step(thread)])?;
+                moved = true;
+            }
+        }
+        if !moved {
+            break;
+        }
+    }
+    Ok(())
+}
+
+/// Whether the thread's call was answered so.
+pub fn told<A: Allocator>(world: &World<A>, thread: usize, call: usize, want: &Answered) -> bool {
+    world
+        .replies()
+        .iter()
+        .any(|reply| reply.thread == thread && reply.call == call && reply.answer == *want)
+}
+
+/// Whether the contents are these pairs and no others.
+pub fn has_pairs<A: Allocator + Clone + Drop>(world: &World<A>, want: &[(u64, u64)]) -> Result<bool, Fail> {
+    let count = world.contents()?.len();
+    Ok(count == want.len() && want.iter().all(|pair| world.pair(&pair.0) == Some((&pair.0, &pair.1))))
+}
