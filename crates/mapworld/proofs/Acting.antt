@@ -74,12 +74,12 @@ module _ {K V S D T A : Type 0} (x : Setup K V D T) (laws : Laws x) (w : State K
 
   grows : Grows x w.blocks d.index b c
   grows = record {
-      listed = listed;
-      thread = counts.thread;
-      call = counts.call;
-      done = let e = done-is in omega arith;
-      settled = inr (subst (λ (z : Block K). IsLastOnShard x w.blocks d.index z) its d.last);
-    }
+    listed = listed;
+    thread = counts.thread;
+    call = counts.call;
+    done = let e = done-is in omega arith;
+    settled = inr (subst (λ (z : Block K). IsLastOnShard x w.blocks d.index z) its d.last);
+  }
 
   last : IsLastOnShard x w.blocks d.index b
   last = subst (λ (z : Block K). IsLastOnShard x w.blocks d.index z) its d.last
@@ -118,15 +118,15 @@ module _ {K V S D T A : Type 0} (x : Setup K V D T) (laws : Laws x) (w : State K
 
   told-done : IsToldBy x (slice_set w.blocks d.index c) s.thread p.next 0 (keyed_answer k o)
   told-done = record {
-      place = d.index;
-      block = c;
-      listed = slice_get-set_same w.blocks d.index b c listed;
-      thread = counts.thread ∙ thread-is;
-      call = counts.call ∙ call-is;
-      done = let m = more-is in omega arith;
-      told = told-one x s.thread p.next (ask.Keyed k) c (found x (slice_set w.blocks d.index c) d.index c) (counts.thread ∙ thread-is) (counts.call ∙ call-is) call.asked
+    place = d.index;
+    block = c;
+    listed = slice_get-set_same w.blocks d.index b c listed;
+    thread = counts.thread ∙ thread-is;
+    call = counts.call ∙ call-is;
+    done = let m = more-is in omega arith;
+    told = told-one x s.thread p.next (ask.Keyed k) c (found x (slice_set w.blocks d.index c) d.index c) (counts.thread ∙ thread-is) (counts.call ∙ call-is) call.asked
         ∙ ap (λ f. Some (keyed_answer k f)) finds-same;
-    }
+  }
 
   -- a changed list agrees with the replay where it has what the call leaves of its key, and what it had of all others
   agrees : (changed : Vec (K × V) A)
@@ -136,20 +136,20 @@ module _ {K V S D T A : Type 0} (x : Setup K V D T) (laws : Laws x) (w : State K
       → TablesAgree x (slice_set w.blocks d.index c) (slice_set w.tables p.shard changed)
   agrees changed pairs distinct routed =
       tables-set x w.blocks (slice_set w.blocks d.index c) w.tables w.tables sound.tables p.shard table changed held routed distinct
-        (λ q here. ⊎_elim
-          (λ h. pairs q ∙ rw h (sym (contents-now q h)))
-          (λ h. pairs q ∙ rw h (sound.tables.contents_are q table (ap (λ n. slice_get w.tables n) here ∙ held) ∙ sym (contents-still q h)))
-          (cases_Bool (x.eq key q)))
-        (λ q ne. ⊎_elim
-          (λ h. absurd (ne (sym (laws.routes key q h) ∙ sym d.shard)))
-          (λ h. contents-still q h)
-          (cases_Bool (x.eq key q)))
+      (λ q here. ⊎_elim
+      (λ h. pairs q ∙ rw h (sym (contents-now q h)))
+      (λ h. pairs q ∙ rw h (sound.tables.contents_are q table (ap (λ n. slice_get w.tables n) here ∙ held) ∙ sym (contents-still q h)))
+      (cases_Bool (x.eq key q)))
+      (λ q ne. ⊎_elim
+      (λ h. absurd (ne (sym (laws.routes key q h) ∙ sym d.shard)))
+      (λ h. contents-still q h)
+      (cases_Bool (x.eq key q)))
 
   done-kept : (st' : ℕ → Option ℕ) (a : Ask K V D) → ask_at x b.thread b.call ≡ Some a → IsDoneWithin x (started_of w) w.replies b a → IsDoneWithin x st' w.replies c a
   done-kept st' (ask.Keyed g) e old = record { once = let m = more-is in omega arith; whole = λ z. more-is }
   done-kept st' (ask.Begin g) e old =
       absurd (let both : ◌≡◌ {A = Option (Ask K V D)} (Some (ask.Keyed k)) (Some (ask.Begin g)) =
-        sym call.asked ∙ (let z : ask_at x s.thread p.next ≡ Some (ask.Begin g) = rw (sym thread-is, sym call-is) e in z) in cc)
+      sym call.asked ∙ (let z : ask_at x s.thread p.next ≡ Some (ask.Begin g) = rw (sym thread-is, sym call-is) e in z) in cc)
   done-kept st' (ask.Held g) e old = old
 
   -- the world behind the deed
@@ -162,37 +162,38 @@ module _ {K V S D T A : Type 0} (x : Setup K V D T) (laws : Laws x) (w : State K
       let closes : block_after p' ≡ None = ap (λ (z : Bool). if z then None else p.block) call.closes in
       let resting : is_resting p.phase ≡ false = ap is_resting before ∙ busy in
       sound-by x w s p p' at sound (slice_set w.blocks d.index c) (slice_set w.tables p.shard changed) w.holds w.replies Anyhow
-        (record {
-          effect = effect-grow x laws w.blocks s.thread d.index b c grows thread-is;
-          count = λ u ne. refl;
-          kept = kept-alone x w s p at sound changed d.alone;
-          foreign = λ u q z f' ne hq dd. tt;
-          shards = length-set w.tables p.shard changed;
-        })
-        (record {
-          program = st.program;
-          has = st.has;
-          asks_left = subst (λ (z : Bool). p.asks.items ≡ drop (if z then p.next else p.next + 1) st.program) resting st.asks_left;
-          within = subst (λ (z : Bool). (if z then p.next else p.next + 1) ≤ length st.program) resting st.within;
-          answered = st.answered;
-          own_block = λ j mine. own-grown w.blocks d.index b c s.thread listed (counts.thread ∙ thread-is) p st.own_block j mine;
-          owns = λ j e here thread. elim (slice_get-set_cases w.blocks d.index j b e c listed here) [
-              inl own ↦ inr (ap (λ z. z.call) own.1 ∙ counts.call ∙ call-is, d.mine ∙ ap (λ z. Some z) (sym own.0), refl)
-            | inr other ↦ elim (st.owns j e other.1 thread) [ inl below ↦ inl below | inr mine ↦ inr (mine.0, mine.1, refl) ]
-            ];
-          claim = (
-            ask.Keyed k, d.alone.hold,
-            IsInCall-push x (threads_of w) s.thread s.thread p' _ (in_call-moved x p p' (threads_of w) s.thread _ refl refl refl call),
-            d.alone.has,
-            subst (IsReleasing x (slice_set w.blocks d.index c) (slice_set w.tables p.shard changed) s.thread p' (ask.Keyed k) (keyed_answer k o)) (sym d.slot)
+      (record {
+        effect = effect-grow x laws w.blocks s.thread d.index b c grows thread-is;
+        count = λ u ne. refl;
+        kept = kept-alone x w s p at sound changed d.alone;
+        foreign = λ u q z f' ne hq dd. tt;
+        shards = length-set w.tables p.shard changed;
+      })
+      (record {
+        program = st.program;
+        has = st.has;
+        asks_left = subst (λ (z : Bool). p.asks.items ≡ drop (if z then p.next else p.next + 1) st.program) resting st.asks_left;
+        within = subst (λ (z : Bool). (if z then p.next else p.next + 1) ≤ length st.program) resting st.within;
+        answered = st.answered;
+        own_block = λ j mine. own-grown w.blocks d.index b c s.thread listed (counts.thread ∙ thread-is) p st.own_block j mine;
+        owns = λ j e here thread. elim (slice_get-set_cases w.blocks d.index j b e c listed here) [
+          | inl own ↦ inr (ap (λ z. z.call) own.1 ∙ counts.call ∙ call-is, d.mine ∙ ap (λ z. Some z) (sym own.0), refl)
+          | inr other ↦ elim (st.owns j e other.1 thread) [ inl below ↦ inl below | inr mine ↦ inr (mine.0, mine.1, refl) ]
+        ];
+        claim = (
+          ask.Keyed k,
+          d.alone.hold,
+          IsInCall-push x (threads_of w) s.thread s.thread p' _ (in_call-moved x p p' (threads_of w) s.thread _ refl refl refl call),
+          d.alone.has,
+          subst (IsReleasing x (slice_set w.blocks d.index c) (slice_set w.tables p.shard changed) s.thread p' (ask.Keyed k) (keyed_answer k o)) (sym d.slot)
               (inl told-done, ready-outside x (slice_set w.blocks d.index c) (slice_set w.tables p.shard changed) s.thread p' (p.next + 1) (block_after p') outside.1 d.slot closes),
-          );
-        })
-        agree
-        (holds-same w.places w.holds sound.holds s.thread p p' at refl)
-        (placed-grown x (threads_of w) s.thread (started_of w) (started_of (stepped w s p')) w.blocks w.replies (started-stays x w s p p' at (λ n h. h)) d.index b c listed
-          (record { thread = counts.thread; call = counts.call; visit = counts.visit; start = counts.start; position = counts.position }) counts.end (done-kept (started_of (stepped w s p'))) sound.placed)
-        (replies-kept x w.blocks (slice_set w.blocks d.index c) w.replies (λ j r hr. keeps-grown x laws w.blocks d.index b c grows r.thread r.call) sound.replies)
+        );
+      })
+      agree
+      (holds-same w.places w.holds sound.holds s.thread p p' at refl)
+      (placed-grown x (threads_of w) s.thread (started_of w) (started_of (stepped w s p')) w.blocks w.replies (started-stays x w s p p' at (λ n h. h)) d.index b c listed
+      (record { thread = counts.thread; call = counts.call; visit = counts.visit; start = counts.start; position = counts.position }) counts.end (done-kept (started_of (stepped w s p'))) sound.placed)
+      (replies-kept x w.blocks (slice_set w.blocks d.index c) w.replies (λ j r hr. keeps-grown x laws w.blocks d.index b c grows r.thread r.call) sound.replies)
 
 module _ {K V S D T A : Type 0} (x : Setup K V D T) (laws : Laws x) (w : State K V S D T A) (s : Step) (w' : State K V S D T A) (sound : Sound x w) where
   eq-found : (table : Vec (K × V) A) (key : K) (pair : K × V) → pair_of x.eq table.items key ≡ Some pair → (q : K) → x.eq pair.0 q ≡ x.eq key q
@@ -212,14 +213,14 @@ module _ {K V S D T A : Type 0} (x : Setup K V D T) (laws : Laws x) (w : State K
       let k : Keyed K V = keyed.Insert a.key a.value in
       let none = pair-found x laws w s sound p a.stands k cl.0 a.key None d a.table a.held n.0 n.1 n.2 n.3 in
       subst (Sound x) (sym (a.after ∙ ap (λ (z : List (Block K)). record (stepped w s (record p { phase = phase.Release answer.None })) { tables = slice_set w.tables p.shard a.changed; blocks = z }) n.4))
-        (sound-deed x laws w s sound p a.stands k cl.0 a.key None d a.table a.held n.0 n.1 n.2 n.3 (phase.Append a.key a.value) a.before refl a.changed
-          (agrees x laws w s sound p a.stands k cl.0 a.key None d a.table a.held n.0 n.1 n.2 n.3 a.changed
-            (λ q. ap (λ z. pair_of x.eq z q) a.pairs ∙ pair_of-push x.eq laws.equivalence a.table.items a.key a.value distinct none q)
-            (subst (λ (z : List (K × V)). AreDistinct x.eq z) (sym a.pairs) (AreDistinct-push x.eq laws.equivalence a.table.items a.key a.value distinct none))
-            (λ j pair h. elim (slice_get-push_cases a.table.items j pair (a.key, a.value) (ap (λ z. slice_get z j) (sym a.pairs) ∙ h)) [
-                inl old ↦ routed-at p a.table a.held j pair old
-              | inr new ↦ ap (λ z. x.route z.0) new.1 ∙ sym d.shard
-              ])))
+      (sound-deed x laws w s sound p a.stands k cl.0 a.key None d a.table a.held n.0 n.1 n.2 n.3 (phase.Append a.key a.value) a.before refl a.changed
+      (agrees x laws w s sound p a.stands k cl.0 a.key None d a.table a.held n.0 n.1 n.2 n.3 a.changed
+      (λ q. ap (λ z. pair_of x.eq z q) a.pairs ∙ pair_of-push x.eq laws.equivalence a.table.items a.key a.value distinct none q)
+      (subst (λ (z : List (K × V)). AreDistinct x.eq z) (sym a.pairs) (AreDistinct-push x.eq laws.equivalence a.table.items a.key a.value distinct none))
+      (λ j pair h. elim (slice_get-push_cases a.table.items j pair (a.key, a.value) (ap (λ z. slice_get z j) (sym a.pairs) ∙ h)) [
+        | inl old ↦ routed-at p a.table a.held j pair old
+        | inr new ↦ ap (λ z. x.route z.0) new.1 ∙ sym d.shard
+      ])))
 
   pub sound-replaces : Replaces x w s w' → Sound x w'
   sound-replaces a =
@@ -236,14 +237,14 @@ module _ {K V S D T A : Type 0} (x : Setup K V D T) (laws : Laws x) (w : State K
       let is = pair-found x laws w s sound p a.stands k cl.2 key (Some cl.1) d a.table a.held n.0 n.1 n.2 n.3 in
       let pairs : a.changed.items ≡ slice_set a.table.items a.slot (cl.1.0, a.value) = a.pairs ∙ ap (λ z. slice_set a.table.items a.slot (z.0, a.value)) pair in
       subst (Sound x) (sym (a.after ∙ (ap (λ (z : List (Block K)). record (stepped w s (record p { phase = phase.Release (answer.Value a.pair.1) })) { tables = slice_set w.tables p.shard a.changed; blocks = z }) n.4
-          ∙ ap (λ (z : K × V). record (stepped w s (record p { phase = phase.Release (answer.Value z.1) })) { tables = slice_set w.tables p.shard a.changed; blocks = slice_set w.blocks d.index n.1 }) pair)))
-        (sound-deed x laws w s sound p a.stands k cl.2 key (Some cl.1) d a.table a.held n.0 n.1 n.2 n.3 (phase.Replace a.slot a.value) a.before refl a.changed
-          (agrees x laws w s sound p a.stands k cl.2 key (Some cl.1) d a.table a.held n.0 n.1 n.2 n.3 a.changed
-            (λ q. ap (λ z. pair_of x.eq z q) pairs ∙ pair_of-set x.eq laws.equivalence a.table.items a.slot cl.1 a.value distinct there q
-              ∙ ap (λ z. if z then Some (cl.1.0, a.value) else pair_of x.eq a.table.items q) (eq-found a.table key cl.1 is q))
-            (subst (λ (z : List (K × V)). AreDistinct x.eq z) (sym pairs) (AreDistinct-set x.eq laws.equivalence a.table.items a.slot cl.1 a.value distinct there))
-            (λ j r h. let o = set-keys x.eq laws.equivalence a.table.items a.slot cl.1 a.value there j r (ap (λ z. slice_get z j) (sym pairs) ∙ h) in
-              ap x.route o.2 ∙ routed-at p a.table a.held j o.0 o.1)))
+      ∙ ap (λ (z : K × V). record (stepped w s (record p { phase = phase.Release (answer.Value z.1) })) { tables = slice_set w.tables p.shard a.changed; blocks = slice_set w.blocks d.index n.1 }) pair)))
+      (sound-deed x laws w s sound p a.stands k cl.2 key (Some cl.1) d a.table a.held n.0 n.1 n.2 n.3 (phase.Replace a.slot a.value) a.before refl a.changed
+      (agrees x laws w s sound p a.stands k cl.2 key (Some cl.1) d a.table a.held n.0 n.1 n.2 n.3 a.changed
+      (λ q. ap (λ z. pair_of x.eq z q) pairs ∙ pair_of-set x.eq laws.equivalence a.table.items a.slot cl.1 a.value distinct there q
+      ∙ ap (λ z. if z then Some (cl.1.0, a.value) else pair_of x.eq a.table.items q) (eq-found a.table key cl.1 is q))
+      (subst (λ (z : List (K × V)). AreDistinct x.eq z) (sym pairs) (AreDistinct-set x.eq laws.equivalence a.table.items a.slot cl.1 a.value distinct there))
+      (λ j r h. let o = set-keys x.eq laws.equivalence a.table.items a.slot cl.1 a.value there j r (ap (λ z. slice_get z j) (sym pairs) ∙ h) in
+      ap x.route o.2 ∙ routed-at p a.table a.held j o.0 o.1)))
 
   pub sound-takes : Takes x w s w' → Sound x w'
   sound-takes a =
@@ -259,10 +260,10 @@ module _ {K V S D T A : Type 0} (x : Setup K V D T) (laws : Laws x) (w : State K
       let pair : a.pair ≡ cl.1 = same_Some a.pair cl.1 (sym a.found ∙ there) in
       let is = pair-found x laws w s sound p a.stands k cl.2 key (Some cl.1) d a.table a.held n.0 n.1 n.2 n.3 in
       subst (Sound x) (sym (a.after ∙ (ap (λ (z : List (Block K)). record (stepped w s (record p { phase = phase.Release (answer.Pair a.pair.0 a.pair.1) })) { tables = slice_set w.tables p.shard a.changed; blocks = z }) n.4
-          ∙ ap (λ (z : K × V). record (stepped w s (record p { phase = phase.Release (answer.Pair z.0 z.1) })) { tables = slice_set w.tables p.shard a.changed; blocks = slice_set w.blocks d.index n.1 }) pair)))
-        (sound-deed x laws w s sound p a.stands k cl.2 key (Some cl.1) d a.table a.held n.0 n.1 n.2 n.3 (phase.Take a.slot) a.before refl a.changed
-          (agrees x laws w s sound p a.stands k cl.2 key (Some cl.1) d a.table a.held n.0 n.1 n.2 n.3 a.changed
-            (λ q. ap (λ z. pair_of x.eq z q) a.pairs ∙ pair_of-remove x.eq laws.equivalence a.table.items a.slot cl.1 distinct there q
-              ∙ ap (λ z. if z then None else pair_of x.eq a.table.items q) (eq-found a.table key cl.1 is q))
-            (subst (λ (z : List (K × V)). AreDistinct x.eq z) (sym a.pairs) (AreDistinct-remove x.eq laws.equivalence a.table.items a.slot distinct))
-            (λ j r h. routed-at p a.table a.held (stood_at a.slot j) r (sym (slice_get-remove_is a.table.items a.slot j) ∙ ap (λ z. slice_get z j) (sym a.pairs) ∙ h))))
+      ∙ ap (λ (z : K × V). record (stepped w s (record p { phase = phase.Release (answer.Pair z.0 z.1) })) { tables = slice_set w.tables p.shard a.changed; blocks = slice_set w.blocks d.index n.1 }) pair)))
+      (sound-deed x laws w s sound p a.stands k cl.2 key (Some cl.1) d a.table a.held n.0 n.1 n.2 n.3 (phase.Take a.slot) a.before refl a.changed
+      (agrees x laws w s sound p a.stands k cl.2 key (Some cl.1) d a.table a.held n.0 n.1 n.2 n.3 a.changed
+      (λ q. ap (λ z. pair_of x.eq z q) a.pairs ∙ pair_of-remove x.eq laws.equivalence a.table.items a.slot cl.1 distinct there q
+      ∙ ap (λ z. if z then None else pair_of x.eq a.table.items q) (eq-found a.table key cl.1 is q))
+      (subst (λ (z : List (K × V)). AreDistinct x.eq z) (sym a.pairs) (AreDistinct-remove x.eq laws.equivalence a.table.items a.slot distinct))
+      (λ j r h. routed-at p a.table a.held (stood_at a.slot j) r (sym (slice_get-remove_is a.table.items a.slot j) ∙ ap (λ z. slice_get z j) (sym a.pairs) ∙ h))))

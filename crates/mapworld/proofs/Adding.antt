@@ -37,8 +37,8 @@ module _ {K : Type 0} (bs bs' : List (Block K)) where
   blocks-set : (i : ℕ) (b c : Block K) → slice_get bs i ≡ Some b → StaysListed b c → bs' ≡ slice_set bs i c → BlocksStay bs bs'
   blocks-set i b c listed more same j e at = ⊎_elim
       (λ here.
-        let its : e ≡ b = same_Some e b (sym at ∙ ap (λ k. slice_get bs k) (sym here) ∙ listed) in
-        (c, ap (λ z. slice_get z j) same ∙ ap (λ k. slice_get (slice_set bs i c) k) (sym here) ∙ slice_get-set_same bs i b c listed, subst (λ (z : Block K). StaysListed z c) (sym its) more))
+      let its : e ≡ b = same_Some e b (sym at ∙ ap (λ k. slice_get bs k) (sym here) ∙ listed) in
+      (c, ap (λ z. slice_get z j) same ∙ ap (λ k. slice_get (slice_set bs i c) k) (sym here) ∙ slice_get-set_same bs i b c listed, subst (λ (z : Block K). StaysListed z c) (sym its) more))
       (λ ne. (e, ap (λ z. slice_get z j) same ∙ slice_get-set_other bs i j c ne ∙ at, stays e))
       (cases_eq i j)
 
@@ -53,6 +53,7 @@ done-below {K} {V} {D} x steps started bs replies h i b at = let g = h.placed i 
     last (suc (suc n)) e s =
         let o = s.calls (suc n) (omega arith) (omega (arith, e)) in
         elim o.3 [ inl under ↦ omega arith | inr now ↦ let k = now.0 in omega arith ]
+
     below : (a : Ask K V D) → IsDoneWithin x started replies b a → b.done.value ≤ answered_of replies b.thread - b.call + 1
     below (ask.Keyed k) s = let le = s.once in omega arith
     below (ask.Begin g) s = last b.done.value refl s
@@ -72,12 +73,16 @@ module _ {K V S D T A : Type 0} (x : Setup K V D T) (w : State K V S D T A) (sou
   counted-stays None bs' mine h = blocks-same w.blocks bs' h
   counted-stays (Some i) bs' mine h =
       blocks-set w.blocks bs' i h.0 h.1 h.2
-        (record {
-          thread = h.3.thread; call = h.3.call; visit = h.3.visit; start = h.3.start; position = h.3.position;
-          done = rw h.3.done (counts-more i h.0 (mine i refl) h.2);
-          end = λ e here. h.3.end ∙ here;
-        })
-        h.4
+      (record {
+        thread = h.3.thread;
+        call = h.3.call;
+        visit = h.3.visit;
+        start = h.3.start;
+        position = h.3.position;
+        done = rw h.3.done (counts-more i h.0 (mine i refl) h.2);
+        end = λ e here. h.3.end ∙ here;
+      })
+      h.4
 
   pub listed-stays : (o : Option ℕ) (bs' : List (Block K)) → ListsBlock w t p o bs' → BlocksStay w.blocks bs'
   listed-stays None bs' h = blocks-same w.blocks bs' h
@@ -86,19 +91,26 @@ module _ {K V S D T A : Type 0} (x : Setup K V D T) (w : State K V S D T A) (sou
   -- the call that a thread is in shows no end
   no-end : (i : ℕ) (b : Block K) → p.block ≡ Some i → slice_get w.blocks i ≡ Some b → b.call ≡ p.next → b.end ≡ None
   no-end i b mine listed call = elim (sound.placed.placed i b listed).shown [
-      inl old ↦ absurd (
+    | inl old ↦ absurd (
         let lt = reply-below x (threads_of w) (started_of w) w.blocks w.replies sound.placed old.place old.reply old.listed in
         let n : answered_of w.replies old.reply.thread ≡ p.next = ap (answered_of w.replies) (old.thread ∙ own i b mine listed) ∙ sym (sound.stands t p at).answered in
         let k = old.call in omega (arith, call))
     | inr now ↦ now.end
-    ]
+  ]
 
   pub ended-stays : (o : Option ℕ) (n : ℕ) (bs' : List (Block K)) → p.block ≡ o → EndsBlock w.blocks o p.next n bs' → BlocksStay w.blocks bs'
   ended-stays None n bs' mine h = blocks-same w.blocks bs' h
   ended-stays (Some i) n bs' mine h = blocks-set w.blocks bs' i h.0 h.1 h.2 (⊎_elim
       (λ (yes_ : (h.0.call == p.next) ≡ true). let e : EndsAt n h.0 h.1 = subst (λ (z : Bool). MatchBool z (EndsAt n h.0 h.1) (h.1 ≡ h.0)) yes_ h.3 in
-        record { thread = e.thread; call = e.call; visit = e.visit; start = e.start; position = e.position; done = rw e.done (omega arith);
-          end = λ k here. absurd (none-some k (sym (no-end i h.0 mine h.2 (eqb-true h.0.call p.next yes_)) ∙ here)) })
+      record {
+        thread = e.thread;
+        call = e.call;
+        visit = e.visit;
+        start = e.start;
+        position = e.position;
+        done = rw e.done (omega arith);
+        end = λ k here. absurd (none-some k (sym (no-end i h.0 mine h.2 (eqb-true h.0.call p.next yes_)) ∙ here));
+      })
       (λ no_. let e : h.1 ≡ h.0 = subst (λ (z : Bool). MatchBool z (EndsAt n h.0 h.1) (h.1 ≡ h.0)) no_ h.3 in subst (λ (z : Block K). StaysListed h.0 z) (sym e) (stays h.0))
       (cases_Bool (h.0.call == p.next))) h.4
 
@@ -124,11 +136,11 @@ module _ {K V S D T A : Type 0} (x : Setup K V D T) (w : State K V S D T A) (s :
   fixed-by : (p : Place K V D T A) (tables : _) (holds : _) (bs : List (Block K)) (rs : List (Reply K V T)) → length tables ≡ length w.tables
       → w' ≡ record (stepped w s p) { tables = tables; holds = holds; blocks = bs; replies = rs } → BlocksStay w.blocks bs → (more : List (Reply K V T)) × (rs ≡ w.replies ++ more) → Step-adds w w' s
   fixed-by p tables holds bs rs shards after blocks more = subst (λ (z : State K V S D T A). Step-adds w z s) (sym after) (record {
-      steps = refl;
-      blocks = blocks;
-      replies = more;
-      fixed = record { hasher = refl; shards = shards; opening = refl; programs = refl };
-    })
+    steps = refl;
+    blocks = blocks;
+    replies = more;
+    fixed = record { hasher = refl; shards = shards; opening = refl; programs = refl };
+  })
 
   nothing : (more : List (Reply K V T)) × (w.replies ≡ w.replies ++ more)
   nothing = ([], sym (append-nil w.replies))
@@ -160,18 +172,27 @@ adds-none w = record { steps_added = ([], sym (append-nil (threads_of w))); bloc
 pub adds-more : {K V S D T A : Type 0} (v w w' : State K V S D T A) (s : Step) → OnlyAdds (threads_of v) (threads_of w) v.blocks w.blocks v.replies w.replies → Step-adds w w' s
     → OnlyAdds (threads_of v) (threads_of w') v.blocks w'.blocks v.replies w'.replies
 adds-more v w w' s h g = record {
-    steps_added = (h.steps_added.0 ++ s.thread ∷ [],
-      ap (λ z. map (λ (q : Step). q.thread) z) g.steps ∙ map-push (λ (q : Step). q.thread) w.steps s ∙ ap (λ z. z ++ s.thread ∷ []) h.steps_added.1 ∙ append_assoc (threads_of v) h.steps_added.0 (s.thread ∷ []));
-    blocks_stay = λ i b at.
+  steps_added = (
+    h.steps_added.0 ++ s.thread ∷ [],
+    ap (λ z. map (λ (q : Step). q.thread) z) g.steps ∙ map-push (λ (q : Step). q.thread) w.steps s ∙ ap (λ z. z ++ s.thread ∷ []) h.steps_added.1 ∙ append_assoc (threads_of v) h.steps_added.0 (s.thread ∷ []),
+  );
+  blocks_stay = λ i b at.
       let c = h.blocks_stay i b at in
-      let d = g.blocks i c.0 c.1 in
-      (d.0, d.1, record {
-        thread = d.2.thread ∙ c.2.thread; call = d.2.call ∙ c.2.call; visit = d.2.visit ∙ c.2.visit; start = d.2.start ∙ c.2.start; position = d.2.position ∙ c.2.position;
-        done = let le = c.2.done in let le' = d.2.done in omega arith;
-        end = λ e here. d.2.end e (c.2.end e here);
-      });
-    replies_stay = (h.replies_stay.0 ++ g.replies.0, g.replies.1 ∙ ap (λ z. z ++ g.replies.0) h.replies_stay.1 ∙ append_assoc v.replies h.replies_stay.0 g.replies.0);
-  }
+      let d = g.blocks i c.0 c.1 in (
+        d.0,
+        d.1,
+        record {
+          thread = d.2.thread ∙ c.2.thread;
+          call = d.2.call ∙ c.2.call;
+          visit = d.2.visit ∙ c.2.visit;
+          start = d.2.start ∙ c.2.start;
+          position = d.2.position ∙ c.2.position;
+          done = let le = c.2.done in let le' = d.2.done in omega arith;
+          end = λ e here. d.2.end e (c.2.end e here);
+        },
+      );
+  replies_stay = (h.replies_stay.0 ++ g.replies.0, g.replies.1 ∙ ap (λ z. z ++ g.replies.0) h.replies_stay.1 ∙ append_assoc v.replies h.replies_stay.0 g.replies.0);
+}
 
 pub fixed-none : {K V S D T A : Type 0} (w : State K V S D T A) → StaysFixed w w
 fixed-none w = record { hasher = refl; shards = refl; opening = refl; programs = refl }

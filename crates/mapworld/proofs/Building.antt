@@ -101,9 +101,14 @@ module _ {K V D T A : Type 0} (x : Setup K V D T) (p p' : Place K V D T A) where
   session-moved : (bs : List (Block K)) (tables : List (Vec (K × V) A)) (t n c : ℕ) (block : Option ℕ) → p'.hold ≡ p.hold → p'.shard ≡ p.shard → p'.slot ≡ p.slot
       → IsInSessionOf x bs tables t p n c block → IsInSessionOf x bs tables t p' n c block
   session-moved bs tables t n c (Some i) hold shard slot h = record {
-      block = h.block; listed = h.listed; thread = h.thread; call = h.call; below = h.below; done = h.done;
-      guard = subst (λ (o : Option ℕ). GuardIs tables p' o (reached x t c (n - c) (found x bs i h.block))) (sym slot) (guard-moved tables p.slot (reached x t c (n - c) (found x bs i h.block)) hold shard h.guard);
-    }
+    block = h.block;
+    listed = h.listed;
+    thread = h.thread;
+    call = h.call;
+    below = h.below;
+    done = h.done;
+    guard = subst (λ (o : Option ℕ). GuardIs tables p' o (reached x t c (n - c) (found x bs i h.block))) (sym slot) (guard-moved tables p.slot (reached x t c (n - c) (found x bs i h.block)) hold shard h.guard);
+  }
   session-moved bs tables t n c None hold shard slot h = (slot ∙ h.0, h.1)
 
   in_session-moved : (bs : List (Block K)) (tables : List (Vec (K × V) A)) (t n : ℕ) (o : Option ℕ) (block : Option ℕ) → p'.hold ≡ p.hold → p'.shard ≡ p.shard → p'.slot ≡ p.slot
@@ -128,29 +133,29 @@ module _ {K V D T A : Type 0} (x : Setup K V D T) (bs bs' : List (Block K)) (tab
       → ((q : K) → x.route q ≢ i → contents x bs' q ≡ contents x bs q)
       → TablesAgree x bs' (slice_set tables i changed)
   tables-set i table changed at routed distinct here elsewhere = record {
-      routed = λ j n other pair ht hp. elim (slice_get-set_cases tables i j table other changed at ht) [
-          inl own ↦ routed n pair (ap (λ z. slice_get z.items n) (sym own.1) ∙ hp) ∙ sym own.0
-        | inr old ↦ agree.routed j n other pair old.1 hp
-        ];
-      distinct = λ j other ht. elim (slice_get-set_cases tables i j table other changed at ht) [
-          inl own ↦ subst (λ (z : Vec (K × V) A). AreDistinct x.eq z.items) (sym own.1) distinct
-        | inr old ↦ agree.distinct j other old.1
-        ];
-      contents_are = λ q other ht. elim (slice_get-set_cases tables i (x.route q) table other changed at ht) [
-          inl own ↦ ap (λ z. pair_of x.eq z.items q) own.1 ∙ here q own.0
-        | inr old ↦ agree.contents_are q other old.1 ∙ sym (elsewhere q old.0)
-        ];
-    }
+    routed = λ j n other pair ht hp. elim (slice_get-set_cases tables i j table other changed at ht) [
+      | inl own ↦ routed n pair (ap (λ z. slice_get z.items n) (sym own.1) ∙ hp) ∙ sym own.0
+      | inr old ↦ agree.routed j n other pair old.1 hp
+    ];
+    distinct = λ j other ht. elim (slice_get-set_cases tables i j table other changed at ht) [
+      | inl own ↦ subst (λ (z : Vec (K × V) A). AreDistinct x.eq z.items) (sym own.1) distinct
+      | inr old ↦ agree.distinct j other old.1
+    ];
+    contents_are = λ q other ht. elim (slice_get-set_cases tables i (x.route q) table other changed at ht) [
+      | inl own ↦ ap (λ z. pair_of x.eq z.items q) own.1 ∙ here q own.0
+      | inr old ↦ agree.contents_are q other old.1 ∙ sym (elsewhere q old.0)
+    ];
+  }
 
   -- one shard's list is another value with the same pairs
   pub tables-rewritten' : (i : ℕ) (table changed : Vec (K × V) A) → slice_get tables i ≡ Some table → changed.items ≡ table.items
       → ((q : K) → contents x bs' q ≡ contents x bs q) → TablesAgree x bs' (slice_set tables i changed)
   tables-rewritten' i table changed at same contents =
       tables-set i table changed at
-        (λ j pair h. agree.routed i j table pair at (ap (λ z. slice_get z j) (sym same) ∙ h))
-        (subst (λ (z : List (K × V)). AreDistinct x.eq z) (sym same) (agree.distinct i table at))
-        (λ q here. ap (λ z. pair_of x.eq z q) same ∙ agree.contents_are q table (ap (λ n. slice_get tables n) here ∙ at) ∙ sym (contents q))
-        (λ q ne. contents q)
+      (λ j pair h. agree.routed i j table pair at (ap (λ z. slice_get z j) (sym same) ∙ h))
+      (subst (λ (z : List (K × V)). AreDistinct x.eq z) (sym same) (agree.distinct i table at))
+      (λ q here. ap (λ z. pair_of x.eq z q) same ∙ agree.contents_are q table (ap (λ n. slice_get tables n) here ∙ at) ∙ sym (contents q))
+      (λ q ne. contents q)
 
 pub tables-rewritten : {K V D T A : Type 0} (x : Setup K V D T) (bs bs' : List (Block K)) (tables : List (Vec (K × V) A)) (i : ℕ) (table changed : Vec (K × V) A) → slice_get tables i ≡ Some table → changed.items ≡ table.items
     → TablesAgree x bs tables → ((q : K) → contents x bs' q ≡ contents x bs q) → TablesAgree x bs' (slice_set tables i changed)
@@ -226,11 +231,11 @@ module _ {K V S D T A : Type 0} (x : Setup K V D T) (w : State K V S D T A) (s :
         guarded = sound.guarded;
         routes = λ q. rw leaves.shards (sound.routes q);
         stands = λ u q hq. rw threads (elim (slice_get-set_cases w.places s.thread u p q p' at hq) [
-            inl own ↦ rw (own.0, own.1) mine
+          | inl own ↦ rw (own.0, own.1) mine
           | inr other ↦ stands-other x (threads_of w) s.thread w.blocks bs' w.replies replies' w.tables tables' s.thread u q F leaves.effect other.0
               (leaves.count u other.0) (λ m h. leaves.kept u q m other.0 other.1 h) (λ k o d. leaves.foreign u q k o other.0 other.1 d)
               (λ c b e. let lt = session-below x u c b e in omega arith) (sound.stands u q other.1)
-          ]);
+        ]);
         tables = agree;
         holds = match;
         placed = rw threads placed;

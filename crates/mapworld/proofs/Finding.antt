@@ -61,20 +61,20 @@ module _ {K V S D T A : Type 0} (x : Setup K V D T) (laws : Laws x) (w : State K
       → p'.next ≡ p.next → p'.shard ≡ p.shard → p'.slot ≡ None → p'.hold ≡ p.hold → p'.block ≡ Some (length w.blocks)
       → IsBeforeDeed x (w.blocks ++ d ∷ []) s.thread p' key o
   before-deed holds listed p' o is next same slot hold mine = record {
-      index = length w.blocks;
-      block = d;
-      mine = mine;
-      listed = slice_get-push_at w.blocks d;
-      thread = listed.thread;
-      call = listed.call ∙ sym next;
-      key_is = new-key x laws w s sound p at a call key key_is Exclusive holds shard not_yet 0 d listed;
-      done = listed.done;
-      last = last-new x w.blocks d;
-      found_is = new-finds x laws w s sound p at a call key key_is Exclusive holds shard not_yet 0 d listed ∙ has-now ∙ is;
-      slot = slot;
-      shard = same ∙ shard;
-      alone = holds-moved x p p' Exclusive hold same holds;
-    }
+    index = length w.blocks;
+    block = d;
+    mine = mine;
+    listed = slice_get-push_at w.blocks d;
+    thread = listed.thread;
+    call = listed.call ∙ sym next;
+    key_is = new-key x laws w s sound p at a call key key_is Exclusive holds shard not_yet 0 d listed;
+    done = listed.done;
+    last = last-new x w.blocks d;
+    found_is = new-finds x laws w s sound p at a call key key_is Exclusive holds shard not_yet 0 d listed ∙ has-now ∙ is;
+    slot = slot;
+    shard = same ∙ shard;
+    alone = holds-moved x p p' Exclusive hold same holds;
+  }
 
   quiet-none : (listed : IsListed w s.thread p 0 d) (o : Option (K × V)) → contents x w.blocks key ≡ o → pair_in (reached x d.thread d.call d.done.value o) ≡ o
   quiet-none listed o h = rw listed.done refl
@@ -83,15 +83,15 @@ module _ {K V S D T A : Type 0} (x : Setup K V D T) (laws : Laws x) (w : State K
   told-new : (m : Mode) (holds : HoldsShard p m) (listed : IsListed w s.thread p 1 d) (o : Option (K × V)) → pair_of x.eq table.items key ≡ o
       → IsToldBy x (w.blocks ++ d ∷ []) s.thread p.next 0 (told x.deeds a (free o))
   told-new m holds listed o is = record {
-      place = length w.blocks;
-      block = d;
-      listed = slice_get-push_at w.blocks d;
-      thread = listed.thread;
-      call = listed.call;
-      done = rw listed.done (omega arith);
-      told = told-one x s.thread p.next a d (found x (w.blocks ++ d ∷ []) (length w.blocks) d) listed.thread listed.call call.asked
+    place = length w.blocks;
+    block = d;
+    listed = slice_get-push_at w.blocks d;
+    thread = listed.thread;
+    call = listed.call;
+    done = rw listed.done (omega arith);
+    told = told-one x s.thread p.next a d (found x (w.blocks ++ d ∷ []) (length w.blocks) d) listed.thread listed.call call.asked
         ∙ ap (λ z. Some (told x.deeds a (free z))) (new-finds x laws w s sound p at a call key key_is m holds shard not_yet 1 d listed ∙ has-now ∙ is);
-    }
+  }
 
   reached-new : (listed : IsListed w s.thread p 1 d) (o : Option (K × V)) → reached x d.thread d.call d.done.value o ≡ after x.deeds a (free o)
   reached-new listed o = rw (listed.thread, listed.call, listed.done) (reached-one x s.thread p.next a o call.asked)
@@ -146,15 +146,18 @@ module _ {K V S D T A : Type 0} (x : Setup K V D T) (laws : Laws x) (w : State K
         let not_yet : may_own p.phase ≡ false = ap may_own before in
         let l = listed.1 in
         subst (λ (z : List (Block K)). Sound x (record (stepped w s p') { blocks = z })) (sym listed.2)
-          (sound-listed x laws w s sound p at _ c.0 k refl Exclusive c.2 c.1.shard not_yet 0 listed.0 l p' refl refl refl refl refl
-            (done-none listed.0 0 l.done (omega arith) l.end) w.tables refl (λ u q m ne hq h. refl)
-            (k, here.0, IsInCall-push x (threads_of w) s.thread s.thread p' _ (in_call-moved x p p' (threads_of w) s.thread _ refl refl refl c.0),
-              before-deed x laws w s sound p at _ c.0 k refl c.1.shard not_yet table held listed.0 c.2 l p' (Some here.0) is refl refl refl refl refl,
-              record { table = table; held = held; pair_is = here.1 })
-            (taken-at x (threads_of w) w.blocks w.replies w.tables s.thread p (phase.Find r) before st)
-            (within-at x (threads_of w) w.blocks w.replies w.tables s.thread p (phase.Find r) before st)
-            (tables-same x w.blocks (w.blocks ++ listed.0 ∷ []) w.tables w.tables sound.tables
-              (contents-listed x laws w s sound p at _ c.0 k refl Exclusive c.2 c.1.shard not_yet 0 listed.0 l (quiet-none x laws w s sound p at _ c.0 k refl c.1.shard not_yet table held listed.0 l))))
+        (sound-listed x laws w s sound p at _ c.0 k refl Exclusive c.2 c.1.shard not_yet 0 listed.0 l p' refl refl refl refl refl
+        (done-none listed.0 0 l.done (omega arith) l.end) w.tables refl (λ u q m ne hq h. refl) (
+          k,
+          here.0,
+          IsInCall-push x (threads_of w) s.thread s.thread p' _ (in_call-moved x p p' (threads_of w) s.thread _ refl refl refl c.0),
+          before-deed x laws w s sound p at _ c.0 k refl c.1.shard not_yet table held listed.0 c.2 l p' (Some here.0) is refl refl refl refl refl,
+          record { table = table; held = held; pair_is = here.1 },
+        )
+        (taken-at x (threads_of w) w.blocks w.replies w.tables s.thread p (phase.Find r) before st)
+        (within-at x (threads_of w) w.blocks w.replies w.tables s.thread p (phase.Find r) before st)
+        (tables-same x w.blocks (w.blocks ++ listed.0 ∷ []) w.tables w.tables sound.tables
+        (contents-listed x laws w s sound p at _ c.0 k refl Exclusive c.2 c.1.shard not_yet 0 listed.0 l (quiet-none x laws w s sound p at _ c.0 k refl c.1.shard not_yet table held listed.0 l))))
     found-by (request.Keyed (keyed.Insert k v)) before None slot true roomy blocks listed =
         let r : Request K V = request.Keyed (keyed.Insert k v) in
         let st = sound.stands s.thread p at in
@@ -164,15 +167,16 @@ module _ {K V S D T A : Type 0} (x : Setup K V D T) (laws : Laws x) (w : State K
         let not_yet : may_own p.phase ≡ false = ap may_own before in
         let l = listed.1 in
         subst (λ (z : List (Block K)). Sound x (record (stepped w s p') { blocks = z })) (sym listed.2)
-          (sound-listed x laws w s sound p at _ c.0 k refl Exclusive c.2 c.1.shard not_yet 0 listed.0 l p' refl refl refl refl refl
-            (done-none listed.0 0 l.done (omega arith) l.end) w.tables refl (λ u q m ne hq h. refl)
-            (IsInCall-push x (threads_of w) s.thread s.thread p' _ (in_call-moved x p p' (threads_of w) s.thread _ refl refl refl c.0),
-              before-deed x laws w s sound p at _ c.0 k refl c.1.shard not_yet table held listed.0 c.2 l p' None is refl refl refl refl refl,
-              record { table = table; held = held; so = ltb-true (vec_len table) (vec_capacity table) roomy })
-            (taken-at x (threads_of w) w.blocks w.replies w.tables s.thread p (phase.Find r) before st)
-            (within-at x (threads_of w) w.blocks w.replies w.tables s.thread p (phase.Find r) before st)
-            (tables-same x w.blocks (w.blocks ++ listed.0 ∷ []) w.tables w.tables sound.tables
-              (contents-listed x laws w s sound p at _ c.0 k refl Exclusive c.2 c.1.shard not_yet 0 listed.0 l (quiet-none x laws w s sound p at _ c.0 k refl c.1.shard not_yet table held listed.0 l))))
+        (sound-listed x laws w s sound p at _ c.0 k refl Exclusive c.2 c.1.shard not_yet 0 listed.0 l p' refl refl refl refl refl
+        (done-none listed.0 0 l.done (omega arith) l.end) w.tables refl (λ u q m ne hq h. refl) (
+          IsInCall-push x (threads_of w) s.thread s.thread p' _ (in_call-moved x p p' (threads_of w) s.thread _ refl refl refl c.0),
+          before-deed x laws w s sound p at _ c.0 k refl c.1.shard not_yet table held listed.0 c.2 l p' None is refl refl refl refl refl,
+          record { table = table; held = held; so = ltb-true (vec_len table) (vec_capacity table) roomy },
+        )
+        (taken-at x (threads_of w) w.blocks w.replies w.tables s.thread p (phase.Find r) before st)
+        (within-at x (threads_of w) w.blocks w.replies w.tables s.thread p (phase.Find r) before st)
+        (tables-same x w.blocks (w.blocks ++ listed.0 ∷ []) w.tables w.tables sound.tables
+        (contents-listed x laws w s sound p at _ c.0 k refl Exclusive c.2 c.1.shard not_yet 0 listed.0 l (quiet-none x laws w s sound p at _ c.0 k refl c.1.shard not_yet table held listed.0 l))))
     found-by (request.Keyed (keyed.Insert k v)) before None slot false full blocks listed =
         let r : Request K V = request.Keyed (keyed.Insert k v) in
         let st = sound.stands s.thread p at in
@@ -180,26 +184,26 @@ module _ {K V S D T A : Type 0} (x : Setup K V D T) (laws : Laws x) (w : State K
         let is : pair_of x.eq table.items k ≡ None = find-no_position (has_key x.eq k) table.items slot in
         let p' : Place K V D T A = record p { slot = None; phase = phase.Grow k v } in
         subst (λ (z : List (Block K)). Sound x (record (stepped w s p') { blocks = z })) (sym listed)
-          (sound-by x w s p p' at sound w.blocks w.tables w.holds w.replies _ (leaves-same x w s p p' at sound _)
-            (record {
-              program = st.program;
-              has = st.has;
-              asks_left = taken-at x (threads_of w) w.blocks w.replies w.tables s.thread p (phase.Find r) before st;
-              within = within-at x (threads_of w) w.blocks w.replies w.tables s.thread p (phase.Find r) before st;
-              answered = st.answered;
-              own_block = st.own_block;
-              owns = owns-on w.blocks s.thread p p' st.owns refl refl (λ own. absurd (false≢true (sym (ap may_own before) ∙ own)));
-              claim = (
-                IsInCall-push x (threads_of w) s.thread s.thread p' _ (in_call-moved x p p' (threads_of w) s.thread _ refl refl refl c.0),
-                record { block = c.1.block; slot = refl; shard = c.1.shard },
-                holds-moved x p p' Exclusive refl refl c.2,
-                record { table = table; held = held; so = (is, ltb-false (vec_len table) (vec_capacity table) full) },
-              );
-            })
-            (tables-same x w.blocks w.blocks w.tables w.tables sound.tables (λ q. refl))
-            (holds-same w.places w.holds sound.holds s.thread p p' at refl)
-            (placed-same x (threads_of w) s.thread (started_of w) (started_of (stepped w s p')) w.blocks w.replies (started-stays x w s p p' at (λ n h. h)) sound.placed)
-            sound.replies)
+        (sound-by x w s p p' at sound w.blocks w.tables w.holds w.replies _ (leaves-same x w s p p' at sound _)
+        (record {
+          program = st.program;
+          has = st.has;
+          asks_left = taken-at x (threads_of w) w.blocks w.replies w.tables s.thread p (phase.Find r) before st;
+          within = within-at x (threads_of w) w.blocks w.replies w.tables s.thread p (phase.Find r) before st;
+          answered = st.answered;
+          own_block = st.own_block;
+          owns = owns-on w.blocks s.thread p p' st.owns refl refl (λ own. absurd (false≢true (sym (ap may_own before) ∙ own)));
+          claim = (
+            IsInCall-push x (threads_of w) s.thread s.thread p' _ (in_call-moved x p p' (threads_of w) s.thread _ refl refl refl c.0),
+            record { block = c.1.block; slot = refl; shard = c.1.shard },
+            holds-moved x p p' Exclusive refl refl c.2,
+            record { table = table; held = held; so = (is, ltb-false (vec_len table) (vec_capacity table) full) },
+          );
+        })
+        (tables-same x w.blocks w.blocks w.tables w.tables sound.tables (λ q. refl))
+        (holds-same w.places w.holds sound.holds s.thread p p' at refl)
+        (placed-same x (threads_of w) s.thread (started_of w) (started_of (stepped w s p')) w.blocks w.replies (started-stays x w s p p' at (λ n h. h)) sound.placed)
+        sound.replies)
     found-by (request.Keyed (keyed.Remove k)) before (Some i) slot room roomy blocks listed =
         let r : Request K V = request.Keyed (keyed.Remove k) in
         let st = sound.stands s.thread p at in
@@ -210,15 +214,18 @@ module _ {K V S D T A : Type 0} (x : Setup K V D T) (laws : Laws x) (w : State K
         let not_yet : may_own p.phase ≡ false = ap may_own before in
         let l = listed.1 in
         subst (λ (z : List (Block K)). Sound x (record (stepped w s p') { blocks = z })) (sym listed.2)
-          (sound-listed x laws w s sound p at _ c.0 k refl Exclusive c.2 c.1.shard not_yet 0 listed.0 l p' refl refl refl refl refl
-            (done-none listed.0 0 l.done (omega arith) l.end) w.tables refl (λ u q m ne hq h. refl)
-            (k, here.0, IsInCall-push x (threads_of w) s.thread s.thread p' _ (in_call-moved x p p' (threads_of w) s.thread _ refl refl refl c.0),
-              before-deed x laws w s sound p at _ c.0 k refl c.1.shard not_yet table held listed.0 c.2 l p' (Some here.0) is refl refl refl refl refl,
-              record { table = table; held = held; pair_is = here.1 })
-            (taken-at x (threads_of w) w.blocks w.replies w.tables s.thread p (phase.Find r) before st)
-            (within-at x (threads_of w) w.blocks w.replies w.tables s.thread p (phase.Find r) before st)
-            (tables-same x w.blocks (w.blocks ++ listed.0 ∷ []) w.tables w.tables sound.tables
-              (contents-listed x laws w s sound p at _ c.0 k refl Exclusive c.2 c.1.shard not_yet 0 listed.0 l (quiet-none x laws w s sound p at _ c.0 k refl c.1.shard not_yet table held listed.0 l))))
+        (sound-listed x laws w s sound p at _ c.0 k refl Exclusive c.2 c.1.shard not_yet 0 listed.0 l p' refl refl refl refl refl
+        (done-none listed.0 0 l.done (omega arith) l.end) w.tables refl (λ u q m ne hq h. refl) (
+          k,
+          here.0,
+          IsInCall-push x (threads_of w) s.thread s.thread p' _ (in_call-moved x p p' (threads_of w) s.thread _ refl refl refl c.0),
+          before-deed x laws w s sound p at _ c.0 k refl c.1.shard not_yet table held listed.0 c.2 l p' (Some here.0) is refl refl refl refl refl,
+          record { table = table; held = held; pair_is = here.1 },
+        )
+        (taken-at x (threads_of w) w.blocks w.replies w.tables s.thread p (phase.Find r) before st)
+        (within-at x (threads_of w) w.blocks w.replies w.tables s.thread p (phase.Find r) before st)
+        (tables-same x w.blocks (w.blocks ++ listed.0 ∷ []) w.tables w.tables sound.tables
+        (contents-listed x laws w s sound p at _ c.0 k refl Exclusive c.2 c.1.shard not_yet 0 listed.0 l (quiet-none x laws w s sound p at _ c.0 k refl c.1.shard not_yet table held listed.0 l))))
     found-by (request.Keyed (keyed.Remove k)) before None slot room roomy blocks listed =
         let r : Request K V = request.Keyed (keyed.Remove k) in
         let st = sound.stands s.thread p at in
@@ -230,17 +237,23 @@ module _ {K V S D T A : Type 0} (x : Setup K V D T) (laws : Laws x) (w : State K
         let outside = keyed-apart x laws w s (record (stepped w s p') { blocks = blocks }) sound p st (keyed.Remove k) c.0.asked in
         let closes : block_after p' ≡ None = ap (λ (b : Bool). if b then None else Some (length w.blocks)) c.0.closes in
         subst (λ (z : List (Block K)). Sound x (record (stepped w s p') { blocks = z })) (sym listed.2)
-          (sound-listed x laws w s sound p at _ c.0 k refl Exclusive c.2 c.1.shard not_yet 1 listed.0 l p' refl refl refl refl refl
-            (done-none listed.0 1 l.done (omega arith) l.end) w.tables refl (λ u q m ne hq h. refl)
-            (ask.Keyed (keyed.Remove k), c.2.hold, IsInCall-push x (threads_of w) s.thread s.thread p' _ (in_call-moved x p p' (threads_of w) s.thread _ refl refl refl c.0), c.2.has,
-              (inl (told-new x laws w s sound p at _ c.0 k refl c.1.shard not_yet table held listed.0 Exclusive c.2 l None is),
-                ready-outside x (w.blocks ++ listed.0 ∷ []) w.tables s.thread p' (p.next + 1) (block_after p') outside.1 refl closes))
-            (taken-at x (threads_of w) w.blocks w.replies w.tables s.thread p (phase.Find r) before st)
-            (within-at x (threads_of w) w.blocks w.replies w.tables s.thread p (phase.Find r) before st)
-            (tables-same x w.blocks (w.blocks ++ listed.0 ∷ []) w.tables w.tables sound.tables
-              (contents-listed x laws w s sound p at _ c.0 k refl Exclusive c.2 c.1.shard not_yet 1 listed.0 l
-                (λ o h. ap pair_in (reached-new x laws w s sound p at _ c.0 k refl c.1.shard not_yet table held listed.0 l o)
-                  ∙ sym (sym h ∙ has-now x laws w s sound p at _ c.0 k refl c.1.shard not_yet table held listed.0 ∙ is)))))
+        (sound-listed x laws w s sound p at _ c.0 k refl Exclusive c.2 c.1.shard not_yet 1 listed.0 l p' refl refl refl refl refl
+        (done-none listed.0 1 l.done (omega arith) l.end) w.tables refl (λ u q m ne hq h. refl) (
+          ask.Keyed (keyed.Remove k),
+          c.2.hold,
+          IsInCall-push x (threads_of w) s.thread s.thread p' _ (in_call-moved x p p' (threads_of w) s.thread _ refl refl refl c.0),
+          c.2.has,
+          (
+            inl (told-new x laws w s sound p at _ c.0 k refl c.1.shard not_yet table held listed.0 Exclusive c.2 l None is),
+            ready-outside x (w.blocks ++ listed.0 ∷ []) w.tables s.thread p' (p.next + 1) (block_after p') outside.1 refl closes,
+          ),
+        )
+        (taken-at x (threads_of w) w.blocks w.replies w.tables s.thread p (phase.Find r) before st)
+        (within-at x (threads_of w) w.blocks w.replies w.tables s.thread p (phase.Find r) before st)
+        (tables-same x w.blocks (w.blocks ++ listed.0 ∷ []) w.tables w.tables sound.tables
+        (contents-listed x laws w s sound p at _ c.0 k refl Exclusive c.2 c.1.shard not_yet 1 listed.0 l
+        (λ o h. ap pair_in (reached-new x laws w s sound p at _ c.0 k refl c.1.shard not_yet table held listed.0 l o)
+        ∙ sym (sym h ∙ has-now x laws w s sound p at _ c.0 k refl c.1.shard not_yet table held listed.0 ∙ is)))))
     found-by (request.Begin (begin.Get k)) before (Some i) slot room roomy blocks listed =
         let r : Request K V = request.Begin (begin.Get k) in
         let st = sound.stands s.thread p at in
@@ -253,18 +266,21 @@ module _ {K V S D T A : Type 0} (x : Setup K V D T) (laws : Laws x) (w : State K
         let inside = begin-apart x laws w s (record (stepped w s p') { blocks = blocks }) sound p st (begin.Get k) c.0.asked in
         let stays : Some (length w.blocks) ≡ block_after p' = sym (ap (λ (b : Bool). if b then None else Some (length w.blocks)) c.0.closes) in
         let session = session-new x laws w s sound p at _ c.0 k refl c.1.shard not_yet table held listed.0 Shared c.2 l p' (Some here.0) is
-          (here.0, refl, holds-moved x p p' Shared refl refl c.2, record { table = table; held = held; pair_is = here.1 }) in
+        (here.0, refl, holds-moved x p p' Shared refl refl c.2, record { table = table; held = held; pair_is = here.1 }) in
         subst (λ (z : List (Block K)). Sound x (record (stepped w s p') { blocks = z })) (sym listed.2)
-          (sound-listed x laws w s sound p at _ c.0 k refl Shared c.2 c.1.shard not_yet 1 listed.0 l p' refl refl refl refl refl
-            (opened-done x w s p' listed.0 l.done) w.tables refl (λ u q m ne hq h. refl)
-            (ask.Begin (begin.Get k), IsInCall-push x (threads_of w) s.thread s.thread p' _ (in_call-moved x p p' (threads_of w) s.thread _ refl refl refl c.0), (λ h. absurd cc),
-              told-new x laws w s sound p at _ c.0 k refl c.1.shard not_yet table held listed.0 Shared c.2 l (Some here.0) is,
-              ready-inside x (w.blocks ++ listed.0 ∷ []) w.tables s.thread p' (p.next + 1) p.next (length w.blocks) (block_after p') inside.1 stays session)
-            (taken-at x (threads_of w) w.blocks w.replies w.tables s.thread p (phase.Find r) before st)
-            (within-at x (threads_of w) w.blocks w.replies w.tables s.thread p (phase.Find r) before st)
-            (tables-same x w.blocks (w.blocks ++ listed.0 ∷ []) w.tables w.tables sound.tables
-              (contents-listed x laws w s sound p at _ c.0 k refl Shared c.2 c.1.shard not_yet 1 listed.0 l
-                (λ o h. ap pair_in (reached-new x laws w s sound p at _ c.0 k refl c.1.shard not_yet table held listed.0 l o) ∙ opened-quiet k o))))
+        (sound-listed x laws w s sound p at _ c.0 k refl Shared c.2 c.1.shard not_yet 1 listed.0 l p' refl refl refl refl refl
+        (opened-done x w s p' listed.0 l.done) w.tables refl (λ u q m ne hq h. refl) (
+          ask.Begin (begin.Get k),
+          IsInCall-push x (threads_of w) s.thread s.thread p' _ (in_call-moved x p p' (threads_of w) s.thread _ refl refl refl c.0),
+          (λ h. absurd cc),
+          told-new x laws w s sound p at _ c.0 k refl c.1.shard not_yet table held listed.0 Shared c.2 l (Some here.0) is,
+          ready-inside x (w.blocks ++ listed.0 ∷ []) w.tables s.thread p' (p.next + 1) p.next (length w.blocks) (block_after p') inside.1 stays session,
+        )
+        (taken-at x (threads_of w) w.blocks w.replies w.tables s.thread p (phase.Find r) before st)
+        (within-at x (threads_of w) w.blocks w.replies w.tables s.thread p (phase.Find r) before st)
+        (tables-same x w.blocks (w.blocks ++ listed.0 ∷ []) w.tables w.tables sound.tables
+        (contents-listed x laws w s sound p at _ c.0 k refl Shared c.2 c.1.shard not_yet 1 listed.0 l
+        (λ o h. ap pair_in (reached-new x laws w s sound p at _ c.0 k refl c.1.shard not_yet table held listed.0 l o) ∙ opened-quiet k o))))
     found-by (request.Begin (begin.Get k)) before None slot room roomy blocks listed =
         let r : Request K V = request.Begin (begin.Get k) in
         let st = sound.stands s.thread p at in
@@ -277,26 +293,32 @@ module _ {K V S D T A : Type 0} (x : Setup K V D T) (laws : Laws x) (w : State K
         let stays : Some (length w.blocks) ≡ block_after p' = sym (ap (λ (b : Bool). if b then None else Some (length w.blocks)) c.0.closes) in
         let session = session-new x laws w s sound p at _ c.0 k refl c.1.shard not_yet table held listed.0 Shared c.2 l p' None is (None, refl) in
         subst (λ (z : List (Block K)). Sound x (record (stepped w s p') { blocks = z })) (sym listed.2)
-          (sound-listed x laws w s sound p at _ c.0 k refl Shared c.2 c.1.shard not_yet 1 listed.0 l p' refl refl refl refl refl
-            (opened-done x w s p' listed.0 l.done) w.tables refl (λ u q m ne hq h. refl)
-            (ask.Begin (begin.Get k), c.2.hold, IsInCall-push x (threads_of w) s.thread s.thread p' _ (in_call-moved x p p' (threads_of w) s.thread _ refl refl refl c.0), c.2.has,
-              (told-new x laws w s sound p at _ c.0 k refl c.1.shard not_yet table held listed.0 Shared c.2 l None is,
-                ready-inside x (w.blocks ++ listed.0 ∷ []) w.tables s.thread p' (p.next + 1) p.next (length w.blocks) (block_after p') inside.1 stays session))
-            (taken-at x (threads_of w) w.blocks w.replies w.tables s.thread p (phase.Find r) before st)
-            (within-at x (threads_of w) w.blocks w.replies w.tables s.thread p (phase.Find r) before st)
-            (tables-same x w.blocks (w.blocks ++ listed.0 ∷ []) w.tables w.tables sound.tables
-              (contents-listed x laws w s sound p at _ c.0 k refl Shared c.2 c.1.shard not_yet 1 listed.0 l
-                (λ o h. ap pair_in (reached-new x laws w s sound p at _ c.0 k refl c.1.shard not_yet table held listed.0 l o) ∙ opened-quiet k o))))
+        (sound-listed x laws w s sound p at _ c.0 k refl Shared c.2 c.1.shard not_yet 1 listed.0 l p' refl refl refl refl refl
+        (opened-done x w s p' listed.0 l.done) w.tables refl (λ u q m ne hq h. refl) (
+          ask.Begin (begin.Get k),
+          c.2.hold,
+          IsInCall-push x (threads_of w) s.thread s.thread p' _ (in_call-moved x p p' (threads_of w) s.thread _ refl refl refl c.0),
+          c.2.has,
+          (
+            told-new x laws w s sound p at _ c.0 k refl c.1.shard not_yet table held listed.0 Shared c.2 l None is,
+            ready-inside x (w.blocks ++ listed.0 ∷ []) w.tables s.thread p' (p.next + 1) p.next (length w.blocks) (block_after p') inside.1 stays session,
+          ),
+        )
+        (taken-at x (threads_of w) w.blocks w.replies w.tables s.thread p (phase.Find r) before st)
+        (within-at x (threads_of w) w.blocks w.replies w.tables s.thread p (phase.Find r) before st)
+        (tables-same x w.blocks (w.blocks ++ listed.0 ∷ []) w.tables w.tables sound.tables
+        (contents-listed x laws w s sound p at _ c.0 k refl Shared c.2 c.1.shard not_yet 1 listed.0 l
+        (λ o h. ap pair_in (reached-new x laws w s sound p at _ c.0 k refl c.1.shard not_yet table held listed.0 l o) ∙ opened-quiet k o))))
 
   pub sound-finds : (w' : State K V S D T A) → Finds x w s w' → Sound x w'
   sound-finds w' f =
       subst (Sound x) (sym (f.after ∙ ap (λ (z : Option ℕ). record (stepped w s (record (f.place) {
-          block = block_behind z (length w.blocks) f.place.block;
-          slot = found_slot f.request (slot_in x.eq f.table (request_key f.request));
-          phase = found_phase f.request (slot_in x.eq f.table (request_key f.request)) (has_room f.table);
-        })) { blocks = f.blocks }) f.done_is))
-        (found-by f.place f.stands f.table f.held f.request f.before (slot_in x.eq f.table (request_key f.request)) refl (has_room f.table) refl f.blocks
-          (subst (λ (z : Option ℕ). ListsBlock w s.thread f.place z f.blocks) f.done_is f.listed))
+        block = block_behind z (length w.blocks) f.place.block;
+        slot = found_slot f.request (slot_in x.eq f.table (request_key f.request));
+        phase = found_phase f.request (slot_in x.eq f.table (request_key f.request)) (has_room f.table);
+      })) { blocks = f.blocks }) f.done_is))
+      (found-by f.place f.stands f.table f.held f.request f.before (slot_in x.eq f.table (request_key f.request)) refl (has_room f.table) refl f.blocks
+      (subst (λ (z : Option ℕ). ListsBlock w s.thread f.place z f.blocks) f.done_is f.listed))
 
   pub sound-grows : (w' : State K V S D T A) → GrowsList x w s w' → Sound x w'
   sound-grows w' g =
@@ -308,15 +330,16 @@ module _ {K V S D T A : Type 0} (x : Setup K V D T) (laws : Laws x) (w : State K
       let l = g.listed.1 in
       let d = g.listed.0 in
       let is : pair_of x.eq g.table.items g.key ≡ None =
-        ap (λ (z : Vec (K × V) A). pair_of x.eq z.items g.key) (same_Some g.table c.3.table (sym g.held ∙ c.3.held)) ∙ c.3.so.0 in
+      ap (λ (z : Vec (K × V) A). pair_of x.eq z.items g.key) (same_Some g.table c.3.table (sym g.held ∙ c.3.held)) ∙ c.3.so.0 in
       subst (Sound x) (sym (g.after ∙ ap (λ (z : List (Block K)). record (stepped w s p') { tables = slice_set w.tables p.shard g.grown; blocks = z }) g.listed.2))
-        (sound-listed x laws w s sound p g.stands _ c.0 g.key refl Exclusive c.2 c.1.shard not_yet 0 d l p' refl refl refl refl refl
-          (done-none d 0 l.done (omega arith) l.end) (slice_set w.tables p.shard g.grown) (length-set w.tables p.shard g.grown)
-          (kept-alone x w s p g.stands sound g.grown c.2)
-          (IsInCall-push x (threads_of w) s.thread s.thread p' _ (in_call-moved x p p' (threads_of w) s.thread _ refl refl refl c.0),
-            before-deed x laws w s sound p g.stands _ c.0 g.key refl c.1.shard not_yet g.table g.held d c.2 l p' None is refl refl c.1.slot refl refl,
-            record { table = g.grown; held = slice_get-set_same w.tables p.shard g.table g.grown g.held; so = g.room })
-          (taken-at x (threads_of w) w.blocks w.replies w.tables s.thread p (phase.Grow g.key g.value) g.before st)
-          (within-at x (threads_of w) w.blocks w.replies w.tables s.thread p (phase.Grow g.key g.value) g.before st)
-          (tables-rewritten x w.blocks (w.blocks ++ d ∷ []) w.tables p.shard g.table g.grown g.held g.pairs sound.tables
-            (contents-listed x laws w s sound p g.stands _ c.0 g.key refl Exclusive c.2 c.1.shard not_yet 0 d l (quiet-none x laws w s sound p g.stands _ c.0 g.key refl c.1.shard not_yet g.table g.held d l))))
+      (sound-listed x laws w s sound p g.stands _ c.0 g.key refl Exclusive c.2 c.1.shard not_yet 0 d l p' refl refl refl refl refl
+      (done-none d 0 l.done (omega arith) l.end) (slice_set w.tables p.shard g.grown) (length-set w.tables p.shard g.grown)
+      (kept-alone x w s p g.stands sound g.grown c.2) (
+        IsInCall-push x (threads_of w) s.thread s.thread p' _ (in_call-moved x p p' (threads_of w) s.thread _ refl refl refl c.0),
+        before-deed x laws w s sound p g.stands _ c.0 g.key refl c.1.shard not_yet g.table g.held d c.2 l p' None is refl refl c.1.slot refl refl,
+        record { table = g.grown; held = slice_get-set_same w.tables p.shard g.table g.grown g.held; so = g.room },
+      )
+      (taken-at x (threads_of w) w.blocks w.replies w.tables s.thread p (phase.Grow g.key g.value) g.before st)
+      (within-at x (threads_of w) w.blocks w.replies w.tables s.thread p (phase.Grow g.key g.value) g.before st)
+      (tables-rewritten x w.blocks (w.blocks ++ d ∷ []) w.tables p.shard g.table g.grown g.held g.pairs sound.tables
+      (contents-listed x laws w s sound p g.stands _ c.0 g.key refl Exclusive c.2 c.1.shard not_yet 0 d l (quiet-none x laws w s sound p g.stands _ c.0 g.key refl c.1.shard not_yet g.table g.held d l))))

@@ -100,12 +100,12 @@ module _ {K V S D T A : Type 0} (x : Setup K V D T) (laws : Laws x) (w : State K
 
   pub grows : Grows x w.blocks i b d
   grows = record {
-      listed = listed;
-      thread = counts.thread;
-      call = counts.call;
-      done = let e = done-is in let m = more-is in omega arith;
-      settled = inl quiet;
-    }
+    listed = listed;
+    thread = counts.thread;
+    call = counts.call;
+    done = let e = done-is in let m = more-is in omega arith;
+    settled = inl quiet;
+  }
 
   pub finds-same : found x (slice_set w.blocks i d) i d ≡ found x w.blocks i b
   finds-same =
@@ -115,15 +115,15 @@ module _ {K V S D T A : Type 0} (x : Setup K V D T) (laws : Laws x) (w : State K
   -- the grown block tells the answer
   pub told-more : IsToldBy x (slice_set w.blocks i d) s.thread c (p.next - c) (told x.deeds (ask.Held h) was)
   told-more = record {
-      place = i;
-      block = d;
-      listed = slice_get-set_same w.blocks i b d listed;
-      thread = counts.thread ∙ thread-is;
-      call = counts.call ∙ call-is;
-      done = let m = more-is in omega arith;
-      told = told-next x s.thread c (ask.Held h) d (p.next - c) (found x (slice_set w.blocks i d) i d) (counts.thread ∙ thread-is) (counts.call ∙ call-is) asked-there
+    place = i;
+    block = d;
+    listed = slice_get-set_same w.blocks i b d listed;
+    thread = counts.thread ∙ thread-is;
+    call = counts.call ∙ call-is;
+    done = let m = more-is in omega arith;
+    told = told-next x s.thread c (ask.Held h) d (p.next - c) (found x (slice_set w.blocks i d) i d) (counts.thread ∙ thread-is) (counts.call ∙ call-is) asked-there
         ∙ ap (λ o. Some (told x.deeds (ask.Held h) (reached x s.thread c (p.next - c) o))) finds-same;
-    }
+  }
 
   -- the session goes on behind the call
   pub session-on : (p' : Place K V D T A) → GuardIs w.tables p' p'.slot (held_leaves x.deeds h was) → HasSession x (slice_set w.blocks i d) w.tables s.thread p' (p.next + 1) c i
@@ -147,35 +147,40 @@ module _ {K V S D T A : Type 0} (x : Setup K V D T) (laws : Laws x) (w : State K
 
   own-block : (p' : Place K V D T A) → p'.block ≡ p.block ⊎ (p'.block ≡ None) → HasOwnBlock (slice_set w.blocks i d) s.thread p'
   own-block p' block j mine = elim block [
-      inl same ↦ own-grown w.blocks i b d s.thread listed (counts.thread ∙ thread-is) p st.own_block j (sym same ∙ mine)
+    | inl same ↦ own-grown w.blocks i b d s.thread listed (counts.thread ∙ thread-is) p st.own_block j (sym same ∙ mine)
     | inr none ↦ absurd (none-some j (sym none ∙ mine))
-    ]
+  ]
 
   module _ (p' : Place K V D T A) (running : IsSome p'.started) (stays : (n : ℕ) → p.started ≡ Some n → p'.started ≡ Some n) where
     now : HasStarted (started_of (stepped w s p')) w.replies b.thread p.next
-    now = inr (st.answered ∙ ap (answered_of w.replies) (sym thread-is),
-        subst (λ (o : Option ℕ). IsSome o) (sym (started-own x w s p p' at) ∙ ap (started_of (stepped w s p')) (sym thread-is)) running)
+    now = inr (
+      st.answered ∙ ap (answered_of w.replies) (sym thread-is),
+      subst (λ (o : Option ℕ). IsSome o) (sym (started-own x w s p p' at) ∙ ap (started_of (stepped w s p')) (sym thread-is)) running,
+    )
 
     more-done : (a : Ask K V D) → ask_at x b.thread b.call ≡ Some a → IsDoneWithin x (started_of w) w.replies b a → IsDoneWithin x (started_of (stepped w s p')) w.replies d a
     more-done (ask.Begin g) e old = record {
-        opened = let m = more-is in omega arith;
-        calls = λ n pos lt. ⊎_elim
+      opened = let m = more-is in omega arith;
+      calls = λ n pos lt. ⊎_elim
           (λ below.
-            let o = old.calls n pos below in
-            (o.0, rw (counts.thread, counts.call) o.1, rw (counts.thread, counts.call) o.2, rw (counts.thread, counts.call) (mono-started b.thread (b.call + n) o.3)))
+          let o = old.calls n pos below in
+          (o.0, rw (counts.thread, counts.call) o.1, rw (counts.thread, counts.call) o.2, rw (counts.thread, counts.call) (mono-started b.thread (b.call + n) o.3)))
           (λ above.
-            let m = more-is in let e' = done-is in let k = call-is in let under = session.below in
-            let last : b.call + n ≡ p.next = omega arith in
-            (h, rw (counts.thread, counts.call, last, thread-is) asked, rw (counts.thread, counts.call, last, thread-is) (inside ∙ ap (λ z. Some z) (sym call-is)),
-              rw (counts.thread, counts.call, last) now))
+          let m = more-is in let e' = done-is in let k = call-is in let under = session.below in
+          let last : b.call + n ≡ p.next = omega arith in (
+            h,
+            rw (counts.thread, counts.call, last, thread-is) asked,
+            rw (counts.thread, counts.call, last, thread-is) (inside ∙ ap (λ z. Some z) (sym call-is)),
+            rw (counts.thread, counts.call, last) now,
+          ))
           (cases_lt n b.done.value);
-      }
+    }
       where
         mono-started : (t k : ℕ) → HasStarted (started_of w) w.replies t k → HasStarted (started_of (stepped w s p')) w.replies t k
         mono-started t k g = elim g [
-            inl before ↦ inl before
+          | inl before ↦ inl before
           | inr here ↦ inr (here.0, let o = IsSome-at (started_of w t) here.1 in rw (started-stays x w s p p' at stays t o.0 o.1) refl)
-          ]
+        ]
     more-done (ask.Keyed g) e old =
         let o = opening-asked in
         absurd (let both : ◌≡◌ {A = Option (Ask K V D)} (Some (ask.Begin o.0)) (Some (ask.Keyed g)) = sym o.1 ∙ (let z : ask_at x s.thread c ≡ Some (ask.Keyed g) = rw (sym thread-is, sym call-is) e in z) in cc)
@@ -190,24 +195,24 @@ module _ {K V S D T A : Type 0} (x : Setup K V D T) (laws : Laws x) (w : State K
         → Sound x (record (stepped w s p') { tables = w.tables; holds = holds'; blocks = slice_set w.blocks i d; replies = w.replies })
     sound-counted holds' next block claim left within match owns =
         sound-by x w s p p' at sound (slice_set w.blocks i d) w.tables holds' w.replies Anyhow
-          (record {
-            effect = effect-grow x laws w.blocks s.thread i b d grows thread-is;
-            count = λ u ne. refl;
-            kept = λ u q m ne hq hh. refl;
-            foreign = λ u q k o ne hq dd. tt;
-            shards = refl;
-          })
-          (record { program = st.program; has = st.has; asks_left = left; within = within; answered = next ∙ st.answered; owns = owns; own_block = own-block p' block; claim = claim })
-          (tables-same x w.blocks (slice_set w.blocks i d) w.tables w.tables sound.tables
-            (λ q. contents-quiet x laws w.blocks i b d grows quiet q))
-          match
-          (placed-grown x (threads_of w) s.thread (started_of w) (started_of (stepped w s p')) w.blocks w.replies (started-stays x w s p p' at stays) i b d listed
-            (record { thread = counts.thread; call = counts.call; visit = counts.visit; start = counts.start; position = counts.position }) counts.end more-done sound.placed)
-          (replies-kept x w.blocks (slice_set w.blocks i d) w.replies (λ j r hr. keeps-grown x laws w.blocks i b d grows r.thread r.call) sound.replies)
+        (record {
+          effect = effect-grow x laws w.blocks s.thread i b d grows thread-is;
+          count = λ u ne. refl;
+          kept = λ u q m ne hq hh. refl;
+          foreign = λ u q k o ne hq dd. tt;
+          shards = refl;
+        })
+        (record { program = st.program; has = st.has; asks_left = left; within = within; answered = next ∙ st.answered; owns = owns; own_block = own-block p' block; claim = claim })
+        (tables-same x w.blocks (slice_set w.blocks i d) w.tables w.tables sound.tables
+        (λ q. contents-quiet x laws w.blocks i b d grows quiet q))
+        match
+        (placed-grown x (threads_of w) s.thread (started_of w) (started_of (stepped w s p')) w.blocks w.replies (started-stays x w s p p' at stays) i b d listed
+        (record { thread = counts.thread; call = counts.call; visit = counts.visit; start = counts.start; position = counts.position }) counts.end more-done sound.placed)
+        (replies-kept x w.blocks (slice_set w.blocks i d) w.replies (λ j r hr. keeps-grown x laws w.blocks i b d grows r.thread r.call) sound.replies)
 
   -- the thread's blocks are those that it had
   pub owns-grown : (p' : Place K V D T A) → p'.next ≡ p.next → may_own p.phase ≡ false → OwnsBlocks (slice_set w.blocks i d) s.thread p'
   owns-grown p' next not_yet j e here thread = elim (slice_get-set_cases w.blocks i j b e d listed here) [
-      inl own ↦ inl (rw (next, own.1, counts.call, call-is) session.below)
+    | inl own ↦ inl (rw (next, own.1, counts.call, call-is) session.below)
     | inr other ↦ elim (st.owns j e other.1 thread) [ inl below ↦ inl (rw next below) | inr mine ↦ absurd (false≢true (sym not_yet ∙ mine.2)) ]
-    ]
+  ]

@@ -24,78 +24,87 @@ module _ {K V D T A : Type 0} (places : List (Place K V D T A)) (holds : List He
   module _ (t : ℕ) (p p' : Place K V D T A) (at : slice_get places t ≡ Some p) where
     pub holds-same : p'.hold ≡ p.hold → HoldsMatch (slice_set places t p') holds
     holds-same same = record {
-        listed = λ u q a hq ha. elim (slice_get-set_cases places t u p q p' at hq) [
-            inl own ↦ subst (λ (v : ℕ). (i : ℕ) × (slice_get holds i ≡ Some (record { hold = a; party = v }))) (sym own.0)
-              (h.listed t p a at (sym same ∙ ap (λ z. z.hold) (sym own.1) ∙ ha))
-          | inr other ↦ h.listed u q a other.1 ha
-          ];
-        owned = λ i e he.
+      listed = λ u q a hq ha. elim (slice_get-set_cases places t u p q p' at hq) [
+        | inl own ↦ subst (λ (v : ℕ). (i : ℕ) × (slice_get holds i ≡ Some (record { hold = a; party = v }))) (sym own.0)
+            (h.listed t p a at (sym same ∙ ap (λ z. z.hold) (sym own.1) ∙ ha))
+        | inr other ↦ h.listed u q a other.1 ha
+      ];
+      owned = λ i e he.
           let o = h.owned i e he in
           ⊎_elim
-            (λ own. (p', ap (λ v. slice_get (slice_set places t p') v) own ∙ slice_get-set_same places t p p' at,
-              same ∙ ap (λ z. z.hold) (same_Some p o.0 (sym at ∙ ap (λ v. slice_get places v) (sym own) ∙ o.1)) ∙ o.2))
-            (λ ne. (o.0, slice_get-set_other places t e.party p' (λ z. ne (sym z)) ∙ o.1, o.2))
-            (cases_eq e.party t);
-        apart = h.apart;
-        compatible = h.compatible;
-      }
+          (λ own. (
+            p',
+            ap (λ v. slice_get (slice_set places t p') v) own ∙ slice_get-set_same places t p p' at,
+            same ∙ ap (λ z. z.hold) (same_Some p o.0 (sym at ∙ ap (λ v. slice_get places v) (sym own) ∙ o.1)) ∙ o.2,
+          ))
+          (λ ne. (o.0, slice_get-set_other places t e.party p' (λ z. ne (sym z)) ∙ o.1, o.2))
+          (cases_eq e.party t);
+      apart = h.apart;
+      compatible = h.compatible;
+    }
 
     pub holds-push : (a : Hold) → p.hold ≡ None → p'.hold ≡ Some a → ((i : ℕ) (e : Held) → slice_get holds i ≡ Some e → e.hold.guard ≢ a.guard)
         → is_excluded holds a.shard a.mode ≡ false → HoldsMatch (slice_set places t p') (holds ++ record { hold = a; party = t } ∷ [])
     holds-push a free taken fresh admitted = record {
-        listed = λ u q b hq hb. elim (slice_get-set_cases places t u p q p' at hq) [
-            inl own ↦ (length holds, let same : a ≡ b = same_Some a b (sym taken ∙ ap (λ z. z.hold) (sym own.1) ∙ hb) in
-              slice_get-push_at holds new ∙ ap (λ z. Some z) (ap (λ z. record { hold = z; party = t }) same ∙ ap (λ v. record { hold = b; party = v }) (sym own.0)))
-          | inr other ↦ (let o = h.listed u q b other.1 hb in o.0, let o = h.listed u q b other.1 hb in slice_get-push_below holds o.0 _ new o.1)
-          ];
-        owned = λ i e he. elim (slice_get-push_cases holds i e new he) [
-            inl old ↦
-              let o = h.owned i e old in
-              let ne : e.party ≢ t = λ own. none-some e.hold (sym free ∙ ap (λ z. z.hold) (same_Some p o.0 (sym at ∙ ap (λ v. slice_get places v) (sym own) ∙ o.1)) ∙ o.2) in
-              (o.0, slice_get-set_other places t e.party p' (λ z. ne (sym z)) ∙ o.1, o.2)
-          | inr own ↦ (p', ap (λ v. slice_get (slice_set places t p') v) (ap (λ z. z.party) own.1) ∙ slice_get-set_same places t p p' at,
-              taken ∙ ap (λ z. Some z) (sym (ap (λ z. z.hold) own.1)))
-          ];
-        apart = λ i j e f he hf same. ⊎_elim
+      listed = λ u q b hq hb. elim (slice_get-set_cases places t u p q p' at hq) [
+        | inl own ↦ (
+          length holds,
+          let same : a ≡ b = same_Some a b (sym taken ∙ ap (λ z. z.hold) (sym own.1) ∙ hb) in
+              slice_get-push_at holds new ∙ ap (λ z. Some z) (ap (λ z. record { hold = z; party = t }) same ∙ ap (λ v. record { hold = b; party = v }) (sym own.0)),
+        )
+        | inr other ↦ (let o = h.listed u q b other.1 hb in o.0, let o = h.listed u q b other.1 hb in slice_get-push_below holds o.0 _ new o.1)
+      ];
+      owned = λ i e he. elim (slice_get-push_cases holds i e new he) [
+        | inl old ↦
+            let o = h.owned i e old in
+            let ne : e.party ≢ t = λ own. none-some e.hold (sym free ∙ ap (λ z. z.hold) (same_Some p o.0 (sym at ∙ ap (λ v. slice_get places v) (sym own) ∙ o.1)) ∙ o.2) in
+            (o.0, slice_get-set_other places t e.party p' (λ z. ne (sym z)) ∙ o.1, o.2)
+        | inr own ↦ (
+          p',
+          ap (λ v. slice_get (slice_set places t p') v) (ap (λ z. z.party) own.1) ∙ slice_get-set_same places t p p' at,
+          taken ∙ ap (λ z. Some z) (sym (ap (λ z. z.hold) own.1)),
+        )
+      ];
+      apart = λ i j e f he hf same. ⊎_elim
           (λ old. ⊎_elim (λ older. h.apart i j e f old older same)
-            (λ own. absurd (fresh i e old (same ∙ ap (λ z. z.hold.guard) own.1))) (slice_get-push_cases holds j f new hf))
+          (λ own. absurd (fresh i e old (same ∙ ap (λ z. z.hold.guard) own.1))) (slice_get-push_cases holds j f new hf))
           (λ own. ⊎_elim (λ older. absurd (fresh j f older (sym same ∙ ap (λ z. z.hold.guard) own.1)))
-            (λ both. own.0 ∙ sym both.0) (slice_get-push_cases holds j f new hf))
+          (λ both. own.0 ∙ sym both.0) (slice_get-push_cases holds j f new hf))
           (slice_get-push_cases holds i e new he);
-        compatible = λ i j e f he hf ne shard. ⊎_elim
+      compatible = λ i j e f he hf ne shard. ⊎_elim
           (λ old. ⊎_elim (λ older. h.compatible i j e f old older ne shard)
-            (λ own. let both = is_excluded-shared holds a.shard a.mode i e admitted old (shard ∙ ap (λ z. z.hold.shard) own.1) in
-              (both.0, ap (λ z. z.hold.mode) own.1 ∙ both.1)) (slice_get-push_cases holds j f new hf))
+          (λ own. let both = is_excluded-shared holds a.shard a.mode i e admitted old (shard ∙ ap (λ z. z.hold.shard) own.1) in
+          (both.0, ap (λ z. z.hold.mode) own.1 ∙ both.1)) (slice_get-push_cases holds j f new hf))
           (λ own. ⊎_elim
-            (λ older. let both = is_excluded-shared holds a.shard a.mode j f admitted older (sym shard ∙ ap (λ z. z.hold.shard) own.1) in
-              (ap (λ z. z.hold.mode) own.1 ∙ both.1, both.0))
-            (λ both. absurd (ne (own.0 ∙ sym both.0))) (slice_get-push_cases holds j f new hf))
+          (λ older. let both = is_excluded-shared holds a.shard a.mode j f admitted older (sym shard ∙ ap (λ z. z.hold.shard) own.1) in
+          (ap (λ z. z.hold.mode) own.1 ∙ both.1, both.0))
+          (λ both. absurd (ne (own.0 ∙ sym both.0))) (slice_get-push_cases holds j f new hf))
           (slice_get-push_cases holds i e new he);
-      }
+    }
       where
         new : Held
         new = record { hold = a; party = t }
 
     pub holds-remove : (a : Hold) (n : ℕ) → p.hold ≡ Some a → p'.hold ≡ None → slice_get holds n ≡ Some (record { hold = a; party = t }) → HoldsMatch (slice_set places t p') (remove holds n)
     holds-remove a n held free entry = record {
-        listed = λ u q b hq hb. elim (slice_get-set_cases places t u p q p' at hq) [
-            inl own ↦ absurd (none-some b (sym free ∙ ap (λ z. z.hold) (sym own.1) ∙ hb))
-          | inr other ↦
-              let o = h.listed u q b other.1 hb in
-              let ne : o.0 ≢ n = λ same. other.0 (sym (ap (λ z. z.party) (same_Some _ _ (sym entry ∙ ap (λ k. slice_get holds k) (sym same) ∙ o.1)))) in
-              slice_get-remove_kept holds n o.0 _ ne o.1
-          ];
-        owned = λ i e he.
+      listed = λ u q b hq hb. elim (slice_get-set_cases places t u p q p' at hq) [
+        | inl own ↦ absurd (none-some b (sym free ∙ ap (λ z. z.hold) (sym own.1) ∙ hb))
+        | inr other ↦
+            let o = h.listed u q b other.1 hb in
+            let ne : o.0 ≢ n = λ same. other.0 (sym (ap (λ z. z.party) (same_Some _ _ (sym entry ∙ ap (λ k. slice_get holds k) (sym same) ∙ o.1)))) in
+            slice_get-remove_kept holds n o.0 _ ne o.1
+      ];
+      owned = λ i e he.
           let old = was i e he in
           let o = h.owned (stood_at n i) e old in
           let ne : e.party ≢ t = λ own.
-            let mine : a ≡ e.hold = same_Some a e.hold (sym held ∙ ap (λ z. z.hold) (same_Some p o.0 (sym at ∙ ap (λ v. slice_get places v) (sym own) ∙ o.1)) ∙ o.2) in
-            stood_at-other n i (h.apart (stood_at n i) n e _ old entry (sym (ap (λ z. z.guard) mine))) in
+          let mine : a ≡ e.hold = same_Some a e.hold (sym held ∙ ap (λ z. z.hold) (same_Some p o.0 (sym at ∙ ap (λ v. slice_get places v) (sym own) ∙ o.1)) ∙ o.2) in
+          stood_at-other n i (h.apart (stood_at n i) n e _ old entry (sym (ap (λ z. z.guard) mine))) in
           (o.0, slice_get-set_other places t e.party p' (λ z. ne (sym z)) ∙ o.1, o.2);
-        apart = λ i j e f he hf same. stood_at-same n i j (h.apart (stood_at n i) (stood_at n j) e f (was i e he) (was j f hf) same);
-        compatible = λ i j e f he hf ne shard.
+      apart = λ i j e f he hf same. stood_at-same n i j (h.apart (stood_at n i) (stood_at n j) e f (was i e he) (was j f hf) same);
+      compatible = λ i j e f he hf ne shard.
           h.compatible (stood_at n i) (stood_at n j) e f (was i e he) (was j f hf) (λ same. ne (stood_at-same n i j same)) shard;
-      }
+    }
       where
         was : (i : ℕ) (e : Held) → slice_get (remove holds n) i ≡ Some e → slice_get holds (stood_at n i) ≡ Some e
         was i e he = sym (slice_get-remove_is holds n i) ∙ he

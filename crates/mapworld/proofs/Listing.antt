@@ -56,9 +56,9 @@ module _ {K V S D T A : Type 0} (x : Setup K V D T) (laws : Laws x) (w : State K
 
   earlier : (i : ℕ) (b : Block K) → slice_get w.blocks i ≡ Some b → b.thread ≡ d.thread → b.call < d.call
   earlier i b hb thread = elim (st.owns i b hb (thread ∙ listed.thread)) [
-      inl below ↦ rw listed.call below
+    | inl below ↦ rw listed.call below
     | inr mine ↦ absurd (false≢true (sym not_yet ∙ mine.2))
-    ]
+  ]
 
   module _ (p' : Place K V D T A) (next : p'.next ≡ p.next) (started : p'.started ≡ p.started) (mine : p'.block ≡ Some (length w.blocks)) (hold : p'.hold ≡ p.hold)
       (own : may_own p'.phase ≡ true)
@@ -67,33 +67,33 @@ module _ {K V S D T A : Type 0} (x : Setup K V D T) (laws : Laws x) (w : State K
       (kept : (u : ℕ) (q : Place K V D T A) (k : Mode) → u ≢ s.thread → slice_get w.places u ≡ Some q → HoldsShard q k → slice_get tables' q.shard ≡ slice_get w.tables q.shard) where
     new-placed : IsPlaced x (threads_of w ++ s.thread ∷ []) (started_of (stepped w s p')) w.replies d
     new-placed = record {
-        ask = a;
-        asked = rw (listed.thread, listed.call) call.asked;
-        done = done;
-        visit = listed.visit;
-        start = rw (listed.thread, start-is) (IsStepOf-push (threads_of w) s.thread s.thread call.start call.begun);
-        position = rw (listed.thread, listed.position, number) (IsStepOf-next (threads_of w) s.thread);
-        order = let lt = IsStepOf-below (threads_of w) s.thread call.start call.begun in rw (start-is, listed.position, number) (omega arith);
-        shown = inr (record {
-          call = listed.call ∙ st.answered ∙ ap (answered_of w.replies) (sym listed.thread);
-          start = ap (started_of (stepped w s p')) listed.thread ∙ started-own x w s p p' at ∙ started ∙ listed.start;
-          end = listed.end;
-        });
-      }
+      ask = a;
+      asked = rw (listed.thread, listed.call) call.asked;
+      done = done;
+      visit = listed.visit;
+      start = rw (listed.thread, start-is) (IsStepOf-push (threads_of w) s.thread s.thread call.start call.begun);
+      position = rw (listed.thread, listed.position, number) (IsStepOf-next (threads_of w) s.thread);
+      order = let lt = IsStepOf-below (threads_of w) s.thread call.start call.begun in rw (start-is, listed.position, number) (omega arith);
+      shown = inr (record {
+        call = listed.call ∙ st.answered ∙ ap (answered_of w.replies) (sym listed.thread);
+        start = ap (started_of (stepped w s p')) listed.thread ∙ started-own x w s p p' at ∙ started ∙ listed.start;
+        end = listed.end;
+      });
+    }
 
     leaves : Leaves x w s p p' at sound (w.blocks ++ d ∷ []) tables' w.holds w.replies (λ b. AreApart x b d)
     leaves = record {
-        effect = effect-push x w.blocks s.thread d listed.thread;
-        count = λ u ne. refl;
-        kept = kept;
-        foreign = λ u q k o ne hq before. λ i j hi hj same.
+      effect = effect-push x w.blocks s.thread d listed.thread;
+      count = λ u ne. refl;
+      kept = kept;
+      foreign = λ u q k o ne hq before. λ i j hi hj same.
           let mine' : key ≡ j = same_Some key j (sym new-key ∙ hj) in
           let its : k ≡ i = same_Some k i (sym before.key_is ∙ hi) in
           let both = exclusion w.places w.holds sound.holds s.thread u p q holds.hold before.alone.hold (λ z. ne (sym z)) at hq holds.has before.alone.has
-            (holds.shard ∙ shard ∙ ap x.route mine' ∙ sym same ∙ ap x.route (sym its) ∙ sym before.shard ∙ sym before.alone.shard) in
+          (holds.shard ∙ shard ∙ ap x.route mine' ∙ sym same ∙ ap x.route (sym its) ∙ sym before.shard ∙ sym before.alone.shard) in
           absurd (cc (both.1, before.alone.mode_is));
-        shards = shards;
-      }
+      shards = shards;
+    }
 
     -- the world behind a step that lists the block, and may rewrite the shard's list with the same pairs
     pub sound-listed : Claim x (threads_of w ++ s.thread ∷ []) (w.blocks ++ d ∷ []) tables' s.thread p' p'.phase
@@ -102,30 +102,30 @@ module _ {K V S D T A : Type 0} (x : Setup K V D T) (laws : Laws x) (w : State K
         → Sound x (record (stepped w s p') { tables = tables'; holds = w.holds; blocks = w.blocks ++ d ∷ []; replies = w.replies })
     sound-listed claim left within agree =
         sound-by x w s p p' at sound (w.blocks ++ d ∷ []) tables' w.holds w.replies (λ b. AreApart x b d) leaves
-          (record {
-            program = st.program;
-            has = st.has;
-            asks_left = left;
-            within = within;
-            answered = next ∙ st.answered;
-            own_block = λ i h. (d, ap (λ k. slice_get (w.blocks ++ d ∷ []) k) (sym (same_Some (length w.blocks) i (sym mine ∙ h))) ∙ slice_get-push_at w.blocks d, listed.thread);
-            owns = λ i b hb thread. elim (slice_get-push_cases w.blocks i b d hb) [
-                inl old ↦ elim (st.owns i b old thread) [ inl below ↦ inl (rw next below) | inr its ↦ absurd (false≢true (sym not_yet ∙ its.2)) ]
-              | inr new ↦ inr (ap (λ z. z.call) new.1 ∙ listed.call ∙ sym next, mine ∙ ap (λ k. Some k) (sym new.0), own)
-              ];
-            claim = claim;
-          })
-          agree
-          (holds-same w.places w.holds sound.holds s.thread p p' at hold)
-          (placed-push x (threads_of w) s.thread (started_of w) (started_of (stepped w s p')) w.blocks w.replies
-            (started-stays x w s p p' at (λ k h. started ∙ h)) d new-placed (listed.position ∙ number) earlier sound.placed)
-          (replies-kept x w.blocks (w.blocks ++ d ∷ []) w.replies
-            (λ i r hr. keeps-push x w.blocks d r.thread r.call (λ same.
-              let below = reply-below x (threads_of w) (started_of w) w.blocks w.replies sound.placed i r hr in
-              let mine' : r.thread ≡ s.thread = sym same ∙ listed.thread in
-              let count : p.next ≡ answered_of w.replies r.thread = st.answered ∙ ap (answered_of w.replies) (sym mine') in
-              rw listed.call (omega (arith, below, count))))
-            sound.replies)
+        (record {
+          program = st.program;
+          has = st.has;
+          asks_left = left;
+          within = within;
+          answered = next ∙ st.answered;
+          own_block = λ i h. (d, ap (λ k. slice_get (w.blocks ++ d ∷ []) k) (sym (same_Some (length w.blocks) i (sym mine ∙ h))) ∙ slice_get-push_at w.blocks d, listed.thread);
+          owns = λ i b hb thread. elim (slice_get-push_cases w.blocks i b d hb) [
+            | inl old ↦ elim (st.owns i b old thread) [ inl below ↦ inl (rw next below) | inr its ↦ absurd (false≢true (sym not_yet ∙ its.2)) ]
+            | inr new ↦ inr (ap (λ z. z.call) new.1 ∙ listed.call ∙ sym next, mine ∙ ap (λ k. Some k) (sym new.0), own)
+          ];
+          claim = claim;
+        })
+        agree
+        (holds-same w.places w.holds sound.holds s.thread p p' at hold)
+        (placed-push x (threads_of w) s.thread (started_of w) (started_of (stepped w s p')) w.blocks w.replies
+        (started-stays x w s p p' at (λ k h. started ∙ h)) d new-placed (listed.position ∙ number) earlier sound.placed)
+        (replies-kept x w.blocks (w.blocks ++ d ∷ []) w.replies
+        (λ i r hr. keeps-push x w.blocks d r.thread r.call (λ same.
+        let below = reply-below x (threads_of w) (started_of w) w.blocks w.replies sound.placed i r hr in
+        let mine' : r.thread ≡ s.thread = sym same ∙ listed.thread in
+        let count : p.next ≡ answered_of w.replies r.thread = st.answered ∙ ap (answered_of w.replies) (sym mine') in
+        rw listed.call (omega (arith, below, count))))
+        sound.replies)
 
   -- where the new block changes nothing, all contents stay
   pub contents-listed : ((o : Option (K × V)) → contents x w.blocks key ≡ o → pair_in (reached x d.thread d.call d.done.value o) ≡ o)
@@ -137,5 +137,6 @@ module _ {K V S D T A : Type 0} (x : Setup K V D T) (laws : Laws x) (w : State K
           let same : x.eq key q ≡ true = sym (ap (λ o. is_key x.eq o q) new-key) ∙ touched in
           left-touched x q (contents x w.blocks q) d touched
           ∙ quiet (contents x w.blocks q) (contents-same x laws w.blocks key q same)
+
       no_ : is_key x.eq (block_key x d) q ≡ false → left x q (contents x w.blocks q) d ≡ contents x w.blocks q
       no_ untouched = left-untouched x q (contents x w.blocks q) d untouched

@@ -127,12 +127,12 @@ module _ {K V D T A : Type 0} (x : Setup K V D T) (threads : List ℕ) (s : ℕ)
 
   pub stands-other : Stands x threads bs replies tables u p → Stands x (threads ++ s ∷ []) bs' replies' tables' u p
   stands-other h = record {
-      program = h.program;
-      has = h.has;
-      asks_left = h.asks_left;
-      within = h.within;
-      answered = h.answered ∙ sym count;
-      owns = λ i b at own. h.owns i b (comes i b at own) own;
-      own_block = λ i mine. let o = h.own_block i mine in (o.0, (stays i o.0 o.1 o.2).0, o.2);
-      claim = claim p.phase h.claim;
-    }
+    program = h.program;
+    has = h.has;
+    asks_left = h.asks_left;
+    within = h.within;
+    answered = h.answered ∙ sym count;
+    owns = λ i b at own. h.owns i b (comes i b at own) own;
+    own_block = λ i mine. let o = h.own_block i mine in (o.0, (stays i o.0 o.1 o.2).0, o.2);
+    claim = claim p.phase h.claim;
+  }

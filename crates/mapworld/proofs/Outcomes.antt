@@ -14,9 +14,9 @@ element-at xs i lt = elim (slice_get_cases xs i).1 [ inl here ↦ (here.0, here.
 
 pub agrees : {K V S D T A : Type 0} (x : Setup K V D T) → Laws x → (w : State K V S D T A) → Sound x w → Agrees x w.blocks (pairs_of w) w.replies
 agrees x laws w sound = record {
-    distinct = pairs_distinct x w.blocks w.tables laws sound.tables;
-    contents_are = λ q.
+  distinct = pairs_distinct x w.blocks w.tables laws sound.tables;
+  contents_are = λ q.
       let table = element-at w.tables (x.route q) (sound.routes q) in
       pair_at_route x w.blocks w.tables laws sound.tables q table.0 table.1 ∙ sound.tables.contents_are q table.0 table.1;
-    replies_are = sound.replies;
-  }
+  replies_are = sound.replies;
+}

@@ -66,34 +66,41 @@ module _ {K V S D T A : Type 0} (x : Setup K V D T) (laws : Laws x) (w : State K
       let r : Answer K V T = answer.Read (x.deeds.answer a.deed a.pair.0 a.pair.1) in
       let p' : Place K V D T A = record p { phase = phase.Answer r } in
       let told : held_answer x.deeds (held.Read a.deed) (reached x s.thread c (p.next - c) (found x w.blocks i b)) ≡ r =
-        ap (held_answer x.deeds (held.Read a.deed)) stood ∙ ap (λ (z : K × V). answer.Read (x.deeds.answer a.deed z.0 z.1)) (sym pair) in
+      ap (held_answer x.deeds (held.Read a.deed)) stood ∙ ap (λ (z : K × V). answer.Read (x.deeds.answer a.deed z.0 z.1)) (sym pair) in
       let leaves : held_leaves x.deeds (held.Read a.deed) (reached x s.thread c (p.next - c) (found x w.blocks i b)) ≡ shared guard.0 = ap (held_leaves x.deeds (held.Read a.deed)) stood in
       let on = growing.session-on x laws w s sound p a.stands (held.Read a.deed) call.asked c i inside session b d n.2 n.3 p'
-        (subst (λ (o : Option ℕ). GuardIs w.tables p' o (held_leaves x.deeds (held.Read a.deed) (reached x s.thread c (p.next - c) (found x w.blocks i b)))) (sym slot)
-          (guard.0, leaves, holds-moved x p p' Shared refl refl guard.2, guard.3)) in
+      (subst (λ (o : Option ℕ). GuardIs w.tables p' o (held_leaves x.deeds (held.Read a.deed) (reached x s.thread c (p.next - c) (found x w.blocks i b)))) (sym slot)
+      (guard.0, leaves, holds-moved x p p' Shared refl refl guard.2, guard.3)) in
       let behind : session_of x s.thread (p.next + 1) ≡ Some c = session-next x s.thread st.program st.has p.next (ask.Held (held.Read a.deed)) call.asked ∙ inside in
       let stays : Some i ≡ block_after p' = sym g.3 ∙ sym (ap (λ (z : Bool). if z then None else p.block) call.closes) in
       subst (Sound x) (sym (a.after ∙ ap (λ (z : List (Block K)). record (stepped w s p') { blocks = z }) n.4))
-        (growing.sound-counted x laws w s sound p a.stands (held.Read a.deed) call.asked c i inside session b d n.2 n.3 p'
-          (rw call.started refl) (λ m h. h) w.holds refl (inl refl)
-          (ask.Held (held.Read a.deed), IsInCall-push x (threads_of w) s.thread s.thread p' _ (in_call-moved x p p' (threads_of w) s.thread _ refl refl refl call),
-            (λ h. absurd (none-some a.slot (sym h ∙ slot))),
-            in-session x (slice_set w.blocks i d) s.thread p.next c r inside
-              (subst (λ (z : Answer K V T). IsToldBy x (slice_set w.blocks i d) s.thread c (p.next - c) z) told
-                (growing.told-more x laws w s sound p a.stands (held.Read a.deed) call.asked c i inside session b d n.2 n.3)),
-            ready-inside x (slice_set w.blocks i d) w.tables s.thread p' (p.next + 1) c i (block_after p') behind stays on)
-          (taken-at x (threads_of w) w.blocks w.replies w.tables s.thread p (phase.Read a.deed) a.before st)
-          (within-at x (threads_of w) w.blocks w.replies w.tables s.thread p (phase.Read a.deed) a.before st)
-          (holds-same w.places w.holds sound.holds s.thread p p' a.stands refl)
-          (growing.owns-grown x laws w s sound p a.stands (held.Read a.deed) call.asked c i inside session b d n.2 n.3 p' refl (ap may_own a.before)))
+      (growing.sound-counted x laws w s sound p a.stands (held.Read a.deed) call.asked c i inside session b d n.2 n.3 p'
+      (rw call.started refl) (λ m h. h) w.holds refl (inl refl) (
+        ask.Held (held.Read a.deed),
+        IsInCall-push x (threads_of w) s.thread s.thread p' _ (in_call-moved x p p' (threads_of w) s.thread _ refl refl refl call),
+        (λ h. absurd (none-some a.slot (sym h ∙ slot))),
+        in-session x (slice_set w.blocks i d) s.thread p.next c r inside
+            (subst (λ (z : Answer K V T). IsToldBy x (slice_set w.blocks i d) s.thread c (p.next - c) z) told
+            (growing.told-more x laws w s sound p a.stands (held.Read a.deed) call.asked c i inside session b d n.2 n.3)),
+        ready-inside x (slice_set w.blocks i d) w.tables s.thread p' (p.next + 1) c i (block_after p') behind stays on,
+      )
+      (taken-at x (threads_of w) w.blocks w.replies w.tables s.thread p (phase.Read a.deed) a.before st)
+      (within-at x (threads_of w) w.blocks w.replies w.tables s.thread p (phase.Read a.deed) a.before st)
+      (holds-same w.places w.holds sound.holds s.thread p p' a.stands refl)
+      (growing.owns-grown x laws w s sound p a.stands (held.Read a.deed) call.asked c i inside session b d n.2 n.3 p' refl (ap may_own a.before)))
 
   -- without a guard neither hold nor list counts
   unguarded : (p p' : Place K V D T A) (n : ℕ) (o block : Option ℕ) → p.slot ≡ None → p'.slot ≡ None → IsInSession x w.blocks w.tables s.thread p n o block → IsInSession x w.blocks w.tables s.thread p' n o block
   unguarded p p' n (Some c) (Some i) none none' h = record {
-      block = h.block; listed = h.listed; thread = h.thread; call = h.call; below = h.below; done = h.done;
-      guard = subst (λ (z : Option ℕ). GuardIs w.tables p' z (reached x s.thread c (n - c) (found x w.blocks i h.block))) (sym none')
+    block = h.block;
+    listed = h.listed;
+    thread = h.thread;
+    call = h.call;
+    below = h.below;
+    done = h.done;
+    guard = subst (λ (z : Option ℕ). GuardIs w.tables p' z (reached x s.thread c (n - c) (found x w.blocks i h.block))) (sym none')
         (subst (λ (z : Option ℕ). GuardIs w.tables p z (reached x s.thread c (n - c) (found x w.blocks i h.block))) none h.guard);
-    }
+  }
   unguarded p p' n (Some c) None none none' h = (none', h.1)
   unguarded p p' n None block none none' h = (none', h.1)
 
@@ -106,27 +113,27 @@ module _ {K V S D T A : Type 0} (x : Setup K V D T) (laws : Laws x) (w : State K
       let p' : Place K V D T A = record p { hold = None; slot = None; phase = phase.Answer a.answer } in
       let same : a.blocks ≡ w.blocks = subst (λ (z : Option ℕ). CountsCall w.blocks (if is_some z then p.block else None) p.next a.blocks) none a.counted in
       subst (Sound x) (sym (a.after ∙ ap (λ (z : List (Block K)). record (stepped w s p') { holds = remove w.holds a.entry; blocks = z }) same))
-        (sound-by x w s p p' a.stands sound w.blocks w.tables (remove w.holds a.entry) w.replies _ (leaves-same x w s p p' a.stands sound (remove w.holds a.entry))
-          (record {
-            program = st.program;
-            has = st.has;
-            asks_left = taken-at x (threads_of w) w.blocks w.replies w.tables s.thread p (phase.Release a.answer) a.before st;
-            within = within-at x (threads_of w) w.blocks w.replies w.tables s.thread p (phase.Release a.answer) a.before st;
-            answered = st.answered;
-            own_block = st.own_block;
-            owns = owns-on w.blocks s.thread p p' st.owns refl refl (λ own. refl);
-            claim = (
-              cl.0,
-              IsInCall-push x (threads_of w) s.thread s.thread p' _ (in_call-moved x p p' (threads_of w) s.thread _ refl refl refl cl.2),
-              (λ z. refl),
-              h.0,
-              unguarded p p' (p.next + 1) (session_of x s.thread (p.next + 1)) (block_after p) none refl h.1,
-            );
-          })
-          (tables-same x w.blocks w.blocks w.tables w.tables sound.tables (λ q. refl))
-          (holds-remove w.places w.holds sound.holds s.thread p p' a.stands a.hold a.entry a.holds refl a.listed)
-          (placed-same x (threads_of w) s.thread (started_of w) (started_of (stepped w s p')) w.blocks w.replies (started-stays x w s p p' a.stands (λ n z. z)) sound.placed)
-          sound.replies)
+      (sound-by x w s p p' a.stands sound w.blocks w.tables (remove w.holds a.entry) w.replies _ (leaves-same x w s p p' a.stands sound (remove w.holds a.entry))
+      (record {
+        program = st.program;
+        has = st.has;
+        asks_left = taken-at x (threads_of w) w.blocks w.replies w.tables s.thread p (phase.Release a.answer) a.before st;
+        within = within-at x (threads_of w) w.blocks w.replies w.tables s.thread p (phase.Release a.answer) a.before st;
+        answered = st.answered;
+        own_block = st.own_block;
+        owns = owns-on w.blocks s.thread p p' st.owns refl refl (λ own. refl);
+        claim = (
+          cl.0,
+          IsInCall-push x (threads_of w) s.thread s.thread p' _ (in_call-moved x p p' (threads_of w) s.thread _ refl refl refl cl.2),
+          (λ z. refl),
+          h.0,
+          unguarded p p' (p.next + 1) (session_of x s.thread (p.next + 1)) (block_after p) none refl h.1,
+        );
+      })
+      (tables-same x w.blocks w.blocks w.tables w.tables sound.tables (λ q. refl))
+      (holds-remove w.places w.holds sound.holds s.thread p p' a.stands a.hold a.entry a.holds refl a.listed)
+      (placed-same x (threads_of w) s.thread (started_of w) (started_of (stepped w s p')) w.blocks w.replies (started-stays x w s p p' a.stands (λ n z. z)) sound.placed)
+      sound.replies)
   released a (Some slot) guarded h =
       let p = a.place in
       let st = sound.stands s.thread p a.stands in
@@ -135,7 +142,7 @@ module _ {K V S D T A : Type 0} (x : Setup K V D T) (laws : Laws x) (w : State K
       let g = growing.session-of-guard x w.blocks w.tables s.thread p p.next slot (session_of x s.thread p.next) p.block guarded h.2 in
       let c = g.0 in let i = g.1 in let inside = g.2 in let session = g.4 in
       let n = counted-block w.blocks p.block i p.next a.blocks g.3
-        (subst (λ (z : Option ℕ). CountsCall w.blocks (if is_some z then p.block else None) p.next a.blocks) guarded a.counted) in
+      (subst (λ (z : Option ℕ). CountsCall w.blocks (if is_some z then p.block else None) p.next a.blocks) guarded a.counted) in
       let b = n.0 in let d = n.1 in
       let its : session.block ≡ b = same_Some session.block b (sym session.listed ∙ n.2) in
       let guard = guard-shared w.tables p p.slot slot (reached x s.thread c (p.next - c) (found x w.blocks i session.block)) guarded session.guard in
@@ -145,23 +152,25 @@ module _ {K V S D T A : Type 0} (x : Setup K V D T) (laws : Laws x) (w : State K
       let outside : session_of x s.thread (p.next + 1) ≡ None = session-next x s.thread st.program st.has p.next (ask.Held held.Drop) call.asked in
       let closes : block_after p' ≡ None = ap (λ (z : Bool). if z then None else p.block) call.closes in
       subst (Sound x) (sym (a.after ∙ ap (λ (z : List (Block K)). record (stepped w s p') { holds = remove w.holds a.entry; blocks = z }) n.4))
-        (growing.sound-counted x laws w s sound p a.stands held.Drop call.asked c i inside session b d n.2 n.3 p'
-          (rw call.started refl) (λ m z. z) (remove w.holds a.entry) refl (inl refl)
-          (ask.Held held.Drop, IsInCall-push x (threads_of w) s.thread s.thread p' _ (in_call-moved x p p' (threads_of w) s.thread _ refl refl refl call),
-            (λ z. refl),
-            in-session x (slice_set w.blocks i d) s.thread p.next c a.answer inside
-              (subst (λ (z : Answer K V T). IsToldBy x (slice_set w.blocks i d) s.thread c (p.next - c) z) told
-                (growing.told-more x laws w s sound p a.stands held.Drop call.asked c i inside session b d n.2 n.3)),
-            ready-outside x (slice_set w.blocks i d) w.tables s.thread p' (p.next + 1) (block_after p') outside refl closes)
-          (taken-at x (threads_of w) w.blocks w.replies w.tables s.thread p (phase.Release a.answer) a.before st)
-          (within-at x (threads_of w) w.blocks w.replies w.tables s.thread p (phase.Release a.answer) a.before st)
-          (holds-remove w.places w.holds sound.holds s.thread p p' a.stands a.hold a.entry a.holds refl a.listed)
-          (λ j e here thread. elim (slice_get-set_cases w.blocks i j b e d n.2 here) [
-              inl own ↦ inl (rw (own.1, n.3.call) (let k = growing.call-is x laws w s sound p a.stands held.Drop call.asked c i inside session b d n.2 n.3 in let lt = session.below in omega arith))
-            | inr other ↦ elim (st.owns j e other.1 thread) [ inl below ↦ inl below | inr mine ↦ inr (mine.0, mine.1, refl) ]
-            ]))
+      (growing.sound-counted x laws w s sound p a.stands held.Drop call.asked c i inside session b d n.2 n.3 p'
+      (rw call.started refl) (λ m z. z) (remove w.holds a.entry) refl (inl refl) (
+        ask.Held held.Drop,
+        IsInCall-push x (threads_of w) s.thread s.thread p' _ (in_call-moved x p p' (threads_of w) s.thread _ refl refl refl call),
+        (λ z. refl),
+        in-session x (slice_set w.blocks i d) s.thread p.next c a.answer inside
+            (subst (λ (z : Answer K V T). IsToldBy x (slice_set w.blocks i d) s.thread c (p.next - c) z) told
+            (growing.told-more x laws w s sound p a.stands held.Drop call.asked c i inside session b d n.2 n.3)),
+        ready-outside x (slice_set w.blocks i d) w.tables s.thread p' (p.next + 1) (block_after p') outside refl closes,
+      )
+      (taken-at x (threads_of w) w.blocks w.replies w.tables s.thread p (phase.Release a.answer) a.before st)
+      (within-at x (threads_of w) w.blocks w.replies w.tables s.thread p (phase.Release a.answer) a.before st)
+      (holds-remove w.places w.holds sound.holds s.thread p p' a.stands a.hold a.entry a.holds refl a.listed)
+      (λ j e here thread. elim (slice_get-set_cases w.blocks i j b e d n.2 here) [
+        | inl own ↦ inl (rw (own.1, n.3.call) (let k = growing.call-is x laws w s sound p a.stands held.Drop call.asked c i inside session b d n.2 n.3 in let lt = session.below in omega arith))
+        | inr other ↦ elim (st.owns j e other.1 thread) [ inl below ↦ inl below | inr mine ↦ inr (mine.0, mine.1, refl) ]
+      ]))
 
   pub sound-releases : Releases x w s w' → Sound x w'
   sound-releases a =
       released a a.place.slot refl
-        (claim-at x (threads_of w) w.blocks w.replies w.tables s.thread a.place (phase.Release a.answer) a.before (sound.stands s.thread a.place a.stands)).4
+      (claim-at x (threads_of w) w.blocks w.replies w.tables s.thread a.place (phase.Release a.answer) a.before (sound.stands s.thread a.place a.stands)).4

@@ -20,7 +20,7 @@ module _ {K V S D T A : Type 0} (x : Setup K V D T) where
   Ran-more n w [] w' s w'' ran free_ step =
       let here : n + 0 ≡ n = omega arith in
       subst (λ (v : State K V S D T A). Ran x n v (s ∷ []) w'') ran
-        (w'', ap (λ k. refusal w' k s) (sym here) ∙ free_, step, refl)
+      (w'', ap (λ k. refusal w' k s) (sym here) ∙ free_, step, refl)
   Ran-more n w (t ∷ steps) w' s w'' ran free_ step =
       let here : n + length (t ∷ steps) ≡ n + 1 + length steps = omega arith in
       (ran.0, ran.1, ran.2, Ran-more (n + 1) ran.0 steps w' s w'' ran.3 (ap (λ k. refusal w' k s) (sym here) ∙ free_) step)

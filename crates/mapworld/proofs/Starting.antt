@@ -94,20 +94,20 @@ module _ {K V S D T A : Type 0} (x : Setup K V D T) (laws : Laws x) (w : State K
         → Sound x (record (stepped w s (begun a slot)) { tables = w.tables; holds = w.holds; blocks = w.blocks; replies = w.replies })
     sound-begun slot busy claim =
         sound-by x w s p (begun a slot) at sound w.blocks w.tables w.holds w.replies _ (leaves-same x w s p (begun a slot) at sound w.holds)
-          (record {
-            program = st.program;
-            has = st.has;
-            asks_left = rw busy first.1;
-            within = rw busy (let lt = first.2 in omega arith);
-            answered = st.answered;
-            own_block = st.own_block;
-            owns = owns-on w.blocks s.thread p (begun a slot) st.owns refl refl (λ own. absurd (false≢true (sym (ap may_own before) ∙ own)));
-            claim = claim;
-          })
-          (tables-same x w.blocks w.blocks w.tables w.tables sound.tables (λ q. refl))
-          (holds-same w.places w.holds sound.holds s.thread p (begun a slot) at refl)
-          (placed-same x (threads_of w) s.thread (started_of w) (started_of (stepped w s (begun a slot))) w.blocks w.replies (started-stays x w s p (begun a slot) at (stays slot)) sound.placed)
-          sound.replies
+        (record {
+          program = st.program;
+          has = st.has;
+          asks_left = rw busy first.1;
+          within = rw busy (let lt = first.2 in omega arith);
+          answered = st.answered;
+          own_block = st.own_block;
+          owns = owns-on w.blocks s.thread p (begun a slot) st.owns refl refl (λ own. absurd (false≢true (sym (ap may_own before) ∙ own)));
+          claim = claim;
+        })
+        (tables-same x w.blocks w.blocks w.tables w.tables sound.tables (λ q. refl))
+        (holds-same w.places w.holds sound.holds s.thread p (begun a slot) at refl)
+        (placed-same x (threads_of w) s.thread (started_of w) (started_of (stepped w s (begun a slot))) w.blocks w.replies (started-stays x w s p (begun a slot) at (stays slot)) sound.placed)
+        sound.replies
 
   -- the world behind a start
   abbrev pub Begun : Ask K V D → Option ℕ → List (Block K) → Type 0
@@ -127,25 +127,27 @@ module _ {K V S D T A : Type 0} (x : Setup K V D T) (laws : Laws x) (w : State K
       let next = session-next x s.thread st.program st.has p.next a (asked a asks) in
       let after : block_after p' ≡ None = block_after-none p' free_ in
       sound-begun a asks None (ap is_resting phase-is)
-        (subst (λ f. Claim x (threads_of w ++ s.thread ∷ []) w.blocks w.tables s.thread p' f) (sym phase-is)
-          (a, in_call a asks None, (λ z. resting.1 none), told (session_of x s.thread p.next) refl, ready (session_of x s.thread p.next) refl next after))
+      (subst (λ f. Claim x (threads_of w ++ s.thread ∷ []) w.blocks w.tables s.thread p' f) (sym phase-is)
+      (a, in_call a asks None, (λ z. resting.1 none), told (session_of x s.thread p.next) refl, ready (session_of x s.thread p.next) refl next after))
     where
       state : (o : Option ℕ) → session_of x s.thread p.next ≡ o → IsInSession x w.blocks w.tables s.thread p p.next o None
       state o inside = subst (λ (z : Option ℕ). IsInSession x w.blocks w.tables s.thread p p.next o z) free_ (subst (λ (z : Option ℕ). IsInSession x w.blocks w.tables s.thread p p.next z p.block) inside resting.2)
+
       told : (o : Option ℕ) → session_of x s.thread p.next ≡ o → IsAnsweredInSession x w.blocks s.thread p.next (session_of x s.thread p.next) answer.NoGuard
       told None inside = subst (λ (z : Option ℕ). IsAnsweredInSession x w.blocks s.thread p.next z answer.NoGuard) (sym inside) refl
       told (Some c) inside = subst (λ (z : Option ℕ). IsAnsweredInSession x w.blocks s.thread p.next z answer.NoGuard) (sym inside) (inr (refl, (state (Some c) inside).1))
+
       ready : (o : Option ℕ) → session_of x s.thread p.next ≡ o → session_of x s.thread (p.next + 1) ≡ behind h (session_of x s.thread p.next)
           → block_after (begun (ask.Held h) None) ≡ None → IsReady x w.blocks w.tables s.thread (begun (ask.Held h) None) (p.next + 1) (block_after (begun (ask.Held h) None))
       ready None inside next after =
           ready-outside x w.blocks w.tables s.thread (begun (ask.Held h) None) (p.next + 1) (block_after (begun (ask.Held h) None))
-            (next ∙ ap (behind h) inside ∙ out) none after
+          (next ∙ ap (behind h) inside ∙ out) none after
       ready (Some c) inside next after = elim (goes c) [
-          inl on ↦ subst (λ (z : Option ℕ). IsInSession x w.blocks w.tables s.thread (begun (ask.Held h) None) (p.next + 1) z (block_after (begun (ask.Held h) None))) (sym (next ∙ ap (behind h) inside ∙ on))
+        | inl on ↦ subst (λ (z : Option ℕ). IsInSession x w.blocks w.tables s.thread (begun (ask.Held h) None) (p.next + 1) z (block_after (begun (ask.Held h) None))) (sym (next ∙ ap (behind h) inside ∙ on))
             (subst (λ (z : Option ℕ). IsInSession x w.blocks w.tables s.thread (begun (ask.Held h) None) (p.next + 1) (Some c) z) (sym after) (none, (state (Some c) inside).1))
         | inr off ↦ ready-outside x w.blocks w.tables s.thread (begun (ask.Held h) None) (p.next + 1) (block_after (begun (ask.Held h) None))
             (next ∙ ap (behind h) inside ∙ off) none after
-        ]
+      ]
 
   -- one in a session whose guard has ended, or whose opening found nothing: the session's block counts it in
   no-guard_counted : (h : Held D) (asks : p.asks.items ≡ ask.Held h ∷ rest.items) → p.slot ≡ None → (i : ℕ) → p.block ≡ Some i → phase_of h ≡ phase.Answer answer.NoGuard
@@ -160,35 +162,38 @@ module _ {K V S D T A : Type 0} (x : Setup K V D T) (laws : Laws x) (w : State K
           let a : Ask K V D = ask.Held h in
           let p' = begun a None in
           let session : HasSession x w.blocks w.tables s.thread p p.next c i =
-            subst (λ (z : Option ℕ). IsInSession x w.blocks w.tables s.thread p p.next (Some c) z) mine (subst (λ (z : Option ℕ). IsInSession x w.blocks w.tables s.thread p p.next z p.block) inside resting.2) in
+          subst (λ (z : Option ℕ). IsInSession x w.blocks w.tables s.thread p p.next (Some c) z) mine (subst (λ (z : Option ℕ). IsInSession x w.blocks w.tables s.thread p p.next z p.block) inside resting.2) in
           let b = n.0 in let d = n.1 in
           let its : session.block ≡ b = same_Some session.block b (sym session.listed ∙ n.2) in
           let guard : (o : Option (K × V)) × (reached x s.thread c (p.next - c) (found x w.blocks i session.block) ≡ free o) =
-            subst (λ (z : Option ℕ). GuardIs w.tables p z (reached x s.thread c (p.next - c) (found x w.blocks i session.block))) none session.guard in
+          subst (λ (z : Option ℕ). GuardIs w.tables p z (reached x s.thread c (p.next - c) (found x w.blocks i session.block))) none session.guard in
           let stood : reached x s.thread c (p.next - c) (found x w.blocks i b) ≡ free guard.0 = ap (λ z. reached x s.thread c (p.next - c) (found x w.blocks i z)) (sym its) ∙ guard.1 in
           let told : held_answer x.deeds h (reached x s.thread c (p.next - c) (found x w.blocks i b)) ≡ answer.NoGuard = ap (held_answer x.deeds h) stood ∙ answers guard.0 in
           let on = growing.session-on x laws w s sound p at h (asked a asks) c i inside session b d n.2 n.3 p'
-            (subst (λ (o : Option ℕ). GuardIs w.tables p' o (held_leaves x.deeds h (reached x s.thread c (p.next - c) (found x w.blocks i b)))) (sym none)
-              (guard.0, ap (held_leaves x.deeds h) stood ∙ leaves guard.0)) in
+          (subst (λ (o : Option ℕ). GuardIs w.tables p' o (held_leaves x.deeds h (reached x s.thread c (p.next - c) (found x w.blocks i b)))) (sym none)
+          (guard.0, ap (held_leaves x.deeds h) stood ∙ leaves guard.0)) in
           let next : session_of x s.thread (p.next + 1) ≡ session_behind p.next (Some a) (Some c) =
-            session-next x s.thread st.program st.has p.next a (asked a asks) ∙ ap (session_behind p.next (Some a)) inside in
+          session-next x s.thread st.program st.has p.next a (asked a asks) ∙ ap (session_behind p.next (Some a)) inside in
           let ready : IsReady x (slice_set w.blocks i d) w.tables s.thread p' (p.next + 1) (block_after p') = elim (goes c) [
-              inl goes-on ↦ ready-inside x (slice_set w.blocks i d) w.tables s.thread p' (p.next + 1) c i (block_after p') (next ∙ goes-on.0)
+            | inl goes-on ↦ ready-inside x (slice_set w.blocks i d) w.tables s.thread p' (p.next + 1) c i (block_after p') (next ∙ goes-on.0)
                 (sym mine ∙ sym (ap (λ (z : Bool). if z then None else p.block) goes-on.1)) on
             | inr ends ↦ ready-outside x (slice_set w.blocks i d) w.tables s.thread p' (p.next + 1) (block_after p') (next ∙ ends.0) none
                 (ap (λ (z : Bool). if z then None else p.block) ends.1)
-            ] in
+          ] in
           subst (λ (z : List (Block K)). Begun a None z) (sym n.4)
-            (growing.sound-counted x laws w s sound p at h (asked a asks) c i inside session b d n.2 n.3 p' refl (stays a asks None) w.holds refl (inl refl)
-              (subst (λ f. Claim x (threads_of w ++ s.thread ∷ []) (slice_set w.blocks i d) w.tables s.thread p' f) (sym phase-is)
-                (a, in_call a asks None, (λ z. resting.1 none),
-                  in-session x (slice_set w.blocks i d) s.thread p.next c answer.NoGuard inside
-                    (subst (λ (z : Answer K V T). IsToldBy x (slice_set w.blocks i d) s.thread c (p.next - c) z) told (growing.told-more x laws w s sound p at h (asked a asks) c i inside session b d n.2 n.3)),
-                  ready))
-              (subst (λ (z : Bool). rest.items ≡ drop (if z then p.next else p.next + 1) st.program) (sym (ap is_resting phase-is)) (first a asks).1)
-              (subst (λ (z : Bool). (if z then p.next else p.next + 1) ≤ length st.program) (sym (ap is_resting phase-is)) (let lt = (first a asks).2 in let r : p.next + 1 ≤ length st.program = omega arith in r))
-              (holds-same w.places w.holds sound.holds s.thread p p' at refl)
-              (growing.owns-grown x laws w s sound p at h (asked a asks) c i inside session b d n.2 n.3 p' refl (ap may_own before)))
+          (growing.sound-counted x laws w s sound p at h (asked a asks) c i inside session b d n.2 n.3 p' refl (stays a asks None) w.holds refl (inl refl)
+          (subst (λ f. Claim x (threads_of w ++ s.thread ∷ []) (slice_set w.blocks i d) w.tables s.thread p' f) (sym phase-is) (
+            a,
+            in_call a asks None,
+            (λ z. resting.1 none),
+            in-session x (slice_set w.blocks i d) s.thread p.next c answer.NoGuard inside
+                (subst (λ (z : Answer K V T). IsToldBy x (slice_set w.blocks i d) s.thread c (p.next - c) z) told (growing.told-more x laws w s sound p at h (asked a asks) c i inside session b d n.2 n.3)),
+            ready,
+          ))
+          (subst (λ (z : Bool). rest.items ≡ drop (if z then p.next else p.next + 1) st.program) (sym (ap is_resting phase-is)) (first a asks).1)
+          (subst (λ (z : Bool). (if z then p.next else p.next + 1) ≤ length st.program) (sym (ap is_resting phase-is)) (let lt = (first a asks).2 in let r : p.next + 1 ≤ length st.program = omega arith in r))
+          (holds-same w.places w.holds sound.holds s.thread p p' at refl)
+          (growing.owns-grown x laws w s sound p at h (asked a asks) c i inside session b d n.2 n.3 p' refl (ap may_own before)))
 
   on-guard : (h : Held D) (asks : p.asks.items ≡ ask.Held h ∷ rest.items) → p.slot ≡ None → phase_of h ≡ phase.Answer answer.NoGuard
       → ((o : Option (K × V)) → held_answer x.deeds h (free o) ≡ answer.NoGuard) → ((o : Option (K × V)) → held_leaves x.deeds h (free o) ≡ free o)
@@ -205,25 +210,29 @@ module _ {K V S D T A : Type 0} (x : Setup K V D T) (laws : Laws x) (w : State K
       let outside = keyed-apart x laws w s w sound p st k (asked a asks) in
       let nothing = outside-free x w.blocks w.tables s.thread p p.next p.block outside.0 resting.2 in
       same-blocks a slot blocks n (sound-begun a asks slot refl
-        (in_call a asks slot, record { block = nothing.1; slot = nothing.0; shard = shard-keyed D x.route k p.shard }, resting.1 nothing.0))
+      (in_call a asks slot, record { block = nothing.1; slot = nothing.0; shard = shard-keyed D x.route k p.shard }, resting.1 nothing.0))
   begun-by (ask.Begin b) asks slot e blocks n =
       let a : Ask K V D = ask.Begin b in
       let outside = begin-apart x laws w s w sound p st b (asked a asks) in
       let nothing = outside-free x w.blocks w.tables s.thread p p.next p.block outside.0 resting.2 in
       same-blocks a slot blocks n (sound-begun a asks slot refl
-        (in_call a asks slot, record { block = nothing.1; slot = nothing.0; shard = shard-begin V D x.route b p.shard }, resting.1 nothing.0))
+      (in_call a asks slot, record { block = nothing.1; slot = nothing.0; shard = shard-begin V D x.route b p.shard }, resting.1 nothing.0))
   begun-by (ask.Held (held.Read d)) asks (Some i) e blocks n =
       let a : Ask K V D = ask.Held (held.Read d) in
       same-blocks a (Some i) blocks n (sound-begun a asks (Some i) refl
-        (i, in_call a asks (Some i), e, ready-moved x p (begun a (Some i)) w.blocks w.tables s.thread p.next p.block refl refl refl resting.2))
+      (i, in_call a asks (Some i), e, ready-moved x p (begun a (Some i)) w.blocks w.tables s.thread p.next p.block refl refl refl resting.2))
   begun-by (ask.Held held.Drop) asks (Some i) e blocks n =
       let a : Ask K V D = ask.Held held.Drop in
       let p' = begun a (Some i) in
       let g = growing.session-of-guard x w.blocks w.tables s.thread p p.next i (session_of x s.thread p.next) p.block e resting.2 in
       let guard = guard-shared w.tables p p.slot i (reached x s.thread g.0 (p.next - g.0) (found x w.blocks g.1 g.4.block)) e g.4.guard in
-      same-blocks a (Some i) blocks n (sound-begun a asks (Some i) refl
-        (a, guard.2.hold, in_call a asks (Some i), guard.2.has,
-          subst (IsReleasing x w.blocks w.tables s.thread p' a answer.Done) (sym e) (refl, refl, ready-moved x p p' w.blocks w.tables s.thread p.next p.block refl refl refl resting.2)))
+      same-blocks a (Some i) blocks n (sound-begun a asks (Some i) refl (
+        a,
+        guard.2.hold,
+        in_call a asks (Some i),
+        guard.2.has,
+        subst (IsReleasing x w.blocks w.tables s.thread p' a answer.Done) (sym e) (refl, refl, ready-moved x p p' w.blocks w.tables s.thread p.next p.block refl refl refl resting.2),
+      ))
   begun-by (ask.Held (held.Read d)) asks None e blocks n =
       on-guard (held.Read d) asks e refl (λ o. refl) (λ o. refl) refl (λ c. inl (refl, refl)) blocks p.block refl n
   begun-by (ask.Held held.Drop) asks None e blocks n =

@@ -11,16 +11,16 @@ use Rattle.mapworld.specs.Running.{unanswered_of}
 
 abbrev pub state_of : {K V S D T A : Type 0} → Core K V S D T A → State K V S D T A
 state_of c = record {
-    hasher = c.hasher;
-    opening = c.opening.value.items;
-    programs = map (λ v. v.items) c.programs.value.items;
-    steps = c.steps.items;
-    places = c.places.items;
-    tables = c.tables.items;
-    holds = c.holds.items;
-    blocks = c.blocks.items;
-    replies = c.replies.items;
-  }
+  hasher = c.hasher;
+  opening = c.opening.value.items;
+  programs = map (λ v. v.items) c.programs.value.items;
+  steps = c.steps.items;
+  places = c.places.items;
+  tables = c.tables.items;
+  holds = c.holds.items;
+  blocks = c.blocks.items;
+  replies = c.replies.items;
+}
 
 -- whether a call before that phase isn't answered, may still list a block, and may still add a pair
 abbrev pub owes : {K V D T : Type 0} → Phase K V D T → ℕ

@@ -18,16 +18,16 @@ abbrev pub new_refusal : {K V D : Type 0} → ℕ → ℕ → List (List (Ask K 
 new_refusal shards pairs programs =
     if is_amount shards
     then (if nat_le 1 (length programs) && nat_le (length programs) 256
-      then (if nat_le (sum_by length programs) (2 ^ 20)
-        then (if nat_le pairs (2 ^ 31)
-          then (if list_all (one_guard false) programs
-            then (if nat_lt (sum_by (λ program. sum_by numbers_of program) programs) (2 ^ 32)
-              then None
-              else Some fault.NoGuardNumbers)
-            else Some fault.AsksWhileHolding)
-          else Some fault.TooManyPairs)
-        else Some fault.TooManyCalls)
-      else Some fault.TooManyThreads)
+    then (if nat_le (sum_by length programs) (2 ^ 20)
+    then (if nat_le pairs (2 ^ 31)
+    then (if list_all (one_guard false) programs
+    then (if nat_lt (sum_by (λ program. sum_by numbers_of program) programs) (2 ^ 32)
+    then None
+    else Some fault.NoGuardNumbers)
+    else Some fault.AsksWhileHolding)
+    else Some fault.TooManyPairs)
+    else Some fault.TooManyCalls)
+    else Some fault.TooManyThreads)
     else Some fault.BadShards
 
 -- a world is refused exactly so, and made otherwise, unless memory is short

@@ -38,12 +38,12 @@ module _ {K V S D T A : Type 0} (x : Setup K V D T) (w : State K V S D T A) (s :
     pub blocks : List (Block K)
     pub counted : CountsCall w.blocks (start_counts ask place.slot place.block) place.next blocks
     pub after : w' ≡ record (stepped w s (record place {
-        asks = rest;
-        started = Some (next_step w);
-        closes = is_last ask;
-        shard = start_shard x.route ask place.shard;
-        phase = start_phase ask place.slot;
-      })) { blocks = blocks }
+      asks = rest;
+      started = Some (next_step w);
+      closes = is_last ask;
+      shard = start_shard x.route ask place.shard;
+      phase = start_phase ask place.slot;
+    })) { blocks = blocks }
 
   -- an admission takes a hold that no other hold excludes, under a guard number that none of them has
   pub record Admits : Type 0 where
@@ -70,10 +70,10 @@ module _ {K V S D T A : Type 0} (x : Setup K V D T) (w : State K V S D T A) (s :
     pub blocks : List (Block K)
     pub listed : ListsBlock w s.thread place done blocks
     pub after : w' ≡ record (stepped w s (record place {
-        block = block_behind done (length w.blocks) place.block;
-        slot = found_slot request (slot_in x.eq table (request_key request));
-        phase = found_phase request (slot_in x.eq table (request_key request)) (has_room table);
-      })) { blocks = blocks }
+      block = block_behind done (length w.blocks) place.block;
+      slot = found_slot request (slot_in x.eq table (request_key request));
+      phase = found_phase request (slot_in x.eq table (request_key request)) (has_room table);
+    })) { blocks = blocks }
 
   -- a find that grows the shard's list, which keeps its pairs; it is the position of the block that it lists
   pub record GrowsList : Type 0 where
@@ -194,14 +194,14 @@ module _ {K V S D T A : Type 0} (x : Setup K V D T) (w : State K V S D T A) (s :
     pub blocks : List (Block K)
     pub ended : EndsBlock w.blocks place.block place.next (next_step w) blocks
     pub after : w' ≡ record (stepped w s (record place {
-        next = place.next + 1;
-        started = None;
-        block = if place.closes then None else place.block;
-        phase = phase.Rest;
-      })) {
-        blocks = blocks;
-        replies = w.replies ++ record { thread = s.thread; call = place.next; start = start; end = next_step w; answer = answer } ∷ [];
-      }
+      next = place.next + 1;
+      started = None;
+      block = if place.closes then None else place.block;
+      phase = phase.Rest;
+    })) {
+      blocks = blocks;
+      replies = w.replies ++ record { thread = s.thread; call = place.next; start = start; end = next_step w; answer = answer } ∷ [];
+    }
 
 -- one step of a world, of one kind
 pub data IsStep {K V S D T A : Type 0} (x : Setup K V D T) (w : State K V S D T A) (s : Step) (w' : State K V S D T A) : Type 0 where

@@ -14,9 +14,9 @@ deeds_of d = record { answer = d.answer_of; keep = d.keeps; effect = d.effect_of
 
 abbrev pub setup_of : {K V S H D T A : Type 0} → deed.Ghosts D K V T → builder.Ghosts S H → hasher.Ghosts H → (K → K → Bool) → (K → HashWrites) → State K V S D T A → Setup K V D T
 setup_of d b h eq writes w = record {
-    eq = eq;
-    route = key_route b h writes w.hasher (length w.tables);
-    deeds = deeds_of d;
-    programs = w.programs;
-    opening = w.opening;
-  }
+  eq = eq;
+  route = key_route b h writes w.hasher (length w.tables);
+  deeds = deeds_of d;
+  programs = w.programs;
+  opening = w.opening;
+}

@@ -20,7 +20,10 @@ use std::hash::{BuildHasher, Hash};
 use std::mem;
 
 /// Where the pair of the call's key stands in the table.
-fn slot_for<K: Eq, V, A: Allocator>(table: &Vec<(K, V), A>, request: &Request<K, V>) -> Option<usize>
+fn slot_for<K: Eq, V, A: Allocator>(
+    table: &Vec<(K, V), A>,
+    request: &Request<K, V>,
+) -> Option<usize>
     ensures { result ≡ slot_in K.eq table.now (request_key request.now) }
 {
     slot_of(table, request_key(request))

@@ -5,8 +5,8 @@ ghost use Rattle.mapworld.specs.World.{setup_of};
 ghost use Rattle.mapworld.specs.Sound.{Sound};
 ghost use Rattle.mapworld.specs.Core.{state_of, Room};
 
-use crate::fault::NoMemory;
 use crate::beginning::{empty_tables, fill, places_of};
+use crate::fault::NoMemory;
 use crate::world_core::Core;
 use mapworld_calls::{Ask, Deed};
 use past::Past;

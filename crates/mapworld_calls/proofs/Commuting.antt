@@ -18,6 +18,7 @@ module _ {K V D T : Type 0} (w : Setup K V D T) (laws : Laws w) (b c : Block K) 
       yes h =
           let other = apart-other w laws b c q apart h in
           left-untouched w q (left w q o b) c other ∙ sym (ap (λ p. left w q p b) (left-untouched w q o c other))
+
       no : is_key w.eq (block_key w b) q ≡ false → left w q (left w q o b) c ≡ left w q (left w q o c) b
       no h = ap (λ p. left w q p c) (left-untouched w q o b h) ∙ sym (left-untouched w q (left w q o c) b h)
 
@@ -50,11 +51,11 @@ commute w laws before b c later apart =
     record {
       contents_stay = swapped-contents w laws b c apart before later;
       first_finds =
-        found-first w before later b c b
-        ∙ sym (found-behind w laws c b (AreApart-turned w b c apart) before (block_key w b) refl)
-        ∙ sym (found-second w before later c b b);
+          found-first w before later b c b
+          ∙ sym (found-behind w laws c b (AreApart-turned w b c apart) before (block_key w b) refl)
+          ∙ sym (found-second w before later c b b);
       second_finds =
-        found-second w before later b c c
-        ∙ found-behind w laws b c apart before (block_key w c) refl
-        ∙ sym (found-first w before later c b c);
+          found-second w before later b c c
+          ∙ found-behind w laws b c apart before (block_key w c) refl
+          ∙ sym (found-first w before later c b c);
     }

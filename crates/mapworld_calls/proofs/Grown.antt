@@ -49,6 +49,7 @@ module _ {K V D T : Type 0} (w : Setup K V D T) (laws : Laws w) (bs : List (Bloc
           ∙ quiet
           ∙ sym (ap (λ o. pair_in (reached w b.thread b.call b.done.value o)) at)
           ∙ sym (left-touched w q (contents w (take i bs) q) b h)
+
       no : is_key w.eq (block_key w b) q ≡ false → left w q (contents w (take i bs) q) c ≡ left w q (contents w (take i bs) q) b
       no h = left-other q (contents w (take i bs) q) h
 
@@ -59,11 +60,12 @@ module _ {K V D T : Type 0} (w : Setup K V D T) (laws : Laws w) (bs : List (Bloc
     where
       above : j ≤ i → contents w (take j (slice_set bs i c)) q ≡ contents w (take j bs) q
       above le = ap (λ xs. contents w xs q) (take-set_above bs i j c le)
+
       within : i < j → contents w (take j (slice_set bs i c)) q ≡ contents w (take j bs) q
       within lt =
           ap (λ xs. contents w xs q) (take-set_below bs i j c lt)
           ∙ fold-replaced (left w q) (opening_pair w.eq w.opening q) (take j bs) i b c (slice_get-take bs i j b lt g.listed)
-            (rw (take-take bs i j (omega arith)) alike)
+          (rw (take-take bs i j (omega arith)) alike)
 
   -- what any block of the list found stays
   pub found-grown : (j : ℕ) (d : Block K) → (j ≤ i) ⊎ (slice_get bs j ≡ Some d) → found w (slice_set bs i c) j d ≡ found w bs j d
@@ -72,13 +74,13 @@ module _ {K V D T : Type 0} (w : Setup K V D T) (laws : Laws w) (bs : List (Bloc
       apart : (k : K) → block_key w d ≡ Some k → IsLastOnShard w bs i b → contents w (take j (slice_set bs i c)) k ≡ contents w (take j bs) k
       apart k key last = ⊎_elim
           (λ lt. ⊎_elim (λ le. absurd (omega arith))
-            (λ here. contents-alike j k (left-other k (contents w (take i bs) k) (apart-untouched w laws b d k (last j d lt here) key))) listed)
+          (λ here. contents-alike j k (left-other k (contents w (take i bs) k) (apart-untouched w laws b d k (last j d lt here) key))) listed)
           (λ le. ap (λ xs. contents w xs k) (take-set_above bs i j c le))
           (cases_lt i j)
+
       at : (o : Option K) → block_key w d ≡ o → at_key (contents w (take j (slice_set bs i c))) o ≡ at_key (contents w (take j bs)) o
       at None key = refl
       at (Some k) key = ⊎_elim (λ quiet. contents-alike j k (left-quiet quiet k)) (λ last. apart k key last) g.settled
-
 
   pub contents-quiet : IsQuiet w b c.done.value (found w bs i b) → (q : K) → contents w (slice_set bs i c) q ≡ contents w bs q
   contents-quiet quiet q =

@@ -46,9 +46,9 @@ module _ {K V D T : Type 0} (w : Setup K V D T) (laws : Laws w) (bs : List (Bloc
   told-grown_own t x n a h here =
       let same : h.block ≡ b = same_Some h.block b (sym h.listed ∙ ap (λ j. slice_get bs j) here ∙ g.listed) in
       let at : found w (slice_set bs i c) i c ≡ found w bs i b =
-        ap (λ xs. at_key (contents w xs) (block_key w c)) (take-set_above bs i i c (omega arith)) ∙ ap (λ k. at_key (contents w (take i bs)) k) (block_key-grown w laws bs i b c g) in
+      ap (λ xs. at_key (contents w xs) (block_key w c)) (take-set_above bs i i c (omega arith)) ∙ ap (λ k. at_key (contents w (take i bs)) k) (block_key-grown w laws bs i b c g) in
       let was : told_by w b n (found w bs i b) ≡ Some a =
-        subst (λ (d : Block K). told_by w d n (found w bs i d) ≡ Some a) same (subst (λ (j : ℕ). told_by w h.block n (found w bs j h.block) ≡ Some a) here h.told) in
+      subst (λ (d : Block K). told_by w d n (found w bs i d) ≡ Some a) same (subst (λ (j : ℕ). told_by w h.block n (found w bs j h.block) ≡ Some a) here h.told) in
       record {
         place = i;
         block = c;
@@ -78,8 +78,8 @@ module _ {K V D T : Type 0} (w : Setup K V D T) (laws : Laws w) (bs : List (Bloc
   pub none-grown : (t x : ℕ) → HasNoBlock bs t x → HasNoBlock (slice_set bs i c) t x
   none-grown t x none j d at thread call =
       elim (slice_get-set_cases bs i j b d c g.listed at) [
-        inl own ↦ none i b g.listed (sym (ap (λ z. z.thread) own.1 ∙ g.thread) ∙ thread) (sym (ap (λ z. z.call) own.1 ∙ g.call) ∙ call)
-      | inr other ↦ none j d other.1 thread call
+        | inl own ↦ none i b g.listed (sym (ap (λ z. z.thread) own.1 ∙ g.thread) ∙ thread) (sym (ap (λ z. z.call) own.1 ∙ g.call) ∙ call)
+        | inr other ↦ none j d other.1 thread call
       ]
 
   -- a block that grows takes no answer back
@@ -103,8 +103,8 @@ module _ {K V D T : Type 0} (w : Setup K V D T) (bs : List (Block K)) (b : Block
   pub none-push : (t x : ℕ) → (b.thread ≡ t → b.call ≡ x → ⊥) → HasNoBlock bs t x → HasNoBlock (bs ++ b ∷ []) t x
   none-push t x other none j d at thread call =
       elim (slice_get-push_cases bs j d b at) [
-        inl old ↦ none j d old thread call
-      | inr new ↦ other (sym (ap (λ z. z.thread) new.1) ∙ thread) (sym (ap (λ z. z.call) new.1) ∙ call)
+        | inl old ↦ none j d old thread call
+        | inr new ↦ other (sym (ap (λ z. z.thread) new.1) ∙ thread) (sym (ap (λ z. z.call) new.1) ∙ call)
       ]
 
   -- a block that is added for a later call takes no answer back

@@ -80,6 +80,6 @@ module _ {K V D T : Type 0} (w : Setup K V D T) (laws : Laws w) where
   pub apart-other : (b d : Block K) (q : K) → AreApart w b d → is_key w.eq (block_key w b) q ≡ true → is_key w.eq (block_key w d) q ≡ false
   apart-other b d q apart h =
       false_from_ne_true (is_key w.eq (block_key w d) q) (λ both.
-        let mine = key-route (block_key w b) q h in
-        let its = key-route (block_key w d) q both in
-        apart mine.0 its.0 mine.1 its.1 (mine.2 ∙ sym its.2))
+      let mine = key-route (block_key w b) q h in
+      let its = key-route (block_key w d) q both in
+      apart mine.0 its.0 mine.1 its.1 (mine.2 ∙ sym its.2))

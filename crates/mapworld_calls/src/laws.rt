@@ -6,5 +6,4 @@ use crate::deed::Deed;
 /// may change places, and neither the contents, nor what either of them finds, nor what any later block finds is another.
 pub fn shards_commute<K, V, D: Deed<K, V>>()
     ensures { ShardsCommute K V D D.Answer }
-{
-}
+{}

@@ -1,6 +1,9 @@
 //! The report: a world of two threads that insert, read and remove, its replies and its contents.
 
-use mapworld::{Answer, Ask, Begin, Deed, Held, Keyed, MapWorld, NoMemory, Reply, RunFault, SpreadState, Step, WorldNewFault};
+use mapworld::{
+    Answer, Ask, Begin, Deed, Held, Keyed, MapWorld, NoMemory, Reply, RunFault, SpreadState, Step,
+    WorldNewFault,
+};
 use std::alloc::{AllocError, AllocFailed, Allocator};
 use std::io;
 
@@ -8,10 +11,7 @@ use std::io;
 #[derive(Debug, Drop)]
 pub enum ReportFault {
     /// A call of the library was refused, or a reply is `NoMemory`: its code and its name. Nothing was written.
-    Fault {
-        code: u16,
-        name: &'static str,
-    },
+    Fault { code: u16, name: &'static str },
     /// The writer failed.
     Write,
 }
@@ -89,13 +89,17 @@ type Program<A> = Vec<Ask<u64, u64, ReadValue>, A>;
 
 /// Writes the replies by thread and call, and then the contents by key. The whole text is made first, so on a fault
 /// nothing is written.
-pub fn report<A: Allocator + Clone + Drop, W: io::Write>(alloc: A, out: &mut W) -> Result<(), ReportFault> {
+pub fn report<A: Allocator + Clone + Drop, W: io::Write>(
+    alloc: A,
+    out: &mut W,
+) -> Result<(), ReportFault> {
     let mut world = made(&alloc)?;
     run_once(&mut world, 0)?;
     run_through(&mut world, 1)?;
     run_through(&mut world, 0)?;
     let text = told(&alloc, &world)?;
-    out.write_all(text.as_bytes()).map_err(|_| ReportFault::Write)
+    out.write_all(text.as_bytes())
+        .map_err(|_| ReportFault::Write)
 }
 
 fn first_program<A: Allocator>(alloc: A) -> Result<Program<A>, AllocError> {
@@ -123,7 +127,10 @@ fn made<A: Allocator + Clone + Drop>(alloc: &A) -> Result<World<A>, ReportFault>
     Ok(MapWorld::new(alloc.clone()?, 2, SpreadState, pairs, programs)?)
 }
 
-fn run_once<A: Allocator + Clone + Drop>(world: &mut World<A>, thread: usize) -> Result<(), RunFault> {
+fn run_once<A: Allocator + Clone + Drop>(
+    world: &mut World<A>,
+    thread: usize,
+) -> Result<(), RunFault> {
     world.run(&[Step {
         thread,
         fair: false,
@@ -131,7 +138,10 @@ fn run_once<A: Allocator + Clone + Drop>(world: &mut World<A>, thread: usize) ->
 }
 
 /// Steps the thread while it can move.
-fn run_through<A: Allocator + Clone + Drop>(world: &mut World<A>, thread: usize) -> Result<(), RunFault> {
+fn run_through<A: Allocator + Clone + Drop>(
+    world: &mut World<A>,
+    thread: usize,
+) -> Result<(), RunFault> {
     for _ in 0..world.bound() {
         if !world.can_move(thread) {
             break;
@@ -141,8 +151,15 @@ fn run_through<A: Allocator + Clone + Drop>(world: &mut World<A>, thread: usize)
     Ok(())
 }
 
-fn told<A: Allocator + Clone + Drop>(alloc: &A, world: &World<A>) -> Result<String<A>, ReportFault> {
-    if world.replies().iter().any(|reply| matches!(reply.answer, Answer::NoMemory)) {
+fn told<A: Allocator + Clone + Drop>(
+    alloc: &A,
+    world: &World<A>,
+) -> Result<String<A>, ReportFault> {
+    if world
+        .replies()
+        .iter()
+        .any(|reply| matches!(reply.answer, Answer::NoMemory))
+    {
         return Err(ReportFault::from(NoMemory));
     }
     let mut text = String::new(alloc.clone()?);
@@ -161,7 +178,10 @@ fn told<A: Allocator + Clone + Drop>(alloc: &A, world: &World<A>) -> Result<Stri
     Ok(text)
 }
 
-fn tell_reply<A: Allocator>(text: &mut String<A>, reply: &Reply<u64, u64, u64>) -> Result<(), AllocError> {
+fn tell_reply<A: Allocator>(
+    text: &mut String<A>,
+    reply: &Reply<u64, u64, u64>,
+) -> Result<(), AllocError> {
     let thread = reply.thread;
     let call = reply.call;
     write!(text, "thread {thread} call {call}: ")?;

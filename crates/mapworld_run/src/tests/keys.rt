@@ -78,9 +78,21 @@ impl BuildHasher for OneHash {
 
 #[test]
 fn equal_keys_are_one_key(rt: HostRuntime) -> Result<(), Fail> {
-    let program = vec![in rt.alloc(); Ask::Keyed(Keyed::Insert(letter_of(b'K'), 2)), Ask::Begin(Begin::Get(letter_of(b'k'))), Ask::Held(Held::Read(ReadKey)), Ask::Held(Held::Drop), Ask::Keyed(Keyed::Remove(letter_of(b'k')))]?;
+    let program = vec![in rt.alloc();
+        Ask::Keyed(Keyed::Insert(letter_of(b'K'), 2)),
+        Ask::Begin(Begin::Get(letter_of(b'k'))),
+        Ask::Held(Held::Read(ReadKey)),
+        Ask::Held(Held::Drop),
+        Ask::Keyed(Keyed::Remove(letter_of(b'k'))),
+    ]?;
     let pairs = vec![in rt.alloc(); (letter_of(b'k'), 0), (letter_of(b'K'), 1)]?;
-    let mut world = MapWorld::new(rt.alloc(), 2, SpreadState, pairs, vec![in rt.alloc(); program]?)?;
+    let mut world = MapWorld::new(
+        rt.alloc(),
+        2,
+        SpreadState,
+        pairs,
+        vec![in rt.alloc(); program]?,
+    )?;
     step_round(&mut world, 1)?;
     let answers = world.replies();
     assert_eq!(rt; answers.len(), 5);
@@ -93,13 +105,30 @@ fn equal_keys_are_one_key(rt: HostRuntime) -> Result<(), Fail> {
 
 #[test]
 fn keys_of_one_hash_stay_apart(rt: HostRuntime) -> Result<(), Fail> {
-    let program = vec![in rt.alloc(); insert(1, 10), insert(2, 20), remove(1), get(2), read(), drop_guard()]?;
-    let mut world = MapWorld::new(rt.alloc(), 4, OneHash, vec![in rt.alloc(); (1, 5), (3, 30)]?, vec![in rt.alloc(); program]?)?;
+    let program = vec![in rt.alloc();
+        insert(1, 10),
+        insert(2, 20),
+        remove(1),
+        get(2),
+        read(),
+        drop_guard(),
+    ]?;
+    let mut world = MapWorld::new(
+        rt.alloc(),
+        4,
+        OneHash,
+        vec![in rt.alloc(); (1, 5), (3, 30)]?,
+        vec![in rt.alloc(); program]?,
+    )?;
     step_round(&mut world, 1)?;
     let answers = world.replies();
     assert_eq!(rt; answers.len(), 6);
     assert!(rt; answers[0].answer == Answer::Value(5) && answers[2].answer == Answer::Pair(1, 10));
     assert!(rt; answers[4].answer == Answer::Read(20));
-    assert!(rt; world.pair(&1).is_none() && world.pair(&2) == Some((&2, &20)) && world.pair(&3) == Some((&3, &30)));
+    assert!(rt;
+        world.pair(&1).is_none()
+            && world.pair(&2) == Some((&2, &20))
+            && world.pair(&3) == Some((&3, &30))
+    );
     Ok(())
 }

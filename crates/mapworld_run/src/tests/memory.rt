@@ -1,4 +1,6 @@
-use super::worlds::{World, drop_guard, get, has_pairs, insert, step_round, step_through, step_times, told};
+use super::worlds::{
+    World, drop_guard, get, has_pairs, insert, step_round, step_through, step_times, told,
+};
 use linked_list_allocator::LocalHeap;
 use mapworld::{Answer, MapWorld, SpreadState, Status};
 use std::alloc::AllocError;
@@ -35,11 +37,19 @@ fn a_refused_growth_changes_nothing_and_leaves_no_hold(rt: HostRuntime) -> Resul
         assert!(rt; world.status(1) == Status::Finished);
         if told(&world, 0, 0, &Answer::NoMemory) {
             refused += 1;
-            assert!(rt; world.pair(&1).is_none() && told(&world, 1, 0, &Answer::None) && told(&world, 1, 1, &Answer::NoGuard));
+            assert!(rt;
+                world.pair(&1).is_none()
+                    && told(&world, 1, 0, &Answer::None)
+                    && told(&world, 1, 1, &Answer::NoGuard)
+            );
             assert!(rt; world.blocks().iter().all(|block| block.thread == 1));
         } else {
             done += 1;
-            assert!(rt; told(&world, 0, 0, &Answer::None) && told(&world, 1, 0, &Answer::Held) && told(&world, 1, 1, &Answer::Done));
+            assert!(rt;
+                told(&world, 0, 0, &Answer::None)
+                    && told(&world, 1, 0, &Answer::Held)
+                    && told(&world, 1, 1, &Answer::Done)
+            );
         }
     }
     assert!(rt; refused > 0 && done > 0);

@@ -17,7 +17,8 @@ impl io::Write for Closed {
     }
 }
 
-const TEXT: &str = "thread 0 call 0: value 20\nthread 0 call 1: held\nthread 0 call 2: value 10\nthread 0 call 3: done\nthread 1 call 0: none\nthread 1 call 1: none\npair 1: 10\n";
+const TEXT: &str =
+    "thread 0 call 0: value 20\nthread 0 call 1: held\nthread 0 call 2: value 10\nthread 0 call 3: done\nthread 1 call 0: none\nthread 1 call 1: none\npair 1: 10\n";
 
 #[test]
 fn a_report_tells_replies_and_contents(rt: HostRuntime) -> Result<(), Fail> {

@@ -1,7 +1,9 @@
 //! Worlds of numbers for the other tests, and how they are stepped.
 
 use crate::report::ReadValue;
-use mapworld::{Answer, Ask, Begin, Deed, Held, Keyed, MapWorld, RunFault, SpreadState, Step, WorldNewFault};
+use mapworld::{
+    Answer, Ask, Begin, Deed, Held, Keyed, MapWorld, RunFault, SpreadState, Step, WorldNewFault,
+};
 use std::alloc::{Allocator, Global};
 use std::hash::{BuildHasher, Hash};
 use std::test::Fail;
@@ -61,10 +63,13 @@ pub fn step_times<K: Eq + Hash + Drop, V: Drop, S: BuildHasher, D: Deed<K, V> + 
 }
 
 /// Steps the thread while it can move.
-pub fn step_through<K: Eq + Hash + Drop, V: Drop, S: BuildHasher, D: Deed<K, V> + Drop, A: Allocator>(
-    world: &mut MapWorld<K, V, S, D, A>,
-    thread: usize,
-) -> Result<(), RunFault> {
+pub fn step_through<
+    K: Eq + Hash + Drop,
+    V: Drop,
+    S: BuildHasher,
+    D: Deed<K, V> + Drop,
+    A: Allocator,
+>(world: &mut MapWorld<K, V, S, D, A>, thread: usize) -> Result<(), RunFault> {
     for _ in 0..world.bound() {
         if !world.can_move(thread) {
             break;
@@ -96,14 +101,21 @@ pub fn step_round<K: Eq + Hash + Drop, V: Drop, S: BuildHasher, D: Deed<K, V> + 
 
 /// Whether the thread's call was answered so.
 pub fn told<A: Allocator>(world: &World<A>, thread: usize, call: usize, want: &Answered) -> bool {
-    world
-        .replies()
-        .iter()
-        .any(|reply| reply.thread == thread && reply.call == call && reply.answer == *want)
+    world.replies().iter().any(|reply| reply.thread == thread
+        && reply.call == call
+        && reply.answer == *want)
 }
 
 /// Whether the contents are these pairs and no others.
-pub fn has_pairs<A: Allocator + Clone + Drop>(world: &World<A>, want: &[(u64, u64)]) -> Result<bool, Fail> {
+pub fn has_pairs<A: Allocator + Clone + Drop>(
+    world: &World<A>,
+    want: &[(u64, u64)],
+) -> Result<bool, Fail> {
     let count = world.contents()?.len();
-    Ok(count == want.len() && want.iter().all(|pair| world.pair(&pair.0) == Some((&pair.0, &pair.1))))
+    Ok(
+        count == want.len()
+            && want
+                .iter()
+                .all(|pair| world.pair(&pair.0) == Some((&pair.0, &pair.1))),
+    )
 }
