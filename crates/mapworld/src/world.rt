@@ -89,6 +89,13 @@ impl<K: Eq + Hash, V, S: BuildHasher, D: Deed<K, V>, A: Allocator> MapWorld<K, V
         contents::pair_in(&self.core.tables[shard], key)
     }
 
+    /// How many threads the world has: one for each program. Threads are numbered from 0.
+    pub fn threads(&self) -> usize
+        ensures { result ≡ length self.now.programs }
+    {
+        self.core.places.len()
+    }
+
     /// Where a thread stands: `Finished` where all its calls are answered, `Asleep` where it is before an admission that
     /// another thread's hold excludes, and otherwise `Running`. A thread that is asleep is `Running` again once no such
     /// hold is left. It takes no memory and cannot fail.

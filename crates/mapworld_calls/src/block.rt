@@ -1,6 +1,7 @@
 //! The parts of the work that the map takes whole.
 
 use past::Past;
+use std::fmt;
 use std::snapshot::Snapshot;
 
 /// A part of the work that the map takes whole: a keyed call, or all calls of one guard. Contracts read it as one move
@@ -9,7 +10,7 @@ use std::snapshot::Snapshot;
 /// The first six fields are what is shown and compared. The other two are what the block has done so far; they exist
 /// in proofs alone and take no room.
 #[derive(Drop)]
-#[derive_where(PartialEq, Eq, Debug)]
+#[derive_where(PartialEq, Eq)]
 pub struct Block<K> {
     /// Whose it is.
     pub thread: usize,
@@ -29,4 +30,18 @@ pub struct Block<K> {
     /// The keys that a visit has done; no other block has any.
     #[derive_where(skip)]
     pub visited: Past<K>,
+}
+
+/// Shows the first six fields.
+impl<K> fmt::Debug for Block<K> {
+    fn fmt<W: fmt::Write>(&self, f: &mut fmt::Formatter<W>) -> fmt::Result {
+        f.debug_struct("Block")
+            .field("thread", &self.thread)
+            .field("call", &self.call)
+            .field("visit", &self.visit)
+            .field("start", &self.start)
+            .field("position", &self.position)
+            .field("end", &self.end)
+            .finish()
+    }
 }

@@ -95,7 +95,7 @@ fn block(done: usize) -> Block<u64> {
 fn a_block_shows_six_fields(rt: HostRuntime) -> Result<(), Fail> {
     // the two dots stand for what is kept for proofs alone
     let shown = format!(in rt.alloc(); "{:?}", block(0))?;
-    let want = "Block { thread: 0, call: 1, visit: 0, start: 2, position: 3, end: None, .. }";
+    let want = "Block { thread: 0, call: 1, visit: 0, start: 2, position: 3, end: None }";
     assert_eq!(rt; shown.as_str(), want);
     assert_eq!(rt; block(0), block(1));
     Ok(())

@@ -1,4 +1,5 @@
 //! The report: a world of two threads that insert, read and remove, its replies and its contents.
+ghost use Rattle.mapworld_run.specs.Report.{LeavesOnFault};
 
 use mapworld::{
     Answer, Ask, Begin, Deed, Held, Keyed, MapWorld, NoMemory, Reply, RunFault, SpreadState, Step,
@@ -92,7 +93,9 @@ type Program<A> = Vec<Ask<u64, u64, ReadValue>, A>;
 pub fn report<A: Allocator + Clone + Drop, W: io::Write>(
     alloc: A,
     out: &mut W,
-) -> Result<(), ReportFault> {
+) -> Result<(), ReportFault>
+    ensures { LeavesOnFault result out.old out.new }
+{
     let mut world = made(&alloc)?;
     run_once(&mut world, 0)?;
     run_through(&mut world, 1)?;
