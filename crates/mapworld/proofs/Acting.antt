@@ -1,41 +1,38 @@
 -- The deed of a keyed call: it changes one pair of a shard that is held alone, behind the last block of that shard.
-use Rattle.std.proofs.Common.{◌≡◌, ◌≢◌, ℕ, zero, suc, ◌+◌, ◌-◌, ◌<◌, ◌≤◌, ◌⊎◌, inl, inr, ⊎_elim, Bool, true, false, if◌then◌else◌, List, [], ◌∷◌, ◌++◌, length, take, drop, Option, Some, None, IsSome, slice_get, slice_set, remove, refl, ap, sym, ◌∙◌, subst, arith}
+use Rattle.std.proofs.Common.{◌≡◌, ℕ, ◌+◌, ◌-◌, ◌≤◌, inl, inr, ⊎_elim, Bool, true, false, if◌then◌else◌, List, length, take, drop, Option, Some, None, slice_get, slice_set, refl, ap, sym, ◌∙◌, subst, arith}
 use Rattle.std.specs.declared.vec.Vec.{Vec}
 use Rattle.std.proofs.Math.ListN.{length-set}
-use Rattle.std.proofs.lemmas.Option.{same_Some, none-some}
-use Rattle.std.proofs.lemmas.Bool.{cases_Bool, false≢true}
+use Rattle.std.proofs.lemmas.Option.{same_Some}
+use Rattle.std.proofs.lemmas.Bool.{cases_Bool}
 use Rattle.mapworld_calls.specs.declared.ask.Ask.{Ask}
 use Rattle.mapworld_calls.specs.declared.ask.Ask.TheVariants as ask
 use Rattle.mapworld_calls.specs.declared.ask.Keyed.{Keyed}
 use Rattle.mapworld_calls.specs.declared.ask.Keyed.TheVariants as keyed
 use Rattle.mapworld_calls.specs.declared.block.Block.{Block}
-use Rattle.mapworld_calls.specs.declared.reply.Reply.{Reply}
-use Rattle.mapworld_calls.specs.declared.reply.Answer.{Answer}
 use Rattle.mapworld_calls.specs.declared.reply.Answer.TheVariants as answer
-use Rattle.mapworld_calls.specs.Calls.{At, free, shared, pair_in, told, after, keyed_answer, keyed_leaves}
-use Rattle.mapworld_calls.specs.Setup.{Setup, Laws, ask_at, session_of}
-use Rattle.mapworld_calls.specs.Pairs.{has_key, pair_of, AreDistinct}
-use Rattle.mapworld_calls.specs.Replay.{reached, block_key, is_key, at_key, contents, found, told_by, IsLastOnShard}
+use Rattle.mapworld_calls.specs.Calls.{free, pair_in, keyed_answer, keyed_leaves}
+use Rattle.mapworld_calls.specs.Setup.{Setup, Laws, ask_at}
+use Rattle.mapworld_calls.specs.Pairs.{pair_of, AreDistinct}
+use Rattle.mapworld_calls.specs.Replay.{reached, block_key, is_key, at_key, contents, found, IsLastOnShard}
 use Rattle.mapworld_calls.specs.Agrees.{IsToldBy}
-use Rattle.mapworld_calls.specs.Placed.{answered_of, IsDoneWithin}
+use Rattle.mapworld_calls.specs.Placed.{IsDoneWithin}
 use Rattle.mapworld_calls.proofs.Lists.{slice_get-set_same, slice_get-set_cases, slice_get-push_cases, slice_get-remove_is, stood_at}
 use Rattle.mapworld_calls.proofs.Grown.{Grows, found-grown, block_key-grown, contents-own, contents-were, contents-other}
 use Rattle.mapworld_calls.proofs.Kept.{keeps-grown}
-use Rattle.mapworld.specs.declared.holds.Mode.TheVariants.{Shared, Exclusive}
 use Rattle.mapworld.specs.declared.step.Step.{Step}
 use Rattle.mapworld.specs.declared.place.Phase.{Phase}
 use Rattle.mapworld.specs.declared.place.Phase.TheVariants as phase
 use Rattle.mapworld.specs.declared.place.Place.{Place}
 use Rattle.mapworld.specs.State.{State, threads_of, started_of}
-use Rattle.mapworld.specs.Moves.{is_last, stepped, CountsIn, CountsCall}
+use Rattle.mapworld.specs.Moves.{stepped, CountsIn, CountsCall}
 use Rattle.mapworld.specs.Steps.{Appends, Replaces, Takes}
-use Rattle.mapworld.specs.Sound.{is_resting, IsReleasing, taken, may_own, block_after, HasPair, HasList, HoldsShard, IsInCall, IsBeforeDeed, Claim, Stands, TablesAgree, Sound}
+use Rattle.mapworld.specs.Sound.{is_resting, IsReleasing, block_after, IsInCall, IsBeforeDeed, Stands, TablesAgree, Sound}
 use Rattle.mapworld.proofs.Effects.{effect-grow, Anyhow}
 use Rattle.mapworld.proofs.Others.{IsInCall-push}
-use Rattle.mapworld.proofs.Timing.{SameCall, placed-grown}
+use Rattle.mapworld.proofs.Timing.{placed-grown}
 use Rattle.mapworld.proofs.Holding.{holds-same}
 use Rattle.mapworld.proofs.Tables.{pair_of-is, AreDistinct-push, pair_of-push, AreDistinct-set, pair_of-set, set-keys, AreDistinct-remove, pair_of-remove}
-use Rattle.mapworld.proofs.Building.{in_call-moved, started-stays, Leaves, sound-by, replies-kept, tables-set, claim-at, taken-at, within-at, reached-one, told-one, ready-outside}
+use Rattle.mapworld.proofs.Building.{in_call-moved, started-stays, sound-by, replies-kept, tables-set, claim-at, reached-one, told-one, ready-outside}
 use Rattle.mapworld.proofs.Admitting.{kept-alone, keyed-apart}
 use Rattle.mapworld.proofs.Growing.{own-grown}
 

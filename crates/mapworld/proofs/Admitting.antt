@@ -1,35 +1,32 @@
 -- A start of a keyed call or an opening aside, what leads a thread into its shard: admissions, and growths that are refused.
-use Rattle.std.proofs.Common.{◌≡◌, ◌≢◌, ℕ, ◌+◌, ◌<◌, ◌≤◌, ◌⊎◌, inl, inr, ⊎_elim, Bool, true, false, List, [], ◌∷◌, ◌++◌, length, Option, Some, None, slice_get, slice_set, refl, ap, sym, ◌∙◌, subst, arith}
+use Rattle.std.proofs.Common.{◌≡◌, ◌≢◌, ℕ, ◌+◌, inl, inr, true, false, List, Some, None, slice_get, slice_set, refl, ap, sym, ◌∙◌, subst, arith}
 use Rattle.std.specs.declared.vec.Vec.{Vec}
-use Rattle.std.proofs.lemmas.Option.{same_Some, none-some}
 use Rattle.std.proofs.lemmas.Bool.{false≢true}
 use Rattle.mapworld_calls.specs.declared.block.Block.{Block}
 use Rattle.mapworld_calls.specs.declared.ask.Ask.TheVariants as ask
 use Rattle.mapworld_calls.specs.declared.ask.Keyed.{Keyed}
 use Rattle.mapworld_calls.specs.declared.ask.Keyed.TheVariants as keyed
 use Rattle.mapworld_calls.specs.declared.ask.Begin.{Begin}
-use Rattle.mapworld_calls.specs.declared.reply.Reply.{Reply}
 use Rattle.mapworld_calls.specs.declared.reply.Answer.TheVariants as answer
 use Rattle.mapworld_calls.specs.Setup.{Setup, Laws, ask_at, session_of}
 use Rattle.mapworld_calls.specs.Agrees.{HasNoBlock}
 use Rattle.mapworld_calls.proofs.Programs.{one_guard_apart, one_guard_begin_apart}
 use Rattle.std.proofs.Math.ListN.{length-set}
-use Rattle.mapworld_calls.proofs.Lists.{slice_get-set_same, slice_get-set_other}
+use Rattle.mapworld_calls.proofs.Lists.{slice_get-set_other}
 use Rattle.mapworld.specs.declared.holds.Mode.{Mode}
-use Rattle.mapworld.specs.declared.holds.Mode.TheVariants.{Shared, Exclusive}
-use Rattle.mapworld.specs.declared.holds.Hold.{Hold}
+use Rattle.mapworld.specs.declared.holds.Mode.TheVariants.{Exclusive}
 use Rattle.mapworld.specs.declared.step.Step.{Step}
 use Rattle.mapworld.specs.declared.place.Phase.TheVariants as phase
 use Rattle.mapworld.specs.declared.place.Place.{Place}
 use Rattle.mapworld.specs.State.{State, threads_of, started_of}
-use Rattle.mapworld.specs.Moves.{stepped, mode_of}
+use Rattle.mapworld.specs.Moves.{stepped}
 use Rattle.mapworld.specs.Steps.{Admits, IsRefusedGrowth}
-use Rattle.mapworld.specs.Sound.{may_own, block_after, HoldsShard, OwnsBlocks, IsReleasing, Stands, TablesAgree, Sound}
-use Rattle.mapworld.proofs.Effects.{Effect, effect-same, Anyhow}
+use Rattle.mapworld.specs.Sound.{may_own, block_after, HoldsShard, OwnsBlocks, IsReleasing, Stands, Sound}
+use Rattle.mapworld.proofs.Effects.{effect-same, Anyhow}
 use Rattle.mapworld.proofs.Others.{IsInCall-push}
 use Rattle.mapworld.proofs.Timing.{placed-same}
 use Rattle.mapworld.proofs.Holding.{holds-same, holds-push, exclusion}
-use Rattle.mapworld.proofs.Building.{in_call-moved, holds-moved, ready-moved, tables-same, tables-set, started-stays, Leaves, sound-by, claim-at, taken-at, within-at, session-next, session-is, asked-from, tables-rewritten, ready-outside, block_after-none}
+use Rattle.mapworld.proofs.Building.{in_call-moved, tables-same, started-stays, Leaves, sound-by, claim-at, taken-at, within-at, session-next, session-is, asked-from, tables-rewritten, ready-outside, block_after-none}
 
 -- a thread's blocks, where the phase that it goes to may own one
 pub owns-on : {K V D T A : Type 0} (bs : List (Block K)) (t : ℕ) (p p' : Place K V D T A) → OwnsBlocks bs t p → p'.next ≡ p.next → p'.block ≡ p.block

@@ -1,8 +1,8 @@
 -- The answer of a call, which ends it.
-use Rattle.std.proofs.Common.{◌≡◌, ◌≢◌, ℕ, zero, suc, ◌+◌, ◌-◌, ◌<◌, ◌≤◌, ◌⊎◌, ◌==◌, inl, inr, ⊎_elim, Bool, true, false, if◌then◌else◌, List, [], ◌∷◌, ◌++◌, length, map, take, drop, Option, Some, None, IsSome, slice_get, slice_set, MatchBool, refl, ap, sym, ◌∙◌, subst, arith}
+use Rattle.std.proofs.Common.{◌≡◌, ℕ, ◌+◌, ◌-◌, ◌<◌, ◌≤◌, ◌⊎◌, ◌==◌, inl, inr, ⊎_elim, Bool, true, false, if◌then◌else◌, List, [], ◌∷◌, ◌++◌, length, take, Option, Some, None, slice_get, slice_set, MatchBool, refl, ap, sym, ◌∙◌, subst, arith}
 use Rattle.std.specs.declared.vec.Vec.{Vec}
-use Rattle.std.proofs.lemmas.Option.{same_Some, none-some, slice_get_within}
-use Rattle.std.proofs.lemmas.Bool.{cases_eq, cases_Bool, eq-eqb, eqb-true, eqb-false}
+use Rattle.std.proofs.lemmas.Option.{same_Some, none-some}
+use Rattle.std.proofs.lemmas.Bool.{cases_eq, cases_Bool, eqb-true, eqb-false}
 use Rattle.mapworld_calls.specs.declared.ask.Ask.{Ask}
 use Rattle.mapworld_calls.specs.declared.ask.Ask.TheVariants as ask
 use Rattle.mapworld_calls.specs.declared.ask.Keyed.{Keyed}
@@ -12,10 +12,9 @@ use Rattle.mapworld_calls.specs.declared.reply.Answer.{Answer}
 use Rattle.mapworld_calls.specs.Calls.{pair_in}
 use Rattle.mapworld_calls.specs.Setup.{Setup, Laws, ask_at, session_of}
 use Rattle.mapworld_calls.specs.Replay.{reached, at_key, found, contents}
-use Rattle.mapworld_calls.specs.Agrees.{IsToldBy, HasNoBlock, IsAnsweredBy, IsAnswered}
-use Rattle.mapworld_calls.specs.Placed.{IsStepOf, answered_of, IsKeyedDone, IsDoneWithin, IsPlaced, WellPlaced}
+use Rattle.mapworld_calls.specs.Agrees.{HasNoBlock, IsAnsweredBy, IsAnswered}
+use Rattle.mapworld_calls.specs.Placed.{IsStepOf, IsKeyedDone, IsDoneWithin}
 use Rattle.mapworld_calls.proofs.Lists.{slice_get-set_same, slice_get-set_other, slice_get-set_cases, slice_get-push_cases}
-use Rattle.mapworld_calls.proofs.Folds.{slice_set-itself}
 use Rattle.mapworld_calls.proofs.Grown.{Grows, block_key-grown, found-grown, contents-quiet}
 use Rattle.mapworld_calls.proofs.Kept.{Keeps, none-grown, keeps-grown, answered-by}
 use Rattle.mapworld.specs.declared.step.Step.{Step}
@@ -24,13 +23,12 @@ use Rattle.mapworld.specs.declared.place.Place.{Place}
 use Rattle.mapworld.specs.State.{State, threads_of, started_of, next_step}
 use Rattle.mapworld.specs.Moves.{stepped, EndsAt, EndsBlock}
 use Rattle.mapworld.specs.Steps.{Answers}
-use Rattle.mapworld.specs.Sound.{taken, may_own, block_after, GuardIs, HasSession, IsInSession, IsReady, IsInCall, Claim, OwnsBlocks, HasOwnBlock, Stands, Sound}
+use Rattle.mapworld.specs.Sound.{may_own, block_after, GuardIs, IsInSession, OwnsBlocks, HasOwnBlock, Sound}
 use Rattle.mapworld.proofs.Effects.{Effect, effect-same, effect-grow, Anyhow}
 use Rattle.mapworld.proofs.Timing.{SameCall, placed-answer, answered_of-own, answered_of-other}
 use Rattle.mapworld.proofs.Holding.{holds-same}
-use Rattle.mapworld.proofs.Building.{guard-moved, ready-moved, tables-same, started-own, started-was, started-other, Leaves, sound-by, replies-kept, session-below, claim-at, taken-at, within-at}
+use Rattle.mapworld.proofs.Building.{guard-moved, tables-same, started-was, started-other, sound-by, replies-kept, session-below, claim-at, taken-at, within-at}
 use Rattle.mapworld.proofs.Listing.{length-map}
-use Rattle.mapworld.proofs.Growing.{own-grown}
 
 -- how the blocks look behind an answer: one of them may show its end, and nothing else is another
 pub record Ended {K V D T : Type 0} (x : Setup K V D T) (bs bs' : List (Block K)) (t n end : ℕ) : Type 0 where

@@ -1,5 +1,5 @@
 -- A new world is sound, has its opening pairs, and has room for all its calls.
-use Rattle.std.proofs.Common.{◌≡◌, ◌≢◌, ℕ, suc, ◌+◌, ◌-◌, ◌≤◌, ◌^◌, Bool, true, false, List, [], ◌∷◌, length, Option, Some, None, slice_get, IsTrue, vec_capacity, refl, ap, ap₂, sym, ◌∙◌, subst, arith}
+use Rattle.std.proofs.Common.{◌≡◌, ℕ, suc, ◌+◌, ◌≤◌, ◌^◌, Bool, true, false, List, [], ◌∷◌, length, Option, Some, None, slice_get, IsTrue, vec_capacity, refl, ap, ap₂, sym, ◌∙◌, subst, arith}
 use Rattle.std.specs.List.{flat_map, sum_by, list_all}
 use Rattle.std.specs.Option.{option_and_then}
 use Rattle.std.specs.Hash.{HashWrites}

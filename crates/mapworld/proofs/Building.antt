@@ -1,33 +1,30 @@
 -- A world behind a step is sound where its parts are. Facts that every kind of step needs.
-use Rattle.std.proofs.Common.{◌≡◌, ◌≢◌, ℕ, zero, suc, ◌+◌, ◌-◌, ◌<◌, ◌≤◌, ◌⊎◌, inl, inr, ⊎_elim, Bool, true, false, if◌then◌else◌, ◌==◌, List, [], ◌∷◌, ◌++◌, length, take, drop, map, Option, Some, None, slice_get, slice_set, refl, ap, sym, ◌∙◌, subst, arith, add-one, add-zero}
+use Rattle.std.proofs.Common.{◌≡◌, ◌≢◌, ℕ, zero, suc, ◌+◌, ◌-◌, ◌<◌, ◌≤◌, inl, inr, ⊎_elim, Bool, true, false, if◌then◌else◌, ◌==◌, List, [], ◌∷◌, ◌++◌, length, drop, map, Option, Some, None, slice_get, slice_set, refl, ap, sym, ◌∙◌, subst, arith, add-one, add-zero}
 use Rattle.std.specs.Option.{option_and_then}
 use Rattle.std.specs.declared.vec.Vec.{Vec}
 use Rattle.std.proofs.lemmas.Bool.{cases_eq, eq-eqb}
-use Rattle.std.proofs.lemmas.Option.{same_Some, none-some, slice_get_within}
 use Rattle.mapworld_calls.specs.declared.ask.Ask.{Ask}
 use Rattle.mapworld_calls.specs.declared.block.Block.{Block}
 use Rattle.mapworld_calls.specs.declared.reply.Reply.{Reply}
-use Rattle.mapworld_calls.specs.declared.reply.Answer.{Answer}
-use Rattle.mapworld_calls.specs.Calls.{At, free, shared, pair_in, told, after}
+use Rattle.mapworld_calls.specs.Calls.{At, free, told, after}
 use Rattle.mapworld_calls.specs.Programs.{session_behind, opening_before}
-use Rattle.mapworld_calls.specs.Setup.{Setup, Laws, ask_at, session_of}
+use Rattle.mapworld_calls.specs.Setup.{Setup, ask_at, session_of}
 use Rattle.mapworld_calls.specs.Pairs.{pair_of, AreDistinct}
-use Rattle.mapworld_calls.specs.Replay.{reached, block_key, contents, found, told_by, IsLastOnShard}
-use Rattle.mapworld_calls.specs.Agrees.{IsToldBy, HasNoBlock, IsAnswered}
-use Rattle.mapworld_calls.specs.Placed.{IsStepOf, answered_of, WellPlaced}
+use Rattle.mapworld_calls.specs.Replay.{reached, contents, found, told_by}
+use Rattle.mapworld_calls.specs.Agrees.{IsAnswered}
+use Rattle.mapworld_calls.specs.Placed.{answered_of, WellPlaced}
 use Rattle.mapworld_calls.proofs.Lists.{slice_get-set_same, slice_get-set_other, slice_get-set_cases}
 use Rattle.mapworld_calls.proofs.Programs.{opening_below}
 use Rattle.mapworld_calls.proofs.Kept.{Keeps, answered-kept}
 use Rattle.mapworld.specs.declared.holds.Mode.{Mode}
-use Rattle.mapworld.specs.declared.holds.Mode.TheVariants.{Shared, Exclusive}
-use Rattle.mapworld.specs.declared.holds.Hold.{Hold}
+use Rattle.mapworld.specs.declared.holds.Mode.TheVariants.{Shared}
 use Rattle.mapworld.specs.declared.holds.Held.{Held}
 use Rattle.mapworld.specs.declared.step.Step.{Step}
 use Rattle.mapworld.specs.declared.place.Phase.{Phase}
 use Rattle.mapworld.specs.declared.place.Place.{Place}
 use Rattle.mapworld.specs.State.{State, threads_of, started_of}
 use Rattle.mapworld.specs.Moves.{stepped}
-use Rattle.mapworld.specs.Sound.{is_resting, taken, block_after, HasPair, HoldsShard, GuardIs, HasSession, IsInSessionOf, IsInSession, IsReady, IsInCall, IsBeforeDeed, Claim, Stands, TablesAgree, HoldsMatch, Sound}
+use Rattle.mapworld.specs.Sound.{is_resting, block_after, HoldsShard, GuardIs, IsInSessionOf, IsInSession, IsReady, IsInCall, IsBeforeDeed, Claim, Stands, TablesAgree, HoldsMatch, Sound}
 use Rattle.mapworld.proofs.Effects.{Effect}
 use Rattle.mapworld.proofs.Others.{stands-other}
 use Rattle.mapworld.proofs.Timing.{count_by-before}

@@ -1,13 +1,12 @@
 -- How the list of blocks changes in one step of a thread, as all others see it.
-use Rattle.std.proofs.Common.{◌≡◌, ◌≢◌, ℕ, ◌+◌, ◌-◌, ◌<◌, ◌≤◌, ◌⊎◌, inl, inr, ⊎_elim, List, [], ◌∷◌, ◌++◌, length, Option, Some, None, slice_get, slice_set, refl, ap, sym, ◌∙◌, subst, arith}
-use Rattle.std.proofs.lemmas.Bool.{cases_eq}
+use Rattle.std.proofs.Common.{◌≡◌, ◌≢◌, ℕ, ◌<◌, inr, ⊎_elim, List, [], ◌∷◌, ◌++◌, length, Some, slice_get, slice_set, refl, ap, sym, ◌∙◌, subst, arith}
 use Rattle.std.proofs.lemmas.Option.{same_Some, slice_get_within}
 use Rattle.mapworld_calls.specs.declared.block.Block.{Block}
 use Rattle.mapworld_calls.specs.declared.reply.Answer.{Answer}
 use Rattle.mapworld_calls.specs.Setup.{Setup, Laws}
 use Rattle.mapworld_calls.specs.Replay.{block_key, found, AreApart, IsLastOnShard}
 use Rattle.mapworld_calls.specs.Agrees.{IsToldBy, HasNoBlock}
-use Rattle.mapworld_calls.proofs.Lists.{slice_get-set_same, slice_get-set_other, slice_get-set_cases, slice_get-push_below, slice_get-push_cases}
+use Rattle.mapworld_calls.proofs.Lists.{slice_get-set_other, slice_get-set_cases, slice_get-push_below, slice_get-push_cases}
 use Rattle.mapworld_calls.proofs.Grown.{Grows, block_key-grown, found-grown, found-push}
 use Rattle.mapworld_calls.proofs.Kept.{Keeps, told-grown, told-push}
 

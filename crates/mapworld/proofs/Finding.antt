@@ -1,39 +1,34 @@
 -- A find lists the call's block at its position, or finds that the shard's list has to grow first.
-use Rattle.std.proofs.Common.{◌≡◌, ◌≢◌, ℕ, zero, suc, ◌+◌, ◌-◌, ◌<◌, ◌≤◌, ◌⊎◌, inl, inr, ⊎_elim, Bool, true, false, if◌then◌else◌, List, [], ◌∷◌, ◌++◌, length, Option, Some, None, IsSome, slice_get, slice_set, position, vec_len, vec_capacity, refl, ap, sym, ◌∙◌, subst, arith, length-append}
+use Rattle.std.proofs.Common.{◌≡◌, ℕ, ◌+◌, ◌-◌, ◌<◌, ◌≤◌, inl, Bool, true, false, if◌then◌else◌, List, [], ◌∷◌, ◌++◌, length, Option, Some, None, IsSome, slice_get, slice_set, vec_len, vec_capacity, refl, ap, sym, ◌∙◌, subst, arith, length-append}
 use Rattle.std.specs.declared.vec.Vec.{Vec}
 use Rattle.std.proofs.Math.ListN.{length-set}
-use Rattle.std.proofs.lemmas.Option.{same_Some, none-some, slice_get_within}
+use Rattle.std.proofs.lemmas.Option.{same_Some, slice_get_within}
 use Rattle.std.proofs.lemmas.Bool.{false≢true, ltb-true, ltb-false}
 use Rattle.mapworld_calls.specs.declared.ask.Ask.{Ask}
 use Rattle.mapworld_calls.specs.declared.ask.Ask.TheVariants as ask
-use Rattle.mapworld_calls.specs.declared.ask.Keyed.{Keyed}
 use Rattle.mapworld_calls.specs.declared.ask.Keyed.TheVariants as keyed
-use Rattle.mapworld_calls.specs.declared.ask.Begin.{Begin}
 use Rattle.mapworld_calls.specs.declared.ask.Begin.TheVariants as begin
 use Rattle.mapworld_calls.specs.declared.block.Block.{Block}
-use Rattle.mapworld_calls.specs.declared.reply.Reply.{Reply}
-use Rattle.mapworld_calls.specs.declared.reply.Answer.{Answer}
 use Rattle.mapworld_calls.specs.declared.reply.Answer.TheVariants as answer
-use Rattle.mapworld_calls.specs.Calls.{At, free, shared, pair_in, told, after, opened}
+use Rattle.mapworld_calls.specs.Calls.{At, free, pair_in, told, after, opened}
 use Rattle.mapworld_calls.specs.Programs.{key_of}
-use Rattle.mapworld_calls.specs.Setup.{Setup, Laws, ask_at, session_of}
+use Rattle.mapworld_calls.specs.Setup.{Setup, Laws, session_of}
 use Rattle.mapworld_calls.specs.Pairs.{has_key, pair_of}
-use Rattle.mapworld_calls.specs.Replay.{reached, block_key, contents, found, IsLastOnShard}
-use Rattle.mapworld_calls.specs.Agrees.{IsToldBy, IsAnsweredBy}
-use Rattle.mapworld_calls.specs.Placed.{IsKeyedDone, IsSessionDone, IsDoneWithin}
+use Rattle.mapworld_calls.specs.Replay.{reached, contents, found, IsLastOnShard}
+use Rattle.mapworld_calls.specs.Agrees.{IsToldBy}
+use Rattle.mapworld_calls.specs.Placed.{IsKeyedDone, IsSessionDone}
 use Rattle.mapworld_calls.proofs.Lists.{slice_get-push_at, slice_get-set_same}
 use Rattle.mapworld.specs.declared.holds.Mode.{Mode}
 use Rattle.mapworld.specs.declared.holds.Mode.TheVariants.{Shared, Exclusive}
 use Rattle.mapworld.specs.declared.step.Step.{Step}
 use Rattle.mapworld.specs.declared.place.Request.{Request}
 use Rattle.mapworld.specs.declared.place.Request.TheVariants as request
-use Rattle.mapworld.specs.declared.place.Phase.{Phase}
 use Rattle.mapworld.specs.declared.place.Phase.TheVariants as phase
 use Rattle.mapworld.specs.declared.place.Place.{Place}
 use Rattle.mapworld.specs.State.{State, threads_of, started_of}
-use Rattle.mapworld.specs.Moves.{ask_of, request_key, mode_of, is_last, stepped, found_phase, found_done, found_slot, block_behind, IsListed, ListsBlock}
+use Rattle.mapworld.specs.Moves.{request_key, stepped, found_phase, found_done, found_slot, block_behind, IsListed, ListsBlock}
 use Rattle.mapworld.specs.Steps.{slot_in, has_room, Finds, GrowsList}
-use Rattle.mapworld.specs.Sound.{may_own, block_after, GuardIs, HasPair, HoldsShard, HasList, IsInCall, IsOnItsWay, IsBeforeDeed, HasSession, IsInSession, IsReady, Claim, Stands, Sound}
+use Rattle.mapworld.specs.Sound.{may_own, block_after, GuardIs, HoldsShard, IsInCall, IsBeforeDeed, HasSession, IsInSession, IsReady, Sound}
 use Rattle.mapworld.proofs.Finds.{find-position, find-no_position, position-Some_at}
 use Rattle.mapworld.proofs.Others.{IsInCall-push}
 use Rattle.mapworld.proofs.Timing.{placed-same}

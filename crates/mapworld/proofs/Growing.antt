@@ -1,5 +1,5 @@
 -- A call on a guard, or where a guard was, is counted in by the session's block. It changes no pair.
-use Rattle.std.proofs.Common.{◌≡◌, ◌≢◌, ℕ, zero, suc, ◌+◌, ◌-◌, ◌<◌, ◌≤◌, ◌⊎◌, inl, inr, ⊎_elim, Bool, true, false, List, [], ◌∷◌, ◌++◌, length, take, drop, Option, Some, None, IsSome, slice_get, slice_set, refl, ap, sym, ◌∙◌, subst, arith}
+use Rattle.std.proofs.Common.{◌≡◌, ℕ, ◌+◌, ◌-◌, ◌≤◌, ◌⊎◌, inl, inr, ⊎_elim, false, List, [], ◌∷◌, ◌++◌, length, take, drop, Option, Some, None, IsSome, slice_get, slice_set, refl, ap, sym, ◌∙◌, subst, arith}
 use Rattle.std.specs.declared.vec.Vec.{Vec}
 use Rattle.std.proofs.lemmas.Option.{same_Some, none-some}
 use Rattle.std.proofs.lemmas.Bool.{cases_lt, cases_eq, false≢true}
@@ -9,13 +9,12 @@ use Rattle.mapworld_calls.specs.declared.ask.Begin.{Begin}
 use Rattle.mapworld_calls.specs.declared.ask.Held.{Held}
 use Rattle.mapworld_calls.specs.declared.ask.Held.TheVariants as held
 use Rattle.mapworld_calls.specs.declared.block.Block.{Block}
-use Rattle.mapworld_calls.specs.declared.reply.Reply.{Reply}
 use Rattle.mapworld_calls.specs.Deeds.{Deeds}
-use Rattle.mapworld_calls.specs.Calls.{At, free, shared, pair_in, told, after, held_leaves}
+use Rattle.mapworld_calls.specs.Calls.{At, free, shared, pair_in, told, held_leaves}
 use Rattle.mapworld_calls.specs.Setup.{Setup, Laws, ask_at, session_of}
-use Rattle.mapworld_calls.specs.Replay.{reached, block_key, at_key, contents, found, told_by}
+use Rattle.mapworld_calls.specs.Replay.{reached, at_key, contents, found}
 use Rattle.mapworld_calls.specs.Agrees.{IsToldBy}
-use Rattle.mapworld_calls.specs.Placed.{answered_of, HasStarted, IsSessionDone, IsDoneWithin, WellPlaced}
+use Rattle.mapworld_calls.specs.Placed.{answered_of, HasStarted, IsDoneWithin}
 use Rattle.mapworld_calls.proofs.Lists.{slice_get-set_same, slice_get-set_other, slice_get-set_cases}
 use Rattle.mapworld_calls.proofs.Programs.{opening_is}
 use Rattle.mapworld_calls.proofs.Grown.{Grows, IsQuiet, found-grown, block_key-grown, contents-quiet}
@@ -25,10 +24,10 @@ use Rattle.mapworld.specs.declared.holds.Held.{Held as Entry}
 use Rattle.mapworld.specs.declared.place.Place.{Place}
 use Rattle.mapworld.specs.State.{State, threads_of, started_of}
 use Rattle.mapworld.specs.Moves.{stepped, CountsIn}
-use Rattle.mapworld.specs.Sound.{taken, may_own, GuardIs, HasSession, IsInSessionOf, IsInSession, IsReady, IsInCall, Claim, OwnsBlocks, HasOwnBlock, Stands, HoldsMatch, Sound}
+use Rattle.mapworld.specs.Sound.{taken, may_own, GuardIs, HasSession, IsInSession, Claim, OwnsBlocks, HasOwnBlock, Stands, HoldsMatch, Sound}
 use Rattle.mapworld.proofs.Effects.{effect-grow, Anyhow}
-use Rattle.mapworld.proofs.Timing.{SameCall, placed-grown}
-use Rattle.mapworld.proofs.Building.{started-own, started-stays, Leaves, sound-by, replies-kept, asked-at, asked-from, session-is, reached-next, told-next, tables-same}
+use Rattle.mapworld.proofs.Timing.{placed-grown}
+use Rattle.mapworld.proofs.Building.{started-own, started-stays, sound-by, replies-kept, asked-at, session-is, reached-next, told-next, tables-same}
 
 -- no call on a guard changes its pair
 held-quiet : {D K V T : Type 0} (deeds : Deeds D K V T) (h : Held D) (s : At K V) → pair_in (held_leaves deeds h s) ≡ pair_in s

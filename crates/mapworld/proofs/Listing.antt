@@ -1,29 +1,25 @@
 -- A block that is listed at its position, at the end of the list.
-use Rattle.std.proofs.Common.{◌≡◌, ◌≢◌, ℕ, zero, suc, ◌+◌, ◌-◌, ◌<◌, ◌≤◌, ◌⊎◌, inl, inr, ⊎_elim, Bool, true, false, List, [], ◌∷◌, ◌++◌, length, map, drop, Option, Some, None, IsSome, slice_get, slice_set, refl, ap, sym, ◌∙◌, subst, arith}
+use Rattle.std.proofs.Common.{◌≡◌, ◌≢◌, ℕ, suc, ◌+◌, ◌<◌, ◌≤◌, inl, inr, ⊎_elim, true, false, List, [], ◌∷◌, ◌++◌, length, map, drop, Option, Some, slice_get, refl, ap, sym, ◌∙◌, arith}
 use Rattle.std.specs.declared.vec.Vec.{Vec}
-use Rattle.std.proofs.lemmas.Option.{same_Some, none-some, slice_get_within}
+use Rattle.std.proofs.lemmas.Option.{same_Some}
 use Rattle.std.proofs.lemmas.Bool.{false≢true, cases_Bool}
 use Rattle.mapworld_calls.specs.declared.ask.Ask.{Ask}
-use Rattle.mapworld_calls.specs.declared.ask.Ask.TheVariants as ask
 use Rattle.mapworld_calls.specs.declared.block.Block.{Block}
-use Rattle.mapworld_calls.specs.declared.reply.Reply.{Reply}
-use Rattle.mapworld_calls.specs.Calls.{At, free, shared, pair_in}
+use Rattle.mapworld_calls.specs.Calls.{pair_in}
 use Rattle.mapworld_calls.specs.Programs.{key_of}
-use Rattle.mapworld_calls.specs.Setup.{Setup, Laws, ask_at, session_of}
+use Rattle.mapworld_calls.specs.Setup.{Setup, Laws, ask_at}
 use Rattle.mapworld_calls.specs.Replay.{reached, block_key, is_key, left, contents, at_key, found, AreApart}
-use Rattle.mapworld_calls.specs.Placed.{IsStepOf, answered_of, IsDoneWithin, IsPlaced}
+use Rattle.mapworld_calls.specs.Placed.{answered_of, IsDoneWithin, IsPlaced}
 use Rattle.mapworld_calls.proofs.Lists.{slice_get-push_at, slice_get-push_cases}
 use Rattle.mapworld_calls.proofs.Replays.{contents-push, contents-same, left-touched, left-untouched}
 use Rattle.mapworld_calls.proofs.Grown.{found-new}
 use Rattle.mapworld_calls.proofs.Kept.{keeps-push}
 use Rattle.mapworld.specs.declared.holds.Mode.{Mode}
-use Rattle.mapworld.specs.declared.holds.Mode.TheVariants.{Shared, Exclusive}
 use Rattle.mapworld.specs.declared.step.Step.{Step}
-use Rattle.mapworld.specs.declared.place.Phase.{Phase}
 use Rattle.mapworld.specs.declared.place.Place.{Place}
 use Rattle.mapworld.specs.State.{State, threads_of, started_of, next_step}
 use Rattle.mapworld.specs.Moves.{stepped, IsListed}
-use Rattle.mapworld.specs.Sound.{is_resting, taken, may_own, HoldsShard, IsInCall, IsBeforeDeed, Claim, OwnsBlocks, Stands, TablesAgree, HoldsMatch, Sound}
+use Rattle.mapworld.specs.Sound.{taken, may_own, HoldsShard, IsInCall, Claim, Stands, TablesAgree, Sound}
 use Rattle.mapworld.proofs.Effects.{effect-push}
 use Rattle.mapworld.proofs.Others.{IsStepOf-push}
 use Rattle.mapworld.proofs.Timing.{IsStepOf-below, IsStepOf-next, placed-push}

@@ -1,15 +1,13 @@
 -- What holds of a thread's place stays when another thread makes a step.
-use Rattle.std.proofs.Common.{◌≡◌, ◌≢◌, ℕ, ◌+◌, ◌-◌, ◌<◌, ◌≤◌, ◌⊎◌, inl, inr, ⊎_elim, Bool, true, false, if◌then◌else◌, List, [], ◌∷◌, ◌++◌, length, Option, Some, None, slice_get, refl, ap, sym, ◌∙◌, subst, arith}
+use Rattle.std.proofs.Common.{◌≡◌, ◌≢◌, ℕ, ◌+◌, ◌-◌, ◌≤◌, if◌then◌else◌, List, [], ◌∷◌, ◌++◌, Option, Some, None, slice_get, ap, sym, ◌∙◌}
 use Rattle.std.specs.declared.vec.Vec.{Vec}
-use Rattle.std.proofs.lemmas.Option.{slice_get_within}
 use Rattle.mapworld_calls.specs.declared.ask.Ask.{Ask}
 use Rattle.mapworld_calls.specs.declared.block.Block.{Block}
 use Rattle.mapworld_calls.specs.declared.reply.Reply.{Reply}
 use Rattle.mapworld_calls.specs.declared.reply.Answer.{Answer}
-use Rattle.mapworld_calls.specs.Calls.{At, free, shared}
-use Rattle.mapworld_calls.specs.Setup.{Setup, Laws, ask_at, session_of}
-use Rattle.mapworld_calls.specs.Programs.{opening_before}
-use Rattle.mapworld_calls.specs.Replay.{reached, found, AreApart, IsLastOnShard}
+use Rattle.mapworld_calls.specs.Calls.{At}
+use Rattle.mapworld_calls.specs.Setup.{Setup, session_of}
+use Rattle.mapworld_calls.specs.Replay.{reached, found}
 use Rattle.mapworld_calls.specs.Agrees.{IsAnsweredBy}
 use Rattle.mapworld_calls.specs.Placed.{IsStepOf, answered_of}
 use Rattle.mapworld_calls.proofs.Lists.{slice_get-push_below}
@@ -19,8 +17,8 @@ use Rattle.mapworld.specs.declared.holds.Mode.TheVariants.{Shared, Exclusive}
 use Rattle.mapworld.specs.declared.place.Phase.{Phase}
 use Rattle.mapworld.specs.declared.place.Phase.TheVariants as phase
 use Rattle.mapworld.specs.declared.place.Place.{Place}
-use Rattle.mapworld.specs.Sound.{HasPair, HoldsShard, GuardIs, HasSession, IsInSessionOf, IsInSession, IsReady, IsInCall, IsBeforeDeed, HasList, IsReleasing, Claim, OwnsBlocks, Stands}
-use Rattle.mapworld.proofs.Effects.{Effect, none-other, keeps-other}
+use Rattle.mapworld.specs.Sound.{HasPair, HoldsShard, GuardIs, IsInSessionOf, IsInSession, IsReady, IsInCall, IsBeforeDeed, HasList, IsReleasing, Claim, Stands}
+use Rattle.mapworld.proofs.Effects.{Effect, keeps-other}
 
 pub IsStepOf-push : (threads : List ℕ) (s t n : ℕ) → IsStepOf threads t n → IsStepOf (threads ++ s ∷ []) t n
 IsStepOf-push threads s t n h = (h.0, slice_get-push_below threads (n - 1) t s h.1)

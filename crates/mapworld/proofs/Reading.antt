@@ -1,31 +1,30 @@
 -- Steps of a session: a deed that reads the guarded pair, and the release of the guard or of a keyed call's hold.
-use Rattle.std.proofs.Common.{◌≡◌, ◌≢◌, ℕ, zero, suc, ◌+◌, ◌-◌, ◌<◌, ◌≤◌, ◌⊎◌, inl, inr, ⊎_elim, Bool, true, false, if◌then◌else◌, List, [], ◌∷◌, ◌++◌, length, drop, Option, Some, None, IsSome, is_some, slice_get, slice_set, remove, refl, ap, sym, ◌∙◌, subst, arith}
+use Rattle.std.proofs.Common.{◌≡◌, ℕ, ◌+◌, ◌-◌, inl, inr, Bool, if◌then◌else◌, List, Option, Some, None, is_some, slice_get, slice_set, remove, refl, ap, sym, ◌∙◌, subst, arith}
 use Rattle.std.specs.declared.vec.Vec.{Vec}
 use Rattle.std.proofs.lemmas.Option.{same_Some, none-some}
-use Rattle.std.proofs.lemmas.Bool.{false≢true}
 use Rattle.mapworld_calls.specs.declared.ask.Ask.{Ask}
 use Rattle.mapworld_calls.specs.declared.ask.Ask.TheVariants as ask
 use Rattle.mapworld_calls.specs.declared.ask.Held.TheVariants as held
 use Rattle.mapworld_calls.specs.declared.block.Block.{Block}
 use Rattle.mapworld_calls.specs.declared.reply.Answer.{Answer}
 use Rattle.mapworld_calls.specs.declared.reply.Answer.TheVariants as answer
-use Rattle.mapworld_calls.specs.Calls.{At, free, shared, told, held_answer, held_leaves}
-use Rattle.mapworld_calls.specs.Setup.{Setup, Laws, ask_at, session_of}
+use Rattle.mapworld_calls.specs.Calls.{At, shared, told, held_answer, held_leaves}
+use Rattle.mapworld_calls.specs.Setup.{Setup, Laws, session_of}
 use Rattle.mapworld_calls.specs.Replay.{reached, found}
 use Rattle.mapworld_calls.specs.Agrees.{IsToldBy, IsAnsweredInSession}
 use Rattle.mapworld_calls.proofs.Lists.{slice_get-set_cases}
-use Rattle.mapworld.specs.declared.holds.Mode.TheVariants.{Shared, Exclusive}
+use Rattle.mapworld.specs.declared.holds.Mode.TheVariants.{Shared}
 use Rattle.mapworld.specs.declared.step.Step.{Step}
 use Rattle.mapworld.specs.declared.place.Phase.TheVariants as phase
 use Rattle.mapworld.specs.declared.place.Place.{Place}
 use Rattle.mapworld.specs.State.{State, threads_of, started_of}
-use Rattle.mapworld.specs.Moves.{is_last, stepped, CountsIn, CountsCall}
+use Rattle.mapworld.specs.Moves.{stepped, CountsCall}
 use Rattle.mapworld.specs.Steps.{Reads, Releases}
-use Rattle.mapworld.specs.Sound.{taken, may_own, block_after, GuardIs, HasPair, HoldsShard, HasSession, IsInSession, IsReady, IsInCall, IsReleasing, Claim, Stands, Sound}
+use Rattle.mapworld.specs.Sound.{may_own, block_after, GuardIs, HasPair, HoldsShard, IsInSession, IsInCall, IsReleasing, Sound}
 use Rattle.mapworld.proofs.Others.{IsInCall-push}
 use Rattle.mapworld.proofs.Timing.{placed-same}
 use Rattle.mapworld.proofs.Holding.{holds-same, holds-remove}
-use Rattle.mapworld.proofs.Building.{in_call-moved, holds-moved, ready-moved, session-next, tables-same, started-stays, sound-by, claim-at, taken-at, within-at, ready-outside}
+use Rattle.mapworld.proofs.Building.{in_call-moved, holds-moved, session-next, tables-same, started-stays, sound-by, claim-at, taken-at, within-at, ready-outside}
 use Rattle.mapworld.proofs.Admitting.{leaves-same, owns-on}
 use Rattle.mapworld.proofs.Finding.{ready-inside}
 use Rattle.mapworld.proofs.Acting.{counted-block}

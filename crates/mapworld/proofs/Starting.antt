@@ -1,5 +1,5 @@
 -- The start of a call.
-use Rattle.std.proofs.Common.{◌≡◌, ◌≢◌, ℕ, zero, suc, ◌+◌, ◌-◌, ◌<◌, ◌≤◌, ◌⊎◌, inl, inr, ⊎_elim, Bool, true, false, if◌then◌else◌, List, [], ◌∷◌, ◌++◌, length, drop, Option, Some, None, IsSome, slice_get, slice_set, refl, ap, sym, ◌∙◌, subst, arith}
+use Rattle.std.proofs.Common.{◌≡◌, ℕ, ◌+◌, ◌-◌, ◌<◌, ◌≤◌, ◌⊎◌, inl, inr, Bool, true, false, if◌then◌else◌, List, [], ◌∷◌, ◌++◌, length, drop, Option, Some, None, slice_get, slice_set, refl, ap, sym, ◌∙◌, subst, arith}
 use Rattle.std.specs.declared.vec.Vec.{Vec}
 use Rattle.std.specs.declared.collections.VecDeque.{VecDeque}
 use Rattle.std.proofs.lemmas.Option.{same_Some, none-some}
@@ -15,13 +15,12 @@ use Rattle.mapworld_calls.specs.declared.ask.Held.TheVariants as held
 use Rattle.mapworld_calls.specs.declared.block.Block.{Block}
 use Rattle.mapworld_calls.specs.declared.reply.Answer.{Answer}
 use Rattle.mapworld_calls.specs.declared.reply.Answer.TheVariants as answer
-use Rattle.mapworld_calls.specs.Calls.{At, free, shared, held_answer, held_leaves}
+use Rattle.mapworld_calls.specs.Calls.{free, held_answer, held_leaves}
 use Rattle.mapworld_calls.specs.Programs.{session_behind}
 use Rattle.mapworld_calls.specs.Setup.{Setup, Laws, ask_at, session_of}
 use Rattle.mapworld_calls.specs.Replay.{reached, found}
-use Rattle.mapworld_calls.specs.Agrees.{IsToldBy, HasNoBlock, IsAnsweredInSession}
+use Rattle.mapworld_calls.specs.Agrees.{IsToldBy, IsAnsweredInSession}
 use Rattle.mapworld.specs.declared.step.Step.{Step}
-use Rattle.mapworld.specs.declared.place.Request.{Request}
 use Rattle.mapworld.specs.declared.place.Request.TheVariants as request
 use Rattle.mapworld.specs.declared.place.Phase.{Phase}
 use Rattle.mapworld.specs.declared.place.Phase.TheVariants as phase
@@ -29,10 +28,10 @@ use Rattle.mapworld.specs.declared.place.Place.{Place}
 use Rattle.mapworld.specs.State.{State, threads_of, started_of, next_step}
 use Rattle.mapworld.specs.Moves.{request_key, is_last, start_phase, start_shard, start_counts, stepped, CountsCall}
 use Rattle.mapworld.specs.Steps.{Starts}
-use Rattle.mapworld.specs.Sound.{is_resting, may_own, block_after, GuardIs, HoldsShard, HoldsByGuard, HasSession, IsInSession, IsReady, IsInCall, IsReleasing, Claim, Stands, Sound}
+use Rattle.mapworld.specs.Sound.{is_resting, may_own, block_after, GuardIs, HasSession, IsInSession, IsReady, IsInCall, IsReleasing, Claim, Stands, Sound}
 use Rattle.mapworld.proofs.Timing.{IsStepOf-next, placed-same}
 use Rattle.mapworld.proofs.Holding.{holds-same}
-use Rattle.mapworld.proofs.Building.{drop-first, asked-at, session-next, ready-moved, tables-same, started-stays, sound-by, claim-at, taken-at, within-at, ready-outside, block_after-none}
+use Rattle.mapworld.proofs.Building.{drop-first, asked-at, session-next, ready-moved, tables-same, started-stays, sound-by, claim-at, taken-at, ready-outside, block_after-none}
 use Rattle.mapworld.proofs.Admitting.{leaves-same, owns-on, keyed-apart, begin-apart}
 use Rattle.mapworld.proofs.Listing.{length-map}
 use Rattle.mapworld.proofs.Finding.{ready-inside}

@@ -1,5 +1,5 @@
 -- Blocks stay well placed as steps, replies and blocks are added.
-use Rattle.std.proofs.Common.{◌≡◌, ◌≢◌, ℕ, zero, suc, ◌+◌, ◌-◌, ◌<◌, ◌≤◌, ◌⊎◌, inl, inr, ⊎_elim, Bool, true, false, List, [], ◌∷◌, ◌++◌, length, take, Option, Some, None, IsSome, slice_get, slice_set, count_by, cond, ◌==◌, refl, ap, sym, ◌∙◌, subst, arith}
+use Rattle.std.proofs.Common.{◌≡◌, ◌≢◌, ℕ, ◌+◌, ◌-◌, ◌<◌, ◌⊎◌, inl, inr, ⊎_elim, Bool, true, false, List, [], ◌∷◌, ◌++◌, length, take, Option, Some, None, IsSome, slice_get, slice_set, count_by, cond, ◌==◌, refl, ap, sym, ◌∙◌, subst, arith}
 use Rattle.std.proofs.lemmas.Bool.{cases_eq, eq-eqb, ne_eqb}
 use Rattle.std.proofs.lemmas.Option.{same_Some, slice_get_within, get_or_from_slice_get}
 use Rattle.std.proofs.lemmas.List.Sums.{count_by_more_yes, sum_by-take-le}
@@ -9,9 +9,9 @@ use Rattle.mapworld_calls.specs.declared.ask.Ask.{Ask}
 use Rattle.mapworld_calls.specs.declared.ask.Ask.TheVariants as ask
 use Rattle.mapworld_calls.specs.declared.block.Block.{Block}
 use Rattle.mapworld_calls.specs.declared.reply.Reply.{Reply}
-use Rattle.mapworld_calls.specs.Setup.{Setup, ask_at, session_of}
-use Rattle.mapworld_calls.specs.Placed.{IsStepOf, answered_of, HasStarted, IsShownAnswered, IsShownStarted, IsKeyedDone, IsSessionDone, IsDoneWithin, IsPlaced, IsTimed, WellPlaced}
-use Rattle.mapworld_calls.proofs.Lists.{slice_get-set_same, slice_get-set_other, slice_get-set_cases, slice_get-push_below, slice_get-push_at, slice_get-push_cases, count_by-push}
+use Rattle.mapworld_calls.specs.Setup.{Setup, ask_at}
+use Rattle.mapworld_calls.specs.Placed.{IsStepOf, answered_of, HasStarted, IsShownAnswered, IsShownStarted, IsDoneWithin, IsPlaced, IsTimed, WellPlaced}
+use Rattle.mapworld_calls.proofs.Lists.{slice_get-set_cases, slice_get-push_below, slice_get-push_at, slice_get-push_cases, count_by-push}
 use Rattle.mapworld.proofs.Others.{IsStepOf-push}
 
 -- a block and one that shows the same call at the same steps

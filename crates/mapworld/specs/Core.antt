@@ -1,5 +1,5 @@
 -- What the code keeps of a world, and how much room it has.
-use Rattle.std.specs.Prelude.{◌≡◌, ℕ, ◌+◌, ◌<◌, ◌≤◌, ◌^◌, Bool, true, false, if◌then◌else◌, List, length, map, Option, Some, None, slice_get, sum_by, is_some, vec_len, vec_capacity}
+use Rattle.std.specs.Prelude.{◌≡◌, ℕ, ◌+◌, ◌<◌, ◌≤◌, ◌^◌, if◌then◌else◌, List, length, map, Some, slice_get, sum_by, is_some, vec_capacity}
 use Rattle.mapworld.specs.declared.holds.Held.{Held}
 use Rattle.mapworld.specs.declared.place.Phase.{Phase}
 use Rattle.mapworld.specs.declared.place.Phase.TheVariants as phase

@@ -1,5 +1,5 @@
 -- Which steps are refused, and what a run of steps leads to.
-use Rattle.std.specs.Prelude.{◌≡◌, ℕ, ◌+◌, ◌-◌, ◌*◌, ◌^◌, Bool, true, false, not, if◌then◌else◌, nat_lt, nat_le, List, [], ◌∷◌, length, Option, Some, None, Result, Ok, Err, slice_get, sum_by, ◌==◌}
+use Rattle.std.specs.Prelude.{◌≡◌, ℕ, ◌+◌, ◌-◌, ◌*◌, ◌^◌, Bool, true, false, if◌then◌else◌, nat_lt, nat_le, List, [], ◌∷◌, length, Option, Some, None, Result, Ok, Err, slice_get, sum_by, ◌==◌}
 use Rattle.mapworld_calls.specs.Setup.{Setup}
 use Rattle.mapworld.specs.declared.fault.RunFault.{RunFault}
 use Rattle.mapworld.specs.declared.fault.RunFault.TheVariants as fault
@@ -11,7 +11,7 @@ use Rattle.mapworld.specs.declared.place.Phase.{Phase}
 use Rattle.mapworld.specs.declared.place.Phase.TheVariants as phase
 use Rattle.mapworld.specs.declared.place.Place.{Place}
 use Rattle.mapworld.specs.Holds.{is_excluded}
-use Rattle.mapworld.specs.State.{State, next_step, pairs_of}
+use Rattle.mapworld.specs.State.{State, pairs_of}
 use Rattle.mapworld.specs.Moves.{mode_of}
 use Rattle.mapworld.specs.Steps.{IsStep}
 use Rattle.mapworld.specs.Faults.{run_fault_done}

@@ -1,5 +1,5 @@
 -- A world as contracts see it.
-use Rattle.std.specs.Prelude.{◌≡◌, ℕ, ◌+◌, Bool, true, false, List, length, map, flat_map, Option, Some, None, slice_get}
+use Rattle.std.specs.Prelude.{ℕ, ◌+◌, List, length, map, flat_map, Option, slice_get}
 use Rattle.std.specs.Option.{option_and_then}
 use Rattle.std.specs.declared.vec.Vec.{Vec}
 use Rattle.mapworld_calls.specs.declared.ask.Ask.{Ask}

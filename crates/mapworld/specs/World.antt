@@ -1,5 +1,5 @@
 -- A world's setup: what the bounds of its keys, hasher and deeds say, and what it was made with.
-use Rattle.std.specs.Prelude.{◌≡◌, ℕ, ◌-◌, ◌/◌, ◌%◌, ◌^◌, Bool, List, length, fold}
+use Rattle.std.specs.Prelude.{Bool, length}
 use Rattle.std.specs.Hash.{HashWrites}
 use Rattle.std.specs.declared.hash.BuildHasher as builder
 use Rattle.std.specs.declared.hash.Hasher as hasher

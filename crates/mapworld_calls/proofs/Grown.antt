@@ -1,15 +1,14 @@
 -- A block that has done more while later blocks stand behind it, and a block that is added.
-use Rattle.std.proofs.Common.{◌≡◌, ℕ, zero, suc, ◌+◌, ◌<◌, ◌≤◌, ◌⊎◌, inl, inr, ⊎_elim, Bool, true, false, List, [], ◌∷◌, ◌++◌, length, Option, Some, None, slice_get, slice_set, take, fold, refl, ap, sym, ◌∙◌, subst, arith, if◌then◌else◌}
+use Rattle.std.proofs.Common.{◌≡◌, ℕ, ◌<◌, ◌≤◌, ◌⊎◌, ⊎_elim, true, false, List, [], ◌∷◌, ◌++◌, length, Option, Some, None, slice_get, slice_set, take, refl, ap, sym, ◌∙◌, arith}
 use Rattle.std.proofs.lemmas.Bool.{cases_Bool, cases_lt}
-use Rattle.std.proofs.lemmas.Option.{same_Some, slice_get_within}
 use Rattle.std.proofs.lemmas.List.{take-append-le}
 use Rattle.std.proofs.Math.Seq.{take-append_seam}
 use Rattle.mapworld_calls.specs.declared.block.Block.{Block}
-use Rattle.mapworld_calls.specs.Setup.{Setup, Laws, ask_at}
+use Rattle.mapworld_calls.specs.Setup.{Setup, Laws}
 use Rattle.mapworld_calls.specs.Pairs.{opening_pair}
-use Rattle.mapworld_calls.specs.Calls.{At, pair_in}
-use Rattle.mapworld_calls.specs.Replay.{reached, block_key, is_key, left, contents, at_key, found, told_by, AreApart, IsLastOnShard}
-use Rattle.mapworld_calls.proofs.Folds.{fold-replaced, fold-last, fold-idle, slice_set-itself, take-set_above, take-set_below, slice_get-take, slice_get-from_take, take-take}
+use Rattle.mapworld_calls.specs.Calls.{pair_in}
+use Rattle.mapworld_calls.specs.Replay.{reached, block_key, is_key, left, contents, at_key, found, IsLastOnShard}
+use Rattle.mapworld_calls.proofs.Folds.{fold-replaced, fold-last, slice_set-itself, take-set_above, take-set_below, slice_get-take, take-take}
 use Rattle.mapworld_calls.proofs.Replays.{left-touched, left-untouched, contents-found, apart-untouched, apart-other}
 
 -- what c has done leaves the key's pair as what b has done

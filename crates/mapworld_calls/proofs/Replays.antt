@@ -1,13 +1,12 @@
 -- What the replay gives at a key: equal keys have equal contents, and a block changes its own key alone.
-use Rattle.std.proofs.Common.{◌≡◌, ℕ, ◌<◌, ◌≤◌, Bool, true, false, List, [], ◌∷◌, ◌++◌, length, Option, Some, None, slice_get, slice_set, take, reverse, fold, refl, ap, sym, ◌∙◌, arith}
-use Rattle.std.specs.List.{find}
+use Rattle.std.proofs.Common.{◌≡◌, ℕ, Bool, true, false, List, [], ◌∷◌, ◌++◌, Option, Some, None, take, reverse, fold, refl, ap, sym, ◌∙◌}
 use Rattle.std.specs.Cmp.{IsEquivalence}
 use Rattle.std.proofs.lemmas.Bool.{false_from_ne_true}
 use Rattle.std.proofs.lemmas.List.Sums.{fold_push}
 use Rattle.mapworld_calls.specs.declared.block.Block.{Block}
-use Rattle.mapworld_calls.specs.Setup.{Setup, Laws, ask_at}
+use Rattle.mapworld_calls.specs.Setup.{Setup, Laws}
 use Rattle.mapworld_calls.specs.Pairs.{has_key, pair_of, key_and_value, opening_pair}
-use Rattle.mapworld_calls.specs.Calls.{At, pair_in}
+use Rattle.mapworld_calls.specs.Calls.{pair_in}
 use Rattle.mapworld_calls.specs.Replay.{reached, block_key, is_key, left, contents, at_key, found, AreApart}
 use Rattle.mapworld_calls.proofs.Folds.{find-same}
 

@@ -1,4 +1,3 @@
-use Rattle.mapworld.specs.declared.step.Status.TheVariants as status
 use Rattle.mapworld.proofs.Sleeping.{status-asleep}
 use Rattle.mapworld.proofs.world.MapWorld.status.Goals as goal
 
