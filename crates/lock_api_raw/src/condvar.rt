@@ -1,0 +1,94 @@
+//! Raw condition variables.
+ghost use Rattle.std.specs.Prelude.{◌≡◌, Bool, true, false, Err, IsOk};
+ghost use Rattle.lock_api_raw.specs.Waits.{IsRefusedRightly};
+
+use crate::fault::{TableFull, WaitFault};
+use crate::mutex::{RawMutex, RawMutexTimed};
+use std::rt::Clock;
+use std::sync::Wait;
+
+/// A condition variable of one kind of mutex.
+pub trait RawCondvar {
+    /// The mutex that it works with.
+    type RawMutex: RawMutex;
+
+    /// What it is made from.
+    type Source;
+
+    /// Whether the mutex belongs to the same lot as the condition variable.
+    ghost same_lot: { Self → Self.RawMutex → Bool };
+
+    /// Makes a condition variable on which nobody waits. `TableFull` is the only refusal, and it takes no memory.
+    fn new(source: Self::Source) -> Result<Self, TableFull>;
+
+    /// Joins the queue, then unlocks the mutex, sleeps until it is notified and locks the mutex again. It spends the
+    /// token of the hold and answers the one that is out afterwards.
+    ///
+    /// `WrongMutex` is answered where other threads wait with another mutex, and then `WrongLot` where the mutex is of
+    /// another lot. Either comes before anything is done, and with the token that was handed in.
+    fn wait(
+        &self,
+        mutex: &Self::RawMutex,
+        guard: <Self::RawMutex as RawMutex>::Guard,
+        party: &mut <Self::RawMutex as RawMutex>::Party,
+    ) -> (<Self::RawMutex as RawMutex>::Guard, Result<(), WaitFault>)
+    where
+        <Self::RawMutex as RawMutex>::Runtime: Wait,
+        requires { Self.RawMutex.issued_by guard ≡ Self.RawMutex.number mutex.now }
+        ensures token { Self.RawMutex.issued_by result.0 ≡ Self.RawMutex.number mutex.now }
+        ensures refused { IsRefusedRightly (same_lot self.now mutex.now) guard result.0 result.1 };
+
+    /// Takes the first waiter if there is one and the variable still shows the mutex that it looked at, and answers
+    /// whether one was taken.
+    fn notify_one(&self) -> bool
+    where
+        <Self::RawMutex as RawMutex>::Runtime: Wait;
+
+    /// Takes all waiters and answers how many there were.
+    fn notify_all(&self) -> usize
+    where
+        <Self::RawMutex as RawMutex>::Runtime: Wait;
+}
+
+/// A condition variable whose wait can give up.
+pub trait RawCondvarTimed: RawCondvar
+where
+    Self::RawMutex: RawMutexTimed,
+{
+    /// As `wait`, until the moment at the latest. The answer is true exactly if the time ran out while the caller stood
+    /// in this variable's own queue.
+    fn wait_until<C: Clock>(
+        &self,
+        mutex: &Self::RawMutex,
+        guard: <Self::RawMutex as RawMutex>::Guard,
+        deadline: <Self::RawMutex as RawMutexTimed>::Instant,
+        clock: &C,
+        party: &mut <Self::RawMutex as RawMutex>::Party,
+    ) -> (<Self::RawMutex as RawMutex>::Guard, Result<bool, WaitFault>)
+    where
+        <Self::RawMutex as RawMutex>::Runtime: Wait,
+        requires { Self.RawMutex.issued_by guard ≡ Self.RawMutex.number mutex.now }
+        ensures token { Self.RawMutex.issued_by result.0 ≡ Self.RawMutex.number mutex.now }
+        ensures refused { IsRefusedRightly (Self.same_lot self.now mutex.now) guard result.0 result.1 };
+
+    /// As `wait_until`, with the moment that lies `timeout` ahead. Where that can't be said there is no limit.
+    fn wait_for<C: Clock>(
+        &self,
+        mutex: &Self::RawMutex,
+        guard: <Self::RawMutex as RawMutex>::Guard,
+        timeout: <Self::RawMutex as RawMutexTimed>::Duration,
+        clock: &C,
+        party: &mut <Self::RawMutex as RawMutex>::Party,
+    ) -> (<Self::RawMutex as RawMutex>::Guard, Result<bool, WaitFault>)
+    where
+        <Self::RawMutex as RawMutex>::Runtime: Wait,
+        requires { Self.RawMutex.issued_by guard ≡ Self.RawMutex.number mutex.now }
+        ensures token { Self.RawMutex.issued_by result.0 ≡ Self.RawMutex.number mutex.now }
+        ensures refused { IsRefusedRightly (Self.same_lot self.now mutex.now) guard result.0 result.1 };
+
+    /// The moment that lies `timeout` after the clock's now. None where it can't be said, or the clock can't be read.
+    fn checked_duration_to_instant<C: Clock>(
+        clock: &C,
+        timeout: <Self::RawMutex as RawMutexTimed>::Duration,
+    ) -> Option<<Self::RawMutex as RawMutexTimed>::Instant>;
+}

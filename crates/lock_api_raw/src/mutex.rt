@@ -1,0 +1,115 @@
+//! Raw locks with one kind of hold.
+ghost use Rattle.std.specs.Prelude.{◌≡◌, ℕ, IfSome};
+
+use crate::fault::TableFull;
+use std::rt::Clock;
+use std::sync::Wait;
+
+/// A lock with one kind of hold.
+///
+/// An admission issues one token of this lock, and a release spends it. What a thread lends to a blocking call, its
+/// party, says who it is: two threads never share one.
+///
+/// ```text
+/// let token = raw.lock(&mut party);
+/// // .. nobody else is admitted ..
+/// raw.unlock(token);
+/// ```
+pub trait RawMutex {
+    /// The runtime that the lock uses to wait.
+    type Runtime;
+
+    /// What the lock is made from: a table of lock words, or for a lock without a table the runtime alone.
+    type Source;
+
+    /// What a thread lends to a call that may wait.
+    type Party;
+
+    /// The token of a hold.
+    type Guard;
+
+    /// The number of the lock.
+    ghost number: { Self → ℕ };
+
+    /// The number of the lock that issued the token.
+    ghost issued_by: { Self.Guard → ℕ };
+
+    /// The runtime that the lock keeps.
+    ghost runtime_of: { Self → Self.Runtime };
+
+    /// Makes an unlocked lock. A plain mutex ignores `readers`, and a reentrant one keeps it as its limit of nested
+    /// holds. `TableFull` is the only refusal, and it takes no memory.
+    fn new(source: Self::Source, readers: u64) -> Result<Self, TableFull>;
+
+    /// The runtime, by which the layer above takes the lock that holds the value.
+    fn runtime(&self) -> &Self::Runtime
+        ensures { result.now ≡ runtime_of self.now };
+
+    /// Waits until the lock is admitted. That it returns isn't promised.
+    fn lock(&self, party: &mut Self::Party) -> Self::Guard
+    where
+        Self::Runtime: Wait,
+        ensures { issued_by result ≡ number self.now };
+
+    /// A token if the lock can be had at once. It waits for nobody.
+    fn try_lock(&self) -> Option<Self::Guard>
+        ensures { IfSome result (λ token. issued_by token ≡ number self.now) };
+
+    /// Gives the lock up. It may wait for the short sections in which sleeping threads are woken.
+    fn unlock(&self, guard: Self::Guard)
+    where
+        Self::Runtime: Wait,
+        requires { issued_by guard ≡ number self.now };
+
+    /// Whether a hold was out at the moment of one look.
+    fn is_locked(&self) -> bool;
+}
+
+/// A mutex that can hand itself over.
+pub trait RawMutexFair: RawMutex {
+    /// Gives the lock up, and if somebody waits makes the first waiter its owner without letting go in between.
+    fn unlock_fair(&self, guard: Self::Guard)
+    where
+        Self::Runtime: Wait,
+        requires { Self.issued_by guard ≡ Self.number self.now };
+
+    /// Lets somebody who waits go first: if there is one, a fair release and then a blocking acquisition, and else
+    /// nothing. The answer is the token that is then out.
+    fn bump(&self, guard: Self::Guard, party: &mut Self::Party) -> Self::Guard
+    where
+        Self::Runtime: Wait,
+        requires { Self.issued_by guard ≡ Self.number self.now }
+        ensures { Self.issued_by result ≡ Self.number self.now };
+}
+
+/// A mutex whose wait can give up.
+pub trait RawMutexTimed: RawMutex {
+    /// A length of time.
+    type Duration;
+
+    /// A moment.
+    type Instant;
+
+    /// As `lock`, but None if the wait is given up after the length of time, by the clock that is handed in. A length
+    /// that leads past what a moment can say is no limit.
+    fn try_lock_for<C: Clock>(
+        &self,
+        timeout: Self::Duration,
+        clock: &C,
+        party: &mut Self::Party,
+    ) -> Option<Self::Guard>
+    where
+        Self::Runtime: Wait,
+        ensures { IfSome result (λ token. Self.issued_by token ≡ Self.number self.now) };
+
+    /// As `lock`, but None if the wait is given up at the moment, by the clock that is handed in.
+    fn try_lock_until<C: Clock>(
+        &self,
+        deadline: Self::Instant,
+        clock: &C,
+        party: &mut Self::Party,
+    ) -> Option<Self::Guard>
+    where
+        Self::Runtime: Wait,
+        ensures { IfSome result (λ token. Self.issued_by token ≡ Self.number self.now) };
+}

@@ -1,0 +1,327 @@
+//! Raw locks with shared, exclusive and upgradable holds.
+ghost use Rattle.std.specs.Prelude.{◌≡◌, ℕ, IfSome, IfOk, MatchResult};
+ghost use Rattle.lock_api_raw.specs.Limits.{kept_limit};
+
+use crate::fault::TableFull;
+use std::rt::Clock;
+use std::sync::Wait;
+
+/// A lock with shared and exclusive holds.
+///
+/// Shared holds stand beside each other, up to the limit of readers that the lock keeps, and an exclusive one stands
+/// alone. Each admission issues one token of this lock, of the kind of its hold, and a release spends it.
+///
+/// ```text
+/// let token = raw.lock_shared(&mut party);
+/// // .. nobody else is exclusive ..
+/// raw.unlock_shared(token);
+/// ```
+pub trait RawRwLock {
+    /// The runtime that the lock uses to wait.
+    type Runtime;
+
+    /// What the lock is made from: a table of lock words, or for a lock without a table the runtime alone.
+    type Source;
+
+    /// What a thread lends to a call that may wait.
+    type Party;
+
+    /// The token of a shared hold.
+    type SharedGuard;
+
+    /// The token of an exclusive hold.
+    type ExclusiveGuard;
+
+    /// The number of the lock.
+    ghost number: { Self → ℕ };
+
+    /// The number of the lock that issued a shared token.
+    ghost shared_by: { Self.SharedGuard → ℕ };
+
+    /// The number of the lock that issued an exclusive token.
+    ghost exclusive_by: { Self.ExclusiveGuard → ℕ };
+
+    /// The runtime that the lock keeps.
+    ghost runtime_of: { Self → Self.Runtime };
+
+    /// The limit of readers that the lock keeps.
+    ghost limit: { Self → ℕ };
+
+    /// The greatest limit that a lock of this type can keep.
+    ghost own_limit: { ℕ };
+
+    /// Makes an unlocked lock whose limit of readers is `readers`, where 0 counts as 1, or the greatest that it can
+    /// keep if that is less. `TableFull` is the only refusal, and it takes no memory.
+    fn new(source: Self::Source, readers: u64) -> Result<Self, TableFull>
+        ensures { IfOk result (λ lock. limit lock ≡ kept_limit own_limit readers) };
+
+    /// The runtime, by which the layer above takes the lock that holds the value.
+    fn runtime(&self) -> &Self::Runtime
+        ensures { result.now ≡ runtime_of self.now };
+
+    /// Waits for a shared hold. At a full count of readers it yields and tries again until there is room.
+    fn lock_shared(&self, party: &mut Self::Party) -> Self::SharedGuard
+    where
+        Self::Runtime: Wait,
+        ensures { shared_by result ≡ number self.now };
+
+    /// A shared hold at once, or None, at a full count too. It waits for nobody.
+    fn try_lock_shared(&self) -> Option<Self::SharedGuard>
+        ensures { IfSome result (λ token. shared_by token ≡ number self.now) };
+
+    /// Gives a shared hold up. It may wait for the short sections in which sleeping threads are woken.
+    fn unlock_shared(&self, guard: Self::SharedGuard)
+    where
+        Self::Runtime: Wait,
+        requires { shared_by guard ≡ number self.now };
+
+    /// Waits until no other hold is left.
+    fn lock_exclusive(&self, party: &mut Self::Party) -> Self::ExclusiveGuard
+    where
+        Self::Runtime: Wait,
+        ensures { exclusive_by result ≡ number self.now };
+
+    /// An exclusive hold at once, or None. It waits for nobody.
+    fn try_lock_exclusive(&self) -> Option<Self::ExclusiveGuard>
+        ensures { IfSome result (λ token. exclusive_by token ≡ number self.now) };
+
+    /// Gives the exclusive hold up. It may wait for the short sections in which sleeping threads are woken.
+    fn unlock_exclusive(&self, guard: Self::ExclusiveGuard)
+    where
+        Self::Runtime: Wait,
+        requires { exclusive_by guard ≡ number self.now };
+
+    /// Whether any hold was out at the moment of one look.
+    fn is_locked(&self) -> bool;
+
+    /// Whether an exclusive hold was out at the moment of one look.
+    fn is_locked_exclusive(&self) -> bool;
+}
+
+/// Fair releases.
+pub trait RawRwLockFair: RawRwLock {
+    /// Gives a shared hold up. The last shared release hands over exactly as a plain one does.
+    fn unlock_shared_fair(&self, guard: Self::SharedGuard)
+    where
+        Self::Runtime: Wait,
+        requires { Self.shared_by guard ≡ Self.number self.now };
+
+    /// Gives the exclusive hold up, and hands the lock to those who wait without letting go in between.
+    fn unlock_exclusive_fair(&self, guard: Self::ExclusiveGuard)
+    where
+        Self::Runtime: Wait,
+        requires { Self.exclusive_by guard ≡ Self.number self.now };
+
+    /// If a writer waits, a fair shared release and then a blocking shared acquisition, and else nothing.
+    fn bump_shared(&self, guard: Self::SharedGuard, party: &mut Self::Party) -> Self::SharedGuard
+    where
+        Self::Runtime: Wait,
+        requires { Self.shared_by guard ≡ Self.number self.now }
+        ensures { Self.shared_by result ≡ Self.number self.now };
+
+    /// If somebody waits, a fair exclusive release and then a blocking exclusive acquisition, and else nothing.
+    fn bump_exclusive(
+        &self,
+        guard: Self::ExclusiveGuard,
+        party: &mut Self::Party,
+    ) -> Self::ExclusiveGuard
+    where
+        Self::Runtime: Wait,
+        requires { Self.exclusive_by guard ≡ Self.number self.now }
+        ensures { Self.exclusive_by result ≡ Self.number self.now };
+}
+
+/// From exclusive to shared.
+pub trait RawRwLockDowngrade: RawRwLock {
+    /// Turns the exclusive hold into a shared one without letting go, and wakes those who may now enter.
+    fn downgrade(&self, guard: Self::ExclusiveGuard) -> Self::SharedGuard
+    where
+        Self::Runtime: Wait,
+        requires { Self.exclusive_by guard ≡ Self.number self.now }
+        ensures { Self.shared_by result ≡ Self.number self.now };
+}
+
+/// Holds whose wait can give up.
+pub trait RawRwLockTimed: RawRwLock {
+    /// A length of time.
+    type Duration;
+
+    /// A moment.
+    type Instant;
+
+    /// As `lock_shared`, but None if the wait is given up after the length of time, by the clock that is handed in. A
+    /// length that leads past what a moment can say is no limit.
+    fn try_lock_shared_for<C: Clock>(
+        &self,
+        timeout: Self::Duration,
+        clock: &C,
+        party: &mut Self::Party,
+    ) -> Option<Self::SharedGuard>
+    where
+        Self::Runtime: Wait,
+        ensures { IfSome result (λ token. Self.shared_by token ≡ Self.number self.now) };
+
+    /// As `lock_shared`, but None if the wait is given up at the moment, by the clock that is handed in.
+    fn try_lock_shared_until<C: Clock>(
+        &self,
+        deadline: Self::Instant,
+        clock: &C,
+        party: &mut Self::Party,
+    ) -> Option<Self::SharedGuard>
+    where
+        Self::Runtime: Wait,
+        ensures { IfSome result (λ token. Self.shared_by token ≡ Self.number self.now) };
+
+    /// As `lock_exclusive`, but None if the wait is given up after the length of time.
+    fn try_lock_exclusive_for<C: Clock>(
+        &self,
+        timeout: Self::Duration,
+        clock: &C,
+        party: &mut Self::Party,
+    ) -> Option<Self::ExclusiveGuard>
+    where
+        Self::Runtime: Wait,
+        ensures { IfSome result (λ token. Self.exclusive_by token ≡ Self.number self.now) };
+
+    /// As `lock_exclusive`, but None if the wait is given up at the moment.
+    fn try_lock_exclusive_until<C: Clock>(
+        &self,
+        deadline: Self::Instant,
+        clock: &C,
+        party: &mut Self::Party,
+    ) -> Option<Self::ExclusiveGuard>
+    where
+        Self::Runtime: Wait,
+        ensures { IfSome result (λ token. Self.exclusive_by token ≡ Self.number self.now) };
+}
+
+/// An upgradable hold. It stands beside shared ones and counts as one of them, and never stands beside another
+/// upgradable one or an exclusive one.
+pub trait RawRwLockUpgrade: RawRwLock {
+    /// The token of an upgradable hold.
+    type UpgradableGuard;
+
+    /// The number of the lock that issued an upgradable token.
+    ghost upgradable_by: { Self.UpgradableGuard → ℕ };
+
+    /// Waits for an upgradable hold. At a full count of readers it yields and tries again until there is room.
+    fn lock_upgradable(&self, party: &mut Self::Party) -> Self::UpgradableGuard
+    where
+        Self::Runtime: Wait,
+        ensures { upgradable_by result ≡ Self.number self.now };
+
+    /// An upgradable hold at once, or None. It waits for nobody.
+    fn try_lock_upgradable(&self) -> Option<Self::UpgradableGuard>
+        ensures { IfSome result (λ token. upgradable_by token ≡ Self.number self.now) };
+
+    /// Gives the upgradable hold up.
+    fn unlock_upgradable(&self, guard: Self::UpgradableGuard)
+    where
+        Self::Runtime: Wait,
+        requires { upgradable_by guard ≡ Self.number self.now };
+
+    /// Keeps new readers out at once, and waits until the other readers are gone. Nobody else is exclusive in between.
+    fn upgrade(&self, guard: Self::UpgradableGuard, party: &mut Self::Party) -> Self::ExclusiveGuard
+    where
+        Self::Runtime: Wait,
+        requires { upgradable_by guard ≡ Self.number self.now }
+        ensures { Self.exclusive_by result ≡ Self.number self.now };
+
+    /// The exclusive token if no other reader is left, and else the token that was handed in, with nothing changed. It
+    /// waits for nobody.
+    fn try_upgrade(
+        &self,
+        guard: Self::UpgradableGuard,
+    ) -> Result<Self::ExclusiveGuard, Self::UpgradableGuard>
+        requires { upgradable_by guard ≡ Self.number self.now }
+        ensures { MatchResult result (λ token. Self.exclusive_by token ≡ Self.number self.now) (λ token. token ≡ guard) };
+}
+
+/// Fair upgradable releases.
+pub trait RawRwLockUpgradeFair: RawRwLockUpgrade + RawRwLockFair {
+    /// Gives the upgradable hold up, and hands over to those who wait.
+    fn unlock_upgradable_fair(&self, guard: Self::UpgradableGuard)
+    where
+        Self::Runtime: Wait,
+        requires { Self.upgradable_by guard ≡ Self.number self.now };
+
+    /// If somebody waits, a fair upgradable release and then a blocking upgradable acquisition, and else nothing.
+    fn bump_upgradable(
+        &self,
+        guard: Self::UpgradableGuard,
+        party: &mut Self::Party,
+    ) -> Self::UpgradableGuard
+    where
+        Self::Runtime: Wait,
+        requires { Self.upgradable_by guard ≡ Self.number self.now }
+        ensures { Self.upgradable_by result ≡ Self.number self.now };
+}
+
+/// From upgradable to shared, and from exclusive to upgradable.
+pub trait RawRwLockUpgradeDowngrade: RawRwLockUpgrade + RawRwLockDowngrade {
+    /// Turns the upgradable hold into a shared one without letting go.
+    fn downgrade_upgradable(&self, guard: Self::UpgradableGuard) -> Self::SharedGuard
+    where
+        Self::Runtime: Wait,
+        requires { Self.upgradable_by guard ≡ Self.number self.now }
+        ensures { Self.shared_by result ≡ Self.number self.now };
+
+    /// Turns the exclusive hold into an upgradable one without letting go.
+    fn downgrade_to_upgradable(&self, guard: Self::ExclusiveGuard) -> Self::UpgradableGuard
+    where
+        Self::Runtime: Wait,
+        requires { Self.exclusive_by guard ≡ Self.number self.now }
+        ensures { Self.upgradable_by result ≡ Self.number self.now };
+}
+
+/// Upgradable holds whose wait can give up.
+pub trait RawRwLockUpgradeTimed: RawRwLockUpgrade + RawRwLockTimed {
+    /// As `lock_upgradable`, but None if the wait is given up after the length of time.
+    fn try_lock_upgradable_for<C: Clock>(
+        &self,
+        timeout: Self::Duration,
+        clock: &C,
+        party: &mut Self::Party,
+    ) -> Option<Self::UpgradableGuard>
+    where
+        Self::Runtime: Wait,
+        ensures { IfSome result (λ token. Self.upgradable_by token ≡ Self.number self.now) };
+
+    /// As `upgrade`, but if the wait is given up the token that was handed in comes back and the lock is upgradable
+    /// again, with nobody exclusive in between.
+    fn try_upgrade_for<C: Clock>(
+        &self,
+        guard: Self::UpgradableGuard,
+        timeout: Self::Duration,
+        clock: &C,
+        party: &mut Self::Party,
+    ) -> Result<Self::ExclusiveGuard, Self::UpgradableGuard>
+    where
+        Self::Runtime: Wait,
+        requires { Self.upgradable_by guard ≡ Self.number self.now }
+        ensures { MatchResult result (λ token. Self.exclusive_by token ≡ Self.number self.now) (λ token. token ≡ guard) };
+
+    /// As `lock_upgradable`, but None if the wait is given up at the moment.
+    fn try_lock_upgradable_until<C: Clock>(
+        &self,
+        deadline: Self::Instant,
+        clock: &C,
+        party: &mut Self::Party,
+    ) -> Option<Self::UpgradableGuard>
+    where
+        Self::Runtime: Wait,
+        ensures { IfSome result (λ token. Self.upgradable_by token ≡ Self.number self.now) };
+
+    /// As `try_upgrade_for`, but the wait is given up at the moment.
+    fn try_upgrade_until<C: Clock>(
+        &self,
+        guard: Self::UpgradableGuard,
+        deadline: Self::Instant,
+        clock: &C,
+        party: &mut Self::Party,
+    ) -> Result<Self::ExclusiveGuard, Self::UpgradableGuard>
+    where
+        Self::Runtime: Wait,
+        requires { Self.upgradable_by guard ≡ Self.number self.now }
+        ensures { MatchResult result (λ token. Self.exclusive_by token ≡ Self.number self.now) (λ token. token ≡ guard) };
+}
