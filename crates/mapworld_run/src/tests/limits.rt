@@ -1,5 +1,5 @@
 use super::worlds::{
-    Asked, drop_guard, get, has_pairs, insert, read, remove, step_round, told, world,
+    Asked, drop_guard, get, has_pairs, insert, read, remove, stands, step_round, told, world,
 };
 use crate::report::ReadValue;
 use mapworld::{Answer, MapWorld, SpreadState, Status, WorldNewFault};
@@ -96,7 +96,7 @@ fn a_world_of_256_threads_runs_to_its_end(rt: HostRuntime) -> Result<(), Fail> {
     step_round(&mut world, 256)?;
     for thread in 0..256 {
         assert!(rt;
-            world.status(thread) == Status::Finished
+            stands(&world, thread) == Some(Status::Finished)
                 && told(&world, thread, 2, &Answer::Read(thread as u64)),
             "thread {thread}"
         );

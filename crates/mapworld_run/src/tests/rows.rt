@@ -1,6 +1,6 @@
 use super::worlds::{
-    drop_guard, get, has_pairs, insert, read, remove, step, step_round, step_through, step_times,
-    told, world,
+    drop_guard, get, has_pairs, insert, read, remove, stands, started, step, step_round,
+    step_through, step_times, told, world,
 };
 use mapworld::{Answer, RunFault, Status};
 use std::test::Fail;
@@ -17,7 +17,9 @@ fn of_two_inserts_the_second_finds_the_first(rt: HostRuntime) -> Result<(), Fail
     assert!(rt; told(&world, 0, 0, &Answer::None));
     assert!(rt; told(&world, 1, 0, &Answer::Value(10)));
     assert!(rt; has_pairs(&world, &[(1, 20)])?);
-    assert!(rt; world.status(0) == Status::Finished && world.status(1) == Status::Finished);
+    assert!(rt;
+        stands(&world, 0) == Some(Status::Finished) && stands(&world, 1) == Some(Status::Finished)
+    );
     Ok(())
 }
 
@@ -47,11 +49,11 @@ fn a_guard_reads_the_same_pair_until_it_is_dropped(rt: HostRuntime) -> Result<()
     step_times(&mut world, 0, 7)?;
     assert!(rt; told(&world, 0, 1, &Answer::Read(5)));
     step_through(&mut world, 1)?;
-    assert!(rt; world.status(1) == Status::Asleep && world.started(1) == Some(8));
+    assert!(rt; stands(&world, 1) == Some(Status::Asleep) && started(&world, 1) == Some(8));
     step_through(&mut world, 2)?;
     assert!(rt; told(&world, 2, 1, &Answer::Read(5)));
     step_through(&mut world, 0)?;
-    assert!(rt; told(&world, 0, 2, &Answer::Read(5)) && world.status(1) == Status::Running);
+    assert!(rt; told(&world, 0, 2, &Answer::Read(5)) && stands(&world, 1) == Some(Status::Running));
     step_through(&mut world, 1)?;
     assert!(rt; told(&world, 1, 0, &Answer::Value(5)));
     assert!(rt; has_pairs(&world, &[(1, 6)])?);
@@ -73,7 +75,7 @@ fn a_refused_step_leaves_those_before_it(rt: HostRuntime) -> Result<(), Fail> {
         world.run(&[step(2), step(2), step(1)]),
         Err(RunFault::CannotMove(2))
     );
-    assert_eq!(rt; world.started(2), Some(6));
+    assert_eq!(rt; started(&world, 2), Some(6));
     step_round(&mut world, 3)?;
     assert!(rt; told(&world, 1, 0, &Answer::Pair(1, 5)) && told(&world, 2, 0, &Answer::None));
     assert_eq!(rt; world.run(&[step(0)]), Err(RunFault::CannotMove(0)));

@@ -2,7 +2,8 @@
 
 use crate::report::ReadValue;
 use mapworld::{
-    Answer, Ask, Begin, Deed, Held, Keyed, MapWorld, RunFault, SpreadState, Step, WorldNewFault,
+    Answer, Ask, Begin, Deed, Held, Keyed, MapWorld, RunFault, SpreadState, Status, Step,
+    WorldNewFault,
 };
 use std::alloc::{Allocator, Global};
 use std::hash::{BuildHasher, Hash};
@@ -104,6 +105,24 @@ pub fn told<A: Allocator>(world: &World<A>, thread: usize, call: usize, want: &A
     world.replies().iter().any(|reply| reply.thread == thread
         && reply.call == call
         && reply.answer == *want)
+}
+
+/// Where the thread stands, if the world has it.
+pub fn stands<A: Allocator>(world: &World<A>, thread: usize) -> Option<Status> {
+    if thread < world.threads() {
+        Some(world.status(thread))
+    } else {
+        None
+    }
+}
+
+/// The start of the thread's unanswered call, if the world has the thread.
+pub fn started<A: Allocator>(world: &World<A>, thread: usize) -> Option<u64> {
+    if thread < world.threads() {
+        world.started(thread)
+    } else {
+        None
+    }
 }
 
 /// Whether the contents are these pairs and no others.
