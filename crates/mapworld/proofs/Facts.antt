@@ -18,7 +18,7 @@ use Rattle.mapworld.specs.declared.place.Request.{Request}
 use Rattle.mapworld.specs.declared.place.Place.{Place}
 use Rattle.mapworld.specs.State.{State, threads_of}
 use Rattle.mapworld.specs.Holds.{is_excluded, is_hold_of}
-use Rattle.mapworld.specs.Moves.{mode_of, start_counts}
+use Rattle.mapworld.specs.Moves.{mode_of}
 use Rattle.mapworld.specs.Sound.{Sound, Claim, HoldsMatch, HasPair, HasList, IsInSession, IsOnItsWay, IsBeforeDeed, IsReleasing, is_resting}
 use Rattle.mapworld.specs.Core.{IsBefore}
 use Rattle.mapworld.specs.Listing.{CanCount}
@@ -68,13 +68,6 @@ pub kept_block : (closes : Bool) (block : Option ℕ) (i : ℕ) → (if closes t
 kept_block true block i e = absurd (none-some i e)
 kept_block false block i e = e
 
--- a start counts its call in no other block than that of its session
-pub counted_block : {K V D : Type 0} (a : Ask K V D) (slot block : Option ℕ) (i : ℕ) → start_counts a slot block ≡ Some i → block ≡ Some i
-counted_block (ask.Keyed k) slot block i e = absurd (none-some i e)
-counted_block (ask.Begin b) slot block i e = absurd (none-some i e)
-counted_block (ask.Held h) (Some s) block i e = absurd (none-some i e)
-counted_block (ask.Held h) None block i e = e
-
 module _ {K V D T A : Type 0} (x : Setup K V D T) (bs : List (Block K)) (tables : List (Vec (K × V) A)) (t : ℕ) (p : Place K V D T A) where
   -- the block of a session is of an earlier call than that
   pub session_counts : (n : ℕ) (session block : Option ℕ) → IsInSession x bs tables t p n session block → CanCount bs block n
@@ -88,7 +81,7 @@ module _ {K V D T A : Type 0} (x : Setup K V D T) (bs : List (Block K)) (tables 
       → (pair : K × V) × HasPair tables p.shard slot pair
   session_pair n None block slot h e = absurd (none-some slot (sym h.0 ∙ e))
   session_pair n (Some c) None slot h e = absurd (none-some slot (sym h.0 ∙ e))
-  session_pair n (Some c) (Some j) slot h e = let g = rw e at h.guard in (g.0, g.3)
+  session_pair n (Some c) (Some j) slot h e = let g = rw e at h.guard in (g.0, g.4)
 
   -- the block of a deed is that of its call
   pub deed_counts : (key : K) (o : Option (K × V)) → IsBeforeDeed x bs t p key o → CanCount bs p.block p.next

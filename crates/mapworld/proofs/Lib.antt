@@ -35,3 +35,5 @@ pub mod Weights
 pub mod Afters
 pub mod Bounds
 pub mod Running
+pub mod Rewriting
+pub mod Writing

@@ -36,6 +36,7 @@ module _ {K V D T : Type 0} (holds : List Held) where
   before_admission left shard (phase.Replace i v) h = cc
   before_admission left shard (phase.Take i) h = cc
   before_admission left shard (phase.Read d) h = cc
+  before_admission left shard (phase.Write d) h = cc
   before_admission left shard (phase.Release a) h = cc
   before_admission left shard (phase.Answer a) h = cc
 

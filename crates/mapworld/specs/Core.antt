@@ -32,6 +32,7 @@ owes (phase.Append k v) = 1
 owes (phase.Replace i v) = 1
 owes (phase.Take i) = 1
 owes (phase.Read d) = 1
+owes (phase.Write d) = 1
 owes (phase.Release a) = 1
 owes (phase.Answer a) = 1
 
@@ -44,6 +45,7 @@ lists (phase.Append k v) = 0
 lists (phase.Replace i v) = 0
 lists (phase.Take i) = 0
 lists (phase.Read d) = 0
+lists (phase.Write d) = 0
 lists (phase.Release a) = 0
 lists (phase.Answer a) = 0
 
@@ -56,6 +58,7 @@ adds (phase.Append k v) = 1
 adds (phase.Replace i v) = 0
 adds (phase.Take i) = 0
 adds (phase.Read d) = 0
+adds (phase.Write d) = 0
 adds (phase.Release a) = 0
 adds (phase.Answer a) = 0
 

@@ -37,6 +37,7 @@ status_before holds left shard (phase.Append k v) = status.Running
 status_before holds left shard (phase.Replace i v) = status.Running
 status_before holds left shard (phase.Take i) = status.Running
 status_before holds left shard (phase.Read d) = status.Running
+status_before holds left shard (phase.Write d) = status.Running
 status_before holds left shard (phase.Release a) = status.Running
 status_before holds left shard (phase.Answer a) = status.Running
 

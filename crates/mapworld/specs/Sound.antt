@@ -10,7 +10,7 @@ use Rattle.mapworld_calls.specs.declared.reply.Reply.{Reply}
 use Rattle.mapworld_calls.specs.declared.reply.Answer.{Answer}
 use Rattle.mapworld_calls.specs.declared.reply.Answer.TheVariants as answer
 use Rattle.mapworld_calls.specs.Programs.{one_guard}
-use Rattle.mapworld_calls.specs.Calls.{At, free, shared}
+use Rattle.mapworld_calls.specs.Calls.{At, free, shared, exclusive}
 use Rattle.mapworld_calls.specs.Setup.{Setup, ask_at, session_of}
 use Rattle.mapworld_calls.specs.Pairs.{pair_of, AreDistinct}
 use Rattle.mapworld_calls.specs.Replay.{reached, block_key, contents, found, IsLastOnShard}
@@ -36,6 +36,7 @@ is_resting (phase.Append k v) = false
 is_resting (phase.Replace i v) = false
 is_resting (phase.Take i) = false
 is_resting (phase.Read d) = false
+is_resting (phase.Write d) = false
 is_resting (phase.Release a) = false
 is_resting (phase.Answer a) = false
 
@@ -49,6 +50,7 @@ may_own (phase.Append k v) = true
 may_own (phase.Replace i v) = true
 may_own (phase.Take i) = true
 may_own (phase.Read d) = false
+may_own (phase.Write d) = false
 may_own (phase.Release a) = true
 may_own (phase.Answer a) = true
 
@@ -77,10 +79,24 @@ pub record HoldsShard {K V D T A : Type 0} (p : Place K V D T A) (mode : Mode) :
 abbrev pub HoldsByGuard : {K V D T A : Type 0} → Place K V D T A → Type 0
 HoldsByGuard p = p.slot ≡ None → p.hold ≡ None
 
+-- a session at its guard's pair, by the guard's mode
+abbrev pub guarded : {K V : Type 0} → Mode → K × V → At K V
+guarded Shared pair = shared pair
+guarded Exclusive pair = exclusive pair
+
 -- a guard lends the pair that its session has come to, and a session without one is free
 abbrev pub GuardIs : {K V D T A : Type 0} → List (Vec (K × V) A) → Place K V D T A → Option ℕ → At K V → Type 0
 GuardIs {K} {V} tables p None at = (o : Option (K × V)) × (at ≡ free o)
-GuardIs {K} {V} tables p (Some slot) at = (pair : K × V) × (at ≡ shared pair) × HoldsShard p Shared × HasPair tables p.shard slot pair
+GuardIs {K} {V} tables p (Some slot) at = (pair : K × V) × (mode : Mode) × (at ≡ guarded mode pair) × HoldsShard p mode × HasPair tables p.shard slot pair
+
+-- the block is of a key of the place's shard
+abbrev pub IsOnShard : {K V D T A : Type 0} → Setup K V D T → Place K V D T A → Block K → Type 0
+IsOnShard {K} x p b = (k : K) → block_key x b ≡ Some k → p.shard ≡ x.route k
+
+-- so it is, and it is the last one there while the place holds the shard alone
+pub record IsSettled {K V D T A : Type 0} (x : Setup K V D T) (bs : List (Block K)) (p : Place K V D T A) (i : ℕ) (b : Block K) : Type 0 where
+  pub here : IsOnShard x p b
+  pub last : HoldsShard p Exclusive → IsLastOnShard x bs i b
 
 -- the session of the opening c has a block, which has done all calls of the session below n
 pub record HasSession {K V D T A : Type 0} (x : Setup K V D T) (bs : List (Block K)) (tables : List (Vec (K × V) A)) (t : ℕ) (p : Place K V D T A) (n c i : ℕ) : Type 0 where
@@ -91,6 +107,7 @@ pub record HasSession {K V D T A : Type 0} (x : Setup K V D T) (bs : List (Block
   pub below : c < n
   pub done : block.done.value ≡ n - c
   pub guard : GuardIs tables p p.slot (reached x t c (n - c) (found x bs i block))
+  pub settled : IsSettled x bs p i block
 
 abbrev pub IsInSessionOf : {K V D T A : Type 0} → Setup K V D T → List (Block K) → List (Vec (K × V) A) → ℕ → Place K V D T A → ℕ → ℕ → Option ℕ → Type 0
 IsInSessionOf x bs tables t p n c (Some i) = HasSession x bs tables t p n c i
@@ -163,6 +180,8 @@ Claim {K} {V} x threads bs tables t p (phase.Take slot) =
     (k : K) × (pair : K × V) × IsInCall x threads t p (ask.Keyed (keyed.Remove k)) × IsBeforeDeed x bs t p k (Some pair) × HasPair tables p.shard slot pair
 Claim x threads bs tables t p (phase.Read d) =
     (slot : ℕ) × IsInCall x threads t p (ask.Held (held.Read d)) × (p.slot ≡ Some slot) × IsReady x bs tables t p p.next p.block
+Claim x threads bs tables t p (phase.Write d) =
+    (slot : ℕ) × IsInCall x threads t p (ask.Held (held.Write d)) × (p.slot ≡ Some slot) × HoldsShard p Exclusive × IsReady x bs tables t p p.next p.block
 Claim {K} {V} {D} x threads bs tables t p (phase.Release r) =
     (a : Ask K V D) × (hold : Hold) × IsInCall x threads t p a × (p.hold ≡ Some hold) × IsReleasing x bs tables t p a r p.slot
 Claim {K} {V} {D} x threads bs tables t p (phase.Answer r) =

@@ -16,7 +16,7 @@ use Rattle.mapworld.specs.declared.place.Phase.TheVariants as phase
 use Rattle.mapworld.specs.declared.place.Place.{Place}
 use Rattle.mapworld.specs.Holds.{is_excluded}
 use Rattle.mapworld.specs.State.{State, next_step}
-use Rattle.mapworld.specs.Moves.{request_key, mode_of, is_last, start_phase, start_shard, start_counts, found_phase, found_done, found_slot, block_behind, stepped, ListsBlock, CountsCall, EndsBlock}
+use Rattle.mapworld.specs.Moves.{request_key, mode_of, is_last, guard_of, start_phase, start_shard, start_counts, found_phase, found_done, found_slot, block_behind, stepped, ListsBlock, CountsCall, EndsBlock}
 
 -- where the key's pair stands in a shard's list, and whether the list has room for one more
 abbrev pub slot_in : {K V A : Type 0} → (K → K → Bool) → Vec (K × V) A → K → Option ℕ
@@ -35,13 +35,13 @@ module _ {K V S D T A : Type 0} (x : Setup K V D T) (w : State K V S D T A) (s :
     pub rest : VecDeque (Ask K V D) A
     pub asked : place.asks.items ≡ ask ∷ rest.items
     pub blocks : List (Block K)
-    pub counted : CountsCall w.blocks (start_counts ask place.slot place.block) place.next blocks
+    pub counted : CountsCall w.blocks (start_counts ask (guard_of place) place.block) place.next blocks
     pub after : w' ≡ record (stepped w s (record place {
       asks = rest;
       started = Some (next_step w);
       closes = is_last ask;
       shard = start_shard x.route ask place.shard;
-      phase = start_phase ask place.slot;
+      phase = start_phase ask (guard_of place);
     })) { blocks = blocks }
 
   -- an admission takes a hold that no other hold excludes, under a guard number that none of them has
@@ -168,6 +168,24 @@ module _ {K V S D T A : Type 0} (x : Setup K V D T) (w : State K V S D T A) (s :
     pub counted : CountsCall w.blocks place.block place.next blocks
     pub after : w' ≡ record (stepped w s (record place { phase = phase.Answer (answer.Read (x.deeds.answer deed pair.0 pair.1)) })) { blocks = blocks }
 
+  -- a deed stores its effect in the place of the guarded value and leaves the stored key
+  pub record Writes : Type 0 where
+    pub place : Place K V D T A
+    pub stands : slice_get w.places s.thread ≡ Some place
+    pub deed : D
+    pub before : place.phase ≡ phase.Write deed
+    pub table : Vec (K × V) A
+    pub held : slice_get w.tables place.shard ≡ Some table
+    pub slot : ℕ
+    pub guarded : place.slot ≡ Some slot
+    pub pair : K × V
+    pub found : slice_get table.items slot ≡ Some pair
+    pub changed : Vec (K × V) A
+    pub pairs : changed.items ≡ slice_set table.items slot (pair.0, x.deeds.effect deed pair.0 pair.1)
+    pub blocks : List (Block K)
+    pub counted : CountsCall w.blocks place.block place.next blocks
+    pub after : w' ≡ record (stepped w s (record place { phase = phase.Answer answer.Done })) { tables = slice_set w.tables place.shard changed; blocks = blocks }
+
   -- a release ends the thread's hold, and its guard with it
   pub record Releases : Type 0 where
     pub place : Place K V D T A
@@ -213,5 +231,6 @@ pub data IsStep {K V S D T A : Type 0} (x : Setup K V D T) (w : State K V S D T 
   deed_replaces : Replaces x w s w' → IsStep x w s w'
   deed_takes : Takes x w s w' → IsStep x w s w'
   deed_reads : Reads x w s w' → IsStep x w s w'
+  deed_writes : Writes x w s w' → IsStep x w s w'
   release : Releases x w s w' → IsStep x w s w'
   answers : Answers x w s w' → IsStep x w s w'

@@ -11,7 +11,7 @@ ghost use Rattle.mapworld.specs.Steps.{Starts, Admits};
 
 use crate::blocks::count_in;
 use crate::holds::{Held, Hold};
-use crate::moves::{enter, is_last, mode_of, start_counts, start_phase, start_shard};
+use crate::moves::{enter, guard_of, is_last, mode_of, start_counts, start_phase, start_shard};
 use crate::place::Phase;
 use crate::step::Step;
 use crate::world_core::Core;
@@ -42,11 +42,12 @@ pub(crate) fn start<
     let Some(ask) = place.asks.pop_front() else {
         unreachable!()
     };
-    let counts = start_counts(&ask, place.slot, place.block);
+    let guard = guard_of(place);
+    let counts = start_counts(&ask, guard, place.block);
     place.started = Some(number);
     place.closes = is_last(&ask);
     place.shard = start_shard(&core.hasher, shards, &ask, place.shard);
-    enter(&mut place.phase, start_phase(ask, place.slot));
+    enter(&mut place.phase, start_phase(ask, guard));
     count_in(&mut core.blocks, counts, place.next);
     core.count = number;
     core.steps = core.steps.and(&step);
