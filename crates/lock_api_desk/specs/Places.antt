@@ -1,0 +1,24 @@
+-- Where a guard stands in the list, and what a desk keeps.
+use Rattle.std.specs.Prelude.{◌≡◌, ℕ, List, Option, Some, Result, slice_get, MatchResult}
+use Rattle.lock_api_desk.specs.declared.fault.DeskFault.{DeskFault}
+use Rattle.lock_api_desk.specs.declared.hold.Entry.{Entry}
+use Rattle.lock_api_desk.specs.Guards.{Guard, guard_of}
+use Rattle.lock_api_desk.specs.Out.{Out, out_of}
+use Rattle.lock_api_desk.specs.Desk.{IsSound}
+use Rattle.lock_api_desk.specs.Entries.{guards_in}
+
+-- the guard of that number stands at that place
+pub record StandsAt (number : ℕ) (guards : List Guard) (place : ℕ) : Type 0 where
+  pub guard : Guard
+  pub at : slice_get guards place ≡ Some guard
+  pub number_is : guard.number ≡ number
+  pub found : guard_of number guards ≡ Some guard
+
+-- a place was found, and it is the guard's
+abbrev pub IsPlaceOf : ℕ → List Guard → Result ℕ DeskFault → Type 0
+IsPlaceOf number guards result = MatchResult result (StandsAt number guards) (λ fault. ⊥)
+
+-- what is out of a raw state is what the entries hold, and these are sound
+pub record Stands {S E U : Type 0} (limit : ℕ) (out : Out) (entries : List (Entry S E U)) : Type 0 where
+  pub out_is : out ≡ out_of (guards_in entries)
+  pub sound : IsSound limit (guards_in entries)

@@ -1,0 +1,153 @@
+//! Calls on a guard.
+ghost use Rattle.std.specs.Prelude.{◌≡◌, true, false, Err, MatchOption};
+ghost use Rattle.lock_api_desk.specs.declared.mode.Mode.TheVariants.{Shared, Exclusive, Upgradable};
+ghost use Rattle.lock_api_desk.specs.declared.fault.DeskFault.TheVariants.{WouldWait, Taken};
+ghost use Rattle.lock_api_desk.specs.Guards.{is_held, holds, amend, held_in};
+ghost use Rattle.lock_api_desk.specs.Out.{IsOrderly, out_of};
+ghost use Rattle.lock_api_desk.specs.Desk.{released, turned, set_apart, with_guards};
+ghost use Rattle.lock_api_desk.specs.Refusals.{guard_refusal, upgrade_refusal, take_up_refusal, ok_unless, unless};
+ghost use Rattle.lock_api_desk.specs.Places.{StandsAt, IsPlaceOf};
+
+use crate::desk::Desk;
+use crate::fault::DeskFault;
+use crate::hold::{Hold, Suit, give_back, mode_of, turn};
+use crate::mode::Mode;
+use crate::raw::RawState;
+use std::alloc::Allocator;
+use std::mem;
+
+impl<R: RawState, T, A: Allocator> Desk<R, T, A> {
+    /// Gives the guard up, whatever its mode. A guard that is set aside is `WrongMode`.
+    pub fn unlock(&mut self, party: u64, guard: u64) -> Result<(), DeskFault>
+        ensures answer { result ≡ ok_unless (guard_refusal is_held party guard self.old) tt }
+        ensures state { self.new ≡ unless (guard_refusal is_held party guard self.old) self.old (released guard self.old) }
+    {
+        let place = self.place_of(party, guard, Suit::Held)?;
+        let entry = self.entries.remove(place);
+        give_back(&mut self.raw, entry.hold);
+        Ok(())
+    }
+
+    /// As `unlock`. On a desk nobody waits, so there is no difference.
+    pub fn unlock_fair(&mut self, party: u64, guard: u64) -> Result<(), DeskFault>
+        ensures answer { result ≡ ok_unless (guard_refusal is_held party guard self.old) tt }
+        ensures state { self.new ≡ unless (guard_refusal is_held party guard self.old) self.old (released guard self.old) }
+    {
+        self.unlock(party, guard)
+    }
+
+    /// Changes nothing, since nobody waits on a desk.
+    pub fn bump(&mut self, party: u64, guard: u64) -> Result<(), DeskFault>
+        ensures answer { result ≡ ok_unless (guard_refusal is_held party guard self.old) tt }
+        ensures state { self.new ≡ self.old }
+    {
+        self.place_of(party, guard, Suit::Held)?;
+        Ok(())
+    }
+
+    /// Exclusive becomes shared.
+    pub fn downgrade(&mut self, party: u64, guard: u64) -> Result<(), DeskFault>
+        ensures answer { result ≡ ok_unless (guard_refusal (holds Exclusive) party guard self.old) tt }
+        ensures state { self.new ≡ unless (guard_refusal (holds Exclusive) party guard self.old) self.old (turned Shared guard self.old) }
+    {
+        let place = self.place_of(party, guard, Suit::In(Mode::Exclusive))?;
+        self.turn(place, guard, Mode::Shared);
+        Ok(())
+    }
+
+    /// Exclusive becomes upgradable.
+    pub fn downgrade_to_upgradable(&mut self, party: u64, guard: u64) -> Result<(), DeskFault>
+        ensures answer { result ≡ ok_unless (guard_refusal (holds Exclusive) party guard self.old) tt }
+        ensures state { self.new ≡ unless (guard_refusal (holds Exclusive) party guard self.old) self.old (turned Upgradable guard self.old) }
+    {
+        let place = self.place_of(party, guard, Suit::In(Mode::Exclusive))?;
+        self.turn(place, guard, Mode::Upgradable);
+        Ok(())
+    }
+
+    /// Upgradable becomes shared.
+    pub fn downgrade_upgradable(&mut self, party: u64, guard: u64) -> Result<(), DeskFault>
+        ensures answer { result ≡ ok_unless (guard_refusal (holds Upgradable) party guard self.old) tt }
+        ensures state { self.new ≡ unless (guard_refusal (holds Upgradable) party guard self.old) self.old (turned Shared guard self.old) }
+    {
+        let place = self.place_of(party, guard, Suit::In(Mode::Upgradable))?;
+        self.turn(place, guard, Mode::Shared);
+        Ok(())
+    }
+
+    /// Upgradable becomes exclusive. `WouldWait` beside any other held guard.
+    pub fn upgrade(&mut self, party: u64, guard: u64) -> Result<(), DeskFault>
+        ensures answer { result ≡ ok_unless (upgrade_refusal WouldWait party guard self.old) tt }
+        ensures state { self.new ≡ unless (upgrade_refusal WouldWait party guard self.old) self.old (turned Exclusive guard self.old) }
+    {
+        let place = self.place_to_upgrade(DeskFault::WouldWait, party, guard)?;
+        self.turn(place, guard, Mode::Exclusive);
+        Ok(())
+    }
+
+    /// As `upgrade`, but `Taken`.
+    pub fn try_upgrade(&mut self, party: u64, guard: u64) -> Result<(), DeskFault>
+        ensures answer { result ≡ ok_unless (upgrade_refusal Taken party guard self.old) tt }
+        ensures state { self.new ≡ unless (upgrade_refusal Taken party guard self.old) self.old (turned Exclusive guard self.old) }
+    {
+        let place = self.place_to_upgrade(DeskFault::Taken, party, guard)?;
+        self.turn(place, guard, Mode::Exclusive);
+        Ok(())
+    }
+
+    /// The first half of an unlocked section: gives the hold up and keeps the number, the mode and the party. The
+    /// number stays in use, and no call but `take_up` suits the guard.
+    pub fn set_aside(&mut self, party: u64, guard: u64) -> Result<(), DeskFault>
+        ensures answer { result ≡ ok_unless (guard_refusal is_held party guard self.old) tt }
+        ensures state { self.new ≡ unless (guard_refusal is_held party guard self.old) self.old (set_apart true guard self.old) }
+    {
+        let place = self.place_of(party, guard, Suit::Held)?;
+        let entry = &mut self.entries[place];
+        let mode = mode_of(&entry.hold);
+        let hold = mem::replace(&mut entry.hold, Hold::Aside(mode));
+        give_back(&mut self.raw, hold);
+        Ok(())
+    }
+
+    /// The second half of an unlocked section: holds the guard again in the mode that it kept. `WouldWait` where a
+    /// held guard excludes that mode. It takes no memory.
+    pub fn take_up(&mut self, party: u64, guard: u64) -> Result<(), DeskFault>
+        ensures answer { result ≡ ok_unless (take_up_refusal party guard self.old) tt }
+        ensures state { self.new ≡ unless (take_up_refusal party guard self.old) self.old (set_apart false guard self.old) }
+    {
+        let place = self.place_of(party, guard, Suit::Aside)?;
+        let mode = mode_of(&self.entries[place].hold);
+        self.admission(DeskFault::WouldWait, mode)?;
+        self.turn(place, guard, mode);
+        Ok(())
+    }
+
+    /// Where the upgradable guard stands, if no other guard is held.
+    pub(crate) fn place_to_upgrade(
+        &self,
+        denied: DeskFault,
+        party: u64,
+        guard: u64,
+    ) -> Result<usize, DeskFault>
+        ensures { MatchOption (upgrade_refusal denied party guard self.now) (IsPlaceOf guard self.now.guards result) (λ fault. result ≡ Err fault) }
+    {
+        let place = self.place_of(party, guard, Suit::In(Mode::Upgradable))?;
+        if self.is_held_beside(guard) {
+            return Err(denied);
+        }
+        Ok(place)
+    }
+
+    /// Holds the guard in the mode, where that goes with the rest.
+    fn turn(&mut self, place: usize, guard: u64, mode: Mode)
+        requires at { StandsAt guard self.old.guards place }
+        requires next { IsOrderly self.old.limit (out_of (amend (held_in mode) guard self.old.guards)) }
+        ensures { self.new ≡ with_guards (amend (held_in mode) guard self.old.guards) self.old }
+    {
+        let entry = &mut self.entries[place];
+        let kept = mode_of(&entry.hold);
+        let hold = mem::replace(&mut entry.hold, Hold::Aside(kept));
+        let hold = turn(&mut self.raw, hold, mode);
+        self.entries[place].hold = hold;
+    }
+}

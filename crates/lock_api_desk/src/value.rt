@@ -1,0 +1,1 @@
+//! Calls that reach the value through a guard.
