@@ -7,6 +7,7 @@ mod change;
 mod desk;
 mod fault;
 mod hold;
+mod look;
 mod mode;
 mod packed_word;
 mod raw;
