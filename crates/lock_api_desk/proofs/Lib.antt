@@ -1,2 +1,6 @@
 pub mod Lists
 pub mod Counting
+pub mod Numbers
+pub mod Seats
+pub mod Refusing
+pub mod States

@@ -1,7 +1,7 @@
 -- Look-ups in a mapped list.
-use Rattle.std.proofs.Common.{◌≡◌, ℕ, zero, suc, ◌<◌, ◌≤◌, Bool, true, false, cond, not, ◌&&◌, ◌||◌, ◌⊎◌, List, [], ◌∷◌, ◌++◌, map, filter, length, get_or, set, take, drop, remove, Option, Some, None, slice_get, find, position, nat_lt, refl, sym, ap, ◌∙◌, inl, inr, arith, rules}
+use Rattle.std.proofs.Common.{◌≡◌, ℕ, zero, suc, ◌+◌, ◌<◌, ◌≤◌, Bool, true, false, cond, not, ◌&&◌, ◌||◌, ◌⊎◌, List, [], ◌∷◌, ◌++◌, map, filter, length, get_or, set, take, drop, remove, Option, Some, None, slice_get, find, fold, position, nat_lt, refl, sym, ap, subst, ◌∙◌, inl, inr, arith, rules}
 use Rattle.std.specs.List.{position_or_len, list_any, count_by}
-use Rattle.std.specs.Option.{option_map}
+use Rattle.std.specs.Option.{option_map, MatchOption}
 use Rattle.std.proofs.lemmas.Option.{none-some, same_Some, slice_get_within, slice_get_past}
 use Rattle.std.proofs.lemmas.Bool.{cases_Bool, cond-true, cond-false, false≢true, ltb-true, ltb-false, or_parts}
 use Rattle.std.proofs.lemmas.List.{take-map, drop-map, map-append}
@@ -36,6 +36,13 @@ cond-None true n e = absurd (none-some n (sym e))
 cond-None false n e = refl
 
 module _ {X : Type 0} where
+  -- what a match says at each case
+  pub match_None : (o : Option X) (P : Type 0) (Q : X → Type 0) → o ≡ None → P → MatchOption o P Q
+  match_None o P Q none p = let F : Option X → Type 0 = λ r. MatchOption r P Q in subst F (sym none) p
+
+  pub match_Some : (o : Option X) (P : Type 0) (Q : X → Type 0) (x : X) → o ≡ Some x → Q x → MatchOption o P Q
+  match_Some o P Q x some q = let F : Option X → Type 0 = λ r. MatchOption r P Q in subst F (sym some) q
+
   -- what is found stands where the position says
   pub find-position : (p : X → Bool) (xs : List X) (i : ℕ) → position p xs ≡ Some i → (find p xs ≡ slice_get xs i) × (i < length xs)
   find-position p xs i at =
@@ -58,5 +65,5 @@ module _ {X : Type 0} where
       let later = count_by-none p q narrower xs parts.1 in
       elim (cases_Bool (q x)) [
       | inl passes ↦ absurd (false≢true (sym parts.0 ∙ narrower x passes))
-      | inr fails ↦ rw (fails, later) refl
+      | inr fails ↦ ap (λ b. fold (λ a y. a + cond (q y) 1 0) (0 + cond b 1 0) xs) fails ∙ later
       ]

@@ -1,9 +1,10 @@
 //! Calls on a guard.
-ghost use Rattle.std.specs.Prelude.{◌≡◌, true, false, Err, MatchOption};
+ghost use Rattle.std.specs.Prelude.{◌≡◌, true, false, Err, IfSome, MatchOption};
 ghost use Rattle.lock_api_desk.specs.declared.mode.Mode.TheVariants.{Shared, Exclusive, Upgradable};
 ghost use Rattle.lock_api_desk.specs.declared.fault.DeskFault.TheVariants.{WouldWait, Taken};
-ghost use Rattle.lock_api_desk.specs.Guards.{is_held, holds, amend, held_in};
-ghost use Rattle.lock_api_desk.specs.Out.{IsOrderly, out_of};
+ghost use Rattle.lock_api_desk.specs.Guards.{is_held, holds, guard_of, amend, held_in};
+ghost use Rattle.lock_api_desk.specs.Out.{admits, out_of};
+ghost use Rattle.lock_api_desk.specs.Entries.{less};
 ghost use Rattle.lock_api_desk.specs.Desk.{released, turned, set_apart, with_guards};
 ghost use Rattle.lock_api_desk.specs.Refusals.{guard_refusal, upgrade_refusal, take_up_refusal, ok_unless, unless};
 ghost use Rattle.lock_api_desk.specs.Places.{StandsAt, IsPlaceOf};
@@ -138,16 +139,15 @@ impl<R: RawState, T, A: Allocator> Desk<R, T, A> {
         Ok(place)
     }
 
-    /// Holds the guard in the mode, where that goes with the rest.
+    /// Holds the guard in the mode, which the raw state admits in place of what the guard has.
     fn turn(&mut self, place: usize, guard: u64, mode: Mode)
         requires at { StandsAt guard self.old.guards place }
-        requires next { IsOrderly self.old.limit (out_of (amend (held_in mode) guard self.old.guards)) }
+        requires next { IfSome (guard_of guard self.old.guards) (λ held. admits self.old.limit mode (less held.mode held.is_aside (out_of self.old.guards)) ≡ true) }
         ensures { self.new ≡ with_guards (amend (held_in mode) guard self.old.guards) self.old }
     {
         let entry = &mut self.entries[place];
         let kept = mode_of(&entry.hold);
         let hold = mem::replace(&mut entry.hold, Hold::Aside(kept));
-        let hold = turn(&mut self.raw, hold, mode);
-        self.entries[place].hold = hold;
+        entry.hold = turn(&mut self.raw, hold, mode);
     }
 }

@@ -10,7 +10,8 @@ ghost use Rattle.lock_api_desk.specs.Refusals.{guard_refusal, KeepsRoom};
 ghost use Rattle.lock_api_desk.specs.Places.{IsPlaceOf};
 
 use crate::fault::DeskFault;
-use crate::hold::{Entry, Suit, is_aside, mode_of, suits};
+use crate::hold::{Entry, Suit, mode_of, suits};
+use crate::look;
 use crate::mode::Mode;
 use crate::raw::RawState;
 use std::alloc::{Allocator, Global};
@@ -61,6 +62,9 @@ impl<R: RawState, T, A: Allocator> Desk<R, T, A> {
         ensures refused { IfErr result (λ fault. (fault ≡ NoMemory) × (self.new ≡ self.old) × (self.old.room < length self.old.guards + guards)) }
         ensures used { length self.old.guards + guards ≤ self.old.room → self.new.room ≡ self.old.room }
     {
+        if guards <= self.entries.capacity() - self.entries.len() {
+            return Ok(());
+        }
         match self.entries.reserve(guards) {
             Ok(()) => Ok(()),
             Err(_) => Err(DeskFault::NoMemory),
@@ -72,11 +76,10 @@ impl<R: RawState, T, A: Allocator> Desk<R, T, A> {
         ensures found { result ≡ option_map (λ held. (held.mode, held.party)) (held_of guard self.now.guards) }
         ensures sound { IsSound self.now.limit self.now.guards }
     {
-        let entry = self
-            .entries
-            .iter()
-            .find(|entry| entry.number == guard && !is_aside(&entry.hold))?;
-        Some((mode_of(&entry.hold), entry.party))
+        match look::held(&self.entries, guard) {
+            Some(entry) => Some((mode_of(&entry.hold), entry.party)),
+            None => None,
+        }
     }
 
     /// Lends the value. It is always allowed.
@@ -91,16 +94,14 @@ impl<R: RawState, T, A: Allocator> Desk<R, T, A> {
     pub(crate) fn is_in_use(&self, guard: u64) -> bool
         ensures { result ≡ is_in_use guard self.now.guards }
     {
-        self.entries.iter().any(|entry| entry.number == guard)
+        look::has_number(&self.entries, guard)
     }
 
     /// Whether a held guard excludes the mode.
     pub(crate) fn excluded(&self, mode: Mode) -> bool
         ensures { result ≡ excluded mode self.now.guards }
     {
-        self.entries
-            .iter()
-            .any(|entry| !is_aside(&entry.hold) && mode_of(&entry.hold).excludes(mode))
+        look::excludes(&self.entries, mode)
     }
 
     /// Whether one more guard of the mode would pass the limit of readers.
@@ -114,9 +115,7 @@ impl<R: RawState, T, A: Allocator> Desk<R, T, A> {
     pub(crate) fn is_held_beside(&self, guard: u64) -> bool
         ensures { result ≡ is_held_beside guard self.now.guards }
     {
-        self.entries
-            .iter()
-            .any(|entry| entry.number != guard && !is_aside(&entry.hold))
+        look::holds_beside(&self.entries, guard)
     }
 
     /// Where the guard stands in the list, if it is the party's and suits the call.
@@ -128,7 +127,7 @@ impl<R: RawState, T, A: Allocator> Desk<R, T, A> {
     ) -> Result<usize, DeskFault>
         ensures { MatchOption (guard_refusal (suits suit) party guard self.now) (IsPlaceOf guard self.now.guards result) (λ fault. result ≡ Err fault) }
     {
-        let Some(place) = self.entries.iter().position(|entry| entry.number == guard) else {
+        let Some(place) = look::position_of(&self.entries, guard) else {
             return Err(DeskFault::NoSuchGuard);
         };
         let entry = &self.entries[place];

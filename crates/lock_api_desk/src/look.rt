@@ -1,6 +1,7 @@
 //! Looks at a list of entries.
 ghost use Rattle.std.specs.Prelude.{◌≡◌, not, ◌&&◌, position, find};
 ghost use Rattle.std.specs.List.{list_any};
+ghost use Rattle.std.specs.Option.{option_copied};
 ghost use Rattle.lock_api_desk.specs.Guards.{has_number, is_held, excludes};
 ghost use Rattle.lock_api_desk.specs.Entries.{guard_in};
 
@@ -37,4 +38,16 @@ pub(crate) fn position_of<S, E, U>(entries: &[Entry<S, E, U>], number: u64) -> O
     ensures { result ≡ position (λ entry. has_number number (guard_in entry)) entries.now }
 {
     entries.iter().position(|entry| entry.number == number)
+}
+
+/// The held entry of the number.
+pub(crate) fn held<'a, S, E, U>(
+    entries: &'a [Entry<S, E, U>],
+    number: u64,
+) -> Option<&'a Entry<S, E, U>>
+    ensures { option_copied result ≡ find (λ entry. has_number number (guard_in entry) && is_held (guard_in entry)) entries.now }
+{
+    entries
+        .iter()
+        .find(|entry| entry.number == number && !is_aside(&entry.hold))
 }
