@@ -32,6 +32,6 @@ pub ok_from : {P : Type 0} (o : Option DeskFault) (x : ℕ) → MatchOption o P 
 ok_from None x p = (refl, p)
 ok_from (Some fault) x e = cc
 
-pub err_from : (o : Option DeskFault) (fault : DeskFault) → MatchOption o ⊥ (λ f. Err {T = ℕ} fault ≡ Err f) → o ≡ Some fault
+pub err_from : (o : Option DeskFault) (fault : DeskFault) → MatchOption o ⊥ (λ f. (let r : Result ℕ DeskFault = Err fault in r ≡ Err f)) → o ≡ Some fault
 err_from None fault p = absurd p
 err_from (Some f) fault e = cc

@@ -1,15 +1,16 @@
 -- What a desk keeps as entries come, go and change.
-use Rattle.std.proofs.Common.{◌≡◌, ℕ, Bool, true, false, ◌<◌, List, [], ◌∷◌, ◌++◌, map, length, get_or, set, remove, Some, None, slice_get, find, position, refl, sym, ap, subst, ◌∙◌, arith}
+use Rattle.std.proofs.Common.{◌≡◌, ℕ, Bool, true, false, not, ◌<◌, List, [], ◌∷◌, ◌++◌, map, length, get_or, set, remove, Option, Some, None, slice_get, find, position, refl, sym, ap, subst, ◌∙◌, arith}
 use Rattle.std.specs.List.{IsDistinct, count_by}
-use Rattle.std.specs.Option.{option_map}
+use Rattle.std.specs.Option.{option_map, IfSome}
 use Rattle.std.proofs.lemmas.Option.{slice_get-map, slice_get-get_or, slice_get_within, same_Some}
-use Rattle.std.proofs.lemmas.Bool.{eqb-true}
+use Rattle.std.proofs.lemmas.Bool.{eqb-true, and_parts, not-true}
 use Rattle.std.proofs.lemmas.List.Quantifiers.{position-Some}
 use Rattle.std.proofs.lemmas.List.{map-set, map-append, length-map}
 use Rattle.lock_api_desk.specs.declared.mode.Mode.{Mode}
 use Rattle.lock_api_desk.specs.declared.mode.Mode.TheVariants.{Shared, Exclusive, Upgradable}
+use Rattle.lock_api_desk.specs.declared.hold.Hold.{Hold}
 use Rattle.lock_api_desk.specs.declared.hold.Entry.{Entry}
-use Rattle.lock_api_desk.specs.Guards.{Guard, has_number, holds, is_held, guard_of, amend, without, put_aside, is_in_use, is_held_beside, excluded, is_full}
+use Rattle.lock_api_desk.specs.Guards.{Guard, has_number, holds, is_held, guard_of, amend, without, held_in, put_aside, is_in_use, is_held_beside, excluded, is_full, granted}
 use Rattle.lock_api_desk.specs.Out.{Out, admits, one_more, IsOrderly, out_of, nothing_out, count_in}
 use Rattle.lock_api_desk.specs.Entries.{guard_in, guards_in, mode_of, aside_of, less, more}
 use Rattle.lock_api_desk.specs.Desk.{IsSound}
@@ -24,9 +25,23 @@ pub record StandsFor {S E U : Type 0} (entries : List (Entry S E U)) (n place : 
   pub number_is : e.number ≡ n
   pub found : guard_of n (guards_in entries) ≡ Some (guard_in e)
 
+abbrev pub guard_with : ℕ → ℕ → Mode → Bool → Guard
+guard_with number party mode is_aside = record { number = number; mode = mode; party = party; is_aside = is_aside }
+
 module _ {S E U : Type 0} where
+  abbrev pub entry_of : ℕ → ℕ → Hold S E U → Entry S E U
+  entry_of number party hold = record { number = number; party = party; hold = hold }
+
+  -- the guard of an entry whose hold is known
+  pub guard_is : (e : Entry S E U) (mode : Mode) (is_aside : Bool) → mode_of e.hold ≡ mode → aside_of e.hold ≡ is_aside → guard_in e ≡ guard_with e.number e.party mode is_aside
+  guard_is e mode is_aside modes asides =
+      ap (λ m. guard_with e.number e.party m (aside_of e.hold)) modes ∙ ap (λ b. guard_with e.number e.party mode b) asides
+
   guard_at : (entries : List (Entry S E U)) (i : ℕ) (e : Entry S E U) → slice_get entries i ≡ Some e → slice_get (guards_in entries) i ≡ Some (guard_in e)
   guard_at entries i e at = slice_get-map guard_in entries i ∙ ap (λ o. option_map guard_in o) at
+
+  pub stands_limit : (l m : ℕ) (out : Out) (entries : List (Entry S E U)) → m ≡ l → Stands l out entries → Stands m out entries
+  stands_limit l m out entries same s = let P : ℕ → Type 0 = λ n. Stands n out entries in subst P (sym same) s
 
   -- one more, which the machine admits
   pub stands_append : (limit : ℕ) (out out' : Out) (entries : List (Entry S E U)) (e : Entry S E U) → Stands limit out entries → is_in_use e.number (guards_in entries) ≡ false → admits limit (mode_of e.hold) out ≡ true → aside_of e.hold ≡ false → out' ≡ one_more (mode_of e.hold) out → Stands limit out' (entries ++ e ∷ [])
@@ -117,7 +132,7 @@ module _ {S E U : Type 0} where
   pub within_at : (entries : List (Entry S E U)) (n place : ℕ) → StandsAt n (guards_in entries) place → place < length entries
   within_at entries n place s =
       let within = slice_get_within (guards_in entries) place s.guard s.at in
-      let long = length-map entries (guard_in {S} {E} {U}) in
+      let long = length-map entries guard_in in
       omega arith
 
   pub entry_at : (entries : List (Entry S E U)) (n place : ℕ) (e : Entry S E U) → StandsAt n (guards_in entries) place → e ≡ get_or entries place e → StandsFor entries n place e
@@ -135,3 +150,60 @@ module _ {S E U : Type 0} where
   hold_out limit out entries n place e s f held =
       let P : Out → Type 0 = λ o. 0 < count_in (mode_of e.hold) o in
       subst P (sym s.out_is) (out_at (guards_in entries) place (guard_in e) (guard_at entries place e f.at) held)
+
+  -- so is that of a hold taken from it
+  pub taken_out : (limit : ℕ) (out : Out) (entries : List (Entry S E U)) (n place : ℕ) (e : Entry S E U) (h : Hold S E U) → Stands limit out entries → StandsFor entries n place e → h ≡ e.hold → aside_of h ≡ false → 0 < count_in (mode_of h) out
+  taken_out limit out entries n place e h s f same held =
+      let P : Hold S E U → Type 0 = λ k. 0 < count_in (mode_of k) out in
+      subst P (sym same) (hold_out limit out entries n place e s f (sym (ap aside_of same) ∙ held))
+
+  -- what is admitted in place of the guard is admitted in place of its hold
+  pub admitted_for : (limit : ℕ) (out : Out) (mode : Mode) (entries : List (Entry S E U)) (n place : ℕ) (e : Entry S E U) (h : Hold S E U) → Stands limit out entries → StandsFor entries n place e → h ≡ e.hold → IfSome (guard_of n (guards_in entries)) (λ held. admits limit mode (less held.mode held.is_aside (out_of (guards_in entries))) ≡ true) → admits limit mode (less (mode_of h) (aside_of h) out) ≡ true
+  admitted_for limit out mode entries n place e h s f same next =
+      let P : Option Guard → Type 0 = λ o. IfSome o (λ held. admits limit mode (less held.mode held.is_aside (out_of (guards_in entries))) ≡ true) in
+      let here : admits limit mode (less (mode_of e.hold) (aside_of e.hold) (out_of (guards_in entries))) ≡ true = subst P f.found next in
+      ap (λ k. admits limit mode (less (mode_of k) (aside_of k) out)) same
+      ∙ ap (λ o. admits limit mode (less (mode_of e.hold) (aside_of e.hold) o)) s.out_is
+      ∙ here
+
+  -- the hold turned into one of the mode
+  pub stands_turned : (limit : ℕ) (out out' : Out) (mode : Mode) (entries : List (Entry S E U)) (n place : ℕ) (e : Entry S E U) (h k : Hold S E U) → Stands limit out entries → StandsFor entries n place e → h ≡ e.hold → admits limit mode (less (mode_of h) (aside_of h) out) ≡ true → mode_of k ≡ mode → aside_of k ≡ false → out' ≡ one_more mode (less (mode_of h) (aside_of h) out) → Stands limit out' (set entries place (entry_of e.number e.party k))
+  stands_turned limit out out' mode entries n place e h k s f same admitted modes held next =
+      let old = s.sound.orderly in
+      let P : Out → Type 0 = λ o. IsOrderly limit o in
+      let mid = orderly_without limit (mode_of h) (aside_of h) out (subst P (sym s.out_is) old) in
+      let orderly = subst P (sym next) (orderly_more limit mode (less (mode_of h) (aside_of h) out) mid admitted) in
+      let outs : out' ≡ more (mode_of k) (aside_of k) (less (mode_of e.hold) (aside_of e.hold) out) =
+        next
+        ∙ ap (λ j. one_more mode (less (mode_of j) (aside_of j) out)) same
+        ∙ ap (λ m. one_more m (less (mode_of e.hold) (aside_of e.hold) out)) (sym modes)
+        ∙ ap (λ b. more (mode_of k) b (less (mode_of e.hold) (aside_of e.hold) out)) (sym held) in
+      stands_set limit out out' entries place e (entry_of e.number e.party k) s f.at refl outs orderly
+
+  pub guards_turned : (limit : ℕ) (out : Out) (mode : Mode) (entries : List (Entry S E U)) (n place : ℕ) (e : Entry S E U) (k : Hold S E U) → Stands limit out entries → StandsFor entries n place e → mode_of k ≡ mode → aside_of k ≡ false → guards_in (set entries place (entry_of e.number e.party k)) ≡ amend (held_in mode) n (guards_in entries)
+  guards_turned limit out mode entries n place e k s f modes held =
+      guards_set (held_in mode) n limit out entries place e (entry_of e.number e.party k) s f.at f.number_is
+      (guard_is (entry_of e.number e.party k) mode false modes held)
+
+  -- the hold given back, and its mode kept
+  pub stands_put_aside : (limit : ℕ) (out out' : Out) (entries : List (Entry S E U)) (n place : ℕ) (e : Entry S E U) (h k : Hold S E U) → Stands limit out entries → StandsFor entries n place e → h ≡ e.hold → aside_of k ≡ true → out' ≡ less (mode_of h) (aside_of h) out → Stands limit out' (set entries place (entry_of e.number e.party k))
+  stands_put_aside limit out out' entries n place e h k s f same aside next =
+      let P : Out → Type 0 = λ o. IsOrderly limit o in
+      let mid = orderly_without limit (mode_of h) (aside_of h) out (subst P (sym s.out_is) s.sound.orderly) in
+      let outs : out' ≡ more (mode_of k) (aside_of k) (less (mode_of e.hold) (aside_of e.hold) out) =
+        next
+        ∙ ap (λ j. less (mode_of j) (aside_of j) out) same
+        ∙ ap (λ b. more (mode_of k) b (less (mode_of e.hold) (aside_of e.hold) out)) (sym aside) in
+      stands_set limit out out' entries place e (entry_of e.number e.party k) s f.at refl outs (subst P (sym next) mid)
+
+  pub guards_put_aside : (limit : ℕ) (out : Out) (entries : List (Entry S E U)) (n place : ℕ) (e : Entry S E U) (k : Hold S E U) → Stands limit out entries → StandsFor entries n place e → mode_of k ≡ mode_of e.hold → aside_of k ≡ true → guards_in (set entries place (entry_of e.number e.party k)) ≡ amend (put_aside true) n (guards_in entries)
+  guards_put_aside limit out entries n place e k s f modes aside =
+      guards_set (put_aside true) n limit out entries place e (entry_of e.number e.party k) s f.at f.number_is
+      (guard_is (entry_of e.number e.party k) (mode_of e.hold) true modes aside)
+
+  -- what the machine grants the raw state admits
+  pub admitted_now : (limit : ℕ) (out : Out) (mode : Mode) (entries : List (Entry S E U)) → Stands limit out entries → granted limit mode (guards_in entries) ≡ true → admits limit mode out ≡ true
+  admitted_now limit out mode entries s grant =
+      let parts = and_parts (not (excluded mode (guards_in entries))) (not (is_full limit mode (guards_in entries))) grant in
+      ap (λ o. admits limit mode o) s.out_is
+      ∙ admits_from limit mode (guards_in entries) (not-true (excluded mode (guards_in entries)) parts.0) (not-true (is_full limit mode (guards_in entries)) parts.1)

@@ -24,8 +24,7 @@ impl<R: RawState, T, A: Allocator> Desk<R, T, A> {
         ensures state { self.new ≡ unless (guard_refusal is_held party guard self.old) self.old (released guard self.old) }
     {
         let place = self.place_of(party, guard, Suit::Held)?;
-        let entry = self.entries.remove(place);
-        give_back(&mut self.raw, entry.hold);
+        self.remove(place, guard);
         Ok(())
     }
 
@@ -103,10 +102,7 @@ impl<R: RawState, T, A: Allocator> Desk<R, T, A> {
         ensures state { self.new ≡ unless (guard_refusal is_held party guard self.old) self.old (set_apart true guard self.old) }
     {
         let place = self.place_of(party, guard, Suit::Held)?;
-        let entry = &mut self.entries[place];
-        let mode = mode_of(&entry.hold);
-        let hold = mem::replace(&mut entry.hold, Hold::Aside(mode));
-        give_back(&mut self.raw, hold);
+        self.put_aside(place, guard);
         Ok(())
     }
 
@@ -137,6 +133,26 @@ impl<R: RawState, T, A: Allocator> Desk<R, T, A> {
             return Err(denied);
         }
         Ok(place)
+    }
+
+    /// Takes the guard out and spends its token.
+    fn remove(&mut self, place: usize, guard: u64)
+        requires { StandsAt guard self.old.guards place }
+        ensures { self.new ≡ released guard self.old }
+    {
+        let entry = self.entries.remove(place);
+        give_back(&mut self.raw, entry.hold);
+    }
+
+    /// Spends the guard's token and keeps its mode.
+    fn put_aside(&mut self, place: usize, guard: u64)
+        requires { StandsAt guard self.old.guards place }
+        ensures { self.new ≡ set_apart true guard self.old }
+    {
+        let entry = &mut self.entries[place];
+        let kept = mode_of(&entry.hold);
+        let hold = mem::replace(&mut entry.hold, Hold::Aside(kept));
+        give_back(&mut self.raw, hold);
     }
 
     /// Holds the guard in the mode, which the raw state admits in place of what the guard has.

@@ -7,23 +7,20 @@ use Rattle.lock_api_desk.specs.Entries.{guard_in, guards_in, mode_of, aside_of}
 use Rattle.lock_api_desk.specs.Desk.{admitted}
 use Rattle.lock_api_desk.specs.Places.{Stands}
 use Rattle.lock_api_desk.proofs.Counting.{admits_from}
-use Rattle.lock_api_desk.proofs.Seats.{stands_append}
+use Rattle.lock_api_desk.proofs.Seats.{entry_of, admitted_now, guard_is, stands_append}
 use Rattle.lock_api_desk.proofs.States.{same_state}
 use Rattle.lock_api_desk.proofs.desk.Desk.append.Goals as goal
 
 pub issue-hold-requires : goal.issue-hold-requires
 issue-hold-requires g c =
-    let limit = g.R.RawState.limit_of c.self.inside.raw in
-    let guards = guards_in c.self.inside.entries.items in
-    let parts = and_parts (not (excluded c.args.mode guards)) (not (is_full limit c.args.mode guards)) (ap (λ s. granted s.limit c.args.mode s.guards) c.self.view_is ∙ c.requires.granted) in
-    ap (λ o. admits limit c.args.mode o) c.self.invariant.out_is
-    ∙ admits_from limit c.args.mode guards (not-true (excluded c.args.mode guards) parts.0) (not-true (is_full limit c.args.mode guards) parts.1)
+    admitted_now (g.R.RawState.limit_of c.self.inside.raw) (g.R.RawState.out c.self.inside.raw) c.args.mode c.self.inside.entries.items
+    c.self.invariant (ap (λ s. granted s.limit c.args.mode s.guards) c.self.view_is ∙ c.requires.granted)
 
 pub invariant_of-self : goal.invariant_of-self
 invariant_of-self g c =
     let old = c.self.inside in
-    let entry = record { number = c.args.guard; party = c.args.party; hold = c.issue-hold.result } in
-    let admitted = ap (λ m. admits (g.R.RawState.limit_of old.raw) m (g.R.RawState.out old.raw)) c.issue-hold.ensures.mode ∙ issue-hold-requires g c in
+    let entry = entry_of c.args.guard c.args.party c.issue-hold.result in
+    let admitted = ap (λ m. admits (g.R.RawState.limit_of old.raw) m (g.R.RawState.out old.raw)) c.issue-hold.ensures.mode ∙ admitted_now (g.R.RawState.limit_of old.raw) (g.R.RawState.out old.raw) c.args.mode old.entries.items c.self.invariant (ap (λ s. granted s.limit c.args.mode s.guards) c.self.view_is ∙ c.requires.granted) in
     let P : ℕ → Type 0 = λ l. Stands l (g.R.RawState.out c.issue-hold.new.raw) c.push_reserved.new.self.items in
     let seated = stands_append (g.R.RawState.limit_of old.raw) (g.R.RawState.out old.raw) (g.R.RawState.out c.issue-hold.new.raw) old.entries.items entry
       c.self.invariant (ap (λ s. is_in_use c.args.guard s.guards) c.self.view_is ∙ c.requires.new) admitted c.issue-hold.ensures.held
@@ -33,10 +30,9 @@ invariant_of-self g c =
 pub returns : goal.returns
 returns g c =
     let old = c.self.inside in
-    let entry = record { number = c.args.guard; party = c.args.party; hold = c.issue-hold.result } in
+    let entry = entry_of c.args.guard c.args.party c.issue-hold.result in
     same_state old.value _ _ _ _ _ _ c.issue-hold.ensures.limit c.push_reserved.ensures.capacity
     (ap guards_in c.push_reserved.ensures.items
     ∙ map-append guard_in old.entries.items (entry ∷ [])
-    ∙ ap (λ m. guards_in old.entries.items ++ record { number = c.args.guard; mode = m; party = c.args.party; is_aside = aside_of c.issue-hold.result } ∷ []) c.issue-hold.ensures.mode
-    ∙ ap (λ b. guards_in old.entries.items ++ record { number = c.args.guard; mode = c.args.mode; party = c.args.party; is_aside = b } ∷ []) c.issue-hold.ensures.held)
+    ∙ ap (λ h. guards_in old.entries.items ++ h ∷ []) (guard_is entry c.args.mode false c.issue-hold.ensures.mode c.issue-hold.ensures.held))
     ∙ ap (λ s. admitted c.args.mode c.args.party c.args.guard s) c.self.view_is
