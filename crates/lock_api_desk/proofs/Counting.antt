@@ -208,7 +208,7 @@ readers_are (g ∷ gs) =
     each Exclusive false = refl
     each Upgradable false = refl
 
-same_mode : (a b : Mode) → is_mode a b ≡ true → a ≡ b
+pub same_mode : (a b : Mode) → is_mode a b ≡ true → a ≡ b
 same_mode Shared Shared e = refl
 same_mode Shared Exclusive e = absurd (false≢true e)
 same_mode Shared Upgradable e = absurd (false≢true e)

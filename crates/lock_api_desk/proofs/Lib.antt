@@ -4,3 +4,4 @@ pub mod Numbers
 pub mod Seats
 pub mod Refusing
 pub mod States
+pub mod Turning

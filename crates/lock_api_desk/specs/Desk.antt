@@ -2,7 +2,7 @@
 use Rattle.std.specs.Prelude.{◌≡◌, ℕ, Bool, true, false, ◌≤◌, ◌==◌, List, [], ◌∷◌, ◌++◌, map, Option, Some, None}
 use Rattle.std.specs.List.{IsDistinct}
 use Rattle.lock_api_desk.specs.declared.mode.Mode.{Mode}
-use Rattle.lock_api_desk.specs.Guards.{Guard, amend, in_mode, put_aside, without}
+use Rattle.lock_api_desk.specs.Guards.{Guard, amend, held_in, put_aside, without}
 use Rattle.lock_api_desk.specs.Out.{IsOrderly, out_of}
 
 -- a desk: its limit of readers, for how many guards there is memory, its guards in the order in which they came, its value
@@ -38,9 +38,9 @@ module _ {T : Type 0} where
   abbrev pub released : ℕ → DeskState T → DeskState T
   released number desk = with_guards (without number desk.guards) desk
 
-  -- with the guard in another mode
+  -- with the guard held in that mode
   abbrev pub turned : Mode → ℕ → DeskState T → DeskState T
-  turned mode number desk = with_guards (amend (in_mode mode) number desk.guards) desk
+  turned mode number desk = with_guards (amend (held_in mode) number desk.guards) desk
 
   -- with the guard set aside, or taken up again
   abbrev pub set_apart : Bool → ℕ → DeskState T → DeskState T

@@ -93,10 +93,6 @@ amend change number guards = map (λ guard. if has_number number guard then chan
 abbrev pub without : ℕ → List Guard → List Guard
 without number guards = filter (λ guard. not (has_number number guard)) guards
 
--- the same guard in another mode
-abbrev pub in_mode : Mode → Guard → Guard
-in_mode mode guard = record { number = guard.number; mode = mode; party = guard.party; is_aside = guard.is_aside }
-
 -- the same guard, set aside or held
 abbrev pub put_aside : Bool → Guard → Guard
 put_aside is_aside guard = record { number = guard.number; mode = guard.mode; party = guard.party; is_aside = is_aside }

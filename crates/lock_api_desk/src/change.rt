@@ -2,10 +2,10 @@
 ghost use Rattle.std.specs.Prelude.{◌≡◌, true, false, Err, IfSome, MatchOption};
 ghost use Rattle.lock_api_desk.specs.declared.mode.Mode.TheVariants.{Shared, Exclusive, Upgradable};
 ghost use Rattle.lock_api_desk.specs.declared.fault.DeskFault.TheVariants.{WouldWait, Taken};
-ghost use Rattle.lock_api_desk.specs.Guards.{is_held, holds, guard_of, amend, held_in};
+ghost use Rattle.lock_api_desk.specs.Guards.{is_held, holds, guard_of};
 ghost use Rattle.lock_api_desk.specs.Out.{admits, out_of};
 ghost use Rattle.lock_api_desk.specs.Entries.{less};
-ghost use Rattle.lock_api_desk.specs.Desk.{released, turned, set_apart, with_guards};
+ghost use Rattle.lock_api_desk.specs.Desk.{IsSound, released, turned, set_apart};
 ghost use Rattle.lock_api_desk.specs.Refusals.{guard_refusal, upgrade_refusal, take_up_refusal, ok_unless, unless};
 ghost use Rattle.lock_api_desk.specs.Places.{StandsAt, IsPlaceOf};
 
@@ -113,7 +113,7 @@ impl<R: RawState, T, A: Allocator> Desk<R, T, A> {
         ensures state { self.new ≡ unless (take_up_refusal party guard self.old) self.old (set_apart false guard self.old) }
     {
         let place = self.place_of(party, guard, Suit::Aside)?;
-        let mode = mode_of(&self.entries[place].hold);
+        let mode = self.mode_at(place, guard);
         self.admission(DeskFault::WouldWait, mode)?;
         self.turn(place, guard, mode);
         Ok(())
@@ -126,7 +126,8 @@ impl<R: RawState, T, A: Allocator> Desk<R, T, A> {
         party: u64,
         guard: u64,
     ) -> Result<usize, DeskFault>
-        ensures { MatchOption (upgrade_refusal denied party guard self.now) (IsPlaceOf guard self.now.guards result) (λ fault. result ≡ Err fault) }
+        ensures place { MatchOption (upgrade_refusal denied party guard self.now) (IsPlaceOf guard self.now.guards result) (λ fault. result ≡ Err fault) }
+        ensures sound { IsSound self.now.limit self.now.guards }
     {
         let place = self.place_of(party, guard, Suit::In(Mode::Upgradable))?;
         if self.is_held_beside(guard) {
@@ -159,7 +160,7 @@ impl<R: RawState, T, A: Allocator> Desk<R, T, A> {
     fn turn(&mut self, place: usize, guard: u64, mode: Mode)
         requires at { StandsAt guard self.old.guards place }
         requires next { IfSome (guard_of guard self.old.guards) (λ held. admits self.old.limit mode (less held.mode held.is_aside (out_of self.old.guards)) ≡ true) }
-        ensures { self.new ≡ with_guards (amend (held_in mode) guard self.old.guards) self.old }
+        ensures { self.new ≡ turned mode guard self.old }
     {
         let entry = &mut self.entries[place];
         let kept = mode_of(&entry.hold);

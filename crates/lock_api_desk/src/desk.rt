@@ -1,13 +1,13 @@
 //! The desk.
-ghost use Rattle.std.specs.Prelude.{◌≡◌, ℕ, [], ◌+◌, ◌≤◌, ◌<◌, length, MatchOption, IfErr, OnOk, OnErr, Err, vec_capacity};
+ghost use Rattle.std.specs.Prelude.{◌≡◌, ℕ, [], ◌+◌, ◌≤◌, ◌<◌, length, MatchOption, IfErr, IfSome, OnOk, OnErr, Err, vec_capacity};
 ghost use Rattle.std.specs.Option.{option_map};
 ghost use Rattle.lock_api_desk.specs.Out.{nothing_out};
 ghost use Rattle.lock_api_desk.specs.declared.fault.DeskFault.TheVariants.{NoMemory};
-ghost use Rattle.lock_api_desk.specs.Guards.{held_of, is_in_use, excluded, is_full, is_held_beside};
+ghost use Rattle.lock_api_desk.specs.Guards.{guard_of, held_of, is_in_use, excluded, is_full, is_held_beside};
 ghost use Rattle.lock_api_desk.specs.Entries.{suits};
 ghost use Rattle.lock_api_desk.specs.Desk.{DeskState, with_room, IsSound};
 ghost use Rattle.lock_api_desk.specs.Refusals.{guard_refusal, KeepsRoom};
-ghost use Rattle.lock_api_desk.specs.Places.{IsPlaceOf};
+ghost use Rattle.lock_api_desk.specs.Places.{IsPlaceOf, StandsAt};
 
 use crate::fault::DeskFault;
 use crate::hold::{Entry, Suit, mode_of, suits};
@@ -125,7 +125,8 @@ impl<R: RawState, T, A: Allocator> Desk<R, T, A> {
         guard: u64,
         suit: Suit,
     ) -> Result<usize, DeskFault>
-        ensures { MatchOption (guard_refusal (suits suit) party guard self.now) (IsPlaceOf guard self.now.guards result) (λ fault. result ≡ Err fault) }
+        ensures place { MatchOption (guard_refusal (suits suit) party guard self.now) (IsPlaceOf guard self.now.guards result) (λ fault. result ≡ Err fault) }
+        ensures sound { IsSound self.now.limit self.now.guards }
     {
         let Some(place) = look::position_of(&self.entries, guard) else {
             return Err(DeskFault::NoSuchGuard);
@@ -138,5 +139,13 @@ impl<R: RawState, T, A: Allocator> Desk<R, T, A> {
             return Err(DeskFault::WrongMode);
         }
         Ok(place)
+    }
+
+    /// The mode of the guard that stands there, and the kept one if it is set aside.
+    pub(crate) fn mode_at(&self, place: usize, guard: u64) -> Mode
+        requires { StandsAt guard self.now.guards place }
+        ensures { IfSome (guard_of guard self.now.guards) (λ found. result ≡ found.mode) }
+    {
+        mode_of(&self.entries[place].hold)
     }
 }

@@ -1,9 +1,9 @@
 use Rattle.std.proofs.Common.{◌≡◌, ℕ, true, List, refl, sym, ap, subst, ◌∙◌}
 use Rattle.std.specs.Option.{IfSome}
-use Rattle.lock_api_desk.specs.Guards.{Guard, guard_of, amend, held_in}
+use Rattle.lock_api_desk.specs.Guards.{Guard, guard_of}
 use Rattle.lock_api_desk.specs.Out.{admits, out_of}
 use Rattle.lock_api_desk.specs.Entries.{guards_in, mode_of, aside_of, less}
-use Rattle.lock_api_desk.specs.Desk.{DeskState, with_guards}
+use Rattle.lock_api_desk.specs.Desk.{DeskState, turned}
 use Rattle.lock_api_desk.specs.Places.{Stands, StandsAt}
 use Rattle.lock_api_desk.proofs.Seats.{entry_at, taken_out, stands_limit, admitted_for, stands_turned, guards_turned}
 use Rattle.lock_api_desk.proofs.States.{same_state}
@@ -45,4 +45,4 @@ returns g c =
     same_state old.value _ _ _ _ _ _ c.turn.ensures.limit refl
     (guards_turned (g.R.RawState.limit_of old.raw) (g.R.RawState.out old.raw) c.args.mode old.entries.items c.args.guard c.args.place c.index_mut-entry.result.now c.turn.result
     c.self.invariant f c.turn.ensures.mode c.turn.ensures.held)
-    ∙ ap (λ s. with_guards (amend (held_in c.args.mode) c.args.guard s.guards) s) c.self.view_is
+    ∙ ap (λ s. turned c.args.mode c.args.guard s) c.self.view_is

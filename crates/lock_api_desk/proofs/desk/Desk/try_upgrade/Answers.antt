@@ -1,0 +1,24 @@
+use Rattle.std.proofs.Common.{◌∙◌, sym, if◌then◌else◌, Some, None}
+use Rattle.lock_api_desk.specs.declared.mode.Mode.TheVariants.{Exclusive, Upgradable}
+use Rattle.lock_api_desk.specs.declared.fault.DeskFault.TheVariants.{Taken}
+use Rattle.lock_api_desk.specs.Guards.{holds, is_held_beside}
+use Rattle.lock_api_desk.specs.Desk.{turned}
+use Rattle.lock_api_desk.specs.Refusals.{guard_refusal, upgrade_refusal}
+use Rattle.lock_api_desk.proofs.Refusing.{ok_from}
+use Rattle.lock_api_desk.proofs.States.{unless-None}
+use Rattle.lock_api_desk.proofs.Turning.{from_alone, or_None, cond_None}
+use Rattle.lock_api_desk.proofs.desk.Desk.try_upgrade.Goals as goal
+
+pub turn-requires-clause-next : goal.turn-requires-clause-next
+turn-requires-clause-next g c =
+    let old = c.args.self.now in
+    let r = ok_from (upgrade_refusal Taken c.args.party c.args.guard old) c.in_ok-place.place c.in_ok-place.ensures.place in
+    let parts = or_None (guard_refusal (holds Upgradable) c.args.party c.args.guard old) (if is_held_beside c.args.guard old.guards then Some Taken else None) r.0 in
+    let none = cond_None (is_held_beside c.args.guard old.guards) Taken None parts.1 in
+    from_alone old.limit c.args.guard old.guards c.in_ok-place.place r.1 c.in_ok-place.ensures.sound none.0
+
+pub returns-clause-state : goal.returns-clause-state
+returns-clause-state g c =
+    let old = c.args.self.now in
+    let r = ok_from (upgrade_refusal Taken c.args.party c.args.guard old) c.in_ok-place.place c.in_ok-place.ensures.place in
+    c.turn.ensures ∙ sym (unless-None _ old (turned Exclusive c.args.guard old) r.0)
