@@ -5,7 +5,7 @@ use Rattle.std.proofs.lemmas.Bool.{eq-eqb, ne_eqb, cond-true, cond-false}
 use Rattle.lock_api_desk.specs.declared.fault.DeskFault.{DeskFault}
 use Rattle.lock_api_desk.specs.declared.fault.DeskFault.TheVariants.{NoSuchGuard, WrongMode, NotTheParty}
 use Rattle.lock_api_desk.specs.Guards.{Guard}
-use Rattle.lock_api_desk.specs.Refusals.{refusal_at}
+use Rattle.lock_api_desk.specs.Refusals.{refusal_at, ok_unless}
 
 module _ (suits : Guard → Bool) (party : ℕ) (o : Option Guard) where
   pub no_guard : o ≡ None → refusal_at suits party o ≡ Some NoSuchGuard
@@ -35,3 +35,7 @@ ok_from (Some fault) x e = cc
 pub err_from : (o : Option DeskFault) (fault : DeskFault) → MatchOption o ⊥ (λ f. (let r : Result ℕ DeskFault = Err fault in r ≡ Err f)) → o ≡ Some fault
 err_from None fault p = absurd p
 err_from (Some f) fault e = cc
+
+pub none_from : (o : Option DeskFault) (x : Unit {0}) → (let r : Result (Unit {0}) DeskFault = Ok x in r ≡ ok_unless o tt) → o ≡ None
+none_from None x e = refl
+none_from (Some fault) x e = cc

@@ -1,8 +1,9 @@
 -- Where a guard stands in the list, and what a desk keeps.
-use Rattle.std.specs.Prelude.{◌≡◌, ℕ, List, Option, Some, Result, slice_get, MatchResult}
+use Rattle.lock_api_desk.specs.declared.mode.Mode.TheVariants.{Exclusive, Upgradable}
+use Rattle.std.specs.Prelude.{◌≡◌, ℕ, true, List, Option, Some, Result, slice_get, MatchResult}
 use Rattle.lock_api_desk.specs.declared.fault.DeskFault.{DeskFault}
 use Rattle.lock_api_desk.specs.declared.hold.Entry.{Entry}
-use Rattle.lock_api_desk.specs.Guards.{Guard, guard_of}
+use Rattle.lock_api_desk.specs.Guards.{Guard, guard_of, holds, amend, held_in}
 use Rattle.lock_api_desk.specs.Out.{Out, out_of}
 use Rattle.lock_api_desk.specs.Desk.{IsSound}
 use Rattle.lock_api_desk.specs.Entries.{guards_in}
@@ -17,6 +18,12 @@ pub record StandsAt (number : ℕ) (guards : List Guard) (place : ℕ) : Type 0 
 -- a place was found, and it is the guard's
 abbrev pub IsPlaceOf : ℕ → List Guard → Result ℕ DeskFault → Type 0
 IsPlaceOf number guards result = MatchResult result (StandsAt number guards) (λ fault. ⊥)
+
+-- a guard is exclusive for a while: it stands where it stood, and made upgradable again it is as before
+pub record IsLifted (number : ℕ) (old new : List Guard) (place : ℕ) : Type 0 where
+  pub at : StandsAt number new place
+  pub exclusive : holds Exclusive at.guard ≡ true
+  pub back : amend (held_in Upgradable) number new ≡ old
 
 -- what is out of a raw state is what the entries hold, and these are sound
 pub record Stands {S E U : Type 0} (limit : ℕ) (out : Out) (entries : List (Entry S E U)) : Type 0 where

@@ -1,5 +1,5 @@
 //! Calls on a guard.
-ghost use Rattle.std.specs.Prelude.{◌≡◌, true, false, Err, IfSome, MatchOption};
+ghost use Rattle.std.specs.Prelude.{◌≡◌, true, false, Err, IfSome, IsOkAnd, MatchOption};
 ghost use Rattle.lock_api_desk.specs.declared.mode.Mode.TheVariants.{Shared, Exclusive, Upgradable};
 ghost use Rattle.lock_api_desk.specs.declared.fault.DeskFault.TheVariants.{WouldWait, Taken};
 ghost use Rattle.lock_api_desk.specs.Guards.{is_held, holds, guard_of};
@@ -7,7 +7,7 @@ ghost use Rattle.lock_api_desk.specs.Out.{admits, out_of};
 ghost use Rattle.lock_api_desk.specs.Entries.{less};
 ghost use Rattle.lock_api_desk.specs.Desk.{IsSound, released, turned, set_apart};
 ghost use Rattle.lock_api_desk.specs.Refusals.{guard_refusal, upgrade_refusal, take_up_refusal, ok_unless, unless};
-ghost use Rattle.lock_api_desk.specs.Places.{StandsAt, IsPlaceOf};
+ghost use Rattle.lock_api_desk.specs.Places.{StandsAt, IsPlaceOf, IsLifted};
 
 use crate::desk::Desk;
 use crate::fault::DeskFault;
@@ -134,6 +134,31 @@ impl<R: RawState, T, A: Allocator> Desk<R, T, A> {
             return Err(denied);
         }
         Ok(place)
+    }
+
+    /// Makes the upgradable guard exclusive for a while.
+    pub(crate) fn lift(
+        &mut self,
+        denied: DeskFault,
+        party: u64,
+        guard: u64,
+    ) -> Result<usize, DeskFault>
+        ensures lifted { MatchOption (upgrade_refusal denied party guard self.old) (IsOkAnd result (IsLifted guard self.old.guards self.new.guards)) (λ fault. result ≡ Err fault) }
+        ensures state { self.new ≡ unless (upgrade_refusal denied party guard self.old) self.old (turned Exclusive guard self.old) }
+    {
+        let place = self.place_to_upgrade(denied, party, guard)?;
+        self.turn(place, guard, Mode::Exclusive);
+        Ok(place)
+    }
+
+    /// Makes the exclusive guard upgradable again.
+    pub(crate) fn lower(&mut self, place: usize, guard: u64)
+        requires at { StandsAt guard self.old.guards place }
+        requires exclusive { IfSome (guard_of guard self.old.guards) (λ held. holds Exclusive held ≡ true) }
+        ensures { self.new ≡ turned Upgradable guard self.old }
+    {
+        let _ = &self.raw;
+        self.turn(place, guard, Mode::Upgradable);
     }
 
     /// Takes the guard out and spends its token.
