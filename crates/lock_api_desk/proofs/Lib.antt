@@ -5,3 +5,4 @@ pub mod Seats
 pub mod Refusing
 pub mod States
 pub mod Turning
+pub mod Values

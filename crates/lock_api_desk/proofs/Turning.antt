@@ -45,11 +45,14 @@ module _ (limit number : ℕ) (guards : List Guard) (place : ℕ) (s : StandsAt 
       (subst P (sym same) (out_at guards place s.guard s.at held),
       ap (λ b. less s.guard.mode b (out_of guards)) held ∙ ap (λ m. one_less m (out_of guards)) (sym same))
 
+  pub from_held : (mode : Mode) → IsSound limit guards → holds Exclusive s.guard ≡ true → IfSome (guard_of number guards) (λ held. admits limit mode (less held.mode held.is_aside (out_of guards)) ≡ true)
+  from_held mode sound held =
+      let h = held_as Exclusive held in
+      next_from mode (ap (λ o. admits limit mode o) h.1 ∙ admits_for_exclusive limit mode (out_of guards) sound.orderly h.0)
+
   -- an exclusive guard may be held in any mode
   pub from_exclusive : (mode : Mode) (party : ℕ) → IsSound limit guards → refusal_at (holds Exclusive) party (guard_of number guards) ≡ None → IfSome (guard_of number guards) (λ held. admits limit mode (less held.mode held.is_aside (out_of guards)) ≡ true)
-  from_exclusive mode party sound none =
-      let h = held_as Exclusive (suited (holds Exclusive) party none) in
-      next_from mode (ap (λ o. admits limit mode o) h.1 ∙ admits_for_exclusive limit mode (out_of guards) sound.orderly h.0)
+  from_exclusive mode party sound none = from_held mode sound (suited (holds Exclusive) party none)
 
   -- an upgradable one shared
   pub from_upgradable : (party : ℕ) → IsSound limit guards → refusal_at (holds Upgradable) party (guard_of number guards) ≡ None → IfSome (guard_of number guards) (λ held. admits limit Shared (less held.mode held.is_aside (out_of guards)) ≡ true)

@@ -46,7 +46,7 @@ impl<R: RawState, T, A: Allocator> Desk<R, T, A> {
         ensures { MatchOption (upgrade_refusal WouldWait party guard self.old) (IsOkAnd result (λ answer. FnOnceReturnsAtMut F.FnOnce f self.old.value answer self.new.value × (self.new ≡ with_value self.new.value self.old))) (λ fault. (result ≡ Err fault) × (self.new ≡ self.old)) }
     {
         let place = self.lift(DeskFault::WouldWait, party, guard)?;
-        let answer = f(&mut self.value);
+        let answer = apply(&mut self.value, f);
         self.lower(place, guard);
         Ok(answer)
     }
@@ -62,8 +62,16 @@ impl<R: RawState, T, A: Allocator> Desk<R, T, A> {
         ensures { MatchOption (upgrade_refusal Taken party guard self.old) (IsOkAnd result (λ answer. FnOnceReturnsAtMut F.FnOnce f self.old.value answer self.new.value × (self.new ≡ with_value self.new.value self.old))) (λ fault. (result ≡ Err fault) × (self.new ≡ self.old)) }
     {
         let place = self.lift(DeskFault::Taken, party, guard)?;
-        let answer = f(&mut self.value);
+        let answer = apply(&mut self.value, f);
         self.lower(place, guard);
         Ok(answer)
     }
+}
+
+/// Calls the closure on the value.
+fn apply<T, U, F: FnOnce(&mut T) -> U>(value: &mut T, f: F) -> U
+    requires { F.IsAlwaysCallable f }
+    ensures { FnOnceReturnsAtMut F.FnOnce f value.old result value.new }
+{
+    f(value)
 }
