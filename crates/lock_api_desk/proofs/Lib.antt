@@ -6,3 +6,4 @@ pub mod Refusing
 pub mod States
 pub mod Turning
 pub mod Values
+pub mod Making

@@ -1,5 +1,5 @@
 -- The table of calls: when each is refused, and what it makes of a desk.
-use Rattle.std.specs.Prelude.{◌≡◌, ℕ, ◌+◌, ◌≤◌, Bool, true, false, Option, Some, None, List, [], ◌∷◌, take, length, fold, slice_get}
+use Rattle.std.specs.Prelude.{◌≡◌, ℕ, ◌≤◌, Bool, true, false, Option, Some, None, List, [], ◌∷◌, take, length, slice_get, MatchOption, MatchBool}
 use Rattle.lock_api_desk.specs.declared.mode.Mode.TheVariants.{Shared, Exclusive, Upgradable}
 use Rattle.lock_api_desk.specs.declared.fault.DeskFault.{DeskFault}
 use Rattle.lock_api_desk.specs.declared.fault.DeskFault.TheVariants.{WouldWait, Taken, NoMemory}
@@ -8,7 +8,7 @@ use Rattle.lock_api_desk.specs.declared.call.DeskCall.{DeskCall}
 use Rattle.lock_api_desk.specs.declared.call.DeskCall.TheVariants.{Lock, TryLock, Read, TryRead, Write, TryWrite, UpgradableRead, TryUpgradableRead, Unlock, UnlockFair, Bump, Downgrade, DowngradeToUpgradable, DowngradeUpgradable, Upgrade, TryUpgrade, SetAside, TakeUp, ReadValue, WithUpgraded, TryWithUpgraded, WriteValue}
 use Rattle.lock_api_desk.specs.Guards.{is_held, holds}
 use Rattle.lock_api_desk.specs.Desk.{DeskState, admitted, released, turned, set_apart, with_value, with_room}
-use Rattle.lock_api_desk.specs.Refusals.{acquire_refusal, guard_refusal, upgrade_refusal, take_up_refusal}
+use Rattle.lock_api_desk.specs.Refusals.{acquire_refusal, guard_refusal, upgrade_refusal, take_up_refusal, KeepsRoom}
 
 module _ {T : Type 0} where
   -- why a call is refused, want of memory aside
@@ -73,18 +73,35 @@ module _ {T : Type 0} where
   is_acquisition (TryUpgradableRead party guard) = true
   is_acquisition call = false
 
-  -- the desk after all of the calls, none refused
-  abbrev pub after_all : List (DeskCall T) → DeskState T → DeskState T
-  after_all [] desk = desk
-  after_all (call ∷ calls) desk = after_all calls (after call desk)
+-- a call that isn't refused made a desk into what comes after it, room aside. Room only grows where the call takes a
+-- guard in, and what is there is used first
+pub record Made {T : Type 0} (refusal : Option DeskFault) (takes_room : Bool) (old after new : DeskState T) : Type 0 where
+  pub granted : refusal ≡ None
+  pub state : new ≡ with_room new.room after
+  pub room : MatchBool takes_room (KeepsRoom old new) (new.room ≡ old.room)
 
-  -- the refusal at that place, or else what comes later
-  abbrev pub stopped : ℕ → Option DeskFault → Option DeskRunFault → Option DeskRunFault
-  stopped place None later = later
-  stopped place (Some fault) later = Some (record { place = place; fault = fault })
+-- a call is refused as it must be, or it takes a guard in, isn't refused otherwise, and finds no memory where there is no room
+abbrev pub Refused : {T : Type 0} → Option DeskFault → Bool → DeskState T → DeskFault → Type 0
+Refused refusal takes_room desk fault =
+    MatchOption refusal
+    ((fault ≡ NoMemory) × (takes_room ≡ true) × (desk.room ≤ length desk.guards))
+    (λ why. fault ≡ why)
 
-  -- where and why the first refused call of a list is refused, counted from the place
-  abbrev pub first_refusal : ℕ → List (DeskCall T) → DeskState T → Option DeskRunFault
-  first_refusal place [] desk = None
-  first_refusal place (call ∷ calls) desk =
-      stopped place (refusal_of call desk) (first_refusal (place + 1) calls (after call desk))
+module _ {T : Type 0} where
+  abbrev pub Makes : DeskCall T → DeskState T → DeskState T → Type 0
+  Makes call old new = Made (refusal_of call old) (is_acquisition call) old (after call old) new
+
+  abbrev pub Refuses : DeskCall T → DeskState T → DeskFault → Type 0
+  Refuses call desk fault = Refused (refusal_of call desk) (is_acquisition call) desk fault
+
+  -- the calls in turn, none of them refused, made one desk into the other
+  abbrev pub Runs : List (DeskCall T) → DeskState T → DeskState T → Type 0
+  Runs [] old new = new ≡ old
+  Runs (call ∷ calls) old new = (mid : DeskState T) × Makes call old mid × Runs calls mid new
+
+-- the calls before that place ran, and the call there is refused by the desk that they left
+pub record IsStopped {T : Type 0} (calls : List (DeskCall T)) (old new : DeskState T) (stop : DeskRunFault) : Type 0 where
+  pub ran : Runs (take stop.place calls) old new
+  pub call : DeskCall T
+  pub at : slice_get calls stop.place ≡ Some call
+  pub refused : Refuses call new stop.fault
