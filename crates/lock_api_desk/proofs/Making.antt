@@ -1,34 +1,25 @@
 -- What one call of a list makes of a desk.
-use Rattle.std.proofs.Common.{◌≡◌, ℕ, ◌≤◌, Bool, true, false, List, [], ◌∷◌, ◌++◌, length, Option, Some, None, Result, Ok, Err, refl, sym, ap, subst, ◌∙◌}
-use Rattle.std.specs.Option.{MatchOption}
-use Rattle.std.specs.Result.{MatchResult}
+use Rattle.std.proofs.Common.{◌≡◌, ℕ, ◌<◌, List, [], ◌∷◌, ◌++◌, take, get_or, length, slice_get, Some, refl, sym, ap, subst, ◌∙◌}
+use Rattle.std.proofs.lemmas.Option.{slice_get-get_or}
 use Rattle.lock_api_desk.specs.declared.fault.DeskFault.{DeskFault}
-use Rattle.lock_api_desk.specs.declared.fault.DeskFault.TheVariants.{NoMemory}
 use Rattle.lock_api_desk.specs.declared.call.DeskCall.{DeskCall}
-use Rattle.lock_api_desk.specs.Desk.{DeskState, with_room}
-use Rattle.lock_api_desk.specs.Refusals.{KeepsRoom, ok_unless, unless}
-use Rattle.lock_api_desk.specs.Calls.{Made, Refused, Makes, Runs}
-
-module _ {T : Type 0} (old new added : DeskState T) where
-  -- an acquisition
-  pub acquired : (refusal : Option DeskFault) (result : Result (Unit {0}) DeskFault) → MatchOption refusal (MatchResult result (λ _. new ≡ with_room new.room added) (λ fault. (fault ≡ NoMemory) × (new ≡ old) × (old.room ≤ length old.guards))) (λ fault. (result ≡ Err fault) × (new ≡ old)) → KeepsRoom old new → MatchResult result (λ _. Made refusal true old added new) (λ fault. Refused refusal true old fault × (new ≡ old))
-  acquired None (Ok x) h room = record { granted = refl; state = h; room = room }
-  acquired None (Err fault) h room = ((h.0, refl, h.2), h.1)
-  acquired (Some why) (Ok x) h room = cc
-  acquired (Some why) (Err fault) h room = (cc, h.1)
-
-  -- a call that takes no room
-  pub called : (refusal : Option DeskFault) (result : Result (Unit {0}) DeskFault) → added.room ≡ old.room → result ≡ ok_unless refusal tt → new ≡ unless refusal old added → MatchResult result (λ _. Made refusal false old added new) (λ fault. Refused refusal false old fault × (new ≡ old))
-  called None (Ok x) same answer state = record {
-    granted = refl;
-    state = state ∙ sym (ap (λ r. with_room r added) (ap (λ s. s.room) state));
-    room = ap (λ s. s.room) state ∙ same;
-  }
-  called None (Err fault) same answer state = cc
-  called (Some why) (Ok x) same answer state = cc
-  called (Some why) (Err fault) same answer state = (cc, state)
+use Rattle.lock_api_desk.specs.Desk.{DeskState}
+use Rattle.lock_api_desk.specs.Calls.{Makes, Refuses, Runs, IsStopped}
 
 -- one more call at the end of a run
 pub runs_more : {T : Type 0} (calls : List (DeskCall T)) (call : DeskCall T) (old mid new : DeskState T) → Runs calls old mid → Makes call mid new → Runs (calls ++ call ∷ []) old new
 runs_more [] call old mid new ran made = (new, (let P = λ (s : DeskState _). Makes call s new in subst P ran made), refl)
 runs_more (first ∷ calls) call old mid new ran made = (ran.0, ran.1, runs_more calls call ran.0 mid new ran.2 made)
+
+-- a run stops at a call that is refused
+pub stopped_at : {T : Type 0} (calls so_far : List (DeskCall T)) (old mid new : DeskState T) (place : ℕ) (fault : DeskFault) (call : DeskCall T) → place ≡ length so_far → so_far ≡ take (length so_far) calls → length so_far < length calls → call ≡ get_or calls (length so_far) call → Runs so_far old mid → Refuses call mid fault → new ≡ mid → IsStopped calls old new (record { place = place; fault = fault })
+stopped_at {T} calls so_far old mid new place fault call counted front within here ran refused same =
+    let P = λ (cs : List (DeskCall T)). Runs cs old new in
+    let Q = λ (s : DeskState T). Runs so_far old s in
+    let F = λ (s : DeskState T). Refuses call s fault in
+    record {
+      ran = subst P (front ∙ ap (λ n. take n calls) (sym counted)) (subst Q (sym same) ran);
+      call = call;
+      at = ap (λ n. slice_get calls n) counted ∙ slice_get-get_or calls (length so_far) call within ∙ ap (λ x. Some x) (sym here);
+      refused = subst F (sym same) refused;
+    }
