@@ -1,13 +1,13 @@
 -- How many holds are out as guards come, go and change, and which holds go together.
-use Rattle.std.proofs.Common.{◌≡◌, ℕ, zero, suc, ◌+◌, ◌-◌, ◌<◌, ◌≤◌, ◌^◌, Bool, true, false, cond, not, ◌&&◌, ◌||◌, ◌==◌, inl, inr, nat_le, nat_lt, List, [], ◌∷◌, ◌++◌, map, length, get_or, set, take, drop, remove, Option, Some, None, slice_get, find, refl, sym, ap, ◌∙◌, arith, rules}
-use Rattle.std.specs.List.{list_any, count_by, sum_by}
+use Rattle.std.proofs.Common.{◌≡◌, ℕ, zero, suc, ◌+◌, ◌-◌, ◌<◌, ◌≤◌, Bool, true, false, cond, not, ◌&&◌, ◌==◌, inl, inr, nat_lt, List, [], ◌∷◌, ◌++◌, get_or, set, remove, Some, slice_get, refl, sym, ap, ◌∙◌, arith}
+use Rattle.std.specs.List.{count_by, sum_by}
 use Rattle.std.proofs.lemmas.Option.{get_or_from_slice_get, slice_get_within, none-some, same_Some}
-use Rattle.std.proofs.lemmas.Bool.{ltb-true, ltb-false, lt-ltb, le-ltb, leb-false, eqb-true, eq-eqb, cases_lt, and_parts, and_from, not-true, cases_Bool, false≢true}
+use Rattle.std.proofs.lemmas.Bool.{ltb-true, lt-ltb, leb-false, eqb-true, eq-eqb, cases_lt, and_parts, and_from, false≢true}
 use Rattle.std.proofs.lemmas.List.Sums.{sum_by-append, sum_by-cons, sum_by-set}
 use Rattle.lock_api_desk.specs.declared.mode.Mode.{Mode}
 use Rattle.lock_api_desk.specs.declared.mode.Mode.TheVariants.{Shared, Exclusive, Upgradable}
-use Rattle.lock_api_desk.specs.Guards.{Guard, excludes, is_reader, is_mode, is_held, holds, excluded, readers, is_full, granted}
-use Rattle.lock_api_desk.specs.Out.{Out, admits, one_more, one_less, readers_out, count_in, IsOrderly, out_of, nothing_out}
+use Rattle.lock_api_desk.specs.Guards.{Guard, excludes, is_reader, is_mode, is_held, holds, excluded, readers, is_full}
+use Rattle.lock_api_desk.specs.Out.{Out, admits, one_more, one_less, readers_out, count_in, IsOrderly, out_of}
 use Rattle.lock_api_desk.specs.Entries.{less, more}
 use Rattle.lock_api_desk.proofs.Lists.{count_by-none}
 
@@ -74,7 +74,6 @@ orderly_less limit Upgradable out o = record {
 pub orderly_without : (limit : ℕ) (mode : Mode) (is_aside : Bool) (out : Out) → IsOrderly limit out → IsOrderly limit (less mode is_aside out)
 orderly_without limit mode true out o = o
 orderly_without limit mode false out o = orderly_less limit mode out o
-
 
 -- 1 for a held guard of the mode, else 0
 abbrev pub bit : Mode → Mode → Bool → ℕ
@@ -150,23 +149,23 @@ out_at guards i g at held =
 pub out_of-append : (guards : List Guard) (g : Guard) → out_of (guards ++ g ∷ []) ≡ more g.mode g.is_aside (out_of guards)
 out_of-append guards g =
     same_out _ _ (λ m.
-      let e = count_in-out_of m (guards ++ g ∷ []) in
-      let f = count_in-out_of m guards in
-      let s = sum_by-append (λ x. cond (holds m x) 1 0) guards (g ∷ []) in
-      let a = count_in-more m g.mode g.is_aside (out_of guards) in
-      omega arith)
+    let e = count_in-out_of m (guards ++ g ∷ []) in
+    let f = count_in-out_of m guards in
+    let s = sum_by-append (λ x. cond (holds m x) 1 0) guards (g ∷ []) in
+    let a = count_in-more m g.mode g.is_aside (out_of guards) in
+    omega arith)
 
 -- a guard in the place of another
 pub out_of-set : (guards : List Guard) (i : ℕ) (g h : Guard) → slice_get guards i ≡ Some g → out_of (set guards i h) ≡ more h.mode h.is_aside (less g.mode g.is_aside (out_of guards))
 out_of-set guards i g h at =
     same_out _ _ (λ m.
-      let e = count_in-out_of m (set guards i h) in
-      let f = count_in-out_of m guards in
-      let s = sum_by-set (λ x. cond (holds m x) 1 0) guards i h g (slice_get_within guards i g at) in
-      let here : cond (holds m (get_or guards i g)) 1 0 ≡ bit m g.mode g.is_aside = ap (λ x. cond (holds m x) 1 0) (get_or_from_slice_get guards i g g at) in
-      let l = count_in-less m g.mode g.is_aside (out_of guards) (count_at m guards i g at) in
-      let a = count_in-more m h.mode h.is_aside (less g.mode g.is_aside (out_of guards)) in
-      omega arith)
+    let e = count_in-out_of m (set guards i h) in
+    let f = count_in-out_of m guards in
+    let s = sum_by-set (λ x. cond (holds m x) 1 0) guards i h g (slice_get_within guards i g at) in
+    let here : cond (holds m (get_or guards i g)) 1 0 ≡ bit m g.mode g.is_aside = ap (λ x. cond (holds m x) 1 0) (get_or_from_slice_get guards i g g at) in
+    let l = count_in-less m g.mode g.is_aside (out_of guards) (count_at m guards i g at) in
+    let a = count_in-more m h.mode h.is_aside (less g.mode g.is_aside (out_of guards)) in
+    omega arith)
 
 sum_by-remove : (f : Guard → ℕ) (guards : List Guard) (i : ℕ) (g : Guard) → slice_get guards i ≡ Some g → sum_by f (remove guards i) + f g ≡ sum_by f guards
 sum_by-remove f [] i g at = absurd (none-some g at)
@@ -185,11 +184,11 @@ sum_by-remove f (x ∷ xs) (suc i) g at =
 pub out_of-remove : (guards : List Guard) (i : ℕ) (g : Guard) → slice_get guards i ≡ Some g → out_of (remove guards i) ≡ less g.mode g.is_aside (out_of guards)
 out_of-remove guards i g at =
     same_out _ _ (λ m.
-      let e = count_in-out_of m (remove guards i) in
-      let f = count_in-out_of m guards in
-      let s = sum_by-remove (λ x. cond (holds m x) 1 0) guards i g at in
-      let l = count_in-less m g.mode g.is_aside (out_of guards) (count_at m guards i g at) in
-      omega arith)
+    let e = count_in-out_of m (remove guards i) in
+    let f = count_in-out_of m guards in
+    let s = sum_by-remove (λ x. cond (holds m x) 1 0) guards i g at in
+    let l = count_in-less m g.mode g.is_aside (out_of guards) (count_at m guards i g at) in
+    omega arith)
 
 -- the readers are the shared and the upgradable holds
 pub readers_are : (guards : List Guard) → readers guards ≡ readers_out (out_of guards)
@@ -223,8 +222,8 @@ same_mode Upgradable Upgradable e = refl
 pub none_out : (mode kept : Mode) (guards : List Guard) → excludes kept mode ≡ true → excluded mode guards ≡ false → count_by (holds kept) guards ≡ 0
 none_out mode kept guards e free =
     count_by-none (λ g. is_held g && excludes g.mode mode) (holds kept) (λ g h.
-      let parts = and_parts (is_held g) (is_mode kept g.mode) h in
-      and_from (is_held g) (excludes g.mode mode) parts.0 (ap (λ m. excludes m mode) (sym (same_mode kept g.mode parts.1)) ∙ e))
+    let parts = and_parts (is_held g) (is_mode kept g.mode) h in
+    and_from (is_held g) (excludes g.mode mode) parts.0 (ap (λ m. excludes m mode) (sym (same_mode kept g.mode parts.1)) ∙ e))
     guards free
 
 -- the machine admits only what a raw state of the same holds admits

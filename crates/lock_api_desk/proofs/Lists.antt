@@ -1,9 +1,9 @@
 -- Look-ups in a mapped list.
-use Rattle.std.proofs.Common.{◌≡◌, ℕ, zero, suc, ◌+◌, ◌<◌, ◌≤◌, Bool, true, false, cond, not, ◌&&◌, ◌||◌, ◌⊎◌, List, [], ◌∷◌, ◌++◌, map, filter, length, get_or, set, take, drop, remove, Option, Some, None, slice_get, find, fold, position, nat_lt, refl, sym, ap, subst, ◌∙◌, inl, inr, arith, rules}
+use Rattle.std.proofs.Common.{◌≡◌, ℕ, suc, ◌+◌, ◌<◌, Bool, true, false, cond, ◌||◌, List, [], ◌∷◌, ◌++◌, map, length, take, drop, remove, Option, Some, None, slice_get, find, fold, position, nat_lt, refl, sym, ap, subst, ◌∙◌, inl, inr, arith}
 use Rattle.std.specs.List.{position_or_len, list_any, count_by}
 use Rattle.std.specs.Option.{option_map, MatchOption}
-use Rattle.std.proofs.lemmas.Option.{none-some, same_Some, slice_get_within, slice_get_past}
-use Rattle.std.proofs.lemmas.Bool.{cases_Bool, cond-true, cond-false, false≢true, ltb-true, ltb-false, or_parts}
+use Rattle.std.proofs.lemmas.Option.{none-some, same_Some, slice_get_past}
+use Rattle.std.proofs.lemmas.Bool.{cases_Bool, false≢true, ltb-true, ltb-false, or_parts}
 use Rattle.std.proofs.lemmas.List.{take-map, drop-map, map-append}
 use Rattle.std.proofs.lemmas.List.Folds.{find_at}
 
@@ -64,6 +64,6 @@ module _ {X : Type 0} where
       let parts = or_parts (p x) (list_any p xs) none in
       let later = count_by-none p q narrower xs parts.1 in
       elim (cases_Bool (q x)) [
-      | inl passes ↦ absurd (false≢true (sym parts.0 ∙ narrower x passes))
-      | inr fails ↦ ap (λ b. fold (λ a y. a + cond (q y) 1 0) (0 + cond b 1 0) xs) fails ∙ later
+        | inl passes ↦ absurd (false≢true (sym parts.0 ∙ narrower x passes))
+        | inr fails ↦ ap (λ b. fold (λ a y. a + cond (q y) 1 0) (0 + cond b 1 0) xs) fails ∙ later
       ]

@@ -1,8 +1,8 @@
 -- Guards by their numbers, which are distinct.
-use Rattle.std.proofs.Common.{◌≡◌, ℕ, zero, suc, Bool, true, false, cond, not, ◌&&◌, ◌||◌, ◌==◌, List, [], ◌∷◌, ◌++◌, map, filter, set, remove, Some, slice_get, refl, sym, ap, subst, ◌∙◌, arith}
+use Rattle.std.proofs.Common.{◌≡◌, ℕ, zero, suc, Bool, true, false, cond, not, ◌&&◌, ◌||◌, ◌==◌, List, [], ◌∷◌, ◌++◌, map, set, remove, Some, slice_get, refl, sym, ap, subst, ◌∙◌}
 use Rattle.std.specs.List.{IsDistinct, AllByRecursion, list_any}
 use Rattle.std.proofs.lemmas.Option.{none-some, same_Some}
-use Rattle.std.proofs.lemmas.Bool.{eqb-false, eqb-true, eq-eqb, ne_eqb, or_parts, false_from_ne_true, cond-true, cond-false}
+use Rattle.std.proofs.lemmas.Bool.{eqb-false, eq-eqb, ne_eqb, or_parts, cond-true, cond-false}
 use Rattle.lock_api_desk.specs.Guards.{Guard, has_number, is_held, amend, without, put_aside, is_held_beside, is_in_use}
 
 abbrev pub numbers : List Guard → List ℕ

@@ -1,23 +1,21 @@
 -- What a desk keeps as entries come, go and change.
-use Rattle.std.proofs.Common.{◌≡◌, ℕ, Bool, true, false, not, ◌<◌, List, [], ◌∷◌, ◌++◌, map, length, get_or, set, remove, Option, Some, None, slice_get, find, position, refl, sym, ap, subst, ◌∙◌, arith}
-use Rattle.std.specs.List.{IsDistinct, count_by}
+use Rattle.std.proofs.Common.{◌≡◌, ℕ, Bool, true, false, not, ◌<◌, List, [], ◌∷◌, ◌++◌, length, get_or, set, remove, Option, Some, None, slice_get, position, refl, sym, ap, subst, ◌∙◌, arith}
 use Rattle.std.specs.Option.{option_map, IfSome}
 use Rattle.std.proofs.lemmas.Option.{slice_get-map, slice_get-get_or, slice_get_within, same_Some}
 use Rattle.std.proofs.lemmas.Bool.{eqb-true, and_parts, not-true}
 use Rattle.std.proofs.lemmas.List.Quantifiers.{position-Some}
 use Rattle.std.proofs.lemmas.List.{map-set, map-append, length-map}
 use Rattle.lock_api_desk.specs.declared.mode.Mode.{Mode}
-use Rattle.lock_api_desk.specs.declared.mode.Mode.TheVariants.{Shared, Exclusive, Upgradable}
 use Rattle.lock_api_desk.specs.declared.hold.Hold.{Hold}
 use Rattle.lock_api_desk.specs.declared.hold.Entry.{Entry}
-use Rattle.lock_api_desk.specs.Guards.{Guard, has_number, holds, is_held, guard_of, amend, without, held_in, put_aside, is_in_use, is_held_beside, excluded, is_full, granted}
-use Rattle.lock_api_desk.specs.Out.{Out, admits, one_more, IsOrderly, out_of, nothing_out, count_in}
+use Rattle.lock_api_desk.specs.Guards.{Guard, has_number, guard_of, amend, without, held_in, put_aside, is_in_use, excluded, is_full, granted}
+use Rattle.lock_api_desk.specs.Out.{Out, admits, one_more, IsOrderly, out_of, count_in}
 use Rattle.lock_api_desk.specs.Entries.{guard_in, guards_in, mode_of, aside_of, less, more}
 use Rattle.lock_api_desk.specs.Desk.{IsSound}
 use Rattle.lock_api_desk.specs.Places.{Stands, StandsAt}
 use Rattle.lock_api_desk.proofs.Lists.{find-map, map-remove, find-position, find-no_position}
 use Rattle.lock_api_desk.proofs.Counting.{out_at, out_of-append, out_of-set, out_of-remove, orderly_more, orderly_without, admits_from}
-use Rattle.lock_api_desk.proofs.Numbers.{Distinct, numbers, amend_at, without_at, distinct_append, distinct_remove, numbers_set}
+use Rattle.lock_api_desk.proofs.Numbers.{Distinct, amend_at, without_at, distinct_append, distinct_remove, numbers_set}
 
 -- the entry at that place has the number, and is the first that has
 pub record StandsFor {S E U : Type 0} (entries : List (Entry S E U)) (n place : ℕ) (e : Entry S E U) : Type 0 where
@@ -48,15 +46,15 @@ module _ {S E U : Type 0} where
   stands_append limit out out' entries e s new admitted held next =
       let grown : guards_in (entries ++ e ∷ []) ≡ guards_in entries ++ guard_in e ∷ [] = map-append guard_in entries (e ∷ []) in
       let outs : out_of (guards_in entries ++ guard_in e ∷ []) ≡ one_more (mode_of e.hold) (out_of (guards_in entries)) =
-        out_of-append (guards_in entries) (guard_in e) ∙ ap (λ b. more (mode_of e.hold) b (out_of (guards_in entries))) held in
+      out_of-append (guards_in entries) (guard_in e) ∙ ap (λ b. more (mode_of e.hold) b (out_of (guards_in entries))) held in
       let orderly = orderly_more limit (mode_of e.hold) (out_of (guards_in entries)) s.sound.orderly (ap (λ o. admits limit (mode_of e.hold) o) (sym s.out_is) ∙ admitted) in
       record {
         out_is = next ∙ ap (λ o. one_more (mode_of e.hold) o) s.out_is ∙ sym outs ∙ ap (λ gs. out_of gs) (sym grown);
         sound = (let P : List Guard → Type 0 = λ gs. IsSound limit gs in
-          subst P (sym grown) (record {
-            distinct = distinct_append (guards_in entries) (guard_in e) s.sound.distinct new;
-            orderly = (let Q : Out → Type 0 = λ o. IsOrderly limit o in subst Q (sym outs) orderly);
-          }));
+            subst P (sym grown) (record {
+              distinct = distinct_append (guards_in entries) (guard_in e) s.sound.distinct new;
+              orderly = (let Q : Out → Type 0 = λ o. IsOrderly limit o in subst Q (sym outs) orderly);
+            }));
       }
 
   -- one changed in its place
@@ -65,14 +63,14 @@ module _ {S E U : Type 0} where
       let placed : guards_in (set entries i f) ≡ set (guards_in entries) i (guard_in f) = map-set guard_in entries i f in
       let outs = out_of-set (guards_in entries) i (guard_in e) (guard_in f) (guard_at entries i e at) in
       let is : out' ≡ out_of (set (guards_in entries) i (guard_in f)) =
-        next ∙ ap (λ o. more (mode_of f.hold) (aside_of f.hold) (less (mode_of e.hold) (aside_of e.hold) o)) s.out_is ∙ sym outs in
+      next ∙ ap (λ o. more (mode_of f.hold) (aside_of f.hold) (less (mode_of e.hold) (aside_of e.hold) o)) s.out_is ∙ sym outs in
       record {
         out_is = is ∙ ap (λ gs. out_of gs) (sym placed);
         sound = (let P : List Guard → Type 0 = λ gs. IsSound limit gs in
-          subst P (sym placed) (record {
-            distinct = (let D : List ℕ → Type 0 = λ ns. Distinct ns in subst D (sym (numbers_set (guards_in entries) i (guard_in e) (guard_in f) (guard_at entries i e at) same)) s.sound.distinct);
-            orderly = (let Q : Out → Type 0 = λ o. IsOrderly limit o in subst Q is orderly);
-          }));
+            subst P (sym placed) (record {
+              distinct = (let D : List ℕ → Type 0 = λ ns. Distinct ns in subst D (sym (numbers_set (guards_in entries) i (guard_in e) (guard_in f) (guard_at entries i e at) same)) s.sound.distinct);
+              orderly = (let Q : Out → Type 0 = λ o. IsOrderly limit o in subst Q is orderly);
+            }));
       }
 
   -- one less
@@ -83,11 +81,11 @@ module _ {S E U : Type 0} where
       record {
         out_is = next ∙ ap (λ o. less (mode_of e.hold) (aside_of e.hold) o) s.out_is ∙ sym outs ∙ ap (λ gs. out_of gs) (sym left);
         sound = (let P : List Guard → Type 0 = λ gs. IsSound limit gs in
-          subst P (sym left) (record {
-            distinct = distinct_remove (guards_in entries) i s.sound.distinct;
-            orderly = (let Q : Out → Type 0 = λ o. IsOrderly limit o in
-              subst Q (sym outs) (orderly_without limit (mode_of e.hold) (aside_of e.hold) (out_of (guards_in entries)) s.sound.orderly));
-          }));
+            subst P (sym left) (record {
+              distinct = distinct_remove (guards_in entries) i s.sound.distinct;
+              orderly = (let Q : Out → Type 0 = λ o. IsOrderly limit o in
+                  subst Q (sym outs) (orderly_without limit (mode_of e.hold) (aside_of e.hold) (out_of (guards_in entries)) s.sound.orderly));
+            }));
       }
 
   -- the guards after a change in place
@@ -174,10 +172,10 @@ module _ {S E U : Type 0} where
       let mid = orderly_without limit (mode_of h) (aside_of h) out (subst P (sym s.out_is) old) in
       let orderly = subst P (sym next) (orderly_more limit mode (less (mode_of h) (aside_of h) out) mid admitted) in
       let outs : out' ≡ more (mode_of k) (aside_of k) (less (mode_of e.hold) (aside_of e.hold) out) =
-        next
-        ∙ ap (λ j. one_more mode (less (mode_of j) (aside_of j) out)) same
-        ∙ ap (λ m. one_more m (less (mode_of e.hold) (aside_of e.hold) out)) (sym modes)
-        ∙ ap (λ b. more (mode_of k) b (less (mode_of e.hold) (aside_of e.hold) out)) (sym held) in
+      next
+      ∙ ap (λ j. one_more mode (less (mode_of j) (aside_of j) out)) same
+      ∙ ap (λ m. one_more m (less (mode_of e.hold) (aside_of e.hold) out)) (sym modes)
+      ∙ ap (λ b. more (mode_of k) b (less (mode_of e.hold) (aside_of e.hold) out)) (sym held) in
       stands_set limit out out' entries place e (entry_of e.number e.party k) s f.at refl outs orderly
 
   pub guards_turned : (limit : ℕ) (out : Out) (mode : Mode) (entries : List (Entry S E U)) (n place : ℕ) (e : Entry S E U) (k : Hold S E U) → Stands limit out entries → StandsFor entries n place e → mode_of k ≡ mode → aside_of k ≡ false → guards_in (set entries place (entry_of e.number e.party k)) ≡ amend (held_in mode) n (guards_in entries)
@@ -191,9 +189,9 @@ module _ {S E U : Type 0} where
       let P : Out → Type 0 = λ o. IsOrderly limit o in
       let mid = orderly_without limit (mode_of h) (aside_of h) out (subst P (sym s.out_is) s.sound.orderly) in
       let outs : out' ≡ more (mode_of k) (aside_of k) (less (mode_of e.hold) (aside_of e.hold) out) =
-        next
-        ∙ ap (λ j. less (mode_of j) (aside_of j) out) same
-        ∙ ap (λ b. more (mode_of k) b (less (mode_of e.hold) (aside_of e.hold) out)) (sym aside) in
+      next
+      ∙ ap (λ j. less (mode_of j) (aside_of j) out) same
+      ∙ ap (λ b. more (mode_of k) b (less (mode_of e.hold) (aside_of e.hold) out)) (sym aside) in
       stands_set limit out out' entries place e (entry_of e.number e.party k) s f.at refl outs (subst P (sym next) mid)
 
   pub guards_put_aside : (limit : ℕ) (out : Out) (entries : List (Entry S E U)) (n place : ℕ) (e : Entry S E U) (k : Hold S E U) → Stands limit out entries → StandsFor entries n place e → mode_of k ≡ mode_of e.hold → aside_of k ≡ true → guards_in (set entries place (entry_of e.number e.party k)) ≡ amend (put_aside true) n (guards_in entries)

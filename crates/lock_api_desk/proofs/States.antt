@@ -1,5 +1,5 @@
 -- States of a desk, part by part.
-use Rattle.std.proofs.Common.{◌≡◌, ℕ, List, Option, None, sym, ap, ◌∙◌}
+use Rattle.std.proofs.Common.{◌≡◌, ℕ, List, Option, None, ap, ◌∙◌}
 use Rattle.lock_api_desk.specs.declared.fault.DeskFault.{DeskFault}
 use Rattle.lock_api_desk.specs.Guards.{Guard}
 use Rattle.lock_api_desk.specs.Desk.{DeskState}

@@ -1,14 +1,13 @@
 -- When a guard may be held in another mode.
-use Rattle.std.proofs.Common.{◌≡◌, ℕ, ◌<◌, Bool, true, false, zero, suc, cond, not, ◌&&◌, ◌==◌, List, [], ◌∷◌, set, slice_get, inl, inr, Option, Some, None, refl, sym, ap, subst, ◌∙◌}
+use Rattle.std.proofs.Common.{◌≡◌, ℕ, ◌<◌, Bool, true, false, zero, suc, cond, ◌==◌, List, [], ◌∷◌, set, slice_get, inl, inr, Option, Some, None, refl, sym, ap, subst, ◌∙◌}
 use Rattle.std.specs.Option.{IfSome, option_or}
 use Rattle.std.proofs.lemmas.Option.{none-some, same_Some}
 use Rattle.std.proofs.lemmas.Bool.{and_parts, not-true, cases_Bool, cond-true, cond-false}
 use Rattle.lock_api_desk.specs.declared.mode.Mode.{Mode}
 use Rattle.lock_api_desk.specs.declared.mode.Mode.TheVariants.{Shared, Exclusive, Upgradable}
-use Rattle.lock_api_desk.specs.declared.fault.DeskFault.{DeskFault}
-use Rattle.lock_api_desk.specs.declared.fault.DeskFault.TheVariants.{NotTheParty, WrongMode, ReadersFull}
+use Rattle.lock_api_desk.specs.declared.fault.DeskFault.TheVariants.{NotTheParty, WrongMode}
 use Rattle.lock_api_desk.specs.Guards.{Guard, has_number, guard_of, is_held, is_mode, holds, excluded, is_full, is_held_beside, amend, held_in, put_aside}
-use Rattle.lock_api_desk.specs.Out.{Out, admits, one_less, count_in, IsOrderly, out_of, nothing_out}
+use Rattle.lock_api_desk.specs.Out.{admits, one_less, count_in, out_of, nothing_out}
 use Rattle.lock_api_desk.specs.Entries.{less}
 use Rattle.lock_api_desk.specs.Desk.{IsSound}
 use Rattle.lock_api_desk.specs.Places.{StandsAt, IsLifted}
@@ -41,9 +40,10 @@ module _ (limit number : ℕ) (guards : List Guard) (place : ℕ) (s : StandsAt 
       let parts = and_parts (is_held s.guard) (is_mode kept s.guard.mode) h in
       let held = not-true s.guard.is_aside parts.0 in
       let same = same_mode kept s.guard.mode parts.1 in
-      let P : Mode → Type 0 = λ m. 0 < count_in m (out_of guards) in
-      (subst P (sym same) (out_at guards place s.guard s.at held),
-      ap (λ b. less s.guard.mode b (out_of guards)) held ∙ ap (λ m. one_less m (out_of guards)) (sym same))
+      let P : Mode → Type 0 = λ m. 0 < count_in m (out_of guards) in (
+        subst P (sym same) (out_at guards place s.guard s.at held),
+        ap (λ b. less s.guard.mode b (out_of guards)) held ∙ ap (λ m. one_less m (out_of guards)) (sym same),
+      )
 
   pub from_held : (mode : Mode) → IsSound limit guards → holds Exclusive s.guard ≡ true → IfSome (guard_of number guards) (λ held. admits limit mode (less held.mode held.is_aside (out_of guards)) ≡ true)
   from_held mode sound held =
@@ -68,9 +68,9 @@ module _ (limit number : ℕ) (guards : List Guard) (place : ℕ) (s : StandsAt 
       sym (out_of-set guards place s.guard (put_aside true s.guard) s.at)
       ∙ ap (λ gs. out_of gs) (sym placed)
       ∙ same_out _ _ (λ m.
-        count_in-out_of m apart
-        ∙ count_by-none is_held (holds m) (λ g h. (and_parts (is_held g) (is_mode m g.mode) h).0) apart (none_beside number guards ∙ none)
-        ∙ zero_in m)
+      count_in-out_of m apart
+      ∙ count_by-none is_held (holds m) (λ g h. (and_parts (is_held g) (is_mode m g.mode) h).0) apart (none_beside number guards ∙ none)
+      ∙ zero_in m)
     where
       zero_in : (m : Mode) → 0 ≡ count_in m nothing_out
       zero_in Shared = refl
@@ -138,8 +138,8 @@ lifted number guards place s limit sound h =
     let parts = and_parts (is_held s.guard) (is_mode Upgradable s.guard.mode) h in
     let placed = amend_at (held_in Exclusive) number guards place s.guard sound.distinct s.at s.number_is in
     let own : held_in Upgradable s.guard ≡ s.guard =
-      ap (λ m. guard_with s.guard.number s.guard.party m false) (same_mode Upgradable s.guard.mode parts.1)
-      ∙ ap (λ b. guard_with s.guard.number s.guard.party s.guard.mode b) (sym (not-true s.guard.is_aside parts.0)) in
+    ap (λ m. guard_with s.guard.number s.guard.party m false) (same_mode Upgradable s.guard.mode parts.1)
+    ∙ ap (λ b. guard_with s.guard.number s.guard.party s.guard.mode b) (sym (not-true s.guard.is_aside parts.0)) in
     record {
       at = record {
         guard = held_in Exclusive s.guard;
@@ -149,10 +149,10 @@ lifted number guards place s limit sound h =
       };
       exclusive = refl;
       back =
-        amend_twice (held_in Upgradable) (held_in Exclusive) number guards (λ g. refl)
-        ∙ amend_at (held_in Upgradable) number guards place s.guard sound.distinct s.at s.number_is
-        ∙ ap (λ g. set guards place g) own
-        ∙ set_same guards place s.guard s.at;
+          amend_twice (held_in Upgradable) (held_in Exclusive) number guards (λ g. refl)
+          ∙ amend_at (held_in Upgradable) number guards place s.guard sound.distinct s.at s.number_is
+          ∙ ap (λ g. set guards place g) own
+          ∙ set_same guards place s.guard s.at;
     }
 
 -- a list of refusals that is empty is empty at each

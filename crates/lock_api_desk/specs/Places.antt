@@ -1,6 +1,6 @@
 -- Where a guard stands in the list, and what a desk keeps.
 use Rattle.lock_api_desk.specs.declared.mode.Mode.TheVariants.{Exclusive, Upgradable}
-use Rattle.std.specs.Prelude.{◌≡◌, ℕ, true, List, Option, Some, Result, slice_get, MatchResult}
+use Rattle.std.specs.Prelude.{◌≡◌, ℕ, true, List, Some, Result, slice_get, MatchResult}
 use Rattle.lock_api_desk.specs.declared.fault.DeskFault.{DeskFault}
 use Rattle.lock_api_desk.specs.declared.hold.Entry.{Entry}
 use Rattle.lock_api_desk.specs.Guards.{Guard, guard_of, holds, amend, held_in}

@@ -59,8 +59,8 @@ abbrev pub Acquires : {T : Type 0} → DeskFault → Mode → ℕ → ℕ → De
 Acquires denied mode party number old new result =
     MatchOption (acquire_refusal denied mode number old)
     (MatchResult result
-      (λ _. new ≡ with_room new.room (admitted mode party number old))
-      (λ fault. (fault ≡ NoMemory) × (new ≡ old) × (old.room ≤ length old.guards)))
+    (λ _. new ≡ with_room new.room (admitted mode party number old))
+    (λ fault. (fault ≡ NoMemory) × (new ≡ old) × (old.room ≤ length old.guards)))
     (λ fault. (result ≡ Err fault) × (new ≡ old))
 
 -- room only grows, and what is there is used first

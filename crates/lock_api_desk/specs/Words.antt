@@ -1,5 +1,5 @@
 -- Words of a lock: 8 for exclusive, 4 for upgradable, 16 for each reader, the upgradable one counted.
-use Rattle.std.specs.Prelude.{◌≡◌, ℕ, Bool, ◌+◌, ◌-◌, ◌*◌, ◌/◌, ◌%◌, ◌^◌, ◌<◌, ◌≤◌, ◌==◌, ◌&&◌, nat_lt, min, Option, Some, None, if◌then◌else◌}
+use Rattle.std.specs.Prelude.{◌≡◌, ℕ, ◌+◌, ◌-◌, ◌*◌, ◌/◌, ◌%◌, ◌^◌, ◌<◌, ◌≤◌, ◌==◌, ◌&&◌, nat_lt, min, Option, Some, None, if◌then◌else◌}
 use Rattle.lock_api_desk.specs.Out.{Out, IsOrderly}
 
 -- the word of what is out

@@ -119,12 +119,7 @@ impl<R: RawState, T, A: Allocator> Desk<R, T, A> {
     }
 
     /// Where the guard stands in the list, if it is the party's and suits the call.
-    pub(crate) fn place_of(
-        &self,
-        party: u64,
-        guard: u64,
-        suit: Suit,
-    ) -> Result<usize, DeskFault>
+    pub(crate) fn place_of(&self, party: u64, guard: u64, suit: Suit) -> Result<usize, DeskFault>
         ensures place { MatchOption (guard_refusal (suits suit) party guard self.now) (IsPlaceOf guard self.now.guards result) (λ fault. result ≡ Err fault) }
         ensures sound { IsSound self.now.limit self.now.guards }
     {

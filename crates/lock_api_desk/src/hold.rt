@@ -35,8 +35,11 @@ pub(crate) enum Suit {
 }
 
 /// The holds of a raw state.
-pub(crate) type HoldOf<R> =
-    Hold<<R as RawState>::Shared, <R as RawState>::Exclusive, <R as RawState>::Upgradable>;
+pub(crate) type HoldOf<R> = Hold<
+    <R as RawState>::Shared,
+    <R as RawState>::Exclusive,
+    <R as RawState>::Upgradable,
+>;
 
 /// The mode of a hold, and the kept one of a guard that is set aside.
 pub(crate) fn mode_of<S, E, U>(hold: &Hold<S, E, U>) -> Mode

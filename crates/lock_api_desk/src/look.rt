@@ -19,9 +19,7 @@ pub(crate) fn has_number<S, E, U>(entries: &[Entry<S, E, U>], number: u64) -> bo
 pub(crate) fn excludes<S, E, U>(entries: &[Entry<S, E, U>], mode: Mode) -> bool
     ensures { result ≡ list_any (λ entry. is_held (guard_in entry) && excludes (guard_in entry).mode mode) entries.now }
 {
-    entries
-        .iter()
-        .any(|entry| !is_aside(&entry.hold) && mode_of(&entry.hold).excludes(mode))
+    entries.iter().any(|entry| !is_aside(&entry.hold) && mode_of(&entry.hold).excludes(mode))
 }
 
 /// Whether an entry of another number is held.

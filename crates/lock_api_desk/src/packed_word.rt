@@ -152,7 +152,9 @@ impl PackedWord {
 
 impl RawState for PackedWord {
     type Shared = WordToken;
+
     type Exclusive = WordToken;
+
     type Upgradable = WordToken;
 
     ghost out = { λ p. p.out };

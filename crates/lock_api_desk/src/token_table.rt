@@ -46,7 +46,9 @@ impl TokenTable {
 
 impl RawState for TokenTable {
     type Shared = TableToken;
+
     type Exclusive = TableToken;
+
     type Upgradable = TableToken;
 
     ghost out = { λ t. t.out };

@@ -14,7 +14,7 @@ fn stop_at_a_try<R: RawState + Drop>(rt: &impl Abort, alloc: Global, raw: R) -> 
     let calls = vec![in alloc;
         DeskCall::Write(1, 1),
         DeskCall::TryRead(2, 2),
-        DeskCall::Unlock(1, 1)
+        DeskCall::Unlock(1, 1),
     ]?;
     let stop = DeskRunFault {
         place: 1,

@@ -97,7 +97,10 @@ fn values_through_guards<R: RawState + Drop>(rt: &impl Abort, alloc: Global, raw
     assert_eq!(rt; doubled, Ok(10));
     assert_eq!(rt; desk.held(1), Some((Mode::Upgradable, 1)));
     assert_eq!(rt; desk.read(2, 2), Ok(()));
-    assert_eq!(rt; desk.try_with_upgraded(1, 1, |value| *value = 0), Err(DeskFault::Taken));
+    assert_eq!(rt;
+        desk.try_with_upgraded(1, 1, |value| *value = 0),
+        Err(DeskFault::Taken)
+    );
     assert_eq!(rt; desk.unlock(2, 2), Ok(()));
     assert_eq!(rt; desk.upgrade(1, 1), Ok(()));
     assert_eq!(rt; desk.write_value(1, 1, 7), Ok(10));

@@ -1,4 +1,4 @@
-use Rattle.std.proofs.Common.{◌≡◌, ℕ, ◌&&◌, Option, Some, None, find, sym, ap, ◌∙◌}
+use Rattle.std.proofs.Common.{ℕ, ◌&&◌, Option, Some, find, sym, ap, ◌∙◌}
 use Rattle.std.specs.Option.{option_map, option_copied}
 use Rattle.lock_api_desk.specs.declared.mode.Mode.{Mode}
 use Rattle.lock_api_desk.specs.Guards.{Guard, has_number, is_held, held_of}

@@ -2,7 +2,6 @@ use Rattle.std.proofs.Common.{sym, ap, ◌∙◌}
 use Rattle.std.specs.List.{list_any}
 use Rattle.lock_api_desk.specs.Guards.{has_number, is_in_use}
 use Rattle.lock_api_desk.specs.Entries.{guard_in}
-use Rattle.lock_api_desk.proofs.Seats.{stands_append}
 use Rattle.lock_api_desk.proofs.Lists.{list_any-map}
 use Rattle.lock_api_desk.proofs.desk.Desk.is_in_use.Goals as goal
 

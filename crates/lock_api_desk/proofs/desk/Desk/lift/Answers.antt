@@ -1,4 +1,4 @@
-use Rattle.std.proofs.Common.{◌≡◌, List, ap, subst, ◌∙◌, sym, if◌then◌else◌, Some, None}
+use Rattle.std.proofs.Common.{List, ap, subst, ◌∙◌, sym, if◌then◌else◌, Some, None}
 use Rattle.lock_api_desk.specs.declared.mode.Mode.TheVariants.{Exclusive, Upgradable}
 use Rattle.lock_api_desk.specs.Guards.{Guard, holds, is_held_beside}
 use Rattle.lock_api_desk.specs.Desk.{turned}

@@ -1,4 +1,4 @@
-use Rattle.std.proofs.Common.{◌≡◌, true, Option, ap, subst}
+use Rattle.std.proofs.Common.{◌≡◌, true, Option, subst}
 use Rattle.std.specs.Option.{IfSome}
 use Rattle.lock_api_desk.specs.declared.mode.Mode.TheVariants.{Exclusive, Upgradable}
 use Rattle.lock_api_desk.specs.Guards.{Guard, holds}

@@ -1,10 +1,9 @@
-use Rattle.std.proofs.Common.{◌≡◌, ℕ, List, Option, Some, None, Ok, Err, Result, position, get_or, refl, sym, ap, ◌∙◌, subst}
-use Rattle.lock_api_desk.specs.declared.fault.DeskFault.{DeskFault}
+use Rattle.std.proofs.Common.{List, position, refl, sym, ap, ◌∙◌, subst}
 use Rattle.lock_api_desk.specs.declared.fault.DeskFault.TheVariants.{NoSuchGuard, WrongMode, NotTheParty}
 use Rattle.lock_api_desk.specs.Guards.{Guard, has_number, guard_of}
 use Rattle.lock_api_desk.specs.Entries.{guard_in, guards_in, suits}
 use Rattle.lock_api_desk.specs.Places.{StandsAt}
-use Rattle.lock_api_desk.specs.Refusals.{guard_refusal, refusal_at}
+use Rattle.lock_api_desk.specs.Refusals.{guard_refusal}
 use Rattle.lock_api_desk.proofs.Lists.{match_None, match_Some}
 use Rattle.lock_api_desk.proofs.Refusing.{no_guard, other_party, wrong_mode, not_refused}
 use Rattle.lock_api_desk.proofs.Seats.{place_at, no_place, stands_at}

@@ -1,9 +1,9 @@
-use Rattle.std.proofs.Common.{◌≡◌, ℕ, List, refl, sym, ap, subst, ◌∙◌}
+use Rattle.std.proofs.Common.{List, refl, sym, ap, subst, ◌∙◌}
 use Rattle.lock_api_desk.specs.Guards.{Guard}
-use Rattle.lock_api_desk.specs.Entries.{guards_in, mode_of, aside_of}
+use Rattle.lock_api_desk.specs.Entries.{mode_of, aside_of}
 use Rattle.lock_api_desk.specs.Desk.{set_apart}
 use Rattle.std.proofs.Common.{true}
-use Rattle.lock_api_desk.specs.Places.{Stands, StandsAt}
+use Rattle.lock_api_desk.specs.Places.{StandsAt}
 use Rattle.lock_api_desk.proofs.Seats.{entry_at, taken_out, stands_limit, stands_put_aside, guards_put_aside}
 use Rattle.lock_api_desk.proofs.States.{same_state}
 use Rattle.lock_api_desk.proofs.desk.Desk.put_aside.Goals as goal

@@ -1,8 +1,8 @@
-use Rattle.std.proofs.Common.{◌≡◌, ℕ, List, sym, ap, subst, ◌∙◌}
+use Rattle.std.proofs.Common.{List, sym, ap, subst, ◌∙◌}
 use Rattle.lock_api_desk.specs.Guards.{Guard}
 use Rattle.lock_api_desk.specs.Entries.{guards_in}
 use Rattle.lock_api_desk.specs.Desk.{released}
-use Rattle.lock_api_desk.specs.Places.{Stands, StandsAt}
+use Rattle.lock_api_desk.specs.Places.{StandsAt}
 use Rattle.lock_api_desk.proofs.Seats.{entry_at, hold_out, stands_limit, stands_remove, guards_remove}
 use Rattle.lock_api_desk.proofs.States.{same_state}
 use Rattle.lock_api_desk.proofs.desk.Desk.remove.Goals as goal

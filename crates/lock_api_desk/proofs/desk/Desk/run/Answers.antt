@@ -1,18 +1,17 @@
-use Rattle.std.proofs.Common.{◌≡◌, ℕ, ◌+◌, ◌<◌, List, [], ◌∷◌, ◌++◌, take, length, slice_get, Some, MatchOption, refl, sym, ap, subst, ◌∙◌, arith, length-append}
+use Rattle.std.proofs.Common.{List, [], ◌∷◌, sym, subst, ◌∙◌, arith, length-append}
 use Rattle.std.proofs.lemmas.List.{map-id}
-use Rattle.std.proofs.lemmas.Option.{slice_get-get_or}
 use Rattle.std.proofs.lemmas.Iterator.Adapters.{YieldsList-from_vec}
 use Rattle.std.proofs.lemmas.Iterator.Consumers.{YieldsList-end, YieldsList-turn, YieldsList-so_far}
 use Rattle.lock_api_desk.specs.declared.call.DeskCall.{DeskCall}
-use Rattle.lock_api_desk.specs.Desk.{DeskState}
-use Rattle.lock_api_desk.specs.Calls.{Runs, Refuses}
+use Rattle.lock_api_desk.specs.Calls.{Runs}
 use Rattle.lock_api_desk.proofs.Making.{runs_more, stopped_at}
 use Rattle.lock_api_desk.proofs.desk.Desk.run.Goals as goal
 
 pub loop-call-preserved : goal.loop-call-preserved
-loop-call-preserved g c =
-    (omega (arith, length-append c.loop-call.yielded (c.in-Some.call ∷ [])),
-    runs_more c.loop-call.yielded c.in-Some.call c.args.self.now c.loop-call.self c.make.new.self c.loop-call.invariant.1 c.in_default.ensures)
+loop-call-preserved g c = (
+  omega (arith, length-append c.loop-call.yielded (c.in-Some.call ∷ [])),
+  runs_more c.loop-call.yielded c.in-Some.call c.args.self.now c.loop-call.self c.make.new.self c.loop-call.invariant.1 c.in_default.ensures,
+)
 
 pub overflow_add-place : goal.overflow_add-place
 overflow_add-place g c =

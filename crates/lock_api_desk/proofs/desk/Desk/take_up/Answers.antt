@@ -43,10 +43,10 @@ returns-clause-state g c =
     let P : Option Guard → Type 0 = λ o. IfSome o (λ found. mode ≡ found.mode) in
     let same : mode ≡ r.1.guard.mode = subst P r.1.found c.mode_at-mode.ensures in
     let none_at_all : take_up_refusal c.args.party c.args.guard old ≡ None =
-      ap (λ o. option_or o (admission_at old (guard_of c.args.guard old.guards))) r.0
-      ∙ ap (λ o. admission_at old o) r.1.found
-      ∙ ap (λ m. admission_refusal WouldWait m old) (sym same)
-      ∙ none in
+    ap (λ o. option_or o (admission_at old (guard_of c.args.guard old.guards))) r.0
+    ∙ ap (λ o. admission_at old o) r.1.found
+    ∙ ap (λ m. admission_refusal WouldWait m old) (sym same)
+    ∙ none in
     c.turn.ensures
     ∙ ap (λ gs. with_guards gs old) (taken_up old.limit c.args.guard old.guards c.in_ok-place.place r.1 mode c.in_ok-place.ensures.sound same)
     ∙ sym (unless-None _ old (set_apart false c.args.guard old) none_at_all)

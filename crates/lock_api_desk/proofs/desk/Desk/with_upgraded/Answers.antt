@@ -18,9 +18,9 @@ returns g c =
     let r = ok_from (upgrade_refusal WouldWait c.args.party c.args.guard old) c.in_ok-place.place c.in_ok-place.ensures.lifted in
     let up = c.in_ok-place.ensures.state ∙ unless-None (upgrade_refusal WouldWait c.args.party c.args.guard old) old (turned Exclusive c.args.guard old) r.0 in
     let after =
-      c.lower.ensures
-      ∙ ap (λ s. turned Upgradable c.args.guard (with_value value s)) c.self.view_is
-      ∙ lowered c.args.guard c.in_ok-place.place value old mid up r.1 in
+    c.lower.ensures
+    ∙ ap (λ s. turned Upgradable c.args.guard (with_value value s)) c.self.view_is
+    ∙ lowered c.args.guard c.in_ok-place.place value old mid up r.1 in
     let before : c.self.inside.value ≡ old.value = ap (λ s. s.value) c.self.view_is ∙ ap (λ s. s.value) up in
     let stored : c.lower.new.self.value ≡ value = ap (λ s. s.value) after in
     let P : g.row.T.Denot → Type 0 = λ v. FnOnceReturnsAtMut g.F.FnOnce c.args.f v c.apply-answer.result value in
