@@ -2,7 +2,7 @@
 use Rattle.std.proofs.Common.{◌≡◌, ℕ, ◌<◌, Bool, true, false, zero, suc, cond, ◌==◌, List, [], ◌∷◌, set, slice_get, inl, inr, Option, Some, None, refl, sym, ap, subst, ◌∙◌}
 use Rattle.std.specs.Option.{IfSome, option_or}
 use Rattle.std.proofs.lemmas.Option.{none-some, same_Some}
-use Rattle.std.proofs.lemmas.Bool.{and_parts, not-true, cases_Bool, cond-true, cond-false}
+use Rattle.std.proofs.lemmas.Bool.{and_parts, not-true, cases_Bool, false≢true, cond-true, cond-false}
 use Rattle.lock_api_desk.specs.declared.mode.Mode.{Mode}
 use Rattle.lock_api_desk.specs.declared.mode.Mode.TheVariants.{Shared, Exclusive, Upgradable}
 use Rattle.lock_api_desk.specs.declared.fault.DeskFault.TheVariants.{NotTheParty, WrongMode}
@@ -10,7 +10,7 @@ use Rattle.lock_api_desk.specs.Guards.{Guard, has_number, guard_of, is_held, is_
 use Rattle.lock_api_desk.specs.Out.{admits, one_less, count_in, out_of, nothing_out}
 use Rattle.lock_api_desk.specs.Entries.{less}
 use Rattle.lock_api_desk.specs.Desk.{IsSound}
-use Rattle.lock_api_desk.specs.Places.{StandsAt, IsLifted}
+use Rattle.lock_api_desk.specs.Places.{StandsAt, IsLifted, converts}
 use Rattle.lock_api_desk.specs.Refusals.{refusal_at}
 use Rattle.lock_api_desk.proofs.Lists.{count_by-none}
 use Rattle.lock_api_desk.proofs.Counting.{same_mode, same_out, out_at, out_of-set, admits_from, admits_for_exclusive, admits_for_upgradable, count_in-out_of}
@@ -45,20 +45,21 @@ module _ (limit number : ℕ) (guards : List Guard) (place : ℕ) (s : StandsAt 
         ap (λ b. less s.guard.mode b (out_of guards)) held ∙ ap (λ m. one_less m (out_of guards)) (sym same),
       )
 
+  -- an exclusive guard may be held in any mode
   pub from_held : (mode : Mode) → IsSound limit guards → holds Exclusive s.guard ≡ true → IfSome (guard_of number guards) (λ held. admits limit mode (less held.mode held.is_aside (out_of guards)) ≡ true)
   from_held mode sound held =
       let h = held_as Exclusive held in
       next_from mode (ap (λ o. admits limit mode o) h.1 ∙ admits_for_exclusive limit mode (out_of guards) sound.orderly h.0)
 
-  -- an exclusive guard may be held in any mode
-  pub from_exclusive : (mode : Mode) (party : ℕ) → IsSound limit guards → refusal_at (holds Exclusive) party (guard_of number guards) ≡ None → IfSome (guard_of number guards) (λ held. admits limit mode (less held.mode held.is_aside (out_of guards)) ≡ true)
-  from_exclusive mode party sound none = from_held mode sound (suited (holds Exclusive) party none)
-
-  -- an upgradable one shared
-  pub from_upgradable : (party : ℕ) → IsSound limit guards → refusal_at (holds Upgradable) party (guard_of number guards) ≡ None → IfSome (guard_of number guards) (λ held. admits limit Shared (less held.mode held.is_aside (out_of guards)) ≡ true)
-  from_upgradable party sound none =
+  -- a guard that converts may be held in the other mode
+  pub from_converting : (from to : Mode) (party : ℕ) → converts from to ≡ true → IsSound limit guards → refusal_at (holds from) party (guard_of number guards) ≡ None → IfSome (guard_of number guards) (λ held. admits limit to (less held.mode held.is_aside (out_of guards)) ≡ true)
+  from_converting Exclusive to party may sound none = from_held to sound (suited (holds Exclusive) party none)
+  from_converting Upgradable Shared party may sound none =
       let h = held_as Upgradable (suited (holds Upgradable) party none) in
       next_from Shared (ap (λ o. admits limit Shared o) h.1 ∙ admits_for_upgradable limit (out_of guards) sound.orderly h.0)
+  from_converting Upgradable Exclusive party may sound none = absurd (false≢true may)
+  from_converting Upgradable Upgradable party may sound none = absurd (false≢true may)
+  from_converting Shared to party may sound none = absurd (false≢true may)
 
   -- without the guard nothing is out where no other is held
   pub alone : IsSound limit guards → is_held_beside number guards ≡ false → less s.guard.mode s.guard.is_aside (out_of guards) ≡ nothing_out

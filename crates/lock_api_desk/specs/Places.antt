@@ -1,6 +1,7 @@
 -- Where a guard stands in the list, and what a desk keeps.
-use Rattle.lock_api_desk.specs.declared.mode.Mode.TheVariants.{Exclusive, Upgradable}
-use Rattle.std.specs.Prelude.{◌≡◌, ℕ, true, List, Some, Result, slice_get, MatchResult}
+use Rattle.lock_api_desk.specs.declared.mode.Mode.{Mode}
+use Rattle.lock_api_desk.specs.declared.mode.Mode.TheVariants.{Shared, Exclusive, Upgradable}
+use Rattle.std.specs.Prelude.{◌≡◌, ℕ, Bool, true, false, List, Some, Result, slice_get, MatchResult}
 use Rattle.lock_api_desk.specs.declared.fault.DeskFault.{DeskFault}
 use Rattle.lock_api_desk.specs.declared.hold.Entry.{Entry}
 use Rattle.lock_api_desk.specs.Guards.{Guard, guard_of, holds, amend, held_in}
@@ -29,3 +30,9 @@ pub record IsLifted (number : ℕ) (old new : List Guard) (place : ℕ) : Type 0
 pub record Stands {S E U : Type 0} (limit : ℕ) (out : Out) (entries : List (Entry S E U)) : Type 0 where
   pub out_is : out ≡ out_of (guards_in entries)
   pub sound : IsSound limit (guards_in entries)
+
+-- a guard of the first mode may become one of the second, whatever other guards are held
+abbrev pub converts : Mode → Mode → Bool
+converts Exclusive to = true
+converts Upgradable Shared = true
+converts from to = false

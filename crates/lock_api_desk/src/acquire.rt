@@ -51,7 +51,7 @@ impl<R: RawState, T, A: Allocator> Desk<R, T, A> {
         ensures acquires { Acquires WouldWait Exclusive party guard self.old self.new result }
         ensures room { KeepsRoom self.old self.new }
     {
-        self.acquire(DeskFault::WouldWait, Mode::Exclusive, party, guard)
+        self.lock(party, guard)
     }
 
     /// As `write`, but `Taken`.
@@ -59,7 +59,7 @@ impl<R: RawState, T, A: Allocator> Desk<R, T, A> {
         ensures acquires { Acquires Taken Exclusive party guard self.old self.new result }
         ensures room { KeepsRoom self.old self.new }
     {
-        self.acquire(DeskFault::Taken, Mode::Exclusive, party, guard)
+        self.try_lock(party, guard)
     }
 
     /// Gives the party an upgradable guard. `WouldWait` beside an exclusive or an upgradable one.

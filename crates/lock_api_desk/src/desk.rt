@@ -67,7 +67,7 @@ impl<R: RawState, T, A: Allocator> Desk<R, T, A> {
         }
         match self.entries.reserve(guards) {
             Ok(()) => Ok(()),
-            Err(_) => Err(DeskFault::NoMemory),
+            Err(refused) => Err(DeskFault::from(lock_api_raw::NoMemory::from(refused))),
         }
     }
 

@@ -12,6 +12,7 @@ mod mode;
 mod packed_word;
 mod raw;
 mod run;
+mod seat;
 mod token_table;
 mod value;
 

@@ -122,7 +122,7 @@ impl PackedWord {
         requires { HasUpgradable word }
         ensures { result ≡ word - 20 }
     {
-        word - UPGRADABLE - READER
+        word - (UPGRADABLE + READER)
     }
 
     /// The word with a shared reader in place of the exclusive hold.
@@ -130,7 +130,7 @@ impl PackedWord {
         requires { HasExclusive word }
         ensures { result ≡ word + 8 }
     {
-        word - EXCLUSIVE + READER
+        word + (READER - EXCLUSIVE)
     }
 
     /// The word with the upgradable hold in place of the exclusive one.
@@ -138,7 +138,7 @@ impl PackedWord {
         requires { HasExclusive word }
         ensures { result ≡ word + 12 }
     {
-        word - EXCLUSIVE + UPGRADABLE + READER
+        word + (UPGRADABLE + READER - EXCLUSIVE)
     }
 
     /// The word with a shared reader in place of the upgradable hold.
