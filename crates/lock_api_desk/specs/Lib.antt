@@ -1,0 +1,9 @@
+pub mod Guards
+pub mod Out
+pub mod Faults
+pub mod Desk
+pub mod Refusals
+pub mod Calls
+pub mod Words
+pub mod Entries
+pub mod Places

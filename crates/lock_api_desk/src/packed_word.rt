@@ -1,0 +1,226 @@
+//! A raw state in one word.
+ghost use Rattle.std.specs.Prelude.{◌≡◌, ◌+◌, ◌-◌, ◌^◌, ◌≤◌, ◌<◌, min, max};
+ghost use Rattle.lock_api_desk.specs.Out.{nothing_out};
+ghost use Rattle.lock_api_desk.specs.Words.{word_of, word_with_shared, word_with_exclusive, word_with_upgradable, word_with_upgrade, HasShared, HasExclusive, HasUpgradable};
+
+use crate::raw::RawState;
+use std::marker::Model;
+
+/// What an exclusive hold adds to the word.
+const EXCLUSIVE: u64 = 8;
+
+/// What an upgradable hold adds to the word beside its reader.
+const UPGRADABLE: u64 = 4;
+
+/// What a reader adds to the word.
+const READER: u64 = 16;
+
+/// As many readers as a word can count.
+const MAX_READERS: u64 = 0x0fff_ffff_ffff_ffff;
+
+/// The token of a hold of a [`PackedWord`].
+#[derive(Drop)]
+pub struct WordToken {
+    _issued: (),
+}
+
+/// A raw state in one 64-bit word: 8 for exclusive, 4 for upgradable, 16 for each reader, the upgradable one counted.
+#[derive(Drop)]
+pub struct PackedWord {
+    limit: u64,
+    word: u64,
+}
+
+impl Model for PackedWord {
+    ghost use Rattle.lock_api_desk.specs.Out.{Counts};
+    ghost use Rattle.lock_api_desk.specs.Words.{out_in, IsPacked};
+
+    ghost Value = { Counts };
+
+    ghost view = { λ p. record { limit = p.limit; out = out_in p.word } };
+
+    ghost invariant = { λ p. IsPacked p.limit p.word };
+}
+
+impl PackedWord {
+    /// The word is 0. The limit is the lesser of `readers`, where 0 counts as 1, and 2^60 - 1. It takes no memory.
+    pub fn new(readers: u64) -> PackedWord
+        ensures { result ≡ record { limit = min (max readers 1) (2 ^ 60 - 1); out = nothing_out } }
+    {
+        PackedWord {
+            limit: readers.max(1).min(MAX_READERS),
+            word: 0,
+        }
+    }
+
+    /// The word as it stands.
+    pub fn word(&self) -> u64
+        ensures { result ≡ word_of self.now.out }
+    {
+        self.word
+    }
+
+    /// The word with one more reader: where bit 8 is clear and the count is below the limit, and a word can count so many.
+    pub fn with_shared(word: u64, limit: u64) -> Option<u64>
+        ensures { result ≡ word_with_shared limit word }
+    {
+        if word / EXCLUSIVE % 2 == 0 && word / READER < limit.min(MAX_READERS) {
+            Some(word + READER)
+        } else {
+            None
+        }
+    }
+
+    /// The word with the exclusive hold: where the word is 0.
+    pub fn with_exclusive(word: u64) -> Option<u64>
+        ensures { result ≡ word_with_exclusive word }
+    {
+        if word == 0 { Some(EXCLUSIVE) } else { None }
+    }
+
+    /// The word with the upgradable hold and its reader: where bits 8 and 4 are clear and the count is below the limit,
+    /// and a word can count so many.
+    pub fn with_upgradable(word: u64, limit: u64) -> Option<u64>
+        ensures { result ≡ word_with_upgradable limit word }
+    {
+        if word / UPGRADABLE % 4 == 0 && word / READER < limit.min(MAX_READERS) {
+            Some(word + UPGRADABLE + READER)
+        } else {
+            None
+        }
+    }
+
+    /// The word with the exclusive hold in place of the upgradable one: where that is all there is.
+    pub fn with_upgrade(word: u64) -> Option<u64>
+        ensures { result ≡ word_with_upgrade word }
+    {
+        if word == UPGRADABLE + READER {
+            Some(EXCLUSIVE)
+        } else {
+            None
+        }
+    }
+
+    /// The word without one shared reader.
+    pub fn without_shared(word: u64) -> u64
+        requires { HasShared word }
+        ensures { result ≡ word - 16 }
+    {
+        word - READER
+    }
+
+    /// The word without the exclusive hold.
+    pub fn without_exclusive(word: u64) -> u64
+        requires { HasExclusive word }
+        ensures { result ≡ word - 8 }
+    {
+        word - EXCLUSIVE
+    }
+
+    /// The word without the upgradable hold and its reader.
+    pub fn without_upgradable(word: u64) -> u64
+        requires { HasUpgradable word }
+        ensures { result ≡ word - 20 }
+    {
+        word - (UPGRADABLE + READER)
+    }
+
+    /// The word with a shared reader in place of the exclusive hold.
+    pub fn to_shared(word: u64) -> u64
+        requires { HasExclusive word }
+        ensures { result ≡ word + 8 }
+    {
+        word + (READER - EXCLUSIVE)
+    }
+
+    /// The word with the upgradable hold in place of the exclusive one.
+    pub fn to_upgradable(word: u64) -> u64
+        requires { HasExclusive word }
+        ensures { result ≡ word + 12 }
+    {
+        word + (UPGRADABLE + READER - EXCLUSIVE)
+    }
+
+    /// The word with a shared reader in place of the upgradable hold.
+    pub fn upgradable_to_shared(word: u64) -> u64
+        requires { HasUpgradable word }
+        ensures { result ≡ word - 4 }
+    {
+        word - UPGRADABLE
+    }
+}
+
+impl RawState for PackedWord {
+    type Shared = WordToken;
+
+    type Exclusive = WordToken;
+
+    type Upgradable = WordToken;
+
+    ghost out = { λ p. p.out };
+
+    ghost limit_of = { λ p. p.limit };
+
+    fn limit(&self) -> u64 {
+        self.limit
+    }
+
+    fn readers_full(&self) -> bool {
+        self.limit <= self.word / READER
+    }
+
+    fn try_shared(&mut self) -> Option<WordToken> {
+        let word = PackedWord::with_shared(self.word, self.limit)?;
+        self.word = word;
+        Some(WordToken { _issued: () })
+    }
+
+    fn try_exclusive(&mut self) -> Option<WordToken> {
+        let word = PackedWord::with_exclusive(self.word)?;
+        self.word = word;
+        Some(WordToken { _issued: () })
+    }
+
+    fn try_upgradable(&mut self) -> Option<WordToken> {
+        let word = PackedWord::with_upgradable(self.word, self.limit)?;
+        self.word = word;
+        Some(WordToken { _issued: () })
+    }
+
+    fn try_upgrade(&mut self, token: WordToken) -> Result<WordToken, WordToken> {
+        match PackedWord::with_upgrade(self.word) {
+            Some(word) => {
+                self.word = word;
+                Ok(token)
+            }
+            None => Err(token),
+        }
+    }
+
+    fn downgrade(&mut self, token: WordToken) -> WordToken {
+        self.word = PackedWord::to_shared(self.word);
+        token
+    }
+
+    fn downgrade_to_upgradable(&mut self, token: WordToken) -> WordToken {
+        self.word = PackedWord::to_upgradable(self.word);
+        token
+    }
+
+    fn downgrade_upgradable(&mut self, token: WordToken) -> WordToken {
+        self.word = PackedWord::upgradable_to_shared(self.word);
+        token
+    }
+
+    fn release_shared(&mut self, _token: WordToken) {
+        self.word = PackedWord::without_shared(self.word);
+    }
+
+    fn release_exclusive(&mut self, _token: WordToken) {
+        self.word = PackedWord::without_exclusive(self.word);
+    }
+
+    fn release_upgradable(&mut self, _token: WordToken) {
+        self.word = PackedWord::without_upgradable(self.word);
+    }
+}
