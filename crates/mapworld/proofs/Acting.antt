@@ -1,9 +1,8 @@
 -- The deed of a keyed call: it changes one pair of a shard that is held alone, behind the last block of that shard.
-use Rattle.std.proofs.Common.{◌≡◌, ℕ, ◌+◌, ◌-◌, ◌≤◌, inl, inr, ⊎_elim, Bool, true, false, if◌then◌else◌, List, length, take, drop, Option, Some, None, slice_get, slice_set, refl, ap, sym, ◌∙◌, subst, arith}
+use Rattle.std.proofs.Common.{◌≡◌, ℕ, ◌+◌, ◌-◌, ◌≤◌, inl, inr, Bool, true, false, if◌then◌else◌, List, length, take, drop, Option, Some, None, slice_get, slice_set, refl, ap, sym, ◌∙◌, subst, arith}
 use Rattle.std.specs.declared.vec.Vec.{Vec}
 use Rattle.std.proofs.Math.ListN.{length-set}
 use Rattle.std.proofs.lemmas.Option.{same_Some}
-use Rattle.std.proofs.lemmas.Bool.{cases_Bool}
 use Rattle.mapworld_calls.specs.declared.ask.Ask.{Ask}
 use Rattle.mapworld_calls.specs.declared.ask.Ask.TheVariants as ask
 use Rattle.mapworld_calls.specs.declared.ask.Keyed.{Keyed}
@@ -32,7 +31,7 @@ use Rattle.mapworld.proofs.Others.{IsInCall-push}
 use Rattle.mapworld.proofs.Timing.{placed-grown}
 use Rattle.mapworld.proofs.Holding.{holds-same}
 use Rattle.mapworld.proofs.Tables.{pair_of-is, AreDistinct-push, pair_of-push, AreDistinct-set, pair_of-set, set-keys, AreDistinct-remove, pair_of-remove}
-use Rattle.mapworld.proofs.Building.{in_call-moved, started-stays, sound-by, replies-kept, tables-set, claim-at, reached-one, told-one, ready-outside}
+use Rattle.mapworld.proofs.Building.{in_call-moved, started-stays, sound-by, replies-kept, tables-changed, claim-at, reached-one, told-one, ready-outside}
 use Rattle.mapworld.proofs.Admitting.{kept-alone, keyed-apart}
 use Rattle.mapworld.proofs.Growing.{own-grown}
 
@@ -132,15 +131,7 @@ module _ {K V S D T A : Type 0} (x : Setup K V D T) (laws : Laws x) (w : State K
       → ((j : ℕ) (pair : K × V) → slice_get changed.items j ≡ Some pair → x.route pair.0 ≡ p.shard)
       → TablesAgree x (slice_set w.blocks d.index c) (slice_set w.tables p.shard changed)
   agrees changed pairs distinct routed =
-      tables-set x w.blocks (slice_set w.blocks d.index c) w.tables w.tables sound.tables p.shard table changed held routed distinct
-      (λ q here. ⊎_elim
-      (λ h. pairs q ∙ rw h (sym (contents-now q h)))
-      (λ h. pairs q ∙ rw h (sound.tables.contents_are q table (ap (λ n. slice_get w.tables n) here ∙ held) ∙ sym (contents-still q h)))
-      (cases_Bool (x.eq key q)))
-      (λ q ne. ⊎_elim
-      (λ h. absurd (ne (sym (laws.routes key q h) ∙ sym d.shard)))
-      (λ h. contents-still q h)
-      (cases_Bool (x.eq key q)))
+      tables-changed x laws w.blocks (slice_set w.blocks d.index c) w.tables sound.tables key (keyed_leaves k o) p.shard d.shard contents-now contents-still table changed held pairs distinct routed
 
   done-kept : (st' : ℕ → Option ℕ) (a : Ask K V D) → ask_at x b.thread b.call ≡ Some a → IsDoneWithin x (started_of w) w.replies b a → IsDoneWithin x st' w.replies c a
   done-kept st' (ask.Keyed g) e old = record { once = let m = more-is in omega arith; whole = λ z. more-is }
@@ -193,10 +184,10 @@ module _ {K V S D T A : Type 0} (x : Setup K V D T) (laws : Laws x) (w : State K
       (replies-kept x w.blocks (slice_set w.blocks d.index c) w.replies (λ j r hr. keeps-grown x laws w.blocks d.index b c grows r.thread r.call) sound.replies)
 
 module _ {K V S D T A : Type 0} (x : Setup K V D T) (laws : Laws x) (w : State K V S D T A) (s : Step) (w' : State K V S D T A) (sound : Sound x w) where
-  eq-found : (table : Vec (K × V) A) (key : K) (pair : K × V) → pair_of x.eq table.items key ≡ Some pair → (q : K) → x.eq pair.0 q ≡ x.eq key q
+  pub eq-found : (table : Vec (K × V) A) (key : K) (pair : K × V) → pair_of x.eq table.items key ≡ Some pair → (q : K) → x.eq pair.0 q ≡ x.eq key q
   eq-found table key pair is q = laws.equivalence.congr pair.0 key q (pair_of-is x.eq laws.equivalence table.items key pair is).2
 
-  routed-at : (p : Place K V D T A) (table : Vec (K × V) A) → slice_get w.tables p.shard ≡ Some table → (j : ℕ) (pair : K × V) → slice_get table.items j ≡ Some pair → x.route pair.0 ≡ p.shard
+  pub routed-at : (p : Place K V D T A) (table : Vec (K × V) A) → slice_get w.tables p.shard ≡ Some table → (j : ℕ) (pair : K × V) → slice_get table.items j ≡ Some pair → x.route pair.0 ≡ p.shard
   routed-at p table held j pair h = sound.tables.routed p.shard j table pair held h
 
   pub sound-appends : Appends x w s w' → Sound x w'

@@ -11,11 +11,14 @@ use Rattle.mapworld_calls.specs.declared.reply.Reply.{Reply}
 use Rattle.mapworld_calls.specs.Setup.{Setup}
 use Rattle.mapworld_calls.specs.Placed.{answered_of, IsSessionDone, IsDoneWithin, StaysListed, OnlyAdds, WellPlaced}
 use Rattle.mapworld_calls.proofs.Lists.{slice_get-set_same, slice_get-set_other, slice_get-push_below}
+use Rattle.mapworld_calls.specs.declared.ask.Held.TheVariants as held
+use Rattle.mapworld.specs.declared.holds.Mode.{Mode}
+use Rattle.mapworld.specs.declared.holds.Mode.TheVariants.{Shared, Exclusive}
 use Rattle.mapworld.specs.declared.step.Step.{Step}
 use Rattle.mapworld.specs.declared.place.Place.{Place}
 use Rattle.mapworld.specs.State.{State, threads_of, started_of, next_step}
-use Rattle.mapworld.specs.Moves.{start_counts, stepped, ListsBlock, CountsCall, EndsAt, EndsBlock}
-use Rattle.mapworld.specs.Steps.{IsStep, start, admit, find, find_grows, find_refused, deed_appends, deed_replaces, deed_takes, deed_reads, release, answers}
+use Rattle.mapworld.specs.Moves.{guard_of, start_counts, stepped, ListsBlock, CountsCall, EndsAt, EndsBlock}
+use Rattle.mapworld.specs.Steps.{IsStep, start, admit, find, find_grows, find_refused, deed_appends, deed_replaces, deed_takes, deed_reads, deed_writes, release, answers}
 use Rattle.mapworld.specs.Making.{StaysFixed}
 use Rattle.mapworld.specs.Sound.{Sound}
 use Rattle.mapworld.proofs.Building.{map-push, reply-below}
@@ -114,10 +117,13 @@ module _ {K V S D T A : Type 0} (x : Setup K V D T) (w : State K V S D T A) (sou
       (cases_Bool (h.0.call == p.next))) h.4
 
 -- the block that a start or a release counts in is the thread's
-starts-own : {K V D : Type 0} (a : Ask K V D) (slot block : Option ℕ) (i : ℕ) → start_counts a slot block ≡ Some i → block ≡ Some i
-starts-own (ask.Keyed k) slot block i h = absurd (none-some i h)
-starts-own (ask.Begin k) slot block i h = absurd (none-some i h)
-starts-own (ask.Held k) (Some n) block i h = absurd (none-some i h)
+pub starts-own : {K V D : Type 0} (a : Ask K V D) (guard : Option Mode) (block : Option ℕ) (i : ℕ) → start_counts a guard block ≡ Some i → block ≡ Some i
+starts-own (ask.Keyed k) guard block i h = absurd (none-some i h)
+starts-own (ask.Begin k) guard block i h = absurd (none-some i h)
+starts-own (ask.Held (held.Read d)) (Some m) block i h = absurd (none-some i h)
+starts-own (ask.Held (held.Write d)) (Some Shared) block i h = h
+starts-own (ask.Held (held.Write d)) (Some Exclusive) block i h = absurd (none-some i h)
+starts-own (ask.Held held.Drop) (Some m) block i h = absurd (none-some i h)
 starts-own (ask.Held k) None block i h = h
 
 if-own : (b : Bool) (block : Option ℕ) (i : ℕ) → (if b then block else None) ≡ Some i → block ≡ Some i
@@ -146,7 +152,7 @@ module _ {K V S D T A : Type 0} (x : Setup K V D T) (w : State K V S D T A) (s :
 
   pub step-adds : IsStep x w s w' → Step-adds w w' s
   step-adds (start h) = fixed-by _ w.tables w.holds h.blocks w.replies refl h.after
-      (counted-stays x w sound s.thread h.place h.stands (start_counts h.ask h.place.slot h.place.block) h.blocks (λ i e. starts-own h.ask h.place.slot h.place.block i e) h.counted) nothing
+      (counted-stays x w sound s.thread h.place h.stands (start_counts h.ask (guard_of h.place) h.place.block) h.blocks (λ i e. starts-own h.ask (guard_of h.place) h.place.block i e) h.counted) nothing
   step-adds (admit h) = fixed-by _ w.tables _ w.blocks w.replies refl h.after (blocks-same w.blocks w.blocks refl) nothing
   step-adds (find h) = fixed-by _ w.tables w.holds h.blocks w.replies refl h.after (listed-stays x w sound s.thread h.place h.stands h.done h.blocks h.listed) nothing
   step-adds (find_grows h) = fixed-by _ (slice_set w.tables h.place.shard h.grown) w.holds h.blocks w.replies (length-set w.tables h.place.shard h.grown) h.after
@@ -159,6 +165,8 @@ module _ {K V S D T A : Type 0} (x : Setup K V D T) (w : State K V S D T A) (s :
   step-adds (deed_takes h) = fixed-by _ (slice_set w.tables h.place.shard h.changed) w.holds h.blocks w.replies (length-set w.tables h.place.shard h.changed) h.after
       (counted-stays x w sound s.thread h.place h.stands h.place.block h.blocks (λ i e. e) h.counted) nothing
   step-adds (deed_reads h) = fixed-by _ w.tables w.holds h.blocks w.replies refl h.after
+      (counted-stays x w sound s.thread h.place h.stands h.place.block h.blocks (λ i e. e) h.counted) nothing
+  step-adds (deed_writes h) = fixed-by _ (slice_set w.tables h.place.shard h.changed) w.holds h.blocks w.replies (length-set w.tables h.place.shard h.changed) h.after
       (counted-stays x w sound s.thread h.place h.stands h.place.block h.blocks (λ i e. e) h.counted) nothing
   step-adds (release h) = fixed-by _ w.tables _ h.blocks w.replies refl h.after
       (counted-stays x w sound s.thread h.place h.stands (if is_some h.place.slot then h.place.block else None) h.blocks (λ i e. if-own (is_some h.place.slot) h.place.block i e) h.counted) nothing

@@ -27,7 +27,7 @@ use Rattle.mapworld.specs.Sound.{may_own, block_after, GuardIs, IsInSession, Own
 use Rattle.mapworld.proofs.Effects.{Effect, effect-same, effect-grow, Anyhow}
 use Rattle.mapworld.proofs.Timing.{SameCall, placed-answer, answered_of-own, answered_of-other}
 use Rattle.mapworld.proofs.Holding.{holds-same}
-use Rattle.mapworld.proofs.Building.{guard-moved, tables-same, started-was, started-other, sound-by, replies-kept, session-below, claim-at, taken-at, within-at}
+use Rattle.mapworld.proofs.Building.{guard-moved, settled-moved, alone-moved, tables-same, started-was, started-other, sound-by, replies-kept, session-below, claim-at, taken-at, within-at}
 use Rattle.mapworld.proofs.Listing.{length-map}
 
 -- how the blocks look behind an answer: one of them may show its end, and nothing else is another
@@ -139,6 +139,7 @@ module _ {K V D T A : Type 0} (x : Setup K V D T) (bs bs' : List (Block K)) (tab
         done = k.3 ∙ h.done;
         guard = subst (λ (f : Option (K × V)). GuardIs tables p' p'.slot (reached x t c (n - c) f)) (sym k.4)
             (subst (λ (z : Option ℕ). GuardIs tables p' z (reached x t c (n - c) (found x bs i h.block))) (sym slot) (guard-moved x p p' tables p.slot (reached x t c (n - c) (found x bs i h.block)) hold shard h.guard));
+        settled = settled-moved x p p' bs bs' i h.block k.0 (rw (k.2.thread, k.2.call) refl) (alone-moved x p p' hold shard) shard (e.effect.last i h.block h.listed tt) h.settled;
       }
   ended-ready n (Some c) None h = (slot ∙ h.0, e.none t c h.1)
   ended-ready n None block h = (slot ∙ h.0, h.1)

@@ -2,29 +2,29 @@
 use Rattle.std.proofs.Common.{◌≡◌, ◌≢◌, ℕ, zero, suc, ◌+◌, ◌-◌, ◌<◌, ◌≤◌, inl, inr, ⊎_elim, Bool, true, false, if◌then◌else◌, ◌==◌, List, [], ◌∷◌, ◌++◌, length, drop, map, Option, Some, None, slice_get, slice_set, refl, ap, sym, ◌∙◌, subst, arith, add-one, add-zero}
 use Rattle.std.specs.Option.{option_and_then}
 use Rattle.std.specs.declared.vec.Vec.{Vec}
-use Rattle.std.proofs.lemmas.Bool.{cases_eq, eq-eqb}
+use Rattle.std.proofs.lemmas.Bool.{cases_Bool, cases_eq, eq-eqb}
 use Rattle.mapworld_calls.specs.declared.ask.Ask.{Ask}
 use Rattle.mapworld_calls.specs.declared.block.Block.{Block}
 use Rattle.mapworld_calls.specs.declared.reply.Reply.{Reply}
 use Rattle.mapworld_calls.specs.Calls.{At, free, told, after}
 use Rattle.mapworld_calls.specs.Programs.{session_behind, opening_before}
-use Rattle.mapworld_calls.specs.Setup.{Setup, ask_at, session_of}
+use Rattle.mapworld_calls.specs.Setup.{Setup, Laws, ask_at, session_of}
 use Rattle.mapworld_calls.specs.Pairs.{pair_of, AreDistinct}
-use Rattle.mapworld_calls.specs.Replay.{reached, contents, found, told_by}
+use Rattle.mapworld_calls.specs.Replay.{reached, block_key, contents, found, told_by, IsLastOnShard}
 use Rattle.mapworld_calls.specs.Agrees.{IsAnswered}
 use Rattle.mapworld_calls.specs.Placed.{answered_of, WellPlaced}
 use Rattle.mapworld_calls.proofs.Lists.{slice_get-set_same, slice_get-set_other, slice_get-set_cases}
 use Rattle.mapworld_calls.proofs.Programs.{opening_below}
 use Rattle.mapworld_calls.proofs.Kept.{Keeps, answered-kept}
 use Rattle.mapworld.specs.declared.holds.Mode.{Mode}
-use Rattle.mapworld.specs.declared.holds.Mode.TheVariants.{Shared}
-use Rattle.mapworld.specs.declared.holds.Held.{Held}
+use Rattle.mapworld.specs.declared.holds.Mode.TheVariants.{Exclusive}
+use Rattle.mapworld.specs.Holds.{Desks}
 use Rattle.mapworld.specs.declared.step.Step.{Step}
 use Rattle.mapworld.specs.declared.place.Phase.{Phase}
 use Rattle.mapworld.specs.declared.place.Place.{Place}
 use Rattle.mapworld.specs.State.{State, threads_of, started_of}
 use Rattle.mapworld.specs.Moves.{stepped}
-use Rattle.mapworld.specs.Sound.{is_resting, block_after, HoldsShard, GuardIs, IsInSessionOf, IsInSession, IsReady, IsInCall, IsBeforeDeed, Claim, Stands, TablesAgree, HoldsMatch, Sound}
+use Rattle.mapworld.specs.Sound.{is_resting, block_after, HoldsShard, GuardIs, IsOnShard, IsSettled, IsInSessionOf, IsInSession, IsReady, IsInCall, Claim, Stands, TablesAgree, HoldsMatch, Sound}
 use Rattle.mapworld.proofs.Effects.{Effect}
 use Rattle.mapworld.proofs.Others.{stands-other}
 use Rattle.mapworld.proofs.Timing.{count_by-before}
@@ -82,6 +82,10 @@ module _ {K V D T : Type 0} (x : Setup K V D T) (t c : ℕ) (a : Ask K V D) wher
   pub told-next : (b : Block K) (n : ℕ) (o : Option (K × V)) → b.thread ≡ t → b.call ≡ c → ask_at x t (c + n) ≡ Some a → told_by x b n o ≡ Some (told x.deeds a (reached x t c n o))
   told-next b n o thread call at = rw (thread, call, at)
 
+-- a block of the same key is the last on its shard as well
+last-of : {K V D T : Type 0} (x : Setup K V D T) (bs : List (Block K)) (i : ℕ) (b c : Block K) → block_key x c ≡ block_key x b → IsLastOnShard x bs i b → IsLastOnShard x bs i c
+last-of x bs i b c key h j d lt at m n hm hn = h j d lt at m n (sym key ∙ hm) hn
+
 -- the facts of a place do not depend on what a step leaves alone
 module _ {K V D T A : Type 0} (x : Setup K V D T) (p p' : Place K V D T A) where
   pub in_call-moved : (threads : List ℕ) (t : ℕ) (a : Ask K V D) → p'.next ≡ p.next → p'.closes ≡ p.closes → p'.started ≡ p.started → IsInCall x threads t p a → IsInCall x threads t p' a
@@ -93,7 +97,17 @@ module _ {K V D T A : Type 0} (x : Setup K V D T) (p p' : Place K V D T A) where
 
   pub guard-moved : (tables : List (Vec (K × V) A)) (slot : Option ℕ) (at : At K V) → p'.hold ≡ p.hold → p'.shard ≡ p.shard → GuardIs tables p slot at → GuardIs tables p' slot at
   guard-moved tables None at hold shard h = h
-  guard-moved tables (Some i) at hold shard h = (h.0, h.1, holds-moved Shared hold shard h.2, rw shard h.3)
+  guard-moved tables (Some i) at hold shard h = (h.0, h.1, h.2, holds-moved h.1 hold shard h.3, rw shard h.4)
+
+  pub settled-moved : (bs bs' : List (Block K)) (i : ℕ) (b c : Block K) → block_key x c ≡ block_key x b → (HoldsShard p' Exclusive → HoldsShard p Exclusive) → p'.shard ≡ p.shard
+      → (IsLastOnShard x bs i b → IsLastOnShard x bs' i b) → IsSettled x bs p i b → IsSettled x bs' p' i c
+  settled-moved bs bs' i b c key alone shard stays h = record {
+    here = λ k is. shard ∙ h.here k (sym key ∙ is);
+    last = λ holds. last-of x bs' i b c key (stays (h.last (alone holds)));
+  }
+
+  pub alone-moved : p'.hold ≡ p.hold → p'.shard ≡ p.shard → HoldsShard p' Exclusive → HoldsShard p Exclusive
+  alone-moved hold shard h = record { hold = h.hold; has = sym hold ∙ h.has; shard = h.shard ∙ shard; mode_is = h.mode_is }
 
   session-moved : (bs : List (Block K)) (tables : List (Vec (K × V) A)) (t n c : ℕ) (block : Option ℕ) → p'.hold ≡ p.hold → p'.shard ≡ p.shard → p'.slot ≡ p.slot
       → IsInSessionOf x bs tables t p n c block → IsInSessionOf x bs tables t p' n c block
@@ -105,6 +119,7 @@ module _ {K V D T A : Type 0} (x : Setup K V D T) (p p' : Place K V D T A) where
     below = h.below;
     done = h.done;
     guard = subst (λ (o : Option ℕ). GuardIs tables p' o (reached x t c (n - c) (found x bs i h.block))) (sym slot) (guard-moved tables p.slot (reached x t c (n - c) (found x bs i h.block)) hold shard h.guard);
+    settled = settled-moved bs bs i h.block h.block refl (alone-moved hold shard) shard (λ z. z) h.settled;
   }
   session-moved bs tables t n c None hold shard slot h = (slot ∙ h.0, h.1)
 
@@ -158,6 +173,26 @@ pub tables-rewritten : {K V D T A : Type 0} (x : Setup K V D T) (bs bs' : List (
     → TablesAgree x bs tables → ((q : K) → contents x bs' q ≡ contents x bs q) → TablesAgree x bs' (slice_set tables i changed)
 tables-rewritten x bs bs' tables i table changed at same agree contents = tables-rewritten' x bs bs' tables tables agree i table changed at same contents
 
+-- a shard's changed list agrees with the replay where it has what a call leaves of its key, and what it had of all others
+pub tables-changed : {K V D T A : Type 0} (x : Setup K V D T) (laws : Laws x) (bs bs' : List (Block K)) (tables : List (Vec (K × V) A)) → TablesAgree x bs tables
+    → (key : K) (leaves : Option (K × V)) (i : ℕ) → i ≡ x.route key
+    → ((q : K) → x.eq key q ≡ true → contents x bs' q ≡ leaves) → ((q : K) → x.eq key q ≡ false → contents x bs' q ≡ contents x bs q)
+    → (table changed : Vec (K × V) A) → slice_get tables i ≡ Some table
+    → ((q : K) → pair_of x.eq changed.items q ≡ (if x.eq key q then leaves else pair_of x.eq table.items q))
+    → AreDistinct x.eq changed.items
+    → ((j : ℕ) (pair : K × V) → slice_get changed.items j ≡ Some pair → x.route pair.0 ≡ i)
+    → TablesAgree x bs' (slice_set tables i changed)
+tables-changed x laws bs bs' tables agree key leaves i here now still table changed held pairs distinct routed =
+    tables-set x bs bs' tables tables agree i table changed held routed distinct
+    (λ q at. ⊎_elim
+    (λ h. pairs q ∙ rw h (sym (now q h)))
+    (λ h. pairs q ∙ rw h (agree.contents_are q table (ap (λ n. slice_get tables n) at ∙ held) ∙ sym (still q h)))
+    (cases_Bool (x.eq key q)))
+    (λ q ne. ⊎_elim
+    (λ h. absurd (ne (sym (laws.routes key q h) ∙ sym here)))
+    (λ h. still q h)
+    (cases_Bool (x.eq key q)))
+
 -- outside of every session
 pub ready-outside : {K V D T A : Type 0} (x : Setup K V D T) (bs : List (Block K)) (tables : List (Vec (K × V) A)) (t : ℕ) (p : Place K V D T A) (n : ℕ) (block : Option ℕ)
     → session_of x t n ≡ None → p.slot ≡ None → block ≡ None → IsReady x bs tables t p n block
@@ -206,13 +241,13 @@ module _ {K V S D T A : Type 0} (x : Setup K V D T) (w : State K V S D T A) (s :
       (cases_eq t s.thread)
 
 module _ {K V S D T A : Type 0} (x : Setup K V D T) (w : State K V S D T A) (s : Step) (p p' : Place K V D T A) (at : slice_get w.places s.thread ≡ Some p) (sound : Sound x w)
-    (bs' : List (Block K)) (tables' : List (Vec (K × V) A)) (holds' : List Held) (replies' : List (Reply K V T)) (F : Block K → Type 0) where
+    (bs' : List (Block K)) (tables' : List (Vec (K × V) A)) (holds' : Desks) (replies' : List (Reply K V T)) (F : Block K → Type 0) where
   -- what a step leaves of other threads' facts
   pub record Leaves : Type 0 where
     pub effect : Effect x w.blocks bs' s.thread F
     pub count : (u : ℕ) → u ≢ s.thread → answered_of replies' u ≡ answered_of w.replies u
     pub kept : (u : ℕ) (q : Place K V D T A) (m : Mode) → u ≢ s.thread → slice_get w.places u ≡ Some q → HoldsShard q m → slice_get tables' q.shard ≡ slice_get w.tables q.shard
-    pub foreign : (u : ℕ) (q : Place K V D T A) (k : K) (o : Option (K × V)) → u ≢ s.thread → slice_get w.places u ≡ Some q → (d : IsBeforeDeed x w.blocks u q k o) → F d.block
+    pub foreign : (u : ℕ) (q : Place K V D T A) (b : Block K) → u ≢ s.thread → slice_get w.places u ≡ Some q → HoldsShard q Exclusive → IsOnShard x q b → F b
     pub shards : length tables' ≡ length w.tables
 
   pub sound-by : Leaves
@@ -230,7 +265,7 @@ module _ {K V S D T A : Type 0} (x : Setup K V D T) (w : State K V S D T A) (s :
         stands = λ u q hq. rw threads (elim (slice_get-set_cases w.places s.thread u p q p' at hq) [
           | inl own ↦ rw (own.0, own.1) mine
           | inr other ↦ stands-other x (threads_of w) s.thread w.blocks bs' w.replies replies' w.tables tables' s.thread u q F leaves.effect other.0
-              (leaves.count u other.0) (λ m h. leaves.kept u q m other.0 other.1 h) (λ k o d. leaves.foreign u q k o other.0 other.1 d)
+              (leaves.count u other.0) (λ m h. leaves.kept u q m other.0 other.1 h) (λ b alone here. leaves.foreign u q b other.0 other.1 alone here)
               (λ c b e. let lt = session-below x u c b e in omega arith) (sound.stands u q other.1)
         ]);
         tables = agree;

@@ -7,10 +7,12 @@ use Rattle.std.proofs.lemmas.Bool.{false≢true, ltb-true, ltb-false}
 use Rattle.mapworld_calls.specs.declared.ask.Ask.{Ask}
 use Rattle.mapworld_calls.specs.declared.ask.Ask.TheVariants as ask
 use Rattle.mapworld_calls.specs.declared.ask.Keyed.TheVariants as keyed
+use Rattle.mapworld_calls.specs.declared.ask.Begin.{Begin}
 use Rattle.mapworld_calls.specs.declared.ask.Begin.TheVariants as begin
 use Rattle.mapworld_calls.specs.declared.block.Block.{Block}
+use Rattle.mapworld_calls.specs.declared.reply.Answer.{Answer}
 use Rattle.mapworld_calls.specs.declared.reply.Answer.TheVariants as answer
-use Rattle.mapworld_calls.specs.Calls.{At, free, pair_in, told, after, opened}
+use Rattle.mapworld_calls.specs.Calls.{At, free, pair_in, told, after, opening_answer, opened}
 use Rattle.mapworld_calls.specs.Programs.{key_of}
 use Rattle.mapworld_calls.specs.Setup.{Setup, Laws, session_of}
 use Rattle.mapworld_calls.specs.Pairs.{has_key, pair_of}
@@ -19,16 +21,16 @@ use Rattle.mapworld_calls.specs.Agrees.{IsToldBy}
 use Rattle.mapworld_calls.specs.Placed.{IsKeyedDone, IsSessionDone}
 use Rattle.mapworld_calls.proofs.Lists.{slice_get-push_at, slice_get-set_same}
 use Rattle.mapworld.specs.declared.holds.Mode.{Mode}
-use Rattle.mapworld.specs.declared.holds.Mode.TheVariants.{Shared, Exclusive}
+use Rattle.mapworld.specs.declared.holds.Mode.TheVariants.{Exclusive}
 use Rattle.mapworld.specs.declared.step.Step.{Step}
 use Rattle.mapworld.specs.declared.place.Request.{Request}
 use Rattle.mapworld.specs.declared.place.Request.TheVariants as request
 use Rattle.mapworld.specs.declared.place.Phase.TheVariants as phase
 use Rattle.mapworld.specs.declared.place.Place.{Place}
 use Rattle.mapworld.specs.State.{State, threads_of, started_of}
-use Rattle.mapworld.specs.Moves.{request_key, stepped, found_phase, found_done, found_slot, block_behind, IsListed, ListsBlock}
+use Rattle.mapworld.specs.Moves.{request_key, mode_of, stepped, found_phase, found_done, found_slot, block_behind, IsListed, ListsBlock}
 use Rattle.mapworld.specs.Steps.{slot_in, has_room, Finds, GrowsList}
-use Rattle.mapworld.specs.Sound.{may_own, block_after, GuardIs, HoldsShard, IsInCall, IsBeforeDeed, HasSession, IsInSession, IsReady, Sound}
+use Rattle.mapworld.specs.Sound.{may_own, block_after, guarded, GuardIs, HoldsShard, IsInCall, IsBeforeDeed, HasSession, IsInSession, IsReady, Sound}
 use Rattle.mapworld.proofs.Finds.{find-position, find-no_position, position-Some_at}
 use Rattle.mapworld.proofs.Others.{IsInCall-push}
 use Rattle.mapworld.proofs.Timing.{placed-same}
@@ -93,9 +95,9 @@ module _ {K V S D T A : Type 0} (x : Setup K V D T) (laws : Laws x) (w : State K
 
   -- the session that an opening begins
   session-new : (m : Mode) (holds : HoldsShard p m) (listed : IsListed w s.thread p 1 d) (p' : Place K V D T A) (o : Option (K × V)) → pair_of x.eq table.items key ≡ o
-      → GuardIs w.tables p' p'.slot (after x.deeds a (free o))
+      → p'.shard ≡ p.shard → GuardIs w.tables p' p'.slot (after x.deeds a (free o))
       → HasSession x (w.blocks ++ d ∷ []) w.tables s.thread p' (p.next + 1) p.next (length w.blocks)
-  session-new m holds listed p' o is guard =
+  session-new m holds listed p' o is same guard =
       let one : p.next + 1 - p.next ≡ 1 = omega arith in
       let finds = new-finds x laws w s sound p at a call key key_is m holds shard not_yet 1 d listed ∙ has-now ∙ is in
       record {
@@ -106,12 +108,38 @@ module _ {K V S D T A : Type 0} (x : Setup K V D T) (laws : Laws x) (w : State K
         below = omega arith;
         done = listed.done ∙ sym one;
         guard = rw (one, finds) (subst (λ (z : At K V). GuardIs w.tables p' p'.slot z) (sym (reached-one x s.thread p.next a o call.asked)) guard);
+        settled = record {
+          here = λ k its. same ∙ shard ∙ ap x.route (same_Some key k (sym (new-key x laws w s sound p at a call key key_is m holds shard not_yet 1 d listed) ∙ its));
+          last = λ alone. last-new x w.blocks d;
+        };
       }
 
--- an opening leaves its key's pair
-opened-quiet : {K V : Type 0} (k : K) (o : Option (K × V)) → pair_in (opened (begin.Get k) o) ≡ o
-opened-quiet k None = refl
-opened-quiet k (Some pair) = refl
+-- an opening leaves its key's pair, and gives a guard of its mode where there is one
+opened-quiet : {K V : Type 0} (b : Begin K) (o : Option (K × V)) → pair_in (opened b o) ≡ o
+opened-quiet (begin.Get k) None = refl
+opened-quiet (begin.Get k) (Some pair) = refl
+opened-quiet (begin.GetMut k) None = refl
+opened-quiet (begin.GetMut k) (Some pair) = refl
+
+opened-some : {K V : Type 0} (b : Begin K) (pair : K × V) → opened b (Some pair) ≡ guarded (mode_of {V = V} (request.Begin b)) pair
+opened-some (begin.Get k) pair = refl
+opened-some (begin.GetMut k) pair = refl
+
+opened-none : {K V : Type 0} (b : Begin K) → opened {V = V} b None ≡ free None
+opened-none (begin.Get k) = refl
+opened-none (begin.GetMut k) = refl
+
+opening-some : {K V T : Type 0} (b : Begin K) (pair : K × V) → opening_answer {T = T} b (Some pair) ≡ answer.Held
+opening-some (begin.Get k) pair = refl
+opening-some (begin.GetMut k) pair = refl
+
+opening-none : {K V T : Type 0} (b : Begin K) → opening_answer {V = V} {T = T} b None ≡ answer.None
+opening-none (begin.Get k) = refl
+opening-none (begin.GetMut k) = refl
+
+pub begin-key : {K : Type 0} (V D : Type 0) (b : Begin K) → key_of {V = V} {D = D} (ask.Begin b) ≡ Some (request_key {V = V} (request.Begin b))
+begin-key V D (begin.Get k) = refl
+begin-key V D (begin.GetMut k) = refl
 
 -- an opening's block has done the opening at its position
 opened-done : {K V S D T A : Type 0} (x : Setup K V D T) (w : State K V S D T A) (s : Step) (p' : Place K V D T A) (d : Block K) → d.done.value ≡ 1 → IsSessionDone x (started_of (stepped w s p')) w.replies d
@@ -249,8 +277,10 @@ module _ {K V S D T A : Type 0} (x : Setup K V D T) (laws : Laws x) (w : State K
         (contents-listed x laws w s sound p at _ c.0 k refl Exclusive c.2 c.1.shard not_yet 1 listed.0 l
         (λ o h. ap pair_in (reached-new x laws w s sound p at _ c.0 k refl c.1.shard not_yet table held listed.0 l o)
         ∙ sym (sym h ∙ has-now x laws w s sound p at _ c.0 k refl c.1.shard not_yet table held listed.0 ∙ is)))))
-    found-by (request.Begin (begin.Get k)) before (Some i) slot room roomy blocks listed =
-        let r : Request K V = request.Begin (begin.Get k) in
+    found-by (request.Begin b) before (Some i) slot room roomy blocks listed =
+        let r : Request K V = request.Begin b in
+        let k = request_key r in
+        let key = begin-key V D b in
         let st = sound.stands s.thread p at in
         let c = claim-at x (threads_of w) w.blocks w.replies w.tables s.thread p (phase.Find r) before st in
         let here = position-Some_at (has_key x.eq k) table.items i slot in
@@ -258,52 +288,56 @@ module _ {K V S D T A : Type 0} (x : Setup K V D T) (laws : Laws x) (w : State K
         let p' : Place K V D T A = record p { block = Some (length w.blocks); slot = Some i; phase = phase.Answer answer.Held } in
         let not_yet : may_own p.phase ≡ false = ap may_own before in
         let l = listed.1 in
-        let inside = begin-apart x laws w s (record (stepped w s p') { blocks = blocks }) sound p st (begin.Get k) c.0.asked in
+        let inside = begin-apart x laws w s (record (stepped w s p') { blocks = blocks }) sound p st b c.0.asked in
         let stays : Some (length w.blocks) ≡ block_after p' = sym (ap (λ (b : Bool). if b then None else Some (length w.blocks)) c.0.closes) in
-        let session = session-new x laws w s sound p at _ c.0 k refl c.1.shard not_yet table held listed.0 Shared c.2 l p' (Some here.0) is
-        (here.0, refl, holds-moved x p p' Shared refl refl c.2, record { table = table; held = held; pair_is = here.1 }) in
+        let session = session-new x laws w s sound p at _ c.0 k key c.1.shard not_yet table held listed.0 (mode_of r) c.2 l p' (Some here.0) is
+        refl (here.0, mode_of r, opened-some b here.0, holds-moved x p p' (mode_of r) refl refl c.2, record { table = table; held = held; pair_is = here.1 }) in
         subst (λ (z : List (Block K)). Sound x (record (stepped w s p') { blocks = z })) (sym listed.2)
-        (sound-listed x laws w s sound p at _ c.0 k refl Shared c.2 c.1.shard not_yet 1 listed.0 l p' refl refl refl refl refl
+        (sound-listed x laws w s sound p at _ c.0 k key (mode_of r) c.2 c.1.shard not_yet 1 listed.0 l p' refl refl refl refl refl
         (opened-done x w s p' listed.0 l.done) w.tables refl (λ u q m ne hq h. refl) (
-          ask.Begin (begin.Get k),
+          ask.Begin b,
           IsInCall-push x (threads_of w) s.thread s.thread p' _ (in_call-moved x p p' (threads_of w) s.thread _ refl refl refl c.0),
           (λ h. absurd cc),
-          told-new x laws w s sound p at _ c.0 k refl c.1.shard not_yet table held listed.0 Shared c.2 l (Some here.0) is,
+          subst (λ (z : Answer K V T). IsToldBy x (w.blocks ++ listed.0 ∷ []) s.thread p.next 0 z) (opening-some b here.0)
+              (told-new x laws w s sound p at _ c.0 k key c.1.shard not_yet table held listed.0 (mode_of r) c.2 l (Some here.0) is),
           ready-inside x (w.blocks ++ listed.0 ∷ []) w.tables s.thread p' (p.next + 1) p.next (length w.blocks) (block_after p') inside.1 stays session,
         )
         (taken-at x (threads_of w) w.blocks w.replies w.tables s.thread p (phase.Find r) before st)
         (within-at x (threads_of w) w.blocks w.replies w.tables s.thread p (phase.Find r) before st)
         (tables-same x w.blocks (w.blocks ++ listed.0 ∷ []) w.tables w.tables sound.tables
-        (contents-listed x laws w s sound p at _ c.0 k refl Shared c.2 c.1.shard not_yet 1 listed.0 l
-        (λ o h. ap pair_in (reached-new x laws w s sound p at _ c.0 k refl c.1.shard not_yet table held listed.0 l o) ∙ opened-quiet k o))))
-    found-by (request.Begin (begin.Get k)) before None slot room roomy blocks listed =
-        let r : Request K V = request.Begin (begin.Get k) in
+        (contents-listed x laws w s sound p at _ c.0 k key (mode_of r) c.2 c.1.shard not_yet 1 listed.0 l
+        (λ o h. ap pair_in (reached-new x laws w s sound p at _ c.0 k key c.1.shard not_yet table held listed.0 l o) ∙ opened-quiet b o))))
+    found-by (request.Begin b) before None slot room roomy blocks listed =
+        let r : Request K V = request.Begin b in
+        let k = request_key r in
+        let key = begin-key V D b in
         let st = sound.stands s.thread p at in
         let c = claim-at x (threads_of w) w.blocks w.replies w.tables s.thread p (phase.Find r) before st in
         let is : pair_of x.eq table.items k ≡ None = find-no_position (has_key x.eq k) table.items slot in
         let p' : Place K V D T A = record p { block = Some (length w.blocks); slot = None; phase = phase.Release answer.None } in
         let not_yet : may_own p.phase ≡ false = ap may_own before in
         let l = listed.1 in
-        let inside = begin-apart x laws w s (record (stepped w s p') { blocks = blocks }) sound p st (begin.Get k) c.0.asked in
+        let inside = begin-apart x laws w s (record (stepped w s p') { blocks = blocks }) sound p st b c.0.asked in
         let stays : Some (length w.blocks) ≡ block_after p' = sym (ap (λ (b : Bool). if b then None else Some (length w.blocks)) c.0.closes) in
-        let session = session-new x laws w s sound p at _ c.0 k refl c.1.shard not_yet table held listed.0 Shared c.2 l p' None is (None, refl) in
+        let session = session-new x laws w s sound p at _ c.0 k key c.1.shard not_yet table held listed.0 (mode_of r) c.2 l p' None is refl (None, opened-none b) in
         subst (λ (z : List (Block K)). Sound x (record (stepped w s p') { blocks = z })) (sym listed.2)
-        (sound-listed x laws w s sound p at _ c.0 k refl Shared c.2 c.1.shard not_yet 1 listed.0 l p' refl refl refl refl refl
+        (sound-listed x laws w s sound p at _ c.0 k key (mode_of r) c.2 c.1.shard not_yet 1 listed.0 l p' refl refl refl refl refl
         (opened-done x w s p' listed.0 l.done) w.tables refl (λ u q m ne hq h. refl) (
-          ask.Begin (begin.Get k),
+          ask.Begin b,
           c.2.hold,
           IsInCall-push x (threads_of w) s.thread s.thread p' _ (in_call-moved x p p' (threads_of w) s.thread _ refl refl refl c.0),
           c.2.has,
           (
-            told-new x laws w s sound p at _ c.0 k refl c.1.shard not_yet table held listed.0 Shared c.2 l None is,
+            subst (λ (z : Answer K V T). IsToldBy x (w.blocks ++ listed.0 ∷ []) s.thread p.next 0 z) (opening-none b)
+                (told-new x laws w s sound p at _ c.0 k key c.1.shard not_yet table held listed.0 (mode_of r) c.2 l None is),
             ready-inside x (w.blocks ++ listed.0 ∷ []) w.tables s.thread p' (p.next + 1) p.next (length w.blocks) (block_after p') inside.1 stays session,
           ),
         )
         (taken-at x (threads_of w) w.blocks w.replies w.tables s.thread p (phase.Find r) before st)
         (within-at x (threads_of w) w.blocks w.replies w.tables s.thread p (phase.Find r) before st)
         (tables-same x w.blocks (w.blocks ++ listed.0 ∷ []) w.tables w.tables sound.tables
-        (contents-listed x laws w s sound p at _ c.0 k refl Shared c.2 c.1.shard not_yet 1 listed.0 l
-        (λ o h. ap pair_in (reached-new x laws w s sound p at _ c.0 k refl c.1.shard not_yet table held listed.0 l o) ∙ opened-quiet k o))))
+        (contents-listed x laws w s sound p at _ c.0 k key (mode_of r) c.2 c.1.shard not_yet 1 listed.0 l
+        (λ o h. ap pair_in (reached-new x laws w s sound p at _ c.0 k key c.1.shard not_yet table held listed.0 l o) ∙ opened-quiet b o))))
 
   pub sound-finds : (w' : State K V S D T A) → Finds x w s w' → Sound x w'
   sound-finds w' f =

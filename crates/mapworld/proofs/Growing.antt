@@ -1,5 +1,5 @@
--- A call on a guard, or where a guard was, is counted in by the session's block. It changes no pair.
-use Rattle.std.proofs.Common.{◌≡◌, ℕ, ◌+◌, ◌-◌, ◌≤◌, ◌⊎◌, inl, inr, ⊎_elim, false, List, [], ◌∷◌, ◌++◌, length, take, drop, Option, Some, None, IsSome, slice_get, slice_set, refl, ap, sym, ◌∙◌, subst, arith}
+-- A call on a guard, or where a guard was, is counted in by the session's block.
+use Rattle.std.proofs.Common.{◌≡◌, ◌≢◌, ℕ, ◌+◌, ◌-◌, ◌≤◌, ◌⊎◌, inl, inr, ⊎_elim, false, List, [], ◌∷◌, ◌++◌, length, take, drop, Option, Some, None, IsSome, slice_get, slice_set, refl, ap, sym, ◌∙◌, subst, arith}
 use Rattle.std.specs.declared.vec.Vec.{Vec}
 use Rattle.std.proofs.lemmas.Option.{same_Some, none-some}
 use Rattle.std.proofs.lemmas.Bool.{cases_lt, cases_eq, false≢true}
@@ -10,9 +10,9 @@ use Rattle.mapworld_calls.specs.declared.ask.Held.{Held}
 use Rattle.mapworld_calls.specs.declared.ask.Held.TheVariants as held
 use Rattle.mapworld_calls.specs.declared.block.Block.{Block}
 use Rattle.mapworld_calls.specs.Deeds.{Deeds}
-use Rattle.mapworld_calls.specs.Calls.{At, free, shared, pair_in, told, held_leaves}
+use Rattle.mapworld_calls.specs.Calls.{At, free, shared, exclusive, pair_in, told, held_leaves}
 use Rattle.mapworld_calls.specs.Setup.{Setup, Laws, ask_at, session_of}
-use Rattle.mapworld_calls.specs.Replay.{reached, at_key, contents, found}
+use Rattle.mapworld_calls.specs.Replay.{reached, block_key, at_key, contents, found, IsLastOnShard}
 use Rattle.mapworld_calls.specs.Agrees.{IsToldBy}
 use Rattle.mapworld_calls.specs.Placed.{answered_of, HasStarted, IsDoneWithin}
 use Rattle.mapworld_calls.proofs.Lists.{slice_get-set_same, slice_get-set_other, slice_get-set_cases}
@@ -20,20 +20,31 @@ use Rattle.mapworld_calls.proofs.Programs.{opening_is}
 use Rattle.mapworld_calls.proofs.Grown.{Grows, IsQuiet, found-grown, block_key-grown, contents-quiet}
 use Rattle.mapworld_calls.proofs.Kept.{keeps-grown}
 use Rattle.mapworld.specs.declared.step.Step.{Step}
-use Rattle.mapworld.specs.declared.holds.Held.{Held as Entry}
+use Rattle.mapworld.specs.Holds.{Desks}
+use Rattle.mapworld.specs.declared.holds.Mode.{Mode}
+use Rattle.mapworld.specs.declared.place.Request.TheVariants as request
 use Rattle.mapworld.specs.declared.place.Place.{Place}
 use Rattle.mapworld.specs.State.{State, threads_of, started_of}
-use Rattle.mapworld.specs.Moves.{stepped, CountsIn}
-use Rattle.mapworld.specs.Sound.{taken, may_own, GuardIs, HasSession, IsInSession, Claim, OwnsBlocks, HasOwnBlock, Stands, HoldsMatch, Sound}
+use Rattle.mapworld.specs.Moves.{request_key, stepped, CountsIn}
+use Rattle.mapworld.specs.Sound.{taken, may_own, HoldsShard, GuardIs, HasSession, IsInSession, Claim, OwnsBlocks, HasOwnBlock, Stands, TablesAgree, HoldsMatch, Sound}
 use Rattle.mapworld.proofs.Effects.{effect-grow, Anyhow}
+use Rattle.mapworld.proofs.Finding.{begin-key}
 use Rattle.mapworld.proofs.Timing.{placed-grown}
-use Rattle.mapworld.proofs.Building.{started-own, started-stays, sound-by, replies-kept, asked-at, session-is, reached-next, told-next, tables-same}
+use Rattle.mapworld.proofs.Building.{started-own, started-stays, sound-by, replies-kept, asked-at, session-is, reached-next, told-next, settled-moved, alone-moved, tables-same}
 
--- no call on a guard changes its pair
-held-quiet : {D K V T : Type 0} (deeds : Deeds D K V T) (h : Held D) (s : At K V) → pair_in (held_leaves deeds h s) ≡ pair_in s
-held-quiet deeds h (free o) = refl
-held-quiet deeds (held.Read d) (shared pair) = refl
-held-quiet deeds held.Drop (shared pair) = refl
+-- a call on the guard of a session that stands there leaves its pair
+abbrev pub LeavesPair : {D K V T : Type 0} → Deeds D K V T → Held D → At K V → Type 0
+LeavesPair deeds h at = pair_in (held_leaves deeds h at) ≡ pair_in at
+
+pub read-quiet : {D K V T : Type 0} (deeds : Deeds D K V T) (d : D) (at : At K V) → LeavesPair deeds (held.Read d) at
+read-quiet deeds d (free o) = refl
+read-quiet deeds d (shared pair) = refl
+read-quiet deeds d (exclusive pair) = refl
+
+pub drop-quiet : {D K V T : Type 0} (deeds : Deeds D K V T) (at : At K V) → LeavesPair deeds held.Drop at
+drop-quiet deeds (free o) = refl
+drop-quiet deeds (shared pair) = refl
+drop-quiet deeds (exclusive pair) = refl
 
 same-reached : {K V D T : Type 0} (x : Setup K V D T) (t u c e n m : ℕ) (o : Option (K × V)) → t ≡ u → c ≡ e → n ≡ m → reached x t c n o ≡ reached x u e m o
 same-reached x t u c e n m o ht hc hn = rw (ht, hc, hn)
@@ -53,13 +64,17 @@ session-of-guard x bs tables t p n slot None block guarded h = absurd (none-some
 session-of-guard x bs tables t p n slot (Some c) None guarded h = absurd (none-some slot (sym h.0 ∙ guarded))
 session-of-guard x bs tables t p n slot (Some c) (Some i) guarded h = (c, i, refl, refl, h)
 
+opening-key_of : {K V D T : Type 0} (x : Setup K V D T) (b : Block K) (t c : ℕ) (g : Begin K) → b.thread ≡ t → b.call ≡ c → ask_at x t c ≡ Some (ask.Begin g) → block_key x b ≡ Some (request_key {V = V} (request.Begin g))
+opening-key_of {K} {V} {D} x b t c g thread call asked = rw (thread, call, asked) (begin-key V D g)
+
 IsSome-at : (o : Option ℕ) → IsSome o → (y : ℕ) × (o ≡ Some y)
 IsSome-at None h = absurd cc
 IsSome-at (Some y) h = (y, refl)
 
 module _ {K V S D T A : Type 0} (x : Setup K V D T) (laws : Laws x) (w : State K V S D T A) (s : Step) (sound : Sound x w)
     (p : Place K V D T A) (at : slice_get w.places s.thread ≡ Some p) (h : Held D) (asked : ask_at x s.thread p.next ≡ Some (ask.Held h)) (c i : ℕ) (inside : session_of x s.thread p.next ≡ Some c)
-    (session : HasSession x w.blocks w.tables s.thread p p.next c i) (b d : Block K) (listed : slice_get w.blocks i ≡ Some b) (counts : CountsIn p.next b d) where
+    (session : HasSession x w.blocks w.tables s.thread p p.next c i) (b d : Block K) (listed : slice_get w.blocks i ≡ Some b) (counts : CountsIn p.next b d)
+    (settled : LeavesPair x.deeds h (reached x s.thread c (p.next - c) (found x w.blocks i b)) ⊎ IsLastOnShard x w.blocks i b) where
   abbrev pub st : Stands x (threads_of w) w.blocks w.replies w.tables s.thread p
   st = sound.stands s.thread p at
 
@@ -89,13 +104,15 @@ module _ {K V S D T A : Type 0} (x : Setup K V D T) (laws : Laws x) (w : State K
   pub reached-more : reached x s.thread c (p.next - c + 1) (found x w.blocks i b) ≡ held_leaves x.deeds h was
   reached-more = reached-next x s.thread c (ask.Held h) (p.next - c) (found x w.blocks i b) asked-there
 
-  quiet : IsQuiet x b d.done.value (found x w.blocks i b)
-  quiet =
-      let o = found x w.blocks i b in
-      ap pair_in (same-reached x b.thread s.thread b.call c d.done.value (p.next - c + 1) o thread-is call-is more-is)
-      ∙ ap pair_in reached-more
-      ∙ held-quiet x.deeds h was
-      ∙ sym (ap pair_in (same-reached x b.thread s.thread b.call c b.done.value (p.next - c) o thread-is call-is done-is))
+  -- what the block reached, and what it reaches with the call
+  pub reached-was : reached x b.thread b.call b.done.value (found x w.blocks i b) ≡ was
+  reached-was = same-reached x b.thread s.thread b.call c b.done.value (p.next - c) (found x w.blocks i b) thread-is call-is done-is
+
+  pub reached-now : reached x b.thread b.call d.done.value (found x w.blocks i b) ≡ held_leaves x.deeds h was
+  reached-now = same-reached x b.thread s.thread b.call c d.done.value (p.next - c + 1) (found x w.blocks i b) thread-is call-is more-is ∙ reached-more
+
+  quiet : LeavesPair x.deeds h was → IsQuiet x b d.done.value (found x w.blocks i b)
+  quiet same = ap pair_in reached-now ∙ same ∙ sym (ap pair_in reached-was)
 
   pub grows : Grows x w.blocks i b d
   grows = record {
@@ -103,7 +120,7 @@ module _ {K V S D T A : Type 0} (x : Setup K V D T) (laws : Laws x) (w : State K
     thread = counts.thread;
     call = counts.call;
     done = let e = done-is in let m = more-is in omega arith;
-    settled = inl quiet;
+    settled = elim settled [ inl same ↦ inl (quiet same) | inr last ↦ inr last ];
   }
 
   pub finds-same : found x (slice_set w.blocks i d) i d ≡ found x w.blocks i b
@@ -125,8 +142,9 @@ module _ {K V S D T A : Type 0} (x : Setup K V D T) (laws : Laws x) (w : State K
   }
 
   -- the session goes on behind the call
-  pub session-on : (p' : Place K V D T A) → GuardIs w.tables p' p'.slot (held_leaves x.deeds h was) → HasSession x (slice_set w.blocks i d) w.tables s.thread p' (p.next + 1) c i
-  session-on p' guard =
+  pub session-on : (tables' : List (Vec (K × V) A)) (p' : Place K V D T A) → p'.hold ≡ p.hold → p'.shard ≡ p.shard → GuardIs tables' p' p'.slot (held_leaves x.deeds h was)
+      → HasSession x (slice_set w.blocks i d) tables' s.thread p' (p.next + 1) c i
+  session-on tables' p' hold shard guard =
       let below = session.below in
       let one : p.next + 1 - c ≡ p.next - c + 1 = omega arith in
       record {
@@ -136,13 +154,19 @@ module _ {K V S D T A : Type 0} (x : Setup K V D T) (laws : Laws x) (w : State K
         call = counts.call ∙ call-is;
         below = omega arith;
         done = more-is ∙ sym one;
-        guard = rw (one, finds-same) (subst (λ (z : At K V). GuardIs w.tables p' p'.slot z) (sym reached-more) guard);
+        guard = rw (one, finds-same) (subst (λ (z : At K V). GuardIs tables' p' p'.slot z) (sym reached-more) guard);
+        settled = settled-moved x p p' w.blocks (slice_set w.blocks i d) i session.block d (block_key-grown x laws w.blocks i b d grows ∙ ap (λ z. block_key x z) (sym its))
+            (alone-moved x p p' hold shard) shard ((effect-grow x laws w.blocks s.thread i b d grows thread-is).last i session.block session.listed tt) session.settled;
       }
 
-  opening-asked : (g : Begin K) × (ask_at x s.thread c ≡ Some (ask.Begin g))
+  pub opening-asked : (g : Begin K) × (ask_at x s.thread c ≡ Some (ask.Begin g))
   opening-asked =
       let o = opening_is st.program p.next c (sym (session-is x s.thread st.program st.has p.next) ∙ inside) in
       (o.0, asked-at x s.thread st.program st.has c (ask.Begin o.0) o.1)
+
+  -- the key of the session's block is its opening's
+  pub opening-key : block_key x b ≡ Some (request_key {V = V} (request.Begin opening-asked.0))
+  opening-key = opening-key_of x b s.thread c opening-asked.0 thread-is call-is opening-asked.1
 
   own-block : (p' : Place K V D T A) → p'.block ≡ p.block ⊎ (p'.block ≡ None) → HasOwnBlock (slice_set w.blocks i d) s.thread p'
   own-block p' block j mine = elim block [
@@ -185,29 +209,42 @@ module _ {K V S D T A : Type 0} (x : Setup K V D T) (laws : Laws x) (w : State K
         absurd (let both : ◌≡◌ {A = Option (Ask K V D)} (Some (ask.Begin o.0)) (Some (ask.Keyed g)) = sym o.1 ∙ (let z : ask_at x s.thread c ≡ Some (ask.Keyed g) = rw (sym thread-is, sym call-is) e in z) in cc)
     more-done (ask.Held g) e old = old
 
-    -- the world behind a step that counts the call in
-    pub sound-counted : (holds' : List Entry) → p'.next ≡ p.next → p'.block ≡ p.block ⊎ (p'.block ≡ None)
+    -- the world behind a step that counts the call in, and may change the list of a shard that is held alone
+    pub sound-changed : (tables' : List (Vec (K × V) A)) → length tables' ≡ length w.tables
+        → ((u : ℕ) (q : Place K V D T A) (m : Mode) → u ≢ s.thread → slice_get w.places u ≡ Some q → HoldsShard q m → slice_get tables' q.shard ≡ slice_get w.tables q.shard)
+        → TablesAgree x (slice_set w.blocks i d) tables'
+        → (holds' : Desks) → p'.next ≡ p.next → p'.block ≡ p.block ⊎ (p'.block ≡ None)
+        → Claim x (threads_of w ++ s.thread ∷ []) (slice_set w.blocks i d) tables' s.thread p' p'.phase
+        → p'.asks.items ≡ drop (taken p') st.program → taken p' ≤ length st.program
+        → HoldsMatch (slice_set w.places s.thread p') holds'
+        → OwnsBlocks (slice_set w.blocks i d) s.thread p'
+        → Sound x (record (stepped w s p') { tables = tables'; holds = holds'; blocks = slice_set w.blocks i d; replies = w.replies })
+    sound-changed tables' shards kept agree holds' next block claim left within match owns =
+        sound-by x w s p p' at sound (slice_set w.blocks i d) tables' holds' w.replies Anyhow
+        (record {
+          effect = effect-grow x laws w.blocks s.thread i b d grows thread-is;
+          count = λ u ne. refl;
+          kept = kept;
+          foreign = λ u q k ne hq alone here. tt;
+          shards = shards;
+        })
+        (record { program = st.program; has = st.has; asks_left = left; within = within; answered = next ∙ st.answered; owns = owns; own_block = own-block p' block; claim = claim })
+        agree
+        match
+        (placed-grown x (threads_of w) s.thread (started_of w) (started_of (stepped w s p')) w.blocks w.replies (started-stays x w s p p' at stays) i b d listed
+        (record { thread = counts.thread; call = counts.call; visit = counts.visit; start = counts.start; position = counts.position }) counts.end more-done sound.placed)
+        (replies-kept x w.blocks (slice_set w.blocks i d) w.replies (λ j r hr. keeps-grown x laws w.blocks i b d grows r.thread r.call) sound.replies)
+
+    -- where the call leaves its pair, no list changes
+    pub sound-counted : LeavesPair x.deeds h was → (holds' : Desks) → p'.next ≡ p.next → p'.block ≡ p.block ⊎ (p'.block ≡ None)
         → Claim x (threads_of w ++ s.thread ∷ []) (slice_set w.blocks i d) w.tables s.thread p' p'.phase
         → p'.asks.items ≡ drop (taken p') st.program → taken p' ≤ length st.program
         → HoldsMatch (slice_set w.places s.thread p') holds'
         → OwnsBlocks (slice_set w.blocks i d) s.thread p'
         → Sound x (record (stepped w s p') { tables = w.tables; holds = holds'; blocks = slice_set w.blocks i d; replies = w.replies })
-    sound-counted holds' next block claim left within match owns =
-        sound-by x w s p p' at sound (slice_set w.blocks i d) w.tables holds' w.replies Anyhow
-        (record {
-          effect = effect-grow x laws w.blocks s.thread i b d grows thread-is;
-          count = λ u ne. refl;
-          kept = λ u q m ne hq hh. refl;
-          foreign = λ u q k o ne hq dd. tt;
-          shards = refl;
-        })
-        (record { program = st.program; has = st.has; asks_left = left; within = within; answered = next ∙ st.answered; owns = owns; own_block = own-block p' block; claim = claim })
-        (tables-same x w.blocks (slice_set w.blocks i d) w.tables w.tables sound.tables
-        (λ q. contents-quiet x laws w.blocks i b d grows quiet q))
-        match
-        (placed-grown x (threads_of w) s.thread (started_of w) (started_of (stepped w s p')) w.blocks w.replies (started-stays x w s p p' at stays) i b d listed
-        (record { thread = counts.thread; call = counts.call; visit = counts.visit; start = counts.start; position = counts.position }) counts.end more-done sound.placed)
-        (replies-kept x w.blocks (slice_set w.blocks i d) w.replies (λ j r hr. keeps-grown x laws w.blocks i b d grows r.thread r.call) sound.replies)
+    sound-counted same =
+        sound-changed w.tables refl (λ u q m ne hq hh. refl)
+        (tables-same x w.blocks (slice_set w.blocks i d) w.tables w.tables sound.tables (λ q. contents-quiet x laws w.blocks i b d grows (quiet same) q))
 
   -- the thread's blocks are those that it had
   pub owns-grown : (p' : Place K V D T A) → p'.next ≡ p.next → may_own p.phase ≡ false → OwnsBlocks (slice_set w.blocks i d) s.thread p'

@@ -22,6 +22,7 @@ pub mod Tables
 pub mod Joins
 pub mod Openings
 pub mod HoldsTable
+pub mod Desks
 pub mod Routes
 pub mod Sleeping
 pub mod Refusals
@@ -35,3 +36,5 @@ pub mod Weights
 pub mod Afters
 pub mod Bounds
 pub mod Running
+pub mod Rewriting
+pub mod Writing

@@ -82,12 +82,11 @@ module _ {K V S D T A : Type 0} (x : Setup K V D T) (laws : Laws x) (w : State K
       effect = effect-push x w.blocks s.thread d listed.thread;
       count = λ u ne. refl;
       kept = kept;
-      foreign = λ u q k o ne hq before. λ i j hi hj same.
+      foreign = λ u q b ne hq alone here. λ i j hi hj same.
           let mine' : key ≡ j = same_Some key j (sym new-key ∙ hj) in
-          let its : k ≡ i = same_Some k i (sym before.key_is ∙ hi) in
-          let both = exclusion w.places w.holds sound.holds s.thread u p q holds.hold before.alone.hold (λ z. ne (sym z)) at hq holds.has before.alone.has
-          (holds.shard ∙ shard ∙ ap x.route mine' ∙ sym same ∙ ap x.route (sym its) ∙ sym before.shard ∙ sym before.alone.shard) in
-          absurd (cc (both.1, before.alone.mode_is));
+          let both = exclusion w.places w.holds sound.holds s.thread u p q holds.hold alone.hold (λ z. ne (sym z)) at hq holds.has alone.has
+          (holds.shard ∙ shard ∙ ap x.route mine' ∙ sym same ∙ sym (here i hi) ∙ sym alone.shard) in
+          absurd (cc (both.1, alone.mode_is));
       shards = shards;
     }
 

@@ -7,17 +7,18 @@ use Rattle.mapworld_calls.specs.declared.reply.Reply.{Reply}
 use Rattle.mapworld_calls.specs.declared.reply.Answer.{Answer}
 use Rattle.mapworld_calls.specs.Calls.{At}
 use Rattle.mapworld_calls.specs.Setup.{Setup, session_of}
-use Rattle.mapworld_calls.specs.Replay.{reached, found}
+use Rattle.std.proofs.lemmas.Option.{same_Some}
+use Rattle.mapworld_calls.specs.Replay.{reached, block_key, found, IsLastOnShard}
 use Rattle.mapworld_calls.specs.Agrees.{IsAnsweredBy}
 use Rattle.mapworld_calls.specs.Placed.{IsStepOf, answered_of}
 use Rattle.mapworld_calls.proofs.Lists.{slice_get-push_below}
 use Rattle.mapworld_calls.proofs.Kept.{answered-by}
 use Rattle.mapworld.specs.declared.holds.Mode.{Mode}
-use Rattle.mapworld.specs.declared.holds.Mode.TheVariants.{Shared, Exclusive}
+use Rattle.mapworld.specs.declared.holds.Mode.TheVariants.{Exclusive}
 use Rattle.mapworld.specs.declared.place.Phase.{Phase}
 use Rattle.mapworld.specs.declared.place.Phase.TheVariants as phase
 use Rattle.mapworld.specs.declared.place.Place.{Place}
-use Rattle.mapworld.specs.Sound.{HasPair, HoldsShard, GuardIs, IsInSessionOf, IsInSession, IsReady, IsInCall, IsBeforeDeed, HasList, IsReleasing, Claim, Stands}
+use Rattle.mapworld.specs.Sound.{HasPair, HoldsShard, GuardIs, IsOnShard, IsInSessionOf, IsInSession, IsReady, IsInCall, IsBeforeDeed, HasList, IsReleasing, Claim, Stands}
 use Rattle.mapworld.proofs.Effects.{Effect, keeps-other}
 
 pub IsStepOf-push : (threads : List ℕ) (s t n : ℕ) → IsStepOf threads t n → IsStepOf (threads ++ s ∷ []) t n
@@ -38,13 +39,14 @@ module _ {K V D T A : Type 0} (x : Setup K V D T) (bs bs' : List (Block K)) (tab
 
   pub guard-kept : (slot : Option ℕ) (at at' : At K V) → at' ≡ at → GuardIs tables p slot at → GuardIs tables' p slot at'
   guard-kept None at at' same h = (h.0, same ∙ h.1)
-  guard-kept (Some i) at at' same h = (h.0, same ∙ h.1, h.2, pair-kept Shared i h.0 h.2 h.3)
+  guard-kept (Some i) at at' same h = (h.0, h.1, same ∙ h.2, h.3, pair-kept h.1 i h.0 h.3 h.4)
 
   session-kept : (n c : ℕ) (o : Option ℕ)
       → ((i : ℕ) (b : Block K) → slice_get bs i ≡ Some b → b.thread ≡ t → (slice_get bs' i ≡ Some b) × (found x bs' i b ≡ found x bs i b))
       → ((i : ℕ) (b : Block K) → slice_get bs' i ≡ Some b → b.thread ≡ t → slice_get bs i ≡ Some b)
+      → ((i : ℕ) (b : Block K) → slice_get bs i ≡ Some b → HoldsShard p Exclusive → IsOnShard x p b → IsLastOnShard x bs i b → IsLastOnShard x bs' i b)
       → IsInSessionOf x bs tables t p n c o → IsInSessionOf x bs' tables' t p n c o
-  session-kept n c (Some i) stays back h =
+  session-kept n c (Some i) stays back lasts h =
       let both = stays i h.block h.listed h.thread in
       record {
         block = h.block;
@@ -54,21 +56,23 @@ module _ {K V D T A : Type 0} (x : Setup K V D T) (bs bs' : List (Block K)) (tab
         below = h.below;
         done = h.done;
         guard = guard-kept p.slot (reached x t c (n - c) (found x bs i h.block)) (reached x t c (n - c) (found x bs' i h.block)) (ap (λ o. reached x t c (n - c) o) both.1) h.guard;
+        settled = record { here = h.settled.here; last = λ alone. lasts i h.block h.listed alone h.settled.here (h.settled.last alone) };
       }
-  session-kept n c None stays back h = (h.0, λ i b at thread call. h.1 i b (back i b at thread) thread call)
+  session-kept n c None stays back lasts h = (h.0, λ i b at thread call. h.1 i b (back i b at thread) thread call)
 
   pub ready-kept : (n : ℕ) (o : Option ℕ) (block : Option ℕ)
       → ((i : ℕ) (b : Block K) → slice_get bs i ≡ Some b → b.thread ≡ t → (slice_get bs' i ≡ Some b) × (found x bs' i b ≡ found x bs i b))
       → ((i : ℕ) (b : Block K) → slice_get bs' i ≡ Some b → b.thread ≡ t → slice_get bs i ≡ Some b)
+      → ((i : ℕ) (b : Block K) → slice_get bs i ≡ Some b → HoldsShard p Exclusive → IsOnShard x p b → IsLastOnShard x bs i b → IsLastOnShard x bs' i b)
       → IsInSession x bs tables t p n o block → IsInSession x bs' tables' t p n o block
-  ready-kept n (Some c) block stays back h = session-kept n c block stays back h
-  ready-kept n None block stays back h = h
+  ready-kept n (Some c) block stays back lasts h = session-kept n c block stays back lasts h
+  ready-kept n None block stays back lasts h = h
 
 module _ {K V D T A : Type 0} (x : Setup K V D T) (threads : List ℕ) (s : ℕ) (bs bs' : List (Block K)) (replies replies' : List (Reply K V T))
     (tables tables' : List (Vec (K × V) A)) (t u : ℕ) (p : Place K V D T A) (F : Block K → Type 0)
     (effect : Effect x bs bs' t F) (other : u ≢ t) (count : answered_of replies' u ≡ answered_of replies u)
     (kept : (m : Mode) → HoldsShard p m → slice_get tables' p.shard ≡ slice_get tables p.shard)
-    (foreign : (k : K) (o : Option (K × V)) (d : IsBeforeDeed x bs u p k o) → F d.block)
+    (foreign : (b : Block K) → HoldsShard p Exclusive → IsOnShard x p b → F b)
     (below : (c b : ℕ) → session_of x u c ≡ Some b → b ≤ c) where
   stays : (i : ℕ) (b : Block K) → slice_get bs i ≡ Some b → b.thread ≡ u → (slice_get bs' i ≡ Some b) × (found x bs' i b ≡ found x bs i b)
   stays i b at own = (effect.kept i b at (λ same. other (sym own ∙ same)), effect.finds i b at)
@@ -77,7 +81,8 @@ module _ {K V D T A : Type 0} (x : Setup K V D T) (threads : List ℕ) (s : ℕ)
   comes i b at own = effect.back i b at (λ same. other (sym own ∙ same))
 
   ready : (n : ℕ) (block : Option ℕ) → IsReady x bs tables u p n block → IsReady x bs' tables' u p n block
-  ready n block h = ready-kept x bs bs' tables tables' u p kept n (session_of x u n) block stays comes h
+  ready n block h =
+      ready-kept x bs bs' tables tables' u p kept n (session_of x u n) block stays comes (λ i b at alone here last. effect.last i b at (foreign b alone here) last) h
 
   answered : (c : ℕ) (a : Ask K V D) (r : Answer K V T) → IsAnsweredBy x bs u c a r → IsAnsweredBy x bs' u c a r
   answered c a r h = answered-by x bs bs' u c a r (keeps-other x bs bs' t u c F effect other) (below c) h
@@ -97,7 +102,7 @@ module _ {K V D T A : Type 0} (x : Setup K V D T) (threads : List ℕ) (s : ℕ)
         call = d.call;
         key_is = d.key_is;
         done = d.done;
-        last = effect.last d.index d.block d.listed (foreign k o d) d.last;
+        last = effect.last d.index d.block d.listed (foreign d.block d.alone (λ j is. d.shard ∙ ap x.route (same_Some k j (sym d.key_is ∙ is)))) d.last;
         found_is = both.1 ∙ d.found_is;
         slot = d.slot;
         shard = d.shard;
@@ -119,6 +124,7 @@ module _ {K V D T A : Type 0} (x : Setup K V D T) (threads : List ℕ) (s : ℕ)
   claim (phase.Take i) h =
       (h.0, h.1, in_call _ h.2, before_deed h.0 (Some h.1) h.3, pair-kept x bs bs' tables tables' u p kept Exclusive i h.1 h.3.alone h.4)
   claim (phase.Read d) h = (h.0, in_call _ h.1, h.2, ready p.next p.block h.3)
+  claim (phase.Write d) h = (h.0, in_call _ h.1, h.2, h.3, ready p.next p.block h.4)
   claim (phase.Release r) h = (h.0, h.1, in_call h.0 h.2, h.3, releasing h.0 r p.slot h.4)
   claim (phase.Answer r) h =
       (h.0, in_call h.0 h.1, h.2, answered p.next h.0 r h.3, ready (p.next + 1) (if p.closes then None else p.block) h.4)

@@ -2,13 +2,14 @@
 use Rattle.mapworld_calls.specs.Setup.{Setup, Laws}
 use Rattle.mapworld.specs.declared.step.Step.{Step}
 use Rattle.mapworld.specs.State.{State}
-use Rattle.mapworld.specs.Steps.{IsStep, start, admit, find, find_grows, find_refused, deed_appends, deed_replaces, deed_takes, deed_reads, release, answers}
+use Rattle.mapworld.specs.Steps.{IsStep, start, admit, find, find_grows, find_refused, deed_appends, deed_replaces, deed_takes, deed_reads, deed_writes, release, answers}
 use Rattle.mapworld.specs.Sound.{Sound}
 use Rattle.mapworld.proofs.Starting.{sound-starts}
 use Rattle.mapworld.proofs.Admitting.{sound-admits, sound-refused}
 use Rattle.mapworld.proofs.Finding.{sound-finds, sound-grows}
 use Rattle.mapworld.proofs.Acting.{sound-appends, sound-replaces, sound-takes}
 use Rattle.mapworld.proofs.Reading.{sound-reads, sound-releases}
+use Rattle.mapworld.proofs.Writing.{sound-writes}
 use Rattle.mapworld.proofs.Answering.{sound-answers}
 
 pub sound-step : {K V S D T A : Type 0} (x : Setup K V D T) → Laws x → (w : State K V S D T A) (s : Step) (w' : State K V S D T A) → Sound x w → IsStep x w s w' → Sound x w'
@@ -21,5 +22,6 @@ sound-step x laws w s w' sound (deed_appends h) = sound-appends x laws w s w' so
 sound-step x laws w s w' sound (deed_replaces h) = sound-replaces x laws w s w' sound h
 sound-step x laws w s w' sound (deed_takes h) = sound-takes x laws w s w' sound h
 sound-step x laws w s w' sound (deed_reads h) = sound-reads x laws w s w' sound h
+sound-step x laws w s w' sound (deed_writes h) = sound-writes x laws w s w' sound h
 sound-step x laws w s w' sound (release h) = sound-releases x laws w s w' sound h
 sound-step x laws w s w' sound (answers h) = sound-answers x laws w s w' sound h

@@ -7,8 +7,10 @@ use Rattle.mapworld_calls.specs.declared.ask.Begin.TheVariants as begin
 use Rattle.mapworld_calls.specs.declared.ask.Held.TheVariants as held
 use Rattle.mapworld_calls.specs.declared.block.Block.{Block}
 use Rattle.mapworld_calls.specs.declared.reply.Answer.TheVariants as answer
+use Rattle.mapworld_calls.specs.Programs.{is_drop}
 use Rattle.mapworld.specs.declared.holds.Mode.{Mode}
 use Rattle.mapworld.specs.declared.holds.Mode.TheVariants.{Shared, Exclusive}
+use Rattle.mapworld.specs.declared.holds.Hold.{Hold}
 use Rattle.mapworld.specs.declared.step.Step.{Step}
 use Rattle.mapworld.specs.declared.place.Request.{Request}
 use Rattle.mapworld.specs.declared.place.Request.TheVariants as request
@@ -26,38 +28,54 @@ abbrev pub request_key : {K V : Type 0} → Request K V → K
 request_key (request.Keyed (keyed.Insert k v)) = k
 request_key (request.Keyed (keyed.Remove k)) = k
 request_key (request.Begin (begin.Get k)) = k
+request_key (request.Begin (begin.GetMut k)) = k
 
 abbrev pub mode_of : {K V : Type 0} → Request K V → Mode
 mode_of (request.Keyed (keyed.Insert k v)) = Exclusive
 mode_of (request.Keyed (keyed.Remove k)) = Exclusive
 mode_of (request.Begin (begin.Get k)) = Shared
+mode_of (request.Begin (begin.GetMut k)) = Exclusive
 
 -- whether a call is the last one of its block, if it has one
 abbrev pub is_last : {K V D : Type 0} → Ask K V D → Bool
 is_last (ask.Keyed k) = true
 is_last (ask.Begin b) = false
-is_last (ask.Held (held.Read d)) = false
-is_last (ask.Held held.Drop) = true
+is_last (ask.Held h) = is_drop h
 
--- a start: before an admission, a deed or a release; or, on a guard where none is held, before the answer
-abbrev pub start_phase : {K V D T : Type 0} → Ask K V D → Option ℕ → Phase K V D T
-start_phase (ask.Keyed k) slot = phase.Admit (request.Keyed k)
-start_phase (ask.Begin b) slot = phase.Admit (request.Begin b)
-start_phase (ask.Held (held.Read d)) (Some i) = phase.Read d
-start_phase (ask.Held held.Drop) (Some i) = phase.Release answer.Done
+-- how the guard of a place holds its shard, if it has a guard
+abbrev pub guard_mode : Option ℕ → Option Hold → Option Mode
+guard_mode None hold = None
+guard_mode (Some slot) None = None
+guard_mode (Some slot) (Some hold) = Some hold.mode
+
+abbrev pub guard_of : {K V D T A : Type 0} → Place K V D T A → Option Mode
+guard_of p = guard_mode p.slot p.hold
+
+-- a start: before an admission, a deed or a release; or, where the guard doesn't allow the call or none is held, before the answer
+abbrev pub start_phase : {K V D T : Type 0} → Ask K V D → Option Mode → Phase K V D T
+start_phase (ask.Keyed k) guard = phase.Admit (request.Keyed k)
+start_phase (ask.Begin b) guard = phase.Admit (request.Begin b)
+start_phase (ask.Held (held.Read d)) (Some mode) = phase.Read d
+start_phase (ask.Held (held.Write d)) (Some Shared) = phase.Answer answer.WrongGuard
+start_phase (ask.Held (held.Write d)) (Some Exclusive) = phase.Write d
+start_phase (ask.Held held.Drop) (Some mode) = phase.Release answer.Done
 start_phase (ask.Held h) None = phase.Answer answer.NoGuard
 
 abbrev pub start_shard : {K V D : Type 0} → (K → ℕ) → Ask K V D → ℕ → ℕ
 start_shard route (ask.Keyed (keyed.Insert k v)) shard = route k
 start_shard route (ask.Keyed (keyed.Remove k)) shard = route k
 start_shard route (ask.Begin (begin.Get k)) shard = route k
+start_shard route (ask.Begin (begin.GetMut k)) shard = route k
 start_shard route (ask.Held h) shard = shard
 
--- the block that a start counts its call in: that of a session without guard
-abbrev pub start_counts : {K V D : Type 0} → Ask K V D → Option ℕ → Option ℕ → Option ℕ
-start_counts (ask.Keyed k) slot block = None
-start_counts (ask.Begin b) slot block = None
-start_counts (ask.Held h) (Some i) block = None
+-- the block that a start counts its call in: that of the session, where the guard doesn't allow the call or none is held
+abbrev pub start_counts : {K V D : Type 0} → Ask K V D → Option Mode → Option ℕ → Option ℕ
+start_counts (ask.Keyed k) guard block = None
+start_counts (ask.Begin b) guard block = None
+start_counts (ask.Held (held.Read d)) (Some mode) block = None
+start_counts (ask.Held (held.Write d)) (Some Shared) block = block
+start_counts (ask.Held (held.Write d)) (Some Exclusive) block = None
+start_counts (ask.Held held.Drop) (Some mode) block = None
 start_counts (ask.Held h) None block = block
 
 -- a find: by the place of the key's pair in the shard's list, and whether the list has room for one more
@@ -67,8 +85,8 @@ found_phase (request.Keyed (keyed.Insert k v)) None true = phase.Append k v
 found_phase (request.Keyed (keyed.Insert k v)) None false = phase.Grow k v
 found_phase (request.Keyed (keyed.Remove k)) (Some i) room = phase.Take i
 found_phase (request.Keyed (keyed.Remove k)) None room = phase.Release answer.None
-found_phase (request.Begin (begin.Get k)) (Some i) room = phase.Answer answer.Held
-found_phase (request.Begin (begin.Get k)) None room = phase.Release answer.None
+found_phase (request.Begin b) (Some i) room = phase.Answer answer.Held
+found_phase (request.Begin b) None room = phase.Release answer.None
 
 -- how many of its calls the block that a find lists has done; where a growth is needed it lists none
 abbrev pub found_done : {K V : Type 0} → Request K V → Option ℕ → Bool → Option ℕ
@@ -77,12 +95,12 @@ found_done (request.Keyed (keyed.Insert k v)) None true = Some 0
 found_done (request.Keyed (keyed.Insert k v)) None false = None
 found_done (request.Keyed (keyed.Remove k)) (Some i) room = Some 0
 found_done (request.Keyed (keyed.Remove k)) None room = Some 1
-found_done (request.Begin (begin.Get k)) slot room = Some 1
+found_done (request.Begin b) slot room = Some 1
 
 -- the guard that a find gives
 abbrev pub found_slot : {K V : Type 0} → Request K V → Option ℕ → Option ℕ
 found_slot (request.Keyed k) slot = None
-found_slot (request.Begin (begin.Get k)) slot = slot
+found_slot (request.Begin b) slot = slot
 
 -- the block of a thread behind a step that may have listed one
 abbrev pub block_behind : Option ℕ → ℕ → Option ℕ → Option ℕ

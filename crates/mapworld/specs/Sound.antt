@@ -1,5 +1,5 @@
 -- What holds of a world between two steps, calls half done included.
-use Rattle.std.specs.Prelude.{◌≡◌, ℕ, ◌+◌, ◌-◌, ◌<◌, ◌≤◌, ◌⊎◌, Bool, true, false, if◌then◌else◌, List, length, drop, Option, Some, None, slice_get, vec_len, vec_capacity}
+use Rattle.std.specs.Prelude.{◌≡◌, ◌≢◌, ℕ, ◌+◌, ◌-◌, ◌<◌, ◌≤◌, ◌⊎◌, Bool, true, false, if◌then◌else◌, List, length, drop, Option, Some, None, slice_get, vec_len, vec_capacity}
 use Rattle.std.specs.declared.vec.Vec.{Vec}
 use Rattle.mapworld_calls.specs.declared.ask.Ask.{Ask}
 use Rattle.mapworld_calls.specs.declared.ask.Ask.TheVariants as ask
@@ -10,7 +10,7 @@ use Rattle.mapworld_calls.specs.declared.reply.Reply.{Reply}
 use Rattle.mapworld_calls.specs.declared.reply.Answer.{Answer}
 use Rattle.mapworld_calls.specs.declared.reply.Answer.TheVariants as answer
 use Rattle.mapworld_calls.specs.Programs.{one_guard}
-use Rattle.mapworld_calls.specs.Calls.{At, free, shared}
+use Rattle.mapworld_calls.specs.Calls.{At, free, shared, exclusive}
 use Rattle.mapworld_calls.specs.Setup.{Setup, ask_at, session_of}
 use Rattle.mapworld_calls.specs.Pairs.{pair_of, AreDistinct}
 use Rattle.mapworld_calls.specs.Replay.{reached, block_key, contents, found, IsLastOnShard}
@@ -19,10 +19,12 @@ use Rattle.mapworld_calls.specs.Placed.{IsStepOf, answered_of, WellPlaced}
 use Rattle.mapworld.specs.declared.holds.Mode.{Mode}
 use Rattle.mapworld.specs.declared.holds.Mode.TheVariants.{Shared, Exclusive}
 use Rattle.mapworld.specs.declared.holds.Hold.{Hold}
-use Rattle.mapworld.specs.declared.holds.Held.{Held}
 use Rattle.mapworld.specs.declared.place.Phase.{Phase}
 use Rattle.mapworld.specs.declared.place.Phase.TheVariants as phase
 use Rattle.mapworld.specs.declared.place.Place.{Place}
+use Rattle.lock_api_desk.specs.Guards.{Guard}
+use Rattle.lock_api_desk.specs.Desk.{DeskState}
+use Rattle.mapworld.specs.Holds.{Desks, guard_for}
 use Rattle.mapworld.specs.State.{State, threads_of, started_of}
 use Rattle.mapworld.specs.Moves.{ask_of, request_key, mode_of, is_last}
 
@@ -36,6 +38,7 @@ is_resting (phase.Append k v) = false
 is_resting (phase.Replace i v) = false
 is_resting (phase.Take i) = false
 is_resting (phase.Read d) = false
+is_resting (phase.Write d) = false
 is_resting (phase.Release a) = false
 is_resting (phase.Answer a) = false
 
@@ -49,6 +52,7 @@ may_own (phase.Append k v) = true
 may_own (phase.Replace i v) = true
 may_own (phase.Take i) = true
 may_own (phase.Read d) = false
+may_own (phase.Write d) = false
 may_own (phase.Release a) = true
 may_own (phase.Answer a) = true
 
@@ -77,10 +81,24 @@ pub record HoldsShard {K V D T A : Type 0} (p : Place K V D T A) (mode : Mode) :
 abbrev pub HoldsByGuard : {K V D T A : Type 0} → Place K V D T A → Type 0
 HoldsByGuard p = p.slot ≡ None → p.hold ≡ None
 
+-- a session at its guard's pair, by the guard's mode
+abbrev pub guarded : {K V : Type 0} → Mode → K × V → At K V
+guarded Shared pair = shared pair
+guarded Exclusive pair = exclusive pair
+
 -- a guard lends the pair that its session has come to, and a session without one is free
 abbrev pub GuardIs : {K V D T A : Type 0} → List (Vec (K × V) A) → Place K V D T A → Option ℕ → At K V → Type 0
 GuardIs {K} {V} tables p None at = (o : Option (K × V)) × (at ≡ free o)
-GuardIs {K} {V} tables p (Some slot) at = (pair : K × V) × (at ≡ shared pair) × HoldsShard p Shared × HasPair tables p.shard slot pair
+GuardIs {K} {V} tables p (Some slot) at = (pair : K × V) × (mode : Mode) × (at ≡ guarded mode pair) × HoldsShard p mode × HasPair tables p.shard slot pair
+
+-- the block is of a key of the place's shard
+abbrev pub IsOnShard : {K V D T A : Type 0} → Setup K V D T → Place K V D T A → Block K → Type 0
+IsOnShard {K} x p b = (k : K) → block_key x b ≡ Some k → p.shard ≡ x.route k
+
+-- so it is, and it is the last one there while the place holds the shard alone
+pub record IsSettled {K V D T A : Type 0} (x : Setup K V D T) (bs : List (Block K)) (p : Place K V D T A) (i : ℕ) (b : Block K) : Type 0 where
+  pub here : IsOnShard x p b
+  pub last : HoldsShard p Exclusive → IsLastOnShard x bs i b
 
 -- the session of the opening c has a block, which has done all calls of the session below n
 pub record HasSession {K V D T A : Type 0} (x : Setup K V D T) (bs : List (Block K)) (tables : List (Vec (K × V) A)) (t : ℕ) (p : Place K V D T A) (n c i : ℕ) : Type 0 where
@@ -91,6 +109,7 @@ pub record HasSession {K V D T A : Type 0} (x : Setup K V D T) (bs : List (Block
   pub below : c < n
   pub done : block.done.value ≡ n - c
   pub guard : GuardIs tables p p.slot (reached x t c (n - c) (found x bs i block))
+  pub settled : IsSettled x bs p i block
 
 abbrev pub IsInSessionOf : {K V D T A : Type 0} → Setup K V D T → List (Block K) → List (Vec (K × V) A) → ℕ → Place K V D T A → ℕ → ℕ → Option ℕ → Type 0
 IsInSessionOf x bs tables t p n c (Some i) = HasSession x bs tables t p n c i
@@ -163,6 +182,8 @@ Claim {K} {V} x threads bs tables t p (phase.Take slot) =
     (k : K) × (pair : K × V) × IsInCall x threads t p (ask.Keyed (keyed.Remove k)) × IsBeforeDeed x bs t p k (Some pair) × HasPair tables p.shard slot pair
 Claim x threads bs tables t p (phase.Read d) =
     (slot : ℕ) × IsInCall x threads t p (ask.Held (held.Read d)) × (p.slot ≡ Some slot) × IsReady x bs tables t p p.next p.block
+Claim x threads bs tables t p (phase.Write d) =
+    (slot : ℕ) × IsInCall x threads t p (ask.Held (held.Write d)) × (p.slot ≡ Some slot) × HoldsShard p Exclusive × IsReady x bs tables t p p.next p.block
 Claim {K} {V} {D} x threads bs tables t p (phase.Release r) =
     (a : Ask K V D) × (hold : Hold) × IsInCall x threads t p a × (p.hold ≡ Some hold) × IsReleasing x bs tables t p a r p.slot
 Claim {K} {V} {D} x threads bs tables t p (phase.Answer r) =
@@ -193,12 +214,15 @@ pub record TablesAgree {K V D T A : Type 0} (x : Setup K V D T) (bs : List (Bloc
   pub distinct : (i : ℕ) (table : Vec (K × V) A) → slice_get tables i ≡ Some table → AreDistinct x.eq table.items
   pub contents_are : (q : K) (table : Vec (K × V) A) → slice_get tables (x.route q) ≡ Some table → pair_of x.eq table.items q ≡ contents x bs q
 
--- the table of holds has the holds of the threads and no others, each under a guard number of its own, and none that excludes another
-pub record HoldsMatch {K V D T A : Type 0} (places : List (Place K V D T A)) (holds : List Held) : Type 0 where
-  pub listed : (t : ℕ) (p : Place K V D T A) (h : Hold) → slice_get places t ≡ Some p → p.hold ≡ Some h → (i : ℕ) × (slice_get holds i ≡ Some (record { hold = h; party = t }))
-  pub owned : (i : ℕ) (e : Held) → slice_get holds i ≡ Some e → (p : Place K V D T A) × (slice_get places e.party ≡ Some p) × (p.hold ≡ Some e.hold)
-  pub apart : (i j : ℕ) (e f : Held) → slice_get holds i ≡ Some e → slice_get holds j ≡ Some f → e.hold.guard ≡ f.hold.guard → i ≡ j
-  pub compatible : (i j : ℕ) (e f : Held) → slice_get holds i ≡ Some e → slice_get holds j ≡ Some f → (i ≡ j → ⊥) → e.hold.shard ≡ f.hold.shard → (e.hold.mode ≡ Shared) × (f.hold.mode ≡ Shared)
+-- the guards at the desks are the holds of the threads and no others, each under a guard number of its own, and no two holds exclude each other
+pub record HoldsMatch {K V D T A : Type 0} (places : List (Place K V D T A)) (holds : Desks) : Type 0 where
+  pub listed : (t : ℕ) (p : Place K V D T A) (h : Hold) → slice_get places t ≡ Some p → p.hold ≡ Some h
+      → (desk : DeskState (Unit {0})) × (i : ℕ) × (slice_get holds h.shard ≡ Some desk) × (slice_get desk.guards i ≡ Some (guard_for t h))
+  pub owned : (s i : ℕ) (desk : DeskState (Unit {0})) (g : Guard) → slice_get holds s ≡ Some desk → slice_get desk.guards i ≡ Some g
+      → (p : Place K V D T A) × (h : Hold) × (slice_get places g.party ≡ Some p) × (p.hold ≡ Some h) × (h.shard ≡ s) × (g ≡ guard_for g.party h)
+  pub apart : (t u : ℕ) (p q : Place K V D T A) (a b : Hold) → slice_get places t ≡ Some p → slice_get places u ≡ Some q → p.hold ≡ Some a → q.hold ≡ Some b → a.guard ≡ b.guard → t ≡ u
+  pub compatible : (t u : ℕ) (p q : Place K V D T A) (a b : Hold) → t ≢ u → slice_get places t ≡ Some p → slice_get places u ≡ Some q → p.hold ≡ Some a → q.hold ≡ Some b → a.shard ≡ b.shard
+      → (a.mode ≡ Shared) × (b.mode ≡ Shared)
 
 pub record Sound {K V S D T A : Type 0} (x : Setup K V D T) (w : State K V S D T A) : Type 0 where
   pub guarded : (t : ℕ) (program : List (Ask K V D)) → slice_get x.programs t ≡ Some program → one_guard false program ≡ true

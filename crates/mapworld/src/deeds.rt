@@ -5,12 +5,13 @@ ghost use Rattle.mapworld.specs.Sound.{Sound};
 ghost use Rattle.mapworld.specs.Running.{has_numbers};
 ghost use Rattle.mapworld.specs.World.{setup_of};
 ghost use Rattle.mapworld.specs.Core.{state_of, Room, IsBefore};
-ghost use Rattle.mapworld.specs.Steps.{Appends, Replaces, Takes, Reads};
+ghost use Rattle.mapworld.specs.Steps.{Appends, Replaces, Takes, Reads, Writes};
 
 use crate::blocks::count_in;
 use crate::moves::enter;
 use crate::place::Phase;
 use crate::step::Step;
+use crate::table::store_effect;
 use crate::world_core::Core;
 use mapworld_calls::{Answer, Deed};
 use std::alloc::Allocator;
@@ -129,6 +130,35 @@ pub(crate) fn read<
         &mut place.phase,
         Phase::Answer(Answer::Read(deed.answer(&pair.0, &pair.1))),
     );
+    count_in(&mut core.blocks, place.block, place.next);
+    core.count += 1;
+    core.steps = core.steps.and(&step);
+}
+
+/// The deed that writes the guarded pair's value.
+pub(crate) fn write<
+    K: Eq + Hash + Drop,
+    V: Drop,
+    S: BuildHasher,
+    D: Deed<K, V> + Drop,
+    A: Allocator,
+>(core: &mut Core<K, V, S, D, D::Answer, A>, step: Step)
+    requires sound { Sound (setup_of D.Deed S.BuildHasher S.Hasher.Hasher K.eq K.hash_input (state_of core.old)) (state_of core.old) }
+    requires room { Room core.old }
+    requires numbers { has_numbers (state_of core.old) ≡ true }
+    requires before { (deed : _) × IsBefore core.old.places.items step.thread (phase.Write deed) }
+    ensures step { Writes (setup_of D.Deed S.BuildHasher S.Hasher.Hasher K.eq K.hash_input (state_of core.old)) (state_of core.old) step (state_of core.new) }
+    ensures room { Room core.new }
+{
+    let place = &mut core.places[step.thread];
+    let Phase::Write(deed) = mem::replace(&mut place.phase, Phase::Answer(Answer::Done)) else {
+        unreachable!()
+    };
+    let Some(slot) = place.slot else {
+        unreachable!()
+    };
+    let table = &mut core.tables[place.shard];
+    store_effect(table, slot, &deed);
     count_in(&mut core.blocks, place.block, place.next);
     core.count += 1;
     core.steps = core.steps.and(&step);

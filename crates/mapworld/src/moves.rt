@@ -1,12 +1,13 @@
 //! Where each kind of step leads a thread.
 ghost use Rattle.std.specs.Prelude.{◌≡◌, is_some, if◌then◌else◌};
 ghost use Rattle.mapworld.specs.Route.{IsShardAmount, key_route};
-ghost use Rattle.mapworld.specs.Moves.{request_key, mode_of, is_last, start_phase, start_shard, start_counts, found_phase, found_done, found_slot, block_behind};
+ghost use Rattle.mapworld.specs.Moves.{request_key, mode_of, is_last, guard_of, start_phase, start_shard, start_counts, found_phase, found_done, found_slot, block_behind};
 
 use crate::holds::Mode;
-use crate::place::{Phase, Request};
+use crate::place::{Phase, Place, Request};
 use crate::route::shard_of;
 use mapworld_calls::{Answer, Ask, Begin, Held, Keyed};
+use std::alloc::Allocator;
 use std::hash::{BuildHasher, Hash};
 
 /// The key of a call on one key.
@@ -17,6 +18,7 @@ pub(crate) fn request_key<K, V>(request: &Request<K, V>) -> &K
         Request::Keyed(Keyed::Insert(key, _)) => key,
         Request::Keyed(Keyed::Remove(key)) => key,
         Request::Begin(Begin::Get(key)) => key,
+        Request::Begin(Begin::GetMut(key)) => key,
     }
 }
 
@@ -26,7 +28,8 @@ pub(crate) fn mode_of<K, V>(request: &Request<K, V>) -> Mode
 {
     match request {
         Request::Keyed(_) => Mode::Exclusive,
-        Request::Begin(_) => Mode::Shared,
+        Request::Begin(Begin::Get(_)) => Mode::Shared,
+        Request::Begin(Begin::GetMut(_)) => Mode::Exclusive,
     }
 }
 
@@ -37,22 +40,34 @@ pub(crate) fn is_last<K, V, D>(ask: &Ask<K, V, D>) -> bool
     match ask {
         Ask::Keyed(_) => true,
         Ask::Begin(_) => false,
-        Ask::Held(Held::Read(_)) => false,
+        Ask::Held(Held::Read(_) | Held::Write(_)) => false,
         Ask::Held(Held::Drop) => true,
+    }
+}
+
+/// How the guard of a place holds its shard, if it has a guard.
+pub(crate) fn guard_of<K, V, D, T, A: Allocator>(place: &Place<K, V, D, T, A>) -> Option<Mode>
+    ensures { result ≡ guard_of place.now }
+{
+    match (place.slot, place.hold) {
+        (Some(_), Some(hold)) => Some(hold.mode),
+        _ => None,
     }
 }
 
 /// The phase behind a call's start.
 pub(crate) fn start_phase<K: Drop, V: Drop, D: Drop, T>(
     ask: Ask<K, V, D>,
-    slot: Option<usize>,
+    guard: Option<Mode>,
 ) -> Phase<K, V, D, T>
-    ensures { result ≡ start_phase ask slot }
+    ensures { result ≡ start_phase ask guard }
 {
-    match (ask, slot) {
+    match (ask, guard) {
         (Ask::Keyed(keyed), _) => Phase::Admit(Request::Keyed(keyed)),
         (Ask::Begin(begin), _) => Phase::Admit(Request::Begin(begin)),
         (Ask::Held(Held::Read(deed)), Some(_)) => Phase::Read(deed),
+        (Ask::Held(Held::Write(deed)), Some(Mode::Exclusive)) => Phase::Write(deed),
+        (Ask::Held(Held::Write(_)), Some(Mode::Shared)) => Phase::Answer(Answer::WrongGuard),
         (Ask::Held(Held::Drop), Some(_)) => Phase::Release(Answer::Done),
         (Ask::Held(_), None) => Phase::Answer(Answer::NoGuard),
     }
@@ -72,6 +87,7 @@ pub(crate) fn start_shard<K: Eq + Hash, V, D, S: BuildHasher>(
         Ask::Keyed(Keyed::Insert(key, _)) => shard_of(hasher, shards, key),
         Ask::Keyed(Keyed::Remove(key)) => shard_of(hasher, shards, key),
         Ask::Begin(Begin::Get(key)) => shard_of(hasher, shards, key),
+        Ask::Begin(Begin::GetMut(key)) => shard_of(hasher, shards, key),
         Ask::Held(_) => shard,
     }
 }
@@ -79,13 +95,14 @@ pub(crate) fn start_shard<K: Eq + Hash, V, D, S: BuildHasher>(
 /// The block that a start counts its call in.
 pub(crate) fn start_counts<K, V, D>(
     ask: &Ask<K, V, D>,
-    slot: Option<usize>,
+    guard: Option<Mode>,
     block: Option<usize>,
 ) -> Option<usize>
-    ensures { result ≡ start_counts ask.now slot block }
+    ensures { result ≡ start_counts ask.now guard block }
 {
-    match (ask, slot) {
+    match (ask, guard) {
         (Ask::Held(_), None) => block,
+        (Ask::Held(Held::Write(_)), Some(Mode::Shared)) => block,
         _ => None,
     }
 }

@@ -31,6 +31,8 @@ pub(crate) enum Phase<K, V, D, T> {
     Take(usize),
     /// The guarded pair is read.
     Read(D),
+    /// The guarded pair's value is replaced by the deed's effect.
+    Write(D),
     /// The hold ends, and the call is to be answered so.
     Release(Answer<K, V, T>),
     /// The call is answered.

@@ -1,15 +1,22 @@
 -- Programs that hold one guard at a time: the test decides the definition, and sessions stand apart.
-use Rattle.std.proofs.Common.{◌≡◌, ℕ, zero, suc, ◌<◌, Bool, true, false, List, [], ◌∷◌, Option, Some, None, refl, ap, subst, sym, ◌∙◌, ◌⊎◌, inl, inr, ◌↔◌, IsTrue, drop, arith}
+use Rattle.std.proofs.Common.{◌≡◌, ℕ, zero, suc, ◌<◌, Bool, true, false, not, if◌then◌else◌, List, [], ◌∷◌, Option, Some, None, refl, ap, subst, sym, ◌∙◌, ◌⊎◌, inl, inr, ◌↔◌, IsTrue, drop, arith}
 use Rattle.std.specs.List.{slice_get}
 use Rattle.mapworld_calls.specs.declared.ask.Ask.{Ask}
 use Rattle.mapworld_calls.specs.declared.ask.Ask.TheVariants as ask
+use Rattle.mapworld_calls.specs.declared.ask.Held.{Held}
 use Rattle.mapworld_calls.specs.declared.ask.Held.TheVariants as held
 use Rattle.mapworld_calls.specs.declared.ask.Keyed.{Keyed}
 use Rattle.mapworld_calls.specs.declared.ask.Begin.{Begin}
-use Rattle.mapworld_calls.specs.Programs.{session_behind, opening_before, IsBeforeDrop, HoldsOneGuard, one_guard}
+use Rattle.mapworld_calls.specs.Programs.{is_drop, session_behind, opening_before, IsBeforeDrop, HoldsOneGuard, one_guard}
 use Rattle.mapworld_calls.specs.Sessions.{TakesAGuardNumber}
 
--- the guard that is held at the start has its drop, behind reads alone
+-- a call that is the guard's last is its drop
+pub is_drop_is : {D : Type 0} (h : Held D) → is_drop h ≡ true → h ≡ held.Drop
+is_drop_is (held.Read d) e = absurd (cc)
+is_drop_is (held.Write d) e = absurd (cc)
+is_drop_is held.Drop e = refl
+
+-- the guard that is held at the start has its drop, behind other calls on it alone
 pub record Closes {K V D : Type 0} (program : List (Ask K V D)) : Type 0 where
   pub at : ℕ
   pub last : slice_get program at ≡ Some (ask.Held held.Drop)
@@ -50,31 +57,34 @@ opening_holds b p h c zero b' e = (suc c.at, omega arith, c.last, reads_after (a
 opening_holds b p h c (suc i) b' e = let d = h i b' e in (suc d.0, omega (arith, d.1), d.2, reads_behind (ask.Begin b) p i d.0 d.3)
 
 -- what closes, by its first call
-read_behind : {K V D : Type 0} (d : D) (p : List (Ask K V D)) (c : Closes p) (k : ℕ) → k < suc c.at → IsBeforeDrop (slice_get (ask.Held (held.Read d) ∷ p) k)
-read_behind d p c zero l = (d, refl)
-read_behind d p c (suc k) l = c.reads k (omega arith)
+other_behind : {K V D : Type 0} (h : Held D) (p : List (Ask K V D)) → is_drop h ≡ false → (c : Closes p) (k : ℕ) → k < suc c.at → IsBeforeDrop (slice_get (ask.Held h ∷ p) k)
+other_behind h p other c zero l = (h, refl, other)
+other_behind h p other c (suc k) l = c.reads k (omega arith)
 
-read_closes : {K V D : Type 0} (d : D) (p : List (Ask K V D)) → Closes p → Closes (ask.Held (held.Read d) ∷ p)
-read_closes d p c = record { at = suc c.at; last = c.last; reads = read_behind d p c }
+other_closes : {K V D : Type 0} (h : Held D) (p : List (Ask K V D)) → is_drop h ≡ false → Closes p → Closes (ask.Held h ∷ p)
+other_closes h p other c = record { at = suc c.at; last = c.last; reads = other_behind h p other c }
 
 drop_closes : {K V D : Type 0} (p : List (Ask K V D)) → Closes (ask.Held held.Drop ∷ p)
 drop_closes p = record { at = 0; last = refl; reads = λ k l. absurd (omega arith) }
 
 closes_first : {K V D : Type 0} (a : Ask K V D) (p : List (Ask K V D)) (j : ℕ) → slice_get (a ∷ p) j ≡ Some (ask.Held held.Drop) → ((k : ℕ) → k < j → IsBeforeDrop (slice_get (a ∷ p) k))
-    → (a ≡ ask.Held held.Drop) ⊎ ((d : D) × (a ≡ ask.Held (held.Read d)) × Closes p)
+    → (a ≡ ask.Held held.Drop) ⊎ (IsBeforeDrop (Some a) × Closes p)
 closes_first a p zero e reads = inl (cc)
 closes_first a p (suc j) e reads =
-    let first = reads 0 (omega arith) in
-    let is : a ≡ ask.Held (held.Read first.0) = let w = first.1 in cc in
-    inr (first.0, is, record { at = j; last = e; reads = λ k l. reads (suc k) (omega arith) })
+    inr (reads 0 (omega arith), record { at = j; last = e; reads = λ k l. reads (suc k) (omega arith) })
 
-closes_by : {K V D : Type 0} (a : Ask K V D) (p : List (Ask K V D)) → Closes (a ∷ p) → (a ≡ ask.Held held.Drop) ⊎ ((d : D) × (a ≡ ask.Held (held.Read d)) × Closes p)
+closes_by : {K V D : Type 0} (a : Ask K V D) (p : List (Ask K V D)) → Closes (a ∷ p) → (a ≡ ask.Held held.Drop) ⊎ (IsBeforeDrop (Some a) × Closes p)
 closes_by a p c = closes_first a p c.at c.last c.reads
 
 -- what the test means of the rest of a program, whether a guard is held or not
 abbrev HoldsWithin : {K V D : Type 0} → Bool → List (Ask K V D) → Type 0
 HoldsWithin false p = HoldsOneGuard p
 HoldsWithin true p = HoldsOneGuard p × Closes p
+
+held_within : {K V D : Type 0} (h : Held D) (p : List (Ask K V D)) (is : Bool) → is_drop h ≡ is → HoldsWithin (not is) p → HoldsOneGuard (ask.Held h ∷ p) × Closes (ask.Held h ∷ p)
+held_within h p true e r =
+    (other_holds (ask.Held h) p (λ b z. cc) r, subst (λ (z : Held _). Closes (ask.Held z ∷ p)) (sym (is_drop_is h e)) (drop_closes p))
+held_within h p false e r = (other_holds (ask.Held h) p (λ b z. cc) r.0, other_closes h p e r.1)
 
 holds_within : {K V D : Type 0} (within : Bool) (p : List (Ask K V D)) → one_guard within p ≡ true → HoldsWithin within p
 holds_within false [] h = λ i b e. absurd (cc)
@@ -83,25 +93,29 @@ holds_within false (ask.Keyed k ∷ p) h = other_holds (ask.Keyed k) p (λ b e. 
 holds_within true (ask.Keyed k ∷ p) h = absurd (cc)
 holds_within false (ask.Begin b ∷ p) h = let r = holds_within true p h in opening_holds b p r.0 r.1
 holds_within true (ask.Begin b ∷ p) h = absurd (cc)
-holds_within false (ask.Held held.Drop ∷ p) h = other_holds (ask.Held held.Drop) p (λ b e. cc) (holds_within false p h)
-holds_within true (ask.Held held.Drop ∷ p) h = (other_holds (ask.Held held.Drop) p (λ b e. cc) (holds_within false p h), drop_closes p)
-holds_within false (ask.Held (held.Read d) ∷ p) h = other_holds (ask.Held (held.Read d)) p (λ b e. cc) (holds_within false p h)
-holds_within true (ask.Held (held.Read d) ∷ p) h =
-    let r = holds_within true p h in
-    (other_holds (ask.Held (held.Read d)) p (λ b e. cc) r.0, read_closes d p r.1)
+holds_within false (ask.Held g ∷ p) h = other_holds (ask.Held g) p (λ b e. cc) (holds_within false p h)
+holds_within true (ask.Held g ∷ p) h = held_within g p (is_drop g) refl (holds_within (not (is_drop g)) p h)
 
 -- a guard that is held at a call closes by that call, or behind it
-read_stays : {K V D : Type 0} (d : D) (p : List (Ask K V D)) → Closes (ask.Held (held.Read d) ∷ p) → Closes p
-read_stays d p c = elim (closes_by (ask.Held (held.Read d)) p c) [ inl e ↦ absurd (cc) | inr r ↦ r.2 ]
+other_stays : {K V D : Type 0} (h : Held D) (p : List (Ask K V D)) → is_drop h ≡ false → Closes (ask.Held h ∷ p) → Closes p
+other_stays {K} {V} {D} h p other c =
+    elim (closes_by (ask.Held h) p c) [
+      | inl e ↦ let same : h ≡ held.Drop = cc in absurd (let drops : is_drop h ≡ true = ap (λ (z : Held D). is_drop z) same in cc)
+      | inr r ↦ r.1
+    ]
 
 keyed_never : {K V D : Type 0} (k : Keyed K V) (p : List (Ask K V D)) → Closes (ask.Keyed k ∷ p) → ⊥
-keyed_never k p c = elim (closes_by (ask.Keyed k) p c) [ inl e ↦ (cc) | inr r ↦ let e = r.1 in (cc) ]
+keyed_never k p c = elim (closes_by (ask.Keyed k) p c) [ inl e ↦ (cc) | inr r ↦ let e = r.0.1 in (cc) ]
 
 opening_never : {K V D : Type 0} (b : Begin K) (p : List (Ask K V D)) → Closes (ask.Begin b ∷ p) → ⊥
-opening_never b p c = elim (closes_by (ask.Begin b) p c) [ inl e ↦ (cc) | inr r ↦ let e = r.1 in (cc) ]
+opening_never b p c = elim (closes_by (ask.Begin b) p c) [ inl e ↦ (cc) | inr r ↦ let e = r.0.1 in (cc) ]
 
 empty_never : {K V D : Type 0} → Closes {K = K} {V = V} {D = D} [] → ⊥
 empty_never c = let e = c.last in (cc)
+
+stays_within : {K V D : Type 0} (h : Held D) (p : List (Ask K V D)) (is : Bool) → is_drop h ≡ is → HoldsOneGuard (ask.Held h ∷ p) → Closes (ask.Held h ∷ p) → HoldsWithin (not is) p
+stays_within h p true e holds closes = rest_holds (ask.Held h) p holds
+stays_within h p false e holds closes = (rest_holds (ask.Held h) p holds, other_stays h p e closes)
 
 passes_within : {K V D : Type 0} (within : Bool) (p : List (Ask K V D)) → HoldsWithin within p → one_guard within p ≡ true
 passes_within false [] h = refl
@@ -110,10 +124,8 @@ passes_within false (ask.Keyed k ∷ p) h = passes_within false p (rest_holds (a
 passes_within true (ask.Keyed k ∷ p) h = absurd (keyed_never k p h.1)
 passes_within false (ask.Begin b ∷ p) h = passes_within true p (rest_holds (ask.Begin b) p h, opening_closes b p h)
 passes_within true (ask.Begin b ∷ p) h = absurd (opening_never b p h.1)
-passes_within false (ask.Held held.Drop ∷ p) h = passes_within false p (rest_holds (ask.Held held.Drop) p h)
-passes_within true (ask.Held held.Drop ∷ p) h = passes_within false p (rest_holds (ask.Held held.Drop) p h.0)
-passes_within false (ask.Held (held.Read d) ∷ p) h = passes_within false p (rest_holds (ask.Held (held.Read d)) p h)
-passes_within true (ask.Held (held.Read d) ∷ p) h = passes_within true p (rest_holds (ask.Held (held.Read d)) p h.0, read_stays d p h.1)
+passes_within false (ask.Held g ∷ p) h = passes_within false p (rest_holds (ask.Held g) p h)
+passes_within true (ask.Held g ∷ p) h = passes_within (not (is_drop g)) p (stays_within g p (is_drop g) refl h.0 h.1)
 
 -- the test says yes just where the program holds one guard at a time
 pub one_guard_holds : {K V D : Type 0} (program : List (Ask K V D)) → one_guard false program ≡ true → HoldsOneGuard program
@@ -146,6 +158,17 @@ drop_split [] (suc c) = refl
 drop_split (x ∷ xs) zero = refl
 drop_split (x ∷ xs) (suc c) = drop_split xs c
 
+-- a session stays open but for its drop
+closed_stays : (drops : Bool) → false ≡ is_open (if drops then None else None)
+unfolding is_open
+closed_stays true = refl
+closed_stays false = refl
+
+open_stays : (drops : Bool) (i : ℕ) → not drops ≡ is_open (if drops then None else Some i)
+unfolding is_open
+open_stays true i = refl
+open_stays false i = refl
+
 -- the test of what is left of a program goes on by the session that is open
 passes_on : {K V D : Type 0} (c : ℕ) (o : Option (Ask K V D)) (s : Option ℕ) (rest : List (Ask K V D)) → one_guard (is_open s) (onto o rest) ≡ true → one_guard (is_open (session_behind c o s)) rest ≡ true
 unfolding is_open onto
@@ -154,10 +177,8 @@ passes_on c (Some (ask.Keyed k)) None rest h = h
 passes_on c (Some (ask.Keyed k)) (Some i) rest h = absurd (cc)
 passes_on c (Some (ask.Begin b)) None rest h = h
 passes_on c (Some (ask.Begin b)) (Some i) rest h = absurd (cc)
-passes_on c (Some (ask.Held held.Drop)) None rest h = h
-passes_on c (Some (ask.Held held.Drop)) (Some i) rest h = h
-passes_on c (Some (ask.Held (held.Read d))) None rest h = h
-passes_on c (Some (ask.Held (held.Read d))) (Some i) rest h = h
+passes_on c (Some (ask.Held g)) None rest h = subst (λ b. one_guard b rest ≡ true) (closed_stays (is_drop g)) h
+passes_on c (Some (ask.Held g)) (Some i) rest h = subst (λ b. one_guard b rest ≡ true) (open_stays (is_drop g) i) h
 
 passes_from : {K V D : Type 0} (program : List (Ask K V D)) → one_guard false program ≡ true → (c : ℕ) → one_guard (is_open (opening_before program c)) (drop c program) ≡ true
 unfolding is_open
@@ -187,13 +208,16 @@ one_guard_apart program h c k e = sessions_apart program h c (ask.Keyed k) e ref
 pub one_guard_begin_apart : {K V D : Type 0} (program : List (Ask K V D)) → one_guard false program ≡ true → (c : ℕ) (b : Begin K) → slice_get program c ≡ Some (ask.Begin b) → opening_before program c ≡ None
 one_guard_begin_apart program h c b e = sessions_apart program h c (ask.Begin b) e refl
 
+still_open : (drops : Bool) (s : Option ℕ) (i : ℕ) → (if drops then None else s) ≡ Some i → s ≡ Some i
+still_open true s i e = absurd (cc)
+still_open false s i e = e
+
 -- the session behind a call is that call's, or it was open before
 behind_by : {K V D : Type 0} (c i : ℕ) (o : Option (Ask K V D)) (s : Option ℕ) → session_behind c o s ≡ Some i → ((c ≡ i) × ((b : Begin K) × (o ≡ Some (ask.Begin b)))) ⊎ (s ≡ Some i)
 behind_by c i None s e = inr e
 behind_by c i (Some (ask.Keyed k)) s e = inr e
 behind_by c i (Some (ask.Begin b)) s e = inl ((cc), (b, refl))
-behind_by c i (Some (ask.Held held.Drop)) s e = absurd (cc)
-behind_by c i (Some (ask.Held (held.Read d))) s e = inr e
+behind_by c i (Some (ask.Held h)) s e = inr (still_open (is_drop h) s i e)
 
 -- the opening of a session stands before its calls
 pub opening_below : {K V D : Type 0} (program : List (Ask K V D)) (c i : ℕ) → opening_before program c ≡ Some i → i < c

@@ -16,10 +16,12 @@ use Rattle.mapworld_calls.specs.Deeds.{Deeds}
 pub data At (K V : Type 0) : Type 0 where
   free : Option (K × V) → At K V
   shared : K × V → At K V
+  exclusive : K × V → At K V
 
 abbrev pub pair_in : {K V : Type 0} → At K V → Option (K × V)
 pair_in (free o) = o
 pair_in (shared p) = Some p
+pair_in (exclusive p) = Some p
 
 -- a keyed call, by the pair that it finds
 abbrev pub keyed_answer : {K V T : Type 0} → Keyed K V → Option (K × V) → Answer K V T
@@ -37,21 +39,33 @@ keyed_leaves (keyed.Remove k) o = None
 abbrev pub opening_answer : {K V T : Type 0} → Begin K → Option (K × V) → Answer K V T
 opening_answer (begin.Get k) None = answer.None
 opening_answer (begin.Get k) (Some p) = answer.Held
+opening_answer (begin.GetMut k) None = answer.None
+opening_answer (begin.GetMut k) (Some p) = answer.Held
 
 abbrev pub opened : {K V : Type 0} → Begin K → Option (K × V) → At K V
 opened (begin.Get k) None = free None
 opened (begin.Get k) (Some p) = shared p
+opened (begin.GetMut k) None = free None
+opened (begin.GetMut k) (Some p) = exclusive p
 
 -- a call on the guard
 abbrev pub held_answer : {D K V T : Type 0} → Deeds D K V T → Held D → At K V → Answer K V T
 held_answer deeds h (free o) = answer.NoGuard
 held_answer deeds (held.Read d) (shared p) = answer.Read (deeds.answer d p.0 p.1)
+held_answer deeds (held.Write d) (shared p) = answer.WrongGuard
 held_answer deeds held.Drop (shared p) = answer.Done
+held_answer deeds (held.Read d) (exclusive p) = answer.Read (deeds.answer d p.0 p.1)
+held_answer deeds (held.Write d) (exclusive p) = answer.Done
+held_answer deeds held.Drop (exclusive p) = answer.Done
 
 abbrev pub held_leaves : {D K V T : Type 0} → Deeds D K V T → Held D → At K V → At K V
 held_leaves deeds h (free o) = free o
 held_leaves deeds (held.Read d) (shared p) = shared p
+held_leaves deeds (held.Write d) (shared p) = shared p
 held_leaves deeds held.Drop (shared p) = free (Some p)
+held_leaves deeds (held.Read d) (exclusive p) = exclusive p
+held_leaves deeds (held.Write d) (exclusive p) = exclusive (p.0, deeds.effect d p.0 p.1)
+held_leaves deeds held.Drop (exclusive p) = free (Some p)
 
 -- what a call is answered, and what it leaves
 abbrev pub told : {D K V T : Type 0} → Deeds D K V T → Ask K V D → At K V → Answer K V T

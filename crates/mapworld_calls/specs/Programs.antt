@@ -1,17 +1,23 @@
 -- Programs: which calls stand in a session, and what each needs.
-use Rattle.std.specs.Prelude.{◌≡◌, ℕ, zero, suc, ◌<◌, Bool, true, false, List, [], ◌∷◌, Option, Some, None, slice_get}
+use Rattle.std.specs.Prelude.{◌≡◌, ℕ, zero, suc, ◌<◌, Bool, true, false, ◌&&◌, not, if◌then◌else◌, List, [], ◌∷◌, Option, Some, None, slice_get}
 use Rattle.mapworld_calls.specs.declared.ask.Ask.{Ask}
 use Rattle.mapworld_calls.specs.declared.ask.Ask.TheVariants as ask
+use Rattle.mapworld_calls.specs.declared.ask.Held.{Held}
 use Rattle.mapworld_calls.specs.declared.ask.Held.TheVariants as held
 use Rattle.mapworld_calls.specs.declared.ask.Keyed.{Keyed}
 use Rattle.mapworld_calls.specs.declared.ask.Keyed.TheVariants as keyed
 use Rattle.mapworld_calls.specs.declared.ask.Begin.TheVariants as begin
 
+-- whether a call on the guard is its last
+abbrev pub is_drop : {D : Type 0} → Held D → Bool
+is_drop (held.Read d) = false
+is_drop (held.Write d) = false
+is_drop held.Drop = true
+
 -- the session that stands open behind a call: an opening begins one, and a drop ends it
 abbrev pub session_behind : {K V D : Type 0} → ℕ → Option (Ask K V D) → Option ℕ → Option ℕ
 session_behind c (Some (ask.Begin b)) s = Some c
-session_behind c (Some (ask.Held held.Drop)) s = None
-session_behind c (Some (ask.Held (held.Read d))) s = s
+session_behind c (Some (ask.Held h)) s = if is_drop h then None else s
 session_behind c (Some (ask.Keyed k)) s = s
 session_behind c None s = s
 
@@ -22,7 +28,7 @@ opening_before program (suc c) = session_behind c (slice_get program c) (opening
 
 -- the call is one of a guard's, and not its last
 abbrev pub IsBeforeDrop : {K V D : Type 0} → Option (Ask K V D) → Type 0
-IsBeforeDrop {K} {V} {D} a = (d : D) × (a ≡ Some (ask.Held (held.Read d)))
+IsBeforeDrop {K} {V} {D} a = (h : Held D) × (a ≡ Some (ask.Held h)) × (is_drop h ≡ false)
 
 -- each opening has its drop behind it, with nothing but calls on the guard between
 abbrev pub HoldsOneGuard : {K V D : Type 0} → List (Ask K V D) → Type 0
@@ -38,8 +44,7 @@ one_guard false (ask.Keyed k ∷ asks) = one_guard false asks
 one_guard true (ask.Keyed k ∷ asks) = false
 one_guard false (ask.Begin b ∷ asks) = one_guard true asks
 one_guard true (ask.Begin b ∷ asks) = false
-one_guard within (ask.Held held.Drop ∷ asks) = one_guard false asks
-one_guard within (ask.Held (held.Read d) ∷ asks) = one_guard within asks
+one_guard within (ask.Held h ∷ asks) = one_guard (within && not (is_drop h)) asks
 
 -- how many guard numbers a call takes
 abbrev pub numbers_of : {K V D : Type 0} → Ask K V D → ℕ
@@ -52,6 +57,7 @@ abbrev pub key_of : {K V D : Type 0} → Ask K V D → Option K
 key_of (ask.Keyed (keyed.Insert k v)) = Some k
 key_of (ask.Keyed (keyed.Remove k)) = Some k
 key_of (ask.Begin (begin.Get k)) = Some k
+key_of (ask.Begin (begin.GetMut k)) = Some k
 key_of (ask.Held h) = None
 
 -- the calls that may be refused for memory

@@ -26,6 +26,8 @@ pub enum Keyed<K, V> {
 pub enum Begin<K> {
     /// A shared guard of the key's pair, answered `Held`; `None` where the key is absent, and then there is no guard.
     Get(K),
+    /// An exclusive guard of the key's pair, answered `Held`; `None` where the key is absent, and then there is no guard.
+    GetMut(K),
 }
 
 /// A call on the guard. Where no guard is held it answers `NoGuard` and changes nothing.
@@ -33,6 +35,9 @@ pub enum Begin<K> {
 pub enum Held<D> {
     /// Answers `Read` with the deed's answer of the guarded pair.
     Read(D),
+    /// Under an exclusive guard it answers `Done`, and the value is the deed's effect; under a shared one it answers
+    /// `WrongGuard` and changes nothing.
+    Write(D),
     /// Answers `Done`; the guard ends.
     Drop,
 }

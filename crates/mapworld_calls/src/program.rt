@@ -5,7 +5,7 @@ ghost use Rattle.mapworld_calls.specs.Sessions.{SessionsAreApart};
 
 use crate::ask::{Ask, Held};
 
-/// Whether the program holds one guard at a time: behind each opening stands its drop, with nothing but reads between.
+/// Whether the program holds one guard at a time: behind each opening stands its drop, with nothing but calls on the guard between.
 /// A world takes only such programs, so that no thread waits for a shard while it holds a guard.
 ///
 /// It reads the program once, takes no memory and cannot fail. A call on the guard where none is held is no fault: it
@@ -35,8 +35,8 @@ pub fn holds_one_guard<K, V, D>(program: &[Ask<K, V, D>]) -> bool
                 }
                 held = true;
             }
-            Ask::Held(Held::Read(_)) => {}
             Ask::Held(Held::Drop) => held = false,
+            Ask::Held(Held::Read(_) | Held::Write(_)) => {}
         }
     }
     !held

@@ -17,6 +17,8 @@ pub enum Answer<K, V, T> {
     Held,
     /// A call on a guard where none is held.
     NoGuard,
+    /// A call that the guard's kind doesn't allow.
+    WrongGuard,
     /// A growth was refused: code 99. The call changed no pair.
     NoMemory,
 }

@@ -13,7 +13,11 @@ type Call = Ask<u64, u64, u8>;
 
 const GET: Call = Ask::Begin(Begin::Get(1));
 
+const GET_MUT: Call = Ask::Begin(Begin::GetMut(1));
+
 const READ: Call = Ask::Held(Held::Read(0));
+
+const WRITE: Call = Ask::Held(Held::Write(0));
 
 const DROP: Call = Ask::Held(Held::Drop);
 
@@ -23,12 +27,14 @@ const REMOVE: Call = Ask::Keyed(Keyed::Remove(1));
 
 #[test]
 fn a_program_holds_one_guard(rt: HostRuntime) {
-    let table: [(&[Call], bool); 8] = [
+    let table: [(&[Call], bool); 10] = [
         (&[], true),
         (&[READ, DROP], true),
         (&[GET, READ, DROP], true),
         (&[GET, READ, READ, DROP, REMOVE], true),
+        (&[GET_MUT, WRITE, READ, DROP], true),
         (&[GET], false),
+        (&[GET_MUT, WRITE], false),
         (&[GET, READ], false),
         (&[GET, GET, DROP], false),
         (&[GET, INSERT, DROP], false),
@@ -62,8 +68,8 @@ fn keys_spread(rt: HostRuntime) {
 #[test]
 fn calls_are_shown(rt: HostRuntime) -> Result<(), Fail> {
     let alloc = rt.alloc();
-    let shown = format!(in alloc; "{INSERT:?} {REMOVE:?} {GET:?} {READ:?} {DROP:?}")?;
-    let want = "Keyed(Insert(2, 3)) Keyed(Remove(1)) Begin(Get(1)) Held(Read(0)) Held(Drop)";
+    let shown = format!(in alloc; "{INSERT:?} {REMOVE:?} {GET:?} {GET_MUT:?} {READ:?} {WRITE:?} {DROP:?}")?;
+    let want = "Keyed(Insert(2, 3)) Keyed(Remove(1)) Begin(Get(1)) Begin(GetMut(1)) Held(Read(0)) Held(Write(0)) Held(Drop)";
     assert_eq!(rt; shown.as_str(), want);
     let reply: Reply<u64, u64, u8> = Reply {
         thread: 0,

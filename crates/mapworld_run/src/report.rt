@@ -196,6 +196,7 @@ fn tell_reply<A: Allocator>(
         Answer::Read(value) => writeln!(text, "value {value}"),
         Answer::Held => writeln!(text, "held"),
         Answer::NoGuard => writeln!(text, "no guard"),
+        Answer::WrongGuard => writeln!(text, "wrong guard"),
         Answer::NoMemory => writeln!(text, "no memory"),
     }
 }

@@ -4,5 +4,6 @@ mod keys;
 mod limits;
 mod memory;
 mod rows;
+mod sessions;
 mod text;
 mod worlds;

@@ -1,7 +1,6 @@
 use super::worlds::{
-    Asked, drop_guard, get, has_pairs, insert, read, remove, stands, step_round, told, world,
+    Asked, World, drop_guard, get, has_pairs, insert, read, remove, stands, step_round, told, world,
 };
-use crate::report::ReadValue;
 use mapworld::{Answer, MapWorld, SpreadState, Status, WorldNewFault};
 use std::alloc::{AllocError, Global};
 use std::test::Fail;
@@ -114,7 +113,7 @@ fn a_world_of_4096_shards_runs_to_its_end(rt: HostRuntime) -> Result<(), Fail> {
         vec![in rt.alloc(); remove(0), insert(255, 1)]?,
         vec![in rt.alloc(); get(7), read(), drop_guard()]?,
     ]?;
-    let mut world: MapWorld<u64, u64, SpreadState, ReadValue> = MapWorld::new(
+    let mut world: World<Global> = MapWorld::new(
         rt.alloc(),
         4096,
         SpreadState,

@@ -1,6 +1,5 @@
 //! Worlds of numbers for the other tests, and how they are stepped.
 
-use crate::report::ReadValue;
 use mapworld::{
     Answer, Ask, Begin, Deed, Held, Keyed, MapWorld, RunFault, SpreadState, Status, Step,
     WorldNewFault,
@@ -9,11 +8,42 @@ use std::alloc::{Allocator, Global};
 use std::hash::{BuildHasher, Hash};
 use std::test::Fail;
 
-pub type Asked = Ask<u64, u64, ReadValue>;
+/// Reads the value, and stores it times a number and one more number, cut to the width.
+#[derive(Drop)]
+pub struct Linear {
+    times: u64,
+    more: u64,
+}
+
+impl Deed<u64, u64> for Linear {
+    type Answer = u64;
+
+    ghost use Rattle.std.specs.Prelude.{true, ◌+◌, ◌*◌, ◌%◌, ◌^◌};
+
+    ghost answer_of = { λ deed key value. value };
+
+    ghost keeps = { λ deed key value. true };
+
+    ghost effect_of = { λ deed key value. (value * deed.times % 2 ^ 64 + deed.more) % 2 ^ 64 };
+
+    fn answer(&self, _key: &u64, value: &u64) -> u64 {
+        *value
+    }
+
+    fn keep(&self, _key: &u64, _value: &u64) -> bool {
+        true
+    }
+
+    fn effect(&self, _key: &u64, value: u64) -> u64 {
+        value.wrapping_mul(self.times).wrapping_add(self.more)
+    }
+}
+
+pub type Asked = Ask<u64, u64, Linear>;
 
 pub type Answered = Answer<u64, u64, u64>;
 
-pub type World<A> = MapWorld<u64, u64, SpreadState, ReadValue, A>;
+pub type World<A> = MapWorld<u64, u64, SpreadState, Linear, A>;
 
 pub fn insert(key: u64, value: u64) -> Asked {
     Ask::Keyed(Keyed::Insert(key, value))
@@ -28,7 +58,22 @@ pub fn get(key: u64) -> Asked {
 }
 
 pub fn read() -> Asked {
-    Ask::Held(Held::Read(ReadValue))
+    Ask::Held(Held::Read(Linear { times: 1, more: 0 }))
+}
+
+pub fn get_mut(key: u64) -> Asked {
+    Ask::Begin(Begin::GetMut(key))
+}
+
+pub fn add(more: u64) -> Asked {
+    Ask::Held(Held::Write(Linear { times: 1, more }))
+}
+
+pub fn set(value: u64) -> Asked {
+    Ask::Held(Held::Write(Linear {
+        times: 0,
+        more: value,
+    }))
 }
 
 pub fn drop_guard() -> Asked {

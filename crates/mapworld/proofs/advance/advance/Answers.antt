@@ -38,6 +38,10 @@ pub read-requires-clause-before : goal.read-requires-clause-before
 read-requires-clause-before g c =
     (c.in-Read.field-0, is_before c.args.core.now.places.items c.args.step.thread c.index.result.now (phase.Read c.in-Read.field-0) c.requires.thread c.index.ensures c.in-Read.is)
 
+pub write-requires-clause-before : goal.write-requires-clause-before
+write-requires-clause-before g c =
+    (c.in-Write.field-0, is_before c.args.core.now.places.items c.args.step.thread c.index.result.now (phase.Write c.in-Write.field-0) c.requires.thread c.index.ensures c.in-Write.is)
+
 pub release-requires-clause-before : goal.release-requires-clause-before
 release-requires-clause-before g c =
     (c.in-Release.field-0, is_before c.args.core.now.places.items c.args.step.thread c.index.result.now (phase.Release c.in-Release.field-0) c.requires.thread c.index.ensures c.in-Release.is)

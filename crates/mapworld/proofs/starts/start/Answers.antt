@@ -1,7 +1,9 @@
 use Rattle.std.proofs.Common.{◌+◌, length, Some, refl, sym, ap, ◌∙◌, arith, length-append}
 use Rattle.mapworld.specs.Core.{owes, lists, adds}
-use Rattle.mapworld.proofs.Rooms.{shifted}
-use Rattle.mapworld.proofs.Facts.{stands_here, phase_here, claim_at, next_fits, counted_block, session_counts}
+use Rattle.mapworld.proofs.Rooms.{shifted, same_desks}
+use Rattle.mapworld.proofs.Facts.{stands_here, phase_here, claim_at, next_fits, session_counts}
+use Rattle.mapworld.specs.Moves.{guard_of, start_counts}
+use Rattle.mapworld.proofs.Adding.{starts-own}
 use Rattle.mapworld.proofs.Weights.{started_weighs}
 use Rattle.mapworld.proofs.starts.start.Goals as goal
 
@@ -10,7 +12,7 @@ count_in-requires-clause-listed g c i e =
     let p = c.index_mut-place.result.now in
     let here = stands_here c.requires.before p c.index_mut-place.ensures.value in
     let claim = claim_at c.requires.sound c.args.step.thread p here (phase_here c.requires.before p c.index_mut-place.ensures.value) in
-    session_counts _ _ _ _ p p.next _ p.block claim.2 i (counted_block c.in-Some.ask p.slot p.block i (sym c.start_counts-counts.ensures ∙ e))
+    session_counts _ _ _ _ p p.next _ p.block claim.2 i (starts-own c.in-Some.ask (guard_of p) p.block i (sym (ap (λ m. start_counts c.in-Some.ask m p.block) c.guard_of-guard.ensures) ∙ (sym c.start_counts-counts.ensures ∙ e)))
 
 pub count_in-requires-clause-fits : goal.count_in-requires-clause-fits
 count_in-requires-clause-fits g c =
@@ -30,8 +32,8 @@ returns-clause-step g c =
       rest = c.pop_front.new.self;
       asked = c.in-Some.ensures.items;
       blocks = c.count_in.new.blocks.items;
-      counted = rw c.start_counts-counts.ensures at c.count_in.ensures.counted;
-      after = rw (c.and-core.ensures, c.is_last-place.ensures, c.start_shard-place.ensures, c.len-shards.ensures, c.args.core.now.tables.ok.0, c.enter.ensures, c.start_phase.ensures, c.requires.room.count) refl;
+      counted = rw (c.start_counts-counts.ensures, c.guard_of-guard.ensures) at c.count_in.ensures.counted;
+      after = rw (c.and-core.ensures, c.is_last-place.ensures, c.start_shard-place.ensures, c.len-shards.ensures, c.args.core.now.tables.ok.0, c.enter.ensures, c.start_phase.ensures, c.guard_of-guard.ensures, c.requires.room.count) refl;
     }
 
 pub returns-clause-room : goal.returns-clause-room
@@ -39,7 +41,7 @@ returns-clause-room g c =
     let p = c.index_mut-place.result.now in
     let here = stands_here c.requires.before p c.index_mut-place.ensures.value in
     let before = phase_here c.requires.before p c.index_mut-place.ensures.value in
-    let weights = started_weighs c.in-Some.ask p.slot c.enter.new.phase (c.enter.ensures ∙ c.start_phase.ensures) in
+    let weights = started_weighs c.in-Some.ask c.guard_of-guard.result c.enter.new.phase (c.enter.ensures ∙ c.start_phase.ensures) in
     let asks = ap length c.in-Some.ensures.items in
     let after = record p {
       asks = c.pop_front.new.self;
@@ -56,15 +58,16 @@ returns-clause-room g c =
       count = refl;
       programs = refl;
       tables = refl;
-      guards = c.requires.room.guards;
+      guards = λ h has. c.requires.room.guards c.args.step.thread p h here has;
+      more_guards = omega arith;
       guards_fit = omega arith;
       unanswered = omega (arith, asks, weights.0, ap owes before);
       answers = omega (arith, asks, weights.0, ap owes before);
       replies = refl;
       listing = omega (arith, asks, weights.1, ap lists before, c.count_in.ensures.len);
       blocks = c.count_in.ensures.capacity;
-      holding = omega arith;
-      holds = refl;
+      desks = refl;
+      holding = same_desks c.args.core.now.desks.items p.hold p.hold refl;
       adding = omega (arith, asks, weights.2, ap adds before);
       pairs = c.requires.room.pairs;
       more_blocks = omega (arith, c.count_in.ensures.len);
