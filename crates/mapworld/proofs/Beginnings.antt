@@ -22,7 +22,9 @@ use Rattle.mapworld_calls.specs.Pairs.{pair_of, opening_pair}
 use Rattle.mapworld_calls.specs.Setup.{Setup}
 use Rattle.mapworld_calls.specs.Placed.{WellPlaced}
 use Rattle.mapworld.specs.declared.step.Step.{Step}
-use Rattle.mapworld.specs.declared.holds.Held.{Held}
+use Rattle.lock_api_desk.specs.Desk.{DeskState}
+use Rattle.mapworld.specs.Holds.{Desks}
+use Rattle.mapworld.specs.declared.holds.Hold.{Hold}
 use Rattle.mapworld.specs.declared.place.Phase.{Phase}
 use Rattle.mapworld.specs.declared.place.Phase.TheVariants as phase
 use Rattle.mapworld.specs.declared.place.Place.{Place}
@@ -32,7 +34,7 @@ use Rattle.mapworld.specs.State.{State, started_of}
 use Rattle.mapworld.specs.World.{setup_of}
 use Rattle.mapworld.specs.Sound.{IsInSession, Stands, TablesAgree, HoldsMatch, Sound}
 use Rattle.mapworld.specs.Core.{state_of, owes, lists, adds, unheld, Room}
-use Rattle.mapworld.specs.Beginning.{at_start, AreAtStart, AreFilled, pairs_in}
+use Rattle.mapworld.specs.Beginning.{at_start, AreAtStart, AreFilled, pairs_in, AreReady}
 use Rattle.mapworld.proofs.Routes.{key_route-below}
 use Rattle.mapworld.proofs.Refusals.{sum_by-map}
 use Rattle.mapworld.proofs.Setups.{setup-laws}
@@ -53,6 +55,10 @@ sum_by-ones {X} (x ∷ xs) = let a = sum_by-cons (λ (y : X). 1) x xs in let b =
 all-at : {X : Type 0} (p : X → Bool) (xs : List X) (i : ℕ) (x : X) → list_all p xs ≡ true → slice_get xs i ≡ Some x → p x ≡ true
 all-at p xs i x all at = true_from_ne_false (p x) (λ e.
     false≢true (sym (list_all_at p xs i x (slice_get_within xs i x at) (ap p (get_or_from_slice_get xs i x x at) ∙ e)) ∙ all))
+
+-- no desk has a guard
+abbrev pub HasNoGuards : Desks → Type 0
+HasNoGuards holds = (i : ℕ) (desk : DeskState (Unit {0})) → slice_get holds i ≡ Some desk → desk.guards ≡ []
 
 module _ {K V D T A : Type 0} (x : Setup K V D T) (tables : List (Vec (K × V) A)) where
   start_stands : (t : ℕ) (asks : VecDeque (Ask K V D) A) → slice_get x.programs t ≡ Some asks.items → Stands x [] [] [] tables t (at_start asks)
@@ -76,13 +82,16 @@ module _ {K V D T A : Type 0} (x : Setup K V D T) (tables : List (Vec (K × V) A
       subst (λ (q : Place K V D T A). Stands x [] [] [] tables t q) (sym (start.each t p at))
       (start_stands t p.asks (ap (λ ps. slice_get ps t) (sym start.programs_are) ∙ map_to (λ (q : Place K V D T A). q.asks.items) places t p at))
 
-  nothing_held : (places : List (Place K V D T A)) → AreAtStart x.programs places → HoldsMatch places []
-  nothing_held places start = record {
-    listed = λ t p h at has. absurd (none-some h (sym (ap (λ (q : Place K V D T A). q.hold) (start.each t p at)) ∙ has));
-    owned = λ i e at. absurd (none-some e at);
-    apart = λ i j e f at there same. absurd (none-some e at);
-    compatible = λ i j e f at there ne same. absurd (none-some e at);
+  nothing_held : (places : List (Place K V D T A)) (holds : Desks) → AreAtStart x.programs places → HasNoGuards holds → HoldsMatch places holds
+  nothing_held places holds start free = record {
+    listed = λ t p h at has. absurd (none t p h at has);
+    owned = λ s i desk g at listed. absurd (none-some g (ap (λ gs. slice_get gs i) (sym (free s desk at)) ∙ listed));
+    apart = λ t u p q a b hp hq ha hb same. absurd (none t p a hp ha);
+    compatible = λ t u p q a b ne hp hq ha hb same. absurd (none t p a hp ha);
   }
+    where
+      none : (t : ℕ) (p : Place K V D T A) (h : Hold) → slice_get places t ≡ Some p → p.hold ≡ Some h → ⊥
+      none t p h at has = none-some h (sym (ap (λ (q : Place K V D T A). q.hold) (start.each t p at)) ∙ has)
 
   nothing_placed : (threads : List ℕ) (started : ℕ → Option ℕ) → WellPlaced x threads started [] []
   nothing_placed threads started = record {
@@ -97,42 +106,41 @@ module _ {K V D T A : Type 0} (x : Setup K V D T) (tables : List (Vec (K × V) A
 -- a world in which nothing has happened
 pub record IsFresh {K V S D T A : Type 0} (w : State K V S D T A) : Type 0 where
   pub steps : w.steps ≡ []
-  pub holds : w.holds ≡ []
+  pub holds : HasNoGuards w.holds
   pub blocks : w.blocks ≡ []
   pub replies : w.replies ≡ []
 
 module _ {K V S H D T A : Type 0} (d : deed.Ghosts D K V T) (b : builder.Ghosts S H) (h : hasher.Ghosts H) (eq : K → K → Bool) (writes : K → HashWrites) where
-  abbrev lists_of : State K V S D T A → List Step → List Held → List (Block K) → List (Reply K V T) → State K V S D T A
-  lists_of w steps holds blocks replies = record w { steps = steps; holds = holds; blocks = blocks; replies = replies }
+  abbrev lists_of : State K V S D T A → List Step → List (Block K) → List (Reply K V T) → State K V S D T A
+  lists_of w steps blocks replies = record w { steps = steps; blocks = blocks; replies = replies }
 
   agree : (w : State K V S D T A) → AreFilled eq (key_route b h writes w.hasher (length w.tables)) w.opening w.tables → TablesAgree (setup_of d b h eq writes w) [] w.tables
   agree w filled = record { routed = filled.routed; distinct = filled.distinct; contents_are = filled.contents_are }
 
   sound_bare : (w : State K V S D T A) → IsShardAmount (length w.tables) → list_all (one_guard false) w.programs ≡ true → AreAtStart w.programs w.places
-      → AreFilled eq (key_route b h writes w.hasher (length w.tables)) w.opening w.tables
-      → Sound (setup_of d b h eq writes (lists_of w [] [] [] [])) (lists_of w [] [] [] [])
-  sound_bare w amount guarded start filled = record {
+      → AreFilled eq (key_route b h writes w.hasher (length w.tables)) w.opening w.tables → HasNoGuards w.holds
+      → Sound (setup_of d b h eq writes (lists_of w [] [] [])) (lists_of w [] [] [])
+  sound_bare w amount guarded start filled free = record {
     guarded = λ t program at. all-at (one_guard false) w.programs t program guarded at;
     routes = λ q. key_route-below b h writes w.hasher (length w.tables) amount q;
     stands = λ t p at. all_stand (setup_of d b h eq writes w) w.tables w.places start t p at;
     tables = agree w filled;
-    holds = nothing_held (setup_of d b h eq writes w) w.tables w.places start;
+    holds = nothing_held (setup_of d b h eq writes w) w.tables w.places w.holds start free;
     placed = nothing_placed (setup_of d b h eq writes w) w.tables [] (started_of w);
     replies = λ i r at. absurd (none-some r at);
   }
 
-  bare : (w : State K V S D T A) → IsFresh w → lists_of w [] [] [] [] ≡ w
+  bare : (w : State K V S D T A) → IsFresh w → lists_of w [] [] [] ≡ w
   bare w fresh =
-      ap (λ s. lists_of w s [] [] []) (sym fresh.steps)
-      ∙ (ap (λ s. lists_of w w.steps s [] []) (sym fresh.holds)
-      ∙ (ap (λ s. lists_of w w.steps w.holds s []) (sym fresh.blocks)
-      ∙ ap (λ s. lists_of w w.steps w.holds w.blocks s) (sym fresh.replies)))
+      ap (λ s. lists_of w s [] []) (sym fresh.steps)
+      ∙ (ap (λ s. lists_of w w.steps s []) (sym fresh.blocks)
+      ∙ ap (λ s. lists_of w w.steps w.blocks s) (sym fresh.replies))
 
   pub new-sound : (w : State K V S D T A) → IsFresh w → IsShardAmount (length w.tables) → list_all (one_guard false) w.programs ≡ true → AreAtStart w.programs w.places
       → AreFilled eq (key_route b h writes w.hasher (length w.tables)) w.opening w.tables
       → Sound (setup_of d b h eq writes w) w
   new-sound w fresh amount guarded start filled =
-      subst (λ (v : State K V S D T A). Sound (setup_of d b h eq writes v) v) (bare w fresh) (sound_bare w amount guarded start filled)
+      subst (λ (v : State K V S D T A). Sound (setup_of d b h eq writes v) v) (bare w fresh) (sound_bare w amount guarded start filled fresh.holds)
 
   pub new-contents : (hasher : S) (pairs : List (K × V)) (tables : List (Vec (K × V) A)) → IsEquivalence eq → ((j k : K) → IsTrue (eq j k) → writes j ≡ writes k) → IsShardAmount (length tables)
       → AreFilled eq (key_route b h writes hasher (length tables)) pairs tables
@@ -153,9 +161,9 @@ module _ {K V D T A : Type 0} (programs : List (List (Ask K V D))) (places : Lis
       ∙ (sym (sum_by-map length (λ (p : Place K V D T A). p.asks.items) places)
       ∙ ap (λ ps. sum_by length ps) start.programs_are)
 
-  start_unheld : sum_by unheld places ≡ length places
-  start_unheld =
-      sum_by-alike unheld (λ p. 1) places (λ t p at. ap (λ (q : Place K V D T A). unheld q) (start.each t p at))
+  start_unheld : (i : ℕ) → sum_by (unheld i) places ≡ length places
+  start_unheld i =
+      sum_by-alike (unheld i) (λ p. 1) places (λ t p at. ap (λ (q : Place K V D T A). unheld i q) (start.each t p at))
       ∙ sum_by-ones places
 
   start_count : length places ≡ length programs
@@ -169,7 +177,8 @@ pub record HasNewRoom {K V S D T A : Type 0} (c : Core K V S D T A) : Type 0 whe
   pub calls_fit : sum_by length (state_of c).programs ≤ 2 ^ 20
   pub replies : sum_by length (state_of c).programs ≤ vec_capacity c.replies
   pub blocks : sum_by length (state_of c).programs ≤ vec_capacity c.blocks
-  pub holds : length (state_of c).programs ≤ vec_capacity c.holds
+  pub desks : length c.desks.items ≡ length c.tables.items
+  pub ready : AreReady (length (state_of c).programs) c.desks.items
   pub pairs : c.pairs ≡ pairs_in c.tables.items
   pub pairs_fit : c.pairs ≤ 2 ^ 31
   pub threads_fit : length (state_of c).programs ≤ 256
@@ -182,23 +191,26 @@ new-room {K} {V} {S} {D} {T} {A} c fresh start room =
     let owed_sum = start_sum programs places start owes refl in
     let list_sum = start_sum programs places start lists refl in
     let add_sum = start_sum programs places start adds refl in
-    let unheld_sum = start_unheld programs places start in
     let same = start_count programs places start in
     let no_steps : length c.steps.items ≡ 0 = ap (λ l. length l) fresh.steps in
-    let no_holds : length c.holds.items ≡ 0 = ap (λ l. length l) fresh.holds in
     let no_blocks : length c.blocks.items ≡ 0 = ap (λ l. length l) fresh.blocks in
     let no_replies : length c.replies.items ≡ 0 = ap (λ l. length l) fresh.replies in
     record {
       count = omega (arith, room.count, no_steps);
       count_fits = omega (arith, room.count);
-      guards = λ i h at. absurd (none-some h (ap (λ l. slice_get l i) (sym fresh.holds) ∙ at));
+      guards = λ t p h at has. absurd (none-some h (sym (ap (λ (q : Place K V D T A). q.hold) (start.each t p at)) ∙ has));
       guards_fit = omega (arith, room.count, room.guards);
       unanswered = omega (arith, room.unanswered, no_replies);
       answers = omega (arith, no_replies, owed_sum);
       calls_fit = room.calls_fit;
       replies = room.replies;
       blocks = omega (arith, no_blocks, list_sum, room.blocks);
-      holds = omega (arith, no_holds, unheld_sum, same, room.holds);
+      desks = room.desks;
+      desk_room = λ i desk at.
+          let r = room.ready i desk at in
+          let free = ap (λ gs. length gs) r.free in
+          let unheld_sum = start_unheld programs places start i in
+          record { guards = omega (arith, free, unheld_sum); room = omega (arith, r.room, same); limit = omega (arith, r.limit, same) };
       pairs = room.pairs;
       pairs_fit = omega (arith, add_sum, room.pairs_fit, room.calls_fit);
       places = same;

@@ -18,7 +18,7 @@ use Rattle.mapworld_calls.proofs.Programs.{opening_below}
 use Rattle.mapworld_calls.proofs.Kept.{Keeps, answered-kept}
 use Rattle.mapworld.specs.declared.holds.Mode.{Mode}
 use Rattle.mapworld.specs.declared.holds.Mode.TheVariants.{Exclusive}
-use Rattle.mapworld.specs.declared.holds.Held.{Held}
+use Rattle.mapworld.specs.Holds.{Desks}
 use Rattle.mapworld.specs.declared.step.Step.{Step}
 use Rattle.mapworld.specs.declared.place.Phase.{Phase}
 use Rattle.mapworld.specs.declared.place.Place.{Place}
@@ -241,7 +241,7 @@ module _ {K V S D T A : Type 0} (x : Setup K V D T) (w : State K V S D T A) (s :
       (cases_eq t s.thread)
 
 module _ {K V S D T A : Type 0} (x : Setup K V D T) (w : State K V S D T A) (s : Step) (p p' : Place K V D T A) (at : slice_get w.places s.thread ≡ Some p) (sound : Sound x w)
-    (bs' : List (Block K)) (tables' : List (Vec (K × V) A)) (holds' : List Held) (replies' : List (Reply K V T)) (F : Block K → Type 0) where
+    (bs' : List (Block K)) (tables' : List (Vec (K × V) A)) (holds' : Desks) (replies' : List (Reply K V T)) (F : Block K → Type 0) where
   -- what a step leaves of other threads' facts
   pub record Leaves : Type 0 where
     pub effect : Effect x w.blocks bs' s.thread F

@@ -11,13 +11,12 @@ use Rattle.mapworld_calls.specs.declared.reply.Answer.{Answer}
 use Rattle.mapworld_calls.specs.Setup.{Setup}
 use Rattle.mapworld_calls.proofs.Lists.{sum_by-at}
 use Rattle.mapworld.specs.declared.holds.Hold.{Hold}
-use Rattle.mapworld.specs.declared.holds.Held.{Held}
 use Rattle.mapworld.specs.declared.place.Phase.{Phase}
 use Rattle.mapworld.specs.declared.place.Phase.TheVariants as phase
 use Rattle.mapworld.specs.declared.place.Request.{Request}
 use Rattle.mapworld.specs.declared.place.Place.{Place}
 use Rattle.mapworld.specs.State.{State, threads_of}
-use Rattle.mapworld.specs.Holds.{is_excluded, is_hold_of}
+use Rattle.mapworld.specs.Holds.{is_excluded}
 use Rattle.mapworld.specs.Moves.{mode_of}
 use Rattle.mapworld.specs.Sound.{Sound, Claim, HoldsMatch, HasPair, HasList, IsInSession, IsOnItsWay, IsBeforeDeed, IsReleasing, is_resting}
 use Rattle.mapworld.specs.Core.{IsBefore}
@@ -93,58 +92,14 @@ module _ {K V D T A : Type 0} (x : Setup K V D T) (bs : List (Block K)) (tables 
   release_counts a r None h i e = absurd (none-some i e)
   release_counts a r (Some s) h i e = session_counts p.next _ p.block h.2 i e
 
--- the first place that passes a test, and that there is one
-pub position_passes : {X : Type 0} (q : X → Bool) (xs : List X) (j : ℕ) → position q xs ≡ Some j → (y : X) × (slice_get xs j ≡ Some y) × (q y ≡ true)
-position_passes q [] j e = absurd (none-some j e)
-position_passes {X} q (z ∷ zs) j e =
-    let xs : List X = z ∷ zs in
-    let at = cond_some (nat_lt (position_or_len q xs) (length xs)) (position_or_len q xs) j e in
-    let below = ltb-true (position_or_len q xs) (length xs) at.0 in (
-      get_or xs j z,
-      subst (λ k. slice_get xs k ≡ Some (get_or xs k z)) at.1 (slice_get-get_or xs (position_or_len q xs) z below),
-      subst (λ k. q (get_or xs k z) ≡ true) at.1 (passes_at_first q xs z below),
-    )
-
-pub position_there : {X : Type 0} (q : X → Bool) (xs : List X) (i : ℕ) (y : X) → slice_get xs i ≡ Some y → q y ≡ true → position q xs ≡ None → ⊥
-position_there q xs i y h passes none =
-    elim (cases_lt (position_or_len q xs) (length xs)) [
-      | inl below ↦ none-some _ (sym (sym (cond-true (nat_lt (position_or_len q xs) (length xs)) (Some (position_or_len q xs)) None (lt-ltb (position_or_len q xs) (length xs) below)) ∙ none))
-      | inr past ↦
-          let within = slice_get_within xs i y h in
-          let fails = fails_before_first q xs i y (omega (arith, within, past)) in
-          true≢false (sym passes ∙ (ap q (sym (get_or_from_slice_get xs i y y h)) ∙ fails))
-    ]
-
-module _ {K V D T A : Type 0} {places : List (Place K V D T A)} {holds : List Held} (match : HoldsMatch places holds) (t : ℕ) (p : Place K V D T A) (here : slice_get places t ≡ Some p) (hold : Hold) (has : p.hold ≡ Some hold) where
-  mine : Held
-  mine = record { hold = hold; party = t }
-
-  -- a thread's hold stands in the table of holds
-  pub hold_listed : position (is_hold_of hold.shard hold.guard) holds ≡ None → ⊥
-  unfolding mine
-  hold_listed none =
-      let entry = match.listed t p hold here has in
-      let passes = and_from (hold.shard == hold.shard) (hold.guard == hold.guard) (eq-eqb hold.shard hold.shard refl) (eq-eqb hold.guard hold.guard refl) in
-      position_there (is_hold_of hold.shard hold.guard) holds entry.0 mine entry.1 passes none
-
-  -- and what is found under its guard number is that hold
-  pub hold_found : (j : ℕ) → position (is_hold_of hold.shard hold.guard) holds ≡ Some j → slice_get holds j ≡ Some (record { hold = hold; party = t })
-  unfolding mine
-  hold_found j e =
-      let entry = match.listed t p hold here has in
-      let found = position_passes (is_hold_of hold.shard hold.guard) holds j e in
-      let guard = and_parts (found.0.hold.shard == hold.shard) (found.0.hold.guard == hold.guard) found.2 in
-      let same = match.apart j entry.0 found.0 mine found.1 entry.1 (eqb-true found.0.hold.guard hold.guard guard.1) in
-      subst (λ k. slice_get holds k ≡ Some mine) (sym same) entry.1
-
 -- the request that was read is the one that is admitted
-pub still_admitted : {K V D T A : Type 0} {places : List (Place K V D T A)} {t : ℕ} {request : Request K V} (holds : List Held) (b : IsBefore places t (phase.Admit request)) (r : Place K V D T A)
+pub still_admitted : {K V D T A : Type 0} {places : List (Place K V D T A)} {t : ℕ} {request : Request K V} (b : IsBefore places t (phase.Admit request)) (r : Place K V D T A)
     → r ≡ get_or places t r → (read : Request K V) → r.phase ≡ phase.Admit read
-    → is_excluded holds b.place.shard (mode_of request) ≡ false → is_excluded holds r.shard (mode_of read) ≡ false
-still_admitted {K} {V} {D} {T} {A} {request = request} holds b r at read is h =
+    → is_excluded places b.place.shard (mode_of request) ≡ false → is_excluded places r.shard (mode_of read) ≡ false
+still_admitted {K} {V} {D} {T} {A} {places = places} {request = request} b r at read is h =
     let same : read ≡ request = cc (is, phase_here b r at) in
     let place = read_is b r at in
-    rw same (subst (λ (p : Place K V D T A). is_excluded holds p.shard (mode_of request) ≡ false) (sym place) h)
+    rw same (subst (λ (p : Place K V D T A). is_excluded places p.shard (mode_of request) ≡ false) (sym place) h)
 
 -- a thread on its way to a pair has the number of a shard
 pub way_fits : {K V S D T A : Type 0} {x : Setup K V D T} {w : State K V S D T A} (sound : Sound x w) (p : Place K V D T A) (key : K) → IsOnItsWay x p key → p.shard < length w.tables

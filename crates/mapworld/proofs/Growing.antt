@@ -20,7 +20,7 @@ use Rattle.mapworld_calls.proofs.Programs.{opening_is}
 use Rattle.mapworld_calls.proofs.Grown.{Grows, IsQuiet, found-grown, block_key-grown, contents-quiet}
 use Rattle.mapworld_calls.proofs.Kept.{keeps-grown}
 use Rattle.mapworld.specs.declared.step.Step.{Step}
-use Rattle.mapworld.specs.declared.holds.Held.{Held as Entry}
+use Rattle.mapworld.specs.Holds.{Desks}
 use Rattle.mapworld.specs.declared.holds.Mode.{Mode}
 use Rattle.mapworld.specs.declared.place.Request.TheVariants as request
 use Rattle.mapworld.specs.declared.place.Place.{Place}
@@ -213,7 +213,7 @@ module _ {K V S D T A : Type 0} (x : Setup K V D T) (laws : Laws x) (w : State K
     pub sound-changed : (tables' : List (Vec (K × V) A)) → length tables' ≡ length w.tables
         → ((u : ℕ) (q : Place K V D T A) (m : Mode) → u ≢ s.thread → slice_get w.places u ≡ Some q → HoldsShard q m → slice_get tables' q.shard ≡ slice_get w.tables q.shard)
         → TablesAgree x (slice_set w.blocks i d) tables'
-        → (holds' : List Entry) → p'.next ≡ p.next → p'.block ≡ p.block ⊎ (p'.block ≡ None)
+        → (holds' : Desks) → p'.next ≡ p.next → p'.block ≡ p.block ⊎ (p'.block ≡ None)
         → Claim x (threads_of w ++ s.thread ∷ []) (slice_set w.blocks i d) tables' s.thread p' p'.phase
         → p'.asks.items ≡ drop (taken p') st.program → taken p' ≤ length st.program
         → HoldsMatch (slice_set w.places s.thread p') holds'
@@ -236,7 +236,7 @@ module _ {K V S D T A : Type 0} (x : Setup K V D T) (laws : Laws x) (w : State K
         (replies-kept x w.blocks (slice_set w.blocks i d) w.replies (λ j r hr. keeps-grown x laws w.blocks i b d grows r.thread r.call) sound.replies)
 
     -- where the call leaves its pair, no list changes
-    pub sound-counted : LeavesPair x.deeds h was → (holds' : List Entry) → p'.next ≡ p.next → p'.block ≡ p.block ⊎ (p'.block ≡ None)
+    pub sound-counted : LeavesPair x.deeds h was → (holds' : Desks) → p'.next ≡ p.next → p'.block ≡ p.block ⊎ (p'.block ≡ None)
         → Claim x (threads_of w ++ s.thread ∷ []) (slice_set w.blocks i d) w.tables s.thread p' p'.phase
         → p'.asks.items ≡ drop (taken p') st.program → taken p' ≤ length st.program
         → HoldsMatch (slice_set w.places s.thread p') holds'

@@ -1,110 +1,161 @@
--- The table of holds matches the threads' places: kept by a step that changes no hold, by an admission and by a release.
-use Rattle.std.proofs.Common.{◌≡◌, ◌≢◌, ℕ, inl, inr, ⊎_elim, false, List, [], ◌∷◌, ◌++◌, length, Some, None, slice_get, slice_set, remove, ap, sym, ◌∙◌, subst}
+-- The desks match the threads' places: kept by a step that changes no hold, by an admission and by a release.
+use Rattle.std.proofs.Common.{◌≡◌, ◌≢◌, ℕ, ◌⊎◌, inl, inr, ⊎_elim, false, List, [], ◌∷◌, ◌++◌, length, Option, Some, None, slice_get, slice_set, refl, ap, sym, ◌∙◌, subst}
 use Rattle.std.proofs.lemmas.Bool.{cases_eq}
 use Rattle.std.proofs.lemmas.Option.{same_Some, none-some}
-use Rattle.mapworld_calls.proofs.Lists.{stood_at, stood_at-other, stood_at-same, slice_get-remove_is, slice_get-set_same, slice_get-set_other, slice_get-set_cases, slice_get-push_below, slice_get-push_at, slice_get-push_cases, slice_get-remove_kept}
+use Rattle.mapworld_calls.proofs.Lists.{slice_get-set_same, slice_get-set_other, slice_get-set_cases, slice_get-push_below, slice_get-push_at, slice_get-push_cases}
+use Rattle.lock_api_desk.specs.Guards.{Guard}
+use Rattle.lock_api_desk.specs.Desk.{DeskState, admitted, released}
 use Rattle.mapworld.specs.declared.holds.Mode.TheVariants.{Shared}
 use Rattle.mapworld.specs.declared.holds.Hold.{Hold}
-use Rattle.mapworld.specs.declared.holds.Held.{Held}
 use Rattle.mapworld.specs.declared.place.Place.{Place}
-use Rattle.mapworld.specs.Holds.{is_excluded}
+use Rattle.mapworld.specs.Holds.{is_excluded, Desks, at_desk, guard_for}
 use Rattle.mapworld.specs.Sound.{HoldsMatch}
-use Rattle.mapworld.proofs.HoldsTable.{is_excluded-shared}
+use Rattle.mapworld.proofs.HoldsTable.{is_excluded-shared, without-kept, without-was}
 
-module _ {K V D T A : Type 0} (places : List (Place K V D T A)) (holds : List Held) (h : HoldsMatch places holds) where
+module _ {K V D T A : Type 0} (places : List (Place K V D T A)) (holds : Desks) (h : HoldsMatch places holds) where
   -- two threads that hold one shard share it
   pub exclusion : (t u : ℕ) (p q : Place K V D T A) (a b : Hold) → t ≢ u → slice_get places t ≡ Some p → slice_get places u ≡ Some q
       → p.hold ≡ Some a → q.hold ≡ Some b → a.shard ≡ b.shard → (a.mode ≡ Shared) × (b.mode ≡ Shared)
-  exclusion t u p q a b ne hp hq ha hb shard =
-      let i = h.listed t p a hp ha in
-      let j = h.listed u q b hq hb in
-      let apart : i.0 ≡ j.0 → ⊥ = λ same. ne (ap (λ e. e.party) (same_Some _ _ (sym i.1 ∙ ap (λ k. slice_get holds k) same ∙ j.1))) in
-      h.compatible i.0 j.0 _ _ i.1 j.1 apart shard
+  exclusion t u p q a b ne hp hq ha hb shard = h.compatible t u p q a b ne hp hq ha hb shard
 
   module _ (t : ℕ) (p p' : Place K V D T A) (at : slice_get places t ≡ Some p) where
+    -- a thread that another one's step leaves, and the one that made it
+    there : (u : ℕ) (q : Place K V D T A) → slice_get (slice_set places t p') u ≡ Some q → ((u ≡ t) × (q ≡ p')) ⊎ ((u ≢ t) × (slice_get places u ≡ Some q))
+    there u q hq = slice_get-set_cases places t u p q p' at hq
+
+    still : (u : ℕ) (q : Place K V D T A) → u ≢ t → slice_get places u ≡ Some q → slice_get (slice_set places t p') u ≡ Some q
+    still u q ne hq = slice_get-set_other places t u p' (λ z. ne (sym z)) ∙ hq
+
+    now : (u : ℕ) → u ≡ t → slice_get (slice_set places t p') u ≡ Some p'
+    now u own = ap (λ v. slice_get (slice_set places t p') v) own ∙ slice_get-set_same places t p p' at
+
+    mine : (u : ℕ) (q : Place K V D T A) → u ≡ t → slice_get places u ≡ Some q → q ≡ p
+    mine u q own hq = same_Some q p (sym hq ∙ ap (λ v. slice_get places v) own ∙ at)
+
     pub holds-same : p'.hold ≡ p.hold → HoldsMatch (slice_set places t p') holds
     holds-same same = record {
-      listed = λ u q a hq ha. elim (slice_get-set_cases places t u p q p' at hq) [
-        | inl own ↦ subst (λ (v : ℕ). (i : ℕ) × (slice_get holds i ≡ Some (record { hold = a; party = v }))) (sym own.0)
-            (h.listed t p a at (sym same ∙ ap (λ z. z.hold) (sym own.1) ∙ ha))
-        | inr other ↦ h.listed u q a other.1 ha
-      ];
-      owned = λ i e he.
-          let o = h.owned i e he in
+      listed = λ u q a hq ha. let o = was u q a hq ha in h.listed u o.0 a o.1 o.2;
+      owned = λ s i desk g hd hg.
+          let o = h.owned s i desk g hd hg in
           ⊎_elim
-          (λ own. (
+          (λ own. (p', o.1, now g.party own, same ∙ ap (λ z. z.hold) (sym (mine g.party o.0 own o.2)) ∙ o.3, o.4, o.5))
+          (λ ne. (o.0, o.1, still g.party o.0 ne o.2, o.3, o.4, o.5))
+          (cases_eq g.party t);
+      apart = λ u v q r a b hq hr ha hb e.
+          let i = was u q a hq ha in let j = was v r b hr hb in h.apart u v i.0 j.0 a b i.1 j.1 i.2 j.2 e;
+      compatible = λ u v q r a b ne hq hr ha hb e.
+          let i = was u q a hq ha in let j = was v r b hr hb in h.compatible u v i.0 j.0 a b ne i.1 j.1 i.2 j.2 e;
+    }
+      where
+        was : (u : ℕ) (q : Place K V D T A) (a : Hold) → slice_get (slice_set places t p') u ≡ Some q → q.hold ≡ Some a → (r : Place K V D T A) × (slice_get places u ≡ Some r) × (r.hold ≡ Some a)
+        was u q a hq ha = elim (there u q hq) [
+          | inl own ↦ (p, ap (λ v. slice_get places v) own.0 ∙ at, sym same ∙ ap (λ z. z.hold) (sym own.1) ∙ ha)
+          | inr other ↦ (q, other.1, ha)
+        ]
+
+    pub holds-push : (a : Hold) → p.hold ≡ None → p'.hold ≡ Some a → ((u : ℕ) (q : Place K V D T A) (b : Hold) → slice_get places u ≡ Some q → q.hold ≡ Some b → b.guard ≢ a.guard)
+        → is_excluded places a.shard a.mode ≡ false → (desk : DeskState (Unit {0})) → slice_get holds a.shard ≡ Some desk
+        → HoldsMatch (slice_set places t p') (slice_set holds a.shard (admitted (at_desk a.mode) t a.guard desk))
+    holds-push a free taken fresh unexcluded desk held = record {
+      listed = λ u q b hq hb. elim (there u q hq) [
+        | inl own ↦
+            let same : a ≡ b = is-mine q b own.1 hb in (
+              after,
+              length desk.guards,
+              subst (λ (z : Hold). slice_get (slice_set holds a.shard after) z.shard ≡ Some after) same (slice_get-set_same holds a.shard desk after held),
+              slice_get-push_at desk.guards (guard_for t a) ∙ ap (λ z. Some z) (ap (λ z. guard_for t z) same ∙ ap (λ v. guard_for v b) (sym own.0)),
+            )
+        | inr other ↦ let o = h.listed u q b other.1 hb in ⊎_elim
+            (λ (here : b.shard ≡ a.shard).
+            let d : o.0 ≡ desk = same_Some o.0 desk (sym o.2 ∙ ap (λ s. slice_get holds s) here ∙ held) in (
+              after,
+              o.1,
+              ap (λ s. slice_get (slice_set holds a.shard after) s) here ∙ slice_get-set_same holds a.shard desk after held,
+              slice_get-push_below desk.guards o.1 (guard_for u b) (guard_for t a) (ap (λ (z : DeskState (Unit {0})). slice_get z.guards o.1) (sym d) ∙ o.3),
+            ))
+            (λ ne. (o.0, o.1, slice_get-set_other holds a.shard b.shard after (λ z. ne (sym z)) ∙ o.2, o.3))
+            (cases_eq b.shard a.shard)
+      ];
+      owned = λ s i d g hd hg. elim (slice_get-set_cases holds a.shard s desk d after held hd) [
+        | inl here ↦ elim (slice_get-push_cases desk.guards i g (guard_for t a) (ap (λ (z : DeskState (Unit {0})). slice_get z.guards i) (sym here.1) ∙ hg)) [
+          | inl old ↦ let o = h.owned a.shard i desk g held old in (o.0, o.1, still g.party o.0 (not-mine g.party o.0 o.1 o.2 o.3) o.2, o.3, o.4 ∙ sym here.0, o.5)
+          | inr new ↦ (
             p',
-            ap (λ v. slice_get (slice_set places t p') v) own ∙ slice_get-set_same places t p p' at,
-            same ∙ ap (λ z. z.hold) (same_Some p o.0 (sym at ∙ ap (λ v. slice_get places v) (sym own) ∙ o.1)) ∙ o.2,
-          ))
-          (λ ne. (o.0, slice_get-set_other places t e.party p' (λ z. ne (sym z)) ∙ o.1, o.2))
-          (cases_eq e.party t);
-      apart = h.apart;
-      compatible = h.compatible;
-    }
-
-    pub holds-push : (a : Hold) → p.hold ≡ None → p'.hold ≡ Some a → ((i : ℕ) (e : Held) → slice_get holds i ≡ Some e → e.hold.guard ≢ a.guard)
-        → is_excluded holds a.shard a.mode ≡ false → HoldsMatch (slice_set places t p') (holds ++ record { hold = a; party = t } ∷ [])
-    holds-push a free taken fresh admitted = record {
-      listed = λ u q b hq hb. elim (slice_get-set_cases places t u p q p' at hq) [
-        | inl own ↦ (
-          length holds,
-          let same : a ≡ b = same_Some a b (sym taken ∙ ap (λ z. z.hold) (sym own.1) ∙ hb) in
-              slice_get-push_at holds new ∙ ap (λ z. Some z) (ap (λ z. record { hold = z; party = t }) same ∙ ap (λ v. record { hold = b; party = v }) (sym own.0)),
-        )
-        | inr other ↦ (let o = h.listed u q b other.1 hb in o.0, let o = h.listed u q b other.1 hb in slice_get-push_below holds o.0 _ new o.1)
+            a,
+            now g.party (ap (λ (z : Guard). z.party) new.1),
+            taken,
+            sym here.0,
+            new.1 ∙ ap (λ v. guard_for v a) (sym (ap (λ (z : Guard). z.party) new.1)),
+          )
+        ]
+        | inr other ↦ let o = h.owned s i d g other.1 hg in (o.0, o.1, still g.party o.0 (not-mine g.party o.0 o.1 o.2 o.3) o.2, o.3, o.4, o.5)
       ];
-      owned = λ i e he. elim (slice_get-push_cases holds i e new he) [
-        | inl old ↦
-            let o = h.owned i e old in
-            let ne : e.party ≢ t = λ own. none-some e.hold (sym free ∙ ap (λ z. z.hold) (same_Some p o.0 (sym at ∙ ap (λ v. slice_get places v) (sym own) ∙ o.1)) ∙ o.2) in
-            (o.0, slice_get-set_other places t e.party p' (λ z. ne (sym z)) ∙ o.1, o.2)
-        | inr own ↦ (
-          p',
-          ap (λ v. slice_get (slice_set places t p') v) (ap (λ z. z.party) own.1) ∙ slice_get-set_same places t p p' at,
-          taken ∙ ap (λ z. Some z) (sym (ap (λ z. z.hold) own.1)),
-        )
-      ];
-      apart = λ i j e f he hf same. ⊎_elim
-          (λ old. ⊎_elim (λ older. h.apart i j e f old older same)
-          (λ own. absurd (fresh i e old (same ∙ ap (λ z. z.hold.guard) own.1))) (slice_get-push_cases holds j f new hf))
-          (λ own. ⊎_elim (λ older. absurd (fresh j f older (sym same ∙ ap (λ z. z.hold.guard) own.1)))
-          (λ both. own.0 ∙ sym both.0) (slice_get-push_cases holds j f new hf))
-          (slice_get-push_cases holds i e new he);
-      compatible = λ i j e f he hf ne shard. ⊎_elim
-          (λ old. ⊎_elim (λ older. h.compatible i j e f old older ne shard)
-          (λ own. let both = is_excluded-shared holds a.shard a.mode i e admitted old (shard ∙ ap (λ z. z.hold.shard) own.1) in
-          (both.0, ap (λ z. z.hold.mode) own.1 ∙ both.1)) (slice_get-push_cases holds j f new hf))
-          (λ own. ⊎_elim
-          (λ older. let both = is_excluded-shared holds a.shard a.mode j f admitted older (sym shard ∙ ap (λ z. z.hold.shard) own.1) in
-          (ap (λ z. z.hold.mode) own.1 ∙ both.1, both.0))
-          (λ both. absurd (ne (own.0 ∙ sym both.0))) (slice_get-push_cases holds j f new hf))
-          (slice_get-push_cases holds i e new he);
+      apart = λ u v q r b c hq hr hb hc e. ⊎_elim
+          (λ own. ⊎_elim (λ both. own.0 ∙ sym both.0)
+          (λ other. absurd (fresh v r c other.1 hc (sym e ∙ ap (λ (z : Hold). z.guard) (sym (is-mine q b own.1 hb))))) (there v r hr))
+          (λ old. ⊎_elim (λ own. absurd (fresh u q b old.1 hb (e ∙ ap (λ (z : Hold). z.guard) (sym (is-mine r c own.1 hc)))))
+          (λ other. h.apart u v q r b c old.1 other.1 hb hc e) (there v r hr))
+          (there u q hq);
+      compatible = λ u v q r b c ne hq hr hb hc e. ⊎_elim
+          (λ own. ⊎_elim (λ both. absurd (ne (own.0 ∙ sym both.0)))
+          (λ other.
+          let same = is-mine q b own.1 hb in
+          let both = is_excluded-shared places a.shard a.mode v r c unexcluded other.1 hc (sym e ∙ ap (λ (z : Hold). z.shard) (sym same)) in
+          (ap (λ (z : Hold). z.mode) (sym same) ∙ both.1, both.0)) (there v r hr))
+          (λ old. ⊎_elim
+          (λ own.
+          let same = is-mine r c own.1 hc in
+          let both = is_excluded-shared places a.shard a.mode u q b unexcluded old.1 hb (e ∙ ap (λ (z : Hold). z.shard) (sym same)) in
+          (both.0, ap (λ (z : Hold). z.mode) (sym same) ∙ both.1))
+          (λ other. h.compatible u v q r b c ne old.1 other.1 hb hc e) (there v r hr))
+          (there u q hq);
     }
       where
-        new : Held
-        new = record { hold = a; party = t }
+        after : DeskState (Unit {0})
+        after = admitted (at_desk a.mode) t a.guard desk
 
-    pub holds-remove : (a : Hold) (n : ℕ) → p.hold ≡ Some a → p'.hold ≡ None → slice_get holds n ≡ Some (record { hold = a; party = t }) → HoldsMatch (slice_set places t p') (remove holds n)
-    holds-remove a n held free entry = record {
-      listed = λ u q b hq hb. elim (slice_get-set_cases places t u p q p' at hq) [
-        | inl own ↦ absurd (none-some b (sym free ∙ ap (λ z. z.hold) (sym own.1) ∙ hb))
-        | inr other ↦
-            let o = h.listed u q b other.1 hb in
-            let ne : o.0 ≢ n = λ same. other.0 (sym (ap (λ z. z.party) (same_Some _ _ (sym entry ∙ ap (λ k. slice_get holds k) (sym same) ∙ o.1)))) in
-            slice_get-remove_kept holds n o.0 _ ne o.1
+        is-mine : (q : Place K V D T A) (b : Hold) → q ≡ p' → q.hold ≡ Some b → a ≡ b
+        is-mine q b own hb = same_Some a b (sym taken ∙ ap (λ z. z.hold) (sym own) ∙ hb)
+
+        not-mine : (u : ℕ) (q : Place K V D T A) (b : Hold) → slice_get places u ≡ Some q → q.hold ≡ Some b → u ≢ t
+        not-mine u q b hq hb own = none-some b (sym free ∙ ap (λ z. z.hold) (sym (mine u q own hq)) ∙ hb)
+
+    pub holds-remove : (a : Hold) → p.hold ≡ Some a → p'.hold ≡ None → (desk : DeskState (Unit {0})) → slice_get holds a.shard ≡ Some desk
+        → HoldsMatch (slice_set places t p') (slice_set holds a.shard (released a.guard desk))
+    holds-remove a held free desk there-is = record {
+      listed = λ u q b hq hb.
+          let old = other u q b hq hb in
+          let o = h.listed u q b old.1 hb in ⊎_elim
+          (λ (here : b.shard ≡ a.shard).
+          let d : o.0 ≡ desk = same_Some o.0 desk (sym o.2 ∙ ap (λ s. slice_get holds s) here ∙ there-is) in
+          let k = without-kept a.guard desk.guards o.1 (guard_for u b) (ap (λ (z : DeskState (Unit {0})). slice_get z.guards o.1) (sym d) ∙ o.3)
+          (λ same. old.0 (h.apart u t q p b a old.1 at hb held same)) in
+          (after, k.0, ap (λ s. slice_get (slice_set holds a.shard after) s) here ∙ slice_get-set_same holds a.shard desk after there-is, k.1))
+          (λ ne. (o.0, o.1, slice_get-set_other holds a.shard b.shard after (λ z. ne (sym z)) ∙ o.2, o.3))
+          (cases_eq b.shard a.shard);
+      owned = λ s i d g hd hg. elim (slice_get-set_cases holds a.shard s desk d after there-is hd) [
+        | inl here ↦
+            let k = without-was a.guard desk.guards i g (ap (λ (z : DeskState (Unit {0})). slice_get z.guards i) (sym here.1) ∙ hg) in
+            let o = h.owned a.shard k.0 desk g there-is k.1 in
+            let ne : g.party ≢ t = λ own. k.2 (ap (λ (z : Guard). z.number) o.5 ∙ ap (λ (z : Hold). z.guard) (sym (is-mine g.party o.0 o.1 own o.2 o.3))) in
+            (o.0, o.1, still g.party o.0 ne o.2, o.3, o.4 ∙ sym here.0, o.5)
+        | inr else_ ↦
+            let o = h.owned s i d g else_.1 hg in
+            let ne : g.party ≢ t = λ own. else_.0 (sym o.4 ∙ ap (λ (z : Hold). z.shard) (sym (is-mine g.party o.0 o.1 own o.2 o.3))) in
+            (o.0, o.1, still g.party o.0 ne o.2, o.3, o.4, o.5)
       ];
-      owned = λ i e he.
-          let old = was i e he in
-          let o = h.owned (stood_at n i) e old in
-          let ne : e.party ≢ t = λ own.
-          let mine : a ≡ e.hold = same_Some a e.hold (sym held ∙ ap (λ z. z.hold) (same_Some p o.0 (sym at ∙ ap (λ v. slice_get places v) (sym own) ∙ o.1)) ∙ o.2) in
-          stood_at-other n i (h.apart (stood_at n i) n e _ old entry (sym (ap (λ z. z.guard) mine))) in
-          (o.0, slice_get-set_other places t e.party p' (λ z. ne (sym z)) ∙ o.1, o.2);
-      apart = λ i j e f he hf same. stood_at-same n i j (h.apart (stood_at n i) (stood_at n j) e f (was i e he) (was j f hf) same);
-      compatible = λ i j e f he hf ne shard.
-          h.compatible (stood_at n i) (stood_at n j) e f (was i e he) (was j f hf) (λ same. ne (stood_at-same n i j same)) shard;
+      apart = λ u v q r b c hq hr hb hc e. h.apart u v q r b c (other u q b hq hb).1 (other v r c hr hc).1 hb hc e;
+      compatible = λ u v q r b c ne hq hr hb hc e. h.compatible u v q r b c ne (other u q b hq hb).1 (other v r c hr hc).1 hb hc e;
     }
       where
-        was : (i : ℕ) (e : Held) → slice_get (remove holds n) i ≡ Some e → slice_get holds (stood_at n i) ≡ Some e
-        was i e he = sym (slice_get-remove_is holds n i) ∙ he
+        after : DeskState (Unit {0})
+        after = released a.guard desk
+
+        is-mine : (u : ℕ) (q : Place K V D T A) (b : Hold) → u ≡ t → slice_get places u ≡ Some q → q.hold ≡ Some b → a ≡ b
+        is-mine u q b own hq hb = same_Some a b (sym held ∙ ap (λ z. z.hold) (sym (mine u q own hq)) ∙ hb)
+
+        other : (u : ℕ) (q : Place K V D T A) (b : Hold) → slice_get (slice_set places t p') u ≡ Some q → q.hold ≡ Some b → (u ≢ t) × (slice_get places u ≡ Some q)
+        other u q b hq hb = elim (there u q hq) [
+          | inl own ↦ absurd (none-some b (sym free ∙ ap (λ z. z.hold) (sym own.1) ∙ hb))
+          | inr old ↦ old
+        ]

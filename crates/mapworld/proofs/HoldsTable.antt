@@ -1,14 +1,15 @@
--- What the table of holds says of a shard.
-use Rattle.std.proofs.Common.{◌≡◌, ℕ, Bool, true, false, ◌==◌, List, Some, None, slice_get, refl, sym, ap, ◌∙◌, eq-eqb, eqb-true, position}
+-- What the holds of all threads say of a shard, and what its desk lists.
+use Rattle.std.proofs.Common.{◌≡◌, ◌≢◌, ℕ, zero, suc, ◌⊎◌, inl, inr, Bool, true, false, not, if◌then◌else◌, ◌==◌, List, [], ◌∷◌, Option, Some, None, slice_get, refl, sym, ap, ◌∙◌, eq-eqb, eqb-true}
 use Rattle.std.specs.List.{list_any}
-use Rattle.std.proofs.lemmas.Option.{slice_get_within, get_or_from_slice_get, slice_get-get_or}
+use Rattle.std.proofs.lemmas.Option.{none-some, same_Some, slice_get_within, get_or_from_slice_get, slice_get-get_or}
 use Rattle.std.proofs.lemmas.Bool.{false≢true, false_from_ne_true, and_from, and_parts}
 use Rattle.std.proofs.lemmas.List.Folds.{list_any_at, Any-from_list_any}
 use Rattle.mapworld.specs.declared.holds.Mode.{Mode}
 use Rattle.mapworld.specs.declared.holds.Mode.TheVariants.{Shared, Exclusive}
-use Rattle.mapworld.specs.declared.holds.Held.{Held}
-use Rattle.mapworld.specs.Holds.{excludes, is_in_the_way, is_excluded, is_hold_of}
-use Rattle.mapworld.proofs.Finds.{position-Some_at, position-None_at}
+use Rattle.mapworld.specs.declared.holds.Hold.{Hold}
+use Rattle.mapworld.specs.declared.place.Place.{Place}
+use Rattle.lock_api_desk.specs.Guards.{Guard, has_number, without}
+use Rattle.mapworld.specs.Holds.{excludes, is_in_the_way, is_excluded}
 
 module _ {X : Type 0} where
   pub list_any-false : (p : X → Bool) (xs : List X) → list_any p xs ≡ false → (i : ℕ) (x : X) → slice_get xs i ≡ Some x → p x ≡ false
@@ -33,40 +34,57 @@ excludes-symm Shared Exclusive = refl
 excludes-symm Exclusive Shared = refl
 excludes-symm Exclusive Exclusive = refl
 
--- where nothing is in the way no hold of the shard excludes the mode
-pub is_excluded-false : (held : List Held) (shard : ℕ) (mode : Mode) (i : ℕ) (h : Held) → is_excluded held shard mode ≡ false → slice_get held i ≡ Some h → h.hold.shard ≡ shard → excludes h.hold.mode mode ≡ false
-is_excluded-false held shard mode i h free at same = false_from_ne_true (excludes h.hold.mode mode) (λ e.
-    false≢true (sym (list_any-false (is_in_the_way shard mode) held free i h at)
-    ∙ and_from (h.hold.shard == shard) (excludes h.hold.mode mode) (eq-eqb h.hold.shard shard same) e))
+module _ {K V D T A : Type 0} (places : List (Place K V D T A)) (shard : ℕ) (mode : Mode) where
+  -- a hold in the way, if there is one
+  in_the_way : (o : Option Hold) → is_in_the_way shard mode o ≡ true → (h : Hold) × (o ≡ Some h) × (h.shard ≡ shard) × (excludes h.mode mode ≡ true)
+  in_the_way None e = absurd (false≢true e)
+  in_the_way (Some h) e = let parts = and_parts (h.shard == shard) (excludes h.mode mode) e in (h, refl, eqb-true h.shard shard parts.0, parts.1)
 
--- so both share
-pub is_excluded-shared : (held : List Held) (shard : ℕ) (mode : Mode) (i : ℕ) (h : Held) → is_excluded held shard mode ≡ false → slice_get held i ≡ Some h → h.hold.shard ≡ shard → (h.hold.mode ≡ Shared) × (mode ≡ Shared)
-is_excluded-shared held shard mode i h free at same =
-    excludes-false h.hold.mode mode (is_excluded-false held shard mode i h free at same)
+  -- a hold of the shard that excludes the mode is in the way
+  pub is_excluded-by : (u : ℕ) (q : Place K V D T A) (h : Hold) → slice_get places u ≡ Some q → q.hold ≡ Some h → h.shard ≡ shard → excludes h.mode mode ≡ true → is_excluded places shard mode ≡ true
+  is_excluded-by u q h at held same e =
+      list_any_at (λ (p : Place K V D T A). is_in_the_way shard mode p.hold) places u q (slice_get_within places u q at)
+      (ap (λ (p : Place K V D T A). is_in_the_way shard mode p.hold) (get_or_from_slice_get places u q q at)
+      ∙ ap (λ o. is_in_the_way shard mode o) held
+      ∙ and_from (h.shard == shard) (excludes h.mode mode) (eq-eqb h.shard shard same) e)
 
--- where something is in the way there is a hold of the shard that excludes the mode
-pub is_excluded-true : (held : List Held) (shard : ℕ) (mode : Mode) → is_excluded held shard mode ≡ true → (i : ℕ) × (h : Held) × (slice_get held i ≡ Some h) × (h.hold.shard ≡ shard) × (excludes h.hold.mode mode ≡ true)
-is_excluded-true held shard mode some =
-    let r = list_any-true (is_in_the_way shard mode) held some in
-    let parts = and_parts (r.1.hold.shard == shard) (excludes r.1.hold.mode mode) r.3 in
-    (r.0, r.1, r.2, eqb-true r.1.hold.shard shard parts.0, parts.1)
+  -- where nothing is in the way, each hold of the shard shares it, and so does the mode
+  pub is_excluded-shared : (u : ℕ) (q : Place K V D T A) (h : Hold) → is_excluded places shard mode ≡ false → slice_get places u ≡ Some q → q.hold ≡ Some h → h.shard ≡ shard → (h.mode ≡ Shared) × (mode ≡ Shared)
+  is_excluded-shared u q h free at held same =
+      excludes-false h.mode mode (false_from_ne_true (excludes h.mode mode) (λ e. false≢true (sym free ∙ is_excluded-by u q h at held same e)))
 
--- a hold of the shard that excludes the mode is in the way
-pub is_excluded-by : (held : List Held) (shard : ℕ) (mode : Mode) (i : ℕ) (h : Held) → slice_get held i ≡ Some h → h.hold.shard ≡ shard → excludes h.hold.mode mode ≡ true → is_excluded held shard mode ≡ true
-is_excluded-by held shard mode i h at same e =
-    list_any_at (is_in_the_way shard mode) held i h (slice_get_within held i h at)
-    (ap (is_in_the_way shard mode) (get_or_from_slice_get held i h h at)
-    ∙ and_from (h.hold.shard == shard) (excludes h.hold.mode mode) (eq-eqb h.hold.shard shard same) e)
+  -- where something is in the way, some thread's hold of the shard excludes the mode
+  pub is_excluded-true : is_excluded places shard mode ≡ true → (u : ℕ) × (q : Place K V D T A) × (h : Hold) × (slice_get places u ≡ Some q) × (q.hold ≡ Some h) × (h.shard ≡ shard) × (excludes h.mode mode ≡ true)
+  is_excluded-true some =
+      let r = list_any-true (λ (p : Place K V D T A). is_in_the_way shard mode p.hold) places some in
+      let w = in_the_way r.1.hold r.3 in
+      (r.0, r.1, w.0, r.2, w.1, w.2, w.3)
 
--- the entry that is found is the guard's hold of the shard
-pub place_of-at : (held : List Held) (shard guard : ℕ) (i : ℕ) → position (is_hold_of shard guard) held ≡ Some i → (h : Held) × (slice_get held i ≡ Some h) × (h.hold.shard ≡ shard) × (h.hold.guard ≡ guard)
-place_of-at held shard guard i found =
-    let r = position-Some_at (is_hold_of shard guard) held i found in
-    let parts = and_parts (r.0.hold.shard == shard) (r.0.hold.guard == guard) r.2 in
-    (r.0, r.1, eqb-true r.0.hold.shard shard parts.0, eqb-true r.0.hold.guard guard parts.1)
+-- what is left of a desk's guards without one number
+first-kept : (b : Bool) (g : Guard) (kept : List Guard) (k : ℕ) → slice_get kept k ≡ slice_get (if b then g ∷ kept else kept) (if b then suc k else k)
+first-kept true g kept k = refl
+first-kept false g kept k = refl
 
--- where none is found no entry is
-pub place_of-none : (held : List Held) (shard guard : ℕ) → position (is_hold_of shard guard) held ≡ None → (i : ℕ) (h : Held) → slice_get held i ≡ Some h → h.hold.shard ≡ shard → h.hold.guard ≡ guard → ⊥
-place_of-none held shard guard none i h at same own =
-    false≢true (sym (position-None_at (is_hold_of shard guard) held none i h at)
-    ∙ and_from (h.hold.shard == shard) (h.hold.guard == guard) (eq-eqb h.hold.shard shard same) (eq-eqb h.hold.guard guard own))
+pub without-kept : (n : ℕ) (gs : List Guard) (i : ℕ) (g : Guard) → slice_get gs i ≡ Some g → g.number ≢ n → (k : ℕ) × (slice_get (without n gs) k ≡ Some g)
+without-kept n [] i g at ne = absurd (none-some g at)
+without-kept n (z ∷ zs) zero g at ne =
+    let same : z ≡ g = same_Some z g at in
+    let stays : not (has_number n z) ≡ true = ap (λ (x : Guard). not (has_number n x)) same ∙ ap not (false_from_ne_true (g.number == n) (λ e. ne (eqb-true g.number n e))) in
+    (0, ap (λ (b : Bool). slice_get (if b then z ∷ without n zs else without n zs) 0) stays ∙ at)
+without-kept n (z ∷ zs) (suc i) g at ne =
+    let o = without-kept n zs i g at ne in
+    let b = not (has_number n z) in
+    (if b then suc o.0 else o.0, sym (first-kept b z (without n zs) o.0) ∙ o.1)
+
+without-cons : (n : ℕ) (b : Bool) (z : Guard) (kept : List Guard) (k : ℕ) (g : Guard) → slice_get (if b then z ∷ kept else kept) k ≡ Some g
+    → ((b ≡ true) × (z ≡ g)) ⊎ ((j : ℕ) × (slice_get kept j ≡ Some g))
+without-cons n true z kept zero g at = inl (refl, same_Some z g at)
+without-cons n true z kept (suc k) g at = inr (k, at)
+without-cons n false z kept k g at = inr (k, at)
+
+pub without-was : (n : ℕ) (gs : List Guard) (k : ℕ) (g : Guard) → slice_get (without n gs) k ≡ Some g → (i : ℕ) × (slice_get gs i ≡ Some g) × (g.number ≢ n)
+without-was n [] k g at = absurd (none-some g at)
+without-was n (z ∷ zs) k g at = elim (without-cons n (not (has_number n z)) z (without n zs) k g at) [
+  | inl first ↦ (0, ap (λ (x : Guard). Some x) first.1, λ e. false≢true (sym (ap not (eq-eqb z.number n (ap (λ (x : Guard). x.number) first.1 ∙ e))) ∙ first.0))
+  | inr rest ↦ let o = without-was n zs rest.0 g rest.1 in (suc o.0, o.1, o.2)
+]

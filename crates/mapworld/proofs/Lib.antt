@@ -22,6 +22,7 @@ pub mod Tables
 pub mod Joins
 pub mod Openings
 pub mod HoldsTable
+pub mod Desks
 pub mod Routes
 pub mod Sleeping
 pub mod Refusals

@@ -1,5 +1,5 @@
 -- Steps of a session: a deed that reads the guarded pair, and the release of the guard or of a keyed call's hold.
-use Rattle.std.proofs.Common.{◌≡◌, ℕ, ◌+◌, ◌-◌, inl, inr, Bool, if◌then◌else◌, List, Option, Some, None, is_some, slice_get, slice_set, remove, refl, ap, sym, ◌∙◌, subst, arith}
+use Rattle.std.proofs.Common.{◌≡◌, ℕ, ◌+◌, ◌-◌, inl, inr, Bool, if◌then◌else◌, List, Option, Some, None, is_some, slice_get, slice_set, refl, ap, sym, ◌∙◌, subst, arith}
 use Rattle.std.specs.declared.vec.Vec.{Vec}
 use Rattle.std.proofs.lemmas.Option.{same_Some, none-some}
 use Rattle.mapworld_calls.specs.declared.ask.Ask.{Ask}
@@ -16,6 +16,7 @@ use Rattle.mapworld_calls.specs.Agrees.{IsToldBy, IsAnsweredInSession}
 use Rattle.mapworld_calls.proofs.Lists.{slice_get-set_cases}
 use Rattle.mapworld.specs.declared.holds.Mode.{Mode}
 use Rattle.mapworld.specs.declared.holds.Mode.TheVariants.{Shared, Exclusive}
+use Rattle.lock_api_desk.specs.Desk.{released as without_guard}
 use Rattle.mapworld.specs.declared.step.Step.{Step}
 use Rattle.mapworld.specs.declared.place.Phase.TheVariants as phase
 use Rattle.mapworld.specs.declared.place.Place.{Place}
@@ -131,8 +132,8 @@ module _ {K V S D T A : Type 0} (x : Setup K V D T) (laws : Laws x) (w : State K
       let cl = claim-at x (threads_of w) w.blocks w.replies w.tables s.thread p (phase.Release a.answer) a.before st in
       let p' : Place K V D T A = record p { hold = None; slot = None; phase = phase.Answer a.answer } in
       let same : a.blocks ≡ w.blocks = subst (λ (z : Option ℕ). CountsCall w.blocks (if is_some z then p.block else None) p.next a.blocks) none a.counted in
-      subst (Sound x) (sym (a.after ∙ ap (λ (z : List (Block K)). record (stepped w s p') { holds = remove w.holds a.entry; blocks = z }) same))
-      (sound-by x w s p p' a.stands sound w.blocks w.tables (remove w.holds a.entry) w.replies _ (leaves-same x w s p p' a.stands sound (remove w.holds a.entry))
+      subst (Sound x) (sym (a.after ∙ ap (λ (z : List (Block K)). record (stepped w s p') { holds = slice_set w.holds a.hold.shard (without_guard a.hold.guard a.desk); blocks = z }) same))
+      (sound-by x w s p p' a.stands sound w.blocks w.tables (slice_set w.holds a.hold.shard (without_guard a.hold.guard a.desk)) w.replies _ (leaves-same x w s p p' a.stands sound (slice_set w.holds a.hold.shard (without_guard a.hold.guard a.desk)))
       (record {
         program = st.program;
         has = st.has;
@@ -150,7 +151,7 @@ module _ {K V S D T A : Type 0} (x : Setup K V D T) (laws : Laws x) (w : State K
         );
       })
       (tables-same x w.blocks w.blocks w.tables w.tables sound.tables (λ q. refl))
-      (holds-remove w.places w.holds sound.holds s.thread p p' a.stands a.hold a.entry a.holds refl a.listed)
+      (holds-remove w.places w.holds sound.holds s.thread p p' a.stands a.hold a.holds refl a.desk a.at_shard)
       (placed-same x (threads_of w) s.thread (started_of w) (started_of (stepped w s p')) w.blocks w.replies (started-stays x w s p p' a.stands (λ n z. z)) sound.placed)
       sound.replies)
   released a (Some slot) has h =
@@ -172,9 +173,9 @@ module _ {K V S D T A : Type 0} (x : Setup K V D T) (laws : Laws x) (w : State K
       let told : held_answer x.deeds held.Drop (reached x s.thread c (p.next - c) (found x w.blocks i b)) ≡ a.answer = ap (held_answer x.deeds held.Drop) stood ∙ drop-told x.deeds guard.0 guard.1 ∙ sym h.1 in
       let outside : session_of x s.thread (p.next + 1) ≡ None = session-next x s.thread st.program st.has p.next (ask.Held held.Drop) call.asked in
       let closes : block_after p' ≡ None = ap (λ (z : Bool). if z then None else p.block) call.closes in
-      subst (Sound x) (sym (a.after ∙ ap (λ (z : List (Block K)). record (stepped w s p') { holds = remove w.holds a.entry; blocks = z }) n.4))
+      subst (Sound x) (sym (a.after ∙ ap (λ (z : List (Block K)). record (stepped w s p') { holds = slice_set w.holds a.hold.shard (without_guard a.hold.guard a.desk); blocks = z }) n.4))
       (growing.sound-counted x laws w s sound p a.stands held.Drop call.asked c i inside session b d n.2 n.3 still p'
-      (rw call.started refl) (λ m z. z) same (remove w.holds a.entry) refl (inl refl) (
+      (rw call.started refl) (λ m z. z) same (slice_set w.holds a.hold.shard (without_guard a.hold.guard a.desk)) refl (inl refl) (
         ask.Held held.Drop,
         IsInCall-push x (threads_of w) s.thread s.thread p' _ (in_call-moved x p p' (threads_of w) s.thread _ refl refl refl call),
         (λ z. refl),
@@ -185,7 +186,7 @@ module _ {K V S D T A : Type 0} (x : Setup K V D T) (laws : Laws x) (w : State K
       )
       (taken-at x (threads_of w) w.blocks w.replies w.tables s.thread p (phase.Release a.answer) a.before st)
       (within-at x (threads_of w) w.blocks w.replies w.tables s.thread p (phase.Release a.answer) a.before st)
-      (holds-remove w.places w.holds sound.holds s.thread p p' a.stands a.hold a.entry a.holds refl a.listed)
+      (holds-remove w.places w.holds sound.holds s.thread p p' a.stands a.hold a.holds refl a.desk a.at_shard)
       (λ j e here thread. elim (slice_get-set_cases w.blocks i j b e d n.2 here) [
         | inl own ↦ inl (rw (own.1, n.3.call) (let k = growing.call-is x laws w s sound p a.stands held.Drop call.asked c i inside session b d n.2 n.3 still in let lt = session.below in omega arith))
         | inr other ↦ elim (st.owns j e other.1 thread) [ inl below ↦ inl below | inr mine ↦ inr (mine.0, mine.1, refl) ]

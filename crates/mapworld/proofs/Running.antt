@@ -28,10 +28,10 @@ running_admit false h = refl
 
 module _ {K V S D T A : Type 0} (w : State K V S D T A) (t : ℕ) (runs : is_running (status_of w t) ≡ true) where
   -- the status is that of the phase
-  runs_before : (ph : Phase K V D T) (b : IsBefore w.places t ph) → is_running (status_before w.holds (length b.place.asks.items) b.place.shard ph) ≡ true
+  runs_before : (ph : Phase K V D T) (b : IsBefore w.places t ph) → is_running (status_before w.places (length b.place.asks.items) b.place.shard ph) ≡ true
   runs_before ph b =
-      let at = subst (λ o. is_running (status_at w.holds o) ≡ true) b.stands runs in
-      subst (λ f. is_running (status_before w.holds (length b.place.asks.items) b.place.shard f) ≡ true) b.before at
+      let at = subst (λ o. is_running (status_at w.places o) ≡ true) b.stands runs in
+      subst (λ f. is_running (status_before w.places (length b.place.asks.items) b.place.shard f) ≡ true) b.before at
 
   -- between two calls it has one left
   pub asks_left : IsBefore w.places t phase.Rest → (p : Place K V D T A) → slice_get w.places t ≡ Some p → 0 < length p.asks.items
@@ -40,5 +40,5 @@ module _ {K V S D T A : Type 0} (w : State K V S D T A) (t : ℕ) (runs : is_run
       subst (λ (q : Place K V D T A). 0 < length q.asks.items) same (running_rest (length b.place.asks.items) (runs_before phase.Rest b))
 
   -- before an admission nothing excludes it
-  pub not_excluded : (r : Request K V) (b : IsBefore w.places t (phase.Admit r)) → is_excluded w.holds b.place.shard (mode_of r) ≡ false
-  not_excluded r b = running_admit (is_excluded w.holds b.place.shard (mode_of r)) (runs_before (phase.Admit r) b)
+  pub not_excluded : (r : Request K V) (b : IsBefore w.places t (phase.Admit r)) → is_excluded w.places b.place.shard (mode_of r) ≡ false
+  not_excluded r b = running_admit (is_excluded w.places b.place.shard (mode_of r)) (runs_before (phase.Admit r) b)

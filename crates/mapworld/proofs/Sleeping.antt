@@ -3,7 +3,6 @@ use Rattle.std.proofs.Common.{◌≡◌, ◌≢◌, ◌↔◌, ℕ, Bool, true, 
 use Rattle.std.proofs.lemmas.Option.{none-some, same_Some}
 use Rattle.std.proofs.lemmas.Bool.{cond-true}
 use Rattle.mapworld_calls.specs.Setup.{Setup}
-use Rattle.mapworld.specs.declared.holds.Held.{Held}
 use Rattle.mapworld.specs.declared.step.Status.{Status}
 use Rattle.mapworld.specs.declared.step.Status.TheVariants as status
 use Rattle.mapworld.specs.declared.place.Request.{Request}
@@ -26,10 +25,10 @@ sleeps : (b : Bool) → (if b then status.Asleep else status.Running) ≡ status
 sleeps true h = refl
 sleeps false h = cc
 
-module _ {K V D T : Type 0} (holds : List Held) where
-  before_admission : (left shard : ℕ) (f : Phase K V D T) → status_before holds left shard f ≡ status.Asleep → (r : Request K V) × (f ≡ phase.Admit r) × (is_excluded holds shard (mode_of r) ≡ true)
+module _ {K V D T A : Type 0} (places : List (Place K V D T A)) where
+  before_admission : (left shard : ℕ) (f : Phase K V D T) → status_before places left shard f ≡ status.Asleep → (r : Request K V) × (f ≡ phase.Admit r) × (is_excluded places shard (mode_of r) ≡ true)
   before_admission left shard phase.Rest h = absurd (never (left == 0) h)
-  before_admission left shard (phase.Admit r) h = (r, refl, sleeps (is_excluded holds shard (mode_of r)) h)
+  before_admission left shard (phase.Admit r) h = (r, refl, sleeps (is_excluded places shard (mode_of r)) h)
   before_admission left shard (phase.Find r) h = cc
   before_admission left shard (phase.Grow k v) h = cc
   before_admission left shard (phase.Append k v) h = cc
@@ -40,7 +39,21 @@ module _ {K V D T : Type 0} (holds : List Held) where
   before_admission left shard (phase.Release a) h = cc
   before_admission left shard (phase.Answer a) h = cc
 
-  at_admission : {A : Type 0} (o : Option (Place K V D T A)) → status_at holds o ≡ status.Asleep → (p : Place K V D T A) × (r : Request K V) × (o ≡ Some p) × (p.phase ≡ phase.Admit r) × (is_excluded holds p.shard (mode_of r) ≡ true)
+  -- a thread that is neither between two calls nor before an admission can move
+  pub runs-otherwise : (left shard : ℕ) (f : Phase K V D T) → (f ≡ phase.Rest → ⊥) → ((r : Request K V) → f ≡ phase.Admit r → ⊥) → status.Running ≡ status_before places left shard f
+  runs-otherwise left shard phase.Rest rest admit = absurd (rest refl)
+  runs-otherwise left shard (phase.Admit r) rest admit = absurd (admit r refl)
+  runs-otherwise left shard (phase.Find r) rest admit = refl
+  runs-otherwise left shard (phase.Grow k v) rest admit = refl
+  runs-otherwise left shard (phase.Append k v) rest admit = refl
+  runs-otherwise left shard (phase.Replace i v) rest admit = refl
+  runs-otherwise left shard (phase.Take i) rest admit = refl
+  runs-otherwise left shard (phase.Read d) rest admit = refl
+  runs-otherwise left shard (phase.Write d) rest admit = refl
+  runs-otherwise left shard (phase.Release a) rest admit = refl
+  runs-otherwise left shard (phase.Answer a) rest admit = refl
+
+  at_admission : (o : Option (Place K V D T A)) → status_at places o ≡ status.Asleep → (p : Place K V D T A) × (r : Request K V) × (o ≡ Some p) × (p.phase ≡ phase.Admit r) × (is_excluded places p.shard (mode_of r) ≡ true)
   at_admission None h = cc
   at_admission (Some p) h = let r = before_admission (length p.asks.items) p.shard p.phase h in (p, r.0, refl, r.1, r.2)
 
@@ -52,31 +65,32 @@ module _ {K V S D T A : Type 0} (x : Setup K V D T) (w : State K V S D T A) (sou
 
   asleep_there : status_of w t ≡ status.Asleep → IsAsleep w t
   asleep_there h =
-      let a = at_admission w.holds (slice_get w.places t) h in
-      let e = is_excluded-true w.holds a.0.shard (mode_of a.1) a.4 in
-      let own = sound.holds.owned e.0 e.1 e.2 in
-      let another : e.1.party ≢ t = λ same.
-      let one = same_Some own.0 a.0 (sym own.1 ∙ (ap (λ k. slice_get w.places k) same ∙ a.2)) in
-      none-some e.1.hold (sym (holds_nothing a.0 a.1 a.2 a.3) ∙ (ap (λ (p : Place K V D T A). p.hold) (sym one) ∙ own.2)) in
+      let a = at_admission w.places (slice_get w.places t) h in
+      let e = is_excluded-true w.places a.0.shard (mode_of a.1) a.4 in
+      let another : e.0 ≢ t = λ same.
+      let one = same_Some e.1 a.0 (sym e.3 ∙ (ap (λ k. slice_get w.places k) same ∙ a.2)) in
+      none-some e.2 (sym (holds_nothing a.0 a.1 a.2 a.3) ∙ (ap (λ (p : Place K V D T A). p.hold) (sym one) ∙ e.4)) in
       record {
         place = a.0;
         stands = a.2;
         request = a.1;
         before = a.3;
-        index = e.0;
-        entry = e.1;
-        held = e.2;
+        other = e.0;
         another = another;
-        same_shard = e.3;
-        excluded = e.4;
+        holder = e.1;
+        there = e.3;
+        hold = e.2;
+        held = e.4;
+        same_shard = e.5;
+        excluded = e.6;
       }
 
   asleep_back : IsAsleep w t → status_of w t ≡ status.Asleep
   asleep_back a =
-      ap (λ o. status_at w.holds o) a.stands
-      ∙ (ap (λ f. status_before w.holds (length a.place.asks.items) a.place.shard f) a.before
-      ∙ cond-true (is_excluded w.holds a.place.shard (mode_of a.request)) status.Asleep status.Running
-      (is_excluded-by w.holds a.place.shard (mode_of a.request) a.index a.entry a.held a.same_shard a.excluded))
+      ap (λ o. status_at w.places o) a.stands
+      ∙ (ap (λ f. status_before w.places (length a.place.asks.items) a.place.shard f) a.before
+      ∙ cond-true (is_excluded w.places a.place.shard (mode_of a.request)) status.Asleep status.Running
+      (is_excluded-by w.places a.place.shard (mode_of a.request) a.other a.holder a.hold a.there a.held a.same_shard a.excluded))
 
   pub status-asleep : (r : Status) → r ≡ status_of w t → (r ≡ status.Asleep) ↔ IsAsleep w t
   status-asleep r is = (λ h. asleep_there (sym is ∙ h), λ h. is ∙ asleep_back h)

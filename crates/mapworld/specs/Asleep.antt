@@ -1,6 +1,6 @@
 -- When a thread is asleep.
 use Rattle.std.specs.Prelude.{◌≡◌, ◌≢◌, ℕ, true, Some, slice_get}
-use Rattle.mapworld.specs.declared.holds.Held.{Held}
+use Rattle.mapworld.specs.declared.holds.Hold.{Hold}
 use Rattle.mapworld.specs.declared.place.Request.{Request}
 use Rattle.mapworld.specs.declared.place.Phase.TheVariants as phase
 use Rattle.mapworld.specs.declared.place.Place.{Place}
@@ -14,9 +14,11 @@ pub record IsAsleep {K V S D T A : Type 0} (w : State K V S D T A) (t : ℕ) : T
   pub stands : slice_get w.places t ≡ Some place
   pub request : Request K V
   pub before : place.phase ≡ phase.Admit request
-  pub index : ℕ
-  pub entry : Held
-  pub held : slice_get w.holds index ≡ Some entry
-  pub another : entry.party ≢ t
-  pub same_shard : entry.hold.shard ≡ place.shard
-  pub excluded : excludes entry.hold.mode (mode_of request) ≡ true
+  pub other : ℕ
+  pub another : other ≢ t
+  pub holder : Place K V D T A
+  pub there : slice_get w.places other ≡ Some holder
+  pub hold : Hold
+  pub held : holder.hold ≡ Some hold
+  pub same_shard : hold.shard ≡ place.shard
+  pub excluded : excludes hold.mode (mode_of request) ≡ true

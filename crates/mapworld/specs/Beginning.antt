@@ -1,11 +1,13 @@
 -- How a new world's threads and tables begin.
-use Rattle.std.specs.Prelude.{◌≡◌, ℕ, Bool, true, false, List, [], ◌∷◌, ◌++◌, length, map, flat_map, Some, None, slice_get, slice_set, IsTrue}
+use Rattle.std.specs.Prelude.{◌≡◌, ◌≤◌, ℕ, Bool, true, false, List, [], ◌∷◌, ◌++◌, length, map, flat_map, Some, None, slice_get, slice_set, IsTrue}
 use Rattle.std.specs.declared.vec.Vec.{Vec}
 use Rattle.std.specs.declared.collections.VecDeque.{VecDeque}
 use Rattle.mapworld_calls.specs.declared.ask.Ask.{Ask}
 use Rattle.mapworld_calls.specs.Pairs.{pair_of, opening_pair, AreDistinct}
+use Rattle.lock_api_desk.specs.Desk.{DeskState}
 use Rattle.mapworld.specs.declared.place.Phase.TheVariants as phase
 use Rattle.mapworld.specs.declared.place.Place.{Place}
+use Rattle.mapworld.specs.Holds.{Desks}
 
 -- before its first call a thread has neither started, nor does it hold anything
 abbrev pub at_start : {K V D T A : Type 0} → VecDeque (Ask K V D) A → Place K V D T A
@@ -45,3 +47,13 @@ pairs_in tables = length (flat_map (λ table. table.items) tables)
 -- tables without pairs
 abbrev pub AreEmpty : {K V A : Type 0} → List (Vec (K × V) A) → Type 0
 AreEmpty {K} {V} {A} tables = (i : ℕ) (table : Vec (K × V) A) → slice_get tables i ≡ Some table → table.items ≡ []
+
+-- a desk without guards that admits that many readers, and has room for as many guards
+pub record IsReady (threads : ℕ) (desk : DeskState (Unit {0})) : Type 0 where
+  pub free : desk.guards ≡ []
+  pub room : threads ≤ desk.room
+  pub limit : threads ≤ desk.limit
+
+-- such desks
+abbrev pub AreReady : ℕ → Desks → Type 0
+AreReady threads desks = (i : ℕ) (desk : DeskState (Unit {0})) → slice_get desks i ≡ Some desk → IsReady threads desk

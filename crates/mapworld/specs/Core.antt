@@ -1,6 +1,7 @@
 -- What the code keeps of a world, and how much room it has.
-use Rattle.std.specs.Prelude.{◌≡◌, ℕ, ◌+◌, ◌<◌, ◌≤◌, ◌^◌, if◌then◌else◌, List, length, map, Some, slice_get, sum_by, is_some, vec_capacity}
-use Rattle.mapworld.specs.declared.holds.Held.{Held}
+use Rattle.std.specs.Prelude.{◌≡◌, ℕ, ◌+◌, ◌<◌, ◌≤◌, ◌^◌, if◌then◌else◌, List, length, map, Option, Some, None, ◌==◌, slice_get, sum_by, vec_capacity}
+use Rattle.lock_api_desk.specs.Desk.{DeskState}
+use Rattle.mapworld.specs.declared.holds.Hold.{Hold}
 use Rattle.mapworld.specs.declared.place.Phase.{Phase}
 use Rattle.mapworld.specs.declared.place.Phase.TheVariants as phase
 use Rattle.mapworld.specs.declared.place.Place.{Place}
@@ -17,7 +18,7 @@ state_of c = record {
   steps = c.steps.items;
   places = c.places.items;
   tables = c.tables.items;
-  holds = c.holds.items;
+  holds = c.desks.items;
   blocks = c.blocks.items;
   replies = c.replies.items;
 }
@@ -72,22 +73,33 @@ may_list p = length p.asks.items + lists p.phase
 abbrev pub may_add : {K V D T A : Type 0} → Place K V D T A → ℕ
 may_add p = length p.asks.items + adds p.phase
 
--- 1 without a hold
-abbrev pub unheld : {K V D T A : Type 0} → Place K V D T A → ℕ
-unheld p = if is_some p.hold then 0 else 1
+-- 1 without a hold of that shard
+abbrev pub unheld_at : ℕ → Option Hold → ℕ
+unheld_at shard None = 1
+unheld_at shard (Some hold) = if hold.shard == shard then 0 else 1
+
+abbrev pub unheld : {K V D T A : Type 0} → ℕ → Place K V D T A → ℕ
+unheld shard p = unheld_at shard p.hold
+
+-- a desk has room for a guard of every thread, and admits as many readers
+pub record HasDeskRoom {K V D T A : Type 0} (places : List (Place K V D T A)) (shard : ℕ) (desk : DeskState (Unit {0})) : Type 0 where
+  pub guards : length desk.guards + sum_by (unheld shard) places ≤ length places
+  pub room : length places ≤ desk.room
+  pub limit : length places ≤ desk.limit
 
 -- that the lists have room for all that is to come, and that the counts are right and fit
 pub record Room {K V S D T A : Type 0} (c : Core K V S D T A) : Type 0 where
   pub count : c.count ≡ length c.steps.items
   pub count_fits : c.count < 2 ^ 63
-  pub guards : (i : ℕ) (h : Held) → slice_get c.holds.items i ≡ Some h → h.hold.guard < c.guards
+  pub guards : (t : ℕ) (p : Place K V D T A) (h : Hold) → slice_get c.places.items t ≡ Some p → p.hold ≡ Some h → h.guard < c.guards
   pub guards_fit : c.guards ≤ c.count
   pub unanswered : c.unanswered ≡ unanswered_of (state_of c)
   pub answers : length c.replies.items + sum_by owed c.places.items ≡ sum_by length (state_of c).programs
   pub calls_fit : sum_by length (state_of c).programs ≤ 2 ^ 20
   pub replies : sum_by length (state_of c).programs ≤ vec_capacity c.replies
   pub blocks : length c.blocks.items + sum_by may_list c.places.items ≤ vec_capacity c.blocks
-  pub holds : length c.holds.items + sum_by unheld c.places.items ≤ vec_capacity c.holds
+  pub desks : length c.desks.items ≡ length c.tables.items
+  pub desk_room : (i : ℕ) (desk : DeskState (Unit {0})) → slice_get c.desks.items i ≡ Some desk → HasDeskRoom c.places.items i desk
   pub pairs : c.pairs ≡ length (pairs_of (state_of c))
   pub pairs_fit : c.pairs + sum_by may_add c.places.items ≤ 2 ^ 31 + 2 ^ 20
   pub places : length c.places.items ≡ length (state_of c).programs

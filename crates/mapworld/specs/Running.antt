@@ -3,7 +3,6 @@ use Rattle.std.specs.Prelude.{◌≡◌, ℕ, ◌+◌, ◌-◌, ◌*◌, ◌^◌
 use Rattle.mapworld_calls.specs.Setup.{Setup}
 use Rattle.mapworld.specs.declared.fault.RunFault.{RunFault}
 use Rattle.mapworld.specs.declared.fault.RunFault.TheVariants as fault
-use Rattle.mapworld.specs.declared.holds.Held.{Held}
 use Rattle.mapworld.specs.declared.step.Step.{Step}
 use Rattle.mapworld.specs.declared.step.Status.{Status}
 use Rattle.mapworld.specs.declared.step.Status.TheVariants as status
@@ -28,25 +27,25 @@ abbrev pub bound_of : {K V S D T A : Type 0} → State K V S D T A → ℕ
 bound_of w = bound (length w.programs) (length w.tables) (length (pairs_of w)) (unanswered_of w)
 
 -- where a thread stands that is before that phase, with that much of its program left
-abbrev pub status_before : {K V D T : Type 0} → List Held → ℕ → ℕ → Phase K V D T → Status
-status_before holds left shard phase.Rest = if left == 0 then status.Finished else status.Running
-status_before holds left shard (phase.Admit r) = if is_excluded holds shard (mode_of r) then status.Asleep else status.Running
-status_before holds left shard (phase.Find r) = status.Running
-status_before holds left shard (phase.Grow k v) = status.Running
-status_before holds left shard (phase.Append k v) = status.Running
-status_before holds left shard (phase.Replace i v) = status.Running
-status_before holds left shard (phase.Take i) = status.Running
-status_before holds left shard (phase.Read d) = status.Running
-status_before holds left shard (phase.Write d) = status.Running
-status_before holds left shard (phase.Release a) = status.Running
-status_before holds left shard (phase.Answer a) = status.Running
+abbrev pub status_before : {K V D T A : Type 0} → List (Place K V D T A) → ℕ → ℕ → Phase K V D T → Status
+status_before places left shard phase.Rest = if left == 0 then status.Finished else status.Running
+status_before places left shard (phase.Admit r) = if is_excluded places shard (mode_of r) then status.Asleep else status.Running
+status_before places left shard (phase.Find r) = status.Running
+status_before places left shard (phase.Grow k v) = status.Running
+status_before places left shard (phase.Append k v) = status.Running
+status_before places left shard (phase.Replace i v) = status.Running
+status_before places left shard (phase.Take i) = status.Running
+status_before places left shard (phase.Read d) = status.Running
+status_before places left shard (phase.Write d) = status.Running
+status_before places left shard (phase.Release a) = status.Running
+status_before places left shard (phase.Answer a) = status.Running
 
-abbrev pub status_at : {K V D T A : Type 0} → List Held → Option (Place K V D T A) → Status
-status_at holds None = status.Finished
-status_at holds (Some p) = status_before holds (length p.asks.items) p.shard p.phase
+abbrev pub status_at : {K V D T A : Type 0} → List (Place K V D T A) → Option (Place K V D T A) → Status
+status_at places None = status.Finished
+status_at places (Some p) = status_before places (length p.asks.items) p.shard p.phase
 
 abbrev pub status_of : {K V S D T A : Type 0} → State K V S D T A → ℕ → Status
-status_of w t = status_at w.holds (slice_get w.places t)
+status_of w t = status_at w.places (slice_get w.places t)
 
 abbrev pub is_running : Status → Bool
 is_running status.Running = true

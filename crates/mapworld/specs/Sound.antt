@@ -1,5 +1,5 @@
 -- What holds of a world between two steps, calls half done included.
-use Rattle.std.specs.Prelude.{◌≡◌, ℕ, ◌+◌, ◌-◌, ◌<◌, ◌≤◌, ◌⊎◌, Bool, true, false, if◌then◌else◌, List, length, drop, Option, Some, None, slice_get, vec_len, vec_capacity}
+use Rattle.std.specs.Prelude.{◌≡◌, ◌≢◌, ℕ, ◌+◌, ◌-◌, ◌<◌, ◌≤◌, ◌⊎◌, Bool, true, false, if◌then◌else◌, List, length, drop, Option, Some, None, slice_get, vec_len, vec_capacity}
 use Rattle.std.specs.declared.vec.Vec.{Vec}
 use Rattle.mapworld_calls.specs.declared.ask.Ask.{Ask}
 use Rattle.mapworld_calls.specs.declared.ask.Ask.TheVariants as ask
@@ -19,10 +19,12 @@ use Rattle.mapworld_calls.specs.Placed.{IsStepOf, answered_of, WellPlaced}
 use Rattle.mapworld.specs.declared.holds.Mode.{Mode}
 use Rattle.mapworld.specs.declared.holds.Mode.TheVariants.{Shared, Exclusive}
 use Rattle.mapworld.specs.declared.holds.Hold.{Hold}
-use Rattle.mapworld.specs.declared.holds.Held.{Held}
 use Rattle.mapworld.specs.declared.place.Phase.{Phase}
 use Rattle.mapworld.specs.declared.place.Phase.TheVariants as phase
 use Rattle.mapworld.specs.declared.place.Place.{Place}
+use Rattle.lock_api_desk.specs.Guards.{Guard}
+use Rattle.lock_api_desk.specs.Desk.{DeskState}
+use Rattle.mapworld.specs.Holds.{Desks, guard_for}
 use Rattle.mapworld.specs.State.{State, threads_of, started_of}
 use Rattle.mapworld.specs.Moves.{ask_of, request_key, mode_of, is_last}
 
@@ -212,12 +214,15 @@ pub record TablesAgree {K V D T A : Type 0} (x : Setup K V D T) (bs : List (Bloc
   pub distinct : (i : ℕ) (table : Vec (K × V) A) → slice_get tables i ≡ Some table → AreDistinct x.eq table.items
   pub contents_are : (q : K) (table : Vec (K × V) A) → slice_get tables (x.route q) ≡ Some table → pair_of x.eq table.items q ≡ contents x bs q
 
--- the table of holds has the holds of the threads and no others, each under a guard number of its own, and none that excludes another
-pub record HoldsMatch {K V D T A : Type 0} (places : List (Place K V D T A)) (holds : List Held) : Type 0 where
-  pub listed : (t : ℕ) (p : Place K V D T A) (h : Hold) → slice_get places t ≡ Some p → p.hold ≡ Some h → (i : ℕ) × (slice_get holds i ≡ Some (record { hold = h; party = t }))
-  pub owned : (i : ℕ) (e : Held) → slice_get holds i ≡ Some e → (p : Place K V D T A) × (slice_get places e.party ≡ Some p) × (p.hold ≡ Some e.hold)
-  pub apart : (i j : ℕ) (e f : Held) → slice_get holds i ≡ Some e → slice_get holds j ≡ Some f → e.hold.guard ≡ f.hold.guard → i ≡ j
-  pub compatible : (i j : ℕ) (e f : Held) → slice_get holds i ≡ Some e → slice_get holds j ≡ Some f → (i ≡ j → ⊥) → e.hold.shard ≡ f.hold.shard → (e.hold.mode ≡ Shared) × (f.hold.mode ≡ Shared)
+-- the guards at the desks are the holds of the threads and no others, each under a guard number of its own, and no two holds exclude each other
+pub record HoldsMatch {K V D T A : Type 0} (places : List (Place K V D T A)) (holds : Desks) : Type 0 where
+  pub listed : (t : ℕ) (p : Place K V D T A) (h : Hold) → slice_get places t ≡ Some p → p.hold ≡ Some h
+      → (desk : DeskState (Unit {0})) × (i : ℕ) × (slice_get holds h.shard ≡ Some desk) × (slice_get desk.guards i ≡ Some (guard_for t h))
+  pub owned : (s i : ℕ) (desk : DeskState (Unit {0})) (g : Guard) → slice_get holds s ≡ Some desk → slice_get desk.guards i ≡ Some g
+      → (p : Place K V D T A) × (h : Hold) × (slice_get places g.party ≡ Some p) × (p.hold ≡ Some h) × (h.shard ≡ s) × (g ≡ guard_for g.party h)
+  pub apart : (t u : ℕ) (p q : Place K V D T A) (a b : Hold) → slice_get places t ≡ Some p → slice_get places u ≡ Some q → p.hold ≡ Some a → q.hold ≡ Some b → a.guard ≡ b.guard → t ≡ u
+  pub compatible : (t u : ℕ) (p q : Place K V D T A) (a b : Hold) → t ≢ u → slice_get places t ≡ Some p → slice_get places u ≡ Some q → p.hold ≡ Some a → q.hold ≡ Some b → a.shard ≡ b.shard
+      → (a.mode ≡ Shared) × (b.mode ≡ Shared)
 
 pub record Sound {K V S D T A : Type 0} (x : Setup K V D T) (w : State K V S D T A) : Type 0 where
   pub guarded : (t : ℕ) (program : List (Ask K V D)) → slice_get x.programs t ≡ Some program → one_guard false program ≡ true

@@ -6,8 +6,8 @@ use Rattle.mapworld_calls.specs.declared.ask.Ask.{Ask}
 use Rattle.mapworld_calls.specs.declared.block.Block.{Block}
 use Rattle.mapworld_calls.specs.declared.reply.Reply.{Reply}
 use Rattle.mapworld.specs.declared.step.Step.{Step}
-use Rattle.mapworld.specs.declared.holds.Held.{Held}
 use Rattle.mapworld.specs.declared.place.Place.{Place}
+use Rattle.mapworld.specs.Holds.{Desks}
 
 pub record State (K V S D T A : Type 0) : Type 0 where
   pub hasher : S
@@ -20,7 +20,8 @@ pub record State (K V S D T A : Type 0) : Type 0 where
   pub places : List (Place K V D T A)
   -- the pairs of each shard
   pub tables : List (Vec (K × V) A)
-  pub holds : List Held
+  -- the desk of each shard
+  pub holds : Desks
   pub blocks : List (Block K)
   pub replies : List (Reply K V T)
 

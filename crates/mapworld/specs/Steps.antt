@@ -9,12 +9,12 @@ use Rattle.mapworld_calls.specs.declared.reply.Answer.TheVariants as answer
 use Rattle.mapworld_calls.specs.Setup.{Setup}
 use Rattle.mapworld_calls.specs.Pairs.{has_key}
 use Rattle.mapworld.specs.declared.holds.Hold.{Hold}
-use Rattle.mapworld.specs.declared.holds.Held.{Held}
 use Rattle.mapworld.specs.declared.step.Step.{Step}
 use Rattle.mapworld.specs.declared.place.Request.{Request}
 use Rattle.mapworld.specs.declared.place.Phase.TheVariants as phase
 use Rattle.mapworld.specs.declared.place.Place.{Place}
-use Rattle.mapworld.specs.Holds.{is_excluded}
+use Rattle.lock_api_desk.specs.Desk.{DeskState, admitted as with_guard, released}
+use Rattle.mapworld.specs.Holds.{is_excluded, at_desk}
 use Rattle.mapworld.specs.State.{State, next_step}
 use Rattle.mapworld.specs.Moves.{request_key, mode_of, is_last, guard_of, start_phase, start_shard, start_counts, found_phase, found_done, found_slot, block_behind, stepped, ListsBlock, CountsCall, EndsBlock}
 
@@ -44,17 +44,19 @@ module _ {K V S D T A : Type 0} (x : Setup K V D T) (w : State K V S D T A) (s :
       phase = start_phase ask (guard_of place);
     })) { blocks = blocks }
 
-  -- an admission takes a hold that no other hold excludes, under a guard number that none of them has
+  -- an admission takes a hold that no other hold excludes, under a guard number that none of them has, and the shard's desk lists it
   pub record Admits : Type 0 where
     pub place : Place K V D T A
     pub stands : slice_get w.places s.thread ≡ Some place
     pub request : Request K V
     pub before : place.phase ≡ phase.Admit request
-    pub admitted : is_excluded w.holds place.shard (mode_of request) ≡ false
+    pub admitted : is_excluded w.places place.shard (mode_of request) ≡ false
     pub hold : Hold
     pub hold_is : (hold.shard ≡ place.shard) × (hold.mode ≡ mode_of request)
-    pub fresh : (i : ℕ) (h : Held) → slice_get w.holds i ≡ Some h → h.hold.guard ≢ hold.guard
-    pub after : w' ≡ record (stepped w s (record place { hold = Some hold; phase = phase.Find request })) { holds = w.holds ++ record { hold = hold; party = s.thread } ∷ [] }
+    pub fresh : (u : ℕ) (q : Place K V D T A) (h : Hold) → slice_get w.places u ≡ Some q → q.hold ≡ Some h → h.guard ≢ hold.guard
+    pub desk : DeskState (Unit {0})
+    pub at_shard : slice_get w.holds hold.shard ≡ Some desk
+    pub after : w' ≡ record (stepped w s (record place { hold = Some hold; phase = phase.Find request })) { holds = slice_set w.holds hold.shard (with_guard (at_desk hold.mode) s.thread hold.guard desk) }
 
   -- a find looks for the key in the held shard; it is the position of the block that it lists
   pub record Finds : Type 0 where
@@ -186,7 +188,7 @@ module _ {K V S D T A : Type 0} (x : Setup K V D T) (w : State K V S D T A) (s :
     pub counted : CountsCall w.blocks place.block place.next blocks
     pub after : w' ≡ record (stepped w s (record place { phase = phase.Answer answer.Done })) { tables = slice_set w.tables place.shard changed; blocks = blocks }
 
-  -- a release ends the thread's hold, and its guard with it
+  -- a release ends the thread's hold, and its guard with it, and the shard's desk lists it no more
   pub record Releases : Type 0 where
     pub place : Place K V D T A
     pub stands : slice_get w.places s.thread ≡ Some place
@@ -194,11 +196,11 @@ module _ {K V S D T A : Type 0} (x : Setup K V D T) (w : State K V S D T A) (s :
     pub before : place.phase ≡ phase.Release answer
     pub hold : Hold
     pub holds : place.hold ≡ Some hold
-    pub entry : ℕ
-    pub listed : slice_get w.holds entry ≡ Some (record { hold = hold; party = s.thread })
+    pub desk : DeskState (Unit {0})
+    pub at_shard : slice_get w.holds hold.shard ≡ Some desk
     pub blocks : List (Block K)
     pub counted : CountsCall w.blocks (if is_some place.slot then place.block else None) place.next blocks
-    pub after : w' ≡ record (stepped w s (record place { hold = None; slot = None; phase = phase.Answer answer })) { holds = remove w.holds entry; blocks = blocks }
+    pub after : w' ≡ record (stepped w s (record place { hold = None; slot = None; phase = phase.Answer answer })) { holds = slice_set w.holds hold.shard (released hold.guard desk); blocks = blocks }
 
   -- an answer carries the start into the reply
   pub record Answers : Type 0 where

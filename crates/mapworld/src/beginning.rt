@@ -1,12 +1,14 @@
 //! How a new world's threads and tables begin.
 ghost use Rattle.std.specs.Prelude.{◌≡◌, ◌^◌, ◌≤◌, length, map, IfOk};
 ghost use Rattle.mapworld.specs.Route.{IsShardAmount, key_route};
-ghost use Rattle.mapworld.specs.Beginning.{at_start, AreAtStart, IsPut, AreFilled, pairs_in, AreEmpty};
+ghost use Rattle.mapworld.specs.Beginning.{at_start, AreAtStart, IsPut, AreFilled, pairs_in, AreEmpty, IsReady, AreReady};
 
 use crate::fault::NoMemory;
+use crate::holds::ShardDesk;
 use crate::place::{Phase, Place};
 use crate::route::shard_of;
 use crate::table::slot_of;
+use lock_api_desk::{Desk, TokenTable};
 use mapworld_calls::Ask;
 use std::alloc::Allocator;
 use std::collections::VecDeque;
@@ -55,6 +57,32 @@ pub(crate) fn empty_tables<K: Drop, V: Drop, A: Allocator + Clone + Drop>(
         tables.push(Vec::new(alloc.clone()?))?;
     }
     Ok(tables)
+}
+
+/// A desk for each shard, without guards, with room for a guard of every thread.
+pub(crate) fn desks_of<A: Allocator + Clone + Drop>(
+    alloc: A,
+    shards: usize,
+    threads: usize,
+) -> Result<Vec<ShardDesk<A>, A>, NoMemory>
+    ensures { IfOk result (λ desks. (length desks.items ≡ shards) × AreReady threads desks.items) }
+{
+    let mut desks = Vec::with_capacity(alloc.clone()?, shards)?;
+    for _ in 0..shards {
+        desks.push(ready_desk(alloc.clone()?, threads)?)?;
+    }
+    Ok(desks)
+}
+
+/// A desk without guards, with room for so many, of which as many may be readers.
+fn ready_desk<A: Allocator + Drop>(alloc: A, threads: usize) -> Result<ShardDesk<A>, NoMemory>
+    ensures { IfOk result (IsReady threads) }
+{
+    let mut desk = Desk::new(alloc, TokenTable::new(threads as u64), ());
+    match desk.reserve(threads) {
+        Ok(()) => Ok(desk),
+        Err(_) => Err(NoMemory),
+    }
 }
 
 /// Puts a pair into a table, and says whether it is a new one. A key that the table has stays, and gets the value.

@@ -8,7 +8,7 @@ ghost use Rattle.mapworld.specs.Core.{state_of, Room, IsBefore};
 ghost use Rattle.mapworld.specs.Steps.{Releases, Answers};
 
 use crate::blocks::{count_in, end_block};
-use crate::holds::place_of;
+use crate::holds::end_hold;
 use crate::moves::{enter, release_counts};
 use crate::place::{Phase, Place};
 use crate::step::Step;
@@ -55,9 +55,6 @@ pub(crate) fn release<
     let Some(hold) = place.hold else {
         unreachable!()
     };
-    let Some(entry) = place_of(&core.holds, hold.shard, hold.guard) else {
-        unreachable!()
-    };
     let Phase::Release(answer) = mem::replace(&mut place.phase, Phase::Rest) else {
         unreachable!()
     };
@@ -65,7 +62,8 @@ pub(crate) fn release<
     place.hold = None;
     place.slot = None;
     enter(&mut place.phase, Phase::Answer(answer));
-    let _held = core.holds.remove(entry);
+    let desk = &mut core.desks[hold.shard];
+    end_hold(desk, step.thread as u64, hold.guard);
     count_in(&mut core.blocks, counts, place.next);
     core.count += 1;
     core.steps = core.steps.and(&step);

@@ -1,6 +1,14 @@
 //! Which shards are held, by which guards and how.
-ghost use Rattle.std.specs.Prelude.{◌≡◌, position};
-ghost use Rattle.mapworld.specs.Holds.{excludes, is_excluded, is_hold_of};
+ghost use Rattle.std.specs.Prelude.{◌≡◌, ◌<◌, None, length};
+ghost use Rattle.lock_api_desk.specs.Guards.{is_held};
+ghost use Rattle.lock_api_desk.specs.Desk.{admitted, released};
+ghost use Rattle.lock_api_desk.specs.Refusals.{acquire_refusal, guard_refusal};
+ghost use Rattle.lock_api_desk.specs.declared.fault.DeskFault.TheVariants.{WouldWait};
+ghost use Rattle.mapworld.specs.Holds.{excludes, is_in_the_way, is_excluded, at_desk};
+
+use crate::place::Place;
+use lock_api_desk::{Desk, TokenTable};
+use std::alloc::Allocator;
 
 /// How a guard holds its shard.
 #[derive(Clone, Copy, PartialEq, Eq, Debug)]
@@ -22,14 +30,8 @@ pub(crate) struct Hold {
     pub mode: Mode,
 }
 
-/// An entry in the table of holds: a hold and whose it is.
-#[derive(Clone, Copy)]
-pub(crate) struct Held {
-    /// The hold.
-    pub hold: Hold,
-    /// The thread whose guard it is.
-    pub party: usize,
-}
+/// A shard's desk, which lists the guards that hold it. The shard's pairs stand beside it.
+pub(crate) type ShardDesk<A> = Desk<TokenTable, (), A>;
 
 /// Whether two holds of one shard can't be at one time: unless both share it.
 fn excludes(first: Mode, second: Mode) -> bool
@@ -41,59 +43,53 @@ fn excludes(first: Mode, second: Mode) -> bool
     }
 }
 
-/// Whether a hold in the table stands in the way of one more hold of the shard.
-pub(crate) fn is_excluded(held: &[Held], shard: usize, mode: Mode) -> bool
-    ensures { result ≡ is_excluded held.now shard mode }
+/// Whether a hold stands in the way of one more hold of the shard.
+fn is_in_the_way(hold: Option<Hold>, shard: usize, mode: Mode) -> bool
+    ensures { result ≡ is_in_the_way shard mode hold }
 {
-    held.iter().any(|entry| entry.hold.shard == shard && excludes(entry.hold.mode, mode))
-}
-
-/// Where the guard's hold of the shard stands in the table.
-pub(crate) fn place_of(held: &[Held], shard: usize, guard: u64) -> Option<usize>
-    ensures { result ≡ position (is_hold_of shard guard) held.now }
-{
-    held.iter().position(|entry| entry.hold.shard == shard && entry.hold.guard == guard)
-}
-
-#[cfg(test)]
-mod tests {
-    use super::{Held, Hold, Mode, is_excluded, place_of};
-
-    #[test]
-    fn holds_stand_in_the_way_on_their_shard_alone(rt: HostRuntime) {
-        let held = [
-            Held {
-                hold: Hold {
-                    shard: 1,
-                    guard: 7,
-                    mode: Mode::Shared,
-                },
-                party: 0,
-            },
-            Held {
-                hold: Hold {
-                    shard: 2,
-                    guard: 8,
-                    mode: Mode::Exclusive,
-                },
-                party: 1,
-            },
-        ];
-        let table = [
-            (1, Mode::Shared, false),
-            (1, Mode::Exclusive, true),
-            (2, Mode::Shared, true),
-            (2, Mode::Exclusive, true),
-            (3, Mode::Exclusive, false),
-        ];
-        for (shard, mode, want) in table {
-            assert_eq!(rt;
-                is_excluded(&held, shard, mode),
-                want,
-                "shard {shard}, {mode:?}"
-            );
-        }
-        assert_eq!(rt; place_of(&held, 2, 8), Some(1));
-        assert_eq!(rt; place_of(&held, 1, 8), None);
+    match hold {
+        Some(hold) => hold.shard == shard && excludes(hold.mode, mode),
+        None => false,
     }
+}
+
+/// Whether the hold of some thread stands in the way of one more hold of the shard.
+pub(crate) fn is_excluded<K, V, D, T, A: Allocator>(
+    places: &[Place<K, V, D, T, A>],
+    shard: usize,
+    mode: Mode,
+) -> bool
+    ensures { result ≡ is_excluded places.now shard mode }
+{
+    places.iter().any(|place| is_in_the_way(place.hold, shard, mode))
+}
+
+/// Takes a hold at the shard's desk, which nothing there excludes and which has room for it.
+pub(crate) fn take_hold<A: Allocator>(
+    desk: &mut ShardDesk<A>,
+    mode: Mode,
+    party: u64,
+    guard: u64,
+)
+    requires granted { acquire_refusal WouldWait (at_desk mode) guard desk.old ≡ None }
+    requires room { length desk.old.guards < desk.old.room }
+    ensures { desk.new ≡ admitted (at_desk mode) party guard desk.old }
+{
+    let taken = match mode {
+        Mode::Shared => desk.read(party, guard),
+        Mode::Exclusive => desk.write(party, guard),
+    };
+    let Ok(()) = taken else {
+        unreachable!()
+    };
+}
+
+/// Gives up the guard's hold at the shard's desk, which lists it as the party's.
+pub(crate) fn end_hold<A: Allocator>(desk: &mut ShardDesk<A>, party: u64, guard: u64)
+    requires { guard_refusal is_held party guard desk.old ≡ None }
+    ensures { desk.new ≡ released guard desk.old }
+{
+    let Ok(()) = desk.unlock(party, guard) else {
+        unreachable!()
+    };
 }

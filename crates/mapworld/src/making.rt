@@ -5,7 +5,7 @@ ghost use Rattle.mapworld.specs.World.{setup_of};
 ghost use Rattle.mapworld.specs.Sound.{Sound};
 ghost use Rattle.mapworld.specs.Core.{state_of, Room};
 
-use crate::beginning::{empty_tables, fill, places_of};
+use crate::beginning::{desks_of, empty_tables, fill, places_of};
 use crate::fault::NoMemory;
 use crate::world_core::Core;
 use mapworld_calls::{Ask, Deed};
@@ -44,7 +44,7 @@ pub(crate) fn core_of<
     let opening = Snapshot::of(&pairs);
     let kept = Snapshot::of(&programs);
     let calls = calls_in(&programs);
-    let holds = Vec::with_capacity(alloc.clone()?, programs.len())?;
+    let desks = desks_of(alloc.clone()?, shards, programs.len())?;
     let places = places_of(alloc.clone()?, programs)?;
     let blocks = Vec::with_capacity(alloc.clone()?, calls)?;
     let replies = Vec::with_capacity(alloc.clone()?, calls)?;
@@ -61,7 +61,7 @@ pub(crate) fn core_of<
         unanswered: calls as u64,
         places,
         tables,
-        holds,
+        desks,
         blocks,
         replies,
     })

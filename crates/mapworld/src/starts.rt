@@ -10,7 +10,7 @@ ghost use Rattle.mapworld.specs.Moves.{mode_of};
 ghost use Rattle.mapworld.specs.Steps.{Starts, Admits};
 
 use crate::blocks::count_in;
-use crate::holds::{Held, Hold};
+use crate::holds::{Hold, take_hold};
 use crate::moves::{enter, guard_of, is_last, mode_of, start_counts, start_phase, start_shard};
 use crate::place::Phase;
 use crate::step::Step;
@@ -64,7 +64,7 @@ pub(crate) fn admit<
     requires sound { Sound (setup_of D.Deed S.BuildHasher S.Hasher.Hasher K.eq K.hash_input (state_of core.old)) (state_of core.old) }
     requires room { Room core.old }
     requires numbers { has_numbers (state_of core.old) ≡ true }
-    requires before { (request : _) × (b : IsBefore core.old.places.items step.thread (phase.Admit request)) × (is_excluded core.old.holds.items b.place.shard (mode_of request) ≡ false) }
+    requires before { (request : _) × (b : IsBefore core.old.places.items step.thread (phase.Admit request)) × (is_excluded core.old.places.items b.place.shard (mode_of request) ≡ false) }
     ensures step { Admits (setup_of D.Deed S.BuildHasher S.Hasher.Hasher K.eq K.hash_input (state_of core.old)) (state_of core.old) step (state_of core.new) }
     ensures room { Room core.new }
 {
@@ -79,10 +79,8 @@ pub(crate) fn admit<
     };
     place.hold = Some(hold);
     enter(&mut place.phase, Phase::Find(request));
-    core.holds.push_reserved(Held {
-        hold,
-        party: step.thread,
-    });
+    let desk = &mut core.desks[hold.shard];
+    take_hold(desk, hold.mode, step.thread as u64, hold.guard);
     core.guards += 1;
     core.count += 1;
     core.steps = core.steps.and(&step);

@@ -3,7 +3,7 @@ ghost use Rattle.std.specs.Prelude.{◌≡◌, ◌<◌, length};
 ghost use Rattle.mapworld.specs.Running.{status_before, status_of};
 ghost use Rattle.mapworld.specs.Core.{state_of};
 
-use crate::holds::{Held, is_excluded};
+use crate::holds::is_excluded;
 use crate::moves::mode_of;
 use crate::place::{Phase, Place};
 use crate::step::Status;
@@ -11,8 +11,11 @@ use crate::world_core::Core;
 use std::alloc::Allocator;
 
 /// Where a thread stands that has that place.
-fn status_at<K, V, D, T, A: Allocator>(holds: &[Held], place: &Place<K, V, D, T, A>) -> Status
-    ensures { result ≡ status_before holds.now (length place.now.asks.items) place.now.shard place.now.phase }
+fn status_at<K, V, D, T, A: Allocator>(
+    places: &[Place<K, V, D, T, A>],
+    place: &Place<K, V, D, T, A>,
+) -> Status
+    ensures { result ≡ status_before places.now (length place.now.asks.items) place.now.shard place.now.phase }
 {
     match &place.phase {
         Phase::Rest => {
@@ -23,7 +26,7 @@ fn status_at<K, V, D, T, A: Allocator>(holds: &[Held], place: &Place<K, V, D, T,
             }
         }
         Phase::Admit(request) => {
-            if is_excluded(holds, place.shard, mode_of(request)) {
+            if is_excluded(places, place.shard, mode_of(request)) {
                 Status::Asleep
             } else {
                 Status::Running
@@ -41,5 +44,5 @@ pub(crate) fn status<K, V, S, D, T, A: Allocator>(
     requires { thread < length core.now.places.items }
     ensures { result ≡ status_of (state_of core.now) thread }
 {
-    status_at(&core.holds, &core.places[thread])
+    status_at(&core.places, &core.places[thread])
 }

@@ -1,6 +1,6 @@
 //! What the code keeps of a world.
 
-use crate::holds::Held;
+use crate::holds::ShardDesk;
 use crate::place::Place;
 use crate::step::Step;
 use mapworld_calls::{Ask, Block, Reply};
@@ -30,7 +30,8 @@ pub(crate) struct Core<K, V, S, D, T, A: Allocator> {
     pub places: Vec<Place<K, V, D, T, A>, A>,
     /// The pairs of each shard.
     pub tables: Vec<Vec<(K, V), A>, A>,
-    pub holds: Vec<Held, A>,
+    /// The desk of each shard.
+    pub desks: Vec<ShardDesk<A>, A>,
     pub blocks: Vec<Block<K>, A>,
     pub replies: Vec<Reply<K, V, T>, A>,
 }

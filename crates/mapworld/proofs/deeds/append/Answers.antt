@@ -1,7 +1,7 @@
 use Rattle.std.proofs.Common.{length, refl, sym, ap, ◌∙◌, arith, length-append, length-set}
 use Rattle.std.proofs.lemmas.Option.{slice_get_within}
 use Rattle.mapworld.specs.Core.{owes, lists, adds}
-use Rattle.mapworld.proofs.Rooms.{shifted}
+use Rattle.mapworld.proofs.Rooms.{shifted, same_desks}
 use Rattle.mapworld.proofs.Facts.{stands_here, phase_here, claim_at, next_fits, list_read, deed_counts}
 use Rattle.mapworld.proofs.Weights.{pairs_set}
 use Rattle.mapworld.proofs.deeds.append.Goals as goal
@@ -78,15 +78,16 @@ returns-clause-room g c =
       count = refl;
       programs = refl;
       tables = length-set c.args.core.now.tables.items p.shard c.push_reserved.new.self;
-      guards = c.requires.room.guards;
+      guards = λ h has. c.requires.room.guards c.args.step.thread p h here has;
+      more_guards = omega arith;
       guards_fit = omega arith;
       unanswered = omega (arith, ap owes c.replace.ensures.after, ap owes before);
       answers = omega (arith, ap owes c.replace.ensures.after, ap owes before);
       replies = refl;
       listing = omega (arith, ap lists c.replace.ensures.after, ap lists before, c.count_in.ensures.len);
       blocks = c.count_in.ensures.capacity;
-      holding = omega arith;
-      holds = refl;
+      desks = refl;
+      holding = same_desks c.args.core.now.desks.items p.hold p.hold refl;
       adding = omega (arith, ap adds c.replace.ensures.after, ap adds before);
       pairs = omega (arith, c.requires.room.pairs, change, longer);
       more_blocks = omega (arith, c.count_in.ensures.len);

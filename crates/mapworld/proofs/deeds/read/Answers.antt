@@ -1,7 +1,7 @@
 use Rattle.std.proofs.Common.{length, Some, refl, sym, ap, ◌∙◌, arith, length-append}
 use Rattle.std.proofs.lemmas.Option.{slice_get_within}
 use Rattle.mapworld.specs.Core.{owes, lists, adds}
-use Rattle.mapworld.proofs.Rooms.{shifted}
+use Rattle.mapworld.proofs.Rooms.{shifted, same_desks}
 use Rattle.mapworld.proofs.Facts.{stands_here, phase_here, claim_at, next_fits, pair_read, read_at, session_counts, session_pair}
 use Rattle.mapworld.proofs.deeds.read.Goals as goal
 
@@ -93,15 +93,16 @@ returns-clause-room g c =
       count = refl;
       programs = refl;
       tables = refl;
-      guards = c.requires.room.guards;
+      guards = λ h has. c.requires.room.guards c.args.step.thread p h here has;
+      more_guards = omega arith;
       guards_fit = omega arith;
       unanswered = omega (arith, ap owes c.enter.ensures, ap owes before);
       answers = omega (arith, ap owes c.enter.ensures, ap owes before);
       replies = refl;
       listing = omega (arith, ap lists c.enter.ensures, ap lists before, c.count_in.ensures.len);
       blocks = c.count_in.ensures.capacity;
-      holding = omega arith;
-      holds = refl;
+      desks = refl;
+      holding = same_desks c.args.core.now.desks.items p.hold p.hold refl;
       adding = omega (arith, ap adds c.enter.ensures, ap adds before);
       pairs = c.requires.room.pairs;
       more_blocks = omega (arith, c.count_in.ensures.len);

@@ -2,7 +2,7 @@ use Rattle.std.proofs.Common.{length, Some, refl, sym, ap, ◌∙◌, arith, len
 use Rattle.std.proofs.lemmas.Option.{slice_get_within}
 use Rattle.std.specs.Vec.{with_item}
 use Rattle.mapworld.specs.Core.{owes, lists, adds}
-use Rattle.mapworld.proofs.Rooms.{shifted}
+use Rattle.mapworld.proofs.Rooms.{shifted, same_desks}
 use Rattle.mapworld.proofs.Facts.{stands_here, phase_here, claim_at, next_fits, pair_read, read_at, deed_counts}
 use Rattle.mapworld.proofs.Weights.{pairs_kept}
 use Rattle.mapworld.proofs.deeds.replace.Goals as goal
@@ -85,15 +85,16 @@ returns-clause-room g c =
       count = refl;
       programs = refl;
       tables = length-set c.args.core.now.tables.items p.shard (with_item c.index_mut-table.result.now c.in-Replace.slot (c.index_mut-pair.result.now.0, c.replace-old.new.dest));
-      guards = c.requires.room.guards;
+      guards = λ h has. c.requires.room.guards c.args.step.thread p h here has;
+      more_guards = omega arith;
       guards_fit = omega arith;
       unanswered = omega (arith, ap owes c.enter.ensures, ap owes before);
       answers = omega (arith, ap owes c.enter.ensures, ap owes before);
       replies = refl;
       listing = omega (arith, ap lists c.enter.ensures, ap lists before, c.count_in.ensures.len);
       blocks = c.count_in.ensures.capacity;
-      holding = omega arith;
-      holds = refl;
+      desks = refl;
+      holding = same_desks c.args.core.now.desks.items p.hold p.hold refl;
       adding = omega (arith, ap adds c.enter.ensures, ap adds before);
       pairs = c.requires.room.pairs ∙ sym kept;
       more_blocks = omega (arith, c.count_in.ensures.len);

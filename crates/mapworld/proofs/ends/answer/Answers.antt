@@ -1,7 +1,7 @@
 use Rattle.std.proofs.Common.{length, refl, ap, sym, ◌∙◌, arith, length-append}
 use Rattle.mapworld.specs.declared.place.Place.{Place}
-use Rattle.mapworld.specs.Core.{owed, owes, may_list, lists, may_add, adds, unheld}
-use Rattle.mapworld.proofs.Rooms.{shifted, answer_left}
+use Rattle.mapworld.specs.Core.{owed, owes, may_list, lists, may_add, adds}
+use Rattle.mapworld.proofs.Rooms.{shifted, same_desks, answer_left}
 use Rattle.mapworld.proofs.Facts.{stands_here, phase_here, claim_at, call_fits, kept_block}
 use Rattle.mapworld.proofs.ends.answer.Goals as goal
 
@@ -72,15 +72,16 @@ returns-clause-room g c =
       count = refl;
       programs = refl;
       tables = refl;
-      guards = c.requires.room.guards;
+      guards = λ h has. c.requires.room.guards c.args.step.thread p h here (ap (λ (q : Place _ _ _ _ _). q.hold) (sym after) ∙ has);
+      more_guards = omega arith;
       guards_fit = omega arith;
       unanswered = omega (arith, left.1, ap owed after, ap owes before);
       answers = omega (arith, simp length-append at (ap length c.push_reserved.ensures.items), ap owed after, ap owes before);
       replies = c.push_reserved.ensures.capacity;
       listing = omega (arith, c.end_block.ensures.len, ap may_list after, ap lists before);
       blocks = c.end_block.ensures.capacity;
-      holding = omega (arith, ap unheld after);
-      holds = refl;
+      desks = refl;
+      holding = same_desks c.args.core.now.desks.items p.hold c.leave_call-answer.new.place.hold (ap (λ (q : Place _ _ _ _ _). q.hold) after);
       adding = omega (arith, ap may_add after, ap adds before);
       pairs = c.requires.room.pairs;
       more_blocks = omega (arith, c.end_block.ensures.len);

@@ -1,8 +1,9 @@
-use Rattle.std.proofs.Common.{◌≡◌, length, Some, None, slice_get, refl, sym, ap, subst, ◌∙◌, arith, length-append}
-use Rattle.mapworld_calls.proofs.Lists.{slice_get-remove}
+use Rattle.std.proofs.Common.{length, None, refl, sym, ap, ◌∙◌, arith, length-append, length-set}
+use Rattle.std.proofs.lemmas.Option.{none-some, slice_get_within}
 use Rattle.mapworld.specs.Core.{owes, lists, adds}
-use Rattle.mapworld.proofs.Rooms.{shifted, with_hold}
-use Rattle.mapworld.proofs.Facts.{stands_here, phase_here, claim_at, next_fits, release_listed, hold_listed, hold_found}
+use Rattle.mapworld.proofs.Rooms.{shifted, one_ended}
+use Rattle.mapworld.proofs.Desks.{desk_read, given_up, fewer}
+use Rattle.mapworld.proofs.Facts.{stands_here, phase_here, claim_at, next_fits, release_listed}
 use Rattle.mapworld.proofs.ends.release.Goals as goal
 
 pub unreachable-requires : goal.unreachable-requires
@@ -13,12 +14,22 @@ unreachable-requires g c =
     let claim = claim_at c.requires.sound c.args.step.thread p here (phase_here b p c.index_mut-place.ensures.value) in
     c.in_default.not-Some claim.1 claim.3
 
-pub unreachable-requires-in_default-place_of : goal.unreachable-requires-in_default-place_of
-unreachable-requires-in_default-place_of g c =
+pub index_mut-desk-requires : goal.index_mut-desk-requires
+index_mut-desk-requires g c =
     let b = c.requires.before.1 in
     let p = c.index_mut-place.result.now in
     let here = stands_here b p c.index_mut-place.ensures.value in
-    hold_listed c.requires.sound.holds c.args.step.thread p here c.in-Some.hold c.in-Some.is (rw c.deref.ensures.value at (sym c.place_of.ensures ∙ c.in_default-place_of.is))
+    let listed = c.requires.sound.holds.listed c.args.step.thread p c.in-Some.hold here c.in-Some.is in
+    omega (arith, slice_get_within c.args.core.now.desks.items c.in-Some.hold.shard listed.0 listed.2, c.args.core.now.desks.ok.0)
+
+pub end_hold-requires : goal.end_hold-requires
+end_hold-requires g c =
+    let b = c.requires.before.1 in
+    let p = c.index_mut-place.result.now in
+    let here = stands_here b p c.index_mut-place.ensures.value in
+    let listed = c.requires.sound.holds.listed c.args.step.thread p c.in-Some.hold here c.in-Some.is in
+    let there = desk_read c.args.core.now.desks.items c.in-Some.hold.shard listed.0 c.index_mut-desk.result.now listed.2 c.index_mut-desk.ensures.value in
+    given_up c.requires.sound.holds c.in-Some.hold.shard c.index_mut-desk.result.now there c.args.step.thread p c.in-Some.hold here c.in-Some.is refl
 
 pub unreachable-requires-in_default-replace : goal.unreachable-requires-in_default-replace
 unreachable-requires-in_default-replace g c =
@@ -57,11 +68,12 @@ returns-clause-step g c =
       before = before;
       hold = c.in-Some.hold;
       holds = c.in-Some.is;
-      entry = c.in-Some-place_of.entry;
-      listed = hold_found c.requires.sound.holds c.args.step.thread p here c.in-Some.hold c.in-Some.is c.in-Some-place_of.entry (rw c.deref.ensures.value at (sym c.place_of.ensures ∙ c.in-Some-place_of.is));
+      desk = c.index_mut-desk.result.now;
+      at_shard = let listed = c.requires.sound.holds.listed c.args.step.thread p c.in-Some.hold here c.in-Some.is in
+          desk_read c.args.core.now.desks.items c.in-Some.hold.shard listed.0 c.index_mut-desk.result.now listed.2 c.index_mut-desk.ensures.value;
       blocks = c.count_in.new.blocks.items;
       counted = rw c.release_counts-counts.ensures at c.count_in.ensures.counted;
-      after = rw (c.and-core.ensures, c.enter.ensures, c.remove-held.ensures.items) refl;
+      after = rw (c.and-core.ensures, c.enter.ensures, c.end_hold.ensures) refl;
     }
 
 pub returns-clause-room : goal.returns-clause-room
@@ -71,6 +83,8 @@ returns-clause-room g c =
     let here = stands_here b p c.index_mut-place.ensures.value in
     let before = sym c.replace.ensures.value ∙ c.in-Release.is in
     let claim = claim_at c.requires.sound c.args.step.thread p here before in
+    let listed = c.requires.sound.holds.listed c.args.step.thread p c.in-Some.hold here c.in-Some.is in
+    let there = desk_read c.args.core.now.desks.items c.in-Some.hold.shard listed.0 c.index_mut-desk.result.now listed.2 c.index_mut-desk.ensures.value in
     shifted _ _ c.args.step.thread p (record p { hold = None; slot = None; phase = c.enter.new.phase }) c.requires.room (record {
       here = here;
       places = refl;
@@ -79,17 +93,17 @@ returns-clause-room g c =
       count = refl;
       programs = refl;
       tables = refl;
-      guards = λ i h at.
-          let stood = slice_get-remove c.args.core.now.holds.items c.in-Some-place_of.entry i h (subst (λ hs. slice_get hs i ≡ Some h) c.remove-held.ensures.items at) in
-          c.requires.room.guards stood.0 h stood.2;
+      guards = λ h has. absurd (none-some h has);
+      more_guards = omega arith;
       guards_fit = omega arith;
       unanswered = omega (arith, ap owes c.enter.ensures, ap owes before);
       answers = omega (arith, ap owes c.enter.ensures, ap owes before);
       replies = refl;
       listing = omega (arith, ap lists c.enter.ensures, ap lists before, c.count_in.ensures.len);
       blocks = c.count_in.ensures.capacity;
-      holding = omega (arith, with_hold p c.in-Some.hold c.in-Some.is, c.remove-held.ensures.len, c.remove-held.new.self.ok.0, c.args.core.now.holds.ok.0);
-      holds = c.remove-held.ensures.capacity;
+      desks = length-set c.args.core.now.desks.items c.in-Some.hold.shard c.end_hold.new.desk;
+      holding = one_ended c.args.core.now.desks.items c.in-Some.hold.shard c.index_mut-desk.result.now there c.end_hold.new.desk c.in-Some.hold refl (record p { hold = None; slot = None; phase = c.enter.new.phase }) p c.in-Some.is refl c.end_hold.ensures
+          (fewer c.requires.sound.holds c.in-Some.hold.shard c.index_mut-desk.result.now there c.args.step.thread p c.in-Some.hold here c.in-Some.is refl);
       adding = omega (arith, ap adds c.enter.ensures, ap adds before);
       pairs = c.requires.room.pairs;
       more_blocks = omega (arith, c.count_in.ensures.len);

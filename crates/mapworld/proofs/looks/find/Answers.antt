@@ -5,7 +5,7 @@ use Rattle.mapworld.specs.Listing.{AddsBlock}
 use Rattle.mapworld.specs.declared.blocks.Started.{Started}
 use Rattle.mapworld.specs.Moves.{found_done, found_slot, found_phase, block_behind}
 use Rattle.mapworld.proofs.Afters.{after_find}
-use Rattle.mapworld.proofs.Rooms.{shifted, block_left}
+use Rattle.mapworld.proofs.Rooms.{shifted, same_desks, block_left}
 use Rattle.mapworld.proofs.Facts.{stands_here, phase_here, claim_at, way_fits}
 use Rattle.mapworld.proofs.Weights.{found_weighs, found_lists, none_lost, behind_listed, lists_block}
 use Rattle.mapworld.proofs.looks.find.Goals as goal
@@ -93,15 +93,16 @@ returns-clause-room g c =
       count = refl;
       programs = refl;
       tables = refl;
-      guards = c.requires.room.guards;
+      guards = λ h has. c.requires.room.guards c.args.step.thread p h here has;
+      more_guards = omega arith;
       guards_fit = omega arith;
       unanswered = omega (arith, weights.0, ap owes before);
       answers = omega (arith, weights.0, ap owes before);
       replies = refl;
       listing = omega (arith, listing, ap lists before);
       blocks = c.list_block.ensures.capacity;
-      holding = omega arith;
-      holds = refl;
+      desks = refl;
+      holding = same_desks c.args.core.now.desks.items p.hold p.hold refl;
       adding = omega (arith, weights.1, ap adds before);
       pairs = c.requires.room.pairs;
       more_blocks = none_lost bs st at bs' c.found_done-done.result listed;

@@ -2,7 +2,7 @@ use Rattle.std.proofs.Common.{◌≡◌, ◌+◌, length, Some, inl, inr, refl, 
 use Rattle.std.proofs.lemmas.Option.{slice_get_within, same_Some}
 use Rattle.mapworld.specs.declared.blocks.Started.{Started}
 use Rattle.mapworld.specs.Core.{state_of, owes, lists, adds}
-use Rattle.mapworld.proofs.Rooms.{shifted, block_left}
+use Rattle.mapworld.proofs.Rooms.{shifted, same_desks, block_left}
 use Rattle.mapworld.proofs.Facts.{stands_here, phase_here, claim_at, list_read}
 use Rattle.mapworld.proofs.Weights.{one_added, lists_block, pairs_kept}
 use Rattle.mapworld.proofs.looks.grow.Goals as goal
@@ -81,15 +81,16 @@ returns-clause-room g c =
       count = refl;
       programs = refl;
       tables = length-set c.args.core.now.tables.items p.shard c.reserve.new.self;
-      guards = c.requires.room.guards;
+      guards = λ h has. c.requires.room.guards c.args.step.thread p h here has;
+      more_guards = omega arith;
       guards_fit = omega arith;
       unanswered = omega (arith, ap owes c.enter-2.ensures, ap owes before);
       answers = omega (arith, ap owes c.enter-2.ensures, ap owes before);
       replies = refl;
       listing = omega (arith, added, ap lists c.enter-2.ensures, ap lists before);
       blocks = c.list_block.ensures.capacity;
-      holding = omega arith;
-      holds = refl;
+      desks = refl;
+      holding = same_desks c.args.core.now.desks.items p.hold p.hold refl;
       adding = omega (arith, ap adds c.enter-2.ensures, ap adds before);
       pairs = c.requires.room.pairs ∙ sym kept;
       more_blocks = omega (arith, added);
@@ -135,15 +136,16 @@ returns-in_default-reserve-clause-room g c =
       count = refl;
       programs = refl;
       tables = length-set c.args.core.now.tables.items p.shard c.reserve.new.self;
-      guards = c.requires.room.guards;
+      guards = λ h has. c.requires.room.guards c.args.step.thread p h here has;
+      more_guards = omega arith;
       guards_fit = omega arith;
       unanswered = omega (arith, ap owes c.enter.ensures, ap owes before);
       answers = omega (arith, ap owes c.enter.ensures, ap owes before);
       replies = refl;
       listing = omega (arith, ap lists c.enter.ensures, ap lists before);
       blocks = refl;
-      holding = omega arith;
-      holds = refl;
+      desks = refl;
+      holding = same_desks c.args.core.now.desks.items p.hold p.hold refl;
       adding = omega (arith, ap adds c.enter.ensures, ap adds before);
       pairs = c.requires.room.pairs ∙ sym kept;
       more_blocks = omega arith;

@@ -1,9 +1,9 @@
-use Rattle.std.proofs.Common.{◌≡◌, length, map, sum_by, false, refl, ap, sym, ◌∙◌, subst, arith}
+use Rattle.std.proofs.Common.{◌≡◌, ℕ, length, map, sum_by, false, refl, ap, sym, ◌∙◌, subst, arith}
 use Rattle.std.specs.List.{list_all}
 use Rattle.std.proofs.lemmas.List.{length-map}
 use Rattle.mapworld_calls.specs.Programs.{one_guard}
 use Rattle.mapworld.specs.Route.{IsShardAmount, key_route}
-use Rattle.mapworld.specs.Beginning.{AreAtStart, AreFilled}
+use Rattle.mapworld.specs.Beginning.{AreAtStart, AreFilled, AreReady}
 use Rattle.mapworld.proofs.Refusals.{accepted, sum_by-map}
 use Rattle.mapworld.proofs.Beginnings.{new-sound, new-contents, new-room}
 use Rattle.mapworld.proofs.making.core_of.Goals as goal
@@ -24,7 +24,7 @@ returns-clause-sound g c =
     let kept = ap (λ v. map (λ program. program.items) v.items) c.of-kept.ensures in
     let shards = c.in_ok-count.ensures.shards ∙ c.in_ok-tables.ensures.0 in
     new-sound g.D.Deed g.S.BuildHasher g.S.Hasher.Hasher g.K.PartialEq.eq g.K.Hash.hash_input _
-    (record { steps = c.new.ensures; holds = c.in_ok-holds.ensures.items; blocks = c.in_ok-blocks.ensures.items; replies = c.in_ok-replies.ensures.items })
+    (record { steps = c.new.ensures; holds = λ i desk at. (c.in_ok-desks.ensures.1 i desk at).free; blocks = c.in_ok-blocks.ensures.items; replies = c.in_ok-replies.ensures.items })
     (subst (λ n. IsShardAmount n) (sym shards) a.amount)
     (ap (λ ps. list_all (one_guard false) ps) kept ∙ a.guarded)
     (subst (λ ps. AreAtStart ps c.in_ok-places.places.items) (sym kept) c.in_ok-places.ensures)
@@ -43,7 +43,7 @@ returns-clause-new g c =
       contents_are = new-contents g.D.Deed g.S.BuildHasher g.S.Hasher.Hasher g.K.PartialEq.eq g.K.Hash.hash_input c.args.hasher c.args.pairs.items c.fill.new.tables.items
           g.met.K.Eq.laws g.met.K.Hash.respects_eq (subst (λ n. IsShardAmount n) (sym shards) a.amount) c.in_ok-count.ensures.filled;
       steps = c.new.ensures;
-      holds = c.in_ok-holds.ensures.items;
+      holds = record { count = c.in_ok-desks.ensures.0; free = λ i desk at. (c.in_ok-desks.ensures.1 i desk at).free };
       blocks = c.in_ok-blocks.ensures.items;
       replies = c.in_ok-replies.ensures.items;
     }
@@ -61,7 +61,7 @@ returns-clause-room g c =
     let as_many = length-map c.args.programs.items (λ program. program.items) in
     let own = c.args.programs.ok.0 in
     new-room _
-    (record { steps = c.new.ensures; holds = c.in_ok-holds.ensures.items; blocks = c.in_ok-blocks.ensures.items; replies = c.in_ok-replies.ensures.items })
+    (record { steps = c.new.ensures; holds = λ i desk at. (c.in_ok-desks.ensures.1 i desk at).free; blocks = c.in_ok-blocks.ensures.items; replies = c.in_ok-replies.ensures.items })
     (subst (λ ps. AreAtStart ps c.in_ok-places.places.items) (sym kept) c.in_ok-places.ensures)
     (record {
       count = refl;
@@ -70,7 +70,8 @@ returns-clause-room g c =
       calls_fit = omega (arith, calls, a.calls);
       replies = omega (arith, calls, counted, count, c.in_ok-replies.ensures.exact);
       blocks = omega (arith, calls, counted, count, c.in_ok-blocks.ensures.exact);
-      holds = omega (arith, threads, as_many, own, c.len.ensures, c.in_ok-holds.ensures.exact);
+      desks = c.in_ok-desks.ensures.0 ∙ sym shards;
+      ready = let same : c.len.result ≡ length programs = omega (arith, threads, as_many, own, c.len.ensures) in subst (λ (n : ℕ). AreReady n c.in_ok-desks.desks.items) same c.in_ok-desks.ensures.1;
       pairs = c.in_ok-count.ensures.count.0;
       pairs_fit = omega (arith, a.pairs_fit, c.in_ok-count.ensures.count.1);
       threads_fit = omega (arith, threads, a.threads);

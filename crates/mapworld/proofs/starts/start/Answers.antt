@@ -1,6 +1,6 @@
 use Rattle.std.proofs.Common.{◌+◌, length, Some, refl, sym, ap, ◌∙◌, arith, length-append}
 use Rattle.mapworld.specs.Core.{owes, lists, adds}
-use Rattle.mapworld.proofs.Rooms.{shifted}
+use Rattle.mapworld.proofs.Rooms.{shifted, same_desks}
 use Rattle.mapworld.proofs.Facts.{stands_here, phase_here, claim_at, next_fits, session_counts}
 use Rattle.mapworld.specs.Moves.{guard_of, start_counts}
 use Rattle.mapworld.proofs.Adding.{starts-own}
@@ -58,15 +58,16 @@ returns-clause-room g c =
       count = refl;
       programs = refl;
       tables = refl;
-      guards = c.requires.room.guards;
+      guards = λ h has. c.requires.room.guards c.args.step.thread p h here has;
+      more_guards = omega arith;
       guards_fit = omega arith;
       unanswered = omega (arith, asks, weights.0, ap owes before);
       answers = omega (arith, asks, weights.0, ap owes before);
       replies = refl;
       listing = omega (arith, asks, weights.1, ap lists before, c.count_in.ensures.len);
       blocks = c.count_in.ensures.capacity;
-      holding = omega arith;
-      holds = refl;
+      desks = refl;
+      holding = same_desks c.args.core.now.desks.items p.hold p.hold refl;
       adding = omega (arith, asks, weights.2, ap adds before);
       pairs = c.requires.room.pairs;
       more_blocks = omega (arith, c.count_in.ensures.len);
