@@ -1,10 +1,10 @@
 -- What a shard's desk answers a thread: it grants an admission that no thread's hold excludes, and gives up a hold that it lists.
-use Rattle.std.proofs.Common.{◌≡◌, ◌≢◌, ℕ, ◌<◌, get_or, Bool, true, false, ◌&&◌, ◌==◌, not, nat_le, if◌then◌else◌, List, [], ◌∷◌, length, zero, suc, Option, Some, None, slice_get, refl, ap, sym, ◌∙◌, subst, arith, eq-eqb, eqb-true}
+use Rattle.std.proofs.Common.{◌≡◌, ℕ, ◌<◌, get_or, Bool, true, false, ◌&&◌, not, nat_le, if◌then◌else◌, List, [], ◌∷◌, length, zero, suc, Some, None, slice_get, refl, ap, sym, ◌∙◌, arith, eq-eqb, eqb-true}
 use Rattle.std.proofs.lemmas.Bool.{false_from_ne_true, false≢true, and_parts, leb-true}
 use Rattle.std.proofs.lemmas.Option.{none-some, same_Some}
 use Rattle.std.proofs.lemmas.List.Sums.{count_by-le-length, length-filter}
 use Rattle.lock_api_desk.specs.declared.fault.DeskFault.{DeskFault}
-use Rattle.lock_api_desk.specs.Guards.{Guard, is_held, is_reader, excludes as desk_excludes, has_number, guard_of, is_in_use, excluded, readers, is_full, without}
+use Rattle.lock_api_desk.specs.Guards.{Guard, is_held, is_reader, excludes as desk_excludes, has_number, is_in_use, excluded, readers, is_full, without}
 use Rattle.lock_api_desk.specs.Desk.{DeskState}
 use Rattle.lock_api_desk.specs.Refusals.{acquire_refusal, guard_refusal, refusal_at}
 use Rattle.mapworld.specs.declared.holds.Mode.{Mode}

@@ -1,16 +1,11 @@
 -- What the code knows of a thread's place between two steps.
-use Rattle.std.proofs.Common.{◌≡◌, ℕ, ◌+◌, ◌<◌, ◌≤◌, ◌==◌, Bool, true, false, if◌then◌else◌, nat_lt, List, [], ◌∷◌, length, get_or, Vec, Option, Some, None, is_some, slice_get, sum_by, position, refl, sym, ap, inl, inr, ◌∙◌, subst, arith, eqb-true, eq-eqb}
-use Rattle.std.proofs.lemmas.Option.{get_or_from_slice_get, slice_get-get_or, slice_get_within, none-some, same_Some, cond_some}
-use Rattle.std.proofs.lemmas.Bool.{true≢false, lt-ltb, ltb-true, cases_lt, cond-true, and_from, and_parts}
-use Rattle.std.proofs.lemmas.List.Sums.{passes_at_first, fails_before_first}
-use Rattle.std.specs.List.{position_or_len}
+use Rattle.std.proofs.Common.{◌≡◌, ℕ, ◌+◌, ◌<◌, ◌≤◌, Bool, true, false, if◌then◌else◌, List, length, get_or, Vec, Option, Some, None, is_some, slice_get, sum_by, sym, ◌∙◌, subst, arith}
+use Rattle.std.proofs.lemmas.Option.{get_or_from_slice_get, none-some, same_Some}
 use Rattle.mapworld_calls.specs.declared.ask.Ask.{Ask}
-use Rattle.mapworld_calls.specs.declared.ask.Ask.TheVariants as ask
 use Rattle.mapworld_calls.specs.declared.block.Block.{Block}
 use Rattle.mapworld_calls.specs.declared.reply.Answer.{Answer}
 use Rattle.mapworld_calls.specs.Setup.{Setup}
 use Rattle.mapworld_calls.proofs.Lists.{sum_by-at}
-use Rattle.mapworld.specs.declared.holds.Hold.{Hold}
 use Rattle.mapworld.specs.declared.place.Phase.{Phase}
 use Rattle.mapworld.specs.declared.place.Phase.TheVariants as phase
 use Rattle.mapworld.specs.declared.place.Request.{Request}
@@ -18,7 +13,7 @@ use Rattle.mapworld.specs.declared.place.Place.{Place}
 use Rattle.mapworld.specs.State.{State, threads_of}
 use Rattle.mapworld.specs.Holds.{is_excluded}
 use Rattle.mapworld.specs.Moves.{mode_of}
-use Rattle.mapworld.specs.Sound.{Sound, Claim, HoldsMatch, HasPair, HasList, IsInSession, IsOnItsWay, IsBeforeDeed, IsReleasing, is_resting}
+use Rattle.mapworld.specs.Sound.{Sound, Claim, HasPair, HasList, IsInSession, IsOnItsWay, IsBeforeDeed, IsReleasing, is_resting}
 use Rattle.mapworld.specs.Core.{IsBefore}
 use Rattle.mapworld.specs.Listing.{CanCount}
 

@@ -8,7 +8,7 @@ use Rattle.mapworld_calls.specs.declared.reply.Answer.{Answer}
 use Rattle.mapworld_calls.specs.Calls.{At}
 use Rattle.mapworld_calls.specs.Setup.{Setup, session_of}
 use Rattle.std.proofs.lemmas.Option.{same_Some}
-use Rattle.mapworld_calls.specs.Replay.{reached, block_key, found, IsLastOnShard}
+use Rattle.mapworld_calls.specs.Replay.{reached, found, IsLastOnShard}
 use Rattle.mapworld_calls.specs.Agrees.{IsAnsweredBy}
 use Rattle.mapworld_calls.specs.Placed.{IsStepOf, answered_of}
 use Rattle.mapworld_calls.proofs.Lists.{slice_get-push_below}

@@ -1,5 +1,5 @@
 -- The start of a call.
-use Rattle.std.proofs.Common.{◌≡◌, ℕ, ◌+◌, ◌-◌, ◌<◌, ◌≤◌, ◌⊎◌, inl, inr, Bool, true, false, if◌then◌else◌, List, [], ◌∷◌, ◌++◌, length, drop, Option, Some, None, slice_get, slice_set, refl, ap, sym, ◌∙◌, subst, arith}
+use Rattle.std.proofs.Common.{◌≡◌, ℕ, ◌+◌, ◌-◌, ◌<◌, ◌≤◌, inl, inr, Bool, true, false, if◌then◌else◌, List, [], ◌∷◌, ◌++◌, length, drop, Option, Some, None, slice_get, slice_set, refl, ap, sym, ◌∙◌, subst, arith}
 use Rattle.std.specs.declared.vec.Vec.{Vec}
 use Rattle.std.specs.declared.collections.VecDeque.{VecDeque}
 use Rattle.std.proofs.lemmas.Option.{same_Some, none-some}
@@ -25,7 +25,6 @@ use Rattle.mapworld.specs.declared.holds.Mode.TheVariants.{Shared, Exclusive}
 use Rattle.mapworld.specs.declared.holds.Hold.{Hold}
 use Rattle.mapworld.specs.declared.step.Step.{Step}
 use Rattle.mapworld.specs.declared.place.Request.TheVariants as request
-use Rattle.mapworld.specs.declared.place.Phase.{Phase}
 use Rattle.mapworld.specs.declared.place.Phase.TheVariants as phase
 use Rattle.mapworld.specs.declared.place.Place.{Place}
 use Rattle.mapworld.specs.State.{State, threads_of, started_of, next_step}
@@ -37,7 +36,6 @@ use Rattle.mapworld.proofs.Holding.{holds-same}
 use Rattle.mapworld.proofs.Building.{drop-first, asked-at, session-next, holds-moved, guard-moved, ready-moved, tables-same, started-stays, sound-by, claim-at, taken-at, ready-outside, block_after-none}
 use Rattle.mapworld.proofs.Admitting.{leaves-same, owns-on, keyed-apart, begin-apart}
 use Rattle.mapworld.proofs.Listing.{length-map}
-use Rattle.mapworld.proofs.Finding.{ready-inside}
 use Rattle.mapworld.proofs.Reading.{in-session, guard-at}
 use Rattle.mapworld.proofs.Growing as growing
 
@@ -243,7 +241,6 @@ module _ {K V S D T A : Type 0} (x : Setup K V D T) (laws : Laws x) (w : State K
       absurd (none-some session.1 (sym free_ ∙ session.3))
   wrong-guard d asks e blocks (Some i) mine n =
       counted (held.Write d) asks (Some Shared) answer.WrongGuard refl (no-write d e) (λ drops. absurd cc) i mine blocks n
-
 
   begun-by : (a : Ask K V D) → p.asks.items ≡ a ∷ rest.items → (guard : Option Mode) → guard_of p ≡ guard → (blocks : List (Block K)) → CountsCall w.blocks (start_counts a guard p.block) p.next blocks → Begun a guard blocks
   begun-by (ask.Keyed k) asks guard e blocks n =

@@ -1,18 +1,16 @@
 -- The deed of a session that holds its shard alone: it stores the deed's effect in the place of the guarded value.
-use Rattle.std.proofs.Common.{◌≡◌, ℕ, ◌+◌, ◌-◌, inl, inr, Bool, true, if◌then◌else◌, List, Option, Some, None, slice_get, slice_set, refl, ap, sym, ◌∙◌, subst, arith}
-use Rattle.std.specs.declared.vec.Vec.{Vec}
+use Rattle.std.proofs.Common.{◌≡◌, ℕ, ◌+◌, ◌-◌, inl, inr, Bool, true, if◌then◌else◌, List, Option, Some, None, slice_get, slice_set, refl, ap, sym, ◌∙◌, subst}
 use Rattle.std.proofs.Math.ListN.{length-set}
 use Rattle.std.proofs.lemmas.Option.{same_Some, none-some}
-use Rattle.mapworld_calls.specs.declared.ask.Ask.{Ask}
 use Rattle.mapworld_calls.specs.declared.ask.Ask.TheVariants as ask
 use Rattle.mapworld_calls.specs.declared.ask.Held.TheVariants as held
 use Rattle.mapworld_calls.specs.declared.block.Block.{Block}
 use Rattle.mapworld_calls.specs.declared.reply.Answer.{Answer}
 use Rattle.mapworld_calls.specs.declared.reply.Answer.TheVariants as answer
-use Rattle.mapworld_calls.specs.Calls.{At, exclusive, pair_in, held_answer, held_leaves}
+use Rattle.mapworld_calls.specs.Calls.{exclusive, pair_in, held_answer, held_leaves}
 use Rattle.mapworld_calls.specs.Setup.{Setup, Laws, session_of}
 use Rattle.mapworld_calls.specs.Pairs.{pair_of, AreDistinct}
-use Rattle.mapworld_calls.specs.Replay.{reached, block_key, is_key, contents, found, IsLastOnShard}
+use Rattle.mapworld_calls.specs.Replay.{reached, block_key, is_key, found, IsLastOnShard}
 use Rattle.mapworld_calls.specs.Agrees.{IsToldBy}
 use Rattle.mapworld_calls.proofs.Lists.{slice_get-set_same}
 use Rattle.mapworld_calls.proofs.Grown.{contents-own, contents-were, contents-other}
@@ -29,7 +27,7 @@ use Rattle.mapworld.specs.Steps.{Writes}
 use Rattle.mapworld.specs.Sound.{may_own, block_after, guarded, GuardIs, HasPair, Sound}
 use Rattle.mapworld.proofs.Others.{IsInCall-push}
 use Rattle.mapworld.proofs.Holding.{holds-same}
-use Rattle.mapworld.proofs.Tables.{pair_of-is, pair_of-at, AreDistinct-set, pair_of-set, set-keys}
+use Rattle.mapworld.proofs.Tables.{AreDistinct-set, pair_of-set, set-keys}
 use Rattle.mapworld.proofs.Building.{in_call-moved, holds-moved, session-next, tables-changed, claim-at, taken-at, within-at}
 use Rattle.mapworld.proofs.Admitting.{kept-alone}
 use Rattle.mapworld.proofs.Finding.{ready-inside}

@@ -61,16 +61,13 @@ pub(crate) fn is_excluded<K, V, D, T, A: Allocator>(
 ) -> bool
     ensures { result ≡ is_excluded places.now shard mode }
 {
-    places.iter().any(|place| is_in_the_way(place.hold, shard, mode))
+    places
+        .iter()
+        .any(|place| is_in_the_way(place.hold, shard, mode))
 }
 
 /// Takes a hold at the shard's desk, which nothing there excludes and which has room for it.
-pub(crate) fn take_hold<A: Allocator>(
-    desk: &mut ShardDesk<A>,
-    mode: Mode,
-    party: u64,
-    guard: u64,
-)
+pub(crate) fn take_hold<A: Allocator>(desk: &mut ShardDesk<A>, mode: Mode, party: u64, guard: u64)
     requires granted { acquire_refusal WouldWait (at_desk mode) guard desk.old ≡ None }
     requires room { length desk.old.guards < desk.old.room }
     ensures { desk.new ≡ admitted (at_desk mode) party guard desk.old }
@@ -79,9 +76,7 @@ pub(crate) fn take_hold<A: Allocator>(
         Mode::Shared => desk.read(party, guard),
         Mode::Exclusive => desk.write(party, guard),
     };
-    let Ok(()) = taken else {
-        unreachable!()
-    };
+    let Ok(()) = taken else { unreachable!() };
 }
 
 /// Gives up the guard's hold at the shard's desk, which lists it as the party's.

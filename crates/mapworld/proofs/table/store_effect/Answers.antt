@@ -1,5 +1,4 @@
-use Rattle.std.proofs.Common.{◌≡◌, ◌-◌, length, get_or, refl, ap, sym, ◌∙◌, arith}
-use Rattle.std.specs.List.{SwappedAt}
+use Rattle.std.proofs.Common.{◌≡◌, ◌-◌, length, get_or, refl, ap, ◌∙◌, arith}
 use Rattle.std.proofs.lemmas.Option.{get_or_from_slice_get, slice_get_within}
 use Rattle.mapworld.proofs.Rewriting.{put_back}
 use Rattle.mapworld.proofs.table.store_effect.Goals as goal
