@@ -57,7 +57,8 @@ impl PackedWord {
     pub fn word(&self) -> u64
         ensures { result ≡ word_of self.now.out }
     {
-        self.word
+        let PackedWord { word, .. } = self;
+        *word
     }
 
     /// The word with one more reader: where bit 8 is clear and the count is below the limit, and a word can count so many.
