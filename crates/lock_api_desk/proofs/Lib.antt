@@ -7,3 +7,4 @@ pub mod States
 pub mod Turning
 pub mod Values
 pub mod Making
+pub mod Granting

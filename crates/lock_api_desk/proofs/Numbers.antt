@@ -15,7 +15,7 @@ other_way : (a b : ℕ) → (a == b) ≡ false → (b == a) ≡ false
 other_way a b h = ne_eqb b a (λ e. eqb-false a b h (sym e))
 
 -- the numbers of the others
-abbrev Others : ℕ → List Guard → Type 0
+abbrev pub Others : ℕ → List Guard → Type 0
 Others n guards = AllByRecursion (λ y. (n == y) ≡ false) (numbers guards)
 
 others_at : (n : ℕ) (guards : List Guard) (i : ℕ) (g : Guard) → Others n guards → slice_get guards i ≡ Some g → (n == g.number) ≡ false

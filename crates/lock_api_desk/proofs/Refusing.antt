@@ -32,10 +32,6 @@ pub ok_from : {P : Type 0} (o : Option DeskFault) (x : ℕ) → MatchOption o P 
 ok_from None x p = (refl, p)
 ok_from (Some fault) x e = cc
 
-pub err_from : (o : Option DeskFault) (fault : DeskFault) → MatchOption o ⊥ (λ f. (let r : Result ℕ DeskFault = Err fault in r ≡ Err f)) → o ≡ Some fault
-err_from None fault p = absurd p
-err_from (Some f) fault e = cc
-
 pub none_from : (o : Option DeskFault) (x : Unit {0}) → (let r : Result (Unit {0}) DeskFault = Ok x in r ≡ ok_unless o tt) → o ≡ None
 none_from None x e = refl
 none_from (Some fault) x e = cc

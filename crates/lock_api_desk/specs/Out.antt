@@ -10,8 +10,11 @@ pub record Out : Type 0 where
   pub exclusive : ℕ
   pub upgradable : ℕ
 
+abbrev pub out_with : ℕ → ℕ → ℕ → Out
+out_with shared exclusive upgradable = record { shared = shared; exclusive = exclusive; upgradable = upgradable }
+
 abbrev pub nothing_out : Out
-nothing_out = record { shared = 0; exclusive = 0; upgradable = 0 }
+nothing_out = out_with 0 0 0
 
 -- the holds that count against the limit of readers
 abbrev pub readers_out : Out → ℕ

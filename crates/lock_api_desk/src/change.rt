@@ -17,7 +17,8 @@ impl<R: RawState, T, A: Allocator> Desk<R, T, A> {
     /// Gives the guard up, whatever its mode. A guard that is set aside is `WrongMode`.
     pub fn unlock(&mut self, party: u64, guard: u64) -> Result<(), DeskFault>
         ensures answer { result ≡ ok_unless (guard_refusal is_held party guard self.old) tt }
-        ensures state { self.new ≡ unless (guard_refusal is_held party guard self.old) self.old (released guard self.old) }
+        ensures state { self.new
+            ≡ unless (guard_refusal is_held party guard self.old) self.old (released guard self.old) }
     {
         let place = self.place_of(party, guard, Suit::Held)?;
         self.remove(place, guard);
@@ -27,7 +28,8 @@ impl<R: RawState, T, A: Allocator> Desk<R, T, A> {
     /// As `unlock`. On a desk nobody waits, so there is no difference.
     pub fn unlock_fair(&mut self, party: u64, guard: u64) -> Result<(), DeskFault>
         ensures answer { result ≡ ok_unless (guard_refusal is_held party guard self.old) tt }
-        ensures state { self.new ≡ unless (guard_refusal is_held party guard self.old) self.old (released guard self.old) }
+        ensures state { self.new
+            ≡ unless (guard_refusal is_held party guard self.old) self.old (released guard self.old) }
     {
         self.unlock(party, guard)
     }
@@ -44,7 +46,8 @@ impl<R: RawState, T, A: Allocator> Desk<R, T, A> {
     /// Exclusive becomes shared.
     pub fn downgrade(&mut self, party: u64, guard: u64) -> Result<(), DeskFault>
         ensures answer { result ≡ ok_unless (guard_refusal (holds Exclusive) party guard self.old) tt }
-        ensures state { self.new ≡ unless (guard_refusal (holds Exclusive) party guard self.old) self.old (turned Shared guard self.old) }
+        ensures state { self.new
+            ≡ unless (guard_refusal (holds Exclusive) party guard self.old) self.old (turned Shared guard self.old) }
     {
         self.convert(party, guard, Mode::Exclusive, Mode::Shared)
     }
@@ -52,7 +55,8 @@ impl<R: RawState, T, A: Allocator> Desk<R, T, A> {
     /// Exclusive becomes upgradable.
     pub fn downgrade_to_upgradable(&mut self, party: u64, guard: u64) -> Result<(), DeskFault>
         ensures answer { result ≡ ok_unless (guard_refusal (holds Exclusive) party guard self.old) tt }
-        ensures state { self.new ≡ unless (guard_refusal (holds Exclusive) party guard self.old) self.old (turned Upgradable guard self.old) }
+        ensures state { self.new
+            ≡ unless (guard_refusal (holds Exclusive) party guard self.old) self.old (turned Upgradable guard self.old) }
     {
         self.convert(party, guard, Mode::Exclusive, Mode::Upgradable)
     }
@@ -60,7 +64,8 @@ impl<R: RawState, T, A: Allocator> Desk<R, T, A> {
     /// Upgradable becomes shared.
     pub fn downgrade_upgradable(&mut self, party: u64, guard: u64) -> Result<(), DeskFault>
         ensures answer { result ≡ ok_unless (guard_refusal (holds Upgradable) party guard self.old) tt }
-        ensures state { self.new ≡ unless (guard_refusal (holds Upgradable) party guard self.old) self.old (turned Shared guard self.old) }
+        ensures state { self.new
+            ≡ unless (guard_refusal (holds Upgradable) party guard self.old) self.old (turned Shared guard self.old) }
     {
         self.convert(party, guard, Mode::Upgradable, Mode::Shared)
     }
@@ -68,7 +73,8 @@ impl<R: RawState, T, A: Allocator> Desk<R, T, A> {
     /// Upgradable becomes exclusive. `WouldWait` beside any other held guard.
     pub fn upgrade(&mut self, party: u64, guard: u64) -> Result<(), DeskFault>
         ensures answer { result ≡ ok_unless (upgrade_refusal WouldWait party guard self.old) tt }
-        ensures state { self.new ≡ unless (upgrade_refusal WouldWait party guard self.old) self.old (turned Exclusive guard self.old) }
+        ensures state { self.new
+            ≡ unless (upgrade_refusal WouldWait party guard self.old) self.old (turned Exclusive guard self.old) }
     {
         let _place = self.lift(DeskFault::WouldWait, party, guard)?;
         Ok(())
@@ -77,7 +83,8 @@ impl<R: RawState, T, A: Allocator> Desk<R, T, A> {
     /// As `upgrade`, but `Taken`.
     pub fn try_upgrade(&mut self, party: u64, guard: u64) -> Result<(), DeskFault>
         ensures answer { result ≡ ok_unless (upgrade_refusal Taken party guard self.old) tt }
-        ensures state { self.new ≡ unless (upgrade_refusal Taken party guard self.old) self.old (turned Exclusive guard self.old) }
+        ensures state { self.new
+            ≡ unless (upgrade_refusal Taken party guard self.old) self.old (turned Exclusive guard self.old) }
     {
         let _place = self.lift(DeskFault::Taken, party, guard)?;
         Ok(())
@@ -87,7 +94,8 @@ impl<R: RawState, T, A: Allocator> Desk<R, T, A> {
     /// number stays in use, and no call but `take_up` suits the guard.
     pub fn set_aside(&mut self, party: u64, guard: u64) -> Result<(), DeskFault>
         ensures answer { result ≡ ok_unless (guard_refusal is_held party guard self.old) tt }
-        ensures state { self.new ≡ unless (guard_refusal is_held party guard self.old) self.old (set_apart true guard self.old) }
+        ensures state { self.new
+            ≡ unless (guard_refusal is_held party guard self.old) self.old (set_apart true guard self.old) }
     {
         let place = self.place_of(party, guard, Suit::Held)?;
         self.put_aside(place, guard);
@@ -98,7 +106,8 @@ impl<R: RawState, T, A: Allocator> Desk<R, T, A> {
     /// held guard excludes that mode. It takes no memory.
     pub fn take_up(&mut self, party: u64, guard: u64) -> Result<(), DeskFault>
         ensures answer { result ≡ ok_unless (take_up_refusal party guard self.old) tt }
-        ensures state { self.new ≡ unless (take_up_refusal party guard self.old) self.old (set_apart false guard self.old) }
+        ensures state { self.new
+            ≡ unless (take_up_refusal party guard self.old) self.old (set_apart false guard self.old) }
     {
         let place = self.place_of(party, guard, Suit::Aside)?;
         let mode = self.mode_at(place, guard);

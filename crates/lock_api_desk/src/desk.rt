@@ -18,6 +18,15 @@ use std::alloc::{Allocator, Global};
 use std::marker::Model;
 
 /// A value, its guards and their raw state.
+///
+/// A contract sees a desk as its limit of readers, its room, its guards in the order in which they came, and its
+/// value. The room is for how many guards in all there is memory: only [`reserve`](Desk::reserve) and an acquisition
+/// beyond the room take memory, and nothing gives it back while the desk lives. Numbers in use are distinct, and the
+/// held guards go together.
+///
+/// Of several refusals that apply to one call, an acquisition answers the first of `GuardInUse`, `WouldWait` or
+/// `Taken`, `ReadersFull`, `NoMemory`, and a call on a guard the first of `NoSuchGuard`, `NotTheParty`, `WrongMode`,
+/// `WouldWait` or `Taken`, `ReadersFull`.
 #[derive(Drop)]
 pub struct Desk<R: RawState, T, A: Allocator = Global> {
     pub(crate) raw: R,
@@ -40,7 +49,8 @@ impl<R: RawState, T, A: Allocator> Model for Desk<R, T, A> {
 }
 
 impl<R: RawState, T, A: Allocator> Desk<R, T, A> {
-    /// A desk with no guard, over a raw state of which nothing is out. It takes no memory yet.
+    /// A desk with no guard, over a raw state of which nothing is out. It takes no memory yet, and keeps the allocator
+    /// for its list of guards.
     pub fn new(alloc: A, raw: R, value: T) -> Desk<R, T, A>
         requires { R.out raw ≡ nothing_out }
         ensures { result ≡ record { limit = R.limit_of raw; room = 0; guards = []; value = value } }
@@ -54,12 +64,13 @@ impl<R: RawState, T, A: Allocator> Desk<R, T, A> {
     }
 
     /// Makes room for so many guards beyond those that are held or set aside, so that so many acquisitions take no
-    /// memory.
+    /// memory. `NoMemory` where a growth was needed and refused.
     pub fn reserve(&mut self, guards: usize) -> Result<(), DeskFault>
         ensures state { self.new ≡ with_room self.new.room self.old }
         ensures ok { OnOk result (length self.old.guards + guards ≤ self.new.room) }
         ensures grows { self.old.room ≤ self.new.room }
-        ensures refused { IfErr result (λ fault. (fault ≡ NoMemory) × (self.new ≡ self.old) × (self.old.room < length self.old.guards + guards)) }
+        ensures refused { IfErr result (λ fault.
+            (fault ≡ NoMemory) × (self.new ≡ self.old) × (self.old.room < length self.old.guards + guards)) }
         ensures used { length self.old.guards + guards ≤ self.old.room → self.new.room ≡ self.old.room }
     {
         if guards <= self.entries.capacity() - self.entries.len() {
@@ -120,7 +131,9 @@ impl<R: RawState, T, A: Allocator> Desk<R, T, A> {
 
     /// Where the guard stands in the list, if it is the party's and suits the call.
     pub(crate) fn place_of(&self, party: u64, guard: u64, suit: Suit) -> Result<usize, DeskFault>
-        ensures place { MatchOption (guard_refusal (suits suit) party guard self.now) (IsPlaceOf guard self.now.guards result) (λ fault. result ≡ Err fault) }
+        ensures place { MatchOption (guard_refusal (suits suit) party guard self.now)
+            (IsPlaceOf guard self.now.guards result)
+            (λ fault. result ≡ Err fault) }
         ensures sound { IsSound self.now.limit self.now.guards }
     {
         let Some(place) = look::position_of(&self.entries, guard) else {

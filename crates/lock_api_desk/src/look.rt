@@ -24,7 +24,8 @@ pub(crate) fn excludes<S, E, U>(entries: &[Entry<S, E, U>], mode: Mode) -> bool
 
 /// Whether an entry of another number is held.
 pub(crate) fn holds_beside<S, E, U>(entries: &[Entry<S, E, U>], number: u64) -> bool
-    ensures { result ≡ list_any (λ entry. not (has_number number (guard_in entry)) && is_held (guard_in entry)) entries.now }
+    ensures { result
+        ≡ list_any (λ entry. not (has_number number (guard_in entry)) && is_held (guard_in entry)) entries.now }
 {
     entries
         .iter()
@@ -43,7 +44,8 @@ pub(crate) fn held<'a, S, E, U>(
     entries: &'a [Entry<S, E, U>],
     number: u64,
 ) -> Option<&'a Entry<S, E, U>>
-    ensures { option_copied result ≡ find (λ entry. has_number number (guard_in entry) && is_held (guard_in entry)) entries.now }
+    ensures { option_copied result
+        ≡ find (λ entry. has_number number (guard_in entry) && is_held (guard_in entry)) entries.now }
 {
     entries
         .iter()

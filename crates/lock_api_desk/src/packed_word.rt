@@ -18,13 +18,21 @@ const READER: u64 = 16;
 /// As many readers as a word can count.
 const MAX_READERS: u64 = 0x0fff_ffff_ffff_ffff;
 
-/// The token of a hold of a [`PackedWord`].
+/// The token of a hold of a [`PackedWord`]. It takes no memory, and only a word makes one.
 #[derive(Drop)]
 pub struct WordToken {
     _issued: (),
 }
 
 /// A raw state in one 64-bit word: 8 for exclusive, 4 for upgradable, 16 for each reader, the upgradable one counted.
+///
+/// A contract sees it as its limit and the holds that are out, as a [`TokenTable`](crate::TokenTable) is seen. The
+/// functions from word to word are those that a lock makes exchanges by: `with_..` answers None where the hold isn't
+/// admitted, and the others ask that the hold is in the word.
+///
+/// ```rust
+/// let word = PackedWord::with_upgradable(16, 4);   // Some(36): a reader, and the upgradable one
+/// ```
 #[derive(Drop)]
 pub struct PackedWord {
     limit: u64,
@@ -57,7 +65,8 @@ impl PackedWord {
     pub fn word(&self) -> u64
         ensures { result ≡ word_of self.now.out }
     {
-        self.word
+        let PackedWord { word, .. } = self;
+        *word
     }
 
     /// The word with one more reader: where bit 8 is clear and the count is below the limit, and a word can count so many.

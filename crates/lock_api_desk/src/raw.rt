@@ -5,8 +5,9 @@ ghost use Rattle.lock_api_desk.specs.Out.{Out, admits, one_more, one_less, reade
 
 /// The holds of one lock that are out, without numbers or parties.
 ///
-/// An admission issues a token and a release spends it. A raw state refuses by None or by handing the token back, and
-/// a refusal changes nothing. Nothing here takes memory.
+/// An admission issues a token, and a release or a conversion spends it: each asks that a hold of its mode is out. A
+/// raw state refuses by None or by handing the token back, and a refusal changes nothing. Nothing here takes memory.
+/// A token may be dropped, since a desk that is let go lets its guards go with their raw state.
 pub trait RawState {
     /// The token of a shared hold.
     type Shared: Drop;

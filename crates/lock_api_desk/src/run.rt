@@ -32,7 +32,9 @@ impl<R: RawState, T: Drop, A: Allocator + Drop> Desk<R, T, A> {
 
     /// Makes one call.
     fn make(&mut self, call: DeskCall<T>) -> Result<(), DeskFault>
-        ensures { MatchResult result (λ _. Makes call self.old self.new) (λ fault. Refuses call self.old fault × (self.new ≡ self.old)) }
+        ensures { MatchResult result
+            (λ _. Makes call self.old self.new)
+            (λ fault. Refuses call self.old fault × (self.new ≡ self.old)) }
     {
         match call {
             DeskCall::Lock(party, guard) => self.lock(party, guard),
@@ -75,7 +77,8 @@ impl<R: RawState, T: Drop, A: Allocator + Drop> Desk<R, T, A> {
     /// Stores the value and drops the old one.
     fn put(&mut self, party: u64, guard: u64, value: T) -> Result<(), DeskFault>
         ensures answer { result ≡ ok_unless (guard_refusal (holds Exclusive) party guard self.old) tt }
-        ensures state { self.new ≡ unless (guard_refusal (holds Exclusive) party guard self.old) self.old (with_value value self.old) }
+        ensures state { self.new
+            ≡ unless (guard_refusal (holds Exclusive) party guard self.old) self.old (with_value value self.old) }
     {
         let _before = self.write_value(party, guard, value)?;
         Ok(())
@@ -84,7 +87,8 @@ impl<R: RawState, T: Drop, A: Allocator + Drop> Desk<R, T, A> {
     /// Stores the value while the guard is upgraded.
     fn put_upgraded(&mut self, party: u64, guard: u64, value: T) -> Result<(), DeskFault>
         ensures answer { result ≡ ok_unless (upgrade_refusal WouldWait party guard self.old) tt }
-        ensures state { self.new ≡ unless (upgrade_refusal WouldWait party guard self.old) self.old (with_value value self.old) }
+        ensures state { self.new
+            ≡ unless (upgrade_refusal WouldWait party guard self.old) self.old (with_value value self.old) }
     {
         self.with_upgraded(party, guard, |held: &mut T| *held = value)
     }
@@ -92,7 +96,8 @@ impl<R: RawState, T: Drop, A: Allocator + Drop> Desk<R, T, A> {
     /// As `put_upgraded`, as a try.
     fn try_put_upgraded(&mut self, party: u64, guard: u64, value: T) -> Result<(), DeskFault>
         ensures answer { result ≡ ok_unless (upgrade_refusal Taken party guard self.old) tt }
-        ensures state { self.new ≡ unless (upgrade_refusal Taken party guard self.old) self.old (with_value value self.old) }
+        ensures state { self.new
+            ≡ unless (upgrade_refusal Taken party guard self.old) self.old (with_value value self.old) }
     {
         self.try_with_upgraded(party, guard, |held: &mut T| *held = value)
     }

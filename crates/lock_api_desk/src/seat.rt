@@ -27,7 +27,8 @@ impl<R: RawState, T, A: Allocator> Desk<R, T, A> {
     ) -> Result<(), DeskFault>
         requires { converts from to ≡ true }
         ensures answer { result ≡ ok_unless (guard_refusal (holds from) party guard self.old) tt }
-        ensures state { self.new ≡ unless (guard_refusal (holds from) party guard self.old) self.old (turned to guard self.old) }
+        ensures state { self.new
+            ≡ unless (guard_refusal (holds from) party guard self.old) self.old (turned to guard self.old) }
     {
         let place = self.place_of(party, guard, Suit::In(from))?;
         self.turn(place, guard, to);
@@ -41,7 +42,9 @@ impl<R: RawState, T, A: Allocator> Desk<R, T, A> {
         party: u64,
         guard: u64,
     ) -> Result<usize, DeskFault>
-        ensures place { MatchOption (upgrade_refusal denied party guard self.now) (IsPlaceOf guard self.now.guards result) (λ fault. result ≡ Err fault) }
+        ensures place { MatchOption (upgrade_refusal denied party guard self.now)
+            (IsPlaceOf guard self.now.guards result)
+            (λ fault. result ≡ Err fault) }
         ensures sound { IsSound self.now.limit self.now.guards }
     {
         let place = self.place_of(party, guard, Suit::In(Mode::Upgradable))?;
@@ -58,8 +61,11 @@ impl<R: RawState, T, A: Allocator> Desk<R, T, A> {
         party: u64,
         guard: u64,
     ) -> Result<usize, DeskFault>
-        ensures lifted { MatchOption (upgrade_refusal denied party guard self.old) (IsOkAnd result (IsLifted guard self.old.guards self.new.guards)) (λ fault. result ≡ Err fault) }
-        ensures state { self.new ≡ unless (upgrade_refusal denied party guard self.old) self.old (turned Exclusive guard self.old) }
+        ensures lifted { MatchOption (upgrade_refusal denied party guard self.old)
+            (IsOkAnd result (IsLifted guard self.old.guards self.new.guards))
+            (λ fault. result ≡ Err fault) }
+        ensures state { self.new
+            ≡ unless (upgrade_refusal denied party guard self.old) self.old (turned Exclusive guard self.old) }
     {
         let place = self.place_to_upgrade(denied, party, guard)?;
         self.turn(place, guard, Mode::Exclusive);
@@ -99,7 +105,8 @@ impl<R: RawState, T, A: Allocator> Desk<R, T, A> {
     /// Holds the guard in the mode, which the raw state admits in place of what the guard has.
     pub(crate) fn turn(&mut self, place: usize, guard: u64, mode: Mode)
         requires at { StandsAt guard self.old.guards place }
-        requires next { IfSome (guard_of guard self.old.guards) (λ held. admits self.old.limit mode (less held.mode held.is_aside (out_of self.old.guards)) ≡ true) }
+        requires next { IfSome (guard_of guard self.old.guards) (λ held.
+            admits self.old.limit mode (less held.mode held.is_aside (out_of self.old.guards)) ≡ true) }
         ensures { self.new ≡ turned mode guard self.old }
     {
         let entry = &mut self.entries[place];

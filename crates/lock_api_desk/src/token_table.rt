@@ -5,13 +5,15 @@ ghost use Rattle.lock_api_desk.specs.Out.{nothing_out};
 use crate::raw::RawState;
 use std::marker::Model;
 
-/// The token of a hold of a [`TokenTable`].
+/// The token of a hold of a [`TokenTable`]. It takes no memory, and only a table makes one.
 #[derive(Drop)]
 pub struct TableToken {
     _issued: (),
 }
 
 /// A raw state that counts the tokens that are out, mode by mode.
+///
+/// A contract sees it as its limit and the holds that are out.
 #[derive(Drop)]
 pub struct TokenTable {
     limit: u64,
@@ -21,13 +23,13 @@ pub struct TokenTable {
 }
 
 impl Model for TokenTable {
-    ghost use Rattle.lock_api_desk.specs.Out.{Counts, IsOrderly};
+    ghost use Rattle.lock_api_desk.specs.Out.{Counts, IsOrderly, out_with};
 
     ghost Value = { Counts };
 
-    ghost view = { λ t. record { limit = t.limit; out = record { shared = t.shared; exclusive = t.exclusive; upgradable = t.upgradable } } };
+    ghost view = { λ t. record { limit = t.limit; out = out_with t.shared t.exclusive t.upgradable } };
 
-    ghost invariant = { λ t. IsOrderly t.limit (record { shared = t.shared; exclusive = t.exclusive; upgradable = t.upgradable }) };
+    ghost invariant = { λ t. IsOrderly t.limit (out_with t.shared t.exclusive t.upgradable) };
 }
 
 impl TokenTable {

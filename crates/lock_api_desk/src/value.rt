@@ -18,7 +18,9 @@ use std::mem;
 impl<R: RawState, T, A: Allocator> Desk<R, T, A> {
     /// Lends the value through a held guard of any mode. `WrongMode` for one that is set aside alone.
     pub fn read_value(&self, party: u64, guard: u64) -> Result<&T, DeskFault>
-        ensures { MatchOption (guard_refusal is_held party guard self.now) (IsOkAnd result (λ value. value.now ≡ self.now.value)) (λ fault. result ≡ Err fault) }
+        ensures { MatchOption (guard_refusal is_held party guard self.now)
+            (IsOkAnd result (λ value. value.now ≡ self.now.value))
+            (λ fault. result ≡ Err fault) }
     {
         self.place_of(party, guard, Suit::Held)?;
         Ok(&self.value)
@@ -28,7 +30,9 @@ impl<R: RawState, T, A: Allocator> Desk<R, T, A> {
     pub fn write_value(&mut self, party: u64, guard: u64, value: T) -> Result<T, DeskFault>
     where
         T: Drop,
-        ensures { MatchOption (guard_refusal (holds Exclusive) party guard self.old) (IsOkAnd result (λ before. (before ≡ self.old.value) × (self.new ≡ with_value value self.old))) (λ fault. (result ≡ Err fault) × (self.new ≡ self.old)) }
+        ensures { MatchOption (guard_refusal (holds Exclusive) party guard self.old)
+            (IsOkAnd result (λ before. (before ≡ self.old.value) × (self.new ≡ with_value value self.old)))
+            (λ fault. (result ≡ Err fault) × (self.new ≡ self.old)) }
     {
         self.place_of(party, guard, Suit::In(Mode::Exclusive))?;
         Ok(mem::replace(&mut self.value, value))
@@ -43,7 +47,11 @@ impl<R: RawState, T, A: Allocator> Desk<R, T, A> {
         f: F,
     ) -> Result<U, DeskFault>
         requires { F.IsAlwaysCallable f }
-        ensures { MatchOption (upgrade_refusal WouldWait party guard self.old) (IsOkAnd result (λ answer. FnOnceReturnsAtMut F.FnOnce f self.old.value answer self.new.value × (self.new ≡ with_value self.new.value self.old))) (λ fault. (result ≡ Err fault) × (self.new ≡ self.old)) }
+        ensures { MatchOption (upgrade_refusal WouldWait party guard self.old)
+            (IsOkAnd result (λ answer.
+            FnOnceReturnsAtMut F.FnOnce f self.old.value answer self.new.value
+            × (self.new ≡ with_value self.new.value self.old)))
+            (λ fault. (result ≡ Err fault) × (self.new ≡ self.old)) }
     {
         let place = self.lift(DeskFault::WouldWait, party, guard)?;
         let answer = apply(&mut self.value, f);
@@ -59,7 +67,11 @@ impl<R: RawState, T, A: Allocator> Desk<R, T, A> {
         f: F,
     ) -> Result<U, DeskFault>
         requires { F.IsAlwaysCallable f }
-        ensures { MatchOption (upgrade_refusal Taken party guard self.old) (IsOkAnd result (λ answer. FnOnceReturnsAtMut F.FnOnce f self.old.value answer self.new.value × (self.new ≡ with_value self.new.value self.old))) (λ fault. (result ≡ Err fault) × (self.new ≡ self.old)) }
+        ensures { MatchOption (upgrade_refusal Taken party guard self.old)
+            (IsOkAnd result (λ answer.
+            FnOnceReturnsAtMut F.FnOnce f self.old.value answer self.new.value
+            × (self.new ≡ with_value self.new.value self.old)))
+            (λ fault. (result ≡ Err fault) × (self.new ≡ self.old)) }
     {
         let place = self.lift(DeskFault::Taken, party, guard)?;
         let answer = apply(&mut self.value, f);
