@@ -1,0 +1,4 @@
+pub mod Faults
+pub mod Route
+pub mod Slots
+pub mod Table
