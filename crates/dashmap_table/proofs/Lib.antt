@@ -1,1 +1,5 @@
 pub mod ShardAmounts
+pub mod Places
+pub mod Finding
+pub mod Changing
+pub mod Adding

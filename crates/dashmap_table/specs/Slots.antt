@@ -1,5 +1,5 @@
 -- Numbered slots, each free or with an entry: the finite map from (hash, key) to a pair.
-use Rattle.std.specs.Prelude.{◌≡◌, ℕ, ◌&&◌, ◌==◌, Bool, false, List, Option, Some, None, IsTrue, is_some, count_by, filter_map, slice_index_or, slice_set}
+use Rattle.std.specs.Prelude.{◌≡◌, ℕ, ◌+◌, ◌^◌, ◌<◌, ◌≤◌, IsSome, ◌&&◌, ◌==◌, Bool, false, List, Option, Some, None, IsTrue, is_some, count_by, filter_map, slice_index_or, slice_set}
 use Rattle.std.specs.List.{position}
 use Rattle.std.specs.Option.{option_and_then, option_map}
 use Rattle.dashmap_table.specs.declared.entry.Entry.{Entry}
@@ -29,6 +29,13 @@ module _ {K V : Type 0} where
   abbrev pub entry_of : (K → K → Bool) → List (Option (Entry K V)) → ℕ → K → Option (Entry K V)
   entry_of eq slots hash key = option_and_then (at slots) (slot_of eq slots hash key)
 
+  -- the first full slot that isn't below one
+  pub record IsNextFull (slots : List (Option (Entry K V))) (from i : ℕ) : Type 0 where
+    pub full : IsSome (at slots i)
+    pub above : from ≤ i
+    pub first : (j : ℕ) → from ≤ j → j < i → at slots j ≡ None
+    pub numbered : i + 1 < 2 ^ 64
+
   -- no two slots have equal keys under one hash
   abbrev pub AreDistinct : (K → K → Bool) → List (Option (Entry K V)) → Type 0
   AreDistinct eq slots = (i j : ℕ) (d e : Entry K V) → at slots i ≡ Some d → at slots j ≡ Some e
@@ -37,6 +44,14 @@ module _ {K V : Type 0} where
   -- key and value of an entry
   abbrev pub pair_of : Entry K V → K × V
   pair_of e = (e.key, e.value)
+
+  -- an entry with another value
+  abbrev pub giving_value : V → Entry K V → Entry K V
+  giving_value value e = record e { value = value }
+
+  -- an entry with another key and value
+  abbrev pub giving_pair : K → V → Entry K V → Entry K V
+  giving_pair key value e = record e { key = key; value = value }
 
   -- the pairs, in the order of their slots
   abbrev pub pairs_of : List (Option (Entry K V)) → List (K × V)

@@ -1,7 +1,7 @@
 -- A table as contracts see it, and what its calls do to it.
 use Rattle.std.specs.Prelude.{◌≡◌, ◌≢◌, ℕ, ◌+◌, ◌^◌, ◌<◌, ◌≤◌, Bool, false, List, length, Option, Some, None, slice_set}
 use Rattle.dashmap_table.specs.declared.entry.Entry.{Entry}
-use Rattle.dashmap_table.specs.Slots.{at, count, holds, slot_of, entry_of, AreDistinct, changed}
+use Rattle.dashmap_table.specs.Slots.{at, count, holds, slot_of, entry_of, AreDistinct, giving_value, giving_pair, changed}
 
 pub record Table (K V : Type 0) : Type 0 where
   -- what stands in each slot, from slot 0 on
@@ -12,11 +12,11 @@ pub record Table (K V : Type 0) : Type 0 where
 module _ {K V : Type 0} where
   -- the table with another value in a full slot
   abbrev pub with_value : Table K V → ℕ → V → Table K V
-  with_value t i value = record t { slots = changed (λ e. record e { value = value }) t.slots i }
+  with_value t i value = record t { slots = changed (giving_value value) t.slots i }
 
   -- the table with another key and value in a full slot
   abbrev pub with_pair : Table K V → ℕ → K → V → Table K V
-  with_pair t i key value = record t { slots = changed (λ e. record e { key = key; value = value }) t.slots i }
+  with_pair t i key value = record t { slots = changed (giving_pair key value) t.slots i }
 
   -- what holds of every table
   pub record IsSound (eq : K → K → Bool) (t : Table K V) : Type 0 where
