@@ -2,3 +2,4 @@ pub mod Faults
 pub mod Route
 pub mod Slots
 pub mod Table
+pub mod Lending

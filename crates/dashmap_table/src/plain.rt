@@ -2,9 +2,11 @@
 //!
 //! It is the shortest program that does what a table has to do, and stays beside faster ones so that they can be
 //! compared with it.
-ghost use Rattle.std.specs.Prelude.{◌≡◌, ℕ, ◌+◌, ◌<◌, ◌≤◌, [], length, None, IsTrue, IsSome, IfSome, IfNone, MatchOption, MatchResult, IfOk, IfErr, OnOk, OnErr};
-ghost use Rattle.std.specs.List.{position};
-ghost use Rattle.std.specs.Option.{option_map, is_none};
+ghost use Rattle.std.specs.Prelude.{◌≡◌, ℕ, ◌+◌, ◌<◌, ◌≤◌, [], length, vec_capacity, None, Some, IsTrue, IsSome, IfSome, IfNone, MatchOption, MatchResult, IfOk, IfErr, OnOk, OnErr};
+ghost use Rattle.std.specs.List.{position, filter};
+ghost use Rattle.std.specs.Option.{option_map, option_copied_mut, is_none, is_some};
+ghost use Rattle.std.specs.Borrow.{sem};
+ghost use Rattle.dashmap_table.specs.Lending.{lends_value};
 ghost use Rattle.dashmap_table.specs.Slots.{at, count, slot_of, entry_with, pair_of, giving_pair, giving_value, IsNextFull};
 ghost use Rattle.dashmap_table.specs.Table.{Adds, Frees, SamePairs, with_value, with_pair};
 
@@ -65,7 +67,50 @@ fn set_value<K, V: Drop>(slot: &mut Option<Entry<K, V>>, value: V) -> Option<V>
     }
 }
 
+/// Lends the value of a full slot for writing, beside its key.
+fn lend_pair<K, V>(slot: &mut Option<Entry<K, V>>) -> (&K, &mut V)
+    requires { IsSome slot.old }
+    ensures* writes_back { sem 𝓛 (lends_value K.row V.row slot.entry result.1) }
+    ensures pair { option_map pair_of slot.old ≡ Some (result.0.now, result.1.now) }
+{
+    match slot {
+        Some(entry) => entry.pair_mut(),
+        None => unreachable!(),
+    }
+}
+
+/// Lends the value of a full slot for writing.
+fn lend_value<K, V>(slot: &mut Option<Entry<K, V>>) -> &mut V
+    requires { IsSome slot.old }
+    ensures* writes_back { sem 𝓛 (lends_value K.row V.row slot.entry result) }
+    ensures value { option_map (λ e. e.value) slot.old ≡ Some result.now }
+{
+    match slot {
+        Some(entry) => entry.value_mut(),
+        None => unreachable!(),
+    }
+}
+
+/// Moves the entries of some slots into an empty list that has room for them.
+fn pack<K, V, A: Allocator>(
+    slots: &mut [Option<Entry<K, V>>],
+    packed: &mut Vec<Option<Entry<K, V>>, A>,
+)
+    requires empty { packed.old.items ≡ [] }
+    requires room { count slots.old ≤ vec_capacity packed.old }
+    ensures items { packed.new.items ≡ filter is_some slots.old }
+    ensures room { vec_capacity packed.new ≡ vec_capacity packed.old }
+{
+    for i in 0..slots.len() {
+        if let Some(entry) = slots[i].take() {
+            packed.push_reserved(Some(entry));
+        }
+    }
+}
+
 impl<K: Eq + Hash, V, A: Allocator> PlainTable<K, V, A> {
+    ghost use Rattle.dashmap_table.specs.Lending.{lends_plain, lends_plain_if};
+
     pub(crate) fn new(alloc: A) -> PlainTable<K, V, A>
         ensures slots { result.slots ≡ [] }
         ensures room { result.room ≡ 0 }
@@ -102,6 +147,40 @@ impl<K: Eq + Hash, V, A: Allocator> PlainTable<K, V, A> {
         match self.slots.get(slot) {
             Some(Some(entry)) => Some((&entry.key, &entry.value)),
             _ => None,
+        }
+    }
+
+    fn is_full(&self, slot: usize) -> bool
+        ensures { result ≡ is_some (at self.now.slots slot) }
+    {
+        matches!(self.slots.get(slot), Some(Some(_)))
+    }
+
+    /// Lends the value of a full slot for writing, beside its key.
+    pub(crate) fn lend(&mut self, slot: usize) -> (&K, &mut V)
+        requires { IsSome (at self.old.slots slot) }
+        ensures* writes_back { sem 𝓛 (lends_plain K.row V.row A.row K.Hash A.Allocator self.entry slot result.1) }
+        ensures pair { option_map pair_of (at self.old.slots slot) ≡ Some (result.0.now, result.1.now) }
+    {
+        lend_pair(&mut self.slots[slot])
+    }
+
+    fn lend_at(&mut self, slot: usize) -> &mut V
+        requires { IsSome (at self.old.slots slot) }
+        ensures* writes_back { sem 𝓛 (lends_plain K.row V.row A.row K.Hash A.Allocator self.entry slot result) }
+        ensures value { option_map (λ e. e.value) (at self.old.slots slot) ≡ Some result.now }
+    {
+        lend_value(&mut self.slots[slot])
+    }
+
+    pub(crate) fn value_mut(&mut self, slot: usize) -> Option<&mut V>
+        ensures* writes_back { sem 𝓛 (lends_plain_if K.row V.row A.row K.Hash A.Allocator self.entry slot result) }
+        ensures value { option_copied_mut result ≡ option_map (λ e. e.value) (at self.old.slots slot) }
+    {
+        if self.is_full(slot) {
+            Some(self.lend_at(slot))
+        } else {
+            None
         }
     }
 
@@ -245,5 +324,34 @@ impl<K: Eq + Hash, V, A: Allocator> PlainTable<K, V, A> {
             Ok(()) => Ok(()),
             Err(_) => Err(NoMemory),
         }
+    }
+
+    pub(crate) fn shrink(&mut self) -> Result<(), NoMemory>
+    where
+        K: Drop,
+        V: Drop,
+        A: Clone,
+        ensures pairs { SamePairs K.eq self.old self.new }
+        ensures tight { OnOk result (self.new.room ≡ count self.new.slots) }
+        ensures room { self.new.room ≤ self.old.room }
+        ensures empty { count self.old.slots ≡ 0 → result ≡ Ok tt }
+        ensures refused { OnErr result (self.new ≡ self.old) }
+    {
+        if self.full == 0 {
+            self.slots.clear();
+            self.slots.shrink_to_fit();
+            return Ok(());
+        }
+        let mut packed = Vec::with_capacity(self.slots.allocator().clone()?, self.full)?;
+        pack(&mut self.slots, &mut packed);
+        self.slots = packed;
+        Ok(())
+    }
+
+    pub(crate) fn into_slots(self) -> Vec<Option<Entry<K, V>>, A>
+        ensures { result.items ≡ self.slots }
+    {
+        let PlainTable { slots, full: _ } = self;
+        slots
     }
 }
