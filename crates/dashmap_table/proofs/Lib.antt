@@ -3,3 +3,5 @@ pub mod Places
 pub mod Finding
 pub mod Changing
 pub mod Adding
+pub mod Packing
+pub mod Sounds

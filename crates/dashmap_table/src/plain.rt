@@ -8,7 +8,7 @@ ghost use Rattle.std.specs.Option.{option_map, option_copied_mut, is_none, is_so
 ghost use Rattle.std.specs.Borrow.{sem};
 ghost use Rattle.dashmap_table.specs.Lending.{lends_value};
 ghost use Rattle.dashmap_table.specs.Slots.{at, count, slot_of, entry_with, pair_of, giving_pair, giving_value, IsNextFull};
-ghost use Rattle.dashmap_table.specs.Table.{Adds, Frees, SamePairs, with_value, with_pair};
+ghost use Rattle.dashmap_table.specs.Table.{IsSound, Adds, Frees, SamePairs, with_value, with_pair};
 
 use crate::entry::Entry;
 use crate::fault::NoMemory;
@@ -122,7 +122,8 @@ impl<K: Eq + Hash, V, A: Allocator> PlainTable<K, V, A> {
     }
 
     pub(crate) fn find(&self, hash: u64, key: &K) -> Option<usize>
-        ensures { result ≡ slot_of K.eq self.now.slots hash key.now }
+        ensures slot { result ≡ slot_of K.eq self.now.slots hash key.now }
+        ensures sound { IsSound K.eq self.now }
     {
         self.slots
             .iter()
@@ -130,7 +131,8 @@ impl<K: Eq + Hash, V, A: Allocator> PlainTable<K, V, A> {
     }
 
     pub(crate) fn len(&self) -> usize
-        ensures { result ≡ count self.now.slots }
+        ensures count { result ≡ count self.now.slots }
+        ensures sound { IsSound K.eq self.now }
     {
         self.full
     }
@@ -207,6 +209,7 @@ impl<K: Eq + Hash, V, A: Allocator> PlainTable<K, V, A> {
     pub(crate) fn remove(&mut self, slot: usize) -> Option<(K, V)>
         ensures pair { result ≡ option_map pair_of (at self.old.slots slot) }
         ensures frees { Frees self.old self.new slot }
+        ensures sound { IsSound K.eq self.new }
     {
         let entry = self.slots.get_mut(slot)?.take()?;
         self.full -= 1;
@@ -225,6 +228,7 @@ impl<K: Eq + Hash, V, A: Allocator> PlainTable<K, V, A> {
         requires { IfSome (at self.old.slots slot) (λ e. IsTrue (K.eq e.key key)) }
         ensures pair { result ≡ option_map pair_of (at self.old.slots slot) }
         ensures after { self.new ≡ with_pair self.old slot key value }
+        ensures sound { IsSound K.eq self.new }
     {
         if slot >= self.slots.len() {
             return None;
@@ -238,6 +242,7 @@ impl<K: Eq + Hash, V, A: Allocator> PlainTable<K, V, A> {
         V: Drop,
         ensures value { result ≡ option_map (λ e. e.value) (at self.old.slots slot) }
         ensures after { self.new ≡ with_value self.old slot value }
+        ensures sound { IsSound K.eq self.new }
     {
         if slot >= self.slots.len() {
             return None;
@@ -257,6 +262,7 @@ impl<K: Eq + Hash, V, A: Allocator> PlainTable<K, V, A> {
         ensures present { IfSome (slot_of K.eq self.old.slots hash key) (λ i. (result ≡ Ok (i, option_map (λ e. e.value) (at self.old.slots i))) × (self.new ≡ with_value self.old i value)) }
         ensures added { IfNone (slot_of K.eq self.old.slots hash key) (IfOk result (λ r. (r.1 ≡ None) × Adds K.eq self.old self.new (entry_with hash key value) r.0)) }
         ensures refused { IfErr result (λ back. (back ≡ (key, value)) × (self.new ≡ self.old) × (self.old.room ≤ count self.old.slots)) }
+        ensures sound { IsSound K.eq self.new }
     {
         if let Some(slot) = self.find(hash, &key) {
             let old = self.replace_value(slot, value);
@@ -283,6 +289,7 @@ impl<K: Eq + Hash, V, A: Allocator> PlainTable<K, V, A> {
         requires { slot_of K.eq self.old.slots entry.hash entry.key ≡ None }
         ensures added { IfOk result (λ i. Adds K.eq self.old self.new entry i) }
         ensures refused { IfErr result (λ back. (back ≡ entry) × (self.new ≡ self.old) × (self.old.room ≤ count self.old.slots)) }
+        ensures sound { IsSound K.eq self.new }
     {
         match first_free(&self.slots) {
             Some(slot) => {
@@ -299,6 +306,7 @@ impl<K: Eq + Hash, V, A: Allocator> PlainTable<K, V, A> {
         requires packed { position is_none self.old.slots ≡ None }
         ensures added { IfOk result (λ i. Adds K.eq self.old self.new entry i) }
         ensures refused { IfErr result (λ back. (back ≡ entry) × (self.new ≡ self.old) × (self.old.room ≤ count self.old.slots)) }
+        ensures sound { IsSound K.eq self.new }
     {
         if let Err(_) = self.slots.reserve(1) {
             return Err(entry);
@@ -315,6 +323,7 @@ impl<K: Eq + Hash, V, A: Allocator> PlainTable<K, V, A> {
         ensures room { self.old.room ≤ self.new.room }
         ensures enough { count self.old.slots + additional ≤ self.old.room → (result ≡ Ok tt) × (self.new ≡ self.old) }
         ensures refused { OnErr result (self.new ≡ self.old) }
+        ensures sound { IsSound K.eq self.new }
     {
         if additional <= self.slots.capacity() - self.full {
             return Ok(());
@@ -336,6 +345,7 @@ impl<K: Eq + Hash, V, A: Allocator> PlainTable<K, V, A> {
         ensures room { self.new.room ≤ self.old.room }
         ensures empty { count self.old.slots ≡ 0 → result ≡ Ok tt }
         ensures refused { OnErr result (self.new ≡ self.old) }
+        ensures sound { IsSound K.eq self.new }
     {
         if self.full == 0 {
             self.slots.clear();
