@@ -3,3 +3,4 @@ pub mod Route
 pub mod Slots
 pub mod Table
 pub mod Lending
+pub mod ShardLending

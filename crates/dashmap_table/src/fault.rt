@@ -99,6 +99,7 @@ impl Error for MapFault {}
 
 impl From<NoMemory> for MapFault {
     ghost use Rattle.std.specs.Prelude.{◌≡◌};
+    ghost use Rattle.dashmap_table.specs.declared.fault.MapFault.{MapFault};
 
     ghost from_gives = { λ _ fault. fault ≡ MapFault.NoMemory };
 

@@ -3,8 +3,12 @@
 
 mod entry;
 mod fault;
+mod pairs;
 mod plain;
 mod routing;
+mod shard;
 
 pub use fault::{MapFault, NoMemory};
+pub use pairs::ShardPairs;
 pub use routing::{capacity_share, default_shards, is_shard_amount, route};
+pub use shard::Shard;

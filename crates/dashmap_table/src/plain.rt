@@ -138,7 +138,8 @@ impl<K: Eq + Hash, V, A: Allocator> PlainTable<K, V, A> {
     }
 
     pub(crate) fn capacity(&self) -> usize
-        ensures { result ≡ self.now.room }
+        ensures room { result ≡ self.now.room }
+        ensures fits { count self.now.slots ≤ result }
     {
         self.slots.capacity()
     }
@@ -152,7 +153,7 @@ impl<K: Eq + Hash, V, A: Allocator> PlainTable<K, V, A> {
         }
     }
 
-    fn is_full(&self, slot: usize) -> bool
+    pub(crate) fn is_full(&self, slot: usize) -> bool
         ensures { result ≡ is_some (at self.now.slots slot) }
     {
         matches!(self.slots.get(slot), Some(Some(_)))
