@@ -4,3 +4,4 @@ pub mod Slots
 pub mod Table
 pub mod Lending
 pub mod ShardLending
+pub mod Shards

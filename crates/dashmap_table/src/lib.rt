@@ -7,8 +7,10 @@ mod pairs;
 mod plain;
 mod routing;
 mod shard;
+mod shards;
 
 pub use fault::{MapFault, NoMemory};
 pub use pairs::ShardPairs;
 pub use routing::{capacity_share, default_shards, is_shard_amount, route};
 pub use shard::Shard;
+pub use shards::Shards;

@@ -1,0 +1,79 @@
+//! A list of shards and a hasher, without locks.
+ghost use Rattle.std.specs.Prelude.{◌≡◌, ℕ, ◌+◌, ◌<◌, ◌≤◌, ◌↔◌, length, replicate, None, Some, slice_set, IsTrue, IfOk, IfErr, OnOk, OnErr, if◌then◌else◌};
+ghost use Rattle.std.specs.Option.{option_map, option_copied_mut};
+ghost use Rattle.std.specs.Borrow.{sem};
+ghost use Rattle.dashmap_table.specs.Route.{IsShardAmount, route_of, hash_of};
+ghost use Rattle.dashmap_table.specs.Slots.{at, count, pair_of};
+ghost use Rattle.dashmap_table.specs.Table.{SamePairs};
+ghost use Rattle.dashmap_table.specs.Shards.{AreApart, AreSharded, no_pairs, table_at, key_hash, key_shard, place_of, pair_at};
+
+use crate::fault::{MapFault, NoMemory};
+use crate::routing::{is_shard_amount, route};
+use crate::shard::Shard;
+use std::alloc::{Allocator, Global};
+use std::hash::{BuildHasher, Hash};
+use std::marker::Model;
+
+#[derive(Drop)]
+pub struct Shards<K: Eq + Hash, V, S: BuildHasher, A: Allocator = Global> {
+    shards: Vec<Shard<K, V, A>, A>,
+    hasher: S,
+}
+
+impl<K: Eq + Hash, V, S: BuildHasher, A: Allocator> Model for Shards<K, V, S, A> {
+    ghost use Rattle.dashmap_table.specs.Shards.{Tables, AreSharded};
+
+    ghost Value = { Tables K V S };
+
+    ghost view = { λ s. record { tables = s.shards.items; hasher = s.hasher } };
+
+    ghost invariant = { λ s. AreSharded S.BuildHasher S.Hasher.Hasher K.hash_input K.eq (record { tables = s.shards.items; hasher = s.hasher }) };
+}
+
+impl<K: Eq + Hash, V, S: BuildHasher, A: Allocator> Shards<K, V, S, A> {
+    pub fn count(&self) -> usize
+        ensures count { result ≡ length self.now.tables }
+        ensures amount { IsShardAmount result }
+    {
+        self.shards.len()
+    }
+
+    pub fn hasher(&self) -> &S
+        ensures { result.now ≡ self.now.hasher }
+    {
+        &self.hasher
+    }
+
+    pub fn hash(&self, key: &K) -> u64
+        ensures { result ≡ key_hash S.BuildHasher S.Hasher.Hasher K.hash_input self.now.hasher key.now }
+    {
+        self.hasher.hash_one(key)
+    }
+
+    pub fn shard(&self, shard: usize) -> &Shard<K, V, A>
+        requires { shard < length self.now.tables }
+        ensures shard { result.now ≡ table_at self.now.tables shard }
+        ensures sharded { AreSharded S.BuildHasher S.Hasher.Hasher K.hash_input K.eq self.now }
+    {
+        &self.shards[shard]
+    }
+
+    /// The shard of a key.
+    fn shard_of(&self, hash: u64) -> usize
+        ensures value { result ≡ route_of hash (length self.now.tables) }
+        ensures below { result < length self.now.tables }
+    {
+        route(hash, self.shards.len())
+    }
+
+    pub fn find(&self, key: &K) -> Option<(usize, usize)>
+        ensures place { result ≡ place_of S.BuildHasher S.Hasher.Hasher K.hash_input K.eq self.now key.now }
+    {
+        let hash = self.hash(key);
+        let shard = self.shard_of(hash);
+        match self.shards[shard].find(hash, key) {
+            Some(slot) => Some((shard, slot)),
+            None => None,
+        }
+    }
+}
