@@ -5,3 +5,5 @@ pub mod Changing
 pub mod Adding
 pub mod Packing
 pub mod Sounds
+pub mod Effects
+pub mod Sharding

@@ -1,12 +1,12 @@
 -- Plain shards as contracts see them: each key on the shard of its route.
-use Rattle.std.specs.Prelude.{◌≡◌, ℕ, ◌+◌, ◌≤◌, Bool, List, [], length, replicate, Option, Some, None, IsTrue, slice_get, slice_index_or, slice_set, if◌then◌else◌}
+use Rattle.std.specs.Prelude.{◌≡◌, ◌≢◌, ℕ, ◌+◌, ◌≤◌, Bool, List, [], length, replicate, Option, Some, None, IsTrue, slice_get, slice_index_or, slice_set, if◌then◌else◌}
 use Rattle.std.specs.Option.{option_map}
 use Rattle.std.specs.Hash.{HashWrites}
 use Rattle.std.specs.declared.hash.BuildHasher as builder
 use Rattle.std.specs.declared.hash.Hasher as hasher
 use Rattle.dashmap_table.specs.declared.entry.Entry.{Entry}
 use Rattle.dashmap_table.specs.Route.{IsShardAmount, route_of, hash_of}
-use Rattle.dashmap_table.specs.Slots.{at, pair_of, slot_of, entry_of}
+use Rattle.dashmap_table.specs.Slots.{at, count, pair_of, slot_of, entry_of}
 use Rattle.dashmap_table.specs.Table.{Table, IsSound, with_value}
 
 pub record Tables (K V S : Type 0) : Type 0 where
@@ -26,6 +26,21 @@ module _ {K V : Type 0} where
   -- the shards with another value in one slot of one of them
   abbrev pub with_value_at : List (Table K V) → ℕ → ℕ → V → List (Table K V)
   with_value_at tables i slot value = slice_set tables i (with_value (table_at tables i) slot value)
+
+  -- no shard but one changes, nor how many there are
+  pub record OnlyChanges {S : Type 0} (old new : Tables K V S) (i : ℕ) : Type 0 where
+    pub hasher : new.hasher ≡ old.hasher
+    pub count : length new.tables ≡ length old.tables
+    pub others : (j : ℕ) → j ≢ i → table_at new.tables j ≡ table_at old.tables j
+
+  -- the pair that an insertion leaves: a stored key stays
+  abbrev pub put_over : Option (K × V) → K → V → K × V
+  put_over None key value = (key, value)
+  put_over (Some p) key value = (p.0, value)
+
+  -- there is room for no more pairs
+  abbrev pub IsFull : Table K V → Type 0
+  IsFull t = t.room ≤ count t.slots
 
   -- no two slots, of one shard or of two, have equal keys
   abbrev pub AreApart : (K → K → Bool) → List (Table K V) → Type 0

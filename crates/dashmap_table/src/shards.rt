@@ -5,7 +5,7 @@ ghost use Rattle.std.specs.Borrow.{sem};
 ghost use Rattle.dashmap_table.specs.Route.{IsShardAmount, route_of, hash_of};
 ghost use Rattle.dashmap_table.specs.Slots.{at, count, pair_of};
 ghost use Rattle.dashmap_table.specs.Table.{SamePairs};
-ghost use Rattle.dashmap_table.specs.Shards.{AreApart, AreSharded, no_pairs, table_at, key_hash, key_shard, place_of, pair_at};
+ghost use Rattle.dashmap_table.specs.Shards.{AreApart, AreSharded, no_pairs, table_at, put_over, IsFull, OnlyChanges, key_hash, key_shard, place_of, pair_at};
 
 use crate::fault::{MapFault, NoMemory};
 use crate::routing::{is_shard_amount, route};
@@ -75,5 +75,41 @@ impl<K: Eq + Hash, V, S: BuildHasher, A: Allocator> Shards<K, V, S, A> {
             Some(slot) => Some((shard, slot)),
             None => None,
         }
+    }
+
+    pub fn reserve(&mut self, shard: usize) -> Result<(), NoMemory>
+        requires { shard < length self.old.tables }
+        ensures ok { OnOk result (count (table_at self.new.tables shard).slots + 1 ≤ (table_at self.new.tables shard).room) }
+        ensures pairs { (q : K) → pair_at S.BuildHasher S.Hasher.Hasher K.hash_input K.eq self.new q ≡ pair_at S.BuildHasher S.Hasher.Hasher K.hash_input K.eq self.old q }
+        ensures others { OnlyChanges self.old self.new shard }
+        ensures refused { OnErr result (self.new ≡ self.old) }
+    {
+        self.shards[shard].reserve(1)
+    }
+
+    pub fn insert(&mut self, key: K, value: V) -> Result<Option<V>, (K, V)>
+    where
+        K: Drop,
+        V: Drop,
+        ensures old { IfOk result (λ old. old ≡ option_map (λ p. p.1) (pair_at S.BuildHasher S.Hasher.Hasher K.hash_input K.eq self.old key)) }
+        ensures after { OnOk result ((q : K) → pair_at S.BuildHasher S.Hasher.Hasher K.hash_input K.eq self.new q ≡ (if K.eq key q then Some (put_over (pair_at S.BuildHasher S.Hasher.Hasher K.hash_input K.eq self.old key) key value) else pair_at S.BuildHasher S.Hasher.Hasher K.hash_input K.eq self.old q)) }
+        ensures others { OnlyChanges self.old self.new (key_shard S.BuildHasher S.Hasher.Hasher K.hash_input self.old key) }
+        ensures refused { IfErr result (λ back. (back ≡ (key, value)) × (self.new ≡ self.old) × (pair_at S.BuildHasher S.Hasher.Hasher K.hash_input K.eq self.old key ≡ None) × IsFull (table_at self.old.tables (key_shard S.BuildHasher S.Hasher.Hasher K.hash_input self.old key))) }
+    {
+        let hash = self.hash(&key);
+        let shard = self.shard_of(hash);
+        let (_, old) = self.shards[shard].insert(hash, key, value)?;
+        Ok(old)
+    }
+
+    pub fn remove(&mut self, key: &K) -> Option<(K, V)>
+        ensures pair { result ≡ pair_at S.BuildHasher S.Hasher.Hasher K.hash_input K.eq self.old key.now }
+        ensures after { (q : K) → pair_at S.BuildHasher S.Hasher.Hasher K.hash_input K.eq self.new q ≡ (if K.eq key.now q then None else pair_at S.BuildHasher S.Hasher.Hasher K.hash_input K.eq self.old q) }
+        ensures others { OnlyChanges self.old self.new (key_shard S.BuildHasher S.Hasher.Hasher K.hash_input self.old key.now) }
+    {
+        let hash = self.hash(key);
+        let shard = self.shard_of(hash);
+        let slot = self.shards[shard].find(hash, key)?;
+        self.shards[shard].remove(slot)
     }
 }
