@@ -1,21 +1,21 @@
 -- Plain shards after a call of one of them: still routed, and with the pairs that the call's table tells.
-use Rattle.std.proofs.Common.{◌≡◌, ◌≢◌, ℕ, ◌+◌, ◌<◌, ◌≤◌, Bool, true, false, cond, List, [], length, Option, Some, None, Result, Ok, Err, IfSome, IfNone, IfOk, IfErr, IsTrue, slice_index_or, slice_set, refl, sym, ap, ◌∙◌, subst, inl, inr, ◌⊎◌, arith}
+use Rattle.std.proofs.Common.{◌≡◌, ◌≢◌, ℕ, ◌+◌, ◌^◌, ◌<◌, ◌≤◌, nat_eq, eq-eqb, Bool, true, false, cond, List, [], length, replicate, Option, Some, None, Result, Ok, Err, IfSome, IfNone, IfOk, IfErr, IsTrue, slice_index_or, slice_set, refl, sym, ap, ◌∙◌, subst, inl, inr, ◌⊎◌, arith}
 use Rattle.std.specs.Cmp.{IsEquivalence}
 use Rattle.std.specs.Hash.{HashWrites}
 use Rattle.std.specs.Option.{option_map, option_and_then}
 use Rattle.std.specs.declared.hash.BuildHasher as builder
 use Rattle.std.specs.declared.hash.Hasher as hasher
-use Rattle.std.proofs.lemmas.Bool.{cases_eq, cond-true, cond-false}
-use Rattle.std.proofs.lemmas.Option.{MatchOption-at_some, MatchOption-at_none}
-use Rattle.std.proofs.lemmas.List.{length-set, set-get_or, get_or-set_same, get_or-set_other, get_or_read}
+use Rattle.std.proofs.lemmas.Bool.{and_from, cases_eq, cases_lt, cond-true, cond-false}
+use Rattle.std.proofs.lemmas.Option.{none-some, MatchOption-at_some, MatchOption-at_none}
+use Rattle.std.proofs.lemmas.List.{length-replicate, get_or-replicate, get_or_past, length-set, set-get_or, get_or-set_same, get_or-set_other, get_or_read}
 use Rattle.dashmap_table.specs.declared.entry.Entry.{Entry}
 use Rattle.dashmap_table.specs.Route.{IsShardAmount, route_of, hash_of}
 use Rattle.dashmap_table.specs.Slots.{at, count, pair_of, holds, slot_of, entry_of, AreDistinct, entry_with, giving_value, changed}
 use Rattle.dashmap_table.specs.Table.{Table, IsSound, SamePairs, Adds, Frees, with_value}
-use Rattle.dashmap_table.specs.Shards.{Tables, no_pairs, table_at, put_over, IsFull, key_hash, key_shard, pair_at, AreSharded}
+use Rattle.dashmap_table.specs.Shards.{Tables, no_pairs, table_at, put_over, IsFull, key_hash, key_shard, pair_at, AreApart, AreSharded}
 use Rattle.dashmap_table.proofs.Places.{option_cases, at-set_same}
-use Rattle.dashmap_table.proofs.Finding.{slot_of-is, entry_of-none}
-use Rattle.dashmap_table.proofs.Changing.{at-changed, at-changed_other}
+use Rattle.dashmap_table.proofs.Finding.{slot_of-is, holds-own, entry_of-none}
+use Rattle.dashmap_table.proofs.Changing.{at-changed, at-changed_other, count-changed, AreDistinct-changed}
 use Rattle.dashmap_table.proofs.Effects.{choice, Each, finds-absent, finds-freed, finds-valued, finds-added, each-same, each-added, each-changed, each-freed}
 
 module _ {K V S H : Type 0} (b : builder.Ghosts S H) (h : hasher.Ghosts H) (input : K → HashWrites) (eq : K → K → Bool) where
@@ -109,6 +109,61 @@ module _ {K V S H : Type 0} (b : builder.Ghosts S H) (h : hasher.Ghosts H) (inpu
                   ∙ sym (found_before o here q on))
               | inr off ↦ found_other q off
             ] ∙ ap (λ (t : Tables K V S). pair_at b h input eq t q) was)
+
+module _ {K V S H : Type 0} (b : builder.Ghosts S H) (h : hasher.Ghosts H) (input : K → HashWrites) (eq : K → K → Bool) (laws : IsEquivalence eq) where
+  IsSound-value : (t : Table K V) (slot : ℕ) (value : V) → IsSound eq t → IsSound eq (with_value t slot value)
+  IsSound-value t slot value sound =
+      let many = count-changed (giving_value value) t.slots slot in
+      let long = length-set t.slots slot (option_map (giving_value value) (at t.slots slot)) in
+      record {
+        distinct = AreDistinct-changed eq laws (giving_value value) t.slots slot sound.distinct (λ e _. holds-own eq laws e);
+        fits = subst (λ n. n ≤ t.room) (sym many) sound.fits;
+        numbered = subst (λ n. n < 2 ^ 63) (sym long) sound.numbered;
+      }
+
+  -- another value in one slot
+  pub AreSharded-value : (items : List (Table K V)) (s : S) (old : Tables K V S) → record { tables = items; hasher = s } ≡ old → (i : ℕ) → i < length old.tables → AreSharded b h input eq (record { tables = items; hasher = s })
+      → (o : Table K V) → o ≡ slice_index_or items i o → (slot : ℕ) (value : V) → AreSharded b h input eq (record { tables = slice_set items i (with_value o slot value); hasher = s })
+  AreSharded-value items s old was i below sharded o here slot value =
+      let within : i < length items = subst (λ (t : Tables K V S). i < length t.tables) (sym was) below in
+      AreSharded-set b h input eq items s i within (with_value o slot value) sharded (IsSound-value o slot value (sound_at b h input eq items s i within sharded o here))
+      (each-changed eq laws (IsAt b h input eq items s i) (giving_value value) (λ e p. p) o.slots slot (each_at b h input eq items s i within sharded o here))
+
+  -- equal keys have one hash, so they are in one shard, and there in one slot
+  pub AreApart-sharded : ((j k : K) → IsTrue (eq j k) → input j ≡ input k) → (t : Tables K V S) → AreSharded b h input eq t → AreApart eq t.tables
+  AreApart-sharded respects t sharded i j m n d e at_m at_n same =
+      let a = sharded.routed i m d at_m in
+      let c = sharded.routed j n e at_n in
+      let hashes : key_hash b h input t.hasher d.key ≡ key_hash b h input t.hasher e.key = ap (hash_of b h t.hasher) (respects d.key e.key same) in
+      let shards : i ≡ j = sym a.1 ∙ (ap (λ k. route_of k (length t.tables)) hashes ∙ c.1) in
+      let there : at (table_at t.tables i).slots n ≡ Some e = ap (λ k. at (table_at t.tables k).slots n) shards ∙ at_n in
+      let alike = and_from (nat_eq e.hash d.hash) (eq e.key d.key) (eq-eqb e.hash d.hash (c.0 ∙ (sym hashes ∙ sym a.0))) (laws.symm e.key d.key ∙ same) in
+      (shards, (sharded.sound i).distinct m n d e at_m there alike)
+
+module _ {K V S H : Type 0} (b : builder.Ghosts S H) (h : hasher.Ghosts H) (input : K → HashWrites) (eq : K → K → Bool) where
+  no_pairs-sound : IsSound {K = K} {V = V} eq no_pairs
+  no_pairs-sound = record {
+    distinct = λ i j d e at_i at_j has. absurd (none-some d at_i);
+    fits = omega arith;
+    numbered = omega arith;
+  }
+
+  -- shards without pairs
+  pub AreSharded-empty : (n : ℕ) (items : List (Table K V)) (s : S) → IsShardAmount n → items ≡ replicate n no_pairs → AreSharded b h input eq (record { tables = items; hasher = s })
+  AreSharded-empty n items s amount is =
+      record {
+        amount = subst IsShardAmount (sym (ap length is ∙ length-replicate n no_pairs)) amount;
+        sound = λ i. subst (IsSound eq) (sym (each i)) no_pairs-sound;
+        routed = λ i slot e here. absurd (none-some e (sym (ap (λ (t : Table K V). at t.slots slot) (each i)) ∙ here));
+      }
+    where
+      each : (i : ℕ) → table_at items i ≡ no_pairs
+      each i =
+          ap (λ l. table_at l i) is ∙ elim (cases_lt i n) [
+            | inl within ↦ get_or-replicate n i no_pairs no_pairs within
+            | inr past ↦
+                let long = length-replicate n (no_pairs {K = K} {V = V}) in get_or_past (replicate n no_pairs) i no_pairs (omega arith)
+          ]
 
 -- a key's call on its shard: what was read, and what the shard was left as
 module _ {K V S H : Type 0} (b : builder.Ghosts S H) (h : hasher.Ghosts H) (input : K → HashWrites) (eq : K → K → Bool) (laws : IsEquivalence eq) (respects : (j k : K) → IsTrue (eq j k) → input j ≡ input k)

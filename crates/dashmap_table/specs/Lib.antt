@@ -5,3 +5,4 @@ pub mod Table
 pub mod Lending
 pub mod ShardLending
 pub mod Shards
+pub mod ShardsLending

@@ -168,7 +168,7 @@ impl<K: Eq + Hash, V, A: Allocator> PlainTable<K, V, A> {
         lend_pair(&mut self.slots[slot])
     }
 
-    fn lend_at(&mut self, slot: usize) -> &mut V
+    pub(crate) fn lend_value(&mut self, slot: usize) -> &mut V
         requires { IsSome (at self.old.slots slot) }
         ensures* writes_back { sem 𝓛 (lends_plain K.row V.row A.row K.Hash A.Allocator self.entry slot result) }
         ensures value { option_map (λ e. e.value) (at self.old.slots slot) ≡ Some result.now }
@@ -181,7 +181,7 @@ impl<K: Eq + Hash, V, A: Allocator> PlainTable<K, V, A> {
         ensures value { option_copied_mut result ≡ option_map (λ e. e.value) (at self.old.slots slot) }
     {
         if self.is_full(slot) {
-            Some(self.lend_at(slot))
+            Some(self.lend_value(slot))
         } else {
             None
         }

@@ -1,6 +1,6 @@
 //! One shard of the map: a finite map from hash and key to a pair.
 ghost use Rattle.std.specs.Prelude.{◌≡◌, ℕ, ◌+◌, ◌*◌, ◌≤◌, ◌==◌, [], None, Some, IsTrue, IsSome, IfSome, IfNone, MatchOption, IfOk, IfErr, OnOk, OnErr};
-ghost use Rattle.std.specs.Option.{option_map, option_copied_mut};
+ghost use Rattle.std.specs.Option.{option_map, option_copied_mut, is_some};
 ghost use Rattle.std.specs.Borrow.{sem};
 ghost use Rattle.dashmap_table.specs.Slots.{at, count, slot_of, entry_with, pair_of, pairs_of, IsNextFull};
 ghost use Rattle.dashmap_table.specs.Table.{IsSound, Adds, Frees, SamePairs, with_value, with_pair};
@@ -108,6 +108,21 @@ impl<K: Eq + Hash, V, A: Allocator> Shard<K, V, A> {
         ensures pair { option_map pair_of (at self.old.slots slot) ≡ Some (result.0.now, result.1.now) }
     {
         self.table.lend(slot)
+    }
+
+    pub(crate) fn is_full(&self, slot: usize) -> bool
+        ensures { result ≡ is_some (at self.now.slots slot) }
+    {
+        self.table.is_full(slot)
+    }
+
+    /// Lends the value of a full slot for writing.
+    pub(crate) fn lend_value(&mut self, slot: usize) -> &mut V
+        requires { IsSome (at self.old.slots slot) }
+        ensures* writes_back { sem 𝓛 (lends_slot K.row V.row A.row K.Hash A.Allocator self.entry slot result) }
+        ensures value { option_map (λ e. e.value) (at self.old.slots slot) ≡ Some result.now }
+    {
+        self.table.lend_value(slot)
     }
 
     pub fn value_mut(&mut self, slot: usize) -> Option<&mut V>

@@ -1,5 +1,5 @@
 //! A list of shards and a hasher, without locks.
-ghost use Rattle.std.specs.Prelude.{◌≡◌, ℕ, ◌+◌, ◌<◌, ◌≤◌, ◌↔◌, length, replicate, None, Some, slice_set, IsTrue, IfOk, IfErr, OnOk, OnErr, if◌then◌else◌};
+ghost use Rattle.std.specs.Prelude.{◌≡◌, ℕ, ◌+◌, ◌<◌, ◌≤◌, ◌↔◌, IsSome, Err, length, replicate, None, Some, slice_set, IsTrue, IfOk, IfErr, OnOk, OnErr, if◌then◌else◌};
 ghost use Rattle.std.specs.Option.{option_map, option_copied_mut};
 ghost use Rattle.std.specs.Borrow.{sem};
 ghost use Rattle.dashmap_table.specs.Route.{IsShardAmount, route_of, hash_of};
@@ -30,7 +30,42 @@ impl<K: Eq + Hash, V, S: BuildHasher, A: Allocator> Model for Shards<K, V, S, A>
     ghost invariant = { λ s. AreSharded S.BuildHasher S.Hasher.Hasher K.hash_input K.eq (record { tables = s.shards.items; hasher = s.hasher }) };
 }
 
+/// So many shards without pairs.
+fn empty_shards<K: Eq + Hash + Drop, V: Drop, A: Allocator + Clone>(
+    alloc: A,
+    count: usize,
+) -> Result<Vec<Shard<K, V, A>, A>, NoMemory>
+    ensures { IfOk result (λ v. v.items ≡ replicate count no_pairs) }
+{
+    let mut shards = Vec::with_capacity(alloc.clone()?, count)?;
+    for _ in 0..count {
+        shards.push(Shard::new(alloc.clone()?))?;
+    }
+    Ok(shards)
+}
+
 impl<K: Eq + Hash, V, S: BuildHasher, A: Allocator> Shards<K, V, S, A> {
+    ghost use Rattle.dashmap_table.specs.ShardsLending.{lends_at, lends_at_if};
+
+    pub fn new(alloc: A, shards: usize, hasher: S) -> Result<Shards<K, V, S, A>, MapFault>
+    where
+        K: Drop,
+        V: Drop,
+        S: Drop,
+        A: Clone,
+        ensures made { IfOk result (λ made. (made.tables ≡ replicate shards no_pairs) × (made.hasher ≡ hasher)) }
+        ensures bad_shards { (result ≡ Err MapFault.BadShards) ↔ ¬ IsShardAmount shards }
+        ensures no_memory { IsShardAmount shards → IfErr result (λ fault. fault ≡ MapFault.NoMemory) }
+    {
+        if !is_shard_amount(shards) {
+            return Err(MapFault::BadShards);
+        }
+        Ok(Shards {
+            shards: empty_shards(alloc, shards)?,
+            hasher,
+        })
+    }
+
     pub fn count(&self) -> usize
         ensures count { result ≡ length self.now.tables }
         ensures amount { IsShardAmount result }
@@ -54,6 +89,7 @@ impl<K: Eq + Hash, V, S: BuildHasher, A: Allocator> Shards<K, V, S, A> {
         requires { shard < length self.now.tables }
         ensures shard { result.now ≡ table_at self.now.tables shard }
         ensures sharded { AreSharded S.BuildHasher S.Hasher.Hasher K.hash_input K.eq self.now }
+        ensures apart { AreApart K.eq self.now.tables }
     {
         &self.shards[shard]
     }
@@ -111,5 +147,25 @@ impl<K: Eq + Hash, V, S: BuildHasher, A: Allocator> Shards<K, V, S, A> {
         let shard = self.shard_of(hash);
         let slot = self.shards[shard].find(hash, key)?;
         self.shards[shard].remove(slot)
+    }
+
+    fn lend_value(&mut self, shard: usize, slot: usize) -> &mut V
+        requires within { shard < length self.old.tables }
+        requires full { IsSome (at (table_at self.old.tables shard).slots slot) }
+        ensures* writes_back { sem 𝓛 (lends_at K.row V.row S.row A.row S.Hasher.row K.Hash S.BuildHasher S.Hasher.Hasher A.Allocator self.entry shard slot result) }
+        ensures value { option_map (λ e. e.value) (at (table_at self.old.tables shard).slots slot) ≡ Some result.now }
+    {
+        self.shards[shard].lend_value(slot)
+    }
+
+    pub fn value_mut(&mut self, shard: usize, slot: usize) -> Option<&mut V>
+        ensures* writes_back { sem 𝓛 (lends_at_if K.row V.row S.row A.row S.Hasher.row K.Hash S.BuildHasher S.Hasher.Hasher A.Allocator self.entry shard slot result) }
+        ensures value { option_copied_mut result ≡ option_map (λ e. e.value) (at (table_at self.old.tables shard).slots slot) }
+    {
+        if shard < self.shards.len() && self.shards[shard].is_full(slot) {
+            Some(self.lend_value(shard, slot))
+        } else {
+            None
+        }
     }
 }
