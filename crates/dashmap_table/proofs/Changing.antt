@@ -1,5 +1,5 @@
 -- Slots stay distinct when one of them is changed or filled, and the others are found as before.
-use Rattle.std.proofs.Common.{◌≡◌, ◌≢◌, ℕ, ◌+◌, ◌<◌, ◌≤◌, Bool, true, false, nat_eq, List, Option, Some, None, is_some, IsTrue, IfSome, length, eq-eqb, slice_index_or, slice_set, refl, sym, ap, ◌∙◌, subst, inl, inr, ◌⊎◌, arith,}
+use Rattle.std.proofs.Common.{◌≡◌, ◌≢◌, ℕ, ◌+◌, ◌<◌, ◌≤◌, Bool, true, false, nat_eq, List, Option, Some, None, is_some, IsTrue, IfSome, length, eq-eqb, slice_index_or, slice_set, refl, sym, ap, ◌∙◌, subst, inl, inr, ◌⊎◌, arith}
 use Rattle.std.specs.Cmp.{IsEquivalence}
 use Rattle.std.specs.Option.{option_map}
 use Rattle.std.proofs.lemmas.Bool.{and_from, cases_eq, false≢true}
@@ -52,6 +52,7 @@ module _ {K V : Type 0} (eq : K → K → Bool) (laws : IsEquivalence eq) where
             (was.0, ap (at xs) same ∙ was.1, ap (λ x. holds eq was.0.hash was.0.key (Some x)) (sym was.2) ∙ keeps was.0 was.1)
         | inr other ↦ (e, sym (at-changed_other f xs i j other) ∙ here, holds-own eq laws e)
       ]
+
   -- a new entry in a place where none was
   module _ (xs ys : List (Option (Entry K V))) (e : Entry K V) (i : ℕ) (distinct : AreDistinct eq xs) (absent : slot_of eq xs e.hash e.key ≡ None)
       (was : at xs i ≡ None) (placed : at ys i ≡ Some e) (stay : (j : ℕ) → j ≢ i → at ys j ≡ at xs j) where

@@ -14,7 +14,7 @@ use Rattle.dashmap_table.proofs.Changing.{at-changed, at-changed_other, AreDisti
 
 -- a choice by a test
 pub choice : {X : Type 0} (b : Bool) (x y z : X) → (b ≡ true → z ≡ x) → (b ≡ false → z ≡ y) → z ≡ cond b x y
-choice b x y z then else = elim (cases_Bool b) [ | inl t ↦ then t ∙ sym (cond-true b x y t) | inr f ↦ else f ∙ sym (cond-false b x y f) ]
+choice b x y z then else = elim (cases_Bool b) [ inl t ↦ then t ∙ sym (cond-true b x y t) | inr f ↦ else f ∙ sym (cond-false b x y f) ]
 
 -- what holds of the hash and key of every entry of a list of slots
 abbrev pub Each : {K V : Type 0} → (ℕ → K → Type 0) → List (Option (Entry K V)) → Type 0

@@ -30,7 +30,7 @@ module _ {X : Type 0} (xs ys : List (Option X)) (i : ℕ) (read : Option X) (wit
   pub packed-room : (zs : List (Option X)) (x : X) → read ≡ Some x → zs ≡ filter is_some (take i xs) → length zs + 1 ≤ count_by is_some xs
   packed-room zs x full moved =
       let so_far : count_by is_some (take i xs) + cond {A = ℕ} (is_some (slice_index_or xs i None)) 1 0 ≤ count_by is_some xs =
-          sum_by_more_le (λ o. cond (is_some o) 1 0) xs i None within in
+      sum_by_more_le (λ o. cond (is_some o) 1 0) xs i None within in
       let one : cond {A = ℕ} (is_some (slice_index_or xs i None)) 1 0 ≡ 1 = ap (λ (o : Option X). cond {A = ℕ} (is_some o) 1 0) (sym is_read ∙ full) in
       let many : length zs ≡ count_by is_some (take i xs) = ap length moved ∙ length-filter is_some (take i xs) in
       omega arith

@@ -64,7 +64,7 @@ module _ {X : Type 0} where
   pub count-set : (xs : List (Option X)) (i : ℕ) (x : X) → i < length xs → slice_index_or xs i None ≡ None → count_by is_some (slice_set xs i (Some x)) ≡ count_by is_some xs + 1
   count-set xs i x within none =
       let both : count_by is_some (slice_set xs i (Some x)) + cond (is_some (slice_index_or xs i None)) 1 0 ≡ count_by is_some xs + 1 =
-          sum_by-set (λ o. cond (is_some o) 1 0) xs i (Some x) None within in
+      sum_by-set (λ o. cond (is_some o) 1 0) xs i (Some x) None within in
       let free : cond {A = ℕ} (is_some (slice_index_or xs i None)) 1 0 ≡ 0 = ap (λ (o : Option X). cond {A = ℕ} (is_some o) 1 0) none in
       omega arith
 
@@ -75,7 +75,7 @@ module _ {X : Type 0} where
   count-set_like xs i o like = elim (cases_lt i (length xs)) [
     | inl within ↦
         let both : count_by is_some (slice_set xs i o) + cond (is_some (slice_index_or xs i None)) 1 0 ≡ count_by is_some xs + cond (is_some o) 1 0 =
-            sum_by-set (λ y. cond (is_some y) 1 0) xs i o None within in
+        sum_by-set (λ y. cond (is_some y) 1 0) xs i o None within in
         let same : cond {A = ℕ} (is_some o) 1 0 ≡ cond {A = ℕ} (is_some (slice_index_or xs i None)) 1 0 = ap (λ b. cond {A = ℕ} b 1 0) like in
         omega arith
     | inr over ↦ ap (count_by is_some) (set_past xs i o over)

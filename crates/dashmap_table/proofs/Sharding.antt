@@ -291,7 +291,7 @@ module _ {K V S H : Type 0} (b : builder.Ghosts S H) (h : hasher.Ghosts H) (inpu
         ∙ (ap (λ (t : Tables K V S). table_at t.tables i) (sym was) ∙ read_at b h input eq items s i within o here) in (
           is.0,
           ap (λ l. record { tables = l; hasher = s }) same ∙ was,
-          elim (option_cases (slot_of eq o.slots hash key)) [ | inl none ↦ absent-before none | inr some ↦ absurd (apart (sym err ∙ (present_at some.0 some.1).0)) ],
+          elim (option_cases (slot_of eq o.slots hash key)) [ inl none ↦ absent-before none | inr some ↦ absurd (apart (sym err ∙ (present_at some.0 some.1).0)) ],
           subst IsFull (sym at_key) is.2,
         )
       where

@@ -125,9 +125,9 @@ impl<K: Eq + Hash, V, A: Allocator> PlainTable<K, V, A> {
         ensures slot { result ≡ slot_of K.eq self.now.slots hash key.now }
         ensures sound { IsSound K.eq self.now }
     {
-        self.slots
-            .iter()
-            .position(|slot| matches!(slot, Some(entry) if entry.hash == hash && entry.key == *key))
+        self.slots.iter().position(
+            |slot| matches!(slot, Some(entry) if entry.hash == hash && entry.key == *key),
+        )
     }
 
     pub(crate) fn len(&self) -> usize

@@ -46,12 +46,7 @@ impl<K: Eq + Hash, V, A: Allocator> Shard<K, V, A> {
         self.table.find(hash, key)
     }
 
-    pub fn insert(
-        &mut self,
-        hash: u64,
-        key: K,
-        value: V,
-    ) -> Result<(usize, Option<V>), (K, V)>
+    pub fn insert(&mut self, hash: u64, key: K, value: V) -> Result<(usize, Option<V>), (K, V)>
     where
         K: Drop,
         V: Drop,
