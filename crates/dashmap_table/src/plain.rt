@@ -17,6 +17,7 @@ use std::hash::Hash;
 use std::marker::Model;
 use std::mem;
 
+/// A list of free and full slots, seen as its slots and the room that it has.
 #[derive(Drop)]
 pub(crate) struct PlainTable<K: Eq + Hash, V, A: Allocator> {
     slots: Vec<Option<Entry<K, V>>, A>,
@@ -123,6 +124,7 @@ impl<K: Eq + Hash, V, A: Allocator> PlainTable<K, V, A> {
 
     pub(crate) fn find(&self, hash: u64, key: &K) -> Option<usize>
         ensures slot { result ≡ slot_of K.eq self.now.slots hash key.now }
+        ensures equal { IfSome result (λ i. IfSome (at self.now.slots i) (λ e. (e.hash ≡ hash) × IsTrue (K.eq e.key key.now))) }
         ensures sound { IsSound K.eq self.now }
     {
         self.slots.iter().position(

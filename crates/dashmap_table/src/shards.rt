@@ -14,6 +14,18 @@ use std::alloc::{Allocator, Global};
 use std::hash::{BuildHasher, Hash};
 use std::marker::Model;
 
+/// The whole map for one owner: shards and a hasher, without locks. It routes and answers as the running map does, so it
+/// says what that one has to answer.
+///
+/// A contract sees the shards' tables and the hasher (`Tables`), and a key's pair by `pair_at`.
+///
+/// ```rust
+/// let mut map = Shards::new(alloc, 4, hasher)?;
+/// map.insert("seven", 7u64)?;                          // no old value
+/// let (shard, slot) = map.find(&"seven").ok_or("gone")?;
+/// let key = map.shard(shard).pair(slot);               // the pair, lent
+/// let pair = map.remove(&"seven");                     // the pair
+/// ```
 #[derive(Drop)]
 pub struct Shards<K: Eq + Hash, V, S: BuildHasher, A: Allocator = Global> {
     shards: Vec<Shard<K, V, A>, A>,
@@ -47,6 +59,7 @@ fn empty_shards<K: Eq + Hash + Drop, V: Drop, A: Allocator + Clone>(
 impl<K: Eq + Hash, V, S: BuildHasher, A: Allocator> Shards<K, V, S, A> {
     ghost use Rattle.dashmap_table.specs.ShardsLending.{lends_at, lends_at_if};
 
+    /// So many shards without pairs and without room. What was handed in is let go where they aren't made.
     pub fn new(alloc: A, shards: usize, hasher: S) -> Result<Shards<K, V, S, A>, MapFault>
     where
         K: Drop,
@@ -66,6 +79,7 @@ impl<K: Eq + Hash, V, S: BuildHasher, A: Allocator> Shards<K, V, S, A> {
         })
     }
 
+    /// How many shards there are.
     pub fn count(&self) -> usize
         ensures count { result ≡ length self.now.tables }
         ensures amount { IsShardAmount result }
@@ -73,18 +87,21 @@ impl<K: Eq + Hash, V, S: BuildHasher, A: Allocator> Shards<K, V, S, A> {
         self.shards.len()
     }
 
+    /// Lends the hasher.
     pub fn hasher(&self) -> &S
         ensures { result.now ≡ self.now.hasher }
     {
         &self.hasher
     }
 
+    /// The hasher's hash of a key.
     pub fn hash(&self, key: &K) -> u64
         ensures { result ≡ key_hash S.BuildHasher S.Hasher.Hasher K.hash_input self.now.hasher key.now }
     {
         self.hasher.hash_one(key)
     }
 
+    /// Lends a shard. Each pair is in the shard of its key's route, under its key's hash, so no two shards have equal keys.
     pub fn shard(&self, shard: usize) -> &Shard<K, V, A>
         requires { shard < length self.now.tables }
         ensures shard { result.now ≡ table_at self.now.tables shard }
@@ -102,6 +119,7 @@ impl<K: Eq + Hash, V, S: BuildHasher, A: Allocator> Shards<K, V, S, A> {
         route(hash, self.shards.len())
     }
 
+    /// The shard and the slot of a key.
     pub fn find(&self, key: &K) -> Option<(usize, usize)>
         ensures place { result ≡ place_of S.BuildHasher S.Hasher.Hasher K.hash_input K.eq self.now key.now }
     {
@@ -113,6 +131,7 @@ impl<K: Eq + Hash, V, S: BuildHasher, A: Allocator> Shards<K, V, S, A> {
         }
     }
 
+    /// Makes room for one more pair in a shard: the next insertion of a key of that shard isn't refused.
     pub fn reserve(&mut self, shard: usize) -> Result<(), NoMemory>
         requires { shard < length self.old.tables }
         ensures ok { OnOk result (count (table_at self.new.tables shard).slots + 1 ≤ (table_at self.new.tables shard).room) }
@@ -123,6 +142,8 @@ impl<K: Eq + Hash, V, S: BuildHasher, A: Allocator> Shards<K, V, S, A> {
         self.shards[shard].reserve(1)
     }
 
+    /// Puts a pair in and answers the value that its key had. A present key keeps the stored key, gets the value and is never
+    /// refused; a new key is refused only where its shard has no room and can't grow, and then the pair comes back.
     pub fn insert(&mut self, key: K, value: V) -> Result<Option<V>, (K, V)>
     where
         K: Drop,
@@ -138,6 +159,7 @@ impl<K: Eq + Hash, V, S: BuildHasher, A: Allocator> Shards<K, V, S, A> {
         Ok(old)
     }
 
+    /// Takes the pair of a key out.
     pub fn remove(&mut self, key: &K) -> Option<(K, V)>
         ensures pair { result ≡ pair_at S.BuildHasher S.Hasher.Hasher K.hash_input K.eq self.old key.now }
         ensures after { (q : K) → pair_at S.BuildHasher S.Hasher.Hasher K.hash_input K.eq self.new q ≡ (if K.eq key.now q then None else pair_at S.BuildHasher S.Hasher.Hasher K.hash_input K.eq self.old q) }
@@ -158,6 +180,8 @@ impl<K: Eq + Hash, V, S: BuildHasher, A: Allocator> Shards<K, V, S, A> {
         self.shards[shard].lend_value(slot)
     }
 
+    /// Lends the value of a full slot of a shard for writing; `None` where the slot is free or there is no such shard.
+    /// Afterwards the slot has the value that was written, and nothing else has changed.
     pub fn value_mut(&mut self, shard: usize, slot: usize) -> Option<&mut V>
         ensures* writes_back { sem 𝓛 (lends_at_if K.row V.row S.row A.row S.Hasher.row K.Hash S.BuildHasher S.Hasher.Hasher A.Allocator self.entry shard slot result) }
         ensures value { option_copied_mut result ≡ option_map (λ e. e.value) (at (table_at self.old.tables shard).slots slot) }

@@ -87,10 +87,9 @@ fn a_stored_key_stays_until_it_is_replaced(rt: HostRuntime) -> Result<(), Fail> 
 fn replacing_gives_the_old_pair(rt: HostRuntime) -> Result<(), Fail> {
     let mut shard = Shard::new(rt.alloc());
     shard.insert(5, spelled(b"Key"), 2u64)?;
-    let slot = shard.find(5, &spelled(b"KEY")).ok_or("no pair")?;
-    let (key, value) = shard
-        .replace(slot, spelled(b"KEY"), 3)
-        .ok_or("no old pair")?;
+    let upper = spelled(b"KEY");
+    let slot = shard.find(5, &upper).ok_or("no pair")?;
+    let (key, value) = shard.replace(slot, upper, 3).ok_or("no old pair")?;
     assert!(rt; key.shown == *b"Key" && value == 2);
     let (key, value) = shard.pair(slot).ok_or("no new pair")?;
     assert!(rt; key.shown == *b"KEY" && *value == 3);
@@ -108,7 +107,7 @@ fn a_walk_may_remove_as_it_goes(rt: HostRuntime) -> Result<(), Fail> {
     for _ in 0..8 {
         let slot = shard.next_from(from).ok_or("a pair is left out")?;
         let (key, ()) = shard.remove(slot).ok_or("a free slot")?;
-        seen += 1u64 << (key % 8);
+        seen |= 1u64 << (key % 8);
         from = slot + 1;
     }
     assert!(rt; seen == 255 && shard.next_from(0).is_none() && shard.is_empty());
