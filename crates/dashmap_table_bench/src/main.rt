@@ -5,9 +5,9 @@
 //! difference of two counts, divided by the number of keys.
 #![tactic(auto)]
 
-mod work;
 #[cfg(test)]
 mod tests;
+mod work;
 
 use std::env;
 use std::process::ExitCode;
@@ -31,7 +31,10 @@ fn main(rt: HostRuntime) -> ExitCode {
         return ExitCode::FAILURE;
     };
     match run(rt.alloc(), call, keys, shards) {
-        Ok(sums) => match println!(rt; "filled {} hit {} miss {} inserted {} removed {}", sums.filled, sums.hit, sums.missed, sums.inserted, sums.removed) {
+        Ok(sums) => match println!(rt;
+            "filled {} hit {} miss {} inserted {} removed {}",
+            sums.filled, sums.hit, sums.missed, sums.inserted, sums.removed
+        ) {
             Ok(()) => ExitCode::SUCCESS,
             Err(_) => ExitCode::FAILURE,
         },

@@ -108,11 +108,17 @@ fn an_empty_shard_shrinks_without_memory(rt: HostRuntime) -> Result<(), Fail> {
 #[test]
 fn shards_are_refused_for_their_amount_first(rt: HostRuntime) -> Result<(), Fail> {
     let heap = LocalHeap::new(rt.alloc(), 0)?;
-    let made: Result<Shards<u64, u64, Fold, &LocalHeap>, MapFault> =
-        Shards::new(&heap, 3, Fold::new());
+    let made: Result<Shards<u64, u64, Fold, &LocalHeap>, MapFault> = Shards::new(
+        &heap,
+        3,
+        Fold::new(),
+    );
     assert!(rt; matches!(made, Err(MapFault::BadShards)));
-    let made: Result<Shards<u64, u64, Fold, &LocalHeap>, MapFault> =
-        Shards::new(&heap, 4, Fold::new());
+    let made: Result<Shards<u64, u64, Fold, &LocalHeap>, MapFault> = Shards::new(
+        &heap,
+        4,
+        Fold::new(),
+    );
     assert!(rt; matches!(made, Err(MapFault::NoMemory)));
     Ok(())
 }

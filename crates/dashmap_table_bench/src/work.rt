@@ -35,6 +35,7 @@ impl Call {
 }
 
 /// How many calls had each answer.
+#[derive(Drop)]
 pub struct Sums {
     pub filled: u64,
     pub hit: u64,
@@ -44,7 +45,7 @@ pub struct Sums {
 }
 
 /// The run can't be made: no such amount of shards, or no memory.
-#[derive(Debug)]
+#[derive(Debug, Drop)]
 pub struct Fault;
 
 type Map<A> = Shards<u64, u64, BuildHasherDefault<FoldHasher>, A>;
