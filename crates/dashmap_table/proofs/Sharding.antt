@@ -1,5 +1,5 @@
 -- Plain shards after a call of one of them: still routed, and with the pairs that the call's table tells.
-use Rattle.std.proofs.Common.{◌≡◌, ◌≢◌, ℕ, ◌+◌, ◌^◌, ◌<◌, ◌≤◌, nat_eq, eq-eqb, Bool, true, false, cond, List, [], length, replicate, Option, Some, None, Result, Ok, Err, IfSome, IfNone, IfOk, IfErr, IsTrue, slice_index_or, slice_set, refl, sym, ap, ◌∙◌, subst, inl, inr, ◌⊎◌, arith}
+use Rattle.std.proofs.Common.{◌≡◌, ◌≢◌, ℕ, ◌+◌, ◌^◌, ◌<◌, ◌≤◌, nat_eq, eq-eqb, Bool, true, false, cond, List, [], length, replicate, Option, Some, None, Result, Ok, Err, MatchOption, IfSome, IfNone, IfOk, IfErr, IsTrue, slice_index_or, slice_set, refl, sym, ap, ◌∙◌, subst, inl, inr, ◌⊎◌, arith}
 use Rattle.std.specs.Cmp.{IsEquivalence}
 use Rattle.std.specs.Hash.{HashWrites}
 use Rattle.std.specs.Option.{option_map, option_and_then}
@@ -11,7 +11,7 @@ use Rattle.std.proofs.lemmas.List.{length-replicate, get_or-replicate, get_or_pa
 use Rattle.dashmap_table.specs.declared.entry.Entry.{Entry}
 use Rattle.dashmap_table.specs.Route.{IsShardAmount, route_of, hash_of}
 use Rattle.dashmap_table.specs.Slots.{at, count, pair_of, holds, slot_of, entry_of, AreDistinct, entry_with, giving_value, changed}
-use Rattle.dashmap_table.specs.Table.{Table, IsSound, SamePairs, Adds, Frees, with_value}
+use Rattle.dashmap_table.specs.Table.{Table, IsSound, SamePairs, Adds, Frees, TakesOut, PutsIn, with_value}
 use Rattle.dashmap_table.specs.Shards.{Tables, no_pairs, table_at, put_over, IsFull, key_hash, key_shard, pair_at, AreApart, AreSharded}
 use Rattle.dashmap_table.proofs.Places.{option_cases, at-set_same}
 use Rattle.dashmap_table.proofs.Finding.{slot_of-is, holds-own, entry_of-none}
@@ -36,7 +36,7 @@ module _ {K V S H : Type 0} (b : builder.Ghosts S H) (h : hasher.Ghosts H) (inpu
     sound_at sharded o here = subst (IsSound eq) (read_at o here) (sharded.sound i)
 
     module _ (u : Table K V) where
-      at_same : table_at (slice_set items i u) i ≡ u
+      pub at_same : table_at (slice_set items i u) i ≡ u
       at_same = get_or-set_same items i u no_pairs within
 
       at_other : (j : ℕ) → j ≢ i → table_at (slice_set items i u) j ≡ table_at items j
@@ -194,6 +194,30 @@ module _ {K V S H : Type 0} (b : builder.Ghosts S H) (h : hasher.Ghosts H) (inpu
   pub absent-before : slot_of eq o.slots hash key ≡ None → pair_at b h input eq old key ≡ None
   absent-before none = before ∙ ap (λ e. option_map pair_of e) (entry_of-none eq o.slots hash key none)
 
+  shard_is : i ≡ key_shard b h input old key
+  shard_is = place ∙ ap (λ n. route_of n (length old.tables)) hashed
+
+  -- what is known of the shard that was read and left is known of the key's shard
+  of_key : (Q : Table K V → Table K V → ℕ → Type 0) → Q o u hash → Q (table_at old.tables (key_shard b h input old key)) (table_at (slice_set items i u) (key_shard b h input old key)) (key_hash b h input old.hasher key)
+  of_key Q known =
+      let was_o : o ≡ table_at old.tables i = sym (ap (λ (t : Tables K V S). table_at t.tables i) (sym was) ∙ read_at b h input eq items s i within o here) in
+      let is_u : u ≡ table_at (slice_set items i u) i = sym (at_same b h input eq items s i within u) in
+      subst (λ j. Q (table_at old.tables j) (table_at (slice_set items i u) j) (key_hash b h input old.hasher key)) shard_is
+      (subst (λ (x : Table K V). Q x (table_at (slice_set items i u) i) (key_hash b h input old.hasher key)) was_o
+      (subst (λ (x : Table K V). Q o x (key_hash b h input old.hasher key)) is_u (subst (λ n. Q o u n) hashed known)))
+
+  pub remove-table : (slot : ℕ) → slot_of eq o.slots hash key ≡ Some slot → Frees o u slot → TakesOut eq (table_at old.tables (key_shard b h input old key)) (table_at (slice_set items i u) (key_shard b h input old key)) (key_hash b h input old.hasher key) key
+  remove-table slot found frees =
+      of_key (λ x y n. TakesOut eq x y n key) (subst (λ z. MatchOption z (u ≡ o) (λ n. Frees o u n)) (sym found) frees)
+
+  -- nothing was taken, and nothing was written
+  pub remove-no_table : slot_of eq o.slots hash key ≡ None → TakesOut eq (table_at old.tables (key_shard b h input old key)) (table_at old.tables (key_shard b h input old key)) (key_hash b h input old.hasher key) key
+  remove-no_table none =
+      let was_o : o ≡ table_at old.tables i = sym (ap (λ (t : Tables K V S). table_at t.tables i) (sym was) ∙ read_at b h input eq items s i within o here) in
+      let known : TakesOut eq o o hash key = subst (λ z. MatchOption z (o ≡ o) (λ n. Frees o o n)) (sym none) refl in
+      subst (λ j. TakesOut eq (table_at old.tables j) (table_at old.tables j) (key_hash b h input old.hasher key) key) shard_is
+      (subst (λ (x : Table K V). TakesOut eq x x (key_hash b h input old.hasher key) key) was_o (subst (λ n. TakesOut eq o o n key) hashed known))
+
   -- the key isn't there, and the shards stay
   pub remove-none : slot_of eq o.slots hash key ≡ None → (q : K) → pair_at b h input eq old q ≡ cond (eq key q) None (pair_at b h input eq old q)
   remove-none none q =
@@ -266,6 +290,14 @@ module _ {K V S H : Type 0} (b : builder.Ghosts S H) (h : hasher.Ghosts H) (inpu
           ∙ ap (λ p. cond (eq key q) (Some (put_over p key value)) (pair_at b h input eq old q)) (sym (absent-before none))
       | inr some ↦ value-after some.0 some.1 value sound (present_at some.0 some.1).1 q
     ]
+
+    pub insert-table : (x : ℕ × Option V) → r ≡ Ok x → PutsIn eq (table_at old.tables (key_shard b h input old key)) (table_at (slice_set items i u) (key_shard b h input old key)) (key_hash b h input old.hasher key) key value
+    insert-table x ok = of_key (λ y z n. PutsIn eq y z n key value) (elim (option_cases (slot_of eq o.slots hash key)) [
+      | inl none ↦
+          subst (λ z. MatchOption z ((n : ℕ) × Adds eq o u (entry_with hash key value) n) (λ n. u ≡ with_value o n value)) (sym none) (x.0, (added_at x ok none).1)
+      | inr some ↦
+          subst (λ z. MatchOption z ((n : ℕ) × Adds eq o u (entry_with hash key value) n) (λ n. u ≡ with_value o n value)) (sym some.1) (present_at some.0 some.1).1
+    ])
 
     pub insert-sharded : AreSharded b h input eq (record { tables = slice_set items i u; hasher = s })
     insert-sharded = AreSharded-set b h input eq items s i within u sharded sound (by_result r refl)

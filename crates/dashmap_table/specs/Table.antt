@@ -1,7 +1,7 @@
 -- A table as contracts see it, and what its calls do to it.
-use Rattle.std.specs.Prelude.{◌≡◌, ◌≢◌, ℕ, ◌+◌, ◌^◌, ◌<◌, ◌≤◌, Bool, false, List, length, Option, Some, None, slice_set}
+use Rattle.std.specs.Prelude.{◌≡◌, ◌≢◌, ℕ, ◌+◌, ◌^◌, ◌<◌, ◌≤◌, Bool, false, List, length, Option, Some, None, MatchOption, slice_set}
 use Rattle.dashmap_table.specs.declared.entry.Entry.{Entry}
-use Rattle.dashmap_table.specs.Slots.{at, count, holds, slot_of, entry_of, AreDistinct, giving_value, giving_pair, changed}
+use Rattle.dashmap_table.specs.Slots.{at, count, holds, slot_of, entry_of, AreDistinct, entry_with, giving_value, giving_pair, changed}
 
 pub record Table (K V : Type 0) : Type 0 where
   -- what stands in each slot, from slot 0 on
@@ -45,3 +45,11 @@ module _ {K V : Type 0} where
   pub record SamePairs (eq : K → K → Bool) (old new : Table K V) : Type 0 where
     pub found : (hash : ℕ) (key : K) → entry_of eq new.slots hash key ≡ entry_of eq old.slots hash key
     pub counted : count new.slots ≡ count old.slots
+
+  -- a key's pair is taken out of its slot; nothing happens where there is none
+  abbrev pub TakesOut : (K → K → Bool) → Table K V → Table K V → ℕ → K → Type 0
+  TakesOut eq old new hash key = MatchOption (slot_of eq old.slots hash key) (new ≡ old) (λ i. Frees old new i)
+
+  -- a key that is there gets a value, a new one a slot
+  abbrev pub PutsIn : (K → K → Bool) → Table K V → Table K V → ℕ → K → V → Type 0
+  PutsIn eq old new hash key value = MatchOption (slot_of eq old.slots hash key) ((i : ℕ) × Adds eq old new (entry_with hash key value) i) (λ i. new ≡ with_value old i value)

@@ -4,7 +4,7 @@ ghost use Rattle.std.specs.Option.{option_map, option_copied_mut};
 ghost use Rattle.std.specs.Borrow.{sem};
 ghost use Rattle.dashmap_table.specs.Route.{IsShardAmount, route_of, hash_of};
 ghost use Rattle.dashmap_table.specs.Slots.{at, count, pair_of};
-ghost use Rattle.dashmap_table.specs.Table.{SamePairs};
+ghost use Rattle.dashmap_table.specs.Table.{TakesOut, PutsIn};
 ghost use Rattle.dashmap_table.specs.Shards.{AreApart, AreSharded, no_pairs, table_at, put_over, IsFull, OnlyChanges, key_hash, key_shard, place_of, pair_at};
 
 use crate::fault::{MapFault, NoMemory};
@@ -151,6 +151,7 @@ impl<K: Eq + Hash, V, S: BuildHasher, A: Allocator> Shards<K, V, S, A> {
         ensures old { IfOk result (λ old. old ≡ option_map (λ p. p.1) (pair_at S.BuildHasher S.Hasher.Hasher K.hash_input K.eq self.old key)) }
         ensures after { OnOk result ((q : K) → pair_at S.BuildHasher S.Hasher.Hasher K.hash_input K.eq self.new q ≡ (if K.eq key q then Some (put_over (pair_at S.BuildHasher S.Hasher.Hasher K.hash_input K.eq self.old key) key value) else pair_at S.BuildHasher S.Hasher.Hasher K.hash_input K.eq self.old q)) }
         ensures others { OnlyChanges self.old self.new (key_shard S.BuildHasher S.Hasher.Hasher K.hash_input self.old key) }
+        ensures table { OnOk result (let shard = key_shard S.BuildHasher S.Hasher.Hasher K.hash_input self.old key in PutsIn K.eq (table_at self.old.tables shard) (table_at self.new.tables shard) (key_hash S.BuildHasher S.Hasher.Hasher K.hash_input self.old.hasher key) key value) }
         ensures refused { IfErr result (λ back. (back ≡ (key, value)) × (self.new ≡ self.old) × (pair_at S.BuildHasher S.Hasher.Hasher K.hash_input K.eq self.old key ≡ None) × IsFull (table_at self.old.tables (key_shard S.BuildHasher S.Hasher.Hasher K.hash_input self.old key))) }
     {
         let hash = self.hash(&key);
@@ -164,6 +165,7 @@ impl<K: Eq + Hash, V, S: BuildHasher, A: Allocator> Shards<K, V, S, A> {
         ensures pair { result ≡ pair_at S.BuildHasher S.Hasher.Hasher K.hash_input K.eq self.old key.now }
         ensures after { (q : K) → pair_at S.BuildHasher S.Hasher.Hasher K.hash_input K.eq self.new q ≡ (if K.eq key.now q then None else pair_at S.BuildHasher S.Hasher.Hasher K.hash_input K.eq self.old q) }
         ensures others { OnlyChanges self.old self.new (key_shard S.BuildHasher S.Hasher.Hasher K.hash_input self.old key.now) }
+        ensures table { let shard = key_shard S.BuildHasher S.Hasher.Hasher K.hash_input self.old key.now in TakesOut K.eq (table_at self.old.tables shard) (table_at self.new.tables shard) (key_hash S.BuildHasher S.Hasher.Hasher K.hash_input self.old.hasher key.now) key.now }
     {
         let hash = self.hash(key);
         let shard = self.shard_of(hash);
