@@ -1,0 +1,4 @@
+mod routes;
+mod shard;
+mod shards;
+mod words;

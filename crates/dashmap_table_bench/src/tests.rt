@@ -1,0 +1,151 @@
+//! Each growth of a table refused in turn, by heaps of all small sizes.
+use crate::work::{Call, run};
+use dashmap_table::{MapFault, NoMemory, Shard, Shards};
+use linked_list_allocator::LocalHeap;
+use std::hash::{BuildHasherDefault, FoldHasher};
+use std::test::Fail;
+
+type Fold = BuildHasherDefault<FoldHasher>;
+
+/// A shard in that heap with as many pairs as it takes, up to a number, and how many it took.
+fn packed(heap: &LocalHeap, most: u64) -> (Shard<u64, u64, &LocalHeap>, u64) {
+    let mut shard = Shard::new(heap);
+    for key in 0..most {
+        if shard.insert(key, key, key).is_err() {
+            return (shard, key);
+        }
+    }
+    (shard, most)
+}
+
+#[test]
+fn a_refused_insertion_hands_the_pair_back(rt: HostRuntime) -> Result<(), Fail> {
+    let mut taken = 0;
+    for size in 0..40 {
+        let heap = LocalHeap::new(rt.alloc(), size * 64)?;
+        let (mut shard, count) = packed(&heap, 10);
+        taken = taken.max(count);
+        if count < 10 {
+            let capacity = shard.capacity();
+            assert_eq!(rt; shard.insert(count, count, 7), Err((count, 7)));
+            assert!(rt; shard.capacity() == capacity && shard.find(count, &count).is_none());
+        }
+        assert_eq!(rt; shard.len() as u64, count);
+    }
+    assert_eq!(rt; taken, 10);
+    Ok(())
+}
+
+#[test]
+fn a_present_key_needs_no_memory(rt: HostRuntime) -> Result<(), Fail> {
+    let mut refused = 0;
+    for size in 0..40 {
+        let heap = LocalHeap::new(rt.alloc(), size * 64)?;
+        let (mut shard, count) = packed(&heap, 10);
+        for key in 0..count {
+            let (_, old) = shard.insert(key, key, 100)?;
+            assert_eq!(rt; old, Some(key));
+        }
+        if count < 10 {
+            refused += 1u8 % 2;
+        }
+    }
+    assert!(rt; refused > 0);
+    Ok(())
+}
+
+#[test]
+fn refused_room_changes_nothing(rt: HostRuntime) -> Result<(), Fail> {
+    let mut refused = false;
+    let mut done = false;
+    for size in 4..40 {
+        let heap = LocalHeap::new(rt.alloc(), size * 64)?;
+        let (mut shard, count) = packed(&heap, 2);
+        let capacity = shard.capacity();
+        match shard.reserve(20) {
+            Ok(()) => done = true,
+            Err(NoMemory) => {
+                refused = true;
+                assert!(rt; shard.capacity() == capacity && shard.len() as u64 == count);
+            }
+        }
+        assert!(rt; count < 1 || shard.find(0, &0).is_some());
+    }
+    assert!(rt; refused && done);
+    Ok(())
+}
+
+#[test]
+fn a_refused_shrink_changes_nothing(rt: HostRuntime) -> Result<(), Fail> {
+    let mut refused = false;
+    let mut done = false;
+    for size in 2..40 {
+        let heap = LocalHeap::new(rt.alloc(), size * 64)?;
+        let (mut shard, count) = packed(&heap, 12);
+        let capacity = shard.capacity();
+        match shard.shrink() {
+            Ok(()) => done = true,
+            Err(NoMemory) => {
+                refused = true;
+                assert_eq!(rt; shard.capacity(), capacity);
+            }
+        }
+        assert!(rt; shard.len() as u64 == count);
+    }
+    assert!(rt; refused && done);
+    Ok(())
+}
+
+#[test]
+fn an_empty_shard_shrinks_without_memory(rt: HostRuntime) -> Result<(), Fail> {
+    let heap = LocalHeap::new(rt.alloc(), 0)?;
+    let mut shard: Shard<u64, u64, &LocalHeap> = Shard::new(&heap);
+    shard.shrink()?;
+    assert_eq!(rt; shard.capacity(), 0);
+    Ok(())
+}
+
+#[test]
+fn shards_are_refused_for_their_amount_first(rt: HostRuntime) -> Result<(), Fail> {
+    let heap = LocalHeap::new(rt.alloc(), 0)?;
+    let made: Result<Shards<u64, u64, Fold, &LocalHeap>, MapFault> = Shards::new(
+        &heap,
+        3,
+        Fold::new(),
+    );
+    assert!(rt; matches!(made, Err(MapFault::BadShards)));
+    let made: Result<Shards<u64, u64, Fold, &LocalHeap>, MapFault> = Shards::new(
+        &heap,
+        4,
+        Fold::new(),
+    );
+    assert!(rt; matches!(made, Err(MapFault::NoMemory)));
+    Ok(())
+}
+
+#[test]
+fn plain_shards_hand_the_pair_back(rt: HostRuntime) -> Result<(), Fail> {
+    let mut refused = false;
+    for size in 8..40 {
+        let heap = LocalHeap::new(rt.alloc(), size * 32)?;
+        let Ok(mut map) = Shards::new(&heap, 2, Fold::new()) else {
+            continue;
+        };
+        for key in 0u64..12 {
+            if let Err(back) = map.insert(key, 5u64) {
+                refused = true;
+                assert!(rt; back == (key, 5) && map.find(&key).is_none());
+            }
+        }
+    }
+    assert!(rt; refused);
+    Ok(())
+}
+
+#[test]
+fn the_small_run_finds_what_it_put_in(rt: HostRuntime) -> Result<(), Fail> {
+    let sums = run(rt.alloc(), Call::All, 100, 2)?;
+    assert!(rt; sums.filled == 100 && sums.hit == 100 && sums.missed == 100);
+    assert!(rt; sums.inserted == 100 && sums.removed == 100);
+    Ok(())
+}
