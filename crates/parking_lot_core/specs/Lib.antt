@@ -1,0 +1,4 @@
+pub mod Faults
+pub mod Lists
+pub mod Results
+pub mod Places
