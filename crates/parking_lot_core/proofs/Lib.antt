@@ -1,1 +1,6 @@
 pub mod Kept
+pub mod Numbers
+pub mod Sounds
+pub mod Rooms
+pub mod Closing
+pub mod Registering

@@ -2,3 +2,5 @@ pub mod Faults
 pub mod Lists
 pub mod Results
 pub mod Places
+pub mod Machine
+pub mod Sound

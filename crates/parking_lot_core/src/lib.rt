@@ -3,10 +3,13 @@
 
 mod fault;
 mod lists;
+mod lot;
 mod parking;
 mod place;
+mod places;
 
 pub use fault::{LotFault, SizeFault};
+pub use lot::Lot;
 pub use place::{Place, Sleep, Taking, ThreadStatus};
 pub use parking::{
     DEFAULT_PARK_TOKEN, DEFAULT_UNPARK_TOKEN, FilterOp, ParkResult, ParkToken, RequeueOp, UnparkResult,

@@ -1,6 +1,6 @@
 //! Where the threads of a lot stand, and what an open section has done.
 ghost use Rattle.std.specs.Prelude.{◌≡◌};
-ghost use Rattle.parking_lot_core.specs.Places.{sleeps_timed, status_of, may_check, may_join, may_take, may_store, passed_of};
+ghost use Rattle.parking_lot_core.specs.Places.{sleeps_timed, is_due, roused, late, status_of, may_check, may_join, may_take, may_store, passed_of};
 
 use crate::lists::Numbered;
 use crate::parking::{ParkToken, UnparkToken};
@@ -123,6 +123,40 @@ impl Place {
                 sleep.timed && !sleep.late
             }
             _ => false,
+        }
+    }
+
+    /// Whether the thread was taken out of the sleep with that mark, and isn't woken.
+    pub(crate) fn is_due(self, mark: u64) -> bool
+        ensures { result ≡ is_due mark self }
+    {
+        match self {
+            Place::Taken(_, sleep, woken) => sleep.mark == mark && !woken,
+            _ => false,
+        }
+    }
+
+    /// The same once a taken thread is woken.
+    pub(crate) fn roused(self) -> Place
+        ensures { result ≡ roused self }
+    {
+        match self {
+            Place::Taken(token, sleep, _) => Place::Taken(token, sleep, true),
+            other => other,
+        }
+    }
+
+    /// The same once its deadline has come.
+    pub(crate) fn late(self) -> Place
+        ensures { result ≡ late self }
+    {
+        match self {
+            Place::Running => Place::Running,
+            Place::Waiting(key, sleep) => Place::Waiting(key, Sleep { late: true, ..sleep }),
+            Place::Held(sleep) => Place::Held(Sleep { late: true, ..sleep }),
+            Place::Taken(token, sleep, woken) => {
+                Place::Taken(token, Sleep { late: true, ..sleep }, woken)
+            }
         }
     }
 
