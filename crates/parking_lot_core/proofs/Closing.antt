@@ -1,23 +1,28 @@
 -- What a lot's fields owe as they change.
-use Rattle.std.proofs.Common.{◌≡◌, ℕ, ◌+◌, ◌≤◌, Bool, true, false, List, [], Option, Some, None, slice_set, refl, sym, ap, ◌∙◌, subst, arith, is_some, cond}
+use Rattle.std.proofs.Common.{◌≡◌, ℕ, ◌+◌, ◌≤◌, Bool, true, false, List, [], Option, Some, None, slice_set, refl, sym, ap, ◌∙◌, subst, arith, is_some, cond, ◌∷◌, ◌++◌, ◌%◌, ◌^◌, map, remove, slice_get, length}
 use Rattle.std.proofs.lemmas.Bool.{false≢true}
 use Rattle.std.specs.Option.{option_map, option_map_or}
 use Rattle.parking_lot_core.specs.declared.lists.Lists.{Lists}
 use Rattle.parking_lot_core.specs.declared.parking.UnparkToken.{UnparkToken}
+use Rattle.parking_lot_core.specs.declared.parking.ParkToken.{ParkToken}
+use Rattle.parking_lot_core.specs.declared.place.Section.{Section}
 use Rattle.parking_lot_core.specs.declared.place.Sleep.{Sleep}
 use Rattle.parking_lot_core.specs.declared.place.ThreadStatus.TheVariants as status
+use Rattle.parking_lot_core.specs.declared.place.Phase.TheVariants as phase
 use Rattle.parking_lot_core.specs.declared.fault.LotFault.TheVariants.{WrongStatus}
 use Rattle.parking_lot_core.specs.declared.lists.Entry.{Entry}
 use Rattle.parking_lot_core.specs.declared.place.Place.{Place}
 use Rattle.parking_lot_core.specs.declared.place.Place.TheVariants.{Running, Waiting, Held, Taken}
 use Rattle.parking_lot_core.specs.declared.place.Waiter.{Waiter}
-use Rattle.parking_lot_core.specs.Places.{place_at, is_waiting, is_held, waits_at, late, roused, status_of}
-use Rattle.parking_lot_core.specs.Machine.{Parts, Machine, machine, status_at, runs, is_in, token_of, retire_fault}
-use Rattle.parking_lot_core.specs.Lists.{lists_of, updated}
+use Rattle.parking_lot_core.specs.Places.{place_at, is_waiting, is_held, waits_at, late, roused, status_of, may_join, told, held, moved_to, changed}
+use Rattle.parking_lot_core.specs.Machine.{Parts, Machine, machine, status_at, runs, is_in, token_of, retire_fault, joined, moved, moved_first}
+use Rattle.parking_lot_core.specs.Lists.{lists_of, updated, total, room}
 use Rattle.parking_lot_core.specs.Sound.{Sound, Room}
-use Rattle.parking_lot_core.proofs.Sounds.{sound_place, sound_owned, sound_retired, some≢none}
-use Rattle.parking_lot_core.proofs.Rooms.{room_next}
-use Rattle.parking_lot_core.proofs.Numbers.{flag}
+use Rattle.parking_lot_core.proofs.Sounds.{sound_place, sound_owned, sound_retired, some≢none, sound_section, sound_closed, sound_joined, sound_left, sound_relisted, waiter_place}
+use Rattle.parking_lot_core.proofs.Kept.{updated_past}
+use Rattle.parking_lot_core.proofs.Rooms.{room_next, waits}
+use Rattle.parking_lot_core.proofs.Numbers.{flag, count_by-map_same, slice_get_none}
+use Rattle.std.proofs.lemmas.List.{length-map}
 
 -- what is owed of all fields
 abbrev pub Owed : {A : Type 0} → Parts → Lists Waiter A → Type 0
@@ -93,3 +98,93 @@ module _ {A : Type 0} (p : Parts) (w : Lists Waiter A) where
       let at = unrefused (machine p) t (runs (status_at (machine p) t)) refl free in
       (subst (λ (resources : ℕ → List ℕ). Sound (record (machine p) { resources = resources; places = slice_set p.places t None })) (sym e) (sound_retired (machine p) t h.0 at.0 at.1),
        room_next w w p.places p.max_threads t Running None h.1 at.0 refl (omega arith))
+
+-- a section that comes on, and one that closes
+module _ {A : Type 0} (p : Parts) (w : Lists Waiter A) where
+  pub section_changed : (f : Section → Section) (section : Option Section) → Owed p w → section ≡ option_map f p.section → ((s : Section) → (f s).thread ≡ s.thread)
+      → ((s : Section) → p.section ≡ Some s → may_join (f s).phase ≡ true → may_join s.phase ≡ true) → Owed (record p { section = section }) w
+  section_changed f section h e same joins =
+      (subst (λ (o : Option Section). Sound (record (machine p) { section = o })) (sym e) (sound_section (machine p) f h.0 same joins), h.1)
+
+  pub section_closed : (token : UnparkToken) (woken : Bool) → Owed p w → Owed (record p { places = map (option_map (told token woken)) p.places; section = None }) w
+  section_closed token woken h =
+      let c = count_by-map_same waits (option_map (told token woken)) (told_waiting token woken) p.places in
+      let l = length-map p.places (option_map (told token woken)) in
+      let r = h.1.waits in
+      let s = h.1.room in
+      let t = h.1.threads in
+      (sound_closed (machine p) token woken h.0, record { waits = omega arith; room = omega arith; threads = omega arith; limit = h.1.limit })
+    where
+      told_waiting : (token : UnparkToken) (woken : Bool) (o : Option Place) → waits (option_map (told token woken) o) ≡ waits o
+      told_waiting token woken None = refl
+      told_waiting token woken (Some Running) = refl
+      told_waiting token woken (Some (Waiting key s)) = refl
+      told_waiting token woken (Some (Held s)) = refl
+      told_waiting token woken (Some (Taken t s b)) = refl
+
+  -- a thread joins a list
+  pub joined_parts : (v : Lists Waiter A) (t key : ℕ) (token : ParkToken) (timed : Bool) → Owed p w → place_at p.places t ≡ Some Running
+      → ((s : Section) → p.section ≡ Some s → s.thread ≡ Some t → may_join s.phase ≡ false)
+      → lists_of v.entries.items ≡ updated (lists_of p.waiting) key (lists_of p.waiting key ++ record { thread = t; token = token } ∷ []) → total v ≡ total w + 1 → room v ≡ room w
+      → let mark = (p.sleeps + 1) % 2 ^ 64 in
+        Owed (record p { sleeps = mark; waiting = v.entries.items; places = slice_set p.places t (Some (Waiting key (record { mark = mark; timed = timed; late = false }))) }) v
+  joined_parts v t key token timed h at outside kept more same =
+      let place : Place = Waiting key (record { mark = (p.sleeps + 1) % 2 ^ 64; timed = timed; late = false }) in
+      (subst (λ (qs : ℕ → List Waiter). Sound (record (joined (machine p) t key token timed) { queues = qs })) (sym kept) (sound_joined (machine p) t key token timed h.0 at outside),
+       room_next w v p.places p.max_threads t Running (Some place) h.1 at same (omega arith))
+
+  -- nobody is taken where the list has ended
+  pub nobody_taken : (v : Lists Waiter A) (key nth : ℕ) → Owed p w → None ≡ slice_get (lists_of p.waiting key) nth
+      → lists_of v.entries.items ≡ updated (lists_of p.waiting) key (remove (lists_of p.waiting key) nth) → total w ≡ total v + 0 → room v ≡ room w
+      → Owed (record p { waiting = v.entries.items }) v
+  nobody_taken v key nth h none kept count same =
+      let past : length (lists_of p.waiting key) ≤ nth = slice_get_none (lists_of p.waiting key) nth (sym none) in
+      let r = h.1.waits in
+      let s = h.1.room in
+      (subst (λ (qs : ℕ → List Waiter). Sound (record (machine p) { queues = qs })) (updated_past (lists_of p.waiting) key nth past ∙ sym kept) h.0,
+       record { waits = omega arith; room = omega arith; threads = h.1.threads; limit = h.1.limit })
+
+  module _ (v : Lists Waiter A) (key nth : ℕ) (x : Waiter) (h : Owed p w) (at : slice_get (lists_of p.waiting key) nth ≡ Some x) where
+    stands : (f : Place → Place) → let sleep = (waiter_place (machine p) key nth x h.0 at).0 in slice_set p.places x.thread (Some (f (Waiting key sleep))) ≡ changed f p.places x.thread
+    stands f = ap (λ o. slice_set p.places x.thread (option_map f o)) (sym (waiter_place (machine p) key nth x h.0 at).1)
+
+    -- a waiter is taken out and held
+    pub held_parts : is_some p.section ≡ true → lists_of v.entries.items ≡ updated (lists_of p.waiting) key (remove (lists_of p.waiting key) nth) → total w ≡ total v + 1 → room v ≡ room w
+        → Owed (record p { waiting = v.entries.items; places = changed held p.places x.thread }) v
+    held_parts entered kept count same =
+        let s = waiter_place (machine p) key nth x h.0 at in
+        subst (λ (ps : List (Option Place)). Owed (record p { waiting = v.entries.items; places = ps }) v) (stands held)
+        (subst (λ (qs : ℕ → List Waiter). Sound (record (machine p) { queues = qs; places = slice_set p.places x.thread (Some (Held s.0)) })) (sym kept)
+          (sound_left (machine p) key nth x h.0 at (Held s.0) (λ k. refl) (λ none. absurd (false≢true (sym (ap is_some none) ∙ entered)))),
+         room_next w v p.places p.max_threads x.thread (Waiting key s.0) (Some (Held s.0)) h.1 s.1 same (omega arith))
+
+    -- it moves to another list
+    pub moved_parts : (u : Lists Waiter A) (to : ℕ) → lists_of v.entries.items ≡ updated (lists_of p.waiting) key (remove (lists_of p.waiting key) nth)
+        → lists_of u.entries.items ≡ updated (lists_of v.entries.items) to (lists_of v.entries.items to ++ x ∷ []) → total w ≡ total v + 1 → total u ≡ total v + 1 → room u ≡ room w
+        → Owed (record p { waiting = u.entries.items; places = changed (moved_to to) p.places x.thread }) u
+    moved_parts u to kept pushed count more same =
+        let s = waiter_place (machine p) key nth x h.0 at in
+        subst (λ (ps : List (Option Place)). Owed (record p { waiting = u.entries.items; places = ps }) u) (stands (moved_to to))
+        (subst (λ (qs : ℕ → List Waiter). Sound (record (machine p) { queues = qs; places = slice_set p.places x.thread (Some (Waiting to s.0)) })) (sym (pushed ∙ ap (λ (qs : ℕ → List Waiter). updated qs to (qs to ++ x ∷ [])) kept))
+          (sound_relisted (machine p) key nth x h.0 at to s.0),
+         room_next w u p.places p.max_threads x.thread (Waiting key s.0) (Some (Waiting to s.0)) h.1 s.1 same (omega arith))
+
+-- the section, with its phase and then its token changed
+pub mapped_twice : (a b c : Option Section) (token : UnparkToken) → b ≡ option_map {T = Section} (λ s. record s { phase = phase.Stored }) a → c ≡ option_map {T = Section} (λ s. record s { token = token }) b
+    → c ≡ option_map {T = Section} (λ s. record s { phase = phase.Stored; token = token }) a
+mapped_twice None b c token f g = g ∙ ap (option_map {T = Section} (λ s. record s { token = token })) f
+mapped_twice (Some s) b c token f g = g ∙ ap (option_map {T = Section} (λ s. record s { token = token })) f
+
+-- the first waiter of a list moves, or there is none
+pub first_moves : (m : Machine) (from to : ℕ) (w : Waiter) (qs rs : ℕ → List Waiter) (ps : List (Option Place)) → slice_get (m.queues from) 0 ≡ Some w
+    → qs ≡ updated m.queues from (remove (m.queues from) 0) → rs ≡ updated qs to (qs to ++ w ∷ []) → ps ≡ changed (moved_to to) m.places w.thread
+    → record m { queues = rs; places = ps } ≡ moved_first m from to
+first_moves m from to w qs rs ps at taken pushed placed =
+    ap (λ (xs : ℕ → List Waiter). record m { queues = xs; places = ps }) (pushed ∙ ap (λ (xs : ℕ → List Waiter). updated xs to (xs to ++ w ∷ [])) taken)
+    ∙ (ap (λ (xs : List (Option Place)). record (moved m from to (w ∷ []) (remove (m.queues from) 0)) { places = xs }) placed
+    ∙ sym (ap (λ o. option_map_or (λ x. moved m from to (x ∷ []) (remove (m.queues from) 0)) o m) at))
+
+pub first_stays : (m : Machine) (from to : ℕ) (qs : ℕ → List Waiter) → None ≡ slice_get (m.queues from) 0 → qs ≡ updated m.queues from (remove (m.queues from) 0) → record m { queues = qs } ≡ moved_first m from to
+first_stays m from to qs none taken =
+    ap (λ (xs : ℕ → List Waiter). record m { queues = xs }) (taken ∙ sym (updated_past m.queues from 0 (slice_get_none (m.queues from) 0 (sym none))))
+    ∙ sym (ap (λ o. option_map_or (λ x. moved m from to (x ∷ []) (remove (m.queues from) 0)) o m) (sym none))

@@ -88,3 +88,18 @@ module _ {X : Type 0} where
       let r = count_by-remove p xs i x h in
       let f : flag (p x) ≡ 1 = ap flag e in
       omega arith
+
+  -- a change that no test sees
+  pub count_by-map_same : (p : X → Bool) (f : X → X) → ((x : X) → p (f x) ≡ p x) → (xs : List X) → count_by p (map f xs) ≡ count_by p xs
+  count_by-map_same p f same [] = refl
+  count_by-map_same p f same (x ∷ xs) =
+      count_by-cons p (f x) (map f xs) ∙ (ap (λ b. flag b + count_by p (map f xs)) (same x) ∙ (ap (λ n. flag (p x) + n) (count_by-map_same p f same xs) ∙ sym (count_by-cons p x xs)))
+
+  -- what isn't there is past the end
+  pub slice_get_none : (xs : List X) (i : ℕ) → slice_get xs i ≡ None → length xs ≤ i
+  slice_get_none [] i e = omega arith
+  slice_get_none (x ∷ xs) zero e = absurd (some≢none e)
+    where
+      some≢none : Some x ≡ None → ⊥
+      some≢none e = cc
+  slice_get_none (x ∷ xs) (suc i) e = let h = slice_get_none xs i e in omega arith

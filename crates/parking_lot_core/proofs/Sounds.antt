@@ -1,5 +1,5 @@
 -- What is true of each lot stays true.
-use Rattle.std.proofs.Common.{◌≡◌, ℕ, ◌+◌, ◌<◌, ◌≤◌, ◌==◌, Bool, true, false, cond, List, [], ◌∷◌, ◌++◌, length, map, take, drop, remove, Option, Some, None, slice_get, slice_set, refl, sym, ap, ◌∙◌, subst, eqb-true, eq-eqb, arith, count_by, suc, add-zero, ◌%◌, ◌^◌}
+use Rattle.std.proofs.Common.{◌≡◌, ℕ, ◌+◌, ◌<◌, ◌≤◌, ◌==◌, Bool, true, false, cond, List, [], ◌∷◌, ◌++◌, length, map, take, drop, remove, Option, Some, None, slice_get, slice_set, refl, sym, ap, ◌∙◌, subst, eqb-true, eq-eqb, arith, count_by, suc, add-zero, zero, ◌%◌, ◌^◌}
 use Rattle.std.specs.Option.{option_map, option_map_or, option_and_then}
 use Rattle.std.proofs.lemmas.Bool.{cond-true, cond-false, eqb-false, ne_eqb, both_ways, false≢true}
 use Rattle.parking_lot_core.specs.declared.parking.UnparkToken.{UnparkToken}
@@ -241,3 +241,64 @@ sound_opened m owner key h runs = record {
   inside = λ s t is whose may. runs t (ap (option_and_then (λ (x : Section). x.thread)) is ∙ whose);
   owned = h.owned;
 }
+
+same_section : {x y : Section} → Some x ≡ Some y → x ≡ y
+same_section e = cc
+
+-- a section comes on, or its store is said
+pub sound_section : (m : Machine) (f : Section → Section) → Sound m → ((s : Section) → (f s).thread ≡ s.thread)
+    → ((s : Section) → m.section ≡ Some s → may_join (f s).phase ≡ true → may_join s.phase ≡ true) → Sound (record m { section = option_map f m.section })
+sound_section m f h same joins = record {
+  waits = h.waits;
+  held = λ none. h.held (no_section m.section none);
+  inside = λ s t is whose may.
+      let o = opened_from m.section s is in
+      h.inside o.0 t o.1 (sym (same o.0) ∙ (ap (λ x. x.thread) o.2 ∙ whose)) (joins o.0 o.1 (ap (λ x. may_join x.phase) o.2 ∙ may));
+  owned = h.owned;
+}
+  where
+    no_section : (o : Option Section) → option_map f o ≡ None → o ≡ None
+    no_section None e = refl
+    no_section (Some s) e = absurd (some≢none e)
+    opened_from : (o : Option Section) (s : Section) → option_map f o ≡ Some s → (x : Section) × (o ≡ Some x) × (f x ≡ s)
+    opened_from None s e = absurd (none≢some e)
+    opened_from (Some x) s e = (x, refl, same_section e)
+
+-- a section closes: whom it held is told
+told_waits : (token : UnparkToken) (woken : Bool) (k : ℕ) (place : Place) → waits_at k (told token woken place) ≡ waits_at k place
+told_waits token woken k Running = refl
+told_waits token woken k (Waiting key s) = refl
+told_waits token woken k (Held s) = refl
+told_waits token woken k (Taken t s b) = refl
+
+told_held : (token : UnparkToken) (woken : Bool) (place : Place) → is_held (told token woken place) ≡ false
+told_held token woken Running = refl
+told_held token woken (Waiting key s) = refl
+told_held token woken (Held s) = refl
+told_held token woken (Taken t s b) = refl
+
+place_at-map : (f : Place → Place) (ps : List (Option Place)) (t : ℕ) → place_at (map (option_map f) ps) t ≡ option_map f (place_at ps t)
+place_at-map f [] t = refl
+place_at-map f (None ∷ ps) zero = refl
+place_at-map f (Some p ∷ ps) zero = refl
+place_at-map f (p ∷ ps) (suc t) = place_at-map f ps t
+
+pub sound_closed : (m : Machine) (token : UnparkToken) (woken : Bool) → Sound m → Sound (record m { places = map (option_map (told token woken)) m.places; section = None })
+sound_closed m token woken h =
+    let at = place_at-map (told token woken) m.places in
+    record {
+      waits = λ u k. h.waits u k ∙ (waits_same k (place_at m.places u) ∙ ap (times_at k) (sym (at u)));
+      held = λ none u. ap (λ o. option_map_or is_held o false) (at u) ∙ held_none (place_at m.places u);
+      inside = λ s t is whose may. absurd (none≢some is);
+      owned = λ u none. h.owned u (unregistered (place_at m.places u) (sym (at u) ∙ none));
+    }
+  where
+    waits_same : (k : ℕ) (o : Option Place) → times_at k o ≡ times_at k (option_map (told token woken) o)
+    waits_same k None = refl
+    waits_same k (Some p) = ap flag (sym (told_waits token woken k p))
+    held_none : (o : Option Place) → option_map_or is_held (option_map (told token woken) o) false ≡ false
+    held_none None = refl
+    held_none (Some p) = told_held token woken p
+    unregistered : (o : Option Place) → option_map (told token woken) o ≡ None → o ≡ None
+    unregistered None e = refl
+    unregistered (Some p) e = absurd (some≢none e)

@@ -1,7 +1,7 @@
 -- The lot as a machine of lists: one list of waiters for each key, and each thread's place and resources.
-use Rattle.std.specs.Prelude.{◌≡◌, ℕ, suc, ◌+◌, ◌%◌, ◌^◌, ◌==◌, ◌&&◌, Bool, true, false, not, nat_lt, if◌then◌else◌, List, [], ◌∷◌, ◌++◌, length, map, take, drop, remove, Option, Some, None, is_some, is_none, slice_get, slice_set, Result, Ok, Err}
-use Rattle.std.specs.Option.{option_map, option_map_or}
-use Rattle.std.specs.List.{position_or_len}
+use Rattle.std.specs.Prelude.{◌≡◌, ℕ, suc, ◌+◌, ◌%◌, ◌^◌, ◌==◌, ◌&&◌, Bool, true, false, not, nat_lt, if◌then◌else◌, List, [], ◌∷◌, ◌++◌, length, map, take, drop, remove, Option, Some, None, is_some, is_none, slice_get, slice_set, Result, Ok, Err, count_by, MatchBool}
+use Rattle.std.specs.Option.{option_map, option_map_or, option_and_then}
+use Rattle.std.specs.List.{position_or_len, list_any}
 use Rattle.parking_lot_core.specs.declared.fault.LotFault.{LotFault}
 use Rattle.parking_lot_core.specs.declared.fault.LotFault.TheVariants.{TooManyThreads, Busy, WrongStatus}
 use Rattle.parking_lot_core.specs.declared.lists.Entry.{Entry}
@@ -17,8 +17,10 @@ use Rattle.parking_lot_core.specs.declared.place.Section.{Section}
 use Rattle.parking_lot_core.specs.declared.place.Phase.{Phase}
 use Rattle.parking_lot_core.specs.declared.place.Phase.TheVariants as phase
 use Rattle.parking_lot_core.specs.Lists.{updated, without_first, lists_of}
-use Rattle.parking_lot_core.specs.Places.{place_at, changed, all_changed, held, told, woken, moved_to, late, roused, sleeps_timed, status_of}
-use Rattle.parking_lot_core.specs.Results.{woken_by, moved_by, left_by}
+use Rattle.parking_lot_core.specs.Places.{place_at, changed, all_changed, held, told, woken, moved_to, sleeps_timed, status_of, mark_of, passed_of}
+use Rattle.parking_lot_core.specs.declared.place.Taking.{Taking}
+use Rattle.parking_lot_core.specs.declared.parking.FilterOp.{FilterOp}
+use Rattle.parking_lot_core.specs.Results.{woken_by, moved_by, left_by, Answers, is_no_skip, is_take, is_skip}
 
 -- what is kept of a lot
 pub record Parts : Type 0 where
@@ -52,6 +54,10 @@ machine p = record { number = p.number; max_threads = p.max_threads; sleeps = p.
 abbrev pub threads_of : List Waiter → List ℕ
 threads_of waiters = map (λ w. w.thread) waiters
 
+-- their tokens
+abbrev pub tokens_of : List Waiter → List ParkToken
+tokens_of waiters = map (λ w. w.token) waiters
+
 -- the waiter is that thread
 abbrev pub is_thread : ℕ → Waiter → Bool
 is_thread thread waiter = waiter.thread == thread
@@ -62,6 +68,10 @@ is_of thread section = option_map_or (λ owner. owner == thread) section.thread 
 
 abbrev pub is_in : Machine → ℕ → Bool
 is_in m thread = option_map_or (is_of thread) m.section false
+
+-- the open section, where it is the thread's
+abbrev pub section_of : Machine → ℕ → Option Section
+section_of m thread = option_and_then (λ s. if is_of thread s then Some s else None) m.section
 
 -- what those that are held are to be told
 abbrev pub token_of : Machine → UnparkToken
@@ -101,9 +111,9 @@ retire_fault m thread = if runs (status_at m thread) then None else Some WrongSt
 abbrev pub enter_fault : Machine → ℕ → Option LotFault
 enter_fault m thread = if runs (status_at m thread) then busy m else Some WrongStatus
 
--- it isn't in a section that may do this now
+-- it isn't in a section, or in one that can't do this now
 abbrev pub step_fault : (Phase → Bool) → Machine → ℕ → Option LotFault
-step_fault may m thread = if option_map_or (λ s. is_of thread s && may s.phase) m.section false then None else Some WrongStatus
+step_fault may m thread = if option_map_or (λ s. may s.phase) (section_of m thread) false then None else Some WrongStatus
 
 -- it doesn't sleep in a timed wait
 abbrev pub deadline_fault : Machine → ℕ → Option LotFault
@@ -123,6 +133,10 @@ resume_fault m thread = resume_fault_at (busy m) (place_at m.places thread)
 -- it isn't registered
 abbrev pub owner_fault : Machine → ℕ → Option LotFault
 owner_fault m thread = if is_some (place_at m.places thread) then None else Some WrongStatus
+
+-- each section can be left
+abbrev pub any_phase : Phase → Bool
+any_phase ph = true
 
 -- where there is a fault the call answers it and changes nothing; else it is done
 abbrev pub Unless : {T : Type 0} → Option LotFault → Result T LotFault → Machine → Machine → Type 0 → Type 0
@@ -173,6 +187,10 @@ moved m from to waiters rest =
     let queues = updated m.queues from rest in
     record m { queues = updated queues to (queues to ++ waiters); places = all_changed (moved_to to) m.places (threads_of waiters) }
 
+-- the first waiter of a key's list stands at the end of another's
+abbrev pub moved_first : Machine → ℕ → ℕ → Machine
+moved_first m from to = option_map_or (λ w. moved m from to (w ∷ []) (remove (m.queues from) 0)) (slice_get (m.queues from) 0) m
+
 -- a requeue: the woken are taken first, then the rest is moved or left
 abbrev pub requeued : Machine → RequeueOp → ℕ → ℕ → UnparkToken → Machine
 requeued m op from to token =
@@ -209,3 +227,17 @@ stored m token = record m { section = option_map {T = Section} (λ s. record s {
 -- it is closed, and whom it took is told
 abbrev pub closed : Machine → Bool → Machine
 closed m woken = record m { places = map (option_map (told (token_of m) woken)) m.places; section = None }
+
+-- a waiter that is taken, with the mark of its sleep
+abbrev pub taking_of : Machine → Waiter → Taking
+taking_of m w = record { thread = w.thread; token = w.token; mark = option_map_or mark_of (place_at m.places w.thread) 0 }
+
+-- a filter is shown the waiters that the section hasn't passed: the first that it wants is taken, else the taking is over
+abbrev pub TakesNext : {F : Type 0} → (F → ParkToken → FilterOp → F → Type 0) → F → Section → Machine → Result (Option Taking) LotFault → Machine → Type 0
+TakesNext {F} gives filter s old result new =
+    let queue = old.queues s.key in
+    (answers : List FilterOp) × (last : F) × Answers gives is_no_skip filter (tokens_of (drop (passed_of s.phase) queue)) answers last
+    × (let at = passed_of s.phase + count_by is_skip answers in
+       MatchBool (list_any is_take answers)
+         ((result ≡ Ok (option_map (taking_of old) (slice_get queue at))) × (new ≡ taken (in_phase old (phase.Taking at)) s.key at))
+         ((result ≡ Ok None) × (new ≡ in_phase old phase.Ended)))

@@ -67,7 +67,7 @@ is_stop filter.Unpark = false
 is_stop filter.Skip = false
 is_stop filter.Stop = true
 
--- an answer after which a step of a section shows no more
+-- an answer after which a step of a section is shown no more; one that takes; one that passes
 abbrev pub is_no_skip : FilterOp → Bool
 is_no_skip filter.Unpark = true
 is_no_skip filter.Skip = false
@@ -77,6 +77,11 @@ abbrev pub is_take : FilterOp → Bool
 is_take filter.Unpark = true
 is_take filter.Skip = false
 is_take filter.Stop = false
+
+abbrev pub is_skip : FilterOp → Bool
+is_skip filter.Unpark = false
+is_skip filter.Skip = true
+is_skip filter.Stop = false
 
 -- a filter, shown these tokens in order until it ends the showing, gives these answers and is left so
 abbrev pub Answers : {F : Type 0} → (F → ParkToken → FilterOp → F → Type 0) → (FilterOp → Bool) → F → List ParkToken → List FilterOp → F → Type 0

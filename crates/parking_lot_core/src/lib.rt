@@ -7,6 +7,8 @@ mod lot;
 mod parking;
 mod place;
 mod places;
+mod sections;
+mod steps;
 
 pub use fault::{LotFault, SizeFault};
 pub use lot::Lot;

@@ -1,6 +1,6 @@
 //! Where the threads of a lot stand, and what an open section has done.
 ghost use Rattle.std.specs.Prelude.{◌≡◌};
-ghost use Rattle.parking_lot_core.specs.Places.{sleeps_timed, is_due, roused, late, status_of, may_check, may_join, may_take, may_store, passed_of};
+ghost use Rattle.parking_lot_core.specs.Places.{sleeps_timed, mark_of, is_due, roused, late, status_of, may_check, may_join, may_take, may_store, passed_of};
 
 use crate::lists::Numbered;
 use crate::parking::{ParkToken, UnparkToken};
@@ -133,6 +133,16 @@ impl Place {
         match self {
             Place::Taken(_, sleep, woken) => sleep.mark == mark && !woken,
             _ => false,
+        }
+    }
+
+    /// The mark of the sleep that it belongs to; 0 of a running thread.
+    pub(crate) fn mark(self) -> u64
+        ensures { result ≡ mark_of self }
+    {
+        match self {
+            Place::Running => 0,
+            Place::Waiting(_, sleep) | Place::Held(sleep) | Place::Taken(_, sleep, _) => sleep.mark,
         }
     }
 
