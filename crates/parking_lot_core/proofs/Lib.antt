@@ -4,3 +4,5 @@ pub mod Sounds
 pub mod Rooms
 pub mod Closing
 pub mod Registering
+pub mod Filters
+pub mod Outcomes

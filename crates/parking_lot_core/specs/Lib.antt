@@ -4,3 +4,4 @@ pub mod Results
 pub mod Places
 pub mod Machine
 pub mod Sound
+pub mod Operations

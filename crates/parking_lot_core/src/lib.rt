@@ -4,6 +4,7 @@
 mod fault;
 mod lists;
 mod lot;
+mod operations;
 mod parking;
 mod place;
 mod places;

@@ -123,11 +123,12 @@ impl<A: Allocator> Lot<A> {
         requires { F.IsAlwaysCallable filter }
         ensures { (answers : List FilterOp) × (last : F) × Answers F.step is_no_skip filter (tokens_of (drop passed ((machine self.now).queues key))) answers last × (result ≡ (if list_any is_take answers then Some (passed + count_by is_skip answers) else None)) }
     {
-        let mut at = passed;
-        while let Some(waiter) = self.waiter(key, at) {
+        let count = self.count(key);
+        for at in passed..count {
+            let waiter = self.waiter(key, at)?;
             match filter(waiter.token) {
                 FilterOp::Unpark => return Some(at),
-                FilterOp::Skip => at += 1,
+                FilterOp::Skip => {}
                 FilterOp::Stop => return None,
             }
         }
@@ -139,18 +140,29 @@ impl<A: Allocator> Lot<A> {
         requires { IsSome (machine self.old).section }
         ensures { MatchOption found ((result ≡ None) × (machine self.new ≡ in_phase (machine self.old) phase.Ended)) (λ at. (result ≡ option_map (taking_of (machine self.old)) (slice_get ((machine self.old).queues key) at)) × (machine self.new ≡ taken (in_phase (machine self.old) (phase.Taking at)) key at)) }
     {
-        let Some(nth) = found else {
-            self.set_phase(Phase::Ended);
-            return None;
-        };
-        self.set_phase(Phase::Taking(nth));
+        match found {
+            None => {
+                self.set_phase(Phase::Ended);
+                None
+            }
+            Some(nth) => {
+                self.set_phase(Phase::Taking(nth));
+                let taking = self.taking(key, nth);
+                self.take_out(key, nth);
+                taking
+            }
+        }
+    }
+
+    /// What is told of a waiter that is taken.
+    fn taking(&self, key: usize, nth: usize) -> Option<Taking>
+        ensures { result ≡ option_map (taking_of (machine self.now)) (slice_get ((machine self.now).queues key) nth) }
+    {
         let waiter = self.waiter(key, nth)?;
-        let mark = self.mark_of(waiter.thread);
-        self.take_out(key, nth);
         Some(Taking {
             thread: waiter.thread,
             token: waiter.token,
-            mark,
+            mark: self.mark_of(waiter.thread),
         })
     }
 

@@ -1,0 +1,25 @@
+-- How calls end.
+use Rattle.std.proofs.Common.{◌≡◌, ℕ, Bool, true, false, cond, Option, Some, None, Result, Err, refl, sym, ap, ◌∙◌, subst}
+use Rattle.std.specs.Option.{option_map_or, IsSomeAnd, MatchOption}
+use Rattle.parking_lot_core.specs.declared.fault.LotFault.{LotFault}
+use Rattle.parking_lot_core.specs.declared.fault.LotFault.TheVariants.{WrongStatus}
+use Rattle.parking_lot_core.specs.declared.place.Phase.{Phase}
+use Rattle.parking_lot_core.specs.declared.place.Section.{Section}
+use Rattle.parking_lot_core.specs.Machine.{Machine, section_of, step_fault, Unless}
+
+-- a call that isn't refused, and one that is
+pub unless_done : {T : Type 0} (o : Option LotFault) (r : Result T LotFault) (old new : Machine) (D : Type 0) → o ≡ None → D → Unless o r old new D
+unless_done o r old new D e d = subst (λ (x : Option LotFault). Unless x r old new D) (sym e) d
+
+pub unless_refused : {T : Type 0} (o : Option LotFault) (fault : LotFault) (r : Result T LotFault) (old new : Machine) (D : Type 0) → o ≡ Some fault → r ≡ Err fault → new ≡ old → Unless o r old new D
+unless_refused o fault r old new D e is same = subst (λ (x : Option LotFault). Unless x r old new D) (sym e) (is, same)
+
+pub some_and : {X : Type 0} (o : Option X) (x : X) (P : X → Type 0) → o ≡ Some x → P x → IsSomeAnd o P
+some_and {X = X} o x P e p = subst (λ (y : Option X). IsSomeAnd y P) (sym e) p
+
+pub match_some : {X : Type 0} (o : Option X) (x : X) (P : Type 0) (Q : X → Type 0) → o ≡ Some x → Q x → MatchOption o P Q
+match_some {X = X} o x P Q e q = subst (λ (y : Option X). MatchOption y P Q) (sym e) q
+
+-- a section that may do this is refused nothing
+pub allowed : (may : Phase → Bool) (m : Machine) (t : ℕ) (s : Section) → section_of m t ≡ Some s → may s.phase ≡ true → step_fault may m t ≡ None
+allowed may m t s e ok = ap (λ o. cond (option_map_or (λ x. may x.phase) o false) None (Some WrongStatus)) e ∙ ap (λ b. cond b None (Some WrongStatus)) ok
