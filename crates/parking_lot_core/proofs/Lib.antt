@@ -6,3 +6,5 @@ pub mod Closing
 pub mod Registering
 pub mod Filters
 pub mod Outcomes
+pub mod Takings
+pub mod Sifting

@@ -1,11 +1,12 @@
 -- How calls end.
-use Rattle.std.proofs.Common.{◌≡◌, ℕ, Bool, true, false, cond, Option, Some, None, Result, Err, refl, sym, ap, ◌∙◌, subst}
+use Rattle.std.proofs.Common.{◌≡◌, ℕ, Bool, true, false, cond, Option, Some, None, Result, Err, refl, sym, ap, ◌∙◌, subst, is_some}
 use Rattle.std.specs.Option.{option_map_or, IsSomeAnd, MatchOption}
 use Rattle.parking_lot_core.specs.declared.fault.LotFault.{LotFault}
-use Rattle.parking_lot_core.specs.declared.fault.LotFault.TheVariants.{WrongStatus}
+use Rattle.parking_lot_core.specs.declared.fault.LotFault.TheVariants.{WrongStatus, Busy}
 use Rattle.parking_lot_core.specs.declared.place.Phase.{Phase}
 use Rattle.parking_lot_core.specs.declared.place.Section.{Section}
-use Rattle.parking_lot_core.specs.Machine.{Machine, section_of, step_fault, Unless}
+use Rattle.parking_lot_core.specs.Machine.{Machine, section_of, step_fault, busy, Unless}
+use Rattle.parking_lot_core.proofs.Sounds.{some≢none}
 
 -- a call that isn't refused, and one that is
 pub unless_done : {T : Type 0} (o : Option LotFault) (r : Result T LotFault) (old new : Machine) (D : Type 0) → o ≡ None → D → Unless o r old new D
@@ -23,3 +24,11 @@ match_some {X = X} o x P Q e q = subst (λ (y : Option X). MatchOption y P Q) (s
 -- a section that may do this is refused nothing
 pub allowed : (may : Phase → Bool) (m : Machine) (t : ℕ) (s : Section) → section_of m t ≡ Some s → may s.phase ≡ true → step_fault may m t ≡ None
 allowed may m t s e ok = ap (λ o. cond (option_map_or (λ x. may x.phase) o false) None (Some WrongStatus)) e ∙ ap (λ b. cond b None (Some WrongStatus)) ok
+
+-- where nothing is refused for it, no section is open
+pub free_section : (m : Machine) → busy m ≡ None → m.section ≡ None
+free_section m e = free m.section e
+  where
+    free : (o : Option Section) → cond (is_some o) (Some Busy) None ≡ None → o ≡ None
+    free None e = refl
+    free (Some s) e = absurd (some≢none e)

@@ -277,7 +277,7 @@ told_held token woken (Waiting key s) = refl
 told_held token woken (Held s) = refl
 told_held token woken (Taken t s b) = refl
 
-place_at-map : (f : Place → Place) (ps : List (Option Place)) (t : ℕ) → place_at (map (option_map f) ps) t ≡ option_map f (place_at ps t)
+pub place_at-map : (f : Place → Place) (ps : List (Option Place)) (t : ℕ) → place_at (map (option_map f) ps) t ≡ option_map f (place_at ps t)
 place_at-map f [] t = refl
 place_at-map f (None ∷ ps) zero = refl
 place_at-map f (Some p ∷ ps) zero = refl

@@ -1,5 +1,5 @@
 -- What whole operations do.
-use Rattle.std.specs.Prelude.{◌≡◌, ℕ, Bool, true, false, not, List, [], ◌∷◌, length, drop, Option, Some, None, Result, Ok, slice_set}
+use Rattle.std.specs.Prelude.{◌≡◌, ℕ, Bool, true, false, not, List, [], ◌∷◌, length, drop, ◌-◌, min, Option, Some, None, Result, Ok, slice_set}
 use Rattle.parking_lot_core.specs.declared.fault.LotFault.{LotFault}
 use Rattle.parking_lot_core.specs.declared.parking.UnparkToken.{UnparkToken}
 use Rattle.parking_lot_core.specs.declared.parking.ParkResult.{ParkResult}
@@ -44,3 +44,18 @@ Requeues gives UnparkOneRequeueRest old from to result new = RequeuesBy gives Un
 Requeues gives RequeueAll old from to result new = RequeuesBy gives RequeueAll old from to result new
 Requeues gives UnparkOne old from to result new = RequeuesBy gives UnparkOne old from to result new
 Requeues gives RequeueOne old from to result new = RequeuesBy gives RequeueOne old from to result new
+
+-- how many of so many waiters a requeue wakes, and how many it moves
+abbrev pub woken_count : RequeueOp → ℕ → ℕ
+woken_count Abort n = 0
+woken_count UnparkOneRequeueRest n = min n 1
+woken_count RequeueAll n = 0
+woken_count UnparkOne n = min n 1
+woken_count RequeueOne n = 0
+
+abbrev pub moved_count : RequeueOp → ℕ → ℕ
+moved_count Abort n = 0
+moved_count UnparkOneRequeueRest n = n - 1
+moved_count RequeueAll n = n
+moved_count UnparkOne n = 0
+moved_count RequeueOne n = min n 1

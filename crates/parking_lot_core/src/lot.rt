@@ -1,7 +1,7 @@
 //! The exact lot: its threads, and what it shows of them.
 ghost use Rattle.std.specs.Prelude.{◌≡◌, ◌<◌, ◌≤◌, ◌↔◌, ◌⊎◌, ◌==◌, if◌then◌else◌, ℕ, IfOk, IfSome, IsOk, IfErr, OnOk, OnErr, IsTrue, IsErrOf, MatchResult, false, Some, None, Ok, Err, length, map, count_by, [], ◌∷◌, ◌++◌};
 ghost use Rattle.parking_lot_core.specs.Lists.{updated, without_first};
-ghost use Rattle.parking_lot_core.specs.Places.{place_at, late, roused, is_due};
+ghost use Rattle.parking_lot_core.specs.Places.{place_at, late, roused, is_due, is_held};
 ghost use Rattle.std.specs.Option.{option_map_or};
 ghost use Rattle.parking_lot_core.specs.Machine.{Machine, machine, status_at, threads_of, is_in, is_thread, register_fault, retire_fault, deadline_fault, owner_fault, enter_fault, free_number, busy, changed_at, registered, retired, IsFresh, Unless};
 ghost use Rattle.parking_lot_core.specs.Sound.{times_at};
@@ -127,7 +127,8 @@ impl<A: Allocator> Lot<A> {
 
     /// Why no section can be entered now.
     pub(crate) fn busy(&self) -> Option<LotFault>
-        ensures { result ≡ busy (machine self.now) }
+        ensures fault { result ≡ busy (machine self.now) }
+        ensures quiet { result ≡ None → (thread : ℕ) → option_map_or is_held (place_at (machine self.now).places thread) false ≡ false }
     {
         if self.section.is_some() {
             Some(LotFault::Busy)

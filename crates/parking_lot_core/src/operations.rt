@@ -9,7 +9,7 @@ ghost use Rattle.parking_lot_core.specs.declared.place.Place.TheVariants.{Runnin
 ghost use Rattle.parking_lot_core.specs.Places.{place_at};
 ghost use Rattle.parking_lot_core.specs.Results.{Answers, is_stop, is_left, unpark_result, chosen_by, passed_by, woken_by, moved_by, left_by};
 ghost use Rattle.parking_lot_core.specs.Machine.{machine, tokens_of, busy, enter_fault, resume_fault, opened, stored, closed, joined, taken, given_up, unparked, moved, requeued, Unless};
-ghost use Rattle.parking_lot_core.specs.Operations.{all_taken, Resumes, Requeues};
+ghost use Rattle.parking_lot_core.specs.Operations.{all_taken, woken_count, moved_count, Resumes, Requeues};
 
 use crate::fault::LotFault;
 use crate::lot::Lot;
@@ -58,24 +58,33 @@ impl<A: Allocator> Lot<A> {
         requires { T.IsAlwaysCallable timed_out }
         ensures { Unless (resume_fault (machine self.old) thread) result (machine self.old) (machine self.new) (Resumes (λ key last. T.post timed_out key last tt) (machine self.old) thread result (machine self.new)) }
     {
+        if let Some(fault) = self.resume_fault(thread) {
+            return Err(fault);
+        }
         match self.place(thread) {
-            Some(Place::Taken(token, sleep, _)) => {
-                if sleep.late && self.section.is_some() {
-                    return Err(LotFault::Busy);
-                }
+            Some(Place::Taken(token, _, _)) => {
                 put(&mut self.places, thread, Some(Place::Running));
                 Ok(ParkResult::Unparked(token))
             }
-            Some(Place::Held(_)) => Err(LotFault::Busy),
-            Some(Place::Waiting(key, sleep)) if sleep.late => {
-                if self.section.is_some() {
-                    return Err(LotFault::Busy);
-                }
+            Some(Place::Waiting(key, _)) => {
                 self.give_up(thread, key);
                 timed_out(key, !self.has_waiters(key));
                 Ok(ParkResult::TimedOut)
             }
             _ => Err(LotFault::WrongStatus),
+        }
+    }
+
+    /// Why the thread can't go on now.
+    fn resume_fault(&self, thread: usize) -> Option<LotFault>
+        ensures { result ≡ resume_fault (machine self.now) thread }
+    {
+        match self.place(thread) {
+            Some(Place::Taken(_, sleep, _)) if !sleep.late => None,
+            Some(Place::Taken(_, _, _)) => self.busy(),
+            Some(Place::Held(_)) => Some(LotFault::Busy),
+            Some(Place::Waiting(_, sleep)) if sleep.late => self.busy(),
+            _ => Some(LotFault::WrongStatus),
         }
     }
 
@@ -95,13 +104,8 @@ impl<A: Allocator> Lot<A> {
             return Err(fault);
         }
         self.open(None, key);
-        let taken = self.take_out(key, 0);
-        let result = UnparkResult {
-            unparked_threads: if taken.is_some() { 1 } else { 0 },
-            requeued_threads: 0,
-            have_more_threads: self.has_waiters(key),
-            be_fair: false,
-        };
+        let woken = self.take_first(key);
+        let result = self.outcome(key, woken);
         let token = callback(result);
         self.finish(token);
         Ok(result)
@@ -142,13 +146,8 @@ impl<A: Allocator> Lot<A> {
             return Err(fault);
         }
         self.open(None, key);
-        let count = self.sift(key, filter);
-        let result = UnparkResult {
-            unparked_threads: count,
-            requeued_threads: 0,
-            have_more_threads: self.has_waiters(key),
-            be_fair: false,
-        };
+        let woken = self.sift(key, filter);
+        let result = self.outcome(key, woken);
         let token = callback(result);
         self.finish(token);
         Ok(result)
@@ -195,12 +194,36 @@ impl<A: Allocator> Lot<A> {
         self.close(true);
     }
 
+    /// What is answered once so many were woken and the key's list is left as it is.
+    fn outcome(&self, key: usize, woken: usize) -> UnparkResult
+        ensures { result ≡ unpark_result woken 0 ((machine self.now).queues key) }
+    {
+        UnparkResult {
+            unparked_threads: woken,
+            requeued_threads: 0,
+            have_more_threads: self.has_waiters(key),
+            be_fair: false,
+        }
+    }
+
+    /// Takes the first waiter of a key, and answers how many that were.
+    fn take_first(&mut self, key: usize) -> usize
+        requires { IsSome (machine self.old).section }
+        ensures count { result ≡ length (take 1 ((machine self.old).queues key)) }
+        ensures taken { machine self.new ≡ all_taken (machine self.old) key (take 1 ((machine self.old).queues key)) (drop 1 ((machine self.old).queues key)) }
+    {
+        match self.take_out(key, 0) {
+            Some(_) => 1,
+            None => 0,
+        }
+    }
+
     /// Takes so many waiters of a key, from the front.
     fn take_all(&mut self, key: usize, count: usize)
         requires { IsSome (machine self.old).section }
         ensures { machine self.new ≡ all_taken (machine self.old) key (take count ((machine self.old).queues key)) (drop count ((machine self.old).queues key)) }
     {
-        for _nth in 0..count {
+        for nth in 0..count {
             self.take_out(key, 0);
         }
     }
@@ -236,14 +259,8 @@ impl<A: Allocator> Lot<A> {
         ensures lists { let queue = (machine self.old).queues from in machine self.new ≡ moved (all_taken (machine self.old) from (woken_by op queue) (drop (length (woken_by op queue)) queue)) from to (moved_by op queue) (left_by op queue) }
     {
         let count = self.count(from);
-        let first = if count == 0 { 0 } else { 1 };
-        let (woken, moved) = match op {
-            RequeueOp::Abort => (0, 0),
-            RequeueOp::UnparkOneRequeueRest => (first, count - first),
-            RequeueOp::RequeueAll => (0, count),
-            RequeueOp::UnparkOne => (first, 0),
-            RequeueOp::RequeueOne => (0, first),
-        };
+        let woken = woken_count(op, count);
+        let moved = moved_count(op, count);
         self.take_all(from, woken);
         self.move_all(from, to, moved);
         UnparkResult {
@@ -259,7 +276,7 @@ impl<A: Allocator> Lot<A> {
         requires { count ≤ length ((machine self.old).queues from) }
         ensures { machine self.new ≡ moved (machine self.old) from to (take count ((machine self.old).queues from)) (drop count ((machine self.old).queues from)) }
     {
-        for _nth in 0..count {
+        for nth in 0..count {
             self.move_first(from, to);
         }
     }
@@ -273,5 +290,27 @@ impl<A: Allocator> Lot<A> {
             self.waiting.take(key, nth);
         }
         put(&mut self.places, thread, Some(Place::Running));
+    }
+}
+
+/// How many of so many waiters the operation wakes.
+fn woken_count(op: RequeueOp, count: usize) -> usize
+    ensures { result ≡ woken_count op count }
+{
+    match op {
+        RequeueOp::UnparkOneRequeueRest | RequeueOp::UnparkOne => count.min(1),
+        RequeueOp::Abort | RequeueOp::RequeueAll | RequeueOp::RequeueOne => 0,
+    }
+}
+
+/// How many of so many waiters the operation moves.
+fn moved_count(op: RequeueOp, count: usize) -> usize
+    ensures { result ≡ moved_count op count }
+{
+    match op {
+        RequeueOp::UnparkOneRequeueRest => count.saturating_sub(1),
+        RequeueOp::RequeueAll => count,
+        RequeueOp::RequeueOne => count.min(1),
+        RequeueOp::Abort | RequeueOp::UnparkOne => 0,
     }
 }
