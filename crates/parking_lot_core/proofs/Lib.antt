@@ -8,3 +8,4 @@ pub mod Filters
 pub mod Outcomes
 pub mod Takings
 pub mod Sifting
+pub mod Moving

@@ -16,11 +16,11 @@ use Rattle.parking_lot_core.proofs.Kept.{updated_at, updated_other, updated_same
 use Rattle.parking_lot_core.proofs.Sounds.{by_eqb, place_at-map, none≢some}
 
 -- one more thread's place is changed
-all_changed_more : (f : Place → Place) (ps : List (Option Place)) (ts : List ℕ) (t : ℕ) → all_changed f ps (ts ++ t ∷ []) ≡ changed f (all_changed f ps ts) t
+pub all_changed_more : (f : Place → Place) (ps : List (Option Place)) (ts : List ℕ) (t : ℕ) → all_changed f ps (ts ++ t ∷ []) ≡ changed f (all_changed f ps ts) t
 all_changed_more f ps [] t = refl
 all_changed_more f ps (u ∷ ts) t = all_changed_more f (changed f ps u) ts t
 
-threads_more : (ws : List Waiter) (w : Waiter) → threads_of (ws ++ w ∷ []) ≡ threads_of ws ++ w.thread ∷ []
+pub threads_more : (ws : List Waiter) (w : Waiter) → threads_of (ws ++ w ∷ []) ≡ threads_of ws ++ w.thread ∷ []
 threads_more ws w = map-append (λ x. x.thread) ws (w ∷ [])
 
 -- nobody yet
