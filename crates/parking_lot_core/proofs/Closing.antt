@@ -1,5 +1,5 @@
 -- What a lot's fields owe as they change.
-use Rattle.std.proofs.Common.{◌≡◌, ℕ, ◌+◌, ◌≤◌, Bool, true, false, List, [], Option, Some, None, slice_set, refl, sym, ap, ◌∙◌, subst, arith, is_some, cond, ◌∷◌, ◌++◌, ◌%◌, ◌^◌, map, remove, slice_get, length}
+use Rattle.std.proofs.Common.{◌≡◌, ℕ, ◌+◌, ◌≤◌, Bool, true, false, List, [], Option, Some, None, slice_set, refl, sym, ap, ◌∙◌, subst, arith, is_some, cond, ◌∷◌, ◌++◌, ◌%◌, ◌^◌, map, remove, slice_get, length, position, eq-eqb, eqb-true}
 use Rattle.std.proofs.lemmas.Bool.{false≢true}
 use Rattle.std.specs.Option.{option_map, option_map_or}
 use Rattle.parking_lot_core.specs.declared.lists.Lists.{Lists}
@@ -15,13 +15,15 @@ use Rattle.parking_lot_core.specs.declared.place.Place.{Place}
 use Rattle.parking_lot_core.specs.declared.place.Place.TheVariants.{Running, Waiting, Held, Taken}
 use Rattle.parking_lot_core.specs.declared.place.Waiter.{Waiter}
 use Rattle.parking_lot_core.specs.Places.{place_at, is_waiting, is_held, waits_at, late, roused, status_of, may_join, told, held, moved_to, changed}
-use Rattle.parking_lot_core.specs.Machine.{Parts, Machine, machine, status_at, runs, is_in, token_of, retire_fault, joined, moved, moved_first}
-use Rattle.parking_lot_core.specs.Lists.{lists_of, updated, total, room}
-use Rattle.parking_lot_core.specs.Sound.{Sound, Room}
+use Rattle.parking_lot_core.specs.Machine.{Parts, Machine, machine, status_at, runs, is_in, token_of, retire_fault, joined, moved, moved_first, is_thread}
+use Rattle.parking_lot_core.specs.Lists.{lists_of, updated, without_first, total, room}
+use Rattle.std.specs.List.{position_or_len}
+use Rattle.std.proofs.lemmas.Option.{slice_get_within}
+use Rattle.parking_lot_core.specs.Sound.{Sound, Room, times_at}
 use Rattle.parking_lot_core.proofs.Sounds.{sound_place, sound_owned, sound_retired, some≢none, sound_section, sound_closed, sound_joined, sound_left, sound_relisted, waiter_place}
 use Rattle.parking_lot_core.proofs.Kept.{updated_past}
 use Rattle.parking_lot_core.proofs.Rooms.{room_next, waits}
-use Rattle.parking_lot_core.proofs.Numbers.{flag, count_by-map_same, slice_get_none}
+use Rattle.parking_lot_core.proofs.Numbers.{flag, first_passes, position_passes, count_by-map_same, slice_get_none}
 use Rattle.std.proofs.lemmas.List.{length-map}
 
 -- what is owed of all fields
@@ -188,3 +190,23 @@ pub first_stays : (m : Machine) (from to : ℕ) (qs : ℕ → List Waiter) → N
 first_stays m from to qs none taken =
     ap (λ (xs : ℕ → List Waiter). record m { queues = xs }) (taken ∙ sym (updated_past m.queues from 0 (slice_get_none (m.queues from) 0 (sym none))))
     ∙ sym (ap (λ o. option_map_or (λ x. moved m from to (x ∷ []) (remove (m.queues from) 0)) o m) (sym none))
+
+-- a waiting thread takes itself out of its list, and runs
+module _ {A : Type 0} (p : Parts) (w v : Lists Waiter A) (t key : ℕ) (s : Sleep) (h : Owed p w) (at : place_at p.places t ≡ Some (Waiting key s)) where
+  abbrev queue : List Waiter
+  queue = lists_of p.waiting key
+
+  itself : (x : Waiter) × (slice_get queue (position_or_len (is_thread t) queue) ≡ Some x) × (is_thread t x ≡ true)
+  itself = first_passes (is_thread t) queue (subst (λ (n : ℕ). 1 ≤ n) (sym (h.0.waits t key ∙ (ap (times_at key) at ∙ ap flag (eq-eqb key key refl)))) (omega arith))
+
+  pub found_itself : is_some (position (is_thread t) queue) ≡ true
+  found_itself = ap is_some (position_passes (is_thread t) queue (slice_get_within queue (position_or_len (is_thread t) queue) itself.0 itself.1))
+
+  pub gave_up : lists_of v.entries.items ≡ updated (lists_of p.waiting) key (without_first (is_thread t) queue) → total w ≡ total v + 1 → room v ≡ room w
+      → Owed (record p { waiting = v.entries.items; places = slice_set p.places t (Some Running) }) v
+  gave_up kept count same =
+      let same_thread : itself.0.thread ≡ t = eqb-true itself.0.thread t itself.2 in
+      (subst (λ (qs : ℕ → List Waiter). Sound (record (machine p) { queues = qs; places = slice_set p.places t (Some Running) })) (sym kept)
+        (subst (λ (u : ℕ). Sound (record (machine p) { queues = updated (lists_of p.waiting) key (without_first (is_thread t) queue); places = slice_set p.places u (Some Running) })) same_thread
+          (sound_left (machine p) key (position_or_len (is_thread t) queue) itself.0 h.0 itself.1 Running (λ k. refl) (λ none. refl))),
+       room_next w v p.places p.max_threads t (Waiting key s) (Some Running) h.1 at same (omega arith))

@@ -9,3 +9,4 @@ pub mod Outcomes
 pub mod Takings
 pub mod Sifting
 pub mod Moving
+pub mod Requeues

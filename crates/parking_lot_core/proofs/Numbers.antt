@@ -1,9 +1,10 @@
 -- Places by their numbers.
-use Rattle.std.proofs.Common.{◌≡◌, ℕ, ◌+◌, ◌<◌, ◌≤◌, Bool, true, false, cond, not, nat_lt, ◌==◌, List, [], ◌∷◌, length, map, take, drop, Option, Some, None, unwrap_or, slice_get, slice_set, position, refl, sym, ap, ◌∙◌, subst, arith, count_by, zero, suc, ◌++◌, add-zero, remove}
+use Rattle.std.proofs.Common.{◌≡◌, ℕ, ◌+◌, ◌<◌, ◌≤◌, Bool, true, false, cond, not, nat_lt, ◌==◌, List, [], ◌∷◌, length, map, take, drop, Option, Some, None, unwrap_or, slice_get, slice_set, position, is_some, refl, sym, ap, ◌∙◌, subst, arith, count_by, zero, suc, ◌++◌, add-zero, remove}
 use Rattle.std.specs.List.{position_or_len, prefix_len}
-use Rattle.std.proofs.lemmas.Bool.{cond-true, cond-false, ltb-true, ltb-false, both_ways, eqb-false, ne_eqb}
+use Rattle.std.proofs.lemmas.Bool.{cond-true, cond-false, ltb-true, ltb-false, both_ways, eqb-false, ne_eqb, lt-ltb}
 use Rattle.std.proofs.lemmas.List.Sums.{sum_by-set, sum_by-cons, sum_by-append, count_by-le-length}
-use Rattle.std.proofs.lemmas.Option.{slice_get_within, get_or_from_slice_get}
+use Rattle.std.proofs.lemmas.Option.{slice_get_within, get_or_from_slice_get, slice_get-get_or}
+use Rattle.std.proofs.lemmas.List.Quantifiers.{position-Some}
 
 -- 1 for true
 abbrev pub flag : Bool → ℕ
@@ -103,3 +104,31 @@ module _ {X : Type 0} where
       some≢none : Some x ≡ None → ⊥
       some≢none e = cc
   slice_get_none (x ∷ xs) (suc i) e = let h = slice_get_none xs i e in omega arith
+
+  -- where some pass the first of them is found
+  pub first_passes : (p : X → Bool) (xs : List X) → 1 ≤ count_by p xs → (x : X) × (slice_get xs (position_or_len p xs) ≡ Some x) × (p x ≡ true)
+  first_passes p [] h = absurd (omega arith)
+  first_passes p (y ∷ xs) h =
+      let both : (b : Bool) → p y ≡ b → (x : X) × (slice_get (y ∷ xs) (cond (not b) (1 + position_or_len p xs) 0) ≡ Some x) × (p x ≡ true) = elim [
+        true ↦ λ e. (y, refl, e)
+      | false ↦ λ e.
+          let c = count_by-cons p y xs in
+          let f : flag (p y) ≡ 0 = ap flag e in
+          let r = first_passes p xs (omega arith) in
+          (r.0, ap (slice_get (y ∷ xs)) (one_more (position_or_len p xs)) ∙ r.1, r.2)
+      ] in
+      both (p y) refl
+    where
+      one_more : (n : ℕ) → 1 + n ≡ suc n
+      one_more n = omega arith
+
+  pub position_passes : (p : X → Bool) (xs : List X) → position_or_len p xs < length xs → position p xs ≡ Some (position_or_len p xs)
+  position_passes p xs h = cond-true (nat_lt (position_or_len p xs) (length xs)) (Some (position_or_len p xs)) None (lt-ltb (position_or_len p xs) (length xs) h)
+
+  -- at a position that was found there is an element
+  pub position_there : (p : X → Bool) (xs : List X) (i : ℕ) → position p xs ≡ Some i → is_some (slice_get xs i) ≡ true
+  position_there p [] i h = absurd (none≢some h)
+    where
+      none≢some : {k : ℕ} → None ≡ Some k → ⊥
+      none≢some e = cc
+  position_there p (x ∷ xs) i h = ap is_some (slice_get-get_or (x ∷ xs) i x (position-Some p (x ∷ xs) i x h).0)

@@ -1,8 +1,15 @@
 -- How calls end.
-use Rattle.std.proofs.Common.{◌≡◌, ℕ, Bool, true, false, cond, Option, Some, None, Result, Err, refl, sym, ap, ◌∙◌, subst, is_some}
+use Rattle.std.proofs.Common.{◌≡◌, ℕ, Bool, true, false, cond, Option, Some, None, Result, Ok, Err, [], refl, sym, ap, ◌∙◌, subst, is_some}
 use Rattle.std.specs.Option.{option_map_or, IsSomeAnd, MatchOption}
 use Rattle.parking_lot_core.specs.declared.fault.LotFault.{LotFault}
 use Rattle.parking_lot_core.specs.declared.fault.LotFault.TheVariants.{WrongStatus, Busy}
+use Rattle.std.specs.Bool.{MatchBool}
+use Rattle.parking_lot_core.specs.declared.parking.UnparkToken.{UnparkToken}
+use Rattle.parking_lot_core.specs.declared.parking.UnparkResult.{UnparkResult}
+use Rattle.parking_lot_core.specs.declared.parking.RequeueOp.{RequeueOp}
+use Rattle.parking_lot_core.specs.declared.place.Waiter.{Waiter}
+use Rattle.parking_lot_core.specs.Results.{unpark_result}
+use Rattle.parking_lot_core.specs.Operations.{is_abort, Requeues, RequeuesBy}
 use Rattle.parking_lot_core.specs.declared.place.Phase.{Phase}
 use Rattle.parking_lot_core.specs.declared.place.Section.{Section}
 use Rattle.parking_lot_core.specs.Machine.{Machine, section_of, step_fault, busy, Unless}
@@ -32,3 +39,8 @@ free_section m e = free m.section e
     free : (o : Option Section) → cond (is_some o) (Some Busy) None ≡ None → o ≡ None
     free None e = refl
     free (Some s) e = absurd (some≢none e)
+
+-- a requeue that isn't aborted
+pub not_aborted : (gives : UnparkResult → UnparkToken → Type 0) (op : RequeueOp) (old : Machine) (from to : ℕ) (result : Result UnparkResult LotFault) (new : Machine) → is_abort op ≡ false
+    → RequeuesBy gives op old from to result new → Requeues gives op old from to result new
+not_aborted gives op old from to result new e by = subst (λ (b : Bool). MatchBool b ((result ≡ Ok (unpark_result {X = Waiter} 0 0 [])) × (new ≡ old)) (RequeuesBy gives op old from to result new)) (sym e) by

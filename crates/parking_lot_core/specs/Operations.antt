@@ -1,5 +1,5 @@
 -- What whole operations do.
-use Rattle.std.specs.Prelude.{◌≡◌, ℕ, Bool, true, false, not, List, [], ◌∷◌, length, drop, ◌-◌, min, Option, Some, None, Result, Ok, slice_set}
+use Rattle.std.specs.Prelude.{◌≡◌, ℕ, Bool, true, false, not, MatchBool, List, [], ◌∷◌, length, drop, ◌-◌, min, Option, Some, None, Result, Ok, slice_set}
 use Rattle.parking_lot_core.specs.declared.fault.LotFault.{LotFault}
 use Rattle.parking_lot_core.specs.declared.parking.UnparkToken.{UnparkToken}
 use Rattle.parking_lot_core.specs.declared.parking.ParkResult.{ParkResult}
@@ -38,12 +38,19 @@ RequeuesBy gives op old from to result new =
     let answer = unpark_result (length (woken_by op queue)) (length (moved_by op queue)) (left_by op queue) in
     (token : UnparkToken) × gives answer token × (result ≡ Ok answer) × (new ≡ requeued old op from to token)
 
+-- the operation is to do nothing
+abbrev pub is_abort : RequeueOp → Bool
+is_abort Abort = true
+is_abort UnparkOneRequeueRest = false
+is_abort RequeueAll = false
+is_abort UnparkOne = false
+is_abort RequeueOne = false
+
 abbrev pub Requeues : (UnparkResult → UnparkToken → Type 0) → RequeueOp → Machine → ℕ → ℕ → Result UnparkResult LotFault → Machine → Type 0
-Requeues gives Abort old from to result new = (result ≡ Ok (unpark_result {X = Waiter} 0 0 [])) × (new ≡ old)
-Requeues gives UnparkOneRequeueRest old from to result new = RequeuesBy gives UnparkOneRequeueRest old from to result new
-Requeues gives RequeueAll old from to result new = RequeuesBy gives RequeueAll old from to result new
-Requeues gives UnparkOne old from to result new = RequeuesBy gives UnparkOne old from to result new
-Requeues gives RequeueOne old from to result new = RequeuesBy gives RequeueOne old from to result new
+Requeues gives op old from to result new =
+    MatchBool (is_abort op)
+      ((result ≡ Ok (unpark_result {X = Waiter} 0 0 [])) × (new ≡ old))
+      (RequeuesBy gives op old from to result new)
 
 -- how many of so many waiters a requeue wakes, and how many it moves
 abbrev pub woken_count : RequeueOp → ℕ → ℕ

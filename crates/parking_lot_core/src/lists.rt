@@ -2,7 +2,7 @@
 //!
 //! Its contracts speak of the map alone, so that what it is made of can change.
 ghost use Rattle.std.specs.Prelude.{◌≡◌, ◌+◌, ◌<◌, ◌≤◌, ◌∷◌, ◌++◌, [], IfOk, OnOk, OnErr, MatchOption, ℕ, length, map, position, remove, slice_get, is_some, if◌then◌else◌, filter, not, ◌==◌, vec_capacity};
-ghost use Rattle.parking_lot_core.specs.Lists.{updated, kept, total, room, is_under, IsNth};
+ghost use Rattle.parking_lot_core.specs.Lists.{updated, without_first, kept, total, room, is_under, IsNth};
 
 use std::alloc::{AllocError, Allocator};
 
@@ -130,6 +130,22 @@ impl<T: Numbered, A: Allocator> Lists<T, A> {
         ensures { result ≡ position (λ item. T.number_of item == number) (kept self.now key) }
     {
         position_under(&self.entries, key, number)
+    }
+
+    /// Takes the first item of that number out of the key's list, and answers whether there was one.
+    pub fn take_number(&mut self, key: usize, number: usize) -> bool
+        ensures kept { kept self.new ≡ updated (kept self.old) key (without_first (λ item. T.number_of item == number) (kept self.old key)) }
+        ensures found { result ≡ is_some (position (λ item. T.number_of item == number) (kept self.old key)) }
+        ensures total { total self.old ≡ total self.new + (if result then 1 else 0) }
+        ensures room { room self.new ≡ room self.old }
+    {
+        match self.place_of(key, number) {
+            Some(nth) => {
+                self.take(key, nth);
+                true
+            }
+            None => false,
+        }
     }
 
     /// The numbers of the key's list, in order.

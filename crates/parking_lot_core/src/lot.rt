@@ -217,9 +217,7 @@ impl<A: Allocator> Lot<A> {
         if self.place(thread).is_none() {
             return Err(LotFault::WrongStatus);
         }
-        if let Some(nth) = self.owned.place_of(thread, key) {
-            self.owned.take(thread, nth);
-        }
+        self.owned.take_number(thread, key);
         Ok(())
     }
 }

@@ -9,7 +9,7 @@ ghost use Rattle.parking_lot_core.specs.declared.place.Place.TheVariants.{Runnin
 ghost use Rattle.parking_lot_core.specs.Places.{place_at};
 ghost use Rattle.parking_lot_core.specs.Results.{Answers, is_stop, is_left, unpark_result, chosen_by, passed_by, woken_by, moved_by, left_by};
 ghost use Rattle.parking_lot_core.specs.Machine.{machine, tokens_of, busy, enter_fault, resume_fault, opened, stored, closed, joined, taken, given_up, unparked, moved, requeued, Unless};
-ghost use Rattle.parking_lot_core.specs.Operations.{all_taken, woken_count, moved_count, Resumes, Requeues};
+ghost use Rattle.parking_lot_core.specs.Operations.{all_taken, is_abort, woken_count, moved_count, Resumes, Requeues};
 
 use crate::fault::LotFault;
 use crate::lot::Lot;
@@ -176,7 +176,7 @@ impl<A: Allocator> Lot<A> {
             return Err(fault);
         }
         let op = validate();
-        if matches!(op, RequeueOp::Abort) {
+        if is_abort(op) {
             return Ok(UnparkResult::default());
         }
         self.open(None, key_from);
@@ -286,9 +286,7 @@ impl<A: Allocator> Lot<A> {
         requires { (sleep : _) × (place_at (machine self.old).places thread ≡ Some (Waiting key sleep)) }
         ensures { machine self.new ≡ given_up (machine self.old) thread key }
     {
-        if let Some(nth) = self.waiting.place_of(key, thread) {
-            self.waiting.take(key, nth);
-        }
+        self.waiting.take_number(key, thread);
         put(&mut self.places, thread, Some(Place::Running));
     }
 }
@@ -313,4 +311,11 @@ fn moved_count(op: RequeueOp, count: usize) -> usize
         RequeueOp::RequeueOne => count.min(1),
         RequeueOp::Abort | RequeueOp::UnparkOne => 0,
     }
+}
+
+/// Whether the operation is to do nothing.
+fn is_abort(op: RequeueOp) -> bool
+    ensures { result ≡ is_abort op }
+{
+    matches!(op, RequeueOp::Abort)
 }
