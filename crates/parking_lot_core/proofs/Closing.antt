@@ -67,9 +67,10 @@ module _ {A : Type 0} (p : Parts) (w : Lists Waiter A) where
   pub placed : (t : ℕ) (old new : Place) → Owed p w → place_at p.places t ≡ Some old
       → ((k : ℕ) → waits_at k new ≡ waits_at k old) → is_waiting new ≡ is_waiting old → (p.section ≡ None → is_held new ≡ false) → (old ≡ Running → new ≡ Running)
       → Owed (record p { places = slice_set p.places t (Some new) }) w
-  placed t old new h at waits waiting free runs =
-      (sound_place (machine p) t old new h.0 at waits free runs,
-       room_next w w p.places p.max_threads t old (Some new) h.1 at refl (let e : flag (is_waiting new) ≡ flag (is_waiting old) = ap flag waiting in omega arith))
+  placed t old new h at waits waiting free runs = (
+    sound_place (machine p) t old new h.0 at waits free runs,
+    room_next w w p.places p.max_threads t old (Some new) h.1 at refl (let e : flag (is_waiting new) ≡ flag (is_waiting old) = ap flag waiting in omega arith),
+  )
 
   -- a deadline that comes moves nobody
   pub placed_late : (t : ℕ) (old : Place) → Owed p w → place_at p.places t ≡ Some old → Owed (record p { places = slice_set p.places t (Some (late old)) }) w
@@ -97,9 +98,10 @@ module _ {A : Type 0} (p : Parts) (w : Lists Waiter A) where
   -- a number is given back
   pub gone : (t : ℕ) (owned : List (Entry ℕ)) → Owed p w → retire_fault (machine p) t ≡ None → lists_of owned ≡ updated (lists_of p.owned) t [] → Owed (record p { owned = owned; places = slice_set p.places t None }) w
   gone t owned h free e =
-      let at = unrefused (machine p) t (runs (status_at (machine p) t)) refl free in
-      (subst (λ (resources : ℕ → List ℕ). Sound (record (machine p) { resources = resources; places = slice_set p.places t None })) (sym e) (sound_retired (machine p) t h.0 at.0 at.1),
-       room_next w w p.places p.max_threads t Running None h.1 at.0 refl (omega arith))
+      let at = unrefused (machine p) t (runs (status_at (machine p) t)) refl free in (
+        subst (λ (resources : ℕ → List ℕ). Sound (record (machine p) { resources = resources; places = slice_set p.places t None })) (sym e) (sound_retired (machine p) t h.0 at.0 at.1),
+        room_next w w p.places p.max_threads t Running None h.1 at.0 refl (omega arith),
+      )
 
 -- a section that comes on, and one that closes
 module _ {A : Type 0} (p : Parts) (w : Lists Waiter A) where
@@ -129,11 +131,12 @@ module _ {A : Type 0} (p : Parts) (w : Lists Waiter A) where
       → ((s : Section) → p.section ≡ Some s → s.thread ≡ Some t → may_join s.phase ≡ false)
       → lists_of v.entries.items ≡ updated (lists_of p.waiting) key (lists_of p.waiting key ++ record { thread = t; token = token } ∷ []) → total v ≡ total w + 1 → room v ≡ room w
       → let mark = (p.sleeps + 1) % 2 ^ 64 in
-        Owed (record p { sleeps = mark; waiting = v.entries.items; places = slice_set p.places t (Some (Waiting key (record { mark = mark; timed = timed; late = false }))) }) v
+      Owed (record p { sleeps = mark; waiting = v.entries.items; places = slice_set p.places t (Some (Waiting key (record { mark = mark; timed = timed; late = false }))) }) v
   joined_parts v t key token timed h at outside kept more same =
-      let place : Place = Waiting key (record { mark = (p.sleeps + 1) % 2 ^ 64; timed = timed; late = false }) in
-      (subst (λ (qs : ℕ → List Waiter). Sound (record (joined (machine p) t key token timed) { queues = qs })) (sym kept) (sound_joined (machine p) t key token timed h.0 at outside),
-       room_next w v p.places p.max_threads t Running (Some place) h.1 at same (omega arith))
+      let place : Place = Waiting key (record { mark = (p.sleeps + 1) % 2 ^ 64; timed = timed; late = false }) in (
+        subst (λ (qs : ℕ → List Waiter). Sound (record (joined (machine p) t key token timed) { queues = qs })) (sym kept) (sound_joined (machine p) t key token timed h.0 at outside),
+        room_next w v p.places p.max_threads t Running (Some place) h.1 at same (omega arith),
+      )
 
   -- nobody is taken where the list has ended
   pub nobody_taken : (v : Lists Waiter A) (key nth : ℕ) → Owed p w → None ≡ slice_get (lists_of p.waiting key) nth
@@ -142,9 +145,10 @@ module _ {A : Type 0} (p : Parts) (w : Lists Waiter A) where
   nobody_taken v key nth h none kept count same =
       let past : length (lists_of p.waiting key) ≤ nth = slice_get_none (lists_of p.waiting key) nth (sym none) in
       let r = h.1.waits in
-      let s = h.1.room in
-      (subst (λ (qs : ℕ → List Waiter). Sound (record (machine p) { queues = qs })) (updated_past (lists_of p.waiting) key nth past ∙ sym kept) h.0,
-       record { waits = omega arith; room = omega arith; threads = h.1.threads; limit = h.1.limit })
+      let s = h.1.room in (
+        subst (λ (qs : ℕ → List Waiter). Sound (record (machine p) { queues = qs })) (updated_past (lists_of p.waiting) key nth past ∙ sym kept) h.0,
+        record { waits = omega arith; room = omega arith; threads = h.1.threads; limit = h.1.limit },
+      )
 
   module _ (v : Lists Waiter A) (key nth : ℕ) (x : Waiter) (h : Owed p w) (at : slice_get (lists_of p.waiting key) nth ≡ Some x) where
     stands : (f : Place → Place) → let sleep = (waiter_place (machine p) key nth x h.0 at).0 in slice_set p.places x.thread (Some (f (Waiting key sleep))) ≡ changed f p.places x.thread
@@ -155,10 +159,11 @@ module _ {A : Type 0} (p : Parts) (w : Lists Waiter A) where
         → Owed (record p { waiting = v.entries.items; places = changed held p.places x.thread }) v
     held_parts entered kept count same =
         let s = waiter_place (machine p) key nth x h.0 at in
-        subst (λ (ps : List (Option Place)). Owed (record p { waiting = v.entries.items; places = ps }) v) (stands held)
-        (subst (λ (qs : ℕ → List Waiter). Sound (record (machine p) { queues = qs; places = slice_set p.places x.thread (Some (Held s.0)) })) (sym kept)
-          (sound_left (machine p) key nth x h.0 at (Held s.0) (λ k. refl) (λ none. absurd (false≢true (sym (ap is_some none) ∙ entered)))),
-         room_next w v p.places p.max_threads x.thread (Waiting key s.0) (Some (Held s.0)) h.1 s.1 same (omega arith))
+        subst (λ (ps : List (Option Place)). Owed (record p { waiting = v.entries.items; places = ps }) v) (stands held) (
+          subst (λ (qs : ℕ → List Waiter). Sound (record (machine p) { queues = qs; places = slice_set p.places x.thread (Some (Held s.0)) })) (sym kept)
+              (sound_left (machine p) key nth x h.0 at (Held s.0) (λ k. refl) (λ none. absurd (false≢true (sym (ap is_some none) ∙ entered)))),
+          room_next w v p.places p.max_threads x.thread (Waiting key s.0) (Some (Held s.0)) h.1 s.1 same (omega arith),
+        )
 
     -- it moves to another list
     pub moved_parts : (u : Lists Waiter A) (to : ℕ) → lists_of v.entries.items ≡ updated (lists_of p.waiting) key (remove (lists_of p.waiting key) nth)
@@ -166,10 +171,11 @@ module _ {A : Type 0} (p : Parts) (w : Lists Waiter A) where
         → Owed (record p { waiting = u.entries.items; places = changed (moved_to to) p.places x.thread }) u
     moved_parts u to kept pushed count more same =
         let s = waiter_place (machine p) key nth x h.0 at in
-        subst (λ (ps : List (Option Place)). Owed (record p { waiting = u.entries.items; places = ps }) u) (stands (moved_to to))
-        (subst (λ (qs : ℕ → List Waiter). Sound (record (machine p) { queues = qs; places = slice_set p.places x.thread (Some (Waiting to s.0)) })) (sym (pushed ∙ ap (λ (qs : ℕ → List Waiter). updated qs to (qs to ++ x ∷ [])) kept))
-          (sound_relisted (machine p) key nth x h.0 at to s.0),
-         room_next w u p.places p.max_threads x.thread (Waiting key s.0) (Some (Waiting to s.0)) h.1 s.1 same (omega arith))
+        subst (λ (ps : List (Option Place)). Owed (record p { waiting = u.entries.items; places = ps }) u) (stands (moved_to to)) (
+          subst (λ (qs : ℕ → List Waiter). Sound (record (machine p) { queues = qs; places = slice_set p.places x.thread (Some (Waiting to s.0)) })) (sym (pushed ∙ ap (λ (qs : ℕ → List Waiter). updated qs to (qs to ++ x ∷ [])) kept))
+              (sound_relisted (machine p) key nth x h.0 at to s.0),
+          room_next w u p.places p.max_threads x.thread (Waiting key s.0) (Some (Waiting to s.0)) h.1 s.1 same (omega arith),
+        )
 
 -- the section, with its phase and then its token changed
 pub mapped_twice : (a b c : Option Section) (token : UnparkToken) → b ≡ option_map {T = Section} (λ s. record s { phase = phase.Stored }) a → c ≡ option_map {T = Section} (λ s. record s { token = token }) b
@@ -205,8 +211,9 @@ module _ {A : Type 0} (p : Parts) (w v : Lists Waiter A) (t key : ℕ) (s : Slee
   pub gave_up : lists_of v.entries.items ≡ updated (lists_of p.waiting) key (without_first (is_thread t) queue) → total w ≡ total v + 1 → room v ≡ room w
       → Owed (record p { waiting = v.entries.items; places = slice_set p.places t (Some Running) }) v
   gave_up kept count same =
-      let same_thread : itself.0.thread ≡ t = eqb-true itself.0.thread t itself.2 in
-      (subst (λ (qs : ℕ → List Waiter). Sound (record (machine p) { queues = qs; places = slice_set p.places t (Some Running) })) (sym kept)
-        (subst (λ (u : ℕ). Sound (record (machine p) { queues = updated (lists_of p.waiting) key (without_first (is_thread t) queue); places = slice_set p.places u (Some Running) })) same_thread
-          (sound_left (machine p) key (position_or_len (is_thread t) queue) itself.0 h.0 itself.1 Running (λ k. refl) (λ none. refl))),
-       room_next w v p.places p.max_threads t (Waiting key s) (Some Running) h.1 at same (omega arith))
+      let same_thread : itself.0.thread ≡ t = eqb-true itself.0.thread t itself.2 in (
+        subst (λ (qs : ℕ → List Waiter). Sound (record (machine p) { queues = qs; places = slice_set p.places t (Some Running) })) (sym kept)
+            (subst (λ (u : ℕ). Sound (record (machine p) { queues = updated (lists_of p.waiting) key (without_first (is_thread t) queue); places = slice_set p.places u (Some Running) })) same_thread
+            (sound_left (machine p) key (position_or_len (is_thread t) queue) itself.0 h.0 itself.1 Running (λ k. refl) (λ none. refl))),
+        room_next w v p.places p.max_threads t (Waiting key s) (Some Running) h.1 at same (omega arith),
+      )

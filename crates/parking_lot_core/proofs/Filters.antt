@@ -76,23 +76,34 @@ module _ {F : Type 0} (gives : F → ParkToken → FilterOp → F → Type 0) (f
     pub sought_takes : Sought f at → gives f w.token Unpark g → Found (Some at)
     sought_takes s h =
         let any : list_any is_take (s.0 ++ Unpark ∷ []) ≡ true = list_any_more is_take s.0 Unpark ∙ ap (λ b. b || true) s.1 in
-        let count : passed + count_by is_skip (s.0 ++ Unpark ∷ []) ≡ at = ap (λ n. passed + n) (count_by-push is_skip s.0 Unpark ∙ add-zero (count_by is_skip s.0)) ∙ s.2 in
-        (s.0 ++ Unpark ∷ [], g, shown_stop gives is_no_skip f0 (tokens_of (drop passed queue)) s.0 f g w.token (tokens_of (drop (at + 1) queue)) Unpark (ahead s) h refl,
-         ap (λ n. Some n) (sym count) ∙ sym (cond-true (list_any is_take (s.0 ++ Unpark ∷ [])) (Some (passed + count_by is_skip (s.0 ++ Unpark ∷ []))) None any))
+        let count : passed + count_by is_skip (s.0 ++ Unpark ∷ []) ≡ at = ap (λ n. passed + n) (count_by-push is_skip s.0 Unpark ∙ add-zero (count_by is_skip s.0)) ∙ s.2 in (
+          s.0 ++ Unpark ∷ [],
+          g,
+          shown_stop gives is_no_skip f0 (tokens_of (drop passed queue)) s.0 f g w.token (tokens_of (drop (at + 1) queue)) Unpark (ahead s) h refl,
+          ap (λ n. Some n) (sym count) ∙ sym (cond-true (list_any is_take (s.0 ++ Unpark ∷ [])) (Some (passed + count_by is_skip (s.0 ++ Unpark ∷ []))) None any),
+        )
 
     pub sought_stops : Sought f at → gives f w.token Stop g → Found None
     sought_stops s h =
-        let any : list_any is_take (s.0 ++ Stop ∷ []) ≡ false = list_any_more is_take s.0 Stop ∙ ap (λ b. b || false) s.1 in
-        (s.0 ++ Stop ∷ [], g, shown_stop gives is_no_skip f0 (tokens_of (drop passed queue)) s.0 f g w.token (tokens_of (drop (at + 1) queue)) Stop (ahead s) h refl,
-         sym (cond-false (list_any is_take (s.0 ++ Stop ∷ [])) (Some (passed + count_by is_skip (s.0 ++ Stop ∷ []))) None any))
+        let any : list_any is_take (s.0 ++ Stop ∷ []) ≡ false = list_any_more is_take s.0 Stop ∙ ap (λ b. b || false) s.1 in (
+          s.0 ++ Stop ∷ [],
+          g,
+          shown_stop gives is_no_skip f0 (tokens_of (drop passed queue)) s.0 f g w.token (tokens_of (drop (at + 1) queue)) Stop (ahead s) h refl,
+          sym (cond-false (list_any is_take (s.0 ++ Stop ∷ [])) (Some (passed + count_by is_skip (s.0 ++ Stop ∷ []))) None any),
+        )
 
     pub sought_passes : Sought f at → gives f w.token Skip g → Sought g (at + 1)
-    sought_passes s h =
-        (s.0 ++ Skip ∷ [], list_any_more is_take s.0 Skip ∙ ap (λ b. b || false) s.1,
-         (let n = count_by-push is_skip s.0 Skip in let e = s.2 in omega arith),
-         shown_more gives is_no_skip f0 (tokens_of (drop passed queue)) s.0 f g w.token (tokens_of (drop (at + 1) queue)) Skip (ahead s) h refl)
+    sought_passes s h = (
+      s.0 ++ Skip ∷ [],
+      list_any_more is_take s.0 Skip ∙ ap (λ b. b || false) s.1,
+      (let n = count_by-push is_skip s.0 Skip in let e = s.2 in omega arith),
+      shown_more gives is_no_skip f0 (tokens_of (drop passed queue)) s.0 f g w.token (tokens_of (drop (at + 1) queue)) Skip (ahead s) h refl,
+    )
 
   pub sought_ends : (f : F) (at : ℕ) → length queue ≤ at → Sought f at → Found None
-  sought_ends f at past s =
-      (s.0, f, shown_end gives is_no_skip f0 (tokens_of (drop passed queue)) s.0 f (subst (λ (ts : List ParkToken). Shown gives is_no_skip f0 (tokens_of (drop passed queue)) s.0 f ts) (ap tokens_of (drop_all at queue past)) s.3),
-       sym (cond-false (list_any is_take s.0) (Some (passed + count_by is_skip s.0)) None s.1))
+  sought_ends f at past s = (
+    s.0,
+    f,
+    shown_end gives is_no_skip f0 (tokens_of (drop passed queue)) s.0 f (subst (λ (ts : List ParkToken). Shown gives is_no_skip f0 (tokens_of (drop passed queue)) s.0 f ts) (ap tokens_of (drop_all at queue past)) s.3),
+    sym (cond-false (list_any is_take s.0) (Some (passed + count_by is_skip s.0)) None s.1),
+  )

@@ -94,11 +94,11 @@ module _ {T : Type 0} where
       let ys = lists_of (drop (suc at) es) key in
       by_key (lists_of (remove es at)) (updated (lists_of es) key (remove (lists_of es key) nth)) key
       (lists_of-append (take at es) (drop (suc at) es) key
-        ∙ (sym (ap (λ zs. remove zs nth) (cut_here es key nth at item h) ∙ (ap (λ n. remove (xs ++ item ∷ ys) n) (sym h.before) ∙ remove-seam xs item ys))
-        ∙ sym (updated_at (lists_of es) key (remove (lists_of es key) nth))))
+      ∙ (sym (ap (λ zs. remove zs nth) (cut_here es key nth at item h) ∙ (ap (λ n. remove (xs ++ item ∷ ys) n) (sym h.before) ∙ remove-seam xs item ys))
+      ∙ sym (updated_at (lists_of es) key (remove (lists_of es key) nth))))
       (λ k e. lists_of-append (take at es) (drop (suc at) es) k
-        ∙ (ap (λ zs. lists_of (take at es) k ++ zs) (sym (lists_of-cons_other key item (drop (suc at) es) k (eqb_false_symm k key e)))
-        ∙ (sym (cut_lists es key nth at item h k) ∙ sym (updated_other (lists_of es) key (remove (lists_of es key) nth) k e))))
+      ∙ (ap (λ zs. lists_of (take at es) k ++ zs) (sym (lists_of-cons_other key item (drop (suc at) es) k (eqb_false_symm k key e)))
+      ∙ (sym (cut_lists es key nth at item h k) ∙ sym (updated_other (lists_of es) key (remove (lists_of es key) nth) k e))))
 
   -- one more entry, at its key and elsewhere
   pub lists_of-more_at : (es : List (Entry T)) (i : ℕ) (e : Entry T) (key : ℕ) → i < length es → get_or es i e ≡ e → e.key ≡ key → lists_of (take (i + 1) es) key ≡ lists_of (take i es) key ++ e.item ∷ []
@@ -110,7 +110,6 @@ module _ {T : Type 0} where
   lists_of-more_other es i e key h at other =
       rw add-one (ap (λ xs. lists_of xs key) (take-suc es i e h) ∙ (lists_of-append (take i es) (get_or es i e ∷ []) key
       ∙ (ap (λ ys. lists_of (take i es) key ++ ys) (ap (λ x. lists_of (x ∷ []) key) at ∙ ap (map (λ x. x.item)) (cond-false (e.key == key) (e ∷ []) [] other)) ∙ append-nil (lists_of (take i es) key))))
-
 
   -- what stands in the list under a key, by its entries
   position_or_len-items : (p : T → Bool) (es : List (Entry T)) → position_or_len (λ e. p e.item) es ≡ position_or_len p (map (λ e. e.item) es)
@@ -127,14 +126,14 @@ module _ {T : Type 0} where
   none_of key [] = refl
   none_of key (x ∷ xs) =
       let both : (b : Bool) → (x.key == key) ≡ b → filter (is_under key) (cond (not b) (x ∷ filter (λ e. not (is_under key e)) xs) (filter (λ e. not (is_under key e)) xs)) ≡ []
-            = elim [ true ↦ λ e. none_of key xs | false ↦ λ e. cond-false (x.key == key) (x ∷ filter (is_under key) (filter (λ y. not (is_under key y)) xs)) (filter (is_under key) (filter (λ y. not (is_under key y)) xs)) e ∙ none_of key xs ] in
+      = elim [ true ↦ λ e. none_of key xs | false ↦ λ e. cond-false (x.key == key) (x ∷ filter (is_under key) (filter (λ y. not (is_under key y)) xs)) (filter (is_under key) (filter (λ y. not (is_under key y)) xs)) e ∙ none_of key xs ] in
       both (x.key == key) refl
 
   others_of : (key k : ℕ) → (k == key) ≡ false → (es : List (Entry T)) → filter (is_under k) (filter (λ e. not (is_under key e)) es) ≡ filter (is_under k) es
   others_of key k other [] = refl
   others_of key k other (x ∷ xs) =
       let both : (b : Bool) → (x.key == key) ≡ b → filter (is_under k) (cond (not b) (x ∷ filter (λ e. not (is_under key e)) xs) (filter (λ e. not (is_under key e)) xs)) ≡ filter (is_under k) (x ∷ xs)
-            = elim [ true ↦ λ e. others_of key k other xs ∙ sym (cond-false (x.key == k) (x ∷ filter (is_under k) xs) (filter (is_under k) xs) (ne_eqb x.key k (λ h. eqb-false k key other (sym h ∙ eqb-true x.key key e)))) | false ↦ λ e. ap (λ ys. cond (x.key == k) (x ∷ ys) ys) (others_of key k other xs) ] in
+      = elim [ true ↦ λ e. others_of key k other xs ∙ sym (cond-false (x.key == k) (x ∷ filter (is_under k) xs) (filter (is_under k) xs) (ne_eqb x.key k (λ h. eqb-false k key other (sym h ∙ eqb-true x.key key e)))) | false ↦ λ e. ap (λ ys. cond (x.key == k) (x ∷ ys) ys) (others_of key k other xs) ] in
       both (x.key == key) refl
 
   pub lists_of-clear : (es : List (Entry T)) (key : ℕ) → lists_of (filter (λ e. not (is_under key e)) es) ≡ updated (lists_of es) key []
@@ -145,11 +144,13 @@ module _ {T : Type 0} where
 
   -- the code's loop over the entries
   pub found : (es : List (Entry T)) (i : ℕ) (e : Entry T) (key nth passed : ℕ) → i < length es → e ≡ get_or es i e → e.key ≡ key → passed ≡ length (lists_of (take i es) key) → passed ≡ nth → (item : T) × IsNth es key nth i item
-  found es i e key nth passed h at same count stop =
-      (e.item, record {
-        there = slice_get-get_or es i e h ∙ ap (λ x. Some x) (sym at ∙ ap (λ k. record { key = k; item = e.item }) same);
-        before = sym count ∙ stop;
-      })
+  found es i e key nth passed h at same count stop = (
+    e.item,
+    record {
+      there = slice_get-get_or es i e h ∙ ap (λ x. Some x) (sym at ∙ ap (λ k. record { key = k; item = e.item }) same);
+      before = sym count ∙ stop;
+    },
+  )
 
   pub passed_at : (es : List (Entry T)) (i : ℕ) (e : Entry T) (key passed : ℕ) → i < length es → e ≡ get_or es i e → e.key ≡ key → passed ≡ length (lists_of (take i es) key) → passed + 1 ≡ length (lists_of (take (i + 1) es) key)
   passed_at es i e key passed h at same count =

@@ -29,13 +29,14 @@ module _ {X : Type 0} where
       let g = relisted qs key key (x ∷ rest) xs in
       let h = updated qs key (x ∷ (rest ++ xs)) in
       let same : g ≡ h = within_one qs key (x ∷ rest) xs in
-      let at : h key ≡ x ∷ (rest ++ xs) = updated_at qs key (x ∷ (rest ++ xs)) in
-      (ap (λ (q : ℕ → List X). slice_get (q key) 0) same ∙ ap (λ ys. slice_get ys 0) at,
-       ap (λ (q : ℕ → List X). relisted q key key (remove (q key) 0) (x ∷ [])) same
-       ∙ (within_one h key (remove (h key) 0) (x ∷ [])
-       ∙ (ap (λ ys. updated h key (remove ys 0 ++ x ∷ [])) at
-       ∙ (updated_twice qs key (x ∷ (rest ++ xs)) ((rest ++ xs) ++ x ∷ [])
-       ∙ (ap (updated qs key) (append_assoc rest xs (x ∷ [])) ∙ sym (within_one qs key rest (xs ++ x ∷ [])))))))
+      let at : h key ≡ x ∷ (rest ++ xs) = updated_at qs key (x ∷ (rest ++ xs)) in (
+        ap (λ (q : ℕ → List X). slice_get (q key) 0) same ∙ ap (λ ys. slice_get ys 0) at,
+        ap (λ (q : ℕ → List X). relisted q key key (remove (q key) 0) (x ∷ [])) same
+            ∙ (within_one h key (remove (h key) 0) (x ∷ [])
+            ∙ (ap (λ ys. updated h key (remove ys 0 ++ x ∷ [])) at
+            ∙ (updated_twice qs key (x ∷ (rest ++ xs)) ((rest ++ xs) ++ x ∷ [])
+            ∙ (ap (updated qs key) (append_assoc rest xs (x ∷ [])) ∙ sym (within_one qs key rest (xs ++ x ∷ [])))))),
+      )
 
   module _ (qs : ℕ → List X) (from to : ℕ) (apart : (from == to) ≡ false) where
     between : (rest xs : List X) → relisted qs from to rest xs ≡ updated (updated qs from rest) to (qs to ++ xs)
@@ -48,14 +49,15 @@ module _ {X : Type 0} where
         let at : g from ≡ x ∷ rest = updated_other q to (q to ++ xs) from apart ∙ updated_at qs from (x ∷ rest) in
         let goes : g to ≡ qs to ++ xs = updated_at q to (q to ++ xs) ∙ ap (λ ys. ys ++ xs) (updated_other qs from (x ∷ rest) to (eqb_false_symm from to apart)) in
         let h = updated g from rest in
-        let ends : h to ≡ qs to ++ xs = updated_other g from rest to (eqb_false_symm from to apart) ∙ goes in
-        (ap (λ ys. slice_get ys 0) at,
-         ap (λ ys. relisted g from to (remove ys 0) (x ∷ [])) at
-         ∙ (ap (λ ys. updated h to (ys ++ x ∷ [])) ends
-         ∙ (by_key (updated h to ((qs to ++ xs) ++ x ∷ [])) (updated (updated qs from rest) to (qs to ++ (xs ++ x ∷ []))) to
-             (updated_at h to ((qs to ++ xs) ++ x ∷ []) ∙ (append_assoc (qs to) xs (x ∷ []) ∙ sym (updated_at (updated qs from rest) to (qs to ++ (xs ++ x ∷ [])))))
-             (λ k e. updated_other h to ((qs to ++ xs) ++ x ∷ []) k e ∙ (elsewhere x rest xs k e ∙ sym (updated_other (updated qs from rest) to (qs to ++ (xs ++ x ∷ [])) k e)))
-         ∙ sym (between rest (xs ++ x ∷ [])))))
+        let ends : h to ≡ qs to ++ xs = updated_other g from rest to (eqb_false_symm from to apart) ∙ goes in (
+          ap (λ ys. slice_get ys 0) at,
+          ap (λ ys. relisted g from to (remove ys 0) (x ∷ [])) at
+              ∙ (ap (λ ys. updated h to (ys ++ x ∷ [])) ends
+              ∙ (by_key (updated h to ((qs to ++ xs) ++ x ∷ [])) (updated (updated qs from rest) to (qs to ++ (xs ++ x ∷ []))) to
+              (updated_at h to ((qs to ++ xs) ++ x ∷ []) ∙ (append_assoc (qs to) xs (x ∷ []) ∙ sym (updated_at (updated qs from rest) to (qs to ++ (xs ++ x ∷ [])))))
+              (λ k e. updated_other h to ((qs to ++ xs) ++ x ∷ []) k e ∙ (elsewhere x rest xs k e ∙ sym (updated_other (updated qs from rest) to (qs to ++ (xs ++ x ∷ [])) k e)))
+              ∙ sym (between rest (xs ++ x ∷ [])))),
+        )
       where
         elsewhere : (x : X) (rest xs : List X) (k : ℕ) → (k == to) ≡ false → updated (relisted qs from to (x ∷ rest) xs) from rest k ≡ updated qs from rest k
         elsewhere x rest xs k e =
@@ -74,8 +76,8 @@ module _ {X : Type 0} where
 pub moved_none : (m : Machine) (from to : ℕ) → m ≡ moved m from to [] (m.queues from)
 moved_none m from to =
     ap (λ (qs : ℕ → List Waiter). record m { queues = qs }) (sym (
-      ap (λ (q : ℕ → List Waiter). updated q to (q to ++ [])) (updated_same m.queues from)
-      ∙ (ap (updated m.queues to) (append-nil (m.queues to)) ∙ updated_same m.queues to)))
+    ap (λ (q : ℕ → List Waiter). updated q to (q to ++ [])) (updated_same m.queues from)
+    ∙ (ap (updated m.queues to) (append-nil (m.queues to)) ∙ updated_same m.queues to)))
 
 -- one more moves
 pub moved_more : (m : Machine) (from to i : ℕ) (w : Waiter) → let q = m.queues from in slice_get q i ≡ Some w → moved_first (moved m from to (take i q) (drop i q)) from to ≡ moved m from to (take (i + 1) q) (drop (i + 1) q)
@@ -86,12 +88,12 @@ moved_more m from to i w at =
     let step = steps m.queues from to w (drop (suc i) q) (take i q) in
     let before = moved m from to (take i q) (w ∷ drop (suc i) q) in
     rw add-one (
-      ap (λ (ws : List Waiter). moved_first (moved m from to (take i q) ws) from to) split
-      ∙ (ap (λ o. option_map_or (λ x. moved before from to (x ∷ []) (remove (before.queues from) 0)) o before) step.0
-      ∙ (ap (λ (qs : ℕ → List Waiter). record (moved before from to (w ∷ []) (remove (before.queues from) 0)) { queues = qs }) step.1
-      ∙ (ap (λ (ps : List (Option Place)). record m { queues = relisted m.queues from to (drop (suc i) q) (take i q ++ w ∷ []); places = ps })
-          (sym (ap (all_changed (moved_to to) m.places) (threads_more (take i q) w) ∙ all_changed_more (moved_to to) m.places (threads_of (take i q)) w.thread))
-      ∙ ap (λ (ws : List Waiter). moved m from to ws (drop (suc i) q)) (sym cut.0)))))
+    ap (λ (ws : List Waiter). moved_first (moved m from to (take i q) ws) from to) split
+    ∙ (ap (λ o. option_map_or (λ x. moved before from to (x ∷ []) (remove (before.queues from) 0)) o before) step.0
+    ∙ (ap (λ (qs : ℕ → List Waiter). record (moved before from to (w ∷ []) (remove (before.queues from) 0)) { queues = qs }) step.1
+    ∙ (ap (λ (ps : List (Option Place)). record m { queues = relisted m.queues from to (drop (suc i) q) (take i q ++ w ∷ []); places = ps })
+    (sym (ap (all_changed (moved_to to) m.places) (threads_more (take i q) w) ∙ all_changed_more (moved_to to) m.places (threads_of (take i q)) w.thread))
+    ∙ ap (λ (ws : List Waiter). moved m from to ws (drop (suc i) q)) (sym cut.0)))))
   where
     front : (xs : List Waiter) → slice_get xs 0 ≡ Some w → xs ≡ w ∷ remove xs 0
     front [] e = absurd (none≢some e)

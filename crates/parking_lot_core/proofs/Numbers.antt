@@ -26,7 +26,7 @@ module _ {X : Type 0} where
   unwrap_or-position p xs =
       let n = position_or_len p xs in
       let both : (b : Bool) → nat_lt n (length xs) ≡ b → unwrap_or (cond b (Some n) None) (length xs) ≡ n
-            = elim [ true ↦ λ e. refl | false ↦ λ e. (let a : length xs ≤ n = ltb-false n (length xs) e in let b : n ≤ length xs = position_or_len-le p xs in omega arith) ] in
+      = elim [ true ↦ λ e. refl | false ↦ λ e. (let a : length xs ≤ n = ltb-false n (length xs) e in let b : n ≤ length xs = position_or_len-le p xs in omega arith) ] in
       both (nat_lt n (length xs)) refl
 
   -- one element changed
@@ -110,12 +110,12 @@ module _ {X : Type 0} where
   first_passes p [] h = absurd (omega arith)
   first_passes p (y ∷ xs) h =
       let both : (b : Bool) → p y ≡ b → (x : X) × (slice_get (y ∷ xs) (cond (not b) (1 + position_or_len p xs) 0) ≡ Some x) × (p x ≡ true) = elim [
-        true ↦ λ e. (y, refl, e)
-      | false ↦ λ e.
-          let c = count_by-cons p y xs in
-          let f : flag (p y) ≡ 0 = ap flag e in
-          let r = first_passes p xs (omega arith) in
-          (r.0, ap (slice_get (y ∷ xs)) (one_more (position_or_len p xs)) ∙ r.1, r.2)
+        | true ↦ λ e. (y, refl, e)
+        | false ↦ λ e.
+            let c = count_by-cons p y xs in
+            let f : flag (p y) ≡ 0 = ap flag e in
+            let r = first_passes p xs (omega arith) in
+            (r.0, ap (slice_get (y ∷ xs)) (one_more (position_or_len p xs)) ∙ r.1, r.2)
       ] in
       both (p y) refl
     where

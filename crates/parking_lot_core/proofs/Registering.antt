@@ -64,8 +64,8 @@ sound_registered m h =
     (λ none. ap (λ o. option_map_or is_held o false) here)
     (λ s is whose may. here)
     (λ u none. by_eqb u n (m.resources u ≡ [])
-        (λ e. absurd (some≢none (sym here ∙ (ap (place_at ps) (sym e) ∙ none))))
-        (λ e. h.owned u (sym (other u e) ∙ none)))
+    (λ e. absurd (some≢none (sym here ∙ (ap (place_at ps) (sym e) ∙ none))))
+    (λ e. h.owned u (sym (other u e) ∙ none)))
 
 -- which is the same as a place that is written, or added at the end
 pub registered_within : (ps : List (Option Place)) → free_number ps < length ps → slice_set ps (free_number ps) (Some Running) ≡ take (free_number ps) ps ++ Some Running ∷ drop (suc (free_number ps)) ps
@@ -87,9 +87,10 @@ module _ {A : Type 0} (p : Parts) (w : Lists Waiter A) where
       let l : length q ≡ length ps = length-set ps n (Some Running) in
       let r = h.1.waits in
       let s = h.1.room in
-      let t = h.1.threads in
-      (subst (λ (xs : List (Option Place)). Sound (record (machine p) { places = xs })) (sym (registered_within ps fits)) (sound_registered (machine p) h.0),
-       record { waits = omega arith; room = omega arith; threads = omega arith; limit = h.1.limit })
+      let t = h.1.threads in (
+        subst (λ (xs : List (Option Place)). Sound (record (machine p) { places = xs })) (sym (registered_within ps fits)) (sound_registered (machine p) h.0),
+        record { waits = omega arith; room = omega arith; threads = omega arith; limit = h.1.limit },
+      )
 
   pub past : (v : Lists Waiter A) → Owed p w → length p.places ≤ free_number p.places → lists_of v.entries.items ≡ lists_of p.waiting → total v ≡ total w → length p.places + 1 ≤ room v → length p.places + 1 ≤ p.max_threads
       → Owed (record p { waiting = v.entries.items; places = p.places ++ Some Running ∷ [] }) v
@@ -97,7 +98,8 @@ module _ {A : Type 0} (p : Parts) (w : Lists Waiter A) where
       let ps = p.places in
       let c = count_by-push waits ps (Some Running) in
       let l = length_push ps (Some Running) in
-      let r = h.1.waits in
-      (subst (λ (xs : List (Option Place)). Sound (record (machine p) { queues = lists_of v.entries.items; places = xs })) (sym (registered_past ps full))
-        (subst (λ (qs : ℕ → List Waiter). Sound (record (registered (machine p)) { queues = qs })) (sym same) (sound_registered (machine p) h.0)),
-       record { waits = omega arith; room = omega arith; threads = omega arith; limit = h.1.limit })
+      let r = h.1.waits in (
+        subst (λ (xs : List (Option Place)). Sound (record (machine p) { queues = lists_of v.entries.items; places = xs })) (sym (registered_past ps full))
+            (subst (λ (qs : ℕ → List Waiter). Sound (record (registered (machine p)) { queues = qs })) (sym same) (sound_registered (machine p) h.0)),
+        record { waits = omega arith; room = omega arith; threads = omega arith; limit = h.1.limit },
+      )

@@ -68,11 +68,13 @@ module _ {F : Type 0} (gives : F → ParkToken → FilterOp → F → Type 0) (f
   pub sifted_all : (m : Machine) (unparked nth : ℕ) (f : F) → Sifted m unparked nth f → drop nth queue ≡ [] → Sifts unparked m
   sifted_all m unparked nth f s end =
       let chosen : chosen_by s.asked queue ≡ s.got = ap (λ (xs : List FilterOp). chosen_by xs queue) (sym (append-nil s.asked)) ∙ (s.chosen [] ∙ append-nil s.got) in
-      let left : passed_by s.asked queue ≡ s.skipped ++ drop nth queue = ap (λ (xs : List FilterOp). passed_by xs queue) (sym (append-nil s.asked)) ∙ s.left [] in
-      (s.asked, f,
-       shown_end gives is_stop f0 (tokens_of queue) s.asked f (subst (λ (ts : List ParkToken). Shown gives is_stop f0 (tokens_of queue) s.asked f ts) (ap tokens_of end) s.shown),
-       sym s.count ∙ ap length (sym chosen),
-       s.lists ∙ (ap (λ (ws : List Waiter). all_taken m0 key ws (s.skipped ++ drop nth queue)) (sym chosen) ∙ ap (λ (ws : List Waiter). all_taken m0 key (chosen_by s.asked queue) ws) (sym left)))
+      let left : passed_by s.asked queue ≡ s.skipped ++ drop nth queue = ap (λ (xs : List FilterOp). passed_by xs queue) (sym (append-nil s.asked)) ∙ s.left [] in (
+        s.asked,
+        f,
+        shown_end gives is_stop f0 (tokens_of queue) s.asked f (subst (λ (ts : List ParkToken). Shown gives is_stop f0 (tokens_of queue) s.asked f ts) (ap tokens_of end) s.shown),
+        sym s.count ∙ ap length (sym chosen),
+        s.lists ∙ (ap (λ (ws : List Waiter). all_taken m0 key ws (s.skipped ++ drop nth queue)) (sym chosen) ∙ ap (λ (ws : List Waiter). all_taken m0 key (chosen_by s.asked queue) ws) (sym left)),
+      )
 
   module _ (m : Machine) (unparked nth : ℕ) (f : F) (s : Sifted m unparked nth f) where
     index : nth - unparked ≡ length s.skipped
@@ -133,7 +135,10 @@ module _ {F : Type 0} (gives : F → ParkToken → FilterOp → F → Type 0) (f
       sifted_stops h =
           let asked = s.asked ++ Stop ∷ [] in
           let chosen : chosen_by asked queue ≡ s.got = ap (λ (xs : List FilterOp). chosen_by xs queue) (sym (append-nil asked)) ∙ (chosen_next Stop [] ∙ append-nil s.got) in
-          let left : passed_by asked queue ≡ s.skipped ++ drop nth queue = ap (λ (xs : List FilterOp). passed_by xs queue) (sym (append-nil asked)) ∙ (left_next Stop [] ∙ ap (λ (ws : List Waiter). s.skipped ++ ws) (sym here)) in
-          (asked, g, shown_stop gives is_stop f0 (tokens_of queue) s.asked f g w.token (tokens_of (drop (nth + 1) queue)) Stop ahead h refl,
-           sym s.count ∙ ap length (sym chosen),
-           s.lists ∙ (ap (λ (ws : List Waiter). all_taken m0 key ws (s.skipped ++ drop nth queue)) (sym chosen) ∙ ap (λ (ws : List Waiter). all_taken m0 key (chosen_by asked queue) ws) (sym left)))
+          let left : passed_by asked queue ≡ s.skipped ++ drop nth queue = ap (λ (xs : List FilterOp). passed_by xs queue) (sym (append-nil asked)) ∙ (left_next Stop [] ∙ ap (λ (ws : List Waiter). s.skipped ++ ws) (sym here)) in (
+            asked,
+            g,
+            shown_stop gives is_stop f0 (tokens_of queue) s.asked f g w.token (tokens_of (drop (nth + 1) queue)) Stop ahead h refl,
+            sym s.count ∙ ap length (sym chosen),
+            s.lists ∙ (ap (λ (ws : List Waiter). all_taken m0 key ws (s.skipped ++ drop nth queue)) (sym chosen) ∙ ap (λ (ws : List Waiter). all_taken m0 key (chosen_by asked queue) ws) (sym left)),
+          )

@@ -83,8 +83,8 @@ sound_place m t p q h at waits free runs =
     (λ none. ap (λ o. option_map_or is_held o false) here ∙ free none)
     (λ s is whose may. here ∙ ap (λ x. Some x) (runs (same_place (sym at ∙ h.inside s t is whose may))))
     (λ u none. by_eqb u t (m.resources u ≡ [])
-        (λ e. absurd (some≢none (sym here ∙ (ap (place_at ps) (sym e) ∙ none))))
-        (λ e. h.owned u (sym (place_at-set_other m.places t u (Some q) e) ∙ none)))
+    (λ e. absurd (some≢none (sym here ∙ (ap (place_at ps) (sym e) ∙ none))))
+    (λ e. h.owned u (sym (place_at-set_other m.places t u (Some q) e) ∙ none)))
 
 -- a registered thread's resources change
 pub sound_owned : (m : Machine) (t : ℕ) (p : Place) (keys : List ℕ) → Sound m → place_at m.places t ≡ Some p → Sound (record m { resources = updated m.resources t keys })
@@ -113,8 +113,8 @@ sound_retired m t h at out =
     (λ none. ap (λ o. option_map_or is_held o false) here)
     (λ s is whose may. absurd (false≢true (sym out ∙ is_in_open m s t is whose)))
     (λ u none. by_eqb u t (updated m.resources t [] u ≡ [])
-        (λ e. ap (updated m.resources t []) e ∙ updated_at m.resources t [])
-        (λ e. updated_other m.resources t [] u e ∙ h.owned u (sym (place_at-set_other m.places t u None e) ∙ none)))
+    (λ e. ap (updated m.resources t []) e ∙ updated_at m.resources t [])
+    (λ e. updated_other m.resources t [] u e ∙ h.owned u (sym (place_at-set_other m.places t u None e) ∙ none)))
 
 -- a waiter at the end of a list, and one taken out of it
 module _ (qs : ℕ → List Waiter) (key : ℕ) (w : Waiter) where
@@ -124,13 +124,13 @@ module _ (qs : ℕ → List Waiter) (key : ℕ) (w : Waiter) where
   push_others : (u k : ℕ) → (u == w.thread) ≡ false → count_by (is_thread u) (pushed k) ≡ count_by (is_thread u) (qs k)
   push_others u k e = by_eqb k key (count_by (is_thread u) (pushed k) ≡ count_by (is_thread u) (qs k))
       (λ same. ap (λ j. count_by (is_thread u) (pushed j)) same ∙ (ap (count_by (is_thread u)) (updated_at qs key (qs key ++ w ∷ []))
-        ∙ (count_by-push (is_thread u) (qs key) w ∙ (ap (λ b. count_by (is_thread u) (qs key) + flag b) (eqb_false_symm u w.thread e) ∙ (add-zero (count_by (is_thread u) (qs key)) ∙ ap (λ j. count_by (is_thread u) (qs j)) (sym same))))))
+      ∙ (count_by-push (is_thread u) (qs key) w ∙ (ap (λ b. count_by (is_thread u) (qs key) + flag b) (eqb_false_symm u w.thread e) ∙ (add-zero (count_by (is_thread u) (qs key)) ∙ ap (λ j. count_by (is_thread u) (qs j)) (sym same))))))
       (λ other. ap (count_by (is_thread u)) (updated_other qs key (qs key ++ w ∷ []) k other))
 
   push_here : (sleep : Sleep) → ((k : ℕ) → count_by (is_thread w.thread) (qs k) ≡ 0) → (k : ℕ) → count_by (is_thread w.thread) (pushed k) ≡ times_at k (Some (Waiting key sleep))
   push_here sleep none k = by_eqb k key (count_by (is_thread w.thread) (pushed k) ≡ times_at k (Some (Waiting key sleep)))
       (λ same. ap (λ j. count_by (is_thread w.thread) (pushed j)) same ∙ (ap (count_by (is_thread w.thread)) (updated_at qs key (qs key ++ w ∷ []))
-        ∙ (count_by-push (is_thread w.thread) (qs key) w ∙ (ap (λ n. n + flag (w.thread == w.thread)) (none key) ∙ (ap (λ b. 0 + flag b) (eq-eqb w.thread w.thread refl) ∙ ap flag (sym (eq-eqb key k (sym same))))))))
+      ∙ (count_by-push (is_thread w.thread) (qs key) w ∙ (ap (λ n. n + flag (w.thread == w.thread)) (none key) ∙ (ap (λ b. 0 + flag b) (eq-eqb w.thread w.thread refl) ∙ ap flag (sym (eq-eqb key k (sym same))))))))
       (λ other. ap (count_by (is_thread w.thread)) (updated_other qs key (qs key ++ w ∷ []) k other) ∙ (none k ∙ ap flag (sym (eqb_false_symm k key other))))
 
   module _ (nth : ℕ) (at : slice_get (qs key) nth ≡ Some w) where
@@ -140,19 +140,19 @@ module _ (qs : ℕ → List Waiter) (key : ℕ) (w : Waiter) where
     remove_others : (u k : ℕ) → (u == w.thread) ≡ false → count_by (is_thread u) (removed k) ≡ count_by (is_thread u) (qs k)
     remove_others u k e = by_eqb k key (count_by (is_thread u) (removed k) ≡ count_by (is_thread u) (qs k))
         (λ same. ap (λ j. count_by (is_thread u) (removed j)) same ∙ (ap (count_by (is_thread u)) (updated_at qs key (remove (qs key) nth))
-          ∙ (sym (add-zero (count_by (is_thread u) (remove (qs key) nth))) ∙ (ap (λ b. count_by (is_thread u) (remove (qs key) nth) + flag b) (sym (eqb_false_symm u w.thread e))
-          ∙ (count_by-remove (is_thread u) (qs key) nth w at ∙ ap (λ j. count_by (is_thread u) (qs j)) (sym same))))))
+        ∙ (sym (add-zero (count_by (is_thread u) (remove (qs key) nth))) ∙ (ap (λ b. count_by (is_thread u) (remove (qs key) nth) + flag b) (sym (eqb_false_symm u w.thread e))
+        ∙ (count_by-remove (is_thread u) (qs key) nth w at ∙ ap (λ j. count_by (is_thread u) (qs j)) (sym same))))))
         (λ other. ap (count_by (is_thread u)) (updated_other qs key (remove (qs key) nth) k other))
 
     remove_here : (sleep : Sleep) → ((k : ℕ) → count_by (is_thread w.thread) (qs k) ≡ times_at k (Some (Waiting key sleep))) → (k : ℕ) → count_by (is_thread w.thread) (removed k) ≡ 0
     remove_here sleep once k = by_eqb k key (count_by (is_thread w.thread) (removed k) ≡ 0)
         (λ same.
-            let one : times_at key (Some (Waiting key sleep)) ≡ 1 = ap flag (eq-eqb key key refl) in
-            let less : count_by (is_thread w.thread) (remove (qs key) nth) + flag (w.thread == w.thread) ≡ count_by (is_thread w.thread) (qs key) = count_by-remove (is_thread w.thread) (qs key) nth w at in
-            let self : flag (w.thread == w.thread) ≡ 1 = ap flag (eq-eqb w.thread w.thread refl) in
-            let all : count_by (is_thread w.thread) (qs key) ≡ times_at key (Some (Waiting key sleep)) = once key in
-            let gone : count_by (is_thread w.thread) (remove (qs key) nth) ≡ 0 = omega arith in
-            ap (λ j. count_by (is_thread w.thread) (removed j)) same ∙ (ap (count_by (is_thread w.thread)) (updated_at qs key (remove (qs key) nth)) ∙ gone))
+        let one : times_at key (Some (Waiting key sleep)) ≡ 1 = ap flag (eq-eqb key key refl) in
+        let less : count_by (is_thread w.thread) (remove (qs key) nth) + flag (w.thread == w.thread) ≡ count_by (is_thread w.thread) (qs key) = count_by-remove (is_thread w.thread) (qs key) nth w at in
+        let self : flag (w.thread == w.thread) ≡ 1 = ap flag (eq-eqb w.thread w.thread refl) in
+        let all : count_by (is_thread w.thread) (qs key) ≡ times_at key (Some (Waiting key sleep)) = once key in
+        let gone : count_by (is_thread w.thread) (remove (qs key) nth) ≡ 0 = omega arith in
+        ap (λ j. count_by (is_thread w.thread) (removed j)) same ∙ (ap (count_by (is_thread w.thread)) (updated_at qs key (remove (qs key) nth)) ∙ gone))
         (λ other. ap (count_by (is_thread w.thread)) (updated_other qs key (remove (qs key) nth) k other) ∙ (once k ∙ ap flag (eqb_false_symm k key other)))
 
 -- who is counted in a key's list waits there
@@ -185,8 +185,8 @@ sound_joined m t key token timed h at outside =
     (λ none. ap (λ o. option_map_or is_held o false) here)
     (λ s is whose may. absurd (false≢true (sym (outside s is whose) ∙ may)))
     (λ u none. by_eqb u t (m.resources u ≡ [])
-        (λ e. absurd (some≢none (sym here ∙ (ap (place_at (slice_set m.places t (Some (Waiting key sleep)))) (sym e) ∙ none))))
-        (λ e. h.owned u (sym (place_at-set_other m.places t u (Some (Waiting key sleep)) e) ∙ none)))
+    (λ e. absurd (some≢none (sym here ∙ (ap (place_at (slice_set m.places t (Some (Waiting key sleep)))) (sym e) ∙ none))))
+    (λ e. h.owned u (sym (place_at-set_other m.places t u (Some (Waiting key sleep)) e) ∙ none)))
 
 -- a waiter stands no longer, or in another list
 module _ (m : Machine) (key nth : ℕ) (w : Waiter) (h : Sound m) (at : slice_get (m.queues key) nth ≡ Some w) where
@@ -207,8 +207,8 @@ module _ (m : Machine) (key nth : ℕ) (w : Waiter) (h : Sound m) (at : slice_ge
       (λ none. ap (λ o. option_map_or is_held o false) now ∙ free none)
       (λ s is whose may. absurd (waiting≢running (sym stands.1 ∙ h.inside s w.thread is whose may)))
       (λ u none. by_eqb u w.thread (m.resources u ≡ [])
-          (λ e. absurd (some≢none (sym now ∙ (ap (place_at ps) (sym e) ∙ none))))
-          (λ e. h.owned u (sym (place_at-set_other m.places w.thread u (Some q) e) ∙ none)))
+      (λ e. absurd (some≢none (sym now ∙ (ap (place_at ps) (sym e) ∙ none))))
+      (λ e. h.owned u (sym (place_at-set_other m.places w.thread u (Some q) e) ∙ none)))
     where
       waiting≢running : {k : ℕ} {s : Sleep} → Some (Waiting k s) ≡ Some Running → ⊥
       waiting≢running e = cc
@@ -260,6 +260,7 @@ sound_section m f h same joins = record {
     no_section : (o : Option Section) → option_map f o ≡ None → o ≡ None
     no_section None e = refl
     no_section (Some s) e = absurd (some≢none e)
+
     opened_from : (o : Option Section) (s : Section) → option_map f o ≡ Some s → (x : Section) × (o ≡ Some x) × (f x ≡ s)
     opened_from None s e = absurd (none≢some e)
     opened_from (Some x) s e = (x, refl, same_section e)
@@ -296,9 +297,11 @@ sound_closed m token woken h =
     waits_same : (k : ℕ) (o : Option Place) → times_at k o ≡ times_at k (option_map (told token woken) o)
     waits_same k None = refl
     waits_same k (Some p) = ap flag (sym (told_waits token woken k p))
+
     held_none : (o : Option Place) → option_map_or is_held (option_map (told token woken) o) false ≡ false
     held_none None = refl
     held_none (Some p) = told_held token woken p
+
     unregistered : (o : Option Place) → option_map (told token woken) o ≡ None → o ≡ None
     unregistered None e = refl
     unregistered (Some p) e = absurd (some≢none e)

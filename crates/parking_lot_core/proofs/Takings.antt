@@ -126,8 +126,8 @@ module _ (m : Machine) (key : ℕ) (token : UnparkToken) (quiet : (t : ℕ) → 
   closed_moved to ws rest ms left =
       let after = moved (unparked m key ws rest token) key to ms left in
       ap (λ (ps : List (Option Place)). record after { places = ps; section = None })
-        (told_all (moved_to to) (moved_to to) (told token true) (told_moved token to) (all_changed held m.places (threads_of ws)) (threads_of ms)
-        ∙ ap (λ (xs : List (Option Place)). all_changed (moved_to to) xs (threads_of ms)) (woken_places ws))
+      (told_all (moved_to to) (moved_to to) (told token true) (told_moved token to) (all_changed held m.places (threads_of ws)) (threads_of ms)
+      ∙ ap (λ (xs : List (Option Place)). all_changed (moved_to to) xs (threads_of ms)) (woken_places ws))
       ∙ ap (λ o. record after { section = o }) (sym free)
 
 -- the first is taken

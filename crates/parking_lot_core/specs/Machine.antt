@@ -238,6 +238,6 @@ TakesNext {F} gives filter s old result new =
     let queue = old.queues s.key in
     (answers : List FilterOp) × (last : F) × Answers gives is_no_skip filter (tokens_of (drop (passed_of s.phase) queue)) answers last
     × (let at = passed_of s.phase + count_by is_skip answers in
-       MatchBool (list_any is_take answers)
-         ((result ≡ Ok (option_map (taking_of old) (slice_get queue at))) × (new ≡ taken (in_phase old (phase.Taking at)) s.key at))
-         ((result ≡ Ok None) × (new ≡ in_phase old phase.Ended)))
+    MatchBool (list_any is_take answers)
+    ((result ≡ Ok (option_map (taking_of old) (slice_get queue at))) × (new ≡ taken (in_phase old (phase.Taking at)) s.key at))
+    ((result ≡ Ok None) × (new ≡ in_phase old phase.Ended)))

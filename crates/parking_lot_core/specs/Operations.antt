@@ -49,8 +49,8 @@ is_abort RequeueOne = false
 abbrev pub Requeues : (UnparkResult → UnparkToken → Type 0) → RequeueOp → Machine → ℕ → ℕ → Result UnparkResult LotFault → Machine → Type 0
 Requeues gives op old from to result new =
     MatchBool (is_abort op)
-      ((result ≡ Ok (unpark_result {X = Waiter} 0 0 [])) × (new ≡ old))
-      (RequeuesBy gives op old from to result new)
+    ((result ≡ Ok (unpark_result {X = Waiter} 0 0 [])) × (new ≡ old))
+    (RequeuesBy gives op old from to result new)
 
 -- how many of so many waiters a requeue wakes, and how many it moves
 abbrev pub woken_count : RequeueOp → ℕ → ℕ

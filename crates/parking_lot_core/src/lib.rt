@@ -13,8 +13,11 @@ mod steps;
 
 pub use fault::{LotFault, SizeFault};
 pub use lot::Lot;
-pub use place::{Place, Sleep, Taking, ThreadStatus};
 pub use parking::{
-    DEFAULT_PARK_TOKEN, DEFAULT_UNPARK_TOKEN, FilterOp, ParkResult, ParkToken, RequeueOp, UnparkResult,
-    UnparkToken,
+    DEFAULT_PARK_TOKEN, DEFAULT_UNPARK_TOKEN, FilterOp, ParkResult, ParkToken, RequeueOp,
+    UnparkResult, UnparkToken,
 };
+pub use place::{Place, Sleep, Taking, ThreadStatus};
+
+#[cfg(test)]
+mod tests;

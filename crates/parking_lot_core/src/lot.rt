@@ -90,7 +90,8 @@ impl<A: Allocator> Lot<A> {
     pub(crate) fn is_in(&self, thread: usize) -> bool
         ensures { result ≡ is_in (machine self.now) thread }
     {
-        self.section.is_some_and(|section| section.thread == Some(thread))
+        self.section
+            .is_some_and(|section| section.thread == Some(thread))
     }
 
     /// Where a thread stands; `None` where its number is free. It takes no memory.
@@ -101,7 +102,9 @@ impl<A: Allocator> Lot<A> {
         if self.is_in(thread) {
             return Some(ThreadStatus::InSection);
         }
-        let token = self.section.map_or(DEFAULT_UNPARK_TOKEN, |section| section.token);
+        let token = self
+            .section
+            .map_or(DEFAULT_UNPARK_TOKEN, |section| section.token);
         Some(place.status(token))
     }
 

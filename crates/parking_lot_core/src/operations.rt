@@ -130,12 +130,7 @@ impl<A: Allocator> Lot<A> {
     pub fn unpark_filter<
         F: FnMut(ParkToken) -> FilterOp + Drop,
         C: FnOnce(UnparkResult) -> UnparkToken,
-    >(
-        &mut self,
-        key: usize,
-        filter: F,
-        callback: C,
-    ) -> Result<UnparkResult, LotFault>
+    >(&mut self, key: usize, filter: F, callback: C) -> Result<UnparkResult, LotFault>
     where
         C: Drop,
         requires filter { F.IsAlwaysCallable filter }

@@ -162,10 +162,26 @@ impl Place {
     {
         match self {
             Place::Running => Place::Running,
-            Place::Waiting(key, sleep) => Place::Waiting(key, Sleep { late: true, ..sleep }),
-            Place::Held(sleep) => Place::Held(Sleep { late: true, ..sleep }),
+            Place::Waiting(key, sleep) => Place::Waiting(
+                key,
+                Sleep {
+                    late: true,
+                    ..sleep
+                },
+            ),
+            Place::Held(sleep) => Place::Held(Sleep {
+                late: true,
+                ..sleep
+            }),
             Place::Taken(token, sleep, woken) => {
-                Place::Taken(token, Sleep { late: true, ..sleep }, woken)
+                Place::Taken(
+                    token,
+                    Sleep {
+                        late: true,
+                        ..sleep
+                    },
+                    woken,
+                )
             }
         }
     }
@@ -177,10 +193,7 @@ impl Place {
         match self {
             Place::Running => ThreadStatus::Running,
             Place::Waiting(_, sleep) | Place::Held(sleep) | Place::Taken(_, sleep, _)
-                if sleep.late =>
-            {
-                ThreadStatus::PastDeadline
-            }
+                if sleep.late => { ThreadStatus::PastDeadline }
             Place::Waiting(key, sleep) => ThreadStatus::Waiting {
                 key,
                 timed: sleep.timed,
@@ -217,7 +230,10 @@ impl Phase {
     pub fn may_store(self) -> bool
         ensures { result ≡ may_store self }
     {
-        matches!(self, Phase::Fresh | Phase::Valid | Phase::Taking(_) | Phase::Ended)
+        matches!(
+            self,
+            Phase::Fresh | Phase::Valid | Phase::Taking(_) | Phase::Ended
+        )
     }
 
     /// How many waiters it has passed.

@@ -33,7 +33,11 @@ impl<A: Allocator> Lot<A> {
         ensures runs { (s : _) → result ≡ Some s → may_join s.phase ≡ true → place_at (machine self.now).places thread ≡ Some Running }
     {
         let section = self.section?;
-        if self.is_in(thread) { Some(section) } else { None }
+        if self.is_in(thread) {
+            Some(section)
+        } else {
+            None
+        }
     }
 
     /// Says what the validation answered, before anything else is done in the section. Where it is false only `leave`
@@ -53,7 +57,12 @@ impl<A: Allocator> Lot<A> {
 
     /// Puts the section's thread at the end of the key's list; it waits once it has left. Nothing may have been taken in
     /// the section.
-    pub fn append(&mut self, thread: usize, park_token: ParkToken, timed: bool) -> Result<(), LotFault>
+    pub fn append(
+        &mut self,
+        thread: usize,
+        park_token: ParkToken,
+        timed: bool,
+    ) -> Result<(), LotFault>
         ensures { Unless (step_fault may_join (machine self.old) thread) result (machine self.old) (machine self.new) (IsOk result × IsSomeAnd (section_of (machine self.old) thread) (λ s. machine self.new ≡ joined (in_phase (machine self.old) phase.Joined) thread s.key park_token timed)) }
     {
         let Some(section) = self.section_of(thread) else {

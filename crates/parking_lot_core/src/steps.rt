@@ -104,7 +104,9 @@ impl<A: Allocator> Lot<A> {
     pub(crate) fn close(&mut self, woken: bool)
         ensures { machine self.new ≡ closed (machine self.old) woken }
     {
-        let token = self.section.map_or(DEFAULT_UNPARK_TOKEN, |section| section.token);
+        let token = self
+            .section
+            .map_or(DEFAULT_UNPARK_TOKEN, |section| section.token);
         tell(&mut self.places, token, woken);
         self.section = None;
     }

@@ -15,11 +15,11 @@ loop-at-preserved g c =
     let within : c.loop-at.at < length es = subst (λ (xs : List (Entry g.row.T.Denot)). c.loop-at.at < length xs) c.deref-entry-items.ensures.value c.loop-at-test.true in
     let entry : c.entry-item.result ≡ get_or es c.loop-at.at c.entry-item.result = c.entry-item.is ∙ ap (λ (xs : List (Entry g.row.T.Denot)). get_or xs c.loop-at.at c.entry-item.result) c.deref-entry-items.ensures.value in
     elim c.if-entry-key.branch [
-      then-entry-key+else-passed-nth w ↦ record {
+      | then-entry-key+else-passed-nth w ↦ record {
         passed = w.passed-is ∙ passed_at es c.loop-at.at c.entry-item.result c.args.key c.loop-at.passed within entry w.if-entry-key.true c.loop-at.invariant.passed;
         below = omega arith;
       }
-    | else-entry-key w ↦ record {
+      | else-entry-key w ↦ record {
         passed = w.passed-is ∙ passed_other es c.loop-at.at c.entry-item.result c.args.key c.loop-at.passed within entry w.if-entry-key.false c.loop-at.invariant.passed;
         below = omega arith;
       }

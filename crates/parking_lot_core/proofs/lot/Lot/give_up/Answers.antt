@@ -20,4 +20,4 @@ invariant_of-self g c =
     let found : c.take_number.result ≡ true = c.take_number.ensures.found ∙ found_itself p l.waiting v c.args.thread c.args.key c.requires.0 c.self.invariant at in
     let count : total l.waiting ≡ total v + 1 = c.take_number.ensures.total ∙ ap (λ b. total v + cond b 1 0) found in
     subst (λ (ps : List (Option Place)). Owed (record p { waiting = v.entries.items; places = ps }) v) (sym c.put.ensures)
-      (gave_up p l.waiting v c.args.thread c.args.key c.requires.0 c.self.invariant at c.take_number.ensures.kept count c.take_number.ensures.room)
+    (gave_up p l.waiting v c.args.thread c.args.key c.requires.0 c.self.invariant at c.take_number.ensures.kept count c.take_number.ensures.room)

@@ -24,4 +24,4 @@ invariant_of-self g c =
     let p : Parts = record { number = l.number; max_threads = l.max_threads; sleeps = l.sleeps; waiting = l.waiting.entries.items; owned = l.owned.entries.items; places = l.places.items; section = l.section } in
     let at : place_at p.places c.args.thread ≡ Some Running = ap (λ v. place_at v.places c.args.thread) c.self.view_is ∙ c.requires.runs in
     subst (λ (ps : List (Option Place)). Owed (record p { sleeps = (p.sleeps + 1) % 2 ^ 64; waiting = c.push.new.self.entries.items; places = ps }) c.push.new.self) (sym c.put.ensures)
-      (joined_parts p l.waiting c.push.new.self c.args.thread c.args.key c.args.token c.args.timed c.self.invariant at (λ s is. c.requires.outside s (ap (λ v. v.section) (sym c.self.view_is) ∙ is)) c.push.ensures.kept c.push.ensures.total c.push.ensures.room)
+    (joined_parts p l.waiting c.push.new.self c.args.thread c.args.key c.args.token c.args.timed c.self.invariant at (λ s is. c.requires.outside s (ap (λ v. v.section) (sym c.self.view_is) ∙ is)) c.push.ensures.kept c.push.ensures.total c.push.ensures.room)

@@ -17,7 +17,7 @@ invariant_of-self g c =
     let p : Parts = record { number = l.number; max_threads = l.max_threads; sleeps = l.sleeps; waiting = l.waiting.entries.items; owned = l.owned.entries.items; places = l.places.items; section = l.section } in
     let h = c.in-Some.ensures in
     subst (λ (ps : List (Option Place)). Owed (record p { waiting = c.push.new.self.entries.items; places = ps }) c.push.new.self) (sym c.relist.ensures)
-      (moved_parts p l.waiting c.take.new.self c.args.from 0 c.in-Some.waiter c.self.invariant (sym h.item) c.push.new.self c.args.to h.kept c.push.ensures.kept h.total c.push.ensures.total (c.push.ensures.room ∙ h.room))
+    (moved_parts p l.waiting c.take.new.self c.args.from 0 c.in-Some.waiter c.self.invariant (sym h.item) c.push.new.self c.args.to h.kept c.push.ensures.kept h.total c.push.ensures.total (c.push.ensures.room ∙ h.room))
 
 pub invariant_of-self-in_default : goal.invariant_of-self-in_default
 invariant_of-self-in_default g c =

@@ -27,5 +27,5 @@ returns-in-Some-Waiting g c =
     let at : place_at m.places c.args.thread ≡ Some (Waiting w.key w.field-0-1) = sym w.ensures.place ∙ ap (λ x. Some x) w.field-0-is in
     let last : not c.has_waiters.result ≡ not (is_left ((given_up m c.args.thread w.key).queues w.key)) = ap not (c.has_waiters.ensures ∙ ap (λ (x : Machine). is_left (x.queues w.key)) c.give_up.ensures) in
     unless_done (resume_fault m c.args.thread) (Ok TimedOut) m (machine c.give_up.new.self) _ free
-      (subst (λ (o : Option Place). ResumesFrom o (λ key b. goal.T-post g c.args.timed_out key b tt) m c.args.thread (Ok TimedOut) (machine c.give_up.new.self)) (sym at)
-        (refl, c.give_up.ensures, subst (λ b. goal.T-post g c.args.timed_out w.key b tt) last c.timed_out.ensures))
+    (subst (λ (o : Option Place). ResumesFrom o (λ key b. goal.T-post g c.args.timed_out key b tt) m c.args.thread (Ok TimedOut) (machine c.give_up.new.self)) (sym at)
+    (refl, c.give_up.ensures, subst (λ b. goal.T-post g c.args.timed_out w.key b tt) last c.timed_out.ensures))

@@ -21,16 +21,17 @@ returns-in-Stop g c =
     sifted_stops (goal.F-step g) c.args.filter (machine c.args.self.now) c.args.key (machine c.loop-nth.self) c.loop-nth.unparked c.loop-nth.nth c.loop-nth.filter c.loop-nth.invariant.1 c.in-Some.waiter c.filter.new.self c.in-Some.ensures c.in-Stop.ensures
 
 pub loop-nth-preserved : goal.loop-nth-preserved
-loop-nth-preserved g c =
-    (search of_calls,
-     elim c.match-filter.branch [
-       in-Unpark w ↦ subst (λ (p : Parts). Sifted (goal.F-step g) c.args.filter (machine c.args.self.now) c.args.key (machine p) c.match-filter.unparked (c.loop-nth.nth + 1) c.filter.new.self) (sym w.self-is)
-         (subst (λ (n : ℕ). Sifted (goal.F-step g) c.args.filter (machine c.args.self.now) c.args.key (machine w.take_out.new.self) n (c.loop-nth.nth + 1) c.filter.new.self) (sym w.unparked-is)
-         (sifted_takes (goal.F-step g) c.args.filter (machine c.args.self.now) c.args.key (machine c.loop-nth.self) c.loop-nth.unparked c.loop-nth.nth c.loop-nth.filter c.loop-nth.invariant.1 c.in-Some.waiter c.filter.new.self c.in-Some.ensures (machine w.take_out.new.self) w.in-Unpark.ensures w.take_out.ensures.taken))
-     | in-Skip w ↦ subst (λ (p : Parts). Sifted (goal.F-step g) c.args.filter (machine c.args.self.now) c.args.key (machine p) c.match-filter.unparked (c.loop-nth.nth + 1) c.filter.new.self) (sym w.self-is)
-         (subst (λ (n : ℕ). Sifted (goal.F-step g) c.args.filter (machine c.args.self.now) c.args.key (machine c.loop-nth.self) n (c.loop-nth.nth + 1) c.filter.new.self) (sym w.unparked-is)
-         (sifted_skips (goal.F-step g) c.args.filter (machine c.args.self.now) c.args.key (machine c.loop-nth.self) c.loop-nth.unparked c.loop-nth.nth c.loop-nth.filter c.loop-nth.invariant.1 c.in-Some.waiter c.filter.new.self c.in-Some.ensures w.in-Skip.ensures))
-     ])
+loop-nth-preserved g c = (
+  search of_calls,
+  elim c.match-filter.branch [
+    | in-Unpark w ↦ subst (λ (p : Parts). Sifted (goal.F-step g) c.args.filter (machine c.args.self.now) c.args.key (machine p) c.match-filter.unparked (c.loop-nth.nth + 1) c.filter.new.self) (sym w.self-is)
+        (subst (λ (n : ℕ). Sifted (goal.F-step g) c.args.filter (machine c.args.self.now) c.args.key (machine w.take_out.new.self) n (c.loop-nth.nth + 1) c.filter.new.self) (sym w.unparked-is)
+        (sifted_takes (goal.F-step g) c.args.filter (machine c.args.self.now) c.args.key (machine c.loop-nth.self) c.loop-nth.unparked c.loop-nth.nth c.loop-nth.filter c.loop-nth.invariant.1 c.in-Some.waiter c.filter.new.self c.in-Some.ensures (machine w.take_out.new.self) w.in-Unpark.ensures w.take_out.ensures.taken))
+    | in-Skip w ↦ subst (λ (p : Parts). Sifted (goal.F-step g) c.args.filter (machine c.args.self.now) c.args.key (machine p) c.match-filter.unparked (c.loop-nth.nth + 1) c.filter.new.self) (sym w.self-is)
+        (subst (λ (n : ℕ). Sifted (goal.F-step g) c.args.filter (machine c.args.self.now) c.args.key (machine c.loop-nth.self) n (c.loop-nth.nth + 1) c.filter.new.self) (sym w.unparked-is)
+        (sifted_skips (goal.F-step g) c.args.filter (machine c.args.self.now) c.args.key (machine c.loop-nth.self) c.loop-nth.unparked c.loop-nth.nth c.loop-nth.filter c.loop-nth.invariant.1 c.in-Some.waiter c.filter.new.self c.in-Some.ensures w.in-Skip.ensures))
+  ],
+)
 
 pub returns : goal.returns
 returns g c =

@@ -23,4 +23,4 @@ invariant_of-self-2 g c =
     let p : Parts = record { number = l.number; max_threads = l.max_threads; sleeps = l.sleeps; waiting = l.waiting.entries.items; owned = l.owned.entries.items; places = l.places.items; section = l.section } in
     let h = c.in_ok-waiter.ensures in
     subst (λ (ps : List (Option Place)). Owed (record p { waiting = c.take.new.self.entries.items; places = ps }) c.take.new.self) (sym c.hold.ensures)
-      (held_parts p l.waiting c.take.new.self c.args.key c.args.nth c.in_ok-waiter.waiter c.self.invariant (sym h.item) (subst (λ (v : Parts). IsSome v.section) (sym c.self.view_is) c.requires) h.kept h.total h.room)
+    (held_parts p l.waiting c.take.new.self c.args.key c.args.nth c.in_ok-waiter.waiter c.self.invariant (sym h.item) (subst (λ (v : Parts). IsSome v.section) (sym c.self.view_is) c.requires) h.kept h.total h.room)

@@ -24,4 +24,4 @@ returns g c =
     let answer : c.outcome-result.result ≡ unpark_result (length (chosen_by s.0 q)) 0 (passed_by s.0 q) = c.outcome-result.ensures ∙ (ap (λ (n : ℕ). unpark_result n 0 ((machine c.sift-woken.new.self).queues key)) s.3 ∙ ap (λ (ws : List Waiter). unpark_result (length (chosen_by s.0 q)) 0 ws) rest) in
     let done : machine c.finish.new.self ≡ unparked m key (chosen_by s.0 q) (passed_by s.0 q) token = c.finish.ensures ∙ (ap (λ (x : Machine). closed (stored x token) true) s.4 ∙ closed_taken m key token (c.busy.ensures.quiet c.in_default.is) (free_section m free) (chosen_by s.0 q) (passed_by s.0 q)) in
     unless_done (busy m) (Ok c.outcome-result.result) m (machine c.finish.new.self) _ free
-      (s.0, s.1, token, s.2, (subst (λ (r : UnparkResult). goal.C-post g c.args.callback r token) answer c.callback-token.ensures, ap (λ r. Ok r) answer, done))
+    (s.0, s.1, token, s.2, (subst (λ (r : UnparkResult). goal.C-post g c.args.callback r token) answer c.callback-token.ensures, ap (λ r. Ok r) answer, done))

@@ -26,4 +26,4 @@ returns g c =
     let answer : c.outcome-result.result ≡ unpark_result (length (take 1 q)) 0 (drop 1 q) = c.outcome-result.ensures ∙ (ap (λ (n : ℕ). unpark_result n 0 ((machine c.take_first-woken.new.self).queues key)) count ∙ ap (λ (ws : List Waiter). unpark_result (length (take 1 q)) 0 ws) rest) in
     let done : machine c.finish.new.self ≡ unparked m key (take 1 q) (drop 1 q) token = c.finish.ensures ∙ (ap (λ (x : Machine). closed (stored x token) true) held ∙ closed_taken m key token (c.busy.ensures.quiet c.in_default.is) (free_section m free) (take 1 q) (drop 1 q)) in
     unless_done (busy m) (Ok c.outcome-result.result) m (machine c.finish.new.self) _ free
-      (token, subst (λ (r : UnparkResult). goal.C-post g c.args.callback r token) answer c.callback-token.ensures, ap (λ r. Ok r) answer, done)
+    (token, subst (λ (r : UnparkResult). goal.C-post g c.args.callback r token) answer c.callback-token.ensures, ap (λ r. Ok r) answer, done)
