@@ -1,0 +1,12 @@
+pub mod Kept
+pub mod Numbers
+pub mod Sounds
+pub mod Rooms
+pub mod Closing
+pub mod Registering
+pub mod Filters
+pub mod Outcomes
+pub mod Takings
+pub mod Sifting
+pub mod Moving
+pub mod Requeues

@@ -1,0 +1,23 @@
+//! The parking lot.
+#![tactic(auto)]
+
+mod fault;
+mod lists;
+mod lot;
+mod operations;
+mod parking;
+mod place;
+mod places;
+mod sections;
+mod steps;
+
+pub use fault::{LotFault, SizeFault};
+pub use lot::Lot;
+pub use parking::{
+    DEFAULT_PARK_TOKEN, DEFAULT_UNPARK_TOKEN, FilterOp, ParkResult, ParkToken, RequeueOp,
+    UnparkResult, UnparkToken,
+};
+pub use place::{Place, Sleep, Taking, ThreadStatus};
+
+#[cfg(test)]
+mod tests;
