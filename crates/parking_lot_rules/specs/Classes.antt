@@ -1,0 +1,150 @@
+-- Classes of roles, and how much a role counts in each.
+use Rattle.std.specs.Prelude.{ℕ, ◌+◌, Bool, true, false, List, [], ◌∷◌}
+use Rattle.parking_lot_rules.specs.Roles.{Mode, Shared, Exclusive, Upgradable, Owned, Shares, Excludes, Upgrades, Stay, Fresh, Asleep, Late, Back, Mark, Open, Normal, Handed, Cause, Release, Owed, Phase, Idle, Seeks, Enters1, Checked1, Queued1, Taken1, Masks1, Leaves1, Drains, Enters2, Checked2, Queued2, Taken2, Leaves2, Yields, Owes1, Scans1, Stored1, Owes2, Scans2, Masked2, Wakes, Role}
+
+pub data Class : Type 0 where
+  -- the owners: shared holds, the upgradable one, the pending one, the exclusive one
+  Readers : Class
+  Upgraders : Class
+  Pending : Class
+  Writers : Class
+  -- inside a section of the first key, and of the second
+  Inside1 : Class
+  Inside2 : Class
+  -- in the first list, and in the second
+  Waiting1 : Class
+  Waiting2 : Class
+  -- between the check and the list
+  Joining1 : Class
+  Joining2 : Class
+  -- about to clear the parked bit
+  Masking : Class
+  -- to look through the first list, or for the pending writer
+  Owing1 : Class
+  Owing2 : Class
+  -- woken for more than a shared hold, and still to try
+  Called : Class
+  -- taken, by one that hasn't stored yet
+  OpenReaders : Class
+  OpenUpgraders : Class
+  OpenWriters : Class
+  -- as the taker counts them
+  TakenReaders : Class
+  TakenUpgraders : Class
+  TakenWriters : Class
+
+-- 1 for true, 0 for false
+abbrev pub bit : Bool → ℕ
+bit true = 1
+bit false = 0
+
+-- 1 inside a section
+abbrev pub inside : Stay → ℕ
+inside Fresh = 1
+inside Asleep = 0
+inside Late = 0
+inside Back = 1
+
+-- whether a mode is more than shared
+abbrev pub is_more : Mode → Bool
+is_more Shared = false
+is_more Exclusive = true
+is_more Upgradable = true
+
+abbrev pub is_shared : Mode → ℕ
+is_shared Shared = 1
+is_shared Exclusive = 0
+is_shared Upgradable = 0
+
+abbrev pub is_exclusive : Mode → ℕ
+is_exclusive Shared = 0
+is_exclusive Exclusive = 1
+is_exclusive Upgradable = 0
+
+abbrev pub is_upgradable : Mode → ℕ
+is_upgradable Shared = 0
+is_upgradable Exclusive = 0
+is_upgradable Upgradable = 1
+
+-- how much a number counts at a mark
+abbrev pub if_open : Mark → ℕ → ℕ
+if_open Open n = n
+if_open Normal n = 0
+if_open Handed n = 0
+
+abbrev pub if_normal : Mark → ℕ → ℕ
+if_normal Open n = 0
+if_normal Normal n = n
+if_normal Handed n = 0
+
+abbrev pub if_handed : Mark → ℕ → ℕ
+if_handed Open n = 0
+if_handed Normal n = 0
+if_handed Handed n = n
+
+abbrev pub if_owed : Cause → ℕ
+if_owed Release = 0
+if_owed Owed = 1
+
+-- what a thread owns for good
+abbrev pub owned : Class → Owned → ℕ
+owned Readers (Shares n) = n
+owned Writers Excludes = 1
+owned Upgraders Upgrades = 1
+owned c o = 0
+
+-- what it is doing
+abbrev pub done : Class → Phase → ℕ
+done Readers (Taken1 m by how s) = if_handed how (is_shared m)
+done Upgraders (Taken1 m by how s) = if_handed how (is_upgradable m)
+done Pending (Taken1 m by how s) = if_handed how (is_exclusive m)
+done Pending (Drains f) = 1
+done Pending (Enters2 f) = 1
+done Pending (Checked2 f) = 1
+done Pending (Queued2 f s) = 1
+done Pending (Taken2 f by s) = 1
+done Pending (Leaves2 f) = 1
+done Pending (Yields f) = 1
+done Inside1 (Enters1 m c) = 1
+done Inside1 (Checked1 m) = 1
+done Inside1 (Queued1 m s) = inside s
+done Inside1 (Taken1 m by how s) = inside s
+done Inside1 Masks1 = 1
+done Inside1 Leaves1 = 1
+done Inside1 (Scans1 c r u w us) = 1
+done Inside1 (Stored1 us) = 1
+done Inside2 (Enters2 f) = 1
+done Inside2 (Checked2 f) = 1
+done Inside2 (Queued2 f s) = inside s
+done Inside2 (Taken2 f by s) = inside s
+done Inside2 (Leaves2 f) = 1
+done Inside2 (Scans2 us) = 1
+done Inside2 (Masked2 us) = 1
+done Waiting1 (Queued1 m s) = 1
+done Waiting2 (Queued2 f s) = 1
+done Joining1 (Checked1 m) = 1
+done Joining2 (Checked2 f) = 1
+done Masking Masks1 = 1
+done Owing1 Owes1 = 1
+done Owing1 (Scans1 c r u w us) = if_owed c
+done Owing2 Owes2 = 1
+done Owing2 (Scans2 us) = 1
+done Called (Seeks m c) = bit c
+done Called (Enters1 m c) = bit c
+done Called (Taken1 m by how s) = if_normal how (bit (is_more m))
+done OpenReaders (Taken1 m by how s) = if_open how (is_shared m)
+done OpenUpgraders (Taken1 m by how s) = if_open how (is_upgradable m)
+done OpenWriters (Taken1 m by how s) = if_open how (is_exclusive m)
+done TakenReaders (Scans1 c r u w us) = r
+done TakenUpgraders (Scans1 c r u w us) = bit u
+done TakenWriters (Scans1 c r u w us) = bit w
+done c p = 0
+
+-- how much a role counts in a class
+unfoldable pub weight : Class → Role → ℕ
+weight c r = owned c r.owns + done c r.does
+
+-- how much all roles together do
+unfoldable pub total : Class → List Role → ℕ
+total c [] = 0
+total c (r ∷ rs) = weight c r + total c rs

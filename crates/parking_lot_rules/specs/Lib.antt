@@ -1,0 +1,4 @@
+pub mod Roles
+pub mod Classes
+pub mod Clauses
+pub mod Plain

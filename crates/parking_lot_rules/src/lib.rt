@@ -1,0 +1,5 @@
+//! The rules of a reader-writer lock whose waiters sleep in queues: what a thread can be doing at the lock, what each of its
+//! steps does to the lock's word and queues, and the proof that no waiter is ever forgotten, under every schedule.
+#![tactic(auto)]
+
+mod laws;
