@@ -1,1 +1,4 @@
+pub mod Indexed
+pub mod Totals
 pub mod Plain
+pub mod Fitting

@@ -1,6 +1,7 @@
 -- Classes of roles, and how much a role counts in each.
-use Rattle.std.specs.Prelude.{ℕ, ◌+◌, Bool, true, false, List, [], ◌∷◌}
-use Rattle.parking_lot_rules.specs.Roles.{Mode, Shared, Exclusive, Upgradable, Owned, Shares, Excludes, Upgrades, Stay, Fresh, Asleep, Late, Back, Mark, Open, Normal, Handed, Cause, Release, Owed, Phase, Idle, Seeks, Enters1, Checked1, Queued1, Taken1, Masks1, Leaves1, Drains, Enters2, Checked2, Queued2, Taken2, Leaves2, Yields, Owes1, Scans1, Stored1, Owes2, Scans2, Masked2, Wakes, Role}
+use Rattle.std.specs.Prelude.{ℕ, ◌+◌, Bool, true, false, List, Option, Some, None}
+use Rattle.std.specs.List.{sum_by}
+use Rattle.parking_lot_rules.specs.Roles.{Mode, Shared, Exclusive, Upgradable, Owned, Shares, Excludes, Upgrades, Stay, Fresh, Asleep, Late, Back, Mark, Open, Normal, Handed, Cause, FromExclusive, FromUpgradable, Owed, Phase, Idle, Seeks, Enters1, Checked1, Queued1, Taken1, Masks1, Leaves1, Drains, Enters2, Checked2, Queued2, Taken2, Leaves2, Yields, Owes1, Scans1, Stored1, Owes2, Scans2, Masked2, Wakes, Role}
 
 pub data Class : Type 0 where
   -- the owners: shared holds, the upgradable one, the pending one, the exclusive one
@@ -83,8 +84,19 @@ if_handed Normal n = 0
 if_handed Handed n = n
 
 abbrev pub if_owed : Cause → ℕ
-if_owed Release = 0
+if_owed FromExclusive = 0
+if_owed FromUpgradable = 0
 if_owed Owed = 1
+
+abbrev pub if_exclusive : Cause → ℕ
+if_exclusive FromExclusive = 1
+if_exclusive FromUpgradable = 0
+if_exclusive Owed = 0
+
+abbrev pub if_upgradable : Cause → ℕ
+if_upgradable FromExclusive = 0
+if_upgradable FromUpgradable = 1
+if_upgradable Owed = 0
 
 -- what a thread owns for good
 abbrev pub owned : Class → Owned → ℕ
@@ -97,6 +109,8 @@ owned c o = 0
 abbrev pub done : Class → Phase → ℕ
 done Readers (Taken1 m by how s) = if_handed how (is_shared m)
 done Upgraders (Taken1 m by how s) = if_handed how (is_upgradable m)
+done Upgraders (Scans1 c r u w us) = if_upgradable c
+done Writers (Scans1 c r u w us) = if_exclusive c
 done Pending (Taken1 m by how s) = if_handed how (is_exclusive m)
 done Pending (Drains f) = 1
 done Pending (Enters2 f) = 1
@@ -145,6 +159,10 @@ unfoldable pub weight : Class → Role → ℕ
 weight c r = owned c r.owns + done c r.does
 
 -- how much all roles together do
-unfoldable pub total : Class → List Role → ℕ
-total c [] = 0
-total c (r ∷ rs) = weight c r + total c rs
+abbrev pub total : Class → List Role → ℕ
+total c rs = sum_by (weight c) rs
+
+-- how much the role at an index does
+abbrev pub weighs : Class → Option Role → ℕ
+weighs c None = 0
+weighs c (Some r) = weight c r

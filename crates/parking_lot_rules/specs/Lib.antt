@@ -2,3 +2,5 @@ pub mod Roles
 pub mod Classes
 pub mod Clauses
 pub mod Plain
+pub mod Lock
+pub mod Steps

@@ -1,6 +1,6 @@
 -- The steps that change nothing but the word and the role of the thread that makes them.
 use Rattle.std.specs.Prelude.{◌≡◌, ◌≢◌, ℕ, ◌+◌, ◌-◌, ◌<◌, Bool, true, false, ◌⊎◌, List, [], if◌then◌else◌}
-use Rattle.parking_lot_rules.specs.Roles.{Mode, Shared, Exclusive, Upgradable, Owned, Shares, Excludes, Upgrades, Stay, Fresh, Asleep, Late, Back, Mark, Open, Normal, Handed, Cause, Release, Owed, Phase, Idle, Seeks, Enters1, Checked1, Queued1, Taken1, Masks1, Leaves1, Drains, Enters2, Checked2, Queued2, Taken2, Leaves2, Yields, Owes1, Scans1, Stored1, Owes2, Scans2, Masked2, Wakes, Role}
+use Rattle.parking_lot_rules.specs.Roles.{Mode, Shared, Exclusive, Upgradable, Owned, Shares, Excludes, Upgrades, Stay, Fresh, Asleep, Late, Back, Mark, Open, Normal, Handed, Cause, FromExclusive, FromUpgradable, Owed, Phase, Idle, Seeks, Enters1, Checked1, Queued1, Taken1, Masks1, Leaves1, Drains, Enters2, Checked2, Queued2, Taken2, Leaves2, Yields, Owes1, Scans1, Stored1, Owes2, Scans2, Masked2, Wakes, Role}
 use Rattle.parking_lot_rules.specs.Classes.{Class, Inside1, Inside2, Waiting2, bit, is_more}
 use Rattle.parking_lot_rules.specs.Clauses.{Word}
 
@@ -181,8 +181,8 @@ to (Mask2 n us) = record { owns = Shares n; does = Masked2 us }
 to (Depart2 n us) = record { owns = Shares n; does = Wakes us }
 to Unlock = record { owns = Shares 0; does = Idle }
 to UnlockUpgradable = record { owns = Shares 0; does = Idle }
-to LookExclusive = record { owns = Excludes; does = Scans1 Release 0 false false [] }
-to LookUpgradable = record { owns = Upgrades; does = Scans1 Release 0 false false [] }
+to LookExclusive = record { owns = Shares 0; does = Scans1 FromExclusive 0 false false [] }
+to LookUpgradable = record { owns = Shares 0; does = Scans1 FromUpgradable 0 false false [] }
 to (Downgrade owing) = record { owns = Shares 1; does = if owing then Owes1 else Idle }
 to (DowngradeToUpgradable owing) = record { owns = Upgrades; does = if owing then Owes1 else Idle }
 to (DowngradeUpgradable owing) = record { owns = Shares 1; does = if owing then Owes1 else Idle }

@@ -28,9 +28,11 @@ pub data Mark : Type 0 where
   Normal : Mark
   Handed : Mark
 
--- Why a thread goes through the first list: it gives up the hold that it still has, or it owes the look since an earlier step.
+-- Why a thread goes through the first list: it is giving up the exclusive hold, or the upgradable one, which it has until it
+-- stores; or it owes the look since an earlier step.
 pub data Cause : Type 0 where
-  Release : Cause
+  FromExclusive : Cause
+  FromUpgradable : Cause
   Owed : Cause
 
 -- What a thread is doing at a lock.
