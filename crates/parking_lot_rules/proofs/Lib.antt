@@ -5,3 +5,5 @@ pub mod Fitting
 pub mod Waiting
 pub mod Noting
 pub mod Alone
+pub mod Settling
+pub mod Changing
