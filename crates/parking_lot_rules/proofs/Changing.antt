@@ -50,7 +50,7 @@ waking_waits2 (OwnPending n) t stay = refl
 waking_waits2 OwnUpgradable t stay = refl
 waking_waits2 (Recheck n f) t stay = refl
 
-waking_note : (k : Waking) → note_of (waking_to k).does ≡ None
+pub waking_note : (k : Waking) → note_of (waking_to k).does ≡ None
 waking_note (Retry n m) = refl
 waking_note (Own n) = refl
 waking_note (OwnPending n) = refl

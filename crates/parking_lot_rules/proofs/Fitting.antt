@@ -104,7 +104,7 @@ module _ (w : Word) (rest : Class → ℕ) (counts : Counts rest) where
   wake_fits (Recheck n f) t stay out fits = omega arith
 
   -- a section ends
-  store_parts : (e : Ending) (o : Owned) (r : ℕ) (u x : Bool) (us : List ℕ) (left : ℕ) → left ≡ rest Waiting1 → (0 < left → 0 < bit x + bit (has_upgradable o (ends_for e) u))
+  pub store_parts : (e : Ending) (o : Owned) (r : ℕ) (u x : Bool) (us : List ℕ) (left : ℕ) → left ≡ rest Waiting1 → (0 < left → 0 < bit x + bit (has_upgradable o (ends_for e) u))
       → Fits w (λ k. rest k + weight k (record { owns = o; does = Scans1 (ends_for e) r u x us }))
       → Fits (stored e r u x left w) (λ k. settled (ends_saying e) rest k + weight k (record { owns = o; does = Stored1 us }))
   unfolding weight

@@ -7,3 +7,4 @@ pub mod Noting
 pub mod Alone
 pub mod Settling
 pub mod Changing
+pub mod Sounds
