@@ -8,3 +8,4 @@ pub mod Alone
 pub mod Settling
 pub mod Changing
 pub mod Sounds
+pub mod Crossing

@@ -51,7 +51,7 @@ handed_none : (n : Class → ℕ) (c : Class) → n OpenReaders ≡ 0 → n Open
 handed_none n Readers r u w = omega arith
 handed_none n c r u w = omega arith
 
-settle_weighs : (h : Mark) → IsSaid h → (c : Class) (o : Owned) (p : Phase) → weight c (record { owns = o; does = told h p }) ≡ settled h (λ x. weight x (record { owns = o; does = p })) c
+pub settle_weighs : (h : Mark) → IsSaid h → (c : Class) (o : Owned) (p : Phase) → weight c (record { owns = o; does = told h p }) ≡ settled h (λ x. weight x (record { owns = o; does = p })) c
 settle_weighs Open said c o p = elim said [ ]
 settle_weighs Normal normal c o p = ⊎_elim
     (λ e. rw e.3 (normal_weighs c o e.0 e.1 e.2))

@@ -18,7 +18,7 @@ use Rattle.parking_lot_rules.proofs.Changing.{waking_note, sound_listing, sound_
 use Rattle.parking_lot_rules.proofs.Settling.{IsSaid, normal, handed, total-settle, waiting-settle, one_inside, open_inside, told_wakes, told_note}
 
 
-ends_said : (e : Ending) → IsSaid (ends_saying e)
+pub ends_said : (e : Ending) → IsSaid (ends_saying e)
 ends_said Free = normal
 ends_said FreeUpgradable = normal
 ends_said Hand = handed
@@ -133,7 +133,7 @@ module _ (w : Word) (rs : List Role) (first second : List ℕ) (sound : Sound w 
           before (Some q) y = (q, y, same_Some r (settle h q) (sym x.1 ∙ (slice_get-map (settle h) rs u ∙ ap (option_map (settle h)) y)))
 
 -- who wakes another isn't that other
-waking_apart : (k : Waking) (t : ℕ) (stay : Stay) (o : Owned) (us : List ℕ) → record { owns = o; does = Wakes us } ≢ waking_from k t stay
+pub waking_apart : (k : Waking) (t : ℕ) (stay : Stay) (o : Owned) (us : List ℕ) → record { owns = o; does = Wakes us } ≢ waking_from k t stay
 waking_apart (Retry n m) t stay o us e = let same = ap (λ (r : Role). r.does) e in cc
 waking_apart (Own n) t stay o us e = let same = ap (λ (r : Role). r.does) e in cc
 waking_apart (OwnPending n) t stay o us e = let same = ap (λ (r : Role). r.does) e in cc

@@ -4,3 +4,4 @@ pub mod Clauses
 pub mod Plain
 pub mod Lock
 pub mod Steps
+pub mod Family
