@@ -9,3 +9,4 @@ pub mod Settling
 pub mod Changing
 pub mod Sounds
 pub mod Crossing
+pub mod Families
