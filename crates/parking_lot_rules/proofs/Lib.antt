@@ -10,3 +10,4 @@ pub mod Changing
 pub mod Sounds
 pub mod Crossing
 pub mod Families
+pub mod Worlds

@@ -88,7 +88,8 @@ pub record FamilyStep (bucket : ℕ → ℕ) (recursive : ℕ → Bool) (j t : �
 abbrev pub within : Family → ℕ → Key → ℕ → ℕ
 within f i k u = weighs (section k) (slice_get (f.locks i).roles u)
 
--- Each lock is sound, and who is inside a section has entered its bucket.
+-- Each lock is sound, who is inside a section has entered its bucket, and who has entered a bucket is inside a section there.
 pub record IsSoundFamily (bucket : ℕ → ℕ) (f : Family) : Type 0 where
   pub sound : (i : ℕ) → IsSound (f.locks i)
   pub entered : (i : ℕ) (k : Key) (u : ℕ) → within f i k u ≡ 1 → f.entered (bucket (key i k)) ≡ Some u
+  pub is_inside : (b u : ℕ) → f.entered b ≡ Some u → (i : ℕ) × (k : Key) × (bucket (key i k) ≡ b) × (within f i k u ≡ 1)

@@ -5,3 +5,4 @@ pub mod Plain
 pub mod Lock
 pub mod Steps
 pub mod Family
+pub mod World
