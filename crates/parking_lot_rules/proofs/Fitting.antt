@@ -1,7 +1,7 @@
 -- Steps that change a list or two roles keep the clauses that count.
 use Rattle.std.proofs.Common.{◌≡◌, ℕ, zero, suc, ◌+◌, ◌-◌, ◌<◌, ◌≤◌, ◌⊎◌, Bool, true, false, List, [], ◌∷◌, ◌++◌, refl, sym, subst, inl, inr, arith}
 use Rattle.parking_lot_rules.specs.Roles.{Mode, Shared, Exclusive, Upgradable, Owned, Shares, Excludes, Upgrades, Stay, Fresh, Asleep, Late, Back, Mark, Open, Normal, Handed, Cause, FromExclusive, FromUpgradable, Owed, Phase, Idle, Seeks, Enters1, Checked1, Queued1, Taken1, Masks1, Leaves1, Drains, Enters2, Checked2, Queued2, Taken2, Leaves2, Yields, Owes1, Scans1, Stored1, Owes2, Scans2, Masked2, Wakes, Role}
-use Rattle.parking_lot_rules.specs.Classes.{Class, Readers, Upgraders, Pending, Writers, Inside1, Inside2, Waiting1, Waiting2, Joining1, Joining2, Masking, Owing1, Owing2, Called, OpenReaders, OpenUpgraders, OpenWriters, TakenReaders, TakenUpgraders, TakenWriters, weight, owned, bit, inside, is_more, if_exclusive, if_upgradable, if_owed}
+use Rattle.parking_lot_rules.specs.Classes.{Class, Readers, Upgraders, Pending, Writers, Inside1, Inside2, Waiting1, Waiting2, Joining1, Joining2, Masking, Owing1, Owing2, Called, OpenReaders, OpenUpgraders, OpenWriters, TakenReaders, TakenUpgraders, TakenWriters, weight, owned, bit, inside, called, if_exclusive, if_upgradable, if_owed}
 use Rattle.parking_lot_rules.specs.Clauses.{Word, Fits, Counts}
 use Rattle.parking_lot_rules.proofs.Totals.{bit_le}
 use Rattle.parking_lot_rules.specs.Steps.{Listing, Join1, Join2, Quit1, QuitLast1, Quit2, listing_from, listing_to, Look, Stop, Skip, Take, look, has_upgradable, Scan, scanning, holds_upgradable, taking, Ending, Free, FreeUpgradable, Hand, HandUpgradable, Keep, ends_for, ends_saying, stored, are_left, kept, settled, Waking, Retry, Own, OwnPending, OwnUpgradable, Recheck, waking_from, waking_to}
@@ -27,12 +27,12 @@ upgradable_kept Excludes c = refl
 upgradable_kept (Shares n) c = refl
 
 -- who wants more than a shared hold is taken only where nobody like that was taken before
-taken_alone : (u w : Bool) (m : Mode) → look u w m ≡ Take → is_more m ≡ true → (w ≡ false) × (u ≡ false)
+taken_alone : (u w : Bool) (m : Mode) → look u w m ≡ Take → called true m ≡ 1 → (w ≡ false) × (u ≡ false)
 taken_alone false false m looks more = (refl, refl)
-taken_alone true false Shared looks more = cc
-taken_alone true false Exclusive looks more = cc
-taken_alone true false Upgradable looks more = cc
-taken_alone u true m looks more = cc
+taken_alone true false Shared looks more = absurd (omega (arith, more))
+taken_alone true false Exclusive looks more = absurd cc
+taken_alone true false Upgradable looks more = absurd cc
+taken_alone u true m looks more = absurd cc
 
 no_upgradable : (o : Owned) (c : Cause) (u : Bool) → has_upgradable o c u ≡ false → bit u ≡ 0
 no_upgradable o c false e = refl

@@ -4,7 +4,7 @@ use Rattle.std.proofs.lemmas.Bool.{cases_eq}
 use Rattle.std.proofs.lemmas.Option.{none-some, same_Some, slice_get-map}
 use Rattle.std.proofs.lemmas.List.Sums.{sum_by-cons}
 use Rattle.parking_lot_rules.specs.Roles.{Mode, Shared, Exclusive, Upgradable, Owned, Shares, Excludes, Upgrades, Stay, Fresh, Asleep, Late, Back, Mark, Open, Normal, Handed, Cause, FromExclusive, FromUpgradable, Owed, Phase, Idle, Seeks, Enters1, Checked1, Queued1, Taken1, Masks1, Leaves1, Drains, Enters2, Checked2, Queued2, Taken2, Leaves2, Yields, Owes1, Scans1, Stored1, Owes2, Scans2, Masked2, Wakes, Role, away}
-use Rattle.parking_lot_rules.specs.Classes.{Class, Readers, Upgraders, Pending, Writers, Inside1, Inside2, Waiting1, Waiting2, Joining1, Joining2, Masking, Owing1, Owing2, Called, OpenReaders, OpenUpgraders, OpenWriters, TakenReaders, TakenUpgraders, TakenWriters, weight, total, weighs, bit, is_more, is_exclusive, is_upgradable}
+use Rattle.parking_lot_rules.specs.Classes.{Class, Readers, Upgraders, Pending, Writers, Inside1, Inside2, Waiting1, Waiting2, Joining1, Joining2, Masking, Owing1, Owing2, Called, OpenReaders, OpenUpgraders, OpenWriters, TakenReaders, TakenUpgraders, TakenWriters, weight, total, weighs, called, is_exclusive, is_upgradable}
 use Rattle.parking_lot_rules.specs.Lock.{Note, On1, On2, occurs, note_of, to_wake, Lists, AreNoted}
 use Rattle.parking_lot_rules.specs.Steps.{told, settle, settled}
 use Rattle.parking_lot_rules.proofs.Indexed.{get-set_same, get-set_other, get-set_cases}
@@ -15,7 +15,7 @@ pub data IsSaid : Mark → Type 0 where
   normal : IsSaid Normal
   handed : IsSaid Handed
 
-more_than_shared : (m : Mode) → bit (is_more m) ≡ is_upgradable m + is_exclusive m
+more_than_shared : (m : Mode) → called true m ≡ is_upgradable m + is_exclusive m
 more_than_shared Shared = refl
 more_than_shared Exclusive = refl
 more_than_shared Upgradable = refl

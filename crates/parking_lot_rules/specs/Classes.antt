@@ -46,11 +46,12 @@ inside Asleep = 0
 inside Late = 0
 inside Back = 1
 
--- whether a mode is more than shared
-abbrev pub is_more : Mode → Bool
-is_more Shared = false
-is_more Exclusive = true
-is_more Upgradable = true
+-- 1 for a thread that was woken and wants more than a shared hold
+abbrev pub called : Bool → Mode → ℕ
+called false mode = 0
+called true Shared = 0
+called true Exclusive = 1
+called true Upgradable = 1
 
 abbrev pub is_shared : Mode → ℕ
 is_shared Shared = 1
@@ -112,8 +113,8 @@ done Upgraders (Taken1 m by how s) = if_handed how (is_upgradable m)
 done Upgraders (Scans1 c r u w us) = if_upgradable c
 done Writers (Scans1 c r u w us) = if_exclusive c
 done Pending (Taken1 m by how s) = if_handed how (is_exclusive m)
-done Pending (Drains f) = 1
-done Pending (Enters2 f) = 1
+done Pending (Drains f c) = 1
+done Pending (Enters2 f c) = 1
 done Pending (Checked2 f) = 1
 done Pending (Queued2 f s) = 1
 done Pending (Taken2 f by s) = 1
@@ -127,7 +128,7 @@ done Inside1 Masks1 = 1
 done Inside1 Leaves1 = 1
 done Inside1 (Scans1 c r u w us) = 1
 done Inside1 (Stored1 us) = 1
-done Inside2 (Enters2 f) = 1
+done Inside2 (Enters2 f c) = 1
 done Inside2 (Checked2 f) = 1
 done Inside2 (Queued2 f s) = inside s
 done Inside2 (Taken2 f by s) = inside s
@@ -143,9 +144,9 @@ done Owing1 Owes1 = 1
 done Owing1 (Scans1 c r u w us) = if_owed c
 done Owing2 Owes2 = 1
 done Owing2 (Scans2 us) = 1
-done Called (Seeks m c) = bit c
-done Called (Enters1 m c) = bit c
-done Called (Taken1 m by how s) = if_normal how (bit (is_more m))
+done Called (Seeks m c) = called c m
+done Called (Enters1 m c) = called c m
+done Called (Taken1 m by how s) = if_normal how (called true m)
 done OpenReaders (Taken1 m by how s) = if_open how (is_shared m)
 done OpenUpgraders (Taken1 m by how s) = if_open how (is_upgradable m)
 done OpenWriters (Taken1 m by how s) = if_open how (is_exclusive m)

@@ -1,7 +1,7 @@
 -- The steps that change nothing but the word and the role of the thread that makes them.
 use Rattle.std.specs.Prelude.{◌≡◌, ◌≢◌, ℕ, ◌+◌, ◌-◌, ◌<◌, Bool, true, false, ◌⊎◌, List, [], if◌then◌else◌}
 use Rattle.parking_lot_rules.specs.Roles.{Mode, Shared, Exclusive, Upgradable, Owned, Shares, Excludes, Upgrades, Stay, Fresh, Asleep, Late, Back, Mark, Open, Normal, Handed, Cause, FromExclusive, FromUpgradable, Owed, Phase, Idle, Seeks, Enters1, Checked1, Queued1, Taken1, Masks1, Leaves1, Drains, Enters2, Checked2, Queued2, Taken2, Leaves2, Yields, Owes1, Scans1, Stored1, Owes2, Scans2, Masked2, Wakes, Role}
-use Rattle.parking_lot_rules.specs.Classes.{Class, Inside1, Inside2, Waiting2, bit, is_more}
+use Rattle.parking_lot_rules.specs.Classes.{Class, Inside1, Inside2, Waiting2, bit}
 use Rattle.parking_lot_rules.specs.Clauses.{Word}
 
 pub data Plain : Type 0 where
@@ -9,16 +9,16 @@ pub data Plain : Type 0 where
   Begin : (n : ℕ) → (mode : Mode) → Plain
   Refuse : (n : ℕ) → (mode : Mode) → Plain
   -- admissions: shared, the first part of exclusive, its second part, upgradable; exclusive at once, by a try
-  Share : (n : ℕ) → Plain
-  Pend : (called : Bool) → Plain
-  Drain : (from : Bool) → Plain
-  Upgradably : (called : Bool) → Plain
+  Share : (n : ℕ) → (woken : Bool) → Plain
+  Pend : (woken : Bool) → Plain
+  Drain : (from : Bool) → (woken : Bool) → Plain
+  Upgradably : (woken : Bool) → Plain
   Exclude : Plain
   -- waiting on the first key: the parked bit, the section, its check, and back out of it, with or without a place in the list
-  Flag1 : (n : ℕ) → (mode : Mode) → (called : Bool) → Plain
-  Enter1 : (n : ℕ) → (mode : Mode) → (called : Bool) → Plain
-  Check1 : (n : ℕ) → (mode : Mode) → (called : Bool) → Plain
-  Retreat1 : (n : ℕ) → (mode : Mode) → (called : Bool) → Plain
+  Flag1 : (n : ℕ) → (mode : Mode) → (woken : Bool) → Plain
+  Enter1 : (n : ℕ) → (mode : Mode) → (woken : Bool) → Plain
+  Check1 : (n : ℕ) → (mode : Mode) → (woken : Bool) → Plain
+  Retreat1 : (n : ℕ) → (mode : Mode) → (woken : Bool) → Plain
   Rest1 : (n : ℕ) → (mode : Mode) → Plain
   -- giving up on the first key: the deadline, the section, and out of it, taken by another in the meantime or not
   Expire1 : (n : ℕ) → (mode : Mode) → Plain
@@ -32,10 +32,10 @@ pub data Plain : Type 0 where
   ReceivePending : (n : ℕ) → (by : ℕ) → Plain
   ReceiveUpgradable : (by : ℕ) → Plain
   -- a pending writer waits on the second key
-  Flag2 : (n : ℕ) → (from : Bool) → Plain
-  Enter2 : (n : ℕ) → (from : Bool) → Plain
-  Check2 : (n : ℕ) → (from : Bool) → Plain
-  Retreat2 : (n : ℕ) → (from : Bool) → Plain
+  Flag2 : (n : ℕ) → (from : Bool) → (woken : Bool) → Plain
+  Enter2 : (n : ℕ) → (from : Bool) → (woken : Bool) → Plain
+  Check2 : (n : ℕ) → (from : Bool) → (woken : Bool) → Plain
+  Retreat2 : (n : ℕ) → (from : Bool) → (woken : Bool) → Plain
   Rest2 : (n : ℕ) → (from : Bool) → Plain
   -- and gives up there
   Expire2 : (n : ℕ) → (from : Bool) → Plain
@@ -86,9 +86,9 @@ pub record IsZero (w : Word) : Type 0 where
 abbrev pub from : Plain → Role
 from (Begin n m) = record { owns = Shares n; does = Idle }
 from (Refuse n m) = record { owns = Shares n; does = Seeks m false }
-from (Share n) = record { owns = Shares n; does = Seeks Shared false }
+from (Share n c) = record { owns = Shares n; does = Seeks Shared c }
 from (Pend c) = record { owns = Shares 0; does = Seeks Exclusive c }
-from (Drain f) = record { owns = Shares 0; does = Drains f }
+from (Drain f c) = record { owns = Shares 0; does = Drains f c }
 from (Upgradably c) = record { owns = Shares 0; does = Seeks Upgradable c }
 from Exclude = record { owns = Shares 0; does = Seeks Exclusive false }
 from (Flag1 n m c) = record { owns = Shares n; does = Seeks m c }
@@ -106,10 +106,10 @@ from (Resume1 n m by) = record { owns = Shares n; does = Taken1 m by Normal Back
 from (ReceiveShared n by) = record { owns = Shares n; does = Taken1 Shared by Handed Back }
 from (ReceivePending n by) = record { owns = Shares n; does = Taken1 Exclusive by Handed Back }
 from (ReceiveUpgradable by) = record { owns = Shares 0; does = Taken1 Upgradable by Handed Back }
-from (Flag2 n f) = record { owns = Shares n; does = Drains f }
-from (Enter2 n f) = record { owns = Shares n; does = Drains f }
-from (Check2 n f) = record { owns = Shares n; does = Enters2 f }
-from (Retreat2 n f) = record { owns = Shares n; does = Enters2 f }
+from (Flag2 n f c) = record { owns = Shares n; does = Drains f c }
+from (Enter2 n f c) = record { owns = Shares n; does = Drains f c }
+from (Check2 n f c) = record { owns = Shares n; does = Enters2 f c }
+from (Retreat2 n f c) = record { owns = Shares n; does = Enters2 f c }
 from (Rest2 n f) = record { owns = Shares n; does = Queued2 f Fresh }
 from (Expire2 n f) = record { owns = Shares n; does = Queued2 f Asleep }
 from (ExpireTaken2 n f by) = record { owns = Shares n; does = Taken2 f by Asleep }
@@ -141,9 +141,9 @@ from (Finish o) = record { owns = o; does = Wakes [] }
 abbrev pub to : Plain → Role
 to (Begin n m) = record { owns = Shares n; does = Seeks m false }
 to (Refuse n m) = record { owns = Shares n; does = Idle }
-to (Share n) = record { owns = Shares (n + 1); does = Idle }
-to (Pend c) = record { owns = Shares 0; does = Drains false }
-to (Drain f) = record { owns = Excludes; does = Idle }
+to (Share n c) = record { owns = Shares (n + 1); does = Idle }
+to (Pend c) = record { owns = Shares 0; does = Drains false false }
+to (Drain f c) = record { owns = Excludes; does = Idle }
 to (Upgradably c) = record { owns = Upgrades; does = Idle }
 to Exclude = record { owns = Excludes; does = Idle }
 to (Flag1 n m c) = record { owns = Shares n; does = Seeks m c }
@@ -157,20 +157,20 @@ to (Reenter1 n m) = record { owns = Shares n; does = Queued1 m Back }
 to (ReenterTaken1 n m by how) = record { owns = Shares n; does = Taken1 m by how Back }
 to (Mask1 n) = record { owns = Shares n; does = Leaves1 }
 to (Leave1 n) = record { owns = Shares n; does = Idle }
-to (Resume1 n m by) = record { owns = Shares n; does = Seeks m (is_more m) }
+to (Resume1 n m by) = record { owns = Shares n; does = Seeks m true }
 to (ReceiveShared n by) = record { owns = Shares (n + 1); does = Idle }
-to (ReceivePending n by) = record { owns = Shares n; does = Drains false }
+to (ReceivePending n by) = record { owns = Shares n; does = Drains false true }
 to (ReceiveUpgradable by) = record { owns = Upgrades; does = Idle }
-to (Flag2 n f) = record { owns = Shares n; does = Drains f }
-to (Enter2 n f) = record { owns = Shares n; does = Enters2 f }
-to (Check2 n f) = record { owns = Shares n; does = Checked2 f }
-to (Retreat2 n f) = record { owns = Shares n; does = Drains f }
+to (Flag2 n f c) = record { owns = Shares n; does = Drains f c }
+to (Enter2 n f c) = record { owns = Shares n; does = Enters2 f c }
+to (Check2 n f c) = record { owns = Shares n; does = Checked2 f }
+to (Retreat2 n f c) = record { owns = Shares n; does = Drains f c }
 to (Rest2 n f) = record { owns = Shares n; does = Queued2 f Asleep }
 to (Expire2 n f) = record { owns = Shares n; does = Queued2 f Late }
 to (ExpireTaken2 n f by) = record { owns = Shares n; does = Taken2 f by Late }
 to (Reenter2 n f) = record { owns = Shares n; does = Queued2 f Back }
 to (ReenterTaken2 n f by) = record { owns = Shares n; does = Taken2 f by Back }
-to (Resume2 n f by) = record { owns = Shares n; does = Drains f }
+to (Resume2 n f by) = record { owns = Shares n; does = Drains f true }
 to (Leave2 n f) = record { owns = Shares n; does = Yields f }
 to (Yield owing) = record { owns = Shares 0; does = if owing then Owes1 else Idle }
 to (YieldBack owing) = record { owns = Upgrades; does = if owing then Owes1 else Idle }
@@ -186,7 +186,7 @@ to LookUpgradable = record { owns = Shares 0; does = Scans1 FromUpgradable 0 fal
 to (Downgrade owing) = record { owns = Shares 1; does = if owing then Owes1 else Idle }
 to (DowngradeToUpgradable owing) = record { owns = Upgrades; does = if owing then Owes1 else Idle }
 to (DowngradeUpgradable owing) = record { owns = Shares 1; does = if owing then Owes1 else Idle }
-to Upgrade = record { owns = Shares 0; does = Drains true }
+to Upgrade = record { owns = Shares 0; does = Drains true false }
 to UpgradeAtOnce = record { owns = Excludes; does = Idle }
 to (LookOwed o) = record { owns = o; does = Scans1 Owed 0 false false [] }
 to (Depart1 o us) = record { owns = o; does = Wakes us }
@@ -196,9 +196,9 @@ to (Finish o) = record { owns = o; does = Idle }
 abbrev pub May : Bool → Plain → Word → (Class → ℕ) → Type 0
 May recursive (Begin n m) w all = (n ≡ 0) ⊎ ((recursive ≡ true) × (m ≡ Shared))
 May recursive (Refuse n m) w all = Unit {0}
-May recursive (Share n) w all = (w.writer ≡ 0) ⊎ ((recursive ≡ true) × (0 < w.readers))
+May recursive (Share n c) w all = (w.writer ≡ 0) ⊎ ((recursive ≡ true) × (0 < w.readers))
 May recursive (Pend c) w all = (w.writer ≡ 0) × (w.upgradable ≡ 0)
-May recursive (Drain f) w all = w.readers ≡ 0
+May recursive (Drain f c) w all = w.readers ≡ 0
 May recursive (Upgradably c) w all = (w.writer ≡ 0) × (w.upgradable ≡ 0)
 May recursive Exclude w all = IsZero w
 May recursive (Flag1 n m c) w all = (w.parked1 ≡ 0) × (0 < bars m w)
@@ -216,10 +216,10 @@ May recursive (Resume1 n m by) w all = Unit {0}
 May recursive (ReceiveShared n by) w all = Unit {0}
 May recursive (ReceivePending n by) w all = Unit {0}
 May recursive (ReceiveUpgradable by) w all = Unit {0}
-May recursive (Flag2 n f) w all = (w.parked2 ≡ 0) × (0 < w.readers)
-May recursive (Enter2 n f) w all = all Inside2 ≡ 0
-May recursive (Check2 n f) w all = (w.parked2 ≡ 1) × (0 < w.readers)
-May recursive (Retreat2 n f) w all = Unit {0}
+May recursive (Flag2 n f c) w all = (w.parked2 ≡ 0) × (0 < w.readers)
+May recursive (Enter2 n f c) w all = all Inside2 ≡ 0
+May recursive (Check2 n f c) w all = (w.parked2 ≡ 1) × (0 < w.readers)
+May recursive (Retreat2 n f c) w all = Unit {0}
 May recursive (Rest2 n f) w all = Unit {0}
 May recursive (Expire2 n f) w all = Unit {0}
 May recursive (ExpireTaken2 n f by) w all = Unit {0}
@@ -251,9 +251,9 @@ May recursive (Finish o) w all = Unit {0}
 abbrev pub written : Plain → Word → Word
 written (Begin n m) w = w
 written (Refuse n m) w = w
-written (Share n) w = record w { readers = w.readers + 1 }
+written (Share n c) w = record w { readers = w.readers + 1 }
 written (Pend c) w = record w { writer = 1 }
-written (Drain f) w = w
+written (Drain f c) w = w
 written (Upgradably c) w = record w { readers = w.readers + 1; upgradable = 1 }
 written Exclude w = record w { writer = 1 }
 written (Flag1 n m c) w = record w { parked1 = 1 }
@@ -271,10 +271,10 @@ written (Resume1 n m by) w = w
 written (ReceiveShared n by) w = w
 written (ReceivePending n by) w = w
 written (ReceiveUpgradable by) w = w
-written (Flag2 n f) w = record w { parked2 = 1 }
-written (Enter2 n f) w = w
-written (Check2 n f) w = w
-written (Retreat2 n f) w = w
+written (Flag2 n f c) w = record w { parked2 = 1 }
+written (Enter2 n f c) w = w
+written (Check2 n f c) w = w
+written (Retreat2 n f c) w = w
 written (Rest2 n f) w = w
 written (Expire2 n f) w = w
 written (ExpireTaken2 n f by) w = w

@@ -40,10 +40,10 @@ pub data Phase : Type 0 where
   -- nothing
   Idle : Phase
 
-  -- On the way to a first admission. `called`: it was woken to try again, wants more than a shared hold, and since then was
-  -- neither admitted nor found that it has to wait.
-  Seeks : (mode : Mode) → (called : Bool) → Phase
-  Enters1 : (mode : Mode) → (called : Bool) → Phase
+  -- On the way to a first admission. `woken`: it was woken to try again, and since then was neither admitted nor found that it
+  -- has to wait.
+  Seeks : (mode : Mode) → (woken : Bool) → Phase
+  Enters1 : (mode : Mode) → (woken : Bool) → Phase
   Checked1 : (mode : Mode) → Phase
   Queued1 : (mode : Mode) → (stay : Stay) → Phase
   Taken1 : (mode : Mode) → (by : ℕ) → (mark : Mark) → (stay : Stay) → Phase
@@ -51,9 +51,10 @@ pub data Phase : Type 0 where
   Masks1 : Phase
   Leaves1 : Phase
 
-  -- Pending: no writer may come any more, and the readers are waited for. `from`: it came from the upgradable hold.
-  Drains : (from : Bool) → Phase
-  Enters2 : (from : Bool) → Phase
+  -- Pending: no writer may come any more, and the readers are waited for. `from`: it came from the upgradable hold. `woken`: as
+  -- above.
+  Drains : (from : Bool) → (woken : Bool) → Phase
+  Enters2 : (from : Bool) → (woken : Bool) → Phase
   Checked2 : (from : Bool) → Phase
   Queued2 : (from : Bool) → (stay : Stay) → Phase
   Taken2 : (from : Bool) → (by : ℕ) → (stay : Stay) → Phase

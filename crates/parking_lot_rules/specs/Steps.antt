@@ -2,7 +2,7 @@
 use Rattle.std.specs.Prelude.{◌≡◌, ◌≢◌, ℕ, zero, suc, ◌+◌, ◌-◌, ◌<◌, Bool, true, false, ◌⊎◌, List, [], ◌∷◌, ◌++◌, length, map, slice_get, slice_set, Some}
 use Rattle.std.specs.List.{remove}
 use Rattle.parking_lot_rules.specs.Roles.{Mode, Shared, Exclusive, Upgradable, Owned, Shares, Excludes, Upgrades, Stay, Fresh, Asleep, Late, Back, Mark, Open, Normal, Handed, Cause, FromExclusive, FromUpgradable, Owed, Phase, Idle, Seeks, Enters1, Checked1, Queued1, Taken1, Masks1, Leaves1, Drains, Enters2, Checked2, Queued2, Taken2, Leaves2, Yields, Owes1, Scans1, Stored1, Owes2, Scans2, Masked2, Wakes, Role}
-use Rattle.parking_lot_rules.specs.Classes.{Class, Readers, Upgraders, Pending, Called, OpenReaders, OpenUpgraders, OpenWriters, total, bit, inside, is_more}
+use Rattle.parking_lot_rules.specs.Classes.{Class, Readers, Upgraders, Pending, Called, OpenReaders, OpenUpgraders, OpenWriters, total, bit, inside}
 use Rattle.parking_lot_rules.specs.Clauses.{Word}
 use Rattle.parking_lot_rules.specs.Plain.{Plain, from, to, May, written}
 use Rattle.parking_lot_rules.specs.Lock.{Lock, Note, note_of}
@@ -205,11 +205,11 @@ waking_from OwnUpgradable t stay = record { owns = Shares 0; does = Taken1 Upgra
 waking_from (Recheck n f) t stay = record { owns = Shares n; does = Taken2 f t stay }
 
 abbrev pub waking_to : Waking → Role
-waking_to (Retry n m) = record { owns = Shares n; does = Seeks m (is_more m) }
+waking_to (Retry n m) = record { owns = Shares n; does = Seeks m true }
 waking_to (Own n) = record { owns = Shares (n + 1); does = Idle }
-waking_to (OwnPending n) = record { owns = Shares n; does = Drains false }
+waking_to (OwnPending n) = record { owns = Shares n; does = Drains false true }
 waking_to OwnUpgradable = record { owns = Upgrades; does = Idle }
-waking_to (Recheck n f) = record { owns = Shares n; does = Drains f }
+waking_to (Recheck n f) = record { owns = Shares n; does = Drains f true }
 
 -- All steps of a thread t at a lock.
 pub data Step : Type 0 where
