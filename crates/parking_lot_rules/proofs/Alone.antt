@@ -42,12 +42,12 @@ same_waiting2 _ = refl
 
 -- it takes nobody off one, and what others are told stays
 same_note : (k : Plain) → (note_of (to k).does ≡ None) ⊎ (note_of (to k).does ≡ note_of (from k).does)
-same_note (ExpireTaken1 n m by Open) = inr refl
-same_note (ExpireTaken1 n m by Normal) = inl refl
-same_note (ExpireTaken1 n m by Handed) = inl refl
-same_note (ReenterTaken1 n m by Open) = inr refl
-same_note (ReenterTaken1 n m by Normal) = inl refl
-same_note (ReenterTaken1 n m by Handed) = inl refl
+same_note (ExpireTaken1 m by Open) = inr refl
+same_note (ExpireTaken1 m by Normal) = inl refl
+same_note (ExpireTaken1 m by Handed) = inl refl
+same_note (ReenterTaken1 m by Open) = inr refl
+same_note (ReenterTaken1 m by Normal) = inl refl
+same_note (ReenterTaken1 m by Handed) = inl refl
 same_note (Yield true) = inl refl
 same_note (Yield false) = inl refl
 same_note (YieldBack true) = inl refl

@@ -20,49 +20,49 @@ nothing_noted : (b : Role) (P : ℕ → Note → Type 0) → note_of b.does ≡ 
 nothing_noted b P none by note took = absurd (none-some (by, note) (sym none ∙ took))
 
 may_count : (k : Listing) (t : ℕ) (first second : List ℕ) (n : ℕ) → length first ≡ n → MayList k t first second → fitting.MayCount k n
-may_count (Join1 m f) t first second n e may = tt
-may_count (Join2 m f) t first second n e may = tt
-may_count (Quit1 m f i) t first second n e may = omega arith
-may_count (QuitLast1 m f i) t first second n e may = omega arith
-may_count (Quit2 m f i) t first second n e may = tt
+may_count (Join1 f) t first second n e may = tt
+may_count (Join2 f) t first second n e may = tt
+may_count (Quit1 f i) t first second n e may = omega arith
+may_count (QuitLast1 f i) t first second n e may = omega arith
+may_count (Quit2 f i) t first second n e may = tt
 
 listing_note : (k : Listing) → note_of (listing_to k).does ≡ None
-listing_note (Join1 m f) = refl
+listing_note (Join1 f) = refl
 listing_note _ = refl
 
 listing_wakes : (k : Listing) (note : Note) → to_wake (listing_from k).does note ≡ to_wake (listing_to k).does note
-listing_wakes (Join1 m f) note = refl
+listing_wakes (Join1 f) note = refl
 listing_wakes _ note = refl
 
 waking_waits1 : (k : Waking) (t : ℕ) (stay : Stay) → weight Waiting1 (waking_to k) ≡ weight Waiting1 (waking_from k t stay)
 unfolding weight
-waking_waits1 (Retry n m) t stay = refl
-waking_waits1 (Own n) t stay = refl
-waking_waits1 (OwnPending n) t stay = refl
+waking_waits1 (Retry m) t stay = refl
+waking_waits1 Own t stay = refl
+waking_waits1 OwnPending t stay = refl
 waking_waits1 OwnUpgradable t stay = refl
-waking_waits1 (Recheck n f) t stay = refl
+waking_waits1 (Recheck f) t stay = refl
 
 waking_waits2 : (k : Waking) (t : ℕ) (stay : Stay) → weight Waiting2 (waking_to k) ≡ weight Waiting2 (waking_from k t stay)
 unfolding weight
-waking_waits2 (Retry n m) t stay = refl
-waking_waits2 (Own n) t stay = refl
-waking_waits2 (OwnPending n) t stay = refl
+waking_waits2 (Retry m) t stay = refl
+waking_waits2 Own t stay = refl
+waking_waits2 OwnPending t stay = refl
 waking_waits2 OwnUpgradable t stay = refl
-waking_waits2 (Recheck n f) t stay = refl
+waking_waits2 (Recheck f) t stay = refl
 
 pub waking_note : (k : Waking) → note_of (waking_to k).does ≡ None
-waking_note (Retry n m) = refl
-waking_note (Own n) = refl
-waking_note (OwnPending n) = refl
+waking_note (Retry m) = refl
+waking_note Own = refl
+waking_note OwnPending = refl
 waking_note OwnUpgradable = refl
-waking_note (Recheck n f) = refl
+waking_note (Recheck f) = refl
 
 waking_wakes : (k : Waking) (t : ℕ) (stay : Stay) (note : Note) → to_wake (waking_from k t stay).does note ≡ to_wake (waking_to k).does note
-waking_wakes (Retry n m) t stay note = refl
-waking_wakes (Own n) t stay note = refl
-waking_wakes (OwnPending n) t stay note = refl
+waking_wakes (Retry m) t stay note = refl
+waking_wakes Own t stay note = refl
+waking_wakes OwnPending t stay note = refl
 waking_wakes OwnUpgradable t stay note = refl
-waking_wakes (Recheck n f) t stay note = refl
+waking_wakes (Recheck f) t stay note = refl
 
 taking_taken : (s : Scan) (v : ℕ) (m : Mode) → (taking s v m).taken ≡ s.taken ++ v ∷ []
 taking_taken s v Shared = refl
@@ -101,17 +101,17 @@ module _ (w : Word) (rs : List Role) (first second : List ℕ) (sound : Sound w 
   }
     where
       one : (k : Listing) → slice_get rs t ≡ Some (listing_from k) → MayList k t first second → Lists Waiting1 (first_after k t first) (slice_set rs t (listing_to k))
-      one (Join1 n m) at may = lists-push Waiting1 first rs t _ _ at sound.waiting1 refl refl
-      one (Join2 n f) at may = lists-same Waiting1 first rs t _ _ at sound.waiting1 refl
-      one (Quit1 n m i) at may = lists-drop Waiting1 first rs t _ _ at sound.waiting1 i may.0 refl refl
-      one (QuitLast1 n m i) at may = lists-drop Waiting1 first rs t _ _ at sound.waiting1 i may.0 refl refl
-      one (Quit2 n f i) at may = lists-same Waiting1 first rs t _ _ at sound.waiting1 refl
+      one (Join1 m) at may = lists-push Waiting1 first rs t _ _ at sound.waiting1 refl refl
+      one (Join2 f) at may = lists-same Waiting1 first rs t _ _ at sound.waiting1 refl
+      one (Quit1 m i) at may = lists-drop Waiting1 first rs t _ _ at sound.waiting1 i may.0 refl refl
+      one (QuitLast1 m i) at may = lists-drop Waiting1 first rs t _ _ at sound.waiting1 i may.0 refl refl
+      one (Quit2 f i) at may = lists-same Waiting1 first rs t _ _ at sound.waiting1 refl
       two : (k : Listing) → slice_get rs t ≡ Some (listing_from k) → MayList k t first second → Lists Waiting2 (second_after k t second) (slice_set rs t (listing_to k))
-      two (Join1 n m) at may = lists-same Waiting2 second rs t _ _ at sound.waiting2 refl
-      two (Join2 n f) at may = lists-push Waiting2 second rs t _ _ at sound.waiting2 refl refl
-      two (Quit1 n m i) at may = lists-same Waiting2 second rs t _ _ at sound.waiting2 refl
-      two (QuitLast1 n m i) at may = lists-same Waiting2 second rs t _ _ at sound.waiting2 refl
-      two (Quit2 n f i) at may = lists-drop Waiting2 second rs t _ _ at sound.waiting2 i may refl refl
+      two (Join1 m) at may = lists-same Waiting2 second rs t _ _ at sound.waiting2 refl
+      two (Join2 f) at may = lists-push Waiting2 second rs t _ _ at sound.waiting2 refl refl
+      two (Quit1 m i) at may = lists-same Waiting2 second rs t _ _ at sound.waiting2 refl
+      two (QuitLast1 m i) at may = lists-same Waiting2 second rs t _ _ at sound.waiting2 refl
+      two (Quit2 f i) at may = lists-drop Waiting2 second rs t _ _ at sound.waiting2 i may refl refl
 
   -- the thread v, which it took, is woken
   pub sound_wake : (v : ℕ) (k : Waking) (stay : Stay) → slice_get rs v ≡ Some (waking_from k t stay) → inside stay ≡ 0 → Sound w (slice_set rs v (waking_to k)) first second
@@ -156,11 +156,11 @@ module _ (w : Word) (rs : List Role) (first second : List ℕ) (sound : Sound w 
           (keeps (same_counts (Fits w) _ _
           (λ c. omega (arith, sum_by-set_at (weight c) rs t a away at, sum_by-set_at (weight c) (slice_set rs t away) v x away left, away_weighs c)) sound.fits))
 
-  pub sound_take1 : (s : Scan) (i v n : ℕ) (m : Mode) (stay : Stay) → slice_get rs t ≡ Some (scanning s) → MayTake s i v n m stay rs first
-      → Sound w (slice_set (slice_set rs t (scanning (taking s v m))) v (record { owns = Shares n; does = Taken1 m t Open stay })) (remove first i) second
+  pub sound_take1 : (s : Scan) (i v : ℕ) (m : Mode) (stay : Stay) → slice_get rs t ≡ Some (scanning s) → MayTake s i v m stay rs first
+      → Sound w (slice_set (slice_set rs t (scanning (taking s v m))) v (record { owns = Shares 0; does = Taken1 m t Open stay })) (remove first i) second
   unfolding weight
-  sound_take1 s i v n m stay at may = record {
-    fits = fits-set2 v (scanning s) b x y at may.role ne (fitting.take_fits w rest (counts_all (slice_set (slice_set rs t away) v away)) s v t n m stay may.looks);
+  sound_take1 s i v m stay at may = record {
+    fits = fits-set2 v (scanning s) b x y at may.role ne (fitting.take_fits w rest (counts_all (slice_set (slice_set rs t away) v away)) s v t m stay may.looks);
     waiting1 = lists-drop Waiting1 first (slice_set rs t b) v x y still (lists-same Waiting1 first rs t (scanning s) b at sound.waiting1 refl) i may.waiter refl refl;
     waiting2 = lists-same Waiting2 second (slice_set rs t b) v x y still (lists-same Waiting2 second rs t (scanning s) b at sound.waiting2 refl) refl;
     noted = noted-set (slice_set rs t b) v x y still
@@ -177,20 +177,20 @@ module _ (w : Word) (rs : List Role) (first second : List ℕ) (sound : Sound w 
       b : Role
       b = scanning (taking s v m)
       x : Role
-      x = record { owns = Shares n; does = Queued1 m stay }
+      x = record { owns = Shares 0; does = Queued1 m stay }
       y : Role
-      y = record { owns = Shares n; does = Taken1 m t Open stay }
+      y = record { owns = Shares 0; does = Taken1 m t Open stay }
       ne : t ≢ v
       ne e = let same : scanning s ≡ x = same_Some (scanning s) x (sym at ∙ ap (λ j. slice_get rs j) e ∙ may.role) in let phases = ap (λ r. r.does) same in cc
       still : slice_get (slice_set rs t b) v ≡ Some x
       still = get-set_other rs t v b ne ∙ may.role
 
-  pub sound_take2 : (o : Owned) (v n : ℕ) (f : Bool) (stay : Stay) → slice_get rs t ≡ Some (record { owns = o; does = Scans2 [] }) → slice_get second 0 ≡ Some v
-      → slice_get rs v ≡ Some (record { owns = Shares n; does = Queued2 f stay })
-      → Sound w (slice_set (slice_set rs t (record { owns = o; does = Scans2 (v ∷ []) })) v (record { owns = Shares n; does = Taken2 f t stay })) first (remove second 0)
+  pub sound_take2 : (o : Owned) (v : ℕ) (f : Bool) (stay : Stay) → slice_get rs t ≡ Some (record { owns = o; does = Scans2 [] }) → slice_get second 0 ≡ Some v
+      → slice_get rs v ≡ Some (record { owns = Shares 0; does = Queued2 f stay })
+      → Sound w (slice_set (slice_set rs t (record { owns = o; does = Scans2 (v ∷ []) })) v (record { owns = Shares 0; does = Taken2 f t stay })) first (remove second 0)
   unfolding weight
-  sound_take2 o v n f stay at waiter there = record {
-    fits = fits-set2 v a b x y at there ne (fitting.take2_fits w rest (counts_all (slice_set (slice_set rs t away) v away)) o (v ∷ []) v t n f stay);
+  sound_take2 o v f stay at waiter there = record {
+    fits = fits-set2 v a b x y at there ne (fitting.take2_fits w rest (counts_all (slice_set (slice_set rs t away) v away)) o (v ∷ []) v t f stay);
     waiting1 = lists-same Waiting1 first (slice_set rs t b) v x y still (lists-same Waiting1 first rs t a b at sound.waiting1 refl) refl;
     waiting2 = lists-drop Waiting2 second (slice_set rs t b) v x y still (lists-same Waiting2 second rs t a b at sound.waiting2 refl) 0 waiter refl refl;
     noted = noted-set (slice_set rs t b) v x y still
@@ -206,9 +206,9 @@ module _ (w : Word) (rs : List Role) (first second : List ℕ) (sound : Sound w 
       b : Role
       b = record { owns = o; does = Scans2 (v ∷ []) }
       x : Role
-      x = record { owns = Shares n; does = Queued2 f stay }
+      x = record { owns = Shares 0; does = Queued2 f stay }
       y : Role
-      y = record { owns = Shares n; does = Taken2 f t stay }
+      y = record { owns = Shares 0; does = Taken2 f t stay }
       ne : t ≢ v
       ne e = let same : a ≡ x = same_Some a x (sym at ∙ ap (λ j. slice_get rs j) e ∙ there) in let phases = ap (λ r. r.does) same in cc
       still : slice_get (slice_set rs t b) v ≡ Some x

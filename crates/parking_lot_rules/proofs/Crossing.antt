@@ -60,35 +60,35 @@ WasIn (Goes Second) Second n = n ≡ 1
 
 plain_was : (k : Plain) (x : Key) → WasIn (crossing (Alone k)) x (weight (section x) (from k))
 unfolding weight
-plain_was (Retreat1 n m c) First = refl
-plain_was (Rest1 n m) First = refl
-plain_was (Leave1 n) First = refl
-plain_was (Resume1 n m by) First = refl
-plain_was (ReceiveShared n by) First = refl
-plain_was (ReceivePending n by) First = refl
+plain_was (Retreat1 m c) First = refl
+plain_was (Rest1 m) First = refl
+plain_was Leave1 First = refl
+plain_was (Resume1 m by) First = refl
+plain_was (ReceiveShared by) First = refl
+plain_was (ReceivePending by) First = refl
 plain_was (ReceiveUpgradable by) First = refl
 plain_was (Depart1 o us) First = refl
-plain_was (Retreat2 n f c) Second = refl
-plain_was (Rest2 n f) Second = refl
-plain_was (Resume2 n f by) Second = refl
-plain_was (Leave2 n f) Second = refl
+plain_was (Retreat2 f c) Second = refl
+plain_was (Rest2 f) Second = refl
+plain_was (Resume2 f by) Second = refl
+plain_was (Leave2 f) Second = refl
 plain_was (Depart2 n us) Second = refl
 plain_was k First = tt
 plain_was k Second = tt
 
 listing_crosses : (k : Listing) (x : Key) → weight (section x) (listing_to k) ≡ weight (section x) (listing_from k)
 unfolding weight
-listing_crosses (Join1 n m) First = refl
-listing_crosses (Join1 n m) Second = refl
+listing_crosses (Join1 m) First = refl
+listing_crosses (Join1 m) Second = refl
 listing_crosses k First = refl
 listing_crosses k Second = refl
 
 waking_crosses : (k : Waking) (t : ℕ) (stay : Stay) (x : Key) → inside stay ≡ 0 → weight (section x) (waking_to k) ≡ weight (section x) (waking_from k t stay)
 unfolding weight
-waking_crosses (Retry n m) t stay First out = omega arith
-waking_crosses (Own n) t stay First out = omega arith
+waking_crosses (Retry m) t stay First out = omega arith
+waking_crosses Own t stay First out = omega arith
 waking_crosses k t stay First out = omega arith
-waking_crosses (Recheck n f) t stay Second out = omega arith
+waking_crosses (Recheck f) t stay Second out = omega arith
 waking_crosses k t stay Second out = omega arith
 
 -- what a thread weighs where a role changes
@@ -145,20 +145,20 @@ section_take1 Second s v Shared = refl
 section_take1 Second s v Exclusive = refl
 section_take1 Second s v Upgradable = refl
 
-section_taken1 : (x : Key) (n t : ℕ) (m : Mode) (stay : Stay) → weight (section x) (record { owns = Shares n; does = Taken1 m t Open stay }) ≡ weight (section x) (record { owns = Shares n; does = Queued1 m stay })
+section_taken1 : (x : Key) (t : ℕ) (m : Mode) (stay : Stay) → weight (section x) (record { owns = Shares 0; does = Taken1 m t Open stay }) ≡ weight (section x) (record { owns = Shares 0; does = Queued1 m stay })
 unfolding weight
-section_taken1 First n t m stay = refl
-section_taken1 Second n t m stay = refl
+section_taken1 First t m stay = refl
+section_taken1 Second t m stay = refl
 
 section_take2 : (x : Key) (o : Owned) (v : ℕ) → weight (section x) (record { owns = o; does = Scans2 (v ∷ []) }) ≡ weight (section x) (record { owns = o; does = Scans2 [] })
 unfolding weight
 section_take2 First o v = refl
 section_take2 Second o v = refl
 
-section_taken2 : (x : Key) (n t : ℕ) (f : Bool) (stay : Stay) → weight (section x) (record { owns = Shares n; does = Taken2 f t stay }) ≡ weight (section x) (record { owns = Shares n; does = Queued2 f stay })
+section_taken2 : (x : Key) (t : ℕ) (f : Bool) (stay : Stay) → weight (section x) (record { owns = Shares 0; does = Taken2 f t stay }) ≡ weight (section x) (record { owns = Shares 0; does = Queued2 f stay })
 unfolding weight
-section_taken2 First n t f stay = refl
-section_taken2 Second n t f stay = refl
+section_taken2 First t f stay = refl
+section_taken2 Second t f stay = refl
 
 section_store : (x : Key) (s : Scan) → weight (section x) (record { owns = s.owns; does = Stored1 s.taken }) ≡ weight (section x) (scanning s)
 unfolding weight
@@ -170,10 +170,10 @@ module _ (recursive : Bool) (t : ℕ) (l : Lock) (x : Key) where
   stay_all : (step : Step) → Allowed recursive t step l → ((k : Plain) → step ≢ Alone k) → (u : ℕ) → weighs (section x) (slice_get (after t step l).roles u) ≡ weighs (section x) (slice_get l.roles u)
   stay_all (Alone k) may apart u = absurd (apart k refl)
   stay_all (List_changes k) may apart u = weighs-same (section x) l.roles t u (listing_from k) (listing_to k) may.0 (listing_crosses k x)
-  stay_all (Take1 s i v n m stay) may apart u =
-      weighs-same2 (section x) l.roles t v u _ _ _ _ may.0 may.1.role (λ e. cc) (section_take1 x s v m) (section_taken1 x n t m stay)
-  stay_all (Take2 o v n f stay) may apart u =
-      weighs-same2 (section x) l.roles t v u _ _ _ _ may.0 may.2 (λ e. cc) (section_take2 x o v) (section_taken2 x n t f stay)
+  stay_all (Take1 s i v m stay) may apart u =
+      weighs-same2 (section x) l.roles t v u _ _ _ _ may.0 may.1.role (λ e. cc) (section_take1 x s v m) (section_taken1 x t m stay)
+  stay_all (Take2 o v f stay) may apart u =
+      weighs-same2 (section x) l.roles t v u _ _ _ _ may.0 may.2 (λ e. cc) (section_take2 x o v) (section_taken2 x t f stay)
   stay_all (Store e s) may apart u =
       weighs-same (section x) (map (settle (ends_saying e)) l.roles) t u (scanning s) _ (slice_get-map (settle (ends_saying e)) l.roles t ∙ ap (option_map (settle (ends_saying e))) may.0) (section_store x s)
       ∙ settle_crosses (ends_saying e) (ends_said e) x l.roles u
@@ -188,8 +188,8 @@ module _ (recursive : Bool) (t : ℕ) (l : Lock) (x : Key) where
   pub step_others : (step : Step) → Allowed recursive t step l → (u : ℕ) → u ≢ t → weighs (section x) (slice_get (after t step l).roles u) ≡ weighs (section x) (slice_get l.roles u)
   step_others (Alone k) may u ne = weighs-other (section x) l.roles t u (to k) ne
   step_others (List_changes k) may u ne = stay_all (List_changes k) may (λ p e. cc) u
-  step_others (Take1 s i v n m stay) may u ne = stay_all (Take1 s i v n m stay) may (λ p e. cc) u
-  step_others (Take2 o v n f stay) may u ne = stay_all (Take2 o v n f stay) may (λ p e. cc) u
+  step_others (Take1 s i v m stay) may u ne = stay_all (Take1 s i v m stay) may (λ p e. cc) u
+  step_others (Take2 o v f stay) may u ne = stay_all (Take2 o v f stay) may (λ p e. cc) u
   step_others (Store e s) may u ne = stay_all (Store e s) may (λ p e. cc) u
   step_others (Wake o v us k stay) may u ne = stay_all (Wake o v us k stay) may (λ p e. cc) u
   step_others (Pass o v us) may u ne = stay_all (Pass o v us) may (λ p e. cc) u
@@ -199,8 +199,8 @@ module _ (recursive : Bool) (t : ℕ) (l : Lock) (x : Key) where
   step_crosses (Alone k) may =
       ap (weighs (section x)) (get-set_same l.roles t (from k) (to k) may.0) ∙ (plain_crosses k x ∙ ap (crossed (crossing (Alone k)) x) (sym (ap (weighs (section x)) may.0)))
   step_crosses (List_changes k) may = stay_all (List_changes k) may (λ p e. cc) t
-  step_crosses (Take1 s i v n m stay) may = stay_all (Take1 s i v n m stay) may (λ p e. cc) t
-  step_crosses (Take2 o v n f stay) may = stay_all (Take2 o v n f stay) may (λ p e. cc) t
+  step_crosses (Take1 s i v m stay) may = stay_all (Take1 s i v m stay) may (λ p e. cc) t
+  step_crosses (Take2 o v f stay) may = stay_all (Take2 o v f stay) may (λ p e. cc) t
   step_crosses (Store e s) may = stay_all (Store e s) may (λ p e. cc) t
   step_crosses (Wake o v us k stay) may = stay_all (Wake o v us k stay) may (λ p e. cc) t
   step_crosses (Pass o v us) may = stay_all (Pass o v us) may (λ p e. cc) t
@@ -209,8 +209,8 @@ module _ (recursive : Bool) (t : ℕ) (l : Lock) (x : Key) where
   pub step_was : (step : Step) → Allowed recursive t step l → WasIn (crossing step) x (weighs (section x) (slice_get l.roles t))
   step_was (Alone k) may = subst (WasIn (crossing (Alone k)) x) (sym (ap (weighs (section x)) may.0)) (plain_was k x)
   step_was (List_changes k) may = tt
-  step_was (Take1 s i v n m stay) may = tt
-  step_was (Take2 o v n f stay) may = tt
+  step_was (Take1 s i v m stay) may = tt
+  step_was (Take2 o v f stay) may = tt
   step_was (Store e s) may = tt
   step_was (Wake o v us k stay) may = tt
   step_was (Pass o v us) may = tt

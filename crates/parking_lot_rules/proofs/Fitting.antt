@@ -8,11 +8,11 @@ use Rattle.parking_lot_rules.specs.Steps.{Listing, Join1, Join2, Quit1, QuitLast
 
 -- what the length of the first list has to be, as a number
 abbrev pub MayCount : Listing → ℕ → Type 0
-MayCount (Join1 n m) waiting = Unit {0}
-MayCount (Join2 n f) waiting = Unit {0}
-MayCount (Quit1 n m i) waiting = 1 < waiting
-MayCount (QuitLast1 n m i) waiting = waiting ≡ 1
-MayCount (Quit2 n f i) waiting = Unit {0}
+MayCount (Join1 m) waiting = Unit {0}
+MayCount (Join2 f) waiting = Unit {0}
+MayCount (Quit1 m i) waiting = 1 < waiting
+MayCount (QuitLast1 m i) waiting = waiting ≡ 1
+MayCount (Quit2 f i) waiting = Unit {0}
 
 -- what is so where a number isn't 0
 zero_or : {P : Type 0} → (n : ℕ) → (0 < n → P) → (n ≡ 0) ⊎ P
@@ -58,36 +58,36 @@ one_cause Owed = refl
 module _ (w : Word) (rest : Class → ℕ) (counts : Counts rest) where
   pub listing_fits : (k : Listing) → Fits w (λ x. rest x + weight x (listing_from k)) → MayCount k (rest Waiting1 + weight Waiting1 (listing_from k)) → Fits w (λ x. rest x + weight x (listing_to k))
   unfolding weight
-  listing_fits (Join1 n m) fits may = omega (arith, zero_or _ fits.debt1)
-  listing_fits (Join2 n f) fits may = omega arith
-  listing_fits (Quit1 n m i) fits may = omega arith
-  listing_fits (QuitLast1 n m i) fits may = omega arith
-  listing_fits (Quit2 n f i) fits may = omega arith
+  listing_fits (Join1 m) fits may = omega (arith, zero_or _ fits.debt1)
+  listing_fits (Join2 f) fits may = omega arith
+  listing_fits (Quit1 m i) fits may = omega arith
+  listing_fits (QuitLast1 m i) fits may = omega arith
+  listing_fits (Quit2 f i) fits may = omega arith
 
   -- two roles: a waiter is taken
-  take_parts : (o : Owned) (c : Cause) (r : ℕ) (u x : Bool) (us : List ℕ) (v t n : ℕ) (m : Mode) (stay : Stay) → look (has_upgradable o c u) x m ≡ Take
-      → Fits w (λ k. rest k + (weight k (record { owns = o; does = Scans1 c r u x us }) + weight k (record { owns = Shares n; does = Queued1 m stay })))
+  take_parts : (o : Owned) (c : Cause) (r : ℕ) (u x : Bool) (us : List ℕ) (v t : ℕ) (m : Mode) (stay : Stay) → look (has_upgradable o c u) x m ≡ Take
+      → Fits w (λ k. rest k + (weight k (record { owns = o; does = Scans1 c r u x us }) + weight k (record { owns = Shares 0; does = Queued1 m stay })))
       → Fits w (λ k. rest k + (weight k (scanning (taking (record { owns = o; cause = c; shared = r; upgradable = u; writer = x; taken = us }) v m))
-          + weight k (record { owns = Shares n; does = Taken1 m t Open stay })))
+          + weight k (record { owns = Shares 0; does = Taken1 m t Open stay })))
   unfolding weight
-  take_parts o c r u x us v t n Shared stay looks fits = omega (arith, one_cause c)
-  take_parts o c r u x us v t n Exclusive stay looks fits =
+  take_parts o c r u x us v t Shared stay looks fits = omega (arith, one_cause c)
+  take_parts o c r u x us v t Exclusive stay looks fits =
       let free = taken_alone (has_upgradable o c u) x Exclusive looks refl in
       omega (arith, one_cause c, no_writer x free.0, no_upgradable o c u free.1)
-  take_parts o c r u x us v t n Upgradable stay looks fits =
+  take_parts o c r u x us v t Upgradable stay looks fits =
       let free = taken_alone (has_upgradable o c u) x Upgradable looks refl in
       omega (arith, one_cause c, no_writer x free.0, no_upgradable o c u free.1)
 
-  pub take_fits : (s : Scan) (v t n : ℕ) (m : Mode) (stay : Stay) → look (holds_upgradable s) s.writer m ≡ Take
-      → Fits w (λ k. rest k + (weight k (scanning s) + weight k (record { owns = Shares n; does = Queued1 m stay })))
-      → Fits w (λ k. rest k + (weight k (scanning (taking s v m)) + weight k (record { owns = Shares n; does = Taken1 m t Open stay })))
-  take_fits s v t n m stay looks fits = take_parts s.owns s.cause s.shared s.upgradable s.writer s.taken v t n m stay looks fits
+  pub take_fits : (s : Scan) (v t : ℕ) (m : Mode) (stay : Stay) → look (holds_upgradable s) s.writer m ≡ Take
+      → Fits w (λ k. rest k + (weight k (scanning s) + weight k (record { owns = Shares 0; does = Queued1 m stay })))
+      → Fits w (λ k. rest k + (weight k (scanning (taking s v m)) + weight k (record { owns = Shares 0; does = Taken1 m t Open stay })))
+  take_fits s v t m stay looks fits = take_parts s.owns s.cause s.shared s.upgradable s.writer s.taken v t m stay looks fits
 
-  pub take2_fits : (o : Owned) (us : List ℕ) (v t n : ℕ) (f : Bool) (stay : Stay)
-      → Fits w (λ k. rest k + (weight k (record { owns = o; does = Scans2 [] }) + weight k (record { owns = Shares n; does = Queued2 f stay })))
-      → Fits w (λ k. rest k + (weight k (record { owns = o; does = Scans2 us }) + weight k (record { owns = Shares n; does = Taken2 f t stay })))
+  pub take2_fits : (o : Owned) (us : List ℕ) (v t : ℕ) (f : Bool) (stay : Stay)
+      → Fits w (λ k. rest k + (weight k (record { owns = o; does = Scans2 [] }) + weight k (record { owns = Shares 0; does = Queued2 f stay })))
+      → Fits w (λ k. rest k + (weight k (record { owns = o; does = Scans2 us }) + weight k (record { owns = Shares 0; does = Taken2 f t stay })))
   unfolding weight
-  take2_fits o us v t n f stay fits = omega arith
+  take2_fits o us v t f stay fits = omega arith
 
   -- the list of those that are still to wake weighs nothing
   pub pass_fits : (o : Owned) (us vs : List ℕ) → Fits w (λ k. rest k + weight k (record { owns = o; does = Wakes us })) → Fits w (λ k. rest k + weight k (record { owns = o; does = Wakes vs }))
@@ -97,11 +97,11 @@ module _ (w : Word) (rest : Class → ℕ) (counts : Counts rest) where
   -- a thread is woken
   pub wake_fits : (k : Waking) (t : ℕ) (stay : Stay) → inside stay ≡ 0 → Fits w (λ x. rest x + weight x (waking_from k t stay)) → Fits w (λ x. rest x + weight x (waking_to k))
   unfolding weight
-  wake_fits (Retry n m) t stay out fits = omega arith
-  wake_fits (Own n) t stay out fits = omega arith
-  wake_fits (OwnPending n) t stay out fits = omega arith
+  wake_fits (Retry m) t stay out fits = omega arith
+  wake_fits Own t stay out fits = omega arith
+  wake_fits OwnPending t stay out fits = omega arith
   wake_fits OwnUpgradable t stay out fits = omega arith
-  wake_fits (Recheck n f) t stay out fits = omega arith
+  wake_fits (Recheck f) t stay out fits = omega arith
 
   -- a section ends
   pub store_parts : (e : Ending) (o : Owned) (r : ℕ) (u x : Bool) (us : List ℕ) (left : ℕ) → left ≡ rest Waiting1 → (0 < left → 0 < bit x + bit (has_upgradable o (ends_for e) u))

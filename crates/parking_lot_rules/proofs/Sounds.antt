@@ -134,18 +134,18 @@ module _ (w : Word) (rs : List Role) (first second : List ℕ) (sound : Sound w 
 
 -- who wakes another isn't that other
 pub waking_apart : (k : Waking) (t : ℕ) (stay : Stay) (o : Owned) (us : List ℕ) → record { owns = o; does = Wakes us } ≢ waking_from k t stay
-waking_apart (Retry n m) t stay o us e = let same = ap (λ (r : Role). r.does) e in cc
-waking_apart (Own n) t stay o us e = let same = ap (λ (r : Role). r.does) e in cc
-waking_apart (OwnPending n) t stay o us e = let same = ap (λ (r : Role). r.does) e in cc
+waking_apart (Retry m) t stay o us e = let same = ap (λ (r : Role). r.does) e in cc
+waking_apart Own t stay o us e = let same = ap (λ (r : Role). r.does) e in cc
+waking_apart OwnPending t stay o us e = let same = ap (λ (r : Role). r.does) e in cc
 waking_apart OwnUpgradable t stay o us e = let same = ap (λ (r : Role). r.does) e in cc
-waking_apart (Recheck n f) t stay o us e = let same = ap (λ (r : Role). r.does) e in cc
+waking_apart (Recheck f) t stay o us e = let same = ap (λ (r : Role). r.does) e in cc
 
 -- every step keeps a lock sound
 pub step_sound : (recursive : Bool) (t : ℕ) (step : Step) (l : Lock) → IsSound l → Allowed recursive t step l → IsSound (after t step l)
 step_sound recursive t (Alone k) l sound may = sound_alone l.word l.roles l.first l.second sound t recursive k may.0 may.1
 step_sound recursive t (List_changes k) l sound may = sound_listing l.word l.roles l.first l.second sound t k may.0 may.1
-step_sound recursive t (Take1 s i v n m stay) l sound may = sound_take1 l.word l.roles l.first l.second sound t s i v n m stay may.0 may.1
-step_sound recursive t (Take2 o v n f stay) l sound may = sound_take2 l.word l.roles l.first l.second sound t o v n f stay may.0 may.1 may.2
+step_sound recursive t (Take1 s i v m stay) l sound may = sound_take1 l.word l.roles l.first l.second sound t s i v m stay may.0 may.1
+step_sound recursive t (Take2 o v f stay) l sound may = sound_take2 l.word l.roles l.first l.second sound t o v f stay may.0 may.1 may.2
 step_sound recursive t (Store e s) l sound may = sound_store l.word l.roles l.first l.second sound t e s may.0 may.1 may.3
 step_sound recursive t (Wake o v us k stay) l sound may =
     let mid = sound_wake l.word l.roles l.first l.second sound t v k stay may.1 may.2 in

@@ -114,11 +114,11 @@ seconds_apart : (i j : ℕ) → i ≢ j → key i Second ≢ key j Second
 seconds_apart i j ne e = ne (omega (arith, e))
 
 waking_busy : (k : Waking) (t : ℕ) (stay : Stay) → (waking_from k t stay).does ≢ Idle
-waking_busy (Retry n m) t stay e = cc
-waking_busy (Own n) t stay e = cc
-waking_busy (OwnPending n) t stay e = cc
+waking_busy (Retry m) t stay e = cc
+waking_busy Own t stay e = cc
+waking_busy OwnPending t stay e = cc
 waking_busy OwnUpgradable t stay e = cc
-waking_busy (Recheck n f) t stay e = cc
+waking_busy (Recheck f) t stay e = cc
 
 -- telling others leaves a thread where it is
 tell-there : (j t : ℕ) (h : Mark) (p : Place) → IsThere j p → IsThere j (tell j t h p)
@@ -133,12 +133,12 @@ module _ (bucket : ℕ → ℕ) (recursive : ℕ → Bool) (j t : ℕ) (w : Worl
   roles_here : (step : Step) → IsSound (lock_at w j) → Allowed (recursive j) t step (lock_at w j) → map (role_at j) (places_after j t step w.places) ≡ (after t step (lock_at w j)).roles
   roles_here (Alone k) sound may = roles-given j (to k) w.places t
   roles_here (List_changes k) sound may = roles-given j (listing_to k) w.places t
-  roles_here (Take1 s i v n m stay) sound may =
+  roles_here (Take1 s i v m stay) sound may =
       roles-given j _ (change (with_role j (scanning (taking s v m))) w.places t) v
-      ∙ ap (λ rs. slice_set rs v (record { owns = Shares n; does = Taken1 m t Open stay })) (roles-given j (scanning (taking s v m)) w.places t)
-  roles_here (Take2 o v n f stay) sound may =
+      ∙ ap (λ rs. slice_set rs v (record { owns = Shares 0; does = Taken1 m t Open stay })) (roles-given j (scanning (taking s v m)) w.places t)
+  roles_here (Take2 o v f stay) sound may =
       roles-given j _ (change (with_role j (record { owns = o; does = Scans2 (v ∷ []) })) w.places t) v
-      ∙ ap (λ rs. slice_set rs v (record { owns = Shares n; does = Taken2 f t stay })) (roles-given j (record { owns = o; does = Scans2 (v ∷ []) }) w.places t)
+      ∙ ap (λ rs. slice_set rs v (record { owns = Shares 0; does = Taken2 f t stay })) (roles-given j (record { owns = o; does = Scans2 (v ∷ []) }) w.places t)
   roles_here (Store e s) sound may =
       roles-given j _ (map (tell j t (ends_saying e)) w.places) t
       ∙ ap (λ rs. slice_set rs t (record { owns = s.owns; does = Stored1 s.taken })) (roles-told j t (ends_saying e) w.places (λ u p m by stay here took.
@@ -161,11 +161,11 @@ module _ (bucket : ℕ → ℕ) (recursive : ℕ → Bool) (j t : ℕ) (w : Worl
       → map (role_at i) (places_after j t step w.places) ≡ map (role_at i) w.places
   roles_elsewhere (Alone k) may there i ne = roles-elsewhere i j (to k) w.places t ne there
   roles_elsewhere (List_changes k) may there i ne = roles-elsewhere i j (listing_to k) w.places t ne there
-  roles_elsewhere (Take1 s k v n m stay) may there i ne =
+  roles_elsewhere (Take1 s k v m stay) may there i ne =
       roles-elsewhere i j _ (change (with_role j (scanning (taking s v m))) w.places t) v ne
           (still_there j (scanning (taking s v m)) w.places t v (is_there v _ may.1.role (λ e. cc)))
       ∙ roles-elsewhere i j (scanning (taking s v m)) w.places t ne there
-  roles_elsewhere (Take2 o v n f stay) may there i ne =
+  roles_elsewhere (Take2 o v f stay) may there i ne =
       roles-elsewhere i j _ (change (with_role j (record { owns = o; does = Scans2 (v ∷ []) })) w.places t) v ne
           (still_there j (record { owns = o; does = Scans2 (v ∷ []) }) w.places t v (is_there v _ may.2 (λ e. cc)))
       ∙ roles-elsewhere i j (record { owns = o; does = Scans2 (v ∷ []) }) w.places t ne there

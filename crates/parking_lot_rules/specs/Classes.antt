@@ -1,5 +1,5 @@
 -- Classes of roles, and how much a role counts in each.
-use Rattle.std.specs.Prelude.{ℕ, ◌+◌, Bool, true, false, List, Option, Some, None}
+use Rattle.std.specs.Prelude.{ℕ, zero, suc, ◌+◌, Bool, true, false, List, Option, Some, None}
 use Rattle.std.specs.List.{sum_by}
 use Rattle.parking_lot_rules.specs.Roles.{Mode, Shared, Exclusive, Upgradable, Owned, Shares, Excludes, Upgrades, Stay, Fresh, Asleep, Late, Back, Mark, Open, Normal, Handed, Cause, FromExclusive, FromUpgradable, Owed, Phase, Idle, Seeks, Enters1, Checked1, Queued1, Taken1, Masks1, Leaves1, Drains, Enters2, Checked2, Queued2, Taken2, Leaves2, Yields, Owes1, Scans1, Stored1, Owes2, Scans2, Masked2, Wakes, Role}
 
@@ -33,6 +33,8 @@ pub data Class : Type 0 where
   TakenReaders : Class
   TakenUpgraders : Class
   TakenWriters : Class
+  -- waiting although it owns something
+  Strange : Class
 
 -- 1 for true, 0 for false
 abbrev pub bit : Bool → ℕ
@@ -155,8 +157,33 @@ done TakenUpgraders (Scans1 c r u w us) = bit u
 done TakenWriters (Scans1 c r u w us) = bit w
 done c p = 0
 
+-- 1 for an owner
+abbrev pub is_owner : Owned → ℕ
+is_owner (Shares zero) = 0
+is_owner (Shares (suc n)) = 1
+is_owner Excludes = 1
+is_owner Upgrades = 1
+
+-- what an owner counts that waits, or gives up
+abbrev pub strange : Owned → Phase → ℕ
+strange o (Enters1 m c) = is_owner o
+strange o (Checked1 m) = is_owner o
+strange o (Queued1 m s) = is_owner o
+strange o (Taken1 m by how s) = is_owner o
+strange o Masks1 = is_owner o
+strange o Leaves1 = is_owner o
+strange o (Drains f c) = is_owner o
+strange o (Enters2 f c) = is_owner o
+strange o (Checked2 f) = is_owner o
+strange o (Queued2 f s) = is_owner o
+strange o (Taken2 f by s) = is_owner o
+strange o (Leaves2 f) = is_owner o
+strange o (Yields f) = is_owner o
+strange o p = 0
+
 -- how much a role counts in a class
 unfoldable pub weight : Class → Role → ℕ
+weight Strange r = strange r.owns r.does
 weight c r = owned c r.owns + done c r.does
 
 -- how much all roles together do

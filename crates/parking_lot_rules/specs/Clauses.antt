@@ -1,6 +1,6 @@
 -- The clauses that hold of a lock at every moment.
 use Rattle.std.specs.Prelude.{◌≡◌, ℕ, ◌+◌, ◌≤◌, ◌<◌, ◌*◌}
-use Rattle.parking_lot_rules.specs.Classes.{Class, Readers, Upgraders, Pending, Writers, Inside1, Inside2, Waiting1, Waiting2, Joining1, Joining2, Masking, Owing1, Owing2, Called, OpenReaders, OpenUpgraders, OpenWriters, TakenReaders, TakenUpgraders, TakenWriters}
+use Rattle.parking_lot_rules.specs.Classes.{Class, Readers, Upgraders, Pending, Writers, Inside1, Inside2, Waiting1, Waiting2, Joining1, Joining2, Masking, Owing1, Owing2, Called, OpenReaders, OpenUpgraders, OpenWriters, TakenReaders, TakenUpgraders, TakenWriters, Strange}
 
 -- The word of a lock by its parts: the reader count, and the bits writer, upgradable, writer parked and parked.
 pub record Word : Type 0 where
@@ -42,6 +42,8 @@ pub record Fits (w : Word) (n : Class → ℕ) : Type 0 where
   pub taken_upgraders : n OpenUpgraders ≡ n TakenUpgraders
   pub taken_writers : n OpenWriters ≡ n TakenWriters
   pub taken_one : n TakenUpgraders + n TakenWriters ≤ 1
+  -- nobody waits that owns something
+  pub proper : n Strange ≡ 0
 
 -- What holds of any roles at all.
 pub record Counts (n : Class → ℕ) : Type 0 where

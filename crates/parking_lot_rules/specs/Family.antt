@@ -28,28 +28,28 @@ pub data Crossing : Type 0 where
   Goes : (k : Key) → Crossing
 
 abbrev pub crossing : Step → Crossing
-crossing (Alone (Enter1 n m c)) = Comes First
-crossing (Alone (Reenter1 n m)) = Comes First
-crossing (Alone (ReenterTaken1 n m by how)) = Comes First
+crossing (Alone (Enter1 m c)) = Comes First
+crossing (Alone (Reenter1 m)) = Comes First
+crossing (Alone (ReenterTaken1 m by how)) = Comes First
 crossing (Alone LookExclusive) = Comes First
 crossing (Alone LookUpgradable) = Comes First
 crossing (Alone (LookOwed o)) = Comes First
-crossing (Alone (Enter2 n f c)) = Comes Second
-crossing (Alone (Reenter2 n f)) = Comes Second
-crossing (Alone (ReenterTaken2 n f by)) = Comes Second
+crossing (Alone (Enter2 f c)) = Comes Second
+crossing (Alone (Reenter2 f)) = Comes Second
+crossing (Alone (ReenterTaken2 f by)) = Comes Second
 crossing (Alone (Look2 n)) = Comes Second
-crossing (Alone (Retreat1 n m c)) = Goes First
-crossing (Alone (Rest1 n m)) = Goes First
-crossing (Alone (Leave1 n)) = Goes First
-crossing (Alone (Resume1 n m by)) = Goes First
-crossing (Alone (ReceiveShared n by)) = Goes First
-crossing (Alone (ReceivePending n by)) = Goes First
+crossing (Alone (Retreat1 m c)) = Goes First
+crossing (Alone (Rest1 m)) = Goes First
+crossing (Alone Leave1) = Goes First
+crossing (Alone (Resume1 m by)) = Goes First
+crossing (Alone (ReceiveShared by)) = Goes First
+crossing (Alone (ReceivePending by)) = Goes First
 crossing (Alone (ReceiveUpgradable by)) = Goes First
 crossing (Alone (Depart1 o us)) = Goes First
-crossing (Alone (Retreat2 n f c)) = Goes Second
-crossing (Alone (Rest2 n f)) = Goes Second
-crossing (Alone (Resume2 n f by)) = Goes Second
-crossing (Alone (Leave2 n f)) = Goes Second
+crossing (Alone (Retreat2 f c)) = Goes Second
+crossing (Alone (Rest2 f)) = Goes Second
+crossing (Alone (Resume2 f by)) = Goes Second
+crossing (Alone (Leave2 f)) = Goes Second
 crossing (Alone (Depart2 n us)) = Goes Second
 crossing step = Stays
 

@@ -15,35 +15,35 @@ pub data Plain : Type 0 where
   Upgradably : (woken : Bool) → Plain
   Exclude : Plain
   -- waiting on the first key: the parked bit, the section, its check, and back out of it, with or without a place in the list
-  Flag1 : (n : ℕ) → (mode : Mode) → (woken : Bool) → Plain
-  Enter1 : (n : ℕ) → (mode : Mode) → (woken : Bool) → Plain
-  Check1 : (n : ℕ) → (mode : Mode) → (woken : Bool) → Plain
-  Retreat1 : (n : ℕ) → (mode : Mode) → (woken : Bool) → Plain
-  Rest1 : (n : ℕ) → (mode : Mode) → Plain
+  Flag1 : (mode : Mode) → (woken : Bool) → Plain
+  Enter1 : (mode : Mode) → (woken : Bool) → Plain
+  Check1 : (mode : Mode) → (woken : Bool) → Plain
+  Retreat1 : (mode : Mode) → (woken : Bool) → Plain
+  Rest1 : (mode : Mode) → Plain
   -- giving up on the first key: the deadline, the section, and out of it, taken by another in the meantime or not
-  Expire1 : (n : ℕ) → (mode : Mode) → Plain
-  ExpireTaken1 : (n : ℕ) → (mode : Mode) → (by : ℕ) → (mark : Mark) → Plain
-  Reenter1 : (n : ℕ) → (mode : Mode) → Plain
-  ReenterTaken1 : (n : ℕ) → (mode : Mode) → (by : ℕ) → (mark : Mark) → Plain
-  Mask1 : (n : ℕ) → Plain
-  Leave1 : (n : ℕ) → Plain
-  Resume1 : (n : ℕ) → (mode : Mode) → (by : ℕ) → Plain
-  ReceiveShared : (n : ℕ) → (by : ℕ) → Plain
-  ReceivePending : (n : ℕ) → (by : ℕ) → Plain
+  Expire1 : (mode : Mode) → Plain
+  ExpireTaken1 : (mode : Mode) → (by : ℕ) → (mark : Mark) → Plain
+  Reenter1 : (mode : Mode) → Plain
+  ReenterTaken1 : (mode : Mode) → (by : ℕ) → (mark : Mark) → Plain
+  Mask1 : Plain
+  Leave1 : Plain
+  Resume1 : (mode : Mode) → (by : ℕ) → Plain
+  ReceiveShared : (by : ℕ) → Plain
+  ReceivePending : (by : ℕ) → Plain
   ReceiveUpgradable : (by : ℕ) → Plain
   -- a pending writer waits on the second key
-  Flag2 : (n : ℕ) → (from : Bool) → (woken : Bool) → Plain
-  Enter2 : (n : ℕ) → (from : Bool) → (woken : Bool) → Plain
-  Check2 : (n : ℕ) → (from : Bool) → (woken : Bool) → Plain
-  Retreat2 : (n : ℕ) → (from : Bool) → (woken : Bool) → Plain
-  Rest2 : (n : ℕ) → (from : Bool) → Plain
+  Flag2 : (from : Bool) → (woken : Bool) → Plain
+  Enter2 : (from : Bool) → (woken : Bool) → Plain
+  Check2 : (from : Bool) → (woken : Bool) → Plain
+  Retreat2 : (from : Bool) → (woken : Bool) → Plain
+  Rest2 : (from : Bool) → Plain
   -- and gives up there
-  Expire2 : (n : ℕ) → (from : Bool) → Plain
-  ExpireTaken2 : (n : ℕ) → (from : Bool) → (by : ℕ) → Plain
-  Reenter2 : (n : ℕ) → (from : Bool) → Plain
-  ReenterTaken2 : (n : ℕ) → (from : Bool) → (by : ℕ) → Plain
-  Resume2 : (n : ℕ) → (from : Bool) → (by : ℕ) → Plain
-  Leave2 : (n : ℕ) → (from : Bool) → Plain
+  Expire2 : (from : Bool) → Plain
+  ExpireTaken2 : (from : Bool) → (by : ℕ) → Plain
+  Reenter2 : (from : Bool) → Plain
+  ReenterTaken2 : (from : Bool) → (by : ℕ) → Plain
+  Resume2 : (from : Bool) → (by : ℕ) → Plain
+  Leave2 : (from : Bool) → Plain
   Yield : (owing : Bool) → Plain
   YieldBack : (owing : Bool) → Plain
   -- a shared hold is given up, and the pending writer is looked for
@@ -91,32 +91,32 @@ from (Pend c) = record { owns = Shares 0; does = Seeks Exclusive c }
 from (Drain f c) = record { owns = Shares 0; does = Drains f c }
 from (Upgradably c) = record { owns = Shares 0; does = Seeks Upgradable c }
 from Exclude = record { owns = Shares 0; does = Seeks Exclusive false }
-from (Flag1 n m c) = record { owns = Shares n; does = Seeks m c }
-from (Enter1 n m c) = record { owns = Shares n; does = Seeks m c }
-from (Check1 n m c) = record { owns = Shares n; does = Enters1 m c }
-from (Retreat1 n m c) = record { owns = Shares n; does = Enters1 m c }
-from (Rest1 n m) = record { owns = Shares n; does = Queued1 m Fresh }
-from (Expire1 n m) = record { owns = Shares n; does = Queued1 m Asleep }
-from (ExpireTaken1 n m by how) = record { owns = Shares n; does = Taken1 m by how Asleep }
-from (Reenter1 n m) = record { owns = Shares n; does = Queued1 m Late }
-from (ReenterTaken1 n m by how) = record { owns = Shares n; does = Taken1 m by how Late }
-from (Mask1 n) = record { owns = Shares n; does = Masks1 }
-from (Leave1 n) = record { owns = Shares n; does = Leaves1 }
-from (Resume1 n m by) = record { owns = Shares n; does = Taken1 m by Normal Back }
-from (ReceiveShared n by) = record { owns = Shares n; does = Taken1 Shared by Handed Back }
-from (ReceivePending n by) = record { owns = Shares n; does = Taken1 Exclusive by Handed Back }
+from (Flag1 m c) = record { owns = Shares 0; does = Seeks m c }
+from (Enter1 m c) = record { owns = Shares 0; does = Seeks m c }
+from (Check1 m c) = record { owns = Shares 0; does = Enters1 m c }
+from (Retreat1 m c) = record { owns = Shares 0; does = Enters1 m c }
+from (Rest1 m) = record { owns = Shares 0; does = Queued1 m Fresh }
+from (Expire1 m) = record { owns = Shares 0; does = Queued1 m Asleep }
+from (ExpireTaken1 m by how) = record { owns = Shares 0; does = Taken1 m by how Asleep }
+from (Reenter1 m) = record { owns = Shares 0; does = Queued1 m Late }
+from (ReenterTaken1 m by how) = record { owns = Shares 0; does = Taken1 m by how Late }
+from Mask1 = record { owns = Shares 0; does = Masks1 }
+from Leave1 = record { owns = Shares 0; does = Leaves1 }
+from (Resume1 m by) = record { owns = Shares 0; does = Taken1 m by Normal Back }
+from (ReceiveShared by) = record { owns = Shares 0; does = Taken1 Shared by Handed Back }
+from (ReceivePending by) = record { owns = Shares 0; does = Taken1 Exclusive by Handed Back }
 from (ReceiveUpgradable by) = record { owns = Shares 0; does = Taken1 Upgradable by Handed Back }
-from (Flag2 n f c) = record { owns = Shares n; does = Drains f c }
-from (Enter2 n f c) = record { owns = Shares n; does = Drains f c }
-from (Check2 n f c) = record { owns = Shares n; does = Enters2 f c }
-from (Retreat2 n f c) = record { owns = Shares n; does = Enters2 f c }
-from (Rest2 n f) = record { owns = Shares n; does = Queued2 f Fresh }
-from (Expire2 n f) = record { owns = Shares n; does = Queued2 f Asleep }
-from (ExpireTaken2 n f by) = record { owns = Shares n; does = Taken2 f by Asleep }
-from (Reenter2 n f) = record { owns = Shares n; does = Queued2 f Late }
-from (ReenterTaken2 n f by) = record { owns = Shares n; does = Taken2 f by Late }
-from (Resume2 n f by) = record { owns = Shares n; does = Taken2 f by Back }
-from (Leave2 n f) = record { owns = Shares n; does = Leaves2 f }
+from (Flag2 f c) = record { owns = Shares 0; does = Drains f c }
+from (Enter2 f c) = record { owns = Shares 0; does = Drains f c }
+from (Check2 f c) = record { owns = Shares 0; does = Enters2 f c }
+from (Retreat2 f c) = record { owns = Shares 0; does = Enters2 f c }
+from (Rest2 f) = record { owns = Shares 0; does = Queued2 f Fresh }
+from (Expire2 f) = record { owns = Shares 0; does = Queued2 f Asleep }
+from (ExpireTaken2 f by) = record { owns = Shares 0; does = Taken2 f by Asleep }
+from (Reenter2 f) = record { owns = Shares 0; does = Queued2 f Late }
+from (ReenterTaken2 f by) = record { owns = Shares 0; does = Taken2 f by Late }
+from (Resume2 f by) = record { owns = Shares 0; does = Taken2 f by Back }
+from (Leave2 f) = record { owns = Shares 0; does = Leaves2 f }
 from (Yield owing) = record { owns = Shares 0; does = Yields false }
 from (YieldBack owing) = record { owns = Shares 0; does = Yields true }
 from (Unshare n) = record { owns = Shares (n + 1); does = Idle }
@@ -146,32 +146,32 @@ to (Pend c) = record { owns = Shares 0; does = Drains false false }
 to (Drain f c) = record { owns = Excludes; does = Idle }
 to (Upgradably c) = record { owns = Upgrades; does = Idle }
 to Exclude = record { owns = Excludes; does = Idle }
-to (Flag1 n m c) = record { owns = Shares n; does = Seeks m c }
-to (Enter1 n m c) = record { owns = Shares n; does = Enters1 m c }
-to (Check1 n m c) = record { owns = Shares n; does = Checked1 m }
-to (Retreat1 n m c) = record { owns = Shares n; does = Seeks m c }
-to (Rest1 n m) = record { owns = Shares n; does = Queued1 m Asleep }
-to (Expire1 n m) = record { owns = Shares n; does = Queued1 m Late }
-to (ExpireTaken1 n m by how) = record { owns = Shares n; does = Taken1 m by how Late }
-to (Reenter1 n m) = record { owns = Shares n; does = Queued1 m Back }
-to (ReenterTaken1 n m by how) = record { owns = Shares n; does = Taken1 m by how Back }
-to (Mask1 n) = record { owns = Shares n; does = Leaves1 }
-to (Leave1 n) = record { owns = Shares n; does = Idle }
-to (Resume1 n m by) = record { owns = Shares n; does = Seeks m true }
-to (ReceiveShared n by) = record { owns = Shares (n + 1); does = Idle }
-to (ReceivePending n by) = record { owns = Shares n; does = Drains false true }
+to (Flag1 m c) = record { owns = Shares 0; does = Seeks m c }
+to (Enter1 m c) = record { owns = Shares 0; does = Enters1 m c }
+to (Check1 m c) = record { owns = Shares 0; does = Checked1 m }
+to (Retreat1 m c) = record { owns = Shares 0; does = Seeks m c }
+to (Rest1 m) = record { owns = Shares 0; does = Queued1 m Asleep }
+to (Expire1 m) = record { owns = Shares 0; does = Queued1 m Late }
+to (ExpireTaken1 m by how) = record { owns = Shares 0; does = Taken1 m by how Late }
+to (Reenter1 m) = record { owns = Shares 0; does = Queued1 m Back }
+to (ReenterTaken1 m by how) = record { owns = Shares 0; does = Taken1 m by how Back }
+to Mask1 = record { owns = Shares 0; does = Leaves1 }
+to Leave1 = record { owns = Shares 0; does = Idle }
+to (Resume1 m by) = record { owns = Shares 0; does = Seeks m true }
+to (ReceiveShared by) = record { owns = Shares 1; does = Idle }
+to (ReceivePending by) = record { owns = Shares 0; does = Drains false true }
 to (ReceiveUpgradable by) = record { owns = Upgrades; does = Idle }
-to (Flag2 n f c) = record { owns = Shares n; does = Drains f c }
-to (Enter2 n f c) = record { owns = Shares n; does = Enters2 f c }
-to (Check2 n f c) = record { owns = Shares n; does = Checked2 f }
-to (Retreat2 n f c) = record { owns = Shares n; does = Drains f c }
-to (Rest2 n f) = record { owns = Shares n; does = Queued2 f Asleep }
-to (Expire2 n f) = record { owns = Shares n; does = Queued2 f Late }
-to (ExpireTaken2 n f by) = record { owns = Shares n; does = Taken2 f by Late }
-to (Reenter2 n f) = record { owns = Shares n; does = Queued2 f Back }
-to (ReenterTaken2 n f by) = record { owns = Shares n; does = Taken2 f by Back }
-to (Resume2 n f by) = record { owns = Shares n; does = Drains f true }
-to (Leave2 n f) = record { owns = Shares n; does = Yields f }
+to (Flag2 f c) = record { owns = Shares 0; does = Drains f c }
+to (Enter2 f c) = record { owns = Shares 0; does = Enters2 f c }
+to (Check2 f c) = record { owns = Shares 0; does = Checked2 f }
+to (Retreat2 f c) = record { owns = Shares 0; does = Drains f c }
+to (Rest2 f) = record { owns = Shares 0; does = Queued2 f Asleep }
+to (Expire2 f) = record { owns = Shares 0; does = Queued2 f Late }
+to (ExpireTaken2 f by) = record { owns = Shares 0; does = Taken2 f by Late }
+to (Reenter2 f) = record { owns = Shares 0; does = Queued2 f Back }
+to (ReenterTaken2 f by) = record { owns = Shares 0; does = Taken2 f by Back }
+to (Resume2 f by) = record { owns = Shares 0; does = Drains f true }
+to (Leave2 f) = record { owns = Shares 0; does = Yields f }
 to (Yield owing) = record { owns = Shares 0; does = if owing then Owes1 else Idle }
 to (YieldBack owing) = record { owns = Upgrades; does = if owing then Owes1 else Idle }
 to (Unshare n) = record { owns = Shares n; does = Idle }
@@ -201,32 +201,32 @@ May recursive (Pend c) w all = (w.writer ≡ 0) × (w.upgradable ≡ 0)
 May recursive (Drain f c) w all = w.readers ≡ 0
 May recursive (Upgradably c) w all = (w.writer ≡ 0) × (w.upgradable ≡ 0)
 May recursive Exclude w all = IsZero w
-May recursive (Flag1 n m c) w all = (w.parked1 ≡ 0) × (0 < bars m w)
-May recursive (Enter1 n m c) w all = all Inside1 ≡ 0
-May recursive (Check1 n m c) w all = (w.parked1 ≡ 1) × (0 < bars m w)
-May recursive (Retreat1 n m c) w all = Unit {0}
-May recursive (Rest1 n m) w all = Unit {0}
-May recursive (Expire1 n m) w all = Unit {0}
-May recursive (ExpireTaken1 n m by how) w all = Unit {0}
-May recursive (Reenter1 n m) w all = all Inside1 ≡ 0
-May recursive (ReenterTaken1 n m by how) w all = all Inside1 ≡ 0
-May recursive (Mask1 n) w all = Unit {0}
-May recursive (Leave1 n) w all = Unit {0}
-May recursive (Resume1 n m by) w all = Unit {0}
-May recursive (ReceiveShared n by) w all = Unit {0}
-May recursive (ReceivePending n by) w all = Unit {0}
+May recursive (Flag1 m c) w all = (w.parked1 ≡ 0) × (0 < bars m w)
+May recursive (Enter1 m c) w all = all Inside1 ≡ 0
+May recursive (Check1 m c) w all = (w.parked1 ≡ 1) × (0 < bars m w)
+May recursive (Retreat1 m c) w all = Unit {0}
+May recursive (Rest1 m) w all = Unit {0}
+May recursive (Expire1 m) w all = Unit {0}
+May recursive (ExpireTaken1 m by how) w all = Unit {0}
+May recursive (Reenter1 m) w all = all Inside1 ≡ 0
+May recursive (ReenterTaken1 m by how) w all = all Inside1 ≡ 0
+May recursive Mask1 w all = Unit {0}
+May recursive Leave1 w all = Unit {0}
+May recursive (Resume1 m by) w all = Unit {0}
+May recursive (ReceiveShared by) w all = Unit {0}
+May recursive (ReceivePending by) w all = Unit {0}
 May recursive (ReceiveUpgradable by) w all = Unit {0}
-May recursive (Flag2 n f c) w all = (w.parked2 ≡ 0) × (0 < w.readers)
-May recursive (Enter2 n f c) w all = all Inside2 ≡ 0
-May recursive (Check2 n f c) w all = (w.parked2 ≡ 1) × (0 < w.readers)
-May recursive (Retreat2 n f c) w all = Unit {0}
-May recursive (Rest2 n f) w all = Unit {0}
-May recursive (Expire2 n f) w all = Unit {0}
-May recursive (ExpireTaken2 n f by) w all = Unit {0}
-May recursive (Reenter2 n f) w all = all Inside2 ≡ 0
-May recursive (ReenterTaken2 n f by) w all = all Inside2 ≡ 0
-May recursive (Resume2 n f by) w all = Unit {0}
-May recursive (Leave2 n f) w all = Unit {0}
+May recursive (Flag2 f c) w all = (w.parked2 ≡ 0) × (0 < w.readers)
+May recursive (Enter2 f c) w all = all Inside2 ≡ 0
+May recursive (Check2 f c) w all = (w.parked2 ≡ 1) × (0 < w.readers)
+May recursive (Retreat2 f c) w all = Unit {0}
+May recursive (Rest2 f) w all = Unit {0}
+May recursive (Expire2 f) w all = Unit {0}
+May recursive (ExpireTaken2 f by) w all = Unit {0}
+May recursive (Reenter2 f) w all = all Inside2 ≡ 0
+May recursive (ReenterTaken2 f by) w all = all Inside2 ≡ 0
+May recursive (Resume2 f by) w all = Unit {0}
+May recursive (Leave2 f) w all = Unit {0}
 May recursive (Yield owing) w all = w.parked1 ≡ bit owing
 May recursive (YieldBack owing) w all = w.parked1 ≡ bit owing
 May recursive (Unshare n) w all = (w.readers ≢ 1) ⊎ (w.parked2 ≡ 0)
@@ -256,32 +256,32 @@ written (Pend c) w = record w { writer = 1 }
 written (Drain f c) w = w
 written (Upgradably c) w = record w { readers = w.readers + 1; upgradable = 1 }
 written Exclude w = record w { writer = 1 }
-written (Flag1 n m c) w = record w { parked1 = 1 }
-written (Enter1 n m c) w = w
-written (Check1 n m c) w = w
-written (Retreat1 n m c) w = w
-written (Rest1 n m) w = w
-written (Expire1 n m) w = w
-written (ExpireTaken1 n m by how) w = w
-written (Reenter1 n m) w = w
-written (ReenterTaken1 n m by how) w = w
-written (Mask1 n) w = record w { parked1 = 0 }
-written (Leave1 n) w = w
-written (Resume1 n m by) w = w
-written (ReceiveShared n by) w = w
-written (ReceivePending n by) w = w
+written (Flag1 m c) w = record w { parked1 = 1 }
+written (Enter1 m c) w = w
+written (Check1 m c) w = w
+written (Retreat1 m c) w = w
+written (Rest1 m) w = w
+written (Expire1 m) w = w
+written (ExpireTaken1 m by how) w = w
+written (Reenter1 m) w = w
+written (ReenterTaken1 m by how) w = w
+written Mask1 w = record w { parked1 = 0 }
+written Leave1 w = w
+written (Resume1 m by) w = w
+written (ReceiveShared by) w = w
+written (ReceivePending by) w = w
 written (ReceiveUpgradable by) w = w
-written (Flag2 n f c) w = record w { parked2 = 1 }
-written (Enter2 n f c) w = w
-written (Check2 n f c) w = w
-written (Retreat2 n f c) w = w
-written (Rest2 n f) w = w
-written (Expire2 n f) w = w
-written (ExpireTaken2 n f by) w = w
-written (Reenter2 n f) w = w
-written (ReenterTaken2 n f by) w = w
-written (Resume2 n f by) w = w
-written (Leave2 n f) w = w
+written (Flag2 f c) w = record w { parked2 = 1 }
+written (Enter2 f c) w = w
+written (Check2 f c) w = w
+written (Retreat2 f c) w = w
+written (Rest2 f) w = w
+written (Expire2 f) w = w
+written (ExpireTaken2 f by) w = w
+written (Reenter2 f) w = w
+written (ReenterTaken2 f by) w = w
+written (Resume2 f by) w = w
+written (Leave2 f) w = w
 written (Yield owing) w = record w { writer = 0; parked2 = 0 }
 written (YieldBack owing) w = record w { readers = w.readers + 1; writer = 0; upgradable = 1; parked2 = 0 }
 written (Unshare n) w = record w { readers = w.readers - 1 }

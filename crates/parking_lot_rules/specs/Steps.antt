@@ -9,48 +9,48 @@ use Rattle.parking_lot_rules.specs.Lock.{Lock, Note, note_of}
 
 -- Joining a list, and taking oneself off it: off the first one as one of several, or as the last. i: where it stood.
 pub data Listing : Type 0 where
-  Join1 : (n : ℕ) → (mode : Mode) → Listing
-  Join2 : (n : ℕ) → (from : Bool) → Listing
-  Quit1 : (n : ℕ) → (mode : Mode) → (i : ℕ) → Listing
-  QuitLast1 : (n : ℕ) → (mode : Mode) → (i : ℕ) → Listing
-  Quit2 : (n : ℕ) → (from : Bool) → (i : ℕ) → Listing
+  Join1 : (mode : Mode) → Listing
+  Join2 : (from : Bool) → Listing
+  Quit1 : (mode : Mode) → (i : ℕ) → Listing
+  QuitLast1 : (mode : Mode) → (i : ℕ) → Listing
+  Quit2 : (from : Bool) → (i : ℕ) → Listing
 
 abbrev pub listing_from : Listing → Role
-listing_from (Join1 n m) = record { owns = Shares n; does = Checked1 m }
-listing_from (Join2 n f) = record { owns = Shares n; does = Checked2 f }
-listing_from (Quit1 n m i) = record { owns = Shares n; does = Queued1 m Back }
-listing_from (QuitLast1 n m i) = record { owns = Shares n; does = Queued1 m Back }
-listing_from (Quit2 n f i) = record { owns = Shares n; does = Queued2 f Back }
+listing_from (Join1 m) = record { owns = Shares 0; does = Checked1 m }
+listing_from (Join2 f) = record { owns = Shares 0; does = Checked2 f }
+listing_from (Quit1 m i) = record { owns = Shares 0; does = Queued1 m Back }
+listing_from (QuitLast1 m i) = record { owns = Shares 0; does = Queued1 m Back }
+listing_from (Quit2 f i) = record { owns = Shares 0; does = Queued2 f Back }
 
 abbrev pub listing_to : Listing → Role
-listing_to (Join1 n m) = record { owns = Shares n; does = Queued1 m Fresh }
-listing_to (Join2 n f) = record { owns = Shares n; does = Queued2 f Fresh }
-listing_to (Quit1 n m i) = record { owns = Shares n; does = Leaves1 }
-listing_to (QuitLast1 n m i) = record { owns = Shares n; does = Masks1 }
-listing_to (Quit2 n f i) = record { owns = Shares n; does = Leaves2 f }
+listing_to (Join1 m) = record { owns = Shares 0; does = Queued1 m Fresh }
+listing_to (Join2 f) = record { owns = Shares 0; does = Queued2 f Fresh }
+listing_to (Quit1 m i) = record { owns = Shares 0; does = Leaves1 }
+listing_to (QuitLast1 m i) = record { owns = Shares 0; does = Masks1 }
+listing_to (Quit2 f i) = record { owns = Shares 0; does = Leaves2 f }
 
 -- when the thread t may do so, by the two lists
 abbrev pub MayList : Listing → ℕ → List ℕ → List ℕ → Type 0
-MayList (Join1 n m) t first second = Unit {0}
-MayList (Join2 n f) t first second = Unit {0}
-MayList (Quit1 n m i) t first second = (slice_get first i ≡ Some t) × (1 < length first)
-MayList (QuitLast1 n m i) t first second = (slice_get first i ≡ Some t) × (length first ≡ 1)
-MayList (Quit2 n f i) t first second = slice_get second i ≡ Some t
+MayList (Join1 m) t first second = Unit {0}
+MayList (Join2 f) t first second = Unit {0}
+MayList (Quit1 m i) t first second = (slice_get first i ≡ Some t) × (1 < length first)
+MayList (QuitLast1 m i) t first second = (slice_get first i ≡ Some t) × (length first ≡ 1)
+MayList (Quit2 f i) t first second = slice_get second i ≡ Some t
 
 -- the lists after it
 abbrev pub first_after : Listing → ℕ → List ℕ → List ℕ
-first_after (Join1 n m) t first = first ++ t ∷ []
-first_after (Join2 n f) t first = first
-first_after (Quit1 n m i) t first = remove first i
-first_after (QuitLast1 n m i) t first = remove first i
-first_after (Quit2 n f i) t first = first
+first_after (Join1 m) t first = first ++ t ∷ []
+first_after (Join2 f) t first = first
+first_after (Quit1 m i) t first = remove first i
+first_after (QuitLast1 m i) t first = remove first i
+first_after (Quit2 f i) t first = first
 
 abbrev pub second_after : Listing → ℕ → List ℕ → List ℕ
-second_after (Join1 n m) t second = second
-second_after (Join2 n f) t second = second ++ t ∷ []
-second_after (Quit1 n m i) t second = second
-second_after (QuitLast1 n m i) t second = second
-second_after (Quit2 n f i) t second = remove second i
+second_after (Join1 m) t second = second
+second_after (Join2 f) t second = second ++ t ∷ []
+second_after (Quit1 m i) t second = second
+second_after (QuitLast1 m i) t second = second
+second_after (Quit2 f i) t second = remove second i
 
 -- What one that goes through the first list does at a waiter, by whether those it has taken want the upgradable hold or a writer's.
 pub data Look : Type 0 where
@@ -104,9 +104,9 @@ taking s v Exclusive = record s { writer = true; taken = s.taken ++ v ∷ [] }
 taking s v Upgradable = record s { upgradable = true; taken = s.taken ++ v ∷ [] }
 
 -- The first waiter that isn't skipped is taken: the thread v at index i of the list.
-pub record MayTake (s : Scan) (i v n : ℕ) (m : Mode) (stay : Stay) (roles : List Role) (first : List ℕ) : Type 0 where
+pub record MayTake (s : Scan) (i v : ℕ) (m : Mode) (stay : Stay) (roles : List Role) (first : List ℕ) : Type 0 where
   pub waiter : slice_get first i ≡ Some v
-  pub role : slice_get roles v ≡ Some (record { owns = Shares n; does = Queued1 m stay })
+  pub role : slice_get roles v ≡ Some (record { owns = Shares 0; does = Queued1 m stay })
   pub looks : look (holds_upgradable s) s.writer m ≡ Take
   pub skipped : AreSkipped (holds_upgradable s) s.writer roles first i
 
@@ -190,33 +190,33 @@ settled mark n c = n c
 
 -- What a thread that is woken goes on with: it tries again, or owns what was handed over, or looks again as the pending writer.
 pub data Waking : Type 0 where
-  Retry : (n : ℕ) → (mode : Mode) → Waking
-  Own : (n : ℕ) → Waking
-  OwnPending : (n : ℕ) → Waking
+  Retry : (mode : Mode) → Waking
+  Own : Waking
+  OwnPending : Waking
   OwnUpgradable : Waking
-  Recheck : (n : ℕ) → (from : Bool) → Waking
+  Recheck : (from : Bool) → Waking
 
 -- the role of a thread that was taken by t, and after the wake
 abbrev pub waking_from : Waking → ℕ → Stay → Role
-waking_from (Retry n m) t stay = record { owns = Shares n; does = Taken1 m t Normal stay }
-waking_from (Own n) t stay = record { owns = Shares n; does = Taken1 Shared t Handed stay }
-waking_from (OwnPending n) t stay = record { owns = Shares n; does = Taken1 Exclusive t Handed stay }
+waking_from (Retry m) t stay = record { owns = Shares 0; does = Taken1 m t Normal stay }
+waking_from Own t stay = record { owns = Shares 0; does = Taken1 Shared t Handed stay }
+waking_from OwnPending t stay = record { owns = Shares 0; does = Taken1 Exclusive t Handed stay }
 waking_from OwnUpgradable t stay = record { owns = Shares 0; does = Taken1 Upgradable t Handed stay }
-waking_from (Recheck n f) t stay = record { owns = Shares n; does = Taken2 f t stay }
+waking_from (Recheck f) t stay = record { owns = Shares 0; does = Taken2 f t stay }
 
 abbrev pub waking_to : Waking → Role
-waking_to (Retry n m) = record { owns = Shares n; does = Seeks m true }
-waking_to (Own n) = record { owns = Shares (n + 1); does = Idle }
-waking_to (OwnPending n) = record { owns = Shares n; does = Drains false true }
+waking_to (Retry m) = record { owns = Shares 0; does = Seeks m true }
+waking_to Own = record { owns = Shares 1; does = Idle }
+waking_to OwnPending = record { owns = Shares 0; does = Drains false true }
 waking_to OwnUpgradable = record { owns = Upgrades; does = Idle }
-waking_to (Recheck n f) = record { owns = Shares n; does = Drains f true }
+waking_to (Recheck f) = record { owns = Shares 0; does = Drains f true }
 
 -- All steps of a thread t at a lock.
 pub data Step : Type 0 where
   Alone : (k : Plain) → Step
   List_changes : (k : Listing) → Step
-  Take1 : (scan : Scan) → (i v n : ℕ) → (mode : Mode) → (stay : Stay) → Step
-  Take2 : (owns : Owned) → (v n : ℕ) → (from : Bool) → (stay : Stay) → Step
+  Take1 : (scan : Scan) → (i v : ℕ) → (mode : Mode) → (stay : Stay) → Step
+  Take2 : (owns : Owned) → (v : ℕ) → (from : Bool) → (stay : Stay) → Step
   Store : (end : Ending) → (scan : Scan) → Step
   Wake : (owns : Owned) → (v : ℕ) → (taken : List ℕ) → (k : Waking) → (stay : Stay) → Step
   -- the one that is to be woken has gone on by itself
@@ -226,10 +226,10 @@ pub data Step : Type 0 where
 abbrev pub Allowed : Bool → ℕ → Step → Lock → Type 0
 Allowed recursive t (Alone k) l = (slice_get l.roles t ≡ Some (from k)) × May recursive k l.word (λ c. total c l.roles)
 Allowed recursive t (List_changes k) l = (slice_get l.roles t ≡ Some (listing_from k)) × MayList k t l.first l.second
-Allowed recursive t (Take1 s i v n m stay) l = (slice_get l.roles t ≡ Some (scanning s)) × MayTake s i v n m stay l.roles l.first
-Allowed recursive t (Take2 o v n f stay) l =
+Allowed recursive t (Take1 s i v m stay) l = (slice_get l.roles t ≡ Some (scanning s)) × MayTake s i v m stay l.roles l.first
+Allowed recursive t (Take2 o v f stay) l =
     (slice_get l.roles t ≡ Some (record { owns = o; does = Scans2 [] })) × (slice_get l.second 0 ≡ Some v)
-    × (slice_get l.roles v ≡ Some (record { owns = Shares n; does = Queued2 f stay }))
+    × (slice_get l.roles v ≡ Some (record { owns = Shares 0; does = Queued2 f stay }))
 Allowed recursive t (Store e s) l =
     (slice_get l.roles t ≡ Some (scanning s)) × (s.cause ≡ ends_for e) × MayEnd e s.taken × IsOver s l.roles l.first
 Allowed recursive t (Wake o v us k stay) l =
@@ -241,12 +241,12 @@ Allowed recursive t (Pass o v us) l =
 abbrev pub after : ℕ → Step → Lock → Lock
 after t (Alone k) l = record l { word = written k l.word; roles = slice_set l.roles t (to k) }
 after t (List_changes k) l = record l { roles = slice_set l.roles t (listing_to k); first = first_after k t l.first; second = second_after k t l.second }
-after t (Take1 s i v n m stay) l = record l {
-  roles = slice_set (slice_set l.roles t (scanning (taking s v m))) v (record { owns = Shares n; does = Taken1 m t Open stay });
+after t (Take1 s i v m stay) l = record l {
+  roles = slice_set (slice_set l.roles t (scanning (taking s v m))) v (record { owns = Shares 0; does = Taken1 m t Open stay });
   first = remove l.first i;
 }
-after t (Take2 o v n f stay) l = record l {
-  roles = slice_set (slice_set l.roles t (record { owns = o; does = Scans2 (v ∷ []) })) v (record { owns = Shares n; does = Taken2 f t stay });
+after t (Take2 o v f stay) l = record l {
+  roles = slice_set (slice_set l.roles t (record { owns = o; does = Scans2 (v ∷ []) })) v (record { owns = Shares 0; does = Taken2 f t stay });
   second = remove l.second 0;
 }
 after t (Store e s) l = record l {

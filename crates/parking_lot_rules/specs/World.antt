@@ -63,10 +63,10 @@ tell j t mark p = record p { does = heard (p.at == j) t mark p.does }
 abbrev pub places_after : ℕ → ℕ → Step → List Place → List Place
 places_after j t (Alone k) ps = change (with_role j (to k)) ps t
 places_after j t (List_changes k) ps = change (with_role j (listing_to k)) ps t
-places_after j t (Take1 s i v n m stay) ps =
-    change (with_role j (record { owns = Shares n; does = Taken1 m t Open stay })) (change (with_role j (scanning (taking s v m))) ps t) v
-places_after j t (Take2 o v n f stay) ps =
-    change (with_role j (record { owns = Shares n; does = Taken2 f t stay })) (change (with_role j (record { owns = o; does = Scans2 (v ∷ []) })) ps t) v
+places_after j t (Take1 s i v m stay) ps =
+    change (with_role j (record { owns = Shares 0; does = Taken1 m t Open stay })) (change (with_role j (scanning (taking s v m))) ps t) v
+places_after j t (Take2 o v f stay) ps =
+    change (with_role j (record { owns = Shares 0; does = Taken2 f t stay })) (change (with_role j (record { owns = o; does = Scans2 (v ∷ []) })) ps t) v
 places_after j t (Store e s) ps = change (with_role j (record { owns = s.owns; does = Stored1 s.taken })) (map (tell j t (ends_saying e)) ps) t
 places_after j t (Wake o v us k stay) ps = change (with_role j (record { owns = o; does = Wakes us })) (change (with_role j (waking_to k)) ps v) t
 places_after j t (Pass o v us) ps = change (with_role j (record { owns = o; does = Wakes us })) ps t
