@@ -11,3 +11,4 @@ pub mod Sounds
 pub mod Crossing
 pub mod Families
 pub mod Worlds
+pub mod Running

@@ -19,11 +19,11 @@ seen-here i p = ap (λ b. seen b p) (eq-eqb i i refl)
 seen-elsewhere : (i j : ℕ) (p : Phase) → j ≢ i → seen (j == i) p ≡ Idle
 seen-elsewhere i j p ne = ap (λ b. seen b p) (ne_eqb j i ne)
 
-seen-idle : (b : Bool) (p : Phase) → p ≡ Idle → seen b p ≡ Idle
+pub seen-idle : (b : Bool) (p : Phase) → p ≡ Idle → seen b p ≡ Idle
 seen-idle true p e = e
 seen-idle false p e = refl
 
-same_role : (o o' : Owned) (p p' : Phase) → o ≡ o' → p ≡ p' → ◌≡◌ {A = Role} (record { owns = o; does = p }) (record { owns = o'; does = p' })
+pub same_role : (o o' : Owned) (p p' : Phase) → o ≡ o' → p ≡ p' → ◌≡◌ {A = Role} (record { owns = o; does = p }) (record { owns = o'; does = p' })
 same_role o o' p p' e f = λ i. record { owns = e i; does = f i }
 
 -- the role that a place was given, and what it is at another lock

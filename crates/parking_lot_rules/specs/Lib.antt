@@ -6,3 +6,4 @@ pub mod Lock
 pub mod Steps
 pub mod Family
 pub mod World
+pub mod Runs
