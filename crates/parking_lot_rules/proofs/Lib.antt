@@ -12,3 +12,4 @@ pub mod Crossing
 pub mod Families
 pub mod Worlds
 pub mod Running
+pub mod Finding

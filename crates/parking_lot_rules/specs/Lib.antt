@@ -7,3 +7,4 @@ pub mod Steps
 pub mod Family
 pub mod World
 pub mod Runs
+pub mod Laws
