@@ -9,7 +9,7 @@ use Rattle.parking_lot_rules.specs.Laws.{owes, is_at_work}
 use Rattle.parking_lot_rules.proofs.Indexed.{get-set_other}
 use Rattle.parking_lot_rules.proofs.Totals.{total-at}
 
-none_or : (n : ℕ) → (n ≡ 0) ⊎ (0 < n)
+pub none_or : (n : ℕ) → (n ≡ 0) ⊎ (0 < n)
 none_or zero = inl refl
 none_or (suc n) = inr (omega arith)
 

@@ -13,3 +13,4 @@ pub mod Families
 pub mod Worlds
 pub mod Running
 pub mod Finding
+pub mod Following
