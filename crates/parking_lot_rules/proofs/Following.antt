@@ -5,10 +5,50 @@ use Rattle.parking_lot_rules.specs.Roles.{Mode, Shared, Exclusive, Upgradable, O
 use Rattle.parking_lot_rules.specs.Classes.{Class, Readers, Upgraders, Pending, Writers, Waiting1, Waiting2, Owing1, Owing2, Called, OpenWriters, OpenUpgraders, Masking, Strange, weight, total, weighs}
 use Rattle.parking_lot_rules.specs.Clauses.{Word, number, Fits}
 use Rattle.parking_lot_rules.specs.Lock.{Lock, Lists, Note, On1, On2, occurs, note_of, to_wake, Sound, IsSound}
-use Rattle.parking_lot_rules.specs.Laws.{held, holds, WordTells, OwnersExclude, NothingIsLeft, is_asleep, IsWaker, SleepersAreKnown, owes, SomebodyOwes, DebtsAreKept, is_at_work, IsOwner, SomebodyCanMove, RefusalsHaveACause}
+use Rattle.parking_lot_rules.specs.Laws.{held, holds, WordTells, OwnersExclude, NothingIsLeft, is_asleep, IsWaker, SleepersAreKnown, owes, SomebodyOwes, DebtsAreKept, is_at_work, IsOwner, SomebodyIsUp, SomebodyCanMove, RefusalsHaveACause}
 use Rattle.parking_lot_rules.proofs.Totals.{total-at, away_weighs}
 use Rattle.parking_lot_rules.proofs.Families.{total-none}
 use Rattle.parking_lot_rules.proofs.Finding.{somebody, two_of, called_case, open_writer, open_upgrader, waker_owes, none_or, owing1_owes, owing2_owes, owes_works}
+
+-- an owner is at work, or in no call, or was handed the lock and is to be woken
+owner_case : (o : Owned) (p : Phase) → 0 < weight Readers (record { owns = o; does = p }) + weight Upgraders (record { owns = o; does = p }) + weight Writers (record { owns = o; does = p })
+    → weight Strange (record { owns = o; does = p }) ≡ 0 → IsTrue (is_at_work p) ⊎ (IsOwner (record { owns = o; does = p }) ⊎ ((by : ℕ) × (note : Note) × (note_of p ≡ Some (by, note))))
+unfolding weight
+owner_case (Shares zero) Idle some proper = absurd (omega arith)
+owner_case (Shares zero) (Queued1 m Asleep) some proper = absurd (omega arith)
+owner_case (Shares zero) (Queued2 f Asleep) some proper = absurd (omega arith)
+owner_case (Shares zero) (Taken2 f by Asleep) some proper = inr (inr (by, On2, refl))
+owner_case (Shares zero) (Taken1 m by Open Asleep) some proper = inr (inr (by, On1 Open, refl))
+owner_case (Shares zero) (Taken1 m by Normal Asleep) some proper = inr (inr (by, On1 Normal, refl))
+owner_case (Shares zero) (Taken1 m by Handed Asleep) some proper = inr (inr (by, On1 Handed, refl))
+owner_case (Shares (suc n)) Idle some proper = inr (inl (refl, λ e. cc))
+owner_case (Shares (suc n)) (Queued1 m Asleep) some proper = absurd (omega arith)
+owner_case (Shares (suc n)) (Queued2 f Asleep) some proper = absurd (omega arith)
+owner_case (Shares (suc n)) (Taken1 m by how Asleep) some proper = absurd (omega arith)
+owner_case (Shares (suc n)) (Taken2 f by Asleep) some proper = absurd (omega arith)
+owner_case Excludes Idle some proper = inr (inl (refl, λ e. cc))
+owner_case Excludes (Queued1 m Asleep) some proper = absurd (omega arith)
+owner_case Excludes (Queued2 f Asleep) some proper = absurd (omega arith)
+owner_case Excludes (Taken1 m by how Asleep) some proper = absurd (omega arith)
+owner_case Excludes (Taken2 f by Asleep) some proper = absurd (omega arith)
+owner_case Upgrades Idle some proper = inr (inl (refl, λ e. cc))
+owner_case Upgrades (Queued1 m Asleep) some proper = absurd (omega arith)
+owner_case Upgrades (Queued2 f Asleep) some proper = absurd (omega arith)
+owner_case Upgrades (Taken1 m by how Asleep) some proper = absurd (omega arith)
+owner_case Upgrades (Taken2 f by Asleep) some proper = absurd (omega arith)
+owner_case o p some proper = inl refl
+
+-- a pending writer is at work, or to be woken, or sleeps in the second list
+pending_case : (o : Owned) (p : Phase) → 0 < weight Pending (record { owns = o; does = p }) → IsTrue (is_at_work p) ⊎ (((by : ℕ) × (note : Note) × (note_of p ≡ Some (by, note))) ⊎ (0 < weight Waiting2 (record { owns = o; does = p })))
+unfolding weight
+pending_case o Idle some = absurd (omega arith)
+pending_case o (Queued1 m Asleep) some = absurd (omega arith)
+pending_case o (Queued2 f Asleep) some = inr (inr (omega arith))
+pending_case o (Taken2 f by Asleep) some = inr (inl (by, On2, refl))
+pending_case o (Taken1 m by Open Asleep) some = inr (inl (by, On1 Open, refl))
+pending_case o (Taken1 m by Normal Asleep) some = inr (inl (by, On1 Normal, refl))
+pending_case o (Taken1 m by Handed Asleep) some = inr (inl (by, On1 Handed, refl))
+pending_case o p some = inl refl
 
 module _ (l : Lock) (sound : IsSound l) where
   pub word_tells : WordTells l
@@ -110,3 +150,82 @@ module _ (l : Lock) (sound : IsSound l) where
     first = λ some free. debt1 (omega (arith, some, sound.waiting1.count)) (omega (arith, free, sound.fits));
     second = λ some free. owing2_up (omega (arith, some, free, sound.waiting2.count, sound.fits));
   }
+
+  up : SomebodyOwes l → SomebodyIsUp l
+  up x = (x.0, x.1, x.2, inl (owes_works x.1.does x.3))
+
+  noted_up : (u : ℕ) (r : Role) → slice_get l.roles u ≡ Some r → ((by : ℕ) × (note : Note) × (note_of r.does ≡ Some (by, note))) → SomebodyIsUp l
+  noted_up u r at x = up (waker_is_up x.0 u (waker u x.0 r x.1 at x.2))
+
+  owner_up : (u : ℕ) (r : Role) → slice_get l.roles u ≡ Some r → 0 < weight Readers r + weight Upgraders r + weight Writers r → SomebodyIsUp l
+  owner_up u r at some =
+      let proper : weight Strange r ≡ 0 = omega (arith, sound.fits.proper, weighs_le Strange u, ap (weighs Strange) at) in
+      ⊎_elim (λ work. (u, r, at, inl work)) (λ more. ⊎_elim (λ owner. (u, r, at, inr owner)) (λ x. noted_up u r at x) more) (owner_case r.owns r.does some proper)
+
+  owners_up : 0 < total Readers l.roles + total Upgraders l.roles + total Writers l.roles → SomebodyIsUp l
+  owners_up some = ⊎_elim
+      (λ none. ⊎_elim
+        (λ neither. let x = somebody Writers l.roles (omega (arith, some, none, neither)) in owner_up x.0 x.1 x.2 (omega (arith, x.3)))
+        (λ h. let x = somebody Upgraders l.roles h in owner_up x.0 x.1 x.2 (omega (arith, x.3)))
+        (none_or (total Upgraders l.roles)))
+      (λ h. let x = somebody Readers l.roles h in owner_up x.0 x.1 x.2 (omega (arith, x.3)))
+      (none_or (total Readers l.roles))
+
+  -- where a pending writer sleeps
+  waiting2_up : 0 < total Waiting2 l.roles → SomebodyIsUp l
+  waiting2_up some = ⊎_elim (λ none. owners_up (omega (arith, some, none, sound.fits))) (λ h. up (owing2_up h)) (none_or (total Owing2 l.roles))
+
+  pending_up : 0 < total Pending l.roles → SomebodyIsUp l
+  pending_up some =
+      let x = somebody Pending l.roles some in
+      ⊎_elim
+      (λ work. (x.0, x.1, x.2, inl work))
+      (λ more. ⊎_elim (λ h. noted_up x.0 x.1 x.2 h) (λ h. waiting2_up (omega (arith, h, weighs_le Waiting2 x.0, ap (weighs Waiting2) x.2))) more)
+      (pending_case x.1.owns x.1.does x.3)
+
+  -- where somebody sleeps in the first list
+  waiting1_up : 0 < total Waiting1 l.roles → SomebodyIsUp l
+  waiting1_up some = ⊎_elim
+      (λ free. up (debt1 some free))
+      (λ taken. ⊎_elim (λ none. owners_up (omega (arith, taken, none, sound.fits))) pending_up (none_or (total Pending l.roles)))
+      (none_or (l.word.writer + l.word.upgradable))
+
+  sleeper_up : (u : ℕ) (o : Owned) (p : Phase) → slice_get l.roles u ≡ Some (record { owns = o; does = p }) → IsTrue (is_asleep p) → SomebodyIsUp l
+  unfolding weight
+  sleeper_up u o (Queued1 m Asleep) at asleep = waiting1_up (omega (arith, weighs_le Waiting1 u, ap (weighs Waiting1) at))
+  sleeper_up u o (Queued2 f Asleep) at asleep = waiting2_up (omega (arith, weighs_le Waiting2 u, ap (weighs Waiting2) at))
+  sleeper_up u o (Taken1 m by Open Asleep) at asleep = noted_up u _ at (by, On1 Open, refl)
+  sleeper_up u o (Taken1 m by Normal Asleep) at asleep = noted_up u _ at (by, On1 Normal, refl)
+  sleeper_up u o (Taken1 m by Handed Asleep) at asleep = noted_up u _ at (by, On1 Handed, refl)
+  sleeper_up u o (Taken2 f by Asleep) at asleep = noted_up u _ at (by, On2, refl)
+  sleeper_up u o p at asleep = absurd cc
+
+  pub somebody_can_move : SomebodyCanMove l
+  somebody_can_move u r at asleep = sleeper_up u r.owns r.does at asleep
+
+  -- whoever counts in a class in which a thread that only asks doesn't is another
+  another : (c : Class) (t : ℕ) (mode : Mode) (woken : Bool) → slice_get l.roles t ≡ Some (record { owns = Shares 0; does = Seeks mode woken }) → weight c (record { owns = Shares 0; does = Seeks mode woken }) ≡ 0
+      → 0 < total c l.roles → (u : ℕ) × (r : Role) × (u ≢ t) × (slice_get l.roles u ≡ Some r) × (r ≢ away)
+  another c t mode woken at nothing some =
+      let x = somebody c l.roles some in
+      (
+        x.0,
+        x.1,
+        (λ e. omega (arith, x.3, nothing, ap (weight c) (same_Some x.1 _ (sym x.2 ∙ (ap (λ i. slice_get l.roles i) e ∙ at))))),
+        x.2,
+        (λ e. omega (arith, x.3, ap (weight c) e, away_weighs c)),
+      )
+
+  pub refusals_have_a_cause : RefusalsHaveACause l
+  unfolding weight
+  refusals_have_a_cause t mode woken at ne =
+      let other = λ (c : Class) (nothing : weight c (record { owns = Shares 0; does = Seeks mode woken }) ≡ 0) (some : 0 < total c l.roles). another c t mode woken at nothing some in
+      ⊎_elim (λ a. ⊎_elim (λ b. ⊎_elim (λ c. ⊎_elim (λ d. ⊎_elim (λ e. ⊎_elim (λ f. ⊎_elim (λ g. ⊎_elim (λ h. absurd (ne (omega (arith, sound.fits, a, b, c, d, e, f, g, h))))
+      (λ s. other Masking refl s) (none_or (total Masking l.roles)))
+      (λ s. other Owing2 refl s) (none_or (total Owing2 l.roles)))
+      (λ s. other Owing1 refl s) (none_or (total Owing1 l.roles)))
+      (λ s. other Waiting1 refl s) (none_or (total Waiting1 l.roles)))
+      (λ s. other Writers refl s) (none_or (total Writers l.roles)))
+      (λ s. other Pending refl s) (none_or (total Pending l.roles)))
+      (λ s. other Upgraders refl s) (none_or (total Upgraders l.roles)))
+      (λ s. other Readers refl s) (none_or (total Readers l.roles))

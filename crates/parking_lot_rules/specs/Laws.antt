@@ -85,10 +85,13 @@ is_at_work phase = true
 abbrev pub IsOwner : Role → Type 0
 IsOwner r = (r.does ≡ Idle) × (r.owns ≢ Shares 0)
 
--- Where a thread sleeps, another at the lock is at work there, or owns it and is in no call.
+-- somebody at the lock is at work there, or owns it and is in no call
+abbrev pub SomebodyIsUp : Lock → Type 0
+SomebodyIsUp l = (v : ℕ) × (s : Role) × (slice_get l.roles v ≡ Some s) × (IsTrue (is_at_work s.does) ⊎ IsOwner s)
+
+-- that is so where a thread sleeps there
 abbrev pub SomebodyCanMove : Lock → Type 0
-SomebodyCanMove l = (u : ℕ) (r : Role) → slice_get l.roles u ≡ Some r → IsTrue (is_asleep r.does)
-    → (v : ℕ) × (s : Role) × (slice_get l.roles v ≡ Some s) × (IsTrue (is_at_work s.does) ⊎ IsOwner s)
+SomebodyCanMove l = (u : ℕ) (r : Role) → slice_get l.roles u ≡ Some r → IsTrue (is_asleep r.does) → SomebodyIsUp l
 
 -- Where a thread that owns nothing and asks by a try finds a word that isn't 0, another thread is at the lock.
 abbrev pub RefusalsHaveACause : Lock → Type 0

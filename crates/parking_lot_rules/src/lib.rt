@@ -4,4 +4,13 @@
 
 mod laws;
 
-pub use laws::every_lock_is_sound;
+pub use laws::{
+    a_refusal_has_a_cause,
+    debts_are_kept,
+    every_lock_is_sound,
+    no_bit_outlives_the_calls,
+    owners_exclude_each_other,
+    sleepers_are_known,
+    somebody_can_move,
+    the_word_tells_the_owners,
+};
