@@ -14,3 +14,4 @@ pub mod Worlds
 pub mod Running
 pub mod Finding
 pub mod Following
+pub mod Progress

@@ -13,10 +13,10 @@ use Rattle.parking_lot_rules.proofs.Indexed.{get-set_same, get-set_other}
 use Rattle.parking_lot_rules.proofs.Settling.{one_inside, open_inside}
 use Rattle.parking_lot_rules.proofs.Families.{put-same, put-other, family_sound}
 
-seen-here : (i : ℕ) (p : Phase) → seen (i == i) p ≡ p
+pub seen-here : (i : ℕ) (p : Phase) → seen (i == i) p ≡ p
 seen-here i p = ap (λ b. seen b p) (eq-eqb i i refl)
 
-seen-elsewhere : (i j : ℕ) (p : Phase) → j ≢ i → seen (j == i) p ≡ Idle
+pub seen-elsewhere : (i j : ℕ) (p : Phase) → j ≢ i → seen (j == i) p ≡ Idle
 seen-elsewhere i j p ne = ap (λ b. seen b p) (ne_eqb j i ne)
 
 pub seen-idle : (b : Bool) (p : Phase) → p ≡ Idle → seen b p ≡ Idle

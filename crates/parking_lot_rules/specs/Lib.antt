@@ -8,3 +8,4 @@ pub mod Family
 pub mod World
 pub mod Runs
 pub mod Laws
+pub mod Progress
