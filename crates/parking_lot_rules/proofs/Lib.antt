@@ -15,3 +15,4 @@ pub mod Running
 pub mod Finding
 pub mod Following
 pub mod Progress
+pub mod Wrongs

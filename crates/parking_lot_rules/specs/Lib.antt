@@ -9,3 +9,4 @@ pub mod World
 pub mod Runs
 pub mod Laws
 pub mod Progress
+pub mod Wrong
