@@ -14,5 +14,5 @@ pub mod Worlds
 pub mod Running
 pub mod Finding
 pub mod Following
-pub mod Progress
+pub mod Moving
 pub mod Wrongs

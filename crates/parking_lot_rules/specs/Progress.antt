@@ -1,8 +1,9 @@
 -- Who can move, over many locks.
 use Rattle.std.specs.Prelude.{◌≡◌, ◌≢◌, ℕ, ◌<◌, ◌⊎◌, Bool, true, false, IsTrue, List, slice_get, Option, Some, None}
 use Rattle.parking_lot_rules.specs.Roles.{Mode, Shared, Exclusive, Upgradable, Owned, Shares, Excludes, Upgrades, Stay, Fresh, Asleep, Late, Back, Mark, Open, Normal, Handed, Cause, FromExclusive, FromUpgradable, Owed, Phase, Idle, Seeks, Enters1, Checked1, Queued1, Taken1, Masks1, Leaves1, Drains, Enters2, Checked2, Queued2, Taken2, Leaves2, Yields, Owes1, Scans1, Stored1, Owes2, Scans2, Masked2, Wakes, Role}
-use Rattle.parking_lot_rules.specs.Family.{Key, First, Second, key}
-use Rattle.parking_lot_rules.specs.World.{Place, World, role_at}
+use Rattle.parking_lot_rules.specs.Classes.{total}
+use Rattle.parking_lot_rules.specs.Family.{Key, First, Second, key, section, within}
+use Rattle.parking_lot_rules.specs.World.{Place, World, role_at, lock_at, family}
 use Rattle.parking_lot_rules.specs.Laws.{is_asleep, is_at_work, IsOwner}
 use Rattle.parking_lot_rules.specs.Runs.{IsReached}
 
@@ -40,6 +41,12 @@ LocksRise w = (u i : ℕ) (p : Place) → slice_get w.places u ≡ Some p → Is
 abbrev pub NoDeadlock : (ℕ → ℕ) → World → Type 0
 NoDeadlock bucket w = LocksRise w → (u : ℕ) (p : Place) → slice_get w.places u ≡ Some p → IsTrue (is_asleep p.does)
     → SomebodyMoves bucket w ⊎ ((v i : ℕ) × (q : Place) × (slice_get w.places v ≡ Some q) × (q.does ≡ Idle) × (q.owns i ≢ Shares 0))
+
+-- Whoever is inside a section of a key has entered its bucket, and whoever has entered a bucket is inside a section of one of its keys.
+pub record SectionsAreEntered (bucket : ℕ → ℕ) (w : World) : Type 0 where
+  pub inside : (i : ℕ) (k : Key) (u : ℕ) → within (family w) i k u ≡ 1 → w.entered (bucket (key i k)) ≡ Some u
+  pub entered : (b u : ℕ) → w.entered b ≡ Some u → (i : ℕ) × (k : Key) × (bucket (key i k) ≡ b) × (within (family w) i k u ≡ 1)
+  pub nobody : (i : ℕ) (k : Key) → w.entered (bucket (key i k)) ≡ None → total (section k) (lock_at w i).roles ≡ 0
 
 -- in every run
 abbrev pub InEveryRun : ((ℕ → ℕ) → World → Type 0) → Type 0

@@ -9,8 +9,9 @@ use Rattle.parking_lot_rules.specs.Lock.{Lock, IsSound}
 use Rattle.parking_lot_rules.specs.Family.{Key, First, Second, key, section, within, Family, IsSoundFamily}
 use Rattle.parking_lot_rules.specs.World.{Place, World, seen, role_at, lock_at, family}
 use Rattle.parking_lot_rules.specs.Laws.{is_asleep, is_at_work, IsOwner}
-use Rattle.parking_lot_rules.specs.Progress.{is_before, CanMove, SomebodyMoves, SleepersAreServed, LocksRise, NoDeadlock}
+use Rattle.parking_lot_rules.specs.Progress.{is_before, CanMove, SomebodyMoves, SleepersAreServed, SectionsAreEntered, LocksRise, NoDeadlock}
 use Rattle.parking_lot_rules.proofs.Following.{somebody_can_move}
+use Rattle.parking_lot_rules.proofs.Families.{nobody_inside}
 use Rattle.parking_lot_rules.proofs.Worlds.{seen-here, seen-elsewhere}
 
 -- who is inside a section is at work, and isn't about to enter one
@@ -148,3 +149,6 @@ module _ (bucket : ℕ → ℕ) (w : World) (sound : IsSoundFamily bucket (famil
 
   pub no_deadlock : NoDeadlock bucket w
   no_deadlock rise u p at asleep = climb rise (suc (sum_by (λ (q : Place). q.at) w.places)) u p at asleep (omega arith)
+
+  pub sections_are_entered : SectionsAreEntered bucket w
+  sections_are_entered = record { inside = sound.entered; entered = sound.is_inside; nobody = λ i k free. nobody_inside bucket (family w) sound i k free }
