@@ -1,10 +1,10 @@
 -- Steps of one thread alone keep a lock sound.
-use Rattle.std.proofs.Common.{◌≡◌, ℕ, ◌+◌, ◌≤◌, ◌⊎◌, ⊎_elim, Bool, true, false, List, [], Option, Some, None, slice_get, slice_set, refl, sym, ap, ◌∙◌, inl, inr, arith}
+use Rattle.std.proofs.Common.{◌≡◌, ℕ, ◌+◌, ◌⊎◌, ⊎_elim, Bool, true, false, List, Some, None, slice_get, slice_set, refl, sym, ap, ◌∙◌, inl, inr, arith}
 use Rattle.std.proofs.lemmas.Option.{none-some}
-use Rattle.parking_lot_rules.specs.Roles.{Mode, Shared, Exclusive, Upgradable, Owned, Shares, Excludes, Upgrades, Stay, Fresh, Asleep, Late, Back, Mark, Open, Normal, Handed, Cause, FromExclusive, FromUpgradable, Owed, Phase, Idle, Seeks, Enters1, Checked1, Queued1, Taken1, Masks1, Leaves1, Drains, Enters2, Checked2, Queued2, Taken2, Leaves2, Yields, Owes1, Scans1, Stored1, Owes2, Scans2, Masked2, Wakes, Role, away}
-use Rattle.parking_lot_rules.specs.Classes.{Class, Waiting1, Waiting2, weight, total}
-use Rattle.parking_lot_rules.specs.Clauses.{Word, Fits, Counts}
-use Rattle.parking_lot_rules.specs.Plain.{Plain, Begin, Refuse, Share, Pend, Drain, Upgradably, Exclude, Flag1, Enter1, Check1, Retreat1, Rest1, Expire1, ExpireTaken1, Reenter1, ReenterTaken1, Mask1, Leave1, Resume1, ReceiveShared, ReceivePending, ReceiveUpgradable, Flag2, Enter2, Check2, Retreat2, Rest2, Expire2, ExpireTaken2, Reenter2, ReenterTaken2, Resume2, Leave2, Yield, YieldBack, Unshare, UnshareLast, Look2, Mask2, Depart2, Unlock, UnlockUpgradable, LookExclusive, LookUpgradable, Downgrade, DowngradeToUpgradable, DowngradeUpgradable, Upgrade, UpgradeAtOnce, LookOwed, Depart1, Finish, from, to, May, written}
+use Rattle.parking_lot_rules.specs.Roles.{Open, Normal, Handed, Role, away}
+use Rattle.parking_lot_rules.specs.Classes.{Waiting1, Waiting2, weight, total}
+use Rattle.parking_lot_rules.specs.Clauses.{Word, Fits}
+use Rattle.parking_lot_rules.specs.Plain.{Plain, ExpireTaken1, ReenterTaken1, Yield, YieldBack, Look2, Mask2, Depart2, LookExclusive, LookUpgradable, Downgrade, DowngradeToUpgradable, DowngradeUpgradable, LookOwed, Depart1, Finish, from, to, May, written}
 use Rattle.parking_lot_rules.specs.Lock.{Note, On1, On2, occurs, note_of, to_wake, Sound}
 use Rattle.parking_lot_rules.proofs.Totals.{counts_all, total-set, total-at, same_counts}
 use Rattle.parking_lot_rules.proofs.Plain.{plain_fits}

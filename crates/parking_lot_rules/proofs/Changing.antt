@@ -1,20 +1,17 @@
 -- Steps that change a list or a second role keep a lock sound.
-use Rattle.std.proofs.Common.{◌≡◌, ◌≢◌, ℕ, zero, suc, ◌+◌, ◌<◌, ◌≤◌, ◌⊎◌, ⊎_elim, Bool, true, false, List, [], ◌∷◌, ◌++◌, length, map, remove, Option, Some, None, option_map, slice_get, slice_set, refl, sym, ap, ◌∙◌, subst, inl, inr, arith}
-use Rattle.std.proofs.lemmas.List.{map-set}
-use Rattle.std.proofs.lemmas.Bool.{cases_eq}
-use Rattle.std.proofs.lemmas.Option.{none-some, same_Some, slice_get-map, slice_get_within}
-use Rattle.parking_lot_rules.specs.Roles.{Mode, Shared, Exclusive, Upgradable, Owned, Shares, Excludes, Upgrades, Stay, Fresh, Asleep, Late, Back, Mark, Open, Normal, Handed, Cause, FromExclusive, FromUpgradable, Owed, Phase, Idle, Seeks, Enters1, Checked1, Queued1, Taken1, Masks1, Leaves1, Drains, Enters2, Checked2, Queued2, Taken2, Leaves2, Yields, Owes1, Scans1, Stored1, Owes2, Scans2, Masked2, Wakes, Role, away}
-use Rattle.parking_lot_rules.specs.Classes.{Class, Waiting1, Waiting2, Inside1, Upgraders, weight, total, weighs, bit, inside, owned}
-use Rattle.parking_lot_rules.specs.Clauses.{Word, Fits, Counts}
-use Rattle.parking_lot_rules.specs.Lock.{Note, On1, On2, occurs, note_of, to_wake, Lists, AreNoted, Sound}
-use Rattle.parking_lot_rules.specs.Steps.{Listing, Join1, Join2, Quit1, QuitLast1, Quit2, listing_from, listing_to, MayList, first_after, second_after, Look, Stop, Skip, Take, look, has_upgradable, wants, AreSkipped, Scan, scanning, holds_upgradable, taking, MayTake, IsOver, Ending, Free, FreeUpgradable, Hand, HandUpgradable, Keep, ends_for, ends_saying, MayEnd, stored, told, settle, settled, Waking, Retry, Own, OwnPending, OwnUpgradable, Recheck, waking_from, waking_to}
+use Rattle.std.proofs.Common.{◌≡◌, ◌≢◌, ℕ, ◌+◌, ◌≤◌, ◌⊎◌, Bool, List, [], ◌∷◌, ◌++◌, length, remove, Some, None, slice_get, slice_set, refl, sym, ap, ◌∙◌, subst, inl, inr, arith}
+use Rattle.std.proofs.lemmas.Option.{none-some, same_Some}
+use Rattle.parking_lot_rules.specs.Roles.{Mode, Shared, Exclusive, Upgradable, Owned, Shares, Stay, Fresh, Asleep, Late, Back, Open, Normal, Handed, Queued1, Taken1, Queued2, Taken2, Scans2, Wakes, Role, away}
+use Rattle.parking_lot_rules.specs.Classes.{Class, Waiting1, Waiting2, weight, total, inside}
+use Rattle.parking_lot_rules.specs.Clauses.{Word, Fits}
+use Rattle.parking_lot_rules.specs.Lock.{Note, On1, On2, occurs, note_of, to_wake, Lists, Sound}
+use Rattle.parking_lot_rules.specs.Steps.{Listing, Join1, Join2, Quit1, QuitLast1, Quit2, listing_from, listing_to, MayList, first_after, second_after, Scan, scanning, taking, MayTake, Waking, Retry, Own, OwnPending, OwnUpgradable, Recheck, waking_from, waking_to}
 use Rattle.parking_lot_rules.proofs.Indexed.{get-set_same, get-set_other, get-set_cases, sum_by-set_at}
-use Rattle.parking_lot_rules.proofs.Totals.{counts_all, total-set, total-at, same_counts, away_weighs}
+use Rattle.parking_lot_rules.proofs.Totals.{counts_all, total-at, same_counts, away_weighs}
 use Rattle.parking_lot_rules.proofs.Fitting as fitting
-use Rattle.parking_lot_rules.proofs.Waiting.{lists-same, lists-push, lists-drop, listed, occurs-push, occurs-cons, counted-same, counted-other}
+use Rattle.parking_lot_rules.proofs.Waiting.{lists-same, lists-push, lists-drop, occurs-push, occurs-cons, counted-same, counted-other}
 use Rattle.parking_lot_rules.proofs.Noting.{noted-set, WillWake}
 use Rattle.parking_lot_rules.proofs.Alone.{fits-set}
-use Rattle.parking_lot_rules.proofs.Settling.{IsSaid, normal, handed, total-settle, waiting-settle, one_inside, open_inside, told_wakes, told_note}
 
 nothing_noted : (b : Role) (P : ℕ → Note → Type 0) → note_of b.does ≡ None → (by : ℕ) (note : Note) → note_of b.does ≡ Some (by, note) → P by note
 nothing_noted b P none by note took = absurd (none-some (by, note) (sym none ∙ took))
@@ -106,6 +103,7 @@ module _ (w : Word) (rs : List Role) (first second : List ℕ) (sound : Sound w 
       one (Quit1 m i) at may = lists-drop Waiting1 first rs t _ _ at sound.waiting1 i may.0 refl refl
       one (QuitLast1 m i) at may = lists-drop Waiting1 first rs t _ _ at sound.waiting1 i may.0 refl refl
       one (Quit2 f i) at may = lists-same Waiting1 first rs t _ _ at sound.waiting1 refl
+
       two : (k : Listing) → slice_get rs t ≡ Some (listing_from k) → MayList k t first second → Lists Waiting2 (second_after k t second) (slice_set rs t (listing_to k))
       two (Join1 m) at may = lists-same Waiting2 second rs t _ _ at sound.waiting2 refl
       two (Join2 f) at may = lists-push Waiting2 second rs t _ _ at sound.waiting2 refl refl
@@ -137,8 +135,10 @@ module _ (w : Word) (rs : List Role) (first second : List ℕ) (sound : Sound w 
     where
       a : Role
       a = record { owns = o; does = Wakes (v ∷ us) }
+
       b : Role
       b = record { owns = o; does = Wakes us }
+
       still : (u : ℕ) (r : Role) (note : Note) → ((u ≡ t) × (r ≡ b)) ⊎ ((u ≢ t) × (slice_get rs u ≡ Some r)) → note_of r.does ≡ Some (t, note) → u ≢ v
       still u r note (inl x) took e = none-some (t, note) (sym (ap (λ y. note_of y.does) x.1) ∙ took)
       still u r note (inr x) took e = gone r note (ap (λ i. slice_get rs i) (sym e) ∙ x.1) took
@@ -151,10 +151,16 @@ module _ (w : Word) (rs : List Role) (first second : List ℕ) (sound : Sound w 
       let still : slice_get (slice_set rs t b) v ≡ Some x = get-set_other rs t v b ne ∙ there in
       let left : slice_get (slice_set rs t away) v ≡ Some x = get-set_other rs t v away ne ∙ there in
       same_counts (Fits w) _ _
-          (λ c. omega (arith, sum_by-set_at (weight c) rs t a b at, sum_by-set_at (weight c) rs t a away at, sum_by-set_at (weight c) (slice_set rs t b) v x y still,
-          sum_by-set_at (weight c) (slice_set rs t away) v x away left, away_weighs c))
-          (keeps (same_counts (Fits w) _ _
-          (λ c. omega (arith, sum_by-set_at (weight c) rs t a away at, sum_by-set_at (weight c) (slice_set rs t away) v x away left, away_weighs c)) sound.fits))
+      (λ c. omega (
+        arith,
+        sum_by-set_at (weight c) rs t a b at,
+        sum_by-set_at (weight c) rs t a away at,
+        sum_by-set_at (weight c) (slice_set rs t b) v x y still,
+        sum_by-set_at (weight c) (slice_set rs t away) v x away left,
+        away_weighs c,
+      ))
+      (keeps (same_counts (Fits w) _ _
+      (λ c. omega (arith, sum_by-set_at (weight c) rs t a away at, sum_by-set_at (weight c) (slice_set rs t away) v x away left, away_weighs c)) sound.fits))
 
   pub sound_take1 : (s : Scan) (i v : ℕ) (m : Mode) (stay : Stay) → slice_get rs t ≡ Some (scanning s) → MayTake s i v m stay rs first
       → Sound w (slice_set (slice_set rs t (scanning (taking s v m))) v (record { owns = Shares 0; does = Taken1 m t Open stay })) (remove first i) second
@@ -166,22 +172,27 @@ module _ (w : Word) (rs : List Role) (first second : List ℕ) (sound : Sound w 
     noted = noted-set (slice_set rs t b) v x y still
         (noted-set rs t (scanning s) b at sound.noted (nothing_noted b (λ by note. WillWake rs by t note) refl) (λ u r note here took. scanning_grows s v m u note))
         (λ by note took.
-          let e : (t, On1 Open) ≡ (by, note) = same_Some _ _ took in
-          subst (λ (z : ℕ × Note). WillWake (slice_set rs t b) z.0 v z.1) e
-          (b, get-set_same rs t (scanning s) b at, omega (arith, ap (λ us. occurs v us) (taking_taken s v m), occurs-push v s.taken v, counted-same v)))
+        let e : (t, On1 Open) ≡ (by, note) = same_Some _ _ took in
+        subst (λ (z : ℕ × Note). WillWake (slice_set rs t b) z.0 v z.1) e
+        (b, get-set_same rs t (scanning s) b at, omega (arith, ap (λ us. occurs v us) (taking_taken s v m), occurs-push v s.taken v, counted-same v)))
         (λ u r note here took. omega arith);
   }
     where
       rest : Class → ℕ
       rest c = total c (slice_set (slice_set rs t away) v away)
+
       b : Role
       b = scanning (taking s v m)
+
       x : Role
       x = record { owns = Shares 0; does = Queued1 m stay }
+
       y : Role
       y = record { owns = Shares 0; does = Taken1 m t Open stay }
+
       ne : t ≢ v
       ne e = let same : scanning s ≡ x = same_Some (scanning s) x (sym at ∙ ap (λ j. slice_get rs j) e ∙ may.role) in let phases = ap (λ r. r.does) same in cc
+
       still : slice_get (slice_set rs t b) v ≡ Some x
       still = get-set_other rs t v b ne ∙ may.role
 
@@ -201,18 +212,25 @@ module _ (w : Word) (rs : List Role) (first second : List ℕ) (sound : Sound w 
     where
       rest : Class → ℕ
       rest c = total c (slice_set (slice_set rs t away) v away)
+
       a : Role
       a = record { owns = o; does = Scans2 [] }
+
       b : Role
       b = record { owns = o; does = Scans2 (v ∷ []) }
+
       x : Role
       x = record { owns = Shares 0; does = Queued2 f stay }
+
       y : Role
       y = record { owns = Shares 0; does = Taken2 f t stay }
+
       ne : t ≢ v
       ne e = let same : a ≡ x = same_Some a x (sym at ∙ ap (λ j. slice_get rs j) e ∙ there) in let phases = ap (λ r. r.does) same in cc
+
       still : slice_get (slice_set rs t b) v ≡ Some x
       still = get-set_other rs t v b ne ∙ there
+
       noted : (by : ℕ) (note : Note) (stay : Stay) → note_of (Taken2 f t stay) ≡ Some (by, note) → WillWake (slice_set rs t b) by v note
       noted by note Fresh took = absurd (none-some (by, note) took)
       noted by note Late took = absurd (none-some (by, note) took)

@@ -1,12 +1,12 @@
 -- What a step does to the sections.
-use Rattle.std.proofs.Common.{◌≡◌, ◌≢◌, ℕ, ◌+◌, ◌≤◌, ◌⊎◌, ⊎_elim, Bool, true, false, List, [], ◌∷◌, map, Option, Some, None, option_map, slice_get, slice_set, refl, sym, ap, ◌∙◌, subst, inl, inr, arith}
+use Rattle.std.proofs.Common.{◌≡◌, ◌≢◌, ℕ, ⊎_elim, Bool, true, false, List, [], ◌∷◌, map, Option, Some, None, option_map, slice_get, slice_set, refl, sym, ap, ◌∙◌, subst, arith}
 use Rattle.std.proofs.lemmas.Bool.{cases_eq}
 use Rattle.std.proofs.lemmas.Option.{slice_get-map, same_Some}
-use Rattle.parking_lot_rules.specs.Roles.{Mode, Shared, Exclusive, Upgradable, Owned, Shares, Excludes, Upgrades, Stay, Fresh, Asleep, Late, Back, Mark, Open, Normal, Handed, Cause, FromExclusive, FromUpgradable, Owed, Phase, Idle, Seeks, Enters1, Checked1, Queued1, Taken1, Masks1, Leaves1, Drains, Enters2, Checked2, Queued2, Taken2, Leaves2, Yields, Owes1, Scans1, Stored1, Owes2, Scans2, Masked2, Wakes, Role, away}
+use Rattle.parking_lot_rules.specs.Roles.{Mode, Shared, Exclusive, Upgradable, Owned, Shares, Stay, Mark, Open, Normal, Handed, Queued1, Taken1, Queued2, Taken2, Stored1, Scans2, Wakes, Role}
 use Rattle.parking_lot_rules.specs.Classes.{Class, Inside1, Inside2, weight, weighs, inside}
-use Rattle.parking_lot_rules.specs.Plain.{Plain, Begin, Refuse, Share, Pend, Drain, Upgradably, Exclude, Flag1, Enter1, Check1, Retreat1, Rest1, Expire1, ExpireTaken1, Reenter1, ReenterTaken1, Mask1, Leave1, Resume1, ReceiveShared, ReceivePending, ReceiveUpgradable, Flag2, Enter2, Check2, Retreat2, Rest2, Expire2, ExpireTaken2, Reenter2, ReenterTaken2, Resume2, Leave2, Yield, YieldBack, Unshare, UnshareLast, Look2, Mask2, Depart2, Unlock, UnlockUpgradable, LookExclusive, LookUpgradable, Downgrade, DowngradeToUpgradable, DowngradeUpgradable, Upgrade, UpgradeAtOnce, LookOwed, Depart1, Finish, from, to}
+use Rattle.parking_lot_rules.specs.Plain.{Plain, Retreat1, Rest1, Leave1, Resume1, ReceiveShared, ReceivePending, ReceiveUpgradable, Retreat2, Rest2, Resume2, Leave2, Yield, YieldBack, Depart2, Downgrade, DowngradeToUpgradable, DowngradeUpgradable, Depart1, from, to}
 use Rattle.parking_lot_rules.specs.Lock.{Lock}
-use Rattle.parking_lot_rules.specs.Steps.{Step, Alone, List_changes, Take1, Take2, Store, Wake, Pass, Allowed, after, Listing, Join1, Join2, Quit1, QuitLast1, Quit2, listing_from, listing_to, Scan, scanning, taking, Ending, ends_saying, settle, settled, Waking, Retry, Own, OwnPending, OwnUpgradable, Recheck, waking_from, waking_to}
+use Rattle.parking_lot_rules.specs.Steps.{Step, Alone, List_changes, Take1, Take2, Store, Wake, Pass, Allowed, after, Listing, Join1, listing_from, listing_to, Scan, scanning, taking, ends_saying, settle, settled, Waking, Retry, Own, Recheck, waking_from, waking_to}
 use Rattle.parking_lot_rules.specs.Family.{Key, First, Second, section, Crossing, Stays, Comes, Goes, crossing}
 use Rattle.parking_lot_rules.proofs.Indexed.{get-set_same, get-set_other}
 use Rattle.parking_lot_rules.proofs.Settling.{IsSaid, normal, handed, settle_weighs}
@@ -179,8 +179,8 @@ module _ (recursive : Bool) (t : ℕ) (l : Lock) (x : Key) where
       ∙ settle_crosses (ends_saying e) (ends_said e) x l.roles u
   stay_all (Wake o v us k stay) may apart u =
       weighs-same (section x) (slice_set l.roles v (waking_to k)) t u _ _
-          (get-set_other l.roles v t (waking_to k) (λ e. waking_apart k t stay o (v ∷ us) (same_Some _ _ (sym may.0 ∙ ap (λ i. slice_get l.roles i) (sym e) ∙ may.1))) ∙ may.0)
-          (section_wake x o us (v ∷ us))
+      (get-set_other l.roles v t (waking_to k) (λ e. waking_apart k t stay o (v ∷ us) (same_Some _ _ (sym may.0 ∙ ap (λ i. slice_get l.roles i) (sym e) ∙ may.1))) ∙ may.0)
+      (section_wake x o us (v ∷ us))
       ∙ weighs-same (section x) l.roles v u _ (waking_to k) may.1 (waking_crosses k t stay x may.2)
   stay_all (Pass o v us) may apart u = weighs-same (section x) l.roles t u _ _ may.0 (section_wake x o us (v ∷ us))
 

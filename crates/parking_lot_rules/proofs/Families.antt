@@ -1,11 +1,11 @@
 -- A step at one lock keeps a family of locks sound.
-use Rattle.std.proofs.Common.{◌≡◌, ◌≢◌, ℕ, zero, suc, ◌+◌, ◌<◌, ◌≤◌, ◌⊎◌, ⊎_elim, Bool, true, false, cond, ◌==◌, List, [], ◌∷◌, Option, Some, None, slice_get, refl, sym, ap, ◌∙◌, subst, inl, inr, arith, eq-eqb}
+use Rattle.std.proofs.Common.{◌≡◌, ◌≢◌, ℕ, zero, suc, ◌+◌, ◌<◌, ◌≤◌, ◌⊎◌, ⊎_elim, Bool, cond, List, [], ◌∷◌, Option, Some, None, slice_get, refl, sym, ap, ◌∙◌, subst, inl, inr, arith, eq-eqb}
 use Rattle.std.proofs.lemmas.Bool.{cases_eq, ne_eqb}
 use Rattle.std.proofs.lemmas.Option.{none-some, same_Some}
-use Rattle.parking_lot_rules.specs.Roles.{Mode, Owned, Stay, Fresh, Asleep, Late, Back, Phase, Idle, Queued1, Taken1, Queued2, Taken2, Role}
+use Rattle.parking_lot_rules.specs.Roles.{Owned, Stay, Fresh, Asleep, Late, Back, Phase, Idle, Queued1, Taken1, Queued2, Taken2, Role}
 use Rattle.parking_lot_rules.specs.Classes.{Class, Inside1, Inside2, weight, total, weighs, inside}
 use Rattle.parking_lot_rules.specs.Lock.{Lock, IsSound}
-use Rattle.parking_lot_rules.specs.Steps.{Step, Allowed, after}
+use Rattle.parking_lot_rules.specs.Steps.{Step, after}
 use Rattle.parking_lot_rules.specs.Family.{Key, First, Second, key, section, Crossing, Stays, Comes, Goes, crossing, Family, put, IsFree, entered_after, FamilyStep, within, IsSoundFamily}
 use Rattle.std.proofs.lemmas.List.Sums.{sum_by-cons}
 use Rattle.parking_lot_rules.proofs.Totals.{total-at}
@@ -65,7 +65,7 @@ module _ (bucket : ℕ → ℕ) (recursive : ℕ → Bool) (j t : ℕ) (step : S
   stands i u k h other =
       let e = sound.entered i k u h in
       made.entered (bucket (key i k)) ∙ still_entered (crossing step) made.free (bucket (key i k)) u e
-          (λ x goes same. other x goes (same_Some u t (sym e ∙ (ap old.entered same ∙ (had_entered x goes).1))))
+      (λ x goes same. other x goes (same_Some u t (sym e ∙ (ap old.entered same ∙ (had_entered x goes).1))))
 
   -- the thread is in no section of another lock
   outside : (i : ℕ) (k : Key) → i ≢ j → within old i k t ≡ 0
@@ -83,6 +83,7 @@ module _ (bucket : ℕ → ℕ) (recursive : ℕ → Bool) (j t : ℕ) (step : S
     where
       came : (k : Key) → crossing step ≡ Comes k → new.entered (bucket (key j k)) ≡ Some t
       came k is = made.entered (bucket (key j k)) ∙ (ap (λ c. entered_after bucket old.entered j t c (bucket (key j k))) is ∙ put-same old.entered (bucket (key j k)) (Some t))
+
       go : (k : Key) (c : Crossing) → crossing step ≡ c → crossed c k (within old j k t) ≡ 1 → new.entered (bucket (key j k)) ≡ Some t
       go k Stays is h = stands j t k h (λ x goes. absurd (let e : Stays ≡ Goes x = sym is ∙ goes in cc))
       go First (Comes First) is h = came First is
@@ -109,10 +110,10 @@ module _ (bucket : ℕ → ℕ) (recursive : ℕ → Bool) (j t : ℕ) (step : S
   still_within : (i u : ℕ) (k : Key) → within old i k u ≡ 1 → ((x : Key) → crossing step ≡ Goes x → bucket (key i k) ≢ bucket (key j x)) → within new i k u ≡ 1
   still_within i u k h apart = ⊎_elim
       (λ e. ⊎_elim
-        (λ own. ap (λ x. within new x k u) e ∙ (ap (λ v. within new j k v) own ∙ mine (crossing step) refl k
-          (ap (λ x. within old x k t) (sym e) ∙ (ap (λ v. within old i k v) (sym own) ∙ h)) (λ x goes same. apart x goes (ap (λ y. bucket (key y k)) e ∙ same))))
-        (λ ne. ap (λ x. within new x k u) e ∙ (now_within k u ∙ (step_others (recursive j) t (old.locks j) k step made.allowed u ne ∙ (ap (λ x. within old x k u) (sym e) ∙ h))))
-        (cases_eq u t))
+      (λ own. ap (λ x. within new x k u) e ∙ (ap (λ v. within new j k v) own ∙ mine (crossing step) refl k
+      (ap (λ x. within old x k t) (sym e) ∙ (ap (λ v. within old i k v) (sym own) ∙ h)) (λ x goes same. apart x goes (ap (λ y. bucket (key y k)) e ∙ same))))
+      (λ ne. ap (λ x. within new x k u) e ∙ (now_within k u ∙ (step_others (recursive j) t (old.locks j) k step made.allowed u ne ∙ (ap (λ x. within old x k u) (sym e) ∙ h))))
+      (cases_eq u t))
       (λ ne. ap (λ (l : Lock). weighs (section k) (slice_get l.roles u)) (made.elsewhere i ne) ∙ h)
       (cases_eq i j)
     where
@@ -126,6 +127,7 @@ module _ (bucket : ℕ → ℕ) (recursive : ℕ → Bool) (j t : ℕ) (step : S
       kept (Goes First) Second h apart = h
       kept (Goes Second) First h apart = h
       kept (Goes Second) Second h apart = absurd (apart Second refl refl)
+
       mine : (c : Crossing) → crossing step ≡ c → (k : Key) → within old j k t ≡ 1 → ((x : Key) → crossing step ≡ Goes x → bucket (key j k) ≢ bucket (key j x)) → within new j k t ≡ 1
       mine c is k h apart =
           now_within k t ∙ (step_crosses (recursive j) t (old.locks j) k step made.allowed ∙ kept (crossing step) k h apart)
@@ -136,11 +138,11 @@ module _ (bucket : ℕ → ℕ) (recursive : ℕ → Bool) (j t : ℕ) (step : S
       (was.0, was.1, was.2, still_within was.0 u was.1 was.3 (λ x goes. absurd (let no_way : Stays ≡ Goes x = sym is ∙ goes in cc)))
   inside_after b u (Comes x) is e = ⊎_elim
       (λ same.
-        let mine : t ≡ u = same_Some t u (sym (put-same old.entered (bucket (key j x)) (Some t)) ∙ (ap (put old.entered (bucket (key j x)) (Some t)) (sym same) ∙ e)) in
-        (j, x, sym same, ap (λ v. within new j x v) (sym mine) ∙ (now_within x t ∙ (step_crosses (recursive j) t (old.locks j) x step made.allowed ∙ (ap (λ c. crossed c x (within old j x t)) is ∙ came x)))))
+      let mine : t ≡ u = same_Some t u (sym (put-same old.entered (bucket (key j x)) (Some t)) ∙ (ap (put old.entered (bucket (key j x)) (Some t)) (sym same) ∙ e)) in
+      (j, x, sym same, ap (λ v. within new j x v) (sym mine) ∙ (now_within x t ∙ (step_crosses (recursive j) t (old.locks j) x step made.allowed ∙ (ap (λ c. crossed c x (within old j x t)) is ∙ came x)))))
       (λ ne.
-        let was = sound.is_inside b u (sym (put-other old.entered (bucket (key j x)) (Some t) b ne) ∙ e) in
-        (was.0, was.1, was.2, still_within was.0 u was.1 was.3 (λ y goes. absurd (let no_way : Comes x ≡ Goes y = sym is ∙ goes in cc))))
+      let was = sound.is_inside b u (sym (put-other old.entered (bucket (key j x)) (Some t) b ne) ∙ e) in
+      (was.0, was.1, was.2, still_within was.0 u was.1 was.3 (λ y goes. absurd (let no_way : Comes x ≡ Goes y = sym is ∙ goes in cc))))
       (cases_eq b (bucket (key j x)))
     where
       came : (x : Key) → crossed (Comes x) x (within old j x t) ≡ 1
@@ -149,9 +151,13 @@ module _ (bucket : ℕ → ℕ) (recursive : ℕ → Bool) (j t : ℕ) (step : S
   inside_after b u (Goes x) is e = ⊎_elim
       (λ same. absurd (none-some u (sym (put-same old.entered (bucket (key j x)) None) ∙ (ap (put old.entered (bucket (key j x)) None) (sym same) ∙ e))))
       (λ ne.
-        let was = sound.is_inside b u (sym (put-other old.entered (bucket (key j x)) None b ne) ∙ e) in
-        (was.0, was.1, was.2, still_within was.0 u was.1 was.3 (λ y goes same.
-          ne (sym was.2 ∙ (same ∙ ap (λ z. bucket (key j z)) (one_goes y (sym goes ∙ is)))))))
+      let was = sound.is_inside b u (sym (put-other old.entered (bucket (key j x)) None b ne) ∙ e) in (
+        was.0,
+        was.1,
+        was.2,
+        still_within was.0 u was.1 was.3 (λ y goes same.
+            ne (sym was.2 ∙ (same ∙ ap (λ z. bucket (key j z)) (one_goes y (sym goes ∙ is))))),
+      ))
       (cases_eq b (bucket (key j x)))
     where
       one_goes : (y : Key) → Goes y ≡ Goes x → y ≡ x
@@ -195,6 +201,7 @@ nobody_inside bucket f sound i k free = total-none (section k) (f.locks i).roles
     at_most : (k : Key) → total (section k) (f.locks i).roles ≤ 1
     at_most First = (sound.sound i).fits.inside1
     at_most Second = (sound.sound i).fits.inside2
+
     none_or : (n : ℕ) → (n ≡ 0) ⊎ (0 < n)
     none_or zero = inl refl
     none_or (suc n) = inr (omega arith)

@@ -1,9 +1,8 @@
 -- Threads that a total speaks of.
-use Rattle.std.proofs.Common.{◌≡◌, ◌≢◌, ℕ, zero, suc, ◌+◌, ◌<◌, ◌≤◌, ◌⊎◌, ⊎_elim, Bool, true, false, IsTrue, List, [], ◌∷◌, length, Option, Some, None, slice_get, slice_set, refl, sym, ap, ◌∙◌, subst, inl, inr, arith}
-use Rattle.std.proofs.lemmas.Option.{none-some, same_Some}
+use Rattle.std.proofs.Common.{◌≡◌, ◌≢◌, ℕ, zero, suc, ◌+◌, ◌<◌, ◌≤◌, ◌⊎◌, ⊎_elim, true, false, IsTrue, List, [], ◌∷◌, Option, Some, None, slice_get, slice_set, refl, ap, ◌∙◌, inl, inr, arith}
 use Rattle.std.proofs.lemmas.List.Sums.{sum_by-cons}
-use Rattle.parking_lot_rules.specs.Roles.{Mode, Shared, Exclusive, Upgradable, Owned, Shares, Excludes, Upgrades, Stay, Fresh, Asleep, Late, Back, Mark, Open, Normal, Handed, Cause, FromExclusive, FromUpgradable, Owed, Phase, Idle, Seeks, Enters1, Checked1, Queued1, Taken1, Masks1, Leaves1, Drains, Enters2, Checked2, Queued2, Taken2, Leaves2, Yields, Owes1, Scans1, Stored1, Owes2, Scans2, Masked2, Wakes, Role, away}
-use Rattle.parking_lot_rules.specs.Classes.{Class, Owing1, Owing2, Called, OpenWriters, OpenUpgraders, weight, total, weighs, called, is_exclusive, is_upgradable}
+use Rattle.parking_lot_rules.specs.Roles.{Owned, Fresh, Asleep, Late, Back, Open, Normal, Handed, Phase, Idle, Seeks, Enters1, Queued1, Taken1, Queued2, Taken2, Owes1, Scans1, Stored1, Owes2, Scans2, Masked2, Wakes, Role, away}
+use Rattle.parking_lot_rules.specs.Classes.{Class, Owing1, Owing2, Called, OpenWriters, OpenUpgraders, weight, total, weighs}
 use Rattle.parking_lot_rules.specs.Lock.{Note, On1, On2, occurs, note_of, to_wake}
 use Rattle.parking_lot_rules.specs.Laws.{owes, is_at_work}
 use Rattle.parking_lot_rules.proofs.Indexed.{get-set_other}
@@ -28,6 +27,7 @@ two_of c rs t u ne = go (slice_get rs t) refl (slice_get rs u) refl
     one : (rs : List Role) (u : ℕ) (o : Option Role) → slice_get rs u ≡ o → weighs c o ≤ total c rs
     one rs u None e = omega arith
     one rs u (Some b) e = omega (arith, total-at rs u b e c)
+
     go : (o : Option Role) → slice_get rs t ≡ o → (p : Option Role) → slice_get rs u ≡ p → weighs c (slice_get rs t) + weighs c (slice_get rs u) ≤ total c rs
     go None e p f = omega (arith, ap (weighs c) e, one rs u (slice_get rs u) refl)
     go (Some a) e p f =

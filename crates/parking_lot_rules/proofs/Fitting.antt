@@ -1,10 +1,10 @@
 -- Steps that change a list or two roles keep the clauses that count.
-use Rattle.std.proofs.Common.{◌≡◌, ℕ, zero, suc, ◌+◌, ◌-◌, ◌<◌, ◌≤◌, ◌⊎◌, Bool, true, false, List, [], ◌∷◌, ◌++◌, refl, sym, subst, inl, inr, arith}
-use Rattle.parking_lot_rules.specs.Roles.{Mode, Shared, Exclusive, Upgradable, Owned, Shares, Excludes, Upgrades, Stay, Fresh, Asleep, Late, Back, Mark, Open, Normal, Handed, Cause, FromExclusive, FromUpgradable, Owed, Phase, Idle, Seeks, Enters1, Checked1, Queued1, Taken1, Masks1, Leaves1, Drains, Enters2, Checked2, Queued2, Taken2, Leaves2, Yields, Owes1, Scans1, Stored1, Owes2, Scans2, Masked2, Wakes, Role}
-use Rattle.parking_lot_rules.specs.Classes.{Class, Readers, Upgraders, Pending, Writers, Inside1, Inside2, Waiting1, Waiting2, Joining1, Joining2, Masking, Owing1, Owing2, Called, OpenReaders, OpenUpgraders, OpenWriters, TakenReaders, TakenUpgraders, TakenWriters, weight, owned, bit, inside, called, if_exclusive, if_upgradable, if_owed}
+use Rattle.std.proofs.Common.{◌≡◌, ℕ, zero, suc, ◌+◌, ◌<◌, ◌≤◌, ◌⊎◌, Bool, true, false, List, [], refl, inl, inr, arith}
+use Rattle.parking_lot_rules.specs.Roles.{Mode, Shared, Exclusive, Upgradable, Owned, Shares, Excludes, Upgrades, Stay, Open, Cause, FromExclusive, FromUpgradable, Owed, Queued1, Taken1, Queued2, Taken2, Scans1, Stored1, Scans2, Wakes}
+use Rattle.parking_lot_rules.specs.Classes.{Class, Upgraders, Waiting1, weight, owned, bit, inside, called, if_exclusive, if_upgradable, if_owed}
 use Rattle.parking_lot_rules.specs.Clauses.{Word, Fits, Counts}
 use Rattle.parking_lot_rules.proofs.Totals.{bit_le}
-use Rattle.parking_lot_rules.specs.Steps.{Listing, Join1, Join2, Quit1, QuitLast1, Quit2, listing_from, listing_to, Look, Stop, Skip, Take, look, has_upgradable, Scan, scanning, holds_upgradable, taking, Ending, Free, FreeUpgradable, Hand, HandUpgradable, Keep, ends_for, ends_saying, stored, are_left, kept, settled, Waking, Retry, Own, OwnPending, OwnUpgradable, Recheck, waking_from, waking_to}
+use Rattle.parking_lot_rules.specs.Steps.{Listing, Join1, Join2, Quit1, QuitLast1, Quit2, listing_from, listing_to, Take, look, has_upgradable, Scan, scanning, holds_upgradable, taking, Ending, Free, FreeUpgradable, Hand, HandUpgradable, Keep, ends_for, ends_saying, stored, settled, Waking, Retry, Own, OwnPending, OwnUpgradable, Recheck, waking_from, waking_to}
 
 -- what the length of the first list has to be, as a number
 abbrev pub MayCount : Listing → ℕ → Type 0
@@ -68,7 +68,7 @@ module _ (w : Word) (rest : Class → ℕ) (counts : Counts rest) where
   take_parts : (o : Owned) (c : Cause) (r : ℕ) (u x : Bool) (us : List ℕ) (v t : ℕ) (m : Mode) (stay : Stay) → look (has_upgradable o c u) x m ≡ Take
       → Fits w (λ k. rest k + (weight k (record { owns = o; does = Scans1 c r u x us }) + weight k (record { owns = Shares 0; does = Queued1 m stay })))
       → Fits w (λ k. rest k + (weight k (scanning (taking (record { owns = o; cause = c; shared = r; upgradable = u; writer = x; taken = us }) v m))
-          + weight k (record { owns = Shares 0; does = Taken1 m t Open stay })))
+      + weight k (record { owns = Shares 0; does = Taken1 m t Open stay })))
   unfolding weight
   take_parts o c r u x us v t Shared stay looks fits = omega (arith, one_cause c)
   take_parts o c r u x us v t Exclusive stay looks fits =

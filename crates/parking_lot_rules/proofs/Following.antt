@@ -1,11 +1,10 @@
 -- What follows for a sound lock.
-use Rattle.std.proofs.Common.{◌≡◌, ◌≢◌, ℕ, zero, suc, ◌+◌, ◌*◌, ◌<◌, ◌≤◌, ◌⊎◌, ⊎_elim, Bool, true, false, IsTrue, List, [], ◌∷◌, length, Option, Some, None, slice_get, slice_set, refl, sym, ap, ◌∙◌, subst, inl, inr, arith}
-use Rattle.std.proofs.lemmas.Option.{none-some, same_Some}
-use Rattle.parking_lot_rules.specs.Roles.{Mode, Shared, Exclusive, Upgradable, Owned, Shares, Excludes, Upgrades, Stay, Fresh, Asleep, Late, Back, Mark, Open, Normal, Handed, Cause, FromExclusive, FromUpgradable, Owed, Phase, Idle, Seeks, Enters1, Checked1, Queued1, Taken1, Masks1, Leaves1, Drains, Enters2, Checked2, Queued2, Taken2, Leaves2, Yields, Owes1, Scans1, Stored1, Owes2, Scans2, Masked2, Wakes, Role, away}
+use Rattle.std.proofs.Common.{◌≡◌, ◌≢◌, ℕ, zero, suc, ◌+◌, ◌<◌, ◌≤◌, ◌⊎◌, ⊎_elim, Bool, IsTrue, List, [], ◌∷◌, length, Option, Some, None, slice_get, refl, sym, ap, ◌∙◌, inl, inr, arith}
+use Rattle.std.proofs.lemmas.Option.{same_Some}
+use Rattle.parking_lot_rules.specs.Roles.{Mode, Owned, Shares, Excludes, Upgrades, Asleep, Open, Normal, Handed, Phase, Idle, Seeks, Queued1, Taken1, Queued2, Taken2, Role, away}
 use Rattle.parking_lot_rules.specs.Classes.{Class, Readers, Upgraders, Pending, Writers, Waiting1, Waiting2, Owing1, Owing2, Called, OpenWriters, OpenUpgraders, Masking, Strange, weight, total, weighs}
-use Rattle.parking_lot_rules.specs.Clauses.{Word, number, Fits}
-use Rattle.parking_lot_rules.specs.Lock.{Lock, Lists, Note, On1, On2, occurs, note_of, to_wake, Sound, IsSound}
-use Rattle.parking_lot_rules.specs.Laws.{held, holds, WordTells, OwnersExclude, NothingIsLeft, is_asleep, IsWaker, SleepersAreKnown, owes, SomebodyOwes, DebtsAreKept, is_at_work, IsOwner, SomebodyIsUp, SomebodyCanMove, RefusalsHaveACause}
+use Rattle.parking_lot_rules.specs.Lock.{Lock, Note, On1, On2, occurs, note_of, IsSound}
+use Rattle.parking_lot_rules.specs.Laws.{WordTells, OwnersExclude, NothingIsLeft, is_asleep, IsWaker, SleepersAreKnown, SomebodyOwes, DebtsAreKept, is_at_work, IsOwner, SomebodyIsUp, SomebodyCanMove, RefusalsHaveACause}
 use Rattle.parking_lot_rules.proofs.Totals.{total-at, away_weighs}
 use Rattle.parking_lot_rules.proofs.Families.{total-none}
 use Rattle.parking_lot_rules.proofs.Finding.{somebody, two_of, called_case, open_writer, open_upgrader, waker_owes, none_or, owing1_owes, owing2_owes, owes_works}
@@ -83,8 +82,10 @@ module _ (l : Lock) (sound : IsSound l) where
           go : (u : ℕ) (o : Option Role) → slice_get l.roles u ≡ o → weighs c (slice_get l.roles u) ≡ 0
           go u None e = ap (weighs c) e
           go u (Some r) e = ap (weighs c) e ∙ (ap (weight c) (gone u r e) ∙ away_weighs c)
+
       none_masking : total Masking l.roles ≡ 0
       none_masking = none Masking
+
       empty : (q : List ℕ) → length q ≡ 0 → q ≡ []
       empty [] e = refl
       empty (x ∷ q) e = absurd (omega (arith, e))
@@ -122,13 +123,13 @@ module _ (l : Lock) (sound : IsSound l) where
   open_owes : 0 < total OpenWriters l.roles + total OpenUpgraders l.roles → SomebodyOwes l
   open_owes some = ⊎_elim
       (λ none.
-        let x = somebody OpenUpgraders l.roles (omega (arith, some, none)) in
-        let h = open_upgrader x.1.owns x.1.does x.3 in
-        waker_is_up h.0 x.0 (waker x.0 h.0 x.1 h.1 x.2 h.2))
+      let x = somebody OpenUpgraders l.roles (omega (arith, some, none)) in
+      let h = open_upgrader x.1.owns x.1.does x.3 in
+      waker_is_up h.0 x.0 (waker x.0 h.0 x.1 h.1 x.2 h.2))
       (λ more.
-        let x = somebody OpenWriters l.roles more in
-        let h = open_writer x.1.owns x.1.does x.3 in
-        waker_is_up h.0 x.0 (waker x.0 h.0 x.1 h.1 x.2 h.2))
+      let x = somebody OpenWriters l.roles more in
+      let h = open_writer x.1.owns x.1.does x.3 in
+      waker_is_up h.0 x.0 (waker x.0 h.0 x.1 h.1 x.2 h.2))
       (none_or (total OpenWriters l.roles))
 
   owing1_up : 0 < total Owing1 l.roles → SomebodyOwes l
@@ -165,9 +166,9 @@ module _ (l : Lock) (sound : IsSound l) where
   owners_up : 0 < total Readers l.roles + total Upgraders l.roles + total Writers l.roles → SomebodyIsUp l
   owners_up some = ⊎_elim
       (λ none. ⊎_elim
-        (λ neither. let x = somebody Writers l.roles (omega (arith, some, none, neither)) in owner_up x.0 x.1 x.2 (omega (arith, x.3)))
-        (λ h. let x = somebody Upgraders l.roles h in owner_up x.0 x.1 x.2 (omega (arith, x.3)))
-        (none_or (total Upgraders l.roles)))
+      (λ neither. let x = somebody Writers l.roles (omega (arith, some, none, neither)) in owner_up x.0 x.1 x.2 (omega (arith, x.3)))
+      (λ h. let x = somebody Upgraders l.roles h in owner_up x.0 x.1 x.2 (omega (arith, x.3)))
+      (none_or (total Upgraders l.roles)))
       (λ h. let x = somebody Readers l.roles h in owner_up x.0 x.1 x.2 (omega (arith, x.3)))
       (none_or (total Readers l.roles))
 
@@ -207,8 +208,7 @@ module _ (l : Lock) (sound : IsSound l) where
   another : (c : Class) (t : ℕ) (mode : Mode) (woken : Bool) → slice_get l.roles t ≡ Some (record { owns = Shares 0; does = Seeks mode woken }) → weight c (record { owns = Shares 0; does = Seeks mode woken }) ≡ 0
       → 0 < total c l.roles → (u : ℕ) × (r : Role) × (u ≢ t) × (slice_get l.roles u ≡ Some r) × (r ≢ away)
   another c t mode woken at nothing some =
-      let x = somebody c l.roles some in
-      (
+      let x = somebody c l.roles some in (
         x.0,
         x.1,
         (λ e. omega (arith, x.3, nothing, ap (weight c) (same_Some x.1 _ (sym x.2 ∙ (ap (λ i. slice_get l.roles i) e ∙ at))))),

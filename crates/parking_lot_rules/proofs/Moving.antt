@@ -1,15 +1,14 @@
 -- Somebody can move, over many locks.
-use Rattle.std.proofs.Common.{◌≡◌, ◌≢◌, ℕ, zero, suc, ◌+◌, ◌<◌, ◌≤◌, ◌-◌, ◌⊎◌, ⊎_elim, Bool, true, false, IsTrue, ◌==◌, List, [], ◌∷◌, map, Option, Some, None, option_map, slice_get, refl, sym, ap, ◌∙◌, subst, inl, inr, arith, sum_by}
+use Rattle.std.proofs.Common.{◌≡◌, ◌≢◌, ℕ, zero, suc, ◌+◌, ◌<◌, ◌≤◌, ◌⊎◌, ⊎_elim, false, IsTrue, ◌==◌, List, [], ◌∷◌, map, Option, Some, None, option_map, slice_get, refl, sym, ap, ◌∙◌, subst, inl, inr, arith, sum_by}
 use Rattle.std.proofs.lemmas.Bool.{cases_eq}
 use Rattle.std.proofs.lemmas.Option.{none-some, same_Some, slice_get-map}
 use Rattle.std.proofs.lemmas.List.Sums.{sum_by-cons}
-use Rattle.parking_lot_rules.specs.Roles.{Mode, Shared, Exclusive, Upgradable, Owned, Shares, Excludes, Upgrades, Stay, Fresh, Asleep, Late, Back, Mark, Open, Normal, Handed, Cause, FromExclusive, FromUpgradable, Owed, Phase, Idle, Seeks, Enters1, Checked1, Queued1, Taken1, Masks1, Leaves1, Drains, Enters2, Checked2, Queued2, Taken2, Leaves2, Yields, Owes1, Scans1, Stored1, Owes2, Scans2, Masked2, Wakes, Role}
-use Rattle.parking_lot_rules.specs.Classes.{Class, Inside1, Inside2, weight, weighs}
-use Rattle.parking_lot_rules.specs.Lock.{Lock, IsSound}
-use Rattle.parking_lot_rules.specs.Family.{Key, First, Second, key, section, within, Family, IsSoundFamily}
+use Rattle.parking_lot_rules.specs.Roles.{Owned, Shares, Fresh, Asleep, Back, Phase, Idle, Enters1, Checked1, Queued1, Taken1, Masks1, Leaves1, Enters2, Checked2, Queued2, Taken2, Leaves2, Scans1, Stored1, Scans2, Masked2, Role}
+use Rattle.parking_lot_rules.specs.Classes.{Inside1, Inside2, weight, weighs}
+use Rattle.parking_lot_rules.specs.Family.{Key, First, Second, key, section, within, IsSoundFamily}
 use Rattle.parking_lot_rules.specs.World.{Place, World, seen, role_at, lock_at, family}
 use Rattle.parking_lot_rules.specs.Laws.{is_asleep, is_at_work, IsOwner}
-use Rattle.parking_lot_rules.specs.Progress.{is_before, CanMove, SomebodyMoves, SleepersAreServed, SectionsAreEntered, LocksRise, NoDeadlock}
+use Rattle.parking_lot_rules.specs.Progress.{is_before, SomebodyMoves, SleepersAreServed, SectionsAreEntered, LocksRise, NoDeadlock}
 use Rattle.parking_lot_rules.proofs.Following.{somebody_can_move}
 use Rattle.parking_lot_rules.proofs.Families.{nobody_inside}
 use Rattle.parking_lot_rules.proofs.Worlds.{seen-here, seen-elsewhere}
@@ -88,11 +87,15 @@ module _ (bucket : ℕ → ℕ) (w : World) (sound : IsSoundFamily bucket (famil
       let q = place_of x.0 u r.0 r.1 in
       let works = inside_works x.1 r.0 r.2 in
       let busy : (role_at x.0 q.0).does ≢ Idle = λ idle. idle_rests r.0.does (ap (λ (y : Role). y.does) (sym q.2) ∙ idle) works.0 in
-      let same : r.0.does ≡ q.0.does = ap (λ (y : Role). y.does) (sym q.2) ∙ busy_same x.0 q.0 busy in
-      (u, q.0, q.1, record {
-        work = subst (λ p. IsTrue (is_at_work p)) same works.0;
-        free = λ k before. absurd (let h : is_before q.0.does k ≡ false = ap (λ p. is_before p k) (sym same) ∙ works.1 k in cc);
-      })
+      let same : r.0.does ≡ q.0.does = ap (λ (y : Role). y.does) (sym q.2) ∙ busy_same x.0 q.0 busy in (
+        u,
+        q.0,
+        q.1,
+        record {
+          work = subst (λ p. IsTrue (is_at_work p)) same works.0;
+          free = λ k before. absurd (let h : is_before q.0.does k ≡ false = ap (λ p. is_before p k) (sym same) ∙ works.1 k in cc);
+        },
+      )
     where
       role_there : (i : ℕ) (k : Key) (u : ℕ) → within (family w) i k u ≡ 1 → (r : Role) × (slice_get (map (role_at i) w.places) u ≡ Some r) × (weight (section k) r ≡ 1)
       role_there i k u h = go (slice_get (map (role_at i) w.places) u) refl
@@ -121,8 +124,8 @@ module _ (bucket : ℕ → ℕ) (w : World) (sound : IsSoundFamily bucket (famil
       let q = place_of p.at x.0 x.1 x.2 in
       ⊎_elim
       (λ work.
-        let busy : (role_at p.at q.0).does ≢ Idle = λ idle. idle_rests x.1.does (ap (λ (y : Role). y.does) (sym q.2) ∙ idle) work in
-        inl (at_work_moves x.0 q.0 q.1 (subst (λ y. IsTrue (is_at_work y)) (ap (λ (y : Role). y.does) (sym q.2) ∙ busy_same p.at q.0 busy) work)))
+      let busy : (role_at p.at q.0).does ≢ Idle = λ idle. idle_rests x.1.does (ap (λ (y : Role). y.does) (sym q.2) ∙ idle) work in
+      inl (at_work_moves x.0 q.0 q.1 (subst (λ y. IsTrue (is_at_work y)) (ap (λ (y : Role). y.does) (sym q.2) ∙ busy_same p.at q.0 busy) work)))
       (λ owner. inr (x.0, q.0, q.1, subst IsOwner (sym q.2) owner))
       x.3
 
@@ -139,12 +142,12 @@ module _ (bucket : ℕ → ℕ) (w : World) (sound : IsSoundFamily bucket (famil
   climb rise (suc fuel) u p at asleep near = ⊎_elim
       (λ moves. inl moves)
       (λ x. ⊎_elim
-        (λ idle. inr (x.0, p.at, x.1, x.2, idle, x.3.1))
-        (λ busy. ⊎_elim
-          (λ sleeps. climb rise fuel x.0 x.1 x.2 sleeps (omega (arith, near, rise x.0 p.at x.1 x.2 sleeps x.3)))
-          (λ works. inl (at_work_moves x.0 x.1 x.2 works))
-          busy)
-        (idle_or x.1.does))
+      (λ idle. inr (x.0, p.at, x.1, x.2, idle, x.3.1))
+      (λ busy. ⊎_elim
+      (λ sleeps. climb rise fuel x.0 x.1 x.2 sleeps (omega (arith, near, rise x.0 p.at x.1 x.2 sleeps x.3)))
+      (λ works. inl (at_work_moves x.0 x.1 x.2 works))
+      busy)
+      (idle_or x.1.does))
       (sleepers_are_served u p at asleep)
 
   pub no_deadlock : NoDeadlock bucket w

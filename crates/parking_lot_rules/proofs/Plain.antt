@@ -1,8 +1,8 @@
 -- Steps that change nothing but the word and one role keep the clauses.
-use Rattle.std.proofs.Common.{◌≡◌, ℕ, ◌+◌, ◌-◌, ◌<◌, ◌≤◌, Bool, true, false, arith}
-use Rattle.parking_lot_rules.specs.Classes.{Class, weight, bit}
+use Rattle.std.proofs.Common.{ℕ, ◌+◌, Bool, true, false, arith}
+use Rattle.parking_lot_rules.specs.Classes.{Class, weight}
 use Rattle.parking_lot_rules.specs.Clauses.{Word, Fits, Counts}
-use Rattle.parking_lot_rules.specs.Roles.{Mode, Shared, Exclusive, Upgradable, Owned, Shares, Excludes, Upgrades, Stay, Fresh, Asleep, Late, Back, Mark, Open, Normal, Handed, Cause, FromExclusive, FromUpgradable, Owed, Phase, Idle, Seeks, Enters1, Checked1, Queued1, Taken1, Masks1, Leaves1, Drains, Enters2, Checked2, Queued2, Taken2, Leaves2, Yields, Owes1, Scans1, Stored1, Owes2, Scans2, Masked2, Wakes, Role}
+use Rattle.parking_lot_rules.specs.Roles.{Shared, Exclusive, Upgradable}
 use Rattle.parking_lot_rules.specs.Plain.{Plain, Begin, Refuse, Share, Pend, Drain, Upgradably, Exclude, Flag1, Enter1, Check1, Retreat1, Rest1, Expire1, ExpireTaken1, Reenter1, ReenterTaken1, Mask1, Leave1, Resume1, ReceiveShared, ReceivePending, ReceiveUpgradable, Flag2, Enter2, Check2, Retreat2, Rest2, Expire2, ExpireTaken2, Reenter2, ReenterTaken2, Resume2, Leave2, Yield, YieldBack, Unshare, UnshareLast, Look2, Mask2, Depart2, Unlock, UnlockUpgradable, LookExclusive, LookUpgradable, Downgrade, DowngradeToUpgradable, DowngradeUpgradable, Upgrade, UpgradeAtOnce, LookOwed, Depart1, Finish, from, to, May, written}
 
 pub plain_fits : (recursive : Bool) (k : Plain) (w : Word) (rest : Class → ℕ) → Counts rest → Fits w (λ x. rest x + weight x (from k)) → May recursive k w (λ x. rest x + weight x (from k)) → Fits (written k w) (λ x. rest x + weight x (to k))

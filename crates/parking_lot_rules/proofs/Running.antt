@@ -1,17 +1,16 @@
 -- Every world that a run leads to is sound.
-use Rattle.std.proofs.Common.{◌≡◌, ◌≢◌, ℕ, zero, suc, ◌+◌, ◌<◌, ◌≤◌, Bool, ◌==◌, List, [], ◌∷◌, map, replicate, Option, Some, None, slice_get, refl, sym, ap, ◌∙◌, subst, arith}
+use Rattle.std.proofs.Common.{◌≡◌, ℕ, zero, suc, Bool, ◌==◌, List, [], ◌∷◌, map, replicate, Option, Some, None, slice_get, refl, sym, ap, ◌∙◌, subst, arith}
 use Rattle.std.proofs.lemmas.Option.{none-some, same_Some}
-use Rattle.parking_lot_rules.specs.Roles.{Owned, Shares, Phase, Idle, Role, away}
-use Rattle.parking_lot_rules.specs.Classes.{Class, Waiting1, Waiting2, Inside1, Inside2, weight, total, weighs}
-use Rattle.parking_lot_rules.specs.Clauses.{Word, Fits}
-use Rattle.parking_lot_rules.specs.Lock.{Lock, Lists, Note, note_of, AreNoted, Sound, IsSound}
-use Rattle.parking_lot_rules.specs.Steps.{Step, after}
-use Rattle.parking_lot_rules.specs.Family.{Key, First, Second, section, Family, IsSoundFamily}
-use Rattle.parking_lot_rules.specs.World.{Place, World, seen, role_at, lock_at, family, MayStep, world_after}
-use Rattle.parking_lot_rules.specs.Runs.{Move, moved, Runs, zero_word, idle, at_rest, IsReached, Always, Throughout}
+use Rattle.parking_lot_rules.specs.Roles.{Shares, Idle, Role, away}
+use Rattle.parking_lot_rules.specs.Classes.{Class, Waiting1, Waiting2, weight, total, weighs}
+use Rattle.parking_lot_rules.specs.Clauses.{Fits}
+use Rattle.parking_lot_rules.specs.Lock.{Lock, note_of, IsSound}
+use Rattle.parking_lot_rules.specs.Family.{section, IsSoundFamily}
+use Rattle.parking_lot_rules.specs.World.{World, role_at, lock_at, family}
+use Rattle.parking_lot_rules.specs.Runs.{Move, moved, Runs, zero_word, idle, at_rest, IsReached, Always}
 use Rattle.parking_lot_rules.proofs.Totals.{away_weighs, same_counts}
 use Rattle.parking_lot_rules.proofs.Families.{total-none}
-use Rattle.parking_lot_rules.proofs.Worlds.{world_sound, world_step, same_role, seen-idle}
+use Rattle.parking_lot_rules.proofs.Worlds.{world_sound, same_role, seen-idle}
 
 all_away : (i n u : ℕ) (r : Role) → slice_get (map (role_at i) (replicate n idle)) u ≡ Some r → r ≡ away
 all_away i zero u r at = absurd (none-some r at)

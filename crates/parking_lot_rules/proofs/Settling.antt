@@ -1,13 +1,13 @@
 -- Those that were taken are told what their taker stored.
-use Rattle.std.proofs.Common.{◌≡◌, ◌≢◌, ℕ, ◌+◌, ◌<◌, ◌≤◌, ◌⊎◌, ⊎_elim, Bool, true, false, List, [], ◌∷◌, map, Option, Some, None, option_map, slice_get, slice_set, sum_by, refl, sym, ap, ◌∙◌, subst, inl, inr, arith}
+use Rattle.std.proofs.Common.{◌≡◌, ℕ, ◌+◌, ◌<◌, ◌≤◌, ◌⊎◌, ⊎_elim, Bool, true, List, [], ◌∷◌, map, Option, Some, None, option_map, slice_get, slice_set, refl, sym, ap, ◌∙◌, inl, inr, arith}
 use Rattle.std.proofs.lemmas.Bool.{cases_eq}
 use Rattle.std.proofs.lemmas.Option.{none-some, same_Some, slice_get-map}
 use Rattle.std.proofs.lemmas.List.Sums.{sum_by-cons}
-use Rattle.parking_lot_rules.specs.Roles.{Mode, Shared, Exclusive, Upgradable, Owned, Shares, Excludes, Upgrades, Stay, Fresh, Asleep, Late, Back, Mark, Open, Normal, Handed, Cause, FromExclusive, FromUpgradable, Owed, Phase, Idle, Seeks, Enters1, Checked1, Queued1, Taken1, Masks1, Leaves1, Drains, Enters2, Checked2, Queued2, Taken2, Leaves2, Yields, Owes1, Scans1, Stored1, Owes2, Scans2, Masked2, Wakes, Role, away}
-use Rattle.parking_lot_rules.specs.Classes.{Class, Readers, Upgraders, Pending, Writers, Inside1, Inside2, Waiting1, Waiting2, Joining1, Joining2, Masking, Owing1, Owing2, Called, OpenReaders, OpenUpgraders, OpenWriters, TakenReaders, TakenUpgraders, TakenWriters, weight, total, weighs, called, is_exclusive, is_upgradable}
-use Rattle.parking_lot_rules.specs.Lock.{Note, On1, On2, occurs, note_of, to_wake, Lists, AreNoted}
+use Rattle.parking_lot_rules.specs.Roles.{Mode, Shared, Exclusive, Upgradable, Owned, Stay, Asleep, Mark, Open, Normal, Handed, Cause, Phase, Taken1, Taken2, Scans1, Role, away}
+use Rattle.parking_lot_rules.specs.Classes.{Class, Readers, Inside1, Called, OpenReaders, OpenUpgraders, OpenWriters, weight, total, weighs, called, is_exclusive, is_upgradable}
+use Rattle.parking_lot_rules.specs.Lock.{Note, On1, On2, occurs, note_of, to_wake, Lists}
 use Rattle.parking_lot_rules.specs.Steps.{told, settle, settled}
-use Rattle.parking_lot_rules.proofs.Indexed.{get-set_same, get-set_other, get-set_cases}
+use Rattle.parking_lot_rules.proofs.Indexed.{get-set_other}
 use Rattle.parking_lot_rules.proofs.Totals.{total-at, same_counts}
 
 -- what a taker says in the end
@@ -104,8 +104,8 @@ pub one_inside : (c : Class) (rs : List Role) → total c rs ≤ 1 → (t u : �
 one_inside c rs few t u a b at there wa wb = ⊎_elim
     (λ e. e)
     (λ ne.
-      let still : slice_get (slice_set rs t away) u ≡ Some b = get-set_other rs t u away (λ e. ne (sym e)) ∙ there in
-      absurd (omega (arith, few, total-at rs t a at c, total-at (slice_set rs t away) u b still c, wa, wb)))
+    let still : slice_get (slice_set rs t away) u ≡ Some b = get-set_other rs t u away (λ e. ne (sym e)) ∙ there in
+    absurd (omega (arith, few, total-at rs t a at c, total-at (slice_set rs t away) u b still c, wa, wb)))
     (cases_eq u t)
 
 -- who has taken others and hasn't stored is inside a section

@@ -1,22 +1,20 @@
 -- A store, which tells all that were taken, keeps a lock sound; and so every step does.
-use Rattle.std.proofs.Common.{◌≡◌, ◌≢◌, ℕ, zero, suc, ◌+◌, ◌<◌, ◌≤◌, ◌⊎◌, ⊎_elim, Bool, true, false, List, [], ◌∷◌, ◌++◌, length, map, remove, Option, Some, None, option_map, slice_get, slice_set, refl, sym, ap, ◌∙◌, subst, inl, inr, arith}
+use Rattle.std.proofs.Common.{◌≡◌, ◌≢◌, ℕ, ◌+◌, ◌<◌, ◌⊎◌, ⊎_elim, Bool, true, false, List, [], ◌∷◌, length, map, Option, Some, None, option_map, slice_get, slice_set, refl, sym, ap, ◌∙◌, subst, inl, inr, arith}
 use Rattle.std.proofs.lemmas.List.{map-set}
-use Rattle.std.proofs.lemmas.Bool.{cases_eq}
 use Rattle.std.proofs.lemmas.Option.{none-some, same_Some, slice_get-map, slice_get_cases}
-use Rattle.parking_lot_rules.specs.Roles.{Mode, Shared, Exclusive, Upgradable, Owned, Shares, Excludes, Upgrades, Stay, Fresh, Asleep, Late, Back, Mark, Open, Normal, Handed, Cause, FromExclusive, FromUpgradable, Owed, Phase, Idle, Seeks, Enters1, Checked1, Queued1, Taken1, Masks1, Leaves1, Drains, Enters2, Checked2, Queued2, Taken2, Leaves2, Yields, Owes1, Scans1, Stored1, Owes2, Scans2, Masked2, Wakes, Role, away}
-use Rattle.parking_lot_rules.specs.Classes.{Class, Waiting1, Waiting2, Inside1, Upgraders, weight, total, weighs, bit, inside, owned}
-use Rattle.parking_lot_rules.specs.Clauses.{Word, Fits, Counts}
-use Rattle.parking_lot_rules.specs.Lock.{Note, On1, On2, occurs, note_of, to_wake, Lists, AreNoted, Sound, Lock, IsSound}
-use Rattle.parking_lot_rules.specs.Steps.{Listing, Join1, Join2, Quit1, QuitLast1, Quit2, listing_from, listing_to, MayList, first_after, second_after, Look, Stop, Skip, Take, look, has_upgradable, wants, AreSkipped, Scan, scanning, holds_upgradable, taking, MayTake, IsOver, Ending, Free, FreeUpgradable, Hand, HandUpgradable, Keep, ends_for, ends_saying, MayEnd, stored, told, settle, settled, Step, Alone, List_changes, Take1, Take2, Store, Wake, Pass, Allowed, after, Waking, Retry, Own, OwnPending, OwnUpgradable, Recheck, waking_from, waking_to}
-use Rattle.parking_lot_rules.proofs.Indexed.{get-set_same, get-set_other, get-set_cases, sum_by-set_at}
-use Rattle.parking_lot_rules.proofs.Totals.{counts_all, total-set, total-at, same_counts, away_weighs}
+use Rattle.parking_lot_rules.specs.Roles.{Mode, Owned, Stay, Mark, Open, Normal, Handed, Cause, Scans1, Stored1, Wakes, Role, away}
+use Rattle.parking_lot_rules.specs.Classes.{Class, Waiting1, Waiting2, Inside1, weight, total, bit}
+use Rattle.parking_lot_rules.specs.Clauses.{Word, Fits}
+use Rattle.parking_lot_rules.specs.Lock.{Note, On1, occurs, note_of, to_wake, Sound, Lock, IsSound}
+use Rattle.parking_lot_rules.specs.Steps.{Skip, look, has_upgradable, Scan, scanning, holds_upgradable, IsOver, Ending, Free, FreeUpgradable, Hand, HandUpgradable, Keep, ends_for, ends_saying, stored, settle, settled, Step, Alone, List_changes, Take1, Take2, Store, Wake, Pass, Allowed, after, Waking, Retry, Own, OwnPending, OwnUpgradable, Recheck, waking_from, waking_to}
+use Rattle.parking_lot_rules.proofs.Indexed.{get-set_same, get-set_other, get-set_cases}
+use Rattle.parking_lot_rules.proofs.Totals.{counts_all, total-set, total-at, same_counts}
 use Rattle.parking_lot_rules.proofs.Fitting as fitting
-use Rattle.parking_lot_rules.proofs.Waiting.{lists-same, lists-push, lists-drop, listed, occurs-push, occurs-cons, counted-same, counted-other}
+use Rattle.parking_lot_rules.proofs.Waiting.{lists-same, listed}
 use Rattle.parking_lot_rules.proofs.Noting.{WillWake}
 use Rattle.parking_lot_rules.proofs.Alone.{sound_alone}
 use Rattle.parking_lot_rules.proofs.Changing.{waking_note, sound_listing, sound_wake, sound_pass, sound_take1, sound_take2}
 use Rattle.parking_lot_rules.proofs.Settling.{IsSaid, normal, handed, total-settle, waiting-settle, one_inside, open_inside, told_wakes, told_note}
-
 
 pub ends_said : (e : Ending) → IsSaid (ends_saying e)
 ends_said Free = normal
@@ -56,8 +54,8 @@ module _ (w : Word) (rs : List Role) (first second : List ℕ) (sound : Sound w 
   over_left s (inl writer) some = omega (arith, bit_of s.writer writer)
   over_left s (inr skipped) some = ⊎_elim
       (λ x.
-        let r = listed Waiting1 first rs sound.waiting1 0 x.0 x.2 in
-        omega (arith, bit_of (holds_upgradable s) (skips_upgradable _ _ _ (skipped 0 x.0 r.0 some x.2 r.1))))
+      let r = listed Waiting1 first rs sound.waiting1 0 x.0 x.2 in
+      omega (arith, bit_of (holds_upgradable s) (skips_upgradable _ _ _ (skipped 0 x.0 r.0 some x.2 r.1))))
       (λ none. absurd (omega arith))
       (slice_get_cases first 0).1
 
@@ -77,26 +75,35 @@ module _ (w : Word) (rs : List Role) (first second : List ℕ) (sound : Sound w 
     where
       h : Mark
       h = ends_saying e
+
       said : IsSaid h
       said = ends_said e
+
       w' : Word
       w' = stored e s.shared s.upgradable s.writer (length first) w
+
       rest : Class → ℕ
       rest c = total c (slice_set rs t away)
+
       b : Role
       b = record { owns = s.owns; does = Stored1 s.taken }
+
       told_roles : List Role
       told_roles = map (settle h) rs
+
       at_told : slice_get told_roles t ≡ Some (scanning s)
       at_told = slice_get-map (settle h) rs t ∙ ap (option_map (settle h)) at
+
       counted : (c : Class) → settled h rest c + weight c b ≡ total c (slice_set told_roles t b)
       counted c = sym (total-set told_roles t (scanning s) b at_told c
           ∙ ap (λ k. k + weight c b) (sym (ap (total c) (map-set (settle h) rs t away)) ∙ total-settle h said (slice_set rs t away) c))
+
       -- whoever has taken others and not stored is t
       only : (u by : ℕ) (p : Role) → slice_get rs by ≡ Some p → 0 < occurs u (to_wake p.does (On1 Open)) → (by ≡ t) × (p ≡ scanning s)
       only u by p there some =
           let same : by ≡ t = one_inside Inside1 rs sound.fits.inside1 t by (scanning s) p at there refl (open_inside p.owns p.does u some) in
           (same, same_Some p (scanning s) (sym there ∙ ap (λ i. slice_get rs i) same ∙ at))
+
       -- who waits for another to wake it still does
       kept : (u by : ℕ) (note : Note) → WillWake rs by u note → by ≢ t → WillWake (slice_set told_roles t b) by u note
       kept u by note p ne = (
@@ -104,13 +111,13 @@ module _ (w : Word) (rs : List Role) (first second : List ℕ) (sound : Sound w 
         get-set_other told_roles t by b (λ x. ne (sym x)) ∙ slice_get-map (settle h) rs by ∙ ap (option_map (settle h)) p.1,
         subst (λ us. 0 < occurs u us) (sym (told_wakes h p.0.does note)) p.2,
       )
+
       later : (u by : ℕ) (q : Role) (note : Note) → slice_get rs u ≡ Some q → ((note_of q.does ≡ Some (by, On1 Open)) × (note ≡ On1 h))
           ⊎ ((note_of q.does ≡ Some (by, note)) × ((r : Cause) (n : ℕ) (x y : Bool) (us : List ℕ) → to_wake (Scans1 r n x y us) note ≡ [])) → WillWake (slice_set told_roles t b) by u note
       later u by q note there (inl told_now) =
           let p = sound.noted u by q (On1 Open) there told_now.0 in
           let same = only u by p.0 p.1 p.2 in
-          let some : 0 < occurs u s.taken = subst (λ (r : Role). 0 < occurs u (to_wake r.does (On1 Open))) same.1 p.2 in
-          (
+          let some : 0 < occurs u s.taken = subst (λ (r : Role). 0 < occurs u (to_wake r.does (On1 Open))) same.1 p.2 in (
             b,
             ap (λ i. slice_get (slice_set told_roles t b) i) same.0 ∙ get-set_same told_roles t (scanning s) b at_told,
             subst (λ (n : Note). 0 < occurs u (to_wake (Stored1 s.taken) n)) (sym told_now.1) (subst (λ us. 0 < occurs u us) (sym (stored_wakes h said s.taken)) some),
@@ -122,6 +129,7 @@ module _ (w : Word) (rs : List Role) (first second : List ℕ) (sound : Sound w 
           let some : 0 < occurs u (to_wake (scanning s).does note) = subst (λ (r : Role). 0 < occurs u (to_wake r.does note)) is_scan p.2 in
           let none : occurs u (to_wake (scanning s).does note) ≡ 0 = ap (λ us. occurs u us) (told_before.1 s.cause s.shared s.upgradable s.writer s.taken) in
           omega (arith, some, none))
+
       noted : (u by : ℕ) (r : Role) (note : Note) → ((u ≡ t) × (r ≡ b)) ⊎ ((u ≢ t) × (slice_get told_roles u ≡ Some r)) → note_of r.does ≡ Some (by, note) → WillWake (slice_set told_roles t b) by u note
       noted u by r note (inl x) took = absurd (none-some (by, note) (sym (ap (λ y. note_of y.does) x.1) ∙ took))
       noted u by r note (inr x) took =

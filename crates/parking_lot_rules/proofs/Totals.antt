@@ -1,9 +1,9 @@
 -- Totals over the roles: what holds of any roles at all, and how the totals change where one role does.
-use Rattle.std.proofs.Common.{◌≡◌, ℕ, zero, suc, ◌+◌, ◌≤◌, Bool, true, false, List, [], ◌∷◌, Some, slice_get, slice_set, subst, refl, arith}
+use Rattle.std.proofs.Common.{◌≡◌, ℕ, ◌+◌, ◌≤◌, Bool, true, false, List, [], ◌∷◌, Some, slice_get, slice_set, subst, refl, arith}
 use Rattle.std.proofs.lemmas.List.Sums.{sum_by-cons}
-use Rattle.parking_lot_rules.specs.Roles.{Mode, Shared, Exclusive, Upgradable, Owned, Shares, Excludes, Upgrades, Stay, Fresh, Asleep, Late, Back, Mark, Open, Normal, Handed, Cause, FromExclusive, FromUpgradable, Owed, Phase, Idle, Seeks, Enters1, Checked1, Queued1, Taken1, Masks1, Leaves1, Drains, Enters2, Checked2, Queued2, Taken2, Leaves2, Yields, Owes1, Scans1, Stored1, Owes2, Scans2, Masked2, Wakes, Role, away}
-use Rattle.parking_lot_rules.specs.Classes.{Class, Readers, Upgraders, Pending, Writers, Inside1, Inside2, Waiting1, Waiting2, Joining1, Joining2, Masking, Owing1, Owing2, Called, OpenReaders, OpenUpgraders, OpenWriters, TakenReaders, TakenUpgraders, TakenWriters, weight, total, bit, inside, if_open, if_normal, if_handed, if_owed, is_shared, is_exclusive, is_upgradable}
-use Rattle.parking_lot_rules.specs.Clauses.{Word, Fits, Counts}
+use Rattle.parking_lot_rules.specs.Roles.{Owned, Phase, Scans1, Role, away}
+use Rattle.parking_lot_rules.specs.Classes.{Class, Readers, Inside1, TakenReaders, weight, total, bit}
+use Rattle.parking_lot_rules.specs.Clauses.{Counts}
 use Rattle.parking_lot_rules.proofs.Indexed.{sum_by-set_at}
 
 pub bit_le : (b : Bool) → bit b ≤ 1

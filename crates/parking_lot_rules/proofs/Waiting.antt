@@ -1,11 +1,11 @@
 -- The lists hold exactly the threads that wait: kept where one role changes.
-use Rattle.std.proofs.Common.{◌≡◌, ◌≢◌, ℕ, zero, suc, ◌+◌, ◌<◌, ◌⊎◌, ⊎_elim, Bool, true, false, cond, ◌==◌, List, [], ◌∷◌, ◌++◌, length, remove, Option, Some, None, slice_get, slice_set, sum_by, refl, sym, ap, ◌∙◌, subst, inl, inr, arith, length-append, eq-eqb}
+use Rattle.std.proofs.Common.{◌≡◌, ◌≢◌, ℕ, ◌+◌, ◌<◌, ◌⊎◌, ⊎_elim, cond, ◌==◌, List, [], ◌∷◌, ◌++◌, remove, Option, Some, None, slice_get, slice_set, refl, sym, ap, ◌∙◌, subst, inl, inr, arith, length-append, eq-eqb}
 use Rattle.std.proofs.lemmas.Bool.{cases_eq, ne_eqb}
 use Rattle.std.proofs.lemmas.Option.{slice_get_within, get_or_from_slice_get}
 use Rattle.std.proofs.lemmas.List.Sums as sums
 use Rattle.std.proofs.lemmas.List.Edits.{length-remove}
 use Rattle.parking_lot_rules.specs.Roles.{Role}
-use Rattle.parking_lot_rules.specs.Classes.{Class, weight, total, weighs}
+use Rattle.parking_lot_rules.specs.Classes.{Class, weight, weighs}
 use Rattle.parking_lot_rules.specs.Lock.{occurs, Lists}
 use Rattle.parking_lot_rules.proofs.Indexed.{get-set_same, get-set_other, sum_by-set_at}
 
@@ -69,6 +69,7 @@ listed c q rs lists i u at = go (slice_get rs u) refl
   where
     stands : 0 < occurs u q
     stands = omega (arith, occurs-remove u q i u at, counted-same u)
+
     go : (o : Option Role) → slice_get rs u ≡ o → (r : Role) × (slice_get rs u ≡ Some r) × (0 < weight c r)
     go None e = absurd (omega (arith, stands, lists.each u, ap (weighs c) e))
     go (Some r) e = (r, e, omega (arith, stands, lists.each u, ap (weighs c) e))

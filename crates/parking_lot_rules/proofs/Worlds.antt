@@ -1,15 +1,14 @@
 -- A step of a world is a step at one lock of its family.
-use Rattle.std.proofs.Common.{◌≡◌, ◌≢◌, ℕ, zero, suc, ◌+◌, ◌*◌, ◌<◌, ◌≤◌, ◌⊎◌, ⊎_elim, Bool, true, false, cond, ◌==◌, List, [], ◌∷◌, map, Option, Some, None, option_map, slice_get, slice_set, refl, sym, ap, ◌∙◌, subst, inl, inr, arith, eq-eqb}
+use Rattle.std.proofs.Common.{◌≡◌, ◌≢◌, ℕ, zero, suc, ◌⊎◌, ⊎_elim, Bool, true, false, cond, ◌==◌, List, [], ◌∷◌, map, Option, Some, None, option_map, slice_get, slice_set, refl, sym, ap, ◌∙◌, subst, inl, inr, arith, eq-eqb}
 use Rattle.std.proofs.lemmas.Bool.{cases_eq, ne_eqb}
 use Rattle.std.proofs.lemmas.Option.{none-some, same_Some, slice_get-map}
-use Rattle.parking_lot_rules.specs.Roles.{Mode, Owned, Shares, Stay, Mark, Open, Phase, Idle, Queued1, Taken1, Queued2, Taken2, Scans2, Stored1, Wakes, Role}
-use Rattle.parking_lot_rules.specs.Classes.{Class, Inside1, weight}
-use Rattle.parking_lot_rules.specs.Lock.{Lock, IsSound, Note, On1, On2, note_of}
+use Rattle.parking_lot_rules.specs.Roles.{Mode, Owned, Shares, Stay, Mark, Open, Phase, Idle, Taken1, Taken2, Scans2, Stored1, Wakes, Role}
+use Rattle.parking_lot_rules.specs.Classes.{Inside1, weight}
+use Rattle.parking_lot_rules.specs.Lock.{Lock, IsSound, On1, note_of}
 use Rattle.parking_lot_rules.specs.Plain.{to}
-use Rattle.parking_lot_rules.specs.Steps.{Step, Alone, List_changes, Take1, Take2, Store, Wake, Pass, Allowed, after, listing_to, Scan, scanning, taking, MayTake, ends_saying, Waking, Retry, Own, OwnPending, OwnUpgradable, Recheck, waking_from, waking_to, told, settle}
-use Rattle.parking_lot_rules.specs.Family.{Key, First, Second, key, crossing, Family, put, IsFree, entered_after, FamilyStep, IsSoundFamily}
+use Rattle.parking_lot_rules.specs.Steps.{Step, Alone, List_changes, Take1, Take2, Store, Wake, Pass, Allowed, after, listing_to, Scan, scanning, taking, ends_saying, Waking, Retry, Own, OwnPending, OwnUpgradable, Recheck, waking_from, waking_to, told, settle}
+use Rattle.parking_lot_rules.specs.Family.{First, Second, key, put, FamilyStep, IsSoundFamily}
 use Rattle.parking_lot_rules.specs.World.{Place, World, seen, role_at, lock_at, family, change, with_role, told_by, heard, tell, places_after, world_after, MayStep}
-use Rattle.parking_lot_rules.proofs.Indexed.{get-set_same, get-set_other}
 use Rattle.parking_lot_rules.proofs.Settling.{one_inside, open_inside}
 use Rattle.parking_lot_rules.proofs.Families.{put-same, put-other, family_sound}
 
@@ -142,7 +141,7 @@ module _ (bucket : ℕ → ℕ) (recursive : ℕ → Bool) (j t : ℕ) (w : Worl
   roles_here (Store e s) sound may =
       roles-given j _ (map (tell j t (ends_saying e)) w.places) t
       ∙ ap (λ rs. slice_set rs t (record { owns = s.owns; does = Stored1 s.taken })) (roles-told j t (ends_saying e) w.places (λ u p m by stay here took.
-        taken_by (lock_at w j) sound t s may.0 u (role_at j p) m by stay (slice_get-map (role_at j) w.places u ∙ ap (option_map (role_at j)) here) took))
+      taken_by (lock_at w j) sound t s may.0 u (role_at j p) m by stay (slice_get-map (role_at j) w.places u ∙ ap (option_map (role_at j)) here) took))
   roles_here (Wake o v us k stay) sound may =
       roles-given j _ (change (with_role j (waking_to k)) w.places v) t
       ∙ ap (λ rs. slice_set rs t (record { owns = o; does = Wakes us })) (roles-given j (waking_to k) w.places v)
@@ -153,8 +152,8 @@ module _ (bucket : ℕ → ℕ) (recursive : ℕ → Bool) (j t : ℕ) (w : Worl
   is_there u r at busy p here = ⊎_elim
       (λ e. inl e)
       (λ ne.
-        let same : role_at j p ≡ r = same_Some (role_at j p) r (sym (slice_get-map (role_at j) w.places u ∙ ap (option_map (role_at j)) here) ∙ at) in
-        absurd (busy (ap (λ (x : Role). x.does) (sym same) ∙ seen-elsewhere j p.at p.does ne)))
+      let same : role_at j p ≡ r = same_Some (role_at j p) r (sym (slice_get-map (role_at j) w.places u ∙ ap (option_map (role_at j)) here) ∙ at) in
+      absurd (busy (ap (λ (x : Role). x.does) (sym same) ∙ seen-elsewhere j p.at p.does ne)))
       (cases_eq p.at j)
 
   roles_elsewhere : (step : Step) → Allowed (recursive j) t step (lock_at w j) → ((p : Place) → slice_get w.places t ≡ Some p → IsThere j p) → (i : ℕ) → i ≢ j
@@ -163,11 +162,11 @@ module _ (bucket : ℕ → ℕ) (recursive : ℕ → Bool) (j t : ℕ) (w : Worl
   roles_elsewhere (List_changes k) may there i ne = roles-elsewhere i j (listing_to k) w.places t ne there
   roles_elsewhere (Take1 s k v m stay) may there i ne =
       roles-elsewhere i j _ (change (with_role j (scanning (taking s v m))) w.places t) v ne
-          (still_there j (scanning (taking s v m)) w.places t v (is_there v _ may.1.role (λ e. cc)))
+      (still_there j (scanning (taking s v m)) w.places t v (is_there v _ may.1.role (λ e. cc)))
       ∙ roles-elsewhere i j (scanning (taking s v m)) w.places t ne there
   roles_elsewhere (Take2 o v f stay) may there i ne =
       roles-elsewhere i j _ (change (with_role j (record { owns = o; does = Scans2 (v ∷ []) })) w.places t) v ne
-          (still_there j (record { owns = o; does = Scans2 (v ∷ []) }) w.places t v (is_there v _ may.2 (λ e. cc)))
+      (still_there j (record { owns = o; does = Scans2 (v ∷ []) }) w.places t v (is_there v _ may.2 (λ e. cc)))
       ∙ roles-elsewhere i j (record { owns = o; does = Scans2 (v ∷ []) }) w.places t ne there
   roles_elsewhere (Store e s) may there i ne =
       roles-elsewhere i j _ (map (tell j t (ends_saying e)) w.places) t ne (told_there (ends_saying e))

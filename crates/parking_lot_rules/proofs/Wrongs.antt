@@ -1,10 +1,10 @@
 -- States in which a wrong step breaks the clauses.
-use Rattle.std.proofs.Common.{◌≡◌, ◌≢◌, ℕ, zero, suc, ◌+◌, ◌<◌, ◌≤◌, ◌⊎◌, ⊎_elim, Bool, true, false, IsTrue, List, [], ◌∷◌, ◌++◌, length, map, remove, Option, Some, None, slice_get, slice_set, refl, sym, ap, ◌∙◌, subst, inl, inr, arith}
+use Rattle.std.proofs.Common.{◌≡◌, ℕ, zero, suc, ◌<◌, true, false, IsTrue, [], ◌∷◌, Some, None, slice_get, refl, sym, ap, ◌∙◌, subst, inl, arith}
 use Rattle.std.proofs.lemmas.Option.{none-some, same_Some}
-use Rattle.parking_lot_rules.specs.Roles.{Mode, Shared, Exclusive, Upgradable, Owned, Shares, Excludes, Upgrades, Stay, Fresh, Asleep, Mark, Open, Normal, Handed, Cause, FromExclusive, Owed, Phase, Idle, Seeks, Enters1, Queued1, Taken1, Queued2, Yields, Scans1, Stored1, Scans2, Masked2, Wakes, Role}
+use Rattle.parking_lot_rules.specs.Roles.{Shared, Exclusive, Shares, Fresh, Asleep, Open, Normal, FromExclusive, Owed, Phase, Idle, Seeks, Enters1, Queued1, Taken1, Queued2, Yields, Scans1, Stored1, Scans2, Masked2, Wakes, Role}
 use Rattle.parking_lot_rules.specs.Classes.{Class, Waiting1, Waiting2, weight, total, weighs}
 use Rattle.parking_lot_rules.specs.Clauses.{Word, Fits}
-use Rattle.parking_lot_rules.specs.Lock.{Lock, Lists, Note, On1, On2, occurs, note_of, to_wake, AreNoted, Sound, IsSound}
+use Rattle.parking_lot_rules.specs.Lock.{Lock, Note, On1, occurs, note_of, to_wake, AreNoted, IsSound}
 use Rattle.std.proofs.lemmas.List.Sums.{sum_by-cons}
 use Rattle.parking_lot_rules.specs.Plain.{Share}
 use Rattle.parking_lot_rules.specs.Steps.{Scan, scanning, Alone, after}
@@ -34,10 +34,12 @@ pending_sound = record {
     first zero = refl
     first (suc zero) = refl
     first (suc (suc u)) = refl
+
     second : (u : ℕ) → occurs u (1 ∷ []) ≡ weighs Waiting2 (slice_get pending.roles u)
     second zero = refl
     second (suc zero) = refl
     second (suc (suc u)) = omega (arith, occurs-cons (suc (suc u)) 1 [], counted-other (suc (suc u)) 1 (λ e. omega (arith, e)))
+
     noted : AreNoted pending.roles
     noted zero by r note at took = absurd (none-some (by, note) (ap (λ (x : Role). note_of x.does) (same_Some _ r at) ∙ took))
     noted (suc zero) by r note at took = absurd (none-some (by, note) (ap (λ (x : Role). note_of x.does) (same_Some _ r at) ∙ took))
@@ -80,11 +82,13 @@ releasing_sound = record {
     first (suc zero) = refl
     first (suc (suc zero)) = refl
     first (suc (suc (suc u))) = omega (arith, occurs-cons (suc (suc (suc u))) 2 [], counted-other (suc (suc (suc u))) 2 (λ e. omega (arith, e)))
+
     second : (u : ℕ) → 0 ≡ weighs Waiting2 (slice_get releasing.roles u)
     second zero = refl
     second (suc zero) = refl
     second (suc (suc zero)) = refl
     second (suc (suc (suc u))) = refl
+
     noted : AreNoted releasing.roles
     noted zero by r note at took = absurd (none-some (by, note) (ap (λ (x : Role). note_of x.does) (same_Some _ r at) ∙ took))
     noted (suc zero) by r note at took =
@@ -139,12 +143,15 @@ alone_sound w p fits one two none = record {
   where
     sole : (c : Class) → weight c (doing p) ≡ 0 → total c (doing p ∷ []) ≡ 0
     sole c e = omega (arith, e, sum_by-cons (weight c) (doing p) [])
+
     first : (u : ℕ) → 0 ≡ weighs Waiting1 (slice_get (doing p ∷ []) u)
     first zero = sym one
     first (suc u) = refl
+
     second : (u : ℕ) → 0 ≡ weighs Waiting2 (slice_get (doing p ∷ []) u)
     second zero = sym two
     second (suc u) = refl
+
     noted : AreNoted (doing p ∷ [])
     noted zero by r note at took = absurd (none-some (by, note) (sym none ∙ (ap (λ (x : Role). note_of x.does) (same_Some _ r at) ∙ took)))
     noted (suc u) by r note at took = absurd (none-some r at)
@@ -199,10 +206,12 @@ yielding_sound = record {
     first zero = refl
     first (suc zero) = refl
     first (suc (suc u)) = refl
+
     second : (u : ℕ) → 0 ≡ weighs Waiting2 (slice_get yielding.roles u)
     second zero = refl
     second (suc zero) = refl
     second (suc (suc u)) = refl
+
     noted : AreNoted yielding.roles
     noted zero by r note at took = absurd (none-some (by, note) (ap (λ (x : Role). note_of x.does) (same_Some _ r at) ∙ took))
     noted (suc zero) by r note at took = absurd (none-some (by, note) (ap (λ (x : Role). note_of x.does) (same_Some _ r at) ∙ took))
@@ -242,11 +251,13 @@ retaken_sound = record {
     first (suc zero) = refl
     first (suc (suc zero)) = refl
     first (suc (suc (suc u))) = refl
+
     second : (u : ℕ) → 0 ≡ weighs Waiting2 (slice_get retaken.roles u)
     second zero = refl
     second (suc zero) = refl
     second (suc (suc zero)) = refl
     second (suc (suc (suc u))) = refl
+
     noted : AreNoted retaken.roles
     noted zero by r note at took = absurd (none-some (by, note) (ap (λ (x : Role). note_of x.does) (same_Some _ r at) ∙ took))
     noted (suc zero) by r note at took =

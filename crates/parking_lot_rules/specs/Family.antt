@@ -1,8 +1,8 @@
 -- Many locks: a family of locks, and for each bucket of keys who has entered it.
 use Rattle.std.specs.Prelude.{◌≡◌, ◌≢◌, ℕ, ◌+◌, ◌*◌, Bool, if◌then◌else◌, ◌==◌, Option, Some, None, slice_get}
-use Rattle.parking_lot_rules.specs.Roles.{Phase, Idle, Role}
+use Rattle.parking_lot_rules.specs.Roles.{Idle, Role}
 use Rattle.parking_lot_rules.specs.Classes.{Class, Inside1, Inside2, weighs}
-use Rattle.parking_lot_rules.specs.Plain.{Plain, Enter1, Reenter1, ReenterTaken1, LookExclusive, LookUpgradable, LookOwed, Enter2, Reenter2, ReenterTaken2, Look2, Retreat1, Rest1, Leave1, Resume1, ReceiveShared, ReceivePending, ReceiveUpgradable, Depart1, Retreat2, Rest2, Resume2, Leave2, Depart2}
+use Rattle.parking_lot_rules.specs.Plain.{Enter1, Reenter1, ReenterTaken1, LookExclusive, LookUpgradable, LookOwed, Enter2, Reenter2, ReenterTaken2, Look2, Retreat1, Rest1, Leave1, Resume1, ReceiveShared, ReceivePending, ReceiveUpgradable, Depart1, Retreat2, Rest2, Resume2, Leave2, Depart2}
 use Rattle.parking_lot_rules.specs.Steps.{Step, Alone, Allowed, after}
 use Rattle.parking_lot_rules.specs.Lock.{Lock, IsSound}
 

@@ -1,8 +1,8 @@
 -- What follows for a lock, in plain words.
-use Rattle.std.specs.Prelude.{◌≡◌, ◌≢◌, ℕ, ◌+◌, ◌*◌, ◌<◌, ◌≤◌, ◌⊎◌, Bool, true, false, IsTrue, List, [], ◌∷◌, length, slice_get, Some}
-use Rattle.parking_lot_rules.specs.Roles.{Mode, Shared, Exclusive, Upgradable, Owned, Shares, Excludes, Upgrades, Stay, Fresh, Asleep, Late, Back, Mark, Open, Normal, Handed, Cause, FromExclusive, FromUpgradable, Owed, Phase, Idle, Seeks, Enters1, Checked1, Queued1, Taken1, Masks1, Leaves1, Drains, Enters2, Checked2, Queued2, Taken2, Leaves2, Yields, Owes1, Scans1, Stored1, Owes2, Scans2, Masked2, Wakes, Role, away}
+use Rattle.std.specs.Prelude.{◌≡◌, ◌≢◌, ℕ, ◌+◌, ◌*◌, ◌<◌, ◌≤◌, ◌⊎◌, Bool, true, false, IsTrue, [], length, slice_get, Some}
+use Rattle.parking_lot_rules.specs.Roles.{Mode, Shares, Asleep, Late, Phase, Idle, Seeks, Queued1, Taken1, Drains, Queued2, Taken2, Yields, Wakes, Role, away}
 use Rattle.parking_lot_rules.specs.Classes.{Class, Readers, Upgraders, Pending, Writers, Waiting1, Waiting2, total, weighs}
-use Rattle.parking_lot_rules.specs.Clauses.{Word, number}
+use Rattle.parking_lot_rules.specs.Clauses.{number}
 use Rattle.parking_lot_rules.specs.Lock.{Lock, Note, occurs, to_wake}
 
 -- all holds of a kind, and those of one thread

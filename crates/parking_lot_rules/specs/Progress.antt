@@ -1,6 +1,6 @@
 -- Who can move, over many locks.
-use Rattle.std.specs.Prelude.{◌≡◌, ◌≢◌, ℕ, ◌<◌, ◌⊎◌, Bool, true, false, IsTrue, List, slice_get, Option, Some, None}
-use Rattle.parking_lot_rules.specs.Roles.{Mode, Shared, Exclusive, Upgradable, Owned, Shares, Excludes, Upgrades, Stay, Fresh, Asleep, Late, Back, Mark, Open, Normal, Handed, Cause, FromExclusive, FromUpgradable, Owed, Phase, Idle, Seeks, Enters1, Checked1, Queued1, Taken1, Masks1, Leaves1, Drains, Enters2, Checked2, Queued2, Taken2, Leaves2, Yields, Owes1, Scans1, Stored1, Owes2, Scans2, Masked2, Wakes, Role}
+use Rattle.std.specs.Prelude.{◌≡◌, ◌≢◌, ℕ, ◌<◌, ◌⊎◌, Bool, true, false, IsTrue, slice_get, Option, Some, None}
+use Rattle.parking_lot_rules.specs.Roles.{Shares, Late, Phase, Idle, Seeks, Queued1, Taken1, Drains, Queued2, Taken2, Owes1, Owes2}
 use Rattle.parking_lot_rules.specs.Classes.{total}
 use Rattle.parking_lot_rules.specs.Family.{Key, First, Second, key, section, within}
 use Rattle.parking_lot_rules.specs.World.{Place, World, role_at, lock_at, family}

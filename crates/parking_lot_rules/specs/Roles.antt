@@ -39,7 +39,6 @@ pub data Cause : Type 0 where
 pub data Phase : Type 0 where
   -- nothing
   Idle : Phase
-
   -- On the way to a first admission. `woken`: it was woken to try again, and since then was neither admitted nor found that it
   -- has to wait.
   Seeks : (mode : Mode) → (woken : Bool) → Phase
@@ -50,7 +49,6 @@ pub data Phase : Type 0 where
   -- it has taken itself off the first list as the last one there, or as one of several
   Masks1 : Phase
   Leaves1 : Phase
-
   -- Pending: no writer may come any more, and the readers are waited for. `from`: it came from the upgradable hold. `woken`: as
   -- above.
   Drains : (from : Bool) → (woken : Bool) → Phase
@@ -60,18 +58,15 @@ pub data Phase : Type 0 where
   Taken2 : (from : Bool) → (by : ℕ) → (stay : Stay) → Phase
   Leaves2 : (from : Bool) → Phase
   Yields : (from : Bool) → Phase
-
   -- Going through the first list, with what it has taken so far: shared waiters, whether an upgradable one, whether a writer,
   -- and all of them in order.
   Owes1 : Phase
   Scans1 : (cause : Cause) → (shared : ℕ) → (upgradable : Bool) → (writer : Bool) → (taken : List ℕ) → Phase
   Stored1 : (taken : List ℕ) → Phase
-
   -- taking the pending writer off the second list
   Owes2 : Phase
   Scans2 : (taken : List ℕ) → Phase
   Masked2 : (taken : List ℕ) → Phase
-
   -- waking those that it has taken
   Wakes : (taken : List ℕ) → Phase
 

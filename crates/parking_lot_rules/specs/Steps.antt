@@ -1,7 +1,7 @@
 -- The steps that change a list, or the place of another thread; and all steps together.
 use Rattle.std.specs.Prelude.{◌≡◌, ◌≢◌, ℕ, zero, suc, ◌+◌, ◌-◌, ◌<◌, Bool, true, false, ◌⊎◌, List, [], ◌∷◌, ◌++◌, length, map, slice_get, slice_set, Some}
 use Rattle.std.specs.List.{remove}
-use Rattle.parking_lot_rules.specs.Roles.{Mode, Shared, Exclusive, Upgradable, Owned, Shares, Excludes, Upgrades, Stay, Fresh, Asleep, Late, Back, Mark, Open, Normal, Handed, Cause, FromExclusive, FromUpgradable, Owed, Phase, Idle, Seeks, Enters1, Checked1, Queued1, Taken1, Masks1, Leaves1, Drains, Enters2, Checked2, Queued2, Taken2, Leaves2, Yields, Owes1, Scans1, Stored1, Owes2, Scans2, Masked2, Wakes, Role}
+use Rattle.parking_lot_rules.specs.Roles.{Mode, Shared, Exclusive, Upgradable, Owned, Shares, Excludes, Upgrades, Stay, Fresh, Back, Mark, Open, Normal, Handed, Cause, FromExclusive, FromUpgradable, Owed, Phase, Idle, Seeks, Checked1, Queued1, Taken1, Masks1, Leaves1, Drains, Checked2, Queued2, Taken2, Leaves2, Scans1, Stored1, Scans2, Wakes, Role}
 use Rattle.parking_lot_rules.specs.Classes.{Class, Readers, Upgraders, Pending, Called, OpenReaders, OpenUpgraders, OpenWriters, total, bit, inside}
 use Rattle.parking_lot_rules.specs.Clauses.{Word}
 use Rattle.parking_lot_rules.specs.Plain.{Plain, from, to, May, written}

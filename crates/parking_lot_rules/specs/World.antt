@@ -1,11 +1,11 @@
 -- Threads and locks: each thread is at one lock at a time, and may own many.
-use Rattle.std.specs.Prelude.{◌≡◌, ℕ, zero, suc, ◌+◌, Bool, true, false, ◌⊎◌, if◌then◌else◌, ◌==◌, List, [], ◌∷◌, map, Option, slice_get, Some}
+use Rattle.std.specs.Prelude.{◌≡◌, ℕ, zero, suc, Bool, true, false, ◌⊎◌, if◌then◌else◌, ◌==◌, List, [], ◌∷◌, map, Option, slice_get, Some}
 use Rattle.parking_lot_rules.specs.Roles.{Owned, Shares, Mark, Open, Phase, Idle, Taken1, Taken2, Scans2, Stored1, Wakes, Role}
 use Rattle.parking_lot_rules.specs.Clauses.{Word}
 use Rattle.parking_lot_rules.specs.Lock.{Lock}
 use Rattle.parking_lot_rules.specs.Plain.{to}
 use Rattle.parking_lot_rules.specs.Steps.{Step, Alone, List_changes, Take1, Take2, Store, Wake, Pass, Allowed, after, listing_to, scanning, taking, ends_saying, waking_to}
-use Rattle.parking_lot_rules.specs.Family.{Key, First, Second, key, crossing, Family, put, IsFree, entered_after}
+use Rattle.parking_lot_rules.specs.Family.{First, Second, key, crossing, Family, put, IsFree, entered_after}
 
 -- What a thread owns of each lock, which lock it is at, and what it is doing there.
 pub record Place : Type 0 where

@@ -1,9 +1,8 @@
 -- Wrong steps: each leads from a sound lock to one that isn't.
-use Rattle.std.specs.Prelude.{◌≡◌, ◌≢◌, ℕ, ◌<◌, Bool, true, false, List, [], ◌∷◌, ◌++◌, length, map, slice_get, slice_set, Some}
+use Rattle.std.specs.Prelude.{◌≡◌, ◌≢◌, ℕ, ◌<◌, true, false, [], ◌∷◌, ◌++◌, length, map, slice_get, slice_set, Some}
 use Rattle.std.specs.List.{remove}
-use Rattle.parking_lot_rules.specs.Roles.{Mode, Shared, Exclusive, Owned, Shares, Stay, Fresh, Asleep, Mark, Open, Normal, Cause, FromExclusive, Owed, Phase, Idle, Seeks, Enters1, Queued1, Taken1, Yields, Scans1, Stored1, Scans2, Masked2, Wakes, Role}
-use Rattle.parking_lot_rules.specs.Clauses.{Word}
-use Rattle.parking_lot_rules.specs.Lock.{Lock, Note, note_of, IsSound}
+use Rattle.parking_lot_rules.specs.Roles.{Mode, Exclusive, Shares, Fresh, Asleep, Open, Normal, FromExclusive, Owed, Phase, Idle, Seeks, Enters1, Queued1, Taken1, Yields, Scans1, Stored1, Scans2, Masked2, Wakes, Role}
+use Rattle.parking_lot_rules.specs.Lock.{Lock, IsSound}
 use Rattle.parking_lot_rules.specs.Plain.{Share}
 use Rattle.parking_lot_rules.specs.Steps.{Scan, scanning, taking, settle, Alone, Allowed, after}
 use Rattle.parking_lot_rules.specs.Laws.{DebtsAreKept}

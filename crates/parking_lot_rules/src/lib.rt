@@ -7,23 +7,13 @@ mod progress;
 mod wrong;
 
 pub use laws::{
-    a_refusal_has_a_cause,
-    debts_are_kept,
-    every_lock_is_sound,
-    no_bit_outlives_the_calls,
-    owners_exclude_each_other,
-    sleepers_are_known,
-    somebody_can_move,
-    the_word_tells_the_owners,
+    a_refusal_has_a_cause, debts_are_kept, every_lock_is_sound, no_bit_outlives_the_calls,
+    owners_exclude_each_other, sleepers_are_known, somebody_can_move, the_word_tells_the_owners,
 };
 pub use progress::{rising_locks_never_deadlock, sections_are_entered, sleepers_are_served};
 pub use wrong::{
-    a_bit_on_an_empty_list_is_wrong,
-    a_give_up_that_keeps_its_bit_is_wrong,
-    a_join_without_a_check_is_wrong,
-    a_scan_past_a_writer_is_wrong,
-    a_section_that_forgets_the_writer_is_wrong,
-    a_store_of_zero_with_waiters_is_wrong,
-    a_wake_by_number_is_wrong,
-    debts_alone_are_not_kept,
+    a_bit_on_an_empty_list_is_wrong, a_give_up_that_keeps_its_bit_is_wrong,
+    a_join_without_a_check_is_wrong, a_scan_past_a_writer_is_wrong,
+    a_section_that_forgets_the_writer_is_wrong, a_store_of_zero_with_waiters_is_wrong,
+    a_wake_by_number_is_wrong, debts_alone_are_not_kept,
 };
