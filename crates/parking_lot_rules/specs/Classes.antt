@@ -164,6 +164,11 @@ is_owner (Shares (suc n)) = 1
 is_owner Excludes = 1
 is_owner Upgrades = 1
 
+abbrev pub unless_owed : Cause → ℕ → ℕ
+unless_owed FromExclusive n = n
+unless_owed FromUpgradable n = n
+unless_owed Owed n = 0
+
 -- what an owner counts that waits, or gives up
 abbrev pub strange : Owned → Phase → ℕ
 strange o (Enters1 m c) = is_owner o
@@ -179,6 +184,7 @@ strange o (Queued2 f s) = is_owner o
 strange o (Taken2 f by s) = is_owner o
 strange o (Leaves2 f) = is_owner o
 strange o (Yields f) = is_owner o
+strange o (Scans1 c r u w us) = unless_owed c (is_owner o)
 strange o p = 0
 
 -- how much a role counts in a class

@@ -10,3 +10,4 @@ pub mod Runs
 pub mod Laws
 pub mod Progress
 pub mod Wrong
+pub mod Owners
