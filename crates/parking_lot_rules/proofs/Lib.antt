@@ -16,3 +16,4 @@ pub mod Finding
 pub mod Following
 pub mod Moving
 pub mod Wrongs
+pub mod Owning
