@@ -17,3 +17,4 @@ pub mod Following
 pub mod Moving
 pub mod Wrongs
 pub mod Owning
+pub mod Casing
