@@ -18,3 +18,4 @@ pub mod Moving
 pub mod Wrongs
 pub mod Owning
 pub mod Casing
+pub mod Keeping

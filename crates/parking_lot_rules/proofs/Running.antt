@@ -5,12 +5,13 @@ use Rattle.parking_lot_rules.specs.Roles.{Shares, Idle, Role, away}
 use Rattle.parking_lot_rules.specs.Classes.{Class, Waiting1, Waiting2, weight, total, weighs}
 use Rattle.parking_lot_rules.specs.Clauses.{Fits}
 use Rattle.parking_lot_rules.specs.Lock.{Lock, note_of, IsSound}
+use Rattle.parking_lot_rules.specs.Steps.{Step, Allowed, after}
 use Rattle.parking_lot_rules.specs.Family.{section, IsSoundFamily}
 use Rattle.parking_lot_rules.specs.World.{World, role_at, lock_at, family}
-use Rattle.parking_lot_rules.specs.Runs.{Move, moved, Runs, zero_word, idle, at_rest, IsReached, Always}
+use Rattle.parking_lot_rules.specs.Runs.{Move, moved, Runs, zero_word, idle, at_rest, IsReached, Always, Throughout}
 use Rattle.parking_lot_rules.proofs.Totals.{away_weighs, same_counts}
 use Rattle.parking_lot_rules.proofs.Families.{total-none}
-use Rattle.parking_lot_rules.proofs.Worlds.{world_sound, same_role, seen-idle}
+use Rattle.parking_lot_rules.proofs.Worlds.{world_sound, world_step, same_role, seen-idle}
 
 all_away : (i n u : ℕ) (r : Role) → slice_get (map (role_at i) (replicate n idle)) u ≡ Some r → r ≡ away
 all_away i zero u r at = absurd (none-some r at)
@@ -56,3 +57,10 @@ reached_sound bucket recursive w r = runs_sound bucket recursive r.moves (at_res
 -- what holds of sound locks holds always
 pub always : (P : Lock → Type 0) → ((l : Lock) → IsSound l → P l) → Always P
 always P holds bucket recursive w i r = holds (lock_at w i) ((reached_sound bucket recursive w r).sound i)
+
+-- what holds of steps at sound locks holds throughout
+pub throughout : (P : Bool → ℕ → Step → Lock → Lock → Type 0) → ((recursive : Bool) (t : ℕ) (step : Step) (l : Lock) → IsSound l → Allowed recursive t step l → P recursive t step l (after t step l)) → Throughout P
+throughout P holds bucket recursive w m r may =
+    let sound = reached_sound bucket recursive w r in
+    subst (λ x. P (recursive m.lock) m.thread m.step (lock_at w m.lock) x) (sym (world_step bucket recursive m.lock m.thread w m.step sound may).here)
+    (holds (recursive m.lock) m.thread m.step (lock_at w m.lock) (sound.sound m.lock) may.allowed)

@@ -3,6 +3,8 @@ use Rattle.std.specs.Prelude.{◌≡◌, ◌≢◌, ℕ, ◌+◌, ◌*◌, ◌<�
 use Rattle.parking_lot_rules.specs.Roles.{Mode, Shares, Asleep, Late, Phase, Idle, Seeks, Queued1, Taken1, Drains, Queued2, Taken2, Yields, Wakes, Role, away}
 use Rattle.parking_lot_rules.specs.Classes.{Class, Readers, Upgraders, Pending, Writers, Waiting1, Waiting2, total, weighs}
 use Rattle.parking_lot_rules.specs.Clauses.{number}
+use Rattle.parking_lot_rules.specs.Plain.{YieldBack}
+use Rattle.parking_lot_rules.specs.Steps.{Step, Alone}
 use Rattle.parking_lot_rules.specs.Lock.{Lock, Note, occurs, to_wake}
 
 -- all holds of a kind, and those of one thread
@@ -97,3 +99,12 @@ SomebodyCanMove l = (u : ℕ) (r : Role) → slice_get l.roles u ≡ Some r → 
 abbrev pub RefusalsHaveACause : Lock → Type 0
 RefusalsHaveACause l = (t : ℕ) (mode : Mode) (woken : Bool) → slice_get l.roles t ≡ Some (record { owns = Shares 0; does = Seeks mode woken }) → number l.word ≢ 0
     → (u : ℕ) × (r : Role) × (u ≢ t) × (slice_get l.roles u ≡ Some r) × (r ≢ away)
+
+-- a pending writer that came from the upgradable hold gives up, and has that hold again
+abbrev pub gives_back : Step → Bool
+gives_back (Alone (YieldBack owing)) = true
+gives_back step = false
+
+-- While a writer is pending on a lock that isn't recursive, the reader count doesn't grow, but by such a step.
+abbrev pub ReadersAreKeptOut : Bool → ℕ → Step → Lock → Lock → Type 0
+ReadersAreKeptOut recursive t step old new = recursive ≡ false → 0 < held Pending old → gives_back step ≡ false → new.word.readers ≤ old.word.readers

@@ -4,6 +4,7 @@
 
 mod laws;
 mod progress;
+mod steps;
 mod wrong;
 
 pub use laws::{
@@ -11,6 +12,7 @@ pub use laws::{
     owners_exclude_each_other, sleepers_are_known, somebody_can_move, the_word_tells_the_owners,
 };
 pub use progress::{rising_locks_never_deadlock, sections_are_entered, sleepers_are_served};
+pub use steps::{each_step_is_a_case, readers_are_kept_out};
 pub use wrong::{
     a_bit_on_an_empty_list_is_wrong, a_give_up_that_keeps_its_bit_is_wrong,
     a_join_without_a_check_is_wrong, a_scan_past_a_writer_is_wrong,
