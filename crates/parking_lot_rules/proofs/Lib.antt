@@ -19,3 +19,4 @@ pub mod Wrongs
 pub mod Owning
 pub mod Casing
 pub mod Keeping
+pub mod Exampling

@@ -11,3 +11,4 @@ pub mod Laws
 pub mod Progress
 pub mod Wrong
 pub mod Owners
+pub mod Example
