@@ -2,11 +2,13 @@
 //! steps does to the lock's word and queues, and the proof that no waiter is ever forgotten, under every schedule.
 #![tactic(auto)]
 
+mod example;
 mod laws;
 mod progress;
 mod steps;
 mod wrong;
 
+pub use example::a_writer_waits_and_is_woken;
 pub use laws::{
     a_refusal_has_a_cause, debts_are_kept, every_lock_is_sound, no_bit_outlives_the_calls,
     owners_exclude_each_other, sleepers_are_known, somebody_can_move, the_word_tells_the_owners,
