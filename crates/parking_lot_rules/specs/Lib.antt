@@ -1,0 +1,14 @@
+pub mod Roles
+pub mod Classes
+pub mod Clauses
+pub mod Plain
+pub mod Lock
+pub mod Steps
+pub mod Family
+pub mod World
+pub mod Runs
+pub mod Laws
+pub mod Progress
+pub mod Wrong
+pub mod Owners
+pub mod Example

@@ -1,0 +1,23 @@
+//! The rules of a reader-writer lock whose waiters sleep in queues: what a thread can be doing at the lock, what each of its
+//! steps does to the lock's word and queues, and the proof that no waiter is ever forgotten, under every schedule.
+#![tactic(auto)]
+
+mod example;
+mod laws;
+mod progress;
+mod steps;
+mod wrong;
+
+pub use example::a_writer_waits_and_is_woken;
+pub use laws::{
+    a_refusal_has_a_cause, debts_are_kept, every_lock_is_sound, no_bit_outlives_the_calls,
+    owners_exclude_each_other, sleepers_are_known, somebody_can_move, the_word_tells_the_owners,
+};
+pub use progress::{rising_locks_never_deadlock, sections_are_entered, sleepers_are_served};
+pub use steps::{each_step_is_a_case, readers_are_kept_out};
+pub use wrong::{
+    a_bit_on_an_empty_list_is_wrong, a_give_up_that_keeps_its_bit_is_wrong,
+    a_join_without_a_check_is_wrong, a_scan_past_a_writer_is_wrong,
+    a_section_that_forgets_the_writer_is_wrong, a_store_of_zero_with_waiters_is_wrong,
+    a_wake_by_number_is_wrong, debts_alone_are_not_kept,
+};
