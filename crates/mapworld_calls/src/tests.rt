@@ -68,8 +68,11 @@ fn keys_spread(rt: HostRuntime) {
 #[test]
 fn calls_are_shown(rt: HostRuntime) -> Result<(), Fail> {
     let alloc = rt.alloc();
-    let shown = format!(in alloc; "{INSERT:?} {REMOVE:?} {GET:?} {GET_MUT:?} {READ:?} {WRITE:?} {DROP:?}")?;
-    let want = "Keyed(Insert(2, 3)) Keyed(Remove(1)) Begin(Get(1)) Begin(GetMut(1)) Held(Read(0)) Held(Write(0)) Held(Drop)";
+    let shown = format!(in alloc;
+        "{INSERT:?} {REMOVE:?} {GET:?} {GET_MUT:?} {READ:?} {WRITE:?} {DROP:?}"
+    )?;
+    let want =
+        "Keyed(Insert(2, 3)) Keyed(Remove(1)) Begin(Get(1)) Begin(GetMut(1)) Held(Read(0)) Held(Write(0)) Held(Drop)";
     assert_eq!(rt; shown.as_str(), want);
     let reply: Reply<u64, u64, u8> = Reply {
         thread: 0,

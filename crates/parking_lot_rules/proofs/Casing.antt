@@ -150,8 +150,7 @@ module _ (recursive : Bool) (t : ℕ) (l : Lock) (sound : IsSound l) where
 
   no_writer : l.word.writer ≡ 0 → NoWriter (owners l)
   no_writer free u s at =
-      let r = role-behind l.roles u s at in
-      (
+      let r = role-behind l.roles u s at in (
         (λ e. omega (arith, free, sound.fits, weighs_le Writers u r.0 r.1, owner_writes r.0.owns r.0.does (ap (λ (x : Standing). x.owner) r.2 ∙ e))),
         (λ e. omega (arith, free, sound.fits, weighs_le Pending u r.0 r.1, owner_awaits r.0.owns r.0.does (ap (λ (x : Standing). x.owner) r.2 ∙ e))),
       )
@@ -163,8 +162,7 @@ module _ (recursive : Bool) (t : ℕ) (l : Lock) (sound : IsSound l) where
 
   no_reader : l.word.readers ≡ 0 → NoReader (owners l)
   no_reader free u n s at =
-      let r = role-behind l.roles u s at in
-      (
+      let r = role-behind l.roles u s at in (
         (λ e. omega (arith, free, sound.fits, weighs_le Readers u r.0 r.1, owner_reads r.0.owns r.0.does n (ap (λ (x : Standing). x.owner) r.2 ∙ e))),
         (λ e. omega (arith, free, sound.fits, weighs_le Upgraders u r.0 r.1, owner_upgrades r.0.owns r.0.does (ap (λ (x : Standing). x.owner) r.2 ∙ e))),
       )
@@ -175,11 +173,11 @@ module _ (recursive : Bool) (t : ℕ) (l : Lock) (sound : IsSound l) where
   some_reader : 0 < l.word.readers → SomeReader (owners l)
   some_reader some = ⊎_elim
       (λ none.
-        let x = somebody Upgraders l.roles (omega (arith, some, none, sound.fits)) in
-        (x.0, standing x.1, thread-at l.roles x.0 x.1 (standing x.1) x.2 refl, inr (upgrader_of x.1.owns x.1.does x.3 (is_proper x.0 x.1 x.2))))
+      let x = somebody Upgraders l.roles (omega (arith, some, none, sound.fits)) in
+      (x.0, standing x.1, thread-at l.roles x.0 x.1 (standing x.1) x.2 refl, inr (upgrader_of x.1.owns x.1.does x.3 (is_proper x.0 x.1 x.2))))
       (λ h.
-        let x = somebody Readers l.roles h in
-        (x.0, standing x.1, thread-at l.roles x.0 x.1 (standing x.1) x.2 refl, inl (reader_of x.1.owns x.1.does x.3 (is_proper x.0 x.1 x.2))))
+      let x = somebody Readers l.roles h in
+      (x.0, standing x.1, thread-at l.roles x.0 x.1 (standing x.1) x.2 refl, inl (reader_of x.1.owns x.1.does x.3 (is_proper x.0 x.1 x.2))))
       (none_or (total Readers l.roles))
 
   -- a role that changes alone, with the word
@@ -216,10 +214,10 @@ module _ (recursive : Bool) (t : ℕ) (l : Lock) (sound : IsSound l) where
     where
       mine : weighs Upgraders (slice_get l.roles t) ≡ 1
       mine = ap (weighs Upgraders) at ∙ upgrader_weighs
+
       others : (u n : ℕ) (s : Standing) → u ≢ t → slice_get (map standing l.roles) u ≡ Some s → (s.owner ≢ Reading (suc n)) × (s.owner ≢ Upgrading)
       others u n s ne there =
-          let r = role-behind l.roles u s there in
-          (
+          let r = role-behind l.roles u s there in (
             (λ e. omega (arith, may, sound.fits, mine, weighs_le Readers u r.0 r.1, owner_reads r.0.owns r.0.does n (ap (λ (x : Standing). x.owner) r.2 ∙ e), upgrader_weighs, weighs_le Upgraders t (record { owns = Upgrades; does = Idle }) at)),
             (λ e. omega (arith, may, sound.fits, mine, two_of Upgraders l.roles t u (λ x. ne (sym x)), ap (weighs Upgraders) r.1, owner_upgrades r.0.owns r.0.does (ap (λ (x : Standing). x.owner) r.2 ∙ e))),
           )
@@ -267,29 +265,25 @@ module _ (recursive : Bool) (t : ℕ) (l : Lock) (sound : IsSound l) where
         refl,
   )
   step_case (Store Free s) may =
-      let none : s.owns ≡ Shares 0 = freed s FromExclusive may.1 may.0 refl in
-      (
+      let none : s.owns ≡ Shares 0 = freed s FromExclusive may.1 may.0 refl in (
         thread-at l.roles t (scanning s) _ may.0 (ap (λ c. standing (record { owns = s.owns; does = Scans1 c s.shared s.upgradable s.writer s.taken })) may.1),
         refl,
         same_owners _ _ (threads-set (map (settle Normal) l.roles) t _ _ (ap (λ o. standing (record { owns = o; does = Stored1 s.taken })) none) ∙ ap (λ ts. slice_set ts t (record { owner = Reading 0; stand = Apart })) (normal_threads l.roles)) refl refl,
       )
   step_case (Store FreeUpgradable s) may =
-      let none : s.owns ≡ Shares 0 = freed s FromUpgradable may.1 may.0 refl in
-      (
+      let none : s.owns ≡ Shares 0 = freed s FromUpgradable may.1 may.0 refl in (
         thread-at l.roles t (scanning s) _ may.0 (ap (λ c. standing (record { owns = s.owns; does = Scans1 c s.shared s.upgradable s.writer s.taken })) may.1),
         refl,
         same_owners _ _ (threads-set (map (settle Normal) l.roles) t _ _ (ap (λ o. standing (record { owns = o; does = Stored1 s.taken })) none) ∙ ap (λ ts. slice_set ts t (record { owner = Reading 0; stand = Apart })) (normal_threads l.roles)) refl refl,
       )
   step_case (Store Hand s) may =
-      let none : s.owns ≡ Shares 0 = freed s FromExclusive may.1 may.0 refl in
-      (
+      let none : s.owns ≡ Shares 0 = freed s FromExclusive may.1 may.0 refl in (
         thread-at l.roles t (scanning s) _ may.0 (ap (λ c. standing (record { owns = s.owns; does = Scans1 c s.shared s.upgradable s.writer s.taken })) may.1),
         refl,
         same_owners _ _ (threads-set (map (settle Handed) l.roles) t _ _ (ap (λ o. standing (record { owns = o; does = Stored1 s.taken })) none) ∙ ap (λ ts. slice_set ts t (record { owner = Reading 0; stand = Apart })) (handed_threads l.roles)) refl refl,
       )
   step_case (Store HandUpgradable s) may =
-      let none : s.owns ≡ Shares 0 = freed s FromUpgradable may.1 may.0 refl in
-      (
+      let none : s.owns ≡ Shares 0 = freed s FromUpgradable may.1 may.0 refl in (
         thread-at l.roles t (scanning s) _ may.0 (ap (λ c. standing (record { owns = s.owns; does = Scans1 c s.shared s.upgradable s.writer s.taken })) may.1),
         refl,
         same_owners _ _ (threads-set (map (settle Handed) l.roles) t _ _ (ap (λ o. standing (record { owns = o; does = Stored1 s.taken })) none) ∙ ap (λ ts. slice_set ts t (record { owner = Reading 0; stand = Apart })) (handed_threads l.roles)) refl refl,
@@ -303,8 +297,8 @@ module _ (recursive : Bool) (t : ℕ) (l : Lock) (sound : IsSound l) where
       refl
   step_case (Wake o v us k stay) may = same_owners _ _
       (threads-same (slice_set l.roles v (waking_to k)) t _ _
-          (get-set_other l.roles v t (waking_to k) (λ e. waking_apart k t stay o (v ∷ us) (same_Some _ _ (sym may.0 ∙ ap (λ i. slice_get l.roles i) (sym e) ∙ may.1))) ∙ may.0)
-          refl
+      (get-set_other l.roles v t (waking_to k) (λ e. waking_apart k t stay o (v ∷ us) (same_Some _ _ (sym may.0 ∙ ap (λ i. slice_get l.roles i) (sym e) ∙ may.1))) ∙ may.0)
+      refl
       ∙ threads-same l.roles v _ (waking_to k) may.1 (waking_stays k t stay))
       refl
       refl

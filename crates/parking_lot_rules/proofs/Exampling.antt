@@ -14,30 +14,62 @@ led (m ∷ ms) w = led ms (moved (λ k. 0) m w)
 
 comes_run : Runs (λ k. 0) (λ i. false) (at_rest 2) comes (led comes (at_rest 2))
 unfolding weight
-comes_run =
-  (record { place = _; here = refl; there = inl refl; allowed = (refl, inl refl); free = tt },
-  (record { place = _; here = refl; there = inl refl; allowed = (refl, inl refl); free = tt },
-  (record { place = _; here = refl; there = inl refl; allowed = (refl, inl refl); free = tt },
-  (record { place = _; here = refl; there = inl refl; allowed = (refl, (refl, refl)); free = tt },
-  (record { place = _; here = refl; there = inl refl; allowed = (refl, (refl, omega arith)); free = tt },
-  (record { place = _; here = refl; there = inl refl; allowed = (refl, refl); free = refl },
-  (record { place = _; here = refl; there = inl refl; allowed = (refl, (refl, omega arith)); free = tt },
-  (record { place = _; here = refl; there = inl refl; allowed = (refl, tt); free = tt },
-  (record { place = _; here = refl; there = inl refl; allowed = (refl, tt); free = tt },
-  refl)))))))))
+comes_run = (
+  record { place = _; here = refl; there = inl refl; allowed = (refl, inl refl); free = tt },
+  (
+    record { place = _; here = refl; there = inl refl; allowed = (refl, inl refl); free = tt },
+    (
+      record { place = _; here = refl; there = inl refl; allowed = (refl, inl refl); free = tt },
+      (
+        record { place = _; here = refl; there = inl refl; allowed = (refl, (refl, refl)); free = tt },
+        (
+          record { place = _; here = refl; there = inl refl; allowed = (refl, (refl, omega arith)); free = tt },
+          (
+            record { place = _; here = refl; there = inl refl; allowed = (refl, refl); free = refl },
+            (
+              record { place = _; here = refl; there = inl refl; allowed = (refl, (refl, omega arith)); free = tt },
+              (
+                record { place = _; here = refl; there = inl refl; allowed = (refl, tt); free = tt },
+                (
+                  record { place = _; here = refl; there = inl refl; allowed = (refl, tt); free = tt },
+                  refl,
+                ),
+              ),
+            ),
+          ),
+        ),
+      ),
+    ),
+  ),
+)
 
 goes_run : Runs (λ k. 0) (λ i. false) (led comes (at_rest 2)) goes (led goes (led comes (at_rest 2)))
 unfolding weight
-goes_run =
-  (record { place = _; here = refl; there = inl refl; allowed = (refl, (refl, refl)); free = tt },
-  (record { place = _; here = refl; there = inl refl; allowed = (refl, refl); free = refl },
-  (record { place = _; here = refl; there = inl refl; allowed = (refl, refl, refl); free = tt },
-  (record { place = _; here = refl; there = inl refl; allowed = (refl, refl); free = tt },
-  (record { place = _; here = refl; there = inl refl; allowed = (refl, tt); free = tt },
-  (record { place = _; here = refl; there = inl refl; allowed = (refl, refl, refl); free = tt },
-  (record { place = _; here = refl; there = inl refl; allowed = (refl, tt); free = tt },
-  (record { place = _; here = refl; there = inl refl; allowed = (refl, refl); free = tt },
-  refl))))))))
+goes_run = (
+  record { place = _; here = refl; there = inl refl; allowed = (refl, (refl, refl)); free = tt },
+  (
+    record { place = _; here = refl; there = inl refl; allowed = (refl, refl); free = refl },
+    (
+      record { place = _; here = refl; there = inl refl; allowed = (refl, refl, refl); free = tt },
+      (
+        record { place = _; here = refl; there = inl refl; allowed = (refl, refl); free = tt },
+        (
+          record { place = _; here = refl; there = inl refl; allowed = (refl, tt); free = tt },
+          (
+            record { place = _; here = refl; there = inl refl; allowed = (refl, refl, refl); free = tt },
+            (
+              record { place = _; here = refl; there = inl refl; allowed = (refl, tt); free = tt },
+              (
+                record { place = _; here = refl; there = inl refl; allowed = (refl, refl); free = tt },
+                refl,
+              ),
+            ),
+          ),
+        ),
+      ),
+    ),
+  ),
+)
 
 runs-append : (ms ns : List Move) (w v x : World) → Runs (λ k. 0) (λ i. false) w ms v → Runs (λ k. 0) (λ i. false) v ns x → Runs (λ k. 0) (λ i. false) w (ms ++ ns) x
 runs-append [] ns w v x e run = subst (λ (y : World). Runs (λ k. 0) (λ i. false) y ns x) e run

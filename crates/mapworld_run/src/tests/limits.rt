@@ -113,13 +113,7 @@ fn a_world_of_4096_shards_runs_to_its_end(rt: HostRuntime) -> Result<(), Fail> {
         vec![in rt.alloc(); remove(0), insert(255, 1)]?,
         vec![in rt.alloc(); get(7), read(), drop_guard()]?,
     ]?;
-    let mut world: World<Global> = MapWorld::new(
-        rt.alloc(),
-        4096,
-        SpreadState,
-        pairs,
-        programs,
-    )?;
+    let mut world: World<Global> = MapWorld::new(rt.alloc(), 4096, SpreadState, pairs, programs)?;
     step_round(&mut world, 2)?;
     assert!(rt;
         told(&world, 0, 0, &Answer::Pair(0, 0))
