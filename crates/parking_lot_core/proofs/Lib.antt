@@ -10,3 +10,4 @@ pub mod Takings
 pub mod Sifting
 pub mod Moving
 pub mod Requeues
+pub mod Sequences

@@ -5,3 +5,4 @@ pub mod Places
 pub mod Machine
 pub mod Sound
 pub mod Operations
+pub mod Runs

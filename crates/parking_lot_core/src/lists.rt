@@ -60,7 +60,7 @@ impl<T: Copy, A: Allocator> Lists<T, A> {
         ensures err { OnErr result (kept self.new ≡ kept self.old) }
     {
         self.entries.reserve(1)?;
-        self.entries.push_reserved(Entry { key, item });
+        self.push(key, item);
         Ok(())
     }
 

@@ -75,7 +75,7 @@ impl<A: Allocator> Lot<A> {
     pub fn same_lot(&self, number: u64, thread: usize) -> bool
         ensures { IsTrue result ↔ (((machine self.now).number ≡ number) × (thread < (machine self.now).max_threads)) }
     {
-        self.number == number && thread < self.max_threads
+        number == self.number && thread < self.max_threads
     }
 
     /// What is kept of a thread; `None` where its number is free. In a section it is what is kept beside the section.
