@@ -87,7 +87,6 @@ moved_more_suc m from to i w at =
     let split : drop i q ≡ w ∷ drop (suc i) q = front (drop i q) cut.1 ∙ ap (λ ys. w ∷ ys) cut.2 in
     let step = steps m.queues from to w (drop (suc i) q) (take i q) in
     let before = moved m from to (take i q) (w ∷ drop (suc i) q) in
-    rw add-one (
     ap (λ (ws : List Waiter). moved_first (moved m from to (take i q) ws) from to) split
     ∙ (ap (λ o. option_map_or (λ x. moved before from to (x ∷ []) (remove (before.queues from) 0)) o before) step.0
     ∙ (ap (λ (qs : ℕ → List Waiter). record (moved before from to (w ∷ []) (remove (before.queues from) 0)) { queues = qs }) step.1
