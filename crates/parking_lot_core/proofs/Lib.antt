@@ -11,3 +11,4 @@ pub mod Sifting
 pub mod Moving
 pub mod Requeues
 pub mod Sequences
+pub mod Whole

@@ -48,8 +48,8 @@ sound_changed f waits keeps same m t h = by_place (place_at m.places t) refl
     by_place None at =
         let ps = changed f m.places t in
         let each : (u : ℕ) → place_at ps u ≡ place_at m.places u = λ u. by_eqb u t (place_at ps u ≡ place_at m.places u)
-            (λ e. ap (place_at ps) e ∙ (nobody m.places t (ap (option_map f) at) ∙ (sym at ∙ ap (place_at m.places) (sym e))))
-            (λ e. place_at-set_other m.places t u (option_map f (place_at m.places t)) e) in
+        (λ e. ap (place_at ps) e ∙ (nobody m.places t (ap (option_map f) at) ∙ (sym at ∙ ap (place_at m.places) (sym e))))
+        (λ e. place_at-set_other m.places t u (option_map f (place_at m.places t)) e) in
         record {
           waits = λ u k. h.waits u k ∙ ap (times_at k) (sym (each u));
           held = λ none u. ap (λ o. option_map_or is_held o false) (each u) ∙ h.held none u;
@@ -92,7 +92,7 @@ sound_given_up m t key s h at =
     let q = m.queues key in
     let x = first_passes (is_thread t) q (subst (λ (n : ℕ). 1 ≤ n) (sym (h.waits t key ∙ (ap (times_at key) at ∙ ap flag (eq-eqb key key refl)))) (omega arith)) in
     subst (λ (u : ℕ). Sound (record m { queues = updated m.queues key (without_first (is_thread t) q); places = slice_set m.places u (Some Running) })) (eqb-true x.0.thread t x.2)
-      (sound_left m key (position_or_len (is_thread t) q) x.0 h x.1 Running (λ k. refl) (λ none. refl))
+    (sound_left m key (position_or_len (is_thread t) q) x.0 h x.1 Running (λ k. refl) (λ none. refl))
 
 -- a section takes
 is_none_not : (o : Option Section) → is_some o ≡ true → o ≡ None → ⊥
@@ -120,7 +120,7 @@ sound_sifted m key [] ws skipped rest entered h = subst (λ (xs : List Waiter). 
 sound_sifted m key (a ∷ answers) ws skipped [] entered h = subst (λ (xs : List Waiter). Sound (all_taken m key xs (skipped ++ []))) (sym (append-nil ws)) h
 sound_sifted m key (Unpark ∷ answers) ws skipped (x ∷ rest) entered h =
     let h1 : Sound (all_taken m key (ws ++ x ∷ []) (skipped ++ rest)) = subst Sound (taken_more m key ws (skipped ++ x ∷ rest) (length skipped) x (slice_get-seam skipped x rest) ∙ ap (all_taken m key (ws ++ x ∷ [])) (remove-seam skipped x rest))
-          (sound_taken (all_taken m key ws (skipped ++ x ∷ rest)) key (length skipped) h entered) in
+    (sound_taken (all_taken m key ws (skipped ++ x ∷ rest)) key (length skipped) h entered) in
     subst (λ (xs : List Waiter). Sound (all_taken m key xs (skipped ++ passed_by answers rest))) (append_assoc ws (x ∷ []) (chosen_by answers rest)) (sound_sifted m key answers (ws ++ x ∷ []) skipped rest entered h1)
 sound_sifted m key (Skip ∷ answers) ws skipped (x ∷ rest) entered h =
     subst (λ (xs : List Waiter). Sound (all_taken m key (ws ++ chosen_by answers rest) xs)) (append_assoc skipped (x ∷ []) (passed_by answers rest))
@@ -197,8 +197,10 @@ in_open t (Some x) s e = by (is_of t x) refl e
     owner : (o : Option ℕ) → option_map_or (λ u. u == t) o false ≡ true → o ≡ Some t
     owner None e = absurd (false≢true e)
     owner (Some u) e = ap (λ v. Some v) (eqb-true u t e)
+
     same : {a b : Section} → Some a ≡ Some b → a ≡ b
     same e = cc
+
     by : (b : Bool) → is_of t x ≡ b → cond b (Some x) None ≡ Some s → (Some x ≡ Some s) × (s.thread ≡ Some t)
     by true is e = (e, subst (λ (y : Section). y.thread ≡ Some t) (same e) (owner x.thread is))
     by false is e = absurd (none≢some e)
@@ -231,8 +233,8 @@ sound_next m t answers (Some s) e h =
     let moving : Sound n = sound_phase m (phase.Taking at) h (λ x is may. absurd (false≢true may)) in
     let entered : is_some n.section ≡ true = ap (λ x. is_some (option_map {T = Section} (λ y. record y { phase = phase.Taking at }) x)) o.0 in
     elim (list_any is_take answers) as (λ b. Sound (cond b (taken n s.key at) (in_phase m phase.Ended))) [
-      true ↦ sound_taken n s.key at moving entered
-    | false ↦ sound_phase m phase.Ended h (λ x is may. absurd (false≢true may))
+      | true ↦ sound_taken n s.key at moving entered
+      | false ↦ sound_phase m phase.Ended h (λ x is may. absurd (false≢true may))
     ]
 
 sound_appended : (m : Machine) (t : ℕ) (token : ParkToken) (timed : Bool) (o : Option Section) → section_of m t ≡ o → step_fault may_join m t ≡ None → Sound m
@@ -242,11 +244,12 @@ sound_appended m t token timed (Some s) e allowed h =
     let o = in_open t m.section s e in
     let may : may_join s.phase ≡ true = ap (λ x. option_map_or (λ y. may_join y.phase) x false) (sym e) ∙ allowing (option_map_or (λ y. may_join y.phase) (section_of m t) false) allowed in
     sound_joined (in_phase m phase.Joined) t s.key token timed (sound_phase m phase.Joined h (λ x is j. absurd (false≢true j))) (h.inside s t o.0 o.1 may)
-      (λ x is whose. no_join m.section x is)
+    (λ x is whose. no_join m.section x is)
   where
     allowing : (b : Bool) → cond b None (Some WrongStatus) ≡ None → b ≡ true
     allowing true e = refl
     allowing false e = absurd (some≢none e)
+
     no_join : (o : Option Section) (x : Section) → option_map {T = Section} (λ y. record y { phase = phase.Joined }) o ≡ Some x → may_join x.phase ≡ false
     no_join None x e = absurd (none≢some e)
     no_join (Some y) x e = ap (λ z. may_join z.phase) (sym (same_open e))
@@ -276,11 +279,11 @@ sound_effect m (UnparkOne key token) h e = sound_woken m key (take 1 (m.queues k
 sound_effect m (UnparkAll key token) h e =
     let q = m.queues key in
     sound_woken m key q [] token h (free_section m e)
-      (subst (λ (xs : List Waiter). Sound (all_taken (opened m None key) key q xs)) (drop-length q) (subst (λ (xs : List Waiter). Sound (all_taken (opened m None key) key xs (drop (length q) q))) (take-length q) (sound_front (opened m None key) key (length q) (sound_entered m key h) refl)))
+    (subst (λ (xs : List Waiter). Sound (all_taken (opened m None key) key q xs)) (drop-length q) (subst (λ (xs : List Waiter). Sound (all_taken (opened m None key) key xs (drop (length q) q))) (take-length q) (sound_front (opened m None key) key (length q) (sound_entered m key h) refl)))
 sound_effect m (UnparkFilter key answers token) h e =
     let q = m.queues key in
     sound_woken m key (chosen_by answers q) (passed_by answers q) token h (free_section m e)
-      (sound_sifted (opened m None key) key answers [] [] q refl (subst Sound (all_taken_none (opened m None key) key) (sound_entered m key h)))
+    (sound_sifted (opened m None key) key answers [] [] q refl (subst Sound (all_taken_none (opened m None key) key) (sound_entered m key h)))
 sound_effect m (UnparkRequeue from to op token) h e = elim (is_abort op) as (λ b. Sound (cond b m (requeued m op from to token))) [ true ↦ h | false ↦ sound_requeued m op from to token h (free_section m e) ]
 sound_effect m (Acquire t key) h e = let p = some_of (place_at m.places t) (owning (is_some (place_at m.places t)) e) in sound_owned m t p.0 (m.resources t ++ key ∷ []) h p.1
 sound_effect m (Release t key) h e = let p = some_of (place_at m.places t) (owning (is_some (place_at m.places t)) e) in sound_owned m t p.0 (without_first (λ k. k == key) (m.resources t)) h p.1

@@ -103,7 +103,7 @@ told_all f g h same ps [] = refl
 told_all f g h same ps (t ∷ ts) = told_all f g h same (changed f ps t) ts ∙ ap (λ (xs : List (Option Place)). all_changed g xs ts) (told_changed f g h same ps t)
 
 -- where nobody is held, nobody is told
-nobody_told : (token : UnparkToken) (b : Bool) (ps : List (Option Place)) → ((t : ℕ) → option_map_or is_held (place_at ps t) false ≡ false) → map (option_map (told token b)) ps ≡ ps
+pub nobody_told : (token : UnparkToken) (b : Bool) (ps : List (Option Place)) → ((t : ℕ) → option_map_or is_held (place_at ps t) false ≡ false) → map (option_map (told token b)) ps ≡ ps
 nobody_told token b [] none = refl
 nobody_told token b (o ∷ ps) none = ap (λ x. x ∷ map (option_map (told token b)) ps) (one o (none 0)) ∙ ap (λ xs. o ∷ xs) (nobody_told token b ps (λ t. none (suc t)))
   where

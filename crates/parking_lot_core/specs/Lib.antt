@@ -6,3 +6,4 @@ pub mod Machine
 pub mod Sound
 pub mod Operations
 pub mod Runs
+pub mod InSteps

@@ -22,7 +22,7 @@ pub(crate) struct Lists<T, A: Allocator> {
 impl<T: Copy, A: Allocator> Lists<T, A> {
     /// No items.
     pub fn new(alloc: A) -> Self
-        ensures kept { (key : ℕ) → kept result key ≡ [] }
+        ensures kept { kept result ≡ (λ (_ : ℕ). []) }
         ensures total { total result ≡ 0 }
     {
         Lists {
