@@ -39,7 +39,7 @@ held≢running e = cc
 taken≢running : {token : UnparkToken} {s : Sleep} {b : Bool} → Taken token s b ≡ Running → ⊥
 taken≢running e = cc
 
-some_of : {X : Type 0} (o : Option X) → is_some o ≡ true → (x : X) × (o ≡ Some x)
+pub some_of : {X : Type 0} (o : Option X) → is_some o ≡ true → (x : X) × (o ≡ Some x)
 some_of None e = absurd (false≢true e)
 some_of (Some x) e = (x, refl)
 
@@ -58,7 +58,7 @@ runs_at (Some place) false token e = (ap (λ x. Some x) (told_so token place e),
 pub running : (m : Machine) (t : ℕ) → runs (status_at m t) ≡ true → (place_at m.places t ≡ Some Running) × (is_in m t ≡ false)
 running m t e = runs_at (place_at m.places t) (is_in m t) (token_of m) e
 
-unrefused : (m : Machine) (t : ℕ) (b : Bool) → runs (status_at m t) ≡ b → cond b None (Some WrongStatus) ≡ None → (place_at m.places t ≡ Some Running) × (is_in m t ≡ false)
+pub unrefused : (m : Machine) (t : ℕ) (b : Bool) → runs (status_at m t) ≡ b → cond b None (Some WrongStatus) ≡ None → (place_at m.places t ≡ Some Running) × (is_in m t ≡ false)
 unrefused m t true e free = running m t e
 unrefused m t false e free = absurd (some≢none free)
 

@@ -10,3 +10,5 @@ pub mod Takings
 pub mod Sifting
 pub mod Moving
 pub mod Requeues
+pub mod Sequences
+pub mod Whole

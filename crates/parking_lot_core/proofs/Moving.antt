@@ -80,20 +80,19 @@ moved_none m from to =
     ∙ (ap (updated m.queues to) (append-nil (m.queues to)) ∙ updated_same m.queues to)))
 
 -- one more moves
-pub moved_more : (m : Machine) (from to i : ℕ) (w : Waiter) → let q = m.queues from in slice_get q i ≡ Some w → moved_first (moved m from to (take i q) (drop i q)) from to ≡ moved m from to (take (i + 1) q) (drop (i + 1) q)
-moved_more m from to i w at =
+pub moved_more_suc : (m : Machine) (from to i : ℕ) (w : Waiter) → let q = m.queues from in slice_get q i ≡ Some w → moved_first (moved m from to (take i q) (drop i q)) from to ≡ moved m from to (take (suc i) q) (drop (suc i) q)
+moved_more_suc m from to i w at =
     let q = m.queues from in
     let cut = cut_more q i w at in
     let split : drop i q ≡ w ∷ drop (suc i) q = front (drop i q) cut.1 ∙ ap (λ ys. w ∷ ys) cut.2 in
     let step = steps m.queues from to w (drop (suc i) q) (take i q) in
     let before = moved m from to (take i q) (w ∷ drop (suc i) q) in
-    rw add-one (
     ap (λ (ws : List Waiter). moved_first (moved m from to (take i q) ws) from to) split
     ∙ (ap (λ o. option_map_or (λ x. moved before from to (x ∷ []) (remove (before.queues from) 0)) o before) step.0
     ∙ (ap (λ (qs : ℕ → List Waiter). record (moved before from to (w ∷ []) (remove (before.queues from) 0)) { queues = qs }) step.1
     ∙ (ap (λ (ps : List (Option Place)). record m { queues = relisted m.queues from to (drop (suc i) q) (take i q ++ w ∷ []); places = ps })
     (sym (ap (all_changed (moved_to to) m.places) (threads_more (take i q) w) ∙ all_changed_more (moved_to to) m.places (threads_of (take i q)) w.thread))
-    ∙ ap (λ (ws : List Waiter). moved m from to ws (drop (suc i) q)) (sym cut.0)))))
+    ∙ ap (λ (ws : List Waiter). moved m from to ws (drop (suc i) q)) (sym cut.0))))
   where
     front : (xs : List Waiter) → slice_get xs 0 ≡ Some w → xs ≡ w ∷ remove xs 0
     front [] e = absurd (none≢some e)
@@ -101,6 +100,9 @@ moved_more m from to i w at =
       where
         same : {a b : Waiter} → Some a ≡ Some b → a ≡ b
         same e = cc
+
+pub moved_more : (m : Machine) (from to i : ℕ) (w : Waiter) → let q = m.queues from in slice_get q i ≡ Some w → moved_first (moved m from to (take i q) (drop i q)) from to ≡ moved m from to (take (i + 1) q) (drop (i + 1) q)
+moved_more m from to i w at = rw add-one (moved_more_suc m from to i w at)
 
 -- within the list there is one
 pub nth_of : {X : Type 0} (xs : List X) (i : ℕ) → i < length xs → (x : X) × (slice_get xs i ≡ Some x)

@@ -54,8 +54,8 @@ module _ {X : Type 0} where
   cut_past (y ∷ xs) (suc i) h = let r = cut_past xs i h in (ap (λ zs. y ∷ zs) r.0, r.1, r.2)
 
 -- taking from the front, once more
-pub taken_front : (m : Machine) (key i : ℕ) → let q = m.queues key in taken (all_taken m key (take i q) (drop i q)) key 0 ≡ all_taken m key (take (i + 1) q) (drop (i + 1) q)
-taken_front m key i = rw add-one (front (slice_get (m.queues key) i) refl)
+pub taken_front_suc : (m : Machine) (key i : ℕ) → let q = m.queues key in taken (all_taken m key (take i q) (drop i q)) key 0 ≡ all_taken m key (take (suc i) q) (drop (suc i) q)
+taken_front_suc m key i = front (slice_get (m.queues key) i) refl
   where
     front : (o : Option Waiter) → slice_get (m.queues key) i ≡ o → taken (all_taken m key (take i (m.queues key)) (drop i (m.queues key))) key 0 ≡ all_taken m key (take (suc i) (m.queues key)) (drop (suc i) (m.queues key))
     front None e =
@@ -70,6 +70,9 @@ taken_front m key i = rw add-one (front (slice_get (m.queues key) i) refl)
         let r = cut_more q i w e in
         taken_more m key (take i q) (drop i q) 0 w r.1
         ∙ (ap (λ (ws : List Waiter). all_taken m key ws (remove (drop i q) 0)) (sym r.0) ∙ ap (λ (rest : List Waiter). all_taken m key (take (suc i) q) rest) r.2)
+
+pub taken_front : (m : Machine) (key i : ℕ) → let q = m.queues key in taken (all_taken m key (take i q) (drop i q)) key 0 ≡ all_taken m key (take (i + 1) q) (drop (i + 1) q)
+taken_front m key i = rw add-one (taken_front_suc m key i)
 
 -- THE END OF A SECTION
 
@@ -100,7 +103,7 @@ told_all f g h same ps [] = refl
 told_all f g h same ps (t ∷ ts) = told_all f g h same (changed f ps t) ts ∙ ap (λ (xs : List (Option Place)). all_changed g xs ts) (told_changed f g h same ps t)
 
 -- where nobody is held, nobody is told
-nobody_told : (token : UnparkToken) (b : Bool) (ps : List (Option Place)) → ((t : ℕ) → option_map_or is_held (place_at ps t) false ≡ false) → map (option_map (told token b)) ps ≡ ps
+pub nobody_told : (token : UnparkToken) (b : Bool) (ps : List (Option Place)) → ((t : ℕ) → option_map_or is_held (place_at ps t) false ≡ false) → map (option_map (told token b)) ps ≡ ps
 nobody_told token b [] none = refl
 nobody_told token b (o ∷ ps) none = ap (λ x. x ∷ map (option_map (told token b)) ps) (one o (none 0)) ∙ ap (λ xs. o ∷ xs) (nobody_told token b ps (λ t. none (suc t)))
   where

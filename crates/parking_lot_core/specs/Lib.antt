@@ -5,3 +5,5 @@ pub mod Places
 pub mod Machine
 pub mod Sound
 pub mod Operations
+pub mod Runs
+pub mod InSteps

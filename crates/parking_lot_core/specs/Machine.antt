@@ -149,16 +149,6 @@ Unless (Some fault) result old new Done = (result ≡ Err fault) × (new ≡ old
 abbrev pub changed_at : (Place → Place) → Machine → ℕ → Machine
 changed_at f m thread = record m { places = changed f m.places thread }
 
--- a new lot: nobody is registered, and nobody waits
-pub record IsFresh (m : Machine) (limit named : ℕ) : Type 0 where
-  pub number : m.number ≡ named
-  pub max_threads : m.max_threads ≡ limit
-  pub sleeps : m.sleeps ≡ 0
-  pub queues : (key : ℕ) → m.queues key ≡ []
-  pub resources : (thread : ℕ) → m.resources thread ≡ []
-  pub places : m.places ≡ []
-  pub section : m.section ≡ None
-
 -- the least free number is given out
 abbrev pub registered : Machine → Machine
 registered m = let n = free_number m.places in record m { places = take n m.places ++ Some Running ∷ drop (suc n) m.places }

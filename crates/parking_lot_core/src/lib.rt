@@ -2,6 +2,7 @@
 #![tactic(auto)]
 
 mod fault;
+mod laws;
 mod lists;
 mod lot;
 mod operations;
@@ -12,6 +13,7 @@ mod sections;
 mod steps;
 
 pub use fault::{LotFault, SizeFault};
+pub use laws::{every_run_is_sound, park_is_its_steps, unpark_one_is_its_steps};
 pub use lot::Lot;
 pub use parking::{
     DEFAULT_PARK_TOKEN, DEFAULT_UNPARK_TOKEN, FilterOp, ParkResult, ParkToken, RequeueOp,

@@ -22,7 +22,7 @@ pub(crate) struct Lists<T, A: Allocator> {
 impl<T: Copy, A: Allocator> Lists<T, A> {
     /// No items.
     pub fn new(alloc: A) -> Self
-        ensures kept { (key : ℕ) → kept result key ≡ [] }
+        ensures kept { kept result ≡ (λ (_ : ℕ). []) }
         ensures total { total result ≡ 0 }
     {
         Lists {
@@ -60,7 +60,7 @@ impl<T: Copy, A: Allocator> Lists<T, A> {
         ensures err { OnErr result (kept self.new ≡ kept self.old) }
     {
         self.entries.reserve(1)?;
-        self.entries.push_reserved(Entry { key, item });
+        self.push(key, item);
         Ok(())
     }
 

@@ -3,7 +3,8 @@ ghost use Rattle.std.specs.Prelude.{◌≡◌, ◌<◌, ◌≤◌, ◌↔◌, �
 ghost use Rattle.parking_lot_core.specs.Lists.{updated, without_first};
 ghost use Rattle.parking_lot_core.specs.Places.{place_at, late, roused, is_due, is_held};
 ghost use Rattle.std.specs.Option.{option_map_or};
-ghost use Rattle.parking_lot_core.specs.Machine.{Machine, machine, status_at, threads_of, is_in, is_thread, register_fault, retire_fault, deadline_fault, owner_fault, enter_fault, free_number, busy, changed_at, registered, retired, IsFresh, Unless};
+ghost use Rattle.parking_lot_core.specs.Machine.{Machine, machine, status_at, threads_of, is_in, is_thread, register_fault, retire_fault, deadline_fault, owner_fault, enter_fault, free_number, busy, changed_at, registered, retired, Unless};
+ghost use Rattle.parking_lot_core.specs.Runs.{fresh};
 ghost use Rattle.parking_lot_core.specs.Sound.{times_at};
 ghost use Rattle.parking_lot_core.specs.declared.fault.SizeFault.TheVariants.{BadSize};
 ghost use Rattle.parking_lot_core.specs.declared.fault.LotFault.TheVariants.{NoMemory};
@@ -75,7 +76,7 @@ impl<A: Allocator> Lot<A> {
     pub fn same_lot(&self, number: u64, thread: usize) -> bool
         ensures { IsTrue result ↔ (((machine self.now).number ≡ number) × (thread < (machine self.now).max_threads)) }
     {
-        self.number == number && thread < self.max_threads
+        number == self.number && thread < self.max_threads
     }
 
     /// What is kept of a thread; `None` where its number is free. In a section it is what is kept beside the section.
@@ -230,7 +231,7 @@ impl<A: Allocator + Clone> Lot<A> {
     /// to get different numbers.
     pub fn new(alloc: A, max_threads: usize, number: u64) -> Result<Lot<A>, SizeFault>
         ensures size { IsErrOf result BadSize ↔ ((max_threads ≡ 0) ⊎ (65536 < max_threads)) }
-        ensures made { IfOk result (λ lot. IsFresh (machine lot) max_threads number) }
+        ensures made { IfOk result (λ lot. machine lot ≡ fresh max_threads number) }
     {
         if max_threads == 0 || max_threads > LIMIT {
             return Err(SizeFault::BadSize);
