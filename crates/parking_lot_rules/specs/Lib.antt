@@ -1,4 +1,5 @@
 pub mod Roles
+pub mod Lists
 pub mod Classes
 pub mod Clauses
 pub mod Plain
