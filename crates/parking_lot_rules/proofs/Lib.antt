@@ -20,3 +20,4 @@ pub mod Owning
 pub mod Casing
 pub mod Keeping
 pub mod Exampling
+pub mod Mutexes

@@ -13,3 +13,4 @@ pub mod Progress
 pub mod Wrong
 pub mod Owners
 pub mod Example
+pub mod Mutex
