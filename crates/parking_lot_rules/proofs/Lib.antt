@@ -21,3 +21,4 @@ pub mod Casing
 pub mod Keeping
 pub mod Exampling
 pub mod Mutexes
+pub mod MutexFollowing

@@ -59,7 +59,7 @@ counts_all (r ∷ rs) =
           omega (arith, sum_by-cons (weight Counted) r rs);
     }
 
-away_weighs : (c : Class) → weight c away ≡ 0
+pub away_weighs : (c : Class) → weight c away ≡ 0
 unfolding weight
 away_weighs Owning = refl
 away_weighs _ = refl
@@ -67,7 +67,7 @@ away_weighs _ = refl
 total-set : (rs : List Role) (t : ℕ) (a b : Role) → slice_get rs t ≡ Some a → (c : Class) → total c (slice_set rs t b) ≡ total c (slice_set rs t away) + weight c b
 total-set rs t a b at c = omega (arith, sum_by-set_at (weight c) rs t a b at, sum_by-set_at (weight c) rs t a away at, away_weighs c)
 
-total-at : (rs : List Role) (t : ℕ) (a : Role) → slice_get rs t ≡ Some a → (c : Class) → total c rs ≡ total c (slice_set rs t away) + weight c a
+pub total-at : (rs : List Role) (t : ℕ) (a : Role) → slice_get rs t ≡ Some a → (c : Class) → total c rs ≡ total c (slice_set rs t away) + weight c a
 total-at rs t a at c = omega (arith, sum_by-set_at (weight c) rs t a away at, away_weighs c)
 
 same_counts : (P : (Class → ℕ) → Type 0) (m n : Class → ℕ) → ((c : Class) → m c ≡ n c) → P m → P n
@@ -502,7 +502,7 @@ all_away zero u r at = absurd (none-some r at)
 all_away (suc n) zero r at = sym (same_Some _ r at)
 all_away (suc n) (suc u) r at = all_away n u r at
 
-total-none : (c : Class) (rs : List Role) → ((u : ℕ) (r : Role) → slice_get rs u ≡ Some r → weight c r ≡ 0) → total c rs ≡ 0
+pub total-none : (c : Class) (rs : List Role) → ((u : ℕ) (r : Role) → slice_get rs u ≡ Some r → weight c r ≡ 0) → total c rs ≡ 0
 total-none c [] none = refl
 total-none c (r ∷ rs) none = omega (arith, sum_by-cons (weight c) r rs, none 0 r refl, total-none c rs (λ u x at. none (suc u) x at))
 

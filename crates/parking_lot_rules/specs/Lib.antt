@@ -14,3 +14,4 @@ pub mod Wrong
 pub mod Owners
 pub mod Example
 pub mod Mutex
+pub mod MutexLaws

@@ -4,6 +4,7 @@
 
 mod example;
 mod laws;
+mod mutex;
 mod progress;
 mod steps;
 mod wrong;
@@ -12,6 +13,14 @@ pub use example::a_writer_waits_and_is_woken;
 pub use laws::{
     a_refusal_has_a_cause, debts_are_kept, every_lock_is_sound, no_bit_outlives_the_calls,
     owners_exclude_each_other, sleepers_are_known, somebody_can_move, the_word_tells_the_owners,
+};
+pub use mutex::{
+    a_mutex_tells_its_owner,
+    debts_of_a_mutex_are_kept,
+    every_mutex_is_sound,
+    no_bit_of_a_mutex_outlives_the_calls,
+    sleepers_at_a_mutex_are_known,
+    somebody_at_a_mutex_can_move,
 };
 pub use progress::{rising_locks_never_deadlock, sections_are_entered, sleepers_are_served};
 pub use steps::{each_step_is_a_case, readers_are_kept_out};
