@@ -7,6 +7,7 @@ mod laws;
 mod mutex;
 mod progress;
 mod steps;
+mod word;
 mod wrong;
 
 pub use example::a_writer_waits_and_is_woken;
@@ -29,4 +30,8 @@ pub use wrong::{
     a_join_without_a_check_is_wrong, a_scan_past_a_writer_is_wrong,
     a_section_that_forgets_the_writer_is_wrong, a_store_of_zero_with_waiters_is_wrong,
     a_wake_by_number_is_wrong, debts_alone_are_not_kept,
+};
+pub use word::{
+    is_parked, is_upgradable, is_writer_parked, is_written, readers, with_parked,
+    without_parked, without_writer_parked,
 };
