@@ -22,3 +22,4 @@ pub mod Keeping
 pub mod Exampling
 pub mod Mutexes
 pub mod MutexFollowing
+pub mod Ranking

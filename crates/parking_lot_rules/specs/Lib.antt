@@ -13,5 +13,6 @@ pub mod Progress
 pub mod Wrong
 pub mod Owners
 pub mod Example
+pub mod Ranks
 pub mod Mutex
 pub mod MutexLaws
