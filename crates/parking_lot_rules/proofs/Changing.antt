@@ -62,7 +62,7 @@ waking_wakes OwnPending t stay note = refl
 waking_wakes OwnUpgradable t stay note = refl
 waking_wakes (Recheck f) t stay note = refl
 
-taking_taken : (s : Scan) (v : ℕ) (m : Mode) → (taking s v m).taken ≡ s.taken ++ v ∷ []
+pub taking_taken : (s : Scan) (v : ℕ) (m : Mode) → (taking s v m).taken ≡ s.taken ++ v ∷ []
 taking_taken s v Shared = refl
 taking_taken s v Exclusive = refl
 taking_taken s v Upgradable = refl

@@ -24,7 +24,10 @@ pub use mutex::{
     somebody_at_a_mutex_can_move,
 };
 pub use progress::{rising_locks_never_deadlock, sections_are_entered, sleepers_are_served};
-pub use steps::{each_step_is_a_case, readers_are_kept_out};
+pub use steps::{
+    a_call_begins_with_a_small_rank, another_thread_may_be_stepped, each_step_is_a_case, ranks_fall,
+    readers_are_kept_out,
+};
 pub use wrong::{
     a_bit_on_an_empty_list_is_wrong, a_give_up_that_keeps_its_bit_is_wrong,
     a_join_without_a_check_is_wrong, a_scan_past_a_writer_is_wrong,
