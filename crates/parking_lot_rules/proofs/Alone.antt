@@ -5,7 +5,8 @@ use Rattle.parking_lot_rules.specs.Roles.{Open, Normal, Handed, Role, away}
 use Rattle.parking_lot_rules.specs.Classes.{Waiting1, Waiting2, weight, total}
 use Rattle.parking_lot_rules.specs.Clauses.{Word, Fits}
 use Rattle.parking_lot_rules.specs.Plain.{Plain, ExpireTaken1, ReenterTaken1, Yield, YieldBack, Look2, Mask2, Depart2, LookExclusive, LookUpgradable, Downgrade, DowngradeToUpgradable, DowngradeUpgradable, LookOwed, Depart1, Finish, from, to, May, written}
-use Rattle.parking_lot_rules.specs.Lock.{Note, On1, On2, occurs, note_of, to_wake, Sound}
+use Rattle.parking_lot_rules.specs.Lists.{occurs}
+use Rattle.parking_lot_rules.specs.Lock.{role_note, role_wakes, Note, On1, On2, note_of, to_wake, Sound}
 use Rattle.parking_lot_rules.proofs.Totals.{counts_all, total-set, total-at, same_counts}
 use Rattle.parking_lot_rules.proofs.Plain.{plain_fits}
 use Rattle.parking_lot_rules.proofs.Waiting.{lists-same}
@@ -117,9 +118,9 @@ module _ (w : Word) (rs : List Role) (first second : List ℕ) (sound : Sound w 
     fits = fits-set (written k w) (from k) (to k) at (λ before.
         plain_fits recursive k w (λ c. total c (slice_set rs t away)) (counts_all (slice_set rs t away)) before
         (same_counts (May recursive k w) (λ c. total c rs) _ (total-at rs t (from k) at) may));
-    waiting1 = lists-same Waiting1 first rs t (from k) (to k) at sound.waiting1 (same_waiting1 k);
-    waiting2 = lists-same Waiting2 second rs t (from k) (to k) at sound.waiting2 (same_waiting2 k);
-    noted = noted-set rs t (from k) (to k) at sound.noted
+    waiting1 = lists-same (weight Waiting1) first rs t (from k) (to k) at sound.waiting1 (same_waiting1 k);
+    waiting2 = lists-same (weight Waiting2) second rs t (from k) (to k) at sound.waiting2 (same_waiting2 k);
+    noted = noted-set role_note role_wakes rs t (from k) (to k) at sound.noted
         (λ by note took. ⊎_elim (λ none. absurd (none-some (by, note) (sym none ∙ took))) (λ same. sound.noted t by (from k) note at (sym same ∙ took)) (same_note k))
         (λ u r note here took. omega (arith, ap (λ us. occurs u us) (same_wakes k note)));
   }

@@ -4,7 +4,8 @@ use Rattle.std.proofs.lemmas.Option.{none-some, same_Some}
 use Rattle.parking_lot_rules.specs.Roles.{Mode, Shared, Exclusive, Upgradable, Owned, Shares, Stay, Fresh, Asleep, Late, Back, Open, Normal, Handed, Queued1, Taken1, Queued2, Taken2, Scans2, Wakes, Role, away}
 use Rattle.parking_lot_rules.specs.Classes.{Class, Waiting1, Waiting2, weight, total, inside}
 use Rattle.parking_lot_rules.specs.Clauses.{Word, Fits}
-use Rattle.parking_lot_rules.specs.Lock.{Note, On1, On2, occurs, note_of, to_wake, Lists, Sound}
+use Rattle.parking_lot_rules.specs.Lists.{occurs}
+use Rattle.parking_lot_rules.specs.Lock.{role_note, role_wakes, Note, On1, On2, note_of, to_wake, Lists, Sound}
 use Rattle.parking_lot_rules.specs.Steps.{Listing, Join1, Join2, Quit1, QuitLast1, Quit2, listing_from, listing_to, MayList, first_after, second_after, Scan, scanning, taking, MayTake, Waking, Retry, Own, OwnPending, OwnUpgradable, Recheck, waking_from, waking_to}
 use Rattle.parking_lot_rules.proofs.Indexed.{get-set_same, get-set_other, get-set_cases, sum_by-set_at}
 use Rattle.parking_lot_rules.proofs.Totals.{counts_all, total-at, same_counts, away_weighs}
@@ -61,7 +62,7 @@ waking_wakes OwnPending t stay note = refl
 waking_wakes OwnUpgradable t stay note = refl
 waking_wakes (Recheck f) t stay note = refl
 
-taking_taken : (s : Scan) (v : ℕ) (m : Mode) → (taking s v m).taken ≡ s.taken ++ v ∷ []
+pub taking_taken : (s : Scan) (v : ℕ) (m : Mode) → (taking s v m).taken ≡ s.taken ++ v ∷ []
 taking_taken s v Shared = refl
 taking_taken s v Exclusive = refl
 taking_taken s v Upgradable = refl
@@ -93,31 +94,31 @@ module _ (w : Word) (rs : List Role) (first second : List ℕ) (sound : Sound w 
         (may_count k t first second _ (sound.waiting1.count ∙ total-at rs t (listing_from k) at Waiting1) may));
     waiting1 = one k at may;
     waiting2 = two k at may;
-    noted = noted-set rs t (listing_from k) (listing_to k) at sound.noted (nothing_noted (listing_to k) (λ by note. WillWake rs by t note) (listing_note k))
+    noted = noted-set role_note role_wakes rs t (listing_from k) (listing_to k) at sound.noted (nothing_noted (listing_to k) (λ by note. WillWake rs by t note) (listing_note k))
         (λ u r note here took. omega (arith, ap (λ us. occurs u us) (listing_wakes k note)));
   }
     where
       one : (k : Listing) → slice_get rs t ≡ Some (listing_from k) → MayList k t first second → Lists Waiting1 (first_after k t first) (slice_set rs t (listing_to k))
-      one (Join1 m) at may = lists-push Waiting1 first rs t _ _ at sound.waiting1 refl refl
-      one (Join2 f) at may = lists-same Waiting1 first rs t _ _ at sound.waiting1 refl
-      one (Quit1 m i) at may = lists-drop Waiting1 first rs t _ _ at sound.waiting1 i may.0 refl refl
-      one (QuitLast1 m i) at may = lists-drop Waiting1 first rs t _ _ at sound.waiting1 i may.0 refl refl
-      one (Quit2 f i) at may = lists-same Waiting1 first rs t _ _ at sound.waiting1 refl
+      one (Join1 m) at may = lists-push (weight Waiting1) first rs t _ _ at sound.waiting1 refl refl
+      one (Join2 f) at may = lists-same (weight Waiting1) first rs t _ _ at sound.waiting1 refl
+      one (Quit1 m i) at may = lists-drop (weight Waiting1) first rs t _ _ at sound.waiting1 i may.0 refl refl
+      one (QuitLast1 m i) at may = lists-drop (weight Waiting1) first rs t _ _ at sound.waiting1 i may.0 refl refl
+      one (Quit2 f i) at may = lists-same (weight Waiting1) first rs t _ _ at sound.waiting1 refl
 
       two : (k : Listing) → slice_get rs t ≡ Some (listing_from k) → MayList k t first second → Lists Waiting2 (second_after k t second) (slice_set rs t (listing_to k))
-      two (Join1 m) at may = lists-same Waiting2 second rs t _ _ at sound.waiting2 refl
-      two (Join2 f) at may = lists-push Waiting2 second rs t _ _ at sound.waiting2 refl refl
-      two (Quit1 m i) at may = lists-same Waiting2 second rs t _ _ at sound.waiting2 refl
-      two (QuitLast1 m i) at may = lists-same Waiting2 second rs t _ _ at sound.waiting2 refl
-      two (Quit2 f i) at may = lists-drop Waiting2 second rs t _ _ at sound.waiting2 i may refl refl
+      two (Join1 m) at may = lists-same (weight Waiting2) second rs t _ _ at sound.waiting2 refl
+      two (Join2 f) at may = lists-push (weight Waiting2) second rs t _ _ at sound.waiting2 refl refl
+      two (Quit1 m i) at may = lists-same (weight Waiting2) second rs t _ _ at sound.waiting2 refl
+      two (QuitLast1 m i) at may = lists-same (weight Waiting2) second rs t _ _ at sound.waiting2 refl
+      two (Quit2 f i) at may = lists-drop (weight Waiting2) second rs t _ _ at sound.waiting2 i may refl refl
 
   -- the thread v, which it took, is woken
   pub sound_wake : (v : ℕ) (k : Waking) (stay : Stay) → slice_get rs v ≡ Some (waking_from k t stay) → inside stay ≡ 0 → Sound w (slice_set rs v (waking_to k)) first second
   sound_wake v k stay at out = record {
     fits = fits-set w rs first second sound v w (waking_from k t stay) (waking_to k) at (fitting.wake_fits w (λ c. total c (slice_set rs v away)) (counts_all (slice_set rs v away)) k t stay out);
-    waiting1 = lists-same Waiting1 first rs v _ _ at sound.waiting1 (waking_waits1 k t stay);
-    waiting2 = lists-same Waiting2 second rs v _ _ at sound.waiting2 (waking_waits2 k t stay);
-    noted = noted-set rs v (waking_from k t stay) (waking_to k) at sound.noted (nothing_noted (waking_to k) (λ by note. WillWake rs by v note) (waking_note k))
+    waiting1 = lists-same (weight Waiting1) first rs v _ _ at sound.waiting1 (waking_waits1 k t stay);
+    waiting2 = lists-same (weight Waiting2) second rs v _ _ at sound.waiting2 (waking_waits2 k t stay);
+    noted = noted-set role_note role_wakes rs v (waking_from k t stay) (waking_to k) at sound.noted (nothing_noted (waking_to k) (λ by note. WillWake rs by v note) (waking_note k))
         (λ u r note here took. omega (arith, ap (λ us. occurs u us) (waking_wakes k t stay note)));
   }
 
@@ -127,9 +128,9 @@ module _ (w : Word) (rs : List Role) (first second : List ℕ) (sound : Sound w 
   unfolding weight
   sound_pass o v us at gone = record {
     fits = fits-set w rs first second sound t w a b at (fitting.pass_fits w (λ c. total c (slice_set rs t away)) (counts_all (slice_set rs t away)) o (v ∷ us) us);
-    waiting1 = lists-same Waiting1 first rs t a b at sound.waiting1 refl;
-    waiting2 = lists-same Waiting2 second rs t a b at sound.waiting2 refl;
-    noted = noted-set rs t a b at sound.noted (nothing_noted b (λ by note. WillWake rs by t note) refl)
+    waiting1 = lists-same (weight Waiting1) first rs t a b at sound.waiting1 refl;
+    waiting2 = lists-same (weight Waiting2) second rs t a b at sound.waiting2 refl;
+    noted = noted-set role_note role_wakes rs t a b at sound.noted (nothing_noted b (λ by note. WillWake rs by t note) refl)
         (λ u r note here took. pass_shrinks o v us u note (λ e. still u r note (get-set_cases rs t u a r b at here) took e));
   }
     where
@@ -167,10 +168,10 @@ module _ (w : Word) (rs : List Role) (first second : List ℕ) (sound : Sound w 
   unfolding weight
   sound_take1 s i v m stay at may = record {
     fits = fits-set2 v (scanning s) b x y at may.role ne (fitting.take_fits w rest (counts_all (slice_set (slice_set rs t away) v away)) s v t m stay may.looks);
-    waiting1 = lists-drop Waiting1 first (slice_set rs t b) v x y still (lists-same Waiting1 first rs t (scanning s) b at sound.waiting1 refl) i may.waiter refl refl;
-    waiting2 = lists-same Waiting2 second (slice_set rs t b) v x y still (lists-same Waiting2 second rs t (scanning s) b at sound.waiting2 refl) refl;
-    noted = noted-set (slice_set rs t b) v x y still
-        (noted-set rs t (scanning s) b at sound.noted (nothing_noted b (λ by note. WillWake rs by t note) refl) (λ u r note here took. scanning_grows s v m u note))
+    waiting1 = lists-drop (weight Waiting1) first (slice_set rs t b) v x y still (lists-same (weight Waiting1) first rs t (scanning s) b at sound.waiting1 refl) i may.waiter refl refl;
+    waiting2 = lists-same (weight Waiting2) second (slice_set rs t b) v x y still (lists-same (weight Waiting2) second rs t (scanning s) b at sound.waiting2 refl) refl;
+    noted = noted-set role_note role_wakes (slice_set rs t b) v x y still
+        (noted-set role_note role_wakes rs t (scanning s) b at sound.noted (nothing_noted b (λ by note. WillWake rs by t note) refl) (λ u r note here took. scanning_grows s v m u note))
         (λ by note took.
         let e : (t, On1 Open) ≡ (by, note) = same_Some _ _ took in
         subst (λ (z : ℕ × Note). WillWake (slice_set rs t b) z.0 v z.1) e
@@ -202,10 +203,10 @@ module _ (w : Word) (rs : List Role) (first second : List ℕ) (sound : Sound w 
   unfolding weight
   sound_take2 o v f stay at waiter there = record {
     fits = fits-set2 v a b x y at there ne (fitting.take2_fits w rest (counts_all (slice_set (slice_set rs t away) v away)) o (v ∷ []) v t f stay);
-    waiting1 = lists-same Waiting1 first (slice_set rs t b) v x y still (lists-same Waiting1 first rs t a b at sound.waiting1 refl) refl;
-    waiting2 = lists-drop Waiting2 second (slice_set rs t b) v x y still (lists-same Waiting2 second rs t a b at sound.waiting2 refl) 0 waiter refl refl;
-    noted = noted-set (slice_set rs t b) v x y still
-        (noted-set rs t a b at sound.noted (nothing_noted b (λ by note. WillWake rs by t note) refl) (λ u r note here took. scans2_grows v u note))
+    waiting1 = lists-same (weight Waiting1) first (slice_set rs t b) v x y still (lists-same (weight Waiting1) first rs t a b at sound.waiting1 refl) refl;
+    waiting2 = lists-drop (weight Waiting2) second (slice_set rs t b) v x y still (lists-same (weight Waiting2) second rs t a b at sound.waiting2 refl) 0 waiter refl refl;
+    noted = noted-set role_note role_wakes (slice_set rs t b) v x y still
+        (noted-set role_note role_wakes rs t a b at sound.noted (nothing_noted b (λ by note. WillWake rs by t note) refl) (λ u r note here took. scans2_grows v u note))
         (λ by note took. noted by note stay took)
         (λ u r note here took. omega arith);
   }

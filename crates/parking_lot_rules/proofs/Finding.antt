@@ -3,7 +3,8 @@ use Rattle.std.proofs.Common.{◌≡◌, ◌≢◌, ℕ, zero, suc, ◌+◌, ◌
 use Rattle.std.proofs.lemmas.List.Sums.{sum_by-cons}
 use Rattle.parking_lot_rules.specs.Roles.{Owned, Fresh, Asleep, Late, Back, Open, Normal, Handed, Phase, Idle, Seeks, Enters1, Queued1, Taken1, Queued2, Taken2, Owes1, Scans1, Stored1, Owes2, Scans2, Masked2, Wakes, Role, away}
 use Rattle.parking_lot_rules.specs.Classes.{Class, Owing1, Owing2, Called, OpenWriters, OpenUpgraders, weight, total, weighs}
-use Rattle.parking_lot_rules.specs.Lock.{Note, On1, On2, occurs, note_of, to_wake}
+use Rattle.parking_lot_rules.specs.Lists.{occurs}
+use Rattle.parking_lot_rules.specs.Lock.{Note, On1, On2, note_of, to_wake}
 use Rattle.parking_lot_rules.specs.Laws.{owes, is_at_work}
 use Rattle.parking_lot_rules.proofs.Indexed.{get-set_other}
 use Rattle.parking_lot_rules.proofs.Totals.{total-at}

@@ -15,7 +15,7 @@ MayCount (QuitLast1 m i) waiting = waiting ≡ 1
 MayCount (Quit2 f i) waiting = Unit {0}
 
 -- what is so where a number isn't 0
-zero_or : {P : Type 0} → (n : ℕ) → (0 < n → P) → (n ≡ 0) ⊎ P
+pub zero_or : {P : Type 0} → (n : ℕ) → (0 < n → P) → (n ≡ 0) ⊎ P
 zero_or zero f = inl refl
 zero_or (suc n) f = inr (f (omega arith))
 

@@ -3,7 +3,8 @@ use Rattle.std.proofs.Common.{◌≡◌, ◌≢◌, ℕ, zero, suc, ◌+◌, ◌
 use Rattle.std.proofs.lemmas.Option.{same_Some}
 use Rattle.parking_lot_rules.specs.Roles.{Mode, Owned, Shares, Excludes, Upgrades, Asleep, Open, Normal, Handed, Phase, Idle, Seeks, Queued1, Taken1, Queued2, Taken2, Role, away}
 use Rattle.parking_lot_rules.specs.Classes.{Class, Readers, Upgraders, Pending, Writers, Waiting1, Waiting2, Owing1, Owing2, Called, OpenWriters, OpenUpgraders, Masking, Strange, weight, total, weighs}
-use Rattle.parking_lot_rules.specs.Lock.{Lock, Note, On1, On2, occurs, note_of, IsSound}
+use Rattle.parking_lot_rules.specs.Lists.{occurs}
+use Rattle.parking_lot_rules.specs.Lock.{Lock, Note, On1, On2, note_of, IsSound}
 use Rattle.parking_lot_rules.specs.Laws.{WordTells, OwnersExclude, NothingIsLeft, is_asleep, IsWaker, SleepersAreKnown, SomebodyOwes, DebtsAreKept, is_at_work, IsOwner, SomebodyIsUp, SomebodyCanMove, RefusalsHaveACause}
 use Rattle.parking_lot_rules.proofs.Totals.{total-at, away_weighs}
 use Rattle.parking_lot_rules.proofs.Families.{total-none}

@@ -20,3 +20,6 @@ pub mod Owning
 pub mod Casing
 pub mod Keeping
 pub mod Exampling
+pub mod Mutexes
+pub mod MutexFollowing
+pub mod Ranking

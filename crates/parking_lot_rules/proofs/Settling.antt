@@ -5,7 +5,8 @@ use Rattle.std.proofs.lemmas.Option.{none-some, same_Some, slice_get-map}
 use Rattle.std.proofs.lemmas.List.Sums.{sum_by-cons}
 use Rattle.parking_lot_rules.specs.Roles.{Mode, Shared, Exclusive, Upgradable, Owned, Stay, Asleep, Mark, Open, Normal, Handed, Cause, Phase, Taken1, Taken2, Scans1, Role, away}
 use Rattle.parking_lot_rules.specs.Classes.{Class, Readers, Inside1, Called, OpenReaders, OpenUpgraders, OpenWriters, weight, total, weighs, called, is_exclusive, is_upgradable}
-use Rattle.parking_lot_rules.specs.Lock.{Note, On1, On2, occurs, note_of, to_wake, Lists}
+use Rattle.parking_lot_rules.specs.Lists.{occurs}
+use Rattle.parking_lot_rules.specs.Lock.{Note, On1, On2, note_of, to_wake, Lists}
 use Rattle.parking_lot_rules.specs.Steps.{told, settle, settled}
 use Rattle.parking_lot_rules.proofs.Indexed.{get-set_other}
 use Rattle.parking_lot_rules.proofs.Totals.{total-at, same_counts}

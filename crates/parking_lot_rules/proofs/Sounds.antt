@@ -5,7 +5,8 @@ use Rattle.std.proofs.lemmas.Option.{none-some, same_Some, slice_get-map, slice_
 use Rattle.parking_lot_rules.specs.Roles.{Mode, Owned, Stay, Mark, Open, Normal, Handed, Cause, Scans1, Stored1, Wakes, Role, away}
 use Rattle.parking_lot_rules.specs.Classes.{Class, Waiting1, Waiting2, Inside1, weight, total, bit}
 use Rattle.parking_lot_rules.specs.Clauses.{Word, Fits}
-use Rattle.parking_lot_rules.specs.Lock.{Note, On1, occurs, note_of, to_wake, Sound, Lock, IsSound}
+use Rattle.parking_lot_rules.specs.Lists.{occurs}
+use Rattle.parking_lot_rules.specs.Lock.{Note, On1, note_of, to_wake, Sound, Lock, IsSound}
 use Rattle.parking_lot_rules.specs.Steps.{Skip, look, has_upgradable, Scan, scanning, holds_upgradable, IsOver, Ending, Free, FreeUpgradable, Hand, HandUpgradable, Keep, ends_for, ends_saying, stored, settle, settled, Step, Alone, List_changes, Take1, Take2, Store, Wake, Pass, Allowed, after, Waking, Retry, Own, OwnPending, OwnUpgradable, Recheck, waking_from, waking_to}
 use Rattle.parking_lot_rules.proofs.Indexed.{get-set_same, get-set_other, get-set_cases}
 use Rattle.parking_lot_rules.proofs.Totals.{counts_all, total-set, total-at, same_counts}
@@ -54,7 +55,7 @@ module _ (w : Word) (rs : List Role) (first second : List ℕ) (sound : Sound w 
   over_left s (inl writer) some = omega (arith, bit_of s.writer writer)
   over_left s (inr skipped) some = ⊎_elim
       (λ x.
-      let r = listed Waiting1 first rs sound.waiting1 0 x.0 x.2 in
+      let r = listed (weight Waiting1) first rs sound.waiting1 0 x.0 x.2 in
       omega (arith, bit_of (holds_upgradable s) (skips_upgradable _ _ _ (skipped 0 x.0 r.0 some x.2 r.1))))
       (λ none. absurd (omega arith))
       (slice_get_cases first 0).1
@@ -68,8 +69,8 @@ module _ (w : Word) (rs : List Role) (first second : List ℕ) (sound : Sound w 
         (omega (arith, sound.waiting1.count, total-at rs t (scanning s) at Waiting1)) (λ some. subst (λ c. 0 < bit s.writer + bit (has_upgradable s.owns c s.upgradable)) cause (over_left s over some))
         (subst (λ c. Fits w (λ k. rest k + weight k (record { owns = s.owns; does = Scans1 c s.shared s.upgradable s.writer s.taken }))) cause
         (same_counts (Fits w) _ _ (total-at rs t (scanning s) at) sound.fits)));
-    waiting1 = lists-same Waiting1 first told_roles t (scanning s) b at_told (waiting-settle h said Waiting1 (stays1 h said) first rs sound.waiting1) refl;
-    waiting2 = lists-same Waiting2 second told_roles t (scanning s) b at_told (waiting-settle h said Waiting2 (stays2 h said) second rs sound.waiting2) refl;
+    waiting1 = lists-same (weight Waiting1) first told_roles t (scanning s) b at_told (waiting-settle h said Waiting1 (stays1 h said) first rs sound.waiting1) refl;
+    waiting2 = lists-same (weight Waiting2) second told_roles t (scanning s) b at_told (waiting-settle h said Waiting2 (stays2 h said) second rs sound.waiting2) refl;
     noted = λ u by r note here took. noted u by r note (get-set_cases told_roles t u (scanning s) r b at_told here) took;
   }
     where

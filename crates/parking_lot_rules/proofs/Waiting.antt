@@ -4,9 +4,7 @@ use Rattle.std.proofs.lemmas.Bool.{cases_eq, ne_eqb}
 use Rattle.std.proofs.lemmas.Option.{slice_get_within, get_or_from_slice_get}
 use Rattle.std.proofs.lemmas.List.Sums as sums
 use Rattle.std.proofs.lemmas.List.Edits.{length-remove}
-use Rattle.parking_lot_rules.specs.Roles.{Role}
-use Rattle.parking_lot_rules.specs.Classes.{Class, weight, weighs}
-use Rattle.parking_lot_rules.specs.Lock.{occurs, Lists}
+use Rattle.parking_lot_rules.specs.Lists.{occurs, at_index, IsListOf}
 use Rattle.parking_lot_rules.proofs.Indexed.{get-set_same, get-set_other, sum_by-set_at}
 
 -- what a thread counts in a list of one
@@ -30,33 +28,33 @@ occurs-remove u q i t at =
 pub occurs-cons : (u t : ℕ) (q : List ℕ) → occurs u (t ∷ q) ≡ counted u t + occurs u q
 occurs-cons u t q = sums.sum_by-cons (λ x. cond (x == u) 1 0) t q
 
-module _ (c : Class) (q : List ℕ) (rs : List Role) (t : ℕ) (a b : Role) (at : slice_get rs t ≡ Some a) (lists : Lists c q rs) where
+module _ {R : Type 0} (f : R → ℕ) (q : List ℕ) (rs : List R) (t : ℕ) (a b : R) (at : slice_get rs t ≡ Some a) (lists : IsListOf f q rs) where
   -- what a thread weighs then: the one that changes, or another
-  weighs_after : (u : ℕ) → ((u ≡ t) × (weighs c (slice_get (slice_set rs t b) u) ≡ weight c b) × (weighs c (slice_get rs u) ≡ weight c a))
-      ⊎ ((u ≢ t) × (weighs c (slice_get (slice_set rs t b) u) ≡ weighs c (slice_get rs u)))
+  weighs_after : (u : ℕ) → ((u ≡ t) × (at_index f (slice_get (slice_set rs t b) u) ≡ f b) × (at_index f (slice_get rs u) ≡ f a))
+      ⊎ ((u ≢ t) × (at_index f (slice_get (slice_set rs t b) u) ≡ at_index f (slice_get rs u)))
   weighs_after u = ⊎_elim
-      (λ e. inl (e, ap (λ v. weighs c (slice_get (slice_set rs t b) v)) e ∙ ap (weighs c) (get-set_same rs t a b at), ap (λ v. weighs c (slice_get rs v)) e ∙ ap (weighs c) at))
-      (λ ne. inr (ne, ap (weighs c) (get-set_other rs t u b (λ e. ne (sym e)))))
+      (λ e. inl (e, ap (λ v. at_index f (slice_get (slice_set rs t b) v)) e ∙ ap (at_index f) (get-set_same rs t a b at), ap (λ v. at_index f (slice_get rs v)) e ∙ ap (at_index f) at))
+      (λ ne. inr (ne, ap (at_index f) (get-set_other rs t u b (λ e. ne (sym e)))))
       (cases_eq u t)
 
-  pub lists-same : weight c b ≡ weight c a → Lists c q (slice_set rs t b)
+  pub lists-same : f b ≡ f a → IsListOf f q (slice_set rs t b)
   lists-same same = record {
-    count = omega (arith, lists.count, sum_by-set_at (weight c) rs t a b at);
+    count = omega (arith, lists.count, sum_by-set_at f rs t a b at);
     each = λ u. ⊎_elim (λ own. lists.each u ∙ own.2 ∙ sym same ∙ sym own.1) (λ other. lists.each u ∙ sym other.1) (weighs_after u);
   }
 
-  pub lists-push : weight c a ≡ 0 → weight c b ≡ 1 → Lists c (q ++ t ∷ []) (slice_set rs t b)
+  pub lists-push : f a ≡ 0 → f b ≡ 1 → IsListOf f (q ++ t ∷ []) (slice_set rs t b)
   lists-push before now = record {
-    count = omega (arith, lists.count, length-append q (t ∷ []), sum_by-set_at (weight c) rs t a b at);
+    count = omega (arith, lists.count, length-append q (t ∷ []), sum_by-set_at f rs t a b at);
     each = λ u. ⊎_elim
         (λ own. let e : counted u t ≡ 1 = ap (λ v. counted v t) own.0 ∙ counted-same t in omega (arith, occurs-push u q t, lists.each u, own.1, own.2, e))
         (λ other. omega (arith, occurs-push u q t, lists.each u, other.1, counted-other u t other.0))
         (weighs_after u);
   }
 
-  pub lists-drop : (i : ℕ) → slice_get q i ≡ Some t → weight c a ≡ 1 → weight c b ≡ 0 → Lists c (remove q i) (slice_set rs t b)
+  pub lists-drop : (i : ℕ) → slice_get q i ≡ Some t → f a ≡ 1 → f b ≡ 0 → IsListOf f (remove q i) (slice_set rs t b)
   lists-drop i stood before now = record {
-    count = omega (arith, lists.count, length-remove q i (slice_get_within q i t stood), sum_by-set_at (weight c) rs t a b at);
+    count = omega (arith, lists.count, length-remove q i (slice_get_within q i t stood), sum_by-set_at f rs t a b at);
     each = λ u. ⊎_elim
         (λ own. let e : counted u t ≡ 1 = ap (λ v. counted v t) own.0 ∙ counted-same t in omega (arith, occurs-remove u q i t stood, lists.each u, own.1, own.2, e))
         (λ other. omega (arith, occurs-remove u q i t stood, lists.each u, other.1, counted-other u t other.0))
@@ -64,12 +62,12 @@ module _ (c : Class) (q : List ℕ) (rs : List Role) (t : ℕ) (a b : Role) (at 
   }
 
 -- who stands in the list weighs something
-pub listed : (c : Class) (q : List ℕ) (rs : List Role) → Lists c q rs → (i u : ℕ) → slice_get q i ≡ Some u → (r : Role) × (slice_get rs u ≡ Some r) × (0 < weight c r)
-listed c q rs lists i u at = go (slice_get rs u) refl
+pub listed : {R : Type 0} (f : R → ℕ) (q : List ℕ) (rs : List R) → IsListOf f q rs → (i u : ℕ) → slice_get q i ≡ Some u → (r : R) × (slice_get rs u ≡ Some r) × (0 < f r)
+listed {R} f q rs lists i u at = go (slice_get rs u) refl
   where
     stands : 0 < occurs u q
     stands = omega (arith, occurs-remove u q i u at, counted-same u)
 
-    go : (o : Option Role) → slice_get rs u ≡ o → (r : Role) × (slice_get rs u ≡ Some r) × (0 < weight c r)
-    go None e = absurd (omega (arith, stands, lists.each u, ap (weighs c) e))
-    go (Some r) e = (r, e, omega (arith, stands, lists.each u, ap (weighs c) e))
+    go : (o : Option R) → slice_get rs u ≡ o → (r : R) × (slice_get rs u ≡ Some r) × (0 < f r)
+    go None e = absurd (omega (arith, stands, lists.each u, ap (at_index f) e))
+    go (Some r) e = (r, e, omega (arith, stands, lists.each u, ap (at_index f) e))

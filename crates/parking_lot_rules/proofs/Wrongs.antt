@@ -4,7 +4,8 @@ use Rattle.std.proofs.lemmas.Option.{none-some, same_Some}
 use Rattle.parking_lot_rules.specs.Roles.{Shared, Exclusive, Shares, Fresh, Asleep, Open, Normal, FromExclusive, Owed, Phase, Idle, Seeks, Enters1, Queued1, Taken1, Queued2, Yields, Scans1, Stored1, Scans2, Masked2, Wakes, Role}
 use Rattle.parking_lot_rules.specs.Classes.{Class, Waiting1, Waiting2, weight, total, weighs}
 use Rattle.parking_lot_rules.specs.Clauses.{Word, Fits}
-use Rattle.parking_lot_rules.specs.Lock.{Lock, Note, On1, occurs, note_of, to_wake, AreNoted, IsSound}
+use Rattle.parking_lot_rules.specs.Lists.{occurs}
+use Rattle.parking_lot_rules.specs.Lock.{Lock, Note, On1, note_of, to_wake, AreNoted, IsSound}
 use Rattle.std.proofs.lemmas.List.Sums.{sum_by-cons}
 use Rattle.parking_lot_rules.specs.Plain.{Share}
 use Rattle.parking_lot_rules.specs.Steps.{Scan, scanning, Alone, after}

@@ -1,6 +1,7 @@
 -- Classes of roles, and how much a role counts in each.
 use Rattle.std.specs.Prelude.{ℕ, zero, suc, ◌+◌, Bool, true, false, List, Option, Some, None}
 use Rattle.std.specs.List.{sum_by}
+use Rattle.parking_lot_rules.specs.Lists.{at_index}
 use Rattle.parking_lot_rules.specs.Roles.{Mode, Shared, Exclusive, Upgradable, Owned, Shares, Excludes, Upgrades, Stay, Fresh, Asleep, Late, Back, Mark, Open, Normal, Handed, Cause, FromExclusive, FromUpgradable, Owed, Phase, Seeks, Enters1, Checked1, Queued1, Taken1, Masks1, Leaves1, Drains, Enters2, Checked2, Queued2, Taken2, Leaves2, Yields, Owes1, Scans1, Stored1, Owes2, Scans2, Masked2, Role}
 
 pub data Class : Type 0 where
@@ -198,5 +199,4 @@ total c rs = sum_by (weight c) rs
 
 -- how much the role at an index does
 abbrev pub weighs : Class → Option Role → ℕ
-weighs c None = 0
-weighs c (Some r) = weight c r
+weighs c r = at_index (weight c) r

@@ -14,6 +14,13 @@ pub record Word : Type 0 where
 abbrev pub number : Word → ℕ
 number w = 16 * w.readers + 8 * w.writer + 4 * w.upgradable + 2 * w.parked2 + w.parked1
 
+-- each of its bits is 0 or 1
+pub record IsWord (w : Word) : Type 0 where
+  pub writer : w.writer ≤ 1
+  pub upgradable : w.upgradable ≤ 1
+  pub parked2 : w.parked2 ≤ 1
+  pub parked1 : w.parked1 ≤ 1
+
 -- The word and the roles, counted class by class, fit each other.
 pub record Fits (w : Word) (n : Class → ℕ) : Type 0 where
   -- the word says who owns the lock

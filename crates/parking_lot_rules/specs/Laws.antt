@@ -5,7 +5,8 @@ use Rattle.parking_lot_rules.specs.Classes.{Class, Readers, Upgraders, Pending, 
 use Rattle.parking_lot_rules.specs.Clauses.{number}
 use Rattle.parking_lot_rules.specs.Plain.{YieldBack}
 use Rattle.parking_lot_rules.specs.Steps.{Step, Alone}
-use Rattle.parking_lot_rules.specs.Lock.{Lock, Note, occurs, to_wake}
+use Rattle.parking_lot_rules.specs.Lists.{occurs}
+use Rattle.parking_lot_rules.specs.Lock.{Lock, Note, to_wake}
 
 -- all holds of a kind, and those of one thread
 abbrev pub held : Class → Lock → ℕ

@@ -1,4 +1,5 @@
 pub mod Roles
+pub mod Lists
 pub mod Classes
 pub mod Clauses
 pub mod Plain
@@ -12,3 +13,6 @@ pub mod Progress
 pub mod Wrong
 pub mod Owners
 pub mod Example
+pub mod Ranks
+pub mod Mutex
+pub mod MutexLaws

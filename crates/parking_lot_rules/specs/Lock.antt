@@ -1,8 +1,9 @@
 -- A lock, and what holds of it at every moment.
 use Rattle.std.specs.Prelude.{◌≡◌, ℕ, ◌<◌, List, [], ◌==◌, length, slice_get, Option, Some, None}
 use Rattle.std.specs.List.{count_by}
+use Rattle.parking_lot_rules.specs.Lists.{IsListOf, AreNotedBy}
 use Rattle.parking_lot_rules.specs.Roles.{Mark, Open, Asleep, Phase, Taken1, Taken2, Scans1, Stored1, Scans2, Masked2, Wakes, Role}
-use Rattle.parking_lot_rules.specs.Classes.{Class, Waiting1, Waiting2, total, weighs}
+use Rattle.parking_lot_rules.specs.Classes.{Class, Waiting1, Waiting2, weight, total}
 use Rattle.parking_lot_rules.specs.Clauses.{Word, Fits}
 
 -- The word of a lock, a role for each thread, and the lists of the threads that wait, oldest first: on the first key those that
@@ -13,14 +14,9 @@ pub record Lock : Type 0 where
   pub first : List ℕ
   pub second : List ℕ
 
--- how often a thread stands in a list
-abbrev pub occurs : ℕ → List ℕ → ℕ
-occurs u q = count_by (λ x. x == u) q
-
 -- The list holds the threads of a class, each once, and no other.
-pub record Lists (c : Class) (q : List ℕ) (rs : List Role) : Type 0 where
-  pub count : length q ≡ total c rs
-  pub each : (u : ℕ) → occurs u q ≡ weighs c (slice_get rs u)
+abbrev pub Lists : Class → List ℕ → List Role → Type 0
+Lists c q rs = IsListOf (weight c) q rs
 
 -- Which key's list a thread was taken off, and what its taker has said since.
 pub data Note : Type 0 where
@@ -48,10 +44,16 @@ to_wake (Wakes taken) (On1 Open) = []
 to_wake (Wakes taken) note = taken
 to_wake phase note = []
 
+-- the same of a role
+abbrev pub role_note : Role → Option (ℕ × Note)
+role_note r = note_of r.does
+
+abbrev pub role_wakes : Role → Note → List ℕ
+role_wakes r note = to_wake r.does note
+
 -- Who took a sleeper is still to wake it.
 abbrev pub AreNoted : List Role → Type 0
-AreNoted rs = (u by : ℕ) (r : Role) (note : Note) → slice_get rs u ≡ Some r → note_of r.does ≡ Some (by, note)
-    → (s : Role) × (slice_get rs by ≡ Some s) × (0 < occurs u (to_wake s.does note))
+AreNoted rs = AreNotedBy role_note role_wakes rs
 
 -- What holds of a lock at every moment.
 pub record Sound (w : Word) (rs : List Role) (first second : List ℕ) : Type 0 where

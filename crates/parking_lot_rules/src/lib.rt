@@ -4,8 +4,10 @@
 
 mod example;
 mod laws;
+mod mutex;
 mod progress;
 mod steps;
+mod word;
 mod wrong;
 
 pub use example::a_writer_waits_and_is_woken;
@@ -13,8 +15,20 @@ pub use laws::{
     a_refusal_has_a_cause, debts_are_kept, every_lock_is_sound, no_bit_outlives_the_calls,
     owners_exclude_each_other, sleepers_are_known, somebody_can_move, the_word_tells_the_owners,
 };
+pub use mutex::{
+    a_mutex_tells_its_owner, debts_of_a_mutex_are_kept, every_mutex_is_sound,
+    no_bit_of_a_mutex_outlives_the_calls, sleepers_at_a_mutex_are_known,
+    somebody_at_a_mutex_can_move,
+};
 pub use progress::{rising_locks_never_deadlock, sections_are_entered, sleepers_are_served};
-pub use steps::{each_step_is_a_case, readers_are_kept_out};
+pub use steps::{
+    a_call_begins_with_a_small_rank, another_thread_may_be_stepped, each_step_is_a_case,
+    ranks_fall, readers_are_kept_out,
+};
+pub use word::{
+    is_parked, is_upgradable, is_writer_parked, is_written, readers, with_parked, without_parked,
+    without_writer_parked,
+};
 pub use wrong::{
     a_bit_on_an_empty_list_is_wrong, a_give_up_that_keeps_its_bit_is_wrong,
     a_join_without_a_check_is_wrong, a_scan_past_a_writer_is_wrong,
