@@ -19,15 +19,15 @@ acquire_granted {T} denied mode party number old new result unused grant within 
     let parts = and_parts (not (excluded mode old.guards)) (not (is_full old.limit mode old.guards)) grant in
     let full : Option DeskFault = if is_full old.limit mode old.guards then Some ReadersFull else None in
     let none : acquire_refusal denied mode number old ≡ None =
-      cond-false (is_in_use number old.guards) (Some GuardInUse) (admission_refusal denied mode old) unused
-      ∙ cond-false (excluded mode old.guards) (Some denied) full (not-true (excluded mode old.guards) parts.0)
-      ∙ cond-false (is_full old.limit mode old.guards) (Some ReadersFull) None (not-true (is_full old.limit mode old.guards) parts.1) in
+    cond-false (is_in_use number old.guards) (Some GuardInUse) (admission_refusal denied mode old) unused
+    ∙ cond-false (excluded mode old.guards) (Some denied) full (not-true (excluded mode old.guards) parts.0)
+    ∙ cond-false (is_full old.limit mode old.guards) (Some ReadersFull) None (not-true (is_full old.limit mode old.guards) parts.1) in
     let P : Option DeskFault → Type 0 = λ o.
-      MatchOption o
-      (MatchResult result
-        (λ _. new ≡ with_room new.room (admitted mode party number old))
-        (λ fault. (fault ≡ NoMemory) × (new ≡ old) × (old.room ≤ length old.guards)))
-      (λ fault. (result ≡ Err fault) × (new ≡ old)) in
+    MatchOption o
+    (MatchResult result
+    (λ _. new ≡ with_room new.room (admitted mode party number old))
+    (λ fault. (fault ≡ NoMemory) × (new ≡ old) × (old.room ≤ length old.guards)))
+    (λ fault. (result ≡ Err fault) × (new ≡ old)) in
     at result (subst P none acquires)
   where
     at : (r : Result (Unit {0}) DeskFault) → MatchResult r (λ _. new ≡ with_room new.room (admitted mode party number old)) (λ fault. (fault ≡ NoMemory) × (new ≡ old) × (old.room ≤ length old.guards)) → (r ≡ Ok tt) × (new ≡ admitted mode party number old)
@@ -53,7 +53,7 @@ held_by_numbers n (x ∷ xs) g d e = elim (cases_Bool (has_number n x)) [
         let later = sym (cond-false (has_number n x && is_held x) (Some x) (held_of n xs) (and_right (has_number n x) (is_held x) aside)) ∙ e in
         let P : ℕ → Type 0 = λ m. Others m xs in
         absurd (none_held n xs g (subst P (eqb-true x.number n own) d.0) later)
-    ]
+  ]
   | inr other ↦
       let later = sym (cond-false (has_number n x && is_held x) (Some x) (held_of n xs) (and_left (has_number n x) (is_held x) other)) ∙ e in
       let r = held_by_numbers n xs g d.1 later in
