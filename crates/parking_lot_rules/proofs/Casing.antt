@@ -1,14 +1,13 @@
 -- Every step is of its case: what it does to owners and lists, without the word.
-use Rattle.std.proofs.Common.{◌≡◌, ◌≢◌, ℕ, zero, suc, ◌+◌, ◌<◌, ◌≤◌, ◌⊎◌, ⊎_elim, Bool, true, false, List, [], ◌∷◌, ◌++◌, length, map, remove, Option, Some, None, option_map, slice_get, slice_set, refl, sym, ap, ◌∙◌, subst, inl, inr, arith}
+use Rattle.std.proofs.Common.{◌≡◌, ◌≢◌, ℕ, zero, suc, ◌<◌, ◌≤◌, ⊎_elim, Bool, true, false, List, [], ◌∷◌, map, Option, Some, None, option_map, slice_get, slice_set, refl, sym, ap, ◌∙◌, inl, inr, arith}
 use Rattle.std.proofs.lemmas.List.{map-set}
 use Rattle.std.proofs.lemmas.Option.{none-some, same_Some, slice_get-map}
-use Rattle.parking_lot_rules.specs.Roles.{Mode, Shared, Exclusive, Upgradable, Owned, Shares, Excludes, Upgrades, Stay, Fresh, Asleep, Late, Back, Mark, Open, Normal, Handed, Cause, FromExclusive, FromUpgradable, Owed, Phase, Idle, Seeks, Enters1, Checked1, Queued1, Taken1, Masks1, Leaves1, Drains, Enters2, Checked2, Queued2, Taken2, Leaves2, Yields, Owes1, Scans1, Stored1, Owes2, Scans2, Masked2, Wakes, Role, away}
+use Rattle.parking_lot_rules.specs.Roles.{Mode, Shared, Exclusive, Upgradable, Owned, Shares, Excludes, Upgrades, Stay, Open, Normal, Handed, Cause, FromExclusive, FromUpgradable, Owed, Phase, Idle, Queued1, Taken1, Scans1, Stored1, Scans2, Role}
 use Rattle.parking_lot_rules.specs.Classes.{Class, Readers, Upgraders, Pending, Writers, Strange, weight, total, weighs, is_owner, unless_owed}
-use Rattle.parking_lot_rules.specs.Clauses.{Word, Fits}
 use Rattle.parking_lot_rules.specs.Lock.{Lock, IsSound}
-use Rattle.parking_lot_rules.specs.Plain.{Plain, Begin, Refuse, Share, Pend, Drain, Upgradably, Exclude, Flag1, Enter1, Check1, Retreat1, Rest1, Expire1, ExpireTaken1, Reenter1, ReenterTaken1, Mask1, Leave1, Resume1, ReceiveShared, ReceivePending, ReceiveUpgradable, Flag2, Enter2, Check2, Retreat2, Rest2, Expire2, ExpireTaken2, Reenter2, ReenterTaken2, Resume2, Leave2, Yield, YieldBack, Unshare, UnshareLast, Look2, Mask2, Depart2, Unlock, UnlockUpgradable, LookExclusive, LookUpgradable, Downgrade, DowngradeToUpgradable, DowngradeUpgradable, Upgrade, UpgradeAtOnce, LookOwed, Depart1, Finish, from, to, written, May}
-use Rattle.parking_lot_rules.specs.Steps.{Step, Alone, List_changes, Take1, Take2, Store, Wake, Pass, Allowed, after, Listing, Join1, Join2, Quit1, QuitLast1, Quit2, listing_from, listing_to, MayList, Look, Stop, Skip, Take, look, wants, Scan, scanning, holds_upgradable, taking, MayTake, Ending, Free, FreeUpgradable, Hand, HandUpgradable, Keep, ends_for, ends_saying, settle, told, Waking, Retry, Own, OwnPending, OwnUpgradable, Recheck, waking_from, waking_to}
-use Rattle.parking_lot_rules.specs.Owners.{Owner, Reading, Upgrading, Awaiting, Writing, Stand, Apart, Waits, WaitsForReaders, Chosen, Standing, Owners, owner_for_good, owner_of, stand_of, standing, owners, NoWriter, NoUpgrader, NoReader, SomeReader, dismissed, appointed, not_chosen, owner_given, At, with_standing, ArePassedOver, Nothing, Case, IsCase, case_of}
+use Rattle.parking_lot_rules.specs.Plain.{Plain, Share, Pend, Drain, Upgradably, Exclude, ExpireTaken1, ReenterTaken1, Yield, YieldBack, Unshare, UnshareLast, Unlock, UnlockUpgradable, Downgrade, DowngradeToUpgradable, DowngradeUpgradable, Upgrade, UpgradeAtOnce, from, to, May}
+use Rattle.parking_lot_rules.specs.Steps.{Step, Alone, List_changes, Take1, Take2, Store, Wake, Pass, Allowed, after, Join1, Join2, Quit1, QuitLast1, Quit2, Skip, look, wants, Scan, scanning, holds_upgradable, taking, Free, FreeUpgradable, Hand, HandUpgradable, Keep, settle, Waking, Retry, Own, OwnPending, OwnUpgradable, Recheck, waking_from, waking_to}
+use Rattle.parking_lot_rules.specs.Owners.{Reading, Upgrading, Awaiting, Stand, Apart, Waits, Chosen, Standing, Owners, owner_for_good, stand_of, standing, owners, NoWriter, NoUpgrader, NoReader, SomeReader, dismissed, appointed, ArePassedOver, Nothing, IsCase, case_of}
 use Rattle.parking_lot_rules.proofs.Indexed.{get-set_other}
 use Rattle.parking_lot_rules.proofs.Totals.{total-at}
 use Rattle.parking_lot_rules.proofs.Finding.{somebody, two_of, none_or}
@@ -150,8 +149,7 @@ module _ (recursive : Bool) (t : ℕ) (l : Lock) (sound : IsSound l) where
 
   no_writer : l.word.writer ≡ 0 → NoWriter (owners l)
   no_writer free u s at =
-      let r = role-behind l.roles u s at in
-      (
+      let r = role-behind l.roles u s at in (
         (λ e. omega (arith, free, sound.fits, weighs_le Writers u r.0 r.1, owner_writes r.0.owns r.0.does (ap (λ (x : Standing). x.owner) r.2 ∙ e))),
         (λ e. omega (arith, free, sound.fits, weighs_le Pending u r.0 r.1, owner_awaits r.0.owns r.0.does (ap (λ (x : Standing). x.owner) r.2 ∙ e))),
       )
@@ -163,8 +161,7 @@ module _ (recursive : Bool) (t : ℕ) (l : Lock) (sound : IsSound l) where
 
   no_reader : l.word.readers ≡ 0 → NoReader (owners l)
   no_reader free u n s at =
-      let r = role-behind l.roles u s at in
-      (
+      let r = role-behind l.roles u s at in (
         (λ e. omega (arith, free, sound.fits, weighs_le Readers u r.0 r.1, owner_reads r.0.owns r.0.does n (ap (λ (x : Standing). x.owner) r.2 ∙ e))),
         (λ e. omega (arith, free, sound.fits, weighs_le Upgraders u r.0 r.1, owner_upgrades r.0.owns r.0.does (ap (λ (x : Standing). x.owner) r.2 ∙ e))),
       )
@@ -175,11 +172,11 @@ module _ (recursive : Bool) (t : ℕ) (l : Lock) (sound : IsSound l) where
   some_reader : 0 < l.word.readers → SomeReader (owners l)
   some_reader some = ⊎_elim
       (λ none.
-        let x = somebody Upgraders l.roles (omega (arith, some, none, sound.fits)) in
-        (x.0, standing x.1, thread-at l.roles x.0 x.1 (standing x.1) x.2 refl, inr (upgrader_of x.1.owns x.1.does x.3 (is_proper x.0 x.1 x.2))))
+      let x = somebody Upgraders l.roles (omega (arith, some, none, sound.fits)) in
+      (x.0, standing x.1, thread-at l.roles x.0 x.1 (standing x.1) x.2 refl, inr (upgrader_of x.1.owns x.1.does x.3 (is_proper x.0 x.1 x.2))))
       (λ h.
-        let x = somebody Readers l.roles h in
-        (x.0, standing x.1, thread-at l.roles x.0 x.1 (standing x.1) x.2 refl, inl (reader_of x.1.owns x.1.does x.3 (is_proper x.0 x.1 x.2))))
+      let x = somebody Readers l.roles h in
+      (x.0, standing x.1, thread-at l.roles x.0 x.1 (standing x.1) x.2 refl, inl (reader_of x.1.owns x.1.does x.3 (is_proper x.0 x.1 x.2))))
       (none_or (total Readers l.roles))
 
   -- a role that changes alone, with the word
@@ -216,10 +213,10 @@ module _ (recursive : Bool) (t : ℕ) (l : Lock) (sound : IsSound l) where
     where
       mine : weighs Upgraders (slice_get l.roles t) ≡ 1
       mine = ap (weighs Upgraders) at ∙ upgrader_weighs
+
       others : (u n : ℕ) (s : Standing) → u ≢ t → slice_get (map standing l.roles) u ≡ Some s → (s.owner ≢ Reading (suc n)) × (s.owner ≢ Upgrading)
       others u n s ne there =
-          let r = role-behind l.roles u s there in
-          (
+          let r = role-behind l.roles u s there in (
             (λ e. omega (arith, may, sound.fits, mine, weighs_le Readers u r.0 r.1, owner_reads r.0.owns r.0.does n (ap (λ (x : Standing). x.owner) r.2 ∙ e), upgrader_weighs, weighs_le Upgraders t (record { owns = Upgrades; does = Idle }) at)),
             (λ e. omega (arith, may, sound.fits, mine, two_of Upgraders l.roles t u (λ x. ne (sym x)), ap (weighs Upgraders) r.1, owner_upgrades r.0.owns r.0.does (ap (λ (x : Standing). x.owner) r.2 ∙ e))),
           )
@@ -267,29 +264,25 @@ module _ (recursive : Bool) (t : ℕ) (l : Lock) (sound : IsSound l) where
         refl,
   )
   step_case (Store Free s) may =
-      let none : s.owns ≡ Shares 0 = freed s FromExclusive may.1 may.0 refl in
-      (
+      let none : s.owns ≡ Shares 0 = freed s FromExclusive may.1 may.0 refl in (
         thread-at l.roles t (scanning s) _ may.0 (ap (λ c. standing (record { owns = s.owns; does = Scans1 c s.shared s.upgradable s.writer s.taken })) may.1),
         refl,
         same_owners _ _ (threads-set (map (settle Normal) l.roles) t _ _ (ap (λ o. standing (record { owns = o; does = Stored1 s.taken })) none) ∙ ap (λ ts. slice_set ts t (record { owner = Reading 0; stand = Apart })) (normal_threads l.roles)) refl refl,
       )
   step_case (Store FreeUpgradable s) may =
-      let none : s.owns ≡ Shares 0 = freed s FromUpgradable may.1 may.0 refl in
-      (
+      let none : s.owns ≡ Shares 0 = freed s FromUpgradable may.1 may.0 refl in (
         thread-at l.roles t (scanning s) _ may.0 (ap (λ c. standing (record { owns = s.owns; does = Scans1 c s.shared s.upgradable s.writer s.taken })) may.1),
         refl,
         same_owners _ _ (threads-set (map (settle Normal) l.roles) t _ _ (ap (λ o. standing (record { owns = o; does = Stored1 s.taken })) none) ∙ ap (λ ts. slice_set ts t (record { owner = Reading 0; stand = Apart })) (normal_threads l.roles)) refl refl,
       )
   step_case (Store Hand s) may =
-      let none : s.owns ≡ Shares 0 = freed s FromExclusive may.1 may.0 refl in
-      (
+      let none : s.owns ≡ Shares 0 = freed s FromExclusive may.1 may.0 refl in (
         thread-at l.roles t (scanning s) _ may.0 (ap (λ c. standing (record { owns = s.owns; does = Scans1 c s.shared s.upgradable s.writer s.taken })) may.1),
         refl,
         same_owners _ _ (threads-set (map (settle Handed) l.roles) t _ _ (ap (λ o. standing (record { owns = o; does = Stored1 s.taken })) none) ∙ ap (λ ts. slice_set ts t (record { owner = Reading 0; stand = Apart })) (handed_threads l.roles)) refl refl,
       )
   step_case (Store HandUpgradable s) may =
-      let none : s.owns ≡ Shares 0 = freed s FromUpgradable may.1 may.0 refl in
-      (
+      let none : s.owns ≡ Shares 0 = freed s FromUpgradable may.1 may.0 refl in (
         thread-at l.roles t (scanning s) _ may.0 (ap (λ c. standing (record { owns = s.owns; does = Scans1 c s.shared s.upgradable s.writer s.taken })) may.1),
         refl,
         same_owners _ _ (threads-set (map (settle Handed) l.roles) t _ _ (ap (λ o. standing (record { owns = o; does = Stored1 s.taken })) none) ∙ ap (λ ts. slice_set ts t (record { owner = Reading 0; stand = Apart })) (handed_threads l.roles)) refl refl,
@@ -303,8 +296,8 @@ module _ (recursive : Bool) (t : ℕ) (l : Lock) (sound : IsSound l) where
       refl
   step_case (Wake o v us k stay) may = same_owners _ _
       (threads-same (slice_set l.roles v (waking_to k)) t _ _
-          (get-set_other l.roles v t (waking_to k) (λ e. waking_apart k t stay o (v ∷ us) (same_Some _ _ (sym may.0 ∙ ap (λ i. slice_get l.roles i) (sym e) ∙ may.1))) ∙ may.0)
-          refl
+      (get-set_other l.roles v t (waking_to k) (λ e. waking_apart k t stay o (v ∷ us) (same_Some _ _ (sym may.0 ∙ ap (λ i. slice_get l.roles i) (sym e) ∙ may.1))) ∙ may.0)
+      refl
       ∙ threads-same l.roles v _ (waking_to k) may.1 (waking_stays k t stay))
       refl
       refl

@@ -1,11 +1,9 @@
 -- The example run can be made.
-use Rattle.std.proofs.Common.{◌≡◌, ℕ, ◌+◌, ◌<◌, Bool, true, false, List, [], ◌∷◌, ◌++◌, Some, slice_get, refl, sym, subst, inl, inr, arith}
-use Rattle.parking_lot_rules.specs.Roles.{Shared, Exclusive, Idle}
+use Rattle.std.proofs.Common.{false, List, [], ◌∷◌, ◌++◌, refl, subst, inl, arith}
 use Rattle.parking_lot_rules.specs.Classes.{weight}
-use Rattle.parking_lot_rules.specs.Clauses.{number}
-use Rattle.parking_lot_rules.specs.World.{World, Place, MayStep}
-use Rattle.parking_lot_rules.specs.Runs.{Move, moved, Runs, at_rest, IsReached}
-use Rattle.parking_lot_rules.specs.Example.{by, comes, goes, RunsAreThere}
+use Rattle.parking_lot_rules.specs.World.{World}
+use Rattle.parking_lot_rules.specs.Runs.{Move, moved, Runs, at_rest}
+use Rattle.parking_lot_rules.specs.Example.{comes, goes, RunsAreThere}
 
 -- the world that a run leads to
 abbrev led : List Move → World → World
@@ -14,30 +12,62 @@ led (m ∷ ms) w = led ms (moved (λ k. 0) m w)
 
 comes_run : Runs (λ k. 0) (λ i. false) (at_rest 2) comes (led comes (at_rest 2))
 unfolding weight
-comes_run =
-  (record { place = _; here = refl; there = inl refl; allowed = (refl, inl refl); free = tt },
-  (record { place = _; here = refl; there = inl refl; allowed = (refl, inl refl); free = tt },
-  (record { place = _; here = refl; there = inl refl; allowed = (refl, inl refl); free = tt },
-  (record { place = _; here = refl; there = inl refl; allowed = (refl, (refl, refl)); free = tt },
-  (record { place = _; here = refl; there = inl refl; allowed = (refl, (refl, omega arith)); free = tt },
-  (record { place = _; here = refl; there = inl refl; allowed = (refl, refl); free = refl },
-  (record { place = _; here = refl; there = inl refl; allowed = (refl, (refl, omega arith)); free = tt },
-  (record { place = _; here = refl; there = inl refl; allowed = (refl, tt); free = tt },
-  (record { place = _; here = refl; there = inl refl; allowed = (refl, tt); free = tt },
-  refl)))))))))
+comes_run = (
+  record { place = _; here = refl; there = inl refl; allowed = (refl, inl refl); free = tt },
+  (
+    record { place = _; here = refl; there = inl refl; allowed = (refl, inl refl); free = tt },
+    (
+      record { place = _; here = refl; there = inl refl; allowed = (refl, inl refl); free = tt },
+      (
+        record { place = _; here = refl; there = inl refl; allowed = (refl, (refl, refl)); free = tt },
+        (
+          record { place = _; here = refl; there = inl refl; allowed = (refl, (refl, omega arith)); free = tt },
+          (
+            record { place = _; here = refl; there = inl refl; allowed = (refl, refl); free = refl },
+            (
+              record { place = _; here = refl; there = inl refl; allowed = (refl, (refl, omega arith)); free = tt },
+              (
+                record { place = _; here = refl; there = inl refl; allowed = (refl, tt); free = tt },
+                (
+                  record { place = _; here = refl; there = inl refl; allowed = (refl, tt); free = tt },
+                  refl,
+                ),
+              ),
+            ),
+          ),
+        ),
+      ),
+    ),
+  ),
+)
 
 goes_run : Runs (λ k. 0) (λ i. false) (led comes (at_rest 2)) goes (led goes (led comes (at_rest 2)))
 unfolding weight
-goes_run =
-  (record { place = _; here = refl; there = inl refl; allowed = (refl, (refl, refl)); free = tt },
-  (record { place = _; here = refl; there = inl refl; allowed = (refl, refl); free = refl },
-  (record { place = _; here = refl; there = inl refl; allowed = (refl, refl, refl); free = tt },
-  (record { place = _; here = refl; there = inl refl; allowed = (refl, refl); free = tt },
-  (record { place = _; here = refl; there = inl refl; allowed = (refl, tt); free = tt },
-  (record { place = _; here = refl; there = inl refl; allowed = (refl, refl, refl); free = tt },
-  (record { place = _; here = refl; there = inl refl; allowed = (refl, tt); free = tt },
-  (record { place = _; here = refl; there = inl refl; allowed = (refl, refl); free = tt },
-  refl))))))))
+goes_run = (
+  record { place = _; here = refl; there = inl refl; allowed = (refl, (refl, refl)); free = tt },
+  (
+    record { place = _; here = refl; there = inl refl; allowed = (refl, refl); free = refl },
+    (
+      record { place = _; here = refl; there = inl refl; allowed = (refl, refl, refl); free = tt },
+      (
+        record { place = _; here = refl; there = inl refl; allowed = (refl, refl); free = tt },
+        (
+          record { place = _; here = refl; there = inl refl; allowed = (refl, tt); free = tt },
+          (
+            record { place = _; here = refl; there = inl refl; allowed = (refl, refl, refl); free = tt },
+            (
+              record { place = _; here = refl; there = inl refl; allowed = (refl, tt); free = tt },
+              (
+                record { place = _; here = refl; there = inl refl; allowed = (refl, refl); free = tt },
+                refl,
+              ),
+            ),
+          ),
+        ),
+      ),
+    ),
+  ),
+)
 
 runs-append : (ms ns : List Move) (w v x : World) → Runs (λ k. 0) (λ i. false) w ms v → Runs (λ k. 0) (λ i. false) v ns x → Runs (λ k. 0) (λ i. false) w (ms ++ ns) x
 runs-append [] ns w v x e run = subst (λ (y : World). Runs (λ k. 0) (λ i. false) y ns x) e run

@@ -1,15 +1,15 @@
 -- Every step keeps a mutex sound.
-use Rattle.std.proofs.Common.{◌≡◌, ◌≢◌, ℕ, zero, suc, ◌+◌, ◌<◌, ◌≤◌, ◌⊎◌, ⊎_elim, Bool, true, false, List, [], ◌∷◌, ◌++◌, length, map, remove, replicate, Option, Some, None, option_map, slice_get, slice_set, sum_by, refl, sym, ap, ◌∙◌, subst, inl, inr, arith}
+use Rattle.std.proofs.Common.{◌≡◌, ◌≢◌, ℕ, zero, suc, ◌+◌, ◌<◌, ◌≤◌, ◌⊎◌, ⊎_elim, Bool, true, List, [], ◌∷◌, ◌++◌, length, map, remove, replicate, Option, Some, None, option_map, slice_get, slice_set, refl, sym, ap, ◌∙◌, subst, inl, inr, arith}
 use Rattle.std.proofs.lemmas.List.{map-set}
 use Rattle.std.proofs.lemmas.List.Sums.{sum_by-cons}
 use Rattle.std.proofs.lemmas.Bool.{cases_eq}
 use Rattle.std.proofs.lemmas.Option.{none-some, same_Some, slice_get-map}
-use Rattle.parking_lot_rules.specs.Roles.{Stay, Fresh, Asleep, Late, Back, Mark, Open, Normal, Handed}
+use Rattle.parking_lot_rules.specs.Roles.{Stay, Fresh, Asleep, Back, Mark, Open, Normal, Handed}
 use Rattle.parking_lot_rules.specs.Lists.{occurs, at_index, IsListOf, AreNotedBy}
-use Rattle.parking_lot_rules.specs.Classes.{bit, inside, if_open, if_normal, if_handed}
-use Rattle.parking_lot_rules.specs.Mutex.{Phase, Idle, Seeks, Enters, Checked, Queued, Taken, Masks, Leaves, Unlocks, Stored, Wakes, Comes, Moves, Role, away, Class, Owning, Inside, Waiting, Joining, Masking, Called, Untold, Counted, Strange, weight, total, Word, Fits, Counts, phase_note, phase_wakes, note_of, wakes, Mutex, Sound, IsSound, Plain, Begin, Refuse, Lock, Flag, Enter, Check, Retreat, Rest, Expire, ExpireTaken, Reenter, ReenterTaken, Mask, Leave, Resume, Receive, Unlock, Look, Depart, Finish, Come, MarkParked, GoUnmarked, Go, from, to, May, written, are_left, told, settle, Step, Alone, Join, Quit, QuitLast, Requeue, Take, Free, Hand, Wake, WakeOwner, Pass, doing, Allowed, after, Runs, unlocked, AlwaysOfMutex}
+use Rattle.parking_lot_rules.specs.Classes.{inside}
+use Rattle.parking_lot_rules.specs.Mutex.{Phase, Idle, Seeks, Checked, Queued, Taken, Masks, Leaves, Unlocks, Stored, Wakes, Moves, Role, away, Class, Owning, Inside, Waiting, Called, Untold, Counted, weight, total, Word, Fits, Counts, phase_note, phase_wakes, note_of, wakes, Mutex, Sound, IsSound, Plain, Begin, Refuse, Lock, Flag, Enter, Check, Retreat, Rest, Expire, ExpireTaken, Reenter, ReenterTaken, Mask, Leave, Resume, Receive, Unlock, Look, Depart, Finish, Come, MarkParked, GoUnmarked, Go, from, to, May, written, are_left, told, settle, Step, Alone, Join, Quit, QuitLast, Requeue, Take, Free, Hand, Wake, WakeOwner, Pass, doing, Allowed, after, Runs, unlocked, AlwaysOfMutex}
 use Rattle.parking_lot_rules.proofs.Indexed.{get-set_same, get-set_other, get-set_cases, sum_by-set_at}
-use Rattle.parking_lot_rules.proofs.Waiting.{lists-same, lists-push, lists-drop, occurs-push, occurs-cons, counted-same, counted-other}
+use Rattle.parking_lot_rules.proofs.Waiting.{lists-same, lists-push, lists-drop, occurs-cons, counted-same, counted-other}
 use Rattle.parking_lot_rules.proofs.Noting.{noted-set, WillWakeBy}
 use Rattle.parking_lot_rules.proofs.Fitting.{zero_or}
 
@@ -144,8 +144,8 @@ one_inside : (rs : List Role) → total Inside rs ≤ 1 → (t u : ℕ) (a b : R
 one_inside rs few t u a b at there wa wb = ⊎_elim
     (λ e. e)
     (λ ne.
-      let still : slice_get (slice_set rs t away) u ≡ Some b = get-set_other rs t u away (λ e. ne (sym e)) ∙ there in
-      absurd (omega (arith, few, total-at rs t a at Inside, total-at (slice_set rs t away) u b still Inside, wa, wb)))
+    let still : slice_get (slice_set rs t away) u ≡ Some b = get-set_other rs t u away (λ e. ne (sym e)) ∙ there in
+    absurd (omega (arith, few, total-at rs t a at Inside, total-at (slice_set rs t away) u b still Inside, wa, wb)))
     (cases_eq u t)
 
 open_inside : (o : Bool) (p : Phase) (u : ℕ) → 0 < occurs u (phase_wakes p Open) → weight Inside (record { owns = o; does = p }) ≡ 1
@@ -275,10 +275,16 @@ module _ (w : Word) (rs : List Role) (q : List ℕ) (sound : Sound w rs q) (t : 
       let still : slice_get (slice_set rs t b) v ≡ Some x = get-set_other rs t v b ne ∙ there in
       let left : slice_get (slice_set rs t away) v ≡ Some x = get-set_other rs t v away ne ∙ there in
       same_counts (Fits w) _ _
-          (λ c. omega (arith, sum_by-set_at (weight c) rs t a b at, sum_by-set_at (weight c) rs t a away at, sum_by-set_at (weight c) (slice_set rs t b) v x y still,
-          sum_by-set_at (weight c) (slice_set rs t away) v x away left, away_weighs c))
-          (keeps (same_counts (Fits w) _ _
-          (λ c. omega (arith, sum_by-set_at (weight c) rs t a away at, sum_by-set_at (weight c) (slice_set rs t away) v x away left, away_weighs c)) sound.fits))
+      (λ c. omega (
+        arith,
+        sum_by-set_at (weight c) rs t a b at,
+        sum_by-set_at (weight c) rs t a away at,
+        sum_by-set_at (weight c) (slice_set rs t b) v x y still,
+        sum_by-set_at (weight c) (slice_set rs t away) v x away left,
+        away_weighs c,
+      ))
+      (keeps (same_counts (Fits w) _ _
+      (λ c. omega (arith, sum_by-set_at (weight c) rs t a away at, sum_by-set_at (weight c) (slice_set rs t away) v x away left, away_weighs c)) sound.fits))
 
   -- a role changes that takes nobody and wakes nobody
   noted-quiet : (a b : Role) → slice_get rs t ≡ Some a → note_of b ≡ None → ((u : ℕ) (mark : Mark) → occurs u (wakes a mark) ≤ occurs u (wakes b mark)) → AreNotedBy note_of wakes (slice_set rs t b)
@@ -339,8 +345,10 @@ module _ (w : Word) (rs : List Role) (q : List ℕ) (sound : Sound w rs q) (t : 
     where
       a : Role
       a = record { owns = o; does = Wakes (v ∷ us) }
+
       b : Role
       b = record { owns = o; does = Wakes us }
+
       still : (u : ℕ) (r : Role) (mark : Mark) → ((u ≡ t) × (r ≡ b)) ⊎ ((u ≢ t) × (slice_get rs u ≡ Some r)) → note_of r ≡ Some (t, mark) → u ≢ v
       still u r mark (inl x) took e = none-some (t, mark) (sym (ap note_of x.1) ∙ took)
       still u r mark (inr x) took e = gone r mark (ap (λ i. slice_get rs i) (sym e) ∙ x.1) took
@@ -355,10 +363,13 @@ module _ (w : Word) (rs : List Role) (q : List ℕ) (sound : Sound w rs q) (t : 
     where
       a : Role
       a = record { owns = o; does = Moves }
+
       y : Role
       y = doing (Queued Asleep)
+
       ne : t ≢ v
       ne e = let same : a ≡ away = same_Some a away (sym at ∙ ap (λ j. slice_get rs j) e ∙ there) in let phases = ap (λ (r : Role). r.does) same in cc
+
       alike : (c : Class) → total c (slice_set (slice_set rs t a) v y) ≡ total c (slice_set rs v y)
       alike c = omega (arith, sum_by-set_at (weight c) (slice_set rs t a) v away y (get-set_other rs t v a ne ∙ there), sum_by-set_at (weight c) rs v away y there, sum_by-set_at (weight c) rs t a a at)
 
@@ -371,21 +382,26 @@ module _ (w : Word) (rs : List Role) (q : List ℕ) (sound : Sound w rs q) (t : 
     noted = noted-set note_of wakes (slice_set rs t b) v x y still
         (noted-set note_of wakes rs t a b at sound.noted (nothing_noted b (λ by mark. WillWakeBy wakes rs by t mark) refl) (λ u r mark here took. take_grows v u mark))
         (λ by mark took.
-          let e : (t, Open) ≡ (by, mark) = same_Some _ _ took in
-          subst (λ (z : ℕ × Mark). WillWakeBy wakes (slice_set rs t b) z.0 v z.1) e (b, get-set_same rs t a b at, omega (arith, occurs-cons v v [], counted-same v)))
+        let e : (t, Open) ≡ (by, mark) = same_Some _ _ took in
+        subst (λ (z : ℕ × Mark). WillWakeBy wakes (slice_set rs t b) z.0 v z.1) e (b, get-set_same rs t a b at, omega (arith, occurs-cons v v [], counted-same v)))
         (λ u r mark here took. omega arith);
   }
     where
       a : Role
       a = doing (Unlocks [])
+
       b : Role
       b = doing (Unlocks (v ∷ []))
+
       x : Role
       x = doing (Queued stay)
+
       y : Role
       y = doing (Taken t Open stay)
+
       ne : t ≢ v
       ne e = let same : a ≡ x = same_Some a x (sym at ∙ ap (λ j. slice_get rs j) e ∙ there) in let phases = ap (λ (r : Role). r.does) same in cc
+
       still : slice_get (slice_set rs t b) v ≡ Some x
       still = get-set_other rs t v b ne ∙ there
 
@@ -401,31 +417,37 @@ module _ (w : Word) (rs : List Role) (q : List ℕ) (sound : Sound w rs q) (t : 
     where
       a : Role
       a = doing (Unlocks us)
+
       b : Role
       b = doing (Stored us)
+
       told_roles : List Role
       told_roles = map (settle h) rs
+
       at_told : slice_get told_roles t ≡ Some a
       at_told = slice_get-map (settle h) rs t ∙ ap (option_map (settle h)) at
+
       counted : (c : Class) → settled h (λ x. total x (slice_set rs t away)) c + weight c b ≡ total c (slice_set told_roles t b)
       counted c = sym (total-set told_roles t a b at_told c ∙ ap (λ k. k + weight c b) (sym (ap (total c) (map-set (settle h) rs t away)) ∙ total-settle h said (slice_set rs t away) c))
+
       only : (u by : ℕ) (p : Role) → slice_get rs by ≡ Some p → 0 < occurs u (wakes p Open) → (by ≡ t) × (p ≡ a)
       only u by p there some =
           let same : by ≡ t = one_inside rs sound.fits.inside t by a p at there refl (open_inside p.owns p.does u some) in
           (same, same_Some p a (sym there ∙ ap (λ i. slice_get rs i) same ∙ at))
+
       kept : (u by : ℕ) (mark : Mark) → WillWakeBy wakes rs by u mark → by ≢ t → WillWakeBy wakes (slice_set told_roles t b) by u mark
       kept u by mark p ne = (
         settle h p.0,
         get-set_other told_roles t by b (λ x. ne (sym x)) ∙ slice_get-map (settle h) rs by ∙ ap (option_map (settle h)) p.1,
         subst (λ vs. 0 < occurs u vs) (sym (told_wakes h p.0.does mark)) p.2,
       )
+
       later : (u by : ℕ) (x : Role) (mark : Mark) → slice_get rs u ≡ Some x → ((note_of x ≡ Some (by, Open)) × (mark ≡ h)) ⊎ ((note_of x ≡ Some (by, mark)) × ((vs : List ℕ) → phase_wakes (Unlocks vs) mark ≡ []))
           → WillWakeBy wakes (slice_set told_roles t b) by u mark
       later u by x mark there (inl told_now) =
           let p = sound.noted u by x Open there told_now.0 in
           let same = only u by p.0 p.1 p.2 in
-          let some : 0 < occurs u us = subst (λ (r : Role). 0 < occurs u (wakes r Open)) same.1 p.2 in
-          (
+          let some : 0 < occurs u us = subst (λ (r : Role). 0 < occurs u (wakes r Open)) same.1 p.2 in (
             b,
             ap (λ i. slice_get (slice_set told_roles t b) i) same.0 ∙ get-set_same told_roles t a b at_told,
             subst (λ (n : Mark). 0 < occurs u (phase_wakes (Stored us) n)) (sym told_now.1) (subst (λ vs. 0 < occurs u vs) (sym (stored_wakes h said us)) some),
@@ -436,6 +458,7 @@ module _ (w : Word) (rs : List Role) (q : List ℕ) (sound : Sound w rs q) (t : 
           let is_a : p.0 ≡ a = same_Some p.0 a (sym p.1 ∙ ap (λ i. slice_get rs i) same ∙ at) in
           let some : 0 < occurs u (wakes a mark) = subst (λ (r : Role). 0 < occurs u (wakes r mark)) is_a p.2 in
           omega (arith, some, ap (λ vs. occurs u vs) (told_before.1 us)))
+
       noted : (u by : ℕ) (r : Role) (mark : Mark) → ((u ≡ t) × (r ≡ b)) ⊎ ((u ≢ t) × (slice_get told_roles u ≡ Some r)) → note_of r ≡ Some (by, mark) → WillWakeBy wakes (slice_set told_roles t b) by u mark
       noted u by r mark (inl x) took = absurd (none-some (by, mark) (sym (ap note_of x.1) ∙ took))
       noted u by r mark (inr x) took =
@@ -525,6 +548,7 @@ rest_sound n = record {
   where
     each : (c : Class) (u : ℕ) (r : Role) → slice_get (replicate n away) u ≡ Some r → weight c r ≡ 0
     each c u r at = ap (weight c) (all_away n u r at) ∙ away_weighs c
+
     none : (c : Class) → total c (replicate n away) ≡ 0
     none c = total-none c (replicate n away) (each c)
 

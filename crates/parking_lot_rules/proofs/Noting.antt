@@ -27,9 +27,9 @@ module _ {R N : Type 0} (note : R → Option (ℕ × N)) (wakes : R → N → Li
       later : WillWakeBy wakes rs by u n → WillWakeBy wakes (slice_set rs t b) by u n
       later w = ⊎_elim
           (λ e.
-            let same : a ≡ w.0 = same_Some a w.0 (sym at ∙ ap (λ v. slice_get rs v) (sym e) ∙ w.1) in
-            let more : occurs u (wakes a n) ≤ occurs u (wakes b n) = grows u r n here (took ∙ ap (λ v. Some (v, n)) e) in
-            let some : 0 < occurs u (wakes a n) = subst (λ (s : R). 0 < occurs u (wakes s n)) (sym same) w.2 in
-            (b, ap (λ v. slice_get (slice_set rs t b) v) e ∙ get-set_same rs t a b at, omega (arith, more, some)))
+          let same : a ≡ w.0 = same_Some a w.0 (sym at ∙ ap (λ v. slice_get rs v) (sym e) ∙ w.1) in
+          let more : occurs u (wakes a n) ≤ occurs u (wakes b n) = grows u r n here (took ∙ ap (λ v. Some (v, n)) e) in
+          let some : 0 < occurs u (wakes a n) = subst (λ (s : R). 0 < occurs u (wakes s n)) (sym same) w.2 in
+          (b, ap (λ v. slice_get (slice_set rs t b) v) e ∙ get-set_same rs t a b at, omega (arith, more, some)))
           (λ ne. (w.0, get-set_other rs t by b (λ e. ne (sym e)) ∙ w.1, w.2))
           (cases_eq by t)

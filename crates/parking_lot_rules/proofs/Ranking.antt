@@ -1,17 +1,17 @@
 -- The ranks fall as a thread is stepped.
-use Rattle.std.proofs.Common.{◌≡◌, ◌≢◌, ℕ, zero, suc, ◌+◌, ◌-◌, ◌*◌, ◌<◌, ◌≤◌, ◌⊎◌, ⊎_elim, Bool, true, false, IsTrue, List, [], ◌∷◌, ◌++◌, length, map, remove, Option, Some, None, option_map, slice_get, slice_set, sum_by, refl, sym, ap, ◌∙◌, subst, inl, inr, arith, length-append}
-use Rattle.std.proofs.lemmas.List.{map-set, length-set, length-map}
+use Rattle.std.proofs.Common.{◌≡◌, ◌≢◌, ℕ, zero, suc, ◌+◌, ◌-◌, ◌*◌, ◌<◌, ◌≤◌, ◌⊎◌, Bool, true, false, IsTrue, List, [], ◌∷◌, length, map, remove, Some, option_map, slice_get, slice_set, sum_by, refl, sym, ap, ◌∙◌, subst, inl, inr, arith, length-append}
+use Rattle.std.proofs.lemmas.List.{length-set, length-map}
 use Rattle.std.proofs.lemmas.List.Edits.{length-remove}
 use Rattle.std.proofs.lemmas.List.Sums.{sum_by-cons}
-use Rattle.std.proofs.lemmas.Option.{none-some, same_Some, slice_get-map, slice_get_within}
-use Rattle.parking_lot_rules.specs.Roles.{Mode, Shared, Exclusive, Upgradable, Owned, Shares, Excludes, Upgrades, Stay, Fresh, Asleep, Late, Back, Mark, Open, Normal, Handed, Cause, FromExclusive, FromUpgradable, Owed, Phase, Idle, Seeks, Enters1, Checked1, Queued1, Taken1, Masks1, Leaves1, Drains, Enters2, Checked2, Queued2, Taken2, Leaves2, Yields, Owes1, Scans1, Stored1, Owes2, Scans2, Masked2, Wakes, Role, away}
-use Rattle.parking_lot_rules.specs.Classes.{Class, Waiting1, Waiting2, weight, total, bit, inside}
+use Rattle.std.proofs.lemmas.Option.{same_Some, slice_get-map, slice_get_within}
+use Rattle.parking_lot_rules.specs.Roles.{Mode, Shared, Exclusive, Upgradable, Owned, Shares, Stay, Fresh, Asleep, Late, Back, Mark, Open, Phase, Idle, Queued1, Taken1, Queued2, Taken2, Stored1, Scans2, Wakes, Role, away}
+use Rattle.parking_lot_rules.specs.Classes.{Class, Waiting1, Waiting2, weight, total}
 use Rattle.parking_lot_rules.specs.Clauses.{Word}
 use Rattle.parking_lot_rules.specs.Lock.{Lock, IsSound}
 use Rattle.parking_lot_rules.specs.Plain.{Plain, Begin, Refuse, Share, Pend, Drain, Upgradably, Exclude, Flag1, Enter1, Check1, Retreat1, Rest1, Expire1, ExpireTaken1, Reenter1, ReenterTaken1, Mask1, Leave1, Resume1, ReceiveShared, ReceivePending, ReceiveUpgradable, Flag2, Enter2, Check2, Retreat2, Rest2, Expire2, ExpireTaken2, Reenter2, ReenterTaken2, Resume2, Leave2, Yield, YieldBack, Unshare, UnshareLast, Look2, Mask2, Depart2, Unlock, UnlockUpgradable, LookExclusive, LookUpgradable, Downgrade, DowngradeToUpgradable, DowngradeUpgradable, Upgrade, UpgradeAtOnce, LookOwed, Depart1, Finish, bars, from, to, May, written}
-use Rattle.parking_lot_rules.specs.Steps.{Step, Alone, List_changes, Take1, Take2, Store, Wake, Pass, Allowed, after, Listing, Join1, Join2, Quit1, QuitLast1, Quit2, listing_from, listing_to, Scan, scanning, taking, MayTake, Ending, ends_saying, settle, told, stored, Waking, Retry, Own, OwnPending, OwnUpgradable, Recheck, waking_from, waking_to}
+use Rattle.parking_lot_rules.specs.Steps.{Step, Alone, List_changes, Take1, Take2, Store, Wake, Pass, Allowed, after, Listing, Join1, Join2, Quit1, QuitLast1, Quit2, listing_from, listing_to, scanning, taking, ends_saying, settle, told, Waking, Retry, Own, OwnPending, OwnUpgradable, Recheck, waking_from, waking_to}
 use Rattle.parking_lot_rules.specs.Laws.{is_asleep}
-use Rattle.parking_lot_rules.specs.Ranks.{where_some, to_come, asks, drains, checks1, checks2, by_stay, worst, fresh, rank_of_others, ranks, is_deadline, KnowsTheWord, RanksFall, RanksBegin, RanksChange}
+use Rattle.parking_lot_rules.specs.Ranks.{where_some, to_come, asks, drains, worst, fresh, rank_of_others, ranks, is_deadline, KnowsTheWord, RanksFall, RanksBegin, RanksChange}
 use Rattle.parking_lot_rules.proofs.Indexed.{get-set_same, get-set_other, sum_by-set_at}
 use Rattle.parking_lot_rules.proofs.Changing.{taking_taken}
 use Rattle.parking_lot_rules.proofs.Sounds.{waking_apart}
@@ -238,7 +238,7 @@ module _ (recursive : Bool) (t : ℕ) (l : Lock) (sound : IsSound l) where
   -- the ranks before and after, for one number of threads
   falls : (stale : Bool) (new : Lock) (p q : Phase) → length new.roles ≡ length l.roles
       → fresh (length l.roles) new.word (length new.first) (length new.second) q + rank_of_others (length l.roles) new.roles t + 1
-        ≤ before stale (length l.roles) l.word (length l.first) (length l.second) p + rank_of_others (length l.roles) l.roles t
+      ≤ before stale (length l.roles) l.word (length l.first) (length l.second) p + rank_of_others (length l.roles) l.roles t
       → ranks false new t q + 1 ≤ ranks stale l t p
   unfolding before
   falls true new p q len h = subst (λ k. fresh k new.word (length new.first) (length new.second) q + rank_of_others k new.roles t + 1 ≤ ranks true l t p) (sym len) h
@@ -276,7 +276,7 @@ module _ (recursive : Bool) (t : ℕ) (l : Lock) (sound : IsSound l) where
       (omega (
         arith,
         listing_falls recursive (length l.roles) (length l.first) (length l.second) l.word (λ c. total c l.roles) few1 few2 sound.fits.bit1 sound.fits.bit2 stale k
-          (length (after t (List_changes k) l).first) (length (after t (List_changes k) l).second),
+            (length (after t (List_changes k) l).first) (length (after t (List_changes k) l).second),
         others-set (length l.roles) l.roles t (listing_from k) (listing_to k) may.0,
       ))
   step_falls stale (Take1 s i v m stay) may busy now knows = falls stale (after t (Take1 s i v m stay) l) (scanning s).does (scanning (taking s v m)).does
@@ -285,15 +285,26 @@ module _ (recursive : Bool) (t : ℕ) (l : Lock) (sound : IsSound l) where
     where
       ne : t ≢ v
       ne = two_apart l.roles t v (scanning s) (record { owns = Shares 0; does = Queued1 m stay }) may.0 may.1.role (λ e. cc)
+
       go : (stale : Bool) → fresh (length l.roles) l.word (length (remove l.first i)) (length l.second) (scanning (taking s v m)).does + rank_of_others (length l.roles) (after t (Take1 s i v m stay) l).roles t + 1
           ≤ before stale (length l.roles) l.word (length l.first) (length l.second) (scanning s).does + rank_of_others (length l.roles) l.roles t
       go true = omega (
-        arith, few1, length-remove l.first i (slice_get_within l.first i v may.1.waiter), ap (λ us. length us) (taking_taken s v m), length-append s.taken (v ∷ []),
-        others-after (length l.roles) l.roles t v _ (scanning (taking s v m)) _ (record { owns = Shares 0; does = Taken1 m t Open stay }) may.0 may.1.role ne, taken_less1 (length l.roles) t m stay,
+        arith,
+        few1,
+        length-remove l.first i (slice_get_within l.first i v may.1.waiter),
+        ap (λ us. length us) (taking_taken s v m),
+        length-append s.taken (v ∷ []),
+        others-after (length l.roles) l.roles t v _ (scanning (taking s v m)) _ (record { owns = Shares 0; does = Taken1 m t Open stay }) may.0 may.1.role ne,
+        taken_less1 (length l.roles) t m stay,
       )
       go false = omega (
-        arith, few1, length-remove l.first i (slice_get_within l.first i v may.1.waiter), ap (λ us. length us) (taking_taken s v m), length-append s.taken (v ∷ []),
-        others-after (length l.roles) l.roles t v _ (scanning (taking s v m)) _ (record { owns = Shares 0; does = Taken1 m t Open stay }) may.0 may.1.role ne, taken_less1 (length l.roles) t m stay,
+        arith,
+        few1,
+        length-remove l.first i (slice_get_within l.first i v may.1.waiter),
+        ap (λ us. length us) (taking_taken s v m),
+        length-append s.taken (v ∷ []),
+        others-after (length l.roles) l.roles t v _ (scanning (taking s v m)) _ (record { owns = Shares 0; does = Taken1 m t Open stay }) may.0 may.1.role ne,
+        taken_less1 (length l.roles) t m stay,
       )
   step_falls stale (Take2 o v f stay) may busy now knows = falls stale (after t (Take2 o v f stay) l) (Scans2 []) (Scans2 (v ∷ []))
       (length-set (slice_set l.roles t _) v _ ∙ length-set l.roles t _)
@@ -301,15 +312,22 @@ module _ (recursive : Bool) (t : ℕ) (l : Lock) (sound : IsSound l) where
     where
       ne : t ≢ v
       ne = two_apart l.roles t v (record { owns = o; does = Scans2 [] }) (record { owns = Shares 0; does = Queued2 f stay }) may.0 may.2 (λ e. cc)
+
       go : (stale : Bool) → fresh (length l.roles) l.word (length l.first) (length (remove l.second 0)) (Scans2 (v ∷ [])) + rank_of_others (length l.roles) (after t (Take2 o v f stay) l).roles t + 1
           ≤ before stale (length l.roles) l.word (length l.first) (length l.second) (Scans2 []) + rank_of_others (length l.roles) l.roles t
       go true = omega (
-        arith, few2, length-remove l.second 0 (slice_get_within l.second 0 v may.1),
-        others-after (length l.roles) l.roles t v _ (record { owns = o; does = Scans2 (v ∷ []) }) _ (record { owns = Shares 0; does = Taken2 f t stay }) may.0 may.2 ne, taken_less2 (length l.roles) t f stay,
+        arith,
+        few2,
+        length-remove l.second 0 (slice_get_within l.second 0 v may.1),
+        others-after (length l.roles) l.roles t v _ (record { owns = o; does = Scans2 (v ∷ []) }) _ (record { owns = Shares 0; does = Taken2 f t stay }) may.0 may.2 ne,
+        taken_less2 (length l.roles) t f stay,
       )
       go false = omega (
-        arith, few2, length-remove l.second 0 (slice_get_within l.second 0 v may.1),
-        others-after (length l.roles) l.roles t v _ (record { owns = o; does = Scans2 (v ∷ []) }) _ (record { owns = Shares 0; does = Taken2 f t stay }) may.0 may.2 ne, taken_less2 (length l.roles) t f stay,
+        arith,
+        few2,
+        length-remove l.second 0 (slice_get_within l.second 0 v may.1),
+        others-after (length l.roles) l.roles t v _ (record { owns = o; does = Scans2 (v ∷ []) }) _ (record { owns = Shares 0; does = Taken2 f t stay }) may.0 may.2 ne,
+        taken_less2 (length l.roles) t f stay,
       )
   step_falls true (Store e s) may busy now knows = falls true (after t (Store e s) l) (scanning s).does (Stored1 s.taken)
       (length-set (map (settle (ends_saying e)) l.roles) t _ ∙ length-map l.roles (settle (ends_saying e)))
@@ -322,7 +340,7 @@ module _ (recursive : Bool) (t : ℕ) (l : Lock) (sound : IsSound l) where
       (omega (
         arith,
         others-before (length l.roles) l.roles t v _ (record { owns = o; does = Wakes us }) _ (waking_to k) may.0 may.1
-          (λ e. waking_apart k t stay o (v ∷ us) (same_Some _ _ (sym may.0 ∙ ap (λ i. slice_get l.roles i) (sym e) ∙ may.1))),
+            (λ e. waking_apart k t stay o (v ∷ us) (same_Some _ _ (sym may.0 ∙ ap (λ i. slice_get l.roles i) (sym e) ∙ may.1))),
         woken_more (length l.roles) t k stay,
       ))
   step_falls true (Pass o v us) may busy now knows = falls true (after t (Pass o v us) l) (Wakes (v ∷ us)) (Wakes us) (length-set l.roles t _)
@@ -332,7 +350,7 @@ module _ (recursive : Bool) (t : ℕ) (l : Lock) (sound : IsSound l) where
       (omega (
         arith,
         others-before (length l.roles) l.roles t v _ (record { owns = o; does = Wakes us }) _ (waking_to k) may.0 may.1
-          (λ e. waking_apart k t stay o (v ∷ us) (same_Some _ _ (sym may.0 ∙ ap (λ i. slice_get l.roles i) (sym e) ∙ may.1))),
+            (λ e. waking_apart k t stay o (v ∷ us) (same_Some _ _ (sym may.0 ∙ ap (λ i. slice_get l.roles i) (sym e) ∙ may.1))),
         woken_more (length l.roles) t k stay,
       ))
   step_falls false (Pass o v us) may busy now knows = falls false (after t (Pass o v us) l) (Wakes (v ∷ us)) (Wakes us) (length-set l.roles t _)

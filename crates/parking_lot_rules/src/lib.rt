@@ -16,25 +16,22 @@ pub use laws::{
     owners_exclude_each_other, sleepers_are_known, somebody_can_move, the_word_tells_the_owners,
 };
 pub use mutex::{
-    a_mutex_tells_its_owner,
-    debts_of_a_mutex_are_kept,
-    every_mutex_is_sound,
-    no_bit_of_a_mutex_outlives_the_calls,
-    sleepers_at_a_mutex_are_known,
+    a_mutex_tells_its_owner, debts_of_a_mutex_are_kept, every_mutex_is_sound,
+    no_bit_of_a_mutex_outlives_the_calls, sleepers_at_a_mutex_are_known,
     somebody_at_a_mutex_can_move,
 };
 pub use progress::{rising_locks_never_deadlock, sections_are_entered, sleepers_are_served};
 pub use steps::{
-    a_call_begins_with_a_small_rank, another_thread_may_be_stepped, each_step_is_a_case, ranks_fall,
-    readers_are_kept_out,
+    a_call_begins_with_a_small_rank, another_thread_may_be_stepped, each_step_is_a_case,
+    ranks_fall, readers_are_kept_out,
+};
+pub use word::{
+    is_parked, is_upgradable, is_writer_parked, is_written, readers, with_parked, without_parked,
+    without_writer_parked,
 };
 pub use wrong::{
     a_bit_on_an_empty_list_is_wrong, a_give_up_that_keeps_its_bit_is_wrong,
     a_join_without_a_check_is_wrong, a_scan_past_a_writer_is_wrong,
     a_section_that_forgets_the_writer_is_wrong, a_store_of_zero_with_waiters_is_wrong,
     a_wake_by_number_is_wrong, debts_alone_are_not_kept,
-};
-pub use word::{
-    is_parked, is_upgradable, is_writer_parked, is_written, readers, with_parked,
-    without_parked, without_writer_parked,
 };
