@@ -23,3 +23,4 @@ pub mod Exampling
 pub mod Mutexes
 pub mod MutexFollowing
 pub mod Ranking
+pub mod Sighting

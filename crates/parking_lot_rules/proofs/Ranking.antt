@@ -21,7 +21,7 @@ two_apart : (rs : List Role) (t v : ℕ) (a x : Role) → slice_get rs t ≡ Som
 two_apart rs t v a x at there ne e = ne (ap (λ (r : Role). r.does) (same_Some a x (sym at ∙ ap (λ i. slice_get rs i) e ∙ there)))
 
 -- which of the two numbers it is
-chosen : (n a b : ℕ) → ((n ≡ 0) × (where_some n a b ≡ b)) ⊎ ((0 < n) × (where_some n a b ≡ a))
+pub chosen : (n a b : ℕ) → ((n ≡ 0) × (where_some n a b ≡ b)) ⊎ ((0 < n) × (where_some n a b ≡ a))
 chosen zero a b = inl (refl, refl)
 chosen (suc n) a b = inr (omega arith, refl)
 
@@ -229,10 +229,10 @@ module _ (n : ℕ) where
       omega (arith, others-set (map (settle h) rs) t (settle h a) b still, others-at (map (settle h) rs) t (settle h a) still, sum-settle h rs, others-at rs t a at, told_same n h a.does)
 
 module _ (recursive : Bool) (t : ℕ) (l : Lock) (sound : IsSound l) where
-  few1 : length l.first ≤ length l.roles
+  pub few1 : length l.first ≤ length l.roles
   few1 = omega (arith, sound.waiting1.count, first_few l.roles)
 
-  few2 : length l.second ≤ length l.roles
+  pub few2 : length l.second ≤ length l.roles
   few2 = omega (arith, sound.waiting2.count, second_few l.roles)
 
   -- the ranks before and after, for one number of threads

@@ -14,5 +14,6 @@ pub mod Wrong
 pub mod Owners
 pub mod Example
 pub mod Ranks
+pub mod Sights
 pub mod Mutex
 pub mod MutexLaws
