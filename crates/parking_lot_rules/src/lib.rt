@@ -22,8 +22,9 @@ pub use mutex::{
 };
 pub use progress::{rising_locks_never_deadlock, sections_are_entered, sleepers_are_served};
 pub use steps::{
-    a_call_begins_with_a_small_rank, another_thread_may_be_stepped, each_step_is_a_case,
-    ranks_fall, readers_are_kept_out,
+    a_call_begins_with_a_small_rank, a_step_stays_at_its_lock, another_thread_may_be_stepped,
+    each_step_is_a_case, looks_lower_the_full_ranks, ranks_fall, readers_are_kept_out,
+    steps_lower_the_full_ranks,
 };
 pub use word::{
     is_parked, is_upgradable, is_writer_parked, is_written, readers, with_parked, without_parked,

@@ -3,7 +3,7 @@ ghost use Rattle.parking_lot_rules.specs.Laws.{ReadersAreKeptOut};
 ghost use Rattle.parking_lot_rules.specs.Owners.{IsOfItsCase};
 ghost use Rattle.parking_lot_rules.specs.Ranks.{RanksBegin, RanksChange, RanksFall};
 ghost use Rattle.parking_lot_rules.specs.Sights.{LooksLower, StepsLower};
-ghost use Rattle.parking_lot_rules.specs.Runs.{Always, Throughout};
+ghost use Rattle.parking_lot_rules.specs.Runs.{Always, StaysAtItsLock, Throughout};
 
 /// Each step is a case of a lock without a word, which has named owners and two lists: it enters a list or quits it, is admitted, hands the
 /// lock over, converts its hold, leaves, gives up, takes another off a list, or changes neither owners nor lists.
@@ -44,4 +44,9 @@ pub fn looks_lower_the_full_ranks()
 /// or to its sleep, in as many steps of any kind as they are at most, or it stands before a bucket that another has entered.
 pub fn steps_lower_the_full_ranks()
     ensures { Throughout StepsLower }
+{}
+
+/// A step at one lock changes nothing at another: not its word, its lists, nor what any thread owns of it or does there.
+pub fn a_step_stays_at_its_lock()
+    ensures { StaysAtItsLock }
 {}
