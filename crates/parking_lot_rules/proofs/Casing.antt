@@ -14,7 +14,7 @@ use Rattle.parking_lot_rules.proofs.Finding.{somebody, two_of, none_or}
 use Rattle.parking_lot_rules.proofs.Owning.{owner_writes, owner_awaits, owner_upgrades, owner_reads, reader_of, upgrader_of}
 use Rattle.parking_lot_rules.proofs.Sounds.{waking_apart}
 
-set-same : {X : Type 0} (xs : List X) (t : ℕ) (x : X) → slice_get xs t ≡ Some x → slice_set xs t x ≡ xs
+pub set-same : {X : Type 0} (xs : List X) (t : ℕ) (x : X) → slice_get xs t ≡ Some x → slice_set xs t x ≡ xs
 set-same [] t x e = refl
 set-same (y ∷ xs) zero x e = ap (λ z. z ∷ xs) (sym (same_Some y x e))
 set-same (y ∷ xs) (suc t) x e = ap (λ zs. y ∷ zs) (set-same xs t x e)

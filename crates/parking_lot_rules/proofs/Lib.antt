@@ -24,3 +24,4 @@ pub mod Mutexes
 pub mod MutexFollowing
 pub mod Ranking
 pub mod Sighting
+pub mod MutexCasing

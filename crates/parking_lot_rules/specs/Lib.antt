@@ -17,3 +17,4 @@ pub mod Ranks
 pub mod Sights
 pub mod Mutex
 pub mod MutexLaws
+pub mod MutexOwners
