@@ -25,3 +25,4 @@ pub mod MutexFollowing
 pub mod Ranking
 pub mod Sighting
 pub mod MutexCasing
+pub mod MutexRanking

@@ -18,3 +18,4 @@ pub mod Sights
 pub mod Mutex
 pub mod MutexLaws
 pub mod MutexOwners
+pub mod MutexRanks
