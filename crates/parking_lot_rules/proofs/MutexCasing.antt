@@ -1,11 +1,11 @@
 -- Every step at a mutex is of its case.
-use Rattle.std.proofs.Common.{◌≡◌, ◌≢◌, ℕ, zero, suc, ◌+◌, ◌<◌, ◌≤◌, ◌⊎◌, ⊎_elim, Bool, true, false, List, [], ◌∷◌, ◌++◌, length, map, remove, Option, Some, None, option_map, slice_get, slice_set, refl, sym, ap, ◌∙◌, arith}
+use Rattle.std.proofs.Common.{◌≡◌, ◌≢◌, ℕ, ◌<◌, Bool, true, false, List, [], ◌∷◌, map, Option, Some, None, option_map, slice_get, slice_set, refl, sym, ap, ◌∙◌, arith}
 use Rattle.std.proofs.lemmas.List.{map-set}
 use Rattle.std.proofs.lemmas.Bool.{false_from_ne_true}
 use Rattle.std.proofs.lemmas.Option.{none-some, same_Some, slice_get-map}
-use Rattle.parking_lot_rules.specs.Roles.{Stay, Fresh, Asleep, Late, Back, Mark, Open, Normal, Handed}
-use Rattle.parking_lot_rules.specs.Mutex.{Phase, Idle, Seeks, Enters, Checked, Queued, Taken, Masks, Leaves, Unlocks, Stored, Wakes, Comes, Moves, Role, away, Class, Owning, weight, total, Mutex, IsSound, Plain, Begin, Refuse, Lock, Flag, Enter, Check, Retreat, Rest, Expire, ExpireTaken, Reenter, ReenterTaken, Mask, Leave, Resume, Receive, Unlock, Look, Depart, Finish, Come, MarkParked, GoUnmarked, Go, from, to, May, settle, Step, Alone, Join, Quit, QuitLast, Requeue, Take, Free, Hand, Wake, WakeOwner, Pass, doing, Allowed, after}
-use Rattle.parking_lot_rules.specs.MutexOwners.{Stand, Apart, Waits, Chosen, Standing, Owners, owner_of, stand_of, standing, owners, not_chosen, owner_given, dismissed, appointed, Case, Nothing, Admit, Leave, NoOwner, IsCase, case_of, StepsAreCases}
+use Rattle.parking_lot_rules.specs.Roles.{Open, Normal, Handed}
+use Rattle.parking_lot_rules.specs.Mutex.{Phase, Idle, Seeks, Taken, Unlocks, Wakes, Role, Owning, weight, total, Mutex, IsSound, Plain, Lock, ExpireTaken, ReenterTaken, Unlock, from, to, May, settle, Step, Alone, Join, Quit, QuitLast, Requeue, Take, Free, Hand, Wake, WakeOwner, Pass, doing, Allowed, after}
+use Rattle.parking_lot_rules.specs.MutexOwners.{Apart, Chosen, Standing, Owners, owner_of, standing, owners, dismissed, appointed, Nothing, NoOwner, IsCase, case_of, StepsAreCases}
 use Rattle.parking_lot_rules.proofs.Indexed.{get-set_other}
 use Rattle.parking_lot_rules.proofs.Casing.{set-same}
 use Rattle.parking_lot_rules.proofs.Mutexes.{total-at}

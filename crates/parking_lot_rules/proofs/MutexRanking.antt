@@ -1,12 +1,12 @@
 -- The ranks at a mutex fall as a thread is stepped.
-use Rattle.std.proofs.Common.{◌≡◌, ◌≢◌, ℕ, zero, suc, ◌+◌, ◌-◌, ◌*◌, ◌<◌, ◌≤◌, ◌⊎◌, Bool, true, false, IsTrue, List, [], ◌∷◌, length, map, remove, Some, option_map, slice_get, slice_set, sum_by, refl, sym, ap, ◌∙◌, subst, inl, inr, arith}
+use Rattle.std.proofs.Common.{◌≡◌, ◌≢◌, ℕ, ◌+◌, ◌-◌, ◌≤◌, ◌⊎◌, Bool, true, false, IsTrue, List, [], ◌∷◌, map, Some, option_map, slice_get, slice_set, sum_by, refl, sym, ap, ◌∙◌, subst, inl, inr, arith}
 use Rattle.std.proofs.lemmas.List.Sums.{sum_by-cons}
 use Rattle.std.proofs.lemmas.Option.{same_Some, slice_get-map}
 use Rattle.parking_lot_rules.specs.Roles.{Stay, Fresh, Asleep, Late, Back, Mark, Open, Normal, Handed}
-use Rattle.parking_lot_rules.specs.Mutex.{Phase, Idle, Seeks, Enters, Checked, Queued, Taken, Masks, Leaves, Unlocks, Stored, Wakes, Comes, Moves, Role, away, Class, total, Word, Mutex, IsSound, Plain, Begin, Refuse, Lock, Flag, Enter, Check, Retreat, Rest, Expire, ExpireTaken, Reenter, ReenterTaken, Mask, Leave, Resume, Receive, Unlock, Look, Depart, Finish, Come, MarkParked, GoUnmarked, Go, from, to, May, written, told, settle, Step, Alone, Join, Quit, QuitLast, Requeue, Take, Free, Hand, Wake, WakeOwner, Pass, doing, Allowed, after}
+use Rattle.parking_lot_rules.specs.Mutex.{Phase, Idle, Seeks, Checked, Queued, Taken, Masks, Leaves, Unlocks, Stored, Wakes, Moves, Role, away, Class, total, Word, Mutex, IsSound, Plain, Begin, Refuse, Lock, Flag, Enter, Check, Retreat, Rest, Expire, ExpireTaken, Reenter, ReenterTaken, Mask, Leave, Resume, Receive, Unlock, Look, Depart, Finish, Come, MarkParked, GoUnmarked, Go, from, to, May, written, told, settle, Step, Alone, Join, Quit, QuitLast, Requeue, Take, Free, Hand, Wake, WakeOwner, Pass, doing, Allowed, after}
 use Rattle.parking_lot_rules.specs.MutexLaws.{is_asleep}
-use Rattle.parking_lot_rules.specs.Ranks.{where_some, by_stay}
-use Rattle.parking_lot_rules.specs.MutexRanks.{asks, checks, worst, fresh, rank_of_others, ranks, is_apart, KnowsTheWord, MutexRanksFall}
+use Rattle.parking_lot_rules.specs.Ranks.{where_some}
+use Rattle.parking_lot_rules.specs.MutexRanks.{asks, worst, fresh, rank_of_others, ranks, is_apart, KnowsTheWord, MutexRanksFall}
 use Rattle.parking_lot_rules.proofs.Indexed.{get-set_same, get-set_other, sum_by-set_at}
 use Rattle.parking_lot_rules.proofs.Ranking.{chosen}
 

@@ -1,12 +1,12 @@
 -- Every step of the stepped thread lowers the full ranks, those that change nothing too.
-use Rattle.std.proofs.Common.{◌≡◌, ◌≢◌, ℕ, zero, suc, ◌+◌, ◌-◌, ◌*◌, ◌<◌, ◌≤◌, Bool, true, false, length, Some, slice_get, refl, arith}
-use Rattle.parking_lot_rules.specs.Roles.{Mode, Shared, Exclusive, Upgradable, Owned, Shares, Excludes, Upgrades, Stay, Fresh, Asleep, Late, Back, Mark, Open, Normal, Handed, Cause, FromExclusive, FromUpgradable, Owed, Phase, Idle, Seeks, Enters1, Checked1, Queued1, Taken1, Masks1, Leaves1, Drains, Enters2, Checked2, Queued2, Taken2, Leaves2, Yields, Owes1, Scans1, Stored1, Owes2, Scans2, Masked2, Wakes, Role}
+use Rattle.std.proofs.Common.{ℕ, ◌+◌, ◌-◌, ◌≤◌, Bool, true, false, length, arith}
+use Rattle.parking_lot_rules.specs.Roles.{Phase, Seeks, Enters1, Drains, Enters2}
 use Rattle.parking_lot_rules.specs.Clauses.{Word}
 use Rattle.parking_lot_rules.specs.Lock.{Lock, IsSound}
 use Rattle.parking_lot_rules.specs.Plain.{bars}
 use Rattle.parking_lot_rules.specs.Steps.{Step, Allowed, after}
-use Rattle.parking_lot_rules.specs.Ranks.{where_some, to_come, asks, drains, checks1, checks2, worst, fresh, ranks}
-use Rattle.parking_lot_rules.specs.Sights.{Sight, Blind, Sees, is_stale, Looks, looks_left, full_ranks, LooksLower, StepsLower}
+use Rattle.parking_lot_rules.specs.Ranks.{where_some, to_come, asks, drains, worst, fresh}
+use Rattle.parking_lot_rules.specs.Sights.{Sight, Blind, Sees, is_stale, looks_left, LooksLower, StepsLower}
 use Rattle.parking_lot_rules.proofs.Ranking.{chosen, ranks_fall, few1, few2}
 
 -- who knows the word has no more to do

@@ -1,8 +1,8 @@
 -- A mutex without its word: who owns it, and who waits in its list.
-use Rattle.std.specs.Prelude.{◌≡◌, ◌≢◌, ℕ, Bool, true, false, List, [], ◌∷◌, ◌++◌, map, slice_get, slice_set, Some}
+use Rattle.std.specs.Prelude.{◌≡◌, ℕ, Bool, true, false, List, [], ◌∷◌, ◌++◌, map, slice_get, slice_set, Some}
 use Rattle.std.specs.List.{remove}
-use Rattle.parking_lot_rules.specs.Roles.{Mark, Open, Handed}
-use Rattle.parking_lot_rules.specs.Mutex.{Phase, Queued, Taken, Unlocks, Role, Mutex, Step, Alone, Join, Quit, QuitLast, Requeue, Take, Free, Hand, Wake, WakeOwner, Pass, Lock, Unlock, Allowed, after}
+use Rattle.parking_lot_rules.specs.Roles.{Open, Handed}
+use Rattle.parking_lot_rules.specs.Mutex.{Phase, Queued, Taken, Unlocks, Role, Mutex, Step, Alone, Join, Quit, QuitLast, Requeue, Take, Free, Hand, Lock, Unlock, Allowed, after}
 
 -- Where a thread stands: not in the list, in it, or taken off it and not told yet what for.
 pub data Stand : Type 0 where

@@ -1,5 +1,5 @@
 -- The steps that change nothing: loads, spins and exchanges that were lost.
-use Rattle.std.specs.Prelude.{◌≡◌, ℕ, zero, suc, ◌+◌, ◌-◌, ◌*◌, ◌<◌, ◌≤◌, Bool, true, false, slice_get, Some}
+use Rattle.std.specs.Prelude.{◌≡◌, ℕ, ◌+◌, ◌-◌, ◌*◌, ◌<◌, ◌≤◌, Bool, true, false, slice_get, Some}
 use Rattle.parking_lot_rules.specs.Roles.{Phase, Idle, Role}
 use Rattle.parking_lot_rules.specs.Lock.{Lock}
 use Rattle.parking_lot_rules.specs.Steps.{Step}
