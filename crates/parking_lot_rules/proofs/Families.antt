@@ -4,9 +4,9 @@ use Rattle.std.proofs.lemmas.Bool.{cases_eq, ne_eqb}
 use Rattle.std.proofs.lemmas.Option.{none-some, same_Some}
 use Rattle.parking_lot_rules.specs.Roles.{Owned, Stay, Fresh, Asleep, Late, Back, Phase, Idle, Queued1, Taken1, Queued2, Taken2, Role}
 use Rattle.parking_lot_rules.specs.Classes.{Class, Inside1, Inside2, weight, total, weighs, inside}
-use Rattle.parking_lot_rules.specs.Lock.{Lock, IsSound}
-use Rattle.parking_lot_rules.specs.Steps.{Step, after}
-use Rattle.parking_lot_rules.specs.Family.{Key, First, Second, key, section, Crossing, Stays, Comes, Goes, Family, Rules, StepOf, SoundFamilyOf, rw_inside, rw_rules, put, IsFree, entered_after, FamilyStep, within, IsSoundFamily}
+use Rattle.parking_lot_rules.specs.Lock.{Lock}
+use Rattle.parking_lot_rules.specs.Steps.{Step}
+use Rattle.parking_lot_rules.specs.Family.{Key, First, Second, key, section, Crossing, Stays, Comes, Goes, Family, Rules, StepOf, SoundFamilyOf, rw_rules, put, IsFree, entered_after, FamilyStep, within, IsSoundFamily}
 use Rattle.std.proofs.lemmas.List.Sums.{sum_by-cons}
 use Rattle.parking_lot_rules.proofs.Totals.{total-at}
 use Rattle.parking_lot_rules.proofs.Sounds.{step_sound}
@@ -187,7 +187,7 @@ module _ {L S : Type 0} (rules : Rules L S) (are : AreRules rules) (bucket : ℕ
   }
 
 -- reader-writer locks have it
-rw_are_rules : (recursive : ℕ → Bool) → AreRules (rw_rules recursive)
+pub rw_are_rules : (recursive : ℕ → Bool) → AreRules (rw_rules recursive)
 rw_are_rules recursive = record {
   keeps = λ j t step l sound may. step_sound (recursive j) t step l sound may;
   others = λ j t step l k may u ne. step_others (recursive j) t l k step may u ne;

@@ -26,3 +26,4 @@ pub mod Ranking
 pub mod Sighting
 pub mod MutexCasing
 pub mod MutexRanking
+pub mod MutexCrossing

@@ -19,3 +19,4 @@ pub mod Mutex
 pub mod MutexLaws
 pub mod MutexOwners
 pub mod MutexRanks
+pub mod Any

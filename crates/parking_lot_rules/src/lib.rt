@@ -20,7 +20,9 @@ pub use mutex::{
     every_mutex_is_sound, no_bit_of_a_mutex_outlives_the_calls, ranks_at_a_mutex_fall,
     sleepers_at_a_mutex_are_known, somebody_at_a_mutex_can_move,
 };
-pub use progress::{rising_locks_never_deadlock, sections_are_entered, sleepers_are_served};
+pub use progress::{
+    families_stay_sound, rising_locks_never_deadlock, sections_are_entered, sleepers_are_served,
+};
 pub use steps::{
     a_call_begins_with_a_small_rank, a_step_stays_at_its_lock, another_thread_may_be_stepped,
     each_step_is_a_case, looks_lower_the_full_ranks, ranks_fall, readers_are_kept_out,
