@@ -7,6 +7,8 @@ mod laws;
 mod mutex;
 mod progress;
 mod steps;
+#[cfg(test)]
+mod tests;
 mod word;
 mod wrong;
 
