@@ -1,21 +1,20 @@
 -- Every step is of its case: what it does to owners and lists, without the word.
-use Rattle.std.proofs.Common.{◌≡◌, ◌≢◌, ℕ, zero, suc, ◌+◌, ◌<◌, ◌≤◌, ◌⊎◌, ⊎_elim, Bool, true, false, List, [], ◌∷◌, ◌++◌, length, map, remove, Option, Some, None, option_map, slice_get, slice_set, refl, sym, ap, ◌∙◌, subst, inl, inr, arith}
+use Rattle.std.proofs.Common.{◌≡◌, ◌≢◌, ℕ, zero, suc, ◌<◌, ◌≤◌, ⊎_elim, Bool, true, false, List, [], ◌∷◌, map, Option, Some, None, option_map, slice_get, slice_set, refl, sym, ap, ◌∙◌, inl, inr, arith}
 use Rattle.std.proofs.lemmas.List.{map-set}
 use Rattle.std.proofs.lemmas.Option.{none-some, same_Some, slice_get-map}
-use Rattle.parking_lot_rules.specs.Roles.{Mode, Shared, Exclusive, Upgradable, Owned, Shares, Excludes, Upgrades, Stay, Fresh, Asleep, Late, Back, Mark, Open, Normal, Handed, Cause, FromExclusive, FromUpgradable, Owed, Phase, Idle, Seeks, Enters1, Checked1, Queued1, Taken1, Masks1, Leaves1, Drains, Enters2, Checked2, Queued2, Taken2, Leaves2, Yields, Owes1, Scans1, Stored1, Owes2, Scans2, Masked2, Wakes, Role, away}
+use Rattle.parking_lot_rules.specs.Roles.{Mode, Shared, Exclusive, Upgradable, Owned, Shares, Excludes, Upgrades, Stay, Open, Normal, Handed, Cause, FromExclusive, FromUpgradable, Owed, Phase, Idle, Queued1, Taken1, Scans1, Stored1, Scans2, Role}
 use Rattle.parking_lot_rules.specs.Classes.{Class, Readers, Upgraders, Pending, Writers, Strange, weight, total, weighs, is_owner, unless_owed}
-use Rattle.parking_lot_rules.specs.Clauses.{Word, Fits}
 use Rattle.parking_lot_rules.specs.Lock.{Lock, IsSound}
-use Rattle.parking_lot_rules.specs.Plain.{Plain, Begin, Refuse, Share, Pend, Drain, Upgradably, Exclude, Flag1, Enter1, Check1, Retreat1, Rest1, Expire1, ExpireTaken1, Reenter1, ReenterTaken1, Mask1, Leave1, Resume1, ReceiveShared, ReceivePending, ReceiveUpgradable, Flag2, Enter2, Check2, Retreat2, Rest2, Expire2, ExpireTaken2, Reenter2, ReenterTaken2, Resume2, Leave2, Yield, YieldBack, Unshare, UnshareLast, Look2, Mask2, Depart2, Unlock, UnlockUpgradable, LookExclusive, LookUpgradable, Downgrade, DowngradeToUpgradable, DowngradeUpgradable, Upgrade, UpgradeAtOnce, LookOwed, Depart1, Finish, from, to, written, May}
-use Rattle.parking_lot_rules.specs.Steps.{Step, Alone, List_changes, Take1, Take2, Store, Wake, Pass, Allowed, after, Listing, Join1, Join2, Quit1, QuitLast1, Quit2, listing_from, listing_to, MayList, Look, Stop, Skip, Take, look, wants, Scan, scanning, holds_upgradable, taking, MayTake, Ending, Free, FreeUpgradable, Hand, HandUpgradable, Keep, ends_for, ends_saying, settle, told, Waking, Retry, Own, OwnPending, OwnUpgradable, Recheck, waking_from, waking_to}
-use Rattle.parking_lot_rules.specs.Owners.{Owner, Reading, Upgrading, Awaiting, Writing, Stand, Apart, Waits, WaitsForReaders, Chosen, Standing, Owners, owner_for_good, owner_of, stand_of, standing, owners, NoWriter, NoUpgrader, NoReader, SomeReader, dismissed, appointed, not_chosen, owner_given, At, with_standing, ArePassedOver, Nothing, Case, IsCase, case_of}
+use Rattle.parking_lot_rules.specs.Plain.{Plain, Share, Pend, Drain, Upgradably, Exclude, ExpireTaken1, ReenterTaken1, Yield, YieldBack, Unshare, UnshareLast, Unlock, UnlockUpgradable, Downgrade, DowngradeToUpgradable, DowngradeUpgradable, Upgrade, UpgradeAtOnce, from, to, May}
+use Rattle.parking_lot_rules.specs.Steps.{Step, Alone, List_changes, Take1, Take2, Store, Wake, Pass, Allowed, after, Join1, Join2, Quit1, QuitLast1, Quit2, Skip, look, wants, Scan, scanning, holds_upgradable, taking, Free, FreeUpgradable, Hand, HandUpgradable, Keep, settle, Waking, Retry, Own, OwnPending, OwnUpgradable, Recheck, waking_from, waking_to}
+use Rattle.parking_lot_rules.specs.Owners.{Reading, Upgrading, Awaiting, Stand, Apart, Waits, Chosen, Standing, Owners, owner_for_good, stand_of, standing, owners, NoWriter, NoUpgrader, NoReader, SomeReader, dismissed, appointed, ArePassedOver, Nothing, IsCase, case_of}
 use Rattle.parking_lot_rules.proofs.Indexed.{get-set_other}
 use Rattle.parking_lot_rules.proofs.Totals.{total-at}
 use Rattle.parking_lot_rules.proofs.Finding.{somebody, two_of, none_or}
 use Rattle.parking_lot_rules.proofs.Owning.{owner_writes, owner_awaits, owner_upgrades, owner_reads, reader_of, upgrader_of}
 use Rattle.parking_lot_rules.proofs.Sounds.{waking_apart}
 
-set-same : {X : Type 0} (xs : List X) (t : ℕ) (x : X) → slice_get xs t ≡ Some x → slice_set xs t x ≡ xs
+pub set-same : {X : Type 0} (xs : List X) (t : ℕ) (x : X) → slice_get xs t ≡ Some x → slice_set xs t x ≡ xs
 set-same [] t x e = refl
 set-same (y ∷ xs) zero x e = ap (λ z. z ∷ xs) (sym (same_Some y x e))
 set-same (y ∷ xs) (suc t) x e = ap (λ zs. y ∷ zs) (set-same xs t x e)

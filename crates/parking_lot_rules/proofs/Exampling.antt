@@ -1,11 +1,9 @@
 -- The example run can be made.
-use Rattle.std.proofs.Common.{◌≡◌, ℕ, ◌+◌, ◌<◌, Bool, true, false, List, [], ◌∷◌, ◌++◌, Some, slice_get, refl, sym, subst, inl, inr, arith}
-use Rattle.parking_lot_rules.specs.Roles.{Shared, Exclusive, Idle}
+use Rattle.std.proofs.Common.{false, List, [], ◌∷◌, ◌++◌, refl, subst, inl, arith}
 use Rattle.parking_lot_rules.specs.Classes.{weight}
-use Rattle.parking_lot_rules.specs.Clauses.{number}
-use Rattle.parking_lot_rules.specs.World.{World, Place, MayStep}
-use Rattle.parking_lot_rules.specs.Runs.{Move, moved, Runs, at_rest, IsReached}
-use Rattle.parking_lot_rules.specs.Example.{by, comes, goes, RunsAreThere}
+use Rattle.parking_lot_rules.specs.World.{World}
+use Rattle.parking_lot_rules.specs.Runs.{Move, moved, Runs, at_rest}
+use Rattle.parking_lot_rules.specs.Example.{comes, goes, RunsAreThere}
 
 -- the world that a run leads to
 abbrev led : List Move → World → World

@@ -1,10 +1,9 @@
 -- While a writer is pending the reader count doesn't grow.
-use Rattle.std.proofs.Common.{◌≡◌, ℕ, zero, suc, ◌+◌, ◌-◌, ◌<◌, ◌≤◌, ◌⊎◌, ⊎_elim, Bool, true, false, List, length, Some, slice_get, refl, sym, ap, ◌∙◌, subst, arith}
-use Rattle.parking_lot_rules.specs.Roles.{Owned, Shares, Excludes, Upgrades, Cause, FromExclusive, FromUpgradable, Owed, Phase, Idle, Scans1, Role}
-use Rattle.parking_lot_rules.specs.Classes.{Class, Readers, Upgraders, Pending, Writers, weight, total}
-use Rattle.parking_lot_rules.specs.Clauses.{Word, Fits}
+use Rattle.std.proofs.Common.{◌≡◌, ℕ, ◌+◌, ◌<◌, ◌≤◌, ⊎_elim, Bool, false, Some, slice_get, ap, subst, arith}
+use Rattle.parking_lot_rules.specs.Roles.{Cause, FromExclusive, FromUpgradable, Scans1, Role}
+use Rattle.parking_lot_rules.specs.Classes.{Upgraders, Pending, Writers, weight, total}
 use Rattle.parking_lot_rules.specs.Lock.{Lock, IsSound}
-use Rattle.parking_lot_rules.specs.Plain.{Plain, Begin, Refuse, Share, Pend, Drain, Upgradably, Exclude, Flag1, Enter1, Check1, Retreat1, Rest1, Expire1, ExpireTaken1, Reenter1, ReenterTaken1, Mask1, Leave1, Resume1, ReceiveShared, ReceivePending, ReceiveUpgradable, Flag2, Enter2, Check2, Retreat2, Rest2, Expire2, ExpireTaken2, Reenter2, ReenterTaken2, Resume2, Leave2, Yield, YieldBack, Unshare, UnshareLast, Look2, Mask2, Depart2, Unlock, UnlockUpgradable, LookExclusive, LookUpgradable, Downgrade, DowngradeToUpgradable, DowngradeUpgradable, Upgrade, UpgradeAtOnce, LookOwed, Depart1, Finish, from, May, written}
+use Rattle.parking_lot_rules.specs.Plain.{Plain, Share, Upgradably, YieldBack, Downgrade, DowngradeToUpgradable, from, May, written}
 use Rattle.parking_lot_rules.specs.Steps.{Step, Alone, List_changes, Take1, Take2, Store, Wake, Pass, Allowed, after, Scan, scanning, Free, FreeUpgradable, Hand, HandUpgradable, Keep}
 use Rattle.parking_lot_rules.specs.Laws.{gives_back, ReadersAreKeptOut}
 use Rattle.parking_lot_rules.proofs.Totals.{total-at}

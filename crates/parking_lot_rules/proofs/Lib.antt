@@ -23,3 +23,7 @@ pub mod Exampling
 pub mod Mutexes
 pub mod MutexFollowing
 pub mod Ranking
+pub mod Sighting
+pub mod MutexCasing
+pub mod MutexRanking
+pub mod MutexCrossing

@@ -1,9 +1,9 @@
 -- What follows for a sound mutex.
-use Rattle.std.proofs.Common.{◌≡◌, ◌≢◌, ℕ, zero, suc, ◌+◌, ◌*◌, ◌<◌, ◌≤◌, ◌⊎◌, ⊎_elim, Bool, true, false, IsTrue, List, [], ◌∷◌, length, Option, Some, None, slice_get, slice_set, refl, sym, ap, ◌∙◌, inl, inr, arith}
+use Rattle.std.proofs.Common.{◌≡◌, ◌≢◌, ℕ, suc, ◌<◌, ◌≤◌, ◌⊎◌, ⊎_elim, Bool, true, false, IsTrue, List, [], ◌∷◌, length, Option, Some, None, slice_get, slice_set, refl, ap, ◌∙◌, inl, inr, arith}
 use Rattle.std.proofs.lemmas.List.Sums.{sum_by-cons}
-use Rattle.parking_lot_rules.specs.Roles.{Stay, Fresh, Asleep, Late, Back, Mark, Open, Normal, Handed}
-use Rattle.parking_lot_rules.specs.Lists.{occurs, at_index, IsListOf}
-use Rattle.parking_lot_rules.specs.Mutex.{Phase, Idle, Seeks, Enters, Checked, Queued, Taken, Masks, Leaves, Unlocks, Stored, Wakes, Comes, Moves, Role, away, Class, Owning, Inside, Waiting, Joining, Masking, Called, Untold, Counted, Strange, weight, total, number, phase_note, phase_wakes, note_of, wakes, Mutex, IsSound}
+use Rattle.parking_lot_rules.specs.Roles.{Fresh, Asleep, Late, Back, Mark, Open, Normal, Handed}
+use Rattle.parking_lot_rules.specs.Lists.{occurs, at_index}
+use Rattle.parking_lot_rules.specs.Mutex.{Phase, Idle, Seeks, Enters, Queued, Taken, Unlocks, Stored, Wakes, Role, away, Class, Owning, Waiting, Masking, Called, Strange, weight, total, phase_note, phase_wakes, note_of, Mutex, IsSound}
 use Rattle.parking_lot_rules.specs.MutexLaws.{MutexTells, NothingIsLeft, is_asleep, IsWaker, SleepersAreKnown, owes, SomebodyOwes, DebtsAreKept, is_at_work, SomebodyIsUp, SomebodyCanMove}
 use Rattle.parking_lot_rules.proofs.Indexed.{get-set_other}
 use Rattle.parking_lot_rules.proofs.Finding.{none_or}

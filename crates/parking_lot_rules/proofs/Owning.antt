@@ -1,8 +1,8 @@
 -- Owners and their weights.
-use Rattle.std.proofs.Common.{◌≡◌, ◌≢◌, ℕ, zero, suc, ◌+◌, ◌<◌, ◌≤◌, ◌⊎◌, ⊎_elim, refl, sym, ap, ◌∙◌, inl, inr, arith}
-use Rattle.parking_lot_rules.specs.Roles.{Mode, Shared, Exclusive, Upgradable, Owned, Shares, Excludes, Upgrades, Stay, Fresh, Asleep, Late, Back, Mark, Open, Normal, Handed, Cause, FromExclusive, FromUpgradable, Owed, Phase, Idle, Seeks, Enters1, Checked1, Queued1, Taken1, Masks1, Leaves1, Drains, Enters2, Checked2, Queued2, Taken2, Leaves2, Yields, Owes1, Scans1, Stored1, Owes2, Scans2, Masked2, Wakes, Role, away}
-use Rattle.parking_lot_rules.specs.Classes.{Class, Readers, Upgraders, Pending, Writers, Strange, weight}
-use Rattle.parking_lot_rules.specs.Owners.{Owner, Reading, Upgrading, Awaiting, Writing, owner_of}
+use Rattle.std.proofs.Common.{◌≡◌, ℕ, zero, suc, ◌<◌, refl, arith}
+use Rattle.parking_lot_rules.specs.Roles.{Shared, Exclusive, Upgradable, Owned, Shares, Excludes, Upgrades, Handed, FromExclusive, FromUpgradable, Phase, Taken1, Drains, Enters2, Checked2, Queued2, Taken2, Leaves2, Yields, Scans1}
+use Rattle.parking_lot_rules.specs.Classes.{Readers, Upgraders, Pending, Writers, Strange, weight}
+use Rattle.parking_lot_rules.specs.Owners.{Reading, Upgrading, Awaiting, Writing, owner_of}
 
 pub owner_writes : (o : Owned) (p : Phase) → owner_of o p ≡ Writing → 0 < weight Writers (record { owns = o; does = p })
 unfolding weight

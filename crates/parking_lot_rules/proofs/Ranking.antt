@@ -1,17 +1,17 @@
 -- The ranks fall as a thread is stepped.
-use Rattle.std.proofs.Common.{◌≡◌, ◌≢◌, ℕ, zero, suc, ◌+◌, ◌-◌, ◌*◌, ◌<◌, ◌≤◌, ◌⊎◌, ⊎_elim, Bool, true, false, IsTrue, List, [], ◌∷◌, ◌++◌, length, map, remove, Option, Some, None, option_map, slice_get, slice_set, sum_by, refl, sym, ap, ◌∙◌, subst, inl, inr, arith, length-append}
-use Rattle.std.proofs.lemmas.List.{map-set, length-set, length-map}
+use Rattle.std.proofs.Common.{◌≡◌, ◌≢◌, ℕ, zero, suc, ◌+◌, ◌-◌, ◌*◌, ◌<◌, ◌≤◌, ◌⊎◌, Bool, true, false, IsTrue, List, [], ◌∷◌, length, map, remove, Some, option_map, slice_get, slice_set, sum_by, refl, sym, ap, ◌∙◌, subst, inl, inr, arith, length-append}
+use Rattle.std.proofs.lemmas.List.{length-set, length-map}
 use Rattle.std.proofs.lemmas.List.Edits.{length-remove}
 use Rattle.std.proofs.lemmas.List.Sums.{sum_by-cons}
-use Rattle.std.proofs.lemmas.Option.{none-some, same_Some, slice_get-map, slice_get_within}
-use Rattle.parking_lot_rules.specs.Roles.{Mode, Shared, Exclusive, Upgradable, Owned, Shares, Excludes, Upgrades, Stay, Fresh, Asleep, Late, Back, Mark, Open, Normal, Handed, Cause, FromExclusive, FromUpgradable, Owed, Phase, Idle, Seeks, Enters1, Checked1, Queued1, Taken1, Masks1, Leaves1, Drains, Enters2, Checked2, Queued2, Taken2, Leaves2, Yields, Owes1, Scans1, Stored1, Owes2, Scans2, Masked2, Wakes, Role, away}
-use Rattle.parking_lot_rules.specs.Classes.{Class, Waiting1, Waiting2, weight, total, bit, inside}
+use Rattle.std.proofs.lemmas.Option.{same_Some, slice_get-map, slice_get_within}
+use Rattle.parking_lot_rules.specs.Roles.{Mode, Shared, Exclusive, Upgradable, Owned, Shares, Stay, Fresh, Asleep, Late, Back, Mark, Open, Phase, Idle, Queued1, Taken1, Queued2, Taken2, Stored1, Scans2, Wakes, Role, away}
+use Rattle.parking_lot_rules.specs.Classes.{Class, Waiting1, Waiting2, weight, total}
 use Rattle.parking_lot_rules.specs.Clauses.{Word}
 use Rattle.parking_lot_rules.specs.Lock.{Lock, IsSound}
 use Rattle.parking_lot_rules.specs.Plain.{Plain, Begin, Refuse, Share, Pend, Drain, Upgradably, Exclude, Flag1, Enter1, Check1, Retreat1, Rest1, Expire1, ExpireTaken1, Reenter1, ReenterTaken1, Mask1, Leave1, Resume1, ReceiveShared, ReceivePending, ReceiveUpgradable, Flag2, Enter2, Check2, Retreat2, Rest2, Expire2, ExpireTaken2, Reenter2, ReenterTaken2, Resume2, Leave2, Yield, YieldBack, Unshare, UnshareLast, Look2, Mask2, Depart2, Unlock, UnlockUpgradable, LookExclusive, LookUpgradable, Downgrade, DowngradeToUpgradable, DowngradeUpgradable, Upgrade, UpgradeAtOnce, LookOwed, Depart1, Finish, bars, from, to, May, written}
-use Rattle.parking_lot_rules.specs.Steps.{Step, Alone, List_changes, Take1, Take2, Store, Wake, Pass, Allowed, after, Listing, Join1, Join2, Quit1, QuitLast1, Quit2, listing_from, listing_to, Scan, scanning, taking, MayTake, Ending, ends_saying, settle, told, stored, Waking, Retry, Own, OwnPending, OwnUpgradable, Recheck, waking_from, waking_to}
+use Rattle.parking_lot_rules.specs.Steps.{Step, Alone, List_changes, Take1, Take2, Store, Wake, Pass, Allowed, after, Listing, Join1, Join2, Quit1, QuitLast1, Quit2, listing_from, listing_to, scanning, taking, ends_saying, settle, told, Waking, Retry, Own, OwnPending, OwnUpgradable, Recheck, waking_from, waking_to}
 use Rattle.parking_lot_rules.specs.Laws.{is_asleep}
-use Rattle.parking_lot_rules.specs.Ranks.{where_some, to_come, asks, drains, checks1, checks2, by_stay, worst, fresh, rank_of_others, ranks, is_deadline, KnowsTheWord, RanksFall, RanksBegin, RanksChange}
+use Rattle.parking_lot_rules.specs.Ranks.{where_some, to_come, asks, drains, worst, fresh, rank_of_others, ranks, is_deadline, KnowsTheWord, RanksFall, RanksBegin, RanksChange}
 use Rattle.parking_lot_rules.proofs.Indexed.{get-set_same, get-set_other, sum_by-set_at}
 use Rattle.parking_lot_rules.proofs.Changing.{taking_taken}
 use Rattle.parking_lot_rules.proofs.Sounds.{waking_apart}
@@ -21,7 +21,7 @@ two_apart : (rs : List Role) (t v : ℕ) (a x : Role) → slice_get rs t ≡ Som
 two_apart rs t v a x at there ne e = ne (ap (λ (r : Role). r.does) (same_Some a x (sym at ∙ ap (λ i. slice_get rs i) e ∙ there)))
 
 -- which of the two numbers it is
-chosen : (n a b : ℕ) → ((n ≡ 0) × (where_some n a b ≡ b)) ⊎ ((0 < n) × (where_some n a b ≡ a))
+pub chosen : (n a b : ℕ) → ((n ≡ 0) × (where_some n a b ≡ b)) ⊎ ((0 < n) × (where_some n a b ≡ a))
 chosen zero a b = inl (refl, refl)
 chosen (suc n) a b = inr (omega arith, refl)
 
@@ -229,10 +229,10 @@ module _ (n : ℕ) where
       omega (arith, others-set (map (settle h) rs) t (settle h a) b still, others-at (map (settle h) rs) t (settle h a) still, sum-settle h rs, others-at rs t a at, told_same n h a.does)
 
 module _ (recursive : Bool) (t : ℕ) (l : Lock) (sound : IsSound l) where
-  few1 : length l.first ≤ length l.roles
+  pub few1 : length l.first ≤ length l.roles
   few1 = omega (arith, sound.waiting1.count, first_few l.roles)
 
-  few2 : length l.second ≤ length l.roles
+  pub few2 : length l.second ≤ length l.roles
   few2 = omega (arith, sound.waiting2.count, second_few l.roles)
 
   -- the ranks before and after, for one number of threads

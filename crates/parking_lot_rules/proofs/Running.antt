@@ -8,7 +8,7 @@ use Rattle.parking_lot_rules.specs.Lock.{Lock, note_of, IsSound}
 use Rattle.parking_lot_rules.specs.Steps.{Step, Allowed, after}
 use Rattle.parking_lot_rules.specs.Family.{section, IsSoundFamily}
 use Rattle.parking_lot_rules.specs.World.{World, role_at, lock_at, family}
-use Rattle.parking_lot_rules.specs.Runs.{Move, moved, Runs, zero_word, idle, at_rest, IsReached, Always, Throughout}
+use Rattle.parking_lot_rules.specs.Runs.{Move, moved, Runs, zero_word, idle, at_rest, IsReached, Always, Throughout, StaysAtItsLock}
 use Rattle.parking_lot_rules.proofs.Totals.{away_weighs, same_counts}
 use Rattle.parking_lot_rules.proofs.Families.{total-none}
 use Rattle.parking_lot_rules.proofs.Worlds.{world_sound, world_step, same_role, seen-idle}
@@ -64,3 +64,6 @@ throughout P holds bucket recursive w m r may =
     let sound = reached_sound bucket recursive w r in
     subst (λ x. P (recursive m.lock) m.thread m.step (lock_at w m.lock) x) (sym (world_step bucket recursive m.lock m.thread w m.step sound may).here)
     (holds (recursive m.lock) m.thread m.step (lock_at w m.lock) (sound.sound m.lock) may.allowed)
+
+pub stays_at_its_lock : StaysAtItsLock
+stays_at_its_lock bucket recursive w m i r may ne = (world_step bucket recursive m.lock m.thread w m.step (reached_sound bucket recursive w r) may).elsewhere i ne

@@ -188,7 +188,7 @@ module _ (bucket : ℕ → ℕ) (recursive : ℕ → Bool) (j t : ℕ) (w : Worl
   world_step step sound may = record {
     allowed = may.allowed;
     free = may.free;
-    idle = λ i r ne at.
+    idle = λ i ne r at.
         let same : role_at i may.place ≡ r = same_Some (role_at i may.place) r (sym (slice_get-map (role_at i) w.places t ∙ ap (option_map (role_at i)) may.here) ∙ at) in
         ap (λ (x : Role). x.does) (sym same) ∙ not_seen i j may.place ne may.there;
     here = same_lock _ _

@@ -1,8 +1,8 @@
 -- An example run: a reader owns a lock, a writer comes and sleeps, the reader leaves, and the writer owns the lock.
-use Rattle.std.specs.Prelude.{◌≡◌, ℕ, Bool, true, false, List, [], ◌∷◌, ◌++◌}
+use Rattle.std.specs.Prelude.{◌≡◌, ℕ, true, false, List, [], ◌∷◌}
 use Rattle.parking_lot_rules.specs.Roles.{Shared, Exclusive, Shares, Asleep}
 use Rattle.parking_lot_rules.specs.Clauses.{number}
-use Rattle.parking_lot_rules.specs.Plain.{Plain, Begin, Share, Pend, Flag2, Enter2, Check2, Rest2, UnshareLast, Look2, Mask2, Depart2, Finish, Drain}
+use Rattle.parking_lot_rules.specs.Plain.{Begin, Share, Pend, Flag2, Enter2, Check2, Rest2, UnshareLast, Look2, Mask2, Depart2, Finish, Drain}
 use Rattle.parking_lot_rules.specs.Steps.{Step, Alone, List_changes, Take2, Wake, Join2, Recheck}
 use Rattle.parking_lot_rules.specs.Laws.{holds}
 use Rattle.parking_lot_rules.specs.Classes.{Readers, Pending, Writers}

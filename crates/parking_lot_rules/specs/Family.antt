@@ -53,9 +53,9 @@ crossing (Alone (Leave2 f)) = Goes Second
 crossing (Alone (Depart2 n us)) = Goes Second
 crossing step = Stays
 
--- The locks by number, and for each bucket the thread that has entered it.
-pub record Family : Type 0 where
-  pub locks : ℕ → Lock
+-- The locks by number, whatever a lock is, and for each bucket the thread that has entered it.
+pub record Family (L : Type 0) : Type 0 where
+  pub locks : ℕ → L
   pub entered : ℕ → Option ℕ
 
 -- a function with another value at one place
@@ -74,22 +74,52 @@ entered_after bucket entered j t Stays b = entered b
 entered_after bucket entered j t (Comes k) b = put entered (bucket (key j k)) (Some t) b
 entered_after bucket entered j t (Goes k) b = put entered (bucket (key j k)) None b
 
--- Thread t makes a step at lock j: that lock changes as by itself, and no other. `bucket` says which bucket a key is in.
-pub record FamilyStep (bucket : ℕ → ℕ) (recursive : ℕ → Bool) (j t : ℕ) (step : Step) (old new : Family) : Type 0 where
-  pub allowed : Allowed (recursive j) t step (old.locks j)
-  pub free : IsFree bucket old.entered j (crossing step)
-  -- the thread is doing nothing at another lock
-  pub idle : (i : ℕ) (r : Role) → i ≢ j → slice_get (old.locks i).roles t ≡ Some r → r.does ≡ Idle
-  pub here : new.locks j ≡ after t step (old.locks j)
-  pub elsewhere : (i : ℕ) → i ≢ j → new.locks i ≡ old.locks i
-  pub entered : (b : ℕ) → new.entered b ≡ entered_after bucket old.entered j t (crossing step) b
+-- What is to be known of a kind of locks: when a thread may make a step at the lock of a number, the lock after it, what holds of a
+-- lock at every moment, how much a thread is inside a section of a key, what a step does to the sections, and when a thread is doing
+-- nothing there.
+pub record Rules (L S : Type 0) : Type 1 where
+  pub allowed : ℕ → ℕ → S → L → Type 0
+  pub after : ℕ → S → L → L
+  pub sound : L → Type 0
+  pub inside : L → Key → ℕ → ℕ
+  pub crosses : S → Crossing
+  pub idle : L → ℕ → Type 0
 
--- how much a thread is inside a section of a key
-abbrev pub within : Family → ℕ → Key → ℕ → ℕ
-within f i k u = weighs (section k) (slice_get (f.locks i).roles u)
+-- Thread t makes a step at lock j: that lock changes as by itself, and no other. `bucket` says which bucket a key is in.
+pub record StepOf {L S : Type 0} (rules : Rules L S) (bucket : ℕ → ℕ) (j t : ℕ) (step : S) (old new : Family L) : Type 0 where
+  pub allowed : rules.allowed j t step (old.locks j)
+  pub free : IsFree bucket old.entered j (rules.crosses step)
+  -- the thread is doing nothing at another lock
+  pub idle : (i : ℕ) → i ≢ j → rules.idle (old.locks i) t
+  pub here : new.locks j ≡ rules.after t step (old.locks j)
+  pub elsewhere : (i : ℕ) → i ≢ j → new.locks i ≡ old.locks i
+  pub entered : (b : ℕ) → new.entered b ≡ entered_after bucket old.entered j t (rules.crosses step) b
 
 -- Each lock is sound, who is inside a section has entered its bucket, and who has entered a bucket is inside a section there.
-pub record IsSoundFamily (bucket : ℕ → ℕ) (f : Family) : Type 0 where
-  pub sound : (i : ℕ) → IsSound (f.locks i)
-  pub entered : (i : ℕ) (k : Key) (u : ℕ) → within f i k u ≡ 1 → f.entered (bucket (key i k)) ≡ Some u
-  pub is_inside : (b u : ℕ) → f.entered b ≡ Some u → (i : ℕ) × (k : Key) × (bucket (key i k) ≡ b) × (within f i k u ≡ 1)
+pub record SoundFamilyOf {L : Type 0} (sound_lock : L → Type 0) (inside : L → Key → ℕ → ℕ) (bucket : ℕ → ℕ) (f : Family L) : Type 0 where
+  pub sound : (i : ℕ) → sound_lock (f.locks i)
+  pub entered : (i : ℕ) (k : Key) (u : ℕ) → inside (f.locks i) k u ≡ 1 → f.entered (bucket (key i k)) ≡ Some u
+  pub is_inside : (b u : ℕ) → f.entered b ≡ Some u → (i : ℕ) × (k : Key) × (bucket (key i k) ≡ b) × (inside (f.locks i) k u ≡ 1)
+
+-- reader-writer locks, some of which are recursive
+abbrev pub rw_inside : Lock → Key → ℕ → ℕ
+rw_inside l k u = weighs (section k) (slice_get l.roles u)
+
+abbrev pub rw_rules : (ℕ → Bool) → Rules Lock Step
+rw_rules recursive = record {
+  allowed = λ j t step l. Allowed (recursive j) t step l;
+  after = after;
+  sound = IsSound;
+  inside = rw_inside;
+  crosses = crossing;
+  idle = λ l t. (r : Role) → slice_get l.roles t ≡ Some r → r.does ≡ Idle;
+}
+
+abbrev pub FamilyStep : (ℕ → ℕ) → (ℕ → Bool) → ℕ → ℕ → Step → Family Lock → Family Lock → Type 0
+FamilyStep bucket recursive j t step old new = StepOf (rw_rules recursive) bucket j t step old new
+
+abbrev pub within : Family Lock → ℕ → Key → ℕ → ℕ
+within f i k u = rw_inside (f.locks i) k u
+
+abbrev pub IsSoundFamily : (ℕ → ℕ) → Family Lock → Type 0
+IsSoundFamily bucket f = SoundFamilyOf IsSound rw_inside bucket f

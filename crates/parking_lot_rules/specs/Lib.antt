@@ -14,5 +14,9 @@ pub mod Wrong
 pub mod Owners
 pub mod Example
 pub mod Ranks
+pub mod Sights
 pub mod Mutex
 pub mod MutexLaws
+pub mod MutexOwners
+pub mod MutexRanks
+pub mod Any

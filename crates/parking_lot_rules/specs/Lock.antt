@@ -1,6 +1,5 @@
 -- A lock, and what holds of it at every moment.
-use Rattle.std.specs.Prelude.{◌≡◌, ℕ, ◌<◌, List, [], ◌==◌, length, slice_get, Option, Some, None}
-use Rattle.std.specs.List.{count_by}
+use Rattle.std.specs.Prelude.{ℕ, List, [], Option, Some, None}
 use Rattle.parking_lot_rules.specs.Lists.{IsListOf, AreNotedBy}
 use Rattle.parking_lot_rules.specs.Roles.{Mark, Open, Asleep, Phase, Taken1, Taken2, Scans1, Stored1, Scans2, Masked2, Wakes, Role}
 use Rattle.parking_lot_rules.specs.Classes.{Class, Waiting1, Waiting2, weight, total}

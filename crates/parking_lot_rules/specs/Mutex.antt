@@ -2,7 +2,7 @@
 use Rattle.std.specs.Prelude.{◌≡◌, ◌≢◌, ℕ, zero, suc, ◌+◌, ◌<◌, ◌≤◌, Bool, true, false, List, [], ◌∷◌, ◌++◌, length, map, replicate, slice_get, slice_set, Option, Some, None}
 use Rattle.std.specs.List.{sum_by, remove}
 use Rattle.parking_lot_rules.specs.Roles.{Stay, Fresh, Asleep, Late, Back, Mark, Open, Normal, Handed}
-use Rattle.parking_lot_rules.specs.Lists.{occurs, at_index, IsListOf, AreNotedBy}
+use Rattle.parking_lot_rules.specs.Lists.{IsListOf, AreNotedBy}
 use Rattle.parking_lot_rules.specs.Classes.{bit, inside, if_open, if_normal, if_handed}
 
 -- what a thread is doing at a mutex

@@ -1,8 +1,8 @@
 -- What follows for a mutex, in plain words.
-use Rattle.std.specs.Prelude.{◌≡◌, ◌≢◌, ℕ, ◌+◌, ◌*◌, ◌<◌, ◌≤◌, ◌⊎◌, Bool, true, false, IsTrue, List, [], length, slice_get, Some}
-use Rattle.parking_lot_rules.specs.Roles.{Stay, Asleep, Late, Mark}
+use Rattle.std.specs.Prelude.{◌≡◌, ◌≢◌, ℕ, ◌+◌, ◌*◌, ◌<◌, ◌≤◌, ◌⊎◌, Bool, true, false, IsTrue, [], length, slice_get, Some}
+use Rattle.parking_lot_rules.specs.Roles.{Asleep, Late, Mark}
 use Rattle.parking_lot_rules.specs.Lists.{occurs, at_index}
-use Rattle.parking_lot_rules.specs.Mutex.{Phase, Idle, Seeks, Queued, Taken, Wakes, Role, away, Class, Owning, Waiting, weight, total, number, wakes, Mutex}
+use Rattle.parking_lot_rules.specs.Mutex.{Phase, Idle, Seeks, Queued, Taken, Wakes, Role, away, Owning, Waiting, weight, total, number, wakes, Mutex}
 
 -- The word is 1 where a thread owns the mutex, and 2 for the parked bit. One thread owns it at most.
 pub record MutexTells (m : Mutex) : Type 0 where

@@ -1,10 +1,10 @@
 -- A lock without its word: who owns it and how, and who waits in its two lists.
-use Rattle.std.specs.Prelude.{◌≡◌, ◌≢◌, ℕ, zero, suc, ◌+◌, ◌<◌, ◌⊎◌, Bool, true, false, List, [], ◌∷◌, ◌++◌, map, slice_get, slice_set, Some}
+use Rattle.std.specs.Prelude.{◌≡◌, ◌≢◌, ℕ, suc, ◌+◌, ◌<◌, ◌⊎◌, Bool, true, List, [], ◌∷◌, ◌++◌, map, slice_get, slice_set, Some}
 use Rattle.std.specs.List.{remove}
-use Rattle.parking_lot_rules.specs.Roles.{Mode, Shared, Exclusive, Upgradable, Owned, Shares, Excludes, Upgrades, Stay, Fresh, Asleep, Late, Back, Mark, Open, Normal, Handed, Cause, FromExclusive, FromUpgradable, Owed, Phase, Idle, Seeks, Enters1, Checked1, Queued1, Taken1, Masks1, Leaves1, Drains, Enters2, Checked2, Queued2, Taken2, Leaves2, Yields, Owes1, Scans1, Stored1, Owes2, Scans2, Masked2, Wakes, Role}
+use Rattle.parking_lot_rules.specs.Roles.{Mode, Shared, Exclusive, Upgradable, Owned, Shares, Excludes, Upgrades, Open, Handed, FromExclusive, FromUpgradable, Phase, Queued1, Taken1, Drains, Enters2, Checked2, Queued2, Taken2, Leaves2, Yields, Scans1, Role}
 use Rattle.parking_lot_rules.specs.Lock.{Lock}
-use Rattle.parking_lot_rules.specs.Plain.{Plain, Share, Pend, Drain, Upgradably, Exclude, Yield, YieldBack, Unshare, UnshareLast, Unlock, UnlockUpgradable, Downgrade, DowngradeToUpgradable, DowngradeUpgradable, Upgrade, UpgradeAtOnce}
-use Rattle.parking_lot_rules.specs.Steps.{Step, Alone, List_changes, Take1, Take2, Store, Wake, Pass, Join1, Join2, Quit1, QuitLast1, Quit2, Free, FreeUpgradable, Hand, HandUpgradable, Keep}
+use Rattle.parking_lot_rules.specs.Plain.{Share, Pend, Drain, Upgradably, Exclude, Yield, YieldBack, Unshare, UnshareLast, Unlock, UnlockUpgradable, Downgrade, DowngradeToUpgradable, DowngradeUpgradable, Upgrade, UpgradeAtOnce}
+use Rattle.parking_lot_rules.specs.Steps.{Step, Alone, List_changes, Take1, Take2, Store, Join1, Join2, Quit1, QuitLast1, Quit2, Free, FreeUpgradable, Hand, HandUpgradable, Keep}
 
 -- How a thread owns a lock: by a number of shared holds (0 is not at all), upgradably, exclusively but for readers that are to leave
 -- first, or exclusively.

@@ -4,7 +4,7 @@ use Rattle.std.specs.List.{sum_by}
 use Rattle.parking_lot_rules.specs.Roles.{Mode, Shared, Exclusive, Upgradable, Stay, Fresh, Asleep, Late, Back, Phase, Idle, Seeks, Enters1, Checked1, Queued1, Taken1, Masks1, Leaves1, Drains, Enters2, Checked2, Queued2, Taken2, Leaves2, Yields, Owes1, Scans1, Stored1, Owes2, Scans2, Masked2, Wakes, Role, away}
 use Rattle.parking_lot_rules.specs.Clauses.{Word}
 use Rattle.parking_lot_rules.specs.Lock.{Lock}
-use Rattle.parking_lot_rules.specs.Plain.{Plain, bars, Enter1, Retreat1, Enter2, Retreat2, Expire1, ExpireTaken1, Expire2, ExpireTaken2}
+use Rattle.parking_lot_rules.specs.Plain.{bars, Enter1, Retreat1, Enter2, Retreat2, Expire1, ExpireTaken1, Expire2, ExpireTaken2}
 use Rattle.parking_lot_rules.specs.Steps.{Step, Alone}
 use Rattle.parking_lot_rules.specs.Laws.{is_asleep}
 

@@ -1,5 +1,5 @@
 -- Whole runs: any schedule, of any number of threads, over any locks and buckets.
-use Rattle.std.specs.Prelude.{◌≡◌, ℕ, Bool, List, [], ◌∷◌, None, replicate}
+use Rattle.std.specs.Prelude.{◌≡◌, ◌≢◌, ℕ, Bool, List, [], ◌∷◌, None, replicate}
 use Rattle.parking_lot_rules.specs.Roles.{Shares, Idle}
 use Rattle.parking_lot_rules.specs.Clauses.{Word}
 use Rattle.parking_lot_rules.specs.Lock.{Lock}
@@ -47,3 +47,8 @@ Always P = (bucket : ℕ → ℕ) (recursive : ℕ → Bool) (w : World) (i : �
 abbrev pub Throughout : (Bool → ℕ → Step → Lock → Lock → Type 0) → Type 0
 Throughout P = (bucket : ℕ → ℕ) (recursive : ℕ → Bool) (w : World) (m : Move) → IsReached bucket recursive w → MayStep bucket recursive m.lock m.thread m.step w
     → P (recursive m.lock) m.thread m.step (lock_at w m.lock) (lock_at (moved bucket m w) m.lock)
+
+-- a step at one lock changes no other
+abbrev pub StaysAtItsLock : Type 0
+StaysAtItsLock = (bucket : ℕ → ℕ) (recursive : ℕ → Bool) (w : World) (m : Move) (i : ℕ) → IsReached bucket recursive w → MayStep bucket recursive m.lock m.thread m.step w → i ≢ m.lock
+    → lock_at (moved bucket m w) i ≡ lock_at w i

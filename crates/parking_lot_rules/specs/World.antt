@@ -32,7 +32,7 @@ role_at i p = record { owns = p.owns i; does = seen (p.at == i) p.does }
 abbrev pub lock_at : World → ℕ → Lock
 lock_at w i = record { word = w.words i; roles = map (role_at i) w.places; first = w.queues (key i First); second = w.queues (key i Second) }
 
-abbrev pub family : World → Family
+abbrev pub family : World → Family Lock
 family w = record { locks = lock_at w; entered = w.entered }
 
 -- a list with one element changed

@@ -7,6 +7,8 @@ mod laws;
 mod mutex;
 mod progress;
 mod steps;
+#[cfg(test)]
+mod tests;
 mod word;
 mod wrong;
 
@@ -16,14 +18,17 @@ pub use laws::{
     owners_exclude_each_other, sleepers_are_known, somebody_can_move, the_word_tells_the_owners,
 };
 pub use mutex::{
-    a_mutex_tells_its_owner, debts_of_a_mutex_are_kept, every_mutex_is_sound,
-    no_bit_of_a_mutex_outlives_the_calls, sleepers_at_a_mutex_are_known,
-    somebody_at_a_mutex_can_move,
+    a_mutex_tells_its_owner, debts_of_a_mutex_are_kept, each_step_at_a_mutex_is_a_case,
+    every_mutex_is_sound, no_bit_of_a_mutex_outlives_the_calls, ranks_at_a_mutex_fall,
+    sleepers_at_a_mutex_are_known, somebody_at_a_mutex_can_move,
 };
-pub use progress::{rising_locks_never_deadlock, sections_are_entered, sleepers_are_served};
+pub use progress::{
+    families_stay_sound, rising_locks_never_deadlock, sections_are_entered, sleepers_are_served,
+};
 pub use steps::{
-    a_call_begins_with_a_small_rank, another_thread_may_be_stepped, each_step_is_a_case,
-    ranks_fall, readers_are_kept_out,
+    a_call_begins_with_a_small_rank, a_step_stays_at_its_lock, another_thread_may_be_stepped,
+    each_step_is_a_case, looks_lower_the_full_ranks, ranks_fall, readers_are_kept_out,
+    steps_lower_the_full_ranks,
 };
 pub use word::{
     is_parked, is_upgradable, is_writer_parked, is_written, readers, with_parked, without_parked,

@@ -1,6 +1,8 @@
 //! Laws of a mutex, for every schedule and any number of threads, and with waiters of a condition variable that others move into its list.
 ghost use Rattle.parking_lot_rules.specs.Mutex.{AlwaysOfMutex, IsSound};
 ghost use Rattle.parking_lot_rules.specs.MutexLaws.{DebtsAreKept, MutexTells, NothingIsLeft, SleepersAreKnown, SomebodyCanMove};
+ghost use Rattle.parking_lot_rules.specs.MutexOwners.{StepsAreCases};
+ghost use Rattle.parking_lot_rules.specs.MutexRanks.{MutexRanksFall};
 
 /// Every mutex is sound at every moment: its word fits its owner and the threads that wait, its list holds exactly those, and who took a
 /// sleeper is still to wake it.
@@ -32,4 +34,16 @@ pub fn debts_of_a_mutex_are_kept()
 /// Where a thread sleeps at a mutex, another is at work there, or owns the mutex and is in no call.
 pub fn somebody_at_a_mutex_can_move()
     ensures { AlwaysOfMutex SomebodyCanMove }
+{}
+
+/// Each step at a mutex is a case of one without a word, which has an owner and a list: a thread is admitted, leaves, enters the list, quits
+/// it or is moved into it, the first waiter is taken off it, the mutex is handed over, or neither owner nor list changes.
+pub fn each_step_at_a_mutex_is_a_case()
+    ensures { AlwaysOfMutex StepsAreCases }
+{}
+
+/// Each step within a call at a mutex that a thread makes, stepped alone, lowers the sum of all threads' ranks, but for the moves of waiters
+/// into the list; and where it sleeps or is in no call, another may be stepped from there on.
+pub fn ranks_at_a_mutex_fall()
+    ensures { AlwaysOfMutex MutexRanksFall }
 {}

@@ -1,4 +1,5 @@
 //! Laws of many locks: who can move.
+ghost use Rattle.parking_lot_rules.specs.Any.{FamiliesStaySound};
 ghost use Rattle.parking_lot_rules.specs.Progress.{InEveryRun, NoDeadlock, SectionsAreEntered, SleepersAreServed};
 
 /// Whoever is inside a section of a key has entered the key's bucket, and whoever has entered a bucket is inside a section of one of its
@@ -17,4 +18,10 @@ pub fn sleepers_are_served()
 /// owns a lock and is in no call at all.
 pub fn rising_locks_never_deadlock()
     ensures { InEveryRun NoDeadlock }
+{}
+
+/// Reader-writer locks and mutexes in one family, with buckets in common: a step at one lock keeps each lock sound, and the marks that say
+/// who has entered each bucket.
+pub fn families_stay_sound()
+    ensures { FamiliesStaySound }
 {}
