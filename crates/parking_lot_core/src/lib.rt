@@ -10,7 +10,10 @@ mod parking;
 mod place;
 mod places;
 mod sections;
+mod spin;
 mod steps;
+mod thread_parker;
+mod word_lock;
 
 pub use fault::{LotFault, SizeFault};
 pub use laws::{every_run_is_sound, park_is_its_steps, unpark_one_is_its_steps};
@@ -20,6 +23,9 @@ pub use parking::{
     UnparkResult, UnparkToken,
 };
 pub use place::{Place, Sleep, Taking, ThreadStatus};
+pub use spin::{SpinWait, thread_yield};
+pub use thread_parker::{ThreadParker, ThreadParkerT, UnparkHandle, UnparkHandleT};
+pub use word_lock::{WordLock, WordLockPass};
 
 #[cfg(test)]
 mod tests;
