@@ -1,6 +1,7 @@
 //! The parking lot.
 #![tactic(auto)]
 
+pub mod deadlock;
 mod fault;
 mod laws;
 mod lists;
@@ -12,6 +13,7 @@ mod places;
 mod sections;
 mod spin;
 mod steps;
+mod thread_data;
 mod thread_parker;
 mod word_lock;
 
@@ -24,6 +26,7 @@ pub use parking::{
 };
 pub use place::{Place, Sleep, Taking, ThreadStatus};
 pub use spin::{SpinWait, thread_yield};
+pub use thread_data::ThreadData;
 pub use thread_parker::{ThreadParker, ThreadParkerT, UnparkHandle, UnparkHandleT};
 pub use word_lock::{WordLock, WordLockPass};
 
