@@ -8,6 +8,8 @@ mod lists;
 mod lot;
 mod operations;
 mod parking;
+mod parking_calls;
+mod parking_lot;
 mod place;
 mod places;
 mod sections;
@@ -24,6 +26,8 @@ pub use parking::{
     DEFAULT_PARK_TOKEN, DEFAULT_UNPARK_TOKEN, FilterOp, ParkResult, ParkToken, RequeueOp,
     UnparkResult, UnparkToken,
 };
+pub use parking_calls::{park, unpark_all, unpark_filter, unpark_one, unpark_requeue};
+pub use parking_lot::ParkingLot;
 pub use place::{Place, Sleep, Taking, ThreadStatus};
 pub use spin::{SpinWait, thread_yield};
 pub use thread_data::ThreadData;
