@@ -9,9 +9,7 @@ ghost use Rattle.parking_lot_core.specs.declared.place.Waiter.{Waiter};
 ghost use Rattle.parking_lot_core.specs.Results.{Answers, is_stop, is_left, unpark_result, chosen_by, passed_by};
 ghost use Rattle.parking_lot_core.specs.Machine.{tokens_of};
 
-use crate::parking::{
-    FilterOp, ParkResult, ParkToken, RequeueOp, UnparkResult, UnparkToken,
-};
+use crate::parking::{FilterOp, ParkResult, ParkToken, RequeueOp, UnparkResult, UnparkToken};
 use crate::parking_lot::ParkingLot;
 use crate::place::ThreadStatus;
 use crate::thread_data::ThreadData;
@@ -51,7 +49,14 @@ where
     ensures late { result ≡ TimedOut → (key : ℕ) × (last : Bool) × T.post timed_out key last tt }
     ensures same { thread_data.new ≡ thread_data.old }
 {
-    if !begin(lot, thread_data.thread, key, validate, park_token, timeout.is_some()) {
+    if !begin(
+        lot,
+        thread_data.thread,
+        key,
+        validate,
+        park_token,
+        timeout.is_some(),
+    ) {
         return ParkResult::Invalid;
     }
     before_sleep();
@@ -134,7 +139,10 @@ pub fn unpark_one<R: Wait, A: Allocator, C: FnOnce(UnparkResult) -> UnparkToken 
     let state = &mut *guard;
     let fair = state.turn();
     state.ring(key, 1);
-    match state.lot.unpark_one(key, |answer| callback(fairly(answer, fair))) {
+    match state
+        .lot
+        .unpark_one(key, |answer| callback(fairly(answer, fair)))
+    {
         Ok(answer) => fairly(answer, fair),
         Err(_) => match stuck(&lot.rt) {},
     }
@@ -175,7 +183,10 @@ where
     let mut guard = lot.state.lock(&lot.rt);
     let state = &mut *guard;
     state.ring(key_from, 1);
-    match state.lot.unpark_requeue(key_from, key_to, validate, callback) {
+    match state
+        .lot
+        .unpark_requeue(key_from, key_to, validate, callback)
+    {
         Ok(answer) => answer,
         Err(_) => match stuck(&lot.rt) {},
     }
@@ -201,7 +212,10 @@ where
     let state = &mut *guard;
     let fair = state.turn();
     state.ring(key, usize::MAX);
-    match state.lot.unpark_filter(key, filter, |answer| callback(fairly(answer, fair))) {
+    match state
+        .lot
+        .unpark_filter(key, filter, |answer| callback(fairly(answer, fair)))
+    {
         Ok(answer) => fairly(answer, fair),
         Err(_) => match stuck(&lot.rt) {},
     }
