@@ -1,5 +1,5 @@
 //! Parking and unparking of real threads.
-ghost use Rattle.std.specs.Prelude.{◌≡◌, ◌<◌, ℕ, Bool, MatchBool, ◌≢◌, length, List, []};
+ghost use Rattle.std.specs.Prelude.{◌≡◌, ◌<◌, ◌≤◌, ℕ, Bool, MatchBool, ◌≢◌, length, List, []};
 ghost use Rattle.parking_lot_core.specs.declared.parking.ParkResult.TheVariants.{Invalid, TimedOut};
 ghost use Rattle.parking_lot_core.specs.declared.parking.UnparkToken.{UnparkToken};
 ghost use Rattle.parking_lot_core.specs.declared.parking.RequeueOp.{RequeueOp};
@@ -133,6 +133,7 @@ pub fn unpark_one<R: Wait, A: Allocator, C: FnOnce(UnparkResult) -> UnparkToken 
 ) -> UnparkResult
     requires { C.IsAlwaysCallable callback }
     ensures told { (token : UnparkToken) × C.post callback result token }
+    ensures one { result.unparked_threads ≤ 1 }
     ensures moved { result.requeued_threads ≡ 0 }
 {
     let mut guard = lot.state.lock(&lot.rt);
