@@ -12,3 +12,4 @@ pub mod Moving
 pub mod Requeues
 pub mod Sequences
 pub mod Whole
+pub mod Filtering

@@ -7,3 +7,4 @@ pub mod Sound
 pub mod Operations
 pub mod Runs
 pub mod InSteps
+pub mod Participants

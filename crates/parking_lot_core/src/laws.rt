@@ -1,10 +1,13 @@
 //! Laws of the machine of lists, of which the contracts of [`Lot`](crate::Lot) speak.
 ghost use Rattle.std.specs.Prelude.{◌≡◌, ℕ, Bool, List, Some, None, true, false, take, drop};
+ghost use Rattle.std.specs.List.{list_any};
+ghost use Rattle.parking_lot_core.specs.declared.parking.FilterOp.{FilterOp};
+ghost use Rattle.parking_lot_core.specs.Results.{is_take, chosen_by, passed_by};
 ghost use Rattle.parking_lot_core.specs.declared.parking.ParkToken.{ParkToken};
 ghost use Rattle.parking_lot_core.specs.declared.parking.UnparkToken.{UnparkToken};
 ghost use Rattle.parking_lot_core.specs.declared.place.Phase.TheVariants as phase;
 ghost use Rattle.parking_lot_core.specs.Machine.{Machine, joined, opened, in_phase, taken, stored, closed, unparked};
-ghost use Rattle.parking_lot_core.specs.InSteps.{ShowsSame};
+ghost use Rattle.parking_lot_core.specs.InSteps.{ShowsSame, takings, answers_of};
 ghost use Rattle.parking_lot_core.specs.Sound.{Sound};
 ghost use Rattle.parking_lot_core.specs.Runs.{Operation, after_all, fresh};
 
@@ -25,4 +28,11 @@ pub fn park_is_its_steps()
 /// lot is the same; but the whole operation has woken the thread, too.
 pub fn unpark_one_is_its_steps()
     ensures { (m : Machine) (thread key : ℕ) (token : UnparkToken) → Sound m → m.section ≡ None → ShowsSame (closed (stored (taken (in_phase (opened m (Some thread) key) (phase.Taking 0)) key 0) token) false) (unparked m key (take 1 (m.queues key)) (drop 1 (m.queues key)) token) }
+{}
+
+/// An unpark by a filter is the entering of a section, takings, the store and the leaving. Each taking passes so many
+/// waiters as `passes` says and takes the next; behind the last the filter takes nobody, and answers `rest`. What is shown
+/// of the lot is the same; but the whole operation has woken the threads, too.
+pub fn unpark_filter_is_its_steps()
+    ensures { (m : Machine) (thread key : ℕ) (token : UnparkToken) (passes : List ℕ) (rest : List FilterOp) → Sound m → m.section ≡ None → list_any is_take rest ≡ false → ShowsSame (closed (stored (in_phase (takings (opened m (Some thread) key) key 0 passes) phase.Ended) token) false) (unparked m key (chosen_by (answers_of passes rest) (m.queues key)) (passed_by (answers_of passes rest) (m.queues key)) token) }
 {}

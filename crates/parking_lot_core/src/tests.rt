@@ -1,6 +1,7 @@
 // What no clause says: that the definitions are the ones meant, by rows worked by hand, the printed text, and that calls
 // succeed where memory is left.
 mod lists;
+mod parking;
 mod sections;
 mod threads;
 

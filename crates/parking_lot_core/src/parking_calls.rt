@@ -1,0 +1,240 @@
+//! Parking and unparking of real threads.
+ghost use Rattle.std.specs.Prelude.{◌≡◌, ◌<◌, ◌≤◌, ℕ, Bool, MatchBool, ◌≢◌, length, List, []};
+ghost use Rattle.parking_lot_core.specs.declared.parking.ParkResult.TheVariants.{Invalid, TimedOut};
+ghost use Rattle.parking_lot_core.specs.declared.parking.UnparkToken.{UnparkToken};
+ghost use Rattle.parking_lot_core.specs.declared.parking.RequeueOp.{RequeueOp};
+ghost use Rattle.parking_lot_core.specs.Operations.{is_abort};
+ghost use Rattle.parking_lot_core.specs.declared.parking.FilterOp.{FilterOp};
+ghost use Rattle.parking_lot_core.specs.declared.place.Waiter.{Waiter};
+ghost use Rattle.parking_lot_core.specs.Results.{Answers, is_stop, is_left, unpark_result, chosen_by, passed_by};
+ghost use Rattle.parking_lot_core.specs.Machine.{tokens_of};
+
+use crate::parking::{FilterOp, ParkResult, ParkToken, RequeueOp, UnparkResult, UnparkToken};
+use crate::parking_lot::ParkingLot;
+use crate::place::ThreadStatus;
+use crate::thread_data::ThreadData;
+use crate::thread_parker::{Timed, time_left};
+use std::alloc::Allocator;
+use std::convert::Infallible;
+use std::sync::{CondvarTimeouts, Wait};
+use std::time::{Clock, Instant};
+
+/// Parks the thread under a key. The validation is asked while the key's list is locked; where it answers false, `Invalid`
+/// is answered and nothing else runs. Else the thread joins the end of the list, runs `before_sleep` and sleeps until
+/// another takes it, or its moment is past. Then `timed_out` is told the key of the list that it stood in and whether that
+/// is empty now.
+///
+/// `validate` and `timed_out` must not call the lot. `before_sleep` may call the four unparks. Callers show that the
+/// participant is one of this lot.
+pub fn park<R: Wait, A: Allocator, V, B, T, C: Clock>(
+    lot: &ParkingLot<R, A>,
+    thread_data: &mut ThreadData<A>,
+    key: usize,
+    validate: V,
+    before_sleep: B,
+    timed_out: T,
+    park_token: ParkToken,
+    timeout: Option<(Instant, &C)>,
+) -> ParkResult
+where
+    V: FnOnce() -> bool + Drop,
+    B: FnOnce() + Drop,
+    T: FnOnce(usize, bool) + Drop,
+    requires validate { V.IsAlwaysCallable validate }
+    requires before_sleep { B.IsAlwaysCallable before_sleep }
+    requires timed_out { T.IsAlwaysCallable timed_out }
+    requires lot { thread_data.old.lot ≡ lot.now.number }
+    requires thread { thread_data.old.thread < lot.now.max_threads }
+    ensures valid { (valid : Bool) × V.post validate valid × MatchBool valid (result ≢ Invalid) (result ≡ Invalid) }
+    ensures late { result ≡ TimedOut → (key : ℕ) × (last : Bool) × T.post timed_out key last tt }
+    ensures same { thread_data.new ≡ thread_data.old }
+{
+    if !begin(
+        lot,
+        thread_data.thread,
+        key,
+        validate,
+        park_token,
+        timeout.is_some(),
+    ) {
+        return ParkResult::Invalid;
+    }
+    before_sleep();
+    sleep(lot, thread_data, timeout);
+    end(lot, thread_data.thread, timed_out)
+}
+
+/// Has a thread join a key's list, and answers what the validation answered.
+fn begin<R: Wait, A: Allocator, V: FnOnce() -> bool + Drop>(
+    lot: &ParkingLot<R, A>,
+    thread: usize,
+    key: usize,
+    validate: V,
+    park_token: ParkToken,
+    timed: bool,
+) -> bool
+    requires { V.IsAlwaysCallable validate }
+    ensures { V.post validate result }
+{
+    let mut state = lot.state.lock(&lot.rt);
+    match state.lot.park(thread, key, validate, park_token, timed) {
+        Ok(ended) => ended.is_none(),
+        Err(_) => match stuck(&lot.rt) {},
+    }
+}
+
+/// Sleeps until another has taken the thread, or its moment is past.
+fn sleep<R: Wait, A: Allocator, C: Clock>(
+    lot: &ParkingLot<R, A>,
+    thread_data: &ThreadData<A>,
+    timeout: Option<(Instant, &C)>,
+) {
+    let mut state = lot.state.lock(&lot.rt);
+    for _turn in lot.rt.forever() {
+        let Some(ThreadStatus::Waiting { .. }) = state.lot.status(thread_data.thread) else {
+            return;
+        };
+        let Some((moment, clock)) = timeout else {
+            state = thread_data.seat.wait(&lot.rt, state);
+            continue;
+        };
+        let Some(left) = time_left(moment, clock) else {
+            let _ = state.lot.deadline(thread_data.thread);
+            return;
+        };
+        let both = Timed { rt: &lot.rt, clock };
+        state = thread_data.seat.wait_timeout(&both, state, left).0;
+    }
+}
+
+/// Has a thread go on that was taken, or whose moment is past.
+fn end<R: Wait, A: Allocator, T: FnOnce(usize, bool) + Drop>(
+    lot: &ParkingLot<R, A>,
+    thread: usize,
+    timed_out: T,
+) -> ParkResult
+    requires { T.IsAlwaysCallable timed_out }
+    ensures late { result ≡ TimedOut → (key : ℕ) × (last : Bool) × T.post timed_out key last tt }
+    ensures ended { result ≢ Invalid }
+{
+    let mut state = lot.state.lock(&lot.rt);
+    match state.lot.resume(thread, timed_out) {
+        Ok(result) => result,
+        Err(_) => match stuck(&lot.rt) {},
+    }
+}
+
+/// Takes the first waiter of a key and wakes it. The callback gets what is answered and gives the token, also where nobody
+/// waits. It must not call the lot.
+pub fn unpark_one<R: Wait, A: Allocator, C: FnOnce(UnparkResult) -> UnparkToken + Drop>(
+    lot: &ParkingLot<R, A>,
+    key: usize,
+    callback: C,
+) -> UnparkResult
+    requires { C.IsAlwaysCallable callback }
+    ensures told { (token : UnparkToken) × C.post callback result token }
+    ensures one { result.unparked_threads ≤ 1 }
+    ensures moved { result.requeued_threads ≡ 0 }
+{
+    let mut guard = lot.state.lock(&lot.rt);
+    let state = &mut *guard;
+    let fair = state.turn();
+    state.ring(key, 1);
+    match state
+        .lot
+        .unpark_one(key, |answer| callback(fairly(answer, fair)))
+    {
+        Ok(answer) => fairly(answer, fair),
+        Err(_) => match stuck(&lot.rt) {},
+    }
+}
+
+/// Takes all waiters of a key, wakes them with the token and answers how many they were.
+pub fn unpark_all<R: Wait, A: Allocator>(
+    lot: &ParkingLot<R, A>,
+    key: usize,
+    unpark_token: UnparkToken,
+) -> usize {
+    let mut guard = lot.state.lock(&lot.rt);
+    let state = &mut *guard;
+    state.ring(key, usize::MAX);
+    match state.lot.unpark_all(key, unpark_token) {
+        Ok(count) => count,
+        Err(_) => match stuck(&lot.rt) {},
+    }
+}
+
+/// Does with the waiters of `key_from` what the validation answers: one may be woken, with the callback's token, and others
+/// may be moved to the end of `key_to`'s list. `Abort` changes nothing, and there the callback isn't called. Neither may
+/// call the lot.
+pub fn unpark_requeue<R: Wait, A: Allocator, V, C>(
+    lot: &ParkingLot<R, A>,
+    key_from: usize,
+    key_to: usize,
+    validate: V,
+    callback: C,
+) -> UnparkResult
+where
+    V: FnOnce() -> RequeueOp + Drop,
+    C: FnOnce(RequeueOp, UnparkResult) -> UnparkToken + Drop,
+    requires validate { V.IsAlwaysCallable validate }
+    requires callback { C.IsAlwaysCallable callback }
+    ensures { (op : RequeueOp) × V.post validate op × MatchBool (is_abort op) (result ≡ unpark_result {X = ℕ} 0 0 []) ((token : UnparkToken) × C.post callback op result token) }
+{
+    let mut guard = lot.state.lock(&lot.rt);
+    let state = &mut *guard;
+    state.ring(key_from, 1);
+    match state
+        .lot
+        .unpark_requeue(key_from, key_to, validate, callback)
+    {
+        Ok(answer) => answer,
+        Err(_) => match stuck(&lot.rt) {},
+    }
+}
+
+/// Shows the tokens of a key's waiters to a filter, in order, until it stops, and takes those that it wants. They are woken
+/// with the callback's token. Neither may call the lot.
+pub fn unpark_filter<R: Wait, A: Allocator, F, C>(
+    lot: &ParkingLot<R, A>,
+    key: usize,
+    filter: F,
+    callback: C,
+) -> UnparkResult
+where
+    F: FnMut(ParkToken) -> FilterOp + Drop,
+    C: FnOnce(UnparkResult) -> UnparkToken + Drop,
+    requires filter { F.IsAlwaysCallable filter }
+    requires callback { C.IsAlwaysCallable callback }
+    ensures told { (token : UnparkToken) × C.post callback result token }
+    ensures shown { (waiters : List Waiter) × (answers : List FilterOp) × (last : F) × Answers F.step is_stop filter (tokens_of waiters) answers last × (result.unparked_threads ≡ length (chosen_by answers waiters)) × (result.have_more_threads ≡ is_left (passed_by answers waiters)) }
+{
+    let mut guard = lot.state.lock(&lot.rt);
+    let state = &mut *guard;
+    let fair = state.turn();
+    state.ring(key, usize::MAX);
+    match state
+        .lot
+        .unpark_filter(key, filter, |answer| callback(fairly(answer, fair)))
+    {
+        Ok(answer) => fairly(answer, fair),
+        Err(_) => match stuck(&lot.rt) {},
+    }
+}
+
+/// The answer, with whether it is to be fair.
+fn fairly(answer: UnparkResult, fair: bool) -> UnparkResult
+    ensures { result ≡ record answer { be_fair = fair } }
+{
+    UnparkResult {
+        be_fair: fair,
+        ..answer
+    }
+}
+
+/// Waits for ever: for what can't come about, since a lot under its lock has no open section, and a participant is lent to
+/// one call at a time.
+fn stuck<R: Wait>(rt: &R) -> Infallible {
+    for _turn in rt.forever() {}
+    unreachable!()
+}
