@@ -29,7 +29,7 @@ use Rattle.mapworld.specs.declared.place.Phase.{Phase}
 use Rattle.mapworld.specs.declared.place.Phase.TheVariants as phase
 use Rattle.mapworld.specs.declared.place.Place.{Place}
 use Rattle.mapworld.specs.declared.world_core.Core.{Core}
-use Rattle.mapworld.specs.Route.{IsShardAmount, key_route}
+use Rattle.mapworld.specs.Route.{IsWorldAmount, key_route}
 use Rattle.mapworld.specs.State.{State, started_of}
 use Rattle.mapworld.specs.World.{setup_of}
 use Rattle.mapworld.specs.Sound.{IsInSession, Stands, TablesAgree, HoldsMatch, Sound}
@@ -117,7 +117,7 @@ module _ {K V S H D T A : Type 0} (d : deed.Ghosts D K V T) (b : builder.Ghosts 
   agree : (w : State K V S D T A) → AreFilled eq (key_route b h writes w.hasher (length w.tables)) w.opening w.tables → TablesAgree (setup_of d b h eq writes w) [] w.tables
   agree w filled = record { routed = filled.routed; distinct = filled.distinct; contents_are = filled.contents_are }
 
-  sound_bare : (w : State K V S D T A) → IsShardAmount (length w.tables) → list_all (one_guard false) w.programs ≡ true → AreAtStart w.programs w.places
+  sound_bare : (w : State K V S D T A) → IsWorldAmount (length w.tables) → list_all (one_guard false) w.programs ≡ true → AreAtStart w.programs w.places
       → AreFilled eq (key_route b h writes w.hasher (length w.tables)) w.opening w.tables → HasNoGuards w.holds
       → Sound (setup_of d b h eq writes (lists_of w [] [] [])) (lists_of w [] [] [])
   sound_bare w amount guarded start filled free = record {
@@ -136,13 +136,13 @@ module _ {K V S H D T A : Type 0} (d : deed.Ghosts D K V T) (b : builder.Ghosts 
       ∙ (ap (λ s. lists_of w w.steps s []) (sym fresh.blocks)
       ∙ ap (λ s. lists_of w w.steps w.blocks s) (sym fresh.replies))
 
-  pub new-sound : (w : State K V S D T A) → IsFresh w → IsShardAmount (length w.tables) → list_all (one_guard false) w.programs ≡ true → AreAtStart w.programs w.places
+  pub new-sound : (w : State K V S D T A) → IsFresh w → IsWorldAmount (length w.tables) → list_all (one_guard false) w.programs ≡ true → AreAtStart w.programs w.places
       → AreFilled eq (key_route b h writes w.hasher (length w.tables)) w.opening w.tables
       → Sound (setup_of d b h eq writes w) w
   new-sound w fresh amount guarded start filled =
       subst (λ (v : State K V S D T A). Sound (setup_of d b h eq writes v) v) (bare w fresh) (sound_bare w amount guarded start filled fresh.holds)
 
-  pub new-contents : (hasher : S) (pairs : List (K × V)) (tables : List (Vec (K × V) A)) → IsEquivalence eq → ((j k : K) → IsTrue (eq j k) → writes j ≡ writes k) → IsShardAmount (length tables)
+  pub new-contents : (hasher : S) (pairs : List (K × V)) (tables : List (Vec (K × V) A)) → IsEquivalence eq → ((j k : K) → IsTrue (eq j k) → writes j ≡ writes k) → IsWorldAmount (length tables)
       → AreFilled eq (key_route b h writes hasher (length tables)) pairs tables
       → (q : K) → pair_of eq (flat_map (λ table. table.items) tables) q ≡ opening_pair eq pairs q
   new-contents hasher pairs tables laws respects amount filled q =
@@ -182,7 +182,7 @@ pub record HasNewRoom {K V S D T A : Type 0} (c : Core K V S D T A) : Type 0 whe
   pub pairs : c.pairs ≡ pairs_in c.tables.items
   pub pairs_fit : c.pairs ≤ 2 ^ 31
   pub threads_fit : length (state_of c).programs ≤ 256
-  pub shards : IsShardAmount (length c.tables.items)
+  pub shards : IsWorldAmount (length c.tables.items)
 
 pub new-room : {K V S D T A : Type 0} (c : Core K V S D T A) → IsFresh (state_of c) → AreAtStart (state_of c).programs c.places.items → HasNewRoom c → Room c
 new-room {K} {V} {S} {D} {T} {A} c fresh start room =

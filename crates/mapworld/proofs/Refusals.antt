@@ -5,7 +5,7 @@ use Rattle.std.proofs.lemmas.Grind.{common_steps}
 use Rattle.std.proofs.lemmas.List.Sums.{sum_by-cons}
 use Rattle.mapworld_calls.specs.declared.ask.Ask.{Ask}
 use Rattle.mapworld_calls.specs.Programs.{one_guard}
-use Rattle.mapworld.specs.Route.{IsShardAmount}
+use Rattle.mapworld.specs.Route.{IsWorldAmount}
 use Rattle.mapworld.specs.Making.{new_refusal}
 
 pub sum_by-map : {X Y : Type 0} (f : Y → ℕ) (g : X → Y) (xs : List X) → sum_by f (map g xs) ≡ sum_by (λ x. f (g x)) xs
@@ -17,7 +17,7 @@ sum_by-map f g (x ∷ xs) =
 
 -- the tests of a world that is made
 pub record IsAccepted {K V D : Type 0} (shards pairs : ℕ) (programs : List (List (Ask K V D))) : Type 0 where
-  pub amount : IsShardAmount shards
+  pub amount : IsWorldAmount shards
   pub some : 1 ≤ length programs
   pub threads : length programs ≤ 256
   pub calls : sum_by length programs ≤ 2 ^ 20

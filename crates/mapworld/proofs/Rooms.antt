@@ -8,7 +8,7 @@ use Rattle.lock_api_desk.specs.Desk.{DeskState, admitted, released}
 use Rattle.mapworld.specs.Holds.{Desks, at_desk}
 use Rattle.mapworld.specs.declared.place.Place.{Place}
 use Rattle.mapworld.specs.declared.world_core.Core.{Core}
-use Rattle.mapworld.specs.Route.{IsShardAmount}
+use Rattle.mapworld.specs.Route.{IsWorldAmount}
 use Rattle.mapworld.specs.State.{State, pairs_of}
 use Rattle.mapworld.specs.Running.{has_numbers}
 use Rattle.mapworld.specs.Core.{state_of, owed, owes, may_list, lists, may_add, adds, unheld, unheld_at, HasDeskRoom, Room}
@@ -97,7 +97,7 @@ module _ {K V S D T A : Type 0} where
         pairs_fit = omega (arith, r.pairs_fit, s.adding, adding);
         places = threads ∙ (r.places ∙ sym (ap length s.programs));
         threads_fit = omega (arith, threads, r.threads_fit);
-        shards = subst IsShardAmount (sym s.tables) r.shards;
+        shards = subst IsWorldAmount (sym s.tables) r.shards;
         listed = still_listed c c' t p p' r s;
       }
 

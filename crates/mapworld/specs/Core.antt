@@ -6,7 +6,7 @@ use Rattle.mapworld.specs.declared.place.Phase.{Phase}
 use Rattle.mapworld.specs.declared.place.Phase.TheVariants as phase
 use Rattle.mapworld.specs.declared.place.Place.{Place}
 use Rattle.mapworld.specs.declared.world_core.Core.{Core}
-use Rattle.mapworld.specs.Route.{IsShardAmount}
+use Rattle.mapworld.specs.Route.{IsWorldAmount}
 use Rattle.mapworld.specs.State.{State, pairs_of}
 use Rattle.mapworld.specs.Running.{unanswered_of}
 
@@ -104,7 +104,7 @@ pub record Room {K V S D T A : Type 0} (c : Core K V S D T A) : Type 0 where
   pub pairs_fit : c.pairs + sum_by may_add c.places.items ≤ 2 ^ 31 + 2 ^ 20
   pub places : length c.places.items ≡ length (state_of c).programs
   pub threads_fit : length c.places.items ≤ 256
-  pub shards : IsShardAmount (length c.tables.items)
+  pub shards : IsWorldAmount (length c.tables.items)
   pub listed : (t : ℕ) (p : Place K V D T A) (i : ℕ) → slice_get c.places.items t ≡ Some p → p.block ≡ Some i → i < length c.blocks.items
 
 -- a thread stands before that phase

@@ -1,6 +1,6 @@
 //! How a new world's threads and tables begin.
 ghost use Rattle.std.specs.Prelude.{◌≡◌, ◌^◌, ◌≤◌, length, map, IfOk};
-ghost use Rattle.mapworld.specs.Route.{IsShardAmount, key_route};
+ghost use Rattle.mapworld.specs.Route.{IsWorldAmount, key_route};
 ghost use Rattle.mapworld.specs.Beginning.{at_start, AreAtStart, IsPut, AreFilled, pairs_in, AreEmpty, IsReady, AreReady};
 
 use crate::fault::NoMemory;
@@ -112,7 +112,7 @@ pub(crate) fn fill<K: Eq + Hash + Drop, V: Drop, S: BuildHasher, A: Allocator>(
     hasher: &S,
     pairs: Vec<(K, V), A>,
 ) -> Result<u64, NoMemory>
-    requires shards { IsShardAmount (length tables.old.items) }
+    requires shards { IsWorldAmount (length tables.old.items) }
     requires empty { AreEmpty tables.old.items }
     requires fits { length pairs.items ≤ 2 ^ 31 }
     ensures filled { IfOk result (λ count. AreFilled K.eq (key_route S.BuildHasher S.Hasher.Hasher K.hash_input hasher.now (length tables.new.items)) pairs.items tables.new.items) }

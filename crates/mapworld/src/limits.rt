@@ -5,7 +5,7 @@ ghost use Rattle.mapworld_calls.specs.Programs.{one_guard, numbers_of};
 ghost use Rattle.mapworld.specs.Making.{new_refusal};
 
 use crate::fault::WorldNewFault;
-use crate::route::is_shard_amount;
+use crate::route::is_world_amount;
 use mapworld_calls::{Ask, guard_numbers, holds_one_guard};
 use std::alloc::Allocator;
 
@@ -62,7 +62,7 @@ pub(crate) fn refusal<K, V, D, A: Allocator>(
 ) -> Option<WorldNewFault>
     ensures { result ≡ new_refusal shards pairs (map (λ program. program.items) programs.now) }
 {
-    if !is_shard_amount(shards) {
+    if !is_world_amount(shards) {
         return Some(WorldNewFault::BadShards);
     }
     if !are_threads(programs.len()) {

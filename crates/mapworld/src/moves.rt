@@ -1,6 +1,6 @@
 //! Where each kind of step leads a thread.
 ghost use Rattle.std.specs.Prelude.{◌≡◌, is_some, if◌then◌else◌};
-ghost use Rattle.mapworld.specs.Route.{IsShardAmount, key_route};
+ghost use Rattle.mapworld.specs.Route.{IsWorldAmount, key_route};
 ghost use Rattle.mapworld.specs.Moves.{request_key, mode_of, is_last, guard_of, start_phase, start_shard, start_counts, found_phase, found_done, found_slot, block_behind};
 
 use crate::holds::Mode;
@@ -80,7 +80,7 @@ pub(crate) fn start_shard<K: Eq + Hash, V, D, S: BuildHasher>(
     ask: &Ask<K, V, D>,
     shard: usize,
 ) -> usize
-    requires { IsShardAmount shards }
+    requires { IsWorldAmount shards }
     ensures { result ≡ start_shard (key_route S.BuildHasher S.Hasher.Hasher K.hash_input hasher.now shards) ask.now shard }
 {
     match ask {

@@ -2,7 +2,7 @@ use Rattle.std.proofs.Common.{◌≡◌, ℕ, length, map, sum_by, false, refl, 
 use Rattle.std.specs.List.{list_all}
 use Rattle.std.proofs.lemmas.List.{length-map}
 use Rattle.mapworld_calls.specs.Programs.{one_guard}
-use Rattle.mapworld.specs.Route.{IsShardAmount, key_route}
+use Rattle.mapworld.specs.Route.{IsWorldAmount, key_route}
 use Rattle.mapworld.specs.Beginning.{AreAtStart, AreFilled, AreReady}
 use Rattle.mapworld.proofs.Refusals.{accepted, sum_by-map}
 use Rattle.mapworld.proofs.Beginnings.{new-sound, new-contents, new-room}
@@ -11,7 +11,7 @@ use Rattle.mapworld.proofs.making.core_of.Goals as goal
 pub fill-requires-clause-shards : goal.fill-requires-clause-shards
 fill-requires-clause-shards g c =
     let a = accepted c.args.shards (length c.args.pairs.items) (map (λ program. program.items) c.args.programs.items) c.requires in
-    subst (λ n. IsShardAmount n) (sym c.in_ok-tables.ensures.0) a.amount
+    subst (λ n. IsWorldAmount n) (sym c.in_ok-tables.ensures.0) a.amount
 
 pub fill-requires-clause-fits : goal.fill-requires-clause-fits
 fill-requires-clause-fits g c =
@@ -25,7 +25,7 @@ returns-clause-sound g c =
     let shards = c.in_ok-count.ensures.shards ∙ c.in_ok-tables.ensures.0 in
     new-sound g.D.Deed g.S.BuildHasher g.S.Hasher.Hasher g.K.PartialEq.eq g.K.Hash.hash_input _
     (record { steps = c.new.ensures; holds = λ i desk at. (c.in_ok-desks.ensures.1 i desk at).free; blocks = c.in_ok-blocks.ensures.items; replies = c.in_ok-replies.ensures.items })
-    (subst (λ n. IsShardAmount n) (sym shards) a.amount)
+    (subst (λ n. IsWorldAmount n) (sym shards) a.amount)
     (ap (λ ps. list_all (one_guard false) ps) kept ∙ a.guarded)
     (subst (λ ps. AreAtStart ps c.in_ok-places.places.items) (sym kept) c.in_ok-places.ensures)
     (subst (λ ps. AreFilled g.K.PartialEq.eq (key_route g.S.BuildHasher g.S.Hasher.Hasher g.K.Hash.hash_input c.args.hasher (length c.fill.new.tables.items)) ps c.fill.new.tables.items)
@@ -41,7 +41,7 @@ returns-clause-new g c =
       opening = ap (λ v. v.items) c.of-opening.ensures;
       programs_are = ap (λ v. map (λ program. program.items) v.items) c.of-kept.ensures;
       contents_are = new-contents g.D.Deed g.S.BuildHasher g.S.Hasher.Hasher g.K.PartialEq.eq g.K.Hash.hash_input c.args.hasher c.args.pairs.items c.fill.new.tables.items
-          g.met.K.Eq.laws g.met.K.Hash.respects_eq (subst (λ n. IsShardAmount n) (sym shards) a.amount) c.in_ok-count.ensures.filled;
+          g.met.K.Eq.laws g.met.K.Hash.respects_eq (subst (λ n. IsWorldAmount n) (sym shards) a.amount) c.in_ok-count.ensures.filled;
       steps = c.new.ensures;
       holds = record { count = c.in_ok-desks.ensures.0; free = λ i desk at. (c.in_ok-desks.ensures.1 i desk at).free };
       blocks = c.in_ok-blocks.ensures.items;
@@ -75,5 +75,5 @@ returns-clause-room g c =
       pairs = c.in_ok-count.ensures.count.0;
       pairs_fit = omega (arith, a.pairs_fit, c.in_ok-count.ensures.count.1);
       threads_fit = omega (arith, threads, a.threads);
-      shards = subst (λ n. IsShardAmount n) (sym shards) a.amount;
+      shards = subst (λ n. IsWorldAmount n) (sym shards) a.amount;
     })
