@@ -4,7 +4,7 @@ ghost use Rattle.std.specs.Option.{option_map, option_copied_mut};
 ghost use Rattle.std.specs.Borrow.{sem};
 ghost use Rattle.dashmap_table.specs.Route.{IsShardAmount, route_of, hash_of};
 ghost use Rattle.dashmap_table.specs.Slots.{at, count, pair_of};
-ghost use Rattle.dashmap_table.specs.Table.{TakesOut, PutsIn};
+ghost use Rattle.dashmap_table.specs.Table.{SamePairs, TakesOut, PutsIn};
 ghost use Rattle.dashmap_table.specs.Shards.{AreApart, AreSharded, no_pairs, table_at, put_over, IsFull, OnlyChanges, key_hash, key_shard, place_of, pair_at};
 
 use crate::fault::{MapFault, NoMemory};
@@ -131,12 +131,16 @@ impl<K: Eq + Hash, V, S: BuildHasher, A: Allocator> Shards<K, V, S, A> {
         }
     }
 
-    /// Makes room for one more pair in a shard: the next insertion of a key of that shard isn't refused.
+    /// Makes room for one more pair in a shard: the next insertion of a key of that shard isn't refused. Where there is such
+    /// room already nothing changes.
     pub fn reserve(&mut self, shard: usize) -> Result<(), NoMemory>
         requires { shard < length self.old.tables }
         ensures ok { OnOk result (count (table_at self.new.tables shard).slots + 1 ≤ (table_at self.new.tables shard).room) }
         ensures pairs { (q : K) → pair_at S.BuildHasher S.Hasher.Hasher K.hash_input K.eq self.new q ≡ pair_at S.BuildHasher S.Hasher.Hasher K.hash_input K.eq self.old q }
         ensures others { OnlyChanges self.old self.new shard }
+        ensures table { SamePairs K.eq (table_at self.old.tables shard) (table_at self.new.tables shard) }
+        ensures room { (table_at self.old.tables shard).room ≤ (table_at self.new.tables shard).room }
+        ensures enough { count (table_at self.old.tables shard).slots + 1 ≤ (table_at self.old.tables shard).room → (result ≡ Ok tt) × (self.new ≡ self.old) }
         ensures refused { OnErr result (self.new ≡ self.old) }
     {
         self.shards[shard].reserve(1)

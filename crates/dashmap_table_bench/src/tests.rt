@@ -97,6 +97,42 @@ fn a_refused_shrink_changes_nothing(rt: HostRuntime) -> Result<(), Fail> {
 }
 
 #[test]
+fn a_shard_without_spare_room_shrinks_without_memory(rt: HostRuntime) -> Result<(), Fail> {
+    let mut full = false;
+    for size in 2..40 {
+        let heap = LocalHeap::new(rt.alloc(), size * 64)?;
+        let (mut shard, count) = packed(&heap, 12);
+        if count < 12 {
+            full = true;
+            shard.shrink()?;
+            assert!(rt; shard.len() as u64 == count && shard.capacity() as u64 == count);
+        }
+    }
+    assert!(rt; full);
+    Ok(())
+}
+
+#[test]
+fn a_shard_with_room_is_never_refused_more(rt: HostRuntime) -> Result<(), Fail> {
+    let mut reserved = false;
+    for size in 2..40 {
+        let heap = LocalHeap::new(rt.alloc(), size * 64)?;
+        let Ok(mut map) = Shards::new(&heap, 2, Fold::new()) else {
+            continue;
+        };
+        if map.reserve(0).is_err() || map.reserve(1).is_err() {
+            continue;
+        }
+        reserved = true;
+        map.reserve(0)?;
+        map.reserve(1)?;
+        assert_eq!(rt; map.insert(0u64, 0u64)?, None);
+    }
+    assert!(rt; reserved);
+    Ok(())
+}
+
+#[test]
 fn an_empty_shard_shrinks_without_memory(rt: HostRuntime) -> Result<(), Fail> {
     let heap = LocalHeap::new(rt.alloc(), 0)?;
     let mut shard: Shard<u64, u64, &LocalHeap> = Shard::new(&heap);
