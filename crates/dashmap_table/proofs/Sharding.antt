@@ -1,5 +1,5 @@
 -- Plain shards after a call of one of them: still routed, and with the pairs that the call's table tells.
-use Rattle.std.proofs.Common.{◌≡◌, ◌≢◌, ℕ, ◌+◌, ◌^◌, ◌<◌, ◌≤◌, nat_eq, eq-eqb, Bool, true, false, cond, List, [], length, replicate, Option, Some, None, Result, Ok, Err, MatchOption, IfSome, IfNone, IfOk, IfErr, IsTrue, slice_index_or, slice_set, refl, sym, ap, ◌∙◌, subst, inl, inr, ◌⊎◌, arith}
+use Rattle.std.proofs.Common.{◌≡◌, ◌≢◌, ℕ, ◌^◌, ◌<◌, ◌≤◌, nat_eq, eq-eqb, Bool, true, cond, List, length, replicate, Option, Some, None, Result, Ok, Err, MatchOption, IfSome, IfNone, IfOk, IfErr, IsTrue, slice_index_or, slice_set, refl, sym, ap, ◌∙◌, subst, inl, inr, arith}
 use Rattle.std.specs.Cmp.{IsEquivalence}
 use Rattle.std.specs.Hash.{HashWrites}
 use Rattle.std.specs.Option.{option_map, option_and_then}
@@ -16,7 +16,7 @@ use Rattle.dashmap_table.specs.Shards.{Tables, no_pairs, table_at, put_over, IsF
 use Rattle.dashmap_table.proofs.Places.{option_cases, at-set_same}
 use Rattle.dashmap_table.proofs.Finding.{slot_of-is, holds-own, entry_of-none}
 use Rattle.dashmap_table.proofs.Changing.{at-changed, at-changed_other, count-changed, AreDistinct-changed}
-use Rattle.dashmap_table.proofs.Effects.{choice, Each, finds-absent, finds-freed, finds-valued, finds-added, each-same, each-added, each-changed, each-freed}
+use Rattle.dashmap_table.proofs.Effects.{choice, Each, finds-absent, finds-freed, finds-valued, finds-added, each-added, each-changed}
 
 module _ {K V S H : Type 0} (b : builder.Ghosts S H) (h : hasher.Ghosts H) (input : K → HashWrites) (eq : K → K → Bool) where
   -- the hash and the shard of a key, as an entry has to have them
