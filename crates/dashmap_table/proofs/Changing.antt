@@ -1,5 +1,5 @@
 -- Slots stay distinct when one of them is changed or filled, and the others are found as before.
-use Rattle.std.proofs.Common.{◌≡◌, ◌≢◌, ℕ, ◌+◌, ◌<◌, ◌≤◌, Bool, true, false, nat_eq, List, Option, Some, None, is_some, IsTrue, IfSome, length, eq-eqb, slice_index_or, slice_set, refl, sym, ap, ◌∙◌, subst, inl, inr, ◌⊎◌, arith}
+use Rattle.std.proofs.Common.{◌≡◌, ◌≢◌, ℕ, ◌<◌, Bool, true, false, nat_eq, List, Option, Some, None, is_some, IsTrue, IfSome, length, eq-eqb, slice_index_or, slice_set, refl, sym, ap, ◌∙◌, subst, inl, inr}
 use Rattle.std.specs.Cmp.{IsEquivalence}
 use Rattle.std.specs.Option.{option_map}
 use Rattle.std.proofs.lemmas.Bool.{and_from, cases_eq, false≢true}
@@ -8,7 +8,7 @@ use Rattle.std.proofs.lemmas.List.{get_or-set_other, get_or_read}
 use Rattle.dashmap_table.specs.declared.entry.Entry.{Entry}
 use Rattle.dashmap_table.specs.Slots.{at, count, holds, slot_of, entry_of, AreDistinct, giving_value, giving_pair, changed}
 use Rattle.dashmap_table.specs.Table.{Table}
-use Rattle.dashmap_table.proofs.Places.{option_cases, at-set_same, count-set_like}
+use Rattle.dashmap_table.proofs.Places.{at-set_same, count-set_like}
 use Rattle.dashmap_table.proofs.Finding.{slot_of-none, holds-both, holds-own, holds-turned, entry_of-same}
 
 option_map-some : {X Y : Type 0} (f : X → Y) (o : Option X) (y : Y) → option_map f o ≡ Some y → (x : X) × (o ≡ Some x) × (f x ≡ y)

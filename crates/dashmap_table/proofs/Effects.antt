@@ -1,16 +1,14 @@
 -- What each hash and key finds after a table's call, and which entries the table has then.
-use Rattle.std.proofs.Common.{◌≡◌, ◌≢◌, ℕ, ◌+◌, ◌<◌, ◌≤◌, Bool, true, false, cond, nat_eq, List, Option, Some, None, slice_set, refl, sym, ap, ◌∙◌, subst, inl, inr, ◌⊎◌, arith, eqb-true, eq-eqb}
+use Rattle.std.proofs.Common.{◌≡◌, ◌≢◌, ℕ, Bool, true, false, cond, nat_eq, List, Option, Some, None, refl, sym, ap, ◌∙◌, subst, inl, inr, eq-eqb}
 use Rattle.std.specs.Cmp.{IsEquivalence}
-use Rattle.std.specs.Option.{option_map, option_and_then}
+use Rattle.std.specs.Option.{option_map}
 use Rattle.std.proofs.lemmas.Bool.{cases_Bool, cases_eq, and_parts, and_from, and_right, false_from_ne_true, false≢true, cond-true, cond-false}
 use Rattle.std.proofs.lemmas.Option.{none-some, same_Some}
-use Rattle.std.proofs.lemmas.List.{get_or-set_same, get_or-set_other}
 use Rattle.dashmap_table.specs.declared.entry.Entry.{Entry}
 use Rattle.dashmap_table.specs.Slots.{at, holds, slot_of, entry_of, AreDistinct, giving_value, changed}
 use Rattle.dashmap_table.specs.Table.{Table, IsSound, Adds, SamePairs}
-use Rattle.dashmap_table.proofs.Places.{option_cases, at-set_same}
-use Rattle.dashmap_table.proofs.Finding.{slot_of-is, slot_of-none, slot_of-none_from, slot_of-at, holds-both, holds-own, entry_of-at, entry_of-is, entry_of-none, entry_of-same}
-use Rattle.dashmap_table.proofs.Changing.{at-changed, at-changed_other, AreDistinct-changed}
+use Rattle.dashmap_table.proofs.Finding.{slot_of-none, slot_of-none_from, holds-both, holds-own, entry_of-at, entry_of-is, entry_of-none, entry_of-same}
+use Rattle.dashmap_table.proofs.Changing.{at-changed, at-changed_other}
 
 -- a choice by a test
 pub choice : {X : Type 0} (b : Bool) (x y z : X) → (b ≡ true → z ≡ x) → (b ≡ false → z ≡ y) → z ≡ cond b x y
@@ -114,10 +112,3 @@ module _ {K V : Type 0} (eq : K → K → Bool) (laws : IsEquivalence eq) where
         of_map : (o : Option (Entry K V)) → at xs s ≡ o → option_map f o ≡ Some e → P e.hash e.key
         of_map None was is = absurd (none-some e is)
         of_map (Some d) was is = subst (λ (x : Entry K V). P x.hash x.key) (same_Some (f d) e is) (keeps d (each s d was))
-
-    pub each-freed : (xs : List (Option (Entry K V))) (s : ℕ) → Each P xs → Each P (slice_set xs s None)
-    each-freed xs s each i e here = elim (cases_eq i s) [
-      | inl same ↦
-          absurd (none-some e (sym (at-set_same xs s None (λ _ _. refl)) ∙ (ap (at (slice_set xs s None)) (sym same) ∙ here)))
-      | inr other ↦ each i e (sym (get_or-set_other xs s i None None other) ∙ here)
-    ]

@@ -1,8 +1,8 @@
 -- Amounts of shards by their exponents, and the division that the shifts of a route are.
-use Rattle.std.proofs.Common.{◌≡◌, ℕ, zero, suc, ◌+◌, ◌-◌, ◌*◌, ◌/◌, ◌%◌, ◌^◌, ◌<◌, ◌≤◌, max, nat_le, nat_eq, IsTrue, ◌↔◌, eqb-true, eq-eqb, sym, ap, ◌∙◌, subst, inl, inr, arith, pow-suc, pow_pos, pow_mono, mod-lt, eq-or-lt_of_le}
+use Rattle.std.proofs.Common.{◌≡◌, ℕ, zero, suc, ◌+◌, ◌-◌, ◌*◌, ◌/◌, ◌%◌, ◌^◌, ◌<◌, ◌≤◌, nat_le, nat_eq, IsTrue, ◌↔◌, eqb-true, eq-eqb, sym, ap, ◌∙◌, subst, inl, inr, arith, pow-suc, pow_pos, pow_mono, mod-lt, eq-or-lt_of_le}
 use Rattle.std.specs.Int.{IsNextPowerOfTwo}
 use Rattle.std.proofs.lemmas.Bool.{cond-true, cond-false, le-leb, lt-leb, cases_lt}
-use Rattle.std.proofs.lemmas.Nat.{one_shl, shr-shr, shl-shr, field_of, shr_below, pow_below}
+use Rattle.std.proofs.lemmas.Nat.{one_shl, shr-shr, shl-shr, field_of, shr_below}
 use Rattle.dashmap_table.specs.Route.{exponent_up_to, log2, IsShardAmount, route_of, wanted_shards}
 
 exponent_up_to-is : (most k n : ℕ) → k ≤ most → 2 ^ k ≤ n → n < 2 * 2 ^ k → exponent_up_to most n ≡ k

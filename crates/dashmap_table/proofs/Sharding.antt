@@ -1,5 +1,5 @@
 -- Plain shards after a call of one of them: still routed, and with the pairs that the call's table tells.
-use Rattle.std.proofs.Common.{◌≡◌, ◌≢◌, ℕ, ◌+◌, ◌^◌, ◌<◌, ◌≤◌, nat_eq, eq-eqb, Bool, true, false, cond, List, [], length, replicate, Option, Some, None, Result, Ok, Err, MatchOption, IfSome, IfNone, IfOk, IfErr, IsTrue, slice_index_or, slice_set, refl, sym, ap, ◌∙◌, subst, inl, inr, ◌⊎◌, arith}
+use Rattle.std.proofs.Common.{◌≡◌, ◌≢◌, ℕ, ◌^◌, ◌<◌, ◌≤◌, nat_eq, eq-eqb, Bool, true, cond, List, length, replicate, Option, Some, None, Result, Ok, Err, MatchOption, IfSome, IfNone, IfOk, IfErr, IsTrue, slice_index_or, slice_set, refl, sym, ap, ◌∙◌, subst, inl, inr, arith}
 use Rattle.std.specs.Cmp.{IsEquivalence}
 use Rattle.std.specs.Hash.{HashWrites}
 use Rattle.std.specs.Option.{option_map, option_and_then}
@@ -7,16 +7,16 @@ use Rattle.std.specs.declared.hash.BuildHasher as builder
 use Rattle.std.specs.declared.hash.Hasher as hasher
 use Rattle.std.proofs.lemmas.Bool.{and_from, cases_eq, cases_lt, cond-true, cond-false}
 use Rattle.std.proofs.lemmas.Option.{none-some, MatchOption-at_some, MatchOption-at_none}
-use Rattle.std.proofs.lemmas.List.{length-replicate, get_or-replicate, get_or_past, length-set, set-get_or, get_or-set_same, get_or-set_other, get_or_read}
+use Rattle.std.proofs.lemmas.List.{length-replicate, get_or-replicate, get_or_past, length-set, set-get_or, get_or-set_same, get_or-set_other, get_or_read, get_or_default}
 use Rattle.dashmap_table.specs.declared.entry.Entry.{Entry}
 use Rattle.dashmap_table.specs.Route.{IsShardAmount, route_of, hash_of}
 use Rattle.dashmap_table.specs.Slots.{at, count, pair_of, holds, slot_of, entry_of, AreDistinct, entry_with, giving_value, changed}
 use Rattle.dashmap_table.specs.Table.{Table, IsSound, SamePairs, Adds, Frees, TakesOut, PutsIn, with_value}
-use Rattle.dashmap_table.specs.Shards.{Tables, no_pairs, table_at, put_over, IsFull, key_hash, key_shard, pair_at, AreApart, AreSharded}
+use Rattle.dashmap_table.specs.Shards.{Tables, no_pairs, table_at, put_over, IsFull, key_hash, key_shard, pair_at, with_value_at, AreApart, AreSharded, IsSeenByItsKey}
 use Rattle.dashmap_table.proofs.Places.{option_cases, at-set_same}
-use Rattle.dashmap_table.proofs.Finding.{slot_of-is, holds-own, entry_of-none}
+use Rattle.dashmap_table.proofs.Finding.{slot_of-is, slot_of-at, holds-own, entry_of-none}
 use Rattle.dashmap_table.proofs.Changing.{at-changed, at-changed_other, count-changed, AreDistinct-changed}
-use Rattle.dashmap_table.proofs.Effects.{choice, Each, finds-absent, finds-freed, finds-valued, finds-added, each-same, each-added, each-changed, each-freed}
+use Rattle.dashmap_table.proofs.Effects.{choice, Each, finds-absent, finds-freed, finds-valued, finds-added, each-added, each-changed}
 
 module _ {K V S H : Type 0} (b : builder.Ghosts S H) (h : hasher.Ghosts H) (input : K → HashWrites) (eq : K → K → Bool) where
   -- the hash and the shard of a key, as an entry has to have them
@@ -268,21 +268,6 @@ module _ {K V S H : Type 0} (b : builder.Ghosts S H) (h : hasher.Ghosts H) (inpu
     added_at x ok none =
         subst (λ z. IfOk z (λ x. (x.1 ≡ None) × Adds eq o u (entry_with hash key value) x.0)) ok (MatchOption-at_none _ _ none added)
 
-    pub insert-old : (x : ℕ × Option V) → r ≡ Ok x → x.1 ≡ option_map (λ p. p.1) (pair_at b h input eq old key)
-    insert-old x ok = elim (option_cases (slot_of eq o.slots hash key)) [
-      | inl none ↦ (added_at x ok none).0 ∙ sym (ap (λ p. option_map (λ y. y.1) p) (absent-before none))
-      | inr some ↦
-          let is : x ≡ (some.0, option_map (λ e. e.value) (at o.slots some.0)) = same_Ok (sym ok ∙ (present_at some.0 some.1).0) in
-          ap (λ y. y.1) is ∙ (value_of (at o.slots some.0) ∙ sym (ap (λ p. option_map (λ y. y.1) p) (found-before some.0 some.1)))
-    ]
-      where
-        same_Ok : {x y : ℕ × Option V} → ◌≡◌ {A = Result (ℕ × Option V) (K × V)} (Ok x) (Ok y) → x ≡ y
-        same_Ok e = cc
-
-        value_of : (o : Option (Entry K V)) → option_map (λ e. e.value) o ≡ option_map (λ p. p.1) (option_map pair_of o)
-        value_of None = refl
-        value_of (Some e) = refl
-
     pub insert-after : (x : ℕ × Option V) → r ≡ Ok x → (q : K) → pair_at b h input eq (record { tables = slice_set items i u; hasher = s }) q ≡ cond (eq key q) (Some (put_over (pair_at b h input eq old key) key value)) (pair_at b h input eq old q)
     insert-after x ok q = elim (option_cases (slot_of eq o.slots hash key)) [
       | inl none ↦
@@ -329,3 +314,41 @@ module _ {K V S H : Type 0} (b : builder.Ghosts S H) (h : hasher.Ghosts H) (inpu
       where
         apart : {x : ℕ × Option V} {y : K × V} → ◌≡◌ {A = Result (ℕ × Option V) (K × V)} (Err y) (Ok x) → ⊥
         apart e = cc
+
+-- a write into a full slot is found under its key alone
+module _ {K V S H : Type 0} (b : builder.Ghosts S H) (h : hasher.Ghosts H) (input : K → HashWrites) (eq : K → K → Bool) (laws : IsEquivalence eq) (respects : (j k : K) → IsTrue (eq j k) → input j ≡ input k)
+    (t : Tables K V S) (sharded : AreSharded b h input eq t) (i slot : ℕ) where
+  table_within : (e : Entry K V) → at (table_at t.tables i).slots slot ≡ Some e → i < length t.tables
+  table_within e full = elim (cases_lt i (length t.tables)) [
+    | inl within ↦ within
+    | inr past ↦
+        absurd (none-some e (sym (ap (λ (u : Table K V). at u.slots slot) (get_or_past t.tables i no_pairs past)) ∙ full))
+  ]
+
+  seen_at : (e : Entry K V) → at (table_at t.tables i).slots slot ≡ Some e → (value : V) (q : K)
+      → pair_at b h input eq (record t { tables = with_value_at t.tables i slot value }) q ≡ cond (eq e.key q) (Some (e.key, value)) (pair_at b h input eq t q)
+  seen_at e full value q =
+      let o = table_at t.tables i in
+      let within = table_within e full in
+      let routed = sharded.routed i slot e full in
+      let place : i ≡ route_of e.hash (length t.tables) = sym routed.1 ∙ ap (λ n. route_of n (length t.tables)) (sym routed.0) in
+      let here : o ≡ slice_index_or t.tables i o = get_or_default t.tables i no_pairs o within in
+      let found = slot_of-at eq laws o.slots (sharded.sound i).distinct e.hash e.key slot e full (holds-own eq laws e) in
+      let kept : pair_at b h input eq t e.key ≡ Some (pair_of e) =
+      found-before b h input eq laws respects t.tables t.hasher t refl sharded e.key e.hash routed.0 i place within o (with_value o slot value) here slot found ∙ ap (λ x. option_map pair_of x) full in
+      value-after b h input eq laws respects t.tables t.hasher t refl sharded e.key e.hash routed.0 i place within o (with_value o slot value) here slot found value (IsSound-value b h input eq laws o slot value (sharded.sound i)) refl q
+      ∙ ap (λ p. cond (eq e.key q) (Some (put_over p e.key value)) (pair_at b h input eq t q)) kept
+
+  IsSeenByItsKey-of : IsSeenByItsKey b h input eq t i slot
+  IsSeenByItsKey-of = elim (option_cases (at (table_at t.tables i).slots slot)) [
+    | inl none ↦
+        subst (λ o. IfSome o (λ e. (value : V) (q : K) → pair_at b h input eq (record t { tables = with_value_at t.tables i slot value }) q ≡ cond (eq e.key q) (Some (e.key, value)) (pair_at b h input eq t q))) (sym none) tt
+    | inr some ↦
+        subst (λ o. IfSome o (λ e. (value : V) (q : K) → pair_at b h input eq (record t { tables = with_value_at t.tables i slot value }) q ≡ cond (eq e.key q) (Some (e.key, value)) (pair_at b h input eq t q))) (sym some.1) (seen_at some.0 some.1)
+  ]
+
+pub seen_by_its_key : {K V S H : Type 0} (b : builder.Ghosts S H) (h : hasher.Ghosts H) (input : K → HashWrites) (eq : K → K → Bool) → IsEquivalence eq → ((j k : K) → IsTrue (eq j k) → input j ≡ input k)
+    → (items : List (Table K V)) (s : S) (old : Tables K V S) → record { tables = items; hasher = s } ≡ old → AreSharded b h input eq (record { tables = items; hasher = s })
+    → (i slot : ℕ) → IsSeenByItsKey b h input eq old i slot
+seen_by_its_key b h input eq laws respects items s old was sharded i slot =
+    subst (λ t. IsSeenByItsKey b h input eq t i slot) was (IsSeenByItsKey-of b h input eq laws respects (record { tables = items; hasher = s }) sharded i slot)

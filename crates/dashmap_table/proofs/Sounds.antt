@@ -1,10 +1,10 @@
 -- A table is sound where its keys are distinct: the rest a list knows of itself.
-use Rattle.std.proofs.Common.{◌≡◌, ℕ, suc, ◌+◌, ◌≤◌, cond, Bool, List, [], ◌∷◌, length, Option, Some, None, is_some, vec_capacity, refl, arith, count_by}
+use Rattle.std.proofs.Common.{◌≡◌, ◌+◌, cond, Bool, List, [], ◌∷◌, length, Option, Some, None, is_some, vec_capacity, refl, arith, count_by}
 use Rattle.std.specs.declared.vec.Vec.{Vec}
 use Rattle.std.proofs.lemmas.List.Sums.{count_by-le-length, sum_by-cons}
 use Rattle.dashmap_table.specs.declared.entry.Entry.{Entry}
 use Rattle.dashmap_table.specs.Slots.{pairs_of, AreDistinct}
-use Rattle.dashmap_table.specs.Table.{Table, IsSound}
+use Rattle.dashmap_table.specs.Table.{IsSound}
 
 pub IsSound-of : {K V A : Type 0} (eq : K → K → Bool) (v : Vec (Option (Entry K V)) A) → AreDistinct eq v.items → IsSound eq (record { slots = v.items; room = vec_capacity v })
 IsSound-of eq v distinct =

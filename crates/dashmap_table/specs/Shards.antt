@@ -1,5 +1,5 @@
 -- Plain shards as contracts see them: each key on the shard of its route.
-use Rattle.std.specs.Prelude.{◌≡◌, ◌≢◌, ℕ, ◌+◌, ◌≤◌, Bool, List, [], length, replicate, Option, Some, None, IsTrue, slice_get, slice_index_or, slice_set, if◌then◌else◌}
+use Rattle.std.specs.Prelude.{◌≡◌, ◌≢◌, ℕ, ◌≤◌, Bool, List, [], length, Option, Some, None, IsTrue, IfSome, slice_index_or, slice_set, if◌then◌else◌}
 use Rattle.std.specs.Option.{option_map}
 use Rattle.std.specs.Hash.{HashWrites}
 use Rattle.std.specs.declared.hash.BuildHasher as builder
@@ -63,6 +63,11 @@ module _ {K V S H : Type 0} (b : builder.Ghosts S H) (h : hasher.Ghosts H) (inpu
   -- the pair of a key
   abbrev pub pair_at : (K → K → Bool) → Tables K V S → K → Option (K × V)
   pair_at eq t k = option_map pair_of (entry_of eq (table_at t.tables (key_shard t k)).slots (key_hash b h input t.hasher k) k)
+
+  -- another value in a full slot is found under its key, and every other key finds what it found
+  abbrev pub IsSeenByItsKey : (K → K → Bool) → Tables K V S → ℕ → ℕ → Type 0
+  IsSeenByItsKey eq t i slot = IfSome (at (table_at t.tables i).slots slot) (λ e. (value : V) (q : K)
+      → pair_at eq (record t { tables = with_value_at t.tables i slot value }) q ≡ (if eq e.key q then Some (e.key, value) else pair_at eq t q))
 
   -- what holds of all plain shards
   pub record AreSharded (eq : K → K → Bool) (t : Tables K V S) : Type 0 where

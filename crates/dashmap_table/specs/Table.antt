@@ -36,10 +36,11 @@ module _ {K V : Type 0} where
     -- where there was room, the slot was free and no other slot moved
     pub in_place : count old.slots < old.room → (at old.slots i ≡ None) × ((j : ℕ) → j ≢ i → at new.slots j ≡ at old.slots j)
 
-  -- a slot's entry goes; no other slot moves and no room is lost
+  -- a slot's entry goes; no other slot moves, no room is lost, and no more is taken
   pub record Frees (old new : Table K V) (i : ℕ) : Type 0 where
     pub freed : new.slots ≡ slice_set old.slots i None
     pub left : old.room + count new.slots ≤ new.room + count old.slots
+    pub no_more : new.room ≤ old.room
 
   -- every hash and key finds what it found, and there are as many pairs
   pub record SamePairs (eq : K → K → Bool) (old new : Table K V) : Type 0 where

@@ -1,6 +1,7 @@
 //! The pairs of a shard, one after another.
-ghost use Rattle.std.specs.Prelude.{◌≡◌, length};
-ghost use Rattle.std.specs.Iterator.{YieldsFirst, item_count};
+ghost use Rattle.std.specs.Prelude.{◌≡◌, length, Some, IfSome};
+ghost use Rattle.std.specs.Iterator.{YieldsFirst, UpTo, at_most, item_count};
+ghost use Rattle.std.specs.Iterator.SizeHint.{IsWithinCount};
 ghost use Rattle.dashmap_table.specs.Slots.{pairs_of};
 
 use crate::entry::Entry;
@@ -64,7 +65,11 @@ impl<K: Drop, V: Drop, A: Allocator> Iterator for ShardPairs<K, V, A> {
         None
     }
 
-    fn size_hint(&self) -> (usize, Option<usize>) {
+    fn size_hint(&self) -> (usize, Option<usize>)
+        ensures exact { result ≡ (length self.now, Some (length self.now)) }
+        ensures lower { IsWithinCount result.0 (at_most (length self.now)) }
+        ensures upper { IfSome result.1 (UpTo (at_most (length self.now))) }
+    {
         (self.left, Some(self.left))
     }
 }

@@ -347,9 +347,13 @@ impl<K: Eq + Hash, V, A: Allocator> PlainTable<K, V, A> {
         ensures tight { OnOk result (self.new.room ≡ count self.new.slots) }
         ensures room { self.new.room ≤ self.old.room }
         ensures empty { count self.old.slots ≡ 0 → result ≡ Ok tt }
+        ensures tight_already { self.old.room ≤ count self.old.slots → (result ≡ Ok tt) × (self.new ≡ self.old) }
         ensures refused { OnErr result (self.new ≡ self.old) }
         ensures sound { IsSound K.eq self.new }
     {
+        if self.slots.capacity() == self.full {
+            return Ok(());
+        }
         if self.full == 0 {
             self.slots.clear();
             self.slots.shrink_to_fit();

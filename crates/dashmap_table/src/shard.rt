@@ -200,7 +200,7 @@ impl<K: Eq + Hash, V, A: Allocator> Shard<K, V, A> {
     }
 
     /// Gives up room that the pairs don't need: at most four times as much as there are pairs is left. Pairs may move. It asks
-    /// for memory for the smaller shard first, but for none where there is no pair.
+    /// for memory for the smaller shard first, but for none where there is no pair, nor where the pairs take up all the room.
     pub fn shrink(&mut self) -> Result<(), NoMemory>
     where
         K: Drop,
@@ -210,6 +210,7 @@ impl<K: Eq + Hash, V, A: Allocator> Shard<K, V, A> {
         ensures tight { OnOk result (self.new.room ≤ 4 * count self.new.slots) }
         ensures room { self.new.room ≤ self.old.room }
         ensures empty { count self.old.slots ≡ 0 → result ≡ Ok tt }
+        ensures tight_already { self.old.room ≤ count self.old.slots → (result ≡ Ok tt) × (self.new ≡ self.old) }
         ensures refused { OnErr result (self.new ≡ self.old) }
         ensures sound { IsSound K.eq self.new }
     {

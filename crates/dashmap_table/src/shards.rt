@@ -4,8 +4,8 @@ ghost use Rattle.std.specs.Option.{option_map, option_copied_mut};
 ghost use Rattle.std.specs.Borrow.{sem};
 ghost use Rattle.dashmap_table.specs.Route.{IsShardAmount, route_of, hash_of};
 ghost use Rattle.dashmap_table.specs.Slots.{at, count, pair_of};
-ghost use Rattle.dashmap_table.specs.Table.{TakesOut, PutsIn};
-ghost use Rattle.dashmap_table.specs.Shards.{AreApart, AreSharded, no_pairs, table_at, put_over, IsFull, OnlyChanges, key_hash, key_shard, place_of, pair_at};
+ghost use Rattle.dashmap_table.specs.Table.{SamePairs, TakesOut, PutsIn};
+ghost use Rattle.dashmap_table.specs.Shards.{AreApart, AreSharded, no_pairs, table_at, put_over, IsFull, OnlyChanges, key_hash, key_shard, place_of, pair_at, IsSeenByItsKey};
 
 use crate::fault::{MapFault, NoMemory};
 use crate::routing::{is_shard_amount, route};
@@ -131,12 +131,16 @@ impl<K: Eq + Hash, V, S: BuildHasher, A: Allocator> Shards<K, V, S, A> {
         }
     }
 
-    /// Makes room for one more pair in a shard: the next insertion of a key of that shard isn't refused.
+    /// Makes room for one more pair in a shard: the next insertion of a key of that shard isn't refused. Where there is such
+    /// room already nothing changes.
     pub fn reserve(&mut self, shard: usize) -> Result<(), NoMemory>
         requires { shard < length self.old.tables }
         ensures ok { OnOk result (count (table_at self.new.tables shard).slots + 1 ≤ (table_at self.new.tables shard).room) }
         ensures pairs { (q : K) → pair_at S.BuildHasher S.Hasher.Hasher K.hash_input K.eq self.new q ≡ pair_at S.BuildHasher S.Hasher.Hasher K.hash_input K.eq self.old q }
         ensures others { OnlyChanges self.old self.new shard }
+        ensures table { SamePairs K.eq (table_at self.old.tables shard) (table_at self.new.tables shard) }
+        ensures room { (table_at self.old.tables shard).room ≤ (table_at self.new.tables shard).room }
+        ensures enough { count (table_at self.old.tables shard).slots + 1 ≤ (table_at self.old.tables shard).room → (result ≡ Ok tt) × (self.new ≡ self.old) }
         ensures refused { OnErr result (self.new ≡ self.old) }
     {
         self.shards[shard].reserve(1)
@@ -183,10 +187,12 @@ impl<K: Eq + Hash, V, S: BuildHasher, A: Allocator> Shards<K, V, S, A> {
     }
 
     /// Lends the value of a full slot of a shard for writing; `None` where the slot is free or there is no such shard.
-    /// Afterwards the slot has the value that was written, and nothing else has changed.
+    /// Afterwards the slot has the value that was written, and nothing else has changed: the pair's key finds the value, and
+    /// every other key finds what it found.
     pub fn value_mut(&mut self, shard: usize, slot: usize) -> Option<&mut V>
         ensures* writes_back { sem 𝓛 (lends_at_if K.row V.row S.row A.row S.Hasher.row K.Hash S.BuildHasher S.Hasher.Hasher A.Allocator self.entry shard slot result) }
         ensures value { option_copied_mut result ≡ option_map (λ e. e.value) (at (table_at self.old.tables shard).slots slot) }
+        ensures seen { IsSeenByItsKey S.BuildHasher S.Hasher.Hasher K.hash_input K.eq self.old shard slot }
     {
         if shard < self.shards.len() && self.shards[shard].is_full(slot) {
             Some(self.lend_value(shard, slot))

@@ -81,8 +81,11 @@ fn a_refused_shrink_changes_nothing(rt: HostRuntime) -> Result<(), Fail> {
     let mut done = false;
     for size in 2..40 {
         let heap = LocalHeap::new(rt.alloc(), size * 64)?;
-        let (mut shard, count) = packed(&heap, 12);
-        let capacity = shard.capacity();
+        let (mut shard, _) = packed(&heap, 12);
+        if let Some(slot) = shard.find(0, &0) {
+            shard.remove(slot);
+        }
+        let (length, capacity) = (shard.len(), shard.capacity());
         match shard.shrink() {
             Ok(()) => done = true,
             Err(NoMemory) => {
@@ -90,9 +93,45 @@ fn a_refused_shrink_changes_nothing(rt: HostRuntime) -> Result<(), Fail> {
                 assert_eq!(rt; shard.capacity(), capacity);
             }
         }
-        assert!(rt; shard.len() as u64 == count);
+        assert!(rt; shard.len() == length && (length == 0 || shard.find(1, &1).is_some()));
     }
     assert!(rt; refused && done);
+    Ok(())
+}
+
+#[test]
+fn a_shard_without_spare_room_shrinks_without_memory(rt: HostRuntime) -> Result<(), Fail> {
+    let mut full = false;
+    for size in 2..40 {
+        let heap = LocalHeap::new(rt.alloc(), size * 64)?;
+        let (mut shard, count) = packed(&heap, 12);
+        if count < 12 {
+            full = true;
+            shard.shrink()?;
+            assert!(rt; shard.len() as u64 == count && shard.capacity() as u64 == count);
+        }
+    }
+    assert!(rt; full);
+    Ok(())
+}
+
+#[test]
+fn room_that_is_there_is_never_refused(rt: HostRuntime) -> Result<(), Fail> {
+    let mut reserved = false;
+    for size in 2..40 {
+        let heap = LocalHeap::new(rt.alloc(), size * 64)?;
+        let Ok(mut map) = Shards::new(&heap, 2, Fold::new()) else {
+            continue;
+        };
+        if map.reserve(0).is_err() || map.reserve(1).is_err() {
+            continue;
+        }
+        reserved = true;
+        map.reserve(0)?;
+        map.reserve(1)?;
+        assert_eq!(rt; map.insert(0u64, 0u64)?, None);
+    }
+    assert!(rt; reserved);
     Ok(())
 }
 

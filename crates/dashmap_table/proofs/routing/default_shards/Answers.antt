@@ -1,4 +1,4 @@
-use Rattle.std.proofs.Common.{◌≡◌, ℕ, ◌*◌, ◌^◌, ◌<◌, ◌≤◌, Option, Some, None, MatchOption, subst, ap, arith}
+use Rattle.std.proofs.Common.{ℕ, ◌*◌, ◌^◌, ◌<◌, ◌≤◌, Option, Some, None, MatchOption, subst, arith}
 use Rattle.std.specs.Int.{IsNextPowerOfTwo}
 use Rattle.dashmap_table.specs.Route.{IsShardAmount, wanted_shards}
 use Rattle.dashmap_table.proofs.ShardAmounts.{IsShardAmount-next}

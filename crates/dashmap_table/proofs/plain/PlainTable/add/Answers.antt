@@ -1,7 +1,5 @@
-use Rattle.std.proofs.Common.{Some, refl, sym, ap, ◌∙◌, arith}
+use Rattle.std.proofs.Common.{Some}
 use Rattle.std.specs.Vec.{with_item}
-use Rattle.std.specs.List.{position}
-use Rattle.std.specs.Option.{is_none}
 use Rattle.dashmap_table.proofs.Adding.{first_free-is, first_free-none, fill-sound, fill-adds}
 use Rattle.dashmap_table.proofs.Sounds.{IsSound-of}
 use Rattle.dashmap_table.proofs.plain.PlainTable.add.Goals as goal

@@ -1,5 +1,4 @@
-use Rattle.std.proofs.Common.{refl, sym, ap, ◌∙◌, arith}
-use Rattle.dashmap_table.specs.Slots.{count}
+use Rattle.std.proofs.Common.{◌∙◌}
 use Rattle.dashmap_table.proofs.Packing.{pack-sound, pack-pairs}
 use Rattle.dashmap_table.proofs.Sounds.{IsSound-of}
 use Rattle.dashmap_table.proofs.plain.PlainTable.shrink.Goals as goal

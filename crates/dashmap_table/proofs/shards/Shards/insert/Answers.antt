@@ -1,4 +1,3 @@
-use Rattle.std.proofs.Common.{Ok, ap, sym, ◌∙◌}
 use Rattle.std.proofs.lemmas.Result.{err_from_is_err_and}
 use Rattle.dashmap_table.proofs.Sharding.{insert-sharded, insert-refused, insert-after, insert-table}
 use Rattle.dashmap_table.proofs.shards.Shards.insert.Goals as goal
