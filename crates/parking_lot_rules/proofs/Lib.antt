@@ -24,6 +24,9 @@ pub mod Mutexes
 pub mod MutexFollowing
 pub mod Ranking
 pub mod Sighting
+pub mod Aiming
+pub mod Planning
+pub mod Turning
 pub mod MutexCasing
 pub mod MutexRanking
 pub mod MutexCrossing

@@ -33,7 +33,7 @@ role-given j r p = same_role _ r.owns _ r.does (put-same p.owns j r.owns) (seen-
 abbrev pub IsThere : ℕ → Place → Type 0
 IsThere j p = (p.at ≡ j) ⊎ (p.does ≡ Idle)
 
-not_seen : (i j : ℕ) (p : Place) → i ≢ j → IsThere j p → seen (p.at == i) p.does ≡ Idle
+pub not_seen : (i j : ℕ) (p : Place) → i ≢ j → IsThere j p → seen (p.at == i) p.does ≡ Idle
 not_seen i j p ne (inl at) = seen-elsewhere i p.at p.does (λ e. ne (sym e ∙ at))
 not_seen i j p ne (inr idle) = seen-idle (p.at == i) p.does idle
 

@@ -1,0 +1,8 @@
+//! Laws of many locks and calls: how many steps all threads make together.
+ghost use Rattle.parking_lot_rules.specs.Agenda.{TurnsLower};
+
+/// Whatever a thread does that is stepped alone, at any lock and in any of its calls, lowers the steps that all threads are still to make:
+/// each start, look, step at a lock, refusal and answer. A wake is paid for by the one that wakes.
+pub fn turns_lower_all_steps()
+    ensures { TurnsLower }
+{}
