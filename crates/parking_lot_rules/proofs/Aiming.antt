@@ -23,10 +23,10 @@ use Rattle.parking_lot_rules.proofs.Ranking.{chosen, few1, two_apart, to_come_fe
 abbrev Chosen : ℕ → ℕ → ℕ → Type 0
 Chosen n a b = ((n ≡ 0) × (where_some n a b ≡ b)) ⊎ ((0 < n) × (where_some n a b ≡ a))
 
-asks_are : (o : ℕ) (m : Mode) (w : Word) → Chosen (bars m w) (where_some o (7 + to_come m) 4 + (1 - w.parked1)) (1 + to_come m) × Chosen o (7 + to_come m) 4
+pub asks_are : (o : ℕ) (m : Mode) (w : Word) → Chosen (bars m w) (where_some o (7 + to_come m) 4 + (1 - w.parked1)) (1 + to_come m) × Chosen o (7 + to_come m) 4
 asks_are o m w = (chosen (bars m w) (where_some o (7 + to_come m) 4 + (1 - w.parked1)) (1 + to_come m), chosen o (7 + to_come m) 4)
 
-drains_are : (o : ℕ) (w : Word) → Chosen w.readers (where_some o 7 4 + (1 - w.parked2)) 1 × Chosen o 7 4
+pub drains_are : (o : ℕ) (w : Word) → Chosen w.readers (where_some o 7 4 + (1 - w.parked2)) 1 × Chosen o 7 4
 drains_are o w = (chosen w.readers (where_some o 7 4 + (1 - w.parked2)) 1, chosen o 7 4)
 
 checks1_are : (m : Mode) (w : Word) → Chosen (bars m w) (where_some w.parked1 3 (1 + asks 0 m w)) (1 + asks 0 m w) × Chosen w.parked1 3 (1 + asks 0 m w)
@@ -48,10 +48,10 @@ drains_few o w = (omega (arith, drains_are o w), omega (arith, drains_are o w))
 drains_free : (w : Word) → drains 0 w ≤ 5
 drains_free w = omega (arith, drains_are 0 w)
 
-checks1_few : (m : Mode) (w : Word) → (checks1 m w ≤ 6 + to_come m) × (2 ≤ checks1 m w)
+pub checks1_few : (m : Mode) (w : Word) → (checks1 m w ≤ 6 + to_come m) × (2 ≤ checks1 m w)
 checks1_few m w = (omega (arith, checks1_are m w, asks_free m w), omega (arith, checks1_are m w, asks_few 0 m w))
 
-checks2_few : (w : Word) → (checks2 w ≤ 6) × (2 ≤ checks2 w)
+pub checks2_few : (w : Word) → (checks2 w ≤ 6) × (2 ≤ checks2 w)
 checks2_few w = (omega (arith, checks2_are w, drains_free w), omega (arith, checks2_are w, drains_few 0 w))
 
 flag_bars : (m : Mode) (w : Word) → bars m (record w { parked1 = 1 }) ≡ bars m w

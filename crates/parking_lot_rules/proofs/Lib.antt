@@ -27,6 +27,8 @@ pub mod Sighting
 pub mod Aiming
 pub mod Planning
 pub mod Turning
+pub mod Counting
+pub mod Switching
 pub mod MutexCasing
 pub mod MutexRanking
 pub mod MutexCrossing

@@ -68,10 +68,10 @@ module _ (f g x : ℕ → ℕ) (t : ℕ) (others : (u : ℕ) → u ≢ t → g u
           split (suc n) (suc t) h = ⊎_elim (λ e. inl (ap (λ k. suc k) e)) (λ l. inr (omega (arith, l))) (split n t (omega (arith, h)))
 
 -- by threads: the stepped one, and another
-share_own : (bucket : ℕ → ℕ) (s : Scene) (t : ℕ) → share bucket s t t ≡ near_of bucket s t
+pub share_own : (bucket : ℕ → ℕ) (s : Scene) (t : ℕ) → share bucket s t t ≡ near_of bucket s t
 share_own bucket s t = ap (λ b. cond b (near_of bucket s t) (far s t)) (eq-eqb t t refl)
 
-share_other : (bucket : ℕ → ℕ) (s : Scene) (t u : ℕ) → u ≢ t → share bucket s t u ≡ far s u
+pub share_other : (bucket : ℕ → ℕ) (s : Scene) (t u : ℕ) → u ≢ t → share bucket s t u ≡ far s u
 share_other bucket s t u ne = ap (λ b. cond b (near_of bucket s u) (far s u)) (ne_eqb u t ne)
 
 -- So all steps fall where those of the stepped thread do, and pay for what others gain.
@@ -87,7 +87,7 @@ all_fall bucket old new t k x len within others few own = omega (
 )
 
 -- the number of threads stays
-after_length : (recursive : Bool) (t : ℕ) (step : Step) (l : Lock) → length (after t step l).roles ≡ length l.roles
+pub after_length : (recursive : Bool) (t : ℕ) (step : Step) (l : Lock) → length (after t step l).roles ≡ length l.roles
 after_length recursive t (Alone k) l = length-set l.roles t _
 after_length recursive t (List_changes k) l = length-set l.roles t _
 after_length recursive t (Take1 s i v m stay) l = length-set (slice_set l.roles t _) v _ ∙ length-set l.roles t _

@@ -11,7 +11,7 @@ use Rattle.parking_lot_rules.specs.Runs.{IsReached}
 use Rattle.parking_lot_rules.specs.Laws.{is_asleep}
 use Rattle.parking_lot_rules.specs.Ranks.{to_come, is_deadline}
 use Rattle.parking_lot_rules.specs.Sights.{Sight, Blind, Looks, is_stale}
-use Rattle.parking_lot_rules.specs.Aims.{Aim, Watches, Enters, knowledge, View, looking, looks_of, most_looks, far_steps, near_steps, GoesBy}
+use Rattle.parking_lot_rules.specs.Aims.{Aim, Watches, Enters, Knowledge, New, Set, knowledge, View, looking, looks_of, most_looks, far_steps, near_steps, GoesBy}
 
 -- What a thread asks of a lock: to own it, also by a try or with a deadline; to give it up; to have a weaker hold, or a stronger one.
 pub data Call : Type 0 where
@@ -173,3 +173,47 @@ Turned bucket recursive t Answer old new = (old.stages t ≡ Works) × (phase ol
 abbrev pub TurnsLower : Type 0
 TurnsLower = (bucket : ℕ → ℕ) (recursive : ℕ → Bool) (t : ℕ) (turn : Turn) (old new : Scene) → IsReached bucket recursive old.world → t < threads old → Turned bucket recursive t turn old new
     → all_steps bucket new t + 1 ≤ all_steps bucket old t
+
+-- A thread is to enter a section of the key next: it has decided so, or knows that it has to wait; or it goes back after its deadline, or
+-- owes a look at the list.
+abbrev pub MustEnter : Word → Phase → Knowledge → Key → Type 0
+MustEnter w (Seeks mode woken) New First = (0 < bars mode w) × (w.parked1 ≡ 1)
+MustEnter w (Seeks mode woken) Set First = Unit {0}
+MustEnter w (Drains from woken) New Second = (0 < w.readers) × (w.parked2 ≡ 1)
+MustEnter w (Drains from woken) Set Second = Unit {0}
+MustEnter w (Queued1 mode Late) known First = Unit {0}
+MustEnter w (Taken1 mode taker mark Late) known First = Unit {0}
+MustEnter w Owes1 known First = Unit {0}
+MustEnter w (Queued2 from Late) known Second = Unit {0}
+MustEnter w (Taken2 from taker Late) known Second = Unit {0}
+MustEnter w Owes2 known Second = Unit {0}
+MustEnter w phase known k = ⊥
+
+-- Why a thread that is stepped stops: it sleeps; it is in no call, or has but its answer to come; or another has entered the bucket before
+-- which it stands, with the first step of a call to come, or a later one.
+pub data Stop : Type 0 where
+  Asleep : Stop
+  Out : Stop
+  Before_call : (job : ℕ × Call) → Stop
+  Before : (k : Key) → Stop
+
+abbrev pub IsOther : (ℕ → ℕ) → Scene → ℕ → ℕ → Key → Type 0
+IsOther bucket s t j k = other_in (s.world.entered (bucket (key j k))) t ≡ 1
+
+abbrev pub Stops : (ℕ → ℕ) → Scene → ℕ → Stop → Type 0
+Stops bucket s t Asleep = IsTrue (is_asleep (phase s t)) × (s.stages t ≡ Works)
+Stops bucket s t Out = (phase s t ≡ Idle) × ((s.stages t ≡ Rests) ⊎ (s.stages t ≡ Works))
+Stops bucket s t (Before_call job) = (phase s t ≡ Idle) × (s.stages t ≡ Begins job) × IsOther bucket s t job.0 First
+Stops bucket s t (Before k) = MustEnter (s.world.words (lock s t)) (phase s t) (knowledge (s.aims t)) k × IsOther bucket s t (lock s t) k
+
+-- one that stands before a bucket is to enter it next, whatever becomes of the word
+abbrev pub aims_after : Scene → ℕ → Stop → ℕ → Aim
+aims_after s t Asleep = s.aims
+aims_after s t Out = s.aims
+aims_after s t (Before_call job) = put s.aims t Enters
+aims_after s t (Before k) = put s.aims t Enters
+
+-- Where the stepped thread has stopped, another may be stepped, whatever that one has seen, and the steps of all are no more.
+abbrev pub SwitchesKeep : Type 0
+SwitchesKeep = (bucket : ℕ → ℕ) (recursive : ℕ → Bool) (t u : ℕ) (stop : Stop) (s : Scene) → IsReached bucket recursive s.world → Stops bucket s t stop
+    → all_steps bucket (record s { aims = aims_after s t stop }) u ≤ all_steps bucket s t

@@ -36,7 +36,7 @@ abbrev pub apart : ℕ → Phase → ℕ
 apart n (Queued2 from stay) = by_stay stay 1 (18 * n + 10) (18 * n + 9)
 apart n (Scans1 cause shared upgradable writer taken) = 18 * (n - length taken) + 17 * length taken + 3
 apart n Owes2 = 22
-apart n (Scans2 taken) = 18 * (1 - length taken) + 17 * length taken + 3
+apart n (Scans2 taken) = 18 + 17 * length taken + 3
 apart n phase = worst n phase
 
 -- The same of the thread that is being stepped, and knows the word. `other` isn't 0 where another thread has entered the bucket: it then
