@@ -175,7 +175,7 @@ looking_few (Drains f c) k = omega arith
 looking_few (Yields f) k = omega arith
 looking_few p k = omega arith
 
-by_few : (how : Knowledge) (a b c x : ℕ) → a ≤ x → b ≤ x → c ≤ x → by how a b c ≤ x
+pub by_few : (how : Knowledge) (a b c x : ℕ) → a ≤ x → b ≤ x → c ≤ x → by how a b c ≤ x
 by_few New a b c x p q r = p
 by_few Old a b c x p q r = q
 by_few Set a b c x p q r = r

@@ -29,6 +29,8 @@ pub mod Planning
 pub mod Turning
 pub mod Counting
 pub mod Switching
+pub mod Bounding
+pub mod Draining
 pub mod MutexCasing
 pub mod MutexRanking
 pub mod MutexCrossing

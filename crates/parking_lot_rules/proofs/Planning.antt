@@ -27,7 +27,7 @@ sum_none : (n : ℕ) → sum_to (λ u. 0) n ≡ 0
 sum_none zero = refl
 sum_none (suc n) = omega (arith, sum_none n)
 
-sum_one : (v k n : ℕ) → (sum_to (λ u. if u == v then k else 0) n ≤ k) × (n ≤ v → sum_to (λ u. if u == v then k else 0) n ≡ 0)
+pub sum_one : (v k n : ℕ) → (sum_to (λ u. if u == v then k else 0) n ≤ k) × (n ≤ v → sum_to (λ u. if u == v then k else 0) n ≡ 0)
 sum_one v k zero = (omega arith, λ h. refl)
 sum_one v k (suc n) = (
   ⊎_elim

@@ -17,6 +17,7 @@ pub mod Ranks
 pub mod Sights
 pub mod Aims
 pub mod Agenda
+pub mod Drains
 pub mod Mutex
 pub mod MutexLaws
 pub mod MutexOwners

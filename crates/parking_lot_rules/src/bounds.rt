@@ -1,5 +1,6 @@
 //! Laws of many locks and calls: how many steps all threads make together.
 ghost use Rattle.parking_lot_rules.specs.Agenda.{SwitchesKeep, TurnsLower};
+ghost use Rattle.parking_lot_rules.specs.Drains.{DeadlinesAddFew, StepsAreFew, TurnsAreFew, VisitsAreShort};
 
 /// Whatever a thread does that is stepped alone, at any lock and in any of its calls, lowers the steps that all threads are still to make:
 /// each start, look, step at a lock, refusal and answer. A wake is paid for by the one that wakes.
@@ -11,4 +12,27 @@ pub fn turns_lower_all_steps()
 /// from there on, and the steps of all are no more.
 pub fn switches_keep_all_steps()
     ensures { SwitchesKeep }
+{}
+
+/// At every moment the steps of all threads are at most 396 for each thread, and 529, for each call that isn't answered: calls of every
+/// mode, conversions, and calls whose deadline has passed.
+pub fn all_steps_are_few()
+    ensures { StepsAreFew }
+{}
+
+/// A deadline that passes, also that of a thread which was taken and not woken yet, adds at most 396 steps for each thread, and 220.
+pub fn deadlines_add_few_steps()
+    ensures { DeadlinesAddFew }
+{}
+
+/// However the threads are stepped, each until it stops, they take no more turns than all steps at the beginning, with those that deadlines
+/// add.
+pub fn turns_are_few()
+    ensures { TurnsAreFew }
+{}
+
+/// A lock is acquired and given up in fewer than 256 steps for each square of one more than the threads, with 100 steps left for what its
+/// owner does.
+pub fn visits_are_short()
+    ensures { VisitsAreShort }
 {}

@@ -13,7 +13,10 @@ mod tests;
 mod word;
 mod wrong;
 
-pub use bounds::{switches_keep_all_steps, turns_lower_all_steps};
+pub use bounds::{
+    all_steps_are_few, deadlines_add_few_steps, switches_keep_all_steps, turns_are_few,
+    turns_lower_all_steps, visits_are_short,
+};
 pub use example::a_writer_waits_and_is_woken;
 pub use laws::{
     a_refusal_has_a_cause, debts_are_kept, every_lock_is_sound, no_bit_outlives_the_calls,
