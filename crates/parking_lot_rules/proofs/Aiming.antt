@@ -65,7 +65,7 @@ IsClear (Goes First) v = v.other1 ≡ 0
 IsClear (Goes Second) v = v.other2 ≡ 0
 IsClear c v = Unit {0}
 
-module _ (recursive : Bool) (n : ℕ) (v : View) (all : Class → ℕ) (few1 : v.first ≤ n) (few2 : v.second ≤ 1) where
+module _ (recursive : Bool) (n : ℕ) (v : View) (all : Class → ℕ) (few1 : v.first ≤ n) where
   pub plain_turns : (how : Knowledge) (k : Plain) → (from k).does ≢ Idle → May recursive k v.word all → is_deadline (Alone k) ≡ false → GoesBy how (Alone k) v.word → IsClear (crossing (Alone k)) v
       → near n (record v { word = written k v.word }) (to k).does + 1 ≤ near_rank n v (from k).does how
   plain_turns how (Begin i m) busy may now knows clear = absurd (busy refl)
@@ -133,7 +133,7 @@ module _ (recursive : Bool) (n : ℕ) (v : View) (all : Class → ℕ) (few1 : v
   plain_turns how (YieldBack false) busy may now knows clear = omega arith
   plain_turns how (Unshare i) busy may now knows clear = absurd (busy refl)
   plain_turns how (UnshareLast i) busy may now knows clear = absurd (busy refl)
-  plain_turns how (Look2 i) busy may now knows clear = omega (arith, few2)
+  plain_turns how (Look2 i) busy may now knows clear = omega arith
   plain_turns how (Mask2 i us) busy may now knows clear = omega arith
   plain_turns how (Depart2 i us) busy may now knows clear = omega arith
   plain_turns how Unlock busy may now knows clear = absurd (busy refl)
@@ -219,17 +219,14 @@ woken_far n aim (Recheck f) = omega (arith, by_few (knowledge aim) 8 8 7 8 (omeg
 
 module _ (recursive : Bool) (t : ℕ) (l : Lock) (sound : IsSound l) (other1 other2 : ℕ) where
   abbrev pub view : Lock → View
-  view x = record { word = x.word; first = length x.first; second = length x.second; other1 = other1; other2 = other2 }
+  view x = record { word = x.word; first = length x.first; other1 = other1; other2 = other2 }
 
   few_first : length l.first ≤ length l.roles
   few_first = few1 recursive t l sound
 
-  few_second : length l.second ≤ 1
-  few_second = omega (arith, sound.waiting2.count, sound.fits.announced2, sound.fits.bit2)
-
   step_turns : (how : Knowledge) (step : Step) → Allowed recursive t step l → phase_before recursive t l sound step ≢ Idle → is_deadline step ≡ false → GoesBy how step l.word → IsClear (crossing step) (view l)
       → near (length l.roles) (view (after t step l)) (phase_after recursive t l sound step) + fall step ≤ near_rank (length l.roles) (view l) (phase_before recursive t l sound step) how
-  step_turns how (Alone k) may busy now knows clear = plain_turns recursive (length l.roles) (view l) (λ c. total c l.roles) few_first few_second how k busy may.1 now knows clear
+  step_turns how (Alone k) may busy now knows clear = plain_turns recursive (length l.roles) (view l) (λ c. total c l.roles) few_first how k busy may.1 now knows clear
   step_turns how (List_changes (Join1 m)) may busy now knows clear = omega arith
   step_turns how (List_changes (Join2 f)) may busy now knows clear = omega arith
   step_turns how (List_changes (Quit1 m i)) may busy now knows clear = omega arith
@@ -237,7 +234,7 @@ module _ (recursive : Bool) (t : ℕ) (l : Lock) (sound : IsSound l) (other1 oth
   step_turns how (List_changes (Quit2 f i)) may busy now knows clear = omega arith
   step_turns how (Take1 s i v m stay) may busy now knows clear =
       omega (arith, length-remove l.first i (slice_get_within l.first i v may.1.waiter), ap (λ us. length us) (taking_taken s v m), length-append s.taken (v ∷ []))
-  step_turns how (Take2 o v f stay) may busy now knows clear = omega (arith, length-remove l.second 0 (slice_get_within l.second 0 v may.1))
+  step_turns how (Take2 o v f stay) may busy now knows clear = omega arith
   step_turns how (Store e s) may busy now knows clear = omega arith
   step_turns how (Wake o v us k stay) may busy now knows clear = omega arith
   step_turns how (Pass o v us) may busy now knows clear = omega arith

@@ -12,7 +12,7 @@ use Rattle.parking_lot_rules.specs.Runs.{IsReached}
 use Rattle.parking_lot_rules.specs.Ranks.{to_come, by_stay}
 use Rattle.parking_lot_rules.specs.Aims.{Aim, Knowledge, New, Old, Set, knowledge, by, apart, far_rank, looking, looks_of, most_looks, far_steps}
 use Rattle.parking_lot_rules.specs.Agenda.{Call, Acquire, Release, Weaken, Strengthen, first_rank, cost, Stage, Rests, Begins, Works, Scene, phase_of, lock_of, phase, lock, threads, stage_steps, far, to_do, sum_to, share, all_steps}
-use Rattle.parking_lot_rules.specs.Drains.{most_of_a_call, underway, unanswered, all_unanswered, IsProper, StepsAreFew, IsShort, VisitsAreShort}
+use Rattle.parking_lot_rules.specs.Drains.{most_of_a_call, underway, unanswered, all_unanswered, IsProper, StepsAreFew, AnyMayBeStepped, IsShort, VisitsAreShort}
 use Rattle.parking_lot_rules.proofs.Running.{reached_sound}
 use Rattle.parking_lot_rules.proofs.Ranking.{to_come_few}
 use Rattle.parking_lot_rules.proofs.Aiming.{looks_few, looking_few, by_few}
@@ -104,18 +104,20 @@ sum_scaled f g m zero less = omega arith
 sum_scaled f g m (suc n) less = omega (arith, sum_scaled f g m n less, less n, mul-add m (sum_to g n) (g n))
 
 pub steps_are_few : StepsAreFew
-steps_are_few bucket recursive t s reached proper = ⊎_elim
-    (λ none. omega (arith, ap (λ n. sum_to (share bucket s t) n) none))
-    (λ some. sum_scaled (share bucket s t) (unanswered s) (most_of_a_call (threads s)) (threads s) (λ u.
+steps_are_few bucket recursive s reached proper = ⊎_elim
+    (λ none. omega (arith, ap (λ n. sum_to (far s) n) none))
+    (λ some. sum_scaled (far s) (unanswered s) (most_of_a_call (threads s)) (threads s) (λ u.
     let counted = phase_counted bucket recursive s reached u in
     omega (
       arith,
-      share_far bucket recursive s reached t u,
       steps_few (threads s) (s.aims u) (phase s u) (s.stages u) some counted.0 counted.1 (proper u),
       calls_few (threads s) (s.calls u) some,
       mul-add (most_of_a_call (threads s)) (underway (s.stages u)) (length (s.calls u)),
     )))
     (none_or (threads s))
+
+pub any_may_be_stepped : AnyMayBeStepped
+any_may_be_stepped bucket recursive t s reached = sum_more (share bucket s t) (far s) (threads s) (share_far bucket recursive s reached t)
 
 -- a square is large
 square : (m : ℕ) → 4 * m + 4 ≤ (m + 2) * (m + 2)

@@ -90,7 +90,6 @@ module _ (bucket : ℕ → ℕ) (recursive : ℕ → Bool) (u j : ℕ) (k : Plai
   same_view i t = λ x. record {
     word = put-self old.world.words j (written k (old.world.words j)) (late_writes k late (old.world.words j)) i x;
     first = length (queues (key i First) x);
-    second = length (queues (key i Second) x);
     other1 = other_in (entered (bucket (key i First)) x) t;
     other2 = other_in (entered (bucket (key i Second)) x) t;
   }
@@ -246,8 +245,9 @@ turns_are_few bucket recursive s last t who (Takes turn ∷ es) reached goes =
     )
 turns_are_few bucket recursive s last t who (Hands_on stop u ∷ es) reached goes = omega (
   arith,
-  switches_keep bucket recursive t u stop s reached goes.0,
-  turns_are_few bucket recursive (record s { aims = aims_after s t stop }) last u who es reached goes.1,
+  switches_keep bucket recursive t u stop s goes.0 reached goes.1,
+  turns_are_few bucket recursive goes.0 last u who es (subst (λ (x : Scene). IsReached bucket recursive x.world) (sym goes.1.same) reached) goes.2,
+  ap (λ (x : Scene). most_of_a_deadline (threads x) * deadlines es) goes.1.same,
 )
 turns_are_few bucket recursive s last t who (Passes u j step ∷ es) reached goes =
     let next = goes.0 in

@@ -31,6 +31,7 @@ pub mod Counting
 pub mod Switching
 pub mod Bounding
 pub mod Draining
+pub mod Sectioning
 pub mod MutexCasing
 pub mod MutexRanking
 pub mod MutexCrossing

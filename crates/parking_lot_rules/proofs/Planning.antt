@@ -51,7 +51,7 @@ module _ (f g x : ℕ → ℕ) (t : ℕ) (others : (u : ℕ) → u ≢ t → g u
   sum_others zero h = omega arith
   sum_others (suc n) h = omega (arith, sum_others n (omega (arith, h)), others n (λ e. omega (arith, h, e)))
 
-  sum_falls : (k n : ℕ) → t < n → g t + k + 1 ≤ f t → sum_to g n + k + 1 ≤ sum_to f n + sum_to x n
+  pub sum_falls : (k n : ℕ) → t < n → g t + k + 1 ≤ f t → sum_to g n + k + 1 ≤ sum_to f n + sum_to x n
   sum_falls k zero h own = absurd (omega (arith, h))
   sum_falls k (suc n) h own = ⊎_elim
       (λ e. omega (arith, sum_others n (omega (arith, e)), own, ap g e, ap f e))
@@ -221,6 +221,20 @@ module _ (bucket : ℕ → ℕ) (recursive : ℕ → Bool) (j t : ℕ) (step : S
           aims)
           (is_at u p e)
 
+  -- the stepped thread is in the phase that the step leads to, or in no call
+  pub own_phase : (phase_of (slice_get next.places t) ≡ phase_after (recursive j) t (lock_at w j) (sound.sound j) step) ⊎ (phase_of (slice_get next.places t) ≡ Idle)
+  own_phase = go (slice_get next.places t) refl
+    where
+      go : (o : Option Place) → slice_get next.places t ≡ o → (phase_of (slice_get next.places t) ≡ phase_after (recursive j) t (lock_at w j) (sound.sound j) step) ⊎ (phase_of (slice_get next.places t) ≡ Idle)
+      go None e = inr (ap phase_of e)
+      go (Some p) e = ⊎_elim
+          (λ x. inl (ap phase_of e ∙ sym (role_after (recursive j) t (lock_at w j) (sound.sound j) step may.allowed (role_at j p) x.1 ∙ phase_here j p x.0)))
+          (λ x.
+          let q = x.1 in
+          let there : IsThere j q.0 = subst (IsThere j) (same_Some may.place q.0 (sym may.here ∙ q.1)) may.there in
+          inr (ap phase_of e ∙ (sym (phase_here p.at p refl) ∙ (ap (λ (r : Role). r.does) (sym q.2) ∙ not_seen p.at j q.0 x.0 there))))
+          (is_at t p e)
+
   -- who leaves a section had entered its bucket
   leaves_own : (k : Key) → crossing step ≡ Goes k → w.entered (bucket (key j k)) ≡ Some t
   leaves_own k goes = sound.entered j k t (one k (subst (λ c. WasIn c k (weighs (section k) (slice_get (lock_at w j).roles t))) goes (step_was (recursive j) t (lock_at w j) k step may.allowed)))
@@ -271,7 +285,6 @@ module _ (bucket : ℕ → ℕ) (recursive : ℕ → Bool) (j t : ℕ) (step : S
   same_view = λ i. record {
     word = (made.here i).word;
     first = length (made.here i).first;
-    second = length (made.here i).second;
     other1 = same_others First i;
     other2 = same_others Second i;
   }

@@ -1,5 +1,5 @@
 -- Where the stepped thread has stopped, another may be stepped, and the steps of all are no more.
-use Rattle.std.proofs.Common.{◌≡◌, ◌≢◌, ℕ, zero, suc, ◌+◌, ◌-◌, ◌*◌, ◌<◌, ◌≤◌, ◌⊎◌, ⊎_elim, Bool, IsTrue, ◌==◌, List, length, map, Option, Some, None, option_map, slice_get, sum_by, refl, sym, ap, ◌∙◌, subst, inl, inr, arith, eq-eqb}
+use Rattle.std.proofs.Common.{◌≡◌, ◌≢◌, ℕ, zero, suc, ◌+◌, ◌-◌, ◌*◌, ◌<◌, ◌≤◌, ◌⊎◌, ⊎_elim, Bool, true, false, IsTrue, ◌==◌, List, length, map, Option, Some, None, option_map, slice_get, sum_by, refl, sym, ap, ◌∙◌, subst, inl, inr, arith, eq-eqb}
 use Rattle.std.proofs.lemmas.Bool.{cases_eq}
 use Rattle.std.proofs.lemmas.List.{length-map}
 use Rattle.std.proofs.lemmas.Option.{slice_get-map}
@@ -10,9 +10,11 @@ use Rattle.parking_lot_rules.specs.Plain.{bars}
 use Rattle.parking_lot_rules.specs.World.{Place, World, seen, role_at, lock_at, family}
 use Rattle.parking_lot_rules.specs.Runs.{IsReached}
 use Rattle.parking_lot_rules.specs.Laws.{is_asleep}
-use Rattle.parking_lot_rules.specs.Aims.{Aim, Watches, Enters, Knowledge, New, Old, Set, knowledge, View, asks, drains, far_rank, near_rank, looking, looks_of, most_looks, far_steps, near_steps}
+use Rattle.parking_lot_rules.specs.Ranks.{to_come}
+use Rattle.parking_lot_rules.specs.Sights.{Sight, Blind, Sees}
+use Rattle.parking_lot_rules.specs.Aims.{Aim, Watches, Enters, Knowledge, New, Old, Set, knowledge, by, View, asks, drains, far_rank, near_rank, looking, looks_of, most_looks, far_steps, near_steps}
 use Rattle.parking_lot_rules.specs.Agenda as agenda
-use Rattle.parking_lot_rules.specs.Agenda.{Call, first_rank, cost, Stage, Rests, Begins, Works, Scene, phase_of, lock_of, phase, lock, threads, other_in, view_at, stage_steps, far, near_of, to_do, sum_to, share, all_steps, MustEnter, Stop, Stops, aims_after, SwitchesKeep}
+use Rattle.parking_lot_rules.specs.Agenda.{Call, first_rank, cost, Stage, Rests, Begins, Works, Scene, phase_of, lock_of, phase, lock, threads, other_in, view_at, stage_steps, far, near_of, to_do, sum_to, share, all_steps, MustEnter, Stop, Stops, aims_after, IsLike, HandsOn, SwitchesKeep}
 use Rattle.parking_lot_rules.proofs.Families.{put-same, put-other}
 use Rattle.parking_lot_rules.proofs.Running.{reached_sound}
 use Rattle.parking_lot_rules.proofs.Aiming.{asks_are, drains_are, asks_few, drains_few, checks1_few, checks2_few, looks_few, looking_few}
@@ -22,7 +24,7 @@ use Rattle.parking_lot_rules.proofs.Counting.{IsCounted, AreCounted, taken_few, 
 -- who is stepped has no more to do than if it weren't
 module _ (l : Lock) (sound : IsSound l) (counted : AreCounted l) (other1 other2 : ℕ) where
   abbrev v : View
-  v = record { word = l.word; first = length l.first; second = length l.second; other1 = other1; other2 = other2 }
+  v = record { word = l.word; first = length l.first; other1 = other1; other2 = other2 }
 
   rank_least : (t : ℕ) (r : Role) → slice_get l.roles t ≡ Some r → (how : Knowledge) → near_rank (length l.roles) v r.does how ≤ far_rank (length l.roles) r.does how
   rank_least t r at how = go r.does refl how
@@ -39,7 +41,6 @@ module _ (l : Lock) (sound : IsSound l) (counted : AreCounted l) (other1 other2 
       go (Scans1 c x u w us) is how =
           let at_scan : slice_get l.roles t ≡ Some (record { owns = r.owns; does = Scans1 c x u w us }) = at ∙ ap (λ p. Some (record { owns = r.owns; does = p })) is in
           omega (arith, taken_few l sound t (record { owns = r.owns; cause = c; shared = x; upgradable = u; writer = w; taken = us }) at_scan (subst (IsCounted (length l.roles)) is (counted t r at)))
-      go (Scans2 us) is how = omega (arith, sound.waiting2.count, sound.fits.announced2, sound.fits.bit2)
       go p is how = omega arith
 
 steps_least : (n : ℕ) (v : View) (aim : Aim) (p : Phase) → near_rank n v p (knowledge aim) ≤ far_rank n p (knowledge aim) → near_steps n v aim p ≤ far_steps n aim p
@@ -110,60 +111,91 @@ before_same n v (Taken2 f i Late) how Second must one two = omega arith
 before_same n v Owes2 how Second must one two = omega arith
 before_same n v p how k must one two = absurd must
 
-module _ (bucket : ℕ → ℕ) (recursive : ℕ → Bool) (s : Scene) (reached : IsReached bucket recursive s.world) (t u : ℕ) where
-  switched : (aims : ℕ → Aim) → ((x : ℕ) → x ≢ t → aims x ≡ s.aims x) → far (record s { aims = aims }) t ≤ near_of bucket s t → all_steps bucket (record s { aims = aims }) u ≤ all_steps bucket s t
-  switched aims same less = sum_more (share bucket (record s { aims = aims }) u) (share bucket s t) (threads s) (λ x. ⊎_elim
+sights : (a b : Aim) (x y : ℕ) → IsLike a b → by (knowledge a) x x y ≡ by (knowledge b) x x y
+sights Enters Enters x y like = refl
+sights (Watches (Blind k)) (Watches (Blind m)) x y like = refl
+sights (Watches (Blind k)) (Watches (Sees true m)) x y like = refl
+sights (Watches (Blind k)) (Watches (Sees false m)) x y like = refl
+sights (Watches (Sees true k)) (Watches (Blind m)) x y like = refl
+sights (Watches (Sees true k)) (Watches (Sees true m)) x y like = refl
+sights (Watches (Sees true k)) (Watches (Sees false m)) x y like = refl
+sights (Watches (Sees false k)) (Watches (Blind m)) x y like = refl
+sights (Watches (Sees false k)) (Watches (Sees true m)) x y like = refl
+sights (Watches (Sees false k)) (Watches (Sees false m)) x y like = refl
+sights (Watches a) Enters x y like = absurd like
+sights Enters (Watches b) x y like = absurd like
+
+-- what matters of an aim that isn't the stepped thread's
+like_far : (n : ℕ) (a b : Aim) (p : Phase) → IsLike a b → far_steps n a p ≡ far_steps n b p
+like_far n (Watches x) (Watches y) (Seeks m c) like = omega (arith, sights (Watches x) (Watches y) (8 + to_come m) (7 + to_come m) like)
+like_far n (Watches x) (Watches y) (Drains f c) like = omega (arith, sights (Watches x) (Watches y) 8 7 like)
+like_far n (Watches x) (Watches y) p like = refl
+like_far n Enters Enters p like = refl
+like_far n (Watches x) Enters p like = absurd like
+like_far n Enters (Watches y) p like = absurd like
+
+like_looks : (a b : Aim) → IsLike a b → most_looks a ≡ most_looks b
+like_looks (Watches x) (Watches y) like = refl
+like_looks Enters Enters like = refl
+like_looks (Watches x) Enters like = absurd like
+like_looks Enters (Watches y) like = absurd like
+
+module _ (bucket : ℕ → ℕ) (recursive : ℕ → Bool) (s : Scene) (reached : IsReached bucket recursive s.world) (t u : ℕ) (aims : ℕ → Aim) where
+  abbrev handed : Scene
+  handed = record { world = s.world; aims = aims; stages = s.stages; calls = s.calls }
+
+  same_far : (x : ℕ) (a : Aim) → IsLike (aims x) a → far handed x ≡ far_steps (threads s) a (phase s x) + stage_steps (threads s) (most_looks a) (s.stages x) + to_do s x
+  same_far x a like = omega (arith, like_far (threads s) (aims x) a (phase s x) like, ap (λ k. stage_steps (threads s) k (s.stages x)) (like_looks (aims x) a like))
+
+  switched : ((x : ℕ) → x ≢ t → IsLike (aims x) (s.aims x)) → far handed t ≤ near_of bucket s t → all_steps bucket handed u ≤ all_steps bucket s t
+  switched same less = sum_more (share bucket handed u) (share bucket s t) (threads s) (λ x. ⊎_elim
       (λ e. omega (
         arith,
-        share_far bucket recursive (record s { aims = aims }) reached u x,
+        share_far bucket recursive handed reached u x,
         less,
-        ap (λ y. far (record s { aims = aims }) y) e,
+        ap (λ y. far handed y) e,
         ap (λ y. share bucket s t y) e,
         share_own bucket s t,
       ))
-      (λ ne. omega (
-        arith,
-        share_far bucket recursive (record s { aims = aims }) reached u x,
-        share_other bucket s t x ne,
-        ap (λ a. far_steps (threads s) a (phase s x)) (same x ne),
-        ap (λ a. stage_steps (threads s) (most_looks a) (s.stages x)) (same x ne),
-      ))
+      (λ ne. omega (arith, share_far bucket recursive handed reached u x, share_other bucket s t x ne, same_far x (s.aims x) (same x ne)))
       (cases_eq x t))
 
   -- with the thread's aim as it was, or decided
-  stays : far s t ≤ near_of bucket s t → all_steps bucket s u ≤ all_steps bucket s t
-  stays less = switched s.aims (λ x ne. refl) less
+  stays : ((x : ℕ) → IsLike (aims x) (s.aims x)) → far s t ≤ near_of bucket s t → all_steps bucket handed u ≤ all_steps bucket s t
+  stays like less = switched (λ x ne. like x) (omega (arith, less, same_far t (s.aims t) (like t)))
 
-  decides : far_rank (threads s) (phase s t) Set ≤ near_rank (threads s) (view_at bucket s.world (lock s t) t) (phase s t) (knowledge (s.aims t))
-      → all_steps bucket (record s { aims = put s.aims t Enters }) u ≤ all_steps bucket s t
-  decides less = switched (put s.aims t Enters) (λ x ne. put-other s.aims t Enters x ne) (omega (
+  decides : ((x : ℕ) → IsLike (aims x) (put s.aims t Enters x)) → far_rank (threads s) (phase s t) Set ≤ near_rank (threads s) (view_at bucket s.world (lock s t) t) (phase s t) (knowledge (s.aims t))
+      → all_steps bucket handed u ≤ all_steps bucket s t
+  decides like less = switched
+      (λ x ne. subst (IsLike (aims x)) (put-other s.aims t Enters x ne) (like x))
+      (omega (
+        arith,
+        less,
+        same_far t Enters (subst (IsLike (aims t)) (put-same s.aims t Enters) (like t)),
+        looking_few (phase s t) 0,
+        stage_more (threads s) 0 (looks_of (s.aims t)) (s.stages t) (omega arith),
+      ))
+
+  by_stop : (stop : Stop) → Stops bucket s t stop → ((x : ℕ) → IsLike (aims x) (aims_after s t stop x)) → all_steps bucket handed u ≤ all_steps bucket s t
+  by_stop agenda.Asleep stops like = stays like (omega (
     arith,
-    less,
-    ap (λ a. far_steps (threads s) a (phase s t)) (put-same s.aims t Enters),
-    ap (λ a. stage_steps (threads s) (most_looks a) (s.stages t)) (put-same s.aims t Enters),
-    looking_few (phase s t) 0,
-    stage_more (threads s) 0 (looks_of (s.aims t)) (s.stages t) (omega arith),
+    asleep_none (threads s) (s.aims t) (phase s t) stops.0,
+    ap (λ x. stage_steps (threads s) (most_looks (s.aims t)) x) stops.1,
+    ap (λ x. stage_steps (threads s) (looks_of (s.aims t)) x) stops.1,
   ))
+  by_stop agenda.Out stops like =
+      let none = ap (λ p. far_steps (threads s) (s.aims t) p) stops.0 in
+      stays like (⊎_elim
+      (λ e. omega (arith, none, ap (λ x. stage_steps (threads s) (most_looks (s.aims t)) x) e, ap (λ x. stage_steps (threads s) (looks_of (s.aims t)) x) e))
+      (λ e. omega (arith, none, ap (λ x. stage_steps (threads s) (most_looks (s.aims t)) x) e, ap (λ x. stage_steps (threads s) (looks_of (s.aims t)) x) e))
+      stops.1)
+  by_stop (agenda.Before_call job) stops like = decides like (omega (arith, ap (λ p. far_rank (threads s) p Set) stops.0))
+  by_stop (agenda.Before k) stops like =
+      let v = view_at bucket s.world (lock s t) t in
+      decides like (before_same (threads s) v (phase s t) (knowledge (s.aims t)) k stops.0
+      (λ e. subst (λ x. other_in (s.world.entered (bucket (key (lock s t) x))) t ≡ 1) e stops.1)
+      (λ e. subst (λ x. other_in (s.world.entered (bucket (key (lock s t) x))) t ≡ 1) e stops.1))
 
 pub switches_keep : SwitchesKeep
-switches_keep bucket recursive t u agenda.Asleep s reached stops = stays bucket recursive s reached t u (omega (
-  arith,
-  asleep_none (threads s) (s.aims t) (phase s t) stops.0,
-  ap (λ x. stage_steps (threads s) (most_looks (s.aims t)) x) stops.1,
-  ap (λ x. stage_steps (threads s) (looks_of (s.aims t)) x) stops.1,
-))
-switches_keep bucket recursive t u agenda.Out s reached stops =
-    let none = ap (λ p. far_steps (threads s) (s.aims t) p) stops.0 in
-    stays bucket recursive s reached t u (⊎_elim
-    (λ e. omega (arith, none, ap (λ x. stage_steps (threads s) (most_looks (s.aims t)) x) e, ap (λ x. stage_steps (threads s) (looks_of (s.aims t)) x) e))
-    (λ e. omega (arith, none, ap (λ x. stage_steps (threads s) (most_looks (s.aims t)) x) e, ap (λ x. stage_steps (threads s) (looks_of (s.aims t)) x) e))
-    stops.1)
-switches_keep bucket recursive t u (agenda.Before_call job) s reached stops = decides bucket recursive s reached t u (omega (
-  arith,
-  ap (λ p. far_rank (threads s) p Set) stops.0,
-))
-switches_keep bucket recursive t u (agenda.Before k) s reached stops =
-    let v = view_at bucket s.world (lock s t) t in
-    decides bucket recursive s reached t u (before_same (threads s) v (phase s t) (knowledge (s.aims t)) k stops.0
-    (λ e. subst (λ x. other_in (s.world.entered (bucket (key (lock s t) x))) t ≡ 1) e stops.1)
-    (λ e. subst (λ x. other_in (s.world.entered (bucket (key (lock s t) x))) t ≡ 1) e stops.1))
+switches_keep bucket recursive t u stop old new reached hands =
+    subst (λ s. all_steps bucket s u ≤ all_steps bucket old t) (sym hands.same) (by_stop bucket recursive old reached t u new.aims stop hands.stops hands.aims)

@@ -25,11 +25,11 @@ module _ (bucket : ℕ → ℕ) (recursive : ℕ → Bool) (t j : ℕ) (step : S
   abbrev pub new : Scene
   new = record { world = world_after bucket j t step old.world; aims = aims; stages = stages; calls = old.calls }
 
-  len : threads new ≡ threads old
+  pub len : threads new ≡ threads old
   len = places_length bucket recursive j t step old.world sound may
 
   -- what others have to do
-  other : (u : ℕ) → u ≢ t → stages u ≡ old.stages u → far new u ≤ far old u + extra step u
+  pub other : (u : ℕ) → u ≢ t → stages u ≡ old.stages u → far new u ≤ far old u + extra step u
   other u ne same = ⊎_elim
       (λ e. omega (
         arith,
@@ -79,29 +79,26 @@ module _ (bucket : ℕ → ℕ) (recursive : ℕ → Bool) (t j : ℕ) (step : S
       → all_steps bucket new t + 1 ≤ all_steps bucket old t
   step_lowers same own = all_fall bucket old new t (paid step) (extra step) len within (λ u ne. other u ne (same u ne)) (sum_paid step (threads old)) (omega (arith, own, own_left))
 
+  pub phase_is : lock old t ≡ j → phase old t ≡ phase_before (recursive j) t here (sound.sound j) step
+  phase_is at_lock =
+      let at : slice_get here.roles t ≡ Some (role_at j may.place) = slice_get-map (role_at j) old.world.places t ∙ ap (option_map (role_at j)) may.here in
+      let was = role_before (recursive j) t here (sound.sound j) step may.allowed (role_at j may.place) at in
+      let seen_here = phase_here bucket recursive j t step old.world sound may j may.place (sym (ap lock_of may.here) ∙ at_lock) in
+      ap phase_of may.here ∙ sym (was ∙ seen_here)
+
   -- in the middle of a call
   pub next_lowers : lock old t ≡ j → old.stages t ≡ Works → phase old t ≢ Idle → is_deadline step ≡ false → GoesBy (knowledge (old.aims t)) step (old.world.words j) → ((u : ℕ) → stages u ≡ old.stages u)
       → all_steps bucket new t + 1 ≤ all_steps bucket old t
   next_lowers at_lock works busy now knows same = step_lowers (λ u ne. same u) (omega (
     arith,
     own_falls (recursive j) t (lock_at old.world j) (sound.sound j) (other_in (old.world.entered (bucket (key j First))) t) (other_in (old.world.entered (bucket (key j Second))) t) (old.aims t) sight step sees may.allowed
-        (λ e. busy (is_phase ∙ e)) now knows (clear bucket recursive j t step old.world sound may),
+        (λ e. busy (phase_is at_lock ∙ e)) now knows (clear bucket recursive j t step old.world sound may),
     ap (λ n. near_steps n (view_at bucket old.world j t) (old.aims t) (phase old t)) (length-map old.world.places (role_at j)),
     ap (λ i. near_steps (threads old) (view_at bucket old.world i t) (old.aims t) (phase old t)) at_lock,
-    ap (λ p. near_steps (length (lock_at old.world j).roles) (view_at bucket old.world j t) (old.aims t) p) is_phase,
+    ap (λ p. near_steps (length (lock_at old.world j).roles) (view_at bucket old.world j t) (old.aims t) p) (phase_is at_lock),
     ap (λ s. stage_steps (threads old) (looks_left sight) s) (same t ∙ works),
     ap (λ s. stage_steps (threads old) (looks_of (old.aims t)) s) works,
   ))
-    where
-      at_place : slice_get old.world.places t ≡ Some may.place
-      at_place = may.here
-
-      is_phase : phase old t ≡ phase_before (recursive j) t (lock_at old.world j) (sound.sound j) step
-      is_phase =
-          let at : slice_get (lock_at old.world j).roles t ≡ Some (role_at j may.place) = slice_get-map (role_at j) old.world.places t ∙ ap (option_map (role_at j)) at_place in
-          let was = role_before (recursive j) t (lock_at old.world j) (sound.sound j) step may.allowed (role_at j may.place) at in
-          let seen_here = phase_here bucket recursive j t step old.world sound may j may.place (sym (ap lock_of at_place) ∙ at_lock) in
-          ap phase_of at_place ∙ sym (was ∙ seen_here)
 
   -- the first step of a call
   pub first_lowers : (c : Call) → old.stages t ≡ Begins (j, c) → IsFirst c step → stages t ≡ Works → ((u : ℕ) → u ≢ t → stages u ≡ old.stages u) → all_steps bucket new t + 1 ≤ all_steps bucket old t

@@ -94,7 +94,6 @@ abbrev pub view_at : (ℕ → ℕ) → World → ℕ → ℕ → View
 view_at bucket w j t = record {
   word = w.words j;
   first = length (w.queues (key j First));
-  second = length (w.queues (key j Second));
   other1 = other_in (w.entered (bucket (key j First))) t;
   other2 = other_in (w.entered (bucket (key j Second))) t;
 }
@@ -213,7 +212,20 @@ aims_after s t Out = s.aims
 aims_after s t (Before_call job) = put s.aims t Enters
 aims_after s t (Before k) = put s.aims t Enters
 
--- Where the stepped thread has stopped, another may be stepped, whatever that one has seen, and the steps of all are no more.
+-- What a thread has seen may be out of date once others have been stepped.
+abbrev pub IsLike : Aim → Aim → Type 0
+IsLike (Watches sight) (Watches other) = Unit {0}
+IsLike Enters Enters = Unit {0}
+IsLike (Watches sight) Enters = ⊥
+IsLike Enters (Watches sight) = ⊥
+
+-- the stepped thread has stopped, and whatever others have seen may be out of date from here on
+pub record HandsOn (bucket : ℕ → ℕ) (t : ℕ) (stop : Stop) (old new : Scene) : Type 0 where
+  pub stops : Stops bucket old t stop
+  pub aims : (u : ℕ) → IsLike (new.aims u) (aims_after old t stop u)
+  pub same : new ≡ record old { aims = new.aims }
+
+-- Then another may be stepped, and the steps of all are no more.
 abbrev pub SwitchesKeep : Type 0
-SwitchesKeep = (bucket : ℕ → ℕ) (recursive : ℕ → Bool) (t u : ℕ) (stop : Stop) (s : Scene) → IsReached bucket recursive s.world → Stops bucket s t stop
-    → all_steps bucket (record s { aims = aims_after s t stop }) u ≤ all_steps bucket s t
+SwitchesKeep = (bucket : ℕ → ℕ) (recursive : ℕ → Bool) (t u : ℕ) (stop : Stop) (old new : Scene) → IsReached bucket recursive old.world → HandsOn bucket t stop old new
+    → all_steps bucket new u ≤ all_steps bucket old t

@@ -30,13 +30,15 @@ by New new old set = new
 by Old new old set = old
 by Set new old set = set
 
--- The rank of a thread in a phase, among n threads. One that goes through a list pays 18 for each waiter that it may take, and 17 for each
--- that it has taken; of the second list it takes one at most.
+-- The rank of a thread in a phase, among n threads, if it isn't being stepped. One that goes through a list pays 18 for each waiter that it
+-- may take, and 17 for each that it has taken; of the second list it takes one at most.
 abbrev pub apart : ℕ → Phase → ℕ
+apart n (Enters1 mode woken) = 9 + to_come mode
+apart n (Enters2 from woken) = 9
 apart n (Queued2 from stay) = by_stay stay 1 (18 * n + 10) (18 * n + 9)
 apart n (Scans1 cause shared upgradable writer taken) = 18 * (n - length taken) + 17 * length taken + 3
 apart n Owes2 = 22
-apart n (Scans2 taken) = 18 + 17 * length taken + 3
+apart n (Scans2 taken) = 18 * (1 - length taken) + 17 * length taken + 3
 apart n phase = worst n phase
 
 -- The same of the thread that is being stepped, and knows the word. `other` isn't 0 where another thread has entered the bucket: it then
@@ -53,12 +55,11 @@ checks1 mode w = where_some (bars mode w) (where_some w.parked1 3 (1 + asks 0 mo
 abbrev pub checks2 : Word → ℕ
 checks2 w = where_some w.readers (where_some w.parked2 3 (1 + drains 0 w)) (1 + drains 0 w)
 
--- What a thread has before it that is being stepped: the word, how many are in each list, and whether another has entered the bucket of
--- the first key, or of the second.
+-- What a thread has before it that is being stepped: the word, how many are in the first list, and whether another has entered the bucket
+-- of the first key, or of the second.
 pub record View : Type 0 where
   pub word : Word
   pub first : ℕ
-  pub second : ℕ
   pub other1 : ℕ
   pub other2 : ℕ
 
@@ -68,7 +69,6 @@ near n v (Enters1 mode woken) = checks1 mode v.word
 near n v (Drains from woken) = drains v.other2 v.word
 near n v (Enters2 from woken) = checks2 v.word
 near n v (Scans1 cause shared upgradable writer taken) = 18 * v.first + 17 * length taken + 3
-near n v (Scans2 taken) = 18 * v.second + 17 * length taken + 3
 near n v phase = apart n phase
 
 -- by what it knows

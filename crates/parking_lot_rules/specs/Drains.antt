@@ -1,11 +1,12 @@
 -- Whole runs in which one thread is stepped until it stops, and then another, and how many steps they take at most.
-use Rattle.std.specs.Prelude.{◌≡◌, ℕ, zero, suc, ◌+◌, ◌*◌, ◌<◌, ◌≤◌, ◌⊎◌, Bool, true, List, [], ◌∷◌, length}
-use Rattle.parking_lot_rules.specs.Roles.{Mode, Shared, Exclusive, Upgradable, Idle}
+use Rattle.std.specs.Prelude.{◌≡◌, ℕ, zero, suc, ◌+◌, ◌*◌, ◌<◌, ◌≤◌, ◌⊎◌, Bool, true, false, IsTrue, List, [], ◌∷◌, length}
+use Rattle.parking_lot_rules.specs.Roles.{Mode, Fresh, Back, Phase, Idle, Enters1, Checked1, Queued1, Taken1, Masks1, Leaves1, Enters2, Checked2, Queued2, Taken2, Leaves2, Scans1, Stored1, Scans2, Masked2}
 use Rattle.parking_lot_rules.specs.Steps.{Step}
 use Rattle.parking_lot_rules.specs.World.{world_after, MayStep}
 use Rattle.parking_lot_rules.specs.Runs.{IsReached}
 use Rattle.parking_lot_rules.specs.Ranks.{is_deadline}
-use Rattle.parking_lot_rules.specs.Agenda.{Call, Acquire, Release, cost, Stage, Rests, Begins, Works, Scene, phase, threads, sum_to, all_steps, Turn, Turned, Stop, Stops, aims_after}
+use Rattle.parking_lot_rules.specs.Sights.{Sight}
+use Rattle.parking_lot_rules.specs.Agenda.{Call, Acquire, Release, cost, Stage, Rests, Begins, Works, Scene, phase, threads, far, sum_to, all_steps, Turn, Next_step, Turned, Stop, HandsOn}
 
 -- the most steps of a call among n threads, whatever call it is and whatever comes to it
 abbrev pub most_of_a_call : ℕ → ℕ
@@ -31,9 +32,16 @@ all_unanswered s = sum_to (unanswered s) (threads s)
 abbrev pub IsProper : Scene → Type 0
 IsProper s = (u : ℕ) → (phase s u ≡ Idle) ⊎ (s.stages u ≡ Works)
 
--- At every moment all steps are no more than that many for each call that isn't answered.
+-- all steps where no thread is being stepped
+abbrev pub steps_of_all : Scene → ℕ
+steps_of_all s = sum_to (far s) (threads s)
+
+-- At every moment they are no more than that many for each call that isn't answered; and no more if some thread is being stepped.
 abbrev pub StepsAreFew : Type 0
-StepsAreFew = (bucket : ℕ → ℕ) (recursive : ℕ → Bool) (t : ℕ) (s : Scene) → IsReached bucket recursive s.world → IsProper s → all_steps bucket s t ≤ most_of_a_call (threads s) * all_unanswered s
+StepsAreFew = (bucket : ℕ → ℕ) (recursive : ℕ → Bool) (s : Scene) → IsReached bucket recursive s.world → IsProper s → steps_of_all s ≤ most_of_a_call (threads s) * all_unanswered s
+
+abbrev pub AnyMayBeStepped : Type 0
+AnyMayBeStepped = (bucket : ℕ → ℕ) (recursive : ℕ → Bool) (t : ℕ) (s : Scene) → IsReached bucket recursive s.world → all_steps bucket s t ≤ steps_of_all s
 
 -- The deadline of a thread that sleeps passes.
 pub record Expires (bucket : ℕ → ℕ) (recursive : ℕ → Bool) (u j : ℕ) (step : Step) (old new : Scene) : Type 0 where
@@ -55,7 +63,7 @@ pub data Event : Type 0 where
 abbrev pub GoesOn : (ℕ → ℕ) → (ℕ → Bool) → Scene → ℕ → List Event → Scene → ℕ → Type 0
 GoesOn bucket recursive s t [] last who = (s ≡ last) × (t ≡ who)
 GoesOn bucket recursive s t (Takes turn ∷ es) last who = (next : Scene) × (t < threads s) × Turned bucket recursive t turn s next × GoesOn bucket recursive next t es last who
-GoesOn bucket recursive s t (Hands_on stop u ∷ es) last who = Stops bucket s t stop × GoesOn bucket recursive (record s { aims = aims_after s t stop }) u es last who
+GoesOn bucket recursive s t (Hands_on stop u ∷ es) last who = (next : Scene) × HandsOn bucket t stop s next × GoesOn bucket recursive next u es last who
 GoesOn bucket recursive s t (Passes u j step ∷ es) last who = (next : Scene) × Expires bucket recursive u j step s next × GoesOn bucket recursive next t es last who
 
 -- how many turns, and how many deadlines
@@ -83,3 +91,31 @@ IsShort n mode = cost n (0, Acquire mode) + cost n (0, Release mode) + 100 ≤ 2
 
 abbrev pub VisitsAreShort : Type 0
 VisitsAreShort = (n : ℕ) (mode : Mode) → 1 ≤ n → IsShort n mode
+
+-- a thread is inside a section
+abbrev pub is_inside : Phase → Bool
+is_inside (Enters1 mode woken) = true
+is_inside (Checked1 mode) = true
+is_inside (Queued1 mode Fresh) = true
+is_inside (Queued1 mode Back) = true
+is_inside (Taken1 mode by mark Fresh) = true
+is_inside (Taken1 mode by mark Back) = true
+is_inside Masks1 = true
+is_inside Leaves1 = true
+is_inside (Enters2 from woken) = true
+is_inside (Checked2 from) = true
+is_inside (Queued2 from Fresh) = true
+is_inside (Queued2 from Back) = true
+is_inside (Taken2 from by Fresh) = true
+is_inside (Taken2 from by Back) = true
+is_inside (Leaves2 from) = true
+is_inside (Scans1 cause shared upgradable writer taken) = true
+is_inside (Stored1 taken) = true
+is_inside (Scans2 taken) = true
+is_inside (Masked2 taken) = true
+is_inside phase = false
+
+-- Each step of a thread inside a section lowers them too, so threads may be stepped out of their sections one after another, and no further.
+abbrev pub SectionsLower : Type 0
+SectionsLower = (bucket : ℕ → ℕ) (recursive : ℕ → Bool) (t : ℕ) (step : Step) (sight : Sight) (old new : Scene) → IsReached bucket recursive old.world → t < threads old → IsTrue (is_inside (phase old t))
+    → Turned bucket recursive t (Next_step step sight) old new → steps_of_all new + 1 ≤ steps_of_all old

@@ -1,6 +1,6 @@
 //! Laws of many locks and calls: how many steps all threads make together.
 ghost use Rattle.parking_lot_rules.specs.Agenda.{SwitchesKeep, TurnsLower};
-ghost use Rattle.parking_lot_rules.specs.Drains.{DeadlinesAddFew, StepsAreFew, TurnsAreFew, VisitsAreShort};
+ghost use Rattle.parking_lot_rules.specs.Drains.{AnyMayBeStepped, DeadlinesAddFew, SectionsLower, StepsAreFew, TurnsAreFew, VisitsAreShort};
 
 /// Whatever a thread does that is stepped alone, at any lock and in any of its calls, lowers the steps that all threads are still to make:
 /// each start, look, step at a lock, refusal and answer. A wake is paid for by the one that wakes.
@@ -12,6 +12,17 @@ pub fn turns_lower_all_steps()
 /// from there on, and the steps of all are no more.
 pub fn switches_keep_all_steps()
     ensures { SwitchesKeep }
+{}
+
+/// Whichever thread is stepped, all steps are no more than if none were.
+pub fn any_may_be_stepped()
+    ensures { AnyMayBeStepped }
+{}
+
+/// Each step of a thread that is inside a section lowers all steps, counted as if no thread were stepped. So threads may be stepped out of
+/// their sections one after another, and no further.
+pub fn sections_lower_all_steps()
+    ensures { SectionsLower }
 {}
 
 /// At every moment the steps of all threads are at most 396 for each thread, and 529, for each call that isn't answered: calls of every
