@@ -211,20 +211,20 @@ reached_step bucket recursive j t step w r may = record {
 }
 
 -- what a turn leaves is reached too, with as many threads
-abbrev GoesTo : (ℕ → ℕ) → (ℕ → Bool) → Scene → Scene → Type 0
+abbrev pub GoesTo : (ℕ → ℕ) → (ℕ → Bool) → Scene → Scene → Type 0
 GoesTo bucket recursive old new = IsReached bucket recursive new.world × (threads new ≡ threads old)
 
 same_world : (bucket : ℕ → ℕ) (recursive : ℕ → Bool) (old new : Scene) → IsReached bucket recursive old.world → new.world ≡ old.world → GoesTo bucket recursive old new
 same_world bucket recursive old new reached same = (subst (IsReached bucket recursive) (sym same) reached, ap (λ (w : World). length w.places) same)
 
-stepped_world : (bucket : ℕ → ℕ) (recursive : ℕ → Bool) (j t : ℕ) (step : Step) (old new : Scene) → IsReached bucket recursive old.world → MayStep bucket recursive j t step old.world → new.world ≡ world_after bucket j t step old.world
+pub stepped_world : (bucket : ℕ → ℕ) (recursive : ℕ → Bool) (j t : ℕ) (step : Step) (old new : Scene) → IsReached bucket recursive old.world → MayStep bucket recursive j t step old.world → new.world ≡ world_after bucket j t step old.world
     → GoesTo bucket recursive old new
 stepped_world bucket recursive j t step old new reached may is = (
   subst (IsReached bucket recursive) (sym is) (reached_step bucket recursive j t step old.world reached may),
   ap (λ (w : World). length w.places) is ∙ places_length bucket recursive j t step old.world (reached_sound bucket recursive old.world reached) may,
 )
 
-turned_world : (bucket : ℕ → ℕ) (recursive : ℕ → Bool) (t : ℕ) (turn : Turn) (old new : Scene) → IsReached bucket recursive old.world → Turned bucket recursive t turn old new → GoesTo bucket recursive old new
+pub turned_world : (bucket : ℕ → ℕ) (recursive : ℕ → Bool) (t : ℕ) (turn : Turn) (old new : Scene) → IsReached bucket recursive old.world → Turned bucket recursive t turn old new → GoesTo bucket recursive old new
 turned_world bucket recursive t (Look sight) old new reached turned = same_world bucket recursive old new reached (ap (λ (s : Scene). s.world) turned.4)
 turned_world bucket recursive t Start old new reached turned = same_world bucket recursive old new reached (ap (λ (s : Scene). s.world) turned.5)
 turned_world bucket recursive t (First_step step sight) old new reached turned = stepped_world bucket recursive turned.0.0 t step old new reached turned.3.may turned.3.world

@@ -32,6 +32,7 @@ pub mod Switching
 pub mod Bounding
 pub mod Draining
 pub mod Sectioning
+pub mod Propering
 pub mod MutexCasing
 pub mod MutexRanking
 pub mod MutexCrossing

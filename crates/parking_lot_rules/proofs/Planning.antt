@@ -97,7 +97,7 @@ after_length recursive t (Wake o v us k stay) l = length-set (slice_set l.roles 
 after_length recursive t (Pass o v us) l = length-set l.roles t _
 
 -- what stands behind a role
-map_got : (i : ℕ) (ps : List Place) (u : ℕ) (r : Role) → slice_get (map (role_at i) ps) u ≡ Some r → (p : Place) × (slice_get ps u ≡ Some p) × (role_at i p ≡ r)
+pub map_got : (i : ℕ) (ps : List Place) (u : ℕ) (r : Role) → slice_get (map (role_at i) ps) u ≡ Some r → (p : Place) × (slice_get ps u ≡ Some p) × (role_at i p ≡ r)
 map_got i ps u r at = go (slice_get ps u) refl (sym (slice_get-map (role_at i) ps u) ∙ at)
   where
     go : (o : Option Place) → slice_get ps u ≡ o → option_map (role_at i) (slice_get ps u) ≡ Some r → (p : Place) × (slice_get ps u ≡ Some p) × (role_at i p ≡ r)
@@ -149,10 +149,10 @@ module _ (bucket : ℕ → ℕ) (recursive : ℕ → Bool) (j t : ℕ) (step : S
       sym (length-map next.places (role_at j)) ∙ (ap (λ (l : Lock). length l.roles) made.here ∙ (after_length (recursive j) t step (lock_at w j) ∙ length-map w.places (role_at j)))
 
   -- a thread is at that lock after the step, or at another, where its role stays
-  abbrev IsAt : ℕ → Place → Type 0
+  abbrev pub IsAt : ℕ → Place → Type 0
   IsAt u p = ((p.at ≡ j) × (slice_get (after t step (lock_at w j)).roles u ≡ Some (role_at j p))) ⊎ ((p.at ≢ j) × ((q : Place) × (slice_get w.places u ≡ Some q) × (role_at p.at q ≡ role_at p.at p)))
 
-  is_at : (u : ℕ) (p : Place) → slice_get next.places u ≡ Some p → IsAt u p
+  pub is_at : (u : ℕ) (p : Place) → slice_get next.places u ≡ Some p → IsAt u p
   is_at u p here = ⊎_elim
       (λ e. inl (e, ap (λ (l : Lock). slice_get l.roles u) (sym made.here) ∙ (slice_get-map (role_at j) next.places u ∙ ap (option_map (role_at j)) here)))
       (λ ne. inr (

@@ -112,7 +112,7 @@ firsts_apart i j ne e = ne (omega (arith, e))
 seconds_apart : (i j : ℕ) → i ≢ j → key i Second ≢ key j Second
 seconds_apart i j ne e = ne (omega (arith, e))
 
-waking_busy : (k : Waking) (t : ℕ) (stay : Stay) → (waking_from k t stay).does ≢ Idle
+pub waking_busy : (k : Waking) (t : ℕ) (stay : Stay) → (waking_from k t stay).does ≢ Idle
 waking_busy (Retry m) t stay e = cc
 waking_busy Own t stay e = cc
 waking_busy OwnPending t stay e = cc

@@ -119,3 +119,7 @@ is_inside phase = false
 abbrev pub SectionsLower : Type 0
 SectionsLower = (bucket : ℕ → ℕ) (recursive : ℕ → Bool) (t : ℕ) (step : Step) (sight : Sight) (old new : Scene) → IsReached bucket recursive old.world → t < threads old → IsTrue (is_inside (phase old t))
     → Turned bucket recursive t (Next_step step sight) old new → steps_of_all new + 1 ≤ steps_of_all old
+
+-- Scenes stay proper, whatever comes.
+abbrev pub ScenesStayProper : Type 0
+ScenesStayProper = (bucket : ℕ → ℕ) (recursive : ℕ → Bool) (s last : Scene) (t who : ℕ) (es : List Event) → IsReached bucket recursive s.world → GoesOn bucket recursive s t es last who → IsProper s → IsProper last

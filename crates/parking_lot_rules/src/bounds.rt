@@ -1,6 +1,14 @@
 //! Laws of many locks and calls: how many steps all threads make together.
 ghost use Rattle.parking_lot_rules.specs.Agenda.{SwitchesKeep, TurnsLower};
-ghost use Rattle.parking_lot_rules.specs.Drains.{AnyMayBeStepped, DeadlinesAddFew, SectionsLower, StepsAreFew, TurnsAreFew, VisitsAreShort};
+ghost use Rattle.parking_lot_rules.specs.Drains.{
+  AnyMayBeStepped,
+  DeadlinesAddFew,
+  ScenesStayProper,
+  SectionsLower,
+  StepsAreFew,
+  TurnsAreFew,
+  VisitsAreShort,
+};
 
 /// Whatever a thread does that is stepped alone, at any lock and in any of its calls, lowers the steps that all threads are still to make:
 /// each start, look, step at a lock, refusal and answer. A wake is paid for by the one that wakes.
@@ -40,6 +48,12 @@ pub fn deadlines_add_few_steps()
 /// add.
 pub fn turns_are_few()
     ensures { TurnsAreFew }
+{}
+
+/// However the threads are stepped, each of them is doing something at a lock only in a call that has changed something there, if that was so
+/// at the beginning.
+pub fn scenes_stay_proper()
+    ensures { ScenesStayProper }
 {}
 
 /// A lock is acquired and given up in fewer than 256 steps for each square of one more than the threads, with 100 steps left for what its
