@@ -33,6 +33,7 @@ pub mod Bounding
 pub mod Draining
 pub mod Sectioning
 pub mod Propering
+pub mod AnyRanking
 pub mod MutexCasing
 pub mod MutexRanking
 pub mod MutexCrossing

@@ -23,7 +23,7 @@ use Rattle.parking_lot_rules.proofs.Ranking.{few1, to_come_few, phase_before, ph
 use Rattle.parking_lot_rules.proofs.Aiming.{IsClear, looks_few, asks_few, drains_few, looking_few, sight_few, known_new, near_new, paid, extra, view, own_falls, WasNoLess, others_turn}
 
 -- sums over threads
-sum_none : (n : ℕ) → sum_to (λ u. 0) n ≡ 0
+pub sum_none : (n : ℕ) → sum_to (λ u. 0) n ≡ 0
 sum_none zero = refl
 sum_none (suc n) = omega (arith, sum_none n)
 

@@ -23,3 +23,4 @@ pub mod MutexLaws
 pub mod MutexOwners
 pub mod MutexRanks
 pub mod Any
+pub mod AnyRanks

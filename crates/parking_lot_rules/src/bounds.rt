@@ -1,5 +1,6 @@
 //! Laws of many locks and calls: how many steps all threads make together.
 ghost use Rattle.parking_lot_rules.specs.Agenda.{SwitchesKeep, TurnsLower};
+ghost use Rattle.parking_lot_rules.specs.AnyRanks.{AllRanksBegin, AllRanksChange, AllRanksFall};
 ghost use Rattle.parking_lot_rules.specs.Drains.{
   AnyMayBeStepped,
   DeadlinesAddFew,
@@ -60,4 +61,20 @@ pub fn scenes_stay_proper()
 /// owner does.
 pub fn visits_are_short()
     ensures { VisitsAreShort }
+{}
+
+/// At reader-writer locks and mutexes together, each step within a call of the thread that is being stepped lowers the ranks of all threads
+/// at all locks.
+pub fn all_ranks_fall()
+    ensures { AllRanksFall }
+{}
+
+/// The first step of a call adds to the ranks at all locks 18 for each thread and 9 at most at a reader-writer lock, and 13 at a mutex.
+pub fn all_ranks_begin_small()
+    ensures { AllRanksBegin }
+{}
+
+/// Where the thread that was stepped sleeps, or is in no call, the ranks at all locks are no greater if another is stepped from there on.
+pub fn another_may_be_stepped_anywhere()
+    ensures { AllRanksChange }
 {}
