@@ -1,23 +1,22 @@
 -- All steps of the stepped thread at a lock fall, and those of the others don't rise but by a wake.
-use Rattle.std.proofs.Common.{◌≡◌, ◌≢◌, ℕ, zero, suc, ◌+◌, ◌-◌, ◌*◌, ◌<◌, ◌≤◌, ◌⊎◌, ⊎_elim, Bool, true, false, cond, if◌then◌else◌, ◌==◌, List, [], ◌∷◌, length, map, remove, Option, Some, None, option_map, slice_get, slice_set, refl, sym, ap, ◌∙◌, subst, inl, inr, arith, length-append, eq-eqb}
-use Rattle.std.proofs.lemmas.Bool.{cases_eq}
+use Rattle.std.proofs.Common.{◌≡◌, ◌≢◌, ℕ, ◌+◌, ◌-◌, ◌<◌, ◌≤◌, ◌⊎◌, ⊎_elim, Bool, true, false, cond, if◌then◌else◌, ◌==◌, [], ◌∷◌, length, map, Option, Some, None, option_map, slice_get, slice_set, refl, sym, ap, ◌∙◌, inl, inr, arith, length-append, eq-eqb}
 use Rattle.std.proofs.lemmas.List.Edits.{length-remove}
 use Rattle.std.proofs.lemmas.Option.{none-some, same_Some, slice_get-map, slice_get_within}
-use Rattle.parking_lot_rules.specs.Roles.{Mode, Shared, Exclusive, Upgradable, Owned, Shares, Stay, Fresh, Asleep, Late, Back, Mark, Open, Phase, Idle, Seeks, Drains, Yields, Queued1, Taken1, Queued2, Taken2, Stored1, Scans2, Wakes, Role}
+use Rattle.parking_lot_rules.specs.Roles.{Mode, Shared, Exclusive, Upgradable, Shares, Stay, Fresh, Asleep, Late, Back, Mark, Open, Phase, Idle, Seeks, Drains, Yields, Queued1, Taken1, Queued2, Taken2, Stored1, Scans2, Wakes, Role}
 use Rattle.parking_lot_rules.specs.Classes.{Class, total}
 use Rattle.parking_lot_rules.specs.Clauses.{Word}
 use Rattle.parking_lot_rules.specs.Lock.{Lock, IsSound}
-use Rattle.parking_lot_rules.specs.Family.{Key, First, Second, Crossing, Stays, Comes, Goes, crossing}
+use Rattle.parking_lot_rules.specs.Family.{First, Second, Crossing, Goes, crossing}
 use Rattle.parking_lot_rules.specs.Plain.{Plain, Begin, Refuse, Share, Pend, Drain, Upgradably, Exclude, Flag1, Enter1, Check1, Retreat1, Rest1, Expire1, ExpireTaken1, Reenter1, ReenterTaken1, Mask1, Leave1, Resume1, ReceiveShared, ReceivePending, ReceiveUpgradable, Flag2, Enter2, Check2, Retreat2, Rest2, Expire2, ExpireTaken2, Reenter2, ReenterTaken2, Resume2, Leave2, Yield, YieldBack, Unshare, UnshareLast, Look2, Mask2, Depart2, Unlock, UnlockUpgradable, LookExclusive, LookUpgradable, Downgrade, DowngradeToUpgradable, DowngradeUpgradable, Upgrade, UpgradeAtOnce, LookOwed, Depart1, Finish, bars, from, to, May, written}
-use Rattle.parking_lot_rules.specs.Steps.{Step, Alone, List_changes, Take1, Take2, Store, Wake, Pass, Allowed, after, Listing, Join1, Join2, Quit1, QuitLast1, Quit2, listing_from, listing_to, scanning, taking, ends_saying, settle, told, Waking, Retry, Own, OwnPending, OwnUpgradable, Recheck, waking_from, waking_to}
+use Rattle.parking_lot_rules.specs.Steps.{Step, Alone, List_changes, Take1, Take2, Store, Wake, Pass, Allowed, after, Join1, Join2, Quit1, QuitLast1, Quit2, listing_from, listing_to, scanning, taking, ends_saying, settle, told, Waking, Retry, Own, OwnPending, OwnUpgradable, Recheck, waking_from, waking_to}
 use Rattle.parking_lot_rules.specs.Ranks.{where_some, to_come, is_deadline}
 use Rattle.parking_lot_rules.specs.Sights.{Sight, Blind, Sees, is_stale, looks_left}
-use Rattle.parking_lot_rules.specs.Aims.{Aim, Watches, Enters, Knowledge, New, Old, Set, knowledge, by, apart, asks, drains, checks1, checks2, View, near, far_rank, near_rank, looking, looks_of, most_looks, far_steps, near_steps, GoesBy}
+use Rattle.parking_lot_rules.specs.Aims.{Aim, Watches, Enters, Knowledge, New, Old, Set, knowledge, by, asks, drains, checks1, checks2, View, near, near_rank, looking, looks_of, most_looks, far_steps, near_steps, GoesBy}
 use Rattle.parking_lot_rules.specs.Agenda.{IsWoken}
-use Rattle.parking_lot_rules.proofs.Indexed.{get-set_same, get-set_other, get-set_cases}
+use Rattle.parking_lot_rules.proofs.Indexed.{get-set_other, get-set_cases}
 use Rattle.parking_lot_rules.proofs.Sounds.{waking_apart}
 use Rattle.parking_lot_rules.proofs.Changing.{taking_taken}
-use Rattle.parking_lot_rules.proofs.Ranking.{chosen, few1, two_apart, to_come_few, phase_before, phase_after, role_before, role_after}
+use Rattle.parking_lot_rules.proofs.Ranking.{chosen, few1, two_apart, to_come_few, phase_before, phase_after}
 
 -- which of the two numbers it is
 abbrev Chosen : ℕ → ℕ → ℕ → Type 0

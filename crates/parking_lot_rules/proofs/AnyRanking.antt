@@ -1,17 +1,16 @@
 -- The ranks at all locks, of either kind, fall together.
-use Rattle.std.proofs.Common.{◌≡◌, ◌≢◌, ℕ, zero, suc, ◌+◌, ◌-◌, ◌*◌, ◌<◌, ◌≤◌, ◌⊎◌, ⊎_elim, Bool, true, false, cond, if◌then◌else◌, ◌==◌, IsTrue, List, [], ◌∷◌, length, map, Option, Some, None, slice_get, slice_set, sum_by, refl, sym, ap, ◌∙◌, subst, inl, inr, arith, eq-eqb}
+use Rattle.std.proofs.Common.{◌≡◌, ◌≢◌, ℕ, zero, suc, ◌+◌, ◌-◌, ◌*◌, ◌≤◌, ◌⊎◌, ⊎_elim, Bool, true, false, cond, if◌then◌else◌, ◌==◌, IsTrue, List, [], ◌∷◌, length, map, Option, Some, None, slice_get, slice_set, sum_by, refl, sym, ap, ◌∙◌, inl, inr, arith, eq-eqb}
 use Rattle.std.proofs.lemmas.Bool.{cases_eq, ne_eqb}
 use Rattle.std.proofs.lemmas.List.{length-set, length-map}
-use Rattle.std.proofs.lemmas.Option.{none-some, same_Some, slice_get_within, slice_get_cases}
+use Rattle.std.proofs.lemmas.Option.{none-some, slice_get_within, slice_get_cases}
 use Rattle.parking_lot_rules.specs.Roles.{Asleep, Normal, Handed, Phase, Idle, Queued1, Taken1, Queued2, Taken2, Role, away}
 use Rattle.parking_lot_rules.specs.Lock.{Lock, IsSound}
 use Rattle.parking_lot_rules.specs.Steps.{Step, Alone, List_changes, Take1, Take2, Store, Wake, Pass, Allowed, after}
 use Rattle.parking_lot_rules.specs.Laws.{is_asleep}
-use Rattle.parking_lot_rules.specs.Ranks.{worst, ranks, rank_of_others, is_deadline, KnowsTheWord}
-use Rattle.parking_lot_rules.specs.Family.{Family, StepOf, SoundFamilyOf}
-use Rattle.parking_lot_rules.specs.Any.{AnyLock, Rw, Mx, AnyStep, RwStep, MxStep, AnySound, IsIdleAt, any_allowed, any_after, any_inside, any_rules}
+use Rattle.parking_lot_rules.specs.Ranks.{worst, ranks, rank_of_others}
+use Rattle.parking_lot_rules.specs.Any.{AnyLock, Rw, Mx, AnyStep, RwStep, MxStep, AnySound, IsIdleAt, any_allowed, any_after}
 use Rattle.parking_lot_rules.specs.Agenda.{sum_to}
-use Rattle.parking_lot_rules.specs.AnyRanks.{rw_phase, mutex_phase, lock_ranks, all_ranks, IsWithinCall, AllRanksFall, IsFirstStep, most_begun, AllRanksBegin, IsStill, AllRanksChange}
+use Rattle.parking_lot_rules.specs.AnyRanks.{rw_phase, mutex_phase, lock_ranks, IsWithinCall, AllRanksFall, IsFirstStep, most_begun, AllRanksBegin, IsStill, AllRanksChange}
 use Rattle.parking_lot_rules.specs.Mutex as mutex
 use Rattle.parking_lot_rules.specs.MutexLaws as mutex_laws
 use Rattle.parking_lot_rules.specs.MutexRanks as mutex_ranks

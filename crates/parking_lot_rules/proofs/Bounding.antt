@@ -1,18 +1,17 @@
 -- All steps are few for each call that isn't answered, a deadline adds few, and so whole runs are short.
-use Rattle.std.proofs.Common.{◌≡◌, ◌≢◌, ℕ, zero, suc, ◌+◌, ◌-◌, ◌*◌, ◌<◌, ◌≤◌, ◌⊎◌, ⊎_elim, Bool, true, false, ◌==◌, List, [], ◌∷◌, ◌++◌, length, map, Option, Some, None, option_map, slice_get, sum_by, refl, sym, ap, ◌∙◌, subst, inl, inr, arith, eq-eqb}
+use Rattle.std.proofs.Common.{◌≡◌, ℕ, zero, suc, ◌+◌, ◌*◌, ◌≤◌, ◌⊎◌, ⊎_elim, Bool, List, [], ◌∷◌, length, Option, Some, None, option_map, slice_get, sum_by, refl, sym, ap, ◌∙◌, subst, inl, inr, arith, eq-eqb}
 use Rattle.std.proofs.Math.Nat.{add-mul, mul-add}
-use Rattle.std.proofs.lemmas.Bool.{cases_eq}
 use Rattle.std.proofs.lemmas.List.{length-map}
 use Rattle.std.proofs.lemmas.List.Sums.{sum_by-cons}
-use Rattle.std.proofs.lemmas.Option.{none-some, same_Some, slice_get-map}
-use Rattle.parking_lot_rules.specs.Roles.{Mode, Shared, Exclusive, Upgradable, Stay, Fresh, Asleep, Late, Back, Phase, Idle, Seeks, Enters1, Queued1, Taken1, Drains, Enters2, Queued2, Taken2, Yields, Scans1, Stored1, Scans2, Masked2, Wakes, Role}
+use Rattle.std.proofs.lemmas.Option.{slice_get-map}
+use Rattle.parking_lot_rules.specs.Roles.{Mode, Shared, Exclusive, Upgradable, Stay, Fresh, Asleep, Late, Back, Phase, Idle, Seeks, Enters1, Queued1, Taken1, Drains, Queued2, Taken2, Scans1, Stored1, Scans2, Masked2, Wakes, Role}
 use Rattle.parking_lot_rules.specs.Lock.{Lock, IsSound}
-use Rattle.parking_lot_rules.specs.World.{Place, World, seen, role_at, lock_at}
+use Rattle.parking_lot_rules.specs.World.{Place, seen, role_at, lock_at}
 use Rattle.parking_lot_rules.specs.Runs.{IsReached}
 use Rattle.parking_lot_rules.specs.Ranks.{to_come, by_stay}
-use Rattle.parking_lot_rules.specs.Aims.{Aim, Knowledge, New, Old, Set, knowledge, by, apart, far_rank, looking, looks_of, most_looks, far_steps}
-use Rattle.parking_lot_rules.specs.Agenda.{Call, Acquire, Release, Weaken, Strengthen, first_rank, cost, Stage, Rests, Begins, Works, Scene, phase_of, lock_of, phase, lock, threads, stage_steps, far, to_do, sum_to, share, all_steps}
-use Rattle.parking_lot_rules.specs.Drains.{most_of_a_call, underway, unanswered, all_unanswered, IsProper, StepsAreFew, AnyMayBeStepped, IsShort, VisitsAreShort}
+use Rattle.parking_lot_rules.specs.Aims.{Aim, Knowledge, knowledge, far_rank, most_looks, far_steps}
+use Rattle.parking_lot_rules.specs.Agenda.{Call, Acquire, Release, Weaken, Strengthen, first_rank, cost, Stage, Rests, Begins, Works, Scene, phase_of, phase, threads, stage_steps, far, sum_to, share}
+use Rattle.parking_lot_rules.specs.Drains.{most_of_a_call, underway, unanswered, StepsAreFew, AnyMayBeStepped, IsShort, VisitsAreShort}
 use Rattle.parking_lot_rules.proofs.Running.{reached_sound}
 use Rattle.parking_lot_rules.proofs.Ranking.{to_come_few}
 use Rattle.parking_lot_rules.proofs.Aiming.{looks_few, looking_few, by_few}

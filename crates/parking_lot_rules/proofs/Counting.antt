@@ -1,22 +1,22 @@
 -- One that goes through a list has taken as many as it counts, and no more than there are threads.
-use Rattle.std.proofs.Common.{◌≡◌, ◌≢◌, ℕ, zero, suc, ◌+◌, ◌<◌, ◌≤◌, ◌⊎◌, ⊎_elim, Bool, true, false, ◌==◌, List, [], ◌∷◌, length, map, Option, Some, None, option_map, slice_get, slice_set, refl, sym, ap, ◌∙◌, subst, inl, inr, arith, length-append}
+use Rattle.std.proofs.Common.{◌≡◌, ◌≢◌, ℕ, ◌+◌, ◌≤◌, ⊎_elim, Bool, true, false, List, [], ◌∷◌, length, map, Option, Some, None, option_map, slice_get, slice_set, refl, sym, ap, ◌∙◌, subst, arith, length-append}
 use Rattle.std.proofs.lemmas.Bool.{cases_eq}
 use Rattle.std.proofs.lemmas.List.Sums.{sum_by-cons}
 use Rattle.std.proofs.lemmas.Option.{none-some, same_Some, slice_get-map, slice_get_within}
-use Rattle.parking_lot_rules.specs.Roles.{Mode, Shared, Exclusive, Upgradable, Owned, Shares, Excludes, Upgrades, Stay, Mark, Open, Normal, Handed, Cause, FromExclusive, FromUpgradable, Owed, Phase, Idle, Queued1, Taken1, Queued2, Taken2, Scans1, Stored1, Scans2, Masked2, Wakes, Role}
-use Rattle.parking_lot_rules.specs.Classes.{Class, Waiting1, OpenReaders, OpenUpgraders, OpenWriters, TakenReaders, TakenUpgraders, TakenWriters, weight, total, bit}
+use Rattle.parking_lot_rules.specs.Roles.{Mode, Shared, Exclusive, Upgradable, Owned, Shares, Excludes, Upgrades, Stay, Mark, Open, Normal, Handed, Cause, FromExclusive, FromUpgradable, Owed, Phase, Queued1, Taken1, Queued2, Taken2, Scans1, Stored1, Scans2, Masked2, Wakes, Role}
+use Rattle.parking_lot_rules.specs.Classes.{Waiting1, OpenReaders, OpenUpgraders, OpenWriters, TakenReaders, TakenUpgraders, TakenWriters, weight, total, bit}
 use Rattle.parking_lot_rules.specs.Lock.{Lock, IsSound}
 use Rattle.parking_lot_rules.specs.Family.{IsSoundFamily}
 use Rattle.parking_lot_rules.specs.Plain.{Plain, Look2, LookExclusive, LookUpgradable, LookOwed, Mask2, Depart2, Depart1, Yield, YieldBack, Downgrade, DowngradeToUpgradable, DowngradeUpgradable, from, to}
-use Rattle.parking_lot_rules.specs.Steps.{Look, Stop, Skip, Take, look, has_upgradable, Step, Alone, List_changes, Take1, Take2, Store, Wake, Pass, Allowed, after, Listing, Join1, listing_from, listing_to, Scan, scanning, taking, ends_saying, settle, told, Waking, Retry, Own, waking_from, waking_to}
-use Rattle.parking_lot_rules.specs.World.{World, lock_at, family, MayStep, world_after}
+use Rattle.parking_lot_rules.specs.Steps.{Take, look, has_upgradable, Step, Alone, List_changes, Take1, Take2, Store, Wake, Pass, Allowed, after, Listing, Join1, listing_from, listing_to, Scan, scanning, taking, ends_saying, settle, told, Waking, Retry, Own, waking_from, waking_to}
+use Rattle.parking_lot_rules.specs.World.{World, lock_at, family}
 use Rattle.parking_lot_rules.specs.Runs.{Move, moved, Runs, at_rest, IsReached}
-use Rattle.parking_lot_rules.proofs.Indexed.{get-set_same, get-set_other, get-set_cases}
+use Rattle.parking_lot_rules.proofs.Indexed.{get-set_other, get-set_cases}
 use Rattle.parking_lot_rules.proofs.Totals.{total-at}
 use Rattle.parking_lot_rules.proofs.Sounds.{waking_apart}
 use Rattle.parking_lot_rules.proofs.Worlds.{world_step, world_sound}
 use Rattle.parking_lot_rules.proofs.Running.{all_away, rest_sound_family}
-use Rattle.parking_lot_rules.proofs.Ranking.{two_apart, phase_before, phase_after, role_before, role_after}
+use Rattle.parking_lot_rules.proofs.Ranking.{two_apart, phase_after, role_after}
 use Rattle.parking_lot_rules.proofs.Planning.{after_length}
 
 -- how many it has taken, among n threads

@@ -1,23 +1,21 @@
 -- A deadline adds few steps, and so whole runs take few turns.
-use Rattle.std.proofs.Common.{◌≡◌, ◌≢◌, ℕ, zero, suc, ◌+◌, ◌-◌, ◌*◌, ◌<◌, ◌≤◌, ◌⊎◌, ⊎_elim, Bool, true, false, cond, if◌then◌else◌, ◌==◌, List, [], ◌∷◌, ◌++◌, length, Option, Some, None, slice_get, sum_by, refl, sym, ap, ◌∙◌, subst, inl, inr, arith, eq-eqb}
+use Rattle.std.proofs.Common.{◌≡◌, ◌≢◌, ℕ, zero, suc, ◌+◌, ◌*◌, ◌≤◌, ⊎_elim, Bool, true, cond, if◌then◌else◌, ◌==◌, List, [], ◌∷◌, ◌++◌, length, Some, slice_get, sum_by, refl, sym, ap, ◌∙◌, subst, inl, arith, eq-eqb}
 use Rattle.std.proofs.Math.Nat.{mul-suc}
-use Rattle.std.proofs.lemmas.Bool.{cases_eq, ne_eqb}
+use Rattle.std.proofs.lemmas.Bool.{cases_eq}
 use Rattle.std.proofs.lemmas.Option.{none-some, same_Some, slice_get_within}
-use Rattle.parking_lot_rules.specs.Roles.{Late, Phase}
 use Rattle.parking_lot_rules.specs.Clauses.{Word}
 use Rattle.parking_lot_rules.specs.Family.{First, Second, key, Stays, crossing, put, entered_after}
-use Rattle.parking_lot_rules.specs.Plain.{Plain, Expire1, ExpireTaken1, Expire2, ExpireTaken2, from, to, written}
-use Rattle.parking_lot_rules.specs.Steps.{Step, Alone, List_changes, Take1, Take2, Store, Wake, Pass, after}
-use Rattle.parking_lot_rules.specs.World.{Place, World, lock_at, change, with_role, world_after, MayStep}
+use Rattle.parking_lot_rules.specs.Plain.{Plain, Expire1, ExpireTaken1, Expire2, ExpireTaken2, to, written}
+use Rattle.parking_lot_rules.specs.Steps.{Step, Alone, List_changes, Take1, Take2, Store, Wake, Pass}
+use Rattle.parking_lot_rules.specs.World.{World, change, with_role, world_after, MayStep}
 use Rattle.parking_lot_rules.specs.Runs.{Move, moved, Runs, at_rest, IsReached}
-use Rattle.parking_lot_rules.specs.Ranks.{to_come, is_deadline}
-use Rattle.parking_lot_rules.specs.Aims.{Aim, View, looking, looks_of, most_looks, far_steps, near_steps}
-use Rattle.parking_lot_rules.specs.Agenda.{cost, Scene, phase_of, lock_of, phase, lock, threads, other_in, view_at, stage_steps, far, near_of, sum_to, share, all_steps, Turn, Look, Start, First_step, Next_step, Refusal, Answer, Turned, Stop, Stops, aims_after}
-use Rattle.parking_lot_rules.specs.Drains.{most_of_a_deadline, Expires, DeadlinesAddFew, Event, Takes, Hands_on, Passes, GoesOn, turns, deadlines, TurnsAreFew}
+use Rattle.parking_lot_rules.specs.Ranks.{is_deadline}
+use Rattle.parking_lot_rules.specs.Aims.{Aim, View, looks_of, most_looks, far_steps, near_steps}
+use Rattle.parking_lot_rules.specs.Agenda.{cost, Scene, phase_of, lock_of, phase, lock, threads, other_in, view_at, stage_steps, far, near_of, sum_to, share, all_steps, Turn, Look, Start, First_step, Next_step, Refusal, Answer, Turned}
+use Rattle.parking_lot_rules.specs.Drains.{most_of_a_deadline, DeadlinesAddFew, Takes, Hands_on, Passes, deadlines, TurnsAreFew}
 use Rattle.parking_lot_rules.proofs.Families.{put-same, put-other}
 use Rattle.parking_lot_rules.proofs.Running.{reached_sound}
 use Rattle.parking_lot_rules.proofs.Ranking.{to_come_few}
-use Rattle.parking_lot_rules.proofs.Aiming.{extra}
 use Rattle.parking_lot_rules.proofs.Planning.{sum_one, share_own, share_other, places_length, others_far}
 use Rattle.parking_lot_rules.proofs.Turning.{turns_lower}
 use Rattle.parking_lot_rules.proofs.Switching.{switches_keep}

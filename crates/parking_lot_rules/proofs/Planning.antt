@@ -1,26 +1,24 @@
 -- Whatever the stepped thread does, at any lock and in any of its calls, it lowers the steps of all.
-use Rattle.std.proofs.Common.{◌≡◌, ◌≢◌, ℕ, zero, suc, ◌+◌, ◌-◌, ◌*◌, ◌<◌, ◌≤◌, ◌⊎◌, ⊎_elim, Bool, true, false, cond, if◌then◌else◌, ◌==◌, List, [], ◌∷◌, length, map, Option, Some, None, option_map, slice_get, slice_set, sum_by, refl, sym, ap, ◌∙◌, subst, inl, inr, arith, eq-eqb}
+use Rattle.std.proofs.Common.{◌≡◌, ◌≢◌, ℕ, zero, suc, ◌+◌, ◌<◌, ◌≤◌, ◌⊎◌, ⊎_elim, Bool, true, false, cond, if◌then◌else◌, ◌==◌, List, length, map, Option, Some, None, option_map, slice_get, slice_set, sum_by, refl, sym, ap, ◌∙◌, subst, inl, inr, arith, eq-eqb}
 use Rattle.std.proofs.lemmas.Bool.{cases_eq, ne_eqb}
 use Rattle.std.proofs.lemmas.List.{length-set, length-map}
-use Rattle.std.proofs.lemmas.List.Sums.{sum_by-cons}
 use Rattle.std.proofs.lemmas.Option.{none-some, same_Some, slice_get-map}
-use Rattle.parking_lot_rules.specs.Roles.{Mode, Shared, Exclusive, Upgradable, Phase, Idle, Seeks, Enters1, Drains, Enters2, Yields, Role}
+use Rattle.parking_lot_rules.specs.Roles.{Shared, Exclusive, Upgradable, Phase, Idle, Seeks, Drains, Yields, Role}
 use Rattle.parking_lot_rules.specs.Classes.{weighs}
-use Rattle.parking_lot_rules.specs.Lock.{Lock, IsSound}
+use Rattle.parking_lot_rules.specs.Lock.{Lock}
 use Rattle.parking_lot_rules.specs.Family.{Key, First, Second, key, section, Crossing, Stays, Comes, Goes, crossing, put, entered_after, IsFree, FamilyStep, IsSoundFamily}
-use Rattle.parking_lot_rules.specs.Plain.{Plain, Begin, Unshare, UnshareLast, Unlock, UnlockUpgradable, LookExclusive, LookUpgradable, Downgrade, DowngradeToUpgradable, DowngradeUpgradable, Upgrade, UpgradeAtOnce, from, to}
-use Rattle.parking_lot_rules.specs.Steps.{Step, Alone, List_changes, Take1, Take2, Store, Wake, Pass, Allowed, after, listing_to, scanning, taking, ends_saying, settle, waking_to}
+use Rattle.parking_lot_rules.specs.Plain.{Plain, Begin, Unshare, UnshareLast, Unlock, UnlockUpgradable, LookExclusive, LookUpgradable, Downgrade, DowngradeToUpgradable, DowngradeUpgradable, Upgrade, UpgradeAtOnce, to}
+use Rattle.parking_lot_rules.specs.Steps.{Step, Alone, List_changes, Take1, Take2, Store, Wake, Pass, after, ends_saying, settle}
 use Rattle.parking_lot_rules.specs.World.{Place, World, seen, role_at, lock_at, family, world_after, MayStep}
-use Rattle.parking_lot_rules.specs.Ranks.{to_come, is_deadline}
-use Rattle.parking_lot_rules.specs.Sights.{Sight, Blind, Sees, Looks, is_stale, looks_left}
-use Rattle.parking_lot_rules.specs.Aims.{Aim, Watches, Enters, Knowledge, New, Old, Set, knowledge, by, View, near, far_rank, near_rank, looking, looks_of, most_looks, far_steps, near_steps, GoesBy}
-use Rattle.parking_lot_rules.specs.Agenda.{Call, Acquire, Release, Weaken, Strengthen, begins, IsFirst, first_rank, cost, Stage, Rests, Begins, Works, Scene, phase_of, lock_of, phase, lock, threads, other_in, view_at, stage_steps, far, near_of, sum_to, share, all_steps, Turn, Look, Start, First_step, Next_step, Refusal, Answer, IsLooking, IsWoken, Stepped, Turned, TurnsLower}
+use Rattle.parking_lot_rules.specs.Ranks.{to_come}
+use Rattle.parking_lot_rules.specs.Sights.{Sight, Blind, Sees, Looks, looks_left}
+use Rattle.parking_lot_rules.specs.Aims.{Aim, Watches, Knowledge, New, Old, Set, knowledge, by, View, near, near_rank, looking, most_looks, far_steps, near_steps}
+use Rattle.parking_lot_rules.specs.Agenda.{Call, Acquire, Release, Weaken, Strengthen, begins, first_rank, cost, Stage, Rests, Begins, Works, Scene, phase_of, lock_of, phase, threads, other_in, view_at, stage_steps, far, near_of, sum_to, share, all_steps, IsWoken}
 use Rattle.parking_lot_rules.proofs.Families.{put-same, put-other}
 use Rattle.parking_lot_rules.proofs.Crossing.{WasIn, step_was}
-use Rattle.parking_lot_rules.proofs.Worlds.{IsThere, not_seen, seen-here, world_step}
-use Rattle.parking_lot_rules.proofs.Running.{reached_sound}
-use Rattle.parking_lot_rules.proofs.Ranking.{few1, to_come_few, phase_before, phase_after, role_before, role_after}
-use Rattle.parking_lot_rules.proofs.Aiming.{IsClear, looks_few, asks_few, drains_few, looking_few, sight_few, known_new, near_new, paid, extra, view, own_falls, WasNoLess, others_turn}
+use Rattle.parking_lot_rules.proofs.Worlds.{IsThere, not_seen, world_step}
+use Rattle.parking_lot_rules.proofs.Ranking.{phase_after, role_after}
+use Rattle.parking_lot_rules.proofs.Aiming.{IsClear, looks_few, asks_few, drains_few, paid, extra, view, WasNoLess, others_turn}
 
 -- sums over threads
 pub sum_none : (n : ℕ) → sum_to (λ u. 0) n ≡ 0

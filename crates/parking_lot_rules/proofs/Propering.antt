@@ -1,23 +1,23 @@
 -- A thread that is in no call stays so, whatever another does; so scenes stay proper.
-use Rattle.std.proofs.Common.{◌≡◌, ◌≢◌, ℕ, ◌<◌, ◌⊎◌, ⊎_elim, Bool, true, false, ◌==◌, List, [], ◌∷◌, length, map, Option, Some, None, option_map, slice_get, slice_set, refl, sym, ap, ◌∙◌, subst, inl, inr, arith}
+use Rattle.std.proofs.Common.{◌≡◌, ◌≢◌, ℕ, ◌⊎◌, ⊎_elim, Bool, true, ◌==◌, [], ◌∷◌, map, Option, Some, None, option_map, slice_get, slice_set, refl, sym, ap, ◌∙◌, subst, inl, inr}
 use Rattle.std.proofs.lemmas.Bool.{cases_eq}
 use Rattle.std.proofs.lemmas.Option.{none-some, same_Some, slice_get-map}
-use Rattle.parking_lot_rules.specs.Roles.{Shares, Open, Phase, Idle, Queued1, Taken1, Queued2, Taken2, Stored1, Scans2, Wakes, Role}
-use Rattle.parking_lot_rules.specs.Lock.{Lock, IsSound}
+use Rattle.parking_lot_rules.specs.Roles.{Shares, Open, Idle, Queued1, Taken1, Queued2, Taken2, Stored1, Scans2, Wakes, Role}
+use Rattle.parking_lot_rules.specs.Lock.{Lock}
 use Rattle.parking_lot_rules.specs.Family.{IsSoundFamily, put}
 use Rattle.parking_lot_rules.specs.Plain.{Plain, Expire1, ExpireTaken1, Expire2, ExpireTaken2, from, to}
 use Rattle.parking_lot_rules.specs.Steps.{Step, Alone, List_changes, Take1, Take2, Store, Wake, Pass, Allowed, after, listing_from, listing_to, scanning, taking, ends_saying, settle, told, waking_from, waking_to}
-use Rattle.parking_lot_rules.specs.World.{Place, World, seen, role_at, lock_at, family, world_after, MayStep}
+use Rattle.parking_lot_rules.specs.World.{Place, World, role_at, lock_at, family, world_after, MayStep}
 use Rattle.parking_lot_rules.specs.Runs.{IsReached}
 use Rattle.parking_lot_rules.specs.Ranks.{is_deadline}
 use Rattle.parking_lot_rules.specs.Agenda.{Stage, Rests, Begins, Works, Scene, phase_of, phase, lock, Turn, Look, Start, First_step, Next_step, Refusal, Answer, Turned}
-use Rattle.parking_lot_rules.specs.Drains.{IsProper, Expires, Event, Takes, Hands_on, Passes, GoesOn, ScenesStayProper}
+use Rattle.parking_lot_rules.specs.Drains.{IsProper, Expires, Takes, Hands_on, Passes, ScenesStayProper}
 use Rattle.parking_lot_rules.proofs.Indexed.{get-set_other, get-set_cases}
 use Rattle.parking_lot_rules.proofs.Families.{put-same, put-other}
 use Rattle.parking_lot_rules.proofs.Sounds.{waking_apart}
 use Rattle.parking_lot_rules.proofs.Worlds.{seen-idle, waking_busy}
 use Rattle.parking_lot_rules.proofs.Running.{reached_sound}
-use Rattle.parking_lot_rules.proofs.Ranking.{two_apart, phase_before, role_before}
+use Rattle.parking_lot_rules.proofs.Ranking.{two_apart}
 use Rattle.parking_lot_rules.proofs.Planning.{map_got, is_at, phase_here}
 use Rattle.parking_lot_rules.proofs.Draining.{turned_world, stepped_world}
 

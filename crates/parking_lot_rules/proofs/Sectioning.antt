@@ -1,27 +1,25 @@
 -- Each step of a thread inside a section lowers all steps, also where no thread is counted as stepped.
-use Rattle.std.proofs.Common.{◌≡◌, ◌≢◌, ℕ, ◌+◌, ◌-◌, ◌*◌, ◌<◌, ◌≤◌, ◌⊎◌, ⊎_elim, Bool, true, false, IsTrue, List, [], ◌∷◌, length, Option, Some, None, option_map, slice_get, sum_by, refl, sym, ap, ◌∙◌, subst, inl, inr, arith, length-append}
+use Rattle.std.proofs.Common.{◌≡◌, ℕ, ◌+◌, ◌<◌, ◌≤◌, ⊎_elim, Bool, IsTrue, [], ◌∷◌, length, sum_by, refl, sym, ap, subst, arith, length-append}
 use Rattle.std.proofs.lemmas.List.{length-map}
-use Rattle.std.proofs.lemmas.List.Edits.{length-remove}
-use Rattle.std.proofs.lemmas.Option.{same_Some, slice_get-map, slice_get_within}
-use Rattle.parking_lot_rules.specs.Roles.{Mode, Fresh, Back, Phase, Idle, Role}
+use Rattle.std.proofs.lemmas.Option.{slice_get_within}
 use Rattle.parking_lot_rules.specs.Lock.{Lock, IsSound}
 use Rattle.parking_lot_rules.specs.Plain.{Plain, Check1, Retreat1, Rest1, Mask1, Leave1, Resume1, ReceiveShared, ReceivePending, ReceiveUpgradable, Check2, Retreat2, Rest2, Resume2, Leave2, Mask2, Depart2, Depart1, from, to}
-use Rattle.parking_lot_rules.specs.Steps.{Step, Alone, List_changes, Take1, Take2, Store, Wake, Pass, Allowed, after, Join1, Join2, Quit1, QuitLast1, Quit2, scanning}
-use Rattle.parking_lot_rules.specs.World.{Place, World, role_at, lock_at, family, world_after, MayStep}
+use Rattle.parking_lot_rules.specs.Steps.{Step, Alone, List_changes, Take1, Take2, Store, Wake, Pass, Allowed, Join1, Join2, Quit1, QuitLast1, Quit2, scanning}
+use Rattle.parking_lot_rules.specs.World.{role_at, lock_at, family, world_after, MayStep}
 use Rattle.parking_lot_rules.specs.Family.{IsSoundFamily}
 use Rattle.parking_lot_rules.specs.Runs.{IsReached}
 use Rattle.parking_lot_rules.specs.Ranks.{to_come}
 use Rattle.parking_lot_rules.specs.Sights.{Sight}
-use Rattle.parking_lot_rules.specs.Aims.{Aim, Watches, knowledge, by, far_rank, looking, most_looks, far_steps}
-use Rattle.parking_lot_rules.specs.Agenda.{cost, Stage, Works, Scene, phase_of, phase, lock, threads, stage_steps, far, sum_to, Next_step, Stepped, Turned}
+use Rattle.parking_lot_rules.specs.Aims.{Aim, Watches, knowledge, most_looks, far_steps}
+use Rattle.parking_lot_rules.specs.Agenda.{cost, Scene, phase, lock, threads, stage_steps, far, sum_to, Next_step, Stepped, Turned}
 use Rattle.parking_lot_rules.specs.Drains.{steps_of_all, is_inside, SectionsLower}
 use Rattle.parking_lot_rules.proofs.Changing.{taking_taken}
 use Rattle.parking_lot_rules.proofs.Running.{reached_sound}
-use Rattle.parking_lot_rules.proofs.Ranking.{to_come_few, phase_before, phase_after, role_before, role_after}
+use Rattle.parking_lot_rules.proofs.Ranking.{phase_before, phase_after}
 use Rattle.parking_lot_rules.proofs.Aiming.{by_few, paid, extra}
 use Rattle.parking_lot_rules.proofs.Planning.{sum_falls, sum_paid, places_length, own_phase}
 use Rattle.parking_lot_rules.proofs.Turning.{phase_is, other}
-use Rattle.parking_lot_rules.proofs.Counting.{IsCounted, AreCounted, taken_few, reached_counted}
+use Rattle.parking_lot_rules.proofs.Counting.{AreCounted, taken_few, reached_counted}
 
 plain_leaves : (n : ℕ) (aim : Aim) (sight : Sight) (k : Plain) → IsTrue (is_inside (from k).does) → far_steps n (Watches sight) (to k).does + 1 ≤ far_steps n aim (from k).does
 plain_leaves n aim sight (Check1 m c) inside = omega arith

@@ -1,18 +1,17 @@
 -- Where the stepped thread has stopped, another may be stepped, and the steps of all are no more.
-use Rattle.std.proofs.Common.{◌≡◌, ◌≢◌, ℕ, zero, suc, ◌+◌, ◌-◌, ◌*◌, ◌<◌, ◌≤◌, ◌⊎◌, ⊎_elim, Bool, true, false, IsTrue, ◌==◌, List, length, map, Option, Some, None, option_map, slice_get, sum_by, refl, sym, ap, ◌∙◌, subst, inl, inr, arith, eq-eqb}
+use Rattle.std.proofs.Common.{◌≡◌, ◌≢◌, ℕ, zero, suc, ◌+◌, ◌≤◌, ⊎_elim, Bool, true, false, IsTrue, length, Option, Some, None, option_map, slice_get, refl, sym, ap, ◌∙◌, subst, arith, eq-eqb}
 use Rattle.std.proofs.lemmas.Bool.{cases_eq}
 use Rattle.std.proofs.lemmas.List.{length-map}
 use Rattle.std.proofs.lemmas.Option.{slice_get-map}
-use Rattle.parking_lot_rules.specs.Roles.{Asleep, Late, Phase, Idle, Seeks, Enters1, Queued1, Taken1, Drains, Enters2, Queued2, Taken2, Owes1, Scans1, Owes2, Scans2, Role}
+use Rattle.parking_lot_rules.specs.Roles.{Asleep, Late, Phase, Seeks, Enters1, Queued1, Taken1, Drains, Enters2, Queued2, Taken2, Owes1, Scans1, Owes2, Role}
 use Rattle.parking_lot_rules.specs.Lock.{Lock, IsSound}
 use Rattle.parking_lot_rules.specs.Family.{Key, First, Second, key, put}
-use Rattle.parking_lot_rules.specs.Plain.{bars}
-use Rattle.parking_lot_rules.specs.World.{Place, World, seen, role_at, lock_at, family}
+use Rattle.parking_lot_rules.specs.World.{Place, seen, role_at, lock_at}
 use Rattle.parking_lot_rules.specs.Runs.{IsReached}
 use Rattle.parking_lot_rules.specs.Laws.{is_asleep}
 use Rattle.parking_lot_rules.specs.Ranks.{to_come}
-use Rattle.parking_lot_rules.specs.Sights.{Sight, Blind, Sees}
-use Rattle.parking_lot_rules.specs.Aims.{Aim, Watches, Enters, Knowledge, New, Old, Set, knowledge, by, View, asks, drains, far_rank, near_rank, looking, looks_of, most_looks, far_steps, near_steps}
+use Rattle.parking_lot_rules.specs.Sights.{Blind, Sees}
+use Rattle.parking_lot_rules.specs.Aims.{Aim, Watches, Enters, Knowledge, New, Old, Set, knowledge, by, View, far_rank, near_rank, looks_of, most_looks, far_steps, near_steps}
 use Rattle.parking_lot_rules.specs.Agenda as agenda
 use Rattle.parking_lot_rules.specs.Agenda.{Call, first_rank, cost, Stage, Rests, Begins, Works, Scene, phase_of, lock_of, phase, lock, threads, other_in, view_at, stage_steps, far, near_of, to_do, sum_to, share, all_steps, MustEnter, Stop, Stops, aims_after, IsLike, HandsOn, SwitchesKeep}
 use Rattle.parking_lot_rules.proofs.Families.{put-same, put-other}

@@ -1,23 +1,23 @@
 -- Each turn of the stepped thread lowers the steps of all.
-use Rattle.std.proofs.Common.{◌≡◌, ◌≢◌, ℕ, zero, suc, ◌+◌, ◌-◌, ◌*◌, ◌<◌, ◌≤◌, ◌⊎◌, ⊎_elim, Bool, true, false, List, [], ◌∷◌, length, map, Option, Some, None, option_map, slice_get, sum_by, refl, sym, ap, ◌∙◌, subst, inl, inr, arith}
+use Rattle.std.proofs.Common.{◌≡◌, ◌≢◌, ℕ, ◌+◌, ◌*◌, ◌<◌, ◌≤◌, ◌⊎◌, ⊎_elim, Bool, false, List, length, Some, option_map, slice_get, sum_by, refl, sym, ap, ◌∙◌, subst, inl, inr, arith}
 use Rattle.std.proofs.lemmas.List.{length-map}
 use Rattle.std.proofs.lemmas.List.Sums.{sum_by-cons}
-use Rattle.std.proofs.lemmas.Option.{none-some, same_Some, slice_get-map}
-use Rattle.parking_lot_rules.specs.Roles.{Phase, Idle, Role}
+use Rattle.std.proofs.lemmas.Option.{slice_get-map}
+use Rattle.parking_lot_rules.specs.Roles.{Phase, Idle}
 use Rattle.parking_lot_rules.specs.Lock.{Lock}
 use Rattle.parking_lot_rules.specs.Family.{First, Second, key, put, IsSoundFamily}
-use Rattle.parking_lot_rules.specs.Plain.{Plain, to}
-use Rattle.parking_lot_rules.specs.Steps.{Step, Alone, List_changes, Take1, Take2, Store, Wake, Pass, Allowed, after}
-use Rattle.parking_lot_rules.specs.World.{Place, World, seen, role_at, lock_at, family, world_after, MayStep}
+use Rattle.parking_lot_rules.specs.Plain.{Plain}
+use Rattle.parking_lot_rules.specs.Steps.{Step, Alone, List_changes, Take1, Take2, Store, Wake, Pass, after}
+use Rattle.parking_lot_rules.specs.World.{World, role_at, lock_at, family, world_after, MayStep}
 use Rattle.parking_lot_rules.specs.Ranks.{is_deadline}
-use Rattle.parking_lot_rules.specs.Sights.{Sight, Blind, Sees, Looks, is_stale, looks_left}
-use Rattle.parking_lot_rules.specs.Aims.{Aim, Watches, knowledge, View, near_rank, near, looking, looks_of, most_looks, far_steps, near_steps, GoesBy}
-use Rattle.parking_lot_rules.specs.Agenda.{Call, IsFirst, first_rank, cost, Stage, Rests, Begins, Works, Scene, phase_of, lock_of, phase, lock, threads, other_in, view_at, stage_steps, far, near_of, all_steps, Turn, Look, Start, First_step, Next_step, Refusal, Answer, IsLooking, IsWoken, Stepped, Turned, TurnsLower}
+use Rattle.parking_lot_rules.specs.Sights.{Sight, Blind, is_stale, looks_left}
+use Rattle.parking_lot_rules.specs.Aims.{Aim, Watches, knowledge, View, near_rank, near, looks_of, most_looks, far_steps, near_steps, GoesBy}
+use Rattle.parking_lot_rules.specs.Agenda.{Call, IsFirst, first_rank, cost, Stage, Rests, Begins, Works, Scene, phase_of, lock_of, phase, lock, threads, other_in, view_at, stage_steps, far, near_of, all_steps, Look, Start, First_step, Next_step, Refusal, Answer, IsWoken, TurnsLower}
 use Rattle.parking_lot_rules.proofs.Families.{put-same, put-other}
 use Rattle.parking_lot_rules.proofs.Running.{reached_sound}
 use Rattle.parking_lot_rules.proofs.Ranking.{few1, phase_before, phase_after, role_before}
-use Rattle.parking_lot_rules.proofs.Aiming.{looking_few, sight_few, known_new, near_new, paid, extra, view, own_falls}
-use Rattle.parking_lot_rules.proofs.Planning.{sum_paid, all_fall, places_length, others_far, own_near, view_after, clear, phase_here, plain_first, first_some, looks_fall, rank_looks, looking_all, looking_more, stage_more, still, quiet_falls}
+use Rattle.parking_lot_rules.proofs.Aiming.{looking_few, sight_few, known_new, near_new, paid, extra, own_falls}
+use Rattle.parking_lot_rules.proofs.Planning.{sum_paid, all_fall, places_length, others_far, own_near, view_after, clear, phase_here, plain_first, first_some, looks_fall, rank_looks, looking_all, looking_more, stage_more, quiet_falls}
 
 -- a step at lock j
 module _ (bucket : ℕ → ℕ) (recursive : ℕ → Bool) (t j : ℕ) (step : Step) (sight : Sight) (old : Scene) (sound : IsSoundFamily bucket (family old.world)) (may : MayStep bucket recursive j t step old.world)

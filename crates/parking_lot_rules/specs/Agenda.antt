@@ -1,12 +1,12 @@
 -- Threads with the calls that they are still to make, at any number of locks, and how many steps all of them make together.
-use Rattle.std.specs.Prelude.{◌≡◌, ◌≢◌, ℕ, zero, suc, ◌+◌, ◌*◌, ◌<◌, ◌≤◌, ◌⊎◌, Bool, true, false, IsTrue, if◌then◌else◌, ◌==◌, List, [], ◌∷◌, length, Option, Some, None, slice_get}
+use Rattle.std.specs.Prelude.{◌≡◌, ◌≢◌, ℕ, zero, suc, ◌+◌, ◌*◌, ◌<◌, ◌≤◌, ◌⊎◌, Bool, false, IsTrue, if◌then◌else◌, ◌==◌, List, ◌∷◌, length, Option, Some, None, slice_get}
 use Rattle.std.specs.List.{sum_by}
 use Rattle.parking_lot_rules.specs.Roles.{Mode, Shared, Exclusive, Upgradable, Late, Phase, Idle, Seeks, Queued1, Taken1, Drains, Queued2, Taken2, Owes1, Owes2}
 use Rattle.parking_lot_rules.specs.Clauses.{Word}
 use Rattle.parking_lot_rules.specs.Plain.{Plain, Begin, Unshare, UnshareLast, Unlock, UnlockUpgradable, LookExclusive, LookUpgradable, Downgrade, DowngradeToUpgradable, DowngradeUpgradable, Upgrade, UpgradeAtOnce, bars}
 use Rattle.parking_lot_rules.specs.Steps.{Step, Alone, Wake}
 use Rattle.parking_lot_rules.specs.Family.{Key, First, Second, key, put}
-use Rattle.parking_lot_rules.specs.World.{Place, World, lock_at, world_after, MayStep}
+use Rattle.parking_lot_rules.specs.World.{Place, World, world_after, MayStep}
 use Rattle.parking_lot_rules.specs.Runs.{IsReached}
 use Rattle.parking_lot_rules.specs.Laws.{is_asleep}
 use Rattle.parking_lot_rules.specs.Ranks.{to_come, is_deadline}

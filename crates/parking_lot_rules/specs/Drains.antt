@@ -1,12 +1,12 @@
 -- Whole runs in which one thread is stepped until it stops, and then another, and how many steps they take at most.
-use Rattle.std.specs.Prelude.{◌≡◌, ℕ, zero, suc, ◌+◌, ◌*◌, ◌<◌, ◌≤◌, ◌⊎◌, Bool, true, false, IsTrue, List, [], ◌∷◌, length}
+use Rattle.std.specs.Prelude.{◌≡◌, ℕ, suc, ◌+◌, ◌*◌, ◌<◌, ◌≤◌, ◌⊎◌, Bool, true, false, IsTrue, List, [], ◌∷◌, length}
 use Rattle.parking_lot_rules.specs.Roles.{Mode, Fresh, Back, Phase, Idle, Enters1, Checked1, Queued1, Taken1, Masks1, Leaves1, Enters2, Checked2, Queued2, Taken2, Leaves2, Scans1, Stored1, Scans2, Masked2}
 use Rattle.parking_lot_rules.specs.Steps.{Step}
 use Rattle.parking_lot_rules.specs.World.{world_after, MayStep}
 use Rattle.parking_lot_rules.specs.Runs.{IsReached}
 use Rattle.parking_lot_rules.specs.Ranks.{is_deadline}
 use Rattle.parking_lot_rules.specs.Sights.{Sight}
-use Rattle.parking_lot_rules.specs.Agenda.{Call, Acquire, Release, cost, Stage, Rests, Begins, Works, Scene, phase, threads, far, sum_to, all_steps, Turn, Next_step, Turned, Stop, HandsOn}
+use Rattle.parking_lot_rules.specs.Agenda.{Acquire, Release, cost, Stage, Rests, Begins, Works, Scene, phase, threads, far, sum_to, all_steps, Turn, Next_step, Turned, Stop, HandsOn}
 
 -- the most steps of a call among n threads, whatever call it is and whatever comes to it
 abbrev pub most_of_a_call : ℕ → ℕ

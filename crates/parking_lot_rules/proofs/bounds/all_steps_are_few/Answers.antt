@@ -1,4 +1,4 @@
-use Rattle.parking_lot_rules.proofs.Bounding.{steps_are_few, visits_are_short}
+use Rattle.parking_lot_rules.proofs.Bounding.{steps_are_few}
 use Rattle.parking_lot_rules.proofs.bounds.all_steps_are_few.Goals as goal
 
 pub returns : goal.returns
