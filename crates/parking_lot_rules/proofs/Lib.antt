@@ -34,6 +34,7 @@ pub mod Draining
 pub mod Sectioning
 pub mod Propering
 pub mod AnyRanking
+pub mod Visiting
 pub mod MutexCasing
 pub mod MutexRanking
 pub mod MutexCrossing

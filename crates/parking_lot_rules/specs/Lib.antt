@@ -18,6 +18,7 @@ pub mod Sights
 pub mod Aims
 pub mod Agenda
 pub mod Drains
+pub mod Visit
 pub mod Mutex
 pub mod MutexLaws
 pub mod MutexOwners

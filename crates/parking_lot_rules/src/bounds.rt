@@ -10,6 +10,7 @@ ghost use Rattle.parking_lot_rules.specs.Drains.{
   TurnsAreFew,
   VisitsAreShort,
 };
+ghost use Rattle.parking_lot_rules.specs.Visit.{VisitIsThere};
 
 /// Whatever a thread does that is stepped alone, at any lock and in any of its calls, lowers the steps that all threads are still to make:
 /// each start, look, step at a lock, refusal and answer. A wake is paid for by the one that wakes.
@@ -55,6 +56,11 @@ pub fn turns_are_few()
 /// at the beginning.
 pub fn scenes_stay_proper()
     ensures { ScenesStayProper }
+{}
+
+/// A thread that reads can do so: it acquires a lock, gives it up again, and both its calls are answered.
+pub fn a_reader_comes_and_goes()
+    ensures { VisitIsThere }
 {}
 
 /// A lock is acquired and given up in fewer than 256 steps for each square of one more than the threads, with 100 steps left for what its
