@@ -12,13 +12,14 @@ use Rattle.parking_lot_rules.specs.Runs.{Move, moved, Runs, at_rest, IsReached}
 use Rattle.parking_lot_rules.specs.Ranks.{is_deadline}
 use Rattle.parking_lot_rules.specs.Aims.{Aim, View, looks_of, most_looks, far_steps, near_steps}
 use Rattle.parking_lot_rules.specs.Agenda.{cost, Scene, phase_of, lock_of, phase, lock, threads, other_in, view_at, stage_steps, far, near_of, sum_to, share, all_steps, Turn, Look, Start, First_step, Next_step, Refusal, Answer, Turned}
-use Rattle.parking_lot_rules.specs.Drains.{most_of_a_deadline, DeadlinesAddFew, Takes, Hands_on, Passes, deadlines, TurnsAreFew}
+use Rattle.parking_lot_rules.specs.Drains.{most_of_a_deadline, DeadlinesAddFew, Takes, Hands_on, Passes, deadlines, TurnsAreFew, RunsAreShort}
 use Rattle.parking_lot_rules.proofs.Families.{put-same, put-other}
 use Rattle.parking_lot_rules.proofs.Running.{reached_sound}
 use Rattle.parking_lot_rules.proofs.Ranking.{to_come_few}
 use Rattle.parking_lot_rules.proofs.Planning.{sum_one, share_own, share_other, places_length, others_far}
 use Rattle.parking_lot_rules.proofs.Turning.{turns_lower}
 use Rattle.parking_lot_rules.proofs.Switching.{switches_keep}
+use Rattle.parking_lot_rules.proofs.Bounding.{any_may_be_stepped, steps_are_few}
 
 -- what a deadline leaves as it was, and what the thread then has to do
 late_writes : (k : Plain) → is_deadline (Alone k) ≡ true → (w : Word) → written k w ≡ w
@@ -257,3 +258,7 @@ turns_are_few bucket recursive s last t who (Passes u j step ∷ es) reached goe
       ap (λ n. most_of_a_deadline n * deadlines es) to_next.1,
       mul-suc (most_of_a_deadline (threads s)) (deadlines es),
     )
+
+pub runs_are_short : RunsAreShort
+runs_are_short bucket recursive s last t who es reached proper goes =
+    omega (arith, turns_are_few bucket recursive s last t who es reached goes, any_may_be_stepped bucket recursive t s reached, steps_are_few bucket recursive s reached proper)

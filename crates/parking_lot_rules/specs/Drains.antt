@@ -84,6 +84,11 @@ abbrev pub TurnsAreFew : Type 0
 TurnsAreFew = (bucket : ℕ → ℕ) (recursive : ℕ → Bool) (s last : Scene) (t who : ℕ) (es : List Event) → IsReached bucket recursive s.world → GoesOn bucket recursive s t es last who
     → turns es + all_steps bucket last who ≤ all_steps bucket s t + most_of_a_deadline (threads s) * deadlines es
 
+-- And so no more than that many for each call, and for each deadline.
+abbrev pub RunsAreShort : Type 0
+RunsAreShort = (bucket : ℕ → ℕ) (recursive : ℕ → Bool) (s last : Scene) (t who : ℕ) (es : List Event) → IsReached bucket recursive s.world → IsProper s → GoesOn bucket recursive s t es last who
+    → turns es ≤ most_of_a_call (threads s) * all_unanswered s + most_of_a_deadline (threads s) * deadlines es
+
 -- A visit: a lock is acquired and given up again, with 100 steps of its owner between. All of that is less than 256 for each square of one
 -- more than the threads.
 abbrev pub IsShort : ℕ → Mode → Type 0

@@ -4,6 +4,7 @@ ghost use Rattle.parking_lot_rules.specs.AnyRanks.{AllRanksBegin, AllRanksChange
 ghost use Rattle.parking_lot_rules.specs.Drains.{
   AnyMayBeStepped,
   DeadlinesAddFew,
+  RunsAreShort,
   ScenesStayProper,
   SectionsLower,
   StepsAreFew,
@@ -50,6 +51,12 @@ pub fn deadlines_add_few_steps()
 /// add.
 pub fn turns_are_few()
     ensures { TurnsAreFew }
+{}
+
+/// So they take at most 396 turns for each thread, and 529, for each call that isn't answered at the beginning; and 396 for each thread, and
+/// 220, for each deadline that passes.
+pub fn runs_are_short()
+    ensures { RunsAreShort }
 {}
 
 /// However the threads are stepped, each of them is doing something at a lock only in a call that has changed something there, if that was so

@@ -15,7 +15,7 @@ mod wrong;
 
 pub use bounds::{
     a_reader_comes_and_goes, all_ranks_begin_small, all_ranks_fall, all_steps_are_few,
-    another_may_be_stepped_anywhere, any_may_be_stepped, deadlines_add_few_steps,
+    another_may_be_stepped_anywhere, any_may_be_stepped, deadlines_add_few_steps, runs_are_short,
     scenes_stay_proper, sections_lower_all_steps, switches_keep_all_steps, turns_are_few,
     turns_lower_all_steps, visits_are_short,
 };
