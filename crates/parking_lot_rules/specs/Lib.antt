@@ -19,9 +19,9 @@ pub mod Aims
 pub mod Agenda
 pub mod Drains
 pub mod Visit
+pub mod AnyRanks
 pub mod Mutex
 pub mod MutexLaws
 pub mod MutexOwners
 pub mod MutexRanks
 pub mod Any
-pub mod AnyRanks
