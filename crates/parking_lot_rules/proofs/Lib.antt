@@ -24,6 +24,17 @@ pub mod Mutexes
 pub mod MutexFollowing
 pub mod Ranking
 pub mod Sighting
+pub mod Aiming
+pub mod Planning
+pub mod Turning
+pub mod Counting
+pub mod Switching
+pub mod Bounding
+pub mod Draining
+pub mod Sectioning
+pub mod Propering
+pub mod AnyRanking
+pub mod Visiting
 pub mod MutexCasing
 pub mod MutexRanking
 pub mod MutexCrossing

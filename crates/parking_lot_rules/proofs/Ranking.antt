@@ -17,7 +17,7 @@ use Rattle.parking_lot_rules.proofs.Changing.{taking_taken}
 use Rattle.parking_lot_rules.proofs.Sounds.{waking_apart}
 
 -- two threads whose phases differ
-two_apart : (rs : List Role) (t v : ℕ) (a x : Role) → slice_get rs t ≡ Some a → slice_get rs v ≡ Some x → a.does ≢ x.does → t ≢ v
+pub two_apart : (rs : List Role) (t v : ℕ) (a x : Role) → slice_get rs t ≡ Some a → slice_get rs v ≡ Some x → a.does ≢ x.does → t ≢ v
 two_apart rs t v a x at there ne e = ne (ap (λ (r : Role). r.does) (same_Some a x (sym at ∙ ap (λ i. slice_get rs i) e ∙ there)))
 
 -- which of the two numbers it is
@@ -164,7 +164,7 @@ module _ (recursive : Bool) (n a b : ℕ) (w : Word) (all : Class → ℕ) (few1
   listing_falls true (Quit2 f i) c d = omega arith
   listing_falls false (Quit2 f i) c d = omega arith
 
-to_come_few : (m : Mode) → to_come m ≤ 8
+pub to_come_few : (m : Mode) → to_come m ≤ 8
 to_come_few Shared = omega arith
 to_come_few Exclusive = omega arith
 to_come_few Upgradable = omega arith
@@ -245,7 +245,7 @@ module _ (recursive : Bool) (t : ℕ) (l : Lock) (sound : IsSound l) where
   falls false new p q len h = subst (λ k. fresh k new.word (length new.first) (length new.second) q + rank_of_others k new.roles t + 1 ≤ ranks false l t p) (sym len) h
 
   -- the phase of the thread after the step
-  abbrev phase_after : Step → Phase
+  abbrev pub phase_after : Step → Phase
   phase_after (Alone k) = (to k).does
   phase_after (List_changes k) = (listing_to k).does
   phase_after (Take1 s i v m stay) = (scanning (taking s v m)).does
@@ -254,7 +254,7 @@ module _ (recursive : Bool) (t : ℕ) (l : Lock) (sound : IsSound l) where
   phase_after (Wake o v us k stay) = Wakes us
   phase_after (Pass o v us) = Wakes us
 
-  abbrev phase_before : Step → Phase
+  abbrev pub phase_before : Step → Phase
   phase_before (Alone k) = (from k).does
   phase_before (List_changes k) = (listing_from k).does
   phase_before (Take1 s i v m stay) = (scanning s).does
@@ -357,7 +357,7 @@ module _ (recursive : Bool) (t : ℕ) (l : Lock) (sound : IsSound l) where
       (omega (arith, others-set (length l.roles) l.roles t _ (record { owns = o; does = Wakes us }) may.0))
 
   -- the thread's role before the step and after it
-  role_before : (step : Step) → Allowed recursive t step l → (r : Role) → slice_get l.roles t ≡ Some r → phase_before step ≡ r.does
+  pub role_before : (step : Step) → Allowed recursive t step l → (r : Role) → slice_get l.roles t ≡ Some r → phase_before step ≡ r.does
   role_before (Alone k) may r at = ap (λ (x : Role). x.does) (same_Some _ r (sym may.0 ∙ at))
   role_before (List_changes k) may r at = ap (λ (x : Role). x.does) (same_Some _ r (sym may.0 ∙ at))
   role_before (Take1 s i v m stay) may r at = ap (λ (x : Role). x.does) (same_Some _ r (sym may.0 ∙ at))
@@ -366,7 +366,7 @@ module _ (recursive : Bool) (t : ℕ) (l : Lock) (sound : IsSound l) where
   role_before (Wake o v us k stay) may r at = ap (λ (x : Role). x.does) (same_Some _ r (sym may.0 ∙ at))
   role_before (Pass o v us) may r at = ap (λ (x : Role). x.does) (same_Some _ r (sym may.0 ∙ at))
 
-  role_after : (step : Step) → Allowed recursive t step l → (r : Role) → slice_get (after t step l).roles t ≡ Some r → phase_after step ≡ r.does
+  pub role_after : (step : Step) → Allowed recursive t step l → (r : Role) → slice_get (after t step l).roles t ≡ Some r → phase_after step ≡ r.does
   role_after (Alone k) may r at = ap (λ (x : Role). x.does) (same_Some _ r (sym (get-set_same l.roles t _ (to k) may.0) ∙ at))
   role_after (List_changes k) may r at = ap (λ (x : Role). x.does) (same_Some _ r (sym (get-set_same l.roles t _ (listing_to k) may.0) ∙ at))
   role_after (Take1 s i v m stay) may r at =

@@ -33,7 +33,7 @@ role-given j r p = same_role _ r.owns _ r.does (put-same p.owns j r.owns) (seen-
 abbrev pub IsThere : ℕ → Place → Type 0
 IsThere j p = (p.at ≡ j) ⊎ (p.does ≡ Idle)
 
-not_seen : (i j : ℕ) (p : Place) → i ≢ j → IsThere j p → seen (p.at == i) p.does ≡ Idle
+pub not_seen : (i j : ℕ) (p : Place) → i ≢ j → IsThere j p → seen (p.at == i) p.does ≡ Idle
 not_seen i j p ne (inl at) = seen-elsewhere i p.at p.does (λ e. ne (sym e ∙ at))
 not_seen i j p ne (inr idle) = seen-idle (p.at == i) p.does idle
 
@@ -112,7 +112,7 @@ firsts_apart i j ne e = ne (omega (arith, e))
 seconds_apart : (i j : ℕ) → i ≢ j → key i Second ≢ key j Second
 seconds_apart i j ne e = ne (omega (arith, e))
 
-waking_busy : (k : Waking) (t : ℕ) (stay : Stay) → (waking_from k t stay).does ≢ Idle
+pub waking_busy : (k : Waking) (t : ℕ) (stay : Stay) → (waking_from k t stay).does ≢ Idle
 waking_busy (Retry m) t stay e = cc
 waking_busy Own t stay e = cc
 waking_busy OwnPending t stay e = cc

@@ -15,6 +15,11 @@ pub mod Owners
 pub mod Example
 pub mod Ranks
 pub mod Sights
+pub mod Aims
+pub mod Agenda
+pub mod Drains
+pub mod Visit
+pub mod AnyRanks
 pub mod Mutex
 pub mod MutexLaws
 pub mod MutexOwners

@@ -2,6 +2,7 @@
 //! steps does to the lock's word and queues, and the proof that no waiter is ever forgotten, under every schedule.
 #![tactic(auto)]
 
+mod bounds;
 mod example;
 mod laws;
 mod mutex;
@@ -12,6 +13,12 @@ mod tests;
 mod word;
 mod wrong;
 
+pub use bounds::{
+    a_reader_comes_and_goes, all_ranks_begin_small, all_ranks_fall, all_steps_are_few,
+    another_may_be_stepped_anywhere, any_may_be_stepped, deadlines_add_few_steps, runs_are_short,
+    scenes_stay_proper, sections_lower_all_steps, switches_keep_all_steps, turns_are_few,
+    turns_lower_all_steps, visits_are_short,
+};
 pub use example::a_writer_waits_and_is_woken;
 pub use laws::{
     a_refusal_has_a_cause, debts_are_kept, every_lock_is_sound, no_bit_outlives_the_calls,

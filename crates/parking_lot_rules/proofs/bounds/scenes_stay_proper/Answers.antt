@@ -1,0 +1,5 @@
+use Rattle.parking_lot_rules.proofs.Propering.{scenes_stay_proper}
+use Rattle.parking_lot_rules.proofs.bounds.scenes_stay_proper.Goals as goal
+
+pub returns : goal.returns
+returns c = scenes_stay_proper
