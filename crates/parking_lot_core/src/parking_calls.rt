@@ -18,7 +18,7 @@ use crate::thread_data::ThreadData;
 use crate::thread_parker::{Timed, time_left};
 use std::alloc::Allocator;
 use std::convert::Infallible;
-use std::sync::{CondvarTimeouts, MutexGuard, Wait};
+use std::sync::{Arc, Condvar, CondvarTimeouts, MutexGuard, Wait};
 use std::time::{Clock, Instant};
 
 /// Parks the thread under a key. The validation is asked while the key's list is locked; where it answers false, `Invalid`
@@ -131,7 +131,12 @@ pub fn unpark_one<R: Wait, A: Allocator, C: FnOnce(UnparkResult) -> UnparkToken 
     ensures moved { result.requeued_threads ≡ 0 }
     ensures done { (fair : Bool) × OnSomeLot (Does busy (UnparksOne fair (C.post callback) key)) result }
 {
-    match lot.state.lock(&lot.rt).unpark_one(key, callback) {
+    let mut state = lot.state.lock(&lot.rt);
+    let seat = state.first_seat(key);
+    let done = state.unpark_one(key, callback);
+    drop(state);
+    ring(seat);
+    match done {
         Ok(answer) => answer,
         Err(_) => match stuck(&lot.rt) {},
     }
@@ -169,11 +174,12 @@ where
     ensures told { Tells (V.post validate) (C.post callback) result }
     ensures done { OnSomeLot (Does busy (UnparksAndRequeues (V.post validate) (C.post callback) key_from key_to)) result }
 {
-    match lot
-        .state
-        .lock(&lot.rt)
-        .unpark_requeue(key_from, key_to, validate, callback)
-    {
+    let mut state = lot.state.lock(&lot.rt);
+    let seat = state.first_seat(key_from);
+    let done = state.unpark_requeue(key_from, key_to, validate, callback);
+    drop(state);
+    ring(seat);
+    match done {
         Ok(answer) => answer,
         Err(_) => match stuck(&lot.rt) {},
     }
@@ -199,6 +205,13 @@ where
     match lot.state.lock(&lot.rt).unpark_filter(key, filter, callback) {
         Ok(answer) => answer,
         Err(_) => match stuck(&lot.rt) {},
+    }
+}
+
+/// Wakes who sleeps there.
+fn ring<A: Allocator>(seat: Option<Arc<Condvar, A>>) {
+    if let Some(seat) = seat {
+        seat.notify_all();
     }
 }
 

@@ -51,15 +51,27 @@ impl<A: Allocator> State<A> {
         self.turns == 0
     }
 
-    /// Has the first waiters of a key look at the lot again, so many as there are up to that count.
-    fn ring(&self, key: usize, count: usize) {
-        for nth in 0..self.lot.count(key).min(count) {
+    /// Has all waiters of a key look at the lot again.
+    fn ring_all(&self, key: usize) {
+        for nth in 0..self.lot.count(key) {
             if let Some(waiter) = self.lot.waiter(key, nth) {
                 if let Some(seat) = self.seats.get(waiter.thread) {
                     seat.notify_all();
                 }
             }
         }
+    }
+
+    /// What the first waiter of a key sleeps on, for who wakes it once the lock is given back: until then it couldn't go
+    /// on. Where it can't be shared it is rung now.
+    pub fn first_seat(&self, key: usize) -> Option<Arc<Condvar, A>> {
+        let waiter = self.lot.waiter(key, 0)?;
+        let seat = self.seats.get(waiter.thread)?;
+        let shared = Arc::try_clone(seat).ok();
+        if shared.is_none() {
+            seat.notify_all();
+        }
+        shared
     }
 
     /// Whether the thread stands in a list.
@@ -84,7 +96,7 @@ impl<A: Allocator> State<A> {
         self.lot.resume(thread, timed_out)
     }
 
-    /// Takes the first waiter of a key and wakes it.
+    /// Takes the first waiter of a key.
     pub fn unpark_one<C: FnOnce(UnparkResult) -> UnparkToken + Drop>(
         &mut self,
         key: usize,
@@ -97,7 +109,6 @@ impl<A: Allocator> State<A> {
     {
         self.lot.known();
         let fair = self.turn();
-        self.ring(key, 1);
         self.lot.unpark_first(key, fair, callback)
     }
 
@@ -108,7 +119,7 @@ impl<A: Allocator> State<A> {
         ensures turns { self.new.turns ≡ self.old.turns }
     {
         self.lot.known();
-        self.ring(key, usize::MAX);
+        self.ring_all(key);
         self.lot.unpark_all(key, unpark_token)
     }
 
@@ -130,11 +141,11 @@ impl<A: Allocator> State<A> {
     {
         self.lot.known();
         let fair = self.turn();
-        self.ring(key, usize::MAX);
+        self.ring_all(key);
         self.lot.unpark_wanted(key, fair, filter, callback)
     }
 
-    /// Wakes and moves waiters as the validation says.
+    /// Takes and moves waiters as the validation says.
     pub fn unpark_requeue<V, C>(
         &mut self,
         key_from: usize,
@@ -152,7 +163,6 @@ impl<A: Allocator> State<A> {
         ensures turns { self.new.turns ≡ self.old.turns }
     {
         self.lot.known();
-        self.ring(key_from, 1);
         self.lot
             .unpark_requeue(key_from, key_to, validate, callback)
     }
