@@ -1,8 +1,8 @@
 -- What calls on the lot for threads say, where the lock alone knows the lot.
-use Rattle.std.specs.Prelude.{◌≡◌, ℕ, nat_lt, Bool, false, if◌then◌else◌, MatchBool, List, [], length, Option, Some, Result, Ok}
+use Rattle.std.specs.Prelude.{◌≡◌, ◌⊎◌, ℕ, nat_lt, Bool, false, if◌then◌else◌, MatchBool, List, [], length, Option, Some, Result, Ok}
 use Rattle.std.specs.Option.{option_map_or}
 use Rattle.parking_lot_core.specs.declared.fault.LotFault.{LotFault}
-use Rattle.parking_lot_core.specs.declared.fault.LotFault.TheVariants.{TooManyThreads}
+use Rattle.parking_lot_core.specs.declared.fault.LotFault.TheVariants.{TooManyThreads, NoMemory}
 use Rattle.parking_lot_core.specs.declared.parking.ParkToken.{ParkToken}
 use Rattle.parking_lot_core.specs.declared.parking.UnparkToken.{UnparkToken}
 use Rattle.parking_lot_core.specs.declared.parking.UnparkResult.{UnparkResult}
@@ -22,6 +22,10 @@ OnSomeLot does answer = (old : Machine) × (new : Machine) × Sound old × does 
 -- why nobody can register where there are to be so many threads at most
 abbrev pub admit_fault : ℕ → Machine → Option LotFault
 admit_fault limit m = if nat_lt (free_number m.places) limit then register_fault m else Some TooManyThreads
+
+-- on some sound lot nobody could register for this, or memory was refused
+abbrev pub IsRefused : ℕ → LotFault → Type 0
+IsRefused limit fault = (m : Machine) × Sound m × ((admit_fault limit m ≡ Some fault) ⊎ (fault ≡ NoMemory))
 
 -- the thread stands in a list
 abbrev pub waits_in : Machine → ℕ → Bool

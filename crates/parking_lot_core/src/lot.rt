@@ -1,9 +1,8 @@
 //! The exact lot: its threads, and what it shows of them.
-ghost use Rattle.std.specs.Prelude.{◌≡◌, ◌<◌, ◌≤◌, ◌↔◌, ◌⊎◌, ◌==◌, if◌then◌else◌, ℕ, IfOk, IfSome, IsOk, IfErr, OnOk, OnErr, IsTrue, IsErrOf, MatchResult, false, Some, None, Ok, Err, length, map, count_by, [], ◌∷◌, ◌++◌};
-ghost use Rattle.parking_lot_core.specs.Lists.{updated, without_first};
+ghost use Rattle.std.specs.Prelude.{◌≡◌, ◌<◌, ◌↔◌, ◌⊎◌, if◌then◌else◌, ℕ, IfOk, IfSome, IfErr, IsTrue, IsErrOf, false, Some, None, Err, count_by};
 ghost use Rattle.parking_lot_core.specs.Places.{place_at, late, roused, is_due, is_held};
 ghost use Rattle.std.specs.Option.{option_map_or};
-ghost use Rattle.parking_lot_core.specs.Machine.{Machine, machine, status_at, threads_of, is_in, is_thread, register_fault, retire_fault, deadline_fault, owner_fault, enter_fault, free_number, busy, changed_at, registered, retired, recorded, forgotten, Does, Makes, MakesOr};
+ghost use Rattle.parking_lot_core.specs.Machine.{machine, status_at, threads_of, is_in, is_thread, register_fault, retire_fault, deadline_fault, owner_fault, enter_fault, free_number, busy, changed_at, registered, retired, recorded, forgotten, Does, Makes, MakesOr};
 ghost use Rattle.parking_lot_core.specs.Runs.{fresh};
 ghost use Rattle.parking_lot_core.specs.Sound.{Sound, times_at};
 ghost use Rattle.parking_lot_core.specs.declared.fault.SizeFault.TheVariants.{BadSize};

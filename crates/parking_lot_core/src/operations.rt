@@ -1,14 +1,10 @@
 //! Whole operations: a thread parks and goes on, and others are unparked.
-ghost use Rattle.std.specs.Prelude.{◌≡◌, ◌≤◌, ◌++◌, ◌∷◌, ℕ, Some, None, true, false, Ok, IsOk, IsSome, if◌then◌else◌, MatchBool, MatchOption, drop, take, length, map, slice_get, List, []};
-ghost use Rattle.std.specs.Option.{option_map, option_map_or};
-ghost use Rattle.parking_lot_core.specs.declared.parking.ParkResult.TheVariants.{Invalid, Unparked, TimedOut};
-ghost use Rattle.parking_lot_core.specs.declared.parking.UnparkToken.{UnparkToken};
+ghost use Rattle.std.specs.Prelude.{◌≡◌, ◌≤◌, Some, true, false, IsSome, drop, take, length, List};
 ghost use Rattle.parking_lot_core.specs.declared.parking.FilterOp.{FilterOp};
-ghost use Rattle.parking_lot_core.specs.declared.parking.RequeueOp.{RequeueOp};
-ghost use Rattle.parking_lot_core.specs.declared.place.Place.TheVariants.{Running, Waiting};
+ghost use Rattle.parking_lot_core.specs.declared.place.Place.TheVariants.{Waiting};
 ghost use Rattle.parking_lot_core.specs.Places.{place_at};
-ghost use Rattle.parking_lot_core.specs.Results.{Answers, is_stop, is_left, unpark_result, chosen_by, passed_by, woken_by, moved_by, left_by, fairly};
-ghost use Rattle.parking_lot_core.specs.Machine.{machine, tokens_of, busy, enter_fault, resume_fault, opened, stored, closed, taken, given_up, unparked, moved, requeued, Does};
+ghost use Rattle.parking_lot_core.specs.Results.{Answers, is_stop, unpark_result, chosen_by, passed_by, woken_by, moved_by, left_by, fairly};
+ghost use Rattle.parking_lot_core.specs.Machine.{machine, tokens_of, busy, enter_fault, resume_fault, stored, closed, taken, given_up, moved, Does};
 ghost use Rattle.parking_lot_core.specs.Operations.{all_taken, is_abort, woken_count, moved_count, Resumes, Parks, UnparksOne, UnparksAll, UnparksByFilter, UnparksAndRequeues};
 
 use crate::fault::LotFault;

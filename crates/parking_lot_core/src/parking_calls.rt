@@ -1,13 +1,9 @@
 //! Parking and unparking of real threads.
-ghost use Rattle.std.specs.Prelude.{◌≡◌, ◌<◌, ◌≤◌, ℕ, Bool, true, IsSome, MatchBool, ◌≢◌, length, List, []};
+ghost use Rattle.std.specs.Prelude.{◌≡◌, ◌<◌, ◌≤◌, ℕ, Bool, true, IsSome, MatchBool, ◌≢◌};
 ghost use Rattle.parking_lot_core.specs.declared.parking.ParkResult.TheVariants.{Invalid, TimedOut};
 ghost use Rattle.parking_lot_core.specs.declared.parking.UnparkToken.{UnparkToken};
-ghost use Rattle.parking_lot_core.specs.declared.parking.RequeueOp.{RequeueOp};
-ghost use Rattle.parking_lot_core.specs.Operations.{is_abort, Resumes, UnparksOne, UnparksAll, UnparksAndRequeues, UnparksByFilter};
-ghost use Rattle.parking_lot_core.specs.declared.parking.FilterOp.{FilterOp};
-ghost use Rattle.parking_lot_core.specs.declared.place.Waiter.{Waiter};
-ghost use Rattle.parking_lot_core.specs.Results.{Answers, is_stop, is_left, unpark_result, chosen_by, passed_by};
-ghost use Rattle.parking_lot_core.specs.Machine.{machine, tokens_of, busy, resume_fault, Does};
+ghost use Rattle.parking_lot_core.specs.Operations.{Resumes, UnparksOne, UnparksAll, UnparksAndRequeues, UnparksByFilter};
+ghost use Rattle.parking_lot_core.specs.Machine.{machine, busy, resume_fault, Does};
 ghost use Rattle.parking_lot_core.specs.Shared.{OnSomeLot, Counts, Tells, waits_in};
 ghost use Rattle.std.specs.Sync.Mutex.{mutex_guard_value};
 

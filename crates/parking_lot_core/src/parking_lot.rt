@@ -1,6 +1,7 @@
 //! The lot for real threads.
 ghost use Rattle.std.specs.Prelude.{◌≡◌, ◌<◌, ◌↔◌, ◌⊎◌, IsTrue, IsErrOf, IfOk, IfErr, []};
 ghost use Rattle.parking_lot_core.specs.declared.fault.SizeFault.TheVariants.{BadSize};
+ghost use Rattle.parking_lot_core.specs.Shared.{IsRefused};
 ghost use Rattle.parking_lot_core.specs.declared.fault.LotFault.TheVariants.{TooManyThreads, NoMemory};
 
 use crate::fault::{LotFault, SizeFault};
@@ -96,6 +97,7 @@ impl<R: Wait, A: Allocator + Clone> ParkingLot<R, A> {
     pub fn thread_data(&self) -> Result<ThreadData<A>, LotFault>
         ensures made { IfOk result (λ thread_data. (thread_data.lot ≡ self.now.number) × (thread_data.thread < self.now.max_threads) × (thread_data.resources ≡ [])) }
         ensures fault { IfErr result (λ fault. (fault ≡ TooManyThreads) ⊎ (fault ≡ NoMemory)) }
+        ensures full { IfErr result (IsRefused self.now.max_threads) }
     {
         self.state
             .lock(&self.rt)

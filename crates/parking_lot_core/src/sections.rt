@@ -1,5 +1,5 @@
 //! The steps of a section: a thread enters, looks, takes or joins, and leaves.
-ghost use Rattle.std.specs.Prelude.{◌≡◌, ◌+◌, Some, None, true, false, Ok, IsOk, IsSome, IsSomeAnd, if◌then◌else◌, MatchOption, drop, count_by, slice_get, List};
+ghost use Rattle.std.specs.Prelude.{◌≡◌, ◌+◌, Some, None, true, false, IsSome, if◌then◌else◌, MatchOption, drop, count_by, slice_get, List};
 ghost use Rattle.std.specs.List.{list_any};
 ghost use Rattle.std.specs.Option.{option_map, option_map_or};
 ghost use Rattle.parking_lot_core.specs.declared.parking.FilterOp.{FilterOp};
@@ -7,7 +7,7 @@ ghost use Rattle.parking_lot_core.specs.declared.place.Place.TheVariants.{Runnin
 ghost use Rattle.parking_lot_core.specs.declared.place.Phase.TheVariants as phase;
 ghost use Rattle.parking_lot_core.specs.Places.{place_at, mark_of, may_check, may_join, may_take, may_store};
 ghost use Rattle.parking_lot_core.specs.Results.{Answers, is_no_skip, is_skip, is_take};
-ghost use Rattle.parking_lot_core.specs.Machine.{machine, tokens_of, section_of, any_phase, enter_fault, step_fault, opened, in_phase, joined, stored, closed, taken, taking_of, TakesInSection, Checks, Appends, Does, Makes};
+ghost use Rattle.parking_lot_core.specs.Machine.{machine, tokens_of, section_of, any_phase, enter_fault, step_fault, opened, in_phase, stored, closed, taken, taking_of, TakesInSection, Checks, Appends, Does, Makes};
 
 use crate::fault::LotFault;
 use crate::lot::Lot;

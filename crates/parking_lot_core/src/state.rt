@@ -33,7 +33,10 @@ pub(crate) struct State<A: Allocator> {
 
 impl<A: Allocator> State<A> {
     /// Around a lot on which nobody has registered yet.
-    pub fn new(lot: Lot<A>, seats: Vec<Arc<Condvar, A>, A>) -> State<A> {
+    pub fn new(lot: Lot<A>, seats: Vec<Arc<Condvar, A>, A>) -> State<A>
+        ensures lot { result.lot ≡ lot }
+        ensures turns { result.turns ≡ 0 }
+    {
         State {
             lot,
             seats,
@@ -171,11 +174,13 @@ impl<A: Allocator> State<A> {
 impl<A: Allocator + Clone> State<A> {
     /// Registers a participant of the lot with that number, which is to have so many threads at most.
     pub fn admit(&mut self, number: u64, max_threads: usize) -> Result<ThreadData<A>, LotFault>
+        ensures sound { Sound (machine self.old.lot) }
         ensures full { IfSome (admit_fault max_threads (machine self.old.lot)) (λ fault. result ≡ Err fault) }
         ensures ok { IfOk result (λ made. (made ≡ record { lot = number; thread = free_number (machine self.old.lot).places; resources = [] }) × (made.thread < max_threads) × (machine self.new.lot ≡ registered (machine self.old.lot))) }
         ensures err { IfErr result (λ fault. ((admit_fault max_threads (machine self.old.lot) ≡ Some fault) ⊎ (fault ≡ NoMemory)) × (machine self.new.lot ≡ machine self.old.lot)) }
         ensures turns { self.new.turns ≡ self.old.turns }
     {
+        self.lot.known();
         if let Some(fault) = self.admit_fault(max_threads) {
             return Err(fault);
         }
