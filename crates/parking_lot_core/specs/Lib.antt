@@ -8,3 +8,4 @@ pub mod Operations
 pub mod Runs
 pub mod InSteps
 pub mod Participants
+pub mod Shared

@@ -1,5 +1,5 @@
 -- The lot as a machine of lists: one list of waiters for each key, and each thread's place and resources.
-use Rattle.std.specs.Prelude.{◌≡◌, ℕ, suc, ◌+◌, ◌%◌, ◌^◌, ◌==◌, ◌&&◌, Bool, true, false, not, nat_lt, if◌then◌else◌, List, [], ◌∷◌, ◌++◌, length, map, take, drop, remove, Option, Some, None, is_some, is_none, slice_get, slice_set, Result, Ok, Err, count_by, MatchBool}
+use Rattle.std.specs.Prelude.{◌≡◌, ℕ, suc, ◌+◌, ◌%◌, ◌^◌, ◌==◌, ◌&&◌, Bool, true, false, not, nat_lt, if◌then◌else◌, List, [], ◌∷◌, ◌++◌, length, map, take, drop, remove, Option, Some, None, is_some, is_none, slice_get, slice_set, Result, Ok, Err, IsOk, IsSomeAnd, count_by, MatchBool, MatchResult}
 use Rattle.std.specs.Option.{option_map, option_map_or, option_and_then}
 use Rattle.std.specs.List.{position_or_len, list_any}
 use Rattle.parking_lot_core.specs.declared.fault.LotFault.{LotFault}
@@ -143,6 +143,18 @@ abbrev pub Unless : {T : Type 0} → Option LotFault → Result T LotFault → M
 Unless None result old new Done = Done
 Unless (Some fault) result old new Done = (result ≡ Err fault) × (new ≡ old)
 
+-- a call is refused as the machine refuses it, or it is this step
+abbrev pub Does : {T : Type 0} → (Machine → Option LotFault) → (Machine → Result T LotFault → Machine → Type 0) → Machine → Result T LotFault → Machine → Type 0
+Does fault step old result new = Unless (fault old) result old new (step old result new)
+
+-- it answers that it is done, and leaves this
+abbrev pub Makes : {T : Type 0} → (Machine → Machine) → Machine → Result T LotFault → Machine → Type 0
+Makes f old result new = IsOk result × (new ≡ f old)
+
+-- the same, or it wants for something and leaves all as it was
+abbrev pub MakesOr : {T : Type 0} → LotFault → (Machine → Machine) → Machine → Result T LotFault → Machine → Type 0
+MakesOr want f old result new = MatchResult result (λ _. new ≡ f old) (λ fault. (fault ≡ want) × (new ≡ old))
+
 -- WHAT A CALL CHANGES
 
 -- the thread's place is changed so
@@ -156,6 +168,13 @@ registered m = let n = free_number m.places in record m { places = take n m.plac
 -- a number is given back, with its resources
 abbrev pub retired : Machine → ℕ → Machine
 retired m thread = record m { resources = updated m.resources thread []; places = slice_set m.places thread None }
+
+-- one more occurrence of a resource is recorded for the thread; one is forgotten, if there is one
+abbrev pub recorded : Machine → ℕ → ℕ → Machine
+recorded m thread key = record m { resources = updated m.resources thread (m.resources thread ++ key ∷ []) }
+
+abbrev pub forgotten : Machine → ℕ → ℕ → Machine
+forgotten m thread key = record m { resources = updated m.resources thread (without_first (λ k. k == key) (m.resources thread)) }
 
 -- a thread joins the end of a key's list
 abbrev pub joined : Machine → ℕ → ℕ → ParkToken → Bool → Machine
@@ -231,3 +250,15 @@ TakesNext {F} gives filter s old result new =
     MatchBool (list_any is_take answers)
     ((result ≡ Ok (option_map (taking_of old) (slice_get queue at))) × (new ≡ taken (in_phase old (phase.Taking at)) s.key at))
     ((result ≡ Ok None) × (new ≡ in_phase old phase.Ended)))
+
+-- the same in the thread's section
+abbrev pub TakesInSection : {F : Type 0} → (F → ParkToken → FilterOp → F → Type 0) → F → ℕ → Machine → Result (Option Taking) LotFault → Machine → Type 0
+TakesInSection shows filter thread old result new = IsSomeAnd (section_of old thread) (λ s. TakesNext shows filter s old result new)
+
+-- what the validation answered is said in the section, and answered
+abbrev pub Checks : Bool → Machine → Result Bool LotFault → Machine → Type 0
+Checks holds old result new = (result ≡ Ok holds) × (new ≡ in_phase old (if holds then phase.Valid else phase.Invalid))
+
+-- the section's thread joins the end of its key's list
+abbrev pub Appends : {T : Type 0} → ℕ → ParkToken → Bool → Machine → Result T LotFault → Machine → Type 0
+Appends thread token timed old result new = IsOk result × IsSomeAnd (section_of old thread) (λ s. new ≡ joined (in_phase old phase.Joined) thread s.key token timed)

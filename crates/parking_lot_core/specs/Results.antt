@@ -24,6 +24,10 @@ is_left (x ∷ xs) = true
 abbrev pub unpark_result : {X : Type 0} → ℕ → ℕ → List X → UnparkResult
 unpark_result woken moved rest = record { unparked_threads = woken; requeued_threads = moved; have_more_threads = is_left rest; be_fair = false }
 
+-- the same, with whether it had better be fair
+abbrev pub fairly : Bool → UnparkResult → UnparkResult
+fairly fair answer = record answer { be_fair = fair }
+
 -- of a list: those that a requeue wakes, those that it moves, and those that it leaves
 abbrev pub woken_by : {X : Type 0} → RequeueOp → List X → List X
 woken_by op.Abort xs = []

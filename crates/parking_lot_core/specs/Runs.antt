@@ -14,7 +14,7 @@ use Rattle.parking_lot_core.specs.declared.place.Phase.TheVariants as phase
 use Rattle.parking_lot_core.specs.Lists.{updated, without_first}
 use Rattle.parking_lot_core.specs.Places.{place_at, late, roused, is_due, may_check, may_join, may_take, may_store, passed_of}
 use Rattle.parking_lot_core.specs.Results.{chosen_by, passed_by, is_take, is_skip}
-use Rattle.parking_lot_core.specs.Machine.{Machine, section_of, any_phase, busy, register_fault, retire_fault, enter_fault, step_fault, deadline_fault, resume_fault, owner_fault, changed_at, registered, retired, joined, unparked, requeued, given_up, opened, in_phase, taken, stored, closed}
+use Rattle.parking_lot_core.specs.Machine.{Machine, section_of, any_phase, busy, register_fault, retire_fault, enter_fault, step_fault, deadline_fault, resume_fault, owner_fault, changed_at, registered, retired, recorded, forgotten, joined, unparked, requeued, given_up, opened, in_phase, taken, stored, closed}
 use Rattle.parking_lot_core.specs.Operations.{is_abort}
 
 -- an operation, with what its closures answer
@@ -86,8 +86,8 @@ effect_of m (UnparkOne key token) = unparked m key (take 1 (m.queues key)) (drop
 effect_of m (UnparkAll key token) = unparked m key (m.queues key) [] token
 effect_of m (UnparkFilter key answers token) = unparked m key (chosen_by answers (m.queues key)) (passed_by answers (m.queues key)) token
 effect_of m (UnparkRequeue from to op token) = if is_abort op then m else requeued m op from to token
-effect_of m (Acquire thread key) = record m { resources = updated m.resources thread (m.resources thread ++ key ∷ []) }
-effect_of m (Release thread key) = record m { resources = updated m.resources thread (without_first (λ k. k == key) (m.resources thread)) }
+effect_of m (Acquire thread key) = recorded m thread key
+effect_of m (Release thread key) = forgotten m thread key
 effect_of m (Enter thread key) = opened m (Some thread) key
 effect_of m (Check thread holds) = in_phase m (if holds then phase.Valid else phase.Invalid)
 effect_of m (TakeNext thread answers) = option_map_or (taken_next m answers) (section_of m thread) m

@@ -1,5 +1,5 @@
 //! The refusals of constructors and of a lot.
-ghost use Rattle.std.specs.Prelude.{◌≡◌, ⊤};
+ghost use Rattle.std.specs.Prelude.{◌≡◌};
 ghost use Rattle.parking_lot_core.specs.Faults.{size_fault_code, lot_fault_code};
 
 use std::alloc::{AllocError, AllocFailed};

@@ -1,5 +1,5 @@
 //! Laws of the machine of lists, of which the contracts of [`Lot`](crate::Lot) speak.
-ghost use Rattle.std.specs.Prelude.{◌≡◌, ℕ, Bool, List, Some, None, true, false, take, drop};
+ghost use Rattle.std.specs.Prelude.{◌≡◌, ℕ, Bool, List, Some, None, false, take, drop};
 ghost use Rattle.std.specs.List.{list_any};
 ghost use Rattle.parking_lot_core.specs.declared.parking.FilterOp.{FilterOp};
 ghost use Rattle.parking_lot_core.specs.Results.{is_take, chosen_by, passed_by};

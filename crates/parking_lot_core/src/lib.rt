@@ -21,6 +21,7 @@ mod place;
 mod places;
 mod sections;
 mod spin;
+mod state;
 mod steps;
 mod thread_data;
 mod thread_parker;

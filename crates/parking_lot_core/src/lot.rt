@@ -1,11 +1,10 @@
 //! The exact lot: its threads, and what it shows of them.
-ghost use Rattle.std.specs.Prelude.{◌≡◌, ◌<◌, ◌≤◌, ◌↔◌, ◌⊎◌, ◌==◌, if◌then◌else◌, ℕ, IfOk, IfSome, IsOk, IfErr, OnOk, OnErr, IsTrue, IsErrOf, MatchResult, false, Some, None, Ok, Err, length, map, count_by, [], ◌∷◌, ◌++◌};
-ghost use Rattle.parking_lot_core.specs.Lists.{updated, without_first};
+ghost use Rattle.std.specs.Prelude.{◌≡◌, ◌<◌, ◌↔◌, ◌⊎◌, if◌then◌else◌, ℕ, IfOk, IfSome, IfErr, IsTrue, IsErrOf, false, Some, None, Err, count_by};
 ghost use Rattle.parking_lot_core.specs.Places.{place_at, late, roused, is_due, is_held};
 ghost use Rattle.std.specs.Option.{option_map_or};
-ghost use Rattle.parking_lot_core.specs.Machine.{Machine, machine, status_at, threads_of, is_in, is_thread, register_fault, retire_fault, deadline_fault, owner_fault, enter_fault, free_number, busy, changed_at, registered, retired, Unless};
+ghost use Rattle.parking_lot_core.specs.Machine.{machine, status_at, threads_of, is_in, is_thread, register_fault, retire_fault, deadline_fault, owner_fault, enter_fault, free_number, busy, changed_at, registered, retired, recorded, forgotten, Does, Makes, MakesOr};
 ghost use Rattle.parking_lot_core.specs.Runs.{fresh};
-ghost use Rattle.parking_lot_core.specs.Sound.{times_at};
+ghost use Rattle.parking_lot_core.specs.Sound.{Sound, times_at};
 ghost use Rattle.parking_lot_core.specs.declared.fault.SizeFault.TheVariants.{BadSize};
 ghost use Rattle.parking_lot_core.specs.declared.fault.LotFault.TheVariants.{NoMemory};
 
@@ -141,6 +140,31 @@ impl<A: Allocator> Lot<A> {
         }
     }
 
+    /// That the lot is sound, for who says what a call on it did.
+    pub(crate) fn known(&self)
+        ensures { Sound (machine self.now) }
+    {
+        let _ = &self.number;
+    }
+
+    /// The least number that is free.
+    pub(crate) fn next_number(&self) -> usize
+        ensures { result ≡ free_number (machine self.now).places }
+    {
+        free_number(&self.places)
+    }
+
+    /// Why nobody can register now.
+    pub(crate) fn register_fault(&self) -> Option<LotFault>
+        ensures { result ≡ register_fault (machine self.now) }
+    {
+        if self.next_number() < self.max_threads {
+            None
+        } else {
+            Some(LotFault::TooManyThreads)
+        }
+    }
+
     /// Registers a thread under the least number that is free, and makes all the room that its waits need.
     pub fn register(&mut self) -> Result<usize, LotFault>
         ensures full { IfSome (register_fault (machine self.old)) (λ fault. result ≡ Err fault) }
@@ -163,7 +187,7 @@ impl<A: Allocator> Lot<A> {
 
     /// Gives a running thread's number back, with its recorded resources. The room stays.
     pub fn retire(&mut self, thread: usize) -> Result<(), LotFault>
-        ensures { Unless (retire_fault (machine self.old) thread) result (machine self.old) (machine self.new) (IsOk result × (machine self.new ≡ retired (machine self.old) thread)) }
+        ensures { Does (λ m. retire_fault m thread) (Makes (λ m. retired m thread)) (machine self.old) result (machine self.new) }
     {
         if let Some(fault) = self.retire_fault(thread) {
             return Err(fault);
@@ -175,7 +199,7 @@ impl<A: Allocator> Lot<A> {
 
     /// Has a thread's deadline come. It needs to sleep in a timed wait, and may have been taken, if it isn't woken yet.
     pub fn deadline(&mut self, thread: usize) -> Result<(), LotFault>
-        ensures { Unless (deadline_fault (machine self.old) thread) result (machine self.old) (machine self.new) (IsOk result × (machine self.new ≡ changed_at late (machine self.old) thread)) }
+        ensures { Does (λ m. deadline_fault m thread) (Makes (λ m. changed_at late m thread)) (machine self.old) result (machine self.new) }
     {
         let Some(place) = self.place(thread) else {
             return Err(LotFault::WrongStatus);
@@ -205,7 +229,7 @@ impl<A: Allocator> Lot<A> {
 
     /// Records one more occurrence of a resource.
     pub fn acquire_resource(&mut self, thread: usize, key: usize) -> Result<(), LotFault>
-        ensures { Unless (owner_fault (machine self.old) thread) result (machine self.old) (machine self.new) (MatchResult result (λ _. machine self.new ≡ record (machine self.old) { resources = updated (machine self.old).resources thread ((machine self.old).resources thread ++ key ∷ []) }) (λ fault. (fault ≡ NoMemory) × (machine self.new ≡ machine self.old))) }
+        ensures { Does (λ m. owner_fault m thread) (MakesOr NoMemory (λ m. recorded m thread key)) (machine self.old) result (machine self.new) }
     {
         if self.place(thread).is_none() {
             return Err(LotFault::WrongStatus);
@@ -216,7 +240,7 @@ impl<A: Allocator> Lot<A> {
 
     /// Forgets one occurrence of a resource, if there is one.
     pub fn release_resource(&mut self, thread: usize, key: usize) -> Result<(), LotFault>
-        ensures { Unless (owner_fault (machine self.old) thread) result (machine self.old) (machine self.new) (IsOk result × (machine self.new ≡ record (machine self.old) { resources = updated (machine self.old).resources thread (without_first (λ k. k == key) ((machine self.old).resources thread)) })) }
+        ensures { Does (λ m. owner_fault m thread) (Makes (λ m. forgotten m thread key)) (machine self.old) result (machine self.new) }
     {
         if self.place(thread).is_none() {
             return Err(LotFault::WrongStatus);

@@ -1,15 +1,11 @@
 //! Whole operations: a thread parks and goes on, and others are unparked.
-ghost use Rattle.std.specs.Prelude.{◌≡◌, ◌≤◌, ◌++◌, ◌∷◌, ℕ, Some, None, true, false, Ok, IsOk, IsSome, if◌then◌else◌, MatchBool, MatchOption, drop, take, length, map, slice_get, List, []};
-ghost use Rattle.std.specs.Option.{option_map, option_map_or};
-ghost use Rattle.parking_lot_core.specs.declared.parking.ParkResult.TheVariants.{Invalid, Unparked, TimedOut};
-ghost use Rattle.parking_lot_core.specs.declared.parking.UnparkToken.{UnparkToken};
+ghost use Rattle.std.specs.Prelude.{◌≡◌, ◌≤◌, Some, true, false, IsSome, drop, take, length, List};
 ghost use Rattle.parking_lot_core.specs.declared.parking.FilterOp.{FilterOp};
-ghost use Rattle.parking_lot_core.specs.declared.parking.RequeueOp.{RequeueOp};
-ghost use Rattle.parking_lot_core.specs.declared.place.Place.TheVariants.{Running, Waiting};
+ghost use Rattle.parking_lot_core.specs.declared.place.Place.TheVariants.{Waiting};
 ghost use Rattle.parking_lot_core.specs.Places.{place_at};
-ghost use Rattle.parking_lot_core.specs.Results.{Answers, is_stop, is_left, unpark_result, chosen_by, passed_by, woken_by, moved_by, left_by};
-ghost use Rattle.parking_lot_core.specs.Machine.{machine, tokens_of, busy, enter_fault, resume_fault, opened, stored, closed, joined, taken, given_up, unparked, moved, requeued, Unless};
-ghost use Rattle.parking_lot_core.specs.Operations.{all_taken, is_abort, woken_count, moved_count, Resumes, Requeues};
+ghost use Rattle.parking_lot_core.specs.Results.{Answers, is_stop, unpark_result, chosen_by, passed_by, woken_by, moved_by, left_by, fairly};
+ghost use Rattle.parking_lot_core.specs.Machine.{machine, tokens_of, busy, enter_fault, resume_fault, stored, closed, taken, given_up, moved, Does};
+ghost use Rattle.parking_lot_core.specs.Operations.{all_taken, is_abort, woken_count, moved_count, Resumes, Parks, UnparksOne, UnparksAll, UnparksByFilter, UnparksAndRequeues};
 
 use crate::fault::LotFault;
 use crate::lot::Lot;
@@ -33,7 +29,7 @@ impl<A: Allocator> Lot<A> {
     where
         V: Drop,
         requires { V.IsAlwaysCallable validate }
-        ensures { Unless (enter_fault (machine self.old) thread) result (machine self.old) (machine self.new) ((valid : _) × V.post validate valid × (result ≡ Ok (if valid then None else Some Invalid)) × (machine self.new ≡ (if valid then joined (machine self.old) thread key park_token timed else machine self.old))) }
+        ensures { Does (λ m. enter_fault m thread) (Parks (V.post validate) thread key park_token timed) (machine self.old) result (machine self.new) }
     {
         if let Some(fault) = self.enter_fault(thread) {
             return Err(fault);
@@ -56,7 +52,7 @@ impl<A: Allocator> Lot<A> {
     where
         T: Drop,
         requires { T.IsAlwaysCallable timed_out }
-        ensures { Unless (resume_fault (machine self.old) thread) result (machine self.old) (machine self.new) (Resumes (λ key last. T.post timed_out key last tt) (machine self.old) thread result (machine self.new)) }
+        ensures { Does (λ m. resume_fault m thread) (Resumes (λ key last. T.post timed_out key last tt) thread) (machine self.old) result (machine self.new) }
     {
         if let Some(fault) = self.resume_fault(thread) {
             return Err(fault);
@@ -98,14 +94,29 @@ impl<A: Allocator> Lot<A> {
     where
         C: Drop,
         requires { C.IsAlwaysCallable callback }
-        ensures { Unless (busy (machine self.old)) result (machine self.old) (machine self.new) (let queue = (machine self.old).queues key in let answer = unpark_result (length (take 1 queue)) 0 (drop 1 queue) in (token : UnparkToken) × C.post callback answer token × (result ≡ Ok answer) × (machine self.new ≡ unparked (machine self.old) key (take 1 queue) (drop 1 queue) token)) }
+        ensures { Does busy (UnparksOne false (C.post callback) key) (machine self.old) result (machine self.new) }
+    {
+        self.unpark_first(key, false, callback)
+    }
+
+    /// The same, and answers whether it had better be fair.
+    pub(crate) fn unpark_first<C: FnOnce(UnparkResult) -> UnparkToken>(
+        &mut self,
+        key: usize,
+        fair: bool,
+        callback: C,
+    ) -> Result<UnparkResult, LotFault>
+    where
+        C: Drop,
+        requires { C.IsAlwaysCallable callback }
+        ensures { Does busy (UnparksOne fair (C.post callback) key) (machine self.old) result (machine self.new) }
     {
         if let Some(fault) = self.busy() {
             return Err(fault);
         }
         self.open(None, key);
         let woken = self.take_first(key);
-        let result = self.outcome(key, woken);
+        let result = self.outcome(key, woken, fair);
         let token = callback(result);
         self.finish(token);
         Ok(result)
@@ -113,7 +124,7 @@ impl<A: Allocator> Lot<A> {
 
     /// Takes all waiters of a key, wakes them with the token and answers how many they were.
     pub fn unpark_all(&mut self, key: usize, unpark_token: UnparkToken) -> Result<usize, LotFault>
-        ensures { Unless (busy (machine self.old)) result (machine self.old) (machine self.new) ((result ≡ Ok (length ((machine self.old).queues key))) × (machine self.new ≡ unparked (machine self.old) key ((machine self.old).queues key) [] unpark_token)) }
+        ensures { Does busy (UnparksAll unpark_token key) (machine self.old) result (machine self.new) }
     {
         if let Some(fault) = self.busy() {
             return Err(fault);
@@ -135,14 +146,28 @@ impl<A: Allocator> Lot<A> {
         C: Drop,
         requires filter { F.IsAlwaysCallable filter }
         requires callback { C.IsAlwaysCallable callback }
-        ensures { Unless (busy (machine self.old)) result (machine self.old) (machine self.new) (let queue = (machine self.old).queues key in (answers : List FilterOp) × (last : F) × (token : UnparkToken) × Answers F.step is_stop filter (tokens_of queue) answers last × (let answer = unpark_result (length (chosen_by answers queue)) 0 (passed_by answers queue) in C.post callback answer token × (result ≡ Ok answer) × (machine self.new ≡ unparked (machine self.old) key (chosen_by answers queue) (passed_by answers queue) token))) }
+        ensures { Does busy (UnparksByFilter false F.step filter (C.post callback) key) (machine self.old) result (machine self.new) }
+    {
+        self.unpark_wanted(key, false, filter, callback)
+    }
+
+    /// The same, and answers whether it had better be fair.
+    pub(crate) fn unpark_wanted<
+        F: FnMut(ParkToken) -> FilterOp + Drop,
+        C: FnOnce(UnparkResult) -> UnparkToken,
+    >(&mut self, key: usize, fair: bool, filter: F, callback: C) -> Result<UnparkResult, LotFault>
+    where
+        C: Drop,
+        requires filter { F.IsAlwaysCallable filter }
+        requires callback { C.IsAlwaysCallable callback }
+        ensures { Does busy (UnparksByFilter fair F.step filter (C.post callback) key) (machine self.old) result (machine self.new) }
     {
         if let Some(fault) = self.busy() {
             return Err(fault);
         }
         self.open(None, key);
         let woken = self.sift(key, filter);
-        let result = self.outcome(key, woken);
+        let result = self.outcome(key, woken, fair);
         let token = callback(result);
         self.finish(token);
         Ok(result)
@@ -165,7 +190,7 @@ impl<A: Allocator> Lot<A> {
         C: Drop,
         requires validate { V.IsAlwaysCallable validate }
         requires callback { C.IsAlwaysCallable callback }
-        ensures { Unless (busy (machine self.old)) result (machine self.old) (machine self.new) ((op : RequeueOp) × V.post validate op × Requeues (λ answer token. C.post callback op answer token) op (machine self.old) key_from key_to result (machine self.new)) }
+        ensures { Does busy (UnparksAndRequeues (V.post validate) (C.post callback) key_from key_to) (machine self.old) result (machine self.new) }
     {
         if let Some(fault) = self.busy() {
             return Err(fault);
@@ -190,14 +215,14 @@ impl<A: Allocator> Lot<A> {
     }
 
     /// What is answered once so many were woken and the key's list is left as it is.
-    fn outcome(&self, key: usize, woken: usize) -> UnparkResult
-        ensures { result ≡ unpark_result woken 0 ((machine self.now).queues key) }
+    fn outcome(&self, key: usize, woken: usize, fair: bool) -> UnparkResult
+        ensures { result ≡ fairly fair (unpark_result woken 0 ((machine self.now).queues key)) }
     {
         UnparkResult {
             unparked_threads: woken,
             requeued_threads: 0,
             have_more_threads: self.has_waiters(key),
-            be_fair: false,
+            be_fair: fair,
         }
     }
 

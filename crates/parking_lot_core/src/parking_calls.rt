@@ -1,22 +1,20 @@
 //! Parking and unparking of real threads.
-ghost use Rattle.std.specs.Prelude.{◌≡◌, ◌<◌, ◌≤◌, ℕ, Bool, MatchBool, ◌≢◌, length, List, []};
+ghost use Rattle.std.specs.Prelude.{◌≡◌, ◌<◌, ◌≤◌, ℕ, Bool, true, IsSome, MatchBool, ◌≢◌};
 ghost use Rattle.parking_lot_core.specs.declared.parking.ParkResult.TheVariants.{Invalid, TimedOut};
 ghost use Rattle.parking_lot_core.specs.declared.parking.UnparkToken.{UnparkToken};
-ghost use Rattle.parking_lot_core.specs.declared.parking.RequeueOp.{RequeueOp};
-ghost use Rattle.parking_lot_core.specs.Operations.{is_abort};
-ghost use Rattle.parking_lot_core.specs.declared.parking.FilterOp.{FilterOp};
-ghost use Rattle.parking_lot_core.specs.declared.place.Waiter.{Waiter};
-ghost use Rattle.parking_lot_core.specs.Results.{Answers, is_stop, is_left, unpark_result, chosen_by, passed_by};
-ghost use Rattle.parking_lot_core.specs.Machine.{tokens_of};
+ghost use Rattle.parking_lot_core.specs.Operations.{Resumes, UnparksOne, UnparksAll, UnparksAndRequeues, UnparksByFilter};
+ghost use Rattle.parking_lot_core.specs.Machine.{machine, busy, resume_fault, Does};
+ghost use Rattle.parking_lot_core.specs.Shared.{OnSomeLot, Counts, Tells, waits_in};
+ghost use Rattle.std.specs.Sync.Mutex.{mutex_guard_value};
 
 use crate::parking::{FilterOp, ParkResult, ParkToken, RequeueOp, UnparkResult, UnparkToken};
 use crate::parking_lot::ParkingLot;
-use crate::place::ThreadStatus;
+use crate::state::State;
 use crate::thread_data::ThreadData;
 use crate::thread_parker::{Timed, time_left};
 use std::alloc::Allocator;
 use std::convert::Infallible;
-use std::sync::{CondvarTimeouts, Wait};
+use std::sync::{Arc, Condvar, CondvarTimeouts, MutexGuard, Wait};
 use std::time::{Clock, Instant};
 
 /// Parks the thread under a key. The validation is asked while the key's list is locked; where it answers false, `Invalid`
@@ -46,7 +44,10 @@ where
     requires lot { thread_data.old.lot ≡ lot.now.number }
     requires thread { thread_data.old.thread < lot.now.max_threads }
     ensures valid { (valid : Bool) × V.post validate valid × MatchBool valid (result ≢ Invalid) (result ≡ Invalid) }
+    ensures before { result ≢ Invalid → B.post before_sleep tt }
     ensures late { result ≡ TimedOut → (key : ℕ) × (last : Bool) × T.post timed_out key last tt }
+    ensures limit { result ≡ TimedOut → IsSome timeout.entry }
+    ensures ended { result ≢ Invalid → OnSomeLot (Does (λ m. resume_fault m thread_data.old.thread) (Resumes (λ key last. T.post timed_out key last tt) thread_data.old.thread)) result }
     ensures same { thread_data.new ≡ thread_data.old }
 {
     if !begin(
@@ -60,8 +61,11 @@ where
         return ParkResult::Invalid;
     }
     before_sleep();
-    sleep(lot, thread_data, timeout);
-    end(lot, thread_data.thread, timed_out)
+    let mut state = sleep(lot, thread_data, timeout);
+    match state.resume(thread_data.thread, timed_out) {
+        Ok(ended) => ended,
+        Err(_) => match stuck(&lot.rt) {},
+    }
 }
 
 /// Has a thread join a key's list, and answers what the validation answered.
@@ -83,45 +87,31 @@ fn begin<R: Wait, A: Allocator, V: FnOnce() -> bool + Drop>(
     }
 }
 
-/// Sleeps until another has taken the thread, or its moment is past.
-fn sleep<R: Wait, A: Allocator, C: Clock>(
-    lot: &ParkingLot<R, A>,
+/// Sleeps until another has taken the thread, or its moment is past, and comes back with the lock.
+fn sleep<'l, R: Wait, A: Allocator, C: Clock>(
+    lot: &'l ParkingLot<R, A>,
     thread_data: &ThreadData<A>,
     timeout: Option<(Instant, &C)>,
-) {
+) -> MutexGuard<'l, State<A>>
+    ensures { waits_in (machine (mutex_guard_value result).lot) thread_data.now.thread ≡ true → IsSome timeout.entry }
+{
     let mut state = lot.state.lock(&lot.rt);
     for _turn in lot.rt.forever() {
-        let Some(ThreadStatus::Waiting { .. }) = state.lot.status(thread_data.thread) else {
-            return;
-        };
+        if !state.waits(thread_data.thread) {
+            return state;
+        }
         let Some((moment, clock)) = timeout else {
             state = thread_data.seat.wait(&lot.rt, state);
             continue;
         };
         let Some(left) = time_left(moment, clock) else {
             let _ = state.lot.deadline(thread_data.thread);
-            return;
+            return state;
         };
         let both = Timed { rt: &lot.rt, clock };
         state = thread_data.seat.wait_timeout(&both, state, left).0;
     }
-}
-
-/// Has a thread go on that was taken, or whose moment is past.
-fn end<R: Wait, A: Allocator, T: FnOnce(usize, bool) + Drop>(
-    lot: &ParkingLot<R, A>,
-    thread: usize,
-    timed_out: T,
-) -> ParkResult
-    requires { T.IsAlwaysCallable timed_out }
-    ensures late { result ≡ TimedOut → (key : ℕ) × (last : Bool) × T.post timed_out key last tt }
-    ensures ended { result ≢ Invalid }
-{
-    let mut state = lot.state.lock(&lot.rt);
-    match state.lot.resume(thread, timed_out) {
-        Ok(result) => result,
-        Err(_) => match stuck(&lot.rt) {},
-    }
+    unreachable!()
 }
 
 /// Takes the first waiter of a key and wakes it. The callback gets what is answered and gives the token, also where nobody
@@ -135,16 +125,15 @@ pub fn unpark_one<R: Wait, A: Allocator, C: FnOnce(UnparkResult) -> UnparkToken 
     ensures told { (token : UnparkToken) × C.post callback result token }
     ensures one { result.unparked_threads ≤ 1 }
     ensures moved { result.requeued_threads ≡ 0 }
+    ensures done { (fair : Bool) × OnSomeLot (Does busy (UnparksOne fair (C.post callback) key)) result }
 {
-    let mut guard = lot.state.lock(&lot.rt);
-    let state = &mut *guard;
-    let fair = state.turn();
-    state.ring(key, 1);
-    match state
-        .lot
-        .unpark_one(key, |answer| callback(fairly(answer, fair)))
-    {
-        Ok(answer) => fairly(answer, fair),
+    let mut state = lot.state.lock(&lot.rt);
+    let seat = state.first_seat(key);
+    let done = state.unpark_one(key, callback);
+    drop(state);
+    ring(seat);
+    match done {
+        Ok(answer) => answer,
         Err(_) => match stuck(&lot.rt) {},
     }
 }
@@ -154,11 +143,10 @@ pub fn unpark_all<R: Wait, A: Allocator>(
     lot: &ParkingLot<R, A>,
     key: usize,
     unpark_token: UnparkToken,
-) -> usize {
-    let mut guard = lot.state.lock(&lot.rt);
-    let state = &mut *guard;
-    state.ring(key, usize::MAX);
-    match state.lot.unpark_all(key, unpark_token) {
+) -> usize
+    ensures { OnSomeLot (Does busy (UnparksAll unpark_token key)) result }
+{
+    match lot.state.lock(&lot.rt).unpark_all(key, unpark_token) {
         Ok(count) => count,
         Err(_) => match stuck(&lot.rt) {},
     }
@@ -179,15 +167,15 @@ where
     C: FnOnce(RequeueOp, UnparkResult) -> UnparkToken + Drop,
     requires validate { V.IsAlwaysCallable validate }
     requires callback { C.IsAlwaysCallable callback }
-    ensures { (op : RequeueOp) × V.post validate op × MatchBool (is_abort op) (result ≡ unpark_result {X = ℕ} 0 0 []) ((token : UnparkToken) × C.post callback op result token) }
+    ensures told { Tells (V.post validate) (C.post callback) result }
+    ensures done { OnSomeLot (Does busy (UnparksAndRequeues (V.post validate) (C.post callback) key_from key_to)) result }
 {
-    let mut guard = lot.state.lock(&lot.rt);
-    let state = &mut *guard;
-    state.ring(key_from, 1);
-    match state
-        .lot
-        .unpark_requeue(key_from, key_to, validate, callback)
-    {
+    let mut state = lot.state.lock(&lot.rt);
+    let seat = state.first_seat(key_from);
+    let done = state.unpark_requeue(key_from, key_to, validate, callback);
+    drop(state);
+    ring(seat);
+    match done {
         Ok(answer) => answer,
         Err(_) => match stuck(&lot.rt) {},
     }
@@ -207,28 +195,19 @@ where
     requires filter { F.IsAlwaysCallable filter }
     requires callback { C.IsAlwaysCallable callback }
     ensures told { (token : UnparkToken) × C.post callback result token }
-    ensures shown { (waiters : List Waiter) × (answers : List FilterOp) × (last : F) × Answers F.step is_stop filter (tokens_of waiters) answers last × (result.unparked_threads ≡ length (chosen_by answers waiters)) × (result.have_more_threads ≡ is_left (passed_by answers waiters)) }
+    ensures shown { Counts F.step filter result }
+    ensures done { (fair : Bool) × OnSomeLot (Does busy (UnparksByFilter fair F.step filter (C.post callback) key)) result }
 {
-    let mut guard = lot.state.lock(&lot.rt);
-    let state = &mut *guard;
-    let fair = state.turn();
-    state.ring(key, usize::MAX);
-    match state
-        .lot
-        .unpark_filter(key, filter, |answer| callback(fairly(answer, fair)))
-    {
-        Ok(answer) => fairly(answer, fair),
+    match lot.state.lock(&lot.rt).unpark_filter(key, filter, callback) {
+        Ok(answer) => answer,
         Err(_) => match stuck(&lot.rt) {},
     }
 }
 
-/// The answer, with whether it is to be fair.
-fn fairly(answer: UnparkResult, fair: bool) -> UnparkResult
-    ensures { result ≡ record answer { be_fair = fair } }
-{
-    UnparkResult {
-        be_fair: fair,
-        ..answer
+/// Wakes who sleeps there.
+fn ring<A: Allocator>(seat: Option<Arc<Condvar, A>>) {
+    if let Some(seat) = seat {
+        seat.notify_all();
     }
 }
 

@@ -1,17 +1,16 @@
 //! The lot for real threads.
 ghost use Rattle.std.specs.Prelude.{◌≡◌, ◌<◌, ◌↔◌, ◌⊎◌, IsTrue, IsErrOf, IfOk, IfErr, []};
 ghost use Rattle.parking_lot_core.specs.declared.fault.SizeFault.TheVariants.{BadSize};
+ghost use Rattle.parking_lot_core.specs.Shared.{IsRefused};
 ghost use Rattle.parking_lot_core.specs.declared.fault.LotFault.TheVariants.{TooManyThreads, NoMemory};
 
 use crate::fault::{LotFault, SizeFault};
 use crate::lot::Lot;
+use crate::state::State;
 use crate::thread_data::ThreadData;
 use std::alloc::{Allocator, Global};
 use std::sync::atomic::{AtomicUsize, Ordering};
-use std::sync::{Arc, Condvar, Mutex, Wait};
-
-/// How many unparks come to one that is fair.
-const FAIR_TURN: u64 = 64;
+use std::sync::{Mutex, Wait};
 
 /// Lists of sleeping threads by key, for real threads. It is shared by reference, and keeps the runtime and the allocator
 /// that it was given.
@@ -33,39 +32,6 @@ pub struct ParkingLot<R, A: Allocator = Global> {
     keys: AtomicUsize,
 }
 
-/// What the lot's lock guards.
-#[derive(Drop)]
-pub(crate) struct State<A: Allocator> {
-    pub lot: Lot<A>,
-    /// What the threads sleep on, by their numbers.
-    seats: Vec<Arc<Condvar, A>, A>,
-    /// How many unparks there were since the last fair one.
-    turns: u64,
-}
-
-impl<A: Allocator> State<A> {
-    /// Whether it is time for a fair unpark.
-    pub fn turn(&mut self) -> bool {
-        self.turns = self.turns.wrapping_add(1);
-        if self.turns < FAIR_TURN {
-            return false;
-        }
-        self.turns = 0;
-        true
-    }
-
-    /// Has the first waiters of a key look at the lot again, so many as there are up to that count.
-    pub fn ring(&self, key: usize, count: usize) {
-        for nth in 0..self.lot.count(key).min(count) {
-            if let Some(waiter) = self.lot.waiter(key, nth) {
-                if let Some(seat) = self.seats.get(waiter.thread) {
-                    seat.notify_all();
-                }
-            }
-        }
-    }
-}
-
 impl<R: Drop, A: Allocator + Clone> ParkingLot<R, A> {
     /// Makes a lot for at most `max_threads` threads at a time, from 1 to 65,536, that bears `number`. Different lots are to
     /// get different numbers.
@@ -75,7 +41,8 @@ impl<R: Drop, A: Allocator + Clone> ParkingLot<R, A> {
         max_threads: usize,
         number: u64,
     ) -> Result<ParkingLot<R, A>, SizeFault>
-        ensures { IsErrOf result BadSize ↔ ((max_threads ≡ 0) ⊎ (65536 < max_threads)) }
+        ensures size { IsErrOf result BadSize ↔ ((max_threads ≡ 0) ⊎ (65536 < max_threads)) }
+        ensures made { IfOk result (λ lot. (lot.rt ≡ rt) × (lot.number ≡ number) × (lot.max_threads ≡ max_threads)) }
     {
         let lot = Lot::new(alloc, max_threads, number)?;
         let seats = Vec::new(lot.places.allocator().clone()?);
@@ -83,11 +50,7 @@ impl<R: Drop, A: Allocator + Clone> ParkingLot<R, A> {
             rt,
             number,
             max_threads,
-            state: Mutex::new(State {
-                lot,
-                seats,
-                turns: 0,
-            }),
+            state: Mutex::new(State::new(lot, seats)),
             keys: AtomicUsize::new(0),
         })
     }
@@ -132,24 +95,13 @@ impl<R: Wait, A: Allocator + Clone> ParkingLot<R, A> {
     /// Registers a participant under the least number that is free, and makes all the room that its waits need. A refusal
     /// leaves the number free and every list as it was.
     pub fn thread_data(&self) -> Result<ThreadData<A>, LotFault>
-        ensures made { IfOk result (λ thread_data. (thread_data.lot ≡ self.now.number) × (thread_data.resources ≡ [])) }
+        ensures made { IfOk result (λ thread_data. (thread_data.lot ≡ self.now.number) × (thread_data.thread < self.now.max_threads) × (thread_data.resources ≡ [])) }
         ensures fault { IfErr result (λ fault. (fault ≡ TooManyThreads) ⊎ (fault ≡ NoMemory)) }
+        ensures full { IfErr result (IsRefused self.now.max_threads) }
     {
-        let mut guard = self.state.lock(&self.rt);
-        let state = &mut *guard;
-        let thread = state.lot.register()?;
-        match seat_of(&mut state.seats, thread) {
-            Ok((seat, resources)) => Ok(ThreadData {
-                lot: self.number,
-                thread,
-                resources,
-                seat,
-            }),
-            Err(fault) => {
-                let _ = state.lot.retire(thread);
-                Err(fault)
-            }
-        }
+        self.state
+            .lock(&self.rt)
+            .admit(self.number, self.max_threads)
     }
 
     /// Gives a participant's number back.
@@ -162,22 +114,4 @@ impl<R: Wait, A: Allocator + Clone> ParkingLot<R, A> {
             .lot
             .retire(thread_data.thread_number());
     }
-}
-
-/// What a thread of that number sleeps on, and room for its resources.
-fn seat_of<A: Allocator + Clone>(
-    seats: &mut Vec<Arc<Condvar, A>, A>,
-    thread: usize,
-) -> Result<(Arc<Condvar, A>, Vec<usize, A>), LotFault>
-    ensures none { IfOk result (λ pair. pair.1.items ≡ []) }
-    ensures fault { IfErr result (λ fault. fault ≡ NoMemory) }
-{
-    let alloc = seats.allocator().clone()?;
-    if let Some(seat) = seats.get(thread) {
-        return Ok((Arc::try_clone(seat)?, Vec::new(alloc)));
-    }
-    let seat = Arc::new(seats.allocator().clone()?, Condvar::new())?;
-    let shared = Arc::try_clone(&seat)?;
-    seats.push(shared)?;
-    Ok((seat, Vec::new(alloc)))
 }

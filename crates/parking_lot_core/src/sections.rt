@@ -1,5 +1,5 @@
 //! The steps of a section: a thread enters, looks, takes or joins, and leaves.
-ghost use Rattle.std.specs.Prelude.{◌≡◌, ◌+◌, Some, None, true, false, Ok, IsOk, IsSome, IsSomeAnd, if◌then◌else◌, MatchOption, drop, count_by, slice_get, List};
+ghost use Rattle.std.specs.Prelude.{◌≡◌, ◌+◌, Some, None, true, false, IsSome, if◌then◌else◌, MatchOption, drop, count_by, slice_get, List};
 ghost use Rattle.std.specs.List.{list_any};
 ghost use Rattle.std.specs.Option.{option_map, option_map_or};
 ghost use Rattle.parking_lot_core.specs.declared.parking.FilterOp.{FilterOp};
@@ -7,7 +7,7 @@ ghost use Rattle.parking_lot_core.specs.declared.place.Place.TheVariants.{Runnin
 ghost use Rattle.parking_lot_core.specs.declared.place.Phase.TheVariants as phase;
 ghost use Rattle.parking_lot_core.specs.Places.{place_at, mark_of, may_check, may_join, may_take, may_store};
 ghost use Rattle.parking_lot_core.specs.Results.{Answers, is_no_skip, is_skip, is_take};
-ghost use Rattle.parking_lot_core.specs.Machine.{machine, tokens_of, section_of, any_phase, enter_fault, step_fault, opened, in_phase, joined, stored, closed, taken, taking_of, TakesNext, Unless};
+ghost use Rattle.parking_lot_core.specs.Machine.{machine, tokens_of, section_of, any_phase, enter_fault, step_fault, opened, in_phase, stored, closed, taken, taking_of, TakesInSection, Checks, Appends, Does, Makes};
 
 use crate::fault::LotFault;
 use crate::lot::Lot;
@@ -18,7 +18,7 @@ use std::alloc::Allocator;
 impl<A: Allocator> Lot<A> {
     /// Opens a section of a key, of a running thread. While it is open nothing else can enter one.
     pub fn enter(&mut self, thread: usize, key: usize) -> Result<(), LotFault>
-        ensures { Unless (enter_fault (machine self.old) thread) result (machine self.old) (machine self.new) (IsOk result × (machine self.new ≡ opened (machine self.old) (Some thread) key)) }
+        ensures { Does (λ m. enter_fault m thread) (Makes (λ m. opened m (Some thread) key)) (machine self.old) result (machine self.new) }
     {
         if let Some(fault) = self.enter_fault(thread) {
             return Err(fault);
@@ -43,7 +43,7 @@ impl<A: Allocator> Lot<A> {
     /// Says what the validation answered, before anything else is done in the section. Where it is false only `leave`
     /// fits. Answers the same.
     pub fn check(&mut self, thread: usize, holds: bool) -> Result<bool, LotFault>
-        ensures { Unless (step_fault may_check (machine self.old) thread) result (machine self.old) (machine self.new) ((result ≡ Ok holds) × (machine self.new ≡ in_phase (machine self.old) (if holds then phase.Valid else phase.Invalid))) }
+        ensures { Does (λ m. step_fault may_check m thread) (Checks holds) (machine self.old) result (machine self.new) }
     {
         let Some(section) = self.section_of(thread) else {
             return Err(LotFault::WrongStatus);
@@ -63,7 +63,7 @@ impl<A: Allocator> Lot<A> {
         park_token: ParkToken,
         timed: bool,
     ) -> Result<(), LotFault>
-        ensures { Unless (step_fault may_join (machine self.old) thread) result (machine self.old) (machine self.new) (IsOk result × IsSomeAnd (section_of (machine self.old) thread) (λ s. machine self.new ≡ joined (in_phase (machine self.old) phase.Joined) thread s.key park_token timed)) }
+        ensures { Does (λ m. step_fault may_join m thread) (Appends thread park_token timed) (machine self.old) result (machine self.new) }
     {
         let Some(section) = self.section_of(thread) else {
             return Err(LotFault::WrongStatus);
@@ -84,7 +84,7 @@ impl<A: Allocator> Lot<A> {
         filter: F,
     ) -> Result<Option<Taking>, LotFault>
         requires { F.IsAlwaysCallable filter }
-        ensures { Unless (step_fault may_take (machine self.old) thread) result (machine self.old) (machine self.new) (IsSomeAnd (section_of (machine self.old) thread) (λ s. TakesNext F.step filter s (machine self.old) result (machine self.new))) }
+        ensures { Does (λ m. step_fault may_take m thread) (TakesInSection F.step filter thread) (machine self.old) result (machine self.new) }
     {
         let Some(section) = self.section_of(thread) else {
             return Err(LotFault::WrongStatus);
@@ -98,7 +98,7 @@ impl<A: Allocator> Lot<A> {
 
     /// Says that the word has been stored, and gives those that the section took their token.
     pub fn store_done(&mut self, thread: usize, unpark_token: UnparkToken) -> Result<(), LotFault>
-        ensures { Unless (step_fault may_store (machine self.old) thread) result (machine self.old) (machine self.new) (IsOk result × (machine self.new ≡ stored (machine self.old) unpark_token)) }
+        ensures { Does (λ m. step_fault may_store m thread) (Makes (λ m. stored m unpark_token)) (machine self.old) result (machine self.new) }
     {
         let Some(section) = self.section_of(thread) else {
             return Err(LotFault::WrongStatus);
@@ -113,7 +113,7 @@ impl<A: Allocator> Lot<A> {
     /// Closes the section. Its thread runs, or waits if it was appended; those that it took have their token, and
     /// [`wake`](Lot::wake) is owed to each.
     pub fn leave(&mut self, thread: usize) -> Result<(), LotFault>
-        ensures { Unless (step_fault any_phase (machine self.old) thread) result (machine self.old) (machine self.new) (IsOk result × (machine self.new ≡ closed (machine self.old) false)) }
+        ensures { Does (λ m. step_fault any_phase m thread) (Makes (λ m. closed m false)) (machine self.old) result (machine self.new) }
     {
         if self.section_of(thread).is_none() {
             return Err(LotFault::WrongStatus);

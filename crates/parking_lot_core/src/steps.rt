@@ -1,5 +1,5 @@
 //! The smallest changes of a lot, from which sections and whole operations are made.
-ghost use Rattle.std.specs.Prelude.{◌≡◌, Some, IsSome, true, false, if◌then◌else◌, slice_get, length, ℕ};
+ghost use Rattle.std.specs.Prelude.{◌≡◌, Some, IsSome, true, false, slice_get, length, ℕ};
 ghost use Rattle.std.specs.Option.{option_map};
 ghost use Rattle.parking_lot_core.specs.declared.place.Section.{Section};
 ghost use Rattle.parking_lot_core.specs.declared.place.Place.TheVariants.{Running};

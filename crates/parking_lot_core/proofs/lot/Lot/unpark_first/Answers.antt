@@ -4,13 +4,13 @@ use Rattle.parking_lot_core.specs.declared.parking.UnparkResult.{UnparkResult}
 use Rattle.parking_lot_core.specs.declared.parking.UnparkToken.{UnparkToken}
 use Rattle.parking_lot_core.specs.declared.place.Waiter.{Waiter}
 use Rattle.parking_lot_core.specs.Lists.{updated}
-use Rattle.parking_lot_core.specs.Results.{unpark_result, chosen_by, passed_by}
+use Rattle.parking_lot_core.specs.Results.{fairly, unpark_result, chosen_by, passed_by}
 use Rattle.parking_lot_core.specs.Machine.{Machine, machine, busy, opened, stored, closed, unparked, taken}
 use Rattle.parking_lot_core.specs.Operations.{all_taken}
 use Rattle.parking_lot_core.proofs.Kept.{updated_at}
 use Rattle.parking_lot_core.proofs.Outcomes.{unless_done, free_section}
 use Rattle.parking_lot_core.proofs.Takings.{first_taken, closed_taken, first_count_some, first_count_none}
-use Rattle.parking_lot_core.proofs.lot.Lot.unpark_one.Goals as goal
+use Rattle.parking_lot_core.proofs.lot.Lot.unpark_first.Goals as goal
 
 pub returns : goal.returns
 returns g c =
@@ -23,7 +23,7 @@ returns g c =
     let held : machine c.take_first-woken.new.self ≡ all_taken o key (take 1 q) (drop 1 q) = c.take_first-woken.ensures.taken ∙ ap (λ (x : Machine). all_taken x key (take 1 (x.queues key)) (drop 1 (x.queues key))) c.open.ensures in
     let count : c.take_first-woken.result ≡ length (take 1 q) = c.take_first-woken.ensures.count ∙ ap (λ (x : Machine). length (take 1 (x.queues key))) c.open.ensures in
     let rest : (machine c.take_first-woken.new.self).queues key ≡ drop 1 q = ap (λ (x : Machine). x.queues key) held ∙ updated_at m.queues key (drop 1 q) in
-    let answer : c.outcome-result.result ≡ unpark_result (length (take 1 q)) 0 (drop 1 q) = c.outcome-result.ensures ∙ (ap (λ (n : ℕ). unpark_result n 0 ((machine c.take_first-woken.new.self).queues key)) count ∙ ap (λ (ws : List Waiter). unpark_result (length (take 1 q)) 0 ws) rest) in
+    let answer : c.outcome-result.result ≡ fairly c.args.fair (unpark_result (length (take 1 q)) 0 (drop 1 q)) = c.outcome-result.ensures ∙ (ap (λ (n : ℕ). fairly c.args.fair (unpark_result n 0 ((machine c.take_first-woken.new.self).queues key))) count ∙ ap (λ (ws : List Waiter). fairly c.args.fair (unpark_result (length (take 1 q)) 0 ws)) rest) in
     let done : machine c.finish.new.self ≡ unparked m key (take 1 q) (drop 1 q) token = c.finish.ensures ∙ (ap (λ (x : Machine). closed (stored x token) true) held ∙ closed_taken m key token (c.busy.ensures.quiet c.in_default.is) (free_section m free) (take 1 q) (drop 1 q)) in
     unless_done (busy m) (Ok c.outcome-result.result) m (machine c.finish.new.self) _ free
     (token, subst (λ (r : UnparkResult). goal.C-post g c.args.callback r token) answer c.callback-token.ensures, ap (λ r. Ok r) answer, done)

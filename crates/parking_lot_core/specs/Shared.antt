@@ -1,0 +1,43 @@
+-- What calls on the lot for threads say, where the lock alone knows the lot.
+use Rattle.std.specs.Prelude.{◌≡◌, ◌⊎◌, ℕ, nat_lt, Bool, false, if◌then◌else◌, MatchBool, List, [], length, Option, Some, Result, Ok}
+use Rattle.std.specs.Option.{option_map_or}
+use Rattle.parking_lot_core.specs.declared.fault.LotFault.{LotFault}
+use Rattle.parking_lot_core.specs.declared.fault.LotFault.TheVariants.{TooManyThreads, NoMemory}
+use Rattle.parking_lot_core.specs.declared.parking.ParkToken.{ParkToken}
+use Rattle.parking_lot_core.specs.declared.parking.UnparkToken.{UnparkToken}
+use Rattle.parking_lot_core.specs.declared.parking.UnparkResult.{UnparkResult}
+use Rattle.parking_lot_core.specs.declared.parking.RequeueOp.{RequeueOp}
+use Rattle.parking_lot_core.specs.declared.parking.FilterOp.{FilterOp}
+use Rattle.parking_lot_core.specs.declared.place.Waiter.{Waiter}
+use Rattle.parking_lot_core.specs.Results.{Answers, is_stop, is_left, unpark_result, chosen_by, passed_by}
+use Rattle.parking_lot_core.specs.Machine.{Machine, free_number, register_fault, tokens_of}
+use Rattle.parking_lot_core.specs.Operations.{is_abort}
+use Rattle.parking_lot_core.specs.Places.{place_at, is_waiting}
+use Rattle.parking_lot_core.specs.Sound.{Sound}
+
+-- on some sound lot this is what a call did that answered so
+abbrev pub OnSomeLot : {T : Type 0} → (Machine → Result T LotFault → Machine → Type 0) → T → Type 0
+OnSomeLot does answer = (old : Machine) × (new : Machine) × Sound old × does old (Ok answer) new
+
+-- why nobody can register where there are to be so many threads at most
+abbrev pub admit_fault : ℕ → Machine → Option LotFault
+admit_fault limit m = if nat_lt (free_number m.places) limit then register_fault m else Some TooManyThreads
+
+-- on some sound lot nobody could register for this, or memory was refused
+abbrev pub IsRefused : ℕ → LotFault → Type 0
+IsRefused limit fault = (m : Machine) × Sound m × ((admit_fault limit m ≡ Some fault) ⊎ (fault ≡ NoMemory))
+
+-- the thread stands in a list
+abbrev pub waits_in : Machine → ℕ → Bool
+waits_in m thread = option_map_or is_waiting (place_at m.places thread) false
+
+-- what a filter answered, shown the tokens of some waiters, is what the result counts
+abbrev pub Counts : {F : Type 0} → (F → ParkToken → FilterOp → F → Type 0) → F → UnparkResult → Type 0
+Counts {F} shows filter result =
+    (waiters : List Waiter) × (answers : List FilterOp) × (last : F) × Answers shows is_stop filter (tokens_of waiters) answers last
+    × (result.unparked_threads ≡ length (chosen_by answers waiters)) × (result.have_more_threads ≡ is_left (passed_by answers waiters))
+
+-- a requeue does nothing where that is asked for, and else tells what it did
+abbrev pub Tells : (RequeueOp → Type 0) → (RequeueOp → UnparkResult → UnparkToken → Type 0) → UnparkResult → Type 0
+Tells asks gives result =
+    (op : RequeueOp) × asks op × MatchBool (is_abort op) (result ≡ unpark_result {X = ℕ} 0 0 []) ((token : UnparkToken) × gives op result token)
