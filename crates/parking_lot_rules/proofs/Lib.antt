@@ -27,3 +27,4 @@ pub mod Sighting
 pub mod MutexCasing
 pub mod MutexRanking
 pub mod MutexCrossing
+pub mod Indebted

@@ -20,3 +20,4 @@ pub mod MutexLaws
 pub mod MutexOwners
 pub mod MutexRanks
 pub mod Any
+pub mod Debts

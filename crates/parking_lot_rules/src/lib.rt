@@ -2,6 +2,7 @@
 //! steps does to the lock's word and queues, and the proof that no waiter is ever forgotten, under every schedule.
 #![tactic(auto)]
 
+mod debts;
 mod example;
 mod laws;
 mod mutex;
@@ -12,6 +13,7 @@ mod tests;
 mod word;
 mod wrong;
 
+pub use debts::{debts_are_booked};
 pub use example::a_writer_waits_and_is_woken;
 pub use laws::{
     a_refusal_has_a_cause, debts_are_kept, every_lock_is_sound, no_bit_outlives_the_calls,
