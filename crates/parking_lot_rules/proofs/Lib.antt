@@ -28,3 +28,4 @@ pub mod MutexCasing
 pub mod MutexRanking
 pub mod MutexCrossing
 pub mod Indebted
+pub mod Paying
