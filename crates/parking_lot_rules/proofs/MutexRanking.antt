@@ -3,7 +3,7 @@ use Rattle.std.proofs.Common.{◌≡◌, ◌≢◌, ℕ, ◌+◌, ◌-◌, ◌�
 use Rattle.std.proofs.lemmas.List.Sums.{sum_by-cons}
 use Rattle.std.proofs.lemmas.Option.{same_Some, slice_get-map}
 use Rattle.parking_lot_rules.specs.Roles.{Stay, Fresh, Asleep, Late, Back, Mark, Open, Normal, Handed}
-use Rattle.parking_lot_rules.specs.Mutex.{Phase, Idle, Seeks, Checked, Queued, Taken, Masks, Leaves, Unlocks, Stored, Wakes, Moves, Role, away, Class, total, Word, Mutex, IsSound, Plain, Begin, Refuse, Lock, Flag, Enter, Check, Retreat, Rest, Expire, ExpireTaken, Reenter, ReenterTaken, Mask, Leave, Resume, Receive, Unlock, Look, Depart, Finish, Come, MarkParked, GoUnmarked, Go, from, to, May, written, told, settle, Step, Alone, Join, Quit, QuitLast, Requeue, Take, Free, Hand, Wake, WakeOwner, Pass, doing, Allowed, after}
+use Rattle.parking_lot_rules.specs.Mutex.{Phase, Idle, Seeks, Checked, Queued, Taken, Masks, Leaves, Unlocks, Stored, Wakes, Comes, Moves, Role, away, Class, total, Word, Mutex, IsSound, Plain, Begin, Refuse, Lock, Flag, Enter, Check, Retreat, Rest, Expire, ExpireTaken, Reenter, ReenterTaken, Mask, Leave, Resume, Receive, Unlock, Look, Depart, Finish, Come, MarkParked, GoUnmarked, Go, from, to, May, written, told, settle, Step, Alone, Join, Quit, QuitLast, Requeue, Pull, Follow, Take, Free, Hand, Wake, WakeOwner, Pass, doing, Allowed, after}
 use Rattle.parking_lot_rules.specs.MutexLaws.{is_asleep}
 use Rattle.parking_lot_rules.specs.Ranks.{where_some}
 use Rattle.parking_lot_rules.specs.MutexRanks.{asks, worst, fresh, rank_of_others, ranks, is_apart, KnowsTheWord, MutexRanksFall}
@@ -109,6 +109,8 @@ phase_before Join = Checked
 phase_before (Quit i) = Queued Back
 phase_before (QuitLast i) = Queued Back
 phase_before (Requeue o v) = Moves
+phase_before (Pull o v) = Comes
+phase_before (Follow o v stay w) = Stored (v ∷ [])
 phase_before (Take v stay) = Unlocks []
 phase_before (Free taken) = Unlocks taken
 phase_before (Hand v) = Unlocks (v ∷ [])
@@ -149,6 +151,8 @@ module _ (m : Mutex) (sound : IsSound m) (t : ℕ) where
       let same : (doing Masks).does ≡ b.does = ap (λ (x : Role). x.does) (same_Some _ b (sym (get-set_same m.roles t _ (doing Masks) may.0) ∙ there)) in
       subst (λ p. ranks false (after t (QuitLast i) m) t p + 1 ≤ ranks false m t (doing (Queued Back)).does) same (omega (arith, others-set m.roles t (doing (Queued Back)) (doing Masks) may.0))
   step_falls stale (Requeue o v) b may there busy now knows = absurd cc
+  step_falls stale (Pull o v) b may there busy now knows = absurd cc
+  step_falls stale (Follow o v stay w) b may there busy now knows = absurd cc
   step_falls true (Take v stay) b may there busy now knows =
       let ne : t ≢ v = two_apart m.roles t v (doing (Unlocks [])) (doing (Queued stay)) may.0 may.2 (λ e. cc) in
       let same : Unlocks (v ∷ []) ≡ b.does = ap (λ (x : Role). x.does) (same_Some _ b (sym (get-set_other (slice_set m.roles t (doing (Unlocks (v ∷ [])))) v t (doing (Taken t Open stay)) (λ e. ne (sym e)) ∙ get-set_same m.roles t _ (doing (Unlocks (v ∷ []))) may.0) ∙ there)) in
@@ -204,6 +208,8 @@ module _ (m : Mutex) (sound : IsSound m) (t : ℕ) where
   role_before (Quit i) a may at = ap (λ (x : Role). x.does) (same_Some _ a (sym may.0 ∙ at))
   role_before (QuitLast i) a may at = ap (λ (x : Role). x.does) (same_Some _ a (sym may.0 ∙ at))
   role_before (Requeue o v) a may at = ap (λ (x : Role). x.does) (same_Some _ a (sym may.0 ∙ at))
+  role_before (Pull o v) a may at = ap (λ (x : Role). x.does) (same_Some _ a (sym may.0 ∙ at))
+  role_before (Follow o v stay w) a may at = ap (λ (x : Role). x.does) (same_Some _ a (sym may.0 ∙ at))
   role_before (Take v stay) a may at = ap (λ (x : Role). x.does) (same_Some _ a (sym may.0 ∙ at))
   role_before (Free us) a may at = ap (λ (x : Role). x.does) (same_Some _ a (sym may.0 ∙ at))
   role_before (Hand v) a may at = ap (λ (x : Role). x.does) (same_Some _ a (sym may ∙ at))
