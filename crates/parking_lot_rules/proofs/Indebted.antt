@@ -29,11 +29,11 @@ plain_owes (Depart2 n []) = refl
 plain_owes (Depart2 n (v ∷ us)) = refl
 plain_owes k = refl
 
-late : (b : Bool) → and_up b Late ≡ turned (begins_if b) (and_up b Asleep)
+pub late : (b : Bool) → and_up b Late ≡ turned (begins_if b) (and_up b Asleep)
 late true = refl
 late false = refl
 
-back : (b : Bool) → and_up b Back ≡ and_up b Late
+pub back : (b : Bool) → and_up b Back ≡ and_up b Late
 back true = refl
 back false = refl
 
@@ -60,13 +60,13 @@ wakes_owe : (v : ℕ) (us : List ℕ) → owes_section (Wakes us) ≡ turned (en
 wakes_owe v [] = refl
 wakes_owe v (x ∷ us) = refl
 
-taken_up : (stay : Stay) → is_up stay ≡ turned (begins_if (is_up stay)) false
+pub taken_up : (stay : Stay) → is_up stay ≡ turned (begins_if (is_up stay)) false
 taken_up Fresh = refl
 taken_up Asleep = refl
 taken_up Late = refl
 taken_up Back = refl
 
-out_of_it : (stay : Stay) → inside stay ≡ 0 → is_inside stay ≡ false
+pub out_of_it : (stay : Stay) → inside stay ≡ 0 → is_inside stay ≡ false
 out_of_it Fresh out = absurd (omega (arith, out))
 out_of_it Asleep out = refl
 out_of_it Late out = refl
@@ -126,10 +126,10 @@ moved rs t x y a b P at here there h =
 abbrev Both : Turn → Turn → Role → Role → Type 0
 Both owes tries a b = Same owes_section owes a b × Same retries tries a b
 
-where-same : (u v : ℕ) (turn : Turn) → u ≡ v → where_same u v turn ≡ turn
+pub where-same : (u v : ℕ) (turn : Turn) → u ≡ v → where_same u v turn ≡ turn
 where-same u v turn e = ap (λ b. cond b turn Remains) (eq-eqb u v e)
 
-where-other : (u v : ℕ) (turn : Turn) → u ≢ v → where_same u v turn ≡ Remains
+pub where-other : (u v : ℕ) (turn : Turn) → u ≢ v → where_same u v turn ≡ Remains
 where-other u v turn ne = ap (λ b. cond b turn Remains) (ne_eqb u v ne)
 
 unmoved : (turn : Turn) (a b : Role) → turn ≡ Remains → a ≡ b → Both Remains turn a b

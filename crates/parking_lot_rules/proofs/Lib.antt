@@ -29,3 +29,4 @@ pub mod MutexRanking
 pub mod MutexCrossing
 pub mod Indebted
 pub mod Paying
+pub mod MutexPaying

@@ -64,13 +64,13 @@ unfolding weight
 away_weighs Owning = refl
 away_weighs _ = refl
 
-total-set : (rs : List Role) (t : ℕ) (a b : Role) → slice_get rs t ≡ Some a → (c : Class) → total c (slice_set rs t b) ≡ total c (slice_set rs t away) + weight c b
+pub total-set : (rs : List Role) (t : ℕ) (a b : Role) → slice_get rs t ≡ Some a → (c : Class) → total c (slice_set rs t b) ≡ total c (slice_set rs t away) + weight c b
 total-set rs t a b at c = omega (arith, sum_by-set_at (weight c) rs t a b at, sum_by-set_at (weight c) rs t a away at, away_weighs c)
 
 pub total-at : (rs : List Role) (t : ℕ) (a : Role) → slice_get rs t ≡ Some a → (c : Class) → total c rs ≡ total c (slice_set rs t away) + weight c a
 total-at rs t a at c = omega (arith, sum_by-set_at (weight c) rs t a away at, away_weighs c)
 
-same_counts : (P : (Class → ℕ) → Type 0) (m n : Class → ℕ) → ((c : Class) → m c ≡ n c) → P m → P n
+pub same_counts : (P : (Class → ℕ) → Type 0) (m n : Class → ℕ) → ((c : Class) → m c ≡ n c) → P m → P n
 same_counts P m n e h = let p : m ≡ n = λ i c. e c i in subst P p h
 
 -- the counts once those that were taken are told
@@ -627,6 +627,9 @@ rest_sound n = record {
 runs_sound : (steps : List (ℕ × Step)) (m n : Mutex) → IsSound m → Runs m steps n → IsSound n
 runs_sound [] m n sound run = subst IsSound (sym run) sound
 runs_sound (e ∷ es) m n sound run = runs_sound es (after e.0 e.1 m) n (step_sound e.0 e.1 m sound run.0) run.1
+
+pub run_sound : (threads : ℕ) (steps : List (ℕ × Step)) (m : Mutex) → Runs (unlocked threads) steps m → IsSound m
+run_sound threads steps m run = runs_sound steps (unlocked threads) m (rest_sound threads) run
 
 pub always : (P : Mutex → Type 0) → ((m : Mutex) → IsSound m → P m) → AlwaysOfMutex P
 always P holds threads steps m run = holds m (runs_sound steps (unlocked threads) m (rest_sound threads) run)

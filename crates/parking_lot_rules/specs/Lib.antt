@@ -21,3 +21,4 @@ pub mod MutexOwners
 pub mod MutexRanks
 pub mod Any
 pub mod Debts
+pub mod MutexDebts

@@ -13,7 +13,10 @@ mod tests;
 mod word;
 mod wrong;
 
-pub use debts::{debts_are_booked, debts_are_paid, debts_are_passed_on};
+pub use debts::{
+    debts_are_booked, debts_are_paid, debts_are_passed_on, debts_at_a_mutex_are_booked,
+    debts_at_a_mutex_are_paid,
+};
 pub use example::a_writer_waits_and_is_woken;
 pub use laws::{
     a_refusal_has_a_cause, debts_are_kept, every_lock_is_sound, no_bit_outlives_the_calls,
