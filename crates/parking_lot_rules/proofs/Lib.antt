@@ -30,3 +30,4 @@ pub mod MutexCrossing
 pub mod Indebted
 pub mod Paying
 pub mod MutexPaying
+pub mod MutexSighting

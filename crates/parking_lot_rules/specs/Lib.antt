@@ -22,3 +22,4 @@ pub mod MutexRanks
 pub mod Any
 pub mod Debts
 pub mod MutexDebts
+pub mod MutexSights

@@ -24,8 +24,9 @@ pub use laws::{
 };
 pub use mutex::{
     a_mutex_tells_its_owner, debts_of_a_mutex_are_kept, each_step_at_a_mutex_is_a_case,
-    every_mutex_is_sound, no_bit_of_a_mutex_outlives_the_calls, ranks_at_a_mutex_fall,
-    sleepers_at_a_mutex_are_known, somebody_at_a_mutex_can_move,
+    every_mutex_is_sound, looks_lower_the_full_ranks_at_a_mutex,
+    no_bit_of_a_mutex_outlives_the_calls, ranks_at_a_mutex_fall, sleepers_at_a_mutex_are_known,
+    somebody_at_a_mutex_can_move, steps_lower_the_full_ranks_at_a_mutex,
 };
 pub use progress::{
     families_stay_sound, rising_locks_never_deadlock, sections_are_entered, sleepers_are_served,
