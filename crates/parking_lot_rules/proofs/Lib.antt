@@ -31,3 +31,4 @@ pub mod Indebted
 pub mod Paying
 pub mod MutexPaying
 pub mod MutexSighting
+pub mod Variables

@@ -23,3 +23,4 @@ pub mod Any
 pub mod Debts
 pub mod MutexDebts
 pub mod MutexSights
+pub mod Variable

@@ -1,0 +1,8 @@
+//! Laws of many locks of any kind: reader-writer locks, mutexes and condition variables, with buckets in common.
+ghost use Rattle.parking_lot_rules.specs.Variable.{VariablesStaySound};
+
+/// A condition variable is sound at every moment: its list holds exactly those that wait, all of them with the mutex that its word shows,
+/// and the word shows none where nobody waits.
+pub fn condition_variables_stay_sound()
+    ensures { VariablesStaySound }
+{}
