@@ -32,3 +32,5 @@ pub mod Paying
 pub mod MutexPaying
 pub mod MutexSighting
 pub mod Variables
+pub mod Boths
+pub mod Everys

@@ -164,7 +164,7 @@ out m First t idle = go (slice_get m.roles t) refl
     go None e = ap (at_index (weight Inside)) e
     go (Some r) e = ap (at_index (weight Inside)) e ∙ (ap (λ p. weight Inside (record { owns = r.owns; does = p })) (idle r e) ∙ idle_outside r.owns)
 
-mutex_are_rules : AreRules mutex_rules
+pub mutex_are_rules : AreRules mutex_rules
 mutex_are_rules = record {
   keeps = λ j t step m sound may. step_sound t step m sound may;
   others = λ j t step m k may u ne. others t m step k may u ne;
@@ -175,7 +175,7 @@ mutex_are_rules = record {
 }
 
 -- both kinds together
-any_are_rules : (recursive : ℕ → Bool) → AreRules (any_rules recursive)
+pub any_are_rules : (recursive : ℕ → Bool) → AreRules (any_rules recursive)
 any_are_rules recursive = record { keeps = keeps; others = any_others; moves = any_moves; was = any_was; one = one; out = any_out }
   where
     rw : AreRules (rw_rules recursive)

@@ -611,7 +611,7 @@ weighs_nothing c rs none u = go (slice_get rs u) refl
 zero_fits : Fits (record { locked = 0; parked = 0 }) (λ c. 0)
 zero_fits = omega arith
 
-rest_sound : (n : ℕ) → IsSound (unlocked n)
+pub rest_sound : (n : ℕ) → IsSound (unlocked n)
 rest_sound n = record {
   fits = same_counts (Fits (record { locked = 0; parked = 0 })) (λ c. 0) _ (λ c. sym (none c)) zero_fits;
   waiting = record { count = sym (none Waiting); each = λ u. sym (weighs_nothing Waiting (replicate n away) (each Waiting) u) };

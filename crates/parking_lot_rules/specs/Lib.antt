@@ -24,3 +24,4 @@ pub mod Debts
 pub mod MutexDebts
 pub mod MutexSights
 pub mod Variable
+pub mod Every

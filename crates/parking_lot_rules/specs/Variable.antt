@@ -151,7 +151,7 @@ abbrev pub Allowed : ℕ → Step → Variable → Type 0
 Allowed t (Alone k) v = (slice_get v.phases t ≡ Some (from k)) × May k v.word (λ c. total c v.phases)
 Allowed t (Join k) v = slice_get v.phases t ≡ Some (Checked k)
 Allowed t (Quit k i) v = (slice_get v.phases t ≡ Some (Queued k Back)) × (slice_get v.queue i ≡ Some t)
-Allowed t (Release u k stay) v = (slice_get v.phases t ≡ Some Notifies) × (slice_get v.queue 0 ≡ Some u) × (slice_get v.phases u ≡ Some (Queued k stay))
+Allowed t (Release u k stay) v = (slice_get v.phases t ≡ Some Notifies) × (slice_get v.queue 0 ≡ Some u) × (slice_get v.phases u ≡ Some (Queued k stay)) × (inside stay ≡ 0)
 
 abbrev pub after : ℕ → Step → Variable → Variable
 after t (Alone k) v = record v { word = written k v.word; phases = slice_set v.phases t (to k) }
