@@ -34,3 +34,4 @@ pub mod MutexSighting
 pub mod Variables
 pub mod Boths
 pub mod Everys
+pub mod Alive
