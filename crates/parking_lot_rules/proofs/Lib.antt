@@ -35,3 +35,4 @@ pub mod Variables
 pub mod Boths
 pub mod Everys
 pub mod Alive
+pub mod Trying

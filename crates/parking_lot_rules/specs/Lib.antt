@@ -25,3 +25,4 @@ pub mod MutexDebts
 pub mod MutexSights
 pub mod Variable
 pub mod Every
+pub mod Tries
