@@ -36,3 +36,4 @@ pub mod Boths
 pub mod Everys
 pub mod Alive
 pub mod Trying
+pub mod MutexTrying

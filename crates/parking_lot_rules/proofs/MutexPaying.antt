@@ -147,7 +147,7 @@ module _ (t : ℕ) (m : Mutex) where
 abbrev IsNoted : Phase → Type 0
 IsNoted p = (by : ℕ) × (mark : Mark) × (phase_note p ≡ Some (by, mark))
 
-somebody : (c : Class) (rs : List Role) → 0 < total c rs → (u : ℕ) × (r : Role) × (slice_get rs u ≡ Some r) × (0 < weight c r)
+pub somebody : (c : Class) (rs : List Role) → 0 < total c rs → (u : ℕ) × (r : Role) × (slice_get rs u ≡ Some r) × (0 < weight c r)
 somebody c [] some = absurd (omega arith)
 somebody c (r ∷ rs) some = ⊎_elim
     (λ none. let more = somebody c rs (omega (arith, sum_by-cons (weight c) r rs, none)) in (suc more.0, more.1, more.2, more.3))

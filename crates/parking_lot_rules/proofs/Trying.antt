@@ -29,7 +29,7 @@ use Rattle.parking_lot_rules.proofs.Worlds.{world_step}
 module _ {W E V : Type 0} (make : W → List E → W → Type 0) (word : W → V) (out : V → Type 0) (count : List E → ℕ) (Holds : W → Type 0)
   (keeps : (w v : W) (es : List E) → make w es v → Holds w → Holds v) (costs : (w v : W) (es : List E) → make w es v → word v ≢ word w → 1 ≤ count es) where
 
-  refused : (n : ℕ) (w : W) (stages : List (Stage W E)) → Holds w → IsRefused make word out n w stages → ((v : W) × Holds v × out (word v)) ⊎ (n ≤ in_all count stages)
+  pub refused : (n : ℕ) (w : W) (stages : List (Stage W E)) → Holds w → IsRefused make word out n w stages → ((v : W) × Holds v × out (word v)) ⊎ (n ≤ in_all count stages)
   refused zero w [] holds r = inr (omega arith)
   refused zero w (s ∷ stages) holds r = absurd r
   refused (suc n) w [] holds r = inl (w, holds, r)

@@ -42,7 +42,7 @@ pub use steps::{
     each_step_is_a_case, looks_lower_the_full_ranks, ranks_fall, readers_are_kept_out,
     steps_lower_the_full_ranks,
 };
-pub use tries::refused_tries_have_a_cause;
+pub use tries::{refused_tries_at_a_mutex_have_a_cause, refused_tries_have_a_cause};
 pub use word::{
     is_parked, is_upgradable, is_writer_parked, is_written, readers, with_parked, without_parked,
     without_writer_parked,
