@@ -37,3 +37,4 @@ pub mod Everys
 pub mod Alive
 pub mod Trying
 pub mod MutexTrying
+pub mod Holding

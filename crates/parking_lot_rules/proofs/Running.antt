@@ -13,7 +13,7 @@ use Rattle.parking_lot_rules.proofs.Totals.{away_weighs, same_counts}
 use Rattle.parking_lot_rules.proofs.Families.{total-none}
 use Rattle.parking_lot_rules.proofs.Worlds.{world_sound, world_step, same_role, seen-idle}
 
-all_away : (i n u : ℕ) (r : Role) → slice_get (map (role_at i) (replicate n idle)) u ≡ Some r → r ≡ away
+pub all_away : (i n u : ℕ) (r : Role) → slice_get (map (role_at i) (replicate n idle)) u ≡ Some r → r ≡ away
 all_away i zero u r at = absurd (none-some r at)
 all_away i (suc n) zero r at = sym (same_Some _ r at) ∙ same_role (Shares 0) (Shares 0) _ Idle refl (seen-idle (0 == i) Idle refl)
 all_away i (suc n) (suc u) r at = all_away i n u r at

@@ -77,7 +77,7 @@ module _ (bucket : ℕ → ℕ) (recursive : ℕ → Bool) (i t : ℕ) (r : Role
   abbrev Stands : World → Type 0
   Stands w = IsReached bucket recursive w × (slice_get (lock_at w i).roles t ≡ Some r)
 
-  one_more : (w : World) (m : Move) → IsReached bucket recursive w → MayStep bucket recursive m.lock m.thread m.step w → IsReached bucket recursive (moved bucket m w)
+  pub one_more : (w : World) (m : Move) → IsReached bucket recursive w → MayStep bucket recursive m.lock m.thread m.step w → IsReached bucket recursive (moved bucket m w)
   one_more w m reached may = record { threads = reached.threads; moves = reached.moves ++ m ∷ []; run = go reached.moves _ reached.run }
     where
       go : (ms : List Move) (x : World) → Runs bucket recursive x ms w → Runs bucket recursive x (ms ++ m ∷ []) (moved bucket m w)

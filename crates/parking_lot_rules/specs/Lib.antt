@@ -26,3 +26,4 @@ pub mod MutexSights
 pub mod Variable
 pub mod Every
 pub mod Tries
+pub mod Holds
