@@ -1,0 +1,28 @@
+use Rattle.std.proofs.Common.{◌≡◌, ◌+◌, ◌-◌, ◌≤◌, ℕ, Bool, List, Some, slice_get, refl, sym, ap, ◌∙◌, arith}
+use Rattle.parking_lot_rules.specs.Row.{word_of}
+use Rattle.parking_lot_rules.proofs.Rows.{word_bits, word_number, bit_clear, unshare_sound, unshare_step}
+use Rattle.parking_lot_rules.proofs.row.Row.unshare.Goals as goal
+
+at : (c : goal.After-self-2-1) → slice_get c.self.inside.places.items c.args.thread ≡ Some c.in-Some.place
+at c = ap (λ ps. slice_get ps c.args.thread) (sym c.deref.ensures.value) ∙ (sym c.place_at.ensures ∙ c.in-Some.is)
+
+quiet : (c : goal.After-self-2-1) → (word_of c.self.inside.word).parked2 ≡ 0
+quiet c =
+    bit_clear c.is_writer_parked.result (word_of c.self.inside.word).parked2 (word_bits c.self.inside.word).parked2
+    (c.is_writer_parked.ensures (word_of c.self.inside.word) (word_bits c.self.inside.word) (word_number c.self.inside.word)) c.if-is_writer_parked.false
+
+some : (c : goal.After-self-2-1) → c.in-Some.place.holds - 1 + 1 ≡ c.in-Some.place.holds
+some c = omega (arith, c.if-place-eq0.false)
+
+enough : (c : goal.After-self-2-1) → 16 ≤ c.self.inside.word
+enough c = omega (arith, c.if-self-lt16.false)
+
+-- src/row.rt:66:5
+pub invariant_of-self : goal.invariant_of-self
+invariant_of-self c =
+    unshare_sound c.self.inside.word c.self.inside.places.items c.args.thread c.in-Some.place (at c) (c.in-Some.place.holds - 1) _ refl refl (enough c) c.self.invariant (sym (some c)) c.if-place.false (quiet c)
+
+-- src/row.rt:66:5
+pub returns-clause-released : goal.returns-clause-released
+returns-clause-released c n done there =
+    unshare_step c.self.inside.word c.self.inside.places.items c.args.thread c.in-Some.place (at c) _ (some c) refl (enough c) c.if-place.false (quiet c) c.args.self.now c.self.view_is n there

@@ -1,0 +1,84 @@
+//! A lock and the threads at it as one value: calls on it are steps of the rules.
+ghost use Rattle.std.specs.Prelude.{◌≡◌, ◌<◌, ℕ, IsTrue, IsFalse, length, slice_get, Some, false};
+ghost use Rattle.parking_lot_rules.specs.Plain.{Begin, Share, Unshare, from};
+ghost use Rattle.parking_lot_rules.specs.Roles.{Shared};
+ghost use Rattle.parking_lot_rules.specs.Steps.{Alone, Allowed, after};
+
+use crate::word::{is_writer_parked, is_written, readers};
+use std::marker::Model;
+
+/// What a thread has of a lock: shared holds, and whether it asks for one more.
+#[derive(Clone, Copy, PartialEq, Eq, Debug, Drop)]
+pub struct Place {
+    pub holds: u64,
+    pub asks: bool,
+}
+
+/// A reader-writer lock at which threads read, and nobody waits.
+///
+/// Contracts see it as a lock of the rules. It is sound at every moment, since its calls are steps.
+#[derive(Drop)]
+pub struct Row {
+    word: u64,
+    places: Vec<Place>,
+}
+
+impl Model for Row {
+    ghost use Rattle.parking_lot_rules.specs.Lock.{Lock, IsSound};
+    ghost use Rattle.parking_lot_rules.specs.Row.{lock_of};
+
+    ghost Value = { Lock };
+
+    ghost view = { λ r. lock_of r.word r.places.items };
+
+    ghost invariant = { λ r. IsSound (lock_of r.word r.places.items) };
+}
+
+/// The place of a thread, where there is one with that number.
+fn place_at(places: &[Place], thread: usize) -> Option<Place>
+    ensures { result ≡ slice_get places.now thread }
+{
+    places.get(thread).copied()
+}
+
+impl Row {
+    /// Admits a thread that asks to read, where no writer owns the lock and a reader more can be counted; answers whether it did.
+    pub fn share(&mut self, thread: usize) -> bool
+        ensures admitted { (n : ℕ) → IsTrue result → slice_get self.old.roles thread ≡ Some (from (Share n false))
+            → Allowed false thread (Alone (Share n false)) self.old × (self.new ≡ after thread (Alone (Share n false)) self.old) }
+        ensures refused { IsFalse result → self.new ≡ self.old }
+    {
+        let Some(place) = place_at(&self.places, thread) else {
+            return false;
+        };
+        if !place.asks || is_written(self.word) || self.word >= 1 << 63 || place.holds == u64::MAX {
+            return false;
+        }
+        self.word += 16;
+        self.places[thread] = Place {
+            holds: place.holds + 1,
+            asks: false,
+        };
+        true
+    }
+
+    /// Takes a shared hold from a thread that is in no call, where no writer waits for the readers; answers whether it did.
+    pub fn unshare(&mut self, thread: usize) -> bool
+        ensures released { (n : ℕ) → IsTrue result → slice_get self.old.roles thread ≡ Some (from (Unshare n))
+            → Allowed false thread (Alone (Unshare n)) self.old × (self.new ≡ after thread (Alone (Unshare n)) self.old) }
+        ensures refused { IsFalse result → self.new ≡ self.old }
+    {
+        let Some(place) = place_at(&self.places, thread) else {
+            return false;
+        };
+        if place.asks || place.holds == 0 || is_writer_parked(self.word) || self.word < 16 {
+            return false;
+        }
+        self.word -= 16;
+        self.places[thread] = Place {
+            holds: place.holds - 1,
+            asks: false,
+        };
+        true
+    }
+}
