@@ -1,17 +1,20 @@
 -- A row's calls are steps of the rules.
-use Rattle.std.proofs.Common.{◌≡◌, ◌≢◌, ◌↔◌, ℕ, zero, suc, ◌+◌, ◌-◌, ◌/◌, ◌%◌, ◌<◌, ◌≤◌, ◌⊎◌, Bool, true, false, not, IsTrue, List, [], map, Option, Some, option_map, slice_get, slice_set, refl, sym, ap, ◌∙◌, subst, inl, inr, arith}
+use Rattle.std.proofs.Common.{◌≡◌, ◌≢◌, ◌↔◌, ℕ, zero, suc, ◌+◌, ◌-◌, ◌/◌, ◌%◌, ◌<◌, ◌≤◌, ◌⊎◌, Bool, true, false, not, IsTrue, List, [], ◌∷◌, All, map, Option, Some, None, option_map, slice_get, slice_set, refl, sym, ap, ◌∙◌, subst, inl, inr, arith}
 use Rattle.std.proofs.lemmas.List.{map-set}
-use Rattle.std.proofs.lemmas.Option.{same_Some, slice_get-map}
-use Rattle.parking_lot_rules.specs.Roles.{Shared, Shares, Phase, Idle, Seeks, Role}
-use Rattle.parking_lot_rules.specs.Classes.{Class}
+use Rattle.std.proofs.lemmas.Option.{none-some, same_Some, slice_get-map}
+use Rattle.std.proofs.lemmas.List.Elements.{All-head, All-tail}
+use Rattle.parking_lot_rules.specs.Roles.{Shared, Shares, Phase, Idle, Seeks, Role, away}
+use Rattle.parking_lot_rules.specs.Classes.{Class, Waiting1, Waiting2, weight, total, weighs}
 use Rattle.parking_lot_rules.specs.Holds.{shared_holds}
-use Rattle.parking_lot_rules.specs.Clauses.{Word, IsWord, number}
-use Rattle.parking_lot_rules.specs.Lock.{Lock, IsSound}
-use Rattle.parking_lot_rules.specs.Plain.{Plain, Share, Unshare, from, to, written, May}
+use Rattle.parking_lot_rules.specs.Clauses.{Word, IsWord, number, Fits}
+use Rattle.parking_lot_rules.specs.Lock.{Lock, IsSound, note_of}
+use Rattle.parking_lot_rules.specs.Plain.{Plain, Begin, Share, Unshare, from, to, written, May}
 use Rattle.parking_lot_rules.specs.Steps.{Step, Alone, Allowed, after}
 use Rattle.parking_lot_rules.specs.Row.{word_of, asking, role_of, lock_of}
 use Rattle.parking_lot_rules.specs.declared.row.Place.{Place}
 use Rattle.parking_lot_rules.proofs.Sounds.{step_sound}
+use Rattle.parking_lot_rules.proofs.Totals.{same_counts, away_weighs}
+use Rattle.parking_lot_rules.proofs.Families.{total-none}
 
 pub word_bits : (n : ℕ) → IsWord (word_of n)
 word_bits n = omega arith
@@ -115,3 +118,45 @@ module _ (word : ℕ) (ps : List Place) (t : ℕ) (p : Place) (at : slice_get ps
       let left : q.holds ≡ n = omega (arith, fewer, same) in
       subst (λ (x : Lock). Allowed false t (Alone (Unshare n)) x × (lock_of (word - 16) (slice_set ps t q) ≡ after t (Alone (Unshare n)) x)) e
       (unshare_allowed n (sym same) rested quiet, unshare_after n q left rests some)
+
+-- a thread begins to ask
+module _ (word : ℕ) (ps : List Place) (t : ℕ) (p : Place) (at : slice_get ps t ≡ Some p) (none : p.holds ≡ 0) (rests : p.asks ≡ false) where
+  begin_allowed : Allowed false t (Alone (Begin 0 Shared)) (lock_of word ps)
+  begin_allowed = is_allowed word ps t p at (Begin 0 Shared) false rests (λ i. record { owns = Shares (sym none i); does = Idle }) (λ all. inl refl)
+
+  pub begin_sound : (q : Place) → role_of q ≡ to (Begin 0 Shared) → IsSound (lock_of word ps) → IsSound (lock_of word (slice_set ps t q))
+  begin_sound q e sound = is_sound word ps t p at (Begin 0 Shared) word q sound begin_allowed refl e
+
+  pub begin_step : (q : Place) → role_of q ≡ to (Begin 0 Shared) → (l : Lock) → lock_of word ps ≡ l → Allowed false t (Alone (Begin 0 Shared)) l × (lock_of word (slice_set ps t q) ≡ after t (Alone (Begin 0 Shared)) l)
+  begin_step q e l same =
+      subst (λ (x : Lock). Allowed false t (Alone (Begin 0 Shared)) x × (lock_of word (slice_set ps t q) ≡ after t (Alone (Begin 0 Shared)) x)) same
+      (begin_allowed, is_after word ps t p at (Begin 0 Shared) word q refl e)
+
+-- a row at which all rest is sound
+all_rest : (ps : List Place) → All (λ (p : Place). (p.holds ≡ 0) × (p.asks ≡ false)) ps → (u : ℕ) (r : Role) → slice_get (map role_of ps) u ≡ Some r → r ≡ away
+all_rest [] h u r at = absurd (none-some r at)
+all_rest (p ∷ ps) h zero r at =
+    let one = All-head (λ (x : Place). (x.holds ≡ 0) × (x.asks ≡ false)) p ps h in
+    sym (same_Some (role_of p) r at) ∙ role_with p 0 one.0 one.1
+all_rest (p ∷ ps) h (suc u) r at = all_rest ps (All-tail (λ (x : Place). (x.holds ≡ 0) × (x.asks ≡ false)) p ps h) u r at
+
+zero_fits : Fits (word_of 0) (λ c. 0)
+zero_fits = omega arith
+
+pub rest_sound : (ps : List Place) → All (λ (p : Place). (p.holds ≡ 0) × (p.asks ≡ false)) ps → IsSound (lock_of 0 ps)
+rest_sound ps h = record {
+  fits = same_counts (Fits (word_of 0)) (λ c. 0) _ (λ c. sym (none c)) zero_fits;
+  waiting1 = record { count = sym (none Waiting1); each = λ u. sym (nothing Waiting1 u) };
+  waiting2 = record { count = sym (none Waiting2); each = λ u. sym (nothing Waiting2 u) };
+  noted = λ u by r note at took. absurd (none-some (by, note) (ap (λ (x : Role). note_of x.does) (sym (all_rest ps h u r at)) ∙ took));
+}
+  where
+    nothing : (c : Class) (u : ℕ) → weighs c (slice_get (map role_of ps) u) ≡ 0
+    nothing c u = go (slice_get (map role_of ps) u) refl
+      where
+        go : (o : Option Role) → slice_get (map role_of ps) u ≡ o → weighs c (slice_get (map role_of ps) u) ≡ 0
+        go None e = ap (weighs c) e
+        go (Some r) e = ap (weighs c) e ∙ (ap (weight c) (all_rest ps h u r e) ∙ away_weighs c)
+
+    none : (c : Class) → total c (map role_of ps) ≡ 0
+    none c = total-none c (map role_of ps) (nothing c)

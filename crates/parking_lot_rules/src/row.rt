@@ -1,7 +1,9 @@
 //! A lock and the threads at it as one value: calls on it are steps of the rules.
-ghost use Rattle.std.specs.Prelude.{◌≡◌, ◌<◌, ℕ, IsTrue, IsFalse, length, slice_get, Some, false};
+ghost use Rattle.std.specs.Prelude.{◌≡◌, ℕ, IsTrue, IsFalse, All, slice_get, Some, false};
 ghost use Rattle.parking_lot_rules.specs.Plain.{Begin, Share, Unshare, from};
-ghost use Rattle.parking_lot_rules.specs.Roles.{Shared};
+ghost use Rattle.parking_lot_rules.specs.Clauses.{number};
+ghost use Rattle.parking_lot_rules.specs.Roles.{Shared, away};
+ghost use Rattle.parking_lot_rules.specs.Row.{lock_of};
 ghost use Rattle.parking_lot_rules.specs.Steps.{Alone, Allowed, after};
 
 use crate::word::{is_writer_parked, is_written, readers};
@@ -42,6 +44,40 @@ fn place_at(places: &[Place], thread: usize) -> Option<Place>
 }
 
 impl Row {
+    /// A lock that nobody owns. Its threads have no holds, and ask for none.
+    pub fn new(places: Vec<Place>) -> Row
+        requires rest { All (λ p. (p.holds ≡ 0) × (p.asks ≡ false)) places.items }
+        ensures { result ≡ lock_of 0 places.items }
+    {
+        Row { word: 0, places }
+    }
+
+    /// A thread that has no hold begins to ask for one; answers whether it did.
+    pub fn ask(&mut self, thread: usize) -> bool
+        ensures answers { slice_get self.old.roles thread ≡ Some away → IsTrue result }
+        ensures begun { IsTrue result → Allowed false thread (Alone (Begin 0 Shared)) self.old × (self.new ≡ after thread (Alone (Begin 0 Shared)) self.old) }
+        ensures refused { IsFalse result → self.new ≡ self.old }
+    {
+        let Some(place) = place_at(&self.places, thread) else {
+            return false;
+        };
+        if place.asks || place.holds != 0 {
+            return false;
+        }
+        self.places[thread] = Place {
+            holds: 0,
+            asks: true,
+        };
+        true
+    }
+
+    /// The word of the lock.
+    pub fn word(&self) -> u64
+        ensures { result ≡ number self.now.word }
+    {
+        self.word
+    }
+
     /// Admits a thread that asks to read, where no writer owns the lock and a reader more can be counted; answers whether it did.
     pub fn share(&mut self, thread: usize) -> bool
         ensures admitted { (n : ℕ) → IsTrue result → slice_get self.old.roles thread ≡ Some (from (Share n false))
