@@ -4,8 +4,7 @@ use Rattle.std.proofs.lemmas.List.{map-set}
 use Rattle.std.proofs.lemmas.Option.{none-some, same_Some, slice_get-map}
 use Rattle.std.proofs.lemmas.List.Elements.{All-head, All-tail}
 use Rattle.parking_lot_rules.specs.Roles.{Shared, Shares, Phase, Idle, Seeks, Role, away}
-use Rattle.parking_lot_rules.specs.Classes.{Class, Waiting1, Waiting2, weight, total, weighs}
-use Rattle.parking_lot_rules.specs.Holds.{shared_holds}
+use Rattle.parking_lot_rules.specs.Classes.{Class, Readers, Waiting1, Waiting2, weight, total, weighs}
 use Rattle.parking_lot_rules.specs.Clauses.{Word, IsWord, number, Fits}
 use Rattle.parking_lot_rules.specs.Lock.{Lock, IsSound, note_of}
 use Rattle.parking_lot_rules.specs.Plain.{Plain, Begin, Share, Unshare, from, to, written, May}
@@ -13,7 +12,7 @@ use Rattle.parking_lot_rules.specs.Steps.{Step, Alone, Allowed, after}
 use Rattle.parking_lot_rules.specs.Row.{word_of, asking, role_of, lock_of}
 use Rattle.parking_lot_rules.specs.declared.row.Place.{Place}
 use Rattle.parking_lot_rules.proofs.Sounds.{step_sound}
-use Rattle.parking_lot_rules.proofs.Totals.{same_counts, away_weighs}
+use Rattle.parking_lot_rules.proofs.Totals.{total-at, same_counts, away_weighs}
 use Rattle.parking_lot_rules.proofs.Families.{total-none}
 
 pub word_bits : (n : ℕ) → IsWord (word_of n)
@@ -57,10 +56,6 @@ module _ (word : ℕ) (ps : List Place) (t : ℕ) (p : Place) (at : slice_get ps
   pub is_sound : (k : Plain) (n : ℕ) (q : Place) → IsSound (lock_of word ps) → Allowed false t (Alone k) (lock_of word ps) → word_of n ≡ written k (word_of word) → role_of q ≡ to k → IsSound (lock_of n (slice_set ps t q))
   is_sound k n q sound may e f = subst IsSound (sym (is_after k n q e f)) (step_sound false t (Alone k) (lock_of word ps) sound may)
 
-  -- a thread in a role has that many holds
-  pub holds_are : (n : ℕ) (d : Phase) → slice_get (lock_of word ps).roles t ≡ Some (record { owns = Shares n; does = d }) → n ≡ p.holds
-  holds_are n d there = ap shared_holds (ap (λ (r : Role). r.owns) (same_Some _ _ (sym there ∙ role-at)))
-
 -- a bit that isn't set is 0
 pub bit_clear : (b : Bool) (n : ℕ) → n ≤ 1 → (IsTrue b ↔ (n ≡ 1)) → b ≡ false → n ≡ 0
 bit_clear b n few means off = clear n few (λ one. (let h : IsTrue b = means.1 one in off_on b off h))
@@ -100,24 +95,22 @@ module _ (word : ℕ) (ps : List Place) (t : ℕ) (p : Place) (at : slice_get ps
   unshare_sound n q left rests some sound had rested quiet =
       is_sound word ps t p at (Unshare n) (word - 16) q sound (unshare_allowed n had rested quiet) (fewer_readers word some) (role_with q n left rests)
 
-  -- the same of the lock that a row is seen as, and of the holds that its thread is seen to have
-  pub share_step : (q : Place) → q.holds ≡ p.holds + 1 → q.asks ≡ false → p.asks ≡ true → (word_of word).writer ≡ 0 → (l : Lock) → lock_of word ps ≡ l → (n : ℕ) → slice_get l.roles t ≡ Some (from (Share n false))
-      → Allowed false t (Alone (Share n false)) l × (lock_of (word + 16) (slice_set ps t q) ≡ after t (Alone (Share n false)) l)
-  share_step q more rests asks free l e n there =
-      let was : slice_get (lock_of word ps).roles t ≡ Some (from (Share n false)) = ap (λ (x : Lock). slice_get x.roles t) e ∙ there in
-      let same : n ≡ p.holds = holds_are word ps t p at n (Seeks Shared false) was in
-      subst (λ (x : Lock). Allowed false t (Alone (Share n false)) x × (lock_of (word + 16) (slice_set ps t q) ≡ after t (Alone (Share n false)) x)) e
-      (subst (λ m. Allowed false t (Alone (Share m false)) (lock_of word ps) × (lock_of (word + 16) (slice_set ps t q) ≡ after t (Alone (Share m false)) (lock_of word ps))) (sym same)
-      (share_allowed asks free, share_after q more rests))
+  -- the same of the lock that a row is seen as
+  pub share_step : (q : Place) → q.holds ≡ p.holds + 1 → q.asks ≡ false → p.asks ≡ true → (word_of word).writer ≡ 0 → (l : Lock) → lock_of word ps ≡ l
+      → (n : ℕ) × Allowed false t (Alone (Share n false)) l × (lock_of (word + 16) (slice_set ps t q) ≡ after t (Alone (Share n false)) l)
+  share_step q more rests asks free l e = (
+    p.holds,
+    subst (λ (x : Lock). Allowed false t (Alone (Share p.holds false)) x) e (share_allowed asks free),
+    subst (λ (x : Lock). lock_of (word + 16) (slice_set ps t q) ≡ after t (Alone (Share p.holds false)) x) e (share_after q more rests),
+  )
 
-  pub unshare_step : (q : Place) → q.holds + 1 ≡ p.holds → q.asks ≡ false → 16 ≤ word → p.asks ≡ false → (word_of word).parked2 ≡ 0 → (l : Lock) → lock_of word ps ≡ l → (n : ℕ) → slice_get l.roles t ≡ Some (from (Unshare n))
-      → Allowed false t (Alone (Unshare n)) l × (lock_of (word - 16) (slice_set ps t q) ≡ after t (Alone (Unshare n)) l)
-  unshare_step q fewer rests some rested quiet l e n there =
-      let was : slice_get (lock_of word ps).roles t ≡ Some (from (Unshare n)) = ap (λ (x : Lock). slice_get x.roles t) e ∙ there in
-      let same : n + 1 ≡ p.holds = holds_are word ps t p at (n + 1) Idle was in
-      let left : q.holds ≡ n = omega (arith, fewer, same) in
-      subst (λ (x : Lock). Allowed false t (Alone (Unshare n)) x × (lock_of (word - 16) (slice_set ps t q) ≡ after t (Alone (Unshare n)) x)) e
-      (unshare_allowed n (sym same) rested quiet, unshare_after n q left rests some)
+  pub unshare_step : (q : Place) → q.holds + 1 ≡ p.holds → q.asks ≡ false → 16 ≤ word → p.asks ≡ false → (word_of word).parked2 ≡ 0 → (l : Lock) → lock_of word ps ≡ l
+      → (n : ℕ) × Allowed false t (Alone (Unshare n)) l × (lock_of (word - 16) (slice_set ps t q) ≡ after t (Alone (Unshare n)) l)
+  unshare_step q fewer rests some rested quiet l e = (
+    q.holds,
+    subst (λ (x : Lock). Allowed false t (Alone (Unshare q.holds)) x) e (unshare_allowed q.holds (sym fewer) rested quiet),
+    subst (λ (x : Lock). lock_of (word - 16) (slice_set ps t q) ≡ after t (Alone (Unshare q.holds)) x) e (unshare_after q.holds q refl rests some),
+  )
 
 -- a thread begins to ask
 module _ (word : ℕ) (ps : List Place) (t : ℕ) (p : Place) (at : slice_get ps t ≡ Some p) (none : p.holds ≡ 0) (rests : p.asks ≡ false) where
@@ -160,3 +153,10 @@ rest_sound ps h = record {
 
     none : (c : Class) → total c (map role_of ps) ≡ 0
     none c = total-none c (map role_of ps) (nothing c)
+
+-- the word counts a hold that is there
+pub holds_counted : (word : ℕ) (ps : List Place) (t : ℕ) (p : Place) → slice_get ps t ≡ Some p → IsSound (lock_of word ps) → (p.holds ≡ 0 → ⊥) → 16 ≤ word
+unfolding weight
+holds_counted word ps t p at sound some =
+    let one : 1 ≤ p.holds = omega (arith, some) in
+    omega (arith, one, sound.fits, total-at (map role_of ps) t (role_of p) (slice_get-map role_of ps t ∙ ap (option_map role_of) at) Readers)

@@ -1,5 +1,5 @@
 //! A lock and the threads at it as one value: calls on it are steps of the rules.
-ghost use Rattle.std.specs.Prelude.{◌≡◌, ℕ, IsTrue, IsFalse, All, slice_get, Some, false};
+ghost use Rattle.std.specs.Prelude.{◌≡◌, ◌<◌, ◌+◌, ◌^◌, ℕ, IsTrue, IsFalse, All, slice_get, Some, false};
 ghost use Rattle.parking_lot_rules.specs.Plain.{Begin, Share, Unshare, from};
 ghost use Rattle.parking_lot_rules.specs.Clauses.{number};
 ghost use Rattle.parking_lot_rules.specs.Roles.{Shared, away};
@@ -80,8 +80,10 @@ impl Row {
 
     /// Admits a thread that asks to read, where no writer owns the lock and a reader more can be counted; answers whether it did.
     pub fn share(&mut self, thread: usize) -> bool
-        ensures admitted { (n : ℕ) → IsTrue result → slice_get self.old.roles thread ≡ Some (from (Share n false))
-            → Allowed false thread (Alone (Share n false)) self.old × (self.new ≡ after thread (Alone (Share n false)) self.old) }
+        ensures answers { (n : ℕ) → slice_get self.old.roles thread ≡ Some (from (Share n false)) → self.old.word.writer ≡ 0
+            → number self.old.word < 2 ^ 63 → n + 1 < 2 ^ 64 → IsTrue result }
+        ensures admitted { IsTrue result
+            → (n : ℕ) × Allowed false thread (Alone (Share n false)) self.old × (self.new ≡ after thread (Alone (Share n false)) self.old) }
         ensures refused { IsFalse result → self.new ≡ self.old }
     {
         let Some(place) = place_at(&self.places, thread) else {
@@ -100,14 +102,15 @@ impl Row {
 
     /// Takes a shared hold from a thread that is in no call, where no writer waits for the readers; answers whether it did.
     pub fn unshare(&mut self, thread: usize) -> bool
-        ensures released { (n : ℕ) → IsTrue result → slice_get self.old.roles thread ≡ Some (from (Unshare n))
-            → Allowed false thread (Alone (Unshare n)) self.old × (self.new ≡ after thread (Alone (Unshare n)) self.old) }
+        ensures answers { (n : ℕ) → slice_get self.old.roles thread ≡ Some (from (Unshare n)) → self.old.word.parked2 ≡ 0 → IsTrue result }
+        ensures released { IsTrue result
+            → (n : ℕ) × Allowed false thread (Alone (Unshare n)) self.old × (self.new ≡ after thread (Alone (Unshare n)) self.old) }
         ensures refused { IsFalse result → self.new ≡ self.old }
     {
         let Some(place) = place_at(&self.places, thread) else {
             return false;
         };
-        if place.asks || place.holds == 0 || is_writer_parked(self.word) || self.word < 16 {
+        if place.asks || place.holds == 0 || is_writer_parked(self.word) {
             return false;
         }
         self.word -= 16;

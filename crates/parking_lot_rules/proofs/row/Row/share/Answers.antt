@@ -17,5 +17,5 @@ invariant_of-self c = share_sound c.self.inside.word c.self.inside.places.items 
 
 -- src/row.rt:47:5
 pub returns-clause-admitted : goal.returns-clause-admitted
-returns-clause-admitted c n done there =
-    share_step c.self.inside.word c.self.inside.places.items c.args.thread c.in-Some.place (at c) _ refl refl (asks_so _ c.if-not-place.false) (free c) c.args.self.now c.self.view_is n there
+returns-clause-admitted c done =
+    share_step c.self.inside.word c.self.inside.places.items c.args.thread c.in-Some.place (at c) _ refl refl (asks_so _ c.if-not-place.false) (free c) c.args.self.now c.self.view_is
