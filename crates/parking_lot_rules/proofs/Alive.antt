@@ -1,11 +1,10 @@
 -- Locks of every kind: somebody can move, and a waiter that is moved is seen at both its locks.
-use Rattle.std.proofs.Common.{◌≡◌, ◌≢◌, ℕ, zero, suc, ◌+◌, ◌<◌, ◌≤◌, ◌⊎◌, ⊎_elim, Bool, true, false, IsTrue, List, [], ◌∷◌, ◌++◌, remove, Option, Some, None, slice_get, refl, sym, ap, ◌∙◌, subst, inl, inr, arith, sum_by}
+use Rattle.std.proofs.Common.{◌≡◌, ℕ, zero, suc, ◌+◌, ◌<◌, ◌≤◌, ◌⊎◌, ⊎_elim, Bool, true, false, IsTrue, List, [], ◌∷◌, remove, Option, Some, None, slice_get, refl, sym, ap, ◌∙◌, subst, inl, inr, arith, sum_by}
 use Rattle.std.proofs.lemmas.List.Sums.{sum_by-cons}
 use Rattle.std.proofs.lemmas.Option.{none-some, same_Some}
-use Rattle.parking_lot_rules.specs.Roles.{Stay, Fresh, Asleep, Late, Back, Role}
+use Rattle.parking_lot_rules.specs.Roles.{Stay, Fresh, Back, Role}
 use Rattle.parking_lot_rules.specs.Classes as rw_classes
 use Rattle.parking_lot_rules.specs.Lists.{occurs, at_index}
-use Rattle.parking_lot_rules.specs.Lock.{Lock}
 use Rattle.parking_lot_rules.specs.Laws as rw
 use Rattle.parking_lot_rules.specs.Progress.{is_before}
 use Rattle.parking_lot_rules.specs.Family.{Key, First, Second, key, section, Family}
@@ -15,7 +14,7 @@ use Rattle.parking_lot_rules.specs.MutexLaws as mutex_laws
 use Rattle.parking_lot_rules.specs.Variable as variable
 use Rattle.parking_lot_rules.specs.Variable.{Variable}
 use Rattle.parking_lot_rules.specs.Any.{Rw, Mx, MxStep}
-use Rattle.parking_lot_rules.specs.Every.{EveryLock, Of, Cv, OfStep, CvStep, every_rules, every_inside, EverySound, IsSoundEverywhere, Two, Acts, IsAsleepAt, WorksAt, IsBefore, OwnsIdly, mutex_before, variable_before, is_busy, SomebodyMoves, SleepersAreServed, NoDeadlock, NobodyIsForgotten, Requeues, IsRequeued, RequeuesAreSeenAtBoth}
+use Rattle.parking_lot_rules.specs.Every.{EveryLock, Of, Cv, OfStep, CvStep, every_rules, every_inside, EverySound, IsSoundEverywhere, Two, IsAsleepAt, WorksAt, IsBefore, OwnsIdly, mutex_before, variable_before, is_busy, SomebodyMoves, SleepersAreServed, NoDeadlock, NobodyIsForgotten, Requeues, IsRequeued, RequeuesAreSeenAtBoth}
 use Rattle.parking_lot_rules.proofs.Waiting.{occurs-cons, occurs-push, counted-same}
 use Rattle.parking_lot_rules.proofs.Moving as moving
 use Rattle.parking_lot_rules.proofs.Following as following
@@ -160,6 +159,7 @@ module _ (bucket : ℕ → ℕ) (recursive : ℕ → Bool) (f : Family EveryLock
       (λ moves. inl moves)
       (λ x. owner at there rise i x.0 x.1 (λ j sleeps up. climb at there rise fuel j x.0 sleeps (omega (arith, near, up))))
       (served i u asleep)
+
   alive : NoDeadlock bucket f
   alive at there rise i u asleep = climb at there rise (suc (sum_by (λ (x : ℕ). x) at)) i u asleep (omega arith)
 

@@ -1,26 +1,23 @@
 -- Families of locks of every kind: every act keeps them sound.
-use Rattle.std.proofs.Common.{◌≡◌, ◌≢◌, ℕ, zero, suc, ◌+◌, ◌≤◌, ◌⊎◌, ⊎_elim, Bool, List, [], ◌∷◌, ◌++◌, length, remove, replicate, map, Option, Some, None, slice_get, slice_set, refl, sym, ap, ◌∙◌, subst, inl, inr, arith}
+use Rattle.std.proofs.Common.{◌≡◌, ◌≢◌, ℕ, zero, suc, ◌+◌, ◌≤◌, ◌⊎◌, ⊎_elim, Bool, List, [], ◌∷◌, replicate, Option, Some, None, slice_get, slice_set, refl, sym, ap, ◌∙◌, subst, inl, inr, arith}
 use Rattle.std.proofs.lemmas.Bool.{cases_eq}
 use Rattle.std.proofs.lemmas.Option.{none-some, same_Some}
 use Rattle.parking_lot_rules.specs.Roles.{Stay, Fresh, Asleep, Late, Back}
 use Rattle.parking_lot_rules.specs.Classes.{inside}
-use Rattle.parking_lot_rules.specs.Lists.{occurs, at_index}
-use Rattle.parking_lot_rules.specs.Family.{Key, First, Second, key, Family, Rules, SoundFamilyOf}
-use Rattle.parking_lot_rules.specs.World.{lock_at, family}
-use Rattle.parking_lot_rules.specs.Runs.{at_rest}
+use Rattle.parking_lot_rules.specs.Lists.{at_index}
+use Rattle.parking_lot_rules.specs.Family.{Key, First, Second, Family}
 use Rattle.parking_lot_rules.specs.Mutex as mutex
 use Rattle.parking_lot_rules.specs.Mutex.{Mutex}
-use Rattle.parking_lot_rules.specs.Variable.{Phase, Idle, Checked, Joined, Queued, Leaves, Notifies, Left, Class, Inside, Waiting, weight, total, Variable, IsSound, Plain, Enter, Refuse, Rest, Forget, Keep, Go, from, to, May, Step, Alone, Join, Quit, Release, Allowed, after, quiet}
-use Rattle.parking_lot_rules.specs.Any.{AnyLock, Rw, Mx, any_rules, MxStep}
-use Rattle.parking_lot_rules.specs.Every.{EveryLock, Of, Cv, EveryStep, OfStep, CvStep, variable_crossing, variable_inside, variable_rules, every_rules, IsSoundEverywhere, Act, One, Two, Acts, Turn, Turns, Kind, ReaderWriter, Mutual, Condition, resting, all_resting, IsReached, EverySound, every_inside, InEveryRun, Requeues, IsRequeued, RequeuesAreSeenAtBoth}
+use Rattle.parking_lot_rules.specs.Variable.{Phase, Idle, Checked, Joined, Queued, Leaves, Notifies, Left, Class, Inside, weight, total, Variable, Plain, Refuse, Rest, Forget, Keep, Go, from, to, May, Step, Alone, Join, Quit, Release, Allowed, after, quiet}
+use Rattle.parking_lot_rules.specs.Any.{any_rules}
+use Rattle.parking_lot_rules.specs.Every.{EveryLock, Of, Cv, EveryStep, OfStep, CvStep, variable_crossing, variable_inside, variable_rules, every_rules, IsSoundEverywhere, Act, One, Two, Acts, Turn, Turns, Kind, ReaderWriter, Mutual, Condition, resting, all_resting, IsReached, EverySound, every_inside, InEveryRun}
 use Rattle.parking_lot_rules.proofs.Indexed.{get-set_same, get-set_other}
-use Rattle.parking_lot_rules.proofs.Waiting.{occurs-cons, occurs-push, counted-same}
 use Rattle.parking_lot_rules.proofs.Crossing.{crossed, WasIn}
 use Rattle.parking_lot_rules.proofs.Families.{AreRules, any_family_sound}
 use Rattle.parking_lot_rules.proofs.Running.{rest_sound_family}
 use Rattle.parking_lot_rules.proofs.Mutexes as mutexes
 use Rattle.parking_lot_rules.proofs.MutexCrossing.{any_are_rules, mutex_are_rules}
-use Rattle.parking_lot_rules.proofs.Variables.{step_sound, quiet_sound, total-at}
+use Rattle.parking_lot_rules.proofs.Variables.{step_sound, quiet_sound}
 use Rattle.parking_lot_rules.proofs.Boths.{both_sound}
 
 -- the word is written by one that is inside

@@ -1,19 +1,18 @@
 -- The holds of each thread stay within the limit, and the word counts them.
-use Rattle.std.proofs.Common.{◌≡◌, ◌≢◌, ℕ, zero, suc, ◌+◌, ◌*◌, ◌<◌, ◌≤◌, ◌⊎◌, ⊎_elim, Bool, true, false, List, [], ◌∷◌, length, map, replicate, Option, Some, None, option_map, slice_get, slice_set, sum_by, refl, sym, ap, ◌∙◌, subst, inl, inr, arith, mul-suc}
+use Rattle.std.proofs.Common.{◌≡◌, ◌≢◌, ℕ, zero, suc, ◌+◌, ◌*◌, ◌≤◌, ⊎_elim, Bool, true, false, List, [], ◌∷◌, length, map, Option, Some, None, option_map, slice_get, slice_set, sum_by, refl, sym, ap, ◌∙◌, subst, arith, mul-suc}
 use Rattle.std.proofs.lemmas.List.{length-map}
 use Rattle.std.proofs.lemmas.Bool.{cases_eq}
 use Rattle.std.proofs.lemmas.List.Sums.{sum_by-cons}
 use Rattle.std.proofs.lemmas.Option.{none-some, same_Some, slice_get-map}
-use Rattle.parking_lot_rules.specs.Roles.{Mode, Shared, Exclusive, Upgradable, Owned, Shares, Excludes, Upgrades, Stay, Mark, Open, Normal, Handed, Phase, Idle, Queued1, Taken1, Queued2, Taken2, Scans2, Stored1, Wakes, Role, away}
-use Rattle.parking_lot_rules.specs.Classes.{Readers, Upgraders, Strange, weight, total, weighs, owned, done}
-use Rattle.parking_lot_rules.specs.Clauses.{number}
+use Rattle.parking_lot_rules.specs.Roles.{Mode, Shared, Exclusive, Upgradable, Owned, Shares, Excludes, Upgrades, Stay, Mark, Open, Normal, Handed, Phase, Taken1, Scans2, Stored1, Wakes, Role, away}
+use Rattle.parking_lot_rules.specs.Classes.{Readers, Strange, weight, total, weighs, owned, done}
 use Rattle.parking_lot_rules.specs.Lock.{Lock, IsSound}
 use Rattle.parking_lot_rules.specs.Plain.{Plain, Begin, Yield, YieldBack, Downgrade, DowngradeToUpgradable, DowngradeUpgradable, from, to}
 use Rattle.parking_lot_rules.specs.Steps.{Step, Alone, List_changes, Take1, Take2, Store, Wake, Pass, Allowed, after, Listing, Join1, listing_from, listing_to, Scan, scanning, taking, ends_saying, settle, told, Waking, Retry, Own, OwnPending, OwnUpgradable, Recheck, waking_from, waking_to}
 use Rattle.parking_lot_rules.specs.Laws.{holds}
 use Rattle.parking_lot_rules.specs.World.{World, lock_at, role_at, MayStep}
-use Rattle.parking_lot_rules.specs.Runs.{Move, moved, Runs, IsReached, idle, at_rest}
-use Rattle.parking_lot_rules.specs.Holds.{shared_holds, handed_one, asks_for_one, IsWithin, HasRoom, AllHaveRoom, IsReachedWithin, all_holds, all_handed, HoldsAreCounted, HoldsAreWithin, WordsAreSmall}
+use Rattle.parking_lot_rules.specs.Runs.{Move, moved, Runs, IsReached, at_rest}
+use Rattle.parking_lot_rules.specs.Holds.{shared_holds, handed_one, asks_for_one, IsWithin, HasRoom, AllHaveRoom, IsReachedWithin, HoldsAreCounted, HoldsAreWithin, WordsAreSmall}
 use Rattle.parking_lot_rules.proofs.Indexed.{get-set_other, get-set_cases}
 use Rattle.parking_lot_rules.proofs.Totals.{total-at}
 use Rattle.parking_lot_rules.proofs.Running.{reached_sound, stays_at_its_lock, all_away}

@@ -1,15 +1,13 @@
 -- Who is in debt: where it begins and ends, and that the debts are kept.
-use Rattle.std.proofs.Common.{◌≡◌, ◌≢◌, ℕ, zero, suc, ◌+◌, ◌<◌, ◌≤◌, ◌⊎◌, ⊎_elim, Bool, true, false, cond, ◌||◌, ◌==◌, IsTrue, List, [], ◌∷◌, length, map, Option, Some, None, option_map, slice_get, slice_set, refl, sym, ap, ◌∙◌, subst, inl, inr, arith, eq-eqb}
+use Rattle.std.proofs.Common.{◌≡◌, ◌≢◌, ℕ, ⊎_elim, Bool, true, false, cond, List, [], ◌∷◌, map, Some, option_map, slice_get, slice_set, refl, sym, ap, ◌∙◌, subst, arith, eq-eqb}
 use Rattle.std.proofs.lemmas.Bool.{cases_eq, ne_eqb}
-use Rattle.std.proofs.lemmas.Option.{none-some, same_Some, slice_get-map}
-use Rattle.parking_lot_rules.specs.Roles.{Mode, Shared, Exclusive, Upgradable, Owned, Shares, Excludes, Upgrades, Stay, Fresh, Asleep, Late, Back, Mark, Open, Normal, Handed, Phase, Idle, Seeks, Enters1, Queued1, Taken1, Taken2, Queued2, Owes1, Scans1, Stored1, Owes2, Scans2, Masked2, Wakes, Role}
-use Rattle.parking_lot_rules.specs.Classes.{Class, Readers, Upgraders, Pending, Writers, Waiting1, Waiting2, Owing1, Owing2, Called, OpenWriters, OpenUpgraders, Strange, weight, total, weighs, inside, bit}
-use Rattle.parking_lot_rules.specs.Lists.{occurs}
-use Rattle.parking_lot_rules.specs.Lock.{Lock, IsSound, Note, On1, On2, note_of, to_wake}
-use Rattle.parking_lot_rules.specs.Plain.{Plain, Begin, ExpireTaken1, ReenterTaken1, Depart1, Depart2, Yield, YieldBack, Downgrade, DowngradeToUpgradable, DowngradeUpgradable, from, to, May, written}
+use Rattle.std.proofs.lemmas.Option.{same_Some, slice_get-map}
+use Rattle.parking_lot_rules.specs.Roles.{Mode, Shared, Exclusive, Upgradable, Shares, Stay, Fresh, Asleep, Late, Back, Mark, Open, Normal, Handed, Phase, Queued1, Taken1, Taken2, Queued2, Stored1, Scans2, Wakes, Role}
+use Rattle.parking_lot_rules.specs.Classes.{inside}
+use Rattle.parking_lot_rules.specs.Lock.{Lock, IsSound}
+use Rattle.parking_lot_rules.specs.Plain.{Plain, ExpireTaken1, ReenterTaken1, Depart1, Depart2, Yield, YieldBack, Downgrade, DowngradeToUpgradable, DowngradeUpgradable, from, to}
 use Rattle.parking_lot_rules.specs.Steps.{Step, Alone, List_changes, Take1, Take2, Store, Wake, Pass, Allowed, after, Listing, Join1, listing_from, listing_to, Scan, scanning, taking, Ending, Free, FreeUpgradable, Hand, HandUpgradable, Keep, ends_saying, settle, told, Waking, Retry, Own, OwnPending, OwnUpgradable, Recheck, waking_from, waking_to}
-use Rattle.parking_lot_rules.specs.Laws.{is_asleep, IsWaker}
-use Rattle.parking_lot_rules.specs.Debts.{is_inside, is_up, owes_section, still_tries, and_up, retries, is_in_debt, passing, debts, Turn, Begins, Ends, Remains, turned, begins_if, ends_without, owing, retrying, waking, handing, where_same, retrying_other, DebtsAreBooked, SomebodyIsInDebt, SomebodyOwns, DebtsArePaid, DebtsArePassedOn}
+use Rattle.parking_lot_rules.specs.Debts.{is_inside, is_up, owes_section, still_tries, and_up, retries, Turn, Remains, turned, begins_if, ends_without, owing, retrying, waking, handing, where_same, retrying_other, DebtsAreBooked}
 use Rattle.parking_lot_rules.proofs.Indexed.{get-set_same, get-set_other}
 
 plain_owes : (k : Plain) → owes_section (to k).does ≡ turned (owing (Alone k)) (owes_section (from k).does)
@@ -200,7 +198,7 @@ module _ (recursive : Bool) (t : ℕ) (l : Lock) where
       (λ e.
       let was : record { owns = Shares 0; does = Queued1 m stay } ≡ a = same_Some _ a (sym may.1.role ∙ ap (λ j. slice_get l.roles j) (sym e) ∙ here) in
       let now : record { owns = Shares 0; does = Taken1 m t Open stay } ≡ b = second_of_two t v (scanning (taking s v m)) (record { owns = Shares 0; does = Queued1 m stay }) _ b
-          (λ x. ne (e ∙ sym x)) may.1.role (ap (λ j. slice_get (after t (Take1 s i v m stay) l).roles j) (sym e) ∙ there) in
+      (λ x. ne (e ∙ sym x)) may.1.role (ap (λ j. slice_get (after t (Take1 s i v m stay) l).roles j) (sym e) ∙ there) in
       subst (λ (r : Role). Both Remains (where_same u v (begins_if (is_up stay))) r b) was
       (subst (λ (r : Role). Both Remains (where_same u v (begins_if (is_up stay))) (record { owns = Shares 0; does = Queued1 m stay }) r) now
       (refl, taken_up stay ∙ ap (λ k. turned k false) (sym (where-same u v (begins_if (is_up stay)) e)))))
@@ -210,7 +208,7 @@ module _ (recursive : Bool) (t : ℕ) (l : Lock) where
       (λ e.
       let was : record { owns = Shares 0; does = Queued2 f stay } ≡ a = same_Some _ a (sym may.2 ∙ ap (λ j. slice_get l.roles j) (sym e) ∙ here) in
       let now : record { owns = Shares 0; does = Taken2 f t stay } ≡ b = second_of_two t v (record { owns = o; does = Scans2 (v ∷ []) }) (record { owns = Shares 0; does = Queued2 f stay }) _ b
-          (λ x. ne (e ∙ sym x)) may.2 (ap (λ j. slice_get (after t (Take2 o v f stay) l).roles j) (sym e) ∙ there) in
+      (λ x. ne (e ∙ sym x)) may.2 (ap (λ j. slice_get (after t (Take2 o v f stay) l).roles j) (sym e) ∙ there) in
       subst (λ (r : Role). Both Remains (where_same u v (begins_if (is_up stay))) r b) was
       (subst (λ (r : Role). Both Remains (where_same u v (begins_if (is_up stay))) (record { owns = Shares 0; does = Queued2 f stay }) r) now
       (refl, taken_up stay ∙ ap (λ k. turned k false) (sym (where-same u v (begins_if (is_up stay)) e)))))
@@ -218,7 +216,7 @@ module _ (recursive : Bool) (t : ℕ) (l : Lock) where
       (cases_eq u v)
   others_booked (Store e s) may u a b ne here there =
       let now : settle (ends_saying e) a ≡ b = same_Some _ b
-          (sym (get-set_other (map (settle (ends_saying e)) l.roles) t u (record { owns = s.owns; does = Stored1 s.taken }) (λ x. ne (sym x)) ∙ slice_get-map (settle (ends_saying e)) l.roles u ∙ ap (option_map (settle (ends_saying e))) here) ∙ there) in
+      (sym (get-set_other (map (settle (ends_saying e)) l.roles) t u (record { owns = s.owns; does = Stored1 s.taken }) (λ x. ne (sym x)) ∙ slice_get-map (settle (ends_saying e)) l.roles u ∙ ap (option_map (settle (ends_saying e))) here) ∙ there) in
       subst (λ (r : Role). Both Remains (retrying_other (Store e s) u a.does) a r) now (told_owes (ends_saying e) a.does, stored_retries e s u a.does)
   others_booked (Wake o v us k stay) may u a b ne here there = ⊎_elim
       (λ e.

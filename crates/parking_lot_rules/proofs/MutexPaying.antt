@@ -1,15 +1,15 @@
 -- The debts at a mutex: where they begin and end, and that they are paid and passed on.
-use Rattle.std.proofs.Common.{◌≡◌, ◌≢◌, ℕ, zero, suc, ◌+◌, ◌<◌, ◌≤◌, ◌⊎◌, ⊎_elim, Bool, true, false, ◌||◌, IsTrue, List, [], ◌∷◌, length, map, Option, Some, None, option_map, slice_get, slice_set, refl, sym, ap, ◌∙◌, subst, inl, inr, arith}
+use Rattle.std.proofs.Common.{◌≡◌, ◌≢◌, ℕ, suc, ◌+◌, ◌<◌, ◌⊎◌, ⊎_elim, Bool, true, false, ◌||◌, IsTrue, List, [], ◌∷◌, length, map, Option, Some, None, option_map, slice_get, slice_set, refl, sym, ap, ◌∙◌, subst, inl, inr, arith}
 use Rattle.std.proofs.lemmas.Bool.{cases_eq}
 use Rattle.std.proofs.lemmas.List.Sums.{sum_by-cons}
 use Rattle.std.proofs.lemmas.Option.{same_Some, slice_get-map}
-use Rattle.parking_lot_rules.specs.Roles.{Stay, Fresh, Asleep, Late, Back, Mark, Open, Normal, Handed}
-use Rattle.parking_lot_rules.specs.Classes.{inside, bit}
+use Rattle.parking_lot_rules.specs.Roles.{Fresh, Asleep, Late, Back, Mark, Open, Normal, Handed}
+use Rattle.parking_lot_rules.specs.Classes.{bit}
 use Rattle.parking_lot_rules.specs.Lists.{occurs, at_index}
-use Rattle.parking_lot_rules.specs.Mutex.{Phase, Idle, Seeks, Enters, Queued, Taken, Masks, Leaves, Unlocks, Stored, Wakes, Comes, Moves, Role, away, Class, Owning, Waiting, Called, Strange, weight, total, Word, Fits, phase_note, phase_wakes, Mutex, IsSound, Plain, Begin, ExpireTaken, ReenterTaken, Depart, from, to, May, told, settle, Step, Alone, Join, Quit, QuitLast, Requeue, Pull, Follow, Take, Free, Hand, Wake, WakeOwner, Pass, doing, Allowed, after}
+use Rattle.parking_lot_rules.specs.Mutex.{Phase, Idle, Seeks, Enters, Queued, Taken, Masks, Leaves, Unlocks, Stored, Wakes, Role, away, Class, Owning, Waiting, Called, Strange, weight, total, Word, Fits, phase_note, phase_wakes, Mutex, IsSound, Plain, Begin, ExpireTaken, ReenterTaken, Depart, from, to, May, told, settle, Step, Alone, Join, Quit, QuitLast, Requeue, Pull, Follow, Take, Free, Hand, Wake, WakeOwner, Pass, doing, Allowed, after}
 use Rattle.parking_lot_rules.specs.MutexLaws.{is_asleep}
-use Rattle.parking_lot_rules.specs.Debts.{is_inside, is_up, and_up, Turn, Begins, Ends, Remains, turned, begins_if, ends_without, where_same}
-use Rattle.parking_lot_rules.specs.MutexDebts.{owes_section, still_tries, retries, is_in_debt, debts, owing, retrying, handing, retrying_other, SomebodyIsInDebt, SomebodyOwns, MutexDebtsArePaid, StepIsBooked, MutexDebtsAreBooked, ThroughoutMutex}
+use Rattle.parking_lot_rules.specs.Debts.{is_up, Turn, Begins, Ends, Remains, turned, begins_if, ends_without, where_same}
+use Rattle.parking_lot_rules.specs.MutexDebts.{owes_section, still_tries, retries, is_in_debt, debts, owing, retrying, handing, retrying_other, SomebodyIsInDebt, SomebodyOwns, MutexDebtsArePaid, MutexDebtsAreBooked, ThroughoutMutex}
 use Rattle.parking_lot_rules.proofs.Indexed.{get-set_same, get-set_other, sum_by-set_at}
 use Rattle.parking_lot_rules.proofs.Finding.{none_or}
 use Rattle.parking_lot_rules.proofs.Indebted.{late, back, taken_up, out_of_it, where-same, where-other}

@@ -1,11 +1,11 @@
 -- Every step of the stepped thread lowers the full ranks at a mutex, those that change nothing too.
-use Rattle.std.proofs.Common.{◌≡◌, ◌≢◌, ℕ, ◌+◌, ◌-◌, ◌≤◌, Bool, true, false, List, [], ◌∷◌, Some, slice_get, slice_set, refl, sym, ap, ◌∙◌, subst, arith}
+use Rattle.std.proofs.Common.{◌≡◌, ◌≢◌, ℕ, ◌+◌, ◌-◌, ◌≤◌, Bool, true, false, [], ◌∷◌, Some, slice_get, slice_set, sym, ap, ◌∙◌, subst, arith}
 use Rattle.std.proofs.lemmas.Option.{same_Some}
 use Rattle.parking_lot_rules.specs.Roles.{Stay, Asleep, Normal}
 use Rattle.parking_lot_rules.specs.Mutex.{Phase, Idle, Seeks, Enters, Queued, Taken, Stored, Comes, Moves, Role, away, Word, Mutex, IsSound, Plain, Begin, Unlock, Look, Come, from, to, Step, Alone, Join, Quit, QuitLast, Requeue, Pull, Follow, Take, Free, Hand, Wake, WakeOwner, Pass, doing, Allowed, after}
 use Rattle.parking_lot_rules.specs.Ranks.{where_some}
 use Rattle.parking_lot_rules.specs.MutexRanks.{asks, worst, fresh, rank_of_others, ranks, is_apart, KnowsTheWord}
-use Rattle.parking_lot_rules.specs.Sights.{Sight, Blind, Sees, is_stale, looks_left}
+use Rattle.parking_lot_rules.specs.Sights.{Sight, Blind, Sees, is_stale}
 use Rattle.parking_lot_rules.specs.MutexSights.{full_ranks, MutexLooksLower, MutexStepsLower}
 use Rattle.parking_lot_rules.proofs.Indexed.{get-set_same, get-set_other, sum_by-set_at}
 use Rattle.parking_lot_rules.proofs.Ranking.{chosen}
@@ -86,7 +86,7 @@ module _ (m : Mutex) (sound : IsSound m) (t : ℕ) where
       let ne : t ≢ v = two_apart m.roles t v _ away may.0 may.1 (λ e. cc) in
       let now : Role = record { owns = o; does = Stored (v ∷ []) } in
       let same : record { owns = o; does = Stored (v ∷ []) } ≡ b =
-          same_Some _ b (sym (get-set_other (slice_set m.roles t now) v t (doing (Taken t Normal Asleep)) (λ e. ne (sym e)) ∙ get-set_same m.roles t _ now may.0) ∙ there) in
+      same_Some _ b (sym (get-set_other (slice_set m.roles t now) v t (doing (Taken t Normal Asleep)) (λ e. ne (sym e)) ∙ get-set_same m.roles t _ now may.0) ∙ there) in
       let was : record { owns = o; does = Comes } ≡ a = same_Some _ a (sym may.0 ∙ here) in
       subst (λ (r : Role). ranks false (after t (Pull o v) m) t b.does ≡ ranks false m t r.does + 9) was
       (subst (λ (r : Role). ranks false (after t (Pull o v) m) t r.does ≡ ranks false m t Comes + 9) same

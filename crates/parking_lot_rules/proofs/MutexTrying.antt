@@ -1,9 +1,9 @@
 -- Why a try at a mutex is refused.
-use Rattle.std.proofs.Common.{◌≡◌, ◌≢◌, ℕ, zero, suc, ◌+◌, ◌<◌, ◌≤◌, ◌⊎◌, ⊎_elim, Bool, true, false, List, [], ◌∷◌, ◌++◌, length, map, Option, Some, None, option_map, slice_get, slice_set, refl, sym, ap, ◌∙◌, subst, inl, inr, arith}
+use Rattle.std.proofs.Common.{◌≡◌, ◌≢◌, ℕ, ◌<◌, ◌≤◌, ⊎_elim, true, false, List, [], ◌∷◌, ◌++◌, length, map, Some, option_map, slice_get, slice_set, sym, ap, ◌∙◌, subst, inl, inr, arith}
 use Rattle.std.proofs.lemmas.Option.{same_Some, slice_get-map}
-use Rattle.parking_lot_rules.specs.Roles.{Asleep, Mark, Open, Normal, Handed}
-use Rattle.parking_lot_rules.specs.Mutex.{Phase, Idle, Seeks, Queued, Taken, Unlocks, Stored, Wakes, Role, away, Owning, weight, total, Word, Mutex, IsSound, to, told, settle, Step, Alone, Join, Quit, QuitLast, Requeue, Pull, Follow, Take, Free, Hand, Wake, WakeOwner, Pass, doing, Allowed, after, Runs, unlocked}
-use Rattle.parking_lot_rules.specs.Tries.{Stage, AreOthersThere, others_run_there, OwnerOf, IsReachedMutex, RefusedTriesAtAMutexHaveACause}
+use Rattle.parking_lot_rules.specs.Roles.{Mark, Normal, Handed}
+use Rattle.parking_lot_rules.specs.Mutex.{Idle, Seeks, Unlocks, Stored, Role, Owning, weight, Word, Mutex, IsSound, to, settle, Step, Alone, Join, Quit, QuitLast, Requeue, Pull, Follow, Take, Free, Hand, Wake, WakeOwner, Pass, doing, Allowed, after, Runs, unlocked}
+use Rattle.parking_lot_rules.specs.Tries.{others_run_there, OwnerOf, IsReachedMutex, RefusedTriesAtAMutexHaveACause}
 use Rattle.parking_lot_rules.proofs.Indexed.{get-set_other}
 use Rattle.parking_lot_rules.proofs.Mutexes.{run_sound}
 use Rattle.parking_lot_rules.proofs.MutexPaying.{somebody}

@@ -1,8 +1,8 @@
 -- The debts at a lock are paid, and passed on.
-use Rattle.std.proofs.Common.{◌≡◌, ◌≢◌, ℕ, zero, suc, ◌+◌, ◌<◌, ◌≤◌, ◌⊎◌, ⊎_elim, Bool, true, false, cond, ◌||◌, IsTrue, List, [], ◌∷◌, length, map, Option, Some, None, option_map, slice_get, slice_set, refl, sym, ap, ◌∙◌, subst, inl, inr, arith}
-use Rattle.std.proofs.lemmas.Option.{none-some, same_Some, slice_get-map}
-use Rattle.parking_lot_rules.specs.Roles.{Owned, Shares, Excludes, Upgrades, Stay, Fresh, Asleep, Late, Back, Mark, Open, Normal, Handed, Phase, Seeks, Enters1, Queued1, Taken1, Queued2, Taken2, Owes1, Scans1, Stored1, Owes2, Scans2, Masked2, Wakes, Role, away}
-use Rattle.parking_lot_rules.specs.Classes.{Class, Readers, Upgraders, Pending, Writers, Waiting1, Waiting2, Owing1, Owing2, Called, OpenWriters, OpenUpgraders, Strange, weight, total, weighs, inside, bit}
+use Rattle.std.proofs.Common.{◌≡◌, ◌≢◌, ℕ, zero, suc, ◌+◌, ◌<◌, ◌⊎◌, ⊎_elim, Bool, true, false, cond, ◌||◌, IsTrue, List, [], ◌∷◌, length, map, Option, Some, None, option_map, slice_get, slice_set, refl, sym, ap, ◌∙◌, subst, inl, inr, arith}
+use Rattle.std.proofs.lemmas.Option.{same_Some, slice_get-map}
+use Rattle.parking_lot_rules.specs.Roles.{Owned, Shares, Excludes, Upgrades, Stay, Fresh, Asleep, Late, Back, Open, Normal, Handed, Phase, Seeks, Enters1, Queued1, Taken1, Queued2, Taken2, Owes1, Scans1, Stored1, Owes2, Scans2, Masked2, Wakes, Role, away}
+use Rattle.parking_lot_rules.specs.Classes.{Class, Readers, Upgraders, Pending, Writers, Waiting1, Waiting2, Owing1, Owing2, Called, OpenWriters, OpenUpgraders, Strange, weight, total, bit}
 use Rattle.parking_lot_rules.specs.Clauses.{Word, Fits, Counts}
 use Rattle.parking_lot_rules.specs.Lists.{occurs, at_index}
 use Rattle.parking_lot_rules.specs.Lock.{Lock, IsSound, Note, On1, On2, note_of, to_wake}

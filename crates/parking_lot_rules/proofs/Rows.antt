@@ -1,14 +1,14 @@
 -- A row's calls are steps of the rules.
-use Rattle.std.proofs.Common.{◌≡◌, ◌≢◌, ◌↔◌, ℕ, zero, suc, ◌+◌, ◌-◌, ◌/◌, ◌%◌, ◌<◌, ◌≤◌, ◌⊎◌, Bool, true, false, not, IsTrue, List, [], ◌∷◌, All, map, Option, Some, None, option_map, slice_get, slice_set, refl, sym, ap, ◌∙◌, subst, inl, inr, arith}
+use Rattle.std.proofs.Common.{◌≡◌, ◌↔◌, ℕ, zero, suc, ◌+◌, ◌-◌, ◌≤◌, Bool, true, false, not, IsTrue, List, [], ◌∷◌, All, map, Option, Some, None, option_map, slice_get, slice_set, refl, sym, ap, ◌∙◌, subst, inl, inr, arith}
 use Rattle.std.proofs.lemmas.List.{map-set}
 use Rattle.std.proofs.lemmas.Option.{none-some, same_Some, slice_get-map}
 use Rattle.std.proofs.lemmas.List.Elements.{All-head, All-tail}
-use Rattle.parking_lot_rules.specs.Roles.{Shared, Shares, Phase, Idle, Seeks, Role, away}
+use Rattle.parking_lot_rules.specs.Roles.{Shared, Shares, Phase, Idle, Role, away}
 use Rattle.parking_lot_rules.specs.Classes.{Class, Readers, Waiting1, Waiting2, weight, total, weighs}
 use Rattle.parking_lot_rules.specs.Clauses.{Word, IsWord, number, Fits}
 use Rattle.parking_lot_rules.specs.Lock.{Lock, IsSound, note_of}
 use Rattle.parking_lot_rules.specs.Plain.{Plain, Begin, Share, Unshare, from, to, written, May}
-use Rattle.parking_lot_rules.specs.Steps.{Step, Alone, Allowed, after}
+use Rattle.parking_lot_rules.specs.Steps.{Alone, Allowed, after}
 use Rattle.parking_lot_rules.specs.Row.{word_of, asking, role_of, lock_of}
 use Rattle.parking_lot_rules.specs.declared.row.Place.{Place}
 use Rattle.parking_lot_rules.proofs.Sounds.{step_sound}

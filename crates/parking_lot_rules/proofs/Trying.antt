@@ -1,21 +1,17 @@
 -- Why a try is refused.
-use Rattle.std.proofs.Common.{◌≡◌, ◌≢◌, ℕ, zero, suc, ◌+◌, ◌<◌, ◌≤◌, ◌⊎◌, ⊎_elim, Bool, true, false, cond, ◌==◌, List, [], ◌∷◌, ◌++◌, length, map, Option, Some, None, option_map, slice_get, slice_set, refl, sym, ap, ◌∙◌, subst, inl, inr, arith, eq-eqb}
-use Rattle.std.proofs.lemmas.Bool.{cases_eq, ne_eqb}
+use Rattle.std.proofs.Common.{◌≡◌, ◌≢◌, ℕ, zero, suc, ◌+◌, ◌<◌, ◌≤◌, ◌⊎◌, ⊎_elim, Bool, true, false, cond, ◌==◌, List, [], ◌∷◌, ◌++◌, map, Some, option_map, slice_get, slice_set, refl, sym, ap, ◌∙◌, subst, inl, inr, arith, eq-eqb}
+use Rattle.std.proofs.lemmas.Bool.{cases_eq}
 use Rattle.std.proofs.lemmas.Option.{same_Some, slice_get-map}
 use Rattle.std.proofs.lemmas.List.Sums as sums
-use Rattle.parking_lot_rules.specs.Roles.{Shared, Exclusive, Upgradable, Shares, Upgrades, Stay, Mark, Phase, Idle, Seeks, Scans2, Stored1, Role, away}
+use Rattle.parking_lot_rules.specs.Roles.{Exclusive, Stay, Mark, Phase, Idle, Seeks, Scans2, Stored1, Role}
 use Rattle.parking_lot_rules.specs.Classes.{Class, Readers, Upgraders, Pending, Writers, weight, total, weighs}
-use Rattle.parking_lot_rules.specs.Clauses.{Word, number}
-use Rattle.parking_lot_rules.specs.Lists.{at_index}
 use Rattle.parking_lot_rules.specs.Lock.{Lock, IsSound}
 use Rattle.parking_lot_rules.specs.Plain.{to}
 use Rattle.parking_lot_rules.specs.Steps.{Step, Alone, List_changes, Take1, Take2, Store, Wake, Pass, Allowed, after, listing_to, scanning, taking, ends_saying, settle, told, Waking, Retry, Own, OwnPending, OwnUpgradable, Recheck, waking_from, waking_to}
 use Rattle.parking_lot_rules.specs.Laws.{holds}
 use Rattle.parking_lot_rules.specs.World.{World, lock_at, MayStep}
 use Rattle.parking_lot_rules.specs.Runs.{Move, moved, Runs, IsReached}
-use Rattle.parking_lot_rules.specs.Mutex as mutex
-use Rattle.parking_lot_rules.specs.Mutex.{Mutex}
-use Rattle.parking_lot_rules.specs.Tries.{Stage, IsRefused, in_all, Tried, TryShared, TryExclusive, TryUpgradable, TryUpgrade, limit, KeepsOut, trying, Cause, AreOthers, others_run, moves_at, RefusedTriesHaveACause, AreOthersThere, others_run_there, OwnerOf, IsReachedMutex, RefusedTriesAtAMutexHaveACause}
+use Rattle.parking_lot_rules.specs.Tries.{Stage, IsRefused, in_all, Tried, TryShared, TryExclusive, TryUpgradable, TryUpgrade, limit, KeepsOut, trying, Cause, others_run, moves_at, RefusedTriesHaveACause}
 use Rattle.parking_lot_rules.proofs.Indexed.{get-set_other}
 use Rattle.parking_lot_rules.proofs.Totals.{total-at}
 use Rattle.parking_lot_rules.proofs.Families.{put-other}
@@ -27,8 +23,7 @@ use Rattle.parking_lot_rules.proofs.Worlds.{world_step}
 -- In words of any kind: the try was kept out where it stood, or each exchange was lost to a step of another. `Holds`: what stays true of the
 -- thread that tries, wherever others lead.
 module _ {W E V : Type 0} (make : W → List E → W → Type 0) (word : W → V) (out : V → Type 0) (count : List E → ℕ) (Holds : W → Type 0)
-  (keeps : (w v : W) (es : List E) → make w es v → Holds w → Holds v) (costs : (w v : W) (es : List E) → make w es v → word v ≢ word w → 1 ≤ count es) where
-
+    (keeps : (w v : W) (es : List E) → make w es v → Holds w → Holds v) (costs : (w v : W) (es : List E) → make w es v → word v ≢ word w → 1 ≤ count es) where
   pub refused : (n : ℕ) (w : W) (stages : List (Stage W E)) → Holds w → IsRefused make word out n w stages → ((v : W) × Holds v × out (word v)) ⊎ (n ≤ in_all count stages)
   refused zero w [] holds r = inr (omega arith)
   refused zero w (s ∷ stages) holds r = absurd r

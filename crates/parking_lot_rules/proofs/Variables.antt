@@ -1,13 +1,11 @@
 -- Every step keeps a condition variable sound.
 use Rattle.std.proofs.Common.{◌≡◌, ◌≢◌, ℕ, zero, suc, ◌+◌, ◌<◌, ◌≤◌, ◌⊎◌, ⊎_elim, List, [], ◌∷◌, ◌++◌, remove, replicate, Option, Some, None, slice_get, slice_set, refl, sym, ap, ◌∙◌, subst, inl, inr, arith}
-use Rattle.std.proofs.lemmas.Bool.{cases_eq}
 use Rattle.std.proofs.lemmas.List.Sums.{sum_by-cons}
 use Rattle.std.proofs.lemmas.Option.{none-some, same_Some}
-use Rattle.parking_lot_rules.specs.Roles.{Stay, Fresh, Asleep, Late, Back}
-use Rattle.parking_lot_rules.specs.Classes.{inside}
-use Rattle.parking_lot_rules.specs.Lists.{at_index, IsListOf}
-use Rattle.parking_lot_rules.specs.Variable.{Phase, Idle, Enters, Checked, Joined, Queued, Leaves, Notifies, Left, Class, Inside, Waiting, Settled, Storing, weight, total, Fits, Agrees, Variable, Sound, IsSound, Plain, Enter, Refuse, Check, Show, Rest, Expire, Reenter, Notify, Forget, Keep, Go, from, to, May, written, Step, Alone, Join, Quit, Release, Allowed, after, quiet}
-use Rattle.parking_lot_rules.proofs.Indexed.{get-set_same, get-set_other, get-set_cases, sum_by-set_at}
+use Rattle.parking_lot_rules.specs.Roles.{Stay, Back}
+use Rattle.parking_lot_rules.specs.Lists.{at_index}
+use Rattle.parking_lot_rules.specs.Variable.{Phase, Idle, Checked, Joined, Queued, Leaves, Notifies, Class, Inside, Waiting, Settled, Storing, weight, total, Fits, Agrees, Variable, Sound, IsSound, Plain, Enter, Refuse, Check, Show, Rest, Expire, Reenter, Notify, Forget, Keep, Go, from, to, May, written, Step, Alone, Join, Quit, Release, Allowed, after, quiet}
+use Rattle.parking_lot_rules.proofs.Indexed.{get-set_other, get-set_cases, sum_by-set_at}
 use Rattle.parking_lot_rules.proofs.Waiting.{lists-same, lists-push, lists-drop}
 
 -- what holds of any phases at all

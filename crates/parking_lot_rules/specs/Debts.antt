@@ -1,11 +1,11 @@
 -- Who is in debt: the threads that owe a section or a wake, and those that are about to try again.
 use Rattle.std.specs.Prelude.{◌≡◌, ◌≢◌, ℕ, suc, ◌+◌, ◌<◌, Bool, true, false, ◌||◌, ◌⊎◌, if◌then◌else◌, ◌==◌, List, [], ◌∷◌, length, slice_get, Some, IsTrue}
-use Rattle.parking_lot_rules.specs.Roles.{Mode, Shared, Exclusive, Upgradable, Owned, Shares, Stay, Fresh, Asleep, Late, Back, Mark, Open, Normal, Handed, Phase, Idle, Seeks, Enters1, Checked1, Queued1, Taken1, Masks1, Leaves1, Drains, Enters2, Checked2, Queued2, Taken2, Leaves2, Owes1, Scans1, Stored1, Owes2, Scans2, Masked2, Wakes, Role}
+use Rattle.parking_lot_rules.specs.Roles.{Mode, Shared, Exclusive, Upgradable, Stay, Fresh, Asleep, Late, Back, Mark, Open, Normal, Handed, Phase, Seeks, Enters1, Checked1, Queued1, Taken1, Masks1, Leaves1, Drains, Enters2, Checked2, Queued2, Taken2, Leaves2, Owes1, Scans1, Stored1, Owes2, Scans2, Masked2, Wakes, Role}
 use Rattle.parking_lot_rules.specs.Classes.{Readers, Upgraders, Pending, Writers, weight, bit}
 use Rattle.parking_lot_rules.specs.Lists.{occurs}
 use Rattle.parking_lot_rules.specs.Lock.{Lock}
-use Rattle.parking_lot_rules.specs.Plain.{Plain, Share, Pend, Drain, Upgradably, Exclude, ExpireTaken1, ExpireTaken2, Resume1, Resume2, ReceiveShared, ReceivePending, ReceiveUpgradable, Check1, Check2, UnshareLast, Yield, YieldBack, Downgrade, DowngradeToUpgradable, DowngradeUpgradable, Depart1, Depart2}
-use Rattle.parking_lot_rules.specs.Steps.{Step, Alone, List_changes, Take1, Take2, Store, Wake, Pass, Ending, Hand, HandUpgradable, Waking, Retry, Own, OwnPending, OwnUpgradable, Recheck}
+use Rattle.parking_lot_rules.specs.Plain.{Share, Pend, Drain, Upgradably, Exclude, ExpireTaken1, ExpireTaken2, Resume1, Resume2, ReceivePending, Check1, Check2, UnshareLast, Yield, YieldBack, Downgrade, DowngradeToUpgradable, DowngradeUpgradable, Depart1, Depart2}
+use Rattle.parking_lot_rules.specs.Steps.{Step, Alone, Take1, Take2, Store, Wake, Pass, Hand, HandUpgradable, Waking, Retry, Own, OwnPending, OwnUpgradable, Recheck}
 use Rattle.parking_lot_rules.specs.Family.{Crossing, Stays, Comes, Goes, crossing}
 use Rattle.parking_lot_rules.specs.Laws.{held, is_asleep}
 

@@ -1,6 +1,6 @@
 -- Locks of every kind in one family, with buckets in common; and steps of a thread at two of them at one time.
-use Rattle.std.specs.Prelude.{◌≡◌, ◌≢◌, ℕ, ◌+◌, ◌<◌, ◌⊎◌, Bool, true, false, List, [], ◌∷◌, ◌++◌, replicate, slice_get, Option, Some, None, IsTrue}
-use Rattle.parking_lot_rules.specs.Roles.{Stay, Fresh, Asleep, Late, Back, Role}
+use Rattle.std.specs.Prelude.{◌≡◌, ◌≢◌, ℕ, ◌+◌, ◌<◌, ◌⊎◌, Bool, true, false, List, [], ◌∷◌, ◌++◌, slice_get, Option, Some, None, IsTrue}
+use Rattle.parking_lot_rules.specs.Roles.{Stay, Asleep, Late, Role}
 use Rattle.parking_lot_rules.specs.Lists.{occurs, at_index}
 use Rattle.parking_lot_rules.specs.Laws as rw
 use Rattle.parking_lot_rules.specs.Progress.{is_before}
@@ -12,7 +12,7 @@ use Rattle.parking_lot_rules.specs.Variable.{Variable}
 use Rattle.parking_lot_rules.specs.Family.{Key, First, Second, key, Crossing, Stays, Comes, Goes, Family, Rules, IsFree, entered_after, StepOf, SoundFamilyOf}
 use Rattle.parking_lot_rules.specs.World.{lock_at}
 use Rattle.parking_lot_rules.specs.Runs.{at_rest}
-use Rattle.parking_lot_rules.specs.Any.{AnyLock, Rw, Mx, AnyStep, RwStep, MxStep, any_rules}
+use Rattle.parking_lot_rules.specs.Any.{AnyLock, Rw, Mx, AnyStep, MxStep, any_rules}
 
 pub data EveryLock : Type 0 where
   Of : (lock : AnyLock) → EveryLock

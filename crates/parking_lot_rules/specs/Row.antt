@@ -1,5 +1,5 @@
 -- One lock in a value: its word as a number, and its threads.
-use Rattle.std.specs.Prelude.{ℕ, ◌+◌, ◌/◌, ◌%◌, ◌<◌, ◌^◌, Bool, true, false, List, [], map}
+use Rattle.std.specs.Prelude.{ℕ, ◌/◌, ◌%◌, Bool, true, false, List, [], map}
 use Rattle.parking_lot_rules.specs.Roles.{Shared, Shares, Phase, Idle, Seeks, Role}
 use Rattle.parking_lot_rules.specs.Clauses.{Word}
 use Rattle.parking_lot_rules.specs.Lock.{Lock}

@@ -1,5 +1,5 @@
 -- Tries: a load, and then a limited number of exchanges.
-use Rattle.std.specs.Prelude.{◌≡◌, ◌≢◌, ℕ, zero, suc, ◌+◌, ◌<◌, ◌≤◌, ◌⊎◌, Bool, true, false, ◌==◌, List, [], ◌∷◌, length, slice_get, Some}
+use Rattle.std.specs.Prelude.{◌≡◌, ◌≢◌, ℕ, zero, suc, ◌+◌, ◌<◌, ◌≤◌, ◌⊎◌, Bool, false, ◌==◌, List, [], ◌∷◌, length, slice_get, Some}
 use Rattle.std.specs.List.{count_by}
 use Rattle.parking_lot_rules.specs.Roles.{Shared, Exclusive, Upgradable, Shares, Upgrades, Idle, Seeks, Role, away}
 use Rattle.parking_lot_rules.specs.Classes.{Readers, Upgraders, Pending, Writers}

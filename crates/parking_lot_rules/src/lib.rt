@@ -4,9 +4,9 @@
 
 mod debts;
 mod example;
-mod many;
 mod holds;
 mod laws;
+mod many;
 mod mutex;
 mod progress;
 mod row;
@@ -22,14 +22,14 @@ pub use debts::{
     debts_at_a_mutex_are_paid,
 };
 pub use example::a_writer_waits_and_is_woken;
-pub use many::{
-    condition_variables_stay_sound, every_lock_of_every_kind_is_sound, nobody_is_forgotten,
-    requeues_are_seen_at_both, steps_at_two_locks_keep_families_sound,
-};
 pub use holds::{holds_are_within_the_limit, words_are_small};
 pub use laws::{
     a_refusal_has_a_cause, debts_are_kept, every_lock_is_sound, no_bit_outlives_the_calls,
     owners_exclude_each_other, sleepers_are_known, somebody_can_move, the_word_tells_the_owners,
+};
+pub use many::{
+    condition_variables_stay_sound, every_lock_of_every_kind_is_sound, nobody_is_forgotten,
+    requeues_are_seen_at_both, steps_at_two_locks_keep_families_sound,
 };
 pub use mutex::{
     a_mutex_tells_its_owner, debts_of_a_mutex_are_kept, each_step_at_a_mutex_is_a_case,

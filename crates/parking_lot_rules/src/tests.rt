@@ -1,7 +1,7 @@
 // Words of the worked example: a reader and a pending writer that sleeps, then the writer alone; and of waiters behind an upgradable owner.
 use crate::{
-    Place, Row, is_parked, is_upgradable, is_writer_parked, is_written, readers, with_parked, without_parked,
-    without_writer_parked,
+    Place, Row, is_parked, is_upgradable, is_writer_parked, is_written, readers, with_parked,
+    without_parked, without_writer_parked,
 };
 use std::test::Fail;
 

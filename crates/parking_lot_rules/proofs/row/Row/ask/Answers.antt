@@ -1,4 +1,4 @@
-use Rattle.std.proofs.Common.{◌≡◌, ℕ, Bool, List, Some, slice_get, refl, sym, ap, ◌∙◌, arith}
+use Rattle.std.proofs.Common.{slice_get, refl, sym, ap, ◌∙◌}
 use Rattle.parking_lot_rules.proofs.Rows.{begin_sound, begin_step}
 use Rattle.parking_lot_rules.proofs.row.Row.ask.Goals as goal
 

@@ -1,4 +1,4 @@
-use Rattle.std.proofs.Common.{◌≡◌, ℕ, Bool, List, Some, slice_get, refl, sym, ap, ◌∙◌}
+use Rattle.std.proofs.Common.{◌≡◌, Some, slice_get, refl, sym, ap, ◌∙◌}
 use Rattle.parking_lot_rules.specs.Row.{word_of}
 use Rattle.parking_lot_rules.proofs.Rows.{word_bits, word_number, bit_clear, asks_so, share_sound, share_step}
 use Rattle.parking_lot_rules.proofs.row.Row.share.Goals as goal
