@@ -6,7 +6,7 @@ ghost use Rattle.parking_lot_rules.specs.Roles.{Shared, away};
 ghost use Rattle.parking_lot_rules.specs.Row.{lock_of};
 ghost use Rattle.parking_lot_rules.specs.Steps.{Alone, Allowed, after};
 
-use crate::word::{is_writer_parked, is_written, readers};
+use crate::word::{is_writer_parked, is_written};
 use std::marker::Model;
 
 /// What a thread has of a lock: shared holds, and whether it asks for one more.
