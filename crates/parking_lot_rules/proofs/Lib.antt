@@ -38,3 +38,15 @@ pub mod Visiting
 pub mod MutexCasing
 pub mod MutexRanking
 pub mod MutexCrossing
+pub mod Indebted
+pub mod Paying
+pub mod MutexPaying
+pub mod MutexSighting
+pub mod Variables
+pub mod Boths
+pub mod Everys
+pub mod Alive
+pub mod Trying
+pub mod MutexTrying
+pub mod Holding
+pub mod Rows

@@ -42,7 +42,7 @@ second_works o (Scans2 us) h = (refl, λ x. refl)
 second_works o (Masked2 us) h = (refl, λ x. refl)
 second_works o p h = absurd (omega arith)
 
-inside_works : (k : Key) (r : Role) → weight (section k) r ≡ 1 → IsTrue (is_at_work r.does) × ((x : Key) → is_before r.does x ≡ false)
+pub inside_works : (k : Key) (r : Role) → weight (section k) r ≡ 1 → IsTrue (is_at_work r.does) × ((x : Key) → is_before r.does x ≡ false)
 inside_works First r h = first_works r.owns r.does h
 inside_works Second r h = second_works r.owns r.does h
 

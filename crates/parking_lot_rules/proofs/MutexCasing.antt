@@ -4,7 +4,7 @@ use Rattle.std.proofs.lemmas.List.{map-set}
 use Rattle.std.proofs.lemmas.Bool.{false_from_ne_true}
 use Rattle.std.proofs.lemmas.Option.{none-some, same_Some, slice_get-map}
 use Rattle.parking_lot_rules.specs.Roles.{Open, Normal, Handed}
-use Rattle.parking_lot_rules.specs.Mutex.{Phase, Idle, Seeks, Taken, Unlocks, Wakes, Role, Owning, weight, total, Mutex, IsSound, Plain, Lock, ExpireTaken, ReenterTaken, Unlock, from, to, May, settle, Step, Alone, Join, Quit, QuitLast, Requeue, Take, Free, Hand, Wake, WakeOwner, Pass, doing, Allowed, after}
+use Rattle.parking_lot_rules.specs.Mutex.{Phase, Idle, Seeks, Taken, Unlocks, Stored, Wakes, Role, Owning, weight, total, Mutex, IsSound, Plain, Lock, ExpireTaken, ReenterTaken, Unlock, from, to, May, settle, Step, Alone, Join, Quit, QuitLast, Requeue, Pull, Follow, Take, Free, Hand, Wake, WakeOwner, Pass, doing, Allowed, after}
 use Rattle.parking_lot_rules.specs.MutexOwners.{Apart, Chosen, Standing, Owners, owner_of, standing, owners, dismissed, appointed, Nothing, NoOwner, IsCase, case_of, StepsAreCases}
 use Rattle.parking_lot_rules.proofs.Indexed.{get-set_other}
 use Rattle.parking_lot_rules.proofs.Casing.{set-same}
@@ -93,6 +93,10 @@ module _ (m : Mutex) (sound : IsSound m) (t : ℕ) where
   step_case (Quit i) may = (thread-at m.roles t _ _ may.0 refl, may.1, same_owners _ _ (threads-set m.roles t _ _ refl) refl)
   step_case (QuitLast i) may = (thread-at m.roles t _ _ may.0 refl, may.1, same_owners _ _ (threads-set m.roles t _ _ refl) refl)
   step_case (Requeue o v) may = (thread-at m.roles v _ _ may.1 refl, same_owners _ _ (threads-set m.roles v _ _ refl) refl)
+  step_case (Pull o v) may =
+      let ne : t ≢ v = λ e. (let x = ap (λ (r : Role). r.does) (same_Some _ _ (sym may.0 ∙ ap (λ i. slice_get m.roles i) e ∙ may.1)) in cc) in
+      same_owners _ _ (threads-same (slice_set m.roles t (record { owns = o; does = Stored (v ∷ []) })) v _ _ (get-set_other m.roles t v _ ne ∙ may.1) refl ∙ threads-same m.roles t _ _ may.0 refl) refl
+  step_case (Follow o v stay w) may = (thread-at m.roles w _ _ may.2 refl, same_owners _ _ (threads-set m.roles w _ _ refl) refl)
   step_case (Take v stay) may = (
     may.1,
     thread-at m.roles v _ _ may.2 refl,

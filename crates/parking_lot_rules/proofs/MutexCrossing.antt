@@ -4,7 +4,7 @@ use Rattle.std.proofs.lemmas.Bool.{cases_eq}
 use Rattle.std.proofs.lemmas.Option.{same_Some, slice_get-map}
 use Rattle.parking_lot_rules.specs.Roles.{Fresh, Asleep, Late, Back, Mark, Open, Normal, Handed}
 use Rattle.parking_lot_rules.specs.Lists.{at_index}
-use Rattle.parking_lot_rules.specs.Mutex.{Phase, Idle, Seeks, Queued, Taken, Unlocks, Wakes, Role, Inside, weight, Mutex, Plain, Begin, Retreat, Rest, Leave, Resume, Receive, Depart, GoUnmarked, Go, from, to, told, settle, Step, Alone, Join, Quit, QuitLast, Requeue, Take, Free, Hand, Wake, WakeOwner, Pass, doing, Allowed, after}
+use Rattle.parking_lot_rules.specs.Mutex.{Phase, Idle, Seeks, Queued, Taken, Unlocks, Stored, Wakes, Comes, Role, away, Inside, weight, Mutex, Plain, Begin, Retreat, Rest, Leave, Resume, Receive, Depart, GoUnmarked, Go, from, to, told, settle, Step, Alone, Join, Quit, QuitLast, Requeue, Pull, Follow, Take, Free, Hand, Wake, WakeOwner, Pass, doing, Allowed, after}
 use Rattle.parking_lot_rules.specs.Family.{Key, First, Second, rw_rules}
 use Rattle.parking_lot_rules.specs.Any.{AnyLock, Rw, Mx, AnyStep, RwStep, MxStep, mutex_crossing, mutex_inside, mutex_rules, any_rules, FamiliesStaySound}
 use Rattle.parking_lot_rules.proofs.Indexed.{get-set_same, get-set_other}
@@ -72,6 +72,11 @@ module _ (t : ℕ) (m : Mutex) where
   stay_all (Quit i) may apart u = weighs-same m.roles t u _ _ may.0 refl
   stay_all (QuitLast i) may apart u = weighs-same m.roles t u _ _ may.0 refl
   stay_all (Requeue o v) may apart u = weighs-same m.roles v u _ _ may.1 refl
+  stay_all (Pull o v) may apart u =
+      let ne : t ≢ v = two_apart m.roles t v (record { owns = o; does = Comes }) away may.0 may.1 (λ e. cc) in
+      weighs-same (slice_set m.roles t (record { owns = o; does = Stored (v ∷ []) })) v u away (doing (Taken t Normal Asleep)) (get-set_other m.roles t v _ ne ∙ may.1) refl
+      ∙ weighs-same m.roles t u (record { owns = o; does = Comes }) (record { owns = o; does = Stored (v ∷ []) }) may.0 refl
+  stay_all (Follow o v stay w) may apart u = weighs-same m.roles w u _ _ may.2 refl
   stay_all (Take v stay) may apart u =
       let ne : t ≢ v = two_apart m.roles t v (doing (Unlocks [])) (doing (Queued stay)) may.0 may.2 (λ e. cc) in
       weighs-same (slice_set m.roles t (doing (Unlocks (v ∷ [])))) v u (doing (Queued stay)) (doing (Taken t Open stay)) (get-set_other m.roles t v _ ne ∙ may.2) refl
@@ -97,6 +102,8 @@ module _ (t : ℕ) (m : Mutex) where
   others (Quit i) First may u ne = stay_all (Quit i) may (λ p e. cc) u
   others (QuitLast i) First may u ne = stay_all (QuitLast i) may (λ p e. cc) u
   others (Requeue o v) First may u ne = stay_all (Requeue o v) may (λ p e. cc) u
+  others (Pull o v) First may u ne = stay_all (Pull o v) may (λ p e. cc) u
+  others (Follow o v stay w) First may u ne = stay_all (Follow o v stay w) may (λ p e. cc) u
   others (Take v stay) First may u ne = stay_all (Take v stay) may (λ p e. cc) u
   others (Free us) First may u ne = stay_all (Free us) may (λ p e. cc) u
   others (Hand v) First may u ne = stay_all (Hand v) may (λ p e. cc) u
@@ -112,6 +119,8 @@ module _ (t : ℕ) (m : Mutex) where
   moves (Quit i) First may = stay_all (Quit i) may (λ p e. cc) t
   moves (QuitLast i) First may = stay_all (QuitLast i) may (λ p e. cc) t
   moves (Requeue o v) First may = stay_all (Requeue o v) may (λ p e. cc) t
+  moves (Pull o v) First may = stay_all (Pull o v) may (λ p e. cc) t
+  moves (Follow o v stay w) First may = stay_all (Follow o v stay w) may (λ p e. cc) t
   moves (Take v stay) First may = stay_all (Take v stay) may (λ p e. cc) t
   moves (Free us) First may = stay_all (Free us) may (λ p e. cc) t
   moves (Hand v) First may = stay_all (Hand v) may (λ p e. cc) t
@@ -155,7 +164,7 @@ out m First t idle = go (slice_get m.roles t) refl
     go None e = ap (at_index (weight Inside)) e
     go (Some r) e = ap (at_index (weight Inside)) e ∙ (ap (λ p. weight Inside (record { owns = r.owns; does = p })) (idle r e) ∙ idle_outside r.owns)
 
-mutex_are_rules : AreRules mutex_rules
+pub mutex_are_rules : AreRules mutex_rules
 mutex_are_rules = record {
   keeps = λ j t step m sound may. step_sound t step m sound may;
   others = λ j t step m k may u ne. others t m step k may u ne;
@@ -166,7 +175,7 @@ mutex_are_rules = record {
 }
 
 -- both kinds together
-any_are_rules : (recursive : ℕ → Bool) → AreRules (any_rules recursive)
+pub any_are_rules : (recursive : ℕ → Bool) → AreRules (any_rules recursive)
 any_are_rules recursive = record { keeps = keeps; others = any_others; moves = any_moves; was = any_was; one = one; out = any_out }
   where
     rw : AreRules (rw_rules recursive)

@@ -3,7 +3,7 @@ use Rattle.std.proofs.Common.{◌≡◌, ◌≢◌, ℕ, ◌+◌, ◌-◌, ◌�
 use Rattle.std.proofs.lemmas.List.Sums.{sum_by-cons}
 use Rattle.std.proofs.lemmas.Option.{same_Some, slice_get-map}
 use Rattle.parking_lot_rules.specs.Roles.{Stay, Fresh, Asleep, Late, Back, Mark, Open, Normal, Handed}
-use Rattle.parking_lot_rules.specs.Mutex.{Phase, Idle, Seeks, Checked, Queued, Taken, Masks, Leaves, Unlocks, Stored, Wakes, Moves, Role, away, Class, total, Word, Mutex, IsSound, Plain, Begin, Refuse, Lock, Flag, Enter, Check, Retreat, Rest, Expire, ExpireTaken, Reenter, ReenterTaken, Mask, Leave, Resume, Receive, Unlock, Look, Depart, Finish, Come, MarkParked, GoUnmarked, Go, from, to, May, written, told, settle, Step, Alone, Join, Quit, QuitLast, Requeue, Take, Free, Hand, Wake, WakeOwner, Pass, doing, Allowed, after}
+use Rattle.parking_lot_rules.specs.Mutex.{Phase, Idle, Seeks, Checked, Queued, Taken, Masks, Leaves, Unlocks, Stored, Wakes, Comes, Moves, Role, away, Class, total, Word, Mutex, IsSound, Plain, Begin, Refuse, Lock, Flag, Enter, Check, Retreat, Rest, Expire, ExpireTaken, Reenter, ReenterTaken, Mask, Leave, Resume, Receive, Unlock, Look, Depart, Finish, Come, MarkParked, GoUnmarked, Go, from, to, May, written, told, settle, Step, Alone, Join, Quit, QuitLast, Requeue, Pull, Follow, Take, Free, Hand, Wake, WakeOwner, Pass, doing, Allowed, after}
 use Rattle.parking_lot_rules.specs.MutexLaws.{is_asleep}
 use Rattle.parking_lot_rules.specs.Ranks.{where_some}
 use Rattle.parking_lot_rules.specs.MutexRanks.{asks, worst, fresh, rank_of_others, ranks, is_apart, KnowsTheWord, MutexRanksFall}
@@ -70,13 +70,13 @@ sum-settle : (h : Mark) (rs : List Role) → sum_by weigh (map (settle h) rs) �
 sum-settle h [] = refl
 sum-settle h (r ∷ rs) = omega (arith, sum_by-cons weigh (settle h r) (map (settle h) rs), sum_by-cons weigh r rs, sum-settle h rs, told_same h r.does)
 
-others-at : (rs : List Role) (t : ℕ) (a : Role) → slice_get rs t ≡ Some a → rank_of_others rs t + worst a.does ≡ sum_by weigh rs
+pub others-at : (rs : List Role) (t : ℕ) (a : Role) → slice_get rs t ≡ Some a → rank_of_others rs t + worst a.does ≡ sum_by weigh rs
 others-at rs t a at = omega (arith, sum_by-set_at weigh rs t a away at)
 
-others-set : (rs : List Role) (t : ℕ) (a b : Role) → slice_get rs t ≡ Some a → rank_of_others (slice_set rs t b) t ≡ rank_of_others rs t
+pub others-set : (rs : List Role) (t : ℕ) (a b : Role) → slice_get rs t ≡ Some a → rank_of_others (slice_set rs t b) t ≡ rank_of_others rs t
 others-set rs t a b at = omega (arith, sum_by-set_at weigh rs t a b at, others-at rs t a at, others-at (slice_set rs t b) t b (get-set_same rs t a b at))
 
-others-after : (rs : List Role) (t v : ℕ) (a b x y : Role) → slice_get rs t ≡ Some a → slice_get rs v ≡ Some x → t ≢ v
+pub others-after : (rs : List Role) (t v : ℕ) (a b x y : Role) → slice_get rs t ≡ Some a → slice_get rs v ≡ Some x → t ≢ v
     → rank_of_others (slice_set (slice_set rs t b) v y) t + worst x.does ≡ rank_of_others rs t + worst y.does
 others-after rs t v a b x y at there ne =
     let still : slice_get (slice_set rs t b) v ≡ Some x = get-set_other rs t v b ne ∙ there in
@@ -94,7 +94,7 @@ others-told rs t a b h at =
     let still : slice_get (map (settle h) rs) t ≡ Some (settle h a) = slice_get-map (settle h) rs t ∙ ap (option_map (settle h)) at in
     omega (arith, others-set (map (settle h) rs) t (settle h a) b still, others-at (map (settle h) rs) t (settle h a) still, sum-settle h rs, others-at rs t a at, told_same h a.does)
 
-two_apart : (rs : List Role) (t v : ℕ) (a x : Role) → slice_get rs t ≡ Some a → slice_get rs v ≡ Some x → a.does ≢ x.does → t ≢ v
+pub two_apart : (rs : List Role) (t v : ℕ) (a x : Role) → slice_get rs t ≡ Some a → slice_get rs v ≡ Some x → a.does ≢ x.does → t ≢ v
 two_apart rs t v a x at there ne e = ne (ap (λ (r : Role). r.does) (same_Some a x (sym at ∙ ap (λ i. slice_get rs i) e ∙ there)))
 
 taken_less : (t : ℕ) (stay : Stay) → worst (Taken t Open stay) ≤ worst (Queued stay)
@@ -103,12 +103,14 @@ taken_less t Asleep = omega arith
 taken_less t Late = omega arith
 taken_less t Back = omega arith
 
-abbrev phase_before : Step → Phase
+abbrev pub phase_before : Step → Phase
 phase_before (Alone k) = (from k).does
 phase_before Join = Checked
 phase_before (Quit i) = Queued Back
 phase_before (QuitLast i) = Queued Back
 phase_before (Requeue o v) = Moves
+phase_before (Pull o v) = Comes
+phase_before (Follow o v stay w) = Stored (v ∷ [])
 phase_before (Take v stay) = Unlocks []
 phase_before (Free taken) = Unlocks taken
 phase_before (Hand v) = Unlocks (v ∷ [])
@@ -149,6 +151,8 @@ module _ (m : Mutex) (sound : IsSound m) (t : ℕ) where
       let same : (doing Masks).does ≡ b.does = ap (λ (x : Role). x.does) (same_Some _ b (sym (get-set_same m.roles t _ (doing Masks) may.0) ∙ there)) in
       subst (λ p. ranks false (after t (QuitLast i) m) t p + 1 ≤ ranks false m t (doing (Queued Back)).does) same (omega (arith, others-set m.roles t (doing (Queued Back)) (doing Masks) may.0))
   step_falls stale (Requeue o v) b may there busy now knows = absurd cc
+  step_falls stale (Pull o v) b may there busy now knows = absurd cc
+  step_falls stale (Follow o v stay w) b may there busy now knows = absurd cc
   step_falls true (Take v stay) b may there busy now knows =
       let ne : t ≢ v = two_apart m.roles t v (doing (Unlocks [])) (doing (Queued stay)) may.0 may.2 (λ e. cc) in
       let same : Unlocks (v ∷ []) ≡ b.does = ap (λ (x : Role). x.does) (same_Some _ b (sym (get-set_other (slice_set m.roles t (doing (Unlocks (v ∷ [])))) v t (doing (Taken t Open stay)) (λ e. ne (sym e)) ∙ get-set_same m.roles t _ (doing (Unlocks (v ∷ []))) may.0) ∙ there)) in
@@ -198,12 +202,14 @@ module _ (m : Mutex) (sound : IsSound m) (t : ℕ) where
       let same : Wakes us ≡ b.does = ap (λ (x : Role). x.does) (same_Some _ b (sym (get-set_same m.roles t _ (record { owns = o; does = Wakes us }) may.0) ∙ there)) in
       subst (λ p. ranks false (after t (Pass o v us) m) t p + 1 ≤ ranks false m t (Wakes (v ∷ us))) same (omega (arith, others-set m.roles t _ (record { owns = o; does = Wakes us }) may.0))
 
-  role_before : (step : Step) (a : Role) → Allowed t step m → slice_get m.roles t ≡ Some a → phase_before step ≡ a.does
+  pub role_before : (step : Step) (a : Role) → Allowed t step m → slice_get m.roles t ≡ Some a → phase_before step ≡ a.does
   role_before (Alone k) a may at = ap (λ (x : Role). x.does) (same_Some _ a (sym may.0 ∙ at))
   role_before Join a may at = ap (λ (x : Role). x.does) (same_Some _ a (sym may ∙ at))
   role_before (Quit i) a may at = ap (λ (x : Role). x.does) (same_Some _ a (sym may.0 ∙ at))
   role_before (QuitLast i) a may at = ap (λ (x : Role). x.does) (same_Some _ a (sym may.0 ∙ at))
   role_before (Requeue o v) a may at = ap (λ (x : Role). x.does) (same_Some _ a (sym may.0 ∙ at))
+  role_before (Pull o v) a may at = ap (λ (x : Role). x.does) (same_Some _ a (sym may.0 ∙ at))
+  role_before (Follow o v stay w) a may at = ap (λ (x : Role). x.does) (same_Some _ a (sym may.0 ∙ at))
   role_before (Take v stay) a may at = ap (λ (x : Role). x.does) (same_Some _ a (sym may.0 ∙ at))
   role_before (Free us) a may at = ap (λ (x : Role). x.does) (same_Some _ a (sym may.0 ∙ at))
   role_before (Hand v) a may at = ap (λ (x : Role). x.does) (same_Some _ a (sym may ∙ at))

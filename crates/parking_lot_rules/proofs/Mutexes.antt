@@ -7,7 +7,7 @@ use Rattle.std.proofs.lemmas.Option.{none-some, same_Some, slice_get-map}
 use Rattle.parking_lot_rules.specs.Roles.{Stay, Fresh, Asleep, Back, Mark, Open, Normal, Handed}
 use Rattle.parking_lot_rules.specs.Lists.{occurs, at_index, IsListOf, AreNotedBy}
 use Rattle.parking_lot_rules.specs.Classes.{inside}
-use Rattle.parking_lot_rules.specs.Mutex.{Phase, Idle, Seeks, Checked, Queued, Taken, Masks, Leaves, Unlocks, Stored, Wakes, Moves, Role, away, Class, Owning, Inside, Waiting, Called, Untold, Counted, weight, total, Word, Fits, Counts, phase_note, phase_wakes, note_of, wakes, Mutex, Sound, IsSound, Plain, Begin, Refuse, Lock, Flag, Enter, Check, Retreat, Rest, Expire, ExpireTaken, Reenter, ReenterTaken, Mask, Leave, Resume, Receive, Unlock, Look, Depart, Finish, Come, MarkParked, GoUnmarked, Go, from, to, May, written, are_left, told, settle, Step, Alone, Join, Quit, QuitLast, Requeue, Take, Free, Hand, Wake, WakeOwner, Pass, doing, Allowed, after, Runs, unlocked, AlwaysOfMutex}
+use Rattle.parking_lot_rules.specs.Mutex.{Phase, Idle, Seeks, Checked, Queued, Taken, Masks, Leaves, Unlocks, Stored, Wakes, Comes, Moves, Role, away, Class, Owning, Inside, Waiting, Masking, Called, Untold, Counted, weight, total, Word, Fits, Counts, phase_note, phase_wakes, note_of, wakes, Mutex, Sound, IsSound, Plain, Begin, Refuse, Lock, Flag, Enter, Check, Retreat, Rest, Expire, ExpireTaken, Reenter, ReenterTaken, Mask, Leave, Resume, Receive, Unlock, Look, Depart, Finish, Come, MarkParked, GoUnmarked, Go, from, to, May, written, are_left, told, settle, Step, Alone, Join, Quit, QuitLast, Requeue, Pull, Follow, Take, Free, Hand, Wake, WakeOwner, Pass, doing, Allowed, after, Runs, unlocked, AlwaysOfMutex}
 use Rattle.parking_lot_rules.proofs.Indexed.{get-set_same, get-set_other, get-set_cases, sum_by-set_at}
 use Rattle.parking_lot_rules.proofs.Waiting.{lists-same, lists-push, lists-drop, occurs-cons, counted-same, counted-other}
 use Rattle.parking_lot_rules.proofs.Noting.{noted-set, WillWakeBy}
@@ -64,13 +64,13 @@ unfolding weight
 away_weighs Owning = refl
 away_weighs _ = refl
 
-total-set : (rs : List Role) (t : ℕ) (a b : Role) → slice_get rs t ≡ Some a → (c : Class) → total c (slice_set rs t b) ≡ total c (slice_set rs t away) + weight c b
+pub total-set : (rs : List Role) (t : ℕ) (a b : Role) → slice_get rs t ≡ Some a → (c : Class) → total c (slice_set rs t b) ≡ total c (slice_set rs t away) + weight c b
 total-set rs t a b at c = omega (arith, sum_by-set_at (weight c) rs t a b at, sum_by-set_at (weight c) rs t a away at, away_weighs c)
 
 pub total-at : (rs : List Role) (t : ℕ) (a : Role) → slice_get rs t ≡ Some a → (c : Class) → total c rs ≡ total c (slice_set rs t away) + weight c a
 total-at rs t a at c = omega (arith, sum_by-set_at (weight c) rs t a away at, away_weighs c)
 
-same_counts : (P : (Class → ℕ) → Type 0) (m n : Class → ℕ) → ((c : Class) → m c ≡ n c) → P m → P n
+pub same_counts : (P : (Class → ℕ) → Type 0) (m n : Class → ℕ) → ((c : Class) → m c ≡ n c) → P m → P n
 same_counts P m n e h = let p : m ≡ n = λ i c. e c i in subst P p h
 
 -- the counts once those that were taken are told
@@ -196,6 +196,15 @@ module _ (w : Word) (rest : Class → ℕ) (counts : Counts rest) where
   requeue_fits : (o : Bool) → Fits w (λ x. rest x + (weight x (record { owns = o; does = Moves }) + weight x away)) → Fits w (λ x. rest x + (weight x (record { owns = o; does = Moves }) + weight x (doing (Queued Asleep))))
   unfolding weight
   requeue_fits o fits = omega (arith, zero_or _ fits.debt)
+
+  pull_fits : (o : Bool) (v t : ℕ) → Fits w (λ x. rest x + (weight x (record { owns = o; does = Comes }) + weight x away))
+      → Fits w (λ x. rest x + (weight x (record { owns = o; does = Stored (v ∷ []) }) + weight x (doing (Taken t Normal Asleep))))
+  unfolding weight
+  pull_fits o v t fits = omega arith
+
+  follow_fits : rest Masking + 1 ≤ rest Inside → 1 ≤ rest Called → Fits w (λ x. rest x + weight x away) → Fits (record w { parked = 1 }) (λ x. rest x + weight x (doing (Queued Asleep)))
+  unfolding weight
+  follow_fits some called fits = omega arith
 
   take_fits : (v t : ℕ) (stay : Stay) → Fits w (λ x. rest x + (weight x (doing (Unlocks [])) + weight x (doing (Queued stay)))) → Fits w (λ x. rest x + (weight x (doing (Unlocks (v ∷ []))) + weight x (doing (Taken t Open stay))))
   unfolding weight
@@ -373,6 +382,67 @@ module _ (w : Word) (rs : List Role) (q : List ℕ) (sound : Sound w rs q) (t : 
       alike : (c : Class) → total c (slice_set (slice_set rs t a) v y) ≡ total c (slice_set rs v y)
       alike c = omega (arith, sum_by-set_at (weight c) (slice_set rs t a) v away y (get-set_other rs t v a ne ∙ there), sum_by-set_at (weight c) rs v away y there, sum_by-set_at (weight c) rs t a a at)
 
+  sound_pull : (o : Bool) (v : ℕ) → slice_get rs t ≡ Some (record { owns = o; does = Comes }) → slice_get rs v ≡ Some away
+      → Sound w (slice_set (slice_set rs t (record { owns = o; does = Stored (v ∷ []) })) v (doing (Taken t Normal Asleep))) q
+  unfolding weight
+  sound_pull o v at there = record {
+    fits = fits-set2 v a b away y at there ne (pull_fits w _ (counts_all (slice_set (slice_set rs t away) v away)) o v t);
+    waiting = lists-same (weight Waiting) q (slice_set rs t b) v away y still (lists-same (weight Waiting) q rs t a b at sound.waiting refl) refl;
+    noted = noted-set note_of wakes (slice_set rs t b) v away y still
+        (noted-set note_of wakes rs t a b at sound.noted (nothing_noted b (λ by mark. WillWakeBy wakes rs by t mark) refl) (λ u r mark here took. omega arith))
+        (λ by mark took.
+        let e : (t, Normal) ≡ (by, mark) = same_Some _ _ took in
+        subst (λ (z : ℕ × Mark). WillWakeBy wakes (slice_set rs t b) z.0 v z.1) e (b, get-set_same rs t a b at, omega (arith, occurs-cons v v [], counted-same v)))
+        (λ u r mark here took. omega arith);
+  }
+    where
+      a : Role
+      a = record { owns = o; does = Comes }
+
+      b : Role
+      b = record { owns = o; does = Stored (v ∷ []) }
+
+      y : Role
+      y = doing (Taken t Normal Asleep)
+
+      ne : t ≢ v
+      ne e = let same : a ≡ away = same_Some a away (sym at ∙ ap (λ j. slice_get rs j) e ∙ there) in let phases = ap (λ (r : Role). r.does) same in cc
+
+      still : slice_get (slice_set rs t b) v ≡ Some away
+      still = get-set_other rs t v b ne ∙ there
+
+  -- the thread that is inside, the one that it is to wake, and the one that is moved
+  sound_follow : (o : Bool) (v : ℕ) (stay : Stay) (x : ℕ) → slice_get rs t ≡ Some (record { owns = o; does = Stored (v ∷ []) }) → slice_get rs v ≡ Some (doing (Taken t Normal stay)) → slice_get rs x ≡ Some away
+      → Sound (record w { parked = 1 }) (slice_set rs x (doing (Queued Asleep))) (q ++ x ∷ [])
+  unfolding weight
+  sound_follow o v stay x at called there = record {
+    fits = same_counts (Fits (record w { parked = 1 })) _ _ (λ c. sym (total-set rs x away y there c))
+        (follow_fits w (λ c. total c (slice_set rs x away)) (counts_all (slice_set rs x away)) some_inside some_called (same_counts (Fits w) _ _ (total-at rs x away there) sound.fits));
+    waiting = lists-push (weight Waiting) q rs x away y there sound.waiting refl refl;
+    noted = noted-set note_of wakes rs x away y there sound.noted (nothing_noted y (λ by mark. WillWakeBy wakes rs by x mark) refl) (λ u r mark here took. omega arith);
+  }
+    where
+      a : Role
+      a = record { owns = o; does = Stored (v ∷ []) }
+
+      c : Role
+      c = doing (Taken t Normal stay)
+
+      y : Role
+      y = doing (Queued Asleep)
+
+      apart : (j : ℕ) (r : Role) → slice_get rs j ≡ Some r → (r.does ≡ Idle → ⊥) → x ≢ j
+      apart j r here busy e = busy (ap (λ (z : Role). z.does) (sym (same_Some away r (sym there ∙ ap (λ i. slice_get rs i) e ∙ here))))
+
+      still : slice_get (slice_set rs x away) t ≡ Some a
+      still = get-set_other rs x t away (apart t a at (λ e. cc)) ∙ at
+
+      some_inside : total Masking (slice_set rs x away) + 1 ≤ total Inside (slice_set rs x away)
+      some_inside = omega (arith, counts_all (slice_set (slice_set rs x away) t away), total-at (slice_set rs x away) t a still Inside, total-at (slice_set rs x away) t a still Masking)
+
+      some_called : 1 ≤ total Called (slice_set rs x away)
+      some_called = omega (arith, total-at (slice_set rs x away) v c (get-set_other rs x v away (apart v c called (λ e. cc)) ∙ called) Called)
+
   sound_take : (v : ℕ) (stay : Stay) → slice_get rs t ≡ Some (doing (Unlocks [])) → slice_get q 0 ≡ Some v → slice_get rs v ≡ Some (doing (Queued stay))
       → Sound w (slice_set (slice_set rs t (doing (Unlocks (v ∷ [])))) v (doing (Taken t Open stay))) (remove q 0)
   unfolding weight
@@ -507,6 +577,8 @@ step_sound t Join m sound may = sound_join m.word m.roles m.queue sound t may
 step_sound t (Quit i) m sound may = sound_quit m.word m.roles m.queue sound t i may.0 may.1 may.2
 step_sound t (QuitLast i) m sound may = sound_quit_last m.word m.roles m.queue sound t i may.0 may.1 may.2
 step_sound t (Requeue o v) m sound may = sound_requeue m.word m.roles m.queue sound t o v may.0 may.1
+step_sound t (Pull o v) m sound may = sound_pull m.word m.roles m.queue sound t o v may.0 may.1
+step_sound t (Follow o v stay w) m sound may = sound_follow m.word m.roles m.queue sound t o v stay w may.0 may.1 may.2
 step_sound t (Take v stay) m sound may = sound_take m.word m.roles m.queue sound t v stay may.0 may.1 may.2
 step_sound t (Free us) m sound may =
     sound_store m.word m.roles m.queue sound t Normal normal _ us may.0
@@ -539,7 +611,7 @@ weighs_nothing c rs none u = go (slice_get rs u) refl
 zero_fits : Fits (record { locked = 0; parked = 0 }) (λ c. 0)
 zero_fits = omega arith
 
-rest_sound : (n : ℕ) → IsSound (unlocked n)
+pub rest_sound : (n : ℕ) → IsSound (unlocked n)
 rest_sound n = record {
   fits = same_counts (Fits (record { locked = 0; parked = 0 })) (λ c. 0) _ (λ c. sym (none c)) zero_fits;
   waiting = record { count = sym (none Waiting); each = λ u. sym (weighs_nothing Waiting (replicate n away) (each Waiting) u) };
@@ -555,6 +627,9 @@ rest_sound n = record {
 runs_sound : (steps : List (ℕ × Step)) (m n : Mutex) → IsSound m → Runs m steps n → IsSound n
 runs_sound [] m n sound run = subst IsSound (sym run) sound
 runs_sound (e ∷ es) m n sound run = runs_sound es (after e.0 e.1 m) n (step_sound e.0 e.1 m sound run.0) run.1
+
+pub run_sound : (threads : ℕ) (steps : List (ℕ × Step)) (m : Mutex) → Runs (unlocked threads) steps m → IsSound m
+run_sound threads steps m run = runs_sound steps (unlocked threads) m (rest_sound threads) run
 
 pub always : (P : Mutex → Type 0) → ((m : Mutex) → IsSound m → P m) → AlwaysOfMutex P
 always P holds threads steps m run = holds m (runs_sound steps (unlocked threads) m (rest_sound threads) run)

@@ -32,7 +32,7 @@ looks_lower l sound t r (Sees true k) (Sees false m) at look =
     omega (arith, look.1, fresh_least (length l.roles) (length l.first) (length l.second) l.word (few1 false t l sound) (few2 false t l sound) r.does)
 looks_lower l sound t r (Sees false k) (Sees s m) at look = absurd look
 
-looks_few : (s : Sight) → looks_left s ≤ 21
+pub looks_few : (s : Sight) → looks_left s ≤ 21
 looks_few (Blind k) = omega arith
 looks_few (Sees true k) = omega arith
 looks_few (Sees false k) = omega arith

@@ -25,3 +25,11 @@ pub mod MutexLaws
 pub mod MutexOwners
 pub mod MutexRanks
 pub mod Any
+pub mod Debts
+pub mod MutexDebts
+pub mod MutexSights
+pub mod Variable
+pub mod Every
+pub mod Tries
+pub mod Holds
+pub mod Row

@@ -316,6 +316,9 @@ pub data Step : Type 0 where
   QuitLast : (i : ℕ) → Step
   -- it moves v, which waits for a condition variable, into the list
   Requeue : (owns : Bool) → (v : ℕ) → Step
+  -- or takes v to wake it, where nobody owns the mutex, and moves w behind it
+  Pull : (owns : Bool) → (v : ℕ) → Step
+  Follow : (owns : Bool) → (v : ℕ) → (stay : Stay) → (w : ℕ) → Step
   -- it takes the first waiter, stores, with the lock handed over or not, and wakes
   Take : (v : ℕ) → (stay : Stay) → Step
   Free : (taken : List ℕ) → Step
@@ -335,6 +338,8 @@ Allowed t Join m = slice_get m.roles t ≡ Some (doing Checked)
 Allowed t (Quit i) m = (slice_get m.roles t ≡ Some (doing (Queued Back))) × (slice_get m.queue i ≡ Some t) × (1 < length m.queue)
 Allowed t (QuitLast i) m = (slice_get m.roles t ≡ Some (doing (Queued Back))) × (slice_get m.queue i ≡ Some t) × (length m.queue ≡ 1)
 Allowed t (Requeue o v) m = (slice_get m.roles t ≡ Some (record { owns = o; does = Moves })) × (slice_get m.roles v ≡ Some away)
+Allowed t (Pull o v) m = (slice_get m.roles t ≡ Some (record { owns = o; does = Comes })) × (slice_get m.roles v ≡ Some away)
+Allowed t (Follow o v stay w) m = (slice_get m.roles t ≡ Some (record { owns = o; does = Stored (v ∷ []) })) × (slice_get m.roles v ≡ Some (doing (Taken t Normal stay))) × (slice_get m.roles w ≡ Some away)
 Allowed t (Take v stay) m = (slice_get m.roles t ≡ Some (doing (Unlocks []))) × (slice_get m.queue 0 ≡ Some v) × (slice_get m.roles v ≡ Some (doing (Queued stay)))
 Allowed t (Free taken) m = (slice_get m.roles t ≡ Some (doing (Unlocks taken))) × (taken ≡ [] → m.queue ≡ [])
 Allowed t (Hand v) m = slice_get m.roles t ≡ Some (doing (Unlocks (v ∷ [])))
@@ -349,6 +354,8 @@ after t Join m = record m { roles = slice_set m.roles t (doing (Queued Fresh)); 
 after t (Quit i) m = record m { roles = slice_set m.roles t (doing Leaves); queue = remove m.queue i }
 after t (QuitLast i) m = record m { roles = slice_set m.roles t (doing Masks); queue = remove m.queue i }
 after t (Requeue o v) m = record m { roles = slice_set m.roles v (doing (Queued Asleep)); queue = m.queue ++ v ∷ [] }
+after t (Pull o v) m = record m { roles = slice_set (slice_set m.roles t (record { owns = o; does = Stored (v ∷ []) })) v (doing (Taken t Normal Asleep)) }
+after t (Follow o v stay w) m = record m { word = record m.word { parked = 1 }; roles = slice_set m.roles w (doing (Queued Asleep)); queue = m.queue ++ w ∷ [] }
 after t (Take v stay) m = record m { roles = slice_set (slice_set m.roles t (doing (Unlocks (v ∷ [])))) v (doing (Taken t Open stay)); queue = remove m.queue 0 }
 after t (Free taken) m = record m { word = record { locked = 0; parked = are_left (length m.queue) }; roles = slice_set (map (settle Normal) m.roles) t (doing (Stored taken)) }
 after t (Hand v) m = record m { word = record { locked = 1; parked = are_left (length m.queue) }; roles = slice_set (map (settle Handed) m.roles) t (doing (Stored (v ∷ []))) }

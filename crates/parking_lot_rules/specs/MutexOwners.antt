@@ -2,7 +2,7 @@
 use Rattle.std.specs.Prelude.{◌≡◌, ℕ, Bool, true, false, List, [], ◌∷◌, ◌++◌, map, slice_get, slice_set, Some}
 use Rattle.std.specs.List.{remove}
 use Rattle.parking_lot_rules.specs.Roles.{Open, Handed}
-use Rattle.parking_lot_rules.specs.Mutex.{Phase, Queued, Taken, Unlocks, Role, Mutex, Step, Alone, Join, Quit, QuitLast, Requeue, Take, Free, Hand, Lock, Unlock, Allowed, after}
+use Rattle.parking_lot_rules.specs.Mutex.{Phase, Queued, Taken, Unlocks, Role, Mutex, Step, Alone, Join, Quit, QuitLast, Requeue, Follow, Take, Free, Hand, Lock, Unlock, Allowed, after}
 
 -- Where a thread stands: not in the list, in it, or taken off it and not told yet what for.
 pub data Stand : Type 0 where
@@ -94,6 +94,7 @@ case_of Join = Enter
 case_of (Quit i) = QuitList i
 case_of (QuitLast i) = QuitList i
 case_of (Requeue o v) = Move v
+case_of (Follow o v stay w) = Move w
 case_of (Take v stay) = Choose v
 case_of (Free taken) = LeaveTelling
 case_of (Hand v) = HandOver

@@ -2,7 +2,7 @@
 use Rattle.std.specs.Prelude.{◌≡◌, ◌≢◌, ℕ, ◌+◌, ◌-◌, ◌*◌, ◌≤◌, ◌⊎◌, Bool, true, false, IsTrue, List, length, slice_get, slice_set, Some}
 use Rattle.std.specs.List.{sum_by}
 use Rattle.parking_lot_rules.specs.Ranks.{where_some, by_stay}
-use Rattle.parking_lot_rules.specs.Mutex.{Phase, Idle, Seeks, Enters, Checked, Queued, Taken, Masks, Leaves, Unlocks, Stored, Wakes, Comes, Moves, Role, away, Word, Mutex, Enter, Retreat, Expire, ExpireTaken, Step, Alone, Requeue, Allowed, after}
+use Rattle.parking_lot_rules.specs.Mutex.{Phase, Idle, Seeks, Enters, Checked, Queued, Taken, Masks, Leaves, Unlocks, Stored, Wakes, Comes, Moves, Role, away, Word, Mutex, Enter, Retreat, Expire, ExpireTaken, Step, Alone, Requeue, Pull, Follow, Allowed, after}
 use Rattle.parking_lot_rules.specs.MutexLaws.{is_asleep}
 
 -- A thread that asks, and knows the word: kept out, it sets the parked bit, enters, checks, joins and leaves; else it is admitted.
@@ -50,6 +50,8 @@ abbrev pub is_apart : Step → Bool
 is_apart (Alone Expire) = true
 is_apart (Alone (ExpireTaken by mark)) = true
 is_apart (Requeue owns v) = true
+is_apart (Pull owns v) = true
+is_apart (Follow owns v stay w) = true
 is_apart step = false
 
 -- A thread that knows the word enters the section only where it would wait; and it leaves it as invalid only where the check fails.

@@ -1,7 +1,7 @@
 // Words of the worked example: a reader and a pending writer that sleeps, then the writer alone; and of waiters behind an upgradable owner.
 use crate::{
-    is_parked, is_upgradable, is_writer_parked, is_written, readers, with_parked, without_parked,
-    without_writer_parked,
+    Place, Row, is_parked, is_upgradable, is_writer_parked, is_written, readers, with_parked,
+    without_parked, without_writer_parked,
 };
 use std::test::Fail;
 
@@ -35,5 +35,29 @@ fn waiters_stand_behind_an_upgradable_owner(rt: HostRuntime) -> Result<(), Fail>
     assert!(rt; is_upgradable(37));
     assert!(rt; is_parked(37));
     assert!(rt; !is_written(37));
+    Ok(())
+}
+
+#[test]
+fn threads_read_and_leave(rt: HostRuntime) -> Result<(), Fail> {
+    let at_rest = Place {
+        holds: 0,
+        asks: false,
+    };
+    let places = vec![in rt.alloc(); at_rest, at_rest]?;
+    let mut row = Row::new(places);
+    assert!(rt; !row.share(0));
+    assert!(rt; row.ask(0));
+    assert!(rt; !row.ask(0));
+    assert!(rt; row.share(0));
+    assert_eq!(rt; row.word(), 16);
+    assert!(rt; row.ask(1));
+    assert!(rt; row.share(1));
+    assert_eq!(rt; row.word(), 32);
+    assert!(rt; !row.ask(2));
+    assert!(rt; row.unshare(0));
+    assert!(rt; !row.unshare(0));
+    assert!(rt; row.unshare(1));
+    assert_eq!(rt; row.word(), 0);
     Ok(())
 }
