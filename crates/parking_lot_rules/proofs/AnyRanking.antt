@@ -43,6 +43,8 @@ mutex_length t mutex.Join m = length-set m.roles t _
 mutex_length t (mutex.Quit i) m = length-set m.roles t _
 mutex_length t (mutex.QuitLast i) m = length-set m.roles t _
 mutex_length t (mutex.Requeue o v) m = length-set m.roles v _
+mutex_length t (mutex.Pull o v) m = length-set (slice_set m.roles t (record { owns = o; does = mutex.Stored (v ∷ []) })) v _ ∙ length-set m.roles t _
+mutex_length t (mutex.Follow o v stay w) m = length-set m.roles w _
 mutex_length t (mutex.Take v stay) m = length-set (slice_set m.roles t _) v _ ∙ length-set m.roles t _
 mutex_length t (mutex.Free us) m = length-set (map (mutex.settle Normal) m.roles) t _ ∙ length-map m.roles (mutex.settle Normal)
 mutex_length t (mutex.Hand v) m = length-set (map (mutex.settle Handed) m.roles) t _ ∙ length-map m.roles (mutex.settle Handed)
@@ -122,6 +124,8 @@ mutex_begins t mutex.Join m may idle = absurd (let e = sym (ap mutex_phase may) 
 mutex_begins t (mutex.Quit i) m may idle = absurd (let e = sym (ap mutex_phase may.0) ∙ idle in cc)
 mutex_begins t (mutex.QuitLast i) m may idle = absurd (let e = sym (ap mutex_phase may.0) ∙ idle in cc)
 mutex_begins t (mutex.Requeue o v) m may idle = absurd (let e = sym (ap mutex_phase may.0) ∙ idle in cc)
+mutex_begins t (mutex.Pull o v) m may idle = absurd (let e = sym (ap mutex_phase may.0) ∙ idle in cc)
+mutex_begins t (mutex.Follow o v stay w) m may idle = absurd (let e = sym (ap mutex_phase may.0) ∙ idle in cc)
 mutex_begins t (mutex.Take v stay) m may idle = absurd (let e = sym (ap mutex_phase may.0) ∙ idle in cc)
 mutex_begins t (mutex.Free us) m may idle = absurd (let e = sym (ap mutex_phase may.0) ∙ idle in cc)
 mutex_begins t (mutex.Hand v) m may idle = absurd (let e = sym (ap mutex_phase may) ∙ idle in cc)

@@ -49,4 +49,4 @@ pub mod Alive
 pub mod Trying
 pub mod MutexTrying
 pub mod Holding
-pub mod Rows
+pub mod ReadLocks

@@ -32,4 +32,4 @@ pub mod Variable
 pub mod Every
 pub mod Tries
 pub mod Holds
-pub mod Row
+pub mod ReadLock

@@ -10,7 +10,7 @@ mod laws;
 mod many;
 mod mutex;
 mod progress;
-mod row;
+mod read_lock;
 mod steps;
 #[cfg(test)]
 mod tests;
@@ -47,7 +47,7 @@ pub use mutex::{
 pub use progress::{
     families_stay_sound, rising_locks_never_deadlock, sections_are_entered, sleepers_are_served,
 };
-pub use row::{Place, Row};
+pub use read_lock::{Place, ReadLock};
 pub use steps::{
     a_call_begins_with_a_small_rank, a_step_stays_at_its_lock, another_thread_may_be_stepped,
     each_step_is_a_case, looks_lower_the_full_ranks, ranks_fall, readers_are_kept_out,

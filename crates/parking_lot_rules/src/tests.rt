@@ -1,6 +1,6 @@
 // Words of the worked example: a reader and a pending writer that sleeps, then the writer alone; and of waiters behind an upgradable owner.
 use crate::{
-    Place, Row, is_parked, is_upgradable, is_writer_parked, is_written, readers, with_parked,
+    Place, ReadLock, is_parked, is_upgradable, is_writer_parked, is_written, readers, with_parked,
     without_parked, without_writer_parked,
 };
 use std::test::Fail;
@@ -45,19 +45,19 @@ fn threads_read_and_leave(rt: HostRuntime) -> Result<(), Fail> {
         asks: false,
     };
     let places = vec![in rt.alloc(); at_rest, at_rest]?;
-    let mut row = Row::new(places);
-    assert!(rt; !row.share(0));
-    assert!(rt; row.ask(0));
-    assert!(rt; !row.ask(0));
-    assert!(rt; row.share(0));
-    assert_eq!(rt; row.word(), 16);
-    assert!(rt; row.ask(1));
-    assert!(rt; row.share(1));
-    assert_eq!(rt; row.word(), 32);
-    assert!(rt; !row.ask(2));
-    assert!(rt; row.unshare(0));
-    assert!(rt; !row.unshare(0));
-    assert!(rt; row.unshare(1));
-    assert_eq!(rt; row.word(), 0);
+    let mut lock = ReadLock::new(places);
+    assert!(rt; !lock.share(0));
+    assert!(rt; lock.ask(0));
+    assert!(rt; !lock.ask(0));
+    assert!(rt; lock.share(0));
+    assert_eq!(rt; lock.word(), 16);
+    assert!(rt; lock.ask(1));
+    assert!(rt; lock.share(1));
+    assert_eq!(rt; lock.word(), 32);
+    assert!(rt; !lock.ask(2));
+    assert!(rt; lock.unshare(0));
+    assert!(rt; !lock.unshare(0));
+    assert!(rt; lock.unshare(1));
+    assert_eq!(rt; lock.word(), 0);
     Ok(())
 }

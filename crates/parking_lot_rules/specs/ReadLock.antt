@@ -3,7 +3,7 @@ use Rattle.std.specs.Prelude.{ℕ, ◌/◌, ◌%◌, Bool, true, false, List, []
 use Rattle.parking_lot_rules.specs.Roles.{Shared, Shares, Phase, Idle, Seeks, Role}
 use Rattle.parking_lot_rules.specs.Clauses.{Word}
 use Rattle.parking_lot_rules.specs.Lock.{Lock}
-use Rattle.parking_lot_rules.specs.declared.row.Place.{Place}
+use Rattle.parking_lot_rules.specs.declared.read_lock.Place.{Place}
 
 -- the parts of a word
 abbrev pub word_of : ℕ → Word

@@ -3,7 +3,7 @@ ghost use Rattle.std.specs.Prelude.{◌≡◌, ◌<◌, ◌+◌, ◌^◌, ℕ, I
 ghost use Rattle.parking_lot_rules.specs.Plain.{Begin, Share, Unshare, from};
 ghost use Rattle.parking_lot_rules.specs.Clauses.{number};
 ghost use Rattle.parking_lot_rules.specs.Roles.{Shared, away};
-ghost use Rattle.parking_lot_rules.specs.Row.{lock_of};
+ghost use Rattle.parking_lot_rules.specs.ReadLock.{lock_of};
 ghost use Rattle.parking_lot_rules.specs.Steps.{Alone, Allowed, after};
 
 use crate::word::{is_writer_parked, is_written};
@@ -20,14 +20,14 @@ pub struct Place {
 ///
 /// Contracts see it as a lock of the rules. It is sound at every moment, since its calls are steps.
 #[derive(Drop)]
-pub struct Row {
+pub struct ReadLock {
     word: u64,
     places: Vec<Place>,
 }
 
-impl Model for Row {
+impl Model for ReadLock {
     ghost use Rattle.parking_lot_rules.specs.Lock.{Lock, IsSound};
-    ghost use Rattle.parking_lot_rules.specs.Row.{lock_of};
+    ghost use Rattle.parking_lot_rules.specs.ReadLock.{lock_of};
 
     ghost Value = { Lock };
 
@@ -43,13 +43,13 @@ fn place_at(places: &[Place], thread: usize) -> Option<Place>
     places.get(thread).copied()
 }
 
-impl Row {
+impl ReadLock {
     /// A lock that nobody owns. Its threads have no holds, and ask for none.
-    pub fn new(places: Vec<Place>) -> Row
+    pub fn new(places: Vec<Place>) -> ReadLock
         requires rest { All (λ p. (p.holds ≡ 0) × (p.asks ≡ false)) places.items }
         ensures { result ≡ lock_of 0 places.items }
     {
-        Row { word: 0, places }
+        ReadLock { word: 0, places }
     }
 
     /// A thread that has no hold begins to ask for one; answers whether it did.

@@ -1,6 +1,6 @@
 use Rattle.std.proofs.Common.{slice_get, refl, sym, ap, ◌∙◌}
-use Rattle.parking_lot_rules.proofs.Rows.{begin_sound, begin_step}
-use Rattle.parking_lot_rules.proofs.row.Row.ask.Goals as goal
+use Rattle.parking_lot_rules.proofs.ReadLocks.{begin_sound, begin_step}
+use Rattle.parking_lot_rules.proofs.read_lock.ReadLock.ask.Goals as goal
 
 pub invariant_of-self : goal.invariant_of-self
 invariant_of-self c =

@@ -1,4 +1,4 @@
--- A row's calls are steps of the rules.
+-- Calls of a lock are steps of the rules.
 use Rattle.std.proofs.Common.{◌≡◌, ◌↔◌, ℕ, zero, suc, ◌+◌, ◌-◌, ◌≤◌, Bool, true, false, not, IsTrue, List, [], ◌∷◌, All, map, Option, Some, None, option_map, slice_get, slice_set, refl, sym, ap, ◌∙◌, subst, inl, inr, arith}
 use Rattle.std.proofs.lemmas.List.{map-set}
 use Rattle.std.proofs.lemmas.Option.{none-some, same_Some, slice_get-map}
@@ -9,8 +9,8 @@ use Rattle.parking_lot_rules.specs.Clauses.{Word, IsWord, number, Fits}
 use Rattle.parking_lot_rules.specs.Lock.{Lock, IsSound, note_of}
 use Rattle.parking_lot_rules.specs.Plain.{Plain, Begin, Share, Unshare, from, to, written, May}
 use Rattle.parking_lot_rules.specs.Steps.{Alone, Allowed, after}
-use Rattle.parking_lot_rules.specs.Row.{word_of, asking, role_of, lock_of}
-use Rattle.parking_lot_rules.specs.declared.row.Place.{Place}
+use Rattle.parking_lot_rules.specs.ReadLock.{word_of, asking, role_of, lock_of}
+use Rattle.parking_lot_rules.specs.declared.read_lock.Place.{Place}
 use Rattle.parking_lot_rules.proofs.Sounds.{step_sound}
 use Rattle.parking_lot_rules.proofs.Totals.{total-at, same_counts, away_weighs}
 use Rattle.parking_lot_rules.proofs.Families.{total-none}
@@ -52,7 +52,7 @@ module _ (word : ℕ) (ps : List Place) (t : ℕ) (p : Place) (at : slice_get ps
   pub is_after : (k : Plain) (n : ℕ) (q : Place) → word_of n ≡ written k (word_of word) → role_of q ≡ to k → lock_of n (slice_set ps t q) ≡ after t (Alone k) (lock_of word ps)
   is_after k n q e f = λ i. record { word = e i; roles = (map-set role_of ps t q ∙ ap (λ r. slice_set (map role_of ps) t r) f) i; first = []; second = [] }
 
-  -- so the row stays sound
+  -- so the lock stays sound
   pub is_sound : (k : Plain) (n : ℕ) (q : Place) → IsSound (lock_of word ps) → Allowed false t (Alone k) (lock_of word ps) → word_of n ≡ written k (word_of word) → role_of q ≡ to k → IsSound (lock_of n (slice_set ps t q))
   is_sound k n q sound may e f = subst IsSound (sym (is_after k n q e f)) (step_sound false t (Alone k) (lock_of word ps) sound may)
 
@@ -95,7 +95,7 @@ module _ (word : ℕ) (ps : List Place) (t : ℕ) (p : Place) (at : slice_get ps
   unshare_sound n q left rests some sound had rested quiet =
       is_sound word ps t p at (Unshare n) (word - 16) q sound (unshare_allowed n had rested quiet) (fewer_readers word some) (role_with q n left rests)
 
-  -- the same of the lock that a row is seen as
+  -- the same of the lock that a value is seen as
   pub share_step : (q : Place) → q.holds ≡ p.holds + 1 → q.asks ≡ false → p.asks ≡ true → (word_of word).writer ≡ 0 → (l : Lock) → lock_of word ps ≡ l
       → (n : ℕ) × Allowed false t (Alone (Share n false)) l × (lock_of (word + 16) (slice_set ps t q) ≡ after t (Alone (Share n false)) l)
   share_step q more rests asks free l e = (
@@ -125,7 +125,7 @@ module _ (word : ℕ) (ps : List Place) (t : ℕ) (p : Place) (at : slice_get ps
       subst (λ (x : Lock). Allowed false t (Alone (Begin 0 Shared)) x × (lock_of word (slice_set ps t q) ≡ after t (Alone (Begin 0 Shared)) x)) same
       (begin_allowed, is_after word ps t p at (Begin 0 Shared) word q refl e)
 
--- a row at which all rest is sound
+-- a lock at which all rest is sound
 all_rest : (ps : List Place) → All (λ (p : Place). (p.holds ≡ 0) × (p.asks ≡ false)) ps → (u : ℕ) (r : Role) → slice_get (map role_of ps) u ≡ Some r → r ≡ away
 all_rest [] h u r at = absurd (none-some r at)
 all_rest (p ∷ ps) h zero r at =
