@@ -40,6 +40,11 @@ Gives (Section Wake) word Made = Unit {0}
 Gives Sleep word (Woken token) = Unit {0}
 Gives act word seen = ⊥
 
+-- what a call is told as it begins
+abbrev pub Begins : Seen → Type 0
+Begins Start = Unit {0}
+Begins seen = ⊥
+
 -- WHAT IS SEEN, BY THE KIND OF ACT THAT GIVES IT
 
 -- the call begins

@@ -1,5 +1,6 @@
 //! The calls of a mutex, as plain data.
 ghost use Rattle.std.specs.Prelude.{◌≡◌, true, false};
+ghost use Rattle.parking_lot_world.specs.MutexRules.{Ended, Follows};
 ghost use Rattle.parking_lot_world.specs.MutexTable.{act_of, next_phase, wakes_with};
 ghost use Rattle.parking_lot_world.specs.declared.mutex_phase.MutexPhase.TheVariants.{Locking, Trying, Unlocking, Bumping};
 
@@ -80,6 +81,8 @@ impl MutexCore {
     pub fn next(&mut self, seen: Seen) -> Act
         ensures phase { self.new.phase ≡ next_phase self.old.phase seen }
         ensures act { result ≡ act_of self.new.phase }
+        ensures rules { Follows self.old.phase seen }
+        ensures end { Ended self.new.phase result }
     {
         self.phase = self.phase.after(seen).unwrap_or(MutexPhase::Strays);
         self.phase.act()
