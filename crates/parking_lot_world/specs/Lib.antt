@@ -1,3 +1,5 @@
 pub mod Acts
 pub mod MutexTable
 pub mod MutexRules
+pub mod Wake
+pub mod RwTable

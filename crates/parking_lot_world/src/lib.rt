@@ -12,9 +12,17 @@
 mod act;
 mod mutex_core;
 mod mutex_phase;
+mod rw_act;
+mod rw_core;
+mod rw_next;
+mod rw_phase;
 mod table;
+mod wake;
 
 pub use act::{Act, CoreAnswer, HAND_OVER, SectionAct, Seen, TRY_AGAIN, WordChange};
 pub use mutex_core::MutexCore;
 pub use mutex_phase::{Asking, Giving, MutexPhase};
+pub use rw_core::RwCore;
+pub use rw_phase::{Draining, Outcome, Rest, RwPhase, Scanning, Seeking, Want};
 pub use table::{LockTable, Row};
+pub use wake::wake_sum;
