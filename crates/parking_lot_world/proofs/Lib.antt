@@ -1,1 +1,2 @@
 pub mod MutexFollowing
+pub mod RwFollowing

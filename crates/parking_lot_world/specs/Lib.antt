@@ -3,3 +3,4 @@ pub mod MutexTable
 pub mod MutexRules
 pub mod Wake
 pub mod RwTable
+pub mod RwRules

@@ -2,6 +2,7 @@
 ghost use Rattle.std.specs.Prelude.{◌≡◌, true, false};
 ghost use Rattle.parking_lot_world.specs.declared.rw_phase.Want.TheVariants as want;
 ghost use Rattle.parking_lot_world.specs.declared.rw_phase.RwPhase.TheVariants.{Locking, Trying, UnlockingShared, UnlockingExclusive, Downgrading, BumpingShared, BumpingExclusive};
+ghost use Rattle.parking_lot_world.specs.RwRules.{Ended, Follows};
 ghost use Rattle.parking_lot_world.specs.RwTable.{act_of, next_phase, wakes_with};
 
 use crate::act::{Act, HAND_OVER, Seen, TRY_AGAIN};
@@ -126,6 +127,8 @@ impl RwCore {
     pub fn next(&mut self, seen: Seen) -> Act
         ensures phase { self.new.phase ≡ next_phase self.old.phase seen }
         ensures act { result ≡ act_of self.new.phase }
+        ensures rules { Follows self.old.phase seen }
+        ensures end { Ended self.new.phase }
     {
         self.phase = self.phase.after(seen).unwrap_or(RwPhase::Strays);
         self.phase.act()
