@@ -1,2 +1,3 @@
 pub mod MutexFollowing
 pub mod RwFollowing
+pub mod WakeFollowing

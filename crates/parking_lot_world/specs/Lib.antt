@@ -4,3 +4,4 @@ pub mod MutexRules
 pub mod Wake
 pub mod RwTable
 pub mod RwRules
+pub mod WakeRules

@@ -26,3 +26,6 @@ pub use rw_core::RwCore;
 pub use rw_phase::{Draining, Outcome, Rest, RwPhase, Scanning, Seeking, Want};
 pub use table::{LockTable, Row};
 pub use wake::wake_sum;
+
+#[cfg(test)]
+mod tests;

@@ -1,6 +1,7 @@
 //! Which waiters a waking section lets go.
 ghost use Rattle.std.specs.Prelude.{◌≡◌};
 ghost use Rattle.parking_lot_world.specs.Wake.{wake_answer};
+ghost use Rattle.parking_lot_world.specs.WakeRules.{LooksRightly};
 
 use parking_lot_core::{FilterOp, ParkToken};
 
@@ -13,11 +14,19 @@ use parking_lot_core::{FilterOp, ParkToken};
 /// assert_eq!(rt; wake_sum(24, ParkToken(16)), FilterOp::Stop);
 /// ```
 pub fn wake_sum(sum: u64, token: ParkToken) -> FilterOp
-    ensures { result ≡ wake_answer sum token.0 }
+    ensures answer { result ≡ wake_answer sum token.0 }
+    ensures rules { LooksRightly sum token.0 result }
+{
+    answer_at(sum, token.0)
+}
+
+/// The same, by the token's number.
+fn answer_at(sum: u64, token: usize) -> FilterOp
+    ensures { result ≡ wake_answer sum token }
 {
     if (sum / 8) % 2 == 1 {
         FilterOp::Stop
-    } else if (token.0 == 8 || token.0 == 20) && (sum / 4) % 2 == 1 {
+    } else if (token == 8 || token == 20) && (sum / 4) % 2 == 1 {
         FilterOp::Skip
     } else {
         FilterOp::Unpark
