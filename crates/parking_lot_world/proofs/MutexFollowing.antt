@@ -14,7 +14,7 @@ use Rattle.parking_lot_world.specs.declared.act.CoreAnswer.TheVariants.{Owned, R
 use Rattle.parking_lot_world.specs.MutexRules.{Spot, Listed, role, Follows, IsPlain, IsWord, IsMove, Move, Stays, Makes, Tells, move}
 
 -- what holds of both holds of either
-either : {X Y : Type 0} (f : X → Y) (b : Bool) (x y : X) (r : Y) → f x ≡ r → f y ≡ r → f (cond b x y) ≡ r
+pub either : {X Y : Type 0} (f : X → Y) (b : Bool) (x y : X) (r : Y) → f x ≡ r → f y ≡ r → f (cond b x y) ≡ r
 either f true x y r h k = h
 either f false x y r h k = k
 
