@@ -1,0 +1,4 @@
+pub mod MutexFollowing
+pub mod RwWords
+pub mod RwFollowing
+pub mod WakeFollowing

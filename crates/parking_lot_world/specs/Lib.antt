@@ -1,0 +1,7 @@
+pub mod Acts
+pub mod MutexTable
+pub mod MutexRules
+pub mod Wake
+pub mod RwTable
+pub mod RwRules
+pub mod WakeRules

@@ -1,0 +1,4 @@
+mod mutexes;
+mod rows;
+mod rwlocks;
+mod sections;
