@@ -4,13 +4,19 @@
 //! lends is the guarded value, and nobody writes it but the guard's holder.
 #![tactic(auto)]
 
+mod arc_guard;
 mod guard;
 mod held;
 mod lend;
 mod mapped;
+mod rw_holds;
+mod rwlock;
 mod show;
 
+pub use arc_guard::ArcGuard;
 pub use guard::Guard;
 pub use held::{Access, FairHold, Held, Hold, MutexHold, ReentrantHold, RwLockHold};
 pub use lend::{Lender, LenderMut};
 pub use mapped::Mapped;
+pub use rw_holds::{ExclusiveHold, SharedHold};
+pub use rwlock::{RwLock, RwLockReadGuard, RwLockWriteGuard};
