@@ -1,7 +1,11 @@
 //! Guards that own an Arc of their lock.
 ghost use Rattle.std.specs.Prelude.{◌≡◌};
+ghost use Rattle.std.specs.Fn.{FnOnceReturnsAt, FnOnceReturnsAtMut};
 
-use crate::held::{FairHold, Hold, MutexHold, ReentrantHold, RwLockHold};
+use crate::held::{FairHold, Hold};
+use crate::lock::{HasValue, HasValueMut, IsMutex, IsReentrantMutex, IsRwLock};
+use crate::mode::{Mode, Writes};
+use crate::raw_hold::{HasRaw, Place, RawHold};
 use core::mem;
 use std::sync::Wait;
 
@@ -115,5 +119,75 @@ where
             let hold = ArcGuard::into_hold(guard).bump(party);
             (ArcGuard { hold }, ())
         })
+    }
+}
+
+impl<H: Hold> ArcGuard<H>
+where
+    H::Lock: IsRwLock,
+    H::Runtime: Wait,
+{
+    /// Lends the Arc of the reader-writer lock that the guard belongs to.
+    pub fn rwlock(s: &ArcGuard<H>) -> &H::Apart
+        ensures { H.apart_of result.now ≡ H.lock_of s.now.hold }
+    {
+        s.hold.apart()
+    }
+}
+
+impl<H: Hold> ArcGuard<H>
+where
+    H::Lock: IsMutex,
+    H::Runtime: Wait,
+{
+    /// Lends the Arc of the mutex that the guard belongs to.
+    pub fn mutex(s: &ArcGuard<H>) -> &H::Apart
+        ensures { H.apart_of result.now ≡ H.lock_of s.now.hold }
+    {
+        s.hold.apart()
+    }
+}
+
+impl<H: Hold> ArcGuard<H>
+where
+    H::Lock: IsReentrantMutex,
+    H::Runtime: Wait,
+{
+    /// Lends the Arc of the reentrant mutex that the guard belongs to.
+    pub fn remutex(s: &ArcGuard<H>) -> &H::Apart
+        ensures { H.apart_of result.now ≡ H.lock_of s.now.hold }
+    {
+        s.hold.apart()
+    }
+}
+
+impl<H: Hold> ArcGuard<H>
+where
+    H::Lock: HasValue,
+    <H::Lock as HasValue>::Waiting: Wait,
+    H::Runtime: Wait,
+{
+    /// Takes the std lock of the value for the closure's time, lends the value to it and answers what it answers.
+    pub fn with<F: FnOnce(&<H::Lock as HasValue>::Value) -> U, U>(&self, f: F) -> U
+        requires { F.IsAlwaysCallable f }
+        ensures { (value : H.Lock.Value) × FnOnceReturnsAt F.FnOnce f value result }
+    {
+        self.hold.lock().with_value(f)
+    }
+}
+
+impl<L: Place + Drop, M: Mode<<L::Lock as HasRaw>::Raw> + Writes> ArcGuard<RawHold<L, M>>
+where
+    L::Lock: HasValueMut,
+    <L::Lock as HasValue>::Waiting: Wait,
+    M::Runtime: Wait,
+{
+    /// As `with`, for writing.
+    pub fn with_mut<F: FnOnce(&mut <L::Lock as HasValue>::Value) -> U, U>(&mut self, f: F) -> U
+        requires { F.IsAlwaysCallable f }
+        ensures answer { (old : L.Lock.Value) × (new : L.Lock.Value) × FnOnceReturnsAtMut F.FnOnce f old result new }
+        ensures stays { self.new ≡ self.old }
+    {
+        self.hold.lock().with_value_mut(f)
     }
 }

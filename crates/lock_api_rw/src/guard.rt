@@ -3,8 +3,9 @@ ghost use Rattle.std.specs.Prelude.{◌≡◌, Ok, Err, MatchResult};
 ghost use Rattle.std.specs.Borrow.{Lends, sem};
 ghost use Rattle.lock_api_rw.specs.contracts.guard.Guard.{the_row};
 
-use crate::held::{Access, FairHold, Held, Hold, MutexHold, ReentrantHold, RwLockHold};
+use crate::held::{Access, FairHold, Held, Hold};
 use crate::lend::{Lender, LenderMut};
+use crate::lock::{IsMutex, IsReentrantMutex, IsRwLock};
 use core::mem;
 use std::ops::{Deref, DerefMut};
 use std::sync::Wait;
@@ -129,8 +130,9 @@ where
     }
 }
 
-impl<W: Drop, H: RwLockHold> Guard<W, H>
+impl<W: Drop, H: Hold> Guard<W, H>
 where
+    H::Lock: IsRwLock,
     H::Runtime: Wait,
 {
     /// Lends the reader-writer lock that the guard belongs to.
@@ -141,8 +143,9 @@ where
     }
 }
 
-impl<W: Drop, H: MutexHold> Guard<W, H>
+impl<W: Drop, H: Hold> Guard<W, H>
 where
+    H::Lock: IsMutex,
     H::Runtime: Wait,
 {
     /// Lends the mutex that the guard belongs to.
@@ -153,8 +156,9 @@ where
     }
 }
 
-impl<W: Drop, H: ReentrantHold> Guard<W, H>
+impl<W: Drop, H: Hold> Guard<W, H>
 where
+    H::Lock: IsReentrantMutex,
     H::Runtime: Wait,
 {
     /// Lends the reentrant mutex that the guard belongs to.

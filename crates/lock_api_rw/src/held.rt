@@ -31,6 +31,10 @@ pub trait Hold {
     fn lock(&self) -> &Self::Lock
         ensures { result.now ≡ lock_of self.now };
 
+    /// Lends what will be left.
+    fn apart(&self) -> &Self::Apart
+        ensures { apart_of result.now ≡ lock_of self.now };
+
     /// Gives the raw hold up.
     fn release(self) -> Self::Apart
     where
@@ -69,15 +73,6 @@ pub trait Access: Hold {
     where
         Self::Runtime: Wait;
 }
-
-/// A hold of a reader-writer lock, whose guards have `rwlock`. For the layer above.
-pub trait RwLockHold: Hold {}
-
-/// A hold of a mutex, whose guards have `mutex`. For the layer above.
-pub trait MutexHold: Hold {}
-
-/// A hold of a reentrant mutex, whose guards have `remutex`. For the layer above.
-pub trait ReentrantHold: Hold {}
 
 /// A raw hold that knows whether the value is lent under it, by a std guard of type `W`. For the layer above.
 ///

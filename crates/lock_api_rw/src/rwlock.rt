@@ -3,8 +3,10 @@ ghost use Rattle.std.specs.Prelude.{◌≡◌, IfOk, IfSome};
 ghost use Rattle.lock_api_raw.specs.Limits.{kept_limit};
 
 use crate::guard::Guard;
-use crate::rw_holds::{ExclusiveHold, SharedHold};
-use lock_api_raw::{RawRwLock, RawRwLockTimed, TableFull};
+use crate::lock::{HasValue, HasValueMut, IsRwLock, lent, lent_mut};
+use crate::mode::{Exclusive, Shared, Upgradable};
+use crate::raw_hold::{HasRaw, Lodges, RawHold};
+use lock_api_raw::{RawRwLock, RawRwLockUpgrade, TableFull};
 use std::marker::Model;
 use std::rt::Clock;
 use std::sync;
@@ -32,11 +34,23 @@ impl<R, T> Model for RwLock<R, T> {
     ghost view = { λ lock. lock.raw };
 }
 
-/// A shared hold of a lock, that lends the value to be read.
-pub type RwLockReadGuard<'l, R, T> = Guard<sync::RwLockReadGuard<'l, T>, SharedHold<'l, R, T>>;
+/// A shared hold of a lock. It lends the value to be read.
+pub type RwLockReadGuard<'l, R, T> = Guard<
+    sync::RwLockReadGuard<'l, T>,
+    RawHold<&'l RwLock<R, T>, Shared>,
+>;
 
-/// An exclusive hold of a lock, that lends the value to be read and written.
-pub type RwLockWriteGuard<'l, R, T> = Guard<sync::RwLockWriteGuard<'l, T>, ExclusiveHold<'l, R, T>>;
+/// An exclusive hold of a lock. It lends the value to be read and written.
+pub type RwLockWriteGuard<'l, R, T> = Guard<
+    sync::RwLockWriteGuard<'l, T>,
+    RawHold<&'l RwLock<R, T>, Exclusive>,
+>;
+
+/// An upgradable hold of a lock. It reads beside readers, and may become exclusive.
+pub type RwLockUpgradableReadGuard<'l, R, T> = Guard<
+    sync::RwLockReadGuard<'l, T>,
+    RawHold<&'l RwLock<R, T>, Upgradable>,
+>;
 
 impl<R, T> RwLock<R, T> {
     /// Puts a value behind a raw lock that exists. Nothing is to be out of it.
@@ -70,12 +84,72 @@ impl<R, T> RwLock<R, T> {
     pub fn get_mut(&mut self) -> &mut T {
         self.value.get_mut()
     }
+}
 
-    /// Lends the raw lock. For the layer above.
-    pub fn raw(&self) -> &R
-        ensures { result.now ≡ self.now }
-    {
+impl<R, T> HasRaw for RwLock<R, T> {
+    type Raw = R;
+
+    ghost raw_of = { λ lock. lock };
+
+    fn raw(&self) -> &R {
         &self.raw
+    }
+}
+
+impl<R, T> IsRwLock for RwLock<R, T> {}
+
+impl<'l, R: RawRwLock, T: 'l> Lodges<'l, Shared> for RwLock<R, T> {
+    type Inner = sync::RwLockReadGuard<'l, T>;
+
+    fn access(&'l self) -> sync::RwLockReadGuard<'l, T>
+    where
+        R::Runtime: Wait,
+    {
+        self.for_reading()
+    }
+}
+
+impl<'l, R: RawRwLockUpgrade, T: 'l> Lodges<'l, Upgradable> for RwLock<R, T> {
+    type Inner = sync::RwLockReadGuard<'l, T>;
+
+    fn access(&'l self) -> sync::RwLockReadGuard<'l, T>
+    where
+        R::Runtime: Wait,
+    {
+        self.for_reading()
+    }
+}
+
+impl<'l, R: RawRwLock, T: 'l> Lodges<'l, Exclusive> for RwLock<R, T> {
+    type Inner = sync::RwLockWriteGuard<'l, T>;
+
+    fn access(&'l self) -> sync::RwLockWriteGuard<'l, T>
+    where
+        R::Runtime: Wait,
+    {
+        self.for_writing()
+    }
+}
+
+impl<R: RawRwLock, T> HasValue for RwLock<R, T> {
+    type Value = T;
+
+    type Waiting = R::Runtime;
+
+    fn with_value<F: FnOnce(&T) -> U, U>(&self, f: F) -> U
+    where
+        R::Runtime: Wait,
+    {
+        lent(f, &*self.for_reading())
+    }
+}
+
+impl<R: RawRwLock, T> HasValueMut for RwLock<R, T> {
+    fn with_value_mut<F: FnOnce(&mut T) -> U, U>(&self, f: F) -> U
+    where
+        R::Runtime: Wait,
+    {
+        lent_mut(f, &mut *self.for_writing())
     }
 }
 
@@ -136,35 +210,31 @@ where
 {
     /// Waits for a shared hold of the raw lock, and then for the std lock.
     pub fn read(&self, party: &mut R::Party) -> RwLockReadGuard<'_, R, T>
-        ensures { result.held.0.lock.now ≡ self.now }
+        ensures { result.held.0.place.now ≡ self.now }
     {
-        let token = self.raw.lock_shared(party);
-        Guard::under(SharedHold { lock: self, token })
+        Guard::under(RawHold::wait(self, party))
     }
 
     /// A shared guard at once, or None. It waits for nobody.
     pub fn try_read(&self) -> Option<RwLockReadGuard<'_, R, T>>
-        ensures { IfSome result (λ guard. guard.held.0.lock.now ≡ self.now) }
+        ensures { IfSome result (λ guard. guard.held.0.place.now ≡ self.now) }
     {
         let inner = self.value.try_read()?;
-        let token = self.raw.try_lock_shared()?;
-        Some(Guard::over(SharedHold { lock: self, token }, inner))
+        Some(Guard::over(RawHold::at_once(self)?, inner))
     }
 
     /// Waits until no other hold of the raw lock is left, and then for the std lock.
     pub fn write(&self, party: &mut R::Party) -> RwLockWriteGuard<'_, R, T>
-        ensures { result.held.0.lock.now ≡ self.now }
+        ensures { result.held.0.place.now ≡ self.now }
     {
-        let token = self.raw.lock_exclusive(party);
-        Guard::under(ExclusiveHold { lock: self, token })
+        Guard::under(RawHold::wait(self, party))
     }
 
     /// An exclusive guard at once, or None. It waits for nobody.
     pub fn try_write(&self) -> Option<RwLockWriteGuard<'_, R, T>>
-        ensures { IfSome result (λ guard. guard.held.0.lock.now ≡ self.now) }
+        ensures { IfSome result (λ guard. guard.held.0.place.now ≡ self.now) }
     {
         let inner = self.value.try_write()?;
-        let token = self.raw.try_lock_exclusive()?;
-        Some(Guard::over(ExclusiveHold { lock: self, token }, inner))
+        Some(Guard::over(RawHold::at_once(self)?, inner))
     }
 }
