@@ -2,10 +2,8 @@
 ghost use Rattle.std.specs.Prelude.{◌≡◌};
 ghost use Rattle.std.specs.Fn.{FnOnceReturnsAt, FnOnceReturnsAtMut};
 
-use crate::held::{FairHold, Hold};
-use crate::lock::{HasValue, HasValueMut, IsMutex, IsReentrantMutex, IsRwLock};
-use crate::mode::{Mode, Writes};
-use crate::raw_hold::{HasRaw, Place, RawHold};
+use crate::held::{ArcHold, FairHold, Hold, MutexHold, ReentrantHold, RwLockHold, WriteHold};
+use crate::lock::{HasValue, HasValueMut};
 use core::mem;
 use std::sync::Wait;
 
@@ -122,42 +120,39 @@ where
     }
 }
 
-impl<H: Hold> ArcGuard<H>
+impl<H: RwLockHold + ArcHold> ArcGuard<H>
 where
-    H::Lock: IsRwLock,
     H::Runtime: Wait,
 {
     /// Lends the Arc of the reader-writer lock that the guard belongs to.
     pub fn rwlock(s: &ArcGuard<H>) -> &H::Apart
         ensures { H.apart_of result.now ≡ H.lock_of s.now.hold }
     {
-        s.hold.apart()
+        s.hold.arc()
     }
 }
 
-impl<H: Hold> ArcGuard<H>
+impl<H: MutexHold + ArcHold> ArcGuard<H>
 where
-    H::Lock: IsMutex,
     H::Runtime: Wait,
 {
     /// Lends the Arc of the mutex that the guard belongs to.
     pub fn mutex(s: &ArcGuard<H>) -> &H::Apart
         ensures { H.apart_of result.now ≡ H.lock_of s.now.hold }
     {
-        s.hold.apart()
+        s.hold.arc()
     }
 }
 
-impl<H: Hold> ArcGuard<H>
+impl<H: ReentrantHold + ArcHold> ArcGuard<H>
 where
-    H::Lock: IsReentrantMutex,
     H::Runtime: Wait,
 {
     /// Lends the Arc of the reentrant mutex that the guard belongs to.
     pub fn remutex(s: &ArcGuard<H>) -> &H::Apart
         ensures { H.apart_of result.now ≡ H.lock_of s.now.hold }
     {
-        s.hold.apart()
+        s.hold.arc()
     }
 }
 
@@ -176,16 +171,16 @@ where
     }
 }
 
-impl<L: Place + Drop, M: Mode<<L::Lock as HasRaw>::Raw> + Writes> ArcGuard<RawHold<L, M>>
+impl<H: WriteHold> ArcGuard<H>
 where
-    L::Lock: HasValueMut,
-    <L::Lock as HasValue>::Waiting: Wait,
-    M::Runtime: Wait,
+    H::Lock: HasValueMut,
+    <H::Lock as HasValue>::Waiting: Wait,
+    H::Runtime: Wait,
 {
     /// As `with`, for writing.
-    pub fn with_mut<F: FnOnce(&mut <L::Lock as HasValue>::Value) -> U, U>(&mut self, f: F) -> U
+    pub fn with_mut<F: FnOnce(&mut <H::Lock as HasValue>::Value) -> U, U>(&mut self, f: F) -> U
         requires { F.IsAlwaysCallable f }
-        ensures answer { (old : L.Lock.Value) × (new : L.Lock.Value) × FnOnceReturnsAtMut F.FnOnce f old result new }
+        ensures answer { (old : H.Lock.Value) × (new : H.Lock.Value) × FnOnceReturnsAtMut F.FnOnce f old result new }
         ensures stays { self.new ≡ self.old }
     {
         self.hold.lock().with_value_mut(f)

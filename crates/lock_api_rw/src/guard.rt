@@ -3,9 +3,8 @@ ghost use Rattle.std.specs.Prelude.{◌≡◌, Ok, Err, MatchResult};
 ghost use Rattle.std.specs.Borrow.{Lends, sem};
 ghost use Rattle.lock_api_rw.specs.contracts.guard.Guard.{the_row};
 
-use crate::held::{Access, FairHold, Held, Hold};
+use crate::held::{Access, FairHold, Held, Hold, MutexHold, ReentrantHold, RwLockHold};
 use crate::lend::{Lender, LenderMut};
-use crate::lock::{IsMutex, IsReentrantMutex, IsRwLock};
 use core::mem;
 use std::ops::{Deref, DerefMut};
 use std::sync::Wait;
@@ -130,9 +129,8 @@ where
     }
 }
 
-impl<W: Drop, H: Hold> Guard<W, H>
+impl<W: Drop, H: RwLockHold> Guard<W, H>
 where
-    H::Lock: IsRwLock,
     H::Runtime: Wait,
 {
     /// Lends the reader-writer lock that the guard belongs to.
@@ -143,9 +141,8 @@ where
     }
 }
 
-impl<W: Drop, H: Hold> Guard<W, H>
+impl<W: Drop, H: MutexHold> Guard<W, H>
 where
-    H::Lock: IsMutex,
     H::Runtime: Wait,
 {
     /// Lends the mutex that the guard belongs to.
@@ -156,9 +153,8 @@ where
     }
 }
 
-impl<W: Drop, H: Hold> Guard<W, H>
+impl<W: Drop, H: ReentrantHold> Guard<W, H>
 where
-    H::Lock: IsReentrantMutex,
     H::Runtime: Wait,
 {
     /// Lends the reentrant mutex that the guard belongs to.

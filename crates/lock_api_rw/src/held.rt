@@ -31,10 +31,6 @@ pub trait Hold {
     fn lock(&self) -> &Self::Lock
         ensures { result.now ≡ lock_of self.now };
 
-    /// Lends what will be left.
-    fn apart(&self) -> &Self::Apart
-        ensures { apart_of result.now ≡ lock_of self.now };
-
     /// Gives the raw hold up.
     fn release(self) -> Self::Apart
     where
@@ -73,6 +69,25 @@ pub trait Access: Hold {
     where
         Self::Runtime: Wait;
 }
+
+/// A hold that owns an Arc of its lock. For the layer above.
+pub trait ArcHold: Hold {
+    /// Lends the Arc.
+    fn arc(&self) -> &Self::Apart
+        ensures { Self.apart_of result.now ≡ Self.lock_of self.now };
+}
+
+/// A hold under which the value may be written. For the layer above.
+pub trait WriteHold: Hold {}
+
+/// A hold of a reader-writer lock, whose guards have `rwlock`. For the layer above.
+pub trait RwLockHold: Hold {}
+
+/// A hold of a mutex, whose guards have `mutex`. For the layer above.
+pub trait MutexHold: Hold {}
+
+/// A hold of a reentrant mutex, whose guards have `remutex`. For the layer above.
+pub trait ReentrantHold: Hold {}
 
 /// A raw hold that knows whether the value is lent under it, by a std guard of type `W`. For the layer above.
 ///

@@ -17,9 +17,11 @@ mod show;
 
 pub use arc_guard::ArcGuard;
 pub use guard::Guard;
-pub use held::{Access, FairHold, Held, Hold};
+pub use held::{
+    Access, ArcHold, FairHold, Held, Hold, MutexHold, ReentrantHold, RwLockHold, WriteHold,
+};
 pub use lend::{Lender, LenderMut};
-pub use lock::{HasValue, HasValueMut, IsMutex, IsReentrantMutex, IsRwLock, lent, lent_mut};
+pub use lock::{HasValue, HasValueMut, lent, lent_mut};
 pub use mapped::Mapped;
 pub use mode::{Exclusive, FairMode, Mode, Shared, TimedMode, Upgradable, Writes};
 pub use raw_hold::{HasRaw, Lodges, Place, RawHold};

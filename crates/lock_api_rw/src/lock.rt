@@ -3,15 +3,6 @@ ghost use Rattle.std.specs.Fn.{FnOnceReturnsAt, FnOnceReturnsAtMut};
 
 use std::sync::Wait;
 
-/// A reader-writer lock: its guards have `rwlock`. For the layer above.
-pub trait IsRwLock {}
-
-/// A mutex: its guards have `mutex`. For the layer above.
-pub trait IsMutex {}
-
-/// A reentrant mutex: its guards have `remutex`. For the layer above.
-pub trait IsReentrantMutex {}
-
 /// A lock whose value is reached by a std lock, taken for a closure's time. For the layer above.
 pub trait HasValue {
     /// The value.

@@ -1,8 +1,8 @@
 //! A hold of any mode, of a lock that is borrowed or owned.
 ghost use Rattle.std.specs.Prelude.{◌≡◌, IfSome};
 
-use crate::held::{Access, FairHold, Hold};
-use crate::mode::{FairMode, Mode, TimedMode};
+use crate::held::{Access, ArcHold, FairHold, Hold, WriteHold};
+use crate::mode::{FairMode, Mode, TimedMode, Writes};
 use std::alloc::Allocator;
 use std::marker::PhantomData;
 use std::rt::Clock;
@@ -163,10 +163,6 @@ impl<L: Place + Drop, M: Mode<<L::Lock as HasRaw>::Raw>> Hold for RawHold<L, M> 
         self.place.lock()
     }
 
-    fn apart(&self) -> &L {
-        &self.place
-    }
-
     fn release(self) -> L
     where
         M::Runtime: Wait,
@@ -187,6 +183,17 @@ impl<L: Place + Drop, M: Mode<<L::Lock as HasRaw>::Raw>> Hold for RawHold<L, M> 
         RawHold::wait(place, party)
     }
 }
+
+impl<L: HasRaw, A: Allocator, M: Mode<L::Raw>> ArcHold for RawHold<Arc<L, A>, M>
+where
+    L: Drop,
+{
+    fn arc(&self) -> &Arc<L, A> {
+        &self.place
+    }
+}
+
+impl<L: Place + Drop, M: Mode<<L::Lock as HasRaw>::Raw> + Writes> WriteHold for RawHold<L, M> {}
 
 impl<L: Place + Drop, M: FairMode<<L::Lock as HasRaw>::Raw>> FairHold for RawHold<L, M> {
     fn release_fair(self) -> L

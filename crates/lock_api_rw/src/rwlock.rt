@@ -3,14 +3,16 @@ ghost use Rattle.std.specs.Prelude.{◌≡◌, IfOk, IfSome};
 ghost use Rattle.lock_api_raw.specs.Limits.{kept_limit};
 
 use crate::guard::Guard;
-use crate::lock::{HasValue, HasValueMut, IsRwLock, lent, lent_mut};
-use crate::mode::{Exclusive, Shared, Upgradable};
+use crate::held::RwLockHold;
+use crate::lock::{HasValue, HasValueMut, lent, lent_mut};
+use crate::mode::{Exclusive, Mode, Shared, Upgradable};
 use crate::raw_hold::{HasRaw, Lodges, RawHold};
 use lock_api_raw::{RawRwLock, RawRwLockUpgrade, TableFull};
+use std::alloc::Allocator;
 use std::marker::Model;
 use std::rt::Clock;
 use std::sync;
-use std::sync::Wait;
+use std::sync::{Arc, Wait};
 
 /// A raw lock and a value.
 ///
@@ -96,7 +98,9 @@ impl<R, T> HasRaw for RwLock<R, T> {
     }
 }
 
-impl<R, T> IsRwLock for RwLock<R, T> {}
+impl<R, T, M: Mode<R>> RwLockHold for RawHold<&RwLock<R, T>, M> {}
+
+impl<R: Drop, T: Drop, A: Allocator, M: Mode<R>> RwLockHold for RawHold<Arc<RwLock<R, T>, A>, M> {}
 
 impl<'l, R: RawRwLock, T: 'l> Lodges<'l, Shared> for RwLock<R, T> {
     type Inner = sync::RwLockReadGuard<'l, T>;
