@@ -1,0 +1,326 @@
+//! Raw holds, and whether the value is lent under them.
+ghost use Rattle.std.specs.Prelude.{◌≡◌, false, true, MatchResult};
+
+use std::marker::{Model, PhantomData};
+use std::rt::Clock;
+use std::snapshot::Snapshot;
+use std::sync::Wait;
+
+/// A hold of a raw lock: the lock, and the token that it issued. For the layer above.
+///
+/// A hold is linear: it ends by a release, which spends its token.
+pub trait Hold {
+    /// The lock that the hold is of, with its value.
+    type Lock;
+
+    /// The runtime that the lock uses to wait.
+    type Runtime;
+
+    /// What a thread lends to a call that may wait.
+    type Party;
+
+    /// What is left of a hold once it is released, by which the lock can be had again.
+    type Apart: Drop;
+
+    /// The lock that a hold is of.
+    ghost lock_of: { Self → Self.Lock };
+
+    /// The lock that what is left of a hold belongs to.
+    ghost apart_of: { Self.Apart → Self.Lock };
+
+    /// Lends the lock.
+    fn lock(&self) -> &Self::Lock
+        ensures { result.now ≡ lock_of self.now };
+
+    /// Gives the raw hold up.
+    fn release(self) -> Self::Apart
+    where
+        Self::Runtime: Wait,
+        ensures { apart_of result ≡ lock_of self };
+
+    /// Waits for a hold of the same mode on the same lock.
+    fn again(apart: Self::Apart, party: &mut Self::Party) -> Self
+    where
+        Self::Runtime: Wait,
+        ensures { lock_of result ≡ apart_of apart };
+}
+
+/// A hold whose release can be fair. For the layer above.
+pub trait FairHold: Hold {
+    /// Gives the raw hold up by a fair release.
+    fn release_fair(self) -> Self::Apart
+    where
+        Self::Runtime: Wait,
+        ensures { Self.apart_of result ≡ Self.lock_of self };
+
+    /// If somebody waits, a fair release and a wait for the same mode, and else nothing.
+    fn bump(self, party: &mut Self::Party) -> Self
+    where
+        Self::Runtime: Wait,
+        ensures { Self.lock_of result ≡ Self.lock_of self };
+}
+
+/// A hold under which a std guard of the value can be kept. For the layer above.
+pub trait Access: Hold {
+    /// The std guard.
+    type Inner: Drop;
+
+    /// Takes the std lock of the value, by its own try first.
+    fn access(&self) -> Self::Inner
+    where
+        Self::Runtime: Wait;
+}
+
+/// A hold that can become a shared one. For the layer above.
+pub trait DowngradeHold: Hold {
+    /// The shared hold.
+    type Down: Hold<Lock = Self::Lock>;
+
+    /// Turns the hold into a shared one without letting go.
+    fn downgrade(self) -> Self::Down
+    where
+        Self::Runtime: Wait,
+        ensures { Self.Down.lock_of result ≡ Self.lock_of self };
+}
+
+/// A hold that can become an upgradable one. For the layer above.
+pub trait LowerHold: Hold {
+    /// The upgradable hold.
+    type Low: Hold<Lock = Self::Lock>;
+
+    /// Turns the hold into an upgradable one without letting go.
+    fn lower(self) -> Self::Low
+    where
+        Self::Runtime: Wait,
+        ensures { Self.Low.lock_of result ≡ Self.lock_of self };
+}
+
+/// A hold that can become an exclusive one. For the layer above.
+pub trait UpgradeHold: Hold {
+    /// The exclusive hold.
+    type Alone: Hold<Lock = Self::Lock>;
+
+    /// Waits until the other readers are gone.
+    fn upgrade(self, party: &mut Self::Party) -> Self::Alone
+    where
+        Self::Runtime: Wait,
+        ensures { Self.Alone.lock_of result ≡ Self.lock_of self };
+
+    /// The exclusive hold if no other reader is left, and else the same hold. It waits for nobody.
+    fn try_upgrade(self) -> Result<Self::Alone, Self>
+        ensures { MatchResult result (λ hold. Self.Alone.lock_of hold ≡ Self.lock_of self) (λ hold. hold ≡ self) };
+}
+
+/// A hold that can become an exclusive one and be had back. For the layer above.
+pub trait RestoreHold: UpgradeHold {
+    /// Turns the exclusive hold into such a one again without letting go.
+    fn restore(alone: Self::Alone) -> Self
+    where
+        Self::Runtime: Wait,
+        ensures { Self.lock_of result ≡ Self.Alone.lock_of alone };
+}
+
+/// A hold that can become an exclusive one by a wait that can give up. For the layer above.
+pub trait TimedUpgradeHold: UpgradeHold {
+    /// A length of time.
+    type Duration;
+
+    /// A moment.
+    type Instant;
+
+    /// As `upgrade`, but the same hold if the wait is given up after the length of time.
+    fn try_upgrade_for<C: Clock>(
+        self,
+        timeout: Self::Duration,
+        clock: &C,
+        party: &mut Self::Party,
+    ) -> Result<Self::Alone, Self>
+    where
+        Self::Runtime: Wait,
+        ensures { MatchResult result (λ hold. Self.Alone.lock_of hold ≡ Self.lock_of self) (λ hold. hold ≡ self) };
+
+    /// As `upgrade`, but the same hold if the wait is given up at the moment.
+    fn try_upgrade_until<C: Clock>(
+        self,
+        deadline: Self::Instant,
+        clock: &C,
+        party: &mut Self::Party,
+    ) -> Result<Self::Alone, Self>
+    where
+        Self::Runtime: Wait,
+        ensures { MatchResult result (λ hold. Self.Alone.lock_of hold ≡ Self.lock_of self) (λ hold. hold ≡ self) };
+}
+
+/// A hold that owns an Arc of its lock. For the layer above.
+pub trait ArcHold: Hold {
+    /// Lends the Arc.
+    fn arc(&self) -> &Self::Apart
+        ensures { Self.apart_of result.now ≡ Self.lock_of self.now };
+}
+
+/// A hold under which the value may be written. For the layer above.
+pub trait WriteHold: Hold {}
+
+/// A hold of a reader-writer lock, whose guards have `rwlock`. For the layer above.
+pub trait RwLockHold: Hold {}
+
+/// A hold of a mutex, whose guards have `mutex`. For the layer above.
+pub trait MutexHold: Hold {}
+
+/// A hold of a reentrant mutex, whose guards have `remutex`. For the layer above.
+pub trait ReentrantHold: Hold {}
+
+/// A raw hold that knows whether the value is lent under it, by a std guard of type `W`. For the layer above.
+///
+/// The raw hold is had back only while the value isn't lent, so a guard has to give the value back before it releases.
+pub struct Held<H, W> {
+    hold: H,
+    lent: Snapshot<bool>,
+    by: PhantomData<W>,
+}
+
+impl<H, W> Model for Held<H, W> {
+    ghost use Rattle.std.specs.Prelude.{Bool};
+
+    ghost Value = { H × Bool };
+
+    ghost view = { λ held. (held.hold, held.lent.value) };
+}
+
+impl<H, W> Held<H, W> {
+    /// Keeps a hold, under which the value is lent by `access`.
+    pub fn lending(hold: H, access: &W) -> Held<H, W>
+        ensures { result ≡ (hold, true) }
+    {
+        let _ = access;
+        Held {
+            hold,
+            lent: Snapshot::of(&true),
+            by: PhantomData,
+        }
+    }
+
+    /// Lends the raw hold to look at.
+    pub fn hold(&self) -> &H
+        ensures { result.now ≡ self.now.0 }
+    {
+        &self.hold
+    }
+
+    /// Gives the value back.
+    pub fn give_back(self, access: W) -> Held<H, W>
+    where
+        W: Drop,
+        ensures { result ≡ (self.0, false) }
+    {
+        drop(access);
+        let Held { hold, lent: _, by } = self;
+        Held {
+            hold,
+            lent: Snapshot::of(&false),
+            by,
+        }
+    }
+
+    /// The raw hold, under which nothing is lent any more.
+    pub fn into_hold(self) -> H
+        requires { self.1 ≡ false }
+        ensures { result ≡ self.0 }
+    {
+        let Held {
+            hold,
+            lent: _,
+            by: _,
+        } = self;
+        hold
+    }
+}
+
+impl<H: DowngradeHold, W> Held<H, W>
+where
+    H::Runtime: Wait,
+{
+    /// Turns the raw hold into a shared one. Whether the value is lent stays.
+    pub fn downgrade(self) -> Held<H::Down, W>
+        ensures { (H.Down.lock_of result.0 ≡ H.lock_of self.0) × (result.1 ≡ self.1) }
+    {
+        let Held { hold, lent, by } = self;
+        let hold = hold.downgrade();
+        Held { hold, lent, by }
+    }
+}
+
+impl<H: LowerHold, W> Held<H, W>
+where
+    H::Runtime: Wait,
+{
+    /// Turns the raw hold into an upgradable one. Whether the value is lent stays.
+    pub fn lower(self) -> Held<H::Low, W>
+        ensures { (H.Low.lock_of result.0 ≡ H.lock_of self.0) × (result.1 ≡ self.1) }
+    {
+        let Held { hold, lent, by } = self;
+        let hold = hold.lower();
+        Held { hold, lent, by }
+    }
+}
+
+impl<H: UpgradeHold, W> Held<H, W> {
+    /// Turns the raw hold into an exclusive one. Whether the value is lent stays.
+    pub fn upgrade(self, party: &mut H::Party) -> Held<H::Alone, W>
+    where
+        H::Runtime: Wait,
+        ensures { (H.Alone.lock_of result.0 ≡ H.lock_of self.0) × (result.1 ≡ self.1) }
+    {
+        let Held { hold, lent, by } = self;
+        let hold = hold.upgrade(party);
+        Held { hold, lent, by }
+    }
+
+    /// As `upgrade` if no other reader is left, and else unchanged.
+    pub fn try_upgrade(self) -> Result<Held<H::Alone, W>, Held<H, W>>
+        ensures { MatchResult result (λ held. H.Alone.lock_of held.0 ≡ H.lock_of self.0) (λ held. held ≡ self) }
+    {
+        let Held { hold, lent, by } = self;
+        match hold.try_upgrade() {
+            Ok(hold) => Ok(Held { hold, lent, by }),
+            Err(hold) => Err(Held { hold, lent, by }),
+        }
+    }
+}
+
+impl<H: TimedUpgradeHold, W> Held<H, W>
+where
+    H::Runtime: Wait,
+{
+    /// As `upgrade`, and unchanged if the wait is given up after the length of time.
+    pub fn try_upgrade_for<C: Clock>(
+        self,
+        timeout: H::Duration,
+        clock: &C,
+        party: &mut H::Party,
+    ) -> Result<Held<H::Alone, W>, Held<H, W>>
+        ensures { MatchResult result (λ held. H.Alone.lock_of held.0 ≡ H.lock_of self.0) (λ held. held ≡ self) }
+    {
+        let Held { hold, lent, by } = self;
+        match hold.try_upgrade_for(timeout, clock, party) {
+            Ok(hold) => Ok(Held { hold, lent, by }),
+            Err(hold) => Err(Held { hold, lent, by }),
+        }
+    }
+
+    /// As `upgrade`, and unchanged if the wait is given up at the moment.
+    pub fn try_upgrade_until<C: Clock>(
+        self,
+        deadline: H::Instant,
+        clock: &C,
+        party: &mut H::Party,
+    ) -> Result<Held<H::Alone, W>, Held<H, W>>
+        ensures { MatchResult result (λ held. H.Alone.lock_of held.0 ≡ H.lock_of self.0) (λ held. held ≡ self) }
+    {
+        let Held { hold, lent, by } = self;
+        match hold.try_upgrade_until(deadline, clock, party) {
+            Ok(hold) => Ok(Held { hold, lent, by }),
+            Err(hold) => Err(Held { hold, lent, by }),
+        }
+    }
+}
