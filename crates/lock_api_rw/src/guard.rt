@@ -1,9 +1,9 @@
 //! A guard: a raw hold, and the std guard of the value.
-ghost use Rattle.std.specs.Prelude.{◌≡◌};
+ghost use Rattle.std.specs.Prelude.{◌≡◌, Ok, Err, MatchResult};
 ghost use Rattle.std.specs.Borrow.{Lends, sem};
 ghost use Rattle.lock_api_rw.specs.contracts.guard.Guard.{the_row};
 
-use crate::held::{FairHold, Held, Hold, MutexHold, ReentrantHold, RwLockHold};
+use crate::held::{Access, FairHold, Held, Hold, MutexHold, ReentrantHold, RwLockHold};
 use crate::lend::{Lender, LenderMut};
 use core::mem;
 use std::ops::{Deref, DerefMut};
@@ -11,18 +11,19 @@ use std::sync::Wait;
 
 /// A raw hold with the std guard of the value that it guards.
 ///
-/// Its drop gives the std lock back, and then releases the raw lock by its token.
-pub struct Guard<W: Drop, H: Hold<Access = W>>
+/// Its drop gives the std lock back, and then releases the raw lock by its token. The calls are written
+/// `Guard::map(guard, ..)`, since a guard dereferences to its value.
+pub struct Guard<W: Drop, H: Hold>
 where
     H::Runtime: Wait,
 {
     /// The std guard.
     pub inner: W,
     /// The raw hold, which knows that the value is lent under it.
-    pub held: Held<H>,
+    pub held: Held<H, W>,
 }
 
-impl<W: Drop, H: Hold<Access = W>> Drop for Guard<W, H>
+impl<W: Drop, H: Hold> Drop for Guard<W, H>
 where
     H::Runtime: Wait,
 {
@@ -31,7 +32,7 @@ where
     }
 }
 
-impl<W: Drop, H: Hold<Access = W>> Guard<W, H>
+impl<W: Drop, H: Hold> Guard<W, H>
 where
     H::Runtime: Wait,
 {
@@ -42,14 +43,6 @@ where
     {
         let held = Held::lending(hold, &inner);
         Guard { inner, held }
-    }
-
-    /// Takes the std lock under a hold, and puts the two together. For the layer above.
-    pub fn under(hold: H) -> Guard<W, H>
-        ensures { result.held.0 ≡ hold }
-    {
-        let inner = hold.access();
-        Guard::over(hold, inner)
     }
 
     /// Gives the value back and keeps the raw hold. For the layer above.
@@ -67,6 +60,53 @@ where
         s.held.hold().lock()
     }
 
+    /// Turns the raw hold into one of another mode, and then changes the std lock. For the layer above.
+    pub fn turn<K: Access, F: FnOnce(H) -> K>(s: Guard<W, H>, f: F) -> Guard<K::Inner, K>
+    where
+        K::Runtime: Wait,
+        requires { F.IsAlwaysCallable f }
+        ensures { F.post f s.held.0 result.held.0 }
+    {
+        let Guard { inner, held } = s;
+        Guard::under(held.turn(f).give_back(inner).into_hold())
+    }
+
+    /// As `turn`, where the turn may be refused: then the same std guard comes back with the raw hold that came back. For
+    /// the layer above.
+    pub fn try_turn<K: Access, F: FnOnce(H) -> Result<K, H>>(
+        s: Guard<W, H>,
+        f: F,
+    ) -> Result<Guard<K::Inner, K>, Guard<W, H>>
+    where
+        K::Runtime: Wait,
+        requires { F.IsAlwaysCallable f }
+        ensures { MatchResult result (λ guard. F.post f s.held.0 (Ok guard.held.0)) (λ guard. F.post f s.held.0 (Err guard.held.0) × (guard.inner ≡ s.inner) × (guard.held.1 ≡ s.held.1)) }
+    {
+        let Guard { inner, held } = s;
+        match held.try_turn(f) {
+            Ok(held) => Ok(Guard::under(held.give_back(inner).into_hold())),
+            Err(held) => Err(Guard { inner, held }),
+        }
+    }
+}
+
+impl<H: Access> Guard<H::Inner, H>
+where
+    H::Runtime: Wait,
+{
+    /// Takes the std lock under a hold, and puts the two together. For the layer above.
+    pub fn under(hold: H) -> Guard<H::Inner, H>
+        ensures { result.held.0 ≡ hold }
+    {
+        let inner = hold.access();
+        Guard::over(hold, inner)
+    }
+}
+
+impl<W: Drop, H: Access<Inner = W>> Guard<W, H>
+where
+    H::Runtime: Wait,
+{
     /// Releases the lock, runs the closure and waits for the lock in the same mode again.
     ///
     /// It answers what the closure answered, and the guard is held again afterwards. Others may have written in between.
@@ -89,7 +129,7 @@ where
     }
 }
 
-impl<W: Drop, H: RwLockHold + Hold<Access = W>> Guard<W, H>
+impl<W: Drop, H: RwLockHold> Guard<W, H>
 where
     H::Runtime: Wait,
 {
@@ -101,7 +141,7 @@ where
     }
 }
 
-impl<W: Drop, H: MutexHold + Hold<Access = W>> Guard<W, H>
+impl<W: Drop, H: MutexHold> Guard<W, H>
 where
     H::Runtime: Wait,
 {
@@ -113,7 +153,7 @@ where
     }
 }
 
-impl<W: Drop, H: ReentrantHold + Hold<Access = W>> Guard<W, H>
+impl<W: Drop, H: ReentrantHold> Guard<W, H>
 where
     H::Runtime: Wait,
 {
@@ -125,7 +165,17 @@ where
     }
 }
 
-impl<W: Drop, H: FairHold + Hold<Access = W>> Guard<W, H>
+impl<W: Drop, H: FairHold> Guard<W, H>
+where
+    H::Runtime: Wait,
+{
+    /// Ends the guard by a fair release.
+    pub fn unlock_fair(s: Guard<W, H>) {
+        let _apart = Guard::into_hold(s).release_fair();
+    }
+}
+
+impl<W: Drop, H: FairHold + Access<Inner = W>> Guard<W, H>
 where
     H::Runtime: Wait,
 {
@@ -148,11 +198,6 @@ where
         )
     }
 
-    /// Ends the guard by a fair release.
-    pub fn unlock_fair(s: Guard<W, H>) {
-        let _apart = Guard::into_hold(s).release_fair();
-    }
-
     /// If somebody waits, gives way by a fair release and waits for the same mode again, and else nothing.
     pub fn bump(s: &mut Guard<W, H>, party: &mut H::Party)
         ensures { H.lock_of s.new.held.0 ≡ H.lock_of s.old.held.0 }
@@ -163,7 +208,7 @@ where
     }
 }
 
-impl<W: Lender + Drop, H: Hold<Access = W>> Lender for Guard<W, H>
+impl<W: Lender + Drop, H: Hold> Lender for Guard<W, H>
 where
     H::Runtime: Wait,
 {
@@ -176,7 +221,7 @@ where
     }
 }
 
-impl<W: LenderMut + Drop, H: Hold<Access = W>> LenderMut for Guard<W, H>
+impl<W: LenderMut + Drop, H: Hold> LenderMut for Guard<W, H>
 where
     H::Runtime: Wait,
 {
@@ -190,7 +235,7 @@ where
     ghost reads_written = { λ guard part. W.reads_written guard.inner part };
 }
 
-impl<W: Lender + Drop, H: Hold<Access = W>> Deref for Guard<W, H>
+impl<W: Lender + Drop, H: Hold> Deref for Guard<W, H>
 where
     H::Runtime: Wait,
 {
@@ -203,7 +248,7 @@ where
     }
 }
 
-impl<W: LenderMut + Drop, H: Hold<Access = W>> DerefMut for Guard<W, H>
+impl<W: LenderMut + Drop, H: Hold> DerefMut for Guard<W, H>
 where
     H::Runtime: Wait,
 {

@@ -1,7 +1,7 @@
-//! A raw hold, and whether the value is lent under it.
-ghost use Rattle.std.specs.Prelude.{◌≡◌, false, true};
+//! Raw holds, and whether the value is lent under them.
+ghost use Rattle.std.specs.Prelude.{◌≡◌, false, true, Ok, Err, MatchResult};
 
-use std::marker::Model;
+use std::marker::{Model, PhantomData};
 use std::snapshot::Snapshot;
 use std::sync::Wait;
 
@@ -18,9 +18,6 @@ pub trait Hold {
     /// What a thread lends to a call that may wait.
     type Party;
 
-    /// The std guard by which the value is reached under such a hold.
-    type Access: Drop;
-
     /// What is left of a hold once it is released, by which the lock can be had again.
     type Apart: Drop;
 
@@ -33,11 +30,6 @@ pub trait Hold {
     /// Lends the lock.
     fn lock(&self) -> &Self::Lock
         ensures { result.now ≡ lock_of self.now };
-
-    /// Takes the std lock of the value, by its try first.
-    fn access(&self) -> Self::Access
-    where
-        Self::Runtime: Wait;
 
     /// Gives the raw hold up.
     fn release(self) -> Self::Apart
@@ -67,6 +59,17 @@ pub trait FairHold: Hold {
         ensures { Self.lock_of result ≡ Self.lock_of self };
 }
 
+/// A hold under which a std guard of the value can be kept. For the layer above.
+pub trait Access: Hold {
+    /// The std guard.
+    type Inner: Drop;
+
+    /// Takes the std lock of the value, by its own try first.
+    fn access(&self) -> Self::Inner
+    where
+        Self::Runtime: Wait;
+}
+
 /// A hold of a reader-writer lock, whose guards have `rwlock`. For the layer above.
 pub trait RwLockHold: Hold {}
 
@@ -76,15 +79,16 @@ pub trait MutexHold: Hold {}
 /// A hold of a reentrant mutex, whose guards have `remutex`. For the layer above.
 pub trait ReentrantHold: Hold {}
 
-/// A raw hold that knows whether the value is lent under it. For the layer above.
+/// A raw hold that knows whether the value is lent under it, by a std guard of type `W`. For the layer above.
 ///
-/// It is released only while the value isn't lent, so a guard has to give the value back first.
-pub struct Held<H> {
+/// The raw hold is had back only while the value isn't lent, so a guard has to give the value back before it releases.
+pub struct Held<H, W> {
     hold: H,
     lent: Snapshot<bool>,
+    by: PhantomData<W>,
 }
 
-impl<H> Model for Held<H> {
+impl<H, W> Model for Held<H, W> {
     ghost use Rattle.std.specs.Prelude.{Bool};
 
     ghost Value = { H × Bool };
@@ -92,15 +96,16 @@ impl<H> Model for Held<H> {
     ghost view = { λ held. (held.hold, held.lent.value) };
 }
 
-impl<H: Hold> Held<H> {
+impl<H, W> Held<H, W> {
     /// Keeps a hold, under which the value is lent by `access`.
-    pub fn lending(hold: H, access: &H::Access) -> Held<H>
+    pub fn lending(hold: H, access: &W) -> Held<H, W>
         ensures { result ≡ (hold, true) }
     {
         let _ = access;
         Held {
             hold,
             lent: Snapshot::of(&true),
+            by: PhantomData,
         }
     }
 
@@ -112,14 +117,17 @@ impl<H: Hold> Held<H> {
     }
 
     /// Gives the value back.
-    pub fn give_back(self, access: H::Access) -> Held<H>
+    pub fn give_back(self, access: W) -> Held<H, W>
+    where
+        W: Drop,
         ensures { result ≡ (self.0, false) }
     {
         drop(access);
-        let Held { hold, lent: _ } = self;
+        let Held { hold, lent: _, by } = self;
         Held {
             hold,
             lent: Snapshot::of(&false),
+            by,
         }
     }
 
@@ -128,7 +136,36 @@ impl<H: Hold> Held<H> {
         requires { self.1 ≡ false }
         ensures { result ≡ self.0 }
     {
-        let Held { hold, lent: _ } = self;
+        let Held {
+            hold,
+            lent: _,
+            by: _,
+        } = self;
         hold
+    }
+
+    /// Turns the raw hold into another one. Whether the value is lent stays.
+    pub fn turn<K, F: FnOnce(H) -> K>(self, f: F) -> Held<K, W>
+        requires { F.IsAlwaysCallable f }
+        ensures { F.post f self.0 result.0 × (result.1 ≡ self.1) }
+    {
+        let Held { hold, lent, by } = self;
+        Held {
+            hold: f(hold),
+            lent,
+            by,
+        }
+    }
+
+    /// As `turn`, where the turn may be refused: then what comes back is kept as before.
+    pub fn try_turn<K, F: FnOnce(H) -> Result<K, H>>(self, f: F) -> Result<Held<K, W>, Held<H, W>>
+        requires { F.IsAlwaysCallable f }
+        ensures { MatchResult result (λ held. F.post f self.0 (Ok held.0) × (held.1 ≡ self.1)) (λ held. F.post f self.0 (Err held.0) × (held.1 ≡ self.1)) }
+    {
+        let Held { hold, lent, by } = self;
+        match f(hold) {
+            Ok(hold) => Ok(Held { hold, lent, by }),
+            Err(hold) => Err(Held { hold, lent, by }),
+        }
     }
 }

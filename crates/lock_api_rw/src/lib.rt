@@ -11,6 +11,6 @@ mod mapped;
 mod show;
 
 pub use guard::Guard;
-pub use held::{FairHold, Held, Hold, MutexHold, ReentrantHold, RwLockHold};
+pub use held::{Access, FairHold, Held, Hold, MutexHold, ReentrantHold, RwLockHold};
 pub use lend::{Lender, LenderMut};
 pub use mapped::Mapped;

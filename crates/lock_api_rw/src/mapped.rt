@@ -58,7 +58,7 @@ impl<G: LenderMut + Drop, P: Projection<G::Part> + Drop> DerefMut for Mapped<G, 
     }
 }
 
-impl<W: Lender + Drop, H: Hold<Access = W>> Guard<W, H>
+impl<W: Lender + Drop, H: Hold> Guard<W, H>
 where
     H::Runtime: Wait,
 {
@@ -155,10 +155,7 @@ impl<G: Lender + Drop, P: Projection<G::Part> + Drop> Mapped<G, P> {
     }
 }
 
-impl<W: Lender + Drop, H: FairHold + Hold<Access = W>, P: Projection<W::Part> + Drop> Mapped<
-    Guard<W, H>,
-    P,
->
+impl<W: Lender + Drop, H: FairHold, P: Projection<W::Part> + Drop> Mapped<Guard<W, H>, P>
 where
     H::Runtime: Wait,
 {

@@ -9,7 +9,7 @@ use std::fmt::{Debug, Display};
 use std::ops::Deref;
 use std::sync::Wait;
 
-impl<W: Lender + Drop, H: Hold<Access = W>> Debug for Guard<W, H>
+impl<W: Lender + Drop, H: Hold> Debug for Guard<W, H>
 where
     W::Part: Debug,
     H::Runtime: Wait,
@@ -19,7 +19,7 @@ where
     }
 }
 
-impl<W: Lender + Drop, H: Hold<Access = W>> Display for Guard<W, H>
+impl<W: Lender + Drop, H: Hold> Display for Guard<W, H>
 where
     W::Part: Display,
     H::Runtime: Wait,
