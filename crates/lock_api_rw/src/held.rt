@@ -70,6 +70,16 @@ pub trait Access: Hold {
         Self::Runtime: Wait;
 }
 
+/// A hold that owns an Arc of its lock. For the layer above.
+pub trait ArcHold: Hold {
+    /// Lends the Arc.
+    fn arc(&self) -> &Self::Apart
+        ensures { Self.apart_of result.now ≡ Self.lock_of self.now };
+}
+
+/// A hold under which the value may be written. For the layer above.
+pub trait WriteHold: Hold {}
+
 /// A hold of a reader-writer lock, whose guards have `rwlock`. For the layer above.
 pub trait RwLockHold: Hold {}
 

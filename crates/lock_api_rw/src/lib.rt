@@ -4,13 +4,25 @@
 //! lends is the guarded value, and nobody writes it but the guard's holder.
 #![tactic(auto)]
 
+mod arc_guard;
 mod guard;
 mod held;
 mod lend;
+mod lock;
 mod mapped;
+mod mode;
+mod raw_hold;
+mod rwlock;
 mod show;
 
+pub use arc_guard::ArcGuard;
 pub use guard::Guard;
-pub use held::{Access, FairHold, Held, Hold, MutexHold, ReentrantHold, RwLockHold};
+pub use held::{
+    Access, ArcHold, FairHold, Held, Hold, MutexHold, ReentrantHold, RwLockHold, WriteHold,
+};
 pub use lend::{Lender, LenderMut};
+pub use lock::{HasValue, HasValueMut, lent, lent_mut};
 pub use mapped::Mapped;
+pub use mode::{Exclusive, FairMode, Mode, Shared, TimedMode, Upgradable, Writes};
+pub use raw_hold::{HasRaw, Lodges, Place, RawHold};
+pub use rwlock::{RwLock, RwLockReadGuard, RwLockUpgradableReadGuard, RwLockWriteGuard};

@@ -1,0 +1,332 @@
+//! The modes in which raw locks are held.
+ghost use Rattle.std.specs.Prelude.{◌≡◌, ℕ, IfSome};
+
+use lock_api_raw::{
+    RawRwLock, RawRwLockFair, RawRwLockTimed, RawRwLockUpgrade, RawRwLockUpgradeFair,
+    RawRwLockUpgradeTimed,
+};
+use std::rt::Clock;
+use std::sync::Wait;
+
+/// A mode in which a raw lock can be held: how a token of it is had, and how it is spent. For the layer above.
+pub trait Mode<R> {
+    /// The token of a hold.
+    type Token;
+
+    /// The runtime that the raw lock uses to wait.
+    type Runtime;
+
+    /// What a thread lends to a call that may wait.
+    type Party;
+
+    /// The number of a raw lock.
+    ghost number: { R → ℕ };
+
+    /// The number of the raw lock that issued a token.
+    ghost issued_by: { Self.Token → ℕ };
+
+    /// Waits for a hold.
+    fn lock(raw: &R, party: &mut Self::Party) -> Self::Token
+    where
+        Self::Runtime: Wait,
+        ensures { issued_by result ≡ number raw.now };
+
+    /// A hold at once, or None.
+    fn try_lock(raw: &R) -> Option<Self::Token>
+        ensures { IfSome result (λ token. issued_by token ≡ number raw.now) };
+
+    /// Gives a hold up.
+    fn unlock(raw: &R, token: Self::Token)
+    where
+        Self::Runtime: Wait,
+        requires { issued_by token ≡ number raw.now };
+}
+
+/// A mode whose release can be fair. For the layer above.
+pub trait FairMode<R>: Mode<R> {
+    /// Gives a hold up by a fair release.
+    fn unlock_fair(raw: &R, token: Self::Token)
+    where
+        Self::Runtime: Wait,
+        requires { Self.issued_by token ≡ Self.number raw.now };
+
+    /// If somebody waits, a fair release and a wait for the same mode, and else nothing.
+    fn bump(raw: &R, token: Self::Token, party: &mut Self::Party) -> Self::Token
+    where
+        Self::Runtime: Wait,
+        requires { Self.issued_by token ≡ Self.number raw.now }
+        ensures { Self.issued_by result ≡ Self.number raw.now };
+}
+
+/// A mode whose wait can give up. For the layer above.
+pub trait TimedMode<R>: Mode<R> {
+    /// A length of time.
+    type Duration;
+
+    /// A moment.
+    type Instant;
+
+    /// As `lock`, but None if the wait is given up after the length of time.
+    fn lock_for<C: Clock>(
+        raw: &R,
+        timeout: Self::Duration,
+        clock: &C,
+        party: &mut Self::Party,
+    ) -> Option<Self::Token>
+    where
+        Self::Runtime: Wait,
+        ensures { IfSome result (λ token. Self.issued_by token ≡ Self.number raw.now) };
+
+    /// As `lock`, but None if the wait is given up at the moment.
+    fn lock_until<C: Clock>(
+        raw: &R,
+        deadline: Self::Instant,
+        clock: &C,
+        party: &mut Self::Party,
+    ) -> Option<Self::Token>
+    where
+        Self::Runtime: Wait,
+        ensures { IfSome result (λ token. Self.issued_by token ≡ Self.number raw.now) };
+}
+
+/// A mode under which the value may be written. For the layer above.
+pub trait Writes {}
+
+impl Writes for Exclusive {}
+
+/// The mode of those that read beside each other.
+pub struct Shared;
+
+/// The mode of one that is alone.
+pub struct Exclusive;
+
+/// The mode of one that reads beside others and may become exclusive.
+pub struct Upgradable;
+
+impl<R: RawRwLock> Mode<R> for Shared {
+    type Token = R::SharedGuard;
+
+    type Runtime = R::Runtime;
+
+    type Party = R::Party;
+
+    ghost number = { λ raw. R.number raw };
+
+    ghost issued_by = { λ token. R.shared_by token };
+
+    fn lock(raw: &R, party: &mut R::Party) -> R::SharedGuard
+    where
+        R::Runtime: Wait,
+    {
+        raw.lock_shared(party)
+    }
+
+    fn try_lock(raw: &R) -> Option<R::SharedGuard> {
+        raw.try_lock_shared()
+    }
+
+    fn unlock(raw: &R, token: R::SharedGuard)
+    where
+        R::Runtime: Wait,
+    {
+        raw.unlock_shared(token);
+    }
+}
+
+impl<R: RawRwLockFair> FairMode<R> for Shared {
+    fn unlock_fair(raw: &R, token: R::SharedGuard)
+    where
+        R::Runtime: Wait,
+    {
+        raw.unlock_shared_fair(token);
+    }
+
+    fn bump(raw: &R, token: R::SharedGuard, party: &mut R::Party) -> R::SharedGuard
+    where
+        R::Runtime: Wait,
+    {
+        raw.bump_shared(token, party)
+    }
+}
+
+impl<R: RawRwLockTimed> TimedMode<R> for Shared {
+    type Duration = R::Duration;
+
+    type Instant = R::Instant;
+
+    fn lock_for<C: Clock>(
+        raw: &R,
+        timeout: R::Duration,
+        clock: &C,
+        party: &mut R::Party,
+    ) -> Option<R::SharedGuard>
+    where
+        R::Runtime: Wait,
+    {
+        raw.try_lock_shared_for(timeout, clock, party)
+    }
+
+    fn lock_until<C: Clock>(
+        raw: &R,
+        deadline: R::Instant,
+        clock: &C,
+        party: &mut R::Party,
+    ) -> Option<R::SharedGuard>
+    where
+        R::Runtime: Wait,
+    {
+        raw.try_lock_shared_until(deadline, clock, party)
+    }
+}
+
+impl<R: RawRwLock> Mode<R> for Exclusive {
+    type Token = R::ExclusiveGuard;
+
+    type Runtime = R::Runtime;
+
+    type Party = R::Party;
+
+    ghost number = { λ raw. R.number raw };
+
+    ghost issued_by = { λ token. R.exclusive_by token };
+
+    fn lock(raw: &R, party: &mut R::Party) -> R::ExclusiveGuard
+    where
+        R::Runtime: Wait,
+    {
+        raw.lock_exclusive(party)
+    }
+
+    fn try_lock(raw: &R) -> Option<R::ExclusiveGuard> {
+        raw.try_lock_exclusive()
+    }
+
+    fn unlock(raw: &R, token: R::ExclusiveGuard)
+    where
+        R::Runtime: Wait,
+    {
+        raw.unlock_exclusive(token);
+    }
+}
+
+impl<R: RawRwLockFair> FairMode<R> for Exclusive {
+    fn unlock_fair(raw: &R, token: R::ExclusiveGuard)
+    where
+        R::Runtime: Wait,
+    {
+        raw.unlock_exclusive_fair(token);
+    }
+
+    fn bump(raw: &R, token: R::ExclusiveGuard, party: &mut R::Party) -> R::ExclusiveGuard
+    where
+        R::Runtime: Wait,
+    {
+        raw.bump_exclusive(token, party)
+    }
+}
+
+impl<R: RawRwLockTimed> TimedMode<R> for Exclusive {
+    type Duration = R::Duration;
+
+    type Instant = R::Instant;
+
+    fn lock_for<C: Clock>(
+        raw: &R,
+        timeout: R::Duration,
+        clock: &C,
+        party: &mut R::Party,
+    ) -> Option<R::ExclusiveGuard>
+    where
+        R::Runtime: Wait,
+    {
+        raw.try_lock_exclusive_for(timeout, clock, party)
+    }
+
+    fn lock_until<C: Clock>(
+        raw: &R,
+        deadline: R::Instant,
+        clock: &C,
+        party: &mut R::Party,
+    ) -> Option<R::ExclusiveGuard>
+    where
+        R::Runtime: Wait,
+    {
+        raw.try_lock_exclusive_until(deadline, clock, party)
+    }
+}
+
+impl<R: RawRwLockUpgrade> Mode<R> for Upgradable {
+    type Token = R::UpgradableGuard;
+
+    type Runtime = R::Runtime;
+
+    type Party = R::Party;
+
+    ghost number = { λ raw. R.number raw };
+
+    ghost issued_by = { λ token. R.upgradable_by token };
+
+    fn lock(raw: &R, party: &mut R::Party) -> R::UpgradableGuard
+    where
+        R::Runtime: Wait,
+    {
+        raw.lock_upgradable(party)
+    }
+
+    fn try_lock(raw: &R) -> Option<R::UpgradableGuard> {
+        raw.try_lock_upgradable()
+    }
+
+    fn unlock(raw: &R, token: R::UpgradableGuard)
+    where
+        R::Runtime: Wait,
+    {
+        raw.unlock_upgradable(token);
+    }
+}
+
+impl<R: RawRwLockUpgradeFair> FairMode<R> for Upgradable {
+    fn unlock_fair(raw: &R, token: R::UpgradableGuard)
+    where
+        R::Runtime: Wait,
+    {
+        raw.unlock_upgradable_fair(token);
+    }
+
+    fn bump(raw: &R, token: R::UpgradableGuard, party: &mut R::Party) -> R::UpgradableGuard
+    where
+        R::Runtime: Wait,
+    {
+        raw.bump_upgradable(token, party)
+    }
+}
+
+impl<R: RawRwLockUpgradeTimed> TimedMode<R> for Upgradable {
+    type Duration = R::Duration;
+
+    type Instant = R::Instant;
+
+    fn lock_for<C: Clock>(
+        raw: &R,
+        timeout: R::Duration,
+        clock: &C,
+        party: &mut R::Party,
+    ) -> Option<R::UpgradableGuard>
+    where
+        R::Runtime: Wait,
+    {
+        raw.try_lock_upgradable_for(timeout, clock, party)
+    }
+
+    fn lock_until<C: Clock>(
+        raw: &R,
+        deadline: R::Instant,
+        clock: &C,
+        party: &mut R::Party,
+    ) -> Option<R::UpgradableGuard>
+    where
+        R::Runtime: Wait,
+    {
+        raw.try_lock_upgradable_until(deadline, clock, party)
+    }
+}

@@ -1,0 +1,235 @@
+//! A hold of any mode, of a lock that is borrowed or owned.
+ghost use Rattle.std.specs.Prelude.{◌≡◌, IfSome};
+
+use crate::held::{Access, ArcHold, FairHold, Hold, WriteHold};
+use crate::mode::{FairMode, Mode, TimedMode, Writes};
+use std::alloc::Allocator;
+use std::marker::PhantomData;
+use std::rt::Clock;
+use std::sync::{Arc, Wait};
+
+/// A lock that has a raw lock in it. For the layer above.
+pub trait HasRaw {
+    /// The raw lock.
+    type Raw;
+
+    /// The raw lock of a lock.
+    ghost raw_of: { Self → Self.Raw };
+
+    /// Lends the raw lock.
+    fn raw(&self) -> &Self::Raw
+        ensures { result.now ≡ raw_of self.now };
+}
+
+/// Where a lock is found: behind a reference, or behind an Arc. For the layer above.
+pub trait Place {
+    /// The lock.
+    type Lock: HasRaw;
+
+    /// The lock that lies there.
+    ghost lock_of: { Self → Self.Lock };
+
+    /// Lends the lock.
+    fn lock(&self) -> &Self::Lock
+        ensures { result.now ≡ lock_of self.now };
+}
+
+impl<'l, L: HasRaw> Place for &'l L {
+    type Lock = L;
+
+    ghost lock_of = { λ place. place.now };
+
+    fn lock(&self) -> &L {
+        *self
+    }
+}
+
+impl<L: HasRaw, A: Allocator> Place for Arc<L, A> {
+    ghost use Rattle.std.specs.Arc.{arc_value};
+
+    type Lock = L;
+
+    ghost lock_of = { λ place. arc_value place };
+
+    fn lock(&self) -> &L {
+        &**self
+    }
+}
+
+/// A lock that lends its value under a hold of the mode `M`. For the layer above.
+pub trait Lodges<'l, M: Mode<Self::Raw>>: HasRaw {
+    /// The std guard of the value.
+    type Inner: Drop;
+
+    /// Takes the std lock of the value, by its own try first.
+    fn access(&'l self) -> Self::Inner
+    where
+        M::Runtime: Wait;
+}
+
+/// A lock, and a token of the mode `M` that it issued. For the layer above.
+///
+/// It is linear, as its token is.
+pub struct RawHold<L: Place, M: Mode<<L::Lock as HasRaw>::Raw>> {
+    place: L,
+    token: M::Token,
+    ghost ours: { M.issued_by token ≡ M.number (L.Lock.raw_of (L.lock_of place)) },
+    mode: PhantomData<M>,
+}
+
+impl<L: Place, M: Mode<<L::Lock as HasRaw>::Raw>> RawHold<L, M> {
+    /// Keeps a token that the lock issued.
+    pub fn new(place: L, token: M::Token) -> RawHold<L, M>
+        requires { M.issued_by token ≡ M.number (L.Lock.raw_of (L.lock_of place)) }
+        ensures { result.place ≡ place }
+    {
+        RawHold {
+            place,
+            token,
+            mode: PhantomData,
+        }
+    }
+
+    /// Waits for a hold.
+    pub fn wait(place: L, party: &mut M::Party) -> RawHold<L, M>
+    where
+        M::Runtime: Wait,
+        ensures { result.place ≡ place }
+    {
+        let token = M::lock(place.lock().raw(), party);
+        RawHold::new(place, token)
+    }
+
+    /// A hold at once, or None.
+    pub fn at_once(place: L) -> Option<RawHold<L, M>>
+    where
+        L: Drop,
+        ensures { IfSome result (λ hold. hold.place ≡ place) }
+    {
+        let token = M::try_lock(place.lock().raw())?;
+        Some(RawHold::new(place, token))
+    }
+}
+
+impl<L: Place, M: TimedMode<<L::Lock as HasRaw>::Raw>> RawHold<L, M>
+where
+    M::Runtime: Wait,
+{
+    /// As `wait`, but None if the wait is given up after the length of time.
+    pub fn wait_for<C: Clock>(
+        place: L,
+        timeout: M::Duration,
+        clock: &C,
+        party: &mut M::Party,
+    ) -> Option<RawHold<L, M>>
+    where
+        L: Drop,
+        ensures { IfSome result (λ hold. hold.place ≡ place) }
+    {
+        let token = M::lock_for(place.lock().raw(), timeout, clock, party)?;
+        Some(RawHold::new(place, token))
+    }
+
+    /// As `wait`, but None if the wait is given up at the moment.
+    pub fn wait_until<C: Clock>(
+        place: L,
+        deadline: M::Instant,
+        clock: &C,
+        party: &mut M::Party,
+    ) -> Option<RawHold<L, M>>
+    where
+        L: Drop,
+        ensures { IfSome result (λ hold. hold.place ≡ place) }
+    {
+        let token = M::lock_until(place.lock().raw(), deadline, clock, party)?;
+        Some(RawHold::new(place, token))
+    }
+}
+
+impl<L: Place + Drop, M: Mode<<L::Lock as HasRaw>::Raw>> Hold for RawHold<L, M> {
+    type Lock = L::Lock;
+
+    type Runtime = M::Runtime;
+
+    type Party = M::Party;
+
+    type Apart = L;
+
+    ghost lock_of = { λ hold. L.lock_of hold.place };
+
+    ghost apart_of = { λ place. L.lock_of place };
+
+    fn lock(&self) -> &L::Lock {
+        self.place.lock()
+    }
+
+    fn release(self) -> L
+    where
+        M::Runtime: Wait,
+    {
+        let RawHold {
+            place,
+            token,
+            mode: _,
+        } = self;
+        M::unlock(place.lock().raw(), token);
+        place
+    }
+
+    fn again(place: L, party: &mut M::Party) -> RawHold<L, M>
+    where
+        M::Runtime: Wait,
+    {
+        RawHold::wait(place, party)
+    }
+}
+
+impl<L: HasRaw, A: Allocator, M: Mode<L::Raw>> ArcHold for RawHold<Arc<L, A>, M>
+where
+    L: Drop,
+{
+    fn arc(&self) -> &Arc<L, A> {
+        &self.place
+    }
+}
+
+impl<L: Place + Drop, M: Mode<<L::Lock as HasRaw>::Raw> + Writes> WriteHold for RawHold<L, M> {}
+
+impl<L: Place + Drop, M: FairMode<<L::Lock as HasRaw>::Raw>> FairHold for RawHold<L, M> {
+    fn release_fair(self) -> L
+    where
+        M::Runtime: Wait,
+    {
+        let RawHold {
+            place,
+            token,
+            mode: _,
+        } = self;
+        M::unlock_fair(place.lock().raw(), token);
+        place
+    }
+
+    fn bump(self, party: &mut M::Party) -> RawHold<L, M>
+    where
+        M::Runtime: Wait,
+    {
+        let RawHold {
+            place,
+            token,
+            mode: _,
+        } = self;
+        let token = M::bump(place.lock().raw(), token, party);
+        RawHold::new(place, token)
+    }
+}
+
+impl<'l, L: Lodges<'l, M>, M: Mode<L::Raw>> Access for RawHold<&'l L, M> {
+    type Inner = L::Inner;
+
+    fn access(&self) -> L::Inner
+    where
+        M::Runtime: Wait,
+    {
+        self.place.access()
+    }
+}

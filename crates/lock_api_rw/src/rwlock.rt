@@ -1,0 +1,244 @@
+//! The reader-writer lock.
+ghost use Rattle.std.specs.Prelude.{◌≡◌, IfOk, IfSome};
+ghost use Rattle.lock_api_raw.specs.Limits.{kept_limit};
+
+use crate::guard::Guard;
+use crate::held::RwLockHold;
+use crate::lock::{HasValue, HasValueMut, lent, lent_mut};
+use crate::mode::{Exclusive, Mode, Shared, Upgradable};
+use crate::raw_hold::{HasRaw, Lodges, RawHold};
+use lock_api_raw::{RawRwLock, RawRwLockUpgrade, TableFull};
+use std::alloc::Allocator;
+use std::marker::Model;
+use std::rt::Clock;
+use std::sync;
+use std::sync::{Arc, Wait};
+
+/// A raw lock and a value.
+///
+/// The raw lock decides who may come in, and the value lies in a std lock, which keeps each access safe whatever the raw
+/// lock does. A contract sees a lock as its raw lock.
+///
+/// ```text
+/// let lock = RwLock::from_raw(raw, 5);
+/// *lock.write(&mut party) = 7;
+/// assert_eq!(rt; *lock.read(&mut party), 7);
+/// ```
+#[derive(Drop)]
+pub struct RwLock<R, T> {
+    raw: R,
+    value: sync::RwLock<T>,
+}
+
+impl<R, T> Model for RwLock<R, T> {
+    ghost Value = { R };
+
+    ghost view = { λ lock. lock.raw };
+}
+
+/// A shared hold of a lock. It lends the value to be read.
+pub type RwLockReadGuard<'l, R, T> = Guard<
+    sync::RwLockReadGuard<'l, T>,
+    RawHold<&'l RwLock<R, T>, Shared>,
+>;
+
+/// An exclusive hold of a lock. It lends the value to be read and written.
+pub type RwLockWriteGuard<'l, R, T> = Guard<
+    sync::RwLockWriteGuard<'l, T>,
+    RawHold<&'l RwLock<R, T>, Exclusive>,
+>;
+
+/// An upgradable hold of a lock. It reads beside readers, and may become exclusive.
+pub type RwLockUpgradableReadGuard<'l, R, T> = Guard<
+    sync::RwLockReadGuard<'l, T>,
+    RawHold<&'l RwLock<R, T>, Upgradable>,
+>;
+
+impl<R, T> RwLock<R, T> {
+    /// Puts a value behind a raw lock that exists. Nothing is to be out of it.
+    pub fn from_raw(raw: R, value: T) -> RwLock<R, T>
+        ensures { result ≡ raw }
+    {
+        RwLock {
+            raw,
+            value: sync::RwLock::new(value),
+        }
+    }
+
+    /// The value. That the lock is owned shows that nobody holds it.
+    pub fn into_inner(self) -> T
+    where
+        R: Drop,
+    {
+        let RwLock { raw: _raw, value } = self;
+        value.into_inner()
+    }
+
+    /// The raw lock and the value.
+    pub fn into_inner_with_raw(self) -> (R, T)
+        ensures { result.0 ≡ self }
+    {
+        let RwLock { raw, value } = self;
+        (raw, value.into_inner())
+    }
+
+    /// Lends the value. That the lock is borrowed alone shows that nobody holds it.
+    pub fn get_mut(&mut self) -> &mut T {
+        self.value.get_mut()
+    }
+}
+
+impl<R, T> HasRaw for RwLock<R, T> {
+    type Raw = R;
+
+    ghost raw_of = { λ lock. lock };
+
+    fn raw(&self) -> &R {
+        &self.raw
+    }
+}
+
+impl<R, T, M: Mode<R>> RwLockHold for RawHold<&RwLock<R, T>, M> {}
+
+impl<R: Drop, T: Drop, A: Allocator, M: Mode<R>> RwLockHold for RawHold<Arc<RwLock<R, T>, A>, M> {}
+
+impl<'l, R: RawRwLock, T: 'l> Lodges<'l, Shared> for RwLock<R, T> {
+    type Inner = sync::RwLockReadGuard<'l, T>;
+
+    fn access(&'l self) -> sync::RwLockReadGuard<'l, T>
+    where
+        R::Runtime: Wait,
+    {
+        self.for_reading()
+    }
+}
+
+impl<'l, R: RawRwLockUpgrade, T: 'l> Lodges<'l, Upgradable> for RwLock<R, T> {
+    type Inner = sync::RwLockReadGuard<'l, T>;
+
+    fn access(&'l self) -> sync::RwLockReadGuard<'l, T>
+    where
+        R::Runtime: Wait,
+    {
+        self.for_reading()
+    }
+}
+
+impl<'l, R: RawRwLock, T: 'l> Lodges<'l, Exclusive> for RwLock<R, T> {
+    type Inner = sync::RwLockWriteGuard<'l, T>;
+
+    fn access(&'l self) -> sync::RwLockWriteGuard<'l, T>
+    where
+        R::Runtime: Wait,
+    {
+        self.for_writing()
+    }
+}
+
+impl<R: RawRwLock, T> HasValue for RwLock<R, T> {
+    type Value = T;
+
+    type Waiting = R::Runtime;
+
+    fn with_value<F: FnOnce(&T) -> U, U>(&self, f: F) -> U
+    where
+        R::Runtime: Wait,
+    {
+        lent(f, &*self.for_reading())
+    }
+}
+
+impl<R: RawRwLock, T> HasValueMut for RwLock<R, T> {
+    fn with_value_mut<F: FnOnce(&mut T) -> U, U>(&self, f: F) -> U
+    where
+        R::Runtime: Wait,
+    {
+        lent_mut(f, &mut *self.for_writing())
+    }
+}
+
+impl<R: RawRwLock, T> RwLock<R, T>
+where
+    R::Runtime: Wait,
+{
+    /// Takes the std lock to read the value, by its own try first.
+    pub(crate) fn for_reading(&self) -> sync::RwLockReadGuard<'_, T> {
+        match self.value.try_read() {
+            Some(inner) => inner,
+            None => self.value.read(self.raw.runtime()),
+        }
+    }
+
+    /// Takes the std lock to write the value, by its own try first.
+    pub(crate) fn for_writing(&self) -> sync::RwLockWriteGuard<'_, T> {
+        match self.value.try_write() {
+            Some(inner) => inner,
+            None => self.value.write(self.raw.runtime()),
+        }
+    }
+}
+
+impl<R: RawRwLock, T: Drop> RwLock<R, T> {
+    /// Makes an unlocked lock over a new raw lock with that limit of readers. A refusal lets the value go.
+    pub fn new(source: R::Source, readers: u64, value: T) -> Result<RwLock<R, T>, TableFull>
+        ensures { IfOk result (λ lock. R.limit lock ≡ kept_limit R.own_limit readers) }
+    {
+        Ok(RwLock::from_raw(R::new(source, readers)?, value))
+    }
+
+    /// `new` with the value's default.
+    pub fn default(source: R::Source, readers: u64) -> Result<RwLock<R, T>, TableFull>
+    where
+        T: Default,
+        ensures { IfOk result (λ lock. R.limit lock ≡ kept_limit R.own_limit readers) }
+    {
+        RwLock::new(source, readers, T::default())
+    }
+}
+
+impl<R: RawRwLock, T> RwLock<R, T> {
+    /// Whether any hold was out at the moment of one look.
+    pub fn is_locked(&self) -> bool {
+        self.raw.is_locked()
+    }
+
+    /// Whether an exclusive hold was out at the moment of one look.
+    pub fn is_locked_exclusive(&self) -> bool {
+        self.raw.is_locked_exclusive()
+    }
+}
+
+impl<R: RawRwLock, T> RwLock<R, T>
+where
+    R::Runtime: Wait,
+{
+    /// Waits for a shared hold of the raw lock, and then for the std lock.
+    pub fn read(&self, party: &mut R::Party) -> RwLockReadGuard<'_, R, T>
+        ensures { result.held.0.place.now ≡ self.now }
+    {
+        Guard::under(RawHold::wait(self, party))
+    }
+
+    /// A shared guard at once, or None. It waits for nobody.
+    pub fn try_read(&self) -> Option<RwLockReadGuard<'_, R, T>>
+        ensures { IfSome result (λ guard. guard.held.0.place.now ≡ self.now) }
+    {
+        let inner = self.value.try_read()?;
+        Some(Guard::over(RawHold::at_once(self)?, inner))
+    }
+
+    /// Waits until no other hold of the raw lock is left, and then for the std lock.
+    pub fn write(&self, party: &mut R::Party) -> RwLockWriteGuard<'_, R, T>
+        ensures { result.held.0.place.now ≡ self.now }
+    {
+        Guard::under(RawHold::wait(self, party))
+    }
+
+    /// An exclusive guard at once, or None. It waits for nobody.
+    pub fn try_write(&self) -> Option<RwLockWriteGuard<'_, R, T>>
+        ensures { IfSome result (λ guard. guard.held.0.place.now ≡ self.now) }
+    {
+        let inner = self.value.try_write()?;
+        Some(Guard::over(RawHold::at_once(self)?, inner))
+    }
+}
