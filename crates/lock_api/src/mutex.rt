@@ -2,7 +2,7 @@
 ghost use Rattle.std.specs.Prelude.{◌≡◌, IfSome, IfOk};
 
 use lock_api_raw::{RawMutex, RawMutexFair, RawMutexTimed, TableFull};
-use lock_api_rw::{FairHold, Guard, Hold, Mapped, MutexHold};
+use lock_api_rw::{Access, FairHold, Guard, Hold, Mapped, MutexHold};
 use std::fmt::Debug;
 use std::rt::Clock;
 use std::sync::Wait;
@@ -115,6 +115,14 @@ where
         }
     }
 
+    /// Takes the std lock of the value, by its own try first.
+    pub(crate) fn inner(&self) -> sync::MutexGuard<'_, T> {
+        match self.value.try_lock() {
+            Some(guard) => guard,
+            None => self.value.lock(self.raw.runtime()),
+        }
+    }
+
     /// A guard at once, or None. It takes the std lock by its own try first and waits for nobody.
     pub fn try_lock(&self) -> Option<MutexGuard<'_, R, T>>
         ensures { IfSome result (λ guard. guard.held.0.lock.now ≡ self.now) }
@@ -162,8 +170,6 @@ impl<'l, R: RawMutex, T> Hold for LockedMutex<'l, R, T> {
 
     type Party = R::Party;
 
-    type Access = sync::MutexGuard<'l, T>;
-
     type Apart = &'l Mutex<R, T>;
 
     ghost lock_of = { λ hold. hold.lock.now };
@@ -172,16 +178,6 @@ impl<'l, R: RawMutex, T> Hold for LockedMutex<'l, R, T> {
 
     fn lock(&self) -> &Mutex<R, T> {
         self.lock
-    }
-
-    fn access(&self) -> sync::MutexGuard<'l, T>
-    where
-        R::Runtime: Wait,
-    {
-        match self.lock.value.try_lock() {
-            Some(guard) => guard,
-            None => self.lock.value.lock(self.lock.raw.runtime()),
-        }
     }
 
     fn release(self) -> &'l Mutex<R, T>
@@ -201,7 +197,18 @@ impl<'l, R: RawMutex, T> Hold for LockedMutex<'l, R, T> {
     }
 }
 
-impl<'l, R: RawMutex, T> MutexHold for LockedMutex<'l, R, T> {}
+impl<R: RawMutex, T> MutexHold for LockedMutex<'_, R, T> {}
+
+impl<'l, R: RawMutex, T> Access for LockedMutex<'l, R, T> {
+    type Inner = sync::MutexGuard<'l, T>;
+
+    fn access(&self) -> sync::MutexGuard<'l, T>
+    where
+        R::Runtime: Wait,
+    {
+        self.lock.inner()
+    }
+}
 
 impl<'l, R: RawMutexFair, T> FairHold for LockedMutex<'l, R, T> {
     fn release_fair(self) -> &'l Mutex<R, T>

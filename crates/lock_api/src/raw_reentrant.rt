@@ -27,7 +27,12 @@ impl<R: RawMutex> Fits for Kept<R> {
 ///
 /// The first hold of a party takes the raw mutex below, and each further one adds one to a count, up to a limit. The
 /// holds end in whatever order they like, and the last of them releases the raw mutex. Nothing here takes memory.
-pub struct RawReentrantMutex<R: RawMutex, G: GetThreadId<Party = R::Party>> {
+///
+/// Its drop gives a raw token back that is still here, so the type itself asks for a runtime that may wait.
+pub struct RawReentrantMutex<R: RawMutex + Drop, G: GetThreadId<Party = R::Party> + Drop>
+where
+    R::Runtime: Wait,
+{
     raw: R,
     get_thread_id: G,
     owner: AtomicUsize,
@@ -38,7 +43,19 @@ pub struct RawReentrantMutex<R: RawMutex, G: GetThreadId<Party = R::Party>> {
     ghost same: { R.number slot.value ≡ R.number raw },
 }
 
-impl<R: RawMutex, G: GetThreadId<Party = R::Party>> RawReentrantMutex<R, G> {
+impl<R: RawMutex + Drop, G: GetThreadId<Party = R::Party> + Drop> Drop for RawReentrantMutex<R, G>
+where
+    R::Runtime: Wait,
+{
+    fn drop(self) {
+        let (_raw, _get_thread_id) = self.into_raw();
+    }
+}
+
+impl<R: RawMutex + Drop, G: GetThreadId<Party = R::Party> + Drop> RawReentrantMutex<R, G>
+where
+    R::Runtime: Wait,
+{
     /// Makes an unlocked one. It keeps `readers` as its limit of nested holds, where 0 counts as 1.
     pub fn new(source: R::Source, readers: u64) -> Result<RawReentrantMutex<R, G>, TableFull>
         ensures { IfOk result (λ mutex. mutex.limit ≡ kept_limit (2 ^ 64 - 1) readers) }
@@ -63,6 +80,27 @@ impl<R: RawMutex, G: GetThreadId<Party = R::Party>> RawReentrantMutex<R, G> {
             number: 0,
             slot,
         }
+    }
+
+    /// The raw mutex, which is unlocked then, and what tells the parties apart.
+    pub(crate) fn into_raw(self) -> (R, G)
+        ensures raw { result.0 ≡ self.raw }
+        ensures helper { result.1 ≡ self.get_thread_id }
+    {
+        let RawReentrantMutex {
+            raw,
+            get_thread_id,
+            owner: _,
+            depth: _,
+            limit: _,
+            number: _,
+            slot,
+        } = self;
+        if let Some(kept) = slot.into_inner() {
+            let Kept { token } = kept;
+            raw.unlock(token);
+        }
+        (raw, get_thread_id)
     }
 
     /// The raw mutex below.
@@ -96,7 +134,7 @@ impl<R: RawMutex, G: GetThreadId<Party = R::Party>> RawReentrantMutex<R, G> {
     }
 }
 
-impl<R: RawMutex, G: GetThreadId<Party = R::Party>> RawReentrantMutex<R, G>
+impl<R: RawMutex + Drop, G: GetThreadId<Party = R::Party> + Drop> RawReentrantMutex<R, G>
 where
     R::Runtime: Wait,
 {
