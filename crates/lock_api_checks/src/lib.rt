@@ -7,14 +7,19 @@
 //! otherwise than it must be. Crates with raw locks of their own call the same checks on them.
 #![tactic(auto)]
 
+pub mod guard_checks;
+pub mod mutex_checks;
 mod packed_lock;
 mod packed_mutex;
+mod parts;
 mod party;
+pub mod reentrant_checks;
 mod turn;
 mod wrong;
 
 pub use packed_lock::PackedLock;
 pub use packed_mutex::PackedMutex;
+pub use parts::{First, Inside};
 pub use party::Parties;
 pub use wrong::{Wrong, expect};
 

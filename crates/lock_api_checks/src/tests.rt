@@ -1,4 +1,6 @@
-//! The raw locks of the tests.
+//! The raw locks of the tests, and the checks on them.
+mod mutexes;
+mod reentrant;
 
 use crate::{PackedLock, PackedMutex, Parties};
 use lock_api_raw::{GetThreadId, RawMutex, RawMutexTimed, RawRwLock, RawRwLockUpgrade};

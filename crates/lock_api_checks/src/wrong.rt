@@ -1,5 +1,6 @@
 //! What a check answers.
 
+use lock_api::ReentrantArcFault;
 use lock_api_raw::{NoMemory, ReadersFull, TableFull, WaitFault};
 use std::alloc::AllocError;
 use std::fmt;
@@ -52,6 +53,14 @@ impl From<AllocError> for Wrong {
     fn from(_error: AllocError) -> Wrong {
         Wrong {
             what: "no memory for the check itself",
+        }
+    }
+}
+
+impl From<ReentrantArcFault> for Wrong {
+    fn from(_fault: ReentrantArcFault) -> Wrong {
+        Wrong {
+            what: "ReentrantArcFault",
         }
     }
 }
