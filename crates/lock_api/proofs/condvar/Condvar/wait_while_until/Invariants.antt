@@ -1,0 +1,7 @@
+use Rattle.std.proofs.Common.{◌≡◌}
+use denote.Param.Always.{always_mut}
+use Rattle.std.specs.Iterator.Runs.{CallKeepsClosure}
+use Rattle.lock_api.proofs.condvar.Condvar.wait_while_until.Given as goal
+
+abbrev pub invariant-loop : goal.invariant-loop
+invariant-loop g l = always_mut g.F.FnMut l.condition × (CallKeepsClosure g.F.FnMut l.initial.condition → l.condition ≡ l.initial.condition)

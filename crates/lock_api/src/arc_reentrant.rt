@@ -1,0 +1,203 @@
+//! The Arc forms of a reentrant mutex.
+ghost use Rattle.std.specs.Prelude.{◌≡◌, IfSome, IfOk};
+ghost use Rattle.std.specs.Arc.{arc_value};
+ghost use Rattle.std.specs.Fn.{FnOnceReturnsAt};
+
+use crate::arc_fault::ReentrantArcFault;
+use crate::reentrant::ReentrantMutex;
+use lock_api_raw::{GetThreadId, GuardNoSend, RawMutex, RawMutexFair, RawMutexTimed};
+use lock_api_rw::{ArcGuard, ArcHold, FairHold, HasValue, Hold, ReentrantHold, lent};
+use std::alloc::Allocator;
+use std::rt::Clock;
+use std::sync::{Arc, Wait};
+
+/// One nested hold that owns an Arc of its mutex: the Arc, and the token of the hold.
+pub struct OwnedReentrant<
+    R: RawMutex + Drop,
+    G: GetThreadId<Party = R::Party> + Drop,
+    T,
+    A: Allocator,
+>
+where
+    R::Runtime: Wait,
+{
+    lock: Arc<ReentrantMutex<R, G, T>, A>,
+    token: GuardNoSend,
+    ghost ours: { token ≡ (arc_value lock).raw.number },
+}
+
+/// The guard of one nested hold that owns an Arc of its mutex.
+///
+/// It keeps the token alone, and takes the std lock of the value inside `with`. Its drop takes one from the count, and
+/// then lets the Arc go.
+pub type ArcReentrantMutexGuard<R, G, T, A> = ArcGuard<OwnedReentrant<R, G, T, A>>;
+
+impl<R: RawMutex + Drop, G: GetThreadId<Party = R::Party> + Drop, T: Drop> ReentrantMutex<R, G, T>
+where
+    R::Runtime: Wait,
+{
+    /// Clones the Arc, and then locks. A refused clone takes no lock, and a full count changes nothing.
+    pub fn lock_arc<A: Allocator>(
+        this: &Arc<ReentrantMutex<R, G, T>, A>,
+        party: &mut R::Party,
+    ) -> Result<ArcReentrantMutexGuard<R, G, T, A>, ReentrantArcFault>
+        ensures { IfOk result (λ guard. arc_value guard.hold.lock ≡ arc_value this.now) }
+    {
+        let lock = Arc::try_clone(this)?;
+        let token = lock.raw.lock(party)?;
+        Ok(ArcGuard {
+            hold: OwnedReentrant { lock, token },
+        })
+    }
+
+    /// Clones the Arc, and then tries. A refused clone takes no lock, and a full count changes nothing.
+    pub fn try_lock_arc<A: Allocator>(
+        this: &Arc<ReentrantMutex<R, G, T>, A>,
+        party: &R::Party,
+    ) -> Result<Option<ArcReentrantMutexGuard<R, G, T, A>>, ReentrantArcFault>
+        ensures { IfOk result (λ some. IfSome some (λ guard. arc_value guard.hold.lock ≡ arc_value this.now)) }
+    {
+        let lock = Arc::try_clone(this)?;
+        match lock.raw.try_lock(party)? {
+            Some(token) => Ok(Some(ArcGuard {
+                hold: OwnedReentrant { lock, token },
+            })),
+            None => Ok(None),
+        }
+    }
+
+    /// Clones the Arc, and then waits as `try_lock_for` does.
+    pub fn try_lock_arc_for<A: Allocator, C: Clock>(
+        this: &Arc<ReentrantMutex<R, G, T>, A>,
+        timeout: R::Duration,
+        clock: &C,
+        party: &mut R::Party,
+    ) -> Result<Option<ArcReentrantMutexGuard<R, G, T, A>>, ReentrantArcFault>
+    where
+        R: RawMutexTimed,
+        R::Duration: Drop,
+        ensures { IfOk result (λ some. IfSome some (λ guard. arc_value guard.hold.lock ≡ arc_value this.now)) }
+    {
+        let lock = Arc::try_clone(this)?;
+        match lock.raw.try_lock_for(timeout, clock, party)? {
+            Some(token) => Ok(Some(ArcGuard {
+                hold: OwnedReentrant { lock, token },
+            })),
+            None => Ok(None),
+        }
+    }
+
+    /// Clones the Arc, and then waits as `try_lock_until` does.
+    pub fn try_lock_arc_until<A: Allocator, C: Clock>(
+        this: &Arc<ReentrantMutex<R, G, T>, A>,
+        deadline: R::Instant,
+        clock: &C,
+        party: &mut R::Party,
+    ) -> Result<Option<ArcReentrantMutexGuard<R, G, T, A>>, ReentrantArcFault>
+    where
+        R: RawMutexTimed,
+        R::Instant: Drop,
+        ensures { IfOk result (λ some. IfSome some (λ guard. arc_value guard.hold.lock ≡ arc_value this.now)) }
+    {
+        let lock = Arc::try_clone(this)?;
+        match lock.raw.try_lock_until(deadline, clock, party)? {
+            Some(token) => Ok(Some(ArcGuard {
+                hold: OwnedReentrant { lock, token },
+            })),
+            None => Ok(None),
+        }
+    }
+}
+
+impl<R: RawMutex + Drop, G: GetThreadId<Party = R::Party> + Drop, T: Drop, A: Allocator> Hold
+    for OwnedReentrant<R, G, T, A>
+where
+    R::Runtime: Wait,
+{
+    type Lock = ReentrantMutex<R, G, T>;
+
+    type Runtime = R::Runtime;
+
+    type Party = R::Party;
+
+    type Apart = Arc<ReentrantMutex<R, G, T>, A>;
+
+    ghost lock_of = { λ hold. arc_value hold.lock };
+
+    ghost apart_of = { λ lock. arc_value lock };
+
+    fn lock(&self) -> &ReentrantMutex<R, G, T> {
+        &*self.lock
+    }
+
+    fn release(self) -> Arc<ReentrantMutex<R, G, T>, A> {
+        let OwnedReentrant { lock, token } = self;
+        lock.raw.unlock(token);
+        lock
+    }
+
+    fn again(
+        lock: Arc<ReentrantMutex<R, G, T>, A>,
+        party: &mut R::Party,
+    ) -> OwnedReentrant<R, G, T, A> {
+        let token = lock.hold_again(party);
+        OwnedReentrant { lock, token }
+    }
+}
+
+impl<R: RawMutex + Drop, G: GetThreadId<Party = R::Party> + Drop, T: Drop, A: Allocator> ArcHold
+    for OwnedReentrant<R, G, T, A>
+where
+    R::Runtime: Wait,
+{
+    fn arc(&self) -> &Arc<ReentrantMutex<R, G, T>, A> {
+        &self.lock
+    }
+}
+
+impl<
+    R: RawMutex + Drop,
+    G: GetThreadId<Party = R::Party> + Drop,
+    T: Drop,
+    A: Allocator,
+> ReentrantHold for OwnedReentrant<R, G, T, A>
+where
+    R::Runtime: Wait,
+{}
+
+impl<
+    R: RawMutexFair + Drop,
+    G: GetThreadId<Party = R::Party> + Drop,
+    T: Drop,
+    A: Allocator,
+> FairHold for OwnedReentrant<R, G, T, A>
+where
+    R::Runtime: Wait,
+{
+    fn release_fair(self) -> Arc<ReentrantMutex<R, G, T>, A> {
+        let OwnedReentrant { lock, token } = self;
+        lock.raw.unlock_fair(token);
+        lock
+    }
+
+    fn bump(self, party: &mut R::Party) -> OwnedReentrant<R, G, T, A> {
+        let OwnedReentrant { lock, token } = self;
+        let token = lock.raw.bump(token, party);
+        OwnedReentrant { lock, token }
+    }
+}
+
+impl<R: RawMutex + Drop, G: GetThreadId<Party = R::Party> + Drop, T> HasValue
+    for ReentrantMutex<R, G, T>
+where
+    R::Runtime: Wait,
+{
+    type Value = T;
+
+    type Waiting = R::Runtime;
+
+    fn with_value<F: FnOnce(&T) -> U, U>(&self, f: F) -> U {
+        let inner = self.inner();
+        lent(f, &*inner)
+    }
+}

@@ -1,0 +1,260 @@
+//! The condition variable.
+ghost use Rattle.std.specs.Prelude.{◌≡◌, IfOk, OnOk};
+ghost use Rattle.std.specs.Sync.Mutex.{mutex_guard_value};
+ghost use Rattle.std.specs.Sync.Condvar.{StoppedAt, AnsweredAt};
+ghost use Rattle.std.specs.Iterator.Runs.{CallKeepsClosure};
+ghost use Rattle.lock_api_raw.specs.Waits.{IsRefusedRightly};
+
+use crate::mutex::{LockedMutex, Mutex, MutexGuard};
+use crate::timed_out::WaitTimeoutResult;
+use core::mem;
+use lock_api_raw::{RawCondvar, RawCondvarTimed, RawMutex, RawMutexTimed, TableFull, WaitFault};
+use lock_api_rw::{Access, Guard};
+use std::fmt;
+use std::fmt::Debug;
+use std::rt::Clock;
+use std::sync::Wait;
+
+/// A condition variable that works with guards of one kind of mutex.
+///
+/// It wakes also without a notification, so use the `while` forms. A wait is refused before anything is done, and the
+/// guard is locked again whatever the answer is. Nothing here takes memory.
+///
+/// ```text
+/// condvar.wait_while(&mut guard, &mut party, |ready| !*ready)?;
+/// ```
+#[derive(Drop)]
+pub struct Condvar<C> {
+    raw: C,
+}
+
+/// The mutex of a guard, for as long as it lives.
+fn mutex_of<'l, R: RawMutex, T>(guard: &MutexGuard<'l, R, T>) -> &'l Mutex<R, T>
+where
+    R::Runtime: Wait,
+    ensures { result.now ≡ guard.now.held.0.lock.now }
+{
+    guard.held.hold().lock
+}
+
+/// Gives the value back, lets `f` give up the raw hold and take it again, and takes the value's std lock again.
+fn apart<W: Drop, H: Access<Inner = W>, X, U, F: FnOnce(H, X) -> (H, U)>(
+    guard: &mut Guard<W, H>,
+    x: X,
+    f: F,
+) -> U
+where
+    H::Runtime: Wait,
+    requires { F.IsAlwaysCallable f }
+    ensures { F.post f guard.old.held.0 x (guard.new.held.0, result) }
+{
+    mem::replace_with(
+        guard,
+        (x, f),
+        |guard, (x, f)|
+            requires { F.IsAlwaysCallable f }
+        {
+            let (hold, answer) = f(Guard::into_hold(guard), x);
+            (Guard::under(hold), answer)
+        },
+    )
+}
+
+impl<C: RawCondvar> Condvar<C>
+where
+    <C::RawMutex as RawMutex>::Runtime: Wait,
+{
+    /// One on which nobody waits.
+    pub fn new(source: C::Source) -> Result<Condvar<C>, TableFull> {
+        Ok(Condvar {
+            raw: C::new(source)?,
+        })
+    }
+
+    /// The same as `new`.
+    pub fn default(source: C::Source) -> Result<Condvar<C>, TableFull> {
+        Condvar::new(source)
+    }
+
+    /// Gives the value's std lock back, waits until it is notified, and takes both locks again.
+    ///
+    /// `WrongMutex` is answered where other threads wait with another mutex, and then `WrongLot` where the mutex is of
+    /// another lot.
+    pub fn wait<'l, T>(
+        &self,
+        guard: &mut MutexGuard<'l, C::RawMutex, T>,
+        party: &mut <C::RawMutex as RawMutex>::Party,
+    ) -> Result<(), WaitFault>
+        ensures lock { guard.new.held.0.lock ≡ guard.old.held.0.lock }
+        ensures refused { IsRefusedRightly (C.same_lot self.now.raw guard.old.held.0.lock.now.raw) guard.old.held.0.token guard.new.held.0.token result }
+    {
+        apart(guard, (), |hold, ()| {
+            let LockedMutex { lock, token } = hold;
+            let (token, answer) = self.raw.wait(&lock.raw, token, party);
+            (LockedMutex { lock, token }, answer)
+        })
+    }
+
+    /// Asks the condition of the value, and waits as long as it answers true. Where it returns Ok, the condition's last
+    /// answer was false and the value is as that call left it. The condition is called under the lock.
+    pub fn wait_while<'l, T, F: FnMut(&mut T) -> bool>(
+        &self,
+        guard: &mut MutexGuard<'l, C::RawMutex, T>,
+        party: &mut <C::RawMutex as RawMutex>::Party,
+        mut condition: F,
+    ) -> Result<(), WaitFault>
+        requires { F.IsAlwaysCallable condition }
+        ensures { OnOk result (StoppedAt F.step (CallKeepsClosure F.FnMut condition) condition (mutex_guard_value guard.new.inner)) }
+    {
+        for _ in mutex_of(guard).raw.runtime().forever() {
+            if !condition(&mut **guard) {
+                return Ok(());
+            }
+            self.wait(guard, party)?;
+        }
+        unreachable!()
+    }
+
+    /// Takes the first waiter, and answers whether one was taken.
+    pub fn notify_one(&self) -> bool {
+        self.raw.notify_one()
+    }
+
+    /// Takes all waiters, and answers how many there were.
+    pub fn notify_all(&self) -> usize {
+        self.raw.notify_all()
+    }
+}
+
+impl<C: RawCondvarTimed> Condvar<C>
+where
+    C::RawMutex: RawMutexTimed,
+    <C::RawMutex as RawMutex>::Runtime: Wait,
+{
+    /// As `wait`, until the moment at the latest, and tells whether the time ran out.
+    pub fn wait_until<'l, T, K: Clock>(
+        &self,
+        guard: &mut MutexGuard<'l, C::RawMutex, T>,
+        deadline: <C::RawMutex as RawMutexTimed>::Instant,
+        clock: &K,
+        party: &mut <C::RawMutex as RawMutex>::Party,
+    ) -> Result<WaitTimeoutResult, WaitFault>
+        ensures lock { guard.new.held.0.lock ≡ guard.old.held.0.lock }
+        ensures refused { IsRefusedRightly (C.same_lot self.now.raw guard.old.held.0.lock.now.raw) guard.old.held.0.token guard.new.held.0.token result }
+    {
+        match self.ran_out_until(guard, deadline, clock, party) {
+            Ok(ran_out) => Ok(WaitTimeoutResult(ran_out)),
+            Err(fault) => Err(fault),
+        }
+    }
+
+    /// As `wait_until`, with the bare answer of the raw variable.
+    fn ran_out_until<'l, T, K: Clock>(
+        &self,
+        guard: &mut MutexGuard<'l, C::RawMutex, T>,
+        deadline: <C::RawMutex as RawMutexTimed>::Instant,
+        clock: &K,
+        party: &mut <C::RawMutex as RawMutex>::Party,
+    ) -> Result<bool, WaitFault>
+        ensures lock { guard.new.held.0.lock ≡ guard.old.held.0.lock }
+        ensures refused { IsRefusedRightly (C.same_lot self.now.raw guard.old.held.0.lock.now.raw) guard.old.held.0.token guard.new.held.0.token result }
+    {
+        apart(guard, deadline, |hold, deadline| {
+            let LockedMutex { lock, token } = hold;
+            let (token, answer) = self
+                .raw
+                .wait_until(&lock.raw, token, deadline, clock, party);
+            (LockedMutex { lock, token }, answer)
+        })
+    }
+
+    /// As `wait_until`, with the moment that lies `timeout` ahead. Where that can't be said there is no limit.
+    pub fn wait_for<'l, T, K: Clock>(
+        &self,
+        guard: &mut MutexGuard<'l, C::RawMutex, T>,
+        timeout: <C::RawMutex as RawMutexTimed>::Duration,
+        clock: &K,
+        party: &mut <C::RawMutex as RawMutex>::Party,
+    ) -> Result<WaitTimeoutResult, WaitFault>
+        ensures lock { guard.new.held.0.lock ≡ guard.old.held.0.lock }
+        ensures refused { IsRefusedRightly (C.same_lot self.now.raw guard.old.held.0.lock.now.raw) guard.old.held.0.token guard.new.held.0.token result }
+    {
+        match self.ran_out_for(guard, timeout, clock, party) {
+            Ok(ran_out) => Ok(WaitTimeoutResult(ran_out)),
+            Err(fault) => Err(fault),
+        }
+    }
+
+    /// As `wait_for`, with the bare answer of the raw variable.
+    fn ran_out_for<'l, T, K: Clock>(
+        &self,
+        guard: &mut MutexGuard<'l, C::RawMutex, T>,
+        timeout: <C::RawMutex as RawMutexTimed>::Duration,
+        clock: &K,
+        party: &mut <C::RawMutex as RawMutex>::Party,
+    ) -> Result<bool, WaitFault>
+        ensures lock { guard.new.held.0.lock ≡ guard.old.held.0.lock }
+        ensures refused { IsRefusedRightly (C.same_lot self.now.raw guard.old.held.0.lock.now.raw) guard.old.held.0.token guard.new.held.0.token result }
+    {
+        apart(guard, timeout, |hold, timeout| {
+            let LockedMutex { lock, token } = hold;
+            let (token, answer) = self.raw.wait_for(&lock.raw, token, timeout, clock, party);
+            (LockedMutex { lock, token }, answer)
+        })
+    }
+
+    /// As `wait_while`, until the moment at the latest. It timed out exactly if the condition's last answer, asked after
+    /// the time ran out, was true.
+    pub fn wait_while_until<'l, T, K: Clock, F: FnMut(&mut T) -> bool>(
+        &self,
+        guard: &mut MutexGuard<'l, C::RawMutex, T>,
+        deadline: <C::RawMutex as RawMutexTimed>::Instant,
+        clock: &K,
+        party: &mut <C::RawMutex as RawMutex>::Party,
+        mut condition: F,
+    ) -> Result<WaitTimeoutResult, WaitFault>
+    where
+        <C::RawMutex as RawMutexTimed>::Instant: Copy,
+        requires { F.IsAlwaysCallable condition }
+        ensures { IfOk result (λ answer. AnsweredAt F.step (CallKeepsClosure F.FnMut condition) condition answer.0 (mutex_guard_value guard.new.inner)) }
+    {
+        let mut ran_out = false;
+        for _ in mutex_of(guard).raw.runtime().forever() {
+            let waits = condition(&mut **guard);
+            if ran_out || !waits {
+                return Ok(WaitTimeoutResult(waits));
+            }
+            ran_out = self.wait_until(guard, deadline, clock, party)?.timed_out();
+        }
+        unreachable!()
+    }
+
+    /// As `wait_while_until`, with the moment that lies `timeout` ahead. Where that can't be said there is no limit.
+    pub fn wait_while_for<'l, T, K: Clock, F: FnMut(&mut T) -> bool>(
+        &self,
+        guard: &mut MutexGuard<'l, C::RawMutex, T>,
+        timeout: <C::RawMutex as RawMutexTimed>::Duration,
+        clock: &K,
+        party: &mut <C::RawMutex as RawMutex>::Party,
+        condition: F,
+    ) -> Result<WaitTimeoutResult, WaitFault>
+    where
+        <C::RawMutex as RawMutexTimed>::Instant: Copy,
+        requires { F.IsAlwaysCallable condition }
+        ensures { IfOk result (λ answer. AnsweredAt F.step (CallKeepsClosure F.FnMut condition) condition answer.0 (mutex_guard_value guard.new.inner)) }
+    {
+        match C::checked_duration_to_instant(clock, timeout) {
+            Some(deadline) => self.wait_while_until(guard, deadline, clock, party, condition),
+            None => match self.wait_while(guard, party, condition) {
+                Ok(()) => Ok(WaitTimeoutResult(false)),
+                Err(fault) => Err(fault),
+            },
+        }
+    }
+}
+
+impl<C> Debug for Condvar<C> {
+    fn fmt<W: fmt::Write>(&self, f: &mut fmt::Formatter<W>) -> fmt::Result {
+        f.write_str("Condvar { .. }")
+    }
+}

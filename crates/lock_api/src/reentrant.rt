@@ -1,0 +1,311 @@
+//! The reentrant mutex, and the hold that its guards keep.
+ghost use Rattle.std.specs.Prelude.{◌≡◌, ◌-◌, ◌^◌, IfSome, IfOk};
+ghost use Rattle.lock_api_raw.specs.Limits.{kept_limit};
+
+use crate::raw_reentrant::RawReentrantMutex;
+use lock_api_raw::{
+    GetThreadId, GuardNoSend, RawMutex, RawMutexFair, RawMutexTimed, ReadersFull, TableFull,
+};
+use lock_api_rw::{Access, FairHold, Guard, Hold, Mapped, ReentrantHold};
+use std::fmt::Debug;
+use std::rt::Clock;
+use std::sync::Wait;
+use std::{fmt, sync, thread};
+
+/// A mutex that its owner may take again, and a value that its guards read.
+///
+/// The value lies in a std lock that each guard shares. Only the Arc forms may be refused for memory.
+#[derive(Drop)]
+pub struct ReentrantMutex<R: RawMutex + Drop, G: GetThreadId<Party = R::Party> + Drop, T>
+where
+    R::Runtime: Wait,
+{
+    pub(crate) raw: RawReentrantMutex<R, G>,
+    pub(crate) value: sync::RwLock<T>,
+}
+
+/// One nested hold of a reentrant mutex: the mutex, and the token of the hold.
+pub struct LockedReentrant<'l, R: RawMutex + Drop, G: GetThreadId<Party = R::Party> + Drop, T>
+where
+    R::Runtime: Wait,
+{
+    pub(crate) lock: &'l ReentrantMutex<R, G, T>,
+    pub(crate) token: GuardNoSend,
+    pub(crate) ghost ours: { token ≡ lock.now.raw.number },
+}
+
+/// The guard of one nested hold, which lends the value to be read.
+///
+/// Its drop gives the std lock back, and then takes one from the count.
+pub type ReentrantMutexGuard<'l, R, G, T> = Guard<
+    sync::RwLockReadGuard<'l, T>,
+    LockedReentrant<'l, R, G, T>,
+>;
+
+/// A reentrant guard that is narrowed to a part of the value.
+pub type MappedReentrantMutexGuard<'l, R, G, T, P> = Mapped<ReentrantMutexGuard<'l, R, G, T>, P>;
+
+impl<R: RawMutex + Drop, G: GetThreadId<Party = R::Party> + Drop, T> ReentrantMutex<R, G, T>
+where
+    R::Runtime: Wait,
+{
+    /// Makes an unlocked one, which keeps `readers` as its limit of nested holds, where 0 counts as 1. A refusal drops
+    /// the value.
+    pub fn new(
+        source: R::Source,
+        readers: u64,
+        value: T,
+    ) -> Result<ReentrantMutex<R, G, T>, TableFull>
+    where
+        T: Drop,
+        ensures { IfOk result (λ mutex. mutex.raw.limit ≡ kept_limit (2 ^ 64 - 1) readers) }
+    {
+        let raw = RawReentrantMutex::new(source, readers)?;
+        Ok(ReentrantMutex {
+            raw,
+            value: sync::RwLock::new(value),
+        })
+    }
+
+    /// As `new`, with the value's default.
+    pub fn default(source: R::Source, readers: u64) -> Result<ReentrantMutex<R, G, T>, TableFull>
+    where
+        T: Default + Drop,
+        ensures { IfOk result (λ mutex. mutex.raw.limit ≡ kept_limit (2 ^ 64 - 1) readers) }
+    {
+        ReentrantMutex::new(source, readers, T::default())
+    }
+
+    /// Puts a value behind a raw mutex that exists and isn't held.
+    pub fn from_raw(raw: R, readers: u64, get_thread_id: G, value: T) -> ReentrantMutex<R, G, T>
+        ensures limit { result.raw.limit ≡ kept_limit (2 ^ 64 - 1) readers }
+        ensures raw { result.raw.raw ≡ raw }
+        ensures helper { result.raw.get_thread_id ≡ get_thread_id }
+    {
+        ReentrantMutex {
+            raw: RawReentrantMutex::over(raw, readers, get_thread_id),
+            value: sync::RwLock::new(value),
+        }
+    }
+
+    /// The value.
+    pub fn into_inner(self) -> T {
+        let ReentrantMutex { raw, value } = self;
+        drop(raw);
+        value.into_inner()
+    }
+
+    /// The raw mutex, what tells the parties apart, and the value.
+    pub fn into_inner_with_raw(self) -> (R, G, T)
+        ensures raw { result.0 ≡ self.raw.raw }
+        ensures helper { result.1 ≡ self.raw.get_thread_id }
+    {
+        let ReentrantMutex { raw, value } = self;
+        let (raw, get_thread_id) = raw.into_raw();
+        (raw, get_thread_id, value.into_inner())
+    }
+
+    /// Lends the value. The exclusive borrow shows that nobody holds the mutex.
+    pub fn get_mut(&mut self) -> &mut T {
+        self.value.get_mut()
+    }
+
+    /// Whether a hold was out at the moment of one look at the raw mutex.
+    pub fn is_locked(&self) -> bool {
+        self.raw.is_locked()
+    }
+
+    /// Whether the party holds it.
+    pub fn is_owned_by_current_thread(&self, party: &R::Party) -> bool {
+        self.raw.is_owned_by_current_thread(party)
+    }
+
+    /// Waits for the raw mutex, unless the party is the owner already. A full count refuses, with nothing changed.
+    pub fn lock(
+        &self,
+        party: &mut R::Party,
+    ) -> Result<ReentrantMutexGuard<'_, R, G, T>, ReadersFull>
+        ensures { IfOk result (λ guard. guard.held.0.lock.now ≡ self.now) }
+    {
+        let token = self.raw.lock(party)?;
+        Ok(self.guard(token))
+    }
+
+    /// The guard of a hold.
+    fn guard(&self, token: GuardNoSend) -> ReentrantMutexGuard<'_, R, G, T>
+        requires { token ≡ self.now.raw.number }
+        ensures { result.held.0.lock.now ≡ self.now }
+    {
+        Guard::under(LockedReentrant { lock: self, token })
+    }
+
+    /// Takes the std lock of the value, by its own try first.
+    pub(crate) fn inner(&self) -> sync::RwLockReadGuard<'_, T> {
+        match self.value.try_read() {
+            Some(guard) => guard,
+            None => self.value.read(self.raw.raw().runtime()),
+        }
+    }
+
+    /// A guard at once, or `Ok(None)` where another party holds it. It takes the std lock by its own try first and
+    /// waits for nobody. A full count refuses, with nothing changed.
+    pub fn try_lock(
+        &self,
+        party: &R::Party,
+    ) -> Result<Option<ReentrantMutexGuard<'_, R, G, T>>, ReadersFull>
+        ensures { IfOk result (λ some. IfSome some (λ guard. guard.held.0.lock.now ≡ self.now)) }
+    {
+        let Some(inner) = self.value.try_read() else {
+            return Ok(None);
+        };
+        match self.raw.try_lock(party)? {
+            Some(token) => Ok(Some(Guard::over(LockedReentrant { lock: self, token }, inner))),
+            None => Ok(None),
+        }
+    }
+
+    /// As `lock`, but `Ok(None)` if the wait for the raw mutex is given up after the length of time.
+    pub fn try_lock_for<C: Clock>(
+        &self,
+        timeout: R::Duration,
+        clock: &C,
+        party: &mut R::Party,
+    ) -> Result<Option<ReentrantMutexGuard<'_, R, G, T>>, ReadersFull>
+    where
+        R: RawMutexTimed,
+        R::Duration: Drop,
+        ensures { IfOk result (λ some. IfSome some (λ guard. guard.held.0.lock.now ≡ self.now)) }
+    {
+        match self.raw.try_lock_for(timeout, clock, party)? {
+            Some(token) => Ok(Some(self.guard(token))),
+            None => Ok(None),
+        }
+    }
+
+    /// As `lock`, but `Ok(None)` if the wait for the raw mutex is given up at the moment.
+    pub fn try_lock_until<C: Clock>(
+        &self,
+        deadline: R::Instant,
+        clock: &C,
+        party: &mut R::Party,
+    ) -> Result<Option<ReentrantMutexGuard<'_, R, G, T>>, ReadersFull>
+    where
+        R: RawMutexTimed,
+        R::Instant: Drop,
+        ensures { IfOk result (λ some. IfSome some (λ guard. guard.held.0.lock.now ≡ self.now)) }
+    {
+        match self.raw.try_lock_until(deadline, clock, party)? {
+            Some(token) => Ok(Some(self.guard(token))),
+            None => Ok(None),
+        }
+    }
+
+    /// Waits for a hold. At a full count it yields and tries again until there is room.
+    pub(crate) fn hold_again(&self, party: &mut R::Party) -> GuardNoSend
+        ensures { result ≡ self.now.raw.number }
+    {
+        for _ in self.raw.raw().runtime().forever() {
+            match self.raw.lock(party) {
+                Ok(token) => return token,
+                Err(ReadersFull) => thread::yield_now(),
+            }
+        }
+        unreachable!()
+    }
+}
+
+impl<'l, R: RawMutex + Drop, G: GetThreadId<Party = R::Party> + Drop, T> Hold
+    for LockedReentrant<'l, R, G, T>
+where
+    R::Runtime: Wait,
+{
+    type Lock = ReentrantMutex<R, G, T>;
+
+    type Runtime = R::Runtime;
+
+    type Party = R::Party;
+
+    type Apart = &'l ReentrantMutex<R, G, T>;
+
+    ghost lock_of = { λ hold. hold.lock.now };
+
+    ghost apart_of = { λ lock. lock.now };
+
+    fn lock(&self) -> &ReentrantMutex<R, G, T> {
+        self.lock
+    }
+
+    fn release(self) -> &'l ReentrantMutex<R, G, T> {
+        let LockedReentrant { lock, token } = self;
+        lock.raw.unlock(token);
+        lock
+    }
+
+    fn again(
+        lock: &'l ReentrantMutex<R, G, T>,
+        party: &mut R::Party,
+    ) -> LockedReentrant<'l, R, G, T> {
+        let token = lock.hold_again(party);
+        LockedReentrant { lock, token }
+    }
+}
+
+impl<R: RawMutex + Drop, G: GetThreadId<Party = R::Party> + Drop, T> ReentrantHold
+    for LockedReentrant<'_, R, G, T>
+where
+    R::Runtime: Wait,
+{}
+
+impl<'l, R: RawMutex + Drop, G: GetThreadId<Party = R::Party> + Drop, T> Access
+    for LockedReentrant<'l, R, G, T>
+where
+    R::Runtime: Wait,
+{
+    type Inner = sync::RwLockReadGuard<'l, T>;
+
+    fn access(&self) -> sync::RwLockReadGuard<'l, T> {
+        self.lock.inner()
+    }
+}
+
+impl<'l, R: RawMutexFair + Drop, G: GetThreadId<Party = R::Party> + Drop, T> FairHold
+    for LockedReentrant<'l, R, G, T>
+where
+    R::Runtime: Wait,
+{
+    fn release_fair(self) -> &'l ReentrantMutex<R, G, T> {
+        let LockedReentrant { lock, token } = self;
+        lock.raw.unlock_fair(token);
+        lock
+    }
+
+    fn bump(self, party: &mut R::Party) -> LockedReentrant<'l, R, G, T> {
+        let LockedReentrant { lock, token } = self;
+        let token = lock.raw.bump(token, party);
+        LockedReentrant { lock, token }
+    }
+}
+
+impl<R: RawMutex + Drop, G: GetThreadId<Party = R::Party> + Drop, T: Debug> Debug
+    for ReentrantMutex<R, G, T>
+where
+    R::Runtime: Wait,
+{
+    fn fmt<W: fmt::Write>(&self, f: &mut fmt::Formatter<W>) -> fmt::Result {
+        let shown = if self.raw.is_locked() {
+            None
+        } else {
+            self.value.try_read()
+        };
+        match shown {
+            Some(value) => f
+                .debug_struct("ReentrantMutex")
+                .field("data", &*value)
+                .finish(),
+            None => f
+                .debug_struct("ReentrantMutex")
+                .field("data", &format_args!("<locked>"))
+                .finish(),
+        }
+    }
+}

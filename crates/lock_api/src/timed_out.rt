@@ -1,0 +1,22 @@
+//! How a timed wait ended.
+ghost use Rattle.std.specs.Prelude.{◌≡◌};
+
+/// Whether a timed wait ran out.
+#[derive(Clone, Copy, PartialEq, Eq, Debug)]
+pub struct WaitTimeoutResult(pub(crate) bool);
+
+impl WaitTimeoutResult {
+    /// For the layer that waits.
+    pub fn new(timed_out: bool) -> WaitTimeoutResult
+        ensures { result.0 ≡ timed_out }
+    {
+        WaitTimeoutResult(timed_out)
+    }
+
+    /// Whether the time ran out.
+    pub fn timed_out(self) -> bool
+        ensures { result ≡ self.0 }
+    {
+        self.0
+    }
+}

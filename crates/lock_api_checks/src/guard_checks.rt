@@ -1,0 +1,97 @@
+//! Checks of guards, whatever lock they are of. An error is the number of the step that went wrong.
+
+use crate::parts::{First, Inside};
+use lock_api::{Guard, Mapped};
+use lock_api_raw::Then;
+use lock_api_rw::{FairHold, Hold, Lender, LenderMut};
+use std::alloc::{AllocError, Allocator};
+use std::fmt::{Debug, Display};
+use std::sync::Wait;
+
+/// Goes on where `holds` is true, and else says at which step it was not.
+fn step(number: u8, holds: bool) -> Result<(), u8> {
+    if holds { Ok(()) } else { Err(number) }
+}
+
+/// The value of the locks whose guards are narrowed.
+pub type Pair = (Option<u64>, u64);
+
+/// Narrows a guard of (Some(1), 2) to its first field and then to the inside, and writes by both: (Some(7), 2).
+pub fn narrows_step_by_step<W: LenderMut<Part = Pair> + Drop, H: FairHold>(
+    guard: Guard<W, H>,
+) -> Result<(), u8>
+where
+    H::Runtime: Wait,
+{
+    let mut first = Guard::map(guard, First);
+    step(1, *first == Some(1))?;
+    *first = Some(9);
+    match Mapped::try_map(first, Inside) {
+        Ok(mut inside) => {
+            step(2, *inside == 9)?;
+            *inside = 7;
+            Mapped::unlock_fair(inside);
+            Ok(())
+        }
+        Err(_) => step(3, false),
+    }
+}
+
+/// Narrows a guard of (Some(7), 2) by the composition, and writes: (Some(6), 2).
+pub fn narrows_at_once<W: LenderMut<Part = Pair> + Drop, H: Hold>(
+    guard: Guard<W, H>,
+) -> Result<(), u8>
+where
+    H::Runtime: Wait,
+{
+    match Guard::try_map(guard, Then::new(First, Inside)) {
+        Ok(mut part) => {
+            step(4, *part == 7)?;
+            *part = 6;
+            Ok(())
+        }
+        Err(_) => step(5, false),
+    }
+}
+
+/// A guard of (None, 2) comes back, with the error, where its part is missing.
+pub fn keeps_what_has_no_part<W: LenderMut<Part = Pair> + Drop, H: Hold>(
+    guard: Guard<W, H>,
+) -> Result<(), u8>
+where
+    H::Runtime: Wait,
+{
+    let guard = match Guard::try_map(guard, Then::new(First, Inside)) {
+        Ok(_) => return step(6, false),
+        Err(guard) => guard,
+    };
+    let first = match Guard::try_map_or_err(guard, Then::new(First, Inside), 'e') {
+        Ok(_) => return step(7, false),
+        Err((guard, error)) => {
+            step(8, error == 'e')?;
+            step(9, *guard == (None, 2))?;
+            Guard::map(guard, First)
+        }
+    };
+    match Mapped::try_map_or_err(first, Inside, 'f') {
+        Ok(_) => step(10, false),
+        Err((first, error)) => {
+            step(11, error == 'f')?;
+            step(12, *first == None)
+        }
+    }
+}
+
+/// A guard prints its value by Debug and by Display, with a space between.
+pub fn prints_its_value<W: Lender + Drop, H: Hold, A: Allocator>(
+    alloc: A,
+    guard: &Guard<W, H>,
+    both: &str,
+) -> Result<bool, AllocError>
+where
+    W::Part: Debug + Display,
+    H::Runtime: Wait,
+{
+    let text = format!(in alloc; "{guard:?} {guard}")?;
+    Ok(text.as_str() == both)
+}

@@ -1,0 +1,45 @@
+//! The checks of the reentrant mutex, on the raw mutex of the tests.
+
+use crate::{PackedMutex, Parties, reentrant_checks};
+use lock_api::ReentrantArcFault;
+use std::test::Fail;
+
+type Raw = PackedMutex<HostRuntime>;
+
+#[test]
+fn holds_nest(rt: HostRuntime) -> Result<(), Fail> {
+    reentrant_checks::nests::<Raw, Parties, _>(rt.alloc(), rt, &mut 1, &mut 2)?;
+    Ok(())
+}
+
+#[test]
+fn a_reentrant_guard_unlocks_for_a_while(rt: HostRuntime) -> Result<(), Fail> {
+    reentrant_checks::unlocks_for_a_while::<Raw, Parties, _>(rt.alloc(), rt, &mut 1)?;
+    Ok(())
+}
+
+#[test]
+fn a_timed_hold_gives_up(rt: HostRuntime) -> Result<(), Fail> {
+    reentrant_checks::gives_up_in_time::<Raw, Parties, _, _>(rt.alloc(), rt, &rt, &mut 1, &mut 2)?;
+    Ok(())
+}
+
+#[test]
+fn reentrant_mutexes_print(rt: HostRuntime) -> Result<(), Fail> {
+    reentrant_checks::prints::<Raw, Parties, _>(rt.alloc(), rt, &mut 1)?;
+    Ok(())
+}
+
+#[test]
+fn refusals_of_arc_forms_have_codes_and_names(rt: HostRuntime) -> Result<(), Fail> {
+    let alloc = rt.alloc();
+    let faults = [
+        (ReentrantArcFault::NoMemory, 99, "NoMemory"),
+        (ReentrantArcFault::ReadersFull, 6, "ReadersFull"),
+    ];
+    for (fault, code, name) in faults {
+        assert_eq!(rt; fault.code(), code, "of {name}");
+        assert_eq!(rt; fault.to_string(alloc)?.as_str(), name);
+    }
+    Ok(())
+}
