@@ -37,7 +37,9 @@ pub use lock_api_raw::{
     RawRwLockUpgradeTimed, ReadersFull, TableFull, Then, TotalProjection, WaitFault,
 };
 pub use lock_api_rw::{
-    ArcGuard, Guard, Mapped, RwLock, RwLockReadGuard, RwLockUpgradableReadGuard, RwLockWriteGuard,
+    ArcGuard, ArcRwLockReadGuard, ArcRwLockUpgradableReadGuard, ArcRwLockWriteGuard, Guard, Mapped,
+    MappedRwLockReadGuard, MappedRwLockWriteGuard, RwLock, RwLockReadGuard,
+    RwLockUpgradableReadGuard, RwLockWriteGuard,
 };
 pub use mutex::{LockedMutex, MappedMutexGuard, Mutex, MutexGuard};
 pub use raw_reentrant::RawReentrantMutex;

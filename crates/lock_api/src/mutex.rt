@@ -36,7 +36,7 @@ pub struct LockedMutex<'l, R: RawMutex, T> {
 pub type MutexGuard<'l, R, T> = Guard<sync::MutexGuard<'l, T>, LockedMutex<'l, R, T>>;
 
 /// A mutex guard that is narrowed to a part of the value.
-pub type MappedMutexGuard<'l, R, T, P> = Mapped<MutexGuard<'l, R, T>, P>;
+pub type MappedMutexGuard<'l, R, T, P> = Mapped<sync::MutexGuard<'l, T>, LockedMutex<'l, R, T>, P>;
 
 impl<R: RawMutex, T> Mutex<R, T> {
     /// Makes an unlocked mutex. A refusal drops the value.

@@ -43,7 +43,11 @@ pub type ReentrantMutexGuard<'l, R, G, T> = Guard<
 >;
 
 /// A reentrant guard that is narrowed to a part of the value.
-pub type MappedReentrantMutexGuard<'l, R, G, T, P> = Mapped<ReentrantMutexGuard<'l, R, G, T>, P>;
+pub type MappedReentrantMutexGuard<'l, R, G, T, P> = Mapped<
+    sync::RwLockReadGuard<'l, T>,
+    LockedReentrant<'l, R, G, T>,
+    P,
+>;
 
 impl<R: RawMutex + Drop, G: GetThreadId<Party = R::Party> + Drop, T> ReentrantMutex<R, G, T>
 where

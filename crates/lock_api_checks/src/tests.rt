@@ -1,4 +1,5 @@
 //! The raw locks of the tests, and the checks on them.
+mod mapped;
 mod mutexes;
 mod reentrant;
 

@@ -18,25 +18,35 @@ use std::sync::Wait;
 /// The part is found anew by the projection at each access, and is there as long as the guard lives. What is written to
 /// it is written into the whole value.
 #[derive(Drop)]
-pub struct Mapped<G: Lender + Drop, P: Projection<G::Part> + Drop> {
-    guard: G,
+pub struct Mapped<W: Lender + Drop, H: Hold, P: Projection<W::Part> + Drop>
+where
+    H::Runtime: Wait,
+{
+    guard: Guard<W, H>,
     by: P,
 }
 
-impl<G: Lender + Drop, P: Projection<G::Part> + Drop> Model for Mapped<G, P> {
+impl<W: Lender + Drop, H: Hold, P: Projection<W::Part> + Drop> Model for Mapped<W, H, P>
+where
+    H::Runtime: Wait,
+{
     ghost use Rattle.std.specs.Prelude.{IsSome};
+    ghost use Rattle.lock_api_rw.specs.declared.guard.Guard.{Guard};
 
-    ghost Value = { G × P };
+    ghost Value = { Guard W H H.Lock H.Runtime H.Party H.Apart × P };
 
     ghost view = { λ m. (m.guard, m.by) };
 
-    ghost invariant = { λ m. IsSome (P.focus m.by (G.part m.guard)) };
+    ghost invariant = { λ m. IsSome (P.focus m.by (W.part m.guard.inner)) };
 }
 
-impl<G: Lender + Drop, P: Projection<G::Part> + Drop> Deref for Mapped<G, P> {
+impl<W: Lender + Drop, H: Hold, P: Projection<W::Part> + Drop> Deref for Mapped<W, H, P>
+where
+    H::Runtime: Wait,
+{
     type Target = P::Out;
 
-    ghost deref_gives = { λ m x. P.focus m.1 (G.part m.0) ≡ Some x };
+    ghost deref_gives = { λ m x. P.focus m.1 (W.part m.0.inner) ≡ Some x };
 
     fn deref(&self) -> &P::Out {
         let Mapped { guard, by } = self;
@@ -47,12 +57,15 @@ impl<G: Lender + Drop, P: Projection<G::Part> + Drop> Deref for Mapped<G, P> {
     }
 }
 
-impl<G: LenderMut + Drop, P: Projection<G::Part> + Drop> DerefMut for Mapped<G, P> {
-    ghost deref_mut_gives = { λ m x. P.focus m.1 (G.part m.0) ≡ Some x };
+impl<W: LenderMut + Drop, H: Hold, P: Projection<W::Part> + Drop> DerefMut for Mapped<W, H, P>
+where
+    H::Runtime: Wait,
+{
+    ghost deref_mut_gives = { λ m x. P.focus m.1 (W.part m.0.inner) ≡ Some x };
 
     fn deref_mut(&mut self) -> &mut P::Out
-        ensures* writes_back { sem 𝓛 (Lends (the_row G.row P.row G.Part.row P.Out.row G.Lender P.Projection) P.Out.row self.entry result (λ part. (G.with_part self.old.0 (P.with_focus self.old.1 (G.part self.old.0) part), self.old.1))) }
-        ensures value { P.focus self.old.1 (G.part self.old.0) ≡ Some result.now }
+        ensures* writes_back { sem 𝓛 (Lends (the_row W.row H.row P.row W.Part.row H.Lock.row H.Runtime.row H.Party.row H.Apart.row P.Out.row W.Lender H.Hold P.Projection) P.Out.row self.entry result (λ part. (record self.old.0 { inner = W.with_part self.old.0.inner (P.with_focus self.old.1 (W.part self.old.0.inner) part) }, self.old.1))) }
+        ensures value { P.focus self.old.1 (W.part self.old.0.inner) ≡ Some result.now }
     {
         P::part_mut(self.guard.lend(), &self.by)
     }
@@ -63,10 +76,7 @@ where
     H::Runtime: Wait,
 {
     /// Narrows the guard to the part that the projection gives, without letting go.
-    pub fn map<P: TotalProjection<W::Part> + Drop>(
-        s: Guard<W, H>,
-        projection: P,
-    ) -> Mapped<Guard<W, H>, P>
+    pub fn map<P: TotalProjection<W::Part> + Drop>(s: Guard<W, H>, projection: P) -> Mapped<W, H, P>
         ensures { result ≡ (s, projection) }
     {
         Mapped {
@@ -79,7 +89,7 @@ where
     pub fn try_map<P: Projection<W::Part> + Drop>(
         s: Guard<W, H>,
         projection: P,
-    ) -> Result<Mapped<Guard<W, H>, P>, Guard<W, H>>
+    ) -> Result<Mapped<W, H, P>, Guard<W, H>>
         ensures { Narrows (P.focus projection (W.part s.inner)) (s, projection) s result }
     {
         if projection.get(s.look()).is_some() {
@@ -97,7 +107,7 @@ where
         s: Guard<W, H>,
         projection: P,
         error: E,
-    ) -> Result<Mapped<Guard<W, H>, P>, (Guard<W, H>, E)>
+    ) -> Result<Mapped<W, H, P>, (Guard<W, H>, E)>
         ensures { Narrows (P.focus projection (W.part s.inner)) (s, projection) (s, error) result }
     {
         match Guard::try_map(s, projection) {
@@ -107,12 +117,15 @@ where
     }
 }
 
-impl<G: Lender + Drop, P: Projection<G::Part> + Drop> Mapped<G, P> {
+impl<W: Lender + Drop, H: Hold, P: Projection<W::Part> + Drop> Mapped<W, H, P>
+where
+    H::Runtime: Wait,
+{
     /// Narrows further. Mapping twice is mapping by the composition.
     pub fn map<Q: TotalProjection<P::Out> + Drop>(
-        s: Mapped<G, P>,
+        s: Mapped<W, H, P>,
         projection: Q,
-    ) -> Mapped<G, Then<P, Q>>
+    ) -> Mapped<W, H, Then<P, Q>>
         ensures { result ≡ (s.0, record { first = s.1; second = projection }) }
     {
         let Mapped { guard, by } = s;
@@ -124,10 +137,10 @@ impl<G: Lender + Drop, P: Projection<G::Part> + Drop> Mapped<G, P> {
 
     /// As `map` where the part is there, and else the same guard back, still locked.
     pub fn try_map<Q: Projection<P::Out> + Drop>(
-        s: Mapped<G, P>,
+        s: Mapped<W, H, P>,
         projection: Q,
-    ) -> Result<Mapped<G, Then<P, Q>>, Mapped<G, P>>
-        ensures { Narrows (then_focus (P.focus s.1) (P.with_focus s.1) (Q.focus projection) (Q.with_focus projection) (G.part s.0)) (s.0, record { first = s.1; second = projection }) s result }
+    ) -> Result<Mapped<W, H, Then<P, Q>>, Mapped<W, H, P>>
+        ensures { Narrows (then_focus (P.focus s.1) (P.with_focus s.1) (Q.focus projection) (Q.with_focus projection) (W.part s.0.inner)) (s.0, record { first = s.1; second = projection }) s result }
     {
         if projection.get(s.deref()).is_some() {
             let Mapped { guard, by } = s;
@@ -142,11 +155,11 @@ impl<G: Lender + Drop, P: Projection<G::Part> + Drop> Mapped<G, P> {
 
     /// As `try_map`. Where the part is missing the same guard comes back with the error that was handed in.
     pub fn try_map_or_err<Q: Projection<P::Out> + Drop, E: Drop>(
-        s: Mapped<G, P>,
+        s: Mapped<W, H, P>,
         projection: Q,
         error: E,
-    ) -> Result<Mapped<G, Then<P, Q>>, (Mapped<G, P>, E)>
-        ensures { Narrows (then_focus (P.focus s.1) (P.with_focus s.1) (Q.focus projection) (Q.with_focus projection) (G.part s.0)) (s.0, record { first = s.1; second = projection }) (s, error) result }
+    ) -> Result<Mapped<W, H, Then<P, Q>>, (Mapped<W, H, P>, E)>
+        ensures { Narrows (then_focus (P.focus s.1) (P.with_focus s.1) (Q.focus projection) (Q.with_focus projection) (W.part s.0.inner)) (s.0, record { first = s.1; second = projection }) (s, error) result }
     {
         match Mapped::try_map(s, projection) {
             Ok(mapped) => Ok(mapped),
@@ -155,12 +168,12 @@ impl<G: Lender + Drop, P: Projection<G::Part> + Drop> Mapped<G, P> {
     }
 }
 
-impl<W: Lender + Drop, H: FairHold, P: Projection<W::Part> + Drop> Mapped<Guard<W, H>, P>
+impl<W: Lender + Drop, H: FairHold, P: Projection<W::Part> + Drop> Mapped<W, H, P>
 where
     H::Runtime: Wait,
 {
     /// Ends the guard by a fair release.
-    pub fn unlock_fair(s: Mapped<Guard<W, H>, P>) {
+    pub fn unlock_fair(s: Mapped<W, H, P>) {
         let Mapped { guard, by: _ } = s;
         Guard::unlock_fair(guard);
     }

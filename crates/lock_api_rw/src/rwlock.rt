@@ -56,10 +56,18 @@ pub type RwLockUpgradableReadGuard<'l, R, T> = Guard<
 >;
 
 /// A shared guard that is narrowed to a part of the value.
-pub type MappedRwLockReadGuard<'l, R, T, P> = Mapped<RwLockReadGuard<'l, R, T>, P>;
+pub type MappedRwLockReadGuard<'l, R, T, P> = Mapped<
+    sync::RwLockReadGuard<'l, T>,
+    RawHold<&'l RwLock<R, T>, Shared>,
+    P,
+>;
 
 /// An exclusive guard that is narrowed to a part of the value.
-pub type MappedRwLockWriteGuard<'l, R, T, P> = Mapped<RwLockWriteGuard<'l, R, T>, P>;
+pub type MappedRwLockWriteGuard<'l, R, T, P> = Mapped<
+    sync::RwLockWriteGuard<'l, T>,
+    RawHold<&'l RwLock<R, T>, Exclusive>,
+    P,
+>;
 
 impl<R, T> RwLock<R, T> {
     /// Puts a value behind a raw lock that exists. Nothing is to be out of it.

@@ -32,18 +32,20 @@ where
     }
 }
 
-impl<G: Lender + Drop, P: Projection<G::Part> + Drop> Debug for Mapped<G, P>
+impl<W: Lender + Drop, H: Hold, P: Projection<W::Part> + Drop> Debug for Mapped<W, H, P>
 where
     P::Out: Debug,
+    H::Runtime: Wait,
 {
     fn fmt<F: fmt::Write>(&self, f: &mut fmt::Formatter<F>) -> fmt::Result {
         Debug::fmt(self.deref(), f)
     }
 }
 
-impl<G: Lender + Drop, P: Projection<G::Part> + Drop> Display for Mapped<G, P>
+impl<W: Lender + Drop, H: Hold, P: Projection<W::Part> + Drop> Display for Mapped<W, H, P>
 where
     P::Out: Display,
+    H::Runtime: Wait,
 {
     fn fmt<F: fmt::Write>(&self, f: &mut fmt::Formatter<F>) -> fmt::Result {
         Display::fmt(self.deref(), f)

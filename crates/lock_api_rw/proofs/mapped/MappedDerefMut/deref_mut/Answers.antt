@@ -8,6 +8,6 @@ invariant_of-self-lent g c w =
     let by = c.self.inside.by in
     let whole = c.lend.result.now in
     let there : IsSome (g.P.Projection.focus by whole) = subst IsSome c.part_mut.ensures.value refl in
-    let lent = g.met.G.LenderMut.reads_written c.self.inside.guard (g.P.Projection.with_focus by whole w) in
+    let lent = g.met.W.LenderMut.reads_written c.self.inside.guard.inner (g.P.Projection.with_focus by whole w) in
     let found = (g.met.P.Projection.laws by).reads_written whole w there in
     subst IsSome (sym (ap (g.P.Projection.focus by) lent ∙ found)) refl
