@@ -9,14 +9,23 @@
 
 mod packed_lock;
 mod packed_mutex;
+mod parts;
 mod party;
+pub mod rw_arcs;
+pub mod rw_modes;
+pub mod rw_parts;
+pub mod rw_plain;
+pub mod rw_threads;
 mod turn;
 mod wrong;
 
 pub use packed_lock::PackedLock;
 pub use packed_mutex::PackedMutex;
+pub use parts::{First, Inside};
 pub use party::Parties;
 pub use wrong::{Wrong, expect};
 
+#[cfg(test)]
+mod rw_tests;
 #[cfg(test)]
 mod tests;

@@ -1,5 +1,5 @@
 //! Guards that own an Arc of their lock.
-ghost use Rattle.std.specs.Prelude.{◌≡◌};
+ghost use Rattle.std.specs.Prelude.{◌≡◌, None, Some, MatchOption};
 ghost use Rattle.std.specs.Fn.{FnOnceReturnsAt, FnOnceReturnsAtMut};
 
 use crate::held::{ArcHold, FairHold, Hold, MutexHold, ReentrantHold, RwLockHold, WriteHold};
@@ -33,6 +33,23 @@ impl<H: Hold> ArcGuard<H>
 where
     H::Runtime: Wait,
 {
+    /// Keeps a hold. For the layer above.
+    pub fn over(hold: H) -> ArcGuard<H>
+        ensures { result.hold ≡ hold }
+    {
+        ArcGuard { hold }
+    }
+
+    /// Keeps a hold, if there is one. For the layer above.
+    pub fn if_held(hold: Option<H>) -> Option<ArcGuard<H>>
+        ensures { MatchOption result (hold ≡ None) (λ guard. hold ≡ Some guard.hold) }
+    {
+        match hold {
+            Some(hold) => Some(ArcGuard { hold }),
+            None => None,
+        }
+    }
+
     /// The raw hold. For the layer above.
     pub fn into_hold(s: ArcGuard<H>) -> H
         ensures { result ≡ s.hold }

@@ -1,5 +1,5 @@
 //! A guard: a raw hold, and the std guard of the value.
-ghost use Rattle.std.specs.Prelude.{◌≡◌, Ok, Err, MatchResult};
+ghost use Rattle.std.specs.Prelude.{◌≡◌};
 ghost use Rattle.std.specs.Borrow.{Lends, sem};
 ghost use Rattle.lock_api_rw.specs.contracts.guard.Guard.{the_row};
 
@@ -53,40 +53,19 @@ where
         held.give_back(inner).into_hold()
     }
 
+    /// The std guard, and the raw hold under which the value is lent. For the layer above.
+    pub fn into_parts(s: Guard<W, H>) -> (W, Held<H, W>)
+        ensures { result ≡ (s.inner, s.held) }
+    {
+        let Guard { inner, held } = s;
+        (inner, held)
+    }
+
     /// The lock that the guard belongs to. For the layer above.
     pub fn source(s: &Guard<W, H>) -> &H::Lock
         ensures { result.now ≡ H.lock_of s.now.held.0 }
     {
         s.held.hold().lock()
-    }
-
-    /// Turns the raw hold into one of another mode, and then changes the std lock. For the layer above.
-    pub fn turn<K: Access, F: FnOnce(H) -> K>(s: Guard<W, H>, f: F) -> Guard<K::Inner, K>
-    where
-        K::Runtime: Wait,
-        requires { F.IsAlwaysCallable f }
-        ensures { F.post f s.held.0 result.held.0 }
-    {
-        let Guard { inner, held } = s;
-        Guard::under(held.turn(f).give_back(inner).into_hold())
-    }
-
-    /// As `turn`, where the turn may be refused: then the same std guard comes back with the raw hold that came back. For
-    /// the layer above.
-    pub fn try_turn<K: Access, F: FnOnce(H) -> Result<K, H>>(
-        s: Guard<W, H>,
-        f: F,
-    ) -> Result<Guard<K::Inner, K>, Guard<W, H>>
-    where
-        K::Runtime: Wait,
-        requires { F.IsAlwaysCallable f }
-        ensures { MatchResult result (λ guard. F.post f s.held.0 (Ok guard.held.0)) (λ guard. F.post f s.held.0 (Err guard.held.0) × (guard.inner ≡ s.inner) × (guard.held.1 ≡ s.held.1)) }
-    {
-        let Guard { inner, held } = s;
-        match held.try_turn(f) {
-            Ok(held) => Ok(Guard::under(held.give_back(inner).into_hold())),
-            Err(held) => Err(Guard { inner, held }),
-        }
     }
 }
 

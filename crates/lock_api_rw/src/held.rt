@@ -1,7 +1,8 @@
 //! Raw holds, and whether the value is lent under them.
-ghost use Rattle.std.specs.Prelude.{◌≡◌, false, true, Ok, Err, MatchResult};
+ghost use Rattle.std.specs.Prelude.{◌≡◌, false, true, MatchResult};
 
 use std::marker::{Model, PhantomData};
+use std::rt::Clock;
 use std::snapshot::Snapshot;
 use std::sync::Wait;
 
@@ -68,6 +69,86 @@ pub trait Access: Hold {
     fn access(&self) -> Self::Inner
     where
         Self::Runtime: Wait;
+}
+
+/// A hold that can become a shared one. For the layer above.
+pub trait DowngradeHold: Hold {
+    /// The shared hold.
+    type Down: Hold<Lock = Self::Lock>;
+
+    /// Turns the hold into a shared one without letting go.
+    fn downgrade(self) -> Self::Down
+    where
+        Self::Runtime: Wait,
+        ensures { Self.Down.lock_of result ≡ Self.lock_of self };
+}
+
+/// A hold that can become an upgradable one. For the layer above.
+pub trait LowerHold: Hold {
+    /// The upgradable hold.
+    type Low: Hold<Lock = Self::Lock>;
+
+    /// Turns the hold into an upgradable one without letting go.
+    fn lower(self) -> Self::Low
+    where
+        Self::Runtime: Wait,
+        ensures { Self.Low.lock_of result ≡ Self.lock_of self };
+}
+
+/// A hold that can become an exclusive one. For the layer above.
+pub trait UpgradeHold: Hold {
+    /// The exclusive hold.
+    type Alone: Hold<Lock = Self::Lock>;
+
+    /// Waits until the other readers are gone.
+    fn upgrade(self, party: &mut Self::Party) -> Self::Alone
+    where
+        Self::Runtime: Wait,
+        ensures { Self.Alone.lock_of result ≡ Self.lock_of self };
+
+    /// The exclusive hold if no other reader is left, and else the same hold. It waits for nobody.
+    fn try_upgrade(self) -> Result<Self::Alone, Self>
+        ensures { MatchResult result (λ hold. Self.Alone.lock_of hold ≡ Self.lock_of self) (λ hold. hold ≡ self) };
+}
+
+/// A hold that can become an exclusive one and be had back. For the layer above.
+pub trait RestoreHold: UpgradeHold {
+    /// Turns the exclusive hold into such a one again without letting go.
+    fn restore(alone: Self::Alone) -> Self
+    where
+        Self::Runtime: Wait,
+        ensures { Self.lock_of result ≡ Self.Alone.lock_of alone };
+}
+
+/// A hold that can become an exclusive one by a wait that can give up. For the layer above.
+pub trait TimedUpgradeHold: UpgradeHold {
+    /// A length of time.
+    type Duration;
+
+    /// A moment.
+    type Instant;
+
+    /// As `upgrade`, but the same hold if the wait is given up after the length of time.
+    fn try_upgrade_for<C: Clock>(
+        self,
+        timeout: Self::Duration,
+        clock: &C,
+        party: &mut Self::Party,
+    ) -> Result<Self::Alone, Self>
+    where
+        Self::Runtime: Wait,
+        ensures { MatchResult result (λ hold. Self.Alone.lock_of hold ≡ Self.lock_of self) (λ hold. hold ≡ self) };
+
+    /// As `upgrade`, but the same hold if the wait is given up at the moment.
+    fn try_upgrade_until<C: Clock>(
+        self,
+        deadline: Self::Instant,
+        clock: &C,
+        party: &mut Self::Party,
+    ) -> Result<Self::Alone, Self>
+    where
+        Self::Runtime: Wait,
+        ensures { MatchResult result (λ hold. Self.Alone.lock_of hold ≡ Self.lock_of self) (λ hold. hold ≡ self) };
 }
 
 /// A hold that owns an Arc of its lock. For the layer above.
@@ -153,27 +234,91 @@ impl<H, W> Held<H, W> {
         } = self;
         hold
     }
+}
 
-    /// Turns the raw hold into another one. Whether the value is lent stays.
-    pub fn turn<K, F: FnOnce(H) -> K>(self, f: F) -> Held<K, W>
-        requires { F.IsAlwaysCallable f }
-        ensures { F.post f self.0 result.0 × (result.1 ≡ self.1) }
+impl<H: DowngradeHold, W> Held<H, W>
+where
+    H::Runtime: Wait,
+{
+    /// Turns the raw hold into a shared one. Whether the value is lent stays.
+    pub fn downgrade(self) -> Held<H::Down, W>
+        ensures { (H.Down.lock_of result.0 ≡ H.lock_of self.0) × (result.1 ≡ self.1) }
     {
         let Held { hold, lent, by } = self;
-        Held {
-            hold: f(hold),
-            lent,
-            by,
+        let hold = hold.downgrade();
+        Held { hold, lent, by }
+    }
+}
+
+impl<H: LowerHold, W> Held<H, W>
+where
+    H::Runtime: Wait,
+{
+    /// Turns the raw hold into an upgradable one. Whether the value is lent stays.
+    pub fn lower(self) -> Held<H::Low, W>
+        ensures { (H.Low.lock_of result.0 ≡ H.lock_of self.0) × (result.1 ≡ self.1) }
+    {
+        let Held { hold, lent, by } = self;
+        let hold = hold.lower();
+        Held { hold, lent, by }
+    }
+}
+
+impl<H: UpgradeHold, W> Held<H, W> {
+    /// Turns the raw hold into an exclusive one. Whether the value is lent stays.
+    pub fn upgrade(self, party: &mut H::Party) -> Held<H::Alone, W>
+    where
+        H::Runtime: Wait,
+        ensures { (H.Alone.lock_of result.0 ≡ H.lock_of self.0) × (result.1 ≡ self.1) }
+    {
+        let Held { hold, lent, by } = self;
+        let hold = hold.upgrade(party);
+        Held { hold, lent, by }
+    }
+
+    /// As `upgrade` if no other reader is left, and else unchanged.
+    pub fn try_upgrade(self) -> Result<Held<H::Alone, W>, Held<H, W>>
+        ensures { MatchResult result (λ held. H.Alone.lock_of held.0 ≡ H.lock_of self.0) (λ held. held ≡ self) }
+    {
+        let Held { hold, lent, by } = self;
+        match hold.try_upgrade() {
+            Ok(hold) => Ok(Held { hold, lent, by }),
+            Err(hold) => Err(Held { hold, lent, by }),
+        }
+    }
+}
+
+impl<H: TimedUpgradeHold, W> Held<H, W>
+where
+    H::Runtime: Wait,
+{
+    /// As `upgrade`, and unchanged if the wait is given up after the length of time.
+    pub fn try_upgrade_for<C: Clock>(
+        self,
+        timeout: H::Duration,
+        clock: &C,
+        party: &mut H::Party,
+    ) -> Result<Held<H::Alone, W>, Held<H, W>>
+        ensures { MatchResult result (λ held. H.Alone.lock_of held.0 ≡ H.lock_of self.0) (λ held. held ≡ self) }
+    {
+        let Held { hold, lent, by } = self;
+        match hold.try_upgrade_for(timeout, clock, party) {
+            Ok(hold) => Ok(Held { hold, lent, by }),
+            Err(hold) => Err(Held { hold, lent, by }),
         }
     }
 
-    /// As `turn`, where the turn may be refused: then what comes back is kept as before.
-    pub fn try_turn<K, F: FnOnce(H) -> Result<K, H>>(self, f: F) -> Result<Held<K, W>, Held<H, W>>
-        requires { F.IsAlwaysCallable f }
-        ensures { MatchResult result (λ held. F.post f self.0 (Ok held.0) × (held.1 ≡ self.1)) (λ held. F.post f self.0 (Err held.0) × (held.1 ≡ self.1)) }
+    /// As `upgrade`, and unchanged if the wait is given up at the moment.
+    pub fn try_upgrade_until<C: Clock>(
+        self,
+        deadline: H::Instant,
+        clock: &C,
+        party: &mut H::Party,
+    ) -> Result<Held<H::Alone, W>, Held<H, W>>
+        ensures { MatchResult result (λ held. H.Alone.lock_of held.0 ≡ H.lock_of self.0) (λ held. held ≡ self) }
     {
         let Held { hold, lent, by } = self;
-        match f(hold) {
+        match hold.try_upgrade_until(deadline, clock, party) {
             Ok(hold) => Ok(Held { hold, lent, by }),
             Err(hold) => Err(Held { hold, lent, by }),
         }

@@ -4,7 +4,10 @@
 //! lends is the guarded value, and nobody writes it but the guard's holder.
 #![tactic(auto)]
 
+mod arc_convert;
+mod arc_forms;
 mod arc_guard;
+mod convert;
 mod guard;
 mod held;
 mod lend;
@@ -14,15 +17,23 @@ mod mode;
 mod raw_hold;
 mod rwlock;
 mod show;
+mod timed;
+mod turns;
+mod with_upgraded;
 
+pub use arc_forms::{ArcRwLockReadGuard, ArcRwLockUpgradableReadGuard, ArcRwLockWriteGuard};
 pub use arc_guard::ArcGuard;
 pub use guard::Guard;
 pub use held::{
-    Access, ArcHold, FairHold, Held, Hold, MutexHold, ReentrantHold, RwLockHold, WriteHold,
+    Access, ArcHold, DowngradeHold, FairHold, Held, Hold, LowerHold, MutexHold, ReentrantHold,
+    RestoreHold, RwLockHold, TimedUpgradeHold, UpgradeHold, WriteHold,
 };
 pub use lend::{Lender, LenderMut};
 pub use lock::{HasValue, HasValueMut, lent, lent_mut};
 pub use mapped::Mapped;
 pub use mode::{Exclusive, FairMode, Mode, Shared, TimedMode, Upgradable, Writes};
 pub use raw_hold::{HasRaw, Lodges, Place, RawHold};
-pub use rwlock::{RwLock, RwLockReadGuard, RwLockUpgradableReadGuard, RwLockWriteGuard};
+pub use rwlock::{
+    MappedRwLockReadGuard, MappedRwLockWriteGuard, RwLock, RwLockReadGuard,
+    RwLockUpgradableReadGuard, RwLockWriteGuard,
+};

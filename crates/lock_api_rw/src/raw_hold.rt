@@ -4,7 +4,7 @@ ghost use Rattle.std.specs.Prelude.{◌≡◌, IfSome};
 use crate::held::{Access, ArcHold, FairHold, Hold, WriteHold};
 use crate::mode::{FairMode, Mode, TimedMode, Writes};
 use std::alloc::Allocator;
-use std::marker::PhantomData;
+use std::marker::{Model, PhantomData};
 use std::rt::Clock;
 use std::sync::{Arc, Wait};
 
@@ -73,21 +73,44 @@ pub trait Lodges<'l, M: Mode<Self::Raw>>: HasRaw {
 pub struct RawHold<L: Place, M: Mode<<L::Lock as HasRaw>::Raw>> {
     place: L,
     token: M::Token,
-    ghost ours: { M.issued_by token ≡ M.number (L.Lock.raw_of (L.lock_of place)) },
     mode: PhantomData<M>,
+}
+
+impl<L: Place, M: Mode<<L::Lock as HasRaw>::Raw>> Model for RawHold<L, M> {
+    ghost use Rattle.std.specs.Prelude.{◌≡◌};
+    ghost use Rattle.lock_api_rw.specs.Holds.{Issued};
+
+    ghost Value = { Issued L M.Token };
+
+    ghost view = { λ hold. record { place = hold.place; token = hold.token } };
+
+    ghost invariant = { λ hold. M.issued_by hold.token ≡ M.number (L.Lock.raw_of (L.lock_of hold.place)) };
 }
 
 impl<L: Place, M: Mode<<L::Lock as HasRaw>::Raw>> RawHold<L, M> {
     /// Keeps a token that the lock issued.
     pub fn new(place: L, token: M::Token) -> RawHold<L, M>
         requires { M.issued_by token ≡ M.number (L.Lock.raw_of (L.lock_of place)) }
-        ensures { result.place ≡ place }
+        ensures { result ≡ record { place = place; token = token } }
     {
         RawHold {
             place,
             token,
             mode: PhantomData,
         }
+    }
+
+    /// The place and the token, which is one that the lock issued.
+    pub fn into_parts(self) -> (L, M::Token)
+        ensures parts { result ≡ (self.place, self.token) }
+        ensures issued { M.issued_by self.token ≡ M.number (L.Lock.raw_of (L.lock_of self.place)) }
+    {
+        let RawHold {
+            place,
+            token,
+            mode: _,
+        } = self;
+        (place, token)
     }
 
     /// Waits for a hold.
@@ -167,11 +190,7 @@ impl<L: Place + Drop, M: Mode<<L::Lock as HasRaw>::Raw>> Hold for RawHold<L, M> 
     where
         M::Runtime: Wait,
     {
-        let RawHold {
-            place,
-            token,
-            mode: _,
-        } = self;
+        let (place, token) = self.into_parts();
         M::unlock(place.lock().raw(), token);
         place
     }
@@ -200,11 +219,7 @@ impl<L: Place + Drop, M: FairMode<<L::Lock as HasRaw>::Raw>> FairHold for RawHol
     where
         M::Runtime: Wait,
     {
-        let RawHold {
-            place,
-            token,
-            mode: _,
-        } = self;
+        let (place, token) = self.into_parts();
         M::unlock_fair(place.lock().raw(), token);
         place
     }
@@ -213,11 +228,7 @@ impl<L: Place + Drop, M: FairMode<<L::Lock as HasRaw>::Raw>> FairHold for RawHol
     where
         M::Runtime: Wait,
     {
-        let RawHold {
-            place,
-            token,
-            mode: _,
-        } = self;
+        let (place, token) = self.into_parts();
         let token = M::bump(place.lock().raw(), token, party);
         RawHold::new(place, token)
     }

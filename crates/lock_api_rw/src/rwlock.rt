@@ -5,6 +5,7 @@ ghost use Rattle.lock_api_raw.specs.Limits.{kept_limit};
 use crate::guard::Guard;
 use crate::held::RwLockHold;
 use crate::lock::{HasValue, HasValueMut, lent, lent_mut};
+use crate::mapped::Mapped;
 use crate::mode::{Exclusive, Mode, Shared, Upgradable};
 use crate::raw_hold::{HasRaw, Lodges, RawHold};
 use lock_api_raw::{RawRwLock, RawRwLockUpgrade, TableFull};
@@ -53,6 +54,12 @@ pub type RwLockUpgradableReadGuard<'l, R, T> = Guard<
     sync::RwLockReadGuard<'l, T>,
     RawHold<&'l RwLock<R, T>, Upgradable>,
 >;
+
+/// A shared guard that is narrowed to a part of the value.
+pub type MappedRwLockReadGuard<'l, R, T, P> = Mapped<RwLockReadGuard<'l, R, T>, P>;
+
+/// An exclusive guard that is narrowed to a part of the value.
+pub type MappedRwLockWriteGuard<'l, R, T, P> = Mapped<RwLockWriteGuard<'l, R, T>, P>;
 
 impl<R, T> RwLock<R, T> {
     /// Puts a value behind a raw lock that exists. Nothing is to be out of it.
@@ -239,6 +246,26 @@ where
         ensures { IfSome result (λ guard. guard.held.0.place.now ≡ self.now) }
     {
         let inner = self.value.try_write()?;
+        Some(Guard::over(RawHold::at_once(self)?, inner))
+    }
+}
+
+impl<R: RawRwLockUpgrade, T> RwLock<R, T>
+where
+    R::Runtime: Wait,
+{
+    /// Waits for an upgradable hold of the raw lock, and then for the std lock.
+    pub fn upgradable_read(&self, party: &mut R::Party) -> RwLockUpgradableReadGuard<'_, R, T>
+        ensures { result.held.0.place.now ≡ self.now }
+    {
+        Guard::under(RawHold::wait(self, party))
+    }
+
+    /// An upgradable guard at once, or None. It waits for nobody.
+    pub fn try_upgradable_read(&self) -> Option<RwLockUpgradableReadGuard<'_, R, T>>
+        ensures { IfSome result (λ guard. guard.held.0.place.now ≡ self.now) }
+    {
+        let inner = self.value.try_read()?;
         Some(Guard::over(RawHold::at_once(self)?, inner))
     }
 }

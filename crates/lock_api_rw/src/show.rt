@@ -1,9 +1,12 @@
 //! What guards print: what the value that they lend prints.
+use crate::arc_guard::ArcGuard;
 use crate::guard::Guard;
-use crate::held::Hold;
+use crate::held::{Hold, RwLockHold};
 use crate::lend::Lender;
+use crate::lock::HasValue;
 use crate::mapped::Mapped;
-use lock_api_raw::Projection;
+use crate::rwlock::RwLock;
+use lock_api_raw::{Projection, RawRwLock};
 use std::fmt;
 use std::fmt::{Debug, Display};
 use std::ops::Deref;
@@ -44,5 +47,42 @@ where
 {
     fn fmt<F: fmt::Write>(&self, f: &mut fmt::Formatter<F>) -> fmt::Result {
         Display::fmt(self.deref(), f)
+    }
+}
+
+impl<H: RwLockHold> Debug for ArcGuard<H>
+where
+    H::Lock: HasValue,
+    <H::Lock as HasValue>::Value: Debug,
+    <H::Lock as HasValue>::Waiting: Wait,
+    H::Runtime: Wait,
+{
+    fn fmt<F: fmt::Write>(&self, f: &mut fmt::Formatter<F>) -> fmt::Result {
+        self.with(|value| Debug::fmt(value, f))
+    }
+}
+
+impl<H: RwLockHold> Display for ArcGuard<H>
+where
+    H::Lock: HasValue,
+    <H::Lock as HasValue>::Value: Display,
+    <H::Lock as HasValue>::Waiting: Wait,
+    H::Runtime: Wait,
+{
+    fn fmt<F: fmt::Write>(&self, f: &mut fmt::Formatter<F>) -> fmt::Result {
+        self.with(|value| Display::fmt(value, f))
+    }
+}
+
+/// Prints the value by a try to read, or that it is locked. It waits for nobody.
+impl<R: RawRwLock, T: Debug> Debug for RwLock<R, T>
+where
+    R::Runtime: Wait,
+{
+    fn fmt<F: fmt::Write>(&self, f: &mut fmt::Formatter<F>) -> fmt::Result {
+        match self.try_read() {
+            Some(guard) => f.debug_struct("RwLock").field("data", &*guard).finish(),
+            None => f.write_str("RwLock { data: <locked> }"),
+        }
     }
 }

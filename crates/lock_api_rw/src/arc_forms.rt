@@ -1,0 +1,196 @@
+//! The Arc forms of the reader-writer lock.
+ghost use Rattle.std.specs.Prelude.{◌≡◌, IfOk, IfSome};
+ghost use Rattle.std.specs.Arc.{arc_value};
+
+use crate::arc_guard::ArcGuard;
+use crate::mode::{Exclusive, Shared, Upgradable};
+use crate::raw_hold::RawHold;
+use crate::rwlock::RwLock;
+use lock_api_raw::{NoMemory, RawRwLock, RawRwLockTimed, RawRwLockUpgrade, RawRwLockUpgradeTimed};
+use std::alloc::{Allocator, Global};
+use std::rt::Clock;
+use std::sync::{Arc, Wait};
+
+/// A shared hold that owns an Arc of its lock.
+pub type ArcRwLockReadGuard<R, T, A = Global> = ArcGuard<RawHold<Arc<RwLock<R, T>, A>, Shared>>;
+
+/// An exclusive hold that owns an Arc of its lock.
+pub type ArcRwLockWriteGuard<R, T, A = Global> = ArcGuard<RawHold<Arc<RwLock<R, T>, A>, Exclusive>>;
+
+/// An upgradable hold that owns an Arc of its lock.
+pub type ArcRwLockUpgradableReadGuard<R, T, A = Global> = ArcGuard<
+    RawHold<Arc<RwLock<R, T>, A>, Upgradable>,
+>;
+
+impl<R: RawRwLock + Drop, T: Drop> RwLock<R, T>
+where
+    R::Runtime: Wait,
+{
+    /// Clones the Arc, and then waits for a shared hold. A refused clone takes no lock.
+    pub fn read_arc<A: Allocator>(
+        this: &Arc<RwLock<R, T>, A>,
+        party: &mut R::Party,
+    ) -> Result<ArcRwLockReadGuard<R, T, A>, NoMemory>
+        ensures { IfOk result (λ guard. arc_value guard.hold.place ≡ arc_value this.now) }
+    {
+        let arc = Arc::try_clone(this)?;
+        Ok(ArcGuard::over(RawHold::wait(arc, party)))
+    }
+
+    /// Clones the Arc, and then tries: None where the hold can't be had. A refused clone takes no lock.
+    pub fn try_read_arc<A: Allocator>(
+        this: &Arc<RwLock<R, T>, A>,
+    ) -> Result<Option<ArcRwLockReadGuard<R, T, A>>, NoMemory>
+        ensures { IfOk result (λ found. IfSome found (λ guard. arc_value guard.hold.place ≡ arc_value this.now)) }
+    {
+        let arc = Arc::try_clone(this)?;
+        Ok(ArcGuard::if_held(RawHold::at_once(arc)))
+    }
+
+    /// Clones the Arc, and then waits for an exclusive hold. A refused clone takes no lock.
+    pub fn write_arc<A: Allocator>(
+        this: &Arc<RwLock<R, T>, A>,
+        party: &mut R::Party,
+    ) -> Result<ArcRwLockWriteGuard<R, T, A>, NoMemory>
+        ensures { IfOk result (λ guard. arc_value guard.hold.place ≡ arc_value this.now) }
+    {
+        let arc = Arc::try_clone(this)?;
+        Ok(ArcGuard::over(RawHold::wait(arc, party)))
+    }
+
+    /// Clones the Arc, and then tries: None where the hold can't be had. A refused clone takes no lock.
+    pub fn try_write_arc<A: Allocator>(
+        this: &Arc<RwLock<R, T>, A>,
+    ) -> Result<Option<ArcRwLockWriteGuard<R, T, A>>, NoMemory>
+        ensures { IfOk result (λ found. IfSome found (λ guard. arc_value guard.hold.place ≡ arc_value this.now)) }
+    {
+        let arc = Arc::try_clone(this)?;
+        Ok(ArcGuard::if_held(RawHold::at_once(arc)))
+    }
+}
+
+impl<R: RawRwLockTimed + Drop, T: Drop> RwLock<R, T>
+where
+    R::Runtime: Wait,
+{
+    /// Clones the Arc, and then waits: None if the wait is given up after the length of time. A refused clone takes no lock.
+    pub fn try_read_arc_for<C: Clock, A: Allocator>(
+        this: &Arc<RwLock<R, T>, A>,
+        timeout: R::Duration,
+        clock: &C,
+        party: &mut R::Party,
+    ) -> Result<Option<ArcRwLockReadGuard<R, T, A>>, NoMemory>
+    where
+        R::Duration: Drop,
+        ensures { IfOk result (λ found. IfSome found (λ guard. arc_value guard.hold.place ≡ arc_value this.now)) }
+    {
+        let arc = Arc::try_clone(this)?;
+        Ok(ArcGuard::if_held(RawHold::wait_for(arc, timeout, clock, party)))
+    }
+
+    /// Clones the Arc, and then waits: None if the wait is given up at the moment. A refused clone takes no lock.
+    pub fn try_read_arc_until<C: Clock, A: Allocator>(
+        this: &Arc<RwLock<R, T>, A>,
+        deadline: R::Instant,
+        clock: &C,
+        party: &mut R::Party,
+    ) -> Result<Option<ArcRwLockReadGuard<R, T, A>>, NoMemory>
+    where
+        R::Instant: Drop,
+        ensures { IfOk result (λ found. IfSome found (λ guard. arc_value guard.hold.place ≡ arc_value this.now)) }
+    {
+        let arc = Arc::try_clone(this)?;
+        Ok(ArcGuard::if_held(RawHold::wait_until(arc, deadline, clock, party)))
+    }
+
+    /// Clones the Arc, and then waits: None if the wait is given up after the length of time. A refused clone takes no lock.
+    pub fn try_write_arc_for<C: Clock, A: Allocator>(
+        this: &Arc<RwLock<R, T>, A>,
+        timeout: R::Duration,
+        clock: &C,
+        party: &mut R::Party,
+    ) -> Result<Option<ArcRwLockWriteGuard<R, T, A>>, NoMemory>
+    where
+        R::Duration: Drop,
+        ensures { IfOk result (λ found. IfSome found (λ guard. arc_value guard.hold.place ≡ arc_value this.now)) }
+    {
+        let arc = Arc::try_clone(this)?;
+        Ok(ArcGuard::if_held(RawHold::wait_for(arc, timeout, clock, party)))
+    }
+
+    /// Clones the Arc, and then waits: None if the wait is given up at the moment. A refused clone takes no lock.
+    pub fn try_write_arc_until<C: Clock, A: Allocator>(
+        this: &Arc<RwLock<R, T>, A>,
+        deadline: R::Instant,
+        clock: &C,
+        party: &mut R::Party,
+    ) -> Result<Option<ArcRwLockWriteGuard<R, T, A>>, NoMemory>
+    where
+        R::Instant: Drop,
+        ensures { IfOk result (λ found. IfSome found (λ guard. arc_value guard.hold.place ≡ arc_value this.now)) }
+    {
+        let arc = Arc::try_clone(this)?;
+        Ok(ArcGuard::if_held(RawHold::wait_until(arc, deadline, clock, party)))
+    }
+}
+
+impl<R: RawRwLockUpgrade + Drop, T: Drop> RwLock<R, T>
+where
+    R::Runtime: Wait,
+{
+    /// Clones the Arc, and then waits for an upgradable hold. A refused clone takes no lock.
+    pub fn upgradable_read_arc<A: Allocator>(
+        this: &Arc<RwLock<R, T>, A>,
+        party: &mut R::Party,
+    ) -> Result<ArcRwLockUpgradableReadGuard<R, T, A>, NoMemory>
+        ensures { IfOk result (λ guard. arc_value guard.hold.place ≡ arc_value this.now) }
+    {
+        let arc = Arc::try_clone(this)?;
+        Ok(ArcGuard::over(RawHold::wait(arc, party)))
+    }
+
+    /// Clones the Arc, and then tries: None where the hold can't be had. A refused clone takes no lock.
+    pub fn try_upgradable_read_arc<A: Allocator>(
+        this: &Arc<RwLock<R, T>, A>,
+    ) -> Result<Option<ArcRwLockUpgradableReadGuard<R, T, A>>, NoMemory>
+        ensures { IfOk result (λ found. IfSome found (λ guard. arc_value guard.hold.place ≡ arc_value this.now)) }
+    {
+        let arc = Arc::try_clone(this)?;
+        Ok(ArcGuard::if_held(RawHold::at_once(arc)))
+    }
+}
+
+impl<R: RawRwLockUpgradeTimed + Drop, T: Drop> RwLock<R, T>
+where
+    R::Runtime: Wait,
+{
+    /// Clones the Arc, and then waits: None if the wait is given up after the length of time. A refused clone takes no lock.
+    pub fn try_upgradable_read_arc_for<C: Clock, A: Allocator>(
+        this: &Arc<RwLock<R, T>, A>,
+        timeout: R::Duration,
+        clock: &C,
+        party: &mut R::Party,
+    ) -> Result<Option<ArcRwLockUpgradableReadGuard<R, T, A>>, NoMemory>
+    where
+        R::Duration: Drop,
+        ensures { IfOk result (λ found. IfSome found (λ guard. arc_value guard.hold.place ≡ arc_value this.now)) }
+    {
+        let arc = Arc::try_clone(this)?;
+        Ok(ArcGuard::if_held(RawHold::wait_for(arc, timeout, clock, party)))
+    }
+
+    /// Clones the Arc, and then waits: None if the wait is given up at the moment. A refused clone takes no lock.
+    pub fn try_upgradable_read_arc_until<C: Clock, A: Allocator>(
+        this: &Arc<RwLock<R, T>, A>,
+        deadline: R::Instant,
+        clock: &C,
+        party: &mut R::Party,
+    ) -> Result<Option<ArcRwLockUpgradableReadGuard<R, T, A>>, NoMemory>
+    where
+        R::Instant: Drop,
+        ensures { IfOk result (λ found. IfSome found (λ guard. arc_value guard.hold.place ≡ arc_value this.now)) }
+    {
+        let arc = Arc::try_clone(this)?;
+        Ok(ArcGuard::if_held(RawHold::wait_until(arc, deadline, clock, party)))
+    }
+}
