@@ -1,0 +1,502 @@
+//! Where a call at a reader-writer lock goes on, by what its act gave.
+ghost use Rattle.std.specs.Prelude.{◌≡◌, ◌+◌, ◌-◌, ◌<◌, ◌%◌, ◌^◌, ◌==◌, ◌&&◌, ◌||◌, nat_lt, if◌then◌else◌, true, false, is_some, Some};
+ghost use Rattle.parking_lot_cores.specs.declared.rw_phase.RwPhase.TheVariants.{Enters, Loads, Leaves2, Scans, Loads2, Enters2, Appends, Retreats, Appends2, Retreats2, Ends, LooksExclusive, Owes, Leaves};
+ghost use Rattle.parking_lot_cores.specs.declared.rw_phase.Outcome.TheVariants as outcome;
+ghost use Rattle.parking_lot_cores.specs.RwTable.{admits, after, asks_again, begins, bumps, count_of, drains, gains, goes_on, hands, has_readers, has_room, is_admitted, is_barred, is_parked, is_tried, is_upgradable, is_writer_parked, is_written, once, over, pends, retries, scans, scans_for, seeks, tries, unshares, wakes, with_taken, won_or};
+
+use crate::act::{HAND_OVER, Seen, Taking};
+use crate::mutex_phase::{ROUNDS, TRIES};
+use crate::rw_act::{READER, UPGRADABLE, WRITER};
+use crate::rw_phase::{Draining, Outcome, Rest, RwPhase, Scanning, Seeking, Want};
+use parking_lot_core::{ParkToken, UnparkToken};
+
+/// One reader more can be counted than this.
+const MAX_READERS: u64 = (1 << 60) - 1;
+
+fn is_parked(word: u64) -> bool
+    ensures { result ≡ is_parked word }
+{
+    word % 2 == 1
+}
+
+fn is_writer_parked(word: u64) -> bool
+    ensures { result ≡ is_writer_parked word }
+{
+    (word / 2) % 2 == 1
+}
+
+fn is_upgradable(word: u64) -> bool
+    ensures { result ≡ is_upgradable word }
+{
+    (word / 4) % 2 == 1
+}
+
+fn is_written(word: u64) -> bool
+    ensures { result ≡ is_written word }
+{
+    (word / 8) % 2 == 1
+}
+
+fn has_readers(word: u64) -> bool
+    ensures { result ≡ has_readers word }
+{
+    word / 16 > 0
+}
+
+/// Whether one reader more can be counted.
+fn has_room(word: u64) -> bool
+    ensures { result ≡ has_room word }
+{
+    word / 16 < MAX_READERS
+}
+
+impl Want {
+    /// Whether somebody is in its way who is to be waited for.
+    fn is_barred(self, word: u64) -> bool
+        ensures { result ≡ is_barred self word }
+    {
+        match self {
+            Want::Shared(_) => is_written(word),
+            Want::Exclusive => is_written(word) || is_upgradable(word),
+        }
+    }
+
+    /// Whether it is admitted. On a recursive lock a reader passes a pending writer too, where there are readers.
+    fn is_admitted(self, word: u64) -> bool
+        ensures { result ≡ is_admitted self word }
+    {
+        match self {
+            Want::Shared(recursive) => {
+                has_room(word) && (!is_written(word) || (recursive && has_readers(word)))
+            }
+            Want::Exclusive => !(is_written(word) || is_upgradable(word)),
+        }
+    }
+
+    /// Whether a try is admitted: a writer's only at 0.
+    fn is_tried(self, word: u64) -> bool
+        ensures { result ≡ is_tried self word }
+    {
+        match self {
+            Want::Shared(_) => self.is_admitted(word),
+            Want::Exclusive => word == 0,
+        }
+    }
+
+    /// One that begins to ask, or was woken to ask again.
+    fn begins(self, woken: bool) -> Seeking
+        ensures { result ≡ begins self woken }
+    {
+        Seeking {
+            want: self,
+            woken,
+            rounds: ROUNDS,
+        }
+    }
+
+    /// One that was admitted: a writer waits for the readers to leave.
+    fn admits(self, woken: bool) -> RwPhase
+        ensures { result ≡ admits self woken }
+    {
+        match self {
+            Want::Shared(_) => RwPhase::Ends(Outcome::Shared),
+            Want::Exclusive => RwPhase::Loads2(Draining {
+                woken,
+                rounds: ROUNDS,
+            }),
+        }
+    }
+
+    /// What a try gives.
+    fn gains(self) -> Outcome
+        ensures { result ≡ gains self }
+    {
+        match self {
+            Want::Shared(_) => Outcome::Shared,
+            Want::Exclusive => Outcome::Exclusive,
+        }
+    }
+
+    /// A try has seen the word, and may make so many exchanges after the next.
+    fn tries(self, left: u8, word: u64) -> RwPhase
+        ensures { result ≡ tries self left word }
+    {
+        if self.is_tried(word) {
+            RwPhase::TryAdmits(self, word, left)
+        } else {
+            RwPhase::Refuses(self)
+        }
+    }
+
+    /// A try's exchange was won, or lost to this word.
+    fn tried(self, left: u8, outcome: Result<(), u64>) -> RwPhase
+        ensures { result ≡ won_or (Ends (gains self)) (retries self left) outcome }
+    {
+        match outcome {
+            Ok(()) => RwPhase::Ends(self.gains()),
+            Err(word) if left > 0 => self.tries(left - 1, word),
+            Err(_) => RwPhase::Refuses(self),
+        }
+    }
+
+    /// It has looked at the word in the section.
+    fn checks(self, woken: bool, word: u64) -> RwPhase
+        ensures { result ≡ (if is_barred self word && is_parked word then Appends self else Retreats self woken) }
+    {
+        if self.is_barred(word) && is_parked(word) {
+            RwPhase::Appends(self)
+        } else {
+            RwPhase::Retreats(self, woken)
+        }
+    }
+
+    /// It was woken: it is admitted where the lock was handed over, or begins to ask again.
+    fn wakes(self, token: UnparkToken) -> RwPhase
+        ensures { result ≡ (if token.0 == 1 then admits self true else Loads (begins self true)) }
+    {
+        if token.0 == HAND_OVER.0 {
+            self.admits(true)
+        } else {
+            RwPhase::Loads(self.begins(true))
+        }
+    }
+
+    /// A bump has seen the word: it gives the hold up where others wait.
+    fn bumps(self, word: u64) -> RwPhase
+        ensures { result ≡ bumps self word }
+    {
+        match self {
+            Want::Shared(_) if is_written(word) => RwPhase::Unshares(Rest::AgainShared),
+            Want::Shared(_) => RwPhase::Ends(Outcome::Shared),
+            Want::Exclusive if is_parked(word) => RwPhase::Unlocks(true, Rest::AgainExclusive),
+            Want::Exclusive => RwPhase::Ends(Outcome::Exclusive),
+        }
+    }
+}
+
+impl Seeking {
+    /// It has seen the word: it is admitted, or spins a while where nobody sleeps, or goes to sleep. Where no reader more can be
+    /// counted it looks again.
+    fn seeks(self, word: u64) -> RwPhase
+        ensures { result ≡ seeks self word }
+    {
+        if self.want.is_admitted(word) {
+            RwPhase::Admits(self, word)
+        } else if !self.want.is_barred(word) {
+            RwPhase::Loads(self)
+        } else if !(is_parked(word) || is_writer_parked(word)) && self.rounds > 0 {
+            RwPhase::Spins(self)
+        } else if is_parked(word) {
+            RwPhase::Enters(self.want, self.woken)
+        } else {
+            RwPhase::Flags(self, word)
+        }
+    }
+
+    /// The exchange that admits it was won, or lost to this word.
+    fn admitted(self, outcome: Result<(), u64>) -> RwPhase
+        ensures { result ≡ won_or (admits self.want false) (seeks self) outcome }
+    {
+        match outcome {
+            Ok(()) => self.want.admits(false),
+            Err(word) => self.seeks(word),
+        }
+    }
+
+    /// The exchange that sets the parked bit was won, or lost to this word.
+    fn flagged(self, outcome: Result<(), u64>) -> RwPhase
+        ensures { result ≡ won_or (Enters self.want self.woken) (seeks self) outcome }
+    {
+        match outcome {
+            Ok(()) => RwPhase::Enters(self.want, self.woken),
+            Err(word) => self.seeks(word),
+        }
+    }
+
+    /// A round was spun, or there were enough.
+    fn spun(self, spun: bool) -> RwPhase
+        ensures { result ≡ Loads (record self { rounds = if spun then self.rounds - 1 else 0 }) }
+    {
+        let rounds = if spun {
+            self.rounds.saturating_sub(1)
+        } else {
+            0
+        };
+        RwPhase::Loads(Seeking { rounds, ..self })
+    }
+}
+
+impl Draining {
+    /// It has seen the word: it is admitted where there are no readers, else it spins a while, or goes to sleep.
+    fn drains(self, word: u64) -> RwPhase
+        ensures { result ≡ drains self word }
+    {
+        if !has_readers(word) {
+            RwPhase::Ends(Outcome::Exclusive)
+        } else if self.rounds > 0 {
+            RwPhase::Spins2(self)
+        } else if is_writer_parked(word) {
+            RwPhase::Enters2(self)
+        } else {
+            RwPhase::Flags2(self, word)
+        }
+    }
+
+    /// The exchange that sets the writer-parked bit was won, or lost to this word.
+    fn flagged(self, outcome: Result<(), u64>) -> RwPhase
+        ensures { result ≡ won_or (Enters2 self) (drains self) outcome }
+    {
+        match outcome {
+            Ok(()) => RwPhase::Enters2(self),
+            Err(word) => self.drains(word),
+        }
+    }
+
+    /// A round was spun, or there were enough.
+    fn spun(self, spun: bool) -> RwPhase
+        ensures { result ≡ Loads2 (record self { rounds = if spun then self.rounds - 1 else 0 }) }
+    {
+        let rounds = if spun {
+            self.rounds.saturating_sub(1)
+        } else {
+            0
+        };
+        RwPhase::Loads2(Draining { rounds, ..self })
+    }
+
+    /// It has looked at the word in the section.
+    fn checks(self, word: u64) -> RwPhase
+        ensures { result ≡ (if has_readers word && is_writer_parked word then Appends2 self.rounds else Retreats2 self) }
+    {
+        if has_readers(word) && is_writer_parked(word) {
+            RwPhase::Appends2(self.rounds)
+        } else {
+            RwPhase::Retreats2(self)
+        }
+    }
+}
+
+impl Rest {
+    /// What comes where nobody was to be woken.
+    fn over(self) -> RwPhase
+        ensures { result ≡ over self }
+    {
+        match self {
+            Rest::FreedShared => RwPhase::Ends(Outcome::FreedShared),
+            Rest::FreedExclusive => RwPhase::Ends(Outcome::FreedExclusive),
+            Rest::Downgraded => RwPhase::Ends(Outcome::Downgraded),
+            Rest::AgainShared => RwPhase::Relocks(Want::Shared(false)),
+            Rest::AgainExclusive => RwPhase::Relocks(Want::Exclusive),
+        }
+    }
+
+    /// All is done, and a bump asks again, whatever the word is.
+    fn finished(self, _word: u64) -> Option<RwPhase>
+        ensures { result ≡ asks_again self }
+    {
+        match self {
+            Rest::FreedShared | Rest::FreedExclusive | Rest::Downgraded => None,
+            Rest::AgainShared => Some(RwPhase::Relocks(Want::Shared(false))),
+            Rest::AgainExclusive => Some(RwPhase::Relocks(Want::Exclusive)),
+        }
+    }
+
+    /// A shared hold was given up at this word: the last one owes the pending writer a look.
+    fn unshares(self, word: u64) -> RwPhase
+        ensures { result ≡ unshares self word }
+    {
+        if word / 16 == 1 && is_writer_parked(word) {
+            RwPhase::Owes2(self)
+        } else {
+            self.over()
+        }
+    }
+
+    /// The exchange that gives the exclusive hold up was won, or waiters are there.
+    fn unlocked(self, fair: bool, outcome: Result<(), u64>) -> RwPhase
+        ensures { result ≡ won_or (over self) (λ word. LooksExclusive fair self) outcome }
+    {
+        match outcome {
+            Ok(()) => self.over(),
+            Err(_) => RwPhase::LooksExclusive(fair, self),
+        }
+    }
+
+    /// So many are to be woken.
+    fn wakes(self, count: u64) -> RwPhase
+        ensures { result ≡ wakes self count }
+    {
+        if count > 0 {
+            RwPhase::Wakes(self, count)
+        } else {
+            RwPhase::Finishes(self)
+        }
+    }
+
+    /// A scan that has taken nobody yet.
+    fn scans(self, fair: bool) -> RwPhase
+        ensures { result ≡ Scans (scans_for fair self) }
+    {
+        RwPhase::Scans(Scanning {
+            fair,
+            rest: self,
+            shared: 0,
+            upgradable: false,
+            writer: false,
+        })
+    }
+}
+
+impl Scanning {
+    /// It has taken one more, by its token.
+    fn with(self, token: ParkToken) -> Option<Scanning>
+        ensures { result ≡ with_taken self token }
+    {
+        if token.0 == usize::from(READER) {
+            let shared = self.shared.saturating_add(1);
+            Some(Scanning { shared, ..self })
+        } else if token.0 == usize::from(WRITER) {
+            Some(Scanning {
+                writer: true,
+                ..self
+            })
+        } else if token.0 == usize::from(UPGRADABLE) {
+            Some(Scanning {
+                upgradable: true,
+                ..self
+            })
+        } else {
+            None
+        }
+    }
+
+    /// It goes on while waiters are left and no writer was taken.
+    fn goes_on(self, left: bool) -> RwPhase
+        ensures { result ≡ goes_on left self }
+    {
+        if left && !self.writer {
+            RwPhase::Scans(self)
+        } else {
+            RwPhase::Stores(self, left)
+        }
+    }
+
+    /// It has taken the next waiter, or there was none for it.
+    fn scans(self, taking: Taking) -> Option<RwPhase>
+        ensures { result ≡ scans self taking.token taking.left }
+    {
+        match taking.token {
+            None => Some(RwPhase::Stores(self, taking.left)),
+            Some(token) => Some(self.with(token)?.goes_on(taking.left)),
+        }
+    }
+
+    /// It has stored.
+    fn stored(self, fair: bool) -> RwPhase
+        ensures { result ≡ Leaves self.rest (count_of self) (hands self (self.fair || fair)) }
+    {
+        RwPhase::Leaves(self.rest, self.count(), self.hands(self.fair || fair))
+    }
+}
+
+/// An exclusive hold has become a shared one, at this word: waiters are owed a look.
+fn downgraded(word: u64) -> RwPhase
+    ensures { result ≡ (if is_parked word then Owes else Ends outcome.Downgraded) }
+{
+    if is_parked(word) {
+        RwPhase::Owes
+    } else {
+        RwPhase::Ends(Outcome::Downgraded)
+    }
+}
+
+/// The pending writer was taken, if there was one, and the writer-parked bit is cleared.
+fn masked(rest: Rest, taken: bool, _word: u64) -> RwPhase
+    ensures { result ≡ Leaves2 rest taken }
+{
+    RwPhase::Leaves2(rest, taken)
+}
+
+/// A pending writer was woken, whatever the token.
+fn looks_again(rounds: u8, _token: UnparkToken) -> Option<RwPhase>
+    ensures { result ≡ Some (Loads2 (record { woken = true; rounds = rounds })) }
+{
+    Some(RwPhase::Loads2(Draining {
+        woken: true,
+        rounds,
+    }))
+}
+
+/// The phase, if that was seen.
+fn once(seen: bool, phase: RwPhase) -> Option<RwPhase>
+    ensures { result ≡ once seen phase }
+{
+    if seen { Some(phase) } else { None }
+}
+
+impl RwPhase {
+    /// The phase that follows what the act of this one gave; `None` where the act can't give that.
+    pub fn after(self, seen: Seen) -> Option<RwPhase>
+        ensures { result ≡ after self seen }
+    {
+        match self {
+            RwPhase::Locking(want) => once(seen.is_start(), RwPhase::Loads(want.begins(false))),
+            RwPhase::Trying(want) => once(seen.is_start(), RwPhase::TryLoads(want)),
+            RwPhase::UnlockingShared => once(seen.is_start(), RwPhase::Unshares(Rest::FreedShared)),
+            RwPhase::UnlockingExclusive(fair) => once(
+                seen.is_start(),
+                RwPhase::Unlocks(fair, Rest::FreedExclusive),
+            ),
+            RwPhase::Downgrading => once(seen.is_start(), RwPhase::Downgrades),
+            RwPhase::BumpingShared => once(
+                seen.is_start(),
+                RwPhase::BumpLoads(Want::Shared(false)),
+            ),
+            RwPhase::BumpingExclusive => once(seen.is_start(), RwPhase::BumpLoads(Want::Exclusive)),
+            RwPhase::Loads(seeking) => Some(seeking.seeks(seen.word()?)),
+            RwPhase::Admits(seeking, _) => Some(seeking.admitted(seen.exchange()?)),
+            RwPhase::Spins(seeking) => Some(seeking.spun(seen.spun()?)),
+            RwPhase::Flags(seeking, _) => Some(seeking.flagged(seen.exchange()?)),
+            RwPhase::Enters(want, woken) => once(seen.is_entered(), RwPhase::Checks(want, woken)),
+            RwPhase::Checks(want, woken) => Some(want.checks(woken, seen.word()?)),
+            RwPhase::Retreats(want, woken) => once(
+                seen.is_made(),
+                RwPhase::Loads(want.begins(woken)),
+            ),
+            RwPhase::Appends(want) => once(seen.is_made(), RwPhase::Rests(want)),
+            RwPhase::Rests(want) => once(seen.is_made(), RwPhase::Sleeps(want)),
+            RwPhase::Sleeps(want) => Some(want.wakes(seen.woken()?)),
+            RwPhase::TryLoads(want) => Some(want.tries(TRIES - 1, seen.word()?)),
+            RwPhase::TryAdmits(want, _, left) => Some(want.tried(left, seen.exchange()?)),
+            RwPhase::BumpLoads(want) => Some(want.bumps(seen.word()?)),
+            RwPhase::Relocks(want) => Some(want.begins(false).seeks(seen.word()?)),
+            RwPhase::Loads2(draining) => Some(draining.drains(seen.word()?)),
+            RwPhase::Spins2(draining) => Some(draining.spun(seen.spun()?)),
+            RwPhase::Flags2(draining, _) => Some(draining.flagged(seen.exchange()?)),
+            RwPhase::Enters2(draining) => once(seen.is_entered(), RwPhase::Checks2(draining)),
+            RwPhase::Checks2(draining) => Some(draining.checks(seen.word()?)),
+            RwPhase::Retreats2(draining) => once(seen.is_made(), RwPhase::Loads2(draining)),
+            RwPhase::Appends2(rounds) => once(seen.is_made(), RwPhase::Rests2(rounds)),
+            RwPhase::Rests2(rounds) => once(seen.is_made(), RwPhase::Sleeps2(rounds)),
+            RwPhase::Sleeps2(rounds) => looks_again(rounds, seen.woken()?),
+            RwPhase::Unshares(rest) => Some(rest.unshares(seen.before()?)),
+            RwPhase::Owes2(rest) => once(seen.is_entered(), RwPhase::Takes2(rest)),
+            RwPhase::Takes2(rest) => Some(RwPhase::Masks2(rest, seen.took()?.token.is_some())),
+            RwPhase::Masks2(rest, taken) => Some(masked(rest, taken, seen.before()?)),
+            RwPhase::Leaves2(rest, taken) => once(seen.is_made(), rest.wakes(u64::from(taken))),
+            RwPhase::Unlocks(fair, rest) => Some(rest.unlocked(fair, seen.exchange()?)),
+            RwPhase::LooksExclusive(fair, rest) => once(seen.is_entered(), rest.scans(fair)),
+            RwPhase::Downgrades => Some(downgraded(seen.before()?)),
+            RwPhase::Owes => once(seen.is_entered(), Rest::Downgraded.scans(false)),
+            RwPhase::Scans(scanning) => scanning.scans(seen.took()?),
+            RwPhase::Stores(scanning, _) => Some(scanning.stored(seen.stored()?)),
+            RwPhase::Leaves(rest, count, _) => once(seen.is_made(), rest.wakes(count)),
+            RwPhase::Wakes(rest, count) => once(
+                seen.is_made(),
+                rest.wakes(count.saturating_sub(1)),
+            ),
+            RwPhase::Finishes(rest) => rest.finished(seen.word()?),
+            RwPhase::Refuses(_) | RwPhase::Ends(_) | RwPhase::Strays => None,
+        }
+    }
+}
