@@ -1,5 +1,5 @@
 //! The exact lot: its threads, and what it shows of them.
-ghost use Rattle.std.specs.Prelude.{◌≡◌, ◌<◌, ◌↔◌, ◌⊎◌, if◌then◌else◌, ℕ, IfOk, IfSome, IfErr, IsTrue, IsErrOf, false, Some, None, Err, count_by};
+ghost use Rattle.std.specs.Prelude.{◌≡◌, ◌<◌, ◌↔◌, ◌⊎◌, if◌then◌else◌, is_some, ℕ, IfOk, IfSome, IfErr, IsTrue, IsErrOf, false, Some, None, Err, count_by};
 ghost use Rattle.parking_lot_core.specs.Places.{place_at, late, roused, is_due, is_held};
 ghost use Rattle.std.specs.Option.{option_map_or};
 ghost use Rattle.parking_lot_core.specs.Machine.{machine, status_at, threads_of, is_in, is_thread, register_fault, retire_fault, deadline_fault, owner_fault, enter_fault, free_number, busy, changed_at, registered, retired, recorded, forgotten, Does, Makes, MakesOr};
@@ -140,8 +140,16 @@ impl<A: Allocator> Lot<A> {
         }
     }
 
-    /// That the lot is sound, for who says what a call on it did.
-    pub(crate) fn known(&self)
+    /// Whether a section is open that keeps others out of this key's list: they are refused as `Busy`.
+    pub fn is_entered(&self, _key: usize) -> bool
+        ensures { result ≡ is_some (machine self.now).section }
+    {
+        self.section.is_some()
+    }
+
+    /// That the lot is sound, for who says what a call on it did: a waiting thread stands once in its key's list, and nobody stands
+    /// elsewhere. It does nothing.
+    pub fn known(&self)
         ensures { Sound (machine self.now) }
     {
         let _ = &self.number;

@@ -52,7 +52,7 @@ impl<A: Allocator> Lot<A> {
     }
 
     /// Whether a key's list has waiters.
-    pub(crate) fn has_waiters(&self, key: usize) -> bool
+    pub fn has_waiters(&self, key: usize) -> bool
         ensures { result ≡ is_left ((machine self.now).queues key) }
     {
         self.waiting.get(key, 0).is_some()

@@ -113,6 +113,20 @@ impl RwCore {
         }
     }
 
+    /// Where it stands.
+    pub fn phase(&self) -> RwPhase
+        ensures { result ≡ self.now.phase }
+    {
+        self.phase
+    }
+
+    /// The act that it has asked for. Before it begins it asks for nothing, and says that it is refused.
+    pub fn act(&self) -> Act
+        ensures { result ≡ act_of self.now.phase }
+    {
+        self.phase.act()
+    }
+
     /// The token for those that the section has taken, once it has stored.
     pub fn wake_token(&self) -> UnparkToken
         ensures { result ≡ wakes_with self.now.phase }

@@ -1,0 +1,5 @@
+pub mod Rows
+pub mod Stances
+pub mod RowActs
+pub mod RowFits
+pub mod RowSteps

@@ -1,0 +1,182 @@
+-- What each act of a call leaves of the machine.
+use Rattle.std.specs.Prelude.{ℕ, ◌+◌, ◌*◌, ◌%◌, ◌^◌, ◌==◌, Bool, true, false, if◌then◌else◌, bit_and, List, [], ◌∷◌, ◌++◌, length, map, remove, Option, Some, None, slice_get, slice_set}
+use Rattle.std.specs.List.{position_or_len}
+use Rattle.std.specs.Option.{option_map, option_map_or}
+use Rattle.parking_lot_core.specs.declared.parking.ParkToken.{ParkToken}
+use Rattle.parking_lot_core.specs.declared.parking.UnparkToken.{UnparkToken}
+use Rattle.parking_lot_core.specs.declared.place.Place.{Place}
+use Rattle.parking_lot_core.specs.declared.place.Place.TheVariants.{Running}
+use Rattle.parking_lot_core.specs.declared.place.Phase.TheVariants as phase
+use Rattle.parking_lot_core.specs.declared.place.Waiter.{Waiter}
+use Rattle.parking_lot_core.specs.Results.{is_left}
+use Rattle.parking_lot_core.specs.Places.{place_at, mark_of}
+use Rattle.parking_lot_core.specs.Machine.{Machine, opened, in_phase, joined, taken, stored, closed}
+use Rattle.parking_lot_cores.specs.declared.act.Seen.{Seen}
+use Rattle.parking_lot_cores.specs.declared.act.Seen.TheVariants as seen
+use Rattle.parking_lot_cores.specs.declared.act.WordChange.{WordChange}
+use Rattle.parking_lot_cores.specs.Acts.{change_of}
+use Rattle.parking_lot_cores.specs.declared.act.CoreAnswer.TheVariants as answer
+use Rattle.parking_lot_cores.specs.declared.mutex_phase.MutexPhase.{MutexPhase}
+use Rattle.parking_lot_cores.specs.declared.mutex_phase.MutexPhase.TheVariants as m
+use Rattle.parking_lot_cores.specs.declared.rw_phase.RwPhase.{RwPhase}
+use Rattle.parking_lot_cores.specs.declared.rw_phase.RwPhase.TheVariants as r
+use Rattle.parking_lot_cores.specs.declared.rw_phase.Rest.{Rest}
+use Rattle.parking_lot_cores.specs.declared.rw_phase.Rest.TheVariants as rest
+use Rattle.parking_lot_cores.specs.declared.rw_phase.Outcome.{Outcome}
+use Rattle.parking_lot_cores.specs.declared.rw_phase.Outcome.TheVariants as outcome
+use Rattle.parking_lot_world.specs.declared.seat.Hold.{Hold}
+use Rattle.parking_lot_world.specs.declared.seat.Hold.TheVariants as hold
+use Rattle.parking_lot_world.specs.declared.seat.Told.{Told}
+use Rattle.parking_lot_world.specs.declared.seat.Told.TheVariants as told
+use Rattle.parking_lot_world.specs.declared.seat.Spot.{Spot}
+use Rattle.parking_lot_world.specs.declared.seat.Spot.TheVariants as spot
+use Rattle.parking_lot_world.specs.declared.seat.Core.{Core}
+use Rattle.parking_lot_world.specs.declared.seat.Core.TheVariants as core
+use Rattle.parking_lot_world.specs.declared.seat.Call.{Call}
+use Rattle.parking_lot_world.specs.declared.seat.Wakeup.{Wakeup}
+use Rattle.parking_lot_world.specs.Rows.{State, word_at, call_at, cell, is_by}
+use Rattle.parking_lot_world.specs.Stances.{Doing, Joins, Stance, In, stance, sign, core_next, core_tells}
+
+-- PARTS OF THE MACHINE THAT ACTS CHANGE
+
+abbrev pub with_call : State → ℕ → Call → State
+with_call s t c = record s { calls = slice_set s.calls t (Some c) }
+
+abbrev pub with_word : State → ℕ → ℕ → State
+with_word s j word = record s { words = slice_set s.words j word }
+
+abbrev pub with_lot : State → Machine → State
+with_lot s lot = record s { lot = lot }
+
+-- a call is told what its act gave
+abbrev pub hears : Call → Seen → Call
+hears c s = record c { core = core_next c.core s }
+
+-- the lot's key: k is 0 for the lock's first, 1 for its second
+abbrev pub key_of : Call → ℕ → ℕ
+key_of c k = 2 * c.lock + k
+
+-- whether it goes to sleep
+abbrev pub does_join : Doing → Bool
+does_join (Joins token) = true
+does_join how = false
+
+abbrev pub joins : Stance → Bool
+joins (In key how) = does_join how
+joins other = false
+
+-- what sleepers are told by a token
+abbrev pub told_of : UnparkToken → Told
+told_of token = if token.0 == 1 then told.HandedOver else told.TryAgain
+
+-- a thread tells all whom it has taken and told nothing yet
+abbrev pub settled_spot : ℕ → Told → Spot → Spot
+settled_spot t said spot.Listed = spot.Listed
+settled_spot t said (spot.Off by told.Nothing) = spot.Off by (if by == t then said else told.Nothing)
+settled_spot t said (spot.Off by told.TryAgain) = spot.Off by told.TryAgain
+settled_spot t said (spot.Off by told.HandedOver) = spot.Off by told.HandedOver
+
+abbrev pub settled : ℕ → Told → Call → Call
+settled t said c = record c { spot = settled_spot t said c.spot }
+
+abbrev pub settles : State → ℕ → Told → State
+settles s t said = record s { calls = map (option_map (settled t said)) s.calls }
+
+-- a sleeper is off its list, taken by a thread
+abbrev pub off_list : ℕ → Call → Call
+off_list t c = record c { spot = spot.Off t told.Nothing }
+
+abbrev pub takes_off : State → ℕ → ℕ → State
+takes_off s v t = record s { calls = slice_set s.calls v (option_map (off_list t) (call_at s v)) }
+
+-- THE ACTS, OF A THREAD t IN A CALL c
+
+abbrev pub loaded : State → ℕ → Call → State
+loaded s t c = with_call s t (hears c (seen.Word (word_at s c.lock)))
+
+abbrev pub exchanged : State → ℕ → Call → ℕ → ℕ → State
+exchanged s t c from to =
+    if word_at s c.lock == from then with_word (with_call s t (hears c seen.Exchanged)) c.lock to else loaded s t c
+
+abbrev pub added : State → ℕ → Call → ℕ → State
+added s t c by = with_word (with_call s t (hears c (seen.Before (word_at s c.lock)))) c.lock ((word_at s c.lock + by) % 2 ^ 64)
+
+-- a mask is the store of a section of the second key
+abbrev pub masked : State → ℕ → Call → ℕ → State
+masked s t c keep =
+    with_word (with_lot (settles (with_call s t (hears c (seen.Before (word_at s c.lock)))) t told.TryAgain) (stored s.lot (sign false))) c.lock (bit_and (word_at s c.lock) keep)
+
+abbrev pub spun : State → ℕ → Call → State
+spun s t c = with_call s t (hears c (seen.Spun true))
+
+abbrev pub entered : State → ℕ → Call → ℕ → State
+entered s t c k = with_lot (with_call s t (hears c seen.Entered)) (opened s.lot (Some t) (key_of c k))
+
+abbrev pub checked : State → ℕ → Call → State
+checked s t c = with_lot (loaded s t c) (in_phase s.lot (if joins (stance (hears c (seen.Word (word_at s c.lock))).core) then phase.Valid else phase.Invalid))
+
+abbrev pub appended : State → ℕ → Call → ℕ → ParkToken → State
+appended s t c key token = with_lot (with_call s t (record (hears c seen.Made) { spot = spot.Listed })) (joined (in_phase s.lot phase.Joined) t key token false)
+
+-- it takes the waiter w at an index of the key's list, or nobody
+abbrev pub took : State → ℕ → Call → ℕ → ℕ → Waiter → State
+took s t c key nth w =
+    record (with_call (takes_off s w.thread t) t (hears c (seen.Took (Some w.token) (is_left (remove (s.lot.queues key) nth))))) {
+      wakes = s.wakes ++ record { by = t; thread = w.thread; mark = option_map_or mark_of (place_at s.lot.places w.thread) 0 } ∷ [];
+      lot = taken (in_phase s.lot (phase.Taking nth)) key nth;
+    }
+
+abbrev pub took_nobody : State → ℕ → Call → ℕ → State
+took_nobody s t c key = with_lot (with_call s t (hears c (seen.Took None (is_left (s.lot.queues key))))) (in_phase s.lot phase.Ended)
+
+abbrev pub told_all : State → ℕ → Call → WordChange → Bool → State
+told_all s t c change fair =
+    let d = hears c (seen.Stored fair) in
+    with_word (with_lot (settles (with_call s t d) t (told_of (core_tells d.core))) (stored s.lot (core_tells d.core))) c.lock (change_of change (word_at s c.lock))
+
+abbrev pub left : State → ℕ → Call → State
+left s t c = with_lot (with_call s t (hears c seen.Made)) (closed s.lot false)
+
+-- it wakes the first whom it is to wake, which is in the call d, with that token
+abbrev pub woke : State → ℕ → Call → ℕ → Call → UnparkToken → State
+woke s t c v d token =
+    record (with_call (with_call s v (hears d (seen.Woken token))) t (hears c seen.Made)) {
+      wakes = remove s.wakes (position_or_len (is_by t) s.wakes);
+      lot = record s.lot { places = slice_set s.lot.places v (Some Running) };
+    }
+
+-- WHAT A THREAD OWNS WHERE ITS CALL ENDS
+
+abbrev pub rest_hold : ℕ → Rest → Hold
+rest_hold n rest.FreedShared = hold.Shares n
+rest_hold n rest.FreedExclusive = hold.Shares 0
+rest_hold n rest.Downgraded = hold.Shares 1
+rest_hold n rest.AgainShared = hold.Shares n
+rest_hold n rest.AgainExclusive = hold.Shares 0
+
+abbrev pub outcome_hold : ℕ → Outcome → Hold
+outcome_hold n outcome.Shared = hold.Shares (n + 1)
+outcome_hold n outcome.Exclusive = hold.Excludes
+outcome_hold n outcome.Downgraded = hold.Shares 1
+outcome_hold n outcome.FreedShared = hold.Shares n
+outcome_hold n outcome.FreedExclusive = hold.Shares 0
+
+abbrev pub rw_hold_after : ℕ → RwPhase → Hold
+rw_hold_after n (r.Finishes rest) = rest_hold n rest
+rw_hold_after n (r.Ends outcome) = outcome_hold n outcome
+rw_hold_after n phase = hold.Shares n
+
+abbrev pub mutex_hold_after : MutexPhase → Hold
+mutex_hold_after (m.Ends answer.Owned) = hold.Excludes
+mutex_hold_after phase = hold.Shares 0
+
+abbrev pub hold_after : ℕ → Core → Hold
+hold_after n (core.Mutex c) = mutex_hold_after c.phase
+hold_after n (core.Rw c) = rw_hold_after n c.phase
+
+abbrev pub answered : State → ℕ → Call → State
+answered s t c = record s { calls = slice_set s.calls t None; holds = slice_set s.holds (cell s t c.lock) (hold_after c.others c.core) }
+
+-- a call begins
+abbrev pub begun : State → ℕ → Call → State
+begun s t c = with_call s t (hears c seen.Start)

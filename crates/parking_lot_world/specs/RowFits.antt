@@ -1,0 +1,173 @@
+-- What holds of the machine at every moment.
+use Rattle.std.specs.Prelude.{◌≡◌, ◌≢◌, ℕ, ◌+◌, ◌*◌, ◌<◌, ◌≤◌, ◌^◌, ◌⊎◌, ◌==◌, Bool, true, false, List, [], length, Option, Some, None, slice_get}
+use Rattle.std.specs.Option.{option_map_or}
+use Rattle.parking_lot_core.specs.declared.parking.ParkToken.{ParkToken}
+use Rattle.parking_lot_core.specs.declared.parking.UnparkToken.{UnparkToken}
+use Rattle.parking_lot_core.specs.declared.place.Place.{Place}
+use Rattle.parking_lot_core.specs.declared.place.Place.TheVariants.{Running, Waiting, Held, Taken}
+use Rattle.parking_lot_core.specs.declared.place.Phase.{Phase}
+use Rattle.parking_lot_core.specs.declared.place.Phase.TheVariants as phase
+use Rattle.parking_lot_core.specs.declared.place.Section.{Section}
+use Rattle.parking_lot_core.specs.declared.place.Sleep.{Sleep}
+use Rattle.parking_lot_core.specs.declared.place.Waiter.{Waiter}
+use Rattle.parking_lot_core.specs.Places.{place_at, mark_of, may_take, may_store}
+use Rattle.parking_lot_core.specs.Machine.{Machine}
+use Rattle.parking_lot_core.specs.Results.{is_left}
+use Rattle.parking_lot_core.specs.Sound as lot
+use Rattle.parking_lot_rules.specs.Any.{AnyLock, AnySound, any_inside}
+use Rattle.parking_lot_rules.specs.Family.{Family, SoundFamilyOf}
+use Rattle.parking_lot_cores.specs.RwRules as of_rw
+use Rattle.parking_lot_cores.specs.declared.mutex_phase.MutexPhase.{MutexPhase}
+use Rattle.parking_lot_cores.specs.declared.mutex_phase.MutexPhase.TheVariants as m
+use Rattle.parking_lot_cores.specs.declared.rw_phase.RwPhase.{RwPhase}
+use Rattle.parking_lot_cores.specs.declared.rw_phase.RwPhase.TheVariants as r
+use Rattle.parking_lot_rules.specs.ReadLock.{word_of}
+use Rattle.parking_lot_world.specs.declared.calls.LockKind.{LockKind}
+use Rattle.parking_lot_world.specs.declared.calls.LockKind.TheVariants as kind
+use Rattle.parking_lot_world.specs.declared.seat.Hold.{Hold}
+use Rattle.parking_lot_world.specs.declared.seat.Hold.TheVariants as hold
+use Rattle.parking_lot_world.specs.declared.seat.Told.{Told}
+use Rattle.parking_lot_world.specs.declared.seat.Told.TheVariants as told
+use Rattle.parking_lot_world.specs.declared.seat.Spot.{Spot}
+use Rattle.parking_lot_world.specs.declared.seat.Spot.TheVariants as spot
+use Rattle.parking_lot_world.specs.declared.seat.Core.{Core}
+use Rattle.parking_lot_world.specs.declared.seat.Core.TheVariants as core
+use Rattle.parking_lot_world.specs.declared.seat.Call.{Call}
+use Rattle.parking_lot_world.specs.declared.seat.Wakeup.{Wakeup}
+use Rattle.parking_lot_world.specs.Rows.{State, word_at, hold_at, call_at, taken_by, family, one_bucket}
+use Rattle.parking_lot_world.specs.Stances.{Doing, Looks, TurnsBack, Joins, Joined, Takes, Stores, Tells, Stance, Out, In, Asleep, stance, taken_count}
+use Rattle.parking_lot_world.specs.RowActs.{told_of}
+
+-- THE LOT
+
+-- how far the section has come in which a thread does so
+abbrev pub HasCome : Doing → Phase → UnparkToken → Type 0
+HasCome Looks ph token = ph ≡ phase.Fresh
+HasCome TurnsBack ph token = ph ≡ phase.Invalid
+HasCome (Joins park) ph token = ph ≡ phase.Valid
+HasCome (Joined park) ph token = ph ≡ phase.Joined
+HasCome Takes ph token = may_take ph ≡ true
+HasCome Stores ph token = may_store ph ≡ true
+HasCome (Tells said) ph token = (ph ≡ phase.Stored) × (token ≡ said)
+
+-- it waits in that list, and has no deadline
+abbrev pub WaitsIn : Option Place → ℕ → Type 0
+WaitsIn place key = (sleep : Sleep) × (place ≡ Some (Waiting key sleep)) × (sleep.late ≡ false)
+
+abbrev pub PlaceWhile : Doing → Option Place → ℕ → Type 0
+PlaceWhile (Joined token) place key = WaitsIn place key
+PlaceWhile how place key = place ≡ Some Running
+
+-- what was said to those that an open section has taken
+abbrev pub SaidIn : Section → Told → Type 0
+SaidIn section said = ((section.phase ≡ phase.Stored) × (said ≡ told_of section.token)) ⊎ ((may_store section.phase ≡ true) × (said ≡ told.Nothing))
+
+-- a sleeper stands in its list, or was taken by a section that is open or by one that is closed
+abbrev pub IsAt : Spot → Option Place → Option Section → ℕ → Type 0
+IsAt spot.Listed place section key = WaitsIn place key
+IsAt (spot.Off by said) place section key =
+    (sleep : Sleep) × (sleep.late ≡ false)
+    × (((place ≡ Some (Held sleep)) × (opened : Section) × (section ≡ Some opened) × (opened.thread ≡ Some by) × SaidIn opened said)
+    ⊎ ((token : UnparkToken) × (place ≡ Some (Taken token sleep false)) × (said ≡ told_of token)))
+
+-- thread t isn't the one whose section is open
+abbrev pub IsOutside : ℕ → Option Section → Type 0
+IsOutside t section = (opened : Section) → section ≡ Some opened → opened.thread ≢ Some t
+
+-- its stance at lock j fits the lot
+abbrev pub Stands : ℕ → ℕ → Stance → Spot → Option Place → Option Section → Type 0
+Stands t j Out at place section = (place ≡ Some Running) × IsOutside t section
+Stands t j (In k how) at place section =
+    (opened : Section) × (section ≡ Some opened) × (opened.thread ≡ Some t) × (opened.key ≡ 2 * j + k) × HasCome how opened.phase opened.token × PlaceWhile how place (2 * j + k)
+Stands t j (Asleep k token) at place section = IsAt at place section (2 * j + k) × IsOutside t section
+
+-- one in no call
+abbrev pub Seated : ℕ → Option Call → Option Place → Option Section → Type 0
+Seated t None place section = (place ≡ Some Running) × IsOutside t section
+Seated t (Some c) place section = Stands t c.lock (stance c.core) c.spot place section
+
+-- a waiter with that token in the k-th list of a lock
+abbrev pub Awaits : ℕ → ParkToken → Stance → Type 0
+Awaits k token (In key (Joined park)) = (key ≡ k) × (park ≡ token)
+Awaits k token (Asleep key park) = (key ≡ k) × (park ≡ token)
+Awaits k token other = ⊥
+
+-- WHAT THE PARTS OF THE MACHINE SAY TO EACH OTHER
+
+-- the call is of the lock's kind
+abbrev pub IsOfKind : Option LockKind → Core → Type 0
+IsOfKind k (core.Mutex c) = k ≡ Some kind.Mutex
+IsOfKind k (core.Rw c) = k ≡ Some kind.Rw
+
+-- What a phase needs of what its thread owns beside and has taken, where that doesn't follow from what the word says.
+abbrev pub rw_prepared : ℕ → List ℕ → RwPhase → Type 0
+rw_prepared n us (r.Unshares rest) = Unit {0}
+rw_prepared n us r.Downgrades = Unit {0}
+rw_prepared n us p = of_rw.Fits false n us p (word_of 0)
+
+abbrev pub IsPrepared : ℕ → List ℕ → Core → Type 0
+IsPrepared n us (core.Mutex c) = n ≡ 0
+IsPrepared n us (core.Rw c) = of_rw.IsReady c.phase × rw_prepared n us c.phase
+
+-- What one that is to store knows of its list: it has taken a writer or all, and whether waiters are left.
+abbrev pub mutex_knows : MutexPhase → List Waiter → Type 0
+mutex_knows (m.Stores giving taken left) queue = (is_left queue ≡ left) × (taken ≡ false → left ≡ false)
+mutex_knows phase queue = Unit {0}
+
+abbrev pub rw_knows : RwPhase → List Waiter → List Waiter → Type 0
+rw_knows (r.Scans s) first second = s.upgradable ≡ false
+rw_knows (r.Stores s left) first second = (s.upgradable ≡ false) × (is_left first ≡ left) × ((s.writer ≡ true) ⊎ (left ≡ false))
+rw_knows (r.Masks2 rest taken) first second = second ≡ []
+rw_knows phase first second = Unit {0}
+
+abbrev pub KnowsList : Core → (ℕ → List Waiter) → ℕ → Type 0
+KnowsList (core.Mutex c) queues j = mutex_knows c.phase (queues (2 * j))
+KnowsList (core.Rw c) queues j = rw_knows c.phase (queues (2 * j)) (queues (2 * j + 1))
+
+-- Who was taken sleeps off its list, at the lock of its taker.
+pub record IsTaken (s : State) (e : Wakeup) : Type 0 where
+  pub taker : Call
+  pub there : call_at s e.by ≡ Some taker
+  pub call : Call
+  pub here : call_at s e.thread ≡ Some call
+  pub lock : call.lock ≡ taker.lock
+  pub said : Told
+  pub spot : call.spot ≡ spot.Off e.by said
+  pub key : ℕ
+  pub token : ParkToken
+  pub asleep : stance call.core ≡ Asleep key token
+  pub mark : option_map_or mark_of (place_at s.lot.places e.thread) 0 ≡ e.mark
+
+-- The lot's side.
+pub record LotFits (s : State) : Type 0 where
+  -- the lot is sound, and each thread's place in it is the one of its stance
+  pub sound : lot.Sound s.lot
+  pub seated : (t : ℕ) → t < length s.calls → Seated t (call_at s t) (place_at s.lot.places t) s.lot.section
+  pub opened : (section : Section) → s.lot.section ≡ Some section → (t : ℕ) × (section.thread ≡ Some t) × (t < length s.calls)
+  -- who waits in a lock's list is in a call there
+  pub waits : (j k n : ℕ) (w : Waiter) → k < 2 → slice_get (s.lot.queues (2 * j + k)) n ≡ Some w
+      → (c : Call) × (call_at s w.thread ≡ Some c) × (c.lock ≡ j) × (c.spot ≡ spot.Listed) × Awaits k w.token (stance c.core)
+  -- each is taken once, and its taker counts it
+  pub woken : (n : ℕ) (e : Wakeup) → slice_get s.wakes n ≡ Some e → IsTaken s e
+  pub once : (n m : ℕ) (e f : Wakeup) → slice_get s.wakes n ≡ Some e → slice_get s.wakes m ≡ Some f → e.thread ≡ f.thread → n ≡ m
+  pub counted : (t : ℕ) (c : Call) → call_at s t ≡ Some c → length (taken_by s.wakes t) ≡ taken_count c.core
+  pub untaken : (t : ℕ) → call_at s t ≡ None → taken_by s.wakes t ≡ []
+
+-- The side of the rules.
+pub record RulesFit (s : State) : Type 0 where
+  pub size_holds : length s.holds ≡ length s.calls * length s.kinds
+  pub size_words : length s.words ≡ length s.kinds
+  pub small : length s.calls < 2 ^ 17
+  -- a call is of its lock's kind, and stands as its phase asks
+  pub kinds : (t : ℕ) (c : Call) → call_at s t ≡ Some c → IsOfKind (slice_get s.kinds c.lock) c.core
+  pub prepared : (t : ℕ) (c : Call) → call_at s t ≡ Some c → IsPrepared c.others (taken_by s.wakes t) c.core
+  pub knows : (t : ℕ) (c : Call) → call_at s t ≡ Some c → KnowsList c.core s.lot.queues c.lock
+  -- one thread has few shared holds of a lock
+  pub few : (t i n : ℕ) → hold_at s t i ≡ hold.Shares n → n ≤ 255
+  pub beside : (t : ℕ) (c : Call) → call_at s t ≡ Some c → c.others ≤ 254
+  -- the locks are sound
+  pub sound : SoundFamilyOf AnySound any_inside one_bucket (family s)
+
+pub record FitsTogether (s : State) : Type 0 where
+  pub lots : LotFits s
+  pub rules : RulesFit s

@@ -1,0 +1,70 @@
+-- Which steps of the rules the acts of the machine are.
+use Rattle.std.specs.Prelude.{◌≡◌, ℕ, Bool, true, false, List, [], ◌∷◌, Some}
+use Rattle.parking_lot_rules.specs.Roles.{Mode, Owned, Asleep}
+use Rattle.parking_lot_rules.specs.Steps.{Step, Alone, List_changes, Take1, Take2, Store, Wake, Scan, Waking}
+use Rattle.parking_lot_rules.specs.Mutex as mutex
+use Rattle.parking_lot_rules.specs.Any.{AnyStep, RwStep, MxStep, any_rules}
+use Rattle.parking_lot_rules.specs.Family.{StepOf}
+use Rattle.parking_lot_cores.specs.declared.act.Seen.{Seen}
+use Rattle.parking_lot_cores.specs.MutexRules as of_mutex
+use Rattle.parking_lot_cores.specs.RwRules as of_rw
+use Rattle.parking_lot_world.specs.declared.seat.Core.{Core}
+use Rattle.parking_lot_world.specs.declared.seat.Core.TheVariants as core
+use Rattle.parking_lot_world.specs.declared.seat.Call.{Call}
+use Rattle.parking_lot_world.specs.Rows.{State, lock_at, inside, family, one_bucket, taken_by, first_of_all}
+
+-- nothing of the locks changes
+pub record IsQuiet (s u : State) : Type 0 where
+  pub locks : (i : ℕ) → lock_at u i ≡ lock_at s i
+  pub inside : inside u ≡ inside s
+
+-- thread t makes a step of the rules at lock j, and nothing changes at the others
+abbrev pub IsMade : ℕ → ℕ → AnyStep → State → State → Type 0
+IsMade j t step s u = StepOf (any_rules (λ i. false)) one_bucket j t step (family s) (family u)
+
+-- and which step it is, by the move that the core's table names
+abbrev pub IsRwMove : of_rw.Move → ℕ → ℕ → State → State → Type 0
+IsRwMove of_rw.Stays j t s u = IsQuiet s u
+IsRwMove (of_rw.Makes k) j t s u = IsMade j t (RwStep (Alone k)) s u
+IsRwMove (of_rw.Joins k) j t s u = IsMade j t (RwStep (List_changes k)) s u
+IsRwMove (of_rw.TakesOne mode) j t s u = (scan : Scan) × (i v : ℕ) × IsMade j t (RwStep (Take1 scan i v mode Asleep)) s u
+IsRwMove of_rw.TakesWriter j t s u = (owns : Owned) × (v : ℕ) × IsMade j t (RwStep (Take2 owns v false Asleep)) s u
+IsRwMove (of_rw.Tells end left) j t s u = (scan : Scan) × IsMade j t (RwStep (Store end scan)) s u
+IsRwMove of_rw.WakesOne j t s u = (owns : Owned) × (v : ℕ) × (us : List ℕ) × (k : Waking) × IsMade j t (RwStep (Wake owns v us k Asleep)) s u
+IsRwMove (of_rw.IsWoken k) j t s u = ⊥
+
+-- a release stores: the mutex is handed over or not, by whether it was
+abbrev pub store_step : Bool → List ℕ → mutex.Step
+store_step true (v ∷ us) = mutex.Hand v
+store_step true [] = mutex.Free []
+store_step false us = mutex.Free us
+
+-- those that are woken own the mutex, or try again
+abbrev pub wake_step : Bool → ℕ → List ℕ → mutex.Step
+wake_step true v us = mutex.WakeOwner false v us Asleep
+wake_step false v us = mutex.Wake false v us Asleep
+
+abbrev pub IsMutexMove : of_mutex.Move → List ℕ → ℕ → ℕ → State → State → Type 0
+IsMutexMove of_mutex.Stays us j t s u = IsQuiet s u
+IsMutexMove (of_mutex.Makes k) us j t s u = IsMade j t (MxStep (mutex.Alone k)) s u
+IsMutexMove of_mutex.Joins us j t s u = IsMade j t (MxStep mutex.Join) s u
+IsMutexMove of_mutex.TakesOne us j t s u = (v : ℕ) × IsMade j t (MxStep (mutex.Take v Asleep)) s u
+IsMutexMove (of_mutex.Tells taken handed left) us j t s u = IsMade j t (MxStep (store_step handed us)) s u
+IsMutexMove of_mutex.WakesOne us j t s u = (handed : Bool) × (v : ℕ) × (rest : List ℕ) × IsMade j t (MxStep (wake_step handed v rest)) s u
+IsMutexMove (of_mutex.IsWoken handed) us j t s u = ⊥
+
+-- A thread in a call at lock j is told this, and the machine's step is the one that the core's table names.
+abbrev pub IsMoveOf : Core → ℕ → List ℕ → Seen → ℕ → ℕ → State → State → Type 0
+IsMoveOf (core.Rw c) n us told j t s u = IsRwMove (of_rw.move n us c.phase told) j t s u
+IsMoveOf (core.Mutex c) n us told j t s u = IsMutexMove (of_mutex.move (first_of_all us) c.phase told) us j t s u
+
+abbrev pub Goes : ℕ → Call → Seen → State → State → Type 0
+Goes t c told s u = IsMoveOf c.core c.others (taken_by s.wakes t) told c.lock t s u
+
+-- and where the call ends
+abbrev pub IsLastOf : Core → ℕ → ℕ → ℕ → State → State → Type 0
+IsLastOf (core.Rw c) n j t s u = IsRwMove (of_rw.last_move n c.phase) j t s u
+IsLastOf (core.Mutex c) n j t s u = IsMutexMove (of_mutex.last_move c.phase) [] j t s u
+
+abbrev pub GoesAway : ℕ → Call → State → State → Type 0
+GoesAway t c s u = IsLastOf c.core c.others c.lock t s u

@@ -1,0 +1,104 @@
+-- Where a call stands to the sections and lists of the lot, whatever the kind of its lock.
+use Rattle.std.specs.Prelude.{ℕ, Bool, true, false, Option, Some, None}
+use Rattle.parking_lot_core.specs.declared.parking.ParkToken.{ParkToken}
+use Rattle.parking_lot_core.specs.declared.parking.UnparkToken.{UnparkToken}
+use Rattle.parking_lot_cores.specs.declared.act.Act.{Act}
+use Rattle.parking_lot_cores.specs.declared.act.Seen.{Seen}
+use Rattle.parking_lot_cores.specs.declared.mutex_phase.MutexPhase.{MutexPhase}
+use Rattle.parking_lot_cores.specs.declared.mutex_phase.MutexPhase.TheVariants as m
+use Rattle.parking_lot_cores.specs.declared.rw_phase.RwPhase.{RwPhase}
+use Rattle.parking_lot_cores.specs.declared.rw_phase.RwPhase.TheVariants as r
+use Rattle.parking_lot_cores.specs.MutexTable as of_mutex
+use Rattle.parking_lot_cores.specs.RwTable as of_rw
+use Rattle.parking_lot_world.specs.declared.seat.Core.{Core}
+use Rattle.parking_lot_world.specs.declared.seat.Core.TheVariants as core
+
+-- What a thread does in its section.
+pub data Doing : Type 0 where
+  -- it looks at the word, to go to sleep, and turns back or joins the list
+  Looks : Doing
+  TurnsBack : Doing
+  Joins : (token : ParkToken) → Doing
+  Joined : (token : ParkToken) → Doing
+  -- it takes waiters, stores, and leaves with what they are told
+  Takes : Doing
+  Stores : Doing
+  Tells : (token : UnparkToken) → Doing
+
+-- key: 0 for the lock's first, 1 for its second
+pub data Stance : Type 0 where
+  Out : Stance
+  In : (key : ℕ) → (how : Doing) → Stance
+  Asleep : (key : ℕ) → (token : ParkToken) → Stance
+
+abbrev pub sign : Bool → UnparkToken
+sign true = record { 0 = 1 }
+sign false = record { 0 = 0 }
+
+abbrev pub mutex_stance : MutexPhase → Stance
+mutex_stance (m.Checks woken) = In 0 Looks
+mutex_stance (m.Retreats woken) = In 0 TurnsBack
+mutex_stance m.Appends = In 0 (Joins (record { 0 = 0 }))
+mutex_stance m.Rests = In 0 (Joined (record { 0 = 0 }))
+mutex_stance m.Sleeps = Asleep 0 (record { 0 = 0 })
+mutex_stance (m.Takes giving) = In 0 Takes
+mutex_stance (m.Stores giving taken left) = In 0 Stores
+mutex_stance (m.Leaves giving taken handed) = In 0 (Tells (sign handed))
+mutex_stance phase = Out
+
+abbrev pub rw_stance : RwPhase → Stance
+rw_stance (r.Checks want woken) = In 0 Looks
+rw_stance (r.Retreats want woken) = In 0 TurnsBack
+rw_stance (r.Appends want) = In 0 (Joins (record { 0 = of_rw.share_of want }))
+rw_stance (r.Rests want) = In 0 (Joined (record { 0 = of_rw.share_of want }))
+rw_stance (r.Sleeps want) = Asleep 0 (record { 0 = of_rw.share_of want })
+rw_stance (r.Checks2 d) = In 1 Looks
+rw_stance (r.Retreats2 d) = In 1 TurnsBack
+rw_stance (r.Appends2 rounds) = In 1 (Joins (record { 0 = 8 }))
+rw_stance (r.Rests2 rounds) = In 1 (Joined (record { 0 = 8 }))
+rw_stance (r.Sleeps2 rounds) = Asleep 1 (record { 0 = 8 })
+rw_stance (r.Takes2 rest) = In 1 Takes
+rw_stance (r.Masks2 rest taken) = In 1 Stores
+rw_stance (r.Leaves2 rest taken) = In 1 (Tells (sign false))
+rw_stance (r.Scans s) = In 0 Takes
+rw_stance (r.Stores s left) = In 0 Stores
+rw_stance (r.Leaves rest count handed) = In 0 (Tells (sign handed))
+rw_stance phase = Out
+
+abbrev pub stance : Core → Stance
+stance (core.Mutex c) = mutex_stance c.phase
+stance (core.Rw c) = rw_stance c.phase
+
+-- how many it has taken and not woken yet
+abbrev pub mutex_taken : MutexPhase → ℕ
+mutex_taken (m.Stores giving taken left) = of_mutex.bit taken
+mutex_taken (m.Leaves giving taken handed) = of_mutex.bit taken
+mutex_taken (m.Wakes giving) = 1
+mutex_taken phase = 0
+
+abbrev pub rw_taken : RwPhase → ℕ
+rw_taken (r.Masks2 rest taken) = of_mutex.bit taken
+rw_taken (r.Leaves2 rest taken) = of_mutex.bit taken
+rw_taken (r.Scans s) = of_rw.count_of s
+rw_taken (r.Stores s left) = of_rw.count_of s
+rw_taken (r.Leaves rest count handed) = count
+rw_taken (r.Wakes rest count) = count
+rw_taken phase = 0
+
+abbrev pub taken_count : Core → ℕ
+taken_count (core.Mutex c) = mutex_taken c.phase
+taken_count (core.Rw c) = rw_taken c.phase
+
+-- what a core asks for, and what follows what it is told
+abbrev pub core_act : Core → Act
+core_act (core.Mutex c) = of_mutex.act_of c.phase
+core_act (core.Rw c) = of_rw.act_of c.phase
+
+abbrev pub core_next : Core → Seen → Core
+core_next (core.Mutex c) seen = core.Mutex (record c { phase = of_mutex.next_phase c.phase seen })
+core_next (core.Rw c) seen = core.Rw (record c { phase = of_rw.next_phase c.phase seen })
+
+-- the token for those whom the section took, once it has stored
+abbrev pub core_tells : Core → UnparkToken
+core_tells (core.Mutex c) = of_mutex.wakes_with c.phase
+core_tells (core.Rw c) = of_rw.wakes_with c.phase
