@@ -1,0 +1,4 @@
+mod Everybody
+mod Lifting
+mod Making
+mod Acting

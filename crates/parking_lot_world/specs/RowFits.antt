@@ -1,5 +1,5 @@
 -- What holds of the machine at every moment.
-use Rattle.std.specs.Prelude.{◌≡◌, ◌≢◌, ℕ, ◌+◌, ◌*◌, ◌<◌, ◌≤◌, ◌^◌, ◌⊎◌, ◌==◌, Bool, true, false, List, [], length, Option, Some, None, slice_get}
+use Rattle.std.specs.Prelude.{◌≡◌, ◌≢◌, ℕ, ◌+◌, ◌*◌, ◌<◌, ◌≤◌, ◌^◌, ◌⊎◌, ◌==◌, Bool, true, false, not, count_by, List, [], length, Option, Some, None, slice_get}
 use Rattle.std.specs.Option.{option_map_or}
 use Rattle.parking_lot_core.specs.declared.parking.ParkToken.{ParkToken}
 use Rattle.parking_lot_core.specs.declared.parking.UnparkToken.{UnparkToken}
@@ -19,6 +19,8 @@ use Rattle.parking_lot_rules.specs.Family.{Family, SoundFamilyOf}
 use Rattle.parking_lot_cores.specs.RwRules as of_rw
 use Rattle.parking_lot_cores.specs.declared.mutex_phase.MutexPhase.{MutexPhase}
 use Rattle.parking_lot_cores.specs.declared.mutex_phase.MutexPhase.TheVariants as m
+use Rattle.parking_lot_cores.specs.declared.rw_phase.Want.{Want}
+use Rattle.parking_lot_cores.specs.declared.rw_phase.Want.TheVariants as want
 use Rattle.parking_lot_cores.specs.declared.rw_phase.RwPhase.{RwPhase}
 use Rattle.parking_lot_cores.specs.declared.rw_phase.RwPhase.TheVariants as r
 use Rattle.parking_lot_rules.specs.ReadLock.{word_of}
@@ -105,9 +107,34 @@ rw_prepared n us (r.Unshares rest) = Unit {0}
 rw_prepared n us r.Downgrades = Unit {0}
 rw_prepared n us p = of_rw.Fits false n us p (word_of 0)
 
-abbrev pub IsPrepared : ℕ → List ℕ → Core → Type 0
-IsPrepared n us (core.Mutex c) = n ≡ 0
-IsPrepared n us (core.Rw c) = of_rw.IsReady c.phase × rw_prepared n us c.phase
+-- a want of a lock on which owners don't ask again
+abbrev pub wants_plainly : Want → Bool
+wants_plainly (want.Shared recursive) = not recursive
+wants_plainly want.Exclusive = true
+
+abbrev pub asks_plainly : RwPhase → Bool
+asks_plainly (r.Locking want) = wants_plainly want
+asks_plainly (r.Trying want) = wants_plainly want
+asks_plainly (r.Loads a) = wants_plainly a.want
+asks_plainly (r.Admits a word) = wants_plainly a.want
+asks_plainly (r.Spins a) = wants_plainly a.want
+asks_plainly (r.Flags a word) = wants_plainly a.want
+asks_plainly (r.Enters want woken) = wants_plainly want
+asks_plainly (r.Checks want woken) = wants_plainly want
+asks_plainly (r.Retreats want woken) = wants_plainly want
+asks_plainly (r.Appends want) = wants_plainly want
+asks_plainly (r.Rests want) = wants_plainly want
+asks_plainly (r.Sleeps want) = wants_plainly want
+asks_plainly (r.TryLoads want) = wants_plainly want
+asks_plainly (r.TryAdmits want word left) = wants_plainly want
+asks_plainly (r.Refuses want) = wants_plainly want
+asks_plainly (r.BumpLoads want) = wants_plainly want
+asks_plainly (r.Relocks want) = wants_plainly want
+asks_plainly phase = true
+
+abbrev pub IsPrepared : Core → Type 0
+IsPrepared (core.Mutex c) = Unit {0}
+IsPrepared (core.Rw c) = of_rw.IsReady c.phase × (asks_plainly c.phase ≡ true)
 
 -- What one that is to store knows of its list: it has taken a writer or all, and whether waiters are left.
 abbrev pub mutex_knows : MutexPhase → List Waiter → Type 0
@@ -153,6 +180,20 @@ pub record LotFits (s : State) : Type 0 where
   pub counted : (t : ℕ) (c : Call) → call_at s t ≡ Some c → length (taken_by s.wakes t) ≡ taken_count c.core
   pub untaken : (t : ℕ) → call_at s t ≡ None → taken_by s.wakes t ≡ []
 
+-- Who is off its list.
+abbrev pub is_off : Spot → Bool
+is_off spot.Listed = false
+is_off (spot.Off by said) = true
+
+abbrev pub is_away : Option Call → Bool
+is_away None = false
+is_away (Some c) = is_off c.spot
+
+pub record WakesFit (s : State) : Type 0 where
+  -- whoever is off its list is to be woken by who took it
+  pub off : (t by : ℕ) (c : Call) (said : Told) → call_at s t ≡ Some c → c.spot ≡ spot.Off by said → (n : ℕ) × (e : Wakeup) × (slice_get s.wakes n ≡ Some e) × (e.by ≡ by) × (e.thread ≡ t)
+  pub room : length s.wakes ≡ count_by is_away s.calls
+
 -- The side of the rules.
 pub record RulesFit (s : State) : Type 0 where
   pub size_holds : length s.holds ≡ length s.calls * length s.kinds
@@ -160,14 +201,17 @@ pub record RulesFit (s : State) : Type 0 where
   pub small : length s.calls < 2 ^ 17
   -- a call is of its lock's kind, and stands as its phase asks
   pub kinds : (t : ℕ) (c : Call) → call_at s t ≡ Some c → IsOfKind (slice_get s.kinds c.lock) c.core
-  pub prepared : (t : ℕ) (c : Call) → call_at s t ≡ Some c → IsPrepared c.others (taken_by s.wakes t) c.core
+  pub prepared : (t : ℕ) (c : Call) → call_at s t ≡ Some c → IsPrepared c.core
   pub knows : (t : ℕ) (c : Call) → call_at s t ≡ Some c → KnowsList c.core s.lot.queues c.lock
-  -- one thread has few shared holds of a lock
-  pub few : (t i n : ℕ) → hold_at s t i ≡ hold.Shares n → n ≤ 255
-  pub beside : (t : ℕ) (c : Call) → call_at s t ≡ Some c → c.others ≤ 254
+  -- a thread has one shared hold of a lock at most
+  pub few : (t i n : ℕ) → hold_at s t i ≡ hold.Shares n → n ≤ 1
+  pub beside : (t : ℕ) (c : Call) → call_at s t ≡ Some c → c.others ≡ 0
+  -- each word has the bits of its kind
+  pub bits : (i : ℕ) → slice_get s.kinds i ≡ Some kind.Mutex → word_at s i < 4
   -- the locks are sound
   pub sound : SoundFamilyOf AnySound any_inside one_bucket (family s)
 
 pub record FitsTogether (s : State) : Type 0 where
   pub lots : LotFits s
+  pub wakes : WakesFit s
   pub rules : RulesFit s

@@ -1,7 +1,9 @@
 //! Worlds of locks: threads' calls at locks, one atomic step at a time, by any schedule.
 #![tactic(auto)]
 
+mod acts;
 mod calls;
+mod laws;
 mod row_machine;
 mod seat;
 
@@ -10,4 +12,5 @@ pub use parking_lot_cores::{
     Act, CoreAnswer, HAND_OVER, LockTable, MutexCore, Row, RwCore, SectionAct, Seen, TRY_AGAIN,
     WordChange, wake_sum,
 };
+pub use laws::acts_are_steps;
 pub use row_machine::RowMachine;
