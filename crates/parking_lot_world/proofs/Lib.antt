@@ -2,3 +2,4 @@ mod Everybody
 mod Lifting
 mod Making
 mod Acting
+pub mod Stancing

@@ -56,9 +56,9 @@ HasCome (Tells said) ph token = (ph ≡ phase.Stored) × (token ≡ said)
 abbrev pub WaitsIn : Option Place → ℕ → Type 0
 WaitsIn place key = (sleep : Sleep) × (place ≡ Some (Waiting key sleep)) × (sleep.late ≡ false)
 
-abbrev pub PlaceWhile : Doing → Option Place → ℕ → Type 0
-PlaceWhile (Joined token) place key = WaitsIn place key
-PlaceWhile how place key = place ≡ Some Running
+abbrev pub PlaceWhile : Doing → Spot → Option Place → ℕ → Type 0
+PlaceWhile (Joined token) at place key = (at ≡ spot.Listed) × WaitsIn place key
+PlaceWhile how at place key = place ≡ Some Running
 
 -- what was said to those that an open section has taken
 abbrev pub SaidIn : Section → Told → Type 0
@@ -80,7 +80,7 @@ IsOutside t section = (opened : Section) → section ≡ Some opened → opened.
 abbrev pub Stands : ℕ → ℕ → Stance → Spot → Option Place → Option Section → Type 0
 Stands t j Out at place section = (place ≡ Some Running) × IsOutside t section
 Stands t j (In k how) at place section =
-    (opened : Section) × (section ≡ Some opened) × (opened.thread ≡ Some t) × (opened.key ≡ 2 * j + k) × HasCome how opened.phase opened.token × PlaceWhile how place (2 * j + k)
+    (opened : Section) × (section ≡ Some opened) × (opened.thread ≡ Some t) × (opened.key ≡ 2 * j + k) × HasCome how opened.phase opened.token × PlaceWhile how at place (2 * j + k)
 Stands t j (Asleep k token) at place section = IsAt at place section (2 * j + k) × IsOutside t section
 
 -- one in no call
@@ -165,6 +165,10 @@ pub record IsTaken (s : State) (e : Wakeup) : Type 0 where
   pub asleep : stance call.core ≡ Asleep key token
   pub mark : option_map_or mark_of (place_at s.lot.places e.thread) 0 ≡ e.mark
 
+-- t is still to be woken by the thread that took it
+abbrev pub IsOwed : List Wakeup → ℕ → ℕ → Type 0
+IsOwed wakes by t = (n : ℕ) × (e : Wakeup) × (slice_get wakes n ≡ Some e) × (e.by ≡ by) × (e.thread ≡ t)
+
 -- The lot's side.
 pub record LotFits (s : State) : Type 0 where
   -- the lot is sound, and each thread's place in it is the one of its stance
@@ -174,6 +178,8 @@ pub record LotFits (s : State) : Type 0 where
   -- who waits in a lock's list is in a call there
   pub waits : (j k n : ℕ) (w : Waiter) → k < 2 → slice_get (s.lot.queues (2 * j + k)) n ≡ Some w
       → (c : Call) × (call_at s w.thread ≡ Some c) × (c.lock ≡ j) × (c.spot ≡ spot.Listed) × Awaits k w.token (stance c.core)
+  -- who sleeps off its list is still to be woken by its taker
+  pub owed : (t : ℕ) (c : Call) (key : ℕ) (token : ParkToken) (by : ℕ) (said : Told) → call_at s t ≡ Some c → stance c.core ≡ Asleep key token → c.spot ≡ spot.Off by said → IsOwed s.wakes by t
   -- each is taken once, and its taker counts it
   pub woken : (n : ℕ) (e : Wakeup) → slice_get s.wakes n ≡ Some e → IsTaken s e
   pub once : (n m : ℕ) (e f : Wakeup) → slice_get s.wakes n ≡ Some e → slice_get s.wakes m ≡ Some f → e.thread ≡ f.thread → n ≡ m

@@ -4,10 +4,12 @@
 mod acts;
 mod calls;
 mod laws;
+mod lot_laws;
 mod row_machine;
 mod seat;
 
 pub use calls::{LockCall, LockKind, OwnMode};
+pub use lot_laws::stances_follow_acts;
 pub use parking_lot_cores::{
     Act, CoreAnswer, HAND_OVER, LockTable, MutexCore, Row, RwCore, SectionAct, Seen, TRY_AGAIN,
     WordChange, wake_sum,

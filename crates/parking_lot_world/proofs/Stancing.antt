@@ -1,0 +1,320 @@
+-- Where a call stands, act by act.
+use Rattle.std.proofs.Common.{◌≡◌, ◌≤◌, ◌<◌, ℕ, ◌+◌, ◌-◌, ◌*◌, ◌/◌, ◌%◌, ◌^◌, ◌==◌, ◌&&◌, ◌||◌, ◌⊎◌, inl, inr, nat_lt, not, min, Bool, true, false, cond, Option, Some, None, is_some, Result, Ok, Err, refl, sym, ap, ◌∙◌, subst, arith}
+use Rattle.std.proofs.lemmas.Bool.{eq-eqb, ne_eqb, ltb-false, cond-true, cond-false}
+use Rattle.std.specs.Option.{option_map, option_map_or}
+use Rattle.parking_lot_core.specs.declared.parking.ParkToken.{ParkToken}
+use Rattle.parking_lot_core.specs.declared.parking.UnparkToken.{UnparkToken}
+use Rattle.parking_lot_cores.specs.Acts.{Gives, word_seen}
+use Rattle.parking_lot_cores.specs.MutexTable as mt
+use Rattle.parking_lot_cores.specs.RwTable as rt
+use Rattle.parking_lot_cores.specs.declared.act.Act.{Act}
+use Rattle.parking_lot_cores.specs.declared.act.Act.TheVariants as act
+use Rattle.parking_lot_cores.specs.declared.act.CoreAnswer.TheVariants as answer
+use Rattle.parking_lot_cores.specs.declared.act.Seen.{Seen}
+use Rattle.parking_lot_cores.specs.declared.act.Seen.TheVariants as seen
+use Rattle.parking_lot_cores.specs.declared.mutex_phase.Asking.{Asking}
+use Rattle.parking_lot_cores.specs.declared.mutex_phase.MutexPhase.{MutexPhase}
+use Rattle.parking_lot_cores.specs.declared.mutex_phase.MutexPhase.TheVariants as m
+use Rattle.parking_lot_cores.specs.declared.rw_phase.Draining.{Draining}
+use Rattle.parking_lot_cores.specs.declared.rw_phase.Outcome.TheVariants as outcome
+use Rattle.parking_lot_cores.specs.declared.rw_phase.Rest.{Rest}
+use Rattle.parking_lot_cores.specs.declared.rw_phase.Rest.TheVariants as rest
+use Rattle.parking_lot_cores.specs.declared.rw_phase.RwPhase.{RwPhase}
+use Rattle.parking_lot_cores.specs.declared.rw_phase.RwPhase.TheVariants as r
+use Rattle.parking_lot_cores.specs.declared.rw_phase.Scanning.{Scanning}
+use Rattle.parking_lot_cores.specs.declared.rw_phase.Seeking.{Seeking}
+use Rattle.parking_lot_cores.specs.declared.rw_phase.Want.{Want}
+use Rattle.parking_lot_cores.specs.declared.rw_phase.Want.TheVariants as want
+use Rattle.parking_lot_world.specs.declared.seat.Core.{Core}
+use Rattle.parking_lot_world.specs.declared.seat.Core.TheVariants as core
+use Rattle.parking_lot_world.specs.Stances.{Looks, TurnsBack, Joins, Joined, Takes, Stores, Tells, Stance, Out, In, Asleep, sign, mutex_stance, rw_stance, stance, mutex_taken, rw_taken, taken_count, core_act, core_next, core_tells}
+use Rattle.parking_lot_world.specs.StanceLaws.{StaysOut, LeavesFor, TookFor, Leads, LeadsCore, rw_counts, Counts, TakesOne, IsOver}
+
+-- what holds of both holds of either
+pick : {X : Type 0} (P : X → Type 0) (b : Bool) (x y : X) → P x → P y → P (cond b x y)
+pick P true x y h k = h
+pick P false x y h k = k
+
+-- MUTEXES
+
+-- a phase outside, with nobody taken
+abbrev Idle : MutexPhase → Type 0
+Idle p = (mutex_stance p ≡ Out) × (mutex_taken p ≡ 0)
+
+seeks_idle : (a : Asking) (word : ℕ) → Idle (mt.seeks a word)
+seeks_idle a word =
+    pick Idle (word == 0) _ _ (refl, refl)
+    (pick Idle (word == 2) _ _ (refl, refl) (pick Idle (word == 1) _ _ (pick Idle (nat_lt 0 a.rounds) _ _ (refl, refl) (refl, refl)) (refl, refl)))
+
+tries_idle : (left word : ℕ) → Idle (mt.tries left word)
+tries_idle left word = pick Idle (word == 0) _ _ (refl, refl) (pick Idle (word == 2) _ _ (refl, refl) (refl, refl))
+
+retries_idle : (left word : ℕ) → Idle (mt.retries left word)
+retries_idle left word = pick Idle (nat_lt 0 left) _ _ (tries_idle (left - 1) word) (refl, refl)
+
+abbrev LeadsM : MutexPhase → Seen → MutexPhase → Type 0
+LeadsM p s q = Leads (mt.act_of p) s (mutex_stance p) (mutex_stance q) (mutex_taken p) (mutex_taken q) (mt.wakes_with q)
+
+pub mutex_leads : (p : MutexPhase) (word : ℕ) (s : Seen) → Gives (mt.act_of p) word s → LeadsM p s (mt.next_phase p s)
+mutex_leads (m.Loads a) word (seen.Word w) g = let i = seeks_idle a w in (refl, i.0, i.1)
+mutex_leads (m.Locks a waiters) word seen.Exchanged g = (refl, refl, refl)
+mutex_leads (m.Locks a waiters) word (seen.Word w) g = let i = seeks_idle a w in (refl, i.0, i.1)
+mutex_leads (m.Spins a) word (seen.Spun spun) g = let i = pick Idle spun (m.Loads (record a { rounds = a.rounds - 1 })) (m.Parks a) (refl, refl) (refl, refl) in (refl, i.0, i.1)
+mutex_leads (m.Parks a) word seen.Exchanged g = (refl, refl, refl)
+mutex_leads (m.Parks a) word (seen.Word w) g = let i = seeks_idle a w in (refl, i.0, i.1)
+mutex_leads (m.Enters woken) word seen.Entered g = (refl, inl refl, refl)
+mutex_leads (m.Checks woken) word (seen.Word w) g = go (w == 3)
+  where
+    go : (b : Bool) → LeadsM (m.Checks woken) (seen.Word w) (cond b m.Appends (m.Retreats woken))
+    go true = (0, refl, inr (record { 0 = 0 }, refl), refl, refl)
+    go false = (0, refl, inl refl, refl, refl)
+mutex_leads (m.Retreats woken) word seen.Made g = inl (0, refl, refl, refl, refl)
+mutex_leads m.Appends word seen.Made g = (0, refl, refl, refl, refl)
+mutex_leads m.Rests word seen.Made g = inr (inl (0, record { 0 = 0 }, refl, refl, refl, refl))
+mutex_leads m.Sleeps word (seen.Woken token) g =
+    let i = pick Idle (token.0 == 1) (m.Ends answer.Owned) (m.Loads (mt.begins true)) (refl, refl) (refl, refl) in (0, record { 0 = 0 }, refl, i.0, refl, i.1)
+mutex_leads m.TryLoads word (seen.Word w) g = let i = tries_idle 63 w in (refl, i.0, i.1)
+mutex_leads (m.TryLocks waiters left) word seen.Exchanged g = (refl, refl, refl)
+mutex_leads (m.TryLocks waiters left) word (seen.Word w) g = let i = retries_idle left w in (refl, i.0, i.1)
+mutex_leads m.BumpLoads word (seen.Word w) g =
+    let i = pick Idle (w / 2 % 2 == 1) (m.Unlocks (record { fair = true; again = true })) (m.Ends answer.Owned) (refl, refl) (refl, refl) in (refl, i.0, i.1)
+mutex_leads m.Relocks word (seen.Word w) g = let i = seeks_idle (mt.begins false) w in (refl, i.0, i.1)
+mutex_leads (m.Unlocks a) word seen.Exchanged g = let i = pick Idle a.again m.Relocks (m.Ends answer.Released) (refl, refl) (refl, refl) in (refl, i.0, i.1)
+mutex_leads (m.Unlocks a) word (seen.Word w) g = (refl, refl, refl)
+mutex_leads (m.Looks a) word seen.Entered g = (refl, inr refl, refl)
+mutex_leads (m.Takes a) word (seen.Took None left) g = (0, refl, (refl, refl))
+mutex_leads (m.Takes a) word (seen.Took (Some token) left) g = (0, refl, tt)
+mutex_leads (m.Stores a taken left) word (seen.Stored fair) g = go (taken && (a.fair || fair))
+  where
+    go : (b : Bool) → Leads (mt.act_of (m.Stores a taken left)) (seen.Stored fair) (In 0 Stores) (In 0 (Tells (sign b))) (mt.bit taken) (mt.bit taken) (mt.wakes_with (m.Leaves a taken b))
+    go true = (0, refl, refl, refl)
+    go false = (0, refl, refl, refl)
+mutex_leads (m.Leaves a true handed) word seen.Made g = inr (inr (0, sign handed, refl, refl, refl))
+mutex_leads (m.Leaves a false handed) word seen.Made g = inr (inr (0, sign handed, refl, refl, refl))
+mutex_leads (m.Wakes a) word seen.Made g = (refl, refl, refl)
+mutex_leads (m.Finishes a) word s g = go a.again s g
+  where
+    go : (b : Bool) (s : Seen) → Gives (cond b act.Load (act.Done answer.Released)) word s → let q = option_map_or (λ p. p) (cond b (option_map (λ w. m.Relocks) (word_seen s)) None) m.Strays in
+        Leads (cond b act.Load (act.Done answer.Released)) s Out (mutex_stance q) 0 (mutex_taken q) (mt.wakes_with q)
+    go true (seen.Word w) g = (refl, refl, refl)
+    go false s g = absurd g
+    go true s g = absurd g
+mutex_leads p word s g = absurd g
+
+-- READER-WRITER LOCKS
+
+abbrev RwIdle : RwPhase → Type 0
+RwIdle p = (rw_stance p ≡ Out) × (rw_taken p ≡ 0)
+
+rw_seeks_idle : (a : Seeking) (word : ℕ) → RwIdle (rt.seeks a word)
+rw_seeks_idle a word =
+    pick RwIdle (rt.is_admitted a.want word) _ _ (refl, refl)
+    (pick RwIdle (rt.is_barred a.want word) _ _
+    (pick RwIdle (not (rt.is_parked word || rt.is_writer_parked word) && nat_lt 0 a.rounds) _ _ (refl, refl) (pick RwIdle (rt.is_parked word) _ _ (refl, refl) (refl, refl))) (refl, refl))
+
+drains_idle : (d : Draining) (word : ℕ) → RwIdle (rt.drains d word)
+drains_idle d word =
+    pick RwIdle (rt.has_readers word) _ _ (pick RwIdle (nat_lt 0 d.rounds) _ _ (refl, refl) (pick RwIdle (rt.is_writer_parked word) _ _ (refl, refl) (refl, refl))) (refl, refl)
+
+rw_tries_idle : (want : Want) (left word : ℕ) → RwIdle (rt.tries want left word)
+rw_tries_idle want left word = pick RwIdle (rt.is_tried want word) _ _ (refl, refl) (refl, refl)
+
+rw_retries_idle : (want : Want) (left word : ℕ) → RwIdle (rt.retries want left word)
+rw_retries_idle want left word = pick RwIdle (nat_lt 0 left) _ _ (rw_tries_idle want (left - 1) word) (refl, refl)
+
+admits_idle : (want : Want) (woken : Bool) → RwIdle (rt.admits want woken)
+admits_idle (want.Shared recursive) woken = (refl, refl)
+admits_idle want.Exclusive woken = (refl, refl)
+
+over_idle : (rest : Rest) → RwIdle (rt.over rest)
+over_idle rest.FreedShared = (refl, refl)
+over_idle rest.FreedExclusive = (refl, refl)
+over_idle rest.Downgraded = (refl, refl)
+over_idle rest.AgainShared = (refl, refl)
+over_idle rest.AgainExclusive = (refl, refl)
+
+bumps_idle : (want : Want) (word : ℕ) → RwIdle (rt.bumps want word)
+bumps_idle (want.Shared recursive) word = pick RwIdle (rt.is_written word) _ _ (refl, refl) (refl, refl)
+bumps_idle want.Exclusive word = pick RwIdle (rt.is_parked word) _ _ (refl, refl) (refl, refl)
+
+-- those that are to be woken are counted
+wakes_count : (rest : Rest) (count : ℕ) → (rw_stance (rt.wakes rest count) ≡ Out) × (rw_taken (rt.wakes rest count) ≡ count)
+wakes_count rest count = go (nat_lt 0 count) refl
+  where
+    go : (b : Bool) → nat_lt 0 count ≡ b → (rw_stance (cond b (r.Wakes rest count) (r.Finishes rest)) ≡ Out) × (rw_taken (cond b (r.Wakes rest count) (r.Finishes rest)) ≡ count)
+    go true e = (refl, refl)
+    go false e = let z : count ≤ 0 = ltb-false 0 count e in (refl, omega arith)
+
+abbrev LeadsRw : RwPhase → Seen → RwPhase → Type 0
+LeadsRw p s q = Leads (rt.act_of p) s (rw_stance p) (rw_stance q) (rw_taken p) (rw_taken q) (rt.wakes_with q)
+
+finishes : (rest : Rest) (word : ℕ) (s : Seen) → Gives (rt.last_act rest) word s → Leads (rt.last_act rest) s Out (rw_stance (rt.next_phase (r.Finishes rest) s)) 0 (rw_taken (rt.next_phase (r.Finishes rest) s)) (rt.wakes_with (rt.next_phase (r.Finishes rest) s))
+finishes rest.AgainShared word (seen.Word w) g = (refl, refl, refl)
+finishes rest.AgainExclusive word (seen.Word w) g = (refl, refl, refl)
+finishes rest word s g = absurd g
+
+pub rw_leads : (p : RwPhase) (word : ℕ) (s : Seen) → Gives (rt.act_of p) word s → LeadsRw p s (rt.next_phase p s)
+rw_leads (r.Loads a) word (seen.Word w) g = let i = rw_seeks_idle a w in (refl, i.0, i.1)
+rw_leads (r.Admits a from) word seen.Exchanged g = let i = admits_idle a.want false in (refl, i.0, i.1)
+rw_leads (r.Admits a from) word (seen.Word w) g = let i = rw_seeks_idle a w in (refl, i.0, i.1)
+rw_leads (r.Spins a) word (seen.Spun spun) g = (refl, refl, refl)
+rw_leads (r.Flags a from) word seen.Exchanged g = (refl, refl, refl)
+rw_leads (r.Flags a from) word (seen.Word w) g = let i = rw_seeks_idle a w in (refl, i.0, i.1)
+rw_leads (r.Enters want woken) word seen.Entered g = (refl, inl refl, refl)
+rw_leads (r.Checks want woken) word (seen.Word w) g = go (rt.is_barred want w && rt.is_parked w)
+  where
+    go : (b : Bool) → LeadsRw (r.Checks want woken) (seen.Word w) (cond b (r.Appends want) (r.Retreats want woken))
+    go true = (0, refl, inr (record { 0 = rt.share_of want }, refl), refl, refl)
+    go false = (0, refl, inl refl, refl, refl)
+rw_leads (r.Retreats want woken) word seen.Made g = inl (0, refl, refl, refl, refl)
+rw_leads (r.Appends want) word seen.Made g = (0, refl, refl, refl, refl)
+rw_leads (r.Rests want) word seen.Made g = inr (inl (0, record { 0 = rt.share_of want }, refl, refl, refl, refl))
+rw_leads (r.Sleeps want) word (seen.Woken token) g =
+    let i = pick RwIdle (token.0 == 1) (rt.admits want true) (r.Loads (rt.begins want true)) (admits_idle want true) (refl, refl) in (0, record { 0 = rt.share_of want }, refl, i.0, refl, i.1)
+rw_leads (r.Loads2 d) word (seen.Word w) g = let i = drains_idle d w in (refl, i.0, i.1)
+rw_leads (r.Spins2 d) word (seen.Spun spun) g = (refl, refl, refl)
+rw_leads (r.Flags2 d from) word seen.Exchanged g = (refl, refl, refl)
+rw_leads (r.Flags2 d from) word (seen.Word w) g = let i = drains_idle d w in (refl, i.0, i.1)
+rw_leads (r.Enters2 d) word seen.Entered g = (refl, inl refl, refl)
+rw_leads (r.Checks2 d) word (seen.Word w) g = go (rt.has_readers w && rt.is_writer_parked w)
+  where
+    go : (b : Bool) → LeadsRw (r.Checks2 d) (seen.Word w) (cond b (r.Appends2 d.rounds) (r.Retreats2 d))
+    go true = (1, refl, inr (record { 0 = 8 }, refl), refl, refl)
+    go false = (1, refl, inl refl, refl, refl)
+rw_leads (r.Retreats2 d) word seen.Made g = inl (1, refl, refl, refl, refl)
+rw_leads (r.Appends2 rounds) word seen.Made g = (1, refl, refl, refl, refl)
+rw_leads (r.Rests2 rounds) word seen.Made g = inr (inl (1, record { 0 = 8 }, refl, refl, refl, refl))
+rw_leads (r.Sleeps2 rounds) word (seen.Woken token) g = (1, record { 0 = 8 }, refl, refl, refl, refl)
+rw_leads (r.TryLoads want) word (seen.Word w) g = let i = rw_tries_idle want 63 w in (refl, i.0, i.1)
+rw_leads (r.TryAdmits want from left) word seen.Exchanged g = (refl, refl, refl)
+rw_leads (r.TryAdmits want from left) word (seen.Word w) g = let i = rw_retries_idle want left w in (refl, i.0, i.1)
+rw_leads (r.BumpLoads want) word (seen.Word w) g = let i = bumps_idle want w in (refl, i.0, i.1)
+rw_leads (r.Relocks want) word (seen.Word w) g = let i = rw_seeks_idle (rt.begins want false) w in (refl, i.0, i.1)
+rw_leads (r.Unshares rest) word (seen.Before w) g = let i = pick RwIdle (w / 16 == 1 && rt.is_writer_parked w) (r.Owes2 rest) (rt.over rest) (refl, refl) (over_idle rest) in (refl, i.0, i.1)
+rw_leads (r.Owes2 rest) word seen.Entered g = (refl, inr refl, refl)
+rw_leads (r.Takes2 rest) word (seen.Took None left) g = (1, refl, (refl, refl))
+rw_leads (r.Takes2 rest) word (seen.Took (Some token) left) g = (1, refl, tt)
+rw_leads (r.Masks2 rest taken) word (seen.Before w) g = (refl, refl, refl)
+rw_leads (r.Leaves2 rest taken) word seen.Made g = let i = wakes_count rest (mt.bit taken) in inr (inr (1, sign false, refl, i.0, i.1))
+rw_leads (r.Unlocks fair rest) word seen.Exchanged g = let i = over_idle rest in (refl, i.0, i.1)
+rw_leads (r.Unlocks fair rest) word (seen.Word w) g = (refl, refl, refl)
+rw_leads (r.LooksExclusive fair rest) word seen.Entered g = (refl, inr refl, refl)
+rw_leads r.Downgrades word (seen.Before w) g = let i = pick RwIdle (rt.is_parked w) r.Owes (r.Ends outcome.Downgraded) (refl, refl) (refl, refl) in (refl, i.0, i.1)
+rw_leads r.Owes word seen.Entered g = (refl, inr refl, refl)
+rw_leads (r.Scans a) word (seen.Took None left) g = (0, refl, (refl, refl))
+rw_leads (r.Scans a) word (seen.Took (Some token) left) g = (0, refl, tt)
+rw_leads (r.Stores a left) word (seen.Stored fair) g = go (rt.hands a (a.fair || fair))
+  where
+    go : (b : Bool) → Leads (rt.act_of (r.Stores a left)) (seen.Stored fair) (In 0 Stores) (In 0 (Tells (sign b))) (rt.count_of a) (rt.count_of a) (rt.wakes_with (r.Leaves a.rest (rt.count_of a) b))
+    go true = (0, refl, refl, refl)
+    go false = (0, refl, refl, refl)
+rw_leads (r.Leaves rest count handed) word seen.Made g = let i = wakes_count rest count in inr (inr (0, sign handed, refl, i.0, i.1))
+rw_leads (r.Wakes rest count) word seen.Made g = let i = wakes_count rest (count - 1) in (refl, i.0, i.1)
+rw_leads (r.Finishes rest) word s g = finishes rest word s g
+rw_leads p word s g = absurd g
+
+-- CORES OF EITHER KIND
+
+pub acts_lead : (c : Core) (word : ℕ) (s : Seen) → Gives (core_act c) word s → LeadsCore (core_act c) s c (core_next c s)
+acts_lead (core.Mutex c) word s g = mutex_leads c.phase word s g
+acts_lead (core.Rw c) word s g = rw_leads c.phase word s g
+
+-- the same of an act that is known
+pub leads_by : (c : Core) (a : Act) (word : ℕ) (s : Seen) → core_act c ≡ a → Gives a word s → LeadsCore a s c (core_next c s)
+leads_by c a word s is g =
+    subst (λ (b : Act). LeadsCore b s c (core_next c s)) is (acts_lead c word s (subst (λ (b : Act). Gives b word s) (sym is) g))
+
+-- WHOM A CALL HAS TAKEN
+
+mutex_takes : (p : MutexPhase) (word : ℕ) (token : ParkToken) (left : Bool) → let s = seen.Took (Some token) left in
+    Gives (mt.act_of p) word s → TakesOne (mutex_stance p) (mutex_stance (mt.next_phase p s)) (mutex_taken p) (mutex_taken (mt.next_phase p s))
+mutex_takes (m.Takes a) word token left g = (0, refl, inr refl, refl)
+mutex_takes (m.Finishes a) word token left g = go a.again g
+  where
+    go : (b : Bool) → Gives (cond b act.Load (act.Done answer.Released)) word (seen.Took (Some token) left) → TakesOne Out (mutex_stance (mt.next_phase (m.Finishes a) (seen.Took (Some token) left))) 0 (mutex_taken (mt.next_phase (m.Finishes a) (seen.Took (Some token) left)))
+    go true g = absurd g
+    go false g = absurd g
+mutex_takes p word token left g = absurd g
+
+-- a scan that goes on or stores
+goes : (left : Bool) (a b : Scanning) → rt.count_of b ≡ rt.count_of a + 1 → TakesOne (In 0 Takes) (rw_stance (rt.goes_on left b)) (rt.count_of a) (rw_taken (rt.goes_on left b))
+goes left a b e = pick (λ (p : RwPhase). TakesOne (In 0 Takes) (rw_stance p) (rt.count_of a) (rw_taken p)) (left && not b.writer) (r.Scans b) (r.Stores b left) (0, refl, inl refl, e) (0, refl, inr refl, e)
+
+scan_takes : (a : Scanning) (token : ParkToken) (left : Bool) → rw_counts (r.Scans a) token → let q = rt.next_phase (r.Scans a) (seen.Took (Some token) left) in TakesOne (In 0 Takes) (rw_stance q) (rt.count_of a) (rw_taken q)
+scan_takes a token left (inl h) =
+    let b : Scanning = record a { shared = min (a.shared + 1) (2 ^ 32 - 1) } in
+    let room : a.shared < 2 ^ 32 - 1 = h.1 in
+    subst (λ (o : Option Scanning). let q = option_map_or (λ p. p) (option_map (rt.goes_on left) o) r.Strays in TakesOne (In 0 Takes) (rw_stance q) (rt.count_of a) (rw_taken q))
+    (sym (cond-true (token.0 == 16) (Some b) (cond (token.0 == 8) (Some (record a { writer = true })) (cond (token.0 == 20) (Some (record a { upgradable = true })) None)) (eq-eqb token.0 16 h.0)))
+    (goes left a b (omega arith))
+scan_takes a token left (inr h) =
+    let b : Scanning = record a { writer = true } in
+    let rest : Option Scanning = cond (token.0 == 20) (Some (record a { upgradable = true })) None in
+    let was : mt.bit a.writer ≡ 0 = ap mt.bit h.1 in
+    subst (λ (o : Option Scanning). let q = option_map_or (λ p. p) (option_map (rt.goes_on left) o) r.Strays in TakesOne (In 0 Takes) (rw_stance q) (rt.count_of a) (rw_taken q))
+    (sym (cond-false (token.0 == 16) (Some (record a { shared = min (a.shared + 1) (2 ^ 32 - 1) })) (cond (token.0 == 8) (Some b) rest) (ne_eqb token.0 16 (λ e. absurd (let z = h.0 in omega arith)))
+    ∙ cond-true (token.0 == 8) (Some b) rest (eq-eqb token.0 8 h.0)))
+    (goes left a b (omega arith))
+
+rw_takes : (p : RwPhase) (word : ℕ) (token : ParkToken) (left : Bool) → let s = seen.Took (Some token) left in
+    Gives (rt.act_of p) word s → rw_counts p token → TakesOne (rw_stance p) (rw_stance (rt.next_phase p s)) (rw_taken p) (rw_taken (rt.next_phase p s))
+rw_takes (r.Takes2 rest) word token left g h = (1, refl, inr refl, refl)
+rw_takes (r.Scans a) word token left g h = scan_takes a token left h
+rw_takes (r.Finishes rest.FreedShared) word token left g h = absurd g
+rw_takes (r.Finishes rest.FreedExclusive) word token left g h = absurd g
+rw_takes (r.Finishes rest.Downgraded) word token left g h = absurd g
+rw_takes (r.Finishes rest.AgainShared) word token left g h = absurd g
+rw_takes (r.Finishes rest.AgainExclusive) word token left g h = absurd g
+rw_takes p word token left g h = absurd g
+
+pub takings_count : (c : Core) (word : ℕ) (token : ParkToken) (left : Bool) → let s = seen.Took (Some token) left in
+    Gives (core_act c) word s → Counts c token → TakesOne (stance c) (stance (core_next c s)) (taken_count c) (taken_count (core_next c s))
+takings_count (core.Mutex c) word token left g h = mutex_takes c.phase word token left g
+takings_count (core.Rw c) word token left g h = rw_takes c.phase word token left g h
+
+-- WHERE CALLS BEGIN AND END
+
+mutex_begins : (p : MutexPhase) → Idle (mt.next_phase p seen.Start)
+mutex_begins (m.Finishes a) = pick (λ (o : Option MutexPhase). Idle (option_map_or (λ q. q) o m.Strays)) a.again None None (refl, refl) (refl, refl)
+mutex_begins p = (refl, refl)
+
+rw_begins : (p : RwPhase) → RwIdle (rt.next_phase p seen.Start)
+rw_begins (r.Finishes rest) = (refl, refl)
+rw_begins p = (refl, refl)
+
+pub calls_begin : (c : Core) → (stance (core_next c seen.Start) ≡ Out) × (taken_count (core_next c seen.Start) ≡ 0)
+calls_begin (core.Mutex c) = mutex_begins c.phase
+calls_begin (core.Rw c) = rw_begins c.phase
+
+mutex_ends : (p : MutexPhase) → IsOver (mt.act_of p) (mutex_stance p) (mutex_taken p)
+mutex_ends (m.Finishes a) = pick (λ (b : Act). IsOver b Out 0) a.again act.Load (act.Done answer.Released) tt (refl, refl)
+mutex_ends m.Locking = (refl, refl)
+mutex_ends m.Trying = (refl, refl)
+mutex_ends (m.Unlocking fair) = (refl, refl)
+mutex_ends m.Bumping = (refl, refl)
+mutex_ends m.Refuses = (refl, refl)
+mutex_ends (m.Ends a) = (refl, refl)
+mutex_ends m.Strays = (refl, refl)
+mutex_ends p = tt
+
+rw_ends : (p : RwPhase) → IsOver (rt.act_of p) (rw_stance p) (rw_taken p)
+rw_ends (r.Locking want) = (refl, refl)
+rw_ends (r.Trying want) = (refl, refl)
+rw_ends r.UnlockingShared = (refl, refl)
+rw_ends (r.UnlockingExclusive fair) = (refl, refl)
+rw_ends r.Downgrading = (refl, refl)
+rw_ends r.BumpingShared = (refl, refl)
+rw_ends r.BumpingExclusive = (refl, refl)
+rw_ends (r.Refuses want) = (refl, refl)
+rw_ends (r.Finishes rest.FreedShared) = (refl, refl)
+rw_ends (r.Finishes rest.FreedExclusive) = (refl, refl)
+rw_ends (r.Finishes rest.Downgraded) = (refl, refl)
+rw_ends (r.Finishes rest.AgainShared) = tt
+rw_ends (r.Finishes rest.AgainExclusive) = tt
+rw_ends (r.Ends outcome) = (refl, refl)
+rw_ends r.Strays = (refl, refl)
+rw_ends p = tt
+
+pub calls_end : (c : Core) → IsOver (core_act c) (stance c) (taken_count c)
+calls_end (core.Mutex c) = mutex_ends c.phase
+calls_end (core.Rw c) = rw_ends c.phase

@@ -1,0 +1,5 @@
+use Rattle.parking_lot_world.proofs.Stancing.{acts_lead, takings_count, calls_begin, calls_end}
+use Rattle.parking_lot_world.proofs.lot_laws.stances_follow_acts.Goals as goal
+
+pub returns : goal.returns
+returns c = record { acts = acts_lead; takings = takings_count; begins = calls_begin; ends = calls_end }
