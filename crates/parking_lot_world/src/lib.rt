@@ -3,6 +3,7 @@
 
 mod calls;
 mod row_machine;
+mod rw_laws;
 mod seat;
 
 pub use calls::{LockCall, LockKind, OwnMode};
@@ -11,3 +12,4 @@ pub use parking_lot_cores::{
     WordChange, wake_sum,
 };
 pub use row_machine::RowMachine;
+pub use rw_laws::{answers_are_moves, makes_are_steps, stays_are_steps, words_are_numbers};
