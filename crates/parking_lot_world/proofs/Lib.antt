@@ -1,1 +1,2 @@
 pub mod RwMoving
+pub mod RwTaking

@@ -1,5 +1,5 @@
 -- What a core is told at a sound reader-writer lock is the move that the table says, and a step of the rules.
-use Rattle.std.proofs.Common.{◌≡◌, ◌≤◌, ◌<◌, ℕ, suc, ◌+◌, ◌-◌, ◌*◌, ◌/◌, ◌^◌, ◌==◌, ◌&&◌, Bool, true, false, cond, List, [], ◌∷◌, length, Some, slice_get, slice_set, refl, sym, ap, ◌∙◌, subst, arith, mul-suc}
+use Rattle.std.proofs.Common.{◌≡◌, ◌≤◌, ◌<◌, ℕ, suc, ◌+◌, ◌-◌, ◌*◌, ◌/◌, ◌^◌, ◌==◌, ◌&&◌, Bool, true, false, cond, List, [], ◌∷◌, length, Some, slice_get, slice_set, refl, sym, ap, ◌∙◌, subst, arith, mul-suc, ◌++◌}
 use Rattle.std.proofs.lemmas.Bool.{both_ways}
 use Rattle.std.proofs.lemmas.List.Sums.{sum_by-cons}
 use Rattle.parking_lot_rules.specs.Roles.{Owned, Shares, Excludes, Upgrades, Role, away}
@@ -20,14 +20,14 @@ use Rattle.parking_lot_cores.specs.declared.rw_phase.Want.{Want}
 use Rattle.parking_lot_cores.specs.declared.rw_phase.Want.TheVariants as want
 use Rattle.parking_lot_cores.specs.declared.rw_phase.RwPhase.{RwPhase}
 use Rattle.parking_lot_cores.specs.declared.rw_phase.Draining.{Draining}
-use Rattle.parking_lot_cores.specs.declared.rw_phase.RwPhase.TheVariants.{Locking, Trying, Loads, Admits, Spins, Flags, Enters, Checks, Sleeps, Loads2, Flags2, Enters2, Checks2, Sleeps2, TryLoads, TryAdmits, Refuses, Relocks, Unshares, Owes2, Takes2, Masks2, Unlocks, LooksExclusive, Downgrades, Owes, Scans, Stores}
+use Rattle.parking_lot_cores.specs.declared.rw_phase.RwPhase.TheVariants.{Locking, Trying, Loads, Admits, Spins, Flags, Enters, Checks, Sleeps, Loads2, Flags2, Enters2, Checks2, Sleeps2, TryLoads, TryAdmits, Refuses, Relocks, Unshares, Owes2, Takes2, Masks2, Unlocks, LooksExclusive, Downgrades, Owes, Scans, Stores, Appends, Appends2}
 use Rattle.parking_lot_cores.specs.Acts.{word_after}
 use Rattle.parking_lot_cores.specs.RwTable.{act_of, next_phase, is_parked, is_writer_parked, is_barred, has_readers}
 use Rattle.parking_lot_cores.specs.RwRules.{Spot, Listed, role, Move, Stays, Makes, IsWoken, move, admission, try_admission, mode_of, IsMove, IsReady, IsTold, MayAsk, Fits}
 use Rattle.parking_lot_cores.proofs.RwWords.{parts}
 use Rattle.parking_lot_cores.proofs.RwFollowing.{follows}
 use Rattle.parking_lot_world.specs.RowFits.{rw_prepared}
-use Rattle.parking_lot_world.specs.RwLaws.{WordsAreNumbers, Meets, IsMoved, AnswersAreMoves, NobodyIs, Finds, StaysAreSteps, MakesAreSteps}
+use Rattle.parking_lot_world.specs.RwLaws.{WordsAreNumbers, Meets, IsMoved, AnswersAreMoves, NobodyIs, Finds, StaysAreSteps, MakesAreSteps, JoinsAreSteps}
 
 -- WORDS AND NUMBERS
 
@@ -116,7 +116,7 @@ module _ (l : Lock) (t n : ℕ) (spot : Spot) (us : List ℕ) (p : RwPhase) (x :
   pub fits : Fits false n us p l.word
   fits = fits_word l t n spot us p h.sound h.here h.prepared
 
-  number_is : number l.word ≡ x
+  pub number_is : number l.word ≡ x
   number_is = ap number h.word ∙ number-word x
 
   pub moved : (s : Seen) → IsTold p x s → IsMoved l n us p x s
@@ -130,7 +130,7 @@ answers_are_moves l t n spot us p x s h told = (fits l t n spot us p x h, few_re
 -- STEPS
 
 -- the move that is named is the one that is made
-named : (l : Lock) (n : ℕ) (us : List ℕ) (p : RwPhase) (x : ℕ) (s : Seen) (m : Move) → move n us p s ≡ m → IsMoved l n us p x s → IsMove false m n us p (next_phase p s) l.word (word_after (act_of p) s x)
+pub named : (l : Lock) (n : ℕ) (us : List ℕ) (p : RwPhase) (x : ℕ) (s : Seen) (m : Move) → move n us p s ≡ m → IsMoved l n us p x s → IsMove false m n us p (next_phase p s) l.word (word_after (act_of p) s x)
 named l n us p x s m e h = subst (λ k. IsMove false k n us p (next_phase p s) l.word (word_after (act_of p) s x)) e h.0
 
 pub stays_are_steps : StaysAreSteps
@@ -160,7 +160,7 @@ nobody c [] none = refl
 nobody c (r ∷ rs) none = omega (arith, sum_by-cons (weight c) r rs, none 0 r refl, nobody c rs (λ u x at. none (suc u) x at))
 
 -- what a step asks of all threads
-abbrev Clears : Plain → Lock → Type 0
+abbrev pub Clears : Plain → Lock → Type 0
 Clears (Enter1 m c) l = NobodyIs Inside1 l.roles
 Clears (Reenter1 m) l = NobodyIs Inside1 l.roles
 Clears (ReenterTaken1 m by how) l = NobodyIs Inside1 l.roles
@@ -189,7 +189,7 @@ may_all l h (LookOwed o) may clear = nobody Inside1 l.roles clear
 may_all l h k may clear = may
 
 -- what the act finds is what the step asks for
-abbrev MoveClears : Move → Lock → Type 0
+abbrev pub MoveClears : Move → Lock → Type 0
 MoveClears (Makes k) l = Clears k l
 MoveClears m l = Unit {0}
 
@@ -197,7 +197,7 @@ drains : (l : Lock) (d : Draining) (b : Bool) → MoveClears (cond b Stays (Make
 drains l d true = tt
 drains l d false = tt
 
-finds : (l : Lock) (n : ℕ) (us : List ℕ) (p : RwPhase) (x : ℕ) (s : Seen) → IsTold p x s → Finds (act_of p) l → MoveClears (move n us p s) l
+pub finds : (l : Lock) (n : ℕ) (us : List ℕ) (p : RwPhase) (x : ℕ) (s : Seen) → IsTold p x s → Finds (act_of p) l → MoveClears (move n us p s) l
 finds l n us (Enters a woken) x s told found = found
 finds l n us (Enters2 d) x s told found = found
 finds l n us (Owes2 rest) x s told found = found
@@ -253,3 +253,14 @@ makes_are_steps l t n spot us p x s k h told e found =
     let may : May false k l.word (λ c. total c l.roles) = may_all l h.sound k m.may (subst (λ c. MoveClears c l) e (finds l n us p x s told found)) in
     let same : written k l.word ≡ word_of w = same_word (after t (Alone k) l) (step_sound false t (Alone k) l h.sound (from_k, may)) w m.written in
     ((from_k, may), λ i. record l { word = same i; roles = slice_set l.roles t (sym m.to i) })
+
+-- one that joins
+pub joins_are_steps : JoinsAreSteps
+joins_are_steps = record {
+  first = λ l t n spot us want x h.
+      let m = (moved l t n spot us (Appends want) x h seen.Made tt).0 in
+      ((h.here ∙ ap (λ r. Some r) m.0, tt), λ i. record l { word = h.word i; roles = slice_set l.roles t (sym m.1 i); first = l.first ++ t ∷ [] });
+  second = λ l t n spot us rounds x h.
+      let m = (moved l t n spot us (Appends2 rounds) x h seen.Made tt).0 in
+      ((h.here ∙ ap (λ r. Some r) m.0, tt), λ i. record l { word = h.word i; roles = slice_set l.roles t (sym m.1 i); second = l.second ++ t ∷ [] });
+}

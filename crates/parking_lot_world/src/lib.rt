@@ -12,4 +12,7 @@ pub use parking_lot_cores::{
     WordChange, wake_sum,
 };
 pub use row_machine::RowMachine;
-pub use rw_laws::{answers_are_moves, makes_are_steps, stays_are_steps, words_are_numbers};
+pub use rw_laws::{
+    answers_are_moves, firsts_may_be_taken, joins_are_steps, makes_are_steps, stays_are_steps,
+    takes_are_steps, tokens_tell, words_are_numbers, writers_are_taken,
+};
