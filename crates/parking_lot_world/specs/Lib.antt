@@ -5,3 +5,4 @@ pub mod RowFits
 pub mod RowSteps
 pub mod ActLaws
 pub mod StanceLaws
+pub mod RwLaws

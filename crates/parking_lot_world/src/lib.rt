@@ -6,6 +6,7 @@ mod calls;
 mod laws;
 mod lot_laws;
 mod row_machine;
+mod rw_laws;
 mod seat;
 
 pub use calls::{LockCall, LockKind, OwnMode};
@@ -16,3 +17,7 @@ pub use parking_lot_cores::{
 };
 pub use laws::acts_are_steps;
 pub use row_machine::RowMachine;
+pub use rw_laws::{
+    answers_are_moves, firsts_may_be_taken, joins_are_steps, makes_are_steps, stays_are_steps,
+    takes_are_steps, tokens_tell, words_are_numbers, writers_are_taken,
+};

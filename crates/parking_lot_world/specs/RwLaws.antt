@@ -1,0 +1,114 @@
+-- What a core is told at a sound reader-writer lock is a step of the rules there.
+use Rattle.std.specs.Prelude.{◌≡◌, ◌<◌, ◌≤◌, ℕ, zero, suc, ◌-◌, ◌^◌, false, List, [], length, Some, slice_get, slice_set, Bool, true, ◌++◌, ◌∷◌, remove}
+use Rattle.parking_lot_core.specs.declared.parking.ParkToken.{ParkToken}
+use Rattle.parking_lot_rules.specs.Roles.{Mode, Shares, Asleep, Open, Queued1, Taken1, Queued2, Taken2, Role}
+use Rattle.parking_lot_rules.specs.Classes.{Class, Inside1, Inside2, weight}
+use Rattle.parking_lot_rules.specs.Clauses.{Word, IsWord, number}
+use Rattle.parking_lot_rules.specs.Holds.{shared_holds}
+use Rattle.parking_lot_rules.specs.Plain.{Plain}
+use Rattle.parking_lot_rules.specs.ReadLock.{word_of}
+use Rattle.parking_lot_rules.specs.Lock.{Lock, IsSound}
+use Rattle.parking_lot_rules.specs.Steps.{Step, Alone, Allowed, after, List_changes, Take1, Take2, Join1, Join2, Take, look, AreSkipped}
+use Rattle.parking_lot_cores.specs.declared.act.Act.{Act}
+use Rattle.parking_lot_cores.specs.declared.act.Act.TheVariants.{Enter, Mask}
+use Rattle.parking_lot_cores.specs.declared.act.Seen.{Seen}
+use Rattle.parking_lot_cores.specs.declared.act.Seen.TheVariants as seen
+use Rattle.parking_lot_cores.specs.declared.rw_phase.Want.{Want}
+use Rattle.parking_lot_cores.specs.declared.rw_phase.Rest.{Rest}
+use Rattle.parking_lot_cores.specs.declared.rw_phase.Scanning.{Scanning}
+use Rattle.parking_lot_cores.specs.declared.rw_phase.RwPhase.{RwPhase}
+use Rattle.parking_lot_cores.specs.declared.rw_phase.RwPhase.TheVariants.{Takes2, Scans, Appends, Appends2}
+use Rattle.parking_lot_cores.specs.Acts.{word_after}
+use Rattle.parking_lot_cores.specs.RwTable.{act_of, next_phase, share_of}
+use Rattle.parking_lot_cores.specs.RwRules.{Spot, Listed, role, Stays, Makes, move, IsMove, IsReady, IsToken, IsTold, Fits, mode_of, mode_by, scan_of}
+use Rattle.parking_lot_world.specs.RowFits.{rw_prepared}
+
+-- A number is a word by its parts, and a word of bits is the one of its number.
+pub record WordsAreNumbers : Type 0 where
+  pub whole : (x : ℕ) → number (word_of x) ≡ x
+  pub bits : (x : ℕ) → IsWord (word_of x)
+  pub parts : (w : Word) → IsWord w → word_of (number w) ≡ w
+
+-- Thread t is in that phase of a call at a sound lock whose word is the number x. It has n shared holds besides the one that the call is
+-- about, and has taken the threads us. Few threads have few holds each.
+pub record Meets (l : Lock) (t n : ℕ) (spot : Spot) (us : List ℕ) (p : RwPhase) (x : ℕ) : Type 0 where
+  pub sound : IsSound l
+  pub word : l.word ≡ word_of x
+  pub here : slice_get l.roles t ≡ Some (role n spot us p)
+  pub ready : IsReady p
+  pub prepared : rw_prepared n us p
+  pub threads : length l.roles < 2 ^ 17
+  pub few : (u : ℕ) (r : Role) → slice_get l.roles u ≡ Some r → shared_holds r.owns ≤ 256
+
+-- what it is told is the move that the table says, and the next phase is ready
+abbrev pub IsMoved : Lock → ℕ → List ℕ → RwPhase → ℕ → Seen → Type 0
+IsMoved l n us p x s = IsMove false (move n us p s) n us p (next_phase p s) l.word (word_after (act_of p) s x) × IsReady (next_phase p s)
+
+abbrev pub AnswersAreMoves : Type 0
+AnswersAreMoves = (l : Lock) (t n : ℕ) (spot : Spot) (us : List ℕ) (p : RwPhase) (x : ℕ) (s : Seen) → Meets l t n spot us p x → IsTold p x s → Fits false n us p l.word × (l.word.readers < 2 ^ 60 - 1) × IsMoved l n us p x s
+
+-- no thread is of a class
+abbrev pub NobodyIs : Class → List Role → Type 0
+NobodyIs c rs = (u : ℕ) (r : Role) → slice_get rs u ≡ Some r → weight c r ≡ 0
+
+-- What an act finds, where it goes through: it enters a section that nobody is inside of, and clears the second parked bit where nobody
+-- is left to wait for it.
+abbrev pub Finds : Act → Lock → Type 0
+Finds (Enter zero) l = NobodyIs Inside1 l.roles
+Finds (Enter (suc key)) l = NobodyIs Inside2 l.roles
+Finds (Mask keep) l = l.second ≡ []
+Finds act l = Unit {0}
+
+-- a step that may be made at a lock, and the lock after it
+abbrev pub IsStep : ℕ → Step → Lock → Lock → Type 0
+IsStep t step l m = Allowed false t step l × (after t step l ≡ m)
+
+-- the lock with another word and another role of a thread
+abbrev pub with_role : Lock → ℕ → ℕ → Role → Lock
+with_role l x t r = record l { word = word_of x; roles = slice_set l.roles t r }
+
+abbrev pub StaysAreSteps : Type 0
+StaysAreSteps = (l : Lock) (t n : ℕ) (spot : Spot) (us : List ℕ) (p : RwPhase) (x : ℕ) (s : Seen) → Meets l t n spot us p x → IsTold p x s → move n us p s ≡ Stays
+    → (role n spot us (next_phase p s) ≡ role n spot us p) × (word_after (act_of p) s x ≡ x)
+
+abbrev pub MakesAreSteps : Type 0
+MakesAreSteps = (l : Lock) (t n : ℕ) (spot : Spot) (us : List ℕ) (p : RwPhase) (x : ℕ) (s : Seen) (k : Plain) → Meets l t n spot us p x → IsTold p x s → move n us p s ≡ Makes k → Finds (act_of p) l
+    → IsStep t (Alone k) l (with_role l (word_after (act_of p) s x) t (role n Listed us (next_phase p s)))
+
+-- One that goes to sleep joins the end of its list: the lock's first, or as a pending writer its second.
+pub record JoinsAreSteps : Type 0 where
+  pub first : (l : Lock) (t n : ℕ) (spot : Spot) (us : List ℕ) (want : Want) (x : ℕ) → Meets l t n spot us (Appends want) x
+      → IsStep t (List_changes (Join1 (mode_of want))) l (record (with_role l x t (role n Listed us (next_phase (Appends want) seen.Made))) { first = l.first ++ t ∷ [] })
+  pub second : (l : Lock) (t n : ℕ) (spot : Spot) (us : List ℕ) (rounds x : ℕ) → Meets l t n spot us (Appends2 rounds) x
+      → IsStep t (List_changes (Join2 false)) l (record (with_role l x t (role n Listed us (next_phase (Appends2 rounds) seen.Made))) { second = l.second ++ t ∷ [] })
+
+-- A thread that scans takes the waiter v at an index of the first list, by its token: it looks at it so, and those before it are skipped.
+pub record MayTakeOne (l : Lock) (a : Scanning) (i v : ℕ) (mode : Mode) : Type 0 where
+  pub waiter : slice_get l.first i ≡ Some v
+  pub waits : slice_get l.roles v ≡ Some (record { owns = Shares 0; does = Queued1 mode Asleep })
+  pub looks : look a.upgradable a.writer mode ≡ Take
+  pub skipped : AreSkipped a.upgradable a.writer l.roles l.first i
+
+-- the lock with two roles changed: first that of t, then that of v
+abbrev pub with_roles : Lock → ℕ → ℕ → Role → ℕ → Role → Lock
+with_roles l x t r v q = record l { word = word_of x; roles = slice_set (slice_set l.roles t r) v q }
+
+abbrev pub TakesAreSteps : Type 0
+TakesAreSteps = (l : Lock) (t n : ℕ) (spot : Spot) (us : List ℕ) (a : Scanning) (x : ℕ) (token : ParkToken) (left : Bool) (i v : ℕ) → Meets l t n spot us (Scans a) x → IsToken (Some token) → MayTakeOne l a i v (mode_by token)
+    → IsStep t (Take1 (scan_of n a us) i v (mode_by token) Asleep) l
+    (record (with_roles l x t (role n Listed (us ++ v ∷ []) (next_phase (Scans a) (seen.Took (Some token) left))) v (record { owns = Shares 0; does = Taken1 (mode_by token) t Open Asleep })) { first = remove l.first i })
+
+-- The first of the list may be taken where none was taken yet that wants more than a shared hold.
+abbrev pub FirstsMayBeTaken : Type 0
+FirstsMayBeTaken = (l : Lock) (a : Scanning) (v : ℕ) (mode : Mode) → slice_get l.first 0 ≡ Some v → slice_get l.roles v ≡ Some (record { owns = Shares 0; does = Queued1 mode Asleep }) → a.upgradable ≡ false → a.writer ≡ false
+    → MayTakeOne l a 0 v mode
+
+-- the token of a waiter is that of what it wants
+abbrev pub TokensTell : Type 0
+TokensTell = (want : Want) → IsToken (Some (record { 0 = share_of want })) × (mode_by (record { 0 = share_of want }) ≡ mode_of want)
+
+abbrev pub WritersAreTaken : Type 0
+WritersAreTaken = (l : Lock) (t n : ℕ) (spot : Spot) (us : List ℕ) (rest : Rest) (x : ℕ) (token : ParkToken) (left : Bool) (v : ℕ) → Meets l t n spot us (Takes2 rest) x → slice_get l.second 0 ≡ Some v
+    → slice_get l.roles v ≡ Some (record { owns = Shares 0; does = Queued2 false Asleep })
+    → IsStep t (Take2 (Shares n) v false Asleep) l
+    (record (with_roles l x t (role n Listed (us ++ v ∷ []) (next_phase (Takes2 rest) (seen.Took (Some token) left))) v (record { owns = Shares 0; does = Taken2 false t Asleep })) { second = remove l.second 0 })

@@ -1,0 +1,47 @@
+//! What a core is told at a sound reader-writer lock is a step of the rules there.
+ghost use Rattle.parking_lot_world.specs.RwLaws.{AnswersAreMoves, FirstsMayBeTaken, JoinsAreSteps, MakesAreSteps, StaysAreSteps, TakesAreSteps, TokensTell, WordsAreNumbers, WritersAreTaken};
+
+/// The parts of a word and its number say the same.
+pub fn words_are_numbers()
+    ensures { WordsAreNumbers }
+{}
+
+/// What a thread is told by an act at a sound lock is the move that the table of cores says.
+pub fn answers_are_moves()
+    ensures { AnswersAreMoves }
+{}
+
+/// Where nothing moves the thread's role and the word stay.
+pub fn stays_are_steps()
+    ensures { StaysAreSteps }
+{}
+
+/// A step of the thread's own may be made, and leaves the lock with its new role and word.
+pub fn makes_are_steps()
+    ensures { MakesAreSteps }
+{}
+
+/// One that goes to sleep joins its list at the end.
+pub fn joins_are_steps()
+    ensures { JoinsAreSteps }
+{}
+
+/// One that scans the first list takes a waiter off it.
+pub fn takes_are_steps()
+    ensures { TakesAreSteps }
+{}
+
+/// The first waiter of the first list may be taken where none was taken yet that wants more than a shared hold.
+pub fn firsts_may_be_taken()
+    ensures { FirstsMayBeTaken }
+{}
+
+/// A waiter's token tells what it wants.
+pub fn tokens_tell()
+    ensures { TokensTell }
+{}
+
+/// The last reader takes the pending writer off the second list.
+pub fn writers_are_taken()
+    ensures { WritersAreTaken }
+{}
