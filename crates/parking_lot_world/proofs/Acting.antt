@@ -1,7 +1,7 @@
 -- The acts of the machine.
 use Rattle.std.proofs.Common.{◌≡◌, ℕ}
 use Rattle.parking_lot_world.specs.ActLaws.{ActsAreSteps}
-use Rattle.parking_lot_world.proofs.Making.{made_rw}
+use Rattle.parking_lot_world.proofs.Owning.{OwnAct}
 
 pub laws : ActsAreSteps
 laws = ?

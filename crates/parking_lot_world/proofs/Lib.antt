@@ -1,6 +1,10 @@
 mod Everybody
 mod Lifting
 mod Making
+mod Meeting
+mod Calling
+mod OwnMoves
+mod Owning
 mod Acting
 pub mod Stancing
 pub mod RwMoving
