@@ -5,6 +5,7 @@ mod Meeting
 mod Calling
 mod OwnMoves
 mod Owning
+mod Plainly
 mod Acting
 pub mod Stancing
 pub mod RwMoving
