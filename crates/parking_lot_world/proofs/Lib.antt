@@ -6,6 +6,7 @@ mod Calling
 mod OwnMoves
 mod Owning
 mod Plainly
+mod Ruling
 mod Acting
 pub mod Stancing
 pub mod RwMoving
