@@ -1,1 +1,3 @@
 pub mod Stancing
+pub mod Carrying
+pub mod LotActs
