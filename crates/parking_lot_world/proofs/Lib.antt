@@ -1,3 +1,4 @@
 pub mod Stancing
 pub mod Carrying
 pub mod LotActs
+pub mod LotSections
