@@ -245,17 +245,18 @@ module _ (s u : State) (h : LotFits s) (carries : (v : ℕ) → Carries (call_at
         mark = marks ∙ old.mark;
       }
 
-  -- where neither the lists nor who is to be woken changes
-  pub carried : Sound u.lot → u.wakes ≡ s.wakes → u.lot.queues ≡ s.lot.queues
+  -- where nobody more is to be woken
+  pub carried_by : Sound u.lot → u.wakes ≡ s.wakes
+      → ((j k n : ℕ) (w : Waiter) → k < 2 → slice_get (u.lot.queues (2 * j + k)) n ≡ Some w → (c : Call) × (call_at u w.thread ≡ Some c) × (c.lock ≡ j) × (c.spot ≡ spot.Listed) × Awaits k w.token (stance c.core))
       → ((v k : ℕ) (token : ParkToken) (c : Call) → call_at s v ≡ Some c → stance c.core ≡ Asleep k token → option_map_or mark_of (place_at u.lot.places v) 0 ≡ option_map_or mark_of (place_at s.lot.places v) 0)
       → ((t : ℕ) → t < length u.calls → Seated t (call_at u t) (place_at u.lot.places t) u.lot.section)
       → ((section : Section) → u.lot.section ≡ Some section → (t : ℕ) × (section.thread ≡ Some t) × (t < length u.calls))
       → LotFits u
-  carried sound wakes queues marks seated opened = record {
+  carried_by sound wakes waits marks seated opened = record {
     sound = sound;
     seated = seated;
     opened = opened;
-    waits = λ j k n w two at. waits_carried j k n w two (ap (λ (qs : ℕ → List Waiter). slice_get (qs (2 * j + k)) n) (sym queues) ∙ at);
+    waits = waits;
     owed = λ t d key token by said is asleep at.
         let old = (carries t).slept key token by said d is asleep at in
         subst (λ (ws : List Wakeup). IsOwed ws by t) (sym wakes) (h.owed t old.0 key token by old.3 old.1 old.2 old.4);
@@ -267,3 +268,12 @@ module _ (s u : State) (h : LotFits s) (carries : (v : ℕ) → Carries (call_at
     counted = λ t c is. ap (λ (ws : List Wakeup). length (taken_by ws t)) wakes ∙ (tallied s h t ∙ (sym (carries t).counts ∙ ap tally is));
     untaken = λ t is. no_length (taken_by u.wakes t) (ap (λ (ws : List Wakeup). length (taken_by ws t)) wakes ∙ (tallied s h t ∙ (sym (carries t).counts ∙ ap tally is)));
   }
+
+  -- nor the lists change
+  pub carried : Sound u.lot → u.wakes ≡ s.wakes → u.lot.queues ≡ s.lot.queues
+      → ((v k : ℕ) (token : ParkToken) (c : Call) → call_at s v ≡ Some c → stance c.core ≡ Asleep k token → option_map_or mark_of (place_at u.lot.places v) 0 ≡ option_map_or mark_of (place_at s.lot.places v) 0)
+      → ((t : ℕ) → t < length u.calls → Seated t (call_at u t) (place_at u.lot.places t) u.lot.section)
+      → ((section : Section) → u.lot.section ≡ Some section → (t : ℕ) × (section.thread ≡ Some t) × (t < length u.calls))
+      → LotFits u
+  carried sound wakes queues marks seated opened =
+      carried_by sound wakes (λ j k n w two at. waits_carried j k n w two (ap (λ (qs : ℕ → List Waiter). slice_get (qs (2 * j + k)) n) (sym queues) ∙ at)) marks seated opened

@@ -2,3 +2,4 @@ pub mod Stancing
 pub mod Carrying
 pub mod LotActs
 pub mod LotSections
+pub mod LotLists

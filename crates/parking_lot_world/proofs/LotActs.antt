@@ -99,13 +99,13 @@ module _ (s : State) (t : ℕ) (h : LotFits s) (low : t < length s.calls) where
 
   -- One thread's call changes, and the lot in what the act does to it.
   module _ (o : Option Call) (lot : Machine) where
-    changed_here : call_at (with_lot (record s { calls = slice_set s.calls t o }) lot) t ≡ o
+    pub changed_here : call_at (with_lot (record s { calls = slice_set s.calls t o }) lot) t ≡ o
     changed_here = set_here s.calls t o low
 
-    changed_there : (v : ℕ) → (v == t) ≡ false → call_at (with_lot (record s { calls = slice_set s.calls t o }) lot) v ≡ call_at s v
+    pub changed_there : (v : ℕ) → (v == t) ≡ false → call_at (with_lot (record s { calls = slice_set s.calls t o }) lot) v ≡ call_at s v
     changed_there v e = set_elsewhere s.calls t v o e
 
-    same_length : length (slice_set s.calls t o) ≡ length s.calls
+    pub same_length : length (slice_set s.calls t o) ≡ length s.calls
     same_length = length-set s.calls t o
 
     pub carries_one : Carries (call_at s t) o → (v : ℕ) → Carries (call_at s v) (call_at (with_lot (record s { calls = slice_set s.calls t o }) lot) v)
