@@ -3,3 +3,4 @@ pub mod Carrying
 pub mod LotActs
 pub mod LotSections
 pub mod LotLists
+pub mod LotStores
