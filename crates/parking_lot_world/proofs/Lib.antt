@@ -11,3 +11,8 @@ mod Acting
 pub mod Stancing
 pub mod RwMoving
 pub mod RwTaking
+pub mod Carrying
+pub mod LotActs
+pub mod LotSections
+pub mod LotLists
+pub mod LotStores

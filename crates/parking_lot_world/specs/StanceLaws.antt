@@ -42,7 +42,7 @@ Leads (act.Section section.Check) s a b n m tells =
     (k : ℕ) × (a ≡ In k Looks) × ((b ≡ In k TurnsBack) ⊎ ((token : ParkToken) × (b ≡ In k (Joins token)))) × (n ≡ 0) × (m ≡ 0)
 Leads (act.Section section.TakeFirst) s a b n m tells = (k : ℕ) × (a ≡ In k Takes) × TookFor s k b n m
 Leads (act.Section (section.TakeNext sum)) s a b n m tells = (k : ℕ) × (a ≡ In k Takes) × TookFor s k b n m
-Leads (act.Section (section.Append token)) s a b n m tells = (k : ℕ) × (a ≡ In k (Joins token)) × (b ≡ In k (Joined token)) × (n ≡ 0) × (m ≡ 0)
+Leads (act.Section (section.Append token)) s a b n m tells = (k : ℕ) × (k < 2) × (a ≡ In k (Joins token)) × (b ≡ In k (Joined token)) × (n ≡ 0) × (m ≡ 0)
 Leads (act.Section (section.Store plain fair)) s a b n m tells = (k : ℕ) × (a ≡ In k Stores) × (b ≡ In k (Tells tells)) × (m ≡ n)
 Leads (act.Section section.Leave) s a b n m tells = LeavesFor a b n m
 Leads (act.Section section.Wake) s a b n m tells = (a ≡ Out) × (b ≡ Out) × (m ≡ n - 1)
