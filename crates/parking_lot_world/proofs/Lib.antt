@@ -1,2 +1,3 @@
 pub mod RwMoving
 pub mod RwTaking
+pub mod RwWaking
