@@ -1,3 +1,4 @@
 pub mod RwMoving
 pub mod RwTaking
 pub mod RwWaking
+pub mod RwEnding

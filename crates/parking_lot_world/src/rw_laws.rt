@@ -1,5 +1,5 @@
 //! What a core is told at a sound reader-writer lock is a step of the rules there.
-ghost use Rattle.parking_lot_world.specs.RwLaws.{AnswersAreMoves, FirstsMayBeTaken, JoinsAreSteps, MakesAreSteps, OnlySleepersStand, StaysAreSteps, StoresAreSteps, TakesAreSteps, TokensSay, TokensTell, WakesAreSteps, WokenAreTold, WordsAreNumbers, WritersAreTaken};
+ghost use Rattle.parking_lot_world.specs.RwLaws.{AnswersAreLast, AnswersAreMoves, BeginsAreReady, EndsAreSteps, FirstsMayBeTaken, JoinsAreSteps, MakesAreSteps, OnlySleepersStand, StaysAreSteps, StoresAreSteps, TakesAreSteps, TokensSay, TokensTell, WakesAreSteps, WokenAreTold, WordsAreNumbers, WritersAreTaken};
 
 /// The parts of a word and its number say the same.
 pub fn words_are_numbers()
@@ -69,4 +69,19 @@ pub fn woken_are_told()
 /// Where a thread stands matters only while it sleeps.
 pub fn only_sleepers_stand()
     ensures { OnlySleepersStand }
+{}
+
+/// A thread that begins a call is in the role of one that is in none, and ready.
+pub fn begins_are_ready()
+    ensures { BeginsAreReady }
+{}
+
+/// The end of a call is a step of the rules or none, and leaves its thread with what it owns.
+pub fn ends_are_steps()
+    ensures { EndsAreSteps }
+{}
+
+/// A call that has begun is answered in one of its last phases.
+pub fn answers_are_last()
+    ensures { AnswersAreLast }
 {}
