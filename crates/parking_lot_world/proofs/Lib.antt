@@ -16,3 +16,5 @@ pub mod LotActs
 pub mod LotSections
 pub mod LotLists
 pub mod LotStores
+pub mod RwWaking
+pub mod RwEnding

@@ -1,27 +1,36 @@
 -- What a core is told at a sound reader-writer lock is a step of the rules there.
-use Rattle.std.specs.Prelude.{◌≡◌, ◌<◌, ◌≤◌, ℕ, zero, suc, ◌-◌, ◌^◌, false, List, [], length, Some, slice_get, slice_set, Bool, true, ◌++◌, ◌∷◌, remove}
+use Rattle.std.specs.Prelude.{◌≡◌, ◌<◌, ◌≤◌, ℕ, zero, suc, ◌-◌, ◌^◌, false, List, [], length, Some, slice_get, slice_set, Bool, true, ◌++◌, ◌∷◌, remove, ◌⊎◌, ◌≢◌, ◌||◌, map}
 use Rattle.parking_lot_core.specs.declared.parking.ParkToken.{ParkToken}
-use Rattle.parking_lot_rules.specs.Roles.{Mode, Shares, Asleep, Open, Queued1, Taken1, Queued2, Taken2, Role}
+use Rattle.parking_lot_rules.specs.Roles.{Mode, Shares, Asleep, Open, Queued1, Taken1, Queued2, Taken2, Role, Mark, Owned, Idle}
 use Rattle.parking_lot_rules.specs.Classes.{Class, Inside1, Inside2, weight}
 use Rattle.parking_lot_rules.specs.Clauses.{Word, IsWord, number}
 use Rattle.parking_lot_rules.specs.Holds.{shared_holds}
 use Rattle.parking_lot_rules.specs.Plain.{Plain}
 use Rattle.parking_lot_rules.specs.ReadLock.{word_of}
 use Rattle.parking_lot_rules.specs.Lock.{Lock, IsSound}
-use Rattle.parking_lot_rules.specs.Steps.{Step, Alone, Allowed, after, List_changes, Take1, Take2, Join1, Join2, Take, look, AreSkipped}
+use Rattle.parking_lot_rules.specs.Steps.{Step, Alone, Allowed, after, List_changes, Take1, Take2, Join1, Join2, Take, look, AreSkipped, Ending, ends_saying, Store, Waking, settle, Wake}
 use Rattle.parking_lot_cores.specs.declared.act.Act.{Act}
-use Rattle.parking_lot_cores.specs.declared.act.Act.TheVariants.{Enter, Mask}
+use Rattle.parking_lot_cores.specs.declared.act.Act.TheVariants.{Enter, Mask, Done}
 use Rattle.parking_lot_cores.specs.declared.act.Seen.{Seen}
 use Rattle.parking_lot_cores.specs.declared.act.Seen.TheVariants as seen
 use Rattle.parking_lot_cores.specs.declared.rw_phase.Want.{Want}
 use Rattle.parking_lot_cores.specs.declared.rw_phase.Rest.{Rest}
 use Rattle.parking_lot_cores.specs.declared.rw_phase.Scanning.{Scanning}
 use Rattle.parking_lot_cores.specs.declared.rw_phase.RwPhase.{RwPhase}
-use Rattle.parking_lot_cores.specs.declared.rw_phase.RwPhase.TheVariants.{Takes2, Scans, Appends, Appends2}
+use Rattle.parking_lot_cores.specs.declared.rw_phase.RwPhase.TheVariants.{Takes2, Scans, Appends, Appends2, Stores, Wakes}
 use Rattle.parking_lot_cores.specs.Acts.{word_after}
-use Rattle.parking_lot_cores.specs.RwTable.{act_of, next_phase, share_of}
-use Rattle.parking_lot_cores.specs.RwRules.{Spot, Listed, role, Stays, Makes, move, IsMove, IsReady, IsToken, IsTold, Fits, mode_of, mode_by, scan_of}
+use Rattle.parking_lot_cores.specs.RwTable.{act_of, next_phase, share_of, wakes_with, hands}
+use Rattle.parking_lot_cores.specs.RwRules.{Spot, Listed, role, Stays, Makes, move, IsMove, IsReady, IsToken, IsTold, Fits, mode_of, mode_by, scan_of, ending, Off, owned_at_last, owned_at_last, owns, last_move, Move}
 use Rattle.parking_lot_world.specs.RowFits.{rw_prepared}
+use Rattle.parking_lot_rules.specs.Roles as rules
+use Rattle.parking_lot_core.specs.Results.{is_left}
+use Rattle.parking_lot_core.specs.declared.parking.UnparkToken.{UnparkToken}
+use Rattle.parking_lot_world.specs.Rows.{mark_of, owned_of}
+use Rattle.parking_lot_world.specs.RowActs.{told_of, rw_hold_after}
+use Rattle.parking_lot_world.specs.Stances as stance
+use Rattle.parking_lot_world.specs.Stances.{rw_stance}
+use Rattle.parking_lot_cores.specs.declared.rw_phase.RwPhase.TheVariants as r
+use Rattle.parking_lot_cores.specs.declared.act.CoreAnswer.{CoreAnswer}
 
 -- A number is a word by its parts, and a word of bits is the one of its number.
 pub record WordsAreNumbers : Type 0 where
@@ -112,3 +121,68 @@ WritersAreTaken = (l : Lock) (t n : ℕ) (spot : Spot) (us : List ℕ) (rest : R
     → slice_get l.roles v ≡ Some (record { owns = Shares 0; does = Queued2 false Asleep })
     → IsStep t (Take2 (Shares n) v false Asleep) l
     (record (with_roles l x t (role n Listed (us ++ v ∷ []) (next_phase (Takes2 rest) (seen.Took (Some token) left))) v (record { owns = Shares 0; does = Taken2 false t Asleep })) { second = remove l.second 0 })
+
+-- The end of the section: what it stores, and what it tells all that the thread has taken. It knows whether waiters are left, and has taken
+-- a writer or all.
+abbrev pub ending_of : Scanning → Bool → Ending
+ending_of a fair = ending a.rest (hands a (a.fair || fair))
+
+abbrev pub StoresAreSteps : Type 0
+StoresAreSteps = (l : Lock) (t n : ℕ) (spot : Spot) (us : List ℕ) (a : Scanning) (left : Bool) (x : ℕ) (fair : Bool) → Meets l t n spot us (Stores a left) x → is_left l.first ≡ left → (a.writer ≡ true) ⊎ (left ≡ false)
+    → IsStep t (Store (ending_of a fair) (scan_of n a us)) l
+    (record l { word = word_of (word_after (act_of (Stores a left)) (seen.Stored fair) x); roles = slice_set (map (settle (ends_saying (ending_of a fair))) l.roles) t (role n Listed us (next_phase (Stores a left) (seen.Stored fair))) })
+
+-- the token with which it tells them says the same
+abbrev pub TokensSay : Type 0
+TokensSay = (a : Scanning) (left fair : Bool) → mark_of (told_of (wakes_with (next_phase (Stores a left) (seen.Stored fair)))) ≡ ends_saying (ending_of a fair)
+
+-- One that has taken others wakes the first of them, which sleeps and goes on as its token says.
+abbrev pub WakesAreSteps : Type 0
+WakesAreSteps = (l : Lock) (t n : ℕ) (spot : Spot) (v : ℕ) (vs : List ℕ) (rest : Rest) (count x : ℕ) (m : ℕ) (mark : Mark) (ws : List ℕ) (q : RwPhase) (key : ℕ) (park : ParkToken) (token : UnparkToken)
+    → Meets l t n spot (v ∷ vs) (Wakes rest count) x → slice_get l.roles v ≡ Some (role m (Off t mark) ws q) → rw_stance q ≡ stance.Asleep key park → rw_prepared m ws q → mark ≡ mark_of (told_of token)
+    → (k : Waking) × IsStep t (Wake (owned_at_last n rest) v vs k Asleep) l
+    (record l { word = word_of x; roles = slice_set (slice_set l.roles v (role m Listed ws (next_phase q (seen.Woken token)))) t (role n Listed vs (next_phase (Wakes rest count) seen.Made)) })
+
+-- Who is to be woken by one that wakes was told what it is to do.
+abbrev pub WokenAreTold : Type 0
+WokenAreTold = (l : Lock) (t v : ℕ) (own has : Owned) (us : List ℕ) (mode : Mode) (mark : Mark) → IsSound l → slice_get l.roles t ≡ Some (record { owns = own; does = rules.Wakes us }) → slice_get l.roles v ≡ Some (record { owns = has; does = Taken1 mode t mark Asleep })
+    → mark ≢ Open
+
+-- where a thread stands matters only while it sleeps
+abbrev pub OnlySleepersStand : Type 0
+OnlySleepersStand = (n : ℕ) (spot : Spot) (us : List ℕ) (p : RwPhase) → ((key : ℕ) (park : ParkToken) → rw_stance p ≢ stance.Asleep key park) → role n spot us p ≡ role n Listed us p
+
+-- A call before it begins, and one that is answered.
+abbrev pub has_begun : RwPhase → Bool
+has_begun (r.Locking want) = false
+has_begun (r.Trying want) = false
+has_begun r.UnlockingShared = false
+has_begun (r.UnlockingExclusive fair) = false
+has_begun r.Downgrading = false
+has_begun r.BumpingShared = false
+has_begun r.BumpingExclusive = false
+has_begun phase = true
+
+abbrev pub is_last : RwPhase → Bool
+is_last (r.Refuses want) = true
+is_last (r.Finishes rest) = true
+is_last (r.Ends outcome) = true
+is_last r.Strays = true
+is_last phase = false
+
+-- a call that begins is no step by itself: its thread is in the role of one in no call, and hears the start
+abbrev pub BeginsAreReady : Type 0
+BeginsAreReady = (n : ℕ) (spot : Spot) (us : List ℕ) (p : RwPhase) (x : ℕ) → has_begun p ≡ false → (role n spot us p ≡ record { owns = owns n p; does = Idle }) × IsReady p × IsTold p x seen.Start
+
+-- the last step of a call, where there is one
+abbrev pub IsLastStep : Move → Lock → ℕ → Role → ℕ → Role → Type 0
+IsLastStep (Makes k) l t old x new = IsStep t (Alone k) l (with_role l x t new)
+IsLastStep move l t old x new = new ≡ old
+
+-- One whose call is answered owns what the machine says, and is in no call.
+abbrev pub EndsAreSteps : Type 0
+EndsAreSteps = (l : Lock) (t n : ℕ) (spot : Spot) (us : List ℕ) (p : RwPhase) (x : ℕ) → Meets l t n spot us p x → is_last p ≡ true → IsLastStep (last_move n p) l t (role n spot us p) x (record { owns = owned_of (rw_hold_after n p); does = Idle })
+
+-- a call that has begun is answered in its last phase
+abbrev pub AnswersAreLast : Type 0
+AnswersAreLast = (p : RwPhase) (answer : CoreAnswer) → has_begun p ≡ true → act_of p ≡ Done answer → is_last p ≡ true

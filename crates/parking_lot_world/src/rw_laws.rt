@@ -1,5 +1,5 @@
 //! What a core is told at a sound reader-writer lock is a step of the rules there.
-ghost use Rattle.parking_lot_world.specs.RwLaws.{AnswersAreMoves, FirstsMayBeTaken, JoinsAreSteps, MakesAreSteps, StaysAreSteps, TakesAreSteps, TokensTell, WordsAreNumbers, WritersAreTaken};
+ghost use Rattle.parking_lot_world.specs.RwLaws.{AnswersAreLast, AnswersAreMoves, BeginsAreReady, EndsAreSteps, FirstsMayBeTaken, JoinsAreSteps, MakesAreSteps, OnlySleepersStand, StaysAreSteps, StoresAreSteps, TakesAreSteps, TokensSay, TokensTell, WakesAreSteps, WokenAreTold, WordsAreNumbers, WritersAreTaken};
 
 /// The parts of a word and its number say the same.
 pub fn words_are_numbers()
@@ -44,4 +44,44 @@ pub fn tokens_tell()
 /// The last reader takes the pending writer off the second list.
 pub fn writers_are_taken()
     ensures { WritersAreTaken }
+{}
+
+/// The end of a scan stores the word of its kind of release, and tells all that were taken.
+pub fn stores_are_steps()
+    ensures { StoresAreSteps }
+{}
+
+/// Those that a scan has taken are woken with the token that says what they were told.
+pub fn tokens_say()
+    ensures { TokensSay }
+{}
+
+/// Who has taken others wakes them one by one, and each goes on as it was told.
+pub fn wakes_are_steps()
+    ensures { WakesAreSteps }
+{}
+
+/// Nobody is woken before its taker has stored.
+pub fn woken_are_told()
+    ensures { WokenAreTold }
+{}
+
+/// Where a thread stands matters only while it sleeps.
+pub fn only_sleepers_stand()
+    ensures { OnlySleepersStand }
+{}
+
+/// A thread that begins a call is in the role of one that is in none, and ready.
+pub fn begins_are_ready()
+    ensures { BeginsAreReady }
+{}
+
+/// The end of a call is a step of the rules or none, and leaves its thread with what it owns.
+pub fn ends_are_steps()
+    ensures { EndsAreSteps }
+{}
+
+/// A call that has begun is answered in one of its last phases.
+pub fn answers_are_last()
+    ensures { AnswersAreLast }
 {}
