@@ -1,0 +1,2 @@
+pub mod MutexRoles
+pub mod MutexMoving

@@ -3,3 +3,4 @@ pub mod Stances
 pub mod RowActs
 pub mod RowFits
 pub mod RowSteps
+pub mod MutexLaws
