@@ -1,2 +1,3 @@
 pub mod MutexRoles
 pub mod MutexMoving
+pub mod Beginning

@@ -27,10 +27,10 @@ use Rattle.parking_lot_cores.specs.MutexTable.{act_of, next_phase, wakes_with, b
 use Rattle.parking_lot_cores.specs.MutexRules.{Spot, Listed, Off, role, owns, owns_after, taken_of, Move, Stays, Makes, Joins, TakesOne, Tells, WakesOne, IsWoken, move, last_move, IsWord, IsPlain, IsMove, IsTold, mark_of}
 use Rattle.parking_lot_cores.proofs.MutexFollowing.{either, follows}
 use Rattle.parking_lot_world.specs.Rows.{mutex_word_of}
-use Rattle.parking_lot_world.specs.Stances.{sign}
+use Rattle.parking_lot_world.specs.Stances.{sign, mutex_begun}
 use Rattle.parking_lot_world.specs.RowFits.{mutex_knows}
 use Rattle.parking_lot_world.specs.RowSteps.{store_step, wake_step}
-use Rattle.parking_lot_world.specs.MutexLaws.{Plays, NobodyIsInside, mutex_of, Leads, LeadsBy, is_own, is_begun, crossing_of, move_crossing, woken_role, word_next, IsOwnStep, IsJoining, IsTaking, IsTelling, IsWaking, MutexAnswersAreSteps}
+use Rattle.parking_lot_world.specs.MutexLaws.{Plays, NobodyIsInside, mutex_of, Leads, LeadsBy, is_own, crossing_of, move_crossing, woken_role, word_next, IsOwnStep, IsJoining, IsTaking, IsTelling, IsWaking, MutexAnswersAreSteps}
 use Rattle.parking_lot_world.proofs.MutexRoles.{back, small, sound_word, awake, woken}
 
 -- PARTS
@@ -169,10 +169,10 @@ own_law m x t v at p s plays g own free =
     subst (λ (y : ℕ). IsOwnStep m y t v p s) (sym plays.word)
     (own_step m plays.sound t v p s (listed m t v at p plays.here (own_awake (act_of p) own)) (told p (rules.number m.word) s (subst (λ (y : ℕ). Gives (act_of p) y s) plays.word g)) (alone_by v p s own) free)
 
-begins : (m : rules.Mutex) (x t v : ℕ) (p : MutexPhase) → is_begun p ≡ false → Plays m x t (record { owns = owns p; does = rules.Idle }) → IsOwnStep m x t v p Start
+begins : (m : rules.Mutex) (x t v : ℕ) (p : MutexPhase) → mutex_begun p ≡ false → Plays m x t (record { owns = owns p; does = rules.Idle }) → IsOwnStep m x t v p Start
 begins m x t v p new plays = subst (λ (y : ℕ). IsOwnStep m y t v p Start) (sym plays.word) (by_phase p new plays.here)
   where
-    by_phase : (p : MutexPhase) → is_begun p ≡ false → slice_get m.roles t ≡ Some (record { owns = owns p; does = rules.Idle }) → IsOwnStep m (rules.number m.word) t v p Start
+    by_phase : (p : MutexPhase) → mutex_begun p ≡ false → slice_get m.roles t ≡ Some (record { owns = owns p; does = rules.Idle }) → IsOwnStep m (rules.number m.word) t v p Start
     by_phase Locking new here = own_step m plays.sound t v Locking Start here tt refl (λ key e. absurd (omega (arith, ap tag e)))
     by_phase Trying new here = own_step m plays.sound t v Trying Start here tt refl (λ key e. absurd (omega (arith, ap tag e)))
     by_phase (Unlocking fair) new here = own_step m plays.sound t v (Unlocking fair) Start here tt refl (λ key e. absurd (omega (arith, ap tag e)))
@@ -295,7 +295,7 @@ abbrev answer_of : Act → CoreAnswer
 answer_of (act.Done answer) = answer
 answer_of other = Refused
 
-last_is : (v : ℕ) (p : MutexPhase) (answer : CoreAnswer) (w : rules.Word) → is_begun p ≡ true → act_of p ≡ act.Done answer → IsMove (last_move p) v p (Ends answer) w (rules.number w)
+last_is : (v : ℕ) (p : MutexPhase) (answer : CoreAnswer) (w : rules.Word) → mutex_begun p ≡ true → act_of p ≡ act.Done answer → IsMove (last_move p) v p (Ends answer) w (rules.number w)
 last_is v Locking answer w begun e = absurd (let f : false ≡ true = begun in cc)
 last_is v Trying answer w begun e = absurd (let f : false ≡ true = begun in cc)
 last_is v (Unlocking fair) answer w begun e = absurd (let f : false ≡ true = begun in cc)
@@ -320,7 +320,7 @@ last_alone p = (refl, refl)
 done_awake : (a : Act) (answer : CoreAnswer) → a ≡ act.Done answer → a ≢ act.Sleep
 done_awake a answer e f = omega (arith, ap tag (sym e ∙ f))
 
-ends : (m : rules.Mutex) (x t v : ℕ) (at : Spot) (p : MutexPhase) (answer : CoreAnswer) → Plays m x t (role at v p) → is_begun p ≡ true → act_of p ≡ act.Done answer
+ends : (m : rules.Mutex) (x t v : ℕ) (at : Spot) (p : MutexPhase) (answer : CoreAnswer) → Plays m x t (role at v p) → mutex_begun p ≡ true → act_of p ≡ act.Done answer
     → LeadsBy (last_move p) v t m (mutex_of x (slice_set m.roles t (record { owns = owns_after answer; does = rules.Idle })) m.queue) × (move_crossing (last_move p) ≡ crossing.Stays)
 ends m x t v at p answer plays begun e =
     let still = last_alone p in

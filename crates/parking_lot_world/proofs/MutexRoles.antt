@@ -1,5 +1,5 @@
 -- The words of a mutex as numbers, and what the phases of calls say of roles.
-use Rattle.std.proofs.Common.{◌≡◌, ◌≢◌, ℕ, zero, suc, ◌+◌, ◌/◌, ◌%◌, ◌<◌, ◌≤◌, ⊎_elim, ◌==◌, nat_lt, ◌-◌, Bool, true, false, cond, List, [], ◌∷◌, length, Some, slice_get, slice_set, refl, sym, ◌∙◌, subst, arith}
+use Rattle.std.proofs.Common.{◌≡◌, ◌≢◌, ℕ, zero, suc, ◌+◌, ◌<◌, ◌≤◌, ⊎_elim, ◌==◌, Bool, true, false, cond, List, [], ◌∷◌, length, Some, slice_get, slice_set, refl, sym, ◌∙◌, subst, arith}
 use Rattle.std.proofs.lemmas.Bool.{cases_eq}
 use Rattle.std.proofs.lemmas.Option.{same_Some}
 use Rattle.parking_lot_core.specs.declared.parking.UnparkToken.{UnparkToken}
@@ -10,17 +10,14 @@ use Rattle.parking_lot_rules.proofs.Indexed.{get-set_other}
 use Rattle.parking_lot_rules.proofs.Mutexes.{total-at}
 use Rattle.parking_lot_cores.specs.declared.act.Act.TheVariants as act
 use Rattle.parking_lot_cores.specs.declared.act.CoreAnswer.TheVariants.{Owned}
-use Rattle.parking_lot_cores.specs.declared.act.Seen.{Seen}
-use Rattle.parking_lot_cores.specs.declared.act.Seen.TheVariants.{Start, Word, Exchanged, Spun, Entered, Took, Stored, Made, Woken}
+use Rattle.parking_lot_cores.specs.declared.act.Seen.TheVariants.{Woken}
 use Rattle.parking_lot_cores.specs.declared.mutex_phase.MutexPhase.{MutexPhase}
-use Rattle.parking_lot_cores.specs.declared.mutex_phase.MutexPhase.TheVariants.{Locking, Trying, Unlocking, Bumping, Loads, Locks, Spins, Parks, Enters, Checks, Retreats, Appends, Rests, Sleeps, TryLoads, TryLocks, BumpLoads, Relocks, Unlocks, Looks, Takes, Stores, Leaves, Wakes, Finishes, Ends}
-use Rattle.parking_lot_cores.specs.declared.mutex_phase.Asking.{Asking}
-use Rattle.parking_lot_cores.specs.MutexTable.{seeks, tries, begins, act_of, next_phase, bit}
+use Rattle.parking_lot_cores.specs.declared.mutex_phase.MutexPhase.TheVariants.{Locking, Loads, Sleeps, Stores, Leaves, Wakes, Ends}
+use Rattle.parking_lot_cores.specs.MutexTable.{begins, act_of, next_phase, bit}
 use Rattle.parking_lot_cores.specs.MutexRules.{Spot, Listed, Off, role, taken_of, IsWord}
-use Rattle.parking_lot_cores.proofs.MutexFollowing.{either}
 use Rattle.parking_lot_world.specs.Rows.{mutex_word_of, first_of_all}
 use Rattle.parking_lot_world.specs.Stances.{mutex_taken}
-use Rattle.parking_lot_world.specs.MutexLaws.{MutexWordsAreNumbers, MutexRolesAreKnown, is_begun, settle_spot, woken_role}
+use Rattle.parking_lot_world.specs.MutexLaws.{MutexWordsAreNumbers, MutexRolesAreKnown, settle_spot, woken_role}
 
 -- WORDS
 
@@ -91,48 +88,6 @@ settled mark (Off by Handed) v p = off p
 pub woken : (at : Spot) (v : ℕ) (token : UnparkToken) → role at v (next_phase Sleeps (Woken token)) ≡ woken_role (token.0 == 1)
 woken at v token = elim (token.0 == 1) as (λ b. role at v (cond b (Ends Owned) (Loads (begins true))) ≡ woken_role b) [ true ↦ refl | false ↦ refl ]
 
--- A CALL THAT HAS BEGUN GOES ON SO
-
-seeks_on : (a : Asking) (word : ℕ) → is_begun (seeks a word) ≡ true
-seeks_on a word = either is_begun (word == 0) _ _ _ refl (either is_begun (word == 2) _ _ _ refl (either is_begun (word == 1) _ _ _ (either is_begun (nat_lt 0 a.rounds) _ _ _ refl refl) refl))
-
-tries_on : (left word : ℕ) → is_begun (tries left word) ≡ true
-tries_on left word = either is_begun (word == 0) _ _ _ refl (either is_begun (word == 2) _ _ _ refl refl)
-
-finishes_on : (fair again : Bool) (s : Seen) → is_begun (next_phase (Finishes (record { fair = fair; again = again })) s) ≡ true
-finishes_on fair true (Word n) = refl
-finishes_on fair again s = refl
-
-pub begun : (p : MutexPhase) (s : Seen) → is_begun (next_phase p s) ≡ true
-begun Locking Start = refl
-begun Trying Start = refl
-begun (Unlocking fair) Start = refl
-begun Bumping Start = refl
-begun (Loads a) (Word n) = seeks_on a n
-begun (Locks a waiters) (Word n) = seeks_on a n
-begun (Spins a) (Spun true) = refl
-begun (Spins a) (Spun false) = refl
-begun (Parks a) (Word n) = seeks_on a n
-begun (Enters c) Entered = refl
-begun (Retreats c) Made = refl
-begun Appends Made = refl
-begun Rests Made = refl
-begun (Checks c) (Word n) = either is_begun (n == 3) _ _ _ refl refl
-begun Sleeps (Woken token) = either is_begun (token.0 == 1) _ _ _ refl refl
-begun TryLoads (Word n) = tries_on 63 n
-begun (TryLocks waiters left) (Word n) = either is_begun (nat_lt 0 left) _ _ _ (tries_on (left - 1) n) refl
-begun BumpLoads (Word n) = either is_begun (n / 2 % 2 == 1) _ _ _ refl refl
-begun Relocks (Word n) = seeks_on (begins false) n
-begun (Unlocks g) Exchanged = either is_begun g.again _ _ _ refl refl
-begun (Looks g) Entered = refl
-begun (Takes g) (Took token left) = refl
-begun (Stores g taken left) (Stored fair) = refl
-begun (Wakes g) Made = refl
-begun (Leaves g true handed) Made = refl
-begun (Leaves g false handed) Made = refl
-begun (Finishes g) s = finishes_on g.fair g.again s
-begun p s = refl
-
 -- WHOM A THREAD HAS TAKEN
 
 pub taken_list : (us : List ℕ) (b : Bool) → length us ≡ bit b → us ≡ taken_of (first_of_all us) b
@@ -179,7 +134,6 @@ roles = record {
   alone = taken_alone;
   settled = settled;
   woken = woken;
-  begun = begun;
   taken = λ p us b size count. taken_list us b (size ∙ count);
   opener = opener;
   known = known;

@@ -22,7 +22,7 @@ use Rattle.parking_lot_cores.specs.Acts.{word_after, Gives}
 use Rattle.parking_lot_cores.specs.MutexTable.{act_of, next_phase, wakes_with, bit}
 use Rattle.parking_lot_cores.specs.MutexRules.{Spot, Listed, Off, role, owns, owns_after, taken_of, Move, Stays, Makes, Joins, TakesOne, Tells, WakesOne, IsWoken, move, last_move, IsWord, mark_of}
 use Rattle.parking_lot_world.specs.Rows.{mutex_word_of, first_of_all}
-use Rattle.parking_lot_world.specs.Stances.{sign, mutex_taken}
+use Rattle.parking_lot_world.specs.Stances.{sign, mutex_taken, mutex_begun}
 use Rattle.parking_lot_world.specs.RowFits.{mutex_knows}
 use Rattle.parking_lot_world.specs.RowSteps.{store_step, wake_step}
 
@@ -62,14 +62,6 @@ is_own (act.Section (section.Store plain fair)) = false
 is_own (act.Section section.Wake) = false
 is_own act.Sleep = false
 is_own other = true
-
--- a call that has begun
-abbrev pub is_begun : MutexPhase → Bool
-is_begun phase.Locking = false
-is_begun phase.Trying = false
-is_begun (phase.Unlocking fair) = false
-is_begun phase.Bumping = false
-is_begun other = true
 
 -- what an act does to the section of the first key
 abbrev pub crossing_of : Act → Crossing
@@ -117,8 +109,6 @@ pub record MutexRolesAreKnown : Type 0 where
   pub settled : (mark : Mark) (at : Spot) (v : ℕ) (p : MutexPhase) → settle mark (role at v p) ≡ role (settle_spot mark at) v p
   -- one that is woken
   pub woken : (at : Spot) (v : ℕ) (token : UnparkToken) → role at v (next_phase phase.Sleeps (seen.Woken token)) ≡ woken_role (token.0 == 1)
-  -- a call that has begun goes on so
-  pub begun : (p : MutexPhase) (s : Seen) → is_begun (next_phase p s) ≡ true
   -- whom one has taken that has taken one or nobody
   pub taken : (p : MutexPhase) (us : List ℕ) (b : Bool) → length us ≡ mutex_taken p → mutex_taken p ≡ bit b → us ≡ taken_of (first_of_all us) b
   -- The section of one that gives the mutex up is the one in which those were taken that know nothing yet.
@@ -178,7 +168,7 @@ pub record MutexAnswersAreSteps : Type 0 where
   pub wakes : (m : Mutex) (x t v : ℕ) (at : Spot) (p : MutexPhase) (mark : Mark) (token : UnparkToken) → Plays m x t (role at v p) → act_of p ≡ act.Section section.Wake
       → slice_get m.roles v ≡ Some (role (Off t mark) 0 phase.Sleeps) → IsWaking m x t v p seen.Made mark token
   -- a call begins, of a thread that owns the mutex where it is to give it up
-  pub begins : (m : Mutex) (x t v : ℕ) (p : MutexPhase) → is_begun p ≡ false → Plays m x t (record { owns = owns p; does = Idle }) → IsOwnStep m x t v p seen.Start
+  pub begins : (m : Mutex) (x t v : ℕ) (p : MutexPhase) → mutex_begun p ≡ false → Plays m x t (record { owns = owns p; does = Idle }) → IsOwnStep m x t v p seen.Start
   -- and ends, and the thread owns the mutex where the answer says so
-  pub ends : (m : Mutex) (x t v : ℕ) (at : Spot) (p : MutexPhase) (answer : CoreAnswer) → Plays m x t (role at v p) → is_begun p ≡ true → act_of p ≡ act.Done answer
+  pub ends : (m : Mutex) (x t v : ℕ) (at : Spot) (p : MutexPhase) (answer : CoreAnswer) → Plays m x t (role at v p) → mutex_begun p ≡ true → act_of p ≡ act.Done answer
       → LeadsBy (last_move p) v t m (mutex_of x (slice_set m.roles t (record { owns = owns_after answer; does = Idle })) m.queue) × (move_crossing (last_move p) ≡ crossing.Stays)
