@@ -4,3 +4,5 @@ pub mod RowActs
 pub mod RowFits
 pub mod RowSteps
 pub mod MutexLaws
+pub mod Faults
+pub mod Calls

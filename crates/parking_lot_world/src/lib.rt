@@ -2,11 +2,14 @@
 #![tactic(auto)]
 
 mod calls;
+mod fault;
 mod mutex_laws;
 mod row_machine;
 mod seat;
+mod step;
 
-pub use calls::{LockCall, LockKind, OwnMode};
+pub use calls::{LockAnswer, LockCall, LockKind, OwnMode};
+pub use fault::{WorldFault, WorldRefusal};
 pub use mutex_laws::{
     answers_are_steps_of_a_sound_mutex, calls_that_have_begun_go_on, roles_at_a_mutex_are_known,
     words_of_a_mutex_are_numbers,
@@ -16,3 +19,4 @@ pub use parking_lot_cores::{
     WordChange, wake_sum,
 };
 pub use row_machine::RowMachine;
+pub use step::WorldStep;
