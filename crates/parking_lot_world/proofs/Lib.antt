@@ -18,3 +18,6 @@ pub mod LotLists
 pub mod LotStores
 pub mod RwWaking
 pub mod RwEnding
+pub mod MutexRoles
+pub mod MutexMoving
+pub mod Beginning

@@ -6,3 +6,6 @@ pub mod RowSteps
 pub mod ActLaws
 pub mod StanceLaws
 pub mod RwLaws
+pub mod MutexLaws
+pub mod Faults
+pub mod Calls

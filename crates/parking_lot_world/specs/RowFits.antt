@@ -37,7 +37,7 @@ use Rattle.parking_lot_world.specs.declared.seat.Core.TheVariants as core
 use Rattle.parking_lot_world.specs.declared.seat.Call.{Call}
 use Rattle.parking_lot_world.specs.declared.seat.Wakeup.{Wakeup}
 use Rattle.parking_lot_world.specs.Rows.{State, word_at, hold_at, call_at, taken_by, family, one_bucket}
-use Rattle.parking_lot_world.specs.Stances.{Doing, Looks, TurnsBack, Joins, Joined, Takes, Stores, Tells, Stance, Out, In, Asleep, stance, taken_count}
+use Rattle.parking_lot_world.specs.Stances.{Doing, Looks, TurnsBack, Joins, Joined, Takes, Stores, Tells, Stance, Out, In, Asleep, stance, taken_count, has_begun}
 use Rattle.parking_lot_world.specs.RowActs.{told_of}
 
 -- THE LOT
@@ -216,6 +216,8 @@ pub record RulesFit (s : State) : Type 0 where
   pub bits : (i : ℕ) → slice_get s.kinds i ≡ Some kind.Mutex → word_at s i < 4
   -- the locks are sound
   pub sound : SoundFamilyOf AnySound any_inside one_bucket (family s)
+  -- a call that is kept has begun
+  pub begun : (t : ℕ) (c : Call) → call_at s t ≡ Some c → has_begun c.core ≡ true
 
 pub record FitsTogether (s : State) : Type 0 where
   pub lots : LotFits s

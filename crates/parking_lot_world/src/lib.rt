@@ -5,12 +5,21 @@ mod acts;
 mod calls;
 mod laws;
 mod lot_laws;
+mod fault;
+mod mutex_laws;
 mod row_machine;
 mod rw_laws;
 mod seat;
+mod step;
 
 pub use calls::{LockCall, LockKind, OwnMode};
 pub use lot_laws::stances_follow_acts;
+pub use calls::{LockAnswer, LockCall, LockKind, OwnMode};
+pub use fault::{WorldFault, WorldRefusal};
+pub use mutex_laws::{
+    answers_are_steps_of_a_sound_mutex, calls_that_have_begun_go_on, roles_at_a_mutex_are_known,
+    words_of_a_mutex_are_numbers,
+};
 pub use parking_lot_cores::{
     Act, CoreAnswer, HAND_OVER, LockTable, MutexCore, Row, RwCore, SectionAct, Seen, TRY_AGAIN,
     WordChange, wake_sum,
@@ -23,3 +32,4 @@ pub use rw_laws::{
     takes_are_steps, tokens_say, tokens_tell, wakes_are_steps, woken_are_told, words_are_numbers,
     writers_are_taken,
 };
+pub use step::WorldStep;
