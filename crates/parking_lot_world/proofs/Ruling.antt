@@ -1,5 +1,5 @@
 -- The side of the rules is kept where one thread's call has changed.
-use Rattle.std.proofs.Common.{◌≡◌, ◌≢◌, ℕ, ◌+◌, ◌*◌, ◌<◌, ◌≤◌, ◌^◌, ◌⊎◌, inl, inr, List, length, Option, Some, None, slice_get, slice_set, refl, sym, ap, ◌∙◌, subst, arith}
+use Rattle.std.proofs.Common.{◌≡◌, ◌≢◌, ℕ, ◌+◌, ◌*◌, ◌<◌, ◌≤◌, ◌^◌, ◌⊎◌, inl, inr, Bool, true, List, length, Option, Some, None, slice_get, slice_set, refl, sym, ap, ◌∙◌, subst, arith}
 use Rattle.std.proofs.lemmas.Bool.{cases_eq}
 use Rattle.std.proofs.lemmas.List.{length-set}
 use Rattle.parking_lot_core.specs.declared.place.Waiter.{Waiter}
@@ -18,6 +18,7 @@ use Rattle.parking_lot_world.specs.declared.seat.Core.{Core}
 use Rattle.parking_lot_world.specs.declared.seat.Core.TheVariants as core
 use Rattle.parking_lot_world.specs.declared.seat.Call.{Call}
 use Rattle.parking_lot_world.specs.Rows.{State, word_at, hold_at, call_at}
+use Rattle.parking_lot_world.specs.Stances.{has_begun}
 use Rattle.parking_lot_world.specs.RowFits.{FitsTogether, RulesFit, IsOfKind, IsPrepared, KnowsList, mutex_knows, rw_knows}
 use Rattle.parking_lot_world.specs.RowSteps.{IsRwMove, IsMutexMove, store_step, wake_step}
 use Rattle.parking_lot_world.proofs.Making.{IsSoundState, quiet_sound, made_sound}
@@ -50,6 +51,7 @@ pub record CallFits (kinds : List LockKind) (queues : ℕ → List Waiter) (e : 
   pub prepared : IsPrepared e.core
   pub knows : KnowsList e.core queues e.lock
   pub beside : e.others ≡ 0
+  pub begun : has_begun e.core ≡ true
 
 -- What is to be shown of an act for that side.
 pub record RulesAfter (s u : State) (j : ℕ) : Type 0 where
@@ -78,11 +80,12 @@ rules_after s u j h a = record {
     | inr ne ↦ subst (λ n. n < 4) (sym (a.elsewhere i ne)) (h.bits i (sym (ap (λ ks. slice_get ks i) a.kinds) ∙ k))
   ];
   sound = a.sound;
+  begun = λ v e here. (a.calls v e here).begun;
 }
 
 -- a call that fits, as the machine has it
 pub call_fits : (s : State) → RulesFit s → (v : ℕ) (e : Call) → call_at s v ≡ Some e → CallFits s.kinds s.lot.queues e
-call_fits s h v e here = record { kind = h.kinds v e here; prepared = h.prepared v e here; knows = h.knows v e here; beside = h.beside v e here }
+call_fits s h v e here = record { kind = h.kinds v e here; prepared = h.prepared v e here; knows = h.knows v e here; beside = h.beside v e here; begun = h.begun v e here }
 
 -- lists that stay
 pub knows_same : (f g : ℕ → List Waiter) → ((key : ℕ) → g key ≡ f key) → (x : Core) (j : ℕ) → KnowsList x f j → KnowsList x g j
@@ -98,16 +101,16 @@ module _ (s u : State) (t : ℕ) (c : Call) (told : Seen) (next : Core) (at : Sp
   calls-after P others this v e here =
       calls-change P s.calls t c d a.here (λ x f ne at_x. others x f at_x) this v e (sym (ap (λ cs. call_of cs v) a.calls) ∙ here)
 
-  pub rules_own : ((k : Option LockKind) → IsOfKind k c.core → IsOfKind k next) → IsPrepared next → KnowsList next u.lot.queues c.lock
+  pub rules_own : ((k : Option LockKind) → IsOfKind k c.core → IsOfKind k next) → IsPrepared next → KnowsList next u.lot.queues c.lock → has_begun next ≡ true
       → (slice_get s.kinds c.lock ≡ Some kind.Mutex → word_at u c.lock < 4) → IsSoundState u → RulesFit u
-  rules_own same_kind prepared knows bits sound = rules_after s u c.lock h.rules (record {
+  rules_own same_kind prepared knows begun bits sound = rules_after s u c.lock h.rules (record {
     kinds = a.kinds;
     threads = ap length a.calls ∙ length-set s.calls t (Some d);
     holds = ap length a.holds;
     words = a.sizes;
     calls = calls-after (λ v e. CallFits s.kinds u.lot.queues e)
-        (λ v e here. let f = call_fits s h.rules v e here in record { kind = f.kind; prepared = f.prepared; knows = knows_same s.lot.queues u.lot.queues a.queues e.core e.lock f.knows; beside = f.beside })
-        (record { kind = same_kind (slice_get s.kinds c.lock) (h.rules.kinds t c a.here); prepared = prepared; knows = knows; beside = h.rules.beside t c a.here });
+        (λ v e here. let f = call_fits s h.rules v e here in record { kind = f.kind; prepared = f.prepared; knows = knows_same s.lot.queues u.lot.queues a.queues e.core e.lock f.knows; beside = f.beside; begun = f.begun })
+        (record { kind = same_kind (slice_get s.kinds c.lock) (h.rules.kinds t c a.here); prepared = prepared; knows = knows; beside = h.rules.beside t c a.here; begun = begun });
     few = λ x i n e. h.rules.few x i n (sym (same-holds s u a.kinds a.holds x i) ∙ e);
     elsewhere = a.words;
     bits = bits;

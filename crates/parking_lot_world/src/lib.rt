@@ -12,7 +12,6 @@ mod rw_laws;
 mod seat;
 mod step;
 
-pub use calls::{LockCall, LockKind, OwnMode};
 pub use lot_laws::stances_follow_acts;
 pub use calls::{LockAnswer, LockCall, LockKind, OwnMode};
 pub use fault::{WorldFault, WorldRefusal};
