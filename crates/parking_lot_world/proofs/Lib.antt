@@ -7,6 +7,7 @@ mod OwnMoves
 mod Owning
 mod Plainly
 mod Ruling
+mod OwnActs
 mod Acting
 pub mod Stancing
 pub mod RwMoving

@@ -33,6 +33,7 @@ IsOwnAct (act.Section (section.Append token)) = ⊥
 IsOwnAct (act.Section (section.Store plain fair)) = ⊥
 IsOwnAct (act.Section section.Wake) = ⊥
 IsOwnAct act.Sleep = ⊥
+IsOwnAct (act.Mask keep) = ⊥
 IsOwnAct (act.Done answer) = ⊥
 IsOwnAct a = Unit {0}
 
@@ -90,7 +91,7 @@ module _ (t : ℕ) (old new : Option ℕ) where
   own_moves n us (Unshares rest) x (seen.Before word) told own h = unshares n (word / 16 == 1 && is_writer_parked word) h
   own_moves n us (Owes2 rest) x s told own h = h
   own_moves n us (Takes2 rest) x s told own h = absurd own
-  own_moves n us (Masks2 rest taken) x s told own h = h
+  own_moves n us (Masks2 rest taken) x s told own h = absurd own
   own_moves n us (Leaves2 rest taken) x s told own h = h
   own_moves n us (Unlocks fair rest) x seen.Exchanged told own h = h
   own_moves n us (LooksExclusive fair rest) x s told own h = h

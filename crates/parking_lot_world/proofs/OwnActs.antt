@@ -1,0 +1,128 @@
+-- A thread's own acts, at a lock of any kind: they are steps of the rules, and keep the side of the rules.
+use Rattle.std.proofs.Common.{◌≡◌, ◌≢◌, ℕ, zero, suc, ◌+◌, ◌*◌, ◌<◌, ◌≤◌, ◌⊎◌, inl, inr, Bool, true, false, List, [], length, map, Option, Some, None, slice_get, slice_set, refl, sym, ap, ◌∙◌, subst, arith}
+use Rattle.std.proofs.lemmas.Bool.{cases_eq, both_ways}
+use Rattle.std.proofs.lemmas.Option.{none-some, same_Some}
+use Rattle.parking_lot_core.specs.Machine.{threads_of}
+use Rattle.parking_lot_rules.specs.Roles.{Role}
+use Rattle.parking_lot_rules.specs.Lists.{at_index}
+use Rattle.parking_lot_rules.specs.Classes.{Inside1, Inside2, weight, weighs}
+use Rattle.parking_lot_rules.specs.Lock.{Lock}
+use Rattle.parking_lot_rules.specs.Mutex as mutex
+use Rattle.parking_lot_rules.specs.Any.{AnyLock, Rw, Mx, any_rules, any_inside}
+use Rattle.parking_lot_rules.specs.Family.{Key, First, Second}
+use Rattle.parking_lot_rules.proofs.MutexCrossing.{any_are_rules}
+use Rattle.parking_lot_cores.specs.declared.act.Act.{Act}
+use Rattle.parking_lot_cores.specs.declared.act.Act.TheVariants as act
+use Rattle.parking_lot_cores.specs.declared.act.SectionAct.TheVariants as section
+use Rattle.parking_lot_cores.specs.declared.act.Seen.{Seen}
+use Rattle.parking_lot_cores.specs.declared.act.Seen.TheVariants as seen
+use Rattle.parking_lot_cores.specs.declared.rw_core.RwCore.{RwCore}
+use Rattle.parking_lot_cores.specs.declared.mutex_core.MutexCore.{MutexCore}
+use Rattle.parking_lot_cores.specs.declared.rw_phase.RwPhase.{RwPhase}
+use Rattle.parking_lot_cores.specs.declared.rw_phase.RwPhase.TheVariants as r
+use Rattle.parking_lot_cores.specs.Acts.{Gives, word_after}
+use Rattle.parking_lot_cores.specs.RwTable as of_rw_table
+use Rattle.parking_lot_cores.specs.RwRules as of_rw
+use Rattle.parking_lot_world.specs.declared.calls.LockKind.{LockKind}
+use Rattle.parking_lot_world.specs.declared.calls.LockKind.TheVariants as kind
+use Rattle.parking_lot_world.specs.declared.seat.Core.{Core}
+use Rattle.parking_lot_world.specs.declared.seat.Core.TheVariants as core
+use Rattle.parking_lot_world.specs.declared.seat.Call.{Call}
+use Rattle.parking_lot_world.specs.Rows.{State, word_at, call_at, taken_by, rw_spot, rw_lock_at, mutex_at, any_lock, lock_at, inside, family}
+use Rattle.parking_lot_world.specs.Stances.{has_begun, rw_begun, core_act, core_next}
+use Rattle.parking_lot_world.specs.RowFits.{FitsTogether, RulesFit, IsOfKind, IsPrepared, KnowsList}
+use Rattle.parking_lot_world.specs.RowSteps.{Goes, IsMoveOf, IsRwMove}
+use Rattle.parking_lot_world.specs.RwLaws.{Finds, NobodyIs}
+use Rattle.parking_lot_world.proofs.Beginning.{goes_on}
+use Rattle.parking_lot_world.proofs.RwMoving.{answers_are_moves}
+use Rattle.parking_lot_world.proofs.Making.{IsSoundState}
+use Rattle.parking_lot_world.proofs.Meeting.{meets}
+use Rattle.parking_lot_world.proofs.OwnMoves.{AfterAct, IsOwnAct}
+use Rattle.parking_lot_world.proofs.Owning.{OwnAct, rw_goes}
+use Rattle.parking_lot_world.proofs.Plainly.{plain_next}
+use Rattle.parking_lot_world.proofs.Ruling.{rules_own, rw_move_sound}
+
+-- NOBODY IS INSIDE
+
+module _ (s : State) (h : FitsTogether s) (free : inside s ≡ None) where
+  nobody_at : (i u : ℕ) (k : Key) → any_inside (lock_at s i) k u ≢ 1
+  nobody_at i u k e = none-some u (sym free ∙ h.rules.sound.entered i k u e)
+
+  at_most : (l : AnyLock) (u : ℕ) (k : Key) → any_inside l k u ≤ 1
+  at_most l u First = omega (arith, (any_are_rules (λ i. false)).one l u)
+  at_most l u Second = omega (arith, (any_are_rules (λ i. false)).one l u)
+
+  none_inside : (i u : ℕ) (k : Key) (o : Option LockKind) → slice_get s.kinds i ≡ o → any_inside (any_lock o s i) k u ≡ 0
+  none_inside i u k o e = omega (arith, at_most (any_lock o s i) u k, λ (x : any_inside (any_lock o s i) k u ≡ 1). nobody_at i u k (ap (λ q. any_inside (any_lock q s i) k u) e ∙ x))
+
+  pub nobody_first : (i : ℕ) → slice_get s.kinds i ≡ Some kind.Rw → NobodyIs Inside1 (rw_lock_at s i).roles
+  nobody_first i e u r at = sym (ap (weighs Inside1) at) ∙ none_inside i u First (Some kind.Rw) e
+
+  pub nobody_second : (i : ℕ) → slice_get s.kinds i ≡ Some kind.Rw → NobodyIs Inside2 (rw_lock_at s i).roles
+  nobody_second i e u r at = sym (ap (weighs Inside2) at) ∙ none_inside i u Second (Some kind.Rw) e
+
+  pub nobody_in_mutex : (i : ℕ) → slice_get s.kinds i ≡ Some kind.Mutex → (u : ℕ) (r : mutex.Role) → slice_get (mutex_at s i).roles u ≡ Some r → mutex.weight mutex.Inside r ≡ 0
+  nobody_in_mutex i e u r at = sym (ap (at_index (mutex.weight mutex.Inside)) at) ∙ none_inside i u First (Some kind.Mutex) e
+
+no_start : false ≡ true → ⊥
+no_start e = both_ways false refl e
+
+is_rw : Option LockKind → Bool
+is_rw None = false
+is_rw (Some kind.Mutex) = false
+is_rw (Some kind.Rw) = true
+
+-- a lock is of one kind
+two_kinds : Some kind.Rw ≡ Some kind.Mutex → ⊥
+unfolding is_rw
+two_kinds e = both_ways (is_rw (Some kind.Rw)) (ap is_rw e) refl
+
+-- AT A READER-WRITER LOCK
+
+-- what an act gives is what one may be told that has begun
+pub rw_told : (p : RwPhase) (x : ℕ) (s : Seen) → rw_begun p ≡ true → IsOwnAct (of_rw_table.act_of p) → Gives (of_rw_table.act_of p) x s → of_rw.IsTold p x s
+rw_told (r.Locking q) x s b own g = absurd (no_start b)
+rw_told (r.Trying q) x s b own g = absurd (no_start b)
+rw_told r.UnlockingShared x s b own g = absurd (no_start b)
+rw_told (r.UnlockingExclusive fair) x s b own g = absurd (no_start b)
+rw_told r.Downgrading x s b own g = absurd (no_start b)
+rw_told r.BumpingShared x s b own g = absurd (no_start b)
+rw_told r.BumpingExclusive x s b own g = absurd (no_start b)
+rw_told (r.Scans a) x s b own g = absurd own
+rw_told p x s b own g = g
+
+module _ (s u : State) (t : ℕ) (h : FitsTogether s) where
+  finds : (a : Act) (i : ℕ) → IsOwnAct a → AfterAct a t (inside s) (inside u) → slice_get s.kinds i ≡ Some kind.Rw → Finds a (rw_lock_at s i)
+  finds (act.Enter zero) i own around e = nobody_first s h around.0 i e
+  finds (act.Enter (suc key)) i own around e = nobody_second s h around.0 i e
+  finds (act.Mask keep) i own around e = absurd own
+  finds act.Load i own around e = tt
+  finds (act.Exchange from to) i own around e = tt
+  finds (act.Add by) i own around e = tt
+  finds act.Spin i own around e = tt
+  finds (act.Section a) i own around e = tt
+  finds act.Sleep i own around e = tt
+  finds (act.Done answer) i own around e = tt
+
+  module _ (c : Call) (told : Seen) (k : RwCore) (e : c.core ≡ core.Rw k) (a : OwnAct s u t c told (core_next (core.Rw k) told) c.spot)
+      (gives : Gives (of_rw_table.act_of k.phase) (word_at s c.lock) told) (own : IsOwnAct (of_rw_table.act_of k.phase))
+      (around : AfterAct (of_rw_table.act_of k.phase) t (inside s) (inside u)) where
+    rw_kind : slice_get s.kinds c.lock ≡ Some kind.Rw
+    rw_kind = subst (IsOfKind (slice_get s.kinds c.lock)) e (h.rules.kinds t c a.here)
+
+    rw_heard : of_rw.IsTold k.phase (word_at s c.lock) told
+    rw_heard = rw_told k.phase (word_at s c.lock) told (subst (λ (x : Core). has_begun x ≡ true) e (h.rules.begun t c a.here)) own gives
+
+    rw_made : IsRwMove (of_rw.move c.others (taken_by s.wakes t) k.phase told) c.lock t s u
+    rw_made = rw_goes s u t c told k c.spot e a h refl rw_heard own (finds (of_rw_table.act_of k.phase) c.lock own around rw_kind) around rw_kind
+
+    rw_prepared : IsPrepared (core_next (core.Rw k) told)
+    rw_prepared =
+        ((answers_are_moves (rw_lock_at s c.lock) t c.others (rw_spot c.spot) (taken_by s.wakes t) k.phase (word_at s c.lock) told (meets s h t c k e a.here) rw_heard).2.1,
+        plain_next k.phase told (subst IsPrepared e (h.rules.prepared t c a.here)).1)
+
+    pub own_rw : KnowsList (core_next (core.Rw k) told) u.lot.queues c.lock → RulesFit u × Goes t c told s u
+    own_rw knows =
+        (rules_own s u t c told (core_next (core.Rw k) told) c.spot a h (λ o x. subst (IsOfKind o) e x) rw_prepared knows (goes_on (core.Rw k) told)
+        (λ m. absurd (two_kinds (sym rw_kind ∙ m))) (rw_move_sound s u t c.lock (of_rw.move c.others (taken_by s.wakes t) k.phase told) rw_made h.rules.sound),
+        subst (λ (x : Core). IsMoveOf x c.others (taken_by s.wakes t) told c.lock t s u) (sym e) rw_made)
