@@ -1,5 +1,5 @@
 -- What is a step of a lock is a step of the machine's family of locks, and keeps it sound.
-use Rattle.std.proofs.Common.{◌≡◌, ◌≢◌, ℕ, ◌+◌, ◌*◌, ◌<◌, ◌⊎◌, inl, inr, ◌==◌, cond, false, List, [], length, Option, Some, None, slice_get, refl, sym, ap, ◌∙◌, subst, arith, eq-eqb}
+use Rattle.std.proofs.Common.{◌≡◌, ◌≢◌, ℕ, ◌+◌, ◌*◌, ◌<◌, ◌⊎◌, inl, inr, ◌==◌, cond, Bool, true, false, List, [], ◌∷◌, length, Option, Some, None, slice_get, refl, sym, ap, ◌∙◌, subst, arith, eq-eqb}
 use Rattle.std.proofs.lemmas.Bool.{ne_eqb, cases_eq}
 use Rattle.std.proofs.lemmas.Option.{none-some, same_Some}
 use Rattle.parking_lot_rules.specs.Roles.{Idle, Role}
@@ -12,7 +12,10 @@ use Rattle.parking_lot_world.specs.declared.calls.LockKind.{LockKind}
 use Rattle.parking_lot_world.specs.declared.calls.LockKind.TheVariants as kind
 use Rattle.parking_lot_world.specs.declared.seat.Call.{Call}
 use Rattle.parking_lot_world.specs.Rows.{State, call_at, hold_at, taken_by, rw_role_at, mutex_role_at, rw_role_in, mutex_role_in, owned_of, owns_mutex, rw_lock_at, mutex_at, any_lock, lock_at, inside, family, one_bucket}
-use Rattle.parking_lot_world.specs.RowSteps.{IsQuiet, IsMade}
+use Rattle.parking_lot_rules.specs.Roles.{Asleep}
+use Rattle.parking_lot_cores.specs.MutexRules as of_mutex
+use Rattle.parking_lot_world.specs.MutexLaws.{LeadsBy, move_crossing}
+use Rattle.parking_lot_world.specs.RowSteps.{IsQuiet, IsMade, IsMutexMove, store_step, wake_step}
 use Rattle.parking_lot_rules.proofs.MutexCrossing.{families_stay_sound}
 use Rattle.parking_lot_world.proofs.Everybody.{was-all}
 use Rattle.parking_lot_world.proofs.Lifting.{IsThere, rw_away, mutex_away, Elsewhere, elsewhere}
@@ -108,3 +111,32 @@ quiet_sound s u q sound = record {
 
 pub made_sound : (s u : State) (t j : ℕ) (step : AnyStep) → IsMade j t step s u → IsSoundState s → IsSoundState u
 made_sound s u t j step made sound = families_stay_sound (λ i. false) one_bucket j t step (family s) (family u) sound made
+
+-- AT A MUTEX
+
+-- one that tells has taken those whom its phase says
+abbrev pub TellsOf : of_mutex.Move → List ℕ → ℕ → Type 0
+TellsOf (of_mutex.Tells taken handed left) us v = us ≡ of_mutex.taken_of v taken
+TellsOf m us v = Unit {0}
+
+pub mutex_goes : (s u : State) (t j v : ℕ) (us : List ℕ) (n : mutex.Mutex) (m : of_mutex.Move) → IsThere j (call_at s t) → Elsewhere j s u → slice_get s.kinds j ≡ Some kind.Mutex
+    → LeadsBy m v t (mutex_at s j) n → mutex_at u j ≡ n → Crossed (move_crossing m) t (inside s) (inside u) → TellsOf m us v → IsMutexMove m us j t s u
+mutex_goes s u t j v us n of_mutex.Stays there others k leads here crossed tells = quiet_mutex s u t j there others k (here ∙ leads) crossed
+mutex_goes s u t j v us n (of_mutex.Makes x) there others k leads here crossed tells = made_mutex s u t j there others (mutex.Alone x) k leads.0 (here ∙ sym leads.1) crossed
+mutex_goes s u t j v us n of_mutex.Joins there others k leads here crossed tells = made_mutex s u t j there others mutex.Join k leads.0 (here ∙ sym leads.1) crossed
+mutex_goes s u t j v us n of_mutex.TakesOne there others k leads here crossed tells = (v, made_mutex s u t j there others (mutex.Take v Asleep) k leads.0 (here ∙ sym leads.1) crossed)
+mutex_goes s u t j v us n (of_mutex.Tells taken handed left) there others k leads here crossed tells =
+    subst (λ (vs : List ℕ). IsMade j t (MxStep (store_step handed vs)) s u) (sym tells)
+    (made_mutex s u t j there others (store_step handed (of_mutex.taken_of v taken)) k leads.0 (here ∙ sym leads.1) (stores handed (of_mutex.taken_of v taken)))
+  where
+    stores : (b : Bool) (vs : List ℕ) → Crossed (mutex_crossing (store_step b vs)) t (inside s) (inside u)
+    stores true (x ∷ vs) = crossed
+    stores true [] = crossed
+    stores false vs = crossed
+mutex_goes s u t j v us n of_mutex.WakesOne there others k leads here crossed tells =
+    (leads.0, v, [], made_mutex s u t j there others (wake_step leads.0 v []) k leads.1.0 (here ∙ sym leads.1.1) (wakes leads.0))
+  where
+    wakes : (b : Bool) → Crossed (mutex_crossing (wake_step b v [])) t (inside s) (inside u)
+    wakes true = crossed
+    wakes false = crossed
+mutex_goes s u t j v us n (of_mutex.IsWoken handed) there others k leads here crossed tells = absurd leads

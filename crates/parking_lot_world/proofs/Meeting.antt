@@ -136,10 +136,10 @@ module _ (s : State) (h : FitsTogether s) where
       go true = core_few c.others c.spot (taken_by s.wakes u) c.core (h.rules.beside u c e)
       go false = hold_few u i (hold_at s u i) refl
 
-  rw_sound : (i : ℕ) → slice_get s.kinds i ≡ Some kind.Rw → IsSound (rw_lock_at s i)
+  pub rw_sound : (i : ℕ) → slice_get s.kinds i ≡ Some kind.Rw → IsSound (rw_lock_at s i)
   rw_sound i k = subst (λ (o : Option LockKind). AnySound (any_lock o s i)) k (h.rules.sound.sound i)
 
-  mutex_sound : (i : ℕ) → slice_get s.kinds i ≡ Some kind.Mutex → mutex.IsSound (mutex_at s i)
+  pub mutex_sound : (i : ℕ) → slice_get s.kinds i ≡ Some kind.Mutex → mutex.IsSound (mutex_at s i)
   mutex_sound i k = subst (λ (o : Option LockKind). AnySound (any_lock o s i)) k (h.rules.sound.sound i)
 
   -- thread t is in that call

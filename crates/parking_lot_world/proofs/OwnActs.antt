@@ -1,5 +1,5 @@
 -- A thread's own acts, at a lock of any kind: they are steps of the rules, and keep the side of the rules.
-use Rattle.std.proofs.Common.{◌≡◌, ◌≢◌, ℕ, zero, suc, ◌+◌, ◌*◌, ◌<◌, ◌≤◌, ◌⊎◌, inl, inr, Bool, true, false, List, [], length, map, Option, Some, None, slice_get, slice_set, refl, sym, ap, ◌∙◌, subst, arith}
+use Rattle.std.proofs.Common.{◌≡◌, ◌≢◌, ℕ, zero, suc, ◌+◌, ◌*◌, ◌<◌, ◌≤◌, ◌⊎◌, inl, inr, ◌==◌, cond, Bool, true, false, List, [], length, map, Option, Some, None, slice_get, slice_set, refl, sym, ap, ◌∙◌, subst, arith}
 use Rattle.std.proofs.lemmas.Bool.{cases_eq, both_ways}
 use Rattle.std.proofs.lemmas.Option.{none-some, same_Some}
 use Rattle.parking_lot_core.specs.Machine.{threads_of}
@@ -28,19 +28,29 @@ use Rattle.parking_lot_world.specs.declared.calls.LockKind.TheVariants as kind
 use Rattle.parking_lot_world.specs.declared.seat.Core.{Core}
 use Rattle.parking_lot_world.specs.declared.seat.Core.TheVariants as core
 use Rattle.parking_lot_world.specs.declared.seat.Call.{Call}
-use Rattle.parking_lot_world.specs.Rows.{State, word_at, call_at, taken_by, rw_spot, rw_lock_at, mutex_at, any_lock, lock_at, inside, family}
+use Rattle.parking_lot_world.specs.Rows.{State, word_at, call_at, taken_by, hold_at, first_of_all, mutex_spot, mutex_role_in, mutex_role_at, mutex_core_role, rw_spot, rw_lock_at, mutex_at, any_lock, lock_at, inside, family}
 use Rattle.parking_lot_world.specs.Stances.{has_begun, rw_begun, core_act, core_next}
 use Rattle.parking_lot_world.specs.RowFits.{FitsTogether, RulesFit, IsOfKind, IsPrepared, KnowsList}
-use Rattle.parking_lot_world.specs.RowSteps.{Goes, IsMoveOf, IsRwMove}
+use Rattle.parking_lot_world.specs.RowSteps.{Goes, IsMoveOf, IsRwMove, IsMutexMove}
 use Rattle.parking_lot_world.specs.RwLaws.{Finds, NobodyIs}
 use Rattle.parking_lot_world.proofs.Beginning.{goes_on}
 use Rattle.parking_lot_world.proofs.RwMoving.{answers_are_moves}
-use Rattle.parking_lot_world.proofs.Making.{IsSoundState}
-use Rattle.parking_lot_world.proofs.Meeting.{meets}
+use Rattle.parking_lot_cores.specs.MutexTable as of_mutex_table
+use Rattle.parking_lot_cores.specs.declared.mutex_phase.MutexPhase.{MutexPhase}
+use Rattle.parking_lot_cores.specs.declared.mutex_phase.MutexPhase.TheVariants as m
+use Rattle.parking_lot_cores.specs.MutexRules as of_mutex
+use Rattle.parking_lot_rules.specs.Family.{Crossing}
+use Rattle.parking_lot_world.specs.MutexLaws.{Plays, IsOwnStep, is_own, crossing_of}
+use Rattle.parking_lot_world.proofs.MutexMoving.{steps}
+use Rattle.parking_lot_world.proofs.MutexRoles.{words}
+use Rattle.parking_lot_world.proofs.Everybody.{get-all}
+use Rattle.parking_lot_world.proofs.Lifting.{mutex_there}
+use Rattle.parking_lot_world.proofs.Making.{IsSoundState, Crossed, TellsOf, mutex_goes}
+use Rattle.parking_lot_world.proofs.Meeting.{meets, in_range, mutex_sound}
 use Rattle.parking_lot_world.proofs.OwnMoves.{AfterAct, IsOwnAct}
-use Rattle.parking_lot_world.proofs.Owning.{OwnAct, rw_goes}
+use Rattle.parking_lot_world.proofs.Owning.{OwnAct, own-there, own-elsewhere, mutex_after, rw_goes}
 use Rattle.parking_lot_world.proofs.Plainly.{plain_next}
-use Rattle.parking_lot_world.proofs.Ruling.{rules_own, rw_move_sound}
+use Rattle.parking_lot_world.proofs.Ruling.{rules_own, rw_move_sound, mutex_move_sound}
 
 -- NOBODY IS INSIDE
 
@@ -126,3 +136,103 @@ module _ (s u : State) (t : ℕ) (h : FitsTogether s) where
         (rules_own s u t c told (core_next (core.Rw k) told) c.spot a h (λ o x. subst (IsOfKind o) e x) rw_prepared knows (goes_on (core.Rw k) told)
         (λ m. absurd (two_kinds (sym rw_kind ∙ m))) (rw_move_sound s u t c.lock (of_rw.move c.others (taken_by s.wakes t) k.phase told) rw_made h.rules.sound),
         subst (λ (x : Core). IsMoveOf x c.others (taken_by s.wakes t) told c.lock t s u) (sym e) rw_made)
+
+-- AT A MUTEX
+
+own_is : (a : Act) → IsOwnAct a → is_own a ≡ true
+own_is act.Load h = refl
+own_is (act.Exchange from to) h = refl
+own_is (act.Add by) h = refl
+own_is (act.Mask keep) h = refl
+own_is act.Spin h = refl
+own_is (act.Enter key) h = refl
+own_is (act.Section section.Check) h = refl
+own_is (act.Section section.TakeFirst) h = absurd h
+own_is (act.Section (section.TakeNext sum)) h = absurd h
+own_is (act.Section (section.Append token)) h = absurd h
+own_is (act.Section (section.Store plain fair)) h = absurd h
+own_is (act.Section section.Leave) h = refl
+own_is (act.Section section.Wake) h = absurd h
+own_is act.Sleep h = absurd h
+own_is (act.Done answer) h = absurd h
+
+around_mutex : (a : Act) (t : ℕ) (old new : Option ℕ) → AfterAct a t old new → Crossed (crossing_of a) t old new
+around_mutex act.Load t old new h = h
+around_mutex (act.Exchange from to) t old new h = h
+around_mutex (act.Add by) t old new h = h
+around_mutex (act.Mask keep) t old new h = h
+around_mutex act.Spin t old new h = h
+around_mutex (act.Enter key) t old new h = h
+around_mutex (act.Section section.Check) t old new h = h
+around_mutex (act.Section section.TakeFirst) t old new h = h
+around_mutex (act.Section (section.TakeNext sum)) t old new h = h
+around_mutex (act.Section (section.Append token)) t old new h = h
+around_mutex (act.Section (section.Store plain fair)) t old new h = h
+around_mutex (act.Section section.Leave) t old new h = h
+around_mutex (act.Section section.Wake) t old new h = h
+around_mutex act.Sleep t old new h = h
+around_mutex (act.Done answer) t old new h = h
+
+own_tells : (v : ℕ) (us : List ℕ) (p : MutexPhase) (s : Seen) → IsOwnAct (of_mutex_table.act_of p) → TellsOf (of_mutex.move v p s) us v
+own_tells v us (m.Locks a waiters) seen.Exchanged own = tt
+own_tells v us (m.Parks a) seen.Exchanged own = tt
+own_tells v us (m.Enters woken) s own = tt
+own_tells v us (m.Checks woken) (seen.Word word) own = go (word == 3)
+  where
+    go : (b : Bool) → TellsOf (cond b (of_mutex.Makes (mutex.Check woken)) of_mutex.Stays) us v
+    go true = tt
+    go false = tt
+own_tells v us (m.Retreats woken) s own = tt
+own_tells v us m.Appends s own = absurd own
+own_tells v us m.Rests s own = tt
+own_tells v us m.Sleeps s own = absurd own
+own_tells v us (m.TryLocks waiters left) seen.Exchanged own = tt
+own_tells v us (m.Relocks) s own = tt
+own_tells v us (m.Unlocks giving) seen.Exchanged own = tt
+own_tells v us (m.Looks giving) s own = tt
+own_tells v us (m.Takes giving) s own = absurd own
+own_tells v us (m.Stores giving taken left) s own = absurd own
+own_tells v us (m.Leaves giving taken handed) s own = tt
+own_tells v us (m.Wakes giving) s own = absurd own
+own_tells v us p s own = tt
+
+-- thread t plays the part of its call's phase
+pub plays : (s : State) → FitsTogether s → (t : ℕ) (c : Call) (k : MutexCore) → c.core ≡ core.Mutex k → call_at s t ≡ Some c
+    → Plays (mutex_at s c.lock) (word_at s c.lock) t (of_mutex.role (mutex_spot c.spot) (first_of_all (taken_by s.wakes t)) k.phase)
+plays s h t c k e here =
+    let kind_is = subst (IsOfKind (slice_get s.kinds c.lock)) e (h.rules.kinds t c here) in
+    record {
+      sound = mutex_sound s h c.lock kind_is;
+      word = sym (words.forth (word_at s c.lock) (h.rules.bits c.lock kind_is));
+      here = get-all (mutex_role_at s c.lock) (length s.calls) t (in_range s t c here)
+          ∙ ap Some (ap (mutex_role_in c.lock (taken_by s.wakes t) (hold_at s t c.lock)) here ∙ mutex_there (taken_by s.wakes t) (hold_at s t c.lock) c ∙ ap (mutex_core_role c.spot (taken_by s.wakes t)) e);
+    }
+
+module _ (s u : State) (t : ℕ) (h : FitsTogether s) (c : Call) (told : Seen) (k : MutexCore) (e : c.core ≡ core.Mutex k) (a : OwnAct s u t c told (core_next (core.Mutex k) told) c.spot)
+    (gives : Gives (of_mutex_table.act_of k.phase) (word_at s c.lock) told) (own : IsOwnAct (of_mutex_table.act_of k.phase))
+    (around : AfterAct (of_mutex_table.act_of k.phase) t (inside s) (inside u)) where
+  abbrev taken_first : ℕ
+  taken_first = first_of_all (taken_by s.wakes t)
+
+  mutex_kind : slice_get s.kinds c.lock ≡ Some kind.Mutex
+  mutex_kind = subst (IsOfKind (slice_get s.kinds c.lock)) e (h.rules.kinds t c a.here)
+
+  enters : (key : ℕ) → of_mutex_table.act_of k.phase ≡ act.Enter key → (i : ℕ) (r : mutex.Role) → slice_get (mutex_at s c.lock).roles i ≡ Some r → mutex.weight mutex.Inside r ≡ 0
+  enters key is = nobody_in_mutex s h (subst (λ (x : Act). AfterAct x t (inside s) (inside u)) is around).0 c.lock mutex_kind
+
+  own_step : IsOwnStep (mutex_at s c.lock) (word_at s c.lock) t taken_first k.phase told
+  own_step = steps.own (mutex_at s c.lock) (word_at s c.lock) t taken_first (mutex_spot c.spot) k.phase told (plays s h t c k e a.here) gives (own_is (of_mutex_table.act_of k.phase) own) enters
+
+  mutex_made : IsMutexMove (of_mutex.move taken_first k.phase told) (taken_by s.wakes t) c.lock t s u
+  mutex_made =
+      mutex_goes s u t c.lock taken_first (taken_by s.wakes t) _ (of_mutex.move taken_first k.phase told) (own-there s u t c told _ c.spot a) (own-elsewhere s u t c told _ c.spot a) mutex_kind own_step.leads
+      (mutex_after s u t c told k c.spot e a)
+      (subst (λ (x : Crossing). Crossed x t (inside s) (inside u)) (sym own_step.crossing) (around_mutex (of_mutex_table.act_of k.phase) t (inside s) (inside u) around))
+      (own_tells taken_first (taken_by s.wakes t) k.phase told own)
+
+  pub own_mutex : KnowsList (core_next (core.Mutex k) told) u.lot.queues c.lock → RulesFit u × Goes t c told s u
+  own_mutex knows =
+      (rules_own s u t c told (core_next (core.Mutex k) told) c.spot a h (λ o x. subst (IsOfKind o) e x) tt knows (goes_on (core.Mutex k) told)
+      (λ m. subst (λ n. n < 4) (sym (a.word ∙ ap (λ x. word_after (core_act x) told (word_at s c.lock)) e)) own_step.small)
+      (mutex_move_sound s u t c.lock (taken_by s.wakes t) (of_mutex.move taken_first k.phase told) mutex_made h.rules.sound),
+      subst (λ (x : Core). IsMoveOf x c.others (taken_by s.wakes t) told c.lock t s u) (sym e) mutex_made)

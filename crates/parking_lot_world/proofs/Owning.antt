@@ -19,20 +19,27 @@ use Rattle.parking_lot_cores.specs.declared.rw_phase.RwPhase.TheVariants as r
 use Rattle.parking_lot_cores.specs.Acts.{word_after}
 use Rattle.parking_lot_cores.specs.RwTable.{act_of, next_phase}
 use Rattle.parking_lot_cores.specs.RwRules as of_rw
+use Rattle.parking_lot_cores.specs.MutexRules as of_mutex
+use Rattle.parking_lot_cores.specs.MutexTable as of_mutex_table
+use Rattle.parking_lot_cores.specs.declared.mutex_core.MutexCore.{MutexCore}
+use Rattle.parking_lot_cores.specs.declared.mutex_phase.MutexPhase.{MutexPhase}
+use Rattle.parking_lot_cores.specs.declared.mutex_phase.MutexPhase.TheVariants as m
+use Rattle.parking_lot_rules.specs.Mutex as mutex
+use Rattle.parking_lot_world.specs.MutexLaws.{mutex_of, word_next}
 use Rattle.parking_lot_world.specs.declared.calls.LockKind.TheVariants as kind
 use Rattle.parking_lot_world.specs.declared.seat.Spot.{Spot}
 use Rattle.parking_lot_world.specs.declared.seat.Spot.TheVariants as spot
 use Rattle.parking_lot_world.specs.declared.seat.Core.{Core}
 use Rattle.parking_lot_world.specs.declared.seat.Core.TheVariants as core
 use Rattle.parking_lot_world.specs.declared.seat.Call.{Call}
-use Rattle.parking_lot_world.specs.Rows.{State, word_at, hold_at, call_at, taken_by, inside, rw_spot, rw_role_in, rw_role_at, rw_core_role, rw_lock_at, everybody, queue_at}
-use Rattle.parking_lot_world.specs.Stances.{Asleep, stance, rw_stance, core_act}
+use Rattle.parking_lot_world.specs.Rows.{State, word_at, hold_at, call_at, taken_by, inside, rw_spot, rw_role_in, rw_role_at, rw_core_role, rw_lock_at, mutex_spot, mutex_role_in, mutex_role_at, mutex_word_of, mutex_at, first_of_all, everybody, queue_at}
+use Rattle.parking_lot_world.specs.Stances.{Asleep, stance, rw_stance, mutex_stance, core_act}
 use Rattle.parking_lot_world.specs.RowFits.{FitsTogether}
 use Rattle.parking_lot_world.specs.RowSteps.{IsRwMove}
 use Rattle.parking_lot_world.specs.RwLaws.{Meets, Finds, with_role}
 use Rattle.parking_lot_world.proofs.RwMoving.{stays_are_steps, makes_are_steps}
 use Rattle.parking_lot_world.proofs.Everybody.{all, change-all}
-use Rattle.parking_lot_world.proofs.Lifting.{IsThere, Elsewhere, rw_there, same_rw}
+use Rattle.parking_lot_world.proofs.Lifting.{IsThere, Elsewhere, rw_there, mutex_there, same_rw, same_mutex}
 use Rattle.parking_lot_world.proofs.Making.{Crossed, made_rw, quiet_rw}
 use Rattle.parking_lot_world.proofs.OwnMoves.{AfterAct, IsOwnAct, OwnMove, own_moves}
 use Rattle.parking_lot_world.proofs.Meeting.{in_range, meets}
@@ -149,3 +156,40 @@ module _ (s u : State) (t : ℕ) (c : Call) (told : Seen) (k : RwCore) (at : Spo
       go (of_rw.Tells m left) eq = absurd (around_move (of_rw.Tells m left) eq)
       go of_rw.WakesOne eq = absurd (around_move of_rw.WakesOne eq)
       go (of_rw.IsWoken m) eq = absurd (around_move (of_rw.IsWoken m) eq)
+
+-- AT A MUTEX
+
+pub mutex_lists : (v : ℕ) (q : MutexPhase) (at : Spot) → ((k : ℕ) (token : ParkToken) → mutex_stance q ≡ Asleep k token → at ≡ spot.Listed)
+    → of_mutex.role (mutex_spot at) v q ≡ of_mutex.role of_mutex.Listed v q
+mutex_lists v m.Sleeps at h = ap (λ x. of_mutex.role (mutex_spot x) v m.Sleeps) (h _ _ refl)
+mutex_lists v q at h = refl
+
+module _ (s u : State) (t : ℕ) (c : Call) (told : Seen) (k : MutexCore) (at : Spot) (e : c.core ≡ core.Mutex k)
+    (a : OwnAct s u t c told (core.Mutex (record k { phase = of_mutex_table.next_phase k.phase told })) at) where
+  abbrev owed : List ℕ
+  owed = taken_by s.wakes t
+
+  abbrev mutex_next_role : mutex.Role
+  mutex_next_role = of_mutex.role of_mutex.Listed (first_of_all owed) (of_mutex_table.next_phase k.phase told)
+
+  mutex_role_after : mutex_role_at u c.lock t ≡ mutex_next_role
+  mutex_role_after =
+      ap (λ ws. mutex_role_in c.lock (taken_by ws t) (hold_at u t c.lock) (call_at u t)) a.wakes
+      ∙ ap (mutex_role_in c.lock owed (hold_at u t c.lock)) (own-here s u t c told _ at a)
+      ∙ mutex_there owed (hold_at u t c.lock) (call_after s u t c told _ at a)
+      ∙ mutex_lists (first_of_all owed) (of_mutex_table.next_phase k.phase told) at a.listed
+
+  mutex_role_others : (x : ℕ) → x ≢ t → mutex_role_at u c.lock x ≡ mutex_role_at s c.lock x
+  mutex_role_others x ne =
+      ap (λ ws. mutex_role_in c.lock (taken_by ws x) (hold_at u x c.lock) (call_at u x)) a.wakes
+      ∙ ap (λ h. mutex_role_in c.lock (taken_by s.wakes x) h (call_at u x)) (same-holds s u a.kinds a.holds x c.lock)
+      ∙ ap (mutex_role_in c.lock (taken_by s.wakes x) (hold_at s x c.lock)) (own-others s u t c told _ at a x ne)
+
+  -- the mutex after it
+  pub mutex_after : mutex_at u c.lock ≡ mutex_of (word_next k.phase told (word_at s c.lock)) (slice_set (mutex_at s c.lock).roles t mutex_next_role) (mutex_at s c.lock).queue
+  mutex_after =
+      same_mutex _ _ _ _ _ _ (ap mutex_word_of (a.word ∙ ap (λ x. word_after (core_act x) told (word_at s c.lock)) e))
+      (ap (λ n. all (mutex_role_at u c.lock) 0 n) (own-elsewhere s u t c told _ at a).threads
+      ∙ change-all (mutex_role_at s c.lock) (mutex_role_at u c.lock) (length s.calls) t (in_range s t c a.here) (λ x b ne. mutex_role_others x ne)
+      ∙ ap (slice_set (all (mutex_role_at s c.lock) 0 (length s.calls)) t) mutex_role_after)
+      (ap threads_of (a.queues (2 * c.lock)))
