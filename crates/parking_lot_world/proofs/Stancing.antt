@@ -228,7 +228,7 @@ leads_by c a word s is g =
 
 mutex_takes : (p : MutexPhase) (word : ℕ) (token : ParkToken) (left : Bool) → let s = seen.Took (Some token) left in
     Gives (mt.act_of p) word s → TakesOne (mutex_stance p) (mutex_stance (mt.next_phase p s)) (mutex_taken p) (mutex_taken (mt.next_phase p s))
-mutex_takes (m.Takes a) word token left g = (0, refl, inr refl, refl)
+mutex_takes (m.Takes a) word token left g = (0, omega arith, refl, inr refl, refl)
 mutex_takes (m.Finishes a) word token left g = go a.again g
   where
     go : (b : Bool) → Gives (cond b act.Load (act.Done answer.Released)) word (seen.Took (Some token) left) → TakesOne Out (mutex_stance (mt.next_phase (m.Finishes a) (seen.Took (Some token) left))) 0 (mutex_taken (mt.next_phase (m.Finishes a) (seen.Took (Some token) left)))
@@ -238,7 +238,7 @@ mutex_takes p word token left g = absurd g
 
 -- a scan that goes on or stores
 goes : (left : Bool) (a b : Scanning) → rt.count_of b ≡ rt.count_of a + 1 → TakesOne (In 0 Takes) (rw_stance (rt.goes_on left b)) (rt.count_of a) (rw_taken (rt.goes_on left b))
-goes left a b e = pick (λ (p : RwPhase). TakesOne (In 0 Takes) (rw_stance p) (rt.count_of a) (rw_taken p)) (left && not b.writer) (r.Scans b) (r.Stores b left) (0, refl, inl refl, e) (0, refl, inr refl, e)
+goes left a b e = pick (λ (p : RwPhase). TakesOne (In 0 Takes) (rw_stance p) (rt.count_of a) (rw_taken p)) (left && not b.writer) (r.Scans b) (r.Stores b left) (0, omega arith, refl, inl refl, e) (0, omega arith, refl, inr refl, e)
 
 scan_takes : (a : Scanning) (token : ParkToken) (left : Bool) → rw_counts (r.Scans a) token → let q = rt.next_phase (r.Scans a) (seen.Took (Some token) left) in TakesOne (In 0 Takes) (rw_stance q) (rt.count_of a) (rw_taken q)
 scan_takes a token left (inl h) =
@@ -258,7 +258,7 @@ scan_takes a token left (inr h) =
 
 rw_takes : (p : RwPhase) (word : ℕ) (token : ParkToken) (left : Bool) → let s = seen.Took (Some token) left in
     Gives (rt.act_of p) word s → rw_counts p token → TakesOne (rw_stance p) (rw_stance (rt.next_phase p s)) (rw_taken p) (rw_taken (rt.next_phase p s))
-rw_takes (r.Takes2 rest) word token left g h = (1, refl, inr refl, refl)
+rw_takes (r.Takes2 rest) word token left g h = (1, omega arith, refl, inr refl, refl)
 rw_takes (r.Scans a) word token left g h = scan_takes a token left h
 rw_takes (r.Finishes rest.FreedShared) word token left g h = absurd g
 rw_takes (r.Finishes rest.FreedExclusive) word token left g h = absurd g

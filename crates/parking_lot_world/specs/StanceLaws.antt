@@ -67,7 +67,7 @@ Counts (core.Rw c) token = rw_counts c.phase token
 
 -- a taking that took somebody
 abbrev pub TakesOne : Stance → Stance → ℕ → ℕ → Type 0
-TakesOne a b n m = (k : ℕ) × (a ≡ In k Takes) × ((b ≡ In k Takes) ⊎ (b ≡ In k Stores)) × (m ≡ n + 1)
+TakesOne a b n m = (k : ℕ) × (k < 2) × (a ≡ In k Takes) × ((b ≡ In k Takes) ⊎ (b ≡ In k Stores)) × (m ≡ n + 1)
 
 abbrev pub TakingsCount : Type 0
 TakingsCount =
