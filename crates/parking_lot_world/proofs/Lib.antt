@@ -6,3 +6,4 @@ pub mod LotSections
 pub mod LotLists
 pub mod LotStores
 pub mod LotTakes
+pub mod LotWakes

@@ -318,3 +318,26 @@ rw_ends p = tt
 pub calls_end : (c : Core) → IsOver (core_act c) (stance c) (taken_count c)
 calls_end (core.Mutex c) = mutex_ends c.phase
 calls_end (core.Rw c) = rw_ends c.phase
+
+-- SLEEPERS
+
+abbrev IsUp : Stance → Type 0
+IsUp (Asleep k token) = ⊥
+IsUp a = Unit {0}
+
+not_asleep : {a : Stance} {k : ℕ} {token : ParkToken} → IsUp a → a ≡ Asleep k token → ⊥
+not_asleep h e = subst IsUp e h
+
+mutex_wakes : (p : MutexPhase) (k : ℕ) (token : ParkToken) (said : UnparkToken) → mutex_stance p ≡ Asleep k token → (mutex_taken p ≡ 0) × Idle (mt.next_phase p (seen.Woken said))
+mutex_wakes m.Sleeps k token said e = (refl, pick Idle (said.0 == 1) (m.Ends answer.Owned) (m.Loads (mt.begins true)) (refl, refl) (refl, refl))
+mutex_wakes p k token said e = absurd (not_asleep {a = mutex_stance p} tt e)
+
+rw_wakes : (p : RwPhase) (k : ℕ) (token : ParkToken) (said : UnparkToken) → rw_stance p ≡ Asleep k token → (rw_taken p ≡ 0) × RwIdle (rt.next_phase p (seen.Woken said))
+rw_wakes (r.Sleeps want) k token said e = (refl, pick RwIdle (said.0 == 1) (rt.admits want true) (r.Loads (rt.begins want true)) (admits_idle want true) (refl, refl))
+rw_wakes (r.Sleeps2 rounds) k token said e = (refl, (refl, refl))
+rw_wakes p k token said e = absurd (not_asleep {a = rw_stance p} tt e)
+
+pub sleepers_wake : (c : Core) (k : ℕ) (token : ParkToken) (said : UnparkToken) → stance c ≡ Asleep k token
+    → (taken_count c ≡ 0) × (stance (core_next c (seen.Woken said)) ≡ Out) × (taken_count (core_next c (seen.Woken said)) ≡ 0)
+sleepers_wake (core.Mutex c) k token said e = let x = mutex_wakes c.phase k token said e in (x.0, x.1.0, x.1.1)
+sleepers_wake (core.Rw c) k token said e = let x = rw_wakes c.phase k token said e in (x.0, x.1.0, x.1.1)

@@ -85,3 +85,9 @@ IsOver act a n = Unit {0}
 
 abbrev pub CallsEnd : Type 0
 CallsEnd = (c : Core) → IsOver (core_act c) (stance c) (taken_count c)
+
+-- a sleeper has taken nobody, and stands outside once it is told
+abbrev pub SleepersWake : Type 0
+SleepersWake =
+    (c : Core) (k : ℕ) (token : ParkToken) (said : UnparkToken) → stance c ≡ Asleep k token
+    → (taken_count c ≡ 0) × (stance (core_next c (seen.Woken said)) ≡ Out) × (taken_count (core_next c (seen.Woken said)) ≡ 0)
