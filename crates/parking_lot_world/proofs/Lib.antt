@@ -13,6 +13,7 @@ pub mod Stancing
 pub mod RwMoving
 pub mod RwTaking
 pub mod Carrying
+pub mod Indexing
 pub mod LotActs
 pub mod LotSections
 pub mod LotLists
@@ -22,3 +23,5 @@ pub mod RwEnding
 pub mod MutexRoles
 pub mod MutexMoving
 pub mod Beginning
+pub mod LotTakes
+pub mod LotWakes

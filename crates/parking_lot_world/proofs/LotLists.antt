@@ -24,19 +24,10 @@ use Rattle.parking_lot_world.specs.Rows.{State, call_at}
 use Rattle.parking_lot_world.specs.Stances.{Doing, Looks, TurnsBack, Joins, Joined, Takes, Stores, Tells, Stance, Out, In, Asleep, stance, taken_count}
 use Rattle.parking_lot_world.specs.RowActs.{with_call, with_lot, hears, key_of, appended}
 use Rattle.parking_lot_world.specs.RowFits.{SaidIn, Stands, Seated, Awaits, LotFits}
+use Rattle.parking_lot_world.proofs.Indexing.{get_push}
 use Rattle.parking_lot_world.proofs.Carrying.{call_within, set_here, Carries, awake_sleeps, waits_carried, carried_by}
 use Rattle.parking_lot_world.proofs.LotActs.{same_section, seat_of, awake_by, changed_here, carries_one, seats_one, same_length}
 use Rattle.parking_lot_world.proofs.LotSections.{nobody_off, sits, carried_awake, seats_still}
-
--- the last of a list, and those before it
-pub get_push : {X : Type 0} (xs : List X) (x : X) (n : ℕ) (y : X) → slice_get (xs ++ x ∷ []) n ≡ Some y → (slice_get xs n ≡ Some y) ⊎ (y ≡ x)
-get_push [] x zero y h = inr (same h)
-  where
-    same : {X : Type 0} {a b : X} → Some a ≡ Some b → b ≡ a
-    same e = cc
-get_push [] x (suc n) y h = inl h
-get_push (z ∷ xs) x zero y h = inl h
-get_push (z ∷ xs) x (suc n) y h = get_push xs x n y h
 
 -- a key has one lock and one number
 pub one_key : (i j k l : ℕ) → k < 2 → l < 2 → 2 * i + k ≡ 2 * j + l → (i ≡ j) × (k ≡ l)
@@ -82,11 +73,12 @@ module _ (s : State) (t : ℕ) (c : Call) (h : LotFits s) (here : call_at s t �
       same x y e = cc
 
       new : (u : State) → Carries (call_at s t) (Some lists) → t < length s.calls → (j l n : ℕ) (x : Waiter) → l < 2 → 2 * j + l ≡ key_of c k
-          → (slice_get (s.lot.queues (key_of c k)) n ≡ Some x) ⊎ (x ≡ record { thread = t; token = token }) → stance lists.core ≡ In k (Joined token)
+          → (slice_get (s.lot.queues (key_of c k)) n ≡ Some x) ⊎ ((x ≡ record { thread = t; token = token }) × (n ≡ length (s.lot.queues (key_of c k)))) → stance lists.core ≡ In k (Joined token)
           → (d : Call) × (call_at (appended s t c (key_of c k) token) x.thread ≡ Some d) × (d.lock ≡ j) × (d.spot ≡ spot.Listed) × Awaits l x.token (stance d.core)
       new u carries low j l n x low_l e (inl at) to =
           waits_carried s (appended s t c (key_of c k) token) h (carries_one s t h low (Some lists) list_lot carries) j l n x low_l (ap (λ (key : ℕ). slice_get (s.lot.queues key) n) e ∙ at)
-      new u carries low j l n x low_l e (inr is) to =
+      new u carries low j l n x low_l e (inr push) to =
+          let is = push.0 in
           let key = one_key j c.lock l k low_l two e in (
             lists,
             ap (λ (y : Waiter). call_at (appended s t c (key_of c k) token) y.thread) is ∙ changed_here s t h low (Some lists) list_lot,

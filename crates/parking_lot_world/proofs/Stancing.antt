@@ -228,7 +228,7 @@ leads_by c a word s is g =
 
 mutex_takes : (p : MutexPhase) (word : ℕ) (token : ParkToken) (left : Bool) → let s = seen.Took (Some token) left in
     Gives (mt.act_of p) word s → TakesOne (mutex_stance p) (mutex_stance (mt.next_phase p s)) (mutex_taken p) (mutex_taken (mt.next_phase p s))
-mutex_takes (m.Takes a) word token left g = (0, refl, inr refl, refl)
+mutex_takes (m.Takes a) word token left g = (0, omega arith, refl, inr refl, refl)
 mutex_takes (m.Finishes a) word token left g = go a.again g
   where
     go : (b : Bool) → Gives (cond b act.Load (act.Done answer.Released)) word (seen.Took (Some token) left) → TakesOne Out (mutex_stance (mt.next_phase (m.Finishes a) (seen.Took (Some token) left))) 0 (mutex_taken (mt.next_phase (m.Finishes a) (seen.Took (Some token) left)))
@@ -238,7 +238,7 @@ mutex_takes p word token left g = absurd g
 
 -- a scan that goes on or stores
 goes : (left : Bool) (a b : Scanning) → rt.count_of b ≡ rt.count_of a + 1 → TakesOne (In 0 Takes) (rw_stance (rt.goes_on left b)) (rt.count_of a) (rw_taken (rt.goes_on left b))
-goes left a b e = pick (λ (p : RwPhase). TakesOne (In 0 Takes) (rw_stance p) (rt.count_of a) (rw_taken p)) (left && not b.writer) (r.Scans b) (r.Stores b left) (0, refl, inl refl, e) (0, refl, inr refl, e)
+goes left a b e = pick (λ (p : RwPhase). TakesOne (In 0 Takes) (rw_stance p) (rt.count_of a) (rw_taken p)) (left && not b.writer) (r.Scans b) (r.Stores b left) (0, omega arith, refl, inl refl, e) (0, omega arith, refl, inr refl, e)
 
 scan_takes : (a : Scanning) (token : ParkToken) (left : Bool) → rw_counts (r.Scans a) token → let q = rt.next_phase (r.Scans a) (seen.Took (Some token) left) in TakesOne (In 0 Takes) (rw_stance q) (rt.count_of a) (rw_taken q)
 scan_takes a token left (inl h) =
@@ -258,7 +258,7 @@ scan_takes a token left (inr h) =
 
 rw_takes : (p : RwPhase) (word : ℕ) (token : ParkToken) (left : Bool) → let s = seen.Took (Some token) left in
     Gives (rt.act_of p) word s → rw_counts p token → TakesOne (rw_stance p) (rw_stance (rt.next_phase p s)) (rw_taken p) (rw_taken (rt.next_phase p s))
-rw_takes (r.Takes2 rest) word token left g h = (1, refl, inr refl, refl)
+rw_takes (r.Takes2 rest) word token left g h = (1, omega arith, refl, inr refl, refl)
 rw_takes (r.Scans a) word token left g h = scan_takes a token left h
 rw_takes (r.Finishes rest.FreedShared) word token left g h = absurd g
 rw_takes (r.Finishes rest.FreedExclusive) word token left g h = absurd g
@@ -318,3 +318,26 @@ rw_ends p = tt
 pub calls_end : (c : Core) → IsOver (core_act c) (stance c) (taken_count c)
 calls_end (core.Mutex c) = mutex_ends c.phase
 calls_end (core.Rw c) = rw_ends c.phase
+
+-- SLEEPERS
+
+abbrev IsUp : Stance → Type 0
+IsUp (Asleep k token) = ⊥
+IsUp a = Unit {0}
+
+not_asleep : {a : Stance} {k : ℕ} {token : ParkToken} → IsUp a → a ≡ Asleep k token → ⊥
+not_asleep h e = subst IsUp e h
+
+mutex_wakes : (p : MutexPhase) (k : ℕ) (token : ParkToken) (said : UnparkToken) → mutex_stance p ≡ Asleep k token → (mutex_taken p ≡ 0) × Idle (mt.next_phase p (seen.Woken said))
+mutex_wakes m.Sleeps k token said e = (refl, pick Idle (said.0 == 1) (m.Ends answer.Owned) (m.Loads (mt.begins true)) (refl, refl) (refl, refl))
+mutex_wakes p k token said e = absurd (not_asleep {a = mutex_stance p} tt e)
+
+rw_wakes : (p : RwPhase) (k : ℕ) (token : ParkToken) (said : UnparkToken) → rw_stance p ≡ Asleep k token → (rw_taken p ≡ 0) × RwIdle (rt.next_phase p (seen.Woken said))
+rw_wakes (r.Sleeps want) k token said e = (refl, pick RwIdle (said.0 == 1) (rt.admits want true) (r.Loads (rt.begins want true)) (admits_idle want true) (refl, refl))
+rw_wakes (r.Sleeps2 rounds) k token said e = (refl, (refl, refl))
+rw_wakes p k token said e = absurd (not_asleep {a = rw_stance p} tt e)
+
+pub sleepers_wake : (c : Core) (k : ℕ) (token : ParkToken) (said : UnparkToken) → stance c ≡ Asleep k token
+    → (taken_count c ≡ 0) × (stance (core_next c (seen.Woken said)) ≡ Out) × (taken_count (core_next c (seen.Woken said)) ≡ 0)
+sleepers_wake (core.Mutex c) k token said e = let x = mutex_wakes c.phase k token said e in (x.0, x.1.0, x.1.1)
+sleepers_wake (core.Rw c) k token said e = let x = rw_wakes c.phase k token said e in (x.0, x.1.0, x.1.1)

@@ -67,7 +67,7 @@ Counts (core.Rw c) token = rw_counts c.phase token
 
 -- a taking that took somebody
 abbrev pub TakesOne : Stance → Stance → ℕ → ℕ → Type 0
-TakesOne a b n m = (k : ℕ) × (a ≡ In k Takes) × ((b ≡ In k Takes) ⊎ (b ≡ In k Stores)) × (m ≡ n + 1)
+TakesOne a b n m = (k : ℕ) × (k < 2) × (a ≡ In k Takes) × ((b ≡ In k Takes) ⊎ (b ≡ In k Stores)) × (m ≡ n + 1)
 
 abbrev pub TakingsCount : Type 0
 TakingsCount =
@@ -85,3 +85,9 @@ IsOver act a n = Unit {0}
 
 abbrev pub CallsEnd : Type 0
 CallsEnd = (c : Core) → IsOver (core_act c) (stance c) (taken_count c)
+
+-- a sleeper has taken nobody, and stands outside once it is told
+abbrev pub SleepersWake : Type 0
+SleepersWake =
+    (c : Core) (k : ℕ) (token : ParkToken) (said : UnparkToken) → stance c ≡ Asleep k token
+    → (taken_count c ≡ 0) × (stance (core_next c (seen.Woken said)) ≡ Out) × (taken_count (core_next c (seen.Woken said)) ≡ 0)
