@@ -2,3 +2,4 @@ pub mod RwMoving
 pub mod RwTaking
 pub mod RwWaking
 pub mod RwEnding
+pub mod RwKeeping

@@ -20,8 +20,8 @@ use Rattle.parking_lot_cores.specs.declared.rw_phase.RwPhase.{RwPhase}
 use Rattle.parking_lot_cores.specs.declared.rw_phase.RwPhase.TheVariants.{Takes2, Scans, Appends, Appends2, Stores, Wakes}
 use Rattle.parking_lot_cores.specs.Acts.{word_after}
 use Rattle.parking_lot_cores.specs.RwTable.{act_of, next_phase, share_of, wakes_with, hands}
-use Rattle.parking_lot_cores.specs.RwRules.{Spot, Listed, role, Stays, Makes, move, IsMove, IsReady, IsToken, IsTold, Fits, mode_of, mode_by, scan_of, ending, Off, owned_at_last, owned_at_last, owns, last_move, Move}
-use Rattle.parking_lot_world.specs.RowFits.{rw_prepared}
+use Rattle.parking_lot_cores.specs.RwRules.{Spot, Listed, role, Stays, Makes, move, IsMove, IsReady, IsToken, IsTold, Fits, mode_of, mode_by, scan_of, ending, Off, owned_at_last, owned_at_last, owns, last_move, Move, MayAsk}
+use Rattle.parking_lot_world.specs.RowFits.{rw_prepared, rw_keeps}
 use Rattle.parking_lot_rules.specs.Roles as rules
 use Rattle.parking_lot_core.specs.Results.{is_left}
 use Rattle.parking_lot_core.specs.declared.parking.UnparkToken.{UnparkToken}
@@ -31,6 +31,7 @@ use Rattle.parking_lot_world.specs.Stances as stance
 use Rattle.parking_lot_world.specs.Stances.{rw_stance}
 use Rattle.parking_lot_cores.specs.declared.rw_phase.RwPhase.TheVariants as r
 use Rattle.parking_lot_cores.specs.declared.act.CoreAnswer.{CoreAnswer}
+use Rattle.parking_lot_world.specs.Stances.{rw_taken}
 
 -- A number is a word by its parts, and a word of bits is the one of its number.
 pub record WordsAreNumbers : Type 0 where
@@ -186,3 +187,30 @@ EndsAreSteps = (l : Lock) (t n : ℕ) (spot : Spot) (us : List ℕ) (p : RwPhase
 -- a call that has begun is answered in its last phase
 abbrev pub AnswersAreLast : Type 0
 AnswersAreLast = (p : RwPhase) (answer : CoreAnswer) → has_begun p ≡ true → act_of p ≡ Done answer → is_last p ≡ true
+
+-- WHAT CALLS KEEP
+
+-- how many readers a phase counts
+abbrev pub count_shared : RwPhase → ℕ
+count_shared (r.Scans s) = s.shared
+count_shared (r.Stores s left) = s.shared
+count_shared p = 0
+
+-- with what a call may begin
+abbrev pub rw_begins : ℕ → RwPhase → Type 0
+rw_begins n (r.Locking want) = MayAsk false n want (word_of 0)
+rw_begins n (r.Trying want) = MayAsk false n want (word_of 0)
+rw_begins n r.UnlockingShared = Unit {0}
+rw_begins n (r.UnlockingExclusive fair) = n ≡ 0
+rw_begins n r.Downgrading = Unit {0}
+rw_begins n r.BumpingShared = n ≡ 0
+rw_begins n r.BumpingExclusive = n ≡ 0
+rw_begins n phase = ⊥
+
+-- From its beginning to its end a call keeps what it may rely on. What its phase needs follows, where the thread has taken as many as it counts;
+-- and a scan counts no more readers than there are threads.
+pub record CallsKeep : Type 0 where
+  pub begins : (n : ℕ) (p : RwPhase) → rw_begins n p → rw_keeps n (next_phase p seen.Start)
+  pub goes_on : (n : ℕ) (p : RwPhase) (x : ℕ) (s : Seen) → rw_keeps n p → IsTold p x s → rw_keeps n (next_phase p s)
+  pub prepared : (n : ℕ) (us : List ℕ) (p : RwPhase) → rw_keeps n p → length us ≡ rw_taken p → count_shared p ≤ 2 ^ 17 → rw_prepared n us p
+  pub few : (l : Lock) (t n : ℕ) (spot : Spot) (us : List ℕ) (p : RwPhase) → IsSound l → slice_get l.roles t ≡ Some (role n spot us p) → count_shared p ≤ length l.roles

@@ -1,5 +1,5 @@
 //! What a core is told at a sound reader-writer lock is a step of the rules there.
-ghost use Rattle.parking_lot_world.specs.RwLaws.{AnswersAreLast, AnswersAreMoves, BeginsAreReady, EndsAreSteps, FirstsMayBeTaken, JoinsAreSteps, MakesAreSteps, OnlySleepersStand, StaysAreSteps, StoresAreSteps, TakesAreSteps, TokensSay, TokensTell, WakesAreSteps, WokenAreTold, WordsAreNumbers, WritersAreTaken};
+ghost use Rattle.parking_lot_world.specs.RwLaws.{AnswersAreLast, AnswersAreMoves, BeginsAreReady, CallsKeep, EndsAreSteps, FirstsMayBeTaken, JoinsAreSteps, MakesAreSteps, OnlySleepersStand, StaysAreSteps, StoresAreSteps, TakesAreSteps, TokensSay, TokensTell, WakesAreSteps, WokenAreTold, WordsAreNumbers, WritersAreTaken};
 
 /// The parts of a word and its number say the same.
 pub fn words_are_numbers()
@@ -84,4 +84,9 @@ pub fn ends_are_steps()
 /// A call that has begun is answered in one of its last phases.
 pub fn answers_are_last()
     ensures { AnswersAreLast }
+{}
+
+/// A call keeps from its beginning to its end what its phases need.
+pub fn calls_keep()
+    ensures { CallsKeep }
 {}
