@@ -3,3 +3,4 @@ pub mod RwTaking
 pub mod RwWaking
 pub mod RwEnding
 pub mod RwKeeping
+pub mod RwCrossing
