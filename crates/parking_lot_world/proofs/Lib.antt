@@ -25,3 +25,5 @@ pub mod MutexMoving
 pub mod Beginning
 pub mod LotTakes
 pub mod LotWakes
+pub mod RwKeeping
+pub mod RwCrossing

@@ -1,5 +1,5 @@
 -- A thread that has taken waiters stores, and wakes them one by one: steps of the rules.
-use Rattle.std.proofs.Common.{◌≡◌, ◌≢◌, ◌≤◌, ◌<◌, ℕ, zero, suc, ◌+◌, ◌==◌, ◌||◌, ◌⊎◌, inl, inr, Bool, true, false, cond, List, [], ◌∷◌, ◌++◌, length, map, Option, Some, None, slice_get, slice_set, refl, sym, ap, ◌∙◌, subst, arith}
+use Rattle.std.proofs.Common.{◌≡◌, ◌≢◌, ◌≤◌, ◌<◌, ℕ, zero, suc, ◌+◌, ◌==◌, ◌||◌, ◌⊎◌, inl, inr, Bool, true, false, cond, List, [], ◌∷◌, ◌++◌, length, map, Option, Some, None, slice_get, slice_set, refl, sym, ap, ◌∙◌, subst, arith, ◌&&◌, nat_lt, ◌-◌}
 use Rattle.std.proofs.lemmas.Option.{none-some, same_Some}
 use Rattle.parking_lot_core.specs.Results.{is_left}
 use Rattle.parking_lot_core.specs.declared.parking.ParkToken.{ParkToken}
@@ -21,23 +21,18 @@ use Rattle.parking_lot_cores.specs.declared.rw_phase.Rest.{Rest}
 use Rattle.parking_lot_cores.specs.declared.rw_phase.Rest.TheVariants.{FreedShared, FreedExclusive, Downgraded, AgainShared, AgainExclusive}
 use Rattle.parking_lot_cores.specs.declared.rw_phase.Scanning.{Scanning}
 use Rattle.parking_lot_cores.specs.declared.rw_phase.RwPhase.{RwPhase}
-use Rattle.parking_lot_cores.specs.declared.rw_phase.RwPhase.TheVariants.{Sleeps, Sleeps2, Stores, Leaves, Wakes, Finishes}
-use Rattle.parking_lot_cores.specs.RwTable.{next_phase, hands, count_of, wakes_with, admits, begins}
+use Rattle.parking_lot_cores.specs.declared.rw_phase.RwPhase.TheVariants.{Sleeps, Sleeps2, Stores, Leaves, Wakes, Finishes, Loads}
+use Rattle.parking_lot_cores.specs.RwTable.{next_phase, hands, count_of, wakes_with, admits, begins, act_of, may_hand}
 use Rattle.parking_lot_cores.specs.Acts.{word_after}
-use Rattle.parking_lot_cores.specs.RwTable.{act_of}
 use Rattle.parking_lot_cores.specs.RwRules.{Spot, Listed, Off, role, mode_of, waking, ending, owned_at_last, scan_of}
-use Rattle.parking_lot_cores.specs.RwTable.{may_hand}
 use Rattle.parking_lot_cores.proofs.MutexFollowing.{either}
 use Rattle.parking_lot_world.specs.declared.seat.Told.TheVariants as told
-use Rattle.std.proofs.Common.{◌&&◌, nat_lt, ◌-◌}
-use Rattle.parking_lot_world.specs.RwLaws.{IsStep}
-use Rattle.parking_lot_cores.specs.declared.rw_phase.RwPhase.TheVariants.{Loads}
+use Rattle.parking_lot_world.specs.RwLaws.{IsStep, Meets, ending_of, StoresAreSteps, TokensSay, WakesAreSteps, WokenAreTold, OnlySleepersStand}
 use Rattle.parking_lot_world.specs.Rows.{mark_of}
 use Rattle.parking_lot_world.specs.RowActs.{told_of}
 use Rattle.parking_lot_world.specs.Stances.{rw_stance}
 use Rattle.parking_lot_world.specs.Stances as stance
 use Rattle.parking_lot_world.specs.RowFits.{rw_prepared}
-use Rattle.parking_lot_world.specs.RwLaws.{Meets, ending_of, StoresAreSteps, TokensSay, WakesAreSteps, WokenAreTold, OnlySleepersStand}
 use Rattle.parking_lot_world.proofs.RwMoving.{moved, same_word, number_is}
 use Rattle.parking_lot_world.proofs.RwTaking.{same_scan}
 

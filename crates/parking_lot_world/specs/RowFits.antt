@@ -19,8 +19,13 @@ use Rattle.parking_lot_rules.specs.Family.{Family, SoundFamilyOf}
 use Rattle.parking_lot_cores.specs.RwRules as of_rw
 use Rattle.parking_lot_cores.specs.declared.mutex_phase.MutexPhase.{MutexPhase}
 use Rattle.parking_lot_cores.specs.declared.mutex_phase.MutexPhase.TheVariants as m
+<<<<<<< HEAD
 use Rattle.parking_lot_cores.specs.declared.rw_phase.Want.{Want}
 use Rattle.parking_lot_cores.specs.declared.rw_phase.Want.TheVariants as want
+=======
+use Rattle.parking_lot_cores.specs.declared.rw_phase.Rest.{Rest}
+use Rattle.parking_lot_cores.specs.declared.rw_phase.Rest.TheVariants as rest
+>>>>>>> 525222291e540437435f0d8ac56f8afb56932212
 use Rattle.parking_lot_cores.specs.declared.rw_phase.RwPhase.{RwPhase}
 use Rattle.parking_lot_cores.specs.declared.rw_phase.RwPhase.TheVariants as r
 use Rattle.parking_lot_rules.specs.ReadLock.{word_of}
@@ -107,6 +112,7 @@ rw_prepared n us (r.Unshares rest) = Unit {0}
 rw_prepared n us r.Downgrades = Unit {0}
 rw_prepared n us p = of_rw.Fits false n us p (word_of 0)
 
+<<<<<<< HEAD
 -- a want of a lock on which owners don't ask again
 abbrev pub wants_plainly : Want → Bool
 wants_plainly (want.Shared recursive) = not recursive
@@ -135,6 +141,69 @@ asks_plainly phase = true
 abbrev pub IsPrepared : Core → Type 0
 IsPrepared (core.Mutex c) = Unit {0}
 IsPrepared (core.Rw c) = of_rw.IsReady c.phase × (asks_plainly c.phase ≡ true)
+=======
+-- What a call that has begun keeps of what its thread owns beside: one that asks may ask, and one that gives the exclusive hold up, or asks again
+-- for what it gave up, has no other. A scan that goes on has taken no writer.
+abbrev pub rest_keeps : ℕ → Rest → Type 0
+rest_keeps n rest.FreedShared = Unit {0}
+rest_keeps n rest.FreedExclusive = n ≡ 0
+rest_keeps n rest.Downgraded = Unit {0}
+rest_keeps n rest.AgainShared = n ≡ 0
+rest_keeps n rest.AgainExclusive = n ≡ 0
+
+abbrev pub rw_keeps : ℕ → RwPhase → Type 0
+rw_keeps n (r.Locking want) = ⊥
+rw_keeps n (r.Trying want) = ⊥
+rw_keeps n r.UnlockingShared = ⊥
+rw_keeps n (r.UnlockingExclusive fair) = ⊥
+rw_keeps n r.Downgrading = ⊥
+rw_keeps n r.BumpingShared = ⊥
+rw_keeps n r.BumpingExclusive = ⊥
+rw_keeps n (r.Loads a) = of_rw.MayAsk false n a.want (word_of 0)
+rw_keeps n (r.Admits a word) = of_rw.MayAsk false n a.want (word_of 0)
+rw_keeps n (r.Spins a) = of_rw.MayAsk false n a.want (word_of 0)
+rw_keeps n (r.Flags a word) = of_rw.MayAsk false n a.want (word_of 0)
+rw_keeps n (r.Enters want woken) = of_rw.MayAsk false n want (word_of 0)
+rw_keeps n (r.Checks want woken) = of_rw.MayAsk false n want (word_of 0)
+rw_keeps n (r.Retreats want woken) = of_rw.MayAsk false n want (word_of 0)
+rw_keeps n (r.Appends want) = of_rw.MayAsk false n want (word_of 0)
+rw_keeps n (r.Rests want) = of_rw.MayAsk false n want (word_of 0)
+rw_keeps n (r.Sleeps want) = of_rw.MayAsk false n want (word_of 0)
+rw_keeps n (r.TryLoads want) = of_rw.MayAsk false n want (word_of 0)
+rw_keeps n (r.TryAdmits want word left) = of_rw.MayAsk false n want (word_of 0)
+rw_keeps n (r.Refuses want) = of_rw.MayAsk false n want (word_of 0)
+rw_keeps n (r.Relocks want) = of_rw.MayAsk false n want (word_of 0)
+rw_keeps n (r.Loads2 d) = n ≡ 0
+rw_keeps n (r.Spins2 d) = n ≡ 0
+rw_keeps n (r.Flags2 d word) = n ≡ 0
+rw_keeps n (r.Enters2 d) = n ≡ 0
+rw_keeps n (r.Checks2 d) = n ≡ 0
+rw_keeps n (r.Retreats2 d) = n ≡ 0
+rw_keeps n (r.Appends2 rounds) = n ≡ 0
+rw_keeps n (r.Rests2 rounds) = n ≡ 0
+rw_keeps n (r.Sleeps2 rounds) = n ≡ 0
+rw_keeps n (r.BumpLoads want) = n ≡ 0
+rw_keeps n (r.Unlocks fair rest) = n ≡ 0
+rw_keeps n (r.LooksExclusive fair rest) = n ≡ 0
+rw_keeps n (r.Unshares rest) = rest_keeps n rest
+rw_keeps n (r.Owes2 rest) = rest_keeps n rest
+rw_keeps n (r.Takes2 rest) = rest_keeps n rest
+rw_keeps n (r.Masks2 rest taken) = rest_keeps n rest
+rw_keeps n (r.Leaves2 rest taken) = rest_keeps n rest
+rw_keeps n (r.Scans s) = rest_keeps n s.rest × (s.writer ≡ false)
+rw_keeps n (r.Stores s left) = rest_keeps n s.rest
+rw_keeps n (r.Leaves rest count handed) = rest_keeps n rest
+rw_keeps n (r.Wakes rest count) = rest_keeps n rest
+rw_keeps n (r.Finishes rest) = rest_keeps n rest
+rw_keeps n r.Downgrades = Unit {0}
+rw_keeps n r.Owes = Unit {0}
+rw_keeps n (r.Ends outcome) = Unit {0}
+rw_keeps n r.Strays = ⊥
+
+abbrev pub IsPrepared : ℕ → List ℕ → Core → Type 0
+IsPrepared n us (core.Mutex c) = n ≡ 0
+IsPrepared n us (core.Rw c) = of_rw.IsReady c.phase × rw_prepared n us c.phase × rw_keeps n c.phase
+>>>>>>> 525222291e540437435f0d8ac56f8afb56932212
 
 -- What one that is to store knows of its list: it has taken a writer or all, and whether waiters are left.
 abbrev pub mutex_knows : MutexPhase → List Waiter → Type 0

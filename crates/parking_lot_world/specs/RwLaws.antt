@@ -1,5 +1,5 @@
 -- What a core is told at a sound reader-writer lock is a step of the rules there.
-use Rattle.std.specs.Prelude.{◌≡◌, ◌<◌, ◌≤◌, ℕ, zero, suc, ◌-◌, ◌^◌, false, List, [], length, Some, slice_get, slice_set, Bool, true, ◌++◌, ◌∷◌, remove, ◌⊎◌, ◌≢◌, ◌||◌, map}
+use Rattle.std.specs.Prelude.{◌≡◌, ◌<◌, ◌≤◌, ℕ, zero, suc, ◌-◌, ◌^◌, false, List, [], length, Some, slice_get, slice_set, Bool, true, ◌++◌, ◌∷◌, remove, ◌⊎◌, ◌≢◌, ◌||◌, map, None}
 use Rattle.parking_lot_core.specs.declared.parking.ParkToken.{ParkToken}
 use Rattle.parking_lot_rules.specs.Roles.{Mode, Shares, Asleep, Open, Queued1, Taken1, Queued2, Taken2, Role, Mark, Owned, Idle}
 use Rattle.parking_lot_rules.specs.Classes.{Class, Inside1, Inside2, weight}
@@ -10,7 +10,7 @@ use Rattle.parking_lot_rules.specs.ReadLock.{word_of}
 use Rattle.parking_lot_rules.specs.Lock.{Lock, IsSound}
 use Rattle.parking_lot_rules.specs.Steps.{Step, Alone, Allowed, after, List_changes, Take1, Take2, Join1, Join2, Take, look, AreSkipped, Ending, ends_saying, Store, Waking, settle, Wake}
 use Rattle.parking_lot_cores.specs.declared.act.Act.{Act}
-use Rattle.parking_lot_cores.specs.declared.act.Act.TheVariants.{Enter, Mask, Done}
+use Rattle.parking_lot_cores.specs.declared.act.Act.TheVariants.{Enter, Mask, Done, Section}
 use Rattle.parking_lot_cores.specs.declared.act.Seen.{Seen}
 use Rattle.parking_lot_cores.specs.declared.act.Seen.TheVariants as seen
 use Rattle.parking_lot_cores.specs.declared.rw_phase.Want.{Want}
@@ -20,17 +20,22 @@ use Rattle.parking_lot_cores.specs.declared.rw_phase.RwPhase.{RwPhase}
 use Rattle.parking_lot_cores.specs.declared.rw_phase.RwPhase.TheVariants.{Takes2, Scans, Appends, Appends2, Stores, Wakes}
 use Rattle.parking_lot_cores.specs.Acts.{word_after}
 use Rattle.parking_lot_cores.specs.RwTable.{act_of, next_phase, share_of, wakes_with, hands}
-use Rattle.parking_lot_cores.specs.RwRules.{Spot, Listed, role, Stays, Makes, move, IsMove, IsReady, IsToken, IsTold, Fits, mode_of, mode_by, scan_of, ending, Off, owned_at_last, owned_at_last, owns, last_move, Move}
-use Rattle.parking_lot_world.specs.RowFits.{rw_prepared}
+use Rattle.parking_lot_cores.specs.RwRules.{Spot, Listed, role, Stays, Makes, move, IsMove, IsReady, IsToken, IsTold, Fits, mode_of, mode_by, scan_of, ending, Off, owned_at_last, owned_at_last, owns, last_move, Move, MayAsk}
+use Rattle.parking_lot_world.specs.RowFits.{rw_prepared, rw_keeps, rw_knows}
 use Rattle.parking_lot_rules.specs.Roles as rules
 use Rattle.parking_lot_core.specs.Results.{is_left}
 use Rattle.parking_lot_core.specs.declared.parking.UnparkToken.{UnparkToken}
-use Rattle.parking_lot_world.specs.Rows.{mark_of, owned_of}
+use Rattle.parking_lot_world.specs.Rows.{mark_of, owned_of, one_bucket}
 use Rattle.parking_lot_world.specs.RowActs.{told_of, rw_hold_after}
 use Rattle.parking_lot_world.specs.Stances as stance
-use Rattle.parking_lot_world.specs.Stances.{rw_stance}
+use Rattle.parking_lot_world.specs.Stances.{rw_stance, rw_taken, Stance}
 use Rattle.parking_lot_cores.specs.declared.rw_phase.RwPhase.TheVariants as r
 use Rattle.parking_lot_cores.specs.declared.act.CoreAnswer.{CoreAnswer}
+use Rattle.parking_lot_core.specs.declared.place.Waiter.{Waiter}
+use Rattle.parking_lot_rules.specs.Family.{Family, SoundFamilyOf, Crossing, Comes, Goes, First, Second, crossing}
+use Rattle.parking_lot_rules.specs.Family as crossings
+use Rattle.parking_lot_rules.specs.Any.{AnyLock, Rw, AnySound, any_inside}
+use Rattle.parking_lot_cores.specs.declared.act.SectionAct.TheVariants.{Leave}
 
 -- A number is a word by its parts, and a word of bits is the one of its number.
 pub record WordsAreNumbers : Type 0 where
@@ -186,3 +191,74 @@ EndsAreSteps = (l : Lock) (t n : ℕ) (spot : Spot) (us : List ℕ) (p : RwPhase
 -- a call that has begun is answered in its last phase
 abbrev pub AnswersAreLast : Type 0
 AnswersAreLast = (p : RwPhase) (answer : CoreAnswer) → has_begun p ≡ true → act_of p ≡ Done answer → is_last p ≡ true
+
+-- WHAT CALLS KEEP
+
+-- how many readers a phase counts
+abbrev pub count_shared : RwPhase → ℕ
+count_shared (r.Scans s) = s.shared
+count_shared (r.Stores s left) = s.shared
+count_shared p = 0
+
+-- with what a call may begin
+abbrev pub rw_begins : ℕ → RwPhase → Type 0
+rw_begins n (r.Locking want) = MayAsk false n want (word_of 0)
+rw_begins n (r.Trying want) = MayAsk false n want (word_of 0)
+rw_begins n r.UnlockingShared = Unit {0}
+rw_begins n (r.UnlockingExclusive fair) = n ≡ 0
+rw_begins n r.Downgrading = Unit {0}
+rw_begins n r.BumpingShared = n ≡ 0
+rw_begins n r.BumpingExclusive = n ≡ 0
+rw_begins n phase = ⊥
+
+-- From its beginning to its end a call keeps what it may rely on. What its phase needs follows, where the thread has taken as many as it counts;
+-- and a scan counts no more readers than there are threads.
+pub record CallsKeep : Type 0 where
+  pub begins : (n : ℕ) (p : RwPhase) → rw_begins n p → rw_keeps n (next_phase p seen.Start)
+  pub goes_on : (n : ℕ) (p : RwPhase) (x : ℕ) (s : Seen) → rw_keeps n p → IsTold p x s → rw_keeps n (next_phase p s)
+  pub prepared : (n : ℕ) (us : List ℕ) (p : RwPhase) → rw_keeps n p → length us ≡ rw_taken p → count_shared p ≤ 2 ^ 17 → rw_prepared n us p
+  pub few : (l : Lock) (t n : ℕ) (spot : Spot) (us : List ℕ) (p : RwPhase) → IsSound l → slice_get l.roles t ≡ Some (role n spot us p) → count_shared p ≤ length l.roles
+
+-- SECTIONS AND LISTS
+
+-- what an act does to the sections, by where its core stands
+abbrev pub act_crossing : Stance → Act → Crossing
+act_crossing st (Enter zero) = Comes First
+act_crossing st (Enter (suc key)) = Comes Second
+act_crossing (stance.In zero how) (Section Leave) = Goes First
+act_crossing (stance.In (suc key) how) (Section Leave) = Goes Second
+act_crossing st act = crossings.Stays
+
+abbrev pub move_crossing : Move → Crossing
+move_crossing (Makes k) = crossing (Alone k)
+move_crossing move = crossings.Stays
+
+-- A move enters and leaves the section that its act does; and who stands inside a section is inside it.
+abbrev pub in_first : Stance → ℕ
+in_first (stance.In zero how) = 1
+in_first st = 0
+
+abbrev pub in_second : Stance → ℕ
+in_second (stance.In (suc key) how) = 1
+in_second st = 0
+
+pub record ActsCross : Type 0 where
+  pub acts : (n : ℕ) (us : List ℕ) (p : RwPhase) (x : ℕ) (s : Seen) → IsTold p x s → move_crossing (move n us p s) ≡ act_crossing (rw_stance p) (act_of p)
+  pub first : (n : ℕ) (spot : Spot) (us : List ℕ) (p : RwPhase) → weight Inside1 (role n spot us p) ≡ in_first (rw_stance p)
+  pub second : (n : ℕ) (spot : Spot) (us : List ℕ) (p : RwPhase) → weight Inside2 (role n spot us p) ≡ in_second (rw_stance p)
+
+-- where nobody has entered the bucket, nobody is inside a section of a lock
+abbrev pub FreeSectionsAreEmpty : Type 0
+FreeSectionsAreEmpty = (f : Family AnyLock) (i : ℕ) (l : Lock) → SoundFamilyOf AnySound any_inside one_bucket f → f.entered 0 ≡ None → f.locks i ≡ Rw l → NobodyIs Inside1 l.roles × NobodyIs Inside2 l.roles
+
+-- What one that takes waiters learns of the lists as they are after that: whether some are left, that there were none to take, and that
+-- only readers and writers wait.
+abbrev pub Learns : RwPhase → Seen → List Waiter → List Waiter → Type 0
+Learns (Scans a) (seen.Took (Some token) left) first second = ((token.0 ≡ 16) ⊎ (token.0 ≡ 8)) × (is_left first ≡ left)
+Learns (Scans a) (seen.Took None left) first second = (is_left first ≡ left) × (left ≡ false)
+Learns (Takes2 rest) s first second = second ≡ []
+Learns p s first second = Unit {0}
+
+pub record ListsAreKnown : Type 0 where
+  pub learns : (p : RwPhase) (x : ℕ) (s : Seen) (old1 old2 first second : List Waiter) → IsTold p x s → rw_knows p old1 old2 → Learns p s first second → rw_knows (next_phase p s) first second
+  pub second : (l : Lock) → IsSound l → length l.second ≤ 1
