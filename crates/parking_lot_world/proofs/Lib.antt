@@ -5,7 +5,7 @@ mod Meeting
 mod Calling
 mod OwnMoves
 mod Owning
-mod Plainly
+mod Knowing
 mod Ruling
 mod OwnActs
 mod Acting

@@ -1,6 +1,6 @@
 -- A thread in a call at a lock of the machine, as one lock sees it.
 use Rattle.std.proofs.Common.{◌≡◌, ◌≢◌, ℕ, zero, suc, ◌+◌, ◌*◌, ◌<◌, ◌≤◌, ◌^◌, ◌⊎◌, inl, inr, ◌==◌, cond, Bool, true, false, List, [], ◌∷◌, length, Option, Some, None, slice_get, refl, sym, ap, ◌∙◌, subst, arith}
-use Rattle.std.proofs.lemmas.Bool.{cases_lt, both_ways}
+use Rattle.std.proofs.lemmas.Bool.{cases_lt}
 use Rattle.std.proofs.lemmas.Option.{none-some, same_Some, slice_get_past}
 use Rattle.std.proofs.lemmas.List.{length-map}
 use Rattle.std.proofs.lemmas.List.Sums.{length-filter, count_by-le-length}
@@ -34,8 +34,9 @@ use Rattle.parking_lot_world.specs.declared.seat.Core.TheVariants as core
 use Rattle.parking_lot_world.specs.declared.seat.Call.{Call}
 use Rattle.parking_lot_world.specs.Rows.{State, word_at, hold_at, call_at, is_by, taken_by, owned_of, rw_spot, rw_role_in, rw_role_at, rw_core_role, mutex_role_at, rw_lock_at, mutex_at, any_lock, lock_at}
 use Rattle.parking_lot_world.specs.Stances.{rw_taken, taken_count}
-use Rattle.parking_lot_world.specs.RowFits.{FitsTogether, is_away, IsOfKind, IsPrepared, wants_plainly, asks_plainly, rw_prepared}
-use Rattle.parking_lot_world.specs.RwLaws.{Meets}
+use Rattle.parking_lot_world.specs.RowFits.{FitsTogether, is_away, IsOfKind, IsPrepared}
+use Rattle.parking_lot_world.specs.RwLaws.{Meets, count_shared}
+use Rattle.parking_lot_world.proofs.RwKeeping.{calls_keep}
 use Rattle.parking_lot_world.proofs.Everybody.{get-all, was-all, length-all}
 use Rattle.parking_lot_world.proofs.Lifting.{rw_there}
 
@@ -51,49 +52,11 @@ pub few_taken : (s : State) → FitsTogether s → (t : ℕ) → length (taken_b
 few_taken s h t =
     omega (arith, length-map (filter (is_by t) s.wakes) (λ w. w.thread), length-filter (is_by t) s.wakes, count_by-le-length (is_by t) s.wakes, h.wakes.room, count_by-le-length is_away s.calls, h.rules.small)
 
-none_taken : (us : List ℕ) → length us ≡ 0 → us ≡ []
-none_taken [] h = refl
-none_taken (u ∷ us) h = absurd (omega (arith, h))
-
-plainly : (n : ℕ) (q : Want) → n ≡ 0 → wants_plainly q ≡ true → of_rw.MayAsk false n q (word_of 0)
-plainly n (want.Shared true) e p = absurd (both_ways false refl p)
-plainly n (want.Shared false) e p = e
-plainly n want.Exclusive e p = e
-
-prepared : (n : ℕ) (us : List ℕ) (p : RwPhase) → n ≡ 0 → length us < 2 ^ 17 → length us ≡ rw_taken p → asks_plainly p ≡ true → rw_prepared n us p
-prepared n us (r.Locking q) e b k p = plainly n q e p
-prepared n us (r.Trying q) e b k p = plainly n q e p
-prepared n us (r.Loads a) e b k p = plainly n a.want e p
-prepared n us (r.Admits a word) e b k p = plainly n a.want e p
-prepared n us (r.Spins a) e b k p = plainly n a.want e p
-prepared n us (r.Flags a word) e b k p = plainly n a.want e p
-prepared n us (r.TryLoads q) e b k p = plainly n q e p
-prepared n us (r.TryAdmits q word left) e b k p = plainly n q e p
-prepared n us (r.Refuses q) e b k p = plainly n q e p
-prepared n us (r.Relocks q) e b k p = plainly n q e p
-prepared n us (r.Enters q woken) e b k p = e
-prepared n us (r.Checks q woken) e b k p = e
-prepared n us (r.Retreats q woken) e b k p = e
-prepared n us (r.Appends q) e b k p = e
-prepared n us (r.Rests q) e b k p = e
-prepared n us (r.Sleeps q) e b k p = e
-prepared n us (r.Loads2 d) e b k p = e
-prepared n us (r.Spins2 d) e b k p = e
-prepared n us (r.Flags2 d word) e b k p = e
-prepared n us (r.Enters2 d) e b k p = e
-prepared n us (r.Checks2 d) e b k p = e
-prepared n us (r.Retreats2 d) e b k p = e
-prepared n us (r.Appends2 rounds) e b k p = e
-prepared n us (r.Rests2 rounds) e b k p = e
-prepared n us (r.Sleeps2 rounds) e b k p = e
-prepared n us (r.Takes2 rest) e b k p = none_taken us k
-prepared n us (r.Unlocks fair rest) e b k p = e
-prepared n us (r.LooksExclusive fair rest) e b k p = none_taken us k
-prepared n us r.Owes e b k p = none_taken us k
-prepared n us (r.Scans a) e b k p = omega (arith, b, k)
-prepared n us (r.Stores a left) e b k p = (omega (arith, b, k), k)
-prepared n us (r.Finishes rest) e b k p = (none_taken us k, λ x. e)
-prepared n us p e b k pl = tt
+-- a scan counts few
+few_counted : (us : List ℕ) (p : RwPhase) → length us < 2 ^ 17 → length us ≡ rw_taken p → count_shared p ≤ 2 ^ 17
+few_counted us (r.Scans a) b e = omega (arith, b, e)
+few_counted us (r.Stores a left) b e = omega (arith, b, e)
+few_counted us p b e = omega arith
 
 -- FEW SHARED HOLDS
 
@@ -124,7 +87,7 @@ module _ (s : State) (h : FitsTogether s) where
   hold_few u i (hold.Shares n) e = omega (arith, h.rules.few u i n e)
   hold_few u i hold.Excludes e = omega arith
 
-  core_few : (n : ℕ) (at : Spot) (us : List ℕ) (x : Core) → n ≡ 0 → shared_holds (rw_core_role n at us x).owns ≤ 256
+  core_few : (n : ℕ) (at : Spot) (us : List ℕ) (x : Core) → n ≤ 254 → shared_holds (rw_core_role n at us x).owns ≤ 256
   core_few n at us (core.Rw k) e = omega (arith, owns_few n k.phase, e)
   core_few n at us (core.Mutex k) e = omega arith
 
@@ -146,14 +109,14 @@ module _ (s : State) (h : FitsTogether s) where
   pub meets : (t : ℕ) (c : Call) (k : RwCore) → c.core ≡ core.Rw k → call_at s t ≡ Some c
       → Meets (rw_lock_at s c.lock) t c.others (rw_spot c.spot) (taken_by s.wakes t) k.phase (word_at s c.lock)
   meets t c k e here =
-      let ready = subst IsPrepared e (h.rules.prepared t c here) in
+      let ready = subst (IsPrepared c.others) e (h.rules.prepared t c here) in
       let counted = h.lots.counted t c here ∙ ap taken_count e in
       record {
         sound = rw_sound c.lock (subst (IsOfKind (slice_get s.kinds c.lock)) e (h.rules.kinds t c here));
         word = refl;
         here = get-all (rw_role_at s c.lock) (length s.calls) t (in_range s t c here) ∙ ap Some (ap (rw_role_in c.lock (taken_by s.wakes t) (hold_at s t c.lock)) here ∙ rw_there (taken_by s.wakes t) (hold_at s t c.lock) c ∙ ap (rw_core_role c.others (c.spot) (taken_by s.wakes t)) e);
         ready = ready.0;
-        prepared = prepared c.others (taken_by s.wakes t) k.phase (h.rules.beside t c here) (few_taken s h t) counted ready.1;
+        prepared = calls_keep.prepared c.others (taken_by s.wakes t) k.phase ready.1 counted (few_counted (taken_by s.wakes t) k.phase (few_taken s h t) counted);
         threads = omega (arith, length-all (rw_role_at s c.lock) 0 (length s.calls), h.rules.small);
         few = λ u x at. subst (λ (q : Role). shared_holds q.owns ≤ 256) (sym (was-all (rw_role_at s c.lock) (length s.calls) u x at)) (role_few c.lock u (call_at s u) refl);
       }

@@ -49,7 +49,7 @@ use Rattle.parking_lot_world.proofs.Making.{IsSoundState, Crossed, TellsOf, mute
 use Rattle.parking_lot_world.proofs.Meeting.{meets, in_range, mutex_sound}
 use Rattle.parking_lot_world.proofs.OwnMoves.{AfterAct, IsOwnAct}
 use Rattle.parking_lot_world.proofs.Owning.{OwnAct, own-there, own-elsewhere, mutex_after, rw_goes}
-use Rattle.parking_lot_world.proofs.Plainly.{plain_next}
+use Rattle.parking_lot_world.proofs.RwKeeping.{calls_keep}
 use Rattle.parking_lot_world.proofs.Ruling.{rules_own, rw_move_sound, mutex_move_sound}
 
 -- NOBODY IS INSIDE
@@ -126,10 +126,10 @@ module _ (s u : State) (t : ℕ) (h : FitsTogether s) where
     rw_made : IsRwMove (of_rw.move c.others (taken_by s.wakes t) k.phase told) c.lock t s u
     rw_made = rw_goes s u t c told k c.spot e a h refl rw_heard own (finds (of_rw_table.act_of k.phase) c.lock own around rw_kind) around rw_kind
 
-    rw_prepared : IsPrepared (core_next (core.Rw k) told)
+    rw_prepared : IsPrepared c.others (core_next (core.Rw k) told)
     rw_prepared =
         ((answers_are_moves (rw_lock_at s c.lock) t c.others (rw_spot c.spot) (taken_by s.wakes t) k.phase (word_at s c.lock) told (meets s h t c k e a.here) rw_heard).2.1,
-        plain_next k.phase told (subst IsPrepared e (h.rules.prepared t c a.here)).1)
+        calls_keep.goes_on c.others k.phase (word_at s c.lock) told (subst (IsPrepared c.others) e (h.rules.prepared t c a.here)).1 rw_heard)
 
     pub own_rw : KnowsList (core_next (core.Rw k) told) u.lot.queues c.lock → RulesFit u × Goes t c told s u
     own_rw knows =
@@ -232,7 +232,7 @@ module _ (s u : State) (t : ℕ) (h : FitsTogether s) (c : Call) (told : Seen) (
 
   pub own_mutex : KnowsList (core_next (core.Mutex k) told) u.lot.queues c.lock → RulesFit u × Goes t c told s u
   own_mutex knows =
-      (rules_own s u t c told (core_next (core.Mutex k) told) c.spot a h (λ o x. subst (IsOfKind o) e x) tt knows (goes_on (core.Mutex k) told)
+      (rules_own s u t c told (core_next (core.Mutex k) told) c.spot a h (λ o x. subst (IsOfKind o) e x) (subst (IsPrepared c.others) e (h.rules.prepared t c a.here)) knows (goes_on (core.Mutex k) told)
       (λ m. subst (λ n. n < 4) (sym (a.word ∙ ap (λ x. word_after (core_act x) told (word_at s c.lock)) e)) own_step.small)
       (mutex_move_sound s u t c.lock (taken_by s.wakes t) (of_mutex.move taken_first k.phase told) mutex_made h.rules.sound),
       subst (λ (x : Core). IsMoveOf x c.others (taken_by s.wakes t) told c.lock t s u) (sym e) mutex_made)

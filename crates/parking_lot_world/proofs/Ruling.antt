@@ -48,9 +48,9 @@ mutex_move_sound s u t j us (of_mutex.IsWoken handed) h sound = absurd h
 -- what holds of a call on the side of the rules
 pub record CallFits (kinds : List LockKind) (queues : ℕ → List Waiter) (e : Call) : Type 0 where
   pub kind : IsOfKind (slice_get kinds e.lock) e.core
-  pub prepared : IsPrepared e.core
+  pub prepared : IsPrepared e.others e.core
   pub knows : KnowsList e.core queues e.lock
-  pub beside : e.others ≡ 0
+  pub beside : e.others ≤ 254
   pub begun : has_begun e.core ≡ true
 
 -- What is to be shown of an act for that side.
@@ -60,7 +60,7 @@ pub record RulesAfter (s u : State) (j : ℕ) : Type 0 where
   pub holds : length u.holds ≡ length s.holds
   pub words : length u.words ≡ length s.words
   pub calls : (v : ℕ) (e : Call) → call_at u v ≡ Some e → CallFits s.kinds u.lot.queues e
-  pub few : (x i n : ℕ) → hold_at u x i ≡ hold.Shares n → n ≤ 1
+  pub few : (x i n : ℕ) → hold_at u x i ≡ hold.Shares n → n ≤ 255
   pub elsewhere : (i : ℕ) → i ≢ j → word_at u i ≡ word_at s i
   pub bits : slice_get s.kinds j ≡ Some kind.Mutex → word_at u j < 4
   pub sound : IsSoundState u
@@ -101,7 +101,7 @@ module _ (s u : State) (t : ℕ) (c : Call) (told : Seen) (next : Core) (at : Sp
   calls-after P others this v e here =
       calls-change P s.calls t c d a.here (λ x f ne at_x. others x f at_x) this v e (sym (ap (λ cs. call_of cs v) a.calls) ∙ here)
 
-  pub rules_own : ((k : Option LockKind) → IsOfKind k c.core → IsOfKind k next) → IsPrepared next → KnowsList next u.lot.queues c.lock → has_begun next ≡ true
+  pub rules_own : ((k : Option LockKind) → IsOfKind k c.core → IsOfKind k next) → IsPrepared c.others next → KnowsList next u.lot.queues c.lock → has_begun next ≡ true
       → (slice_get s.kinds c.lock ≡ Some kind.Mutex → word_at u c.lock < 4) → IsSoundState u → RulesFit u
   rules_own same_kind prepared knows begun bits sound = rules_after s u c.lock h.rules (record {
     kinds = a.kinds;

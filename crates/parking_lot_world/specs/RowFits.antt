@@ -1,5 +1,5 @@
 -- What holds of the machine at every moment.
-use Rattle.std.specs.Prelude.{◌≡◌, ◌≢◌, ℕ, ◌+◌, ◌*◌, ◌<◌, ◌≤◌, ◌^◌, ◌⊎◌, ◌==◌, Bool, true, false, not, count_by, List, [], length, Option, Some, None, slice_get}
+use Rattle.std.specs.Prelude.{◌≡◌, ◌≢◌, ℕ, ◌+◌, ◌*◌, ◌<◌, ◌≤◌, ◌^◌, ◌⊎◌, ◌==◌, Bool, true, false, count_by, List, [], length, Option, Some, None, slice_get}
 use Rattle.std.specs.Option.{option_map_or}
 use Rattle.parking_lot_core.specs.declared.parking.ParkToken.{ParkToken}
 use Rattle.parking_lot_core.specs.declared.parking.UnparkToken.{UnparkToken}
@@ -19,13 +19,8 @@ use Rattle.parking_lot_rules.specs.Family.{Family, SoundFamilyOf}
 use Rattle.parking_lot_cores.specs.RwRules as of_rw
 use Rattle.parking_lot_cores.specs.declared.mutex_phase.MutexPhase.{MutexPhase}
 use Rattle.parking_lot_cores.specs.declared.mutex_phase.MutexPhase.TheVariants as m
-<<<<<<< HEAD
-use Rattle.parking_lot_cores.specs.declared.rw_phase.Want.{Want}
-use Rattle.parking_lot_cores.specs.declared.rw_phase.Want.TheVariants as want
-=======
 use Rattle.parking_lot_cores.specs.declared.rw_phase.Rest.{Rest}
 use Rattle.parking_lot_cores.specs.declared.rw_phase.Rest.TheVariants as rest
->>>>>>> 525222291e540437435f0d8ac56f8afb56932212
 use Rattle.parking_lot_cores.specs.declared.rw_phase.RwPhase.{RwPhase}
 use Rattle.parking_lot_cores.specs.declared.rw_phase.RwPhase.TheVariants as r
 use Rattle.parking_lot_rules.specs.ReadLock.{word_of}
@@ -112,36 +107,6 @@ rw_prepared n us (r.Unshares rest) = Unit {0}
 rw_prepared n us r.Downgrades = Unit {0}
 rw_prepared n us p = of_rw.Fits false n us p (word_of 0)
 
-<<<<<<< HEAD
--- a want of a lock on which owners don't ask again
-abbrev pub wants_plainly : Want → Bool
-wants_plainly (want.Shared recursive) = not recursive
-wants_plainly want.Exclusive = true
-
-abbrev pub asks_plainly : RwPhase → Bool
-asks_plainly (r.Locking want) = wants_plainly want
-asks_plainly (r.Trying want) = wants_plainly want
-asks_plainly (r.Loads a) = wants_plainly a.want
-asks_plainly (r.Admits a word) = wants_plainly a.want
-asks_plainly (r.Spins a) = wants_plainly a.want
-asks_plainly (r.Flags a word) = wants_plainly a.want
-asks_plainly (r.Enters want woken) = wants_plainly want
-asks_plainly (r.Checks want woken) = wants_plainly want
-asks_plainly (r.Retreats want woken) = wants_plainly want
-asks_plainly (r.Appends want) = wants_plainly want
-asks_plainly (r.Rests want) = wants_plainly want
-asks_plainly (r.Sleeps want) = wants_plainly want
-asks_plainly (r.TryLoads want) = wants_plainly want
-asks_plainly (r.TryAdmits want word left) = wants_plainly want
-asks_plainly (r.Refuses want) = wants_plainly want
-asks_plainly (r.BumpLoads want) = wants_plainly want
-asks_plainly (r.Relocks want) = wants_plainly want
-asks_plainly phase = true
-
-abbrev pub IsPrepared : Core → Type 0
-IsPrepared (core.Mutex c) = Unit {0}
-IsPrepared (core.Rw c) = of_rw.IsReady c.phase × (asks_plainly c.phase ≡ true)
-=======
 -- What a call that has begun keeps of what its thread owns beside: one that asks may ask, and one that gives the exclusive hold up, or asks again
 -- for what it gave up, has no other. A scan that goes on has taken no writer.
 abbrev pub rest_keeps : ℕ → Rest → Type 0
@@ -200,10 +165,10 @@ rw_keeps n r.Owes = Unit {0}
 rw_keeps n (r.Ends outcome) = Unit {0}
 rw_keeps n r.Strays = ⊥
 
-abbrev pub IsPrepared : ℕ → List ℕ → Core → Type 0
-IsPrepared n us (core.Mutex c) = n ≡ 0
-IsPrepared n us (core.Rw c) = of_rw.IsReady c.phase × rw_prepared n us c.phase × rw_keeps n c.phase
->>>>>>> 525222291e540437435f0d8ac56f8afb56932212
+-- what a call that is kept stands on
+abbrev pub IsPrepared : ℕ → Core → Type 0
+IsPrepared n (core.Mutex c) = n ≡ 0
+IsPrepared n (core.Rw c) = of_rw.IsReady c.phase × rw_keeps n c.phase
 
 -- What one that is to store knows of its list: it has taken a writer or all, and whether waiters are left.
 abbrev pub mutex_knows : MutexPhase → List Waiter → Type 0
@@ -276,11 +241,11 @@ pub record RulesFit (s : State) : Type 0 where
   pub small : length s.calls < 2 ^ 17
   -- a call is of its lock's kind, and stands as its phase asks
   pub kinds : (t : ℕ) (c : Call) → call_at s t ≡ Some c → IsOfKind (slice_get s.kinds c.lock) c.core
-  pub prepared : (t : ℕ) (c : Call) → call_at s t ≡ Some c → IsPrepared c.core
+  pub prepared : (t : ℕ) (c : Call) → call_at s t ≡ Some c → IsPrepared c.others c.core
   pub knows : (t : ℕ) (c : Call) → call_at s t ≡ Some c → KnowsList c.core s.lot.queues c.lock
-  -- a thread has one shared hold of a lock at most
-  pub few : (t i n : ℕ) → hold_at s t i ≡ hold.Shares n → n ≤ 1
-  pub beside : (t : ℕ) (c : Call) → call_at s t ≡ Some c → c.others ≡ 0
+  -- a thread has few shared holds of a lock
+  pub few : (t i n : ℕ) → hold_at s t i ≡ hold.Shares n → n ≤ 255
+  pub beside : (t : ℕ) (c : Call) → call_at s t ≡ Some c → c.others ≤ 254
   -- each word has the bits of its kind
   pub bits : (i : ℕ) → slice_get s.kinds i ≡ Some kind.Mutex → word_at s i < 4
   -- the locks are sound
