@@ -8,7 +8,7 @@ mod Owning
 mod Knowing
 mod Ruling
 mod OwnActs
-mod Acting
+mod WakesKept
 pub mod Stancing
 pub mod RwMoving
 pub mod RwTaking
@@ -27,3 +27,4 @@ pub mod LotTakes
 pub mod LotWakes
 pub mod RwKeeping
 pub mod RwCrossing
+mod Acting

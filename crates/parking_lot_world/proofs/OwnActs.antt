@@ -49,6 +49,8 @@ use Rattle.parking_lot_world.proofs.Making.{IsSoundState, Crossed, TellsOf, mute
 use Rattle.parking_lot_world.proofs.Meeting.{meets, in_range, mutex_sound}
 use Rattle.parking_lot_world.proofs.OwnMoves.{AfterAct, IsOwnAct}
 use Rattle.parking_lot_world.proofs.Owning.{OwnAct, own-there, own-elsewhere, mutex_after, rw_goes}
+use Rattle.parking_lot_world.proofs.Knowing.{rw_learns, mutex_learns}
+use Rattle.parking_lot_world.proofs.RwCrossing.{lists_are_known}
 use Rattle.parking_lot_world.proofs.RwKeeping.{calls_keep}
 use Rattle.parking_lot_world.proofs.Ruling.{rules_own, rw_move_sound, mutex_move_sound}
 
@@ -131,8 +133,13 @@ module _ (s u : State) (t : ℕ) (h : FitsTogether s) where
         ((answers_are_moves (rw_lock_at s c.lock) t c.others (rw_spot c.spot) (taken_by s.wakes t) k.phase (word_at s c.lock) told (meets s h t c k e a.here) rw_heard).2.1,
         calls_keep.goes_on c.others k.phase (word_at s c.lock) told (subst (IsPrepared c.others) e (h.rules.prepared t c a.here)).1 rw_heard)
 
-    pub own_rw : KnowsList (core_next (core.Rw k) told) u.lot.queues c.lock → RulesFit u × Goes t c told s u
-    own_rw knows =
+    knows : KnowsList (core_next (core.Rw k) told) u.lot.queues c.lock
+    knows =
+        lists_are_known.learns k.phase (word_at s c.lock) told (s.lot.queues (2 * c.lock)) (s.lot.queues (2 * c.lock + 1)) (u.lot.queues (2 * c.lock)) (u.lot.queues (2 * c.lock + 1)) rw_heard
+        (subst (λ (x : Core). KnowsList x s.lot.queues c.lock) e (h.rules.knows t c a.here)) (rw_learns k.phase told own (u.lot.queues (2 * c.lock)) (u.lot.queues (2 * c.lock + 1)))
+
+    pub own_rw : RulesFit u × Goes t c told s u
+    own_rw =
         (rules_own s u t c told (core_next (core.Rw k) told) c.spot a h (λ o x. subst (IsOfKind o) e x) rw_prepared knows (goes_on (core.Rw k) told)
         (λ m. absurd (two_kinds (sym rw_kind ∙ m))) (rw_move_sound s u t c.lock (of_rw.move c.others (taken_by s.wakes t) k.phase told) rw_made h.rules.sound),
         subst (λ (x : Core). IsMoveOf x c.others (taken_by s.wakes t) told c.lock t s u) (sym e) rw_made)
@@ -230,9 +237,9 @@ module _ (s u : State) (t : ℕ) (h : FitsTogether s) (c : Call) (told : Seen) (
       (subst (λ (x : Crossing). Crossed x t (inside s) (inside u)) (sym own_step.crossing) (around_mutex (of_mutex_table.act_of k.phase) t (inside s) (inside u) around))
       (own_tells taken_first (taken_by s.wakes t) k.phase told own)
 
-  pub own_mutex : KnowsList (core_next (core.Mutex k) told) u.lot.queues c.lock → RulesFit u × Goes t c told s u
-  own_mutex knows =
-      (rules_own s u t c told (core_next (core.Mutex k) told) c.spot a h (λ o x. subst (IsOfKind o) e x) (subst (IsPrepared c.others) e (h.rules.prepared t c a.here)) knows (goes_on (core.Mutex k) told)
+  pub own_mutex : RulesFit u × Goes t c told s u
+  own_mutex =
+      (rules_own s u t c told (core_next (core.Mutex k) told) c.spot a h (λ o x. subst (IsOfKind o) e x) (subst (IsPrepared c.others) e (h.rules.prepared t c a.here)) (mutex_learns (core.Mutex k) (of_mutex_table.next_phase k.phase told) (word_at s c.lock) told refl refl own gives (u.lot.queues (2 * c.lock))) (goes_on (core.Mutex k) told)
       (λ m. subst (λ n. n < 4) (sym (a.word ∙ ap (λ x. word_after (core_act x) told (word_at s c.lock)) e)) own_step.small)
       (mutex_move_sound s u t c.lock (taken_by s.wakes t) (of_mutex.move taken_first k.phase told) mutex_made h.rules.sound),
       subst (λ (x : Core). IsMoveOf x c.others (taken_by s.wakes t) told c.lock t s u) (sym e) mutex_made)
