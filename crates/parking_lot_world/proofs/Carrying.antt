@@ -20,7 +20,7 @@ use Rattle.parking_lot_world.specs.declared.seat.Wakeup.{Wakeup}
 use Rattle.parking_lot_world.specs.Rows.{State, call_at, is_by, taken_by}
 use Rattle.parking_lot_world.specs.Stances.{Doing, Looks, TurnsBack, Joins, Joined, Takes, Stores, Tells, Stance, Out, In, Asleep, stance, taken_count}
 use Rattle.parking_lot_world.specs.RowActs.{with_call, settled_spot, settled}
-use Rattle.parking_lot_world.specs.RowFits.{Seated, Awaits, IsTaken, IsOwed, LotFits}
+use Rattle.parking_lot_world.specs.RowFits.{Seated, Awaits, IsTaken, IsOwed, WakesSome, LotFits}
 
 -- CALLS, BY THREAD
 
@@ -48,6 +48,10 @@ set_elsewhere calls t v o e = ap (option_and_then (λ x. x)) (slice_get-set_othe
 abbrev pub tally : Option Call → ℕ
 tally o = option_map_or (λ c. taken_count c.core) o 0
 
+-- where it is to wake somebody it has taken somebody
+abbrev pub Wakeful : Option Call → Type 0
+Wakeful o = (c : Call) → o ≡ Some c → WakesSome c.core
+
 -- WHAT IS KEPT OF A CALL
 
 pub record Carries (old new : Option Call) : Type 0 where
@@ -62,6 +66,8 @@ pub record Carries (old new : Option Call) : Type 0 where
   -- who has taken somebody stays at its lock, and has taken as many
   pub taker : (c : Call) → old ≡ Some c → 1 ≤ taken_count c.core → (d : Call) × (new ≡ Some d) × (d.lock ≡ c.lock)
   pub counts : tally new ≡ tally old
+  -- and has somebody to wake, where it is to wake
+  pub wakeful : Wakeful old → Wakeful new
 
 pub carries_same : (old new : Option Call) → new ≡ old → Carries old new
 carries_same old new e = record {
@@ -70,6 +76,7 @@ carries_same old new e = record {
   slept = λ k token by said d is asleep at. (d, sym e ∙ is, asleep, said, at);
   taker = λ c is some. (c, e ∙ is, refl);
   counts = ap tally e;
+  wakeful = λ w c is. w c (sym e ∙ is);
 }
 
 pub carries_both : (a b c : Option Call) → Carries a b → Carries b c → Carries a c
@@ -90,6 +97,7 @@ carries_both a b c h k = record {
       let z = k.taker y.0 y.1 (let same = sym (ap tally y.1) ∙ (h.counts ∙ ap tally is) in omega arith) in
       (z.0, z.1, z.2 ∙ y.2);
   counts = k.counts ∙ h.counts;
+  wakeful = λ w. k.wakeful (h.wakeful w);
 }
 
 -- a stance in no list and awake, and one that isn't asleep
@@ -121,36 +129,39 @@ pub up_sleeps : (k : ℕ) (token : ParkToken) (a : Stance) → IsUp a → a ≡ 
 up_sleeps k token a h e = subst IsUp e h
 
 -- an awake thread goes on, awake
-pub carries_awake : (c d : Call) → IsAwake (stance c.core) → IsUp (stance d.core) → d.lock ≡ c.lock → taken_count d.core ≡ taken_count c.core → Carries (Some c) (Some d)
-carries_awake c d awake up lock counts = record {
+pub carries_awake : (c d : Call) → IsAwake (stance c.core) → IsUp (stance d.core) → d.lock ≡ c.lock → taken_count d.core ≡ taken_count c.core → WakesSome d.core → Carries (Some c) (Some d)
+carries_awake c d awake up lock counts some = record {
   listed = λ k token x is at waits. absurd (awake_waits k token (stance c.core) awake (subst (λ (y : Call). Awaits k token (stance y.core)) (sym (same_call is)) waits));
   sleeps = λ k token by said x is asleep at. absurd (awake_sleeps k token (stance c.core) awake (ap (λ (y : Call). stance y.core) (same_call is) ∙ asleep));
   slept = λ k token by said x is asleep at. absurd (up_sleeps k token (stance d.core) up (ap (λ (y : Call). stance y.core) (same_call is) ∙ asleep));
-  taker = λ x is some. (d, refl, lock ∙ ap (λ (y : Call). y.lock) (same_call is));
+  taker = λ x is more. (d, refl, lock ∙ ap (λ (y : Call). y.lock) (same_call is));
   counts = counts;
+  wakeful = λ w x is. subst (λ (y : Call). WakesSome y.core) (same_call is) some;
 }
 
 -- one that joined goes to sleep
-pub carries_lain : (c d : Call) (key : ℕ) (park : ParkToken) → stance c.core ≡ In key (Joined park) → stance d.core ≡ Asleep key park → d.lock ≡ c.lock → c.spot ≡ spot.Listed → d.spot ≡ spot.Listed → taken_count d.core ≡ taken_count c.core → Carries (Some c) (Some d)
-carries_lain c d key park from to lock at at' counts = record {
+pub carries_lain : (c d : Call) (key : ℕ) (park : ParkToken) → stance c.core ≡ In key (Joined park) → stance d.core ≡ Asleep key park → d.lock ≡ c.lock → c.spot ≡ spot.Listed → d.spot ≡ spot.Listed → taken_count d.core ≡ taken_count c.core → WakesSome d.core → Carries (Some c) (Some d)
+carries_lain c d key park from to lock at at' counts some = record {
   listed = λ k token x is here waits. (d, refl, lock ∙ ap (λ (y : Call). y.lock) (same_call is), at', subst (Awaits k token) (sym to) (subst (Awaits k token) (sym (ap (λ (y : Call). stance y.core) (same_call is)) ∙ from) waits));
   sleeps = λ k token by said x is asleep here. absurd (listed≢off (sym at ∙ (ap (λ (y : Call). y.spot) (same_call is) ∙ here)));
   slept = λ k token by said x is asleep here. absurd (listed≢off (sym at' ∙ (ap (λ (y : Call). y.spot) (same_call is) ∙ here)));
-  taker = λ x is some. (d, refl, lock ∙ ap (λ (y : Call). y.lock) (same_call is));
+  taker = λ x is more. (d, refl, lock ∙ ap (λ (y : Call). y.lock) (same_call is));
   counts = counts;
+  wakeful = λ w x is. subst (λ (y : Call). WakesSome y.core) (same_call is) some;
 }
   where
     listed≢off : {by : ℕ} {said : Told} → spot.Listed ≡ spot.Off by said → ⊥
     listed≢off e = cc
 
 -- a call begins, and ends
-pub carries_begun : (d : Call) → IsUp (stance d.core) → taken_count d.core ≡ 0 → Carries None (Some d)
-carries_begun d up counts = record {
+pub carries_begun : (d : Call) → IsUp (stance d.core) → taken_count d.core ≡ 0 → WakesSome d.core → Carries None (Some d)
+carries_begun d up counts some = record {
   listed = λ k token x is at waits. absurd (none≢some is);
   sleeps = λ k token by said x is asleep at. absurd (none≢some is);
   slept = λ k token by said x is asleep at. absurd (up_sleeps k token (stance d.core) up (ap (λ (y : Call). stance y.core) (same_call is) ∙ asleep));
   taker = λ x is some. absurd (none≢some is);
   counts = counts;
+  wakeful = λ w x is. subst (λ (y : Call). WakesSome y.core) (same_call is) some;
 }
 
 pub carries_ended : (c : Call) → IsAwake (stance c.core) → taken_count c.core ≡ 0 → Carries (Some c) None
@@ -160,6 +171,7 @@ carries_ended c awake counts = record {
   slept = λ k token by said x is asleep at. absurd (none≢some is);
   taker = λ x is some. absurd (let same = ap (λ (y : Call). taken_count y.core) (same_call is) in omega arith);
   counts = sym counts;
+  wakeful = λ w x is. absurd (none≢some is);
 }
 
 -- sleepers are told
@@ -192,6 +204,7 @@ carries_settled t said (Some c) = record {
       (c, refl, ap (λ (z : Call). stance z.core) (same_call is) ∙ asleep, before.0, before.1);
   taker = λ x is some. (settled t said c, refl, ap (λ (y : Call). y.lock) (same_call is));
   counts = refl;
+  wakeful = λ w x is. subst (λ (y : Call). WakesSome y.core) (same_call is) (w c refl);
 }
 
 -- WHO IS TO BE WOKEN
@@ -267,6 +280,7 @@ module _ (s u : State) (h : LotFits s) (carries : (v : ℕ) → Carries (call_at
     once = λ n m e f at at' same. h.once n m e f (ap (λ (ws : List Wakeup). slice_get ws n) (sym wakes) ∙ at) (ap (λ (ws : List Wakeup). slice_get ws m) (sym wakes) ∙ at') same;
     counted = λ t c is. ap (λ (ws : List Wakeup). length (taken_by ws t)) wakes ∙ (tallied s h t ∙ (sym (carries t).counts ∙ ap tally is));
     untaken = λ t is. no_length (taken_by u.wakes t) (ap (λ (ws : List Wakeup). length (taken_by ws t)) wakes ∙ (tallied s h t ∙ (sym (carries t).counts ∙ ap tally is)));
+    wakeful = λ t. (carries t).wakeful (h.wakeful t);
   }
 
   -- nor the lists change

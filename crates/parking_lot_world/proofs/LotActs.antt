@@ -31,6 +31,7 @@ use Rattle.parking_lot_world.specs.Stances.{Doing, Looks, TurnsBack, Joins, Join
 use Rattle.parking_lot_world.specs.RowActs.{with_call, with_word, with_lot, hears, told_of}
 use Rattle.parking_lot_world.specs.RowFits.{IsOutside, IsAt, SaidIn, Stands, Seated, LotFits}
 use Rattle.parking_lot_world.specs.StanceLaws.{StaysOut}
+use Rattle.parking_lot_world.proofs.Stancing.{wakes_some}
 use Rattle.parking_lot_world.proofs.Carrying.{same_call, call_within, set_here, set_elsewhere, Carries, carries_same, IsAwake, IsUp, carries_awake, carries_begun, carries_ended, taken_some, carried}
 
 -- THREADS AT THE OPEN SECTION
@@ -154,7 +155,7 @@ pub stays_out : (s : State) (t : ℕ) (c : Call) (told : Seen) → LotFits s →
 stays_out s t c told h here x =
     let d = hears c told in
     quiet s t h (call_within s t c here) (Some d)
-    (subst (λ (o : Option Call). Carries o (Some d)) (sym here) (carries_awake c d (awake_by (stance c.core) Out x.0 tt) (up_by (stance d.core) Out x.1 tt) refl x.2))
+    (subst (λ (o : Option Call). Carries o (Some d)) (sym here) (carries_awake c d (awake_by (stance c.core) Out x.0 tt) (up_by (stance d.core) Out x.1 tt) refl x.2 (wakes_some c.core told)))
     (subst (λ (a : Stance). Stands t d.lock a d.spot (place_at s.lot.places t) s.lot.section) (sym x.1) (seat_of s h t c Out here x.0))
 
 pub begun_fits : (s : State) (t : ℕ) (c : Call) → LotFits s → t < length s.calls → call_at s t ≡ None → let d = hears c seen.Start in
@@ -162,7 +163,7 @@ pub begun_fits : (s : State) (t : ℕ) (c : Call) → LotFits s → t < length s
 begun_fits s t c h low here out counts =
     let d = hears c seen.Start in
     quiet s t h low (Some d)
-    (subst (λ (o : Option Call). Carries o (Some d)) (sym here) (carries_begun d (up_by (stance d.core) Out out tt) counts))
+    (subst (λ (o : Option Call). Carries o (Some d)) (sym here) (carries_begun d (up_by (stance d.core) Out out tt) counts (wakes_some c.core seen.Start)))
     (subst (λ (a : Stance). Stands t d.lock a d.spot (place_at s.lot.places t) s.lot.section) (sym out)
     (subst (λ (o : Option Call). Seated t o (place_at s.lot.places t) s.lot.section) here (h.seated t low)))
 

@@ -25,6 +25,7 @@ use Rattle.parking_lot_world.specs.Stances.{Doing, Looks, TurnsBack, Joins, Join
 use Rattle.parking_lot_world.specs.RowActs.{with_call, with_lot, hears, key_of, appended}
 use Rattle.parking_lot_world.specs.RowFits.{SaidIn, Stands, Seated, Awaits, LotFits}
 use Rattle.parking_lot_world.proofs.Indexing.{get_push}
+use Rattle.parking_lot_world.proofs.Stancing.{wakes_some}
 use Rattle.parking_lot_world.proofs.Carrying.{call_within, set_here, Carries, awake_sleeps, waits_carried, carried_by}
 use Rattle.parking_lot_world.proofs.LotActs.{same_section, seat_of, awake_by, changed_here, carries_one, seats_one, same_length}
 use Rattle.parking_lot_world.proofs.LotSections.{nobody_off, sits, carried_awake, seats_still}
@@ -51,7 +52,7 @@ module _ (s : State) (t : ℕ) (c : Call) (h : LotFits s) (here : call_at s t �
       let o' : Section = record o { phase = phase.Joined } in
       let is : list_lot.section ≡ Some o' = ap (option_map {T = Section} (λ x. record x { phase = phase.Joined })) seat.1 in
       let low = call_within s t c here in
-      let carries = carried_awake s t c lists (In k (Joins token)) (In k (Joined token)) here from to tt tt refl (still ∙ sym none) in
+      let carries = carried_awake s t c lists (In k (Joins token)) (In k (Joined token)) here from to tt tt refl (still ∙ sym none) (wakes_some c.core seen.Made) in
       let u : State = appended s t c (key_of c k) token in
       let place : place_at list_lot.places t ≡ Some (Waiting (key_of c k) list_sleep) = place_at-set_same s.lot.places t Running (Some (Waiting (key_of c k) list_sleep)) seat.5 in
       let others : (v : ℕ) → (v == t) ≡ false → place_at list_lot.places v ≡ place_at s.lot.places v = λ v e. place_at-set_other s.lot.places t v (Some (Waiting (key_of c k) list_sleep)) e in

@@ -26,8 +26,9 @@ use Rattle.parking_lot_world.specs.declared.seat.Wakeup.{Wakeup}
 use Rattle.parking_lot_world.specs.Rows.{State, word_at, call_at, taken_by}
 use Rattle.parking_lot_world.specs.Stances.{Doing, Looks, TurnsBack, Joins, Joined, Takes, Stores, Tells, Stance, Out, In, Asleep, stance, taken_count}
 use Rattle.parking_lot_world.specs.RowActs.{with_call, with_lot, hears, key_of, joins, entered, checked, took_nobody, left, told_of}
-use Rattle.parking_lot_world.specs.RowFits.{HasCome, WaitsIn, IsOutside, IsAt, SaidIn, Stands, Seated, LotFits}
+use Rattle.parking_lot_world.specs.RowFits.{HasCome, WaitsIn, IsOutside, IsAt, SaidIn, Stands, Seated, WakesSome, LotFits}
 use Rattle.parking_lot_world.specs.StanceLaws.{LeavesFor}
+use Rattle.parking_lot_world.proofs.Stancing.{wakes_some}
 use Rattle.parking_lot_world.proofs.Carrying.{same_call, call_within, Carries, IsAwake, IsUp, carries_awake, carries_lain, taken_some}
 use Rattle.parking_lot_world.proofs.LotActs.{same_number, same_section, outside_of, outside_none, lies_still, seated_apart, acted, seat_of, awake_by, up_by}
 
@@ -45,9 +46,9 @@ pub sits : (t : ℕ) (d : Call) (a : Stance) (place : Option Place) (sec : Optio
 sits t d a place sec is h = subst (λ (b : Stance). Stands t d.lock b d.spot place sec) (sym is) h
 
 pub carried_awake : (s : State) (t : ℕ) (c d : Call) (a b : Stance) → call_at s t ≡ Some c → stance c.core ≡ a → stance d.core ≡ b → IsAwake a → IsUp b → d.lock ≡ c.lock → taken_count d.core ≡ taken_count c.core
-    → Carries (call_at s t) (Some d)
-carried_awake s t c d a b here from to awake up lock counts =
-    subst (λ (o : Option Call). Carries o (Some d)) (sym here) (carries_awake c d (awake_by (stance c.core) a from awake) (up_by (stance d.core) b to up) lock counts)
+    → WakesSome d.core → Carries (call_at s t) (Some d)
+carried_awake s t c d a b here from to awake up lock counts some =
+    subst (λ (o : Option Call). Carries o (Some d)) (sym here) (carries_awake c d (awake_by (stance c.core) a from awake) (up_by (stance d.core) b to up) lock counts some)
 
 -- ENTERING
 
@@ -62,7 +63,7 @@ module _ (s : State) (t : ℕ) (c : Call) (h : LotFits s) (here : call_at s t �
       → (place_at s.lot.places t ≡ Some Running → Stands t c.lock b c.spot (place_at s.lot.places t) (Some enters_section)) → LotFits (entered s t c k)
   entered_as b from to up counts own =
       acted s t h (call_within s t c here) (Some enters) (opened s.lot (Some t) (key_of c k))
-      (carried_awake s t c enters Out b here from to tt up refl counts)
+      (carried_awake s t c enters Out b here from to tt up refl counts (wakes_some c.core seen.Entered))
       sound refl
       (λ v j token x is asleep. refl)
       (sits t enters b (place_at s.lot.places t) (Some enters_section) to (own (seat_of s h t c Out here from).0))
@@ -129,7 +130,7 @@ module _ (s : State) (t : ℕ) (c : Call) (h : LotFits s) (here : call_at s t �
       let o : Section = seat.0 in
       let o' : Section = record o { phase = phase_by (stance checks.core) } in
       goes_on s t c checks h here (in_phase s.lot (phase_by (stance checks.core))) o o' seat.1 (ap (option_map {T = Section} (λ x. record x { phase = phase_by (stance checks.core) })) seat.1) seat.2 seat.2
-      (carried_awake s t c checks (In k Looks) (In k how) here from to tt tt refl (still ∙ sym none))
+      (carried_awake s t c checks (In k Looks) (In k how) here from to tt tt refl (still ∙ sym none) (wakes_some c.core (seen.Word (word_at s c.lock))))
       sound refl refl
       (λ v j token x by said same at asleep off in_it. absurd (nobody_off s h t c here none v j token x by said same at asleep off))
       (sits t checks (In k how) (place_at s.lot.places t) (Some o') to
@@ -161,7 +162,7 @@ took_nobody_fits s t c k h here from to counts sound =
     let o : Section = seat.0 in
     let o' : Section = record o { phase = phase.Ended } in
     goes_on s t c d h here (in_phase s.lot phase.Ended) o o' seat.1 (ap (option_map {T = Section} (λ x. record x { phase = phase.Ended })) seat.1) seat.2 seat.2
-    (carried_awake s t c d (In k Takes) (In k Stores) here from to tt tt refl counts)
+    (carried_awake s t c d (In k Takes) (In k Stores) here from to tt tt refl counts (wakes_some c.core (seen.Took None (is_left (s.lot.queues (key_of c k))))))
     sound refl refl
     (λ v j token x by said same at asleep off in_it. still_said o phase.Ended said seat.4 refl in_it)
     (sits t d (In k Stores) (place_at s.lot.places t) (Some o') to (o', refl, seat.2, seat.3, refl, seat.5))
@@ -224,12 +225,12 @@ module _ (s : State) (t : ℕ) (c : Call) (h : LotFits s) (here : call_at s t �
   pub left_fits : LeavesFor (stance c.core) (stance leaves.core) (taken_count c.core) (taken_count leaves.core) → LotFits (left s t c)
   left_fits (inl x) =
       let seat = seat_of s h t c (In x.0 TurnsBack) here x.1 in
-      left_as x.0 TurnsBack Out x.1 (carries_awake c leaves (awake_by (stance c.core) (In x.0 TurnsBack) x.1 tt) (up_by (stance leaves.core) Out x.2 tt) refl (x.4 ∙ sym x.3)) x.2
+      left_as x.0 TurnsBack Out x.1 (carries_awake c leaves (awake_by (stance c.core) (In x.0 TurnsBack) x.1 tt) (up_by (stance leaves.core) Out x.2 tt) refl (x.4 ∙ sym x.3) (wakes_some c.core seen.Made)) x.2
       (λ o sec whose come v j token y by said same at asleep off in_it. absurd (nobody_off s h t c here x.3 v j token y by said same at asleep off))
       (ap (option_map (told (token_of s.lot) false)) seat.5, outside_none None t refl)
   left_fits (inr (inl x)) =
       let seat = seat_of s h t c (In x.0 (Joined x.1)) here x.2 in
-      left_as x.0 (Joined x.1) (Asleep x.0 x.1) x.2 (carries_lain c leaves x.0 x.1 x.2 x.3 refl seat.5.0 seat.5.0 (x.5 ∙ sym x.4)) x.3
+      left_as x.0 (Joined x.1) (Asleep x.0 x.1) x.2 (carries_lain c leaves x.0 x.1 x.2 x.3 refl seat.5.0 seat.5.0 (x.5 ∙ sym x.4) (wakes_some c.core seen.Made)) x.3
       (λ o sec whose come v j token y by said same at asleep off in_it. absurd (nobody_off s h t c here x.4 v j token y by said same at asleep off)) (
         subst (λ (a : Spot). IsAt a (option_map (told (token_of s.lot) false) (place_at s.lot.places t)) None (2 * c.lock + x.0)) (sym seat.5.0)
             (seat.5.1.0, ap (option_map (told (token_of s.lot) false)) seat.5.1.1, seat.5.1.2),
@@ -237,7 +238,7 @@ module _ (s : State) (t : ℕ) (c : Call) (h : LotFits s) (here : call_at s t �
       )
   left_fits (inr (inr x)) =
       let seat = seat_of s h t c (In x.0 (Tells x.1)) here x.2 in
-      left_as x.0 (Tells x.1) Out x.2 (carries_awake c leaves (awake_by (stance c.core) (In x.0 (Tells x.1)) x.2 tt) (up_by (stance leaves.core) Out x.3 tt) refl x.4) x.3
+      left_as x.0 (Tells x.1) Out x.2 (carries_awake c leaves (awake_by (stance c.core) (In x.0 (Tells x.1)) x.2 tt) (up_by (stance leaves.core) Out x.3 tt) refl x.4 (wakes_some c.core seen.Made)) x.3
       (λ o sec whose come v j token y by said same at asleep off in_it. tells o sec come.0 said in_it)
       (ap (option_map (told (token_of s.lot) false)) seat.5, outside_none None t refl)
     where

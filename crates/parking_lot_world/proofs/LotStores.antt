@@ -23,7 +23,7 @@ use Rattle.parking_lot_world.specs.declared.seat.Call.{Call}
 use Rattle.parking_lot_world.specs.Rows.{State, call_at}
 use Rattle.parking_lot_world.specs.Stances.{Doing, Looks, TurnsBack, Joins, Joined, Takes, Stores, Tells, Stance, Out, In, Asleep, stance, taken_count}
 use Rattle.parking_lot_world.specs.RowActs.{with_call, with_lot, settled_spot, settled, settles, told_of}
-use Rattle.parking_lot_world.specs.RowFits.{IsOutside, IsAt, SaidIn, Stands, Seated, LotFits}
+use Rattle.parking_lot_world.specs.RowFits.{IsOutside, IsAt, SaidIn, Stands, Seated, WakesSome, LotFits}
 use Rattle.parking_lot_world.proofs.Carrying.{call_within, Carries, carries_both, carries_settled, carried}
 use Rattle.parking_lot_world.proofs.LotActs.{same_number, same_section, outside_of, apart, seat_of, changed_here, changed_there, carries_one, same_length}
 use Rattle.parking_lot_world.proofs.LotSections.{sits, carried_awake, stores_unstored}
@@ -80,7 +80,7 @@ module _ (t : ℕ) (token : UnparkToken) (place : Option Place) (sec sec' : Opti
 
 -- the thread t stores, and tells that token
 module _ (s : State) (t : ℕ) (c d : Call) (h : LotFits s) (here : call_at s t ≡ Some c) (k : ℕ) (token : UnparkToken) (lock : d.lock ≡ c.lock)
-    (from : stance c.core ≡ In k Stores) (to : stance d.core ≡ In k (Tells token)) (counts : taken_count d.core ≡ taken_count c.core) (sound : Sound (stored s.lot token)) where
+    (from : stance c.core ≡ In k Stores) (to : stance d.core ≡ In k (Tells token)) (counts : taken_count d.core ≡ taken_count c.core) (some : WakesSome d.core) (sound : Sound (stored s.lot token)) where
   abbrev stores : State
   stores = with_lot (settles (with_call s t d) t (told_of token)) (stored s.lot token)
 
@@ -90,7 +90,7 @@ module _ (s : State) (t : ℕ) (c d : Call) (h : LotFits s) (here : call_at s t 
   stored_carries : (v : ℕ) → Carries (call_at s v) (call_at stores v)
   stored_carries v =
       carries_both (call_at s v) (call_at (with_call s t d) v) (call_at stores v)
-      (carries_one s t h (call_within s t c here) (Some d) s.lot (carried_awake s t c d (In k Stores) (In k (Tells token)) here from to tt tt lock counts) v)
+      (carries_one s t h (call_within s t c here) (Some d) s.lot (carried_awake s t c d (In k Stores) (In k (Tells token)) here from to tt tt lock counts some) v)
       (subst (Carries (call_at (with_call s t d) v)) (sym (stored_at v)) (carries_settled t (told_of token) (call_at (with_call s t d) v)))
 
   stored_length : length stores.calls ≡ length s.calls

@@ -29,8 +29,9 @@ use Rattle.parking_lot_world.specs.declared.seat.Wakeup.{Wakeup}
 use Rattle.parking_lot_world.specs.Rows.{State, call_at, is_by, taken_by}
 use Rattle.parking_lot_world.specs.Stances.{Doing, Looks, TurnsBack, Joins, Joined, Takes, Stores, Tells, Stance, Out, In, Asleep, stance, taken_count}
 use Rattle.parking_lot_world.specs.RowActs.{hears, key_of, off_list, took}
-use Rattle.parking_lot_world.specs.RowFits.{HasCome, SaidIn, IsAt, Stands, Seated, Awaits, IsTaken, IsOwed, LotFits}
+use Rattle.parking_lot_world.specs.RowFits.{HasCome, SaidIn, IsAt, Stands, Seated, Awaits, IsTaken, IsOwed, WakesSome, LotFits}
 use Rattle.parking_lot_world.proofs.Indexing.{get_push, get_front, get_remove}
+use Rattle.parking_lot_world.proofs.Stancing.{wakes_some}
 use Rattle.parking_lot_world.proofs.Carrying.{same_call, call_within, set_here, set_elsewhere, tally, tallied, taken_by-count, no_length, IsUp, awake_sleeps, up_sleeps}
 use Rattle.parking_lot_world.proofs.LotActs.{same_number, same_section, outside_of, seat_of, awake_by, up_by}
 use Rattle.parking_lot_world.proofs.LotSections.{sits, seats_still, still_said}
@@ -283,6 +284,13 @@ module _ (s : State) (t : ℕ) (c : Call) (h : LotFits s) (here : call_at s t �
         (λ f. ap tally (call_other x e f)) in
         more ∙ omega arith)
 
+    took_wakeful : (x : ℕ) (d : Call) → call_at u x ≡ Some d → WakesSome d.core
+    took_wakeful x d is = by_eqb x t (WakesSome d.core)
+        (λ e. subst (λ (y : Call). WakesSome y.core) (same_call (sym call_mine ∙ (ap (call_at u) (sym e) ∙ is))) (wakes_some c.core (seen.Took (Some w.token) (is_left (remove (s.lot.queues (key_of c k)) nth)))))
+        (λ e. by_eqb x v (WakesSome d.core)
+        (λ f. subst (λ (y : Call). WakesSome y.core) (same_call (sym call_taken ∙ (ap (call_at u) (sym f) ∙ is))) (h.wakeful v z.call z.there))
+        (λ f. h.wakeful x d (sym (call_other x e f) ∙ is)))
+
     took_as : LotFits u
     took_as =
         let seat = seat_of s h t c (In k Takes) here from in
@@ -297,6 +305,7 @@ module _ (s : State) (t : ℕ) (c : Call) (h : LotFits s) (here : call_at s t �
           once = took_once;
           counted = λ x d there. took_tally x ∙ ap tally there;
           untaken = λ x there. no_length (taken_by u.wakes x) (took_tally x ∙ ap tally there);
+          wakeful = took_wakeful;
         }
 
   pub took_fits : (stance takes.core ≡ In k Takes) ⊎ (stance takes.core ≡ In k Stores) → taken_count takes.core ≡ taken_count c.core + 1 → Sound u.lot → LotFits u

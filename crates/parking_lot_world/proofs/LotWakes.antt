@@ -26,8 +26,8 @@ use Rattle.parking_lot_world.specs.declared.seat.Wakeup.{Wakeup}
 use Rattle.parking_lot_world.specs.Rows.{State, call_at, is_by, taken_by}
 use Rattle.parking_lot_world.specs.Stances.{Stance, Out, In, Asleep, stance, taken_count}
 use Rattle.parking_lot_world.specs.RowActs.{hears, woke, told_of}
-use Rattle.parking_lot_world.specs.RowFits.{IsAt, IsOutside, SaidIn, Stands, Seated, Awaits, IsTaken, IsOwed, LotFits}
-use Rattle.parking_lot_world.proofs.Stancing.{sleepers_wake}
+use Rattle.parking_lot_world.specs.RowFits.{IsAt, IsOutside, SaidIn, Stands, Seated, Awaits, IsTaken, IsOwed, WakesSome, LotFits}
+use Rattle.parking_lot_world.proofs.Stancing.{sleepers_wake, wakes_some}
 use Rattle.parking_lot_world.proofs.Indexing.{get_remove, kept_remove, apart_before, not_removed}
 use Rattle.parking_lot_world.proofs.Carrying.{same_call, call_within, set_here, set_elsewhere, tally, tallied, taken_by-count, no_length}
 use Rattle.parking_lot_world.proofs.LotActs.{same_section, seat_of}
@@ -207,6 +207,13 @@ module _ (s : State) (t : ℕ) (c : Call) (h : LotFits s) (here : call_at s t �
           (λ g. ap tally (call_other x f g)) in
           omega arith)
 
+      woke_wakeful : (x : ℕ) (z : Call) → call_at u x ≡ Some z → WakesSome z.core
+      woke_wakeful x z is = by_eqb x t (WakesSome z.core)
+          (λ f. subst (λ (y : Call). WakesSome y.core) (same_call (sym call_mine ∙ (ap (call_at u) (sym f) ∙ is))) (wakes_some c.core seen.Made))
+          (λ f. by_eqb x e.thread (WakesSome z.core)
+          (λ g. subst (λ (y : Call). WakesSome y.core) (same_call (sym call_woken ∙ (ap (call_at u) (sym g) ∙ is))) (wakes_some d.core (seen.Woken token)))
+          (λ g. h.wakeful x z (sym (call_other x f g) ∙ is)))
+
       pub woke_fits : LotFits u
       woke_fits = record {
         sound = sound;
@@ -218,4 +225,5 @@ module _ (s : State) (t : ℕ) (c : Call) (h : LotFits s) (here : call_at s t �
         once = woke_once;
         counted = λ x z is. woke_tally x ∙ ap tally is;
         untaken = λ x is. no_length (taken_by u.wakes x) (woke_tally x ∙ ap tally is);
+        wakeful = woke_wakeful;
       }

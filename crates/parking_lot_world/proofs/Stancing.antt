@@ -1,15 +1,16 @@
 -- Where a call stands, act by act.
 use Rattle.std.proofs.Common.{◌≡◌, ◌≤◌, ◌<◌, ℕ, ◌+◌, ◌-◌, ◌*◌, ◌/◌, ◌%◌, ◌^◌, ◌==◌, ◌&&◌, ◌||◌, ◌⊎◌, inl, inr, nat_lt, not, min, Bool, true, false, cond, Option, Some, None, is_some, Result, Ok, Err, refl, sym, ap, ◌∙◌, subst, arith}
-use Rattle.std.proofs.lemmas.Bool.{eq-eqb, ne_eqb, ltb-false, cond-true, cond-false}
-use Rattle.std.specs.Option.{option_map, option_map_or}
+use Rattle.std.proofs.lemmas.Bool.{eq-eqb, ne_eqb, ltb-true, ltb-false, cond-true, cond-false}
+use Rattle.std.specs.Option.{option_map, option_map_or, option_and_then}
 use Rattle.parking_lot_core.specs.declared.parking.ParkToken.{ParkToken}
 use Rattle.parking_lot_core.specs.declared.parking.UnparkToken.{UnparkToken}
-use Rattle.parking_lot_cores.specs.Acts.{Gives, word_seen}
+use Rattle.parking_lot_cores.specs.Acts.{Gives, is_start, is_entered, is_made, word_seen, word_before, exchange_seen, spun_seen, took_seen, stored_seen, woken_seen}
 use Rattle.parking_lot_cores.specs.MutexTable as mt
 use Rattle.parking_lot_cores.specs.RwTable as rt
 use Rattle.parking_lot_cores.specs.declared.act.Act.{Act}
 use Rattle.parking_lot_cores.specs.declared.act.Act.TheVariants as act
 use Rattle.parking_lot_cores.specs.declared.act.CoreAnswer.TheVariants as answer
+use Rattle.parking_lot_cores.specs.declared.act.SectionAct.TheVariants as section
 use Rattle.parking_lot_cores.specs.declared.act.Seen.{Seen}
 use Rattle.parking_lot_cores.specs.declared.act.Seen.TheVariants as seen
 use Rattle.parking_lot_cores.specs.declared.mutex_phase.Asking.{Asking}
@@ -341,3 +342,145 @@ pub sleepers_wake : (c : Core) (k : ℕ) (token : ParkToken) (said : UnparkToken
     → (taken_count c ≡ 0) × (stance (core_next c (seen.Woken said)) ≡ Out) × (taken_count (core_next c (seen.Woken said)) ≡ 0)
 sleepers_wake (core.Mutex c) k token said e = let x = mutex_wakes c.phase k token said e in (x.0, x.1.0, x.1.1)
 sleepers_wake (core.Rw c) k token said e = let x = rw_wakes c.phase k token said e in (x.0, x.1.0, x.1.1)
+
+-- ONE THAT IS TO WAKE SOMEBODY HAS TAKEN SOMEBODY
+
+mutex_some : (p : MutexPhase) → mt.act_of p ≡ act.Section section.Wake → 1 ≤ mutex_taken p
+mutex_some (m.Wakes a) e = omega arith
+mutex_some (m.Finishes a) e = go a.again e
+  where
+    go : (b : Bool) → cond b act.Load (act.Done answer.Released) ≡ act.Section section.Wake → 1 ≤ 0
+    go true e = cc
+    go false e = cc
+mutex_some p e = cc
+
+abbrev HasSome : RwPhase → Type 0
+HasSome (r.Wakes rest count) = 1 ≤ count
+HasSome p = Unit {0}
+
+if_once : (b : Bool) (p : RwPhase) → HasSome p → HasSome (option_map_or (λ q. q) (rt.once b p) r.Strays)
+if_once true p h = h
+if_once false p h = tt
+
+if_seen : {X : Type 0} (o : Option X) (f : X → RwPhase) → ((x : X) → HasSome (f x)) → HasSome (option_map_or (λ q. q) (option_map f o) r.Strays)
+if_seen None f h = tt
+if_seen (Some x) f h = h x
+
+won_some : (p : RwPhase) (f : ℕ → RwPhase) → HasSome p → ((w : ℕ) → HasSome (f w)) → (x : Result (Unit {0}) ℕ) → HasSome (rt.won_or p f x)
+won_some p f h k (Ok u) = h
+won_some p f h k (Err w) = k w
+
+seeks_some : (a : Seeking) (word : ℕ) → HasSome (rt.seeks a word)
+seeks_some a word =
+    pick HasSome (rt.is_admitted a.want word) _ _ tt
+    (pick HasSome (rt.is_barred a.want word) _ _
+    (pick HasSome (not (rt.is_parked word || rt.is_writer_parked word) && nat_lt 0 a.rounds) _ _ tt (pick HasSome (rt.is_parked word) _ _ tt tt)) tt)
+
+drains_some : (d : Draining) (word : ℕ) → HasSome (rt.drains d word)
+drains_some d word = pick HasSome (rt.has_readers word) _ _ (pick HasSome (nat_lt 0 d.rounds) _ _ tt (pick HasSome (rt.is_writer_parked word) _ _ tt tt)) tt
+
+tries_some : (want : Want) (left word : ℕ) → HasSome (rt.tries want left word)
+tries_some want left word = pick HasSome (rt.is_tried want word) _ _ tt tt
+
+retries_some : (want : Want) (left word : ℕ) → HasSome (rt.retries want left word)
+retries_some want left word = pick HasSome (nat_lt 0 left) _ _ (tries_some want (left - 1) word) tt
+
+admits_some : (want : Want) (woken : Bool) → HasSome (rt.admits want woken)
+admits_some (want.Shared recursive) woken = tt
+admits_some want.Exclusive woken = tt
+
+over_some : (rest : Rest) → HasSome (rt.over rest)
+over_some rest.FreedShared = tt
+over_some rest.FreedExclusive = tt
+over_some rest.Downgraded = tt
+over_some rest.AgainShared = tt
+over_some rest.AgainExclusive = tt
+
+bumps_some : (want : Want) (word : ℕ) → HasSome (rt.bumps want word)
+bumps_some (want.Shared recursive) word = pick HasSome (rt.is_written word) _ _ tt tt
+bumps_some want.Exclusive word = pick HasSome (rt.is_parked word) _ _ tt tt
+
+wakes_has_some : (rest : Rest) (count : ℕ) → HasSome (rt.wakes rest count)
+wakes_has_some rest count = go (nat_lt 0 count) refl
+  where
+    go : (b : Bool) → nat_lt 0 count ≡ b → HasSome (cond b (r.Wakes rest count) (r.Finishes rest))
+    go true e = ltb-true 0 count e
+    go false e = tt
+
+goes_some : (left : Bool) (a : Scanning) → HasSome (rt.goes_on left a)
+goes_some left a = pick HasSome (left && not a.writer) (r.Scans a) (r.Stores a left) tt tt
+
+scans_some : (a : Scanning) (s : Seen) → HasSome (rt.next_phase (r.Scans a) s)
+scans_some a (seen.Took None left) = tt
+scans_some a (seen.Took (Some token) left) = if_seen (rt.with_taken a token) (rt.goes_on left) (goes_some left)
+scans_some a s = tt
+
+finishes_some : (rest : Rest) (o : Option ℕ) → HasSome (option_map_or (λ q. q) (option_and_then (λ word. rt.asks_again rest) o) r.Strays)
+finishes_some rest None = tt
+finishes_some rest.FreedShared (Some w) = tt
+finishes_some rest.FreedExclusive (Some w) = tt
+finishes_some rest.Downgraded (Some w) = tt
+finishes_some rest.AgainShared (Some w) = tt
+finishes_some rest.AgainExclusive (Some w) = tt
+
+rw_next_some : (p : RwPhase) (s : Seen) → HasSome (rt.next_phase p s)
+rw_next_some (r.Locking want) s = if_once (is_start s) _ tt
+rw_next_some (r.Trying want) s = if_once (is_start s) _ tt
+rw_next_some r.UnlockingShared s = if_once (is_start s) _ tt
+rw_next_some (r.UnlockingExclusive fair) s = if_once (is_start s) _ tt
+rw_next_some r.Downgrading s = if_once (is_start s) _ tt
+rw_next_some r.BumpingShared s = if_once (is_start s) _ tt
+rw_next_some r.BumpingExclusive s = if_once (is_start s) _ tt
+rw_next_some (r.Loads a) s = if_seen (word_seen s) _ (seeks_some a)
+rw_next_some (r.Admits a word) s = if_seen (exchange_seen s) _ (won_some _ _ (admits_some a.want false) (seeks_some a))
+rw_next_some (r.Spins a) s = if_seen (spun_seen s) (λ spun. r.Loads (record a { rounds = cond spun (a.rounds - 1) 0 })) (λ x. tt)
+rw_next_some (r.Flags a word) s = if_seen (exchange_seen s) _ (won_some (r.Enters a.want a.woken) (rt.seeks a) tt (seeks_some a))
+rw_next_some (r.Enters want woken) s = if_once (is_entered s) _ tt
+rw_next_some (r.Checks want woken) s = if_seen (word_seen s) _ (λ w. pick HasSome (rt.is_barred want w && rt.is_parked w) (r.Appends want) (r.Retreats want woken) tt tt)
+rw_next_some (r.Retreats want woken) s = if_once (is_made s) _ tt
+rw_next_some (r.Appends want) s = if_once (is_made s) _ tt
+rw_next_some (r.Rests want) s = if_once (is_made s) _ tt
+rw_next_some (r.Sleeps want) s = if_seen (woken_seen s) _ (λ (token : UnparkToken). pick HasSome (token.0 == 1) (rt.admits want true) (r.Loads (rt.begins want true)) (admits_some want true) tt)
+rw_next_some (r.Loads2 d) s = if_seen (word_seen s) _ (drains_some d)
+rw_next_some (r.Spins2 d) s = if_seen (spun_seen s) (λ spun. r.Loads2 (record d { rounds = cond spun (d.rounds - 1) 0 })) (λ x. tt)
+rw_next_some (r.Flags2 d word) s = if_seen (exchange_seen s) _ (won_some (r.Enters2 d) (rt.drains d) tt (drains_some d))
+rw_next_some (r.Enters2 d) s = if_once (is_entered s) _ tt
+rw_next_some (r.Checks2 d) s = if_seen (word_seen s) _ (λ w. pick HasSome (rt.has_readers w && rt.is_writer_parked w) (r.Appends2 d.rounds) (r.Retreats2 d) tt tt)
+rw_next_some (r.Retreats2 d) s = if_once (is_made s) _ tt
+rw_next_some (r.Appends2 rounds) s = if_once (is_made s) _ tt
+rw_next_some (r.Rests2 rounds) s = if_once (is_made s) _ tt
+rw_next_some (r.Sleeps2 rounds) s = if_seen (woken_seen s) (λ token. r.Loads2 (record { woken = true; rounds = rounds })) (λ x. tt)
+rw_next_some (r.TryLoads want) s = if_seen (word_seen s) _ (tries_some want 63)
+rw_next_some (r.TryAdmits want word left) s = if_seen (exchange_seen s) _ (won_some (r.Ends (rt.gains want)) (rt.retries want left) tt (retries_some want left))
+rw_next_some (r.Refuses want) s = tt
+rw_next_some (r.BumpLoads want) s = if_seen (word_seen s) _ (bumps_some want)
+rw_next_some (r.Relocks want) s = if_seen (word_seen s) _ (seeks_some (rt.begins want false))
+rw_next_some (r.Unshares rest) s = if_seen (word_before s) _ (λ w. pick HasSome (w / 16 == 1 && rt.is_writer_parked w) (r.Owes2 rest) (rt.over rest) tt (over_some rest))
+rw_next_some (r.Owes2 rest) s = if_once (is_entered s) _ tt
+rw_next_some (r.Takes2 rest) s = if_seen (took_seen s) (λ t. r.Masks2 rest (is_some t.token)) (λ x. tt)
+rw_next_some (r.Masks2 rest taken) s = if_seen (word_before s) (λ w. r.Leaves2 rest taken) (λ x. tt)
+rw_next_some (r.Leaves2 rest taken) s = if_once (is_made s) _ (wakes_has_some rest (mt.bit taken))
+rw_next_some (r.Unlocks fair rest) s = if_seen (exchange_seen s) _ (won_some (rt.over rest) (λ w. r.LooksExclusive fair rest) (over_some rest) (λ w. tt))
+rw_next_some (r.LooksExclusive fair rest) s = if_once (is_entered s) _ tt
+rw_next_some r.Downgrades s = if_seen (word_before s) _ (λ w. pick HasSome (rt.is_parked w) r.Owes (r.Ends outcome.Downgraded) tt tt)
+rw_next_some r.Owes s = if_once (is_entered s) _ tt
+rw_next_some (r.Scans a) s = scans_some a s
+rw_next_some (r.Stores a left) s = if_seen (stored_seen s) (λ fair. r.Leaves a.rest (rt.count_of a) (rt.hands a (a.fair || fair))) (λ x. tt)
+rw_next_some (r.Leaves rest count handed) s = if_once (is_made s) _ (wakes_has_some rest count)
+rw_next_some (r.Wakes rest count) s = if_once (is_made s) _ (wakes_has_some rest (count - 1))
+rw_next_some (r.Finishes rest) s = finishes_some rest (word_seen s)
+rw_next_some (r.Ends outcome) s = tt
+rw_next_some r.Strays s = tt
+
+rw_some : (p : RwPhase) → HasSome p → rt.act_of p ≡ act.Section section.Wake → 1 ≤ rw_taken p
+rw_some (r.Wakes rest count) h e = h
+rw_some (r.Finishes rest.FreedShared) h e = cc
+rw_some (r.Finishes rest.FreedExclusive) h e = cc
+rw_some (r.Finishes rest.Downgraded) h e = cc
+rw_some (r.Finishes rest.AgainShared) h e = cc
+rw_some (r.Finishes rest.AgainExclusive) h e = cc
+rw_some p h e = cc
+
+pub wakes_some : (c : Core) (s : Seen) → core_act (core_next c s) ≡ act.Section section.Wake → 1 ≤ taken_count (core_next c s)
+wakes_some (core.Mutex c) s e = mutex_some (mt.next_phase c.phase s) e
+wakes_some (core.Rw c) s e = rw_some (rt.next_phase c.phase s) (rw_next_some c.phase s) e

@@ -17,6 +17,8 @@ use Rattle.parking_lot_core.specs.Sound as lot
 use Rattle.parking_lot_rules.specs.Any.{AnyLock, AnySound, any_inside}
 use Rattle.parking_lot_rules.specs.Family.{Family, SoundFamilyOf}
 use Rattle.parking_lot_cores.specs.RwRules as of_rw
+use Rattle.parking_lot_cores.specs.declared.act.Act.TheVariants as act
+use Rattle.parking_lot_cores.specs.declared.act.SectionAct.TheVariants as section
 use Rattle.parking_lot_cores.specs.declared.mutex_phase.MutexPhase.{MutexPhase}
 use Rattle.parking_lot_cores.specs.declared.mutex_phase.MutexPhase.TheVariants as m
 use Rattle.parking_lot_cores.specs.declared.rw_phase.Rest.{Rest}
@@ -37,7 +39,11 @@ use Rattle.parking_lot_world.specs.declared.seat.Core.TheVariants as core
 use Rattle.parking_lot_world.specs.declared.seat.Call.{Call}
 use Rattle.parking_lot_world.specs.declared.seat.Wakeup.{Wakeup}
 use Rattle.parking_lot_world.specs.Rows.{State, word_at, hold_at, call_at, taken_by, family, one_bucket}
+<<<<<<< HEAD
 use Rattle.parking_lot_world.specs.Stances.{Doing, Looks, TurnsBack, Joins, Joined, Takes, Stores, Tells, Stance, Out, In, Asleep, stance, taken_count, has_begun}
+=======
+use Rattle.parking_lot_world.specs.Stances.{Doing, Looks, TurnsBack, Joins, Joined, Takes, Stores, Tells, Stance, Out, In, Asleep, stance, taken_count, core_act}
+>>>>>>> ac944fd308c22ece4fc212fb477b1a81fc800d58
 use Rattle.parking_lot_world.specs.RowActs.{told_of}
 
 -- THE LOT
@@ -203,6 +209,10 @@ pub record IsTaken (s : State) (e : Wakeup) : Type 0 where
 abbrev pub IsOwed : List Wakeup → ℕ → ℕ → Type 0
 IsOwed wakes by t = (n : ℕ) × (e : Wakeup) × (slice_get wakes n ≡ Some e) × (e.by ≡ by) × (e.thread ≡ t)
 
+-- one that is to wake somebody has taken somebody
+abbrev pub WakesSome : Core → Type 0
+WakesSome c = core_act c ≡ act.Section section.Wake → 1 ≤ taken_count c
+
 -- The lot's side.
 pub record LotFits (s : State) : Type 0 where
   -- the lot is sound, and each thread's place in it is the one of its stance
@@ -219,6 +229,7 @@ pub record LotFits (s : State) : Type 0 where
   pub once : (n m : ℕ) (e f : Wakeup) → slice_get s.wakes n ≡ Some e → slice_get s.wakes m ≡ Some f → e.thread ≡ f.thread → n ≡ m
   pub counted : (t : ℕ) (c : Call) → call_at s t ≡ Some c → length (taken_by s.wakes t) ≡ taken_count c.core
   pub untaken : (t : ℕ) → call_at s t ≡ None → taken_by s.wakes t ≡ []
+  pub wakeful : (t : ℕ) (c : Call) → call_at s t ≡ Some c → WakesSome c.core
 
 -- Who is off its list.
 abbrev pub is_off : Spot → Bool

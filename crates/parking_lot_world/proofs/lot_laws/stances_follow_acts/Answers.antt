@@ -1,3 +1,4 @@
+use Rattle.parking_lot_world.proofs.LotTakes.{took_fits}
 use Rattle.parking_lot_world.proofs.LotWakes.{woke_fits}
 use Rattle.parking_lot_world.proofs.LotLists.{appended_fits}
 use Rattle.parking_lot_world.proofs.LotStores.{stores_fit}
