@@ -4,3 +4,4 @@ pub mod RwWaking
 pub mod RwEnding
 pub mod RwKeeping
 pub mod RwCrossing
+pub mod RwTelling
