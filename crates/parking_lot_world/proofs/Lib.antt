@@ -5,3 +5,4 @@ pub mod RwEnding
 pub mod RwKeeping
 pub mod RwCrossing
 pub mod RwTelling
+pub mod RwSleeping

@@ -42,6 +42,9 @@ use Rattle.parking_lot_world.specs.Rows.{rw_spot}
 use Rattle.parking_lot_world.specs.RowActs.{settled_spot}
 use Rattle.parking_lot_rules.specs.Lock.{On1, to_wake}
 use Rattle.parking_lot_rules.specs.Steps.{Scan, scanning}
+use Rattle.parking_lot_core.specs.declared.parking.FilterOp.TheVariants.{Unpark}
+use Rattle.parking_lot_cores.specs.Wake.{wake_answer}
+use Rattle.parking_lot_cores.specs.RwTable.{sum_of}
 
 -- A number is a word by its parts, and a word of bits is the one of its number.
 pub record WordsAreNumbers : Type 0 where
@@ -281,3 +284,20 @@ pub record StoresTell : Type 0 where
       → role n (told_by t said at) us p ≡ settle (mark_of said) (role n (rw_spot at) us p)
   pub elsewhere : (l : Lock) (t u n : ℕ) (at : seat.Spot) (us : List ℕ) (p : RwPhase) (own : Role) (said : Told) → IsSound l → slice_get l.roles t ≡ Some own → to_wake own.does (On1 Open) ≡ [] → slice_get l.roles u ≡ Some (role n (rw_spot at) us p)
       → role n (told_by t said at) us p ≡ role n (rw_spot at) us p
+
+-- WHO SLEEPS
+
+-- what a thread is that sleeps on the first key with a token, and one that sleeps on the second
+pub record SleepsFirst (n : ℕ) (us : List ℕ) (p : RwPhase) (park : ParkToken) : Type 0 where
+  pub listed : role n Listed us p ≡ record { owns = Shares 0; does = Queued1 (mode_by park) Asleep }
+  pub off : (t : ℕ) (mark : Mark) → role n (Off t mark) us p ≡ record { owns = Shares 0; does = Taken1 (mode_by park) t mark Asleep }
+  pub token : (park.0 ≡ 16) ⊎ (park.0 ≡ 8)
+
+pub record SleepsSecond (n : ℕ) (us : List ℕ) (p : RwPhase) : Type 0 where
+  pub listed : role n Listed us p ≡ record { owns = Shares 0; does = Queued2 false Asleep }
+  pub off : (t : ℕ) (mark : Mark) → role n (Off t mark) us p ≡ record { owns = Shares 0; does = Taken2 false t Asleep }
+
+pub record SleepersAreKnown : Type 0 where
+  pub stand : (n : ℕ) (us : List ℕ) (p : RwPhase) (key : ℕ) (park : ParkToken) → rw_prepared n us p → rw_stance p ≡ stance.Asleep key park → ((key ≡ 0) × SleepsFirst n us p park) ⊎ ((key ≡ 1) × SleepsSecond n us p)
+  -- a scan that has taken nobody but readers takes whoever is first
+  pub taken : (a : Scanning) (token : ℕ) → a.upgradable ≡ false → a.writer ≡ false → (token ≡ 16) ⊎ (token ≡ 8) → wake_answer (sum_of a) token ≡ Unpark

@@ -1,5 +1,5 @@
 //! What a core is told at a sound reader-writer lock is a step of the rules there.
-ghost use Rattle.parking_lot_world.specs.RwLaws.{ActsCross, AnswersAreLast, AnswersAreMoves, BeginsAreReady, CallsKeep, EndsAreSteps, FirstsMayBeTaken, FreeSectionsAreEmpty, JoinsAreSteps, ListsAreKnown, MakesAreSteps, OnlySleepersStand, StaysAreSteps, StoresAreSteps, StoresTell, TakesAreSteps, TokensSay, TokensTell, WakesAreSteps, WokenAreTold, WordsAreNumbers, WritersAreTaken};
+ghost use Rattle.parking_lot_world.specs.RwLaws.{ActsCross, AnswersAreLast, AnswersAreMoves, BeginsAreReady, CallsKeep, EndsAreSteps, FirstsMayBeTaken, FreeSectionsAreEmpty, JoinsAreSteps, ListsAreKnown, MakesAreSteps, OnlySleepersStand, SleepersAreKnown, StaysAreSteps, StoresAreSteps, StoresTell, TakesAreSteps, TokensSay, TokensTell, WakesAreSteps, WokenAreTold, WordsAreNumbers, WritersAreTaken};
 
 /// The parts of a word and its number say the same.
 pub fn words_are_numbers()
@@ -109,4 +109,9 @@ pub fn lists_are_known()
 /// A store tells those that its thread took, and these are all that were taken at that lock and told nothing.
 pub fn stores_tell()
     ensures { StoresTell }
+{}
+
+/// A thread that sleeps stands in the list of its key as one that wants what its token says.
+pub fn sleepers_at_a_lock_are_known()
+    ensures { SleepersAreKnown }
 {}
