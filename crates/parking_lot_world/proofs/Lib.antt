@@ -28,3 +28,5 @@ pub mod LotWakes
 pub mod RwKeeping
 pub mod RwCrossing
 mod Acting
+pub mod RwTelling
+pub mod RwSleeping

@@ -36,6 +36,15 @@ use Rattle.parking_lot_rules.specs.Family.{Family, SoundFamilyOf, Crossing, Come
 use Rattle.parking_lot_rules.specs.Family as crossings
 use Rattle.parking_lot_rules.specs.Any.{AnyLock, Rw, AnySound, any_inside}
 use Rattle.parking_lot_cores.specs.declared.act.SectionAct.TheVariants.{Leave}
+use Rattle.parking_lot_world.specs.declared.seat.Spot as seat
+use Rattle.parking_lot_world.specs.declared.seat.Told.{Told}
+use Rattle.parking_lot_world.specs.Rows.{rw_spot}
+use Rattle.parking_lot_world.specs.RowActs.{settled_spot}
+use Rattle.parking_lot_rules.specs.Lock.{On1, to_wake}
+use Rattle.parking_lot_rules.specs.Steps.{Scan, scanning}
+use Rattle.parking_lot_core.specs.declared.parking.FilterOp.TheVariants.{Unpark}
+use Rattle.parking_lot_cores.specs.Wake.{wake_answer}
+use Rattle.parking_lot_cores.specs.RwTable.{sum_of}
 
 -- A number is a word by its parts, and a word of bits is the one of its number.
 pub record WordsAreNumbers : Type 0 where
@@ -262,3 +271,33 @@ Learns p s first second = Unit {0}
 pub record ListsAreKnown : Type 0 where
   pub learns : (p : RwPhase) (x : ℕ) (s : Seen) (old1 old2 first second : List Waiter) → IsTold p x s → rw_knows p old1 old2 → Learns p s first second → rw_knows (next_phase p s) first second
   pub second : (l : Lock) → IsSound l → length l.second ≤ 1
+
+-- WHO IS TOLD BY A STORE
+
+-- Where a thread stands after thread t has told all that it took.
+abbrev pub told_by : ℕ → Told → seat.Spot → Spot
+told_by t said at = rw_spot (settled_spot t said at)
+
+-- At the lock where t stores these are all that were taken and told nothing, and at a lock where t has taken nobody so there are none.
+pub record StoresTell : Type 0 where
+  pub here : (l : Lock) (t u n : ℕ) (at : seat.Spot) (us : List ℕ) (p : RwPhase) (scan : Scan) (said : Told) → IsSound l → slice_get l.roles t ≡ Some (scanning scan) → slice_get l.roles u ≡ Some (role n (rw_spot at) us p)
+      → role n (told_by t said at) us p ≡ settle (mark_of said) (role n (rw_spot at) us p)
+  pub elsewhere : (l : Lock) (t u n : ℕ) (at : seat.Spot) (us : List ℕ) (p : RwPhase) (own : Role) (said : Told) → IsSound l → slice_get l.roles t ≡ Some own → to_wake own.does (On1 Open) ≡ [] → slice_get l.roles u ≡ Some (role n (rw_spot at) us p)
+      → role n (told_by t said at) us p ≡ role n (rw_spot at) us p
+
+-- WHO SLEEPS
+
+-- what a thread is that sleeps on the first key with a token, and one that sleeps on the second
+pub record SleepsFirst (n : ℕ) (us : List ℕ) (p : RwPhase) (park : ParkToken) : Type 0 where
+  pub listed : role n Listed us p ≡ record { owns = Shares 0; does = Queued1 (mode_by park) Asleep }
+  pub off : (t : ℕ) (mark : Mark) → role n (Off t mark) us p ≡ record { owns = Shares 0; does = Taken1 (mode_by park) t mark Asleep }
+  pub token : (park.0 ≡ 16) ⊎ (park.0 ≡ 8)
+
+pub record SleepsSecond (n : ℕ) (us : List ℕ) (p : RwPhase) : Type 0 where
+  pub listed : role n Listed us p ≡ record { owns = Shares 0; does = Queued2 false Asleep }
+  pub off : (t : ℕ) (mark : Mark) → role n (Off t mark) us p ≡ record { owns = Shares 0; does = Taken2 false t Asleep }
+
+pub record SleepersAreKnown : Type 0 where
+  pub stand : (n : ℕ) (us : List ℕ) (p : RwPhase) (key : ℕ) (park : ParkToken) → rw_prepared n us p → rw_stance p ≡ stance.Asleep key park → ((key ≡ 0) × SleepsFirst n us p park) ⊎ ((key ≡ 1) × SleepsSecond n us p)
+  -- a scan that has taken nobody but readers takes whoever is first
+  pub taken : (a : Scanning) (token : ℕ) → a.upgradable ≡ false → a.writer ≡ false → (token ≡ 16) ⊎ (token ≡ 8) → wake_answer (sum_of a) token ≡ Unpark

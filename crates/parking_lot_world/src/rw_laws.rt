@@ -1,5 +1,5 @@
 //! What a core is told at a sound reader-writer lock is a step of the rules there.
-ghost use Rattle.parking_lot_world.specs.RwLaws.{ActsCross, AnswersAreLast, AnswersAreMoves, BeginsAreReady, CallsKeep, EndsAreSteps, FirstsMayBeTaken, FreeSectionsAreEmpty, JoinsAreSteps, ListsAreKnown, MakesAreSteps, OnlySleepersStand, StaysAreSteps, StoresAreSteps, TakesAreSteps, TokensSay, TokensTell, WakesAreSteps, WokenAreTold, WordsAreNumbers, WritersAreTaken};
+ghost use Rattle.parking_lot_world.specs.RwLaws.{ActsCross, AnswersAreLast, AnswersAreMoves, BeginsAreReady, CallsKeep, EndsAreSteps, FirstsMayBeTaken, FreeSectionsAreEmpty, JoinsAreSteps, ListsAreKnown, MakesAreSteps, OnlySleepersStand, SleepersAreKnown, StaysAreSteps, StoresAreSteps, StoresTell, TakesAreSteps, TokensSay, TokensTell, WakesAreSteps, WokenAreTold, WordsAreNumbers, WritersAreTaken};
 
 /// The parts of a word and its number say the same.
 pub fn words_are_numbers()
@@ -104,4 +104,14 @@ pub fn free_sections_are_empty()
 /// One that takes waiters knows of its list what it needs for the store.
 pub fn lists_are_known()
     ensures { ListsAreKnown }
+{}
+
+/// A store tells those that its thread took, and these are all that were taken at that lock and told nothing.
+pub fn stores_tell()
+    ensures { StoresTell }
+{}
+
+/// A thread that sleeps stands in the list of its key as one that wants what its token says.
+pub fn sleepers_at_a_lock_are_known()
+    ensures { SleepersAreKnown }
 {}
