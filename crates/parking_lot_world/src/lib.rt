@@ -4,6 +4,7 @@
 mod calls;
 mod fault;
 mod mutex_laws;
+mod owning;
 mod row_machine;
 mod seat;
 mod step;
