@@ -6,4 +6,4 @@ pub mod RowSteps
 pub mod MutexLaws
 pub mod Faults
 pub mod Calls
-pub mod Owning
+pub mod CallViews

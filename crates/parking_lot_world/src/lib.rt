@@ -1,10 +1,10 @@
 //! Worlds of locks: threads' calls at locks, one atomic step at a time, by any schedule.
 #![tactic(auto)]
 
+mod call_views;
 mod calls;
 mod fault;
 mod mutex_laws;
-mod owning;
 mod row_machine;
 mod seat;
 mod step;

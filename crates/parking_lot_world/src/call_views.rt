@@ -7,7 +7,7 @@ ghost use Rattle.parking_lot_rules.specs.Owners.{Reading, owner_for_good, owner_
 ghost use Rattle.parking_lot_cores.specs.MutexRules as of_mutex;
 ghost use Rattle.parking_lot_cores.specs.RwRules as of_rw;
 ghost use Rattle.parking_lot_cores.specs.declared.rw_phase.RwPhase.TheVariants as phase;
-ghost use Rattle.parking_lot_world.specs.Owning.{call_asleep, call_in_debt, call_looks, call_mode, mode_of, mutex_mode, rw_mode};
+ghost use Rattle.parking_lot_world.specs.CallViews.{call_asleep, call_in_debt, call_looks, call_mode, mode_of, mutex_mode, rw_mode};
 ghost use Rattle.parking_lot_world.specs.Rows.{mutex_spot, rw_spot};
 ghost use Rattle.parking_lot_world.specs.Stances.{rw_taken, taken_count};
 
