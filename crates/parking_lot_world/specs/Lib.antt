@@ -9,3 +9,4 @@ pub mod RwLaws
 pub mod MutexLaws
 pub mod Faults
 pub mod Calls
+pub mod CallViews

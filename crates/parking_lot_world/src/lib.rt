@@ -2,6 +2,7 @@
 #![tactic(auto)]
 
 mod acts;
+mod call_views;
 mod calls;
 mod laws;
 mod lot_laws;
