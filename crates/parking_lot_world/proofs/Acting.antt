@@ -37,14 +37,14 @@ use Rattle.parking_lot_world.proofs.OwnActs.{own_rw, own_mutex}
 use Rattle.parking_lot_world.proofs.WakesKept.{wakes_own}
 
 -- A thread's own act, of which the lot's side is known.
-module _ (s u : State) (t : ℕ) (c : Call) (told : Seen) (h : FitsTogether s) (a : OwnAct s u t c told (core_next c.core told) c.spot) (gives : Gives (core_act c.core) (word_at s c.lock) told)
+module _ (s u : State) (t : ℕ) (c : Call) (told : Seen) (h : FitsTogether s) (a : OwnAct s u t c told (core_next c.core told) c.spot) (lists_same : (key : ℕ) → u.lot.queues key ≡ s.lot.queues key) (gives : Gives (core_act c.core) (word_at s c.lock) told)
     (own : IsOwnAct (core_act c.core)) (around : AfterAct (core_act c.core) t (inside s) (inside u)) (lots : LotFits u) where
   by_core : (x : Core) → c.core ≡ x → RulesFit u × Goes t c told s u
   by_core (core.Rw k) e =
-      own_rw s u t h c told k e (subst (λ (x : Core). OwnAct s u t c told (core_next x told) c.spot) e a) (subst (λ (x : Core). Gives (core_act x) (word_at s c.lock) told) e gives)
+      own_rw s u t h c told k e (subst (λ (x : Core). OwnAct s u t c told (core_next x told) c.spot) e a) lists_same (subst (λ (x : Core). Gives (core_act x) (word_at s c.lock) told) e gives)
       (subst (λ (x : Core). IsOwnAct (core_act x)) e own) (subst (λ (x : Core). AfterAct (core_act x) t (inside s) (inside u)) e around)
   by_core (core.Mutex k) e =
-      own_mutex s u t h c told k e (subst (λ (x : Core). OwnAct s u t c told (core_next x told) c.spot) e a) (subst (λ (x : Core). Gives (core_act x) (word_at s c.lock) told) e gives)
+      own_mutex s u t h c told k e (subst (λ (x : Core). OwnAct s u t c told (core_next x told) c.spot) e a) lists_same (subst (λ (x : Core). Gives (core_act x) (word_at s c.lock) told) e gives)
       (subst (λ (x : Core). IsOwnAct (core_act x)) e own) (subst (λ (x : Core). AfterAct (core_act x) t (inside s) (inside u)) e around)
 
   pub own_act : (what : Seen) × Acts t c what s u
@@ -111,9 +111,10 @@ module _ (s : State) (t : ℕ) (c : Call) (told : Seen) (x : Act) (asked : core_
         sizes = refl;
         word = sym (ap (λ y. word_after y told (word_at s c.lock)) asked ∙ same);
         words = λ i ne. refl;
-        queues = λ key. refl;
+        queues = λ i k ne b. refl;
         listed = λ k token e. never _ k token _ leads.1 e;
       })
+      (λ key. refl)
       (subst (λ (y : Act). Gives y (word_at s c.lock) told) (sym asked) gives) (subst IsOwnAct (sym asked) own) (subst (λ (y : Act). AfterAct y t (inside s) (inside s)) (sym asked) (around (inside s)))
       (stays_out s t c told h.lots here leads)
 
@@ -129,9 +130,10 @@ module _ (s : State) (t : ℕ) (c : Call) (told : Seen) (x : Act) (asked : core_
         sizes = length-set s.words c.lock word;
         word = word-here s.words c.lock word (has_word s h t c here) ∙ sym (ap (λ y. word_after y told (word_at s c.lock)) asked ∙ is);
         words = λ i ne. word-elsewhere s.words c.lock word i ne;
-        queues = λ key. refl;
+        queues = λ i k ne b. refl;
         listed = λ k token e. never _ k token _ leads.1 e;
       })
+      (λ key. refl)
       (subst (λ (y : Act). Gives y (word_at s c.lock) told) (sym asked) gives) (subst IsOwnAct (sym asked) own) (subst (λ (y : Act). AfterAct y t (inside s) (inside s)) (sym asked) (around (inside s)))
       (same_parts (with_call s t (hears c told)) (with_word (with_call s t (hears c told)) c.lock word) refl refl refl (stays_out s t c told h.lots here leads))
 
@@ -172,9 +174,10 @@ enter s t c key asked free sound h here =
       sizes = refl;
       word = sym (ap (λ y. word_after y seen.Entered (word_at s c.lock)) asked);
       words = λ i ne. refl;
-      queues = λ k. refl;
+      queues = λ i k ne b. refl;
       listed = λ k token e. elim leads.1 [ | inl x ↦ awake_never _ key _ k token _ x e | inr x ↦ awake_never _ key _ k token _ x e ];
     })
+    (λ key. refl)
     (subst (λ (y : Act). Gives y (word_at s c.lock) seen.Entered) (sym asked) tt) (subst IsOwnAct (sym asked) tt)
     (subst (λ (y : Act). AfterAct y t (inside s) (inside (entered s t c key))) (sym asked) (ap (option_and_then (λ x. x.thread)) free, refl))
     (entered_fits s t c h.lots here key free sound leads.0 leads.1 leads.2)
@@ -192,9 +195,10 @@ check s t c asked sound h here =
       sizes = refl;
       word = sym (ap (λ y. word_after y told (word_at s c.lock)) asked);
       words = λ i ne. refl;
-      queues = λ k. refl;
+      queues = λ i k ne b. refl;
       listed = λ k token e. elim leads.2 [ | inl x ↦ awake_never _ leads.0 _ k token _ x e | inr x ↦ awake_never _ leads.0 _ k token _ x.1 e ];
     })
+    (λ key. refl)
     (subst (λ (y : Act). Gives y (word_at s c.lock) told) (sym asked) refl) (subst IsOwnAct (sym asked) tt)
     (subst (λ (y : Act). AfterAct y t (inside s) (inside (checked s t c))) (sym asked) (still_inside s.lot.section _))
     (checked_fits s t c h.lots here leads.0 leads.1 leads.3 sound leads.2 leads.4)
@@ -211,9 +215,10 @@ leave s t c asked sound h here =
       sizes = refl;
       word = sym (ap (λ y. word_after y seen.Made (word_at s c.lock)) asked);
       words = λ i ne. refl;
-      queues = λ k. refl;
+      queues = λ i k ne b. refl;
       listed = λ k token e. listed_as leads k token e;
     })
+    (λ key. refl)
     (subst (λ (y : Act). Gives y (word_at s c.lock) seen.Made) (sym asked) tt) (subst IsOwnAct (sym asked) tt)
     (subst (λ (y : Act). AfterAct y t (inside s) None) (sym asked) refl)
     (left_fits s t c h.lots here sound leads)

@@ -40,7 +40,7 @@ use Rattle.parking_lot_cores.specs.declared.mutex_phase.MutexPhase.{MutexPhase}
 use Rattle.parking_lot_cores.specs.declared.mutex_phase.MutexPhase.TheVariants as m
 use Rattle.parking_lot_cores.specs.MutexRules as of_mutex
 use Rattle.parking_lot_rules.specs.Family.{Crossing}
-use Rattle.parking_lot_world.specs.MutexLaws.{Plays, IsOwnStep, is_own, crossing_of}
+use Rattle.parking_lot_world.specs.MutexLaws.{Plays, IsOwnStep, is_own, crossing_of, mutex_of, word_next}
 use Rattle.parking_lot_world.proofs.MutexMoving.{steps}
 use Rattle.parking_lot_world.proofs.MutexRoles.{words}
 use Rattle.parking_lot_world.proofs.Everybody.{get-all}
@@ -52,7 +52,7 @@ use Rattle.parking_lot_world.proofs.Owning.{OwnAct, own-there, own-elsewhere, mu
 use Rattle.parking_lot_world.proofs.Knowing.{rw_learns, mutex_learns}
 use Rattle.parking_lot_world.proofs.RwCrossing.{lists_are_known}
 use Rattle.parking_lot_world.proofs.RwKeeping.{calls_keep}
-use Rattle.parking_lot_world.proofs.Ruling.{rules_own, rw_move_sound, mutex_move_sound}
+use Rattle.parking_lot_world.proofs.Ruling.{rules_own, others_know, rw_move_sound, mutex_move_sound}
 
 -- NOBODY IS INSIDE
 
@@ -116,7 +116,7 @@ module _ (s u : State) (t : ℕ) (h : FitsTogether s) where
   finds act.Sleep i own around e = tt
   finds (act.Done answer) i own around e = tt
 
-  module _ (c : Call) (told : Seen) (k : RwCore) (e : c.core ≡ core.Rw k) (a : OwnAct s u t c told (core_next (core.Rw k) told) c.spot)
+  module _ (c : Call) (told : Seen) (k : RwCore) (e : c.core ≡ core.Rw k) (a : OwnAct s u t c told (core_next (core.Rw k) told) c.spot) (lists_same : (key : ℕ) → u.lot.queues key ≡ s.lot.queues key)
       (gives : Gives (of_rw_table.act_of k.phase) (word_at s c.lock) told) (own : IsOwnAct (of_rw_table.act_of k.phase))
       (around : AfterAct (of_rw_table.act_of k.phase) t (inside s) (inside u)) where
     rw_kind : slice_get s.kinds c.lock ≡ Some kind.Rw
@@ -126,7 +126,7 @@ module _ (s u : State) (t : ℕ) (h : FitsTogether s) where
     rw_heard = rw_told k.phase (word_at s c.lock) told (subst (λ (x : Core). has_begun x ≡ true) e (h.rules.begun t c a.here)) own gives
 
     rw_made : IsRwMove (of_rw.move c.others (taken_by s.wakes t) k.phase told) c.lock t s u
-    rw_made = rw_goes s u t c told k c.spot e a h refl rw_heard own (finds (of_rw_table.act_of k.phase) c.lock own around rw_kind) around rw_kind
+    rw_made = rw_goes s u t c told k c.spot e a h lists_same refl rw_heard own (finds (of_rw_table.act_of k.phase) c.lock own around rw_kind) around rw_kind
 
     rw_prepared : IsPrepared c.others (core_next (core.Rw k) told)
     rw_prepared =
@@ -140,7 +140,7 @@ module _ (s u : State) (t : ℕ) (h : FitsTogether s) where
 
     pub own_rw : RulesFit u × Goes t c told s u
     own_rw =
-        (rules_own s u t c told (core_next (core.Rw k) told) c.spot a h (λ o x. subst (IsOfKind o) e x) rw_prepared knows (goes_on (core.Rw k) told)
+        (rules_own s u t c told (core_next (core.Rw k) told) c.spot a h (others_know s u t c told _ c.spot a h lists_same) (λ o x. subst (IsOfKind o) e x) rw_prepared knows (goes_on (core.Rw k) told)
         (λ m. absurd (two_kinds (sym rw_kind ∙ m))) (rw_move_sound s u t c.lock (of_rw.move c.others (taken_by s.wakes t) k.phase told) rw_made h.rules.sound),
         subst (λ (x : Core). IsMoveOf x c.others (taken_by s.wakes t) told c.lock t s u) (sym e) rw_made)
 
@@ -215,7 +215,7 @@ plays s h t c k e here =
           ∙ ap Some (ap (mutex_role_in c.lock (taken_by s.wakes t) (hold_at s t c.lock)) here ∙ mutex_there (taken_by s.wakes t) (hold_at s t c.lock) c ∙ ap (mutex_core_role c.spot (taken_by s.wakes t)) e);
     }
 
-module _ (s u : State) (t : ℕ) (h : FitsTogether s) (c : Call) (told : Seen) (k : MutexCore) (e : c.core ≡ core.Mutex k) (a : OwnAct s u t c told (core_next (core.Mutex k) told) c.spot)
+module _ (s u : State) (t : ℕ) (h : FitsTogether s) (c : Call) (told : Seen) (k : MutexCore) (e : c.core ≡ core.Mutex k) (a : OwnAct s u t c told (core_next (core.Mutex k) told) c.spot) (lists_same : (key : ℕ) → u.lot.queues key ≡ s.lot.queues key)
     (gives : Gives (of_mutex_table.act_of k.phase) (word_at s c.lock) told) (own : IsOwnAct (of_mutex_table.act_of k.phase))
     (around : AfterAct (of_mutex_table.act_of k.phase) t (inside s) (inside u)) where
   abbrev taken_first : ℕ
@@ -233,13 +233,13 @@ module _ (s u : State) (t : ℕ) (h : FitsTogether s) (c : Call) (told : Seen) (
   mutex_made : IsMutexMove (of_mutex.move taken_first k.phase told) (taken_by s.wakes t) c.lock t s u
   mutex_made =
       mutex_goes s u t c.lock taken_first (taken_by s.wakes t) _ (of_mutex.move taken_first k.phase told) (own-there s u t c told _ c.spot a) (own-elsewhere s u t c told _ c.spot a) mutex_kind own_step.leads
-      (mutex_after s u t c told k c.spot e a)
+      (mutex_after s u t c told k c.spot e a ∙ ap (λ q. mutex_of (word_next k.phase told (word_at s c.lock)) (slice_set (mutex_at s c.lock).roles t (of_mutex.role of_mutex.Listed taken_first (of_mutex_table.next_phase k.phase told))) q) (ap threads_of (lists_same (2 * c.lock))))
       (subst (λ (x : Crossing). Crossed x t (inside s) (inside u)) (sym own_step.crossing) (around_mutex (of_mutex_table.act_of k.phase) t (inside s) (inside u) around))
       (own_tells taken_first (taken_by s.wakes t) k.phase told own)
 
   pub own_mutex : RulesFit u × Goes t c told s u
   own_mutex =
-      (rules_own s u t c told (core_next (core.Mutex k) told) c.spot a h (λ o x. subst (IsOfKind o) e x) (subst (IsPrepared c.others) e (h.rules.prepared t c a.here)) (mutex_learns (core.Mutex k) (of_mutex_table.next_phase k.phase told) (word_at s c.lock) told refl refl own gives (u.lot.queues (2 * c.lock))) (goes_on (core.Mutex k) told)
+      (rules_own s u t c told (core_next (core.Mutex k) told) c.spot a h (others_know s u t c told _ c.spot a h lists_same) (λ o x. subst (IsOfKind o) e x) (subst (IsPrepared c.others) e (h.rules.prepared t c a.here)) (mutex_learns (core.Mutex k) (of_mutex_table.next_phase k.phase told) (word_at s c.lock) told refl refl own gives (u.lot.queues (2 * c.lock))) (goes_on (core.Mutex k) told)
       (λ m. subst (λ n. n < 4) (sym (a.word ∙ ap (λ x. word_after (core_act x) told (word_at s c.lock)) e)) own_step.small)
       (mutex_move_sound s u t c.lock (taken_by s.wakes t) (of_mutex.move taken_first k.phase told) mutex_made h.rules.sound),
       subst (λ (x : Core). IsMoveOf x c.others (taken_by s.wakes t) told c.lock t s u) (sym e) mutex_made)

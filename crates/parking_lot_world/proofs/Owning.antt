@@ -55,7 +55,7 @@ pub record OwnAct (s u : State) (t : ℕ) (c : Call) (told : Seen) (next : Core)
   pub sizes : length u.words ≡ length s.words
   pub word : word_at u c.lock ≡ word_after (core_act c.core) told (word_at s c.lock)
   pub words : (i : ℕ) → i ≢ c.lock → word_at u i ≡ word_at s i
-  pub queues : (key : ℕ) → u.lot.queues key ≡ s.lot.queues key
+  pub queues : (i k : ℕ) → i ≢ c.lock → k < 2 → u.lot.queues (2 * i + k) ≡ s.lot.queues (2 * i + k)
   -- one that falls asleep is in its list
   pub listed : (k : ℕ) (token : ParkToken) → stance next ≡ Asleep k token → at ≡ spot.Listed
 
@@ -74,7 +74,7 @@ module _ (s u : State) (t : ℕ) (c : Call) (told : Seen) (next : Core) (at : Sp
     kinds = a.kinds;
     threads = ap length a.calls ∙ length-set s.calls t (Some call_after);
     words = a.words;
-    queues = λ i k ne b. a.queues (2 * i + k);
+    queues = a.queues;
     holds = λ x i ne. same-holds s u a.kinds a.holds x i;
     calls = λ x. elim (cases_eq x t) [
       | inl e ↦ inr (subst (λ n. IsThere c.lock (call_at s n)) (sym e) (subst (IsThere c.lock) (sym a.here) refl), subst (λ n. IsThere c.lock (call_at u n)) (sym e) (subst (IsThere c.lock) (sym own-here) refl))
@@ -121,18 +121,23 @@ module _ (s u : State) (t : ℕ) (c : Call) (told : Seen) (k : RwCore) (at : Spo
       ∙ ap (rw_role_in c.lock (taken_by s.wakes x) (hold_at s x c.lock)) (own-others s u t c told _ at a x ne)
 
   -- the lock after it
-  pub rw_after : rw_lock_at u c.lock ≡ with_role (rw_lock_at s c.lock) (word_after (act_of k.phase) told (word_at s c.lock)) t next_role
+  pub rw_after : rw_lock_at u c.lock ≡ record (with_role (rw_lock_at s c.lock) (word_after (act_of k.phase) told (word_at s c.lock)) t next_role) { first = queue_at u (2 * c.lock); second = queue_at u (2 * c.lock + 1) }
   rw_after =
       same_rw _ _ _ _ _ _ _ _ (ap word_of (a.word ∙ ap (λ x. word_after (core_act x) told (word_at s c.lock)) e))
       (ap (λ n. all (rw_role_at u c.lock) 0 n) (own-elsewhere s u t c told _ at a).threads
       ∙ change-all (rw_role_at s c.lock) (rw_role_at u c.lock) (length s.calls) t (in_range s t c a.here) (λ x b ne. rw_role_others x ne)
       ∙ ap (slice_set (all (rw_role_at s c.lock) 0 (length s.calls)) t) rw_role_after)
-      (ap threads_of (a.queues (2 * c.lock))) (ap threads_of (a.queues (2 * c.lock + 1)))
+      refl refl
+
+  -- where its lists stay
+  pub rw_after_quietly : ((key : ℕ) → u.lot.queues key ≡ s.lot.queues key) → rw_lock_at u c.lock ≡ with_role (rw_lock_at s c.lock) (word_after (act_of k.phase) told (word_at s c.lock)) t next_role
+  rw_after_quietly same =
+      rw_after ∙ same_rw _ _ _ _ _ _ _ _ refl refl (ap threads_of (same (2 * c.lock))) (ap threads_of (same (2 * c.lock + 1)))
 
   -- and what the act is
-  pub rw_goes : FitsTogether s → at ≡ c.spot → of_rw.IsTold k.phase (word_at s c.lock) told → IsOwnAct (act_of k.phase) → Finds (act_of k.phase) (rw_lock_at s c.lock) → AfterAct (act_of k.phase) t (inside s) (inside u)
+  pub rw_goes : FitsTogether s → ((key : ℕ) → u.lot.queues key ≡ s.lot.queues key) → at ≡ c.spot → of_rw.IsTold k.phase (word_at s c.lock) told → IsOwnAct (act_of k.phase) → Finds (act_of k.phase) (rw_lock_at s c.lock) → AfterAct (act_of k.phase) t (inside s) (inside u)
       → slice_get s.kinds c.lock ≡ Some kind.Rw → IsRwMove (of_rw.move c.others us k.phase told) c.lock t s u
-  rw_goes h same heard own found around kind_is = go (of_rw.move c.others us k.phase told) refl
+  rw_goes h lists_same same heard own found around kind_is = go (of_rw.move c.others us k.phase told) refl
     where
       here : Meets (rw_lock_at s c.lock) t c.others (rw_spot c.spot) us k.phase (word_at s c.lock)
       here = meets s h t c k e a.here
@@ -141,7 +146,7 @@ module _ (s u : State) (t : ℕ) (c : Call) (told : Seen) (k : RwCore) (at : Spo
       stays : of_rw.move c.others us k.phase told ≡ of_rw.Stays → rw_lock_at u c.lock ≡ rw_lock_at s c.lock
       stays eq =
           let kept = stays_are_steps (rw_lock_at s c.lock) t c.others (rw_spot c.spot) us k.phase (word_at s c.lock) told here heard eq in
-          rw_after
+          rw_after_quietly lists_same
           ∙ ap (λ x. with_role (rw_lock_at s c.lock) x t next_role) kept.1
           ∙ ap (with_role (rw_lock_at s c.lock) (word_at s c.lock) t) (sym (lists c.others us (next_phase k.phase told) c.spot (λ key token z. sym same ∙ a.listed key token z)) ∙ kept.0)
           ∙ ap (λ rs. record (rw_lock_at s c.lock) { roles = rs }) (set-same (rw_lock_at s c.lock).roles t _ here.here)
@@ -149,7 +154,7 @@ module _ (s u : State) (t : ℕ) (c : Call) (told : Seen) (k : RwCore) (at : Spo
       go of_rw.Stays eq = quiet_rw s u t c.lock (own-there s u t c told _ at a) (own-elsewhere s u t c told _ at a) kind_is (stays eq) (around_move of_rw.Stays eq)
       go (of_rw.Makes m) eq =
           let step = makes_are_steps (rw_lock_at s c.lock) t c.others (rw_spot c.spot) us k.phase (word_at s c.lock) told m here heard eq found in
-          made_rw s u t c.lock (own-there s u t c told _ at a) (own-elsewhere s u t c told _ at a) (Alone m) kind_is step.0 (rw_after ∙ sym step.1) (around_move (of_rw.Makes m) eq)
+          made_rw s u t c.lock (own-there s u t c told _ at a) (own-elsewhere s u t c told _ at a) (Alone m) kind_is step.0 (rw_after_quietly lists_same ∙ sym step.1) (around_move (of_rw.Makes m) eq)
       go (of_rw.Joins m) eq = absurd (around_move (of_rw.Joins m) eq)
       go (of_rw.TakesOne m) eq = absurd (around_move (of_rw.TakesOne m) eq)
       go of_rw.TakesWriter eq = absurd (around_move of_rw.TakesWriter eq)
@@ -186,10 +191,10 @@ module _ (s u : State) (t : ℕ) (c : Call) (told : Seen) (k : MutexCore) (at : 
       ∙ ap (mutex_role_in c.lock (taken_by s.wakes x) (hold_at s x c.lock)) (own-others s u t c told _ at a x ne)
 
   -- the mutex after it
-  pub mutex_after : mutex_at u c.lock ≡ mutex_of (word_next k.phase told (word_at s c.lock)) (slice_set (mutex_at s c.lock).roles t mutex_next_role) (mutex_at s c.lock).queue
+  pub mutex_after : mutex_at u c.lock ≡ mutex_of (word_next k.phase told (word_at s c.lock)) (slice_set (mutex_at s c.lock).roles t mutex_next_role) (queue_at u (2 * c.lock))
   mutex_after =
       same_mutex _ _ _ _ _ _ (ap mutex_word_of (a.word ∙ ap (λ x. word_after (core_act x) told (word_at s c.lock)) e))
       (ap (λ n. all (mutex_role_at u c.lock) 0 n) (own-elsewhere s u t c told _ at a).threads
       ∙ change-all (mutex_role_at s c.lock) (mutex_role_at u c.lock) (length s.calls) t (in_range s t c a.here) (λ x b ne. mutex_role_others x ne)
       ∙ ap (slice_set (all (mutex_role_at s c.lock) 0 (length s.calls)) t) mutex_role_after)
-      (ap threads_of (a.queues (2 * c.lock)))
+      refl

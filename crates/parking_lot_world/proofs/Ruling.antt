@@ -97,19 +97,23 @@ module _ (s u : State) (t : ℕ) (c : Call) (told : Seen) (next : Core) (at : Sp
   d = call_after s u t c told next at a
 
   -- what holds of every call
-  calls-after : (P : ℕ → Call → Type 0) → ((v : ℕ) (e : Call) → call_at s v ≡ Some e → P v e) → P t d → (v : ℕ) (e : Call) → call_at u v ≡ Some e → P v e
+  calls-after : (P : ℕ → Call → Type 0) → ((v : ℕ) (e : Call) → v ≢ t → call_at s v ≡ Some e → P v e) → P t d → (v : ℕ) (e : Call) → call_at u v ≡ Some e → P v e
   calls-after P others this v e here =
-      calls-change P s.calls t c d a.here (λ x f ne at_x. others x f at_x) this v e (sym (ap (λ cs. call_of cs v) a.calls) ∙ here)
+      calls-change P s.calls t c d a.here others this v e (sym (ap (λ cs. call_of cs v) a.calls) ∙ here)
 
-  pub rules_own : ((k : Option LockKind) → IsOfKind k c.core → IsOfKind k next) → IsPrepared c.others next → KnowsList next u.lot.queues c.lock → has_begun next ≡ true
+  -- of the other calls, where no list changes
+  pub others_know : ((key : ℕ) → u.lot.queues key ≡ s.lot.queues key) → (v : ℕ) (e : Call) → v ≢ t → call_at s v ≡ Some e → KnowsList e.core u.lot.queues e.lock
+  others_know same v e ne here = knows_same s.lot.queues u.lot.queues same e.core e.lock (h.rules.knows v e here)
+
+  pub rules_own : ((v : ℕ) (e : Call) → v ≢ t → call_at s v ≡ Some e → KnowsList e.core u.lot.queues e.lock) → ((k : Option LockKind) → IsOfKind k c.core → IsOfKind k next) → IsPrepared c.others next → KnowsList next u.lot.queues c.lock → has_begun next ≡ true
       → (slice_get s.kinds c.lock ≡ Some kind.Mutex → word_at u c.lock < 4) → IsSoundState u → RulesFit u
-  rules_own same_kind prepared knows begun bits sound = rules_after s u c.lock h.rules (record {
+  rules_own others same_kind prepared knows begun bits sound = rules_after s u c.lock h.rules (record {
     kinds = a.kinds;
     threads = ap length a.calls ∙ length-set s.calls t (Some d);
     holds = ap length a.holds;
     words = a.sizes;
     calls = calls-after (λ v e. CallFits s.kinds u.lot.queues e)
-        (λ v e here. let f = call_fits s h.rules v e here in record { kind = f.kind; prepared = f.prepared; knows = knows_same s.lot.queues u.lot.queues a.queues e.core e.lock f.knows; beside = f.beside; begun = f.begun })
+        (λ v e ne here. let f = call_fits s h.rules v e here in record { kind = f.kind; prepared = f.prepared; knows = others v e ne here; beside = f.beside; begun = f.begun })
         (record { kind = same_kind (slice_get s.kinds c.lock) (h.rules.kinds t c a.here); prepared = prepared; knows = knows; beside = h.rules.beside t c a.here; begun = begun });
     few = λ x i n e. h.rules.few x i n (sym (same-holds s u a.kinds a.holds x i) ∙ e);
     elsewhere = a.words;
