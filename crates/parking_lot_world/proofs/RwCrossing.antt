@@ -1,18 +1,15 @@
 -- Sections and lists: what moves do to them, and what is known of them.
-use Rattle.std.proofs.Common.{◌≡◌, ◌≢◌, ◌≤◌, ◌<◌, ℕ, zero, suc, ◌+◌, ◌/◌, ◌==◌, ◌&&◌, ◌⊎◌, inl, inr, not, min, Bool, true, false, cond, List, [], ◌∷◌, length, Option, Some, None, slice_get, refl, sym, ap, ◌∙◌, subst, arith, ◌||◌, ◌^◌, ◌-◌, nat_lt}
+use Rattle.std.proofs.Common.{◌≡◌, ◌≤◌, ℕ, zero, suc, ◌+◌, ◌/◌, ◌==◌, ◌&&◌, ◌⊎◌, inl, inr, not, min, Bool, true, false, cond, List, Some, None, refl, sym, ap, ◌∙◌, subst, arith, ◌||◌, ◌^◌, ◌-◌, nat_lt}
 use Rattle.std.specs.Option.{option_map_or}
 use Rattle.std.proofs.lemmas.Option.{none-some}
 use Rattle.parking_lot_core.specs.Results.{is_left}
 use Rattle.parking_lot_core.specs.declared.parking.ParkToken.{ParkToken}
 use Rattle.parking_lot_core.specs.declared.place.Waiter.{Waiter}
-use Rattle.parking_lot_rules.specs.Roles.{Role}
-use Rattle.parking_lot_rules.specs.Classes.{Class, Inside1, Inside2, weight, total, weighs}
-use Rattle.parking_lot_rules.specs.Plain as plain
-use Rattle.parking_lot_rules.specs.Lock.{Lock, IsSound}
+use Rattle.parking_lot_rules.specs.Classes.{Inside1, Inside2, weight, total, weighs}
+use Rattle.parking_lot_rules.specs.Lock.{IsSound}
 use Rattle.parking_lot_rules.specs.Family.{Family, SoundFamilyOf, Key, First, Second, section, Crossing, Comes, Goes, crossing}
 use Rattle.parking_lot_rules.specs.Family as crossings
-use Rattle.parking_lot_rules.specs.Any.{AnyLock, Rw, AnySound, any_inside}
-use Rattle.parking_lot_rules.specs.Steps.{Alone}
+use Rattle.parking_lot_rules.specs.Any.{AnySound, any_inside}
 use Rattle.parking_lot_rules.proofs.Totals.{total-at}
 use Rattle.parking_lot_cores.specs.declared.act.Seen.{Seen}
 use Rattle.parking_lot_cores.specs.declared.act.Seen.TheVariants as seen
@@ -22,15 +19,14 @@ use Rattle.parking_lot_cores.specs.declared.rw_phase.Rest.{Rest}
 use Rattle.parking_lot_cores.specs.declared.rw_phase.Rest.TheVariants.{FreedShared, FreedExclusive, Downgraded, AgainShared, AgainExclusive}
 use Rattle.parking_lot_cores.specs.declared.rw_phase.Scanning.{Scanning}
 use Rattle.parking_lot_cores.specs.declared.rw_phase.RwPhase.{RwPhase}
-use Rattle.parking_lot_cores.specs.declared.rw_phase.RwPhase.TheVariants.{Locking, Trying, UnlockingShared, UnlockingExclusive, Downgrading, BumpingShared, BumpingExclusive, Loads, Admits, Spins, Flags, Enters, Checks, Retreats, Appends, Rests, Sleeps, Loads2, Spins2, Flags2, Enters2, Checks2, Retreats2, Appends2, Rests2, Sleeps2, TryLoads, TryAdmits, Refuses, BumpLoads, Relocks, Unshares, Owes2, Takes2, Masks2, Leaves2, Unlocks, LooksExclusive, Downgrades, Owes, Scans, Stores, Leaves, Wakes, Finishes, Ends, Strays}
+use Rattle.parking_lot_cores.specs.declared.rw_phase.RwPhase.TheVariants.{Locking, Trying, UnlockingShared, UnlockingExclusive, Downgrading, BumpingShared, BumpingExclusive, Loads, Admits, Spins, Flags, Enters, Checks, Retreats, Appends, Rests, Sleeps, Loads2, Spins2, Flags2, Enters2, Checks2, Retreats2, Appends2, Rests2, Sleeps2, TryLoads, TryAdmits, BumpLoads, Relocks, Unshares, Owes2, Takes2, Masks2, Leaves2, Unlocks, LooksExclusive, Downgrades, Owes, Scans, Stores, Leaves, Wakes, Finishes, Strays}
 use Rattle.parking_lot_cores.specs.RwTable.{act_of, next_phase, is_parked, is_writer_parked, is_barred, has_readers, goes_on, scans, is_written, is_admitted, is_tried, seeks, drains, tries, begins, admits, bumps, over, wakes}
-use Rattle.parking_lot_cores.specs.RwRules.{Spot, Listed, Off, role, Move, Stays, Makes, move, admission, try_admission, mode_of, IsTold}
+use Rattle.parking_lot_cores.specs.RwRules.{Spot, Listed, Off, role, Move, Makes, move, admission, try_admission, IsTold}
 use Rattle.parking_lot_rules.specs.Clauses.{Fits}
 use Rattle.parking_lot_cores.specs.declared.rw_phase.Seeking.{Seeking}
 use Rattle.parking_lot_cores.specs.declared.rw_phase.Draining.{Draining}
 use Rattle.parking_lot_cores.specs.MutexTable.{bit}
-use Rattle.parking_lot_world.specs.Rows.{one_bucket}
-use Rattle.parking_lot_world.specs.Stances.{Stance, rw_stance}
+use Rattle.parking_lot_world.specs.Stances.{rw_stance}
 use Rattle.parking_lot_world.specs.RowFits.{rw_knows}
 use Rattle.parking_lot_world.specs.RwLaws.{NobodyIs, act_crossing, move_crossing, in_first, in_second, ActsCross, FreeSectionsAreEmpty, Learns, ListsAreKnown}
 use Rattle.parking_lot_world.proofs.RwKeeping.{one_of}

@@ -1,21 +1,16 @@
 -- Where calls begin and end.
-use Rattle.std.proofs.Common.{◌≡◌, ◌≢◌, ◌≤◌, ◌<◌, ℕ, zero, suc, ◌+◌, Bool, true, false, List, [], ◌∷◌, length, Some, slice_get, slice_set, refl, sym, ap, ◌∙◌, subst, arith}
+use Rattle.std.proofs.Common.{◌≡◌, ℕ, Some, slice_set, refl, sym, ap, ◌∙◌}
 use Rattle.parking_lot_rules.specs.Roles.{Shares, Role}
 use Rattle.parking_lot_rules.specs.Roles as rules
-use Rattle.parking_lot_rules.specs.Lock.{Lock}
-use Rattle.parking_lot_cores.specs.declared.act.Act.TheVariants.{Done}
-use Rattle.parking_lot_cores.specs.declared.act.CoreAnswer.{CoreAnswer}
-use Rattle.parking_lot_cores.specs.declared.act.Seen.TheVariants as seen
 use Rattle.parking_lot_cores.specs.declared.rw_phase.Rest.{Rest}
 use Rattle.parking_lot_cores.specs.declared.rw_phase.Rest.TheVariants.{FreedShared, FreedExclusive, Downgraded, AgainShared, AgainExclusive}
 use Rattle.parking_lot_cores.specs.declared.rw_phase.Outcome.{Outcome}
 use Rattle.parking_lot_cores.specs.declared.rw_phase.Outcome.TheVariants as outcome
-use Rattle.parking_lot_cores.specs.declared.rw_phase.RwPhase.{RwPhase}
 use Rattle.parking_lot_cores.specs.declared.rw_phase.RwPhase.TheVariants.{Locking, Trying, UnlockingShared, UnlockingExclusive, Downgrading, BumpingShared, BumpingExclusive, Refuses, Finishes, Ends, Strays}
 use Rattle.parking_lot_cores.specs.RwRules.{owned_at_last, owned_after}
 use Rattle.parking_lot_world.specs.Rows.{owned_of}
 use Rattle.parking_lot_world.specs.RowActs.{rest_hold, outcome_hold}
-use Rattle.parking_lot_world.specs.RwLaws.{Meets, BeginsAreReady, EndsAreSteps, AnswersAreLast}
+use Rattle.parking_lot_world.specs.RwLaws.{BeginsAreReady, EndsAreSteps, AnswersAreLast}
 
 pub begins_are_ready : BeginsAreReady
 begins_are_ready n spot us (Locking want) x e = (refl, tt, tt)

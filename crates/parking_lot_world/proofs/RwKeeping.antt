@@ -1,12 +1,12 @@
 -- What a call at a reader-writer lock keeps from its beginning to its end.
-use Rattle.std.proofs.Common.{◌≡◌, ◌≢◌, ◌≤◌, ◌<◌, ℕ, zero, suc, ◌+◌, ◌-◌, ◌*◌, ◌/◌, ◌%◌, ◌^◌, ◌==◌, ◌&&◌, ◌||◌, ◌⊎◌, inl, inr, nat_lt, not, min, Bool, true, false, cond, List, [], ◌∷◌, length, Option, Some, None, slice_get, refl, sym, ap, ◌∙◌, subst, arith}
+use Rattle.std.proofs.Common.{◌≡◌, ◌≤◌, ℕ, ◌+◌, ◌-◌, ◌/◌, ◌^◌, ◌==◌, ◌&&◌, ◌||◌, inl, inr, nat_lt, not, min, Bool, true, false, cond, List, [], ◌∷◌, length, Some, None, slice_get, refl, sym, subst, arith}
 use Rattle.std.specs.Option.{option_map_or}
 use Rattle.std.proofs.lemmas.Bool.{both_ways}
 use Rattle.std.proofs.lemmas.List.Sums.{sum_by-cons}
 use Rattle.parking_lot_rules.proofs.Totals.{total-at}
 use Rattle.parking_lot_world.specs.Stances.{rw_taken}
 use Rattle.parking_lot_core.specs.declared.parking.ParkToken.{ParkToken}
-use Rattle.parking_lot_rules.specs.Classes.{OpenReaders, TakenReaders, Waiting1, weight, total}
+use Rattle.parking_lot_rules.specs.Classes.{OpenReaders, TakenReaders, weight, total}
 use Rattle.parking_lot_rules.specs.Roles.{Owned, Role}
 use Rattle.parking_lot_rules.specs.Roles as rules
 use Rattle.parking_lot_rules.specs.ReadLock.{word_of}
@@ -20,10 +20,9 @@ use Rattle.parking_lot_cores.specs.declared.rw_phase.Rest.TheVariants.{FreedShar
 use Rattle.parking_lot_cores.specs.declared.rw_phase.Seeking.{Seeking}
 use Rattle.parking_lot_cores.specs.declared.rw_phase.Draining.{Draining}
 use Rattle.parking_lot_cores.specs.declared.rw_phase.Scanning.{Scanning}
-use Rattle.parking_lot_cores.specs.declared.rw_phase.Outcome.TheVariants as outcome
 use Rattle.parking_lot_cores.specs.declared.rw_phase.RwPhase.{RwPhase}
-use Rattle.parking_lot_cores.specs.declared.rw_phase.RwPhase.TheVariants.{Locking, Trying, UnlockingShared, UnlockingExclusive, Downgrading, BumpingShared, BumpingExclusive, Loads, Admits, Spins, Flags, Enters, Checks, Retreats, Appends, Rests, Sleeps, Loads2, Spins2, Flags2, Enters2, Checks2, Retreats2, Appends2, Rests2, Sleeps2, TryLoads, TryAdmits, Refuses, BumpLoads, Relocks, Unshares, Owes2, Takes2, Masks2, Leaves2, Unlocks, LooksExclusive, Downgrades, Owes, Scans, Stores, Leaves, Wakes, Finishes, Ends, Strays}
-use Rattle.parking_lot_cores.specs.RwTable.{is_parked, is_writer_parked, is_written, has_readers, is_barred, is_admitted, is_tried, seeks, drains, tries, retries, begins, admits, bumps, over, wakes, goes_on, scans, next_phase}
+use Rattle.parking_lot_cores.specs.declared.rw_phase.RwPhase.TheVariants.{Locking, Trying, UnlockingShared, UnlockingExclusive, Downgrading, BumpingShared, BumpingExclusive, Loads, Admits, Spins, Flags, Enters, Checks, Retreats, Appends, Rests, Sleeps, Loads2, Spins2, Flags2, Enters2, Checks2, Retreats2, Appends2, Rests2, Sleeps2, TryLoads, TryAdmits, BumpLoads, Relocks, Unshares, Owes2, Takes2, Masks2, Leaves2, Unlocks, LooksExclusive, Downgrades, Owes, Scans, Stores, Leaves, Wakes, Finishes, Ends, Strays}
+use Rattle.parking_lot_cores.specs.RwTable.{is_parked, is_writer_parked, is_written, has_readers, is_barred, is_admitted, is_tried, seeks, drains, tries, begins, admits, bumps, over, wakes, goes_on, scans, next_phase}
 use Rattle.parking_lot_cores.specs.RwRules.{Spot, role, IsTold, IsToken, MayAsk, gives_exclusive}
 use Rattle.parking_lot_world.specs.RowFits.{rw_prepared, rw_keeps, rest_keeps}
 use Rattle.parking_lot_world.specs.RwLaws.{rw_begins, count_shared, CallsKeep}

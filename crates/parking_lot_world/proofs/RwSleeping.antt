@@ -1,5 +1,5 @@
 -- Who sleeps at a reader-writer lock.
-use Rattle.std.proofs.Common.{◌≡◌, ℕ, ◌+◌, ◌⊎◌, inl, inr, Bool, true, false, List, refl, sym, ap, ◌∙◌, subst, []}
+use Rattle.std.proofs.Common.{◌≡◌, ℕ, ◌⊎◌, inl, inr, false, List, refl, ap, ◌∙◌, subst, []}
 use Rattle.parking_lot_core.specs.declared.parking.ParkToken.{ParkToken}
 use Rattle.parking_lot_core.specs.declared.parking.FilterOp.TheVariants.{Unpark}
 use Rattle.parking_lot_rules.specs.Roles.{Shares, Mark}
@@ -13,7 +13,7 @@ use Rattle.parking_lot_cores.specs.declared.rw_phase.Scanning.{Scanning}
 use Rattle.parking_lot_cores.specs.declared.rw_phase.RwPhase.{RwPhase}
 use Rattle.parking_lot_cores.specs.declared.rw_phase.RwPhase.TheVariants.{Sleeps, Sleeps2}
 use Rattle.parking_lot_cores.specs.RwTable.{share_of, sum_of}
-use Rattle.parking_lot_cores.specs.RwRules.{Listed, Off, role, mode_of, mode_by}
+use Rattle.parking_lot_cores.specs.RwRules.{Listed, Off, role}
 use Rattle.parking_lot_cores.proofs.WakeFollowing.{looks_rightly}
 use Rattle.parking_lot_world.specs.Stances.{rw_stance}
 use Rattle.parking_lot_world.specs.Stances as stance

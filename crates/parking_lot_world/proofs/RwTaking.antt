@@ -1,22 +1,17 @@
 -- A thread that goes through a list takes a waiter: a step of the rules.
-use Rattle.std.proofs.Common.{◌≡◌, ◌≢◌, ◌≤◌, ◌<◌, ℕ, zero, suc, ◌+◌, Bool, true, false, List, [], ◌∷◌, ◌++◌, length, Option, Some, None, slice_get, slice_set, remove, refl, sym, ap, ◌∙◌, subst, arith, inl, inr}
-use Rattle.parking_lot_core.specs.declared.parking.ParkToken.{ParkToken}
+use Rattle.std.proofs.Common.{◌≡◌, ℕ, false, List, [], ◌∷◌, ◌++◌, Some, slice_get, slice_set, remove, refl, sym, ap, ◌∙◌, subst, arith, inl, inr}
 use Rattle.parking_lot_rules.specs.Roles.{Mode, Shares, Role}
 use Rattle.parking_lot_rules.specs.Roles as rules
-use Rattle.parking_lot_rules.specs.Lock.{Lock}
-use Rattle.parking_lot_rules.specs.ReadLock.{word_of}
 use Rattle.parking_lot_rules.specs.Steps.{Scan, scanning, taking, holds_upgradable, look, Take, AreSkipped}
 use Rattle.parking_lot_cores.specs.declared.act.Seen.TheVariants as seen
-use Rattle.parking_lot_cores.specs.declared.rw_phase.Want.{Want}
 use Rattle.parking_lot_cores.specs.declared.rw_phase.Want.TheVariants as want
 use Rattle.parking_lot_cores.specs.declared.rw_phase.Rest.{Rest}
 use Rattle.parking_lot_cores.specs.declared.rw_phase.Rest.TheVariants.{FreedShared, FreedExclusive, Downgraded, AgainShared, AgainExclusive}
 use Rattle.parking_lot_cores.specs.declared.rw_phase.Scanning.{Scanning}
-use Rattle.parking_lot_cores.specs.declared.rw_phase.RwPhase.{RwPhase}
 use Rattle.parking_lot_cores.specs.declared.rw_phase.RwPhase.TheVariants.{Takes2, Scans}
 use Rattle.parking_lot_cores.specs.RwTable.{next_phase}
-use Rattle.parking_lot_cores.specs.RwRules.{Spot, Listed, role, scan_of, mode_by}
-use Rattle.parking_lot_world.specs.RwLaws.{Meets, MayTakeOne, TakesAreSteps, FirstsMayBeTaken, TokensTell, WritersAreTaken}
+use Rattle.parking_lot_cores.specs.RwRules.{Listed, role, scan_of, mode_by}
+use Rattle.parking_lot_world.specs.RwLaws.{TakesAreSteps, FirstsMayBeTaken, TokensTell, WritersAreTaken}
 use Rattle.parking_lot_world.proofs.RwMoving.{moved}
 
 -- the scan of a role, whatever that of others

@@ -1,17 +1,14 @@
 -- A thread that has taken waiters stores, and wakes them one by one: steps of the rules.
-use Rattle.std.proofs.Common.{◌≡◌, ◌≢◌, ◌≤◌, ◌<◌, ℕ, zero, suc, ◌+◌, ◌==◌, ◌||◌, ◌⊎◌, inl, inr, Bool, true, false, cond, List, [], ◌∷◌, ◌++◌, length, map, Option, Some, None, slice_get, slice_set, refl, sym, ap, ◌∙◌, subst, arith, ◌&&◌, nat_lt, ◌-◌}
-use Rattle.std.proofs.lemmas.Option.{none-some, same_Some}
+use Rattle.std.proofs.Common.{◌≡◌, ◌<◌, ℕ, ◌==◌, ◌||◌, ◌⊎◌, inl, inr, Bool, true, false, cond, List, [], ◌∷◌, length, map, Some, slice_get, slice_set, refl, sym, ap, ◌∙◌, subst, arith, ◌&&◌, nat_lt, ◌-◌}
+use Rattle.std.proofs.lemmas.Option.{same_Some}
 use Rattle.parking_lot_core.specs.Results.{is_left}
-use Rattle.parking_lot_core.specs.declared.parking.ParkToken.{ParkToken}
-use Rattle.parking_lot_core.specs.declared.parking.UnparkToken.{UnparkToken}
 use Rattle.parking_lot_rules.specs.Roles.{Mode, Shares, Role, Mark, Owned}
 use Rattle.parking_lot_rules.specs.Roles as rules
-use Rattle.parking_lot_rules.specs.Classes.{bit}
 use Rattle.parking_lot_rules.specs.Clauses.{Word, number}
 use Rattle.parking_lot_rules.specs.Lists.{occurs}
-use Rattle.parking_lot_rules.specs.Lock.{Lock, IsSound, On1, to_wake}
+use Rattle.parking_lot_rules.specs.Lock.{Lock, On1, to_wake}
 use Rattle.parking_lot_rules.specs.ReadLock.{word_of}
-use Rattle.parking_lot_rules.specs.Steps.{Scan, scanning, holds_upgradable, AreSkipped, IsOver, Ending, Free, FreeUpgradable, Hand, HandUpgradable, Keep, ends_for, ends_saying, MayEnd, are_left, kept, stored, settle, Store, Wake, Waking, Retry, Own, OwnPending, OwnUpgradable, Recheck, waking_from, waking_to, Allowed, after}
+use Rattle.parking_lot_rules.specs.Steps.{Scan, IsOver, Ending, Free, FreeUpgradable, Hand, HandUpgradable, Keep, ends_saying, stored, settle, Store, Wake, Waking, Recheck, waking_from, waking_to, Allowed, after}
 use Rattle.parking_lot_rules.proofs.Sounds.{step_sound}
 use Rattle.parking_lot_cores.specs.MutexTable as of_mutex
 use Rattle.parking_lot_cores.specs.declared.act.Seen.TheVariants as seen
@@ -19,9 +16,7 @@ use Rattle.parking_lot_cores.specs.declared.rw_phase.Want.{Want}
 use Rattle.parking_lot_cores.specs.declared.rw_phase.Want.TheVariants as want
 use Rattle.parking_lot_cores.specs.declared.rw_phase.Rest.{Rest}
 use Rattle.parking_lot_cores.specs.declared.rw_phase.Rest.TheVariants.{FreedShared, FreedExclusive, Downgraded, AgainShared, AgainExclusive}
-use Rattle.parking_lot_cores.specs.declared.rw_phase.Scanning.{Scanning}
-use Rattle.parking_lot_cores.specs.declared.rw_phase.RwPhase.{RwPhase}
-use Rattle.parking_lot_cores.specs.declared.rw_phase.RwPhase.TheVariants.{Sleeps, Sleeps2, Stores, Leaves, Wakes, Finishes, Loads}
+use Rattle.parking_lot_cores.specs.declared.rw_phase.RwPhase.TheVariants.{Sleeps, Sleeps2, Stores, Leaves, Wakes, Loads}
 use Rattle.parking_lot_cores.specs.RwTable.{next_phase, hands, count_of, wakes_with, admits, begins, act_of, may_hand}
 use Rattle.parking_lot_cores.specs.Acts.{word_after}
 use Rattle.parking_lot_cores.specs.RwRules.{Spot, Listed, Off, role, mode_of, waking, ending, owned_at_last, scan_of}
@@ -30,10 +25,7 @@ use Rattle.parking_lot_world.specs.declared.seat.Told.TheVariants as told
 use Rattle.parking_lot_world.specs.RwLaws.{IsStep, Meets, ending_of, StoresAreSteps, TokensSay, WakesAreSteps, WokenAreTold, OnlySleepersStand}
 use Rattle.parking_lot_world.specs.Rows.{mark_of}
 use Rattle.parking_lot_world.specs.RowActs.{told_of}
-use Rattle.parking_lot_world.specs.Stances.{rw_stance}
-use Rattle.parking_lot_world.specs.Stances as stance
-use Rattle.parking_lot_world.specs.RowFits.{rw_prepared}
-use Rattle.parking_lot_world.proofs.RwMoving.{moved, same_word, number_is}
+use Rattle.parking_lot_world.proofs.RwMoving.{moved, same_word}
 use Rattle.parking_lot_world.proofs.RwTaking.{same_scan}
 
 -- STORES

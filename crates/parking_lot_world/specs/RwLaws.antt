@@ -7,8 +7,8 @@ use Rattle.parking_lot_rules.specs.Clauses.{Word, IsWord, number}
 use Rattle.parking_lot_rules.specs.Holds.{shared_holds}
 use Rattle.parking_lot_rules.specs.Plain.{Plain}
 use Rattle.parking_lot_rules.specs.ReadLock.{word_of}
-use Rattle.parking_lot_rules.specs.Lock.{Lock, IsSound}
-use Rattle.parking_lot_rules.specs.Steps.{Step, Alone, Allowed, after, List_changes, Take1, Take2, Join1, Join2, Take, look, AreSkipped, Ending, ends_saying, Store, Waking, settle, Wake}
+use Rattle.parking_lot_rules.specs.Lock.{Lock, IsSound, On1, to_wake}
+use Rattle.parking_lot_rules.specs.Steps.{Step, Alone, Allowed, after, List_changes, Take1, Take2, Join1, Join2, Take, look, AreSkipped, Ending, ends_saying, Store, Waking, settle, Wake, Scan, scanning}
 use Rattle.parking_lot_cores.specs.declared.act.Act.{Act}
 use Rattle.parking_lot_cores.specs.declared.act.Act.TheVariants.{Enter, Mask, Done, Section}
 use Rattle.parking_lot_cores.specs.declared.act.Seen.{Seen}
@@ -19,14 +19,14 @@ use Rattle.parking_lot_cores.specs.declared.rw_phase.Scanning.{Scanning}
 use Rattle.parking_lot_cores.specs.declared.rw_phase.RwPhase.{RwPhase}
 use Rattle.parking_lot_cores.specs.declared.rw_phase.RwPhase.TheVariants.{Takes2, Scans, Appends, Appends2, Stores, Wakes}
 use Rattle.parking_lot_cores.specs.Acts.{word_after}
-use Rattle.parking_lot_cores.specs.RwTable.{act_of, next_phase, share_of, wakes_with, hands}
+use Rattle.parking_lot_cores.specs.RwTable.{act_of, next_phase, share_of, wakes_with, hands, sum_of}
 use Rattle.parking_lot_cores.specs.RwRules.{Spot, Listed, role, Stays, Makes, move, IsMove, IsReady, IsToken, IsTold, Fits, mode_of, mode_by, scan_of, ending, Off, owned_at_last, owned_at_last, owns, last_move, Move, MayAsk}
 use Rattle.parking_lot_world.specs.RowFits.{rw_prepared, rw_keeps, rw_knows}
 use Rattle.parking_lot_rules.specs.Roles as rules
 use Rattle.parking_lot_core.specs.Results.{is_left}
 use Rattle.parking_lot_core.specs.declared.parking.UnparkToken.{UnparkToken}
-use Rattle.parking_lot_world.specs.Rows.{mark_of, owned_of, one_bucket}
-use Rattle.parking_lot_world.specs.RowActs.{told_of, rw_hold_after}
+use Rattle.parking_lot_world.specs.Rows.{mark_of, owned_of, one_bucket, rw_spot}
+use Rattle.parking_lot_world.specs.RowActs.{told_of, rw_hold_after, settled_spot}
 use Rattle.parking_lot_world.specs.Stances as stance
 use Rattle.parking_lot_world.specs.Stances.{rw_stance, rw_taken, Stance}
 use Rattle.parking_lot_cores.specs.declared.rw_phase.RwPhase.TheVariants as r
@@ -38,13 +38,8 @@ use Rattle.parking_lot_rules.specs.Any.{AnyLock, Rw, AnySound, any_inside}
 use Rattle.parking_lot_cores.specs.declared.act.SectionAct.TheVariants.{Leave}
 use Rattle.parking_lot_world.specs.declared.seat.Spot as seat
 use Rattle.parking_lot_world.specs.declared.seat.Told.{Told}
-use Rattle.parking_lot_world.specs.Rows.{rw_spot}
-use Rattle.parking_lot_world.specs.RowActs.{settled_spot}
-use Rattle.parking_lot_rules.specs.Lock.{On1, to_wake}
-use Rattle.parking_lot_rules.specs.Steps.{Scan, scanning}
 use Rattle.parking_lot_core.specs.declared.parking.FilterOp.TheVariants.{Unpark}
 use Rattle.parking_lot_cores.specs.Wake.{wake_answer}
-use Rattle.parking_lot_cores.specs.RwTable.{sum_of}
 
 -- A number is a word by its parts, and a word of bits is the one of its number.
 pub record WordsAreNumbers : Type 0 where
