@@ -27,6 +27,7 @@ pub mod LotTakes
 pub mod LotWakes
 pub mod RwKeeping
 pub mod RwCrossing
+mod Starting
 mod Acting
 pub mod RwTelling
 pub mod RwSleeping
