@@ -7,3 +7,5 @@ pub mod LotLists
 pub mod LotStores
 pub mod LotTakes
 pub mod LotWakes
+pub mod LotKept
+pub mod LotCalls

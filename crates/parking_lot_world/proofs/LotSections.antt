@@ -1,6 +1,6 @@
 -- Entering a section, what is done in it to its phase, and leaving it keep what fits of the lot.
-use Rattle.std.proofs.Common.{◌≡◌, ◌≢◌, ◌≤◌, ◌<◌, ℕ, ◌+◌, ◌*◌, ◌==◌, ◌⊎◌, inl, inr, Bool, true, false, cond, List, [], ◌∷◌, length, map, Option, Some, None, slice_get, slice_set, refl, sym, ap, ◌∙◌, subst, arith, eqb-true, eq-eqb, zero, suc}
-use Rattle.std.specs.Option.{option_map, option_map_or, option_and_then}
+use Rattle.std.proofs.Common.{◌≡◌, ◌≤◌, ℕ, ◌+◌, ◌*◌, ◌==◌, ◌⊎◌, inl, inr, true, false, cond, List, length, map, Option, Some, None, refl, sym, ap, ◌∙◌, subst, arith}
+use Rattle.std.specs.Option.{option_map, option_map_or}
 use Rattle.std.proofs.lemmas.Bool.{false≢true}
 use Rattle.parking_lot_core.specs.declared.parking.ParkToken.{ParkToken}
 use Rattle.parking_lot_core.specs.declared.parking.UnparkToken.{UnparkToken}
@@ -9,27 +9,23 @@ use Rattle.parking_lot_core.specs.declared.place.Place.TheVariants.{Running, Wai
 use Rattle.parking_lot_core.specs.declared.place.Phase.{Phase}
 use Rattle.parking_lot_core.specs.declared.place.Phase.TheVariants as phase
 use Rattle.parking_lot_core.specs.declared.place.Section.{Section}
-use Rattle.parking_lot_core.specs.declared.place.Sleep.{Sleep}
-use Rattle.parking_lot_core.specs.declared.place.Waiter.{Waiter}
 use Rattle.parking_lot_core.specs.Machine.{Machine, opened, in_phase, closed, token_of}
 use Rattle.parking_lot_core.specs.Places.{place_at, mark_of, may_take, may_store, told}
 use Rattle.parking_lot_core.specs.Results.{is_left}
 use Rattle.parking_lot_core.specs.Sound.{Sound}
-use Rattle.parking_lot_core.proofs.Sounds.{none≢some, some≢none, by_eqb, place_at-map}
-use Rattle.parking_lot_cores.specs.declared.act.Seen.{Seen}
+use Rattle.parking_lot_core.proofs.Sounds.{none≢some, place_at-map}
 use Rattle.parking_lot_cores.specs.declared.act.Seen.TheVariants as seen
 use Rattle.parking_lot_world.specs.declared.seat.Told.{Told}
 use Rattle.parking_lot_world.specs.declared.seat.Spot.{Spot}
 use Rattle.parking_lot_world.specs.declared.seat.Spot.TheVariants as spot
 use Rattle.parking_lot_world.specs.declared.seat.Call.{Call}
-use Rattle.parking_lot_world.specs.declared.seat.Wakeup.{Wakeup}
 use Rattle.parking_lot_world.specs.Rows.{State, word_at, call_at, taken_by}
 use Rattle.parking_lot_world.specs.Stances.{Doing, Looks, TurnsBack, Joins, Joined, Takes, Stores, Tells, Stance, Out, In, Asleep, stance, taken_count}
 use Rattle.parking_lot_world.specs.RowActs.{with_call, with_lot, hears, key_of, joins, entered, checked, took_nobody, left, told_of}
-use Rattle.parking_lot_world.specs.RowFits.{HasCome, WaitsIn, IsOutside, IsAt, SaidIn, Stands, Seated, WakesSome, LotFits}
+use Rattle.parking_lot_world.specs.RowFits.{HasCome, IsAt, SaidIn, Stands, Seated, WakesSome, LotFits}
 use Rattle.parking_lot_world.specs.StanceLaws.{LeavesFor}
 use Rattle.parking_lot_world.proofs.Stancing.{wakes_some}
-use Rattle.parking_lot_world.proofs.Carrying.{same_call, call_within, Carries, IsAwake, IsUp, carries_awake, carries_lain, taken_some}
+use Rattle.parking_lot_world.proofs.Carrying.{call_within, Carries, IsAwake, IsUp, carries_awake, carries_lain, taken_some}
 use Rattle.parking_lot_world.proofs.LotActs.{same_number, same_section, outside_of, outside_none, lies_still, seated_apart, acted, seat_of, awake_by, up_by}
 
 -- who has taken nobody has nobody off its list

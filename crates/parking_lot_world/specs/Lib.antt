@@ -4,3 +4,4 @@ pub mod RowActs
 pub mod RowFits
 pub mod RowSteps
 pub mod StanceLaws
+pub mod LotLaws

@@ -7,7 +7,7 @@ mod row_machine;
 mod seat;
 
 pub use calls::{LockCall, LockKind, OwnMode};
-pub use lot_laws::stances_follow_acts;
+pub use lot_laws::{acts_keep_places, stances_follow_acts, the_lot_never_refuses};
 pub use parking_lot_cores::{
     Act, CoreAnswer, HAND_OVER, LockTable, MutexCore, Row, RwCore, SectionAct, Seen, TRY_AGAIN,
     WordChange, wake_sum,
