@@ -9,7 +9,7 @@ use Rattle.parking_lot_core.specs.declared.place.Section.{Section}
 use Rattle.parking_lot_core.specs.declared.place.Sleep.{Sleep}
 use Rattle.parking_lot_core.specs.declared.place.Waiter.{Waiter}
 use Rattle.parking_lot_core.specs.Machine.{enter_fault, step_fault, resume_fault, section_of, any_phase, changed_at}
-use Rattle.parking_lot_core.specs.Places.{place_at, is_due, roused, may_check, may_join, may_take, may_store}
+use Rattle.parking_lot_core.specs.Places.{place_at, is_due, roused, may_check, may_join, may_take, may_store, passed_of}
 use Rattle.parking_lot_core.specs.Sound.{Sound}
 use Rattle.parking_lot_cores.specs.declared.act.Act.{Act}
 use Rattle.parking_lot_cores.specs.declared.act.Act.TheVariants as act
@@ -47,9 +47,9 @@ pub record ActsKeepFits : Type 0 where
   pub checks : (s : State) (t : ℕ) (c : Call) → Sound (acts.checked s t c).lot → Keeps s t c (act.Section section.Check) (acts.checked s t c)
   pub appends : (s : State) (t : ℕ) (c : Call) (k : ℕ) (token : ParkToken) → stance c.core ≡ In k (Joins token) → Sound (acts.appended s t c (acts.key_of c k) token).lot
       → Keeps s t c (act.Section (section.Append token)) (acts.appended s t c (acts.key_of c k) token)
-  -- to wake others
-  pub takes : (s : State) (t : ℕ) (c : Call) (a : Act) (k nth : ℕ) (w : Waiter) → IsTaking a → stance c.core ≡ In k Takes → slice_get (s.lot.queues (acts.key_of c k)) nth ≡ Some w → Counts c.core w.token
-      → Sound (acts.took s t c (acts.key_of c k) nth w).lot → Keeps s t c a (acts.took s t c (acts.key_of c k) nth w)
+  -- to wake others: the first of the list is taken, or nobody
+  pub takes : (s : State) (t : ℕ) (c : Call) (a : Act) (k : ℕ) (w : Waiter) → IsTaking a → stance c.core ≡ In k Takes → slice_get (s.lot.queues (acts.key_of c k)) 0 ≡ Some w → Counts c.core w.token
+      → Sound (acts.took s t c (acts.key_of c k) 0 w).lot → Keeps s t c a (acts.took s t c (acts.key_of c k) 0 w)
   pub takes_nobody : (s : State) (t : ℕ) (c : Call) (a : Act) (k : ℕ) → IsTaking a → stance c.core ≡ In k Takes
       → Sound (acts.took_nobody s t c (acts.key_of c k)).lot → Keeps s t c a (acts.took_nobody s t c (acts.key_of c k))
   pub stores : (s : State) (t : ℕ) (c : Call) (plain fair change : WordChange) (is_fair : Bool) → Sound (acts.told_all s t c change is_fair).lot
@@ -111,7 +111,8 @@ pub record LotNeverRefuses : Type 0 where
   pub leaves : (s : State) (t : ℕ) (c : Call) → Asks s t c (act.Section section.Leave) → step_fault any_phase s.lot t ≡ None
   -- in the section of the key that its stance says
   pub inside : (s : State) (t : ℕ) (c : Call) (k : ℕ) (how : Doing) → LotFits s → call_at s t ≡ Some c → stance c.core ≡ In k how → IsInside s t (acts.key_of c k)
-  -- whom it may take there
+  -- one that takes has passed nobody; whom it may take there
+  pub passes : (s : State) (t : ℕ) (c : Call) (k : ℕ) (o : Section) → LotFits s → call_at s t ≡ Some c → stance c.core ≡ In k Takes → s.lot.section ≡ Some o → passed_of o.phase ≡ 0
   pub waiters : (s : State) (t : ℕ) (c : Call) (k nth : ℕ) (w : Waiter) → k < 2 → LotFits s → call_at s t ≡ Some c → stance c.core ≡ In k Takes → slice_get (s.lot.queues (acts.key_of c k)) nth ≡ Some w → IsWaiter s t k c w
   -- one that is to wake somebody finds the one, and wakes it
   pub wakes : (s : State) (t : ℕ) (c : Call) → Asks s t c (act.Section section.Wake) → (e : Wakeup) × (slice_get s.wakes (position_or_len (is_by t) s.wakes) ≡ Some e) × (e.by ≡ t) × IsDue s t e
