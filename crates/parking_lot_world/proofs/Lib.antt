@@ -1,11 +1,34 @@
+mod Everybody
+mod Lifting
+mod Making
+mod Meeting
+mod Calling
+mod OwnMoves
+mod Owning
+mod Knowing
+mod Ruling
+mod OwnActs
+mod WakesKept
 pub mod Stancing
+pub mod RwMoving
+pub mod RwTaking
 pub mod Carrying
 pub mod Indexing
 pub mod LotActs
 pub mod LotSections
 pub mod LotLists
 pub mod LotStores
+pub mod RwWaking
+pub mod RwEnding
+pub mod MutexRoles
+pub mod MutexMoving
+pub mod Beginning
 pub mod LotTakes
 pub mod LotWakes
 pub mod LotKept
 pub mod LotCalls
+pub mod RwKeeping
+pub mod RwCrossing
+mod Acting
+pub mod RwTelling
+pub mod RwSleeping

@@ -81,7 +81,7 @@ module _ (s : State) (t : â„•) (c : Call) (h : LotFits s) (here : call_at s t â‰
     rouses = hears c seen.Made
 
     abbrev roused_call : Call
-    roused_call = hears d (seen.Woken token)
+    roused_call = record (hears d (seen.Woken token)) { spot = spot.Listed }
 
     abbrev u : State
     u = woke s t c e.thread d token

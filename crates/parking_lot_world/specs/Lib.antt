@@ -3,5 +3,11 @@ pub mod Stances
 pub mod RowActs
 pub mod RowFits
 pub mod RowSteps
+pub mod ActLaws
 pub mod StanceLaws
 pub mod LotLaws
+pub mod RwLaws
+pub mod MutexLaws
+pub mod Faults
+pub mod Calls
+pub mod CallViews

@@ -140,7 +140,7 @@ left s t c = with_lot (with_call s t (hears c seen.Made)) (closed s.lot false)
 -- it wakes the first whom it is to wake, which is in the call d, with that token
 abbrev pub woke : State → ℕ → Call → ℕ → Call → UnparkToken → State
 woke s t c v d token =
-    record (with_call (with_call s v (hears d (seen.Woken token))) t (hears c seen.Made)) {
+    record (with_call (with_call s v (record (hears d (seen.Woken token)) { spot = spot.Listed })) t (hears c seen.Made)) {
       wakes = remove s.wakes (position_or_len (is_by t) s.wakes);
       lot = record s.lot { places = slice_set s.lot.places v (Some Running) };
     }

@@ -1,5 +1,5 @@
 -- What holds of the machine at every moment.
-use Rattle.std.specs.Prelude.{◌≡◌, ◌≢◌, ℕ, ◌+◌, ◌*◌, ◌<◌, ◌≤◌, ◌^◌, ◌⊎◌, ◌==◌, Bool, true, false, List, [], length, Option, Some, None, slice_get}
+use Rattle.std.specs.Prelude.{◌≡◌, ◌≢◌, ℕ, ◌+◌, ◌*◌, ◌<◌, ◌≤◌, ◌^◌, ◌⊎◌, ◌==◌, Bool, true, false, count_by, List, [], length, Option, Some, None, slice_get}
 use Rattle.std.specs.Option.{option_map_or}
 use Rattle.parking_lot_core.specs.declared.parking.ParkToken.{ParkToken}
 use Rattle.parking_lot_core.specs.declared.parking.UnparkToken.{UnparkToken}
@@ -21,6 +21,8 @@ use Rattle.parking_lot_cores.specs.declared.act.Act.TheVariants as act
 use Rattle.parking_lot_cores.specs.declared.act.SectionAct.TheVariants as section
 use Rattle.parking_lot_cores.specs.declared.mutex_phase.MutexPhase.{MutexPhase}
 use Rattle.parking_lot_cores.specs.declared.mutex_phase.MutexPhase.TheVariants as m
+use Rattle.parking_lot_cores.specs.declared.rw_phase.Rest.{Rest}
+use Rattle.parking_lot_cores.specs.declared.rw_phase.Rest.TheVariants as rest
 use Rattle.parking_lot_cores.specs.declared.rw_phase.RwPhase.{RwPhase}
 use Rattle.parking_lot_cores.specs.declared.rw_phase.RwPhase.TheVariants as r
 use Rattle.parking_lot_rules.specs.ReadLock.{word_of}
@@ -37,7 +39,7 @@ use Rattle.parking_lot_world.specs.declared.seat.Core.TheVariants as core
 use Rattle.parking_lot_world.specs.declared.seat.Call.{Call}
 use Rattle.parking_lot_world.specs.declared.seat.Wakeup.{Wakeup}
 use Rattle.parking_lot_world.specs.Rows.{State, word_at, hold_at, call_at, taken_by, family, one_bucket}
-use Rattle.parking_lot_world.specs.Stances.{Doing, Looks, TurnsBack, Joins, Joined, Takes, Stores, Tells, Stance, Out, In, Asleep, stance, taken_count, core_act}
+use Rattle.parking_lot_world.specs.Stances.{Doing, Looks, TurnsBack, Joins, Joined, Takes, Stores, Tells, Stance, Out, In, Asleep, stance, taken_count, has_begun, core_act}
 use Rattle.parking_lot_world.specs.RowActs.{told_of}
 
 -- THE LOT
@@ -107,9 +109,68 @@ rw_prepared n us (r.Unshares rest) = Unit {0}
 rw_prepared n us r.Downgrades = Unit {0}
 rw_prepared n us p = of_rw.Fits false n us p (word_of 0)
 
-abbrev pub IsPrepared : ℕ → List ℕ → Core → Type 0
-IsPrepared n us (core.Mutex c) = n ≡ 0
-IsPrepared n us (core.Rw c) = of_rw.IsReady c.phase × rw_prepared n us c.phase
+-- What a call that has begun keeps of what its thread owns beside: one that asks may ask, and one that gives the exclusive hold up, or asks again
+-- for what it gave up, has no other. A scan that goes on has taken no writer.
+abbrev pub rest_keeps : ℕ → Rest → Type 0
+rest_keeps n rest.FreedShared = Unit {0}
+rest_keeps n rest.FreedExclusive = n ≡ 0
+rest_keeps n rest.Downgraded = Unit {0}
+rest_keeps n rest.AgainShared = n ≡ 0
+rest_keeps n rest.AgainExclusive = n ≡ 0
+
+abbrev pub rw_keeps : ℕ → RwPhase → Type 0
+rw_keeps n (r.Locking want) = ⊥
+rw_keeps n (r.Trying want) = ⊥
+rw_keeps n r.UnlockingShared = ⊥
+rw_keeps n (r.UnlockingExclusive fair) = ⊥
+rw_keeps n r.Downgrading = ⊥
+rw_keeps n r.BumpingShared = ⊥
+rw_keeps n r.BumpingExclusive = ⊥
+rw_keeps n (r.Loads a) = of_rw.MayAsk false n a.want (word_of 0)
+rw_keeps n (r.Admits a word) = of_rw.MayAsk false n a.want (word_of 0)
+rw_keeps n (r.Spins a) = of_rw.MayAsk false n a.want (word_of 0)
+rw_keeps n (r.Flags a word) = of_rw.MayAsk false n a.want (word_of 0)
+rw_keeps n (r.Enters want woken) = of_rw.MayAsk false n want (word_of 0)
+rw_keeps n (r.Checks want woken) = of_rw.MayAsk false n want (word_of 0)
+rw_keeps n (r.Retreats want woken) = of_rw.MayAsk false n want (word_of 0)
+rw_keeps n (r.Appends want) = of_rw.MayAsk false n want (word_of 0)
+rw_keeps n (r.Rests want) = of_rw.MayAsk false n want (word_of 0)
+rw_keeps n (r.Sleeps want) = of_rw.MayAsk false n want (word_of 0)
+rw_keeps n (r.TryLoads want) = of_rw.MayAsk false n want (word_of 0)
+rw_keeps n (r.TryAdmits want word left) = of_rw.MayAsk false n want (word_of 0)
+rw_keeps n (r.Refuses want) = of_rw.MayAsk false n want (word_of 0)
+rw_keeps n (r.Relocks want) = of_rw.MayAsk false n want (word_of 0)
+rw_keeps n (r.Loads2 d) = n ≡ 0
+rw_keeps n (r.Spins2 d) = n ≡ 0
+rw_keeps n (r.Flags2 d word) = n ≡ 0
+rw_keeps n (r.Enters2 d) = n ≡ 0
+rw_keeps n (r.Checks2 d) = n ≡ 0
+rw_keeps n (r.Retreats2 d) = n ≡ 0
+rw_keeps n (r.Appends2 rounds) = n ≡ 0
+rw_keeps n (r.Rests2 rounds) = n ≡ 0
+rw_keeps n (r.Sleeps2 rounds) = n ≡ 0
+rw_keeps n (r.BumpLoads want) = n ≡ 0
+rw_keeps n (r.Unlocks fair rest) = n ≡ 0
+rw_keeps n (r.LooksExclusive fair rest) = n ≡ 0
+rw_keeps n (r.Unshares rest) = rest_keeps n rest
+rw_keeps n (r.Owes2 rest) = rest_keeps n rest
+rw_keeps n (r.Takes2 rest) = rest_keeps n rest
+rw_keeps n (r.Masks2 rest taken) = rest_keeps n rest
+rw_keeps n (r.Leaves2 rest taken) = rest_keeps n rest
+rw_keeps n (r.Scans s) = rest_keeps n s.rest × (s.writer ≡ false)
+rw_keeps n (r.Stores s left) = rest_keeps n s.rest
+rw_keeps n (r.Leaves rest count handed) = rest_keeps n rest
+rw_keeps n (r.Wakes rest count) = rest_keeps n rest
+rw_keeps n (r.Finishes rest) = rest_keeps n rest
+rw_keeps n r.Downgrades = Unit {0}
+rw_keeps n r.Owes = Unit {0}
+rw_keeps n (r.Ends outcome) = Unit {0}
+rw_keeps n r.Strays = ⊥
+
+-- what a call that is kept stands on
+abbrev pub IsPrepared : ℕ → Core → Type 0
+IsPrepared n (core.Mutex c) = n ≡ 0
+IsPrepared n (core.Rw c) = of_rw.IsReady c.phase × rw_keeps n c.phase
 
 -- What one that is to store knows of its list: it has taken a writer or all, and whether waiters are left.
 abbrev pub mutex_knows : MutexPhase → List Waiter → Type 0
@@ -166,6 +227,20 @@ pub record LotFits (s : State) : Type 0 where
   pub untaken : (t : ℕ) → call_at s t ≡ None → taken_by s.wakes t ≡ []
   pub wakeful : (t : ℕ) (c : Call) → call_at s t ≡ Some c → WakesSome c.core
 
+-- Who is off its list.
+abbrev pub is_off : Spot → Bool
+is_off spot.Listed = false
+is_off (spot.Off by said) = true
+
+abbrev pub is_away : Option Call → Bool
+is_away None = false
+is_away (Some c) = is_off c.spot
+
+pub record WakesFit (s : State) : Type 0 where
+  -- whoever is off its list is to be woken by who took it
+  pub off : (t by : ℕ) (c : Call) (said : Told) → call_at s t ≡ Some c → c.spot ≡ spot.Off by said → (n : ℕ) × (e : Wakeup) × (slice_get s.wakes n ≡ Some e) × (e.by ≡ by) × (e.thread ≡ t)
+  pub room : length s.wakes ≡ count_by is_away s.calls
+
 -- The side of the rules.
 pub record RulesFit (s : State) : Type 0 where
   pub size_holds : length s.holds ≡ length s.calls * length s.kinds
@@ -173,14 +248,19 @@ pub record RulesFit (s : State) : Type 0 where
   pub small : length s.calls < 2 ^ 17
   -- a call is of its lock's kind, and stands as its phase asks
   pub kinds : (t : ℕ) (c : Call) → call_at s t ≡ Some c → IsOfKind (slice_get s.kinds c.lock) c.core
-  pub prepared : (t : ℕ) (c : Call) → call_at s t ≡ Some c → IsPrepared c.others (taken_by s.wakes t) c.core
+  pub prepared : (t : ℕ) (c : Call) → call_at s t ≡ Some c → IsPrepared c.others c.core
   pub knows : (t : ℕ) (c : Call) → call_at s t ≡ Some c → KnowsList c.core s.lot.queues c.lock
-  -- one thread has few shared holds of a lock
+  -- a thread has few shared holds of a lock
   pub few : (t i n : ℕ) → hold_at s t i ≡ hold.Shares n → n ≤ 255
   pub beside : (t : ℕ) (c : Call) → call_at s t ≡ Some c → c.others ≤ 254
+  -- each word has the bits of its kind
+  pub bits : (i : ℕ) → slice_get s.kinds i ≡ Some kind.Mutex → word_at s i < 4
   -- the locks are sound
   pub sound : SoundFamilyOf AnySound any_inside one_bucket (family s)
+  -- a call that is kept has begun
+  pub begun : (t : ℕ) (c : Call) → call_at s t ≡ Some c → has_begun c.core ≡ true
 
 pub record FitsTogether (s : State) : Type 0 where
   pub lots : LotFits s
+  pub wakes : WakesFit s
   pub rules : RulesFit s

@@ -102,3 +102,25 @@ core_next (core.Rw c) seen = core.Rw (record c { phase = of_rw.next_phase c.phas
 abbrev pub core_tells : Core → UnparkToken
 core_tells (core.Mutex c) = of_mutex.wakes_with c.phase
 core_tells (core.Rw c) = of_rw.wakes_with c.phase
+
+-- Whether it was told that it begins. A call that is kept was.
+abbrev pub mutex_begun : MutexPhase → Bool
+mutex_begun m.Locking = false
+mutex_begun m.Trying = false
+mutex_begun (m.Unlocking fair) = false
+mutex_begun m.Bumping = false
+mutex_begun phase = true
+
+abbrev pub rw_begun : RwPhase → Bool
+rw_begun (r.Locking want) = false
+rw_begun (r.Trying want) = false
+rw_begun r.UnlockingShared = false
+rw_begun (r.UnlockingExclusive fair) = false
+rw_begun r.Downgrading = false
+rw_begun r.BumpingShared = false
+rw_begun r.BumpingExclusive = false
+rw_begun phase = true
+
+abbrev pub has_begun : Core → Bool
+has_begun (core.Mutex c) = mutex_begun c.phase
+has_begun (core.Rw c) = rw_begun c.phase

@@ -1,4 +1,8 @@
 //! What threads ask of the locks of a world.
+ghost use Rattle.std.specs.Prelude.{◌≡◌};
+ghost use Rattle.parking_lot_world.specs.Calls.{answer_of, given_up, kind_of};
+
+use parking_lot_cores::CoreAnswer;
 
 /// The kind of a lock.
 #[derive(Clone, Copy, PartialEq, Eq, Debug)]
@@ -45,4 +49,56 @@ pub enum OwnMode {
     Shared,
     /// It reads beside others, and alone may become the writer.
     Upgradable,
+}
+
+/// How a call ended.
+#[derive(Clone, Copy, PartialEq, Eq, Debug)]
+pub enum LockAnswer {
+    /// The thread owns the lock as it asked for it; after a downgrade as a reader.
+    Owned,
+    /// A try found the lock taken.
+    Refused,
+    /// The thread owns the lock no more.
+    Released,
+}
+
+impl LockCall {
+    /// Which locks it can be asked of.
+    pub(crate) fn kind(&self) -> LockKind
+        ensures { result ≡ kind_of self.now }
+    {
+        match self {
+            LockCall::Lock | LockCall::TryLock | LockCall::Unlock => LockKind::Mutex,
+            LockCall::Read | LockCall::TryRead | LockCall::UnlockRead => LockKind::Rw,
+            LockCall::Write | LockCall::TryWrite | LockCall::UnlockWrite => LockKind::Rw,
+            LockCall::Downgrade => LockKind::Rw,
+        }
+    }
+
+    /// How the thread has to own the lock that asks for it; for the calls that ask for the lock it may not own it at all.
+    pub(crate) fn gives_up(&self) -> Option<OwnMode>
+        ensures { result ≡ given_up self.now }
+    {
+        match self {
+            LockCall::Unlock | LockCall::UnlockWrite => Some(OwnMode::Exclusive),
+            LockCall::Downgrade => Some(OwnMode::Exclusive),
+            LockCall::UnlockRead => Some(OwnMode::Shared),
+            LockCall::Lock | LockCall::TryLock => None,
+            LockCall::Read | LockCall::TryRead => None,
+            LockCall::Write | LockCall::TryWrite => None,
+        }
+    }
+}
+
+impl LockAnswer {
+    /// What a thread is answered where its core says so.
+    pub(crate) fn of_core(answer: CoreAnswer) -> LockAnswer
+        ensures { result ≡ answer_of answer }
+    {
+        match answer {
+            CoreAnswer::Owned => LockAnswer::Owned,
+            CoreAnswer::Refused => LockAnswer::Refused,
+            CoreAnswer::Released => LockAnswer::Released,
+        }
+    }
 }

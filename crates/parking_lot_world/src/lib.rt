@@ -1,15 +1,36 @@
 //! Worlds of locks: threads' calls at locks, one atomic step at a time, by any schedule.
 #![tactic(auto)]
 
+mod acts;
+mod call_views;
 mod calls;
+mod laws;
 mod lot_laws;
+mod fault;
+mod mutex_laws;
 mod row_machine;
+mod rw_laws;
 mod seat;
+mod step;
 
-pub use calls::{LockCall, LockKind, OwnMode};
 pub use lot_laws::{acts_keep_places, stances_follow_acts, the_lot_never_refuses};
+pub use calls::{LockAnswer, LockCall, LockKind, OwnMode};
+pub use fault::{WorldFault, WorldRefusal};
+pub use mutex_laws::{
+    answers_are_steps_of_a_sound_mutex, calls_that_have_begun_go_on, roles_at_a_mutex_are_known,
+    words_of_a_mutex_are_numbers,
+};
 pub use parking_lot_cores::{
     Act, CoreAnswer, HAND_OVER, LockTable, MutexCore, Row, RwCore, SectionAct, Seen, TRY_AGAIN,
     WordChange, wake_sum,
 };
+pub use laws::acts_are_steps;
 pub use row_machine::RowMachine;
+pub use rw_laws::{
+    acts_cross, answers_are_last, answers_are_moves, begins_are_ready, calls_keep, ends_are_steps,
+    firsts_may_be_taken, free_sections_are_empty, joins_are_steps, lists_are_known,
+    makes_are_steps, only_sleepers_stand, sleepers_at_a_lock_are_known, stays_are_steps,
+    stores_are_steps, stores_tell, takes_are_steps, tokens_say, tokens_tell, wakes_are_steps,
+    woken_are_told, words_are_numbers, writers_are_taken,
+};
+pub use step::WorldStep;

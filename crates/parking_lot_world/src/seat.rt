@@ -1,6 +1,15 @@
 //! What a machine of locks keeps of each thread.
+ghost use Rattle.std.specs.Prelude.{◌≡◌, ◌≤◌, ◌^◌};
+ghost use Rattle.parking_lot_cores.specs.declared.act.Seen.TheVariants as seen;
+ghost use Rattle.parking_lot_world.specs.declared.seat.Spot.TheVariants as spot;
+ghost use Rattle.parking_lot_world.specs.Stances.{core_act, core_next, core_tells, stance};
+ghost use Rattle.parking_lot_world.specs.RowActs.{hears, hold_after, mutex_hold_after, rw_hold_after, joins, key_of, off_list, settled, settled_spot, told_of};
 
-use parking_lot_cores::{MutexCore, RwCore};
+use parking_lot_core::UnparkToken;
+use parking_lot_cores::{
+    Act, CoreAnswer, HAND_OVER, MutexCore, MutexPhase, Outcome, Rest, RwCore, RwPhase, SectionAct,
+    Seen,
+};
 
 /// What a thread owns of a lock between its calls: so many shared holds, or the exclusive one.
 #[derive(Clone, Copy, PartialEq, Eq, Debug)]
@@ -51,4 +60,164 @@ pub(crate) struct Wakeup {
     pub thread: usize,
     /// The mark of the sleep that it was taken out of.
     pub mark: u64,
+}
+
+impl Told {
+    /// What sleepers are told by a token.
+    pub fn by(token: UnparkToken) -> Told
+        ensures { result ≡ told_of token }
+    {
+        if token.0 == HAND_OVER.0 {
+            Told::HandedOver
+        } else {
+            Told::TryAgain
+        }
+    }
+}
+
+impl Spot {
+    /// The spot once a thread has told all whom it has taken.
+    fn settled(self, by: usize, said: Told) -> Spot
+        ensures { result ≡ settled_spot by said self }
+    {
+        match self {
+            Spot::Off(taker, Told::Nothing) if taker == by => Spot::Off(taker, said),
+            spot => spot,
+        }
+    }
+}
+
+impl Core {
+    /// What it has asked for.
+    pub fn act(&self) -> Act
+        ensures { result ≡ core_act self.now }
+    {
+        match self {
+            Core::Mutex(core) => core.act(),
+            Core::Rw(core) => core.act(),
+        }
+    }
+
+    /// The core once it is told what its act gave.
+    pub fn told(self, seen: Seen) -> Core
+        ensures { result ≡ core_next self seen }
+    {
+        match self {
+            Core::Mutex(mut core) => {
+                core.next(seen);
+                Core::Mutex(core)
+            }
+            Core::Rw(mut core) => {
+                core.next(seen);
+                Core::Rw(core)
+            }
+        }
+    }
+
+    /// The token for those that its section took, once it has stored.
+    pub fn wake_token(&self) -> UnparkToken
+        ensures { result ≡ core_tells self.now }
+    {
+        match self {
+            Core::Mutex(core) => core.wake_token(),
+            Core::Rw(core) => core.wake_token(),
+        }
+    }
+
+    /// Whether it is about to join a list.
+    pub fn joins(&self) -> bool
+        ensures { result ≡ joins (stance self.now) }
+    {
+        match self.act() {
+            Act::Section(SectionAct::Append(_)) => true,
+            _ => false,
+        }
+    }
+
+    /// What its thread owns where its call ends, with so many shared holds beside.
+    pub fn hold_after(&self, others: u8) -> Hold
+        requires few { others ≤ 254 }
+        ensures { result ≡ hold_after others self.now }
+    {
+        match self {
+            Core::Mutex(core) => mutex_hold_after(core.phase()),
+            Core::Rw(core) => rw_hold_after(core.phase(), others),
+        }
+    }
+}
+
+/// What one owns whose call at a mutex ends.
+fn mutex_hold_after(phase: MutexPhase) -> Hold
+    ensures { result ≡ mutex_hold_after phase }
+{
+    match phase {
+        MutexPhase::Ends(CoreAnswer::Owned) => Hold::Excludes,
+        _ => Hold::Shares(0),
+    }
+}
+
+/// What one owns whose call at a reader-writer lock ends.
+fn rw_hold_after(phase: RwPhase, others: u8) -> Hold
+    requires few { others ≤ 254 }
+    ensures { result ≡ rw_hold_after others phase }
+{
+    match phase {
+        RwPhase::Finishes(Rest::FreedShared | Rest::AgainShared) => Hold::Shares(others),
+        RwPhase::Finishes(Rest::FreedExclusive | Rest::AgainExclusive) => Hold::Shares(0),
+        RwPhase::Finishes(Rest::Downgraded) | RwPhase::Ends(Outcome::Downgraded) => Hold::Shares(1),
+        RwPhase::Ends(Outcome::Shared) => Hold::Shares(others + 1),
+        RwPhase::Ends(Outcome::Exclusive) => Hold::Excludes,
+        RwPhase::Ends(Outcome::FreedExclusive) => Hold::Shares(0),
+        _ => Hold::Shares(others),
+    }
+}
+
+impl Call {
+    /// The call once it is told what its act gave.
+    pub fn told(self, seen: Seen) -> Call
+        ensures { result ≡ hears self seen }
+    {
+        Call {
+            core: self.core.told(seen),
+            ..self
+        }
+    }
+
+    /// The call once it has joined a list.
+    pub fn listed(self) -> Call
+        ensures { result ≡ record (hears self seen.Made) { spot = spot.Listed } }
+    {
+        Call {
+            spot: Spot::Listed,
+            ..self.told(Seen::Made)
+        }
+    }
+
+    /// The lot's key of the lock's first list, or of its second.
+    pub fn key(&self, which: u8) -> usize
+        requires small { self.now.lock ≤ 2 ^ 62 }
+        ensures { result ≡ key_of self.now which }
+    {
+        2 * self.lock + usize::from(which)
+    }
+
+    /// The call of a sleeper once a thread has taken it off its list.
+    pub fn off_list(self, by: usize) -> Call
+        ensures { result ≡ off_list by self }
+    {
+        Call {
+            spot: Spot::Off(by, Told::Nothing),
+            ..self
+        }
+    }
+
+    /// The call once a thread has told all whom it has taken.
+    pub fn settled(self, by: usize, said: Told) -> Call
+        ensures { result ≡ settled by said self }
+    {
+        Call {
+            spot: self.spot.settled(by, said),
+            ..self
+        }
+    }
 }

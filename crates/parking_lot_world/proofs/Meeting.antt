@@ -1,0 +1,122 @@
+-- A thread in a call at a lock of the machine, as one lock sees it.
+use Rattle.std.proofs.Common.{◌≡◌, ◌≢◌, ℕ, zero, suc, ◌+◌, ◌*◌, ◌<◌, ◌≤◌, ◌^◌, ◌⊎◌, inl, inr, ◌==◌, cond, Bool, true, false, List, [], ◌∷◌, length, Option, Some, None, slice_get, refl, sym, ap, ◌∙◌, subst, arith}
+use Rattle.std.proofs.lemmas.Bool.{cases_lt}
+use Rattle.std.proofs.lemmas.Option.{none-some, same_Some, slice_get_past}
+use Rattle.std.proofs.lemmas.List.{length-map}
+use Rattle.std.proofs.lemmas.List.Sums.{length-filter, count_by-le-length}
+use Rattle.std.specs.Prelude.{filter, count_by}
+use Rattle.std.specs.Option.{option_and_then}
+use Rattle.parking_lot_rules.specs.Roles.{Role, Shares, Idle}
+use Rattle.parking_lot_rules.specs.Holds.{shared_holds}
+use Rattle.parking_lot_rules.specs.Lock.{Lock, IsSound}
+use Rattle.parking_lot_rules.specs.Mutex as mutex
+use Rattle.parking_lot_rules.specs.Any.{AnySound}
+use Rattle.parking_lot_rules.specs.ReadLock.{word_of}
+use Rattle.parking_lot_cores.specs.declared.rw_core.RwCore.{RwCore}
+use Rattle.parking_lot_cores.specs.declared.mutex_core.MutexCore.{MutexCore}
+use Rattle.parking_lot_cores.specs.declared.rw_phase.Want.{Want}
+use Rattle.parking_lot_cores.specs.declared.rw_phase.Want.TheVariants as want
+use Rattle.parking_lot_cores.specs.declared.rw_phase.Rest.{Rest}
+use Rattle.parking_lot_cores.specs.declared.rw_phase.Rest.TheVariants as rest
+use Rattle.parking_lot_cores.specs.declared.rw_phase.Outcome.{Outcome}
+use Rattle.parking_lot_cores.specs.declared.rw_phase.Outcome.TheVariants as outcome
+use Rattle.parking_lot_cores.specs.declared.rw_phase.RwPhase.{RwPhase}
+use Rattle.parking_lot_cores.specs.declared.rw_phase.RwPhase.TheVariants as r
+use Rattle.parking_lot_cores.specs.RwTable.{count_of}
+use Rattle.parking_lot_cores.specs.RwRules as of_rw
+use Rattle.parking_lot_world.specs.declared.calls.LockKind.{LockKind}
+use Rattle.parking_lot_world.specs.declared.calls.LockKind.TheVariants as kind
+use Rattle.parking_lot_world.specs.declared.seat.Hold.{Hold}
+use Rattle.parking_lot_world.specs.declared.seat.Hold.TheVariants as hold
+use Rattle.parking_lot_world.specs.declared.seat.Spot.{Spot}
+use Rattle.parking_lot_world.specs.declared.seat.Core.{Core}
+use Rattle.parking_lot_world.specs.declared.seat.Core.TheVariants as core
+use Rattle.parking_lot_world.specs.declared.seat.Call.{Call}
+use Rattle.parking_lot_world.specs.Rows.{State, word_at, hold_at, call_at, is_by, taken_by, owned_of, rw_spot, rw_role_in, rw_role_at, rw_core_role, mutex_role_at, rw_lock_at, mutex_at, any_lock, lock_at}
+use Rattle.parking_lot_world.specs.Stances.{rw_taken, taken_count}
+use Rattle.parking_lot_world.specs.RowFits.{FitsTogether, is_away, IsOfKind, IsPrepared}
+use Rattle.parking_lot_world.specs.RwLaws.{Meets, count_shared}
+use Rattle.parking_lot_world.proofs.RwKeeping.{calls_keep}
+use Rattle.parking_lot_world.proofs.Everybody.{get-all, was-all, length-all}
+use Rattle.parking_lot_world.proofs.Lifting.{rw_there}
+
+-- who is in a call is a thread of the machine
+pub in_range : (s : State) (t : ℕ) (c : Call) → call_at s t ≡ Some c → t < length s.calls
+in_range s t c h = elim (cases_lt t (length s.calls)) [
+    | inl b ↦ b
+    | inr b ↦ absurd (none-some c (sym (ap (λ o. option_and_then (λ x. x) o) (slice_get_past s.calls t b)) ∙ h))
+  ]
+
+-- few threads were taken
+pub few_taken : (s : State) → FitsTogether s → (t : ℕ) → length (taken_by s.wakes t) < 2 ^ 17
+few_taken s h t =
+    omega (arith, length-map (filter (is_by t) s.wakes) (λ w. w.thread), length-filter (is_by t) s.wakes, count_by-le-length (is_by t) s.wakes, h.wakes.room, count_by-le-length is_away s.calls, h.rules.small)
+
+-- a scan counts few
+few_counted : (us : List ℕ) (p : RwPhase) → length us < 2 ^ 17 → length us ≡ rw_taken p → count_shared p ≤ 2 ^ 17
+few_counted us (r.Scans a) b e = omega (arith, b, e)
+few_counted us (r.Stores a left) b e = omega (arith, b, e)
+few_counted us p b e = omega arith
+
+-- FEW SHARED HOLDS
+
+last_few : (n : ℕ) (q : Rest) → shared_holds (of_rw.owned_at_last n q) ≤ n + 1
+last_few n rest.FreedShared = omega arith
+last_few n rest.FreedExclusive = omega arith
+last_few n rest.Downgraded = omega arith
+last_few n rest.AgainShared = omega arith
+last_few n rest.AgainExclusive = omega arith
+
+owns_few : (n : ℕ) (p : RwPhase) → shared_holds (of_rw.owns n p) ≤ n + 1
+owns_few n (r.BumpLoads (want.Shared recursive)) = omega arith
+owns_few n (r.BumpLoads want.Exclusive) = omega arith
+owns_few n (r.Scans a) = last_few n a.rest
+owns_few n (r.Stores a left) = last_few n a.rest
+owns_few n (r.Leaves rest count handed) = last_few n rest
+owns_few n (r.Wakes rest count) = last_few n rest
+owns_few n (r.Finishes rest) = last_few n rest
+owns_few n (r.Ends outcome.Shared) = omega arith
+owns_few n (r.Ends outcome.Exclusive) = omega arith
+owns_few n (r.Ends outcome.Downgraded) = omega arith
+owns_few n (r.Ends outcome.FreedShared) = omega arith
+owns_few n (r.Ends outcome.FreedExclusive) = omega arith
+owns_few n p = omega arith
+
+module _ (s : State) (h : FitsTogether s) where
+  hold_few : (u i : ℕ) (x : Hold) → hold_at s u i ≡ x → shared_holds (owned_of x) ≤ 256
+  hold_few u i (hold.Shares n) e = omega (arith, h.rules.few u i n e)
+  hold_few u i hold.Excludes e = omega arith
+
+  core_few : (n : ℕ) (at : Spot) (us : List ℕ) (x : Core) → n ≤ 254 → shared_holds (rw_core_role n at us x).owns ≤ 256
+  core_few n at us (core.Rw k) e = omega (arith, owns_few n k.phase, e)
+  core_few n at us (core.Mutex k) e = omega arith
+
+  role_few : (i u : ℕ) (o : Option Call) → call_at s u ≡ o → shared_holds (rw_role_in i (taken_by s.wakes u) (hold_at s u i) o).owns ≤ 256
+  role_few i u None e = hold_few u i (hold_at s u i) refl
+  role_few i u (Some c) e = go (c.lock == i)
+    where
+      go : (b : Bool) → shared_holds (cond b (rw_core_role c.others c.spot (taken_by s.wakes u) c.core) (record { owns = owned_of (hold_at s u i); does = Idle })).owns ≤ 256
+      go true = core_few c.others c.spot (taken_by s.wakes u) c.core (h.rules.beside u c e)
+      go false = hold_few u i (hold_at s u i) refl
+
+  pub rw_sound : (i : ℕ) → slice_get s.kinds i ≡ Some kind.Rw → IsSound (rw_lock_at s i)
+  rw_sound i k = subst (λ (o : Option LockKind). AnySound (any_lock o s i)) k (h.rules.sound.sound i)
+
+  pub mutex_sound : (i : ℕ) → slice_get s.kinds i ≡ Some kind.Mutex → mutex.IsSound (mutex_at s i)
+  mutex_sound i k = subst (λ (o : Option LockKind). AnySound (any_lock o s i)) k (h.rules.sound.sound i)
+
+  -- thread t is in that call
+  pub meets : (t : ℕ) (c : Call) (k : RwCore) → c.core ≡ core.Rw k → call_at s t ≡ Some c
+      → Meets (rw_lock_at s c.lock) t c.others (rw_spot c.spot) (taken_by s.wakes t) k.phase (word_at s c.lock)
+  meets t c k e here =
+      let ready = subst (IsPrepared c.others) e (h.rules.prepared t c here) in
+      let counted = h.lots.counted t c here ∙ ap taken_count e in
+      record {
+        sound = rw_sound c.lock (subst (IsOfKind (slice_get s.kinds c.lock)) e (h.rules.kinds t c here));
+        word = refl;
+        here = get-all (rw_role_at s c.lock) (length s.calls) t (in_range s t c here) ∙ ap Some (ap (rw_role_in c.lock (taken_by s.wakes t) (hold_at s t c.lock)) here ∙ rw_there (taken_by s.wakes t) (hold_at s t c.lock) c ∙ ap (rw_core_role c.others (c.spot) (taken_by s.wakes t)) e);
+        ready = ready.0;
+        prepared = calls_keep.prepared c.others (taken_by s.wakes t) k.phase ready.1 counted (few_counted (taken_by s.wakes t) k.phase (few_taken s h t) counted);
+        threads = omega (arith, length-all (rw_role_at s c.lock) 0 (length s.calls), h.rules.small);
+        few = λ u x at. subst (λ (q : Role). shared_holds q.owns ≤ 256) (sym (was-all (rw_role_at s c.lock) (length s.calls) u x at)) (role_few c.lock u (call_at s u) refl);
+      }

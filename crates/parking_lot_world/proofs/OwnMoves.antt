@@ -1,0 +1,109 @@
+-- Acts that a thread makes by itself: which moves they are, and who is inside a section then.
+use Rattle.std.proofs.Common.{◌≡◌, ℕ, zero, suc, ◌/◌, ◌==◌, ◌&&◌, cond, Bool, true, false, List, Option, Some, None, refl}
+use Rattle.parking_lot_rules.specs.Plain as plain
+use Rattle.parking_lot_rules.specs.Steps.{Alone}
+use Rattle.parking_lot_rules.specs.Family.{crossing}
+use Rattle.parking_lot_cores.specs.declared.act.Act.{Act}
+use Rattle.parking_lot_cores.specs.declared.act.Act.TheVariants as act
+use Rattle.parking_lot_cores.specs.declared.act.SectionAct.TheVariants as section
+use Rattle.parking_lot_cores.specs.declared.act.Seen.{Seen}
+use Rattle.parking_lot_cores.specs.declared.act.Seen.TheVariants as seen
+use Rattle.parking_lot_cores.specs.declared.rw_phase.Want.{Want}
+use Rattle.parking_lot_cores.specs.declared.rw_phase.Want.TheVariants as want
+use Rattle.parking_lot_cores.specs.declared.rw_phase.Draining.{Draining}
+use Rattle.parking_lot_cores.specs.declared.rw_phase.Rest.{Rest}
+use Rattle.parking_lot_cores.specs.declared.rw_phase.Rest.TheVariants as rest
+use Rattle.parking_lot_cores.specs.declared.rw_phase.RwPhase.{RwPhase}
+use Rattle.parking_lot_cores.specs.declared.rw_phase.RwPhase.TheVariants.{Locking, Trying, Loads, Admits, Flags, Enters, Checks, Retreats, Appends, Rests, Sleeps, Loads2, Flags2, Enters2, Checks2, Retreats2, Appends2, Rests2, Sleeps2, TryAdmits, Relocks, Unshares, Owes2, Takes2, Masks2, Leaves2, Unlocks, LooksExclusive, Downgrades, Owes, Scans, Stores, Leaves, Wakes, Finishes}
+use Rattle.parking_lot_cores.specs.RwTable.{act_of, is_parked, is_writer_parked, is_barred, has_readers}
+use Rattle.parking_lot_cores.specs.RwRules.{Move, Stays, Makes, move, mode_of, admission, try_admission, IsTold}
+use Rattle.parking_lot_world.proofs.Making.{Crossed}
+
+-- who is inside after an act of thread t
+abbrev pub AfterAct : Act → ℕ → Option ℕ → Option ℕ → Type 0
+AfterAct (act.Enter key) t old new = (old ≡ None) × (new ≡ Some t)
+AfterAct (act.Section section.Leave) t old new = new ≡ None
+AfterAct a t old new = new ≡ old
+
+-- acts that change neither a list nor another thread
+abbrev pub IsOwnAct : Act → Type 0
+IsOwnAct (act.Section section.TakeFirst) = ⊥
+IsOwnAct (act.Section (section.TakeNext sum)) = ⊥
+IsOwnAct (act.Section (section.Append token)) = ⊥
+IsOwnAct (act.Section (section.Store plain fair)) = ⊥
+IsOwnAct (act.Section section.Wake) = ⊥
+IsOwnAct act.Sleep = ⊥
+IsOwnAct (act.Mask keep) = ⊥
+IsOwnAct (act.Done answer) = ⊥
+IsOwnAct a = Unit {0}
+
+abbrev pub OwnMove : Move → ℕ → Option ℕ → Option ℕ → Type 0
+OwnMove Stays t old new = new ≡ old
+OwnMove (Makes k) t old new = Crossed (crossing (Alone k)) t old new
+OwnMove m t old new = ⊥
+
+module _ (t : ℕ) (old new : Option ℕ) where
+  drains : (d : Draining) (b : Bool) → new ≡ old → OwnMove (cond b Stays (Makes (plain.Drain false d.woken))) t old new
+  drains d true h = h
+  drains d false h = h
+
+  admits : (n : ℕ) (q : Want) (woken : Bool) → new ≡ old → OwnMove (Makes (admission n q woken)) t old new
+  admits n (want.Shared recursive) woken h = h
+  admits n want.Exclusive woken h = h
+
+  try_admits : (n : ℕ) (q : Want) → new ≡ old → OwnMove (Makes (try_admission n q)) t old new
+  try_admits n (want.Shared recursive) h = h
+  try_admits n want.Exclusive h = h
+
+  checks : (q : Want) (woken : Bool) (b : Bool) → new ≡ old → OwnMove (cond b (Makes (plain.Check1 (mode_of q) woken)) Stays) t old new
+  checks q woken true h = h
+  checks q woken false h = h
+
+  checks2 : (woken : Bool) (b : Bool) → new ≡ old → OwnMove (cond b (Makes (plain.Check2 false woken)) Stays) t old new
+  checks2 woken true h = h
+  checks2 woken false h = h
+
+  unshares : (n : ℕ) (b : Bool) → new ≡ old → OwnMove (Makes (cond b (plain.UnshareLast n) (plain.Unshare n))) t old new
+  unshares n true h = h
+  unshares n false h = h
+
+  pub own_moves : (n : ℕ) (us : List ℕ) (p : RwPhase) (x : ℕ) (s : Seen) → IsTold p x s → IsOwnAct (act_of p) → AfterAct (act_of p) t old new → OwnMove (move n us p s) t old new
+  own_moves n us (Loads a) x s told own h = h
+  own_moves n us (Admits a word) x seen.Exchanged told own h = admits n a.want a.woken h
+  own_moves n us (Flags a word) x seen.Exchanged told own h = h
+  own_moves n us (Enters q woken) x s told own h = h
+  own_moves n us (Checks q woken) x (seen.Word word) told own h = checks q woken (is_barred q word && is_parked word) h
+  own_moves n us (Retreats q woken) x s told own h = h
+  own_moves n us (Appends q) x s told own h = absurd own
+  own_moves n us (Rests q) x s told own h = h
+  own_moves n us (Sleeps q) x s told own h = absurd own
+  own_moves n us (Loads2 d) x (seen.Word word) told own h = drains d (has_readers word) h
+  own_moves n us (Flags2 d flagged) x seen.Exchanged told own h = h
+  own_moves n us (Flags2 d flagged) x (seen.Word word) told own h = drains d (has_readers word) h
+  own_moves n us (Enters2 d) x s told own h = h
+  own_moves n us (Checks2 d) x (seen.Word word) told own h = checks2 d.woken (has_readers word && is_writer_parked word) h
+  own_moves n us (Retreats2 d) x s told own h = h
+  own_moves n us (Appends2 rounds) x s told own h = absurd own
+  own_moves n us (Rests2 rounds) x s told own h = h
+  own_moves n us (Sleeps2 rounds) x s told own h = absurd own
+  own_moves n us (TryAdmits q word left) x seen.Exchanged told own h = try_admits n q h
+  own_moves n us (Relocks q) x s told own h = h
+  own_moves n us (Unshares rest) x (seen.Before word) told own h = unshares n (word / 16 == 1 && is_writer_parked word) h
+  own_moves n us (Owes2 rest) x s told own h = h
+  own_moves n us (Takes2 rest) x s told own h = absurd own
+  own_moves n us (Masks2 rest taken) x s told own h = absurd own
+  own_moves n us (Leaves2 rest taken) x s told own h = h
+  own_moves n us (Unlocks fair rest) x seen.Exchanged told own h = h
+  own_moves n us (LooksExclusive fair rest) x s told own h = h
+  own_moves n us Downgrades x (seen.Before word) told own h = h
+  own_moves n us Owes x s told own h = h
+  own_moves n us (Scans a) x s told own h = absurd own
+  own_moves n us (Stores a left) x s told own h = absurd own
+  own_moves n us (Leaves rest count handed) x s told own h = h
+  own_moves n us (Wakes rest count) x s told own h = absurd own
+  own_moves n us (Finishes rest.FreedShared) x s told own h = absurd own
+  own_moves n us (Finishes rest.FreedExclusive) x s told own h = absurd own
+  own_moves n us (Finishes rest.Downgraded) x s told own h = absurd own
+  own_moves n us (Finishes rest.AgainShared) x s told own h = h
+  own_moves n us (Finishes rest.AgainExclusive) x s told own h = h
+  own_moves n us p x s told own h = h

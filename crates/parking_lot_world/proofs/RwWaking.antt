@@ -1,0 +1,135 @@
+-- A thread that has taken waiters stores, and wakes them one by one: steps of the rules.
+use Rattle.std.proofs.Common.{◌≡◌, ◌<◌, ℕ, ◌==◌, ◌||◌, ◌⊎◌, inl, inr, Bool, true, false, cond, List, [], ◌∷◌, length, map, Some, slice_get, slice_set, refl, sym, ap, ◌∙◌, subst, arith, ◌&&◌, nat_lt, ◌-◌}
+use Rattle.std.proofs.lemmas.Option.{same_Some}
+use Rattle.parking_lot_core.specs.Results.{is_left}
+use Rattle.parking_lot_rules.specs.Roles.{Mode, Shares, Role, Mark, Owned}
+use Rattle.parking_lot_rules.specs.Roles as rules
+use Rattle.parking_lot_rules.specs.Clauses.{Word, number}
+use Rattle.parking_lot_rules.specs.Lists.{occurs}
+use Rattle.parking_lot_rules.specs.Lock.{Lock, On1, to_wake}
+use Rattle.parking_lot_rules.specs.ReadLock.{word_of}
+use Rattle.parking_lot_rules.specs.Steps.{Scan, IsOver, Ending, Free, FreeUpgradable, Hand, HandUpgradable, Keep, ends_saying, stored, settle, Store, Wake, Waking, Recheck, waking_from, waking_to, Allowed, after}
+use Rattle.parking_lot_rules.proofs.Sounds.{step_sound}
+use Rattle.parking_lot_cores.specs.MutexTable as of_mutex
+use Rattle.parking_lot_cores.specs.declared.act.Seen.TheVariants as seen
+use Rattle.parking_lot_cores.specs.declared.rw_phase.Want.{Want}
+use Rattle.parking_lot_cores.specs.declared.rw_phase.Want.TheVariants as want
+use Rattle.parking_lot_cores.specs.declared.rw_phase.Rest.{Rest}
+use Rattle.parking_lot_cores.specs.declared.rw_phase.Rest.TheVariants.{FreedShared, FreedExclusive, Downgraded, AgainShared, AgainExclusive}
+use Rattle.parking_lot_cores.specs.declared.rw_phase.RwPhase.TheVariants.{Sleeps, Sleeps2, Stores, Leaves, Wakes, Loads}
+use Rattle.parking_lot_cores.specs.RwTable.{next_phase, hands, count_of, wakes_with, admits, begins, act_of, may_hand}
+use Rattle.parking_lot_cores.specs.Acts.{word_after}
+use Rattle.parking_lot_cores.specs.RwRules.{Spot, Listed, Off, role, mode_of, waking, ending, owned_at_last, scan_of}
+use Rattle.parking_lot_cores.proofs.MutexFollowing.{either}
+use Rattle.parking_lot_world.specs.declared.seat.Told.TheVariants as told
+use Rattle.parking_lot_world.specs.RwLaws.{IsStep, Meets, ending_of, StoresAreSteps, TokensSay, WakesAreSteps, WokenAreTold, OnlySleepersStand}
+use Rattle.parking_lot_world.specs.Rows.{mark_of}
+use Rattle.parking_lot_world.specs.RowActs.{told_of}
+use Rattle.parking_lot_world.proofs.RwMoving.{moved, same_word}
+use Rattle.parking_lot_world.proofs.RwTaking.{same_scan}
+
+-- STORES
+
+-- how many are left doesn't matter, but whether some are
+stored_left : (e : Ending) (r : ℕ) (u x : Bool) (q : List ℕ) (left : Bool) (w : Word) → is_left q ≡ left → stored e r u x (of_mutex.bit left) w ≡ stored e r u x (length q) w
+stored_left e r u x q left w same = sym (ap (λ b. stored e r u x (of_mutex.bit b) w) same) ∙ some e q
+  where
+    some : (e : Ending) (q : List ℕ) → stored e r u x (of_mutex.bit (is_left q)) w ≡ stored e r u x (length q) w
+    some Free [] = refl
+    some Free (y ∷ ys) = refl
+    some FreeUpgradable [] = refl
+    some FreeUpgradable (y ∷ ys) = refl
+    some Hand [] = refl
+    some Hand (y ∷ ys) = refl
+    some HandUpgradable [] = refl
+    some HandUpgradable (y ∷ ys) = refl
+    some Keep [] = refl
+    some Keep (y ∷ ys) = refl
+
+none_left : (q : List ℕ) → is_left q ≡ false → length q ≡ 0
+none_left [] e = refl
+none_left (y ∷ ys) e = absurd cc
+
+is_over : (l : Lock) (s : Scan) (left : Bool) → is_left l.first ≡ left → (s.writer ≡ true) ⊎ (left ≡ false) → IsOver s l.roles l.first
+is_over l s left same (inl writer) = inl writer
+is_over l s left same (inr none) = let z = none_left l.first (same ∙ none) in inr (λ j u r below here there. absurd (omega arith))
+
+pub stores_are_steps : StoresAreSteps
+stores_are_steps l t n spot us a left x fair h same over =
+    let p = Stores a left in
+    let e = ending_of a fair in
+    let s = scan_of n a us in
+    let w = word_after (act_of p) (seen.Stored fair) x in
+    let m = (moved l t n spot us p x h (seen.Stored fair) tt).0 in
+    let is : m.0 ≡ s = same_scan m.0 s (sym m.1.from) in
+    let may : Allowed false t (Store e s) l = (h.here, ap (λ (c : Scan). c.cause) (sym is) ∙ m.1.cause, m.1.may, is_over l s left same over) in
+    let to : role n Listed us (next_phase p (seen.Stored fair)) ≡ record { owns = s.owns; does = rules.Stored1 us } = m.1.to ∙ ap (λ (c : Scan). record { owns = c.owns; does = rules.Stored1 us }) is in
+    let said : w ≡ number (stored e s.shared s.upgradable s.writer (length l.first) l.word) =
+    m.1.written ∙ ap (λ (c : Scan). number (stored e c.shared c.upgradable c.writer (of_mutex.bit left) l.word)) is ∙ ap number (stored_left e s.shared s.upgradable s.writer l.first left l.word same) in
+    let word : stored e s.shared s.upgradable s.writer (length l.first) l.word ≡ word_of w = same_word (after t (Store e s) l) (step_sound false t (Store e s) l h.sound may) w said in
+    (may, λ j. record l { word = word j; roles = slice_set (map (settle (ends_saying e)) l.roles) t (sym to j) })
+
+pub tokens_say : TokensSay
+tokens_say a left fair = by_rest a.rest (hands a (a.fair || fair)) (λ e. ap (λ q. may_hand q && ((a.fair || fair) && nat_lt 0 (count_of a))) e)
+  where
+    by_rest : (q : Rest) (b : Bool) → (q ≡ Downgraded → b ≡ false) → mark_of (told_of (wakes_with (Leaves q (count_of a) b))) ≡ ends_saying (ending q b)
+    by_rest FreedShared true f = refl
+    by_rest FreedShared false f = refl
+    by_rest FreedExclusive true f = refl
+    by_rest FreedExclusive false f = refl
+    by_rest Downgraded true f = absurd (let e = f refl in cc)
+    by_rest Downgraded false f = refl
+    by_rest AgainShared true f = refl
+    by_rest AgainShared false f = refl
+    by_rest AgainExclusive true f = refl
+    by_rest AgainExclusive false f = refl
+
+-- WAKES
+
+wakes_role : (n : ℕ) (vs : List ℕ) (rest : Rest) (count : ℕ) → role n Listed vs (next_phase (Wakes rest count) seen.Made) ≡ record { owns = owned_at_last n rest; does = rules.Wakes vs }
+wakes_role n vs rest count = either (role n Listed vs) (nat_lt 0 (count - 1)) _ _ _ refl refl
+
+-- what one that was told so is, before it is woken and after that
+before_wake : (want : Want) (t : ℕ) (b : Bool) → record { owns = Shares 0; does = rules.Taken1 (mode_of want) t (mark_of (cond b told.HandedOver told.TryAgain)) rules.Asleep } ≡ waking_from (waking want b) t rules.Asleep
+before_wake want t false = refl
+before_wake (want.Shared recursive) t true = refl
+before_wake want.Exclusive t true = refl
+
+after_wake : (want : Want) (ws : List ℕ) (b : Bool) → role 0 Listed ws (cond b (admits want true) (Loads (begins want true))) ≡ waking_to (waking want b)
+after_wake want ws false = refl
+after_wake (want.Shared recursive) ws true = refl
+after_wake want.Exclusive ws true = refl
+
+wakes_one : (l : Lock) (t n : ℕ) (spot : Spot) (v : ℕ) (vs : List ℕ) (rest : Rest) (count x : ℕ) (k : Waking) (r : Role) → Meets l t n spot (v ∷ vs) (Wakes rest count) x → slice_get l.roles v ≡ Some (waking_from k t rules.Asleep) → r ≡ waking_to k
+    → IsStep t (Wake (owned_at_last n rest) v vs k rules.Asleep) l
+    (record l { word = word_of x; roles = slice_set (slice_set l.roles v r) t (role n Listed vs (next_phase (Wakes rest count) seen.Made)) })
+wakes_one l t n spot v vs rest count x k r h from to =
+    let own = wakes_role n vs rest count in
+    ((h.here, from, refl), λ i. record l { word = h.word i; roles = slice_set (slice_set l.roles v (sym to i)) t (sym own i) })
+
+pub wakes_are_steps : WakesAreSteps
+wakes_are_steps l t n spot v vs rest count x m mark ws (Sleeps want) key park token h at asleep nothing said =
+    let b = token.0 == 1 in
+    let from : role m (Off t mark) ws (Sleeps want) ≡ waking_from (waking want b) t rules.Asleep =
+    ap (λ y. role y (Off t mark) ws (Sleeps want)) nothing ∙ ap (λ y. role 0 (Off t y) ws (Sleeps want)) said ∙ before_wake want t b in
+    let to : role m Listed ws (next_phase (Sleeps want) (seen.Woken token)) ≡ waking_to (waking want b) = ap (λ y. role y Listed ws (next_phase (Sleeps want) (seen.Woken token))) nothing ∙ after_wake want ws b in
+    (waking want b, wakes_one l t n spot v vs rest count x (waking want b) _ h (at ∙ ap (λ r. Some r) from) to)
+wakes_are_steps l t n spot v vs rest count x m mark ws (Sleeps2 rounds) key park token h at asleep nothing said =
+    let from : role m (Off t mark) ws (Sleeps2 rounds) ≡ waking_from (Recheck false) t rules.Asleep = ap (λ y. role y (Off t mark) ws (Sleeps2 rounds)) nothing in
+    let to : role m Listed ws (next_phase (Sleeps2 rounds) (seen.Woken token)) ≡ waking_to (Recheck false) = ap (λ y. role y Listed ws (next_phase (Sleeps2 rounds) (seen.Woken token))) nothing in
+    (Recheck false, wakes_one l t n spot v vs rest count x (Recheck false) _ h (at ∙ ap (λ r. Some r) from) to)
+wakes_are_steps l t n spot v vs rest count x m mark ws q key park token h at asleep nothing said = absurd (cc)
+
+pub woken_are_told : WokenAreTold
+woken_are_told l t v own has us mode rules.Open sound waker there e =
+    let p = sound.noted v t _ (On1 rules.Open) there refl in
+    let is : p.0 ≡ record { owns = own; does = rules.Wakes us } = same_Some p.0 _ (sym p.1 ∙ waker) in
+    let some : 0 < occurs v [] = subst (λ (r : Role). 0 < occurs v (to_wake r.does (On1 rules.Open))) is p.2 in
+    omega arith
+woken_are_told l t v own has us mode rules.Normal sound waker there e = cc
+woken_are_told l t v own has us mode rules.Handed sound waker there e = cc
+
+pub only_sleepers_stand : OnlySleepersStand
+only_sleepers_stand n spot us (Sleeps want) awake = absurd (awake _ _ refl)
+only_sleepers_stand n spot us (Sleeps2 rounds) awake = absurd (awake _ _ refl)
+only_sleepers_stand n spot us p awake = refl

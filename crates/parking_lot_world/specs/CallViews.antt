@@ -1,0 +1,77 @@
+-- What a call says of its thread at its lock: how it owns the lock, whether it is in debt there, and whether it sleeps.
+use Rattle.std.specs.Prelude.{ℕ, zero, suc, Bool, true, false, List, Option, Some, None}
+use Rattle.parking_lot_rules.specs.Roles.{Role}
+use Rattle.parking_lot_rules.specs.Owners.{Owner, Reading, Upgrading, Awaiting, Writing, owner_of}
+use Rattle.parking_lot_rules.specs.Laws as of_rw
+use Rattle.parking_lot_rules.specs.Debts as rw_debts
+use Rattle.parking_lot_rules.specs.Mutex as mutex
+use Rattle.parking_lot_rules.specs.MutexOwners as mutex_owners
+use Rattle.parking_lot_rules.specs.MutexLaws as of_mutex
+use Rattle.parking_lot_rules.specs.MutexDebts as mutex_debts
+use Rattle.parking_lot_cores.specs.declared.mutex_phase.MutexPhase.{MutexPhase}
+use Rattle.parking_lot_cores.specs.declared.mutex_phase.MutexPhase.TheVariants as m
+use Rattle.parking_lot_cores.specs.declared.rw_phase.RwPhase.{RwPhase}
+use Rattle.parking_lot_cores.specs.declared.rw_phase.RwPhase.TheVariants as r
+use Rattle.parking_lot_world.specs.declared.calls.OwnMode.{OwnMode}
+use Rattle.parking_lot_world.specs.declared.calls.OwnMode.TheVariants as mode
+use Rattle.parking_lot_world.specs.declared.seat.Spot.{Spot}
+use Rattle.parking_lot_world.specs.declared.seat.Core.{Core}
+use Rattle.parking_lot_world.specs.declared.seat.Core.TheVariants as core
+use Rattle.parking_lot_world.specs.declared.seat.Call.{Call}
+use Rattle.parking_lot_world.specs.Rows.{rw_core_role, mutex_core_role}
+
+-- HOW A ROLE OWNS ITS LOCK
+
+-- no shared hold is no owner
+abbrev pub mode_of : Owner → Option OwnMode
+mode_of (Reading zero) = None
+mode_of (Reading (suc n)) = Some mode.Shared
+mode_of Upgrading = Some mode.Upgradable
+mode_of Awaiting = Some mode.Pending
+mode_of Writing = Some mode.Exclusive
+
+abbrev pub rw_mode : Role → Option OwnMode
+rw_mode r = mode_of (owner_of r.owns r.does)
+
+abbrev pub mutex_mode_if : Bool → Option OwnMode
+mutex_mode_if true = Some mode.Exclusive
+mutex_mode_if false = None
+
+abbrev pub mutex_mode : mutex.Role → Option OwnMode
+mutex_mode r = mutex_mode_if (mutex_owners.owner_of r.owns r.does)
+
+-- THE ROLE OF A CALL'S THREAD, WHICH HAS TAKEN us AND IS TO WAKE THEM
+
+abbrev pub core_mode : ℕ → Spot → List ℕ → Core → Option OwnMode
+core_mode n at us (core.Mutex c) = mutex_mode (mutex_core_role at us (core.Mutex c))
+core_mode n at us (core.Rw c) = rw_mode (rw_core_role n at us (core.Rw c))
+
+abbrev pub core_in_debt : ℕ → Spot → List ℕ → Core → Bool
+core_in_debt n at us (core.Mutex c) = mutex_debts.is_in_debt (mutex_core_role at us (core.Mutex c)).does
+core_in_debt n at us (core.Rw c) = rw_debts.is_in_debt (rw_core_role n at us (core.Rw c)).does
+
+abbrev pub core_asleep : ℕ → Spot → List ℕ → Core → Bool
+core_asleep n at us (core.Mutex c) = of_mutex.is_asleep (mutex_core_role at us (core.Mutex c)).does
+core_asleep n at us (core.Rw c) = of_rw.is_asleep (rw_core_role n at us (core.Rw c)).does
+
+abbrev pub call_mode : List ℕ → Call → Option OwnMode
+call_mode us c = core_mode c.others c.spot us c.core
+
+abbrev pub call_in_debt : List ℕ → Call → Bool
+call_in_debt us c = core_in_debt c.others c.spot us c.core
+
+abbrev pub call_asleep : List ℕ → Call → Bool
+call_asleep us c = core_asleep c.others c.spot us c.core
+
+-- An owner that gives the lock up and has seen that others wait, and enters a section next.
+abbrev pub mutex_looks : MutexPhase → Bool
+mutex_looks (m.Looks giving) = true
+mutex_looks phase = false
+
+abbrev pub rw_looks : RwPhase → Bool
+rw_looks (r.LooksExclusive fair rest) = true
+rw_looks phase = false
+
+abbrev pub call_looks : Core → Bool
+call_looks (core.Mutex c) = mutex_looks c.phase
+call_looks (core.Rw c) = rw_looks c.phase

@@ -1,0 +1,206 @@
+//! What each act of a call does to the machine.
+ghost use Rattle.std.specs.Prelude.{◌≡◌, ◌<◌, ◌+◌, ◌*◌, ◌%◌, ◌^◌, length, map, slice_get, Some, None};
+ghost use Rattle.std.specs.Option.{option_map};
+ghost use Rattle.parking_lot_cores.specs.declared.act.Act.TheVariants as act;
+ghost use Rattle.parking_lot_cores.specs.declared.act.SectionAct.TheVariants as section;
+ghost use Rattle.parking_lot_world.specs.Rows.{call_at, state, word_at};
+ghost use Rattle.parking_lot_world.specs.Stances.{core_act};
+ghost use Rattle.parking_lot_world.specs.RowActs.{added, answered, appended, begun, checked, entered, exchanged, key_of, left, loaded, masked, settled, spun, told_all, took, took_nobody, woke};
+
+use crate::row_machine::RowMachine;
+use crate::seat::{Call, Told, Wakeup};
+use parking_lot_core::{FilterOp, ParkResult, ParkToken, UnparkToken};
+use parking_lot_cores::{Seen, TRY_AGAIN, WordChange};
+use std::alloc::Allocator;
+
+/// One that took sleepers tells all of them whom it hasn't told yet.
+fn settle(calls: &mut [Option<Call>], by: usize, said: Told)
+    ensures { calls.new ≡ map (option_map (settled by said)) calls.old }
+{
+    for at in 0..calls.len() {
+        calls[at] = calls[at].map(|call| call.settled(by, said));
+    }
+}
+
+impl<A: Allocator> RowMachine<A> {
+    /// It looks at the word.
+    pub(crate) fn load(&mut self, thread: usize, call: Call)
+        requires here { call_at (state self.old) thread ≡ Some call }
+        requires asked { core_act call.core ≡ act.Load }
+        ensures { state self.new ≡ loaded (state self.old) thread call }
+    {
+        let word = self.words[call.lock];
+        self.calls[thread] = Some(call.told(Seen::Word(word)));
+    }
+
+    /// It compares the word and exchanges it.
+    pub(crate) fn exchange(&mut self, thread: usize, call: Call, from: u64, to: u64)
+        requires here { call_at (state self.old) thread ≡ Some call }
+        requires asked { core_act call.core ≡ act.Exchange from to }
+        ensures { state self.new ≡ exchanged (state self.old) thread call from to }
+    {
+        let word = self.words[call.lock];
+        if word == from {
+            self.words[call.lock] = to;
+            self.calls[thread] = Some(call.told(Seen::Exchanged));
+        } else {
+            self.calls[thread] = Some(call.told(Seen::Word(word)));
+        }
+    }
+
+    /// It adds to the word.
+    pub(crate) fn add(&mut self, thread: usize, call: Call, by: u64)
+        requires here { call_at (state self.old) thread ≡ Some call }
+        requires asked { core_act call.core ≡ act.Add by }
+        ensures { state self.new ≡ added (state self.old) thread call by }
+    {
+        let word = self.words[call.lock];
+        self.words[call.lock] = word.wrapping_add(by);
+        self.calls[thread] = Some(call.told(Seen::Before(word)));
+    }
+
+    /// It clears bits of the word, in a section of the second list.
+    pub(crate) fn mask(&mut self, thread: usize, call: Call, keep: u64)
+        requires here { call_at (state self.old) thread ≡ Some call }
+        requires asked { core_act call.core ≡ act.Mask keep }
+        ensures { state self.new ≡ masked (state self.old) thread call keep }
+    {
+        let word = self.words[call.lock];
+        let Ok(()) = self.lot.store_done(thread, TRY_AGAIN) else {
+            return;
+        };
+        self.words[call.lock] = word & keep;
+        self.calls[thread] = Some(call.told(Seen::Before(word)));
+        settle(&mut self.calls, thread, Told::TryAgain);
+    }
+
+    /// It spins for a round.
+    pub(crate) fn spin(&mut self, thread: usize, call: Call)
+        requires here { call_at (state self.old) thread ≡ Some call }
+        requires asked { core_act call.core ≡ act.Spin }
+        ensures { state self.new ≡ spun (state self.old) thread call }
+    {
+        self.calls[thread] = Some(call.told(Seen::Spun(true)));
+    }
+
+    /// It enters a section, where nobody is in one.
+    pub(crate) fn enter(&mut self, thread: usize, call: Call, which: u8)
+        requires here { call_at (state self.old) thread ≡ Some call }
+        requires asked { core_act call.core ≡ act.Enter which }
+        requires free { (state self.old).lot.section ≡ None }
+        ensures { state self.new ≡ entered (state self.old) thread call which }
+    {
+        let Ok(()) = self.lot.enter(thread, call.key(which)) else {
+            return;
+        };
+        self.calls[thread] = Some(call.told(Seen::Entered));
+    }
+
+    /// It looks at the word in its section.
+    pub(crate) fn check(&mut self, thread: usize, call: Call)
+        requires here { call_at (state self.old) thread ≡ Some call }
+        requires asked { core_act call.core ≡ act.Section section.Check }
+        ensures { state self.new ≡ checked (state self.old) thread call }
+    {
+        let word = self.words[call.lock];
+        let next = call.told(Seen::Word(word));
+        let Ok(_) = self.lot.check(thread, next.core.joins()) else {
+            return;
+        };
+        self.calls[thread] = Some(next);
+    }
+
+    /// It joins the list.
+    pub(crate) fn append(&mut self, thread: usize, call: Call, token: ParkToken)
+        requires here { call_at (state self.old) thread ≡ Some call }
+        requires asked { core_act call.core ≡ act.Section (section.Append token) }
+    {
+        let Ok(()) = self.lot.append(thread, token, false) else {
+            return;
+        };
+        self.calls[thread] = Some(call.listed());
+    }
+
+    /// It takes the next waiter of a list that a filter wants.
+    pub(crate) fn take<F: FnMut(ParkToken) -> FilterOp + Drop>(
+        &mut self,
+        thread: usize,
+        call: Call,
+        key: usize,
+        filter: F,
+    )
+        requires filter { F.IsAlwaysCallable filter }
+        requires here { call_at (state self.old) thread ≡ Some call }
+    {
+        let Ok(taking) = self.lot.take_next(thread, filter) else {
+            return;
+        };
+        let left = self.lot.has_waiters(key);
+        let token = taking.map(|taking| taking.token);
+        if let Some(taking) = taking {
+            self.calls[taking.thread] = self.call(taking.thread).map(|call| call.off_list(thread));
+            self.wakes.push_reserved(Wakeup {
+                by: thread,
+                thread: taking.thread,
+                mark: taking.mark,
+            });
+        }
+        self.calls[thread] = Some(call.told(Seen::Took { token, left }));
+    }
+
+    /// It changes the word, and tells those whom it took.
+    pub(crate) fn store(&mut self, thread: usize, call: Call, change: WordChange, fair: bool)
+        requires here { call_at (state self.old) thread ≡ Some call }
+        ensures { state self.new ≡ told_all (state self.old) thread call change fair }
+    {
+        let next = call.told(Seen::Stored { fair });
+        let token = next.core.wake_token();
+        let Ok(()) = self.lot.store_done(thread, token) else {
+            return;
+        };
+        self.words[call.lock] = change.of(self.words[call.lock]);
+        self.calls[thread] = Some(next);
+        settle(&mut self.calls, thread, Told::by(token));
+    }
+
+    /// It leaves its section.
+    pub(crate) fn leave(&mut self, thread: usize, call: Call)
+        requires here { call_at (state self.old) thread ≡ Some call }
+        requires asked { core_act call.core ≡ act.Section section.Leave }
+        ensures { state self.new ≡ left (state self.old) thread call }
+    {
+        let Ok(()) = self.lot.leave(thread) else {
+            return;
+        };
+        self.calls[thread] = Some(call.told(Seen::Made));
+    }
+
+    /// It wakes the first whom it has taken.
+    pub(crate) fn wake(&mut self, thread: usize, call: Call)
+        requires here { call_at (state self.old) thread ≡ Some call }
+        requires asked { core_act call.core ≡ act.Section section.Wake }
+    {
+        let Some(at) = self.wakes.iter().position(|wakeup| wakeup.by == thread) else {
+            return;
+        };
+        let wakeup = self.wakes.remove(at);
+        self.lot.wake(wakeup.thread, wakeup.mark);
+        let Ok(ParkResult::Unparked(token)) = self.lot.resume(wakeup.thread, |_, _| {}) else {
+            return;
+        };
+        self.calls[wakeup.thread] = self
+            .call(wakeup.thread)
+            .map(|sleeper| sleeper.told(Seen::Woken(token)));
+        self.calls[thread] = Some(call.told(Seen::Made));
+    }
+
+    /// Its call is over.
+    pub(crate) fn answer(&mut self, thread: usize, call: Call)
+        requires here { call_at (state self.old) thread ≡ Some call }
+        ensures { state self.new ≡ answered (state self.old) thread call }
+    {
+        let cell = thread * self.kinds.len() + call.lock;
+        self.holds[cell] = call.core.hold_after(call.others);
+        self.calls[thread] = None;
+    }
+}

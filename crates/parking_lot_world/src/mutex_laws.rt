@@ -1,0 +1,27 @@
+//! Laws of mutexes: what the calls' cores are told is a step of the rules.
+ghost use Rattle.std.specs.Prelude.{◌≡◌, true};
+ghost use Rattle.parking_lot_cores.specs.declared.act.Seen.{Seen};
+ghost use Rattle.parking_lot_world.specs.declared.seat.Core.{Core};
+ghost use Rattle.parking_lot_world.specs.Stances.{core_next, has_begun};
+ghost use Rattle.parking_lot_world.specs.MutexLaws.{MutexAnswersAreSteps, MutexRolesAreKnown, MutexWordsAreNumbers};
+
+/// What the core of a call at a sound mutex is told, is a step that the rules allow: the word and the roles after it are those that the
+/// core's tables name.
+pub fn answers_are_steps_of_a_sound_mutex()
+    ensures { MutexAnswersAreSteps }
+{}
+
+/// The word of a sound mutex is two bits, and they are one number below 4.
+pub fn words_of_a_mutex_are_numbers()
+    ensures { MutexWordsAreNumbers }
+{}
+
+/// What a thread is to a mutex follows from its call's phase, and while it sleeps from where it stands.
+pub fn roles_at_a_mutex_are_known()
+    ensures { MutexRolesAreKnown }
+{}
+
+/// A call that was told that it begins has begun, and goes on so.
+pub fn calls_that_have_begun_go_on()
+    ensures { (c : Core) (s : Seen) → has_begun (core_next c s) ≡ true }
+{}
