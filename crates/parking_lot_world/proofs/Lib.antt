@@ -25,6 +25,8 @@ pub mod MutexMoving
 pub mod Beginning
 pub mod LotTakes
 pub mod LotWakes
+pub mod LotKept
+pub mod LotCalls
 pub mod RwKeeping
 pub mod RwCrossing
 mod Starting

@@ -13,7 +13,7 @@ mod rw_laws;
 mod seat;
 mod step;
 
-pub use lot_laws::stances_follow_acts;
+pub use lot_laws::{acts_keep_places, stances_follow_acts, the_lot_never_refuses};
 pub use calls::{LockAnswer, LockCall, LockKind, OwnMode};
 pub use fault::{WorldFault, WorldRefusal};
 pub use mutex_laws::{

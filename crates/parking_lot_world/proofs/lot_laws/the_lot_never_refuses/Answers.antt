@@ -1,0 +1,5 @@
+use Rattle.parking_lot_world.proofs.LotCalls.{lot_never_refuses}
+use Rattle.parking_lot_world.proofs.lot_laws.the_lot_never_refuses.Goals as goal
+
+pub returns : goal.returns
+returns c = lot_never_refuses
