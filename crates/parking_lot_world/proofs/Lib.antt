@@ -1,3 +1,4 @@
 pub mod MutexRoles
 pub mod MutexMoving
 pub mod Beginning
+pub mod MutexTelling

@@ -12,8 +12,8 @@ mod step;
 pub use calls::{LockAnswer, LockCall, LockKind, OwnMode};
 pub use fault::{WorldFault, WorldRefusal};
 pub use mutex_laws::{
-    answers_are_steps_of_a_sound_mutex, calls_that_have_begun_go_on, roles_at_a_mutex_are_known,
-    words_of_a_mutex_are_numbers,
+    a_mutex_is_shown_as_it_is, answers_are_steps_of_a_sound_mutex, calls_that_have_begun_go_on,
+    roles_at_a_mutex_are_known, words_of_a_mutex_are_numbers,
 };
 pub use parking_lot_cores::{
     Act, CoreAnswer, HAND_OVER, LockTable, MutexCore, Row, RwCore, SectionAct, Seen, TRY_AGAIN,
