@@ -8,6 +8,7 @@ mod mutex_laws;
 mod row_machine;
 mod seat;
 mod step;
+mod view_laws;
 
 pub use calls::{LockAnswer, LockCall, LockKind, OwnMode};
 pub use fault::{WorldFault, WorldRefusal};
@@ -21,3 +22,4 @@ pub use parking_lot_cores::{
 };
 pub use row_machine::RowMachine;
 pub use step::WorldStep;
+pub use view_laws::modes_are_weighed;
