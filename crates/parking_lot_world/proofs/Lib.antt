@@ -33,3 +33,5 @@ mod Starting
 mod Acting
 pub mod RwTelling
 pub mod RwSleeping
+pub mod MutexTelling
+pub mod Weighing

@@ -12,13 +12,14 @@ mod row_machine;
 mod rw_laws;
 mod seat;
 mod step;
+mod view_laws;
 
 pub use lot_laws::{acts_keep_places, stances_follow_acts, the_lot_never_refuses};
 pub use calls::{LockAnswer, LockCall, LockKind, OwnMode};
 pub use fault::{WorldFault, WorldRefusal};
 pub use mutex_laws::{
-    answers_are_steps_of_a_sound_mutex, calls_that_have_begun_go_on, roles_at_a_mutex_are_known,
-    words_of_a_mutex_are_numbers,
+    a_mutex_is_shown_as_it_is, answers_are_steps_of_a_sound_mutex, calls_that_have_begun_go_on,
+    roles_at_a_mutex_are_known, words_of_a_mutex_are_numbers,
 };
 pub use parking_lot_cores::{
     Act, CoreAnswer, HAND_OVER, LockTable, MutexCore, Row, RwCore, SectionAct, Seen, TRY_AGAIN,
@@ -34,3 +35,4 @@ pub use rw_laws::{
     woken_are_told, words_are_numbers, writers_are_taken,
 };
 pub use step::WorldStep;
+pub use view_laws::modes_are_weighed;
