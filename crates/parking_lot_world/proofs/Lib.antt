@@ -30,6 +30,7 @@ pub mod LotCalls
 pub mod RwKeeping
 pub mod RwCrossing
 mod Starting
+mod Answering
 mod Acting
 pub mod RwTelling
 pub mod RwSleeping

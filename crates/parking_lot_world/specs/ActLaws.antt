@@ -12,12 +12,17 @@ use Rattle.parking_lot_world.specs.Rows.{State, word_at, call_at}
 use Rattle.parking_lot_world.specs.Stances.{core_act}
 use Rattle.parking_lot_world.specs.RowActs.{loaded, exchanged, added, spun, entered, checked, left}
 use Rattle.parking_lot_world.specs.RowFits.{FitsTogether}
-use Rattle.parking_lot_world.specs.RowSteps.{Goes}
+use Rattle.parking_lot_world.specs.RowSteps.{Goes, GoesAway}
 
 -- The act of thread t in a call c, which is told this, keeps the machine fit, and is the step of the rules that the core's table names.
 pub record Acts (t : ℕ) (c : Call) (told : Seen) (s u : State) : Type 0 where
   pub fits : FitsTogether u
   pub goes : Goes t c told s u
+
+-- and so does its end, of a call that is answered
+pub record Ends (t : ℕ) (c : Call) (s u : State) : Type 0 where
+  pub fits : FitsTogether u
+  pub goes : GoesAway t c s u
 
 -- of a machine that fits, where t is in that call
 abbrev pub Keeps : ℕ → Call → State → State → Type 0
