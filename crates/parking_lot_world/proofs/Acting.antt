@@ -35,8 +35,8 @@ use Rattle.parking_lot_world.proofs.OwnMoves.{AfterAct, IsOwnAct}
 use Rattle.parking_lot_world.proofs.Owning.{OwnAct}
 use Rattle.parking_lot_world.proofs.OwnActs.{own_rw, own_mutex}
 use Rattle.parking_lot_world.proofs.WakesKept.{wakes_own}
-use Rattle.parking_lot_world.proofs.Starting.{made_from}
-use Rattle.parking_lot_world.proofs.Answering.{cells_apart}
+use Rattle.parking_lot_world.proofs.Starting.{begins}
+use Rattle.parking_lot_world.proofs.Answering.{ends}
 
 -- A thread's own act, of which the lot's side is known.
 module _ (s u : State) (t : ℕ) (c : Call) (told : Seen) (h : FitsTogether s) (a : OwnAct s u t c told (core_next c.core told) c.spot) (lists_same : (key : ℕ) → u.lot.queues key ≡ s.lot.queues key) (gives : Gives (core_act c.core) (word_at s c.lock) told)
@@ -239,4 +239,6 @@ laws = record {
   enter = enter;
   check = check;
   leave = leave;
+  begin = λ s t c h may. begins s t c may h;
+  end = λ s t c answer asked h here. ends s h t c here answer asked;
 }

@@ -44,7 +44,7 @@ use Rattle.parking_lot_cores.specs.MutexTable as of_mutex_table
 use Rattle.parking_lot_rules.specs.Family.{Crossing}
 use Rattle.parking_lot_world.specs.declared.seat.Wakeup.{Wakeup}
 use Rattle.parking_lot_world.specs.MutexLaws.{Plays, IsOwnStep, crossing_of}
-use Rattle.parking_lot_world.specs.ActLaws.{Acts}
+use Rattle.parking_lot_world.specs.ActLaws.{Acts, OwnsFor, MayBegin}
 use Rattle.parking_lot_world.proofs.Beginning.{goes_on}
 use Rattle.parking_lot_world.proofs.LotActs.{begun_fits}
 use Rattle.parking_lot_world.proofs.MutexMoving.{steps}
@@ -131,19 +131,6 @@ mutex_idle at v m.Trying h = refl
 mutex_idle at v (m.Unlocking fair) h = refl
 mutex_idle at v m.Bumping h = refl
 mutex_idle at v p h = absurd (both_ways true h refl)
-
--- what a thread owns that begins a call
-abbrev pub OwnsFor : Hold → ℕ → Core → Type 0
-OwnsFor x n (core.Rw k) = (rw_begun k.phase ≡ false) × rw_begins n k.phase × (owned_of x ≡ of_rw.owns n k.phase)
-OwnsFor x n (core.Mutex k) = (mutex_begun k.phase ≡ false) × (n ≡ 0) × (owns_mutex x ≡ of_mutex.owns k.phase)
-
-pub record MayBegin (s : State) (t : ℕ) (c : Call) : Type 0 where
-  pub low : t < length s.calls
-  pub free : call_at s t ≡ None
-  pub listed : c.spot ≡ spot.Listed
-  pub kind : IsOfKind (slice_get s.kinds c.lock) c.core
-  pub owns : OwnsFor (hold_at s t c.lock) c.others c.core
-  pub beside : c.others ≤ 254
 
 -- the place of a thread in no call
 pub empty_slot : (calls : List (Option Call)) (t : ℕ) → t < length calls → call_of calls t ≡ None → slice_get calls t ≡ Some None
