@@ -5,6 +5,7 @@ mod acts;
 mod call_views;
 mod calls;
 mod laws;
+mod lot_calls;
 mod lot_laws;
 mod fault;
 mod mutex_laws;
