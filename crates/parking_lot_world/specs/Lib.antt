@@ -7,3 +7,4 @@ pub mod MutexLaws
 pub mod Faults
 pub mod Calls
 pub mod CallViews
+pub mod Beginnings

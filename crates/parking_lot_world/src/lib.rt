@@ -7,6 +7,7 @@ mod fault;
 mod mutex_laws;
 mod row_machine;
 mod seat;
+mod starts;
 mod step;
 mod view_laws;
 
@@ -21,5 +22,6 @@ pub use parking_lot_cores::{
     WordChange, wake_sum,
 };
 pub use row_machine::RowMachine;
+pub use starts::allowed_calls_begin_well;
 pub use step::WorldStep;
 pub use view_laws::modes_are_weighed;
