@@ -12,6 +12,7 @@ mod mutex_laws;
 mod row_machine;
 mod rw_laws;
 mod seat;
+mod starts;
 mod step;
 mod view_laws;
 
@@ -35,5 +36,6 @@ pub use rw_laws::{
     stores_are_steps, stores_tell, takes_are_steps, tokens_say, tokens_tell, wakes_are_steps,
     woken_are_told, words_are_numbers, writers_are_taken,
 };
+pub use starts::allowed_calls_begin_well;
 pub use step::WorldStep;
 pub use view_laws::modes_are_weighed;
