@@ -27,6 +27,7 @@ pub mod LotTakes
 pub mod LotWakes
 pub mod LotKept
 pub mod LotCalls
+pub mod WakesActs
 pub mod RwKeeping
 pub mod RwCrossing
 mod Acting
