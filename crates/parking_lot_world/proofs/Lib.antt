@@ -28,6 +28,7 @@ pub mod LotWakes
 pub mod LotKept
 pub mod LotCalls
 pub mod WakesActs
+pub mod WakesActed
 pub mod RwKeeping
 pub mod RwCrossing
 mod Acting
