@@ -29,6 +29,7 @@ pub mod LotKept
 pub mod LotCalls
 pub mod WakesActs
 pub mod WakesActed
+pub mod FirstTaken
 pub mod RwKeeping
 pub mod RwCrossing
 mod Acting
