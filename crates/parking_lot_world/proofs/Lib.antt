@@ -30,6 +30,7 @@ pub mod LotCalls
 pub mod WakesActs
 pub mod WakesActed
 pub mod FirstTaken
+pub mod LotStarts
 pub mod RwKeeping
 pub mod RwCrossing
 mod Acting

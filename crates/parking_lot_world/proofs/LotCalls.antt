@@ -1,5 +1,5 @@
 -- The lot refuses no call that an act makes.
-use Rattle.std.proofs.Common.{◌≡◌, ◌≢◌, ◌≤◌, ◌<◌, ℕ, ◌==◌, ◌&&◌, inl, inr, Bool, true, false, cond, Option, Some, None, is_some, List, slice_get, count_by, refl, sym, ap, ◌∙◌, subst, eq-eqb}
+use Rattle.std.proofs.Common.{◌≡◌, ◌≢◌, ◌≤◌, ℕ, ◌==◌, ◌&&◌, inl, inr, Bool, true, false, cond, Option, Some, None, is_some, List, slice_get, count_by, refl, sym, ap, ◌∙◌, subst, eq-eqb}
 use Rattle.std.specs.List.{position_or_len}
 use Rattle.std.specs.Option.{option_map, option_map_or, option_and_then}
 use Rattle.std.proofs.lemmas.Bool.{eqb-false, eqb-true}

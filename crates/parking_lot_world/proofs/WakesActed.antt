@@ -1,8 +1,7 @@
 -- Each act keeps what fits of those that are to be woken.
-use Rattle.std.proofs.Common.{◌≡◌, ◌<◌, ℕ, ◌+◌, ◌==◌, Bool, true, false, cond, List, length, map, remove, Option, Some, None, slice_get, slice_set, refl, sym, ap, ◌∙◌, subst}
+use Rattle.std.proofs.Common.{◌≡◌, ℕ, ◌==◌, Bool, true, false, cond, map, remove, Option, Some, None, slice_get, slice_set, refl, sym, ap, ◌∙◌, subst}
 use Rattle.std.specs.List.{position_or_len}
 use Rattle.std.specs.Option.{option_map, option_map_or}
-use Rattle.parking_lot_core.specs.declared.parking.ParkToken.{ParkToken}
 use Rattle.parking_lot_core.specs.declared.parking.UnparkToken.{UnparkToken}
 use Rattle.parking_lot_core.specs.declared.place.Waiter.{Waiter}
 use Rattle.parking_lot_core.specs.Places.{place_at, mark_of}
@@ -14,14 +13,13 @@ use Rattle.parking_lot_cores.specs.declared.act.CoreAnswer.{CoreAnswer}
 use Rattle.parking_lot_cores.specs.declared.act.SectionAct.TheVariants as section
 use Rattle.parking_lot_cores.specs.declared.act.Seen.{Seen}
 use Rattle.parking_lot_cores.specs.declared.act.Seen.TheVariants as seen
-use Rattle.parking_lot_cores.specs.declared.act.WordChange.{WordChange}
 use Rattle.parking_lot_world.specs.declared.seat.Spot.TheVariants as spot
 use Rattle.parking_lot_world.specs.declared.seat.Told.{Told}
 use Rattle.parking_lot_world.specs.declared.seat.Told.TheVariants as told
 use Rattle.parking_lot_world.specs.declared.seat.Call.{Call}
 use Rattle.parking_lot_world.specs.declared.seat.Wakeup.{Wakeup}
 use Rattle.parking_lot_world.specs.Rows.{State, word_at, call_at, is_by}
-use Rattle.parking_lot_world.specs.Stances.{Joins, Takes, Stance, Out, In, stance, taken_count, core_act, core_tells}
+use Rattle.parking_lot_world.specs.Stances.{Joins, Takes, Stance, Out, In, stance, taken_count, core_tells}
 use Rattle.parking_lot_world.specs.StanceLaws.{IsOver}
 use Rattle.parking_lot_world.specs.RowActs.{with_call, with_word, hears, key_of, off_list, settled, told_of, loaded, exchanged, added, masked, spun, entered, checked, appended, took, took_nobody, told_all, left, woke, answered, begun}
 use Rattle.parking_lot_world.specs.RowFits.{LotFits, WakesFit, is_off, is_away}

@@ -1,12 +1,10 @@
 -- Acts that change whom threads are still to wake, or where they stand, keep what fits of it.
-use Rattle.std.proofs.Common.{◌≡◌, ◌≢◌, ◌<◌, ℕ, ◌+◌, ◌-◌, ◌*◌, ◌==◌, ◌⊎◌, inl, inr, Bool, true, false, cond, List, [], ◌∷◌, ◌++◌, length, map, remove, Option, Some, None, slice_get, slice_set, count_by, refl, sym, ap, ◌∙◌, subst, arith, zero, suc}
-use Rattle.std.specs.List.{position_or_len}
-use Rattle.std.specs.Option.{option_map, option_map_or, option_and_then}
-use Rattle.std.proofs.lemmas.Bool.{eqb-false, ne_eqb}
+use Rattle.std.proofs.Common.{◌≡◌, ◌<◌, ℕ, ◌+◌, ◌==◌, false, List, [], ◌∷◌, ◌++◌, length, map, remove, Option, Some, None, slice_get, slice_set, count_by, refl, sym, ap, ◌∙◌, subst, arith, zero, suc}
+use Rattle.std.specs.Option.{option_map, option_and_then}
+use Rattle.std.proofs.lemmas.Bool.{eqb-false}
 use Rattle.std.proofs.lemmas.List.{length_push}
 use Rattle.std.proofs.lemmas.List.Edits.{length-remove}
 use Rattle.std.proofs.lemmas.Option.{slice_get_within}
-use Rattle.parking_lot_core.specs.declared.parking.ParkToken.{ParkToken}
 use Rattle.parking_lot_core.proofs.Kept.{slice_get-seam, eqb_false_symm}
 use Rattle.parking_lot_core.proofs.Numbers.{flag, count_by-set, count_by-map_same}
 use Rattle.parking_lot_core.proofs.Sounds.{none≢some, by_eqb}
@@ -17,11 +15,11 @@ use Rattle.parking_lot_world.specs.declared.seat.Told.TheVariants as told
 use Rattle.parking_lot_world.specs.declared.seat.Call.{Call}
 use Rattle.parking_lot_world.specs.declared.seat.Wakeup.{Wakeup}
 use Rattle.parking_lot_world.specs.Rows.{State, call_at}
-use Rattle.parking_lot_world.specs.Stances.{Stance, Asleep, stance}
+use Rattle.parking_lot_world.specs.Stances.{stance}
 use Rattle.parking_lot_world.specs.RowActs.{settled_spot, settled, off_list}
 use Rattle.parking_lot_world.specs.RowFits.{LotFits, WakesFit, IsOwed, is_off, is_away}
 use Rattle.parking_lot_world.proofs.Indexing.{get_front, kept_remove}
-use Rattle.parking_lot_world.proofs.Carrying.{same_call, call_within, set_here, set_elsewhere, settled_off, unsettled_off, IsUp, up_sleeps}
+use Rattle.parking_lot_world.proofs.Carrying.{same_call, call_within, set_here, set_elsewhere, unsettled_off, IsUp, up_sleeps}
 
 abbrev call_of : List (Option Call) → ℕ → Option Call
 call_of calls v = option_and_then (λ x. x) (slice_get calls v)

@@ -1,5 +1,5 @@
 -- What fits of the lot still fits after each act, and the lot refuses no call that an act makes.
-use Rattle.std.specs.Prelude.{◌≡◌, ◌≢◌, ℕ, ◌<◌, Bool, true, false, Some, None, length, slice_get, slice_set}
+use Rattle.std.specs.Prelude.{◌≡◌, ◌≢◌, ℕ, ◌+◌, ◌<◌, Bool, true, false, Some, None, length, slice_get, slice_set, [], replicate}
 use Rattle.std.specs.List.{position_or_len}
 use Rattle.std.specs.Option.{option_map_or}
 use Rattle.parking_lot_core.specs.declared.parking.ParkToken.{ParkToken}
@@ -8,7 +8,7 @@ use Rattle.parking_lot_core.specs.declared.place.Place.TheVariants.{Running, Wai
 use Rattle.parking_lot_core.specs.declared.place.Section.{Section}
 use Rattle.parking_lot_core.specs.declared.place.Sleep.{Sleep}
 use Rattle.parking_lot_core.specs.declared.place.Waiter.{Waiter}
-use Rattle.parking_lot_core.specs.Machine.{enter_fault, step_fault, resume_fault, section_of, any_phase, changed_at}
+use Rattle.parking_lot_core.specs.Machine.{Machine, registered, enter_fault, step_fault, resume_fault, section_of, any_phase, changed_at}
 use Rattle.parking_lot_core.specs.Places.{place_at, is_due, roused, may_check, may_join, may_take, may_store, passed_of}
 use Rattle.parking_lot_core.specs.Sound.{Sound}
 use Rattle.parking_lot_cores.specs.declared.act.Act.{Act}
@@ -142,3 +142,20 @@ pub record ActsKeepWakes : Type 0 where
   -- a call begins as if its thread stood in a list
   pub begins : (s : State) (t : ℕ) (c : Call) → WakesFit s → t < length s.calls → call_at s t ≡ None → c.spot ≡ spot.Listed → WakesFit (acts.begun s t c)
   pub ends : (s : State) (t : ℕ) (c : Call) (answer : CoreAnswer) → KeepsWakes s t c (act.Done answer) (acts.answered s t c)
+
+-- WHERE IT BEGINS
+
+-- A machine in which nobody is in a call, nobody waits and each thread runs.
+pub record IsNew (s : State) : Type 0 where
+  pub calls : (t : ℕ) → call_at s t ≡ None
+  pub wakes : s.wakes ≡ []
+  pub lists : (key : ℕ) → s.lot.queues key ≡ []
+  pub runs : (t : ℕ) → t < length s.calls → place_at s.lot.places t ≡ Some Running
+  pub free : s.lot.section ≡ None
+
+abbrev pub NewMachinesFit : Type 0
+NewMachinesFit = (s : State) → Sound s.lot → IsNew s → LotFits s × WakesFit s
+
+-- A lot that registers one thread after another has that many that run.
+abbrev pub RegisteredThreadsRun : Type 0
+RegisteredThreadsRun = (m : Machine) (n : ℕ) → m.places ≡ replicate n (Some Running) → (registered m).places ≡ replicate (n + 1) (Some Running)

@@ -1,6 +1,6 @@
 //! Laws of the machine of rows: how its threads stand to the sections and lists of the lot.
 ghost use Rattle.parking_lot_world.specs.StanceLaws.{ActsLead, CallsBegin, CallsEnd, KeysAreTwo, SleepersWake, TakingsCount, WakersCount};
-ghost use Rattle.parking_lot_world.specs.LotLaws.{ActsKeepFits, ActsKeepWakes, LotNeverRefuses};
+ghost use Rattle.parking_lot_world.specs.LotLaws.{ActsKeepFits, ActsKeepWakes, LotNeverRefuses, NewMachinesFit, RegisteredThreadsRun};
 
 /// What an act gives leads a call in or out of its section, from one thing that it does there to the next, to its sleep or
 /// out of it, and it counts whom it has taken and is still to wake. A scan counts one more while it has room for it: a
@@ -28,4 +28,10 @@ pub fn acts_keep_places()
 /// thread that was told and isn't woken yet.
 pub fn the_lot_never_refuses()
     ensures { LotNeverRefuses }
+{}
+
+/// A machine in which nobody is in a call holds together, as does one that registers its threads one by one.
+pub fn new_machines_hold_together()
+    ensures fit { NewMachinesFit }
+    ensures run { RegisteredThreadsRun }
 {}
