@@ -175,12 +175,12 @@ carries_ended c awake counts = record {
 }
 
 -- sleepers are told
-settled_off : (t : ℕ) (said : Told) (by : ℕ) (x : Told) → (now : Told) × (settled_spot t said (spot.Off by x) ≡ spot.Off by now)
+pub settled_off : (t : ℕ) (said : Told) (by : ℕ) (x : Told) → (now : Told) × (settled_spot t said (spot.Off by x) ≡ spot.Off by now)
 settled_off t said by told.Nothing = (cond (by == t) said told.Nothing, refl)
 settled_off t said by told.TryAgain = (told.TryAgain, refl)
 settled_off t said by told.HandedOver = (told.HandedOver, refl)
 
-unsettled_off : (t : ℕ) (said : Told) (by : ℕ) (x : Told) (a : Spot) → settled_spot t said a ≡ spot.Off by x → (before : Told) × (a ≡ spot.Off by before)
+pub unsettled_off : (t : ℕ) (said : Told) (by : ℕ) (x : Told) (a : Spot) → settled_spot t said a ≡ spot.Off by x → (before : Told) × (a ≡ spot.Off by before)
 unsettled_off t said by x spot.Listed e = absurd (listed≢off e)
   where
     listed≢off : spot.Listed ≡ spot.Off by x → ⊥

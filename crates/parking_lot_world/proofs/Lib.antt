@@ -27,6 +27,10 @@ pub mod LotTakes
 pub mod LotWakes
 pub mod LotKept
 pub mod LotCalls
+pub mod WakesActs
+pub mod WakesActed
+pub mod FirstTaken
+pub mod LotStarts
 pub mod RwKeeping
 pub mod RwCrossing
 mod Starting

@@ -1,5 +1,5 @@
 -- The lot refuses no call that an act makes.
-use Rattle.std.proofs.Common.{◌≡◌, ◌≢◌, ◌≤◌, ◌<◌, ℕ, ◌==◌, ◌&&◌, inl, inr, Bool, true, false, cond, Option, Some, None, is_some, List, slice_get, count_by, refl, sym, ap, ◌∙◌, subst, eq-eqb}
+use Rattle.std.proofs.Common.{◌≡◌, ◌≢◌, ◌≤◌, ℕ, ◌==◌, ◌&&◌, inl, inr, Bool, true, false, cond, Option, Some, None, is_some, List, slice_get, count_by, refl, sym, ap, ◌∙◌, subst, eq-eqb}
 use Rattle.std.specs.List.{position_or_len}
 use Rattle.std.specs.Option.{option_map, option_map_or, option_and_then}
 use Rattle.std.proofs.lemmas.Bool.{eqb-false, eqb-true}
@@ -30,7 +30,7 @@ use Rattle.parking_lot_world.specs.RowActs.{key_of}
 use Rattle.parking_lot_world.specs.RowFits.{HasCome, LotFits}
 use Rattle.parking_lot_world.specs.LotLaws.{IsTaking, IsDue, IsWaiter, Asks, LotNeverRefuses}
 use Rattle.parking_lot_world.proofs.Indexing.{set_twice}
-use Rattle.parking_lot_world.proofs.Stancing.{leads_by}
+use Rattle.parking_lot_world.proofs.Stancing.{leads_by, small_key}
 use Rattle.parking_lot_world.proofs.Carrying.{taken_by-count}
 use Rattle.parking_lot_world.proofs.LotActs.{same_section, seat_of}
 use Rattle.parking_lot_world.proofs.LotTakes.{sleeper}
@@ -78,9 +78,9 @@ leaves s t c x = go (leads_by c.core (act.Section section.Leave) 0 seen.Made x.2
     go (inr (inl l)) = steps_in s t c x.0 x.1 l.0 (Joined l.1) any_phase l.2 (λ o come. refl)
     go (inr (inr l)) = steps_in s t c x.0 x.1 l.0 (Tells l.1) any_phase l.2 (λ o come. refl)
 
-waiters : (s : State) (t : ℕ) (c : Call) (k nth : ℕ) (w : Waiter) → k < 2 → LotFits s → call_at s t ≡ Some c → stance c.core ≡ In k Takes → slice_get (s.lot.queues (key_of c k)) nth ≡ Some w → IsWaiter s t k c w
-waiters s t c k nth w two h here from at =
-    let z = sleeper s t c h here k nth w two from at in
+waiters : (s : State) (t : ℕ) (c : Call) (k nth : ℕ) (w : Waiter) → LotFits s → call_at s t ≡ Some c → stance c.core ≡ In k Takes → slice_get (s.lot.queues (key_of c k)) nth ≡ Some w → IsWaiter s t k c w
+waiters s t c k nth w h here from at =
+    let z = sleeper s t c h here k nth w (small_key c.core k Takes from) from at in
     record {
       call = z.call;
       there = z.there;

@@ -42,7 +42,7 @@ out_asleep e = cc
 module _ (s : State) (t : ℕ) (c : Call) (h : LotFits s) (here : call_at s t ≡ Some c) (e : Wakeup) (d : Call)
     (first : slice_get s.wakes (position_or_len (is_by t) s.wakes) ≡ Some e) (by_t : e.by ≡ t) (there : call_at s e.thread ≡ Some d) (from : stance c.core ≡ Out) where
   -- it sleeps, off its list
-  woken_off : (said : Told) × (k : ℕ) × (token : ParkToken) × (d.spot ≡ spot.Off t said) × (stance d.core ≡ Asleep k token)
+  pub woken_off : (said : Told) × (k : ℕ) × (token : ParkToken) × (d.spot ≡ spot.Off t said) × (stance d.core ≡ Asleep k token)
   woken_off =
       let x = h.woken (position_or_len (is_by t) s.wakes) e first in
       let same : x.call ≡ d = same_call (sym x.here ∙ there) in (

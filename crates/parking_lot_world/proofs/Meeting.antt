@@ -43,9 +43,9 @@ use Rattle.parking_lot_world.proofs.Lifting.{rw_there}
 -- who is in a call is a thread of the machine
 pub in_range : (s : State) (t : ℕ) (c : Call) → call_at s t ≡ Some c → t < length s.calls
 in_range s t c h = elim (cases_lt t (length s.calls)) [
-    | inl b ↦ b
-    | inr b ↦ absurd (none-some c (sym (ap (λ o. option_and_then (λ x. x) o) (slice_get_past s.calls t b)) ∙ h))
-  ]
+  | inl b ↦ b
+  | inr b ↦ absurd (none-some c (sym (ap (λ o. option_and_then (λ x. x) o) (slice_get_past s.calls t b)) ∙ h))
+]
 
 -- few threads were taken
 pub few_taken : (s : State) → FitsTogether s → (t : ℕ) → length (taken_by s.wakes t) < 2 ^ 17

@@ -140,8 +140,17 @@ module _ (s u : State) (t : ℕ) (c : Call) (told : Seen) (k : RwCore) (at : Spo
       → slice_get s.kinds c.lock ≡ Some kind.Rw → IsRwMove (of_rw.move c.others us k.phase told) c.lock t s u
   rw_goes_from here lists_same same heard found moves kind_is = go (of_rw.move c.others us k.phase told) refl
     where
+<<<<<<< HEAD
       around_move : (m : of_rw.Move) → of_rw.move c.others us k.phase told ≡ m → OwnMove m t (inside s) (inside u)
       around_move m eq = subst (λ (x : of_rw.Move). OwnMove x t (inside s) (inside u)) eq moves
+=======
+      here : Meets (rw_lock_at s c.lock) t c.others (rw_spot c.spot) us k.phase (word_at s c.lock)
+      here = meets s h t c k e a.here
+
+      around_move : (m : of_rw.Move) → of_rw.move c.others us k.phase told ≡ m → OwnMove m t (inside s) (inside u)
+      around_move m eq = subst (λ (x : of_rw.Move). OwnMove x t (inside s) (inside u)) eq (own_moves t (inside s) (inside u) c.others us k.phase (word_at s c.lock) told heard own around)
+
+>>>>>>> 0dd8161dfa6bcd1234c0162ec98c35a77d9825dc
       stays : of_rw.move c.others us k.phase told ≡ of_rw.Stays → rw_lock_at u c.lock ≡ rw_lock_at s c.lock
       stays eq =
           let kept = stays_are_steps (rw_lock_at s c.lock) t c.others (rw_spot c.spot) us k.phase (word_at s c.lock) told here heard eq in
@@ -149,6 +158,7 @@ module _ (s u : State) (t : ℕ) (c : Call) (told : Seen) (k : RwCore) (at : Spo
           ∙ ap (λ x. with_role (rw_lock_at s c.lock) x t next_role) kept.1
           ∙ ap (with_role (rw_lock_at s c.lock) (word_at s c.lock) t) (sym (lists c.others us (next_phase k.phase told) c.spot (λ key token z. sym same ∙ a.listed key token z)) ∙ kept.0)
           ∙ ap (λ rs. record (rw_lock_at s c.lock) { roles = rs }) (set-same (rw_lock_at s c.lock).roles t _ here.here)
+
       go : (m : of_rw.Move) → of_rw.move c.others us k.phase told ≡ m → IsRwMove m c.lock t s u
       go of_rw.Stays eq = quiet_rw s u t c.lock (own-there s u t c told _ at a) (own-elsewhere s u t c told _ at a) kind_is (stays eq) (around_move of_rw.Stays eq)
       go (of_rw.Makes m) eq =

@@ -1,5 +1,5 @@
 -- What fits of the lot still fits after each act, and the lot refuses no call that an act makes.
-use Rattle.std.specs.Prelude.{◌≡◌, ◌≢◌, ℕ, ◌<◌, Bool, true, false, Some, None, length, slice_get, slice_set}
+use Rattle.std.specs.Prelude.{◌≡◌, ◌≢◌, ℕ, ◌+◌, ◌<◌, Bool, true, false, Some, None, length, slice_get, slice_set, [], replicate}
 use Rattle.std.specs.List.{position_or_len}
 use Rattle.std.specs.Option.{option_map_or}
 use Rattle.parking_lot_core.specs.declared.parking.ParkToken.{ParkToken}
@@ -8,7 +8,7 @@ use Rattle.parking_lot_core.specs.declared.place.Place.TheVariants.{Running, Wai
 use Rattle.parking_lot_core.specs.declared.place.Section.{Section}
 use Rattle.parking_lot_core.specs.declared.place.Sleep.{Sleep}
 use Rattle.parking_lot_core.specs.declared.place.Waiter.{Waiter}
-use Rattle.parking_lot_core.specs.Machine.{enter_fault, step_fault, resume_fault, section_of, any_phase, changed_at}
+use Rattle.parking_lot_core.specs.Machine.{Machine, registered, enter_fault, step_fault, resume_fault, section_of, any_phase, changed_at}
 use Rattle.parking_lot_core.specs.Places.{place_at, is_due, roused, may_check, may_join, may_take, may_store, passed_of}
 use Rattle.parking_lot_core.specs.Sound.{Sound}
 use Rattle.parking_lot_cores.specs.declared.act.Act.{Act}
@@ -23,7 +23,7 @@ use Rattle.parking_lot_world.specs.Rows.{State, call_at, is_by}
 use Rattle.parking_lot_world.specs.Stances.{Doing, Joins, Takes, In, Asleep, stance, core_act}
 use Rattle.parking_lot_world.specs.StanceLaws.{Counts}
 use Rattle.parking_lot_world.specs.RowActs as acts
-use Rattle.parking_lot_world.specs.RowFits.{LotFits}
+use Rattle.parking_lot_world.specs.RowFits.{LotFits, WakesFit}
 
 -- A thread t in a call c that asks for that act: what fitted fits after it.
 abbrev pub Keeps : State → ℕ → Call → Act → State → Type 0
@@ -113,6 +113,49 @@ pub record LotNeverRefuses : Type 0 where
   pub inside : (s : State) (t : ℕ) (c : Call) (k : ℕ) (how : Doing) → LotFits s → call_at s t ≡ Some c → stance c.core ≡ In k how → IsInside s t (acts.key_of c k)
   -- one that takes has passed nobody; whom it may take there
   pub passes : (s : State) (t : ℕ) (c : Call) (k : ℕ) (o : Section) → LotFits s → call_at s t ≡ Some c → stance c.core ≡ In k Takes → s.lot.section ≡ Some o → passed_of o.phase ≡ 0
-  pub waiters : (s : State) (t : ℕ) (c : Call) (k nth : ℕ) (w : Waiter) → k < 2 → LotFits s → call_at s t ≡ Some c → stance c.core ≡ In k Takes → slice_get (s.lot.queues (acts.key_of c k)) nth ≡ Some w → IsWaiter s t k c w
+  pub waiters : (s : State) (t : ℕ) (c : Call) (k nth : ℕ) (w : Waiter) → LotFits s → call_at s t ≡ Some c → stance c.core ≡ In k Takes → slice_get (s.lot.queues (acts.key_of c k)) nth ≡ Some w → IsWaiter s t k c w
   -- one that is to wake somebody finds the one, and wakes it
   pub wakes : (s : State) (t : ℕ) (c : Call) → Asks s t c (act.Section section.Wake) → (e : Wakeup) × (slice_get s.wakes (position_or_len (is_by t) s.wakes) ≡ Some e) × (e.by ≡ t) × IsDue s t e
+
+-- WHO IS TO BE WOKEN
+
+-- A thread t in a call c that asks for that act: what fitted of those that are to be woken fits after it.
+abbrev pub KeepsWakes : State → ℕ → Call → Act → State → Type 0
+KeepsWakes s t c a u = LotFits s → WakesFit s → call_at s t ≡ Some c → core_act c.core ≡ a → WakesFit u
+
+pub record ActsKeepWakes : Type 0 where
+  pub loads : (s : State) (t : ℕ) (c : Call) → KeepsWakes s t c act.Load (acts.loaded s t c)
+  pub exchanges : (s : State) (t : ℕ) (c : Call) (from to : ℕ) → KeepsWakes s t c (act.Exchange from to) (acts.exchanged s t c from to)
+  pub adds : (s : State) (t : ℕ) (c : Call) (by : ℕ) → KeepsWakes s t c (act.Add by) (acts.added s t c by)
+  pub spins : (s : State) (t : ℕ) (c : Call) → KeepsWakes s t c act.Spin (acts.spun s t c)
+  pub enters : (s : State) (t : ℕ) (c : Call) (k : ℕ) → KeepsWakes s t c (act.Enter k) (acts.entered s t c k)
+  pub checks : (s : State) (t : ℕ) (c : Call) → KeepsWakes s t c (act.Section section.Check) (acts.checked s t c)
+  pub appends : (s : State) (t : ℕ) (c : Call) (key : ℕ) (token : ParkToken) → KeepsWakes s t c (act.Section (section.Append token)) (acts.appended s t c key token)
+  pub takes : (s : State) (t : ℕ) (c : Call) (a : Act) (k nth : ℕ) (w : Waiter) → IsTaking a → stance c.core ≡ In k Takes → slice_get (s.lot.queues (acts.key_of c k)) nth ≡ Some w
+      → KeepsWakes s t c a (acts.took s t c (acts.key_of c k) nth w)
+  pub takes_nobody : (s : State) (t : ℕ) (c : Call) (a : Act) (key : ℕ) → IsTaking a → KeepsWakes s t c a (acts.took_nobody s t c key)
+  pub stores : (s : State) (t : ℕ) (c : Call) (plain fair change : WordChange) (is_fair : Bool) → KeepsWakes s t c (act.Section (section.Store plain fair)) (acts.told_all s t c change is_fair)
+  pub masks : (s : State) (t : ℕ) (c : Call) (keep : ℕ) → KeepsWakes s t c (act.Mask keep) (acts.masked s t c keep)
+  pub leaves : (s : State) (t : ℕ) (c : Call) → KeepsWakes s t c (act.Section section.Leave) (acts.left s t c)
+  pub wakes : (s : State) (t : ℕ) (c : Call) (e : Wakeup) (d : Call) (token : UnparkToken) → slice_get s.wakes (position_or_len (is_by t) s.wakes) ≡ Some e → call_at s e.thread ≡ Some d
+      → KeepsWakes s t c (act.Section section.Wake) (acts.woke s t c e.thread d token)
+  -- a call begins as if its thread stood in a list
+  pub begins : (s : State) (t : ℕ) (c : Call) → WakesFit s → t < length s.calls → call_at s t ≡ None → c.spot ≡ spot.Listed → WakesFit (acts.begun s t c)
+  pub ends : (s : State) (t : ℕ) (c : Call) (answer : CoreAnswer) → KeepsWakes s t c (act.Done answer) (acts.answered s t c)
+
+-- WHERE IT BEGINS
+
+-- A machine in which nobody is in a call, nobody waits and each thread runs.
+pub record IsNew (s : State) : Type 0 where
+  pub calls : (t : ℕ) → call_at s t ≡ None
+  pub wakes : s.wakes ≡ []
+  pub lists : (key : ℕ) → s.lot.queues key ≡ []
+  pub runs : (t : ℕ) → t < length s.calls → place_at s.lot.places t ≡ Some Running
+  pub free : s.lot.section ≡ None
+
+abbrev pub NewMachinesFit : Type 0
+NewMachinesFit = (s : State) → Sound s.lot → IsNew s → LotFits s × WakesFit s
+
+-- A lot that registers one thread after another has that many that run.
+abbrev pub RegisteredThreadsRun : Type 0
+RegisteredThreadsRun = (m : Machine) (n : ℕ) → m.places ≡ replicate n (Some Running) → (registered m).places ≡ replicate (n + 1) (Some Running)

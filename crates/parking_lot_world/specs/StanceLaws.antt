@@ -95,3 +95,12 @@ SleepersWake =
 -- one that is to wake somebody has taken somebody
 abbrev pub WakersCount : Type 0
 WakersCount = (c : Core) (s : Seen) → core_act (core_next c s) ≡ act.Section section.Wake → 1 ≤ taken_count (core_next c s)
+
+-- a lock has two keys
+abbrev pub HasSmallKey : Stance → Type 0
+HasSmallKey Out = Unit {0}
+HasSmallKey (In k how) = k < 2
+HasSmallKey (Asleep k token) = k < 2
+
+abbrev pub KeysAreTwo : Type 0
+KeysAreTwo = (c : Core) → HasSmallKey (stance c)
