@@ -28,5 +28,8 @@ pub mod LotWakes
 pub mod RwKeeping
 pub mod RwCrossing
 mod Acting
+mod TakeOutside
+mod TakeJoins
+mod TakeLaws
 pub mod RwTelling
 pub mod RwSleeping
