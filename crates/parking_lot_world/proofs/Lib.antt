@@ -30,6 +30,7 @@ pub mod RwCrossing
 mod Acting
 mod TakeOutside
 mod TakeJoins
+mod TakeNobody
 mod TakeLaws
 pub mod RwTelling
 pub mod RwSleeping

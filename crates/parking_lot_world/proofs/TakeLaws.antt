@@ -2,8 +2,10 @@
 use Rattle.std.proofs.Common.{◌≡◌, refl}
 use Rattle.parking_lot_world.specs.TakeLaws.{TakesAreSteps}
 use Rattle.parking_lot_world.proofs.TakeJoins.{appends}
+use Rattle.parking_lot_world.proofs.TakeNobody.{takes_nobody}
 
 pub laws : TakesAreSteps
 laws = record {
+  take_nobody = λ s t c k from empty sound h here. takes_nobody s t c k from empty sound h here;
   append = λ s t c k token asked from sound h here. appends s t c k token asked from sound h here;
 }

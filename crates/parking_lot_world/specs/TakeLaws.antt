@@ -1,13 +1,13 @@
 -- What the acts keep that put threads into lists and take them off, and which steps of the rules they are.
-use Rattle.std.specs.Prelude.{◌≡◌, ℕ}
+use Rattle.std.specs.Prelude.{◌≡◌, ℕ, []}
 use Rattle.parking_lot_core.specs.declared.parking.ParkToken.{ParkToken}
 use Rattle.parking_lot_core.specs.Sound as lot
 use Rattle.parking_lot_cores.specs.declared.act.Act.TheVariants as act
 use Rattle.parking_lot_cores.specs.declared.act.SectionAct.TheVariants as section
 use Rattle.parking_lot_world.specs.declared.seat.Call.{Call}
 use Rattle.parking_lot_world.specs.Rows.{State}
-use Rattle.parking_lot_world.specs.Stances.{Joins, In, stance, core_act}
-use Rattle.parking_lot_world.specs.RowActs.{key_of, appended}
+use Rattle.parking_lot_world.specs.Stances.{Joins, Takes, In, stance, core_act}
+use Rattle.parking_lot_world.specs.RowActs.{key_of, appended, took_nobody}
 use Rattle.parking_lot_world.specs.ActLaws.{Keeps}
 
 -- k: 0 for the lock's first key, 1 for its second
@@ -15,3 +15,5 @@ pub record TakesAreSteps : Type 0 where
   -- one that goes to sleep joins the end of its list
   pub append : (s : State) (t : ℕ) (c : Call) (k : ℕ) (token : ParkToken) → core_act c.core ≡ act.Section (section.Append token) → stance c.core ≡ In k (Joins token)
       → lot.Sound (appended s t c (key_of c k) token).lot → Keeps t c s (appended s t c (key_of c k) token)
+  -- where nobody waits nobody is taken
+  pub take_nobody : (s : State) (t : ℕ) (c : Call) (k : ℕ) → stance c.core ≡ In k Takes → s.lot.queues (key_of c k) ≡ [] → lot.Sound (took_nobody s t c (key_of c k)).lot → Keeps t c s (took_nobody s t c (key_of c k))
