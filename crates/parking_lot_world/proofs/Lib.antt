@@ -31,6 +31,10 @@ mod Acting
 mod TakeOutside
 mod TakeJoins
 mod TakeNobody
+mod TakeParts
+mod TakeRw
+mod TakeMutex
+mod TakeActs
 mod TakeLaws
 pub mod RwTelling
 pub mod RwSleeping
