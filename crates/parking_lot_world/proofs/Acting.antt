@@ -93,7 +93,7 @@ unfolding is_asleep
 awake_never b key how k token A e f = absurd (both_ways (is_asleep b) (ap is_asleep e) (ap is_asleep f))
 
 -- who is inside while a section goes on
-still_inside : (o : Option Section) (ph : Phase) → option_and_then (λ x. x.thread) (option_map {T = Section} (λ x. record x { phase = ph }) o) ≡ option_and_then (λ x. x.thread) o
+pub still_inside : (o : Option Section) (ph : Phase) → option_and_then (λ x. x.thread) (option_map {T = Section} (λ x. record x { phase = ph }) o) ≡ option_and_then (λ x. x.thread) o
 still_inside None ph = refl
 still_inside (Some x) ph = refl
 

@@ -36,6 +36,14 @@ pub mod RwCrossing
 mod Starting
 mod Answering
 mod Acting
+mod TakeOutside
+mod TakeJoins
+mod TakeNobody
+mod TakeParts
+mod TakeRw
+mod TakeMutex
+mod TakeActs
+mod TakeLaws
 pub mod RwTelling
 pub mod RwSleeping
 pub mod MutexTelling

@@ -15,6 +15,7 @@ mod seat;
 mod starts;
 mod step;
 mod view_laws;
+mod take_laws;
 
 pub use calls::{LockAnswer, LockCall, LockKind, OwnMode};
 pub use fault::{WorldFault, WorldRefusal};
@@ -41,3 +42,4 @@ pub use rw_laws::{
 pub use starts::allowed_calls_begin_well;
 pub use step::WorldStep;
 pub use view_laws::modes_are_weighed;
+pub use take_laws::takes_are_steps_of_the_machine;
