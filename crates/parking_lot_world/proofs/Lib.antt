@@ -28,5 +28,8 @@ pub mod LotWakes
 pub mod RwKeeping
 pub mod RwCrossing
 mod Acting
+mod Settling
+mod Telling
+mod TellActs
 pub mod RwTelling
 pub mod RwSleeping

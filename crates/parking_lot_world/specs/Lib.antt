@@ -4,6 +4,7 @@ pub mod RowActs
 pub mod RowFits
 pub mod RowSteps
 pub mod ActLaws
+pub mod TellLaws
 pub mod StanceLaws
 pub mod RwLaws
 pub mod MutexLaws

@@ -12,6 +12,7 @@ mod row_machine;
 mod rw_laws;
 mod seat;
 mod step;
+mod tell_laws;
 
 pub use lot_laws::stances_follow_acts;
 pub use calls::{LockAnswer, LockCall, LockKind, OwnMode};
@@ -34,3 +35,4 @@ pub use rw_laws::{
     woken_are_told, words_are_numbers, writers_are_taken,
 };
 pub use step::WorldStep;
+pub use tell_laws::tells_are_steps;
