@@ -76,7 +76,7 @@ is_out (In key how) = false
 is_out (Asleep key token) = false
 
 -- an act whose call stays out of lists sleeps nowhere
-pub never : (b : Stance) (k : ℕ) (token : ParkToken) (A : Type 0) → b ≡ Out → b ≡ Asleep k token → A
+never : (b : Stance) (k : ℕ) (token : ParkToken) (A : Type 0) → b ≡ Out → b ≡ Asleep k token → A
 unfolding is_out
 never b k token A e f = absurd (both_ways (is_out b) (ap is_out f) (ap is_out e))
 
@@ -86,7 +86,7 @@ is_asleep (In key how) = false
 is_asleep (Asleep key token) = true
 
 -- nor does one in a section
-pub awake_never : (b : Stance) (key : ℕ) (how : Doing) (k : ℕ) (token : ParkToken) (A : Type 0) → b ≡ In key how → b ≡ Asleep k token → A
+awake_never : (b : Stance) (key : ℕ) (how : Doing) (k : ℕ) (token : ParkToken) (A : Type 0) → b ≡ In key how → b ≡ Asleep k token → A
 unfolding is_asleep
 awake_never b key how k token A e f = absurd (both_ways (is_asleep b) (ap is_asleep e) (ap is_asleep f))
 

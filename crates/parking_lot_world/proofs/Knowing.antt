@@ -33,7 +33,7 @@ StoresNone (In key Stores) = ⊥
 StoresNone (In key (Tells token)) = Unit {0}
 StoresNone (Asleep key token) = Unit {0}
 
-pub is_so : (a b : Stance) → a ≡ b → StoresNone b → StoresNone a
+is_so : (a b : Stance) → a ≡ b → StoresNone b → StoresNone a
 is_so a b e h = subst StoresNone (sym e) h
 
 stores_none : (a : Act) (s : Seen) (x y : Stance) (i j : ℕ) (says : UnparkToken) → IsOwnAct a → Leads a s x y i j says → StoresNone y
@@ -55,7 +55,7 @@ stores_none (act.Section section.Wake) s x y i j says own h = absurd own
 stores_none act.Sleep s x y i j says own h = absurd own
 stores_none (act.Done answer) s x y i j says own h = absurd h
 
-pub mutex_knows_none : (p : MutexPhase) → StoresNone (mutex_stance p) → (q : List Waiter) → mutex_knows p q
+mutex_knows_none : (p : MutexPhase) → StoresNone (mutex_stance p) → (q : List Waiter) → mutex_knows p q
 mutex_knows_none (m.Stores giving taken left) h q = absurd h
 mutex_knows_none p h q = tt
 

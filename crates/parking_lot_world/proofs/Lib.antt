@@ -30,6 +30,7 @@ pub mod RwCrossing
 mod Acting
 mod Settling
 mod Telling
+mod MutexTelling
 mod TellActs
 pub mod RwTelling
 pub mod RwSleeping

@@ -50,7 +50,7 @@ same_off t said (spot.Off b told.HandedOver) = refl
 -- it stays, or was taken by t
 same_or_mine : (t : ℕ) (said : Told) (at : Spot) → (settled_spot t said at ≡ at) ⊎ (at ≡ spot.Off t told.Nothing)
 same_or_mine t said spot.Listed = inl refl
-same_or_mine t said (spot.Off b told.Nothing) = elim (cases_eq b t) [ | inl e ↦ inr (ap (λ n. spot.Off n told.Nothing) e) | inr ne ↦ inl (ap (λ q. spot.Off b (cond q said told.Nothing)) (ne_eqb b t ne)) ]
+same_or_mine t said (spot.Off b told.Nothing) = elim (cases_eq b t) [ inl e ↦ inr (ap (λ n. spot.Off n told.Nothing) e) | inr ne ↦ inl (ap (λ q. spot.Off b (cond q said told.Nothing)) (ne_eqb b t ne)) ]
 same_or_mine t said (spot.Off b told.TryAgain) = inl refl
 same_or_mine t said (spot.Off b told.HandedOver) = inl refl
 
@@ -134,11 +134,11 @@ module _ (s : State) (t : ℕ) (c : Call) (heard : Seen) (token : UnparkToken) (
         others : (x : ℕ) → x ≢ t → (o : Option Call) → call_at s x ≡ o → ((call_at told_state x ≡ call_at s x) × (taken_by s.wakes x ≡ taken_by s.wakes x)) ⊎ (IsThere c.lock (call_at s x) × IsThere c.lock (call_at told_state x))
         others x ne None e = inl (told_others x ne ∙ ap (option_map (settled t (told_of token))) e ∙ sym e, refl)
         others x ne (Some f) e = elim (same_or_mine t (told_of token) f.spot) [
-            | inl same ↦ inl (told_others x ne ∙ ap (option_map (settled t (told_of token))) e ∙ ap (λ (y : Spot). Some (record f { spot = y })) same ∙ sym e, refl)
-            | inr mine ↦
+          | inl same ↦ inl (told_others x ne ∙ ap (option_map (settled t (told_of token))) e ∙ ap (λ (y : Spot). Some (record f { spot = y })) same ∙ sym e, refl)
+          | inr mine ↦
               let there = mine_there x f e mine in
               inr (subst (IsThere c.lock) (sym e) there, subst (IsThere c.lock) (sym (told_others x ne ∙ ap (option_map (settled t (told_of token))) e)) there)
-          ]
+        ]
 
     pub rules_told : IsPrepared c.others (core_next c.core heard) → KnowsList (core_next c.core heard) s.lot.queues c.lock → (slice_get s.kinds c.lock ≡ Some kind.Mutex → word_at told_state c.lock < 4) → IsSoundState told_state → RulesFit told_state
     rules_told prepared knows bits sound = rules_after s told_state c.lock h.rules (record {

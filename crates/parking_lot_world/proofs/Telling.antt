@@ -141,17 +141,19 @@ module _ (s : State) (t : ℕ) (c : Call) (heard : Seen) (token : UnparkToken) (
   module _ (hears_so : of_rw.IsTold k.phase (word_at s c.lock) heard) (learns : Learns k.phase heard (s.lot.queues (2 * c.lock)) (s.lot.queues (2 * c.lock + 1)))
       (made : IsRwMove (of_rw.move c.others us k.phase heard) c.lock t s u) where
     rw_told : RulesFit u × IsMoveOf c.core c.others us heard c.lock t s u
-    rw_told =
-        (rules_told s t c heard token word h here
-        (subst (λ (x : Core). IsPrepared c.others (core_next x heard)) (sym e)
-        ((answers_are_moves old_lock t c.others (rw_spot c.spot) us k.phase (word_at s c.lock) heard rw_meets hears_so).2.1,
-        calls_keep.goes_on c.others k.phase (word_at s c.lock) heard (subst (IsPrepared c.others) e (h.rules.prepared t c here)).1 hears_so))
-        (subst (λ (x : Core). KnowsList (core_next x heard) s.lot.queues c.lock) (sym e)
-        (lists_are_known.learns k.phase (word_at s c.lock) heard (s.lot.queues (2 * c.lock)) (s.lot.queues (2 * c.lock + 1)) (s.lot.queues (2 * c.lock)) (s.lot.queues (2 * c.lock + 1)) hears_so
-        (subst (λ (x : Core). KnowsList x s.lot.queues c.lock) e (h.rules.knows t c here)) learns))
-        (λ m. absurd (two_kinds (sym rw_kind ∙ m)))
-        (rw_move_sound s u t c.lock (of_rw.move c.others us k.phase heard) made h.rules.sound),
-        subst (λ (x : Core). IsMoveOf x c.others us heard c.lock t s u) (sym e) made)
+    rw_told = (
+      rules_told s t c heard token word h here
+          (subst (λ (x : Core). IsPrepared c.others (core_next x heard)) (sym e) (
+            (answers_are_moves old_lock t c.others (rw_spot c.spot) us k.phase (word_at s c.lock) heard rw_meets hears_so).2.1,
+            calls_keep.goes_on c.others k.phase (word_at s c.lock) heard (subst (IsPrepared c.others) e (h.rules.prepared t c here)).1 hears_so,
+          ))
+          (subst (λ (x : Core). KnowsList (core_next x heard) s.lot.queues c.lock) (sym e)
+          (lists_are_known.learns k.phase (word_at s c.lock) heard (s.lot.queues (2 * c.lock)) (s.lot.queues (2 * c.lock + 1)) (s.lot.queues (2 * c.lock)) (s.lot.queues (2 * c.lock + 1)) hears_so
+          (subst (λ (x : Core). KnowsList x s.lot.queues c.lock) e (h.rules.knows t c here)) learns))
+          (λ m. absurd (two_kinds (sym rw_kind ∙ m)))
+          (rw_move_sound s u t c.lock (of_rw.move c.others us k.phase heard) made h.rules.sound),
+      subst (λ (x : Core). IsMoveOf x c.others us heard c.lock t s u) (sym e) made,
+    )
 
 -- one that stores in a section
 pub rw_stores : (p : RwPhase) (key : ℕ) → rw_stance p ≡ In key Stores → ((rest : Rest) × (taken : Bool) × (p ≡ r.Masks2 rest taken)) ⊎ ((a : Scanning) × (left : Bool) × (p ≡ r.Stores a left))
@@ -213,10 +215,11 @@ module _ (s : State) (t : ℕ) (c : Call) (plain fair : WordChange) (is_fair : B
 
   made : IsRwMove (of_rw.move c.others taken (r.Stores a left) heard) c.lock t s lock_then
   made =
-      let step = stores_are_steps lock t c.others (rw_spot c.spot) taken a left (word_at s c.lock) is_fair met (left_threads (s.lot.queues (2 * c.lock)) ∙ knows.1) knows.2 in
-      (of_rw.scan_of c.others a taken,
-      made_rw s lock_then t c.lock (there s t c heard token word h here k e) (told_elsewhere s t c heard token word h here) (Store (ending_of a is_fair) (of_rw.scan_of c.others a taken)) (rw_kind s t c heard token word h here k e)
-      step.0 (lock_after ∙ sym step.1) (inside_stored token s.lot.section))
+      let step = stores_are_steps lock t c.others (rw_spot c.spot) taken a left (word_at s c.lock) is_fair met (left_threads (s.lot.queues (2 * c.lock)) ∙ knows.1) knows.2 in (
+        of_rw.scan_of c.others a taken,
+        made_rw s lock_then t c.lock (there s t c heard token word h here k e) (told_elsewhere s t c heard token word h here) (Store (ending_of a is_fair) (of_rw.scan_of c.others a taken)) (rw_kind s t c heard token word h here k e)
+            step.0 (lock_after ∙ sym step.1) (inside_stored token s.lot.section),
+      )
 
   pub rw_store : RulesFit lock_then × IsMoveOf c.core c.others taken heard c.lock t s lock_then
   rw_store =

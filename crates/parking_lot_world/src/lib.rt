@@ -4,9 +4,9 @@
 mod acts;
 mod call_views;
 mod calls;
+mod fault;
 mod laws;
 mod lot_laws;
-mod fault;
 mod mutex_laws;
 mod row_machine;
 mod rw_laws;
@@ -14,9 +14,10 @@ mod seat;
 mod step;
 mod tell_laws;
 
-pub use lot_laws::stances_follow_acts;
 pub use calls::{LockAnswer, LockCall, LockKind, OwnMode};
 pub use fault::{WorldFault, WorldRefusal};
+pub use laws::acts_are_steps;
+pub use lot_laws::stances_follow_acts;
 pub use mutex_laws::{
     answers_are_steps_of_a_sound_mutex, calls_that_have_begun_go_on, roles_at_a_mutex_are_known,
     words_of_a_mutex_are_numbers,
@@ -25,7 +26,6 @@ pub use parking_lot_cores::{
     Act, CoreAnswer, HAND_OVER, LockTable, MutexCore, Row, RwCore, SectionAct, Seen, TRY_AGAIN,
     WordChange, wake_sum,
 };
-pub use laws::acts_are_steps;
 pub use row_machine::RowMachine;
 pub use rw_laws::{
     acts_cross, answers_are_last, answers_are_moves, begins_are_ready, calls_keep, ends_are_steps,
