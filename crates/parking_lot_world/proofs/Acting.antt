@@ -62,14 +62,14 @@ has_word s h t c here = subst (λ n. c.lock < n) (sym h.rules.size_words) (withi
     within (core.Rw k) e = slice_get_within s.kinds c.lock _ (subst (IsOfKind (slice_get s.kinds c.lock)) e (h.rules.kinds t c here))
     within (core.Mutex k) e = slice_get_within s.kinds c.lock _ (subst (IsOfKind (slice_get s.kinds c.lock)) e (h.rules.kinds t c here))
 
-word-here : (words : List ℕ) (j x : ℕ) → j < length words → option_map_or (λ w. w) (slice_get (slice_set words j x) j) 0 ≡ x
+pub word-here : (words : List ℕ) (j x : ℕ) → j < length words → option_map_or (λ w. w) (slice_get (slice_set words j x) j) 0 ≡ x
 word-here words j x b = go (slice_get words j) refl
   where
     go : (o : Option ℕ) → slice_get words j ≡ o → option_map_or (λ w. w) (slice_get (slice_set words j x) j) 0 ≡ x
     go (Some w) e = ap (λ q. option_map_or (λ w. w) q 0) (get-set_same words j w x e)
     go None e = absurd (none-some (get_or words j 0) (sym e ∙ slice_get-get_or words j 0 b))
 
-word-elsewhere : (words : List ℕ) (j x i : ℕ) → i ≢ j → option_map_or (λ w. w) (slice_get (slice_set words j x) i) 0 ≡ option_map_or (λ w. w) (slice_get words i) 0
+pub word-elsewhere : (words : List ℕ) (j x i : ℕ) → i ≢ j → option_map_or (λ w. w) (slice_get (slice_set words j x) i) 0 ≡ option_map_or (λ w. w) (slice_get words i) 0
 word-elsewhere words j x i ne = ap (λ q. option_map_or (λ w. w) q 0) (get-set_other words j i x (λ e. ne (sym e)))
 
 is_out : Stance → Bool

@@ -44,6 +44,10 @@ mod TakeRw
 mod TakeMutex
 mod TakeActs
 mod TakeLaws
+mod Settling
+mod Telling
+mod MutexTelling
+mod TellActs
 pub mod RwTelling
 pub mod RwSleeping
 pub mod MutexTelling

@@ -5,6 +5,7 @@ pub mod RowFits
 pub mod RowSteps
 pub mod ActLaws
 pub mod TakeLaws
+pub mod TellLaws
 pub mod StanceLaws
 pub mod LotLaws
 pub mod RwLaws

@@ -16,6 +16,7 @@ mod starts;
 mod step;
 mod view_laws;
 mod take_laws;
+mod tell_laws;
 
 pub use calls::{LockAnswer, LockCall, LockKind, OwnMode};
 pub use fault::{WorldFault, WorldRefusal};
@@ -23,6 +24,7 @@ pub use laws::acts_are_steps;
 pub use lot_laws::{
     acts_keep_places, new_machines_hold_together, stances_follow_acts, the_lot_never_refuses,
 };
+pub use lot_laws::stances_follow_acts;
 pub use mutex_laws::{
     a_mutex_is_shown_as_it_is, answers_are_steps_of_a_sound_mutex, calls_that_have_begun_go_on,
     roles_at_a_mutex_are_known, words_of_a_mutex_are_numbers,
@@ -43,3 +45,4 @@ pub use starts::allowed_calls_begin_well;
 pub use step::WorldStep;
 pub use view_laws::modes_are_weighed;
 pub use take_laws::takes_are_steps_of_the_machine;
+pub use tell_laws::tells_are_steps;
