@@ -50,5 +50,5 @@ mod MutexTelling
 mod TellActs
 pub mod RwTelling
 pub mod RwSleeping
-pub mod MutexTelling
 pub mod Weighing
+mod MutexStoring

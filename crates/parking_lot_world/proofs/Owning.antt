@@ -140,17 +140,8 @@ module _ (s u : State) (t : ℕ) (c : Call) (told : Seen) (k : RwCore) (at : Spo
       → slice_get s.kinds c.lock ≡ Some kind.Rw → IsRwMove (of_rw.move c.others us k.phase told) c.lock t s u
   rw_goes_from here lists_same same heard found moves kind_is = go (of_rw.move c.others us k.phase told) refl
     where
-<<<<<<< HEAD
       around_move : (m : of_rw.Move) → of_rw.move c.others us k.phase told ≡ m → OwnMove m t (inside s) (inside u)
       around_move m eq = subst (λ (x : of_rw.Move). OwnMove x t (inside s) (inside u)) eq moves
-=======
-      here : Meets (rw_lock_at s c.lock) t c.others (rw_spot c.spot) us k.phase (word_at s c.lock)
-      here = meets s h t c k e a.here
-
-      around_move : (m : of_rw.Move) → of_rw.move c.others us k.phase told ≡ m → OwnMove m t (inside s) (inside u)
-      around_move m eq = subst (λ (x : of_rw.Move). OwnMove x t (inside s) (inside u)) eq (own_moves t (inside s) (inside u) c.others us k.phase (word_at s c.lock) told heard own around)
-
->>>>>>> 0dd8161dfa6bcd1234c0162ec98c35a77d9825dc
       stays : of_rw.move c.others us k.phase told ≡ of_rw.Stays → rw_lock_at u c.lock ≡ rw_lock_at s c.lock
       stays eq =
           let kept = stays_are_steps (rw_lock_at s c.lock) t c.others (rw_spot c.spot) us k.phase (word_at s c.lock) told here heard eq in

@@ -22,7 +22,7 @@ use Rattle.parking_lot_world.specs.ActLaws.{Keeps}
 use Rattle.parking_lot_world.specs.TellLaws.{TellsAreSteps}
 use Rattle.parking_lot_world.proofs.LotActs.{same_parts}
 use Rattle.parking_lot_world.proofs.LotStores.{stores_fit}
-use Rattle.parking_lot_world.proofs.MutexTelling.{mutex_store, mutex_stores}
+use Rattle.parking_lot_world.proofs.MutexStoring.{mutex_store, mutex_stores}
 use Rattle.parking_lot_world.proofs.Settling.{told_state, wakes_told}
 use Rattle.parking_lot_world.proofs.Stancing.{leads_by, wakes_some}
 use Rattle.parking_lot_world.proofs.Telling.{rw_stores, rw_store, rw_mask}

@@ -24,7 +24,6 @@ pub use laws::acts_are_steps;
 pub use lot_laws::{
     acts_keep_places, new_machines_hold_together, stances_follow_acts, the_lot_never_refuses,
 };
-pub use lot_laws::stances_follow_acts;
 pub use mutex_laws::{
     a_mutex_is_shown_as_it_is, answers_are_steps_of_a_sound_mutex, calls_that_have_begun_go_on,
     roles_at_a_mutex_are_known, words_of_a_mutex_are_numbers,
