@@ -99,7 +99,7 @@ module _ (s : State) (t : ℕ) (c : Call) (k : ℕ) (w : Waiter) (from : stance 
       let e : In counts.0 Takes ≡ In k Takes = sym counts.2 ∙ from in
       let same : counts.0 ≡ k = cc in
       took_fits s t c h.lots here k 0 w (takes_two c.core k from) from at
-      (elim counts.3 [ inl f ↦ inl (f ∙ ap (λ n. In n Takes) same) | inr f ↦ inr (f ∙ ap (λ n. In n Stores) same) ])
+      refl (elim counts.3 [ inl f ↦ inl (f ∙ ap (λ n. In n Takes) same) | inr f ↦ inr (f ∙ ap (λ n. In n Stores) same) ])
       counts.4 sound
 
   pub takes : lot.Sound u.lot → (what : Seen) × Acts t c what s u
