@@ -14,3 +14,4 @@ pub mod Faults
 pub mod Calls
 pub mod CallViews
 pub mod Beginnings
+pub mod Machines
