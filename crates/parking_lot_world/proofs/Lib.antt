@@ -25,6 +25,7 @@ pub mod MutexMoving
 pub mod Beginning
 pub mod LotTakes
 pub mod LotWakes
+pub mod LotSound
 pub mod LotKept
 pub mod LotCalls
 pub mod WakesActs

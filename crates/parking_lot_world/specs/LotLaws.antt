@@ -42,23 +42,21 @@ pub record ActsKeepFits : Type 0 where
   pub adds : (s : State) (t : ℕ) (c : Call) (by : ℕ) → Keeps s t c (act.Add by) (acts.added s t c by)
   pub spins : (s : State) (t : ℕ) (c : Call) → Keeps s t c act.Spin (acts.spun s t c)
   -- where no section is open one is entered
-  pub enters : (s : State) (t : ℕ) (c : Call) (k : ℕ) → s.lot.section ≡ None → Sound (acts.entered s t c k).lot → Keeps s t c (act.Enter k) (acts.entered s t c k)
+  pub enters : (s : State) (t : ℕ) (c : Call) (k : ℕ) → s.lot.section ≡ None → Keeps s t c (act.Enter k) (acts.entered s t c k)
   -- to go to sleep
-  pub checks : (s : State) (t : ℕ) (c : Call) → Sound (acts.checked s t c).lot → Keeps s t c (act.Section section.Check) (acts.checked s t c)
-  pub appends : (s : State) (t : ℕ) (c : Call) (k : ℕ) (token : ParkToken) → stance c.core ≡ In k (Joins token) → Sound (acts.appended s t c (acts.key_of c k) token).lot
-      → Keeps s t c (act.Section (section.Append token)) (acts.appended s t c (acts.key_of c k) token)
+  pub checks : (s : State) (t : ℕ) (c : Call) → Keeps s t c (act.Section section.Check) (acts.checked s t c)
+  pub appends : (s : State) (t : ℕ) (c : Call) (k : ℕ) (token : ParkToken) → stance c.core ≡ In k (Joins token) → Keeps s t c (act.Section (section.Append token)) (acts.appended s t c (acts.key_of c k) token)
   -- to wake others: the first of the list is taken, or nobody
   pub takes : (s : State) (t : ℕ) (c : Call) (a : Act) (k : ℕ) (w : Waiter) → IsTaking a → stance c.core ≡ In k Takes → slice_get (s.lot.queues (acts.key_of c k)) 0 ≡ Some w → Counts c.core w.token
-      → Sound (acts.took s t c (acts.key_of c k) 0 w).lot → Keeps s t c a (acts.took s t c (acts.key_of c k) 0 w)
+      → Keeps s t c a (acts.took s t c (acts.key_of c k) 0 w)
   pub takes_nobody : (s : State) (t : ℕ) (c : Call) (a : Act) (k : ℕ) → IsTaking a → stance c.core ≡ In k Takes
-      → Sound (acts.took_nobody s t c (acts.key_of c k)).lot → Keeps s t c a (acts.took_nobody s t c (acts.key_of c k))
-  pub stores : (s : State) (t : ℕ) (c : Call) (plain fair change : WordChange) (is_fair : Bool) → Sound (acts.told_all s t c change is_fair).lot
-      → Keeps s t c (act.Section (section.Store plain fair)) (acts.told_all s t c change is_fair)
-  pub masks : (s : State) (t : ℕ) (c : Call) (keep : ℕ) → Sound (acts.masked s t c keep).lot → Keeps s t c (act.Mask keep) (acts.masked s t c keep)
-  pub leaves : (s : State) (t : ℕ) (c : Call) → Sound (acts.left s t c).lot → Keeps s t c (act.Section section.Leave) (acts.left s t c)
+      → Keeps s t c a (acts.took_nobody s t c (acts.key_of c k))
+  pub stores : (s : State) (t : ℕ) (c : Call) (plain fair change : WordChange) (is_fair : Bool) → Keeps s t c (act.Section (section.Store plain fair)) (acts.told_all s t c change is_fair)
+  pub masks : (s : State) (t : ℕ) (c : Call) (keep : ℕ) → Keeps s t c (act.Mask keep) (acts.masked s t c keep)
+  pub leaves : (s : State) (t : ℕ) (c : Call) → Keeps s t c (act.Section section.Leave) (acts.left s t c)
   -- the first whom it is to wake
   pub wakes : (s : State) (t : ℕ) (c : Call) (e : Wakeup) (d : Call) (token : UnparkToken) → slice_get s.wakes (position_or_len (is_by t) s.wakes) ≡ Some e → call_at s e.thread ≡ Some d
-      → Sound (acts.woke s t c e.thread d token).lot → Keeps s t c (act.Section section.Wake) (acts.woke s t c e.thread d token)
+      → Keeps s t c (act.Section section.Wake) (acts.woke s t c e.thread d token)
   -- calls begin and end
   pub begins : (s : State) (t : ℕ) (c : Call) → LotFits s → t < length s.calls → call_at s t ≡ None → LotFits (acts.begun s t c)
   pub ends : (s : State) (t : ℕ) (c : Call) (answer : CoreAnswer) → Keeps s t c (act.Done answer) (acts.answered s t c)
