@@ -32,6 +32,7 @@ pub mod WakesActs
 pub mod WakesActed
 pub mod FirstTaken
 pub mod LotStarts
+pub mod ScanRoom
 pub mod RwKeeping
 pub mod RwCrossing
 mod Acting

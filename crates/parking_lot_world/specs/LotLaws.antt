@@ -23,7 +23,7 @@ use Rattle.parking_lot_world.specs.Rows.{State, call_at, is_by}
 use Rattle.parking_lot_world.specs.Stances.{Doing, Joins, Takes, In, Asleep, stance, core_act}
 use Rattle.parking_lot_world.specs.StanceLaws.{Counts}
 use Rattle.parking_lot_world.specs.RowActs as acts
-use Rattle.parking_lot_world.specs.RowFits.{LotFits, WakesFit}
+use Rattle.parking_lot_world.specs.RowFits.{FitsTogether, LotFits, WakesFit}
 
 -- A thread t in a call c that asks for that act: what fitted fits after it.
 abbrev pub Keeps : State → ℕ → Call → Act → State → Type 0
@@ -157,3 +157,7 @@ NewMachinesFit = (s : State) → Sound s.lot → IsNew s → LotFits s × WakesF
 -- A lot that registers one thread after another has that many that run.
 abbrev pub RegisteredThreadsRun : Type 0
 RegisteredThreadsRun = (m : Machine) (n : ℕ) → m.places ≡ replicate n (Some Running) → (registered m).places ≡ replicate (n + 1) (Some Running)
+
+-- Whoever takes a waiter can count it: there are few threads, a scan that goes on has taken no writer, and only readers and writers wait.
+abbrev pub ScansHaveRoom : Type 0
+ScansHaveRoom = (s : State) → FitsTogether s → (t : ℕ) (c : Call) → call_at s t ≡ Some c → (k nth : ℕ) (w : Waiter) → stance c.core ≡ In k Takes → slice_get (s.lot.queues (acts.key_of c k)) nth ≡ Some w → Counts c.core w.token
