@@ -11,3 +11,4 @@ pub mod MutexLaws
 pub mod Faults
 pub mod Calls
 pub mod CallViews
+pub mod FrontTakings

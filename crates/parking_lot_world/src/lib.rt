@@ -17,7 +17,8 @@ pub use calls::{LockAnswer, LockCall, LockKind, OwnMode};
 pub use fault::{WorldFault, WorldRefusal};
 pub use laws::acts_are_steps;
 pub use lot_laws::{
-    acts_keep_places, new_machines_hold_together, stances_follow_acts, the_lot_never_refuses,
+    acts_keep_places, firsts_are_taken, new_machines_hold_together, stances_follow_acts,
+    the_lot_never_refuses,
 };
 pub use mutex_laws::{
     answers_are_steps_of_a_sound_mutex, calls_that_have_begun_go_on, roles_at_a_mutex_are_known,
