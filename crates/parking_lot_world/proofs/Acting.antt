@@ -35,6 +35,8 @@ use Rattle.parking_lot_world.proofs.OwnMoves.{AfterAct, IsOwnAct}
 use Rattle.parking_lot_world.proofs.Owning.{OwnAct}
 use Rattle.parking_lot_world.proofs.OwnActs.{own_rw, own_mutex}
 use Rattle.parking_lot_world.proofs.WakesKept.{wakes_own}
+use Rattle.parking_lot_world.proofs.Starting.{begins}
+use Rattle.parking_lot_world.proofs.Answering.{ends}
 
 -- A thread's own act, of which the lot's side is known.
 module _ (s u : State) (t : ℕ) (c : Call) (told : Seen) (h : FitsTogether s) (a : OwnAct s u t c told (core_next c.core told) c.spot) (lists_same : (key : ℕ) → u.lot.queues key ≡ s.lot.queues key) (gives : Gives (core_act c.core) (word_at s c.lock) told)
@@ -60,14 +62,14 @@ has_word s h t c here = subst (λ n. c.lock < n) (sym h.rules.size_words) (withi
     within (core.Rw k) e = slice_get_within s.kinds c.lock _ (subst (IsOfKind (slice_get s.kinds c.lock)) e (h.rules.kinds t c here))
     within (core.Mutex k) e = slice_get_within s.kinds c.lock _ (subst (IsOfKind (slice_get s.kinds c.lock)) e (h.rules.kinds t c here))
 
-word-here : (words : List ℕ) (j x : ℕ) → j < length words → option_map_or (λ w. w) (slice_get (slice_set words j x) j) 0 ≡ x
+pub word-here : (words : List ℕ) (j x : ℕ) → j < length words → option_map_or (λ w. w) (slice_get (slice_set words j x) j) 0 ≡ x
 word-here words j x b = go (slice_get words j) refl
   where
     go : (o : Option ℕ) → slice_get words j ≡ o → option_map_or (λ w. w) (slice_get (slice_set words j x) j) 0 ≡ x
     go (Some w) e = ap (λ q. option_map_or (λ w. w) q 0) (get-set_same words j w x e)
     go None e = absurd (none-some (get_or words j 0) (sym e ∙ slice_get-get_or words j 0 b))
 
-word-elsewhere : (words : List ℕ) (j x i : ℕ) → i ≢ j → option_map_or (λ w. w) (slice_get (slice_set words j x) i) 0 ≡ option_map_or (λ w. w) (slice_get words i) 0
+pub word-elsewhere : (words : List ℕ) (j x i : ℕ) → i ≢ j → option_map_or (λ w. w) (slice_get (slice_set words j x) i) 0 ≡ option_map_or (λ w. w) (slice_get words i) 0
 word-elsewhere words j x i ne = ap (λ q. option_map_or (λ w. w) q 0) (get-set_other words j i x (λ e. ne (sym e)))
 
 is_out : Stance → Bool
@@ -91,7 +93,7 @@ unfolding is_asleep
 awake_never b key how k token A e f = absurd (both_ways (is_asleep b) (ap is_asleep e) (ap is_asleep f))
 
 -- who is inside while a section goes on
-still_inside : (o : Option Section) (ph : Phase) → option_and_then (λ x. x.thread) (option_map {T = Section} (λ x. record x { phase = ph }) o) ≡ option_and_then (λ x. x.thread) o
+pub still_inside : (o : Option Section) (ph : Phase) → option_and_then (λ x. x.thread) (option_map {T = Section} (λ x. record x { phase = ph }) o) ≡ option_and_then (λ x. x.thread) o
 still_inside None ph = refl
 still_inside (Some x) ph = refl
 
@@ -237,4 +239,6 @@ laws = record {
   enter = enter;
   check = check;
   leave = leave;
+  begin = λ s t c h may. begins s t c may h;
+  end = λ s t c answer asked h here. ends s h t c here answer asked;
 }

@@ -35,6 +35,22 @@ pub mod LotStarts
 pub mod ScanRoom
 pub mod RwKeeping
 pub mod RwCrossing
+mod Starting
+mod Answering
 mod Acting
+mod TakeOutside
+mod TakeJoins
+mod TakeNobody
+mod TakeParts
+mod TakeRw
+mod TakeMutex
+mod TakeActs
+mod TakeLaws
+mod Settling
+mod Telling
+mod MutexTelling
+mod TellActs
 pub mod RwTelling
 pub mod RwSleeping
+pub mod Weighing
+mod MutexStoring

@@ -35,7 +35,7 @@ told_not_nothing token e = go (token.0 == 1) e
     go false e = cc
 
 -- calls, each changed so
-call_at-map : (g : Call → Call) (cs : List (Option Call)) (v : ℕ) → option_and_then (λ x. x) (slice_get (map (option_map g) cs) v) ≡ option_map g (option_and_then (λ x. x) (slice_get cs v))
+pub call_at-map : (g : Call → Call) (cs : List (Option Call)) (v : ℕ) → option_and_then (λ x. x) (slice_get (map (option_map g) cs) v) ≡ option_map g (option_and_then (λ x. x) (slice_get cs v))
 call_at-map g cs v = ap (option_and_then (λ x. x)) (slice_get-map (option_map g) cs v) ∙ go (slice_get cs v)
   where
     go : (o : Option (Option Call)) → option_and_then (λ x. x) (option_map (option_map g) o) ≡ option_map g (option_and_then (λ x. x) o)

@@ -118,7 +118,7 @@ module _ (s : State) (t : ℕ) (c : Call) (h : LotFits s) (here : call_at s t �
   place_other x e = ap (λ (ps : List (Option Place)). place_at ps x) took_places ∙ place_at-set_other s.lot.places v x (Some (Held z.sleep)) e
 
   -- the calls
-  call_taken : call_at u v ≡ Some off
+  pub call_taken : call_at u v ≡ Some off
   call_taken =
       set_elsewhere (slice_set s.calls v (option_map (off_list t) (call_at s v))) t v (Some takes) z.other
       ∙ (set_here s.calls v (option_map (off_list t) (call_at s v)) (call_within s v z.call z.there) ∙ ap (option_map (off_list t)) z.there)
@@ -126,15 +126,15 @@ module _ (s : State) (t : ℕ) (c : Call) (h : LotFits s) (here : call_at s t �
   mine_within : t < length (slice_set s.calls v (option_map (off_list t) (call_at s v)))
   mine_within = subst (λ (n : ℕ). t < n) (sym (length-set s.calls v (option_map (off_list t) (call_at s v)))) (call_within s t c here)
 
-  call_mine : call_at u t ≡ Some takes
+  pub call_mine : call_at u t ≡ Some takes
   call_mine = set_here (slice_set s.calls v (option_map (off_list t) (call_at s v))) t (Some takes) mine_within
 
-  call_other : (x : ℕ) → (x == t) ≡ false → (x == v) ≡ false → call_at u x ≡ call_at s x
+  pub call_other : (x : ℕ) → (x == t) ≡ false → (x == v) ≡ false → call_at u x ≡ call_at s x
   call_other x e f =
       set_elsewhere (slice_set s.calls v (option_map (off_list t) (call_at s v))) t x (Some takes) e
       ∙ set_elsewhere s.calls v x (option_map (off_list t) (call_at s v)) f
 
-  took_length : length u.calls ≡ length s.calls
+  pub took_length : length u.calls ≡ length s.calls
   took_length = length-set (slice_set s.calls v (option_map (off_list t) (call_at s v))) t (Some takes) ∙ length-set s.calls v (option_map (off_list t) (call_at s v))
 
   -- each keeps its lock

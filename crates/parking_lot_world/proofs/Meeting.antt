@@ -83,7 +83,7 @@ owns_few n (r.Ends outcome.FreedExclusive) = omega arith
 owns_few n p = omega arith
 
 module _ (s : State) (h : FitsTogether s) where
-  hold_few : (u i : ℕ) (x : Hold) → hold_at s u i ≡ x → shared_holds (owned_of x) ≤ 256
+  pub hold_few : (u i : ℕ) (x : Hold) → hold_at s u i ≡ x → shared_holds (owned_of x) ≤ 256
   hold_few u i (hold.Shares n) e = omega (arith, h.rules.few u i n e)
   hold_few u i hold.Excludes e = omega arith
 
@@ -91,7 +91,7 @@ module _ (s : State) (h : FitsTogether s) where
   core_few n at us (core.Rw k) e = omega (arith, owns_few n k.phase, e)
   core_few n at us (core.Mutex k) e = omega arith
 
-  role_few : (i u : ℕ) (o : Option Call) → call_at s u ≡ o → shared_holds (rw_role_in i (taken_by s.wakes u) (hold_at s u i) o).owns ≤ 256
+  pub role_few : (i u : ℕ) (o : Option Call) → call_at s u ≡ o → shared_holds (rw_role_in i (taken_by s.wakes u) (hold_at s u i) o).owns ≤ 256
   role_few i u None e = hold_few u i (hold_at s u i) refl
   role_few i u (Some c) e = go (c.lock == i)
     where

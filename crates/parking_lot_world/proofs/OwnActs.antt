@@ -85,7 +85,7 @@ is_rw (Some kind.Mutex) = false
 is_rw (Some kind.Rw) = true
 
 -- a lock is of one kind
-two_kinds : Some kind.Rw ≡ Some kind.Mutex → ⊥
+pub two_kinds : Some kind.Rw ≡ Some kind.Mutex → ⊥
 unfolding is_rw
 two_kinds e = both_ways (is_rw (Some kind.Rw)) (ap is_rw e) refl
 

@@ -4,6 +4,8 @@ pub mod RowActs
 pub mod RowFits
 pub mod RowSteps
 pub mod ActLaws
+pub mod TakeLaws
+pub mod TellLaws
 pub mod StanceLaws
 pub mod LotLaws
 pub mod RwLaws
@@ -12,3 +14,4 @@ pub mod Faults
 pub mod Calls
 pub mod CallViews
 pub mod FrontTakings
+pub mod Beginnings

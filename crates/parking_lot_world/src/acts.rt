@@ -1,12 +1,15 @@
 //! What each act of a call does to the machine.
-ghost use Rattle.std.specs.Prelude.{◌≡◌, ◌<◌, ◌+◌, ◌*◌, ◌%◌, ◌^◌, length, map, slice_get, Some, None};
+ghost use Rattle.std.specs.Prelude.{◌≡◌, ◌<◌, ◌≤◌, ◌+◌, ◌*◌, ◌%◌, ◌^◌, length, map, slice_get, Some, None};
 ghost use Rattle.std.specs.Option.{option_map};
 ghost use Rattle.parking_lot_cores.specs.declared.act.Act.TheVariants as act;
 ghost use Rattle.parking_lot_cores.specs.declared.act.SectionAct.TheVariants as section;
+ghost use Rattle.parking_lot_cores.specs.declared.act.CoreAnswer.{CoreAnswer};
+ghost use Rattle.parking_lot_world.specs.ActLaws.{MayBegin};
 ghost use Rattle.parking_lot_world.specs.Rows.{call_at, state, word_at};
 ghost use Rattle.parking_lot_world.specs.Stances.{core_act};
 ghost use Rattle.parking_lot_world.specs.RowActs.{added, answered, appended, begun, checked, entered, exchanged, key_of, left, loaded, masked, settled, spun, told_all, took, took_nobody, woke};
 
+use crate::lot_calls;
 use crate::row_machine::RowMachine;
 use crate::seat::{Call, Told, Wakeup};
 use parking_lot_core::{FilterOp, ParkResult, ParkToken, UnparkToken};
@@ -29,7 +32,7 @@ impl<A: Allocator> RowMachine<A> {
         requires asked { core_act call.core ≡ act.Load }
         ensures { state self.new ≡ loaded (state self.old) thread call }
     {
-        let word = self.words[call.lock];
+        let word = self.word(call.lock);
         self.calls[thread] = Some(call.told(Seen::Word(word)));
     }
 
@@ -39,7 +42,7 @@ impl<A: Allocator> RowMachine<A> {
         requires asked { core_act call.core ≡ act.Exchange from to }
         ensures { state self.new ≡ exchanged (state self.old) thread call from to }
     {
-        let word = self.words[call.lock];
+        let word = self.word(call.lock);
         if word == from {
             self.words[call.lock] = to;
             self.calls[thread] = Some(call.told(Seen::Exchanged));
@@ -54,7 +57,7 @@ impl<A: Allocator> RowMachine<A> {
         requires asked { core_act call.core ≡ act.Add by }
         ensures { state self.new ≡ added (state self.old) thread call by }
     {
-        let word = self.words[call.lock];
+        let word = self.word(call.lock);
         self.words[call.lock] = word.wrapping_add(by);
         self.calls[thread] = Some(call.told(Seen::Before(word)));
     }
@@ -65,10 +68,8 @@ impl<A: Allocator> RowMachine<A> {
         requires asked { core_act call.core ≡ act.Mask keep }
         ensures { state self.new ≡ masked (state self.old) thread call keep }
     {
-        let word = self.words[call.lock];
-        let Ok(()) = self.lot.store_done(thread, TRY_AGAIN) else {
-            return;
-        };
+        let word = self.word(call.lock);
+        lot_calls::store(&mut self.lot, thread, TRY_AGAIN);
         self.words[call.lock] = word & keep;
         self.calls[thread] = Some(call.told(Seen::Before(word)));
         settle(&mut self.calls, thread, Told::TryAgain);
@@ -88,11 +89,10 @@ impl<A: Allocator> RowMachine<A> {
         requires here { call_at (state self.old) thread ≡ Some call }
         requires asked { core_act call.core ≡ act.Enter which }
         requires free { (state self.old).lot.section ≡ None }
+        requires small { call.lock ≤ 2 ^ 62 }
         ensures { state self.new ≡ entered (state self.old) thread call which }
     {
-        let Ok(()) = self.lot.enter(thread, call.key(which)) else {
-            return;
-        };
+        lot_calls::enter(&mut self.lot, thread, call.key(which));
         self.calls[thread] = Some(call.told(Seen::Entered));
     }
 
@@ -102,11 +102,8 @@ impl<A: Allocator> RowMachine<A> {
         requires asked { core_act call.core ≡ act.Section section.Check }
         ensures { state self.new ≡ checked (state self.old) thread call }
     {
-        let word = self.words[call.lock];
-        let next = call.told(Seen::Word(word));
-        let Ok(_) = self.lot.check(thread, next.core.joins()) else {
-            return;
-        };
+        let next = call.told(Seen::Word(self.word(call.lock)));
+        lot_calls::check(&mut self.lot, thread, next.core.joins());
         self.calls[thread] = Some(next);
     }
 
@@ -153,12 +150,11 @@ impl<A: Allocator> RowMachine<A> {
         requires here { call_at (state self.old) thread ≡ Some call }
         ensures { state self.new ≡ told_all (state self.old) thread call change fair }
     {
+        let word = self.word(call.lock);
         let next = call.told(Seen::Stored { fair });
         let token = next.core.wake_token();
-        let Ok(()) = self.lot.store_done(thread, token) else {
-            return;
-        };
-        self.words[call.lock] = change.of(self.words[call.lock]);
+        lot_calls::store(&mut self.lot, thread, token);
+        self.words[call.lock] = change.of(word);
         self.calls[thread] = Some(next);
         settle(&mut self.calls, thread, Told::by(token));
     }
@@ -169,9 +165,7 @@ impl<A: Allocator> RowMachine<A> {
         requires asked { core_act call.core ≡ act.Section section.Leave }
         ensures { state self.new ≡ left (state self.old) thread call }
     {
-        let Ok(()) = self.lot.leave(thread) else {
-            return;
-        };
+        lot_calls::leave(&mut self.lot, thread);
         self.calls[thread] = Some(call.told(Seen::Made));
     }
 
@@ -194,9 +188,18 @@ impl<A: Allocator> RowMachine<A> {
         self.calls[thread] = Some(call.told(Seen::Made));
     }
 
+    /// A call begins.
+    pub(crate) fn begin_call(&mut self, thread: usize, call: Call)
+        requires may { MayBegin (state self.old) thread call }
+        ensures { state self.new ≡ begun (state self.old) thread call }
+    {
+        self.calls[thread] = Some(call.told(Seen::Start));
+    }
+
     /// Its call is over.
     pub(crate) fn answer(&mut self, thread: usize, call: Call)
         requires here { call_at (state self.old) thread ≡ Some call }
+        requires asked { (answer : CoreAnswer) × (core_act call.core ≡ act.Done answer) }
         ensures { state self.new ≡ answered (state self.old) thread call }
     {
         let cell = thread * self.kinds.len() + call.lock;

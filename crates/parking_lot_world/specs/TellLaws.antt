@@ -1,0 +1,31 @@
+-- What acts of the machine keep that tell those whom a thread has taken, or wake them, and which steps of the rules they are.
+use Rattle.std.specs.Prelude.{◌≡◌, ℕ, Bool, false, if◌then◌else◌, Some, slice_get}
+use Rattle.std.specs.List.{position_or_len}
+use Rattle.parking_lot_core.specs.declared.parking.UnparkToken.{UnparkToken}
+use Rattle.parking_lot_core.specs.declared.place.Place.TheVariants.{Taken}
+use Rattle.parking_lot_core.specs.declared.place.Sleep.{Sleep}
+use Rattle.parking_lot_core.specs.Places.{place_at}
+use Rattle.parking_lot_core.specs.Sound as lot
+use Rattle.parking_lot_cores.specs.declared.act.Act.TheVariants as act
+use Rattle.parking_lot_cores.specs.declared.act.SectionAct.TheVariants as section
+use Rattle.parking_lot_cores.specs.declared.act.WordChange.{WordChange}
+use Rattle.parking_lot_world.specs.declared.seat.Call.{Call}
+use Rattle.parking_lot_world.specs.declared.seat.Wakeup.{Wakeup}
+use Rattle.parking_lot_world.specs.Rows.{State, call_at, is_by}
+use Rattle.parking_lot_world.specs.Stances.{core_act}
+use Rattle.parking_lot_world.specs.RowActs.{told_all, masked, woke}
+use Rattle.parking_lot_world.specs.RowFits.{FitsTogether}
+use Rattle.parking_lot_world.specs.ActLaws.{Keeps}
+
+-- The first whom thread t is still to wake: it is in the call d, and was told that token in time.
+pub record IsDue (s : State) (t : ℕ) (e : Wakeup) (d : Call) (token : UnparkToken) : Type 0 where
+  pub first : slice_get s.wakes (position_or_len (is_by t) s.wakes) ≡ Some e
+  pub there : call_at s e.thread ≡ Some d
+  pub sleep : Sleep
+  pub place : place_at s.lot.places e.thread ≡ Some (Taken token sleep false)
+  pub late : sleep.late ≡ false
+
+pub record TellsAreSteps : Type 0 where
+  pub store : (s : State) (t : ℕ) (c : Call) (plain fair : WordChange) (is_fair : Bool) → core_act c.core ≡ act.Section (section.Store plain fair)
+      → lot.Sound (told_all s t c (if is_fair then fair else plain) is_fair).lot → Keeps t c s (told_all s t c (if is_fair then fair else plain) is_fair)
+  pub mask : (s : State) (t : ℕ) (c : Call) (keep : ℕ) → core_act c.core ≡ act.Mask keep → lot.Sound (masked s t c keep).lot → Keeps t c s (masked s t c keep)
