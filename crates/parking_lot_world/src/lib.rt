@@ -14,9 +14,9 @@ mod rw_laws;
 mod seat;
 mod starts;
 mod step;
-mod view_laws;
 mod take_laws;
 mod tell_laws;
+mod view_laws;
 
 pub use calls::{LockAnswer, LockCall, LockKind, OwnMode};
 pub use fault::{WorldFault, WorldRefusal};
@@ -43,6 +43,6 @@ pub use rw_laws::{
 };
 pub use starts::allowed_calls_begin_well;
 pub use step::WorldStep;
-pub use view_laws::modes_are_weighed;
 pub use take_laws::takes_are_steps_of_the_machine;
 pub use tell_laws::tells_are_steps;
+pub use view_laws::modes_are_weighed;
