@@ -14,14 +14,9 @@ use Rattle.parking_lot_core.specs.declared.place.Waiter.{Waiter}
 use Rattle.parking_lot_core.specs.Machine.{Machine, tokens_of, taking_of, in_phase, taken, TakesNext}
 use Rattle.parking_lot_core.specs.Places.{passed_of}
 use Rattle.parking_lot_core.specs.Results.{Answers, is_no_skip, is_take, is_skip}
+use Rattle.parking_lot_world.specs.FrontTakings.{FrontTaken, FirstsAreTaken}
 
 module _ {F : Type 0} (gives : F → ParkToken → FilterOp → F → Type 0) (filter : F) (old new : Machine) (result : Result (Option Taking) LotFault) (key : ℕ) where
-  -- what a taking at the front leaves
-  abbrev pub FrontTaken : Type 0
-  FrontTaken =
-      ((w : Waiter) × (slice_get (old.queues key) 0 ≡ Some w) × (result ≡ Ok (Some (taking_of old w))) × (new ≡ taken (in_phase old (phase.Taking 0)) key 0))
-      ⊎ ((old.queues key ≡ []) × (result ≡ Ok None) × (new ≡ in_phase old phase.Ended))
-
   abbrev After : List Waiter → List FilterOp → ℕ → Type 0
   After queue answers passed =
       let at = passed + count_by is_skip answers in
@@ -30,13 +25,13 @@ module _ {F : Type 0} (gives : F → ParkToken → FilterOp → F → Type 0) (f
       ((result ≡ Ok None) × (new ≡ in_phase old phase.Ended))
 
   by_queue : (queue : List Waiter) → old.queues key ≡ queue → ((w : Waiter) (f g : F) (op : FilterOp) → slice_get queue 0 ≡ Some w → gives f w.token op g → op ≡ Unpark)
-      → (answers : List FilterOp) (last : F) → Answers gives is_no_skip filter (tokens_of queue) answers last → After queue answers 0 → FrontTaken
+      → (answers : List FilterOp) (last : F) → Answers gives is_no_skip filter (tokens_of queue) answers last → After queue answers 0 → FrontTaken old new result key
   by_queue [] e wants [] last given after = inr (e, after.0, after.1)
   by_queue [] e wants (op ∷ ops) last given after = absurd given
   by_queue (w ∷ ws) e wants [] last given after = absurd given
   by_queue (w ∷ ws) e wants (Unpark ∷ ops) last given after = ends ops given.2.0 after
     where
-      ends : (ops : List FilterOp) → ops ≡ [] → After (w ∷ ws) (Unpark ∷ ops) 0 → FrontTaken
+      ends : (ops : List FilterOp) → ops ≡ [] → After (w ∷ ws) (Unpark ∷ ops) 0 → FrontTaken old new result key
       ends ops none after =
           let at_once : After (w ∷ ws) (Unpark ∷ []) 0 = subst (λ (xs : List FilterOp). After (w ∷ ws) (Unpark ∷ xs) 0) none after in
           inl (w, ap (λ (q : List Waiter). slice_get q 0) e, at_once.0, at_once.1)
@@ -52,7 +47,7 @@ module _ {F : Type 0} (gives : F → ParkToken → FilterOp → F → Type 0) (f
 -- the same, of the lot's own clause
 pub first_taken : {F : Type 0} (gives : F → ParkToken → FilterOp → F → Type 0) (filter : F) (o : Section) (old new : Machine) (result : Result (Option Taking) LotFault) → passed_of o.phase ≡ 0
     → ((w : Waiter) (f g : F) (op : FilterOp) → slice_get (old.queues o.key) 0 ≡ Some w → gives f w.token op g → op ≡ Unpark)
-    → TakesNext gives filter o old result new → FrontTaken gives filter old new result o.key
+    → TakesNext gives filter o old result new → FrontTaken old new result o.key
 first_taken {F} gives filter o old new result none wants takes =
     by_queue gives filter old new result o.key (old.queues o.key) refl wants takes.0 takes.1
     (subst (λ (n : ℕ). Answers gives is_no_skip filter (tokens_of (drop n (old.queues o.key))) takes.0 takes.1) none takes.2)

@@ -25,12 +25,14 @@ pub mod MutexMoving
 pub mod Beginning
 pub mod LotTakes
 pub mod LotWakes
+pub mod LotSound
 pub mod LotKept
 pub mod LotCalls
 pub mod WakesActs
 pub mod WakesActed
 pub mod FirstTaken
 pub mod LotStarts
+pub mod ScanRoom
 pub mod RwKeeping
 pub mod RwCrossing
 mod Starting
