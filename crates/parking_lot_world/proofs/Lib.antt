@@ -31,6 +31,9 @@ mod Acting
 mod Settling
 mod Telling
 mod MutexTelling
+mod Rousing
+mod RwRousing
+mod MutexRousing
 mod TellActs
 pub mod RwTelling
 pub mod RwSleeping

@@ -62,7 +62,7 @@ before_settled : (t : ℕ) (said : Told) (o : Option Call) (e : Call) → option
 before_settled t said None e h = absurd (none-some e h)
 before_settled t said (Some f) e h = (f, refl, same_call h)
 
-same_kind : (c : Core) (heard : Seen) (o : Option LockKind) → IsOfKind o c → IsOfKind o (core_next c heard)
+pub same_kind : (c : Core) (heard : Seen) (o : Option LockKind) → IsOfKind o c → IsOfKind o (core_next c heard)
 same_kind (core.Mutex k) heard o h = h
 same_kind (core.Rw k) heard o h = h
 

@@ -68,6 +68,18 @@ pub left_threads : (waiters : List Waiter) → is_left (threads_of waiters) ≡ 
 left_threads [] = refl
 left_threads (w ∷ ws) = refl
 
+-- a call at a reader-writer lock that hears what it may stands on what its next phase needs, while the lists stay
+pub rw_hears : (s : State) → FitsTogether s → (t : ℕ) (c : Call) (k : RwCore) → c.core ≡ core.Rw k → call_at s t ≡ Some c → (heard : Seen) → of_rw.IsTold k.phase (word_at s c.lock) heard
+    → Learns k.phase heard (s.lot.queues (2 * c.lock)) (s.lot.queues (2 * c.lock + 1)) → IsPrepared c.others (core_next c.core heard) × KnowsList (core_next c.core heard) s.lot.queues c.lock
+rw_hears s h t c k e here heard hears_so learns = (
+  subst (λ (x : Core). IsPrepared c.others (core_next x heard)) (sym e)
+      ((answers_are_moves (rw_lock_at s c.lock) t c.others (rw_spot c.spot) (taken_by s.wakes t) k.phase (word_at s c.lock) heard (meets s h t c k e here) hears_so).2.1,
+      calls_keep.goes_on c.others k.phase (word_at s c.lock) heard (subst (IsPrepared c.others) e (h.rules.prepared t c here)).1 hears_so),
+  subst (λ (x : Core). KnowsList (core_next x heard) s.lot.queues c.lock) (sym e)
+      (lists_are_known.learns k.phase (word_at s c.lock) heard (s.lot.queues (2 * c.lock)) (s.lot.queues (2 * c.lock + 1)) (s.lot.queues (2 * c.lock)) (s.lot.queues (2 * c.lock + 1)) hears_so
+      (subst (λ (x : Core). KnowsList x s.lot.queues c.lock) e (h.rules.knows t c here)) learns),
+)
+
 -- AT A READER-WRITER LOCK
 
 module _ (s : State) (t : ℕ) (c : Call) (heard : Seen) (token : UnparkToken) (word : ℕ) (h : FitsTogether s) (here : call_at s t ≡ Some c) (k : RwCore) (e : c.core ≡ core.Rw k) where
@@ -137,23 +149,14 @@ module _ (s : State) (t : ℕ) (c : Call) (heard : Seen) (token : UnparkToken) (
       others_then : rw_role_at u c.lock x ≡ g (rw_role_at s c.lock x)
       others_then = ap (rw_role_in c.lock vs hold) (told_others s t c heard token word h here x ne) ∙ role_settled (call_at s x) refl
 
-  -- what a call has to hear so that the machine fits afterwards
+  -- what the call has to hear so that the machine fits afterwards
   module _ (hears_so : of_rw.IsTold k.phase (word_at s c.lock) heard) (learns : Learns k.phase heard (s.lot.queues (2 * c.lock)) (s.lot.queues (2 * c.lock + 1)))
       (made : IsRwMove (of_rw.move c.others us k.phase heard) c.lock t s u) where
     rw_told : RulesFit u × IsMoveOf c.core c.others us heard c.lock t s u
-    rw_told = (
-      rules_told s t c heard token word h here
-          (subst (λ (x : Core). IsPrepared c.others (core_next x heard)) (sym e) (
-            (answers_are_moves old_lock t c.others (rw_spot c.spot) us k.phase (word_at s c.lock) heard rw_meets hears_so).2.1,
-            calls_keep.goes_on c.others k.phase (word_at s c.lock) heard (subst (IsPrepared c.others) e (h.rules.prepared t c here)).1 hears_so,
-          ))
-          (subst (λ (x : Core). KnowsList (core_next x heard) s.lot.queues c.lock) (sym e)
-          (lists_are_known.learns k.phase (word_at s c.lock) heard (s.lot.queues (2 * c.lock)) (s.lot.queues (2 * c.lock + 1)) (s.lot.queues (2 * c.lock)) (s.lot.queues (2 * c.lock + 1)) hears_so
-          (subst (λ (x : Core). KnowsList x s.lot.queues c.lock) e (h.rules.knows t c here)) learns))
-          (λ m. absurd (two_kinds (sym rw_kind ∙ m)))
-          (rw_move_sound s u t c.lock (of_rw.move c.others us k.phase heard) made h.rules.sound),
-      subst (λ (x : Core). IsMoveOf x c.others us heard c.lock t s u) (sym e) made,
-    )
+    rw_told =
+        let well = rw_hears s h t c k e here heard hears_so learns in
+        (rules_told s t c heard token word h here well.0 well.1 (λ m. absurd (two_kinds (sym rw_kind ∙ m))) (rw_move_sound s u t c.lock (of_rw.move c.others us k.phase heard) made h.rules.sound),
+        subst (λ (x : Core). IsMoveOf x c.others us heard c.lock t s u) (sym e) made)
 
 -- one that stores in a section
 pub rw_stores : (p : RwPhase) (key : ℕ) → rw_stance p ≡ In key Stores → ((rest : Rest) × (taken : Bool) × (p ≡ r.Masks2 rest taken)) ⊎ ((a : Scanning) × (left : Bool) × (p ≡ r.Stores a left))
