@@ -1,5 +1,5 @@
 -- A thread wakes the one whom it has taken, at a mutex: a step of the rules.
-use Rattle.std.proofs.Common.{◌≡◌, ◌≢◌, ℕ, ◌+◌, ◌*◌, ◌<◌, ◌==◌, cond, Bool, true, false, List, [], ◌∷◌, length, Option, Some, None, slice_get, slice_set, refl, sym, ap, ◌∙◌, subst, arith, eq-eqb}
+use Rattle.std.proofs.Common.{◌≡◌, ◌≢◌, ℕ, ◌*◌, ◌==◌, cond, Bool, true, false, List, length, Some, slice_get, slice_set, refl, sym, ap, ◌∙◌, subst, eq-eqb}
 use Rattle.parking_lot_core.specs.declared.parking.ParkToken.{ParkToken}
 use Rattle.parking_lot_core.specs.declared.parking.UnparkToken.{UnparkToken}
 use Rattle.parking_lot_core.specs.declared.place.Waiter.{Waiter}
@@ -17,14 +17,13 @@ use Rattle.parking_lot_cores.specs.MutexRules as of_mutex
 use Rattle.parking_lot_world.specs.declared.calls.LockKind.TheVariants as kind
 use Rattle.parking_lot_world.specs.declared.seat.Hold.{Hold}
 use Rattle.parking_lot_world.specs.declared.seat.Told.TheVariants as told
-use Rattle.parking_lot_world.specs.declared.seat.Spot.{Spot}
 use Rattle.parking_lot_world.specs.declared.seat.Spot.TheVariants as spot
 use Rattle.parking_lot_world.specs.declared.seat.Core.{Core}
 use Rattle.parking_lot_world.specs.declared.seat.Core.TheVariants as core
 use Rattle.parking_lot_world.specs.declared.seat.Call.{Call}
 use Rattle.parking_lot_world.specs.declared.seat.Wakeup.{Wakeup}
 use Rattle.parking_lot_world.specs.Rows.{State, word_at, call_at, hold_at, taken_by, owns_mutex, mark_of, first_of_all, mutex_spot, mutex_role_in, mutex_role_at, mutex_core_role, mutex_word_of, mutex_at}
-use Rattle.parking_lot_world.specs.Stances.{Stance, Out, Asleep, mutex_stance, stance, core_next}
+use Rattle.parking_lot_world.specs.Stances.{Out, Asleep, mutex_stance, stance, core_next}
 use Rattle.parking_lot_world.specs.RowActs.{hears, woke, told_of}
 use Rattle.parking_lot_world.specs.RowFits.{FitsTogether, RulesFit, IsOfKind, IsPrepared, KnowsList, mutex_knows}
 use Rattle.parking_lot_world.specs.RowSteps.{IsMutexMove, IsMoveOf}
@@ -150,12 +149,13 @@ module _ (s : State) (t : ℕ) (c : Call) (h : FitsTogether s) (here : call_at s
   moved = subst (λ n. IsMutexMove (of_mutex.move n k.phase seen.Made) (taken_by s.wakes t) c.lock t s u) (sym (ap first_of_all (taken_mine s t c h here e d token due from))) made
 
   pub mutex_wake : RulesFit u × IsMoveOf c.core c.others (taken_by s.wakes t) seen.Made c.lock t s u
-  mutex_wake =
-      (rules_roused s t c h here e d token due from
-      (subst (λ (x : Core). IsPrepared c.others (core_next x seen.Made)) (sym ce) (subst (IsPrepared c.others) ce (h.rules.prepared t c here)))
-      (subst (λ (x : Core). KnowsList (core_next x seen.Made) s.lot.queues c.lock) (sym ce) (subst (λ p. mutex_knows (table.next_phase p seen.Made) (s.lot.queues (2 * c.lock))) (sym ph) tt))
-      (subst (λ (x : Core). IsPrepared d.others (core_next x (seen.Woken token))) (sym de) (subst (IsPrepared d.others) de (h.rules.prepared v d due.there)))
-      (subst (λ (x : Core). KnowsList (core_next x (seen.Woken token)) s.lot.queues d.lock) (sym de)
-      (subst (λ p. mutex_knows (table.next_phase p (seen.Woken token)) (s.lot.queues (2 * d.lock))) (sym asleep) (woken_knows token (s.lot.queues (2 * d.lock)))))
-      (mutex_move_sound s u t c.lock (taken_by s.wakes t) (of_mutex.move (first_of_all (taken_by s.wakes t)) k.phase seen.Made) moved h.rules.sound),
-      subst (λ (x : Core). IsMoveOf x c.others (taken_by s.wakes t) seen.Made c.lock t s u) (sym ce) moved)
+  mutex_wake = (
+    rules_roused s t c h here e d token due from
+        (subst (λ (x : Core). IsPrepared c.others (core_next x seen.Made)) (sym ce) (subst (IsPrepared c.others) ce (h.rules.prepared t c here)))
+        (subst (λ (x : Core). KnowsList (core_next x seen.Made) s.lot.queues c.lock) (sym ce) (subst (λ p. mutex_knows (table.next_phase p seen.Made) (s.lot.queues (2 * c.lock))) (sym ph) tt))
+        (subst (λ (x : Core). IsPrepared d.others (core_next x (seen.Woken token))) (sym de) (subst (IsPrepared d.others) de (h.rules.prepared v d due.there)))
+        (subst (λ (x : Core). KnowsList (core_next x (seen.Woken token)) s.lot.queues d.lock) (sym de)
+        (subst (λ p. mutex_knows (table.next_phase p (seen.Woken token)) (s.lot.queues (2 * d.lock))) (sym asleep) (woken_knows token (s.lot.queues (2 * d.lock)))))
+        (mutex_move_sound s u t c.lock (taken_by s.wakes t) (of_mutex.move (first_of_all (taken_by s.wakes t)) k.phase seen.Made) moved h.rules.sound),
+    subst (λ (x : Core). IsMoveOf x c.others (taken_by s.wakes t) seen.Made c.lock t s u) (sym ce) moved,
+  )

@@ -1,37 +1,32 @@
 -- The machine once a thread has woken the first of those whom it has taken.
-use Rattle.std.proofs.Common.{◌≡◌, ◌≢◌, ℕ, zero, suc, ◌+◌, ◌*◌, ◌<◌, ◌≤◌, ◌⊎◌, inl, inr, ◌==◌, cond, not, Bool, true, false, List, [], ◌∷◌, length, map, filter, remove, Option, Some, None, slice_get, slice_set, refl, sym, ap, ◌∙◌, subst, arith, eqb-true, eq-eqb}
-use Rattle.std.specs.Prelude.{count_by}
+use Rattle.std.proofs.Common.{◌≡◌, ◌≢◌, ℕ, zero, suc, ◌+◌, ◌≤◌, inl, inr, ◌==◌, cond, not, Bool, true, false, List, [], ◌∷◌, length, map, filter, remove, Some, slice_get, slice_set, refl, sym, ap, ◌∙◌, subst, arith, eqb-true}
 use Rattle.std.specs.List.{position_or_len}
 use Rattle.std.proofs.lemmas.Bool.{cases_eq, ne_eqb, eqb-false}
-use Rattle.std.proofs.lemmas.List.{length-set}
 use Rattle.std.proofs.lemmas.List.Edits.{length-remove}
-use Rattle.std.proofs.lemmas.Option.{none-some, same_Some, slice_get_within}
+use Rattle.std.proofs.lemmas.Option.{none-some, slice_get_within}
 use Rattle.parking_lot_core.specs.declared.parking.ParkToken.{ParkToken}
 use Rattle.parking_lot_core.specs.declared.parking.UnparkToken.{UnparkToken}
 use Rattle.parking_lot_core.specs.declared.place.Place.TheVariants.{Taken}
 use Rattle.parking_lot_core.specs.declared.place.Sleep.{Sleep}
-use Rattle.parking_lot_core.specs.Places.{place_at}
 use Rattle.parking_lot_core.proofs.Numbers.{flag, count_by-set}
 use Rattle.parking_lot_rules.proofs.Indexed.{get-set_other}
-use Rattle.parking_lot_cores.specs.declared.act.Seen.{Seen}
 use Rattle.parking_lot_cores.specs.declared.act.Seen.TheVariants as seen
-use Rattle.parking_lot_world.specs.declared.calls.LockKind.TheVariants as kind
 use Rattle.parking_lot_world.specs.declared.seat.Told.{Told}
 use Rattle.parking_lot_world.specs.declared.seat.Spot.{Spot}
 use Rattle.parking_lot_world.specs.declared.seat.Spot.TheVariants as spot
 use Rattle.parking_lot_world.specs.declared.seat.Call.{Call}
 use Rattle.parking_lot_world.specs.declared.seat.Wakeup.{Wakeup}
-use Rattle.parking_lot_world.specs.Rows.{State, word_at, call_at, is_by, taken_by}
+use Rattle.parking_lot_world.specs.Rows.{State, call_at, is_by, taken_by}
 use Rattle.parking_lot_world.specs.Stances.{Out, Asleep, stance, taken_count, core_next}
 use Rattle.parking_lot_world.specs.RowActs.{hears, woke, told_of}
-use Rattle.parking_lot_world.specs.RowFits.{FitsTogether, LotFits, RulesFit, WakesFit, IsTaken, IsPrepared, KnowsList, is_away, is_off}
+use Rattle.parking_lot_world.specs.RowFits.{FitsTogether, RulesFit, WakesFit, IsTaken, IsPrepared, KnowsList, is_away, is_off}
 use Rattle.parking_lot_world.specs.TellLaws.{IsDue}
 use Rattle.parking_lot_world.proofs.Beginning.{goes_on}
 use Rattle.parking_lot_world.proofs.Calling.{slot}
 use Rattle.parking_lot_world.proofs.Carrying.{same_call}
 use Rattle.parking_lot_world.proofs.Indexing.{kept_remove}
 use Rattle.parking_lot_world.proofs.Lifting.{IsThere, Elsewhere}
-use Rattle.parking_lot_world.proofs.LotWakes.{woken_off, due_place, other, awake, call_mine, call_woken, call_other, woke_length}
+use Rattle.parking_lot_world.proofs.LotWakes.{woken_off, due_place, other, call_mine, call_woken, call_other, woke_length}
 use Rattle.parking_lot_world.proofs.Making.{IsSoundState}
 use Rattle.parking_lot_world.proofs.Ruling.{CallFits, call_fits, rules_after}
 use Rattle.parking_lot_world.proofs.Settling.{same_kind}
@@ -158,12 +153,12 @@ module _ (s : State) (t : ℕ) (c : Call) (h : FitsTogether s) (here : call_at s
   -- what holds of every call
   calls-woken : (P : ℕ → Call → Type 0) → ((x : ℕ) (z : Call) → x ≢ t → x ≢ e.thread → call_at s x ≡ Some z → P x z) → P t (hears c seen.Made) → P e.thread woken_call → (x : ℕ) (z : Call) → call_at woke_state x ≡ Some z → P x z
   calls-woken P others this that x z at = elim (cases_eq x t) [
-      | inl f ↦ subst (λ n. P n z) (sym f) (subst (P t) (same_call (sym at_t ∙ ap (call_at woke_state) (sym f) ∙ at)) this)
-      | inr nt ↦ elim (cases_eq x e.thread) [
-          | inl f ↦ subst (λ n. P n z) (sym f) (subst (P e.thread) (same_call (sym at_v ∙ ap (call_at woke_state) (sym f) ∙ at)) that)
-          | inr nv ↦ others x z nt nv (sym (at_others x nt nv) ∙ at)
-        ]
+    | inl f ↦ subst (λ n. P n z) (sym f) (subst (P t) (same_call (sym at_t ∙ ap (call_at woke_state) (sym f) ∙ at)) this)
+    | inr nt ↦ elim (cases_eq x e.thread) [
+      | inl f ↦ subst (λ n. P n z) (sym f) (subst (P e.thread) (same_call (sym at_v ∙ ap (call_at woke_state) (sym f) ∙ at)) that)
+      | inr nv ↦ others x z nt nv (sym (at_others x nt nv) ∙ at)
     ]
+  ]
 
   pub woke_elsewhere : Elsewhere c.lock s woke_state
   woke_elsewhere = record {
@@ -175,9 +170,9 @@ module _ (s : State) (t : ℕ) (c : Call) (h : FitsTogether s) (here : call_at s
     calls = λ x. elim (cases_eq x t) [
       | inl f ↦ inr (subst (λ n. IsThere c.lock (call_at s n)) (sym f) (subst (IsThere c.lock) (sym here) refl), subst (λ n. IsThere c.lock (call_at woke_state n)) (sym f) (subst (IsThere c.lock) (sym at_t) refl))
       | inr nt ↦ elim (cases_eq x e.thread) [
-          | inl f ↦ inr (subst (λ n. IsThere c.lock (call_at s n)) (sym f) (subst (IsThere c.lock) (sym due.there) same_lock), subst (λ n. IsThere c.lock (call_at woke_state n)) (sym f) (subst (IsThere c.lock) (sym at_v) same_lock))
-          | inr nv ↦ inl (at_others x nt nv, taken_others x nt)
-        ]
+        | inl f ↦ inr (subst (λ n. IsThere c.lock (call_at s n)) (sym f) (subst (IsThere c.lock) (sym due.there) same_lock), subst (λ n. IsThere c.lock (call_at woke_state n)) (sym f) (subst (IsThere c.lock) (sym at_v) same_lock))
+        | inr nv ↦ inl (at_others x nt nv, taken_others x nt)
+      ]
     ];
   }
 

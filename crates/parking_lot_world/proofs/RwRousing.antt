@@ -1,5 +1,5 @@
 -- A thread wakes the first of those whom it has taken, at a reader-writer lock: a step of the rules.
-use Rattle.std.proofs.Common.{◌≡◌, ◌≢◌, ℕ, ◌+◌, ◌*◌, ◌<◌, ◌==◌, cond, Bool, true, false, List, [], ◌∷◌, length, Option, Some, None, slice_get, slice_set, refl, sym, ap, ◌∙◌, subst, arith, eq-eqb}
+use Rattle.std.proofs.Common.{◌≡◌, ◌≢◌, ℕ, ◌+◌, ◌*◌, cond, List, ◌∷◌, length, Some, slice_get, slice_set, refl, sym, ap, ◌∙◌, subst, eq-eqb}
 use Rattle.parking_lot_core.specs.declared.parking.ParkToken.{ParkToken}
 use Rattle.parking_lot_core.specs.declared.parking.UnparkToken.{UnparkToken}
 use Rattle.parking_lot_core.specs.declared.place.Waiter.{Waiter}
@@ -19,14 +19,13 @@ use Rattle.parking_lot_cores.specs.RwTable as table
 use Rattle.parking_lot_cores.specs.RwRules as of_rw
 use Rattle.parking_lot_world.specs.declared.calls.LockKind.TheVariants as kind
 use Rattle.parking_lot_world.specs.declared.seat.Hold.{Hold}
-use Rattle.parking_lot_world.specs.declared.seat.Spot.{Spot}
 use Rattle.parking_lot_world.specs.declared.seat.Spot.TheVariants as spot
 use Rattle.parking_lot_world.specs.declared.seat.Core.{Core}
 use Rattle.parking_lot_world.specs.declared.seat.Core.TheVariants as core
 use Rattle.parking_lot_world.specs.declared.seat.Call.{Call}
 use Rattle.parking_lot_world.specs.declared.seat.Wakeup.{Wakeup}
 use Rattle.parking_lot_world.specs.Rows.{State, word_at, call_at, hold_at, taken_by, owned_of, mark_of, rw_spot, rw_role_in, rw_role_at, rw_core_role, rw_lock_at}
-use Rattle.parking_lot_world.specs.Stances.{Stance, Out, Asleep, stance, rw_stance, core_next}
+use Rattle.parking_lot_world.specs.Stances.{Out, Asleep, stance, rw_stance, core_next}
 use Rattle.parking_lot_world.specs.RowActs.{hears, woke, told_of}
 use Rattle.parking_lot_world.specs.RowFits.{FitsTogether, RulesFit, IsOfKind}
 use Rattle.parking_lot_world.specs.RowSteps.{IsRwMove, IsMoveOf}
@@ -140,10 +139,14 @@ module _ (s : State) (t : ℕ) (c : Call) (h : FitsTogether s) (here : call_at s
       refl refl
 
   made : IsRwMove of_rw.WakesOne c.lock t s u
-  made =
-      (of_rw.owned_at_last c.others rs, v, vs, step.0,
-      made_rw s u t c.lock (subst (IsThere c.lock) (sym here) refl) (woke_elsewhere s t c h here e d token due from) (Wake (of_rw.owned_at_last c.others rs) v vs step.0 rules.Asleep) rw_kind
-      step.1.0 (lock_after ∙ sym step.1.1) refl)
+  made = (
+    of_rw.owned_at_last c.others rs,
+    v,
+    vs,
+    step.0,
+    made_rw s u t c.lock (subst (IsThere c.lock) (sym here) refl) (woke_elsewhere s t c h here e d token due from) (Wake (of_rw.owned_at_last c.others rs) v vs step.0 rules.Asleep) rw_kind
+        step.1.0 (lock_after ∙ sym step.1.1) refl,
+  )
 
   moved : IsRwMove (of_rw.move c.others (taken_by s.wakes t) k.phase seen.Made) c.lock t s u
   moved = subst (λ p. IsRwMove (of_rw.move c.others (taken_by s.wakes t) p seen.Made) c.lock t s u) (sym ph) made
@@ -151,8 +154,9 @@ module _ (s : State) (t : ℕ) (c : Call) (h : FitsTogether s) (here : call_at s
   pub rw_wake : RulesFit u × IsMoveOf c.core c.others (taken_by s.wakes t) seen.Made c.lock t s u
   rw_wake =
       let mine = rw_hears s h t c k ce here seen.Made (subst (λ p. of_rw.IsTold p (word_at s c.lock) seen.Made) (sym ph) tt)
-          (subst (λ p. Learns p seen.Made (s.lot.queues (2 * c.lock)) (s.lot.queues (2 * c.lock + 1))) (sym ph) tt) in
+      (subst (λ p. Learns p seen.Made (s.lot.queues (2 * c.lock)) (s.lot.queues (2 * c.lock + 1))) (sym ph) tt) in
       let may = sleeper_hears q.phase _ _ (word_at s d.lock) token asleep in
-      let others = rw_hears s h v d q de due.there (seen.Woken token) may.0 (may.1 (s.lot.queues (2 * d.lock)) (s.lot.queues (2 * d.lock + 1))) in
-      (rules_roused s t c h here e d token due from mine.0 mine.1 others.0 others.1 (rw_move_sound s u t c.lock (of_rw.move c.others (taken_by s.wakes t) k.phase seen.Made) moved h.rules.sound),
-      subst (λ (x : Core). IsMoveOf x c.others (taken_by s.wakes t) seen.Made c.lock t s u) (sym ce) moved)
+      let others = rw_hears s h v d q de due.there (seen.Woken token) may.0 (may.1 (s.lot.queues (2 * d.lock)) (s.lot.queues (2 * d.lock + 1))) in (
+        rules_roused s t c h here e d token due from mine.0 mine.1 others.0 others.1 (rw_move_sound s u t c.lock (of_rw.move c.others (taken_by s.wakes t) k.phase seen.Made) moved h.rules.sound),
+        subst (λ (x : Core). IsMoveOf x c.others (taken_by s.wakes t) seen.Made c.lock t s u) (sym ce) moved,
+      )

@@ -1,5 +1,5 @@
 -- The acts that tell and wake: each keeps the machine fit, and is a step of the rules.
-use Rattle.std.proofs.Common.{◌≡◌, ℕ, ◌⊎◌, inl, inr, cond, Bool, false, Some, slice_get, refl, sym, ap, ◌∙◌, subst, arith}
+use Rattle.std.proofs.Common.{◌≡◌, ℕ, inl, inr, cond, Bool, false, Some, slice_get, refl, sym, ap, ◌∙◌, subst, arith}
 use Rattle.parking_lot_core.specs.declared.parking.UnparkToken.{UnparkToken}
 use Rattle.parking_lot_core.specs.Sound as lot
 use Rattle.parking_lot_cores.specs.declared.act.Act.TheVariants as act
@@ -15,7 +15,7 @@ use Rattle.parking_lot_world.specs.declared.seat.Core.TheVariants as core
 use Rattle.parking_lot_world.specs.declared.seat.Call.{Call}
 use Rattle.parking_lot_world.specs.declared.seat.Wakeup.{Wakeup}
 use Rattle.parking_lot_world.specs.Rows.{State, word_at, call_at}
-use Rattle.parking_lot_world.specs.Stances.{Stance, Out, In, Stores, Tells, sign, stance, taken_count, core_act, core_next, core_tells}
+use Rattle.parking_lot_world.specs.Stances.{Out, In, Stores, Tells, sign, stance, taken_count, core_act, core_next, core_tells}
 use Rattle.parking_lot_world.specs.RowActs.{with_lot, with_call, settles, hears, told_all, masked, woke, told_of}
 use Rattle.parking_lot_world.specs.RowFits.{FitsTogether, LotFits, RulesFit, IsOfKind}
 use Rattle.parking_lot_world.specs.RowSteps.{Goes}
@@ -91,21 +91,24 @@ wake : (s : State) (t : ℕ) (c : Call) (e : Wakeup) (d : Call) (token : UnparkT
     → lot.Sound (woke s t c e.thread d token).lot → Keeps t c s (woke s t c e.thread d token)
 wake s t c e d token asked due sound h here =
     let leads = leads_by c.core (act.Section section.Wake) (word_at s c.lock) seen.Made asked tt in
-    let rules = by_cores c.core d.core refl refl leads.0 leads.1 in
-    (seen.Made, record {
-      fits = record {
-        lots = woke_fits s t c h.lots here e d due.first (first_is_by t s.wakes e due.first) due.there leads.0 token leads.1 leads.2 sound;
-        wakes = wakes_roused s t c h here e d token due leads.0;
-        rules = rules.0;
-      };
-      goes = rules.1;
-    })
+    let rules = by_cores c.core d.core refl refl leads.0 leads.1 in (
+      seen.Made,
+      record {
+        fits = record {
+          lots = woke_fits s t c h.lots here e d due.first (first_is_by t s.wakes e due.first) due.there leads.0 token leads.1 leads.2 sound;
+          wakes = wakes_roused s t c h here e d token due leads.0;
+          rules = rules.0;
+        };
+        goes = rules.1;
+      },
+    )
   where
     of_one_kind : (x y : Core) → c.core ≡ x → d.core ≡ y → (out : stance c.core ≡ Out) → IsOfKind (slice_get s.kinds c.lock) x × IsOfKind (slice_get s.kinds c.lock) y
     of_one_kind x y ce de out = (
       subst (IsOfKind (slice_get s.kinds c.lock)) ce (h.rules.kinds t c here),
       subst (λ j. IsOfKind (slice_get s.kinds j) y) (same_lock s t c h here e d token due out) (subst (IsOfKind (slice_get s.kinds d.lock)) de (h.rules.kinds e.thread d due.there)),
     )
+
     by_cores : (x y : Core) → c.core ≡ x → d.core ≡ y → stance c.core ≡ Out → stance (core_next c.core seen.Made) ≡ Out → RulesFit (woke s t c e.thread d token) × Goes t c seen.Made s (woke s t c e.thread d token)
     by_cores (core.Mutex k) (core.Mutex q) ce de out to =
         let p = mutex_wakes k.phase (sym (ap core_act ce) ∙ asked) in
