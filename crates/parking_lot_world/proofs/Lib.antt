@@ -49,6 +49,9 @@ mod TakeLaws
 mod Settling
 mod Telling
 mod MutexTelling
+mod Rousing
+mod RwRousing
+mod MutexRousing
 mod TellActs
 pub mod RwTelling
 pub mod RwSleeping
