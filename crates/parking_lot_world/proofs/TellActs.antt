@@ -27,6 +27,7 @@ use Rattle.parking_lot_world.proofs.LotWakes.{woke_fits}
 use Rattle.parking_lot_world.proofs.MutexRousing.{mutex_wakes, mutex_wake}
 use Rattle.parking_lot_world.proofs.OwnActs.{two_kinds}
 use Rattle.parking_lot_world.proofs.MutexTelling.{mutex_store, mutex_stores}
+use Rattle.parking_lot_world.proofs.Resuming.{goes_on}
 use Rattle.parking_lot_world.proofs.Rousing.{is_due, first_is_by, same_lock, wakes_roused}
 use Rattle.parking_lot_world.proofs.RwRousing.{rw_wakes, rw_wake}
 use Rattle.parking_lot_world.proofs.Settling.{told_state, wakes_told}
@@ -125,4 +126,5 @@ laws = record {
   mask = mask;
   due = due;
   wake = wake;
+  goes_on = goes_on;
 }
