@@ -35,6 +35,8 @@ use Rattle.parking_lot_world.proofs.OwnMoves.{AfterAct, IsOwnAct}
 use Rattle.parking_lot_world.proofs.Owning.{OwnAct}
 use Rattle.parking_lot_world.proofs.OwnActs.{own_rw, own_mutex}
 use Rattle.parking_lot_world.proofs.WakesKept.{wakes_own}
+use Rattle.parking_lot_world.proofs.Starting.{begins}
+use Rattle.parking_lot_world.proofs.Answering.{ends}
 
 -- A thread's own act, of which the lot's side is known.
 module _ (s u : State) (t : ℕ) (c : Call) (told : Seen) (h : FitsTogether s) (a : OwnAct s u t c told (core_next c.core told) c.spot) (lists_same : (key : ℕ) → u.lot.queues key ≡ s.lot.queues key) (gives : Gives (core_act c.core) (word_at s c.lock) told)
@@ -91,7 +93,7 @@ unfolding is_asleep
 awake_never b key how k token A e f = absurd (both_ways (is_asleep b) (ap is_asleep e) (ap is_asleep f))
 
 -- who is inside while a section goes on
-still_inside : (o : Option Section) (ph : Phase) → option_and_then (λ x. x.thread) (option_map {T = Section} (λ x. record x { phase = ph }) o) ≡ option_and_then (λ x. x.thread) o
+pub still_inside : (o : Option Section) (ph : Phase) → option_and_then (λ x. x.thread) (option_map {T = Section} (λ x. record x { phase = ph }) o) ≡ option_and_then (λ x. x.thread) o
 still_inside None ph = refl
 still_inside (Some x) ph = refl
 
@@ -154,11 +156,11 @@ add s t c by asked h here =
 
 exchange : (s : State) (t : ℕ) (c : Call) (from to : ℕ) → core_act c.core ≡ act.Exchange from to → Keeps t c s (exchanged s t c from to)
 exchange s t c from to asked h here = elim (cases_eq (word_at s c.lock) from) [
-    | inl e ↦ subst (λ (b : Bool). (what : Seen) × Acts t c what s (cond b (with_word (with_call s t (hears c seen.Exchanged)) c.lock to) (loaded s t c))) (sym (eq-eqb (word_at s c.lock) from e))
-        (writes s t c seen.Exchanged (act.Exchange from to) asked h here e tt (λ o. refl) (leads_by c.core (act.Exchange from to) (word_at s c.lock) seen.Exchanged asked e) to refl)
-    | inr ne ↦ subst (λ (b : Bool). (what : Seen) × Acts t c what s (cond b (with_word (with_call s t (hears c seen.Exchanged)) c.lock to) (loaded s t c))) (sym (ne_eqb (word_at s c.lock) from ne))
-        (let told = seen.Word (word_at s c.lock) in looks s t c told (act.Exchange from to) asked h here (refl, ne) tt (λ o. refl) (leads_by c.core (act.Exchange from to) (word_at s c.lock) told asked (refl, ne)) refl)
-  ]
+  | inl e ↦ subst (λ (b : Bool). (what : Seen) × Acts t c what s (cond b (with_word (with_call s t (hears c seen.Exchanged)) c.lock to) (loaded s t c))) (sym (eq-eqb (word_at s c.lock) from e))
+      (writes s t c seen.Exchanged (act.Exchange from to) asked h here e tt (λ o. refl) (leads_by c.core (act.Exchange from to) (word_at s c.lock) seen.Exchanged asked e) to refl)
+  | inr ne ↦ subst (λ (b : Bool). (what : Seen) × Acts t c what s (cond b (with_word (with_call s t (hears c seen.Exchanged)) c.lock to) (loaded s t c))) (sym (ne_eqb (word_at s c.lock) from ne))
+      (let told = seen.Word (word_at s c.lock) in looks s t c told (act.Exchange from to) asked h here (refl, ne) tt (λ o. refl) (leads_by c.core (act.Exchange from to) (word_at s c.lock) told asked (refl, ne)) refl)
+]
 
 -- SECTIONS
 
@@ -175,7 +177,7 @@ enter s t c key asked free sound h here =
       word = sym (ap (λ y. word_after y seen.Entered (word_at s c.lock)) asked);
       words = λ i ne. refl;
       queues = λ i k ne b. refl;
-      listed = λ k token e. elim leads.1 [ | inl x ↦ awake_never _ key _ k token _ x e | inr x ↦ awake_never _ key _ k token _ x e ];
+      listed = λ k token e. elim leads.1 [ inl x ↦ awake_never _ key _ k token _ x e | inr x ↦ awake_never _ key _ k token _ x e ];
     })
     (λ key. refl)
     (subst (λ (y : Act). Gives y (word_at s c.lock) seen.Entered) (sym asked) tt) (subst IsOwnAct (sym asked) tt)
@@ -196,7 +198,7 @@ check s t c asked sound h here =
       word = sym (ap (λ y. word_after y told (word_at s c.lock)) asked);
       words = λ i ne. refl;
       queues = λ i k ne b. refl;
-      listed = λ k token e. elim leads.2 [ | inl x ↦ awake_never _ leads.0 _ k token _ x e | inr x ↦ awake_never _ leads.0 _ k token _ x.1 e ];
+      listed = λ k token e. elim leads.2 [ inl x ↦ awake_never _ leads.0 _ k token _ x e | inr x ↦ awake_never _ leads.0 _ k token _ x.1 e ];
     })
     (λ key. refl)
     (subst (λ (y : Act). Gives y (word_at s c.lock) told) (sym asked) refl) (subst IsOwnAct (sym asked) tt)
@@ -237,4 +239,6 @@ laws = record {
   enter = enter;
   check = check;
   leave = leave;
+  begin = λ s t c h may. begins s t c may h;
+  end = λ s t c answer asked h here. ends s h t c here answer asked;
 }

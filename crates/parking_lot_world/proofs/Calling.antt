@@ -8,7 +8,7 @@ use Rattle.parking_lot_world.specs.declared.calls.LockKind.{LockKind}
 use Rattle.parking_lot_world.specs.declared.seat.Hold.{Hold}
 use Rattle.parking_lot_world.specs.declared.seat.Hold.TheVariants as hold
 use Rattle.parking_lot_world.specs.declared.seat.Call.{Call}
-use Rattle.parking_lot_world.specs.Rows.{State, call_at, hold_at}
+use Rattle.parking_lot_world.specs.Rows.{State, call_at, hold_at, hold_in}
 use Rattle.parking_lot_world.proofs.Meeting.{in_range}
 
 abbrev pub call_of : List (Option Call) → ℕ → Option Call
@@ -32,12 +32,9 @@ call-elsewhere calls t v o ne = ap (option_and_then (λ y. y)) (get-set_other ca
 pub calls-change : (P : ℕ → Call → Type 0) (calls : List (Option Call)) (t : ℕ) (c d : Call) → call_of calls t ≡ Some c
     → ((v : ℕ) (e : Call) → v ≢ t → call_of calls v ≡ Some e → P v e) → P t d → (v : ℕ) (e : Call) → call_of (slice_set calls t (Some d)) v ≡ Some e → P v e
 calls-change P calls t c d here others this v e at = elim (cases_eq v t) [
-    | inl eq ↦ subst (λ (n : ℕ). P n e) (sym eq) (subst (P t) (same_Some d e (sym (call-here calls t (Some c) (Some d) (slot calls t c here)) ∙ ap (call_of (slice_set calls t (Some d))) (sym eq) ∙ at)) this)
-    | inr ne ↦ others v e ne (sym (call-elsewhere calls t v (Some d) ne) ∙ at)
-  ]
-
-abbrev pub hold_of : List Hold → List LockKind → ℕ → ℕ → Hold
-hold_of holds kinds x i = option_map_or (λ h. h) (slice_get holds (x * length kinds + i)) (hold.Shares 0)
+  | inl eq ↦ subst (λ (n : ℕ). P n e) (sym eq) (subst (P t) (same_Some d e (sym (call-here calls t (Some c) (Some d) (slot calls t c here)) ∙ ap (call_of (slice_set calls t (Some d))) (sym eq) ∙ at)) this)
+  | inr ne ↦ others v e ne (sym (call-elsewhere calls t v (Some d) ne) ∙ at)
+]
 
 pub same-holds : (s u : State) → u.kinds ≡ s.kinds → u.holds ≡ s.holds → (x i : ℕ) → hold_at u x i ≡ hold_at s x i
-same-holds s u k h x i = ap (λ hs. hold_of hs u.kinds x i) h ∙ ap (λ ks. hold_of s.holds ks x i) k
+same-holds s u k h x i = ap (λ hs. hold_in hs (length u.kinds) x i) h ∙ ap (λ ks. hold_in s.holds (length ks) x i) k

@@ -1,16 +1,16 @@
 -- What an act that changes a thread's call keeps of the lot's lists and of who is to be woken.
-use Rattle.std.proofs.Common.{◌≡◌, ◌≢◌, ◌≤◌, ◌<◌, ℕ, ◌+◌, ◌*◌, ◌==◌, ◌⊎◌, inl, inr, Bool, true, false, cond, List, [], ◌∷◌, length, map, filter, Option, Some, None, slice_get, slice_set, refl, sym, ap, ◌∙◌, subst, arith, eq-eqb, count_by, zero, suc}
+use Rattle.std.proofs.Common.{◌≡◌, ◌≤◌, ◌<◌, ℕ, ◌+◌, ◌*◌, ◌==◌, false, cond, List, [], ◌∷◌, length, filter, Option, Some, None, slice_get, slice_set, refl, sym, ap, ◌∙◌, subst, arith, eq-eqb, count_by, zero, suc}
 use Rattle.std.specs.Option.{option_map, option_map_or, option_and_then}
 use Rattle.std.proofs.lemmas.List.{length-map}
 use Rattle.std.proofs.lemmas.List.Sums.{length-filter}
-use Rattle.std.proofs.lemmas.Option.{slice_get-map, slice_get_within}
+use Rattle.std.proofs.lemmas.Option.{slice_get_within}
 use Rattle.parking_lot_core.specs.declared.parking.ParkToken.{ParkToken}
 use Rattle.parking_lot_core.specs.declared.place.Section.{Section}
 use Rattle.parking_lot_core.specs.declared.place.Waiter.{Waiter}
 use Rattle.parking_lot_core.specs.Places.{place_at, mark_of}
 use Rattle.parking_lot_core.specs.Sound.{Sound}
-use Rattle.parking_lot_core.proofs.Numbers.{slice_get-set_same, slice_get-set_other, count_by-at}
-use Rattle.parking_lot_core.proofs.Sounds.{none≢some, some≢none, by_eqb}
+use Rattle.parking_lot_core.proofs.Numbers.{slice_get-set_other, count_by-at}
+use Rattle.parking_lot_core.proofs.Sounds.{none≢some}
 use Rattle.parking_lot_world.specs.declared.seat.Told.{Told}
 use Rattle.parking_lot_world.specs.declared.seat.Told.TheVariants as told
 use Rattle.parking_lot_world.specs.declared.seat.Spot.{Spot}
@@ -18,8 +18,8 @@ use Rattle.parking_lot_world.specs.declared.seat.Spot.TheVariants as spot
 use Rattle.parking_lot_world.specs.declared.seat.Call.{Call}
 use Rattle.parking_lot_world.specs.declared.seat.Wakeup.{Wakeup}
 use Rattle.parking_lot_world.specs.Rows.{State, call_at, is_by, taken_by}
-use Rattle.parking_lot_world.specs.Stances.{Doing, Looks, TurnsBack, Joins, Joined, Takes, Stores, Tells, Stance, Out, In, Asleep, stance, taken_count}
-use Rattle.parking_lot_world.specs.RowActs.{with_call, settled_spot, settled}
+use Rattle.parking_lot_world.specs.Stances.{Looks, TurnsBack, Joins, Joined, Takes, Stores, Tells, Stance, Out, In, Asleep, stance, taken_count}
+use Rattle.parking_lot_world.specs.RowActs.{settled_spot, settled}
 use Rattle.parking_lot_world.specs.RowFits.{Seated, Awaits, IsTaken, IsOwed, WakesSome, LotFits}
 
 -- CALLS, BY THREAD
@@ -175,12 +175,12 @@ carries_ended c awake counts = record {
 }
 
 -- sleepers are told
-settled_off : (t : ℕ) (said : Told) (by : ℕ) (x : Told) → (now : Told) × (settled_spot t said (spot.Off by x) ≡ spot.Off by now)
+pub settled_off : (t : ℕ) (said : Told) (by : ℕ) (x : Told) → (now : Told) × (settled_spot t said (spot.Off by x) ≡ spot.Off by now)
 settled_off t said by told.Nothing = (cond (by == t) said told.Nothing, refl)
 settled_off t said by told.TryAgain = (told.TryAgain, refl)
 settled_off t said by told.HandedOver = (told.HandedOver, refl)
 
-unsettled_off : (t : ℕ) (said : Told) (by : ℕ) (x : Told) (a : Spot) → settled_spot t said a ≡ spot.Off by x → (before : Told) × (a ≡ spot.Off by before)
+pub unsettled_off : (t : ℕ) (said : Told) (by : ℕ) (x : Told) (a : Spot) → settled_spot t said a ≡ spot.Off by x → (before : Told) × (a ≡ spot.Off by before)
 unsettled_off t said by x spot.Listed e = absurd (listed≢off e)
   where
     listed≢off : spot.Listed ≡ spot.Off by x → ⊥

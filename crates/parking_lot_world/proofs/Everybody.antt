@@ -40,22 +40,23 @@ module _ {R : Type 0} where
   -- a list of all, where each is the same
   pub same-all : (f g : ℕ → R) (n : ℕ) → ((u : ℕ) → u < n → g u ≡ f u) → all g 0 n ≡ all f 0 n
   same-all f g n h = same-lists (all g 0 n) (all f 0 n) (λ i. elim (cases_lt i n) [
-      | inl b ↦ get-all g n i b ∙ ap Some (h i b) ∙ sym (get-all f n i b)
-      | inr b ↦ past g n i b ∙ sym (past f n i b)
-    ])
+    | inl b ↦ get-all g n i b ∙ ap Some (h i b) ∙ sym (get-all f n i b)
+    | inr b ↦ past g n i b ∙ sym (past f n i b)
+  ])
 
   -- where one has changed
   pub change-all : (f g : ℕ → R) (n t : ℕ) → t < n → ((u : ℕ) → u < n → u ≢ t → g u ≡ f u) → all g 0 n ≡ slice_set (all f 0 n) t (g t)
   change-all f g n t in_range h = same-lists (all g 0 n) (slice_set (all f 0 n) t (g t)) (λ i. elim (cases_lt i n) [
-      | inl b ↦ get-all g n i b ∙ here i b
-      | inr b ↦ past g n i b ∙ sym (beyond i b)
-    ])
+    | inl b ↦ get-all g n i b ∙ here i b
+    | inr b ↦ past g n i b ∙ sym (beyond i b)
+  ])
     where
       here : (i : ℕ) → i < n → Some (g i) ≡ slice_get (slice_set (all f 0 n) t (g t)) i
       here i b = elim (cases_eq i t) [
-          | inl e ↦ ap (λ k. Some (g k)) e ∙ sym (get-set_same (all f 0 n) t (f t) (g t) (get-all f n t in_range)) ∙ ap (slice_get (slice_set (all f 0 n) t (g t))) (sym e)
-          | inr ne ↦ ap Some (h i b ne) ∙ sym (get-all f n i b) ∙ sym (get-set_other (all f 0 n) t i (g t) (λ e. ne (sym e)))
-        ]
+        | inl e ↦ ap (λ k. Some (g k)) e ∙ sym (get-set_same (all f 0 n) t (f t) (g t) (get-all f n t in_range)) ∙ ap (slice_get (slice_set (all f 0 n) t (g t))) (sym e)
+        | inr ne ↦ ap Some (h i b ne) ∙ sym (get-all f n i b) ∙ sym (get-set_other (all f 0 n) t i (g t) (λ e. ne (sym e)))
+      ]
+
       beyond : (i : ℕ) → n ≤ i → slice_get (slice_set (all f 0 n) t (g t)) i ≡ None
       beyond i b = get-set_other (all f 0 n) t i (g t) (λ e. omega (arith, e, b, in_range)) ∙ past f n i b
 

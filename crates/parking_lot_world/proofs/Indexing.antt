@@ -1,5 +1,6 @@
 -- Elements of a list with one more at its end, and with one taken out.
-use Rattle.std.proofs.Common.{◌≡◌, ◌≢◌, ◌≤◌, ◌<◌, ℕ, ◌+◌, ◌⊎◌, inl, inr, List, [], ◌∷◌, ◌++◌, length, remove, Option, Some, None, slice_get, refl, sym, ap, ◌∙◌, arith, zero, suc}
+use Rattle.std.proofs.Common.{◌≡◌, ◌≤◌, ◌<◌, ℕ, ◌+◌, ◌⊎◌, inl, inr, List, [], ◌∷◌, ◌++◌, length, remove, Some, Bool, true, false, not, cond, slice_get, slice_set, refl, sym, ap, ◌∙◌, arith, zero, suc}
+use Rattle.std.specs.List.{position_or_len}
 use Rattle.parking_lot_core.proofs.Sounds.{none≢some}
 
 -- two that are left stood apart
@@ -52,3 +53,22 @@ module _ {X : Type 0} where
   kept_remove (x ∷ xs) zero (suc m) y h apart = (m, h)
   kept_remove (x ∷ xs) (suc i) zero y h apart = (zero, h)
   kept_remove (x ∷ xs) (suc i) (suc m) y h apart = let r = kept_remove xs i m y h (λ e. apart (ap suc e)) in (suc r.0, r.1)
+
+  -- the first that passes does
+  pub first_is : (p : X → Bool) (xs : List X) (e : X) → slice_get xs (position_or_len p xs) ≡ Some e → p e ≡ true
+  first_is p [] e h = absurd (none≢some h)
+  first_is p (y ∷ xs) e h =
+      let both : (b : Bool) → p y ≡ b → slice_get (y ∷ xs) (cond (not b) (1 + position_or_len p xs) 0) ≡ Some e → p e ≡ true = elim [
+        | true ↦ λ passes at. ap p (same_some at) ∙ passes
+        | false ↦ λ fails at. first_is p xs e (sym (ap (slice_get (y ∷ xs)) (one_more (position_or_len p xs))) ∙ at)
+      ] in
+      both (p y) refl h
+    where
+      one_more : (n : ℕ) → 1 + n ≡ suc n
+      one_more n = omega arith
+
+  -- an element written twice
+  pub set_twice : (xs : List X) (i : ℕ) (x y : X) → slice_set (slice_set xs i x) i y ≡ slice_set xs i y
+  set_twice [] i x y = refl
+  set_twice (z ∷ xs) zero x y = refl
+  set_twice (z ∷ xs) (suc i) x y = ap (λ zs. z ∷ zs) (set_twice xs i x y)

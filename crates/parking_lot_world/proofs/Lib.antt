@@ -25,9 +25,27 @@ pub mod MutexMoving
 pub mod Beginning
 pub mod LotTakes
 pub mod LotWakes
+pub mod LotSound
+pub mod LotKept
+pub mod LotCalls
+pub mod WakesActs
+pub mod WakesActed
+pub mod FirstTaken
+pub mod LotStarts
+pub mod ScanRoom
 pub mod RwKeeping
 pub mod RwCrossing
+mod Starting
+mod Answering
 mod Acting
+mod TakeOutside
+mod TakeJoins
+mod TakeNobody
+mod TakeParts
+mod TakeRw
+mod TakeMutex
+mod TakeActs
+mod TakeLaws
 mod Settling
 mod Telling
 mod MutexTelling
@@ -38,3 +56,5 @@ mod Resuming
 mod TellActs
 pub mod RwTelling
 pub mod RwSleeping
+pub mod Weighing
+mod MutexStoring

@@ -1,38 +1,30 @@
 -- The acts of a call keep what fits of the lot.
-use Rattle.std.proofs.Common.{◌≡◌, ◌≢◌, ◌≤◌, ◌<◌, ℕ, ◌+◌, ◌*◌, ◌%◌, ◌^◌, ◌==◌, ◌⊎◌, inl, inr, Bool, true, false, cond, bit_and, List, [], ◌∷◌, length, Option, Some, None, slice_get, slice_set, refl, sym, ap, ◌∙◌, subst, arith, eqb-true, eq-eqb, count_by, zero, suc}
-use Rattle.std.specs.Option.{option_map, option_map_or, option_and_then}
-use Rattle.std.proofs.lemmas.Bool.{false≢true, eqb-false}
+use Rattle.std.proofs.Common.{◌≡◌, ◌<◌, ℕ, ◌+◌, ◌*◌, ◌==◌, ◌⊎◌, inl, inr, false, List, length, Option, Some, None, slice_get, slice_set, refl, sym, ap, ◌∙◌, subst}
+use Rattle.std.specs.Option.{option_map_or, option_and_then}
+use Rattle.std.proofs.lemmas.Bool.{eqb-false}
 use Rattle.std.proofs.lemmas.List.{length-set}
 use Rattle.parking_lot_core.specs.declared.parking.ParkToken.{ParkToken}
 use Rattle.parking_lot_core.specs.declared.parking.UnparkToken.{UnparkToken}
 use Rattle.parking_lot_core.specs.declared.place.Place.{Place}
-use Rattle.parking_lot_core.specs.declared.place.Place.TheVariants.{Running, Waiting, Held, Taken}
-use Rattle.parking_lot_core.specs.declared.place.Phase.{Phase}
-use Rattle.parking_lot_core.specs.declared.place.Phase.TheVariants as phase
+use Rattle.parking_lot_core.specs.declared.place.Place.TheVariants.{Running, Held, Taken}
 use Rattle.parking_lot_core.specs.declared.place.Section.{Section}
-use Rattle.parking_lot_core.specs.declared.place.Sleep.{Sleep}
-use Rattle.parking_lot_core.specs.declared.place.Waiter.{Waiter}
-use Rattle.parking_lot_core.specs.Machine.{Machine, opened, in_phase}
-use Rattle.parking_lot_core.specs.Places.{place_at, mark_of, may_take, may_store}
+use Rattle.parking_lot_core.specs.Machine.{Machine, opened}
+use Rattle.parking_lot_core.specs.Places.{place_at, mark_of}
 use Rattle.parking_lot_core.specs.Sound.{Sound}
-use Rattle.parking_lot_core.proofs.Sounds.{none≢some, some≢none, by_eqb}
-use Rattle.parking_lot_cores.specs.Acts.{Gives}
-use Rattle.parking_lot_cores.specs.declared.act.Act.TheVariants as act
+use Rattle.parking_lot_core.proofs.Sounds.{none≢some, by_eqb}
 use Rattle.parking_lot_cores.specs.declared.act.Seen.{Seen}
 use Rattle.parking_lot_cores.specs.declared.act.Seen.TheVariants as seen
 use Rattle.parking_lot_world.specs.declared.seat.Told.{Told}
-use Rattle.parking_lot_world.specs.declared.seat.Told.TheVariants as told
 use Rattle.parking_lot_world.specs.declared.seat.Spot.{Spot}
 use Rattle.parking_lot_world.specs.declared.seat.Spot.TheVariants as spot
 use Rattle.parking_lot_world.specs.declared.seat.Call.{Call}
-use Rattle.parking_lot_world.specs.declared.seat.Wakeup.{Wakeup}
-use Rattle.parking_lot_world.specs.Rows.{State, call_at, taken_by}
-use Rattle.parking_lot_world.specs.Stances.{Doing, Looks, TurnsBack, Joins, Joined, Takes, Stores, Tells, Stance, Out, In, Asleep, stance, taken_count, core_act}
-use Rattle.parking_lot_world.specs.RowActs.{with_call, with_word, with_lot, hears, told_of}
+use Rattle.parking_lot_world.specs.Rows.{State, call_at}
+use Rattle.parking_lot_world.specs.Stances.{Stance, Out, In, Asleep, stance, taken_count}
+use Rattle.parking_lot_world.specs.RowActs.{with_call, with_lot, hears, told_of}
 use Rattle.parking_lot_world.specs.RowFits.{IsOutside, IsAt, SaidIn, Stands, Seated, LotFits}
 use Rattle.parking_lot_world.specs.StanceLaws.{StaysOut}
 use Rattle.parking_lot_world.proofs.Stancing.{wakes_some}
-use Rattle.parking_lot_world.proofs.Carrying.{same_call, call_within, set_here, set_elsewhere, Carries, carries_same, IsAwake, IsUp, carries_awake, carries_begun, carries_ended, taken_some, carried}
+use Rattle.parking_lot_world.proofs.Carrying.{call_within, set_here, set_elsewhere, Carries, carries_same, IsAwake, IsUp, carries_awake, carries_begun, carries_ended, carried}
 
 -- THREADS AT THE OPEN SECTION
 

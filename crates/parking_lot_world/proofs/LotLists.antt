@@ -1,32 +1,27 @@
 -- Joining a list keeps what fits of the lot.
-use Rattle.std.proofs.Common.{◌≡◌, ◌≢◌, ◌≤◌, ◌<◌, ℕ, ◌+◌, ◌*◌, ◌%◌, ◌^◌, ◌==◌, ◌⊎◌, inl, inr, Bool, true, false, cond, List, [], ◌∷◌, ◌++◌, length, map, Option, Some, None, slice_get, slice_set, refl, sym, ap, ◌∙◌, subst, arith, eqb-true, eq-eqb, zero, suc}
-use Rattle.std.specs.Option.{option_map, option_map_or, option_and_then}
+use Rattle.std.proofs.Common.{◌≡◌, ◌<◌, ℕ, ◌+◌, ◌*◌, ◌%◌, ◌^◌, ◌==◌, ◌⊎◌, inl, inr, false, List, [], ◌∷◌, ◌++◌, length, Some, slice_get, refl, sym, ap, ◌∙◌, subst, arith}
+use Rattle.std.specs.Option.{option_map, option_map_or}
 use Rattle.parking_lot_core.specs.declared.parking.ParkToken.{ParkToken}
-use Rattle.parking_lot_core.specs.declared.place.Place.{Place}
-use Rattle.parking_lot_core.specs.declared.place.Place.TheVariants.{Running, Waiting, Held, Taken}
+use Rattle.parking_lot_core.specs.declared.place.Place.TheVariants.{Running, Waiting}
 use Rattle.parking_lot_core.specs.declared.place.Phase.TheVariants as phase
 use Rattle.parking_lot_core.specs.declared.place.Section.{Section}
 use Rattle.parking_lot_core.specs.declared.place.Sleep.{Sleep}
 use Rattle.parking_lot_core.specs.declared.place.Waiter.{Waiter}
-use Rattle.parking_lot_core.specs.Lists.{updated}
 use Rattle.parking_lot_core.specs.Machine.{Machine, in_phase, joined}
 use Rattle.parking_lot_core.specs.Places.{place_at, mark_of}
 use Rattle.parking_lot_core.specs.Sound.{Sound}
 use Rattle.parking_lot_core.proofs.Kept.{updated_at, updated_other}
-use Rattle.parking_lot_core.proofs.Sounds.{none≢some, by_eqb, place_at-set_same, place_at-set_other}
-use Rattle.parking_lot_cores.specs.declared.act.Seen.{Seen}
+use Rattle.parking_lot_core.proofs.Sounds.{by_eqb, place_at-set_same, place_at-set_other}
 use Rattle.parking_lot_cores.specs.declared.act.Seen.TheVariants as seen
-use Rattle.parking_lot_world.specs.declared.seat.Told.{Told}
-use Rattle.parking_lot_world.specs.declared.seat.Spot.{Spot}
 use Rattle.parking_lot_world.specs.declared.seat.Spot.TheVariants as spot
 use Rattle.parking_lot_world.specs.declared.seat.Call.{Call}
 use Rattle.parking_lot_world.specs.Rows.{State, call_at}
-use Rattle.parking_lot_world.specs.Stances.{Doing, Looks, TurnsBack, Joins, Joined, Takes, Stores, Tells, Stance, Out, In, Asleep, stance, taken_count}
-use Rattle.parking_lot_world.specs.RowActs.{with_call, with_lot, hears, key_of, appended}
-use Rattle.parking_lot_world.specs.RowFits.{SaidIn, Stands, Seated, Awaits, LotFits}
+use Rattle.parking_lot_world.specs.Stances.{Joins, Joined, In, stance, taken_count}
+use Rattle.parking_lot_world.specs.RowActs.{hears, key_of, appended}
+use Rattle.parking_lot_world.specs.RowFits.{Awaits, LotFits}
 use Rattle.parking_lot_world.proofs.Indexing.{get_push}
 use Rattle.parking_lot_world.proofs.Stancing.{wakes_some}
-use Rattle.parking_lot_world.proofs.Carrying.{call_within, set_here, Carries, awake_sleeps, waits_carried, carried_by}
+use Rattle.parking_lot_world.proofs.Carrying.{call_within, Carries, awake_sleeps, waits_carried, carried_by}
 use Rattle.parking_lot_world.proofs.LotActs.{same_section, seat_of, awake_by, changed_here, carries_one, seats_one, same_length}
 use Rattle.parking_lot_world.proofs.LotSections.{nobody_off, sits, carried_awake, seats_still}
 

@@ -1,6 +1,6 @@
 -- Entering a section, what is done in it to its phase, and leaving it keep what fits of the lot.
-use Rattle.std.proofs.Common.{◌≡◌, ◌≢◌, ◌≤◌, ◌<◌, ℕ, ◌+◌, ◌*◌, ◌==◌, ◌⊎◌, inl, inr, Bool, true, false, cond, List, [], ◌∷◌, length, map, Option, Some, None, slice_get, slice_set, refl, sym, ap, ◌∙◌, subst, arith, eqb-true, eq-eqb, zero, suc}
-use Rattle.std.specs.Option.{option_map, option_map_or, option_and_then}
+use Rattle.std.proofs.Common.{◌≡◌, ◌≤◌, ℕ, ◌+◌, ◌*◌, ◌==◌, ◌⊎◌, inl, inr, true, false, cond, List, length, map, Option, Some, None, refl, sym, ap, ◌∙◌, subst, arith}
+use Rattle.std.specs.Option.{option_map, option_map_or}
 use Rattle.std.proofs.lemmas.Bool.{false≢true}
 use Rattle.parking_lot_core.specs.declared.parking.ParkToken.{ParkToken}
 use Rattle.parking_lot_core.specs.declared.parking.UnparkToken.{UnparkToken}
@@ -9,27 +9,23 @@ use Rattle.parking_lot_core.specs.declared.place.Place.TheVariants.{Running, Wai
 use Rattle.parking_lot_core.specs.declared.place.Phase.{Phase}
 use Rattle.parking_lot_core.specs.declared.place.Phase.TheVariants as phase
 use Rattle.parking_lot_core.specs.declared.place.Section.{Section}
-use Rattle.parking_lot_core.specs.declared.place.Sleep.{Sleep}
-use Rattle.parking_lot_core.specs.declared.place.Waiter.{Waiter}
 use Rattle.parking_lot_core.specs.Machine.{Machine, opened, in_phase, closed, token_of}
 use Rattle.parking_lot_core.specs.Places.{place_at, mark_of, may_take, may_store, told}
 use Rattle.parking_lot_core.specs.Results.{is_left}
 use Rattle.parking_lot_core.specs.Sound.{Sound}
-use Rattle.parking_lot_core.proofs.Sounds.{none≢some, some≢none, by_eqb, place_at-map}
-use Rattle.parking_lot_cores.specs.declared.act.Seen.{Seen}
+use Rattle.parking_lot_core.proofs.Sounds.{none≢some, place_at-map}
 use Rattle.parking_lot_cores.specs.declared.act.Seen.TheVariants as seen
 use Rattle.parking_lot_world.specs.declared.seat.Told.{Told}
 use Rattle.parking_lot_world.specs.declared.seat.Spot.{Spot}
 use Rattle.parking_lot_world.specs.declared.seat.Spot.TheVariants as spot
 use Rattle.parking_lot_world.specs.declared.seat.Call.{Call}
-use Rattle.parking_lot_world.specs.declared.seat.Wakeup.{Wakeup}
 use Rattle.parking_lot_world.specs.Rows.{State, word_at, call_at, taken_by}
 use Rattle.parking_lot_world.specs.Stances.{Doing, Looks, TurnsBack, Joins, Joined, Takes, Stores, Tells, Stance, Out, In, Asleep, stance, taken_count}
 use Rattle.parking_lot_world.specs.RowActs.{with_call, with_lot, hears, key_of, joins, entered, checked, took_nobody, left, told_of}
-use Rattle.parking_lot_world.specs.RowFits.{HasCome, WaitsIn, IsOutside, IsAt, SaidIn, Stands, Seated, WakesSome, LotFits}
+use Rattle.parking_lot_world.specs.RowFits.{HasCome, IsAt, SaidIn, Stands, Seated, WakesSome, LotFits}
 use Rattle.parking_lot_world.specs.StanceLaws.{LeavesFor}
 use Rattle.parking_lot_world.proofs.Stancing.{wakes_some}
-use Rattle.parking_lot_world.proofs.Carrying.{same_call, call_within, Carries, IsAwake, IsUp, carries_awake, carries_lain, taken_some}
+use Rattle.parking_lot_world.proofs.Carrying.{call_within, Carries, IsAwake, IsUp, carries_awake, carries_lain, taken_some}
 use Rattle.parking_lot_world.proofs.LotActs.{same_number, same_section, outside_of, outside_none, lies_still, seated_apart, acted, seat_of, awake_by, up_by}
 
 -- who has taken nobody has nobody off its list
@@ -76,7 +72,7 @@ module _ (s : State) (t : ℕ) (c : Call) (h : LotFits s) (here : call_at s t �
 
   pub entered_fits : stance c.core ≡ Out → (stance enters.core ≡ In k Looks) ⊎ (stance enters.core ≡ In k Takes) → taken_count enters.core ≡ taken_count c.core → LotFits (entered s t c k)
   entered_fits from (inl to) counts = entered_as (In k Looks) from to tt counts (λ runs. (enters_section, refl, refl, refl, refl, runs))
-  entered_fits from (inr to) counts = entered_as (In k Takes) from to tt counts (λ runs. (enters_section, refl, refl, refl, refl, runs))
+  entered_fits from (inr to) counts = entered_as (In k Takes) from to tt counts (λ runs. (enters_section, refl, refl, refl, (refl, refl), runs))
 
 -- IN THE SECTION
 
@@ -164,7 +160,7 @@ took_nobody_fits s t c k h here from to counts sound =
     goes_on s t c d h here (in_phase s.lot phase.Ended) o o' seat.1 (ap (option_map {T = Section} (λ x. record x { phase = phase.Ended })) seat.1) seat.2 seat.2
     (carried_awake s t c d (In k Takes) (In k Stores) here from to tt tt refl counts (wakes_some c.core (seen.Took None (is_left (s.lot.queues (key_of c k))))))
     sound refl refl
-    (λ v j token x by said same at asleep off in_it. still_said o phase.Ended said seat.4 refl in_it)
+    (λ v j token x by said same at asleep off in_it. still_said o phase.Ended said seat.4.0 refl in_it)
     (sits t d (In k Stores) (place_at s.lot.places t) (Some o') to (o', refl, seat.2, seat.3, refl, seat.5))
 
 -- LEAVING

@@ -1,29 +1,28 @@
 -- A store in a section, which tells those that it took, keeps what fits of the lot.
-use Rattle.std.proofs.Common.{◌≡◌, ◌≢◌, ◌≤◌, ◌<◌, ℕ, ◌+◌, ◌*◌, ◌==◌, ◌⊎◌, inl, inr, Bool, true, false, cond, List, [], ◌∷◌, length, map, Option, Some, None, slice_get, slice_set, refl, sym, ap, ◌∙◌, subst, arith, eqb-true, eq-eqb, zero, suc}
-use Rattle.std.specs.Option.{option_map, option_map_or, option_and_then}
+use Rattle.std.proofs.Common.{◌≡◌, ◌<◌, ℕ, ◌+◌, ◌*◌, ◌==◌, ◌⊎◌, inl, inr, Bool, true, false, cond, List, length, map, Option, Some, None, slice_get, slice_set, refl, sym, ap, ◌∙◌, subst, eq-eqb}
+use Rattle.std.specs.Option.{option_map, option_and_then}
 use Rattle.std.proofs.lemmas.Bool.{cond-true}
 use Rattle.std.proofs.lemmas.List.{length-map}
 use Rattle.std.proofs.lemmas.Option.{slice_get-map}
-use Rattle.parking_lot_core.specs.declared.parking.ParkToken.{ParkToken}
 use Rattle.parking_lot_core.specs.declared.parking.UnparkToken.{UnparkToken}
 use Rattle.parking_lot_core.specs.declared.place.Place.{Place}
-use Rattle.parking_lot_core.specs.declared.place.Place.TheVariants.{Running, Waiting, Held, Taken}
+use Rattle.parking_lot_core.specs.declared.place.Place.TheVariants.{Held, Taken}
 use Rattle.parking_lot_core.specs.declared.place.Phase.TheVariants as phase
 use Rattle.parking_lot_core.specs.declared.place.Section.{Section}
 use Rattle.parking_lot_core.specs.declared.place.Sleep.{Sleep}
-use Rattle.parking_lot_core.specs.Machine.{Machine, stored}
-use Rattle.parking_lot_core.specs.Places.{place_at, mark_of, may_store}
+use Rattle.parking_lot_core.specs.Machine.{stored}
+use Rattle.parking_lot_core.specs.Places.{place_at, may_store}
 use Rattle.parking_lot_core.specs.Sound.{Sound}
-use Rattle.parking_lot_core.proofs.Sounds.{none≢some, by_eqb}
+use Rattle.parking_lot_core.proofs.Sounds.{by_eqb}
 use Rattle.parking_lot_world.specs.declared.seat.Told.{Told}
 use Rattle.parking_lot_world.specs.declared.seat.Told.TheVariants as told
 use Rattle.parking_lot_world.specs.declared.seat.Spot.{Spot}
 use Rattle.parking_lot_world.specs.declared.seat.Spot.TheVariants as spot
 use Rattle.parking_lot_world.specs.declared.seat.Call.{Call}
 use Rattle.parking_lot_world.specs.Rows.{State, call_at}
-use Rattle.parking_lot_world.specs.Stances.{Doing, Looks, TurnsBack, Joins, Joined, Takes, Stores, Tells, Stance, Out, In, Asleep, stance, taken_count}
+use Rattle.parking_lot_world.specs.Stances.{Stores, Tells, In, stance, taken_count}
 use Rattle.parking_lot_world.specs.RowActs.{with_call, with_lot, settled_spot, settled, settles, told_of}
-use Rattle.parking_lot_world.specs.RowFits.{IsOutside, IsAt, SaidIn, Stands, Seated, WakesSome, LotFits}
+use Rattle.parking_lot_world.specs.RowFits.{IsAt, SaidIn, Seated, WakesSome, LotFits}
 use Rattle.parking_lot_world.proofs.Carrying.{call_within, Carries, carries_both, carries_settled, carried}
 use Rattle.parking_lot_world.proofs.LotActs.{same_number, same_section, outside_of, apart, seat_of, changed_here, changed_there, carries_one, same_length}
 use Rattle.parking_lot_world.proofs.LotSections.{sits, carried_awake, stores_unstored}

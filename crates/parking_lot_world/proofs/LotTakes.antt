@@ -1,24 +1,22 @@
 -- Taking a waiter off its list keeps what fits of the lot.
-use Rattle.std.proofs.Common.{◌≡◌, ◌≢◌, ◌≤◌, ◌<◌, ℕ, ◌+◌, ◌*◌, ◌==◌, ◌⊎◌, inl, inr, Bool, true, false, cond, List, [], ◌∷◌, ◌++◌, length, map, remove, Option, Some, None, slice_get, slice_set, count_by, refl, sym, ap, ◌∙◌, subst, arith, eqb-true, eq-eqb, zero, suc}
-use Rattle.std.specs.Option.{option_map, option_map_or, option_and_then}
+use Rattle.std.proofs.Common.{◌≡◌, ◌≤◌, ◌<◌, ℕ, ◌+◌, ◌*◌, ◌==◌, ◌⊎◌, inl, inr, false, List, [], ◌∷◌, length, remove, Option, Some, slice_get, slice_set, count_by, refl, sym, ap, ◌∙◌, subst, arith, eq-eqb}
+use Rattle.std.specs.Option.{option_map, option_map_or}
 use Rattle.std.proofs.lemmas.Bool.{ne_eqb, eqb-false}
 use Rattle.parking_lot_core.specs.declared.parking.ParkToken.{ParkToken}
 use Rattle.parking_lot_core.specs.declared.place.Place.{Place}
-use Rattle.parking_lot_core.specs.declared.place.Place.TheVariants.{Running, Waiting, Held, Taken}
+use Rattle.parking_lot_core.specs.declared.place.Place.TheVariants.{Running, Waiting, Held}
 use Rattle.parking_lot_core.specs.declared.place.Phase.TheVariants as phase
 use Rattle.parking_lot_core.specs.declared.place.Section.{Section}
 use Rattle.parking_lot_core.specs.declared.place.Sleep.{Sleep}
 use Rattle.parking_lot_core.specs.declared.place.Waiter.{Waiter}
-use Rattle.parking_lot_core.specs.Lists.{updated}
-use Rattle.parking_lot_core.specs.Machine.{Machine, in_phase, taken, is_thread}
-use Rattle.parking_lot_core.specs.Places.{place_at, mark_of, held, changed, may_take}
+use Rattle.parking_lot_core.specs.Machine.{is_thread}
+use Rattle.parking_lot_core.specs.Places.{place_at, mark_of, held, changed}
 use Rattle.parking_lot_core.specs.Results.{is_left}
 use Rattle.parking_lot_core.specs.Sound.{Sound, times_at}
 use Rattle.std.proofs.lemmas.List.{length-set}
 use Rattle.parking_lot_core.proofs.Kept.{updated_at, updated_other, slice_get-seam, eqb_false_symm}
 use Rattle.parking_lot_core.proofs.Numbers.{flag, count_by-at, count_by-push}
-use Rattle.parking_lot_core.proofs.Sounds.{none≢some, some≢none, by_eqb, place_at-set_same, place_at-set_other}
-use Rattle.parking_lot_cores.specs.declared.act.Seen.{Seen}
+use Rattle.parking_lot_core.proofs.Sounds.{by_eqb, place_at-set_same, place_at-set_other}
 use Rattle.parking_lot_cores.specs.declared.act.Seen.TheVariants as seen
 use Rattle.parking_lot_world.specs.declared.seat.Told.{Told}
 use Rattle.parking_lot_world.specs.declared.seat.Told.TheVariants as told
@@ -29,11 +27,11 @@ use Rattle.parking_lot_world.specs.declared.seat.Wakeup.{Wakeup}
 use Rattle.parking_lot_world.specs.Rows.{State, call_at, is_by, taken_by}
 use Rattle.parking_lot_world.specs.Stances.{Doing, Looks, TurnsBack, Joins, Joined, Takes, Stores, Tells, Stance, Out, In, Asleep, stance, taken_count}
 use Rattle.parking_lot_world.specs.RowActs.{hears, key_of, off_list, took}
-use Rattle.parking_lot_world.specs.RowFits.{HasCome, SaidIn, IsAt, Stands, Seated, Awaits, IsTaken, IsOwed, WakesSome, LotFits}
+use Rattle.parking_lot_world.specs.RowFits.{IsAt, Stands, Seated, Awaits, IsTaken, IsOwed, WakesSome, LotFits}
 use Rattle.parking_lot_world.proofs.Indexing.{get_push, get_front, get_remove}
 use Rattle.parking_lot_world.proofs.Stancing.{wakes_some}
-use Rattle.parking_lot_world.proofs.Carrying.{same_call, call_within, set_here, set_elsewhere, tally, tallied, taken_by-count, no_length, IsUp, awake_sleeps, up_sleeps}
-use Rattle.parking_lot_world.proofs.LotActs.{same_number, same_section, outside_of, seat_of, awake_by, up_by}
+use Rattle.parking_lot_world.proofs.Carrying.{same_call, call_within, set_here, set_elsewhere, tally, tallied, taken_by-count, no_length, awake_sleeps}
+use Rattle.parking_lot_world.proofs.LotActs.{same_section, outside_of, seat_of, awake_by}
 use Rattle.parking_lot_world.proofs.LotSections.{sits, seats_still, still_said}
 
 -- who waits has joined the list, or sleeps
@@ -108,7 +106,7 @@ module _ (s : State) (t : ℕ) (c : Call) (h : LotFits s) (here : call_at s t �
   off = off_list t (sleeper s t c h here k nth w two from at).call
 
   -- the places
-  took_places : u.lot.places ≡ slice_set s.lot.places v (Some (Held z.sleep))
+  pub took_places : u.lot.places ≡ slice_set s.lot.places v (Some (Held z.sleep))
   took_places =
       ap (λ (o : Option Waiter). option_map_or (λ (x : Waiter). changed held s.lot.places x.thread) o s.lot.places) at
       ∙ ap (λ (p : Option Place). slice_set s.lot.places v (option_map held p)) z.place
@@ -120,7 +118,7 @@ module _ (s : State) (t : ℕ) (c : Call) (h : LotFits s) (here : call_at s t �
   place_other x e = ap (λ (ps : List (Option Place)). place_at ps x) took_places ∙ place_at-set_other s.lot.places v x (Some (Held z.sleep)) e
 
   -- the calls
-  call_taken : call_at u v ≡ Some off
+  pub call_taken : call_at u v ≡ Some off
   call_taken =
       set_elsewhere (slice_set s.calls v (option_map (off_list t) (call_at s v))) t v (Some takes) z.other
       ∙ (set_here s.calls v (option_map (off_list t) (call_at s v)) (call_within s v z.call z.there) ∙ ap (option_map (off_list t)) z.there)
@@ -128,15 +126,15 @@ module _ (s : State) (t : ℕ) (c : Call) (h : LotFits s) (here : call_at s t �
   mine_within : t < length (slice_set s.calls v (option_map (off_list t) (call_at s v)))
   mine_within = subst (λ (n : ℕ). t < n) (sym (length-set s.calls v (option_map (off_list t) (call_at s v)))) (call_within s t c here)
 
-  call_mine : call_at u t ≡ Some takes
+  pub call_mine : call_at u t ≡ Some takes
   call_mine = set_here (slice_set s.calls v (option_map (off_list t) (call_at s v))) t (Some takes) mine_within
 
-  call_other : (x : ℕ) → (x == t) ≡ false → (x == v) ≡ false → call_at u x ≡ call_at s x
+  pub call_other : (x : ℕ) → (x == t) ≡ false → (x == v) ≡ false → call_at u x ≡ call_at s x
   call_other x e f =
       set_elsewhere (slice_set s.calls v (option_map (off_list t) (call_at s v))) t x (Some takes) e
       ∙ set_elsewhere s.calls v x (option_map (off_list t) (call_at s v)) f
 
-  took_length : length u.calls ≡ length s.calls
+  pub took_length : length u.calls ≡ length s.calls
   took_length = length-set (slice_set s.calls v (option_map (off_list t) (call_at s v))) t (Some takes) ∙ length-set s.calls v (option_map (off_list t) (call_at s v))
 
   -- each keeps its lock
@@ -177,7 +175,7 @@ module _ (s : State) (t : ℕ) (c : Call) (h : LotFits s) (here : call_at s t �
         ((z.sleep, z.late, inl (place_taken, o', is, seat.2, inr (refl, refl))), outside_of u.lot.section o' t v z.other is seat.2))))
         (λ f. subst (λ (d : Option Call). Seated x d (place_at u.lot.places x) u.lot.section) (sym (call_other x e f))
         (seats_still s t c takes h here u.lot o o' seat.1 is seat.2 seat.2 x e (place_other x f)
-        (λ j token y by said by_t at' asleep off' in_it. still_said o (phase.Taking nth) said seat.4 refl in_it)
+        (λ j token y by said by_t at' asleep off' in_it. still_said o (phase.Taking nth) said seat.4.0 refl in_it)
         (h.seated x (subst (λ (n : ℕ). x < n) took_length within)))))
 
     -- the one that was taken is in no list
@@ -308,6 +306,7 @@ module _ (s : State) (t : ℕ) (c : Call) (h : LotFits s) (here : call_at s t �
           wakeful = took_wakeful;
         }
 
-  pub took_fits : (stance takes.core ≡ In k Takes) ⊎ (stance takes.core ≡ In k Stores) → taken_count takes.core ≡ taken_count c.core + 1 → Sound u.lot → LotFits u
-  took_fits (inl to) counts sound = took_as Takes to counts sound (λ o whose key runs. (record o { phase = phase.Taking nth }, refl, whose, key, refl, runs))
-  took_fits (inr to) counts sound = took_as Stores to counts sound (λ o whose key runs. (record o { phase = phase.Taking nth }, refl, whose, key, refl, runs))
+  -- one that takes the first passes nobody
+  pub took_fits : nth ≡ 0 → (stance takes.core ≡ In k Takes) ⊎ (stance takes.core ≡ In k Stores) → taken_count takes.core ≡ taken_count c.core + 1 → Sound u.lot → LotFits u
+  took_fits first (inl to) counts sound = took_as Takes to counts sound (λ o whose key runs. (record o { phase = phase.Taking nth }, refl, whose, key, (refl, first), runs))
+  took_fits first (inr to) counts sound = took_as Stores to counts sound (λ o whose key runs. (record o { phase = phase.Taking nth }, refl, whose, key, refl, runs))

@@ -1,22 +1,21 @@
 -- Waking one that was taken keeps what fits of the lot.
-use Rattle.std.proofs.Common.{◌≡◌, ◌≢◌, ◌≤◌, ◌<◌, ℕ, ◌+◌, ◌-◌, ◌*◌, ◌==◌, ◌⊎◌, inl, inr, Bool, true, false, cond, List, [], ◌∷◌, length, remove, Option, Some, None, slice_get, slice_set, count_by, refl, sym, ap, ◌∙◌, subst, arith, eqb-true, eq-eqb, zero, suc}
+use Rattle.std.proofs.Common.{◌≡◌, ◌<◌, ℕ, ◌+◌, ◌-◌, ◌*◌, ◌==◌, ◌⊎◌, inl, inr, false, length, remove, Option, Some, slice_get, slice_set, count_by, refl, sym, ap, ◌∙◌, subst, arith, eq-eqb}
 use Rattle.std.specs.List.{position_or_len}
-use Rattle.std.specs.Option.{option_map, option_map_or, option_and_then}
+use Rattle.std.specs.Option.{option_map_or}
 use Rattle.std.proofs.lemmas.Bool.{ne_eqb, eqb-false}
 use Rattle.std.proofs.lemmas.List.{length-set}
 use Rattle.parking_lot_core.specs.declared.parking.ParkToken.{ParkToken}
 use Rattle.parking_lot_core.specs.declared.parking.UnparkToken.{UnparkToken}
 use Rattle.parking_lot_core.specs.declared.place.Place.{Place}
-use Rattle.parking_lot_core.specs.declared.place.Place.TheVariants.{Running, Waiting, Held, Taken}
+use Rattle.parking_lot_core.specs.declared.place.Place.TheVariants.{Running, Held, Taken}
 use Rattle.parking_lot_core.specs.declared.place.Section.{Section}
 use Rattle.parking_lot_core.specs.declared.place.Sleep.{Sleep}
 use Rattle.parking_lot_core.specs.declared.place.Waiter.{Waiter}
-use Rattle.parking_lot_core.specs.Places.{place_at, mark_of, is_due}
+use Rattle.parking_lot_core.specs.Places.{place_at, mark_of}
 use Rattle.parking_lot_core.specs.Sound.{Sound}
 use Rattle.parking_lot_core.proofs.Kept.{eqb_false_symm}
 use Rattle.parking_lot_core.proofs.Numbers.{flag, count_by-remove}
-use Rattle.parking_lot_core.proofs.Sounds.{none≢some, some≢none, by_eqb, place_at-set_same, place_at-set_other}
-use Rattle.parking_lot_cores.specs.declared.act.Seen.{Seen}
+use Rattle.parking_lot_core.proofs.Sounds.{by_eqb, place_at-set_same, place_at-set_other}
 use Rattle.parking_lot_cores.specs.declared.act.Seen.TheVariants as seen
 use Rattle.parking_lot_world.specs.declared.seat.Told.{Told}
 use Rattle.parking_lot_world.specs.declared.seat.Spot.{Spot}
@@ -24,13 +23,13 @@ use Rattle.parking_lot_world.specs.declared.seat.Spot.TheVariants as spot
 use Rattle.parking_lot_world.specs.declared.seat.Call.{Call}
 use Rattle.parking_lot_world.specs.declared.seat.Wakeup.{Wakeup}
 use Rattle.parking_lot_world.specs.Rows.{State, call_at, is_by, taken_by}
-use Rattle.parking_lot_world.specs.Stances.{Stance, Out, In, Asleep, stance, taken_count}
+use Rattle.parking_lot_world.specs.Stances.{Out, Asleep, stance, taken_count}
 use Rattle.parking_lot_world.specs.RowActs.{hears, woke, told_of}
-use Rattle.parking_lot_world.specs.RowFits.{IsAt, IsOutside, SaidIn, Stands, Seated, Awaits, IsTaken, IsOwed, WakesSome, LotFits}
+use Rattle.parking_lot_world.specs.RowFits.{IsAt, IsOutside, SaidIn, Seated, Awaits, IsTaken, IsOwed, WakesSome, LotFits}
 use Rattle.parking_lot_world.proofs.Stancing.{sleepers_wake, wakes_some}
 use Rattle.parking_lot_world.proofs.Indexing.{get_remove, kept_remove, apart_before, not_removed}
 use Rattle.parking_lot_world.proofs.Carrying.{same_call, call_within, set_here, set_elsewhere, tally, tallied, taken_by-count, no_length}
-use Rattle.parking_lot_world.proofs.LotActs.{same_section, seat_of}
+use Rattle.parking_lot_world.proofs.LotActs.{seat_of}
 use Rattle.parking_lot_world.proofs.LotSections.{sits}
 
 same_wakeup : {e f : Wakeup} → Some e ≡ Some f → e ≡ f

@@ -47,13 +47,13 @@ free (Goes k) t j s u h = tt
 marks : (c : Crossing) (t j : ℕ) (s u : State) → Crossed c t (inside s) (inside u) → (b : ℕ) → (family u).entered b ≡ entered_after one_bucket (family s).entered j t c b
 marks Stays t j s u h b = ap (λ o. cond (b == 0) o None) h
 marks (Comes k) t j s u h b = elim (cases_eq b 0) [
-    | inl e ↦ ap (λ n. cond (n == 0) (inside u) None) e ∙ h.1 ∙ sym (ap (λ n. cond (n == 0) (Some t) (cond (n == 0) (inside s) None)) e)
-    | inr ne ↦ ap (λ q. cond q (inside u) None) (ne_eqb b 0 ne) ∙ sym (ap (λ q. cond q (Some t) (cond q (inside s) None)) (ne_eqb b 0 ne))
-  ]
+  | inl e ↦ ap (λ n. cond (n == 0) (inside u) None) e ∙ h.1 ∙ sym (ap (λ n. cond (n == 0) (Some t) (cond (n == 0) (inside s) None)) e)
+  | inr ne ↦ ap (λ q. cond q (inside u) None) (ne_eqb b 0 ne) ∙ sym (ap (λ q. cond q (Some t) (cond q (inside s) None)) (ne_eqb b 0 ne))
+]
 marks (Goes k) t j s u h b = elim (cases_eq b 0) [
-    | inl e ↦ ap (λ n. cond (n == 0) (inside u) None) e ∙ h ∙ sym (ap (λ n. cond (n == 0) None (cond (n == 0) (inside s) None)) e)
-    | inr ne ↦ ap (λ q. cond q (inside u) None) (ne_eqb b 0 ne) ∙ sym (ap (λ q. cond q None (cond q (inside s) None)) (ne_eqb b 0 ne))
-  ]
+  | inl e ↦ ap (λ n. cond (n == 0) (inside u) None) e ∙ h ∙ sym (ap (λ n. cond (n == 0) None (cond (n == 0) (inside s) None)) e)
+  | inr ne ↦ ap (λ q. cond q (inside u) None) (ne_eqb b 0 ne) ∙ sym (ap (λ q. cond q None (cond q (inside s) None)) (ne_eqb b 0 ne))
+]
 
 module _ (s u : State) (t j : ℕ) (there : IsThere j (call_at s t)) (others : Elsewhere j s u) where
   pub made_rw : (step : Step) → slice_get s.kinds j ≡ Some kind.Rw → Allowed false t step (rw_lock_at s j) → rw_lock_at u j ≡ after t step (rw_lock_at s j)

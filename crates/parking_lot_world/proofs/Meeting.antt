@@ -43,9 +43,9 @@ use Rattle.parking_lot_world.proofs.Lifting.{rw_there}
 -- who is in a call is a thread of the machine
 pub in_range : (s : State) (t : ℕ) (c : Call) → call_at s t ≡ Some c → t < length s.calls
 in_range s t c h = elim (cases_lt t (length s.calls)) [
-    | inl b ↦ b
-    | inr b ↦ absurd (none-some c (sym (ap (λ o. option_and_then (λ x. x) o) (slice_get_past s.calls t b)) ∙ h))
-  ]
+  | inl b ↦ b
+  | inr b ↦ absurd (none-some c (sym (ap (λ o. option_and_then (λ x. x) o) (slice_get_past s.calls t b)) ∙ h))
+]
 
 -- few threads were taken
 pub few_taken : (s : State) → FitsTogether s → (t : ℕ) → length (taken_by s.wakes t) < 2 ^ 17
@@ -83,7 +83,7 @@ owns_few n (r.Ends outcome.FreedExclusive) = omega arith
 owns_few n p = omega arith
 
 module _ (s : State) (h : FitsTogether s) where
-  hold_few : (u i : ℕ) (x : Hold) → hold_at s u i ≡ x → shared_holds (owned_of x) ≤ 256
+  pub hold_few : (u i : ℕ) (x : Hold) → hold_at s u i ≡ x → shared_holds (owned_of x) ≤ 256
   hold_few u i (hold.Shares n) e = omega (arith, h.rules.few u i n e)
   hold_few u i hold.Excludes e = omega arith
 
@@ -91,7 +91,7 @@ module _ (s : State) (h : FitsTogether s) where
   core_few n at us (core.Rw k) e = omega (arith, owns_few n k.phase, e)
   core_few n at us (core.Mutex k) e = omega arith
 
-  role_few : (i u : ℕ) (o : Option Call) → call_at s u ≡ o → shared_holds (rw_role_in i (taken_by s.wakes u) (hold_at s u i) o).owns ≤ 256
+  pub role_few : (i u : ℕ) (o : Option Call) → call_at s u ≡ o → shared_holds (rw_role_in i (taken_by s.wakes u) (hold_at s u i) o).owns ≤ 256
   role_few i u None e = hold_few u i (hold_at s u i) refl
   role_few i u (Some c) e = go (c.lock == i)
     where

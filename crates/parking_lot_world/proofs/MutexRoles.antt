@@ -63,7 +63,7 @@ taken_alone at v u (Leaves giving false handed) none = refl
 taken_alone at v u (Wakes giving) none = absurd (omega (arith, none))
 taken_alone at v u p none = refl
 
-settled : (mark : Mark) (at : Spot) (v : ℕ) (p : MutexPhase) → rules.settle mark (role at v p) ≡ role (settle_spot mark at) v p
+pub settled : (mark : Mark) (at : Spot) (v : ℕ) (p : MutexPhase) → rules.settle mark (role at v p) ≡ role (settle_spot mark at) v p
 settled mark Listed v p = listed p
   where
     listed : (p : MutexPhase) → rules.settle mark (role Listed v p) ≡ role Listed v p

@@ -129,9 +129,10 @@ module _ (s u : State) (t : ℕ) (h : FitsTogether s) where
     rw_made = rw_goes s u t c told k c.spot e a h lists_same refl rw_heard own (finds (of_rw_table.act_of k.phase) c.lock own around rw_kind) around rw_kind
 
     rw_prepared : IsPrepared c.others (core_next (core.Rw k) told)
-    rw_prepared =
-        ((answers_are_moves (rw_lock_at s c.lock) t c.others (rw_spot c.spot) (taken_by s.wakes t) k.phase (word_at s c.lock) told (meets s h t c k e a.here) rw_heard).2.1,
-        calls_keep.goes_on c.others k.phase (word_at s c.lock) told (subst (IsPrepared c.others) e (h.rules.prepared t c a.here)).1 rw_heard)
+    rw_prepared = (
+      (answers_are_moves (rw_lock_at s c.lock) t c.others (rw_spot c.spot) (taken_by s.wakes t) k.phase (word_at s c.lock) told (meets s h t c k e a.here) rw_heard).2.1,
+      calls_keep.goes_on c.others k.phase (word_at s c.lock) told (subst (IsPrepared c.others) e (h.rules.prepared t c a.here)).1 rw_heard,
+    )
 
     knows : KnowsList (core_next (core.Rw k) told) u.lot.queues c.lock
     knows =
@@ -139,10 +140,11 @@ module _ (s u : State) (t : ℕ) (h : FitsTogether s) where
         (subst (λ (x : Core). KnowsList x s.lot.queues c.lock) e (h.rules.knows t c a.here)) (rw_learns k.phase told own (u.lot.queues (2 * c.lock)) (u.lot.queues (2 * c.lock + 1)))
 
     pub own_rw : RulesFit u × Goes t c told s u
-    own_rw =
-        (rules_own s u t c told (core_next (core.Rw k) told) c.spot a h (others_know s u t c told _ c.spot a h lists_same) (λ o x. subst (IsOfKind o) e x) rw_prepared knows (goes_on (core.Rw k) told)
-        (λ m. absurd (two_kinds (sym rw_kind ∙ m))) (rw_move_sound s u t c.lock (of_rw.move c.others (taken_by s.wakes t) k.phase told) rw_made h.rules.sound),
-        subst (λ (x : Core). IsMoveOf x c.others (taken_by s.wakes t) told c.lock t s u) (sym e) rw_made)
+    own_rw = (
+      rules_own s u t c told (core_next (core.Rw k) told) c.spot a h (others_know s u t c told _ c.spot a h lists_same) (λ o x. subst (IsOfKind o) e x) rw_prepared knows (goes_on (core.Rw k) told)
+          (λ m. absurd (two_kinds (sym rw_kind ∙ m))) (rw_move_sound s u t c.lock (of_rw.move c.others (taken_by s.wakes t) k.phase told) rw_made h.rules.sound),
+      subst (λ (x : Core). IsMoveOf x c.others (taken_by s.wakes t) told c.lock t s u) (sym e) rw_made,
+    )
 
 -- AT A MUTEX
 
@@ -238,8 +240,9 @@ module _ (s u : State) (t : ℕ) (h : FitsTogether s) (c : Call) (told : Seen) (
       (own_tells taken_first (taken_by s.wakes t) k.phase told own)
 
   pub own_mutex : RulesFit u × Goes t c told s u
-  own_mutex =
-      (rules_own s u t c told (core_next (core.Mutex k) told) c.spot a h (others_know s u t c told _ c.spot a h lists_same) (λ o x. subst (IsOfKind o) e x) (subst (IsPrepared c.others) e (h.rules.prepared t c a.here)) (mutex_learns (core.Mutex k) (of_mutex_table.next_phase k.phase told) (word_at s c.lock) told refl refl own gives (u.lot.queues (2 * c.lock))) (goes_on (core.Mutex k) told)
-      (λ m. subst (λ n. n < 4) (sym (a.word ∙ ap (λ x. word_after (core_act x) told (word_at s c.lock)) e)) own_step.small)
-      (mutex_move_sound s u t c.lock (taken_by s.wakes t) (of_mutex.move taken_first k.phase told) mutex_made h.rules.sound),
-      subst (λ (x : Core). IsMoveOf x c.others (taken_by s.wakes t) told c.lock t s u) (sym e) mutex_made)
+  own_mutex = (
+    rules_own s u t c told (core_next (core.Mutex k) told) c.spot a h (others_know s u t c told _ c.spot a h lists_same) (λ o x. subst (IsOfKind o) e x) (subst (IsPrepared c.others) e (h.rules.prepared t c a.here)) (mutex_learns (core.Mutex k) (of_mutex_table.next_phase k.phase told) (word_at s c.lock) told refl refl own gives (u.lot.queues (2 * c.lock))) (goes_on (core.Mutex k) told)
+        (λ m. subst (λ n. n < 4) (sym (a.word ∙ ap (λ x. word_after (core_act x) told (word_at s c.lock)) e)) own_step.small)
+        (mutex_move_sound s u t c.lock (taken_by s.wakes t) (of_mutex.move taken_first k.phase told) mutex_made h.rules.sound),
+    subst (λ (x : Core). IsMoveOf x c.others (taken_by s.wakes t) told c.lock t s u) (sym e) mutex_made,
+  )

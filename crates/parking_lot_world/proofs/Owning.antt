@@ -135,14 +135,13 @@ module _ (s u : State) (t : ℕ) (c : Call) (told : Seen) (k : RwCore) (at : Spo
       rw_after ∙ same_rw _ _ _ _ _ _ _ _ refl refl (ap threads_of (same (2 * c.lock))) (ap threads_of (same (2 * c.lock + 1)))
 
   -- and what the act is
-  pub rw_goes : FitsTogether s → ((key : ℕ) → u.lot.queues key ≡ s.lot.queues key) → at ≡ c.spot → of_rw.IsTold k.phase (word_at s c.lock) told → IsOwnAct (act_of k.phase) → Finds (act_of k.phase) (rw_lock_at s c.lock) → AfterAct (act_of k.phase) t (inside s) (inside u)
+  pub rw_goes_from : Meets (rw_lock_at s c.lock) t c.others (rw_spot c.spot) us k.phase (word_at s c.lock) → ((key : ℕ) → u.lot.queues key ≡ s.lot.queues key) → at ≡ c.spot
+      → of_rw.IsTold k.phase (word_at s c.lock) told → Finds (act_of k.phase) (rw_lock_at s c.lock) → OwnMove (of_rw.move c.others us k.phase told) t (inside s) (inside u)
       → slice_get s.kinds c.lock ≡ Some kind.Rw → IsRwMove (of_rw.move c.others us k.phase told) c.lock t s u
-  rw_goes h lists_same same heard own found around kind_is = go (of_rw.move c.others us k.phase told) refl
+  rw_goes_from here lists_same same heard found moves kind_is = go (of_rw.move c.others us k.phase told) refl
     where
-      here : Meets (rw_lock_at s c.lock) t c.others (rw_spot c.spot) us k.phase (word_at s c.lock)
-      here = meets s h t c k e a.here
       around_move : (m : of_rw.Move) → of_rw.move c.others us k.phase told ≡ m → OwnMove m t (inside s) (inside u)
-      around_move m eq = subst (λ (x : of_rw.Move). OwnMove x t (inside s) (inside u)) eq (own_moves t (inside s) (inside u) c.others us k.phase (word_at s c.lock) told heard own around)
+      around_move m eq = subst (λ (x : of_rw.Move). OwnMove x t (inside s) (inside u)) eq moves
       stays : of_rw.move c.others us k.phase told ≡ of_rw.Stays → rw_lock_at u c.lock ≡ rw_lock_at s c.lock
       stays eq =
           let kept = stays_are_steps (rw_lock_at s c.lock) t c.others (rw_spot c.spot) us k.phase (word_at s c.lock) told here heard eq in
@@ -150,6 +149,7 @@ module _ (s u : State) (t : ℕ) (c : Call) (told : Seen) (k : RwCore) (at : Spo
           ∙ ap (λ x. with_role (rw_lock_at s c.lock) x t next_role) kept.1
           ∙ ap (with_role (rw_lock_at s c.lock) (word_at s c.lock) t) (sym (lists c.others us (next_phase k.phase told) c.spot (λ key token z. sym same ∙ a.listed key token z)) ∙ kept.0)
           ∙ ap (λ rs. record (rw_lock_at s c.lock) { roles = rs }) (set-same (rw_lock_at s c.lock).roles t _ here.here)
+
       go : (m : of_rw.Move) → of_rw.move c.others us k.phase told ≡ m → IsRwMove m c.lock t s u
       go of_rw.Stays eq = quiet_rw s u t c.lock (own-there s u t c told _ at a) (own-elsewhere s u t c told _ at a) kind_is (stays eq) (around_move of_rw.Stays eq)
       go (of_rw.Makes m) eq =
@@ -161,6 +161,11 @@ module _ (s u : State) (t : ℕ) (c : Call) (told : Seen) (k : RwCore) (at : Spo
       go (of_rw.Tells m left) eq = absurd (around_move (of_rw.Tells m left) eq)
       go of_rw.WakesOne eq = absurd (around_move of_rw.WakesOne eq)
       go (of_rw.IsWoken m) eq = absurd (around_move (of_rw.IsWoken m) eq)
+
+  pub rw_goes : FitsTogether s → ((key : ℕ) → u.lot.queues key ≡ s.lot.queues key) → at ≡ c.spot → of_rw.IsTold k.phase (word_at s c.lock) told → IsOwnAct (act_of k.phase) → Finds (act_of k.phase) (rw_lock_at s c.lock)
+      → AfterAct (act_of k.phase) t (inside s) (inside u) → slice_get s.kinds c.lock ≡ Some kind.Rw → IsRwMove (of_rw.move c.others us k.phase told) c.lock t s u
+  rw_goes h lists_same same heard own found around =
+      rw_goes_from (meets s h t c k e a.here) lists_same same heard found (own_moves t (inside s) (inside u) c.others us k.phase (word_at s c.lock) told heard own around)
 
 -- AT A MUTEX
 

@@ -1,5 +1,5 @@
 -- Where a call stands, act by act.
-use Rattle.std.proofs.Common.{◌≡◌, ◌≤◌, ◌<◌, ℕ, ◌+◌, ◌-◌, ◌*◌, ◌/◌, ◌%◌, ◌^◌, ◌==◌, ◌&&◌, ◌||◌, ◌⊎◌, inl, inr, nat_lt, not, min, Bool, true, false, cond, Option, Some, None, is_some, Result, Ok, Err, refl, sym, ap, ◌∙◌, subst, arith}
+use Rattle.std.proofs.Common.{◌≡◌, ◌≤◌, ◌<◌, ℕ, ◌+◌, ◌-◌, ◌/◌, ◌%◌, ◌^◌, ◌==◌, ◌&&◌, ◌||◌, inl, inr, nat_lt, not, min, Bool, true, false, cond, Option, Some, None, is_some, Result, Ok, Err, refl, sym, ap, ◌∙◌, subst, arith}
 use Rattle.std.proofs.lemmas.Bool.{eq-eqb, ne_eqb, ltb-true, ltb-false, cond-true, cond-false}
 use Rattle.std.specs.Option.{option_map, option_map_or, option_and_then}
 use Rattle.parking_lot_core.specs.declared.parking.ParkToken.{ParkToken}
@@ -28,8 +28,8 @@ use Rattle.parking_lot_cores.specs.declared.rw_phase.Want.{Want}
 use Rattle.parking_lot_cores.specs.declared.rw_phase.Want.TheVariants as want
 use Rattle.parking_lot_world.specs.declared.seat.Core.{Core}
 use Rattle.parking_lot_world.specs.declared.seat.Core.TheVariants as core
-use Rattle.parking_lot_world.specs.Stances.{Looks, TurnsBack, Joins, Joined, Takes, Stores, Tells, Stance, Out, In, Asleep, sign, mutex_stance, rw_stance, stance, mutex_taken, rw_taken, taken_count, core_act, core_next, core_tells}
-use Rattle.parking_lot_world.specs.StanceLaws.{StaysOut, LeavesFor, TookFor, Leads, LeadsCore, rw_counts, Counts, TakesOne, IsOver}
+use Rattle.parking_lot_world.specs.Stances.{Doing, Takes, Stores, Tells, Stance, Out, In, Asleep, sign, mutex_stance, rw_stance, stance, mutex_taken, rw_taken, taken_count, core_act, core_next}
+use Rattle.parking_lot_world.specs.StanceLaws.{Leads, LeadsCore, rw_counts, Counts, TakesOne, IsOver, HasSmallKey}
 
 -- what holds of both holds of either
 pick : {X : Type 0} (P : X → Type 0) (b : Bool) (x y : X) → P x → P y → P (cond b x y)
@@ -484,3 +484,42 @@ rw_some p h e = cc
 pub wakes_some : (c : Core) (s : Seen) → core_act (core_next c s) ≡ act.Section section.Wake → 1 ≤ taken_count (core_next c s)
 wakes_some (core.Mutex c) s e = mutex_some (mt.next_phase c.phase s) e
 wakes_some (core.Rw c) s e = rw_some (rt.next_phase c.phase s) (rw_next_some c.phase s) e
+
+-- A LOCK HAS TWO KEYS
+
+mutex_keys : (p : MutexPhase) → HasSmallKey (mutex_stance p)
+mutex_keys (m.Checks woken) = omega arith
+mutex_keys (m.Retreats woken) = omega arith
+mutex_keys m.Appends = omega arith
+mutex_keys m.Rests = omega arith
+mutex_keys m.Sleeps = omega arith
+mutex_keys (m.Takes a) = omega arith
+mutex_keys (m.Stores a taken left) = omega arith
+mutex_keys (m.Leaves a taken handed) = omega arith
+mutex_keys p = tt
+
+rw_keys : (p : RwPhase) → HasSmallKey (rw_stance p)
+rw_keys (r.Checks want woken) = omega arith
+rw_keys (r.Retreats want woken) = omega arith
+rw_keys (r.Appends want) = omega arith
+rw_keys (r.Rests want) = omega arith
+rw_keys (r.Sleeps want) = omega arith
+rw_keys (r.Checks2 d) = omega arith
+rw_keys (r.Retreats2 d) = omega arith
+rw_keys (r.Appends2 rounds) = omega arith
+rw_keys (r.Rests2 rounds) = omega arith
+rw_keys (r.Sleeps2 rounds) = omega arith
+rw_keys (r.Takes2 rest) = omega arith
+rw_keys (r.Masks2 rest taken) = omega arith
+rw_keys (r.Leaves2 rest taken) = omega arith
+rw_keys (r.Scans s) = omega arith
+rw_keys (r.Stores s left) = omega arith
+rw_keys (r.Leaves rest count handed) = omega arith
+rw_keys p = tt
+
+pub keys_are_two : (c : Core) → HasSmallKey (stance c)
+keys_are_two (core.Mutex c) = mutex_keys c.phase
+keys_are_two (core.Rw c) = rw_keys c.phase
+
+pub small_key : (c : Core) (k : ℕ) (how : Doing) → stance c ≡ In k how → k < 2
+small_key c k how e = subst HasSmallKey e (keys_are_two c)

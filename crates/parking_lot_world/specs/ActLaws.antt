@@ -1,5 +1,5 @@
 -- What each act of the machine keeps, and which step of the rules it is.
-use Rattle.std.specs.Prelude.{◌≡◌, ℕ, ◌+◌, ◌*◌, ◌<◌, Bool, Option, Some, None, slice_get}
+use Rattle.std.specs.Prelude.{◌≡◌, ℕ, ◌+◌, ◌*◌, ◌<◌, ◌≤◌, false, length, None, Some, slice_get}
 use Rattle.parking_lot_core.specs.declared.parking.ParkToken.{ParkToken}
 use Rattle.parking_lot_core.specs.declared.place.Waiter.{Waiter}
 use Rattle.parking_lot_core.specs.Sound as lot
@@ -7,17 +7,43 @@ use Rattle.parking_lot_cores.specs.declared.act.Act.TheVariants as act
 use Rattle.parking_lot_cores.specs.declared.act.SectionAct.TheVariants as section
 use Rattle.parking_lot_cores.specs.declared.act.Seen.{Seen}
 use Rattle.parking_lot_cores.specs.declared.act.Seen.TheVariants as seen
+use Rattle.parking_lot_cores.specs.declared.act.CoreAnswer.{CoreAnswer}
+use Rattle.parking_lot_cores.specs.MutexRules as of_mutex
+use Rattle.parking_lot_cores.specs.RwRules as of_rw
+use Rattle.parking_lot_world.specs.declared.seat.Hold.{Hold}
+use Rattle.parking_lot_world.specs.declared.seat.Spot.TheVariants as spot
+use Rattle.parking_lot_world.specs.declared.seat.Core.{Core}
+use Rattle.parking_lot_world.specs.declared.seat.Core.TheVariants as core
 use Rattle.parking_lot_world.specs.declared.seat.Call.{Call}
-use Rattle.parking_lot_world.specs.Rows.{State, word_at, call_at}
-use Rattle.parking_lot_world.specs.Stances.{core_act}
-use Rattle.parking_lot_world.specs.RowActs.{loaded, exchanged, added, spun, entered, checked, left}
-use Rattle.parking_lot_world.specs.RowFits.{FitsTogether}
-use Rattle.parking_lot_world.specs.RowSteps.{Goes}
+use Rattle.parking_lot_world.specs.Rows.{State, word_at, call_at, hold_at, owned_of, owns_mutex}
+use Rattle.parking_lot_world.specs.Stances.{core_act, rw_begun, mutex_begun}
+use Rattle.parking_lot_world.specs.RowActs.{loaded, exchanged, added, spun, entered, checked, left, begun, answered}
+use Rattle.parking_lot_world.specs.RowFits.{FitsTogether, IsOfKind}
+use Rattle.parking_lot_world.specs.RwLaws.{rw_begins}
+use Rattle.parking_lot_world.specs.RowSteps.{Goes, GoesAway}
 
 -- The act of thread t in a call c, which is told this, keeps the machine fit, and is the step of the rules that the core's table names.
 pub record Acts (t : ℕ) (c : Call) (told : Seen) (s u : State) : Type 0 where
   pub fits : FitsTogether u
   pub goes : Goes t c told s u
+
+-- and so does its end, of a call that is answered
+pub record Ends (t : ℕ) (c : Call) (s u : State) : Type 0 where
+  pub fits : FitsTogether u
+  pub goes : GoesAway t c s u
+
+-- what a thread owns that begins a call
+abbrev pub OwnsFor : Hold → ℕ → Core → Type 0
+OwnsFor x n (core.Rw k) = (rw_begun k.phase ≡ false) × rw_begins n k.phase × (owned_of x ≡ of_rw.owns n k.phase)
+OwnsFor x n (core.Mutex k) = (mutex_begun k.phase ≡ false) × (n ≡ 0) × (owns_mutex x ≡ of_mutex.owns k.phase)
+
+pub record MayBegin (s : State) (t : ℕ) (c : Call) : Type 0 where
+  pub low : t < length s.calls
+  pub free : call_at s t ≡ None
+  pub listed : c.spot ≡ spot.Listed
+  pub kind : IsOfKind (slice_get s.kinds c.lock) c.core
+  pub owns : OwnsFor (hold_at s t c.lock) c.others c.core
+  pub beside : c.others ≤ 254
 
 -- of a machine that fits, where t is in that call
 abbrev pub Keeps : ℕ → Call → State → State → Type 0
@@ -31,3 +57,5 @@ pub record ActsAreSteps : Type 0 where
   pub enter : (s : State) (t : ℕ) (c : Call) (key : ℕ) → core_act c.core ≡ act.Enter key → s.lot.section ≡ None → lot.Sound (entered s t c key).lot → Keeps t c s (entered s t c key)
   pub check : (s : State) (t : ℕ) (c : Call) → core_act c.core ≡ act.Section section.Check → lot.Sound (checked s t c).lot → Keeps t c s (checked s t c)
   pub leave : (s : State) (t : ℕ) (c : Call) → core_act c.core ≡ act.Section section.Leave → lot.Sound (left s t c).lot → Keeps t c s (left s t c)
+  pub begin : (s : State) (t : ℕ) (c : Call) → FitsTogether s → MayBegin s t c → Acts t c seen.Start s (begun s t c)
+  pub end : (s : State) (t : ℕ) (c : Call) (answer : CoreAnswer) → core_act c.core ≡ act.Done answer → FitsTogether s → call_at s t ≡ Some c → Ends t c s (answered s t c)

@@ -1,6 +1,7 @@
 -- What a call says of its thread at its lock: how it owns the lock, whether it is in debt there, and whether it sleeps.
-use Rattle.std.specs.Prelude.{ℕ, zero, suc, Bool, true, false, List, Option, Some, None}
+use Rattle.std.specs.Prelude.{◌≡◌, ◌<◌, ℕ, zero, suc, Bool, true, false, List, Option, Some, None}
 use Rattle.parking_lot_rules.specs.Roles.{Role}
+use Rattle.parking_lot_rules.specs.Classes.{Readers, Upgraders, Pending, Writers, Strange, weight}
 use Rattle.parking_lot_rules.specs.Owners.{Owner, Reading, Upgrading, Awaiting, Writing, owner_of}
 use Rattle.parking_lot_rules.specs.Laws as of_rw
 use Rattle.parking_lot_rules.specs.Debts as rw_debts
@@ -39,6 +40,23 @@ mutex_mode_if false = None
 
 abbrev pub mutex_mode : mutex.Role → Option OwnMode
 mutex_mode r = mutex_mode_if (mutex_owners.owner_of r.owns r.does)
+
+-- The classes of owners weigh what the mode says. One at least of the class, and of the others nobody.
+abbrev pub Weighs : (readers upgraders pending writers : ℕ) → Option OwnMode → Type 0
+Weighs r u p w None = (r ≡ 0) × (u ≡ 0) × (p ≡ 0) × (w ≡ 0)
+Weighs r u p w (Some mode.Shared) = (0 < r) × (u ≡ 0) × (p ≡ 0) × (w ≡ 0)
+Weighs r u p w (Some mode.Upgradable) = (r ≡ 0) × (u ≡ 1) × (p ≡ 0) × (w ≡ 0)
+Weighs r u p w (Some mode.Pending) = (r ≡ 0) × (u ≡ 0) × (p ≡ 1) × (w ≡ 0)
+Weighs r u p w (Some mode.Exclusive) = (r ≡ 0) × (u ≡ 0) × (p ≡ 0) × (w ≡ 1)
+
+abbrev pub owning_of : Option OwnMode → ℕ
+owning_of None = 0
+owning_of (Some m) = 1
+
+-- That is so of every role that a sound lock can have.
+pub record ModesAreWeighed : Type 0 where
+  pub rw : (r : Role) → weight Strange r ≡ 0 → Weighs (weight Readers r) (weight Upgraders r) (weight Pending r) (weight Writers r) (rw_mode r)
+  pub mutex : (r : mutex.Role) → mutex.weight mutex.Strange r ≡ 0 → mutex.weight mutex.Owning r ≡ owning_of (mutex_mode r)
 
 -- THE ROLE OF A CALL'S THREAD, WHICH HAS TAKEN us AND IS TO WAKE THEM
 

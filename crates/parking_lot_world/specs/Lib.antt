@@ -4,10 +4,15 @@ pub mod RowActs
 pub mod RowFits
 pub mod RowSteps
 pub mod ActLaws
+pub mod TakeLaws
 pub mod TellLaws
 pub mod StanceLaws
+pub mod LotLaws
 pub mod RwLaws
 pub mod MutexLaws
 pub mod Faults
 pub mod Calls
 pub mod CallViews
+pub mod FrontTakings
+pub mod Beginnings
+pub mod Machines

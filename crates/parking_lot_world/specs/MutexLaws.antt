@@ -1,9 +1,11 @@
 -- What an answer to a mutex's core is, as a step of a sound mutex.
-use Rattle.std.specs.Prelude.{◌≡◌, ◌≢◌, ℕ, ◌<◌, ◌==◌, Bool, true, false, List, [], ◌∷◌, ◌++◌, length, map, remove, Some, None, slice_get, slice_set}
+use Rattle.std.specs.Prelude.{◌≡◌, ◌≢◌, ℕ, ◌<◌, ◌==◌, Bool, true, false, List, [], ◌∷◌, ◌++◌, length, map, remove, Some, None, slice_get, slice_set, Option}
 use Rattle.parking_lot_core.specs.declared.parking.ParkToken.{ParkToken}
 use Rattle.parking_lot_core.specs.declared.parking.UnparkToken.{UnparkToken}
 use Rattle.parking_lot_core.specs.declared.place.Waiter.{Waiter}
 use Rattle.parking_lot_core.specs.Machine.{threads_of}
+use Rattle.parking_lot_core.specs.Results.{is_left}
+use Rattle.std.specs.Option.{option_map}
 use Rattle.parking_lot_rules.specs.Roles.{Mark, Open, Asleep}
 use Rattle.parking_lot_rules.specs.Mutex.{Role, Word, Inside, weight, number, Mutex, IsSound, Idle, Seeks, Taken, Unlocks, Wakes, Step, Alone, Join, Take, Allowed, after, doing, note_of, settle}
 use Rattle.parking_lot_rules.specs.Family.{Crossing, Comes, Goes, First}
@@ -21,7 +23,12 @@ use Rattle.parking_lot_cores.specs.declared.mutex_phase.MutexPhase.TheVariants a
 use Rattle.parking_lot_cores.specs.Acts.{word_after, Gives}
 use Rattle.parking_lot_cores.specs.MutexTable.{act_of, next_phase, wakes_with, bit}
 use Rattle.parking_lot_cores.specs.MutexRules.{Spot, Listed, Off, role, owns, owns_after, taken_of, Move, Stays, Makes, Joins, TakesOne, Tells, WakesOne, IsWoken, move, last_move, IsWord, mark_of}
-use Rattle.parking_lot_world.specs.Rows.{mutex_word_of, first_of_all}
+use Rattle.parking_lot_world.specs.declared.seat.Hold.{Hold}
+use Rattle.parking_lot_world.specs.declared.seat.Told.{Told}
+use Rattle.parking_lot_world.specs.declared.seat.Call.{Call}
+use Rattle.parking_lot_world.specs.Rows as rows
+use Rattle.parking_lot_world.specs.Rows.{mutex_word_of, first_of_all, owns_mutex, mutex_role_in}
+use Rattle.parking_lot_world.specs.RowActs.{settled, mutex_hold_after}
 use Rattle.parking_lot_world.specs.Stances.{sign, mutex_taken, mutex_begun}
 use Rattle.parking_lot_world.specs.RowFits.{mutex_knows}
 use Rattle.parking_lot_world.specs.RowSteps.{store_step, wake_step}
@@ -172,3 +179,26 @@ pub record MutexAnswersAreSteps : Type 0 where
   -- and ends, and the thread owns the mutex where the answer says so
   pub ends : (m : Mutex) (x t v : ℕ) (at : Spot) (p : MutexPhase) (answer : CoreAnswer) → Plays m x t (role at v p) → mutex_begun p ≡ true → act_of p ≡ act.Done answer
       → LeadsBy (last_move p) v t m (mutex_of x (slice_set m.roles t (record { owns = owns_after answer; does = Idle })) m.queue) × (move_crossing (last_move p) ≡ crossing.Stays)
+
+-- HOW THE MACHINE SHOWS IT
+
+-- Where thread t tells all whom it has taken, every role at its mutex is settled.
+abbrev pub TellingsSettle : Type 0
+TellingsSettle =
+    (m : Mutex) (t u i : ℕ) (us vs : List ℕ) (said : Told) (h : Hold) (o : Option Call) → IsSound m → slice_get m.roles t ≡ Some (doing (Unlocks us)) → slice_get m.roles u ≡ Some (mutex_role_in i vs h o)
+    → mutex_role_in i vs h (option_map (settled t said) o) ≡ settle (rows.mark_of said) (mutex_role_in i vs h o)
+
+-- What is kept of a thread, where its call ends, is what the answer says.
+abbrev pub HoldsAreAnswered : Type 0
+HoldsAreAnswered = (p : MutexPhase) (answer : CoreAnswer) → mutex_begun p ≡ true → act_of p ≡ act.Done answer → owns_mutex (mutex_hold_after p) ≡ owns_after answer
+
+-- One that takes the first of its list knows what is left of it, and no other act makes one know anything.
+pub record TakersKnow : Type 0 where
+  pub one : (p : MutexPhase) (token : ParkToken) (waiters : List Waiter) → act_of p ≡ act.Section section.TakeFirst → mutex_knows (next_phase p (seen.Took (Some token) (is_left waiters))) waiters
+  pub nobody : (p : MutexPhase) → act_of p ≡ act.Section section.TakeFirst → mutex_knows (next_phase p (seen.Took None false)) []
+  pub other : (p : MutexPhase) (s : Seen) (waiters : List Waiter) → act_of p ≢ act.Section section.TakeFirst → mutex_knows (next_phase p s) waiters
+
+pub record MutexIsShown : Type 0 where
+  pub tells : TellingsSettle
+  pub ends : HoldsAreAnswered
+  pub knows : TakersKnow

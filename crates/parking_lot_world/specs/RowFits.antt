@@ -10,7 +10,7 @@ use Rattle.parking_lot_core.specs.declared.place.Phase.TheVariants as phase
 use Rattle.parking_lot_core.specs.declared.place.Section.{Section}
 use Rattle.parking_lot_core.specs.declared.place.Sleep.{Sleep}
 use Rattle.parking_lot_core.specs.declared.place.Waiter.{Waiter}
-use Rattle.parking_lot_core.specs.Places.{place_at, mark_of, may_take, may_store}
+use Rattle.parking_lot_core.specs.Places.{place_at, mark_of, may_take, may_store, passed_of}
 use Rattle.parking_lot_core.specs.Machine.{Machine}
 use Rattle.parking_lot_core.specs.Results.{is_left}
 use Rattle.parking_lot_core.specs.Sound as lot
@@ -44,13 +44,13 @@ use Rattle.parking_lot_world.specs.RowActs.{told_of}
 
 -- THE LOT
 
--- how far the section has come in which a thread does so
+-- how far the section has come in which a thread does so; one that takes has passed nobody
 abbrev pub HasCome : Doing → Phase → UnparkToken → Type 0
 HasCome Looks ph token = ph ≡ phase.Fresh
 HasCome TurnsBack ph token = ph ≡ phase.Invalid
 HasCome (Joins park) ph token = ph ≡ phase.Valid
 HasCome (Joined park) ph token = ph ≡ phase.Joined
-HasCome Takes ph token = may_take ph ≡ true
+HasCome Takes ph token = (may_take ph ≡ true) × (passed_of ph ≡ 0)
 HasCome Stores ph token = may_store ph ≡ true
 HasCome (Tells said) ph token = (ph ≡ phase.Stored) × (token ≡ said)
 

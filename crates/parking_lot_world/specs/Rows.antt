@@ -1,5 +1,5 @@
 -- What a machine of locks consists of, and which locks of the rules it shows.
-use Rattle.std.specs.Prelude.{ℕ, ◌+◌, ◌*◌, ◌/◌, ◌%◌, ◌==◌, Bool, true, false, if◌then◌else◌, List, [], ◌∷◌, length, map, filter, Option, Some, None, slice_get}
+use Rattle.std.specs.Prelude.{ℕ, ◌+◌, ◌*◌, ◌/◌, ◌%◌, ◌==◌, Bool, true, false, nat_lt, if◌then◌else◌, List, [], ◌∷◌, length, map, filter, Option, Some, None, slice_get}
 use Rattle.std.specs.List.{range_with_len}
 use Rattle.std.specs.Option.{option_and_then, option_map_or}
 use Rattle.parking_lot_core.specs.Machine.{Machine, Parts, machine, threads_of}
@@ -55,8 +55,12 @@ word_at s i = option_map_or (λ w. w) (slice_get s.words i) 0
 abbrev pub cell : State → ℕ → ℕ → ℕ
 cell s t i = t * length s.kinds + i
 
+-- what a thread owns of a lock; of those beyond the last nobody owns anything
+abbrev pub hold_in : List Hold → ℕ → ℕ → ℕ → Hold
+hold_in holds locks t i = if nat_lt i locks then option_map_or (λ h. h) (slice_get holds (t * locks + i)) (hold.Shares 0) else hold.Shares 0
+
 abbrev pub hold_at : State → ℕ → ℕ → Hold
-hold_at s t i = option_map_or (λ h. h) (slice_get s.holds (cell s t i)) (hold.Shares 0)
+hold_at s t i = hold_in s.holds (length s.kinds) t i
 
 abbrev pub call_at : State → ℕ → Option Call
 call_at s t = option_and_then (λ c. c) (slice_get s.calls t)

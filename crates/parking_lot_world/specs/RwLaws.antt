@@ -28,7 +28,7 @@ use Rattle.parking_lot_core.specs.declared.parking.UnparkToken.{UnparkToken}
 use Rattle.parking_lot_world.specs.Rows.{mark_of, owned_of, one_bucket, rw_spot}
 use Rattle.parking_lot_world.specs.RowActs.{told_of, rw_hold_after, settled_spot}
 use Rattle.parking_lot_world.specs.Stances as stance
-use Rattle.parking_lot_world.specs.Stances.{rw_stance, rw_taken, Stance}
+use Rattle.parking_lot_world.specs.Stances.{rw_stance, rw_taken, Stance, rw_begun}
 use Rattle.parking_lot_cores.specs.declared.rw_phase.RwPhase.TheVariants as r
 use Rattle.parking_lot_cores.specs.declared.act.CoreAnswer.{CoreAnswer}
 use Rattle.parking_lot_core.specs.declared.place.Waiter.{Waiter}
@@ -161,17 +161,7 @@ WokenAreTold = (l : Lock) (t v : ℕ) (own has : Owned) (us : List ℕ) (mode : 
 abbrev pub OnlySleepersStand : Type 0
 OnlySleepersStand = (n : ℕ) (spot : Spot) (us : List ℕ) (p : RwPhase) → ((key : ℕ) (park : ParkToken) → rw_stance p ≢ stance.Asleep key park) → role n spot us p ≡ role n Listed us p
 
--- A call before it begins, and one that is answered.
-abbrev pub has_begun : RwPhase → Bool
-has_begun (r.Locking want) = false
-has_begun (r.Trying want) = false
-has_begun r.UnlockingShared = false
-has_begun (r.UnlockingExclusive fair) = false
-has_begun r.Downgrading = false
-has_begun r.BumpingShared = false
-has_begun r.BumpingExclusive = false
-has_begun phase = true
-
+-- one that is answered
 abbrev pub is_last : RwPhase → Bool
 is_last (r.Refuses want) = true
 is_last (r.Finishes rest) = true
@@ -181,7 +171,7 @@ is_last phase = false
 
 -- a call that begins is no step by itself: its thread is in the role of one in no call, and hears the start
 abbrev pub BeginsAreReady : Type 0
-BeginsAreReady = (n : ℕ) (spot : Spot) (us : List ℕ) (p : RwPhase) (x : ℕ) → has_begun p ≡ false → (role n spot us p ≡ record { owns = owns n p; does = Idle }) × IsReady p × IsTold p x seen.Start
+BeginsAreReady = (n : ℕ) (spot : Spot) (us : List ℕ) (p : RwPhase) (x : ℕ) → rw_begun p ≡ false → (role n spot us p ≡ record { owns = owns n p; does = Idle }) × IsReady p × IsTold p x seen.Start
 
 -- the last step of a call, where there is one
 abbrev pub IsLastStep : Move → Lock → ℕ → Role → ℕ → Role → Type 0
@@ -194,7 +184,7 @@ EndsAreSteps = (l : Lock) (t n : ℕ) (spot : Spot) (us : List ℕ) (p : RwPhase
 
 -- a call that has begun is answered in its last phase
 abbrev pub AnswersAreLast : Type 0
-AnswersAreLast = (p : RwPhase) (answer : CoreAnswer) → has_begun p ≡ true → act_of p ≡ Done answer → is_last p ≡ true
+AnswersAreLast = (p : RwPhase) (answer : CoreAnswer) → rw_begun p ≡ true → act_of p ≡ Done answer → is_last p ≡ true
 
 -- WHAT CALLS KEEP
 

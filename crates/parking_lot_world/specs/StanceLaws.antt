@@ -1,5 +1,5 @@
 -- How a call's acts move it between sections and lists.
-use Rattle.std.specs.Prelude.{◌≡◌, ℕ, ◌+◌, ◌-◌, ◌<◌, ◌^◌, ◌⊎◌, Bool, false, Option, Some, None}
+use Rattle.std.specs.Prelude.{◌≡◌, ℕ, ◌+◌, ◌-◌, ◌<◌, ◌≤◌, ◌^◌, ◌⊎◌, Bool, false, Some, None}
 use Rattle.parking_lot_core.specs.declared.parking.ParkToken.{ParkToken}
 use Rattle.parking_lot_core.specs.declared.parking.UnparkToken.{UnparkToken}
 use Rattle.parking_lot_cores.specs.Acts.{Gives}
@@ -91,3 +91,16 @@ abbrev pub SleepersWake : Type 0
 SleepersWake =
     (c : Core) (k : ℕ) (token : ParkToken) (said : UnparkToken) → stance c ≡ Asleep k token
     → (taken_count c ≡ 0) × (stance (core_next c (seen.Woken said)) ≡ Out) × (taken_count (core_next c (seen.Woken said)) ≡ 0)
+
+-- one that is to wake somebody has taken somebody
+abbrev pub WakersCount : Type 0
+WakersCount = (c : Core) (s : Seen) → core_act (core_next c s) ≡ act.Section section.Wake → 1 ≤ taken_count (core_next c s)
+
+-- a lock has two keys
+abbrev pub HasSmallKey : Stance → Type 0
+HasSmallKey Out = Unit {0}
+HasSmallKey (In k how) = k < 2
+HasSmallKey (Asleep k token) = k < 2
+
+abbrev pub KeysAreTwo : Type 0
+KeysAreTwo = (c : Core) → HasSmallKey (stance c)

@@ -1,15 +1,19 @@
 //! What each act of a call does to the machine.
-ghost use Rattle.std.specs.Prelude.{◌≡◌, ◌<◌, ◌+◌, ◌*◌, ◌%◌, ◌^◌, length, map, slice_get, Some, None};
+ghost use Rattle.std.specs.Prelude.{◌≡◌, ◌<◌, ◌≤◌, ◌+◌, ◌*◌, ◌%◌, ◌^◌, length, map, slice_get, Some, None};
 ghost use Rattle.std.specs.Option.{option_map};
 ghost use Rattle.parking_lot_cores.specs.declared.act.Act.TheVariants as act;
 ghost use Rattle.parking_lot_cores.specs.declared.act.SectionAct.TheVariants as section;
+ghost use Rattle.parking_lot_cores.specs.declared.act.CoreAnswer.{CoreAnswer};
+ghost use Rattle.parking_lot_world.specs.ActLaws.{MayBegin};
 ghost use Rattle.parking_lot_world.specs.Rows.{call_at, state, word_at};
-ghost use Rattle.parking_lot_world.specs.Stances.{core_act};
+ghost use Rattle.parking_lot_world.specs.Stances.{In, Joins, core_act, stance};
+ghost use Rattle.parking_lot_world.specs.Machines.{IsTakenFrom, IsWoken};
 ghost use Rattle.parking_lot_world.specs.RowActs.{added, answered, appended, begun, checked, entered, exchanged, key_of, left, loaded, masked, settled, spun, told_all, took, took_nobody, woke};
 
+use crate::lot_calls;
 use crate::row_machine::RowMachine;
 use crate::seat::{Call, Told, Wakeup};
-use parking_lot_core::{FilterOp, ParkResult, ParkToken, UnparkToken};
+use parking_lot_core::{ParkToken, Taking};
 use parking_lot_cores::{Seen, TRY_AGAIN, WordChange};
 use std::alloc::Allocator;
 
@@ -29,7 +33,7 @@ impl<A: Allocator> RowMachine<A> {
         requires asked { core_act call.core ≡ act.Load }
         ensures { state self.new ≡ loaded (state self.old) thread call }
     {
-        let word = self.words[call.lock];
+        let word = self.word(call.lock);
         self.calls[thread] = Some(call.told(Seen::Word(word)));
     }
 
@@ -39,7 +43,7 @@ impl<A: Allocator> RowMachine<A> {
         requires asked { core_act call.core ≡ act.Exchange from to }
         ensures { state self.new ≡ exchanged (state self.old) thread call from to }
     {
-        let word = self.words[call.lock];
+        let word = self.word(call.lock);
         if word == from {
             self.words[call.lock] = to;
             self.calls[thread] = Some(call.told(Seen::Exchanged));
@@ -54,7 +58,7 @@ impl<A: Allocator> RowMachine<A> {
         requires asked { core_act call.core ≡ act.Add by }
         ensures { state self.new ≡ added (state self.old) thread call by }
     {
-        let word = self.words[call.lock];
+        let word = self.word(call.lock);
         self.words[call.lock] = word.wrapping_add(by);
         self.calls[thread] = Some(call.told(Seen::Before(word)));
     }
@@ -65,10 +69,8 @@ impl<A: Allocator> RowMachine<A> {
         requires asked { core_act call.core ≡ act.Mask keep }
         ensures { state self.new ≡ masked (state self.old) thread call keep }
     {
-        let word = self.words[call.lock];
-        let Ok(()) = self.lot.store_done(thread, TRY_AGAIN) else {
-            return;
-        };
+        let word = self.word(call.lock);
+        lot_calls::store(&mut self.lot, thread, TRY_AGAIN);
         self.words[call.lock] = word & keep;
         self.calls[thread] = Some(call.told(Seen::Before(word)));
         settle(&mut self.calls, thread, Told::TryAgain);
@@ -88,11 +90,10 @@ impl<A: Allocator> RowMachine<A> {
         requires here { call_at (state self.old) thread ≡ Some call }
         requires asked { core_act call.core ≡ act.Enter which }
         requires free { (state self.old).lot.section ≡ None }
+        requires small { call.lock ≤ 2 ^ 62 }
         ensures { state self.new ≡ entered (state self.old) thread call which }
     {
-        let Ok(()) = self.lot.enter(thread, call.key(which)) else {
-            return;
-        };
+        lot_calls::enter(&mut self.lot, thread, call.key(which));
         self.calls[thread] = Some(call.told(Seen::Entered));
     }
 
@@ -102,11 +103,8 @@ impl<A: Allocator> RowMachine<A> {
         requires asked { core_act call.core ≡ act.Section section.Check }
         ensures { state self.new ≡ checked (state self.old) thread call }
     {
-        let word = self.words[call.lock];
-        let next = call.told(Seen::Word(word));
-        let Ok(_) = self.lot.check(thread, next.core.joins()) else {
-            return;
-        };
+        let next = call.told(Seen::Word(self.word(call.lock)));
+        lot_calls::check(&mut self.lot, thread, next.core.joins());
         self.calls[thread] = Some(next);
     }
 
@@ -114,31 +112,39 @@ impl<A: Allocator> RowMachine<A> {
     pub(crate) fn append(&mut self, thread: usize, call: Call, token: ParkToken)
         requires here { call_at (state self.old) thread ≡ Some call }
         requires asked { core_act call.core ≡ act.Section (section.Append token) }
+        ensures { (k : ℕ) × (stance call.core ≡ In k (Joins token)) × (state self.new ≡ appended (state self.old) thread call (key_of call k) token) }
     {
-        let Ok(()) = self.lot.append(thread, token, false) else {
-            return;
-        };
+        lot_calls::append(&mut self.lot, thread, token);
         self.calls[thread] = Some(call.listed());
     }
 
-    /// It takes the next waiter of a list that a filter wants.
-    pub(crate) fn take<F: FnMut(ParkToken) -> FilterOp + Drop>(
-        &mut self,
-        thread: usize,
-        call: Call,
-        key: usize,
-        filter: F,
-    )
-        requires filter { F.IsAlwaysCallable filter }
+    /// It takes the first waiter, whatever it waits for.
+    pub(crate) fn take_first(&mut self, thread: usize, call: Call)
         requires here { call_at (state self.old) thread ≡ Some call }
+        requires asked { core_act call.core ≡ act.Section section.TakeFirst }
+        ensures { IsTakenFrom thread call (state self.old) (state self.new) }
     {
-        let Ok(taking) = self.lot.take_next(thread, filter) else {
-            return;
-        };
-        let left = self.lot.has_waiters(key);
+        let taking = lot_calls::take_first(&mut self.lot, thread);
+        self.note_taking(thread, call, taking);
+    }
+
+    /// It takes the next waiter that it may take at that sum of tokens.
+    pub(crate) fn take_next(&mut self, thread: usize, call: Call, sum: u64)
+        requires here { call_at (state self.old) thread ≡ Some call }
+        requires asked { core_act call.core ≡ act.Section (section.TakeNext sum) }
+        ensures { IsTakenFrom thread call (state self.old) (state self.new) }
+    {
+        let taking = lot_calls::take_next(&mut self.lot, thread, sum);
+        self.note_taking(thread, call, taking);
+    }
+
+    /// It goes on with whom it has taken, if there was one.
+    fn note_taking(&mut self, thread: usize, call: Call, taking: Option<Taking>) {
+        let left = self.lot.has_waiters(call.key(call.core.list()));
         let token = taking.map(|taking| taking.token);
         if let Some(taking) = taking {
-            self.calls[taking.thread] = self.call(taking.thread).map(|call| call.off_list(thread));
+            let sleeper = self.calls[taking.thread];
+            self.calls[taking.thread] = sleeper.map(|sleeper| sleeper.off_list(thread));
             self.wakes.push_reserved(Wakeup {
                 by: thread,
                 thread: taking.thread,
@@ -153,12 +159,11 @@ impl<A: Allocator> RowMachine<A> {
         requires here { call_at (state self.old) thread ≡ Some call }
         ensures { state self.new ≡ told_all (state self.old) thread call change fair }
     {
+        let word = self.word(call.lock);
         let next = call.told(Seen::Stored { fair });
         let token = next.core.wake_token();
-        let Ok(()) = self.lot.store_done(thread, token) else {
-            return;
-        };
-        self.words[call.lock] = change.of(self.words[call.lock]);
+        lot_calls::store(&mut self.lot, thread, token);
+        self.words[call.lock] = change.of(word);
         self.calls[thread] = Some(next);
         settle(&mut self.calls, thread, Told::by(token));
     }
@@ -169,9 +174,7 @@ impl<A: Allocator> RowMachine<A> {
         requires asked { core_act call.core ≡ act.Section section.Leave }
         ensures { state self.new ≡ left (state self.old) thread call }
     {
-        let Ok(()) = self.lot.leave(thread) else {
-            return;
-        };
+        lot_calls::leave(&mut self.lot, thread);
         self.calls[thread] = Some(call.told(Seen::Made));
     }
 
@@ -179,24 +182,30 @@ impl<A: Allocator> RowMachine<A> {
     pub(crate) fn wake(&mut self, thread: usize, call: Call)
         requires here { call_at (state self.old) thread ≡ Some call }
         requires asked { core_act call.core ≡ act.Section section.Wake }
+        ensures { IsWoken thread call (state self.old) (state self.new) }
     {
         let Some(at) = self.wakes.iter().position(|wakeup| wakeup.by == thread) else {
             return;
         };
         let wakeup = self.wakes.remove(at);
-        self.lot.wake(wakeup.thread, wakeup.mark);
-        let Ok(ParkResult::Unparked(token)) = self.lot.resume(wakeup.thread, |_, _| {}) else {
-            return;
-        };
-        self.calls[wakeup.thread] = self
-            .call(wakeup.thread)
-            .map(|sleeper| sleeper.told(Seen::Woken(token)));
+        let token = lot_calls::rouse(&mut self.lot, wakeup.thread, wakeup.mark);
+        let sleeper = self.calls[wakeup.thread];
+        self.calls[wakeup.thread] = sleeper.map(|sleeper| sleeper.woken(token));
         self.calls[thread] = Some(call.told(Seen::Made));
+    }
+
+    /// A call begins.
+    pub(crate) fn begin_call(&mut self, thread: usize, call: Call)
+        requires may { MayBegin (state self.old) thread call }
+        ensures { state self.new ≡ begun (state self.old) thread call }
+    {
+        self.calls[thread] = Some(call.told(Seen::Start));
     }
 
     /// Its call is over.
     pub(crate) fn answer(&mut self, thread: usize, call: Call)
         requires here { call_at (state self.old) thread ≡ Some call }
+        requires asked { (answer : CoreAnswer) × (core_act call.core ≡ act.Done answer) }
         ensures { state self.new ≡ answered (state self.old) thread call }
     {
         let cell = thread * self.kinds.len() + call.lock;

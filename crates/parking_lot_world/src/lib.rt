@@ -6,21 +6,28 @@ mod call_views;
 mod calls;
 mod fault;
 mod laws;
+mod lot_calls;
 mod lot_laws;
 mod mutex_laws;
 mod row_machine;
 mod rw_laws;
 mod seat;
+mod starts;
 mod step;
+mod take_laws;
 mod tell_laws;
+mod view_laws;
 
 pub use calls::{LockAnswer, LockCall, LockKind, OwnMode};
 pub use fault::{WorldFault, WorldRefusal};
 pub use laws::acts_are_steps;
-pub use lot_laws::stances_follow_acts;
+pub use lot_laws::{
+    acts_keep_places, firsts_are_taken, new_machines_hold_together, stances_follow_acts,
+    the_lot_never_refuses,
+};
 pub use mutex_laws::{
-    answers_are_steps_of_a_sound_mutex, calls_that_have_begun_go_on, roles_at_a_mutex_are_known,
-    words_of_a_mutex_are_numbers,
+    a_mutex_is_shown_as_it_is, answers_are_steps_of_a_sound_mutex, calls_that_have_begun_go_on,
+    roles_at_a_mutex_are_known, words_of_a_mutex_are_numbers,
 };
 pub use parking_lot_cores::{
     Act, CoreAnswer, HAND_OVER, LockTable, MutexCore, Row, RwCore, SectionAct, Seen, TRY_AGAIN,
@@ -34,5 +41,8 @@ pub use rw_laws::{
     stores_are_steps, stores_tell, takes_are_steps, tokens_say, tokens_tell, wakes_are_steps,
     woken_are_told, words_are_numbers, writers_are_taken,
 };
+pub use starts::allowed_calls_begin_well;
 pub use step::WorldStep;
+pub use take_laws::takes_are_steps_of_the_machine;
 pub use tell_laws::tells_are_steps;
+pub use view_laws::modes_are_weighed;

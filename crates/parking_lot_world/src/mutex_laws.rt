@@ -3,7 +3,7 @@ ghost use Rattle.std.specs.Prelude.{◌≡◌, true};
 ghost use Rattle.parking_lot_cores.specs.declared.act.Seen.{Seen};
 ghost use Rattle.parking_lot_world.specs.declared.seat.Core.{Core};
 ghost use Rattle.parking_lot_world.specs.Stances.{core_next, has_begun};
-ghost use Rattle.parking_lot_world.specs.MutexLaws.{MutexAnswersAreSteps, MutexRolesAreKnown, MutexWordsAreNumbers};
+ghost use Rattle.parking_lot_world.specs.MutexLaws.{MutexAnswersAreSteps, MutexIsShown, MutexRolesAreKnown, MutexWordsAreNumbers};
 
 /// What the core of a call at a sound mutex is told, is a step that the rules allow: the word and the roles after it are those that the
 /// core's tables name.
@@ -24,4 +24,10 @@ pub fn roles_at_a_mutex_are_known()
 /// A call that was told that it begins has begun, and goes on so.
 pub fn calls_that_have_begun_go_on()
     ensures { (c : Core) (s : Seen) → has_begun (core_next c s) ≡ true }
+{}
+
+/// What the machine keeps of threads at a mutex is what the rules say of them: where one stores, all are told that it took; where a
+/// call ends, its answer is what is kept; and one that is to store knows its list.
+pub fn a_mutex_is_shown_as_it_is()
+    ensures { MutexIsShown }
 {}

@@ -1,0 +1,131 @@
+-- A thread that takes the first of a list: the machine stays fit, and it is a step of the rules.
+use Rattle.std.proofs.Common.{◌≡◌, ℕ, inl, inr, false, remove, None, Some, slice_get, refl, sym, ap, ◌∙◌, subst}
+use Rattle.std.proofs.lemmas.Bool.{cases_eq}
+use Rattle.parking_lot_core.specs.declared.parking.ParkToken.{ParkToken}
+use Rattle.parking_lot_core.specs.declared.place.Waiter.{Waiter}
+use Rattle.parking_lot_core.specs.Results.{is_left}
+use Rattle.parking_lot_core.specs.Sound as lot
+use Rattle.parking_lot_core.specs.declared.parking.FilterOp.TheVariants.{Unpark}
+use Rattle.parking_lot_cores.specs.declared.act.Act.TheVariants as act
+use Rattle.parking_lot_cores.specs.declared.act.SectionAct.TheVariants as section
+use Rattle.parking_lot_cores.specs.declared.act.Seen.{Seen}
+use Rattle.parking_lot_cores.specs.declared.act.Seen.TheVariants as seen
+use Rattle.parking_lot_cores.specs.Wake.{wake_answer}
+use Rattle.parking_lot_cores.specs.declared.rw_phase.RwPhase.{RwPhase}
+use Rattle.parking_lot_cores.specs.declared.rw_phase.RwPhase.TheVariants as r
+use Rattle.parking_lot_cores.specs.declared.mutex_phase.MutexPhase.{MutexPhase}
+use Rattle.parking_lot_cores.specs.declared.mutex_phase.MutexPhase.TheVariants as m
+use Rattle.parking_lot_cores.specs.RwTable as of_rw
+use Rattle.parking_lot_cores.specs.MutexTable as of_mutex
+use Rattle.parking_lot_world.specs.declared.seat.Core.{Core}
+use Rattle.parking_lot_world.specs.declared.seat.Core.TheVariants as core
+use Rattle.parking_lot_world.specs.declared.seat.Call.{Call}
+use Rattle.parking_lot_world.specs.Rows.{State, word_at, call_at}
+use Rattle.parking_lot_world.specs.Stances.{Takes, Stores, Stance, In, Asleep, rw_stance, mutex_stance, stance, core_act}
+use Rattle.parking_lot_world.specs.RowActs.{hears, key_of, off_list, took}
+use Rattle.parking_lot_world.specs.RowFits.{FitsTogether, LotFits, RulesFit}
+use Rattle.parking_lot_world.specs.ActLaws.{Acts}
+use Rattle.parking_lot_world.proofs.Stancing.{leads_by, takings_count}
+use Rattle.parking_lot_world.proofs.Beginning.{goes_on}
+use Rattle.parking_lot_world.proofs.Carrying.{same_call}
+use Rattle.parking_lot_world.proofs.LotTakes.{took_fits}
+use Rattle.parking_lot_world.proofs.Ruling.{CallFits, call_fits, rules_after}
+use Rattle.parking_lot_world.proofs.TakeOutside.{IsOut, others_out, out_knows, next_kind}
+use Rattle.parking_lot_world.proofs.TakeParts.{takes_two, took_told, TakesSo, the_sleeper, taker_after, sleeper_after, others_after, same_threads, wakes_after}
+use Rattle.parking_lot_world.proofs.TakeRw.{rw_takes, rw_lets_go}
+use Rattle.parking_lot_world.proofs.TakeMutex.{mutex_takes}
+
+-- a sleeper is in no section
+asleep_out : (a : Stance) (k : ℕ) (token : ParkToken) → a ≡ Asleep k token → IsOut a
+asleep_out a k token e l how f = go (sym e ∙ f)
+  where
+    go : Asleep k token ≡ In l how → ⊥
+    go g = cc
+
+module _ (s : State) (t : ℕ) (c : Call) (k : ℕ) (w : Waiter) (from : stance c.core ≡ In k Takes) (at : slice_get (s.lot.queues (key_of c k)) 0 ≡ Some w) (h : FitsTogether s) (here : call_at s t ≡ Some c) where
+  abbrev u : State
+  u = took s t c (key_of c k) 0 w
+
+  abbrev told : Seen
+  told = took_told s c k w
+
+  by_core : (x : Core) → c.core ≡ x → TakesSo s t c k w x
+  by_core (core.Rw y) e = rw_takes s t c k w from at h here y e
+  by_core (core.Mutex y) e = mutex_takes s t c k w from at h here y e
+
+  so : TakesSo s t c k w c.core
+  so = by_core c.core refl
+
+  -- the calls fit
+  calls_fit : (x : ℕ) (d : Call) → call_at u x ≡ Some d → CallFits s.kinds u.lot.queues d
+  calls_fit x d is = elim (cases_eq x t) [
+    | inl e ↦ subst (CallFits s.kinds u.lot.queues) (same_call (sym (taker_after s t c k w from at h here) ∙ (ap (call_at u) (sym e) ∙ is))) mine
+    | inr nt ↦ elim (cases_eq x w.thread) [
+      | inl e ↦ subst (CallFits s.kinds u.lot.queues) (same_call (sym (sleeper_after s t c k w from at h here) ∙ (ap (call_at u) (sym e) ∙ is))) its
+      | inr nv ↦
+          let old : call_at s x ≡ Some d = sym (others_after s t c k w from at h here x nt nv) ∙ is in
+          let f = call_fits s h.rules x d old in
+          record { kind = f.kind; prepared = f.prepared; knows = out_knows d.core u.lot.queues d.lock (others_out s h.lots t c here k Takes from x d nt old); beside = f.beside; begun = f.begun }
+    ]
+  ]
+    where
+      mine : CallFits s.kinds u.lot.queues (hears c told)
+      mine =
+          let f = call_fits s h.rules t c here in
+          record { kind = next_kind c.core told (slice_get s.kinds c.lock) f.kind; prepared = so.1; knows = so.2; beside = f.beside; begun = goes_on c.core told }
+
+      its : CallFits s.kinds u.lot.queues (off_list t (the_sleeper s t c k w from at h here).call)
+      its =
+          let x = the_sleeper s t c k w from at h here in
+          let f = call_fits s h.rules w.thread x.call x.there in
+          record { kind = f.kind; prepared = f.prepared; knows = out_knows x.call.core u.lot.queues x.call.lock (asleep_out (stance x.call.core) k w.token x.asleep); beside = f.beside; begun = f.begun }
+
+  rules : RulesFit u
+  rules = rules_after s u c.lock h.rules (record {
+    kinds = refl;
+    threads = same_threads s t c k w from at h here;
+    holds = refl;
+    words = refl;
+    calls = calls_fit;
+    few = h.rules.few;
+    elsewhere = λ i ne. refl;
+    bits = h.rules.bits c.lock;
+    sound = so.3;
+  })
+
+  lots : lot.Sound u.lot → LotFits u
+  lots sound =
+      let counts = takings_count c.core (word_at s c.lock) w.token (is_left (remove (s.lot.queues (key_of c k)) 0)) so.5 so.4 in
+      let e : In counts.0 Takes ≡ In k Takes = sym counts.2 ∙ from in
+      let same : counts.0 ≡ k = cc in
+      took_fits s t c h.lots here k 0 w (takes_two c.core k from) from at
+      refl (elim counts.3 [ inl f ↦ inl (f ∙ ap (λ n. In n Takes) same) | inr f ↦ inr (f ∙ ap (λ n. In n Stores) same) ])
+      counts.4 sound
+
+  pub takes : lot.Sound u.lot → (what : Seen) × Acts t c what s u
+  takes sound = (told, record { fits = record { lots = lots sound; wakes = wakes_after s t c k w from at h here; rules = rules }; goes = so.0 })
+
+-- WHO IS LET GO
+
+-- only a scan asks for the next, and it goes through the first list
+scans_first : (q : RwPhase) (k sum : ℕ) → rw_stance q ≡ In k Takes → of_rw.act_of q ≡ act.Section (section.TakeNext sum) → rw_stance q ≡ In 0 Takes
+scans_first (r.Takes2 rest) k sum is asked = absurd (cc)
+scans_first (r.Scans a) k sum is asked = refl
+scans_first q k sum is asked = absurd (cc)
+
+scans_none : (q : MutexPhase) (k sum : ℕ) → mutex_stance q ≡ In k Takes → of_mutex.act_of q ≡ act.Section (section.TakeNext sum) → ⊥
+scans_none (m.Takes giving) k sum is asked = absurd (cc)
+scans_none q k sum is asked = absurd (cc)
+
+module _ (s : State) (t : ℕ) (c : Call) (sum : ℕ) (w : Waiter) (h : FitsTogether s) (here : call_at s t ≡ Some c) (asked : core_act c.core ≡ act.Section (section.TakeNext sum)) (at : slice_get (s.lot.queues (key_of c 0)) 0 ≡ Some w) where
+  stands : (k : ℕ) × (stance c.core ≡ In k Takes)
+  stands = let l = leads_by c.core (act.Section (section.TakeNext sum)) 0 (seen.Took None false) asked tt in (l.0, l.1)
+
+  go : (x : Core) → c.core ≡ x → wake_answer sum w.token.0 ≡ Unpark
+  go (core.Rw y) e =
+      let from : stance c.core ≡ In 0 Takes = ap stance e ∙ scans_first y.phase stands.0 sum (ap stance (sym e) ∙ stands.1) (ap core_act (sym e) ∙ asked) in
+      rw_lets_go s t c 0 w from at h here y e sum (ap core_act (sym e) ∙ asked)
+  go (core.Mutex y) e = absurd (scans_none y.phase stands.0 sum (ap stance (sym e) ∙ stands.1) (ap core_act (sym e) ∙ asked))
+
+  pub lets_go : wake_answer sum w.token.0 ≡ Unpark
+  lets_go = go c.core refl

@@ -1,0 +1,224 @@
+-- The machine once a thread has taken the first of a list: what the locks see of the two, and what it keeps beside the lot and the rules.
+use Rattle.std.proofs.Common.{◌≡◌, ◌≢◌, ℕ, ◌+◌, ◌*◌, ◌<◌, inl, inr, ◌==◌, cond, eq-eqb, Bool, true, false, List, [], ◌∷◌, ◌++◌, length, length-append, map, remove, Option, Some, slice_get, slice_set, refl, sym, ap, ◌∙◌, subst, arith}
+use Rattle.std.proofs.lemmas.Bool.{cases_eq, ne_eqb, eqb-false}
+use Rattle.std.proofs.lemmas.List.{map-append}
+use Rattle.std.proofs.lemmas.List.Elements.{filter-append}
+use Rattle.std.proofs.lemmas.Option.{none-some, same_Some}
+use Rattle.std.specs.Prelude.{count_by, filter}
+use Rattle.std.specs.Option.{option_map, option_map_or}
+use Rattle.parking_lot_core.specs.declared.place.Waiter.{Waiter}
+use Rattle.parking_lot_core.specs.Machine.{threads_of}
+use Rattle.parking_lot_core.specs.Places.{place_at, mark_of}
+use Rattle.parking_lot_core.specs.Results.{is_left}
+use Rattle.parking_lot_core.proofs.Kept.{updated_at, updated_other, slice_get-seam}
+use Rattle.parking_lot_core.proofs.Numbers.{flag, count_by-set}
+use Rattle.parking_lot_cores.specs.declared.act.Seen.{Seen}
+use Rattle.parking_lot_cores.specs.declared.act.Seen.TheVariants as seen
+use Rattle.parking_lot_cores.specs.Acts.{Gives}
+use Rattle.parking_lot_cores.specs.declared.rw_phase.RwPhase.{RwPhase}
+use Rattle.parking_lot_cores.specs.declared.rw_phase.RwPhase.TheVariants as r
+use Rattle.parking_lot_cores.specs.declared.mutex_phase.MutexPhase.{MutexPhase}
+use Rattle.parking_lot_cores.specs.declared.mutex_phase.MutexPhase.TheVariants as m
+use Rattle.parking_lot_world.specs.declared.seat.Told.{Told}
+use Rattle.parking_lot_world.specs.declared.seat.Told.TheVariants as told
+use Rattle.parking_lot_world.specs.declared.seat.Spot.{Spot}
+use Rattle.parking_lot_world.specs.declared.seat.Spot.TheVariants as spot
+use Rattle.parking_lot_world.specs.declared.seat.Core.{Core}
+use Rattle.parking_lot_world.specs.declared.seat.Core.TheVariants as core
+use Rattle.parking_lot_world.specs.declared.seat.Call.{Call}
+use Rattle.parking_lot_world.specs.declared.seat.Wakeup.{Wakeup}
+use Rattle.parking_lot_world.specs.Rows.{State, word_at, call_at, taken_by, is_by}
+use Rattle.parking_lot_world.specs.Stances.{Takes, In, rw_stance, mutex_stance, stance, core_act, core_next}
+use Rattle.parking_lot_world.specs.RowActs.{hears, key_of, off_list, took}
+use Rattle.parking_lot_world.specs.RowFits.{FitsTogether, WakesFit, IsPrepared, KnowsList, is_away, is_off}
+use Rattle.parking_lot_world.specs.RowSteps.{IsMoveOf}
+use Rattle.parking_lot_world.specs.StanceLaws.{Counts}
+use Rattle.parking_lot_world.proofs.Indexing.{get_front}
+use Rattle.parking_lot_world.proofs.Everybody.{all, change-two}
+use Rattle.parking_lot_world.proofs.Lifting.{IsThere, Elsewhere}
+use Rattle.parking_lot_world.proofs.Making.{IsSoundState}
+use Rattle.parking_lot_world.proofs.Meeting.{in_range}
+use Rattle.parking_lot_world.proofs.Calling.{call_of, slot, call-elsewhere}
+use Rattle.parking_lot_world.proofs.Carrying.{same_call, awake_sleeps}
+use Rattle.parking_lot_world.proofs.LotActs.{awake_by}
+use Rattle.parking_lot_world.proofs.LotLists.{one_key}
+use Rattle.parking_lot_world.proofs.LotTakes.{Sleeper, sleeper, call_taken, call_mine, call_other, took_length}
+use Rattle.parking_lot_world.proofs.TakeOutside.{awake_listed}
+
+-- a list is the lock's first or its second
+rw_two : (q : RwPhase) (k : ℕ) → rw_stance q ≡ In k Takes → k < 2
+rw_two (r.Takes2 rest) k e = let one : 1 ≡ k = cc in omega (arith, one)
+rw_two (r.Scans a) k e = let zero : 0 ≡ k = cc in omega (arith, zero)
+rw_two q k e = absurd (cc)
+
+mutex_two : (q : MutexPhase) (k : ℕ) → mutex_stance q ≡ In k Takes → k < 2
+mutex_two (m.Takes giving) k e = let zero : 0 ≡ k = cc in omega (arith, zero)
+mutex_two q k e = absurd (cc)
+
+pub takes_two : (x : Core) (k : ℕ) → stance x ≡ In k Takes → k < 2
+takes_two (core.Rw y) k e = rw_two y.phase k e
+takes_two (core.Mutex y) k e = mutex_two y.phase k e
+
+-- WHOM A THREAD HAS TAKEN
+
+abbrev thread_of : Wakeup → ℕ
+thread_of e = e.thread
+
+taken_push : (ws : List Wakeup) (e : Wakeup) (x : ℕ) (b : Bool) → (e.by == x) ≡ b → taken_by (ws ++ e ∷ []) x ≡ taken_by ws x ++ cond b (e.thread ∷ []) []
+taken_push ws e x b is =
+    ap (map thread_of) (filter-append (is_by x) ws (e ∷ [])) ∙ map-append thread_of (filter (is_by x) ws) (filter (is_by x) (e ∷ []))
+    ∙ ap (λ l. taken_by ws x ++ map thread_of l) (ap (λ d. cond d (e ∷ []) []) is) ∙ last b
+  where
+    last : (d : Bool) → taken_by ws x ++ map thread_of (cond d (e ∷ []) []) ≡ taken_by ws x ++ cond d (e.thread ∷ []) []
+    last true = refl
+    last false = refl
+
+no_more : (xs : List ℕ) → xs ++ [] ≡ xs
+no_more [] = refl
+no_more (x ∷ xs) = ap (λ ys. x ∷ ys) (no_more xs)
+
+-- THE FIRST OF A LIST
+
+pub first_thread : (q : List Waiter) (w : Waiter) → slice_get q 0 ≡ Some w → slice_get (threads_of q) 0 ≡ Some w.thread
+first_thread [] w e = absurd (none-some w e)
+first_thread (x ∷ q) w e = ap (λ (y : Waiter). Some y.thread) (same_Some x w e)
+
+remove_first : (q : List Waiter) → threads_of (remove q 0) ≡ remove (threads_of q) 0
+remove_first [] = refl
+remove_first (x ∷ q) = refl
+
+-- WHAT IS TO BE SHOWN OF A CALL'S PHASE
+
+-- what the thread is told
+abbrev pub took_told : State → Call → ℕ → Waiter → Seen
+took_told s c k w = seen.Took (Some w.token) (is_left (remove (s.lot.queues (key_of c k)) 0))
+
+-- it makes the move that its table names, its call and its lock fit then, and it counts whom it took
+abbrev pub TakesSo : State → ℕ → Call → ℕ → Waiter → Core → Type 0
+TakesSo s t c k w x =
+    let u = took s t c (key_of c k) 0 w in
+    let y = core_next x (took_told s c k w) in
+    IsMoveOf x c.others (taken_by s.wakes t) (took_told s c k w) c.lock t s u × IsPrepared c.others y × KnowsList y u.lot.queues c.lock × IsSoundState u × Counts x w.token × Gives (core_act x) (word_at s c.lock) (took_told s c k w)
+
+-- THE PARTS
+
+module _ (s : State) (t : ℕ) (c : Call) (k : ℕ) (w : Waiter) (from : stance c.core ≡ In k Takes) (at : slice_get (s.lot.queues (key_of c k)) 0 ≡ Some w) (h : FitsTogether s) (here : call_at s t ≡ Some c) where
+  abbrev u : State
+  u = took s t c (key_of c k) 0 w
+
+  abbrev pub the_sleeper : Sleeper s t k c w
+  the_sleeper = sleeper s t c h.lots here k 0 w (takes_two c.core k from) from at
+
+  abbrev z : Call
+  z = the_sleeper.call
+
+  pub took_apart : w.thread ≢ t
+  took_apart e = eqb-false w.thread t the_sleeper.other e
+
+  pub taker_listed : c.spot ≡ spot.Listed
+  taker_listed = awake_listed s h t c here (λ l park e. awake_sleeps l park (stance c.core) (awake_by (stance c.core) (In k Takes) from tt) e)
+
+  -- the calls
+  pub taker_after : call_at u t ≡ Some (hears c (took_told s c k w))
+  taker_after = call_mine s t c h.lots here k 0 w (takes_two c.core k from) from at
+
+  pub sleeper_after : call_at u w.thread ≡ Some (off_list t z)
+  sleeper_after = call_taken s t c h.lots here k 0 w (takes_two c.core k from) from at
+
+  pub others_after : (x : ℕ) → x ≢ t → x ≢ w.thread → call_at u x ≡ call_at s x
+  others_after x nt nv = call_other s t c h.lots here k 0 w (takes_two c.core k from) from at x (ne_eqb x t nt) (ne_eqb x w.thread nv)
+
+  pub same_threads : length u.calls ≡ length s.calls
+  same_threads = took_length s t c h.lots here k 0 w (takes_two c.core k from) from at
+
+  -- whom they have taken
+  pub taker_has : taken_by u.wakes t ≡ taken_by s.wakes t ++ w.thread ∷ []
+  taker_has = taken_push s.wakes (record { by = t; thread = w.thread; mark = option_map_or mark_of (place_at s.lot.places w.thread) 0 }) t true (eq-eqb t t refl)
+
+  pub others_have : (x : ℕ) → x ≢ t → taken_by u.wakes x ≡ taken_by s.wakes x
+  others_have x nt =
+      taken_push s.wakes (record { by = t; thread = w.thread; mark = option_map_or mark_of (place_at s.lot.places w.thread) 0 }) x false (ne_eqb t x (λ e. nt (sym e)))
+      ∙ no_more (taken_by s.wakes x)
+
+  -- the lists
+  pub took_list : (key : ℕ) → key ≡ key_of c k → u.lot.queues key ≡ remove (s.lot.queues (key_of c k)) 0
+  took_list key e = ap u.lot.queues e ∙ updated_at s.lot.queues (key_of c k) (remove (s.lot.queues (key_of c k)) 0)
+
+  pub list_here : (key : ℕ) → key ≡ key_of c k → threads_of (u.lot.queues key) ≡ remove (threads_of (s.lot.queues key)) 0
+  list_here key e = ap threads_of (took_list key e) ∙ remove_first (s.lot.queues (key_of c k)) ∙ ap (λ n. remove (threads_of (s.lot.queues n)) 0) (sym e)
+
+  same_list : (key : ℕ) → key ≢ key_of c k → u.lot.queues key ≡ s.lot.queues key
+  same_list key ne = updated_other s.lot.queues (key_of c k) (remove (s.lot.queues (key_of c k)) 0) key (ne_eqb key (key_of c k) ne)
+
+  pub list_there : (key : ℕ) → key ≢ key_of c k → threads_of (u.lot.queues key) ≡ threads_of (s.lot.queues key)
+  list_there key ne = ap threads_of (same_list key ne)
+
+  pub first_there : (key : ℕ) → key ≡ key_of c k → slice_get (threads_of (s.lot.queues key)) 0 ≡ Some w.thread
+  first_there key e = ap (λ n. slice_get (threads_of (s.lot.queues n)) 0) e ∙ first_thread (s.lot.queues (key_of c k)) w at
+
+  -- the other locks
+  pub took_elsewhere : Elsewhere c.lock s u
+  took_elsewhere = record {
+    kinds = refl;
+    threads = same_threads;
+    words = λ i ne. refl;
+    queues = λ i l ne b. same_list (2 * i + l) (λ e. ne (one_key i c.lock l k b (takes_two c.core k from) e).0);
+    holds = λ x i ne. refl;
+    calls = λ x. elim (cases_eq x t) [
+      | inl e ↦ inr (subst (λ (n : ℕ). IsThere c.lock (call_at s n)) (sym e) (subst (IsThere c.lock) (sym here) refl), subst (λ (n : ℕ). IsThere c.lock (call_at u n)) (sym e) (subst (IsThere c.lock) (sym taker_after) refl))
+      | inr nt ↦ elim (cases_eq x w.thread) [
+        | inl e ↦ inr (subst (λ (n : ℕ). IsThere c.lock (call_at s n)) (sym e) (subst (IsThere c.lock) (sym the_sleeper.there) the_sleeper.lock), subst (λ (n : ℕ). IsThere c.lock (call_at u n)) (sym e) (subst (IsThere c.lock) (sym sleeper_after) the_sleeper.lock))
+        | inr nv ↦ inl (others_after x nt nv, others_have x nt)
+      ]
+    ];
+  }
+
+  -- a list of what each thread is
+  pub two_roles : {R : Type 0} (f g : ℕ → R) → ((x : ℕ) → x ≢ t → x ≢ w.thread → g x ≡ f x) → all g 0 (length u.calls) ≡ slice_set (slice_set (all f 0 (length s.calls)) t (g t)) w.thread (g w.thread)
+  two_roles f g others =
+      ap (λ n. all g 0 n) same_threads
+      ∙ change-two f g (length s.calls) t w.thread (in_range s t c here) (in_range s w.thread z the_sleeper.there) (λ e. took_apart (sym e)) (λ x b nt nv. others x nt nv)
+
+  -- WHO IS TO BE WOKEN
+
+  abbrev entry : Wakeup
+  entry = record { by = t; thread = w.thread; mark = option_map_or mark_of (place_at s.lot.places w.thread) 0 }
+
+  abbrev IsIn : List Wakeup → ℕ → ℕ → Type 0
+  IsIn ws by x = (n : ℕ) × (e : Wakeup) × (slice_get ws n ≡ Some e) × (e.by ≡ by) × (e.thread ≡ x)
+
+  off_after : (x by : ℕ) (d : Call) (said : Told) → call_at u x ≡ Some d → d.spot ≡ spot.Off by said → IsIn u.wakes by x
+  off_after x by d said is off = elim (cases_eq x t) [
+    | inl e ↦ absurd (listed (sym taker_listed ∙ ap (λ (y : Call). y.spot) (same_call (sym taker_after ∙ (ap (call_at u) (sym e) ∙ is))) ∙ off))
+    | inr nt ↦ elim (cases_eq x w.thread) [
+      | inl e ↦ (length s.wakes, entry, slice_get-seam s.wakes entry [], same_by (ap (λ (y : Call). y.spot) (same_call (sym sleeper_after ∙ (ap (call_at u) (sym e) ∙ is))) ∙ off), sym e)
+      | inr nv ↦ let old = h.wakes.off x by d said (sym (others_after x nt nv) ∙ is) off in (old.0, old.1, get_front s.wakes (entry ∷ []) old.0 old.1 old.2, old.3, old.4)
+    ]
+  ]
+    where
+      listed : spot.Listed ≡ spot.Off by said → ⊥
+      listed e = cc
+
+      same_by : spot.Off t told.Nothing ≡ spot.Off by said → t ≡ by
+      same_by e = cc
+
+  abbrev calls_off : List (Option Call)
+  calls_off = slice_set s.calls w.thread (option_map (off_list t) (call_at s w.thread))
+
+  room_after : length u.wakes ≡ count_by is_away u.calls
+  room_after =
+      let one : flag (is_away (option_map (off_list t) (call_at s w.thread))) ≡ 1 = ap (λ o. flag (is_away (option_map (off_list t) o))) the_sleeper.there in
+      let none : flag (is_away (Some z)) ≡ 0 = ap (λ (x : Spot). flag (is_off x)) the_sleeper.listed in
+      let there : call_of calls_off t ≡ Some c = call-elsewhere s.calls w.thread t (option_map (off_list t) (call_at s w.thread)) (λ e. took_apart (sym e)) ∙ here in
+      omega (
+        arith,
+        length-append s.wakes (entry ∷ []),
+        h.wakes.room,
+        one,
+        none,
+        count_by-set is_away s.calls w.thread (Some z) (option_map (off_list t) (call_at s w.thread)) (slot s.calls w.thread z the_sleeper.there),
+        count_by-set is_away calls_off t (Some c) (Some (hears c (took_told s c k w))) (slot calls_off t c there),
+      )
+
+  pub wakes_after : WakesFit u
+  wakes_after = record { off = off_after; room = room_after }

@@ -1,0 +1,173 @@
+-- Acts that change whom threads are still to wake, or where they stand, keep what fits of it.
+use Rattle.std.proofs.Common.{◌≡◌, ◌<◌, ℕ, ◌+◌, ◌==◌, false, List, [], ◌∷◌, ◌++◌, length, map, remove, Option, Some, None, slice_get, slice_set, count_by, refl, sym, ap, ◌∙◌, subst, arith, zero, suc}
+use Rattle.std.specs.Option.{option_map, option_and_then}
+use Rattle.std.proofs.lemmas.Bool.{eqb-false}
+use Rattle.std.proofs.lemmas.List.{length_push}
+use Rattle.std.proofs.lemmas.List.Edits.{length-remove}
+use Rattle.std.proofs.lemmas.Option.{slice_get_within}
+use Rattle.parking_lot_core.proofs.Kept.{slice_get-seam, eqb_false_symm}
+use Rattle.parking_lot_core.proofs.Numbers.{flag, count_by-set, count_by-map_same}
+use Rattle.parking_lot_core.proofs.Sounds.{none≢some, by_eqb}
+use Rattle.parking_lot_world.specs.declared.seat.Spot.{Spot}
+use Rattle.parking_lot_world.specs.declared.seat.Spot.TheVariants as spot
+use Rattle.parking_lot_world.specs.declared.seat.Told.{Told}
+use Rattle.parking_lot_world.specs.declared.seat.Told.TheVariants as told
+use Rattle.parking_lot_world.specs.declared.seat.Call.{Call}
+use Rattle.parking_lot_world.specs.declared.seat.Wakeup.{Wakeup}
+use Rattle.parking_lot_world.specs.Rows.{State, call_at}
+use Rattle.parking_lot_world.specs.Stances.{stance}
+use Rattle.parking_lot_world.specs.RowActs.{settled_spot, settled, off_list}
+use Rattle.parking_lot_world.specs.RowFits.{LotFits, WakesFit, IsOwed, is_off, is_away}
+use Rattle.parking_lot_world.proofs.Indexing.{get_front, kept_remove}
+use Rattle.parking_lot_world.proofs.Carrying.{same_call, call_within, set_here, set_elsewhere, unsettled_off, IsUp, up_sleeps}
+
+abbrev call_of : List (Option Call) → ℕ → Option Call
+call_of calls v = option_and_then (λ x. x) (slice_get calls v)
+
+-- the slot of a thread
+slot_of : (calls : List (Option Call)) (t : ℕ) → t < length calls → slice_get calls t ≡ Some (call_of calls t)
+slot_of [] t h = absurd (omega arith)
+slot_of (c ∷ calls) zero h = refl
+slot_of (c ∷ calls) (suc t) h = slot_of calls t (omega arith)
+
+off_listed : {by : ℕ} {said : Told} → spot.Off by said ≡ spot.Listed → ⊥
+off_listed e = cc
+
+-- whoever doesn't sleep stands as if listed
+pub stands_listed : (s : State) → LotFits s → WakesFit s → (t : ℕ) (c : Call) → call_at s t ≡ Some c → IsUp (stance c.core) → c.spot ≡ spot.Listed
+stands_listed s h w t c here up = go c.spot refl
+  where
+    go : (a : Spot) → c.spot ≡ a → c.spot ≡ spot.Listed
+    go spot.Listed e = e
+    go (spot.Off by said) e =
+        let o = w.off t by c said here e in
+        let x = h.woken o.0 o.1 o.2 in
+        absurd (up_sleeps x.key x.token (stance c.core) up (ap (λ (y : Call). stance y.core) (same_call (sym here ∙ (ap (call_at s) (sym o.4) ∙ x.here))) ∙ x.asleep))
+
+-- one call changes, whose thread stands on the same side of its list
+pub wakes_one : (s u : State) (t : ℕ) (o : Option Call) → WakesFit s → t < length s.calls → u.calls ≡ slice_set s.calls t o → u.wakes ≡ s.wakes
+    → is_away o ≡ is_away (call_at s t)
+    → ((d : Call) (by : ℕ) (said : Told) → o ≡ Some d → d.spot ≡ spot.Off by said → (c : Call) × (call_at s t ≡ Some c) × (before : Told) × (c.spot ≡ spot.Off by before))
+    → WakesFit u
+wakes_one s u t o w low calls wakes same back = record {
+  off = λ v by d said at is. subst (λ (ws : List Wakeup). IsOwed ws by v) (sym wakes) (by_eqb v t (IsOwed s.wakes by v)
+      (λ e.
+      let old = back d by said (sym (set_here s.calls t o low) ∙ (ap (call_of (slice_set s.calls t o)) (sym e) ∙ (ap (λ cs. call_of cs v) (sym calls) ∙ at))) is in
+      subst (IsOwed s.wakes by) (sym e) (w.off t by old.0 old.2 old.1 old.3))
+      (λ e. w.off v by d said (sym (set_elsewhere s.calls t v o e) ∙ (ap (λ cs. call_of cs v) (sym calls) ∙ at)) is));
+  room =
+      let change : count_by is_away (slice_set s.calls t o) + flag (is_away (call_at s t)) ≡ count_by is_away s.calls + flag (is_away o) = count_by-set is_away s.calls t (call_at s t) o (slot_of s.calls t low) in
+      let both : flag (is_away o) ≡ flag (is_away (call_at s t)) = ap flag same in
+      let old : length s.wakes ≡ count_by is_away s.calls = w.room in
+      ap length wakes ∙ (omega arith ∙ ap (count_by is_away) (sym calls));
+}
+
+-- its spot stays
+pub wakes_still : (s u : State) (t : ℕ) (c d : Call) → WakesFit s → call_at s t ≡ Some c → d.spot ≡ c.spot → u.calls ≡ slice_set s.calls t (Some d) → u.wakes ≡ s.wakes → WakesFit u
+wakes_still s u t c d w here at calls wakes =
+    wakes_one s u t (Some d) w (call_within s t c here) calls wakes
+    (ap is_off at ∙ ap is_away (sym here))
+    (λ x by said is off. (c, here, said, sym at ∙ (ap (λ (y : Call). y.spot) (same_call is) ∙ off)))
+
+-- or it stood as if listed, and does so or is in no call
+pub wakes_listed : (s u : State) (t : ℕ) (o : Option Call) → WakesFit s → t < length s.calls → u.calls ≡ slice_set s.calls t o → u.wakes ≡ s.wakes → is_away (call_at s t) ≡ false → ((d : Call) → o ≡ Some d → d.spot ≡ spot.Listed) → WakesFit u
+wakes_listed s u t o w low calls wakes was listed =
+    wakes_one s u t o w low calls wakes (side o listed ∙ sym was)
+    (λ d by said is off. absurd (off_listed (sym off ∙ listed d is)))
+  where
+    side : (x : Option Call) → ((d : Call) → x ≡ Some d → d.spot ≡ spot.Listed) → is_away x ≡ false
+    side None l = refl
+    side (Some d) l = ap is_off (l d refl)
+
+-- threads are told
+settled_side : (t : ℕ) (said : Told) (a : Spot) → is_off (settled_spot t said a) ≡ is_off a
+settled_side t said spot.Listed = refl
+settled_side t said (spot.Off by told.Nothing) = refl
+settled_side t said (spot.Off by told.TryAgain) = refl
+settled_side t said (spot.Off by told.HandedOver) = refl
+
+settled_away : (t : ℕ) (said : Told) (o : Option Call) → is_away (option_map (settled t said) o) ≡ is_away o
+settled_away t said None = refl
+settled_away t said (Some c) = settled_side t said c.spot
+
+call_of-map : (g : Call → Call) (cs : List (Option Call)) (v : ℕ) → call_of (map (option_map g) cs) v ≡ option_map g (call_of cs v)
+call_of-map g [] v = refl
+call_of-map g (None ∷ cs) zero = refl
+call_of-map g (Some c ∷ cs) zero = refl
+call_of-map g (c ∷ cs) (suc v) = call_of-map g cs v
+
+pub wakes_settled : (s u : State) (t : ℕ) (said : Told) → WakesFit s → u.calls ≡ map (option_map (settled t said)) s.calls → u.wakes ≡ s.wakes → WakesFit u
+wakes_settled s u t said w calls wakes = record {
+  off = λ v by d x at is. subst (λ (ws : List Wakeup). IsOwed ws by v) (sym wakes)
+      (told_off (call_at s v) v by d x refl (sym (call_of-map (settled t said) s.calls v) ∙ (ap (λ cs. call_of cs v) (sym calls) ∙ at)) is);
+  room = ap length wakes ∙ (w.room ∙ (sym (count_by-map_same is_away (option_map (settled t said)) (settled_away t said) s.calls) ∙ ap (count_by is_away) (sym calls)));
+}
+  where
+    told_off : (o : Option Call) (v by : ℕ) (d : Call) (x : Told) → call_at s v ≡ o → option_map (settled t said) o ≡ Some d → d.spot ≡ spot.Off by x → IsOwed s.wakes by v
+    told_off None v by d x here is off = absurd (none≢some is)
+    told_off (Some c) v by d x here is off =
+        let before = unsettled_off t said by x c.spot (ap (λ (y : Call). y.spot) (same_call is) ∙ off) in
+        w.off v by c before.0 here before.1
+
+-- one is taken off its list
+pub wakes_taken : (s u : State) (t v : ℕ) (c d x : Call) (e : Wakeup) → WakesFit s → (v == t) ≡ false → call_at s t ≡ Some c → call_at s v ≡ Some x → x.spot ≡ spot.Listed → d.spot ≡ c.spot → e.by ≡ t → e.thread ≡ v
+    → u.calls ≡ slice_set (slice_set s.calls v (Some (off_list t x))) t (Some d) → u.wakes ≡ s.wakes ++ e ∷ [] → WakesFit u
+wakes_taken s u t v c d x e w apart here there listed at by_t is_v calls wakes =
+    wakes_still taken u t c d
+    (record { off = off; room = room })
+    (set_elsewhere s.calls v t (Some (off_list t x)) (eqb_false_symm v t apart) ∙ here) at calls wakes
+  where
+    taken : State
+    taken = record s { calls = slice_set s.calls v (Some (off_list t x)); wakes = s.wakes ++ e ∷ [] }
+
+    same_by : {by : ℕ} {said : Told} → spot.Off t told.Nothing ≡ spot.Off by said → t ≡ by
+    same_by e = cc
+
+    low : v < length s.calls
+    low = call_within s v x there
+
+    off : (y by : ℕ) (z : Call) (said : Told) → call_of (slice_set s.calls v (Some (off_list t x))) y ≡ Some z → z.spot ≡ spot.Off by said → IsOwed (s.wakes ++ e ∷ []) by y
+    off y by z said is out = by_eqb y v (IsOwed (s.wakes ++ e ∷ []) by y)
+        (λ f. (length s.wakes, e, slice_get-seam s.wakes e [], by_t ∙ same_by (ap (λ (q : Call). q.spot) (same_call (sym (set_here s.calls v (Some (off_list t x)) low) ∙ (ap (call_of (slice_set s.calls v (Some (off_list t x)))) (sym f) ∙ is))) ∙ out), is_v ∙ sym f))
+        (λ f. let old = w.off y by z said (sym (set_elsewhere s.calls v y (Some (off_list t x)) f) ∙ is) out in (old.0, old.1, get_front s.wakes (e ∷ []) old.0 old.1 old.2, old.3, old.4))
+
+    room : length (s.wakes ++ e ∷ []) ≡ count_by is_away (slice_set s.calls v (Some (off_list t x)))
+    room =
+        let change : count_by is_away (slice_set s.calls v (Some (off_list t x))) + flag (is_away (Some x)) ≡ count_by is_away s.calls + 1 = count_by-set is_away s.calls v (Some x) (Some (off_list t x)) (slot_of s.calls v low ∙ ap (λ o. Some o) there) in
+        let none : flag (is_away (Some x)) ≡ 0 = ap (λ a. flag (is_off a)) listed in
+        let old : length s.wakes ≡ count_by is_away s.calls = w.room in
+        length_push s.wakes e ∙ omega arith
+
+-- one is woken
+pub wakes_woken : (s u : State) (t i : ℕ) (c d x y : Call) (e : Wakeup) (by : ℕ) (said : Told) → LotFits s → WakesFit s → (e.thread == t) ≡ false → slice_get s.wakes i ≡ Some e → call_at s t ≡ Some c → call_at s e.thread ≡ Some x
+    → x.spot ≡ spot.Off by said → y.spot ≡ spot.Listed → d.spot ≡ c.spot → u.calls ≡ slice_set (slice_set s.calls e.thread (Some y)) t (Some d) → u.wakes ≡ remove s.wakes i → WakesFit u
+wakes_woken s u t i c d x y e by said h w apart first here there gone listed at calls wakes =
+    wakes_still woken u t c d
+    (record { off = off; room = room })
+    (set_elsewhere s.calls e.thread t (Some y) (eqb_false_symm e.thread t apart) ∙ here) at calls wakes
+  where
+    woken : State
+    woken = record s { calls = slice_set s.calls e.thread (Some y); wakes = remove s.wakes i }
+
+    same_wakeup : {f g : Wakeup} → Some f ≡ Some g → f ≡ g
+    same_wakeup e = cc
+
+    low : e.thread < length s.calls
+    low = call_within s e.thread x there
+
+    off : (q b : ℕ) (z : Call) (told : Told) → call_of (slice_set s.calls e.thread (Some y)) q ≡ Some z → z.spot ≡ spot.Off b told → IsOwed (remove s.wakes i) b q
+    off q b z told is out = by_eqb q e.thread (IsOwed (remove s.wakes i) b q)
+        (λ f. absurd (off_listed (sym out ∙ (ap (λ (a : Call). a.spot) (sym (same_call (sym (set_here s.calls e.thread (Some y) low) ∙ (ap (call_of (slice_set s.calls e.thread (Some y))) (sym f) ∙ is)))) ∙ listed))))
+        (λ f.
+        let old = w.off q b z told (sym (set_elsewhere s.calls e.thread q (Some y) f) ∙ is) out in
+        let left = kept_remove s.wakes i old.0 old.1 old.2 (λ at. eqb-false q e.thread f (sym old.4 ∙ ap (λ (a : Wakeup). a.thread) (same_wakeup (sym old.2 ∙ (ap (slice_get s.wakes) at ∙ first))))) in
+        (left.0, old.1, left.1, old.3, old.4))
+
+    room : length (remove s.wakes i) ≡ count_by is_away (slice_set s.calls e.thread (Some y))
+    room =
+        let change : count_by is_away (slice_set s.calls e.thread (Some y)) + flag (is_away (Some x)) ≡ count_by is_away s.calls + flag (is_away (Some y)) = count_by-set is_away s.calls e.thread (Some x) (Some y) (slot_of s.calls e.thread low ∙ ap (λ o. Some o) there) in
+        let one : flag (is_away (Some x)) ≡ 1 = ap (λ a. flag (is_off a)) gone in
+        let none : flag (is_away (Some y)) ≡ 0 = ap (λ a. flag (is_off a)) listed in
+        let less : length (remove s.wakes i) + 1 ≡ length s.wakes = length-remove s.wakes i (slice_get_within s.wakes i e first) in
+        let old : length s.wakes ≡ count_by is_away s.calls = w.room in
+        omega arith

@@ -1,0 +1,22 @@
+use Rattle.std.proofs.Common.{◌≡◌, ℕ, ◌+◌, ◌%◌, ◌^◌, sym, ap, ◌∙◌, subst}
+use Rattle.parking_lot_cores.specs.declared.act.Seen.TheVariants as seen
+use Rattle.parking_lot_world.specs.declared.seat.Call.{Call}
+use Rattle.parking_lot_world.specs.Rows.{Rows, State, state}
+use Rattle.parking_lot_world.specs.RowActs.{with_call, with_word, hears}
+use Rattle.parking_lot_world.specs.RowFits.{FitsTogether}
+use Rattle.parking_lot_world.proofs.Acting.{laws}
+use Rattle.parking_lot_world.proofs.row_machine.RowMachine.add.Goals as goal
+
+-- src/acts.rt:66:5
+pub returns : goal.returns
+returns g c =
+    let done : State → Call → ℕ → State = λ s next word. with_word (with_call s c.args.thread next) c.args.call.lock ((word + c.args.by) % 2 ^ 64) in
+    let s : State = state c.args.self.now in
+    ap (λ (m : Rows). done (state m) c.told.result c.word-word.result) c.self.view_is
+    ∙ ap (λ next. done s next c.word-word.result) c.told.ensures
+    ∙ ap (λ w. done s (hears c.args.call (seen.Before w)) w) c.word-word.ensures
+
+-- src/acts.rt:66:5
+pub invariant_of-self : goal.invariant_of-self
+invariant_of-self g c =
+    subst FitsTogether (sym (returns g c)) (laws.add (state c.args.self.now) c.args.thread c.args.call c.args.by c.requires.asked (subst (λ (m : Rows). FitsTogether (state m)) c.self.view_is c.self.invariant) c.requires.here).1.fits

@@ -1,0 +1,16 @@
+use Rattle.std.proofs.Common.{◌≡◌, sym, ap, ◌∙◌, subst}
+use Rattle.parking_lot_world.specs.Rows.{Rows, state}
+use Rattle.parking_lot_world.specs.RowActs.{with_call}
+use Rattle.parking_lot_world.specs.RowFits.{FitsTogether}
+use Rattle.parking_lot_world.proofs.Acting.{laws}
+use Rattle.parking_lot_world.proofs.row_machine.RowMachine.begin_call.Goals as goal
+
+-- src/acts.rt:198:5
+pub returns : goal.returns
+returns g c =
+    ap (λ (m : Rows). with_call (state m) c.args.thread c.told.result) c.self.view_is ∙ ap (with_call (state c.args.self.now) c.args.thread) c.told.ensures
+
+-- src/acts.rt:198:5
+pub invariant_of-self : goal.invariant_of-self
+invariant_of-self g c =
+    subst FitsTogether (sym (returns g c)) (laws.begin (state c.args.self.now) c.args.thread c.args.call (subst (λ (m : Rows). FitsTogether (state m)) c.self.view_is c.self.invariant) c.requires.may).fits

@@ -1,0 +1,26 @@
+use Rattle.std.proofs.Common.{◌≡◌, false, sym, ap, ◌∙◌, subst}
+use Rattle.parking_lot_core.specs.Machine.{Machine, closed, machine}
+use Rattle.parking_lot_core.specs.Sound.{Sound}
+use Rattle.parking_lot_world.specs.declared.seat.Call.{Call}
+use Rattle.parking_lot_world.specs.Rows.{Rows, State, state}
+use Rattle.parking_lot_world.specs.RowActs.{with_call, with_lot}
+use Rattle.parking_lot_world.specs.RowFits.{FitsTogether}
+use Rattle.parking_lot_world.proofs.Acting.{laws}
+use Rattle.parking_lot_world.proofs.row_machine.RowMachine.leave.Goals as goal
+
+-- src/acts.rt:170:5
+pub returns : goal.returns
+returns g c =
+    let done : State → Call → Machine → State = λ s next lot. with_lot (with_call s c.args.thread next) lot in
+    let s : State = state c.args.self.now in
+    ap (λ (m : Rows). done (state m) c.told.result (machine c.leave.new.lot)) c.self.view_is
+    ∙ ap (done s c.told.result) (c.leave.ensures.closed ∙ ap (λ (m : Rows). closed (machine m.lot) false) c.self.view_is)
+    ∙ ap (λ next. done s next (closed s.lot false)) c.told.ensures
+
+-- src/acts.rt:170:5
+pub invariant_of-self : goal.invariant_of-self
+invariant_of-self g c =
+    let e = returns g c in
+    subst FitsTogether (sym e)
+    (laws.leave (state c.args.self.now) c.args.thread c.args.call c.requires.asked (subst Sound (ap (λ (s : State). s.lot) e) c.leave.ensures.sound)
+      (subst (λ (m : Rows). FitsTogether (state m)) c.self.view_is c.self.invariant) c.requires.here).1.fits

@@ -1,0 +1,99 @@
+//! Calls on the lot where they are never refused.
+ghost use Rattle.std.specs.Prelude.{◌≡◌, None, Some, if◌then◌else◌, MatchOption, false};
+ghost use Rattle.parking_lot_core.specs.declared.place.Phase.TheVariants as phase;
+ghost use Rattle.parking_lot_core.specs.declared.place.Section.{Section};
+ghost use Rattle.parking_lot_core.specs.Places.{may_check, may_join, may_store, may_take};
+ghost use Rattle.parking_lot_core.specs.Sound.{Sound};
+ghost use Rattle.parking_lot_core.specs.Machine.{machine, any_phase, closed, enter_fault, in_phase, joined, opened, section_of, step_fault, stored};
+
+use parking_lot_core::{
+    DEFAULT_UNPARK_TOKEN, FilterOp, Lot, ParkResult, ParkToken, Taking, UnparkToken,
+};
+use parking_lot_cores::wake_sum;
+use std::alloc::Allocator;
+
+/// Opens a section of a key.
+pub(crate) fn enter<A: Allocator>(lot: &mut Lot<A>, thread: usize, key: usize)
+    requires free { enter_fault (machine lot.old) thread ≡ None }
+    ensures opened { machine lot.new ≡ opened (machine lot.old) (Some thread) key }
+    ensures sound { Sound (machine lot.new) }
+{
+    let _ = lot.enter(thread, key);
+    lot.known();
+}
+
+/// Says in a section whether its thread is to join the list.
+pub(crate) fn check<A: Allocator>(lot: &mut Lot<A>, thread: usize, joins: bool)
+    requires inside { step_fault may_check (machine lot.old) thread ≡ None }
+    ensures checked { machine lot.new ≡ in_phase (machine lot.old) (if joins then phase.Valid else phase.Invalid) }
+    ensures sound { Sound (machine lot.new) }
+{
+    let _ = lot.check(thread, joins);
+    lot.known();
+}
+
+/// Says in a section that its store is made.
+pub(crate) fn store<A: Allocator>(lot: &mut Lot<A>, thread: usize, token: UnparkToken)
+    requires inside { step_fault may_store (machine lot.old) thread ≡ None }
+    ensures stored { machine lot.new ≡ stored (machine lot.old) token }
+    ensures sound { Sound (machine lot.new) }
+{
+    let _ = lot.store_done(thread, token);
+    lot.known();
+}
+
+/// Closes a section.
+pub(crate) fn leave<A: Allocator>(lot: &mut Lot<A>, thread: usize)
+    requires inside { step_fault any_phase (machine lot.old) thread ≡ None }
+    ensures closed { machine lot.new ≡ closed (machine lot.old) false }
+    ensures sound { Sound (machine lot.new) }
+{
+    let _ = lot.leave(thread);
+    lot.known();
+}
+
+/// Puts the section's thread at the end of its list. It has no deadline.
+pub(crate) fn append<A: Allocator>(lot: &mut Lot<A>, thread: usize, token: ParkToken)
+    requires inside { step_fault may_join (machine lot.old) thread ≡ None }
+    ensures joined { (s : Section) → section_of (machine lot.old) thread ≡ Some s → machine lot.new ≡ joined (in_phase (machine lot.old) phase.Joined) thread s.key token false }
+    ensures sound { Sound (machine lot.new) }
+{
+    let _ = lot.append(thread, token, false);
+    lot.known();
+}
+
+/// Takes the first waiter of the section's list, whatever it waits for.
+pub(crate) fn take_first<A: Allocator>(lot: &mut Lot<A>, thread: usize) -> Option<Taking>
+    requires inside { step_fault may_take (machine lot.old) thread ≡ None }
+    ensures sound { Sound (machine lot.new) }
+{
+    let taking = lot.take_next(thread, |_| FilterOp::Unpark).ok().flatten();
+    lot.known();
+    taking
+}
+
+/// Takes the first waiter of the section's list that a scan may take at that sum of tokens.
+pub(crate) fn take_next<A: Allocator>(lot: &mut Lot<A>, thread: usize, sum: u64) -> Option<Taking>
+    requires inside { step_fault may_take (machine lot.old) thread ≡ None }
+    ensures sound { Sound (machine lot.new) }
+{
+    let taking = lot
+        .take_next(thread, |token| wake_sum(sum, token))
+        .ok()
+        .flatten();
+    lot.known();
+    taking
+}
+
+/// Wakes a thread that was taken, and has it run. Answers the token that it was told.
+pub(crate) fn rouse<A: Allocator>(lot: &mut Lot<A>, thread: usize, mark: u64) -> UnparkToken
+    ensures sound { Sound (machine lot.new) }
+{
+    lot.wake(thread, mark);
+    let token = match lot.resume(thread, |_, _| {}) {
+        Ok(ParkResult::Unparked(token)) => token,
+        _ => DEFAULT_UNPARK_TOKEN,
+    };
+    lot.known();
+    token
+}

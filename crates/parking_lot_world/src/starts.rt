@@ -1,0 +1,115 @@
+//! How calls begin.
+ghost use Rattle.std.specs.Prelude.{◌≡◌};
+ghost use Rattle.parking_lot_world.specs.Beginnings.{AllowedCallsBeginWell, core_of, excludes, holds_beside, is_allowed, owns_nothing, shares};
+
+use crate::calls::LockCall;
+use crate::seat::{Core, Hold};
+use parking_lot_cores::{MutexCore, RwCore};
+
+impl LockCall {
+    /// The core of such a call, before it begins.
+    pub(crate) fn core(&self) -> Core
+        ensures { result ≡ core_of self.now }
+    {
+        match self {
+            LockCall::Lock => Core::Mutex(MutexCore::lock()),
+            LockCall::TryLock => Core::Mutex(MutexCore::try_lock()),
+            LockCall::Unlock => Core::Mutex(MutexCore::unlock()),
+            LockCall::Read => Core::Rw(RwCore::lock_shared(false)),
+            LockCall::TryRead => Core::Rw(RwCore::try_lock_shared(false)),
+            LockCall::UnlockRead => Core::Rw(RwCore::unlock_shared()),
+            LockCall::Write => Core::Rw(RwCore::lock_exclusive()),
+            LockCall::TryWrite => Core::Rw(RwCore::try_lock_exclusive()),
+            LockCall::UnlockWrite => Core::Rw(RwCore::unlock_exclusive()),
+            LockCall::Downgrade => Core::Rw(RwCore::downgrade()),
+        }
+    }
+}
+
+impl Hold {
+    /// Whether one that owns a lock so may ask that of it.
+    pub fn allows(&self, call: LockCall) -> bool
+        ensures { result ≡ is_allowed self.now call }
+    {
+        match call {
+            LockCall::Lock | LockCall::TryLock => self.is_none(),
+            LockCall::Read | LockCall::TryRead => self.is_none(),
+            LockCall::Write | LockCall::TryWrite => self.is_none(),
+            LockCall::UnlockRead => self.shares(),
+            LockCall::Unlock | LockCall::UnlockWrite | LockCall::Downgrade => self.excludes(),
+        }
+    }
+
+    fn is_none(&self) -> bool
+        ensures { result ≡ owns_nothing self.now }
+    {
+        match self {
+            Hold::Shares(holds) => *holds == 0,
+            Hold::Excludes => false,
+        }
+    }
+
+    fn shares(&self) -> bool
+        ensures { result ≡ shares self.now }
+    {
+        match self {
+            Hold::Shares(holds) => *holds > 0,
+            Hold::Excludes => false,
+        }
+    }
+
+    fn excludes(&self) -> bool
+        ensures { result ≡ excludes self.now }
+    {
+        match self {
+            Hold::Shares(_) => false,
+            Hold::Excludes => true,
+        }
+    }
+
+    /// How many shared holds it is beside one that is given up.
+    pub fn beside(&self) -> u8
+        ensures { result ≡ holds_beside self.now }
+    {
+        match self {
+            Hold::Shares(holds) => holds.saturating_sub(1),
+            Hold::Excludes => 0,
+        }
+    }
+}
+
+/// A call that is allowed begins as a step of the rules can: of a thread in the role that it has, outside of sections, with nobody taken.
+pub fn allowed_calls_begin_well()
+    ensures { AllowedCallsBeginWell }
+{}
+
+#[cfg(test)]
+mod tests {
+    use crate::calls::LockCall;
+    use crate::seat::Hold;
+
+    #[test]
+    fn who_owns_a_lock_only_gives_it_up(rt: HostRuntime) {
+        let asks = [
+            LockCall::Lock,
+            LockCall::TryLock,
+            LockCall::Read,
+            LockCall::TryRead,
+            LockCall::Write,
+            LockCall::TryWrite,
+        ];
+        for call in asks {
+            assert!(rt; Hold::Shares(0).allows(call), "{call:?}");
+            assert!(rt; !Hold::Shares(1).allows(call), "a reader, {call:?}");
+            assert!(rt; !Hold::Excludes.allows(call), "an owner, {call:?}");
+        }
+        for call in [LockCall::Unlock, LockCall::UnlockWrite, LockCall::Downgrade] {
+            assert!(rt; !Hold::Shares(0).allows(call), "{call:?}");
+            assert!(rt; !Hold::Shares(1).allows(call), "a reader, {call:?}");
+            assert!(rt; Hold::Excludes.allows(call), "an owner, {call:?}");
+        }
+        assert!(rt; !Hold::Shares(0).allows(LockCall::UnlockRead));
+        assert!(rt; Hold::Shares(1).allows(LockCall::UnlockRead));
+        assert!(rt; !Hold::Excludes.allows(LockCall::UnlockRead));
+    }
+}
