@@ -1,4 +1,3 @@
-<<<<<<< HEAD
 -- What the machine keeps of threads at a mutex is what the rules say of them.
 use Rattle.std.proofs.Common.{◌≡◌, ◌≢◌, ℕ, ◌/◌, ◌%◌, ◌-◌, nat_lt, ◌==◌, Bool, true, false, cond, List, [], Some, None, slice_get, refl, sym, ap, ◌∙◌, eq-eqb}
 use Rattle.parking_lot_core.specs.declared.parking.ParkToken.{ParkToken}
@@ -6,15 +5,6 @@ use Rattle.parking_lot_core.specs.declared.place.Waiter.{Waiter}
 use Rattle.parking_lot_core.specs.Results.{is_left}
 use Rattle.parking_lot_rules.specs.Roles.{Open, Asleep}
 use Rattle.parking_lot_rules.specs.Mutex as rules
-=======
--- A store that tells the one whom a thread has taken: a step of the rules at a mutex.
-use Rattle.std.proofs.Common.{◌≡◌, ◌≢◌, ℕ, ◌*◌, ◌<◌, inl, inr, ◌==◌, cond, Bool, true, false, List, length, map, Option, Some, None, slice_get, slice_set, refl, sym, ap, ◌∙◌, subst, eq-eqb}
-use Rattle.std.specs.Option.{option_map}
-use Rattle.std.proofs.lemmas.Bool.{cases_eq, ne_eqb}
-use Rattle.parking_lot_core.specs.declared.parking.UnparkToken.{UnparkToken}
-use Rattle.parking_lot_rules.specs.Roles.{Open}
-use Rattle.parking_lot_rules.specs.Mutex as mutex
->>>>>>> 84087e5a8866ac05b1234c19167d4276ceb95b22
 use Rattle.parking_lot_cores.specs.declared.act.Act.{Act}
 use Rattle.parking_lot_cores.specs.declared.act.Act.TheVariants as act
 use Rattle.parking_lot_cores.specs.declared.act.SectionAct.TheVariants as section
@@ -37,32 +27,11 @@ use Rattle.parking_lot_world.specs.declared.seat.Spot.TheVariants as spot
 use Rattle.parking_lot_world.specs.declared.seat.Core.{Core}
 use Rattle.parking_lot_world.specs.declared.seat.Core.TheVariants as core
 use Rattle.parking_lot_world.specs.declared.seat.Call.{Call}
-<<<<<<< HEAD
 use Rattle.parking_lot_world.specs.Rows.{mark_of, mutex_spot, mutex_core_role, owns_mutex, first_of_all}
 use Rattle.parking_lot_world.specs.RowActs.{settled_spot, mutex_hold_after}
 use Rattle.parking_lot_world.specs.RowFits.{mutex_knows}
 use Rattle.parking_lot_world.specs.MutexLaws.{TellingsSettle, HoldsAreAnswered, TakersKnow, MutexIsShown, settle_spot}
 use Rattle.parking_lot_world.proofs.MutexRoles.{settled as settled_role, opener}
-=======
-use Rattle.parking_lot_world.specs.Rows.{State, word_at, call_at, hold_at, taken_by, owns_mutex, mark_of, first_of_all, mutex_spot, mutex_role_in, mutex_role_at, mutex_core_role, mutex_word_of, mutex_at}
-use Rattle.parking_lot_world.specs.Stances.{In, Stores, Tells, sign, mutex_stance, taken_count, core_act, core_next, core_tells}
-use Rattle.parking_lot_world.specs.RowActs.{settled_spot, settled, told_of}
-use Rattle.parking_lot_world.specs.RowFits.{FitsTogether, RulesFit, IsOfKind, IsPrepared, KnowsList, mutex_knows}
-use Rattle.parking_lot_world.specs.RowSteps.{IsMutexMove, IsMoveOf}
-use Rattle.parking_lot_world.specs.MutexLaws.{Plays, IsTelling, mutex_of}
-use Rattle.parking_lot_world.proofs.Acting.{word-here, has_word}
-use Rattle.parking_lot_world.proofs.Everybody.{all, get-all, settle-all}
-use Rattle.parking_lot_world.proofs.Lifting.{IsThere, mutex_there, same_mutex}
-use Rattle.parking_lot_world.proofs.Making.{mutex_goes}
-use Rattle.parking_lot_world.proofs.Meeting.{in_range}
-use Rattle.parking_lot_world.proofs.MutexMoving.{steps}
-use Rattle.parking_lot_world.proofs.MutexRoles.{roles}
-use Rattle.parking_lot_world.proofs.OwnActs.{plays}
-use Rattle.parking_lot_world.proofs.Owning.{mutex_lists}
-use Rattle.parking_lot_world.proofs.Ruling.{mutex_move_sound}
-use Rattle.parking_lot_world.proofs.Settling.{told_state, next_call, told_here, told_others, told_threads, told_elsewhere, rules_told}
-use Rattle.parking_lot_world.proofs.Telling.{inside_stored, in_asleep}
->>>>>>> 84087e5a8866ac05b1234c19167d4276ceb95b22
 
 -- ONE TELLS
 

@@ -23,17 +23,13 @@ use Rattle.parking_lot_world.specs.ActLaws.{Keeps}
 use Rattle.parking_lot_world.specs.TellLaws.{IsDue, TellsAreSteps}
 use Rattle.parking_lot_world.proofs.LotActs.{same_parts}
 use Rattle.parking_lot_world.proofs.LotStores.{stores_fit}
-<<<<<<< HEAD
-use Rattle.parking_lot_world.proofs.MutexStoring.{mutex_store, mutex_stores}
-=======
 use Rattle.parking_lot_world.proofs.LotWakes.{woke_fits}
 use Rattle.parking_lot_world.proofs.MutexRousing.{mutex_wakes, mutex_wake}
+use Rattle.parking_lot_world.proofs.MutexStoring.{mutex_store, mutex_stores}
 use Rattle.parking_lot_world.proofs.OwnActs.{two_kinds}
-use Rattle.parking_lot_world.proofs.MutexTelling.{mutex_store, mutex_stores}
 use Rattle.parking_lot_world.proofs.Resuming.{goes_on}
 use Rattle.parking_lot_world.proofs.Rousing.{is_due, first_is_by, same_lock, wakes_roused}
 use Rattle.parking_lot_world.proofs.RwRousing.{rw_wakes, rw_wake}
->>>>>>> 84087e5a8866ac05b1234c19167d4276ceb95b22
 use Rattle.parking_lot_world.proofs.Settling.{told_state, wakes_told}
 use Rattle.parking_lot_world.proofs.Stancing.{leads_by, wakes_some}
 use Rattle.parking_lot_world.proofs.Telling.{rw_stores, rw_store, rw_mask}
