@@ -52,6 +52,7 @@ mod MutexTelling
 mod Rousing
 mod RwRousing
 mod MutexRousing
+mod Resuming
 mod TellActs
 pub mod RwTelling
 pub mod RwSleeping
