@@ -129,7 +129,7 @@ cells_apart locks x i t j bi bj e = elim (cases_lt x t) [
     ]
   ]
 
-cell_within : (threads locks t j : ℕ) → t < threads → j < locks → t * locks + j < threads * locks
+pub cell_within : (threads locks t j : ℕ) → t < threads → j < locks → t * locks + j < threads * locks
 cell_within threads locks t j bt bj = omega (arith, rows_apart locks t threads bt, bj)
 
 abbrev read : List Hold → ℕ → Hold

@@ -3,6 +3,7 @@ mod Lifting
 mod Making
 mod Meeting
 mod Calling
+mod Holding
 mod OwnMoves
 mod Owning
 mod Knowing

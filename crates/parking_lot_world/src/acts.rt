@@ -21,9 +21,16 @@ use std::alloc::Allocator;
 fn settle(calls: &mut [Option<Call>], by: usize, said: Told)
     ensures { calls.new ≡ map (option_map (settled by said)) calls.old }
 {
-    for at in 0..calls.len() {
-        calls[at] = calls[at].map(|call| call.settled(by, said));
+    for call in calls.iter_mut() {
+        *call = settled(*call, by, said);
     }
+}
+
+/// The same of one thread.
+fn settled(call: Option<Call>, by: usize, said: Told) -> Option<Call>
+    ensures { result ≡ option_map (settled by said) call }
+{
+    call.map(|call| call.settled(by, said))
 }
 
 impl<A: Allocator> RowMachine<A> {

@@ -1,0 +1,40 @@
+use Rattle.std.proofs.Common.{◌≡◌, ◌<◌, Bool, cond, sym, ap, ◌∙◌, subst, arith}
+use Rattle.parking_lot_core.specs.declared.place.Phase.TheVariants as phase
+use Rattle.parking_lot_core.specs.Machine.{Machine, in_phase, machine}
+use Rattle.parking_lot_core.specs.Sound.{Sound}
+use Rattle.parking_lot_cores.specs.declared.act.Seen.TheVariants as seen
+use Rattle.parking_lot_world.specs.declared.seat.Call.{Call}
+use Rattle.parking_lot_world.specs.Rows.{Rows, State, state}
+use Rattle.parking_lot_world.specs.Stances.{stance}
+use Rattle.parking_lot_world.specs.RowActs.{with_call, with_lot, hears, joins}
+use Rattle.parking_lot_world.specs.RowFits.{FitsTogether}
+use Rattle.parking_lot_world.proofs.Acting.{laws}
+use Rattle.parking_lot_world.proofs.Holding.{fits, held, low}
+use Rattle.parking_lot_world.proofs.LotCalls.{lot_never_refuses}
+use Rattle.parking_lot_world.proofs.row_machine.RowMachine.check.Goals as goal
+
+-- src/acts.rt:108:9
+pub check-requires : goal.check-requires
+check-requires g c =
+    record { inside = lot_never_refuses.checks _ c.args.thread c.args.call (c.self.invariant.lots, held c.args.thread c.args.call c.self.view_is c.requires.here, c.requires.asked) }
+
+-- src/acts.rt:109:9
+pub index_mut-requires : goal.index_mut-requires
+index_mut-requires g c = omega (arith, low c.args.thread c.args.call c.self.view_is c.requires.here, c.self.inside.calls.ok.0)
+
+-- src/acts.rt:102:5
+pub returns : goal.returns
+returns g c =
+    let s : State = state c.args.self.now in
+    let valid : Machine → Bool → Machine = λ lot b. in_phase lot (cond b phase.Valid phase.Invalid) in
+    let done : State → Call → Machine → State = λ s next lot. with_lot (with_call s c.args.thread next) lot in
+    ap (λ (m : Rows). done (state m) c.told-next.result (machine c.check.new.lot)) c.self.view_is
+    ∙ ap (done s c.told-next.result) (c.check.ensures.checked ∙ ap (λ (m : Rows). valid (machine m.lot) c.joins.result) c.self.view_is ∙ ap (valid s.lot) c.joins.ensures)
+    ∙ ap (λ (next : Call). done s next (valid s.lot (joins (stance next.core)))) (c.told-next.ensures ∙ ap (λ w. hears c.args.call (seen.Word w)) c.word.ensures)
+
+-- src/acts.rt:102:5
+pub invariant_of-self : goal.invariant_of-self
+invariant_of-self g c =
+    let e = returns g c in
+    subst FitsTogether (sym e)
+    (laws.check (state c.args.self.now) c.args.thread c.args.call c.requires.asked (subst Sound (ap (λ (s : State). s.lot) e) c.check.ensures.sound) (fits c.self.view_is c.self.invariant) c.requires.here).1.fits
