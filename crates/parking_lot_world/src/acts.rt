@@ -1,5 +1,5 @@
 //! What each act of a call does to the machine.
-ghost use Rattle.std.specs.Prelude.{◌≡◌, ◌<◌, ◌≤◌, ◌+◌, ◌*◌, ◌%◌, ◌^◌, length, map, slice_get, Some, None};
+ghost use Rattle.std.specs.Prelude.{◌≡◌, ◌<◌, ◌≤◌, ℕ, ◌+◌, ◌*◌, ◌%◌, ◌^◌, length, map, slice_get, Some, None};
 ghost use Rattle.std.specs.Option.{option_map};
 ghost use Rattle.parking_lot_cores.specs.declared.act.Act.TheVariants as act;
 ghost use Rattle.parking_lot_cores.specs.declared.act.SectionAct.TheVariants as section;
