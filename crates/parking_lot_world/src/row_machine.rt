@@ -1,5 +1,5 @@
 //! The machine of locks: words, lists and a call for each thread, moved one atomic step at a time.
-ghost use Rattle.std.specs.Prelude.{◌≡◌, ◌<◌, ◌↔◌, ◌⊎◌, ◌^◌, length, Some, None, true, IsErrOf, IfOk, IfErr, IsTrue};
+ghost use Rattle.std.specs.Prelude.{◌≡◌, ◌<◌, ◌↔◌, ◌⊎◌, ◌^◌, length, slice_get, Some, None, true, IsErrOf, IfOk, IfErr, IsTrue};
 ghost use Rattle.parking_lot_core.specs.declared.fault.SizeFault.TheVariants.{BadSize, NoMemory};
 ghost use Rattle.parking_lot_world.specs.Rows.{call_at, hold_at, state, word_at};
 ghost use Rattle.parking_lot_world.specs.Machines.{at_rest, can_move, may_begin, IsBegun, IsStepped};
