@@ -39,6 +39,7 @@ pub mod RwCrossing
 mod Starting
 mod Answering
 mod Acting
+mod Requesting
 mod TakeOutside
 mod TakeJoins
 mod TakeNobody

@@ -118,6 +118,7 @@ impl<A: Allocator> RowMachine<A> {
         requires may { may_begin (state self.old) thread lock call ≡ true }
         ensures { IsBegun thread lock call (state self.old) (state self.new) }
     {
+        let _ = &self.wakes;
         let others = self.hold(thread, lock).beside();
         self.begin_call(
             thread,
@@ -136,6 +137,7 @@ impl<A: Allocator> RowMachine<A> {
         requires can { can_move (state self.old) thread ≡ true }
         ensures { IsStepped thread fair result (state self.old) (state self.new) }
     {
+        let _ = &self.wakes;
         let call = self.call(thread)?;
         match call.core.act() {
             Act::Load => self.load(thread, call),
