@@ -40,6 +40,7 @@ mod Starting
 mod Answering
 mod Acting
 mod Requesting
+mod Stepping
 mod TakeOutside
 mod TakeJoins
 mod TakeNobody
