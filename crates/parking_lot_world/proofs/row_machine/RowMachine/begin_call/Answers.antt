@@ -1,8 +1,9 @@
-use Rattle.std.proofs.Common.{◌≡◌, sym, ap, ◌∙◌, subst}
+use Rattle.std.proofs.Common.{sym, ap, ◌∙◌, subst}
 use Rattle.parking_lot_world.specs.Rows.{Rows, state}
 use Rattle.parking_lot_world.specs.RowActs.{with_call}
 use Rattle.parking_lot_world.specs.RowFits.{FitsTogether}
 use Rattle.parking_lot_world.proofs.Acting.{laws}
+use Rattle.parking_lot_world.proofs.Holding.{fits}
 use Rattle.parking_lot_world.proofs.row_machine.RowMachine.begin_call.Goals as goal
 
 -- src/acts.rt:198:5
@@ -13,4 +14,4 @@ returns g c =
 -- src/acts.rt:198:5
 pub invariant_of-self : goal.invariant_of-self
 invariant_of-self g c =
-    subst FitsTogether (sym (returns g c)) (laws.begin (state c.args.self.now) c.args.thread c.args.call (subst (λ (m : Rows). FitsTogether (state m)) c.self.view_is c.self.invariant) c.requires.may).fits
+    subst FitsTogether (sym (returns g c)) (laws.begin (state c.args.self.now) c.args.thread c.args.call (fits c.self.view_is c.self.invariant) c.requires.may).fits

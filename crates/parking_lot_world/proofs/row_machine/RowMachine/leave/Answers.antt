@@ -1,4 +1,4 @@
-use Rattle.std.proofs.Common.{◌≡◌, false, sym, ap, ◌∙◌, subst}
+use Rattle.std.proofs.Common.{false, sym, ap, ◌∙◌, subst}
 use Rattle.parking_lot_core.specs.Machine.{Machine, closed, machine}
 use Rattle.parking_lot_core.specs.Sound.{Sound}
 use Rattle.parking_lot_world.specs.declared.seat.Call.{Call}
@@ -6,6 +6,7 @@ use Rattle.parking_lot_world.specs.Rows.{Rows, State, state}
 use Rattle.parking_lot_world.specs.RowActs.{with_call, with_lot}
 use Rattle.parking_lot_world.specs.RowFits.{FitsTogether}
 use Rattle.parking_lot_world.proofs.Acting.{laws}
+use Rattle.parking_lot_world.proofs.Holding.{fits}
 use Rattle.parking_lot_world.proofs.row_machine.RowMachine.leave.Goals as goal
 
 -- src/acts.rt:170:5
@@ -23,4 +24,4 @@ invariant_of-self g c =
     let e = returns g c in
     subst FitsTogether (sym e)
     (laws.leave (state c.args.self.now) c.args.thread c.args.call c.requires.asked (subst Sound (ap (λ (s : State). s.lot) e) c.leave.ensures.sound)
-      (subst (λ (m : Rows). FitsTogether (state m)) c.self.view_is c.self.invariant) c.requires.here).1.fits
+    (fits c.self.view_is c.self.invariant) c.requires.here).1.fits
