@@ -1,8 +1,11 @@
 //! Calls on the lot where they are never refused.
-ghost use Rattle.std.specs.Prelude.{◌≡◌, None, Some, if◌then◌else◌, MatchOption, false};
+ghost use Rattle.std.specs.Prelude.{◌≡◌, None, Some, if◌then◌else◌, MatchOption, false, slice_set};
 ghost use Rattle.parking_lot_core.specs.declared.place.Phase.TheVariants as phase;
+ghost use Rattle.parking_lot_core.specs.declared.parking.UnparkToken.{UnparkToken};
+ghost use Rattle.parking_lot_core.specs.declared.place.Place.TheVariants.{Running, Taken};
 ghost use Rattle.parking_lot_core.specs.declared.place.Section.{Section};
-ghost use Rattle.parking_lot_core.specs.Places.{may_check, may_join, may_store, may_take};
+ghost use Rattle.parking_lot_core.specs.declared.place.Sleep.{Sleep};
+ghost use Rattle.parking_lot_core.specs.Places.{place_at, may_check, may_join, may_store, may_take};
 ghost use Rattle.parking_lot_core.specs.Sound.{Sound};
 ghost use Rattle.parking_lot_core.specs.Machine.{machine, any_phase, closed, enter_fault, in_phase, joined, opened, section_of, step_fault, stored};
 
@@ -87,6 +90,9 @@ pub(crate) fn take_next<A: Allocator>(lot: &mut Lot<A>, thread: usize, sum: u64)
 
 /// Wakes a thread that was taken, and has it run. Answers the token that it was told.
 pub(crate) fn rouse<A: Allocator>(lot: &mut Lot<A>, thread: usize, mark: u64) -> UnparkToken
+    requires told { (token : UnparkToken) × (sleep : Sleep) × (place_at (machine lot.old).places thread ≡ Some (Taken token sleep false)) × (sleep.late ≡ false) × (sleep.mark ≡ mark) }
+    ensures token { (token : UnparkToken) (sleep : Sleep) → place_at (machine lot.old).places thread ≡ Some (Taken token sleep false) → result ≡ token }
+    ensures runs { machine lot.new ≡ record (machine lot.old) { places = slice_set (machine lot.old).places thread (Some Running) } }
     ensures sound { Sound (machine lot.new) }
 {
     lot.wake(thread, mark);
