@@ -24,7 +24,7 @@ module _ {F : Type 0} (gives : F → ParkToken → FilterOp → F → Type 0) (f
       ((result ≡ Ok (option_map (taking_of old) (slice_get queue at))) × (new ≡ taken (in_phase old (phase.Taking at)) key at))
       ((result ≡ Ok None) × (new ≡ in_phase old phase.Ended))
 
-  by_queue : (queue : List Waiter) → old.queues key ≡ queue → ((w : Waiter) (f g : F) (op : FilterOp) → slice_get queue 0 ≡ Some w → gives f w.token op g → op ≡ Unpark)
+  by_queue : (queue : List Waiter) → old.queues key ≡ queue → ((w : Waiter) (g : F) (op : FilterOp) → slice_get queue 0 ≡ Some w → gives filter w.token op g → op ≡ Unpark)
       → (answers : List FilterOp) (last : F) → Answers gives is_no_skip filter (tokens_of queue) answers last → After queue answers 0 → FrontTaken old new result key
   by_queue [] e wants [] last given after = inr (e, after.0, after.1)
   by_queue [] e wants (op ∷ ops) last given after = absurd given
@@ -35,18 +35,18 @@ module _ {F : Type 0} (gives : F → ParkToken → FilterOp → F → Type 0) (f
       ends ops none after =
           let at_once : After (w ∷ ws) (Unpark ∷ []) 0 = subst (λ (xs : List FilterOp). After (w ∷ ws) (Unpark ∷ xs) 0) none after in
           inl (w, ap (λ (q : List Waiter). slice_get q 0) e, at_once.0, at_once.1)
-  by_queue (w ∷ ws) e wants (Skip ∷ ops) last given after = absurd (skip≢unpark (wants w filter given.0 Skip refl given.1))
+  by_queue (w ∷ ws) e wants (Skip ∷ ops) last given after = absurd (skip≢unpark (wants w given.0 Skip refl given.1))
     where
       skip≢unpark : Skip ≡ Unpark → ⊥
       skip≢unpark e = cc
-  by_queue (w ∷ ws) e wants (Stop ∷ ops) last given after = absurd (stop≢unpark (wants w filter given.0 Stop refl given.1))
+  by_queue (w ∷ ws) e wants (Stop ∷ ops) last given after = absurd (stop≢unpark (wants w given.0 Stop refl given.1))
     where
       stop≢unpark : Stop ≡ Unpark → ⊥
       stop≢unpark e = cc
 
 -- the same, of the lot's own clause
 pub first_taken : {F : Type 0} (gives : F → ParkToken → FilterOp → F → Type 0) (filter : F) (o : Section) (old new : Machine) (result : Result (Option Taking) LotFault) → passed_of o.phase ≡ 0
-    → ((w : Waiter) (f g : F) (op : FilterOp) → slice_get (old.queues o.key) 0 ≡ Some w → gives f w.token op g → op ≡ Unpark)
+    → ((w : Waiter) (g : F) (op : FilterOp) → slice_get (old.queues o.key) 0 ≡ Some w → gives filter w.token op g → op ≡ Unpark)
     → TakesNext gives filter o old result new → FrontTaken old new result o.key
 first_taken {F} gives filter o old new result none wants takes =
     by_queue gives filter old new result o.key (old.queues o.key) refl wants takes.0 takes.1
