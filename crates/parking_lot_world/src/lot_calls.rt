@@ -76,7 +76,12 @@ pub(crate) fn take_first<A: Allocator>(lot: &mut Lot<A>, thread: usize) -> Optio
     ensures front { (s : Section) → section_of (machine lot.old) thread ≡ Some s → FrontTaken (machine lot.old) (machine lot.new) (Ok result) s.key }
     ensures sound { Sound (machine lot.new) }
 {
-    let taking = lot.take_next(thread, |_| FilterOp::Unpark).ok().flatten();
+    let wants = |_token: ParkToken| -> FilterOp
+        ensures { result ≡ Unpark }
+    {
+        FilterOp::Unpark
+    };
+    let taking = lot.take_next(thread, wants).ok().flatten();
     lot.known();
     taking
 }
@@ -89,10 +94,12 @@ pub(crate) fn take_next<A: Allocator>(lot: &mut Lot<A>, thread: usize, sum: u64)
     ensures front { (s : Section) → section_of (machine lot.old) thread ≡ Some s → FrontTaken (machine lot.old) (machine lot.new) (Ok result) s.key }
     ensures sound { Sound (machine lot.new) }
 {
-    let taking = lot
-        .take_next(thread, |token| wake_sum(sum, token))
-        .ok()
-        .flatten();
+    let wants = |token: ParkToken| -> FilterOp
+        ensures { result ≡ wake_answer sum token.0 }
+    {
+        wake_sum(sum, token)
+    };
+    let taking = lot.take_next(thread, wants).ok().flatten();
     lot.known();
     taking
 }
