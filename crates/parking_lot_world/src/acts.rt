@@ -1,14 +1,9 @@
 //! What each act of a call does to the machine.
-<<<<<<< HEAD
 ghost use Rattle.std.specs.Prelude.{◌≡◌, ◌<◌, ◌≤◌, ℕ, ◌+◌, ◌*◌, ◌%◌, ◌^◌, length, map, slice_get, Some, None, if◌then◌else◌};
-ghost use Rattle.std.specs.Option.{option_map};
-=======
-ghost use Rattle.std.specs.Prelude.{◌≡◌, ◌<◌, ◌≤◌, ℕ, ◌+◌, ◌*◌, ◌%◌, ◌^◌, length, map, slice_get, Some, None};
+ghost use Rattle.std.specs.Option.{option_map, option_and_then};
 ghost use Rattle.std.specs.List.{position_or_len};
-ghost use Rattle.std.specs.Option.{option_and_then, option_map};
 ghost use Rattle.parking_lot_cores.specs.declared.act.Seen.TheVariants as seen;
 ghost use Rattle.parking_lot_world.specs.declared.seat.Spot.TheVariants as spot;
->>>>>>> 1a9210acec09f077ae2a2b2838bc83b836f93744
 ghost use Rattle.parking_lot_cores.specs.declared.act.Act.TheVariants as act;
 ghost use Rattle.parking_lot_cores.specs.declared.act.SectionAct.TheVariants as section;
 ghost use Rattle.parking_lot_cores.specs.declared.act.CoreAnswer.{CoreAnswer};

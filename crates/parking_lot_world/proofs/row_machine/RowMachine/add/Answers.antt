@@ -1,16 +1,11 @@
-<<<<<<< HEAD
 use Rattle.parking_lot_world.proofs.Calling.{room_set}
 use Rattle.std.proofs.Common.{◌≡◌, ℕ, ◌+◌, ◌%◌, ◌^◌, sym, ap, ◌∙◌, subst}
-=======
-use Rattle.std.proofs.Common.{ℕ, ◌+◌, ◌%◌, ◌^◌, sym, ap, ◌∙◌, subst}
->>>>>>> 0eeb5c833cbefd600cace3be5f5d858a792429e6
 use Rattle.parking_lot_cores.specs.declared.act.Seen.TheVariants as seen
 use Rattle.parking_lot_world.specs.declared.seat.Call.{Call}
 use Rattle.parking_lot_world.specs.Rows.{Rows, State, state}
 use Rattle.parking_lot_world.specs.RowActs.{with_call, with_word, hears}
 use Rattle.parking_lot_world.specs.RowFits.{FitsTogether}
 use Rattle.parking_lot_world.proofs.Acting.{laws}
-use Rattle.parking_lot_world.proofs.Holding.{fits}
 use Rattle.parking_lot_world.proofs.row_machine.RowMachine.add.Goals as goal
 
 -- src/acts.rt:66:5
@@ -24,12 +19,7 @@ returns g c =
 
 -- src/acts.rt:66:5
 pub invariant_of-self : goal.invariant_of-self
-<<<<<<< HEAD
 invariant_of-self g c = (
   subst FitsTogether (sym (returns g c)) (laws.add (state c.args.self.now) c.args.thread c.args.call c.args.by c.requires.asked (subst (λ (m : Rows). FitsTogether (state m)) c.self.view_is c.self.invariant.0) c.requires.here).1.fits,
   room_set _ _ _ _ c.self.invariant.1,
 )
-=======
-invariant_of-self g c =
-    subst FitsTogether (sym (returns g c)) (laws.add (state c.args.self.now) c.args.thread c.args.call c.args.by c.requires.asked (fits c.self.view_is c.self.invariant) c.requires.here).1.fits
->>>>>>> 0eeb5c833cbefd600cace3be5f5d858a792429e6

@@ -1,9 +1,5 @@
-<<<<<<< HEAD
 use Rattle.parking_lot_world.proofs.Calling.{room_set}
 use Rattle.std.proofs.Common.{◌≡◌, ◌<◌, ℕ, ◌==◌, Bool, cond, true, false, sym, ap, ◌∙◌, subst, arith, eq-eqb}
-=======
-use Rattle.std.proofs.Common.{Bool, cond, sym, ap, ◌∙◌, subst, arith, eq-eqb}
->>>>>>> 0eeb5c833cbefd600cace3be5f5d858a792429e6
 use Rattle.std.proofs.lemmas.Bool.{ne_eqb}
 use Rattle.parking_lot_cores.specs.declared.act.Seen.TheVariants as seen
 use Rattle.parking_lot_world.specs.declared.seat.Call.{Call}

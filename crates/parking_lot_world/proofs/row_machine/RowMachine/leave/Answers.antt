@@ -1,9 +1,5 @@
-<<<<<<< HEAD
 use Rattle.parking_lot_world.proofs.Calling.{room_set}
 use Rattle.std.proofs.Common.{◌≡◌, false, sym, ap, ◌∙◌, subst}
-=======
-use Rattle.std.proofs.Common.{false, sym, ap, ◌∙◌, subst}
->>>>>>> 0eeb5c833cbefd600cace3be5f5d858a792429e6
 use Rattle.parking_lot_core.specs.Machine.{Machine, closed, machine}
 use Rattle.parking_lot_core.specs.Sound.{Sound}
 use Rattle.parking_lot_world.specs.declared.seat.Call.{Call}
@@ -11,7 +7,6 @@ use Rattle.parking_lot_world.specs.Rows.{Rows, State, state}
 use Rattle.parking_lot_world.specs.RowActs.{with_call, with_lot}
 use Rattle.parking_lot_world.specs.RowFits.{FitsTogether}
 use Rattle.parking_lot_world.proofs.Acting.{laws}
-use Rattle.parking_lot_world.proofs.Holding.{fits}
 use Rattle.parking_lot_world.proofs.row_machine.RowMachine.leave.Goals as goal
 
 -- src/acts.rt:170:5
@@ -25,7 +20,6 @@ returns g c =
 
 -- src/acts.rt:170:5
 pub invariant_of-self : goal.invariant_of-self
-<<<<<<< HEAD
 invariant_of-self g c = (
   let e = returns g c in
       subst FitsTogether (sym e)
@@ -33,10 +27,3 @@ invariant_of-self g c = (
       (subst (λ (m : Rows). FitsTogether (state m)) c.self.view_is c.self.invariant.0) c.requires.here).1.fits,
   room_set _ _ _ _ c.self.invariant.1,
 )
-=======
-invariant_of-self g c =
-    let e = returns g c in
-    subst FitsTogether (sym e)
-    (laws.leave (state c.args.self.now) c.args.thread c.args.call c.requires.asked (subst Sound (ap (λ (s : State). s.lot) e) c.leave.ensures.sound)
-    (fits c.self.view_is c.self.invariant) c.requires.here).1.fits
->>>>>>> 0eeb5c833cbefd600cace3be5f5d858a792429e6
