@@ -1,5 +1,5 @@
 //! The Arc forms of a reentrant mutex.
-ghost use Rattle.std.specs.Prelude.{◌≡◌, IfSome, IfOk};
+ghost use Rattle.std.specs.Prelude.{◌≡◌, IfSome, IfOk, OnErr};
 ghost use Rattle.std.specs.Arc.{arc_value};
 ghost use Rattle.std.specs.Fn.{FnOnceReturnsAt};
 
@@ -41,7 +41,8 @@ where
         this: &Arc<ReentrantMutex<R, G, T>, A>,
         party: &mut R::Party,
     ) -> Result<ArcReentrantMutexGuard<R, G, T, A>, ReentrantArcFault>
-        ensures { IfOk result (λ guard. arc_value guard.hold.lock ≡ arc_value this.now) }
+        ensures lock { IfOk result (λ guard. arc_value guard.hold.lock ≡ arc_value this.now) }
+        ensures refused { OnErr result (party.new ≡ party.old) }
     {
         let lock = Arc::try_clone(this)?;
         let token = lock.raw.lock(party)?;
@@ -76,7 +77,8 @@ where
     where
         R: RawMutexTimed,
         R::Duration: Drop,
-        ensures { IfOk result (λ some. IfSome some (λ guard. arc_value guard.hold.lock ≡ arc_value this.now)) }
+        ensures lock { IfOk result (λ some. IfSome some (λ guard. arc_value guard.hold.lock ≡ arc_value this.now)) }
+        ensures refused { OnErr result (party.new ≡ party.old) }
     {
         let lock = Arc::try_clone(this)?;
         match lock.raw.try_lock_for(timeout, clock, party)? {
@@ -97,7 +99,8 @@ where
     where
         R: RawMutexTimed,
         R::Instant: Drop,
-        ensures { IfOk result (λ some. IfSome some (λ guard. arc_value guard.hold.lock ≡ arc_value this.now)) }
+        ensures lock { IfOk result (λ some. IfSome some (λ guard. arc_value guard.hold.lock ≡ arc_value this.now)) }
+        ensures refused { OnErr result (party.new ≡ party.old) }
     {
         let lock = Arc::try_clone(this)?;
         match lock.raw.try_lock_until(deadline, clock, party)? {

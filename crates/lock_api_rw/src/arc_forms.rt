@@ -1,5 +1,5 @@
 //! The Arc forms of the reader-writer lock.
-ghost use Rattle.std.specs.Prelude.{◌≡◌, IfOk, IfSome};
+ghost use Rattle.std.specs.Prelude.{◌≡◌, IfOk, IfSome, OnErr};
 ghost use Rattle.std.specs.Arc.{arc_value};
 
 use crate::arc_guard::ArcGuard;
@@ -31,7 +31,8 @@ where
         this: &Arc<RwLock<R, T>, A>,
         party: &mut R::Party,
     ) -> Result<ArcRwLockReadGuard<R, T, A>, NoMemory>
-        ensures { IfOk result (λ guard. arc_value guard.hold.place ≡ arc_value this.now) }
+        ensures lock { IfOk result (λ guard. arc_value guard.hold.place ≡ arc_value this.now) }
+        ensures refused { OnErr result (party.new ≡ party.old) }
     {
         let arc = Arc::try_clone(this)?;
         Ok(ArcGuard::over(RawHold::wait(arc, party)))
@@ -52,7 +53,8 @@ where
         this: &Arc<RwLock<R, T>, A>,
         party: &mut R::Party,
     ) -> Result<ArcRwLockWriteGuard<R, T, A>, NoMemory>
-        ensures { IfOk result (λ guard. arc_value guard.hold.place ≡ arc_value this.now) }
+        ensures lock { IfOk result (λ guard. arc_value guard.hold.place ≡ arc_value this.now) }
+        ensures refused { OnErr result (party.new ≡ party.old) }
     {
         let arc = Arc::try_clone(this)?;
         Ok(ArcGuard::over(RawHold::wait(arc, party)))
@@ -82,7 +84,8 @@ where
     ) -> Result<Option<ArcRwLockReadGuard<R, T, A>>, NoMemory>
     where
         R::Duration: Drop,
-        ensures { IfOk result (λ found. IfSome found (λ guard. arc_value guard.hold.place ≡ arc_value this.now)) }
+        ensures lock { IfOk result (λ found. IfSome found (λ guard. arc_value guard.hold.place ≡ arc_value this.now)) }
+        ensures refused { OnErr result (party.new ≡ party.old) }
     {
         let arc = Arc::try_clone(this)?;
         Ok(ArcGuard::if_held(RawHold::wait_for(arc, timeout, clock, party)))
@@ -97,7 +100,8 @@ where
     ) -> Result<Option<ArcRwLockReadGuard<R, T, A>>, NoMemory>
     where
         R::Instant: Drop,
-        ensures { IfOk result (λ found. IfSome found (λ guard. arc_value guard.hold.place ≡ arc_value this.now)) }
+        ensures lock { IfOk result (λ found. IfSome found (λ guard. arc_value guard.hold.place ≡ arc_value this.now)) }
+        ensures refused { OnErr result (party.new ≡ party.old) }
     {
         let arc = Arc::try_clone(this)?;
         Ok(ArcGuard::if_held(RawHold::wait_until(arc, deadline, clock, party)))
@@ -112,7 +116,8 @@ where
     ) -> Result<Option<ArcRwLockWriteGuard<R, T, A>>, NoMemory>
     where
         R::Duration: Drop,
-        ensures { IfOk result (λ found. IfSome found (λ guard. arc_value guard.hold.place ≡ arc_value this.now)) }
+        ensures lock { IfOk result (λ found. IfSome found (λ guard. arc_value guard.hold.place ≡ arc_value this.now)) }
+        ensures refused { OnErr result (party.new ≡ party.old) }
     {
         let arc = Arc::try_clone(this)?;
         Ok(ArcGuard::if_held(RawHold::wait_for(arc, timeout, clock, party)))
@@ -127,7 +132,8 @@ where
     ) -> Result<Option<ArcRwLockWriteGuard<R, T, A>>, NoMemory>
     where
         R::Instant: Drop,
-        ensures { IfOk result (λ found. IfSome found (λ guard. arc_value guard.hold.place ≡ arc_value this.now)) }
+        ensures lock { IfOk result (λ found. IfSome found (λ guard. arc_value guard.hold.place ≡ arc_value this.now)) }
+        ensures refused { OnErr result (party.new ≡ party.old) }
     {
         let arc = Arc::try_clone(this)?;
         Ok(ArcGuard::if_held(RawHold::wait_until(arc, deadline, clock, party)))
@@ -143,7 +149,8 @@ where
         this: &Arc<RwLock<R, T>, A>,
         party: &mut R::Party,
     ) -> Result<ArcRwLockUpgradableReadGuard<R, T, A>, NoMemory>
-        ensures { IfOk result (λ guard. arc_value guard.hold.place ≡ arc_value this.now) }
+        ensures lock { IfOk result (λ guard. arc_value guard.hold.place ≡ arc_value this.now) }
+        ensures refused { OnErr result (party.new ≡ party.old) }
     {
         let arc = Arc::try_clone(this)?;
         Ok(ArcGuard::over(RawHold::wait(arc, party)))
@@ -173,7 +180,8 @@ where
     ) -> Result<Option<ArcRwLockUpgradableReadGuard<R, T, A>>, NoMemory>
     where
         R::Duration: Drop,
-        ensures { IfOk result (λ found. IfSome found (λ guard. arc_value guard.hold.place ≡ arc_value this.now)) }
+        ensures lock { IfOk result (λ found. IfSome found (λ guard. arc_value guard.hold.place ≡ arc_value this.now)) }
+        ensures refused { OnErr result (party.new ≡ party.old) }
     {
         let arc = Arc::try_clone(this)?;
         Ok(ArcGuard::if_held(RawHold::wait_for(arc, timeout, clock, party)))
@@ -188,7 +196,8 @@ where
     ) -> Result<Option<ArcRwLockUpgradableReadGuard<R, T, A>>, NoMemory>
     where
         R::Instant: Drop,
-        ensures { IfOk result (λ found. IfSome found (λ guard. arc_value guard.hold.place ≡ arc_value this.now)) }
+        ensures lock { IfOk result (λ found. IfSome found (λ guard. arc_value guard.hold.place ≡ arc_value this.now)) }
+        ensures refused { OnErr result (party.new ≡ party.old) }
     {
         let arc = Arc::try_clone(this)?;
         Ok(ArcGuard::if_held(RawHold::wait_until(arc, deadline, clock, party)))

@@ -2,6 +2,7 @@
 ghost use Rattle.std.specs.Prelude.{◌≡◌, Some};
 ghost use Rattle.std.specs.Borrow.{Lends, sem};
 ghost use Rattle.lock_api_raw.specs.Parts.{then_focus};
+ghost use Rattle.lock_api_rw.specs.Holds.{WasReleasedBy};
 ghost use Rattle.lock_api_rw.specs.Narrowing.{Narrows};
 ghost use Rattle.lock_api_rw.specs.contracts.mapped.Mapped.{the_row};
 
@@ -183,7 +184,9 @@ where
     H::Runtime: Wait,
 {
     /// Ends the guard by a fair release.
-    pub fn unlock_fair(s: Mapped<W, H, P>) {
+    pub fn unlock_fair(s: Mapped<W, H, P>)
+        ensures { WasReleasedBy H.left_fairly s.0.held.0 }
+    {
         let Mapped { guard, by: _ } = s;
         Guard::unlock_fair(guard);
     }
