@@ -34,8 +34,7 @@ where
         ensures lock { IfOk result (λ guard. arc_value guard.hold.place ≡ arc_value this.now) }
         ensures refused { OnErr result (party.new ≡ party.old) }
     {
-        let arc = Arc::try_clone(this)?;
-        Ok(ArcGuard::over(RawHold::wait(arc, party)))
+        Ok(ArcGuard::over(RawHold::wait_by_clone(this, party)?))
     }
 
     /// Clones the Arc, and then tries: None where the hold can't be had. A refused clone takes no lock.
@@ -44,8 +43,7 @@ where
     ) -> Result<Option<ArcRwLockReadGuard<R, T, A>>, NoMemory>
         ensures { IfOk result (λ found. IfSome found (λ guard. arc_value guard.hold.place ≡ arc_value this.now)) }
     {
-        let arc = Arc::try_clone(this)?;
-        Ok(ArcGuard::if_held(RawHold::at_once(arc)))
+        Ok(ArcGuard::if_held(RawHold::at_once_by_clone(this)?))
     }
 
     /// Clones the Arc, and then waits for an exclusive hold. A refused clone takes no lock.
@@ -56,8 +54,7 @@ where
         ensures lock { IfOk result (λ guard. arc_value guard.hold.place ≡ arc_value this.now) }
         ensures refused { OnErr result (party.new ≡ party.old) }
     {
-        let arc = Arc::try_clone(this)?;
-        Ok(ArcGuard::over(RawHold::wait(arc, party)))
+        Ok(ArcGuard::over(RawHold::wait_by_clone(this, party)?))
     }
 
     /// Clones the Arc, and then tries: None where the hold can't be had. A refused clone takes no lock.
@@ -66,8 +63,7 @@ where
     ) -> Result<Option<ArcRwLockWriteGuard<R, T, A>>, NoMemory>
         ensures { IfOk result (λ found. IfSome found (λ guard. arc_value guard.hold.place ≡ arc_value this.now)) }
     {
-        let arc = Arc::try_clone(this)?;
-        Ok(ArcGuard::if_held(RawHold::at_once(arc)))
+        Ok(ArcGuard::if_held(RawHold::at_once_by_clone(this)?))
     }
 }
 
@@ -87,8 +83,8 @@ where
         ensures lock { IfOk result (λ found. IfSome found (λ guard. arc_value guard.hold.place ≡ arc_value this.now)) }
         ensures refused { OnErr result (party.new ≡ party.old) }
     {
-        let arc = Arc::try_clone(this)?;
-        Ok(ArcGuard::if_held(RawHold::wait_for(arc, timeout, clock, party)))
+        let found = RawHold::wait_by_clone_for(this, timeout, clock, party)?;
+        Ok(ArcGuard::if_held(found))
     }
 
     /// Clones the Arc, and then waits: None if the wait is given up at the moment. A refused clone takes no lock.
@@ -103,8 +99,8 @@ where
         ensures lock { IfOk result (λ found. IfSome found (λ guard. arc_value guard.hold.place ≡ arc_value this.now)) }
         ensures refused { OnErr result (party.new ≡ party.old) }
     {
-        let arc = Arc::try_clone(this)?;
-        Ok(ArcGuard::if_held(RawHold::wait_until(arc, deadline, clock, party)))
+        let found = RawHold::wait_by_clone_until(this, deadline, clock, party)?;
+        Ok(ArcGuard::if_held(found))
     }
 
     /// Clones the Arc, and then waits: None if the wait is given up after the length of time. A refused clone takes no lock.
@@ -119,8 +115,8 @@ where
         ensures lock { IfOk result (λ found. IfSome found (λ guard. arc_value guard.hold.place ≡ arc_value this.now)) }
         ensures refused { OnErr result (party.new ≡ party.old) }
     {
-        let arc = Arc::try_clone(this)?;
-        Ok(ArcGuard::if_held(RawHold::wait_for(arc, timeout, clock, party)))
+        let found = RawHold::wait_by_clone_for(this, timeout, clock, party)?;
+        Ok(ArcGuard::if_held(found))
     }
 
     /// Clones the Arc, and then waits: None if the wait is given up at the moment. A refused clone takes no lock.
@@ -135,8 +131,8 @@ where
         ensures lock { IfOk result (λ found. IfSome found (λ guard. arc_value guard.hold.place ≡ arc_value this.now)) }
         ensures refused { OnErr result (party.new ≡ party.old) }
     {
-        let arc = Arc::try_clone(this)?;
-        Ok(ArcGuard::if_held(RawHold::wait_until(arc, deadline, clock, party)))
+        let found = RawHold::wait_by_clone_until(this, deadline, clock, party)?;
+        Ok(ArcGuard::if_held(found))
     }
 }
 
@@ -152,8 +148,7 @@ where
         ensures lock { IfOk result (λ guard. arc_value guard.hold.place ≡ arc_value this.now) }
         ensures refused { OnErr result (party.new ≡ party.old) }
     {
-        let arc = Arc::try_clone(this)?;
-        Ok(ArcGuard::over(RawHold::wait(arc, party)))
+        Ok(ArcGuard::over(RawHold::wait_by_clone(this, party)?))
     }
 
     /// Clones the Arc, and then tries: None where the hold can't be had. A refused clone takes no lock.
@@ -162,8 +157,7 @@ where
     ) -> Result<Option<ArcRwLockUpgradableReadGuard<R, T, A>>, NoMemory>
         ensures { IfOk result (λ found. IfSome found (λ guard. arc_value guard.hold.place ≡ arc_value this.now)) }
     {
-        let arc = Arc::try_clone(this)?;
-        Ok(ArcGuard::if_held(RawHold::at_once(arc)))
+        Ok(ArcGuard::if_held(RawHold::at_once_by_clone(this)?))
     }
 }
 
@@ -183,8 +177,8 @@ where
         ensures lock { IfOk result (λ found. IfSome found (λ guard. arc_value guard.hold.place ≡ arc_value this.now)) }
         ensures refused { OnErr result (party.new ≡ party.old) }
     {
-        let arc = Arc::try_clone(this)?;
-        Ok(ArcGuard::if_held(RawHold::wait_for(arc, timeout, clock, party)))
+        let found = RawHold::wait_by_clone_for(this, timeout, clock, party)?;
+        Ok(ArcGuard::if_held(found))
     }
 
     /// Clones the Arc, and then waits: None if the wait is given up at the moment. A refused clone takes no lock.
@@ -199,7 +193,7 @@ where
         ensures lock { IfOk result (λ found. IfSome found (λ guard. arc_value guard.hold.place ≡ arc_value this.now)) }
         ensures refused { OnErr result (party.new ≡ party.old) }
     {
-        let arc = Arc::try_clone(this)?;
-        Ok(ArcGuard::if_held(RawHold::wait_until(arc, deadline, clock, party)))
+        let found = RawHold::wait_by_clone_until(this, deadline, clock, party)?;
+        Ok(ArcGuard::if_held(found))
     }
 }

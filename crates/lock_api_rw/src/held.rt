@@ -286,7 +286,7 @@ impl<H: UpgradeHold, W> Held<H, W> {
 
     /// As `upgrade` if no other reader is left, and else unchanged.
     pub fn try_upgrade(self) -> Result<Held<H::Alone, W>, Held<H, W>>
-        ensures { MatchResult result (λ held. H.Alone.lock_of held.0 ≡ H.lock_of self.0) (λ held. held ≡ self) }
+        ensures { MatchResult result (λ held. (H.Alone.lock_of held.0 ≡ H.lock_of self.0) × (held.1 ≡ self.1)) (λ held. held ≡ self) }
     {
         let Held { hold, lent, by } = self;
         match hold.try_upgrade() {
@@ -307,7 +307,7 @@ where
         clock: &C,
         party: &mut H::Party,
     ) -> Result<Held<H::Alone, W>, Held<H, W>>
-        ensures { MatchResult result (λ held. H.Alone.lock_of held.0 ≡ H.lock_of self.0) (λ held. held ≡ self) }
+        ensures { MatchResult result (λ held. (H.Alone.lock_of held.0 ≡ H.lock_of self.0) × (held.1 ≡ self.1)) (λ held. held ≡ self) }
     {
         let Held { hold, lent, by } = self;
         match hold.try_upgrade_for(timeout, clock, party) {
@@ -323,7 +323,7 @@ where
         clock: &C,
         party: &mut H::Party,
     ) -> Result<Held<H::Alone, W>, Held<H, W>>
-        ensures { MatchResult result (λ held. H.Alone.lock_of held.0 ≡ H.lock_of self.0) (λ held. held ≡ self) }
+        ensures { MatchResult result (λ held. (H.Alone.lock_of held.0 ≡ H.lock_of self.0) × (held.1 ≡ self.1)) (λ held. held ≡ self) }
     {
         let Held { hold, lent, by } = self;
         match hold.try_upgrade_until(deadline, clock, party) {
