@@ -49,12 +49,7 @@ where
         ensures { IfOk result (λ some. IfSome some (λ guard. arc_value guard.hold.lock ≡ arc_value this.now)) }
     {
         let lock = Arc::try_clone(this)?;
-        match lock.raw.try_lock() {
-            Some(token) => Ok(Some(ArcGuard {
-                hold: OwnedMutex { lock, token },
-            })),
-            None => Ok(None),
-        }
+        Ok(ArcGuard::if_held(OwnedMutex::at_once(lock)))
     }
 
     /// Clones the Arc, and then waits as `try_lock_for` does. A refused clone takes no lock.
@@ -99,6 +94,16 @@ where
             })),
             None => Ok(None),
         }
+    }
+}
+
+impl<R: RawMutex + Drop, T: Drop, A: Allocator> OwnedMutex<R, T, A> {
+    /// A hold at once, or None.
+    fn at_once(lock: Arc<Mutex<R, T>, A>) -> Option<OwnedMutex<R, T, A>>
+        ensures { IfSome result (λ hold. arc_value hold.lock ≡ arc_value lock) }
+    {
+        let token = lock.raw.try_lock()?;
+        Some(OwnedMutex { lock, token })
     }
 }
 
