@@ -7,7 +7,7 @@ use crate::arc_fault::ReentrantArcFault;
 use crate::reentrant::ReentrantMutex;
 use lock_api_raw::{GetThreadId, GuardNoSend, RawMutex, RawMutexFair, RawMutexTimed};
 use lock_api_rw::{ArcGuard, ArcHold, FairHold, HasValue, Hold, ReentrantHold, lent};
-use std::alloc::Allocator;
+use std::alloc::{Allocator, Global};
 use std::rt::Clock;
 use std::sync::{Arc, Wait};
 
@@ -30,7 +30,7 @@ where
 ///
 /// It keeps the token alone, and takes the std lock of the value inside `with`. Its drop takes one from the count, and
 /// then lets the Arc go.
-pub type ArcReentrantMutexGuard<R, G, T, A> = ArcGuard<OwnedReentrant<R, G, T, A>>;
+pub type ArcReentrantMutexGuard<R, G, T, A = Global> = ArcGuard<OwnedReentrant<R, G, T, A>>;
 
 impl<R: RawMutex + Drop, G: GetThreadId<Party = R::Party> + Drop, T: Drop> ReentrantMutex<R, G, T>
 where

@@ -20,8 +20,7 @@ impl<L: HasRaw + Drop, A: Allocator, M: Mode<L::Raw>> RawHold<Arc<L, A>, M> {
         ensures lock { IfOk result (λ hold. arc_value hold.place ≡ arc_value this.now) }
         ensures refused { OnErr result (party.new ≡ party.old) }
     {
-        let arc = Arc::try_clone(this)?;
-        Ok(RawHold::wait(arc, party))
+        Ok(RawHold::wait(Arc::try_clone(this)?, party))
     }
 
     /// Clones the Arc, and then tries. A refused clone takes no lock.
@@ -30,8 +29,7 @@ impl<L: HasRaw + Drop, A: Allocator, M: Mode<L::Raw>> RawHold<Arc<L, A>, M> {
     ) -> Result<Option<RawHold<Arc<L, A>, M>>, NoMemory>
         ensures { IfOk result (λ found. IfSome found (λ hold. arc_value hold.place ≡ arc_value this.now)) }
     {
-        let arc = Arc::try_clone(this)?;
-        Ok(RawHold::at_once(arc))
+        Ok(RawHold::at_once(Arc::try_clone(this)?))
     }
 }
 
@@ -51,8 +49,7 @@ where
         ensures lock { IfOk result (λ found. IfSome found (λ hold. arc_value hold.place ≡ arc_value this.now)) }
         ensures refused { OnErr result (party.new ≡ party.old) }
     {
-        let arc = Arc::try_clone(this)?;
-        Ok(RawHold::wait_for(arc, timeout, clock, party))
+        Ok(RawHold::wait_for(Arc::try_clone(this)?, timeout, clock, party))
     }
 
     /// Clones the Arc, and then waits: None if the wait is given up at the moment.
@@ -67,7 +64,6 @@ where
         ensures lock { IfOk result (λ found. IfSome found (λ hold. arc_value hold.place ≡ arc_value this.now)) }
         ensures refused { OnErr result (party.new ≡ party.old) }
     {
-        let arc = Arc::try_clone(this)?;
-        Ok(RawHold::wait_until(arc, deadline, clock, party))
+        Ok(RawHold::wait_until(Arc::try_clone(this)?, deadline, clock, party))
     }
 }
