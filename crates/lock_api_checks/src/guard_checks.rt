@@ -1,4 +1,5 @@
 //! Checks of guards, whatever lock they are of. An error is the number of the step that went wrong.
+ghost use Rattle.std.specs.Prelude.{◌≡◌, ◌==◌, Bool, IsOk, Ok, Err, None, Some, if◌then◌else◌, true};
 
 use crate::parts::{First, Inside};
 use lock_api::{Guard, Mapped};
@@ -9,7 +10,9 @@ use std::fmt::{Debug, Display};
 use std::sync::Wait;
 
 /// Goes on where `holds` is true, and else says at which step it was not.
-fn step(number: u8, holds: bool) -> Result<(), u8> {
+fn step(number: u8, holds: bool) -> Result<(), u8>
+    ensures { result ≡ if holds then Ok tt else Err number }
+{
     if holds { Ok(()) } else { Err(number) }
 }
 
@@ -20,17 +23,20 @@ pub type Pair = (Option<u64>, u64);
 pub fn lends<W: Lender<Part = u64> + Drop, H: Hold>(guard: &Guard<W, H>, value: u64) -> bool
 where
     H::Runtime: Wait,
+    ensures { result ≡ (W.part guard.now.inner == value) }
 {
     **guard == value
 }
 
-/// Writes a number by a guard, and says whether the guard lends it then.
+/// Writes a number by a guard, and says whether the guard lends it then: it always does.
 pub fn writes<W: LenderMut<Part = u64> + Drop, H: Hold>(guard: &mut Guard<W, H>, value: u64) -> bool
 where
     H::Runtime: Wait,
+    ensures read { result ≡ true }
+    ensures lent { W.part guard.new.inner ≡ value }
 {
     **guard = value;
-    **guard == value
+    lends(guard, value)
 }
 
 /// Narrows a guard of (Some(7), 2) to its first field and then to the inside, and reads both.
@@ -39,6 +45,7 @@ pub fn reads_step_by_step<W: Lender<Part = Pair> + Drop, H: FairHold>(
 ) -> Result<(), u8>
 where
     H::Runtime: Wait,
+    ensures { W.part guard.inner ≡ (Some 7, 2) → IsOk result }
 {
     let first = Guard::map(guard, First);
     step(1, *first == Some(7))?;
@@ -58,6 +65,7 @@ pub fn narrows_step_by_step<W: LenderMut<Part = Pair> + Drop, H: FairHold>(
 ) -> Result<(), u8>
 where
     H::Runtime: Wait,
+    ensures { W.part guard.inner ≡ (Some 1, 2) → IsOk result }
 {
     let mut first = Guard::map(guard, First);
     step(1, *first == Some(1))?;
@@ -79,6 +87,7 @@ pub fn narrows_at_once<W: LenderMut<Part = Pair> + Drop, H: Hold>(
 ) -> Result<(), u8>
 where
     H::Runtime: Wait,
+    ensures { W.part guard.inner ≡ (Some 7, 2) → IsOk result }
 {
     match Guard::try_map(guard, Then::new(First, Inside)) {
         Ok(mut part) => {
@@ -99,6 +108,7 @@ pub fn keeps_what_has_no_part<W: Lender<Part = Pair> + Drop, H: Hold, F: Fn() ->
 where
     H::Runtime: Wait,
     requires { F.IsAlwaysCallable held.now }
+    ensures { W.part guard.inner ≡ (None, 2) → ((answer : Bool) → F.post held.now answer → answer ≡ true) → IsOk result }
 {
     let guard = match Guard::try_map(guard, Then::new(First, Inside)) {
         Ok(_) => return step(6, false),

@@ -77,7 +77,9 @@ where
     expect(is_written(&lock), "held after bump")?;
     let arc = ArcGuard::into_arc_fair(writer);
     expect(is_free(&arc), "into_arc_fair releases")?;
-    let mut reader = RwLock::read_arc(&arc, party)?;
+    let Some(mut reader) = RwLock::try_read_arc(&arc)? else {
+        return expect(false, "try_read_arc of a free lock: Some");
+    };
     let inside = ArcGuard::unlocked(&mut reader, party, || is_free(&lock));
     expect(inside && is_read(&lock), "unlocked of a read guard")?;
     ArcGuard::unlock_fair(reader);
@@ -88,13 +90,14 @@ where
 pub fn downgrades<R: RawRwLockDowngrade + Drop, A: Allocator + Copy>(
     alloc: A,
     source: R::Source,
-    party: &mut R::Party,
 ) -> Result<(), Wrong>
 where
     R::Runtime: Wait,
 {
     let lock = lock_in_arc::<R, A>(alloc, source, 5)?;
-    let mut writer = RwLock::write_arc(&lock, party)?;
+    let Some(mut writer) = RwLock::try_write_arc(&lock)? else {
+        return expect(false, "try_write_arc of a free lock: Some");
+    };
     writer.with_mut(|value| *value = 7);
     let reader = ArcGuard::downgrade(writer);
     expect(is_read(&lock), "beside a guard that was downgraded")?;

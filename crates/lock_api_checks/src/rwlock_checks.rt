@@ -226,20 +226,18 @@ where
     R::Runtime: Wait,
 {
     let lock = RwLock::<R, u64>::new(source, 4, 5)?;
-    let reader = lock.read(party);
     let text = format!(in alloc; "{lock:?}")?;
     expect(
         text.as_str() == "RwLock { data: 5 }",
-        "Debug of a lock that a reader could take",
+        "Debug of a free lock",
     )?;
-    let same = prints_its_value(alloc, &reader, "5 5")?;
+    let same = prints_its_value(alloc, &lock.read(party), "5 5")?;
     expect(same, "Debug and Display of a read guard")?;
-    drop(reader);
     let writer = lock.write(party);
     let text = format!(in alloc; "{lock:?}")?;
     expect(
         text.as_str() == "RwLock { data: <locked> }",
-        "Debug of a lock that is held alone",
+        "Debug of a lock that is written",
     )?;
     let same = prints_its_value(alloc, &writer, "5 5")?;
     expect(same, "Debug and Display of a write guard")

@@ -210,8 +210,8 @@ where
     expect(is_free(&lock), "unlock_fair releases")
 }
 
-/// An upgradable guard prints its value.
-pub fn prints<R: RawRwLockUpgrade + Drop, A: Allocator>(
+/// An upgradable guard prints its value, and so does the lock, which a reader may take beside it.
+pub fn prints<R: RawRwLockUpgrade + Drop, A: Allocator + Copy>(
     alloc: A,
     source: R::Source,
     party: &mut R::Party,
@@ -221,6 +221,11 @@ where
 {
     let lock = RwLock::<R, u64>::new(source, 4, 5)?;
     let upgradable = lock.upgradable_read(party);
+    let text = format!(in alloc; "{lock:?}")?;
+    expect(
+        text.as_str() == "RwLock { data: 5 }",
+        "Debug of a lock that is read",
+    )?;
     let same = prints_its_value(alloc, &upgradable, "5 5")?;
     expect(same, "Debug and Display of an upgradable guard")
 }

@@ -51,7 +51,7 @@ fn upgradable_guards_turn(rt: HostRuntime) -> Result<(), Fail> {
 #[test]
 fn arc_guards_own_their_lock(rt: HostRuntime) -> Result<(), Fail> {
     rwlock_arc_checks::owns_an_arc::<Raw, _>(rt.alloc(), rt, &mut 1)?;
-    rwlock_arc_checks::downgrades::<Raw, _>(rt.alloc(), rt, &mut 1)?;
+    rwlock_arc_checks::downgrades::<Raw, _>(rt.alloc(), rt)?;
     rwlock_arc_checks::upgrades::<Raw, _>(rt.alloc(), rt, &mut 1)?;
     rwlock_arc_checks::writes_upgraded::<Raw, _>(rt.alloc(), rt, &mut 1)?;
     Ok(())
