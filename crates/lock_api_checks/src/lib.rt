@@ -13,6 +13,7 @@ mod packed_lock;
 mod packed_mutex;
 mod parts;
 mod party;
+pub mod raw_checks;
 pub mod reentrant_checks;
 pub mod rwlock_arc_checks;
 pub mod rwlock_checks;

@@ -4,6 +4,7 @@ use crate::guard_checks::{
     Pair, keeps_what_has_no_part, lends, narrows_at_once, narrows_step_by_step, prints_its_first,
     prints_its_value, reads_step_by_step, writes,
 };
+use crate::raw_checks::TURNS;
 use crate::rwlock_seen::{is_free, is_read, is_written};
 use crate::wrong::{Wrong, expect};
 use lock_api::{RwLock, RwLockReadGuard, RwLockWriteGuard};
@@ -12,9 +13,6 @@ use std::alloc::Allocator;
 use std::sync::Wait;
 use std::thread;
 use std::thread::Threads;
-
-/// How often each of two threads takes the lock.
-const TURNS: u32 = 1_000;
 
 /// Beside a reader there are readers and no writer, and beside a writer nobody.
 pub fn admits_readers_or_a_writer<R: RawRwLock + Drop>(

@@ -1,6 +1,7 @@
 //! Checks of upgradable guards of the reader-writer lock.
 
 use crate::guard_checks::{lends, prints_its_value, writes};
+use crate::raw_checks::TURNS;
 use crate::rwlock_seen::{is_free, is_read, is_written};
 use crate::wrong::{Wrong, expect};
 use lock_api::{RwLock, RwLockUpgradableReadGuard, RwLockWriteGuard};
@@ -9,9 +10,6 @@ use std::alloc::Allocator;
 use std::sync::Wait;
 use std::thread;
 use std::thread::Threads;
-
-/// How often each of two threads takes the lock.
-const TURNS: u32 = 1_000;
 
 /// Beside an upgradable guard there are readers, and neither a writer nor another upgradable guard.
 pub fn admits_one<R: RawRwLockUpgrade + Drop>(

@@ -1,6 +1,9 @@
 //! The checks of the reader-writer lock, on the raw lock of the tests.
 
-use crate::{PackedLock, rwlock_arc_checks, rwlock_checks, rwlock_timed_checks, upgradable_checks};
+use crate::{
+    PackedLock, raw_checks, rwlock_arc_checks, rwlock_checks, rwlock_timed_checks,
+    upgradable_checks,
+};
 use std::test::Fail;
 
 type Raw = PackedLock<HostRuntime>;
@@ -76,6 +79,7 @@ fn timed_arc_forms_give_up(rt: HostRuntime) -> Result<(), Fail> {
 
 #[test]
 fn two_threads_take_turns(rt: HostRuntime) -> Result<(), Fail> {
+    raw_checks::a_rwlock_excludes::<Raw, _>(&rt, rt, &mut 1, &mut 2)?;
     rwlock_checks::excludes::<Raw, _>(&rt, rt, &mut 1, &mut 2)?;
     upgradable_checks::excludes::<Raw, _>(&rt, rt, &mut 1, &mut 2)?;
     Ok(())
