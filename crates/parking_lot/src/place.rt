@@ -1,0 +1,66 @@
+//! The row that a call runs on.
+ghost use Rattle.std.specs.Prelude.{◌≡◌, ◌/◌, ◌&&◌, nat_lt};
+
+use crate::word::READER;
+use parking_lot_world::{Act, Row, Seen, WordChange};
+use std::alloc::Allocator;
+use std::sync::Wait;
+
+/// A row, and the most readers that may be admitted there.
+#[derive(Drop)]
+pub(crate) struct Place<'r, 't, 'l, R, A: Allocator> {
+    pub row: &'r Row<'t, 'l, R, A>,
+    pub limit: u64,
+}
+
+impl<R, A: Allocator> Place<'_, '_, '_, R, A> {
+    /// Whether the exchange admits a reader more than may be.
+    pub fn is_full(&self, from: u64, to: u64) -> bool
+        ensures { result ≡ (nat_lt (from / 16) (to / 16) && nat_lt self.now.limit (to / 16)) }
+    {
+        from / READER < to / READER && self.limit < to / READER
+    }
+
+    /// The key of that number: 0 is the row's first, 1 its second.
+    pub fn key(&self, number: u8) -> usize {
+        if number == 0 {
+            self.row.first_key()
+        } else {
+            self.row.second_key()
+        }
+    }
+
+    /// Makes an act on the word, and tells what it gave. The acts of a section that are left, and the wakes after it, have
+    /// been made by the lot.
+    pub fn after(&self, act: Act) -> Seen {
+        match act {
+            Act::Load => Seen::Word(self.row.load()),
+            Act::Exchange(from, to) => self.exchange(from, to),
+            Act::Add(by) => Seen::Before(self.row.add(by)),
+            Act::Mask(keep) => Seen::Before(self.row.mask(keep)),
+            Act::Spin | Act::Enter(_) | Act::Section(_) | Act::Sleep | Act::Done(_) => Seen::Made,
+        }
+    }
+
+    /// Exchanges the word, and tells which it was.
+    fn exchange(&self, from: u64, to: u64) -> Seen {
+        match self.row.exchange(from, to) {
+            Ok(()) => Seen::Exchanged,
+            Err(word) => Seen::Word(word),
+        }
+    }
+}
+
+impl<R: Wait, A: Allocator> Place<'_, '_, '_, R, A> {
+    /// Changes the word in one step.
+    pub fn change(&self, change: WordChange) {
+        let mut word = self.row.load();
+        for _loss in self.row.lot().runtime().forever() {
+            match self.row.exchange(word, change.of(word)) {
+                Ok(()) => return,
+                Err(seen) => word = seen,
+            }
+        }
+        unreachable!()
+    }
+}
