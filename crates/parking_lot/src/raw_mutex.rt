@@ -2,7 +2,7 @@
 ghost use Rattle.std.specs.Prelude.{◌≡◌, ◌+◌, ◌*◌, ◌%◌, ◌^◌, IfOk, IfSome};
 
 use crate::place::Place;
-use lock_api_raw::{GuardSend, RawMutexFair, TableFull};
+use lock_api_raw::{GuardSend, RawMutex as _, RawMutexFair, TableFull};
 use parking_lot_core::ThreadData;
 use parking_lot_world::{CoreAnswer, LockTable, MutexCore, Row, Seen};
 use std::alloc::{Allocator, Global};
@@ -33,6 +33,13 @@ impl<'t, 'l, R, A: Allocator> RawMutex<'t, 'l, R, A> {
         GuardSend::new(&(self.row.first_key() as u64))
     }
 
+    /// Tries again where the first exchange is lost.
+    #[cold]
+    #[inline(never)]
+    fn try_slowly(&self) -> bool {
+        self.place().attempt(MutexCore::try_lock())
+    }
+
     /// A token of this lock for a hold that was taken.
     fn token_if(&self, taken: bool) -> Option<GuardSend>
         ensures { IfSome result (λ token. token ≡ (self.now.row.table.now.first_key + 2 * self.now.row.number) % 2 ^ 64) }
@@ -44,12 +51,31 @@ impl<'t, 'l, R, A: Allocator> RawMutex<'t, 'l, R, A> {
 impl<'t, 'l, R: Wait, A: Allocator> RawMutex<'t, 'l, R, A> {
     /// Asks until the mutex is owned.
     fn own(&self, core: MutexCore, party: &mut ThreadData<A>) {
-        for _call in self.row.lot().runtime().forever() {
+        for _call in self.runtime().forever() {
             if self.place().ask(core, party) == CoreAnswer::Owned {
                 return;
             }
         }
         unreachable!()
+    }
+
+    /// Asks for the mutex where it isn't had at once.
+    #[cold]
+    #[inline(never)]
+    fn lock_slowly(&self, party: &mut ThreadData<A>) {
+        self.own(MutexCore::lock(), party);
+    }
+
+    /// Gives the mutex up at this word, where threads may sleep.
+    #[cold]
+    #[inline(never)]
+    fn unlock_slowly(&self, fair: bool, word: u64) {
+        let core = if fair {
+            MutexCore::unlock_fair()
+        } else {
+            MutexCore::unlock()
+        };
+        self.place().give_up(core, Seen::Word(word));
     }
 }
 
@@ -87,14 +113,14 @@ impl<'t, 'l, R, A: Allocator> lock_api_raw::RawMutex for RawMutex<'t, 'l, R, A> 
         R: Wait,
     {
         if self.row.exchange(0, 1).is_err() {
-            self.own(MutexCore::lock(), party);
+            self.lock_slowly(party);
         }
         self.token()
     }
 
     #[inline(always)]
     fn try_lock(&self) -> Option<GuardSend> {
-        let taken = self.row.exchange(0, 1).is_ok() || self.place().attempt(MutexCore::try_lock());
+        let taken = self.row.exchange(0, 1).is_ok() || self.try_slowly();
         self.token_if(taken)
     }
 
@@ -105,7 +131,7 @@ impl<'t, 'l, R, A: Allocator> lock_api_raw::RawMutex for RawMutex<'t, 'l, R, A> 
     {
         guard.spend();
         if let Err(word) = self.row.exchange(1, 0) {
-            self.place().give_up(MutexCore::unlock(), Seen::Word(word));
+            self.unlock_slowly(false, word);
         }
     }
 
@@ -122,8 +148,7 @@ impl<'t, 'l, R, A: Allocator> RawMutexFair for RawMutex<'t, 'l, R, A> {
     {
         guard.spend();
         if let Err(word) = self.row.exchange(1, 0) {
-            self.place()
-                .give_up(MutexCore::unlock_fair(), Seen::Word(word));
+            self.unlock_slowly(true, word);
         }
     }
 

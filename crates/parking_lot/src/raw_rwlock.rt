@@ -5,7 +5,7 @@ ghost use Rattle.lock_api_raw.specs.Limits.{kept_limit};
 use crate::place::Place;
 use crate::word;
 use crate::word::{READER, WRITER};
-use lock_api_raw::{GuardSend, RawRwLockDowngrade, RawRwLockFair, TableFull};
+use lock_api_raw::{GuardSend, RawRwLock as _, RawRwLockDowngrade, RawRwLockFair, TableFull};
 use parking_lot_core::{ThreadData, thread_yield};
 use parking_lot_world::{CoreAnswer, LockTable, Row, RwCore, Seen};
 use std::alloc::{Allocator, Global};
@@ -51,6 +51,13 @@ impl<'t, 'l, R, const RECURSIVE: u8, A: Allocator> RawRwLock<'t, 'l, R, RECURSIV
         if taken { Some(self.token()) } else { None }
     }
 
+    /// Tries again where the first exchange is lost.
+    #[cold]
+    #[inline(never)]
+    fn try_slowly(&self, core: RwCore) -> bool {
+        self.place().attempt(core)
+    }
+
     /// Reads at once, where one exchange does it.
     #[inline(always)]
     fn reads_at_once(&self) -> bool {
@@ -63,7 +70,7 @@ impl<'t, 'l, R, const RECURSIVE: u8, A: Allocator> RawRwLock<'t, 'l, R, RECURSIV
 impl<'t, 'l, R: Wait, const RECURSIVE: u8, A: Allocator> RawRwLock<'t, 'l, R, RECURSIVE, A> {
     /// Asks until the lock is owned exclusively.
     fn own(&self, core: RwCore, party: &mut ThreadData<A>) {
-        for _call in self.row.lot().runtime().forever() {
+        for _call in self.runtime().forever() {
             if self.place().ask(core, party) == CoreAnswer::Owned {
                 return;
             }
@@ -75,7 +82,7 @@ impl<'t, 'l, R: Wait, const RECURSIVE: u8, A: Allocator> RawRwLock<'t, 'l, R, RE
     /// gives its hold back, and asks again.
     fn own_shared(&self, core: RwCore, party: &mut ThreadData<A>) {
         self.own(core, party);
-        for _call in self.row.lot().runtime().forever() {
+        for _call in self.runtime().forever() {
             if word::readers(self.row.load()) <= self.limit {
                 return;
             }
@@ -86,15 +93,56 @@ impl<'t, 'l, R: Wait, const RECURSIVE: u8, A: Allocator> RawRwLock<'t, 'l, R, RE
         unreachable!()
     }
 
-    /// Takes a shared hold off the word. Where a writer may sleep until the readers have left, the core says whether to wake
-    /// it.
+    /// Takes a shared hold off the word.
     #[inline(always)]
     fn release_shared(&self) {
         let word = self.row.add(READER.wrapping_neg());
         if word::is_writer_parked(word) {
-            self.place()
-                .give_up(RwCore::unlock_shared(), Seen::Before(word));
+            self.unread_slowly(word);
         }
+    }
+
+    /// Asks to read where that isn't had at once.
+    #[cold]
+    #[inline(never)]
+    fn read_slowly(&self, party: &mut ThreadData<A>) {
+        self.own_shared(RwCore::lock_shared(RECURSIVE == 1), party);
+    }
+
+    /// Asks to write where that isn't had at once.
+    #[cold]
+    #[inline(never)]
+    fn write_slowly(&self, party: &mut ThreadData<A>) {
+        self.own(RwCore::lock_exclusive(), party);
+    }
+
+    /// A shared hold was taken off this word, and a writer may sleep until the readers have left: the core says whether to wake
+    /// it.
+    #[cold]
+    #[inline(never)]
+    fn unread_slowly(&self, word: u64) {
+        self.place()
+            .give_up(RwCore::unlock_shared(), Seen::Before(word));
+    }
+
+    /// Gives the exclusive hold up at this word, where threads may sleep.
+    #[cold]
+    #[inline(never)]
+    fn unwrite_slowly(&self, fair: bool, word: u64) {
+        let core = if fair {
+            RwCore::unlock_exclusive_fair()
+        } else {
+            RwCore::unlock_exclusive()
+        };
+        self.place().give_up(core, Seen::Word(word));
+    }
+
+    /// The exclusive hold has become a shared one at this word, where threads may sleep: the core says whom to wake.
+    #[cold]
+    #[inline(never)]
+    fn downgrade_slowly(&self, word: u64) {
+        self.place()
+            .give_up(RwCore::downgrade(), Seen::Before(word));
     }
 }
 
@@ -142,7 +190,7 @@ impl<'t, 'l, R, const RECURSIVE: u8, A: Allocator> lock_api_raw::RawRwLock
         R: Wait,
     {
         if !self.reads_at_once() {
-            self.own_shared(RwCore::lock_shared(RECURSIVE == 1), party);
+            self.read_slowly(party);
         }
         self.token()
     }
@@ -150,9 +198,7 @@ impl<'t, 'l, R, const RECURSIVE: u8, A: Allocator> lock_api_raw::RawRwLock
     #[inline(always)]
     fn try_lock_shared(&self) -> Option<GuardSend> {
         let taken = self.reads_at_once()
-            || self
-                .place()
-                .attempt(RwCore::try_lock_shared(RECURSIVE == 1));
+            || self.try_slowly(RwCore::try_lock_shared(RECURSIVE == 1));
         self.token_if(taken)
     }
 
@@ -171,7 +217,7 @@ impl<'t, 'l, R, const RECURSIVE: u8, A: Allocator> lock_api_raw::RawRwLock
         R: Wait,
     {
         if self.row.exchange(0, WRITER).is_err() {
-            self.own(RwCore::lock_exclusive(), party);
+            self.write_slowly(party);
         }
         self.token()
     }
@@ -179,7 +225,7 @@ impl<'t, 'l, R, const RECURSIVE: u8, A: Allocator> lock_api_raw::RawRwLock
     #[inline(always)]
     fn try_lock_exclusive(&self) -> Option<GuardSend> {
         let taken = self.row.exchange(0, WRITER).is_ok()
-            || self.place().attempt(RwCore::try_lock_exclusive());
+            || self.try_slowly(RwCore::try_lock_exclusive());
         self.token_if(taken)
     }
 
@@ -190,8 +236,7 @@ impl<'t, 'l, R, const RECURSIVE: u8, A: Allocator> lock_api_raw::RawRwLock
     {
         guard.spend();
         if let Err(word) = self.row.exchange(WRITER, 0) {
-            self.place()
-                .give_up(RwCore::unlock_exclusive(), Seen::Word(word));
+            self.unwrite_slowly(false, word);
         }
     }
 
@@ -222,8 +267,7 @@ impl<'t, 'l, R, const RECURSIVE: u8, A: Allocator> RawRwLockFair
     {
         guard.spend();
         if let Err(word) = self.row.exchange(WRITER, 0) {
-            self.place()
-                .give_up(RwCore::unlock_exclusive_fair(), Seen::Word(word));
+            self.unwrite_slowly(true, word);
         }
     }
 
@@ -252,8 +296,7 @@ impl<'t, 'l, R, const RECURSIVE: u8, A: Allocator> RawRwLockDowngrade
     {
         let word = self.row.add(READER - WRITER);
         if word::is_parked(word) {
-            self.place()
-                .give_up(RwCore::downgrade(), Seen::Before(word));
+            self.downgrade_slowly(word);
         }
         guard
     }
