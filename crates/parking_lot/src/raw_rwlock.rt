@@ -1,5 +1,5 @@
 //! The raw reader-writer lock.
-ghost use Rattle.std.specs.Prelude.{◌≡◌, ◌+◌, ◌-◌, ◌*◌, ◌%◌, ◌^◌, IfOk, IfSome, min, max};
+ghost use Rattle.std.specs.Prelude.{◌≡◌, ◌+◌, ◌-◌, ◌*◌, ◌/◌, ◌%◌, ◌^◌, IfOk, IfSome, min, max};
 ghost use Rattle.lock_api_raw.specs.Limits.{kept_limit};
 
 use crate::place::Place;
@@ -22,8 +22,8 @@ const MAX_READERS: u64 = (1 << 60) - 1;
 #[derive(Drop)]
 pub struct RawRwLock<'t, 'l, R, const RECURSIVE: u8, A: Allocator = Global> {
     row: Row<'t, 'l, R, A>,
-    /// The most readers.
-    limit: u64,
+    /// The word at which no reader more is admitted: 16 times the most readers.
+    full: u64,
 }
 
 impl<'t, 'l, R, const RECURSIVE: u8, A: Allocator> RawRwLock<'t, 'l, R, RECURSIVE, A> {
@@ -31,7 +31,7 @@ impl<'t, 'l, R, const RECURSIVE: u8, A: Allocator> RawRwLock<'t, 'l, R, RECURSIV
     fn place(&self) -> Place<'_, 't, 'l, R, A> {
         Place {
             row: &self.row,
-            limit: self.limit,
+            limit: word::readers(self.full),
         }
     }
 
@@ -62,7 +62,7 @@ impl<'t, 'l, R, const RECURSIVE: u8, A: Allocator> RawRwLock<'t, 'l, R, RECURSIV
     #[inline(always)]
     fn reads_at_once(&self) -> bool {
         let word = self.row.load();
-        word::has_room(word, self.limit)
+        word::has_room(word, self.full)
             && self.row.exchange(word, word.wrapping_add(READER)).is_ok()
     }
 }
@@ -83,23 +83,14 @@ impl<'t, 'l, R: Wait, const RECURSIVE: u8, A: Allocator> RawRwLock<'t, 'l, R, RE
     fn own_shared(&self, core: RwCore, party: &mut ThreadData<A>) {
         self.own(core, party);
         for _call in self.runtime().forever() {
-            if word::readers(self.row.load()) <= self.limit {
+            if word::readers(self.row.load()) <= word::readers(self.full) {
                 return;
             }
-            self.release_shared();
+            self.unlock_shared(self.token());
             thread_yield();
             self.own(RwCore::lock_shared(RECURSIVE == 1), party);
         }
         unreachable!()
-    }
-
-    /// Takes a shared hold off the word.
-    #[inline(always)]
-    fn release_shared(&self) {
-        let word = self.row.add(READER.wrapping_neg());
-        if word::is_writer_parked(word) {
-            self.unread_slowly(word);
-        }
     }
 
     /// Asks to read where that isn't had at once.
@@ -166,7 +157,7 @@ impl<'t, 'l, R, const RECURSIVE: u8, A: Allocator> lock_api_raw::RawRwLock
 
     ghost runtime_of = { λ lock. lock.row.table.now.lot.now.rt };
 
-    ghost limit = { λ lock. lock.limit };
+    ghost limit = { λ lock. lock.full / 16 };
 
     ghost own_limit = { 2 ^ 60 - 1 };
 
@@ -176,7 +167,7 @@ impl<'t, 'l, R, const RECURSIVE: u8, A: Allocator> lock_api_raw::RawRwLock
     ) -> Result<RawRwLock<'t, 'l, R, RECURSIVE, A>, TableFull> {
         Ok(RawRwLock {
             row: source.claim()?,
-            limit: readers.max(1).min(MAX_READERS),
+            full: readers.max(1).min(MAX_READERS) * READER,
         })
     }
 
@@ -208,7 +199,10 @@ impl<'t, 'l, R, const RECURSIVE: u8, A: Allocator> lock_api_raw::RawRwLock
         R: Wait,
     {
         guard.spend();
-        self.release_shared();
+        let word = self.row.add(READER.wrapping_neg());
+        if word::is_writer_parked(word) {
+            self.unread_slowly(word);
+        }
     }
 
     #[inline(always)]
@@ -256,8 +250,7 @@ impl<'t, 'l, R, const RECURSIVE: u8, A: Allocator> RawRwLockFair
     where
         R: Wait,
     {
-        guard.spend();
-        self.release_shared();
+        self.unlock_shared(guard);
     }
 
     #[inline(always)]

@@ -14,12 +14,13 @@ pub(crate) fn readers(word: u64) -> u64
     word / READER
 }
 
-/// Whether a reader is admitted at once: no writer owns the lock or waits for readers to leave, and the readers are fewer than
-/// so many.
-pub(crate) fn has_room(word: u64, limit: u64) -> bool
-    ensures { result ≡ ((word / 8 % 2 == 0) && nat_lt (word / 16) limit) }
+/// Whether a reader is admitted at once: no writer owns the lock or waits for readers to leave, and the word is less than one
+/// with the most readers.
+#[inline(always)]
+pub(crate) fn has_room(word: u64, full: u64) -> bool
+    ensures { result ≡ ((word / 8 % 2 == 0) && nat_lt word full) }
 {
-    (word / WRITER) % 2 == 0 && readers(word) < limit
+    (word / WRITER) % 2 == 0 && word < full
 }
 
 /// Whether threads may sleep that want the lock.
