@@ -8,6 +8,8 @@
 #![tactic(auto)]
 
 mod pairs;
+#[cfg(test)]
+mod tests;
 mod turns;
 
 use pairs::{Fault, Pair, all_pairs, pairs_of};

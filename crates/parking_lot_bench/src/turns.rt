@@ -3,13 +3,22 @@
 use crate::pairs::Fault;
 use lock_api_raw::{RawMutex as _, RawMutexFair, RawRwLock as _, RawRwLockFair};
 use parking_lot::{LockTable, RawMutex, RawRwLock};
-use parking_lot_core::{ParkingLot, ThreadData};
+use parking_lot_core::{ParkingLot, ThreadData, thread_yield};
 use std::alloc::Global;
 use std::sync::Wait;
 use std::sync::atomic::{AtomicU64, Ordering};
 use std::thread;
 use std::thread::Threads;
 use std::time::{Clock, Duration, Instant};
+
+/// The bit of a mutex's word that says that threads may sleep.
+const MUTEX_PARKED: u64 = 2;
+
+/// The same of a reader-writer lock's word.
+const LOCK_PARKED: u64 = 1;
+
+/// How often a word is looked at, at most.
+const LOOKS: u32 = 10_000_000;
 
 /// How many nanoseconds one turn takes of the mutex and of the reader-writer lock.
 pub fn times_of<R: Wait + Threads + Clock + Sync + Copy + Drop>(
@@ -54,14 +63,15 @@ fn by_mutex<R: Wait + Threads + Sync + Copy + Drop>(
     let turns = AtomicU64::new(0);
     thread::join(
         &rt,
-        || locks(&mutex, &mut left, &turns, rounds),
-        || locks(&mutex, &mut right, &turns, rounds),
+        || locks(&table, &mutex, &mut left, &turns, rounds),
+        || locks(&table, &mutex, &mut right, &turns, rounds),
     );
     Ok(turns.load(Ordering::SeqCst))
 }
 
-/// Locks and hands over so many times, and counts the turns under the mutex.
+/// Locks and hands over so many times, each time once the other sleeps, and counts the turns under the mutex.
 fn locks<R: Wait>(
+    table: &LockTable<'_, R>,
     mutex: &RawMutex<'_, '_, R>,
     me: &mut ThreadData,
     turns: &AtomicU64,
@@ -69,7 +79,9 @@ fn locks<R: Wait>(
 ) {
     for _round in 0..rounds {
         let token = mutex.lock(me);
-        counts(turns);
+        if counts(turns) < 2 * u64::from(rounds) {
+            await_bit(table, MUTEX_PARKED);
+        }
         mutex.unlock_fair(token);
     }
 }
@@ -88,14 +100,15 @@ fn by_lock<R: Wait + Threads + Sync + Copy + Drop>(
     let turns = AtomicU64::new(0);
     thread::join(
         &rt,
-        || writes(&lock, &mut left, &turns, rounds),
-        || writes(&lock, &mut right, &turns, rounds),
+        || writes(&table, &lock, &mut left, &turns, rounds),
+        || writes(&table, &lock, &mut right, &turns, rounds),
     );
     Ok(turns.load(Ordering::SeqCst))
 }
 
-/// Writes and hands over so many times, and counts the turns under the lock.
+/// Writes and hands over so many times, each time once the other sleeps, and counts the turns under the lock.
 fn writes<R: Wait>(
+    table: &LockTable<'_, R>,
     lock: &RawRwLock<'_, '_, R, 0>,
     me: &mut ThreadData,
     turns: &AtomicU64,
@@ -103,13 +116,27 @@ fn writes<R: Wait>(
 ) {
     for _round in 0..rounds {
         let token = lock.lock_exclusive(me);
-        counts(turns);
+        if counts(turns) < 2 * u64::from(rounds) {
+            await_bit(table, LOCK_PARKED);
+        }
         lock.unlock_exclusive_fair(token);
     }
 }
 
-/// Adds 1 in two steps, which only a lock keeps together.
-fn counts(turns: &AtomicU64) {
+/// Adds 1 in two steps, which only a lock keeps together, and answers how many turns that makes.
+fn counts(turns: &AtomicU64) -> u64 {
     let seen = turns.load(Ordering::SeqCst);
-    turns.store(seen.wrapping_add(1), Ordering::SeqCst);
+    let now = seen.wrapping_add(1);
+    turns.store(now, Ordering::SeqCst);
+    now
+}
+
+/// Waits until the word of the table's first row has the bit, for so many looks at most.
+fn await_bit<R>(table: &LockTable<'_, R>, bit: u64) {
+    for _look in 0..LOOKS {
+        if table.word(0).is_none_or(|word| word & bit != 0) {
+            return;
+        }
+        thread_yield();
+    }
 }
