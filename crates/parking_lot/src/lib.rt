@@ -22,6 +22,7 @@
 
 mod clock;
 mod decision;
+mod laws;
 mod looking;
 mod names;
 mod place;
@@ -31,6 +32,10 @@ mod run;
 mod section;
 mod word;
 
+pub use laws::{
+    one_exchange_locks, one_exchange_reads, one_exchange_stops_writing, one_exchange_unlocks,
+    one_exchange_writes, one_sum_downgrades, one_sum_stops_reading,
+};
 pub use names::{
     MappedMutexGuard, MappedRwLockReadGuard, MappedRwLockWriteGuard, Mutex, MutexGuard, RwLock,
     RwLockReadGuard, RwLockWriteGuard,
