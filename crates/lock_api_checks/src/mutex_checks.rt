@@ -135,7 +135,7 @@ where
         "written back by the composition",
     )?;
     *mutex.lock(party) = (None, 2);
-    let done = keeps_what_has_no_part(mutex.lock(party)).is_ok();
+    let done = keeps_what_has_no_part(mutex.lock(party), &|| mutex.is_locked()).is_ok();
     expect(done, "a guard without the part")?;
     expect(
         !mutex.is_locked(),
