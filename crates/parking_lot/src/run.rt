@@ -17,6 +17,7 @@ impl<R, A: Allocator> Place<'_, '_, '_, R, A> {
         let mut act = core.next(Seen::Start);
         for _act in 0..TRY_ACTS {
             act = match act {
+                Act::Done(answer) => return answer == CoreAnswer::Owned,
                 Act::Exchange(from, to) if self.is_full(from, to) => return false,
                 act => core.next(self.after(act)),
             };
