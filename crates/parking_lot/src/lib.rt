@@ -30,6 +30,7 @@ mod raw_mutex;
 mod raw_rwlock;
 mod run;
 mod section;
+mod thread_id;
 mod word;
 
 pub use laws::{
@@ -37,11 +38,13 @@ pub use laws::{
     one_exchange_writes, one_sum_downgrades, one_sum_stops_reading,
 };
 pub use names::{
-    MappedMutexGuard, MappedRwLockReadGuard, MappedRwLockWriteGuard, Mutex, MutexGuard, RwLock,
-    RwLockReadGuard, RwLockWriteGuard,
+    MappedMutexGuard, MappedReentrantMutexGuard, MappedRwLockReadGuard, MappedRwLockWriteGuard,
+    Mutex, MutexGuard, ReentrantMutex, ReentrantMutexGuard, RwLock, RwLockReadGuard,
+    RwLockWriteGuard,
 };
 pub use parking_lot_world::{
     Act, CoreAnswer, LockTable, MutexCore, Row, RwCore, SectionAct, Seen, WordChange, wake_sum,
 };
 pub use raw_mutex::RawMutex;
 pub use raw_rwlock::RawRwLock;
+pub use thread_id::RawThreadId;

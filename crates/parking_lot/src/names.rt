@@ -5,6 +5,7 @@
 
 use crate::raw_mutex::RawMutex;
 use crate::raw_rwlock::RawRwLock;
+use crate::thread_id::RawThreadId;
 use std::alloc::Global;
 
 /// A mutex and a value.
@@ -57,3 +58,22 @@ pub type MappedRwLockWriteGuard<'m, 't, 'l, T, P, R, A = Global> = lock_api::Map
     T,
     P,
 >;
+
+/// A mutex that its owner may take again, and a value that its guards read.
+pub type ReentrantMutex<'t, 'l, T, R, A = Global> = lock_api::ReentrantMutex<
+    RawMutex<'t, 'l, R, A>,
+    RawThreadId<A>,
+    T,
+>;
+
+/// The guard of one nested hold of a [`ReentrantMutex`].
+pub type ReentrantMutexGuard<'m, 't, 'l, T, R, A = Global> = lock_api::ReentrantMutexGuard<
+    'm,
+    RawMutex<'t, 'l, R, A>,
+    RawThreadId<A>,
+    T,
+>;
+
+/// A [`ReentrantMutexGuard`] that a projection of the type `P` narrows to a part of the value.
+pub type MappedReentrantMutexGuard<'m, 't, 'l, T, P, R, A = Global> =
+    lock_api::MappedReentrantMutexGuard<'m, RawMutex<'t, 'l, R, A>, RawThreadId<A>, T, P>;

@@ -1,5 +1,8 @@
 //! The row that a call runs on.
-ghost use Rattle.std.specs.Prelude.{◌≡◌, ◌/◌, ◌&&◌, nat_lt};
+ghost use Rattle.std.specs.Prelude.{◌≡◌, ℕ, IfSome};
+ghost use Rattle.parking_lot.specs.Runs.{passes};
+ghost use Rattle.parking_lot_world.specs.Acts.{Gives};
+ghost use Rattle.parking_lot_world.specs.declared.act.Act.TheVariants.{Exchange};
 
 use crate::word::READER;
 use parking_lot_world::{Act, Row, Seen, WordChange};
@@ -14,11 +17,14 @@ pub(crate) struct Place<'r, 't, 'l, R, A: Allocator> {
 }
 
 impl<R, A: Allocator> Place<'_, '_, '_, R, A> {
-    /// Whether the exchange admits a reader more than may be.
-    pub fn is_full(&self, from: u64, to: u64) -> bool
-        ensures { result ≡ (nat_lt (from / 16) (to / 16) && nat_lt self.now.limit (to / 16)) }
+    /// Whether the act would admit a reader more than may be.
+    pub fn is_full(&self, act: Act) -> bool
+        ensures { result ≡ passes self.now.limit act }
     {
-        from / READER < to / READER && self.limit < to / READER
+        match act {
+            Act::Exchange(from, to) => from / READER < to / READER && self.limit < to / READER,
+            _ => false,
+        }
     }
 
     /// The key of that number: 0 is the row's first, 1 its second.
@@ -30,20 +36,28 @@ impl<R, A: Allocator> Place<'_, '_, '_, R, A> {
         }
     }
 
-    /// Makes an act on the word, and tells what it gave. The acts of a section that are left, and the wakes after it, have
-    /// been made by the lot.
-    pub fn after(&self, act: Act) -> Seen {
+    /// Makes an act on the word, and tells what it gave. `None` where the act isn't one on the word.
+    pub fn at_the_word(&self, act: Act) -> Option<Seen>
+        ensures { IfSome result (λ seen. (word : ℕ) × Gives act word seen) }
+    {
         match act {
-            Act::Load => Seen::Word(self.row.load()),
-            Act::Exchange(from, to) => self.exchange(from, to),
-            Act::Add(by) => Seen::Before(self.row.add(by)),
-            Act::Mask(keep) => Seen::Before(self.row.mask(keep)),
-            Act::Spin | Act::Enter(_) | Act::Section(_) | Act::Sleep | Act::Done(_) => Seen::Made,
+            Act::Load => Some(Seen::Word(self.row.load())),
+            Act::Exchange(from, to) => Some(self.exchange(from, to)),
+            Act::Add(by) => Some(Seen::Before(self.row.add(by))),
+            Act::Mask(keep) => Some(Seen::Before(self.row.mask(keep))),
+            Act::Spin | Act::Enter(_) | Act::Section(_) | Act::Sleep | Act::Done(_) => None,
         }
     }
 
+    /// The same. The acts of a section that are left, and the wakes after it, have been made by the lot.
+    pub fn after(&self, act: Act) -> Seen {
+        self.at_the_word(act).unwrap_or(Seen::Made)
+    }
+
     /// Exchanges the word, and tells which it was.
-    fn exchange(&self, from: u64, to: u64) -> Seen {
+    fn exchange(&self, from: u64, to: u64) -> Seen
+        ensures { (word : ℕ) × Gives (Exchange from to) word result }
+    {
         match self.row.exchange(from, to) {
             Ok(()) => Seen::Exchanged,
             Err(word) => Seen::Word(word),

@@ -1,4 +1,9 @@
 //! Whole calls: a decision core that is run on a row.
+ghost use Rattle.std.specs.Prelude.{◌≡◌, ◌↔◌, List, IsTrue};
+ghost use Rattle.parking_lot.specs.Runs.{IsRun, told_all};
+ghost use Rattle.parking_lot_world.specs.declared.act.Act.TheVariants.{Done};
+ghost use Rattle.parking_lot_world.specs.declared.act.CoreAnswer.TheVariants.{Owned};
+ghost use Rattle.parking_lot_world.specs.declared.act.Seen.{Seen};
 
 use crate::decision::DecisionCore;
 use crate::place::Place;
@@ -11,16 +16,20 @@ use std::sync::Wait;
 const TRY_ACTS: u32 = 65;
 
 impl<R, A: Allocator> Place<'_, '_, '_, R, A> {
-    /// Runs a try to its end, and answers whether it owns the lock.
+    /// Runs a try to its end, and answers whether it owns the lock. A try that would admit a reader more than may be ends before.
     #[inline(never)]
-    pub fn attempt<C: DecisionCore>(&self, mut core: C) -> bool {
+    pub fn attempt<C: DecisionCore>(&self, mut core: C) -> bool
+        ensures { (seen : List Seen) × IsRun C.told C.asks core seen × (IsTrue result ↔ (C.asks (told_all C.told core seen) ≡ Done Owned)) }
+    {
         let mut act = core.next(Seen::Start);
         for _act in 0..TRY_ACTS {
-            act = match act {
-                Act::Done(answer) => return answer == CoreAnswer::Owned,
-                Act::Exchange(from, to) if self.is_full(from, to) => return false,
-                act => core.next(self.after(act)),
+            if self.is_full(act) {
+                return false;
+            }
+            let Some(seen) = self.at_the_word(act) else {
+                return act == Act::Done(CoreAnswer::Owned);
             };
+            act = core.next(seen);
         }
         act == Act::Done(CoreAnswer::Owned)
     }
@@ -41,7 +50,7 @@ impl<R: Wait, A: Allocator> Place<'_, '_, '_, R, A> {
                     spin.reset();
                     self.enter(&mut core, key, party)
                 }
-                Act::Exchange(from, to) if self.is_full(from, to) => {
+                act if self.is_full(act) => {
                     thread_yield();
                     core.next(Seen::Word(self.row.load()))
                 }
