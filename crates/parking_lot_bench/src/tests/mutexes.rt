@@ -2,11 +2,12 @@
 use super::has_come;
 use lock_api_raw::{RawMutex as _, RawMutexFair};
 use parking_lot::{LockTable, RawMutex};
-use parking_lot_core::{ParkingLot, ThreadData};
+use parking_lot_core::{DEFAULT_UNPARK_TOKEN, ParkingLot, ThreadData, unpark_one};
 use std::sync::Wait;
 use std::sync::atomic::{AtomicU64, Ordering};
 use std::test::Fail;
 use std::thread;
+use std::thread::Threads;
 use std::time::Clock;
 
 /// How often each of four threads takes the mutex.
@@ -66,6 +67,54 @@ fn four_threads_exclude_each_other(rt: HostRuntime) -> Result<(), Fail> {
     );
     assert_eq!(rt; thread::join(&rt, two, two), ((true, true), (true, true)));
     assert_eq!(rt; count.load(Ordering::SeqCst), 100_000);
+    assert_eq!(rt; table.word(0), Some(0));
+    Ok(())
+}
+
+/// Tries many times to lock, adds 1 in two steps where it may, and answers how often it might and found the word locked.
+fn tries<R: Wait>(table: &LockTable<'_, R>, mutex: &RawMutex<'_, '_, R>, count: &AtomicU64) -> u64 {
+    let mut done = 0u64;
+    for _round in 0..ROUNDS {
+        if let Some(token) = mutex.try_lock() {
+            let seen = count.load(Ordering::SeqCst);
+            count.store(seen.wrapping_add(1), Ordering::SeqCst);
+            if table.word(0) == Some(1) {
+                done = done.wrapping_add(1);
+            }
+            mutex.unlock(token);
+        }
+    }
+    done
+}
+
+/// The same of two threads together.
+fn two_try<R: Wait + Threads + Sync>(
+    rt: &R,
+    table: &LockTable<'_, R>,
+    mutex: &RawMutex<'_, '_, R>,
+    count: &AtomicU64,
+) -> u64 {
+    let (one, other) = thread::join(
+        rt,
+        || tries(table, mutex, count),
+        || tries(table, mutex, count),
+    );
+    one.wrapping_add(other)
+}
+
+#[test]
+fn a_try_that_is_refused_keeps_nothing(rt: HostRuntime) -> Result<(), Fail> {
+    let lot = ParkingLot::new(rt, rt.alloc(), 4, 7)?;
+    let table = LockTable::new(rt.alloc(), &lot, 1)?;
+    let mutex = RawMutex::new(&table, 5)?;
+    let count = AtomicU64::new(0);
+    let (two, others) = thread::join(
+        &rt,
+        || two_try(&rt, &table, &mutex, &count),
+        || two_try(&rt, &table, &mutex, &count),
+    );
+    let done = two.wrapping_add(others);
+    assert_eq!(rt; count.load(Ordering::SeqCst), done);
     assert_eq!(rt; table.word(0), Some(0));
     Ok(())
 }
@@ -142,6 +191,27 @@ fn a_fair_release_and_a_bump_hand_the_mutex_over(rt: HostRuntime) -> Result<(), 
         assert_eq!(rt; (before, after), (1, (true, 2)));
         assert_eq!(rt; table.word(0), Some(0));
     }
+    Ok(())
+}
+
+#[test]
+fn a_plain_release_is_fair_where_the_lot_says_so(rt: HostRuntime) -> Result<(), Fail> {
+    let lot = ParkingLot::new(rt, rt.alloc(), 4, 7)?;
+    let mut me = lot.thread_data()?;
+    let mut other = lot.thread_data()?;
+    let table = LockTable::new(rt.alloc(), &lot, 1)?;
+    let mutex = RawMutex::new(&table, 5)?;
+    let said = AtomicU64::new(0);
+    for _turn in 0..63u32 {
+        unpark_one(&lot, 1_000, |_| DEFAULT_UNPARK_TOKEN);
+    }
+    let (before, after) = thread::join(
+        &rt,
+        || locks_second(&rt, &table, &mutex, &mut other, &said),
+        || locks_first(&rt, &table, &mutex, &mut me, &said, Lets::Unlocks),
+    );
+    assert_eq!(rt; (before, after), (1, (true, 2)));
+    assert_eq!(rt; table.word(0), Some(0));
     Ok(())
 }
 

@@ -6,6 +6,7 @@ use std::sync::Wait;
 use std::sync::atomic::{AtomicU64, Ordering};
 use std::test::Fail;
 use std::thread;
+use std::thread::Threads;
 
 /// How often each of four threads takes the lock.
 const ROUNDS: u32 = 25_000;
@@ -126,5 +127,56 @@ fn writers_exclude(rt: HostRuntime) -> Result<(), Fail> {
         assert_eq!(rt; count.load(Ordering::SeqCst), 25_000);
         assert_eq!(rt; table.word(0), Some(0));
     }
+    Ok(())
+}
+
+/// Tries many times to read, and each time to write, and answers how often it might write and found that in the word.
+fn tries<R: Wait>(table: &LockTable<'_, R>, lock: &Raw<'_, '_, R>, count: &AtomicU64) -> u64 {
+    let mut done = 0u64;
+    for _round in 0..ROUNDS {
+        if let Some(token) = lock.try_lock_shared() {
+            lock.unlock_shared(token);
+        }
+        if let Some(token) = lock.try_lock_exclusive() {
+            let seen = count.load(Ordering::SeqCst);
+            count.store(seen.wrapping_add(1), Ordering::SeqCst);
+            if table.word(0) == Some(8) {
+                done = done.wrapping_add(1);
+            }
+            lock.unlock_exclusive(token);
+        }
+    }
+    done
+}
+
+/// The same of two threads together.
+fn two_try<R: Wait + Threads + Sync>(
+    rt: &R,
+    table: &LockTable<'_, R>,
+    lock: &Raw<'_, '_, R>,
+    count: &AtomicU64,
+) -> u64 {
+    let (one, other) = thread::join(
+        rt,
+        || tries(table, lock, count),
+        || tries(table, lock, count),
+    );
+    one.wrapping_add(other)
+}
+
+#[test]
+fn tries_that_are_refused_keep_nothing(rt: HostRuntime) -> Result<(), Fail> {
+    let lot = ParkingLot::new(rt, rt.alloc(), 4, 7)?;
+    let table = LockTable::new(rt.alloc(), &lot, 1)?;
+    let lock: Raw<HostRuntime> = RawRwLock::new(&table, 100)?;
+    let count = AtomicU64::new(0);
+    let (two, others) = thread::join(
+        &rt,
+        || two_try(&rt, &table, &lock, &count),
+        || two_try(&rt, &table, &lock, &count),
+    );
+    let done = two.wrapping_add(others);
+    assert_eq!(rt; count.load(Ordering::SeqCst), done);
+    assert_eq!(rt; table.word(0), Some(0));
     Ok(())
 }
