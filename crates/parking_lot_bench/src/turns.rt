@@ -18,7 +18,7 @@ const MUTEX_PARKED: u64 = 2;
 const LOCK_PARKED: u64 = 1;
 
 /// How often a word is looked at, at most.
-const LOOKS: u32 = 10_000_000;
+const LOOKS: u32 = 10_000;
 
 /// How many nanoseconds one turn takes of the mutex and of the reader-writer lock.
 pub fn times_of<R: Wait + Threads + Clock + Sync + Copy + Drop>(
