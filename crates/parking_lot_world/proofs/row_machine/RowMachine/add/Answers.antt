@@ -1,12 +1,20 @@
-use Rattle.std.proofs.Common.{ℕ, ◌+◌, ◌%◌, ◌^◌, sym, ap, ◌∙◌, subst}
+use Rattle.std.proofs.Common.{ℕ, ◌+◌, ◌%◌, ◌^◌, sym, ap, ◌∙◌, subst, arith}
 use Rattle.parking_lot_cores.specs.declared.act.Seen.TheVariants as seen
 use Rattle.parking_lot_world.specs.declared.seat.Call.{Call}
 use Rattle.parking_lot_world.specs.Rows.{Rows, State, state}
 use Rattle.parking_lot_world.specs.RowActs.{with_call, with_word, hears}
 use Rattle.parking_lot_world.specs.RowFits.{FitsTogether}
 use Rattle.parking_lot_world.proofs.Acting.{laws}
-use Rattle.parking_lot_world.proofs.Holding.{fits}
+use Rattle.parking_lot_world.proofs.Holding.{fits, low, word_low}
 use Rattle.parking_lot_world.proofs.row_machine.RowMachine.add.Goals as goal
+
+-- src/acts.rt:76:9
+pub index_mut-requires : goal.index_mut-requires
+index_mut-requires g c = omega (arith, word_low c.args.thread c.args.call c.self.view_is c.requires.here c.self.invariant, c.self.inside.words.ok.0)
+
+-- src/acts.rt:77:9
+pub index_mut-requires-2 : goal.index_mut-requires-2
+index_mut-requires-2 g c = omega (arith, low c.args.thread c.args.call c.self.view_is c.requires.here, c.self.inside.calls.ok.0)
 
 -- src/acts.rt:66:5
 pub returns : goal.returns

@@ -6,8 +6,16 @@ use Rattle.parking_lot_world.specs.Rows.{Rows, State, state, word_at}
 use Rattle.parking_lot_world.specs.RowActs.{with_call, with_word, hears, loaded}
 use Rattle.parking_lot_world.specs.RowFits.{FitsTogether}
 use Rattle.parking_lot_world.proofs.Acting.{laws}
-use Rattle.parking_lot_world.proofs.Holding.{fits, low}
+use Rattle.parking_lot_world.proofs.Holding.{fits, low, word_low}
 use Rattle.parking_lot_world.proofs.row_machine.RowMachine.exchange.Goals as goal
+
+-- src/acts.rt:62:13
+pub index_mut-requires : goal.index_mut-requires
+index_mut-requires g c = omega (arith, word_low c.args.thread c.args.call c.self.view_is c.requires.here c.self.invariant, c.self.inside.words.ok.0)
+
+-- src/acts.rt:63:13
+pub index_mut-requires-then-word-from : goal.index_mut-requires-then-word-from
+index_mut-requires-then-word-from g c = omega (arith, low c.args.thread c.args.call c.self.view_is c.requires.here, c.self.inside.calls.ok.0)
 
 -- src/acts.rt:40:5
 pub returns-then-word-from : goal.returns-then-word-from

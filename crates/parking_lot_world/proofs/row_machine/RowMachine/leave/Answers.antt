@@ -1,4 +1,4 @@
-use Rattle.std.proofs.Common.{false, sym, ap, ◌∙◌, subst}
+use Rattle.std.proofs.Common.{false, sym, ap, ◌∙◌, subst, arith}
 use Rattle.parking_lot_core.specs.Machine.{Machine, closed, machine}
 use Rattle.parking_lot_core.specs.Sound.{Sound}
 use Rattle.parking_lot_world.specs.declared.seat.Call.{Call}
@@ -6,8 +6,18 @@ use Rattle.parking_lot_world.specs.Rows.{Rows, State, state}
 use Rattle.parking_lot_world.specs.RowActs.{with_call, with_lot}
 use Rattle.parking_lot_world.specs.RowFits.{FitsTogether}
 use Rattle.parking_lot_world.proofs.Acting.{laws}
-use Rattle.parking_lot_world.proofs.Holding.{fits}
+use Rattle.parking_lot_world.proofs.Holding.{fits, held, low}
+use Rattle.parking_lot_world.proofs.LotCalls.{lot_never_refuses}
 use Rattle.parking_lot_world.proofs.row_machine.RowMachine.leave.Goals as goal
+
+-- src/acts.rt:184:9
+pub leave-requires : goal.leave-requires
+leave-requires g c =
+    record { inside = lot_never_refuses.leaves _ c.args.thread c.args.call (c.self.invariant.lots, held c.args.thread c.args.call c.self.view_is c.requires.here, c.requires.asked) }
+
+-- src/acts.rt:185:9
+pub index_mut-requires : goal.index_mut-requires
+index_mut-requires g c = omega (arith, low c.args.thread c.args.call c.self.view_is c.requires.here, c.self.inside.calls.ok.0)
 
 -- src/acts.rt:170:5
 pub returns : goal.returns
