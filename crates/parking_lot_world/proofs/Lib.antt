@@ -26,17 +26,21 @@ pub mod MutexMoving
 pub mod Beginning
 pub mod LotTakes
 pub mod LotWakes
+pub mod LotSound
 pub mod LotKept
 pub mod LotCalls
 pub mod WakesActs
 pub mod WakesActed
 pub mod FirstTaken
 pub mod LotStarts
+pub mod ScanRoom
 pub mod RwKeeping
 pub mod RwCrossing
 mod Starting
 mod Answering
 mod Acting
+mod Requesting
+mod Stepping
 mod TakeOutside
 mod TakeJoins
 mod TakeNobody
@@ -48,6 +52,10 @@ mod TakeLaws
 mod Settling
 mod Telling
 mod MutexTelling
+mod Rousing
+mod RwRousing
+mod MutexRousing
+mod Resuming
 mod TellActs
 pub mod RwTelling
 pub mod RwSleeping

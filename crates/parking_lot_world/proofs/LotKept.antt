@@ -6,7 +6,8 @@ use Rattle.parking_lot_core.specs.declared.parking.ParkToken.{ParkToken}
 use Rattle.parking_lot_core.specs.declared.parking.UnparkToken.{UnparkToken}
 use Rattle.parking_lot_core.specs.declared.place.Waiter.{Waiter}
 use Rattle.parking_lot_core.specs.Results.{is_left}
-use Rattle.parking_lot_core.specs.Sound.{Sound}
+use Rattle.parking_lot_core.specs.declared.place.Phase.TheVariants as phase
+use Rattle.parking_lot_core.specs.declared.place.Place.TheVariants.{Taken}
 use Rattle.parking_lot_cores.specs.Acts.{change_of, Gives}
 use Rattle.parking_lot_cores.specs.declared.act.Act.{Act}
 use Rattle.parking_lot_cores.specs.declared.act.Act.TheVariants as act
@@ -19,17 +20,18 @@ use Rattle.parking_lot_world.specs.declared.seat.Wakeup.{Wakeup}
 use Rattle.parking_lot_world.specs.Rows.{State, word_at, call_at, is_by}
 use Rattle.parking_lot_world.specs.Stances.{Joins, Joined, Takes, Stores, In, stance, taken_count, core_tells, sign}
 use Rattle.parking_lot_world.specs.StanceLaws.{Counts, IsOver}
-use Rattle.parking_lot_world.specs.RowActs.{with_call, with_word, with_lot, settles, hears, key_of, told_of, loaded, exchanged, added, masked, spun, entered, checked, appended, took, took_nobody, told_all, left, woke, answered, begun}
+use Rattle.parking_lot_world.specs.RowActs.{with_call, with_word, with_lot, settles, hears, key_of, told_of, loaded, exchanged, added, masked, spun, entered, checked, appended, took, took_nobody, told_all, left, woke, answered, begun, joins}
 use Rattle.parking_lot_world.specs.RowFits.{LotFits}
 use Rattle.parking_lot_world.specs.LotLaws.{Keeps, IsTaking, ActsKeepFits}
 use Rattle.parking_lot_world.proofs.Indexing.{first_is}
-use Rattle.parking_lot_world.proofs.Stancing.{leads_by, takings_count, calls_begin, calls_end, wakes_some}
+use Rattle.parking_lot_world.proofs.Stancing.{leads_by, takings_count, calls_begin, calls_end, wakes_some, small_key}
 use Rattle.parking_lot_world.proofs.LotActs.{same_parts, stays_out, begun_fits, ended_fits}
 use Rattle.parking_lot_world.proofs.LotSections.{entered_fits, checked_fits, took_nobody_fits, left_fits}
 use Rattle.parking_lot_world.proofs.LotLists.{appended_fits}
 use Rattle.parking_lot_world.proofs.LotStores.{stores_fit}
 use Rattle.parking_lot_world.proofs.LotTakes.{took_fits}
-use Rattle.parking_lot_world.proofs.LotWakes.{woke_fits}
+use Rattle.parking_lot_world.proofs.LotWakes.{due_place, woke_fits}
+use Rattle.parking_lot_world.proofs.LotSound.{entered_sound, checked_sound, took_nobody_sound, stored_sound, left_sound, appended_sound, took_sound, woke_sound}
 
 -- a key is that of one stance
 same_stance : {j k : ℕ} {token : ParkToken} {other : ParkToken} → In j (Joins other) ≡ In k (Joins token) → j ≡ k
@@ -61,32 +63,32 @@ adds s t c by h here is =
 spins : (s : State) (t : ℕ) (c : Call) → Keeps s t c act.Spin (spun s t c)
 spins s t c h here is = stays_out s t c (seen.Spun true) h here (leads_by c.core act.Spin 0 (seen.Spun true) is tt)
 
-enters : (s : State) (t : ℕ) (c : Call) (k : ℕ) → s.lot.section ≡ None → Sound (entered s t c k).lot → Keeps s t c (act.Enter k) (entered s t c k)
-enters s t c k free sound h here is =
+enters : (s : State) (t : ℕ) (c : Call) (k : ℕ) → s.lot.section ≡ None → Keeps s t c (act.Enter k) (entered s t c k)
+enters s t c k free h here is =
     let x = leads_by c.core (act.Enter k) 0 seen.Entered is tt in
-    entered_fits s t c h here k free sound x.0 x.1 x.2
+    entered_fits s t c h here k free (entered_sound s t c h here k x.0) x.0 x.1 x.2
 
-checks : (s : State) (t : ℕ) (c : Call) → Sound (checked s t c).lot → Keeps s t c (act.Section section.Check) (checked s t c)
-checks s t c sound h here is =
+checks : (s : State) (t : ℕ) (c : Call) → Keeps s t c (act.Section section.Check) (checked s t c)
+checks s t c h here is =
     let x = leads_by c.core (act.Section section.Check) (word_at s c.lock) (seen.Word (word_at s c.lock)) is refl in
-    checked_fits s t c h here x.0 x.1 x.3 sound x.2 x.4
+    checked_fits s t c h here x.0 x.1 x.3 (checked_sound s t c h here x.0 (cond (joins (stance (hears c (seen.Word (word_at s c.lock))).core)) phase.Valid phase.Invalid) x.1) x.2 x.4
 
-appends : (s : State) (t : ℕ) (c : Call) (k : ℕ) (token : ParkToken) → stance c.core ≡ In k (Joins token) → Sound (appended s t c (key_of c k) token).lot → Keeps s t c (act.Section (section.Append token)) (appended s t c (key_of c k) token)
-appends s t c k token from sound h here is =
+appends : (s : State) (t : ℕ) (c : Call) (k : ℕ) (token : ParkToken) → stance c.core ≡ In k (Joins token) → Keeps s t c (act.Section (section.Append token)) (appended s t c (key_of c k) token)
+appends s t c k token from h here is =
     let x = leads_by c.core (act.Section (section.Append token)) 0 seen.Made is tt in
     let same : x.0 ≡ k = same_stance (sym x.2 ∙ from) in
-    appended_fits s t c h here k (subst (λ (j : ℕ). j < 2) same x.1) token from x.4 sound (x.3 ∙ ap (λ (j : ℕ). In j (Joined token)) same) x.5
+    appended_fits s t c h here k (subst (λ (j : ℕ). j < 2) same x.1) token from x.4 (appended_sound s t c h here k token from) (x.3 ∙ ap (λ (j : ℕ). In j (Joined token)) same) x.5
 
-takes_nobody : (s : State) (t : ℕ) (c : Call) (a : Act) (k : ℕ) → IsTaking a → stance c.core ≡ In k Takes → Sound (took_nobody s t c (key_of c k)).lot → Keeps s t c a (took_nobody s t c (key_of c k))
-takes_nobody s t c (act.Section section.TakeFirst) k taking from sound h here is =
+takes_nobody : (s : State) (t : ℕ) (c : Call) (a : Act) (k : ℕ) → IsTaking a → stance c.core ≡ In k Takes → Keeps s t c a (took_nobody s t c (key_of c k))
+takes_nobody s t c (act.Section section.TakeFirst) k taking from h here is =
     let x = leads_by c.core (act.Section section.TakeFirst) 0 (seen.Took None (is_left (s.lot.queues (key_of c k)))) is tt in
     let same : x.0 ≡ k = same_takes (sym x.1 ∙ from) in
-    took_nobody_fits s t c k h here from (x.2.0 ∙ ap (λ (j : ℕ). In j Stores) same) x.2.1 sound
-takes_nobody s t c (act.Section (section.TakeNext sum)) k taking from sound h here is =
+    took_nobody_fits s t c k h here from (x.2.0 ∙ ap (λ (j : ℕ). In j Stores) same) x.2.1 (took_nobody_sound s t c h here)
+takes_nobody s t c (act.Section (section.TakeNext sum)) k taking from h here is =
     let x = leads_by c.core (act.Section (section.TakeNext sum)) 0 (seen.Took None (is_left (s.lot.queues (key_of c k)))) is tt in
     let same : x.0 ≡ k = same_takes (sym x.1 ∙ from) in
-    took_nobody_fits s t c k h here from (x.2.0 ∙ ap (λ (j : ℕ). In j Stores) same) x.2.1 sound
-takes_nobody s t c a k taking from sound h here is = absurd taking
+    took_nobody_fits s t c k h here from (x.2.0 ∙ ap (λ (j : ℕ). In j Stores) same) x.2.1 (took_nobody_sound s t c h here)
+takes_nobody s t c a k taking from h here is = absurd taking
 
 gives_took : (a : Act) (told : Option ParkToken) (left : Bool) → IsTaking a → Gives a 0 (seen.Took told left)
 gives_took (act.Section section.TakeFirst) told left h = tt
@@ -94,40 +96,41 @@ gives_took (act.Section (section.TakeNext sum)) told left h = tt
 gives_took a told left h = absurd h
 
 takes : (s : State) (t : ℕ) (c : Call) (a : Act) (k : ℕ) (w : Waiter) → IsTaking a → stance c.core ≡ In k Takes → slice_get (s.lot.queues (key_of c k)) 0 ≡ Some w → Counts c.core w.token
-    → Sound (took s t c (key_of c k) 0 w).lot → Keeps s t c a (took s t c (key_of c k) 0 w)
-takes s t c a k w taking from at counts sound h here is =
+    → Keeps s t c a (took s t c (key_of c k) 0 w)
+takes s t c a k w taking from at counts h here is =
     let left = is_left (remove (s.lot.queues (key_of c k)) 0) in
     let x = takings_count c.core 0 w.token left (subst (λ (b : Act). Gives b 0 (seen.Took (Some w.token) left)) (sym is) (gives_took a (Some w.token) left taking)) counts in
     let same : x.0 ≡ k = same_takes (sym x.2 ∙ from) in
     took_fits s t c h here k 0 w (subst (λ (j : ℕ). j < 2) same x.1) from at refl
-    (subst (λ (j : ℕ). (stance (hears c (seen.Took (Some w.token) left)).core ≡ In j Takes) ⊎ (stance (hears c (seen.Took (Some w.token) left)).core ≡ In j Stores)) same x.3) x.4 sound
+    (subst (λ (j : ℕ). (stance (hears c (seen.Took (Some w.token) left)).core ≡ In j Takes) ⊎ (stance (hears c (seen.Took (Some w.token) left)).core ≡ In j Stores)) same x.3) x.4 (took_sound s t c h here k 0 w (small_key c.core k Takes from) from at)
 
-stores : (s : State) (t : ℕ) (c : Call) (plain fair change : WordChange) (is_fair : Bool) → Sound (told_all s t c change is_fair).lot → Keeps s t c (act.Section (section.Store plain fair)) (told_all s t c change is_fair)
-stores s t c plain fair change is_fair sound h here is =
+stores : (s : State) (t : ℕ) (c : Call) (plain fair change : WordChange) (is_fair : Bool) → Keeps s t c (act.Section (section.Store plain fair)) (told_all s t c change is_fair)
+stores s t c plain fair change is_fair h here is =
     let d = hears c (seen.Stored is_fair) in
     let x = leads_by c.core (act.Section (section.Store plain fair)) 0 (seen.Stored is_fair) is tt in
     worded (with_lot (settles (with_call s t d) t (told_of (core_tells d.core))) (told_all s t c change is_fair).lot) c.lock (change_of change (word_at s c.lock))
-    (stores_fit s t c d h here x.0 (core_tells d.core) refl x.1 x.2 x.3 (wakes_some c.core (seen.Stored is_fair)) sound)
+    (stores_fit s t c d h here x.0 (core_tells d.core) refl x.1 x.2 x.3 (wakes_some c.core (seen.Stored is_fair)) (stored_sound s t c h here (core_tells d.core)))
 
-masks : (s : State) (t : ℕ) (c : Call) (keep : ℕ) → Sound (masked s t c keep).lot → Keeps s t c (act.Mask keep) (masked s t c keep)
-masks s t c keep sound h here is =
+masks : (s : State) (t : ℕ) (c : Call) (keep : ℕ) → Keeps s t c (act.Mask keep) (masked s t c keep)
+masks s t c keep h here is =
     let told = seen.Before (word_at s c.lock) in
     let x = leads_by c.core (act.Mask keep) (word_at s c.lock) told is refl in
     worded (with_lot (settles (with_call s t (hears c told)) t (told_of (sign false))) (masked s t c keep).lot) c.lock (bit_and (word_at s c.lock) keep)
-    (stores_fit s t c (hears c told) h here 1 (sign false) refl x.0 x.1 x.2 (wakes_some c.core told) sound)
+    (stores_fit s t c (hears c told) h here 1 (sign false) refl x.0 x.1 x.2 (wakes_some c.core told) (stored_sound s t c h here (sign false)))
 
-leaves : (s : State) (t : ℕ) (c : Call) → Sound (left s t c).lot → Keeps s t c (act.Section section.Leave) (left s t c)
-leaves s t c sound h here is = left_fits s t c h here sound (leads_by c.core (act.Section section.Leave) 0 seen.Made is tt)
+leaves : (s : State) (t : ℕ) (c : Call) → Keeps s t c (act.Section section.Leave) (left s t c)
+leaves s t c h here is = left_fits s t c h here (left_sound s t c h here) (leads_by c.core (act.Section section.Leave) 0 seen.Made is tt)
 
 -- who is to wake another is told by whom
 pub by_first : (s : State) (t : ℕ) (e : Wakeup) → slice_get s.wakes (position_or_len (is_by t) s.wakes) ≡ Some e → e.by ≡ t
 by_first s t e first = eqb-true e.by t (first_is (is_by t) s.wakes e first)
 
 wakes : (s : State) (t : ℕ) (c : Call) (e : Wakeup) (d : Call) (token : UnparkToken) → slice_get s.wakes (position_or_len (is_by t) s.wakes) ≡ Some e → call_at s e.thread ≡ Some d
-    → Sound (woke s t c e.thread d token).lot → Keeps s t c (act.Section section.Wake) (woke s t c e.thread d token)
-wakes s t c e d token first there sound h here is =
+    → Keeps s t c (act.Section section.Wake) (woke s t c e.thread d token)
+wakes s t c e d token first there h here is =
     let x = leads_by c.core (act.Section section.Wake) 0 seen.Made is tt in
-    woke_fits s t c h here e d first (by_first s t e first) there x.0 token x.1 x.2 sound
+    let due = due_place s t c h here e d first (by_first s t e first) there x.0 in
+    woke_fits s t c h here e d first (by_first s t e first) there x.0 token x.1 x.2 (woke_sound s h e.thread (Taken due.0 due.1 false) due.2 (λ k. refl))
 
 begins : (s : State) (t : ℕ) (c : Call) → LotFits s → t < length s.calls → call_at s t ≡ None → LotFits (begun s t c)
 begins s t c h low here = let x = calls_begin c.core in begun_fits s t c h low here x.0 x.1

@@ -106,7 +106,7 @@ module _ (s : State) (t : ℕ) (c : Call) (h : LotFits s) (here : call_at s t �
   off = off_list t (sleeper s t c h here k nth w two from at).call
 
   -- the places
-  took_places : u.lot.places ≡ slice_set s.lot.places v (Some (Held z.sleep))
+  pub took_places : u.lot.places ≡ slice_set s.lot.places v (Some (Held z.sleep))
   took_places =
       ap (λ (o : Option Waiter). option_map_or (λ (x : Waiter). changed held s.lot.places x.thread) o s.lot.places) at
       ∙ ap (λ (p : Option Place). slice_set s.lot.places v (option_map held p)) z.place

@@ -54,7 +54,7 @@ module _ (s : State) (t : ℕ) (c : Call) (h : LotFits s) (here : call_at s t �
       )
 
   -- it was told, and isn't woken yet
-  pub due_place : (token : UnparkToken) × (sleep : Sleep) × (place_at s.lot.places e.thread ≡ Some (Taken token sleep false)) × (sleep.late ≡ false) × (sleep.mark ≡ e.mark)
+  pub due_place : (token : UnparkToken) × (sleep : Sleep) × (place_at s.lot.places e.thread ≡ Some (Taken token sleep false)) × (sleep.late ≡ false) × (sleep.mark ≡ e.mark) × (woken_off.0 ≡ told_of token)
   due_place =
       let x = woken_off in
       let mine = seat_of s h t c Out here from in
@@ -65,13 +65,13 @@ module _ (s : State) (t : ℕ) (c : Call) (h : LotFits s) (here : call_at s t �
       marked token sleep place = sym (ap (λ (p : Option Place). option_map_or mark_of p 0) place) ∙ (h.woken (position_or_len (is_by t) s.wakes) e first).mark
 
       go : (said : Told) → IsOutside t s.lot.section → (key : ℕ) → IsAt (spot.Off t said) (place_at s.lot.places e.thread) s.lot.section key
-          → (token : UnparkToken) × (sleep : Sleep) × (place_at s.lot.places e.thread ≡ Some (Taken token sleep false)) × (sleep.late ≡ false) × (sleep.mark ≡ e.mark)
+          → (token : UnparkToken) × (sleep : Sleep) × (place_at s.lot.places e.thread ≡ Some (Taken token sleep false)) × (sleep.late ≡ false) × (sleep.mark ≡ e.mark) × (said ≡ told_of token)
       go said out key x = told x.2
         where
           told : ((place_at s.lot.places e.thread ≡ Some (Held x.0)) × (opened : Section) × (s.lot.section ≡ Some opened) × (opened.thread ≡ Some t) × SaidIn opened said) ⊎ ((token : UnparkToken) × (place_at s.lot.places e.thread ≡ Some (Taken token x.0 false)) × (said ≡ told_of token))
-              → (token : UnparkToken) × (sleep : Sleep) × (place_at s.lot.places e.thread ≡ Some (Taken token sleep false)) × (sleep.late ≡ false) × (sleep.mark ≡ e.mark)
+              → (token : UnparkToken) × (sleep : Sleep) × (place_at s.lot.places e.thread ≡ Some (Taken token sleep false)) × (sleep.late ≡ false) × (sleep.mark ≡ e.mark) × (said ≡ told_of token)
           told (inl y) = absurd (out y.1 y.2 y.3)
-          told (inr y) = (y.0, x.0, y.1, x.1, marked y.0 x.0 y.1)
+          told (inr y) = (y.0, x.0, y.1, x.1, marked y.0 x.0 y.1, y.2)
 
   pub other : (e.thread == t) ≡ false
   other = ne_eqb e.thread t (λ same. out_asleep (sym from ∙ (ap (λ (y : Call). stance y.core) (same_call (sym here ∙ (ap (call_at s) (sym same) ∙ there))) ∙ woken_off.4)))
@@ -89,7 +89,7 @@ module _ (s : State) (t : ℕ) (c : Call) (h : LotFits s) (here : call_at s t �
     abbrev i : ℕ
     i = position_or_len (is_by t) s.wakes
 
-    awake : (taken_count d.core ≡ 0) × (stance roused_call.core ≡ Out) × (taken_count roused_call.core ≡ 0)
+    pub awake : (taken_count d.core ≡ 0) × (stance roused_call.core ≡ Out) × (taken_count roused_call.core ≡ 0)
     awake = sleepers_wake d.core woken_off.1 woken_off.2 token woken_off.4
 
     place_woken : place_at u.lot.places e.thread ≡ Some Running
@@ -98,22 +98,22 @@ module _ (s : State) (t : ℕ) (c : Call) (h : LotFits s) (here : call_at s t �
     place_other : (x : ℕ) → (x == e.thread) ≡ false → place_at u.lot.places x ≡ place_at s.lot.places x
     place_other x f = place_at-set_other s.lot.places e.thread x (Some Running) f
 
-    call_mine : call_at u t ≡ Some rouses
+    pub call_mine : call_at u t ≡ Some rouses
     call_mine =
         set_here (slice_set s.calls e.thread (Some roused_call)) t (Some rouses)
         (subst (λ (n : ℕ). t < n) (sym (length-set s.calls e.thread (Some roused_call))) (call_within s t c here))
 
-    call_woken : call_at u e.thread ≡ Some roused_call
+    pub call_woken : call_at u e.thread ≡ Some roused_call
     call_woken =
         set_elsewhere (slice_set s.calls e.thread (Some roused_call)) t e.thread (Some rouses) other
         ∙ set_here s.calls e.thread (Some roused_call) (call_within s e.thread d there)
 
-    call_other : (x : ℕ) → (x == t) ≡ false → (x == e.thread) ≡ false → call_at u x ≡ call_at s x
+    pub call_other : (x : ℕ) → (x == t) ≡ false → (x == e.thread) ≡ false → call_at u x ≡ call_at s x
     call_other x f g =
         set_elsewhere (slice_set s.calls e.thread (Some roused_call)) t x (Some rouses) f
         ∙ set_elsewhere s.calls e.thread x (Some roused_call) g
 
-    woke_length : length u.calls ≡ length s.calls
+    pub woke_length : length u.calls ≡ length s.calls
     woke_length = length-set (slice_set s.calls e.thread (Some roused_call)) t (Some rouses) ∙ length-set s.calls e.thread (Some roused_call)
 
     lock_kept : (x : ℕ) (y : Call) → call_at s x ≡ Some y → (z : Call) × (call_at u x ≡ Some z) × (z.lock ≡ y.lock)

@@ -1,10 +1,9 @@
 -- A store that tells the one whom a thread has taken: a step of the rules at a mutex.
-use Rattle.std.proofs.Common.{◌≡◌, ◌≢◌, ℕ, ◌+◌, ◌*◌, ◌<◌, ◌⊎◌, inl, inr, ◌==◌, cond, Bool, true, false, List, [], ◌∷◌, length, map, Option, Some, None, slice_get, slice_set, refl, sym, ap, ◌∙◌, subst, arith, eq-eqb}
+use Rattle.std.proofs.Common.{◌≡◌, ◌≢◌, ℕ, ◌*◌, ◌<◌, inl, inr, ◌==◌, cond, Bool, true, false, List, length, map, Option, Some, None, slice_get, slice_set, refl, sym, ap, ◌∙◌, subst, eq-eqb}
 use Rattle.std.specs.Option.{option_map}
 use Rattle.std.proofs.lemmas.Bool.{cases_eq, ne_eqb}
 use Rattle.parking_lot_core.specs.declared.parking.UnparkToken.{UnparkToken}
-use Rattle.parking_lot_core.specs.Machine.{threads_of}
-use Rattle.parking_lot_rules.specs.Roles.{Mark, Open}
+use Rattle.parking_lot_rules.specs.Roles.{Open}
 use Rattle.parking_lot_rules.specs.Mutex as mutex
 use Rattle.parking_lot_cores.specs.declared.act.Act.{Act}
 use Rattle.parking_lot_cores.specs.declared.act.Act.TheVariants as act
@@ -28,11 +27,11 @@ use Rattle.parking_lot_world.specs.declared.seat.Spot.TheVariants as spot
 use Rattle.parking_lot_world.specs.declared.seat.Core.{Core}
 use Rattle.parking_lot_world.specs.declared.seat.Core.TheVariants as core
 use Rattle.parking_lot_world.specs.declared.seat.Call.{Call}
-use Rattle.parking_lot_world.specs.Rows.{State, word_at, call_at, hold_at, taken_by, inside, owns_mutex, mark_of, first_of_all, mutex_spot, mutex_role_in, mutex_role_at, mutex_core_role, mutex_word_of, mutex_at}
-use Rattle.parking_lot_world.specs.Stances.{Doing, Stance, In, Asleep, Stores, Tells, sign, mutex_stance, mutex_taken, taken_count, stance, core_act, core_next, core_tells}
+use Rattle.parking_lot_world.specs.Rows.{State, word_at, call_at, hold_at, taken_by, owns_mutex, mark_of, first_of_all, mutex_spot, mutex_role_in, mutex_role_at, mutex_core_role, mutex_word_of, mutex_at}
+use Rattle.parking_lot_world.specs.Stances.{In, Stores, Tells, sign, mutex_stance, taken_count, core_act, core_next, core_tells}
 use Rattle.parking_lot_world.specs.RowActs.{settled_spot, settled, told_of}
 use Rattle.parking_lot_world.specs.RowFits.{FitsTogether, RulesFit, IsOfKind, IsPrepared, KnowsList, mutex_knows}
-use Rattle.parking_lot_world.specs.RowSteps.{IsMutexMove, IsMoveOf, store_step}
+use Rattle.parking_lot_world.specs.RowSteps.{IsMutexMove, IsMoveOf}
 use Rattle.parking_lot_world.specs.MutexLaws.{Plays, IsTelling, mutex_of}
 use Rattle.parking_lot_world.proofs.Acting.{word-here, has_word}
 use Rattle.parking_lot_world.proofs.Everybody.{all, get-all, settle-all}

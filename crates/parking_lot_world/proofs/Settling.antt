@@ -1,11 +1,9 @@
 -- The machine once a thread has told all whom it has taken and told nothing yet, and has written the word of its lock.
-use Rattle.std.proofs.Common.{◌≡◌, ◌≢◌, ℕ, ◌+◌, ◌*◌, ◌<◌, ◌⊎◌, inl, inr, ◌==◌, cond, Bool, true, false, List, length, map, Option, Some, None, slice_get, slice_set, refl, sym, ap, ◌∙◌, subst, arith, eq-eqb}
-use Rattle.std.specs.Prelude.{count_by}
-use Rattle.std.specs.Option.{option_map, option_and_then}
+use Rattle.std.proofs.Common.{◌≡◌, ◌≢◌, ℕ, ◌<◌, ◌⊎◌, inl, inr, cond, length, Option, Some, None, slice_get, slice_set, refl, sym, ap, ◌∙◌, subst, arith}
+use Rattle.std.specs.Option.{option_map}
 use Rattle.std.proofs.lemmas.Bool.{cases_eq, ne_eqb}
 use Rattle.std.proofs.lemmas.List.{length-set, length-map}
-use Rattle.std.proofs.lemmas.Option.{none-some, same_Some}
-use Rattle.parking_lot_core.specs.declared.parking.ParkToken.{ParkToken}
+use Rattle.std.proofs.lemmas.Option.{none-some}
 use Rattle.parking_lot_core.specs.declared.parking.UnparkToken.{UnparkToken}
 use Rattle.parking_lot_core.specs.Machine.{stored}
 use Rattle.parking_lot_core.proofs.Numbers.{count_by-set, count_by-map_same}
@@ -62,7 +60,7 @@ before_settled : (t : ℕ) (said : Told) (o : Option Call) (e : Call) → option
 before_settled t said None e h = absurd (none-some e h)
 before_settled t said (Some f) e h = (f, refl, same_call h)
 
-same_kind : (c : Core) (heard : Seen) (o : Option LockKind) → IsOfKind o c → IsOfKind o (core_next c heard)
+pub same_kind : (c : Core) (heard : Seen) (o : Option LockKind) → IsOfKind o c → IsOfKind o (core_next c heard)
 same_kind (core.Mutex k) heard o h = h
 same_kind (core.Rw k) heard o h = h
 

@@ -25,13 +25,13 @@ use Rattle.parking_lot_world.specs.Stances.{Takes, Stores, Stance, In, Asleep, r
 use Rattle.parking_lot_world.specs.RowActs.{hears, key_of, off_list, took}
 use Rattle.parking_lot_world.specs.RowFits.{FitsTogether, LotFits, RulesFit}
 use Rattle.parking_lot_world.specs.ActLaws.{Acts}
-use Rattle.parking_lot_world.proofs.Stancing.{leads_by, takings_count}
+use Rattle.parking_lot_world.proofs.Stancing.{leads_by, small_key, takings_count}
 use Rattle.parking_lot_world.proofs.Beginning.{goes_on}
 use Rattle.parking_lot_world.proofs.Carrying.{same_call}
 use Rattle.parking_lot_world.proofs.LotTakes.{took_fits}
 use Rattle.parking_lot_world.proofs.Ruling.{CallFits, call_fits, rules_after}
 use Rattle.parking_lot_world.proofs.TakeOutside.{IsOut, others_out, out_knows, next_kind}
-use Rattle.parking_lot_world.proofs.TakeParts.{takes_two, took_told, TakesSo, the_sleeper, taker_after, sleeper_after, others_after, same_threads, wakes_after}
+use Rattle.parking_lot_world.proofs.TakeParts.{took_told, TakesSo, the_sleeper, taker_after, sleeper_after, others_after, same_threads, wakes_after}
 use Rattle.parking_lot_world.proofs.TakeRw.{rw_takes, rw_lets_go}
 use Rattle.parking_lot_world.proofs.TakeMutex.{mutex_takes}
 
@@ -98,7 +98,7 @@ module _ (s : State) (t : ℕ) (c : Call) (k : ℕ) (w : Waiter) (from : stance 
       let counts = takings_count c.core (word_at s c.lock) w.token (is_left (remove (s.lot.queues (key_of c k)) 0)) so.5 so.4 in
       let e : In counts.0 Takes ≡ In k Takes = sym counts.2 ∙ from in
       let same : counts.0 ≡ k = cc in
-      took_fits s t c h.lots here k 0 w (takes_two c.core k from) from at
+      took_fits s t c h.lots here k 0 w (small_key c.core k Takes from) from at
       refl (elim counts.3 [ inl f ↦ inl (f ∙ ap (λ n. In n Takes) same) | inr f ↦ inr (f ∙ ap (λ n. In n Stores) same) ])
       counts.4 sound
 

@@ -1,5 +1,5 @@
 -- The machine once a thread has taken the first of a list: what the locks see of the two, and what it keeps beside the lot and the rules.
-use Rattle.std.proofs.Common.{◌≡◌, ◌≢◌, ℕ, ◌+◌, ◌*◌, ◌<◌, inl, inr, ◌==◌, cond, eq-eqb, Bool, true, false, List, [], ◌∷◌, ◌++◌, length, length-append, map, remove, Option, Some, slice_get, slice_set, refl, sym, ap, ◌∙◌, subst, arith}
+use Rattle.std.proofs.Common.{◌≡◌, ◌≢◌, ℕ, ◌+◌, ◌*◌, inl, inr, ◌==◌, cond, eq-eqb, Bool, true, false, List, [], ◌∷◌, ◌++◌, length, length-append, map, remove, Option, Some, slice_get, slice_set, refl, sym, ap, ◌∙◌, subst, arith}
 use Rattle.std.proofs.lemmas.Bool.{cases_eq, ne_eqb, eqb-false}
 use Rattle.std.proofs.lemmas.List.{map-append}
 use Rattle.std.proofs.lemmas.List.Elements.{filter-append}
@@ -15,24 +15,20 @@ use Rattle.parking_lot_core.proofs.Numbers.{flag, count_by-set}
 use Rattle.parking_lot_cores.specs.declared.act.Seen.{Seen}
 use Rattle.parking_lot_cores.specs.declared.act.Seen.TheVariants as seen
 use Rattle.parking_lot_cores.specs.Acts.{Gives}
-use Rattle.parking_lot_cores.specs.declared.rw_phase.RwPhase.{RwPhase}
-use Rattle.parking_lot_cores.specs.declared.rw_phase.RwPhase.TheVariants as r
-use Rattle.parking_lot_cores.specs.declared.mutex_phase.MutexPhase.{MutexPhase}
-use Rattle.parking_lot_cores.specs.declared.mutex_phase.MutexPhase.TheVariants as m
 use Rattle.parking_lot_world.specs.declared.seat.Told.{Told}
 use Rattle.parking_lot_world.specs.declared.seat.Told.TheVariants as told
 use Rattle.parking_lot_world.specs.declared.seat.Spot.{Spot}
 use Rattle.parking_lot_world.specs.declared.seat.Spot.TheVariants as spot
 use Rattle.parking_lot_world.specs.declared.seat.Core.{Core}
-use Rattle.parking_lot_world.specs.declared.seat.Core.TheVariants as core
 use Rattle.parking_lot_world.specs.declared.seat.Call.{Call}
 use Rattle.parking_lot_world.specs.declared.seat.Wakeup.{Wakeup}
 use Rattle.parking_lot_world.specs.Rows.{State, word_at, call_at, taken_by, is_by}
-use Rattle.parking_lot_world.specs.Stances.{Takes, In, rw_stance, mutex_stance, stance, core_act, core_next}
+use Rattle.parking_lot_world.specs.Stances.{Takes, In, stance, core_act, core_next}
 use Rattle.parking_lot_world.specs.RowActs.{hears, key_of, off_list, took}
 use Rattle.parking_lot_world.specs.RowFits.{FitsTogether, WakesFit, IsPrepared, KnowsList, is_away, is_off}
 use Rattle.parking_lot_world.specs.RowSteps.{IsMoveOf}
 use Rattle.parking_lot_world.specs.StanceLaws.{Counts}
+use Rattle.parking_lot_world.proofs.Stancing.{small_key}
 use Rattle.parking_lot_world.proofs.Indexing.{get_front}
 use Rattle.parking_lot_world.proofs.Everybody.{all, change-two}
 use Rattle.parking_lot_world.proofs.Lifting.{IsThere, Elsewhere}
@@ -44,20 +40,6 @@ use Rattle.parking_lot_world.proofs.LotActs.{awake_by}
 use Rattle.parking_lot_world.proofs.LotLists.{one_key}
 use Rattle.parking_lot_world.proofs.LotTakes.{Sleeper, sleeper, call_taken, call_mine, call_other, took_length}
 use Rattle.parking_lot_world.proofs.TakeOutside.{awake_listed}
-
--- a list is the lock's first or its second
-rw_two : (q : RwPhase) (k : ℕ) → rw_stance q ≡ In k Takes → k < 2
-rw_two (r.Takes2 rest) k e = let one : 1 ≡ k = cc in omega (arith, one)
-rw_two (r.Scans a) k e = let zero : 0 ≡ k = cc in omega (arith, zero)
-rw_two q k e = absurd (cc)
-
-mutex_two : (q : MutexPhase) (k : ℕ) → mutex_stance q ≡ In k Takes → k < 2
-mutex_two (m.Takes giving) k e = let zero : 0 ≡ k = cc in omega (arith, zero)
-mutex_two q k e = absurd (cc)
-
-pub takes_two : (x : Core) (k : ℕ) → stance x ≡ In k Takes → k < 2
-takes_two (core.Rw y) k e = rw_two y.phase k e
-takes_two (core.Mutex y) k e = mutex_two y.phase k e
 
 -- WHOM A THREAD HAS TAKEN
 
@@ -107,7 +89,7 @@ module _ (s : State) (t : ℕ) (c : Call) (k : ℕ) (w : Waiter) (from : stance 
   u = took s t c (key_of c k) 0 w
 
   abbrev pub the_sleeper : Sleeper s t k c w
-  the_sleeper = sleeper s t c h.lots here k 0 w (takes_two c.core k from) from at
+  the_sleeper = sleeper s t c h.lots here k 0 w (small_key c.core k Takes from) from at
 
   abbrev z : Call
   z = the_sleeper.call
@@ -120,16 +102,16 @@ module _ (s : State) (t : ℕ) (c : Call) (k : ℕ) (w : Waiter) (from : stance 
 
   -- the calls
   pub taker_after : call_at u t ≡ Some (hears c (took_told s c k w))
-  taker_after = call_mine s t c h.lots here k 0 w (takes_two c.core k from) from at
+  taker_after = call_mine s t c h.lots here k 0 w (small_key c.core k Takes from) from at
 
   pub sleeper_after : call_at u w.thread ≡ Some (off_list t z)
-  sleeper_after = call_taken s t c h.lots here k 0 w (takes_two c.core k from) from at
+  sleeper_after = call_taken s t c h.lots here k 0 w (small_key c.core k Takes from) from at
 
   pub others_after : (x : ℕ) → x ≢ t → x ≢ w.thread → call_at u x ≡ call_at s x
-  others_after x nt nv = call_other s t c h.lots here k 0 w (takes_two c.core k from) from at x (ne_eqb x t nt) (ne_eqb x w.thread nv)
+  others_after x nt nv = call_other s t c h.lots here k 0 w (small_key c.core k Takes from) from at x (ne_eqb x t nt) (ne_eqb x w.thread nv)
 
   pub same_threads : length u.calls ≡ length s.calls
-  same_threads = took_length s t c h.lots here k 0 w (takes_two c.core k from) from at
+  same_threads = took_length s t c h.lots here k 0 w (small_key c.core k Takes from) from at
 
   -- whom they have taken
   pub taker_has : taken_by u.wakes t ≡ taken_by s.wakes t ++ w.thread ∷ []
@@ -162,7 +144,7 @@ module _ (s : State) (t : ℕ) (c : Call) (k : ℕ) (w : Waiter) (from : stance 
     kinds = refl;
     threads = same_threads;
     words = λ i ne. refl;
-    queues = λ i l ne b. same_list (2 * i + l) (λ e. ne (one_key i c.lock l k b (takes_two c.core k from) e).0);
+    queues = λ i l ne b. same_list (2 * i + l) (λ e. ne (one_key i c.lock l k b (small_key c.core k Takes from) e).0);
     holds = λ x i ne. refl;
     calls = λ x. elim (cases_eq x t) [
       | inl e ↦ inr (subst (λ (n : ℕ). IsThere c.lock (call_at s n)) (sym e) (subst (IsThere c.lock) (sym here) refl), subst (λ (n : ℕ). IsThere c.lock (call_at u n)) (sym e) (subst (IsThere c.lock) (sym taker_after) refl))

@@ -1,5 +1,5 @@
 -- The acts that tell and wake: each keeps the machine fit, and is a step of the rules.
-use Rattle.std.proofs.Common.{◌≡◌, ℕ, ◌⊎◌, inl, inr, cond, Bool, false, Some, refl, sym, ap, ◌∙◌, subst, arith}
+use Rattle.std.proofs.Common.{◌≡◌, ℕ, inl, inr, cond, Bool, false, Some, slice_get, refl, sym, ap, ◌∙◌, subst, arith}
 use Rattle.parking_lot_core.specs.declared.parking.UnparkToken.{UnparkToken}
 use Rattle.parking_lot_core.specs.Sound as lot
 use Rattle.parking_lot_cores.specs.declared.act.Act.TheVariants as act
@@ -13,16 +13,23 @@ use Rattle.std.specs.Prelude.{bit_and}
 use Rattle.parking_lot_world.specs.declared.seat.Core.{Core}
 use Rattle.parking_lot_world.specs.declared.seat.Core.TheVariants as core
 use Rattle.parking_lot_world.specs.declared.seat.Call.{Call}
+use Rattle.parking_lot_world.specs.declared.seat.Wakeup.{Wakeup}
 use Rattle.parking_lot_world.specs.Rows.{State, word_at, call_at}
-use Rattle.parking_lot_world.specs.Stances.{Stance, In, Stores, Tells, sign, stance, taken_count, core_act, core_next, core_tells}
-use Rattle.parking_lot_world.specs.RowActs.{with_call, with_lot, with_word, settles, hears, told_all, masked, told_of}
-use Rattle.parking_lot_world.specs.RowFits.{FitsTogether, LotFits, RulesFit}
+use Rattle.parking_lot_world.specs.Stances.{Out, In, Stores, Tells, sign, stance, taken_count, core_act, core_next, core_tells}
+use Rattle.parking_lot_world.specs.RowActs.{with_lot, with_call, settles, hears, told_all, masked, woke, told_of}
+use Rattle.parking_lot_world.specs.RowFits.{FitsTogether, LotFits, RulesFit, IsOfKind}
 use Rattle.parking_lot_world.specs.RowSteps.{Goes}
 use Rattle.parking_lot_world.specs.ActLaws.{Keeps}
-use Rattle.parking_lot_world.specs.TellLaws.{TellsAreSteps}
+use Rattle.parking_lot_world.specs.TellLaws.{IsDue, TellsAreSteps}
 use Rattle.parking_lot_world.proofs.LotActs.{same_parts}
 use Rattle.parking_lot_world.proofs.LotStores.{stores_fit}
+use Rattle.parking_lot_world.proofs.LotWakes.{woke_fits}
+use Rattle.parking_lot_world.proofs.MutexRousing.{mutex_wakes, mutex_wake}
 use Rattle.parking_lot_world.proofs.MutexStoring.{mutex_store, mutex_stores}
+use Rattle.parking_lot_world.proofs.OwnActs.{two_kinds}
+use Rattle.parking_lot_world.proofs.Resuming.{goes_on}
+use Rattle.parking_lot_world.proofs.Rousing.{is_due, first_is_by, same_lock, wakes_roused}
+use Rattle.parking_lot_world.proofs.RwRousing.{rw_wakes, rw_wake}
 use Rattle.parking_lot_world.proofs.Settling.{told_state, wakes_told}
 use Rattle.parking_lot_world.proofs.Stancing.{leads_by, wakes_some}
 use Rattle.parking_lot_world.proofs.Telling.{rw_stores, rw_store, rw_mask}
@@ -75,5 +82,49 @@ mask s t c keep asked sound h here =
         stores_none : {a b : WordChange} → act.Section (section.Store a b) ≡ act.Mask keep → ⊥
         stores_none e = cc
 
+-- WAKING
+
+due : (s : State) (t : ℕ) (c : Call) → core_act c.core ≡ act.Section section.Wake → FitsTogether s → call_at s t ≡ Some c
+    → (e : Wakeup) × (d : Call) × (token : UnparkToken) × (x : IsDue s t e d token) × (e.by ≡ t) × (x.sleep.mark ≡ e.mark)
+due s t c asked h here = is_due s t c h here (leads_by c.core (act.Section section.Wake) (word_at s c.lock) seen.Made asked tt).0 (h.lots.wakeful t c here asked)
+
+wake : (s : State) (t : ℕ) (c : Call) (e : Wakeup) (d : Call) (token : UnparkToken) → core_act c.core ≡ act.Section section.Wake → IsDue s t e d token
+    → lot.Sound (woke s t c e.thread d token).lot → Keeps t c s (woke s t c e.thread d token)
+wake s t c e d token asked due sound h here =
+    let leads = leads_by c.core (act.Section section.Wake) (word_at s c.lock) seen.Made asked tt in
+    let rules = by_cores c.core d.core refl refl leads.0 leads.1 in (
+      seen.Made,
+      record {
+        fits = record {
+          lots = woke_fits s t c h.lots here e d due.first (first_is_by t s.wakes e due.first) due.there leads.0 token leads.1 leads.2 sound;
+          wakes = wakes_roused s t c h here e d token due leads.0;
+          rules = rules.0;
+        };
+        goes = rules.1;
+      },
+    )
+  where
+    of_one_kind : (x y : Core) → c.core ≡ x → d.core ≡ y → (out : stance c.core ≡ Out) → IsOfKind (slice_get s.kinds c.lock) x × IsOfKind (slice_get s.kinds c.lock) y
+    of_one_kind x y ce de out = (
+      subst (IsOfKind (slice_get s.kinds c.lock)) ce (h.rules.kinds t c here),
+      subst (λ j. IsOfKind (slice_get s.kinds j) y) (same_lock s t c h here e d token due out) (subst (IsOfKind (slice_get s.kinds d.lock)) de (h.rules.kinds e.thread d due.there)),
+    )
+
+    by_cores : (x y : Core) → c.core ≡ x → d.core ≡ y → stance c.core ≡ Out → stance (core_next c.core seen.Made) ≡ Out → RulesFit (woke s t c e.thread d token) × Goes t c seen.Made s (woke s t c e.thread d token)
+    by_cores (core.Mutex k) (core.Mutex q) ce de out to =
+        let p = mutex_wakes k.phase (sym (ap core_act ce) ∙ asked) in
+        mutex_wake s t c h here e d token due out k ce q de p.0 p.1
+    by_cores (core.Rw k) (core.Rw q) ce de out to =
+        let p = rw_wakes k.phase (sym (ap core_act ce) ∙ asked) in
+        rw_wake s t c h here e d token due out to k ce q de p.0 p.1 p.2
+    by_cores (core.Mutex k) (core.Rw q) ce de out to = let z = of_one_kind (core.Mutex k) (core.Rw q) ce de out in absurd (two_kinds (sym z.1 ∙ z.0))
+    by_cores (core.Rw k) (core.Mutex q) ce de out to = let z = of_one_kind (core.Rw k) (core.Mutex q) ce de out in absurd (two_kinds (sym z.0 ∙ z.1))
+
 pub laws : TellsAreSteps
-laws = record { store = store; mask = mask }
+laws = record {
+  store = store;
+  mask = mask;
+  due = due;
+  wake = wake;
+  goes_on = goes_on;
+}

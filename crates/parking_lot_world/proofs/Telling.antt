@@ -1,5 +1,5 @@
 -- Stores that tell those whom a thread has taken: steps of the rules at a lock of any kind.
-use Rattle.std.proofs.Common.{◌≡◌, ◌≢◌, ℕ, ◌+◌, ◌*◌, ◌<◌, ◌⊎◌, inl, inr, ◌==◌, cond, Bool, true, false, List, [], ◌∷◌, length, map, Option, Some, None, slice_get, slice_set, refl, sym, ap, ◌∙◌, subst, arith, eq-eqb}
+use Rattle.std.proofs.Common.{◌≡◌, ◌≢◌, ℕ, ◌+◌, ◌*◌, ◌<◌, ◌⊎◌, inl, inr, cond, Bool, false, List, [], ◌∷◌, length, map, Option, Some, None, slice_get, slice_set, refl, sym, ap, ◌∙◌, subst, eq-eqb}
 use Rattle.std.specs.Option.{option_map, option_and_then}
 use Rattle.std.proofs.lemmas.Bool.{cases_eq, ne_eqb}
 use Rattle.parking_lot_core.specs.declared.parking.ParkToken.{ParkToken}
@@ -8,14 +8,12 @@ use Rattle.parking_lot_core.specs.declared.place.Section.{Section}
 use Rattle.parking_lot_core.specs.declared.place.Phase.TheVariants as section_phase
 use Rattle.parking_lot_core.specs.declared.place.Waiter.{Waiter}
 use Rattle.parking_lot_core.specs.Results.{is_left}
-use Rattle.parking_lot_core.specs.Machine.{Machine, stored, threads_of}
-use Rattle.parking_lot_rules.specs.Roles.{Role, Owned, Shares, Idle, Mark, Open}
+use Rattle.parking_lot_core.specs.Machine.{threads_of}
+use Rattle.parking_lot_rules.specs.Roles.{Role, Owned, Shares, Idle}
 use Rattle.parking_lot_rules.specs.Plain.{Mask2}
-use Rattle.parking_lot_rules.specs.Lock.{Lock, On1, to_wake}
+use Rattle.parking_lot_rules.specs.Lock.{Lock}
 use Rattle.parking_lot_rules.specs.ReadLock.{word_of}
-use Rattle.parking_lot_rules.specs.Steps.{Step, Alone, Store, Scan, Ending, settle, ends_saying}
-use Rattle.parking_lot_rules.specs.Mutex as mutex
-use Rattle.parking_lot_rules.specs.Any.{RwStep, MxStep}
+use Rattle.parking_lot_rules.specs.Steps.{Alone, Store, settle, ends_saying}
 use Rattle.parking_lot_cores.specs.declared.act.Act.{Act}
 use Rattle.parking_lot_cores.specs.declared.act.Act.TheVariants as act
 use Rattle.parking_lot_cores.specs.declared.act.SectionAct.TheVariants as section
@@ -33,22 +31,21 @@ use Rattle.parking_lot_cores.specs.RwTable as of_rw_table
 use Rattle.parking_lot_cores.specs.RwRules as of_rw
 use Rattle.parking_lot_world.specs.declared.calls.LockKind.TheVariants as kind
 use Rattle.parking_lot_world.specs.declared.seat.Hold.{Hold}
-use Rattle.parking_lot_world.specs.declared.seat.Told.{Told}
 use Rattle.parking_lot_world.specs.declared.seat.Spot.{Spot}
 use Rattle.parking_lot_world.specs.declared.seat.Core.{Core}
 use Rattle.parking_lot_world.specs.declared.seat.Core.TheVariants as core
 use Rattle.parking_lot_world.specs.declared.seat.Call.{Call}
-use Rattle.parking_lot_world.specs.Rows.{State, word_at, call_at, hold_at, taken_by, inside, owned_of, mark_of, rw_spot, rw_role_in, rw_role_at, rw_core_role, rw_lock_at}
-use Rattle.parking_lot_world.specs.Stances.{Doing, Stance, In, Asleep, Stores, sign, rw_stance, core_act, core_next, core_tells}
+use Rattle.parking_lot_world.specs.Rows.{State, word_at, call_at, hold_at, taken_by, owned_of, mark_of, rw_spot, rw_role_in, rw_role_at, rw_core_role, rw_lock_at}
+use Rattle.parking_lot_world.specs.Stances.{Doing, In, Asleep, Stores, sign, rw_stance, core_act, core_next, core_tells}
 use Rattle.parking_lot_world.specs.RowActs.{settled_spot, settled, told_of}
 use Rattle.parking_lot_world.specs.RowFits.{FitsTogether, RulesFit, IsOfKind, IsPrepared, KnowsList, rw_knows}
 use Rattle.parking_lot_world.specs.RowSteps.{IsRwMove, IsMoveOf}
-use Rattle.parking_lot_world.specs.RwLaws.{Meets, Learns, IsStep, with_role, told_by, ending_of}
+use Rattle.parking_lot_world.specs.RwLaws.{Meets, Learns, with_role, told_by, ending_of}
 use Rattle.parking_lot_world.proofs.Acting.{word-here, has_word}
 use Rattle.parking_lot_world.proofs.Everybody.{all, get-all, change-all, settle-all}
 use Rattle.parking_lot_world.proofs.Lifting.{IsThere, rw_there, same_rw}
 use Rattle.parking_lot_world.proofs.Making.{made_rw}
-use Rattle.parking_lot_world.proofs.Meeting.{in_range, meets, rw_sound}
+use Rattle.parking_lot_world.proofs.Meeting.{in_range, meets}
 use Rattle.parking_lot_world.proofs.OwnActs.{two_kinds}
 use Rattle.parking_lot_world.proofs.Owning.{lists}
 use Rattle.parking_lot_world.proofs.Ruling.{rw_move_sound}
@@ -67,6 +64,19 @@ inside_stored token (Some x) = refl
 pub left_threads : (waiters : List Waiter) → is_left (threads_of waiters) ≡ is_left waiters
 left_threads [] = refl
 left_threads (w ∷ ws) = refl
+
+-- a call at a reader-writer lock that hears what it may stands on what its next phase needs, while the lists stay
+pub rw_hears : (s : State) → FitsTogether s → (t : ℕ) (c : Call) (k : RwCore) → c.core ≡ core.Rw k → call_at s t ≡ Some c → (heard : Seen) → of_rw.IsTold k.phase (word_at s c.lock) heard
+    → Learns k.phase heard (s.lot.queues (2 * c.lock)) (s.lot.queues (2 * c.lock + 1)) → IsPrepared c.others (core_next c.core heard) × KnowsList (core_next c.core heard) s.lot.queues c.lock
+rw_hears s h t c k e here heard hears_so learns = (
+  subst (λ (x : Core). IsPrepared c.others (core_next x heard)) (sym e) (
+    (answers_are_moves (rw_lock_at s c.lock) t c.others (rw_spot c.spot) (taken_by s.wakes t) k.phase (word_at s c.lock) heard (meets s h t c k e here) hears_so).2.1,
+    calls_keep.goes_on c.others k.phase (word_at s c.lock) heard (subst (IsPrepared c.others) e (h.rules.prepared t c here)).1 hears_so,
+  ),
+  subst (λ (x : Core). KnowsList (core_next x heard) s.lot.queues c.lock) (sym e)
+      (lists_are_known.learns k.phase (word_at s c.lock) heard (s.lot.queues (2 * c.lock)) (s.lot.queues (2 * c.lock + 1)) (s.lot.queues (2 * c.lock)) (s.lot.queues (2 * c.lock + 1)) hears_so
+      (subst (λ (x : Core). KnowsList x s.lot.queues c.lock) e (h.rules.knows t c here)) learns),
+)
 
 -- AT A READER-WRITER LOCK
 
@@ -137,23 +147,15 @@ module _ (s : State) (t : ℕ) (c : Call) (heard : Seen) (token : UnparkToken) (
       others_then : rw_role_at u c.lock x ≡ g (rw_role_at s c.lock x)
       others_then = ap (rw_role_in c.lock vs hold) (told_others s t c heard token word h here x ne) ∙ role_settled (call_at s x) refl
 
-  -- what a call has to hear so that the machine fits afterwards
+  -- what the call has to hear so that the machine fits afterwards
   module _ (hears_so : of_rw.IsTold k.phase (word_at s c.lock) heard) (learns : Learns k.phase heard (s.lot.queues (2 * c.lock)) (s.lot.queues (2 * c.lock + 1)))
       (made : IsRwMove (of_rw.move c.others us k.phase heard) c.lock t s u) where
     rw_told : RulesFit u × IsMoveOf c.core c.others us heard c.lock t s u
-    rw_told = (
-      rules_told s t c heard token word h here
-          (subst (λ (x : Core). IsPrepared c.others (core_next x heard)) (sym e) (
-            (answers_are_moves old_lock t c.others (rw_spot c.spot) us k.phase (word_at s c.lock) heard rw_meets hears_so).2.1,
-            calls_keep.goes_on c.others k.phase (word_at s c.lock) heard (subst (IsPrepared c.others) e (h.rules.prepared t c here)).1 hears_so,
-          ))
-          (subst (λ (x : Core). KnowsList (core_next x heard) s.lot.queues c.lock) (sym e)
-          (lists_are_known.learns k.phase (word_at s c.lock) heard (s.lot.queues (2 * c.lock)) (s.lot.queues (2 * c.lock + 1)) (s.lot.queues (2 * c.lock)) (s.lot.queues (2 * c.lock + 1)) hears_so
-          (subst (λ (x : Core). KnowsList x s.lot.queues c.lock) e (h.rules.knows t c here)) learns))
-          (λ m. absurd (two_kinds (sym rw_kind ∙ m)))
-          (rw_move_sound s u t c.lock (of_rw.move c.others us k.phase heard) made h.rules.sound),
-      subst (λ (x : Core). IsMoveOf x c.others us heard c.lock t s u) (sym e) made,
-    )
+    rw_told =
+        let well = rw_hears s h t c k e here heard hears_so learns in (
+          rules_told s t c heard token word h here well.0 well.1 (λ m. absurd (two_kinds (sym rw_kind ∙ m))) (rw_move_sound s u t c.lock (of_rw.move c.others us k.phase heard) made h.rules.sound),
+          subst (λ (x : Core). IsMoveOf x c.others us heard c.lock t s u) (sym e) made,
+        )
 
 -- one that stores in a section
 pub rw_stores : (p : RwPhase) (key : ℕ) → rw_stance p ≡ In key Stores → ((rest : Rest) × (taken : Bool) × (p ≡ r.Masks2 rest taken)) ⊎ ((a : Scanning) × (left : Bool) × (p ≡ r.Stores a left))

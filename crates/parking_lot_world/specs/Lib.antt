@@ -13,4 +13,6 @@ pub mod MutexLaws
 pub mod Faults
 pub mod Calls
 pub mod CallViews
+pub mod FrontTakings
 pub mod Beginnings
+pub mod Machines

@@ -23,7 +23,7 @@ use Rattle.parking_lot_world.specs.Rows.{State, call_at, is_by}
 use Rattle.parking_lot_world.specs.Stances.{Doing, Joins, Takes, In, Asleep, stance, core_act}
 use Rattle.parking_lot_world.specs.StanceLaws.{Counts}
 use Rattle.parking_lot_world.specs.RowActs as acts
-use Rattle.parking_lot_world.specs.RowFits.{LotFits, WakesFit}
+use Rattle.parking_lot_world.specs.RowFits.{FitsTogether, LotFits, WakesFit}
 
 -- A thread t in a call c that asks for that act: what fitted fits after it.
 abbrev pub Keeps : State → ℕ → Call → Act → State → Type 0
@@ -42,23 +42,21 @@ pub record ActsKeepFits : Type 0 where
   pub adds : (s : State) (t : ℕ) (c : Call) (by : ℕ) → Keeps s t c (act.Add by) (acts.added s t c by)
   pub spins : (s : State) (t : ℕ) (c : Call) → Keeps s t c act.Spin (acts.spun s t c)
   -- where no section is open one is entered
-  pub enters : (s : State) (t : ℕ) (c : Call) (k : ℕ) → s.lot.section ≡ None → Sound (acts.entered s t c k).lot → Keeps s t c (act.Enter k) (acts.entered s t c k)
+  pub enters : (s : State) (t : ℕ) (c : Call) (k : ℕ) → s.lot.section ≡ None → Keeps s t c (act.Enter k) (acts.entered s t c k)
   -- to go to sleep
-  pub checks : (s : State) (t : ℕ) (c : Call) → Sound (acts.checked s t c).lot → Keeps s t c (act.Section section.Check) (acts.checked s t c)
-  pub appends : (s : State) (t : ℕ) (c : Call) (k : ℕ) (token : ParkToken) → stance c.core ≡ In k (Joins token) → Sound (acts.appended s t c (acts.key_of c k) token).lot
-      → Keeps s t c (act.Section (section.Append token)) (acts.appended s t c (acts.key_of c k) token)
+  pub checks : (s : State) (t : ℕ) (c : Call) → Keeps s t c (act.Section section.Check) (acts.checked s t c)
+  pub appends : (s : State) (t : ℕ) (c : Call) (k : ℕ) (token : ParkToken) → stance c.core ≡ In k (Joins token) → Keeps s t c (act.Section (section.Append token)) (acts.appended s t c (acts.key_of c k) token)
   -- to wake others: the first of the list is taken, or nobody
   pub takes : (s : State) (t : ℕ) (c : Call) (a : Act) (k : ℕ) (w : Waiter) → IsTaking a → stance c.core ≡ In k Takes → slice_get (s.lot.queues (acts.key_of c k)) 0 ≡ Some w → Counts c.core w.token
-      → Sound (acts.took s t c (acts.key_of c k) 0 w).lot → Keeps s t c a (acts.took s t c (acts.key_of c k) 0 w)
+      → Keeps s t c a (acts.took s t c (acts.key_of c k) 0 w)
   pub takes_nobody : (s : State) (t : ℕ) (c : Call) (a : Act) (k : ℕ) → IsTaking a → stance c.core ≡ In k Takes
-      → Sound (acts.took_nobody s t c (acts.key_of c k)).lot → Keeps s t c a (acts.took_nobody s t c (acts.key_of c k))
-  pub stores : (s : State) (t : ℕ) (c : Call) (plain fair change : WordChange) (is_fair : Bool) → Sound (acts.told_all s t c change is_fair).lot
-      → Keeps s t c (act.Section (section.Store plain fair)) (acts.told_all s t c change is_fair)
-  pub masks : (s : State) (t : ℕ) (c : Call) (keep : ℕ) → Sound (acts.masked s t c keep).lot → Keeps s t c (act.Mask keep) (acts.masked s t c keep)
-  pub leaves : (s : State) (t : ℕ) (c : Call) → Sound (acts.left s t c).lot → Keeps s t c (act.Section section.Leave) (acts.left s t c)
+      → Keeps s t c a (acts.took_nobody s t c (acts.key_of c k))
+  pub stores : (s : State) (t : ℕ) (c : Call) (plain fair change : WordChange) (is_fair : Bool) → Keeps s t c (act.Section (section.Store plain fair)) (acts.told_all s t c change is_fair)
+  pub masks : (s : State) (t : ℕ) (c : Call) (keep : ℕ) → Keeps s t c (act.Mask keep) (acts.masked s t c keep)
+  pub leaves : (s : State) (t : ℕ) (c : Call) → Keeps s t c (act.Section section.Leave) (acts.left s t c)
   -- the first whom it is to wake
   pub wakes : (s : State) (t : ℕ) (c : Call) (e : Wakeup) (d : Call) (token : UnparkToken) → slice_get s.wakes (position_or_len (is_by t) s.wakes) ≡ Some e → call_at s e.thread ≡ Some d
-      → Sound (acts.woke s t c e.thread d token).lot → Keeps s t c (act.Section section.Wake) (acts.woke s t c e.thread d token)
+      → Keeps s t c (act.Section section.Wake) (acts.woke s t c e.thread d token)
   -- calls begin and end
   pub begins : (s : State) (t : ℕ) (c : Call) → LotFits s → t < length s.calls → call_at s t ≡ None → LotFits (acts.begun s t c)
   pub ends : (s : State) (t : ℕ) (c : Call) (answer : CoreAnswer) → Keeps s t c (act.Done answer) (acts.answered s t c)
@@ -159,3 +157,7 @@ NewMachinesFit = (s : State) → Sound s.lot → IsNew s → LotFits s × WakesF
 -- A lot that registers one thread after another has that many that run.
 abbrev pub RegisteredThreadsRun : Type 0
 RegisteredThreadsRun = (m : Machine) (n : ℕ) → m.places ≡ replicate n (Some Running) → (registered m).places ≡ replicate (n + 1) (Some Running)
+
+-- Whoever takes a waiter can count it: there are few threads, a scan that goes on has taken no writer, and only readers and writers wait.
+abbrev pub ScansHaveRoom : Type 0
+ScansHaveRoom = (s : State) → FitsTogether s → (t : ℕ) (c : Call) → call_at s t ≡ Some c → (k nth : ℕ) (w : Waiter) → stance c.core ≡ In k Takes → slice_get (s.lot.queues (acts.key_of c k)) nth ≡ Some w → Counts c.core w.token

@@ -1,10 +1,12 @@
 -- What acts of the machine keep that tell those whom a thread has taken, or wake them, and which steps of the rules they are.
-use Rattle.std.specs.Prelude.{◌≡◌, ℕ, Bool, false, if◌then◌else◌, Some, slice_get}
+use Rattle.std.specs.Prelude.{◌≡◌, ℕ, Bool, true, false, if◌then◌else◌, Some, None, slice_get, slice_set}
 use Rattle.std.specs.List.{position_or_len}
+use Rattle.std.specs.Option.{option_map_or}
 use Rattle.parking_lot_core.specs.declared.parking.UnparkToken.{UnparkToken}
-use Rattle.parking_lot_core.specs.declared.place.Place.TheVariants.{Taken}
+use Rattle.parking_lot_core.specs.declared.place.Place.TheVariants.{Running, Taken}
 use Rattle.parking_lot_core.specs.declared.place.Sleep.{Sleep}
-use Rattle.parking_lot_core.specs.Places.{place_at}
+use Rattle.parking_lot_core.specs.Places.{place_at, is_due, roused}
+use Rattle.parking_lot_core.specs.Machine.{Machine, changed_at, resume_fault}
 use Rattle.parking_lot_core.specs.Sound as lot
 use Rattle.parking_lot_cores.specs.declared.act.Act.TheVariants as act
 use Rattle.parking_lot_cores.specs.declared.act.SectionAct.TheVariants as section
@@ -25,7 +27,20 @@ pub record IsDue (s : State) (t : ℕ) (e : Wakeup) (d : Call) (token : UnparkTo
   pub place : place_at s.lot.places e.thread ≡ Some (Taken token sleep false)
   pub late : sleep.late ≡ false
 
+-- One that was taken in time is woken, and goes on: neither of the lot's two calls is refused, and it has its token.
+pub record GoesOn (m : Machine) (v : ℕ) (token : UnparkToken) (sleep : Sleep) : Type 0 where
+  pub due : option_map_or (is_due sleep.mark) (place_at m.places v) false ≡ true
+  pub free : resume_fault (changed_at roused m v) v ≡ None
+  pub place : place_at (changed_at roused m v).places v ≡ Some (Taken token sleep true)
+  pub runs : slice_set (changed_at roused m v).places v (Some Running) ≡ slice_set m.places v (Some Running)
+
 pub record TellsAreSteps : Type 0 where
   pub store : (s : State) (t : ℕ) (c : Call) (plain fair : WordChange) (is_fair : Bool) → core_act c.core ≡ act.Section (section.Store plain fair)
       → lot.Sound (told_all s t c (if is_fair then fair else plain) is_fair).lot → Keeps t c s (told_all s t c (if is_fair then fair else plain) is_fair)
   pub mask : (s : State) (t : ℕ) (c : Call) (keep : ℕ) → core_act c.core ≡ act.Mask keep → lot.Sound (masked s t c keep).lot → Keeps t c s (masked s t c keep)
+  -- one that is to wake somebody has somebody to wake, who was taken by it and bears the mark of its sleep
+  pub due : (s : State) (t : ℕ) (c : Call) → core_act c.core ≡ act.Section section.Wake → FitsTogether s → call_at s t ≡ Some c
+      → (e : Wakeup) × (d : Call) × (token : UnparkToken) × (x : IsDue s t e d token) × (e.by ≡ t) × (x.sleep.mark ≡ e.mark)
+  pub wake : (s : State) (t : ℕ) (c : Call) (e : Wakeup) (d : Call) (token : UnparkToken) → core_act c.core ≡ act.Section section.Wake → IsDue s t e d token
+      → lot.Sound (woke s t c e.thread d token).lot → Keeps t c s (woke s t c e.thread d token)
+  pub goes_on : (m : Machine) (v : ℕ) (token : UnparkToken) (sleep : Sleep) → place_at m.places v ≡ Some (Taken token sleep false) → sleep.late ≡ false → GoesOn m v token sleep

@@ -1,19 +1,23 @@
 //! What each act of a call does to the machine.
-ghost use Rattle.std.specs.Prelude.{◌≡◌, ◌<◌, ◌≤◌, ◌+◌, ◌*◌, ◌%◌, ◌^◌, if◌then◌else◌, length, map, slice_get, Some, None};
-ghost use Rattle.std.specs.Option.{option_map};
+ghost use Rattle.std.specs.Prelude.{◌≡◌, ◌<◌, ◌≤◌, ℕ, ◌+◌, ◌*◌, ◌%◌, ◌^◌, length, map, slice_get, Some, None, if◌then◌else◌};
+ghost use Rattle.std.specs.Option.{option_map, option_and_then};
+ghost use Rattle.std.specs.List.{position_or_len};
+ghost use Rattle.parking_lot_cores.specs.declared.act.Seen.TheVariants as seen;
+ghost use Rattle.parking_lot_world.specs.declared.seat.Spot.TheVariants as spot;
 ghost use Rattle.parking_lot_cores.specs.declared.act.Act.TheVariants as act;
 ghost use Rattle.parking_lot_cores.specs.declared.act.SectionAct.TheVariants as section;
 ghost use Rattle.parking_lot_cores.specs.declared.act.CoreAnswer.{CoreAnswer};
 ghost use Rattle.parking_lot_cores.specs.declared.act.WordChange.{WordChange};
 ghost use Rattle.parking_lot_world.specs.ActLaws.{MayBegin};
-ghost use Rattle.parking_lot_world.specs.Rows.{call_at, state, word_at};
-ghost use Rattle.parking_lot_world.specs.Stances.{core_act};
-ghost use Rattle.parking_lot_world.specs.RowActs.{added, answered, appended, begun, checked, entered, exchanged, key_of, left, loaded, masked, settled, spun, told_all, took, took_nobody, woke};
+ghost use Rattle.parking_lot_world.specs.Rows.{call_at, is_by, state, word_at};
+ghost use Rattle.parking_lot_world.specs.Stances.{In, Joins, core_act, stance};
+ghost use Rattle.parking_lot_world.specs.Machines.{IsTakenFrom, IsWoken};
+ghost use Rattle.parking_lot_world.specs.RowActs.{added, answered, appended, begun, checked, entered, exchanged, hears, key_of, left, loaded, masked, settled, spun, told_all, took, took_nobody, woke};
 
 use crate::lot_calls;
 use crate::row_machine::RowMachine;
 use crate::seat::{Call, Told, Wakeup};
-use parking_lot_core::{FilterOp, ParkResult, ParkToken, UnparkToken};
+use parking_lot_core::{ParkToken, Taking, UnparkToken};
 use parking_lot_cores::{Seen, TRY_AGAIN, WordChange};
 use std::alloc::Allocator;
 
@@ -38,6 +42,30 @@ fn settled(call: Option<Call>, by: usize, said: Told) -> Option<Call>
     ensures { result ≡ option_map (settled by said) call }
 {
     call.map(|call| call.settled(by, said))
+}
+
+/// Where the first stands whom one is to wake; behind the last, where there is none.
+fn first_by(wakes: &[Wakeup], by: usize) -> usize
+    ensures { result ≡ position_or_len (is_by by) wakes.now }
+{
+    wakes
+        .iter()
+        .position(|wakeup| wakeup.by == by)
+        .unwrap_or(wakes.len())
+}
+
+/// The call that a thread is in.
+fn call_in(calls: &[Option<Call>], thread: usize) -> Option<Call>
+    ensures { result ≡ option_and_then (λ c. c) (slice_get calls.now thread) }
+{
+    calls.get(thread).copied().flatten()
+}
+
+/// The call of a sleeper once it is woken.
+fn woken(call: Option<Call>, token: UnparkToken) -> Option<Call>
+    ensures { result ≡ option_map {T = Call} (λ d. record (hears d (seen.Woken token)) { spot = spot.Listed }) call }
+{
+    call.map(|call| call.woken(token))
 }
 
 impl<A: Allocator> RowMachine<A> {
@@ -126,31 +154,39 @@ impl<A: Allocator> RowMachine<A> {
     pub(crate) fn append(&mut self, thread: usize, call: Call, token: ParkToken)
         requires here { call_at (state self.old) thread ≡ Some call }
         requires asked { core_act call.core ≡ act.Section (section.Append token) }
+        ensures { (k : ℕ) × (stance call.core ≡ In k (Joins token)) × (state self.new ≡ appended (state self.old) thread call (key_of call k) token) }
     {
-        let Ok(()) = self.lot.append(thread, token, false) else {
-            return;
-        };
+        lot_calls::append(&mut self.lot, thread, token);
         self.calls[thread] = Some(call.listed());
     }
 
-    /// It takes the next waiter of a list that a filter wants.
-    pub(crate) fn take<F: FnMut(ParkToken) -> FilterOp + Drop>(
-        &mut self,
-        thread: usize,
-        call: Call,
-        key: usize,
-        filter: F,
-    )
-        requires filter { F.IsAlwaysCallable filter }
+    /// It takes the first waiter, whatever it waits for.
+    pub(crate) fn take_first(&mut self, thread: usize, call: Call)
         requires here { call_at (state self.old) thread ≡ Some call }
+        requires asked { core_act call.core ≡ act.Section section.TakeFirst }
+        ensures { IsTakenFrom thread call (state self.old) (state self.new) }
     {
-        let Ok(taking) = self.lot.take_next(thread, filter) else {
-            return;
-        };
-        let left = self.lot.has_waiters(key);
+        let taking = lot_calls::take_first(&mut self.lot, thread);
+        self.note_taking(thread, call, taking);
+    }
+
+    /// It takes the next waiter that it may take at that sum of tokens.
+    pub(crate) fn take_next(&mut self, thread: usize, call: Call, sum: u64)
+        requires here { call_at (state self.old) thread ≡ Some call }
+        requires asked { core_act call.core ≡ act.Section (section.TakeNext sum) }
+        ensures { IsTakenFrom thread call (state self.old) (state self.new) }
+    {
+        let taking = lot_calls::take_next(&mut self.lot, thread, sum);
+        self.note_taking(thread, call, taking);
+    }
+
+    /// It goes on with whom it has taken, if there was one.
+    fn note_taking(&mut self, thread: usize, call: Call, taking: Option<Taking>) {
+        let left = self.lot.has_waiters(call.key(call.core.list()));
         let token = taking.map(|taking| taking.token);
         if let Some(taking) = taking {
-            self.calls[taking.thread] = self.call(taking.thread).map(|call| call.off_list(thread));
+            let sleeper = self.calls[taking.thread];
+            self.calls[taking.thread] = sleeper.map(|sleeper| sleeper.off_list(thread));
             self.wakes.push_reserved(Wakeup {
                 by: thread,
                 thread: taking.thread,
@@ -189,18 +225,13 @@ impl<A: Allocator> RowMachine<A> {
     pub(crate) fn wake(&mut self, thread: usize, call: Call)
         requires here { call_at (state self.old) thread ≡ Some call }
         requires asked { core_act call.core ≡ act.Section section.Wake }
+        ensures { IsWoken thread call (state self.old) (state self.new) }
     {
-        let Some(at) = self.wakes.iter().position(|wakeup| wakeup.by == thread) else {
-            return;
-        };
+        let at = first_by(&self.wakes, thread);
         let wakeup = self.wakes.remove(at);
-        self.lot.wake(wakeup.thread, wakeup.mark);
-        let Ok(ParkResult::Unparked(token)) = self.lot.resume(wakeup.thread, |_, _| {}) else {
-            return;
-        };
-        self.calls[wakeup.thread] = self
-            .call(wakeup.thread)
-            .map(|sleeper| sleeper.told(Seen::Woken(token)));
+        let token = lot_calls::rouse(&mut self.lot, wakeup.thread, wakeup.mark);
+        let sleeper = call_in(&self.calls, wakeup.thread);
+        self.calls[wakeup.thread] = woken(sleeper, token);
         self.calls[thread] = Some(call.told(Seen::Made));
     }
 

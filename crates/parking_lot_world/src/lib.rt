@@ -14,15 +14,16 @@ mod rw_laws;
 mod seat;
 mod starts;
 mod step;
-mod view_laws;
 mod take_laws;
 mod tell_laws;
+mod view_laws;
 
 pub use calls::{LockAnswer, LockCall, LockKind, OwnMode};
 pub use fault::{WorldFault, WorldRefusal};
 pub use laws::acts_are_steps;
 pub use lot_laws::{
-    acts_keep_places, new_machines_hold_together, stances_follow_acts, the_lot_never_refuses,
+    acts_keep_places, firsts_are_taken, new_machines_hold_together, stances_follow_acts,
+    the_lot_never_refuses,
 };
 pub use mutex_laws::{
     a_mutex_is_shown_as_it_is, answers_are_steps_of_a_sound_mutex, calls_that_have_begun_go_on,
@@ -42,6 +43,6 @@ pub use rw_laws::{
 };
 pub use starts::allowed_calls_begin_well;
 pub use step::WorldStep;
-pub use view_laws::modes_are_weighed;
 pub use take_laws::takes_are_steps_of_the_machine;
 pub use tell_laws::tells_are_steps;
+pub use view_laws::modes_are_weighed;

@@ -1,6 +1,9 @@
 //! Laws of the machine of rows: how its threads stand to the sections and lists of the lot.
 ghost use Rattle.parking_lot_world.specs.StanceLaws.{ActsLead, CallsBegin, CallsEnd, KeysAreTwo, SleepersWake, TakingsCount, WakersCount};
-ghost use Rattle.parking_lot_world.specs.LotLaws.{ActsKeepFits, ActsKeepWakes, LotNeverRefuses, NewMachinesFit, RegisteredThreadsRun};
+ghost use Rattle.parking_lot_world.specs.FrontTakings.{FirstsAreTaken};
+ghost use Rattle.parking_lot_world.specs.LotLaws.{ActsKeepFits, ActsKeepWakes, LotNeverRefuses, NewMachinesFit, RegisteredThreadsRun, ScansHaveRoom};
+
+use parking_lot_core::{FilterOp, ParkToken};
 
 /// What an act gives leads a call in or out of its section, from one thing that it does there to the next, to its sleep or
 /// out of it, and it counts whom it has taken and is still to wake. A scan counts one more while it has room for it: a
@@ -25,10 +28,19 @@ pub fn acts_keep_places()
 
 /// Each act finds the lot as it needs it. Where no section is open one can be entered; each step of a section comes where
 /// the section may make it; whom a section takes is another thread, which sleeps; and who is to wake somebody finds a
-/// thread that was told and isn't woken yet.
+/// thread that was told and isn't woken yet. A scan has room to count whomever it takes.
 pub fn the_lot_never_refuses()
-    ensures { LotNeverRefuses }
+    ensures calls { LotNeverRefuses }
+    ensures room { ScansHaveRoom }
 {}
+
+/// A section that has passed nobody, by a filter that wants whoever is first, takes the first of its list, and nobody only
+/// where the list is empty.
+pub fn firsts_are_taken<F: FnMut(ParkToken) -> FilterOp + Drop>(filter: F)
+    ensures { FirstsAreTaken F.step filter }
+{
+    let _ = &filter;
+}
 
 /// A machine in which nobody is in a call holds together, as does one that registers its threads one by one.
 pub fn new_machines_hold_together()

@@ -1,25 +1,41 @@
 //! The machine of locks: words, lists and a call for each thread, moved one atomic step at a time.
-ghost use Rattle.std.specs.Prelude.{◌≡◌, ◌<◌, ◌+◌, ◌*◌, length, Some, None};
+ghost use Rattle.std.specs.Prelude.{◌≡◌, ◌<◌, ◌↔◌, ◌⊎◌, ◌^◌, length, slice_get, Some, None, true, if◌then◌else◌, IsErrOf, IfOk, IfErr, IsTrue};
+ghost use Rattle.parking_lot_core.specs.declared.fault.SizeFault.TheVariants.{BadSize, NoMemory};
+ghost use Rattle.parking_lot_cores.specs.declared.act.Act.TheVariants as act;
+ghost use Rattle.parking_lot_world.specs.Stances.{core_act};
 ghost use Rattle.parking_lot_world.specs.Rows.{call_at, hold_at, state, word_at};
+ghost use Rattle.parking_lot_world.specs.Machines.{at_rest, can_move, may_begin, IsBegun, IsStepped};
 
-use crate::calls::LockKind;
-use crate::seat::{Call, Hold, Wakeup};
-use parking_lot_core::Lot;
+use crate::calls::{LockCall, LockKind};
+use crate::seat::{Call, Hold, Spot, Wakeup};
+use parking_lot_core::{Lot, SizeFault};
+use parking_lot_cores::{Act, CoreAnswer, SectionAct, WordChange};
 use std::alloc::{Allocator, Global};
 use std::marker::Model;
 
+/// The most threads, and the most locks.
+const MAX_THREADS: usize = 65_536;
+
+const MAX_LOCKS: usize = 1 << 20;
+
 /// Locks, and threads at them, each in one call at a time.
+///
+/// A thread [begins](RowMachine::begin) a call at a lock, and then makes one atomic [step](RowMachine::step) after another, in any order
+/// among the threads, until the call is answered. Each step is a step of the rules of the lock. All room is taken where the machine is made.
 #[derive(Drop)]
 pub struct RowMachine<A: Allocator = Global> {
     pub(crate) kinds: Vec<LockKind, A>,
     pub(crate) words: Vec<u64, A>,
+    /// What each thread owns of each lock, thread by thread; of the lock of the call that it is in, what it owned before.
     pub(crate) holds: Vec<Hold, A>,
     pub(crate) calls: Vec<Option<Call>, A>,
+    /// Who is still to be woken, and by whom.
     pub(crate) wakes: Vec<Wakeup, A>,
     pub(crate) lot: Lot<A>,
 }
 
 impl<A: Allocator> Model for RowMachine<A> {
+    ghost use Rattle.std.specs.Prelude.{◌≤◌, length, vec_capacity};
     ghost use Rattle.parking_lot_world.specs.Rows.{Rows, state};
     ghost use Rattle.parking_lot_world.specs.RowFits.{FitsTogether};
 
@@ -27,11 +43,25 @@ impl<A: Allocator> Model for RowMachine<A> {
 
     ghost view = { λ m. record { kinds = m.kinds.items; words = m.words.items; holds = m.holds.items; calls = m.calls.items; wakes = m.wakes.items; lot = m.lot } };
 
-    ghost invariant = { λ m. FitsTogether (state (record { kinds = m.kinds.items; words = m.words.items; holds = m.holds.items; calls = m.calls.items; wakes = m.wakes.items; lot = m.lot })) };
+    ghost invariant = { λ m. FitsTogether (state (record { kinds = m.kinds.items; words = m.words.items; holds = m.holds.items; calls = m.calls.items; wakes = m.wakes.items; lot = m.lot })) × (length m.calls.items ≤ vec_capacity m.wakes) };
 }
 
 impl<A: Allocator> RowMachine<A> {
-    /// The word of a lock.
+    /// How many threads there are.
+    pub fn threads(&self) -> usize
+        ensures { result ≡ length (state self.now).calls }
+    {
+        self.calls.len()
+    }
+
+    /// The kind of a lock; `None` beyond the last.
+    pub fn kind(&self, lock: usize) -> Option<LockKind>
+        ensures { result ≡ slice_get (state self.now).kinds lock }
+    {
+        self.kinds.get(lock).copied()
+    }
+
+    /// The word of a lock; 0 beyond the last.
     pub fn word(&self, lock: usize) -> u64
         ensures { result ≡ word_at (state self.now) lock }
     {
@@ -44,4 +74,117 @@ impl<A: Allocator> RowMachine<A> {
     {
         self.calls.get(thread).copied().flatten()
     }
+
+    /// What a thread owned of a lock when it was last in no call there.
+    pub(crate) fn hold(&self, thread: usize, lock: usize) -> Hold
+        ensures { result ≡ hold_at (state self.now) thread lock }
+    {
+        if lock < self.kinds.len() {
+            let row = thread.saturating_mul(self.kinds.len());
+            self.holds
+                .get(row.saturating_add(lock))
+                .copied()
+                .unwrap_or(Hold::Shares(0))
+        } else {
+            Hold::Shares(0)
+        }
+    }
+
+    /// Whether a thread can make a step: it is in a call, doesn't sleep, and isn't before a section that another has entered.
+    pub fn can_move(&self, thread: usize) -> bool
+        ensures { result ≡ can_move (state self.now) thread }
+    {
+        let Some(call) = self.call(thread) else {
+            return false;
+        };
+        match call.core.act() {
+            Act::Sleep => false,
+            Act::Enter(_) => !self.lot.is_entered(call.lock),
+            _ => true,
+        }
+    }
+
+    /// Whether a thread may begin that call at a lock: it is in no call, the lock is of the call's kind, and it gives up what it owns there, or
+    /// asks for a lock of which it owns nothing.
+    pub fn may_begin(&self, thread: usize, lock: usize, call: LockCall) -> bool
+        ensures { result ≡ may_begin (state self.now) thread lock call }
+    {
+        thread < self.threads()
+            && self.call(thread).is_none()
+            && self.kind(lock) == Some(call.kind())
+            && self.hold(thread, lock).allows(call)
+    }
+
+    /// A thread begins a call at a lock. It is the call's first step.
+    pub fn begin(&mut self, thread: usize, lock: usize, call: LockCall)
+        requires may { may_begin (state self.old) thread lock call ≡ true }
+        ensures { IsBegun thread lock call (state self.old) (state self.new) }
+    {
+        let _ = &self.wakes;
+        let others = self.hold(thread, lock).beside();
+        self.begin_call(
+            thread,
+            Call {
+                lock,
+                others,
+                core: call.core(),
+                spot: Spot::Listed,
+            },
+        );
+    }
+
+    /// A thread makes one step. `fair` says whether it hands a lock over, where it stores in the section of an exclusive release. Answers how
+    /// the call ended, where it did.
+    pub fn step(&mut self, thread: usize, fair: bool) -> Option<CoreAnswer>
+        requires can { can_move (state self.old) thread ≡ true }
+        ensures { IsStepped thread fair result (state self.old) (state self.new) }
+    {
+        let _ = &self.wakes;
+        let call = self.call(thread)?;
+        match call.core.act() {
+            Act::Load => self.load(thread, call),
+            Act::Exchange(from, to) => self.exchange(thread, call, from, to),
+            Act::Add(by) => self.add(thread, call, by),
+            Act::Mask(keep) => self.mask(thread, call, keep),
+            Act::Spin => self.spin(thread, call),
+            Act::Enter(which) => self.enter(thread, call, which),
+            Act::Section(next) => self.step_in_section(thread, call, next, fair),
+            Act::Sleep => {}
+            Act::Done(answer) => {
+                self.answer(thread, call);
+                return Some(answer);
+            }
+        }
+        None
+    }
+
+    /// The same in a section, or after one.
+    fn step_in_section(&mut self, thread: usize, call: Call, next: SectionAct, fair: bool)
+        requires here { call_at (state self.old) thread ≡ Some call }
+        requires asked { core_act call.core ≡ act.Section next }
+        ensures { IsStepped thread fair None (state self.old) (state self.new) }
+    {
+        let _ = &self.wakes;
+        match next {
+            SectionAct::Check => self.check(thread, call),
+            SectionAct::TakeFirst => self.take_first(thread, call),
+            SectionAct::TakeNext(sum) => self.take_next(thread, call, sum),
+            SectionAct::Append(token) => self.append(thread, call, token),
+            SectionAct::Store {
+                plain,
+                fair: handing,
+            } => {
+                self.store(thread, call, change_by(fair, plain, handing), fair);
+            }
+            SectionAct::Leave => self.leave(thread, call),
+            SectionAct::Wake => self.wake(thread, call),
+        }
+    }
+}
+
+/// The change that a release makes, as it is plain or hands the lock over.
+fn change_by(fair: bool, plain: WordChange, handing: WordChange) -> WordChange
+    ensures { result ≡ (if fair then handing else plain) }
+{
+    if fair { handing } else { plain }
 }

@@ -1,8 +1,8 @@
 //! What a machine of locks keeps of each thread.
-ghost use Rattle.std.specs.Prelude.{◌≡◌, ◌≤◌, ◌^◌};
+ghost use Rattle.std.specs.Prelude.{◌≡◌, ◌≤◌, ◌^◌, ℕ};
 ghost use Rattle.parking_lot_cores.specs.declared.act.Seen.TheVariants as seen;
 ghost use Rattle.parking_lot_world.specs.declared.seat.Spot.TheVariants as spot;
-ghost use Rattle.parking_lot_world.specs.Stances.{core_act, core_next, core_tells, stance};
+ghost use Rattle.parking_lot_world.specs.Stances.{In, Takes, core_act, core_next, core_tells, stance};
 ghost use Rattle.parking_lot_world.specs.RowActs.{hears, hold_after, mutex_hold_after, rw_hold_after, joins, key_of, off_list, settled, settled_spot, told_of};
 
 use parking_lot_core::UnparkToken;
@@ -134,6 +134,19 @@ impl Core {
         }
     }
 
+    /// The list at which it goes through waiters: 0 is the lock's first, 1 its second.
+    pub fn list(&self) -> u8
+        ensures { (k : ℕ) → stance self.now ≡ In k Takes → result ≡ k }
+    {
+        match self {
+            Core::Rw(core) => match core.phase() {
+                RwPhase::Takes2(_) => 1,
+                _ => 0,
+            },
+            Core::Mutex(_) => 0,
+        }
+    }
+
     /// What its thread owns where its call ends, with so many shared holds beside.
     pub fn hold_after(&self, others: u8) -> Hold
         requires few { others ≤ 254 }
@@ -190,6 +203,16 @@ impl Call {
         Call {
             spot: Spot::Listed,
             ..self.told(Seen::Made)
+        }
+    }
+
+    /// The call of a sleeper once it is woken.
+    pub fn woken(self, token: UnparkToken) -> Call
+        ensures { result ≡ record (hears self (seen.Woken token)) { spot = spot.Listed } }
+    {
+        Call {
+            spot: Spot::Listed,
+            ..self.told(Seen::Woken(token))
         }
     }
 

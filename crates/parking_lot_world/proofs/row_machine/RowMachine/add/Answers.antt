@@ -1,4 +1,5 @@
 use Rattle.std.proofs.Common.{ℕ, ◌+◌, ◌%◌, ◌^◌, sym, ap, ◌∙◌, subst, arith}
+use Rattle.parking_lot_world.proofs.Calling.{room_set}
 use Rattle.parking_lot_cores.specs.declared.act.Seen.TheVariants as seen
 use Rattle.parking_lot_world.specs.declared.seat.Call.{Call}
 use Rattle.parking_lot_world.specs.Rows.{Rows, State, state}
@@ -10,7 +11,7 @@ use Rattle.parking_lot_world.proofs.row_machine.RowMachine.add.Goals as goal
 
 -- src/acts.rt:76:9
 pub index_mut-requires : goal.index_mut-requires
-index_mut-requires g c = omega (arith, word_low c.args.thread c.args.call c.self.view_is c.requires.here c.self.invariant, c.self.inside.words.ok.0)
+index_mut-requires g c = omega (arith, word_low c.args.thread c.args.call c.self.view_is c.requires.here c.self.invariant.0, c.self.inside.words.ok.0)
 
 -- src/acts.rt:77:9
 pub index_mut-requires-2 : goal.index_mut-requires-2
@@ -27,5 +28,7 @@ returns g c =
 
 -- src/acts.rt:66:5
 pub invariant_of-self : goal.invariant_of-self
-invariant_of-self g c =
-    subst FitsTogether (sym (returns g c)) (laws.add (state c.args.self.now) c.args.thread c.args.call c.args.by c.requires.asked (fits c.self.view_is c.self.invariant) c.requires.here).1.fits
+invariant_of-self g c = (
+  subst FitsTogether (sym (returns g c)) (laws.add (state c.args.self.now) c.args.thread c.args.call c.args.by c.requires.asked (fits c.self.view_is c.self.invariant.0) c.requires.here).1.fits,
+  room_set _ _ _ _ c.self.invariant.1,
+)

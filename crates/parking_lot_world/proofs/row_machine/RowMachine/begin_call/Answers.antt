@@ -1,4 +1,5 @@
-use Rattle.std.proofs.Common.{sym, ap, ◌∙◌, subst}
+use Rattle.parking_lot_world.proofs.Calling.{room_set}
+use Rattle.std.proofs.Common.{◌≡◌, sym, ap, ◌∙◌, subst}
 use Rattle.parking_lot_world.specs.Rows.{Rows, state}
 use Rattle.parking_lot_world.specs.RowActs.{with_call}
 use Rattle.parking_lot_world.specs.RowFits.{FitsTogether}
@@ -13,5 +14,7 @@ returns g c =
 
 -- src/acts.rt:198:5
 pub invariant_of-self : goal.invariant_of-self
-invariant_of-self g c =
-    subst FitsTogether (sym (returns g c)) (laws.begin (state c.args.self.now) c.args.thread c.args.call (fits c.self.view_is c.self.invariant) c.requires.may).fits
+invariant_of-self g c = (
+  subst FitsTogether (sym (returns g c)) (laws.begin (state c.args.self.now) c.args.thread c.args.call (fits c.self.view_is c.self.invariant.0) c.requires.may).fits,
+  room_set _ _ _ _ c.self.invariant.1,
+)

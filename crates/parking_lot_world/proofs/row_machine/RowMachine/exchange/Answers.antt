@@ -1,4 +1,5 @@
-use Rattle.std.proofs.Common.{Bool, cond, sym, ap, ◌∙◌, subst, arith, eq-eqb}
+use Rattle.parking_lot_world.proofs.Calling.{room_set}
+use Rattle.std.proofs.Common.{◌≡◌, ◌<◌, ℕ, ◌==◌, Bool, cond, true, false, sym, ap, ◌∙◌, subst, arith, eq-eqb}
 use Rattle.std.proofs.lemmas.Bool.{ne_eqb}
 use Rattle.parking_lot_cores.specs.declared.act.Seen.TheVariants as seen
 use Rattle.parking_lot_world.specs.declared.seat.Call.{Call}
@@ -11,7 +12,7 @@ use Rattle.parking_lot_world.proofs.row_machine.RowMachine.exchange.Goals as goa
 
 -- src/acts.rt:62:13
 pub index_mut-requires : goal.index_mut-requires
-index_mut-requires g c = omega (arith, word_low c.args.thread c.args.call c.self.view_is c.requires.here c.self.invariant, c.self.inside.words.ok.0)
+index_mut-requires g c = omega (arith, word_low c.args.thread c.args.call c.self.view_is c.requires.here c.self.invariant.0, c.self.inside.words.ok.0)
 
 -- src/acts.rt:63:13
 pub index_mut-requires-then-word-from : goal.index_mut-requires-then-word-from
@@ -28,9 +29,11 @@ returns-then-word-from g c =
 
 -- src/acts.rt:40:5
 pub invariant_of-self : goal.invariant_of-self
-invariant_of-self g c =
-    subst FitsTogether (sym (returns-then-word-from g c))
-    (laws.exchange (state c.args.self.now) c.args.thread c.args.call c.args.from c.args.to c.requires.asked (fits c.self.view_is c.self.invariant) c.requires.here).1.fits
+invariant_of-self g c = (
+  subst FitsTogether (sym (returns-then-word-from g c))
+      (laws.exchange (state c.args.self.now) c.args.thread c.args.call c.args.from c.args.to c.requires.asked (fits c.self.view_is c.self.invariant.0) c.requires.here).1.fits,
+  room_set _ _ _ _ c.self.invariant.1,
+)
 
 -- src/acts.rt:50:13
 pub index_mut-requires-else-word-from : goal.index_mut-requires-else-word-from
@@ -48,6 +51,8 @@ returns-else-word-from g c =
 
 -- src/acts.rt:50:13
 pub invariant_of-self-else-word-from : goal.invariant_of-self-else-word-from
-invariant_of-self-else-word-from g c =
-    subst FitsTogether (sym (returns-else-word-from g c))
-    (laws.exchange (state c.args.self.now) c.args.thread c.args.call c.args.from c.args.to c.requires.asked (fits c.self.view_is c.self.invariant) c.requires.here).1.fits
+invariant_of-self-else-word-from g c = (
+  subst FitsTogether (sym (returns-else-word-from g c))
+      (laws.exchange (state c.args.self.now) c.args.thread c.args.call c.args.from c.args.to c.requires.asked (fits c.self.view_is c.self.invariant.0) c.requires.here).1.fits,
+  room_set _ _ _ _ c.self.invariant.1,
+)

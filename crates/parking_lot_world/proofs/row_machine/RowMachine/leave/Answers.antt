@@ -1,4 +1,5 @@
 use Rattle.std.proofs.Common.{false, sym, ap, ◌∙◌, subst, arith}
+use Rattle.parking_lot_world.proofs.Calling.{room_set}
 use Rattle.parking_lot_core.specs.Machine.{Machine, closed, machine}
 use Rattle.parking_lot_core.specs.Sound.{Sound}
 use Rattle.parking_lot_world.specs.declared.seat.Call.{Call}
@@ -13,7 +14,7 @@ use Rattle.parking_lot_world.proofs.row_machine.RowMachine.leave.Goals as goal
 -- src/acts.rt:184:9
 pub leave-requires : goal.leave-requires
 leave-requires g c =
-    record { inside = lot_never_refuses.leaves _ c.args.thread c.args.call (c.self.invariant.lots, held c.args.thread c.args.call c.self.view_is c.requires.here, c.requires.asked) }
+    record { inside = lot_never_refuses.leaves _ c.args.thread c.args.call (c.self.invariant.0.lots, held c.args.thread c.args.call c.self.view_is c.requires.here, c.requires.asked) }
 
 -- src/acts.rt:185:9
 pub index_mut-requires : goal.index_mut-requires
@@ -30,8 +31,10 @@ returns g c =
 
 -- src/acts.rt:170:5
 pub invariant_of-self : goal.invariant_of-self
-invariant_of-self g c =
-    let e = returns g c in
-    subst FitsTogether (sym e)
-    (laws.leave (state c.args.self.now) c.args.thread c.args.call c.requires.asked (subst Sound (ap (λ (s : State). s.lot) e) c.leave.ensures.sound)
-    (fits c.self.view_is c.self.invariant) c.requires.here).1.fits
+invariant_of-self g c = (
+  let e = returns g c in
+      subst FitsTogether (sym e)
+      (laws.leave (state c.args.self.now) c.args.thread c.args.call c.requires.asked (subst Sound (ap (λ (s : State). s.lot) e) c.leave.ensures.sound)
+      (fits c.self.view_is c.self.invariant.0) c.requires.here).1.fits,
+  room_set _ _ _ _ c.self.invariant.1,
+)

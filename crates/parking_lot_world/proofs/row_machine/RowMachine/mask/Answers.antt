@@ -1,4 +1,5 @@
-use Rattle.std.proofs.Common.{ℕ, false, List, map, bit_and, slice_set, Option, Some, sym, ap, ◌∙◌, subst, arith}
+use Rattle.parking_lot_world.proofs.Calling.{room_settled}
+use Rattle.std.proofs.Common.{◌≡◌, ◌<◌, ℕ, false, List, map, bit_and, slice_set, Option, Some, sym, ap, ◌∙◌, subst, arith}
 use Rattle.std.specs.Option.{option_map}
 use Rattle.parking_lot_core.specs.Machine.{Machine, stored, machine}
 use Rattle.parking_lot_core.specs.Sound.{Sound}
@@ -15,7 +16,7 @@ use Rattle.parking_lot_world.proofs.row_machine.RowMachine.mask.Goals as goal
 
 -- src/acts.rt:75:9
 pub index_mut-requires : goal.index_mut-requires
-index_mut-requires g c = omega (arith, word_low c.args.thread c.args.call c.self.view_is c.requires.here c.self.invariant, c.self.inside.words.ok.0)
+index_mut-requires g c = omega (arith, word_low c.args.thread c.args.call c.self.view_is c.requires.here c.self.invariant.0, c.self.inside.words.ok.0)
 
 -- src/acts.rt:76:9
 pub index_mut-requires-2 : goal.index_mut-requires-2
@@ -35,7 +36,9 @@ returns g c =
 
 -- src/acts.rt:66:5
 pub invariant_of-self : goal.invariant_of-self
-invariant_of-self g c =
-    let e = returns g c in
-    subst FitsTogether (sym e)
-    (laws.mask (state c.args.self.now) c.args.thread c.args.call c.args.keep c.requires.asked (subst Sound (ap (λ (s : State). s.lot) e) c.store.ensures.sound) (fits c.self.view_is c.self.invariant) c.requires.here).1.fits
+invariant_of-self g c = (
+  let e = returns g c in
+      subst FitsTogether (sym e)
+      (laws.mask (state c.args.self.now) c.args.thread c.args.call c.args.keep c.requires.asked (subst Sound (ap (λ (s : State). s.lot) e) c.store.ensures.sound) (fits c.self.view_is c.self.invariant.0) c.requires.here).1.fits,
+  room_settled _ _ _ _ _ _ c.settle.ensures c.self.invariant.1,
+)

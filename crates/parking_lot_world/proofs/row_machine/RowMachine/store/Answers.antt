@@ -1,4 +1,5 @@
-use Rattle.std.proofs.Common.{ℕ, List, map, slice_set, Option, Some, sym, ap, ◌∙◌, subst, arith}
+use Rattle.parking_lot_world.proofs.Calling.{room_settled}
+use Rattle.std.proofs.Common.{◌≡◌, ◌<◌, ℕ, List, map, slice_set, Option, Some, sym, ap, ◌∙◌, subst, arith}
 use Rattle.std.specs.Option.{option_map}
 use Rattle.parking_lot_core.specs.declared.parking.UnparkToken.{UnparkToken}
 use Rattle.parking_lot_core.specs.Machine.{Machine, stored, machine}
@@ -20,11 +21,11 @@ use Rattle.parking_lot_world.proofs.row_machine.RowMachine.store.Goals as goal
 pub store-requires : goal.store-requires
 store-requires g c =
     let asked = c.requires.asked in
-    record { inside = lot_never_refuses.stores _ c.args.thread c.args.call asked.0 asked.1 (c.self.invariant.lots, held c.args.thread c.args.call c.self.view_is c.requires.here, asked.2) }
+    record { inside = lot_never_refuses.stores _ c.args.thread c.args.call asked.0 asked.1 (c.self.invariant.0.lots, held c.args.thread c.args.call c.self.view_is c.requires.here, asked.2) }
 
 -- src/acts.rt:176:9
 pub index_mut-requires : goal.index_mut-requires
-index_mut-requires g c = omega (arith, word_low c.args.thread c.args.call c.self.view_is c.requires.here c.self.invariant, c.self.inside.words.ok.0)
+index_mut-requires g c = omega (arith, word_low c.args.thread c.args.call c.self.view_is c.requires.here c.self.invariant.0, c.self.inside.words.ok.0)
 
 -- src/acts.rt:177:9
 pub index_mut-requires-2 : goal.index_mut-requires-2
@@ -49,9 +50,11 @@ returns g c =
 
 -- src/acts.rt:168:5
 pub invariant_of-self : goal.invariant_of-self
-invariant_of-self g c =
-    let s : State = state c.args.self.now in
-    let asked = c.requires.asked in
-    let e = returns g c ∙ ap (λ (change : WordChange). told_all s c.args.thread c.args.call change c.args.fair) asked.3 in
-    subst FitsTogether (sym e)
-    (laws.store s c.args.thread c.args.call asked.0 asked.1 c.args.fair asked.2 (subst Sound (ap (λ (s : State). s.lot) e) c.store.ensures.sound) (fits c.self.view_is c.self.invariant) c.requires.here).1.fits
+invariant_of-self g c = (
+  let s : State = state c.args.self.now in
+      let asked = c.requires.asked in
+      let e = returns g c ∙ ap (λ (change : WordChange). told_all s c.args.thread c.args.call change c.args.fair) asked.3 in
+      subst FitsTogether (sym e)
+      (laws.store s c.args.thread c.args.call asked.0 asked.1 c.args.fair asked.2 (subst Sound (ap (λ (s : State). s.lot) e) c.store.ensures.sound) (fits c.self.view_is c.self.invariant.0) c.requires.here).1.fits,
+  room_settled _ _ _ _ _ _ c.settle.ensures c.self.invariant.1,
+)
