@@ -1,5 +1,5 @@
 use Rattle.parking_lot_world.proofs.Calling.{room_set}
-use Rattle.std.proofs.Common.{◌≡◌, sym, ap, ◌∙◌, subst}
+use Rattle.std.proofs.Common.{sym, ap, ◌∙◌, subst}
 use Rattle.parking_lot_world.specs.Rows.{Rows, state}
 use Rattle.parking_lot_world.specs.RowActs.{with_call}
 use Rattle.parking_lot_world.specs.RowFits.{FitsTogether}
