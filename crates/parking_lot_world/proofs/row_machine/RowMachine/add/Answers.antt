@@ -1,12 +1,21 @@
+use Rattle.std.proofs.Common.{ℕ, ◌+◌, ◌%◌, ◌^◌, sym, ap, ◌∙◌, subst, arith}
 use Rattle.parking_lot_world.proofs.Calling.{room_set}
-use Rattle.std.proofs.Common.{◌≡◌, ℕ, ◌+◌, ◌%◌, ◌^◌, sym, ap, ◌∙◌, subst}
 use Rattle.parking_lot_cores.specs.declared.act.Seen.TheVariants as seen
 use Rattle.parking_lot_world.specs.declared.seat.Call.{Call}
 use Rattle.parking_lot_world.specs.Rows.{Rows, State, state}
 use Rattle.parking_lot_world.specs.RowActs.{with_call, with_word, hears}
 use Rattle.parking_lot_world.specs.RowFits.{FitsTogether}
 use Rattle.parking_lot_world.proofs.Acting.{laws}
+use Rattle.parking_lot_world.proofs.Holding.{fits, low, word_low}
 use Rattle.parking_lot_world.proofs.row_machine.RowMachine.add.Goals as goal
+
+-- src/acts.rt:76:9
+pub index_mut-requires : goal.index_mut-requires
+index_mut-requires g c = omega (arith, word_low c.args.thread c.args.call c.self.view_is c.requires.here c.self.invariant.0, c.self.inside.words.ok.0)
+
+-- src/acts.rt:77:9
+pub index_mut-requires-2 : goal.index_mut-requires-2
+index_mut-requires-2 g c = omega (arith, low c.args.thread c.args.call c.self.view_is c.requires.here, c.self.inside.calls.ok.0)
 
 -- src/acts.rt:66:5
 pub returns : goal.returns
@@ -20,6 +29,6 @@ returns g c =
 -- src/acts.rt:66:5
 pub invariant_of-self : goal.invariant_of-self
 invariant_of-self g c = (
-  subst FitsTogether (sym (returns g c)) (laws.add (state c.args.self.now) c.args.thread c.args.call c.args.by c.requires.asked (subst (λ (m : Rows). FitsTogether (state m)) c.self.view_is c.self.invariant.0) c.requires.here).1.fits,
+  subst FitsTogether (sym (returns g c)) (laws.add (state c.args.self.now) c.args.thread c.args.call c.args.by c.requires.asked (fits c.self.view_is c.self.invariant.0) c.requires.here).1.fits,
   room_set _ _ _ _ c.self.invariant.1,
 )

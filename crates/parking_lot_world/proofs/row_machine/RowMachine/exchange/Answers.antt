@@ -1,5 +1,5 @@
 use Rattle.parking_lot_world.proofs.Calling.{room_set}
-use Rattle.std.proofs.Common.{◌≡◌, ◌<◌, ℕ, ◌==◌, Bool, cond, true, false, sym, ap, ◌∙◌, subst, arith, eq-eqb}
+use Rattle.std.proofs.Common.{Bool, cond, sym, ap, ◌∙◌, subst, arith, eq-eqb}
 use Rattle.std.proofs.lemmas.Bool.{ne_eqb}
 use Rattle.parking_lot_cores.specs.declared.act.Seen.TheVariants as seen
 use Rattle.parking_lot_world.specs.declared.seat.Call.{Call}
@@ -7,8 +7,16 @@ use Rattle.parking_lot_world.specs.Rows.{Rows, State, state, word_at}
 use Rattle.parking_lot_world.specs.RowActs.{with_call, with_word, hears, loaded}
 use Rattle.parking_lot_world.specs.RowFits.{FitsTogether}
 use Rattle.parking_lot_world.proofs.Acting.{laws}
-use Rattle.parking_lot_world.proofs.Holding.{fits, low}
+use Rattle.parking_lot_world.proofs.Holding.{fits, low, word_low}
 use Rattle.parking_lot_world.proofs.row_machine.RowMachine.exchange.Goals as goal
+
+-- src/acts.rt:62:13
+pub index_mut-requires : goal.index_mut-requires
+index_mut-requires g c = omega (arith, word_low c.args.thread c.args.call c.self.view_is c.requires.here c.self.invariant.0, c.self.inside.words.ok.0)
+
+-- src/acts.rt:63:13
+pub index_mut-requires-then-word-from : goal.index_mut-requires-then-word-from
+index_mut-requires-then-word-from g c = omega (arith, low c.args.thread c.args.call c.self.view_is c.requires.here, c.self.inside.calls.ok.0)
 
 -- src/acts.rt:40:5
 pub returns-then-word-from : goal.returns-then-word-from

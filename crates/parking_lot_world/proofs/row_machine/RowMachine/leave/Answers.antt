@@ -1,5 +1,5 @@
+use Rattle.std.proofs.Common.{false, sym, ap, ◌∙◌, subst, arith}
 use Rattle.parking_lot_world.proofs.Calling.{room_set}
-use Rattle.std.proofs.Common.{◌≡◌, false, sym, ap, ◌∙◌, subst}
 use Rattle.parking_lot_core.specs.Machine.{Machine, closed, machine}
 use Rattle.parking_lot_core.specs.Sound.{Sound}
 use Rattle.parking_lot_world.specs.declared.seat.Call.{Call}
@@ -7,7 +7,18 @@ use Rattle.parking_lot_world.specs.Rows.{Rows, State, state}
 use Rattle.parking_lot_world.specs.RowActs.{with_call, with_lot}
 use Rattle.parking_lot_world.specs.RowFits.{FitsTogether}
 use Rattle.parking_lot_world.proofs.Acting.{laws}
+use Rattle.parking_lot_world.proofs.Holding.{fits, held, low}
+use Rattle.parking_lot_world.proofs.LotCalls.{lot_never_refuses}
 use Rattle.parking_lot_world.proofs.row_machine.RowMachine.leave.Goals as goal
+
+-- src/acts.rt:184:9
+pub leave-requires : goal.leave-requires
+leave-requires g c =
+    record { inside = lot_never_refuses.leaves _ c.args.thread c.args.call (c.self.invariant.0.lots, held c.args.thread c.args.call c.self.view_is c.requires.here, c.requires.asked) }
+
+-- src/acts.rt:185:9
+pub index_mut-requires : goal.index_mut-requires
+index_mut-requires g c = omega (arith, low c.args.thread c.args.call c.self.view_is c.requires.here, c.self.inside.calls.ok.0)
 
 -- src/acts.rt:170:5
 pub returns : goal.returns
@@ -24,6 +35,6 @@ invariant_of-self g c = (
   let e = returns g c in
       subst FitsTogether (sym e)
       (laws.leave (state c.args.self.now) c.args.thread c.args.call c.requires.asked (subst Sound (ap (λ (s : State). s.lot) e) c.leave.ensures.sound)
-      (subst (λ (m : Rows). FitsTogether (state m)) c.self.view_is c.self.invariant.0) c.requires.here).1.fits,
+      (fits c.self.view_is c.self.invariant.0) c.requires.here).1.fits,
   room_set _ _ _ _ c.self.invariant.1,
 )

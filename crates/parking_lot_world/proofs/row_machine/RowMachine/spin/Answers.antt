@@ -1,10 +1,10 @@
 use Rattle.parking_lot_world.proofs.Calling.{room_set}
-use Rattle.std.proofs.Common.{◌≡◌, sym, ap, ◌∙◌, subst}
-use Rattle.parking_lot_cores.specs.declared.act.Seen.TheVariants as seen
-use Rattle.parking_lot_world.specs.Rows.{Rows, State, state}
-use Rattle.parking_lot_world.specs.RowActs.{with_call, hears}
+use Rattle.std.proofs.Common.{sym, ap, ◌∙◌, subst}
+use Rattle.parking_lot_world.specs.Rows.{Rows, state}
+use Rattle.parking_lot_world.specs.RowActs.{with_call}
 use Rattle.parking_lot_world.specs.RowFits.{FitsTogether}
 use Rattle.parking_lot_world.proofs.Acting.{laws}
+use Rattle.parking_lot_world.proofs.Holding.{fits}
 use Rattle.parking_lot_world.proofs.row_machine.RowMachine.spin.Goals as goal
 
 -- src/acts.rt:79:5
@@ -15,6 +15,6 @@ returns g c =
 -- src/acts.rt:79:5
 pub invariant_of-self : goal.invariant_of-self
 invariant_of-self g c = (
-  subst FitsTogether (sym (returns g c)) (laws.spin (state c.args.self.now) c.args.thread c.args.call c.requires.asked (subst (λ (m : Rows). FitsTogether (state m)) c.self.view_is c.self.invariant.0) c.requires.here).1.fits,
+  subst FitsTogether (sym (returns g c)) (laws.spin (state c.args.self.now) c.args.thread c.args.call c.requires.asked (fits c.self.view_is c.self.invariant.0) c.requires.here).1.fits,
   room_set _ _ _ _ c.self.invariant.1,
 )
