@@ -58,4 +58,5 @@ mod TellActs
 pub mod RwTelling
 pub mod RwSleeping
 pub mod Weighing
+pub mod Woken
 mod MutexStoring

@@ -1,6 +1,6 @@
 //! What each act of a call does to the machine.
 ghost use Rattle.std.specs.Prelude.{◌≡◌, ◌<◌, ◌≤◌, ℕ, ◌+◌, ◌*◌, ◌%◌, ◌^◌, length, map, slice_get, Some, None};
-ghost use Rattle.std.specs.List.{position_or_len};
+ghost use Rattle.std.specs.List.{position, position_or_len};
 ghost use Rattle.std.specs.Option.{option_and_then, option_map};
 ghost use Rattle.parking_lot_cores.specs.declared.act.Seen.TheVariants as seen;
 ghost use Rattle.parking_lot_world.specs.declared.seat.Spot.TheVariants as spot;
@@ -40,10 +40,14 @@ fn settled(call: Option<Call>, by: usize, said: Told) -> Option<Call>
 fn first_by(wakes: &[Wakeup], by: usize) -> usize
     ensures { result ≡ position_or_len (is_by by) wakes.now }
 {
-    wakes
-        .iter()
-        .position(|wakeup| wakeup.by == by)
-        .unwrap_or(wakes.len())
+    place_by(wakes, by).unwrap_or(wakes.len())
+}
+
+/// The same; `None` where there is none.
+fn place_by(wakes: &[Wakeup], by: usize) -> Option<usize>
+    ensures { result ≡ position (is_by by) wakes.now }
+{
+    wakes.iter().position(|wakeup| wakeup.by == by)
 }
 
 /// The call that a thread is in.
