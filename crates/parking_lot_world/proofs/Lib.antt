@@ -59,4 +59,5 @@ pub mod RwTelling
 pub mod RwSleeping
 pub mod Weighing
 pub mod Woken
+pub mod Takings
 mod MutexStoring
