@@ -60,4 +60,6 @@ mod TellActs
 pub mod RwTelling
 pub mod RwSleeping
 pub mod Weighing
+pub mod Woken
+pub mod Takings
 mod MutexStoring

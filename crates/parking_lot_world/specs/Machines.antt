@@ -1,5 +1,6 @@
 -- What a machine of locks does, call by call.
-use Rattle.std.specs.Prelude.{◌≡◌, ℕ, ◌+◌, ◌*◌, ◌==◌, ◌&&◌, ◌⊎◌, Bool, true, false, not, nat_lt, if◌then◌else◌, List, [], length, replicate, Option, Some, None, is_some, is_none, slice_get}
+use Rattle.std.specs.Prelude.{◌≡◌, ℕ, ◌+◌, ◌*◌, ◌==◌, ◌&&◌, ◌⊎◌, Bool, true, false, not, nat_lt, if◌then◌else◌, List, [], ◌∷◌, ◌++◌, length, replicate, Option, Some, None, is_some, is_none, slice_get, slice_set}
+use Rattle.std.specs.Option.{option_and_then, option_map}
 use Rattle.parking_lot_core.specs.Runs.{fresh}
 use Rattle.parking_lot_core.specs.declared.place.Place.TheVariants.{Running}
 use Rattle.parking_lot_cores.specs.declared.act.Act.{Act}
@@ -20,10 +21,15 @@ use Rattle.parking_lot_world.specs.Calls.{kind_of}
 use Rattle.parking_lot_world.specs.Beginnings.{core_of, holds_beside, is_allowed}
 use Rattle.parking_lot_world.specs.Rows.{State, call_at, hold_at}
 use Rattle.parking_lot_core.specs.declared.parking.UnparkToken.{UnparkToken}
+use Rattle.parking_lot_core.specs.declared.place.Taking.{Taking}
 use Rattle.parking_lot_core.specs.declared.place.Waiter.{Waiter}
 use Rattle.parking_lot_world.specs.declared.seat.Wakeup.{Wakeup}
 use Rattle.parking_lot_world.specs.Stances.{In, Takes, stance, core_act}
+<<<<<<< HEAD
 use Rattle.parking_lot_world.specs.RowActs.{key_of, told_all, took, took_nobody, woke}
+=======
+use Rattle.parking_lot_world.specs.RowActs.{key_of, off_list, took, took_nobody, woke}
+>>>>>>> f22b17d86d0c1d379d90b97010645e9c76ca4480
 use Rattle.parking_lot_world.specs.TellLaws.{IsDue}
 use Rattle.parking_lot_world.specs.ActLaws.{Acts, Ends}
 
@@ -80,6 +86,13 @@ at_rest threads kinds = record {
   wakes = [];
   lot = record (fresh threads 0) { places = replicate threads (Some Running) };
 }
+
+-- whom a thread takes is off its list, and is to be woken by it
+abbrev pub takes_off_by : ℕ → List (Option Call) → Taking → List (Option Call)
+takes_off_by t calls x = slice_set calls x.thread (option_map (off_list t) (option_and_then (λ c. c) (slice_get calls x.thread)))
+
+abbrev pub owes_to : ℕ → List Wakeup → Taking → List Wakeup
+owes_to t wakes x = wakes ++ record { by = t; thread = x.thread; mark = x.mark } ∷ []
 
 -- a thread takes the first of its list, or finds nobody there
 abbrev pub IsTakenFrom : ℕ → Call → State → State → Type 0

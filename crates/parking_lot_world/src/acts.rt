@@ -1,23 +1,32 @@
 //! What each act of a call does to the machine.
+<<<<<<< HEAD
 ghost use Rattle.std.specs.Prelude.{◌≡◌, ◌<◌, ◌≤◌, ℕ, ◌+◌, ◌*◌, ◌%◌, ◌^◌, length, map, slice_get, Some, None, if◌then◌else◌};
 ghost use Rattle.std.specs.Option.{option_map, option_and_then};
 ghost use Rattle.std.specs.List.{position_or_len};
+=======
+ghost use Rattle.std.specs.Prelude.{◌≡◌, ◌<◌, ◌≤◌, ℕ, ◌+◌, ◌*◌, ◌%◌, ◌^◌, length, map, slice_get, Some, None, vec_capacity, vec_len};
+ghost use Rattle.std.specs.List.{position, position_or_len};
+ghost use Rattle.std.specs.Option.{option_and_then, option_map, option_map_or};
+>>>>>>> f22b17d86d0c1d379d90b97010645e9c76ca4480
 ghost use Rattle.parking_lot_cores.specs.declared.act.Seen.TheVariants as seen;
 ghost use Rattle.parking_lot_world.specs.declared.seat.Spot.TheVariants as spot;
+ghost use Rattle.parking_lot_core.specs.declared.place.Taking.{Taking};
+ghost use Rattle.parking_lot_core.specs.Machine.{machine};
+ghost use Rattle.parking_lot_core.specs.Results.{is_left};
 ghost use Rattle.parking_lot_cores.specs.declared.act.Act.TheVariants as act;
 ghost use Rattle.parking_lot_cores.specs.declared.act.SectionAct.TheVariants as section;
 ghost use Rattle.parking_lot_cores.specs.declared.act.CoreAnswer.{CoreAnswer};
 ghost use Rattle.parking_lot_cores.specs.declared.act.WordChange.{WordChange};
 ghost use Rattle.parking_lot_world.specs.ActLaws.{MayBegin};
 ghost use Rattle.parking_lot_world.specs.Rows.{call_at, is_by, state, word_at};
-ghost use Rattle.parking_lot_world.specs.Stances.{In, Joins, core_act, stance};
-ghost use Rattle.parking_lot_world.specs.Machines.{IsTakenFrom, IsWoken};
-ghost use Rattle.parking_lot_world.specs.RowActs.{added, answered, appended, begun, checked, entered, exchanged, hears, key_of, left, loaded, masked, settled, spun, told_all, took, took_nobody, woke};
+ghost use Rattle.parking_lot_world.specs.Stances.{In, Joins, Takes, core_act, stance};
+ghost use Rattle.parking_lot_world.specs.Machines.{IsTakenFrom, IsWoken, owes_to, takes_off_by};
+ghost use Rattle.parking_lot_world.specs.RowActs.{added, answered, appended, begun, checked, entered, exchanged, hears, key_of, left, loaded, masked, off_list, settled, spun, told_all, took, took_nobody, woke};
 
 use crate::lot_calls;
 use crate::row_machine::RowMachine;
 use crate::seat::{Call, Told, Wakeup};
-use parking_lot_core::{ParkToken, Taking, UnparkToken};
+use parking_lot_core::{Lot, ParkToken, Taking, UnparkToken};
 use parking_lot_cores::{Seen, TRY_AGAIN, WordChange};
 use std::alloc::Allocator;
 
@@ -48,10 +57,14 @@ fn settled(call: Option<Call>, by: usize, said: Told) -> Option<Call>
 fn first_by(wakes: &[Wakeup], by: usize) -> usize
     ensures { result ≡ position_or_len (is_by by) wakes.now }
 {
-    wakes
-        .iter()
-        .position(|wakeup| wakeup.by == by)
-        .unwrap_or(wakes.len())
+    place_by(wakes, by).unwrap_or(wakes.len())
+}
+
+/// The same; `None` where there is none.
+fn place_by(wakes: &[Wakeup], by: usize) -> Option<usize>
+    ensures { result ≡ position (is_by by) wakes.now }
+{
+    wakes.iter().position(|wakeup| wakeup.by == by)
 }
 
 /// The call that a thread is in.
@@ -66,6 +79,48 @@ fn woken(call: Option<Call>, token: UnparkToken) -> Option<Call>
     ensures { result ≡ option_map {T = Call} (λ d. record (hears d (seen.Woken token)) { spot = spot.Listed }) call }
 {
     call.map(|call| call.woken(token))
+}
+
+/// The call of a sleeper once a thread has taken it off its list.
+fn off_list(call: Option<Call>, by: usize) -> Option<Call>
+    ensures { result ≡ option_map (off_list by) call }
+{
+    call.map(|call| call.off_list(by))
+}
+
+/// Whoever was taken, if there was one, is off its list, and is to be woken.
+fn note_taking<A: Allocator>(
+    calls: &mut Vec<Option<Call>, A>,
+    wakes: &mut Vec<Wakeup, A>,
+    by: usize,
+    taking: Option<Taking>,
+)
+    requires low { (x : Taking) → taking ≡ Some x → x.thread < vec_len calls.old }
+    requires room { (x : Taking) → taking ≡ Some x → vec_len wakes.old < vec_capacity wakes.old }
+    ensures calls { calls.new.items ≡ option_map_or (takes_off_by by calls.old.items) taking calls.old.items }
+    ensures slots { vec_len calls.new ≡ vec_len calls.old }
+    ensures wakes { wakes.new.items ≡ option_map_or (owes_to by wakes.old.items) taking wakes.old.items }
+    ensures capacity { vec_capacity wakes.new ≡ vec_capacity wakes.old }
+{
+    if let Some(taking) = taking {
+        let sleeper = call_in(calls, taking.thread);
+        calls[taking.thread] = off_list(sleeper, by);
+        wakes.push_reserved(Wakeup {
+            by,
+            thread: taking.thread,
+            mark: taking.mark,
+        });
+    }
+}
+
+/// The call of one that has taken the first of its list, or nobody.
+fn taker<A: Allocator>(lot: &Lot<A>, call: Call, taking: Option<Taking>) -> Call
+    requires small { call.lock ≤ 2 ^ 62 }
+    ensures { (k : ℕ) → stance call.core ≡ In k Takes → result ≡ hears call (seen.Took (option_map (λ x. x.token) taking) (is_left ((machine lot.now).queues (key_of call k)))) }
+{
+    let left = lot.has_waiters(call.key(call.core.list()));
+    let token = taking.map(|taking| taking.token);
+    call.told(Seen::Took { token, left })
 }
 
 impl<A: Allocator> RowMachine<A> {
@@ -167,7 +222,8 @@ impl<A: Allocator> RowMachine<A> {
         ensures { IsTakenFrom thread call (state self.old) (state self.new) }
     {
         let taking = lot_calls::take_first(&mut self.lot, thread);
-        self.note_taking(thread, call, taking);
+        note_taking(&mut self.calls, &mut self.wakes, thread, taking);
+        self.calls[thread] = Some(taker(&self.lot, call, taking));
     }
 
     /// It takes the next waiter that it may take at that sum of tokens.
@@ -177,23 +233,8 @@ impl<A: Allocator> RowMachine<A> {
         ensures { IsTakenFrom thread call (state self.old) (state self.new) }
     {
         let taking = lot_calls::take_next(&mut self.lot, thread, sum);
-        self.note_taking(thread, call, taking);
-    }
-
-    /// It goes on with whom it has taken, if there was one.
-    fn note_taking(&mut self, thread: usize, call: Call, taking: Option<Taking>) {
-        let left = self.lot.has_waiters(call.key(call.core.list()));
-        let token = taking.map(|taking| taking.token);
-        if let Some(taking) = taking {
-            let sleeper = self.calls[taking.thread];
-            self.calls[taking.thread] = sleeper.map(|sleeper| sleeper.off_list(thread));
-            self.wakes.push_reserved(Wakeup {
-                by: thread,
-                thread: taking.thread,
-                mark: taking.mark,
-            });
-        }
-        self.calls[thread] = Some(call.told(Seen::Took { token, left }));
+        note_taking(&mut self.calls, &mut self.wakes, thread, taking);
+        self.calls[thread] = Some(taker(&self.lot, call, taking));
     }
 
     /// It changes the word, and tells those whom it took.
