@@ -25,11 +25,7 @@ use Rattle.parking_lot_core.specs.declared.place.Taking.{Taking}
 use Rattle.parking_lot_core.specs.declared.place.Waiter.{Waiter}
 use Rattle.parking_lot_world.specs.declared.seat.Wakeup.{Wakeup}
 use Rattle.parking_lot_world.specs.Stances.{In, Takes, stance, core_act}
-<<<<<<< HEAD
-use Rattle.parking_lot_world.specs.RowActs.{key_of, told_all, took, took_nobody, woke}
-=======
-use Rattle.parking_lot_world.specs.RowActs.{key_of, off_list, took, took_nobody, woke}
->>>>>>> f22b17d86d0c1d379d90b97010645e9c76ca4480
+use Rattle.parking_lot_world.specs.RowActs.{key_of, told_all, took, took_nobody, woke, off_list}
 use Rattle.parking_lot_world.specs.TellLaws.{IsDue}
 use Rattle.parking_lot_world.specs.ActLaws.{Acts, Ends}
 
