@@ -12,8 +12,9 @@ use std::alloc::{Allocator, Global};
 use std::marker::Model;
 
 /// The most threads, and the most locks.
-const MAX_THREADS: usize = 65_536;
-const MAX_LOCKS: usize = 1 << 20;
+pub(crate) const MAX_THREADS: usize = 65_536;
+
+pub(crate) const MAX_LOCKS: usize = 1 << 20;
 
 /// Locks, and threads at them, each in one call at a time.
 ///
@@ -160,7 +161,10 @@ impl<A: Allocator> RowMachine<A> {
             SectionAct::TakeFirst => self.take_first(thread, call),
             SectionAct::TakeNext(sum) => self.take_next(thread, call, sum),
             SectionAct::Append(token) => self.append(thread, call, token),
-            SectionAct::Store { plain, fair: handing } => {
+            SectionAct::Store {
+                plain,
+                fair: handing,
+            } => {
                 let change = if fair { handing } else { plain };
                 self.store(thread, call, change, fair);
             }

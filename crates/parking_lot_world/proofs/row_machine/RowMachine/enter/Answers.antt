@@ -24,4 +24,4 @@ invariant_of-self g c =
     let e = returns g c in
     subst FitsTogether (sym e)
     (laws.enter (state c.args.self.now) c.args.thread c.args.call c.args.which c.requires.asked c.requires.free (subst Sound (ap (λ (s : State). s.lot) e) c.enter.ensures.sound)
-      (fits c.self.view_is c.self.invariant) c.requires.here).1.fits
+    (fits c.self.view_is c.self.invariant) c.requires.here).1.fits

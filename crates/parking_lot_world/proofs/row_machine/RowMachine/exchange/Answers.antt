@@ -36,7 +36,7 @@ returns-else-word-from g c =
     ap (λ (m : Rows). done (state m) c.told-else-word-from.result) c.self.view_is
     ∙ ap (done s) (c.told-else-word-from.ensures ∙ ap (λ w. hears c.args.call (seen.Word w)) c.word-word.ensures)
     ∙ sym (ap (λ (b : Bool). cond b (with_word (done s (hears c.args.call seen.Exchanged)) c.args.call.lock c.args.to) (loaded s c.args.thread c.args.call))
-      (ne_eqb (word_at s c.args.call.lock) c.args.from (λ e. c.if-word-from.false (c.word-word.ensures ∙ e))))
+    (ne_eqb (word_at s c.args.call.lock) c.args.from (λ e. c.if-word-from.false (c.word-word.ensures ∙ e))))
 
 -- src/acts.rt:50:13
 pub invariant_of-self-else-word-from : goal.invariant_of-self-else-word-from

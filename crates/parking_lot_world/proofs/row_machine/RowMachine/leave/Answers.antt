@@ -23,4 +23,4 @@ invariant_of-self g c =
     let e = returns g c in
     subst FitsTogether (sym e)
     (laws.leave (state c.args.self.now) c.args.thread c.args.call c.requires.asked (subst Sound (ap (λ (s : State). s.lot) e) c.leave.ensures.sound)
-      (subst (λ (m : Rows). FitsTogether (state m)) c.self.view_is c.self.invariant) c.requires.here).1.fits
+    (subst (λ (m : Rows). FitsTogether (state m)) c.self.view_is c.self.invariant) c.requires.here).1.fits
