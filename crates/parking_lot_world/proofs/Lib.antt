@@ -34,6 +34,7 @@ pub mod WakesActed
 pub mod FirstTaken
 pub mod LotStarts
 pub mod ScanRoom
+pub mod Scheduling
 pub mod RwKeeping
 pub mod RwCrossing
 mod Starting
