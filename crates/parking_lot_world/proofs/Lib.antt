@@ -35,6 +35,7 @@ pub mod FirstTaken
 pub mod LotStarts
 pub mod ScanRoom
 pub mod Scheduling
+pub mod Seating
 pub mod RwKeeping
 pub mod RwCrossing
 mod Starting

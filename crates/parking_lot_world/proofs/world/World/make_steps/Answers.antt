@@ -11,8 +11,7 @@ use Rattle.parking_lot_world.proofs.world.World.make_steps.Goals as goal
 pub returns-in-Err-clause-refused : goal.returns-in-Err-clause-refused
 returns-in-Err-clause-refused g c =
     let i = c.loop-step.step-index in
-    let one = get_or c.args.steps.now i (step.Begin 0 0 call.Lock) in
-    (
+    let one = get_or c.args.steps.now i (step.Begin 0 0 call.Lock) in (
       one,
       ap (slice_get c.args.steps.now) c.loop-step.invariant.done ∙ slice_get-get_or c.args.steps.now i (step.Begin 0 0 call.Lock) c.loop-step-test.true,
       ap (λ w. refusal w one) c.in-Err.ensures.0 ∙ c.in-Err.ensures.1,
