@@ -37,3 +37,14 @@ resumed m v token sleep g tells result new done =
     let n : Machine = changed_at roused m v in
     let went = subst (λ o. ResumesFrom o tells n v result new) g.place (subst (λ f. Unless f result n new (Resumes tells v n result new)) g.free done) in
     (went.0, went.1 ∙ ap (λ ps. record m { places = ps }) g.runs)
+
+-- the same of both calls: it is woken by its mark, and then goes on
+pub rouses : (m n : Machine) (v mark : ℕ) (told : (token : UnparkToken) × (sleep : Sleep) × (place_at m.places v ≡ Some (Taken token sleep false)) × (sleep.late ≡ false) × (sleep.mark ≡ mark)) (woke : Bool)
+    → woke ≡ option_map_or (is_due mark) (place_at m.places v) false → n ≡ cond woke (changed_at roused m v) m
+    → (tells : ℕ → Bool → Type 0) (result : Result ParkResult LotFault) (new : Machine) → Does (λ o. resume_fault o v) (Resumes tells v) n result new
+    → (result ≡ Ok (Unparked told.0)) × (new ≡ record m { places = slice_set m.places v (Some Running) })
+rouses m n v mark told woke due woken tells result new done =
+    let g = goes_on m v told.0 told.1 told.2 told.3 in
+    let acts : woke ≡ true = due ∙ ap (λ k. option_map_or (is_due k) (place_at m.places v) false) (sym told.4) ∙ g.due in
+    let is : n ≡ changed_at roused m v = woken ∙ ap (λ b. cond b (changed_at roused m v) m) acts in
+    resumed m v told.0 told.1 g tells result new (subst (λ o. Does (λ x. resume_fault x v) (Resumes tells v) o result new) is done)

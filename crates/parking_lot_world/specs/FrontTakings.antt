@@ -20,5 +20,5 @@ FrontTaken old new result key =
 abbrev pub FirstsAreTaken : {F : Type 0} → (F → ParkToken → FilterOp → F → Type 0) → F → Type 0
 FirstsAreTaken {F} gives filter =
     (o : Section) (old new : Machine) (result : Result (Option Taking) LotFault) → passed_of o.phase ≡ 0
-    → ((w : Waiter) (f g : F) (op : FilterOp) → slice_get (old.queues o.key) 0 ≡ Some w → gives f w.token op g → op ≡ Unpark)
+    → ((w : Waiter) (g : F) (op : FilterOp) → slice_get (old.queues o.key) 0 ≡ Some w → gives filter w.token op g → op ≡ Unpark)
     → TakesNext gives filter o old result new → FrontTaken old new result o.key

@@ -1,24 +1,35 @@
 //! What each act of a call does to the machine.
-ghost use Rattle.std.specs.Prelude.{◌≡◌, ◌<◌, ◌≤◌, ℕ, ◌+◌, ◌*◌, ◌%◌, ◌^◌, length, map, slice_get, Some, None};
-ghost use Rattle.std.specs.Option.{option_map};
+ghost use Rattle.std.specs.Prelude.{◌≡◌, ◌<◌, ◌≤◌, ℕ, ◌+◌, ◌*◌, ◌%◌, ◌^◌, length, map, slice_get, Some, None, if◌then◌else◌};
+ghost use Rattle.std.specs.Option.{option_map, option_and_then};
+ghost use Rattle.std.specs.List.{position_or_len};
+ghost use Rattle.parking_lot_cores.specs.declared.act.Seen.TheVariants as seen;
+ghost use Rattle.parking_lot_world.specs.declared.seat.Spot.TheVariants as spot;
 ghost use Rattle.parking_lot_cores.specs.declared.act.Act.TheVariants as act;
 ghost use Rattle.parking_lot_cores.specs.declared.act.SectionAct.TheVariants as section;
 ghost use Rattle.parking_lot_cores.specs.declared.act.CoreAnswer.{CoreAnswer};
+ghost use Rattle.parking_lot_cores.specs.declared.act.WordChange.{WordChange};
 ghost use Rattle.parking_lot_world.specs.ActLaws.{MayBegin};
-ghost use Rattle.parking_lot_world.specs.Rows.{call_at, state, word_at};
+ghost use Rattle.parking_lot_world.specs.Rows.{call_at, is_by, state, word_at};
 ghost use Rattle.parking_lot_world.specs.Stances.{In, Joins, core_act, stance};
 ghost use Rattle.parking_lot_world.specs.Machines.{IsTakenFrom, IsWoken};
-ghost use Rattle.parking_lot_world.specs.RowActs.{added, answered, appended, begun, checked, entered, exchanged, key_of, left, loaded, masked, settled, spun, told_all, took, took_nobody, woke};
+ghost use Rattle.parking_lot_world.specs.RowActs.{added, answered, appended, begun, checked, entered, exchanged, hears, key_of, left, loaded, masked, settled, spun, told_all, took, took_nobody, woke};
 
 use crate::lot_calls;
 use crate::row_machine::RowMachine;
 use crate::seat::{Call, Told, Wakeup};
-use parking_lot_core::{ParkToken, Taking};
+use parking_lot_core::{ParkToken, Taking, UnparkToken};
 use parking_lot_cores::{Seen, TRY_AGAIN, WordChange};
 use std::alloc::Allocator;
 
 /// One that took sleepers tells all of them whom it hasn't told yet.
-fn settle(calls: &mut [Option<Call>], by: usize, said: Told)
+fn settle<A: Allocator>(calls: &mut Vec<Option<Call>, A>, by: usize, said: Told)
+    ensures { calls.new.items ≡ map (option_map (settled by said)) calls.old.items }
+{
+    settle_each(calls, by, said);
+}
+
+/// The same of a slice.
+fn settle_each(calls: &mut [Option<Call>], by: usize, said: Told)
     ensures { calls.new ≡ map (option_map (settled by said)) calls.old }
 {
     for call in calls.iter_mut() {
@@ -31,6 +42,30 @@ fn settled(call: Option<Call>, by: usize, said: Told) -> Option<Call>
     ensures { result ≡ option_map (settled by said) call }
 {
     call.map(|call| call.settled(by, said))
+}
+
+/// Where the first stands whom one is to wake; behind the last, where there is none.
+fn first_by(wakes: &[Wakeup], by: usize) -> usize
+    ensures { result ≡ position_or_len (is_by by) wakes.now }
+{
+    wakes
+        .iter()
+        .position(|wakeup| wakeup.by == by)
+        .unwrap_or(wakes.len())
+}
+
+/// The call that a thread is in.
+fn call_in(calls: &[Option<Call>], thread: usize) -> Option<Call>
+    ensures { result ≡ option_and_then (λ c. c) (slice_get calls.now thread) }
+{
+    calls.get(thread).copied().flatten()
+}
+
+/// The call of a sleeper once it is woken.
+fn woken(call: Option<Call>, token: UnparkToken) -> Option<Call>
+    ensures { result ≡ option_map {T = Call} (λ d. record (hears d (seen.Woken token)) { spot = spot.Listed }) call }
+{
+    call.map(|call| call.woken(token))
 }
 
 impl<A: Allocator> RowMachine<A> {
@@ -164,6 +199,7 @@ impl<A: Allocator> RowMachine<A> {
     /// It changes the word, and tells those whom it took.
     pub(crate) fn store(&mut self, thread: usize, call: Call, change: WordChange, fair: bool)
         requires here { call_at (state self.old) thread ≡ Some call }
+        requires asked { (plain handing : WordChange) × (core_act call.core ≡ act.Section (section.Store plain handing)) × (change ≡ (if fair then handing else plain)) }
         ensures { state self.new ≡ told_all (state self.old) thread call change fair }
     {
         let word = self.word(call.lock);
@@ -191,13 +227,11 @@ impl<A: Allocator> RowMachine<A> {
         requires asked { core_act call.core ≡ act.Section section.Wake }
         ensures { IsWoken thread call (state self.old) (state self.new) }
     {
-        let Some(at) = self.wakes.iter().position(|wakeup| wakeup.by == thread) else {
-            return;
-        };
+        let at = first_by(&self.wakes, thread);
         let wakeup = self.wakes.remove(at);
         let token = lot_calls::rouse(&mut self.lot, wakeup.thread, wakeup.mark);
-        let sleeper = self.calls[wakeup.thread];
-        self.calls[wakeup.thread] = sleeper.map(|sleeper| sleeper.woken(token));
+        let sleeper = call_in(&self.calls, wakeup.thread);
+        self.calls[wakeup.thread] = woken(sleeper, token);
         self.calls[thread] = Some(call.told(Seen::Made));
     }
 

@@ -1,10 +1,17 @@
 //! Calls on the lot where they are never refused.
-ghost use Rattle.std.specs.Prelude.{◌≡◌, None, Some, if◌then◌else◌, MatchOption, false};
+ghost use Rattle.std.specs.Prelude.{◌≡◌, None, Some, if◌then◌else◌, Ok, false, slice_get, slice_set};
 ghost use Rattle.parking_lot_core.specs.declared.place.Phase.TheVariants as phase;
+ghost use Rattle.parking_lot_core.specs.declared.parking.FilterOp.TheVariants.{Unpark};
+ghost use Rattle.parking_lot_core.specs.declared.parking.UnparkToken.{UnparkToken};
+ghost use Rattle.parking_lot_core.specs.declared.place.Place.TheVariants.{Running, Taken};
 ghost use Rattle.parking_lot_core.specs.declared.place.Section.{Section};
-ghost use Rattle.parking_lot_core.specs.Places.{may_check, may_join, may_store, may_take};
+ghost use Rattle.parking_lot_core.specs.declared.place.Sleep.{Sleep};
+ghost use Rattle.parking_lot_core.specs.declared.place.Waiter.{Waiter};
+ghost use Rattle.parking_lot_core.specs.Places.{place_at, may_check, may_join, may_store, may_take, passed_of};
 ghost use Rattle.parking_lot_core.specs.Sound.{Sound};
 ghost use Rattle.parking_lot_core.specs.Machine.{machine, any_phase, closed, enter_fault, in_phase, joined, opened, section_of, step_fault, stored};
+ghost use Rattle.parking_lot_cores.specs.Wake.{wake_answer};
+ghost use Rattle.parking_lot_world.specs.FrontTakings.{FrontTaken};
 
 use parking_lot_core::{
     DEFAULT_UNPARK_TOKEN, FilterOp, Lot, ParkResult, ParkToken, Taking, UnparkToken,
@@ -62,31 +69,46 @@ pub(crate) fn append<A: Allocator>(lot: &mut Lot<A>, thread: usize, token: ParkT
     lot.known();
 }
 
-/// Takes the first waiter of the section's list, whatever it waits for.
+/// Takes the first waiter of the section's list, whatever it waits for. `None` where the list is empty.
 pub(crate) fn take_first<A: Allocator>(lot: &mut Lot<A>, thread: usize) -> Option<Taking>
     requires inside { step_fault may_take (machine lot.old) thread ≡ None }
+    requires passed { (s : Section) → section_of (machine lot.old) thread ≡ Some s → passed_of s.phase ≡ 0 }
+    ensures front { (s : Section) → section_of (machine lot.old) thread ≡ Some s → FrontTaken (machine lot.old) (machine lot.new) (Ok result) s.key }
     ensures sound { Sound (machine lot.new) }
 {
-    let taking = lot.take_next(thread, |_| FilterOp::Unpark).ok().flatten();
+    let wants = |_token: ParkToken| -> FilterOp
+        ensures { result ≡ Unpark }
+    {
+        FilterOp::Unpark
+    };
+    let taking = lot.take_next(thread, wants).ok().flatten();
     lot.known();
     taking
 }
 
-/// Takes the first waiter of the section's list that a scan may take at that sum of tokens.
+/// Takes the first waiter of the section's list, which a scan takes at that sum of tokens. `None` where the list is empty.
 pub(crate) fn take_next<A: Allocator>(lot: &mut Lot<A>, thread: usize, sum: u64) -> Option<Taking>
     requires inside { step_fault may_take (machine lot.old) thread ≡ None }
+    requires passed { (s : Section) → section_of (machine lot.old) thread ≡ Some s → passed_of s.phase ≡ 0 }
+    requires wanted { (s : Section) (w : Waiter) → section_of (machine lot.old) thread ≡ Some s → slice_get ((machine lot.old).queues s.key) 0 ≡ Some w → wake_answer sum w.token.0 ≡ Unpark }
+    ensures front { (s : Section) → section_of (machine lot.old) thread ≡ Some s → FrontTaken (machine lot.old) (machine lot.new) (Ok result) s.key }
     ensures sound { Sound (machine lot.new) }
 {
-    let taking = lot
-        .take_next(thread, |token| wake_sum(sum, token))
-        .ok()
-        .flatten();
+    let wants = |token: ParkToken| -> FilterOp
+        ensures { result ≡ wake_answer sum token.0 }
+    {
+        wake_sum(sum, token)
+    };
+    let taking = lot.take_next(thread, wants).ok().flatten();
     lot.known();
     taking
 }
 
 /// Wakes a thread that was taken, and has it run. Answers the token that it was told.
 pub(crate) fn rouse<A: Allocator>(lot: &mut Lot<A>, thread: usize, mark: u64) -> UnparkToken
+    requires told { (token : UnparkToken) × (sleep : Sleep) × (place_at (machine lot.old).places thread ≡ Some (Taken token sleep false)) × (sleep.late ≡ false) × (sleep.mark ≡ mark) }
+    ensures token { (token : UnparkToken) (sleep : Sleep) → place_at (machine lot.old).places thread ≡ Some (Taken token sleep false) → result ≡ token }
+    ensures runs { machine lot.new ≡ record (machine lot.old) { places = slice_set (machine lot.old).places thread (Some Running) } }
     ensures sound { Sound (machine lot.new) }
 {
     lot.wake(thread, mark);

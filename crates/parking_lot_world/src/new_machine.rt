@@ -1,17 +1,23 @@
 //! How a machine of locks is made.
-ghost use Rattle.std.specs.Prelude.{◌≡◌, ◌<◌, ◌↔◌, ◌⊎◌, ◌^◌, length, replicate, Some, IsErrOf, IfOk};
+ghost use Rattle.std.specs.Prelude.{◌≡◌, ◌<◌, ◌≤◌, ◌↔◌, ◌⊎◌, ◌^◌, length, replicate, Some, IsErrOf, IfErr, IfOk};
 ghost use Rattle.parking_lot_core.specs.Machine.{machine};
 ghost use Rattle.parking_lot_core.specs.Runs.{fresh};
-ghost use Rattle.parking_lot_core.specs.declared.fault.SizeFault.TheVariants.{BadSize};
+ghost use Rattle.parking_lot_core.specs.declared.fault.SizeFault.TheVariants.{BadSize, NoMemory};
 ghost use Rattle.parking_lot_core.specs.declared.place.Place.TheVariants.{Running};
 ghost use Rattle.parking_lot_world.specs.Rows.{state};
 ghost use Rattle.parking_lot_world.specs.Machines.{at_rest};
 
 use crate::calls::LockKind;
-use crate::row_machine::{MAX_LOCKS, MAX_THREADS, RowMachine};
+use crate::row_machine::RowMachine;
 use crate::seat::Hold;
 use parking_lot_core::{Lot, SizeFault};
 use std::alloc::Allocator;
+
+/// The most threads.
+const MAX_THREADS: usize = 65_536;
+
+/// The most locks.
+const MAX_LOCKS: usize = 1 << 20;
 
 /// A lot with so many threads, all of which run.
 fn lot_of<A: Allocator + Clone + Drop>(alloc: A, threads: usize) -> Result<Lot<A>, SizeFault>
