@@ -39,6 +39,7 @@ impl<A: Allocator> RowMachine<A> {
     pub fn mode(&self, thread: usize, lock: usize) -> Option<OwnMode>
         ensures { thread < length (state self.now).calls → result ≡ mode_in (lock_at (state self.now) lock) thread }
     {
+        self.known();
         match self.call(thread) {
             Some(call) if call.lock == lock => call.owns(),
             _ => self.hold(thread, lock).mode(self.kind(lock)),
@@ -49,6 +50,7 @@ impl<A: Allocator> RowMachine<A> {
     pub fn is_in_debt(&self, thread: usize) -> bool
         ensures { thread < length (state self.now).calls → result ≡ is_indebted (state self.now) thread }
     {
+        self.known();
         match self.call(thread) {
             Some(call) => call.looks() || call.is_in_debt(),
             None => false,

@@ -21,13 +21,6 @@ returns g c =
 
 -- src/acts.rt:90:5
 pub invariant_of-self : goal.invariant_of-self
-<<<<<<< HEAD
-invariant_of-self g c =
-    let e = returns g c in
-    subst FitsTogether (sym e)
-    (laws.enter (state c.args.self.now) c.args.thread c.args.call c.args.which c.requires.asked c.requires.free (subst Sound (ap (λ (s : State). s.lot) e) c.enter.ensures.sound)
-    (fits c.self.view_is c.self.invariant) c.requires.here).1.fits
-=======
 invariant_of-self g c = (
   let e = returns g c in
       subst FitsTogether (sym e)
@@ -35,4 +28,3 @@ invariant_of-self g c = (
       (fits c.self.view_is c.self.invariant.0) c.requires.here).1.fits,
   room_set _ _ _ _ c.self.invariant.1,
 )
->>>>>>> 0c12dc504826f372de810b443191e2bc064def0b
