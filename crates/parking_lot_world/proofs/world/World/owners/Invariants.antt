@@ -1,9 +1,13 @@
-use Rattle.std.proofs.Common.{◌≡◌, length, slice_get, IfErr, IfOk, ℕ, ◌+◌, ◌-◌, ◌*◌, ◌<◌, ◌≤◌}
-use Rattle.std.specs.Option.{option_and_then}
-use Rattle.parking_lot_core.specs.declared.fault.SizeFault.TheVariants.{NoMemory}
-use Rattle.parking_lot_world.specs.Rows.{lock_at, queue_at, state, word_at}
-use Rattle.parking_lot_world.specs.Worlds.{is_indebted, mode_in, owners_below, those_below}
+use Rattle.std.proofs.Common.{◌≡◌, ◌≤◌, length}
+use Rattle.std.specs.Prelude.{vec_capacity}
+use Rattle.parking_lot_world.specs.Rows.{lock_at, state}
+use Rattle.parking_lot_world.specs.Worlds.{mode_in, owners_below}
 use Rattle.parking_lot_world.proofs.world.World.owners.Given as goal
 
+-- the owners among the threads so far, and room for the rest
 abbrev pub invariant-loop-thread : goal.invariant-loop-thread
-invariant-loop-thread g l = ?
+invariant-loop-thread g l = record {
+  listed : l.owners.items ≡ owners_below (mode_in (lock_at (state l.self-inside.machine) l.lock)) l.thread;
+  few : length l.owners.items ≤ l.thread;
+  room : l.threads ≤ vec_capacity l.owners;
+}
