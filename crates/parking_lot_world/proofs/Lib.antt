@@ -15,6 +15,7 @@ pub mod RwMoving
 pub mod RwTaking
 pub mod Carrying
 pub mod Indexing
+pub mod Listing
 pub mod LotActs
 pub mod LotSections
 pub mod LotLists
@@ -30,10 +31,13 @@ pub mod LotSound
 pub mod LotKept
 pub mod LotCalls
 pub mod WakesActs
+pub mod Viewing
 pub mod WakesActed
 pub mod FirstTaken
 pub mod LotStarts
 pub mod ScanRoom
+pub mod Scheduling
+pub mod Seating
 pub mod RwKeeping
 pub mod RwCrossing
 mod Starting

@@ -16,3 +16,4 @@ pub mod CallViews
 pub mod FrontTakings
 pub mod Beginnings
 pub mod Machines
+pub mod Worlds

@@ -13,11 +13,6 @@ use parking_lot_cores::{Act, CoreAnswer, SectionAct, WordChange};
 use std::alloc::{Allocator, Global};
 use std::marker::Model;
 
-/// The most threads, and the most locks.
-const MAX_THREADS: usize = 65_536;
-
-const MAX_LOCKS: usize = 1 << 20;
-
 /// Locks, and threads at them, each in one call at a time.
 ///
 /// A thread [begins](RowMachine::begin) a call at a lock, and then makes one atomic [step](RowMachine::step) after another, in any order

@@ -1,0 +1,72 @@
+//! What is seen of a machine of locks: who owns a lock, who waits, and who is in debt.
+ghost use Rattle.std.specs.Prelude.{◌≡◌, ◌<◌, length, IfOk, IfErr};
+ghost use Rattle.parking_lot_core.specs.declared.fault.SizeFault.TheVariants.{NoMemory};
+ghost use Rattle.parking_lot_world.specs.RowFits.{FitsTogether};
+ghost use Rattle.parking_lot_world.specs.Rows.{lock_at, queue_at, state};
+ghost use Rattle.parking_lot_world.specs.Worlds.{hold_mode, is_indebted, mode_in};
+
+use crate::calls::{LockKind, OwnMode};
+use crate::row_machine::RowMachine;
+use crate::seat::Hold;
+use parking_lot_core::SizeFault;
+use std::alloc::Allocator;
+
+impl Hold {
+    /// How a thread owns a lock of that kind that has such a hold of it, and is in no call there.
+    pub(crate) fn mode(&self, kind: Option<LockKind>) -> Option<OwnMode>
+        ensures { result ≡ hold_mode kind self.now }
+    {
+        match self {
+            Hold::Excludes => Some(OwnMode::Exclusive),
+            Hold::Shares(holds) => match kind {
+                Some(LockKind::Mutex) => None,
+                _ if *holds > 0 => Some(OwnMode::Shared),
+                _ => None,
+            },
+        }
+    }
+}
+
+impl<A: Allocator> RowMachine<A> {
+    /// That all of the machine fits together, for who says what a run of it did: each lock is sound as the rules say. It does nothing.
+    pub fn known(&self)
+        ensures { FitsTogether (state self.now) }
+    {
+        let _ = &self.kinds;
+    }
+
+    /// How a thread owns a lock now, also within a call there.
+    pub fn mode(&self, thread: usize, lock: usize) -> Option<OwnMode>
+        ensures { thread < length (state self.now).calls → result ≡ mode_in (lock_at (state self.now) lock) thread }
+    {
+        self.known();
+        match self.call(thread) {
+            Some(call) if call.lock == lock => call.owns(),
+            _ => self.hold(thread, lock).mode(self.kind(lock)),
+        }
+    }
+
+    /// Whether a thread owes a wake or is about to retry.
+    pub fn is_in_debt(&self, thread: usize) -> bool
+        ensures { thread < length (state self.now).calls → result ≡ is_indebted (state self.now) thread }
+    {
+        self.known();
+        match self.call(thread) {
+            Some(call) => call.looks() || call.is_in_debt(),
+            None => false,
+        }
+    }
+}
+
+impl<A: Allocator + Clone> RowMachine<A> {
+    /// The threads of a key's list, in order.
+    pub fn queue(&self, key: usize) -> Result<Vec<usize, A>, SizeFault>
+        ensures ok { IfOk result (λ threads. threads.items ≡ queue_at (state self.now) key) }
+        ensures err { IfErr result (λ fault. fault ≡ NoMemory) }
+    {
+        match self.lot.queue(key) {
+            Ok(threads) => Ok(threads),
+            Err(_) => Err(SizeFault::NoMemory),
+        }
+    }
+}

@@ -1,0 +1,62 @@
+//! How a machine of locks is made.
+ghost use Rattle.std.specs.Prelude.{◌≡◌, ◌<◌, ◌≤◌, ◌↔◌, ◌⊎◌, ◌^◌, length, replicate, Some, IsErrOf, IfErr, IfOk};
+ghost use Rattle.parking_lot_core.specs.Machine.{machine};
+ghost use Rattle.parking_lot_core.specs.Runs.{fresh};
+ghost use Rattle.parking_lot_core.specs.declared.fault.SizeFault.TheVariants.{BadSize, NoMemory};
+ghost use Rattle.parking_lot_core.specs.declared.place.Place.TheVariants.{Running};
+ghost use Rattle.parking_lot_world.specs.Rows.{state};
+ghost use Rattle.parking_lot_world.specs.Machines.{at_rest};
+
+use crate::calls::LockKind;
+use crate::row_machine::RowMachine;
+use crate::seat::Hold;
+use parking_lot_core::{Lot, SizeFault};
+use std::alloc::Allocator;
+
+/// The most threads.
+const MAX_THREADS: usize = 65_536;
+
+/// The most locks.
+const MAX_LOCKS: usize = 1 << 20;
+
+/// A lot with so many threads, all of which run.
+fn lot_of<A: Allocator + Clone + Drop>(alloc: A, threads: usize) -> Result<Lot<A>, SizeFault>
+    requires some { 0 < threads }
+    requires few { threads ≤ 65536 }
+    ensures made { IfOk result (λ lot. machine lot ≡ record (fresh threads 0) { places = replicate threads (Some Running) }) }
+    ensures memory { IfErr result (λ fault. fault ≡ NoMemory) }
+{
+    let mut lot = Lot::new(alloc, threads, 0)?;
+    for _ in 0..threads {
+        if lot.register().is_err() {
+            return Err(SizeFault::NoMemory);
+        }
+    }
+    Ok(lot)
+}
+
+impl<A: Allocator + Clone + Drop> RowMachine<A> {
+    /// A machine of so many threads, in no call, and of locks of these kinds, which nobody owns: 1 to 65,536 threads, and 1 to 2^20 locks.
+    /// All memory that its steps need is taken here.
+    pub fn new(
+        alloc: A,
+        threads: usize,
+        kinds: Vec<LockKind, A>,
+    ) -> Result<RowMachine<A>, SizeFault>
+        ensures size { IsErrOf result BadSize ↔ ((threads ≡ 0) ⊎ (65536 < threads) ⊎ (length kinds.items ≡ 0) ⊎ (2 ^ 20 < length kinds.items)) }
+        ensures made { IfOk result (λ machine. state machine ≡ at_rest threads kinds.items) }
+    {
+        let locks = kinds.len();
+        if threads == 0 || threads > MAX_THREADS || locks == 0 || locks > MAX_LOCKS {
+            return Err(SizeFault::BadSize);
+        }
+        Ok(RowMachine {
+            kinds,
+            words: vec![in alloc.clone()?; 0; locks]?,
+            holds: vec![in alloc.clone()?; Hold::Shares(0); threads * locks]?,
+            calls: vec![in alloc.clone()?; None; threads]?,
+            wakes: Vec::with_capacity(alloc.clone()?, threads)?,
+            lot: lot_of(alloc, threads)?,
+        })
+    }
+}
