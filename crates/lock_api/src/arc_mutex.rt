@@ -8,7 +8,7 @@ use lock_api_raw::{NoMemory, RawMutex, RawMutexFair, RawMutexTimed};
 use lock_api_rw::{
     ArcGuard, ArcHold, FairHold, HasValue, HasValueMut, Hold, MutexHold, WriteHold, lent, lent_mut,
 };
-use std::alloc::Allocator;
+use std::alloc::{Allocator, Global};
 use std::rt::Clock;
 use std::sync::{Arc, Wait};
 
@@ -23,7 +23,7 @@ pub struct OwnedMutex<R: RawMutex, T, A: Allocator> {
 ///
 /// It keeps the raw token alone, and takes the std lock of the value inside `with` and `with_mut`. Its drop releases the
 /// raw mutex, and then lets the Arc go.
-pub type ArcMutexGuard<R, T, A> = ArcGuard<OwnedMutex<R, T, A>>;
+pub type ArcMutexGuard<R, T, A = Global> = ArcGuard<OwnedMutex<R, T, A>>;
 
 impl<R: RawMutex + Drop, T: Drop> Mutex<R, T>
 where
@@ -37,8 +37,7 @@ where
         ensures lock { IfOk result (λ guard. arc_value guard.hold.lock ≡ arc_value this.now) }
         ensures refused { OnErr result (party.new ≡ party.old) }
     {
-        let lock = Arc::try_clone(this)?;
-        let hold = OwnedMutex::again(lock, party);
+        let hold = OwnedMutex::again(Arc::try_clone(this)?, party);
         Ok(ArcGuard { hold })
     }
 
@@ -48,13 +47,7 @@ where
     ) -> Result<Option<ArcMutexGuard<R, T, A>>, NoMemory>
         ensures { IfOk result (λ some. IfSome some (λ guard. arc_value guard.hold.lock ≡ arc_value this.now)) }
     {
-        let lock = Arc::try_clone(this)?;
-        match lock.raw.try_lock() {
-            Some(token) => Ok(Some(ArcGuard {
-                hold: OwnedMutex { lock, token },
-            })),
-            None => Ok(None),
-        }
+        Ok(ArcGuard::if_held(OwnedMutex::at_once(Arc::try_clone(this)?)))
     }
 
     /// Clones the Arc, and then waits as `try_lock_for` does. A refused clone takes no lock.
@@ -99,6 +92,16 @@ where
             })),
             None => Ok(None),
         }
+    }
+}
+
+impl<R: RawMutex + Drop, T: Drop, A: Allocator> OwnedMutex<R, T, A> {
+    /// A hold at once, or None.
+    fn at_once(lock: Arc<Mutex<R, T>, A>) -> Option<OwnedMutex<R, T, A>>
+        ensures { IfSome result (λ hold. arc_value hold.lock ≡ arc_value lock) }
+    {
+        let token = lock.raw.try_lock()?;
+        Some(OwnedMutex { lock, token })
     }
 }
 

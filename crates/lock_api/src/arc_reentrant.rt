@@ -1,5 +1,5 @@
 //! The Arc forms of a reentrant mutex.
-ghost use Rattle.std.specs.Prelude.{◌≡◌, IfSome, IfOk};
+ghost use Rattle.std.specs.Prelude.{◌≡◌, IfSome, IfOk, OnErr};
 ghost use Rattle.std.specs.Arc.{arc_value};
 ghost use Rattle.std.specs.Fn.{FnOnceReturnsAt};
 
@@ -7,7 +7,7 @@ use crate::arc_fault::ReentrantArcFault;
 use crate::reentrant::ReentrantMutex;
 use lock_api_raw::{GetThreadId, GuardNoSend, RawMutex, RawMutexFair, RawMutexTimed};
 use lock_api_rw::{ArcGuard, ArcHold, FairHold, HasValue, Hold, ReentrantHold, lent};
-use std::alloc::Allocator;
+use std::alloc::{Allocator, Global};
 use std::rt::Clock;
 use std::sync::{Arc, Wait};
 
@@ -30,7 +30,7 @@ where
 ///
 /// It keeps the token alone, and takes the std lock of the value inside `with`. Its drop takes one from the count, and
 /// then lets the Arc go.
-pub type ArcReentrantMutexGuard<R, G, T, A> = ArcGuard<OwnedReentrant<R, G, T, A>>;
+pub type ArcReentrantMutexGuard<R, G, T, A = Global> = ArcGuard<OwnedReentrant<R, G, T, A>>;
 
 impl<R: RawMutex + Drop, G: GetThreadId<Party = R::Party> + Drop, T: Drop> ReentrantMutex<R, G, T>
 where
@@ -41,7 +41,8 @@ where
         this: &Arc<ReentrantMutex<R, G, T>, A>,
         party: &mut R::Party,
     ) -> Result<ArcReentrantMutexGuard<R, G, T, A>, ReentrantArcFault>
-        ensures { IfOk result (λ guard. arc_value guard.hold.lock ≡ arc_value this.now) }
+        ensures lock { IfOk result (λ guard. arc_value guard.hold.lock ≡ arc_value this.now) }
+        ensures refused { OnErr result (party.new ≡ party.old) }
     {
         let lock = Arc::try_clone(this)?;
         let token = lock.raw.lock(party)?;
@@ -76,7 +77,8 @@ where
     where
         R: RawMutexTimed,
         R::Duration: Drop,
-        ensures { IfOk result (λ some. IfSome some (λ guard. arc_value guard.hold.lock ≡ arc_value this.now)) }
+        ensures lock { IfOk result (λ some. IfSome some (λ guard. arc_value guard.hold.lock ≡ arc_value this.now)) }
+        ensures refused { OnErr result (party.new ≡ party.old) }
     {
         let lock = Arc::try_clone(this)?;
         match lock.raw.try_lock_for(timeout, clock, party)? {
@@ -97,7 +99,8 @@ where
     where
         R: RawMutexTimed,
         R::Instant: Drop,
-        ensures { IfOk result (λ some. IfSome some (λ guard. arc_value guard.hold.lock ≡ arc_value this.now)) }
+        ensures lock { IfOk result (λ some. IfSome some (λ guard. arc_value guard.hold.lock ≡ arc_value this.now)) }
+        ensures refused { OnErr result (party.new ≡ party.old) }
     {
         let lock = Arc::try_clone(this)?;
         match lock.raw.try_lock_until(deadline, clock, party)? {

@@ -254,6 +254,10 @@ where
 }
 
 impl<C> Debug for Condvar<C> {
+    ghost use Rattle.std.specs.Prelude.{Some, codes};
+
+    ghost debug_output = { λ _. Some (codes "Condvar { .. }") };
+
     fn fmt<W: fmt::Write>(&self, f: &mut fmt::Formatter<W>) -> fmt::Result {
         f.write_str("Condvar { .. }")
     }

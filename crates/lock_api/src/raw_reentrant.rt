@@ -1,5 +1,5 @@
 //! A raw mutex that its owner may take again.
-ghost use Rattle.std.specs.Prelude.{◌≡◌, ◌-◌, ◌^◌, IfSome, IfOk};
+ghost use Rattle.std.specs.Prelude.{◌≡◌, ◌-◌, ◌^◌, IfSome, IfOk, OnErr};
 ghost use Rattle.lock_api_raw.specs.Limits.{kept_limit};
 
 use counted_slot::{Claim, Counted, FREE, Fits, TAKEN};
@@ -192,7 +192,8 @@ where
     /// Adds one to the count if the party is the owner, and else waits for the raw mutex. Where the count is full it
     /// refuses, with nothing changed.
     pub fn lock(&self, party: &mut R::Party) -> Result<GuardNoSend, ReadersFull>
-        ensures { IfOk result (λ token. token ≡ self.now.number) }
+        ensures lock { IfOk result (λ token. token ≡ self.now.number) }
+        ensures refused { OnErr result (party.new ≡ party.old) }
     {
         if self.is_owned_by_current_thread(party) {
             return self.nest();
@@ -266,7 +267,8 @@ where
     where
         R: RawMutexTimed,
         R::Duration: Drop,
-        ensures { IfOk result (λ some. IfSome some (λ token. token ≡ self.now.number)) }
+        ensures lock { IfOk result (λ some. IfSome some (λ token. token ≡ self.now.number)) }
+        ensures refused { OnErr result (party.new ≡ party.old) }
     {
         if self.is_owned_by_current_thread(party) {
             return Ok(Some(self.nest()?));
@@ -287,7 +289,8 @@ where
     where
         R: RawMutexTimed,
         R::Instant: Drop,
-        ensures { IfOk result (λ some. IfSome some (λ token. token ≡ self.now.number)) }
+        ensures lock { IfOk result (λ some. IfSome some (λ token. token ≡ self.now.number)) }
+        ensures refused { OnErr result (party.new ≡ party.old) }
     {
         if self.is_owned_by_current_thread(party) {
             return Ok(Some(self.nest()?));

@@ -1,5 +1,5 @@
 //! The reentrant mutex, and the hold that its guards keep.
-ghost use Rattle.std.specs.Prelude.{◌≡◌, ◌-◌, ◌^◌, IfSome, IfOk};
+ghost use Rattle.std.specs.Prelude.{◌≡◌, ◌-◌, ◌^◌, IfSome, IfOk, OnErr};
 ghost use Rattle.lock_api_raw.specs.Limits.{kept_limit};
 
 use crate::raw_reentrant::RawReentrantMutex;
@@ -129,7 +129,8 @@ where
         &self,
         party: &mut R::Party,
     ) -> Result<ReentrantMutexGuard<'_, R, G, T>, ReadersFull>
-        ensures { IfOk result (λ guard. guard.held.0.lock.now ≡ self.now) }
+        ensures lock { IfOk result (λ guard. guard.held.0.lock.now ≡ self.now) }
+        ensures refused { OnErr result (party.new ≡ party.old) }
     {
         let token = self.raw.lock(party)?;
         Ok(self.guard(token))
@@ -178,7 +179,8 @@ where
     where
         R: RawMutexTimed,
         R::Duration: Drop,
-        ensures { IfOk result (λ some. IfSome some (λ guard. guard.held.0.lock.now ≡ self.now)) }
+        ensures lock { IfOk result (λ some. IfSome some (λ guard. guard.held.0.lock.now ≡ self.now)) }
+        ensures refused { OnErr result (party.new ≡ party.old) }
     {
         match self.raw.try_lock_for(timeout, clock, party)? {
             Some(token) => Ok(Some(self.guard(token))),
@@ -196,7 +198,8 @@ where
     where
         R: RawMutexTimed,
         R::Instant: Drop,
-        ensures { IfOk result (λ some. IfSome some (λ guard. guard.held.0.lock.now ≡ self.now)) }
+        ensures lock { IfOk result (λ some. IfSome some (λ guard. guard.held.0.lock.now ≡ self.now)) }
+        ensures refused { OnErr result (party.new ≡ party.old) }
     {
         match self.raw.try_lock_until(deadline, clock, party)? {
             Some(token) => Ok(Some(self.guard(token))),

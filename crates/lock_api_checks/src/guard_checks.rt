@@ -1,4 +1,5 @@
 //! Checks of guards, whatever lock they are of. An error is the number of the step that went wrong.
+ghost use Rattle.std.specs.Prelude.{◌≡◌, ◌==◌, Bool, IsOk, Ok, Err, None, Some, if◌then◌else◌, true};
 
 use crate::parts::{First, Inside};
 use lock_api::{Guard, Mapped};
@@ -9,12 +10,54 @@ use std::fmt::{Debug, Display};
 use std::sync::Wait;
 
 /// Goes on where `holds` is true, and else says at which step it was not.
-fn step(number: u8, holds: bool) -> Result<(), u8> {
+fn step(number: u8, holds: bool) -> Result<(), u8>
+    ensures { result ≡ if holds then Ok tt else Err number }
+{
     if holds { Ok(()) } else { Err(number) }
 }
 
 /// The value of the locks whose guards are narrowed.
 pub type Pair = (Option<u64>, u64);
+
+/// Whether a guard lends this number.
+pub fn lends<W: Lender<Part = u64> + Drop, H: Hold>(guard: &Guard<W, H>, value: u64) -> bool
+where
+    H::Runtime: Wait,
+    ensures { result ≡ (W.part guard.now.inner == value) }
+{
+    **guard == value
+}
+
+/// Writes a number by a guard, and says whether the guard lends it then: it always does.
+pub fn writes<W: LenderMut<Part = u64> + Drop, H: Hold>(guard: &mut Guard<W, H>, value: u64) -> bool
+where
+    H::Runtime: Wait,
+    ensures read { result ≡ true }
+    ensures lent { W.part guard.new.inner ≡ value }
+{
+    **guard = value;
+    lends(guard, value)
+}
+
+/// Narrows a guard of (Some(7), 2) to its first field and then to the inside, and reads both.
+pub fn reads_step_by_step<W: Lender<Part = Pair> + Drop, H: FairHold>(
+    guard: Guard<W, H>,
+) -> Result<(), u8>
+where
+    H::Runtime: Wait,
+    ensures { W.part guard.inner ≡ (Some 7, 2) → IsOk result }
+{
+    let first = Guard::map(guard, First);
+    step(1, *first == Some(7))?;
+    match Mapped::try_map(first, Inside) {
+        Ok(inside) => {
+            step(2, *inside == 7)?;
+            Mapped::unlock_fair(inside);
+            Ok(())
+        }
+        Err(_) => step(3, false),
+    }
+}
 
 /// Narrows a guard of (Some(1), 2) to its first field and then to the inside, and writes by both: (Some(7), 2).
 pub fn narrows_step_by_step<W: LenderMut<Part = Pair> + Drop, H: FairHold>(
@@ -22,6 +65,7 @@ pub fn narrows_step_by_step<W: LenderMut<Part = Pair> + Drop, H: FairHold>(
 ) -> Result<(), u8>
 where
     H::Runtime: Wait,
+    ensures { W.part guard.inner ≡ (Some 1, 2) → IsOk result }
 {
     let mut first = Guard::map(guard, First);
     step(1, *first == Some(1))?;
@@ -43,6 +87,7 @@ pub fn narrows_at_once<W: LenderMut<Part = Pair> + Drop, H: Hold>(
 ) -> Result<(), u8>
 where
     H::Runtime: Wait,
+    ensures { W.part guard.inner ≡ (Some 7, 2) → IsOk result }
 {
     match Guard::try_map(guard, Then::new(First, Inside)) {
         Ok(mut part) => {
@@ -54,30 +99,36 @@ where
     }
 }
 
-/// A guard of (None, 2) comes back, with the error, where its part is missing.
-pub fn keeps_what_has_no_part<W: LenderMut<Part = Pair> + Drop, H: Hold>(
+/// A guard of (None, 2) comes back, with the error, where its part is missing, and so does one of its first field. Both
+/// still hold, which `held` is asked.
+pub fn keeps_what_has_no_part<W: Lender<Part = Pair> + Drop, H: Hold, F: Fn() -> bool>(
     guard: Guard<W, H>,
+    held: &F,
 ) -> Result<(), u8>
 where
     H::Runtime: Wait,
+    requires { F.IsAlwaysCallable held.now }
+    ensures { W.part guard.inner ≡ (None, 2) → ((answer : Bool) → F.post held.now answer → answer ≡ true) → IsOk result }
 {
     let guard = match Guard::try_map(guard, Then::new(First, Inside)) {
         Ok(_) => return step(6, false),
         Err(guard) => guard,
     };
+    step(7, held())?;
     let first = match Guard::try_map_or_err(guard, Then::new(First, Inside), 'e') {
-        Ok(_) => return step(7, false),
+        Ok(_) => return step(8, false),
         Err((guard, error)) => {
-            step(8, error == 'e')?;
-            step(9, *guard == (None, 2))?;
+            step(9, error == 'e')?;
+            step(10, *guard == (None, 2))?;
             Guard::map(guard, First)
         }
     };
     match Mapped::try_map_or_err(first, Inside, 'f') {
-        Ok(_) => step(10, false),
+        Ok(_) => step(11, false),
         Err((first, error)) => {
-            step(11, error == 'f')?;
-            step(12, *first == None)
+            step(12, error == 'f')?;
+            step(13, held())?;
+            step(14, *first == None)
         }
     }
 }
@@ -93,5 +144,19 @@ where
     H::Runtime: Wait,
 {
     let text = format!(in alloc; "{guard:?} {guard}")?;
+    Ok(text.as_str() == both)
+}
+
+/// A guard that is narrowed to its first field prints that by Debug and by Display, with a space between.
+pub fn prints_its_first<W: Lender<Part = (u64, u64)> + Drop, H: Hold, A: Allocator>(
+    alloc: A,
+    guard: Guard<W, H>,
+    both: &str,
+) -> Result<bool, AllocError>
+where
+    H::Runtime: Wait,
+{
+    let first = Guard::map(guard, First);
+    let text = format!(in alloc; "{first:?} {first}")?;
     Ok(text.as_str() == both)
 }

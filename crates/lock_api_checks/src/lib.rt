@@ -13,8 +13,14 @@ mod packed_lock;
 mod packed_mutex;
 mod parts;
 mod party;
+pub mod raw_checks;
 pub mod reentrant_checks;
+pub mod rwlock_arc_checks;
+pub mod rwlock_checks;
+mod rwlock_seen;
+pub mod rwlock_timed_checks;
 mod turn;
+pub mod upgradable_checks;
 mod wrong;
 
 pub use packed_lock::PackedLock;

@@ -3,6 +3,7 @@
 use crate::guard_checks::{
     Pair, keeps_what_has_no_part, narrows_at_once, narrows_step_by_step, prints_its_value,
 };
+use crate::raw_checks::TURNS;
 use crate::wrong::{Wrong, expect};
 use lock_api::{ArcGuard, Mutex, MutexGuard};
 use lock_api_raw::{RawMutex, RawMutexFair, RawMutexTimed};
@@ -12,9 +13,6 @@ use std::sync::{Arc, Wait};
 use std::thread;
 use std::thread::Threads;
 use std::time::{Duration, Instant};
-
-/// How often each of two threads takes the mutex.
-const TURNS: u32 = 1_000;
 
 /// A held mutex admits nobody, and a free one somebody.
 pub fn admits_one<R: RawMutex + Drop>(source: R::Source, party: &mut R::Party) -> Result<(), Wrong>
@@ -135,7 +133,7 @@ where
         "written back by the composition",
     )?;
     *mutex.lock(party) = (None, 2);
-    let done = keeps_what_has_no_part(mutex.lock(party)).is_ok();
+    let done = keeps_what_has_no_part(mutex.lock(party), &|| mutex.is_locked()).is_ok();
     expect(done, "a guard without the part")?;
     expect(
         !mutex.is_locked(),

@@ -1,7 +1,8 @@
-//! Checks of the reentrant mutex over any raw mutex, by its Arc forms.
+//! Checks of the reentrant mutex over any raw mutex.
 
+use crate::guard_checks::{Pair, lends, prints_its_value, reads_step_by_step};
 use crate::wrong::{Wrong, expect};
-use lock_api::{ArcGuard, ReentrantArcFault, ReentrantMutex};
+use lock_api::{ArcGuard, ReentrantArcFault, ReentrantMutex, ReentrantMutexGuard};
 use lock_api_raw::{GetThreadId, RawMutex, RawMutexFair, RawMutexTimed};
 use std::alloc::Allocator;
 use std::rt::Clock;
@@ -45,6 +46,89 @@ where
     expect(!mutex.is_locked(), "unlocked after the last drop")?;
     let free = ReentrantMutex::try_lock_arc(&mutex, other)?;
     expect(free.is_some(), "then another party has it")
+}
+
+/// Borrowed guards nest too, and a narrowed one keeps its hold.
+pub fn nests_by_borrow<R: RawMutexFair + Drop, G: GetThreadId<Party = R::Party> + Drop>(
+    source: R::Source,
+    one: &mut R::Party,
+    other: &mut R::Party,
+) -> Result<(), Wrong>
+where
+    R::Runtime: Wait,
+{
+    let mutex = ReentrantMutex::<R, G, Pair>::new(source, 2, (Some(7), 2))?;
+    nests_on(&mutex, one, other)
+}
+
+/// As above, on a mutex of two holds and (Some(7), 2).
+fn nests_on<R: RawMutexFair + Drop, G: GetThreadId<Party = R::Party> + Drop>(
+    mutex: &ReentrantMutex<R, G, Pair>,
+    one: &mut R::Party,
+    other: &mut R::Party,
+) -> Result<(), Wrong>
+where
+    R::Runtime: Wait,
+{
+    let Ok(first) = mutex.lock(one) else {
+        return expect(false, "the first hold of two: Ok");
+    };
+    let Ok(second) = mutex.lock(one) else {
+        return expect(false, "the second hold of two: Ok");
+    };
+    let full = mutex.try_lock(one).is_err();
+    expect(full, "the third hold of two: ReadersFull")?;
+    let done = reads_step_by_step(second).is_ok();
+    expect(done, "a guard narrowed step by step")?;
+    let Ok(beside) = mutex.try_lock(other) else {
+        return expect(false, "a try of another party: Ok");
+    };
+    expect(beside.is_none(), "a try of another party: Ok(None)")?;
+    let done = reads_step_by_step(first).is_ok();
+    expect(done, "the last guard narrowed step by step")?;
+    expect(!mutex.is_locked(), "unlocked after the last end")
+}
+
+/// A borrowed guard gives its hold up for a closure's time, and prints its value.
+pub fn lends_by_borrow<
+    R: RawMutexFair + Drop,
+    G: GetThreadId<Party = R::Party> + Drop,
+    A: Allocator,
+>(alloc: A, source: R::Source, party: &mut R::Party) -> Result<(), Wrong>
+where
+    R::Runtime: Wait,
+{
+    let mutex = ReentrantMutex::<R, G, u64>::new(source, 2, 5)?;
+    lends_from(alloc, &mutex, party)
+}
+
+/// As above, of a mutex of 5.
+fn lends_from<R: RawMutexFair + Drop, G: GetThreadId<Party = R::Party> + Drop, A: Allocator>(
+    alloc: A,
+    mutex: &ReentrantMutex<R, G, u64>,
+    party: &mut R::Party,
+) -> Result<(), Wrong>
+where
+    R::Runtime: Wait,
+{
+    let Ok(mut guard) = mutex.lock(party) else {
+        return expect(false, "the first hold of two: Ok");
+    };
+    let inside = ReentrantMutexGuard::unlocked(&mut guard, party, || mutex.is_locked());
+    expect(
+        !inside && mutex.is_locked(),
+        "unlocked lets go and takes again",
+    )?;
+    ReentrantMutexGuard::bump(&mut guard, party);
+    expect(
+        ReentrantMutexGuard::remutex(&guard).is_locked(),
+        "the mutex of a guard, held after bump",
+    )?;
+    expect(lends(&guard, 5), "the value is still there")?;
+    let same = prints_its_value(alloc, &guard, "5 5")?;
+    expect(same, "Debug and Display of a guard")?;
+    ReentrantMutexGuard::unlock_fair(guard);
+    expect(!mutex.is_locked(), "unlock_fair releases")
 }
 
 /// `unlocked` gives the hold up for the closure's time, and fair releases release.

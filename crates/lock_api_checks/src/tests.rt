@@ -2,6 +2,7 @@
 mod mapped;
 mod mutexes;
 mod reentrant;
+mod rwlocks;
 
 use crate::{PackedLock, PackedMutex, Parties};
 use lock_api_raw::{GetThreadId, RawMutex, RawMutexTimed, RawRwLock, RawRwLockUpgrade};

@@ -1,4 +1,5 @@
 //! What a check answers.
+ghost use Rattle.std.specs.Prelude.{◌≡◌, Ok, Err, if◌then◌else◌};
 
 use lock_api::ReentrantArcFault;
 use lock_api_raw::{NoMemory, ReadersFull, TableFull, WaitFault};
@@ -19,7 +20,9 @@ impl fmt::Display for Wrong {
 }
 
 /// Goes on where `holds` is true, and else says what is wrong.
-pub fn expect(holds: bool, what: &'static str) -> Result<(), Wrong> {
+pub fn expect(holds: bool, what: &'static str) -> Result<(), Wrong>
+    ensures { result ≡ if holds then Ok tt else Err (record { what = what.entry }) }
+{
     if holds { Ok(()) } else { Err(Wrong { what }) }
 }
 

@@ -1,6 +1,7 @@
 //! Arc guards from one mode to another.
 ghost use Rattle.std.specs.Prelude.{◌≡◌, None, IfSome, IsSome, MatchResult};
 ghost use Rattle.std.specs.Fn.{FnOnceReturnsAtMut};
+ghost use Rattle.lock_api_rw.specs.Holds.{WasHeld};
 
 use crate::arc_guard::ArcGuard;
 use crate::held::{DowngradeHold, Hold, LowerHold, RestoreHold, TimedUpgradeHold, UpgradeHold};
@@ -114,6 +115,7 @@ where
     ) -> U
         requires { F.IsAlwaysCallable f }
         ensures answer { (before : H.Lock.Value) × (after : H.Lock.Value) × FnOnceReturnsAtMut F.FnOnce f before result after }
+        ensures upgraded { WasHeld H.Alone.lock_of (H.lock_of s.old.hold) }
         ensures lock { H.lock_of s.new.hold ≡ H.lock_of s.old.hold }
     {
         mem::replace_with(
@@ -136,6 +138,7 @@ where
     ) -> Option<U>
         requires { F.IsAlwaysCallable f }
         ensures answer { IfSome result (λ answer. (before : H.Lock.Value) × (after : H.Lock.Value) × FnOnceReturnsAtMut F.FnOnce f before answer after) }
+        ensures upgraded { IfSome result (λ _. WasHeld H.Alone.lock_of (H.lock_of s.new.hold)) }
         ensures kept { result ≡ None → s.new ≡ s.old }
         ensures lock { H.lock_of s.new.hold ≡ H.lock_of s.old.hold }
     {
@@ -144,7 +147,7 @@ where
             f,
             |guard: ArcGuard<H>, f: F| -> (ArcGuard<H>, Option<U>)
                 requires { F.IsAlwaysCallable f }
-                ensures { IfSome result.1 (λ answer. (before : H.Lock.Value) × (after : H.Lock.Value) × FnOnceReturnsAtMut F.FnOnce f before answer after) × (result.1 ≡ None → result.0 ≡ guard) × (H.lock_of result.0.hold ≡ H.lock_of guard.hold) }
+                ensures { IfSome result.1 (λ answer. (before : H.Lock.Value) × (after : H.Lock.Value) × FnOnceReturnsAtMut F.FnOnce f before answer after) × IfSome result.1 (λ _. WasHeld H.Alone.lock_of (H.lock_of result.0.hold)) × (result.1 ≡ None → result.0 ≡ guard) × (H.lock_of result.0.hold ≡ H.lock_of guard.hold) }
             { changed(ArcGuard::try_upgrade(guard), f) },
         )
     }
@@ -168,6 +171,7 @@ where
     ) -> Option<U>
         requires { F.IsAlwaysCallable f }
         ensures answer { IfSome result (λ answer. (before : H.Lock.Value) × (after : H.Lock.Value) × FnOnceReturnsAtMut F.FnOnce f before answer after) }
+        ensures upgraded { IfSome result (λ _. WasHeld H.Alone.lock_of (H.lock_of s.new.hold)) }
         ensures kept { result ≡ None → s.new ≡ s.old }
         ensures lock { H.lock_of s.new.hold ≡ H.lock_of s.old.hold }
     {
@@ -176,7 +180,7 @@ where
             (f, timeout),
             |guard: ArcGuard<H>, with: (F, H::Duration)| -> (ArcGuard<H>, Option<U>)
                 requires { F.IsAlwaysCallable with.0 }
-                ensures { IfSome result.1 (λ answer. (before : H.Lock.Value) × (after : H.Lock.Value) × FnOnceReturnsAtMut F.FnOnce with.0 before answer after) × (result.1 ≡ None → result.0 ≡ guard) × (H.lock_of result.0.hold ≡ H.lock_of guard.hold) }
+                ensures { IfSome result.1 (λ answer. (before : H.Lock.Value) × (after : H.Lock.Value) × FnOnceReturnsAtMut F.FnOnce with.0 before answer after) × IfSome result.1 (λ _. WasHeld H.Alone.lock_of (H.lock_of result.0.hold)) × (result.1 ≡ None → result.0 ≡ guard) × (H.lock_of result.0.hold ≡ H.lock_of guard.hold) }
             {
                 let (f, timeout) = with;
                 changed(ArcGuard::try_upgrade_for(guard, timeout, clock, party), f)
@@ -195,6 +199,7 @@ where
     ) -> Option<U>
         requires { F.IsAlwaysCallable f }
         ensures answer { IfSome result (λ answer. (before : H.Lock.Value) × (after : H.Lock.Value) × FnOnceReturnsAtMut F.FnOnce f before answer after) }
+        ensures upgraded { IfSome result (λ _. WasHeld H.Alone.lock_of (H.lock_of s.new.hold)) }
         ensures kept { result ≡ None → s.new ≡ s.old }
         ensures lock { H.lock_of s.new.hold ≡ H.lock_of s.old.hold }
     {
@@ -203,7 +208,7 @@ where
             (f, deadline),
             |guard: ArcGuard<H>, with: (F, H::Instant)| -> (ArcGuard<H>, Option<U>)
                 requires { F.IsAlwaysCallable with.0 }
-                ensures { IfSome result.1 (λ answer. (before : H.Lock.Value) × (after : H.Lock.Value) × FnOnceReturnsAtMut F.FnOnce with.0 before answer after) × (result.1 ≡ None → result.0 ≡ guard) × (H.lock_of result.0.hold ≡ H.lock_of guard.hold) }
+                ensures { IfSome result.1 (λ answer. (before : H.Lock.Value) × (after : H.Lock.Value) × FnOnceReturnsAtMut F.FnOnce with.0 before answer after) × IfSome result.1 (λ _. WasHeld H.Alone.lock_of (H.lock_of result.0.hold)) × (result.1 ≡ None → result.0 ≡ guard) × (H.lock_of result.0.hold ≡ H.lock_of guard.hold) }
             {
                 let (f, deadline) = with;
                 changed(
@@ -227,6 +232,7 @@ where
     <H::Alone as Hold>::Runtime: Wait,
     requires { F.IsAlwaysCallable f }
     ensures answer { IfSome result.1 (λ answer. (before : H.Lock.Value) × (after : H.Lock.Value) × FnOnceReturnsAtMut F.FnOnce f before answer after) }
+    ensures upgraded { IfSome result.1 (λ _. WasHeld H.Alone.lock_of (H.lock_of result.0.hold)) }
     ensures guard { MatchResult tried (λ alone. H.lock_of result.0.hold ≡ H.Alone.lock_of alone.hold) (λ guard. result.0 ≡ guard) }
     ensures called { MatchResult tried (λ alone. IsSome result.1) (λ guard. result.1 ≡ None) }
 {

@@ -1,5 +1,5 @@
 //! The Arc forms of the reader-writer lock.
-ghost use Rattle.std.specs.Prelude.{◌≡◌, IfOk, IfSome};
+ghost use Rattle.std.specs.Prelude.{◌≡◌, IfOk, IfSome, OnErr};
 ghost use Rattle.std.specs.Arc.{arc_value};
 
 use crate::arc_guard::ArcGuard;
@@ -31,10 +31,10 @@ where
         this: &Arc<RwLock<R, T>, A>,
         party: &mut R::Party,
     ) -> Result<ArcRwLockReadGuard<R, T, A>, NoMemory>
-        ensures { IfOk result (λ guard. arc_value guard.hold.place ≡ arc_value this.now) }
+        ensures lock { IfOk result (λ guard. arc_value guard.hold.place ≡ arc_value this.now) }
+        ensures refused { OnErr result (party.new ≡ party.old) }
     {
-        let arc = Arc::try_clone(this)?;
-        Ok(ArcGuard::over(RawHold::wait(arc, party)))
+        Ok(ArcGuard::over(RawHold::wait_by_clone(this, party)?))
     }
 
     /// Clones the Arc, and then tries: None where the hold can't be had. A refused clone takes no lock.
@@ -43,8 +43,7 @@ where
     ) -> Result<Option<ArcRwLockReadGuard<R, T, A>>, NoMemory>
         ensures { IfOk result (λ found. IfSome found (λ guard. arc_value guard.hold.place ≡ arc_value this.now)) }
     {
-        let arc = Arc::try_clone(this)?;
-        Ok(ArcGuard::if_held(RawHold::at_once(arc)))
+        Ok(ArcGuard::if_held(RawHold::at_once_by_clone(this)?))
     }
 
     /// Clones the Arc, and then waits for an exclusive hold. A refused clone takes no lock.
@@ -52,10 +51,10 @@ where
         this: &Arc<RwLock<R, T>, A>,
         party: &mut R::Party,
     ) -> Result<ArcRwLockWriteGuard<R, T, A>, NoMemory>
-        ensures { IfOk result (λ guard. arc_value guard.hold.place ≡ arc_value this.now) }
+        ensures lock { IfOk result (λ guard. arc_value guard.hold.place ≡ arc_value this.now) }
+        ensures refused { OnErr result (party.new ≡ party.old) }
     {
-        let arc = Arc::try_clone(this)?;
-        Ok(ArcGuard::over(RawHold::wait(arc, party)))
+        Ok(ArcGuard::over(RawHold::wait_by_clone(this, party)?))
     }
 
     /// Clones the Arc, and then tries: None where the hold can't be had. A refused clone takes no lock.
@@ -64,8 +63,7 @@ where
     ) -> Result<Option<ArcRwLockWriteGuard<R, T, A>>, NoMemory>
         ensures { IfOk result (λ found. IfSome found (λ guard. arc_value guard.hold.place ≡ arc_value this.now)) }
     {
-        let arc = Arc::try_clone(this)?;
-        Ok(ArcGuard::if_held(RawHold::at_once(arc)))
+        Ok(ArcGuard::if_held(RawHold::at_once_by_clone(this)?))
     }
 }
 
@@ -82,10 +80,11 @@ where
     ) -> Result<Option<ArcRwLockReadGuard<R, T, A>>, NoMemory>
     where
         R::Duration: Drop,
-        ensures { IfOk result (λ found. IfSome found (λ guard. arc_value guard.hold.place ≡ arc_value this.now)) }
+        ensures lock { IfOk result (λ found. IfSome found (λ guard. arc_value guard.hold.place ≡ arc_value this.now)) }
+        ensures refused { OnErr result (party.new ≡ party.old) }
     {
-        let arc = Arc::try_clone(this)?;
-        Ok(ArcGuard::if_held(RawHold::wait_for(arc, timeout, clock, party)))
+        let found = RawHold::wait_by_clone_for(this, timeout, clock, party)?;
+        Ok(ArcGuard::if_held(found))
     }
 
     /// Clones the Arc, and then waits: None if the wait is given up at the moment. A refused clone takes no lock.
@@ -97,10 +96,11 @@ where
     ) -> Result<Option<ArcRwLockReadGuard<R, T, A>>, NoMemory>
     where
         R::Instant: Drop,
-        ensures { IfOk result (λ found. IfSome found (λ guard. arc_value guard.hold.place ≡ arc_value this.now)) }
+        ensures lock { IfOk result (λ found. IfSome found (λ guard. arc_value guard.hold.place ≡ arc_value this.now)) }
+        ensures refused { OnErr result (party.new ≡ party.old) }
     {
-        let arc = Arc::try_clone(this)?;
-        Ok(ArcGuard::if_held(RawHold::wait_until(arc, deadline, clock, party)))
+        let found = RawHold::wait_by_clone_until(this, deadline, clock, party)?;
+        Ok(ArcGuard::if_held(found))
     }
 
     /// Clones the Arc, and then waits: None if the wait is given up after the length of time. A refused clone takes no lock.
@@ -112,10 +112,11 @@ where
     ) -> Result<Option<ArcRwLockWriteGuard<R, T, A>>, NoMemory>
     where
         R::Duration: Drop,
-        ensures { IfOk result (λ found. IfSome found (λ guard. arc_value guard.hold.place ≡ arc_value this.now)) }
+        ensures lock { IfOk result (λ found. IfSome found (λ guard. arc_value guard.hold.place ≡ arc_value this.now)) }
+        ensures refused { OnErr result (party.new ≡ party.old) }
     {
-        let arc = Arc::try_clone(this)?;
-        Ok(ArcGuard::if_held(RawHold::wait_for(arc, timeout, clock, party)))
+        let found = RawHold::wait_by_clone_for(this, timeout, clock, party)?;
+        Ok(ArcGuard::if_held(found))
     }
 
     /// Clones the Arc, and then waits: None if the wait is given up at the moment. A refused clone takes no lock.
@@ -127,10 +128,11 @@ where
     ) -> Result<Option<ArcRwLockWriteGuard<R, T, A>>, NoMemory>
     where
         R::Instant: Drop,
-        ensures { IfOk result (λ found. IfSome found (λ guard. arc_value guard.hold.place ≡ arc_value this.now)) }
+        ensures lock { IfOk result (λ found. IfSome found (λ guard. arc_value guard.hold.place ≡ arc_value this.now)) }
+        ensures refused { OnErr result (party.new ≡ party.old) }
     {
-        let arc = Arc::try_clone(this)?;
-        Ok(ArcGuard::if_held(RawHold::wait_until(arc, deadline, clock, party)))
+        let found = RawHold::wait_by_clone_until(this, deadline, clock, party)?;
+        Ok(ArcGuard::if_held(found))
     }
 }
 
@@ -143,10 +145,10 @@ where
         this: &Arc<RwLock<R, T>, A>,
         party: &mut R::Party,
     ) -> Result<ArcRwLockUpgradableReadGuard<R, T, A>, NoMemory>
-        ensures { IfOk result (λ guard. arc_value guard.hold.place ≡ arc_value this.now) }
+        ensures lock { IfOk result (λ guard. arc_value guard.hold.place ≡ arc_value this.now) }
+        ensures refused { OnErr result (party.new ≡ party.old) }
     {
-        let arc = Arc::try_clone(this)?;
-        Ok(ArcGuard::over(RawHold::wait(arc, party)))
+        Ok(ArcGuard::over(RawHold::wait_by_clone(this, party)?))
     }
 
     /// Clones the Arc, and then tries: None where the hold can't be had. A refused clone takes no lock.
@@ -155,8 +157,7 @@ where
     ) -> Result<Option<ArcRwLockUpgradableReadGuard<R, T, A>>, NoMemory>
         ensures { IfOk result (λ found. IfSome found (λ guard. arc_value guard.hold.place ≡ arc_value this.now)) }
     {
-        let arc = Arc::try_clone(this)?;
-        Ok(ArcGuard::if_held(RawHold::at_once(arc)))
+        Ok(ArcGuard::if_held(RawHold::at_once_by_clone(this)?))
     }
 }
 
@@ -173,10 +174,11 @@ where
     ) -> Result<Option<ArcRwLockUpgradableReadGuard<R, T, A>>, NoMemory>
     where
         R::Duration: Drop,
-        ensures { IfOk result (λ found. IfSome found (λ guard. arc_value guard.hold.place ≡ arc_value this.now)) }
+        ensures lock { IfOk result (λ found. IfSome found (λ guard. arc_value guard.hold.place ≡ arc_value this.now)) }
+        ensures refused { OnErr result (party.new ≡ party.old) }
     {
-        let arc = Arc::try_clone(this)?;
-        Ok(ArcGuard::if_held(RawHold::wait_for(arc, timeout, clock, party)))
+        let found = RawHold::wait_by_clone_for(this, timeout, clock, party)?;
+        Ok(ArcGuard::if_held(found))
     }
 
     /// Clones the Arc, and then waits: None if the wait is given up at the moment. A refused clone takes no lock.
@@ -188,9 +190,10 @@ where
     ) -> Result<Option<ArcRwLockUpgradableReadGuard<R, T, A>>, NoMemory>
     where
         R::Instant: Drop,
-        ensures { IfOk result (λ found. IfSome found (λ guard. arc_value guard.hold.place ≡ arc_value this.now)) }
+        ensures lock { IfOk result (λ found. IfSome found (λ guard. arc_value guard.hold.place ≡ arc_value this.now)) }
+        ensures refused { OnErr result (party.new ≡ party.old) }
     {
-        let arc = Arc::try_clone(this)?;
-        Ok(ArcGuard::if_held(RawHold::wait_until(arc, deadline, clock, party)))
+        let found = RawHold::wait_by_clone_until(this, deadline, clock, party)?;
+        Ok(ArcGuard::if_held(found))
     }
 }

@@ -1,6 +1,7 @@
 //! Guards that own an Arc of their lock.
 ghost use Rattle.std.specs.Prelude.{◌≡◌, None, Some, MatchOption};
 ghost use Rattle.std.specs.Fn.{FnOnceReturnsAt, FnOnceReturnsAtMut};
+ghost use Rattle.lock_api_rw.specs.Holds.{WasReleased, WasReleasedBy};
 
 use crate::held::{ArcHold, FairHold, Hold, MutexHold, ReentrantHold, RwLockHold, WriteHold};
 use crate::lock::{HasValue, HasValueMut};
@@ -72,6 +73,7 @@ where
     pub fn unlocked<F: FnOnce() -> U, U>(s: &mut ArcGuard<H>, party: &mut H::Party, f: F) -> U
         requires { F.IsAlwaysCallable f }
         ensures answer { F.post f result }
+        ensures released { WasReleased H.apart_of (H.lock_of s.old.hold) }
         ensures lock { H.lock_of s.new.hold ≡ H.lock_of s.old.hold }
     {
         mem::replace_with(
@@ -95,14 +97,17 @@ where
 {
     /// As `into_arc`, but the release is fair.
     pub fn into_arc_fair(s: ArcGuard<H>) -> H::Apart
-        ensures { H.apart_of result ≡ H.lock_of s.hold }
+        ensures lock { H.apart_of result ≡ H.lock_of s.hold }
+        ensures fair { H.left_fairly s.hold result }
     {
         let ArcGuard { hold } = s;
         hold.release_fair()
     }
 
     /// Ends the guard by a fair release.
-    pub fn unlock_fair(s: ArcGuard<H>) {
+    pub fn unlock_fair(s: ArcGuard<H>)
+        ensures { WasReleasedBy H.left_fairly s.hold }
+    {
         let _arc = ArcGuard::into_arc_fair(s);
     }
 
@@ -110,6 +115,7 @@ where
     pub fn unlocked_fair<F: FnOnce() -> U, U>(s: &mut ArcGuard<H>, party: &mut H::Party, f: F) -> U
         requires { F.IsAlwaysCallable f }
         ensures answer { F.post f result }
+        ensures released { WasReleasedBy H.left_fairly s.old.hold }
         ensures lock { H.lock_of s.new.hold ≡ H.lock_of s.old.hold }
     {
         mem::replace_with(
@@ -128,7 +134,8 @@ where
 
     /// If somebody waits, gives way by a fair release and waits for the same mode again, and else nothing.
     pub fn bump(s: &mut ArcGuard<H>, party: &mut H::Party)
-        ensures { H.lock_of s.new.hold ≡ H.lock_of s.old.hold }
+        ensures bump { H.bumped s.old.hold s.new.hold }
+        ensures lock { H.lock_of s.new.hold ≡ H.lock_of s.old.hold }
     {
         mem::replace_with(s, party, |guard, party| {
             let hold = ArcGuard::into_hold(guard).bump(party);

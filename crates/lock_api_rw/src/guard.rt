@@ -1,6 +1,7 @@
 //! A guard: a raw hold, and the std guard of the value.
 ghost use Rattle.std.specs.Prelude.{◌≡◌};
 ghost use Rattle.std.specs.Borrow.{Lends, sem};
+ghost use Rattle.lock_api_rw.specs.Holds.{WasReleased, WasReleasedBy};
 ghost use Rattle.lock_api_rw.specs.contracts.guard.Guard.{the_row};
 
 use crate::held::{Access, FairHold, Held, Hold, MutexHold, ReentrantHold, RwLockHold};
@@ -92,6 +93,7 @@ where
     pub fn unlocked<F: FnOnce() -> U, U>(s: &mut Guard<W, H>, party: &mut H::Party, f: F) -> U
         requires { F.IsAlwaysCallable f }
         ensures answer { F.post f result }
+        ensures released { WasReleased H.apart_of (H.lock_of s.old.held.0) }
         ensures lock { H.lock_of s.new.held.0 ≡ H.lock_of s.old.held.0 }
     {
         mem::replace_with(
@@ -149,7 +151,9 @@ where
     H::Runtime: Wait,
 {
     /// Ends the guard by a fair release.
-    pub fn unlock_fair(s: Guard<W, H>) {
+    pub fn unlock_fair(s: Guard<W, H>)
+        ensures { WasReleasedBy H.left_fairly s.held.0 }
+    {
         let _apart = Guard::into_hold(s).release_fair();
     }
 }
@@ -162,6 +166,7 @@ where
     pub fn unlocked_fair<F: FnOnce() -> U, U>(s: &mut Guard<W, H>, party: &mut H::Party, f: F) -> U
         requires { F.IsAlwaysCallable f }
         ensures answer { F.post f result }
+        ensures released { WasReleasedBy H.left_fairly s.old.held.0 }
         ensures lock { H.lock_of s.new.held.0 ≡ H.lock_of s.old.held.0 }
     {
         mem::replace_with(
@@ -179,7 +184,8 @@ where
 
     /// If somebody waits, gives way by a fair release and waits for the same mode again, and else nothing.
     pub fn bump(s: &mut Guard<W, H>, party: &mut H::Party)
-        ensures { H.lock_of s.new.held.0 ≡ H.lock_of s.old.held.0 }
+        ensures bump { H.bumped s.old.held.0 s.new.held.0 }
+        ensures lock { H.lock_of s.new.held.0 ≡ H.lock_of s.old.held.0 }
     {
         mem::replace_with(s, party, |guard, party| {
             (Guard::under(Guard::into_hold(guard).bump(party)), ())

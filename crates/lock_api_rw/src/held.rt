@@ -1,5 +1,5 @@
 //! Raw holds, and whether the value is lent under them.
-ghost use Rattle.std.specs.Prelude.{◌≡◌, false, true, MatchResult};
+ghost use Rattle.std.specs.Prelude.{◌≡◌, ⊤, false, true, MatchResult};
 
 use std::marker::{Model, PhantomData};
 use std::rt::Clock;
@@ -47,17 +47,25 @@ pub trait Hold {
 
 /// A hold whose release can be fair. For the layer above.
 pub trait FairHold: Hold {
+    /// That a fair release of the hold left this. Where the hold is of any type, a fair release alone gives it.
+    ghost left_fairly: { Self → Self.Apart → Type 0 } = { λ _ _. ⊤ };
+
+    /// That a bump of the hold left this one. Where the hold is of any type, a bump alone gives it.
+    ghost bumped: { Self → Self → Type 0 } = { λ _ _. ⊤ };
+
     /// Gives the raw hold up by a fair release.
     fn release_fair(self) -> Self::Apart
     where
         Self::Runtime: Wait,
-        ensures { Self.apart_of result ≡ Self.lock_of self };
+        ensures lock { Self.apart_of result ≡ Self.lock_of self }
+        ensures fair { left_fairly self result };
 
     /// If somebody waits, a fair release and a wait for the same mode, and else nothing.
     fn bump(self, party: &mut Self::Party) -> Self
     where
         Self::Runtime: Wait,
-        ensures { Self.lock_of result ≡ Self.lock_of self };
+        ensures lock { Self.lock_of result ≡ Self.lock_of self }
+        ensures bump { bumped self result };
 }
 
 /// A hold under which a std guard of the value can be kept. For the layer above.
@@ -278,7 +286,7 @@ impl<H: UpgradeHold, W> Held<H, W> {
 
     /// As `upgrade` if no other reader is left, and else unchanged.
     pub fn try_upgrade(self) -> Result<Held<H::Alone, W>, Held<H, W>>
-        ensures { MatchResult result (λ held. H.Alone.lock_of held.0 ≡ H.lock_of self.0) (λ held. held ≡ self) }
+        ensures { MatchResult result (λ held. (H.Alone.lock_of held.0 ≡ H.lock_of self.0) × (held.1 ≡ self.1)) (λ held. held ≡ self) }
     {
         let Held { hold, lent, by } = self;
         match hold.try_upgrade() {
@@ -299,7 +307,7 @@ where
         clock: &C,
         party: &mut H::Party,
     ) -> Result<Held<H::Alone, W>, Held<H, W>>
-        ensures { MatchResult result (λ held. H.Alone.lock_of held.0 ≡ H.lock_of self.0) (λ held. held ≡ self) }
+        ensures { MatchResult result (λ held. (H.Alone.lock_of held.0 ≡ H.lock_of self.0) × (held.1 ≡ self.1)) (λ held. held ≡ self) }
     {
         let Held { hold, lent, by } = self;
         match hold.try_upgrade_for(timeout, clock, party) {
@@ -315,7 +323,7 @@ where
         clock: &C,
         party: &mut H::Party,
     ) -> Result<Held<H::Alone, W>, Held<H, W>>
-        ensures { MatchResult result (λ held. H.Alone.lock_of held.0 ≡ H.lock_of self.0) (λ held. held ≡ self) }
+        ensures { MatchResult result (λ held. (H.Alone.lock_of held.0 ≡ H.lock_of self.0) × (held.1 ≡ self.1)) (λ held. held ≡ self) }
     {
         let Held { hold, lent, by } = self;
         match hold.try_upgrade_until(deadline, clock, party) {

@@ -7,6 +7,7 @@
 mod arc_convert;
 mod arc_forms;
 mod arc_guard;
+mod arc_hold;
 mod convert;
 mod guard;
 mod held;

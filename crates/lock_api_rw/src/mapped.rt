@@ -2,6 +2,7 @@
 ghost use Rattle.std.specs.Prelude.{◌≡◌, Some};
 ghost use Rattle.std.specs.Borrow.{Lends, sem};
 ghost use Rattle.lock_api_raw.specs.Parts.{then_focus};
+ghost use Rattle.lock_api_rw.specs.Holds.{WasReleasedBy};
 ghost use Rattle.lock_api_rw.specs.Narrowing.{Narrows};
 ghost use Rattle.lock_api_rw.specs.contracts.mapped.Mapped.{the_row};
 
@@ -16,8 +17,7 @@ use std::sync::Wait;
 /// A guard narrowed to the part that a projection gives.
 ///
 /// The part is found anew by the projection at each access, and is there as long as the guard lives. What is written to
-/// it is written into the whole value.
-#[derive(Drop)]
+/// it is written into the whole value. Its drop ends the guard.
 pub struct Mapped<W: Lender + Drop, H: Hold, P: Projection<W::Part> + Drop>
 where
     H::Runtime: Wait,
@@ -38,6 +38,17 @@ where
     ghost view = { λ m. (m.guard, m.by) };
 
     ghost invariant = { λ m. IsSome (P.focus m.by (W.part m.guard.inner)) };
+}
+
+// By hand: where a derived drop ends the scope of a caller that dereferenced, the caller isn't covered.
+impl<W: Lender + Drop, H: Hold, P: Projection<W::Part> + Drop> Drop for Mapped<W, H, P>
+where
+    H::Runtime: Wait,
+{
+    fn drop(self) {
+        let Mapped { guard, by: _ } = self;
+        drop(guard);
+    }
 }
 
 impl<W: Lender + Drop, H: Hold, P: Projection<W::Part> + Drop> Deref for Mapped<W, H, P>
@@ -173,7 +184,9 @@ where
     H::Runtime: Wait,
 {
     /// Ends the guard by a fair release.
-    pub fn unlock_fair(s: Mapped<W, H, P>) {
+    pub fn unlock_fair(s: Mapped<W, H, P>)
+        ensures { WasReleasedBy H.left_fairly s.0.held.0 }
+    {
         let Mapped { guard, by: _ } = s;
         Guard::unlock_fair(guard);
     }

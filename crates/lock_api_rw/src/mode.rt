@@ -1,5 +1,5 @@
 //! The modes in which raw locks are held.
-ghost use Rattle.std.specs.Prelude.{◌≡◌, ℕ, IfSome};
+ghost use Rattle.std.specs.Prelude.{◌≡◌, ℕ, ⊤, IfSome};
 
 use lock_api_raw::{
     RawRwLock, RawRwLockFair, RawRwLockTimed, RawRwLockUpgrade, RawRwLockUpgradeFair,
@@ -44,18 +44,26 @@ pub trait Mode<R> {
 
 /// A mode whose release can be fair. For the layer above.
 pub trait FairMode<R>: Mode<R> {
+    /// That a fair release spent the token. Where the mode is of any type, a fair release alone gives it.
+    ghost spent_fairly: { Self.Token → Type 0 } = { λ _. ⊤ };
+
+    /// That a bump of the token gave this one. Where the mode is of any type, a bump alone gives it.
+    ghost bumped: { Self.Token → Self.Token → Type 0 } = { λ _ _. ⊤ };
+
     /// Gives a hold up by a fair release.
     fn unlock_fair(raw: &R, token: Self::Token)
     where
         Self::Runtime: Wait,
-        requires { Self.issued_by token ≡ Self.number raw.now };
+        requires { Self.issued_by token ≡ Self.number raw.now }
+        ensures { spent_fairly token };
 
     /// If somebody waits, a fair release and a wait for the same mode, and else nothing.
     fn bump(raw: &R, token: Self::Token, party: &mut Self::Party) -> Self::Token
     where
         Self::Runtime: Wait,
         requires { Self.issued_by token ≡ Self.number raw.now }
-        ensures { Self.issued_by result ≡ Self.number raw.now };
+        ensures issued { Self.issued_by result ≡ Self.number raw.now }
+        ensures bump { bumped token result };
 }
 
 /// A mode whose wait can give up. For the layer above.

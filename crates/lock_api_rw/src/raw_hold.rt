@@ -215,6 +215,10 @@ where
 impl<L: Place + Drop, M: Mode<<L::Lock as HasRaw>::Raw> + Writes> WriteHold for RawHold<L, M> {}
 
 impl<L: Place + Drop, M: FairMode<<L::Lock as HasRaw>::Raw>> FairHold for RawHold<L, M> {
+    ghost left_fairly = { λ hold _. M.spent_fairly hold.token };
+
+    ghost bumped = { λ hold after. M.bumped hold.token after.token };
+
     fn release_fair(self) -> L
     where
         M::Runtime: Wait,

@@ -17,6 +17,8 @@ where
     W::Part: Debug,
     H::Runtime: Wait,
 {
+    ghost debug_output = { λ guard. W.Part.debug_output (W.part guard.inner) };
+
     fn fmt<F: fmt::Write>(&self, f: &mut fmt::Formatter<F>) -> fmt::Result {
         Debug::fmt(self.look(), f)
     }
@@ -27,6 +29,10 @@ where
     W::Part: Display,
     H::Runtime: Wait,
 {
+    ghost output = { λ guard. W.Part.output (W.part guard.inner) };
+
+    ghost styled_output = { λ guard style. W.Part.styled_output (W.part guard.inner) style };
+
     fn fmt<F: fmt::Write>(&self, f: &mut fmt::Formatter<F>) -> fmt::Result {
         Display::fmt(self.look(), f)
     }
@@ -37,6 +43,10 @@ where
     P::Out: Debug,
     H::Runtime: Wait,
 {
+    ghost use Rattle.std.specs.Option.{option_and_then};
+
+    ghost debug_output = { λ m. option_and_then P.Out.debug_output (P.focus m.1 (W.part m.0.inner)) };
+
     fn fmt<F: fmt::Write>(&self, f: &mut fmt::Formatter<F>) -> fmt::Result {
         Debug::fmt(self.deref(), f)
     }
@@ -47,6 +57,12 @@ where
     P::Out: Display,
     H::Runtime: Wait,
 {
+    ghost use Rattle.std.specs.Option.{option_and_then};
+
+    ghost output = { λ m. option_and_then P.Out.output (P.focus m.1 (W.part m.0.inner)) };
+
+    ghost styled_output = { λ m style. option_and_then (λ part. P.Out.styled_output part style) (P.focus m.1 (W.part m.0.inner)) };
+
     fn fmt<F: fmt::Write>(&self, f: &mut fmt::Formatter<F>) -> fmt::Result {
         Display::fmt(self.deref(), f)
     }

@@ -41,6 +41,8 @@ pub struct LockTable<'l, R, A: Allocator = Global> {
 pub struct Row<'t, 'l, R, A: Allocator = Global> {
     table: &'t LockTable<'l, R, A>,
     number: usize,
+    /// Its word, which is one look away.
+    word: &'t AtomicU64,
     ghost within: { number < length table.now.words.items },
 }
 
@@ -93,6 +95,7 @@ impl<'l, R, A: Allocator> LockTable<'l, R, A> {
         Ok(Row {
             table: self,
             number,
+            word: &self.words[number],
         })
     }
 
@@ -149,35 +152,30 @@ impl<'t, 'l, R, A: Allocator> Row<'t, 'l, R, A> {
 
     /// Loads the word.
     pub fn load(&self) -> u64 {
-        self.cell().load(Ordering::SeqCst)
+        self.word.load(Ordering::SeqCst)
     }
 
     /// Writes `to` if the word is `from`, else answers the word that it saw.
     pub fn exchange(&self, from: u64, to: u64) -> Result<(), u64>
         ensures { IfErr result (λ seen. seen ≢ from) }
     {
-        self.cell()
+        self.word
             .compare_exchange(from, to, Ordering::SeqCst, Ordering::SeqCst)
             .map(|_| ())
     }
 
     /// Adds to the word, modulo 2^64, and answers the word before.
     pub fn add(&self, by: u64) -> u64 {
-        self.cell().fetch_add(by, Ordering::SeqCst)
+        self.word.fetch_add(by, Ordering::SeqCst)
     }
 
     /// Keeps the bits of the word that `keep` has, and answers the word before.
     pub fn mask(&self, keep: u64) -> u64 {
-        self.cell().fetch_and(keep, Ordering::SeqCst)
+        self.word.fetch_and(keep, Ordering::SeqCst)
     }
 
     /// Writes the word.
     pub fn store(&self, to: u64) {
-        self.cell().store(to, Ordering::SeqCst)
-    }
-
-    /// The word itself.
-    fn cell(&self) -> &AtomicU64 {
-        &self.table.words[self.number]
+        self.word.store(to, Ordering::SeqCst)
     }
 }

@@ -113,21 +113,21 @@ rw_few k p n b e = omega (arith, same_shares k n e, b)
 rows_apart : (locks x t : ℕ) → x < t → x * locks + locks ≤ t * locks
 rows_apart locks x zero h = absurd (omega (arith, h))
 rows_apart locks x (suc t) h = elim (cases_lt x t) [
-    | inl b ↦ omega (arith, rows_apart locks x t b, suc-mul t locks)
-    | inr b ↦ subst (λ n. n * locks + locks ≤ suc t * locks) (same h b) (omega (arith, suc-mul t locks))
-  ]
+  | inl b ↦ omega (arith, rows_apart locks x t b, suc-mul t locks)
+  | inr b ↦ subst (λ n. n * locks + locks ≤ suc t * locks) (same h b) (omega (arith, suc-mul t locks))
+]
   where
     same : x < suc t → t ≤ x → t ≡ x
     same a b = omega (arith, a, b)
 
 pub cells_apart : (locks x i t j : ℕ) → i < locks → j < locks → x * locks + i ≡ t * locks + j → (x ≡ t) × (i ≡ j)
 cells_apart locks x i t j bi bj e = elim (cases_lt x t) [
-    | inl b ↦ absurd (omega (arith, rows_apart locks x t b, e, bi))
-    | inr b ↦ elim (cases_lt t x) [
-      | inl d ↦ absurd (omega (arith, rows_apart locks t x d, e, bj))
-      | inr d ↦ let same : x ≡ t = omega (arith, b, d) in (same, omega (arith, subst (λ n. n * locks + i ≡ t * locks + j) same e))
-    ]
+  | inl b ↦ absurd (omega (arith, rows_apart locks x t b, e, bi))
+  | inr b ↦ elim (cases_lt t x) [
+    | inl d ↦ absurd (omega (arith, rows_apart locks t x d, e, bj))
+    | inr d ↦ let same : x ≡ t = omega (arith, b, d) in (same, omega (arith, subst (λ n. n * locks + i ≡ t * locks + j) same e))
   ]
+]
 
 pub cell_within : (threads locks t j : ℕ) → t < threads → j < locks → t * locks + j < threads * locks
 cell_within threads locks t j bt bj = omega (arith, rows_apart locks t threads bt, bj)
@@ -164,15 +164,16 @@ module _ (s : State) (h : FitsTogether s) (t : ℕ) (c : Call) (here : call_at s
   -- of any other lock, or any other thread
   hold_elsewhere : (x i : ℕ) → (x ≢ t) ⊎ (i ≢ c.lock) → hold_at u x i ≡ hold_at s x i
   hold_elsewhere x i other = elim (cases_lt i (length s.kinds)) [
-      | inl b ↦ ap (λ q. cond q (read u.holds (x * length s.kinds + i)) (hold.Shares 0)) (lt-ltb i (length s.kinds) b)
-          ∙ read_elsewhere s.holds (t * length s.kinds + c.lock) (x * length s.kinds + i) now (λ e. let same = cells_apart (length s.kinds) x i t c.lock b lock_within e in elim other [ | inl n ↦ n same.0 | inr n ↦ n same.1 ])
-          ∙ sym (ap (λ q. cond q (read s.holds (x * length s.kinds + i)) (hold.Shares 0)) (lt-ltb i (length s.kinds) b))
-      | inr b ↦ ap (λ q. cond q (read u.holds (x * length s.kinds + i)) (hold.Shares 0)) (beyond i b) ∙ sym (ap (λ q. cond q (read s.holds (x * length s.kinds + i)) (hold.Shares 0)) (beyond i b))
-    ]
+    | inl b ↦ ap (λ q. cond q (read u.holds (x * length s.kinds + i)) (hold.Shares 0)) (lt-ltb i (length s.kinds) b)
+        ∙ read_elsewhere s.holds (t * length s.kinds + c.lock) (x * length s.kinds + i) now (λ e. let same = cells_apart (length s.kinds) x i t c.lock b lock_within e in elim other [ inl n ↦ n same.0 | inr n ↦ n same.1 ])
+        ∙ sym (ap (λ q. cond q (read s.holds (x * length s.kinds + i)) (hold.Shares 0)) (lt-ltb i (length s.kinds) b))
+    | inr b ↦ ap (λ q. cond q (read u.holds (x * length s.kinds + i)) (hold.Shares 0)) (beyond i b) ∙ sym (ap (λ q. cond q (read s.holds (x * length s.kinds + i)) (hold.Shares 0)) (beyond i b))
+  ]
     where
       by_test : (n : ℕ) → length s.kinds ≤ n → (b : Bool) → nat_lt n (length s.kinds) ≡ b → nat_lt n (length s.kinds) ≡ false
       by_test n le false e = e
       by_test n le true e = absurd (omega (arith, ltb-true n (length s.kinds) e, le))
+
       beyond : (n : ℕ) → length s.kinds ≤ n → nat_lt n (length s.kinds) ≡ false
       beyond n le = by_test n le (nat_lt n (length s.kinds)) refl
 
@@ -228,18 +229,25 @@ module _ (s : State) (h : FitsTogether s) (t : ℕ) (c : Call) (here : call_at s
     where
       met : Meets (rw_lock_at s c.lock) t c.others (rw_spot c.spot) (taken_by s.wakes t) k.phase (word_at s c.lock)
       met = meets s h t c k e here
+
       last : is_last k.phase ≡ true
       last = answers_are_last k.phase answer (subst (λ (x : Core). has_begun x ≡ true) e (h.rules.begun t c here)) asked
+
       step : IsLastStep (of_rw.last_move c.others k.phase) (rw_lock_at s c.lock) t (of_rw.role c.others (rw_spot c.spot) (taken_by s.wakes t) k.phase) (word_at s c.lock) (record { owns = owned_of (rw_hold_after c.others k.phase); does = Idle })
       step = ends_are_steps (rw_lock_at s c.lock) t c.others (rw_spot c.spot) (taken_by s.wakes t) k.phase (word_at s c.lock) met last
+
       held : hold_after c.others (core.Rw k) ≡ now
       held = sym (ap (hold_after c.others) e)
+
       after_is : rw_lock_at u c.lock ≡ with_role (rw_lock_at s c.lock) (word_at s c.lock) t (record { owns = owned_of (rw_hold_after c.others k.phase); does = Idle })
       after_is = rw_ended k e ∙ ap (λ (y : Hold). with_role (rw_lock_at s c.lock) (word_at s c.lock) t (record { owns = owned_of y; does = Idle })) (sym held)
+
       moves : (m : of_rw.Move) → of_rw.last_move c.others k.phase ≡ m → OwnMove m t (inside s) (inside u)
       moves m eq = subst (λ (x : of_rw.Move). OwnMove x t (inside s) (inside u)) eq (last_moves c.others k.phase (inside s))
+
       steps_so : (m : of_rw.Move) → of_rw.last_move c.others k.phase ≡ m → IsLastStep m (rw_lock_at s c.lock) t (of_rw.role c.others (rw_spot c.spot) (taken_by s.wakes t) k.phase) (word_at s c.lock) (record { owns = owned_of (rw_hold_after c.others k.phase); does = Idle })
       steps_so m eq = subst (λ (x : of_rw.Move). IsLastStep x (rw_lock_at s c.lock) t (of_rw.role c.others (rw_spot c.spot) (taken_by s.wakes t) k.phase) (word_at s c.lock) (record { owns = owned_of (rw_hold_after c.others k.phase); does = Idle })) eq step
+
       go : (m : of_rw.Move) → of_rw.last_move c.others k.phase ≡ m → IsRwMove m c.lock t s u
       go of_rw.Stays eq =
           quiet_rw s u t c.lock there_before ends_elsewhere kind_is
@@ -269,9 +277,9 @@ module _ (s : State) (h : FitsTogether s) (t : ℕ) (c : Call) (here : call_at s
 
   calls_ended : (P : ℕ → Call → Type 0) → ((v : ℕ) (x : Call) → call_at s v ≡ Some x → P v x) → (v : ℕ) (x : Call) → call_at u v ≡ Some x → P v x
   calls_ended P others v x at = elim (cases_eq v t) [
-      | inl q ↦ absurd (none-some x (sym gone ∙ ap (call_at u) (sym q) ∙ at))
-      | inr ne ↦ others v x (sym (others_stay v ne) ∙ at)
-    ]
+    | inl q ↦ absurd (none-some x (sym gone ∙ ap (call_at u) (sym q) ∙ at))
+    | inr ne ↦ others v x (sym (others_stay v ne) ∙ at)
+  ]
 
   few_after : (i n : ℕ) (o : Core) → c.core ≡ o → now ≡ hold.Shares n → n ≤ 255
   few_after i n (core.Mutex k) e is = mutex_few k.phase n (sym (ap (hold_after c.others) e) ∙ is)
@@ -279,12 +287,12 @@ module _ (s : State) (h : FitsTogether s) (t : ℕ) (c : Call) (here : call_at s
 
   few_now : (x i n : ℕ) → hold_at u x i ≡ hold.Shares n → n ≤ 255
   few_now x i n is = elim (cases_eq x t) [
-      | inl q ↦ elim (cases_eq i c.lock) [
-        | inl p ↦ few_after i n c.core refl (sym hold_here ∙ ap (hold_at u t) (sym p) ∙ ap (λ y. hold_at u y i) (sym q) ∙ is)
-        | inr ne ↦ h.rules.few x i n (sym (hold_elsewhere x i (inr ne)) ∙ is)
-      ]
-      | inr ne ↦ h.rules.few x i n (sym (hold_elsewhere x i (inl ne)) ∙ is)
+    | inl q ↦ elim (cases_eq i c.lock) [
+      | inl p ↦ few_after i n c.core refl (sym hold_here ∙ ap (hold_at u t) (sym p) ∙ ap (λ y. hold_at u y i) (sym q) ∙ is)
+      | inr ne ↦ h.rules.few x i n (sym (hold_elsewhere x i (inr ne)) ∙ is)
     ]
+    | inr ne ↦ h.rules.few x i n (sym (hold_elsewhere x i (inl ne)) ∙ is)
+  ]
 
   module _ (answer : CoreAnswer) (asked : core_act c.core ≡ act.Done answer) where
     out : (stance c.core ≡ Out) × (taken_count c.core ≡ 0)
@@ -321,6 +329,7 @@ module _ (s : State) (h : FitsTogether s) (t : ℕ) (c : Call) (here : call_at s
       where
         lots : LotFits u
         lots = same_parts (record s { calls = slice_set s.calls t None }) u refl refl refl (ended_fits s t c h.lots here out.0 out.1)
+
         go : (x : Core) → c.core ≡ x → Ends t c s u
         go (core.Rw k) e =
             let moved = rw_goes_away k e answer (subst (λ (y : Core). core_act y ≡ act.Done answer) e asked) (subst (IsOfKind (slice_get s.kinds c.lock)) e (h.rules.kinds t c here)) in

@@ -1,6 +1,7 @@
 -- The calls and the parts of the machine once one thread's call has changed.
-use Rattle.std.proofs.Common.{◌≡◌, ◌≢◌, ℕ, ◌+◌, ◌*◌, ◌<◌, ◌⊎◌, inl, inr, List, length, Option, Some, None, slice_get, slice_set, refl, sym, ap, ◌∙◌, subst, arith}
+use Rattle.std.proofs.Common.{◌≡◌, ◌≢◌, ℕ, ◌+◌, ◌*◌, ◌<◌, ◌≤◌, ◌⊎◌, inl, inr, List, length, map, Option, Some, None, slice_get, slice_set, refl, sym, ap, ◌∙◌, subst, arith}
 use Rattle.std.proofs.lemmas.Bool.{cases_eq}
+use Rattle.std.proofs.lemmas.List.{length-set, length-map}
 use Rattle.std.proofs.lemmas.Option.{none-some, same_Some}
 use Rattle.std.specs.Option.{option_and_then, option_map_or}
 use Rattle.parking_lot_rules.proofs.Indexed.{get-set_same, get-set_other}
@@ -38,3 +39,11 @@ calls-change P calls t c d here others this v e at = elim (cases_eq v t) [
 
 pub same-holds : (s u : State) → u.kinds ≡ s.kinds → u.holds ≡ s.holds → (x i : ℕ) → hold_at u x i ≡ hold_at s x i
 same-holds s u k h x i = ap (λ hs. hold_in hs (length u.kinds) x i) h ∙ ap (λ ks. hold_in s.holds (length ks) x i) k
+
+-- there is room for as many as before, where one call has changed
+pub room_set : (calls : List (Option Call)) (t : ℕ) (o : Option Call) (room : ℕ) → length calls ≤ room → length (slice_set calls t o) ≤ room
+room_set calls t o room h = subst (λ n. n ≤ room) (sym (length-set calls t o)) h
+
+-- nor where others are told besides
+pub room_settled : (calls news : List (Option Call)) (t : ℕ) (o : Option Call) (f : Option Call → Option Call) (room : ℕ) → news ≡ map f (slice_set calls t o) → length calls ≤ room → length news ≤ room
+room_settled calls news t o f room e h = subst (λ (cs : List (Option Call)). length cs ≤ room) (sym e) (subst (λ n. n ≤ room) (sym (length-map (slice_set calls t o) f)) (room_set calls t o room h))

@@ -39,6 +39,8 @@ pub mod RwCrossing
 mod Starting
 mod Answering
 mod Acting
+mod Requesting
+mod Stepping
 mod TakeOutside
 mod TakeJoins
 mod TakeNobody

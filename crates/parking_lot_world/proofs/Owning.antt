@@ -142,6 +142,7 @@ module _ (s u : State) (t : ℕ) (c : Call) (told : Seen) (k : RwCore) (at : Spo
     where
       around_move : (m : of_rw.Move) → of_rw.move c.others us k.phase told ≡ m → OwnMove m t (inside s) (inside u)
       around_move m eq = subst (λ (x : of_rw.Move). OwnMove x t (inside s) (inside u)) eq moves
+
       stays : of_rw.move c.others us k.phase told ≡ of_rw.Stays → rw_lock_at u c.lock ≡ rw_lock_at s c.lock
       stays eq =
           let kept = stays_are_steps (rw_lock_at s c.lock) t c.others (rw_spot c.spot) us k.phase (word_at s c.lock) told here heard eq in

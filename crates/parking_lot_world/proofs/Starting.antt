@@ -378,9 +378,9 @@ module _ (s : State) (t : ℕ) (c : Call) (may : MayBegin s t c) (h : FitsTogeth
 
   calls_begun : (P : ℕ → Call → Type 0) → ((v : ℕ) (x : Call) → call_at s v ≡ Some x → P v x) → P t (hears c seen.Start) → (v : ℕ) (x : Call) → call_at u v ≡ Some x → P v x
   calls_begun P others this v x at = elim (cases_eq v t) [
-      | inl q ↦ subst (λ (n : ℕ). P n x) (sym q) (subst (P t) (same_Some (hears c seen.Start) x (sym (call-here s.calls t None (Some (hears c seen.Start)) (empty_slot s.calls t may.low may.free)) ∙ ap (call_at u) (sym q) ∙ at)) this)
-      | inr ne ↦ others v x (sym (call-elsewhere s.calls t v (Some (hears c seen.Start)) ne) ∙ at)
-    ]
+    | inl q ↦ subst (λ (n : ℕ). P n x) (sym q) (subst (P t) (same_Some (hears c seen.Start) x (sym (call-here s.calls t None (Some (hears c seen.Start)) (empty_slot s.calls t may.low may.free)) ∙ ap (call_at u) (sym q) ∙ at)) this)
+    | inr ne ↦ others v x (sym (call-elsewhere s.calls t v (Some (hears c seen.Start)) ne) ∙ at)
+  ]
 
   wakes_begun : WakesFit u
   wakes_begun = record {
@@ -407,6 +407,7 @@ module _ (s : State) (t : ℕ) (c : Call) (may : MayBegin s t c) (h : FitsTogeth
     where
       lots : LotFits u
       lots = begun_fits s t c h.lots may.low may.free (calls_begin c.core).0 (calls_begin c.core).1
+
       go : (x : Core) → c.core ≡ x → Acts t c seen.Start s u
       go (core.Rw k) e = record {
         fits = record { lots = lots; wakes = wakes_begun; rules = rules_begun (fits_rw k e) (rw_move_sound s u t c.lock (of_rw.move c.others us k.phase seen.Start) (moves_rw k e) h.rules.sound) };

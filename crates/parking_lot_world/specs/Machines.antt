@@ -25,7 +25,7 @@ use Rattle.parking_lot_core.specs.declared.place.Taking.{Taking}
 use Rattle.parking_lot_core.specs.declared.place.Waiter.{Waiter}
 use Rattle.parking_lot_world.specs.declared.seat.Wakeup.{Wakeup}
 use Rattle.parking_lot_world.specs.Stances.{In, Takes, stance, core_act}
-use Rattle.parking_lot_world.specs.RowActs.{key_of, off_list, took, took_nobody, woke}
+use Rattle.parking_lot_world.specs.RowActs.{key_of, off_list, told_all, took, took_nobody, woke}
 use Rattle.parking_lot_world.specs.TellLaws.{IsDue}
 use Rattle.parking_lot_world.specs.ActLaws.{Acts, Ends}
 
@@ -61,15 +61,15 @@ call_for s t lock call = record { lock = lock; others = holds_beside (hold_at s 
 abbrev pub IsBegun : ℕ → ℕ → LockCall → State → State → Type 0
 IsBegun t lock call s u = Acts t (call_for s t lock call) seen.Start s u
 
--- whether a release that stores is told what the schedule says
-abbrev pub IsAsSaid : Act → Bool → Seen → Type 0
-IsAsSaid (act.Section (section.Store plain handing)) fair told = told ≡ seen.Stored fair
-IsAsSaid other fair told = Unit {0}
+-- a release that stores goes by what the schedule says
+abbrev pub IsAsSaid : Act → ℕ → Bool → Call → State → State → Type 0
+IsAsSaid (act.Section (section.Store plain handing)) t fair c s u = u ≡ told_all s t c (if fair then handing else plain) fair
+IsAsSaid other t fair c s u = Unit {0}
 
 -- A thread in a call has made a step: its core is told what its act gave, and that is the step of the rules that the core's table names; or its
 -- call is answered.
 abbrev pub IsStepped : ℕ → Bool → Option CoreAnswer → State → State → Type 0
-IsStepped t fair None s u = (c : Call) × (told : Seen) × (call_at s t ≡ Some c) × IsAsSaid (core_act c.core) fair told × Acts t c told s u
+IsStepped t fair None s u = (c : Call) × (call_at s t ≡ Some c) × ((told : Seen) × Acts t c told s u) × IsAsSaid (core_act c.core) t fair c s u
 IsStepped t fair (Some answer) s u = (c : Call) × (call_at s t ≡ Some c) × (core_act c.core ≡ act.Done answer) × Ends t c s u
 
 -- a machine where nobody has done anything

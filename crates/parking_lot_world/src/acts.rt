@@ -1,5 +1,5 @@
 //! What each act of a call does to the machine.
-ghost use Rattle.std.specs.Prelude.{◌≡◌, ◌<◌, ◌≤◌, ℕ, ◌+◌, ◌*◌, ◌%◌, ◌^◌, length, map, slice_get, Some, None, vec_capacity, vec_len};
+ghost use Rattle.std.specs.Prelude.{◌≡◌, ◌<◌, ◌≤◌, ℕ, ◌+◌, ◌*◌, ◌%◌, ◌^◌, length, map, slice_get, Some, None, if◌then◌else◌, vec_capacity, vec_len};
 ghost use Rattle.std.specs.List.{position, position_or_len};
 ghost use Rattle.std.specs.Option.{option_and_then, option_map, option_map_or};
 ghost use Rattle.parking_lot_cores.specs.declared.act.Seen.TheVariants as seen;
@@ -10,6 +10,7 @@ ghost use Rattle.parking_lot_core.specs.Results.{is_left};
 ghost use Rattle.parking_lot_cores.specs.declared.act.Act.TheVariants as act;
 ghost use Rattle.parking_lot_cores.specs.declared.act.SectionAct.TheVariants as section;
 ghost use Rattle.parking_lot_cores.specs.declared.act.CoreAnswer.{CoreAnswer};
+ghost use Rattle.parking_lot_cores.specs.declared.act.WordChange.{WordChange};
 ghost use Rattle.parking_lot_world.specs.ActLaws.{MayBegin};
 ghost use Rattle.parking_lot_world.specs.Rows.{call_at, is_by, state, word_at};
 ghost use Rattle.parking_lot_world.specs.Stances.{In, Joins, Takes, core_act, stance};
@@ -24,7 +25,14 @@ use parking_lot_cores::{Seen, TRY_AGAIN, WordChange};
 use std::alloc::Allocator;
 
 /// One that took sleepers tells all of them whom it hasn't told yet.
-fn settle(calls: &mut [Option<Call>], by: usize, said: Told)
+fn settle<A: Allocator>(calls: &mut Vec<Option<Call>, A>, by: usize, said: Told)
+    ensures { calls.new.items ≡ map (option_map (settled by said)) calls.old.items }
+{
+    settle_each(calls, by, said);
+}
+
+/// The same of a slice.
+fn settle_each(calls: &mut [Option<Call>], by: usize, said: Told)
     ensures { calls.new ≡ map (option_map (settled by said)) calls.old }
 {
     for call in calls.iter_mut() {
@@ -226,6 +234,7 @@ impl<A: Allocator> RowMachine<A> {
     /// It changes the word, and tells those whom it took.
     pub(crate) fn store(&mut self, thread: usize, call: Call, change: WordChange, fair: bool)
         requires here { call_at (state self.old) thread ≡ Some call }
+        requires asked { (plain handing : WordChange) × (core_act call.core ≡ act.Section (section.Store plain handing)) × (change ≡ (if fair then handing else plain)) }
         ensures { state self.new ≡ told_all (state self.old) thread call change fair }
     {
         let word = self.word(call.lock);

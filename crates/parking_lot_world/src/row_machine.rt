@@ -1,18 +1,21 @@
 //! The machine of locks: words, lists and a call for each thread, moved one atomic step at a time.
-ghost use Rattle.std.specs.Prelude.{◌≡◌, ◌<◌, ◌↔◌, ◌⊎◌, ◌^◌, length, Some, None, true, IsErrOf, IfOk, IfErr, IsTrue};
+ghost use Rattle.std.specs.Prelude.{◌≡◌, ◌<◌, ◌↔◌, ◌⊎◌, ◌^◌, length, slice_get, Some, None, true, if◌then◌else◌, IsErrOf, IfOk, IfErr, IsTrue};
 ghost use Rattle.parking_lot_core.specs.declared.fault.SizeFault.TheVariants.{BadSize, NoMemory};
+ghost use Rattle.parking_lot_cores.specs.declared.act.Act.TheVariants as act;
+ghost use Rattle.parking_lot_world.specs.Stances.{core_act};
 ghost use Rattle.parking_lot_world.specs.Rows.{call_at, hold_at, state, word_at};
 ghost use Rattle.parking_lot_world.specs.Machines.{at_rest, can_move, may_begin, IsBegun, IsStepped};
 
 use crate::calls::{LockCall, LockKind};
 use crate::seat::{Call, Hold, Spot, Wakeup};
 use parking_lot_core::{Lot, SizeFault};
-use parking_lot_cores::{Act, CoreAnswer, SectionAct};
+use parking_lot_cores::{Act, CoreAnswer, SectionAct, WordChange};
 use std::alloc::{Allocator, Global};
 use std::marker::Model;
 
 /// The most threads, and the most locks.
 const MAX_THREADS: usize = 65_536;
+
 const MAX_LOCKS: usize = 1 << 20;
 
 /// Locks, and threads at them, each in one call at a time.
@@ -117,6 +120,7 @@ impl<A: Allocator> RowMachine<A> {
         requires may { may_begin (state self.old) thread lock call ≡ true }
         ensures { IsBegun thread lock call (state self.old) (state self.new) }
     {
+        let _ = &self.wakes;
         let others = self.hold(thread, lock).beside();
         self.begin_call(
             thread,
@@ -135,6 +139,7 @@ impl<A: Allocator> RowMachine<A> {
         requires can { can_move (state self.old) thread ≡ true }
         ensures { IsStepped thread fair result (state self.old) (state self.new) }
     {
+        let _ = &self.wakes;
         let call = self.call(thread)?;
         match call.core.act() {
             Act::Load => self.load(thread, call),
@@ -143,7 +148,7 @@ impl<A: Allocator> RowMachine<A> {
             Act::Mask(keep) => self.mask(thread, call, keep),
             Act::Spin => self.spin(thread, call),
             Act::Enter(which) => self.enter(thread, call, which),
-            Act::Section(act) => self.step_in_section(thread, call, act, fair),
+            Act::Section(next) => self.step_in_section(thread, call, next, fair),
             Act::Sleep => {}
             Act::Done(answer) => {
                 self.answer(thread, call);
@@ -154,18 +159,32 @@ impl<A: Allocator> RowMachine<A> {
     }
 
     /// The same in a section, or after one.
-    fn step_in_section(&mut self, thread: usize, call: Call, act: SectionAct, fair: bool) {
-        match act {
+    fn step_in_section(&mut self, thread: usize, call: Call, next: SectionAct, fair: bool)
+        requires here { call_at (state self.old) thread ≡ Some call }
+        requires asked { core_act call.core ≡ act.Section next }
+        ensures { IsStepped thread fair None (state self.old) (state self.new) }
+    {
+        let _ = &self.wakes;
+        match next {
             SectionAct::Check => self.check(thread, call),
             SectionAct::TakeFirst => self.take_first(thread, call),
             SectionAct::TakeNext(sum) => self.take_next(thread, call, sum),
             SectionAct::Append(token) => self.append(thread, call, token),
-            SectionAct::Store { plain, fair: handing } => {
-                let change = if fair { handing } else { plain };
-                self.store(thread, call, change, fair);
+            SectionAct::Store {
+                plain,
+                fair: handing,
+            } => {
+                self.store(thread, call, change_by(fair, plain, handing), fair);
             }
             SectionAct::Leave => self.leave(thread, call),
             SectionAct::Wake => self.wake(thread, call),
         }
     }
+}
+
+/// The change that a release makes, as it is plain or hands the lock over.
+fn change_by(fair: bool, plain: WordChange, handing: WordChange) -> WordChange
+    ensures { result ≡ (if fair then handing else plain) }
+{
+    if fair { handing } else { plain }
 }

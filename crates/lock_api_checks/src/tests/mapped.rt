@@ -25,16 +25,20 @@ fn a_mapped_mutex_guard_reads_and_writes_its_part(rt: HostRuntime) -> Result<(),
 }
 
 #[test]
-fn a_mapped_guard_lets_go_once(rt: HostRuntime) -> Result<(), Fail> {
+fn a_mapped_lock_guard_reads_and_writes_its_part(rt: HostRuntime) -> Result<(), Fail> {
     let mut party = 1;
     let lock = RwLock::<PackedLock<HostRuntime>, (Option<u64>, u64)>::new(rt, 4, (Some(1), 2))?;
-    let writer = RwLockWriteGuard::map(lock.write(&mut party), First);
+    let mut writer = RwLockWriteGuard::map(lock.write(&mut party), First);
     assert!(rt; lock.is_locked_exclusive());
+    assert!(rt; *writer == Some(1));
+    *writer = None;
     drop(writer);
     assert!(rt; !lock.is_locked());
     let reader = RwLockReadGuard::map(lock.read(&mut party), First);
+    assert!(rt; *reader == None);
     assert!(rt; lock.is_locked() && !lock.is_locked_exclusive());
     drop(reader);
     assert!(rt; !lock.is_locked());
+    assert!(rt; lock.into_inner() == (None, 2));
     Ok(())
 }

@@ -1,6 +1,6 @@
 //! The checks of the mutex, on the raw mutex of the tests.
 
-use crate::{PackedMutex, mutex_checks};
+use crate::{PackedMutex, mutex_checks, raw_checks};
 use std::test::Fail;
 
 type Raw = PackedMutex<HostRuntime>;
@@ -49,6 +49,7 @@ fn a_guard_owns_an_arc(rt: HostRuntime) -> Result<(), Fail> {
 
 #[test]
 fn two_threads_take_turns(rt: HostRuntime) -> Result<(), Fail> {
+    raw_checks::a_mutex_excludes::<Raw, _>(&rt, rt, &mut 1, &mut 2)?;
     mutex_checks::excludes::<Raw, HostRuntime>(&rt, rt, &mut 1, &mut 2)?;
     Ok(())
 }

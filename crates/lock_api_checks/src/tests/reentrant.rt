@@ -9,6 +9,7 @@ type Raw = PackedMutex<HostRuntime>;
 #[test]
 fn holds_nest(rt: HostRuntime) -> Result<(), Fail> {
     reentrant_checks::nests::<Raw, Parties, _>(rt.alloc(), rt, &mut 1, &mut 2)?;
+    reentrant_checks::nests_by_borrow::<Raw, Parties>(rt, &mut 1, &mut 2)?;
     Ok(())
 }
 
@@ -27,6 +28,7 @@ fn a_timed_hold_gives_up(rt: HostRuntime) -> Result<(), Fail> {
 #[test]
 fn reentrant_mutexes_print(rt: HostRuntime) -> Result<(), Fail> {
     reentrant_checks::prints::<Raw, Parties, _>(rt.alloc(), rt, &mut 1)?;
+    reentrant_checks::lends_by_borrow::<Raw, Parties, _>(rt.alloc(), rt, &mut 1)?;
     Ok(())
 }
 

@@ -1,3 +1,4 @@
+use Rattle.parking_lot_world.proofs.Calling.{room_set}
 use Rattle.std.proofs.Common.{◌≡◌, ◌<◌, ◌+◌, ◌*◌, ℕ, None, length, slice_set, sym, ap, ◌∙◌, subst, arith}
 use Rattle.parking_lot_world.specs.declared.seat.Hold.{Hold}
 use Rattle.parking_lot_world.specs.Rows.{Rows, State, state}
@@ -9,19 +10,19 @@ use Rattle.parking_lot_world.proofs.row_machine.RowMachine.answer.Goals as goal
 -- src/acts.rt:205:20
 pub overflow_mul-cell : goal.overflow_mul-cell
 overflow_mul-cell g c =
-    let within = cell_low c.args.thread c.args.call c.self.view_is c.requires.here c.self.invariant (c.len.ensures ∙ c.self.inside.kinds.ok.0) in
+    let within = cell_low c.args.thread c.args.call c.self.view_is c.requires.here c.self.invariant.0 (c.len.ensures ∙ c.self.inside.kinds.ok.0) in
     record { fits = omega (arith, within, c.self.inside.holds.ok.0, c.self.inside.holds.ok.1) }
 
 -- src/acts.rt:205:20
 pub overflow_add-cell : goal.overflow_add-cell
 overflow_add-cell g c =
-    let within = cell_low c.args.thread c.args.call c.self.view_is c.requires.here c.self.invariant (c.len.ensures ∙ c.self.inside.kinds.ok.0) in
+    let within = cell_low c.args.thread c.args.call c.self.view_is c.requires.here c.self.invariant.0 (c.len.ensures ∙ c.self.inside.kinds.ok.0) in
     record { fits = omega (arith, within, c.self.inside.holds.ok.0, c.self.inside.holds.ok.1) }
 
 -- src/acts.rt:206:9
 pub index_mut-requires : goal.index_mut-requires
 index_mut-requires g c =
-    let within = cell_low c.args.thread c.args.call c.self.view_is c.requires.here c.self.invariant (c.len.ensures ∙ c.self.inside.kinds.ok.0) in
+    let within = cell_low c.args.thread c.args.call c.self.view_is c.requires.here c.self.invariant.0 (c.len.ensures ∙ c.self.inside.kinds.ok.0) in
     omega (arith, within, c.self.inside.holds.ok.0)
 
 -- src/acts.rt:207:9
@@ -39,6 +40,8 @@ returns g c =
 
 -- src/acts.rt:200:5
 pub invariant_of-self : goal.invariant_of-self
-invariant_of-self g c =
-    let asked = c.requires.asked in
-    subst FitsTogether (sym (returns g c)) (laws.end (state c.args.self.now) c.args.thread c.args.call asked.0 asked.1 (fits c.self.view_is c.self.invariant) c.requires.here).fits
+invariant_of-self g c = (
+  let asked = c.requires.asked in
+      subst FitsTogether (sym (returns g c)) (laws.end (state c.args.self.now) c.args.thread c.args.call asked.0 asked.1 (fits c.self.view_is c.self.invariant.0) c.requires.here).fits,
+  room_set _ _ _ _ c.self.invariant.1,
+)

@@ -1,3 +1,4 @@
+use Rattle.parking_lot_world.proofs.Calling.{room_set}
 use Rattle.std.proofs.Common.{◌≡◌, sym, ap, ◌∙◌, subst}
 use Rattle.parking_lot_world.specs.Rows.{Rows, state}
 use Rattle.parking_lot_world.specs.RowActs.{with_call}
@@ -12,5 +13,7 @@ returns g c =
 
 -- src/acts.rt:198:5
 pub invariant_of-self : goal.invariant_of-self
-invariant_of-self g c =
-    subst FitsTogether (sym (returns g c)) (laws.begin (state c.args.self.now) c.args.thread c.args.call (subst (λ (m : Rows). FitsTogether (state m)) c.self.view_is c.self.invariant) c.requires.may).fits
+invariant_of-self g c = (
+  subst FitsTogether (sym (returns g c)) (laws.begin (state c.args.self.now) c.args.thread c.args.call (subst (λ (m : Rows). FitsTogether (state m)) c.self.view_is c.self.invariant.0) c.requires.may).fits,
+  room_set _ _ _ _ c.self.invariant.1,
+)

@@ -1,3 +1,4 @@
+use Rattle.parking_lot_world.proofs.Calling.{room_set}
 use Rattle.std.proofs.Common.{◌≡◌, ◌<◌, Bool, cond, sym, ap, ◌∙◌, subst, arith}
 use Rattle.parking_lot_core.specs.declared.place.Phase.TheVariants as phase
 use Rattle.parking_lot_core.specs.Machine.{Machine, in_phase, machine}
@@ -16,7 +17,7 @@ use Rattle.parking_lot_world.proofs.row_machine.RowMachine.check.Goals as goal
 -- src/acts.rt:108:9
 pub check-requires : goal.check-requires
 check-requires g c =
-    record { inside = lot_never_refuses.checks _ c.args.thread c.args.call (c.self.invariant.lots, held c.args.thread c.args.call c.self.view_is c.requires.here, c.requires.asked) }
+    record { inside = lot_never_refuses.checks _ c.args.thread c.args.call (c.self.invariant.0.lots, held c.args.thread c.args.call c.self.view_is c.requires.here, c.requires.asked) }
 
 -- src/acts.rt:109:9
 pub index_mut-requires : goal.index_mut-requires
@@ -34,7 +35,9 @@ returns g c =
 
 -- src/acts.rt:102:5
 pub invariant_of-self : goal.invariant_of-self
-invariant_of-self g c =
-    let e = returns g c in
-    subst FitsTogether (sym e)
-    (laws.check (state c.args.self.now) c.args.thread c.args.call c.requires.asked (subst Sound (ap (λ (s : State). s.lot) e) c.check.ensures.sound) (fits c.self.view_is c.self.invariant) c.requires.here).1.fits
+invariant_of-self g c = (
+  let e = returns g c in
+      subst FitsTogether (sym e)
+      (laws.check (state c.args.self.now) c.args.thread c.args.call c.requires.asked (subst Sound (ap (λ (s : State). s.lot) e) c.check.ensures.sound) (fits c.self.view_is c.self.invariant.0) c.requires.here).1.fits,
+  room_set _ _ _ _ c.self.invariant.1,
+)

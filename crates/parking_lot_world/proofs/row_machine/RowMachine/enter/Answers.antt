@@ -1,3 +1,4 @@
+use Rattle.parking_lot_world.proofs.Calling.{room_set}
 use Rattle.std.proofs.Common.{◌≡◌, Some, sym, ap, ◌∙◌, subst}
 use Rattle.parking_lot_core.specs.Machine.{Machine, opened, machine}
 use Rattle.parking_lot_core.specs.Sound.{Sound}
@@ -20,8 +21,10 @@ returns g c =
 
 -- src/acts.rt:90:5
 pub invariant_of-self : goal.invariant_of-self
-invariant_of-self g c =
-    let e = returns g c in
-    subst FitsTogether (sym e)
-    (laws.enter (state c.args.self.now) c.args.thread c.args.call c.args.which c.requires.asked c.requires.free (subst Sound (ap (λ (s : State). s.lot) e) c.enter.ensures.sound)
-      (fits c.self.view_is c.self.invariant) c.requires.here).1.fits
+invariant_of-self g c = (
+  let e = returns g c in
+      subst FitsTogether (sym e)
+      (laws.enter (state c.args.self.now) c.args.thread c.args.call c.args.which c.requires.asked c.requires.free (subst Sound (ap (λ (s : State). s.lot) e) c.enter.ensures.sound)
+      (fits c.self.view_is c.self.invariant.0) c.requires.here).1.fits,
+  room_set _ _ _ _ c.self.invariant.1,
+)

@@ -1,3 +1,4 @@
+use Rattle.parking_lot_world.proofs.Calling.{room_set}
 use Rattle.std.proofs.Common.{◌≡◌, ◌<◌, ℕ, ◌==◌, Bool, cond, true, false, sym, ap, ◌∙◌, subst, arith, eq-eqb}
 use Rattle.std.proofs.lemmas.Bool.{ne_eqb}
 use Rattle.parking_lot_cores.specs.declared.act.Seen.TheVariants as seen
@@ -20,9 +21,11 @@ returns-then-word-from g c =
 
 -- src/acts.rt:40:5
 pub invariant_of-self : goal.invariant_of-self
-invariant_of-self g c =
-    subst FitsTogether (sym (returns-then-word-from g c))
-    (laws.exchange (state c.args.self.now) c.args.thread c.args.call c.args.from c.args.to c.requires.asked (fits c.self.view_is c.self.invariant) c.requires.here).1.fits
+invariant_of-self g c = (
+  subst FitsTogether (sym (returns-then-word-from g c))
+      (laws.exchange (state c.args.self.now) c.args.thread c.args.call c.args.from c.args.to c.requires.asked (fits c.self.view_is c.self.invariant.0) c.requires.here).1.fits,
+  room_set _ _ _ _ c.self.invariant.1,
+)
 
 -- src/acts.rt:50:13
 pub index_mut-requires-else-word-from : goal.index_mut-requires-else-word-from
@@ -36,10 +39,12 @@ returns-else-word-from g c =
     ap (λ (m : Rows). done (state m) c.told-else-word-from.result) c.self.view_is
     ∙ ap (done s) (c.told-else-word-from.ensures ∙ ap (λ w. hears c.args.call (seen.Word w)) c.word-word.ensures)
     ∙ sym (ap (λ (b : Bool). cond b (with_word (done s (hears c.args.call seen.Exchanged)) c.args.call.lock c.args.to) (loaded s c.args.thread c.args.call))
-      (ne_eqb (word_at s c.args.call.lock) c.args.from (λ e. c.if-word-from.false (c.word-word.ensures ∙ e))))
+    (ne_eqb (word_at s c.args.call.lock) c.args.from (λ e. c.if-word-from.false (c.word-word.ensures ∙ e))))
 
 -- src/acts.rt:50:13
 pub invariant_of-self-else-word-from : goal.invariant_of-self-else-word-from
-invariant_of-self-else-word-from g c =
-    subst FitsTogether (sym (returns-else-word-from g c))
-    (laws.exchange (state c.args.self.now) c.args.thread c.args.call c.args.from c.args.to c.requires.asked (fits c.self.view_is c.self.invariant) c.requires.here).1.fits
+invariant_of-self-else-word-from g c = (
+  subst FitsTogether (sym (returns-else-word-from g c))
+      (laws.exchange (state c.args.self.now) c.args.thread c.args.call c.args.from c.args.to c.requires.asked (fits c.self.view_is c.self.invariant.0) c.requires.here).1.fits,
+  room_set _ _ _ _ c.self.invariant.1,
+)

@@ -1,3 +1,4 @@
+use Rattle.parking_lot_world.proofs.Calling.{room_set}
 use Rattle.std.proofs.Common.{◌≡◌, sym, ap, ◌∙◌, subst}
 use Rattle.parking_lot_cores.specs.declared.act.Seen.TheVariants as seen
 use Rattle.parking_lot_world.specs.Rows.{Rows, State, state}
@@ -14,5 +15,7 @@ returns g c =
 
 -- src/acts.rt:27:5
 pub invariant_of-self : goal.invariant_of-self
-invariant_of-self g c =
-    subst FitsTogether (sym (returns g c)) (laws.load (state c.args.self.now) c.args.thread c.args.call c.requires.asked (subst (λ (m : Rows). FitsTogether (state m)) c.self.view_is c.self.invariant) c.requires.here).1.fits
+invariant_of-self g c = (
+  subst FitsTogether (sym (returns g c)) (laws.load (state c.args.self.now) c.args.thread c.args.call c.requires.asked (subst (λ (m : Rows). FitsTogether (state m)) c.self.view_is c.self.invariant.0) c.requires.here).1.fits,
+  room_set _ _ _ _ c.self.invariant.1,
+)

@@ -53,7 +53,7 @@ note_taking-requires-clause-room g c x is =
 
 -- src/acts.rt:216:9
 pub taker-requires : goal.taker-requires
-taker-requires g c = record { small = omega (arith, word_low c.args.thread c.args.call c.self.view_is c.requires.here c.self.invariant.0, c.self.inside.words.ok.0, c.self.inside.words.ok.1, c.self.inside.words.small) }
+taker-requires g c = record { small = omega (arith, word_low c.args.thread c.args.call c.self.view_is c.requires.here c.self.invariant.0, c.self.invariant.0.rules.size_words, c.self.invariant.0.rules.few_locks) }
 
 -- src/acts.rt:216:9
 pub index_mut-requires : goal.index_mut-requires

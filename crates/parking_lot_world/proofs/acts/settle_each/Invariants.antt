@@ -1,7 +1,7 @@
 use Rattle.std.proofs.Common.{◌≡◌, ◌++◌, map, take, drop}
 use Rattle.std.specs.Option.{option_map}
 use Rattle.parking_lot_world.specs.RowActs.{settled}
-use Rattle.parking_lot_world.proofs.acts.settle.Given as goal
+use Rattle.parking_lot_world.proofs.acts.settle_each.Given as goal
 
 -- those so far are told
 abbrev pub invariant-loop-call : goal.invariant-loop-call

@@ -1,9 +1,9 @@
-use Rattle.std.proofs.Common.{◌≡◌, ◌∙◌, ◌<◌, None, ap, sym, get_or, length, set, arith}
+use Rattle.std.proofs.Common.{◌∙◌, ◌<◌, None, ap, sym, get_or, length, set, arith}
 use Rattle.std.specs.Option.{option_map}
 use Rattle.std.proofs.lemmas.List.Edits.{map_over_more}
 use Rattle.std.proofs.lemmas.Option.{slice_get-get_or, get_or_from_slice_get}
 use Rattle.parking_lot_world.specs.RowActs.{settled}
-use Rattle.parking_lot_world.proofs.acts.settle.Goals as goal
+use Rattle.parking_lot_world.proofs.acts.settle_each.Goals as goal
 
 -- src/acts.rt:29:5
 pub loop-call-preserved : goal.loop-call-preserved

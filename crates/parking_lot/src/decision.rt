@@ -1,0 +1,65 @@
+//! What a decision core offers to whoever runs it.
+ghost use Rattle.std.specs.Prelude.{◌≡◌};
+ghost use Rattle.parking_lot_core.specs.declared.parking.UnparkToken.{UnparkToken};
+ghost use Rattle.parking_lot_cores.specs.declared.act.Act.{Act};
+ghost use Rattle.parking_lot_cores.specs.declared.act.Seen.{Seen};
+
+use parking_lot_core::UnparkToken;
+use parking_lot_cores::{Act, MutexCore, RwCore, Seen};
+
+/// One call of a lock as plain data: it is told what its last act gave, and answers the next one.
+pub(crate) trait DecisionCore: Copy {
+    /// What it is once it was told so much more.
+    ghost told: { Self → Seen → Self };
+
+    /// The act that it has asked for.
+    ghost asks: { Self → Act };
+
+    /// The token for those that a section has taken.
+    ghost wakes: { Self → UnparkToken };
+
+    /// Is told what the last act gave, and answers the next.
+    fn next(&mut self, seen: Seen) -> Act
+        ensures core { self.new ≡ told self.old seen }
+        ensures act { result ≡ asks self.new };
+
+    /// The token for those that the section has taken, once it has stored.
+    fn wake_token(&self) -> UnparkToken
+        ensures { result ≡ wakes self.now };
+}
+
+impl DecisionCore for MutexCore {
+    ghost use Rattle.parking_lot_cores.specs.MutexTable.{act_of, next_phase, wakes_with};
+
+    ghost told = { λ core seen. record core { phase = next_phase core.phase seen } };
+
+    ghost asks = { λ core. act_of core.phase };
+
+    ghost wakes = { λ core. wakes_with core.phase };
+
+    fn next(&mut self, seen: Seen) -> Act {
+        MutexCore::next(self, seen)
+    }
+
+    fn wake_token(&self) -> UnparkToken {
+        MutexCore::wake_token(self)
+    }
+}
+
+impl DecisionCore for RwCore {
+    ghost use Rattle.parking_lot_cores.specs.RwTable.{act_of, next_phase, wakes_with};
+
+    ghost told = { λ core seen. record core { phase = next_phase core.phase seen } };
+
+    ghost asks = { λ core. act_of core.phase };
+
+    ghost wakes = { λ core. wakes_with core.phase };
+
+    fn next(&mut self, seen: Seen) -> Act {
+        RwCore::next(self, seen)
+    }
+
+    fn wake_token(&self) -> UnparkToken {
+        RwCore::wake_token(self)
+    }
+}

@@ -1,0 +1,53 @@
+//! A section that goes through the waiters of a key in order.
+
+use crate::decision::DecisionCore;
+use parking_lot_core::{FilterOp, ParkToken};
+use parking_lot_cores::{Act, SectionAct, Seen, wake_sum};
+
+/// A core that is shown one waiter after another. Of the last that it took it is told at the next one, or at the end: only
+/// then it is known whether others are left.
+#[derive(Clone, Copy)]
+pub(crate) struct Looking<C: DecisionCore> {
+    pub core: C,
+    /// What the core has asked for.
+    pub act: Act,
+    /// The token of the last that was taken, as long as the core isn't told of it.
+    pub taken: Option<ParkToken>,
+}
+
+impl<C: DecisionCore> Looking<C> {
+    /// Shows it a waiter, and answers what is to be done with it.
+    pub fn shown(&mut self, token: ParkToken) -> FilterOp {
+        self.told(true);
+        match self.act {
+            Act::Section(SectionAct::TakeNext(sum)) => self.looks(sum, token),
+            _ => FilterOp::Stop,
+        }
+    }
+
+    /// Looks at a waiter with so large a sum.
+    fn looks(&mut self, sum: u64, token: ParkToken) -> FilterOp {
+        let op = wake_sum(sum, token);
+        if op == FilterOp::Unpark {
+            self.taken = Some(token);
+        }
+        op
+    }
+
+    /// Tells it of the last that was taken, and whether others are left.
+    fn told(&mut self, left: bool) {
+        if self.taken.is_some() {
+            let token = self.taken;
+            self.taken = None;
+            self.act = self.core.next(Seen::Took { token, left });
+        }
+    }
+
+    /// Tells it that there are no more to be shown.
+    pub fn ended(&mut self, left: bool) {
+        self.told(left);
+        if let Act::Section(SectionAct::TakeNext(_)) = self.act {
+            self.act = self.core.next(Seen::Took { token: None, left });
+        }
+    }
+}

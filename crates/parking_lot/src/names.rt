@@ -1,0 +1,79 @@
+//! The generic locks of `lock_api` over the raw locks of this crate, under their usual names.
+//!
+//! Of each, `T` is the type of the value, `R` the lot's runtime and `A` the lot's allocator; a guard's first lifetime is that of
+//! the lock, and the others are those of the lock table and of the lot.
+
+use crate::raw_mutex::RawMutex;
+use crate::raw_rwlock::RawRwLock;
+use crate::thread_id::RawThreadId;
+use std::alloc::Global;
+
+/// A mutex and a value.
+pub type Mutex<'t, 'l, T, R, A = Global> = lock_api::Mutex<RawMutex<'t, 'l, R, A>, T>;
+
+/// The guard of a [`Mutex`].
+pub type MutexGuard<'m, 't, 'l, T, R, A = Global> = lock_api::MutexGuard<
+    'm,
+    RawMutex<'t, 'l, R, A>,
+    T,
+>;
+
+/// A [`MutexGuard`] that a projection of the type `P` narrows to a part of the value.
+pub type MappedMutexGuard<'m, 't, 'l, T, P, R, A = Global> = lock_api::MappedMutexGuard<
+    'm,
+    RawMutex<'t, 'l, R, A>,
+    T,
+    P,
+>;
+
+/// A reader-writer lock and a value.
+pub type RwLock<'t, 'l, T, R, A = Global> = lock_api::RwLock<RawRwLock<'t, 'l, R, 0, A>, T>;
+
+/// The guard of a reader of an [`RwLock`].
+pub type RwLockReadGuard<'m, 't, 'l, T, R, A = Global> = lock_api::RwLockReadGuard<
+    'm,
+    RawRwLock<'t, 'l, R, 0, A>,
+    T,
+>;
+
+/// The guard of a writer of an [`RwLock`].
+pub type RwLockWriteGuard<'m, 't, 'l, T, R, A = Global> = lock_api::RwLockWriteGuard<
+    'm,
+    RawRwLock<'t, 'l, R, 0, A>,
+    T,
+>;
+
+/// An [`RwLockReadGuard`] that a projection of the type `P` narrows to a part of the value.
+pub type MappedRwLockReadGuard<'m, 't, 'l, T, P, R, A = Global> = lock_api::MappedRwLockReadGuard<
+    'm,
+    RawRwLock<'t, 'l, R, 0, A>,
+    T,
+    P,
+>;
+
+/// An [`RwLockWriteGuard`] that a projection of the type `P` narrows to a part of the value.
+pub type MappedRwLockWriteGuard<'m, 't, 'l, T, P, R, A = Global> = lock_api::MappedRwLockWriteGuard<
+    'm,
+    RawRwLock<'t, 'l, R, 0, A>,
+    T,
+    P,
+>;
+
+/// A mutex that its owner may take again, and a value that its guards read.
+pub type ReentrantMutex<'t, 'l, T, R, A = Global> = lock_api::ReentrantMutex<
+    RawMutex<'t, 'l, R, A>,
+    RawThreadId<A>,
+    T,
+>;
+
+/// The guard of one nested hold of a [`ReentrantMutex`].
+pub type ReentrantMutexGuard<'m, 't, 'l, T, R, A = Global> = lock_api::ReentrantMutexGuard<
+    'm,
+    RawMutex<'t, 'l, R, A>,
+    RawThreadId<A>,
+    T,
+>;
+
+/// A [`ReentrantMutexGuard`] that a projection of the type `P` narrows to a part of the value.
+pub type MappedReentrantMutexGuard<'m, 't, 'l, T, P, R, A = Global> =
+    lock_api::MappedReentrantMutexGuard<'m, RawMutex<'t, 'l, R, A>, RawThreadId<A>, T, P>;

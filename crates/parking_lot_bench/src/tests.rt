@@ -1,0 +1,25 @@
+//! What no clause of the locks says: their words, that threads sleep and are woken, that each admission excludes, and the
+//! checks of the generic locks on these raw locks.
+mod checks;
+mod mutexes;
+mod readers;
+mod rows;
+mod waiting;
+
+use parking_lot::LockTable;
+use std::thread;
+use std::time::{Clock, Duration};
+
+/// How many turns of one millisecond a word is awaited for.
+const TURNS: u32 = 10_000;
+
+/// Waits until the word of a row is so large, and answers whether it is.
+fn has_come<R: Clock>(rt: &R, table: &LockTable<'_, R>, row: usize, word: u64) -> bool {
+    for _turn in 0..TURNS {
+        if table.word(row) == Some(word) {
+            return true;
+        }
+        thread::sleep(rt, Duration::from_millis(1));
+    }
+    false
+}

@@ -1,0 +1,36 @@
+use Rattle.std.proofs.Common.{◌≡◌, ℕ, sym, ap, ◌∙◌, subst}
+use Rattle.parking_lot_cores.specs.declared.act.Seen.TheVariants as seen
+use Rattle.parking_lot_world.specs.Beginnings.{holds_beside}
+use Rattle.parking_lot_world.specs.declared.seat.Core.{Core}
+use Rattle.parking_lot_world.specs.declared.seat.Call.{Call}
+use Rattle.parking_lot_world.specs.declared.seat.Spot.TheVariants as spot
+use Rattle.parking_lot_world.specs.Rows.{Rows, State, state}
+use Rattle.parking_lot_world.specs.RowActs.{begun}
+use Rattle.parking_lot_world.specs.RowFits.{FitsTogether}
+use Rattle.parking_lot_world.specs.ActLaws.{MayBegin, Acts}
+use Rattle.parking_lot_world.specs.Machines.{call_for}
+use Rattle.parking_lot_world.proofs.Acting.{laws}
+use Rattle.parking_lot_world.proofs.Requesting.{may_begins}
+use Rattle.parking_lot_world.proofs.row_machine.RowMachine.begin.Goals as goal
+
+-- the call that is made up is the one that is asked for
+same_call : (lock n m : ℕ) (k o : Core) → n ≡ m → k ≡ o
+    → ◌≡◌ {A = Call} (record { lock = lock; others = n; core = k; spot = spot.Listed }) (record { lock = lock; others = m; core = o; spot = spot.Listed })
+same_call lock n m k o e f = ap (λ (x : ℕ). record { lock = lock; others = x; core = k; spot = spot.Listed }) e ∙ ap (λ (x : Core). record { lock = lock; others = m; core = x; spot = spot.Listed }) f
+
+-- src/row_machine.rt:121:9
+pub begin_call-requires : goal.begin_call-requires
+begin_call-requires g c =
+    record {
+      may = subst (λ (x : Call). MayBegin (state c.args.self.now) c.args.thread x) (sym (same_call c.args.lock _ _ _ _ (c.beside-others.ensures ∙ ap holds_beside c.hold.ensures) c.core.ensures))
+          (may_begins (state c.args.self.now) c.args.thread c.args.lock c.args.call (subst (λ (m : Rows). FitsTogether (state m)) c.self.view_is c.self.invariant.0).rules c.requires.may);
+    }
+
+-- src/row_machine.rt:116:5
+pub returns : goal.returns
+returns g c =
+    let s : State = state c.args.self.now in
+    let fits : FitsTogether s = subst (λ (m : Rows). FitsTogether (state m)) c.self.view_is c.self.invariant.0 in
+    subst (λ (u : State). Acts c.args.thread (call_for s c.args.thread c.args.lock c.args.call) seen.Start s u)
+    (sym (c.begin_call.ensures ∙ ap (begun s c.args.thread) (same_call c.args.lock _ _ _ _ (c.beside-others.ensures ∙ ap holds_beside c.hold.ensures) c.core.ensures)))
+    (laws.begin s c.args.thread (call_for s c.args.thread c.args.lock c.args.call) fits (may_begins s c.args.thread c.args.lock c.args.call fits.rules c.requires.may))
