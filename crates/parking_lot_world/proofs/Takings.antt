@@ -15,6 +15,10 @@ use Rattle.parking_lot_core.specs.Sound as lot
 use Rattle.parking_lot_core.proofs.Kept.{updated_at}
 use Rattle.parking_lot_core.proofs.Numbers.{count_by-lt}
 use Rattle.parking_lot_cores.specs.declared.act.Seen.TheVariants as seen
+use Rattle.parking_lot_cores.specs.declared.act.Act.TheVariants as act
+use Rattle.parking_lot_cores.specs.declared.act.SectionAct.TheVariants as section
+use Rattle.parking_lot_world.specs.declared.seat.Core.{Core}
+use Rattle.parking_lot_world.specs.declared.seat.Core.TheVariants as core
 use Rattle.parking_lot_world.specs.declared.seat.Call.{Call}
 use Rattle.parking_lot_world.specs.declared.seat.Wakeup.{Wakeup}
 use Rattle.parking_lot_world.specs.FrontTakings.{FrontTaken}
@@ -23,9 +27,10 @@ use Rattle.parking_lot_world.specs.Machines.{IsTakenFrom, owes_to, takes_off_by}
 use Rattle.parking_lot_world.specs.Rows.{Rows, State, state, call_at}
 use Rattle.parking_lot_world.specs.RowActs.{hears, key_of, off_list}
 use Rattle.parking_lot_world.specs.RowFits.{FitsTogether, LotFits, is_away, is_off}
-use Rattle.parking_lot_world.specs.Stances.{In, Takes, stance}
+use Rattle.parking_lot_world.specs.Stances.{In, Takes, stance, core_act}
 use Rattle.parking_lot_world.proofs.Calling.{slot}
 use Rattle.parking_lot_world.proofs.LotCalls.{lot_never_refuses}
+use Rattle.parking_lot_world.proofs.TakeActs.{scans_first, scans_none}
 use Rattle.parking_lot_world.proofs.TakeLaws.{laws}
 
 module _ (s : State) (t : ℕ) (c : Call) (k : ℕ) (from : stance c.core ≡ In k Takes) where
@@ -98,3 +103,8 @@ takes_fit s t c u x sound h here = elim x.2 [
   | inl f ↦ subst FitsTogether (sym f.2) (laws.take s t c x.0 f.0 x.1 f.1 (subst lot.Sound (ap (λ (y : State). y.lot) f.2) sound) h here).1.fits
   | inr f ↦ subst FitsTogether (sym f.1) (laws.take_nobody s t c x.0 x.1 f.0 (subst lot.Sound (ap (λ (y : State). y.lot) f.1) sound) h here).1.fits
 ]
+
+-- a scan goes through the first list
+pub scan_key : (x : Core) (k sum : ℕ) → stance x ≡ In k Takes → core_act x ≡ act.Section (section.TakeNext sum) → k ≡ 0
+scan_key (core.Rw y) k sum from asked = let e : In k Takes ≡ In 0 Takes = sym from ∙ scans_first y.phase k sum from asked in cc
+scan_key (core.Mutex y) k sum from asked = absurd (scans_none y.phase k sum from asked)
