@@ -67,25 +67,32 @@ module _ (s : State) (t : ℕ) (c : Call) (k : ℕ) (from : stance c.core ≡ In
     is_taken calls next wakes others own owed =
         let made : List (Option Call) → Call → List Wakeup → State = λ cs n ws. record s { calls = slice_set cs t (Some n); wakes = ws; lot = lot } in
         let here : made calls next wakes ≡ full taking (lot.queues (key_of c k)) lot =
-            ap (λ cs. made cs next wakes) others
-            ∙ ap (λ n. made (option_map_or (takes_off_by t s.calls) taking s.calls) n wakes) own
-            ∙ ap (made (option_map_or (takes_off_by t s.calls) taking s.calls) (told taking (lot.queues (key_of c k)))) owed in
-        (k, from, elim front [
-        | inl f ↦ inl (f.0, f.1,
-            here ∙ ap (λ x. full x (lot.queues (key_of c k)) lot) (same_taking _ f.2)
-            ∙ ap (λ (l : Machine). full (Some (taking_of s.lot f.0)) (l.queues (key_of c k)) l) f.3
-            ∙ ap (λ q. full (Some (taking_of s.lot f.0)) q (taken (in_phase s.lot (phase.Taking 0)) (key_of c k) 0)) (updated_at s.lot.queues (key_of c k) (remove (s.lot.queues (key_of c k)) 0)))
-        | inr f ↦ inr (f.0, here ∙ ap (λ x. full x (lot.queues (key_of c k)) lot) (same_taking None f.1) ∙ ap (λ (l : Machine). full None (l.queues (key_of c k)) l) f.2)
-        ])
+        ap (λ cs. made cs next wakes) others
+        ∙ ap (λ n. made (option_map_or (takes_off_by t s.calls) taking s.calls) n wakes) own
+        ∙ ap (made (option_map_or (takes_off_by t s.calls) taking s.calls) (told taking (lot.queues (key_of c k)))) owed in (
+          k,
+          from,
+          elim front [
+            | inl f ↦ inl (
+              f.0,
+              f.1,
+              here ∙ ap (λ x. full x (lot.queues (key_of c k)) lot) (same_taking _ f.2)
+                  ∙ ap (λ (l : Machine). full (Some (taking_of s.lot f.0)) (l.queues (key_of c k)) l) f.3
+                  ∙ ap (λ q. full (Some (taking_of s.lot f.0)) q (taken (in_phase s.lot (phase.Taking 0)) (key_of c k) 0)) (updated_at s.lot.queues (key_of c k) (remove (s.lot.queues (key_of c k)) 0)),
+            )
+            | inr f ↦ inr (f.0, here ∙ ap (λ x. full x (lot.queues (key_of c k)) lot) (same_taking None f.1) ∙ ap (λ (l : Machine). full None (l.queues (key_of c k)) l) f.2)
+          ],
+        )
 
     pub has_room : FitsTogether s → call_at s t ≡ Some c → (x : Taking) → taking ≡ Some x → (x.thread < length s.calls) × (length s.wakes < length s.calls)
     has_room h here x is = elim front [
       | inl f ↦
           let w = lot_never_refuses.waiters s t c k 0 f.0 h.lots here from f.1 in
           let there = slot s.calls f.0.thread w.call w.there in
-          let same : f.0.thread ≡ x.thread = ap (λ (y : Taking). y.thread) (same_Some (taking_of s.lot f.0) x (sym (same_taking _ f.2) ∙ is)) in
-          (subst (λ n. n < length s.calls) same (slice_get_within s.calls f.0.thread (Some w.call) there),
-          subst (λ n. n < length s.calls) (sym h.wakes.room) (count_by-lt is_away s.calls f.0.thread (Some w.call) there (ap is_off w.listed)))
+          let same : f.0.thread ≡ x.thread = ap (λ (y : Taking). y.thread) (same_Some (taking_of s.lot f.0) x (sym (same_taking _ f.2) ∙ is)) in (
+            subst (λ n. n < length s.calls) same (slice_get_within s.calls f.0.thread (Some w.call) there),
+            subst (λ n. n < length s.calls) (sym h.wakes.room) (count_by-lt is_away s.calls f.0.thread (Some w.call) there (ap is_off w.listed)),
+          )
       | inr f ↦ absurd (none-some x (sym (same_taking None f.1) ∙ is))
     ]
 

@@ -87,6 +87,7 @@ pub invariant_of-self : goal.invariant_of-self
 invariant_of-self g c =
     let t : ℕ = c.args.thread in
     let fits_now = fits c.self.view_is c.self.invariant.0 in
-    let slots = same_slots t c.self.inside.calls.items c.take_next-taking.result in
-    (takes_fit (state c.args.self.now) t c.args.call _ (returns g c) c.take_next-taking.ensures.sound fits_now c.requires.here,
-    omega (arith, length-set c.note_taking.new.calls.items t (Some c.taker.result), ap length c.note_taking.ensures.calls, slots, c.self.invariant.1, c.note_taking.ensures.capacity))
+    let slots = same_slots t c.self.inside.calls.items c.take_next-taking.result in (
+      takes_fit (state c.args.self.now) t c.args.call _ (returns g c) c.take_next-taking.ensures.sound fits_now c.requires.here,
+      omega (arith, length-set c.note_taking.new.calls.items t (Some c.taker.result), ap length c.note_taking.ensures.calls, slots, c.self.invariant.1, c.note_taking.ensures.capacity),
+    )
