@@ -108,12 +108,12 @@ module _ (s : State) (t : ℕ) (c : Call) (k : ℕ) (w : Waiter) (from : stance 
 -- WHO IS LET GO
 
 -- only a scan asks for the next, and it goes through the first list
-scans_first : (q : RwPhase) (k sum : ℕ) → rw_stance q ≡ In k Takes → of_rw.act_of q ≡ act.Section (section.TakeNext sum) → rw_stance q ≡ In 0 Takes
+pub scans_first : (q : RwPhase) (k sum : ℕ) → rw_stance q ≡ In k Takes → of_rw.act_of q ≡ act.Section (section.TakeNext sum) → rw_stance q ≡ In 0 Takes
 scans_first (r.Takes2 rest) k sum is asked = absurd (cc)
 scans_first (r.Scans a) k sum is asked = refl
 scans_first q k sum is asked = absurd (cc)
 
-scans_none : (q : MutexPhase) (k sum : ℕ) → mutex_stance q ≡ In k Takes → of_mutex.act_of q ≡ act.Section (section.TakeNext sum) → ⊥
+pub scans_none : (q : MutexPhase) (k sum : ℕ) → mutex_stance q ≡ In k Takes → of_mutex.act_of q ≡ act.Section (section.TakeNext sum) → ⊥
 scans_none (m.Takes giving) k sum is asked = absurd (cc)
 scans_none q k sum is asked = absurd (cc)
 

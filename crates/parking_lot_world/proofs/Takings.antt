@@ -15,6 +15,10 @@ use Rattle.parking_lot_core.specs.Sound as lot
 use Rattle.parking_lot_core.proofs.Kept.{updated_at}
 use Rattle.parking_lot_core.proofs.Numbers.{count_by-lt}
 use Rattle.parking_lot_cores.specs.declared.act.Seen.TheVariants as seen
+use Rattle.parking_lot_cores.specs.declared.act.Act.TheVariants as act
+use Rattle.parking_lot_cores.specs.declared.act.SectionAct.TheVariants as section
+use Rattle.parking_lot_world.specs.declared.seat.Core.{Core}
+use Rattle.parking_lot_world.specs.declared.seat.Core.TheVariants as core
 use Rattle.parking_lot_world.specs.declared.seat.Call.{Call}
 use Rattle.parking_lot_world.specs.declared.seat.Wakeup.{Wakeup}
 use Rattle.parking_lot_world.specs.FrontTakings.{FrontTaken}
@@ -23,9 +27,10 @@ use Rattle.parking_lot_world.specs.Machines.{IsTakenFrom, owes_to, takes_off_by}
 use Rattle.parking_lot_world.specs.Rows.{Rows, State, state, call_at}
 use Rattle.parking_lot_world.specs.RowActs.{hears, key_of, off_list}
 use Rattle.parking_lot_world.specs.RowFits.{FitsTogether, LotFits, is_away, is_off}
-use Rattle.parking_lot_world.specs.Stances.{In, Takes, stance}
+use Rattle.parking_lot_world.specs.Stances.{In, Takes, stance, core_act}
 use Rattle.parking_lot_world.proofs.Calling.{slot}
 use Rattle.parking_lot_world.proofs.LotCalls.{lot_never_refuses}
+use Rattle.parking_lot_world.proofs.TakeActs.{scans_first, scans_none}
 use Rattle.parking_lot_world.proofs.TakeLaws.{laws}
 
 module _ (s : State) (t : ℕ) (c : Call) (k : ℕ) (from : stance c.core ≡ In k Takes) where
@@ -62,25 +67,32 @@ module _ (s : State) (t : ℕ) (c : Call) (k : ℕ) (from : stance c.core ≡ In
     is_taken calls next wakes others own owed =
         let made : List (Option Call) → Call → List Wakeup → State = λ cs n ws. record s { calls = slice_set cs t (Some n); wakes = ws; lot = lot } in
         let here : made calls next wakes ≡ full taking (lot.queues (key_of c k)) lot =
-            ap (λ cs. made cs next wakes) others
-            ∙ ap (λ n. made (option_map_or (takes_off_by t s.calls) taking s.calls) n wakes) own
-            ∙ ap (made (option_map_or (takes_off_by t s.calls) taking s.calls) (told taking (lot.queues (key_of c k)))) owed in
-        (k, from, elim front [
-        | inl f ↦ inl (f.0, f.1,
-            here ∙ ap (λ x. full x (lot.queues (key_of c k)) lot) (same_taking _ f.2)
-            ∙ ap (λ (l : Machine). full (Some (taking_of s.lot f.0)) (l.queues (key_of c k)) l) f.3
-            ∙ ap (λ q. full (Some (taking_of s.lot f.0)) q (taken (in_phase s.lot (phase.Taking 0)) (key_of c k) 0)) (updated_at s.lot.queues (key_of c k) (remove (s.lot.queues (key_of c k)) 0)))
-        | inr f ↦ inr (f.0, here ∙ ap (λ x. full x (lot.queues (key_of c k)) lot) (same_taking None f.1) ∙ ap (λ (l : Machine). full None (l.queues (key_of c k)) l) f.2)
-        ])
+        ap (λ cs. made cs next wakes) others
+        ∙ ap (λ n. made (option_map_or (takes_off_by t s.calls) taking s.calls) n wakes) own
+        ∙ ap (made (option_map_or (takes_off_by t s.calls) taking s.calls) (told taking (lot.queues (key_of c k)))) owed in (
+          k,
+          from,
+          elim front [
+            | inl f ↦ inl (
+              f.0,
+              f.1,
+              here ∙ ap (λ x. full x (lot.queues (key_of c k)) lot) (same_taking _ f.2)
+                  ∙ ap (λ (l : Machine). full (Some (taking_of s.lot f.0)) (l.queues (key_of c k)) l) f.3
+                  ∙ ap (λ q. full (Some (taking_of s.lot f.0)) q (taken (in_phase s.lot (phase.Taking 0)) (key_of c k) 0)) (updated_at s.lot.queues (key_of c k) (remove (s.lot.queues (key_of c k)) 0)),
+            )
+            | inr f ↦ inr (f.0, here ∙ ap (λ x. full x (lot.queues (key_of c k)) lot) (same_taking None f.1) ∙ ap (λ (l : Machine). full None (l.queues (key_of c k)) l) f.2)
+          ],
+        )
 
     pub has_room : FitsTogether s → call_at s t ≡ Some c → (x : Taking) → taking ≡ Some x → (x.thread < length s.calls) × (length s.wakes < length s.calls)
     has_room h here x is = elim front [
       | inl f ↦
           let w = lot_never_refuses.waiters s t c k 0 f.0 h.lots here from f.1 in
           let there = slot s.calls f.0.thread w.call w.there in
-          let same : f.0.thread ≡ x.thread = ap (λ (y : Taking). y.thread) (same_Some (taking_of s.lot f.0) x (sym (same_taking _ f.2) ∙ is)) in
-          (subst (λ n. n < length s.calls) same (slice_get_within s.calls f.0.thread (Some w.call) there),
-          subst (λ n. n < length s.calls) (sym h.wakes.room) (count_by-lt is_away s.calls f.0.thread (Some w.call) there (ap is_off w.listed)))
+          let same : f.0.thread ≡ x.thread = ap (λ (y : Taking). y.thread) (same_Some (taking_of s.lot f.0) x (sym (same_taking _ f.2) ∙ is)) in (
+            subst (λ n. n < length s.calls) same (slice_get_within s.calls f.0.thread (Some w.call) there),
+            subst (λ n. n < length s.calls) (sym h.wakes.room) (count_by-lt is_away s.calls f.0.thread (Some w.call) there (ap is_off w.listed)),
+          )
       | inr f ↦ absurd (none-some x (sym (same_taking None f.1) ∙ is))
     ]
 
@@ -98,3 +110,8 @@ takes_fit s t c u x sound h here = elim x.2 [
   | inl f ↦ subst FitsTogether (sym f.2) (laws.take s t c x.0 f.0 x.1 f.1 (subst lot.Sound (ap (λ (y : State). y.lot) f.2) sound) h here).1.fits
   | inr f ↦ subst FitsTogether (sym f.1) (laws.take_nobody s t c x.0 x.1 f.0 (subst lot.Sound (ap (λ (y : State). y.lot) f.1) sound) h here).1.fits
 ]
+
+-- a scan goes through the first list
+pub scan_key : (x : Core) (k sum : ℕ) → stance x ≡ In k Takes → core_act x ≡ act.Section (section.TakeNext sum) → k ≡ 0
+scan_key (core.Rw y) k sum from asked = let e : In k Takes ≡ In 0 Takes = sym from ∙ scans_first y.phase k sum from asked in cc
+scan_key (core.Mutex y) k sum from asked = absurd (scans_none y.phase k sum from asked)

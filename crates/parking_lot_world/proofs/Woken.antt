@@ -40,13 +40,17 @@ module _ (s : State) (t : ℕ) (c : Call) (e : Wakeup) (d : Call) (token : Unpar
       → wakes ≡ remove s.wakes (position_or_len (is_by t) s.wakes) → lot ≡ runs_at s.lot v
       → IsWoken t c s (record s { calls = slice_set (slice_set s.calls v o) t (Some next); wakes = wakes; lot = lot })
   unfolding made
-  is_woken v o next wakes lot at call told rest runs =
-      (e, d, token, due,
-      ap (λ n. made n o next wakes lot) at
-      ∙ ap (λ x. made e.thread x next wakes lot) call
-      ∙ ap (λ x. made e.thread (Some (woken_call token d)) x wakes lot) told
-      ∙ ap (λ x. made e.thread (Some (woken_call token d)) (hears c seen.Made) x lot) rest
-      ∙ ap (made e.thread (Some (woken_call token d)) (hears c seen.Made) (remove s.wakes (position_or_len (is_by t) s.wakes))) (runs ∙ ap (runs_at s.lot) at))
+  is_woken v o next wakes lot at call told rest runs = (
+    e,
+    d,
+    token,
+    due,
+    ap (λ n. made n o next wakes lot) at
+        ∙ ap (λ x. made e.thread x next wakes lot) call
+        ∙ ap (λ x. made e.thread (Some (woken_call token d)) x wakes lot) told
+        ∙ ap (λ x. made e.thread (Some (woken_call token d)) (hears c seen.Made) x lot) rest
+        ∙ ap (made e.thread (Some (woken_call token d)) (hears c seen.Made) (remove s.wakes (position_or_len (is_by t) s.wakes))) (runs ∙ ap (runs_at s.lot) at),
+  )
 
 pub woken_from : {m n : Rows} (t : ℕ) (c : Call) (u : State) → m ≡ n → IsWoken t c (state m) u → IsWoken t c (state n) u
 woken_from t c u e h = subst (λ (x : Rows). IsWoken t c (state x) u) e h

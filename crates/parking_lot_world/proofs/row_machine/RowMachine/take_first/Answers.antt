@@ -53,7 +53,7 @@ note_taking-requires-clause-room g c x is =
 
 -- src/acts.rt:216:9
 pub taker-requires : goal.taker-requires
-taker-requires g c = record { small = omega (arith, word_low c.args.thread c.args.call c.self.view_is c.requires.here c.self.invariant.0, c.self.inside.words.ok.0, c.self.inside.words.ok.1, c.self.inside.words.small) }
+taker-requires g c = record { small = omega (arith, word_low c.args.thread c.args.call c.self.view_is c.requires.here c.self.invariant.0, c.self.invariant.0.rules.size_words, c.self.invariant.0.rules.few_locks) }
 
 -- src/acts.rt:216:9
 pub index_mut-requires : goal.index_mut-requires
@@ -77,6 +77,7 @@ pub invariant_of-self : goal.invariant_of-self
 invariant_of-self g c =
     let t : ℕ = c.args.thread in
     let fits_now = fits c.self.view_is c.self.invariant.0 in
-    let slots = same_slots t c.self.inside.calls.items c.take_first-taking.result in
-    (takes_fit (state c.args.self.now) t c.args.call _ (returns g c) c.take_first-taking.ensures.sound fits_now c.requires.here,
-    omega (arith, length-set c.note_taking.new.calls.items t (Some c.taker.result), ap length c.note_taking.ensures.calls, slots, c.self.invariant.1, c.note_taking.ensures.capacity))
+    let slots = same_slots t c.self.inside.calls.items c.take_first-taking.result in (
+      takes_fit (state c.args.self.now) t c.args.call _ (returns g c) c.take_first-taking.ensures.sound fits_now c.requires.here,
+      omega (arith, length-set c.note_taking.new.calls.items t (Some c.taker.result), ap length c.note_taking.ensures.calls, slots, c.self.invariant.1, c.note_taking.ensures.capacity),
+    )

@@ -71,7 +71,8 @@ returns g c =
 pub invariant_of-self : goal.invariant_of-self
 invariant_of-self g c =
     let e = returns g c in
-    let v : ℕ = c.remove-wakeup.result.thread in
-    (subst FitsTogether (sym e.4)
-    (laws.wake (state c.args.self.now) c.args.thread c.args.call e.0 e.1 e.2 c.requires.asked e.3 (subst Sound (ap (λ (s : State). s.lot) e.4) c.rouse-token.ensures.sound) (fits c.self.view_is c.self.invariant.0) c.requires.here).1.fits,
-    omega (arith, length-set c.self.inside.calls.items v c.woken.result, length-set (slice_set c.self.inside.calls.items v c.woken.result) c.args.thread (Some c.told.result), c.self.invariant.1, c.remove-wakeup.ensures.capacity))
+    let v : ℕ = c.remove-wakeup.result.thread in (
+      subst FitsTogether (sym e.4)
+          (laws.wake (state c.args.self.now) c.args.thread c.args.call e.0 e.1 e.2 c.requires.asked e.3 (subst Sound (ap (λ (s : State). s.lot) e.4) c.rouse-token.ensures.sound) (fits c.self.view_is c.self.invariant.0) c.requires.here).1.fits,
+      omega (arith, length-set c.self.inside.calls.items v c.woken.result, length-set (slice_set c.self.inside.calls.items v c.woken.result) c.args.thread (Some c.told.result), c.self.invariant.1, c.remove-wakeup.ensures.capacity),
+    )

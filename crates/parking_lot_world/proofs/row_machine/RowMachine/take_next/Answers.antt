@@ -1,0 +1,93 @@
+use Rattle.std.proofs.Common.{◌≡◌, ◌<◌, ◌≤◌, ℕ, List, Option, Some, None, Ok, false, slice_get, length, sym, ap, ◌∙◌, subst, inl, inr, arith}
+use Rattle.std.proofs.lemmas.List.{length-set}
+use Rattle.std.specs.Option.{option_map_or}
+use Rattle.parking_lot_core.specs.Machine.{Machine, machine}
+use Rattle.parking_lot_core.specs.Sound.{Sound}
+use Rattle.parking_lot_cores.specs.declared.act.Act.TheVariants as act
+use Rattle.parking_lot_cores.specs.declared.act.SectionAct.TheVariants as section
+use Rattle.parking_lot_cores.specs.declared.act.Seen.TheVariants as seen
+use Rattle.parking_lot_world.specs.FrontTakings.{FrontTaken}
+use Rattle.parking_lot_world.specs.Machines.{owes_to, takes_off_by}
+use Rattle.parking_lot_world.specs.Rows.{Rows, State, state}
+use Rattle.parking_lot_world.specs.RowActs.{key_of}
+use Rattle.parking_lot_world.specs.RowFits.{FitsTogether}
+use Rattle.parking_lot_world.specs.Stances.{In, Takes, stance}
+use Rattle.parking_lot_world.proofs.Holding.{fits, held, low, word_low}
+use Rattle.parking_lot_world.proofs.LotCalls.{lot_never_refuses}
+use Rattle.parking_lot_world.proofs.Stancing.{leads_by}
+use Rattle.parking_lot_world.proofs.TakeLaws.{laws}
+use Rattle.parking_lot_world.proofs.Takings.{its, passed_none, same_key, scan_key, is_taken, has_room, taken_in, takes_fit, same_slots}
+use Rattle.parking_lot_world.proofs.row_machine.RowMachine.take_next.Goals as goal
+
+-- src/acts.rt:214:9
+pub take_next-taking-requires-clause-inside : goal.take_next-taking-requires-clause-inside
+take_next-taking-requires-clause-inside g c = lot_never_refuses.takes _ c.args.thread c.args.call (act.Section (section.TakeNext c.args.sum)) tt (c.self.invariant.0.lots, held c.args.thread c.args.call c.self.view_is c.requires.here, c.requires.asked)
+
+-- src/acts.rt:214:9
+pub take_next-taking-requires-clause-passed : goal.take_next-taking-requires-clause-passed
+take_next-taking-requires-clause-passed g c o there =
+    let l = leads_by c.args.call.core (act.Section (section.TakeNext c.args.sum)) 0 (seen.Took None false) c.requires.asked tt in
+    passed_none _ c.args.thread c.args.call l.0 l.1 c.self.invariant.0.lots (held c.args.thread c.args.call c.self.view_is c.requires.here) o there
+
+-- src/acts.rt:214:9
+pub take_next-taking-requires-clause-wanted : goal.take_next-taking-requires-clause-wanted
+take_next-taking-requires-clause-wanted g c o w there first =
+    let t : ℕ = c.args.thread in
+    let l = leads_by c.args.call.core (act.Section (section.TakeNext c.args.sum)) 0 (seen.Took None false) c.requires.asked tt in
+    let h = held t c.args.call c.self.view_is c.requires.here in
+    let m : Rows = record { kinds = c.self.inside.kinds.items; words = c.self.inside.words.items; holds = c.self.inside.holds.items; calls = c.self.inside.calls.items; wakes = c.self.inside.wakes.items; lot = c.self.inside.lot } in
+    let key = same_key (state m) t c.args.call l.0 l.1 c.self.invariant.0.lots h o there ∙ ap (key_of c.args.call) (scan_key c.args.call.core l.0 c.args.sum l.1 c.requires.asked) in
+    laws.unparks (state m) t c.args.call c.args.sum w c.self.invariant.0 h c.requires.asked (subst (λ n. slice_get ((machine c.self.inside.lot).queues n) 0 ≡ Some w) key first)
+
+-- src/acts.rt:215:9
+pub note_taking-requires-clause-low : goal.note_taking-requires-clause-low
+note_taking-requires-clause-low g c x is =
+    let t : ℕ = c.args.thread in
+    let l = leads_by c.args.call.core (act.Section (section.TakeNext c.args.sum)) 0 (seen.Took None false) c.requires.asked tt in
+    let h = held t c.args.call c.self.view_is c.requires.here in
+    let m : Rows = record { kinds = c.self.inside.kinds.items; words = c.self.inside.words.items; holds = c.self.inside.holds.items; calls = c.self.inside.calls.items; wakes = c.self.inside.wakes.items; lot = c.self.inside.lot } in
+    let at = its (state m) t c.args.call l.0 l.1 c.self.invariant.0.lots h in
+    let front = subst (FrontTaken (machine c.self.inside.lot) (machine c.take_next-taking.new.lot) (Ok c.take_next-taking.result)) at.key (c.take_next-taking.ensures.front at.section at.own) in
+    omega (arith, (has_room (state m) t c.args.call l.0 l.1 (machine c.take_next-taking.new.lot) c.take_next-taking.result front c.self.invariant.0 h x is).0, c.self.inside.calls.ok.0)
+
+-- src/acts.rt:215:9
+pub note_taking-requires-clause-room : goal.note_taking-requires-clause-room
+note_taking-requires-clause-room g c x is =
+    let t : ℕ = c.args.thread in
+    let l = leads_by c.args.call.core (act.Section (section.TakeNext c.args.sum)) 0 (seen.Took None false) c.requires.asked tt in
+    let h = held t c.args.call c.self.view_is c.requires.here in
+    let m : Rows = record { kinds = c.self.inside.kinds.items; words = c.self.inside.words.items; holds = c.self.inside.holds.items; calls = c.self.inside.calls.items; wakes = c.self.inside.wakes.items; lot = c.self.inside.lot } in
+    let at = its (state m) t c.args.call l.0 l.1 c.self.invariant.0.lots h in
+    let front = subst (FrontTaken (machine c.self.inside.lot) (machine c.take_next-taking.new.lot) (Ok c.take_next-taking.result)) at.key (c.take_next-taking.ensures.front at.section at.own) in
+    omega (arith, (has_room (state m) t c.args.call l.0 l.1 (machine c.take_next-taking.new.lot) c.take_next-taking.result front c.self.invariant.0 h x is).1, c.self.invariant.1, c.self.inside.wakes.ok.0)
+
+-- src/acts.rt:216:9
+pub taker-requires : goal.taker-requires
+taker-requires g c = record { small = omega (arith, word_low c.args.thread c.args.call c.self.view_is c.requires.here c.self.invariant.0, c.self.invariant.0.rules.size_words, c.self.invariant.0.rules.few_locks) }
+
+-- src/acts.rt:216:9
+pub index_mut-requires : goal.index_mut-requires
+index_mut-requires g c = omega (arith, low c.args.thread c.args.call c.self.view_is c.requires.here, c.self.inside.calls.ok.0, c.note_taking.ensures.slots)
+
+-- src/acts.rt:209:5
+pub returns : goal.returns
+returns g c =
+    let t : ℕ = c.args.thread in
+    let l = leads_by c.args.call.core (act.Section (section.TakeNext c.args.sum)) 0 (seen.Took None false) c.requires.asked tt in
+    let h = held t c.args.call c.self.view_is c.requires.here in
+    let m : Rows = record { kinds = c.self.inside.kinds.items; words = c.self.inside.words.items; holds = c.self.inside.holds.items; calls = c.self.inside.calls.items; wakes = c.self.inside.wakes.items; lot = c.self.inside.lot } in
+    let at = its (state m) t c.args.call l.0 l.1 c.self.invariant.0.lots h in
+    let front = subst (FrontTaken (machine c.self.inside.lot) (machine c.take_next-taking.new.lot) (Ok c.take_next-taking.result)) at.key (c.take_next-taking.ensures.front at.section at.own) in
+    taken_in t c.args.call _ c.self.view_is
+    (is_taken (state m) t c.args.call l.0 l.1 (machine c.take_next-taking.new.lot) c.take_next-taking.result front c.note_taking.new.calls.items c.taker.result c.note_taking.new.wakes.items
+    c.note_taking.ensures.calls (c.taker.ensures l.0 l.1) c.note_taking.ensures.wakes)
+
+-- src/acts.rt:209:5
+pub invariant_of-self : goal.invariant_of-self
+invariant_of-self g c =
+    let t : ℕ = c.args.thread in
+    let fits_now = fits c.self.view_is c.self.invariant.0 in
+    let slots = same_slots t c.self.inside.calls.items c.take_next-taking.result in (
+      takes_fit (state c.args.self.now) t c.args.call _ (returns g c) c.take_next-taking.ensures.sound fits_now c.requires.here,
+      omega (arith, length-set c.note_taking.new.calls.items t (Some c.taker.result), ap length c.note_taking.ensures.calls, slots, c.self.invariant.1, c.note_taking.ensures.capacity),
+    )
