@@ -25,11 +25,7 @@ use Rattle.parking_lot_core.specs.declared.place.Taking.{Taking}
 use Rattle.parking_lot_core.specs.declared.place.Waiter.{Waiter}
 use Rattle.parking_lot_world.specs.declared.seat.Wakeup.{Wakeup}
 use Rattle.parking_lot_world.specs.Stances.{In, Takes, stance, core_act}
-<<<<<<< HEAD
 use Rattle.parking_lot_world.specs.RowActs.{key_of, told_all, took, took_nobody, woke, off_list}
-=======
-use Rattle.parking_lot_world.specs.RowActs.{key_of, off_list, told_all, took, took_nobody, woke}
->>>>>>> ae060d12d6e7a3405f24a4a7fd88006c5a110c46
 use Rattle.parking_lot_world.specs.TellLaws.{IsDue}
 use Rattle.parking_lot_world.specs.ActLaws.{Acts, Ends}
 

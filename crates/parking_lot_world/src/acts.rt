@@ -1,12 +1,7 @@
 //! What each act of a call does to the machine.
 ghost use Rattle.std.specs.Prelude.{◌≡◌, ◌<◌, ◌≤◌, ℕ, ◌+◌, ◌*◌, ◌%◌, ◌^◌, length, map, slice_get, Some, None, if◌then◌else◌, vec_capacity, vec_len};
-<<<<<<< HEAD
 ghost use Rattle.std.specs.Option.{option_map, option_and_then, option_map_or};
 ghost use Rattle.std.specs.List.{position_or_len, position};
-=======
-ghost use Rattle.std.specs.List.{position, position_or_len};
-ghost use Rattle.std.specs.Option.{option_and_then, option_map, option_map_or};
->>>>>>> ae060d12d6e7a3405f24a4a7fd88006c5a110c46
 ghost use Rattle.parking_lot_cores.specs.declared.act.Seen.TheVariants as seen;
 ghost use Rattle.parking_lot_world.specs.declared.seat.Spot.TheVariants as spot;
 ghost use Rattle.parking_lot_core.specs.declared.place.Taking.{Taking};
