@@ -78,9 +78,7 @@ pub(crate) fn take_first<A: Allocator>(lot: &mut Lot<A>, thread: usize) -> Optio
 {
     let wants = |_token: ParkToken| -> FilterOp
         ensures { result ≡ Unpark }
-    {
-        FilterOp::Unpark
-    };
+    { FilterOp::Unpark };
     let taking = lot.take_next(thread, wants).ok().flatten();
     lot.known();
     taking
@@ -96,9 +94,7 @@ pub(crate) fn take_next<A: Allocator>(lot: &mut Lot<A>, thread: usize, sum: u64)
 {
     let wants = |token: ParkToken| -> FilterOp
         ensures { result ≡ wake_answer sum token.0 }
-    {
-        wake_sum(sum, token)
-    };
+    { wake_sum(sum, token) };
     let taking = lot.take_next(thread, wants).ok().flatten();
     lot.known();
     taking

@@ -24,16 +24,19 @@ returns g c =
     let l = leads_by c.args.call.core (act.Section (section.Append c.args.token)) 0 seen.Made c.requires.asked tt in
     let at = lot_never_refuses.inside _ c.args.thread c.args.call l.0 (Joins c.args.token) c.self.invariant.0.lots (held c.args.thread c.args.call c.self.view_is c.requires.here) l.2 in
     let done : State → Call → Machine → State = λ s next lot. with_lot (with_call s c.args.thread next) lot in
-    let put : Machine → ℕ → Machine = λ lot key. joined (in_phase lot phase.Joined) c.args.thread key c.args.token false in
-    (l.0, l.2,
-    ap (λ (m : Rows). done (state m) c.listed.result (machine c.append.new.lot)) c.self.view_is
-    ∙ ap (done s c.listed.result) (c.append.ensures.joined at.section at.own ∙ ap (λ (m : Rows). put (machine m.lot) at.section.key) c.self.view_is ∙ ap (put s.lot) at.key)
-    ∙ ap (λ next. done s next (put s.lot (key_of c.args.call l.0))) c.listed.ensures)
+    let put : Machine → ℕ → Machine = λ lot key. joined (in_phase lot phase.Joined) c.args.thread key c.args.token false in (
+      l.0,
+      l.2,
+      ap (λ (m : Rows). done (state m) c.listed.result (machine c.append.new.lot)) c.self.view_is
+          ∙ ap (done s c.listed.result) (c.append.ensures.joined at.section at.own ∙ ap (λ (m : Rows). put (machine m.lot) at.section.key) c.self.view_is ∙ ap (put s.lot) at.key)
+          ∙ ap (λ next. done s next (put s.lot (key_of c.args.call l.0))) c.listed.ensures,
+    )
 
 -- src/acts.rt:119:5
 pub invariant_of-self : goal.invariant_of-self
 invariant_of-self g c =
-    let e = returns g c in
-    (subst FitsTogether (sym e.2)
-    (laws.append (state c.args.self.now) c.args.thread c.args.call e.0 c.args.token c.requires.asked e.1 (subst Sound (ap (λ (s : State). s.lot) e.2) c.append.ensures.sound) (fits c.self.view_is c.self.invariant.0) c.requires.here).1.fits,
-    omega (arith, length-set c.self.inside.calls.items c.args.thread (Some c.listed.result), c.self.invariant.1))
+    let e = returns g c in (
+      subst FitsTogether (sym e.2)
+          (laws.append (state c.args.self.now) c.args.thread c.args.call e.0 c.args.token c.requires.asked e.1 (subst Sound (ap (λ (s : State). s.lot) e.2) c.append.ensures.sound) (fits c.self.view_is c.self.invariant.0) c.requires.here).1.fits,
+      omega (arith, length-set c.self.inside.calls.items c.args.thread (Some c.listed.result), c.self.invariant.1),
+    )
