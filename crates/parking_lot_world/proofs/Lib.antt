@@ -59,6 +59,7 @@ mod MutexTelling
 mod Rousing
 mod RwRousing
 mod MutexRousing
+mod Resting
 mod Resuming
 mod TellActs
 pub mod RwTelling

@@ -65,9 +65,9 @@ module _ (s u : State) (t : ℕ) (c : Call) (fair : Bool) (h : FitsTogether s) (
 
   taken : (a : Act) → core_act c.core ≡ a → IsAsSaid a t fair c s u → IsTakenFrom t c s u → IsStepped t fair None s u
   taken a asked said x = elim x.2 [
-      | inl y ↦ plain a asked said (took s t c (key_of c x.0) 0 y.0) y.2 (takes.laws.take s t c x.0 y.0 x.1 y.1 (took_sound s t c h.lots here x.0 0 y.0 (small_key c.core x.0 Takes x.1) x.1 y.1))
-      | inr y ↦ plain a asked said (took_nobody s t c (key_of c x.0)) y.1 (takes.laws.take_nobody s t c x.0 x.1 y.0 (took_nobody_sound s t c h.lots here))
-    ]
+    | inl y ↦ plain a asked said (took s t c (key_of c x.0) 0 y.0) y.2 (takes.laws.take s t c x.0 y.0 x.1 y.1 (took_sound s t c h.lots here x.0 0 y.0 (small_key c.core x.0 Takes x.1) x.1 y.1))
+    | inr y ↦ plain a asked said (took_nobody s t c (key_of c x.0)) y.1 (takes.laws.take_nobody s t c x.0 x.1 y.0 (took_nobody_sound s t c h.lots here))
+  ]
 
   pub take_first : core_act c.core ≡ act.Section section.TakeFirst → IsTakenFrom t c s u → IsStepped t fair None s u
   take_first asked x = taken (act.Section section.TakeFirst) asked tt x

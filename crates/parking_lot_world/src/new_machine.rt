@@ -2,6 +2,7 @@
 ghost use Rattle.std.specs.Prelude.{◌≡◌, ◌<◌, ◌≤◌, ◌↔◌, ◌⊎◌, ◌^◌, length, replicate, Some, IsErrOf, IfErr, IfOk};
 ghost use Rattle.parking_lot_core.specs.Machine.{machine};
 ghost use Rattle.parking_lot_core.specs.Runs.{fresh};
+ghost use Rattle.parking_lot_core.specs.Sound.{Sound};
 ghost use Rattle.parking_lot_core.specs.declared.fault.SizeFault.TheVariants.{BadSize, NoMemory};
 ghost use Rattle.parking_lot_core.specs.declared.place.Place.TheVariants.{Running};
 ghost use Rattle.parking_lot_world.specs.Rows.{state};
@@ -24,14 +25,16 @@ fn lot_of<A: Allocator + Clone + Drop>(alloc: A, threads: usize) -> Result<Lot<A
     requires some { 0 < threads }
     requires few { threads ≤ 65536 }
     ensures made { IfOk result (λ lot. machine lot ≡ record (fresh threads 0) { places = replicate threads (Some Running) }) }
+    ensures sound { IfOk result (λ lot. Sound (machine lot)) }
     ensures memory { IfErr result (λ fault. fault ≡ NoMemory) }
 {
     let mut lot = Lot::new(alloc, threads, 0)?;
     for _ in 0..threads {
-        if lot.register().is_err() {
+        if let Err(_) = lot.register() {
             return Err(SizeFault::NoMemory);
         }
     }
+    lot.known();
     Ok(lot)
 }
 
