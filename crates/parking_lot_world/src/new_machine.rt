@@ -42,7 +42,7 @@ impl<A: Allocator + Clone + Drop> RowMachine<A> {
     /// A machine of so many threads, in no call, and of locks of these kinds, which nobody owns: 1 to 65,536 threads, and 1 to 2^20 locks.
     /// All memory that its steps need is taken here.
     pub fn new(
-        alloc: A,
+        alloc: &A,
         threads: usize,
         kinds: Vec<LockKind, A>,
     ) -> Result<RowMachine<A>, SizeFault>
@@ -59,7 +59,7 @@ impl<A: Allocator + Clone + Drop> RowMachine<A> {
             holds: vec![in alloc.clone()?; Hold::Shares(0); threads * locks]?,
             calls: vec![in alloc.clone()?; None; threads]?,
             wakes: Vec::with_capacity(alloc.clone()?, threads)?,
-            lot: lot_of(alloc, threads)?,
+            lot: lot_of(alloc.clone()?, threads)?,
         })
     }
 }
