@@ -58,8 +58,8 @@ impl<A: Allocator + Clone + Drop> World<A> {
         ensures machine { IfOk result (λ world. state world.rows ≡ at_rest threads locks.items) }
         ensures answers { IfOk result (λ world. world.answers ≡ replicate threads None) }
     {
-        let machine = RowMachine::new(alloc.clone()?, threads, locks)?;
-        let answers = vec![in alloc; None; threads]?;
+        let machine = RowMachine::new(alloc, threads, locks)?;
+        let answers = vec![in machine.words.allocator().clone()?; None; threads]?;
         Ok(World { machine, answers })
     }
 }
