@@ -77,5 +77,5 @@ module _ (s u : State) where
   begun_stays t lock call h = goes (call_for s t lock call).core (call_for s t lock call).others (taken_by s.wakes t) seen.Start lock t h.goes
 
   pub stepped_stays : (t : ℕ) (fair : Bool) (answer : Option CoreAnswer) → IsStepped t fair answer s u → length u.calls ≡ length s.calls
-  stepped_stays t fair None (c, told, here, said, h) = goes c.core c.others (taken_by s.wakes t) told c.lock t h.goes
+  stepped_stays t fair None (c, here, (told, h), said) = goes c.core c.others (taken_by s.wakes t) told c.lock t h.goes
   stepped_stays t fair (Some answer) (c, here, last, h) = ends c.core c.others c.lock t h.goes
