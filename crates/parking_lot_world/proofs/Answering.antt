@@ -1,15 +1,14 @@
 -- A call is answered: its thread owns what the answer says, and is in no call.
-use Rattle.std.proofs.Common.{◌≡◌, ◌≢◌, ℕ, zero, suc, ◌+◌, ◌*◌, ◌<◌, ◌≤◌, ◌^◌, ◌⊎◌, inl, inr, ◌==◌, cond, nat_lt, Bool, true, false, List, [], ◌∷◌, length, Option, Some, None, slice_get, slice_set, refl, sym, ap, ◌∙◌, subst, arith}
+use Rattle.std.proofs.Common.{◌≡◌, ◌≢◌, ℕ, zero, suc, ◌+◌, ◌*◌, ◌<◌, ◌≤◌, ◌⊎◌, inl, inr, cond, nat_lt, Bool, true, false, List, [], length, Option, Some, None, slice_get, slice_set, refl, sym, ap, ◌∙◌, subst, arith}
 use Rattle.std.proofs.Math.Nat.{suc-mul}
 use Rattle.std.proofs.lemmas.Bool.{cases_eq, cases_lt, both_ways, lt-ltb, ltb-true}
 use Rattle.std.proofs.lemmas.Option.{none-some, same_Some, slice_get_within, slice_get-get_or}
 use Rattle.std.proofs.lemmas.List.{length-set}
-use Rattle.std.specs.Option.{option_and_then, option_map_or}
-use Rattle.std.specs.Prelude.{count_by, get_or}
+use Rattle.std.specs.Option.{option_map_or}
+use Rattle.std.specs.Prelude.{get_or}
 use Rattle.parking_lot_core.specs.declared.parking.ParkToken.{ParkToken}
 use Rattle.parking_lot_core.proofs.Numbers.{count_by-set, flag}
 use Rattle.parking_lot_rules.proofs.Indexed.{get-set_same, get-set_other}
-use Rattle.parking_lot_world.specs.declared.calls.LockKind.{LockKind}
 use Rattle.parking_lot_world.specs.declared.seat.Hold.{Hold}
 use Rattle.parking_lot_world.specs.declared.seat.Hold.TheVariants as hold
 use Rattle.parking_lot_world.specs.declared.seat.Core.{Core}
@@ -56,11 +55,11 @@ use Rattle.parking_lot_world.proofs.Owning.{set-same}
 use Rattle.parking_lot_world.proofs.OwnActs.{plays}
 use Rattle.parking_lot_world.specs.MutexLaws.{mutex_of}
 use Rattle.parking_lot_world.proofs.Everybody.{all, change-all}
-use Rattle.parking_lot_world.specs.Rows.{State, word_at, call_at, hold_in, hold_at, taken_by, inside, owned_of, owns_mutex, rw_spot, rw_role_in, rw_role_at, rw_lock_at, first_of_all, mutex_spot, mutex_role_in, mutex_role_at, mutex_at}
+use Rattle.parking_lot_world.specs.Rows.{State, word_at, call_at, hold_at, taken_by, inside, owned_of, owns_mutex, rw_spot, rw_role_in, rw_role_at, rw_lock_at, first_of_all, mutex_spot, mutex_role_in, mutex_role_at, mutex_at}
 use Rattle.parking_lot_world.specs.RowActs.{answered, hold_after, rw_hold_after, mutex_hold_after}
 use Rattle.parking_lot_world.specs.RowFits.{FitsTogether, LotFits, WakesFit, RulesFit, IsOfKind, is_off, is_away}
 use Rattle.parking_lot_world.proofs.Meeting.{in_range, meets}
-use Rattle.parking_lot_world.proofs.Calling.{call_of, slot, call-here, call-elsewhere}
+use Rattle.parking_lot_world.proofs.Calling.{slot, call-here, call-elsewhere}
 use Rattle.parking_lot_world.proofs.Lifting.{IsThere, Elsewhere, same_rw, same_mutex}
 
 is_out : Stance → Bool

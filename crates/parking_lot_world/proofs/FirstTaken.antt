@@ -1,5 +1,5 @@
 -- A section that has passed nobody, by a filter that wants whoever is first, takes the first of its list, and nobody only where there is none.
-use Rattle.std.proofs.Common.{◌≡◌, ℕ, ◌+◌, ◌⊎◌, inl, inr, Bool, true, false, List, [], ◌∷◌, drop, Option, Some, None, Result, Ok, slice_get, count_by, refl, sym, ap, ◌∙◌, subst}
+use Rattle.std.proofs.Common.{◌≡◌, ℕ, ◌+◌, inl, inr, List, [], ◌∷◌, drop, Option, Some, None, Result, Ok, slice_get, count_by, refl, ap, ◌∙◌, subst}
 use Rattle.std.specs.Prelude.{MatchBool, IsSomeAnd}
 use Rattle.std.specs.List.{list_any}
 use Rattle.std.specs.Option.{option_map, option_flatten}
@@ -15,7 +15,7 @@ use Rattle.parking_lot_core.specs.declared.place.Waiter.{Waiter}
 use Rattle.parking_lot_core.specs.Machine.{Machine, tokens_of, taking_of, in_phase, taken, section_of, step_fault, Does, Unless, TakesNext, TakesInSection}
 use Rattle.parking_lot_core.specs.Places.{may_take, passed_of}
 use Rattle.parking_lot_core.specs.Results.{Answers, is_no_skip, is_take, is_skip}
-use Rattle.parking_lot_world.specs.FrontTakings.{FrontTaken, FirstsAreTaken}
+use Rattle.parking_lot_world.specs.FrontTakings.{FrontTaken}
 
 module _ {F : Type 0} (gives : F → ParkToken → FilterOp → F → Type 0) (filter : F) (old new : Machine) (result : Result (Option Taking) LotFault) (key : ℕ) where
   abbrev After : List Waiter → List FilterOp → ℕ → Type 0

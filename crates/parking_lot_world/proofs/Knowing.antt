@@ -1,5 +1,5 @@
 -- What a call knows of its list goes on through its thread's own acts.
-use Rattle.std.proofs.Common.{◌≡◌, ℕ, ◌+◌, ◌*◌, ◌⊎◌, inl, inr, Bool, List, sym, subst}
+use Rattle.std.proofs.Common.{◌≡◌, ℕ, inl, inr, List, sym, subst}
 use Rattle.parking_lot_core.specs.declared.parking.UnparkToken.{UnparkToken}
 use Rattle.parking_lot_core.specs.declared.place.Waiter.{Waiter}
 use Rattle.parking_lot_cores.specs.declared.act.Act.{Act}
@@ -13,9 +13,8 @@ use Rattle.parking_lot_cores.specs.declared.rw_phase.RwPhase.TheVariants as r
 use Rattle.parking_lot_cores.specs.Acts.{Gives}
 use Rattle.parking_lot_cores.specs.RwTable as of_rw
 use Rattle.parking_lot_world.specs.declared.seat.Core.{Core}
-use Rattle.parking_lot_world.specs.declared.seat.Core.TheVariants as core
-use Rattle.parking_lot_world.specs.Stances.{Doing, Looks, TurnsBack, Joins, Joined, Takes, Stores, Tells, Stance, Out, In, Asleep, mutex_stance, stance, core_act, core_next}
-use Rattle.parking_lot_world.specs.StanceLaws.{Leads, LeadsCore}
+use Rattle.parking_lot_world.specs.Stances.{Looks, TurnsBack, Joins, Joined, Takes, Stores, Tells, Stance, Out, In, Asleep, mutex_stance, stance, core_act, core_next}
+use Rattle.parking_lot_world.specs.StanceLaws.{Leads}
 use Rattle.parking_lot_world.specs.RowFits.{mutex_knows}
 use Rattle.parking_lot_world.specs.RwLaws.{Learns}
 use Rattle.parking_lot_world.proofs.OwnMoves.{IsOwnAct}

@@ -1,22 +1,21 @@
 -- What a thread does at one lock leaves the other locks as they are.
-use Rattle.std.proofs.Common.{◌≡◌, ◌≢◌, ℕ, ◌+◌, ◌*◌, ◌<◌, ◌⊎◌, inl, inr, ◌==◌, cond, List, [], length, Option, Some, None, slice_get, refl, sym, ap, ◌∙◌, subst, arith, eq-eqb}
+use Rattle.std.proofs.Common.{◌≡◌, ◌≢◌, ℕ, ◌+◌, ◌*◌, ◌<◌, ◌⊎◌, inl, inr, cond, List, length, Option, Some, None, slice_get, refl, sym, ap, ◌∙◌, arith, eq-eqb}
 use Rattle.std.proofs.lemmas.Bool.{ne_eqb}
 use Rattle.std.specs.Prelude.{map}
 use Rattle.std.specs.List.{range_with_len}
 use Rattle.parking_lot_core.specs.Machine.{threads_of}
-use Rattle.parking_lot_core.specs.declared.place.Waiter.{Waiter}
 use Rattle.parking_lot_rules.specs.Roles.{Idle, Role}
 use Rattle.parking_lot_rules.specs.Clauses.{Word}
 use Rattle.parking_lot_rules.specs.Lock.{Lock}
 use Rattle.parking_lot_rules.specs.Mutex as mutex
-use Rattle.parking_lot_rules.specs.Any.{AnyLock, Rw, Mx}
+use Rattle.parking_lot_rules.specs.Any.{Rw, Mx}
 use Rattle.parking_lot_world.specs.declared.calls.LockKind.{LockKind}
 use Rattle.parking_lot_world.specs.declared.calls.LockKind.TheVariants as kind
 use Rattle.parking_lot_world.specs.declared.seat.Hold.{Hold}
 use Rattle.parking_lot_world.specs.declared.seat.Call.{Call}
-use Rattle.parking_lot_world.specs.Rows.{State, word_at, hold_at, call_at, taken_by, owned_of, owns_mutex, rw_role_in, mutex_role_in, rw_role_at, mutex_role_at, rw_core_role, mutex_core_role, rw_lock_at, mutex_at, mutex_word_of, any_lock, lock_at, queue_at, everybody}
+use Rattle.parking_lot_world.specs.Rows.{State, word_at, hold_at, call_at, taken_by, owned_of, owns_mutex, rw_role_in, mutex_role_in, rw_role_at, mutex_role_at, rw_core_role, mutex_core_role, rw_lock_at, mutex_at, mutex_word_of, any_lock, lock_at, queue_at}
 use Rattle.parking_lot_rules.specs.ReadLock.{word_of}
-use Rattle.parking_lot_world.proofs.Everybody.{same-all, change-all, change-two, settle-all, get-all}
+use Rattle.parking_lot_world.proofs.Everybody.{same-all}
 
 -- the thread is at lock j, or at none
 abbrev pub IsThere : ℕ → Option Call → Type 0

@@ -1,5 +1,5 @@
 -- The lot stays sound in each act.
-use Rattle.std.proofs.Common.{◌≡◌, ◌<◌, ℕ, ◌+◌, ◌*◌, ◌==◌, Bool, true, false, cond, List, Option, Some, None, remove, slice_get, slice_set, refl, sym, ap, ◌∙◌, subst}
+use Rattle.std.proofs.Common.{◌≡◌, ◌<◌, ℕ, true, false, List, Option, Some, slice_get, slice_set, refl, sym, ap, ◌∙◌, subst}
 use Rattle.std.specs.Option.{option_map}
 use Rattle.std.proofs.lemmas.Bool.{false≢true}
 use Rattle.parking_lot_core.specs.declared.parking.ParkToken.{ParkToken}
@@ -7,18 +7,17 @@ use Rattle.parking_lot_core.specs.declared.parking.UnparkToken.{UnparkToken}
 use Rattle.parking_lot_core.specs.declared.place.Phase.{Phase}
 use Rattle.parking_lot_core.specs.declared.place.Phase.TheVariants as phase
 use Rattle.parking_lot_core.specs.declared.place.Place.{Place}
-use Rattle.parking_lot_core.specs.declared.place.Place.TheVariants.{Running, Held, Taken}
+use Rattle.parking_lot_core.specs.declared.place.Place.TheVariants.{Running, Held}
 use Rattle.parking_lot_core.specs.declared.place.Section.{Section}
 use Rattle.parking_lot_core.specs.declared.place.Waiter.{Waiter}
-use Rattle.parking_lot_core.specs.Machine.{Machine, opened, in_phase, joined, stored, closed, token_of}
+use Rattle.parking_lot_core.specs.Machine.{opened, in_phase, stored, closed, token_of}
 use Rattle.parking_lot_core.specs.Places.{place_at, may_join, waits_at}
 use Rattle.parking_lot_core.specs.Sound.{Sound}
-use Rattle.parking_lot_core.proofs.Sounds.{none≢some, some≢none, sound_opened, sound_section, sound_closed, sound_joined, sound_left, sound_place}
+use Rattle.parking_lot_core.proofs.Sounds.{some≢none, sound_opened, sound_section, sound_closed, sound_joined, sound_left, sound_place}
 use Rattle.parking_lot_world.specs.declared.seat.Call.{Call}
-use Rattle.parking_lot_world.specs.declared.seat.Wakeup.{Wakeup}
 use Rattle.parking_lot_world.specs.Rows.{State, call_at}
-use Rattle.parking_lot_world.specs.Stances.{Looks, Joins, Takes, Stance, Out, In, stance}
-use Rattle.parking_lot_world.specs.RowActs.{key_of, checked, appended, took, took_nobody, woke}
+use Rattle.parking_lot_world.specs.Stances.{Looks, Joins, Takes, Out, In, stance}
+use Rattle.parking_lot_world.specs.RowActs.{key_of, appended, took}
 use Rattle.parking_lot_world.specs.RowFits.{LotFits}
 use Rattle.parking_lot_world.proofs.LotActs.{same_number, same_section, seat_of}
 use Rattle.parking_lot_world.proofs.LotTakes.{Sleeper, sleeper, took_places}

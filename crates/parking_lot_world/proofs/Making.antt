@@ -1,17 +1,14 @@
 -- What is a step of a lock is a step of the machine's family of locks, and keeps it sound.
-use Rattle.std.proofs.Common.{◌≡◌, ◌≢◌, ℕ, ◌+◌, ◌*◌, ◌<◌, ◌⊎◌, inl, inr, ◌==◌, cond, Bool, true, false, List, [], ◌∷◌, length, Option, Some, None, slice_get, refl, sym, ap, ◌∙◌, subst, arith, eq-eqb}
+use Rattle.std.proofs.Common.{◌≡◌, ◌≢◌, ℕ, inl, inr, ◌==◌, cond, Bool, true, false, List, [], ◌∷◌, length, Option, Some, None, slice_get, sym, ap, ◌∙◌, subst}
 use Rattle.std.proofs.lemmas.Bool.{ne_eqb, cases_eq}
-use Rattle.std.proofs.lemmas.Option.{none-some, same_Some}
 use Rattle.parking_lot_rules.specs.Roles.{Idle, Role}
-use Rattle.parking_lot_rules.specs.Lock.{Lock, IsSound}
 use Rattle.parking_lot_rules.specs.Steps.{Step, Allowed, after}
 use Rattle.parking_lot_rules.specs.Mutex as mutex
-use Rattle.parking_lot_rules.specs.Any.{AnyLock, Rw, Mx, AnyStep, RwStep, MxStep, any_rules, AnySound, any_inside, IsIdleAt, any_crossing, any_after, mutex_crossing}
-use Rattle.parking_lot_rules.specs.Family.{Key, First, Second, key, Crossing, Stays, Comes, Goes, crossing, Family, StepOf, SoundFamilyOf, put, IsFree, entered_after}
+use Rattle.parking_lot_rules.specs.Any.{Rw, Mx, AnyStep, RwStep, MxStep, any_rules, AnySound, any_inside, IsIdleAt, any_after, mutex_crossing}
+use Rattle.parking_lot_rules.specs.Family.{Crossing, Stays, Comes, Goes, crossing, SoundFamilyOf, IsFree, entered_after}
 use Rattle.parking_lot_world.specs.declared.calls.LockKind.{LockKind}
 use Rattle.parking_lot_world.specs.declared.calls.LockKind.TheVariants as kind
-use Rattle.parking_lot_world.specs.declared.seat.Call.{Call}
-use Rattle.parking_lot_world.specs.Rows.{State, call_at, hold_at, taken_by, rw_role_at, mutex_role_at, rw_role_in, mutex_role_in, owned_of, owns_mutex, rw_lock_at, mutex_at, any_lock, lock_at, inside, family, one_bucket}
+use Rattle.parking_lot_world.specs.Rows.{State, call_at, hold_at, taken_by, rw_role_at, mutex_role_at, rw_lock_at, mutex_at, any_lock, lock_at, inside, family, one_bucket}
 use Rattle.parking_lot_rules.specs.Roles.{Asleep}
 use Rattle.parking_lot_cores.specs.MutexRules as of_mutex
 use Rattle.parking_lot_world.specs.MutexLaws.{LeadsBy, move_crossing}

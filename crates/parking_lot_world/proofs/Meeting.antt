@@ -1,28 +1,23 @@
 -- A thread in a call at a lock of the machine, as one lock sees it.
-use Rattle.std.proofs.Common.{◌≡◌, ◌≢◌, ℕ, zero, suc, ◌+◌, ◌*◌, ◌<◌, ◌≤◌, ◌^◌, ◌⊎◌, inl, inr, ◌==◌, cond, Bool, true, false, List, [], ◌∷◌, length, Option, Some, None, slice_get, refl, sym, ap, ◌∙◌, subst, arith}
+use Rattle.std.proofs.Common.{◌≡◌, ℕ, ◌+◌, ◌<◌, ◌≤◌, ◌^◌, inl, inr, ◌==◌, cond, Bool, true, false, List, length, Option, Some, None, slice_get, refl, sym, ap, ◌∙◌, subst, arith}
 use Rattle.std.proofs.lemmas.Bool.{cases_lt}
-use Rattle.std.proofs.lemmas.Option.{none-some, same_Some, slice_get_past}
+use Rattle.std.proofs.lemmas.Option.{none-some, slice_get_past}
 use Rattle.std.proofs.lemmas.List.{length-map}
 use Rattle.std.proofs.lemmas.List.Sums.{length-filter, count_by-le-length}
-use Rattle.std.specs.Prelude.{filter, count_by}
+use Rattle.std.specs.Prelude.{filter}
 use Rattle.std.specs.Option.{option_and_then}
-use Rattle.parking_lot_rules.specs.Roles.{Role, Shares, Idle}
+use Rattle.parking_lot_rules.specs.Roles.{Role, Idle}
 use Rattle.parking_lot_rules.specs.Holds.{shared_holds}
-use Rattle.parking_lot_rules.specs.Lock.{Lock, IsSound}
+use Rattle.parking_lot_rules.specs.Lock.{IsSound}
 use Rattle.parking_lot_rules.specs.Mutex as mutex
 use Rattle.parking_lot_rules.specs.Any.{AnySound}
-use Rattle.parking_lot_rules.specs.ReadLock.{word_of}
 use Rattle.parking_lot_cores.specs.declared.rw_core.RwCore.{RwCore}
-use Rattle.parking_lot_cores.specs.declared.mutex_core.MutexCore.{MutexCore}
-use Rattle.parking_lot_cores.specs.declared.rw_phase.Want.{Want}
 use Rattle.parking_lot_cores.specs.declared.rw_phase.Want.TheVariants as want
 use Rattle.parking_lot_cores.specs.declared.rw_phase.Rest.{Rest}
 use Rattle.parking_lot_cores.specs.declared.rw_phase.Rest.TheVariants as rest
-use Rattle.parking_lot_cores.specs.declared.rw_phase.Outcome.{Outcome}
 use Rattle.parking_lot_cores.specs.declared.rw_phase.Outcome.TheVariants as outcome
 use Rattle.parking_lot_cores.specs.declared.rw_phase.RwPhase.{RwPhase}
 use Rattle.parking_lot_cores.specs.declared.rw_phase.RwPhase.TheVariants as r
-use Rattle.parking_lot_cores.specs.RwTable.{count_of}
 use Rattle.parking_lot_cores.specs.RwRules as of_rw
 use Rattle.parking_lot_world.specs.declared.calls.LockKind.{LockKind}
 use Rattle.parking_lot_world.specs.declared.calls.LockKind.TheVariants as kind
@@ -32,7 +27,7 @@ use Rattle.parking_lot_world.specs.declared.seat.Spot.{Spot}
 use Rattle.parking_lot_world.specs.declared.seat.Core.{Core}
 use Rattle.parking_lot_world.specs.declared.seat.Core.TheVariants as core
 use Rattle.parking_lot_world.specs.declared.seat.Call.{Call}
-use Rattle.parking_lot_world.specs.Rows.{State, word_at, hold_at, call_at, is_by, taken_by, owned_of, rw_spot, rw_role_in, rw_role_at, rw_core_role, mutex_role_at, rw_lock_at, mutex_at, any_lock, lock_at}
+use Rattle.parking_lot_world.specs.Rows.{State, word_at, hold_at, call_at, is_by, taken_by, owned_of, rw_spot, rw_role_in, rw_role_at, rw_core_role, rw_lock_at, mutex_at, any_lock}
 use Rattle.parking_lot_world.specs.Stances.{rw_taken, taken_count}
 use Rattle.parking_lot_world.specs.RowFits.{FitsTogether, is_away, IsOfKind, IsPrepared}
 use Rattle.parking_lot_world.specs.RwLaws.{Meets, count_shared}

@@ -1,14 +1,12 @@
 -- A thread's own acts, at a lock of any kind: they are steps of the rules, and keep the side of the rules.
-use Rattle.std.proofs.Common.{◌≡◌, ◌≢◌, ℕ, zero, suc, ◌+◌, ◌*◌, ◌<◌, ◌≤◌, ◌⊎◌, inl, inr, ◌==◌, cond, Bool, true, false, List, [], length, map, Option, Some, None, slice_get, slice_set, refl, sym, ap, ◌∙◌, subst, arith}
-use Rattle.std.proofs.lemmas.Bool.{cases_eq, both_ways}
-use Rattle.std.proofs.lemmas.Option.{none-some, same_Some}
+use Rattle.std.proofs.Common.{◌≡◌, ◌≢◌, ℕ, zero, suc, ◌+◌, ◌*◌, ◌<◌, ◌≤◌, ◌==◌, cond, Bool, true, false, List, length, Option, Some, None, slice_get, slice_set, refl, sym, ap, ◌∙◌, subst, arith}
+use Rattle.std.proofs.lemmas.Bool.{both_ways}
+use Rattle.std.proofs.lemmas.Option.{none-some}
 use Rattle.parking_lot_core.specs.Machine.{threads_of}
-use Rattle.parking_lot_rules.specs.Roles.{Role}
 use Rattle.parking_lot_rules.specs.Lists.{at_index}
-use Rattle.parking_lot_rules.specs.Classes.{Inside1, Inside2, weight, weighs}
-use Rattle.parking_lot_rules.specs.Lock.{Lock}
+use Rattle.parking_lot_rules.specs.Classes.{Inside1, Inside2, weighs}
 use Rattle.parking_lot_rules.specs.Mutex as mutex
-use Rattle.parking_lot_rules.specs.Any.{AnyLock, Rw, Mx, any_rules, any_inside}
+use Rattle.parking_lot_rules.specs.Any.{AnyLock, any_inside}
 use Rattle.parking_lot_rules.specs.Family.{Key, First, Second}
 use Rattle.parking_lot_rules.proofs.MutexCrossing.{any_are_rules}
 use Rattle.parking_lot_cores.specs.declared.act.Act.{Act}
@@ -28,7 +26,7 @@ use Rattle.parking_lot_world.specs.declared.calls.LockKind.TheVariants as kind
 use Rattle.parking_lot_world.specs.declared.seat.Core.{Core}
 use Rattle.parking_lot_world.specs.declared.seat.Core.TheVariants as core
 use Rattle.parking_lot_world.specs.declared.seat.Call.{Call}
-use Rattle.parking_lot_world.specs.Rows.{State, word_at, call_at, taken_by, hold_at, first_of_all, mutex_spot, mutex_role_in, mutex_role_at, mutex_core_role, rw_spot, rw_lock_at, mutex_at, any_lock, lock_at, inside, family}
+use Rattle.parking_lot_world.specs.Rows.{State, word_at, call_at, taken_by, hold_at, first_of_all, mutex_spot, mutex_role_in, mutex_role_at, mutex_core_role, rw_spot, rw_lock_at, mutex_at, any_lock, lock_at, inside}
 use Rattle.parking_lot_world.specs.Stances.{has_begun, rw_begun, core_act, core_next}
 use Rattle.parking_lot_world.specs.RowFits.{FitsTogether, RulesFit, IsOfKind, IsPrepared, KnowsList}
 use Rattle.parking_lot_world.specs.RowSteps.{Goes, IsMoveOf, IsRwMove, IsMutexMove}
@@ -45,7 +43,7 @@ use Rattle.parking_lot_world.proofs.MutexMoving.{steps}
 use Rattle.parking_lot_world.proofs.MutexRoles.{words}
 use Rattle.parking_lot_world.proofs.Everybody.{get-all}
 use Rattle.parking_lot_world.proofs.Lifting.{mutex_there}
-use Rattle.parking_lot_world.proofs.Making.{IsSoundState, Crossed, TellsOf, mutex_goes}
+use Rattle.parking_lot_world.proofs.Making.{Crossed, TellsOf, mutex_goes}
 use Rattle.parking_lot_world.proofs.Meeting.{meets, in_range, mutex_sound}
 use Rattle.parking_lot_world.proofs.OwnMoves.{AfterAct, IsOwnAct}
 use Rattle.parking_lot_world.proofs.Owning.{OwnAct, own-there, own-elsewhere, mutex_after, rw_goes}

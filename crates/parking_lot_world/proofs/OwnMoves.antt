@@ -1,5 +1,5 @@
 -- Acts that a thread makes by itself: which moves they are, and who is inside a section then.
-use Rattle.std.proofs.Common.{◌≡◌, ℕ, zero, suc, ◌/◌, ◌==◌, ◌&&◌, cond, Bool, true, false, List, Option, Some, None, refl}
+use Rattle.std.proofs.Common.{◌≡◌, ℕ, ◌/◌, ◌==◌, ◌&&◌, cond, Bool, true, false, List, Option, Some, None}
 use Rattle.parking_lot_rules.specs.Plain as plain
 use Rattle.parking_lot_rules.specs.Steps.{Alone}
 use Rattle.parking_lot_rules.specs.Family.{crossing}
@@ -11,10 +11,9 @@ use Rattle.parking_lot_cores.specs.declared.act.Seen.TheVariants as seen
 use Rattle.parking_lot_cores.specs.declared.rw_phase.Want.{Want}
 use Rattle.parking_lot_cores.specs.declared.rw_phase.Want.TheVariants as want
 use Rattle.parking_lot_cores.specs.declared.rw_phase.Draining.{Draining}
-use Rattle.parking_lot_cores.specs.declared.rw_phase.Rest.{Rest}
 use Rattle.parking_lot_cores.specs.declared.rw_phase.Rest.TheVariants as rest
 use Rattle.parking_lot_cores.specs.declared.rw_phase.RwPhase.{RwPhase}
-use Rattle.parking_lot_cores.specs.declared.rw_phase.RwPhase.TheVariants.{Locking, Trying, Loads, Admits, Flags, Enters, Checks, Retreats, Appends, Rests, Sleeps, Loads2, Flags2, Enters2, Checks2, Retreats2, Appends2, Rests2, Sleeps2, TryAdmits, Relocks, Unshares, Owes2, Takes2, Masks2, Leaves2, Unlocks, LooksExclusive, Downgrades, Owes, Scans, Stores, Leaves, Wakes, Finishes}
+use Rattle.parking_lot_cores.specs.declared.rw_phase.RwPhase.TheVariants.{Loads, Admits, Flags, Enters, Checks, Retreats, Appends, Rests, Sleeps, Loads2, Flags2, Enters2, Checks2, Retreats2, Appends2, Rests2, Sleeps2, TryAdmits, Relocks, Unshares, Owes2, Takes2, Masks2, Leaves2, Unlocks, LooksExclusive, Downgrades, Owes, Scans, Stores, Leaves, Wakes, Finishes}
 use Rattle.parking_lot_cores.specs.RwTable.{act_of, is_parked, is_writer_parked, is_barred, has_readers}
 use Rattle.parking_lot_cores.specs.RwRules.{Move, Stays, Makes, move, mode_of, admission, try_admission, IsTold}
 use Rattle.parking_lot_world.proofs.Making.{Crossed}

@@ -1,17 +1,13 @@
 -- Acts at a reader-writer lock that change nothing but the word and the call of the thread that makes them.
-use Rattle.std.proofs.Common.{◌≡◌, ◌≢◌, ℕ, zero, suc, ◌+◌, ◌*◌, ◌<◌, ◌⊎◌, inl, inr, true, false, List, [], ◌∷◌, length, map, Option, Some, None, slice_get, slice_set, refl, sym, ap, ◌∙◌, subst, arith}
+use Rattle.std.proofs.Common.{◌≡◌, ◌≢◌, ℕ, zero, suc, ◌+◌, ◌*◌, ◌<◌, inl, inr, List, [], ◌∷◌, length, Some, slice_get, slice_set, refl, sym, ap, ◌∙◌, subst}
 use Rattle.std.proofs.lemmas.Bool.{cases_eq}
 use Rattle.std.proofs.lemmas.List.{length-set}
 use Rattle.std.proofs.lemmas.Option.{same_Some}
-use Rattle.std.specs.List.{range_with_len}
 use Rattle.parking_lot_core.specs.declared.parking.ParkToken.{ParkToken}
-use Rattle.parking_lot_core.specs.declared.place.Waiter.{Waiter}
 use Rattle.parking_lot_core.specs.Machine.{threads_of}
 use Rattle.parking_lot_rules.specs.Roles.{Role}
-use Rattle.parking_lot_rules.specs.Lock.{Lock}
-use Rattle.parking_lot_rules.specs.Steps.{Alone, after}
+use Rattle.parking_lot_rules.specs.Steps.{Alone}
 use Rattle.parking_lot_rules.specs.ReadLock.{word_of}
-use Rattle.parking_lot_rules.specs.Family.{crossing}
 use Rattle.parking_lot_cores.specs.declared.act.Seen.{Seen}
 use Rattle.parking_lot_cores.specs.declared.rw_core.RwCore.{RwCore}
 use Rattle.parking_lot_cores.specs.declared.rw_phase.RwPhase.{RwPhase}
@@ -32,7 +28,7 @@ use Rattle.parking_lot_world.specs.declared.seat.Spot.TheVariants as spot
 use Rattle.parking_lot_world.specs.declared.seat.Core.{Core}
 use Rattle.parking_lot_world.specs.declared.seat.Core.TheVariants as core
 use Rattle.parking_lot_world.specs.declared.seat.Call.{Call}
-use Rattle.parking_lot_world.specs.Rows.{State, word_at, hold_at, call_at, taken_by, inside, rw_spot, rw_role_in, rw_role_at, rw_core_role, rw_lock_at, mutex_spot, mutex_role_in, mutex_role_at, mutex_word_of, mutex_at, first_of_all, everybody, queue_at}
+use Rattle.parking_lot_world.specs.Rows.{State, word_at, hold_at, call_at, taken_by, inside, rw_spot, rw_role_in, rw_role_at, rw_lock_at, mutex_spot, mutex_role_in, mutex_role_at, mutex_word_of, mutex_at, first_of_all, queue_at}
 use Rattle.parking_lot_world.specs.Stances.{Asleep, stance, rw_stance, mutex_stance, core_act}
 use Rattle.parking_lot_world.specs.RowFits.{FitsTogether}
 use Rattle.parking_lot_world.specs.RowSteps.{IsRwMove}
@@ -40,7 +36,7 @@ use Rattle.parking_lot_world.specs.RwLaws.{Meets, Finds, with_role}
 use Rattle.parking_lot_world.proofs.RwMoving.{stays_are_steps, makes_are_steps}
 use Rattle.parking_lot_world.proofs.Everybody.{all, change-all}
 use Rattle.parking_lot_world.proofs.Lifting.{IsThere, Elsewhere, rw_there, mutex_there, same_rw, same_mutex}
-use Rattle.parking_lot_world.proofs.Making.{Crossed, made_rw, quiet_rw}
+use Rattle.parking_lot_world.proofs.Making.{made_rw, quiet_rw}
 use Rattle.parking_lot_world.proofs.OwnMoves.{AfterAct, IsOwnAct, OwnMove, own_moves}
 use Rattle.parking_lot_world.proofs.Meeting.{in_range, meets}
 use Rattle.parking_lot_world.proofs.Calling.{call_of, slot, call-here, call-elsewhere, same-holds}

@@ -1,17 +1,16 @@
 -- A machine in which nobody has done anything fits together.
-use Rattle.std.proofs.Common.{◌≡◌, ℕ, zero, suc, ◌+◌, ◌*◌, ◌<◌, ◌≤◌, ◌^◌, ◌⊎◌, inl, inr, ◌==◌, cond, nat_lt, Bool, true, false, List, [], ◌∷◌, length, replicate, map, Option, None, Some, slice_get, refl, sym, ap, ◌∙◌, subst, arith, if◌then◌else◌}
+use Rattle.std.proofs.Common.{◌≡◌, ℕ, zero, suc, ◌+◌, ◌*◌, ◌<◌, ◌≤◌, ◌^◌, ◌==◌, nat_lt, Bool, true, false, List, [], ◌∷◌, length, replicate, map, Option, None, Some, slice_get, refl, sym, ap, ◌∙◌, subst, arith, if◌then◌else◌}
 use Rattle.std.proofs.lemmas.List.{length-replicate}
-use Rattle.std.proofs.lemmas.Option.{none-some, same_Some}
+use Rattle.std.proofs.lemmas.Option.{none-some}
 use Rattle.std.specs.Option.{option_and_then, option_map_or}
 use Rattle.parking_lot_core.specs.declared.place.Place.TheVariants.{Running}
-use Rattle.parking_lot_core.specs.Places.{place_at}
 use Rattle.parking_lot_core.specs.Sound as lot
-use Rattle.parking_lot_rules.specs.Roles.{Role, away}
+use Rattle.parking_lot_rules.specs.Roles.{away}
 use Rattle.parking_lot_rules.specs.Mutex as mutex
 use Rattle.parking_lot_rules.specs.Lists.{at_index}
 use Rattle.parking_lot_rules.specs.Lock.{IsSound}
 use Rattle.parking_lot_rules.specs.ReadLock.{word_of}
-use Rattle.parking_lot_rules.specs.Any.{AnyLock, AnySound, any_inside, mutex_inside, Rw, Mx}
+use Rattle.parking_lot_rules.specs.Any.{AnySound, any_inside, mutex_inside}
 use Rattle.parking_lot_rules.specs.Family.{Key, First, Second, SoundFamilyOf, rw_inside}
 use Rattle.parking_lot_rules.specs.Runs as rules
 use Rattle.parking_lot_rules.specs.World as many
@@ -23,10 +22,10 @@ use Rattle.parking_lot_world.specs.declared.seat.Call.{Call}
 use Rattle.parking_lot_world.specs.declared.seat.Hold.{Hold}
 use Rattle.parking_lot_world.specs.declared.seat.Hold.TheVariants as hold
 use Rattle.parking_lot_world.specs.Rows.{State, any_lock, call_at, family, hold_at, lock_at, mutex_at, mutex_role_at, mutex_role_in, mutex_word_of, one_bucket, rw_lock_at, rw_role_at, rw_role_in, word_at}
-use Rattle.parking_lot_world.specs.RowFits.{FitsTogether, RulesFit}
+use Rattle.parking_lot_world.specs.RowFits.{FitsTogether}
 use Rattle.parking_lot_world.specs.LotLaws.{IsNew}
 use Rattle.parking_lot_world.specs.Machines.{at_rest}
-use Rattle.parking_lot_world.proofs.Everybody.{all, same-all, get-all}
+use Rattle.parking_lot_world.proofs.Everybody.{all, same-all}
 use Rattle.parking_lot_world.proofs.LotStarts.{new_machines_fit}
 
 -- what a list of the same shows at an index

@@ -1,11 +1,10 @@
 -- One that was taken is woken, and goes on with its token.
-use Rattle.std.proofs.Common.{◌≡◌, ℕ, zero, suc, ◌==◌, ◌&&◌, cond, Bool, true, false, List, [], ◌∷◌, Option, Some, None, Result, Ok, slice_set, refl, sym, ap, ◌∙◌, subst, eq-eqb}
+use Rattle.std.proofs.Common.{◌≡◌, ℕ, zero, suc, ◌&&◌, cond, Bool, true, false, List, [], ◌∷◌, Some, None, Result, Ok, slice_set, refl, sym, ap, ◌∙◌, subst, eq-eqb}
 use Rattle.std.specs.Option.{option_map, option_map_or}
 use Rattle.parking_lot_core.specs.declared.fault.LotFault.{LotFault}
 use Rattle.parking_lot_core.specs.declared.parking.ParkResult.{ParkResult}
 use Rattle.parking_lot_core.specs.declared.parking.ParkResult.TheVariants.{Unparked}
 use Rattle.parking_lot_core.specs.declared.parking.UnparkToken.{UnparkToken}
-use Rattle.parking_lot_core.specs.declared.place.Place.{Place}
 use Rattle.parking_lot_core.specs.declared.place.Place.TheVariants.{Running, Taken}
 use Rattle.parking_lot_core.specs.declared.place.Sleep.{Sleep}
 use Rattle.parking_lot_core.specs.Machine.{Machine, Does, Unless, busy, changed_at, resume_fault, resume_fault_at}

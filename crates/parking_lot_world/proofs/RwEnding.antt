@@ -10,7 +10,6 @@ use Rattle.parking_lot_cores.specs.declared.rw_phase.RwPhase.TheVariants.{Lockin
 use Rattle.parking_lot_cores.specs.RwRules.{owned_at_last, owned_after}
 use Rattle.parking_lot_world.specs.Rows.{owned_of}
 use Rattle.parking_lot_world.specs.RowActs.{rest_hold, outcome_hold}
-use Rattle.parking_lot_world.specs.Stances.{rw_begun}
 use Rattle.parking_lot_world.specs.RwLaws.{BeginsAreReady, EndsAreSteps, AnswersAreLast}
 
 pub begins_are_ready : BeginsAreReady

@@ -1,25 +1,22 @@
 -- A scan has room to count whom it takes.
-use Rattle.std.proofs.Common.{◌≡◌, ◌≤◌, ◌<◌, ℕ, ◌+◌, ◌-◌, ◌*◌, ◌^◌, ◌⊎◌, inl, inr, Bool, true, false, Option, Some, None, length, count_by, slice_get, refl, sym, ap, ◌∙◌, subst, arith}
+use Rattle.std.proofs.Common.{◌≡◌, ◌≤◌, ◌<◌, ℕ, ◌^◌, ◌⊎◌, inl, inr, Some, length, count_by, slice_get, refl, sym, ap, ◌∙◌, subst, arith}
 use Rattle.std.proofs.lemmas.List.Sums.{count_by-le-length}
 use Rattle.parking_lot_core.specs.declared.parking.ParkToken.{ParkToken}
 use Rattle.parking_lot_core.specs.declared.place.Waiter.{Waiter}
-use Rattle.parking_lot_cores.specs.RwTable.{count_of}
 use Rattle.parking_lot_cores.specs.declared.rw_phase.RwPhase.{RwPhase}
 use Rattle.parking_lot_cores.specs.declared.rw_phase.RwPhase.TheVariants as r
-use Rattle.parking_lot_cores.specs.declared.rw_phase.Scanning.{Scanning}
 use Rattle.parking_lot_cores.specs.declared.rw_phase.Want.TheVariants as want
-use Rattle.parking_lot_world.specs.declared.calls.LockKind.{LockKind}
 use Rattle.parking_lot_world.specs.declared.calls.LockKind.TheVariants as kind
 use Rattle.parking_lot_world.specs.declared.seat.Call.{Call}
 use Rattle.parking_lot_world.specs.declared.seat.Core.{Core}
 use Rattle.parking_lot_world.specs.declared.seat.Core.TheVariants as core
 use Rattle.parking_lot_world.specs.Rows.{State, call_at, is_by, taken_by}
-use Rattle.parking_lot_world.specs.Stances.{Takes, Stance, Out, In, Asleep, stance, rw_stance, rw_taken, taken_count}
+use Rattle.parking_lot_world.specs.Stances.{Takes, In, Asleep, stance, rw_stance, rw_taken, taken_count}
 use Rattle.parking_lot_world.specs.StanceLaws.{Counts, rw_counts}
 use Rattle.parking_lot_world.specs.RowActs.{key_of}
 use Rattle.parking_lot_world.specs.RowFits.{FitsTogether, IsOfKind, IsPrepared, rw_keeps, is_away}
 use Rattle.parking_lot_world.proofs.Stancing.{small_key}
-use Rattle.parking_lot_world.proofs.Carrying.{IsUp, up_sleeps, taken_by-count}
+use Rattle.parking_lot_world.proofs.Carrying.{up_sleeps, taken_by-count}
 use Rattle.parking_lot_world.proofs.LotTakes.{Sleeper, sleeper}
 
 same_token : {j k : ℕ} {a b : ParkToken} → Asleep j a ≡ Asleep k b → b ≡ a

@@ -1,5 +1,5 @@
 -- Runs of a world's steps, one step longer.
-use Rattle.std.proofs.Common.{◌≡◌, ℕ, List, [], ◌∷◌, ◌++◌, Option, None, Some, refl, sym, subst}
+use Rattle.std.proofs.Common.{◌≡◌, List, [], ◌∷◌, ◌++◌, None, refl, subst}
 use Rattle.parking_lot_world.specs.declared.step.WorldStep.{WorldStep}
 use Rattle.parking_lot_world.specs.Worlds.{Shown, IsMade, Ran, refusal}
 

@@ -1,5 +1,5 @@
 -- No step of a machine changes how many threads there are: no step of the rules changes the threads of another lock.
-use Rattle.std.proofs.Common.{◌≡◌, ◌≢◌, ℕ, suc, List, length, Bool, true, false, Option, None, Some, slice_get, sym, ap, ◌∙◌, arith}
+use Rattle.std.proofs.Common.{◌≡◌, ◌≢◌, ℕ, suc, List, length, Bool, Option, None, Some, slice_get, sym, ap, ◌∙◌, arith}
 use Rattle.parking_lot_rules.specs.Any.{AnyLock, AnyStep, Rw, Mx}
 use Rattle.parking_lot_cores.specs.MutexRules as of_mutex
 use Rattle.parking_lot_cores.specs.RwRules as of_rw
@@ -11,7 +11,6 @@ use Rattle.parking_lot_world.specs.declared.calls.LockKind.{LockKind}
 use Rattle.parking_lot_world.specs.declared.calls.LockKind.TheVariants as kind
 use Rattle.parking_lot_world.specs.declared.seat.Core.{Core}
 use Rattle.parking_lot_world.specs.declared.seat.Core.TheVariants as core
-use Rattle.parking_lot_world.specs.declared.seat.Call.{Call}
 use Rattle.parking_lot_world.specs.Rows.{State, any_lock, lock_at, mutex_role_at, rw_role_at, taken_by}
 use Rattle.parking_lot_world.specs.RowSteps.{IsQuiet, IsMade, IsRwMove, IsMutexMove, IsMoveOf, IsLastOf}
 use Rattle.parking_lot_world.specs.Machines.{call_for, IsBegun, IsStepped}

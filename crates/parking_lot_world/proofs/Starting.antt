@@ -1,22 +1,20 @@
 -- A call begins: its thread goes from no call to the first phase.
-use Rattle.std.proofs.Common.{◌≡◌, ◌≢◌, ℕ, zero, suc, ◌+◌, ◌*◌, ◌<◌, ◌≤◌, ◌^◌, ◌⊎◌, inl, inr, ◌==◌, cond, Bool, true, false, List, [], ◌∷◌, length, Option, Some, None, slice_get, slice_set, refl, sym, ap, ◌∙◌, subst, arith}
+use Rattle.std.proofs.Common.{◌≡◌, ◌≢◌, ℕ, zero, suc, ◌+◌, ◌*◌, ◌<◌, ◌≤◌, inl, inr, ◌==◌, cond, Bool, true, false, List, [], ◌∷◌, length, Option, Some, None, slice_get, slice_set, refl, sym, ap, ◌∙◌, subst, arith}
 use Rattle.std.proofs.lemmas.Bool.{cases_eq, both_ways}
 use Rattle.std.proofs.lemmas.Option.{none-some, same_Some, slice_get-get_or}
 use Rattle.std.proofs.lemmas.List.{length-set}
 use Rattle.std.specs.Option.{option_and_then}
-use Rattle.std.specs.Prelude.{count_by, get_or}
+use Rattle.std.specs.Prelude.{get_or}
 use Rattle.parking_lot_core.specs.declared.place.Waiter.{Waiter}
 use Rattle.parking_lot_core.proofs.Numbers.{count_by-set, flag}
 use Rattle.parking_lot_rules.specs.Roles.{Role, Idle}
-use Rattle.parking_lot_rules.specs.Steps.{Step, Alone, List_changes, Take1, Take2, Store, Wake}
 use Rattle.parking_lot_rules.specs.Mutex as mutex
 use Rattle.parking_lot_rules.specs.Any.{AnyLock, AnyStep, any_rules, any_crossing}
-use Rattle.parking_lot_rules.specs.Family.{StepOf, IsFree, entered_after}
+use Rattle.parking_lot_rules.specs.Family.{IsFree, entered_after}
 use Rattle.parking_lot_cores.specs.declared.act.Act.{Act}
 use Rattle.parking_lot_cores.specs.declared.act.Act.TheVariants as act
 use Rattle.parking_lot_cores.specs.declared.act.SectionAct.TheVariants as section
 use Rattle.parking_lot_cores.specs.Acts.{word_after}
-use Rattle.parking_lot_cores.specs.declared.act.Seen.{Seen}
 use Rattle.parking_lot_cores.specs.declared.act.Seen.TheVariants as seen
 use Rattle.parking_lot_cores.specs.declared.rw_core.RwCore.{RwCore}
 use Rattle.parking_lot_cores.specs.declared.mutex_core.MutexCore.{MutexCore}
@@ -26,10 +24,9 @@ use Rattle.parking_lot_world.specs.declared.seat.Core.{Core}
 use Rattle.parking_lot_world.specs.declared.seat.Core.TheVariants as core
 use Rattle.parking_lot_world.specs.declared.seat.Call.{Call}
 use Rattle.parking_lot_rules.specs.Roles.{Owned}
-use Rattle.parking_lot_world.specs.declared.seat.Hold.{Hold}
 use Rattle.parking_lot_world.specs.declared.seat.Spot.{Spot}
 use Rattle.parking_lot_world.specs.declared.seat.Spot.TheVariants as spot
-use Rattle.parking_lot_world.specs.Rows.{State, word_at, call_at, hold_at, taken_by, owned_of, owns_mutex, rw_spot, first_of_all, mutex_spot, mutex_role_in, mutex_role_at, mutex_core_role, mutex_at, rw_role_in, rw_role_at, rw_core_role, rw_lock_at, lock_at, inside, family, one_bucket}
+use Rattle.parking_lot_world.specs.Rows.{State, word_at, call_at, hold_at, taken_by, rw_spot, first_of_all, mutex_spot, mutex_role_in, mutex_role_at, mutex_core_role, mutex_at, rw_role_in, rw_role_at, rw_core_role, rw_lock_at, inside, one_bucket}
 use Rattle.parking_lot_world.specs.Stances.{rw_begun, mutex_begun, core_act, core_next}
 use Rattle.parking_lot_world.specs.RowActs.{with_call, hears, begun}
 use Rattle.parking_lot_world.specs.RowFits.{FitsTogether, LotFits, WakesFit, RulesFit, IsOfKind, IsPrepared, KnowsList, rw_prepared, rw_knows, mutex_knows, is_off, is_away}

@@ -1,16 +1,14 @@
 -- Who is off its list is to be woken by who took it, and those are as many as are to be woken.
-use Rattle.std.proofs.Common.{◌≡◌, ◌≢◌, ℕ, ◌+◌, ◌⊎◌, inl, inr, Bool, true, false, List, length, Option, Some, None, slice_get, slice_set, refl, sym, ap, ◌∙◌, subst, arith}
+use Rattle.std.proofs.Common.{◌≡◌, ℕ, List, length, Some, slice_get, sym, ap, ◌∙◌, subst, arith}
 use Rattle.std.specs.Prelude.{count_by}
 use Rattle.parking_lot_core.proofs.Numbers.{count_by-set}
 use Rattle.parking_lot_cores.specs.declared.act.Seen.{Seen}
-use Rattle.parking_lot_world.specs.declared.seat.Spot.{Spot}
 use Rattle.parking_lot_world.specs.declared.seat.Spot.TheVariants as spot
-use Rattle.parking_lot_world.specs.declared.seat.Told.{Told}
 use Rattle.parking_lot_world.specs.declared.seat.Core.{Core}
 use Rattle.parking_lot_world.specs.declared.seat.Call.{Call}
 use Rattle.parking_lot_world.specs.declared.seat.Wakeup.{Wakeup}
-use Rattle.parking_lot_world.specs.Rows.{State, call_at}
-use Rattle.parking_lot_world.specs.RowFits.{WakesFit, is_away, is_off}
+use Rattle.parking_lot_world.specs.Rows.{State}
+use Rattle.parking_lot_world.specs.RowFits.{WakesFit, is_away}
 use Rattle.parking_lot_world.proofs.Calling.{call_of, slot, calls-change}
 use Rattle.parking_lot_world.proofs.Owning.{OwnAct, call_after}
 

@@ -1,7 +1,5 @@
 -- What each act of the machine keeps, and which step of the rules it is.
-use Rattle.std.specs.Prelude.{◌≡◌, ℕ, ◌+◌, ◌*◌, ◌<◌, ◌≤◌, false, length, None, Some, slice_get}
-use Rattle.parking_lot_core.specs.declared.parking.ParkToken.{ParkToken}
-use Rattle.parking_lot_core.specs.declared.place.Waiter.{Waiter}
+use Rattle.std.specs.Prelude.{◌≡◌, ℕ, ◌<◌, ◌≤◌, false, length, None, Some, slice_get}
 use Rattle.parking_lot_core.specs.Sound as lot
 use Rattle.parking_lot_cores.specs.declared.act.Act.TheVariants as act
 use Rattle.parking_lot_cores.specs.declared.act.SectionAct.TheVariants as section
@@ -15,7 +13,7 @@ use Rattle.parking_lot_world.specs.declared.seat.Spot.TheVariants as spot
 use Rattle.parking_lot_world.specs.declared.seat.Core.{Core}
 use Rattle.parking_lot_world.specs.declared.seat.Core.TheVariants as core
 use Rattle.parking_lot_world.specs.declared.seat.Call.{Call}
-use Rattle.parking_lot_world.specs.Rows.{State, word_at, call_at, hold_at, owned_of, owns_mutex}
+use Rattle.parking_lot_world.specs.Rows.{State, call_at, hold_at, owned_of, owns_mutex}
 use Rattle.parking_lot_world.specs.Stances.{core_act, rw_begun, mutex_begun}
 use Rattle.parking_lot_world.specs.RowActs.{loaded, exchanged, added, spun, entered, checked, left, begun, answered}
 use Rattle.parking_lot_world.specs.RowFits.{FitsTogether, IsOfKind}

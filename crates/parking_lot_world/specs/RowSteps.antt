@@ -1,7 +1,7 @@
 -- Which steps of the rules the acts of the machine are.
-use Rattle.std.specs.Prelude.{◌≡◌, ℕ, Bool, true, false, List, [], ◌∷◌, Some}
-use Rattle.parking_lot_rules.specs.Roles.{Mode, Owned, Asleep}
-use Rattle.parking_lot_rules.specs.Steps.{Step, Alone, List_changes, Take1, Take2, Store, Wake, Scan, Waking}
+use Rattle.std.specs.Prelude.{◌≡◌, ℕ, Bool, true, false, List, [], ◌∷◌}
+use Rattle.parking_lot_rules.specs.Roles.{Owned, Asleep}
+use Rattle.parking_lot_rules.specs.Steps.{Alone, List_changes, Take1, Take2, Store, Wake, Scan, Waking}
 use Rattle.parking_lot_rules.specs.Mutex as mutex
 use Rattle.parking_lot_rules.specs.Any.{AnyStep, RwStep, MxStep, any_rules}
 use Rattle.parking_lot_rules.specs.Family.{StepOf}

@@ -1,4 +1,3 @@
-use Rattle.parking_lot_world.specs.ActLaws.{ActsAreSteps}
 use Rattle.parking_lot_world.proofs.Acting.{laws}
 use Rattle.parking_lot_world.proofs.laws.acts_are_steps.Goals as goal
 

@@ -1,4 +1,4 @@
-use Rattle.std.proofs.Common.{◌≡◌, ap, ◌∙◌}
+use Rattle.std.proofs.Common.{ap, ◌∙◌}
 use Rattle.std.specs.Option.{option_flatten}
 use Rattle.parking_lot_core.specs.Machine.{machine}
 use Rattle.parking_lot_world.proofs.FirstTaken.{front_taken}

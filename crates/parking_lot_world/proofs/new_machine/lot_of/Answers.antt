@@ -1,7 +1,7 @@
-use Rattle.std.proofs.Common.{◌≡◌, ◌+◌, List, replicate, Option, Some, sym, ap, ◌∙◌, refl}
+use Rattle.std.proofs.Common.{List, replicate, Option, Some, ap, ◌∙◌, refl}
 use Rattle.parking_lot_core.specs.declared.place.Place.{Place}
 use Rattle.parking_lot_core.specs.declared.place.Place.TheVariants.{Running}
-use Rattle.parking_lot_core.specs.Machine.{Machine, machine, registered}
+use Rattle.parking_lot_core.specs.Machine.{Machine, registered}
 use Rattle.parking_lot_core.specs.Runs.{fresh}
 use Rattle.parking_lot_world.proofs.LotStarts.{registered_threads_run}
 use Rattle.parking_lot_world.proofs.new_machine.lot_of.Goals as goal

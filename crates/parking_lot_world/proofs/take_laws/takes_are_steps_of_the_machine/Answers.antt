@@ -1,4 +1,3 @@
-use Rattle.parking_lot_world.specs.TakeLaws.{TakesAreSteps}
 use Rattle.parking_lot_world.proofs.TakeLaws.{laws}
 use Rattle.parking_lot_world.proofs.take_laws.takes_are_steps_of_the_machine.Goals as goal
 

@@ -1,4 +1,3 @@
-use Rattle.parking_lot_world.specs.TellLaws.{TellsAreSteps}
 use Rattle.parking_lot_world.proofs.TellActs.{laws}
 use Rattle.parking_lot_world.proofs.tell_laws.tells_are_steps.Goals as goal
 

@@ -1,4 +1,4 @@
-use Rattle.std.proofs.Common.{◌≡◌, ◌≤◌, ℕ, false, Some, sym, ap, ◌∙◌, subst, arith}
+use Rattle.std.proofs.Common.{ℕ, false, Some, sym, ap, ◌∙◌, subst, arith}
 use Rattle.std.proofs.lemmas.List.{length-set}
 use Rattle.parking_lot_core.specs.declared.place.Phase.TheVariants as phase
 use Rattle.parking_lot_core.specs.Machine.{Machine, joined, in_phase, machine}

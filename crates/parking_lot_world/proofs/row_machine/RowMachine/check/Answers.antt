@@ -1,5 +1,5 @@
 use Rattle.parking_lot_world.proofs.Calling.{room_set}
-use Rattle.std.proofs.Common.{◌≡◌, ◌<◌, Bool, cond, sym, ap, ◌∙◌, subst, arith}
+use Rattle.std.proofs.Common.{Bool, cond, sym, ap, ◌∙◌, subst, arith}
 use Rattle.parking_lot_core.specs.declared.place.Phase.TheVariants as phase
 use Rattle.parking_lot_core.specs.Machine.{Machine, in_phase, machine}
 use Rattle.parking_lot_core.specs.Sound.{Sound}

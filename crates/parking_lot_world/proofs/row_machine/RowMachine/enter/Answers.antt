@@ -1,5 +1,5 @@
 use Rattle.parking_lot_world.proofs.Calling.{room_set}
-use Rattle.std.proofs.Common.{◌≡◌, Some, sym, ap, ◌∙◌, subst}
+use Rattle.std.proofs.Common.{Some, sym, ap, ◌∙◌, subst}
 use Rattle.parking_lot_core.specs.Machine.{Machine, opened, machine}
 use Rattle.parking_lot_core.specs.Sound.{Sound}
 use Rattle.parking_lot_world.specs.declared.seat.Call.{Call}

@@ -1,4 +1,4 @@
-use Rattle.std.proofs.Common.{◌≡◌, ◌||◌, sym, ap, ◌∙◌}
+use Rattle.std.proofs.Common.{◌||◌, sym, ap, ◌∙◌}
 use Rattle.parking_lot_world.specs.CallViews.{call_in_debt}
 use Rattle.parking_lot_world.specs.Rows.{state, taken_by}
 use Rattle.parking_lot_world.proofs.Viewing.{owing}

@@ -1,5 +1,5 @@
 use Rattle.parking_lot_world.proofs.Calling.{room_settled}
-use Rattle.std.proofs.Common.{◌≡◌, ◌<◌, ℕ, false, List, map, bit_and, slice_set, Option, Some, sym, ap, ◌∙◌, subst, arith}
+use Rattle.std.proofs.Common.{ℕ, false, List, map, bit_and, slice_set, Option, Some, sym, ap, ◌∙◌, subst, arith}
 use Rattle.std.specs.Option.{option_map}
 use Rattle.parking_lot_core.specs.Machine.{Machine, stored, machine}
 use Rattle.parking_lot_core.specs.Sound.{Sound}

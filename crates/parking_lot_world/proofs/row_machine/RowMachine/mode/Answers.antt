@@ -1,4 +1,4 @@
-use Rattle.std.proofs.Common.{◌≡◌, ◌≢◌, None, Some, slice_get, sym, ap, ◌∙◌, subst}
+use Rattle.std.proofs.Common.{slice_get, sym, ap, ◌∙◌, subst}
 use Rattle.parking_lot_world.specs.Rows.{call_at, lock_at, state, taken_by}
 use Rattle.parking_lot_world.specs.Worlds.{hold_mode, mode_in}
 use Rattle.parking_lot_world.proofs.Viewing.{IsApart, apart_mode, call_owns}

@@ -1,6 +1,5 @@
-use Rattle.std.proofs.Common.{◌≡◌, ◌≤◌, ◌^◌, length, sym, ap, ◌∙◌, subst, arith, rules}
+use Rattle.std.proofs.Common.{◌≡◌, ◌≤◌, ◌^◌, length, sym, ap, subst, arith, rules}
 use Rattle.std.specs.Prelude.{vec_capacity}
-use Rattle.parking_lot_core.specs.Machine.{machine}
 use Rattle.parking_lot_world.specs.Rows.{State, state}
 use Rattle.parking_lot_world.specs.RowFits.{FitsTogether}
 use Rattle.parking_lot_world.specs.Machines.{at_rest}

@@ -1,21 +1,14 @@
-use Rattle.std.proofs.Common.{◌≡◌, ◌<◌, ◌≤◌, ℕ, List, Option, Some, None, Ok, false, length, sym, ap, ◌∙◌, subst, inl, inr, arith}
+use Rattle.std.proofs.Common.{ℕ, Some, None, Ok, false, length, ap, subst, arith}
 use Rattle.std.proofs.lemmas.List.{length-set}
-use Rattle.std.specs.Option.{option_map_or}
-use Rattle.parking_lot_core.specs.Machine.{Machine, machine}
-use Rattle.parking_lot_core.specs.Sound.{Sound}
+use Rattle.parking_lot_core.specs.Machine.{machine}
 use Rattle.parking_lot_cores.specs.declared.act.Act.TheVariants as act
 use Rattle.parking_lot_cores.specs.declared.act.SectionAct.TheVariants as section
 use Rattle.parking_lot_cores.specs.declared.act.Seen.TheVariants as seen
 use Rattle.parking_lot_world.specs.FrontTakings.{FrontTaken}
-use Rattle.parking_lot_world.specs.Machines.{owes_to, takes_off_by}
-use Rattle.parking_lot_world.specs.Rows.{Rows, State, state}
-use Rattle.parking_lot_world.specs.RowActs.{key_of}
-use Rattle.parking_lot_world.specs.RowFits.{FitsTogether}
-use Rattle.parking_lot_world.specs.Stances.{In, Takes, stance}
+use Rattle.parking_lot_world.specs.Rows.{Rows, state}
 use Rattle.parking_lot_world.proofs.Holding.{fits, held, low, word_low}
 use Rattle.parking_lot_world.proofs.LotCalls.{lot_never_refuses}
 use Rattle.parking_lot_world.proofs.Stancing.{leads_by}
-use Rattle.parking_lot_world.proofs.TakeLaws.{laws}
 use Rattle.parking_lot_world.proofs.Takings.{its, passed_none, is_taken, has_room, taken_in, takes_fit, same_slots}
 use Rattle.parking_lot_world.proofs.row_machine.RowMachine.take_first.Goals as goal
 

@@ -1,8 +1,8 @@
-use Rattle.std.proofs.Common.{◌≡◌, ◌<◌, ◌++◌, ◌∷◌, [], length, sym, ap, ◌∙◌, arith}
+use Rattle.std.proofs.Common.{◌<◌, ◌++◌, ◌∷◌, [], length, sym, ap, ◌∙◌, arith}
 use Rattle.std.specs.Prelude.{vec_capacity}
 use Rattle.std.proofs.lemmas.List.{length_push}
 use Rattle.parking_lot_world.specs.Rows.{state}
-use Rattle.parking_lot_world.specs.Worlds.{is_indebted, those_below}
+use Rattle.parking_lot_world.specs.Worlds.{is_indebted}
 use Rattle.parking_lot_world.proofs.Listing.{those_more, those_same}
 use Rattle.parking_lot_world.proofs.world.World.debts.Goals.{then-is_in_debt, else-is_in_debt}
 use Rattle.parking_lot_world.proofs.world.World.debts.Goals as goal

@@ -1,4 +1,4 @@
-use Rattle.std.proofs.Common.{◌≡◌, None, Some, length, arith}
+use Rattle.std.proofs.Common.{None, Some, arith}
 use Rattle.std.proofs.lemmas.List.{length-set}
 use Rattle.parking_lot_world.specs.Rows.{state}
 use Rattle.parking_lot_world.proofs.Meeting.{in_range}
