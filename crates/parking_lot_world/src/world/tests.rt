@@ -1,5 +1,7 @@
 //! Schedules worked by hand, with what is seen on the way.
 
+mod memory;
+
 use crate::calls::{LockAnswer, LockCall, LockKind, OwnMode};
 use crate::fault::{WorldFault, WorldRefusal};
 use crate::step::WorldStep;
