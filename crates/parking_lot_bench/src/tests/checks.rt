@@ -76,7 +76,7 @@ where
         rwlock_checks::excludes::<R, T>(rt, source, one, other).is_ok(),
         rwlock_arc_checks::owns_an_arc::<R, _>(alloc, source, one).is_ok(),
         rwlock_arc_checks::unlocks_for_a_while::<R, _>(alloc, source, one).is_ok(),
-        rwlock_arc_checks::downgrades::<R, _>(alloc, source, one).is_ok(),
+        rwlock_arc_checks::downgrades::<R, _>(alloc, source).is_ok(),
     ]
 }
 
