@@ -68,3 +68,11 @@ pub mod Weighing
 pub mod Woken
 pub mod Takings
 mod MutexStoring
+mod MutexPaying
+mod RwCosts
+mod RwFalling
+mod RwPaying
+mod Summing
+mod Paying
+mod PayActs
+mod PayEnds

@@ -73,8 +73,8 @@ module _ (s u : State) where
   ends (core.Mutex c) n j t h = mutex_moves _ _ j t h
 
   pub begun_stays : (t lock : ℕ) (call : LockCall) → IsBegun t lock call s u → length u.calls ≡ length s.calls
-  begun_stays t lock call h = goes (call_for s t lock call).core (call_for s t lock call).others (taken_by s.wakes t) seen.Start lock t h.goes
+  begun_stays t lock call h = goes (call_for s t lock call).core (call_for s t lock call).others (taken_by s.wakes t) seen.Start lock t h.acts.goes
 
   pub stepped_stays : (t : ℕ) (fair : Bool) (answer : Option CoreAnswer) → IsStepped t fair answer s u → length u.calls ≡ length s.calls
-  stepped_stays t fair None (c, here, (told, h), said) = goes c.core c.others (taken_by s.wakes t) told c.lock t h.goes
-  stepped_stays t fair (Some answer) (c, here, last, h) = ends c.core c.others c.lock t h.goes
+  stepped_stays t fair None (c, here, (told, h), said, paid) = goes c.core c.others (taken_by s.wakes t) told c.lock t h.goes
+  stepped_stays t fair (Some answer) (c, here, last, h, paid) = ends c.core c.others c.lock t h.goes

@@ -1,5 +1,7 @@
 pub mod Rows
 pub mod Stances
+pub mod Ranks
+pub mod RankLaws
 pub mod RowActs
 pub mod RowFits
 pub mod RowSteps

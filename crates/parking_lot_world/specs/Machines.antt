@@ -26,6 +26,7 @@ use Rattle.parking_lot_world.specs.Stances.{In, Takes, stance, core_act}
 use Rattle.parking_lot_world.specs.RowActs.{key_of, told_all, took, took_nobody, woke, off_list}
 use Rattle.parking_lot_world.specs.TellLaws.{IsDue}
 use Rattle.parking_lot_world.specs.ActLaws.{Acts, Ends}
+use Rattle.parking_lot_world.specs.Ranks.{Costs, Pays}
 
 -- whether an act can be made: one that sleeps makes none, and a section is entered only where none is taken
 abbrev pub is_possible : Bool → Act → Bool
@@ -55,9 +56,10 @@ may_begin s t lock call =
 abbrev pub call_for : State → ℕ → ℕ → LockCall → Call
 call_for s t lock call = record { lock = lock; others = holds_beside (hold_at s t lock); core = core_of call; spot = spot.Listed }
 
--- It has begun: that is the step of the rules that its core's table names.
-abbrev pub IsBegun : ℕ → ℕ → LockCall → State → State → Type 0
-IsBegun t lock call s u = Acts t (call_for s t lock call) seen.Start s u
+-- It has begun: that is the step of the rules that its core's table names, and adds a stated number of steps at most.
+pub record IsBegun (t lock : ℕ) (call : LockCall) (s u : State) : Type 0 where
+  pub acts : Acts t (call_for s t lock call) seen.Start s u
+  pub costs : Costs t call s u
 
 -- a release that stores goes by what the schedule says
 abbrev pub IsAsSaid : Act → ℕ → Bool → Call → State → State → Type 0
@@ -65,10 +67,10 @@ IsAsSaid (act.Section (section.Store plain handing)) t fair c s u = u ≡ told_a
 IsAsSaid other t fair c s u = Unit {0}
 
 -- A thread in a call has made a step: its core is told what its act gave, and that is the step of the rules that the core's table names; or its
--- call is answered.
+-- call is answered. Either is paid for by the steps that were left.
 abbrev pub IsStepped : ℕ → Bool → Option CoreAnswer → State → State → Type 0
-IsStepped t fair None s u = (c : Call) × (call_at s t ≡ Some c) × ((told : Seen) × Acts t c told s u) × IsAsSaid (core_act c.core) t fair c s u
-IsStepped t fair (Some answer) s u = (c : Call) × (call_at s t ≡ Some c) × (core_act c.core ≡ act.Done answer) × Ends t c s u
+IsStepped t fair None s u = (c : Call) × (call_at s t ≡ Some c) × ((told : Seen) × Acts t c told s u) × IsAsSaid (core_act c.core) t fair c s u × Pays t s u
+IsStepped t fair (Some answer) s u = (c : Call) × (call_at s t ≡ Some c) × (core_act c.core ≡ act.Done answer) × Ends t c s u × Pays t s u
 
 -- a machine where nobody has done anything
 abbrev pub at_rest : ℕ → List LockKind → State

@@ -11,6 +11,7 @@ mod lot_laws;
 mod machine_views;
 mod mutex_laws;
 mod new_machine;
+mod rank_laws;
 mod row_machine;
 mod rw_laws;
 mod seat;
@@ -37,6 +38,7 @@ pub use parking_lot_cores::{
     Act, CoreAnswer, HAND_OVER, LockTable, MutexCore, Row, RwCore, SectionAct, Seen, TRY_AGAIN,
     WordChange, wake_sum,
 };
+pub use rank_laws::{mutex_steps_fall, rw_steps_fall};
 pub use row_machine::RowMachine;
 pub use rw_laws::{
     acts_cross, answers_are_last, answers_are_moves, begins_are_ready, calls_keep, ends_are_steps,

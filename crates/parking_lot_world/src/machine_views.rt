@@ -1,6 +1,8 @@
 //! What is seen of a machine of locks: who owns a lock, who waits, and who is in debt.
-ghost use Rattle.std.specs.Prelude.{◌≡◌, ◌<◌, length, IfOk, IfErr};
+ghost use Rattle.std.specs.Prelude.{◌≡◌, ◌<◌, false, length, IfOk, IfErr};
 ghost use Rattle.parking_lot_core.specs.declared.fault.SizeFault.TheVariants.{NoMemory};
+ghost use Rattle.parking_lot_world.specs.Machines.{can_move};
+ghost use Rattle.parking_lot_world.specs.Ranks.{AnyMayBeStepped};
 ghost use Rattle.parking_lot_world.specs.RowFits.{FitsTogether};
 ghost use Rattle.parking_lot_world.specs.Rows.{lock_at, queue_at, state};
 ghost use Rattle.parking_lot_world.specs.Worlds.{hold_mode, is_indebted, mode_in};
@@ -33,6 +35,14 @@ impl<A: Allocator> RowMachine<A> {
         ensures { FitsTogether (state self.now) }
     {
         let _ = &self.kinds;
+    }
+
+    /// That another thread may be stepped from here on where this one can't move, for who goes on so: no more steps are left than before. It
+    /// does nothing.
+    pub fn others_go_on(&self, thread: usize)
+        ensures { can_move (state self.now) thread ≡ false → AnyMayBeStepped (state self.now) thread }
+    {
+        self.known();
     }
 
     /// How a thread owns a lock now, also within a call there.

@@ -110,7 +110,8 @@ impl<A: Allocator> RowMachine<A> {
             && self.hold(thread, lock).allows(call)
     }
 
-    /// A thread begins a call at a lock. It is the call's first step.
+    /// A thread begins a call at a lock. It is the call's first step, and adds to the steps that are left a number that depends on the call and
+    /// on how many threads there are.
     pub fn begin(&mut self, thread: usize, lock: usize, call: LockCall)
         requires may { may_begin (state self.old) thread lock call ≡ true }
         ensures { IsBegun thread lock call (state self.old) (state self.new) }
@@ -130,6 +131,9 @@ impl<A: Allocator> RowMachine<A> {
 
     /// A thread makes one step. `fair` says whether it hands a lock over, where it stores in the section of an exclusive release. Answers how
     /// the call ended, where it did.
+    ///
+    /// Each step lowers the steps that are left of all threads' calls, where the same thread is stepped on. So no thread can be stepped for
+    /// ever: it sleeps, is shut out of a section or is answered.
     pub fn step(&mut self, thread: usize, fair: bool) -> Option<CoreAnswer>
         requires can { can_move (state self.old) thread ≡ true }
         ensures { IsStepped thread fair result (state self.old) (state self.new) }

@@ -1,5 +1,4 @@
-use Rattle.std.proofs.Common.{◌≡◌, ℕ, sym, ap, ◌∙◌, subst}
-use Rattle.parking_lot_cores.specs.declared.act.Seen.TheVariants as seen
+use Rattle.std.proofs.Common.{◌≡◌, ℕ, refl, sym, ap, ◌∙◌, subst}
 use Rattle.parking_lot_world.specs.Beginnings.{holds_beside}
 use Rattle.parking_lot_world.specs.declared.seat.Core.{Core}
 use Rattle.parking_lot_world.specs.declared.seat.Call.{Call}
@@ -7,9 +6,10 @@ use Rattle.parking_lot_world.specs.declared.seat.Spot.TheVariants as spot
 use Rattle.parking_lot_world.specs.Rows.{Rows, State, state}
 use Rattle.parking_lot_world.specs.RowActs.{begun}
 use Rattle.parking_lot_world.specs.RowFits.{FitsTogether}
-use Rattle.parking_lot_world.specs.ActLaws.{MayBegin, Acts}
-use Rattle.parking_lot_world.specs.Machines.{call_for}
+use Rattle.parking_lot_world.specs.ActLaws.{MayBegin}
+use Rattle.parking_lot_world.specs.Machines.{call_for, IsBegun}
 use Rattle.parking_lot_world.proofs.Acting.{laws}
+use Rattle.parking_lot_world.proofs.PayEnds.{begins_cost}
 use Rattle.parking_lot_world.proofs.Requesting.{may_begins}
 use Rattle.parking_lot_world.proofs.row_machine.RowMachine.begin.Goals as goal
 
@@ -31,6 +31,8 @@ pub returns : goal.returns
 returns g c =
     let s : State = state c.args.self.now in
     let fits : FitsTogether s = subst (λ (m : Rows). FitsTogether (state m)) c.self.view_is c.self.invariant.0 in
-    subst (λ (u : State). Acts c.args.thread (call_for s c.args.thread c.args.lock c.args.call) seen.Start s u)
+    let asked = call_for s c.args.thread c.args.lock c.args.call in
+    let may = may_begins s c.args.thread c.args.lock c.args.call fits.rules c.requires.may in
+    subst (IsBegun c.args.thread c.args.lock c.args.call s)
     (sym (c.begin_call.ensures ∙ ap (begun s c.args.thread) (same_call c.args.lock _ _ _ _ (c.beside-others.ensures ∙ ap holds_beside c.hold.ensures) c.core.ensures)))
-    (laws.begin s c.args.thread (call_for s c.args.thread c.args.lock c.args.call) fits (may_begins s c.args.thread c.args.lock c.args.call fits.rules c.requires.may))
+    (record { acts = laws.begin s c.args.thread asked fits may; costs = begins_cost s c.args.thread asked c.args.call fits may refl })
