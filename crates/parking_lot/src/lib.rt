@@ -8,6 +8,8 @@
 //! a lot never have the same. Nothing is promised of a word, nor that a call comes back: what keeps two writers from one value
 //! is the std lock in which a generic lock keeps it.
 //!
+//! What the same cores do under every schedule can be tried in a [`World`], whose steps are told one by one.
+//!
 //! Calls that may sleep take the data of a participant of the table's lot. A participant of another lot can't sleep; it yields and
 //! asks again. A release may wait for the lot's short sections, in which sleeping threads are woken.
 //!
@@ -15,8 +17,8 @@
 //! let lot = ParkingLot::new(rt, alloc, 16, 7)?;
 //! let table = LockTable::new(alloc, &lot, 2)?;
 //! let mut me = lot.thread_data()?;
-//! let mutex = Mutex::new(&table, 5)?;
-//! *mutex.lock(&mut me) = 6;
+//! let lock = RwLock::new(&table, 5)?;
+//! *lock.write(&mut me) = 6;
 //! ```
 #![tactic(auto)]
 
@@ -44,6 +46,9 @@ pub use names::{
 };
 pub use parking_lot_cores::{
     Act, CoreAnswer, LockTable, MutexCore, Row, RwCore, SectionAct, Seen, WordChange, wake_sum,
+};
+pub use parking_lot_world::{
+    LockAnswer, LockCall, LockKind, OwnMode, World, WorldFault, WorldRefusal, WorldStep,
 };
 pub use raw_mutex::RawMutex;
 pub use raw_rwlock::RawRwLock;
