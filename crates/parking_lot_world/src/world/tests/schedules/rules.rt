@@ -51,7 +51,7 @@ fn broken_by_lock(shown: &Shown) -> Option<&'static str> {
             "only a pending writer waits in the second list",
         ),
         (
-            shown.waiters_are_owed(),
+            shown.has_debts() || !shown.may_go_on(),
             "somebody is in debt where one that waits might go on",
         ),
     ])
@@ -68,15 +68,19 @@ fn broken_by_thread(at: Progress, thread: usize, shown: &Shown) -> Option<&'stat
                 "between calls nobody waits or is in debt",
             ),
         ]),
-        Stage::Within(call, _) => first_broken(&[
+        Stage::Within(open) => first_broken(&[
             (
-                may_own(call, mode),
+                may_own(open.call, mode),
                 "in a call a thread owns what it had or asks for",
             ),
             (answer.is_none(), "a call that goes on isn't answered"),
             (
-                may_sleep(call) || !shown.waits(thread),
+                may_sleep(open.call) || !shown.waits(thread),
                 "only a call that may sleep waits",
+            ),
+            (
+                shown.has_debts() || shown.waits(thread) || !open.is_due(mode),
+                "somebody is in debt where one was taken out of a list and isn't an owner yet",
             ),
         ]),
     }

@@ -61,9 +61,18 @@ impl Shown {
         None
     }
 
-    /// Whether a thread stands in a list.
+    /// Whether a thread stands in the first list.
+    pub fn waits_first(&self, thread: usize) -> bool {
+        self.first.contains(&thread)
+    }
+
+    pub fn waits_second(&self, thread: usize) -> bool {
+        self.second.contains(&thread)
+    }
+
+    /// Whether it stands in a list.
     pub fn waits(&self, thread: usize) -> bool {
-        self.first.contains(&thread) || self.second.contains(&thread)
+        self.waits_first(thread) || self.waits_second(thread)
     }
 
     pub fn has_waiters(&self) -> bool {
@@ -72,6 +81,10 @@ impl Shown {
 
     pub fn is_in_debt(&self, thread: usize) -> bool {
         self.debts.contains(&thread)
+    }
+
+    pub fn has_debts(&self) -> bool {
+        !self.debts.is_empty()
     }
 
     /// How many own the lock so.
@@ -143,11 +156,10 @@ impl Shown {
             .all(|thread| self.mode(*thread) == Some(OwnMode::Pending))
     }
 
-    /// Where somebody waits, and what it waits for is there, somebody is in debt.
-    pub fn waiters_are_owed(&self) -> bool {
-        let first_may_go = !self.first.is_empty() && self.excluding() == 0;
-        let second_may_go = !self.second.is_empty() && self.count(OwnMode::Shared) == 0;
-        !(first_may_go || second_may_go) || !self.debts.is_empty()
+    /// Whether one that waits might go on: nobody excludes others, or for a pending writer nobody reads.
+    pub fn may_go_on(&self) -> bool {
+        !self.first.is_empty() && self.excluding() == 0
+            || !self.second.is_empty() && self.count(OwnMode::Shared) == 0
     }
 
     /// Nobody is in debt or waits in the first list, and the word has no bit beside what its owners and a pending writer that waits make.

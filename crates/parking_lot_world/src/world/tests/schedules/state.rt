@@ -10,13 +10,50 @@ use parking_lot_core::{Place, ThreadStatus};
 use parking_lot_cores::{MutexPhase, RwPhase};
 use std::test::Fail;
 
+/// A call that isn't answered, and what was seen since it began.
+#[derive(Clone, Copy, PartialEq, Eq, Debug)]
+pub struct Open {
+    pub call: LockCall,
+    /// Whether the other has owned the lock.
+    pub met: bool,
+    /// Whether its thread has stood in the first list, and in the second.
+    pub first: bool,
+    pub second: bool,
+}
+
+impl Open {
+    fn of(call: LockCall) -> Open {
+        Open {
+            call,
+            met: false,
+            first: false,
+            second: false,
+        }
+    }
+
+    /// Once that is shown of its thread.
+    fn seen(&self, thread: usize, shown: &Shown) -> Open {
+        Open {
+            call: self.call,
+            met: self.met || shown.mode(other(thread)).is_some(),
+            first: self.first || shown.waits_first(thread),
+            second: self.second || shown.waits_second(thread),
+        }
+    }
+
+    /// Whether its thread, which owns the lock so, was taken out of a list for nothing so far: it isn't what it waited there to be.
+    pub fn is_due(&self, mode: Option<OwnMode>) -> bool {
+        self.first && mode.is_none() || self.second && mode == Some(OwnMode::Pending)
+    }
+}
+
 /// Where a thread is in its program.
 #[derive(Clone, Copy, PartialEq, Eq, Debug)]
 pub enum Stage {
     /// In no call. By its calls so far it owns the lock like this.
     Between(Option<OwnMode>),
-    /// In a call, and whether the other has owned the lock since it began.
-    Within(LockCall, bool),
+    /// In a call.
+    Within(Open),
 }
 
 /// How far a thread is in its program.
@@ -53,7 +90,7 @@ impl Progress {
     pub fn may_make(&self, step: WorldStep) -> bool {
         match step {
             WorldStep::Begin(_, _, _) => matches!(self.stage, Stage::Between(_)),
-            WorldStep::Go(_, _) => matches!(self.stage, Stage::Within(_, _)),
+            WorldStep::Go(_, _) => matches!(self.stage, Stage::Within(_)),
         }
     }
 
@@ -62,7 +99,7 @@ impl Progress {
         let [next, second, third] = self.rest;
         match next {
             Some(call) => Progress {
-                stage: Stage::Within(call, false),
+                stage: Stage::Within(Open::of(call)),
                 rest: [second, third, None],
                 refused: false,
             },
@@ -90,17 +127,17 @@ impl Progress {
     fn after(&self, answer: Option<LockAnswer>) -> Progress {
         match (self.stage, answer) {
             (Stage::Between(_), _) => self.begun(),
-            (Stage::Within(_, _), None) => *self,
-            (Stage::Within(call, _), Some(answer)) => self.answered(call, answer),
+            (Stage::Within(_), None) => *self,
+            (Stage::Within(open), Some(answer)) => self.answered(open.call, answer),
         }
     }
 
-    /// Once it is seen whether the other owns the lock.
-    fn beside(&self, owner: bool) -> Progress {
+    /// Once that is shown of its thread.
+    fn seen(&self, thread: usize, shown: &Shown) -> Progress {
         match self.stage {
             Stage::Between(_) => *self,
-            Stage::Within(call, met) => Progress {
-                stage: Stage::Within(call, met || owner),
+            Stage::Within(open) => Progress {
+                stage: Stage::Within(open.seen(thread, shown)),
                 ..*self
             },
         }
@@ -111,15 +148,15 @@ impl Progress {
         match (self.stage, answer) {
             (_, None) => true,
             (Stage::Between(_), Some(_)) => false,
-            (Stage::Within(_, met), Some(LockAnswer::Refused)) if !met => false,
-            (Stage::Within(call, _), Some(answer)) => may_answer(call, answer),
+            (Stage::Within(open), Some(LockAnswer::Refused)) if !open.met => false,
+            (Stage::Within(open), Some(answer)) => may_answer(open.call, answer),
         }
     }
 
     /// How it ends, where it makes no further step.
     pub fn end(&self) -> End {
         match self.stage {
-            Stage::Within(_, _) => End::Waits,
+            Stage::Within(_) => End::Waits,
             Stage::Between(_) if self.refused => End::Refused,
             Stage::Between(_) => End::Served,
         }
@@ -138,7 +175,7 @@ fn followed(at: Progress, thread: usize, mover: usize, behind: &Shown) -> Progre
     } else {
         at
     };
-    moved.beside(behind.mode(other(thread)).is_some())
+    moved.seen(thread, behind)
 }
 
 /// Both of them.
