@@ -1,6 +1,7 @@
 //! Schedules worked by hand, with what is seen on the way.
 
 mod memory;
+mod schedules;
 
 use crate::calls::{LockAnswer, LockCall, LockKind, OwnMode};
 use crate::fault::{WorldFault, WorldRefusal};
