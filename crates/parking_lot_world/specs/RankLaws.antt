@@ -16,7 +16,7 @@ use Rattle.parking_lot_cores.specs.RwRules.{IsReady}
 use Rattle.parking_lot_world.specs.Stances.{rw_taken}
 use Rattle.parking_lot_world.specs.Ranks.{View, Unseen, Sees, wake, mutex_steps, rw_steps}
 
--- A thread can make the act: it doesn't sleep, spins a round, and is shut out of sections that it enters or is in.
+-- A thread can make the act: it doesn't sleep, spins a round, and isn't shut out of a section that it enters or is in.
 abbrev pub Can : Act → Bool → Seen → Type 0
 Can act.Sleep shut s = ⊥
 Can act.Spin shut s = s ≡ seen.Spun true
