@@ -43,6 +43,3 @@ pub use spin::{SpinWait, thread_yield};
 pub use thread_data::ThreadData;
 pub use thread_parker::{ThreadParker, ThreadParkerT, UnparkHandle, UnparkHandleT};
 pub use word_lock::{WordLock, WordLockPass};
-
-#[cfg(test)]
-mod tests;

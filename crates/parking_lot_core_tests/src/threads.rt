@@ -1,4 +1,6 @@
-use crate::{
+//! The lot for threads, as one or two threads use it.
+
+use parking_lot_core::{
     DEFAULT_PARK_TOKEN, DEFAULT_UNPARK_TOKEN, LotFault, ParkResult, ParkingLot, RequeueOp,
     SizeFault, SpinWait, UnparkResult, UnparkToken, WordLock, deadlock, park, unpark_all,
     unpark_one, unpark_requeue,
@@ -12,8 +14,8 @@ const NO_TIMEOUT: Option<(Instant, &HostRuntime)> = None;
 #[test]
 fn sizes_of_lots_for_threads_are_limited(rt: HostRuntime) {
     for size in [0, 65_537] {
-        let made = ParkingLot::new(rt, rt.alloc(), size, 7);
-        assert_eq!(rt; made.err(), Some(SizeFault::BadSize));
+        let made = ParkingLot::new(rt, rt.alloc(), size, 7).err();
+        assert!(rt; made == Some(SizeFault::BadSize), "{size} threads");
     }
 }
 
@@ -22,11 +24,12 @@ fn participants_are_counted(rt: HostRuntime) -> Result<(), Fail> {
     let lot = ParkingLot::new(rt, rt.alloc(), 2, 7)?;
     let first = lot.thread_data()?;
     let second = lot.thread_data()?;
-    assert_eq!(rt; (second.lot_number(), second.thread_number()), (7, 1));
-    assert_eq!(rt; lot.thread_data().err(), Some(LotFault::TooManyThreads));
+    let is_second = (second.lot_number() == 7) & (second.thread_number() == 1);
+    let is_full = lot.thread_data().err() == Some(LotFault::TooManyThreads);
     assert!(rt; lot.same_lot(&first));
     lot.retire(first);
-    assert_eq!(rt; lot.thread_data()?.thread_number(), 0);
+    let is_first_again = lot.thread_data()?.thread_number() == 0;
+    assert!(rt; is_second & is_full & is_first_again);
     Ok(())
 }
 
@@ -48,7 +51,7 @@ fn before_sleep_may_unpark(rt: HostRuntime) -> Result<(), Fail> {
         DEFAULT_PARK_TOKEN,
         NO_TIMEOUT,
     );
-    assert_eq!(rt; ended, ParkResult::Unparked(UnparkToken(42)));
+    assert!(rt; ended == ParkResult::Unparked(UnparkToken(42)));
     Ok(())
 }
 
@@ -69,8 +72,7 @@ fn an_invalid_park_runs_nothing_else(rt: HostRuntime) -> Result<(), Fail> {
         DEFAULT_PARK_TOKEN,
         NO_TIMEOUT,
     );
-    assert_eq!(rt; ended, ParkResult::Invalid);
-    assert!(rt; !ran && !late);
+    assert!(rt; (ended == ParkResult::Invalid) & !ran & !late);
     Ok(())
 }
 
@@ -92,8 +94,7 @@ fn a_moment_that_is_past_ends_a_park(rt: HostRuntime) -> Result<(), Fail> {
         DEFAULT_PARK_TOKEN,
         Some((now, &rt)),
     );
-    assert_eq!(rt; ended, ParkResult::TimedOut);
-    assert_eq!(rt; late, Some((3, true)));
+    assert!(rt; (ended == ParkResult::TimedOut) & (late == Some((3, true))));
     Ok(())
 }
 
@@ -102,7 +103,7 @@ fn each_64th_unpark_is_fair(rt: HostRuntime) -> Result<(), Fail> {
     let lot = ParkingLot::new(rt, rt.alloc(), 2, 7)?;
     for turn in 1..129u32 {
         let fair = unpark_one(&lot, 3, |_| DEFAULT_UNPARK_TOKEN).be_fair;
-        assert_eq!(rt; fair, turn % 64 == 0);
+        assert!(rt; fair == (turn % 64 == 0), "turn {turn}");
     }
     Ok(())
 }
@@ -111,9 +112,11 @@ fn each_64th_unpark_is_fair(rt: HostRuntime) -> Result<(), Fail> {
 fn an_aborted_requeue_of_threads_does_nothing(rt: HostRuntime) -> Result<(), Fail> {
     let lot = ParkingLot::new(rt, rt.alloc(), 2, 7)?;
     let result = unpark_requeue(&lot, 1, 2, || RequeueOp::Abort, |_, _| DEFAULT_UNPARK_TOKEN);
-    assert_eq!(rt; result, UnparkResult::default());
-    assert_eq!(rt; unpark_all(&lot, 1, DEFAULT_UNPARK_TOKEN), 0);
-    assert_eq!(rt; (lot.claim_keys(4), lot.claim_keys(1)), (0, 4));
+    let woken = unpark_all(&lot, 1, DEFAULT_UNPARK_TOKEN);
+    assert!(rt; (result == UnparkResult::default()) & (woken == 0));
+    let first = lot.claim_keys(4);
+    let second = lot.claim_keys(1);
+    assert!(rt; (first == 0) & (second == 4));
     Ok(())
 }
 
@@ -125,20 +128,22 @@ fn participants_record_resources(rt: HostRuntime) -> Result<(), Fail> {
     deadlock::acquire_resource(&mut me, 9)?;
     deadlock::release_resource(&mut me, 9);
     deadlock::release_resource(&mut me, 4);
-    assert_eq!(rt; deadlock::resources(&me)?.as_slice(), [9].as_slice());
+    let resources = deadlock::resources(&me)?;
+    assert!(rt; resources.as_slice() == [9].as_slice());
     Ok(())
 }
 
 #[test]
 fn spins_are_counted(rt: HostRuntime) {
     let mut spin = SpinWait::new();
+    let mut spins = true;
     for _round in 0..10 {
-        assert!(rt; spin.spin());
+        spins = spin.spin() & spins;
     }
-    assert!(rt; !spin.spin());
+    let spins_on = spin.spin();
     spin.spin_no_yield();
     spin.reset();
-    assert!(rt; spin.spin());
+    assert!(rt; spins & !spins_on & spin.spin());
 }
 
 #[test]
@@ -176,7 +181,6 @@ fn one_thread_unparks_another(rt: HostRuntime) -> Result<(), Fail> {
         false
     };
     let (ended, woke) = thread::join(&rt, sleeper, waker);
-    assert_eq!(rt; ended, ParkResult::Unparked(UnparkToken(42)));
-    assert!(rt; woke);
+    assert!(rt; (ended == ParkResult::Unparked(UnparkToken(42))) & woke);
     Ok(())
 }

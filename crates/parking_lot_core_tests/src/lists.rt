@@ -1,0 +1,158 @@
+//! What unparks, filters and requeues do with lists.
+
+use crate::script::{Answer, Call, Line, follow, lot_of, make, outcome};
+use parking_lot_core::{
+    DEFAULT_PARK_TOKEN, DEFAULT_UNPARK_TOKEN, FilterOp, Lot, ParkResult, ParkToken, RequeueOp,
+    UnparkResult, UnparkToken,
+};
+use std::process::Abort;
+use std::test::Fail;
+
+const WAITS: Answer = Answer::Ended(None);
+
+const IS: Answer = Answer::Is(true);
+
+/// Key 1 has threads 0 and 1, and key 2 has thread 2.
+const TWO_LISTS: [Line; 3] = [
+    (Call::Park(0, 1), WAITS),
+    (Call::Park(1, 1), WAITS),
+    (Call::Park(2, 2), WAITS),
+];
+
+/// A lot with them.
+fn two_lists(rt: &(impl AllocGlobal + Abort)) -> Result<Lot, Fail> {
+    let mut lot = lot_of(rt, 3)?;
+    make(rt, &mut lot, &TWO_LISTS);
+    Ok(lot)
+}
+
+/// Whether the threads of a key's list are these.
+fn is_queue(lot: &Lot, key: usize, threads: &[usize]) -> bool {
+    match lot.queue(key) {
+        Ok(found) => found.as_slice() == threads,
+        Err(_) => false,
+    }
+}
+
+#[test]
+fn a_filter_skips_takes_and_stops(rt: HostRuntime) -> Result<(), Fail> {
+    let woken = Answer::Ended(Some(ParkResult::Unparked(UnparkToken(6))));
+    let script = [
+        (Call::Park(0, 4), WAITS),
+        (Call::Park(1, 4), WAITS),
+        (Call::Park(2, 4), WAITS),
+        (
+            Call::UnparkFilter(4, 6),
+            Answer::Unparked(outcome(1, 0, true)),
+        ),
+        (Call::IsQueue(4, &[0, 2]), IS),
+        (Call::Resume(1), woken),
+    ];
+    follow(&rt, 3, &[], &script)
+}
+
+#[test]
+fn nothing_is_shown_behind_a_stop(rt: HostRuntime) -> Result<(), Fail> {
+    let mut lot = two_lists(&rt)?;
+    let mut shown = 0u8;
+    let filter = |_: ParkToken| {
+        shown = shown.saturating_add(1);
+        FilterOp::Stop
+    };
+    let result = lot.unpark_filter(1, filter, |_| DEFAULT_UNPARK_TOKEN);
+    assert!(rt; (result == Ok(outcome(0, 0, true))) & (shown == 1));
+    Ok(())
+}
+
+/// The second list and the first after a requeue from the first, which answers so.
+fn requeues(
+    rt: &(impl AllocGlobal + Abort),
+    op: RequeueOp,
+    answer: UnparkResult,
+    first: &'static [usize],
+    second: &'static [usize],
+) -> Result<(), Fail> {
+    let script = [
+        (Call::Requeue(1, 2, op), Answer::Unparked(answer)),
+        (Call::IsQueue(1, first), IS),
+        (Call::IsQueue(2, second), IS),
+    ];
+    follow(rt, 3, &TWO_LISTS, &script)
+}
+
+#[test]
+fn one_is_woken_and_the_rest_moves(rt: HostRuntime) -> Result<(), Fail> {
+    let op = RequeueOp::UnparkOneRequeueRest;
+    requeues(&rt, op, outcome(1, 1, false), &[], &[2, 1])
+}
+
+#[test]
+fn the_first_moves(rt: HostRuntime) -> Result<(), Fail> {
+    let op = RequeueOp::RequeueOne;
+    requeues(&rt, op, outcome(0, 1, true), &[1], &[2, 0])
+}
+
+#[test]
+fn all_move(rt: HostRuntime) -> Result<(), Fail> {
+    let op = RequeueOp::RequeueAll;
+    requeues(&rt, op, outcome(0, 2, false), &[], &[2, 0, 1])
+}
+
+#[test]
+fn one_is_woken_and_the_rest_stays(rt: HostRuntime) -> Result<(), Fail> {
+    let op = RequeueOp::UnparkOne;
+    requeues(&rt, op, outcome(1, 0, true), &[1], &[2])
+}
+
+#[test]
+fn an_aborted_requeue_calls_nobody_back(rt: HostRuntime) -> Result<(), Fail> {
+    let mut lot = two_lists(&rt)?;
+    let mut called = false;
+    let callback = |_, _| {
+        called = true;
+        DEFAULT_UNPARK_TOKEN
+    };
+    let result = lot.unpark_requeue(1, 2, || RequeueOp::Abort, callback);
+    let is_unmoved = is_queue(&lot, 1, &[0, 1]);
+    assert!(rt; (result == Ok(UnparkResult::default())) & !called & is_unmoved);
+    Ok(())
+}
+
+#[test]
+fn a_list_that_moves_to_itself_stays(rt: HostRuntime) -> Result<(), Fail> {
+    let script = [
+        (
+            Call::Requeue(1, 1, RequeueOp::RequeueAll),
+            Answer::Unparked(outcome(0, 2, false)),
+        ),
+        (Call::IsQueue(1, &[0, 1]), IS),
+    ];
+    follow(&rt, 3, &TWO_LISTS, &script)
+}
+
+#[test]
+fn all_are_woken(rt: HostRuntime) -> Result<(), Fail> {
+    let woken = Answer::Ended(Some(ParkResult::Unparked(UnparkToken(3))));
+    let script = [
+        (Call::UnparkAll(1, 3), Answer::Number(2)),
+        (Call::UnparkAll(1, 3), Answer::Number(0)),
+        (Call::Resume(1), woken),
+        (Call::IsQueue(2, &[2]), IS),
+    ];
+    follow(&rt, 3, &TWO_LISTS, &script)
+}
+
+#[test]
+fn a_callback_is_called_where_nobody_waits(rt: HostRuntime) -> Result<(), Fail> {
+    let mut lot = lot_of(&rt, 1)?;
+    let nobody = outcome(0, 0, false);
+    let mut seen = None;
+    let callback = |told| {
+        seen = Some(told);
+        DEFAULT_UNPARK_TOKEN
+    };
+    let result = lot.unpark_one(1, callback);
+    let are_zero = (DEFAULT_PARK_TOKEN == ParkToken(0)) & (DEFAULT_UNPARK_TOKEN == UnparkToken(0));
+    assert!(rt; (result == Ok(nobody)) & (seen == Some(nobody)) & are_zero);
+    Ok(())
+}
