@@ -1,11 +1,9 @@
-//! The generic locks of `lock_api` over the raw locks of this crate, under their usual names.
+//! The generic locks of `lock_api` over the raw locks of `parking_lot_locks`, under their usual names.
 //!
 //! Of each, `T` is the type of the value, `R` the lot's runtime and `A` the lot's allocator; a guard's first lifetime is that of
 //! the lock, and the others are those of the lock table and of the lot.
 
-use crate::raw_mutex::RawMutex;
-use crate::raw_rwlock::RawRwLock;
-use crate::thread_id::RawThreadId;
+use parking_lot_locks::{RawMutex, RawRwLock, RawThreadId};
 use std::alloc::Global;
 
 /// A mutex and a value.

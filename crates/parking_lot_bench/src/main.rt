@@ -1,67 +1,108 @@
 //! What it costs to lock and unlock, counted from outside by a tool that counts instructions, and what it costs to wait.
 //!
-//! Without arguments it makes one small run of each and prints its checksums. `PAIR PAIRS` locks and unlocks so many times with
-//! nobody beside it: `mutex`, `read` and `write` by the raw locks, `guard`, `reader` and `writer` by the generic locks over them,
-//! and `std-mutex`, `std-read` and `std-write` by the locks of std. The cost of a pair is the difference of two counts, divided by
-//! the difference of the pairs. `turns ROUNDS` has two threads hand each kind of lock to one another, and prints what one turn
-//! took.
+//! Without arguments it makes one small run of each kind, and prints a line of checksums for the generic locks, one for the
+//! parking lot and one for its locks. The cost of a pair or a call is the difference of two counts, divided by the difference of
+//! the rounds.
+//!
+//! - `generic KIND ROUNDS` makes so many pairs of a lock and its release, by the generic locks over raw locks of one atomic word:
+//!   `read`, `write`, `mapped-read`, `mapped-write` and `mutex`, by std's own locks `std-read`, `std-write` and `std-mutex`, and
+//!   without a lock `none`. It prints how many pairs found the value that they must find.
+//! - `lot pair ROUNDS` hands a turn to and fro between two threads, by the lot and by condition variables, and prints what one
+//!   turn took of each; `lot empty ROUNDS` unparks the first waiter of a key that has none.
+//! - `locks PAIR PAIRS` locks and unlocks so many times with nobody beside it: `mutex`, `read` and `write` by the raw locks,
+//!   `guard`, `reader` and `writer` by the generic locks over them, and `std-mutex`, `std-read` and `std-write` by the locks of
+//!   std. `locks turns ROUNDS` has two threads hand each kind of lock to one another, and prints what one turn took.
 #![tactic(auto)]
 
-mod pairs;
-#[cfg(test)]
-mod tests;
+mod fault;
+mod generic;
+mod locks;
+mod lot;
+mod times;
 mod turns;
 
-use pairs::{Fault, Pair, all_pairs, pairs_of};
+use fault::Fault;
+use generic::Kind;
+use locks::Pair;
 use std::alloc::Global;
 use std::env;
 use std::process::ExitCode;
 use std::sync::Wait;
 use std::thread::Threads;
 use std::time::Clock;
-use turns::{both_ways, times_of};
 
-/// How many pairs and rounds the small run makes.
+/// How many pairs and rounds the small run makes of each kind.
 const SMALL: u32 = 1_000;
 
 /// What is asked for.
 enum Call {
     Small,
-    Pairs(Pair, u32),
+    Generic(Kind, u64),
+    LotPair(u32),
+    LotEmpty(u32),
+    Locks(Pair, u32),
     Turns(u32),
 }
 
 /// The run that the arguments ask for, or the small one.
 fn asked(rt: &HostRuntime) -> Option<Call> {
     let mut words = env::args(rt).ok()?;
-    let Some(word) = words.nth(1) else {
+    let Some(group) = words.nth(1) else {
         return Some(Call::Small);
     };
-    let count = words.next()?.parse().ok()?;
-    if word.as_str() == "turns" {
-        return Some(Call::Turns(count));
+    let kind = words.next()?;
+    let rounds = words.next()?.parse().ok()?;
+    match (group.as_str(), kind.as_str()) {
+        ("generic", kind) => Some(Call::Generic(Kind::named(kind)?, u64::from(rounds))),
+        ("lot", "pair") => Some(Call::LotPair(rounds)),
+        ("lot", "empty") => Some(Call::LotEmpty(rounds)),
+        ("locks", "turns") => Some(Call::Turns(rounds)),
+        ("locks", pair) => Some(Call::Locks(Pair::named(pair)?, rounds)),
+        _ => None,
     }
-    Some(Call::Pairs(Pair::named(word.as_str())?, count))
 }
 
-/// What the run tells, as a line.
+/// What the small run tells, a line for each kind.
+fn told_small<R: Wait + Threads + Clock + Sync + Copy + Drop>(
+    rt: R,
+    alloc: Global,
+) -> Result<String, Fault> {
+    let generic = generic::small_run(rt, alloc, u64::from(SMALL))?;
+    let (parked, waited) = lot::both_ways(rt, alloc, SMALL)?;
+    let fair = lot::fair_turns(rt, alloc, SMALL)?;
+    let words = locks::all_pairs(rt, alloc, SMALL)?;
+    let (mutex, lock) = turns::both_ways(rt, alloc, SMALL)?;
+    Ok(format!(in alloc;
+        "{generic}\nturns {parked} by parking, {waited} by condvars, {fair} fair\nleft {words}, turns {mutex} by the mutex, {lock} by the lock"
+    )?)
+}
+
+/// What the run tells.
 fn told<R: Wait + Threads + Clock + Sync + Copy + Drop>(
     rt: R,
     alloc: Global,
     call: Call,
 ) -> Result<String, Fault> {
     match call {
-        Call::Small => {
-            let words = all_pairs(rt, alloc, SMALL)?;
-            let (mutex, lock) = both_ways(rt, alloc, SMALL)?;
-            Ok(format!(in alloc; "left {words}, turns {mutex} by the mutex, {lock} by the lock")?)
+        Call::Small => told_small(rt, alloc),
+        Call::Generic(kind, rounds) => {
+            let found = generic::pairs(rt, kind, rounds)?;
+            Ok(format!(in alloc; "{found} found")?)
         }
-        Call::Pairs(pair, count) => {
-            let word = pairs_of(rt, alloc, pair, count)?;
+        Call::LotPair(rounds) => {
+            let (parking, condvars) = lot::turns_of(rt, alloc, rounds)?;
+            Ok(format!(in alloc; "parking {parking} ns a turn, condvars {condvars} ns")?)
+        }
+        Call::LotEmpty(rounds) => {
+            let fair = lot::fair_turns(rt, alloc, rounds)?;
+            Ok(format!(in alloc; "{fair} fair")?)
+        }
+        Call::Locks(pair, count) => {
+            let word = locks::pairs_of(rt, alloc, pair, count)?;
             Ok(format!(in alloc; "word {word}")?)
         }
         Call::Turns(rounds) => {
-            let (mutex, lock) = times_of(rt, alloc, rounds)?;
+            let (mutex, lock) = turns::times_of(rt, alloc, rounds)?;
             Ok(format!(in alloc; "mutex {mutex} ns a turn, lock {lock} ns")?)
         }
     }
@@ -70,14 +111,14 @@ fn told<R: Wait + Threads + Clock + Sync + Copy + Drop>(
 fn main(rt: HostRuntime) -> ExitCode {
     let Some(call) = asked(&rt) else {
         let _ = eprintln!(rt;
-            "[std-]mutex|[std-]read|[std-]write|guard|reader|writer PAIRS, turns ROUNDS"
+            "generic KIND ROUNDS, lot pair|empty ROUNDS, locks PAIR PAIRS, locks turns ROUNDS"
         );
         return ExitCode::FAILURE;
     };
-    let Ok(line) = told(rt, rt.alloc(), call) else {
+    let Ok(lines) = told(rt, rt.alloc(), call) else {
         return ExitCode::FAILURE;
     };
-    match println!(rt; "{line}") {
+    match println!(rt; "{lines}") {
         Ok(()) => ExitCode::SUCCESS,
         Err(_) => ExitCode::FAILURE,
     }

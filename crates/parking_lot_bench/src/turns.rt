@@ -1,15 +1,16 @@
 //! Locks that two threads hand to one another.
 
-use crate::pairs::Fault;
+use crate::fault::Fault;
+use crate::times::nanos_each;
 use lock_api_raw::{RawMutex as _, RawMutexFair, RawRwLock as _, RawRwLockFair};
-use parking_lot::{LockTable, RawMutex, RawRwLock};
 use parking_lot_core::{ParkingLot, ThreadData, thread_yield};
+use parking_lot_locks::{LockTable, RawMutex, RawRwLock};
 use std::alloc::Global;
 use std::sync::Wait;
 use std::sync::atomic::{AtomicU64, Ordering};
 use std::thread;
 use std::thread::Threads;
-use std::time::{Clock, Duration, Instant};
+use std::time::{Clock, Instant};
 
 /// The bit of a mutex's word that says that threads may sleep.
 const MUTEX_PARKED: u64 = 2;
@@ -32,12 +33,7 @@ pub fn times_of<R: Wait + Threads + Clock + Sync + Copy + Drop>(
     let start = Instant::now(&rt)?;
     by_lock(rt, alloc, rounds)?;
     let lock = start.elapsed(&rt)?;
-    Ok((each(mutex, rounds), each(lock, rounds)))
-}
-
-/// How many nanoseconds one turn took; each round is two.
-fn each(took: Duration, rounds: u32) -> u128 {
-    took.as_nanos() / (u128::from(rounds.max(1)) * 2)
+    Ok((nanos_each(mutex, rounds), nanos_each(lock, rounds)))
 }
 
 /// Has two threads hand each kind of lock to one another, so many times each, and answers how many turns were counted.

@@ -1,7 +1,7 @@
-//! The words of locks and what threads do at them: a table of lock words, and the decision cores of the locks.
+//! What threads do at the words of locks: the decision cores of the locks.
 //!
 //! A core is one call of a lock as plain data. It does nothing itself: it is told what its last act gave, and answers the next
-//! act. So whoever runs it decides where the word lies and where the waiters stand: threads run it on a row of a [`LockTable`]
+//! act. So whoever runs it decides where the word lies and where the waiters stand: threads run it on a row of a lock table
 //! and on the lists of a parking lot, and a world under a schedule runs it on numbers.
 //!
 //! The word of a mutex is 1 where it is locked, and 2 where threads may wait. The word of a reader-writer lock counts 16 for each
@@ -16,7 +16,6 @@ mod rw_act;
 mod rw_core;
 mod rw_next;
 mod rw_phase;
-mod table;
 mod wake;
 
 pub use act::{Act, CoreAnswer, HAND_OVER, SectionAct, Seen, TRY_AGAIN, WordChange};
@@ -24,8 +23,4 @@ pub use mutex_core::MutexCore;
 pub use mutex_phase::{Asking, Giving, MutexPhase};
 pub use rw_core::RwCore;
 pub use rw_phase::{Draining, Outcome, Rest, RwPhase, Scanning, Seeking, Want};
-pub use table::{LockTable, Row};
 pub use wake::wake_sum;
-
-#[cfg(test)]
-mod tests;

@@ -12,8 +12,6 @@ mod mutex;
 mod progress;
 mod read_lock;
 mod steps;
-#[cfg(test)]
-mod tests;
 mod tries;
 mod word;
 mod wrong;

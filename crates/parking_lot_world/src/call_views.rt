@@ -227,6 +227,3 @@ impl Call {
         }
     }
 }
-
-#[cfg(test)]
-mod tests;

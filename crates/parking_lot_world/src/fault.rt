@@ -72,28 +72,3 @@ impl fmt::Display for WorldFault {
 }
 
 impl Error for WorldFault {}
-
-#[cfg(test)]
-mod tests {
-    use super::{WorldFault, WorldRefusal};
-
-    #[test]
-    fn refusals_have_codes_and_names(rt: HostRuntime) {
-        let table = [
-            (WorldRefusal::NoSuchThread, 61, "NoSuchThread"),
-            (WorldRefusal::CannotMove, 62, "CannotMove"),
-        ];
-        for (refusal, code, name) in table {
-            assert_eq!(rt; refusal.code(), code, "of {name}");
-            let text = refusal.to_string(rt.alloc()).expect(&rt, "memory");
-            assert_eq!(rt; text.as_str(), name);
-            let fault = WorldFault {
-                done: 3,
-                fault: refusal,
-            };
-            assert_eq!(rt; fault.code(), code, "of a run, {name}");
-            let text = fault.to_string(rt.alloc()).expect(&rt, "memory");
-            assert_eq!(rt; text.as_str(), name);
-        }
-    }
-}

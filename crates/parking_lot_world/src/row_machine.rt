@@ -64,14 +64,14 @@ impl<A: Allocator> RowMachine<A> {
     }
 
     /// The call that a thread is in.
-    pub(crate) fn call(&self, thread: usize) -> Option<Call>
+    pub fn call(&self, thread: usize) -> Option<Call>
         ensures { result ≡ call_at (state self.now) thread }
     {
         self.calls.get(thread).copied().flatten()
     }
 
     /// What a thread owned of a lock when it was last in no call there.
-    pub(crate) fn hold(&self, thread: usize, lock: usize) -> Hold
+    pub fn hold(&self, thread: usize, lock: usize) -> Hold
         ensures { result ≡ hold_at (state self.now) thread lock }
     {
         if lock < self.kinds.len() {
@@ -83,6 +83,20 @@ impl<A: Allocator> RowMachine<A> {
         } else {
             Hold::Shares(0)
         }
+    }
+
+    /// Who is still to be woken, and by whom: the oldest first.
+    pub fn wakes(&self) -> &[Wakeup]
+        ensures { result.now ≡ self.now.wakes }
+    {
+        &self.wakes
+    }
+
+    /// The lot in which the threads wait.
+    pub fn lot(&self) -> &Lot<A>
+        ensures { result.now ≡ self.now.lot }
+    {
+        &self.lot
     }
 
     /// Whether a thread can make a step: it is in a call, doesn't sleep, and isn't before a section that another has entered.

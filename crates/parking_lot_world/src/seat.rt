@@ -13,14 +13,14 @@ use parking_lot_cores::{
 
 /// What a thread owns of a lock between its calls: so many shared holds, or the exclusive one.
 #[derive(Clone, Copy, PartialEq, Eq, Debug)]
-pub(crate) enum Hold {
+pub enum Hold {
     Shares(u8),
     Excludes,
 }
 
 /// What one that took a sleeper off its list has told it: nothing yet, that it is to try again, or that it has the lock.
 #[derive(Clone, Copy, PartialEq, Eq, Debug)]
-pub(crate) enum Told {
+pub enum Told {
     Nothing,
     TryAgain,
     HandedOver,
@@ -28,21 +28,21 @@ pub(crate) enum Told {
 
 /// Where a thread that sleeps stands: in its list, or off it, taken by another.
 #[derive(Clone, Copy, PartialEq, Eq, Debug)]
-pub(crate) enum Spot {
+pub enum Spot {
     Listed,
     Off(usize, Told),
 }
 
 /// The core of a call, by the kind of its lock.
 #[derive(Clone, Copy)]
-pub(crate) enum Core {
+pub enum Core {
     Mutex(MutexCore),
     Rw(RwCore),
 }
 
 /// A call that isn't answered yet.
 #[derive(Clone, Copy)]
-pub(crate) struct Call {
+pub struct Call {
     /// The lock's number.
     pub lock: usize,
     /// How many shared holds of the lock the thread has beside the one that the call is about.
@@ -54,7 +54,7 @@ pub(crate) struct Call {
 
 /// A thread that another has taken off its list and is still to wake.
 #[derive(Clone, Copy, PartialEq, Eq, Debug)]
-pub(crate) struct Wakeup {
+pub struct Wakeup {
     /// Who is to wake it.
     pub by: usize,
     pub thread: usize,

@@ -82,34 +82,3 @@ impl Hold {
 pub fn allowed_calls_begin_well()
     ensures { AllowedCallsBeginWell }
 {}
-
-#[cfg(test)]
-mod tests {
-    use crate::calls::LockCall;
-    use crate::seat::Hold;
-
-    #[test]
-    fn who_owns_a_lock_only_gives_it_up(rt: HostRuntime) {
-        let asks = [
-            LockCall::Lock,
-            LockCall::TryLock,
-            LockCall::Read,
-            LockCall::TryRead,
-            LockCall::Write,
-            LockCall::TryWrite,
-        ];
-        for call in asks {
-            assert!(rt; Hold::Shares(0).allows(call), "{call:?}");
-            assert!(rt; !Hold::Shares(1).allows(call), "a reader, {call:?}");
-            assert!(rt; !Hold::Excludes.allows(call), "an owner, {call:?}");
-        }
-        for call in [LockCall::Unlock, LockCall::UnlockWrite, LockCall::Downgrade] {
-            assert!(rt; !Hold::Shares(0).allows(call), "{call:?}");
-            assert!(rt; !Hold::Shares(1).allows(call), "a reader, {call:?}");
-            assert!(rt; Hold::Excludes.allows(call), "an owner, {call:?}");
-        }
-        assert!(rt; !Hold::Shares(0).allows(LockCall::UnlockRead));
-        assert!(rt; Hold::Shares(1).allows(LockCall::UnlockRead));
-        assert!(rt; !Hold::Excludes.allows(LockCall::UnlockRead));
-    }
-}

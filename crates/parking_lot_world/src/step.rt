@@ -16,7 +16,7 @@ pub enum WorldStep {
 
 impl WorldStep {
     /// The number of the thread that makes it.
-    pub(crate) fn thread(&self) -> usize
+    pub fn thread(&self) -> usize
         ensures { result ≡ step_thread self.now }
     {
         match self {

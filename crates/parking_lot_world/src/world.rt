@@ -146,6 +146,3 @@ impl<A: Allocator> World<A> {
         result
     }
 }
-
-#[cfg(test)]
-mod tests;

@@ -6,11 +6,19 @@ ghost use Rattle.parking_lot_world.specs.Rows.{lock_at, queue_at, state, word_at
 ghost use Rattle.parking_lot_world.specs.Worlds.{is_indebted, mode_in, owners_below, those_below};
 
 use crate::calls::{LockAnswer, OwnMode};
+use crate::row_machine::RowMachine;
 use crate::world::World;
 use parking_lot_core::SizeFault;
 use std::alloc::Allocator;
 
 impl<A: Allocator> World<A> {
+    /// The machine that the steps move: the locks, and where each thread is.
+    pub fn machine(&self) -> &RowMachine<A>
+        ensures { result.now ≡ self.now.rows }
+    {
+        &self.machine
+    }
+
     /// The lock's word; 0 of one that the world doesn't have.
     pub fn word(&self, lock: usize) -> u64
         ensures { result ≡ word_at (state self.now.rows) lock }

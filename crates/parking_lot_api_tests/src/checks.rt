@@ -1,0 +1,138 @@
+//! Each check of a mutex, a reader-writer lock and a reentrant mutex.
+
+use lock_api_checks::{mutex_checks, reentrant_checks, rwlock_arc_checks, rwlock_checks};
+use lock_api_raw::{GetThreadId, RawMutexFair, RawRwLockDowngrade, RawRwLockFair};
+use parking_lot_core::ParkingLot;
+use parking_lot_locks::{LockTable, RawMutex, RawRwLock, RawThreadId};
+use std::alloc::Global;
+use std::sync::Wait;
+use std::test::Fail;
+use std::thread::Threads;
+
+/// Whether each check of the mutex finds what it must.
+fn of_mutex<R: RawMutexFair + Drop + Sync, T: Threads + Sync>(
+    rt: &T,
+    alloc: Global,
+    source: R::Source,
+    one: &mut R::Party,
+    other: &mut R::Party,
+) -> [bool; 7]
+where
+    R::Source: Copy,
+    R::Party: Send,
+    R::Runtime: Wait,
+{
+    [
+        mutex_checks::admits_one::<R>(source, one).is_ok(),
+        mutex_checks::keeps_its_value::<R>(source, one).is_ok(),
+        mutex_checks::unlocks_for_a_while::<R>(source, one).is_ok(),
+        mutex_checks::narrows::<R>(source, one).is_ok(),
+        mutex_checks::prints::<R, _>(alloc, source, one).is_ok(),
+        mutex_checks::owns_an_arc::<R, _>(alloc, source, one).is_ok(),
+        mutex_checks::excludes::<R, T>(rt, source, one, other).is_ok(),
+    ]
+}
+
+#[test]
+fn the_checks_of_the_mutex_pass(rt: HostRuntime) -> Result<(), Fail> {
+    let lot = ParkingLot::new(rt, rt.alloc(), 2, 7)?;
+    let mut one = lot.thread_data()?;
+    let mut other = lot.thread_data()?;
+    let table = LockTable::new(rt.alloc(), &lot, 8)?;
+    let passed = of_mutex::<RawMutex<HostRuntime>, HostRuntime>(
+        &rt,
+        rt.alloc(),
+        &table,
+        &mut one,
+        &mut other,
+    );
+    assert!(rt; passed == [true; 7]);
+    Ok(())
+}
+
+/// Whether each check of the reader-writer lock finds what it must.
+fn of_lock<R: RawRwLockFair + RawRwLockDowngrade + Drop + Sync, T: Threads + Sync>(
+    rt: &T,
+    alloc: Global,
+    source: R::Source,
+    one: &mut R::Party,
+    other: &mut R::Party,
+) -> [bool; 14]
+where
+    R::Source: Copy,
+    R::Party: Send,
+    R::Runtime: Wait,
+{
+    [
+        rwlock_checks::admits_readers_or_a_writer::<R>(source, one).is_ok(),
+        rwlock_checks::keeps_its_value::<R>(source, one).is_ok(),
+        rwlock_checks::counts_its_readers::<R>(source, one).is_ok(),
+        rwlock_checks::unlocks_a_writer::<R>(source, one).is_ok(),
+        rwlock_checks::unlocks_a_reader::<R>(source, one).is_ok(),
+        rwlock_checks::downgrades::<R>(source, one).is_ok(),
+        rwlock_checks::narrows_a_writer::<R>(source, one).is_ok(),
+        rwlock_checks::narrows_a_reader::<R>(source, one).is_ok(),
+        rwlock_checks::prints::<R, _>(alloc, source, one).is_ok(),
+        rwlock_checks::prints_parts::<R, _>(alloc, source, one).is_ok(),
+        rwlock_checks::excludes::<R, T>(rt, source, one, other).is_ok(),
+        rwlock_arc_checks::owns_an_arc::<R, _>(alloc, source, one).is_ok(),
+        rwlock_arc_checks::unlocks_for_a_while::<R, _>(alloc, source, one).is_ok(),
+        rwlock_arc_checks::downgrades::<R, _>(alloc, source).is_ok(),
+    ]
+}
+
+#[test]
+fn the_checks_of_the_lock_pass(rt: HostRuntime) -> Result<(), Fail> {
+    let lot = ParkingLot::new(rt, rt.alloc(), 2, 7)?;
+    let mut one = lot.thread_data()?;
+    let mut other = lot.thread_data()?;
+    let table = LockTable::new(rt.alloc(), &lot, 16)?;
+    let passed = of_lock::<RawRwLock<HostRuntime, 0>, HostRuntime>(
+        &rt,
+        rt.alloc(),
+        &table,
+        &mut one,
+        &mut other,
+    );
+    assert!(rt; passed == [true; 14]);
+    Ok(())
+}
+
+/// Whether each check of the reentrant mutex finds what it must.
+fn of_reentrant<R: RawMutexFair + Drop, G: GetThreadId<Party = R::Party> + Drop>(
+    alloc: Global,
+    source: R::Source,
+    one: &mut R::Party,
+    other: &mut R::Party,
+) -> [bool; 5]
+where
+    R::Source: Copy,
+    R::Runtime: Wait,
+{
+    [
+        reentrant_checks::nests::<R, G, _>(alloc, source, one, other).is_ok(),
+        reentrant_checks::nests_by_borrow::<R, G>(source, one, other).is_ok(),
+        reentrant_checks::lends_by_borrow::<R, G, _>(alloc, source, one).is_ok(),
+        reentrant_checks::unlocks_for_a_while::<R, G, _>(alloc, source, one).is_ok(),
+        reentrant_checks::prints::<R, G, _>(alloc, source, one).is_ok(),
+    ]
+}
+
+#[test]
+fn the_checks_of_the_reentrant_mutex_pass(rt: HostRuntime) -> Result<(), Fail> {
+    let lot = ParkingLot::new(rt, rt.alloc(), 2, 7)?;
+    let mut one = lot.thread_data()?;
+    let mut other = lot.thread_data()?;
+    let ids: RawThreadId = RawThreadId::new();
+    let is_first = ids.nonzero_thread_id(&one).get() == 1;
+    let is_second = ids.nonzero_thread_id(&other).get() == 2;
+    let table = LockTable::new(rt.alloc(), &lot, 8)?;
+    let passed = of_reentrant::<RawMutex<HostRuntime>, RawThreadId>(
+        rt.alloc(),
+        &table,
+        &mut one,
+        &mut other,
+    );
+    assert!(rt; is_first & is_second & (passed == [true; 5]));
+    Ok(())
+}

@@ -1,4 +1,0 @@
-mod mutexes;
-mod rows;
-mod rwlocks;
-mod sections;

@@ -1,0 +1,81 @@
+//! The row that a call runs on.
+ghost use Rattle.std.specs.Prelude.{◌≡◌, ℕ, IfSome};
+ghost use Rattle.parking_lot_locks.specs.Runs.{passes};
+ghost use Rattle.parking_lot_cores.specs.Acts.{Gives};
+ghost use Rattle.parking_lot_cores.specs.declared.act.Act.TheVariants.{Exchange};
+
+use crate::word::READER;
+use crate::table::Row;
+use parking_lot_cores::{Act, Seen, WordChange};
+use std::alloc::Allocator;
+use std::sync::Wait;
+
+/// A row, and the most readers that may be admitted there.
+#[derive(Drop)]
+pub(crate) struct Place<'r, 't, 'l, R, A: Allocator> {
+    pub row: &'r Row<'t, 'l, R, A>,
+    pub limit: u64,
+}
+
+impl<R, A: Allocator> Place<'_, '_, '_, R, A> {
+    /// Whether the act would admit a reader more than may be.
+    pub fn is_full(&self, act: Act) -> bool
+        ensures { result ≡ passes self.now.limit act }
+    {
+        match act {
+            Act::Exchange(from, to) => from / READER < to / READER && self.limit < to / READER,
+            _ => false,
+        }
+    }
+
+    /// The key of that number: 0 is the row's first, 1 its second.
+    pub fn key(&self, number: u8) -> usize {
+        if number == 0 {
+            self.row.first_key()
+        } else {
+            self.row.second_key()
+        }
+    }
+
+    /// Makes an act on the word, and tells what it gave. `None` where the act isn't one on the word.
+    pub fn at_the_word(&self, act: Act) -> Option<Seen>
+        ensures { IfSome result (λ seen. (word : ℕ) × Gives act word seen) }
+    {
+        match act {
+            Act::Load => Some(Seen::Word(self.row.load())),
+            Act::Exchange(from, to) => Some(self.exchange(from, to)),
+            Act::Add(by) => Some(Seen::Before(self.row.add(by))),
+            Act::Mask(keep) => Some(Seen::Before(self.row.mask(keep))),
+            Act::Spin | Act::Enter(_) | Act::Section(_) | Act::Sleep | Act::Done(_) => None,
+        }
+    }
+
+    /// The same. The acts of a section that are left, and the wakes after it, have been made by the lot.
+    pub fn after(&self, act: Act) -> Seen {
+        self.at_the_word(act).unwrap_or(Seen::Made)
+    }
+
+    /// Exchanges the word, and tells which it was.
+    fn exchange(&self, from: u64, to: u64) -> Seen
+        ensures { (word : ℕ) × Gives (Exchange from to) word result }
+    {
+        match self.row.exchange(from, to) {
+            Ok(()) => Seen::Exchanged,
+            Err(word) => Seen::Word(word),
+        }
+    }
+}
+
+impl<R: Wait, A: Allocator> Place<'_, '_, '_, R, A> {
+    /// Changes the word in one step.
+    pub fn change(&self, change: WordChange) {
+        let mut word = self.row.load();
+        for _loss in self.row.lot().runtime().forever() {
+            match self.row.exchange(word, change.of(word)) {
+                Ok(()) => return,
+                Err(seen) => word = seen,
+            }
+        }
+        unreachable!()
+    }
+}

@@ -1,0 +1,297 @@
+//! The raw reader-writer lock.
+ghost use Rattle.std.specs.Prelude.{◌≡◌, ◌+◌, ◌-◌, ◌*◌, ◌/◌, ◌%◌, ◌^◌, IfOk, IfSome, min, max};
+ghost use Rattle.lock_api_raw.specs.Limits.{kept_limit};
+
+use crate::place::Place;
+use crate::word;
+use crate::word::{READER, WRITER};
+use crate::table::{LockTable, Row};
+use lock_api_raw::{GuardSend, RawRwLock as _, RawRwLockDowngrade, RawRwLockFair, TableFull};
+use parking_lot_core::{ThreadData, thread_yield};
+use parking_lot_cores::{CoreAnswer, RwCore, Seen};
+use std::alloc::{Allocator, Global};
+use std::sync::Wait;
+
+/// The most readers that a word can count.
+const MAX_READERS: u64 = (1 << 60) - 1;
+
+/// An unfair reader-writer lock on one row of a lock table. A writer that waits keeps new readers out; where `RECURSIVE` is 1
+/// a thread that reads may read again past it, and else `RECURSIVE` is 0.
+///
+/// Its word is 16 for each reader, and 8 for a writer, also while that waits for readers to leave; where such a writer may
+/// sleep 2 is added, and where threads may sleep that want the lock, 1.
+#[derive(Drop)]
+pub struct RawRwLock<'t, 'l, R, const RECURSIVE: u8, A: Allocator = Global> {
+    row: Row<'t, 'l, R, A>,
+    /// The word at which no reader more is admitted: 16 times the most readers.
+    full: u64,
+}
+
+impl<'t, 'l, R, const RECURSIVE: u8, A: Allocator> RawRwLock<'t, 'l, R, RECURSIVE, A> {
+    /// What its calls run on.
+    fn place(&self) -> Place<'_, 't, 'l, R, A> {
+        Place {
+            row: &self.row,
+            limit: word::readers(self.full),
+        }
+    }
+
+    /// A token of this lock.
+    #[inline(always)]
+    fn token(&self) -> GuardSend
+        ensures { result ≡ (self.now.row.table.now.first_key + 2 * self.now.row.number) % 2 ^ 64 }
+    {
+        GuardSend::new(&(self.row.first_key() as u64))
+    }
+
+    /// A token of this lock for a hold that was taken.
+    #[inline(always)]
+    fn token_if(&self, taken: bool) -> Option<GuardSend>
+        ensures { IfSome result (λ token. token ≡ (self.now.row.table.now.first_key + 2 * self.now.row.number) % 2 ^ 64) }
+    {
+        if taken { Some(self.token()) } else { None }
+    }
+
+    /// Tries again where the first exchange is lost.
+    #[cold]
+    #[inline(never)]
+    fn try_slowly(&self, core: RwCore) -> bool {
+        self.place().attempt(core)
+    }
+
+    /// Reads at once, where one exchange does it.
+    #[inline(always)]
+    fn reads_at_once(&self) -> bool {
+        let word = self.row.load();
+        word::has_room(word, self.full)
+            && self.row.exchange(word, word.wrapping_add(READER)).is_ok()
+    }
+}
+
+impl<'t, 'l, R: Wait, const RECURSIVE: u8, A: Allocator> RawRwLock<'t, 'l, R, RECURSIVE, A> {
+    /// Asks until the lock is owned exclusively.
+    fn own(&self, core: RwCore, party: &mut ThreadData<A>) {
+        for _call in self.runtime().forever() {
+            if self.place().ask(core, party) == CoreAnswer::Owned {
+                return;
+            }
+        }
+        unreachable!()
+    }
+
+    /// Asks until a shared hold is owned. A fair writer may hand the lock over to more readers than there may be: then this one
+    /// gives its hold back, and asks again.
+    fn own_shared(&self, core: RwCore, party: &mut ThreadData<A>) {
+        self.own(core, party);
+        for _call in self.runtime().forever() {
+            if word::readers(self.row.load()) <= word::readers(self.full) {
+                return;
+            }
+            self.unlock_shared(self.token());
+            thread_yield();
+            self.own(RwCore::lock_shared(RECURSIVE == 1), party);
+        }
+        unreachable!()
+    }
+
+    /// Asks to read where that isn't had at once.
+    #[cold]
+    #[inline(never)]
+    fn read_slowly(&self, party: &mut ThreadData<A>) {
+        self.own_shared(RwCore::lock_shared(RECURSIVE == 1), party);
+    }
+
+    /// Asks to write where that isn't had at once.
+    #[cold]
+    #[inline(never)]
+    fn write_slowly(&self, party: &mut ThreadData<A>) {
+        self.own(RwCore::lock_exclusive(), party);
+    }
+
+    /// A shared hold was taken off this word, and a writer may sleep until the readers have left: the core says whether to wake
+    /// it.
+    #[cold]
+    #[inline(never)]
+    fn unread_slowly(&self, word: u64) {
+        self.place()
+            .give_up(RwCore::unlock_shared(), Seen::Before(word));
+    }
+
+    /// Gives the exclusive hold up at this word, where threads may sleep.
+    #[cold]
+    #[inline(never)]
+    fn unwrite_slowly(&self, fair: bool, word: u64) {
+        let core = if fair {
+            RwCore::unlock_exclusive_fair()
+        } else {
+            RwCore::unlock_exclusive()
+        };
+        self.place().give_up(core, Seen::Word(word));
+    }
+
+    /// The exclusive hold has become a shared one at this word, where threads may sleep: the core says whom to wake.
+    #[cold]
+    #[inline(never)]
+    fn downgrade_slowly(&self, word: u64) {
+        self.place()
+            .give_up(RwCore::downgrade(), Seen::Before(word));
+    }
+}
+
+impl<'t, 'l, R, const RECURSIVE: u8, A: Allocator> lock_api_raw::RawRwLock
+    for RawRwLock<'t, 'l, R, RECURSIVE, A> {
+    type Runtime = R;
+
+    type Source = &'t LockTable<'l, R, A>;
+
+    type Party = ThreadData<A>;
+
+    type SharedGuard = GuardSend;
+
+    type ExclusiveGuard = GuardSend;
+
+    ghost number = { λ lock. (lock.row.table.now.first_key + 2 * lock.row.number) % 2 ^ 64 };
+
+    ghost shared_by = { λ token. token };
+
+    ghost exclusive_by = { λ token. token };
+
+    ghost runtime_of = { λ lock. lock.row.table.now.lot.now.rt };
+
+    ghost limit = { λ lock. lock.full / 16 };
+
+    ghost own_limit = { 2 ^ 60 - 1 };
+
+    fn new(
+        source: &'t LockTable<'l, R, A>,
+        readers: u64,
+    ) -> Result<RawRwLock<'t, 'l, R, RECURSIVE, A>, TableFull> {
+        Ok(RawRwLock {
+            row: source.claim()?,
+            full: readers.max(1).min(MAX_READERS) * READER,
+        })
+    }
+
+    fn runtime(&self) -> &R {
+        self.row.lot().runtime()
+    }
+
+    #[inline(always)]
+    fn lock_shared(&self, party: &mut ThreadData<A>) -> GuardSend
+    where
+        R: Wait,
+    {
+        if !self.reads_at_once() {
+            self.read_slowly(party);
+        }
+        self.token()
+    }
+
+    #[inline(always)]
+    fn try_lock_shared(&self) -> Option<GuardSend> {
+        let taken = self.reads_at_once()
+            || self.try_slowly(RwCore::try_lock_shared(RECURSIVE == 1));
+        self.token_if(taken)
+    }
+
+    #[inline(always)]
+    fn unlock_shared(&self, guard: GuardSend)
+    where
+        R: Wait,
+    {
+        guard.spend();
+        let word = self.row.add(READER.wrapping_neg());
+        if word::is_writer_parked(word) {
+            self.unread_slowly(word);
+        }
+    }
+
+    #[inline(always)]
+    fn lock_exclusive(&self, party: &mut ThreadData<A>) -> GuardSend
+    where
+        R: Wait,
+    {
+        if self.row.exchange(0, WRITER).is_err() {
+            self.write_slowly(party);
+        }
+        self.token()
+    }
+
+    #[inline(always)]
+    fn try_lock_exclusive(&self) -> Option<GuardSend> {
+        let taken = self.row.exchange(0, WRITER).is_ok()
+            || self.try_slowly(RwCore::try_lock_exclusive());
+        self.token_if(taken)
+    }
+
+    #[inline(always)]
+    fn unlock_exclusive(&self, guard: GuardSend)
+    where
+        R: Wait,
+    {
+        guard.spend();
+        if let Err(word) = self.row.exchange(WRITER, 0) {
+            self.unwrite_slowly(false, word);
+        }
+    }
+
+    fn is_locked(&self) -> bool {
+        word::is_held(self.row.load())
+    }
+
+    fn is_locked_exclusive(&self) -> bool {
+        word::is_exclusive(self.row.load())
+    }
+}
+
+impl<'t, 'l, R, const RECURSIVE: u8, A: Allocator> RawRwLockFair
+    for RawRwLock<'t, 'l, R, RECURSIVE, A> {
+    #[inline(always)]
+    fn unlock_shared_fair(&self, guard: GuardSend)
+    where
+        R: Wait,
+    {
+        self.unlock_shared(guard);
+    }
+
+    #[inline(always)]
+    fn unlock_exclusive_fair(&self, guard: GuardSend)
+    where
+        R: Wait,
+    {
+        guard.spend();
+        if let Err(word) = self.row.exchange(WRITER, 0) {
+            self.unwrite_slowly(true, word);
+        }
+    }
+
+    fn bump_shared(&self, guard: GuardSend, party: &mut ThreadData<A>) -> GuardSend
+    where
+        R: Wait,
+    {
+        self.own_shared(RwCore::bump_shared(), party);
+        guard
+    }
+
+    fn bump_exclusive(&self, guard: GuardSend, party: &mut ThreadData<A>) -> GuardSend
+    where
+        R: Wait,
+    {
+        self.own(RwCore::bump_exclusive(), party);
+        guard
+    }
+}
+
+impl<'t, 'l, R, const RECURSIVE: u8, A: Allocator> RawRwLockDowngrade
+    for RawRwLock<'t, 'l, R, RECURSIVE, A> {
+    fn downgrade(&self, guard: GuardSend) -> GuardSend
+    where
+        R: Wait,
+    {
+        let word = self.row.add(READER - WRITER);
+        if word::is_parked(word) {
+            self.downgrade_slowly(word);
+        }
+        guard
+    }
+}

@@ -1,0 +1,26 @@
+//! Tests of the locks of the parking lot, for what no clause of them says: their words, calls told one thing after another, that
+//! threads sleep and are woken, and that each admission excludes.
+#![tactic(auto)]
+
+#[cfg(test)]
+mod cores;
+#[cfg(test)]
+mod guards;
+#[cfg(test)]
+mod mutex_calls;
+#[cfg(test)]
+mod mutexes;
+#[cfg(test)]
+mod readers;
+#[cfg(test)]
+mod rows;
+#[cfg(test)]
+mod rules;
+#[cfg(test)]
+mod rw_calls;
+#[cfg(test)]
+mod sections;
+#[cfg(test)]
+mod waiting;
+#[cfg(test)]
+mod words;

@@ -1,0 +1,73 @@
+//! Waking sections of an exclusive release, by the tokens in the list: whom they take, and what they store.
+
+use crate::cores::follow_rw;
+use parking_lot_core::{FilterOp, ParkToken};
+use parking_lot_cores::{Act, RwCore, SectionAct, Seen, WordChange, wake_sum};
+use std::process::Abort;
+
+/// One section with these waiters takes this sum of tokens, and has these two stores.
+fn section(rt: &impl Abort, waiters: &[usize], sum: u64, plain: u64, fair: u64) {
+    let begun = [
+        (Seen::Start, Act::Exchange(8, 0)),
+        (Seen::Word(9), Act::Enter(0)),
+    ];
+    let mut core = follow_rw(rt, RwCore::unlock_exclusive(), &begun);
+    let mut act = core.next(Seen::Entered);
+    let mut so_far = 0u64;
+    for (i, number) in waiters.iter().enumerate() {
+        let token = ParkToken(*number);
+        if act == Act::Section(SectionAct::TakeNext(so_far))
+            && wake_sum(so_far, token) == FilterOp::Unpark
+        {
+            let left = i + 1 < waiters.len();
+            act = core.next(Seen::Took {
+                token: Some(token),
+                left,
+            });
+            so_far = so_far.wrapping_add(*number as u64);
+        }
+    }
+    if waiters.is_empty() {
+        act = core.next(Seen::Took {
+            token: None,
+            left: false,
+        });
+    }
+    let plain = WordChange {
+        keep: 0,
+        add: plain,
+    };
+    let fair = WordChange { keep: 0, add: fair };
+    let store = Act::Section(SectionAct::Store { plain, fair });
+    assert!(rt; (so_far == sum) & (act == store));
+}
+
+#[test]
+fn readers_and_the_first_writer_are_taken(rt: HostRuntime) {
+    section(&rt, &[16, 16, 8, 16], 40, 1, 41);
+}
+
+#[test]
+fn a_writer_goes_alone(rt: HostRuntime) {
+    section(&rt, &[8, 16], 8, 1, 9);
+}
+
+#[test]
+fn one_reader_and_nobody(rt: HostRuntime) {
+    section(&rt, &[16], 16, 0, 16);
+    section(&rt, &[], 0, 0, 0);
+}
+
+#[test]
+fn behind_an_upgradable_owner_only_readers_go(rt: HostRuntime) {
+    for (sum, token, op) in [
+        (0, 20, FilterOp::Unpark),
+        (20, 8, FilterOp::Skip),
+        (20, 20, FilterOp::Skip),
+        (20, 16, FilterOp::Unpark),
+        (24, 16, FilterOp::Stop),
+    ] {
+        let is_so = wake_sum(sum, ParkToken(token)) == op;
+        assert!(rt; is_so, "token {token} behind {sum}");
+    }
+}

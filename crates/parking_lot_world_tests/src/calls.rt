@@ -1,0 +1,215 @@
+//! Calls told one thing after the other, and what is said of their threads on the way.
+
+use parking_lot_core::ParkToken;
+use parking_lot_world::{
+    Call, Core, HAND_OVER, MutexCore, OwnMode, RwCore, Seen, Spot, TRY_AGAIN, Told,
+};
+use std::process::Abort;
+
+/// A thread that owns nothing beside, in a call that was told nothing yet.
+fn call_of(core: Core) -> Call {
+    Call {
+        lock: 0,
+        others: 0,
+        core,
+        spot: Spot::Listed,
+    }
+}
+
+/// What a call is told, and how its thread owns the lock then, whether it looks next, is in debt, and sleeps.
+type Line = (Seen, Option<OwnMode>, bool, bool, bool);
+
+fn follow(rt: &impl Abort, call: Call, lines: &[Line]) -> Call {
+    let mut call = call;
+    for (seen, owns, looks, in_debt, asleep) in lines {
+        call = call.told(*seen);
+        let is_owned = (call.owns() == *owns) & (call.looks() == *looks);
+        let is_about = (call.is_in_debt() == *in_debt) & (call.is_asleep() == *asleep);
+        assert!(rt; is_owned & is_about, "told {seen:?}");
+    }
+    call
+}
+
+/// One that took it off its list has told it so.
+fn owns_off_list(rt: &impl Abort, call: Call, told: Told, owns: Option<OwnMode>) {
+    let call = Call {
+        spot: Spot::Off(3, told),
+        ..call
+    };
+    let is_owned = call.owns() == owns;
+    assert!(rt;
+        call.is_asleep() & !call.is_in_debt() & is_owned,
+        "told {told:?}"
+    );
+}
+
+fn taken(token: usize, left: bool) -> Seen {
+    Seen::Took {
+        token: Some(ParkToken(token)),
+        left,
+    }
+}
+
+const EXCLUSIVE: Option<OwnMode> = Some(OwnMode::Exclusive);
+
+const PENDING: Option<OwnMode> = Some(OwnMode::Pending);
+
+const SHARED: Option<OwnMode> = Some(OwnMode::Shared);
+
+#[test]
+fn a_locker_sleeps_and_is_woken(rt: HostRuntime) {
+    let asleep = follow(
+        &rt,
+        call_of(Core::Mutex(MutexCore::lock())),
+        &[
+            (Seen::Start, None, false, false, false),
+            (Seen::Word(1), None, false, false, false),
+            (Seen::Spun(false), None, false, false, false),
+            (Seen::Exchanged, None, false, false, false),
+            (Seen::Entered, None, false, true, false),
+            (Seen::Word(3), None, false, true, false),
+            (Seen::Made, None, false, true, false),
+            (Seen::Made, None, false, false, true),
+        ],
+    );
+    owns_off_list(&rt, asleep, Told::Nothing, None);
+    owns_off_list(&rt, asleep, Told::TryAgain, None);
+    owns_off_list(&rt, asleep, Told::HandedOver, EXCLUSIVE);
+    follow(
+        &rt,
+        asleep,
+        &[(Seen::Woken(HAND_OVER), EXCLUSIVE, false, false, false)],
+    );
+    follow(
+        &rt,
+        asleep,
+        &[
+            (Seen::Woken(TRY_AGAIN), None, false, true, false),
+            (Seen::Word(0), None, false, true, false),
+            (Seen::Exchanged, EXCLUSIVE, false, false, false),
+        ],
+    );
+}
+
+#[test]
+fn an_unlock_is_in_debt_until_it_has_woken_the_first(rt: HostRuntime) {
+    follow(
+        &rt,
+        call_of(Core::Mutex(MutexCore::unlock())),
+        &[
+            (Seen::Start, EXCLUSIVE, false, false, false),
+            (Seen::Word(3), EXCLUSIVE, true, false, false),
+            (Seen::Entered, EXCLUSIVE, false, true, false),
+            (taken(0, true), EXCLUSIVE, false, true, false),
+            (Seen::Stored { fair: true }, None, false, true, false),
+            (Seen::Made, None, false, true, false),
+            (Seen::Made, None, false, false, false),
+        ],
+    );
+}
+
+#[test]
+fn a_writer_is_pending_while_readers_are_left(rt: HostRuntime) {
+    follow(
+        &rt,
+        call_of(Core::Rw(RwCore::lock_exclusive())),
+        &[
+            (Seen::Start, None, false, false, false),
+            (Seen::Word(16), None, false, false, false),
+            (Seen::Exchanged, PENDING, false, false, false),
+            (Seen::Word(24), PENDING, false, false, false),
+            (Seen::Spun(false), PENDING, false, false, false),
+            (Seen::Word(24), PENDING, false, false, false),
+            (Seen::Exchanged, PENDING, false, false, false),
+            (Seen::Entered, PENDING, false, true, false),
+            (Seen::Word(26), PENDING, false, true, false),
+            (Seen::Made, PENDING, false, true, false),
+            (Seen::Made, PENDING, false, false, true),
+            (Seen::Woken(TRY_AGAIN), PENDING, false, true, false),
+            (Seen::Word(8), EXCLUSIVE, false, false, false),
+        ],
+    );
+}
+
+/// What one is told until it sleeps, at a lock that a writer owns.
+const TO_SLEEP: [Seen; 9] = [
+    Seen::Start,
+    Seen::Word(8),
+    Seen::Spun(false),
+    Seen::Word(8),
+    Seen::Exchanged,
+    Seen::Entered,
+    Seen::Word(9),
+    Seen::Made,
+    Seen::Made,
+];
+
+#[test]
+fn a_sleeper_that_was_handed_the_lock_owns_it(rt: HostRuntime) {
+    for (core, owns) in [
+        (RwCore::lock_shared(false), SHARED),
+        (RwCore::lock_exclusive(), PENDING),
+    ] {
+        let mut call = call_of(Core::Rw(core));
+        for seen in TO_SLEEP {
+            call = call.told(seen);
+        }
+        assert!(rt; call.is_asleep() & call.owns().is_none());
+        owns_off_list(&rt, call, Told::Nothing, None);
+        owns_off_list(&rt, call, Told::TryAgain, None);
+        owns_off_list(&rt, call, Told::HandedOver, owns);
+    }
+}
+
+#[test]
+fn a_writer_gives_the_lock_to_two(rt: HostRuntime) {
+    follow(
+        &rt,
+        call_of(Core::Rw(RwCore::unlock_exclusive())),
+        &[
+            (Seen::Start, EXCLUSIVE, false, false, false),
+            (Seen::Word(9), EXCLUSIVE, true, false, false),
+            (Seen::Entered, EXCLUSIVE, false, true, false),
+            (taken(16, true), EXCLUSIVE, false, true, false),
+            (taken(16, false), EXCLUSIVE, false, true, false),
+            (Seen::Stored { fair: false }, None, false, true, false),
+            (Seen::Made, None, false, true, false),
+            (Seen::Made, None, false, true, false),
+            (Seen::Made, None, false, false, false),
+        ],
+    );
+}
+
+#[test]
+fn a_downgrade_leaves_a_reader_that_owes_a_look(rt: HostRuntime) {
+    follow(
+        &rt,
+        call_of(Core::Rw(RwCore::downgrade())),
+        &[
+            (Seen::Start, EXCLUSIVE, false, false, false),
+            (Seen::Before(9), SHARED, false, true, false),
+            (Seen::Entered, SHARED, false, true, false),
+            (taken(16, false), SHARED, false, true, false),
+            (Seen::Stored { fair: true }, SHARED, false, true, false),
+            (Seen::Made, SHARED, false, true, false),
+            (Seen::Made, SHARED, false, false, false),
+        ],
+    );
+}
+
+#[test]
+fn the_last_reader_owes_the_pending_writer_a_wake(rt: HostRuntime) {
+    follow(
+        &rt,
+        call_of(Core::Rw(RwCore::unlock_shared())),
+        &[
+            (Seen::Start, SHARED, false, false, false),
+            (Seen::Before(26), None, false, true, false),
+            (Seen::Entered, None, false, true, false),
+            (taken(8, false), None, false, true, false),
+            (Seen::Before(10), None, false, true, false),
+            (Seen::Made, None, false, true, false),
+            (Seen::Made, None, false, false, false),
+        ],
+    );
+}

@@ -1,0 +1,55 @@
+//! What calls are refused, and how refusals are named.
+
+use parking_lot_world::{Hold, LockCall, WorldFault, WorldRefusal};
+use std::process::Abort;
+use std::test::Fail;
+
+/// Whether a reader, an owner and who owns nothing may ask that.
+fn may_ask(call: LockCall) -> [bool; 3] {
+    [
+        Hold::Shares(1).allows(call),
+        Hold::Excludes.allows(call),
+        Hold::Shares(0).allows(call),
+    ]
+}
+
+#[test]
+fn who_owns_a_lock_only_gives_it_up(rt: HostRuntime) {
+    let table = [
+        (LockCall::Lock, [false, false, true]),
+        (LockCall::TryLock, [false, false, true]),
+        (LockCall::Read, [false, false, true]),
+        (LockCall::TryRead, [false, false, true]),
+        (LockCall::Write, [false, false, true]),
+        (LockCall::TryWrite, [false, false, true]),
+        (LockCall::Unlock, [false, true, false]),
+        (LockCall::UnlockWrite, [false, true, false]),
+        (LockCall::Downgrade, [false, true, false]),
+        (LockCall::UnlockRead, [true, false, false]),
+    ];
+    for (call, may) in table {
+        assert!(rt; may_ask(call) == may, "{call:?}");
+    }
+}
+
+#[test]
+fn refusals_have_codes_and_names(rt: HostRuntime) -> Result<(), Fail> {
+    let table = [
+        (WorldRefusal::NoSuchThread, 61, "NoSuchThread"),
+        (WorldRefusal::CannotMove, 62, "CannotMove"),
+    ];
+    for (refusal, code, name) in table {
+        let fault = WorldFault {
+            done: 3,
+            fault: refusal,
+        };
+        let text = format!(in rt.alloc(); "{refusal} {fault}")?;
+        let both = format!(in rt.alloc(); "{name} {name}")?;
+        let is_named = text.as_str() == both.as_str();
+        assert!(rt;
+            is_named & (refusal.code() == code) & (fault.code() == code),
+            "{name}"
+        );
+    }
+    Ok(())
+}

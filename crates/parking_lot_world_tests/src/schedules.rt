@@ -1,0 +1,111 @@
+//! All schedules of two threads at one lock, each to its end.
+
+mod explorer;
+mod program;
+mod rules;
+mod shown;
+mod state;
+
+use explorer::{Explorer, Found};
+use parking_lot_world::{LockCall, LockKind};
+use program::{End, Pair, Program};
+use std::process::Abort;
+use std::test::Fail;
+
+const ENDS: [End; 3] = [End::Served, End::Refused, End::Waits];
+
+/// How often the two end so.
+fn times(found: &Found, first: End, second: End) -> usize {
+    found
+        .ends
+        .iter()
+        .filter(|ends| **ends == (first, second))
+        .count()
+}
+
+/// The schedules of a pair end as they may, in each of those ways.
+fn ends_as_it_may(rt: &impl Abort, pair: Pair, found: &Found, first: End) {
+    for second in ENDS {
+        let is_found = times(found, first, second) > 0;
+        let is_right = is_found == pair.may_end(first, second);
+        assert!(rt; is_right, "{first:?} and {second:?} of {pair:?}");
+    }
+}
+
+/// Makes all schedules of a pair. Answers how many states there were.
+fn explore(rt: &(impl AllocGlobal + Abort), kind: LockKind, pair: Pair) -> Result<u64, Fail> {
+    let found = Explorer::explore(rt, kind, pair)?;
+    for first in ENDS {
+        ends_as_it_may(rt, pair, &found, first);
+    }
+    let waits = found.waited == pair.may_wait();
+    let hands = found.handed == pair.may_hand();
+    assert!(rt;
+        waits & hands,
+        "{pair:?}: waiting {waits} and handing over {hands} are as they may be"
+    );
+    Ok(found.states)
+}
+
+/// Makes all schedules of one program with each of those. Answers how many states there were.
+fn explore_with(
+    rt: &(impl AllocGlobal + Abort),
+    kind: LockKind,
+    first: Program,
+    others: &[Program],
+) -> Result<u64, Fail> {
+    let mut states = 0u64;
+    for second in others {
+        states = states.saturating_add(explore(rt, kind, Pair(first, *second))?);
+    }
+    Ok(states)
+}
+
+/// The same of each two of those programs, and of each with itself. Were there fewer states than before, different ones might have been taken
+/// for one.
+fn explore_all(
+    rt: &(impl AllocGlobal + Abort),
+    kind: LockKind,
+    programs: &[Program],
+) -> Result<u64, Fail> {
+    let mut states = 0u64;
+    for (at, first) in programs.iter().enumerate() {
+        states = states.saturating_add(explore_with(rt, kind, *first, &programs[at..])?);
+    }
+    Ok(states)
+}
+
+/// A program of two calls.
+fn two(ask: LockCall, then: LockCall) -> Program {
+    [Some(ask), Some(then), None]
+}
+
+#[test]
+fn every_schedule_at_a_mutex_keeps_the_rules(rt: HostRuntime) -> Result<(), Fail> {
+    let programs = [
+        two(LockCall::Lock, LockCall::Unlock),
+        two(LockCall::TryLock, LockCall::Unlock),
+    ];
+    let states = explore_all(&rt, LockKind::Mutex, &programs)?;
+    assert!(rt; states >= 2_000, "{states} states");
+    Ok(())
+}
+
+#[test]
+fn every_schedule_at_a_reader_writer_lock_keeps_the_rules(rt: HostRuntime) -> Result<(), Fail> {
+    let programs = [
+        two(LockCall::Read, LockCall::UnlockRead),
+        two(LockCall::TryRead, LockCall::UnlockRead),
+        two(LockCall::Write, LockCall::UnlockWrite),
+        two(LockCall::TryWrite, LockCall::UnlockWrite),
+        two(LockCall::Write, LockCall::Downgrade),
+        [
+            Some(LockCall::Write),
+            Some(LockCall::Downgrade),
+            Some(LockCall::UnlockRead),
+        ],
+    ];
+    let states = explore_all(&rt, LockKind::Rw, &programs)?;
+    assert!(rt; states >= 50_000, "{states} states");
+    Ok(())
+}

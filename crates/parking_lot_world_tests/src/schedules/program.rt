@@ -1,0 +1,134 @@
+//! What two threads call, and what has to come of it.
+
+use parking_lot_world::{LockAnswer, LockCall, OwnMode};
+
+/// The calls of a thread, one after another. It asks for the lock by the first; where that is refused, it calls no more.
+pub type Program = [Option<LockCall>; 3];
+
+/// How a program ends.
+#[derive(Clone, Copy, PartialEq, Eq, Debug)]
+pub enum End {
+    /// Every call is answered, and none is refused.
+    Served,
+    /// Its try is refused.
+    Refused,
+    /// It sleeps, since the other keeps the lock.
+    Waits,
+}
+
+/// How a thread owns the lock as it begins that call.
+fn mode_before(call: LockCall) -> Option<OwnMode> {
+    match call {
+        LockCall::Unlock | LockCall::UnlockWrite => Some(OwnMode::Exclusive),
+        LockCall::Downgrade => Some(OwnMode::Exclusive),
+        LockCall::UnlockRead => Some(OwnMode::Shared),
+        LockCall::Lock | LockCall::TryLock => None,
+        LockCall::Read | LockCall::TryRead => None,
+        LockCall::Write | LockCall::TryWrite => None,
+    }
+}
+
+/// How a thread owns the lock once that call is answered, and isn't refused.
+pub fn mode_behind(call: LockCall) -> Option<OwnMode> {
+    match call {
+        LockCall::Lock | LockCall::TryLock => Some(OwnMode::Exclusive),
+        LockCall::Write | LockCall::TryWrite => Some(OwnMode::Exclusive),
+        LockCall::Read | LockCall::TryRead => Some(OwnMode::Shared),
+        LockCall::Downgrade => Some(OwnMode::Shared),
+        LockCall::Unlock | LockCall::UnlockRead | LockCall::UnlockWrite => None,
+    }
+}
+
+/// Whether a thread may own the lock so within that call. Only a writer that may sleep is ever pending.
+pub fn may_own(call: LockCall, mode: Option<OwnMode>) -> bool {
+    mode == mode_before(call)
+        || mode == mode_behind(call)
+        || call == LockCall::Write && mode == Some(OwnMode::Pending)
+}
+
+/// Whether that call may sleep until it owns the lock.
+pub fn may_sleep(call: LockCall) -> bool {
+    matches!(call, LockCall::Lock | LockCall::Read | LockCall::Write)
+}
+
+/// Whether that call may be answered so.
+pub fn may_answer(call: LockCall, answer: LockAnswer) -> bool {
+    match answer {
+        LockAnswer::Owned => mode_behind(call).is_some(),
+        LockAnswer::Refused => mode_before(call).is_none() && !may_sleep(call),
+        LockAnswer::Released => mode_behind(call).is_none(),
+    }
+}
+
+/// Whether the program asks for the lock by a call that may sleep.
+fn is_patient(program: Program) -> bool {
+    program.iter().flatten().any(|call| may_sleep(*call))
+}
+
+/// Whether the program asks to own the lock alone.
+fn excludes(program: Program) -> bool {
+    program[0].and_then(mode_behind) == Some(OwnMode::Exclusive)
+}
+
+/// Whether the program still owns the lock at its end.
+fn keeps(program: Program) -> bool {
+    match program.iter().flatten().last() {
+        Some(call) => mode_behind(*call).is_some(),
+        None => false,
+    }
+}
+
+/// Whether the program gives up the exclusive hold, and may hand it over.
+fn may_hand(program: Program) -> bool {
+    program.contains(&Some(LockCall::Unlock)) || program.contains(&Some(LockCall::UnlockWrite))
+}
+
+/// Two programs, of thread 0 and of thread 1.
+#[derive(Clone, Copy, Debug)]
+pub struct Pair(pub Program, pub Program);
+
+impl Pair {
+    /// The other way round.
+    fn turned(self) -> Pair {
+        Pair(self.1, self.0)
+    }
+
+    /// Whether one of them excludes the other while it owns the lock.
+    fn conflicts(self) -> bool {
+        excludes(self.0) || excludes(self.1)
+    }
+
+    /// Whether the first may be served once the second is at its end.
+    fn first_may_follow(self) -> bool {
+        !(excludes(self.0) && keeps(self.1))
+    }
+
+    /// Whether the first may end so beside the second, which is served.
+    fn first_may_end(self, end: End) -> bool {
+        match end {
+            End::Served => self.first_may_follow() || self.turned().first_may_follow(),
+            End::Refused => !is_patient(self.0) && self.conflicts(),
+            End::Waits => is_patient(self.0) && !self.first_may_follow(),
+        }
+    }
+
+    /// Whether there is a schedule by which the two end so. One of them is always served: who is refused or waits has met the other as an
+    /// owner.
+    pub fn may_end(self, first: End, second: End) -> bool {
+        if second == End::Served {
+            self.first_may_end(first)
+        } else {
+            first == End::Served && self.turned().first_may_end(second)
+        }
+    }
+
+    /// Whether there is a schedule by which one of them waits in a list.
+    pub fn may_wait(self) -> bool {
+        (is_patient(self.0) || is_patient(self.1)) && self.conflicts()
+    }
+
+    /// Whether there is a schedule by which one of them hands the lock over to the other.
+    pub fn may_hand(self) -> bool {
+        may_hand(self.0) && is_patient(self.1) || may_hand(self.1) && is_patient(self.0)
+    }
+}

@@ -1,0 +1,172 @@
+//! What a world shows of a state.
+
+use parking_lot_world::{LockAnswer, LockKind, OwnMode, World};
+use std::test::Fail;
+
+/// What a world of two threads and one lock shows.
+#[derive(PartialEq, Eq, Drop)]
+pub struct Shown {
+    kind: LockKind,
+    word: u64,
+    owners: Vec<(usize, OwnMode)>,
+    first: Vec<usize>,
+    second: Vec<usize>,
+    debts: Vec<usize>,
+    answers: [Option<LockAnswer>; 2],
+}
+
+/// What an owner adds to the lock's word.
+fn weight(kind: LockKind, mode: OwnMode) -> u64 {
+    match (kind, mode) {
+        (LockKind::Mutex, _) => 1,
+        (LockKind::Rw, OwnMode::Exclusive | OwnMode::Pending) => 8,
+        (LockKind::Rw, OwnMode::Shared) => 16,
+        (LockKind::Rw, OwnMode::Upgradable) => 20,
+    }
+}
+
+/// The bits of the word which say that the first list, and the second, may have somebody.
+fn parked_bits(kind: LockKind) -> (u64, u64) {
+    match kind {
+        LockKind::Mutex => (2, 0),
+        LockKind::Rw => (1, 2),
+    }
+}
+
+impl Shown {
+    pub fn of(world: &World, kind: LockKind) -> Result<Shown, Fail> {
+        Ok(Shown {
+            kind,
+            word: world.word(0),
+            owners: world.owners(0)?,
+            first: world.queue(0)?,
+            second: world.queue(1)?,
+            debts: world.debts()?,
+            answers: [world.answer(0), world.answer(1)],
+        })
+    }
+
+    pub fn answer(&self, thread: usize) -> Option<LockAnswer> {
+        self.answers.get(thread).copied().flatten()
+    }
+
+    /// How a thread owns the lock.
+    pub fn mode(&self, thread: usize) -> Option<OwnMode> {
+        for (owner, mode) in &self.owners {
+            if *owner == thread {
+                return Some(*mode);
+            }
+        }
+        None
+    }
+
+    /// Whether a thread stands in the first list.
+    pub fn waits_first(&self, thread: usize) -> bool {
+        self.first.contains(&thread)
+    }
+
+    pub fn waits_second(&self, thread: usize) -> bool {
+        self.second.contains(&thread)
+    }
+
+    /// Whether it stands in a list.
+    pub fn waits(&self, thread: usize) -> bool {
+        self.waits_first(thread) || self.waits_second(thread)
+    }
+
+    pub fn has_waiters(&self) -> bool {
+        !self.first.is_empty() || !self.second.is_empty()
+    }
+
+    pub fn is_in_debt(&self, thread: usize) -> bool {
+        self.debts.contains(&thread)
+    }
+
+    pub fn has_debts(&self) -> bool {
+        !self.debts.is_empty()
+    }
+
+    /// How many own the lock so.
+    fn count(&self, mode: OwnMode) -> usize {
+        self.owners.iter().filter(|owner| owner.1 == mode).count()
+    }
+
+    /// How many are the only owner, or are to be.
+    fn excluding(&self) -> usize {
+        self.count(OwnMode::Exclusive)
+            .saturating_add(self.count(OwnMode::Pending))
+    }
+
+    /// Owners are threads of the world, each named once, in order.
+    pub fn has_each_owner_once(&self) -> bool {
+        match self.owners.as_slice() {
+            [] => true,
+            [one] => one.0 < 2,
+            [one, other] => one.0 == 0 && other.0 == 1,
+            _ => false,
+        }
+    }
+
+    /// So are those that are in debt.
+    pub fn has_each_debtor_once(&self) -> bool {
+        matches!(self.debts.as_slice(), [] | [0 | 1] | [0, 1])
+    }
+
+    /// At most one excludes others, and nobody reads beside one that does so already.
+    pub fn owners_go_together(&self) -> bool {
+        self.excluding() <= 1
+            && (self.count(OwnMode::Exclusive) == 0 || self.count(OwnMode::Shared) == 0)
+    }
+
+    /// What the owners make of the word.
+    fn weight(&self) -> u64 {
+        let mut sum = 0u64;
+        for (_, mode) in &self.owners {
+            sum = sum.wrapping_add(weight(self.kind, *mode));
+        }
+        sum
+    }
+
+    /// But for the parked bits, the word is what its owners make of it.
+    pub fn has_word_of_owners(&self) -> bool {
+        let (first, second) = parked_bits(self.kind);
+        self.word & !(first | second) == self.weight()
+    }
+
+    /// A list that isn't empty has its parked bit.
+    pub fn has_parked_bits(&self) -> bool {
+        let (first, second) = parked_bits(self.kind);
+        (self.first.is_empty() || self.word & first != 0)
+            && (self.second.is_empty() || self.word & second != 0)
+    }
+
+    /// Of two threads one at most waits, and it stands in one list, once.
+    pub fn one_waits(&self) -> bool {
+        matches!(
+            (self.first.as_slice(), self.second.as_slice()),
+            ([], []) | ([_], []) | ([], [_])
+        )
+    }
+
+    /// Only a pending writer waits in the second list.
+    pub fn second_is_pending(&self) -> bool {
+        self.second
+            .iter()
+            .all(|thread| self.mode(*thread) == Some(OwnMode::Pending))
+    }
+
+    /// Whether one that waits might go on: nobody excludes others, or for a pending writer nobody reads.
+    pub fn may_go_on(&self) -> bool {
+        !self.first.is_empty() && self.excluding() == 0
+            || !self.second.is_empty() && self.count(OwnMode::Shared) == 0
+    }
+
+    /// Nobody is in debt or waits in the first list, and the word has no bit beside what its owners and a pending writer that waits make.
+    pub fn is_at_rest(&self) -> bool {
+        let (_, second) = parked_bits(self.kind);
+        let waiting = if self.second.is_empty() { 0 } else { second };
+        self.debts.is_empty()
+            && self.first.is_empty()
+            && self.word == self.weight().wrapping_add(waiting)
+    }
+}

@@ -1,0 +1,267 @@
+//! What states of a world are told apart by.
+
+use super::program::{End, Program, may_answer, mode_behind};
+use super::shown::Shown;
+use parking_lot_core::{Place, ThreadStatus};
+use parking_lot_cores::{MutexPhase, RwPhase};
+use parking_lot_world::{
+    Call, Core, Hold, LockAnswer, LockCall, OwnMode, Spot, Wakeup, World, WorldStep,
+};
+
+/// A call that isn't answered, and what was seen since it began.
+#[derive(Clone, Copy, PartialEq, Eq)]
+pub struct Open {
+    pub call: LockCall,
+    /// Whether the other has owned the lock.
+    pub met: bool,
+    /// Whether its thread has stood in the first list, and in the second.
+    pub first: bool,
+    pub second: bool,
+}
+
+impl Open {
+    fn of(call: LockCall) -> Open {
+        Open {
+            call,
+            met: false,
+            first: false,
+            second: false,
+        }
+    }
+
+    /// Once that is shown of its thread.
+    fn seen(&self, thread: usize, shown: &Shown) -> Open {
+        Open {
+            call: self.call,
+            met: self.met || shown.mode(other(thread)).is_some(),
+            first: self.first || shown.waits_first(thread),
+            second: self.second || shown.waits_second(thread),
+        }
+    }
+
+    /// Whether its thread, which owns the lock so, was taken out of a list for nothing so far: it isn't what it waited there to be.
+    pub fn is_due(&self, mode: Option<OwnMode>) -> bool {
+        self.first && mode.is_none() || self.second && mode == Some(OwnMode::Pending)
+    }
+}
+
+/// Where a thread is in its program.
+#[derive(Clone, Copy, PartialEq, Eq)]
+pub enum Stage {
+    /// In no call. By its calls so far it owns the lock like this.
+    Between(Option<OwnMode>),
+    /// In a call.
+    Within(Open),
+}
+
+/// How far a thread is in its program.
+#[derive(Clone, Copy, PartialEq, Eq)]
+pub struct Progress {
+    pub stage: Stage,
+    /// The calls that it hasn't begun.
+    pub rest: Program,
+    /// Whether its try was refused.
+    pub refused: bool,
+}
+
+impl Progress {
+    /// Before the first call.
+    pub fn of(program: Program) -> Progress {
+        Progress {
+            stage: Stage::Between(None),
+            rest: program,
+            refused: false,
+        }
+    }
+
+    /// What may be its next steps. Others are never allowed; these aren't where it is at the end, sleeps, or is before a section that
+    /// another has entered.
+    pub fn steps(&self, thread: usize) -> [WorldStep; 2] {
+        let goes = WorldStep::Go(thread, false);
+        match (self.stage, self.rest[0]) {
+            (Stage::Between(_), Some(call)) => [goes, WorldStep::Begin(thread, 0, call)],
+            _ => [goes, WorldStep::Go(thread, true)],
+        }
+    }
+
+    /// Whether it is in a call where it goes on, and in none where it begins one.
+    pub fn may_make(&self, step: WorldStep) -> bool {
+        match step {
+            WorldStep::Begin(_, _, _) => matches!(self.stage, Stage::Between(_)),
+            WorldStep::Go(_, _) => matches!(self.stage, Stage::Within(_)),
+        }
+    }
+
+    /// Once it has begun its next call.
+    fn begun(&self) -> Progress {
+        let [next, second, third] = self.rest;
+        match next {
+            Some(call) => Progress {
+                stage: Stage::Within(Open::of(call)),
+                rest: [second, third, None],
+                refused: false,
+            },
+            None => *self,
+        }
+    }
+
+    /// Once its call is answered.
+    fn answered(&self, call: LockCall, answer: LockAnswer) -> Progress {
+        if answer == LockAnswer::Refused {
+            Progress {
+                stage: Stage::Between(None),
+                rest: [None; 3],
+                refused: true,
+            }
+        } else {
+            Progress {
+                stage: Stage::Between(mode_behind(call)),
+                ..*self
+            }
+        }
+    }
+
+    /// Once it has made a step, behind which its last call is answered so.
+    fn after(&self, answer: Option<LockAnswer>) -> Progress {
+        match (self.stage, answer) {
+            (Stage::Between(_), _) => self.begun(),
+            (Stage::Within(_), None) => *self,
+            (Stage::Within(open), Some(answer)) => self.answered(open.call, answer),
+        }
+    }
+
+    /// Once that is shown of its thread.
+    fn seen(&self, thread: usize, shown: &Shown) -> Progress {
+        match self.stage {
+            Stage::Between(_) => *self,
+            Stage::Within(open) => Progress {
+                stage: Stage::Within(open.seen(thread, shown)),
+                ..*self
+            },
+        }
+    }
+
+    /// Whether its next step may leave its call answered so: as fits the call, and refused only where the other has owned the lock meanwhile.
+    pub fn may_be_answered(&self, answer: Option<LockAnswer>) -> bool {
+        match (self.stage, answer) {
+            (_, None) => true,
+            (Stage::Between(_), Some(_)) => false,
+            (Stage::Within(open), Some(LockAnswer::Refused)) if !open.met => false,
+            (Stage::Within(open), Some(answer)) => may_answer(open.call, answer),
+        }
+    }
+
+    /// How it ends, where it makes no further step.
+    pub fn end(&self) -> End {
+        match self.stage {
+            Stage::Within(_) => End::Waits,
+            Stage::Between(_) if self.refused => End::Refused,
+            Stage::Between(_) => End::Served,
+        }
+    }
+}
+
+/// The other of two threads.
+pub fn other(thread: usize) -> usize {
+    if thread == 0 { 1 } else { 0 }
+}
+
+/// One of two threads once `mover` has made a step, behind which that is shown.
+fn followed(at: Progress, thread: usize, mover: usize, behind: &Shown) -> Progress {
+    let moved = if thread == mover {
+        at.after(behind.answer(thread))
+    } else {
+        at
+    };
+    moved.seen(thread, behind)
+}
+
+/// Both of them.
+pub fn both_followed(threads: [Progress; 2], mover: usize, behind: &Shown) -> [Progress; 2] {
+    [
+        followed(threads[0], 0, mover, behind),
+        followed(threads[1], 1, mover, behind),
+    ]
+}
+
+/// Where a call stands.
+#[derive(Clone, Copy, PartialEq, Eq)]
+enum Phase {
+    Mutex(MutexPhase),
+    Rw(RwPhase),
+}
+
+/// An unanswered call: where it stands, how many holds its thread has beside, and where it is while it sleeps.
+#[derive(Clone, Copy, PartialEq, Eq)]
+struct Standing(Phase, u8, Spot);
+
+impl Standing {
+    fn of(call: Call) -> Standing {
+        let phase = match call.core {
+            Core::Mutex(core) => Phase::Mutex(core.phase()),
+            Core::Rw(core) => Phase::Rw(core.phase()),
+        };
+        Standing(phase, call.others, call.spot)
+    }
+}
+
+/// What a thread is told apart by.
+#[derive(Clone, Copy, PartialEq, Eq)]
+struct Seat {
+    standing: Option<Standing>,
+    hold: Hold,
+    place: Option<Place>,
+    status: Option<ThreadStatus>,
+}
+
+impl Seat {
+    fn of(world: &World, thread: usize) -> Seat {
+        let machine = world.machine();
+        Seat {
+            standing: machine.call(thread).map(Standing::of),
+            hold: machine.hold(thread, 0),
+            place: machine.lot().place(thread),
+            status: machine.lot().status(thread),
+        }
+    }
+}
+
+/// Who is still to be woken: each of two threads at most once.
+fn wakes_of(world: &World) -> [Option<Wakeup>; 2] {
+    let wakes = world.machine().wakes();
+    [wakes.first().copied(), wakes.get(1).copied()]
+}
+
+/// All that the further steps of two threads at one lock depend on, and all that is shown of them. What the lot counts its sleeps by is left
+/// out, but for the marks of those that sleep.
+#[derive(PartialEq, Eq, Drop)]
+pub struct Snapshot {
+    pub threads: [Progress; 2],
+    pub shown: Shown,
+    seats: [Seat; 2],
+    wakes: [Option<Wakeup>; 2],
+}
+
+impl Snapshot {
+    pub fn of(world: &World, threads: [Progress; 2], shown: Shown) -> Snapshot {
+        Snapshot {
+            threads,
+            shown,
+            seats: [Seat::of(world, 0), Seat::of(world, 1)],
+            wakes: wakes_of(world),
+        }
+    }
+
+    /// How far one of the two threads is.
+    pub fn progress(&self, thread: usize) -> Progress {
+        let [first, second] = self.threads;
+        if thread == 0 { first } else { second }
+    }
+}
+
+/// A state, and a schedule that leads there.
+#[derive(Drop)]
+pub struct State {
+    pub schedule: Vec<WorldStep>,
+    pub snapshot: Snapshot,
+}

@@ -1,0 +1,267 @@
+//! Schedules worked by hand, with what is seen on the way.
+
+use parking_lot_core::SizeFault;
+use parking_lot_world::{
+    LockAnswer, LockCall, LockKind, OwnMode, World, WorldFault, WorldRefusal, WorldStep,
+};
+use std::process::Abort;
+use std::test::Fail;
+
+/// What is done in a world of one lock, or seen of it.
+#[derive(Clone, Copy)]
+enum Line {
+    /// A thread makes a call, to its answer or its sleep.
+    Calls(usize, LockCall),
+    /// The same, fairly.
+    CallsFairly(usize, LockCall),
+    /// A thread goes on, to its answer or its sleep.
+    GoesOn(usize),
+    /// What its last call has answered.
+    Answered(usize, Option<LockAnswer>),
+    Word(u64),
+    Owners(&'static [(usize, OwnMode)]),
+    /// The lists of the lock's two keys.
+    Queues(&'static [usize], &'static [usize]),
+    Debts(&'static [usize]),
+}
+
+/// A thread goes on until its call is answered or it can't, 50 steps at most.
+fn go_on(world: &mut World, thread: usize, fair: bool) -> bool {
+    for _ in 0..50 {
+        if world.answer(thread).is_some() || world.run(&[WorldStep::Go(thread, fair)]).is_err() {
+            return true;
+        }
+    }
+    false
+}
+
+/// A thread makes a call, to its answer or its sleep. Answers whether it might.
+fn call(world: &mut World, thread: usize, call: LockCall, fair: bool) -> bool {
+    let is_begun = world.run(&[WorldStep::Begin(thread, 0, call)]).is_ok();
+    is_begun && go_on(world, thread, fair)
+}
+
+fn is_list(found: Result<Vec<usize>, SizeFault>, threads: &[usize]) -> bool {
+    match found {
+        Ok(found) => found.as_slice() == threads,
+        Err(_) => false,
+    }
+}
+
+fn are_owners(world: &World, lock: usize, owners: &[(usize, OwnMode)]) -> bool {
+    match world.owners(lock) {
+        Ok(found) => found.as_slice() == owners,
+        Err(_) => false,
+    }
+}
+
+/// Does what a line says, or looks whether it is so. Answers whether it is.
+fn holds(world: &mut World, line: Line) -> bool {
+    match line {
+        Line::Calls(thread, asked) => call(world, thread, asked, false),
+        Line::CallsFairly(thread, asked) => call(world, thread, asked, true),
+        Line::GoesOn(thread) => go_on(world, thread, false),
+        Line::Answered(thread, answer) => world.answer(thread) == answer,
+        Line::Word(word) => world.word(0) == word,
+        Line::Owners(owners) => are_owners(world, 0, owners),
+        Line::Queues(first, second) => {
+            is_list(world.queue(0), first) && is_list(world.queue(1), second)
+        }
+        Line::Debts(threads) => is_list(world.debts(), threads),
+    }
+}
+
+/// Goes through the lines in a new world of one lock: those of `before`, and then the others.
+fn follow(
+    rt: &(impl AllocGlobal + Abort),
+    threads: usize,
+    kind: LockKind,
+    before: &[Line],
+    script: &[Line],
+) -> Result<(), Fail> {
+    let kinds = vec![in rt.alloc(); kind]?;
+    let mut world = World::new(rt.alloc(), threads, kinds)?;
+    for (at, line) in before.iter().chain(script.iter()).enumerate() {
+        let is_so = holds(&mut world, *line);
+        assert!(rt; is_so, "line {at}");
+    }
+    Ok(())
+}
+
+const OWNED: Option<LockAnswer> = Some(LockAnswer::Owned);
+
+const REFUSED: Option<LockAnswer> = Some(LockAnswer::Refused);
+
+const RELEASED: Option<LockAnswer> = Some(LockAnswer::Released);
+
+#[test]
+fn a_writer_waits_for_a_reader(rt: HostRuntime) -> Result<(), Fail> {
+    let script = [
+        Line::Answered(0, None),
+        Line::Calls(0, LockCall::Read),
+        Line::Answered(0, OWNED),
+        Line::Calls(1, LockCall::Write),
+        Line::Answered(1, None),
+        Line::Word(26),
+        Line::Owners(&[(0, OwnMode::Shared), (1, OwnMode::Pending)]),
+        Line::Queues(&[], &[1]),
+        Line::Debts(&[]),
+        Line::Calls(0, LockCall::UnlockRead),
+        Line::Answered(0, RELEASED),
+        Line::Word(8),
+        Line::Owners(&[(1, OwnMode::Pending)]),
+        Line::Queues(&[], &[]),
+        Line::Debts(&[1]),
+        Line::GoesOn(1),
+        Line::Answered(1, OWNED),
+        Line::Owners(&[(1, OwnMode::Exclusive)]),
+        Line::Queues(&[], &[]),
+        Line::Debts(&[]),
+    ];
+    follow(&rt, 2, LockKind::Rw, &[], &script)
+}
+
+#[test]
+fn tries_are_refused_beside_a_waiting_writer(rt: HostRuntime) -> Result<(), Fail> {
+    let script = [
+        Line::Calls(0, LockCall::Read),
+        Line::Calls(2, LockCall::TryWrite),
+        Line::Answered(2, REFUSED),
+        Line::Calls(1, LockCall::Write),
+        Line::Calls(2, LockCall::TryRead),
+        Line::Answered(2, REFUSED),
+        Line::Calls(0, LockCall::UnlockRead),
+        Line::GoesOn(1),
+        Line::Calls(2, LockCall::TryWrite),
+        Line::Answered(2, REFUSED),
+    ];
+    follow(&rt, 3, LockKind::Rw, &[], &script)
+}
+
+#[test]
+fn a_downgrade_lets_readers_in(rt: HostRuntime) -> Result<(), Fail> {
+    let script = [
+        Line::Calls(0, LockCall::Write),
+        Line::Calls(1, LockCall::Read),
+        Line::Word(9),
+        Line::Owners(&[(0, OwnMode::Exclusive)]),
+        Line::Queues(&[1], &[]),
+        Line::Debts(&[]),
+        Line::Calls(0, LockCall::Downgrade),
+        Line::Answered(0, OWNED),
+        Line::Owners(&[(0, OwnMode::Shared)]),
+        Line::Queues(&[], &[]),
+        Line::Debts(&[1]),
+        Line::GoesOn(1),
+        Line::Word(32),
+        Line::Owners(&[(0, OwnMode::Shared), (1, OwnMode::Shared)]),
+        Line::Queues(&[], &[]),
+        Line::Debts(&[]),
+    ];
+    follow(&rt, 2, LockKind::Rw, &[], &script)
+}
+
+/// Thread 0 owns the mutex, and 1 and 2 sleep.
+const TWO_SLEEP: [Line; 7] = [
+    Line::Calls(0, LockCall::Lock),
+    Line::Calls(1, LockCall::Lock),
+    Line::Calls(2, LockCall::Lock),
+    Line::Word(3),
+    Line::Owners(&[(0, OwnMode::Exclusive)]),
+    Line::Queues(&[1, 2], &[]),
+    Line::Debts(&[]),
+];
+
+#[test]
+fn a_mutex_is_handed_over(rt: HostRuntime) -> Result<(), Fail> {
+    let script = [
+        Line::CallsFairly(0, LockCall::Unlock),
+        Line::Answered(0, RELEASED),
+        Line::Word(3),
+        Line::Owners(&[(1, OwnMode::Exclusive)]),
+        Line::Queues(&[2], &[]),
+        Line::Debts(&[]),
+        Line::GoesOn(1),
+        Line::Answered(1, OWNED),
+    ];
+    follow(&rt, 3, LockKind::Mutex, &TWO_SLEEP, &script)
+}
+
+#[test]
+fn a_mutex_is_let_go(rt: HostRuntime) -> Result<(), Fail> {
+    let script = [
+        Line::Calls(0, LockCall::Unlock),
+        Line::Answered(0, RELEASED),
+        Line::Word(2),
+        Line::Owners(&[]),
+        Line::Queues(&[2], &[]),
+        Line::Debts(&[1]),
+        Line::Calls(0, LockCall::TryLock),
+        Line::Answered(0, OWNED),
+        Line::GoesOn(1),
+        Line::Answered(1, None),
+        Line::Owners(&[(0, OwnMode::Exclusive)]),
+        Line::Queues(&[2, 1], &[]),
+        Line::Debts(&[]),
+    ];
+    follow(&rt, 3, LockKind::Mutex, &TWO_SLEEP, &script)
+}
+
+/// The step is refused behind two that are done.
+fn is_refused(
+    rt: &impl Abort,
+    world: &mut World,
+    step: WorldStep,
+    fault: WorldRefusal,
+    name: &str,
+) {
+    let begin = WorldStep::Begin(2, 0, LockCall::TryRead);
+    let other = [begin, WorldStep::Go(2, false), step];
+    let refused = world.run(&other) == Err(WorldFault { done: 2, fault });
+    assert!(rt; refused, "{name}");
+    go_on(world, 2, false);
+    call(world, 2, LockCall::UnlockRead, false);
+}
+
+#[test]
+fn steps_are_refused_and_counted(rt: HostRuntime) -> Result<(), Fail> {
+    let kinds = vec![in rt.alloc(); LockKind::Rw, LockKind::Mutex]?;
+    let mut world = World::new(rt.alloc(), 3, kinds)?;
+    let cannot = WorldRefusal::CannotMove;
+    let nobody = WorldRefusal::NoSuchThread;
+    let lock = WorldStep::Begin(0, 1, LockCall::Lock);
+    for (step, name) in [
+        (
+            WorldStep::Begin(0, 1, LockCall::Unlock),
+            "unlock without owning",
+        ),
+        (WorldStep::Begin(0, 1, LockCall::Read), "read on a mutex"),
+        (WorldStep::Begin(0, 2, LockCall::Lock), "no such lock"),
+        (WorldStep::Go(0, false), "in no call"),
+    ] {
+        is_refused(&rt, &mut world, step, cannot, name);
+    }
+    assert!(rt; world.run(&[lock]).is_ok());
+    is_refused(&rt, &mut world, lock, cannot, "with an open call");
+    go_on(&mut world, 0, false);
+    is_refused(&rt, &mut world, lock, cannot, "lock while owning");
+    for (step, name) in [
+        (WorldStep::Go(9, false), "go"),
+        (WorldStep::Begin(9, 0, LockCall::Read), "begin"),
+    ] {
+        is_refused(&rt, &mut world, step, nobody, name);
+    }
+    assert!(rt; are_owners(&world, 1, &[(0, OwnMode::Exclusive)]));
+    Ok(())
+}
+
+#[test]
+fn worlds_have_a_least_and_a_greatest_size(rt: HostRuntime) -> Result<(), Fail> {
+    for (threads, locks) in [(0, 1), (65_537, 1), (1, 0), (1, (1 << 20) + 1)] {
+        let kinds = vec![in rt.alloc(); LockKind::Rw; locks]?;
+        let fault = World::new(rt.alloc(), threads, kinds).err();
+        let is_refused = fault == Some(SizeFault::BadSize);
+        assert!(rt; is_refused, "{threads} threads, {locks} locks");
+    }
+    Ok(())
+}
