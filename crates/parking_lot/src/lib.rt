@@ -29,7 +29,7 @@ pub use parking_lot_locks::laws::{
 };
 pub use parking_lot_locks::{
     Act, CoreAnswer, LockTable, MutexCore, RawMutex, RawRwLock, RawThreadId, Row, RwCore,
-    SectionAct, Seen, WordChange, wake_sum,
+    SectionAct, ActResult, WordChange, wake_sum,
 };
 pub use parking_lot_world::{
     LockAnswer, LockCall, LockKind, OwnMode, World, WorldFault, WorldRefusal, WorldStep,

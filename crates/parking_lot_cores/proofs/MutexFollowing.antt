@@ -2,16 +2,16 @@
 use Rattle.std.proofs.Common.{◌≡◌, ◌≢◌, ◌≤◌, ℕ, ◌+◌, ◌*◌, ◌==◌, ◌&&◌, ◌||◌, Bool, true, false, cond, nat_lt, ◌-◌, List, [], ◌∷◌, Option, Some, None, refl, sym, ap, ◌∙◌, subst, arith, eqb-true, ◌/◌, ◌%◌, ◌^◌, bit_and}
 use Rattle.std.specs.Int.Bits.{and_zero_r}
 use Rattle.parking_lot_rules.specs.Mutex as rules
-use Rattle.parking_lot_cores.specs.declared.act.Seen.{Seen}
-use Rattle.parking_lot_cores.specs.declared.act.Seen.TheVariants.{Start, Word, Exchanged, Before, Spun, Entered, Took, Stored, Made, Woken}
+use Rattle.parking_lot_cores.specs.declared.act.ActResult.{ActResult}
+use Rattle.parking_lot_cores.specs.declared.act.ActResult.TheVariants.{Start, Word, Exchanged, Before, Spun, Entered, Took, Stored, Made, Woken}
 use Rattle.parking_lot_cores.specs.declared.mutex_phase.MutexPhase.{MutexPhase}
-use Rattle.parking_lot_cores.specs.declared.mutex_phase.MutexPhase.TheVariants.{Locking, Trying, Unlocking, Bumping, Loads, Locks, Spins, Parks, Enters, Checks, Retreats, Appends, Rests, Sleeps, TryLoads, TryLocks, Refuses, BumpLoads, Relocks, Unlocks, Looks, Takes, Stores, Leaves, Wakes, Finishes, Ends, Strays}
+use Rattle.parking_lot_cores.specs.declared.mutex_phase.MutexPhase.TheVariants.{Locking, Trying, Unlocking, Bumping, Loads, Locks, Spins, Parks, Enters, Checks, Retreats, Appends, Rests, Sleeps, TryLoads, TryLocks, Refuses, BumpLoads, Relocks, Unlocks, Looks, Takes, Stores, Leaves, Wakes, Finishes, Ends, Invalid}
 use Rattle.parking_lot_cores.specs.declared.mutex_phase.Asking.{Asking}
 use Rattle.parking_lot_cores.specs.declared.mutex_phase.Giving.{Giving}
 use Rattle.parking_lot_cores.specs.MutexTable.{seeks, tries, retries, begins, store_of, act_of, next_phase, bit}
 use Rattle.parking_lot_cores.specs.Acts.{change_of, word_after}
 use Rattle.parking_lot_cores.specs.declared.act.CoreAnswer.TheVariants.{Owned, Released}
-use Rattle.parking_lot_cores.specs.MutexRules.{Spot, Listed, role, Follows, IsPlain, IsWord, IsMove, Move, Stays, Makes, Tells, move}
+use Rattle.parking_lot_cores.specs.MutexRules.{QueuePosition, Listed, role, Follows, IsPlain, IsWord, IsMove, Move, Stays, Makes, Tells, move}
 
 -- what holds of both holds of either
 pub either : {X Y : Type 0} (f : X → Y) (b : Bool) (x y : X) (r : Y) → f x ≡ r → f y ≡ r → f (cond b x y) ≡ r
@@ -19,15 +19,15 @@ either f true x y r h k = h
 either f false x y r h k = k
 
 -- one that asks goes on asking, whatever it has seen
-seeks_role : (spot : Spot) (v : ℕ) (a : Asking) (word : ℕ) → role spot v (seeks a word) ≡ rules.doing (rules.Seeks a.woken)
+seeks_role : (spot : QueuePosition) (v : ℕ) (a : Asking) (word : ℕ) → role spot v (seeks a word) ≡ rules.doing (rules.Seeks a.woken)
 seeks_role spot v a word =
     either (role spot v) (word == 0) _ _ _ refl
     (either (role spot v) (word == 2) _ _ _ refl (either (role spot v) (word == 1) _ _ _ (either (role spot v) (nat_lt 0 a.rounds) _ _ _ refl refl) refl))
 
-tries_role : (spot : Spot) (v : ℕ) (left word : ℕ) → role spot v (tries left word) ≡ rules.doing (rules.Seeks false)
+tries_role : (spot : QueuePosition) (v : ℕ) (left word : ℕ) → role spot v (tries left word) ≡ rules.doing (rules.Seeks false)
 tries_role spot v left word = either (role spot v) (word == 0) _ _ _ refl (either (role spot v) (word == 2) _ _ _ refl refl)
 
-retries_role : (spot : Spot) (v : ℕ) (left word : ℕ) → role spot v (retries left word) ≡ rules.doing (rules.Seeks false)
+retries_role : (spot : QueuePosition) (v : ℕ) (left word : ℕ) → role spot v (retries left word) ≡ rules.doing (rules.Seeks false)
 retries_role spot v left word = either (role spot v) (nat_lt 0 left) _ _ _ (tries_role spot v (left - 1) word) refl
 
 -- an exchange that locks the mutex
@@ -73,11 +73,11 @@ stores v w fair again taken left chosen = (refl, refl, handed taken (fair || cho
     change false false false true n = plus n _
     change false false false false n = plus n _
 
-finishes : (fair again : Bool) (s : Seen) → Follows (Finishes (record { fair = fair; again = again })) s
+finishes : (fair again : Bool) (s : ActResult) → Follows (Finishes (record { fair = fair; again = again })) s
 finishes fair true (Word n) w v h e = record { from = refl; to = refl; may = tt; written = refl }
 finishes fair again s w v h e = absurd e
 
-pub follows : (p : MutexPhase) (s : Seen) → Follows p s
+pub follows : (p : MutexPhase) (s : ActResult) → Follows p s
 follows Locking Start w v h g = record { from = refl; to = refl; may = tt; written = refl }
 follows Trying Start w v h g = record { from = refl; to = refl; may = tt; written = refl }
 follows (Unlocking fair) Start w v h g = (λ spot. refl, refl)

@@ -8,8 +8,8 @@ use Rattle.std.proofs.Math.Nat.{mod-eq_of_lt, add-mod_left}
 use Rattle.parking_lot_rules.specs.Roles as rules
 use Rattle.parking_lot_rules.specs.Clauses.{Word, IsWord, number}
 use Rattle.parking_lot_rules.specs.Plain as plain
-use Rattle.parking_lot_cores.specs.declared.rw_phase.Want.{Want}
-use Rattle.parking_lot_cores.specs.declared.rw_phase.Want.TheVariants.{Shared, Exclusive}
+use Rattle.parking_lot_cores.specs.declared.rw_phase.LockMode.{LockMode}
+use Rattle.parking_lot_cores.specs.declared.rw_phase.LockMode.TheVariants.{Shared, Exclusive}
 use Rattle.parking_lot_cores.specs.RwTable.{is_parked, is_writer_parked, is_upgradable, is_written, has_readers, has_room, is_barred, is_admitted, is_tried, seeks, tries, retries, begins, admits, gains, share_of, bumps, over, wakes, goes_on, scans, scans_for, asks_again, last_act, hands, may_hand, count_of, store_of}
 use Rattle.parking_lot_cores.specs.RwRules.{mode_of, MayAsk}
 
@@ -90,7 +90,7 @@ module _ (w : Word) (h : IsWord w) where
   room e = let a = at.readers in lt-ltb (n / 16) (2 ^ 60 - 1) (omega arith)
 
   -- who is barred is barred by the word
-  pub bars : (want : Want) → is_barred want n ≡ true → 0 < plain.bars (mode_of want) w
+  pub bars : (want : LockMode) → is_barred want n ≡ true → 0 < plain.bars (mode_of want) w
   bars (Shared recursive) e = let a = written e in omega arith
   bars Exclusive e = or (is_written n) (is_upgradable n) refl refl e
     where
@@ -119,7 +119,7 @@ module _ (w : Word) (h : IsWord w) where
       cases true b ea eb e = absurd (both_ways false refl e)
 
   -- one that isn't admitted though it may ask owns nothing
-  pub owns_nothing : (recursive : Bool) (k : ℕ) (want : Want) → w.readers < 2 ^ 60 - 1 → MayAsk recursive k want w → is_barred want n ≡ true → is_admitted want n ≡ false → k ≡ 0
+  pub owns_nothing : (recursive : Bool) (k : ℕ) (want : LockMode) → w.readers < 2 ^ 60 - 1 → MayAsk recursive k want w → is_barred want n ≡ true → is_admitted want n ≡ false → k ≡ 0
   owns_nothing recursive k Exclusive r m e f = m
   owns_nothing recursive k (Shared false) r m e f = m
   owns_nothing recursive k (Shared true) r m e f =

@@ -3,8 +3,8 @@ use Rattle.std.proofs.Common.{◌≡◌, ◌≤◌, ℕ, ◌+◌, ◌*◌, ◌/�
 use Rattle.parking_lot_rules.specs.Roles.{Mode, Shared, Exclusive, Upgradable}
 use Rattle.parking_lot_rules.specs.Steps.{look, holds_upgradable}
 use Rattle.parking_lot_cores.specs.declared.rw_phase.Scanning.{Scanning}
-use Rattle.parking_lot_cores.specs.declared.rw_phase.Rest.{Rest}
-use Rattle.parking_lot_cores.specs.declared.rw_phase.Rest.TheVariants.{FreedShared, FreedExclusive, Downgraded, AgainShared, AgainExclusive}
+use Rattle.parking_lot_cores.specs.declared.rw_phase.AfterWake.{AfterWake}
+use Rattle.parking_lot_cores.specs.declared.rw_phase.AfterWake.TheVariants.{FreedShared, FreedExclusive, Downgraded, AgainShared, AgainExclusive}
 use Rattle.parking_lot_cores.specs.MutexTable.{bit}
 use Rattle.parking_lot_core.specs.declared.parking.FilterOp.{FilterOp}
 use Rattle.parking_lot_core.specs.declared.parking.FilterOp.TheVariants.{Unpark, Skip, Stop}
@@ -31,7 +31,7 @@ bits s = by_rest s.rest
     abbrevs : (m : ℕ) (k : ℕ) → m ≡ 16 * k + (20 * bit s.upgradable + 8 * bit s.writer) → Bits s.upgradable s.writer m
     abbrevs m k e = let P : ℕ → Type 0 = λ y. Bits s.upgradable s.writer y in subst P (sym e) (bits_at k s.upgradable s.writer)
 
-    by_rest : (q : Rest) → Bits s.upgradable s.writer (base_of q + taken_sum s)
+    by_rest : (q : AfterWake) → Bits s.upgradable s.writer (base_of q + taken_sum s)
     by_rest FreedShared = abbrevs _ s.shared (omega arith)
     by_rest FreedExclusive = abbrevs _ s.shared (omega arith)
     by_rest Downgraded = abbrevs _ (s.shared + 1) (omega arith)
@@ -57,7 +57,7 @@ answers sum u x mode b = ap (λ y. answer_by y (sum / 4 % 2) (token_of mode)) b.
 holds : (n : ℕ) (s : Scanning) (us : List ℕ) → holds_upgradable (scan_of n s us) ≡ s.upgradable
 holds n s us = by_rest s.rest
   where
-    by_rest : (q : Rest) → holds_upgradable (scan_of n (record s { rest = q }) us) ≡ s.upgradable
+    by_rest : (q : AfterWake) → holds_upgradable (scan_of n (record s { rest = q }) us) ≡ s.upgradable
     by_rest FreedShared = refl
     by_rest FreedExclusive = refl
     by_rest Downgraded = refl

@@ -1,33 +1,33 @@
 -- What acts do to a word, and what they show of it.
 use Rattle.std.specs.Prelude.{◌≡◌, ◌≢◌, ℕ, ◌+◌, ◌%◌, ◌^◌, Bool, true, false, if◌then◌else◌, bit_and, Option, Some, None, Result, Ok, Err}
 use Rattle.parking_lot_cores.specs.declared.act.Act.{Act}
-use Rattle.parking_lot_cores.specs.declared.act.Act.TheVariants.{Load, Exchange, Add, Mask, Spin, Enter, Section, Sleep}
+use Rattle.parking_lot_cores.specs.declared.act.Act.TheVariants.{Load, Exchange, Add, FetchAnd, Spin, Enter, Section, Sleep}
 use Rattle.parking_lot_cores.specs.declared.act.SectionAct.TheVariants.{Check, TakeFirst, TakeNext, Append, Store, Leave, Wake}
 use Rattle.parking_lot_cores.specs.declared.act.WordChange.{WordChange}
-use Rattle.parking_lot_cores.specs.declared.act.Seen.{Seen}
+use Rattle.parking_lot_cores.specs.declared.act.ActResult.{ActResult}
 use Rattle.parking_lot_cores.specs.declared.act.Taking.{Taking}
 use Rattle.parking_lot_core.specs.declared.parking.UnparkToken.{UnparkToken}
-use Rattle.parking_lot_cores.specs.declared.act.Seen.TheVariants.{Start, Word, Exchanged, Before, Spun, Entered, Took, Stored, Made, Woken}
+use Rattle.parking_lot_cores.specs.declared.act.ActResult.TheVariants.{Start, Word, Exchanged, Before, Spun, Entered, Took, Stored, Made, Woken}
 
 -- the word after a change
 abbrev pub change_of : WordChange → ℕ → ℕ
 change_of change word = (bit_and word change.keep + change.add) % 2 ^ 64
 
 -- The word after an act that gave this.
-abbrev pub word_after : Act → Seen → ℕ → ℕ
+abbrev pub word_after : Act → ActResult → ℕ → ℕ
 word_after (Exchange from to) Exchanged word = to
 word_after (Add by) (Before seen) word = (word + by) % 2 ^ 64
-word_after (Mask keep) (Before seen) word = bit_and word keep
+word_after (FetchAnd keep) (Before seen) word = bit_and word keep
 word_after (Section (Store plain fair)) (Stored is_fair) word = change_of (if is_fair then fair else plain) word
 word_after act seen word = word
 
 -- What an act can give at a word. An exchange is won exactly where the word is the one that it names.
-abbrev pub Gives : Act → ℕ → Seen → Type 0
+abbrev pub Gives : Act → ℕ → ActResult → Type 0
 Gives Load word (Word seen) = seen ≡ word
 Gives (Exchange from to) word Exchanged = word ≡ from
 Gives (Exchange from to) word (Word seen) = (seen ≡ word) × (word ≢ from)
 Gives (Add by) word (Before seen) = seen ≡ word
-Gives (Mask keep) word (Before seen) = seen ≡ word
+Gives (FetchAnd keep) word (Before seen) = seen ≡ word
 Gives Spin word (Spun spun) = Unit {0}
 Gives (Enter key) word Entered = Unit {0}
 Gives (Section Check) word (Word seen) = seen ≡ word
@@ -41,14 +41,14 @@ Gives Sleep word (Woken token) = Unit {0}
 Gives act word seen = ⊥
 
 -- what a call is told as it begins
-abbrev pub Begins : Seen → Type 0
+abbrev pub Begins : ActResult → Type 0
 Begins Start = Unit {0}
 Begins seen = ⊥
 
 -- WHAT IS SEEN, BY THE KIND OF ACT THAT GIVES IT
 
 -- the call begins
-abbrev pub is_start : Seen → Bool
+abbrev pub is_start : ActResult → Bool
 is_start Start = true
 is_start (Word word) = false
 is_start Exchanged = false
@@ -61,7 +61,7 @@ is_start Made = false
 is_start (Woken token) = false
 
 -- the section is entered
-abbrev pub is_entered : Seen → Bool
+abbrev pub is_entered : ActResult → Bool
 is_entered Start = false
 is_entered (Word word) = false
 is_entered Exchanged = false
@@ -74,7 +74,7 @@ is_entered Made = false
 is_entered (Woken token) = false
 
 -- the act was made
-abbrev pub is_made : Seen → Bool
+abbrev pub is_made : ActResult → Bool
 is_made Start = false
 is_made (Word word) = false
 is_made Exchanged = false
@@ -87,7 +87,7 @@ is_made Made = true
 is_made (Woken token) = false
 
 -- a word that a load or a check saw
-abbrev pub word_seen : Seen → Option ℕ
+abbrev pub word_seen : ActResult → Option ℕ
 word_seen Start = None
 word_seen (Word word) = Some word
 word_seen Exchanged = None
@@ -100,7 +100,7 @@ word_seen Made = None
 word_seen (Woken token) = None
 
 -- a word that an add or a mask found
-abbrev pub word_before : Seen → Option ℕ
+abbrev pub word_before : ActResult → Option ℕ
 word_before Start = None
 word_before (Word word) = None
 word_before Exchanged = None
@@ -113,7 +113,7 @@ word_before Made = None
 word_before (Woken token) = None
 
 -- whether an exchange was won, and else the word that it saw
-abbrev pub exchange_seen : Seen → Option (Result (Unit {0}) ℕ)
+abbrev pub exchange_seen : ActResult → Option (Result (Unit {0}) ℕ)
 exchange_seen Start = None
 exchange_seen (Word word) = Some (Err word)
 exchange_seen Exchanged = Some (Ok tt)
@@ -126,7 +126,7 @@ exchange_seen Made = None
 exchange_seen (Woken token) = None
 
 -- whether a round was spun
-abbrev pub spun_seen : Seen → Option Bool
+abbrev pub spun_seen : ActResult → Option Bool
 spun_seen Start = None
 spun_seen (Word word) = None
 spun_seen Exchanged = None
@@ -139,7 +139,7 @@ spun_seen Made = None
 spun_seen (Woken token) = None
 
 -- what a taking gave
-abbrev pub took_seen : Seen → Option Taking
+abbrev pub took_seen : ActResult → Option Taking
 took_seen Start = None
 took_seen (Word word) = None
 took_seen Exchanged = None
@@ -152,7 +152,7 @@ took_seen Made = None
 took_seen (Woken token) = None
 
 -- which of the two changes was made
-abbrev pub stored_seen : Seen → Option Bool
+abbrev pub stored_seen : ActResult → Option Bool
 stored_seen Start = None
 stored_seen (Word word) = None
 stored_seen Exchanged = None
@@ -165,7 +165,7 @@ stored_seen Made = None
 stored_seen (Woken token) = None
 
 -- the token of a wake
-abbrev pub woken_seen : Seen → Option UnparkToken
+abbrev pub woken_seen : ActResult → Option UnparkToken
 woken_seen Start = None
 woken_seen (Word word) = None
 woken_seen Exchanged = None

@@ -2,23 +2,23 @@
 use Rattle.std.specs.Prelude.{◌≡◌, ◌≤◌, ℕ, ◌+◌, ◌==◌, ◌&&◌, ◌||◌, Bool, true, false, if◌then◌else◌, List, [], ◌∷◌, Option, Some, None, Result, Ok, Err}
 use Rattle.parking_lot_rules.specs.Roles.{Mark, Normal, Handed, Stay, Fresh, Asleep}
 use Rattle.parking_lot_rules.specs.Mutex as rules
-use Rattle.parking_lot_cores.specs.declared.act.Seen.{Seen}
-use Rattle.parking_lot_cores.specs.declared.act.Seen.TheVariants as seen
+use Rattle.parking_lot_cores.specs.declared.act.ActResult.{ActResult}
+use Rattle.parking_lot_cores.specs.declared.act.ActResult.TheVariants as seen
 use Rattle.parking_lot_cores.specs.declared.act.CoreAnswer.{CoreAnswer}
 use Rattle.parking_lot_cores.specs.declared.act.CoreAnswer.TheVariants.{Owned, Refused, Released}
 use Rattle.parking_lot_cores.specs.declared.mutex_phase.MutexPhase.{MutexPhase}
-use Rattle.parking_lot_cores.specs.declared.mutex_phase.MutexPhase.TheVariants.{Locking, Trying, Unlocking, Bumping, Loads, Locks, Spins, Parks, Enters, Checks, Retreats, Appends, Rests, Sleeps, TryLoads, TryLocks, Refuses, BumpLoads, Relocks, Unlocks, Looks, Takes, Stores, Leaves, Wakes, Finishes, Ends, Strays}
+use Rattle.parking_lot_cores.specs.declared.mutex_phase.MutexPhase.TheVariants.{Locking, Trying, Unlocking, Bumping, Loads, Locks, Spins, Parks, Enters, Checks, Retreats, Appends, Rests, Sleeps, TryLoads, TryLocks, Refuses, BumpLoads, Relocks, Unlocks, Looks, Takes, Stores, Leaves, Wakes, Finishes, Ends, Invalid}
 use Rattle.parking_lot_cores.specs.Acts.{Begins, Gives, word_after}
 use Rattle.parking_lot_cores.specs.declared.act.Act.{Act}
 use Rattle.parking_lot_cores.specs.declared.act.Act.TheVariants.{Done}
 use Rattle.parking_lot_cores.specs.MutexTable.{act_of, next_phase, bit}
 
 -- Where a thread that sleeps stands: in the list, or off it, taken by another that has said this since.
-pub data Spot : Type 0 where
-  Listed : Spot
-  Off : (by : ℕ) → (mark : Mark) → Spot
+pub data QueuePosition : Type 0 where
+  Listed : QueuePosition
+  Off : (by : ℕ) → (mark : Mark) → QueuePosition
 
-abbrev pub sleeping : Spot → rules.Phase
+abbrev pub sleeping : QueuePosition → rules.Phase
 sleeping Listed = rules.Queued Asleep
 sleeping (Off by mark) = rules.Taken by mark Asleep
 
@@ -43,7 +43,7 @@ taken_of v true = v ∷ []
 taken_of v false = []
 
 -- What a thread is doing in each phase, in the words of the rules. v: whom it has taken, once it has taken one.
-abbrev pub does : Spot → ℕ → MutexPhase → rules.Phase
+abbrev pub does : QueuePosition → ℕ → MutexPhase → rules.Phase
 does spot v Locking = rules.Idle
 does spot v Trying = rules.Idle
 does spot v (Unlocking fair) = rules.Idle
@@ -71,9 +71,9 @@ does spot v (Leaves giving taken handed) = rules.Stored (taken_of v taken)
 does spot v (Wakes giving) = rules.Wakes (v ∷ [])
 does spot v (Finishes giving) = rules.Wakes []
 does spot v (Ends answer) = rules.Idle
-does spot v Strays = rules.Idle
+does spot v Invalid = rules.Idle
 
-abbrev pub role : Spot → ℕ → MutexPhase → rules.Role
+abbrev pub role : QueuePosition → ℕ → MutexPhase → rules.Role
 role spot v p = record { owns = owns p; does = does spot v p }
 
 -- What an answer to a core is, as a step of the rules.
@@ -93,7 +93,7 @@ pub data Move : Type 0 where
 
 -- THE TABLE: WHICH STEP IT IS, BY PHASE AND ANSWER
 
-abbrev pub move : ℕ → MutexPhase → Seen → Move
+abbrev pub move : ℕ → MutexPhase → ActResult → Move
 move v Locking s = Makes rules.Begin
 move v Trying s = Makes rules.Begin
 move v (Locks a waiters) seen.Exchanged = Makes (rules.Lock a.woken)
@@ -144,7 +144,7 @@ mark_of false = Normal
 
 -- The move leads from phase p to phase q, at word w, and leaves that number as the word.
 abbrev pub IsMove : Move → ℕ → MutexPhase → MutexPhase → rules.Word → ℕ → Type 0
-IsMove Stays v p q w word = ((spot : Spot) → role spot v q ≡ role spot v p) × (word ≡ rules.number w)
+IsMove Stays v p q w word = ((spot : QueuePosition) → role spot v q ≡ role spot v p) × (word ≡ rules.number w)
 IsMove (Makes k) v p q w word = IsPlain k (role Listed v p) (role Listed v q) w word
 IsMove Joins v p q w word = Keeps (role Listed v p) (rules.doing rules.Checked) (role Listed v q) (rules.doing (rules.Queued Fresh)) w word
 IsMove TakesOne v p q w word = Keeps (role Listed v p) (rules.doing (rules.Unlocks [])) (role Listed v q) (rules.doing (rules.Unlocks (v ∷ []))) w word
@@ -157,7 +157,7 @@ IsMove (IsWoken handed) v p q w word =
     (if handed then record { owns = true; does = rules.Idle } else rules.doing (rules.Seeks true)) w word
 
 -- what a core may be told at a word: that it begins, or what its act gives
-abbrev pub IsTold : MutexPhase → ℕ → Seen → Type 0
+abbrev pub IsTold : MutexPhase → ℕ → ActResult → Type 0
 IsTold Locking word s = Begins s
 IsTold Trying word s = Begins s
 IsTold (Unlocking fair) word s = Begins s
@@ -165,7 +165,7 @@ IsTold Bumping word s = Begins s
 IsTold p word s = Gives (act_of p) word s
 
 -- What a core is told at a word is a step of the rules, of the kind that the table says.
-abbrev pub Follows : MutexPhase → Seen → Type 0
+abbrev pub Follows : MutexPhase → ActResult → Type 0
 Follows p s = (w : rules.Word) (v : ℕ) → IsWord w → IsTold p (rules.number w) s → IsMove (move v p s) v p (next_phase p s) w (word_after (act_of p) s (rules.number w))
 
 -- And so is the end of a call: of one that was refused or whose section is over, and of any other nothing is left to be done. Its thread

@@ -8,12 +8,12 @@ use Rattle.parking_lot_cores.specs.declared.act.SectionAct.{SectionAct}
 use Rattle.parking_lot_cores.specs.declared.act.SectionAct.TheVariants as section
 use Rattle.parking_lot_cores.specs.declared.act.WordChange.{WordChange}
 use Rattle.parking_lot_cores.specs.declared.act.CoreAnswer.TheVariants.{Owned, Refused, Released}
-use Rattle.parking_lot_cores.specs.declared.act.Seen.{Seen}
+use Rattle.parking_lot_cores.specs.declared.act.ActResult.{ActResult}
 use Rattle.parking_lot_cores.specs.declared.act.Taking.{Taking}
 use Rattle.parking_lot_cores.specs.declared.mutex_phase.Asking.{Asking}
 use Rattle.parking_lot_cores.specs.declared.mutex_phase.Giving.{Giving}
 use Rattle.parking_lot_cores.specs.declared.mutex_phase.MutexPhase.{MutexPhase}
-use Rattle.parking_lot_cores.specs.declared.mutex_phase.MutexPhase.TheVariants.{Locking, Trying, Unlocking, Bumping, Loads, Locks, Spins, Parks, Enters, Checks, Retreats, Appends, Rests, Sleeps, TryLoads, TryLocks, Refuses, BumpLoads, Relocks, Unlocks, Looks, Takes, Stores, Leaves, Wakes, Finishes, Ends, Strays}
+use Rattle.parking_lot_cores.specs.declared.mutex_phase.MutexPhase.TheVariants.{Locking, Trying, Unlocking, Bumping, Loads, Locks, Spins, Parks, Enters, Checks, Retreats, Appends, Rests, Sleeps, TryLoads, TryLocks, Refuses, BumpLoads, Relocks, Unlocks, Looks, Takes, Stores, Leaves, Wakes, Finishes, Ends, Invalid}
 use Rattle.parking_lot_cores.specs.Acts.{is_start, is_entered, is_made, word_seen, exchange_seen, spun_seen, took_seen, stored_seen, woken_seen}
 
 -- 1 for true, 0 for false
@@ -54,7 +54,7 @@ act_of (Leaves giving taken handed) = act.Section section.Leave
 act_of (Wakes giving) = act.Section section.Wake
 act_of (Finishes giving) = (if giving.again then act.Load else act.Done Released)
 act_of (Ends answer) = act.Done answer
-act_of Strays = act.Done Refused
+act_of Invalid = act.Done Refused
 
 -- one that asks, and may spin for ten rounds
 abbrev pub begins : Bool → Asking
@@ -85,7 +85,7 @@ once true p = Some p
 once false p = None
 
 -- The phase that follows what the act of this one gave; none where the act can't give that.
-abbrev pub after : MutexPhase → Seen → Option MutexPhase
+abbrev pub after : MutexPhase → ActResult → Option MutexPhase
 after Locking s = once (is_start s) (Loads (begins false))
 after Trying s = once (is_start s) TryLoads
 after (Unlocking fair) s = once (is_start s) (Unlocks (record { fair = fair; again = false }))
@@ -113,11 +113,11 @@ after (Leaves g taken handed) s = once (is_made s) (if taken then Wakes g else F
 after (Wakes g) s = once (is_made s) (Finishes g)
 after (Finishes g) s = (if g.again then option_map (λ word. Relocks) (word_seen s) else None)
 after (Ends answer) s = None
-after Strays s = None
+after Invalid s = None
 
 -- what doesn't fit leads astray
-abbrev pub next_phase : MutexPhase → Seen → MutexPhase
-next_phase p s = option_map_or (λ q. q) (after p s) Strays
+abbrev pub next_phase : MutexPhase → ActResult → MutexPhase
+next_phase p s = option_map_or (λ q. q) (after p s) Invalid
 
 -- the token for those that a section took, once it has stored
 abbrev pub wakes_with : MutexPhase → UnparkToken

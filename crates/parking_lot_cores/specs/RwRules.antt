@@ -9,47 +9,47 @@ use Rattle.parking_lot_rules.specs.Plain as plain
 use Rattle.parking_lot_rules.specs.Steps.{Listing, Join1, Join2, listing_from, listing_to, Scan, scanning, taking, Ending, Free, Hand, Keep, ends_for, MayEnd, stored, Waking, Retry, Own, OwnPending, OwnUpgradable, Recheck, waking_from, waking_to}
 use Rattle.parking_lot_cores.specs.declared.act.Act.{Act}
 use Rattle.parking_lot_cores.specs.declared.act.Act.TheVariants.{Done}
-use Rattle.parking_lot_cores.specs.declared.act.Seen.{Seen}
-use Rattle.parking_lot_cores.specs.declared.act.Seen.TheVariants as seen
-use Rattle.parking_lot_cores.specs.declared.rw_phase.Want.{Want}
-use Rattle.parking_lot_cores.specs.declared.rw_phase.Want.TheVariants as want
-use Rattle.parking_lot_cores.specs.declared.rw_phase.Rest.{Rest}
-use Rattle.parking_lot_cores.specs.declared.rw_phase.Rest.TheVariants as rest
+use Rattle.parking_lot_cores.specs.declared.act.ActResult.{ActResult}
+use Rattle.parking_lot_cores.specs.declared.act.ActResult.TheVariants as seen
+use Rattle.parking_lot_cores.specs.declared.rw_phase.LockMode.{LockMode}
+use Rattle.parking_lot_cores.specs.declared.rw_phase.LockMode.TheVariants as want
+use Rattle.parking_lot_cores.specs.declared.rw_phase.AfterWake.{AfterWake}
+use Rattle.parking_lot_cores.specs.declared.rw_phase.AfterWake.TheVariants as rest
 use Rattle.parking_lot_cores.specs.declared.rw_phase.Outcome.{Outcome}
 use Rattle.parking_lot_cores.specs.declared.rw_phase.Outcome.TheVariants as outcome
 use Rattle.parking_lot_cores.specs.declared.rw_phase.Scanning.{Scanning}
 use Rattle.parking_lot_cores.specs.declared.rw_phase.RwPhase.{RwPhase}
-use Rattle.parking_lot_cores.specs.declared.rw_phase.RwPhase.TheVariants.{Locking, Trying, UnlockingShared, UnlockingExclusive, Downgrading, BumpingShared, BumpingExclusive, Loads, Admits, Spins, Flags, Enters, Checks, Retreats, Appends, Rests, Sleeps, Loads2, Spins2, Flags2, Enters2, Checks2, Retreats2, Appends2, Rests2, Sleeps2, TryLoads, TryAdmits, Refuses, BumpLoads, Relocks, Unshares, Owes2, Takes2, Masks2, Leaves2, Unlocks, LooksExclusive, Downgrades, Owes, Scans, Stores, Leaves, Wakes, Finishes, Ends, Strays}
+use Rattle.parking_lot_cores.specs.declared.rw_phase.RwPhase.TheVariants.{Locking, Trying, UnlockingShared, UnlockingExclusive, Downgrading, BumpingShared, BumpingExclusive, Loads, Admits, Spins, SetParked, Enters, Checks, Retreats, Appends, Rests, Sleeps, DrainLoads, DrainSpins, DrainSetParked, DrainEnters, DrainChecks, DrainRetreats, DrainAppends, DrainRests, DrainSleeps, TryLoads, TryAdmits, Refuses, BumpLoads, Relocks, Unshares, EnterWriterWakeSection, TakeWriter, ClearWriterParked, LeaveWriterWakeSection, Unlocks, LooksExclusive, Downgrades, EnterWakeSection, Scans, Stores, Leaves, Wakes, Finishes, Ends, Invalid}
 use Rattle.parking_lot_cores.specs.Acts.{Begins, Gives, word_after}
 use Rattle.parking_lot_cores.specs.MutexRules.{mark_of}
 use Rattle.parking_lot_cores.specs.MutexTable.{bit}
 use Rattle.parking_lot_cores.specs.RwTable.{act_of, next_phase, is_admitted, is_barred, is_parked, is_writer_parked, is_tried, has_readers, hands, may_hand, count_of, over}
 
-abbrev pub mode_of : Want → Mode
+abbrev pub mode_of : LockMode → Mode
 mode_of (want.Shared recursive) = rules.Shared
 mode_of want.Exclusive = rules.Exclusive
 
 -- Where a thread that sleeps stands: in its list, or off it, taken by another that has said this since.
-pub data Spot : Type 0 where
-  Listed : Spot
-  Off : (by : ℕ) → (mark : Mark) → Spot
+pub data QueuePosition : Type 0 where
+  Listed : QueuePosition
+  Off : (by : ℕ) → (mark : Mark) → QueuePosition
 
-abbrev pub sleeping : Spot → Mode → rules.Phase
+abbrev pub sleeping : QueuePosition → Mode → rules.Phase
 sleeping Listed mode = rules.Queued1 mode Asleep
 sleeping (Off by mark) mode = rules.Taken1 mode by mark Asleep
 
-abbrev pub sleeping2 : Spot → rules.Phase
+abbrev pub sleeping2 : QueuePosition → rules.Phase
 sleeping2 Listed = rules.Queued2 false Asleep
 sleeping2 (Off by mark) = rules.Taken2 false by Asleep
 
 -- WHAT A THREAD OWNS
 
 -- n: how many shared holds it has besides the one that the call is about
-abbrev pub owned_by : ℕ → Want → Owned
+abbrev pub owned_by : ℕ → LockMode → Owned
 owned_by n (want.Shared recursive) = Shares (n + 1)
 owned_by n want.Exclusive = Excludes
 
-abbrev pub owned_at_last : ℕ → Rest → Owned
+abbrev pub owned_at_last : ℕ → AfterWake → Owned
 owned_at_last n rest.FreedShared = Shares n
 owned_at_last n rest.FreedExclusive = Shares 0
 owned_at_last n rest.Downgraded = Shares 1
@@ -74,7 +74,7 @@ owns n (Unshares rest) = Shares (n + 1)
 owns n (Unlocks fair rest) = Excludes
 owns n (LooksExclusive fair rest) = Excludes
 owns n Downgrades = Excludes
-owns n Owes = Shares 1
+owns n EnterWakeSection = Shares 1
 owns n (Scans s) = owned_at_last n s.rest
 owns n (Stores s left) = owned_at_last n s.rest
 owns n (Leaves rest count handed) = owned_at_last n rest
@@ -86,7 +86,7 @@ owns n phase = Shares n
 -- WHAT IT IS DOING
 
 -- why it goes through the first list: it gives the exclusive hold up, or owes the look
-abbrev pub cause_of : Rest → Cause
+abbrev pub cause_of : AfterWake → Cause
 cause_of rest.FreedShared = rules.FromExclusive
 cause_of rest.FreedExclusive = rules.FromExclusive
 cause_of rest.Downgraded = rules.Owed
@@ -97,34 +97,34 @@ abbrev pub scan_of : ℕ → Scanning → List ℕ → Scan
 scan_of n s us = record { owns = owned_at_last n s.rest; cause = cause_of s.rest; shared = s.shared; upgradable = s.upgradable; writer = s.writer; taken = us }
 
 -- What a thread is doing in each phase, in the words of the rules. us: whom it has taken and is to wake.
-abbrev pub does : Spot → List ℕ → RwPhase → rules.Phase
+abbrev pub does : QueuePosition → List ℕ → RwPhase → rules.Phase
 does spot us (Loads s) = rules.Seeks (mode_of s.want) s.woken
 does spot us (Admits s word) = rules.Seeks (mode_of s.want) s.woken
 does spot us (Spins s) = rules.Seeks (mode_of s.want) s.woken
-does spot us (Flags s word) = rules.Seeks (mode_of s.want) s.woken
+does spot us (SetParked s word) = rules.Seeks (mode_of s.want) s.woken
 does spot us (Enters want woken) = rules.Seeks (mode_of want) woken
 does spot us (Checks want woken) = rules.Enters1 (mode_of want) woken
 does spot us (Retreats want woken) = rules.Enters1 (mode_of want) woken
 does spot us (Appends want) = rules.Checked1 (mode_of want)
 does spot us (Rests want) = rules.Queued1 (mode_of want) Fresh
 does spot us (Sleeps want) = sleeping spot (mode_of want)
-does spot us (Loads2 d) = rules.Drains false d.woken
-does spot us (Spins2 d) = rules.Drains false d.woken
-does spot us (Flags2 d word) = rules.Drains false d.woken
-does spot us (Enters2 d) = rules.Drains false d.woken
-does spot us (Checks2 d) = rules.Enters2 false d.woken
-does spot us (Retreats2 d) = rules.Enters2 false d.woken
-does spot us (Appends2 rounds) = rules.Checked2 false
-does spot us (Rests2 rounds) = rules.Queued2 false Fresh
-does spot us (Sleeps2 rounds) = sleeping2 spot
+does spot us (DrainLoads d) = rules.Drains false d.woken
+does spot us (DrainSpins d) = rules.Drains false d.woken
+does spot us (DrainSetParked d word) = rules.Drains false d.woken
+does spot us (DrainEnters d) = rules.Drains false d.woken
+does spot us (DrainChecks d) = rules.Enters2 false d.woken
+does spot us (DrainRetreats d) = rules.Enters2 false d.woken
+does spot us (DrainAppends rounds) = rules.Checked2 false
+does spot us (DrainRests rounds) = rules.Queued2 false Fresh
+does spot us (DrainSleeps rounds) = sleeping2 spot
 does spot us (TryLoads want) = rules.Seeks (mode_of want) false
 does spot us (TryAdmits want word left) = rules.Seeks (mode_of want) false
 does spot us (Refuses want) = rules.Seeks (mode_of want) false
-does spot us (Owes2 rest) = rules.Owes2
-does spot us (Takes2 rest) = rules.Scans2 []
-does spot us (Masks2 rest taken) = rules.Scans2 us
-does spot us (Leaves2 rest taken) = rules.Masked2 us
-does spot us Owes = rules.Owes1
+does spot us (EnterWriterWakeSection rest) = rules.Owes2
+does spot us (TakeWriter rest) = rules.Scans2 []
+does spot us (ClearWriterParked rest taken) = rules.Scans2 us
+does spot us (LeaveWriterWakeSection rest taken) = rules.Masked2 us
+does spot us EnterWakeSection = rules.Owes1
 does spot us (Scans s) = rules.Scans1 (cause_of s.rest) s.shared s.upgradable s.writer us
 does spot us (Stores s left) = rules.Scans1 (cause_of s.rest) s.shared s.upgradable s.writer us
 does spot us (Leaves rest count handed) = rules.Stored1 us
@@ -132,7 +132,7 @@ does spot us (Wakes rest count) = rules.Wakes us
 does spot us (Finishes rest) = rules.Wakes us
 does spot us phase = rules.Idle
 
-abbrev pub role : ℕ → Spot → List ℕ → RwPhase → Role
+abbrev pub role : ℕ → QueuePosition → List ℕ → RwPhase → Role
 role n spot us p = record { owns = owns n p; does = does spot us p }
 
 -- WHAT AN ANSWER TO A CORE IS, AS A STEP OF THE RULES
@@ -151,15 +151,15 @@ pub data Move : Type 0 where
   -- another wakes it
   IsWoken : (k : Waking) → Move
 
-abbrev pub admission : ℕ → Want → Bool → Plain
+abbrev pub admission : ℕ → LockMode → Bool → Plain
 admission n (want.Shared recursive) woken = plain.Share n woken
 admission n want.Exclusive woken = plain.Pend woken
 
-abbrev pub try_admission : ℕ → Want → Plain
+abbrev pub try_admission : ℕ → LockMode → Plain
 try_admission n (want.Shared recursive) = plain.Share n false
 try_admission n want.Exclusive = plain.Exclude
 
-abbrev pub waking : Want → Bool → Waking
+abbrev pub waking : LockMode → Bool → Waking
 waking want false = Retry (mode_of want)
 waking (want.Shared recursive) true = Own
 waking want.Exclusive true = OwnPending
@@ -167,7 +167,7 @@ waking want.Exclusive true = OwnPending
 abbrev pub mode_by : ParkToken → Mode
 mode_by token = (if token.0 == 16 then rules.Shared else (if token.0 == 8 then rules.Exclusive else rules.Upgradable))
 
-abbrev pub ending : Rest → Bool → Ending
+abbrev pub ending : AfterWake → Bool → Ending
 ending rest.FreedShared handed = (if handed then Hand else Free)
 ending rest.FreedExclusive handed = (if handed then Hand else Free)
 ending rest.Downgraded handed = Keep
@@ -176,37 +176,37 @@ ending rest.AgainExclusive handed = (if handed then Hand else Free)
 
 -- THE TABLE: WHICH STEP IT IS, BY PHASE AND ANSWER
 
-abbrev pub move : ℕ → List ℕ → RwPhase → Seen → Move
+abbrev pub move : ℕ → List ℕ → RwPhase → ActResult → Move
 move n us (Locking want) s = Makes (plain.Begin n (mode_of want))
 move n us (Trying want) s = Makes (plain.Begin n (mode_of want))
 move n us (Admits a word) seen.Exchanged = Makes (admission n a.want a.woken)
-move n us (Flags a word) seen.Exchanged = Makes (plain.Flag1 (mode_of a.want) a.woken)
+move n us (SetParked a word) seen.Exchanged = Makes (plain.Flag1 (mode_of a.want) a.woken)
 move n us (Enters want woken) s = Makes (plain.Enter1 (mode_of want) woken)
 move n us (Checks want woken) (seen.Word word) = (if is_barred want word && is_parked word then Makes (plain.Check1 (mode_of want) woken) else Stays)
 move n us (Retreats want woken) s = Makes (plain.Retreat1 (mode_of want) woken)
 move n us (Appends want) s = Joins (Join1 (mode_of want))
 move n us (Rests want) s = Makes (plain.Rest1 (mode_of want))
 move n us (Sleeps want) (seen.Woken token) = IsWoken (waking want (token.0 == 1))
-move n us (Loads2 d) (seen.Word word) = (if has_readers word then Stays else Makes (plain.Drain false d.woken))
-move n us (Flags2 d flagged) seen.Exchanged = Makes (plain.Flag2 false d.woken)
-move n us (Flags2 d flagged) (seen.Word word) = (if has_readers word then Stays else Makes (plain.Drain false d.woken))
-move n us (Enters2 d) s = Makes (plain.Enter2 false d.woken)
-move n us (Checks2 d) (seen.Word word) = (if has_readers word && is_writer_parked word then Makes (plain.Check2 false d.woken) else Stays)
-move n us (Retreats2 d) s = Makes (plain.Retreat2 false d.woken)
-move n us (Appends2 rounds) s = Joins (Join2 false)
-move n us (Rests2 rounds) s = Makes (plain.Rest2 false)
-move n us (Sleeps2 rounds) s = IsWoken (Recheck false)
+move n us (DrainLoads d) (seen.Word word) = (if has_readers word then Stays else Makes (plain.Drain false d.woken))
+move n us (DrainSetParked d flagged) seen.Exchanged = Makes (plain.Flag2 false d.woken)
+move n us (DrainSetParked d flagged) (seen.Word word) = (if has_readers word then Stays else Makes (plain.Drain false d.woken))
+move n us (DrainEnters d) s = Makes (plain.Enter2 false d.woken)
+move n us (DrainChecks d) (seen.Word word) = (if has_readers word && is_writer_parked word then Makes (plain.Check2 false d.woken) else Stays)
+move n us (DrainRetreats d) s = Makes (plain.Retreat2 false d.woken)
+move n us (DrainAppends rounds) s = Joins (Join2 false)
+move n us (DrainRests rounds) s = Makes (plain.Rest2 false)
+move n us (DrainSleeps rounds) s = IsWoken (Recheck false)
 move n us (TryAdmits want word left) seen.Exchanged = Makes (try_admission n want)
 move n us (Relocks want) s = Makes (plain.Begin n (mode_of want))
 move n us (Unshares rest) (seen.Before word) = Makes (if word / 16 == 1 && is_writer_parked word then plain.UnshareLast n else plain.Unshare n)
-move n us (Owes2 rest) s = Makes (plain.Look2 n)
-move n us (Takes2 rest) (seen.Took (Some token) left) = TakesWriter
-move n us (Masks2 rest taken) s = Makes (plain.Mask2 n us)
-move n us (Leaves2 rest taken) s = Makes (plain.Depart2 n us)
+move n us (EnterWriterWakeSection rest) s = Makes (plain.Look2 n)
+move n us (TakeWriter rest) (seen.Took (Some token) left) = TakesWriter
+move n us (ClearWriterParked rest taken) s = Makes (plain.Mask2 n us)
+move n us (LeaveWriterWakeSection rest taken) s = Makes (plain.Depart2 n us)
 move n us (Unlocks fair rest) seen.Exchanged = Makes plain.Unlock
 move n us (LooksExclusive fair rest) s = Makes plain.LookExclusive
 move n us Downgrades (seen.Before word) = Makes (plain.Downgrade (is_parked word))
-move n us Owes s = Makes (plain.LookOwed (Shares 1))
+move n us EnterWakeSection s = Makes (plain.LookOwed (Shares 1))
 move n us (Scans a) (seen.Took (Some token) left) = TakesOne (mode_by token)
 move n us (Stores a left) (seen.Stored fair) = Tells (ending a.rest (hands a (a.fair || fair))) left
 move n us (Leaves rest count handed) s = Makes (plain.Depart1 (owned_at_last n rest) us)
@@ -254,7 +254,7 @@ waker n us p = record { owns = owns n p; does = rules.Wakes us }
 
 -- The move leads from phase p to phase q, at word w, and leaves that number as the word.
 abbrev pub IsMove : Bool → Move → ℕ → List ℕ → RwPhase → RwPhase → Word → ℕ → Type 0
-IsMove recursive Stays n us p q w word = ((spot : Spot) → role n spot us q ≡ role n spot us p) × (word ≡ number w)
+IsMove recursive Stays n us p q w word = ((spot : QueuePosition) → role n spot us q ≡ role n spot us p) × (word ≡ number w)
 IsMove recursive (Makes k) n us p q w word = IsPlain recursive k (role n Listed us p) (role n Listed us q) w word
 IsMove recursive (Joins k) n us p q w word = (role n Listed us p ≡ listing_from k) × (role n Listed us q ≡ listing_to k) × (word ≡ number w)
 IsMove recursive (TakesOne mode) n us p q w word = (v : ℕ) → (scan : Scan) × TakingOne n us v mode p q scan × (word ≡ number w)
@@ -266,14 +266,14 @@ IsMove recursive (IsWoken k) n us p q w word = (by : ℕ) → (role n (Off by (m
 
 -- WHAT HOLDS OF A PHASE BY ITSELF
 
-abbrev pub gives_shared : Rest → Bool
+abbrev pub gives_shared : AfterWake → Bool
 gives_shared rest.FreedShared = true
 gives_shared rest.FreedExclusive = false
 gives_shared rest.Downgraded = false
 gives_shared rest.AgainShared = true
 gives_shared rest.AgainExclusive = false
 
-abbrev pub gives_exclusive : Rest → Bool
+abbrev pub gives_exclusive : AfterWake → Bool
 gives_exclusive rest.FreedShared = false
 gives_exclusive rest.FreedExclusive = true
 gives_exclusive rest.Downgraded = false
@@ -283,14 +283,14 @@ gives_exclusive rest.AgainExclusive = true
 -- An exchange starts from a word at which it is right, and a release is of the right kind.
 abbrev pub IsReady : RwPhase → Type 0
 IsReady (Admits a word) = is_admitted a.want word ≡ true
-IsReady (Flags a word) = (is_barred a.want word ≡ true) × (is_parked word ≡ false) × (is_admitted a.want word ≡ false)
-IsReady (Flags2 d word) = (has_readers word ≡ true) × (is_writer_parked word ≡ false)
+IsReady (SetParked a word) = (is_barred a.want word ≡ true) × (is_parked word ≡ false) × (is_admitted a.want word ≡ false)
+IsReady (DrainSetParked d word) = (has_readers word ≡ true) × (is_writer_parked word ≡ false)
 IsReady (TryAdmits want word left) = is_tried want word ≡ true
 IsReady (Unshares rest) = gives_shared rest ≡ true
-IsReady (Owes2 rest) = gives_shared rest ≡ true
-IsReady (Takes2 rest) = gives_shared rest ≡ true
-IsReady (Masks2 rest taken) = gives_shared rest ≡ true
-IsReady (Leaves2 rest taken) = gives_shared rest ≡ true
+IsReady (EnterWriterWakeSection rest) = gives_shared rest ≡ true
+IsReady (TakeWriter rest) = gives_shared rest ≡ true
+IsReady (ClearWriterParked rest taken) = gives_shared rest ≡ true
+IsReady (LeaveWriterWakeSection rest taken) = gives_shared rest ≡ true
 IsReady (Unlocks fair rest) = gives_exclusive rest ≡ true
 IsReady (LooksExclusive fair rest) = gives_exclusive rest ≡ true
 IsReady (Scans s) = gives_shared s.rest ≡ false
@@ -300,7 +300,7 @@ IsReady p = Unit {0}
 -- WHAT WHOEVER RUNS A CORE KNOWS
 
 -- who may ask: one that owns nothing, or on a recursive lock a reader, whose holds the word counts
-abbrev pub MayAsk : Bool → ℕ → Want → Word → Type 0
+abbrev pub MayAsk : Bool → ℕ → LockMode → Word → Type 0
 MayAsk recursive n (want.Shared true) w = (recursive ≡ true) × (n ≤ w.readers)
 MayAsk recursive n (want.Shared false) w = n ≡ 0
 MayAsk recursive n want.Exclusive w = n ≡ 0
@@ -312,7 +312,7 @@ Fits recursive n us (Trying want) w = MayAsk recursive n want w
 Fits recursive n us (Loads a) w = MayAsk recursive n a.want w
 Fits recursive n us (Admits a word) w = MayAsk recursive n a.want w
 Fits recursive n us (Spins a) w = MayAsk recursive n a.want w
-Fits recursive n us (Flags a word) w = MayAsk recursive n a.want w
+Fits recursive n us (SetParked a word) w = MayAsk recursive n a.want w
 Fits recursive n us (TryLoads want) w = MayAsk recursive n want w
 Fits recursive n us (TryAdmits want word left) w = MayAsk recursive n want w
 Fits recursive n us (Refuses want) w = MayAsk recursive n want w
@@ -323,21 +323,21 @@ Fits recursive n us (Retreats want woken) w = n ≡ 0
 Fits recursive n us (Appends want) w = n ≡ 0
 Fits recursive n us (Rests want) w = n ≡ 0
 Fits recursive n us (Sleeps want) w = n ≡ 0
-Fits recursive n us (Loads2 d) w = n ≡ 0
-Fits recursive n us (Spins2 d) w = n ≡ 0
-Fits recursive n us (Flags2 d word) w = n ≡ 0
-Fits recursive n us (Enters2 d) w = n ≡ 0
-Fits recursive n us (Checks2 d) w = n ≡ 0
-Fits recursive n us (Retreats2 d) w = n ≡ 0
-Fits recursive n us (Appends2 rounds) w = n ≡ 0
-Fits recursive n us (Rests2 rounds) w = n ≡ 0
-Fits recursive n us (Sleeps2 rounds) w = n ≡ 0
+Fits recursive n us (DrainLoads d) w = n ≡ 0
+Fits recursive n us (DrainSpins d) w = n ≡ 0
+Fits recursive n us (DrainSetParked d word) w = n ≡ 0
+Fits recursive n us (DrainEnters d) w = n ≡ 0
+Fits recursive n us (DrainChecks d) w = n ≡ 0
+Fits recursive n us (DrainRetreats d) w = n ≡ 0
+Fits recursive n us (DrainAppends rounds) w = n ≡ 0
+Fits recursive n us (DrainRests rounds) w = n ≡ 0
+Fits recursive n us (DrainSleeps rounds) w = n ≡ 0
 Fits recursive n us (Unshares rest) w = 0 < w.readers
-Fits recursive n us (Takes2 rest) w = us ≡ []
+Fits recursive n us (TakeWriter rest) w = us ≡ []
 Fits recursive n us (Unlocks fair rest) w = n ≡ 0
 Fits recursive n us (LooksExclusive fair rest) w = us ≡ []
 Fits recursive n us Downgrades w = w.writer ≡ 1
-Fits recursive n us Owes w = us ≡ []
+Fits recursive n us EnterWakeSection w = us ≡ []
 Fits recursive n us (Scans s) w = s.shared < 2 ^ 32 - 1
 Fits recursive n us (Stores s left) w = (s.shared < 2 ^ 32) × (length us ≡ count_of s)
 Fits recursive n us (Finishes rest) w = (us ≡ []) × (gives_exclusive rest ≡ true → n ≡ 0)
@@ -349,7 +349,7 @@ IsToken None = Unit {0}
 IsToken (Some token) = (token.0 ≡ 16) ⊎ (token.0 ≡ 8) ⊎ (token.0 ≡ 20)
 
 -- what a core may be told at a word: that it begins, or what its act gives
-abbrev pub IsTold : RwPhase → ℕ → Seen → Type 0
+abbrev pub IsTold : RwPhase → ℕ → ActResult → Type 0
 IsTold (Locking want) word s = Begins s
 IsTold (Trying want) word s = Begins s
 IsTold UnlockingShared word s = Begins s
@@ -362,7 +362,7 @@ IsTold p word s = Gives (act_of p) word s
 
 -- What a core is told at a word, at which one reader more can be counted, is a step of the rules, of the kind that the table says; and the
 -- phase that follows is ready again.
-abbrev pub Follows : RwPhase → Seen → Type 0
+abbrev pub Follows : RwPhase → ActResult → Type 0
 Follows p s = (recursive : Bool) (n : ℕ) (us : List ℕ) (w : Word) → IsReady p → IsWord w → w.readers < 2 ^ 60 - 1 → Fits recursive n us p w → IsTold p (number w) s
     → IsMove recursive (move n us p s) n us p (next_phase p s) w (word_after (act_of p) s (number w)) × IsReady (next_phase p s)
 

@@ -20,7 +20,7 @@ pub enum Act {
     /// Add to the word, modulo 2^64.
     Add(u64),
     /// Keep those bits of the word.
-    Mask(u64),
+    FetchAnd(u64),
     /// Wait for a round of spinning, unless there were enough.
     Spin,
     /// Enter the section of a key of the row: 0 is the first, 1 the second.
@@ -72,7 +72,7 @@ impl WordChange {
 
 /// What the last act gave.
 #[derive(Clone, Copy, PartialEq, Eq, Debug)]
-pub enum Seen {
+pub enum ActResult {
     /// Nothing yet: the call begins.
     Start,
     /// A load, a check or a lost exchange saw this word.
@@ -121,22 +121,22 @@ pub(crate) struct Taking {
 }
 
 /// What is seen, by the kind of act that gives it.
-impl Seen {
+impl ActResult {
     /// The call begins.
     pub(crate) fn is_start(self) -> bool
         ensures { result ≡ is_start self }
     {
         match self {
-            Seen::Start => true,
-            Seen::Word(_)
-            | Seen::Exchanged
-            | Seen::Before(_)
-            | Seen::Spun(_)
-            | Seen::Entered
-            | Seen::Took { .. }
-            | Seen::Stored { .. }
-            | Seen::Made
-            | Seen::Woken(_) => false,
+            ActResult::Start => true,
+            ActResult::Word(_)
+            | ActResult::Exchanged
+            | ActResult::Before(_)
+            | ActResult::Spun(_)
+            | ActResult::Entered
+            | ActResult::Took { .. }
+            | ActResult::Stored { .. }
+            | ActResult::Made
+            | ActResult::Woken(_) => false,
         }
     }
 
@@ -145,16 +145,16 @@ impl Seen {
         ensures { result ≡ is_entered self }
     {
         match self {
-            Seen::Entered => true,
-            Seen::Start
-            | Seen::Word(_)
-            | Seen::Exchanged
-            | Seen::Before(_)
-            | Seen::Spun(_)
-            | Seen::Took { .. }
-            | Seen::Stored { .. }
-            | Seen::Made
-            | Seen::Woken(_) => false,
+            ActResult::Entered => true,
+            ActResult::Start
+            | ActResult::Word(_)
+            | ActResult::Exchanged
+            | ActResult::Before(_)
+            | ActResult::Spun(_)
+            | ActResult::Took { .. }
+            | ActResult::Stored { .. }
+            | ActResult::Made
+            | ActResult::Woken(_) => false,
         }
     }
 
@@ -163,16 +163,16 @@ impl Seen {
         ensures { result ≡ is_made self }
     {
         match self {
-            Seen::Made => true,
-            Seen::Start
-            | Seen::Word(_)
-            | Seen::Exchanged
-            | Seen::Before(_)
-            | Seen::Spun(_)
-            | Seen::Entered
-            | Seen::Took { .. }
-            | Seen::Stored { .. }
-            | Seen::Woken(_) => false,
+            ActResult::Made => true,
+            ActResult::Start
+            | ActResult::Word(_)
+            | ActResult::Exchanged
+            | ActResult::Before(_)
+            | ActResult::Spun(_)
+            | ActResult::Entered
+            | ActResult::Took { .. }
+            | ActResult::Stored { .. }
+            | ActResult::Woken(_) => false,
         }
     }
 
@@ -181,16 +181,16 @@ impl Seen {
         ensures { result ≡ word_seen self }
     {
         match self {
-            Seen::Word(word) => Some(word),
-            Seen::Start
-            | Seen::Exchanged
-            | Seen::Before(_)
-            | Seen::Spun(_)
-            | Seen::Entered
-            | Seen::Took { .. }
-            | Seen::Stored { .. }
-            | Seen::Made
-            | Seen::Woken(_) => None,
+            ActResult::Word(word) => Some(word),
+            ActResult::Start
+            | ActResult::Exchanged
+            | ActResult::Before(_)
+            | ActResult::Spun(_)
+            | ActResult::Entered
+            | ActResult::Took { .. }
+            | ActResult::Stored { .. }
+            | ActResult::Made
+            | ActResult::Woken(_) => None,
         }
     }
 
@@ -199,16 +199,16 @@ impl Seen {
         ensures { result ≡ word_before self }
     {
         match self {
-            Seen::Before(word) => Some(word),
-            Seen::Start
-            | Seen::Word(_)
-            | Seen::Exchanged
-            | Seen::Spun(_)
-            | Seen::Entered
-            | Seen::Took { .. }
-            | Seen::Stored { .. }
-            | Seen::Made
-            | Seen::Woken(_) => None,
+            ActResult::Before(word) => Some(word),
+            ActResult::Start
+            | ActResult::Word(_)
+            | ActResult::Exchanged
+            | ActResult::Spun(_)
+            | ActResult::Entered
+            | ActResult::Took { .. }
+            | ActResult::Stored { .. }
+            | ActResult::Made
+            | ActResult::Woken(_) => None,
         }
     }
 
@@ -217,16 +217,16 @@ impl Seen {
         ensures { result ≡ exchange_seen self }
     {
         match self {
-            Seen::Word(word) => Some(Err(word)),
-            Seen::Exchanged => Some(Ok(())),
-            Seen::Start
-            | Seen::Before(_)
-            | Seen::Spun(_)
-            | Seen::Entered
-            | Seen::Took { .. }
-            | Seen::Stored { .. }
-            | Seen::Made
-            | Seen::Woken(_) => None,
+            ActResult::Word(word) => Some(Err(word)),
+            ActResult::Exchanged => Some(Ok(())),
+            ActResult::Start
+            | ActResult::Before(_)
+            | ActResult::Spun(_)
+            | ActResult::Entered
+            | ActResult::Took { .. }
+            | ActResult::Stored { .. }
+            | ActResult::Made
+            | ActResult::Woken(_) => None,
         }
     }
 
@@ -235,16 +235,16 @@ impl Seen {
         ensures { result ≡ spun_seen self }
     {
         match self {
-            Seen::Spun(spun) => Some(spun),
-            Seen::Start
-            | Seen::Word(_)
-            | Seen::Exchanged
-            | Seen::Before(_)
-            | Seen::Entered
-            | Seen::Took { .. }
-            | Seen::Stored { .. }
-            | Seen::Made
-            | Seen::Woken(_) => None,
+            ActResult::Spun(spun) => Some(spun),
+            ActResult::Start
+            | ActResult::Word(_)
+            | ActResult::Exchanged
+            | ActResult::Before(_)
+            | ActResult::Entered
+            | ActResult::Took { .. }
+            | ActResult::Stored { .. }
+            | ActResult::Made
+            | ActResult::Woken(_) => None,
         }
     }
 
@@ -253,16 +253,16 @@ impl Seen {
         ensures { result ≡ took_seen self }
     {
         match self {
-            Seen::Took { token, left } => Some(Taking { token, left }),
-            Seen::Start
-            | Seen::Word(_)
-            | Seen::Exchanged
-            | Seen::Before(_)
-            | Seen::Spun(_)
-            | Seen::Entered
-            | Seen::Stored { .. }
-            | Seen::Made
-            | Seen::Woken(_) => None,
+            ActResult::Took { token, left } => Some(Taking { token, left }),
+            ActResult::Start
+            | ActResult::Word(_)
+            | ActResult::Exchanged
+            | ActResult::Before(_)
+            | ActResult::Spun(_)
+            | ActResult::Entered
+            | ActResult::Stored { .. }
+            | ActResult::Made
+            | ActResult::Woken(_) => None,
         }
     }
 
@@ -271,16 +271,16 @@ impl Seen {
         ensures { result ≡ stored_seen self }
     {
         match self {
-            Seen::Stored { fair } => Some(fair),
-            Seen::Start
-            | Seen::Word(_)
-            | Seen::Exchanged
-            | Seen::Before(_)
-            | Seen::Spun(_)
-            | Seen::Entered
-            | Seen::Took { .. }
-            | Seen::Made
-            | Seen::Woken(_) => None,
+            ActResult::Stored { fair } => Some(fair),
+            ActResult::Start
+            | ActResult::Word(_)
+            | ActResult::Exchanged
+            | ActResult::Before(_)
+            | ActResult::Spun(_)
+            | ActResult::Entered
+            | ActResult::Took { .. }
+            | ActResult::Made
+            | ActResult::Woken(_) => None,
         }
     }
 
@@ -289,16 +289,16 @@ impl Seen {
         ensures { result ≡ woken_seen self }
     {
         match self {
-            Seen::Woken(token) => Some(token),
-            Seen::Start
-            | Seen::Word(_)
-            | Seen::Exchanged
-            | Seen::Before(_)
-            | Seen::Spun(_)
-            | Seen::Entered
-            | Seen::Took { .. }
-            | Seen::Stored { .. }
-            | Seen::Made => None,
+            ActResult::Woken(token) => Some(token),
+            ActResult::Start
+            | ActResult::Word(_)
+            | ActResult::Exchanged
+            | ActResult::Before(_)
+            | ActResult::Spun(_)
+            | ActResult::Entered
+            | ActResult::Took { .. }
+            | ActResult::Stored { .. }
+            | ActResult::Made => None,
         }
     }
 }

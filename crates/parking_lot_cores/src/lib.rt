@@ -18,9 +18,9 @@ mod rw_next;
 mod rw_phase;
 mod wake;
 
-pub use act::{Act, CoreAnswer, HAND_OVER, SectionAct, Seen, TRY_AGAIN, WordChange};
+pub use act::{Act, CoreAnswer, HAND_OVER, SectionAct, ActResult, TRY_AGAIN, WordChange};
 pub use mutex_core::MutexCore;
 pub use mutex_phase::{Asking, Giving, MutexPhase};
 pub use rw_core::RwCore;
-pub use rw_phase::{Draining, Outcome, Rest, RwPhase, Scanning, Seeking, Want};
+pub use rw_phase::{Draining, Outcome, AfterWake, RwPhase, Scanning, Seeking, LockMode};
 pub use wake::wake_sum;

@@ -4,7 +4,7 @@ ghost use Rattle.parking_lot_cores.specs.MutexRules.{Ended, Follows};
 ghost use Rattle.parking_lot_cores.specs.MutexTable.{act_of, next_phase, wakes_with};
 ghost use Rattle.parking_lot_cores.specs.declared.mutex_phase.MutexPhase.TheVariants.{Locking, Trying, Unlocking, Bumping};
 
-use crate::act::{Act, HAND_OVER, Seen, TRY_AGAIN};
+use crate::act::{Act, HAND_OVER, ActResult, TRY_AGAIN};
 use crate::mutex_phase::MutexPhase;
 use parking_lot_core::UnparkToken;
 
@@ -12,9 +12,9 @@ use parking_lot_core::UnparkToken;
 ///
 /// ```text
 /// let mut core = MutexCore::lock();
-/// assert_eq!(rt; core.next(Seen::Start), Act::Load);
-/// assert_eq!(rt; core.next(Seen::Word(0)), Act::Exchange(0, 1));
-/// assert_eq!(rt; core.next(Seen::Exchanged), Act::Done(CoreAnswer::Owned));
+/// assert_eq!(rt; core.next(ActResult::Start), Act::Load);
+/// assert_eq!(rt; core.next(ActResult::Word(0)), Act::Exchange(0, 1));
+/// assert_eq!(rt; core.next(ActResult::Exchanged), Act::Done(CoreAnswer::Owned));
 /// ```
 #[derive(Clone, Copy)]
 pub struct MutexCore {
@@ -92,13 +92,13 @@ impl MutexCore {
     }
 
     /// Is told what the last act gave, and answers the next. What doesn't fit the act is met by `Done(Refused)`.
-    pub fn next(&mut self, seen: Seen) -> Act
+    pub fn next(&mut self, seen: ActResult) -> Act
         ensures phase { self.new.phase ≡ next_phase self.old.phase seen }
         ensures act { result ≡ act_of self.new.phase }
         ensures rules { Follows self.old.phase seen }
         ensures end { Ended self.new.phase result }
     {
-        self.phase = self.phase.after(seen).unwrap_or(MutexPhase::Strays);
+        self.phase = self.phase.after(seen).unwrap_or(MutexPhase::Invalid);
         self.phase.act()
     }
 }

@@ -5,7 +5,7 @@ ghost use Rattle.parking_lot_cores.specs.declared.act.CoreAnswer.TheVariants.{Ow
 ghost use Rattle.parking_lot_cores.specs.declared.mutex_phase.MutexPhase.TheVariants.{Loads, Locks, Parks, Enters, Appends, Retreats, Relocks, Unlocks, Looks, Stores, Leaves, Wakes, Finishes, Ends};
 ghost use Rattle.parking_lot_cores.specs.MutexTable.{act_of, after, bit, begins, once, retries, seeks, store_of, tries, won_or};
 
-use crate::act::{Act, CoreAnswer, HAND_OVER, SectionAct, Seen, Taking, WordChange};
+use crate::act::{Act, CoreAnswer, HAND_OVER, SectionAct, ActResult, Taking, WordChange};
 use parking_lot_core::{DEFAULT_PARK_TOKEN, UnparkToken};
 
 /// How many rounds a call spins before it sets the parked bit.
@@ -68,7 +68,7 @@ pub enum MutexPhase {
     Finishes(Giving),
     /// The call is over, or was told what its act can't give.
     Ends(CoreAnswer),
-    Strays,
+    Invalid,
 }
 
 /// One that asks, and may spin for as long as one that begins.
@@ -251,7 +251,7 @@ fn leaves(giving: Giving, taken: bool) -> MutexPhase
 }
 
 /// All is done, and a bump begins to ask again.
-fn finishes(giving: Giving, seen: Seen) -> Option<MutexPhase>
+fn finishes(giving: Giving, seen: ActResult) -> Option<MutexPhase>
     ensures { result ≡ after (Finishes giving) seen }
 {
     if giving.again {
@@ -309,12 +309,12 @@ impl MutexPhase {
             MutexPhase::Ends(answer) => Act::Done(answer),
             MutexPhase::Locking | MutexPhase::Trying => Act::Done(CoreAnswer::Refused),
             MutexPhase::Unlocking(_) | MutexPhase::Bumping => Act::Done(CoreAnswer::Refused),
-            MutexPhase::Refuses | MutexPhase::Strays => Act::Done(CoreAnswer::Refused),
+            MutexPhase::Refuses | MutexPhase::Invalid => Act::Done(CoreAnswer::Refused),
         }
     }
 
     /// The phase that follows what the act of this one gave; `None` where the act can't give that.
-    pub fn after(self, seen: Seen) -> Option<MutexPhase>
+    pub fn after(self, seen: ActResult) -> Option<MutexPhase>
         ensures { result ≡ after self seen }
     {
         match self {
@@ -346,7 +346,7 @@ impl MutexPhase {
             MutexPhase::Leaves(giving, taken, _) => once(seen.is_made(), leaves(giving, taken)),
             MutexPhase::Wakes(giving) => once(seen.is_made(), MutexPhase::Finishes(giving)),
             MutexPhase::Finishes(giving) => finishes(giving, seen),
-            MutexPhase::Refuses | MutexPhase::Ends(_) | MutexPhase::Strays => None,
+            MutexPhase::Refuses | MutexPhase::Ends(_) | MutexPhase::Invalid => None,
         }
     }
 }

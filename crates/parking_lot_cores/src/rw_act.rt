@@ -6,7 +6,7 @@ ghost use Rattle.parking_lot_cores.specs.MutexTable.{bit};
 ghost use Rattle.parking_lot_cores.specs.RwTable.{act_of, answer_of, base_of, count_of, hands, last_act, may_hand, share_of, store_of, sum_of};
 
 use crate::act::{Act, CoreAnswer, SectionAct, WordChange};
-use crate::rw_phase::{Outcome, Rest, RwPhase, Scanning, Want};
+use crate::rw_phase::{Outcome, AfterWake, RwPhase, Scanning, LockMode};
 use parking_lot_core::ParkToken;
 
 /// What an admission of a reader adds to the word, and the token of one that waits.
@@ -18,14 +18,14 @@ pub(crate) const WRITER: u8 = 8;
 /// The same of one that wants the upgradable hold.
 pub(crate) const UPGRADABLE: u8 = 20;
 
-impl Want {
+impl LockMode {
     /// What an admission adds to the word, and the token of one that waits for it.
     pub(crate) fn share(self) -> u8
         ensures { result ≡ share_of self }
     {
         match self {
-            Want::Shared(_) => READER,
-            Want::Exclusive => WRITER,
+            LockMode::Shared(_) => READER,
+            LockMode::Exclusive => WRITER,
         }
     }
 
@@ -37,15 +37,15 @@ impl Want {
     }
 }
 
-impl Rest {
+impl AfterWake {
     /// What one that scans for this has counted from the beginning: the hold that it keeps.
     fn base(self) -> u8
         ensures { result ≡ base_of self }
     {
         match self {
-            Rest::FreedShared | Rest::FreedExclusive => 0,
-            Rest::Downgraded => READER,
-            Rest::AgainShared | Rest::AgainExclusive => 0,
+            AfterWake::FreedShared | AfterWake::FreedExclusive => 0,
+            AfterWake::Downgraded => READER,
+            AfterWake::AgainShared | AfterWake::AgainExclusive => 0,
         }
     }
 
@@ -54,9 +54,9 @@ impl Rest {
         ensures { result ≡ may_hand self }
     {
         match self {
-            Rest::FreedShared | Rest::FreedExclusive => true,
-            Rest::Downgraded => false,
-            Rest::AgainShared | Rest::AgainExclusive => true,
+            AfterWake::FreedShared | AfterWake::FreedExclusive => true,
+            AfterWake::Downgraded => false,
+            AfterWake::AgainShared | AfterWake::AgainExclusive => true,
         }
     }
 
@@ -65,9 +65,9 @@ impl Rest {
         ensures { result ≡ last_act self }
     {
         match self {
-            Rest::FreedShared | Rest::FreedExclusive => Act::Done(CoreAnswer::Released),
-            Rest::Downgraded => Act::Done(CoreAnswer::Owned),
-            Rest::AgainShared | Rest::AgainExclusive => Act::Load,
+            AfterWake::FreedShared | AfterWake::FreedExclusive => Act::Done(CoreAnswer::Released),
+            AfterWake::Downgraded => Act::Done(CoreAnswer::Owned),
+            AfterWake::AgainShared | AfterWake::AgainExclusive => Act::Load,
         }
     }
 }
@@ -152,31 +152,31 @@ impl RwPhase {
         ensures { result ≡ act_of self }
     {
         match self {
-            RwPhase::Loads(_) | RwPhase::Loads2(_) | RwPhase::TryLoads(_) => Act::Load,
+            RwPhase::Loads(_) | RwPhase::DrainLoads(_) | RwPhase::TryLoads(_) => Act::Load,
             RwPhase::BumpLoads(_) | RwPhase::Relocks(_) => Act::Load,
             RwPhase::Admits(seeking, word) => seeking.want.admission(word),
             RwPhase::TryAdmits(want, word, _) => want.admission(word),
-            RwPhase::Spins(_) | RwPhase::Spins2(_) => Act::Spin,
-            RwPhase::Flags(_, word) => Act::Exchange(word, word.wrapping_add(1)),
-            RwPhase::Flags2(_, word) => Act::Exchange(word, word.wrapping_add(2)),
-            RwPhase::Enters(..) | RwPhase::LooksExclusive(..) | RwPhase::Owes => Act::Enter(0),
-            RwPhase::Enters2(_) | RwPhase::Owes2(_) => Act::Enter(1),
-            RwPhase::Sleeps(_) | RwPhase::Sleeps2(_) => Act::Sleep,
+            RwPhase::Spins(_) | RwPhase::DrainSpins(_) => Act::Spin,
+            RwPhase::SetParked(_, word) => Act::Exchange(word, word.wrapping_add(1)),
+            RwPhase::DrainSetParked(_, word) => Act::Exchange(word, word.wrapping_add(2)),
+            RwPhase::Enters(..) | RwPhase::LooksExclusive(..) | RwPhase::EnterWakeSection => Act::Enter(0),
+            RwPhase::DrainEnters(_) | RwPhase::EnterWriterWakeSection(_) => Act::Enter(1),
+            RwPhase::Sleeps(_) | RwPhase::DrainSleeps(_) => Act::Sleep,
             RwPhase::Unshares(_) => Act::Add(u64::MAX - 15),
-            RwPhase::Masks2(..) => Act::Mask(u64::MAX - 2),
+            RwPhase::ClearWriterParked(..) => Act::FetchAnd(u64::MAX - 2),
             RwPhase::Unlocks(..) => Act::Exchange(8, 0),
             RwPhase::Downgrades => Act::Add(8),
             RwPhase::Finishes(rest) => rest.last_act(),
             RwPhase::Ends(outcome) => Act::Done(outcome.answer()),
-            RwPhase::Checks(..) | RwPhase::Checks2(_) => Act::Section(SectionAct::Check),
+            RwPhase::Checks(..) | RwPhase::DrainChecks(_) => Act::Section(SectionAct::Check),
             RwPhase::Appends(want) => Act::Section(SectionAct::Append(token(want.share()))),
-            RwPhase::Appends2(_) => Act::Section(SectionAct::Append(token(WRITER))),
-            RwPhase::Takes2(_) => Act::Section(SectionAct::TakeFirst),
+            RwPhase::DrainAppends(_) => Act::Section(SectionAct::Append(token(WRITER))),
+            RwPhase::TakeWriter(_) => Act::Section(SectionAct::TakeFirst),
             RwPhase::Scans(scanning) => Act::Section(SectionAct::TakeNext(scanning.sum())),
             RwPhase::Stores(scanning, left) => Act::Section(scanning.stores(left)),
             RwPhase::Retreats(..) | RwPhase::Rests(_) => Act::Section(SectionAct::Leave),
-            RwPhase::Retreats2(_) | RwPhase::Rests2(_) => Act::Section(SectionAct::Leave),
-            RwPhase::Leaves2(..) | RwPhase::Leaves(..) => Act::Section(SectionAct::Leave),
+            RwPhase::DrainRetreats(_) | RwPhase::DrainRests(_) => Act::Section(SectionAct::Leave),
+            RwPhase::LeaveWriterWakeSection(..) | RwPhase::Leaves(..) => Act::Section(SectionAct::Leave),
             RwPhase::Wakes(..) => Act::Section(SectionAct::Wake),
             RwPhase::Locking(_) | RwPhase::Trying(_) => Act::Done(CoreAnswer::Refused),
             RwPhase::UnlockingShared | RwPhase::UnlockingExclusive(_) => Act::Done(
@@ -184,7 +184,7 @@ impl RwPhase {
             ),
             RwPhase::Downgrading | RwPhase::BumpingShared => Act::Done(CoreAnswer::Refused),
             RwPhase::BumpingExclusive | RwPhase::Refuses(_) => Act::Done(CoreAnswer::Refused),
-            RwPhase::Strays => Act::Done(CoreAnswer::Refused),
+            RwPhase::Invalid => Act::Done(CoreAnswer::Refused),
         }
     }
 }

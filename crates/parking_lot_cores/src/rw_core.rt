@@ -1,21 +1,21 @@
 //! The calls of a reader-writer lock, as plain data.
 ghost use Rattle.std.specs.Prelude.{◌≡◌, true, false};
-ghost use Rattle.parking_lot_cores.specs.declared.rw_phase.Want.TheVariants as want;
+ghost use Rattle.parking_lot_cores.specs.declared.rw_phase.LockMode.TheVariants as want;
 ghost use Rattle.parking_lot_cores.specs.declared.rw_phase.RwPhase.TheVariants.{Locking, Trying, UnlockingShared, UnlockingExclusive, Downgrading, BumpingShared, BumpingExclusive};
 ghost use Rattle.parking_lot_cores.specs.RwRules.{Ended, Follows};
 ghost use Rattle.parking_lot_cores.specs.RwTable.{act_of, next_phase, wakes_with};
 
-use crate::act::{Act, HAND_OVER, Seen, TRY_AGAIN};
-use crate::rw_phase::{RwPhase, Want};
+use crate::act::{Act, HAND_OVER, ActResult, TRY_AGAIN};
+use crate::rw_phase::{RwPhase, LockMode};
 use parking_lot_core::UnparkToken;
 
 /// The state of one call at a reader-writer lock. It is told what its last act gave, and answers the next one.
 ///
 /// ```text
 /// let mut core = RwCore::lock_shared(false);
-/// assert_eq!(rt; core.next(Seen::Start), Act::Load);
-/// assert_eq!(rt; core.next(Seen::Word(16)), Act::Exchange(16, 32));
-/// assert_eq!(rt; core.next(Seen::Exchanged), Act::Done(CoreAnswer::Owned));
+/// assert_eq!(rt; core.next(ActResult::Start), Act::Load);
+/// assert_eq!(rt; core.next(ActResult::Word(16)), Act::Exchange(16, 32));
+/// assert_eq!(rt; core.next(ActResult::Exchanged), Act::Done(CoreAnswer::Owned));
 /// ```
 #[derive(Clone, Copy)]
 pub struct RwCore {
@@ -28,7 +28,7 @@ impl RwCore {
         ensures { result.phase ≡ Locking (want.Shared recursive) }
     {
         RwCore {
-            phase: RwPhase::Locking(Want::Shared(recursive)),
+            phase: RwPhase::Locking(LockMode::Shared(recursive)),
         }
     }
 
@@ -37,7 +37,7 @@ impl RwCore {
         ensures { result.phase ≡ Trying (want.Shared recursive) }
     {
         RwCore {
-            phase: RwPhase::Trying(Want::Shared(recursive)),
+            phase: RwPhase::Trying(LockMode::Shared(recursive)),
         }
     }
 
@@ -55,7 +55,7 @@ impl RwCore {
         ensures { result.phase ≡ Locking want.Exclusive }
     {
         RwCore {
-            phase: RwPhase::Locking(Want::Exclusive),
+            phase: RwPhase::Locking(LockMode::Exclusive),
         }
     }
 
@@ -64,7 +64,7 @@ impl RwCore {
         ensures { result.phase ≡ Trying want.Exclusive }
     {
         RwCore {
-            phase: RwPhase::Trying(Want::Exclusive),
+            phase: RwPhase::Trying(LockMode::Exclusive),
         }
     }
 
@@ -138,13 +138,13 @@ impl RwCore {
     }
 
     /// Is told what the last act gave, and answers the next. What doesn't fit the act is met by `Done(Refused)`.
-    pub fn next(&mut self, seen: Seen) -> Act
+    pub fn next(&mut self, seen: ActResult) -> Act
         ensures phase { self.new.phase ≡ next_phase self.old.phase seen }
         ensures act { result ≡ act_of self.new.phase }
         ensures rules { Follows self.old.phase seen }
         ensures end { Ended self.new.phase }
     {
-        self.phase = self.phase.after(seen).unwrap_or(RwPhase::Strays);
+        self.phase = self.phase.after(seen).unwrap_or(RwPhase::Invalid);
         self.phase.act()
     }
 }

@@ -1,13 +1,13 @@
 //! Where a call at a reader-writer lock goes on, by what its act gave.
 ghost use Rattle.std.specs.Prelude.{◌≡◌, ◌+◌, ◌-◌, ◌<◌, ◌%◌, ◌^◌, ◌==◌, ◌&&◌, ◌||◌, nat_lt, if◌then◌else◌, true, false, is_some, Some};
-ghost use Rattle.parking_lot_cores.specs.declared.rw_phase.RwPhase.TheVariants.{Enters, Loads, Leaves2, Scans, Loads2, Enters2, Appends, Retreats, Appends2, Retreats2, Ends, LooksExclusive, Owes, Leaves};
+ghost use Rattle.parking_lot_cores.specs.declared.rw_phase.RwPhase.TheVariants.{Enters, Loads, LeaveWriterWakeSection, Scans, DrainLoads, DrainEnters, Appends, Retreats, DrainAppends, DrainRetreats, Ends, LooksExclusive, EnterWakeSection, Leaves};
 ghost use Rattle.parking_lot_cores.specs.declared.rw_phase.Outcome.TheVariants as outcome;
 ghost use Rattle.parking_lot_cores.specs.RwTable.{admits, after, asks_again, begins, bumps, count_of, drains, gains, goes_on, hands, has_readers, has_room, is_admitted, is_barred, is_parked, is_tried, is_upgradable, is_writer_parked, is_written, once, over, pends, retries, scans, scans_for, seeks, tries, unshares, wakes, with_taken, won_or};
 
-use crate::act::{HAND_OVER, Seen, Taking};
+use crate::act::{HAND_OVER, ActResult, Taking};
 use crate::mutex_phase::{ROUNDS, TRIES};
 use crate::rw_act::{READER, UPGRADABLE, WRITER};
-use crate::rw_phase::{Draining, Outcome, Rest, RwPhase, Scanning, Seeking, Want};
+use crate::rw_phase::{Draining, Outcome, AfterWake, RwPhase, Scanning, Seeking, LockMode};
 use parking_lot_core::{ParkToken, UnparkToken};
 
 /// One reader more can be counted than this.
@@ -50,14 +50,14 @@ fn has_room(word: u64) -> bool
     word / 16 < MAX_READERS
 }
 
-impl Want {
+impl LockMode {
     /// Whether somebody is in its way who is to be waited for.
     fn is_barred(self, word: u64) -> bool
         ensures { result ≡ is_barred self word }
     {
         match self {
-            Want::Shared(_) => is_written(word),
-            Want::Exclusive => is_written(word) || is_upgradable(word),
+            LockMode::Shared(_) => is_written(word),
+            LockMode::Exclusive => is_written(word) || is_upgradable(word),
         }
     }
 
@@ -66,10 +66,10 @@ impl Want {
         ensures { result ≡ is_admitted self word }
     {
         match self {
-            Want::Shared(recursive) => {
+            LockMode::Shared(recursive) => {
                 has_room(word) && (!is_written(word) || (recursive && has_readers(word)))
             }
-            Want::Exclusive => !(is_written(word) || is_upgradable(word)),
+            LockMode::Exclusive => !(is_written(word) || is_upgradable(word)),
         }
     }
 
@@ -78,8 +78,8 @@ impl Want {
         ensures { result ≡ is_tried self word }
     {
         match self {
-            Want::Shared(_) => self.is_admitted(word),
-            Want::Exclusive => word == 0,
+            LockMode::Shared(_) => self.is_admitted(word),
+            LockMode::Exclusive => word == 0,
         }
     }
 
@@ -99,8 +99,8 @@ impl Want {
         ensures { result ≡ admits self woken }
     {
         match self {
-            Want::Shared(_) => RwPhase::Ends(Outcome::Shared),
-            Want::Exclusive => RwPhase::Loads2(Draining {
+            LockMode::Shared(_) => RwPhase::Ends(Outcome::Shared),
+            LockMode::Exclusive => RwPhase::DrainLoads(Draining {
                 woken,
                 rounds: ROUNDS,
             }),
@@ -112,8 +112,8 @@ impl Want {
         ensures { result ≡ gains self }
     {
         match self {
-            Want::Shared(_) => Outcome::Shared,
-            Want::Exclusive => Outcome::Exclusive,
+            LockMode::Shared(_) => Outcome::Shared,
+            LockMode::Exclusive => Outcome::Exclusive,
         }
     }
 
@@ -166,10 +166,10 @@ impl Want {
         ensures { result ≡ bumps self word }
     {
         match self {
-            Want::Shared(_) if is_written(word) => RwPhase::Unshares(Rest::AgainShared),
-            Want::Shared(_) => RwPhase::Ends(Outcome::Shared),
-            Want::Exclusive if is_parked(word) => RwPhase::Unlocks(true, Rest::AgainExclusive),
-            Want::Exclusive => RwPhase::Ends(Outcome::Exclusive),
+            LockMode::Shared(_) if is_written(word) => RwPhase::Unshares(AfterWake::AgainShared),
+            LockMode::Shared(_) => RwPhase::Ends(Outcome::Shared),
+            LockMode::Exclusive if is_parked(word) => RwPhase::Unlocks(true, AfterWake::AgainExclusive),
+            LockMode::Exclusive => RwPhase::Ends(Outcome::Exclusive),
         }
     }
 }
@@ -189,7 +189,7 @@ impl Seeking {
         } else if is_parked(word) {
             RwPhase::Enters(self.want, self.woken)
         } else {
-            RwPhase::Flags(self, word)
+            RwPhase::SetParked(self, word)
         }
     }
 
@@ -234,59 +234,59 @@ impl Draining {
         if !has_readers(word) {
             RwPhase::Ends(Outcome::Exclusive)
         } else if self.rounds > 0 {
-            RwPhase::Spins2(self)
+            RwPhase::DrainSpins(self)
         } else if is_writer_parked(word) {
-            RwPhase::Enters2(self)
+            RwPhase::DrainEnters(self)
         } else {
-            RwPhase::Flags2(self, word)
+            RwPhase::DrainSetParked(self, word)
         }
     }
 
     /// The exchange that sets the writer-parked bit was won, or lost to this word.
     fn flagged(self, outcome: Result<(), u64>) -> RwPhase
-        ensures { result ≡ won_or (Enters2 self) (drains self) outcome }
+        ensures { result ≡ won_or (DrainEnters self) (drains self) outcome }
     {
         match outcome {
-            Ok(()) => RwPhase::Enters2(self),
+            Ok(()) => RwPhase::DrainEnters(self),
             Err(word) => self.drains(word),
         }
     }
 
     /// A round was spun, or there were enough.
     fn spun(self, spun: bool) -> RwPhase
-        ensures { result ≡ Loads2 (record self { rounds = if spun then self.rounds - 1 else 0 }) }
+        ensures { result ≡ DrainLoads (record self { rounds = if spun then self.rounds - 1 else 0 }) }
     {
         let rounds = if spun {
             self.rounds.saturating_sub(1)
         } else {
             0
         };
-        RwPhase::Loads2(Draining { rounds, ..self })
+        RwPhase::DrainLoads(Draining { rounds, ..self })
     }
 
     /// It has looked at the word in the section.
     fn checks(self, word: u64) -> RwPhase
-        ensures { result ≡ (if has_readers word && is_writer_parked word then Appends2 self.rounds else Retreats2 self) }
+        ensures { result ≡ (if has_readers word && is_writer_parked word then DrainAppends self.rounds else DrainRetreats self) }
     {
         if has_readers(word) && is_writer_parked(word) {
-            RwPhase::Appends2(self.rounds)
+            RwPhase::DrainAppends(self.rounds)
         } else {
-            RwPhase::Retreats2(self)
+            RwPhase::DrainRetreats(self)
         }
     }
 }
 
-impl Rest {
+impl AfterWake {
     /// What comes where nobody was to be woken.
     fn over(self) -> RwPhase
         ensures { result ≡ over self }
     {
         match self {
-            Rest::FreedShared => RwPhase::Ends(Outcome::FreedShared),
-            Rest::FreedExclusive => RwPhase::Ends(Outcome::FreedExclusive),
-            Rest::Downgraded => RwPhase::Ends(Outcome::Downgraded),
-            Rest::AgainShared => RwPhase::Relocks(Want::Shared(false)),
-            Rest::AgainExclusive => RwPhase::Relocks(Want::Exclusive),
+            AfterWake::FreedShared => RwPhase::Ends(Outcome::FreedShared),
+            AfterWake::FreedExclusive => RwPhase::Ends(Outcome::FreedExclusive),
+            AfterWake::Downgraded => RwPhase::Ends(Outcome::Downgraded),
+            AfterWake::AgainShared => RwPhase::Relocks(LockMode::Shared(false)),
+            AfterWake::AgainExclusive => RwPhase::Relocks(LockMode::Exclusive),
         }
     }
 
@@ -295,9 +295,9 @@ impl Rest {
         ensures { result ≡ asks_again self }
     {
         match self {
-            Rest::FreedShared | Rest::FreedExclusive | Rest::Downgraded => None,
-            Rest::AgainShared => Some(RwPhase::Relocks(Want::Shared(false))),
-            Rest::AgainExclusive => Some(RwPhase::Relocks(Want::Exclusive)),
+            AfterWake::FreedShared | AfterWake::FreedExclusive | AfterWake::Downgraded => None,
+            AfterWake::AgainShared => Some(RwPhase::Relocks(LockMode::Shared(false))),
+            AfterWake::AgainExclusive => Some(RwPhase::Relocks(LockMode::Exclusive)),
         }
     }
 
@@ -306,7 +306,7 @@ impl Rest {
         ensures { result ≡ unshares self word }
     {
         if word / 16 == 1 && is_writer_parked(word) {
-            RwPhase::Owes2(self)
+            RwPhase::EnterWriterWakeSection(self)
         } else {
             self.over()
         }
@@ -401,27 +401,27 @@ impl Scanning {
 
 /// An exclusive hold has become a shared one, at this word: waiters are owed a look.
 fn downgraded(word: u64) -> RwPhase
-    ensures { result ≡ (if is_parked word then Owes else Ends outcome.Downgraded) }
+    ensures { result ≡ (if is_parked word then EnterWakeSection else Ends outcome.Downgraded) }
 {
     if is_parked(word) {
-        RwPhase::Owes
+        RwPhase::EnterWakeSection
     } else {
         RwPhase::Ends(Outcome::Downgraded)
     }
 }
 
 /// The pending writer was taken, if there was one, and the writer-parked bit is cleared.
-fn masked(rest: Rest, taken: bool, _word: u64) -> RwPhase
-    ensures { result ≡ Leaves2 rest taken }
+fn masked(rest: AfterWake, taken: bool, _word: u64) -> RwPhase
+    ensures { result ≡ LeaveWriterWakeSection rest taken }
 {
-    RwPhase::Leaves2(rest, taken)
+    RwPhase::LeaveWriterWakeSection(rest, taken)
 }
 
 /// A pending writer was woken, whatever the token.
 fn looks_again(rounds: u8, _token: UnparkToken) -> Option<RwPhase>
-    ensures { result ≡ Some (Loads2 (record { woken = true; rounds = rounds })) }
+    ensures { result ≡ Some (DrainLoads (record { woken = true; rounds = rounds })) }
 {
-    Some(RwPhase::Loads2(Draining {
+    Some(RwPhase::DrainLoads(Draining {
         woken: true,
         rounds,
     }))
@@ -436,7 +436,7 @@ fn once(seen: bool, phase: RwPhase) -> Option<RwPhase>
 
 impl RwPhase {
     /// The phase that follows what the act of this one gave; `None` where the act can't give that.
-    pub fn after(self, seen: Seen) -> Option<RwPhase>
+    pub fn after(self, seen: ActResult) -> Option<RwPhase>
         ensures { result ≡ after self seen }
     {
         let started = seen.is_start();
@@ -444,18 +444,18 @@ impl RwPhase {
         match self {
             RwPhase::Locking(want) => once(started, RwPhase::Loads(want.begins(false))),
             RwPhase::Trying(want) => once(started, RwPhase::TryLoads(want)),
-            RwPhase::UnlockingShared => once(started, RwPhase::Unshares(Rest::FreedShared)),
+            RwPhase::UnlockingShared => once(started, RwPhase::Unshares(AfterWake::FreedShared)),
             RwPhase::UnlockingExclusive(fair) => once(
                 started,
-                RwPhase::Unlocks(fair, Rest::FreedExclusive),
+                RwPhase::Unlocks(fair, AfterWake::FreedExclusive),
             ),
             RwPhase::Downgrading => once(started, RwPhase::Downgrades),
-            RwPhase::BumpingShared => once(started, RwPhase::BumpLoads(Want::Shared(false))),
-            RwPhase::BumpingExclusive => once(started, RwPhase::BumpLoads(Want::Exclusive)),
+            RwPhase::BumpingShared => once(started, RwPhase::BumpLoads(LockMode::Shared(false))),
+            RwPhase::BumpingExclusive => once(started, RwPhase::BumpLoads(LockMode::Exclusive)),
             RwPhase::Loads(seeking) => Some(seeking.seeks(seen.word()?)),
             RwPhase::Admits(seeking, _) => Some(seeking.admitted(seen.exchange()?)),
             RwPhase::Spins(seeking) => Some(seeking.spun(seen.spun()?)),
-            RwPhase::Flags(seeking, _) => Some(seeking.flagged(seen.exchange()?)),
+            RwPhase::SetParked(seeking, _) => Some(seeking.flagged(seen.exchange()?)),
             RwPhase::Enters(want, woken) => once(seen.is_entered(), RwPhase::Checks(want, woken)),
             RwPhase::Checks(want, woken) => Some(want.checks(woken, seen.word()?)),
             RwPhase::Retreats(want, woken) => once(made, RwPhase::Loads(want.begins(woken))),
@@ -466,30 +466,30 @@ impl RwPhase {
             RwPhase::TryAdmits(want, _, left) => Some(want.tried(left, seen.exchange()?)),
             RwPhase::BumpLoads(want) => Some(want.bumps(seen.word()?)),
             RwPhase::Relocks(want) => Some(want.begins(false).seeks(seen.word()?)),
-            RwPhase::Loads2(draining) => Some(draining.drains(seen.word()?)),
-            RwPhase::Spins2(draining) => Some(draining.spun(seen.spun()?)),
-            RwPhase::Flags2(draining, _) => Some(draining.flagged(seen.exchange()?)),
-            RwPhase::Enters2(draining) => once(seen.is_entered(), RwPhase::Checks2(draining)),
-            RwPhase::Checks2(draining) => Some(draining.checks(seen.word()?)),
-            RwPhase::Retreats2(draining) => once(made, RwPhase::Loads2(draining)),
-            RwPhase::Appends2(rounds) => once(made, RwPhase::Rests2(rounds)),
-            RwPhase::Rests2(rounds) => once(made, RwPhase::Sleeps2(rounds)),
-            RwPhase::Sleeps2(rounds) => looks_again(rounds, seen.woken()?),
+            RwPhase::DrainLoads(draining) => Some(draining.drains(seen.word()?)),
+            RwPhase::DrainSpins(draining) => Some(draining.spun(seen.spun()?)),
+            RwPhase::DrainSetParked(draining, _) => Some(draining.flagged(seen.exchange()?)),
+            RwPhase::DrainEnters(draining) => once(seen.is_entered(), RwPhase::DrainChecks(draining)),
+            RwPhase::DrainChecks(draining) => Some(draining.checks(seen.word()?)),
+            RwPhase::DrainRetreats(draining) => once(made, RwPhase::DrainLoads(draining)),
+            RwPhase::DrainAppends(rounds) => once(made, RwPhase::DrainRests(rounds)),
+            RwPhase::DrainRests(rounds) => once(made, RwPhase::DrainSleeps(rounds)),
+            RwPhase::DrainSleeps(rounds) => looks_again(rounds, seen.woken()?),
             RwPhase::Unshares(rest) => Some(rest.unshares(seen.before()?)),
-            RwPhase::Owes2(rest) => once(seen.is_entered(), RwPhase::Takes2(rest)),
-            RwPhase::Takes2(rest) => Some(RwPhase::Masks2(rest, seen.took()?.token.is_some())),
-            RwPhase::Masks2(rest, taken) => Some(masked(rest, taken, seen.before()?)),
-            RwPhase::Leaves2(rest, taken) => once(made, rest.wakes(u64::from(taken))),
+            RwPhase::EnterWriterWakeSection(rest) => once(seen.is_entered(), RwPhase::TakeWriter(rest)),
+            RwPhase::TakeWriter(rest) => Some(RwPhase::ClearWriterParked(rest, seen.took()?.token.is_some())),
+            RwPhase::ClearWriterParked(rest, taken) => Some(masked(rest, taken, seen.before()?)),
+            RwPhase::LeaveWriterWakeSection(rest, taken) => once(made, rest.wakes(u64::from(taken))),
             RwPhase::Unlocks(fair, rest) => Some(rest.unlocked(fair, seen.exchange()?)),
             RwPhase::LooksExclusive(fair, rest) => once(seen.is_entered(), rest.scans(fair)),
             RwPhase::Downgrades => Some(downgraded(seen.before()?)),
-            RwPhase::Owes => once(seen.is_entered(), Rest::Downgraded.scans(false)),
+            RwPhase::EnterWakeSection => once(seen.is_entered(), AfterWake::Downgraded.scans(false)),
             RwPhase::Scans(scanning) => scanning.scans(seen.took()?),
             RwPhase::Stores(scanning, _) => Some(scanning.stored(seen.stored()?)),
             RwPhase::Leaves(rest, count, _) => once(made, rest.wakes(count)),
             RwPhase::Wakes(rest, count) => once(made, rest.wakes(count.saturating_sub(1))),
             RwPhase::Finishes(rest) => rest.finished(seen.word()?),
-            RwPhase::Refuses(_) | RwPhase::Ends(_) | RwPhase::Strays => None,
+            RwPhase::Refuses(_) | RwPhase::Ends(_) | RwPhase::Invalid => None,
         }
     }
 }

@@ -4,7 +4,7 @@ use crate::act::CoreAnswer;
 
 /// How the lock is asked for: shared, on a lock where an owner may ask again or not, or exclusively.
 #[derive(Clone, Copy, PartialEq, Eq, Debug)]
-pub enum Want {
+pub enum LockMode {
     Shared(bool),
     Exclusive,
 }
@@ -13,7 +13,7 @@ pub enum Want {
 /// goes to sleep.
 #[derive(Clone, Copy, PartialEq, Eq, Debug)]
 pub struct Seeking {
-    pub want: Want,
+    pub want: LockMode,
     pub woken: bool,
     pub rounds: u8,
 }
@@ -27,7 +27,7 @@ pub struct Draining {
 
 /// What comes after a release or a downgrade, once all are woken.
 #[derive(Clone, Copy, PartialEq, Eq, Debug)]
-pub enum Rest {
+pub enum AfterWake {
     /// The shared hold is given up, or the exclusive one; or it is a shared one now.
     FreedShared,
     FreedExclusive,
@@ -43,7 +43,7 @@ pub enum Rest {
 pub struct Scanning {
     /// It hands the lock over whatever the schedule says.
     pub fair: bool,
-    pub rest: Rest,
+    pub rest: AfterWake,
     pub shared: u32,
     pub upgradable: bool,
     pub writer: bool,
@@ -66,8 +66,8 @@ pub enum Outcome {
 #[derive(Clone, Copy, PartialEq, Eq, Debug)]
 pub enum RwPhase {
     /// Before a call begins.
-    Locking(Want),
-    Trying(Want),
+    Locking(LockMode),
+    Trying(LockMode),
     UnlockingShared,
     UnlockingExclusive(bool),
     Downgrading,
@@ -78,49 +78,49 @@ pub enum RwPhase {
     Loads(Seeking),
     Admits(Seeking, u64),
     Spins(Seeking),
-    Flags(Seeking, u64),
+    SetParked(Seeking, u64),
     /// The section in which it goes to sleep: it enters, checks, and leaves at once; or it joins the list, leaves and sleeps.
-    Enters(Want, bool),
-    Checks(Want, bool),
-    Retreats(Want, bool),
-    Appends(Want),
-    Rests(Want),
-    Sleeps(Want),
+    Enters(LockMode, bool),
+    Checks(LockMode, bool),
+    Retreats(LockMode, bool),
+    Appends(LockMode),
+    Rests(LockMode),
+    Sleeps(LockMode),
     /// The same of a writer that waits until the readers have left.
-    Loads2(Draining),
-    Spins2(Draining),
-    Flags2(Draining, u64),
-    Enters2(Draining),
-    Checks2(Draining),
-    Retreats2(Draining),
-    Appends2(u8),
-    Rests2(u8),
-    Sleeps2(u8),
+    DrainLoads(Draining),
+    DrainSpins(Draining),
+    DrainSetParked(Draining, u64),
+    DrainEnters(Draining),
+    DrainChecks(Draining),
+    DrainRetreats(Draining),
+    DrainAppends(u8),
+    DrainRests(u8),
+    DrainSleeps(u8),
     /// A try: a load, and exchanges, of which so many may be made after the next; it is refused.
-    TryLoads(Want),
-    TryAdmits(Want, u64, u8),
-    Refuses(Want),
+    TryLoads(LockMode),
+    TryAdmits(LockMode, u64, u8),
+    Refuses(LockMode),
     /// A bump looks for waiters; it begins to ask again.
-    BumpLoads(Want),
-    Relocks(Want),
+    BumpLoads(LockMode),
+    Relocks(LockMode),
     /// A shared hold is given up; where it was the last, a section in which the pending writer is taken.
-    Unshares(Rest),
-    Owes2(Rest),
-    Takes2(Rest),
-    Masks2(Rest, bool),
-    Leaves2(Rest, bool),
+    Unshares(AfterWake),
+    EnterWriterWakeSection(AfterWake),
+    TakeWriter(AfterWake),
+    ClearWriterParked(AfterWake, bool),
+    LeaveWriterWakeSection(AfterWake, bool),
     /// The exclusive hold is given up, or becomes a shared one; else a section in which waiters are taken in order.
-    Unlocks(bool, Rest),
-    LooksExclusive(bool, Rest),
+    Unlocks(bool, AfterWake),
+    LooksExclusive(bool, AfterWake),
     Downgrades,
-    Owes,
+    EnterWakeSection,
     Scans(Scanning),
     Stores(Scanning, bool),
-    Leaves(Rest, u64, bool),
+    Leaves(AfterWake, u64, bool),
     /// So many are still to be woken; all are.
-    Wakes(Rest, u64),
-    Finishes(Rest),
+    Wakes(AfterWake, u64),
+    Finishes(AfterWake),
     /// The call is over, or was told what its act can't give.
     Ends(Outcome),
-    Strays,
+    Invalid,
 }

@@ -1,10 +1,10 @@
 //! Calls at locks as data: what each is told stands beside the act that it must ask for then.
 
-use parking_lot_cores::{Act, MutexCore, RwCore, Seen};
+use parking_lot_cores::{Act, MutexCore, RwCore, ActResult};
 use std::process::Abort;
 
 /// What a call is told, and what it must ask for then.
-pub type Line = (Seen, Act);
+pub type Line = (ActResult, Act);
 
 /// Tells a call at a mutex each of these, and looks whether it asks for what it must.
 pub fn follow_mutex(rt: &impl Abort, mut core: MutexCore, lines: &[Line]) -> MutexCore {

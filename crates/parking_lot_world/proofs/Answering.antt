@@ -23,10 +23,10 @@ use Rattle.parking_lot_rules.specs.Family.{Crossing}
 use Rattle.parking_lot_cores.specs.declared.act.Act.{Act}
 use Rattle.parking_lot_cores.specs.declared.act.Act.TheVariants as act
 use Rattle.parking_lot_cores.specs.declared.act.CoreAnswer.TheVariants as answer
-use Rattle.parking_lot_cores.specs.declared.rw_phase.Rest.TheVariants as rest
+use Rattle.parking_lot_cores.specs.declared.rw_phase.AfterWake.TheVariants as rest
 use Rattle.parking_lot_cores.specs.declared.rw_phase.Outcome.TheVariants as outcome
-use Rattle.parking_lot_world.specs.declared.seat.Spot.{Spot}
-use Rattle.parking_lot_world.specs.declared.seat.Spot.TheVariants as spot
+use Rattle.parking_lot_world.specs.declared.seat.QueuePosition.{QueuePosition}
+use Rattle.parking_lot_world.specs.declared.seat.QueuePosition.TheVariants as spot
 use Rattle.parking_lot_world.specs.declared.seat.Wakeup.{Wakeup}
 use Rattle.parking_lot_world.specs.StanceLaws.{IsOver}
 use Rattle.parking_lot_world.specs.ActLaws.{Ends}
@@ -297,7 +297,7 @@ module _ (s : State) (h : FitsTogether s) (t : ℕ) (c : Call) (here : call_at s
     out : (stance c.core ≡ Out) × (taken_count c.core ≡ 0)
     out = subst (λ (a : Act). IsOver a (stance c.core) (taken_count c.core)) asked (calls_end c.core)
 
-    stands : (x : Spot) → c.spot ≡ x → is_off c.spot ≡ false
+    stands : (x : QueuePosition) → c.spot ≡ x → is_off c.spot ≡ false
     stands spot.Listed e = ap is_off e
     stands (spot.Off by said) e =
         let owed = h.wakes.off t by c said here e in

@@ -6,7 +6,7 @@ use Rattle.parking_lot_core.specs.declared.place.Waiter.{Waiter}
 use Rattle.parking_lot_rules.specs.Mutex as mutex
 use Rattle.parking_lot_cores.specs.declared.act.Act.TheVariants as act
 use Rattle.parking_lot_cores.specs.declared.act.SectionAct.TheVariants as section
-use Rattle.parking_lot_cores.specs.declared.act.Seen.TheVariants as seen
+use Rattle.parking_lot_cores.specs.declared.act.ActResult.TheVariants as seen
 use Rattle.parking_lot_cores.specs.declared.act.CoreAnswer.TheVariants.{Owned}
 use Rattle.parking_lot_cores.specs.declared.mutex_core.MutexCore.{MutexCore}
 use Rattle.parking_lot_cores.specs.declared.mutex_phase.MutexPhase.{MutexPhase}
@@ -16,8 +16,8 @@ use Rattle.parking_lot_cores.specs.MutexTable as table
 use Rattle.parking_lot_cores.specs.MutexRules as of_mutex
 use Rattle.parking_lot_world.specs.declared.calls.LockKind.TheVariants as kind
 use Rattle.parking_lot_world.specs.declared.seat.Hold.{Hold}
-use Rattle.parking_lot_world.specs.declared.seat.Told.TheVariants as told
-use Rattle.parking_lot_world.specs.declared.seat.Spot.TheVariants as spot
+use Rattle.parking_lot_world.specs.declared.seat.WakeResult.TheVariants as told
+use Rattle.parking_lot_world.specs.declared.seat.QueuePosition.TheVariants as spot
 use Rattle.parking_lot_world.specs.declared.seat.Core.{Core}
 use Rattle.parking_lot_world.specs.declared.seat.Core.TheVariants as core
 use Rattle.parking_lot_world.specs.declared.seat.Call.{Call}

@@ -8,8 +8,8 @@ use Rattle.parking_lot_core.specs.Sound as lot
 use Rattle.parking_lot_core.specs.declared.parking.FilterOp.TheVariants.{Unpark}
 use Rattle.parking_lot_cores.specs.declared.act.Act.TheVariants as act
 use Rattle.parking_lot_cores.specs.declared.act.SectionAct.TheVariants as section
-use Rattle.parking_lot_cores.specs.declared.act.Seen.{Seen}
-use Rattle.parking_lot_cores.specs.declared.act.Seen.TheVariants as seen
+use Rattle.parking_lot_cores.specs.declared.act.ActResult.{ActResult}
+use Rattle.parking_lot_cores.specs.declared.act.ActResult.TheVariants as seen
 use Rattle.parking_lot_cores.specs.Wake.{wake_answer}
 use Rattle.parking_lot_cores.specs.declared.rw_phase.RwPhase.{RwPhase}
 use Rattle.parking_lot_cores.specs.declared.rw_phase.RwPhase.TheVariants as r
@@ -46,7 +46,7 @@ module _ (s : State) (t : ℕ) (c : Call) (k : ℕ) (w : Waiter) (from : stance 
   abbrev u : State
   u = took s t c (key_of c k) 0 w
 
-  abbrev told : Seen
+  abbrev told : ActResult
   told = took_told s c k w
 
   by_core : (x : Core) → c.core ≡ x → TakesSo s t c k w x
@@ -102,14 +102,14 @@ module _ (s : State) (t : ℕ) (c : Call) (k : ℕ) (w : Waiter) (from : stance 
       refl (elim counts.3 [ inl f ↦ inl (f ∙ ap (λ n. In n Takes) same) | inr f ↦ inr (f ∙ ap (λ n. In n Stores) same) ])
       counts.4 sound
 
-  pub takes : lot.Sound u.lot → (what : Seen) × Acts t c what s u
+  pub takes : lot.Sound u.lot → (what : ActResult) × Acts t c what s u
   takes sound = (told, record { fits = record { lots = lots sound; wakes = wakes_after s t c k w from at h here; rules = rules }; goes = so.0 })
 
 -- WHO IS LET GO
 
 -- only a scan asks for the next, and it goes through the first list
 pub scans_first : (q : RwPhase) (k sum : ℕ) → rw_stance q ≡ In k Takes → of_rw.act_of q ≡ act.Section (section.TakeNext sum) → rw_stance q ≡ In 0 Takes
-scans_first (r.Takes2 rest) k sum is asked = absurd (cc)
+scans_first (r.TakeWriter rest) k sum is asked = absurd (cc)
 scans_first (r.Scans a) k sum is asked = refl
 scans_first q k sum is asked = absurd (cc)
 

@@ -35,7 +35,7 @@ pub use mutex_laws::{
     roles_at_a_mutex_are_known, words_of_a_mutex_are_numbers,
 };
 pub use parking_lot_cores::{
-    Act, CoreAnswer, HAND_OVER, MutexCore, RwCore, SectionAct, Seen, TRY_AGAIN, WordChange,
+    Act, CoreAnswer, HAND_OVER, MutexCore, RwCore, SectionAct, ActResult, TRY_AGAIN, WordChange,
     wake_sum,
 };
 pub use rank_laws::{mutex_steps_fall, rw_steps_fall};
@@ -47,7 +47,7 @@ pub use rw_laws::{
     stores_are_steps, stores_tell, takes_are_steps, tokens_say, tokens_tell, wakes_are_steps,
     woken_are_told, words_are_numbers, writers_are_taken,
 };
-pub use seat::{Call, Core, Hold, Spot, Told, Wakeup};
+pub use seat::{Call, Core, Hold, QueuePosition, WakeResult, Wakeup};
 pub use starts::allowed_calls_begin_well;
 pub use step::WorldStep;
 pub use take_laws::takes_are_steps_of_the_machine;

@@ -1,14 +1,14 @@
 //! What a machine of locks keeps of each thread.
 ghost use Rattle.std.specs.Prelude.{◌≡◌, ◌≤◌, ◌^◌, ℕ};
-ghost use Rattle.parking_lot_cores.specs.declared.act.Seen.TheVariants as seen;
-ghost use Rattle.parking_lot_world.specs.declared.seat.Spot.TheVariants as spot;
+ghost use Rattle.parking_lot_cores.specs.declared.act.ActResult.TheVariants as seen;
+ghost use Rattle.parking_lot_world.specs.declared.seat.QueuePosition.TheVariants as spot;
 ghost use Rattle.parking_lot_world.specs.Stances.{In, Takes, core_act, core_next, core_tells, stance};
 ghost use Rattle.parking_lot_world.specs.RowActs.{hears, hold_after, mutex_hold_after, rw_hold_after, joins, key_of, off_list, settled, settled_spot, told_of};
 
 use parking_lot_core::UnparkToken;
 use parking_lot_cores::{
-    Act, CoreAnswer, HAND_OVER, MutexCore, MutexPhase, Outcome, Rest, RwCore, RwPhase, SectionAct,
-    Seen,
+    Act, CoreAnswer, HAND_OVER, MutexCore, MutexPhase, Outcome, AfterWake, RwCore, RwPhase, SectionAct,
+    ActResult,
 };
 
 /// What a thread owns of a lock between its calls: so many shared holds, or the exclusive one.
@@ -20,7 +20,7 @@ pub enum Hold {
 
 /// What one that took a sleeper off its list has told it: nothing yet, that it is to try again, or that it has the lock.
 #[derive(Clone, Copy, PartialEq, Eq, Debug)]
-pub enum Told {
+pub enum WakeResult {
     Nothing,
     TryAgain,
     HandedOver,
@@ -28,9 +28,9 @@ pub enum Told {
 
 /// Where a thread that sleeps stands: in its list, or off it, taken by another.
 #[derive(Clone, Copy, PartialEq, Eq, Debug)]
-pub enum Spot {
+pub enum QueuePosition {
     Listed,
-    Off(usize, Told),
+    Off(usize, WakeResult),
 }
 
 /// The core of a call, by the kind of its lock.
@@ -49,7 +49,7 @@ pub struct Call {
     pub others: u8,
     pub core: Core,
     /// Where it stands, while it sleeps.
-    pub spot: Spot,
+    pub spot: QueuePosition,
 }
 
 /// A thread that another has taken off its list and is still to wake.
@@ -62,26 +62,26 @@ pub struct Wakeup {
     pub mark: u64,
 }
 
-impl Told {
+impl WakeResult {
     /// What sleepers are told by a token.
-    pub fn by(token: UnparkToken) -> Told
+    pub fn by(token: UnparkToken) -> WakeResult
         ensures { result ≡ told_of token }
     {
         if token.0 == HAND_OVER.0 {
-            Told::HandedOver
+            WakeResult::HandedOver
         } else {
-            Told::TryAgain
+            WakeResult::TryAgain
         }
     }
 }
 
-impl Spot {
+impl QueuePosition {
     /// The spot once a thread has told all whom it has taken.
-    fn settled(self, by: usize, said: Told) -> Spot
+    fn settled(self, by: usize, said: WakeResult) -> QueuePosition
         ensures { result ≡ settled_spot by said self }
     {
         match self {
-            Spot::Off(taker, Told::Nothing) if taker == by => Spot::Off(taker, said),
+            QueuePosition::Off(taker, WakeResult::Nothing) if taker == by => QueuePosition::Off(taker, said),
             spot => spot,
         }
     }
@@ -99,7 +99,7 @@ impl Core {
     }
 
     /// The core once it is told what its act gave.
-    pub fn told(self, seen: Seen) -> Core
+    pub fn told(self, seen: ActResult) -> Core
         ensures { result ≡ core_next self seen }
     {
         match self {
@@ -140,7 +140,7 @@ impl Core {
     {
         match self {
             Core::Rw(core) => match core.phase() {
-                RwPhase::Takes2(_) => 1,
+                RwPhase::TakeWriter(_) => 1,
                 _ => 0,
             },
             Core::Mutex(_) => 0,
@@ -175,9 +175,9 @@ fn rw_hold_after(phase: RwPhase, others: u8) -> Hold
     ensures { result ≡ rw_hold_after others phase }
 {
     match phase {
-        RwPhase::Finishes(Rest::FreedShared | Rest::AgainShared) => Hold::Shares(others),
-        RwPhase::Finishes(Rest::FreedExclusive | Rest::AgainExclusive) => Hold::Shares(0),
-        RwPhase::Finishes(Rest::Downgraded) | RwPhase::Ends(Outcome::Downgraded) => Hold::Shares(1),
+        RwPhase::Finishes(AfterWake::FreedShared | AfterWake::AgainShared) => Hold::Shares(others),
+        RwPhase::Finishes(AfterWake::FreedExclusive | AfterWake::AgainExclusive) => Hold::Shares(0),
+        RwPhase::Finishes(AfterWake::Downgraded) | RwPhase::Ends(Outcome::Downgraded) => Hold::Shares(1),
         RwPhase::Ends(Outcome::Shared) => Hold::Shares(others + 1),
         RwPhase::Ends(Outcome::Exclusive) => Hold::Excludes,
         RwPhase::Ends(Outcome::FreedExclusive) => Hold::Shares(0),
@@ -187,7 +187,7 @@ fn rw_hold_after(phase: RwPhase, others: u8) -> Hold
 
 impl Call {
     /// The call once it is told what its act gave.
-    pub fn told(self, seen: Seen) -> Call
+    pub fn told(self, seen: ActResult) -> Call
         ensures { result ≡ hears self seen }
     {
         Call {
@@ -201,8 +201,8 @@ impl Call {
         ensures { result ≡ record (hears self seen.Made) { spot = spot.Listed } }
     {
         Call {
-            spot: Spot::Listed,
-            ..self.told(Seen::Made)
+            spot: QueuePosition::Listed,
+            ..self.told(ActResult::Made)
         }
     }
 
@@ -211,8 +211,8 @@ impl Call {
         ensures { result ≡ record (hears self (seen.Woken token)) { spot = spot.Listed } }
     {
         Call {
-            spot: Spot::Listed,
-            ..self.told(Seen::Woken(token))
+            spot: QueuePosition::Listed,
+            ..self.told(ActResult::Woken(token))
         }
     }
 
@@ -229,13 +229,13 @@ impl Call {
         ensures { result ≡ off_list by self }
     {
         Call {
-            spot: Spot::Off(by, Told::Nothing),
+            spot: QueuePosition::Off(by, WakeResult::Nothing),
             ..self
         }
     }
 
     /// The call once a thread has told all whom it has taken.
-    pub fn settled(self, by: usize, said: Told) -> Call
+    pub fn settled(self, by: usize, said: WakeResult) -> Call
         ensures { result ≡ settled by said self }
     {
         Call {
