@@ -1,10 +1,10 @@
 -- A run of a decision core: what it was told, one after another.
 use Rattle.std.specs.Prelude.{ℕ, ◌/◌, ◌&&◌, nat_lt, Bool, false, List, [], ◌∷◌}
-use Rattle.parking_lot_cores.specs.declared.act.Act.{Act}
-use Rattle.parking_lot_cores.specs.declared.act.Act.TheVariants.{Exchange}
-use Rattle.parking_lot_cores.specs.declared.act.ActResult.{ActResult}
-use Rattle.parking_lot_cores.specs.declared.act.ActResult.TheVariants.{Start}
-use Rattle.parking_lot_cores.specs.Acts.{Gives}
+use Rattle.parking_lot_protocol.specs.declared.act.Act.{Act}
+use Rattle.parking_lot_protocol.specs.declared.act.Act.TheVariants.{Exchange}
+use Rattle.parking_lot_protocol.specs.declared.act.ActResult.{ActResult}
+use Rattle.parking_lot_protocol.specs.declared.act.ActResult.TheVariants.{Start}
+use Rattle.parking_lot_protocol.specs.Acts.{Gives}
 
 -- What a core is once its call has begun and it was told all this, the last of it first.
 abbrev pub told_all : {C : Type 0} → (C → ActResult → C) → C → List ActResult → C

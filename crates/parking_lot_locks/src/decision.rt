@@ -1,11 +1,11 @@
 //! What a decision core offers to whoever runs it.
 ghost use Rattle.std.specs.Prelude.{◌≡◌};
 ghost use Rattle.parking_lot_core.specs.declared.parking.UnparkToken.{UnparkToken};
-ghost use Rattle.parking_lot_cores.specs.declared.act.Act.{Act};
-ghost use Rattle.parking_lot_cores.specs.declared.act.ActResult.{ActResult};
+ghost use Rattle.parking_lot_protocol.specs.declared.act.Act.{Act};
+ghost use Rattle.parking_lot_protocol.specs.declared.act.ActResult.{ActResult};
 
 use parking_lot_core::UnparkToken;
-use parking_lot_cores::{Act, MutexCore, RwCore, ActResult};
+use parking_lot_protocol::{Act, MutexCore, RwCore, ActResult};
 
 /// One call of a lock as plain data: it is told what its last act gave, and answers the next one.
 pub(crate) trait DecisionCore: Copy {
@@ -29,7 +29,7 @@ pub(crate) trait DecisionCore: Copy {
 }
 
 impl DecisionCore for MutexCore {
-    ghost use Rattle.parking_lot_cores.specs.MutexTable.{act_of, next_phase, wakes_with};
+    ghost use Rattle.parking_lot_protocol.specs.MutexTable.{act_of, next_phase, wakes_with};
 
     ghost told = { λ core seen. record core { phase = next_phase core.phase seen } };
 
@@ -47,7 +47,7 @@ impl DecisionCore for MutexCore {
 }
 
 impl DecisionCore for RwCore {
-    ghost use Rattle.parking_lot_cores.specs.RwTable.{act_of, next_phase, wakes_with};
+    ghost use Rattle.parking_lot_protocol.specs.RwTable.{act_of, next_phase, wakes_with};
 
     ghost told = { λ core seen. record core { phase = next_phase core.phase seen } };
 

@@ -25,7 +25,7 @@ mod table;
 mod thread_id;
 mod word;
 
-pub use parking_lot_cores::{
+pub use parking_lot_protocol::{
     Act, CoreAnswer, MutexCore, RwCore, SectionAct, ActResult, WordChange, wake_sum,
 };
 pub use raw_mutex::RawMutex;

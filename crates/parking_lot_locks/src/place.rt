@@ -1,12 +1,12 @@
 //! The row that a call runs on.
 ghost use Rattle.std.specs.Prelude.{◌≡◌, ℕ, IfSome};
 ghost use Rattle.parking_lot_locks.specs.Runs.{passes};
-ghost use Rattle.parking_lot_cores.specs.Acts.{Gives};
-ghost use Rattle.parking_lot_cores.specs.declared.act.Act.TheVariants.{Exchange};
+ghost use Rattle.parking_lot_protocol.specs.Acts.{Gives};
+ghost use Rattle.parking_lot_protocol.specs.declared.act.Act.TheVariants.{Exchange};
 
 use crate::word::READER;
 use crate::table::Row;
-use parking_lot_cores::{Act, ActResult, WordChange};
+use parking_lot_protocol::{Act, ActResult, WordChange};
 use std::alloc::Allocator;
 use std::sync::Wait;
 

@@ -8,7 +8,7 @@ use crate::word::{READER, WRITER};
 use crate::table::{LockTable, Row};
 use lock_api_raw::{GuardSend, RawRwLock as _, RawRwLockDowngrade, RawRwLockFair, TableFull};
 use parking_lot_core::{ThreadData, thread_yield};
-use parking_lot_cores::{CoreAnswer, RwCore, ActResult};
+use parking_lot_protocol::{CoreAnswer, RwCore, ActResult};
 use std::alloc::{Allocator, Global};
 use std::sync::Wait;
 

@@ -1,14 +1,14 @@
 //! Whole calls: a decision core that is run on a row.
 ghost use Rattle.std.specs.Prelude.{◌≡◌, ◌↔◌, List, IsTrue};
 ghost use Rattle.parking_lot_locks.specs.Runs.{IsRun, told_all};
-ghost use Rattle.parking_lot_cores.specs.declared.act.Act.TheVariants.{Done};
-ghost use Rattle.parking_lot_cores.specs.declared.act.CoreAnswer.TheVariants.{Owned};
-ghost use Rattle.parking_lot_cores.specs.declared.act.ActResult.{ActResult};
+ghost use Rattle.parking_lot_protocol.specs.declared.act.Act.TheVariants.{Done};
+ghost use Rattle.parking_lot_protocol.specs.declared.act.CoreAnswer.TheVariants.{Owned};
+ghost use Rattle.parking_lot_protocol.specs.declared.act.ActResult.{ActResult};
 
 use crate::decision::DecisionCore;
 use crate::place::Place;
 use parking_lot_core::{SpinWait, ThreadData, thread_yield};
-use parking_lot_cores::{Act, CoreAnswer, ActResult};
+use parking_lot_protocol::{Act, CoreAnswer, ActResult};
 use std::alloc::Allocator;
 use std::sync::Wait;
 

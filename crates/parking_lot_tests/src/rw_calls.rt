@@ -2,7 +2,7 @@
 
 use crate::cores::follow_rw;
 use parking_lot_core::ParkToken;
-use parking_lot_cores::{
+use parking_lot_protocol::{
     Act, CoreAnswer, HAND_OVER, RwCore, SectionAct, ActResult, TRY_AGAIN, WordChange,
 };
 

@@ -1,23 +1,23 @@
 -- A call that has begun goes on so.
 use Rattle.std.proofs.Common.{◌≡◌, ℕ, ◌-◌, ◌/◌, ◌%◌, ◌==◌, ◌&&◌, ◌||◌, not, nat_lt, Bool, true, false, Option, Some, None, option_map, refl}
 use Rattle.std.specs.Option.{option_map_or}
-use Rattle.parking_lot_cores.specs.declared.act.ActResult.{ActResult}
-use Rattle.parking_lot_cores.specs.declared.act.ActResult.TheVariants.{Start, Word, Exchanged, Before, Spun, Entered, Took, Stored, Made, Woken}
-use Rattle.parking_lot_cores.specs.declared.mutex_phase.MutexPhase.{MutexPhase}
-use Rattle.parking_lot_cores.specs.declared.mutex_phase.MutexPhase.TheVariants as m
-use Rattle.parking_lot_cores.specs.declared.mutex_phase.Asking.{Asking}
-use Rattle.parking_lot_cores.specs.declared.rw_phase.RwPhase.{RwPhase}
-use Rattle.parking_lot_cores.specs.declared.rw_phase.RwPhase.TheVariants as r
-use Rattle.parking_lot_cores.specs.declared.rw_phase.LockMode.{LockMode}
-use Rattle.parking_lot_cores.specs.declared.rw_phase.LockMode.TheVariants as want
-use Rattle.parking_lot_cores.specs.declared.rw_phase.AfterWake.{AfterWake}
-use Rattle.parking_lot_cores.specs.declared.rw_phase.AfterWake.TheVariants as rest
-use Rattle.parking_lot_cores.specs.declared.rw_phase.Seeking.{Seeking}
-use Rattle.parking_lot_cores.specs.declared.rw_phase.Draining.{Draining}
-use Rattle.parking_lot_cores.specs.declared.rw_phase.Scanning.{Scanning}
-use Rattle.parking_lot_cores.specs.MutexTable as of_mutex
-use Rattle.parking_lot_cores.specs.RwTable as of_rw
-use Rattle.parking_lot_cores.proofs.MutexFollowing.{either}
+use Rattle.parking_lot_protocol.specs.declared.act.ActResult.{ActResult}
+use Rattle.parking_lot_protocol.specs.declared.act.ActResult.TheVariants.{Start, Word, Exchanged, Before, Spun, Entered, Took, Stored, Made, Woken}
+use Rattle.parking_lot_protocol.specs.declared.mutex_phase.MutexPhase.{MutexPhase}
+use Rattle.parking_lot_protocol.specs.declared.mutex_phase.MutexPhase.TheVariants as m
+use Rattle.parking_lot_protocol.specs.declared.mutex_phase.Asking.{Asking}
+use Rattle.parking_lot_protocol.specs.declared.rw_phase.RwPhase.{RwPhase}
+use Rattle.parking_lot_protocol.specs.declared.rw_phase.RwPhase.TheVariants as r
+use Rattle.parking_lot_protocol.specs.declared.rw_phase.LockMode.{LockMode}
+use Rattle.parking_lot_protocol.specs.declared.rw_phase.LockMode.TheVariants as want
+use Rattle.parking_lot_protocol.specs.declared.rw_phase.AfterWake.{AfterWake}
+use Rattle.parking_lot_protocol.specs.declared.rw_phase.AfterWake.TheVariants as rest
+use Rattle.parking_lot_protocol.specs.declared.rw_phase.Seeking.{Seeking}
+use Rattle.parking_lot_protocol.specs.declared.rw_phase.Draining.{Draining}
+use Rattle.parking_lot_protocol.specs.declared.rw_phase.Scanning.{Scanning}
+use Rattle.parking_lot_protocol.specs.MutexTable as of_mutex
+use Rattle.parking_lot_protocol.specs.RwTable as of_rw
+use Rattle.parking_lot_protocol.proofs.MutexFollowing.{either}
 use Rattle.parking_lot_world.specs.declared.seat.Core.{Core}
 use Rattle.parking_lot_world.specs.declared.seat.Core.TheVariants as core
 use Rattle.parking_lot_world.specs.Stances.{mutex_begun, rw_begun, has_begun, core_next}

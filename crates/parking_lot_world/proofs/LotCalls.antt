@@ -17,10 +17,10 @@ use Rattle.parking_lot_core.specs.Machine.{Machine, enter_fault, step_fault, res
 use Rattle.parking_lot_core.specs.Places.{place_at, is_due, roused, status_of, may_check, may_join, may_take, may_store, passed_of}
 use Rattle.parking_lot_core.proofs.Numbers.{first_passes}
 use Rattle.parking_lot_core.proofs.Sounds.{place_at-set_same}
-use Rattle.parking_lot_cores.specs.declared.act.Act.{Act}
-use Rattle.parking_lot_cores.specs.declared.act.Act.TheVariants as act
-use Rattle.parking_lot_cores.specs.declared.act.SectionAct.TheVariants as section
-use Rattle.parking_lot_cores.specs.declared.act.ActResult.TheVariants as seen
+use Rattle.parking_lot_protocol.specs.declared.act.Act.{Act}
+use Rattle.parking_lot_protocol.specs.declared.act.Act.TheVariants as act
+use Rattle.parking_lot_protocol.specs.declared.act.SectionAct.TheVariants as section
+use Rattle.parking_lot_protocol.specs.declared.act.ActResult.TheVariants as seen
 use Rattle.parking_lot_world.specs.declared.seat.Call.{Call}
 use Rattle.parking_lot_world.specs.declared.seat.Wakeup.{Wakeup}
 use Rattle.parking_lot_world.specs.Rows.{State, call_at, is_by}

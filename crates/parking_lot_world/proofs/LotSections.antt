@@ -14,7 +14,7 @@ use Rattle.parking_lot_core.specs.Places.{place_at, mark_of, may_take, may_store
 use Rattle.parking_lot_core.specs.Results.{is_left}
 use Rattle.parking_lot_core.specs.Sound.{Sound}
 use Rattle.parking_lot_core.proofs.Sounds.{none≢some, place_at-map}
-use Rattle.parking_lot_cores.specs.declared.act.ActResult.TheVariants as seen
+use Rattle.parking_lot_protocol.specs.declared.act.ActResult.TheVariants as seen
 use Rattle.parking_lot_world.specs.declared.seat.WakeResult.{WakeResult}
 use Rattle.parking_lot_world.specs.declared.seat.QueuePosition.{QueuePosition}
 use Rattle.parking_lot_world.specs.declared.seat.QueuePosition.TheVariants as spot

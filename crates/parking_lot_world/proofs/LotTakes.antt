@@ -17,7 +17,7 @@ use Rattle.std.proofs.lemmas.List.{length-set}
 use Rattle.parking_lot_core.proofs.Kept.{updated_at, updated_other, slice_get-seam, eqb_false_symm}
 use Rattle.parking_lot_core.proofs.Numbers.{flag, count_by-at, count_by-push}
 use Rattle.parking_lot_core.proofs.Sounds.{by_eqb, place_at-set_same, place_at-set_other}
-use Rattle.parking_lot_cores.specs.declared.act.ActResult.TheVariants as seen
+use Rattle.parking_lot_protocol.specs.declared.act.ActResult.TheVariants as seen
 use Rattle.parking_lot_world.specs.declared.seat.WakeResult.{WakeResult}
 use Rattle.parking_lot_world.specs.declared.seat.WakeResult.TheVariants as told
 use Rattle.parking_lot_world.specs.declared.seat.QueuePosition.{QueuePosition}

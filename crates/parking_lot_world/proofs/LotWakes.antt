@@ -16,7 +16,7 @@ use Rattle.parking_lot_core.specs.Sound.{Sound}
 use Rattle.parking_lot_core.proofs.Kept.{eqb_false_symm}
 use Rattle.parking_lot_core.proofs.Numbers.{flag, count_by-remove}
 use Rattle.parking_lot_core.proofs.Sounds.{by_eqb, place_at-set_same, place_at-set_other}
-use Rattle.parking_lot_cores.specs.declared.act.ActResult.TheVariants as seen
+use Rattle.parking_lot_protocol.specs.declared.act.ActResult.TheVariants as seen
 use Rattle.parking_lot_world.specs.declared.seat.WakeResult.{WakeResult}
 use Rattle.parking_lot_world.specs.declared.seat.QueuePosition.{QueuePosition}
 use Rattle.parking_lot_world.specs.declared.seat.QueuePosition.TheVariants as spot

@@ -11,21 +11,21 @@ use Rattle.parking_lot_rules.specs.Roles.{Mark, Asleep}
 use Rattle.parking_lot_rules.specs.Mutex as rules
 use Rattle.parking_lot_rules.specs.Family.{Crossing, Comes, Goes, First}
 use Rattle.parking_lot_rules.specs.Family as crossing
-use Rattle.parking_lot_cores.specs.declared.act.Act.{Act}
-use Rattle.parking_lot_cores.specs.declared.act.Act.TheVariants as act
-use Rattle.parking_lot_cores.specs.declared.act.SectionAct.TheVariants as section
-use Rattle.parking_lot_cores.specs.declared.act.WordChange.{WordChange}
-use Rattle.parking_lot_cores.specs.declared.act.CoreAnswer.{CoreAnswer}
-use Rattle.parking_lot_cores.specs.declared.act.CoreAnswer.TheVariants.{Refused, Released}
-use Rattle.parking_lot_cores.specs.declared.act.ActResult.{ActResult}
-use Rattle.parking_lot_cores.specs.declared.act.ActResult.TheVariants.{Start, Word, Exchanged, Took, Stored, Made, Woken}
-use Rattle.parking_lot_cores.specs.declared.mutex_phase.MutexPhase.{MutexPhase}
-use Rattle.parking_lot_cores.specs.declared.mutex_phase.MutexPhase.TheVariants.{Locking, Trying, Unlocking, Bumping, Locks, Parks, Checks, Appends, Sleeps, TryLocks, Refuses, Unlocks, Takes, Stores, Leaves, Wakes, Finishes, Ends, Invalid}
-use Rattle.parking_lot_cores.specs.declared.mutex_phase.Giving.{Giving}
-use Rattle.parking_lot_cores.specs.Acts.{Gives}
-use Rattle.parking_lot_cores.specs.MutexTable.{act_of, next_phase, wakes_with, bit}
-use Rattle.parking_lot_cores.specs.MutexRules.{QueuePosition, Listed, Off, role, owns, owns_after, taken_of, Move, Stays, Makes, Joins, TakesOne, Tells, WakesOne, IsWoken, move, last_move, IsWord, IsPlain, IsMove, IsTold, mark_of}
-use Rattle.parking_lot_cores.proofs.MutexFollowing.{either, follows}
+use Rattle.parking_lot_protocol.specs.declared.act.Act.{Act}
+use Rattle.parking_lot_protocol.specs.declared.act.Act.TheVariants as act
+use Rattle.parking_lot_protocol.specs.declared.act.SectionAct.TheVariants as section
+use Rattle.parking_lot_protocol.specs.declared.act.WordChange.{WordChange}
+use Rattle.parking_lot_protocol.specs.declared.act.CoreAnswer.{CoreAnswer}
+use Rattle.parking_lot_protocol.specs.declared.act.CoreAnswer.TheVariants.{Refused, Released}
+use Rattle.parking_lot_protocol.specs.declared.act.ActResult.{ActResult}
+use Rattle.parking_lot_protocol.specs.declared.act.ActResult.TheVariants.{Start, Word, Exchanged, Took, Stored, Made, Woken}
+use Rattle.parking_lot_protocol.specs.declared.mutex_phase.MutexPhase.{MutexPhase}
+use Rattle.parking_lot_protocol.specs.declared.mutex_phase.MutexPhase.TheVariants.{Locking, Trying, Unlocking, Bumping, Locks, Parks, Checks, Appends, Sleeps, TryLocks, Refuses, Unlocks, Takes, Stores, Leaves, Wakes, Finishes, Ends, Invalid}
+use Rattle.parking_lot_protocol.specs.declared.mutex_phase.Giving.{Giving}
+use Rattle.parking_lot_protocol.specs.Acts.{Gives}
+use Rattle.parking_lot_protocol.specs.MutexTable.{act_of, next_phase, wakes_with, bit}
+use Rattle.parking_lot_protocol.specs.MutexRules.{QueuePosition, Listed, Off, role, owns, owns_after, taken_of, Move, Stays, Makes, Joins, TakesOne, Tells, WakesOne, IsWoken, move, last_move, IsWord, IsPlain, IsMove, IsTold, mark_of}
+use Rattle.parking_lot_protocol.proofs.MutexFollowing.{either, follows}
 use Rattle.parking_lot_world.specs.Rows.{mutex_word_of}
 use Rattle.parking_lot_world.specs.Stances.{sign, mutex_begun}
 use Rattle.parking_lot_world.specs.RowFits.{mutex_knows}

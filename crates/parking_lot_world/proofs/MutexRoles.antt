@@ -8,13 +8,13 @@ use Rattle.parking_lot_rules.specs.Lists.{occurs}
 use Rattle.parking_lot_rules.specs.Mutex as rules
 use Rattle.parking_lot_rules.proofs.Indexed.{get-set_other}
 use Rattle.parking_lot_rules.proofs.Mutexes.{total-at}
-use Rattle.parking_lot_cores.specs.declared.act.Act.TheVariants as act
-use Rattle.parking_lot_cores.specs.declared.act.CoreAnswer.TheVariants.{Owned}
-use Rattle.parking_lot_cores.specs.declared.act.ActResult.TheVariants.{Woken}
-use Rattle.parking_lot_cores.specs.declared.mutex_phase.MutexPhase.{MutexPhase}
-use Rattle.parking_lot_cores.specs.declared.mutex_phase.MutexPhase.TheVariants.{Locking, Loads, Sleeps, Stores, Leaves, Wakes, Ends}
-use Rattle.parking_lot_cores.specs.MutexTable.{begins, act_of, next_phase, bit}
-use Rattle.parking_lot_cores.specs.MutexRules.{QueuePosition, Listed, Off, role, taken_of, IsWord}
+use Rattle.parking_lot_protocol.specs.declared.act.Act.TheVariants as act
+use Rattle.parking_lot_protocol.specs.declared.act.CoreAnswer.TheVariants.{Owned}
+use Rattle.parking_lot_protocol.specs.declared.act.ActResult.TheVariants.{Woken}
+use Rattle.parking_lot_protocol.specs.declared.mutex_phase.MutexPhase.{MutexPhase}
+use Rattle.parking_lot_protocol.specs.declared.mutex_phase.MutexPhase.TheVariants.{Locking, Loads, Sleeps, Stores, Leaves, Wakes, Ends}
+use Rattle.parking_lot_protocol.specs.MutexTable.{begins, act_of, next_phase, bit}
+use Rattle.parking_lot_protocol.specs.MutexRules.{QueuePosition, Listed, Off, role, taken_of, IsWord}
 use Rattle.parking_lot_world.specs.Rows.{mutex_word_of, first_of_all}
 use Rattle.parking_lot_world.specs.Stances.{mutex_taken}
 use Rattle.parking_lot_world.specs.MutexLaws.{MutexWordsAreNumbers, MutexRolesAreKnown, settle_spot, woken_role}

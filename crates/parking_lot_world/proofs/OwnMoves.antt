@@ -3,19 +3,19 @@ use Rattle.std.proofs.Common.{◌≡◌, ℕ, ◌/◌, ◌==◌, ◌&&◌, cond,
 use Rattle.parking_lot_rules.specs.Plain as plain
 use Rattle.parking_lot_rules.specs.Steps.{Alone}
 use Rattle.parking_lot_rules.specs.Family.{crossing}
-use Rattle.parking_lot_cores.specs.declared.act.Act.{Act}
-use Rattle.parking_lot_cores.specs.declared.act.Act.TheVariants as act
-use Rattle.parking_lot_cores.specs.declared.act.SectionAct.TheVariants as section
-use Rattle.parking_lot_cores.specs.declared.act.ActResult.{ActResult}
-use Rattle.parking_lot_cores.specs.declared.act.ActResult.TheVariants as seen
-use Rattle.parking_lot_cores.specs.declared.rw_phase.LockMode.{LockMode}
-use Rattle.parking_lot_cores.specs.declared.rw_phase.LockMode.TheVariants as want
-use Rattle.parking_lot_cores.specs.declared.rw_phase.Draining.{Draining}
-use Rattle.parking_lot_cores.specs.declared.rw_phase.AfterWake.TheVariants as rest
-use Rattle.parking_lot_cores.specs.declared.rw_phase.RwPhase.{RwPhase}
-use Rattle.parking_lot_cores.specs.declared.rw_phase.RwPhase.TheVariants.{Loads, Admits, SetParked, Enters, Checks, Retreats, Appends, Rests, Sleeps, DrainLoads, DrainSetParked, DrainEnters, DrainChecks, DrainRetreats, DrainAppends, DrainRests, DrainSleeps, TryAdmits, Relocks, Unshares, EnterWriterWakeSection, TakeWriter, ClearWriterParked, LeaveWriterWakeSection, Unlocks, LooksExclusive, Downgrades, EnterWakeSection, Scans, Stores, Leaves, Wakes, Finishes}
-use Rattle.parking_lot_cores.specs.RwTable.{act_of, is_parked, is_writer_parked, is_barred, has_readers}
-use Rattle.parking_lot_cores.specs.RwRules.{Move, Stays, Makes, move, mode_of, admission, try_admission, IsTold}
+use Rattle.parking_lot_protocol.specs.declared.act.Act.{Act}
+use Rattle.parking_lot_protocol.specs.declared.act.Act.TheVariants as act
+use Rattle.parking_lot_protocol.specs.declared.act.SectionAct.TheVariants as section
+use Rattle.parking_lot_protocol.specs.declared.act.ActResult.{ActResult}
+use Rattle.parking_lot_protocol.specs.declared.act.ActResult.TheVariants as seen
+use Rattle.parking_lot_protocol.specs.declared.rw_phase.LockMode.{LockMode}
+use Rattle.parking_lot_protocol.specs.declared.rw_phase.LockMode.TheVariants as want
+use Rattle.parking_lot_protocol.specs.declared.rw_phase.Draining.{Draining}
+use Rattle.parking_lot_protocol.specs.declared.rw_phase.AfterWake.TheVariants as rest
+use Rattle.parking_lot_protocol.specs.declared.rw_phase.RwPhase.{RwPhase}
+use Rattle.parking_lot_protocol.specs.declared.rw_phase.RwPhase.TheVariants.{Loads, Admits, SetParked, Enters, Checks, Retreats, Appends, Rests, Sleeps, DrainLoads, DrainSetParked, DrainEnters, DrainChecks, DrainRetreats, DrainAppends, DrainRests, DrainSleeps, TryAdmits, Relocks, Unshares, EnterWriterWakeSection, TakeWriter, ClearWriterParked, LeaveWriterWakeSection, Unlocks, LooksExclusive, Downgrades, EnterWakeSection, Scans, Stores, Leaves, Wakes, Finishes}
+use Rattle.parking_lot_protocol.specs.RwTable.{act_of, is_parked, is_writer_parked, is_barred, has_readers}
+use Rattle.parking_lot_protocol.specs.RwRules.{Move, Stays, Makes, move, mode_of, admission, try_admission, IsTold}
 use Rattle.parking_lot_world.proofs.Making.{Crossed}
 
 -- who is inside after an act of thread t

@@ -3,7 +3,7 @@ use Rattle.std.proofs.Common.{◌≡◌, ℕ, zero, suc, ◌≤◌, nat_lt, true
 use Rattle.std.proofs.lemmas.Bool.{both_ways, ltb-true}
 use Rattle.std.specs.Prelude.{is_none, length}
 use Rattle.parking_lot_rules.specs.Roles.{Shares}
-use Rattle.parking_lot_cores.proofs.RwWords.{both}
+use Rattle.parking_lot_protocol.proofs.RwWords.{both}
 use Rattle.parking_lot_world.specs.declared.calls.LockCall.{LockCall}
 use Rattle.parking_lot_world.specs.declared.calls.LockCall.TheVariants as call
 use Rattle.parking_lot_world.specs.declared.calls.LockKind.{LockKind}

@@ -7,9 +7,9 @@ use Rattle.parking_lot_rules.specs.Steps.{Alone, List_changes, Take1, Store, Wak
 use Rattle.parking_lot_rules.specs.Roles.{Asleep}
 use Rattle.parking_lot_rules.specs.Mutex as mutex
 use Rattle.parking_lot_rules.specs.Any.{RwStep, MxStep}
-use Rattle.parking_lot_cores.specs.declared.act.ActResult.{ActResult}
-use Rattle.parking_lot_cores.specs.MutexRules as of_mutex
-use Rattle.parking_lot_cores.specs.RwRules as of_rw
+use Rattle.parking_lot_protocol.specs.declared.act.ActResult.{ActResult}
+use Rattle.parking_lot_protocol.specs.MutexRules as of_mutex
+use Rattle.parking_lot_protocol.specs.RwRules as of_rw
 use Rattle.parking_lot_world.specs.declared.calls.LockKind.{LockKind}
 use Rattle.parking_lot_world.specs.declared.calls.LockKind.TheVariants as kind
 use Rattle.parking_lot_world.specs.declared.seat.Hold.TheVariants as hold

@@ -1,16 +1,16 @@
 -- What a phase at a reader-writer lock costs that has just seen the word, or that comes after a release.
 use Rattle.std.proofs.Common.{◌≡◌, ◌≤◌, ◌<◌, ℕ, ◌+◌, ◌-◌, ◌*◌, ◌/◌, ◌^◌, ◌==◌, ◌&&◌, ◌||◌, nat_lt, not, Bool, true, false, cond, refl, sym, subst, arith}
 use Rattle.std.proofs.lemmas.Bool.{both_ways, ltb-true, lt-ltb, eq-eqb, cond_both, and_parts, and_from}
-use Rattle.parking_lot_cores.specs.declared.rw_phase.LockMode.{LockMode}
-use Rattle.parking_lot_cores.specs.declared.rw_phase.LockMode.TheVariants as want
-use Rattle.parking_lot_cores.specs.declared.rw_phase.AfterWake.{AfterWake}
-use Rattle.parking_lot_cores.specs.declared.rw_phase.AfterWake.TheVariants as rest
-use Rattle.parking_lot_cores.specs.declared.rw_phase.Seeking.{Seeking}
-use Rattle.parking_lot_cores.specs.declared.rw_phase.Draining.{Draining}
-use Rattle.parking_lot_cores.specs.declared.rw_phase.Scanning.{Scanning}
-use Rattle.parking_lot_cores.specs.declared.rw_phase.RwPhase.{RwPhase}
-use Rattle.parking_lot_cores.specs.RwTable as of_rw
-use Rattle.parking_lot_cores.specs.RwTable.{is_parked, is_writer_parked, is_written, is_upgradable, has_readers, has_room, is_barred, is_admitted, is_tried, count_of}
+use Rattle.parking_lot_protocol.specs.declared.rw_phase.LockMode.{LockMode}
+use Rattle.parking_lot_protocol.specs.declared.rw_phase.LockMode.TheVariants as want
+use Rattle.parking_lot_protocol.specs.declared.rw_phase.AfterWake.{AfterWake}
+use Rattle.parking_lot_protocol.specs.declared.rw_phase.AfterWake.TheVariants as rest
+use Rattle.parking_lot_protocol.specs.declared.rw_phase.Seeking.{Seeking}
+use Rattle.parking_lot_protocol.specs.declared.rw_phase.Draining.{Draining}
+use Rattle.parking_lot_protocol.specs.declared.rw_phase.Scanning.{Scanning}
+use Rattle.parking_lot_protocol.specs.declared.rw_phase.RwPhase.{RwPhase}
+use Rattle.parking_lot_protocol.specs.RwTable as of_rw
+use Rattle.parking_lot_protocol.specs.RwTable.{is_parked, is_writer_parked, is_written, is_upgradable, has_readers, has_room, is_barred, is_admitted, is_tried, count_of}
 use Rattle.parking_lot_world.specs.Ranks.{View, Sees, wake, scan, comes_after, drains, rw_asks, rw_ends, rw_steps}
 
 -- TESTS

@@ -11,21 +11,21 @@ use Rattle.parking_lot_rules.specs.Family.{Family, SoundFamilyOf, Key, First, Se
 use Rattle.parking_lot_rules.specs.Family as crossings
 use Rattle.parking_lot_rules.specs.Any.{AnySound, any_inside}
 use Rattle.parking_lot_rules.proofs.Totals.{total-at}
-use Rattle.parking_lot_cores.specs.declared.act.ActResult.{ActResult}
-use Rattle.parking_lot_cores.specs.declared.act.ActResult.TheVariants as seen
-use Rattle.parking_lot_cores.specs.declared.rw_phase.LockMode.{LockMode}
-use Rattle.parking_lot_cores.specs.declared.rw_phase.LockMode.TheVariants as want
-use Rattle.parking_lot_cores.specs.declared.rw_phase.AfterWake.{AfterWake}
-use Rattle.parking_lot_cores.specs.declared.rw_phase.AfterWake.TheVariants.{FreedShared, FreedExclusive, Downgraded, AgainShared, AgainExclusive}
-use Rattle.parking_lot_cores.specs.declared.rw_phase.Scanning.{Scanning}
-use Rattle.parking_lot_cores.specs.declared.rw_phase.RwPhase.{RwPhase}
-use Rattle.parking_lot_cores.specs.declared.rw_phase.RwPhase.TheVariants.{Locking, Trying, UnlockingShared, UnlockingExclusive, Downgrading, BumpingShared, BumpingExclusive, Loads, Admits, Spins, SetParked, Enters, Checks, Retreats, Appends, Rests, Sleeps, DrainLoads, DrainSpins, DrainSetParked, DrainEnters, DrainChecks, DrainRetreats, DrainAppends, DrainRests, DrainSleeps, TryLoads, TryAdmits, BumpLoads, Relocks, Unshares, EnterWriterWakeSection, TakeWriter, ClearWriterParked, LeaveWriterWakeSection, Unlocks, LooksExclusive, Downgrades, EnterWakeSection, Scans, Stores, Leaves, Wakes, Finishes, Invalid}
-use Rattle.parking_lot_cores.specs.RwTable.{act_of, next_phase, is_parked, is_writer_parked, is_barred, has_readers, goes_on, scans, is_written, is_admitted, is_tried, seeks, drains, tries, begins, admits, bumps, over, wakes}
-use Rattle.parking_lot_cores.specs.RwRules.{QueuePosition, Listed, Off, role, Move, Makes, move, admission, try_admission, IsTold}
+use Rattle.parking_lot_protocol.specs.declared.act.ActResult.{ActResult}
+use Rattle.parking_lot_protocol.specs.declared.act.ActResult.TheVariants as seen
+use Rattle.parking_lot_protocol.specs.declared.rw_phase.LockMode.{LockMode}
+use Rattle.parking_lot_protocol.specs.declared.rw_phase.LockMode.TheVariants as want
+use Rattle.parking_lot_protocol.specs.declared.rw_phase.AfterWake.{AfterWake}
+use Rattle.parking_lot_protocol.specs.declared.rw_phase.AfterWake.TheVariants.{FreedShared, FreedExclusive, Downgraded, AgainShared, AgainExclusive}
+use Rattle.parking_lot_protocol.specs.declared.rw_phase.Scanning.{Scanning}
+use Rattle.parking_lot_protocol.specs.declared.rw_phase.RwPhase.{RwPhase}
+use Rattle.parking_lot_protocol.specs.declared.rw_phase.RwPhase.TheVariants.{Locking, Trying, UnlockingShared, UnlockingExclusive, Downgrading, BumpingShared, BumpingExclusive, Loads, Admits, Spins, SetParked, Enters, Checks, Retreats, Appends, Rests, Sleeps, DrainLoads, DrainSpins, DrainSetParked, DrainEnters, DrainChecks, DrainRetreats, DrainAppends, DrainRests, DrainSleeps, TryLoads, TryAdmits, BumpLoads, Relocks, Unshares, EnterWriterWakeSection, TakeWriter, ClearWriterParked, LeaveWriterWakeSection, Unlocks, LooksExclusive, Downgrades, EnterWakeSection, Scans, Stores, Leaves, Wakes, Finishes, Invalid}
+use Rattle.parking_lot_protocol.specs.RwTable.{act_of, next_phase, is_parked, is_writer_parked, is_barred, has_readers, goes_on, scans, is_written, is_admitted, is_tried, seeks, drains, tries, begins, admits, bumps, over, wakes}
+use Rattle.parking_lot_protocol.specs.RwRules.{QueuePosition, Listed, Off, role, Move, Makes, move, admission, try_admission, IsTold}
 use Rattle.parking_lot_rules.specs.Clauses.{Fits}
-use Rattle.parking_lot_cores.specs.declared.rw_phase.Seeking.{Seeking}
-use Rattle.parking_lot_cores.specs.declared.rw_phase.Draining.{Draining}
-use Rattle.parking_lot_cores.specs.MutexTable.{bit}
+use Rattle.parking_lot_protocol.specs.declared.rw_phase.Seeking.{Seeking}
+use Rattle.parking_lot_protocol.specs.declared.rw_phase.Draining.{Draining}
+use Rattle.parking_lot_protocol.specs.MutexTable.{bit}
 use Rattle.parking_lot_world.specs.Stances.{rw_stance}
 use Rattle.parking_lot_world.specs.RowFits.{rw_knows}
 use Rattle.parking_lot_world.specs.RwLaws.{NobodyIs, act_crossing, move_crossing, in_first, in_second, ActsCross, FreeSectionsAreEmpty, Learns, ListsAreKnown}

@@ -2,12 +2,12 @@
 use Rattle.std.proofs.Common.{◌≡◌, ℕ, Some, slice_set, refl, sym, ap, ◌∙◌}
 use Rattle.parking_lot_rules.specs.Roles.{Shares, Role}
 use Rattle.parking_lot_rules.specs.Roles as rules
-use Rattle.parking_lot_cores.specs.declared.rw_phase.AfterWake.{AfterWake}
-use Rattle.parking_lot_cores.specs.declared.rw_phase.AfterWake.TheVariants.{FreedShared, FreedExclusive, Downgraded, AgainShared, AgainExclusive}
-use Rattle.parking_lot_cores.specs.declared.rw_phase.Outcome.{Outcome}
-use Rattle.parking_lot_cores.specs.declared.rw_phase.Outcome.TheVariants as outcome
-use Rattle.parking_lot_cores.specs.declared.rw_phase.RwPhase.TheVariants.{Locking, Trying, UnlockingShared, UnlockingExclusive, Downgrading, BumpingShared, BumpingExclusive, Refuses, Finishes, Ends, Invalid}
-use Rattle.parking_lot_cores.specs.RwRules.{owned_at_last, owned_after}
+use Rattle.parking_lot_protocol.specs.declared.rw_phase.AfterWake.{AfterWake}
+use Rattle.parking_lot_protocol.specs.declared.rw_phase.AfterWake.TheVariants.{FreedShared, FreedExclusive, Downgraded, AgainShared, AgainExclusive}
+use Rattle.parking_lot_protocol.specs.declared.rw_phase.Outcome.{Outcome}
+use Rattle.parking_lot_protocol.specs.declared.rw_phase.Outcome.TheVariants as outcome
+use Rattle.parking_lot_protocol.specs.declared.rw_phase.RwPhase.TheVariants.{Locking, Trying, UnlockingShared, UnlockingExclusive, Downgrading, BumpingShared, BumpingExclusive, Refuses, Finishes, Ends, Invalid}
+use Rattle.parking_lot_protocol.specs.RwRules.{owned_at_last, owned_after}
 use Rattle.parking_lot_world.specs.Rows.{owned_of}
 use Rattle.parking_lot_world.specs.RowActs.{rest_hold, outcome_hold}
 use Rattle.parking_lot_world.specs.RwLaws.{BeginsAreReady, EndsAreSteps, AnswersAreLast}

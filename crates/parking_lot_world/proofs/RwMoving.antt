@@ -14,18 +14,18 @@ use Rattle.parking_lot_rules.specs.Lock.{Lock, IsSound}
 use Rattle.parking_lot_rules.specs.Steps.{Alone, after}
 use Rattle.parking_lot_rules.proofs.Totals.{total-at}
 use Rattle.parking_lot_rules.proofs.Sounds.{step_sound}
-use Rattle.parking_lot_cores.specs.declared.act.ActResult.{ActResult}
-use Rattle.parking_lot_cores.specs.declared.act.ActResult.TheVariants as seen
-use Rattle.parking_lot_cores.specs.declared.rw_phase.LockMode.{LockMode}
-use Rattle.parking_lot_cores.specs.declared.rw_phase.LockMode.TheVariants as want
-use Rattle.parking_lot_cores.specs.declared.rw_phase.RwPhase.{RwPhase}
-use Rattle.parking_lot_cores.specs.declared.rw_phase.Draining.{Draining}
-use Rattle.parking_lot_cores.specs.declared.rw_phase.RwPhase.TheVariants.{Locking, Trying, Loads, Admits, Spins, SetParked, Enters, Checks, Sleeps, DrainLoads, DrainSetParked, DrainEnters, DrainChecks, DrainSleeps, TryLoads, TryAdmits, Refuses, Relocks, Unshares, EnterWriterWakeSection, TakeWriter, ClearWriterParked, Unlocks, LooksExclusive, Downgrades, EnterWakeSection, Scans, Stores, Appends, DrainAppends}
-use Rattle.parking_lot_cores.specs.Acts.{word_after}
-use Rattle.parking_lot_cores.specs.RwTable.{act_of, next_phase, is_parked, is_writer_parked, is_barred, has_readers}
-use Rattle.parking_lot_cores.specs.RwRules.{QueuePosition, Listed, role, Move, Stays, Makes, IsWoken, move, admission, try_admission, mode_of, IsMove, IsReady, IsTold, MayAsk, Fits}
-use Rattle.parking_lot_cores.proofs.RwWords.{parts}
-use Rattle.parking_lot_cores.proofs.RwFollowing.{follows}
+use Rattle.parking_lot_protocol.specs.declared.act.ActResult.{ActResult}
+use Rattle.parking_lot_protocol.specs.declared.act.ActResult.TheVariants as seen
+use Rattle.parking_lot_protocol.specs.declared.rw_phase.LockMode.{LockMode}
+use Rattle.parking_lot_protocol.specs.declared.rw_phase.LockMode.TheVariants as want
+use Rattle.parking_lot_protocol.specs.declared.rw_phase.RwPhase.{RwPhase}
+use Rattle.parking_lot_protocol.specs.declared.rw_phase.Draining.{Draining}
+use Rattle.parking_lot_protocol.specs.declared.rw_phase.RwPhase.TheVariants.{Locking, Trying, Loads, Admits, Spins, SetParked, Enters, Checks, Sleeps, DrainLoads, DrainSetParked, DrainEnters, DrainChecks, DrainSleeps, TryLoads, TryAdmits, Refuses, Relocks, Unshares, EnterWriterWakeSection, TakeWriter, ClearWriterParked, Unlocks, LooksExclusive, Downgrades, EnterWakeSection, Scans, Stores, Appends, DrainAppends}
+use Rattle.parking_lot_protocol.specs.Acts.{word_after}
+use Rattle.parking_lot_protocol.specs.RwTable.{act_of, next_phase, is_parked, is_writer_parked, is_barred, has_readers}
+use Rattle.parking_lot_protocol.specs.RwRules.{QueuePosition, Listed, role, Move, Stays, Makes, IsWoken, move, admission, try_admission, mode_of, IsMove, IsReady, IsTold, MayAsk, Fits}
+use Rattle.parking_lot_protocol.proofs.RwWords.{parts}
+use Rattle.parking_lot_protocol.proofs.RwFollowing.{follows}
 use Rattle.parking_lot_world.specs.RowFits.{rw_prepared}
 use Rattle.parking_lot_world.specs.RwLaws.{WordsAreNumbers, Meets, IsMoved, AnswersAreMoves, NobodyIs, Finds, StaysAreSteps, MakesAreSteps, JoinsAreSteps}
 

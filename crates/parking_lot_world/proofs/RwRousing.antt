@@ -7,16 +7,16 @@ use Rattle.parking_lot_rules.specs.Roles.{Role}
 use Rattle.parking_lot_rules.specs.Roles as rules
 use Rattle.parking_lot_rules.specs.Lock.{Lock}
 use Rattle.parking_lot_rules.specs.Steps.{Wake, Waking}
-use Rattle.parking_lot_cores.specs.declared.act.Act.TheVariants as act
-use Rattle.parking_lot_cores.specs.declared.act.SectionAct.TheVariants as section
-use Rattle.parking_lot_cores.specs.declared.act.ActResult.TheVariants as seen
-use Rattle.parking_lot_cores.specs.declared.rw_core.RwCore.{RwCore}
-use Rattle.parking_lot_cores.specs.declared.rw_phase.RwPhase.{RwPhase}
-use Rattle.parking_lot_cores.specs.declared.rw_phase.RwPhase.TheVariants as r
-use Rattle.parking_lot_cores.specs.declared.rw_phase.AfterWake.{AfterWake}
-use Rattle.parking_lot_cores.specs.declared.rw_phase.AfterWake.TheVariants as rest
-use Rattle.parking_lot_cores.specs.RwTable as table
-use Rattle.parking_lot_cores.specs.RwRules as of_rw
+use Rattle.parking_lot_protocol.specs.declared.act.Act.TheVariants as act
+use Rattle.parking_lot_protocol.specs.declared.act.SectionAct.TheVariants as section
+use Rattle.parking_lot_protocol.specs.declared.act.ActResult.TheVariants as seen
+use Rattle.parking_lot_protocol.specs.declared.rw_core.RwCore.{RwCore}
+use Rattle.parking_lot_protocol.specs.declared.rw_phase.RwPhase.{RwPhase}
+use Rattle.parking_lot_protocol.specs.declared.rw_phase.RwPhase.TheVariants as r
+use Rattle.parking_lot_protocol.specs.declared.rw_phase.AfterWake.{AfterWake}
+use Rattle.parking_lot_protocol.specs.declared.rw_phase.AfterWake.TheVariants as rest
+use Rattle.parking_lot_protocol.specs.RwTable as table
+use Rattle.parking_lot_protocol.specs.RwRules as of_rw
 use Rattle.parking_lot_world.specs.declared.calls.LockKind.TheVariants as kind
 use Rattle.parking_lot_world.specs.declared.seat.Hold.{Hold}
 use Rattle.parking_lot_world.specs.declared.seat.QueuePosition.TheVariants as spot

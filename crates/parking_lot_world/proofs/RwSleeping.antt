@@ -5,16 +5,16 @@ use Rattle.parking_lot_core.specs.declared.parking.FilterOp.TheVariants.{Unpark}
 use Rattle.parking_lot_rules.specs.Roles.{Shares, Mark}
 use Rattle.parking_lot_rules.specs.Roles as rules
 use Rattle.parking_lot_rules.specs.Steps.{look}
-use Rattle.parking_lot_cores.specs.Wake.{wake_answer}
-use Rattle.parking_lot_cores.specs.WakeRules.{answer_to}
-use Rattle.parking_lot_cores.specs.declared.rw_phase.LockMode.{LockMode}
-use Rattle.parking_lot_cores.specs.declared.rw_phase.LockMode.TheVariants as want
-use Rattle.parking_lot_cores.specs.declared.rw_phase.Scanning.{Scanning}
-use Rattle.parking_lot_cores.specs.declared.rw_phase.RwPhase.{RwPhase}
-use Rattle.parking_lot_cores.specs.declared.rw_phase.RwPhase.TheVariants.{Sleeps, DrainSleeps}
-use Rattle.parking_lot_cores.specs.RwTable.{share_of, sum_of}
-use Rattle.parking_lot_cores.specs.RwRules.{Listed, Off, role}
-use Rattle.parking_lot_cores.proofs.WakeFollowing.{looks_rightly}
+use Rattle.parking_lot_protocol.specs.Wake.{wake_answer}
+use Rattle.parking_lot_protocol.specs.WakeRules.{answer_to}
+use Rattle.parking_lot_protocol.specs.declared.rw_phase.LockMode.{LockMode}
+use Rattle.parking_lot_protocol.specs.declared.rw_phase.LockMode.TheVariants as want
+use Rattle.parking_lot_protocol.specs.declared.rw_phase.Scanning.{Scanning}
+use Rattle.parking_lot_protocol.specs.declared.rw_phase.RwPhase.{RwPhase}
+use Rattle.parking_lot_protocol.specs.declared.rw_phase.RwPhase.TheVariants.{Sleeps, DrainSleeps}
+use Rattle.parking_lot_protocol.specs.RwTable.{share_of, sum_of}
+use Rattle.parking_lot_protocol.specs.RwRules.{Listed, Off, role}
+use Rattle.parking_lot_protocol.proofs.WakeFollowing.{looks_rightly}
 use Rattle.parking_lot_world.specs.Stances.{rw_stance}
 use Rattle.parking_lot_world.specs.Stances as stance
 use Rattle.parking_lot_world.specs.RowFits.{rw_prepared}

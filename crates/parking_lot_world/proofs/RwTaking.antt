@@ -3,14 +3,14 @@ use Rattle.std.proofs.Common.{◌≡◌, ℕ, false, List, [], ◌∷◌, ◌++�
 use Rattle.parking_lot_rules.specs.Roles.{Mode, Shares, Role}
 use Rattle.parking_lot_rules.specs.Roles as rules
 use Rattle.parking_lot_rules.specs.Steps.{Scan, scanning, taking, holds_upgradable, look, Take, AreSkipped}
-use Rattle.parking_lot_cores.specs.declared.act.ActResult.TheVariants as seen
-use Rattle.parking_lot_cores.specs.declared.rw_phase.LockMode.TheVariants as want
-use Rattle.parking_lot_cores.specs.declared.rw_phase.AfterWake.{AfterWake}
-use Rattle.parking_lot_cores.specs.declared.rw_phase.AfterWake.TheVariants.{FreedShared, FreedExclusive, Downgraded, AgainShared, AgainExclusive}
-use Rattle.parking_lot_cores.specs.declared.rw_phase.Scanning.{Scanning}
-use Rattle.parking_lot_cores.specs.declared.rw_phase.RwPhase.TheVariants.{TakeWriter, Scans}
-use Rattle.parking_lot_cores.specs.RwTable.{next_phase}
-use Rattle.parking_lot_cores.specs.RwRules.{Listed, role, scan_of, mode_by}
+use Rattle.parking_lot_protocol.specs.declared.act.ActResult.TheVariants as seen
+use Rattle.parking_lot_protocol.specs.declared.rw_phase.LockMode.TheVariants as want
+use Rattle.parking_lot_protocol.specs.declared.rw_phase.AfterWake.{AfterWake}
+use Rattle.parking_lot_protocol.specs.declared.rw_phase.AfterWake.TheVariants.{FreedShared, FreedExclusive, Downgraded, AgainShared, AgainExclusive}
+use Rattle.parking_lot_protocol.specs.declared.rw_phase.Scanning.{Scanning}
+use Rattle.parking_lot_protocol.specs.declared.rw_phase.RwPhase.TheVariants.{TakeWriter, Scans}
+use Rattle.parking_lot_protocol.specs.RwTable.{next_phase}
+use Rattle.parking_lot_protocol.specs.RwRules.{Listed, role, scan_of, mode_by}
 use Rattle.parking_lot_world.specs.RwLaws.{TakesAreSteps, FirstsMayBeTaken, TokensTell, WritersAreTaken}
 use Rattle.parking_lot_world.proofs.RwMoving.{moved}
 

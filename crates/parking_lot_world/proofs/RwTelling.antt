@@ -9,11 +9,11 @@ use Rattle.parking_lot_rules.specs.Lists.{occurs}
 use Rattle.parking_lot_rules.specs.Lock.{Lock, IsSound, On1, to_wake}
 use Rattle.parking_lot_rules.specs.Steps.{Scan, scanning, settle}
 use Rattle.parking_lot_rules.proofs.Settling.{one_inside, open_inside}
-use Rattle.parking_lot_cores.specs.declared.rw_phase.LockMode.{LockMode}
-use Rattle.parking_lot_cores.specs.declared.rw_phase.RwPhase.{RwPhase}
-use Rattle.parking_lot_cores.specs.declared.rw_phase.RwPhase.TheVariants.{Sleeps, DrainSleeps}
-use Rattle.parking_lot_cores.specs.RwRules.{role, mode_of}
-use Rattle.parking_lot_cores.specs.RwRules as rules_of
+use Rattle.parking_lot_protocol.specs.declared.rw_phase.LockMode.{LockMode}
+use Rattle.parking_lot_protocol.specs.declared.rw_phase.RwPhase.{RwPhase}
+use Rattle.parking_lot_protocol.specs.declared.rw_phase.RwPhase.TheVariants.{Sleeps, DrainSleeps}
+use Rattle.parking_lot_protocol.specs.RwRules.{role, mode_of}
+use Rattle.parking_lot_protocol.specs.RwRules as rules_of
 use Rattle.parking_lot_world.specs.declared.seat.QueuePosition.{QueuePosition}
 use Rattle.parking_lot_world.specs.declared.seat.QueuePosition.TheVariants as spot
 use Rattle.parking_lot_world.specs.declared.seat.WakeResult.{WakeResult}

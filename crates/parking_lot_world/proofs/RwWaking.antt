@@ -10,17 +10,17 @@ use Rattle.parking_lot_rules.specs.Lock.{Lock, On1, to_wake}
 use Rattle.parking_lot_rules.specs.ReadLock.{word_of}
 use Rattle.parking_lot_rules.specs.Steps.{Scan, IsOver, Ending, Free, FreeUpgradable, Hand, HandUpgradable, Keep, ends_saying, stored, settle, Store, Wake, Waking, Recheck, waking_from, waking_to, Allowed, after}
 use Rattle.parking_lot_rules.proofs.Sounds.{step_sound}
-use Rattle.parking_lot_cores.specs.MutexTable as of_mutex
-use Rattle.parking_lot_cores.specs.declared.act.ActResult.TheVariants as seen
-use Rattle.parking_lot_cores.specs.declared.rw_phase.LockMode.{LockMode}
-use Rattle.parking_lot_cores.specs.declared.rw_phase.LockMode.TheVariants as want
-use Rattle.parking_lot_cores.specs.declared.rw_phase.AfterWake.{AfterWake}
-use Rattle.parking_lot_cores.specs.declared.rw_phase.AfterWake.TheVariants.{FreedShared, FreedExclusive, Downgraded, AgainShared, AgainExclusive}
-use Rattle.parking_lot_cores.specs.declared.rw_phase.RwPhase.TheVariants.{Sleeps, DrainSleeps, Stores, Leaves, Wakes, Loads}
-use Rattle.parking_lot_cores.specs.RwTable.{next_phase, hands, count_of, wakes_with, admits, begins, act_of, may_hand}
-use Rattle.parking_lot_cores.specs.Acts.{word_after}
-use Rattle.parking_lot_cores.specs.RwRules.{QueuePosition, Listed, Off, role, mode_of, waking, ending, owned_at_last, scan_of}
-use Rattle.parking_lot_cores.proofs.MutexFollowing.{either}
+use Rattle.parking_lot_protocol.specs.MutexTable as of_mutex
+use Rattle.parking_lot_protocol.specs.declared.act.ActResult.TheVariants as seen
+use Rattle.parking_lot_protocol.specs.declared.rw_phase.LockMode.{LockMode}
+use Rattle.parking_lot_protocol.specs.declared.rw_phase.LockMode.TheVariants as want
+use Rattle.parking_lot_protocol.specs.declared.rw_phase.AfterWake.{AfterWake}
+use Rattle.parking_lot_protocol.specs.declared.rw_phase.AfterWake.TheVariants.{FreedShared, FreedExclusive, Downgraded, AgainShared, AgainExclusive}
+use Rattle.parking_lot_protocol.specs.declared.rw_phase.RwPhase.TheVariants.{Sleeps, DrainSleeps, Stores, Leaves, Wakes, Loads}
+use Rattle.parking_lot_protocol.specs.RwTable.{next_phase, hands, count_of, wakes_with, admits, begins, act_of, may_hand}
+use Rattle.parking_lot_protocol.specs.Acts.{word_after}
+use Rattle.parking_lot_protocol.specs.RwRules.{QueuePosition, Listed, Off, role, mode_of, waking, ending, owned_at_last, scan_of}
+use Rattle.parking_lot_protocol.proofs.MutexFollowing.{either}
 use Rattle.parking_lot_world.specs.declared.seat.WakeResult.TheVariants as told
 use Rattle.parking_lot_world.specs.RwLaws.{IsStep, Meets, ending_of, StoresAreSteps, TokensSay, WakesAreSteps, WokenAreTold, OnlySleepersStand}
 use Rattle.parking_lot_world.specs.Rows.{mark_of}

@@ -7,7 +7,7 @@ use Rattle.std.proofs.lemmas.Option.{none-some}
 use Rattle.parking_lot_core.specs.declared.parking.UnparkToken.{UnparkToken}
 use Rattle.parking_lot_core.specs.Machine.{stored}
 use Rattle.parking_lot_core.proofs.Numbers.{count_by-set, count_by-map_same}
-use Rattle.parking_lot_cores.specs.declared.act.ActResult.{ActResult}
+use Rattle.parking_lot_protocol.specs.declared.act.ActResult.{ActResult}
 use Rattle.parking_lot_world.specs.declared.calls.LockKind.{LockKind}
 use Rattle.parking_lot_world.specs.declared.calls.LockKind.TheVariants as kind
 use Rattle.parking_lot_world.specs.declared.seat.WakeResult.{WakeResult}

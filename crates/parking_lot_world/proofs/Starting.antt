@@ -11,15 +11,15 @@ use Rattle.parking_lot_rules.specs.Roles.{Role, Idle}
 use Rattle.parking_lot_rules.specs.Mutex as mutex
 use Rattle.parking_lot_rules.specs.Any.{AnyLock, AnyStep, any_rules, any_crossing}
 use Rattle.parking_lot_rules.specs.Family.{IsFree, entered_after}
-use Rattle.parking_lot_cores.specs.declared.act.Act.{Act}
-use Rattle.parking_lot_cores.specs.declared.act.Act.TheVariants as act
-use Rattle.parking_lot_cores.specs.declared.act.SectionAct.TheVariants as section
-use Rattle.parking_lot_cores.specs.Acts.{word_after}
-use Rattle.parking_lot_cores.specs.declared.act.ActResult.TheVariants as seen
-use Rattle.parking_lot_cores.specs.declared.rw_core.RwCore.{RwCore}
-use Rattle.parking_lot_cores.specs.declared.mutex_core.MutexCore.{MutexCore}
-use Rattle.parking_lot_cores.specs.RwRules as of_rw
-use Rattle.parking_lot_cores.specs.MutexRules as of_mutex
+use Rattle.parking_lot_protocol.specs.declared.act.Act.{Act}
+use Rattle.parking_lot_protocol.specs.declared.act.Act.TheVariants as act
+use Rattle.parking_lot_protocol.specs.declared.act.SectionAct.TheVariants as section
+use Rattle.parking_lot_protocol.specs.Acts.{word_after}
+use Rattle.parking_lot_protocol.specs.declared.act.ActResult.TheVariants as seen
+use Rattle.parking_lot_protocol.specs.declared.rw_core.RwCore.{RwCore}
+use Rattle.parking_lot_protocol.specs.declared.mutex_core.MutexCore.{MutexCore}
+use Rattle.parking_lot_protocol.specs.RwRules as of_rw
+use Rattle.parking_lot_protocol.specs.MutexRules as of_mutex
 use Rattle.parking_lot_world.specs.declared.seat.Core.{Core}
 use Rattle.parking_lot_world.specs.declared.seat.Core.TheVariants as core
 use Rattle.parking_lot_world.specs.declared.seat.Call.{Call}
@@ -32,12 +32,12 @@ use Rattle.parking_lot_world.specs.RowActs.{with_call, hears, begun}
 use Rattle.parking_lot_world.specs.RowFits.{FitsTogether, LotFits, WakesFit, RulesFit, IsOfKind, IsPrepared, KnowsList, rw_prepared, rw_knows, mutex_knows, is_off, is_away}
 use Rattle.parking_lot_rules.specs.Holds.{shared_holds}
 use Rattle.parking_lot_rules.specs.Lock.{Lock}
-use Rattle.parking_lot_cores.specs.declared.rw_phase.RwPhase.{RwPhase}
-use Rattle.parking_lot_cores.specs.declared.rw_phase.RwPhase.TheVariants as r
-use Rattle.parking_lot_cores.specs.RwTable as of_rw_table
+use Rattle.parking_lot_protocol.specs.declared.rw_phase.RwPhase.{RwPhase}
+use Rattle.parking_lot_protocol.specs.declared.rw_phase.RwPhase.TheVariants as r
+use Rattle.parking_lot_protocol.specs.RwTable as of_rw_table
 use Rattle.parking_lot_world.specs.declared.calls.LockKind.TheVariants as kind
 use Rattle.parking_lot_world.specs.RwLaws.{rw_begins, Finds, Learns, Meets}
-use Rattle.parking_lot_cores.specs.MutexTable as of_mutex_table
+use Rattle.parking_lot_protocol.specs.MutexTable as of_mutex_table
 use Rattle.parking_lot_rules.specs.Family.{Crossing}
 use Rattle.parking_lot_world.specs.declared.seat.Wakeup.{Wakeup}
 use Rattle.parking_lot_world.specs.MutexLaws.{Plays, IsOwnStep, crossing_of}
@@ -58,8 +58,8 @@ use Rattle.parking_lot_world.proofs.Lifting.{IsThere, Elsewhere, rw_there, mutex
 use Rattle.parking_lot_world.proofs.Everybody.{all, same-all, get-all, was-all, length-all}
 use Rattle.parking_lot_world.proofs.Making.{IsSoundState, Crossed, TellsOf, quiet_rw, quiet_mutex, mutex_goes}
 use Rattle.parking_lot_world.proofs.Owning.{OwnAct, own-there, own-elsewhere, mutex_after, rw_goes_from}
-use Rattle.parking_lot_cores.specs.declared.mutex_phase.MutexPhase.{MutexPhase}
-use Rattle.parking_lot_cores.specs.declared.mutex_phase.MutexPhase.TheVariants as m
+use Rattle.parking_lot_protocol.specs.declared.mutex_phase.MutexPhase.{MutexPhase}
+use Rattle.parking_lot_protocol.specs.declared.mutex_phase.MutexPhase.TheVariants as m
 use Rattle.parking_lot_world.proofs.Calling.{call_of, call-here, call-elsewhere}
 use Rattle.parking_lot_world.specs.RowSteps.{IsQuiet, IsMade, IsRwMove, IsMutexMove, IsMoveOf}
 

@@ -8,20 +8,20 @@ use Rattle.parking_lot_core.specs.declared.place.Phase.TheVariants as phase
 use Rattle.parking_lot_core.specs.Machine.{threads_of}
 use Rattle.parking_lot_core.specs.Sound as lot
 use Rattle.parking_lot_core.proofs.Kept.{updated_at, updated_other}
-use Rattle.parking_lot_cores.specs.declared.act.Act.{Act}
-use Rattle.parking_lot_cores.specs.declared.act.Act.TheVariants as act
-use Rattle.parking_lot_cores.specs.declared.act.SectionAct.TheVariants as section
-use Rattle.parking_lot_cores.specs.declared.act.ActResult.{ActResult}
-use Rattle.parking_lot_cores.specs.declared.act.ActResult.TheVariants as seen
-use Rattle.parking_lot_cores.specs.Acts.{word_after}
-use Rattle.parking_lot_cores.specs.declared.rw_core.RwCore.{RwCore}
-use Rattle.parking_lot_cores.specs.declared.rw_phase.RwPhase.{RwPhase}
-use Rattle.parking_lot_cores.specs.declared.rw_phase.RwPhase.TheVariants as r
-use Rattle.parking_lot_cores.specs.declared.mutex_core.MutexCore.{MutexCore}
-use Rattle.parking_lot_cores.specs.declared.mutex_phase.MutexPhase.{MutexPhase}
-use Rattle.parking_lot_cores.specs.declared.mutex_phase.MutexPhase.TheVariants as m
-use Rattle.parking_lot_cores.specs.RwRules as of_rw
-use Rattle.parking_lot_cores.specs.MutexRules as of_mutex
+use Rattle.parking_lot_protocol.specs.declared.act.Act.{Act}
+use Rattle.parking_lot_protocol.specs.declared.act.Act.TheVariants as act
+use Rattle.parking_lot_protocol.specs.declared.act.SectionAct.TheVariants as section
+use Rattle.parking_lot_protocol.specs.declared.act.ActResult.{ActResult}
+use Rattle.parking_lot_protocol.specs.declared.act.ActResult.TheVariants as seen
+use Rattle.parking_lot_protocol.specs.Acts.{word_after}
+use Rattle.parking_lot_protocol.specs.declared.rw_core.RwCore.{RwCore}
+use Rattle.parking_lot_protocol.specs.declared.rw_phase.RwPhase.{RwPhase}
+use Rattle.parking_lot_protocol.specs.declared.rw_phase.RwPhase.TheVariants as r
+use Rattle.parking_lot_protocol.specs.declared.mutex_core.MutexCore.{MutexCore}
+use Rattle.parking_lot_protocol.specs.declared.mutex_phase.MutexPhase.{MutexPhase}
+use Rattle.parking_lot_protocol.specs.declared.mutex_phase.MutexPhase.TheVariants as m
+use Rattle.parking_lot_protocol.specs.RwRules as of_rw
+use Rattle.parking_lot_protocol.specs.MutexRules as of_mutex
 use Rattle.parking_lot_rules.specs.Mutex as mutex
 use Rattle.parking_lot_rules.specs.Steps.{List_changes, Join1, Join2}
 use Rattle.parking_lot_world.specs.declared.seat.QueuePosition.{QueuePosition}

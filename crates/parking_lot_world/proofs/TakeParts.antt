@@ -12,9 +12,9 @@ use Rattle.parking_lot_core.specs.Places.{place_at, mark_of}
 use Rattle.parking_lot_core.specs.Results.{is_left}
 use Rattle.parking_lot_core.proofs.Kept.{updated_at, updated_other, slice_get-seam}
 use Rattle.parking_lot_core.proofs.Numbers.{flag, count_by-set}
-use Rattle.parking_lot_cores.specs.declared.act.ActResult.{ActResult}
-use Rattle.parking_lot_cores.specs.declared.act.ActResult.TheVariants as seen
-use Rattle.parking_lot_cores.specs.Acts.{Gives}
+use Rattle.parking_lot_protocol.specs.declared.act.ActResult.{ActResult}
+use Rattle.parking_lot_protocol.specs.declared.act.ActResult.TheVariants as seen
+use Rattle.parking_lot_protocol.specs.Acts.{Gives}
 use Rattle.parking_lot_world.specs.declared.seat.WakeResult.{WakeResult}
 use Rattle.parking_lot_world.specs.declared.seat.WakeResult.TheVariants as told
 use Rattle.parking_lot_world.specs.declared.seat.QueuePosition.{QueuePosition}

@@ -2,13 +2,13 @@
 use Rattle.std.proofs.Common.{◌≡◌, ℕ, inl, inr, cond, Bool, false, Some, slice_get, refl, sym, ap, ◌∙◌, subst, arith}
 use Rattle.parking_lot_core.specs.declared.parking.UnparkToken.{UnparkToken}
 use Rattle.parking_lot_core.specs.Sound as lot
-use Rattle.parking_lot_cores.specs.declared.act.Act.TheVariants as act
-use Rattle.parking_lot_cores.specs.declared.act.SectionAct.TheVariants as section
-use Rattle.parking_lot_cores.specs.declared.act.WordChange.{WordChange}
-use Rattle.parking_lot_cores.specs.declared.act.ActResult.{ActResult}
-use Rattle.parking_lot_cores.specs.declared.act.ActResult.TheVariants as seen
-use Rattle.parking_lot_cores.specs.RwTable as of_rw_table
-use Rattle.parking_lot_cores.specs.Acts.{change_of}
+use Rattle.parking_lot_protocol.specs.declared.act.Act.TheVariants as act
+use Rattle.parking_lot_protocol.specs.declared.act.SectionAct.TheVariants as section
+use Rattle.parking_lot_protocol.specs.declared.act.WordChange.{WordChange}
+use Rattle.parking_lot_protocol.specs.declared.act.ActResult.{ActResult}
+use Rattle.parking_lot_protocol.specs.declared.act.ActResult.TheVariants as seen
+use Rattle.parking_lot_protocol.specs.RwTable as of_rw_table
+use Rattle.parking_lot_protocol.specs.Acts.{change_of}
 use Rattle.std.specs.Prelude.{bit_and}
 use Rattle.parking_lot_world.specs.declared.seat.Core.{Core}
 use Rattle.parking_lot_world.specs.declared.seat.Core.TheVariants as core

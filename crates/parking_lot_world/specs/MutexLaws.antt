@@ -11,18 +11,18 @@ use Rattle.parking_lot_rules.specs.Mutex.{Role, Word, Inside, weight, number, Mu
 use Rattle.parking_lot_rules.specs.Family.{Crossing, Comes, Goes, First}
 use Rattle.parking_lot_rules.specs.Family as crossing
 use Rattle.parking_lot_rules.specs.Any.{mutex_crossing}
-use Rattle.parking_lot_cores.specs.declared.act.Act.{Act}
-use Rattle.parking_lot_cores.specs.declared.act.Act.TheVariants as act
-use Rattle.parking_lot_cores.specs.declared.act.SectionAct.TheVariants as section
-use Rattle.parking_lot_cores.specs.declared.act.WordChange.{WordChange}
-use Rattle.parking_lot_cores.specs.declared.act.CoreAnswer.{CoreAnswer}
-use Rattle.parking_lot_cores.specs.declared.act.ActResult.{ActResult}
-use Rattle.parking_lot_cores.specs.declared.act.ActResult.TheVariants as seen
-use Rattle.parking_lot_cores.specs.declared.mutex_phase.MutexPhase.{MutexPhase}
-use Rattle.parking_lot_cores.specs.declared.mutex_phase.MutexPhase.TheVariants as phase
-use Rattle.parking_lot_cores.specs.Acts.{word_after, Gives}
-use Rattle.parking_lot_cores.specs.MutexTable.{act_of, next_phase, wakes_with, bit}
-use Rattle.parking_lot_cores.specs.MutexRules.{QueuePosition, Listed, Off, role, owns, owns_after, taken_of, Move, Stays, Makes, Joins, TakesOne, Tells, WakesOne, IsWoken, move, last_move, IsWord, mark_of}
+use Rattle.parking_lot_protocol.specs.declared.act.Act.{Act}
+use Rattle.parking_lot_protocol.specs.declared.act.Act.TheVariants as act
+use Rattle.parking_lot_protocol.specs.declared.act.SectionAct.TheVariants as section
+use Rattle.parking_lot_protocol.specs.declared.act.WordChange.{WordChange}
+use Rattle.parking_lot_protocol.specs.declared.act.CoreAnswer.{CoreAnswer}
+use Rattle.parking_lot_protocol.specs.declared.act.ActResult.{ActResult}
+use Rattle.parking_lot_protocol.specs.declared.act.ActResult.TheVariants as seen
+use Rattle.parking_lot_protocol.specs.declared.mutex_phase.MutexPhase.{MutexPhase}
+use Rattle.parking_lot_protocol.specs.declared.mutex_phase.MutexPhase.TheVariants as phase
+use Rattle.parking_lot_protocol.specs.Acts.{word_after, Gives}
+use Rattle.parking_lot_protocol.specs.MutexTable.{act_of, next_phase, wakes_with, bit}
+use Rattle.parking_lot_protocol.specs.MutexRules.{QueuePosition, Listed, Off, role, owns, owns_after, taken_of, Move, Stays, Makes, Joins, TakesOne, Tells, WakesOne, IsWoken, move, last_move, IsWord, mark_of}
 use Rattle.parking_lot_world.specs.declared.seat.Hold.{Hold}
 use Rattle.parking_lot_world.specs.declared.seat.WakeResult.{WakeResult}
 use Rattle.parking_lot_world.specs.declared.seat.Call.{Call}

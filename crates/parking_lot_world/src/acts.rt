@@ -2,15 +2,15 @@
 ghost use Rattle.std.specs.Prelude.{◌≡◌, ◌<◌, ◌≤◌, ℕ, ◌+◌, ◌*◌, ◌%◌, ◌^◌, length, map, slice_get, Some, None, if◌then◌else◌, vec_capacity, vec_len};
 ghost use Rattle.std.specs.Option.{option_map, option_and_then, option_map_or};
 ghost use Rattle.std.specs.List.{position_or_len, position};
-ghost use Rattle.parking_lot_cores.specs.declared.act.ActResult.TheVariants as seen;
+ghost use Rattle.parking_lot_protocol.specs.declared.act.ActResult.TheVariants as seen;
 ghost use Rattle.parking_lot_world.specs.declared.seat.QueuePosition.TheVariants as spot;
 ghost use Rattle.parking_lot_core.specs.declared.place.Taking.{Taking};
 ghost use Rattle.parking_lot_core.specs.Machine.{machine};
 ghost use Rattle.parking_lot_core.specs.Results.{is_left};
-ghost use Rattle.parking_lot_cores.specs.declared.act.Act.TheVariants as act;
-ghost use Rattle.parking_lot_cores.specs.declared.act.SectionAct.TheVariants as section;
-ghost use Rattle.parking_lot_cores.specs.declared.act.CoreAnswer.{CoreAnswer};
-ghost use Rattle.parking_lot_cores.specs.declared.act.WordChange.{WordChange};
+ghost use Rattle.parking_lot_protocol.specs.declared.act.Act.TheVariants as act;
+ghost use Rattle.parking_lot_protocol.specs.declared.act.SectionAct.TheVariants as section;
+ghost use Rattle.parking_lot_protocol.specs.declared.act.CoreAnswer.{CoreAnswer};
+ghost use Rattle.parking_lot_protocol.specs.declared.act.WordChange.{WordChange};
 ghost use Rattle.parking_lot_world.specs.ActLaws.{MayBegin};
 ghost use Rattle.parking_lot_world.specs.Rows.{call_at, is_by, state, word_at};
 ghost use Rattle.parking_lot_world.specs.Stances.{In, Joins, Takes, core_act, stance};
@@ -21,7 +21,7 @@ use crate::lot_calls;
 use crate::row_machine::RowMachine;
 use crate::seat::{Call, WakeResult, Wakeup};
 use parking_lot_core::{Lot, ParkToken, Taking, UnparkToken};
-use parking_lot_cores::{ActResult, TRY_AGAIN, WordChange};
+use parking_lot_protocol::{ActResult, TRY_AGAIN, WordChange};
 use std::alloc::Allocator;
 
 /// One that took sleepers tells all of them whom it hasn't told yet.

@@ -4,16 +4,16 @@ ghost use Rattle.parking_lot_rules.specs.Roles.{Scans1};
 ghost use Rattle.parking_lot_rules.specs.Debts as rw_debts;
 ghost use Rattle.parking_lot_rules.specs.MutexDebts as mutex_debts;
 ghost use Rattle.parking_lot_rules.specs.Owners.{Reading, owner_for_good, owner_of};
-ghost use Rattle.parking_lot_cores.specs.MutexRules as of_mutex;
-ghost use Rattle.parking_lot_cores.specs.RwRules as of_rw;
-ghost use Rattle.parking_lot_cores.specs.declared.rw_phase.RwPhase.TheVariants as phase;
+ghost use Rattle.parking_lot_protocol.specs.MutexRules as of_mutex;
+ghost use Rattle.parking_lot_protocol.specs.RwRules as of_rw;
+ghost use Rattle.parking_lot_protocol.specs.declared.rw_phase.RwPhase.TheVariants as phase;
 ghost use Rattle.parking_lot_world.specs.CallViews.{call_asleep, call_in_debt, call_looks, call_mode, mode_of, mutex_mode, rw_mode};
 ghost use Rattle.parking_lot_world.specs.Rows.{mutex_spot, rw_spot};
 ghost use Rattle.parking_lot_world.specs.Stances.{rw_taken, taken_count};
 
 use crate::calls::OwnMode;
 use crate::seat::{Call, Core, QueuePosition, WakeResult};
-use parking_lot_cores::{CoreAnswer, MutexPhase, Outcome, AfterWake, RwPhase, LockMode};
+use parking_lot_protocol::{CoreAnswer, MutexPhase, Outcome, AfterWake, RwPhase, LockMode};
 
 /// How one owns a lock that has so many shared holds of it.
 fn readers_mode(holds: u8) -> Option<OwnMode>

@@ -34,7 +34,7 @@ pub use mutex_laws::{
     a_mutex_is_shown_as_it_is, answers_are_steps_of_a_sound_mutex, calls_that_have_begun_go_on,
     roles_at_a_mutex_are_known, words_of_a_mutex_are_numbers,
 };
-pub use parking_lot_cores::{
+pub use parking_lot_protocol::{
     Act, CoreAnswer, HAND_OVER, MutexCore, RwCore, SectionAct, ActResult, TRY_AGAIN, WordChange,
     wake_sum,
 };

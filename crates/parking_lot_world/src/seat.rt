@@ -1,12 +1,12 @@
 //! What a machine of locks keeps of each thread.
 ghost use Rattle.std.specs.Prelude.{◌≡◌, ◌≤◌, ◌^◌, ℕ};
-ghost use Rattle.parking_lot_cores.specs.declared.act.ActResult.TheVariants as seen;
+ghost use Rattle.parking_lot_protocol.specs.declared.act.ActResult.TheVariants as seen;
 ghost use Rattle.parking_lot_world.specs.declared.seat.QueuePosition.TheVariants as spot;
 ghost use Rattle.parking_lot_world.specs.Stances.{In, Takes, core_act, core_next, core_tells, stance};
 ghost use Rattle.parking_lot_world.specs.RowActs.{hears, hold_after, mutex_hold_after, rw_hold_after, joins, key_of, off_list, settled, settled_spot, told_of};
 
 use parking_lot_core::UnparkToken;
-use parking_lot_cores::{
+use parking_lot_protocol::{
     Act, CoreAnswer, HAND_OVER, MutexCore, MutexPhase, Outcome, AfterWake, RwCore, RwPhase, SectionAct,
     ActResult,
 };

@@ -1,6 +1,6 @@
 use Rattle.std.proofs.Common.{◌≡◌, List}
 use Rattle.parking_lot_locks.specs.Runs.{IsRun, told_all}
-use Rattle.parking_lot_cores.specs.declared.act.ActResult.{ActResult}
+use Rattle.parking_lot_protocol.specs.declared.act.ActResult.{ActResult}
 use Rattle.parking_lot_locks.proofs.place.Place.attempt.Given as goal
 
 -- what the core was told so far is a run, after which it has asked for the act
