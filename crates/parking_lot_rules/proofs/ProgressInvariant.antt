@@ -10,7 +10,7 @@ use Rattle.parking_lot_rules.specs.Steps.{Step, Alone, List_changes, Take1, Take
 use Rattle.parking_lot_rules.specs.World.{Place, World, role_at, lock_at, family, world_after, MayStep}
 use Rattle.parking_lot_rules.specs.Runs.{IsReached}
 use Rattle.parking_lot_rules.specs.Ranks.{is_deadline}
-use Rattle.parking_lot_rules.specs.Agenda.{Stage, Rests, Begins, Works, Scene, phase_of, phase, lock, Turn, Look, Start, First_step, Next_step, Refusal, Answer, Turned}
+use Rattle.parking_lot_rules.specs.Agenda.{CallProgress, Rests, Begins, Works, ProgressState, phase_of, phase, lock, ScheduledStep, Look, Start, First_step, Next_step, Refusal, Answer, Turned}
 use Rattle.parking_lot_rules.specs.Drains.{IsProper, Expires, Takes, Hands_on, Passes, ScenesStayProper}
 use Rattle.parking_lot_rules.proofs.Indexed.{get-set_other, get-set_cases}
 use Rattle.parking_lot_rules.proofs.Families.{put-same, put-other}
@@ -107,14 +107,14 @@ deadline_busy bucket recursive u j (Wake o v us k stay) w may late idle = absurd
 deadline_busy bucket recursive u j (Pass o v us) w may late idle = absurd cc
 
 -- where a thread in no call starts one, or ends one
-put_proper : (s : Scene) (t : ℕ) (x : Stage) → phase s t ≡ Idle → IsProper s → (u : ℕ) → (phase s u ≡ Idle) ⊎ (put s.stages t x u ≡ Works)
+put_proper : (s : ProgressState) (t : ℕ) (x : CallProgress) → phase s t ≡ Idle → IsProper s → (u : ℕ) → (phase s u ≡ Idle) ⊎ (put s.stages t x u ≡ Works)
 put_proper s t x idle proper u = ⊎_elim
     (λ e. inl (ap (phase s) e ∙ idle))
     (λ ne. ⊎_elim (λ e. inl e) (λ e. inr (put-other s.stages t x u ne ∙ e)) (proper u))
     (cases_eq u t)
 
 -- where a thread that is in one makes a step
-step_proper : (bucket : ℕ → ℕ) (recursive : ℕ → Bool) (j t : ℕ) (step : Step) (old new : Scene) → IsReached bucket recursive old.world → MayStep bucket recursive j t step old.world → new.world ≡ world_after bucket j t step old.world
+step_proper : (bucket : ℕ → ℕ) (recursive : ℕ → Bool) (j t : ℕ) (step : Step) (old new : ProgressState) → IsReached bucket recursive old.world → MayStep bucket recursive j t step old.world → new.world ≡ world_after bucket j t step old.world
     → new.stages t ≡ Works → ((u : ℕ) → u ≢ t → new.stages u ≡ old.stages u) → IsProper old → IsProper new
 step_proper bucket recursive j t step old new reached may is works same proper u = ⊎_elim
     (λ e. inr (ap new.stages e ∙ works))
@@ -124,31 +124,31 @@ step_proper bucket recursive j t step old new reached may is works same proper u
     (proper u))
     (cases_eq u t)
 
-turned_proper : (bucket : ℕ → ℕ) (recursive : ℕ → Bool) (t : ℕ) (turn : Turn) (old new : Scene) → IsReached bucket recursive old.world → Turned bucket recursive t turn old new → IsProper old → IsProper new
+turned_proper : (bucket : ℕ → ℕ) (recursive : ℕ → Bool) (t : ℕ) (turn : ScheduledStep) (old new : ProgressState) → IsReached bucket recursive old.world → Turned bucket recursive t turn old new → IsProper old → IsProper new
 turned_proper bucket recursive t (Look sight) old new reached turned proper = subst IsProper (sym turned.4) proper
 turned_proper bucket recursive t Start old new reached turned proper = subst IsProper (sym turned.5) (put_proper old t (Begins turned.0) turned.3 proper)
 turned_proper bucket recursive t (First_step step sight) old new reached turned proper =
-    step_proper bucket recursive turned.0.0 t step old new reached turned.3.may turned.3.world (ap (λ (f : ℕ → Stage). f t) turned.4 ∙ put-same old.stages t Works)
-    (λ u ne. ap (λ (f : ℕ → Stage). f u) turned.4 ∙ put-other old.stages t Works u ne) proper
+    step_proper bucket recursive turned.0.0 t step old new reached turned.3.may turned.3.world (ap (λ (f : ℕ → CallProgress). f t) turned.4 ∙ put-same old.stages t Works)
+    (λ u ne. ap (λ (f : ℕ → CallProgress). f u) turned.4 ∙ put-other old.stages t Works u ne) proper
 turned_proper bucket recursive t (Next_step step sight) old new reached turned proper =
-    step_proper bucket recursive (lock old t) t step old new reached turned.4.may turned.4.world (ap (λ (f : ℕ → Stage). f t) turned.5 ∙ turned.0)
-    (λ u ne. ap (λ (f : ℕ → Stage). f u) turned.5) proper
+    step_proper bucket recursive (lock old t) t step old new reached turned.4.may turned.4.world (ap (λ (f : ℕ → CallProgress). f t) turned.5 ∙ turned.0)
+    (λ u ne. ap (λ (f : ℕ → CallProgress). f u) turned.5) proper
 turned_proper bucket recursive t Refusal old new reached turned proper = subst IsProper (sym turned.3) (put_proper old t Works turned.2 proper)
 turned_proper bucket recursive t Answer old new reached turned proper = subst IsProper (sym turned.2) (put_proper old t Rests turned.1 proper)
 
-expired_proper : (bucket : ℕ → ℕ) (recursive : ℕ → Bool) (u j : ℕ) (step : Step) (old new : Scene) → IsReached bucket recursive old.world → Expires bucket recursive u j step old new → IsProper old → IsProper new
+expired_proper : (bucket : ℕ → ℕ) (recursive : ℕ → Bool) (u j : ℕ) (step : Step) (old new : ProgressState) → IsReached bucket recursive old.world → Expires bucket recursive u j step old new → IsProper old → IsProper new
 expired_proper bucket recursive u j step old new reached passes proper =
-    let stages : new.stages ≡ old.stages = ap (λ (s : Scene). s.stages) passes.world in
-    step_proper bucket recursive j u step old new reached passes.may (ap (λ (s : Scene). s.world) passes.world)
-    (ap (λ (f : ℕ → Stage). f u) stages ∙ ⊎_elim (λ idle. absurd (deadline_busy bucket recursive u j step old.world passes.may passes.deadline idle)) (λ e. e) (proper u))
-    (λ x ne. ap (λ (f : ℕ → Stage). f x) stages) proper
+    let stages : new.stages ≡ old.stages = ap (λ (s : ProgressState). s.stages) passes.world in
+    step_proper bucket recursive j u step old new reached passes.may (ap (λ (s : ProgressState). s.world) passes.world)
+    (ap (λ (f : ℕ → CallProgress). f u) stages ∙ ⊎_elim (λ idle. absurd (deadline_busy bucket recursive u j step old.world passes.may passes.deadline idle)) (λ e. e) (proper u))
+    (λ x ne. ap (λ (f : ℕ → CallProgress). f x) stages) proper
 
 pub scenes_stay_proper : ScenesStayProper
 scenes_stay_proper bucket recursive s last t who [] reached goes proper = subst IsProper goes.0 proper
 scenes_stay_proper bucket recursive s last t who (Takes turn ∷ es) reached goes proper =
     scenes_stay_proper bucket recursive goes.0 last t who es (turned_world bucket recursive t turn s goes.0 reached goes.2).0 goes.3 (turned_proper bucket recursive t turn s goes.0 reached goes.2 proper)
 scenes_stay_proper bucket recursive s last t who (Hands_on stop u ∷ es) reached goes proper =
-    scenes_stay_proper bucket recursive goes.0 last u who es (subst (λ (x : Scene). IsReached bucket recursive x.world) (sym goes.1.same) reached) goes.2 (subst IsProper (sym goes.1.same) proper)
+    scenes_stay_proper bucket recursive goes.0 last u who es (subst (λ (x : ProgressState). IsReached bucket recursive x.world) (sym goes.1.same) reached) goes.2 (subst IsProper (sym goes.1.same) proper)
 scenes_stay_proper bucket recursive s last t who (Passes u j step ∷ es) reached goes proper =
-    let reached_next = stepped_world bucket recursive j u step s goes.0 reached goes.1.may (ap (λ (x : Scene). x.world) goes.1.world) in
+    let reached_next = stepped_world bucket recursive j u step s goes.0 reached goes.1.may (ap (λ (x : ProgressState). x.world) goes.1.world) in
     scenes_stay_proper bucket recursive goes.0 last t who es reached_next.0 goes.2 (expired_proper bucket recursive u j step s goes.0 reached goes.1 proper)
