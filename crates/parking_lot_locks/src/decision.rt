@@ -5,7 +5,7 @@ ghost use Rattle.parking_lot_protocol.specs.declared.act.Act.{Act};
 ghost use Rattle.parking_lot_protocol.specs.declared.act.ActResult.{ActResult};
 
 use parking_lot_core::UnparkToken;
-use parking_lot_protocol::{Act, MutexCore, RwCore, ActResult};
+use parking_lot_protocol::{Act, ActResult, MutexCore, RwCore};
 
 /// One call of a lock as plain data: it is told what its last act gave, and answers the next one.
 pub(crate) trait DecisionCore: Copy {

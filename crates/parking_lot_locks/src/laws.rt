@@ -1,7 +1,7 @@
 //! Laws of the uncontended ways: each is a way of the core, told what the one exchange saw.
 ghost use Rattle.std.specs.Prelude.{◌≡◌, ◌≢◌, ◌<◌, ◌+◌, ◌*◌, ◌/◌, ◌%◌, ◌^◌, true};
 
-use parking_lot_protocol::{Act, CoreAnswer, MutexCore, RwCore, ActResult};
+use parking_lot_protocol::{Act, ActResult, CoreAnswer, MutexCore, RwCore};
 
 /// The exchange from 0 to 1 is the way of a call that locks a free mutex: it is what the core asks for at 0, and once it is won
 /// the mutex is owned.

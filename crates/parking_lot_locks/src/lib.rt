@@ -26,7 +26,7 @@ mod thread_id;
 mod word;
 
 pub use parking_lot_protocol::{
-    Act, CoreAnswer, MutexCore, RwCore, SectionAct, ActResult, WordChange, wake_sum,
+    Act, ActResult, CoreAnswer, MutexCore, RwCore, SectionAct, WordChange, wake_sum,
 };
 pub use raw_mutex::RawMutex;
 pub use raw_rwlock::RawRwLock;

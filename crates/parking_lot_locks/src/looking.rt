@@ -2,7 +2,7 @@
 
 use crate::decision::DecisionCore;
 use parking_lot_core::{FilterOp, ParkToken};
-use parking_lot_protocol::{Act, SectionAct, ActResult, wake_sum};
+use parking_lot_protocol::{Act, ActResult, SectionAct, wake_sum};
 
 /// A core that is shown one waiter after another. Of the last that it took it is told at the next one, or at the end: only
 /// then it is known whether others are left.

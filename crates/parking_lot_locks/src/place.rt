@@ -4,8 +4,8 @@ ghost use Rattle.parking_lot_locks.specs.Runs.{passes};
 ghost use Rattle.parking_lot_protocol.specs.Acts.{Gives};
 ghost use Rattle.parking_lot_protocol.specs.declared.act.Act.TheVariants.{Exchange};
 
-use crate::word::READER;
 use crate::table::Row;
+use crate::word::READER;
 use parking_lot_protocol::{Act, ActResult, WordChange};
 use std::alloc::Allocator;
 use std::sync::Wait;

@@ -5,7 +5,7 @@ use crate::place::Place;
 use crate::table::{LockTable, Row};
 use lock_api_raw::{GuardSend, RawMutex as _, RawMutexFair, TableFull};
 use parking_lot_core::ThreadData;
-use parking_lot_protocol::{CoreAnswer, MutexCore, ActResult};
+use parking_lot_protocol::{ActResult, CoreAnswer, MutexCore};
 use std::alloc::{Allocator, Global};
 use std::sync::Wait;
 

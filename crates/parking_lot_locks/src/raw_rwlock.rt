@@ -3,12 +3,12 @@ ghost use Rattle.std.specs.Prelude.{◌≡◌, ◌+◌, ◌-◌, ◌*◌, ◌/�
 ghost use Rattle.lock_api_raw.specs.Limits.{kept_limit};
 
 use crate::place::Place;
+use crate::table::{LockTable, Row};
 use crate::word;
 use crate::word::{READER, WRITER};
-use crate::table::{LockTable, Row};
 use lock_api_raw::{GuardSend, RawRwLock as _, RawRwLockDowngrade, RawRwLockFair, TableFull};
 use parking_lot_core::{ThreadData, thread_yield};
-use parking_lot_protocol::{CoreAnswer, RwCore, ActResult};
+use parking_lot_protocol::{ActResult, CoreAnswer, RwCore};
 use std::alloc::{Allocator, Global};
 use std::sync::Wait;
 

@@ -8,7 +8,7 @@ ghost use Rattle.parking_lot_protocol.specs.declared.act.ActResult.{ActResult};
 use crate::decision::DecisionCore;
 use crate::place::Place;
 use parking_lot_core::{SpinWait, ThreadData, thread_yield};
-use parking_lot_protocol::{Act, CoreAnswer, ActResult};
+use parking_lot_protocol::{Act, ActResult, CoreAnswer};
 use std::alloc::Allocator;
 use std::sync::Wait;
 

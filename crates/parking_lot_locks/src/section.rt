@@ -8,7 +8,7 @@ use parking_lot_core::{
     DEFAULT_PARK_TOKEN, ParkResult, ParkToken, ThreadData, UnparkToken, park, thread_yield,
     unpark_filter, unpark_one,
 };
-use parking_lot_protocol::{Act, SectionAct, ActResult};
+use parking_lot_protocol::{Act, ActResult, SectionAct};
 use std::alloc::Allocator;
 use std::cell::Cell;
 use std::sync::Wait;

@@ -18,9 +18,9 @@ mod rw_next;
 mod rw_phase;
 mod wake;
 
-pub use act::{Act, CoreAnswer, HAND_OVER, SectionAct, ActResult, TRY_AGAIN, WordChange};
+pub use act::{Act, ActResult, CoreAnswer, HAND_OVER, SectionAct, TRY_AGAIN, WordChange};
 pub use mutex_core::MutexCore;
 pub use mutex_phase::{Asking, Giving, MutexPhase};
 pub use rw_core::RwCore;
-pub use rw_phase::{Draining, Outcome, AfterWake, RwPhase, Scanning, Seeking, LockMode};
+pub use rw_phase::{AfterWake, Draining, LockMode, Outcome, RwPhase, Scanning, Seeking};
 pub use wake::wake_sum;

@@ -4,7 +4,7 @@ ghost use Rattle.parking_lot_protocol.specs.MutexRules.{Ended, Follows};
 ghost use Rattle.parking_lot_protocol.specs.MutexTable.{act_of, next_phase, wakes_with};
 ghost use Rattle.parking_lot_protocol.specs.declared.mutex_phase.MutexPhase.TheVariants.{Locking, Trying, Unlocking, Bumping};
 
-use crate::act::{Act, HAND_OVER, ActResult, TRY_AGAIN};
+use crate::act::{Act, ActResult, HAND_OVER, TRY_AGAIN};
 use crate::mutex_phase::MutexPhase;
 use parking_lot_core::UnparkToken;
 

@@ -5,7 +5,7 @@ ghost use Rattle.parking_lot_protocol.specs.declared.act.CoreAnswer.TheVariants.
 ghost use Rattle.parking_lot_protocol.specs.declared.mutex_phase.MutexPhase.TheVariants.{Loads, Locks, Parks, Enters, Appends, Retreats, Relocks, Unlocks, Looks, Stores, Leaves, Wakes, Finishes, Ends};
 ghost use Rattle.parking_lot_protocol.specs.MutexTable.{act_of, after, bit, begins, once, retries, seeks, store_of, tries, won_or};
 
-use crate::act::{Act, CoreAnswer, HAND_OVER, SectionAct, ActResult, Taking, WordChange};
+use crate::act::{Act, ActResult, CoreAnswer, HAND_OVER, SectionAct, Taking, WordChange};
 use parking_lot_core::{DEFAULT_PARK_TOKEN, UnparkToken};
 
 /// How many rounds a call spins before it sets the parked bit.

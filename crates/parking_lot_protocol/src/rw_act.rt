@@ -6,7 +6,7 @@ ghost use Rattle.parking_lot_protocol.specs.MutexTable.{bit};
 ghost use Rattle.parking_lot_protocol.specs.RwTable.{act_of, answer_of, base_of, count_of, hands, last_act, may_hand, share_of, store_of, sum_of};
 
 use crate::act::{Act, CoreAnswer, SectionAct, WordChange};
-use crate::rw_phase::{Outcome, AfterWake, RwPhase, Scanning, LockMode};
+use crate::rw_phase::{AfterWake, LockMode, Outcome, RwPhase, Scanning};
 use parking_lot_core::ParkToken;
 
 /// What an admission of a reader adds to the word, and the token of one that waits.
@@ -159,7 +159,8 @@ impl RwPhase {
             RwPhase::Spins(_) | RwPhase::DrainSpins(_) => Act::Spin,
             RwPhase::SetParked(_, word) => Act::Exchange(word, word.wrapping_add(1)),
             RwPhase::DrainSetParked(_, word) => Act::Exchange(word, word.wrapping_add(2)),
-            RwPhase::Enters(..) | RwPhase::LooksExclusive(..) | RwPhase::EnterWakeSection => Act::Enter(0),
+            RwPhase::Enters(..) | RwPhase::LooksExclusive(..) | RwPhase::EnterWakeSection =>
+                Act::Enter(0),
             RwPhase::DrainEnters(_) | RwPhase::EnterWriterWakeSection(_) => Act::Enter(1),
             RwPhase::Sleeps(_) | RwPhase::DrainSleeps(_) => Act::Sleep,
             RwPhase::Unshares(_) => Act::Add(u64::MAX - 15),
@@ -176,7 +177,9 @@ impl RwPhase {
             RwPhase::Stores(scanning, left) => Act::Section(scanning.stores(left)),
             RwPhase::Retreats(..) | RwPhase::Rests(_) => Act::Section(SectionAct::Leave),
             RwPhase::DrainRetreats(_) | RwPhase::DrainRests(_) => Act::Section(SectionAct::Leave),
-            RwPhase::LeaveWriterWakeSection(..) | RwPhase::Leaves(..) => Act::Section(SectionAct::Leave),
+            RwPhase::LeaveWriterWakeSection(..) | RwPhase::Leaves(..) => Act::Section(
+                SectionAct::Leave,
+            ),
             RwPhase::Wakes(..) => Act::Section(SectionAct::Wake),
             RwPhase::Locking(_) | RwPhase::Trying(_) => Act::Done(CoreAnswer::Refused),
             RwPhase::UnlockingShared | RwPhase::UnlockingExclusive(_) => Act::Done(

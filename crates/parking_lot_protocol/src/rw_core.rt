@@ -5,8 +5,8 @@ ghost use Rattle.parking_lot_protocol.specs.declared.rw_phase.RwPhase.TheVariant
 ghost use Rattle.parking_lot_protocol.specs.RwRules.{Ended, Follows};
 ghost use Rattle.parking_lot_protocol.specs.RwTable.{act_of, next_phase, wakes_with};
 
-use crate::act::{Act, HAND_OVER, ActResult, TRY_AGAIN};
-use crate::rw_phase::{RwPhase, LockMode};
+use crate::act::{Act, ActResult, HAND_OVER, TRY_AGAIN};
+use crate::rw_phase::{LockMode, RwPhase};
 use parking_lot_core::UnparkToken;
 
 /// The state of one call at a reader-writer lock. It is told what its last act gave, and answers the next one.

@@ -4,10 +4,10 @@ ghost use Rattle.parking_lot_protocol.specs.declared.rw_phase.RwPhase.TheVariant
 ghost use Rattle.parking_lot_protocol.specs.declared.rw_phase.Outcome.TheVariants as outcome;
 ghost use Rattle.parking_lot_protocol.specs.RwTable.{admits, after, asks_again, begins, bumps, count_of, drains, gains, goes_on, hands, has_readers, has_room, is_admitted, is_barred, is_parked, is_tried, is_upgradable, is_writer_parked, is_written, once, over, pends, retries, scans, scans_for, seeks, tries, unshares, wakes, with_taken, won_or};
 
-use crate::act::{HAND_OVER, ActResult, Taking};
+use crate::act::{ActResult, HAND_OVER, Taking};
 use crate::mutex_phase::{ROUNDS, TRIES};
 use crate::rw_act::{READER, UPGRADABLE, WRITER};
-use crate::rw_phase::{Draining, Outcome, AfterWake, RwPhase, Scanning, Seeking, LockMode};
+use crate::rw_phase::{AfterWake, Draining, LockMode, Outcome, RwPhase, Scanning, Seeking};
 use parking_lot_core::{ParkToken, UnparkToken};
 
 /// One reader more can be counted than this.
@@ -168,7 +168,10 @@ impl LockMode {
         match self {
             LockMode::Shared(_) if is_written(word) => RwPhase::Unshares(AfterWake::AgainShared),
             LockMode::Shared(_) => RwPhase::Ends(Outcome::Shared),
-            LockMode::Exclusive if is_parked(word) => RwPhase::Unlocks(true, AfterWake::AgainExclusive),
+            LockMode::Exclusive if is_parked(word) => RwPhase::Unlocks(
+                true,
+                AfterWake::AgainExclusive,
+            ),
             LockMode::Exclusive => RwPhase::Ends(Outcome::Exclusive),
         }
     }
@@ -469,21 +472,36 @@ impl RwPhase {
             RwPhase::DrainLoads(draining) => Some(draining.drains(seen.word()?)),
             RwPhase::DrainSpins(draining) => Some(draining.spun(seen.spun()?)),
             RwPhase::DrainSetParked(draining, _) => Some(draining.flagged(seen.exchange()?)),
-            RwPhase::DrainEnters(draining) => once(seen.is_entered(), RwPhase::DrainChecks(draining)),
+            RwPhase::DrainEnters(draining) => once(
+                seen.is_entered(),
+                RwPhase::DrainChecks(draining),
+            ),
             RwPhase::DrainChecks(draining) => Some(draining.checks(seen.word()?)),
             RwPhase::DrainRetreats(draining) => once(made, RwPhase::DrainLoads(draining)),
             RwPhase::DrainAppends(rounds) => once(made, RwPhase::DrainRests(rounds)),
             RwPhase::DrainRests(rounds) => once(made, RwPhase::DrainSleeps(rounds)),
             RwPhase::DrainSleeps(rounds) => looks_again(rounds, seen.woken()?),
             RwPhase::Unshares(rest) => Some(rest.unshares(seen.before()?)),
-            RwPhase::EnterWriterWakeSection(rest) => once(seen.is_entered(), RwPhase::TakeWriter(rest)),
-            RwPhase::TakeWriter(rest) => Some(RwPhase::ClearWriterParked(rest, seen.took()?.token.is_some())),
+            RwPhase::EnterWriterWakeSection(rest) => once(
+                seen.is_entered(),
+                RwPhase::TakeWriter(rest),
+            ),
+            RwPhase::TakeWriter(rest) => Some(RwPhase::ClearWriterParked(
+                rest,
+                seen.took()?.token.is_some(),
+            )),
             RwPhase::ClearWriterParked(rest, taken) => Some(masked(rest, taken, seen.before()?)),
-            RwPhase::LeaveWriterWakeSection(rest, taken) => once(made, rest.wakes(u64::from(taken))),
+            RwPhase::LeaveWriterWakeSection(rest, taken) => once(
+                made,
+                rest.wakes(u64::from(taken)),
+            ),
             RwPhase::Unlocks(fair, rest) => Some(rest.unlocked(fair, seen.exchange()?)),
             RwPhase::LooksExclusive(fair, rest) => once(seen.is_entered(), rest.scans(fair)),
             RwPhase::Downgrades => Some(downgraded(seen.before()?)),
-            RwPhase::EnterWakeSection => once(seen.is_entered(), AfterWake::Downgraded.scans(false)),
+            RwPhase::EnterWakeSection => once(
+                seen.is_entered(),
+                AfterWake::Downgraded.scans(false),
+            ),
             RwPhase::Scans(scanning) => scanning.scans(seen.took()?),
             RwPhase::Stores(scanning, _) => Some(scanning.stored(seen.stored()?)),
             RwPhase::Leaves(rest, count, _) => once(made, rest.wakes(count)),

@@ -1,6 +1,6 @@
 //! Calls at locks as data: what each is told stands beside the act that it must ask for then.
 
-use parking_lot_protocol::{Act, MutexCore, RwCore, ActResult};
+use parking_lot_protocol::{Act, ActResult, MutexCore, RwCore};
 use std::process::Abort;
 
 /// What a call is told, and what it must ask for then.

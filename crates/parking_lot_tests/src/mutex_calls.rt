@@ -3,7 +3,7 @@
 use crate::cores::follow_mutex;
 use parking_lot_core::DEFAULT_PARK_TOKEN;
 use parking_lot_protocol::{
-    Act, CoreAnswer, HAND_OVER, MutexCore, SectionAct, ActResult, TRY_AGAIN, WordChange,
+    Act, ActResult, CoreAnswer, HAND_OVER, MutexCore, SectionAct, TRY_AGAIN, WordChange,
 };
 use std::process::Abort;
 

@@ -2,7 +2,7 @@
 
 use lock_api_raw::{RawMutex as _, RawRwLock as _, TableFull};
 use parking_lot_core::{ParkingLot, SizeFault};
-use parking_lot_locks::{Act, CoreAnswer, LockTable, RawMutex, RawRwLock, Row, RwCore, ActResult};
+use parking_lot_locks::{Act, ActResult, CoreAnswer, LockTable, RawMutex, RawRwLock, Row, RwCore};
 use std::test::Fail;
 
 #[test]

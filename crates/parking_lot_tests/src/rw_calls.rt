@@ -3,7 +3,7 @@
 use crate::cores::follow_rw;
 use parking_lot_core::ParkToken;
 use parking_lot_protocol::{
-    Act, CoreAnswer, HAND_OVER, RwCore, SectionAct, ActResult, TRY_AGAIN, WordChange,
+    Act, ActResult, CoreAnswer, HAND_OVER, RwCore, SectionAct, TRY_AGAIN, WordChange,
 };
 
 #[test]
@@ -21,7 +21,10 @@ fn a_writer_waits_for_a_reader_and_is_woken(rt: HostRuntime) {
         core = follow_rw(
             &rt,
             core,
-            &[(ActResult::Word(24), Act::Spin), (ActResult::Spun(true), Act::Load)],
+            &[
+                (ActResult::Word(24), Act::Spin),
+                (ActResult::Spun(true), Act::Load),
+            ],
         );
     }
     follow_rw(
@@ -162,7 +165,10 @@ fn a_downgrade_lets_others_try(rt: HostRuntime) {
     let core = follow_rw(
         &rt,
         core,
-        &[(ActResult::Stored { fair: true }, Act::Section(SectionAct::Leave))],
+        &[(
+            ActResult::Stored { fair: true },
+            Act::Section(SectionAct::Leave),
+        )],
     );
     assert!(rt; core.wake_token() == TRY_AGAIN);
     follow_rw(

@@ -2,7 +2,7 @@
 
 use crate::cores::follow_rw;
 use parking_lot_core::{FilterOp, ParkToken};
-use parking_lot_protocol::{Act, RwCore, SectionAct, ActResult, WordChange, wake_sum};
+use parking_lot_protocol::{Act, ActResult, RwCore, SectionAct, WordChange, wake_sum};
 use std::process::Abort;
 
 /// One section with these waiters takes this sum of tokens, and has these two stores.

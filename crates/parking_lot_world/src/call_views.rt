@@ -13,7 +13,7 @@ ghost use Rattle.parking_lot_world.specs.Stances.{rw_taken, taken_count};
 
 use crate::calls::OwnMode;
 use crate::seat::{Call, Core, QueuePosition, WakeResult};
-use parking_lot_protocol::{CoreAnswer, MutexPhase, Outcome, AfterWake, RwPhase, LockMode};
+use parking_lot_protocol::{AfterWake, CoreAnswer, LockMode, MutexPhase, Outcome, RwPhase};
 
 /// How one owns a lock that has so many shared holds of it.
 fn readers_mode(holds: u8) -> Option<OwnMode>
@@ -114,7 +114,9 @@ fn rw_mode(phase: RwPhase, spot: QueuePosition, others: u8) -> Option<OwnMode>
         UnlockingShared | BumpingShared | Unshares(_) | EnterWakeSection => Some(OwnMode::Shared),
         UnlockingExclusive(_) | BumpingExclusive | Downgrading => Some(OwnMode::Exclusive),
         Unlocks(_, _) | LooksExclusive(_, _) | Downgrades => Some(OwnMode::Exclusive),
-        DrainLoads(_) | DrainSpins(_) | DrainSetParked(_, _) | DrainEnters(_) => Some(OwnMode::Pending),
+        DrainLoads(_) | DrainSpins(_) | DrainSetParked(_, _) | DrainEnters(_) => Some(
+            OwnMode::Pending,
+        ),
         DrainChecks(_) | DrainRetreats(_) | DrainAppends(_) => Some(OwnMode::Pending),
         DrainRests(_) | DrainSleeps(_) => Some(OwnMode::Pending),
         BumpLoads(want) => asker_mode(want),
@@ -153,13 +155,17 @@ fn rw_in_debt(phase: RwPhase) -> bool
 {
     use RwPhase::*;
     match phase {
-        Loads(seeking) | Admits(seeking, _) | Spins(seeking) | SetParked(seeking, _) => seeking.woken,
+        Loads(seeking) | Admits(seeking, _) | Spins(seeking) | SetParked(seeking, _) =>
+            seeking.woken,
         Enters(_, woken) => woken,
         DrainLoads(draining) | DrainSpins(draining) | DrainSetParked(draining, _) => draining.woken,
         DrainEnters(draining) => draining.woken,
         Checks(_, _) | Retreats(_, _) | Appends(_) | Rests(_) => true,
         DrainChecks(_) | DrainRetreats(_) | DrainAppends(_) | DrainRests(_) => true,
-        EnterWriterWakeSection(_) | TakeWriter(_) | ClearWriterParked(_, _) | LeaveWriterWakeSection(_, _) => true,
+        EnterWriterWakeSection(_)
+        | TakeWriter(_)
+        | ClearWriterParked(_, _)
+        | LeaveWriterWakeSection(_, _) => true,
         EnterWakeSection | Scans(_) | Stores(_, _) | Leaves(_, _, _) => true,
         Wakes(_, count) => count > 0,
         Finishes(_) => false,

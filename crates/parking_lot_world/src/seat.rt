@@ -7,8 +7,8 @@ ghost use Rattle.parking_lot_world.specs.RowActs.{hears, hold_after, mutex_hold_
 
 use parking_lot_core::UnparkToken;
 use parking_lot_protocol::{
-    Act, CoreAnswer, HAND_OVER, MutexCore, MutexPhase, Outcome, AfterWake, RwCore, RwPhase, SectionAct,
-    ActResult,
+    Act, ActResult, AfterWake, CoreAnswer, HAND_OVER, MutexCore, MutexPhase, Outcome, RwCore,
+    RwPhase, SectionAct,
 };
 
 /// What a thread owns of a lock between its calls: so many shared holds, or the exclusive one.
@@ -81,7 +81,9 @@ impl QueuePosition {
         ensures { result ≡ settled_spot by said self }
     {
         match self {
-            QueuePosition::Off(taker, WakeResult::Nothing) if taker == by => QueuePosition::Off(taker, said),
+            QueuePosition::Off(taker, WakeResult::Nothing) if taker == by => QueuePosition::Off(
+                taker, said,
+            ),
             spot => spot,
         }
     }
@@ -177,7 +179,8 @@ fn rw_hold_after(phase: RwPhase, others: u8) -> Hold
     match phase {
         RwPhase::Finishes(AfterWake::FreedShared | AfterWake::AgainShared) => Hold::Shares(others),
         RwPhase::Finishes(AfterWake::FreedExclusive | AfterWake::AgainExclusive) => Hold::Shares(0),
-        RwPhase::Finishes(AfterWake::Downgraded) | RwPhase::Ends(Outcome::Downgraded) => Hold::Shares(1),
+        RwPhase::Finishes(AfterWake::Downgraded) | RwPhase::Ends(Outcome::Downgraded) =>
+            Hold::Shares(1),
         RwPhase::Ends(Outcome::Shared) => Hold::Shares(others + 1),
         RwPhase::Ends(Outcome::Exclusive) => Hold::Excludes,
         RwPhase::Ends(Outcome::FreedExclusive) => Hold::Shares(0),

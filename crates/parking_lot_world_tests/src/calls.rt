@@ -2,7 +2,8 @@
 
 use parking_lot_core::ParkToken;
 use parking_lot_world::{
-    Call, Core, HAND_OVER, MutexCore, OwnMode, RwCore, ActResult, QueuePosition, TRY_AGAIN, WakeResult,
+    ActResult, Call, Core, HAND_OVER, MutexCore, OwnMode, QueuePosition, RwCore, TRY_AGAIN,
+    WakeResult,
 };
 use std::process::Abort;
 
