@@ -19,7 +19,7 @@ use Rattle.parking_lot_protocol.specs.Acts.{Gives, word_after}
 use Rattle.parking_lot_world.specs.declared.seat.QueuePosition.TheVariants as spot
 use Rattle.parking_lot_world.specs.declared.seat.Core.{Core}
 use Rattle.parking_lot_world.specs.declared.seat.Core.TheVariants as core
-use Rattle.parking_lot_world.specs.declared.seat.Call.{Call}
+use Rattle.parking_lot_world.specs.declared.open_call.Call.{Call}
 use Rattle.parking_lot_world.specs.Rows.{State, word_at, call_at, inside}
 use Rattle.parking_lot_world.specs.Stances.{Doing, Stance, Out, In, Joined, Asleep, stance, taken_count, core_act, core_next}
 use Rattle.parking_lot_world.specs.StanceLaws.{StaysOut, LeavesFor}

@@ -20,7 +20,7 @@ use Rattle.parking_lot_world.specs.declared.seat.WakeResult.TheVariants as told
 use Rattle.parking_lot_world.specs.declared.seat.QueuePosition.TheVariants as spot
 use Rattle.parking_lot_world.specs.declared.seat.Core.{Core}
 use Rattle.parking_lot_world.specs.declared.seat.Core.TheVariants as core
-use Rattle.parking_lot_world.specs.declared.seat.Call.{Call}
+use Rattle.parking_lot_world.specs.declared.open_call.Call.{Call}
 use Rattle.parking_lot_world.specs.declared.seat.Wakeup.{Wakeup}
 use Rattle.parking_lot_world.specs.Rows.{State, word_at, call_at, hold_at, taken_by, owns_mutex, mark_of, first_of_all, mutex_spot, mutex_role_in, mutex_role_at, mutex_core_role, mutex_word_of, mutex_at}
 use Rattle.parking_lot_world.specs.Stances.{Out, Asleep, mutex_stance, stance, core_next}

@@ -26,7 +26,7 @@ use Rattle.parking_lot_world.specs.declared.seat.QueuePosition.{QueuePosition}
 use Rattle.parking_lot_world.specs.declared.seat.QueuePosition.TheVariants as spot
 use Rattle.parking_lot_world.specs.declared.seat.Core.{Core}
 use Rattle.parking_lot_world.specs.declared.seat.Core.TheVariants as core
-use Rattle.parking_lot_world.specs.declared.seat.Call.{Call}
+use Rattle.parking_lot_world.specs.declared.open_call.Call.{Call}
 use Rattle.parking_lot_world.specs.Rows.{State, word_at, call_at, hold_at, taken_by, owns_mutex, mark_of, first_of_all, mutex_spot, mutex_role_in, mutex_role_at, mutex_core_role, mutex_word_of, mutex_at}
 use Rattle.parking_lot_world.specs.Stances.{In, Stores, sign, mutex_stance, taken_count, core_act, core_next, core_tells}
 use Rattle.parking_lot_world.specs.RowActs.{settled_spot, settled, told_of}

@@ -25,7 +25,7 @@ use Rattle.parking_lot_world.specs.declared.calls.LockKind.{LockKind}
 use Rattle.parking_lot_world.specs.declared.calls.LockKind.TheVariants as kind
 use Rattle.parking_lot_world.specs.declared.seat.Core.{Core}
 use Rattle.parking_lot_world.specs.declared.seat.Core.TheVariants as core
-use Rattle.parking_lot_world.specs.declared.seat.Call.{Call}
+use Rattle.parking_lot_world.specs.declared.open_call.Call.{Call}
 use Rattle.parking_lot_world.specs.Rows.{State, word_at, call_at, taken_by, hold_at, first_of_all, mutex_spot, mutex_role_in, mutex_role_at, mutex_core_role, rw_spot, rw_lock_at, mutex_at, any_lock, lock_at, inside}
 use Rattle.parking_lot_world.specs.Stances.{has_begun, rw_begun, core_act, core_next}
 use Rattle.parking_lot_world.specs.RowFits.{FitsTogether, RulesFit, IsOfKind, IsPrepared, KnowsList}

@@ -27,7 +27,7 @@ use Rattle.parking_lot_world.specs.declared.seat.QueuePosition.{QueuePosition}
 use Rattle.parking_lot_world.specs.declared.seat.QueuePosition.TheVariants as spot
 use Rattle.parking_lot_world.specs.declared.seat.Core.{Core}
 use Rattle.parking_lot_world.specs.declared.seat.Core.TheVariants as core
-use Rattle.parking_lot_world.specs.declared.seat.Call.{Call}
+use Rattle.parking_lot_world.specs.declared.open_call.Call.{Call}
 use Rattle.parking_lot_world.specs.Rows.{State, word_at, hold_at, call_at, taken_by, inside, rw_spot, rw_role_in, rw_role_at, rw_lock_at, mutex_spot, mutex_role_in, mutex_role_at, mutex_word_of, mutex_at, first_of_all, queue_at}
 use Rattle.parking_lot_world.specs.Stances.{Asleep, stance, rw_stance, mutex_stance, core_act}
 use Rattle.parking_lot_world.specs.RowFits.{FitsTogether}

@@ -10,7 +10,7 @@ use Rattle.parking_lot_world.specs.declared.calls.LockKind.{LockKind}
 use Rattle.parking_lot_world.specs.declared.calls.LockKind.TheVariants as kind
 use Rattle.parking_lot_world.specs.declared.seat.Hold.{Hold}
 use Rattle.parking_lot_world.specs.declared.seat.Hold.TheVariants as hold
-use Rattle.parking_lot_world.specs.declared.seat.Call.{Call}
+use Rattle.parking_lot_world.specs.declared.open_call.Call.{Call}
 use Rattle.parking_lot_world.specs.Calls.{kind_of}
 use Rattle.parking_lot_world.specs.Beginnings.{core_of, holds_beside, is_allowed}
 use Rattle.parking_lot_world.specs.Rows.{State, call_at, hold_at}

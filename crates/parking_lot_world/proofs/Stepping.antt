@@ -10,7 +10,7 @@ use Rattle.parking_lot_protocol.specs.declared.act.Act.TheVariants as act
 use Rattle.parking_lot_protocol.specs.declared.act.SectionAct.TheVariants as section
 use Rattle.parking_lot_protocol.specs.declared.act.CoreAnswer.{CoreAnswer}
 use Rattle.parking_lot_protocol.specs.declared.act.WordChange.{WordChange}
-use Rattle.parking_lot_world.specs.declared.seat.Call.{Call}
+use Rattle.parking_lot_world.specs.declared.open_call.Call.{Call}
 use Rattle.parking_lot_world.specs.Rows.{State, call_at}
 use Rattle.parking_lot_world.specs.Stances.{In, Joins, Takes, sign, stance, core_act, core_next, core_tells}
 use Rattle.parking_lot_world.specs.RowActs.{key_of, added, appended, answered, checked, entered, exchanged, left, loaded, masked, spun, told_all, took, took_nobody, woke}

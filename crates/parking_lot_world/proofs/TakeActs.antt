@@ -19,7 +19,7 @@ use Rattle.parking_lot_protocol.specs.RwTable as of_rw
 use Rattle.parking_lot_protocol.specs.MutexTable as of_mutex
 use Rattle.parking_lot_world.specs.declared.seat.Core.{Core}
 use Rattle.parking_lot_world.specs.declared.seat.Core.TheVariants as core
-use Rattle.parking_lot_world.specs.declared.seat.Call.{Call}
+use Rattle.parking_lot_world.specs.declared.open_call.Call.{Call}
 use Rattle.parking_lot_world.specs.Rows.{State, word_at, call_at}
 use Rattle.parking_lot_world.specs.Stances.{Takes, Stores, Stance, In, Asleep, rw_stance, mutex_stance, stance, core_act}
 use Rattle.parking_lot_world.specs.RowActs.{hears, key_of, off_list, took}

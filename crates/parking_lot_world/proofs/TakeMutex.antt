@@ -18,7 +18,7 @@ use Rattle.parking_lot_world.specs.declared.seat.QueuePosition.{QueuePosition}
 use Rattle.parking_lot_world.specs.declared.seat.QueuePosition.TheVariants as spot
 use Rattle.parking_lot_world.specs.declared.seat.Core.{Core}
 use Rattle.parking_lot_world.specs.declared.seat.Core.TheVariants as core
-use Rattle.parking_lot_world.specs.declared.seat.Call.{Call}
+use Rattle.parking_lot_world.specs.declared.open_call.Call.{Call}
 use Rattle.parking_lot_world.specs.Rows.{State, word_at, hold_at, call_at, taken_by, first_of_all, mutex_spot, mutex_core_role, mutex_role_in, mutex_role_at, mutex_at}
 use Rattle.parking_lot_world.specs.Stances.{Takes, In, mutex_stance, stance, taken_count, core_next}
 use Rattle.parking_lot_world.specs.Stances as stances

@@ -18,7 +18,7 @@ use Rattle.parking_lot_protocol.specs.Acts.{word_after}
 use Rattle.parking_lot_protocol.specs.RwTable.{sum_of}
 use Rattle.parking_lot_world.specs.declared.seat.Core.{Core}
 use Rattle.parking_lot_world.specs.declared.seat.Core.TheVariants as core
-use Rattle.parking_lot_world.specs.declared.seat.Call.{Call}
+use Rattle.parking_lot_world.specs.declared.open_call.Call.{Call}
 use Rattle.parking_lot_world.specs.Rows.{State, word_at, call_at, taken_by, first_of_all, rw_spot, mutex_spot, rw_lock_at, mutex_at}
 use Rattle.parking_lot_world.specs.Stances.{Takes, Stores, In, rw_stance, mutex_stance, stance, taken_count, core_act, core_next}
 use Rattle.parking_lot_world.specs.RowActs.{key_of, took_nobody}

@@ -13,7 +13,7 @@ use Rattle.parking_lot_world.specs.declared.seat.QueuePosition.{QueuePosition}
 use Rattle.parking_lot_world.specs.declared.seat.QueuePosition.TheVariants as spot
 use Rattle.parking_lot_world.specs.declared.seat.Core.{Core}
 use Rattle.parking_lot_world.specs.declared.seat.Core.TheVariants as core
-use Rattle.parking_lot_world.specs.declared.seat.Call.{Call}
+use Rattle.parking_lot_world.specs.declared.open_call.Call.{Call}
 use Rattle.parking_lot_world.specs.Rows.{State, call_at}
 use Rattle.parking_lot_world.specs.Stances.{Doing, Takes, Stores, Stance, In, Asleep, mutex_stance, rw_stance, stance, core_next}
 use Rattle.parking_lot_world.specs.RowFits.{FitsTogether, LotFits, IsOfKind, KnowsList, mutex_knows, rw_knows}

@@ -23,7 +23,7 @@ use Rattle.parking_lot_world.specs.declared.seat.QueuePosition.{QueuePosition}
 use Rattle.parking_lot_world.specs.declared.seat.QueuePosition.TheVariants as spot
 use Rattle.parking_lot_world.specs.declared.seat.Core.{Core}
 use Rattle.parking_lot_world.specs.declared.seat.Core.TheVariants as core
-use Rattle.parking_lot_world.specs.declared.seat.Call.{Call}
+use Rattle.parking_lot_world.specs.declared.open_call.Call.{Call}
 use Rattle.parking_lot_world.specs.Rows.{State, word_at, hold_at, call_at, taken_by, rw_spot, rw_core_role, rw_role_in, rw_role_at, rw_lock_at}
 use Rattle.parking_lot_world.specs.Stances.{Takes, In, rw_stance, stance, core_next}
 use Rattle.parking_lot_world.specs.RowActs.{hears, key_of, off_list, took}

@@ -12,7 +12,7 @@ use Rattle.parking_lot_protocol.specs.Acts.{change_of}
 use Rattle.std.specs.Prelude.{bit_and}
 use Rattle.parking_lot_world.specs.declared.seat.Core.{Core}
 use Rattle.parking_lot_world.specs.declared.seat.Core.TheVariants as core
-use Rattle.parking_lot_world.specs.declared.seat.Call.{Call}
+use Rattle.parking_lot_world.specs.declared.open_call.Call.{Call}
 use Rattle.parking_lot_world.specs.declared.seat.Wakeup.{Wakeup}
 use Rattle.parking_lot_world.specs.Rows.{State, word_at, call_at}
 use Rattle.parking_lot_world.specs.Stances.{Out, In, Stores, Tells, sign, stance, taken_count, core_act, core_next, core_tells}

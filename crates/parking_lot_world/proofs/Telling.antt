@@ -34,7 +34,7 @@ use Rattle.parking_lot_world.specs.declared.seat.Hold.{Hold}
 use Rattle.parking_lot_world.specs.declared.seat.QueuePosition.{QueuePosition}
 use Rattle.parking_lot_world.specs.declared.seat.Core.{Core}
 use Rattle.parking_lot_world.specs.declared.seat.Core.TheVariants as core
-use Rattle.parking_lot_world.specs.declared.seat.Call.{Call}
+use Rattle.parking_lot_world.specs.declared.open_call.Call.{Call}
 use Rattle.parking_lot_world.specs.Rows.{State, word_at, call_at, hold_at, taken_by, owned_of, mark_of, rw_spot, rw_role_in, rw_role_at, rw_core_role, rw_lock_at}
 use Rattle.parking_lot_world.specs.Stances.{Doing, In, Asleep, Stores, sign, rw_stance, core_act, core_next, core_tells}
 use Rattle.parking_lot_world.specs.RowActs.{settled_spot, settled, told_of}

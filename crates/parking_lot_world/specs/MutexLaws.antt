@@ -25,7 +25,7 @@ use Rattle.parking_lot_protocol.specs.MutexTable.{act_of, next_phase, wakes_with
 use Rattle.parking_lot_protocol.specs.MutexRules.{QueuePosition, Listed, Off, role, owns, owns_after, taken_of, Move, Stays, Makes, Joins, TakesOne, Tells, WakesOne, IsWoken, move, last_move, IsWord, mark_of}
 use Rattle.parking_lot_world.specs.declared.seat.Hold.{Hold}
 use Rattle.parking_lot_world.specs.declared.seat.WakeResult.{WakeResult}
-use Rattle.parking_lot_world.specs.declared.seat.Call.{Call}
+use Rattle.parking_lot_world.specs.declared.open_call.Call.{Call}
 use Rattle.parking_lot_world.specs.Rows as rows
 use Rattle.parking_lot_world.specs.Rows.{mutex_word_of, first_of_all, owns_mutex, mutex_role_in}
 use Rattle.parking_lot_world.specs.RowActs.{settled, mutex_hold_after}

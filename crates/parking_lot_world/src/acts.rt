@@ -18,8 +18,9 @@ ghost use Rattle.parking_lot_world.specs.Machines.{IsTakenFrom, IsWoken, owes_to
 ghost use Rattle.parking_lot_world.specs.RowActs.{added, answered, appended, begun, checked, entered, exchanged, hears, key_of, left, loaded, masked, off_list, settled, spun, told_all, took, took_nobody, woke};
 
 use crate::lot_calls;
+use crate::open_call::Call;
 use crate::row_machine::RowMachine;
-use crate::seat::{Call, WakeResult, Wakeup};
+use crate::seat::{WakeResult, Wakeup};
 use parking_lot_core::{Lot, ParkToken, Taking, UnparkToken};
 use parking_lot_protocol::{ActResult, TRY_AGAIN, WordChange};
 use std::alloc::Allocator;

@@ -12,7 +12,8 @@ ghost use Rattle.parking_lot_world.specs.Rows.{mutex_spot, rw_spot};
 ghost use Rattle.parking_lot_world.specs.Stances.{rw_taken, taken_count};
 
 use crate::calls::OwnMode;
-use crate::seat::{Call, Core, QueuePosition, WakeResult};
+use crate::open_call::Call;
+use crate::seat::{Core, QueuePosition, WakeResult};
 use parking_lot_protocol::{AfterWake, CoreAnswer, LockMode, MutexPhase, Outcome, RwPhase};
 
 /// How one owns a lock that has so many shared holds of it.

@@ -11,6 +11,7 @@ mod lot_laws;
 mod machine_views;
 mod mutex_laws;
 mod new_machine;
+mod open_call;
 mod rank_laws;
 mod row_machine;
 mod rw_laws;
@@ -25,11 +26,12 @@ mod world_views;
 
 pub use calls::{LockAnswer, LockCall, LockKind, OwnMode};
 pub use fault::{WorldFault, WorldRefusal};
+pub use open_call::Call;
 pub use parking_lot_protocol::{
     Act, ActResult, CoreAnswer, HAND_OVER, MutexCore, RwCore, SectionAct, TRY_AGAIN, WordChange,
     wake_sum,
 };
 pub use row_machine::RowMachine;
-pub use seat::{Call, Core, Hold, QueuePosition, WakeResult, Wakeup};
+pub use seat::{Core, Hold, QueuePosition, WakeResult, Wakeup};
 pub use step::WorldStep;
 pub use world::World;

@@ -7,7 +7,8 @@ ghost use Rattle.parking_lot_world.specs.Rows.{call_at, hold_at, state, word_at}
 ghost use Rattle.parking_lot_world.specs.Machines.{at_rest, can_move, may_begin, IsBegun, IsStepped};
 
 use crate::calls::{LockCall, LockKind};
-use crate::seat::{Call, Hold, QueuePosition, Wakeup};
+use crate::open_call::Call;
+use crate::seat::{Hold, QueuePosition, Wakeup};
 use parking_lot_core::{Lot, SizeFault};
 use parking_lot_protocol::{Act, CoreAnswer, SectionAct, WordChange};
 use std::alloc::{Allocator, Global};

@@ -6,7 +6,7 @@ use Rattle.parking_lot_core.specs.Machine.{Machine, stored, machine}
 use Rattle.parking_lot_core.specs.Sound.{Sound}
 use Rattle.parking_lot_protocol.specs.Acts.{change_of}
 use Rattle.parking_lot_protocol.specs.declared.act.WordChange.{WordChange}
-use Rattle.parking_lot_world.specs.declared.seat.Call.{Call}
+use Rattle.parking_lot_world.specs.declared.open_call.Call.{Call}
 use Rattle.parking_lot_world.specs.declared.seat.WakeResult.{WakeResult}
 use Rattle.parking_lot_world.specs.Rows.{Rows, State, state, word_at}
 use Rattle.parking_lot_world.specs.Stances.{core_tells}
