@@ -35,7 +35,7 @@ use Rattle.parking_lot_world.proofs.Owning.{OwnAct}
 use Rattle.parking_lot_world.proofs.OwnActs.{own_rw, own_mutex}
 use Rattle.parking_lot_world.proofs.WakesKept.{wakes_own}
 use Rattle.parking_lot_world.proofs.Starting.{begins}
-use Rattle.parking_lot_world.proofs.Answering.{ends}
+use Rattle.parking_lot_world.proofs.Answering.{ends, never}
 
 -- A thread's own act, of which the lot's side is known.
 module _ (s u : State) (t : ℕ) (c : Call) (told : ActResult) (h : FitsTogether s) (a : OwnAct s u t c told (core_next c.core told) c.spot) (lists_same : (key : ℕ) → u.lot.queues key ≡ s.lot.queues key) (gives : Gives (core_act c.core) (word_at s c.lock) told)
@@ -71,22 +71,12 @@ word-here words j x b = go (slice_get words j) refl
 pub word-elsewhere : (words : List ℕ) (j x i : ℕ) → i ≢ j → option_map_or (λ w. w) (slice_get (slice_set words j x) i) 0 ≡ option_map_or (λ w. w) (slice_get words i) 0
 word-elsewhere words j x i ne = ap (λ q. option_map_or (λ w. w) q 0) (get-set_other words j i x (λ e. ne (sym e)))
 
-is_out : Stance → Bool
-is_out Out = true
-is_out (In key how) = false
-is_out (Asleep key token) = false
-
--- an act whose call stays out of lists sleeps nowhere
-never : (b : Stance) (k : ℕ) (token : ParkToken) (A : Type 0) → b ≡ Out → b ≡ Asleep k token → A
-unfolding is_out
-never b k token A e f = absurd (both_ways (is_out b) (ap is_out f) (ap is_out e))
-
 is_asleep : Stance → Bool
 is_asleep Out = false
 is_asleep (In key how) = false
 is_asleep (Asleep key token) = true
 
--- nor does one in a section
+-- an act whose call is in a section sleeps nowhere
 awake_never : (b : Stance) (key : ℕ) (how : Doing) (k : ℕ) (token : ParkToken) (A : Type 0) → b ≡ In key how → b ≡ Asleep k token → A
 unfolding is_asleep
 awake_never b key how k token A e f = absurd (both_ways (is_asleep b) (ap is_asleep e) (ap is_asleep f))

@@ -67,7 +67,8 @@ is_out Out = true
 is_out (In key how) = false
 is_out (Asleep key token) = false
 
-never : (b : Stance) (k : ℕ) (token : ParkToken) (A : Type 0) → b ≡ Out → b ≡ Asleep k token → A
+-- a call that is out of lists sleeps nowhere
+pub never : (b : Stance) (k : ℕ) (token : ParkToken) (A : Type 0) → b ≡ Out → b ≡ Asleep k token → A
 unfolding is_out
 never b k token A e f = absurd (both_ways (is_out b) (ap is_out f) (ap is_out e))
 

@@ -29,7 +29,7 @@ use Rattle.parking_lot_world.proofs.Lifting.{IsThere, Elsewhere}
 use Rattle.parking_lot_world.proofs.LotWakes.{woken_off, due_place, other, call_mine, call_woken, call_other, woke_length}
 use Rattle.parking_lot_world.proofs.Making.{IsSoundState}
 use Rattle.parking_lot_world.proofs.Ruling.{CallFits, call_fits, rules_after}
-use Rattle.parking_lot_world.proofs.Settling.{same_kind}
+use Rattle.parking_lot_world.proofs.TakeOutside.{same_kind}
 
 -- WHOM A THREAD IS TO WAKE
 

@@ -30,6 +30,7 @@ use Rattle.parking_lot_world.proofs.Lifting.{IsThere, Elsewhere}
 use Rattle.parking_lot_world.proofs.LotStores.{call_at-map}
 use Rattle.parking_lot_world.proofs.Making.{IsSoundState}
 use Rattle.parking_lot_world.proofs.Ruling.{CallFits, call_fits, rules_after}
+use Rattle.parking_lot_world.proofs.TakeOutside.{same_kind}
 
 -- WHERE ONE STANDS THAT IS TOLD
 
@@ -59,10 +60,6 @@ away_settled t said (Some c) = same_off t said c.spot
 before_settled : (t : ℕ) (said : WakeResult) (o : Option Call) (e : Call) → option_map (settled t said) o ≡ Some e → (f : Call) × (o ≡ Some f) × (settled t said f ≡ e)
 before_settled t said None e h = absurd (none-some e h)
 before_settled t said (Some f) e h = (f, refl, same_call h)
-
-pub same_kind : (c : Core) (heard : ActResult) (o : Option LockKind) → IsOfKind o c → IsOfKind o (core_next c heard)
-same_kind (core.Mutex k) heard o h = h
-same_kind (core.Rw k) heard o h = h
 
 -- THE MACHINE
 

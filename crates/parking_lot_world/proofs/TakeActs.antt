@@ -30,7 +30,7 @@ use Rattle.parking_lot_world.proofs.Beginning.{goes_on}
 use Rattle.parking_lot_world.proofs.Carrying.{same_call}
 use Rattle.parking_lot_world.proofs.LotTakes.{took_fits}
 use Rattle.parking_lot_world.proofs.Ruling.{CallFits, call_fits, rules_after}
-use Rattle.parking_lot_world.proofs.TakeOutside.{IsOut, others_out, out_knows, next_kind}
+use Rattle.parking_lot_world.proofs.TakeOutside.{IsOut, others_out, out_knows, same_kind}
 use Rattle.parking_lot_world.proofs.TakeParts.{took_told, TakesSo, the_sleeper, taker_after, sleeper_after, others_after, same_threads, wakes_after}
 use Rattle.parking_lot_world.proofs.TakeRw.{rw_takes, rw_lets_go}
 use Rattle.parking_lot_world.proofs.TakeMutex.{mutex_takes}
@@ -72,7 +72,7 @@ module _ (s : State) (t : ℕ) (c : Call) (k : ℕ) (w : Waiter) (from : stance 
       mine : CallFits s.kinds u.lot.queues (hears c told)
       mine =
           let f = call_fits s h.rules t c here in
-          record { kind = next_kind c.core told (slice_get s.kinds c.lock) f.kind; prepared = so.1; knows = so.2; beside = f.beside; begun = goes_on c.core told }
+          record { kind = same_kind c.core told (slice_get s.kinds c.lock) f.kind; prepared = so.1; knows = so.2; beside = f.beside; begun = goes_on c.core told }
 
       its : CallFits s.kinds u.lot.queues (off_list t (the_sleeper s t c k w from at h here).call)
       its =

@@ -51,7 +51,7 @@ use Rattle.parking_lot_world.proofs.Owning.{OwnAct, own-there, own-elsewhere, rw
 use Rattle.parking_lot_world.proofs.Ruling.{rules_own, rw_move_sound, mutex_move_sound}
 use Rattle.parking_lot_world.proofs.WakesKept.{wakes_own}
 use Rattle.parking_lot_world.proofs.Acting.{still_inside}
-use Rattle.parking_lot_world.proofs.TakeOutside.{awake_listed, others_out, out_knows, next_kind}
+use Rattle.parking_lot_world.proofs.TakeOutside.{awake_listed, others_out, out_knows, same_kind}
 
 module _ (s : State) (t : ℕ) (c : Call) (k : ℕ) (token : ParkToken) (asked : core_act c.core ≡ act.Section (section.Append token)) (from : stance c.core ≡ In k (Joins token))
     (sound : lot.Sound (appended s t c (key_of c k) token).lot) (h : FitsTogether s) (here : call_at s t ≡ Some c) where
@@ -116,7 +116,7 @@ module _ (s : State) (t : ℕ) (c : Call) (k : ℕ) (token : ParkToken) (asked :
   Joined x = IsMoveOf x c.others (taken_by s.wakes t) seen.Made c.lock t s u × IsPrepared c.others (NextOf x) × KnowsList (NextOf x) u.lot.queues c.lock × IsSoundState u
 
   goes : Joined c.core → RulesFit u × Goes t c seen.Made s u
-  goes j = (rules_own s u t c seen.Made (NextOf c.core) spot.Listed own h others (next_kind c.core seen.Made) j.1 j.2 (goes_on c.core seen.Made) (h.rules.bits c.lock) j.3, j.0)
+  goes j = (rules_own s u t c seen.Made (NextOf c.core) spot.Listed own h others (same_kind c.core seen.Made) j.1 j.2 (goes_on c.core seen.Made) (h.rules.bits c.lock) j.3, j.0)
 
   -- AT A READER-WRITER LOCK
 

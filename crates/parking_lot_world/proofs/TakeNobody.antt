@@ -40,7 +40,7 @@ use Rattle.parking_lot_world.proofs.Owning.{OwnAct, own-there, own-elsewhere, se
 use Rattle.parking_lot_world.proofs.Ruling.{rules_own}
 use Rattle.parking_lot_world.proofs.WakesKept.{wakes_own}
 use Rattle.parking_lot_world.proofs.Acting.{still_inside}
-use Rattle.parking_lot_world.proofs.TakeOutside.{others_out, out_knows, next_kind}
+use Rattle.parking_lot_world.proofs.TakeOutside.{others_out, out_knows, same_kind}
 
 -- WHO TAKES
 
@@ -119,7 +119,7 @@ module _ (s : State) (t : ℕ) (c : Call) (k : ℕ) (from : stance c.core ≡ In
   Finds x = IsMoveOf x c.others (taken_by s.wakes t) told c.lock t s u × IsPrepared c.others (NextOf x) × KnowsList (NextOf x) u.lot.queues c.lock × IsSoundState u
 
   goes : Finds c.core → RulesFit u × Goes t c told s u
-  goes j = (rules_own s u t c told (NextOf c.core) c.spot own h others (next_kind c.core told) j.1 j.2 (goes_on c.core told) (h.rules.bits c.lock) j.3, j.0)
+  goes j = (rules_own s u t c told (NextOf c.core) c.spot own h others (same_kind c.core told) j.1 j.2 (goes_on c.core told) (h.rules.bits c.lock) j.3, j.0)
 
   list_empty : (key : ℕ) → key ≡ key_of c k → s.lot.queues key ≡ []
   list_empty key e = ap s.lot.queues e ∙ empty

@@ -57,6 +57,6 @@ awake_listed s h t c here awake = go c.spot refl
         absurd (awake its.key its.token (ap (λ (x : Call). stance x.core) (same_call (sym here ∙ (ap (call_at s) (sym owed.4) ∙ its.here))) ∙ its.asleep))
 
 -- a call stays of its kind
-pub next_kind : (x : Core) (told : ActResult) (k : Option LockKind) → IsOfKind k x → IsOfKind k (core_next x told)
-next_kind (core.Rw c) told k h = h
-next_kind (core.Mutex c) told k h = h
+pub same_kind : (x : Core) (told : ActResult) (k : Option LockKind) → IsOfKind k x → IsOfKind k (core_next x told)
+same_kind (core.Rw c) told k h = h
+same_kind (core.Mutex c) told k h = h
