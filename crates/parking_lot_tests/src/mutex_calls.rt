@@ -1,6 +1,6 @@
 //! Calls at a mutex, told what they see.
 
-use crate::cores::follow_mutex;
+use crate::script::follow_mutex;
 use parking_lot_core::DEFAULT_PARK_TOKEN;
 use parking_lot_protocol::{
     Act, ActResult, CoreAnswer, HAND_OVER, MutexCore, SectionAct, TRY_AGAIN, WordChange,

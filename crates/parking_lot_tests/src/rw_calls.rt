@@ -1,6 +1,6 @@
 //! Calls at a reader-writer lock, told what they see.
 
-use crate::cores::follow_rw;
+use crate::script::follow_rw;
 use parking_lot_core::ParkToken;
 use parking_lot_protocol::{
     Act, ActResult, CoreAnswer, HAND_OVER, RwCore, SectionAct, TRY_AGAIN, WordChange,

@@ -1,6 +1,6 @@
 //! Waking sections of an exclusive release, by the tokens in the list: whom they take, and what they store.
 
-use crate::cores::follow_rw;
+use crate::script::follow_rw;
 use parking_lot_core::{FilterOp, ParkToken};
 use parking_lot_protocol::{Act, ActResult, RwCore, SectionAct, WordChange, wake_sum};
 use std::process::Abort;

@@ -15,6 +15,7 @@ pub struct Call {
     pub lock: usize,
     /// How many shared holds of the lock the thread has beside the one that the call is about.
     pub others: u8,
+    /// What it has asked for, and waits for.
     pub core: Core,
     /// Where it stands, while it sleeps.
     pub spot: QueuePosition,

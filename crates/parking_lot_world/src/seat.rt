@@ -12,29 +12,38 @@ use parking_lot_protocol::{
 /// What a thread owns of a lock between its calls: so many shared holds, or the exclusive one.
 #[derive(Clone, Copy, PartialEq, Eq, Debug)]
 pub enum Hold {
+    /// So many shared holds; with none it owns nothing.
     Shares(u8),
+    /// The exclusive hold.
     Excludes,
 }
 
 /// What one that took a sleeper off its list has told it: nothing yet, that it is to try again, or that it has the lock.
 #[derive(Clone, Copy, PartialEq, Eq, Debug)]
 pub enum WakeResult {
+    /// Nothing yet.
     Nothing,
+    /// That it is to try again.
     TryAgain,
+    /// That it has the lock.
     HandedOver,
 }
 
 /// Where a thread that sleeps stands: in its list, or off it, taken by another.
 #[derive(Clone, Copy, PartialEq, Eq, Debug)]
 pub enum QueuePosition {
+    /// In its list.
     Listed,
+    /// Off it: who took it, and what that thread has told it.
     Off(usize, WakeResult),
 }
 
 /// The core of a call, by the kind of its lock.
 #[derive(Clone, Copy)]
 pub enum Core {
+    /// At a mutex.
     Mutex(MutexCore),
+    /// At a reader-writer lock.
     Rw(RwCore),
 }
 
@@ -43,6 +52,7 @@ pub enum Core {
 pub struct Wakeup {
     /// Who is to wake it.
     pub by: usize,
+    /// The thread.
     pub thread: usize,
     /// The mark of the sleep that it was taken out of.
     pub mark: u64,
