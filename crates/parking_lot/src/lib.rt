@@ -23,13 +23,9 @@ pub use names::{
     Mutex, MutexGuard, ReentrantMutex, ReentrantMutexGuard, RwLock, RwLockReadGuard,
     RwLockWriteGuard,
 };
-pub use parking_lot_locks::laws::{
-    one_exchange_locks, one_exchange_reads, one_exchange_stops_writing, one_exchange_unlocks,
-    one_exchange_writes, one_sum_downgrades, one_sum_stops_reading,
-};
 pub use parking_lot_locks::{
-    Act, CoreAnswer, LockTable, MutexCore, RawMutex, RawRwLock, RawThreadId, Row, RwCore,
-    SectionAct, Seen, WordChange, wake_sum,
+    Act, ActResult, CoreAnswer, LockTable, MutexCore, RawMutex, RawRwLock, RawThreadId, Row,
+    RwCore, SectionAct, WordChange, laws, wake_sum,
 };
 pub use parking_lot_world::{
     LockAnswer, LockCall, LockKind, OwnMode, World, WorldFault, WorldRefusal, WorldStep,

@@ -10,7 +10,7 @@
 
 pub mod deadlock;
 mod fault;
-mod laws;
+pub mod laws;
 mod lists;
 mod lot;
 mod operations;
@@ -28,9 +28,6 @@ mod thread_parker;
 mod word_lock;
 
 pub use fault::{LotFault, SizeFault};
-pub use laws::{
-    every_run_is_sound, park_is_its_steps, unpark_filter_is_its_steps, unpark_one_is_its_steps,
-};
 pub use lot::Lot;
 pub use parking::{
     DEFAULT_PARK_TOKEN, DEFAULT_UNPARK_TOKEN, FilterOp, ParkResult, ParkToken, RequeueOp,

@@ -1,18 +1,18 @@
 -- A run of a decision core: what it was told, one after another.
 use Rattle.std.specs.Prelude.{ℕ, ◌/◌, ◌&&◌, nat_lt, Bool, false, List, [], ◌∷◌}
-use Rattle.parking_lot_cores.specs.declared.act.Act.{Act}
-use Rattle.parking_lot_cores.specs.declared.act.Act.TheVariants.{Exchange}
-use Rattle.parking_lot_cores.specs.declared.act.Seen.{Seen}
-use Rattle.parking_lot_cores.specs.declared.act.Seen.TheVariants.{Start}
-use Rattle.parking_lot_cores.specs.Acts.{Gives}
+use Rattle.parking_lot_protocol.specs.declared.act.Act.{Act}
+use Rattle.parking_lot_protocol.specs.declared.act.Act.TheVariants.{Exchange}
+use Rattle.parking_lot_protocol.specs.declared.act.ActResult.{ActResult}
+use Rattle.parking_lot_protocol.specs.declared.act.ActResult.TheVariants.{Start}
+use Rattle.parking_lot_protocol.specs.Acts.{Gives}
 
 -- What a core is once its call has begun and it was told all this, the last of it first.
-abbrev pub told_all : {C : Type 0} → (C → Seen → C) → C → List Seen → C
+abbrev pub told_all : {C : Type 0} → (C → ActResult → C) → C → List ActResult → C
 told_all next core [] = next core Start
 told_all next core (seen ∷ before) = next (told_all next core before) seen
 
 -- Each of these is what the act that the core had asked for can give at some word.
-abbrev pub IsRun : {C : Type 0} → (C → Seen → C) → (C → Act) → C → List Seen → Type 0
+abbrev pub IsRun : {C : Type 0} → (C → ActResult → C) → (C → Act) → C → List ActResult → Type 0
 IsRun next asks core [] = Unit {0}
 IsRun next asks core (seen ∷ before) = ((word : ℕ) × Gives (asks (told_all next core before)) word seen) × IsRun next asks core before
 

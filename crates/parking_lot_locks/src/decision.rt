@@ -1,16 +1,16 @@
 //! What a decision core offers to whoever runs it.
 ghost use Rattle.std.specs.Prelude.{◌≡◌};
 ghost use Rattle.parking_lot_core.specs.declared.parking.UnparkToken.{UnparkToken};
-ghost use Rattle.parking_lot_cores.specs.declared.act.Act.{Act};
-ghost use Rattle.parking_lot_cores.specs.declared.act.Seen.{Seen};
+ghost use Rattle.parking_lot_protocol.specs.declared.act.Act.{Act};
+ghost use Rattle.parking_lot_protocol.specs.declared.act.ActResult.{ActResult};
 
 use parking_lot_core::UnparkToken;
-use parking_lot_cores::{Act, MutexCore, RwCore, Seen};
+use parking_lot_protocol::{Act, ActResult, MutexCore, RwCore};
 
 /// One call of a lock as plain data: it is told what its last act gave, and answers the next one.
 pub(crate) trait DecisionCore: Copy {
     /// What it is once it was told so much more.
-    ghost told: { Self → Seen → Self };
+    ghost told: { Self → ActResult → Self };
 
     /// The act that it has asked for.
     ghost asks: { Self → Act };
@@ -19,7 +19,7 @@ pub(crate) trait DecisionCore: Copy {
     ghost wakes: { Self → UnparkToken };
 
     /// Is told what the last act gave, and answers the next.
-    fn next(&mut self, seen: Seen) -> Act
+    fn next(&mut self, seen: ActResult) -> Act
         ensures core { self.new ≡ told self.old seen }
         ensures act { result ≡ asks self.new };
 
@@ -29,7 +29,7 @@ pub(crate) trait DecisionCore: Copy {
 }
 
 impl DecisionCore for MutexCore {
-    ghost use Rattle.parking_lot_cores.specs.MutexTable.{act_of, next_phase, wakes_with};
+    ghost use Rattle.parking_lot_protocol.specs.MutexTable.{act_of, next_phase, wakes_with};
 
     ghost told = { λ core seen. record core { phase = next_phase core.phase seen } };
 
@@ -37,7 +37,7 @@ impl DecisionCore for MutexCore {
 
     ghost wakes = { λ core. wakes_with core.phase };
 
-    fn next(&mut self, seen: Seen) -> Act {
+    fn next(&mut self, seen: ActResult) -> Act {
         MutexCore::next(self, seen)
     }
 
@@ -47,7 +47,7 @@ impl DecisionCore for MutexCore {
 }
 
 impl DecisionCore for RwCore {
-    ghost use Rattle.parking_lot_cores.specs.RwTable.{act_of, next_phase, wakes_with};
+    ghost use Rattle.parking_lot_protocol.specs.RwTable.{act_of, next_phase, wakes_with};
 
     ghost told = { λ core seen. record core { phase = next_phase core.phase seen } };
 
@@ -55,7 +55,7 @@ impl DecisionCore for RwCore {
 
     ghost wakes = { λ core. wakes_with core.phase };
 
-    fn next(&mut self, seen: Seen) -> Act {
+    fn next(&mut self, seen: ActResult) -> Act {
         RwCore::next(self, seen)
     }
 

@@ -1,7 +1,7 @@
 //! Laws of the uncontended ways: each is a way of the core, told what the one exchange saw.
 ghost use Rattle.std.specs.Prelude.{◌≡◌, ◌≢◌, ◌<◌, ◌+◌, ◌*◌, ◌/◌, ◌%◌, ◌^◌, true};
 
-use parking_lot_cores::{Act, CoreAnswer, MutexCore, RwCore, Seen};
+use parking_lot_protocol::{Act, ActResult, CoreAnswer, MutexCore, RwCore};
 
 /// The exchange from 0 to 1 is the way of a call that locks a free mutex: it is what the core asks for at 0, and once it is won
 /// the mutex is owned.
@@ -9,9 +9,9 @@ pub fn one_exchange_locks() -> bool
     ensures { result ≡ true }
 {
     let mut core = MutexCore::lock();
-    core.next(Seen::Start) == Act::Load
-        && core.next(Seen::Word(0)) == Act::Exchange(0, 1)
-        && core.next(Seen::Exchanged) == Act::Done(CoreAnswer::Owned)
+    core.next(ActResult::Start) == Act::Load
+        && core.next(ActResult::Word(0)) == Act::Exchange(0, 1)
+        && core.next(ActResult::Exchanged) == Act::Done(CoreAnswer::Owned)
 }
 
 /// The exchange from 1 to 0 is the way of a call that unlocks a mutex for which nobody waits, fairly or not.
@@ -23,8 +23,8 @@ pub fn one_exchange_unlocks(fair: bool) -> bool
     } else {
         MutexCore::unlock()
     };
-    core.next(Seen::Start) == Act::Exchange(1, 0)
-        && core.next(Seen::Exchanged) == Act::Done(CoreAnswer::Released)
+    core.next(ActResult::Start) == Act::Exchange(1, 0)
+        && core.next(ActResult::Exchanged) == Act::Done(CoreAnswer::Released)
 }
 
 /// Where no writer owns the lock or waits for readers to leave, and one reader more can be counted, adding 16 to the word is the
@@ -35,9 +35,9 @@ pub fn one_exchange_reads(recursive: bool, word: u64) -> bool
     ensures { result ≡ true }
 {
     let mut core = RwCore::lock_shared(recursive);
-    core.next(Seen::Start) == Act::Load
-        && core.next(Seen::Word(word)) == Act::Exchange(word, word.wrapping_add(16))
-        && core.next(Seen::Exchanged) == Act::Done(CoreAnswer::Owned)
+    core.next(ActResult::Start) == Act::Load
+        && core.next(ActResult::Word(word)) == Act::Exchange(word, word.wrapping_add(16))
+        && core.next(ActResult::Exchanged) == Act::Done(CoreAnswer::Owned)
 }
 
 /// Taking 16 off the word is the way of a call that stops reading, where no writer may sleep until the readers have left.
@@ -46,8 +46,8 @@ pub fn one_sum_stops_reading(word: u64) -> bool
     ensures { result ≡ true }
 {
     let mut core = RwCore::unlock_shared();
-    core.next(Seen::Start) == Act::Add(16u64.wrapping_neg())
-        && core.next(Seen::Before(word)) == Act::Done(CoreAnswer::Released)
+    core.next(ActResult::Start) == Act::Add(16u64.wrapping_neg())
+        && core.next(ActResult::Before(word)) == Act::Done(CoreAnswer::Released)
 }
 
 /// The exchange from 0 to 8 is the way of a call that writes: the core looks once more for readers, and since the exchange there
@@ -57,10 +57,10 @@ pub fn one_exchange_writes(word: u64) -> bool
     ensures { result ≡ true }
 {
     let mut core = RwCore::lock_exclusive();
-    core.next(Seen::Start) == Act::Load
-        && core.next(Seen::Word(0)) == Act::Exchange(0, 8)
-        && core.next(Seen::Exchanged) == Act::Load
-        && core.next(Seen::Word(word)) == Act::Done(CoreAnswer::Owned)
+    core.next(ActResult::Start) == Act::Load
+        && core.next(ActResult::Word(0)) == Act::Exchange(0, 8)
+        && core.next(ActResult::Exchanged) == Act::Load
+        && core.next(ActResult::Word(word)) == Act::Done(CoreAnswer::Owned)
 }
 
 /// The exchange from 8 to 0 is the way of a call that stops writing, where nobody waits, fairly or not.
@@ -72,8 +72,8 @@ pub fn one_exchange_stops_writing(fair: bool) -> bool
     } else {
         RwCore::unlock_exclusive()
     };
-    core.next(Seen::Start) == Act::Exchange(8, 0)
-        && core.next(Seen::Exchanged) == Act::Done(CoreAnswer::Released)
+    core.next(ActResult::Start) == Act::Exchange(8, 0)
+        && core.next(ActResult::Exchanged) == Act::Done(CoreAnswer::Released)
 }
 
 /// Adding 8 to the word is the way of a writer that becomes a reader, where nobody may sleep that wants the lock.
@@ -82,6 +82,6 @@ pub fn one_sum_downgrades(word: u64) -> bool
     ensures { result ≡ true }
 {
     let mut core = RwCore::downgrade();
-    core.next(Seen::Start) == Act::Add(8)
-        && core.next(Seen::Before(word)) == Act::Done(CoreAnswer::Owned)
+    core.next(ActResult::Start) == Act::Add(8)
+        && core.next(ActResult::Before(word)) == Act::Done(CoreAnswer::Owned)
 }

@@ -25,8 +25,8 @@ mod table;
 mod thread_id;
 mod word;
 
-pub use parking_lot_cores::{
-    Act, CoreAnswer, MutexCore, RwCore, SectionAct, Seen, WordChange, wake_sum,
+pub use parking_lot_protocol::{
+    Act, ActResult, CoreAnswer, MutexCore, RwCore, SectionAct, WordChange, wake_sum,
 };
 pub use raw_mutex::RawMutex;
 pub use raw_rwlock::RawRwLock;

@@ -2,7 +2,7 @@
 
 use crate::decision::DecisionCore;
 use parking_lot_core::{FilterOp, ParkToken};
-use parking_lot_cores::{Act, SectionAct, Seen, wake_sum};
+use parking_lot_protocol::{Act, ActResult, SectionAct, wake_sum};
 
 /// A core that is shown one waiter after another. Of the last that it took it is told at the next one, or at the end: only
 /// then it is known whether others are left.
@@ -39,7 +39,7 @@ impl<C: DecisionCore> Looking<C> {
         if self.taken.is_some() {
             let token = self.taken;
             self.taken = None;
-            self.act = self.core.next(Seen::Took { token, left });
+            self.act = self.core.next(ActResult::Took { token, left });
         }
     }
 
@@ -47,7 +47,7 @@ impl<C: DecisionCore> Looking<C> {
     pub fn ended(&mut self, left: bool) {
         self.told(left);
         if let Act::Section(SectionAct::TakeNext(_)) = self.act {
-            self.act = self.core.next(Seen::Took { token: None, left });
+            self.act = self.core.next(ActResult::Took { token: None, left });
         }
     }
 }

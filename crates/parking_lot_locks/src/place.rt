@@ -1,12 +1,12 @@
 //! The row that a call runs on.
 ghost use Rattle.std.specs.Prelude.{◌≡◌, ℕ, IfSome};
 ghost use Rattle.parking_lot_locks.specs.Runs.{passes};
-ghost use Rattle.parking_lot_cores.specs.Acts.{Gives};
-ghost use Rattle.parking_lot_cores.specs.declared.act.Act.TheVariants.{Exchange};
+ghost use Rattle.parking_lot_protocol.specs.Acts.{Gives};
+ghost use Rattle.parking_lot_protocol.specs.declared.act.Act.TheVariants.{Exchange};
 
-use crate::word::READER;
 use crate::table::Row;
-use parking_lot_cores::{Act, Seen, WordChange};
+use crate::word::READER;
+use parking_lot_protocol::{Act, ActResult, WordChange};
 use std::alloc::Allocator;
 use std::sync::Wait;
 
@@ -38,30 +38,30 @@ impl<R, A: Allocator> Place<'_, '_, '_, R, A> {
     }
 
     /// Makes an act on the word, and tells what it gave. `None` where the act isn't one on the word.
-    pub fn at_the_word(&self, act: Act) -> Option<Seen>
+    pub fn at_the_word(&self, act: Act) -> Option<ActResult>
         ensures { IfSome result (λ seen. (word : ℕ) × Gives act word seen) }
     {
         match act {
-            Act::Load => Some(Seen::Word(self.row.load())),
+            Act::Load => Some(ActResult::Word(self.row.load())),
             Act::Exchange(from, to) => Some(self.exchange(from, to)),
-            Act::Add(by) => Some(Seen::Before(self.row.add(by))),
-            Act::Mask(keep) => Some(Seen::Before(self.row.mask(keep))),
+            Act::Add(by) => Some(ActResult::Before(self.row.add(by))),
+            Act::FetchAnd(keep) => Some(ActResult::Before(self.row.mask(keep))),
             Act::Spin | Act::Enter(_) | Act::Section(_) | Act::Sleep | Act::Done(_) => None,
         }
     }
 
     /// The same. The acts of a section that are left, and the wakes after it, have been made by the lot.
-    pub fn after(&self, act: Act) -> Seen {
-        self.at_the_word(act).unwrap_or(Seen::Made)
+    pub fn after(&self, act: Act) -> ActResult {
+        self.at_the_word(act).unwrap_or(ActResult::Made)
     }
 
     /// Exchanges the word, and tells which it was.
-    fn exchange(&self, from: u64, to: u64) -> Seen
+    fn exchange(&self, from: u64, to: u64) -> ActResult
         ensures { (word : ℕ) × Gives (Exchange from to) word result }
     {
         match self.row.exchange(from, to) {
-            Ok(()) => Seen::Exchanged,
-            Err(word) => Seen::Word(word),
+            Ok(()) => ActResult::Exchanged,
+            Err(word) => ActResult::Word(word),
         }
     }
 }

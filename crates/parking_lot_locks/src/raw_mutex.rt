@@ -5,7 +5,7 @@ use crate::place::Place;
 use crate::table::{LockTable, Row};
 use lock_api_raw::{GuardSend, RawMutex as _, RawMutexFair, TableFull};
 use parking_lot_core::ThreadData;
-use parking_lot_cores::{CoreAnswer, MutexCore, Seen};
+use parking_lot_protocol::{ActResult, CoreAnswer, MutexCore};
 use std::alloc::{Allocator, Global};
 use std::sync::Wait;
 
@@ -76,7 +76,7 @@ impl<'t, 'l, R: Wait, A: Allocator> RawMutex<'t, 'l, R, A> {
         } else {
             MutexCore::unlock()
         };
-        self.place().give_up(core, Seen::Word(word));
+        self.place().give_up(core, ActResult::Word(word));
     }
 }
 

@@ -3,12 +3,12 @@ ghost use Rattle.std.specs.Prelude.{◌≡◌, ◌+◌, ◌-◌, ◌*◌, ◌/�
 ghost use Rattle.lock_api_raw.specs.Limits.{kept_limit};
 
 use crate::place::Place;
+use crate::table::{LockTable, Row};
 use crate::word;
 use crate::word::{READER, WRITER};
-use crate::table::{LockTable, Row};
 use lock_api_raw::{GuardSend, RawRwLock as _, RawRwLockDowngrade, RawRwLockFair, TableFull};
 use parking_lot_core::{ThreadData, thread_yield};
-use parking_lot_cores::{CoreAnswer, RwCore, Seen};
+use parking_lot_protocol::{ActResult, CoreAnswer, RwCore};
 use std::alloc::{Allocator, Global};
 use std::sync::Wait;
 
@@ -114,7 +114,7 @@ impl<'t, 'l, R: Wait, const RECURSIVE: u8, A: Allocator> RawRwLock<'t, 'l, R, RE
     #[inline(never)]
     fn unread_slowly(&self, word: u64) {
         self.place()
-            .give_up(RwCore::unlock_shared(), Seen::Before(word));
+            .give_up(RwCore::unlock_shared(), ActResult::Before(word));
     }
 
     /// Gives the exclusive hold up at this word, where threads may sleep.
@@ -126,7 +126,7 @@ impl<'t, 'l, R: Wait, const RECURSIVE: u8, A: Allocator> RawRwLock<'t, 'l, R, RE
         } else {
             RwCore::unlock_exclusive()
         };
-        self.place().give_up(core, Seen::Word(word));
+        self.place().give_up(core, ActResult::Word(word));
     }
 
     /// The exclusive hold has become a shared one at this word, where threads may sleep: the core says whom to wake.
@@ -134,7 +134,7 @@ impl<'t, 'l, R: Wait, const RECURSIVE: u8, A: Allocator> RawRwLock<'t, 'l, R, RE
     #[inline(never)]
     fn downgrade_slowly(&self, word: u64) {
         self.place()
-            .give_up(RwCore::downgrade(), Seen::Before(word));
+            .give_up(RwCore::downgrade(), ActResult::Before(word));
     }
 }
 

@@ -8,7 +8,7 @@ use parking_lot_core::{
     DEFAULT_PARK_TOKEN, ParkResult, ParkToken, ThreadData, UnparkToken, park, thread_yield,
     unpark_filter, unpark_one,
 };
-use parking_lot_cores::{Act, SectionAct, Seen};
+use parking_lot_protocol::{Act, ActResult, SectionAct};
 use std::alloc::Allocator;
 use std::cell::Cell;
 use std::sync::Wait;
@@ -17,7 +17,7 @@ use std::time::Instant;
 impl<R: Wait, A: Allocator> Place<'_, '_, '_, R, A> {
     /// Goes through the section that the core enters, and sleeps if it is to. Answers what the core asks for then.
     pub fn enter<C: DecisionCore>(&self, core: &mut C, key: u8, party: &mut ThreadData<A>) -> Act {
-        match core.next(Seen::Entered) {
+        match core.next(ActResult::Entered) {
             Act::Section(SectionAct::Check) => self.sleep(core, self.key(key), party),
             act => self.wake(core, self.key(key), act),
         }
@@ -35,9 +35,9 @@ impl<R: Wait, A: Allocator> Place<'_, '_, '_, R, A> {
     fn sleep<C: DecisionCore>(&self, core: &mut C, key: usize, party: &mut ThreadData<A>) -> Act {
         let word = self.row.load();
         let mut ahead = *core;
-        match ahead.next(Seen::Word(word)) {
+        match ahead.next(ActResult::Word(word)) {
             Act::Section(SectionAct::Append(token)) => self.park(core, key, party, token),
-            _ => core.next(Seen::Word(word)),
+            _ => core.next(ActResult::Word(word)),
         }
     }
 
@@ -53,7 +53,7 @@ impl<R: Wait, A: Allocator> Place<'_, '_, '_, R, A> {
         let lot = self.row.lot();
         if !lot.same_lot(party) {
             thread_yield();
-            return core.next(Seen::Word(0));
+            return core.next(ActResult::Word(0));
         }
         let checks = Cell::new(*core);
         let ended = park(
@@ -62,7 +62,7 @@ impl<R: Wait, A: Allocator> Place<'_, '_, '_, R, A> {
             key,
             || {
                 let mut now = checks.get();
-                let act = now.next(Seen::Word(self.row.load()));
+                let act = now.next(ActResult::Word(self.row.load()));
                 checks.set(now);
                 matches!(act, Act::Section(SectionAct::Append(_)))
             },
@@ -74,7 +74,7 @@ impl<R: Wait, A: Allocator> Place<'_, '_, '_, R, A> {
         *core = checks.get();
         match ended {
             ParkResult::Unparked(token) => woken(core, token),
-            ParkResult::Invalid | ParkResult::TimedOut => core.next(Seen::Made),
+            ParkResult::Invalid | ParkResult::TimedOut => core.next(ActResult::Made),
         }
     }
 }
@@ -90,7 +90,7 @@ impl<R: Wait, A: Allocator> Place<'_, '_, '_, R, A> {
             } else {
                 None
             };
-            let act = now.next(Seen::Took {
+            let act = now.next(ActResult::Took {
                 token,
                 left: done.have_more_threads,
             });
@@ -137,7 +137,7 @@ impl<R: Wait, A: Allocator> Place<'_, '_, '_, R, A> {
         match act {
             Act::Section(SectionAct::Store { plain, fair }) => {
                 self.change(if be_fair { fair } else { plain });
-                core.next(Seen::Stored { fair: be_fair })
+                core.next(ActResult::Stored { fair: be_fair })
             }
             act => core.next(self.after(act)),
         }
@@ -146,7 +146,7 @@ impl<R: Wait, A: Allocator> Place<'_, '_, '_, R, A> {
 
 /// Tells the core that it has joined the list, has left the section, and was woken with that token.
 fn woken<C: DecisionCore>(core: &mut C, token: UnparkToken) -> Act {
-    core.next(Seen::Made);
-    core.next(Seen::Made);
-    core.next(Seen::Woken(token))
+    core.next(ActResult::Made);
+    core.next(ActResult::Made);
+    core.next(ActResult::Woken(token))
 }

@@ -10,8 +10,8 @@ use Rattle.parking_lot_rules.specs.Family.{First, Second, Crossing, Goes, crossi
 use Rattle.parking_lot_rules.specs.Plain.{Plain, Begin, Refuse, Share, Pend, Drain, Upgradably, Exclude, Flag1, Enter1, Check1, Retreat1, Rest1, Expire1, ExpireTaken1, Reenter1, ReenterTaken1, Mask1, Leave1, Resume1, ReceiveShared, ReceivePending, ReceiveUpgradable, Flag2, Enter2, Check2, Retreat2, Rest2, Expire2, ExpireTaken2, Reenter2, ReenterTaken2, Resume2, Leave2, Yield, YieldBack, Unshare, UnshareLast, Look2, Mask2, Depart2, Unlock, UnlockUpgradable, LookExclusive, LookUpgradable, Downgrade, DowngradeToUpgradable, DowngradeUpgradable, Upgrade, UpgradeAtOnce, LookOwed, Depart1, Finish, bars, from, to, May, written}
 use Rattle.parking_lot_rules.specs.Steps.{Step, Alone, List_changes, Take1, Take2, Store, Wake, Pass, Allowed, after, Join1, Join2, Quit1, QuitLast1, Quit2, listing_from, listing_to, scanning, taking, ends_saying, settle, told, Waking, Retry, Own, OwnPending, OwnUpgradable, Recheck, waking_from, waking_to}
 use Rattle.parking_lot_rules.specs.Ranks.{where_some, to_come, is_deadline}
-use Rattle.parking_lot_rules.specs.Sights.{Sight, Blind, Sees, is_stale, looks_left}
-use Rattle.parking_lot_rules.specs.Aims.{Aim, Watches, Enters, Knowledge, New, Old, Set, knowledge, by, asks, drains, checks1, checks2, View, near, near_rank, looking, looks_of, most_looks, far_steps, near_steps, GoesBy}
+use Rattle.parking_lot_rules.specs.Sights.{WordKnowledge, Blind, Sees, is_stale, looks_left}
+use Rattle.parking_lot_rules.specs.Aims.{CallGoal, Watches, Enters, Knowledge, New, Old, Set, knowledge, by, asks, drains, checks1, checks2, View, near, near_rank, looking, looks_of, most_looks, far_steps, near_steps, GoesBy}
 use Rattle.parking_lot_rules.specs.Agenda.{IsWoken}
 use Rattle.parking_lot_rules.proofs.Indexed.{get-set_other, get-set_cases}
 use Rattle.parking_lot_rules.proofs.Sounds.{waking_apart}
@@ -149,7 +149,7 @@ module _ (recursive : Bool) (n : ℕ) (v : View) (all : Class → ℕ) (few1 : v
   plain_turns how (Finish o) busy may now knows clear = omega arith
 
 -- what a thread knows that has seen the word
-pub known_new : (s : Sight) → is_stale s ≡ false → knowledge (Watches s) ≡ New
+pub known_new : (s : WordKnowledge) → is_stale s ≡ false → knowledge (Watches s) ≡ New
 known_new (Blind k) e = refl
 known_new (Sees true k) e = absurd cc
 known_new (Sees false k) e = refl
@@ -159,12 +159,12 @@ near_new n v (Seeks m c) = refl
 near_new n v (Drains f c) = refl
 near_new n v p = refl
 
-pub sight_few : (s : Sight) → looks_left s ≤ 21
+pub sight_few : (s : WordKnowledge) → looks_left s ≤ 21
 sight_few (Blind k) = omega arith
 sight_few (Sees true k) = omega arith
 sight_few (Sees false k) = omega arith
 
-pub looks_few : (a : Aim) → (looks_of a ≤ most_looks a) × (most_looks a ≤ 21)
+pub looks_few : (a : CallGoal) → (looks_of a ≤ most_looks a) × (most_looks a ≤ 21)
 looks_few (Watches s) = (sight_few s, omega arith)
 looks_few Enters = (omega arith, omega arith)
 
@@ -193,23 +193,23 @@ extra (Wake o v us k stay) u = if u == v then 373 else 0
 extra step u = 0
 
 -- what one is told changes nothing
-told_far : (n : ℕ) (aim : Aim) (h : Mark) (p : Phase) → far_steps n aim (told h p) ≡ far_steps n aim p
+told_far : (n : ℕ) (aim : CallGoal) (h : Mark) (p : Phase) → far_steps n aim (told h p) ≡ far_steps n aim p
 told_far n aim h (Taken1 m i Open s) = refl
 told_far n aim h p = refl
 
-taken_far1 : (n t : ℕ) (aim : Aim) (m : Mode) (stay : Stay) → far_steps n aim (Taken1 m t Open stay) ≤ far_steps n aim (Queued1 m stay)
+taken_far1 : (n t : ℕ) (aim : CallGoal) (m : Mode) (stay : Stay) → far_steps n aim (Taken1 m t Open stay) ≤ far_steps n aim (Queued1 m stay)
 taken_far1 n t aim m Fresh = omega arith
 taken_far1 n t aim m Asleep = omega arith
 taken_far1 n t aim m Late = omega arith
 taken_far1 n t aim m Back = omega arith
 
-taken_far2 : (n t : ℕ) (aim : Aim) (f : Bool) (stay : Stay) → far_steps n aim (Taken2 f t stay) ≤ far_steps n aim (Queued2 f stay)
+taken_far2 : (n t : ℕ) (aim : CallGoal) (f : Bool) (stay : Stay) → far_steps n aim (Taken2 f t stay) ≤ far_steps n aim (Queued2 f stay)
 taken_far2 n t aim f Fresh = omega arith
 taken_far2 n t aim f Asleep = omega arith
 taken_far2 n t aim f Late = omega arith
 taken_far2 n t aim f Back = omega arith
 
-woken_far : (n : ℕ) (aim : Aim) (k : Waking) → far_steps n aim (waking_to k).does ≤ 373
+woken_far : (n : ℕ) (aim : CallGoal) (k : Waking) → far_steps n aim (waking_to k).does ≤ 373
 woken_far n aim (Retry m) = omega (arith, to_come_few m, by_few (knowledge aim) (8 + to_come m) (8 + to_come m) (7 + to_come m) (8 + to_come m) (omega arith) (omega arith) (omega arith), looks_few aim)
 woken_far n aim Own = omega arith
 woken_far n aim OwnPending = omega (arith, by_few (knowledge aim) 8 8 7 8 (omega arith) (omega arith) (omega arith), looks_few aim)
@@ -239,7 +239,7 @@ module _ (recursive : Bool) (t : ℕ) (l : Lock) (sound : IsSound l) (other1 oth
   step_turns how (Pass o v us) may busy now knows clear = omega arith
 
   -- all steps of the stepped thread, and what it pays for another
-  pub own_falls : (aim : Aim) (sight : Sight) (step : Step) → is_stale sight ≡ false → Allowed recursive t step l → phase_before recursive t l sound step ≢ Idle → is_deadline step ≡ false
+  pub own_falls : (aim : CallGoal) (sight : WordKnowledge) (step : Step) → is_stale sight ≡ false → Allowed recursive t step l → phase_before recursive t l sound step ≢ Idle → is_deadline step ≡ false
       → GoesBy (knowledge aim) step l.word → IsClear (crossing step) (view l)
       → near_steps (length l.roles) (view (after t step l)) (Watches sight) (phase_after recursive t l sound step) + paid step + 1 ≤ near_steps (length l.roles) (view l) aim (phase_before recursive t l sound step)
   own_falls aim sight step sees may busy now knows clear = go step may busy now knows clear
@@ -268,20 +268,20 @@ module _ (recursive : Bool) (t : ℕ) (l : Lock) (sound : IsSound l) (other1 oth
       go (Pass o v us) may busy now knows clear = ordinary (Pass o v us) refl refl may busy now knows clear
 
   -- another thread had a role before, and no fewer steps, but for a wake
-  abbrev pub WasNoLess : Step → ℕ → Role → Aim → Aim → Type 0
+  abbrev pub WasNoLess : Step → ℕ → Role → CallGoal → CallGoal → Type 0
   WasNoLess step u r new_aim aim = (q : Role) × (slice_get l.roles u ≡ Some q) × (far_steps (length l.roles) new_aim r.does ≤ far_steps (length l.roles) aim q.does + extra step u)
 
-  same_role : (step : Step) (u : ℕ) (r : Role) (new_aim aim : Aim) → slice_get l.roles u ≡ Some r → (new_aim ≡ aim) ⊎ ⊥ → WasNoLess step u r new_aim aim
+  same_role : (step : Step) (u : ℕ) (r : Role) (new_aim aim : CallGoal) → slice_get l.roles u ≡ Some r → (new_aim ≡ aim) ⊎ ⊥ → WasNoLess step u r new_aim aim
   same_role step u r new_aim aim at (inl e) = (r, at, omega (arith, ap (λ a. far_steps (length l.roles) a r.does) e))
   same_role step u r new_aim aim at (inr never) = absurd never
 
-  one_set : (step : Step) (u : ℕ) (a b r : Role) (new_aim aim : Aim) → slice_get l.roles t ≡ Some a → u ≢ t → slice_get (slice_set l.roles t b) u ≡ Some r → (new_aim ≡ aim) ⊎ ⊥ → WasNoLess step u r new_aim aim
+  one_set : (step : Step) (u : ℕ) (a b r : Role) (new_aim aim : CallGoal) → slice_get l.roles t ≡ Some a → u ≢ t → slice_get (slice_set l.roles t b) u ≡ Some r → (new_aim ≡ aim) ⊎ ⊥ → WasNoLess step u r new_aim aim
   one_set step u a b r new_aim aim at ne there aims = ⊎_elim
       (λ x. absurd (ne x.0))
       (λ x. same_role step u r new_aim aim x.1 aims)
       (get-set_cases l.roles t u a r b at there)
 
-  two_set : (step : Step) (u v : ℕ) (a b x y r : Role) (new_aim aim : Aim) → slice_get l.roles t ≡ Some a → slice_get l.roles v ≡ Some x → t ≢ v → u ≢ t
+  two_set : (step : Step) (u v : ℕ) (a b x y r : Role) (new_aim aim : CallGoal) → slice_get l.roles t ≡ Some a → slice_get l.roles v ≡ Some x → t ≢ v → u ≢ t
       → (far_steps (length l.roles) aim y.does ≤ far_steps (length l.roles) aim x.does) → slice_get (slice_set (slice_set l.roles t b) v y) u ≡ Some r → (new_aim ≡ aim) ⊎ ⊥ → WasNoLess step u r new_aim aim
   two_set step u v a b x y r new_aim aim at other differ ne less there (inr never) = absurd never
   two_set step u v a b x y r new_aim aim at other differ ne less there (inl e) = ⊎_elim
@@ -293,7 +293,7 @@ module _ (recursive : Bool) (t : ℕ) (l : Lock) (sound : IsSound l) (other1 oth
       (λ z. one_set step u a b r new_aim aim at ne z.1 (inl e))
       (get-set_cases (slice_set l.roles t b) v u x r y (get-set_other l.roles t v b differ ∙ other) there)
 
-  pub others_turn : (step : Step) → Allowed recursive t step l → (u : ℕ) → u ≢ t → (r : Role) → slice_get (after t step l).roles u ≡ Some r → (new_aim aim : Aim) → (new_aim ≡ aim) ⊎ IsWoken step u → WasNoLess step u r new_aim aim
+  pub others_turn : (step : Step) → Allowed recursive t step l → (u : ℕ) → u ≢ t → (r : Role) → slice_get (after t step l).roles u ≡ Some r → (new_aim aim : CallGoal) → (new_aim ≡ aim) ⊎ IsWoken step u → WasNoLess step u r new_aim aim
   others_turn (Alone k) may u ne r there new_aim aim aims = one_set (Alone k) u (from k) (to k) r new_aim aim may.0 ne there aims
   others_turn (List_changes k) may u ne r there new_aim aim aims = one_set (List_changes k) u (listing_from k) (listing_to k) r new_aim aim may.0 ne there aims
   others_turn (Take1 s i v m stay) may u ne r there new_aim aim aims =

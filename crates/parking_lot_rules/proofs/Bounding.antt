@@ -9,8 +9,8 @@ use Rattle.parking_lot_rules.specs.Lock.{Lock, IsSound}
 use Rattle.parking_lot_rules.specs.World.{Place, seen, role_at, lock_at}
 use Rattle.parking_lot_rules.specs.Runs.{IsReached}
 use Rattle.parking_lot_rules.specs.Ranks.{to_come, by_stay}
-use Rattle.parking_lot_rules.specs.Aims.{Aim, Knowledge, knowledge, far_rank, most_looks, far_steps}
-use Rattle.parking_lot_rules.specs.Agenda.{Call, Acquire, Release, Weaken, Strengthen, first_rank, cost, Stage, Rests, Begins, Works, Scene, phase_of, phase, threads, stage_steps, far, sum_to, share}
+use Rattle.parking_lot_rules.specs.Aims.{CallGoal, Knowledge, knowledge, far_rank, most_looks, far_steps}
+use Rattle.parking_lot_rules.specs.Agenda.{Call, Acquire, Release, Weaken, Strengthen, first_rank, cost, CallProgress, Rests, Begins, Works, ProgressState, phase_of, phase, threads, stage_steps, far, sum_to, share}
 use Rattle.parking_lot_rules.specs.Drains.{most_of_a_call, underway, unanswered, StepsAreFew, AnyMayBeStepped, IsShort, VisitsAreShort}
 use Rattle.parking_lot_rules.proofs.Running.{reached_sound}
 use Rattle.parking_lot_rules.proofs.Ranking.{to_come_few}
@@ -74,14 +74,14 @@ calls_few n [] some = omega arith
 calls_few n (job ∷ jobs) some = omega (arith, cost_few n job some, calls_few n jobs some, sum_by-cons (cost n) job jobs, times_suc (most_of_a_call n) (length jobs))
 
 -- of one thread
-steps_few : (n : ℕ) (aim : Aim) (p : Phase) (stage : Stage) → 1 ≤ n → IsCounted n p → ScansFew n p → (p ≡ Idle) ⊎ (stage ≡ Works) → far_steps n aim p + stage_steps n (most_looks aim) stage ≤ most_of_a_call n * underway stage
+steps_few : (n : ℕ) (aim : CallGoal) (p : Phase) (stage : CallProgress) → 1 ≤ n → IsCounted n p → ScansFew n p → (p ≡ Idle) ⊎ (stage ≡ Works) → far_steps n aim p + stage_steps n (most_looks aim) stage ≤ most_of_a_call n * underway stage
 steps_few n aim p Rests some counted few (inl e) = omega (arith, ap (far_steps n aim) e)
 steps_few n aim p (Begins job) some counted few (inl e) = omega (arith, ap (far_steps n aim) e, first_few n job.1 some, looks_few aim)
 steps_few n aim p Works some counted few proper = omega (arith, rank_few n p (knowledge aim) some counted few, looking_few p (most_looks aim), looks_few aim)
 steps_few n aim p Rests some counted few (inr e) = absurd cc
 steps_few n aim p (Begins job) some counted few (inr e) = absurd cc
 
-module _ (bucket : ℕ → ℕ) (recursive : ℕ → Bool) (s : Scene) (reached : IsReached bucket recursive s.world) where
+module _ (bucket : ℕ → ℕ) (recursive : ℕ → Bool) (s : ProgressState) (reached : IsReached bucket recursive s.world) where
   phase_counted : (u : ℕ) → IsCounted (threads s) (phase s u) × ScansFew (threads s) (phase s u)
   phase_counted u = go (slice_get s.world.places u) refl
     where

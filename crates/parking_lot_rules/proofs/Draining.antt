@@ -10,8 +10,8 @@ use Rattle.parking_lot_rules.specs.Steps.{Step, Alone, List_changes, Take1, Take
 use Rattle.parking_lot_rules.specs.World.{World, change, with_role, world_after, MayStep}
 use Rattle.parking_lot_rules.specs.Runs.{Move, moved, Runs, at_rest, IsReached}
 use Rattle.parking_lot_rules.specs.Ranks.{is_deadline}
-use Rattle.parking_lot_rules.specs.Aims.{Aim, View, looks_of, most_looks, far_steps, near_steps}
-use Rattle.parking_lot_rules.specs.Agenda.{cost, Scene, phase_of, lock_of, phase, lock, threads, other_in, view_at, stage_steps, far, near_of, sum_to, share, all_steps, Turn, Look, Start, First_step, Next_step, Refusal, Answer, Turned}
+use Rattle.parking_lot_rules.specs.Aims.{CallGoal, View, looks_of, most_looks, far_steps, near_steps}
+use Rattle.parking_lot_rules.specs.Agenda.{cost, ProgressState, phase_of, lock_of, phase, lock, threads, other_in, view_at, stage_steps, far, near_of, sum_to, share, all_steps, ScheduledStep, Look, Start, First_step, Next_step, Refusal, Answer, Turned}
 use Rattle.parking_lot_rules.specs.Drains.{most_of_a_deadline, DeadlinesAddFew, Takes, Hands_on, Passes, deadlines, TurnsAreFew, RunsAreShort}
 use Rattle.parking_lot_rules.proofs.Families.{put-same, put-other}
 use Rattle.parking_lot_rules.proofs.Running.{reached_sound}
@@ -36,14 +36,14 @@ late_stays (Expire2 f) e = refl
 late_stays (ExpireTaken2 f i) e = refl
 late_stays k e = absurd cc
 
-late_near : (n : ℕ) (v : View) (aim : Aim) (k : Plain) → 1 ≤ n → is_deadline (Alone k) ≡ true → near_steps n v aim (to k).does ≤ most_of_a_deadline n
+late_near : (n : ℕ) (v : View) (aim : CallGoal) (k : Plain) → 1 ≤ n → is_deadline (Alone k) ≡ true → near_steps n v aim (to k).does ≤ most_of_a_deadline n
 late_near n v aim (Expire1 m) some e = omega (arith, some, to_come_few m)
 late_near n v aim (ExpireTaken1 m i mark) some e = omega (arith, some, to_come_few m)
 late_near n v aim (Expire2 f) some e = omega arith
 late_near n v aim (ExpireTaken2 f i) some e = omega arith
 late_near n v aim k some e = absurd cc
 
-late_far : (n : ℕ) (aim : Aim) (k : Plain) → 1 ≤ n → is_deadline (Alone k) ≡ true → far_steps n aim (to k).does ≤ most_of_a_deadline n
+late_far : (n : ℕ) (aim : CallGoal) (k : Plain) → 1 ≤ n → is_deadline (Alone k) ≡ true → far_steps n aim (to k).does ≤ most_of_a_deadline n
 late_far n aim (Expire1 m) some e = omega (arith, some, to_come_few m)
 late_far n aim (ExpireTaken1 m i mark) some e = omega (arith, some, to_come_few m)
 late_far n aim (Expire2 f) some e = omega arith
@@ -69,11 +69,11 @@ put-self f j x same i = ⊎_elim
     (cases_eq i j)
 
 -- the deadline of thread u passes, which sleeps at lock j
-module _ (bucket : ℕ → ℕ) (recursive : ℕ → Bool) (u j : ℕ) (k : Plain) (old : Scene) (reached : IsReached bucket recursive old.world) (may : MayStep bucket recursive j u (Alone k) old.world) (late : is_deadline (Alone k) ≡ true) where
+module _ (bucket : ℕ → ℕ) (recursive : ℕ → Bool) (u j : ℕ) (k : Plain) (old : ProgressState) (reached : IsReached bucket recursive old.world) (may : MayStep bucket recursive j u (Alone k) old.world) (late : is_deadline (Alone k) ≡ true) where
   abbrev next : World
   next = world_after bucket j u (Alone k) old.world
 
-  abbrev expired : Scene
+  abbrev expired : ProgressState
   expired = record old { world = next }
 
   len : threads expired ≡ threads old
@@ -210,26 +210,26 @@ reached_step bucket recursive j t step w r may = record {
 }
 
 -- what a turn leaves is reached too, with as many threads
-abbrev pub GoesTo : (ℕ → ℕ) → (ℕ → Bool) → Scene → Scene → Type 0
+abbrev pub GoesTo : (ℕ → ℕ) → (ℕ → Bool) → ProgressState → ProgressState → Type 0
 GoesTo bucket recursive old new = IsReached bucket recursive new.world × (threads new ≡ threads old)
 
-same_world : (bucket : ℕ → ℕ) (recursive : ℕ → Bool) (old new : Scene) → IsReached bucket recursive old.world → new.world ≡ old.world → GoesTo bucket recursive old new
+same_world : (bucket : ℕ → ℕ) (recursive : ℕ → Bool) (old new : ProgressState) → IsReached bucket recursive old.world → new.world ≡ old.world → GoesTo bucket recursive old new
 same_world bucket recursive old new reached same = (subst (IsReached bucket recursive) (sym same) reached, ap (λ (w : World). length w.places) same)
 
-pub stepped_world : (bucket : ℕ → ℕ) (recursive : ℕ → Bool) (j t : ℕ) (step : Step) (old new : Scene) → IsReached bucket recursive old.world → MayStep bucket recursive j t step old.world → new.world ≡ world_after bucket j t step old.world
+pub stepped_world : (bucket : ℕ → ℕ) (recursive : ℕ → Bool) (j t : ℕ) (step : Step) (old new : ProgressState) → IsReached bucket recursive old.world → MayStep bucket recursive j t step old.world → new.world ≡ world_after bucket j t step old.world
     → GoesTo bucket recursive old new
 stepped_world bucket recursive j t step old new reached may is = (
   subst (IsReached bucket recursive) (sym is) (reached_step bucket recursive j t step old.world reached may),
   ap (λ (w : World). length w.places) is ∙ places_length bucket recursive j t step old.world (reached_sound bucket recursive old.world reached) may,
 )
 
-pub turned_world : (bucket : ℕ → ℕ) (recursive : ℕ → Bool) (t : ℕ) (turn : Turn) (old new : Scene) → IsReached bucket recursive old.world → Turned bucket recursive t turn old new → GoesTo bucket recursive old new
-turned_world bucket recursive t (Look sight) old new reached turned = same_world bucket recursive old new reached (ap (λ (s : Scene). s.world) turned.4)
-turned_world bucket recursive t Start old new reached turned = same_world bucket recursive old new reached (ap (λ (s : Scene). s.world) turned.5)
+pub turned_world : (bucket : ℕ → ℕ) (recursive : ℕ → Bool) (t : ℕ) (turn : ScheduledStep) (old new : ProgressState) → IsReached bucket recursive old.world → Turned bucket recursive t turn old new → GoesTo bucket recursive old new
+turned_world bucket recursive t (Look sight) old new reached turned = same_world bucket recursive old new reached (ap (λ (s : ProgressState). s.world) turned.4)
+turned_world bucket recursive t Start old new reached turned = same_world bucket recursive old new reached (ap (λ (s : ProgressState). s.world) turned.5)
 turned_world bucket recursive t (First_step step sight) old new reached turned = stepped_world bucket recursive turned.0.0 t step old new reached turned.3.may turned.3.world
 turned_world bucket recursive t (Next_step step sight) old new reached turned = stepped_world bucket recursive (lock old t) t step old new reached turned.4.may turned.4.world
-turned_world bucket recursive t Refusal old new reached turned = same_world bucket recursive old new reached (ap (λ (s : Scene). s.world) turned.3)
-turned_world bucket recursive t Answer old new reached turned = same_world bucket recursive old new reached (ap (λ (s : Scene). s.world) turned.2)
+turned_world bucket recursive t Refusal old new reached turned = same_world bucket recursive old new reached (ap (λ (s : ProgressState). s.world) turned.3)
+turned_world bucket recursive t Answer old new reached turned = same_world bucket recursive old new reached (ap (λ (s : ProgressState). s.world) turned.2)
 
 pub turns_are_few : TurnsAreFew
 turns_are_few bucket recursive s last t who [] reached goes = omega (arith, ap (λ x. all_steps bucket x t) goes.0, ap (λ x. all_steps bucket last x) goes.1)
@@ -245,12 +245,12 @@ turns_are_few bucket recursive s last t who (Takes turn ∷ es) reached goes =
 turns_are_few bucket recursive s last t who (Hands_on stop u ∷ es) reached goes = omega (
   arith,
   switches_keep bucket recursive t u stop s goes.0 reached goes.1,
-  turns_are_few bucket recursive goes.0 last u who es (subst (λ (x : Scene). IsReached bucket recursive x.world) (sym goes.1.same) reached) goes.2,
-  ap (λ (x : Scene). most_of_a_deadline (threads x) * deadlines es) goes.1.same,
+  turns_are_few bucket recursive goes.0 last u who es (subst (λ (x : ProgressState). IsReached bucket recursive x.world) (sym goes.1.same) reached) goes.2,
+  ap (λ (x : ProgressState). most_of_a_deadline (threads x) * deadlines es) goes.1.same,
 )
 turns_are_few bucket recursive s last t who (Passes u j step ∷ es) reached goes =
     let next = goes.0 in
-    let to_next = stepped_world bucket recursive j u step s next reached goes.1.may (ap (λ (x : Scene). x.world) goes.1.world) in
+    let to_next = stepped_world bucket recursive j u step s next reached goes.1.may (ap (λ (x : ProgressState). x.world) goes.1.world) in
     omega (
       arith,
       deadlines_add_few bucket recursive t u j step s next reached goes.1,

@@ -10,7 +10,7 @@ use Rattle.parking_lot_rules.specs.Mutex as mutex
 use Rattle.parking_lot_rules.specs.Mutex.{Mutex}
 use Rattle.parking_lot_rules.specs.Variable.{Phase, Idle, Checked, Joined, Queued, Leaves, Notifies, Left, Class, Inside, weight, total, Variable, Plain, Refuse, Rest, Forget, Keep, Go, from, to, May, Step, Alone, Join, Quit, Release, Allowed, after, quiet}
 use Rattle.parking_lot_rules.specs.Any.{any_rules}
-use Rattle.parking_lot_rules.specs.Every.{EveryLock, Of, Cv, EveryStep, OfStep, CvStep, variable_crossing, variable_inside, variable_rules, every_rules, IsSoundEverywhere, Act, One, Two, Acts, Turn, Turns, Kind, ReaderWriter, Mutual, Condition, resting, all_resting, IsReached, EverySound, every_inside, InEveryRun}
+use Rattle.parking_lot_rules.specs.Every.{EveryLock, Of, Cv, EveryStep, OfStep, CvStep, variable_crossing, variable_inside, variable_rules, every_rules, IsSoundEverywhere, Act, One, Two, Acts, ScheduledAct, Turns, Kind, ReaderWriter, Mutual, Condition, resting, all_resting, IsReached, EverySound, every_inside, InEveryRun}
 use Rattle.parking_lot_rules.proofs.Indexed.{get-set_same, get-set_other}
 use Rattle.parking_lot_rules.proofs.Crossing.{crossed, WasIn}
 use Rattle.parking_lot_rules.proofs.Families.{AreRules, any_family_sound}
@@ -18,7 +18,7 @@ use Rattle.parking_lot_rules.proofs.Running.{rest_sound_family}
 use Rattle.parking_lot_rules.proofs.Mutexes as mutexes
 use Rattle.parking_lot_rules.proofs.MutexCrossing.{any_are_rules, mutex_are_rules}
 use Rattle.parking_lot_rules.proofs.Variables.{step_sound, quiet_sound}
-use Rattle.parking_lot_rules.proofs.Boths.{both_sound}
+use Rattle.parking_lot_rules.proofs.TwoLockSteps.{both_sound}
 
 -- the word is written by one that is inside
 writer_inside : (p : Phase) → ((p ≡ Leaves) ⊎ (p ≡ Notifies)) → weight Inside p ≡ 1
@@ -189,7 +189,7 @@ pub acts_sound : (bucket : ℕ → ℕ) (recursive : ℕ → Bool) (t : ℕ) (ac
 acts_sound bucket recursive t (One j step) old new sound made = any_family_sound (every_rules recursive) (every_are_rules recursive) bucket j t step old new sound made
 acts_sound bucket recursive t (Two j k one two) old new sound made = both_sound (every_rules recursive) (every_are_rules recursive) bucket j k t one two old new sound made
 
-turns_sound : (bucket : ℕ → ℕ) (recursive : ℕ → Bool) (es : List Turn) (f g : Family EveryLock) → IsSoundEverywhere bucket recursive f → Turns bucket recursive f es g → IsSoundEverywhere bucket recursive g
+turns_sound : (bucket : ℕ → ℕ) (recursive : ℕ → Bool) (es : List ScheduledAct) (f g : Family EveryLock) → IsSoundEverywhere bucket recursive f → Turns bucket recursive f es g → IsSoundEverywhere bucket recursive g
 turns_sound bucket recursive [] f g sound run = subst (IsSoundEverywhere bucket recursive) (sym run) sound
 turns_sound bucket recursive (e ∷ es) f g sound run = turns_sound bucket recursive es e.next g (acts_sound bucket recursive e.thread e.act f e.next sound run.0) run.1
 

@@ -7,7 +7,7 @@ use Rattle.parking_lot_rules.specs.Classes.{inside}
 use Rattle.parking_lot_rules.specs.Lock.{Lock, IsSound}
 use Rattle.parking_lot_rules.specs.Plain.{Plain, ExpireTaken1, ReenterTaken1, Depart1, Depart2, Yield, YieldBack, Downgrade, DowngradeToUpgradable, DowngradeUpgradable, from, to}
 use Rattle.parking_lot_rules.specs.Steps.{Step, Alone, List_changes, Take1, Take2, Store, Wake, Pass, Allowed, after, Listing, Join1, listing_from, listing_to, Scan, scanning, taking, Ending, Free, FreeUpgradable, Hand, HandUpgradable, Keep, ends_saying, settle, told, Waking, Retry, Own, OwnPending, OwnUpgradable, Recheck, waking_from, waking_to}
-use Rattle.parking_lot_rules.specs.Debts.{is_inside, is_up, owes_section, still_tries, and_up, retries, Turn, Remains, turned, begins_if, ends_without, owing, retrying, waking, handing, where_same, retrying_other, DebtsAreBooked}
+use Rattle.parking_lot_rules.specs.Debts.{is_inside, is_up, owes_section, still_tries, and_up, retries, DebtChange, Remains, turned, begins_if, ends_without, owing, retrying, waking, handing, where_same, retrying_other, DebtsAreBooked}
 use Rattle.parking_lot_rules.proofs.Indexed.{get-set_same, get-set_other}
 
 plain_owes : (k : Plain) → owes_section (to k).does ≡ turned (owing (Alone k)) (owes_section (from k).does)
@@ -113,7 +113,7 @@ stored_retries HandUpgradable s u p = handed_retries p
 stored_retries Keep s u p = told_retries p
 
 -- what is the same for two roles
-abbrev Same : (Phase → Bool) → Turn → Role → Role → Type 0
+abbrev Same : (Phase → Bool) → DebtChange → Role → Role → Type 0
 Same f turn a b = f b.does ≡ turned turn (f a.does)
 
 -- the role that a thread has after the step is the one that was written, and before it the one that was there
@@ -121,16 +121,16 @@ moved : (rs : List Role) (t : ℕ) (x y a b : Role) (P : Role → Role → Type 
 moved rs t x y a b P at here there h =
     subst (λ (r : Role). P r b) (same_Some x a (sym at ∙ here)) (subst (λ (r : Role). P x r) (same_Some y b (sym (get-set_same rs t x y at) ∙ there)) h)
 
-abbrev Both : Turn → Turn → Role → Role → Type 0
+abbrev Both : DebtChange → DebtChange → Role → Role → Type 0
 Both owes tries a b = Same owes_section owes a b × Same retries tries a b
 
-pub where-same : (u v : ℕ) (turn : Turn) → u ≡ v → where_same u v turn ≡ turn
+pub where-same : (u v : ℕ) (turn : DebtChange) → u ≡ v → where_same u v turn ≡ turn
 where-same u v turn e = ap (λ b. cond b turn Remains) (eq-eqb u v e)
 
-pub where-other : (u v : ℕ) (turn : Turn) → u ≢ v → where_same u v turn ≡ Remains
+pub where-other : (u v : ℕ) (turn : DebtChange) → u ≢ v → where_same u v turn ≡ Remains
 where-other u v turn ne = ap (λ b. cond b turn Remains) (ne_eqb u v ne)
 
-unmoved : (turn : Turn) (a b : Role) → turn ≡ Remains → a ≡ b → Both Remains turn a b
+unmoved : (turn : DebtChange) (a b : Role) → turn ≡ Remains → a ≡ b → Both Remains turn a b
 unmoved turn a b still same = (ap (λ (r : Role). owes_section r.does) (sym same), ap (λ (r : Role). retries r.does) (sym same) ∙ ap (λ k. turned k (retries a.does)) (sym still))
 
 module _ (recursive : Bool) (t : ℕ) (l : Lock) where

@@ -19,7 +19,7 @@ pub mod Wrongs
 pub mod Owning
 pub mod Casing
 pub mod Keeping
-pub mod Exampling
+pub mod ExampleRun
 pub mod Mutexes
 pub mod MutexFollowing
 pub mod Ranking
@@ -32,7 +32,7 @@ pub mod Switching
 pub mod Bounding
 pub mod Draining
 pub mod Sectioning
-pub mod Propering
+pub mod ProgressInvariant
 pub mod AnyRanking
 pub mod Visiting
 pub mod MutexCasing
@@ -43,7 +43,7 @@ pub mod Paying
 pub mod MutexPaying
 pub mod MutexSighting
 pub mod Variables
-pub mod Boths
+pub mod TwoLockSteps
 pub mod Everys
 pub mod Alive
 pub mod Trying

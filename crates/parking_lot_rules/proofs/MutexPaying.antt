@@ -8,7 +8,7 @@ use Rattle.parking_lot_rules.specs.Classes.{bit}
 use Rattle.parking_lot_rules.specs.Lists.{occurs, at_index}
 use Rattle.parking_lot_rules.specs.Mutex.{Phase, Idle, Seeks, Enters, Queued, Taken, Masks, Leaves, Unlocks, Stored, Wakes, Role, away, Class, Owning, Waiting, Called, Strange, weight, total, Word, Fits, phase_note, phase_wakes, Mutex, IsSound, Plain, Begin, ExpireTaken, ReenterTaken, Depart, from, to, May, told, settle, Step, Alone, Join, Quit, QuitLast, Requeue, Pull, Follow, Take, Free, Hand, Wake, WakeOwner, Pass, doing, Allowed, after}
 use Rattle.parking_lot_rules.specs.MutexLaws.{is_asleep}
-use Rattle.parking_lot_rules.specs.Debts.{is_up, Turn, Begins, Ends, Remains, turned, begins_if, ends_without, where_same}
+use Rattle.parking_lot_rules.specs.Debts.{is_up, DebtChange, Begins, Ends, Remains, turned, begins_if, ends_without, where_same}
 use Rattle.parking_lot_rules.specs.MutexDebts.{owes_section, still_tries, retries, is_in_debt, debts, owing, retrying, handing, retrying_other, SomebodyIsInDebt, SomebodyOwns, MutexDebtsArePaid, MutexDebtsAreBooked, ThroughoutMutex}
 use Rattle.parking_lot_rules.proofs.Indexed.{get-set_same, get-set_other, sum_by-set_at}
 use Rattle.parking_lot_rules.proofs.Finding.{none_or}
@@ -44,10 +44,10 @@ handed_retries (Taken by Normal s) = refl
 handed_retries (Taken by Handed s) = refl
 handed_retries p = refl
 
-abbrev Both : Turn → Turn → Role → Role → Type 0
+abbrev Both : DebtChange → DebtChange → Role → Role → Type 0
 Both owes tries a b = (owes_section b.does ≡ turned owes (owes_section a.does)) × (retries b.does ≡ turned tries (retries a.does))
 
-unmoved : (turn : Turn) (a b : Role) → turn ≡ Remains → a ≡ b → Both Remains turn a b
+unmoved : (turn : DebtChange) (a b : Role) → turn ≡ Remains → a ≡ b → Both Remains turn a b
 unmoved turn a b still same = (ap (λ (r : Role). owes_section r.does) (sym same), ap (λ (r : Role). retries r.does) (sym same) ∙ ap (λ k. turned k (retries a.does)) (sym still))
 
 module _ (t : ℕ) (m : Mutex) where
@@ -71,7 +71,7 @@ module _ (t : ℕ) (m : Mutex) where
   not_one : (i u : ℕ) (x a b : Role) → u ≢ i → slice_get m.roles u ≡ Some a → slice_get (slice_set m.roles i x) u ≡ Some b → a ≡ b
   not_one i u x a b ni here there = same_Some a b (sym here ∙ sym (get-set_other m.roles i u x (λ e. ni (sym e))) ∙ there)
 
-  moved : (owes tries : Turn) (x y a b : Role) → slice_get m.roles t ≡ Some x → slice_get m.roles t ≡ Some a → y ≡ b → Both owes tries x y → Both owes tries a b
+  moved : (owes tries : DebtChange) (x y a b : Role) → slice_get m.roles t ≡ Some x → slice_get m.roles t ≡ Some a → y ≡ b → Both owes tries x y → Both owes tries a b
   moved owes tries x y a b at here e h = subst (λ (r : Role). Both owes tries r b) (same_Some x a (sym at ∙ here)) (subst (λ (r : Role). Both owes tries x r) e h)
 
   told_now : (h : Mark) (x y b : Role) → slice_get m.roles t ≡ Some x → slice_get (slice_set (map (settle h) m.roles) t y) t ≡ Some b → y ≡ b
@@ -95,7 +95,7 @@ module _ (t : ℕ) (m : Mutex) where
   mover_booked (Pass o v us) may a b here there = moved (ends_without us) Remains _ _ a b may.0 here (now m.roles t _ _ b may.0 there) (wakes_owe v us, refl)
 
   -- one thread beside the mover changes
-  other : (rs : List Role) (v : ℕ) (turn : Turn) (x y : Role) → slice_get m.roles v ≡ Some x → (u : ℕ) (a b : Role) → slice_get m.roles u ≡ Some a → slice_get rs u ≡ Some b
+  other : (rs : List Role) (v : ℕ) (turn : DebtChange) (x y : Role) → slice_get m.roles v ≡ Some x → (u : ℕ) (a b : Role) → slice_get m.roles u ≡ Some a → slice_get rs u ≡ Some b
       → (slice_get rs v ≡ Some b → y ≡ b) → (u ≢ v → a ≡ b) → Both Remains turn x y → Both Remains (where_same u v turn) a b
   other rs v turn x y at u a b here there changed kept h = ⊎_elim
       (λ e.

@@ -5,7 +5,7 @@ use Rattle.parking_lot_rules.specs.Roles.{Stay, Asleep, Normal}
 use Rattle.parking_lot_rules.specs.Mutex.{Phase, Idle, Seeks, Enters, Queued, Taken, Stored, Comes, Moves, Role, away, Word, Mutex, IsSound, Plain, Begin, Unlock, Look, Come, from, to, Step, Alone, Join, Quit, QuitLast, Requeue, Pull, Follow, Take, Free, Hand, Wake, WakeOwner, Pass, doing, Allowed, after}
 use Rattle.parking_lot_rules.specs.Ranks.{where_some}
 use Rattle.parking_lot_rules.specs.MutexRanks.{asks, worst, fresh, rank_of_others, ranks, is_apart, KnowsTheWord}
-use Rattle.parking_lot_rules.specs.Sights.{Sight, Blind, Sees, is_stale}
+use Rattle.parking_lot_rules.specs.Sights.{WordKnowledge, Blind, Sees, is_stale}
 use Rattle.parking_lot_rules.specs.MutexSights.{full_ranks, MutexLooksLower, MutexStepsLower}
 use Rattle.parking_lot_rules.proofs.Indexed.{get-set_same, get-set_other, sum_by-set_at}
 use Rattle.parking_lot_rules.proofs.Ranking.{chosen}
@@ -92,7 +92,7 @@ module _ (m : Mutex) (sound : IsSound m) (t : ℕ) where
       (subst (λ (r : Role). ranks false (after t (Pull o v) m) t r.does ≡ ranks false m t Comes + 9) same
       (omega (arith, others-after m.roles t v (record { owns = o; does = Comes }) now away (doing (Taken t Normal Asleep)) may.0 may.1 ne)))
 
-  falls : (step : Step) → Allowed t step m → (before now : Sight) (a b : Role) → slice_get m.roles t ≡ Some a → slice_get (after t step m).roles t ≡ Some b → a.does ≢ Idle → is_apart step ≡ false
+  falls : (step : Step) → Allowed t step m → (before now : WordKnowledge) (a b : Role) → slice_get m.roles t ≡ Some a → slice_get (after t step m).roles t ≡ Some b → a.does ≢ Idle → is_apart step ≡ false
       → KnowsTheWord (is_stale before) step m.word → is_stale now ≡ false → full_ranks now (after t step m) t b.does + 1 ≤ full_ranks before m t a.does
   falls step may before (Blind k) a b at there busy apart knows known = omega (arith, looks_few (Blind k), (mutex_ranks_fall m sound).falls (is_stale before) t step a b may at there busy apart knows)
   falls step may before (Sees true k) a b at there busy apart knows known = absurd cc

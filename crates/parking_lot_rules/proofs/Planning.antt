@@ -11,9 +11,9 @@ use Rattle.parking_lot_rules.specs.Plain.{Plain, Begin, Unshare, UnshareLast, Un
 use Rattle.parking_lot_rules.specs.Steps.{Step, Alone, List_changes, Take1, Take2, Store, Wake, Pass, after, ends_saying, settle}
 use Rattle.parking_lot_rules.specs.World.{Place, World, seen, role_at, lock_at, family, world_after, MayStep}
 use Rattle.parking_lot_rules.specs.Ranks.{to_come}
-use Rattle.parking_lot_rules.specs.Sights.{Sight, Blind, Sees, Looks, looks_left}
-use Rattle.parking_lot_rules.specs.Aims.{Aim, Watches, Knowledge, New, Old, Set, knowledge, by, View, near, near_rank, looking, most_looks, far_steps, near_steps}
-use Rattle.parking_lot_rules.specs.Agenda.{Call, Acquire, Release, Weaken, Strengthen, begins, first_rank, cost, Stage, Rests, Begins, Works, Scene, phase_of, lock_of, phase, threads, other_in, view_at, stage_steps, far, near_of, sum_to, share, all_steps, IsWoken}
+use Rattle.parking_lot_rules.specs.Sights.{WordKnowledge, Blind, Sees, Looks, looks_left}
+use Rattle.parking_lot_rules.specs.Aims.{CallGoal, Watches, Knowledge, New, Old, Set, knowledge, by, View, near, near_rank, looking, most_looks, far_steps, near_steps}
+use Rattle.parking_lot_rules.specs.Agenda.{Call, Acquire, Release, Weaken, Strengthen, begins, first_rank, cost, CallProgress, Rests, Begins, Works, ProgressState, phase_of, lock_of, phase, threads, other_in, view_at, stage_steps, far, near_of, sum_to, share, all_steps, IsWoken}
 use Rattle.parking_lot_rules.proofs.Families.{put-same, put-other}
 use Rattle.parking_lot_rules.proofs.Crossing.{WasIn, step_was}
 use Rattle.parking_lot_rules.proofs.Worlds.{IsThere, not_seen, world_step}
@@ -66,14 +66,14 @@ module _ (f g x : ℕ → ℕ) (t : ℕ) (others : (u : ℕ) → u ≢ t → g u
           split (suc n) (suc t) h = ⊎_elim (λ e. inl (ap (λ k. suc k) e)) (λ l. inr (omega (arith, l))) (split n t (omega (arith, h)))
 
 -- by threads: the stepped one, and another
-pub share_own : (bucket : ℕ → ℕ) (s : Scene) (t : ℕ) → share bucket s t t ≡ near_of bucket s t
+pub share_own : (bucket : ℕ → ℕ) (s : ProgressState) (t : ℕ) → share bucket s t t ≡ near_of bucket s t
 share_own bucket s t = ap (λ b. cond b (near_of bucket s t) (far s t)) (eq-eqb t t refl)
 
-pub share_other : (bucket : ℕ → ℕ) (s : Scene) (t u : ℕ) → u ≢ t → share bucket s t u ≡ far s u
+pub share_other : (bucket : ℕ → ℕ) (s : ProgressState) (t u : ℕ) → u ≢ t → share bucket s t u ≡ far s u
 share_other bucket s t u ne = ap (λ b. cond b (near_of bucket s u) (far s u)) (ne_eqb u t ne)
 
 -- So all steps fall where those of the stepped thread do, and pay for what others gain.
-pub all_fall : (bucket : ℕ → ℕ) (old new : Scene) (t k : ℕ) (x : ℕ → ℕ) → threads new ≡ threads old → t < threads old → ((u : ℕ) → u ≢ t → far new u ≤ far old u + x u) → sum_to x (threads old) ≤ k
+pub all_fall : (bucket : ℕ → ℕ) (old new : ProgressState) (t k : ℕ) (x : ℕ → ℕ) → threads new ≡ threads old → t < threads old → ((u : ℕ) → u ≢ t → far new u ≤ far old u + x u) → sum_to x (threads old) ≤ k
     → near_of bucket new t + k + 1 ≤ near_of bucket old t → all_steps bucket new t + 1 ≤ all_steps bucket old t
 all_fall bucket old new t k x len within others few own = omega (
   arith,
@@ -103,7 +103,7 @@ map_got i ps u r at = go (slice_get ps u) refl (sym (slice_get-map (role_at i) p
     go (Some p) e got = (p, e, same_Some _ r (sym (ap (option_map (role_at i)) e) ∙ got))
 
 -- seen from one lock a thread has no more to do
-far_seen : (n : ℕ) (aim : Aim) (b : Bool) (p : Phase) → far_steps n aim (seen b p) ≤ far_steps n aim p
+far_seen : (n : ℕ) (aim : CallGoal) (b : Bool) (p : Phase) → far_steps n aim (seen b p) ≤ far_steps n aim p
 far_seen n aim true p = omega arith
 far_seen n aim false p = omega arith
 
@@ -119,7 +119,7 @@ by_close Set Old x y h k = omega (arith, h, k)
 by_close Set Set x y h k = omega (arith, h, k)
 
 -- another aim makes little difference
-aim_far : (n : ℕ) (a b : Aim) (p : Phase) → far_steps n a p ≤ far_steps n b p + 43
+aim_far : (n : ℕ) (a b : CallGoal) (p : Phase) → far_steps n a p ≤ far_steps n b p + 43
 aim_far n a b (Seeks m c) = omega (arith, by_close (knowledge a) (knowledge b) (8 + to_come m) (7 + to_come m) (omega arith) (omega arith), looks_few a, looks_few b)
 aim_far n a b (Drains f c) = omega (arith, by_close (knowledge a) (knowledge b) 8 7 (omega arith) (omega arith), looks_few a, looks_few b)
 aim_far n a b (Yields f) = omega (arith, looks_few a, looks_few b)
@@ -164,7 +164,7 @@ module _ (bucket : ℕ → ℕ) (recursive : ℕ → Bool) (j t : ℕ) (step : S
   phase_here i p e = ap (λ b. seen b p.does) (eq-eqb p.at i e)
 
   -- the others have no more to do, but for one that is woken
-  pub others_far : (u : ℕ) → u ≢ t → (new_aim aim : Aim) → (new_aim ≡ aim) ⊎ IsWoken step u
+  pub others_far : (u : ℕ) → u ≢ t → (new_aim aim : CallGoal) → (new_aim ≡ aim) ⊎ IsWoken step u
       → far_steps (length w.places) new_aim (phase_of (slice_get next.places u)) ≤ far_steps (length w.places) aim (phase_of (slice_get w.places u)) + extra step u
   others_far u ne new_aim aim aims = go (slice_get next.places u) refl
     where
@@ -288,7 +288,7 @@ module _ (bucket : ℕ → ℕ) (recursive : ℕ → Bool) (j t : ℕ) (step : S
   }
 
   -- the steps of the stepped thread are those of its role at the lock
-  pub own_near : (sight : Sight) → near_steps (length w.places) (view_at bucket next (lock_of (slice_get next.places t)) t) (Watches sight) (phase_of (slice_get next.places t))
+  pub own_near : (sight : WordKnowledge) → near_steps (length w.places) (view_at bucket next (lock_of (slice_get next.places t)) t) (Watches sight) (phase_of (slice_get next.places t))
       ≤ near_steps (length (lock_at w j).roles) view_after (Watches sight) (phase_after (recursive j) t (lock_at w j) (sound.sound j) step)
   own_near sight = go (slice_get next.places t) refl
     where
@@ -343,7 +343,7 @@ first_some n Weaken = omega arith
 first_some n Strengthen = omega arith
 
 -- a look leaves one look less, and no higher rank
-pub looks_fall : (old new : Sight) → Looks old new → looks_left new + 1 ≤ looks_left old
+pub looks_fall : (old new : WordKnowledge) → Looks old new → looks_left new + 1 ≤ looks_left old
 looks_fall (Blind k) (Sees true m) look = absurd (let e = look.0 in cc)
 looks_fall (Blind k) (Sees false m) look = omega (arith, look.1)
 looks_fall (Blind k) (Blind m) look = absurd look
@@ -358,7 +358,7 @@ new_least n v (Seeks m c) = omega (arith, asks_few v.other1 m v.word)
 new_least n v (Drains f c) = omega (arith, drains_few v.other2 v.word)
 new_least n v p = omega arith
 
-pub rank_looks : (n : ℕ) (v : View) (p : Phase) (old new : Sight) → Looks old new → near_rank n v p (knowledge (Watches new)) ≤ near_rank n v p (knowledge (Watches old))
+pub rank_looks : (n : ℕ) (v : View) (p : Phase) (old new : WordKnowledge) → Looks old new → near_rank n v p (knowledge (Watches new)) ≤ near_rank n v p (knowledge (Watches old))
 rank_looks n v p (Blind k) (Sees true m) look = absurd (let e = look.0 in cc)
 rank_looks n v p (Blind k) (Sees false m) look = omega arith
 rank_looks n v p (Blind k) (Blind m) look = absurd look
@@ -380,14 +380,14 @@ looking_more (Drains f c) a b h = h
 looking_more (Yields f) a b h = h
 looking_more p a b h = omega arith
 
-pub stage_more : (n a b : ℕ) (s : Stage) → a ≤ b → stage_steps n a s ≤ stage_steps n b s
+pub stage_more : (n a b : ℕ) (s : CallProgress) → a ≤ b → stage_steps n a s ≤ stage_steps n b s
 stage_more n a b Rests h = omega arith
 stage_more n a b (Begins job) h = omega (arith, h)
 stage_more n a b Works h = omega arith
 
 -- where only what concerns the thread changes, and not the world
-module _ (bucket : ℕ → ℕ) (old : Scene) (t : ℕ) (within : t < threads old) (aims : ℕ → Aim) (stages : ℕ → Stage) (calls : ℕ → List (ℕ × Call)) where
-  abbrev pub still : Scene
+module _ (bucket : ℕ → ℕ) (old : ProgressState) (t : ℕ) (within : t < threads old) (aims : ℕ → CallGoal) (stages : ℕ → CallProgress) (calls : ℕ → List (ℕ × Call)) where
+  abbrev pub still : ProgressState
   still = record { world = old.world; aims = aims; stages = stages; calls = calls }
 
   pub quiet_falls : ((u : ℕ) → u ≢ t → aims u ≡ old.aims u) → ((u : ℕ) → u ≢ t → stages u ≡ old.stages u) → ((u : ℕ) → u ≢ t → calls u ≡ old.calls u) → near_of bucket still t + 1 ≤ near_of bucket old t

@@ -9,9 +9,9 @@ use Rattle.parking_lot_rules.specs.World.{role_at, lock_at, family, world_after,
 use Rattle.parking_lot_rules.specs.Family.{IsSoundFamily}
 use Rattle.parking_lot_rules.specs.Runs.{IsReached}
 use Rattle.parking_lot_rules.specs.Ranks.{to_come}
-use Rattle.parking_lot_rules.specs.Sights.{Sight}
-use Rattle.parking_lot_rules.specs.Aims.{Aim, Watches, knowledge, most_looks, far_steps}
-use Rattle.parking_lot_rules.specs.Agenda.{cost, Scene, phase, lock, threads, stage_steps, far, sum_to, Next_step, Stepped, Turned}
+use Rattle.parking_lot_rules.specs.Sights.{WordKnowledge}
+use Rattle.parking_lot_rules.specs.Aims.{CallGoal, Watches, knowledge, most_looks, far_steps}
+use Rattle.parking_lot_rules.specs.Agenda.{cost, ProgressState, phase, lock, threads, stage_steps, far, sum_to, Next_step, Stepped, Turned}
 use Rattle.parking_lot_rules.specs.Drains.{steps_of_all, is_inside, SectionsLower}
 use Rattle.parking_lot_rules.proofs.Changing.{taking_taken}
 use Rattle.parking_lot_rules.proofs.Running.{reached_sound}
@@ -21,7 +21,7 @@ use Rattle.parking_lot_rules.proofs.Planning.{sum_falls, sum_paid, places_length
 use Rattle.parking_lot_rules.proofs.Turning.{phase_is, other}
 use Rattle.parking_lot_rules.proofs.Counting.{AreCounted, taken_few, reached_counted}
 
-plain_leaves : (n : ℕ) (aim : Aim) (sight : Sight) (k : Plain) → IsTrue (is_inside (from k).does) → far_steps n (Watches sight) (to k).does + 1 ≤ far_steps n aim (from k).does
+plain_leaves : (n : ℕ) (aim : CallGoal) (sight : WordKnowledge) (k : Plain) → IsTrue (is_inside (from k).does) → far_steps n (Watches sight) (to k).does + 1 ≤ far_steps n aim (from k).does
 plain_leaves n aim sight (Check1 m c) inside = omega arith
 plain_leaves n aim sight (Retreat1 m c) inside = omega (arith, by_few (knowledge (Watches sight)) (8 + to_come m) (8 + to_come m) (7 + to_come m) (8 + to_come m) (omega arith) (omega arith) (omega arith))
 plain_leaves n aim sight (Rest1 m) inside = omega arith
@@ -42,7 +42,7 @@ plain_leaves n aim sight (Depart1 o us) inside = omega arith
 plain_leaves n aim sight k inside = absurd cc
 
 module _ (recursive : Bool) (t : ℕ) (l : Lock) (sound : IsSound l) (counted : AreCounted l) where
-  pub step_leaves : (aim : Aim) (sight : Sight) (step : Step) → Allowed recursive t step l → IsTrue (is_inside (phase_before recursive t l sound step))
+  pub step_leaves : (aim : CallGoal) (sight : WordKnowledge) (step : Step) → Allowed recursive t step l → IsTrue (is_inside (phase_before recursive t l sound step))
       → far_steps (length l.roles) (Watches sight) (phase_after recursive t l sound step) + paid step + 1 ≤ far_steps (length l.roles) aim (phase_before recursive t l sound step)
   step_leaves aim sight (Alone k) may inside = omega (arith, plain_leaves (length l.roles) aim sight k inside)
   step_leaves aim sight (List_changes (Join1 m)) may inside = omega arith
@@ -62,7 +62,7 @@ module _ (recursive : Bool) (t : ℕ) (l : Lock) (sound : IsSound l) (counted : 
   step_leaves aim sight (Wake o v us k stay) may inside = absurd cc
   step_leaves aim sight (Pass o v us) may inside = absurd cc
 
-module _ (bucket : ℕ → ℕ) (recursive : ℕ → Bool) (t : ℕ) (step : Step) (sight : Sight) (old new : Scene) (reached : IsReached bucket recursive old.world) (within : t < threads old) (inside : IsTrue (is_inside (phase old t)))
+module _ (bucket : ℕ → ℕ) (recursive : ℕ → Bool) (t : ℕ) (step : Step) (sight : WordKnowledge) (old new : ProgressState) (reached : IsReached bucket recursive old.world) (within : t < threads old) (inside : IsTrue (is_inside (phase old t)))
     (turned : Turned bucket recursive t (Next_step step sight) old new) where
   abbrev stepped : Stepped bucket recursive t (lock old t) step sight old new
   stepped = turned.4
@@ -76,7 +76,7 @@ module _ (bucket : ℕ → ℕ) (recursive : ℕ → Bool) (t : ℕ) (step : Ste
   abbrev sound : IsSoundFamily bucket (family old.world)
   sound = reached_sound bucket recursive old.world reached
 
-  abbrev next : Scene
+  abbrev next : ProgressState
   next = record { world = world_after bucket (lock old t) t step old.world; aims = new.aims; stages = old.stages; calls = old.calls }
 
   same : new ≡ next

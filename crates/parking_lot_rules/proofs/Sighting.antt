@@ -6,7 +6,7 @@ use Rattle.parking_lot_rules.specs.Lock.{Lock, IsSound}
 use Rattle.parking_lot_rules.specs.Plain.{bars}
 use Rattle.parking_lot_rules.specs.Steps.{Step, Allowed, after}
 use Rattle.parking_lot_rules.specs.Ranks.{where_some, to_come, asks, drains, worst, fresh}
-use Rattle.parking_lot_rules.specs.Sights.{Sight, Blind, Sees, is_stale, looks_left, LooksLower, StepsLower}
+use Rattle.parking_lot_rules.specs.Sights.{WordKnowledge, Blind, Sees, is_stale, looks_left, LooksLower, StepsLower}
 use Rattle.parking_lot_rules.proofs.Ranking.{chosen, ranks_fall, few1, few2}
 
 -- who knows the word has no more to do
@@ -32,7 +32,7 @@ looks_lower l sound t r (Sees true k) (Sees false m) at look =
     omega (arith, look.1, fresh_least (length l.roles) (length l.first) (length l.second) l.word (few1 false t l sound) (few2 false t l sound) r.does)
 looks_lower l sound t r (Sees false k) (Sees s m) at look = absurd look
 
-pub looks_few : (s : Sight) → looks_left s ≤ 21
+pub looks_few : (s : WordKnowledge) → looks_left s ≤ 21
 looks_few (Blind k) = omega arith
 looks_few (Sees true k) = omega arith
 looks_few (Sees false k) = omega arith

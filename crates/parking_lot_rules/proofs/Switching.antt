@@ -11,9 +11,9 @@ use Rattle.parking_lot_rules.specs.Runs.{IsReached}
 use Rattle.parking_lot_rules.specs.Laws.{is_asleep}
 use Rattle.parking_lot_rules.specs.Ranks.{to_come}
 use Rattle.parking_lot_rules.specs.Sights.{Blind, Sees}
-use Rattle.parking_lot_rules.specs.Aims.{Aim, Watches, Enters, Knowledge, New, Old, Set, knowledge, by, View, far_rank, near_rank, looks_of, most_looks, far_steps, near_steps}
+use Rattle.parking_lot_rules.specs.Aims.{CallGoal, Watches, Enters, Knowledge, New, Old, Set, knowledge, by, View, far_rank, near_rank, looks_of, most_looks, far_steps, near_steps}
 use Rattle.parking_lot_rules.specs.Agenda as agenda
-use Rattle.parking_lot_rules.specs.Agenda.{Call, first_rank, cost, Stage, Rests, Begins, Works, Scene, phase_of, lock_of, phase, lock, threads, other_in, view_at, stage_steps, far, near_of, to_do, sum_to, share, all_steps, MustEnter, Stop, Stops, aims_after, IsLike, HandsOn, SwitchesKeep}
+use Rattle.parking_lot_rules.specs.Agenda.{Call, first_rank, cost, CallProgress, Rests, Begins, Works, ProgressState, phase_of, lock_of, phase, lock, threads, other_in, view_at, stage_steps, far, near_of, to_do, sum_to, share, all_steps, MustEnter, Stop, Stops, aims_after, IsLike, HandsOn, SwitchesKeep}
 use Rattle.parking_lot_rules.proofs.Families.{put-same, put-other}
 use Rattle.parking_lot_rules.proofs.Running.{reached_sound}
 use Rattle.parking_lot_rules.proofs.Aiming.{asks_are, drains_are, asks_few, drains_few, checks1_few, checks2_few, looks_few, looking_few}
@@ -42,10 +42,10 @@ module _ (l : Lock) (sound : IsSound l) (counted : AreCounted l) (other1 other2 
           omega (arith, taken_few l sound t (record { owns = r.owns; cause = c; shared = x; upgradable = u; writer = w; taken = us }) at_scan (subst (IsCounted (length l.roles)) is (counted t r at)))
       go p is how = omega arith
 
-steps_least : (n : ℕ) (v : View) (aim : Aim) (p : Phase) → near_rank n v p (knowledge aim) ≤ far_rank n p (knowledge aim) → near_steps n v aim p ≤ far_steps n aim p
+steps_least : (n : ℕ) (v : View) (aim : CallGoal) (p : Phase) → near_rank n v p (knowledge aim) ≤ far_rank n p (knowledge aim) → near_steps n v aim p ≤ far_steps n aim p
 steps_least n v aim p less = omega (arith, less, looking_more p (looks_of aim) (most_looks aim) (looks_few aim).0)
 
-module _ (bucket : ℕ → ℕ) (recursive : ℕ → Bool) (s : Scene) (reached : IsReached bucket recursive s.world) where
+module _ (bucket : ℕ → ℕ) (recursive : ℕ → Bool) (s : ProgressState) (reached : IsReached bucket recursive s.world) where
   near_least : (u : ℕ) → near_steps (threads s) (view_at bucket s.world (lock s u) u) (s.aims u) (phase s u) ≤ far_steps (threads s) (s.aims u) (phase s u)
   near_least u = go (slice_get s.world.places u) refl
     where
@@ -89,7 +89,7 @@ sum_more f g zero less = omega arith
 sum_more f g (suc n) less = omega (arith, sum_more f g n less, less n)
 
 -- one that sleeps has nothing to do by itself
-asleep_none : (n : ℕ) (aim : Aim) (p : Phase) → IsTrue (is_asleep p) → far_steps n aim p ≡ 0
+asleep_none : (n : ℕ) (aim : CallGoal) (p : Phase) → IsTrue (is_asleep p) → far_steps n aim p ≡ 0
 asleep_none n aim (Queued1 m Asleep) e = omega arith
 asleep_none n aim (Taken1 m i how Asleep) e = omega arith
 asleep_none n aim (Queued2 f Asleep) e = omega arith
@@ -110,7 +110,7 @@ before_same n v (Taken2 f i Late) how Second must one two = omega arith
 before_same n v Owes2 how Second must one two = omega arith
 before_same n v p how k must one two = absurd must
 
-sights : (a b : Aim) (x y : ℕ) → IsLike a b → by (knowledge a) x x y ≡ by (knowledge b) x x y
+sights : (a b : CallGoal) (x y : ℕ) → IsLike a b → by (knowledge a) x x y ≡ by (knowledge b) x x y
 sights Enters Enters x y like = refl
 sights (Watches (Blind k)) (Watches (Blind m)) x y like = refl
 sights (Watches (Blind k)) (Watches (Sees true m)) x y like = refl
@@ -125,7 +125,7 @@ sights (Watches a) Enters x y like = absurd like
 sights Enters (Watches b) x y like = absurd like
 
 -- what matters of an aim that isn't the stepped thread's
-like_far : (n : ℕ) (a b : Aim) (p : Phase) → IsLike a b → far_steps n a p ≡ far_steps n b p
+like_far : (n : ℕ) (a b : CallGoal) (p : Phase) → IsLike a b → far_steps n a p ≡ far_steps n b p
 like_far n (Watches x) (Watches y) (Seeks m c) like = omega (arith, sights (Watches x) (Watches y) (8 + to_come m) (7 + to_come m) like)
 like_far n (Watches x) (Watches y) (Drains f c) like = omega (arith, sights (Watches x) (Watches y) 8 7 like)
 like_far n (Watches x) (Watches y) p like = refl
@@ -133,17 +133,17 @@ like_far n Enters Enters p like = refl
 like_far n (Watches x) Enters p like = absurd like
 like_far n Enters (Watches y) p like = absurd like
 
-like_looks : (a b : Aim) → IsLike a b → most_looks a ≡ most_looks b
+like_looks : (a b : CallGoal) → IsLike a b → most_looks a ≡ most_looks b
 like_looks (Watches x) (Watches y) like = refl
 like_looks Enters Enters like = refl
 like_looks (Watches x) Enters like = absurd like
 like_looks Enters (Watches y) like = absurd like
 
-module _ (bucket : ℕ → ℕ) (recursive : ℕ → Bool) (s : Scene) (reached : IsReached bucket recursive s.world) (t u : ℕ) (aims : ℕ → Aim) where
-  abbrev handed : Scene
+module _ (bucket : ℕ → ℕ) (recursive : ℕ → Bool) (s : ProgressState) (reached : IsReached bucket recursive s.world) (t u : ℕ) (aims : ℕ → CallGoal) where
+  abbrev handed : ProgressState
   handed = record { world = s.world; aims = aims; stages = s.stages; calls = s.calls }
 
-  same_far : (x : ℕ) (a : Aim) → IsLike (aims x) a → far handed x ≡ far_steps (threads s) a (phase s x) + stage_steps (threads s) (most_looks a) (s.stages x) + to_do s x
+  same_far : (x : ℕ) (a : CallGoal) → IsLike (aims x) a → far handed x ≡ far_steps (threads s) a (phase s x) + stage_steps (threads s) (most_looks a) (s.stages x) + to_do s x
   same_far x a like = omega (arith, like_far (threads s) (aims x) a (phase s x) like, ap (λ k. stage_steps (threads s) k (s.stages x)) (like_looks (aims x) a like))
 
   switched : ((x : ℕ) → x ≢ t → IsLike (aims x) (s.aims x)) → far handed t ≤ near_of bucket s t → all_steps bucket handed u ≤ all_steps bucket s t

@@ -11,7 +11,7 @@ use Rattle.parking_lot_rules.specs.Steps.{Step, Alone, List_changes, Take1, Take
 use Rattle.parking_lot_rules.specs.Laws.{holds}
 use Rattle.parking_lot_rules.specs.World.{World, lock_at, MayStep}
 use Rattle.parking_lot_rules.specs.Runs.{Move, moved, Runs, IsReached}
-use Rattle.parking_lot_rules.specs.Tries.{Stage, IsRefused, in_all, Tried, TryShared, TryExclusive, TryUpgradable, TryUpgrade, limit, KeepsOut, trying, Cause, others_run, moves_at, RefusedTriesHaveACause}
+use Rattle.parking_lot_rules.specs.Tries.{Interference, IsRefused, in_all, Tried, TryShared, TryExclusive, TryUpgradable, TryUpgrade, limit, KeepsOut, trying, Cause, others_run, moves_at, RefusedTriesHaveACause}
 use Rattle.parking_lot_rules.proofs.Indexed.{get-set_other}
 use Rattle.parking_lot_rules.proofs.Totals.{total-at}
 use Rattle.parking_lot_rules.proofs.Families.{put-other}
@@ -24,7 +24,7 @@ use Rattle.parking_lot_rules.proofs.Worlds.{world_step}
 -- thread that tries, wherever others lead.
 module _ {W E V : Type 0} (make : W → List E → W → Type 0) (word : W → V) (out : V → Type 0) (count : List E → ℕ) (Holds : W → Type 0)
     (keeps : (w v : W) (es : List E) → make w es v → Holds w → Holds v) (costs : (w v : W) (es : List E) → make w es v → word v ≢ word w → 1 ≤ count es) where
-  pub refused : (n : ℕ) (w : W) (stages : List (Stage W E)) → Holds w → IsRefused make word out n w stages → ((v : W) × Holds v × out (word v)) ⊎ (n ≤ in_all count stages)
+  pub refused : (n : ℕ) (w : W) (stages : List (Interference W E)) → Holds w → IsRefused make word out n w stages → ((v : W) × Holds v × out (word v)) ⊎ (n ≤ in_all count stages)
   refused zero w [] holds r = inr (omega arith)
   refused zero w (s ∷ stages) holds r = absurd r
   refused (suc n) w [] holds r = inl (w, holds, r)

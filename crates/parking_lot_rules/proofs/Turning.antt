@@ -10,9 +10,9 @@ use Rattle.parking_lot_rules.specs.Plain.{Plain}
 use Rattle.parking_lot_rules.specs.Steps.{Step, Alone, List_changes, Take1, Take2, Store, Wake, Pass, after}
 use Rattle.parking_lot_rules.specs.World.{World, role_at, lock_at, family, world_after, MayStep}
 use Rattle.parking_lot_rules.specs.Ranks.{is_deadline}
-use Rattle.parking_lot_rules.specs.Sights.{Sight, Blind, is_stale, looks_left}
-use Rattle.parking_lot_rules.specs.Aims.{Aim, Watches, knowledge, View, near_rank, near, looks_of, most_looks, far_steps, near_steps, GoesBy}
-use Rattle.parking_lot_rules.specs.Agenda.{Call, IsFirst, first_rank, cost, Stage, Rests, Begins, Works, Scene, phase_of, lock_of, phase, lock, threads, other_in, view_at, stage_steps, far, near_of, all_steps, Look, Start, First_step, Next_step, Refusal, Answer, IsWoken, TurnsLower}
+use Rattle.parking_lot_rules.specs.Sights.{WordKnowledge, Blind, is_stale, looks_left}
+use Rattle.parking_lot_rules.specs.Aims.{CallGoal, Watches, knowledge, View, near_rank, near, looks_of, most_looks, far_steps, near_steps, GoesBy}
+use Rattle.parking_lot_rules.specs.Agenda.{Call, IsFirst, first_rank, cost, CallProgress, Rests, Begins, Works, ProgressState, phase_of, lock_of, phase, lock, threads, other_in, view_at, stage_steps, far, near_of, all_steps, Look, Start, First_step, Next_step, Refusal, Answer, IsWoken, TurnsLower}
 use Rattle.parking_lot_rules.proofs.Families.{put-same, put-other}
 use Rattle.parking_lot_rules.proofs.Running.{reached_sound}
 use Rattle.parking_lot_rules.proofs.Ranking.{few1, phase_before, phase_after, role_before}
@@ -20,9 +20,9 @@ use Rattle.parking_lot_rules.proofs.Aiming.{looking_few, sight_few, known_new, n
 use Rattle.parking_lot_rules.proofs.Planning.{sum_paid, all_fall, places_length, others_far, own_near, view_after, clear, phase_here, plain_first, first_some, looks_fall, rank_looks, looking_all, looking_more, stage_more, quiet_falls}
 
 -- a step at lock j
-module _ (bucket : ℕ → ℕ) (recursive : ℕ → Bool) (t j : ℕ) (step : Step) (sight : Sight) (old : Scene) (sound : IsSoundFamily bucket (family old.world)) (may : MayStep bucket recursive j t step old.world)
-    (within : t < threads old) (sees : is_stale sight ≡ false) (aims : ℕ → Aim) (stages : ℕ → Stage) (aim_is : aims t ≡ Watches sight) (aims_are : (u : ℕ) → u ≢ t → (aims u ≡ old.aims u) ⊎ (IsWoken step u × (old.stages u ≡ Works))) where
-  abbrev pub new : Scene
+module _ (bucket : ℕ → ℕ) (recursive : ℕ → Bool) (t j : ℕ) (step : Step) (sight : WordKnowledge) (old : ProgressState) (sound : IsSoundFamily bucket (family old.world)) (may : MayStep bucket recursive j t step old.world)
+    (within : t < threads old) (sees : is_stale sight ≡ false) (aims : ℕ → CallGoal) (stages : ℕ → CallProgress) (aim_is : aims t ≡ Watches sight) (aims_are : (u : ℕ) → u ≢ t → (aims u ≡ old.aims u) ⊎ (IsWoken step u × (old.stages u ≡ Works))) where
+  abbrev pub new : ProgressState
   new = record { world = world_after bucket j t step old.world; aims = aims; stages = stages; calls = old.calls }
 
   pub len : threads new ≡ threads old
@@ -134,7 +134,7 @@ module _ (bucket : ℕ → ℕ) (recursive : ℕ → Bool) (t j : ℕ) (step : S
       go (Wake o v us k stay) is first = absurd first
       go (Pass o v us) is first = absurd first
 
-same_scene : (bucket : ℕ → ℕ) (t : ℕ) (old new : Scene) (w : World) (stages : ℕ → Stage) (calls : ℕ → List (ℕ × Call)) → new.world ≡ w → new.stages ≡ stages → new.calls ≡ calls
+same_scene : (bucket : ℕ → ℕ) (t : ℕ) (old new : ProgressState) (w : World) (stages : ℕ → CallProgress) (calls : ℕ → List (ℕ × Call)) → new.world ≡ w → new.stages ≡ stages → new.calls ≡ calls
     → all_steps bucket (record { world = w; aims = new.aims; stages = stages; calls = calls }) t + 1 ≤ all_steps bucket old t → all_steps bucket new t + 1 ≤ all_steps bucket old t
 same_scene bucket t old new w stages calls a b c h = subst (λ s. all_steps bucket s t + 1 ≤ all_steps bucket old t) (sym same) h
   where

@@ -6,41 +6,41 @@ use Rattle.parking_lot_rules.specs.Family.{put}
 use Rattle.parking_lot_rules.specs.Plain.{Begin, Share, Unshare}
 use Rattle.parking_lot_rules.specs.Steps.{Step, Alone}
 use Rattle.parking_lot_rules.specs.World.{world_after}
-use Rattle.parking_lot_rules.specs.Sights.{Sight, Blind, Sees}
+use Rattle.parking_lot_rules.specs.Sights.{WordKnowledge, Blind, Sees}
 use Rattle.parking_lot_rules.specs.Aims.{Watches}
-use Rattle.parking_lot_rules.specs.Agenda.{Call, Acquire, Release, Stage, Rests, Begins, Works, Scene, phase, Look, Start, First_step, Next_step, Answer, Turned}
+use Rattle.parking_lot_rules.specs.Agenda.{Call, Acquire, Release, CallProgress, Rests, Begins, Works, ProgressState, phase, Look, Start, First_step, Next_step, Answer, Turned}
 use Rattle.parking_lot_rules.specs.Visit.{reader, VisitIsThere}
 use Rattle.parking_lot_rules.proofs.Families.{put-other}
 
 -- the scenes that it goes through
-abbrev started : Scene → ℕ × Call → List (ℕ × Call) → Scene
+abbrev started : ProgressState → ℕ × Call → List (ℕ × Call) → ProgressState
 started s job jobs = record s { aims = put s.aims 0 (Watches (Blind 0)); stages = put s.stages 0 (Begins job); calls = put s.calls 0 jobs }
 
-abbrev stepped : Scene → Step → Sight → Stage → Scene
+abbrev stepped : ProgressState → Step → WordKnowledge → CallProgress → ProgressState
 stepped s step sight stage = record s { world = world_after (λ k. 0) 0 0 step s.world; aims = put s.aims 0 (Watches sight); stages = put s.stages 0 stage }
 
-abbrev s1 : Scene
+abbrev s1 : ProgressState
 s1 = started reader (0, Acquire Shared) ((0, Release Shared) ∷ [])
 
-abbrev s2 : Scene
+abbrev s2 : ProgressState
 s2 = stepped s1 (Alone (Begin 0 Shared)) (Blind 0) Works
 
-abbrev s3 : Scene
+abbrev s3 : ProgressState
 s3 = record s2 { aims = put s2.aims 0 (Watches (Sees false 0)) }
 
-abbrev s4 : Scene
+abbrev s4 : ProgressState
 s4 = record s3 { world = world_after (λ k. 0) 0 0 (Alone (Share 0 false)) s3.world; aims = put s3.aims 0 (Watches (Blind 0)) }
 
-abbrev s5 : Scene
+abbrev s5 : ProgressState
 s5 = record s4 { stages = put s4.stages 0 Rests }
 
-abbrev s6 : Scene
+abbrev s6 : ProgressState
 s6 = started s5 (0, Release Shared) []
 
-abbrev s7 : Scene
+abbrev s7 : ProgressState
 s7 = stepped s6 (Alone (Unshare 0)) (Blind 0) Works
 
-abbrev s8 : Scene
+abbrev s8 : ProgressState
 s8 = record s7 { stages = put s7.stages 0 Rests }
 
 -- none of its threads does anything at first

@@ -6,12 +6,12 @@ use Rattle.parking_lot_rules.specs.Clauses.{Word}
 use Rattle.parking_lot_rules.specs.Plain.{bars, Flag1, Flag2}
 use Rattle.parking_lot_rules.specs.Steps.{Step, Alone}
 use Rattle.parking_lot_rules.specs.Ranks.{where_some, to_come, by_stay, worst, KnowsTheWord}
-use Rattle.parking_lot_rules.specs.Sights.{Sight, Blind, Sees, looks_left}
+use Rattle.parking_lot_rules.specs.Sights.{WordKnowledge, Blind, Sees, looks_left}
 
 -- What a thread goes by: what it has seen of the word; or nothing any more, since it is to enter a section next.
-pub data Aim : Type 0 where
-  Watches : (sight : Sight) → Aim
-  Enters : Aim
+pub data CallGoal : Type 0 where
+  Watches : (sight : WordKnowledge) → CallGoal
+  Enters : CallGoal
 
 -- whether what it has seen is so, or may be out of date, or doesn't matter
 pub data Knowledge : Type 0 where
@@ -19,7 +19,7 @@ pub data Knowledge : Type 0 where
   Old : Knowledge
   Set : Knowledge
 
-abbrev pub knowledge : Aim → Knowledge
+abbrev pub knowledge : CallGoal → Knowledge
 knowledge (Watches (Blind k)) = New
 knowledge (Watches (Sees false k)) = New
 knowledge (Watches (Sees true k)) = Old
@@ -89,19 +89,19 @@ looking (Drains from woken) k = k
 looking (Yields from) k = k
 looking phase k = 0
 
-abbrev pub looks_of : Aim → ℕ
+abbrev pub looks_of : CallGoal → ℕ
 looks_of (Watches sight) = looks_left sight
 looks_of Enters = 0
 
-abbrev pub most_looks : Aim → ℕ
+abbrev pub most_looks : CallGoal → ℕ
 most_looks (Watches sight) = 21
 most_looks Enters = 0
 
 -- All steps of a thread that isn't being stepped, and of the one that is: 22 for each rank, and the looks that can come before it.
-abbrev pub far_steps : ℕ → Aim → Phase → ℕ
+abbrev pub far_steps : ℕ → CallGoal → Phase → ℕ
 far_steps n aim phase = 22 * far_rank n phase (knowledge aim) + looking phase (most_looks aim)
 
-abbrev pub near_steps : ℕ → View → Aim → Phase → ℕ
+abbrev pub near_steps : ℕ → View → CallGoal → Phase → ℕ
 near_steps n v aim phase = 22 * near_rank n v phase (knowledge aim) + looking phase (looks_of aim)
 
 -- a thread does what it knows; one that is to enter a section sets no bit before

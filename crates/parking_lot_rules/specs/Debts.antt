@@ -82,22 +82,22 @@ abbrev pub debts : (ℕ → Bool) → Lock → List ℕ
 debts saw l = passing (λ u r. saw u || is_in_debt r.does) 0 l.roles
 
 -- What a step does to whether a thread is so.
-pub data Turn : Type 0 where
-  Begins : Turn
-  Ends : Turn
-  Remains : Turn
+pub data DebtChange : Type 0 where
+  Begins : DebtChange
+  Ends : DebtChange
+  Remains : DebtChange
 
-abbrev pub turned : Turn → Bool → Bool
+abbrev pub turned : DebtChange → Bool → Bool
 turned Begins was = true
 turned Ends was = false
 turned Remains was = was
 
-abbrev pub begins_if : Bool → Turn
+abbrev pub begins_if : Bool → DebtChange
 begins_if true = Begins
 begins_if false = Remains
 
 -- it ends where nobody is left
-abbrev pub ends_without : List ℕ → Turn
+abbrev pub ends_without : List ℕ → DebtChange
 ends_without [] = Ends
 ends_without (v ∷ taken) = Remains
 
@@ -107,13 +107,13 @@ left_to_wake (Alone (Depart1 owns taken)) = taken
 left_to_wake (Alone (Depart2 n taken)) = taken
 left_to_wake step = []
 
-abbrev pub by_crossing : Crossing → List ℕ → Turn
+abbrev pub by_crossing : Crossing → List ℕ → DebtChange
 by_crossing (Comes k) taken = Begins
 by_crossing (Goes k) taken = ends_without taken
 by_crossing Stays taken = Remains
 
 -- A thread owes from the step at which it saw waiters, or entered a section, until that section has ended and all whom it took are woken.
-abbrev pub owing : Step → Turn
+abbrev pub owing : Step → DebtChange
 owing (Alone (UnshareLast n)) = Begins
 owing (Alone (Yield saw)) = begins_if saw
 owing (Alone (YieldBack saw)) = begins_if saw
@@ -125,11 +125,11 @@ owing (Pass owns v taken) = ends_without taken
 owing step = by_crossing (crossing step) (left_to_wake step)
 
 -- it ends where the thread was handed what it wants, and begins where it is awake, and was told to try
-abbrev pub expiring : Mode → Mark → Turn
+abbrev pub expiring : Mode → Mark → DebtChange
 expiring mode mark = begins_if (still_tries mode mark)
 
 -- One that was woken, or taken and is awake, is about to try, until it owns or waits again.
-abbrev pub retrying : Step → Turn
+abbrev pub retrying : Step → DebtChange
 retrying (Alone (Share n woken)) = Ends
 retrying (Alone (Pend woken)) = Ends
 retrying (Alone (Drain from woken)) = Ends
@@ -145,7 +145,7 @@ retrying (Alone (ReceivePending by)) = Begins
 retrying step = Remains
 
 -- what it does to another thread that it wakes
-abbrev pub waking : Waking → Turn
+abbrev pub waking : Waking → DebtChange
 waking (Retry mode) = Begins
 waking Own = Ends
 waking OwnPending = Begins
@@ -153,16 +153,16 @@ waking OwnUpgradable = Ends
 waking (Recheck from) = Begins
 
 -- a shared or upgradable waiter that was taken owns the lock once it is handed over
-abbrev pub handing : Phase → Turn
+abbrev pub handing : Phase → DebtChange
 handing (Taken1 Shared by Open stay) = Ends
 handing (Taken1 Upgradable by Open stay) = Ends
 handing phase = Remains
 
-abbrev pub where_same : ℕ → ℕ → Turn → Turn
+abbrev pub where_same : ℕ → ℕ → DebtChange → DebtChange
 where_same u v turn = if u == v then turn else Remains
 
 -- and to any other thread u, in its phase
-abbrev pub retrying_other : Step → ℕ → Phase → Turn
+abbrev pub retrying_other : Step → ℕ → Phase → DebtChange
 retrying_other (Take1 scan i v mode stay) u phase = where_same u v (begins_if (is_up stay))
 retrying_other (Take2 owns v from stay) u phase = where_same u v (begins_if (is_up stay))
 retrying_other (Store Hand scan) u phase = handing phase

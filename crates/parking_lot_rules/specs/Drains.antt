@@ -5,8 +5,8 @@ use Rattle.parking_lot_rules.specs.Steps.{Step}
 use Rattle.parking_lot_rules.specs.World.{world_after, MayStep}
 use Rattle.parking_lot_rules.specs.Runs.{IsReached}
 use Rattle.parking_lot_rules.specs.Ranks.{is_deadline}
-use Rattle.parking_lot_rules.specs.Sights.{Sight}
-use Rattle.parking_lot_rules.specs.Agenda.{Acquire, Release, cost, Stage, Rests, Begins, Works, Scene, phase, threads, far, sum_to, all_steps, Turn, Next_step, Turned, Stop, HandsOn}
+use Rattle.parking_lot_rules.specs.Sights.{WordKnowledge}
+use Rattle.parking_lot_rules.specs.Agenda.{Acquire, Release, cost, CallProgress, Rests, Begins, Works, ProgressState, phase, threads, far, sum_to, all_steps, ScheduledStep, Next_step, Turned, Stop, HandsOn}
 
 -- the most steps of a call among n threads, whatever call it is and whatever comes to it
 abbrev pub most_of_a_call : ℕ → ℕ
@@ -17,54 +17,54 @@ abbrev pub most_of_a_deadline : ℕ → ℕ
 most_of_a_deadline n = 396 * n + 220
 
 -- the calls of a thread that aren't answered, and those of all threads
-abbrev pub underway : Stage → ℕ
+abbrev pub underway : CallProgress → ℕ
 underway Rests = 0
 underway (Begins job) = 1
 underway Works = 1
 
-abbrev pub unanswered : Scene → ℕ → ℕ
+abbrev pub unanswered : ProgressState → ℕ → ℕ
 unanswered s u = underway (s.stages u) + length (s.calls u)
 
-abbrev pub all_unanswered : Scene → ℕ
+abbrev pub all_unanswered : ProgressState → ℕ
 all_unanswered s = sum_to (unanswered s) (threads s)
 
 -- A thread is doing something at a lock only in a call, once that has changed something.
-abbrev pub IsProper : Scene → Type 0
+abbrev pub IsProper : ProgressState → Type 0
 IsProper s = (u : ℕ) → (phase s u ≡ Idle) ⊎ (s.stages u ≡ Works)
 
 -- all steps where no thread is being stepped
-abbrev pub steps_of_all : Scene → ℕ
+abbrev pub steps_of_all : ProgressState → ℕ
 steps_of_all s = sum_to (far s) (threads s)
 
 -- At every moment they are no more than that many for each call that isn't answered; and no more if some thread is being stepped.
 abbrev pub StepsAreFew : Type 0
-StepsAreFew = (bucket : ℕ → ℕ) (recursive : ℕ → Bool) (s : Scene) → IsReached bucket recursive s.world → IsProper s → steps_of_all s ≤ most_of_a_call (threads s) * all_unanswered s
+StepsAreFew = (bucket : ℕ → ℕ) (recursive : ℕ → Bool) (s : ProgressState) → IsReached bucket recursive s.world → IsProper s → steps_of_all s ≤ most_of_a_call (threads s) * all_unanswered s
 
 abbrev pub AnyMayBeStepped : Type 0
-AnyMayBeStepped = (bucket : ℕ → ℕ) (recursive : ℕ → Bool) (t : ℕ) (s : Scene) → IsReached bucket recursive s.world → all_steps bucket s t ≤ steps_of_all s
+AnyMayBeStepped = (bucket : ℕ → ℕ) (recursive : ℕ → Bool) (t : ℕ) (s : ProgressState) → IsReached bucket recursive s.world → all_steps bucket s t ≤ steps_of_all s
 
 -- The deadline of a thread that sleeps passes.
-pub record Expires (bucket : ℕ → ℕ) (recursive : ℕ → Bool) (u j : ℕ) (step : Step) (old new : Scene) : Type 0 where
+pub record Expires (bucket : ℕ → ℕ) (recursive : ℕ → Bool) (u j : ℕ) (step : Step) (old new : ProgressState) : Type 0 where
   pub may : MayStep bucket recursive j u step old.world
   pub deadline : is_deadline step ≡ true
   pub world : new ≡ record old { world = world_after bucket j u step old.world }
 
 -- It adds the steps of giving up: those of that thread alone, and no more than that, whoever is being stepped.
 abbrev pub DeadlinesAddFew : Type 0
-DeadlinesAddFew = (bucket : ℕ → ℕ) (recursive : ℕ → Bool) (t u j : ℕ) (step : Step) (old new : Scene) → IsReached bucket recursive old.world → Expires bucket recursive u j step old new
+DeadlinesAddFew = (bucket : ℕ → ℕ) (recursive : ℕ → Bool) (t u j : ℕ) (step : Step) (old new : ProgressState) → IsReached bucket recursive old.world → Expires bucket recursive u j step old new
     → all_steps bucket new t ≤ all_steps bucket old t + most_of_a_deadline (threads old)
 
 -- What comes next: a turn of the thread that is being stepped; it stops, and another is stepped from there on; or a deadline passes.
 pub data Event : Type 0 where
-  Takes : (turn : Turn) → Event
+  Takes : (turn : ScheduledStep) → Event
   Hands_on : (stop : Stop) → (next : ℕ) → Event
   Passes : (thread lock : ℕ) → (step : Step) → Event
 
-abbrev pub GoesOn : (ℕ → ℕ) → (ℕ → Bool) → Scene → ℕ → List Event → Scene → ℕ → Type 0
+abbrev pub GoesOn : (ℕ → ℕ) → (ℕ → Bool) → ProgressState → ℕ → List Event → ProgressState → ℕ → Type 0
 GoesOn bucket recursive s t [] last who = (s ≡ last) × (t ≡ who)
-GoesOn bucket recursive s t (Takes turn ∷ es) last who = (next : Scene) × (t < threads s) × Turned bucket recursive t turn s next × GoesOn bucket recursive next t es last who
-GoesOn bucket recursive s t (Hands_on stop u ∷ es) last who = (next : Scene) × HandsOn bucket t stop s next × GoesOn bucket recursive next u es last who
-GoesOn bucket recursive s t (Passes u j step ∷ es) last who = (next : Scene) × Expires bucket recursive u j step s next × GoesOn bucket recursive next t es last who
+GoesOn bucket recursive s t (Takes turn ∷ es) last who = (next : ProgressState) × (t < threads s) × Turned bucket recursive t turn s next × GoesOn bucket recursive next t es last who
+GoesOn bucket recursive s t (Hands_on stop u ∷ es) last who = (next : ProgressState) × HandsOn bucket t stop s next × GoesOn bucket recursive next u es last who
+GoesOn bucket recursive s t (Passes u j step ∷ es) last who = (next : ProgressState) × Expires bucket recursive u j step s next × GoesOn bucket recursive next t es last who
 
 -- how many turns, and how many deadlines
 abbrev pub turns : List Event → ℕ
@@ -81,12 +81,12 @@ deadlines (Passes u j step ∷ es) = suc (deadlines es)
 
 -- So the threads take no more turns than there are steps, with those that deadlines add, and what is left of them is left.
 abbrev pub TurnsAreFew : Type 0
-TurnsAreFew = (bucket : ℕ → ℕ) (recursive : ℕ → Bool) (s last : Scene) (t who : ℕ) (es : List Event) → IsReached bucket recursive s.world → GoesOn bucket recursive s t es last who
+TurnsAreFew = (bucket : ℕ → ℕ) (recursive : ℕ → Bool) (s last : ProgressState) (t who : ℕ) (es : List Event) → IsReached bucket recursive s.world → GoesOn bucket recursive s t es last who
     → turns es + all_steps bucket last who ≤ all_steps bucket s t + most_of_a_deadline (threads s) * deadlines es
 
 -- And so no more than that many for each call, and for each deadline.
 abbrev pub RunsAreShort : Type 0
-RunsAreShort = (bucket : ℕ → ℕ) (recursive : ℕ → Bool) (s last : Scene) (t who : ℕ) (es : List Event) → IsReached bucket recursive s.world → IsProper s → GoesOn bucket recursive s t es last who
+RunsAreShort = (bucket : ℕ → ℕ) (recursive : ℕ → Bool) (s last : ProgressState) (t who : ℕ) (es : List Event) → IsReached bucket recursive s.world → IsProper s → GoesOn bucket recursive s t es last who
     → turns es ≤ most_of_a_call (threads s) * all_unanswered s + most_of_a_deadline (threads s) * deadlines es
 
 -- A visit: a lock is acquired and given up again, with 100 steps of its owner between. All of that is less than 256 for each square of one
@@ -122,9 +122,9 @@ is_inside phase = false
 
 -- Each step of a thread inside a section lowers them too, so threads may be stepped out of their sections one after another, and no further.
 abbrev pub SectionsLower : Type 0
-SectionsLower = (bucket : ℕ → ℕ) (recursive : ℕ → Bool) (t : ℕ) (step : Step) (sight : Sight) (old new : Scene) → IsReached bucket recursive old.world → t < threads old → IsTrue (is_inside (phase old t))
+SectionsLower = (bucket : ℕ → ℕ) (recursive : ℕ → Bool) (t : ℕ) (step : Step) (sight : WordKnowledge) (old new : ProgressState) → IsReached bucket recursive old.world → t < threads old → IsTrue (is_inside (phase old t))
     → Turned bucket recursive t (Next_step step sight) old new → steps_of_all new + 1 ≤ steps_of_all old
 
 -- Scenes stay proper, whatever comes.
 abbrev pub ScenesStayProper : Type 0
-ScenesStayProper = (bucket : ℕ → ℕ) (recursive : ℕ → Bool) (s last : Scene) (t who : ℕ) (es : List Event) → IsReached bucket recursive s.world → GoesOn bucket recursive s t es last who → IsProper s → IsProper last
+ScenesStayProper = (bucket : ℕ → ℕ) (recursive : ℕ → Bool) (s last : ProgressState) (t who : ℕ) (es : List Event) → IsReached bucket recursive s.world → GoesOn bucket recursive s t es last who → IsProper s → IsProper last

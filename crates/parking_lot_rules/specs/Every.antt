@@ -131,13 +131,13 @@ Acts bucket recursive t (One j step) old new = StepOf (every_rules recursive) bu
 Acts bucket recursive t (Two j k one two) old new = BothOf (every_rules recursive) bucket j k t one two old new
 
 -- one act of a schedule, and what it leads to
-pub record Turn : Type 0 where
+pub record ScheduledAct : Type 0 where
   pub thread : ℕ
   pub act : Act
   pub next : Family EveryLock
 
 -- the acts can be made one after another
-abbrev pub Turns : (ℕ → ℕ) → (ℕ → Bool) → Family EveryLock → List Turn → Family EveryLock → Type 0
+abbrev pub Turns : (ℕ → ℕ) → (ℕ → Bool) → Family EveryLock → List ScheduledAct → Family EveryLock → Type 0
 Turns bucket recursive f [] g = g ≡ f
 Turns bucket recursive f (e ∷ es) g = Acts bucket recursive e.thread e.act f e.next × Turns bucket recursive e.next es g
 
@@ -158,7 +158,7 @@ all_resting kinds threads = record { locks = λ i. resting threads i (kinds i); 
 pub record IsReached (bucket : ℕ → ℕ) (recursive : ℕ → Bool) (f : Family EveryLock) : Type 0 where
   pub kinds : ℕ → Kind
   pub threads : ℕ
-  pub turns : List Turn
+  pub turns : List ScheduledAct
   pub run : Turns bucket recursive (all_resting kinds threads) turns f
 
 -- a thread sleeps at a lock, and waits for what its owner or a waker does; one that waits for a condition variable waits for no owner

@@ -3,7 +3,7 @@ use Rattle.std.specs.Prelude.{◌≡◌, ◌≢◌, ℕ, ◌<◌, Bool, true, fa
 use Rattle.parking_lot_rules.specs.Roles.{Mark, Open, Normal, Handed}
 use Rattle.parking_lot_rules.specs.Classes.{bit}
 use Rattle.parking_lot_rules.specs.Lists.{occurs}
-use Rattle.parking_lot_rules.specs.Debts.{is_inside, is_up, and_up, passing, Turn, Begins, Ends, Remains, turned, begins_if, ends_without, by_crossing, where_same}
+use Rattle.parking_lot_rules.specs.Debts.{is_inside, is_up, and_up, passing, DebtChange, Begins, Ends, Remains, turned, begins_if, ends_without, by_crossing, where_same}
 use Rattle.parking_lot_rules.specs.Mutex.{Phase, Seeks, Enters, Checked, Queued, Taken, Masks, Leaves, Unlocks, Stored, Wakes, Comes, Moves, Role, Owning, weight, total, Mutex, Lock, Check, ExpireTaken, Resume, Depart, Step, Alone, Take, Hand, Wake, WakeOwner, Pass, Allowed, after, Runs, unlocked}
 use Rattle.parking_lot_rules.specs.MutexLaws.{is_asleep}
 use Rattle.parking_lot_rules.specs.Any.{mutex_crossing}
@@ -45,24 +45,24 @@ abbrev pub left_to_wake : Step → List ℕ
 left_to_wake (Alone (Depart owns taken)) = taken
 left_to_wake step = []
 
-abbrev pub owing : Step → Turn
+abbrev pub owing : Step → DebtChange
 owing (Wake owns v taken stay) = ends_without taken
 owing (WakeOwner owns v taken stay) = ends_without taken
 owing (Pass owns v taken) = ends_without taken
 owing step = by_crossing (mutex_crossing step) (left_to_wake step)
 
-abbrev pub retrying : Step → Turn
+abbrev pub retrying : Step → DebtChange
 retrying (Alone (Lock woken)) = Ends
 retrying (Alone (Check woken)) = Ends
 retrying (Alone (ExpireTaken by mark)) = begins_if (still_tries mark)
 retrying (Alone (Resume by)) = Begins
 retrying step = Remains
 
-abbrev pub handing : Phase → Turn
+abbrev pub handing : Phase → DebtChange
 handing (Taken by Open stay) = Ends
 handing phase = Remains
 
-abbrev pub retrying_other : Step → ℕ → Phase → Turn
+abbrev pub retrying_other : Step → ℕ → Phase → DebtChange
 retrying_other (Take v stay) u phase = where_same u v (begins_if (is_up stay))
 retrying_other (Hand v) u phase = handing phase
 retrying_other (Wake owns v taken stay) u phase = where_same u v Begins

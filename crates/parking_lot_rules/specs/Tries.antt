@@ -12,20 +12,20 @@ use Rattle.parking_lot_rules.specs.Mutex as mutex
 use Rattle.parking_lot_rules.specs.Mutex.{Mutex}
 
 -- What other threads do before an exchange, and where that leads.
-pub record Stage (W E : Type 0) : Type 0 where
+pub record Interference (W E : Type 0) : Type 0 where
   pub steps : List E
   pub next : W
 
 -- A try that has seen the word where it stands, and has so many exchanges left, is refused: that word keeps it out; or no exchange is left; or
 -- others make steps, its exchange is lost, since the word is another one by then, and the try goes on with the word that it saw.
-abbrev pub IsRefused : {W E V : Type 0} → (W → List E → W → Type 0) → (W → V) → (V → Type 0) → ℕ → W → List (Stage W E) → Type 0
+abbrev pub IsRefused : {W E V : Type 0} → (W → List E → W → Type 0) → (W → V) → (V → Type 0) → ℕ → W → List (Interference W E) → Type 0
 IsRefused make word out zero w [] = Unit {0}
 IsRefused make word out zero w (s ∷ stages) = ⊥
 IsRefused make word out (suc n) w [] = out (word w)
 IsRefused make word out (suc n) w (s ∷ stages) = make w s.steps s.next × (word s.next ≢ word w) × IsRefused make word out n s.next stages
 
 -- how much all stages count together
-abbrev pub in_all : {W E : Type 0} → (List E → ℕ) → List (Stage W E) → ℕ
+abbrev pub in_all : {W E : Type 0} → (List E → ℕ) → List (Interference W E) → ℕ
 in_all count [] = 0
 in_all count (s ∷ stages) = count s.steps + in_all count stages
 
@@ -80,7 +80,7 @@ moves_at i ms = count_by (λ (m : Move). m.lock == i) ms
 -- A try that is refused saw, at some moment, a word that kept it out, and some other thread is the cause at that moment; or other threads made
 -- as many moves at that lock during the try as it has exchanges.
 abbrev pub RefusedTriesHaveACause : Type 0
-RefusedTriesHaveACause = (bucket : ℕ → ℕ) (recursive : ℕ → Bool) (w : World) (i t n : ℕ) (tried : Tried) (stages : List (Stage World Move)) → IsReached bucket recursive w
+RefusedTriesHaveACause = (bucket : ℕ → ℕ) (recursive : ℕ → Bool) (w : World) (i t n : ℕ) (tried : Tried) (stages : List (Interference World Move)) → IsReached bucket recursive w
     → slice_get (lock_at w i).roles t ≡ Some (trying tried n) → IsRefused (others_run bucket recursive t) (λ (v : World). v.words i) (KeepsOut (recursive i) tried) (limit tried) w stages
     → ((v : World) × IsReached bucket recursive v × KeepsOut (recursive i) tried (v.words i) × Cause tried (lock_at v i) t) ⊎ (limit tried ≤ in_all (moves_at i) stages)
 
@@ -100,6 +100,6 @@ IsReachedMutex m = (threads : ℕ) × (steps : List (ℕ × mutex.Step)) × mute
 
 -- A try at a mutex that is refused saw an owner, another thread; or others made 64 steps there during it.
 abbrev pub RefusedTriesAtAMutexHaveACause : Type 0
-RefusedTriesAtAMutexHaveACause = (m : Mutex) (t : ℕ) (stages : List (Stage Mutex (ℕ × mutex.Step))) → IsReachedMutex m → slice_get m.roles t ≡ Some (mutex.doing (mutex.Seeks false))
+RefusedTriesAtAMutexHaveACause = (m : Mutex) (t : ℕ) (stages : List (Interference Mutex (ℕ × mutex.Step))) → IsReachedMutex m → slice_get m.roles t ≡ Some (mutex.doing (mutex.Seeks false))
     → IsRefused (others_run_there t) (λ (v : Mutex). v.word) (λ (w : mutex.Word). 0 < w.locked) 64 m stages
     → ((v : Mutex) × IsReachedMutex v × (0 < v.word.locked) × OwnerOf v t) ⊎ (64 ≤ in_all (λ es. length es) stages)

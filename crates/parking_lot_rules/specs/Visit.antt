@@ -6,11 +6,11 @@ use Rattle.parking_lot_rules.specs.Steps.{Alone}
 use Rattle.parking_lot_rules.specs.Runs.{at_rest}
 use Rattle.parking_lot_rules.specs.Sights.{Blind, Sees}
 use Rattle.parking_lot_rules.specs.Aims.{Watches}
-use Rattle.parking_lot_rules.specs.Agenda.{Acquire, Release, Rests, Scene, all_steps, Look, Start, First_step, Next_step, Answer}
+use Rattle.parking_lot_rules.specs.Agenda.{Acquire, Release, Rests, ProgressState, all_steps, Look, Start, First_step, Next_step, Answer}
 use Rattle.parking_lot_rules.specs.Drains.{all_unanswered, IsProper, Event, Takes, GoesOn, turns}
 
 -- a thread that is to acquire lock 0 shared, and to give it up again
-abbrev pub reader : Scene
+abbrev pub reader : ProgressState
 reader = record { world = at_rest 1; aims = λ u. Watches (Blind 0); stages = λ u. Rests; calls = λ u. (0, Acquire Shared) ∷ (0, Release Shared) ∷ [] }
 
 -- it starts, loads the word, is admitted and has its answer; it starts again, subtracts, and has its answer
@@ -20,7 +20,7 @@ visit = Takes Start ∷ Takes (First_step (Alone (Begin 0 Shared)) (Blind 0)) �
 
 -- It can do so, in 8 of the 750 turns that the laws allow, and then both calls are answered.
 pub record VisitIsThere : Type 0 where
-  pub last : Scene
+  pub last : ProgressState
   pub goes : GoesOn (λ k. 0) (λ i. false) reader 0 visit last 0
   pub turns : turns visit ≡ 8
   pub steps : all_steps (λ k. 0) reader 0 ≡ 750

@@ -3,8 +3,6 @@
 #![tactic(auto)]
 
 #[cfg(test)]
-mod cores;
-#[cfg(test)]
 mod guards;
 #[cfg(test)]
 mod mutex_calls;
@@ -18,6 +16,8 @@ mod rows;
 mod rules;
 #[cfg(test)]
 mod rw_calls;
+#[cfg(test)]
+mod script;
 #[cfg(test)]
 mod sections;
 #[cfg(test)]

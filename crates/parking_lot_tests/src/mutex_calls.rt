@@ -1,9 +1,9 @@
 //! Calls at a mutex, told what they see.
 
-use crate::cores::follow_mutex;
+use crate::script::follow_mutex;
 use parking_lot_core::DEFAULT_PARK_TOKEN;
-use parking_lot_cores::{
-    Act, CoreAnswer, HAND_OVER, MutexCore, SectionAct, Seen, TRY_AGAIN, WordChange,
+use parking_lot_protocol::{
+    Act, ActResult, CoreAnswer, HAND_OVER, MutexCore, SectionAct, TRY_AGAIN, WordChange,
 };
 use std::process::Abort;
 
@@ -13,21 +13,21 @@ fn a_locker_sleeps_and_tries_again(rt: HostRuntime) {
         &rt,
         MutexCore::lock(),
         &[
-            (Seen::Start, Act::Load),
-            (Seen::Word(0), Act::Exchange(0, 1)),
-            (Seen::Word(1), Act::Spin),
-            (Seen::Spun(false), Act::Exchange(1, 3)),
-            (Seen::Exchanged, Act::Enter(0)),
-            (Seen::Entered, Act::Section(SectionAct::Check)),
+            (ActResult::Start, Act::Load),
+            (ActResult::Word(0), Act::Exchange(0, 1)),
+            (ActResult::Word(1), Act::Spin),
+            (ActResult::Spun(false), Act::Exchange(1, 3)),
+            (ActResult::Exchanged, Act::Enter(0)),
+            (ActResult::Entered, Act::Section(SectionAct::Check)),
             (
-                Seen::Word(3),
+                ActResult::Word(3),
                 Act::Section(SectionAct::Append(DEFAULT_PARK_TOKEN)),
             ),
-            (Seen::Made, Act::Section(SectionAct::Leave)),
-            (Seen::Made, Act::Sleep),
-            (Seen::Woken(TRY_AGAIN), Act::Load),
-            (Seen::Word(2), Act::Exchange(2, 3)),
-            (Seen::Exchanged, Act::Done(CoreAnswer::Owned)),
+            (ActResult::Made, Act::Section(SectionAct::Leave)),
+            (ActResult::Made, Act::Sleep),
+            (ActResult::Woken(TRY_AGAIN), Act::Load),
+            (ActResult::Word(2), Act::Exchange(2, 3)),
+            (ActResult::Exchanged, Act::Done(CoreAnswer::Owned)),
         ],
     );
 }
@@ -38,11 +38,11 @@ fn an_invalid_sleep_is_left(rt: HostRuntime) {
         &rt,
         MutexCore::lock(),
         &[
-            (Seen::Start, Act::Load),
-            (Seen::Word(3), Act::Enter(0)),
-            (Seen::Entered, Act::Section(SectionAct::Check)),
-            (Seen::Word(2), Act::Section(SectionAct::Leave)),
-            (Seen::Made, Act::Load),
+            (ActResult::Start, Act::Load),
+            (ActResult::Word(3), Act::Enter(0)),
+            (ActResult::Entered, Act::Section(SectionAct::Check)),
+            (ActResult::Word(2), Act::Section(SectionAct::Leave)),
+            (ActResult::Made, Act::Load),
         ],
     );
 }
@@ -53,9 +53,9 @@ fn release(rt: &impl Abort, core: MutexCore, plain: u64, fair: bool, hands: bool
         rt,
         core,
         &[
-            (Seen::Start, Act::Exchange(1, 0)),
-            (Seen::Word(3), Act::Enter(0)),
-            (Seen::Entered, Act::Section(SectionAct::TakeFirst)),
+            (ActResult::Start, Act::Exchange(1, 0)),
+            (ActResult::Word(3), Act::Enter(0)),
+            (ActResult::Entered, Act::Section(SectionAct::TakeFirst)),
         ],
     );
     let token = Some(DEFAULT_PARK_TOKEN);
@@ -72,8 +72,8 @@ fn release(rt: &impl Abort, core: MutexCore, plain: u64, fair: bool, hands: bool
         rt,
         core,
         &[
-            (Seen::Took { token, left: true }, Act::Section(store)),
-            (Seen::Stored { fair }, Act::Section(SectionAct::Leave)),
+            (ActResult::Took { token, left: true }, Act::Section(store)),
+            (ActResult::Stored { fair }, Act::Section(SectionAct::Leave)),
         ],
     );
     assert!(rt; (core.wake_token() == HAND_OVER) == hands);
@@ -81,8 +81,8 @@ fn release(rt: &impl Abort, core: MutexCore, plain: u64, fair: bool, hands: bool
         rt,
         core,
         &[
-            (Seen::Made, Act::Section(SectionAct::Wake)),
-            (Seen::Made, Act::Done(CoreAnswer::Released)),
+            (ActResult::Made, Act::Section(SectionAct::Wake)),
+            (ActResult::Made, Act::Done(CoreAnswer::Released)),
         ],
     );
 }
@@ -100,27 +100,27 @@ fn tries_and_bumps(rt: HostRuntime) {
         &rt,
         MutexCore::try_lock(),
         &[
-            (Seen::Start, Act::Load),
-            (Seen::Word(3), Act::Done(CoreAnswer::Refused)),
+            (ActResult::Start, Act::Load),
+            (ActResult::Word(3), Act::Done(CoreAnswer::Refused)),
         ],
     );
     follow_mutex(
         &rt,
         MutexCore::bump(),
         &[
-            (Seen::Start, Act::Load),
-            (Seen::Word(1), Act::Done(CoreAnswer::Owned)),
+            (ActResult::Start, Act::Load),
+            (ActResult::Word(1), Act::Done(CoreAnswer::Owned)),
         ],
     );
     follow_mutex(
         &rt,
         MutexCore::bump(),
         &[
-            (Seen::Start, Act::Load),
-            (Seen::Word(3), Act::Exchange(1, 0)),
-            (Seen::Exchanged, Act::Load),
-            (Seen::Word(0), Act::Exchange(0, 1)),
-            (Seen::Exchanged, Act::Done(CoreAnswer::Owned)),
+            (ActResult::Start, Act::Load),
+            (ActResult::Word(3), Act::Exchange(1, 0)),
+            (ActResult::Exchanged, Act::Load),
+            (ActResult::Word(0), Act::Exchange(0, 1)),
+            (ActResult::Exchanged, Act::Done(CoreAnswer::Owned)),
         ],
     );
 }

@@ -2,7 +2,7 @@
 
 use lock_api_raw::{RawMutex as _, RawRwLock as _, TableFull};
 use parking_lot_core::{ParkingLot, SizeFault};
-use parking_lot_locks::{Act, CoreAnswer, LockTable, RawMutex, RawRwLock, Row, RwCore, Seen};
+use parking_lot_locks::{Act, ActResult, CoreAnswer, LockTable, RawMutex, RawRwLock, Row, RwCore};
 use std::test::Fail;
 
 #[test]
@@ -55,21 +55,21 @@ fn words_change_by_atomic_steps(rt: HostRuntime) -> Result<(), Fail> {
 }
 
 /// Makes the act that a core without waiters can ask for, on a row.
-fn make(row: &Row<'_, '_, HostRuntime>, act: Act) -> Option<Seen> {
+fn make(row: &Row<'_, '_, HostRuntime>, act: Act) -> Option<ActResult> {
     match act {
-        Act::Load => Some(Seen::Word(row.load())),
+        Act::Load => Some(ActResult::Word(row.load())),
         Act::Exchange(from, to) => Some(match row.exchange(from, to) {
-            Ok(()) => Seen::Exchanged,
-            Err(word) => Seen::Word(word),
+            Ok(()) => ActResult::Exchanged,
+            Err(word) => ActResult::Word(word),
         }),
-        Act::Add(by) => Some(Seen::Before(row.add(by))),
+        Act::Add(by) => Some(ActResult::Before(row.add(by))),
         _ => None,
     }
 }
 
 /// Runs a call on a row to its end.
 fn run(row: &Row<'_, '_, HostRuntime>, mut core: RwCore) -> Act {
-    let mut act = core.next(Seen::Start);
+    let mut act = core.next(ActResult::Start);
     for _act in 0..20 {
         match make(row, act) {
             Some(seen) => act = core.next(seen),

@@ -1,9 +1,9 @@
 //! Calls at a reader-writer lock, told what they see.
 
-use crate::cores::follow_rw;
+use crate::script::follow_rw;
 use parking_lot_core::ParkToken;
-use parking_lot_cores::{
-    Act, CoreAnswer, HAND_OVER, RwCore, SectionAct, Seen, TRY_AGAIN, WordChange,
+use parking_lot_protocol::{
+    Act, ActResult, CoreAnswer, HAND_OVER, RwCore, SectionAct, TRY_AGAIN, WordChange,
 };
 
 #[test]
@@ -12,33 +12,36 @@ fn a_writer_waits_for_a_reader_and_is_woken(rt: HostRuntime) {
         &rt,
         RwCore::lock_exclusive(),
         &[
-            (Seen::Start, Act::Load),
-            (Seen::Word(16), Act::Exchange(16, 24)),
-            (Seen::Exchanged, Act::Load),
+            (ActResult::Start, Act::Load),
+            (ActResult::Word(16), Act::Exchange(16, 24)),
+            (ActResult::Exchanged, Act::Load),
         ],
     );
     for _round in 0..10 {
         core = follow_rw(
             &rt,
             core,
-            &[(Seen::Word(24), Act::Spin), (Seen::Spun(true), Act::Load)],
+            &[
+                (ActResult::Word(24), Act::Spin),
+                (ActResult::Spun(true), Act::Load),
+            ],
         );
     }
     follow_rw(
         &rt,
         core,
         &[
-            (Seen::Word(24), Act::Exchange(24, 26)),
-            (Seen::Exchanged, Act::Enter(1)),
-            (Seen::Entered, Act::Section(SectionAct::Check)),
+            (ActResult::Word(24), Act::Exchange(24, 26)),
+            (ActResult::Exchanged, Act::Enter(1)),
+            (ActResult::Entered, Act::Section(SectionAct::Check)),
             (
-                Seen::Word(26),
+                ActResult::Word(26),
                 Act::Section(SectionAct::Append(ParkToken(8))),
             ),
-            (Seen::Made, Act::Section(SectionAct::Leave)),
-            (Seen::Made, Act::Sleep),
-            (Seen::Woken(TRY_AGAIN), Act::Load),
-            (Seen::Word(8), Act::Done(CoreAnswer::Owned)),
+            (ActResult::Made, Act::Section(SectionAct::Leave)),
+            (ActResult::Made, Act::Sleep),
+            (ActResult::Woken(TRY_AGAIN), Act::Load),
+            (ActResult::Word(8), Act::Done(CoreAnswer::Owned)),
         ],
     );
 }
@@ -49,9 +52,9 @@ fn the_last_reader_wakes_the_writer(rt: HostRuntime) {
         &rt,
         RwCore::unlock_shared(),
         &[
-            (Seen::Start, Act::Add(18_446_744_073_709_551_600)),
-            (Seen::Before(26), Act::Enter(1)),
-            (Seen::Entered, Act::Section(SectionAct::TakeFirst)),
+            (ActResult::Start, Act::Add(18_446_744_073_709_551_600)),
+            (ActResult::Before(26), Act::Enter(1)),
+            (ActResult::Entered, Act::Section(SectionAct::TakeFirst)),
         ],
     );
     let token = Some(ParkToken(8));
@@ -60,12 +63,12 @@ fn the_last_reader_wakes_the_writer(rt: HostRuntime) {
         core,
         &[
             (
-                Seen::Took { token, left: false },
-                Act::Mask(18_446_744_073_709_551_613),
+                ActResult::Took { token, left: false },
+                Act::FetchAnd(18_446_744_073_709_551_613),
             ),
-            (Seen::Before(10), Act::Section(SectionAct::Leave)),
-            (Seen::Made, Act::Section(SectionAct::Wake)),
-            (Seen::Made, Act::Done(CoreAnswer::Released)),
+            (ActResult::Before(10), Act::Section(SectionAct::Leave)),
+            (ActResult::Made, Act::Section(SectionAct::Wake)),
+            (ActResult::Made, Act::Done(CoreAnswer::Released)),
         ],
     );
 }
@@ -76,20 +79,20 @@ fn a_reader_sleeps_and_is_handed_the_lock(rt: HostRuntime) {
         &rt,
         RwCore::lock_shared(false),
         &[
-            (Seen::Start, Act::Load),
-            (Seen::Word(0), Act::Exchange(0, 16)),
-            (Seen::Word(8), Act::Spin),
-            (Seen::Spun(false), Act::Load),
-            (Seen::Word(8), Act::Exchange(8, 9)),
-            (Seen::Exchanged, Act::Enter(0)),
-            (Seen::Entered, Act::Section(SectionAct::Check)),
+            (ActResult::Start, Act::Load),
+            (ActResult::Word(0), Act::Exchange(0, 16)),
+            (ActResult::Word(8), Act::Spin),
+            (ActResult::Spun(false), Act::Load),
+            (ActResult::Word(8), Act::Exchange(8, 9)),
+            (ActResult::Exchanged, Act::Enter(0)),
+            (ActResult::Entered, Act::Section(SectionAct::Check)),
             (
-                Seen::Word(9),
+                ActResult::Word(9),
                 Act::Section(SectionAct::Append(ParkToken(16))),
             ),
-            (Seen::Made, Act::Section(SectionAct::Leave)),
-            (Seen::Made, Act::Sleep),
-            (Seen::Woken(HAND_OVER), Act::Done(CoreAnswer::Owned)),
+            (ActResult::Made, Act::Section(SectionAct::Leave)),
+            (ActResult::Made, Act::Sleep),
+            (ActResult::Woken(HAND_OVER), Act::Done(CoreAnswer::Owned)),
         ],
     );
 }
@@ -100,9 +103,9 @@ fn a_fair_release_hands_the_lock_over(rt: HostRuntime) {
         &rt,
         RwCore::unlock_exclusive_fair(),
         &[
-            (Seen::Start, Act::Exchange(8, 0)),
-            (Seen::Word(9), Act::Enter(0)),
-            (Seen::Entered, Act::Section(SectionAct::TakeNext(0))),
+            (ActResult::Start, Act::Exchange(8, 0)),
+            (ActResult::Word(9), Act::Enter(0)),
+            (ActResult::Entered, Act::Section(SectionAct::TakeNext(0))),
         ],
     );
     let token = Some(ParkToken(16));
@@ -115,9 +118,9 @@ fn a_fair_release_hands_the_lock_over(rt: HostRuntime) {
         &rt,
         core,
         &[
-            (Seen::Took { token, left: false }, Act::Section(store)),
+            (ActResult::Took { token, left: false }, Act::Section(store)),
             (
-                Seen::Stored { fair: false },
+                ActResult::Stored { fair: false },
                 Act::Section(SectionAct::Leave),
             ),
         ],
@@ -127,8 +130,8 @@ fn a_fair_release_hands_the_lock_over(rt: HostRuntime) {
         &rt,
         core,
         &[
-            (Seen::Made, Act::Section(SectionAct::Wake)),
-            (Seen::Made, Act::Done(CoreAnswer::Released)),
+            (ActResult::Made, Act::Section(SectionAct::Wake)),
+            (ActResult::Made, Act::Done(CoreAnswer::Released)),
         ],
     );
 }
@@ -139,9 +142,9 @@ fn a_downgrade_lets_others_try(rt: HostRuntime) {
         &rt,
         RwCore::downgrade(),
         &[
-            (Seen::Start, Act::Add(8)),
-            (Seen::Before(9), Act::Enter(0)),
-            (Seen::Entered, Act::Section(SectionAct::TakeNext(16))),
+            (ActResult::Start, Act::Add(8)),
+            (ActResult::Before(9), Act::Enter(0)),
+            (ActResult::Entered, Act::Section(SectionAct::TakeNext(16))),
         ],
     );
     let token = Some(ParkToken(16));
@@ -156,21 +159,24 @@ fn a_downgrade_lets_others_try(rt: HostRuntime) {
     let core = follow_rw(
         &rt,
         core,
-        &[(Seen::Took { token, left: false }, Act::Section(store))],
+        &[(ActResult::Took { token, left: false }, Act::Section(store))],
     );
     assert!(rt; change.of(17) == 16);
     let core = follow_rw(
         &rt,
         core,
-        &[(Seen::Stored { fair: true }, Act::Section(SectionAct::Leave))],
+        &[(
+            ActResult::Stored { fair: true },
+            Act::Section(SectionAct::Leave),
+        )],
     );
     assert!(rt; core.wake_token() == TRY_AGAIN);
     follow_rw(
         &rt,
         core,
         &[
-            (Seen::Made, Act::Section(SectionAct::Wake)),
-            (Seen::Made, Act::Done(CoreAnswer::Owned)),
+            (ActResult::Made, Act::Section(SectionAct::Wake)),
+            (ActResult::Made, Act::Done(CoreAnswer::Owned)),
         ],
     );
 }
@@ -181,8 +187,8 @@ fn tries_are_refused(rt: HostRuntime) {
         &rt,
         RwCore::try_lock_shared(false),
         &[
-            (Seen::Start, Act::Load),
-            (Seen::Word(26), Act::Done(CoreAnswer::Refused)),
+            (ActResult::Start, Act::Load),
+            (ActResult::Word(26), Act::Done(CoreAnswer::Refused)),
         ],
     );
     for word in [16, 8, 1] {
@@ -190,23 +196,23 @@ fn tries_are_refused(rt: HostRuntime) {
             &rt,
             RwCore::try_lock_exclusive(),
             &[
-                (Seen::Start, Act::Load),
-                (Seen::Word(word), Act::Done(CoreAnswer::Refused)),
+                (ActResult::Start, Act::Load),
+                (ActResult::Word(word), Act::Done(CoreAnswer::Refused)),
             ],
         );
     }
     let mut unlucky = follow_rw(
         &rt,
         RwCore::try_lock_shared(true),
-        &[(Seen::Start, Act::Load)],
+        &[(ActResult::Start, Act::Load)],
     );
     for _try in 0..64 {
-        unlucky = follow_rw(&rt, unlucky, &[(Seen::Word(0), Act::Exchange(0, 16))]);
+        unlucky = follow_rw(&rt, unlucky, &[(ActResult::Word(0), Act::Exchange(0, 16))]);
     }
     follow_rw(
         &rt,
         unlucky,
-        &[(Seen::Word(0), Act::Done(CoreAnswer::Refused))],
+        &[(ActResult::Word(0), Act::Done(CoreAnswer::Refused))],
     );
 }
 
@@ -216,27 +222,27 @@ fn bumps_with_and_without_others(rt: HostRuntime) {
         &rt,
         RwCore::bump_shared(),
         &[
-            (Seen::Start, Act::Load),
-            (Seen::Word(32), Act::Done(CoreAnswer::Owned)),
+            (ActResult::Start, Act::Load),
+            (ActResult::Word(32), Act::Done(CoreAnswer::Owned)),
         ],
     );
     follow_rw(
         &rt,
         RwCore::bump_shared(),
         &[
-            (Seen::Start, Act::Load),
-            (Seen::Word(40), Act::Add(18_446_744_073_709_551_600)),
-            (Seen::Before(40), Act::Load),
-            (Seen::Word(0), Act::Exchange(0, 16)),
+            (ActResult::Start, Act::Load),
+            (ActResult::Word(40), Act::Add(18_446_744_073_709_551_600)),
+            (ActResult::Before(40), Act::Load),
+            (ActResult::Word(0), Act::Exchange(0, 16)),
         ],
     );
     follow_rw(
         &rt,
         RwCore::bump_exclusive(),
         &[
-            (Seen::Start, Act::Load),
-            (Seen::Word(9), Act::Exchange(8, 0)),
-            (Seen::Word(9), Act::Enter(0)),
+            (ActResult::Start, Act::Load),
+            (ActResult::Word(9), Act::Exchange(8, 0)),
+            (ActResult::Word(9), Act::Enter(0)),
         ],
     );
 }
@@ -247,8 +253,8 @@ fn what_does_not_fit_is_refused(rt: HostRuntime) {
         &rt,
         RwCore::lock_shared(false),
         &[
-            (Seen::Made, Act::Done(CoreAnswer::Refused)),
-            (Seen::Start, Act::Done(CoreAnswer::Refused)),
+            (ActResult::Made, Act::Done(CoreAnswer::Refused)),
+            (ActResult::Start, Act::Done(CoreAnswer::Refused)),
         ],
     );
 }

@@ -1,18 +1,18 @@
 //! Waking sections of an exclusive release, by the tokens in the list: whom they take, and what they store.
 
-use crate::cores::follow_rw;
+use crate::script::follow_rw;
 use parking_lot_core::{FilterOp, ParkToken};
-use parking_lot_cores::{Act, RwCore, SectionAct, Seen, WordChange, wake_sum};
+use parking_lot_protocol::{Act, ActResult, RwCore, SectionAct, WordChange, wake_sum};
 use std::process::Abort;
 
 /// One section with these waiters takes this sum of tokens, and has these two stores.
 fn section(rt: &impl Abort, waiters: &[usize], sum: u64, plain: u64, fair: u64) {
     let begun = [
-        (Seen::Start, Act::Exchange(8, 0)),
-        (Seen::Word(9), Act::Enter(0)),
+        (ActResult::Start, Act::Exchange(8, 0)),
+        (ActResult::Word(9), Act::Enter(0)),
     ];
     let mut core = follow_rw(rt, RwCore::unlock_exclusive(), &begun);
-    let mut act = core.next(Seen::Entered);
+    let mut act = core.next(ActResult::Entered);
     let mut so_far = 0u64;
     for (i, number) in waiters.iter().enumerate() {
         let token = ParkToken(*number);
@@ -20,7 +20,7 @@ fn section(rt: &impl Abort, waiters: &[usize], sum: u64, plain: u64, fair: u64) 
             && wake_sum(so_far, token) == FilterOp::Unpark
         {
             let left = i + 1 < waiters.len();
-            act = core.next(Seen::Took {
+            act = core.next(ActResult::Took {
                 token: Some(token),
                 left,
             });
@@ -28,7 +28,7 @@ fn section(rt: &impl Abort, waiters: &[usize], sum: u64, plain: u64, fair: u64) 
         }
     }
     if waiters.is_empty() {
-        act = core.next(Seen::Took {
+        act = core.next(ActResult::Took {
             token: None,
             left: false,
         });

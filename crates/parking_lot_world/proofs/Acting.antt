@@ -10,16 +10,16 @@ use Rattle.std.specs.Option.{option_map, option_map_or, option_and_then}
 use Rattle.parking_lot_core.specs.declared.parking.ParkToken.{ParkToken}
 use Rattle.parking_lot_core.specs.Sound as lot
 use Rattle.parking_lot_rules.proofs.Indexed.{get-set_same, get-set_other}
-use Rattle.parking_lot_cores.specs.declared.act.Act.{Act}
-use Rattle.parking_lot_cores.specs.declared.act.Act.TheVariants as act
-use Rattle.parking_lot_cores.specs.declared.act.SectionAct.TheVariants as section
-use Rattle.parking_lot_cores.specs.declared.act.Seen.{Seen}
-use Rattle.parking_lot_cores.specs.declared.act.Seen.TheVariants as seen
-use Rattle.parking_lot_cores.specs.Acts.{Gives, word_after}
-use Rattle.parking_lot_world.specs.declared.seat.Spot.TheVariants as spot
+use Rattle.parking_lot_protocol.specs.declared.act.Act.{Act}
+use Rattle.parking_lot_protocol.specs.declared.act.Act.TheVariants as act
+use Rattle.parking_lot_protocol.specs.declared.act.SectionAct.TheVariants as section
+use Rattle.parking_lot_protocol.specs.declared.act.ActResult.{ActResult}
+use Rattle.parking_lot_protocol.specs.declared.act.ActResult.TheVariants as seen
+use Rattle.parking_lot_protocol.specs.Acts.{Gives, word_after}
+use Rattle.parking_lot_world.specs.declared.seat.QueuePosition.TheVariants as spot
 use Rattle.parking_lot_world.specs.declared.seat.Core.{Core}
 use Rattle.parking_lot_world.specs.declared.seat.Core.TheVariants as core
-use Rattle.parking_lot_world.specs.declared.seat.Call.{Call}
+use Rattle.parking_lot_world.specs.declared.open_call.Call.{Call}
 use Rattle.parking_lot_world.specs.Rows.{State, word_at, call_at, inside}
 use Rattle.parking_lot_world.specs.Stances.{Doing, Stance, Out, In, Joined, Asleep, stance, taken_count, core_act, core_next}
 use Rattle.parking_lot_world.specs.StanceLaws.{StaysOut, LeavesFor}
@@ -35,10 +35,10 @@ use Rattle.parking_lot_world.proofs.Owning.{OwnAct}
 use Rattle.parking_lot_world.proofs.OwnActs.{own_rw, own_mutex}
 use Rattle.parking_lot_world.proofs.WakesKept.{wakes_own}
 use Rattle.parking_lot_world.proofs.Starting.{begins}
-use Rattle.parking_lot_world.proofs.Answering.{ends}
+use Rattle.parking_lot_world.proofs.Answering.{ends, never}
 
 -- A thread's own act, of which the lot's side is known.
-module _ (s u : State) (t : ℕ) (c : Call) (told : Seen) (h : FitsTogether s) (a : OwnAct s u t c told (core_next c.core told) c.spot) (lists_same : (key : ℕ) → u.lot.queues key ≡ s.lot.queues key) (gives : Gives (core_act c.core) (word_at s c.lock) told)
+module _ (s u : State) (t : ℕ) (c : Call) (told : ActResult) (h : FitsTogether s) (a : OwnAct s u t c told (core_next c.core told) c.spot) (lists_same : (key : ℕ) → u.lot.queues key ≡ s.lot.queues key) (gives : Gives (core_act c.core) (word_at s c.lock) told)
     (own : IsOwnAct (core_act c.core)) (around : AfterAct (core_act c.core) t (inside s) (inside u)) (lots : LotFits u) where
   by_core : (x : Core) → c.core ≡ x → RulesFit u × Goes t c told s u
   by_core (core.Rw k) e =
@@ -48,7 +48,7 @@ module _ (s u : State) (t : ℕ) (c : Call) (told : Seen) (h : FitsTogether s) (
       own_mutex s u t h c told k e (subst (λ (x : Core). OwnAct s u t c told (core_next x told) c.spot) e a) lists_same (subst (λ (x : Core). Gives (core_act x) (word_at s c.lock) told) e gives)
       (subst (λ (x : Core). IsOwnAct (core_act x)) e own) (subst (λ (x : Core). AfterAct (core_act x) t (inside s) (inside u)) e around)
 
-  pub own_act : (what : Seen) × Acts t c what s u
+  pub own_act : (what : ActResult) × Acts t c what s u
   own_act = let both = by_core c.core refl in (told, record { fits = record { lots = lots; wakes = wakes_own s u t c told (core_next c.core told) a h.wakes; rules = both.0 }; goes = both.1 })
 
 -- THE WORD
@@ -71,22 +71,12 @@ word-here words j x b = go (slice_get words j) refl
 pub word-elsewhere : (words : List ℕ) (j x i : ℕ) → i ≢ j → option_map_or (λ w. w) (slice_get (slice_set words j x) i) 0 ≡ option_map_or (λ w. w) (slice_get words i) 0
 word-elsewhere words j x i ne = ap (λ q. option_map_or (λ w. w) q 0) (get-set_other words j i x (λ e. ne (sym e)))
 
-is_out : Stance → Bool
-is_out Out = true
-is_out (In key how) = false
-is_out (Asleep key token) = false
-
--- an act whose call stays out of lists sleeps nowhere
-never : (b : Stance) (k : ℕ) (token : ParkToken) (A : Type 0) → b ≡ Out → b ≡ Asleep k token → A
-unfolding is_out
-never b k token A e f = absurd (both_ways (is_out b) (ap is_out f) (ap is_out e))
-
 is_asleep : Stance → Bool
 is_asleep Out = false
 is_asleep (In key how) = false
 is_asleep (Asleep key token) = true
 
--- nor does one in a section
+-- an act whose call is in a section sleeps nowhere
 awake_never : (b : Stance) (key : ℕ) (how : Doing) (k : ℕ) (token : ParkToken) (A : Type 0) → b ≡ In key how → b ≡ Asleep k token → A
 unfolding is_asleep
 awake_never b key how k token A e f = absurd (both_ways (is_asleep b) (ap is_asleep e) (ap is_asleep f))
@@ -98,10 +88,10 @@ still_inside (Some x) ph = refl
 
 -- OUTSIDE SECTIONS
 
-module _ (s : State) (t : ℕ) (c : Call) (told : Seen) (x : Act) (asked : core_act c.core ≡ x) (h : FitsTogether s) (here : call_at s t ≡ Some c) (gives : Gives x (word_at s c.lock) told) (own : IsOwnAct x)
+module _ (s : State) (t : ℕ) (c : Call) (told : ActResult) (x : Act) (asked : core_act c.core ≡ x) (h : FitsTogether s) (here : call_at s t ≡ Some c) (gives : Gives x (word_at s c.lock) told) (own : IsOwnAct x)
     (around : (o : Option ℕ) → AfterAct x t o o) (leads : StaysOut (stance c.core) (stance (core_next c.core told)) (taken_count c.core) (taken_count (core_next c.core told))) where
   -- the word stays
-  looks : word_after x told (word_at s c.lock) ≡ word_at s c.lock → (what : Seen) × Acts t c what s (with_call s t (hears c told))
+  looks : word_after x told (word_at s c.lock) ≡ word_at s c.lock → (what : ActResult) × Acts t c what s (with_call s t (hears c told))
   looks same =
       own_act s (with_call s t (hears c told)) t c told h (record {
         here = here;
@@ -120,7 +110,7 @@ module _ (s : State) (t : ℕ) (c : Call) (told : Seen) (x : Act) (asked : core_
       (stays_out s t c told h.lots here leads)
 
   -- or is written
-  writes : (word : ℕ) → word_after x told (word_at s c.lock) ≡ word → (what : Seen) × Acts t c what s (with_word (with_call s t (hears c told)) c.lock word)
+  writes : (word : ℕ) → word_after x told (word_at s c.lock) ≡ word → (what : ActResult) × Acts t c what s (with_word (with_call s t (hears c told)) c.lock word)
   writes word is =
       own_act s (with_word (with_call s t (hears c told)) c.lock word) t c told h (record {
         here = here;
@@ -155,9 +145,9 @@ add s t c by asked h here =
 
 exchange : (s : State) (t : ℕ) (c : Call) (from to : ℕ) → core_act c.core ≡ act.Exchange from to → Keeps t c s (exchanged s t c from to)
 exchange s t c from to asked h here = elim (cases_eq (word_at s c.lock) from) [
-  | inl e ↦ subst (λ (b : Bool). (what : Seen) × Acts t c what s (cond b (with_word (with_call s t (hears c seen.Exchanged)) c.lock to) (loaded s t c))) (sym (eq-eqb (word_at s c.lock) from e))
+  | inl e ↦ subst (λ (b : Bool). (what : ActResult) × Acts t c what s (cond b (with_word (with_call s t (hears c seen.Exchanged)) c.lock to) (loaded s t c))) (sym (eq-eqb (word_at s c.lock) from e))
       (writes s t c seen.Exchanged (act.Exchange from to) asked h here e tt (λ o. refl) (leads_by c.core (act.Exchange from to) (word_at s c.lock) seen.Exchanged asked e) to refl)
-  | inr ne ↦ subst (λ (b : Bool). (what : Seen) × Acts t c what s (cond b (with_word (with_call s t (hears c seen.Exchanged)) c.lock to) (loaded s t c))) (sym (ne_eqb (word_at s c.lock) from ne))
+  | inr ne ↦ subst (λ (b : Bool). (what : ActResult) × Acts t c what s (cond b (with_word (with_call s t (hears c seen.Exchanged)) c.lock to) (loaded s t c))) (sym (ne_eqb (word_at s c.lock) from ne))
       (let told = seen.Word (word_at s c.lock) in looks s t c told (act.Exchange from to) asked h here (refl, ne) tt (λ o. refl) (leads_by c.core (act.Exchange from to) (word_at s c.lock) told asked (refl, ne)) refl)
 ]
 

@@ -13,35 +13,35 @@ use Rattle.parking_lot_world.specs.declared.seat.Hold.{Hold}
 use Rattle.parking_lot_world.specs.declared.seat.Hold.TheVariants as hold
 use Rattle.parking_lot_world.specs.declared.seat.Core.{Core}
 use Rattle.parking_lot_world.specs.declared.seat.Core.TheVariants as core
-use Rattle.parking_lot_world.specs.declared.seat.Call.{Call}
+use Rattle.parking_lot_world.specs.declared.open_call.Call.{Call}
 use Rattle.parking_lot_rules.specs.Roles.{Idle}
 use Rattle.parking_lot_rules.specs.Mutex as mutex
-use Rattle.parking_lot_cores.specs.declared.rw_core.RwCore.{RwCore}
-use Rattle.parking_lot_cores.specs.declared.mutex_core.MutexCore.{MutexCore}
+use Rattle.parking_lot_protocol.specs.declared.rw_core.RwCore.{RwCore}
+use Rattle.parking_lot_protocol.specs.declared.mutex_core.MutexCore.{MutexCore}
 use Rattle.parking_lot_rules.specs.Steps.{Alone}
 use Rattle.parking_lot_rules.specs.Family.{Crossing}
-use Rattle.parking_lot_cores.specs.declared.act.Act.{Act}
-use Rattle.parking_lot_cores.specs.declared.act.Act.TheVariants as act
-use Rattle.parking_lot_cores.specs.declared.act.CoreAnswer.TheVariants as answer
-use Rattle.parking_lot_cores.specs.declared.rw_phase.Rest.TheVariants as rest
-use Rattle.parking_lot_cores.specs.declared.rw_phase.Outcome.TheVariants as outcome
-use Rattle.parking_lot_world.specs.declared.seat.Spot.{Spot}
-use Rattle.parking_lot_world.specs.declared.seat.Spot.TheVariants as spot
+use Rattle.parking_lot_protocol.specs.declared.act.Act.{Act}
+use Rattle.parking_lot_protocol.specs.declared.act.Act.TheVariants as act
+use Rattle.parking_lot_protocol.specs.declared.act.CoreAnswer.TheVariants as answer
+use Rattle.parking_lot_protocol.specs.declared.rw_phase.AfterWake.TheVariants as rest
+use Rattle.parking_lot_protocol.specs.declared.rw_phase.Outcome.TheVariants as outcome
+use Rattle.parking_lot_world.specs.declared.seat.QueuePosition.{QueuePosition}
+use Rattle.parking_lot_world.specs.declared.seat.QueuePosition.TheVariants as spot
 use Rattle.parking_lot_world.specs.declared.seat.Wakeup.{Wakeup}
 use Rattle.parking_lot_world.specs.StanceLaws.{IsOver}
 use Rattle.parking_lot_world.specs.ActLaws.{Ends}
 use Rattle.parking_lot_world.proofs.Stancing.{calls_end}
 use Rattle.parking_lot_world.proofs.LotActs.{same_parts, ended_fits}
 use Rattle.parking_lot_world.proofs.Ruling.{CallFits, call_fits, rules_after, rw_move_sound, mutex_move_sound}
-use Rattle.parking_lot_cores.specs.declared.act.CoreAnswer.{CoreAnswer}
-use Rattle.parking_lot_cores.specs.declared.rw_phase.RwPhase.{RwPhase}
-use Rattle.parking_lot_cores.specs.declared.rw_phase.RwPhase.TheVariants as r
-use Rattle.parking_lot_cores.specs.declared.mutex_phase.MutexPhase.{MutexPhase}
-use Rattle.parking_lot_cores.specs.declared.mutex_phase.MutexPhase.TheVariants as m
-use Rattle.parking_lot_cores.specs.RwTable as of_rw_table
-use Rattle.parking_lot_cores.specs.RwRules as of_rw
-use Rattle.parking_lot_cores.specs.MutexTable as of_mutex_table
-use Rattle.parking_lot_cores.specs.MutexRules as of_mutex
+use Rattle.parking_lot_protocol.specs.declared.act.CoreAnswer.{CoreAnswer}
+use Rattle.parking_lot_protocol.specs.declared.rw_phase.RwPhase.{RwPhase}
+use Rattle.parking_lot_protocol.specs.declared.rw_phase.RwPhase.TheVariants as r
+use Rattle.parking_lot_protocol.specs.declared.mutex_phase.MutexPhase.{MutexPhase}
+use Rattle.parking_lot_protocol.specs.declared.mutex_phase.MutexPhase.TheVariants as m
+use Rattle.parking_lot_protocol.specs.RwTable as of_rw_table
+use Rattle.parking_lot_protocol.specs.RwRules as of_rw
+use Rattle.parking_lot_protocol.specs.MutexTable as of_mutex_table
+use Rattle.parking_lot_protocol.specs.MutexRules as of_mutex
 use Rattle.parking_lot_world.specs.declared.calls.LockKind.TheVariants as kind
 use Rattle.parking_lot_world.specs.Stances.{Stance, Out, In, Asleep, stance, taken_count, core_act, has_begun, mutex_begun}
 use Rattle.parking_lot_world.specs.RowSteps.{IsRwMove, IsMutexMove, IsLastOf}
@@ -67,7 +67,8 @@ is_out Out = true
 is_out (In key how) = false
 is_out (Asleep key token) = false
 
-never : (b : Stance) (k : ℕ) (token : ParkToken) (A : Type 0) → b ≡ Out → b ≡ Asleep k token → A
+-- a call that is out of lists sleeps nowhere
+pub never : (b : Stance) (k : ℕ) (token : ParkToken) (A : Type 0) → b ≡ Out → b ≡ Asleep k token → A
 unfolding is_out
 never b k token A e f = absurd (both_ways (is_out b) (ap is_out f) (ap is_out e))
 
@@ -297,7 +298,7 @@ module _ (s : State) (h : FitsTogether s) (t : ℕ) (c : Call) (here : call_at s
     out : (stance c.core ≡ Out) × (taken_count c.core ≡ 0)
     out = subst (λ (a : Act). IsOver a (stance c.core) (taken_count c.core)) asked (calls_end c.core)
 
-    stands : (x : Spot) → c.spot ≡ x → is_off c.spot ≡ false
+    stands : (x : QueuePosition) → c.spot ≡ x → is_off c.spot ≡ false
     stands spot.Listed e = ap is_off e
     stands (spot.Off by said) e =
         let owed = h.wakes.off t by c said here e in

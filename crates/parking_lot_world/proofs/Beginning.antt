@@ -1,23 +1,23 @@
 -- A call that has begun goes on so.
 use Rattle.std.proofs.Common.{◌≡◌, ℕ, ◌-◌, ◌/◌, ◌%◌, ◌==◌, ◌&&◌, ◌||◌, not, nat_lt, Bool, true, false, Option, Some, None, option_map, refl}
 use Rattle.std.specs.Option.{option_map_or}
-use Rattle.parking_lot_cores.specs.declared.act.Seen.{Seen}
-use Rattle.parking_lot_cores.specs.declared.act.Seen.TheVariants.{Start, Word, Exchanged, Before, Spun, Entered, Took, Stored, Made, Woken}
-use Rattle.parking_lot_cores.specs.declared.mutex_phase.MutexPhase.{MutexPhase}
-use Rattle.parking_lot_cores.specs.declared.mutex_phase.MutexPhase.TheVariants as m
-use Rattle.parking_lot_cores.specs.declared.mutex_phase.Asking.{Asking}
-use Rattle.parking_lot_cores.specs.declared.rw_phase.RwPhase.{RwPhase}
-use Rattle.parking_lot_cores.specs.declared.rw_phase.RwPhase.TheVariants as r
-use Rattle.parking_lot_cores.specs.declared.rw_phase.Want.{Want}
-use Rattle.parking_lot_cores.specs.declared.rw_phase.Want.TheVariants as want
-use Rattle.parking_lot_cores.specs.declared.rw_phase.Rest.{Rest}
-use Rattle.parking_lot_cores.specs.declared.rw_phase.Rest.TheVariants as rest
-use Rattle.parking_lot_cores.specs.declared.rw_phase.Seeking.{Seeking}
-use Rattle.parking_lot_cores.specs.declared.rw_phase.Draining.{Draining}
-use Rattle.parking_lot_cores.specs.declared.rw_phase.Scanning.{Scanning}
-use Rattle.parking_lot_cores.specs.MutexTable as of_mutex
-use Rattle.parking_lot_cores.specs.RwTable as of_rw
-use Rattle.parking_lot_cores.proofs.MutexFollowing.{either}
+use Rattle.parking_lot_protocol.specs.declared.act.ActResult.{ActResult}
+use Rattle.parking_lot_protocol.specs.declared.act.ActResult.TheVariants.{Start, Word, Exchanged, Before, Spun, Entered, Took, Stored, Made, Woken}
+use Rattle.parking_lot_protocol.specs.declared.mutex_phase.MutexPhase.{MutexPhase}
+use Rattle.parking_lot_protocol.specs.declared.mutex_phase.MutexPhase.TheVariants as m
+use Rattle.parking_lot_protocol.specs.declared.mutex_phase.Asking.{Asking}
+use Rattle.parking_lot_protocol.specs.declared.rw_phase.RwPhase.{RwPhase}
+use Rattle.parking_lot_protocol.specs.declared.rw_phase.RwPhase.TheVariants as r
+use Rattle.parking_lot_protocol.specs.declared.rw_phase.LockMode.{LockMode}
+use Rattle.parking_lot_protocol.specs.declared.rw_phase.LockMode.TheVariants as want
+use Rattle.parking_lot_protocol.specs.declared.rw_phase.AfterWake.{AfterWake}
+use Rattle.parking_lot_protocol.specs.declared.rw_phase.AfterWake.TheVariants as rest
+use Rattle.parking_lot_protocol.specs.declared.rw_phase.Seeking.{Seeking}
+use Rattle.parking_lot_protocol.specs.declared.rw_phase.Draining.{Draining}
+use Rattle.parking_lot_protocol.specs.declared.rw_phase.Scanning.{Scanning}
+use Rattle.parking_lot_protocol.specs.MutexTable as of_mutex
+use Rattle.parking_lot_protocol.specs.RwTable as of_rw
+use Rattle.parking_lot_protocol.proofs.MutexFollowing.{either}
 use Rattle.parking_lot_world.specs.declared.seat.Core.{Core}
 use Rattle.parking_lot_world.specs.declared.seat.Core.TheVariants as core
 use Rattle.parking_lot_world.specs.Stances.{mutex_begun, rw_begun, has_begun, core_next}
@@ -30,11 +30,11 @@ seeks_on a word = either mutex_begun (word == 0) _ _ _ refl (either mutex_begun 
 tries_on : (left word : ℕ) → mutex_begun (of_mutex.tries left word) ≡ true
 tries_on left word = either mutex_begun (word == 0) _ _ _ refl (either mutex_begun (word == 2) _ _ _ refl refl)
 
-finishes_on : (fair again : Bool) (s : Seen) → mutex_begun (of_mutex.next_phase (m.Finishes (record { fair = fair; again = again })) s) ≡ true
+finishes_on : (fair again : Bool) (s : ActResult) → mutex_begun (of_mutex.next_phase (m.Finishes (record { fair = fair; again = again })) s) ≡ true
 finishes_on fair true (Word n) = refl
 finishes_on fair again s = refl
 
-mutex_on : (p : MutexPhase) (s : Seen) → mutex_begun (of_mutex.next_phase p s) ≡ true
+mutex_on : (p : MutexPhase) (s : ActResult) → mutex_begun (of_mutex.next_phase p s) ≡ true
 mutex_on m.Locking Start = refl
 mutex_on m.Trying Start = refl
 mutex_on (m.Unlocking fair) Start = refl
@@ -76,32 +76,32 @@ drains_on : (d : Draining) (word : ℕ) → rw_begun (of_rw.drains d word) ≡ t
 drains_on d word =
     either rw_begun (of_rw.has_readers word) _ _ _ (either rw_begun (nat_lt 0 d.rounds) _ _ _ refl (either rw_begun (of_rw.is_writer_parked word) _ _ _ refl refl)) refl
 
-rw_tries_on : (w : Want) (left word : ℕ) → rw_begun (of_rw.tries w left word) ≡ true
+rw_tries_on : (w : LockMode) (left word : ℕ) → rw_begun (of_rw.tries w left word) ≡ true
 rw_tries_on w left word = either rw_begun (of_rw.is_tried w word) _ _ _ refl refl
 
-admits_on : (w : Want) (woken : Bool) → rw_begun (of_rw.admits w woken) ≡ true
+admits_on : (w : LockMode) (woken : Bool) → rw_begun (of_rw.admits w woken) ≡ true
 admits_on (want.Shared recursive) woken = refl
 admits_on want.Exclusive woken = refl
 
-over_on : (rs : Rest) → rw_begun (of_rw.over rs) ≡ true
+over_on : (rs : AfterWake) → rw_begun (of_rw.over rs) ≡ true
 over_on rest.FreedShared = refl
 over_on rest.FreedExclusive = refl
 over_on rest.Downgraded = refl
 over_on rest.AgainShared = refl
 over_on rest.AgainExclusive = refl
 
-bumps_on : (w : Want) (word : ℕ) → rw_begun (of_rw.bumps w word) ≡ true
+bumps_on : (w : LockMode) (word : ℕ) → rw_begun (of_rw.bumps w word) ≡ true
 bumps_on (want.Shared recursive) word = either rw_begun (of_rw.is_written word) _ _ _ refl refl
 bumps_on want.Exclusive word = either rw_begun (of_rw.is_parked word) _ _ _ refl refl
 
-wakes_on : (rs : Rest) (count : ℕ) → rw_begun (of_rw.wakes rs count) ≡ true
+wakes_on : (rs : AfterWake) (count : ℕ) → rw_begun (of_rw.wakes rs count) ≡ true
 wakes_on rs count = either rw_begun (nat_lt 0 count) _ _ _ refl refl
 
-taken_on : (left : Bool) (s : Option Scanning) → rw_begun (option_map_or (λ q. q) (option_map (of_rw.goes_on left) s) r.Strays) ≡ true
+taken_on : (left : Bool) (s : Option Scanning) → rw_begun (option_map_or (λ q. q) (option_map (of_rw.goes_on left) s) r.Invalid) ≡ true
 taken_on left None = refl
 taken_on left (Some s) = either rw_begun (left && not s.writer) _ _ _ refl refl
 
-rw_on : (p : RwPhase) (s : Seen) → rw_begun (of_rw.next_phase p s) ≡ true
+rw_on : (p : RwPhase) (s : ActResult) → rw_begun (of_rw.next_phase p s) ≡ true
 rw_on (r.Locking w) Start = refl
 rw_on (r.Trying w) Start = refl
 rw_on r.UnlockingShared Start = refl
@@ -113,39 +113,39 @@ rw_on (r.Loads a) (Word n) = rw_seeks_on a n
 rw_on (r.Admits a word) Exchanged = admits_on a.want false
 rw_on (r.Admits a word) (Word n) = rw_seeks_on a n
 rw_on (r.Spins a) (Spun spun) = refl
-rw_on (r.Flags a word) Exchanged = refl
-rw_on (r.Flags a word) (Word n) = rw_seeks_on a n
+rw_on (r.SetParked a word) Exchanged = refl
+rw_on (r.SetParked a word) (Word n) = rw_seeks_on a n
 rw_on (r.Enters w c) Entered = refl
 rw_on (r.Checks w c) (Word n) = either rw_begun (of_rw.is_barred w n && of_rw.is_parked n) _ _ _ refl refl
 rw_on (r.Retreats w c) Made = refl
 rw_on (r.Appends w) Made = refl
 rw_on (r.Rests w) Made = refl
 rw_on (r.Sleeps w) (Woken token) = either rw_begun (token.0 == 1) _ _ _ (admits_on w true) refl
-rw_on (r.Loads2 d) (Word n) = drains_on d n
-rw_on (r.Spins2 d) (Spun spun) = refl
-rw_on (r.Flags2 d word) Exchanged = refl
-rw_on (r.Flags2 d word) (Word n) = drains_on d n
-rw_on (r.Enters2 d) Entered = refl
-rw_on (r.Checks2 d) (Word n) = either rw_begun (of_rw.has_readers n && of_rw.is_writer_parked n) _ _ _ refl refl
-rw_on (r.Retreats2 d) Made = refl
-rw_on (r.Appends2 rounds) Made = refl
-rw_on (r.Rests2 rounds) Made = refl
-rw_on (r.Sleeps2 rounds) (Woken token) = refl
+rw_on (r.DrainLoads d) (Word n) = drains_on d n
+rw_on (r.DrainSpins d) (Spun spun) = refl
+rw_on (r.DrainSetParked d word) Exchanged = refl
+rw_on (r.DrainSetParked d word) (Word n) = drains_on d n
+rw_on (r.DrainEnters d) Entered = refl
+rw_on (r.DrainChecks d) (Word n) = either rw_begun (of_rw.has_readers n && of_rw.is_writer_parked n) _ _ _ refl refl
+rw_on (r.DrainRetreats d) Made = refl
+rw_on (r.DrainAppends rounds) Made = refl
+rw_on (r.DrainRests rounds) Made = refl
+rw_on (r.DrainSleeps rounds) (Woken token) = refl
 rw_on (r.TryLoads w) (Word n) = rw_tries_on w 63 n
 rw_on (r.TryAdmits w word left) Exchanged = refl
 rw_on (r.TryAdmits w word left) (Word n) = either rw_begun (nat_lt 0 left) _ _ _ (rw_tries_on w (left - 1) n) refl
 rw_on (r.BumpLoads w) (Word n) = bumps_on w n
 rw_on (r.Relocks w) (Word n) = rw_seeks_on (of_rw.begins w false) n
 rw_on (r.Unshares rs) (Before n) = either rw_begun (n / 16 == 1 && of_rw.is_writer_parked n) _ _ _ refl (over_on rs)
-rw_on (r.Owes2 rs) Entered = refl
-rw_on (r.Takes2 rs) (Took token left) = refl
-rw_on (r.Masks2 rs taken) (Before n) = refl
-rw_on (r.Leaves2 rs taken) Made = wakes_on rs (of_mutex.bit taken)
+rw_on (r.EnterWriterWakeSection rs) Entered = refl
+rw_on (r.TakeWriter rs) (Took token left) = refl
+rw_on (r.ClearWriterParked rs taken) (Before n) = refl
+rw_on (r.LeaveWriterWakeSection rs taken) Made = wakes_on rs (of_mutex.bit taken)
 rw_on (r.Unlocks fair rs) Exchanged = over_on rs
 rw_on (r.Unlocks fair rs) (Word n) = refl
 rw_on (r.LooksExclusive fair rs) Entered = refl
 rw_on r.Downgrades (Before n) = either rw_begun (of_rw.is_parked n) _ _ _ refl refl
-rw_on r.Owes Entered = refl
+rw_on r.EnterWakeSection Entered = refl
 rw_on (r.Scans a) (Took None left) = refl
 rw_on (r.Scans a) (Took (Some token) left) = taken_on left (of_rw.with_taken a token)
 rw_on (r.Stores a left) (Stored fair) = refl
@@ -158,6 +158,6 @@ rw_on (r.Finishes rest.AgainShared) (Word n) = refl
 rw_on (r.Finishes rest.AgainExclusive) (Word n) = refl
 rw_on p s = refl
 
-pub goes_on : (c : Core) (s : Seen) → has_begun (core_next c s) ≡ true
+pub goes_on : (c : Core) (s : ActResult) → has_begun (core_next c s) ≡ true
 goes_on (core.Mutex c) s = mutex_on c.phase s
 goes_on (core.Rw c) s = rw_on c.phase s

@@ -11,11 +11,11 @@ use Rattle.parking_lot_core.specs.Places.{place_at, mark_of}
 use Rattle.parking_lot_core.specs.Sound.{Sound}
 use Rattle.parking_lot_core.proofs.Numbers.{slice_get-set_other, count_by-at}
 use Rattle.parking_lot_core.proofs.Sounds.{none≢some}
-use Rattle.parking_lot_world.specs.declared.seat.Told.{Told}
-use Rattle.parking_lot_world.specs.declared.seat.Told.TheVariants as told
-use Rattle.parking_lot_world.specs.declared.seat.Spot.{Spot}
-use Rattle.parking_lot_world.specs.declared.seat.Spot.TheVariants as spot
-use Rattle.parking_lot_world.specs.declared.seat.Call.{Call}
+use Rattle.parking_lot_world.specs.declared.seat.WakeResult.{WakeResult}
+use Rattle.parking_lot_world.specs.declared.seat.WakeResult.TheVariants as told
+use Rattle.parking_lot_world.specs.declared.seat.QueuePosition.{QueuePosition}
+use Rattle.parking_lot_world.specs.declared.seat.QueuePosition.TheVariants as spot
+use Rattle.parking_lot_world.specs.declared.open_call.Call.{Call}
 use Rattle.parking_lot_world.specs.declared.seat.Wakeup.{Wakeup}
 use Rattle.parking_lot_world.specs.Rows.{State, call_at, is_by, taken_by}
 use Rattle.parking_lot_world.specs.Stances.{Looks, TurnsBack, Joins, Joined, Takes, Stores, Tells, Stance, Out, In, Asleep, stance, taken_count}
@@ -59,10 +59,10 @@ pub record Carries (old new : Option Call) : Type 0 where
   pub listed : (k : ℕ) (token : ParkToken) (c : Call) → old ≡ Some c → c.spot ≡ spot.Listed → Awaits k token (stance c.core)
       → (d : Call) × (new ≡ Some d) × (d.lock ≡ c.lock) × (d.spot ≡ spot.Listed) × Awaits k token (stance d.core)
   -- who sleeps off its list sleeps there, and nobody else does
-  pub sleeps : (k : ℕ) (token : ParkToken) (by : ℕ) (said : Told) (c : Call) → old ≡ Some c → stance c.core ≡ Asleep k token → c.spot ≡ spot.Off by said
-      → (d : Call) × (new ≡ Some d) × (d.lock ≡ c.lock) × (stance d.core ≡ Asleep k token) × (now : Told) × (d.spot ≡ spot.Off by now)
-  pub slept : (k : ℕ) (token : ParkToken) (by : ℕ) (said : Told) (d : Call) → new ≡ Some d → stance d.core ≡ Asleep k token → d.spot ≡ spot.Off by said
-      → (c : Call) × (old ≡ Some c) × (stance c.core ≡ Asleep k token) × (before : Told) × (c.spot ≡ spot.Off by before)
+  pub sleeps : (k : ℕ) (token : ParkToken) (by : ℕ) (said : WakeResult) (c : Call) → old ≡ Some c → stance c.core ≡ Asleep k token → c.spot ≡ spot.Off by said
+      → (d : Call) × (new ≡ Some d) × (d.lock ≡ c.lock) × (stance d.core ≡ Asleep k token) × (now : WakeResult) × (d.spot ≡ spot.Off by now)
+  pub slept : (k : ℕ) (token : ParkToken) (by : ℕ) (said : WakeResult) (d : Call) → new ≡ Some d → stance d.core ≡ Asleep k token → d.spot ≡ spot.Off by said
+      → (c : Call) × (old ≡ Some c) × (stance c.core ≡ Asleep k token) × (before : WakeResult) × (c.spot ≡ spot.Off by before)
   -- who has taken somebody stays at its lock, and has taken as many
   pub taker : (c : Call) → old ≡ Some c → 1 ≤ taken_count c.core → (d : Call) × (new ≡ Some d) × (d.lock ≡ c.lock)
   pub counts : tally new ≡ tally old
@@ -150,7 +150,7 @@ carries_lain c d key park from to lock at at' counts some = record {
   wakeful = λ w x is. subst (λ (y : Call). WakesSome y.core) (same_call is) some;
 }
   where
-    listed≢off : {by : ℕ} {said : Told} → spot.Listed ≡ spot.Off by said → ⊥
+    listed≢off : {by : ℕ} {said : WakeResult} → spot.Listed ≡ spot.Off by said → ⊥
     listed≢off e = cc
 
 -- a call begins, and ends
@@ -175,24 +175,24 @@ carries_ended c awake counts = record {
 }
 
 -- sleepers are told
-pub settled_off : (t : ℕ) (said : Told) (by : ℕ) (x : Told) → (now : Told) × (settled_spot t said (spot.Off by x) ≡ spot.Off by now)
+pub settled_off : (t : ℕ) (said : WakeResult) (by : ℕ) (x : WakeResult) → (now : WakeResult) × (settled_spot t said (spot.Off by x) ≡ spot.Off by now)
 settled_off t said by told.Nothing = (cond (by == t) said told.Nothing, refl)
 settled_off t said by told.TryAgain = (told.TryAgain, refl)
 settled_off t said by told.HandedOver = (told.HandedOver, refl)
 
-pub unsettled_off : (t : ℕ) (said : Told) (by : ℕ) (x : Told) (a : Spot) → settled_spot t said a ≡ spot.Off by x → (before : Told) × (a ≡ spot.Off by before)
+pub unsettled_off : (t : ℕ) (said : WakeResult) (by : ℕ) (x : WakeResult) (a : QueuePosition) → settled_spot t said a ≡ spot.Off by x → (before : WakeResult) × (a ≡ spot.Off by before)
 unsettled_off t said by x spot.Listed e = absurd (listed≢off e)
   where
     listed≢off : spot.Listed ≡ spot.Off by x → ⊥
     listed≢off e = cc
 unsettled_off t said by x (spot.Off u told.Nothing) e = (told.Nothing, ap (λ (v : ℕ). spot.Off v told.Nothing) (same e))
   where
-    same : {a b : ℕ} {y z : Told} → spot.Off a y ≡ spot.Off b z → a ≡ b
+    same : {a b : ℕ} {y z : WakeResult} → spot.Off a y ≡ spot.Off b z → a ≡ b
     same e = cc
 unsettled_off t said by x (spot.Off u told.TryAgain) e = (x, e)
 unsettled_off t said by x (spot.Off u told.HandedOver) e = (x, e)
 
-pub carries_settled : (t : ℕ) (said : Told) (o : Option Call) → Carries o (option_map (settled t said) o)
+pub carries_settled : (t : ℕ) (said : WakeResult) (o : Option Call) → Carries o (option_map (settled t said) o)
 carries_settled t said None = carries_same None None refl
 carries_settled t said (Some c) = record {
   listed = λ k token x is at waits. (settled t said c, refl, ap (λ (y : Call). y.lock) (same_call is), ap (λ (y : Call). settled_spot t said y.spot) (same_call is) ∙ ap (settled_spot t said) at, subst (λ (y : Call). Awaits k token (stance y.core)) (sym (same_call is)) waits);

@@ -2,16 +2,16 @@
 use Rattle.std.proofs.Common.{◌≡◌, ℕ, inl, inr, List, sym, subst}
 use Rattle.parking_lot_core.specs.declared.parking.UnparkToken.{UnparkToken}
 use Rattle.parking_lot_core.specs.declared.place.Waiter.{Waiter}
-use Rattle.parking_lot_cores.specs.declared.act.Act.{Act}
-use Rattle.parking_lot_cores.specs.declared.act.Act.TheVariants as act
-use Rattle.parking_lot_cores.specs.declared.act.SectionAct.TheVariants as section
-use Rattle.parking_lot_cores.specs.declared.act.Seen.{Seen}
-use Rattle.parking_lot_cores.specs.declared.mutex_phase.MutexPhase.{MutexPhase}
-use Rattle.parking_lot_cores.specs.declared.mutex_phase.MutexPhase.TheVariants as m
-use Rattle.parking_lot_cores.specs.declared.rw_phase.RwPhase.{RwPhase}
-use Rattle.parking_lot_cores.specs.declared.rw_phase.RwPhase.TheVariants as r
-use Rattle.parking_lot_cores.specs.Acts.{Gives}
-use Rattle.parking_lot_cores.specs.RwTable as of_rw
+use Rattle.parking_lot_protocol.specs.declared.act.Act.{Act}
+use Rattle.parking_lot_protocol.specs.declared.act.Act.TheVariants as act
+use Rattle.parking_lot_protocol.specs.declared.act.SectionAct.TheVariants as section
+use Rattle.parking_lot_protocol.specs.declared.act.ActResult.{ActResult}
+use Rattle.parking_lot_protocol.specs.declared.mutex_phase.MutexPhase.{MutexPhase}
+use Rattle.parking_lot_protocol.specs.declared.mutex_phase.MutexPhase.TheVariants as m
+use Rattle.parking_lot_protocol.specs.declared.rw_phase.RwPhase.{RwPhase}
+use Rattle.parking_lot_protocol.specs.declared.rw_phase.RwPhase.TheVariants as r
+use Rattle.parking_lot_protocol.specs.Acts.{Gives}
+use Rattle.parking_lot_protocol.specs.RwTable as of_rw
 use Rattle.parking_lot_world.specs.declared.seat.Core.{Core}
 use Rattle.parking_lot_world.specs.Stances.{Looks, TurnsBack, Joins, Joined, Takes, Stores, Tells, Stance, Out, In, Asleep, mutex_stance, stance, core_act, core_next}
 use Rattle.parking_lot_world.specs.StanceLaws.{Leads}
@@ -35,11 +35,11 @@ StoresNone (Asleep key token) = Unit {0}
 is_so : (a b : Stance) → a ≡ b → StoresNone b → StoresNone a
 is_so a b e h = subst StoresNone (sym e) h
 
-stores_none : (a : Act) (s : Seen) (x y : Stance) (i j : ℕ) (says : UnparkToken) → IsOwnAct a → Leads a s x y i j says → StoresNone y
+stores_none : (a : Act) (s : ActResult) (x y : Stance) (i j : ℕ) (says : UnparkToken) → IsOwnAct a → Leads a s x y i j says → StoresNone y
 stores_none act.Load s x y i j says own h = is_so y Out h.1 tt
 stores_none (act.Exchange from to) s x y i j says own h = is_so y Out h.1 tt
 stores_none (act.Add by) s x y i j says own h = is_so y Out h.1 tt
-stores_none (act.Mask keep) s x y i j says own h = absurd own
+stores_none (act.FetchAnd keep) s x y i j says own h = absurd own
 stores_none act.Spin s x y i j says own h = is_so y Out h.1 tt
 stores_none (act.Enter key) s x y i j says own h = elim h.1 [ inl e ↦ is_so y (In key Looks) e tt | inr e ↦ is_so y (In key Takes) e tt ]
 stores_none (act.Section section.Check) s x y i j says own h = elim h.2 [ inl e ↦ is_so y (In h.0 TurnsBack) e tt | inr e ↦ is_so y (In h.0 (Joins e.0)) e.1 tt ]
@@ -59,12 +59,12 @@ mutex_knows_none (m.Stores giving taken left) h q = absurd h
 mutex_knows_none p h q = tt
 
 -- at a mutex
-pub mutex_learns : (c : Core) (p : MutexPhase) (x : ℕ) (s : Seen) → core_act c ≡ core_act c → stance (core_next c s) ≡ mutex_stance p → IsOwnAct (core_act c) → Gives (core_act c) x s → (q : List Waiter) → mutex_knows p q
+pub mutex_learns : (c : Core) (p : MutexPhase) (x : ℕ) (s : ActResult) → core_act c ≡ core_act c → stance (core_next c s) ≡ mutex_stance p → IsOwnAct (core_act c) → Gives (core_act c) x s → (q : List Waiter) → mutex_knows p q
 mutex_learns c p x s same e own gives q =
     mutex_knows_none p (subst StoresNone e (stores_none (core_act c) s _ _ _ _ _ own (leads_by c (core_act c) x s same gives))) q
 
 -- and at a reader-writer lock
-pub rw_learns : (p : RwPhase) (s : Seen) → IsOwnAct (of_rw.act_of p) → (first second : List Waiter) → Learns p s first second
+pub rw_learns : (p : RwPhase) (s : ActResult) → IsOwnAct (of_rw.act_of p) → (first second : List Waiter) → Learns p s first second
 rw_learns (r.Scans a) s own f g = absurd own
-rw_learns (r.Takes2 rest) s own f g = absurd own
+rw_learns (r.TakeWriter rest) s own f g = absurd own
 rw_learns p s own f g = tt

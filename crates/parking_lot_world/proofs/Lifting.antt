@@ -12,7 +12,7 @@ use Rattle.parking_lot_rules.specs.Any.{Rw, Mx}
 use Rattle.parking_lot_world.specs.declared.calls.LockKind.{LockKind}
 use Rattle.parking_lot_world.specs.declared.calls.LockKind.TheVariants as kind
 use Rattle.parking_lot_world.specs.declared.seat.Hold.{Hold}
-use Rattle.parking_lot_world.specs.declared.seat.Call.{Call}
+use Rattle.parking_lot_world.specs.declared.open_call.Call.{Call}
 use Rattle.parking_lot_world.specs.Rows.{State, word_at, hold_at, call_at, taken_by, owned_of, owns_mutex, rw_role_in, mutex_role_in, rw_role_at, mutex_role_at, rw_core_role, mutex_core_role, rw_lock_at, mutex_at, mutex_word_of, any_lock, lock_at, queue_at}
 use Rattle.parking_lot_rules.specs.ReadLock.{word_of}
 use Rattle.parking_lot_world.proofs.Everybody.{same-all}

@@ -12,12 +12,12 @@ use Rattle.parking_lot_core.specs.Machine.{Machine, opened}
 use Rattle.parking_lot_core.specs.Places.{place_at, mark_of}
 use Rattle.parking_lot_core.specs.Sound.{Sound}
 use Rattle.parking_lot_core.proofs.Sounds.{none≢some, by_eqb}
-use Rattle.parking_lot_cores.specs.declared.act.Seen.{Seen}
-use Rattle.parking_lot_cores.specs.declared.act.Seen.TheVariants as seen
-use Rattle.parking_lot_world.specs.declared.seat.Told.{Told}
-use Rattle.parking_lot_world.specs.declared.seat.Spot.{Spot}
-use Rattle.parking_lot_world.specs.declared.seat.Spot.TheVariants as spot
-use Rattle.parking_lot_world.specs.declared.seat.Call.{Call}
+use Rattle.parking_lot_protocol.specs.declared.act.ActResult.{ActResult}
+use Rattle.parking_lot_protocol.specs.declared.act.ActResult.TheVariants as seen
+use Rattle.parking_lot_world.specs.declared.seat.WakeResult.{WakeResult}
+use Rattle.parking_lot_world.specs.declared.seat.QueuePosition.{QueuePosition}
+use Rattle.parking_lot_world.specs.declared.seat.QueuePosition.TheVariants as spot
+use Rattle.parking_lot_world.specs.declared.open_call.Call.{Call}
 use Rattle.parking_lot_world.specs.Rows.{State, call_at}
 use Rattle.parking_lot_world.specs.Stances.{Stance, Out, In, Asleep, stance, taken_count}
 use Rattle.parking_lot_world.specs.RowActs.{with_call, with_lot, hears, told_of}
@@ -43,7 +43,7 @@ pub outside_none : (sec : Option Section) (v : ℕ) → sec ≡ None → IsOutsi
 outside_none sec v none x at whose = absurd (none≢some (sym none ∙ at))
 
 -- another thread's stance, where the section or its place changes
-pub apart : (v j : ℕ) (a : Stance) (at at' : Spot) (place place' : Option Place) (sec sec' : Option Section)
+pub apart : (v j : ℕ) (a : Stance) (at at' : QueuePosition) (place place' : Option Place) (sec sec' : Option Section)
     → ((o : Section) → sec ≡ Some o → o.thread ≡ Some v → ⊥)
     → (place ≡ Some Running → place' ≡ Some Running)
     → IsOutside v sec'
@@ -54,8 +54,8 @@ apart v j (In k how) at at' place place' sec sec' away runs out lies h = absurd 
 apart v j (Asleep k token) at at' place place' sec sec' away runs out lies h = (lies k token refl h.0, out)
 
 -- a sleeper, where its place is the same
-pub lies_still : (at : Spot) (place : Option Place) (sec sec' : Option Section) (key : ℕ)
-    → ((by : ℕ) (said : Told) (o : Section) → at ≡ spot.Off by said → sec ≡ Some o → o.thread ≡ Some by → SaidIn o said → (o' : Section) × (sec' ≡ Some o') × (o'.thread ≡ Some by) × SaidIn o' said)
+pub lies_still : (at : QueuePosition) (place : Option Place) (sec sec' : Option Section) (key : ℕ)
+    → ((by : ℕ) (said : WakeResult) (o : Section) → at ≡ spot.Off by said → sec ≡ Some o → o.thread ≡ Some by → SaidIn o said → (o' : Section) × (sec' ≡ Some o') × (o'.thread ≡ Some by) × SaidIn o' said)
     → IsAt at place sec key → IsAt at place sec' key
 lies_still spot.Listed place sec sec' key kept h = h
 lies_still (spot.Off by said) place sec sec' key kept h = (h.0, h.1, go h.2)
@@ -142,7 +142,7 @@ up_by a b e h = subst IsUp (sym e) h
 
 -- ACTS BESIDE SECTIONS
 
-pub stays_out : (s : State) (t : ℕ) (c : Call) (told : Seen) → LotFits s → call_at s t ≡ Some c → let d = hears c told in
+pub stays_out : (s : State) (t : ℕ) (c : Call) (told : ActResult) → LotFits s → call_at s t ≡ Some c → let d = hears c told in
     StaysOut (stance c.core) (stance d.core) (taken_count c.core) (taken_count d.core) → LotFits (with_call s t d)
 stays_out s t c told h here x =
     let d = hears c told in

@@ -17,11 +17,11 @@ use Rattle.parking_lot_core.specs.Machine.{Machine, enter_fault, step_fault, res
 use Rattle.parking_lot_core.specs.Places.{place_at, is_due, roused, status_of, may_check, may_join, may_take, may_store, passed_of}
 use Rattle.parking_lot_core.proofs.Numbers.{first_passes}
 use Rattle.parking_lot_core.proofs.Sounds.{place_at-set_same}
-use Rattle.parking_lot_cores.specs.declared.act.Act.{Act}
-use Rattle.parking_lot_cores.specs.declared.act.Act.TheVariants as act
-use Rattle.parking_lot_cores.specs.declared.act.SectionAct.TheVariants as section
-use Rattle.parking_lot_cores.specs.declared.act.Seen.TheVariants as seen
-use Rattle.parking_lot_world.specs.declared.seat.Call.{Call}
+use Rattle.parking_lot_protocol.specs.declared.act.Act.{Act}
+use Rattle.parking_lot_protocol.specs.declared.act.Act.TheVariants as act
+use Rattle.parking_lot_protocol.specs.declared.act.SectionAct.TheVariants as section
+use Rattle.parking_lot_protocol.specs.declared.act.ActResult.TheVariants as seen
+use Rattle.parking_lot_world.specs.declared.open_call.Call.{Call}
 use Rattle.parking_lot_world.specs.declared.seat.Wakeup.{Wakeup}
 use Rattle.parking_lot_world.specs.Rows.{State, call_at, is_by}
 use Rattle.parking_lot_world.specs.Stances.{Doing, Looks, TurnsBack, Joins, Joined, Takes, Stores, Tells, Stance, Out, In, stance, taken_count}
@@ -149,7 +149,7 @@ lot_never_refuses = record {
       let l = leads_by c.core (act.Section (section.Store plain fair)) 0 (seen.Stored false) x.2 tt in
       steps_in s t c x.0 x.1 l.0 Stores may_store l.1 (λ o come. come);
   masks = λ s t c keep x.
-      let l = leads_by c.core (act.Mask keep) 0 (seen.Before 0) x.2 refl in
+      let l = leads_by c.core (act.FetchAnd keep) 0 (seen.Before 0) x.2 refl in
       steps_in s t c x.0 x.1 1 Stores may_store l.0 (λ o come. come);
   leaves = leaves;
   inside = λ s t c k how h here from.

@@ -8,14 +8,14 @@ use Rattle.parking_lot_core.specs.declared.place.Waiter.{Waiter}
 use Rattle.parking_lot_core.specs.Results.{is_left}
 use Rattle.parking_lot_core.specs.declared.place.Phase.TheVariants as phase
 use Rattle.parking_lot_core.specs.declared.place.Place.TheVariants.{Taken}
-use Rattle.parking_lot_cores.specs.Acts.{change_of, Gives}
-use Rattle.parking_lot_cores.specs.declared.act.Act.{Act}
-use Rattle.parking_lot_cores.specs.declared.act.Act.TheVariants as act
-use Rattle.parking_lot_cores.specs.declared.act.CoreAnswer.{CoreAnswer}
-use Rattle.parking_lot_cores.specs.declared.act.SectionAct.TheVariants as section
-use Rattle.parking_lot_cores.specs.declared.act.Seen.TheVariants as seen
-use Rattle.parking_lot_cores.specs.declared.act.WordChange.{WordChange}
-use Rattle.parking_lot_world.specs.declared.seat.Call.{Call}
+use Rattle.parking_lot_protocol.specs.Acts.{change_of, Gives}
+use Rattle.parking_lot_protocol.specs.declared.act.Act.{Act}
+use Rattle.parking_lot_protocol.specs.declared.act.Act.TheVariants as act
+use Rattle.parking_lot_protocol.specs.declared.act.CoreAnswer.{CoreAnswer}
+use Rattle.parking_lot_protocol.specs.declared.act.SectionAct.TheVariants as section
+use Rattle.parking_lot_protocol.specs.declared.act.ActResult.TheVariants as seen
+use Rattle.parking_lot_protocol.specs.declared.act.WordChange.{WordChange}
+use Rattle.parking_lot_world.specs.declared.open_call.Call.{Call}
 use Rattle.parking_lot_world.specs.declared.seat.Wakeup.{Wakeup}
 use Rattle.parking_lot_world.specs.Rows.{State, word_at, call_at, is_by}
 use Rattle.parking_lot_world.specs.Stances.{Joins, Joined, Takes, Stores, In, stance, taken_count, core_tells, sign}
@@ -111,10 +111,10 @@ stores s t c plain fair change is_fair h here is =
     worded (with_lot (settles (with_call s t d) t (told_of (core_tells d.core))) (told_all s t c change is_fair).lot) c.lock (change_of change (word_at s c.lock))
     (stores_fit s t c d h here x.0 (core_tells d.core) refl x.1 x.2 x.3 (wakes_some c.core (seen.Stored is_fair)) (stored_sound s t c h here (core_tells d.core)))
 
-masks : (s : State) (t : ℕ) (c : Call) (keep : ℕ) → Keeps s t c (act.Mask keep) (masked s t c keep)
+masks : (s : State) (t : ℕ) (c : Call) (keep : ℕ) → Keeps s t c (act.FetchAnd keep) (masked s t c keep)
 masks s t c keep h here is =
     let told = seen.Before (word_at s c.lock) in
-    let x = leads_by c.core (act.Mask keep) (word_at s c.lock) told is refl in
+    let x = leads_by c.core (act.FetchAnd keep) (word_at s c.lock) told is refl in
     worded (with_lot (settles (with_call s t (hears c told)) t (told_of (sign false))) (masked s t c keep).lot) c.lock (bit_and (word_at s c.lock) keep)
     (stores_fit s t c (hears c told) h here 1 (sign false) refl x.0 x.1 x.2 (wakes_some c.core told) (stored_sound s t c h here (sign false)))
 

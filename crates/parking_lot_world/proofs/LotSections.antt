@@ -14,11 +14,11 @@ use Rattle.parking_lot_core.specs.Places.{place_at, mark_of, may_take, may_store
 use Rattle.parking_lot_core.specs.Results.{is_left}
 use Rattle.parking_lot_core.specs.Sound.{Sound}
 use Rattle.parking_lot_core.proofs.Sounds.{none≢some, place_at-map}
-use Rattle.parking_lot_cores.specs.declared.act.Seen.TheVariants as seen
-use Rattle.parking_lot_world.specs.declared.seat.Told.{Told}
-use Rattle.parking_lot_world.specs.declared.seat.Spot.{Spot}
-use Rattle.parking_lot_world.specs.declared.seat.Spot.TheVariants as spot
-use Rattle.parking_lot_world.specs.declared.seat.Call.{Call}
+use Rattle.parking_lot_protocol.specs.declared.act.ActResult.TheVariants as seen
+use Rattle.parking_lot_world.specs.declared.seat.WakeResult.{WakeResult}
+use Rattle.parking_lot_world.specs.declared.seat.QueuePosition.{QueuePosition}
+use Rattle.parking_lot_world.specs.declared.seat.QueuePosition.TheVariants as spot
+use Rattle.parking_lot_world.specs.declared.open_call.Call.{Call}
 use Rattle.parking_lot_world.specs.Rows.{State, word_at, call_at, taken_by}
 use Rattle.parking_lot_world.specs.Stances.{Doing, Looks, TurnsBack, Joins, Joined, Takes, Stores, Tells, Stance, Out, In, Asleep, stance, taken_count}
 use Rattle.parking_lot_world.specs.RowActs.{with_call, with_lot, hears, key_of, joins, entered, checked, took_nobody, left, told_of}
@@ -30,7 +30,7 @@ use Rattle.parking_lot_world.proofs.LotActs.{same_number, same_section, outside_
 
 -- who has taken nobody has nobody off its list
 pub nobody_off : (s : State) → LotFits s → (t : ℕ) (c : Call) → call_at s t ≡ Some c → taken_count c.core ≡ 0
-    → (v k : ℕ) (token : ParkToken) (x : Call) (by : ℕ) (said : Told) → by ≡ t → call_at s v ≡ Some x → stance x.core ≡ Asleep k token → x.spot ≡ spot.Off by said → ⊥
+    → (v k : ℕ) (token : ParkToken) (x : Call) (by : ℕ) (said : WakeResult) → by ≡ t → call_at s v ≡ Some x → stance x.core ≡ Asleep k token → x.spot ≡ spot.Off by said → ⊥
 nobody_off s h t c here none v k token x by said same is asleep at =
     let o = h.owed v x k token by said is asleep at in
     let some : 1 ≤ length (taken_by s.wakes o.1.by) = taken_some s.wakes o.0 o.1 o.2 in
@@ -85,7 +85,7 @@ module _ (s : State) (t : ℕ) (c d : Call) (h : LotFits s) (here : call_at s t 
 
   -- of the others the places stay, and what was said to those that are held
   pub seats_still : (v : ℕ) → (v == t) ≡ false → place_at lot.places v ≡ place_at s.lot.places v
-      → ((k : ℕ) (token : ParkToken) (x : Call) (by : ℕ) (said : Told) → by ≡ t → call_at s v ≡ Some x → stance x.core ≡ Asleep k token → x.spot ≡ spot.Off by said → SaidIn o said → SaidIn o' said)
+      → ((k : ℕ) (token : ParkToken) (x : Call) (by : ℕ) (said : WakeResult) → by ≡ t → call_at s v ≡ Some x → stance x.core ≡ Asleep k token → x.spot ≡ spot.Off by said → SaidIn o said → SaidIn o' said)
       → Seated v (call_at s v) (place_at s.lot.places v) s.lot.section → Seated v (call_at s v) (place_at lot.places v) lot.section
   seats_still v e place kept =
       subst (λ (p : Option Place). Seated v (call_at s v) (place_at s.lot.places v) s.lot.section → Seated v (call_at s v) p lot.section) (sym place)
@@ -99,7 +99,7 @@ module _ (s : State) (t : ℕ) (c d : Call) (h : LotFits s) (here : call_at s t 
       (o', is, whose' ∙ ap (λ w. Some w) (sym by_t), kept j token x by said by_t at asleep off (subst (λ (z : Section). SaidIn z said) (same_section (sym sec ∙ was)) in_it)))))
 
   pub goes_on : Carries (call_at s t) (Some d) → Sound lot → lot.queues ≡ s.lot.queues → lot.places ≡ s.lot.places
-      → ((v k : ℕ) (token : ParkToken) (x : Call) (by : ℕ) (said : Told) → by ≡ t → call_at s v ≡ Some x → stance x.core ≡ Asleep k token → x.spot ≡ spot.Off by said → SaidIn o said → SaidIn o' said)
+      → ((v k : ℕ) (token : ParkToken) (x : Call) (by : ℕ) (said : WakeResult) → by ≡ t → call_at s v ≡ Some x → stance x.core ≡ Asleep k token → x.spot ≡ spot.Off by said → SaidIn o said → SaidIn o' said)
       → Seated t (Some d) (place_at s.lot.places t) (Some o')
       → LotFits (with_lot (with_call s t d) lot)
   goes_on carries sound queues places kept own =
@@ -144,7 +144,7 @@ pub stores_unstored : (ph : Phase) → may_store ph ≡ true → ph ≡ phase.St
 stores_unstored ph may is = absurd (false≢true (sym (ap may_store is) ∙ may))
 
 -- what was said in a section that takes is said in any later phase in which it may store
-pub still_said : (o : Section) (ph : Phase) (said : Told) → may_take o.phase ≡ true → may_store ph ≡ true → SaidIn o said → SaidIn (record o { phase = ph }) said
+pub still_said : (o : Section) (ph : Phase) (said : WakeResult) → may_take o.phase ≡ true → may_store ph ≡ true → SaidIn o said → SaidIn (record o { phase = ph }) said
 still_said o ph said may store (inl x) = absurd (takes_unstored o.phase may x.0)
 still_said o ph said may store (inr x) = inr (store, x.1)
 
@@ -176,8 +176,8 @@ told_marks token None = refl
 told_marks token (Some p) = told_mark token p
 
 -- those that were held are told
-told_lies : (at : Spot) (place : Option Place) (sec : Option Section) (token : UnparkToken) (key : ℕ)
-    → ((by : ℕ) (said : Told) (o : Section) → at ≡ spot.Off by said → sec ≡ Some o → o.thread ≡ Some by → SaidIn o said → said ≡ told_of token)
+told_lies : (at : QueuePosition) (place : Option Place) (sec : Option Section) (token : UnparkToken) (key : ℕ)
+    → ((by : ℕ) (said : WakeResult) (o : Section) → at ≡ spot.Off by said → sec ≡ Some o → o.thread ≡ Some by → SaidIn o said → said ≡ told_of token)
     → IsAt at place sec key → IsAt at (option_map (told token false) place) None key
 told_lies spot.Listed place sec token key kept h = (h.0, ap (option_map (told token false)) h.1, h.2)
 told_lies (spot.Off by said) place sec token key kept h = (h.0, h.1, go h.2)
@@ -193,7 +193,7 @@ module _ (s : State) (t : ℕ) (c : Call) (h : LotFits s) (here : call_at s t �
 
   left_as : (k : ℕ) (how : Doing) (b : Stance) → stance c.core ≡ In k how → Carries (Some c) (Some leaves) → stance leaves.core ≡ b
       → ((o : Section) → s.lot.section ≡ Some o → o.thread ≡ Some t → HasCome how o.phase o.token
-      → (v j : ℕ) (token : ParkToken) (x : Call) (by : ℕ) (said : Told) → by ≡ t → call_at s v ≡ Some x → stance x.core ≡ Asleep j token → x.spot ≡ spot.Off by said → SaidIn o said → said ≡ told_of (token_of s.lot))
+      → (v j : ℕ) (token : ParkToken) (x : Call) (by : ℕ) (said : WakeResult) → by ≡ t → call_at s v ≡ Some x → stance x.core ≡ Asleep j token → x.spot ≡ spot.Off by said → SaidIn o said → said ≡ told_of (token_of s.lot))
       → Stands t c.lock b c.spot (option_map (told (token_of s.lot) false) (place_at s.lot.places t)) None
       → LotFits (left s t c)
   left_as k how b from carries to kept own =
@@ -228,7 +228,7 @@ module _ (s : State) (t : ℕ) (c : Call) (h : LotFits s) (here : call_at s t �
       let seat = seat_of s h t c (In x.0 (Joined x.1)) here x.2 in
       left_as x.0 (Joined x.1) (Asleep x.0 x.1) x.2 (carries_lain c leaves x.0 x.1 x.2 x.3 refl seat.5.0 seat.5.0 (x.5 ∙ sym x.4) (wakes_some c.core seen.Made)) x.3
       (λ o sec whose come v j token y by said same at asleep off in_it. absurd (nobody_off s h t c here x.4 v j token y by said same at asleep off)) (
-        subst (λ (a : Spot). IsAt a (option_map (told (token_of s.lot) false) (place_at s.lot.places t)) None (2 * c.lock + x.0)) (sym seat.5.0)
+        subst (λ (a : QueuePosition). IsAt a (option_map (told (token_of s.lot) false) (place_at s.lot.places t)) None (2 * c.lock + x.0)) (sym seat.5.0)
             (seat.5.1.0, ap (option_map (told (token_of s.lot) false)) seat.5.1.1, seat.5.1.2),
         outside_none None t refl,
       )
@@ -238,6 +238,6 @@ module _ (s : State) (t : ℕ) (c : Call) (h : LotFits s) (here : call_at s t �
       (λ o sec whose come v j token y by said same at asleep off in_it. tells o sec come.0 said in_it)
       (ap (option_map (told (token_of s.lot) false)) seat.5, outside_none None t refl)
     where
-      tells : (o : Section) → s.lot.section ≡ Some o → o.phase ≡ phase.Stored → (said : Told) → SaidIn o said → said ≡ told_of (token_of s.lot)
+      tells : (o : Section) → s.lot.section ≡ Some o → o.phase ≡ phase.Stored → (said : WakeResult) → SaidIn o said → said ≡ told_of (token_of s.lot)
       tells o sec stored said (inl y) = y.1 ∙ ap (λ (z : Option Section). told_of (option_map_or (λ w. w.token) z (record { 0 = 0 }))) (sym sec)
       tells o sec stored said (inr y) = absurd (stores_unstored o.phase y.0 stored)

@@ -14,7 +14,7 @@ use Rattle.parking_lot_core.specs.Machine.{opened, in_phase, stored, closed, tok
 use Rattle.parking_lot_core.specs.Places.{place_at, may_join, waits_at}
 use Rattle.parking_lot_core.specs.Sound.{Sound}
 use Rattle.parking_lot_core.proofs.Sounds.{some≢none, sound_opened, sound_section, sound_closed, sound_joined, sound_left, sound_place}
-use Rattle.parking_lot_world.specs.declared.seat.Call.{Call}
+use Rattle.parking_lot_world.specs.declared.open_call.Call.{Call}
 use Rattle.parking_lot_world.specs.Rows.{State, call_at}
 use Rattle.parking_lot_world.specs.Stances.{Looks, Joins, Takes, Out, In, stance}
 use Rattle.parking_lot_world.specs.RowActs.{key_of, appended, took}

@@ -9,7 +9,7 @@ use Rattle.parking_lot_core.specs.Places.{place_at}
 use Rattle.parking_lot_core.specs.Sound.{Sound}
 use Rattle.parking_lot_core.proofs.Numbers.{flag, count_by-cons}
 use Rattle.parking_lot_core.proofs.Sounds.{none≢some}
-use Rattle.parking_lot_world.specs.declared.seat.Call.{Call}
+use Rattle.parking_lot_world.specs.declared.open_call.Call.{Call}
 use Rattle.parking_lot_world.specs.declared.seat.Wakeup.{Wakeup}
 use Rattle.parking_lot_world.specs.Rows.{State, call_at, taken_by}
 use Rattle.parking_lot_world.specs.RowFits.{Seated, LotFits, WakesFit, is_away}

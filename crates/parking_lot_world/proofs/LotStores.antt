@@ -14,11 +14,11 @@ use Rattle.parking_lot_core.specs.Machine.{stored}
 use Rattle.parking_lot_core.specs.Places.{place_at, may_store}
 use Rattle.parking_lot_core.specs.Sound.{Sound}
 use Rattle.parking_lot_core.proofs.Sounds.{by_eqb}
-use Rattle.parking_lot_world.specs.declared.seat.Told.{Told}
-use Rattle.parking_lot_world.specs.declared.seat.Told.TheVariants as told
-use Rattle.parking_lot_world.specs.declared.seat.Spot.{Spot}
-use Rattle.parking_lot_world.specs.declared.seat.Spot.TheVariants as spot
-use Rattle.parking_lot_world.specs.declared.seat.Call.{Call}
+use Rattle.parking_lot_world.specs.declared.seat.WakeResult.{WakeResult}
+use Rattle.parking_lot_world.specs.declared.seat.WakeResult.TheVariants as told
+use Rattle.parking_lot_world.specs.declared.seat.QueuePosition.{QueuePosition}
+use Rattle.parking_lot_world.specs.declared.seat.QueuePosition.TheVariants as spot
+use Rattle.parking_lot_world.specs.declared.open_call.Call.{Call}
 use Rattle.parking_lot_world.specs.Rows.{State, call_at}
 use Rattle.parking_lot_world.specs.Stances.{Stores, Tells, In, stance, taken_count}
 use Rattle.parking_lot_world.specs.RowActs.{with_call, with_lot, settled_spot, settled, settles, told_of}
@@ -46,7 +46,7 @@ call_at-map g cs v = ap (option_and_then (λ x. x)) (slice_get-map (option_map g
 module _ (t : ℕ) (token : UnparkToken) (place : Option Place) (sec sec' : Option Section) (o o' : Section) (was : sec ≡ Some o) (is : sec' ≡ Some o') (whose : o.thread ≡ Some t) (whose' : o'.thread ≡ Some t)
     (open_still : may_store o.phase ≡ true) (now : o'.phase ≡ phase.Stored) (says : o'.token ≡ token) (key : ℕ) where
   -- one that was told of is in no section that is open
-  said_before : (by : ℕ) (said : Told) → (said ≡ told.Nothing → ⊥) → (sleep : Sleep)
+  said_before : (by : ℕ) (said : WakeResult) → (said ≡ told.Nothing → ⊥) → (sleep : Sleep)
       → ((place ≡ Some (Held sleep)) × (opened : Section) × (sec ≡ Some opened) × (opened.thread ≡ Some by) × SaidIn opened said) ⊎ ((x : UnparkToken) × (place ≡ Some (Taken x sleep false)) × (said ≡ told_of x))
       → (x : UnparkToken) × (place ≡ Some (Taken x sleep false)) × (said ≡ told_of x)
   said_before by said some sleep (inl x) = absurd (never x.4)
@@ -56,7 +56,7 @@ module _ (t : ℕ) (token : UnparkToken) (place : Option Place) (sec sec' : Opti
       never (inr y) = some y.1
   said_before by said some sleep (inr x) = x
 
-  settled_lies : (at : Spot) → IsAt at place sec key → IsAt (settled_spot t (told_of token) at) place sec' key
+  settled_lies : (at : QueuePosition) → IsAt at place sec key → IsAt (settled_spot t (told_of token) at) place sec' key
   settled_lies spot.Listed h = h
   settled_lies (spot.Off by told.Nothing) h = (h.0, h.1, go h.2)
     where

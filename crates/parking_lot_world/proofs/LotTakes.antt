@@ -17,12 +17,12 @@ use Rattle.std.proofs.lemmas.List.{length-set}
 use Rattle.parking_lot_core.proofs.Kept.{updated_at, updated_other, slice_get-seam, eqb_false_symm}
 use Rattle.parking_lot_core.proofs.Numbers.{flag, count_by-at, count_by-push}
 use Rattle.parking_lot_core.proofs.Sounds.{by_eqb, place_at-set_same, place_at-set_other}
-use Rattle.parking_lot_cores.specs.declared.act.Seen.TheVariants as seen
-use Rattle.parking_lot_world.specs.declared.seat.Told.{Told}
-use Rattle.parking_lot_world.specs.declared.seat.Told.TheVariants as told
-use Rattle.parking_lot_world.specs.declared.seat.Spot.{Spot}
-use Rattle.parking_lot_world.specs.declared.seat.Spot.TheVariants as spot
-use Rattle.parking_lot_world.specs.declared.seat.Call.{Call}
+use Rattle.parking_lot_protocol.specs.declared.act.ActResult.TheVariants as seen
+use Rattle.parking_lot_world.specs.declared.seat.WakeResult.{WakeResult}
+use Rattle.parking_lot_world.specs.declared.seat.WakeResult.TheVariants as told
+use Rattle.parking_lot_world.specs.declared.seat.QueuePosition.{QueuePosition}
+use Rattle.parking_lot_world.specs.declared.seat.QueuePosition.TheVariants as spot
+use Rattle.parking_lot_world.specs.declared.open_call.Call.{Call}
 use Rattle.parking_lot_world.specs.declared.seat.Wakeup.{Wakeup}
 use Rattle.parking_lot_world.specs.Rows.{State, call_at, is_by, taken_by}
 use Rattle.parking_lot_world.specs.Stances.{Doing, Looks, TurnsBack, Joins, Joined, Takes, Stores, Tells, Stance, Out, In, Asleep, stance, taken_count}
@@ -72,7 +72,7 @@ sleeper s t c h here k nth w two from at =
         absurd (outside_of s.lot.section mine.0 t w.thread other mine.1 mine.2 its.0 its.1 its.2)
     go x there lock listed other (inr e) =
         let its = seat_of s h w.thread x (Asleep k w.token) there e in
-        let place = subst (λ (a : Spot). IsAt a (place_at s.lot.places w.thread) s.lot.section (2 * x.lock + k)) listed its.0 in
+        let place = subst (λ (a : QueuePosition). IsAt a (place_at s.lot.places w.thread) s.lot.section (2 * x.lock + k)) listed its.0 in
         record {
           call = x;
           there = there;
@@ -149,7 +149,7 @@ module _ (s : State) (t : ℕ) (c : Call) (h : LotFits s) (here : call_at s t �
   not_mine : (x j : ℕ) (token : ParkToken) (y : Call) → call_at s x ≡ Some y → stance y.core ≡ Asleep j token → (x == t) ≡ false
   not_mine x j token y is asleep = ne_eqb x t (λ e. awake_sleeps j token (stance c.core) (awake_by (stance c.core) (In k Takes) from tt) (ap (λ (d : Call). stance d.core) (same_call (sym here ∙ (ap (call_at s) (sym e) ∙ is))) ∙ asleep))
 
-  not_taken : (x by : ℕ) (said : Told) (y : Call) → call_at s x ≡ Some y → y.spot ≡ spot.Off by said → (x == v) ≡ false
+  not_taken : (x by : ℕ) (said : WakeResult) (y : Call) → call_at s x ≡ Some y → y.spot ≡ spot.Off by said → (x == v) ≡ false
   not_taken x by said y is off = ne_eqb x v (λ e. listed≢off (sym z.listed ∙ (ap (λ (d : Call). d.spot) (same_call (sym z.there ∙ (ap (call_at s) (sym e) ∙ is))) ∙ off)))
     where
       listed≢off : spot.Listed ≡ spot.Off by said → ⊥
@@ -201,7 +201,7 @@ module _ (s : State) (t : ℕ) (c : Call) (h : LotFits s) (here : call_at s t �
         let not_t : (x.thread == t) ≡ false = ne_eqb x.thread t (λ e. subst (Awaits l x.token) (ap (λ (y : Call). stance y.core) (same_call (sym old.1 ∙ (ap (call_at s) e ∙ here))) ∙ from) old.4) in
         (old.0, call_other x.thread not_t (gone j l n x is) ∙ old.1, old.2, old.3, old.4)
 
-    took_owed : (x : ℕ) (d : Call) (j : ℕ) (token : ParkToken) (by : ℕ) (said : Told) → call_at u x ≡ Some d → stance d.core ≡ Asleep j token → d.spot ≡ spot.Off by said → IsOwed u.wakes by x
+    took_owed : (x : ℕ) (d : Call) (j : ℕ) (token : ParkToken) (by : ℕ) (said : WakeResult) → call_at u x ≡ Some d → stance d.core ≡ Asleep j token → d.spot ≡ spot.Off by said → IsOwed u.wakes by x
     took_owed x d j token by said is asleep off' = by_eqb x t (IsOwed u.wakes by x)
         (λ e. absurd (up_how how (stance takes.core) to (ap (λ (y : Call). stance y.core) (same_call (sym call_mine ∙ (ap (call_at u) (sym e) ∙ is))) ∙ asleep)))
         (λ e. by_eqb x v (IsOwed u.wakes by x)

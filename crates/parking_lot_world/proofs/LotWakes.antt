@@ -16,11 +16,11 @@ use Rattle.parking_lot_core.specs.Sound.{Sound}
 use Rattle.parking_lot_core.proofs.Kept.{eqb_false_symm}
 use Rattle.parking_lot_core.proofs.Numbers.{flag, count_by-remove}
 use Rattle.parking_lot_core.proofs.Sounds.{by_eqb, place_at-set_same, place_at-set_other}
-use Rattle.parking_lot_cores.specs.declared.act.Seen.TheVariants as seen
-use Rattle.parking_lot_world.specs.declared.seat.Told.{Told}
-use Rattle.parking_lot_world.specs.declared.seat.Spot.{Spot}
-use Rattle.parking_lot_world.specs.declared.seat.Spot.TheVariants as spot
-use Rattle.parking_lot_world.specs.declared.seat.Call.{Call}
+use Rattle.parking_lot_protocol.specs.declared.act.ActResult.TheVariants as seen
+use Rattle.parking_lot_world.specs.declared.seat.WakeResult.{WakeResult}
+use Rattle.parking_lot_world.specs.declared.seat.QueuePosition.{QueuePosition}
+use Rattle.parking_lot_world.specs.declared.seat.QueuePosition.TheVariants as spot
+use Rattle.parking_lot_world.specs.declared.open_call.Call.{Call}
 use Rattle.parking_lot_world.specs.declared.seat.Wakeup.{Wakeup}
 use Rattle.parking_lot_world.specs.Rows.{State, call_at, is_by, taken_by}
 use Rattle.parking_lot_world.specs.Stances.{Out, Asleep, stance, taken_count}
@@ -42,7 +42,7 @@ out_asleep e = cc
 module _ (s : State) (t : ℕ) (c : Call) (h : LotFits s) (here : call_at s t ≡ Some c) (e : Wakeup) (d : Call)
     (first : slice_get s.wakes (position_or_len (is_by t) s.wakes) ≡ Some e) (by_t : e.by ≡ t) (there : call_at s e.thread ≡ Some d) (from : stance c.core ≡ Out) where
   -- it sleeps, off its list
-  pub woken_off : (said : Told) × (k : ℕ) × (token : ParkToken) × (d.spot ≡ spot.Off t said) × (stance d.core ≡ Asleep k token)
+  pub woken_off : (said : WakeResult) × (k : ℕ) × (token : ParkToken) × (d.spot ≡ spot.Off t said) × (stance d.core ≡ Asleep k token)
   woken_off =
       let x = h.woken (position_or_len (is_by t) s.wakes) e first in
       let same : x.call ≡ d = same_call (sym x.here ∙ there) in (
@@ -59,12 +59,12 @@ module _ (s : State) (t : ℕ) (c : Call) (h : LotFits s) (here : call_at s t �
       let x = woken_off in
       let mine = seat_of s h t c Out here from in
       let its = seat_of s h e.thread d (Asleep x.1 x.2) there x.4 in
-      go x.0 mine.1 (2 * d.lock + x.1) (subst (λ (a : Spot). IsAt a (place_at s.lot.places e.thread) s.lot.section (2 * d.lock + x.1)) x.3 its.0)
+      go x.0 mine.1 (2 * d.lock + x.1) (subst (λ (a : QueuePosition). IsAt a (place_at s.lot.places e.thread) s.lot.section (2 * d.lock + x.1)) x.3 its.0)
     where
       marked : (token : UnparkToken) (sleep : Sleep) → place_at s.lot.places e.thread ≡ Some (Taken token sleep false) → sleep.mark ≡ e.mark
       marked token sleep place = sym (ap (λ (p : Option Place). option_map_or mark_of p 0) place) ∙ (h.woken (position_or_len (is_by t) s.wakes) e first).mark
 
-      go : (said : Told) → IsOutside t s.lot.section → (key : ℕ) → IsAt (spot.Off t said) (place_at s.lot.places e.thread) s.lot.section key
+      go : (said : WakeResult) → IsOutside t s.lot.section → (key : ℕ) → IsAt (spot.Off t said) (place_at s.lot.places e.thread) s.lot.section key
           → (token : UnparkToken) × (sleep : Sleep) × (place_at s.lot.places e.thread ≡ Some (Taken token sleep false)) × (sleep.late ≡ false) × (sleep.mark ≡ e.mark) × (said ≡ told_of token)
       go said out key x = told x.2
         where
@@ -148,10 +148,10 @@ module _ (s : State) (t : ℕ) (c : Call) (h : LotFits s) (here : call_at s t �
           let not_e : (w.thread == e.thread) ≡ false = ne_eqb w.thread e.thread (λ f. listed≢off (sym old.3 ∙ (ap (λ (y : Call). y.spot) (same_call (sym old.1 ∙ (ap (call_at s) f ∙ there))) ∙ woken_off.3))) in
           (old.0, call_other w.thread not_t not_e ∙ old.1, old.2, old.3, old.4)
         where
-          listed≢off : {said : Told} → spot.Listed ≡ spot.Off t said → ⊥
+          listed≢off : {said : WakeResult} → spot.Listed ≡ spot.Off t said → ⊥
           listed≢off e = cc
 
-      woke_owed : (x : ℕ) (z : Call) (j : ℕ) (park : ParkToken) (by : ℕ) (said : Told) → call_at u x ≡ Some z → stance z.core ≡ Asleep j park → z.spot ≡ spot.Off by said → IsOwed u.wakes by x
+      woke_owed : (x : ℕ) (z : Call) (j : ℕ) (park : ParkToken) (by : ℕ) (said : WakeResult) → call_at u x ≡ Some z → stance z.core ≡ Asleep j park → z.spot ≡ spot.Off by said → IsOwed u.wakes by x
       woke_owed x z j park by said is asleep off = by_eqb x t (IsOwed u.wakes by x)
           (λ f. absurd (out_asleep (sym to ∙ (ap (λ (y : Call). stance y.core) (same_call (sym call_mine ∙ (ap (call_at u) (sym f) ∙ is))) ∙ asleep))))
           (λ f. by_eqb x e.thread (IsOwed u.wakes by x)

@@ -10,7 +10,7 @@ use Rattle.parking_lot_world.specs.declared.calls.LockKind.{LockKind}
 use Rattle.parking_lot_world.specs.declared.calls.LockKind.TheVariants as kind
 use Rattle.parking_lot_world.specs.Rows.{State, call_at, hold_at, taken_by, rw_role_at, mutex_role_at, rw_lock_at, mutex_at, any_lock, lock_at, inside, family, one_bucket}
 use Rattle.parking_lot_rules.specs.Roles.{Asleep}
-use Rattle.parking_lot_cores.specs.MutexRules as of_mutex
+use Rattle.parking_lot_protocol.specs.MutexRules as of_mutex
 use Rattle.parking_lot_world.specs.MutexLaws.{LeadsBy, move_crossing}
 use Rattle.parking_lot_world.specs.RowSteps.{IsQuiet, IsMade, IsMutexMove, store_step, wake_step}
 use Rattle.parking_lot_rules.proofs.MutexCrossing.{families_stay_sound}

@@ -11,21 +11,21 @@ use Rattle.parking_lot_rules.specs.Roles.{Mark, Asleep}
 use Rattle.parking_lot_rules.specs.Mutex as rules
 use Rattle.parking_lot_rules.specs.Family.{Crossing, Comes, Goes, First}
 use Rattle.parking_lot_rules.specs.Family as crossing
-use Rattle.parking_lot_cores.specs.declared.act.Act.{Act}
-use Rattle.parking_lot_cores.specs.declared.act.Act.TheVariants as act
-use Rattle.parking_lot_cores.specs.declared.act.SectionAct.TheVariants as section
-use Rattle.parking_lot_cores.specs.declared.act.WordChange.{WordChange}
-use Rattle.parking_lot_cores.specs.declared.act.CoreAnswer.{CoreAnswer}
-use Rattle.parking_lot_cores.specs.declared.act.CoreAnswer.TheVariants.{Refused, Released}
-use Rattle.parking_lot_cores.specs.declared.act.Seen.{Seen}
-use Rattle.parking_lot_cores.specs.declared.act.Seen.TheVariants.{Start, Word, Exchanged, Took, Stored, Made, Woken}
-use Rattle.parking_lot_cores.specs.declared.mutex_phase.MutexPhase.{MutexPhase}
-use Rattle.parking_lot_cores.specs.declared.mutex_phase.MutexPhase.TheVariants.{Locking, Trying, Unlocking, Bumping, Locks, Parks, Checks, Appends, Sleeps, TryLocks, Refuses, Unlocks, Takes, Stores, Leaves, Wakes, Finishes, Ends, Strays}
-use Rattle.parking_lot_cores.specs.declared.mutex_phase.Giving.{Giving}
-use Rattle.parking_lot_cores.specs.Acts.{Gives}
-use Rattle.parking_lot_cores.specs.MutexTable.{act_of, next_phase, wakes_with, bit}
-use Rattle.parking_lot_cores.specs.MutexRules.{Spot, Listed, Off, role, owns, owns_after, taken_of, Move, Stays, Makes, Joins, TakesOne, Tells, WakesOne, IsWoken, move, last_move, IsWord, IsPlain, IsMove, IsTold, mark_of}
-use Rattle.parking_lot_cores.proofs.MutexFollowing.{either, follows}
+use Rattle.parking_lot_protocol.specs.declared.act.Act.{Act}
+use Rattle.parking_lot_protocol.specs.declared.act.Act.TheVariants as act
+use Rattle.parking_lot_protocol.specs.declared.act.SectionAct.TheVariants as section
+use Rattle.parking_lot_protocol.specs.declared.act.WordChange.{WordChange}
+use Rattle.parking_lot_protocol.specs.declared.act.CoreAnswer.{CoreAnswer}
+use Rattle.parking_lot_protocol.specs.declared.act.CoreAnswer.TheVariants.{Refused, Released}
+use Rattle.parking_lot_protocol.specs.declared.act.ActResult.{ActResult}
+use Rattle.parking_lot_protocol.specs.declared.act.ActResult.TheVariants.{Start, Word, Exchanged, Took, Stored, Made, Woken}
+use Rattle.parking_lot_protocol.specs.declared.mutex_phase.MutexPhase.{MutexPhase}
+use Rattle.parking_lot_protocol.specs.declared.mutex_phase.MutexPhase.TheVariants.{Locking, Trying, Unlocking, Bumping, Locks, Parks, Checks, Appends, Sleeps, TryLocks, Refuses, Unlocks, Takes, Stores, Leaves, Wakes, Finishes, Ends, Invalid}
+use Rattle.parking_lot_protocol.specs.declared.mutex_phase.Giving.{Giving}
+use Rattle.parking_lot_protocol.specs.Acts.{Gives}
+use Rattle.parking_lot_protocol.specs.MutexTable.{act_of, next_phase, wakes_with, bit}
+use Rattle.parking_lot_protocol.specs.MutexRules.{QueuePosition, Listed, Off, role, owns, owns_after, taken_of, Move, Stays, Makes, Joins, TakesOne, Tells, WakesOne, IsWoken, move, last_move, IsWord, IsPlain, IsMove, IsTold, mark_of}
+use Rattle.parking_lot_protocol.proofs.MutexFollowing.{either, follows}
 use Rattle.parking_lot_world.specs.Rows.{mutex_word_of}
 use Rattle.parking_lot_world.specs.Stances.{sign, mutex_begun}
 use Rattle.parking_lot_world.specs.RowFits.{mutex_knows}
@@ -48,7 +48,7 @@ total_of_nobody [] none = refl
 total_of_nobody (r ∷ rs) none = omega (arith, sum_by-cons (rules.weight rules.Inside) r rs, none 0 r refl, total_of_nobody rs (λ u. none (suc u)))
 
 -- what a thread is told is what its act gives
-told : (p : MutexPhase) (x : ℕ) (s : Seen) → Gives (act_of p) x s → IsTold p x s
+told : (p : MutexPhase) (x : ℕ) (s : ActResult) → Gives (act_of p) x s → IsTold p x s
 told Locking x s g = absurd g
 told Trying x s g = absurd g
 told (Unlocking fair) x s g = absurd g
@@ -79,7 +79,7 @@ is_alone Stays = true
 is_alone (Makes k) = true
 is_alone other = false
 
-pub crossed : (v : ℕ) (p : MutexPhase) (s : Seen) → move_crossing (move v p s) ≡ crossing_of (act_of p)
+pub crossed : (v : ℕ) (p : MutexPhase) (s : ActResult) → move_crossing (move v p s) ≡ crossing_of (act_of p)
 crossed v (Locks a waiters) Exchanged = refl
 crossed v (Parks a) Exchanged = refl
 crossed v (Checks c) (Word n) = either move_crossing (n == 3) _ _ _ refl refl
@@ -91,7 +91,7 @@ crossed v (Stores g taken left) (Stored fair) = refl
 crossed v (Finishes g) s = sym (either crossing_of g.again _ _ _ refl refl)
 crossed v p s = refl
 
-alone_by : (v : ℕ) (p : MutexPhase) (s : Seen) → is_own (act_of p) ≡ true → is_alone (move v p s) ≡ true
+alone_by : (v : ℕ) (p : MutexPhase) (s : ActResult) → is_own (act_of p) ≡ true → is_alone (move v p s) ≡ true
 alone_by v (Locks a waiters) Exchanged own = refl
 alone_by v (Parks a) Exchanged own = refl
 alone_by v (Checks c) (Word n) own = either is_alone (n == 3) _ _ _ refl refl
@@ -146,7 +146,7 @@ module _ (m : rules.Mutex) (sound : rules.IsSound m) (t v : ℕ) (p q : MutexPha
   alone_leads WakesOne at h alone free = absurd (let e : false ≡ true = alone in cc)
   alone_leads (IsWoken handed) at h alone free = absurd (let e : false ≡ true = alone in cc)
 
-module _ (m : rules.Mutex) (sound : rules.IsSound m) (t v : ℕ) (p : MutexPhase) (s : Seen) where
+module _ (m : rules.Mutex) (sound : rules.IsSound m) (t v : ℕ) (p : MutexPhase) (s : ActResult) where
   own_step : slice_get m.roles t ≡ Some (role Listed v p) → IsTold p (rules.number m.word) s → is_alone (move v p s) ≡ true → ((key : ℕ) → act_of p ≡ act.Enter key → NobodyIsInside m)
       → IsOwnStep m (rules.number m.word) t v p s
   own_step at heard alone free =
@@ -157,13 +157,13 @@ module _ (m : rules.Mutex) (sound : rules.IsSound m) (t v : ℕ) (p : MutexPhase
       record { leads = k.0; small = k.1; crossing = crossed v p s }
 
 -- who doesn't sleep has the same role wherever it stood
-listed : (m : rules.Mutex) (t v : ℕ) (at : Spot) (p : MutexPhase) → slice_get m.roles t ≡ Some (role at v p) → act_of p ≢ act.Sleep → slice_get m.roles t ≡ Some (role Listed v p)
+listed : (m : rules.Mutex) (t v : ℕ) (at : QueuePosition) (p : MutexPhase) → slice_get m.roles t ≡ Some (role at v p) → act_of p ≢ act.Sleep → slice_get m.roles t ≡ Some (role Listed v p)
 listed m t v at p here ne = here ∙ ap (λ r. Some r) (awake at Listed v p ne)
 
 own_awake : (a : Act) → is_own a ≡ true → a ≢ act.Sleep
 own_awake a own e = let f : true ≡ false = sym own ∙ ap is_own e in cc
 
-own_law : (m : rules.Mutex) (x t v : ℕ) (at : Spot) (p : MutexPhase) (s : Seen) → Plays m x t (role at v p) → Gives (act_of p) x s → is_own (act_of p) ≡ true
+own_law : (m : rules.Mutex) (x t v : ℕ) (at : QueuePosition) (p : MutexPhase) (s : ActResult) → Plays m x t (role at v p) → Gives (act_of p) x s → is_own (act_of p) ≡ true
     → ((key : ℕ) → act_of p ≡ act.Enter key → NobodyIsInside m) → IsOwnStep m x t v p s
 own_law m x t v at p s plays g own free =
     subst (λ (y : ℕ). IsOwnStep m y t v p s) (sym plays.word)
@@ -179,7 +179,7 @@ begins m x t v p new plays = subst (λ (y : ℕ). IsOwnStep m y t v p Start) (sy
     by_phase Bumping new here = own_step m plays.sound t v Bumping Start here tt refl (λ key e. absurd (omega (arith, ap tag e)))
     by_phase p new here = absurd (let e : true ≡ false = new in cc)
 
-takes_nobody : (m : rules.Mutex) (x t v : ℕ) (at : Spot) (p : MutexPhase) (left : Bool) → Plays m x t (role at v p) → act_of p ≡ act.Section section.TakeFirst → IsOwnStep m x t v p (Took None left)
+takes_nobody : (m : rules.Mutex) (x t v : ℕ) (at : QueuePosition) (p : MutexPhase) (left : Bool) → Plays m x t (role at v p) → act_of p ≡ act.Section section.TakeFirst → IsOwnStep m x t v p (Took None left)
 takes_nobody m x t v at (Takes g) left plays e =
     subst (λ (y : ℕ). IsOwnStep m y t v (Takes g) (Took None left)) (sym plays.word)
     (own_step m plays.sound t v (Takes g) (Took None left) plays.here tt refl (λ key e. absurd (let f : act.Section section.TakeFirst ≡ act.Enter key = e in cc)))
@@ -192,14 +192,14 @@ takes_nobody m x t v at p left plays e = absurd (omega (arith, ap tag e))
 word_back : (m : rules.Mutex) → rules.IsSound m → m.word ≡ mutex_word_of (rules.number m.word)
 word_back m sound = sym (back m.word (sound_word m sound))
 
-joins : (m : rules.Mutex) (x t v : ℕ) (at : Spot) (p : MutexPhase) (token : ParkToken) → Plays m x t (role at v p) → act_of p ≡ act.Section (section.Append token) → IsJoining m x t v p Made
+joins : (m : rules.Mutex) (x t v : ℕ) (at : QueuePosition) (p : MutexPhase) (token : ParkToken) → Plays m x t (role at v p) → act_of p ≡ act.Section (section.Append token) → IsJoining m x t v p Made
 joins m x t v at Appends token plays e =
     subst (λ (y : ℕ). IsJoining m y t v Appends Made) (sym plays.word)
     (record { move = refl; leads = (plays.here, same_mutex _ _ (word_back m plays.sound) refl refl); same = refl })
 joins m x t v at (Finishes g) token plays e = absurd (finishing g.again 2 (omega arith) (omega arith) (ap tag e))
 joins m x t v at p token plays e = absurd (omega (arith, ap tag e))
 
-takes : (m : rules.Mutex) (x t v : ℕ) (at : Spot) (p : MutexPhase) (token : ParkToken) (left : Bool) → Plays m x t (role at v p) → act_of p ≡ act.Section section.TakeFirst
+takes : (m : rules.Mutex) (x t v : ℕ) (at : QueuePosition) (p : MutexPhase) (token : ParkToken) (left : Bool) → Plays m x t (role at v p) → act_of p ≡ act.Section section.TakeFirst
     → slice_get m.queue 0 ≡ Some v → slice_get m.roles v ≡ Some (role Listed 0 Sleeps) → IsTaking m x t v p (Took (Some token) left)
 takes m x t v at (Takes g) token left plays e first there =
     subst (λ (y : ℕ). IsTaking m y t v (Takes g) (Took (Some token) left)) (sym plays.word)
@@ -262,7 +262,7 @@ tells_at m t v g taken left is_fair waiters plays queue knows =
     one true = omega arith
     one false = omega arith
 
-tells : (m : rules.Mutex) (x t v : ℕ) (at : Spot) (p : MutexPhase) (plain fair : WordChange) (is_fair : Bool) (waiters : List Waiter) → Plays m x t (role at v p)
+tells : (m : rules.Mutex) (x t v : ℕ) (at : QueuePosition) (p : MutexPhase) (plain fair : WordChange) (is_fair : Bool) (waiters : List Waiter) → Plays m x t (role at v p)
     → act_of p ≡ act.Section (section.Store plain fair) → m.queue ≡ threads_of waiters → mutex_knows p waiters → IsTelling m x t v p (Stored is_fair)
 tells m x t v at (Stores g taken left) plain fair is_fair waiters plays e queue knows =
     subst (λ (y : ℕ). IsTelling m y t v (Stores g taken left) (Stored is_fair)) (sym plays.word)
@@ -275,7 +275,7 @@ wake : (m : rules.Mutex) (t v : ℕ) (mark : Mark) (handed : Bool) → slice_get
 wake m t v mark true at there e = ((at, subst (λ (x : Mark). slice_get m.roles v ≡ Some (rules.doing (rules.Taken t x Asleep))) e there, refl), refl)
 wake m t v mark false at there e = ((at, subst (λ (x : Mark). slice_get m.roles v ≡ Some (rules.doing (rules.Taken t x Asleep))) e there, refl), refl)
 
-wakes : (m : rules.Mutex) (x t v : ℕ) (at : Spot) (p : MutexPhase) (mark : Mark) (token : UnparkToken) → Plays m x t (role at v p) → act_of p ≡ act.Section section.Wake
+wakes : (m : rules.Mutex) (x t v : ℕ) (at : QueuePosition) (p : MutexPhase) (mark : Mark) (token : UnparkToken) → Plays m x t (role at v p) → act_of p ≡ act.Section section.Wake
     → slice_get m.roles v ≡ Some (role (Off t mark) 0 Sleeps) → IsWaking m x t v p Made mark token
 wakes m x t v at (Wakes g) mark token plays e there =
     subst (λ (y : ℕ). IsWaking m y t v (Wakes g) Made mark token) (sym plays.word)
@@ -309,7 +309,7 @@ last_is v (Finishes g) answer w begun e = by_bump g.again e
     by_bump true e = absurd (omega (arith, ap tag e))
     by_bump false e = let same : Released ≡ answer = ap answer_of e in record { from = refl; to = ap (λ a. role Listed v (Ends a)) (sym same); may = tt; written = refl }
 last_is v (Ends a) answer w begun e = let same : a ≡ answer = ap answer_of e in (λ at. ap (λ b. role at v (Ends b)) (sym same), refl)
-last_is v Strays answer w begun e = let same : Refused ≡ answer = ap answer_of e in (λ at. ap (λ b. role at v (Ends b)) (sym same), refl)
+last_is v Invalid answer w begun e = let same : Refused ≡ answer = ap answer_of e in (λ at. ap (λ b. role at v (Ends b)) (sym same), refl)
 last_is v p answer w begun e = absurd (omega (arith, ap tag e))
 
 last_alone : (p : MutexPhase) → (is_alone (last_move p) ≡ true) × (move_crossing (last_move p) ≡ crossing.Stays)
@@ -320,7 +320,7 @@ last_alone p = (refl, refl)
 done_awake : (a : Act) (answer : CoreAnswer) → a ≡ act.Done answer → a ≢ act.Sleep
 done_awake a answer e f = omega (arith, ap tag (sym e ∙ f))
 
-ends : (m : rules.Mutex) (x t v : ℕ) (at : Spot) (p : MutexPhase) (answer : CoreAnswer) → Plays m x t (role at v p) → mutex_begun p ≡ true → act_of p ≡ act.Done answer
+ends : (m : rules.Mutex) (x t v : ℕ) (at : QueuePosition) (p : MutexPhase) (answer : CoreAnswer) → Plays m x t (role at v p) → mutex_begun p ≡ true → act_of p ≡ act.Done answer
     → LeadsBy (last_move p) v t m (mutex_of x (slice_set m.roles t (record { owns = owns_after answer; does = rules.Idle })) m.queue) × (move_crossing (last_move p) ≡ crossing.Stays)
 ends m x t v at p answer plays begun e =
     let still = last_alone p in

@@ -1,19 +1,19 @@
 -- Acts of a call at a mutex lower the steps that are left of it.
 use Rattle.std.proofs.Common.{◌≡◌, ◌≢◌, ℕ, zero, suc, ◌+◌, ◌-◌, ◌*◌, ◌/◌, ◌%◌, ◌<◌, ◌≤◌, ◌==◌, nat_lt, not, Bool, true, false, cond, Some, None, refl, sym, ap, subst, arith, eq-eqb, ne_eqb, le_refl, ltb-true}
 use Rattle.parking_lot_core.specs.declared.parking.UnparkToken.{UnparkToken}
-use Rattle.parking_lot_cores.specs.declared.act.Act.{Act}
-use Rattle.parking_lot_cores.specs.declared.act.Act.TheVariants as act
-use Rattle.parking_lot_cores.specs.declared.act.SectionAct.TheVariants as section
-use Rattle.parking_lot_cores.specs.declared.act.CoreAnswer.{CoreAnswer}
-use Rattle.parking_lot_cores.specs.declared.act.CoreAnswer.TheVariants.{Owned, Released}
-use Rattle.parking_lot_cores.specs.declared.act.Seen.{Seen}
-use Rattle.parking_lot_cores.specs.declared.act.Seen.TheVariants.{Word, Exchanged, Spun, Entered, Took, Stored, Made, Woken}
-use Rattle.parking_lot_cores.specs.declared.mutex_phase.MutexPhase.{MutexPhase}
-use Rattle.parking_lot_cores.specs.declared.mutex_phase.MutexPhase.TheVariants.{Locking, Trying, Unlocking, Bumping, Loads, Locks, Spins, Parks, Enters, Checks, Retreats, Appends, Rests, Sleeps, TryLoads, TryLocks, Refuses, BumpLoads, Relocks, Unlocks, Looks, Takes, Stores, Leaves, Wakes, Finishes, Ends, Strays}
-use Rattle.parking_lot_cores.specs.declared.mutex_phase.Asking.{Asking}
-use Rattle.parking_lot_cores.specs.declared.mutex_phase.Giving.{Giving}
-use Rattle.parking_lot_cores.specs.Acts.{Gives, word_after}
-use Rattle.parking_lot_cores.specs.MutexTable.{act_of, next_phase, seeks, tries, retries, begins, bit}
+use Rattle.parking_lot_protocol.specs.declared.act.Act.{Act}
+use Rattle.parking_lot_protocol.specs.declared.act.Act.TheVariants as act
+use Rattle.parking_lot_protocol.specs.declared.act.SectionAct.TheVariants as section
+use Rattle.parking_lot_protocol.specs.declared.act.CoreAnswer.{CoreAnswer}
+use Rattle.parking_lot_protocol.specs.declared.act.CoreAnswer.TheVariants.{Owned, Released}
+use Rattle.parking_lot_protocol.specs.declared.act.ActResult.{ActResult}
+use Rattle.parking_lot_protocol.specs.declared.act.ActResult.TheVariants.{Word, Exchanged, Spun, Entered, Took, Stored, Made, Woken}
+use Rattle.parking_lot_protocol.specs.declared.mutex_phase.MutexPhase.{MutexPhase}
+use Rattle.parking_lot_protocol.specs.declared.mutex_phase.MutexPhase.TheVariants.{Locking, Trying, Unlocking, Bumping, Loads, Locks, Spins, Parks, Enters, Checks, Retreats, Appends, Rests, Sleeps, TryLoads, TryLocks, Refuses, BumpLoads, Relocks, Unlocks, Looks, Takes, Stores, Leaves, Wakes, Finishes, Ends, Invalid}
+use Rattle.parking_lot_protocol.specs.declared.mutex_phase.Asking.{Asking}
+use Rattle.parking_lot_protocol.specs.declared.mutex_phase.Giving.{Giving}
+use Rattle.parking_lot_protocol.specs.Acts.{Gives, word_after}
+use Rattle.parking_lot_protocol.specs.MutexTable.{act_of, next_phase, seeks, tries, retries, begins, bit}
 use Rattle.parking_lot_world.specs.RankLaws.{Can, StopsAt, MutexStepsFall}
 use Rattle.parking_lot_world.specs.Ranks.{View, Unseen, Sees, wake, is_at, is_open, mutex_parks, mutex_asks, mutex_ends, mutex_steps}
 
@@ -106,14 +106,14 @@ leaves : (v : View) (g : Giving) (taken : Bool) → mutex_steps v (cond taken (W
 leaves v g true = omega arith
 leaves v g false = omega arith
 
-finishes : (fair again : Bool) (s : Seen) (word first after : ℕ) (shut : Bool) → let p : MutexPhase = Finishes (record { fair = fair; again = again }) in
+finishes : (fair again : Bool) (s : ActResult) (word first after : ℕ) (shut : Bool) → let p : MutexPhase = Finishes (record { fair = fair; again = again }) in
     Gives (act_of p) word s → mutex_steps (Sees (word_after (act_of p) s word) after shut) (next_phase p s) + 1 ≤ mutex_steps (Sees word first shut) p
 finishes fair true (Word n) word first after shut e = omega arith
 finishes fair again s word first after shut e = absurd e
 
 -- EACH ACT
 
-falls : (p : MutexPhase) (s : Seen) (word first after : ℕ) (shut : Bool) → word < 4 → Gives (act_of p) word s → Can (act_of p) shut s
+falls : (p : MutexPhase) (s : ActResult) (word first after : ℕ) (shut : Bool) → word < 4 → Gives (act_of p) word s → Can (act_of p) shut s
     → mutex_steps (Sees (word_after (act_of p) s word) after shut) (next_phase p s) + 1 ≤ mutex_steps (Sees word first shut) p
 falls (Loads a) (Word n) word first after shut few g can = more _ _ (seeks_seen after shut a n word few g)
 falls (Locks a waiters) Exchanged word first after shut few g can = won_by _ _ _ _ (eq-eqb word _ g) (omega arith)
@@ -233,7 +233,7 @@ stops p word first shut e = absurd e
 ends : (p : MutexPhase) (v : View) (answer : CoreAnswer) → act_of p ≡ act.Done answer → 1 ≤ mutex_steps v p
 ends Refuses v answer e = omega arith
 ends (Ends a) v answer e = omega arith
-ends Strays v answer e = omega arith
+ends Invalid v answer e = omega arith
 ends Locking v answer e = omega arith
 ends Trying v answer e = omega arith
 ends (Unlocking fair) v answer e = omega arith

@@ -8,13 +8,13 @@ use Rattle.parking_lot_rules.specs.Lists.{occurs}
 use Rattle.parking_lot_rules.specs.Mutex as rules
 use Rattle.parking_lot_rules.proofs.Indexed.{get-set_other}
 use Rattle.parking_lot_rules.proofs.Mutexes.{total-at}
-use Rattle.parking_lot_cores.specs.declared.act.Act.TheVariants as act
-use Rattle.parking_lot_cores.specs.declared.act.CoreAnswer.TheVariants.{Owned}
-use Rattle.parking_lot_cores.specs.declared.act.Seen.TheVariants.{Woken}
-use Rattle.parking_lot_cores.specs.declared.mutex_phase.MutexPhase.{MutexPhase}
-use Rattle.parking_lot_cores.specs.declared.mutex_phase.MutexPhase.TheVariants.{Locking, Loads, Sleeps, Stores, Leaves, Wakes, Ends}
-use Rattle.parking_lot_cores.specs.MutexTable.{begins, act_of, next_phase, bit}
-use Rattle.parking_lot_cores.specs.MutexRules.{Spot, Listed, Off, role, taken_of, IsWord}
+use Rattle.parking_lot_protocol.specs.declared.act.Act.TheVariants as act
+use Rattle.parking_lot_protocol.specs.declared.act.CoreAnswer.TheVariants.{Owned}
+use Rattle.parking_lot_protocol.specs.declared.act.ActResult.TheVariants.{Woken}
+use Rattle.parking_lot_protocol.specs.declared.mutex_phase.MutexPhase.{MutexPhase}
+use Rattle.parking_lot_protocol.specs.declared.mutex_phase.MutexPhase.TheVariants.{Locking, Loads, Sleeps, Stores, Leaves, Wakes, Ends}
+use Rattle.parking_lot_protocol.specs.MutexTable.{begins, act_of, next_phase, bit}
+use Rattle.parking_lot_protocol.specs.MutexRules.{QueuePosition, Listed, Off, role, taken_of, IsWord}
 use Rattle.parking_lot_world.specs.Rows.{mutex_word_of, first_of_all}
 use Rattle.parking_lot_world.specs.Stances.{mutex_taken}
 use Rattle.parking_lot_world.specs.MutexLaws.{MutexWordsAreNumbers, MutexRolesAreKnown, settle_spot, woken_role}
@@ -51,11 +51,11 @@ words = record { back = back; forth = four; small = small; sound = sound_word }
 
 -- ROLES
 
-pub awake : (at to : Spot) (v : ℕ) (p : MutexPhase) → act_of p ≢ act.Sleep → role at v p ≡ role to v p
+pub awake : (at to : QueuePosition) (v : ℕ) (p : MutexPhase) → act_of p ≢ act.Sleep → role at v p ≡ role to v p
 awake at to v Sleeps ne = absurd (ne refl)
 awake at to v p ne = refl
 
-taken_alone : (at : Spot) (v u : ℕ) (p : MutexPhase) → mutex_taken p ≡ 0 → role at v p ≡ role at u p
+taken_alone : (at : QueuePosition) (v u : ℕ) (p : MutexPhase) → mutex_taken p ≡ 0 → role at v p ≡ role at u p
 taken_alone at v u (Stores giving true left) none = absurd (omega (arith, none))
 taken_alone at v u (Stores giving false left) none = refl
 taken_alone at v u (Leaves giving true handed) none = absurd (omega (arith, none))
@@ -63,7 +63,7 @@ taken_alone at v u (Leaves giving false handed) none = refl
 taken_alone at v u (Wakes giving) none = absurd (omega (arith, none))
 taken_alone at v u p none = refl
 
-pub settled : (mark : Mark) (at : Spot) (v : ℕ) (p : MutexPhase) → rules.settle mark (role at v p) ≡ role (settle_spot mark at) v p
+pub settled : (mark : Mark) (at : QueuePosition) (v : ℕ) (p : MutexPhase) → rules.settle mark (role at v p) ≡ role (settle_spot mark at) v p
 settled mark Listed v p = listed p
   where
     listed : (p : MutexPhase) → rules.settle mark (role Listed v p) ≡ role Listed v p
@@ -85,7 +85,7 @@ settled mark (Off by Handed) v p = off p
     off Sleeps = refl
     off p = refl
 
-pub woken : (at : Spot) (v : ℕ) (token : UnparkToken) → role at v (next_phase Sleeps (Woken token)) ≡ woken_role (token.0 == 1)
+pub woken : (at : QueuePosition) (v : ℕ) (token : UnparkToken) → role at v (next_phase Sleeps (Woken token)) ≡ woken_role (token.0 == 1)
 woken at v token = elim (token.0 == 1) as (λ b. role at v (cond b (Ends Owned) (Loads (begins true))) ≡ woken_role b) [ true ↦ refl | false ↦ refl ]
 
 -- WHOM A THREAD HAS TAKEN

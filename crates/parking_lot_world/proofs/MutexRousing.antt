@@ -4,23 +4,23 @@ use Rattle.parking_lot_core.specs.declared.parking.ParkToken.{ParkToken}
 use Rattle.parking_lot_core.specs.declared.parking.UnparkToken.{UnparkToken}
 use Rattle.parking_lot_core.specs.declared.place.Waiter.{Waiter}
 use Rattle.parking_lot_rules.specs.Mutex as mutex
-use Rattle.parking_lot_cores.specs.declared.act.Act.TheVariants as act
-use Rattle.parking_lot_cores.specs.declared.act.SectionAct.TheVariants as section
-use Rattle.parking_lot_cores.specs.declared.act.Seen.TheVariants as seen
-use Rattle.parking_lot_cores.specs.declared.act.CoreAnswer.TheVariants.{Owned}
-use Rattle.parking_lot_cores.specs.declared.mutex_core.MutexCore.{MutexCore}
-use Rattle.parking_lot_cores.specs.declared.mutex_phase.MutexPhase.{MutexPhase}
-use Rattle.parking_lot_cores.specs.declared.mutex_phase.MutexPhase.TheVariants as m
-use Rattle.parking_lot_cores.specs.declared.mutex_phase.Giving.{Giving}
-use Rattle.parking_lot_cores.specs.MutexTable as table
-use Rattle.parking_lot_cores.specs.MutexRules as of_mutex
+use Rattle.parking_lot_protocol.specs.declared.act.Act.TheVariants as act
+use Rattle.parking_lot_protocol.specs.declared.act.SectionAct.TheVariants as section
+use Rattle.parking_lot_protocol.specs.declared.act.ActResult.TheVariants as seen
+use Rattle.parking_lot_protocol.specs.declared.act.CoreAnswer.TheVariants.{Owned}
+use Rattle.parking_lot_protocol.specs.declared.mutex_core.MutexCore.{MutexCore}
+use Rattle.parking_lot_protocol.specs.declared.mutex_phase.MutexPhase.{MutexPhase}
+use Rattle.parking_lot_protocol.specs.declared.mutex_phase.MutexPhase.TheVariants as m
+use Rattle.parking_lot_protocol.specs.declared.mutex_phase.Giving.{Giving}
+use Rattle.parking_lot_protocol.specs.MutexTable as table
+use Rattle.parking_lot_protocol.specs.MutexRules as of_mutex
 use Rattle.parking_lot_world.specs.declared.calls.LockKind.TheVariants as kind
 use Rattle.parking_lot_world.specs.declared.seat.Hold.{Hold}
-use Rattle.parking_lot_world.specs.declared.seat.Told.TheVariants as told
-use Rattle.parking_lot_world.specs.declared.seat.Spot.TheVariants as spot
+use Rattle.parking_lot_world.specs.declared.seat.WakeResult.TheVariants as told
+use Rattle.parking_lot_world.specs.declared.seat.QueuePosition.TheVariants as spot
 use Rattle.parking_lot_world.specs.declared.seat.Core.{Core}
 use Rattle.parking_lot_world.specs.declared.seat.Core.TheVariants as core
-use Rattle.parking_lot_world.specs.declared.seat.Call.{Call}
+use Rattle.parking_lot_world.specs.declared.open_call.Call.{Call}
 use Rattle.parking_lot_world.specs.declared.seat.Wakeup.{Wakeup}
 use Rattle.parking_lot_world.specs.Rows.{State, word_at, call_at, hold_at, taken_by, owns_mutex, mark_of, first_of_all, mutex_spot, mutex_role_in, mutex_role_at, mutex_core_role, mutex_word_of, mutex_at}
 use Rattle.parking_lot_world.specs.Stances.{Out, Asleep, mutex_stance, stance, core_next}

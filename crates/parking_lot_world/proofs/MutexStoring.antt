@@ -5,28 +5,28 @@ use Rattle.std.proofs.lemmas.Bool.{cases_eq, ne_eqb}
 use Rattle.parking_lot_core.specs.declared.parking.UnparkToken.{UnparkToken}
 use Rattle.parking_lot_rules.specs.Roles.{Open}
 use Rattle.parking_lot_rules.specs.Mutex as mutex
-use Rattle.parking_lot_cores.specs.declared.act.Act.{Act}
-use Rattle.parking_lot_cores.specs.declared.act.Act.TheVariants as act
-use Rattle.parking_lot_cores.specs.declared.act.SectionAct.TheVariants as section
-use Rattle.parking_lot_cores.specs.declared.act.WordChange.{WordChange}
-use Rattle.parking_lot_cores.specs.declared.act.Seen.{Seen}
-use Rattle.parking_lot_cores.specs.declared.act.Seen.TheVariants as seen
-use Rattle.parking_lot_cores.specs.declared.mutex_core.MutexCore.{MutexCore}
-use Rattle.parking_lot_cores.specs.declared.mutex_phase.MutexPhase.{MutexPhase}
-use Rattle.parking_lot_cores.specs.declared.mutex_phase.MutexPhase.TheVariants as m
-use Rattle.parking_lot_cores.specs.declared.mutex_phase.Giving.{Giving}
-use Rattle.parking_lot_cores.specs.Acts.{word_after, change_of}
-use Rattle.parking_lot_cores.specs.MutexTable as table
-use Rattle.parking_lot_cores.specs.MutexRules as of_mutex
+use Rattle.parking_lot_protocol.specs.declared.act.Act.{Act}
+use Rattle.parking_lot_protocol.specs.declared.act.Act.TheVariants as act
+use Rattle.parking_lot_protocol.specs.declared.act.SectionAct.TheVariants as section
+use Rattle.parking_lot_protocol.specs.declared.act.WordChange.{WordChange}
+use Rattle.parking_lot_protocol.specs.declared.act.ActResult.{ActResult}
+use Rattle.parking_lot_protocol.specs.declared.act.ActResult.TheVariants as seen
+use Rattle.parking_lot_protocol.specs.declared.mutex_core.MutexCore.{MutexCore}
+use Rattle.parking_lot_protocol.specs.declared.mutex_phase.MutexPhase.{MutexPhase}
+use Rattle.parking_lot_protocol.specs.declared.mutex_phase.MutexPhase.TheVariants as m
+use Rattle.parking_lot_protocol.specs.declared.mutex_phase.Giving.{Giving}
+use Rattle.parking_lot_protocol.specs.Acts.{word_after, change_of}
+use Rattle.parking_lot_protocol.specs.MutexTable as table
+use Rattle.parking_lot_protocol.specs.MutexRules as of_mutex
 use Rattle.parking_lot_world.specs.declared.calls.LockKind.TheVariants as kind
 use Rattle.parking_lot_world.specs.declared.seat.Hold.{Hold}
-use Rattle.parking_lot_world.specs.declared.seat.Told.{Told}
-use Rattle.parking_lot_world.specs.declared.seat.Told.TheVariants as told
-use Rattle.parking_lot_world.specs.declared.seat.Spot.{Spot}
-use Rattle.parking_lot_world.specs.declared.seat.Spot.TheVariants as spot
+use Rattle.parking_lot_world.specs.declared.seat.WakeResult.{WakeResult}
+use Rattle.parking_lot_world.specs.declared.seat.WakeResult.TheVariants as told
+use Rattle.parking_lot_world.specs.declared.seat.QueuePosition.{QueuePosition}
+use Rattle.parking_lot_world.specs.declared.seat.QueuePosition.TheVariants as spot
 use Rattle.parking_lot_world.specs.declared.seat.Core.{Core}
 use Rattle.parking_lot_world.specs.declared.seat.Core.TheVariants as core
-use Rattle.parking_lot_world.specs.declared.seat.Call.{Call}
+use Rattle.parking_lot_world.specs.declared.open_call.Call.{Call}
 use Rattle.parking_lot_world.specs.Rows.{State, word_at, call_at, hold_at, taken_by, owns_mutex, mark_of, first_of_all, mutex_spot, mutex_role_in, mutex_role_at, mutex_core_role, mutex_word_of, mutex_at}
 use Rattle.parking_lot_world.specs.Stances.{In, Stores, sign, mutex_stance, taken_count, core_act, core_next, core_tells}
 use Rattle.parking_lot_world.specs.RowActs.{settled_spot, settled, told_of}
@@ -54,12 +54,12 @@ mutex_stores p key e = absurd cc
 -- WHO IS TOLD
 
 -- one that was taken by t, where it sleeps
-told_mine : (t by v : ℕ) (p : MutexPhase) (said : Told) → (p ≡ m.Sleeps → by ≡ t) → of_mutex.role (of_mutex.Off by (mark_of (cond (by == t) said told.Nothing))) v p ≡ of_mutex.role (of_mutex.Off by (mark_of said)) v p
+told_mine : (t by v : ℕ) (p : MutexPhase) (said : WakeResult) → (p ≡ m.Sleeps → by ≡ t) → of_mutex.role (of_mutex.Off by (mark_of (cond (by == t) said told.Nothing))) v p ≡ of_mutex.role (of_mutex.Off by (mark_of said)) v p
 told_mine t by v m.Sleeps said mine = ap (λ b. of_mutex.role (of_mutex.Off by (mark_of (cond b said told.Nothing))) v m.Sleeps) (eq-eqb by t (mine refl))
 told_mine t by v p said mine = refl
 
 -- where t gives the mutex up these are all that were taken and told nothing
-told_role : (n : mutex.Mutex) (t u v : ℕ) (us : List ℕ) (at : Spot) (p : MutexPhase) (said : Told) → mutex.IsSound n → slice_get n.roles t ≡ Some (mutex.doing (mutex.Unlocks us)) → slice_get n.roles u ≡ Some (of_mutex.role (mutex_spot at) v p)
+told_role : (n : mutex.Mutex) (t u v : ℕ) (us : List ℕ) (at : QueuePosition) (p : MutexPhase) (said : WakeResult) → mutex.IsSound n → slice_get n.roles t ≡ Some (mutex.doing (mutex.Unlocks us)) → slice_get n.roles u ≡ Some (of_mutex.role (mutex_spot at) v p)
     → of_mutex.role (mutex_spot (settled_spot t said at)) v p ≡ mutex.settle (mark_of said) (of_mutex.role (mutex_spot at) v p)
 told_role n t u v us spot.Listed p said sound mine there = sym (roles.settled (mark_of said) of_mutex.Listed v p)
 told_role n t u v us (spot.Off by told.Nothing) p said sound mine there =
@@ -76,7 +76,7 @@ marks false = refl
 
 module _ (s : State) (t : ℕ) (c : Call) (plain fair : WordChange) (is_fair : Bool) (asked : core_act c.core ≡ act.Section (section.Store plain fair)) (h : FitsTogether s) (here : call_at s t ≡ Some c) (k : MutexCore) (e : c.core ≡ core.Mutex k)
     (g : Giving) (has left : Bool) (ph : k.phase ≡ m.Stores g has left) where
-  abbrev heard : Seen
+  abbrev heard : ActResult
   heard = seen.Stored is_fair
 
   abbrev token : UnparkToken

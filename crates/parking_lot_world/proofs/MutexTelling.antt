@@ -5,28 +5,28 @@ use Rattle.parking_lot_core.specs.declared.place.Waiter.{Waiter}
 use Rattle.parking_lot_core.specs.Results.{is_left}
 use Rattle.parking_lot_rules.specs.Roles.{Open, Asleep}
 use Rattle.parking_lot_rules.specs.Mutex as rules
-use Rattle.parking_lot_cores.specs.declared.act.Act.{Act}
-use Rattle.parking_lot_cores.specs.declared.act.Act.TheVariants as act
-use Rattle.parking_lot_cores.specs.declared.act.SectionAct.TheVariants as section
-use Rattle.parking_lot_cores.specs.declared.act.CoreAnswer.{CoreAnswer}
-use Rattle.parking_lot_cores.specs.declared.act.CoreAnswer.TheVariants.{Owned, Refused, Released}
-use Rattle.parking_lot_cores.specs.declared.act.Seen.{Seen}
-use Rattle.parking_lot_cores.specs.declared.act.Seen.TheVariants.{Start, Word, Exchanged, Spun, Entered, Took, Stored, Made, Woken}
-use Rattle.parking_lot_cores.specs.declared.mutex_phase.MutexPhase.{MutexPhase}
-use Rattle.parking_lot_cores.specs.declared.mutex_phase.MutexPhase.TheVariants.{Locking, Trying, Unlocking, Bumping, Loads, Locks, Spins, Parks, Enters, Checks, Retreats, Appends, Rests, Sleeps, TryLoads, TryLocks, Refuses, BumpLoads, Relocks, Unlocks, Looks, Takes, Stores, Leaves, Wakes, Finishes, Ends, Strays}
-use Rattle.parking_lot_cores.specs.declared.mutex_phase.Asking.{Asking}
-use Rattle.parking_lot_cores.specs.MutexTable.{act_of, next_phase, seeks, tries, begins}
-use Rattle.parking_lot_cores.specs.MutexRules as of_mutex
-use Rattle.parking_lot_cores.specs.MutexRules.{role, owns_after}
-use Rattle.parking_lot_cores.proofs.MutexFollowing.{either}
+use Rattle.parking_lot_protocol.specs.declared.act.Act.{Act}
+use Rattle.parking_lot_protocol.specs.declared.act.Act.TheVariants as act
+use Rattle.parking_lot_protocol.specs.declared.act.SectionAct.TheVariants as section
+use Rattle.parking_lot_protocol.specs.declared.act.CoreAnswer.{CoreAnswer}
+use Rattle.parking_lot_protocol.specs.declared.act.CoreAnswer.TheVariants.{Owned, Refused, Released}
+use Rattle.parking_lot_protocol.specs.declared.act.ActResult.{ActResult}
+use Rattle.parking_lot_protocol.specs.declared.act.ActResult.TheVariants.{Start, Word, Exchanged, Spun, Entered, Took, Stored, Made, Woken}
+use Rattle.parking_lot_protocol.specs.declared.mutex_phase.MutexPhase.{MutexPhase}
+use Rattle.parking_lot_protocol.specs.declared.mutex_phase.MutexPhase.TheVariants.{Locking, Trying, Unlocking, Bumping, Loads, Locks, Spins, Parks, Enters, Checks, Retreats, Appends, Rests, Sleeps, TryLoads, TryLocks, Refuses, BumpLoads, Relocks, Unlocks, Looks, Takes, Stores, Leaves, Wakes, Finishes, Ends, Invalid}
+use Rattle.parking_lot_protocol.specs.declared.mutex_phase.Asking.{Asking}
+use Rattle.parking_lot_protocol.specs.MutexTable.{act_of, next_phase, seeks, tries, begins}
+use Rattle.parking_lot_protocol.specs.MutexRules as of_mutex
+use Rattle.parking_lot_protocol.specs.MutexRules.{role, owns_after}
+use Rattle.parking_lot_protocol.proofs.MutexFollowing.{either}
 use Rattle.parking_lot_world.specs.declared.seat.Hold.{Hold}
-use Rattle.parking_lot_world.specs.declared.seat.Told.{Told}
-use Rattle.parking_lot_world.specs.declared.seat.Told.TheVariants as told
-use Rattle.parking_lot_world.specs.declared.seat.Spot.{Spot}
-use Rattle.parking_lot_world.specs.declared.seat.Spot.TheVariants as spot
+use Rattle.parking_lot_world.specs.declared.seat.WakeResult.{WakeResult}
+use Rattle.parking_lot_world.specs.declared.seat.WakeResult.TheVariants as told
+use Rattle.parking_lot_world.specs.declared.seat.QueuePosition.{QueuePosition}
+use Rattle.parking_lot_world.specs.declared.seat.QueuePosition.TheVariants as spot
 use Rattle.parking_lot_world.specs.declared.seat.Core.{Core}
 use Rattle.parking_lot_world.specs.declared.seat.Core.TheVariants as core
-use Rattle.parking_lot_world.specs.declared.seat.Call.{Call}
+use Rattle.parking_lot_world.specs.declared.open_call.Call.{Call}
 use Rattle.parking_lot_world.specs.Rows.{mark_of, mutex_spot, mutex_core_role, owns_mutex, first_of_all}
 use Rattle.parking_lot_world.specs.RowActs.{settled_spot, mutex_hold_after}
 use Rattle.parking_lot_world.specs.RowFits.{mutex_knows}
@@ -36,29 +36,29 @@ use Rattle.parking_lot_world.proofs.MutexRoles.{settled as settled_role, opener}
 -- ONE TELLS
 
 -- who was taken by nobody but t, where it knows nothing yet
-abbrev IsOf : ℕ → Spot → Type 0
+abbrev IsOf : ℕ → QueuePosition → Type 0
 IsOf t (spot.Off by told.Nothing) = by ≡ t
 IsOf t at = Unit {0}
 
-settles_spot : (t : ℕ) (said : Told) (at : Spot) → IsOf t at → mutex_spot (settled_spot t said at) ≡ settle_spot (mark_of said) (mutex_spot at)
+settles_spot : (t : ℕ) (said : WakeResult) (at : QueuePosition) → IsOf t at → mutex_spot (settled_spot t said at) ≡ settle_spot (mark_of said) (mutex_spot at)
 settles_spot t said spot.Listed e = refl
 settles_spot t said (spot.Off by told.Nothing) e = ap (λ b. of_mutex.Off by (mark_of (cond b said told.Nothing))) (eq-eqb by t e)
 settles_spot t said (spot.Off by told.TryAgain) e = refl
 settles_spot t said (spot.Off by told.HandedOver) e = refl
 
 -- one that sleeps so was taken by the thread that is inside
-sleeper_of : (m : rules.Mutex) (t u : ℕ) (us : List ℕ) (v : ℕ) (at : Spot) → rules.IsSound m → slice_get m.roles t ≡ Some (rules.doing (rules.Unlocks us)) → slice_get m.roles u ≡ Some (role (mutex_spot at) v Sleeps) → IsOf t at
+sleeper_of : (m : rules.Mutex) (t u : ℕ) (us : List ℕ) (v : ℕ) (at : QueuePosition) → rules.IsSound m → slice_get m.roles t ≡ Some (rules.doing (rules.Unlocks us)) → slice_get m.roles u ≡ Some (role (mutex_spot at) v Sleeps) → IsOf t at
 sleeper_of m t u us v spot.Listed sound here there = tt
 sleeper_of m t u us v (spot.Off by told.Nothing) sound here there = opener m t u by us (rules.doing (rules.Taken by Open Asleep)) sound here there refl
 sleeper_of m t u us v (spot.Off by told.TryAgain) sound here there = tt
 sleeper_of m t u us v (spot.Off by told.HandedOver) sound here there = tt
 
-module _ (m : rules.Mutex) (t u : ℕ) (us vs : List ℕ) (said : Told) (sound : rules.IsSound m) (here : slice_get m.roles t ≡ Some (rules.doing (rules.Unlocks us))) where
-  tells_phase : (v : ℕ) (at : Spot) (p : MutexPhase) → slice_get m.roles u ≡ Some (role (mutex_spot at) v p) → role (mutex_spot (settled_spot t said at)) v p ≡ rules.settle (mark_of said) (role (mutex_spot at) v p)
+module _ (m : rules.Mutex) (t u : ℕ) (us vs : List ℕ) (said : WakeResult) (sound : rules.IsSound m) (here : slice_get m.roles t ≡ Some (rules.doing (rules.Unlocks us))) where
+  tells_phase : (v : ℕ) (at : QueuePosition) (p : MutexPhase) → slice_get m.roles u ≡ Some (role (mutex_spot at) v p) → role (mutex_spot (settled_spot t said at)) v p ≡ rules.settle (mark_of said) (role (mutex_spot at) v p)
   tells_phase v at Sleeps there = ap (λ x. role x v Sleeps) (settles_spot t said at (sleeper_of m t u us v at sound here there)) ∙ sym (settled_role (mark_of said) (mutex_spot at) v Sleeps)
   tells_phase v at p there = refl
 
-  tells_core : (at : Spot) (k : Core) → slice_get m.roles u ≡ Some (mutex_core_role at vs k) → mutex_core_role (settled_spot t said at) vs k ≡ rules.settle (mark_of said) (mutex_core_role at vs k)
+  tells_core : (at : QueuePosition) (k : Core) → slice_get m.roles u ≡ Some (mutex_core_role at vs k) → mutex_core_role (settled_spot t said at) vs k ≡ rules.settle (mark_of said) (mutex_core_role at vs k)
   tells_core at (core.Mutex c) there = tells_phase (first_of_all vs) at c.phase there
   tells_core at (core.Rw c) there = refl
 
@@ -88,7 +88,7 @@ ends_so Released = refl
 
 pub ends : HoldsAreAnswered
 ends Refuses answer begun e = let same : Refused ≡ answer = ap answer_of e in ap owns_after same
-ends Strays answer begun e = let same : Refused ≡ answer = ap answer_of e in ap owns_after same
+ends Invalid answer begun e = let same : Refused ≡ answer = ap answer_of e in ap owns_after same
 ends (Ends a) answer begun e = let same : a ≡ answer = ap answer_of e in ends_so a ∙ ap owns_after same
 ends (Finishes g) answer begun e = by_bump g.again e
   where
@@ -118,11 +118,11 @@ seeks_off a word = either is_off (word == 0) _ _ _ refl (either is_off (word == 
 tries_off : (left word : ℕ) → is_off (tries left word) ≡ true
 tries_off left word = either is_off (word == 0) _ _ _ refl (either is_off (word == 2) _ _ _ refl refl)
 
-finishes_off : (fair again : Bool) (s : Seen) → is_off (next_phase (Finishes (record { fair = fair; again = again })) s) ≡ true
+finishes_off : (fair again : Bool) (s : ActResult) → is_off (next_phase (Finishes (record { fair = fair; again = again })) s) ≡ true
 finishes_off fair true (Word n) = refl
 finishes_off fair again s = refl
 
-off : (p : MutexPhase) (s : Seen) → act_of p ≢ act.Section section.TakeFirst → is_off (next_phase p s) ≡ true
+off : (p : MutexPhase) (s : ActResult) → act_of p ≢ act.Section section.TakeFirst → is_off (next_phase p s) ≡ true
 off Locking Start ne = refl
 off Trying Start ne = refl
 off (Unlocking fair) Start ne = refl

@@ -9,23 +9,23 @@ use Rattle.parking_lot_rules.specs.Mutex as mutex
 use Rattle.parking_lot_rules.specs.Any.{AnyLock, any_inside}
 use Rattle.parking_lot_rules.specs.Family.{Key, First, Second}
 use Rattle.parking_lot_rules.proofs.MutexCrossing.{any_are_rules}
-use Rattle.parking_lot_cores.specs.declared.act.Act.{Act}
-use Rattle.parking_lot_cores.specs.declared.act.Act.TheVariants as act
-use Rattle.parking_lot_cores.specs.declared.act.SectionAct.TheVariants as section
-use Rattle.parking_lot_cores.specs.declared.act.Seen.{Seen}
-use Rattle.parking_lot_cores.specs.declared.act.Seen.TheVariants as seen
-use Rattle.parking_lot_cores.specs.declared.rw_core.RwCore.{RwCore}
-use Rattle.parking_lot_cores.specs.declared.mutex_core.MutexCore.{MutexCore}
-use Rattle.parking_lot_cores.specs.declared.rw_phase.RwPhase.{RwPhase}
-use Rattle.parking_lot_cores.specs.declared.rw_phase.RwPhase.TheVariants as r
-use Rattle.parking_lot_cores.specs.Acts.{Gives, word_after}
-use Rattle.parking_lot_cores.specs.RwTable as of_rw_table
-use Rattle.parking_lot_cores.specs.RwRules as of_rw
+use Rattle.parking_lot_protocol.specs.declared.act.Act.{Act}
+use Rattle.parking_lot_protocol.specs.declared.act.Act.TheVariants as act
+use Rattle.parking_lot_protocol.specs.declared.act.SectionAct.TheVariants as section
+use Rattle.parking_lot_protocol.specs.declared.act.ActResult.{ActResult}
+use Rattle.parking_lot_protocol.specs.declared.act.ActResult.TheVariants as seen
+use Rattle.parking_lot_protocol.specs.declared.rw_core.RwCore.{RwCore}
+use Rattle.parking_lot_protocol.specs.declared.mutex_core.MutexCore.{MutexCore}
+use Rattle.parking_lot_protocol.specs.declared.rw_phase.RwPhase.{RwPhase}
+use Rattle.parking_lot_protocol.specs.declared.rw_phase.RwPhase.TheVariants as r
+use Rattle.parking_lot_protocol.specs.Acts.{Gives, word_after}
+use Rattle.parking_lot_protocol.specs.RwTable as of_rw_table
+use Rattle.parking_lot_protocol.specs.RwRules as of_rw
 use Rattle.parking_lot_world.specs.declared.calls.LockKind.{LockKind}
 use Rattle.parking_lot_world.specs.declared.calls.LockKind.TheVariants as kind
 use Rattle.parking_lot_world.specs.declared.seat.Core.{Core}
 use Rattle.parking_lot_world.specs.declared.seat.Core.TheVariants as core
-use Rattle.parking_lot_world.specs.declared.seat.Call.{Call}
+use Rattle.parking_lot_world.specs.declared.open_call.Call.{Call}
 use Rattle.parking_lot_world.specs.Rows.{State, word_at, call_at, taken_by, hold_at, first_of_all, mutex_spot, mutex_role_in, mutex_role_at, mutex_core_role, rw_spot, rw_lock_at, mutex_at, any_lock, lock_at, inside}
 use Rattle.parking_lot_world.specs.Stances.{has_begun, rw_begun, core_act, core_next}
 use Rattle.parking_lot_world.specs.RowFits.{FitsTogether, RulesFit, IsOfKind, IsPrepared, KnowsList}
@@ -33,10 +33,10 @@ use Rattle.parking_lot_world.specs.RowSteps.{Goes, IsMoveOf, IsRwMove, IsMutexMo
 use Rattle.parking_lot_world.specs.RwLaws.{Finds, NobodyIs}
 use Rattle.parking_lot_world.proofs.Beginning.{goes_on}
 use Rattle.parking_lot_world.proofs.RwMoving.{answers_are_moves}
-use Rattle.parking_lot_cores.specs.MutexTable as of_mutex_table
-use Rattle.parking_lot_cores.specs.declared.mutex_phase.MutexPhase.{MutexPhase}
-use Rattle.parking_lot_cores.specs.declared.mutex_phase.MutexPhase.TheVariants as m
-use Rattle.parking_lot_cores.specs.MutexRules as of_mutex
+use Rattle.parking_lot_protocol.specs.MutexTable as of_mutex_table
+use Rattle.parking_lot_protocol.specs.declared.mutex_phase.MutexPhase.{MutexPhase}
+use Rattle.parking_lot_protocol.specs.declared.mutex_phase.MutexPhase.TheVariants as m
+use Rattle.parking_lot_protocol.specs.MutexRules as of_mutex
 use Rattle.parking_lot_rules.specs.Family.{Crossing}
 use Rattle.parking_lot_world.specs.MutexLaws.{Plays, IsOwnStep, is_own, crossing_of, mutex_of, word_next}
 use Rattle.parking_lot_world.proofs.MutexMoving.{steps}
@@ -90,7 +90,7 @@ two_kinds e = both_ways (is_rw (Some kind.Rw)) (ap is_rw e) refl
 -- AT A READER-WRITER LOCK
 
 -- what an act gives is what one may be told that has begun
-pub rw_told : (p : RwPhase) (x : ℕ) (s : Seen) → rw_begun p ≡ true → IsOwnAct (of_rw_table.act_of p) → Gives (of_rw_table.act_of p) x s → of_rw.IsTold p x s
+pub rw_told : (p : RwPhase) (x : ℕ) (s : ActResult) → rw_begun p ≡ true → IsOwnAct (of_rw_table.act_of p) → Gives (of_rw_table.act_of p) x s → of_rw.IsTold p x s
 rw_told (r.Locking q) x s b own g = absurd (no_start b)
 rw_told (r.Trying q) x s b own g = absurd (no_start b)
 rw_told r.UnlockingShared x s b own g = absurd (no_start b)
@@ -105,7 +105,7 @@ module _ (s u : State) (t : ℕ) (h : FitsTogether s) where
   finds : (a : Act) (i : ℕ) → IsOwnAct a → AfterAct a t (inside s) (inside u) → slice_get s.kinds i ≡ Some kind.Rw → Finds a (rw_lock_at s i)
   finds (act.Enter zero) i own around e = nobody_first s h around.0 i e
   finds (act.Enter (suc key)) i own around e = nobody_second s h around.0 i e
-  finds (act.Mask keep) i own around e = absurd own
+  finds (act.FetchAnd keep) i own around e = absurd own
   finds act.Load i own around e = tt
   finds (act.Exchange from to) i own around e = tt
   finds (act.Add by) i own around e = tt
@@ -114,7 +114,7 @@ module _ (s u : State) (t : ℕ) (h : FitsTogether s) where
   finds act.Sleep i own around e = tt
   finds (act.Done answer) i own around e = tt
 
-  module _ (c : Call) (told : Seen) (k : RwCore) (e : c.core ≡ core.Rw k) (a : OwnAct s u t c told (core_next (core.Rw k) told) c.spot) (lists_same : (key : ℕ) → u.lot.queues key ≡ s.lot.queues key)
+  module _ (c : Call) (told : ActResult) (k : RwCore) (e : c.core ≡ core.Rw k) (a : OwnAct s u t c told (core_next (core.Rw k) told) c.spot) (lists_same : (key : ℕ) → u.lot.queues key ≡ s.lot.queues key)
       (gives : Gives (of_rw_table.act_of k.phase) (word_at s c.lock) told) (own : IsOwnAct (of_rw_table.act_of k.phase))
       (around : AfterAct (of_rw_table.act_of k.phase) t (inside s) (inside u)) where
     rw_kind : slice_get s.kinds c.lock ≡ Some kind.Rw
@@ -150,7 +150,7 @@ own_is : (a : Act) → IsOwnAct a → is_own a ≡ true
 own_is act.Load h = refl
 own_is (act.Exchange from to) h = refl
 own_is (act.Add by) h = refl
-own_is (act.Mask keep) h = refl
+own_is (act.FetchAnd keep) h = refl
 own_is act.Spin h = refl
 own_is (act.Enter key) h = refl
 own_is (act.Section section.Check) h = refl
@@ -167,7 +167,7 @@ around_mutex : (a : Act) (t : ℕ) (old new : Option ℕ) → AfterAct a t old n
 around_mutex act.Load t old new h = h
 around_mutex (act.Exchange from to) t old new h = h
 around_mutex (act.Add by) t old new h = h
-around_mutex (act.Mask keep) t old new h = h
+around_mutex (act.FetchAnd keep) t old new h = h
 around_mutex act.Spin t old new h = h
 around_mutex (act.Enter key) t old new h = h
 around_mutex (act.Section section.Check) t old new h = h
@@ -180,7 +180,7 @@ around_mutex (act.Section section.Wake) t old new h = h
 around_mutex act.Sleep t old new h = h
 around_mutex (act.Done answer) t old new h = h
 
-own_tells : (v : ℕ) (us : List ℕ) (p : MutexPhase) (s : Seen) → IsOwnAct (of_mutex_table.act_of p) → TellsOf (of_mutex.move v p s) us v
+own_tells : (v : ℕ) (us : List ℕ) (p : MutexPhase) (s : ActResult) → IsOwnAct (of_mutex_table.act_of p) → TellsOf (of_mutex.move v p s) us v
 own_tells v us (m.Locks a waiters) seen.Exchanged own = tt
 own_tells v us (m.Parks a) seen.Exchanged own = tt
 own_tells v us (m.Enters woken) s own = tt
@@ -215,7 +215,7 @@ plays s h t c k e here =
           ∙ ap Some (ap (mutex_role_in c.lock (taken_by s.wakes t) (hold_at s t c.lock)) here ∙ mutex_there (taken_by s.wakes t) (hold_at s t c.lock) c ∙ ap (mutex_core_role c.spot (taken_by s.wakes t)) e);
     }
 
-module _ (s u : State) (t : ℕ) (h : FitsTogether s) (c : Call) (told : Seen) (k : MutexCore) (e : c.core ≡ core.Mutex k) (a : OwnAct s u t c told (core_next (core.Mutex k) told) c.spot) (lists_same : (key : ℕ) → u.lot.queues key ≡ s.lot.queues key)
+module _ (s u : State) (t : ℕ) (h : FitsTogether s) (c : Call) (told : ActResult) (k : MutexCore) (e : c.core ≡ core.Mutex k) (a : OwnAct s u t c told (core_next (core.Mutex k) told) c.spot) (lists_same : (key : ℕ) → u.lot.queues key ≡ s.lot.queues key)
     (gives : Gives (of_mutex_table.act_of k.phase) (word_at s c.lock) told) (own : IsOwnAct (of_mutex_table.act_of k.phase))
     (around : AfterAct (of_mutex_table.act_of k.phase) t (inside s) (inside u)) where
   abbrev taken_first : ℕ

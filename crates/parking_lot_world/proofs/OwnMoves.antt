@@ -3,19 +3,19 @@ use Rattle.std.proofs.Common.{◌≡◌, ℕ, ◌/◌, ◌==◌, ◌&&◌, cond,
 use Rattle.parking_lot_rules.specs.Plain as plain
 use Rattle.parking_lot_rules.specs.Steps.{Alone}
 use Rattle.parking_lot_rules.specs.Family.{crossing}
-use Rattle.parking_lot_cores.specs.declared.act.Act.{Act}
-use Rattle.parking_lot_cores.specs.declared.act.Act.TheVariants as act
-use Rattle.parking_lot_cores.specs.declared.act.SectionAct.TheVariants as section
-use Rattle.parking_lot_cores.specs.declared.act.Seen.{Seen}
-use Rattle.parking_lot_cores.specs.declared.act.Seen.TheVariants as seen
-use Rattle.parking_lot_cores.specs.declared.rw_phase.Want.{Want}
-use Rattle.parking_lot_cores.specs.declared.rw_phase.Want.TheVariants as want
-use Rattle.parking_lot_cores.specs.declared.rw_phase.Draining.{Draining}
-use Rattle.parking_lot_cores.specs.declared.rw_phase.Rest.TheVariants as rest
-use Rattle.parking_lot_cores.specs.declared.rw_phase.RwPhase.{RwPhase}
-use Rattle.parking_lot_cores.specs.declared.rw_phase.RwPhase.TheVariants.{Loads, Admits, Flags, Enters, Checks, Retreats, Appends, Rests, Sleeps, Loads2, Flags2, Enters2, Checks2, Retreats2, Appends2, Rests2, Sleeps2, TryAdmits, Relocks, Unshares, Owes2, Takes2, Masks2, Leaves2, Unlocks, LooksExclusive, Downgrades, Owes, Scans, Stores, Leaves, Wakes, Finishes}
-use Rattle.parking_lot_cores.specs.RwTable.{act_of, is_parked, is_writer_parked, is_barred, has_readers}
-use Rattle.parking_lot_cores.specs.RwRules.{Move, Stays, Makes, move, mode_of, admission, try_admission, IsTold}
+use Rattle.parking_lot_protocol.specs.declared.act.Act.{Act}
+use Rattle.parking_lot_protocol.specs.declared.act.Act.TheVariants as act
+use Rattle.parking_lot_protocol.specs.declared.act.SectionAct.TheVariants as section
+use Rattle.parking_lot_protocol.specs.declared.act.ActResult.{ActResult}
+use Rattle.parking_lot_protocol.specs.declared.act.ActResult.TheVariants as seen
+use Rattle.parking_lot_protocol.specs.declared.rw_phase.LockMode.{LockMode}
+use Rattle.parking_lot_protocol.specs.declared.rw_phase.LockMode.TheVariants as want
+use Rattle.parking_lot_protocol.specs.declared.rw_phase.Draining.{Draining}
+use Rattle.parking_lot_protocol.specs.declared.rw_phase.AfterWake.TheVariants as rest
+use Rattle.parking_lot_protocol.specs.declared.rw_phase.RwPhase.{RwPhase}
+use Rattle.parking_lot_protocol.specs.declared.rw_phase.RwPhase.TheVariants.{Loads, Admits, SetParked, Enters, Checks, Retreats, Appends, Rests, Sleeps, DrainLoads, DrainSetParked, DrainEnters, DrainChecks, DrainRetreats, DrainAppends, DrainRests, DrainSleeps, TryAdmits, Relocks, Unshares, EnterWriterWakeSection, TakeWriter, ClearWriterParked, LeaveWriterWakeSection, Unlocks, LooksExclusive, Downgrades, EnterWakeSection, Scans, Stores, Leaves, Wakes, Finishes}
+use Rattle.parking_lot_protocol.specs.RwTable.{act_of, is_parked, is_writer_parked, is_barred, has_readers}
+use Rattle.parking_lot_protocol.specs.RwRules.{Move, Stays, Makes, move, mode_of, admission, try_admission, IsTold}
 use Rattle.parking_lot_world.proofs.Making.{Crossed}
 
 -- who is inside after an act of thread t
@@ -32,7 +32,7 @@ IsOwnAct (act.Section (section.Append token)) = ⊥
 IsOwnAct (act.Section (section.Store plain fair)) = ⊥
 IsOwnAct (act.Section section.Wake) = ⊥
 IsOwnAct act.Sleep = ⊥
-IsOwnAct (act.Mask keep) = ⊥
+IsOwnAct (act.FetchAnd keep) = ⊥
 IsOwnAct (act.Done answer) = ⊥
 IsOwnAct a = Unit {0}
 
@@ -46,15 +46,15 @@ module _ (t : ℕ) (old new : Option ℕ) where
   drains d true h = h
   drains d false h = h
 
-  admits : (n : ℕ) (q : Want) (woken : Bool) → new ≡ old → OwnMove (Makes (admission n q woken)) t old new
+  admits : (n : ℕ) (q : LockMode) (woken : Bool) → new ≡ old → OwnMove (Makes (admission n q woken)) t old new
   admits n (want.Shared recursive) woken h = h
   admits n want.Exclusive woken h = h
 
-  try_admits : (n : ℕ) (q : Want) → new ≡ old → OwnMove (Makes (try_admission n q)) t old new
+  try_admits : (n : ℕ) (q : LockMode) → new ≡ old → OwnMove (Makes (try_admission n q)) t old new
   try_admits n (want.Shared recursive) h = h
   try_admits n want.Exclusive h = h
 
-  checks : (q : Want) (woken : Bool) (b : Bool) → new ≡ old → OwnMove (cond b (Makes (plain.Check1 (mode_of q) woken)) Stays) t old new
+  checks : (q : LockMode) (woken : Bool) (b : Bool) → new ≡ old → OwnMove (cond b (Makes (plain.Check1 (mode_of q) woken)) Stays) t old new
   checks q woken true h = h
   checks q woken false h = h
 
@@ -66,36 +66,36 @@ module _ (t : ℕ) (old new : Option ℕ) where
   unshares n true h = h
   unshares n false h = h
 
-  pub own_moves : (n : ℕ) (us : List ℕ) (p : RwPhase) (x : ℕ) (s : Seen) → IsTold p x s → IsOwnAct (act_of p) → AfterAct (act_of p) t old new → OwnMove (move n us p s) t old new
+  pub own_moves : (n : ℕ) (us : List ℕ) (p : RwPhase) (x : ℕ) (s : ActResult) → IsTold p x s → IsOwnAct (act_of p) → AfterAct (act_of p) t old new → OwnMove (move n us p s) t old new
   own_moves n us (Loads a) x s told own h = h
   own_moves n us (Admits a word) x seen.Exchanged told own h = admits n a.want a.woken h
-  own_moves n us (Flags a word) x seen.Exchanged told own h = h
+  own_moves n us (SetParked a word) x seen.Exchanged told own h = h
   own_moves n us (Enters q woken) x s told own h = h
   own_moves n us (Checks q woken) x (seen.Word word) told own h = checks q woken (is_barred q word && is_parked word) h
   own_moves n us (Retreats q woken) x s told own h = h
   own_moves n us (Appends q) x s told own h = absurd own
   own_moves n us (Rests q) x s told own h = h
   own_moves n us (Sleeps q) x s told own h = absurd own
-  own_moves n us (Loads2 d) x (seen.Word word) told own h = drains d (has_readers word) h
-  own_moves n us (Flags2 d flagged) x seen.Exchanged told own h = h
-  own_moves n us (Flags2 d flagged) x (seen.Word word) told own h = drains d (has_readers word) h
-  own_moves n us (Enters2 d) x s told own h = h
-  own_moves n us (Checks2 d) x (seen.Word word) told own h = checks2 d.woken (has_readers word && is_writer_parked word) h
-  own_moves n us (Retreats2 d) x s told own h = h
-  own_moves n us (Appends2 rounds) x s told own h = absurd own
-  own_moves n us (Rests2 rounds) x s told own h = h
-  own_moves n us (Sleeps2 rounds) x s told own h = absurd own
+  own_moves n us (DrainLoads d) x (seen.Word word) told own h = drains d (has_readers word) h
+  own_moves n us (DrainSetParked d flagged) x seen.Exchanged told own h = h
+  own_moves n us (DrainSetParked d flagged) x (seen.Word word) told own h = drains d (has_readers word) h
+  own_moves n us (DrainEnters d) x s told own h = h
+  own_moves n us (DrainChecks d) x (seen.Word word) told own h = checks2 d.woken (has_readers word && is_writer_parked word) h
+  own_moves n us (DrainRetreats d) x s told own h = h
+  own_moves n us (DrainAppends rounds) x s told own h = absurd own
+  own_moves n us (DrainRests rounds) x s told own h = h
+  own_moves n us (DrainSleeps rounds) x s told own h = absurd own
   own_moves n us (TryAdmits q word left) x seen.Exchanged told own h = try_admits n q h
   own_moves n us (Relocks q) x s told own h = h
   own_moves n us (Unshares rest) x (seen.Before word) told own h = unshares n (word / 16 == 1 && is_writer_parked word) h
-  own_moves n us (Owes2 rest) x s told own h = h
-  own_moves n us (Takes2 rest) x s told own h = absurd own
-  own_moves n us (Masks2 rest taken) x s told own h = absurd own
-  own_moves n us (Leaves2 rest taken) x s told own h = h
+  own_moves n us (EnterWriterWakeSection rest) x s told own h = h
+  own_moves n us (TakeWriter rest) x s told own h = absurd own
+  own_moves n us (ClearWriterParked rest taken) x s told own h = absurd own
+  own_moves n us (LeaveWriterWakeSection rest taken) x s told own h = h
   own_moves n us (Unlocks fair rest) x seen.Exchanged told own h = h
   own_moves n us (LooksExclusive fair rest) x s told own h = h
   own_moves n us Downgrades x (seen.Before word) told own h = h
-  own_moves n us Owes x s told own h = h
+  own_moves n us EnterWakeSection x s told own h = h
   own_moves n us (Scans a) x s told own h = absurd own
   own_moves n us (Stores a left) x s told own h = absurd own
   own_moves n us (Leaves rest count handed) x s told own h = h

@@ -8,26 +8,26 @@ use Rattle.parking_lot_core.specs.Machine.{threads_of}
 use Rattle.parking_lot_rules.specs.Roles.{Role}
 use Rattle.parking_lot_rules.specs.Steps.{Alone}
 use Rattle.parking_lot_rules.specs.ReadLock.{word_of}
-use Rattle.parking_lot_cores.specs.declared.act.Seen.{Seen}
-use Rattle.parking_lot_cores.specs.declared.rw_core.RwCore.{RwCore}
-use Rattle.parking_lot_cores.specs.declared.rw_phase.RwPhase.{RwPhase}
-use Rattle.parking_lot_cores.specs.declared.rw_phase.RwPhase.TheVariants as r
-use Rattle.parking_lot_cores.specs.Acts.{word_after}
-use Rattle.parking_lot_cores.specs.RwTable.{act_of, next_phase}
-use Rattle.parking_lot_cores.specs.RwRules as of_rw
-use Rattle.parking_lot_cores.specs.MutexRules as of_mutex
-use Rattle.parking_lot_cores.specs.MutexTable as of_mutex_table
-use Rattle.parking_lot_cores.specs.declared.mutex_core.MutexCore.{MutexCore}
-use Rattle.parking_lot_cores.specs.declared.mutex_phase.MutexPhase.{MutexPhase}
-use Rattle.parking_lot_cores.specs.declared.mutex_phase.MutexPhase.TheVariants as m
+use Rattle.parking_lot_protocol.specs.declared.act.ActResult.{ActResult}
+use Rattle.parking_lot_protocol.specs.declared.rw_core.RwCore.{RwCore}
+use Rattle.parking_lot_protocol.specs.declared.rw_phase.RwPhase.{RwPhase}
+use Rattle.parking_lot_protocol.specs.declared.rw_phase.RwPhase.TheVariants as r
+use Rattle.parking_lot_protocol.specs.Acts.{word_after}
+use Rattle.parking_lot_protocol.specs.RwTable.{act_of, next_phase}
+use Rattle.parking_lot_protocol.specs.RwRules as of_rw
+use Rattle.parking_lot_protocol.specs.MutexRules as of_mutex
+use Rattle.parking_lot_protocol.specs.MutexTable as of_mutex_table
+use Rattle.parking_lot_protocol.specs.declared.mutex_core.MutexCore.{MutexCore}
+use Rattle.parking_lot_protocol.specs.declared.mutex_phase.MutexPhase.{MutexPhase}
+use Rattle.parking_lot_protocol.specs.declared.mutex_phase.MutexPhase.TheVariants as m
 use Rattle.parking_lot_rules.specs.Mutex as mutex
 use Rattle.parking_lot_world.specs.MutexLaws.{mutex_of, word_next}
 use Rattle.parking_lot_world.specs.declared.calls.LockKind.TheVariants as kind
-use Rattle.parking_lot_world.specs.declared.seat.Spot.{Spot}
-use Rattle.parking_lot_world.specs.declared.seat.Spot.TheVariants as spot
+use Rattle.parking_lot_world.specs.declared.seat.QueuePosition.{QueuePosition}
+use Rattle.parking_lot_world.specs.declared.seat.QueuePosition.TheVariants as spot
 use Rattle.parking_lot_world.specs.declared.seat.Core.{Core}
 use Rattle.parking_lot_world.specs.declared.seat.Core.TheVariants as core
-use Rattle.parking_lot_world.specs.declared.seat.Call.{Call}
+use Rattle.parking_lot_world.specs.declared.open_call.Call.{Call}
 use Rattle.parking_lot_world.specs.Rows.{State, word_at, hold_at, call_at, taken_by, inside, rw_spot, rw_role_in, rw_role_at, rw_lock_at, mutex_spot, mutex_role_in, mutex_role_at, mutex_word_of, mutex_at, first_of_all, queue_at}
 use Rattle.parking_lot_world.specs.Stances.{Asleep, stance, rw_stance, mutex_stance, core_act}
 use Rattle.parking_lot_world.specs.RowFits.{FitsTogether}
@@ -42,7 +42,7 @@ use Rattle.parking_lot_world.proofs.Meeting.{in_range, meets}
 use Rattle.parking_lot_world.proofs.Calling.{call_of, slot, call-here, call-elsewhere, same-holds}
 
 -- Thread t is in the call c at lock j, whose core is told this; its spot is `at` then. Nothing else changes but the word, and who is inside.
-pub record OwnAct (s u : State) (t : ℕ) (c : Call) (told : Seen) (next : Core) (at : Spot) : Type 0 where
+pub record OwnAct (s u : State) (t : ℕ) (c : Call) (told : ActResult) (next : Core) (at : QueuePosition) : Type 0 where
   pub here : call_at s t ≡ Some c
   pub calls : u.calls ≡ slice_set s.calls t (Some (record c { core = next; spot = at }))
   pub kinds : u.kinds ≡ s.kinds
@@ -55,7 +55,7 @@ pub record OwnAct (s u : State) (t : ℕ) (c : Call) (told : Seen) (next : Core)
   -- one that falls asleep is in its list
   pub listed : (k : ℕ) (token : ParkToken) → stance next ≡ Asleep k token → at ≡ spot.Listed
 
-module _ (s u : State) (t : ℕ) (c : Call) (told : Seen) (next : Core) (at : Spot) (a : OwnAct s u t c told next at) where
+module _ (s u : State) (t : ℕ) (c : Call) (told : ActResult) (next : Core) (at : QueuePosition) (a : OwnAct s u t c told next at) where
   abbrev pub call_after : Call
   call_after = record c { core = next; spot = at }
 
@@ -87,15 +87,15 @@ set-same (y ∷ ys) zero x h = ap (λ z. z ∷ ys) (sym (same_Some y x h))
 set-same (y ∷ ys) (suc i) x h = ap (λ zs. y ∷ zs) (set-same ys i x h)
 
 -- the role of one that isn't asleep, or that is in its list
-pub lists : (n : ℕ) (us : List ℕ) (q : RwPhase) (at : Spot) → ((k : ℕ) (token : ParkToken) → rw_stance q ≡ Asleep k token → at ≡ spot.Listed)
+pub lists : (n : ℕ) (us : List ℕ) (q : RwPhase) (at : QueuePosition) → ((k : ℕ) (token : ParkToken) → rw_stance q ≡ Asleep k token → at ≡ spot.Listed)
     → of_rw.role n (rw_spot at) us q ≡ of_rw.role n of_rw.Listed us q
 lists n us (r.Sleeps want) at h = ap (λ x. of_rw.role n (rw_spot x) us (r.Sleeps want)) (h _ _ refl)
-lists n us (r.Sleeps2 rounds) at h = ap (λ x. of_rw.role n (rw_spot x) us (r.Sleeps2 rounds)) (h _ _ refl)
+lists n us (r.DrainSleeps rounds) at h = ap (λ x. of_rw.role n (rw_spot x) us (r.DrainSleeps rounds)) (h _ _ refl)
 lists n us q at h = refl
 
 -- AT A READER-WRITER LOCK
 
-module _ (s u : State) (t : ℕ) (c : Call) (told : Seen) (k : RwCore) (at : Spot) (e : c.core ≡ core.Rw k)
+module _ (s u : State) (t : ℕ) (c : Call) (told : ActResult) (k : RwCore) (at : QueuePosition) (e : c.core ≡ core.Rw k)
     (a : OwnAct s u t c told (core.Rw (record k { phase = next_phase k.phase told })) at) where
   abbrev us : List ℕ
   us = taken_by s.wakes t
@@ -166,12 +166,12 @@ module _ (s u : State) (t : ℕ) (c : Call) (told : Seen) (k : RwCore) (at : Spo
 
 -- AT A MUTEX
 
-pub mutex_lists : (v : ℕ) (q : MutexPhase) (at : Spot) → ((k : ℕ) (token : ParkToken) → mutex_stance q ≡ Asleep k token → at ≡ spot.Listed)
+pub mutex_lists : (v : ℕ) (q : MutexPhase) (at : QueuePosition) → ((k : ℕ) (token : ParkToken) → mutex_stance q ≡ Asleep k token → at ≡ spot.Listed)
     → of_mutex.role (mutex_spot at) v q ≡ of_mutex.role of_mutex.Listed v q
 mutex_lists v m.Sleeps at h = ap (λ x. of_mutex.role (mutex_spot x) v m.Sleeps) (h _ _ refl)
 mutex_lists v q at h = refl
 
-module _ (s u : State) (t : ℕ) (c : Call) (told : Seen) (k : MutexCore) (at : Spot) (e : c.core ≡ core.Mutex k)
+module _ (s u : State) (t : ℕ) (c : Call) (told : ActResult) (k : MutexCore) (at : QueuePosition) (e : c.core ≡ core.Mutex k)
     (a : OwnAct s u t c told (core.Mutex (record k { phase = of_mutex_table.next_phase k.phase told })) at) where
   abbrev owed : List ℕ
   owed = taken_by s.wakes t

@@ -12,26 +12,26 @@ use Rattle.parking_lot_core.specs.declared.place.Section.{Section}
 use Rattle.parking_lot_core.specs.declared.place.Waiter.{Waiter}
 use Rattle.parking_lot_core.specs.Results.{is_left}
 use Rattle.parking_lot_core.proofs.Kept.{updated_at}
-use Rattle.parking_lot_cores.specs.declared.act.Act.{Act}
-use Rattle.parking_lot_cores.specs.declared.act.Act.TheVariants as act
-use Rattle.parking_lot_cores.specs.declared.act.SectionAct.TheVariants as section
-use Rattle.parking_lot_cores.specs.declared.act.Seen.{Seen}
-use Rattle.parking_lot_cores.specs.declared.act.Seen.TheVariants as seen
-use Rattle.parking_lot_cores.specs.declared.act.WordChange.{WordChange}
-use Rattle.parking_lot_cores.specs.declared.mutex_phase.MutexPhase.{MutexPhase}
-use Rattle.parking_lot_cores.specs.declared.mutex_phase.MutexPhase.TheVariants as m
-use Rattle.parking_lot_cores.specs.declared.rw_phase.RwPhase.{RwPhase}
-use Rattle.parking_lot_cores.specs.declared.rw_phase.RwPhase.TheVariants as r
-use Rattle.parking_lot_cores.specs.MutexTable as of_mutex
-use Rattle.parking_lot_cores.specs.RwTable as of_rw
-use Rattle.parking_lot_cores.specs.Acts.{Gives, word_after, change_of}
+use Rattle.parking_lot_protocol.specs.declared.act.Act.{Act}
+use Rattle.parking_lot_protocol.specs.declared.act.Act.TheVariants as act
+use Rattle.parking_lot_protocol.specs.declared.act.SectionAct.TheVariants as section
+use Rattle.parking_lot_protocol.specs.declared.act.ActResult.{ActResult}
+use Rattle.parking_lot_protocol.specs.declared.act.ActResult.TheVariants as seen
+use Rattle.parking_lot_protocol.specs.declared.act.WordChange.{WordChange}
+use Rattle.parking_lot_protocol.specs.declared.mutex_phase.MutexPhase.{MutexPhase}
+use Rattle.parking_lot_protocol.specs.declared.mutex_phase.MutexPhase.TheVariants as m
+use Rattle.parking_lot_protocol.specs.declared.rw_phase.RwPhase.{RwPhase}
+use Rattle.parking_lot_protocol.specs.declared.rw_phase.RwPhase.TheVariants as r
+use Rattle.parking_lot_protocol.specs.MutexTable as of_mutex
+use Rattle.parking_lot_protocol.specs.RwTable as of_rw
+use Rattle.parking_lot_protocol.specs.Acts.{Gives, word_after, change_of}
 use Rattle.parking_lot_core.specs.Lists.{updated}
 use Rattle.parking_lot_world.specs.declared.seat.Core.{Core}
 use Rattle.parking_lot_world.specs.declared.seat.Core.TheVariants as core
-use Rattle.parking_lot_world.specs.declared.seat.Call.{Call}
-use Rattle.parking_lot_world.specs.declared.seat.Spot.TheVariants as spot
-use Rattle.parking_lot_world.specs.declared.seat.Told.{Told}
-use Rattle.parking_lot_world.specs.declared.seat.Told.TheVariants as told
+use Rattle.parking_lot_world.specs.declared.open_call.Call.{Call}
+use Rattle.parking_lot_world.specs.declared.seat.QueuePosition.TheVariants as spot
+use Rattle.parking_lot_world.specs.declared.seat.WakeResult.{WakeResult}
+use Rattle.parking_lot_world.specs.declared.seat.WakeResult.TheVariants as told
 use Rattle.parking_lot_world.specs.Rows.{State, word_at, call_at, first_key, inside}
 use Rattle.parking_lot_world.specs.Stances.{mutex_stance, rw_stance, Doing, Joins, In, Takes, sign, stance, core_act, core_next, core_tells}
 use Rattle.parking_lot_world.specs.StanceLaws.{LeavesFor}
@@ -81,7 +81,7 @@ leaves_none a left first x = absurd x
 -- a scan that goes on goes through the first list
 rw_first : (p : RwPhase) (sum k : ℕ) → of_rw.act_of p ≡ act.Section (section.TakeNext sum) → rw_stance p ≡ In k Takes → k ≡ 0
 rw_first (r.Scans a) sum k e f = cc
-rw_first (r.Takes2 rest) sum k e f = absurd cc
+rw_first (r.TakeWriter rest) sum k e f = absurd cc
 rw_first p sum k e f = absurd cc
 
 mutex_first : (p : MutexPhase) (sum k : ℕ) → of_mutex.act_of p ≡ act.Section (section.TakeNext sum) → mutex_stance p ≡ In k Takes → k ≡ 0
@@ -116,7 +116,7 @@ off_far n t None = refl
 off_far n t (Some c) = refl
 
 module _ (s : State) (t : ℕ) (c : Call) (h : FitsTogether s) (here : call_at s t ≡ Some c) where
-  module _ (u : State) (d : Call) (heard : Seen) (calls : u.calls ≡ slice_set s.calls t (Some d)) (next : d.core ≡ core_next c.core heard) (lock : d.lock ≡ c.lock) where
+  module _ (u : State) (d : Call) (heard : ActResult) (calls : u.calls ≡ slice_set s.calls t (Some d)) (next : d.core ≡ core_next c.core heard) (lock : d.lock ≡ c.lock) where
     -- its call alone has changed
     one : (a : Act) → core_act c.core ≡ a → word_at u c.lock ≡ word_after a heard (word_at s c.lock) → (shut : Bool) → is_shut_to t (inside s) ≡ shut → is_shut_to t (inside u) ≡ shut
         → Gives a (word_at s c.lock) heard → Can a shut heard → Leaves a heard (length (s.lot.queues (first_key c.lock))) (length (u.lot.queues (first_key c.lock))) → Pays t s u
@@ -205,7 +205,7 @@ module _ (s : State) (t : ℕ) (c : Call) (h : FitsTogether s) (here : call_at s
       a asked (sym gives.2) false free_now (ap (is_shut_to t) (still_inside s.lot.section _) ∙ free_now) gives.0 gives.1 (leaves_some a c.core s.lot.queues w.token _ c.lock k w asked taking is at)
 
   -- it tells whom it has taken
-  module _ (u : State) (heard : Seen) (said : Told) (calls : u.calls ≡ map (option_map (settled t said)) (slice_set s.calls t (Some (hears c heard)))) where
+  module _ (u : State) (heard : ActResult) (said : WakeResult) (calls : u.calls ≡ map (option_map (settled t said)) (slice_set s.calls t (Some (hears c heard)))) where
     tells : (a : Act) → core_act c.core ≡ a → word_at u c.lock ≡ word_after a heard (word_at s c.lock) → (shut : Bool) → is_shut_to t (inside s) ≡ shut → is_shut_to t (inside u) ≡ shut
         → Gives a (word_at s c.lock) heard → Can a shut heard → Leaves a heard (length (s.lot.queues (first_key c.lock))) (length (u.lot.queues (first_key c.lock))) → Pays t s u
     tells =
@@ -226,8 +226,8 @@ module _ (s : State) (t : ℕ) (c : Call) (h : FitsTogether s) (here : call_at s
       (word-here s.words c.lock (change_of (cond fair handing plain) (word_at s c.lock)) (has_word s h t c here)) false free_now
       (ap (is_shut_to t) (still_told s.lot.section (λ x. record x { phase = phase.Stored; token = token }) (λ x. refl)) ∙ free_now) tt refl tt
 
-  pub mask : (keep : ℕ) → core_act c.core ≡ act.Mask keep → Pays t s (masked s t c keep)
+  pub mask : (keep : ℕ) → core_act c.core ≡ act.FetchAnd keep → Pays t s (masked s t c keep)
   mask keep asked =
       let heard = seen.Before (word_at s c.lock) in
-      tells (masked s t c keep) heard told.TryAgain refl (act.Mask keep) asked (word-here s.words c.lock (bit_and (word_at s c.lock) keep) (has_word s h t c here)) (is_shut_to t (inside s)) refl
+      tells (masked s t c keep) heard told.TryAgain refl (act.FetchAnd keep) asked (word-here s.words c.lock (bit_and (word_at s c.lock) keep) (has_word s h t c here)) (is_shut_to t (inside s)) refl
       (ap (is_shut_to t) (still_told s.lot.section (λ x. record x { phase = phase.Stored; token = sign false }) (λ x. refl))) refl tt refl

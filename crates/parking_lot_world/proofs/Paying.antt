@@ -1,12 +1,12 @@
 -- Each act of the machine is paid for by the steps that are left.
 use Rattle.std.proofs.Common.{◌≡◌, ℕ, ◌+◌, ◌-◌, ◌/◌, ◌^◌, ◌<◌, ◌≤◌, Bool, length, Some, None, slice_get, slice_set, sum_by, refl, sym, ap, ◌∙◌, subst, arith}
-use Rattle.parking_lot_cores.specs.declared.act.Act.{Act}
-use Rattle.parking_lot_cores.specs.declared.act.Seen.{Seen}
-use Rattle.parking_lot_cores.specs.Acts.{Gives, word_after}
-use Rattle.parking_lot_cores.specs.RwRules.{IsReady}
+use Rattle.parking_lot_protocol.specs.declared.act.Act.{Act}
+use Rattle.parking_lot_protocol.specs.declared.act.ActResult.{ActResult}
+use Rattle.parking_lot_protocol.specs.Acts.{Gives, word_after}
+use Rattle.parking_lot_protocol.specs.RwRules.{IsReady}
 use Rattle.parking_lot_world.specs.declared.seat.Core.{Core}
 use Rattle.parking_lot_world.specs.declared.seat.Core.TheVariants as core
-use Rattle.parking_lot_world.specs.declared.seat.Call.{Call}
+use Rattle.parking_lot_world.specs.declared.open_call.Call.{Call}
 use Rattle.parking_lot_world.specs.Rows.{State, word_at, call_at, first_key, inside, rw_lock_at, rw_spot, taken_by}
 use Rattle.parking_lot_world.specs.Stances.{core_act, core_next}
 use Rattle.parking_lot_world.specs.RowFits.{FitsTogether, IsOfKind, IsPrepared}
@@ -32,7 +32,7 @@ is_good s h t c here = by_core c.core refl
     by_core (core.Rw k) e =
         (few_readers (rw_lock_at s c.lock) t c.others (rw_spot c.spot) (taken_by s.wakes t) k.phase (word_at s c.lock) (meets s h t c k e here), (subst (IsPrepared c.others) e (h.rules.prepared t c here)).0)
 
-pub core_falls : (n : ℕ) (c : Core) (x : ℕ) (told : Seen) (first after : ℕ) (shut : Bool) → IsGood c x → Gives (core_act c) x told → Can (core_act c) shut told → Leaves (core_act c) told first after
+pub core_falls : (n : ℕ) (c : Core) (x : ℕ) (told : ActResult) (first after : ℕ) (shut : Bool) → IsGood c x → Gives (core_act c) x told → Can (core_act c) shut told → Leaves (core_act c) told first after
     → core_steps n (Sees (word_after (core_act c) told x) after shut) (core_next c told) + 1 ≤ core_steps n (Sees x first shut) c
 core_falls n (core.Mutex k) x told first after shut good gives can leaves = of_mutex.steps_fall.falls k.phase told x first after shut good gives can
 core_falls n (core.Rw k) x told first after shut good gives can leaves = of_rw.steps_fall.falls n k.phase told x first after shut good.0 good.1 gives can leaves
@@ -59,7 +59,7 @@ module _ (s u : State) (t k : ℕ) (c d : Call) (here : call_at s t ≡ Some c) 
       )
 
 -- A thread's act, that changes nobody else's steps.
-module _ (s u : State) (t : ℕ) (c d : Call) (told : Seen) (h : FitsTogether s) (here : call_at s t ≡ Some c) (there : call_at u t ≡ Some d) (next : d.core ≡ core_next c.core told) (lock : d.lock ≡ c.lock) (threads : length u.calls ≡ length s.calls)
+module _ (s u : State) (t : ℕ) (c d : Call) (told : ActResult) (h : FitsTogether s) (here : call_at s t ≡ Some c) (there : call_at u t ≡ Some d) (next : d.core ≡ core_next c.core told) (lock : d.lock ≡ c.lock) (threads : length u.calls ≡ length s.calls)
     (others : sum_by (far_steps (length s.calls)) (slice_set u.calls t None) ≤ sum_by (far_steps (length s.calls)) (slice_set s.calls t None)) where
   pub falls : (a : Act) → core_act c.core ≡ a → word_at u c.lock ≡ word_after a told (word_at s c.lock) → (shut : Bool) → is_shut_to t (inside s) ≡ shut → is_shut_to t (inside u) ≡ shut
       → Gives a (word_at s c.lock) told → Can a shut told → Leaves a told (length (s.lot.queues (first_key c.lock))) (length (u.lot.queues (first_key c.lock))) → Pays t s u

@@ -3,14 +3,14 @@ use Rattle.std.proofs.Common.{◌≡◌, ℕ, zero, suc, ◌≤◌, nat_lt, true
 use Rattle.std.proofs.lemmas.Bool.{both_ways, ltb-true}
 use Rattle.std.specs.Prelude.{is_none, length}
 use Rattle.parking_lot_rules.specs.Roles.{Shares}
-use Rattle.parking_lot_cores.proofs.RwWords.{both}
+use Rattle.parking_lot_protocol.proofs.RwWords.{both}
 use Rattle.parking_lot_world.specs.declared.calls.LockCall.{LockCall}
 use Rattle.parking_lot_world.specs.declared.calls.LockCall.TheVariants as call
 use Rattle.parking_lot_world.specs.declared.calls.LockKind.{LockKind}
 use Rattle.parking_lot_world.specs.declared.calls.LockKind.TheVariants as kind
 use Rattle.parking_lot_world.specs.declared.seat.Hold.{Hold}
 use Rattle.parking_lot_world.specs.declared.seat.Hold.TheVariants as hold
-use Rattle.parking_lot_world.specs.declared.seat.Call.{Call}
+use Rattle.parking_lot_world.specs.declared.open_call.Call.{Call}
 use Rattle.parking_lot_world.specs.Calls.{kind_of}
 use Rattle.parking_lot_world.specs.Beginnings.{core_of, holds_beside, is_allowed}
 use Rattle.parking_lot_world.specs.Rows.{State, call_at, hold_at}

@@ -18,7 +18,7 @@ use Rattle.parking_lot_rules.proofs.Running.{all_away, rest_sound_family}
 use Rattle.parking_lot_rules.proofs.Mutexes as mutexes
 use Rattle.parking_lot_world.specs.declared.calls.LockKind.{LockKind}
 use Rattle.parking_lot_world.specs.declared.calls.LockKind.TheVariants as kind
-use Rattle.parking_lot_world.specs.declared.seat.Call.{Call}
+use Rattle.parking_lot_world.specs.declared.open_call.Call.{Call}
 use Rattle.parking_lot_world.specs.declared.seat.Hold.{Hold}
 use Rattle.parking_lot_world.specs.declared.seat.Hold.TheVariants as hold
 use Rattle.parking_lot_world.specs.Rows.{State, any_lock, call_at, family, hold_at, lock_at, mutex_at, mutex_role_at, mutex_role_in, mutex_word_of, one_bucket, rw_lock_at, rw_role_at, rw_role_in, word_at}

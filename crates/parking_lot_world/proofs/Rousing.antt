@@ -10,11 +10,11 @@ use Rattle.parking_lot_core.specs.declared.place.Place.TheVariants.{Taken}
 use Rattle.parking_lot_core.specs.declared.place.Sleep.{Sleep}
 use Rattle.parking_lot_core.proofs.Numbers.{flag, count_by-set}
 use Rattle.parking_lot_rules.proofs.Indexed.{get-set_other}
-use Rattle.parking_lot_cores.specs.declared.act.Seen.TheVariants as seen
-use Rattle.parking_lot_world.specs.declared.seat.Told.{Told}
-use Rattle.parking_lot_world.specs.declared.seat.Spot.{Spot}
-use Rattle.parking_lot_world.specs.declared.seat.Spot.TheVariants as spot
-use Rattle.parking_lot_world.specs.declared.seat.Call.{Call}
+use Rattle.parking_lot_protocol.specs.declared.act.ActResult.TheVariants as seen
+use Rattle.parking_lot_world.specs.declared.seat.WakeResult.{WakeResult}
+use Rattle.parking_lot_world.specs.declared.seat.QueuePosition.{QueuePosition}
+use Rattle.parking_lot_world.specs.declared.seat.QueuePosition.TheVariants as spot
+use Rattle.parking_lot_world.specs.declared.open_call.Call.{Call}
 use Rattle.parking_lot_world.specs.declared.seat.Wakeup.{Wakeup}
 use Rattle.parking_lot_world.specs.Rows.{State, call_at, is_by, taken_by}
 use Rattle.parking_lot_world.specs.Stances.{Out, Asleep, stance, taken_count, core_next}
@@ -29,7 +29,7 @@ use Rattle.parking_lot_world.proofs.Lifting.{IsThere, Elsewhere}
 use Rattle.parking_lot_world.proofs.LotWakes.{woken_off, due_place, other, call_mine, call_woken, call_other, woke_length}
 use Rattle.parking_lot_world.proofs.Making.{IsSoundState}
 use Rattle.parking_lot_world.proofs.Ruling.{CallFits, call_fits, rules_after}
-use Rattle.parking_lot_world.proofs.Settling.{same_kind}
+use Rattle.parking_lot_world.proofs.TakeOutside.{same_kind}
 
 -- WHOM A THREAD IS TO WAKE
 
@@ -116,7 +116,7 @@ module _ (s : State) (t : ℕ) (c : Call) (h : FitsTogether s) (here : call_at s
       let x = woken_off s t c h.lots here e d due.first mine due.there from in
       let y = due_place s t c h.lots here e d due.first mine due.there from in
       let token_is : y.0 ≡ token = same_token y.1 due.sleep (sym y.2 ∙ due.place) in
-      (x.1, x.2, x.3 ∙ ap (λ (z : Told). spot.Off t z) (y.5 ∙ ap told_of token_is), x.4)
+      (x.1, x.2, x.3 ∙ ap (λ (z : WakeResult). spot.Off t z) (y.5 ∙ ap told_of token_is), x.4)
     where
       same_token : {a b : UnparkToken} → (p q : Sleep) → Some (Taken a p false) ≡ Some (Taken b q false) → a ≡ b
       same_token p q z = cc
@@ -194,7 +194,7 @@ module _ (s : State) (t : ℕ) (c : Call) (h : FitsTogether s) (here : call_at s
         x z at off;
     room =
         let w = count_by-set is_away s.calls e.thread (Some d) (Some woken_call) (slot s.calls e.thread d due.there) in
-        let away : flag (is_off d.spot) ≡ 1 = ap (λ (z : Spot). flag (is_off z)) was_off.2 in
+        let away : flag (is_off d.spot) ≡ 1 = ap (λ (z : QueuePosition). flag (is_off z)) was_off.2 in
         let y = count_by-set is_away (slice_set s.calls e.thread (Some woken_call)) t (Some c) (Some (hears c seen.Made)) (get-set_other s.calls e.thread t (Some woken_call) apart ∙ slot s.calls t c here) in
         let fewer = length-remove s.wakes i (slice_get_within s.wakes i e due.first) in
         let was = h.wakes.room in

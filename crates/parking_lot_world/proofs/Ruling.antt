@@ -7,16 +7,16 @@ use Rattle.parking_lot_rules.specs.Steps.{Alone, List_changes, Take1, Store, Wak
 use Rattle.parking_lot_rules.specs.Roles.{Asleep}
 use Rattle.parking_lot_rules.specs.Mutex as mutex
 use Rattle.parking_lot_rules.specs.Any.{RwStep, MxStep}
-use Rattle.parking_lot_cores.specs.declared.act.Seen.{Seen}
-use Rattle.parking_lot_cores.specs.MutexRules as of_mutex
-use Rattle.parking_lot_cores.specs.RwRules as of_rw
+use Rattle.parking_lot_protocol.specs.declared.act.ActResult.{ActResult}
+use Rattle.parking_lot_protocol.specs.MutexRules as of_mutex
+use Rattle.parking_lot_protocol.specs.RwRules as of_rw
 use Rattle.parking_lot_world.specs.declared.calls.LockKind.{LockKind}
 use Rattle.parking_lot_world.specs.declared.calls.LockKind.TheVariants as kind
 use Rattle.parking_lot_world.specs.declared.seat.Hold.TheVariants as hold
-use Rattle.parking_lot_world.specs.declared.seat.Spot.{Spot}
+use Rattle.parking_lot_world.specs.declared.seat.QueuePosition.{QueuePosition}
 use Rattle.parking_lot_world.specs.declared.seat.Core.{Core}
 use Rattle.parking_lot_world.specs.declared.seat.Core.TheVariants as core
-use Rattle.parking_lot_world.specs.declared.seat.Call.{Call}
+use Rattle.parking_lot_world.specs.declared.open_call.Call.{Call}
 use Rattle.parking_lot_world.specs.Rows.{State, word_at, hold_at, call_at}
 use Rattle.parking_lot_world.specs.Stances.{has_begun}
 use Rattle.parking_lot_world.specs.RowFits.{FitsTogether, RulesFit, IsOfKind, IsPrepared, KnowsList, mutex_knows, rw_knows}
@@ -93,7 +93,7 @@ pub knows_same : (f g : ℕ → List Waiter) → ((key : ℕ) → g key ≡ f ke
 knows_same f g same (core.Mutex k) j h = subst (mutex_knows k.phase) (sym (same (2 * j))) h
 knows_same f g same (core.Rw k) j h = subst (λ (q : List Waiter). rw_knows k.phase q (g (2 * j + 1))) (sym (same (2 * j))) (subst (rw_knows k.phase (f (2 * j))) (sym (same (2 * j + 1))) h)
 
-module _ (s u : State) (t : ℕ) (c : Call) (told : Seen) (next : Core) (at : Spot) (a : OwnAct s u t c told next at) (h : FitsTogether s) where
+module _ (s u : State) (t : ℕ) (c : Call) (told : ActResult) (next : Core) (at : QueuePosition) (a : OwnAct s u t c told next at) (h : FitsTogether s) where
   abbrev d : Call
   d = call_after s u t c told next at a
 

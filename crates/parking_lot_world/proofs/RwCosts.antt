@@ -1,16 +1,16 @@
 -- What a phase at a reader-writer lock costs that has just seen the word, or that comes after a release.
 use Rattle.std.proofs.Common.{◌≡◌, ◌≤◌, ◌<◌, ℕ, ◌+◌, ◌-◌, ◌*◌, ◌/◌, ◌^◌, ◌==◌, ◌&&◌, ◌||◌, nat_lt, not, Bool, true, false, cond, refl, sym, subst, arith}
 use Rattle.std.proofs.lemmas.Bool.{both_ways, ltb-true, lt-ltb, eq-eqb, cond_both, and_parts, and_from}
-use Rattle.parking_lot_cores.specs.declared.rw_phase.Want.{Want}
-use Rattle.parking_lot_cores.specs.declared.rw_phase.Want.TheVariants as want
-use Rattle.parking_lot_cores.specs.declared.rw_phase.Rest.{Rest}
-use Rattle.parking_lot_cores.specs.declared.rw_phase.Rest.TheVariants as rest
-use Rattle.parking_lot_cores.specs.declared.rw_phase.Seeking.{Seeking}
-use Rattle.parking_lot_cores.specs.declared.rw_phase.Draining.{Draining}
-use Rattle.parking_lot_cores.specs.declared.rw_phase.Scanning.{Scanning}
-use Rattle.parking_lot_cores.specs.declared.rw_phase.RwPhase.{RwPhase}
-use Rattle.parking_lot_cores.specs.RwTable as of_rw
-use Rattle.parking_lot_cores.specs.RwTable.{is_parked, is_writer_parked, is_written, is_upgradable, has_readers, has_room, is_barred, is_admitted, is_tried, count_of}
+use Rattle.parking_lot_protocol.specs.declared.rw_phase.LockMode.{LockMode}
+use Rattle.parking_lot_protocol.specs.declared.rw_phase.LockMode.TheVariants as want
+use Rattle.parking_lot_protocol.specs.declared.rw_phase.AfterWake.{AfterWake}
+use Rattle.parking_lot_protocol.specs.declared.rw_phase.AfterWake.TheVariants as rest
+use Rattle.parking_lot_protocol.specs.declared.rw_phase.Seeking.{Seeking}
+use Rattle.parking_lot_protocol.specs.declared.rw_phase.Draining.{Draining}
+use Rattle.parking_lot_protocol.specs.declared.rw_phase.Scanning.{Scanning}
+use Rattle.parking_lot_protocol.specs.declared.rw_phase.RwPhase.{RwPhase}
+use Rattle.parking_lot_protocol.specs.RwTable as of_rw
+use Rattle.parking_lot_protocol.specs.RwTable.{is_parked, is_writer_parked, is_written, is_upgradable, has_readers, has_room, is_barred, is_admitted, is_tried, count_of}
 use Rattle.parking_lot_world.specs.Ranks.{View, Sees, wake, scan, comes_after, drains, rw_asks, rw_ends, rw_steps}
 
 -- TESTS
@@ -22,7 +22,7 @@ pub if_either : (b : Bool) (x y c : ℕ) → x ≤ c → y ≤ c → cond b x y 
 if_either b x y c h k = cond_both b x y (λ z. z ≤ c) (λ e. h) (λ e. k)
 
 -- one that isn't barred is admitted, as one reader more can be counted
-not_barred : (want : Want) (word : ℕ) → word / 16 < 2 ^ 60 - 1 → is_admitted want word ≡ false → is_barred want word ≡ true
+not_barred : (want : LockMode) (word : ℕ) → word / 16 < 2 ^ 60 - 1 → is_admitted want word ≡ false → is_barred want word ≡ true
 not_barred (want.Shared recursive) word few e = go (has_room word) (is_written word) (recursive && has_readers word) (lt-ltb (word / 16) (2 ^ 60 - 1) few) e
   where
     go : (a b c : Bool) → a ≡ true → a && (not b || c) ≡ false → b ≡ true
@@ -60,7 +60,7 @@ module _ (n word first : ℕ) (shut : Bool) where
       (λ e. cond_both (is_writer_parked word) _ _ (AtMost _) (λ p. if_so _ _ _ _ (and_from _ _ some p) (omega arith)) (λ p. at_word _ _ _ (omega arith))))
       (λ e. omega arith)
 
-  tries_at : (want : Want) (left : ℕ) → AtMost 2 (of_rw.tries want left word)
+  tries_at : (want : LockMode) (left : ℕ) → AtMost 2 (of_rw.tries want left word)
   tries_at want left = cond_both (is_tried want word) _ _ (AtMost _) (λ e. at_word _ _ _ (omega arith)) (λ e. omega arith)
 
   pub seeks_cost : (a : Seeking) (seen : ℕ) → seen ≡ word → word / 16 < 2 ^ 60 - 1 → AtMost (rw_asks (Sees word first shut) a.want a.rounds) (of_rw.seeks a seen)
@@ -69,10 +69,10 @@ module _ (n word first : ℕ) (shut : Bool) where
   pub drains_cost : (d : Draining) (seen : ℕ) → seen ≡ word → AtMost (drains (Sees word first shut) d.rounds) (of_rw.drains d seen)
   drains_cost d seen e = subst (λ x. AtMost (drains (Sees word first shut) d.rounds) (of_rw.drains d x)) (sym e) (drains_at d)
 
-  pub tries_cost : (want : Want) (left seen : ℕ) → seen ≡ word → AtMost 2 (of_rw.tries want left seen)
+  pub tries_cost : (want : LockMode) (left seen : ℕ) → seen ≡ word → AtMost 2 (of_rw.tries want left seen)
   tries_cost want left seen e = subst (λ x. AtMost 2 (of_rw.tries want left x)) (sym e) (tries_at want left)
 
-  pub retries_cost : (want : Want) (left seen : ℕ) → seen ≡ word → AtMost 2 (of_rw.retries want left seen)
+  pub retries_cost : (want : LockMode) (left seen : ℕ) → seen ≡ word → AtMost 2 (of_rw.retries want left seen)
   retries_cost want left seen e = cond_both (nat_lt 0 left) _ _ (AtMost _) (λ b. tries_cost want (left - 1) seen e) (λ b. omega arith)
 
 -- WHAT COMES NEXT
@@ -81,25 +81,25 @@ module _ (n : ℕ) (v : View) where
   abbrev Within : ℕ → RwPhase → Type 0
   Within c p = rw_steps n v p ≤ c
 
-  pub admits_cost : (want : Want) (woken : Bool) → Within (comes_after v want) (of_rw.admits want woken)
+  pub admits_cost : (want : LockMode) (woken : Bool) → Within (comes_after v want) (of_rw.admits want woken)
   admits_cost (want.Shared recursive) woken = omega arith
   admits_cost want.Exclusive woken = omega arith
 
-  pub over_cost : (rest : Rest) → Within (rw_ends v rest) (of_rw.over rest)
+  pub over_cost : (rest : AfterWake) → Within (rw_ends v rest) (of_rw.over rest)
   over_cost rest.FreedShared = omega arith
   over_cost rest.FreedExclusive = omega arith
   over_cost rest.Downgraded = omega arith
   over_cost rest.AgainShared = omega arith
   over_cost rest.AgainExclusive = omega arith
 
-  pub end_costs : (rest : Rest) → 1 ≤ rw_ends v rest
+  pub end_costs : (rest : AfterWake) → 1 ≤ rw_ends v rest
   end_costs rest.FreedShared = omega arith
   end_costs rest.FreedExclusive = omega arith
   end_costs rest.Downgraded = omega arith
   end_costs rest.AgainShared = omega arith
   end_costs rest.AgainExclusive = omega arith
 
-  pub wakes_cost : (rest : Rest) (count : ℕ) → Within (wake * count + 1 + rw_ends v rest) (of_rw.wakes rest count)
+  pub wakes_cost : (rest : AfterWake) (count : ℕ) → Within (wake * count + 1 + rw_ends v rest) (of_rw.wakes rest count)
   wakes_cost rest count = cond_both (nat_lt 0 count) _ _ (Within _) (λ e. omega arith) (λ e. omega arith)
 
   pub goes_on_cost : (left : Bool) (s : Scanning) → Within (scan n v + wake * count_of s + 4 + rw_ends v s.rest) (of_rw.goes_on left s)

@@ -11,21 +11,21 @@ use Rattle.parking_lot_rules.specs.Family.{Family, SoundFamilyOf, Key, First, Se
 use Rattle.parking_lot_rules.specs.Family as crossings
 use Rattle.parking_lot_rules.specs.Any.{AnySound, any_inside}
 use Rattle.parking_lot_rules.proofs.Totals.{total-at}
-use Rattle.parking_lot_cores.specs.declared.act.Seen.{Seen}
-use Rattle.parking_lot_cores.specs.declared.act.Seen.TheVariants as seen
-use Rattle.parking_lot_cores.specs.declared.rw_phase.Want.{Want}
-use Rattle.parking_lot_cores.specs.declared.rw_phase.Want.TheVariants as want
-use Rattle.parking_lot_cores.specs.declared.rw_phase.Rest.{Rest}
-use Rattle.parking_lot_cores.specs.declared.rw_phase.Rest.TheVariants.{FreedShared, FreedExclusive, Downgraded, AgainShared, AgainExclusive}
-use Rattle.parking_lot_cores.specs.declared.rw_phase.Scanning.{Scanning}
-use Rattle.parking_lot_cores.specs.declared.rw_phase.RwPhase.{RwPhase}
-use Rattle.parking_lot_cores.specs.declared.rw_phase.RwPhase.TheVariants.{Locking, Trying, UnlockingShared, UnlockingExclusive, Downgrading, BumpingShared, BumpingExclusive, Loads, Admits, Spins, Flags, Enters, Checks, Retreats, Appends, Rests, Sleeps, Loads2, Spins2, Flags2, Enters2, Checks2, Retreats2, Appends2, Rests2, Sleeps2, TryLoads, TryAdmits, BumpLoads, Relocks, Unshares, Owes2, Takes2, Masks2, Leaves2, Unlocks, LooksExclusive, Downgrades, Owes, Scans, Stores, Leaves, Wakes, Finishes, Strays}
-use Rattle.parking_lot_cores.specs.RwTable.{act_of, next_phase, is_parked, is_writer_parked, is_barred, has_readers, goes_on, scans, is_written, is_admitted, is_tried, seeks, drains, tries, begins, admits, bumps, over, wakes}
-use Rattle.parking_lot_cores.specs.RwRules.{Spot, Listed, Off, role, Move, Makes, move, admission, try_admission, IsTold}
+use Rattle.parking_lot_protocol.specs.declared.act.ActResult.{ActResult}
+use Rattle.parking_lot_protocol.specs.declared.act.ActResult.TheVariants as seen
+use Rattle.parking_lot_protocol.specs.declared.rw_phase.LockMode.{LockMode}
+use Rattle.parking_lot_protocol.specs.declared.rw_phase.LockMode.TheVariants as want
+use Rattle.parking_lot_protocol.specs.declared.rw_phase.AfterWake.{AfterWake}
+use Rattle.parking_lot_protocol.specs.declared.rw_phase.AfterWake.TheVariants.{FreedShared, FreedExclusive, Downgraded, AgainShared, AgainExclusive}
+use Rattle.parking_lot_protocol.specs.declared.rw_phase.Scanning.{Scanning}
+use Rattle.parking_lot_protocol.specs.declared.rw_phase.RwPhase.{RwPhase}
+use Rattle.parking_lot_protocol.specs.declared.rw_phase.RwPhase.TheVariants.{Locking, Trying, UnlockingShared, UnlockingExclusive, Downgrading, BumpingShared, BumpingExclusive, Loads, Admits, Spins, SetParked, Enters, Checks, Retreats, Appends, Rests, Sleeps, DrainLoads, DrainSpins, DrainSetParked, DrainEnters, DrainChecks, DrainRetreats, DrainAppends, DrainRests, DrainSleeps, TryLoads, TryAdmits, BumpLoads, Relocks, Unshares, EnterWriterWakeSection, TakeWriter, ClearWriterParked, LeaveWriterWakeSection, Unlocks, LooksExclusive, Downgrades, EnterWakeSection, Scans, Stores, Leaves, Wakes, Finishes, Invalid}
+use Rattle.parking_lot_protocol.specs.RwTable.{act_of, next_phase, is_parked, is_writer_parked, is_barred, has_readers, goes_on, scans, is_written, is_admitted, is_tried, seeks, drains, tries, begins, admits, bumps, over, wakes}
+use Rattle.parking_lot_protocol.specs.RwRules.{QueuePosition, Listed, Off, role, Move, Makes, move, admission, try_admission, IsTold}
 use Rattle.parking_lot_rules.specs.Clauses.{Fits}
-use Rattle.parking_lot_cores.specs.declared.rw_phase.Seeking.{Seeking}
-use Rattle.parking_lot_cores.specs.declared.rw_phase.Draining.{Draining}
-use Rattle.parking_lot_cores.specs.MutexTable.{bit}
+use Rattle.parking_lot_protocol.specs.declared.rw_phase.Seeking.{Seeking}
+use Rattle.parking_lot_protocol.specs.declared.rw_phase.Draining.{Draining}
+use Rattle.parking_lot_protocol.specs.MutexTable.{bit}
 use Rattle.parking_lot_world.specs.Stances.{rw_stance}
 use Rattle.parking_lot_world.specs.RowFits.{rw_knows}
 use Rattle.parking_lot_world.specs.RwLaws.{NobodyIs, act_crossing, move_crossing, in_first, in_second, ActsCross, FreeSectionsAreEmpty, Learns, ListsAreKnown}
@@ -36,33 +36,33 @@ use Rattle.parking_lot_world.proofs.RwKeeping.{one_of}
 abbrev IsQuietly : Move → Type 0
 IsQuietly m = move_crossing m ≡ crossings.Stays
 
-admits_quietly : (n : ℕ) (q : Want) (woken : Bool) → IsQuietly (Makes (admission n q woken))
+admits_quietly : (n : ℕ) (q : LockMode) (woken : Bool) → IsQuietly (Makes (admission n q woken))
 admits_quietly n (want.Shared recursive) woken = refl
 admits_quietly n want.Exclusive woken = refl
 
-tries_quietly : (n : ℕ) (q : Want) → IsQuietly (Makes (try_admission n q))
+tries_quietly : (n : ℕ) (q : LockMode) → IsQuietly (Makes (try_admission n q))
 tries_quietly n (want.Shared recursive) = refl
 tries_quietly n want.Exclusive = refl
 
-finishes_quietly : (rest : Rest) → crossings.Stays ≡ act_crossing (rw_stance (Finishes rest)) (act_of (Finishes rest))
+finishes_quietly : (rest : AfterWake) → crossings.Stays ≡ act_crossing (rw_stance (Finishes rest)) (act_of (Finishes rest))
 finishes_quietly FreedShared = refl
 finishes_quietly FreedExclusive = refl
 finishes_quietly Downgraded = refl
 finishes_quietly AgainShared = refl
 finishes_quietly AgainExclusive = refl
 
-crosses : (n : ℕ) (us : List ℕ) (p : RwPhase) (x : ℕ) (s : Seen) → IsTold p x s → move_crossing (move n us p s) ≡ act_crossing (rw_stance p) (act_of p)
+crosses : (n : ℕ) (us : List ℕ) (p : RwPhase) (x : ℕ) (s : ActResult) → IsTold p x s → move_crossing (move n us p s) ≡ act_crossing (rw_stance p) (act_of p)
 crosses n us (Admits a word) x seen.Exchanged told = admits_quietly n a.want a.woken
-crosses n us (Flags a word) x seen.Exchanged told = refl
+crosses n us (SetParked a word) x seen.Exchanged told = refl
 crosses n us (Checks a woken) x (seen.Word word) told = one_of IsQuietly (is_barred a word && is_parked word) _ _ refl refl
-crosses n us (Loads2 d) x (seen.Word word) told = one_of IsQuietly (has_readers word) _ _ refl refl
-crosses n us (Flags2 d flagged) x seen.Exchanged told = refl
-crosses n us (Flags2 d flagged) x (seen.Word word) told = one_of IsQuietly (has_readers word) _ _ refl refl
-crosses n us (Checks2 d) x (seen.Word word) told = one_of IsQuietly (has_readers word && is_writer_parked word) _ _ refl refl
+crosses n us (DrainLoads d) x (seen.Word word) told = one_of IsQuietly (has_readers word) _ _ refl refl
+crosses n us (DrainSetParked d flagged) x seen.Exchanged told = refl
+crosses n us (DrainSetParked d flagged) x (seen.Word word) told = one_of IsQuietly (has_readers word) _ _ refl refl
+crosses n us (DrainChecks d) x (seen.Word word) told = one_of IsQuietly (has_readers word && is_writer_parked word) _ _ refl refl
 crosses n us (Sleeps a) x (seen.Woken token) told = refl
 crosses n us (TryAdmits a word left) x seen.Exchanged told = tries_quietly n a
 crosses n us (Unshares rest) x (seen.Before word) told = one_of (λ k. IsQuietly (Makes k)) (word / 16 == 1 && is_writer_parked word) _ _ refl refl
-crosses n us (Takes2 rest) x (seen.Took (Some token) left) told = refl
+crosses n us (TakeWriter rest) x (seen.Took (Some token) left) told = refl
 crosses n us (Unlocks fair rest) x seen.Exchanged told = refl
 crosses n us Downgrades x (seen.Before word) told = refl
 crosses n us (Scans a) x (seen.Took (Some token) left) told = refl
@@ -70,20 +70,20 @@ crosses n us (Stores a left) x (seen.Stored fair) told = refl
 crosses n us (Finishes rest) x s told = finishes_quietly rest
 crosses n us p x s told = refl
 
-first_is : (n : ℕ) (spot : Spot) (us : List ℕ) (p : RwPhase) → weight Inside1 (role n spot us p) ≡ in_first (rw_stance p)
+first_is : (n : ℕ) (spot : QueuePosition) (us : List ℕ) (p : RwPhase) → weight Inside1 (role n spot us p) ≡ in_first (rw_stance p)
 unfolding weight
 first_is n Listed us (Sleeps want) = refl
 first_is n (Off by mark) us (Sleeps want) = refl
-first_is n Listed us (Sleeps2 rounds) = refl
-first_is n (Off by mark) us (Sleeps2 rounds) = refl
+first_is n Listed us (DrainSleeps rounds) = refl
+first_is n (Off by mark) us (DrainSleeps rounds) = refl
 first_is n spot us p = refl
 
-second_is : (n : ℕ) (spot : Spot) (us : List ℕ) (p : RwPhase) → weight Inside2 (role n spot us p) ≡ in_second (rw_stance p)
+second_is : (n : ℕ) (spot : QueuePosition) (us : List ℕ) (p : RwPhase) → weight Inside2 (role n spot us p) ≡ in_second (rw_stance p)
 unfolding weight
 second_is n Listed us (Sleeps want) = refl
 second_is n (Off by mark) us (Sleeps want) = refl
-second_is n Listed us (Sleeps2 rounds) = refl
-second_is n (Off by mark) us (Sleeps2 rounds) = refl
+second_is n Listed us (DrainSleeps rounds) = refl
+second_is n (Off by mark) us (DrainSleeps rounds) = refl
 second_is n spot us p = refl
 
 pub acts_cross : ActsCross
@@ -109,13 +109,13 @@ free_sections_are_empty f i l sound free is = (none First fits.inside1, none Sec
 abbrev IsCalm : RwPhase → Type 0
 IsCalm (Scans a) = ⊥
 IsCalm (Stores a left) = ⊥
-IsCalm (Masks2 rest taken) = ⊥
+IsCalm (ClearWriterParked rest taken) = ⊥
 IsCalm p = Unit {0}
 
 calm_knows : (p : RwPhase) (first second : List Waiter) → IsCalm p → rw_knows p first second
 calm_knows (Scans a) first second calm = absurd calm
 calm_knows (Stores a left) first second calm = absurd calm
-calm_knows (Masks2 rest taken) first second calm = absurd calm
+calm_knows (ClearWriterParked rest taken) first second calm = absurd calm
 calm_knows p first second calm = tt
 
 seeks_calm : (a : Seeking) (word : ℕ) → IsCalm (seeks a word)
@@ -127,28 +127,28 @@ seeks_calm a word =
 drains_calm : (d : Draining) (word : ℕ) → IsCalm (drains d word)
 drains_calm d word = one_of IsCalm (has_readers word) _ _ (one_of IsCalm (nat_lt 0 d.rounds) _ _ tt (one_of IsCalm (is_writer_parked word) _ _ tt tt)) tt
 
-admits_calm : (want : Want) (woken : Bool) → IsCalm (admits want woken)
+admits_calm : (want : LockMode) (woken : Bool) → IsCalm (admits want woken)
 admits_calm (want.Shared recursive) woken = tt
 admits_calm want.Exclusive woken = tt
 
-tries_calm : (want : Want) (left word : ℕ) → IsCalm (tries want left word)
+tries_calm : (want : LockMode) (left word : ℕ) → IsCalm (tries want left word)
 tries_calm want left word = one_of IsCalm (is_tried want word) _ _ tt tt
 
-bumps_calm : (want : Want) (word : ℕ) → IsCalm (bumps want word)
+bumps_calm : (want : LockMode) (word : ℕ) → IsCalm (bumps want word)
 bumps_calm (want.Shared recursive) word = one_of IsCalm (is_written word) _ _ tt tt
 bumps_calm want.Exclusive word = one_of IsCalm (is_parked word) _ _ tt tt
 
-over_calm : (rest : Rest) → IsCalm (over rest)
+over_calm : (rest : AfterWake) → IsCalm (over rest)
 over_calm FreedShared = tt
 over_calm FreedExclusive = tt
 over_calm Downgraded = tt
 over_calm AgainShared = tt
 over_calm AgainExclusive = tt
 
-wakes_calm : (rest : Rest) (count : ℕ) → IsCalm (wakes rest count)
+wakes_calm : (rest : AfterWake) (count : ℕ) → IsCalm (wakes rest count)
 wakes_calm rest count = one_of IsCalm (nat_lt 0 count) _ _ tt tt
 
-finishes_calm : (rest : Rest) (x : ℕ) (s : Seen) → IsTold (Finishes rest) x s → IsCalm (next_phase (Finishes rest) s)
+finishes_calm : (rest : AfterWake) (x : ℕ) (s : ActResult) → IsTold (Finishes rest) x s → IsCalm (next_phase (Finishes rest) s)
 finishes_calm AgainShared x (seen.Word v) told = tt
 finishes_calm AgainExclusive x (seen.Word v) told = tt
 finishes_calm rest x s told = absurd told
@@ -163,18 +163,18 @@ goes_knows s left first second u e = go left s.writer e refl
     go false b e w = (u, e, inr refl)
 
 abbrev KnowsAt : Scanning → Bool → List Waiter → List Waiter → ℕ → Type 0
-KnowsAt a left first second y = rw_knows (option_map_or (λ q. q) (scans a (Some (record { 0 = y })) left) Strays) first second
+KnowsAt a left first second y = rw_knows (option_map_or (λ q. q) (scans a (Some (record { 0 = y })) left) Invalid) first second
 
 takes_knows : (a : Scanning) (left : Bool) (token : ParkToken) (first second : List Waiter) → a.upgradable ≡ false → (token.0 ≡ 16) ⊎ (token.0 ≡ 8) → is_left first ≡ left → KnowsAt a left first second token.0
 takes_knows a left token first second u (inl e) same = subst (KnowsAt a left first second) (sym e) (goes_knows (record a { shared = min (a.shared + 1) (2 ^ 32 - 1) }) left first second u same)
 takes_knows a left token first second u (inr e) same = subst (KnowsAt a left first second) (sym e) (goes_knows (record a { writer = true }) left first second u same)
 
-knows_next : (p : RwPhase) (x : ℕ) (s : Seen) (old1 old2 first second : List Waiter) → IsTold p x s → rw_knows p old1 old2 → Learns p s first second → rw_knows (next_phase p s) first second
+knows_next : (p : RwPhase) (x : ℕ) (s : ActResult) (old1 old2 first second : List Waiter) → IsTold p x s → rw_knows p old1 old2 → Learns p s first second → rw_knows (next_phase p s) first second
 knows_next (Scans a) x (seen.Took (Some token) left) old1 old2 first second told k h = takes_knows a left token first second k h.0 h.1
 knows_next (Scans a) x (seen.Took None left) old1 old2 first second told k h = (k, h.0, inr h.1)
-knows_next (Takes2 rest) x (seen.Took token left) old1 old2 first second told k h = h
+knows_next (TakeWriter rest) x (seen.Took token left) old1 old2 first second told k h = h
 knows_next (LooksExclusive fair rest) x seen.Entered old1 old2 first second told k h = refl
-knows_next Owes x seen.Entered old1 old2 first second told k h = refl
+knows_next EnterWakeSection x seen.Entered old1 old2 first second told k h = refl
 knows_next (Locking want) x seen.Start old1 old2 first second told k h = tt
 knows_next (Trying want) x seen.Start old1 old2 first second told k h = tt
 knows_next UnlockingShared x seen.Start old1 old2 first second told k h = tt
@@ -186,33 +186,33 @@ knows_next (Loads a) x (seen.Word v) old1 old2 first second told k h = calm_know
 knows_next (Admits a word) x seen.Exchanged old1 old2 first second told k h = calm_knows (next_phase (Admits a word) seen.Exchanged) first second (admits_calm a.want false)
 knows_next (Admits a word) x (seen.Word v) old1 old2 first second told k h = calm_knows (next_phase (Admits a word) (seen.Word v)) first second (seeks_calm a v)
 knows_next (Spins a) x (seen.Spun spun) old1 old2 first second told k h = tt
-knows_next (Flags a word) x seen.Exchanged old1 old2 first second told k h = tt
-knows_next (Flags a word) x (seen.Word v) old1 old2 first second told k h = calm_knows (next_phase (Flags a word) (seen.Word v)) first second (seeks_calm a v)
+knows_next (SetParked a word) x seen.Exchanged old1 old2 first second told k h = tt
+knows_next (SetParked a word) x (seen.Word v) old1 old2 first second told k h = calm_knows (next_phase (SetParked a word) (seen.Word v)) first second (seeks_calm a v)
 knows_next (Enters want woken) x seen.Entered old1 old2 first second told k h = tt
 knows_next (Checks want woken) x (seen.Word v) old1 old2 first second told k h = calm_knows (next_phase (Checks want woken) (seen.Word v)) first second (one_of IsCalm (is_barred want v && is_parked v) _ _ tt tt)
 knows_next (Retreats want woken) x seen.Made old1 old2 first second told k h = tt
 knows_next (Appends want) x seen.Made old1 old2 first second told k h = tt
 knows_next (Rests want) x seen.Made old1 old2 first second told k h = tt
 knows_next (Sleeps want) x (seen.Woken token) old1 old2 first second told k h = calm_knows (next_phase (Sleeps want) (seen.Woken token)) first second (one_of IsCalm (token.0 == 1) _ _ (admits_calm want true) tt)
-knows_next (Loads2 d) x (seen.Word v) old1 old2 first second told k h = calm_knows (next_phase (Loads2 d) (seen.Word v)) first second (drains_calm d v)
-knows_next (Spins2 d) x (seen.Spun spun) old1 old2 first second told k h = tt
-knows_next (Flags2 d word) x seen.Exchanged old1 old2 first second told k h = tt
-knows_next (Flags2 d word) x (seen.Word v) old1 old2 first second told k h = calm_knows (next_phase (Flags2 d word) (seen.Word v)) first second (drains_calm d v)
-knows_next (Enters2 d) x seen.Entered old1 old2 first second told k h = tt
-knows_next (Checks2 d) x (seen.Word v) old1 old2 first second told k h = calm_knows (next_phase (Checks2 d) (seen.Word v)) first second (one_of IsCalm (has_readers v && is_writer_parked v) _ _ tt tt)
-knows_next (Retreats2 d) x seen.Made old1 old2 first second told k h = tt
-knows_next (Appends2 rounds) x seen.Made old1 old2 first second told k h = tt
-knows_next (Rests2 rounds) x seen.Made old1 old2 first second told k h = tt
-knows_next (Sleeps2 rounds) x (seen.Woken token) old1 old2 first second told k h = tt
+knows_next (DrainLoads d) x (seen.Word v) old1 old2 first second told k h = calm_knows (next_phase (DrainLoads d) (seen.Word v)) first second (drains_calm d v)
+knows_next (DrainSpins d) x (seen.Spun spun) old1 old2 first second told k h = tt
+knows_next (DrainSetParked d word) x seen.Exchanged old1 old2 first second told k h = tt
+knows_next (DrainSetParked d word) x (seen.Word v) old1 old2 first second told k h = calm_knows (next_phase (DrainSetParked d word) (seen.Word v)) first second (drains_calm d v)
+knows_next (DrainEnters d) x seen.Entered old1 old2 first second told k h = tt
+knows_next (DrainChecks d) x (seen.Word v) old1 old2 first second told k h = calm_knows (next_phase (DrainChecks d) (seen.Word v)) first second (one_of IsCalm (has_readers v && is_writer_parked v) _ _ tt tt)
+knows_next (DrainRetreats d) x seen.Made old1 old2 first second told k h = tt
+knows_next (DrainAppends rounds) x seen.Made old1 old2 first second told k h = tt
+knows_next (DrainRests rounds) x seen.Made old1 old2 first second told k h = tt
+knows_next (DrainSleeps rounds) x (seen.Woken token) old1 old2 first second told k h = tt
 knows_next (TryLoads want) x (seen.Word v) old1 old2 first second told k h = calm_knows (next_phase (TryLoads want) (seen.Word v)) first second (tries_calm want 63 v)
 knows_next (TryAdmits want word left) x seen.Exchanged old1 old2 first second told k h = tt
 knows_next (TryAdmits want word left) x (seen.Word v) old1 old2 first second told k h = calm_knows (next_phase (TryAdmits want word left) (seen.Word v)) first second (one_of IsCalm (nat_lt 0 left) _ _ (tries_calm want (left - 1) v) tt)
 knows_next (BumpLoads want) x (seen.Word v) old1 old2 first second told k h = calm_knows (next_phase (BumpLoads want) (seen.Word v)) first second (bumps_calm want v)
 knows_next (Relocks want) x (seen.Word v) old1 old2 first second told k h = calm_knows (next_phase (Relocks want) (seen.Word v)) first second (seeks_calm (begins want false) v)
 knows_next (Unshares rest) x (seen.Before v) old1 old2 first second told k h = calm_knows (next_phase (Unshares rest) (seen.Before v)) first second (one_of IsCalm (v / 16 == 1 && is_writer_parked v) _ _ tt (over_calm rest))
-knows_next (Owes2 rest) x seen.Entered old1 old2 first second told k h = tt
-knows_next (Masks2 rest taken) x (seen.Before v) old1 old2 first second told k h = tt
-knows_next (Leaves2 rest taken) x seen.Made old1 old2 first second told k h = calm_knows (next_phase (Leaves2 rest taken) seen.Made) first second (wakes_calm rest (bit taken))
+knows_next (EnterWriterWakeSection rest) x seen.Entered old1 old2 first second told k h = tt
+knows_next (ClearWriterParked rest taken) x (seen.Before v) old1 old2 first second told k h = tt
+knows_next (LeaveWriterWakeSection rest taken) x seen.Made old1 old2 first second told k h = calm_knows (next_phase (LeaveWriterWakeSection rest taken) seen.Made) first second (wakes_calm rest (bit taken))
 knows_next (Unlocks fair rest) x seen.Exchanged old1 old2 first second told k h = calm_knows (next_phase (Unlocks fair rest) seen.Exchanged) first second (over_calm rest)
 knows_next (Unlocks fair rest) x (seen.Word v) old1 old2 first second told k h = tt
 knows_next Downgrades x (seen.Before v) old1 old2 first second told k h = calm_knows (next_phase Downgrades (seen.Before v)) first second (one_of IsCalm (is_parked v) _ _ tt tt)

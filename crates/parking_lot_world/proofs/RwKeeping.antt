@@ -11,19 +11,19 @@ use Rattle.parking_lot_rules.specs.Roles.{Owned, Role}
 use Rattle.parking_lot_rules.specs.Roles as rules
 use Rattle.parking_lot_rules.specs.ReadLock.{word_of}
 use Rattle.parking_lot_rules.specs.Lock.{Lock, IsSound}
-use Rattle.parking_lot_cores.specs.declared.act.Seen.{Seen}
-use Rattle.parking_lot_cores.specs.declared.act.Seen.TheVariants as seen
-use Rattle.parking_lot_cores.specs.declared.rw_phase.Want.{Want}
-use Rattle.parking_lot_cores.specs.declared.rw_phase.Want.TheVariants.{Shared, Exclusive}
-use Rattle.parking_lot_cores.specs.declared.rw_phase.Rest.{Rest}
-use Rattle.parking_lot_cores.specs.declared.rw_phase.Rest.TheVariants.{FreedShared, FreedExclusive, Downgraded, AgainShared, AgainExclusive}
-use Rattle.parking_lot_cores.specs.declared.rw_phase.Seeking.{Seeking}
-use Rattle.parking_lot_cores.specs.declared.rw_phase.Draining.{Draining}
-use Rattle.parking_lot_cores.specs.declared.rw_phase.Scanning.{Scanning}
-use Rattle.parking_lot_cores.specs.declared.rw_phase.RwPhase.{RwPhase}
-use Rattle.parking_lot_cores.specs.declared.rw_phase.RwPhase.TheVariants.{Locking, Trying, UnlockingShared, UnlockingExclusive, Downgrading, BumpingShared, BumpingExclusive, Loads, Admits, Spins, Flags, Enters, Checks, Retreats, Appends, Rests, Sleeps, Loads2, Spins2, Flags2, Enters2, Checks2, Retreats2, Appends2, Rests2, Sleeps2, TryLoads, TryAdmits, BumpLoads, Relocks, Unshares, Owes2, Takes2, Masks2, Leaves2, Unlocks, LooksExclusive, Downgrades, Owes, Scans, Stores, Leaves, Wakes, Finishes, Ends, Strays}
-use Rattle.parking_lot_cores.specs.RwTable.{is_parked, is_writer_parked, is_written, has_readers, is_barred, is_admitted, is_tried, seeks, drains, tries, begins, admits, bumps, over, wakes, goes_on, scans, next_phase}
-use Rattle.parking_lot_cores.specs.RwRules.{Spot, role, IsTold, IsToken, MayAsk, gives_exclusive}
+use Rattle.parking_lot_protocol.specs.declared.act.ActResult.{ActResult}
+use Rattle.parking_lot_protocol.specs.declared.act.ActResult.TheVariants as seen
+use Rattle.parking_lot_protocol.specs.declared.rw_phase.LockMode.{LockMode}
+use Rattle.parking_lot_protocol.specs.declared.rw_phase.LockMode.TheVariants.{Shared, Exclusive}
+use Rattle.parking_lot_protocol.specs.declared.rw_phase.AfterWake.{AfterWake}
+use Rattle.parking_lot_protocol.specs.declared.rw_phase.AfterWake.TheVariants.{FreedShared, FreedExclusive, Downgraded, AgainShared, AgainExclusive}
+use Rattle.parking_lot_protocol.specs.declared.rw_phase.Seeking.{Seeking}
+use Rattle.parking_lot_protocol.specs.declared.rw_phase.Draining.{Draining}
+use Rattle.parking_lot_protocol.specs.declared.rw_phase.Scanning.{Scanning}
+use Rattle.parking_lot_protocol.specs.declared.rw_phase.RwPhase.{RwPhase}
+use Rattle.parking_lot_protocol.specs.declared.rw_phase.RwPhase.TheVariants.{Locking, Trying, UnlockingShared, UnlockingExclusive, Downgrading, BumpingShared, BumpingExclusive, Loads, Admits, Spins, SetParked, Enters, Checks, Retreats, Appends, Rests, Sleeps, DrainLoads, DrainSpins, DrainSetParked, DrainEnters, DrainChecks, DrainRetreats, DrainAppends, DrainRests, DrainSleeps, TryLoads, TryAdmits, BumpLoads, Relocks, Unshares, EnterWriterWakeSection, TakeWriter, ClearWriterParked, LeaveWriterWakeSection, Unlocks, LooksExclusive, Downgrades, EnterWakeSection, Scans, Stores, Leaves, Wakes, Finishes, Ends, Invalid}
+use Rattle.parking_lot_protocol.specs.RwTable.{is_parked, is_writer_parked, is_written, has_readers, is_barred, is_admitted, is_tried, seeks, drains, tries, begins, admits, bumps, over, wakes, goes_on, scans, next_phase}
+use Rattle.parking_lot_protocol.specs.RwRules.{QueuePosition, role, IsTold, IsToken, MayAsk, gives_exclusive}
 use Rattle.parking_lot_world.specs.RowFits.{rw_prepared, rw_keeps, rest_keeps}
 use Rattle.parking_lot_world.specs.RwLaws.{rw_begins, count_shared, CallsKeep}
 
@@ -36,7 +36,7 @@ module _ (n : ℕ) where
   abbrev Keeps : RwPhase → Type 0
   Keeps p = rw_keeps n p
 
-  abbrev Asks : Want → Type 0
+  abbrev Asks : LockMode → Type 0
   Asks want = MayAsk false n want (word_of 0)
 
   seeks_keeps : (a : Seeking) (word : ℕ) → Asks a.want → Keeps (seeks a word)
@@ -48,33 +48,33 @@ module _ (n : ℕ) where
   drains_keeps : (d : Draining) (word : ℕ) → n ≡ 0 → Keeps (drains d word)
   drains_keeps d word k = one_of Keeps (has_readers word) _ _ (one_of Keeps (nat_lt 0 d.rounds) _ _ k (one_of Keeps (is_writer_parked word) _ _ k k)) tt
 
-  admits_keeps : (want : Want) (woken : Bool) → Asks want → Keeps (admits want woken)
+  admits_keeps : (want : LockMode) (woken : Bool) → Asks want → Keeps (admits want woken)
   admits_keeps (Shared recursive) woken k = tt
   admits_keeps Exclusive woken k = k
 
-  tries_keeps : (want : Want) (left word : ℕ) → Asks want → Keeps (tries want left word)
+  tries_keeps : (want : LockMode) (left word : ℕ) → Asks want → Keeps (tries want left word)
   tries_keeps want left word k = one_of Keeps (is_tried want word) _ _ k k
 
-  bumps_keeps : (want : Want) (word : ℕ) → n ≡ 0 → Keeps (bumps want word)
+  bumps_keeps : (want : LockMode) (word : ℕ) → n ≡ 0 → Keeps (bumps want word)
   bumps_keeps (Shared recursive) word k = one_of Keeps (is_written word) _ _ k tt
   bumps_keeps Exclusive word k = one_of Keeps (is_parked word) _ _ k tt
 
   -- one that has no other hold
-  zero_keeps : (rest : Rest) → n ≡ 0 → rest_keeps n rest
+  zero_keeps : (rest : AfterWake) → n ≡ 0 → rest_keeps n rest
   zero_keeps FreedShared k = tt
   zero_keeps FreedExclusive k = k
   zero_keeps Downgraded k = tt
   zero_keeps AgainShared k = k
   zero_keeps AgainExclusive k = k
 
-  over_keeps : (rest : Rest) → rest_keeps n rest → Keeps (over rest)
+  over_keeps : (rest : AfterWake) → rest_keeps n rest → Keeps (over rest)
   over_keeps FreedShared k = tt
   over_keeps FreedExclusive k = tt
   over_keeps Downgraded k = tt
   over_keeps AgainShared k = k
   over_keeps AgainExclusive k = k
 
-  wakes_keeps : (rest : Rest) (count : ℕ) → rest_keeps n rest → Keeps (wakes rest count)
+  wakes_keeps : (rest : AfterWake) (count : ℕ) → rest_keeps n rest → Keeps (wakes rest count)
   wakes_keeps rest count k = one_of Keeps (nat_lt 0 count) _ _ k k
 
   goes_keeps : (s : Scanning) (left : Bool) → rest_keeps n s.rest → Keeps (goes_on left s)
@@ -86,7 +86,7 @@ module _ (n : ℕ) where
       go false b e = k
 
   abbrev KeepsAt : Scanning → Bool → ℕ → Type 0
-  KeepsAt a left y = Keeps (option_map_or (λ q. q) (scans a (Some (record { 0 = y })) left) Strays)
+  KeepsAt a left y = Keeps (option_map_or (λ q. q) (scans a (Some (record { 0 = y })) left) Invalid)
 
   takes_keeps : (a : Scanning) (left : Bool) (token : ParkToken) → rest_keeps n a.rest → IsToken (Some token) → Keeps (next_phase (Scans a) (seen.Took (Some token) left))
   takes_keeps a left token k t = by_token t
@@ -96,49 +96,49 @@ module _ (n : ℕ) where
       by_token (inr (inl e)) = subst (KeepsAt a left) (sym e) (goes_keeps (record a { writer = true }) left k)
       by_token (inr (inr e)) = subst (KeepsAt a left) (sym e) (goes_keeps (record a { upgradable = true }) left k)
 
-  finishes_keeps : (rest : Rest) (x : ℕ) (s : Seen) → rest_keeps n rest → IsTold (Finishes rest) x s → Keeps (next_phase (Finishes rest) s)
+  finishes_keeps : (rest : AfterWake) (x : ℕ) (s : ActResult) → rest_keeps n rest → IsTold (Finishes rest) x s → Keeps (next_phase (Finishes rest) s)
   finishes_keeps AgainShared x (seen.Word v) k told = k
   finishes_keeps AgainExclusive x (seen.Word v) k told = k
   finishes_keeps rest x s k told = absurd told
 
-  keeps_on : (p : RwPhase) (x : ℕ) (s : Seen) → Keeps p → IsTold p x s → Keeps (next_phase p s)
+  keeps_on : (p : RwPhase) (x : ℕ) (s : ActResult) → Keeps p → IsTold p x s → Keeps (next_phase p s)
   keeps_on (Loads a) x (seen.Word v) k told = seeks_keeps a v k
   keeps_on (Admits a word) x seen.Exchanged k told = admits_keeps a.want false k
   keeps_on (Admits a word) x (seen.Word v) k told = seeks_keeps a v k
   keeps_on (Spins a) x (seen.Spun spun) k told = k
-  keeps_on (Flags a word) x seen.Exchanged k told = k
-  keeps_on (Flags a word) x (seen.Word v) k told = seeks_keeps a v k
+  keeps_on (SetParked a word) x seen.Exchanged k told = k
+  keeps_on (SetParked a word) x (seen.Word v) k told = seeks_keeps a v k
   keeps_on (Enters want woken) x seen.Entered k told = k
   keeps_on (Checks want woken) x (seen.Word v) k told = one_of Keeps (is_barred want v && is_parked v) _ _ k k
   keeps_on (Retreats want woken) x seen.Made k told = k
   keeps_on (Appends want) x seen.Made k told = k
   keeps_on (Rests want) x seen.Made k told = k
   keeps_on (Sleeps want) x (seen.Woken token) k told = one_of Keeps (token.0 == 1) _ _ (admits_keeps want true k) k
-  keeps_on (Loads2 d) x (seen.Word v) k told = drains_keeps d v k
-  keeps_on (Spins2 d) x (seen.Spun spun) k told = k
-  keeps_on (Flags2 d word) x seen.Exchanged k told = k
-  keeps_on (Flags2 d word) x (seen.Word v) k told = drains_keeps d v k
-  keeps_on (Enters2 d) x seen.Entered k told = k
-  keeps_on (Checks2 d) x (seen.Word v) k told = one_of Keeps (has_readers v && is_writer_parked v) _ _ k k
-  keeps_on (Retreats2 d) x seen.Made k told = k
-  keeps_on (Appends2 rounds) x seen.Made k told = k
-  keeps_on (Rests2 rounds) x seen.Made k told = k
-  keeps_on (Sleeps2 rounds) x (seen.Woken token) k told = k
+  keeps_on (DrainLoads d) x (seen.Word v) k told = drains_keeps d v k
+  keeps_on (DrainSpins d) x (seen.Spun spun) k told = k
+  keeps_on (DrainSetParked d word) x seen.Exchanged k told = k
+  keeps_on (DrainSetParked d word) x (seen.Word v) k told = drains_keeps d v k
+  keeps_on (DrainEnters d) x seen.Entered k told = k
+  keeps_on (DrainChecks d) x (seen.Word v) k told = one_of Keeps (has_readers v && is_writer_parked v) _ _ k k
+  keeps_on (DrainRetreats d) x seen.Made k told = k
+  keeps_on (DrainAppends rounds) x seen.Made k told = k
+  keeps_on (DrainRests rounds) x seen.Made k told = k
+  keeps_on (DrainSleeps rounds) x (seen.Woken token) k told = k
   keeps_on (TryLoads want) x (seen.Word v) k told = tries_keeps want 63 v k
   keeps_on (TryAdmits want word left) x seen.Exchanged k told = tt
   keeps_on (TryAdmits want word left) x (seen.Word v) k told = one_of Keeps (nat_lt 0 left) _ _ (tries_keeps want (left - 1) v k) k
   keeps_on (BumpLoads want) x (seen.Word v) k told = bumps_keeps want v k
   keeps_on (Relocks want) x (seen.Word v) k told = seeks_keeps (begins want false) v k
   keeps_on (Unshares rest) x (seen.Before v) k told = one_of Keeps (v / 16 == 1 && is_writer_parked v) _ _ k (over_keeps rest k)
-  keeps_on (Owes2 rest) x seen.Entered k told = k
-  keeps_on (Takes2 rest) x (seen.Took token left) k told = k
-  keeps_on (Masks2 rest taken) x (seen.Before v) k told = k
-  keeps_on (Leaves2 rest taken) x seen.Made k told = wakes_keeps rest _ k
+  keeps_on (EnterWriterWakeSection rest) x seen.Entered k told = k
+  keeps_on (TakeWriter rest) x (seen.Took token left) k told = k
+  keeps_on (ClearWriterParked rest taken) x (seen.Before v) k told = k
+  keeps_on (LeaveWriterWakeSection rest taken) x seen.Made k told = wakes_keeps rest _ k
   keeps_on (Unlocks fair rest) x seen.Exchanged k told = over_keeps rest (zero_keeps rest k)
   keeps_on (Unlocks fair rest) x (seen.Word v) k told = k
   keeps_on (LooksExclusive fair rest) x seen.Entered k told = (zero_keeps rest k, refl)
   keeps_on Downgrades x (seen.Before v) k told = one_of Keeps (is_parked v) _ _ tt tt
-  keeps_on Owes x seen.Entered k told = (tt, refl)
+  keeps_on EnterWakeSection x seen.Entered k told = (tt, refl)
   keeps_on (Scans a) x (seen.Took (Some token) left) k told = takes_keeps a left token k.0 told
   keeps_on (Scans a) x (seen.Took None left) k told = k.0
   keeps_on (Stores a left) x (seen.Stored fair) k told = k
@@ -152,7 +152,7 @@ module _ (n : ℕ) where
   keeps_on Downgrading x s k told = absurd k
   keeps_on BumpingShared x s k told = absurd k
   keeps_on BumpingExclusive x s k told = absurd k
-  keeps_on Strays x s k told = absurd k
+  keeps_on Invalid x s k told = absurd k
   keeps_on p x s k told = absurd told
 
   begins_keep : (p : RwPhase) → rw_begins n p → Keeps (next_phase p seen.Start)
@@ -166,12 +166,12 @@ module _ (n : ℕ) where
   begins_keep p m = absurd m
 
   -- one that may ask has nothing
-  asks_nothing : (want : Want) → Asks want → n ≡ 0
+  asks_nothing : (want : LockMode) → Asks want → n ≡ 0
   asks_nothing (Shared true) k = absurd (both_ways false refl k.0)
   asks_nothing (Shared false) k = k
   asks_nothing Exclusive k = k
 
-  gives_nothing : (rest : Rest) → rest_keeps n rest → gives_exclusive rest ≡ true → n ≡ 0
+  gives_nothing : (rest : AfterWake) → rest_keeps n rest → gives_exclusive rest ≡ true → n ≡ 0
   gives_nothing FreedExclusive k e = k
   gives_nothing AgainExclusive k e = k
   gives_nothing rest k e = absurd (both_ways false refl e)
@@ -189,12 +189,12 @@ module _ (n : ℕ) where
   prepares us (Sleeps want) k e few = asks_nothing want k
   prepares us (BumpLoads want) k e few = tt
   prepares us (Unshares rest) k e few = tt
-  prepares us (Owes2 rest) k e few = tt
-  prepares us (Takes2 rest) k e few = no_length us e
-  prepares us (Masks2 rest taken) k e few = tt
-  prepares us (Leaves2 rest taken) k e few = tt
+  prepares us (EnterWriterWakeSection rest) k e few = tt
+  prepares us (TakeWriter rest) k e few = no_length us e
+  prepares us (ClearWriterParked rest taken) k e few = tt
+  prepares us (LeaveWriterWakeSection rest taken) k e few = tt
   prepares us (LooksExclusive fair rest) k e few = no_length us e
-  prepares us Owes k e few = no_length us e
+  prepares us EnterWakeSection k e few = no_length us e
   prepares us (Scans s) k e few = omega arith
   prepares us (Stores s left) k e few = (omega arith, e)
   prepares us (Leaves rest count handed) k e few = tt
@@ -207,7 +207,7 @@ module _ (n : ℕ) where
   prepares us Downgrading k e few = absurd k
   prepares us BumpingShared k e few = absurd k
   prepares us BumpingExclusive k e few = absurd k
-  prepares us Strays k e few = absurd k
+  prepares us Invalid k e few = absurd k
   prepares us Downgrades k e few = tt
   prepares us (Ends o) k e few = tt
   prepares us p k e few = k
@@ -236,7 +236,7 @@ scan_weighs o c n u w us = omega arith
 scans_few : (l : Lock) (t : ℕ) (o : Owned) (c : rules.Cause) (n : ℕ) (u w : Bool) (us : List ℕ) → IsSound l → slice_get l.roles t ≡ Some (record { owns = o; does = rules.Scans1 c n u w us }) → n ≤ length l.roles
 scans_few l t o c n u w us h at = omega (arith, h.fits.taken_readers, total-at l.roles t _ at TakenReaders, scan_weighs o c n u w us, all_most l.roles)
 
-few_counted : (l : Lock) (t n : ℕ) (spot : Spot) (us : List ℕ) (p : RwPhase) → IsSound l → slice_get l.roles t ≡ Some (role n spot us p) → count_shared p ≤ length l.roles
+few_counted : (l : Lock) (t n : ℕ) (spot : QueuePosition) (us : List ℕ) (p : RwPhase) → IsSound l → slice_get l.roles t ≡ Some (role n spot us p) → count_shared p ≤ length l.roles
 few_counted l t n spot us (Scans s) h at = scans_few l t _ _ s.shared _ _ us h at
 few_counted l t n spot us (Stores s left) h at = scans_few l t _ _ s.shared _ _ us h at
 few_counted l t n spot us p h at = omega arith

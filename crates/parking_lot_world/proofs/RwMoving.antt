@@ -14,18 +14,18 @@ use Rattle.parking_lot_rules.specs.Lock.{Lock, IsSound}
 use Rattle.parking_lot_rules.specs.Steps.{Alone, after}
 use Rattle.parking_lot_rules.proofs.Totals.{total-at}
 use Rattle.parking_lot_rules.proofs.Sounds.{step_sound}
-use Rattle.parking_lot_cores.specs.declared.act.Seen.{Seen}
-use Rattle.parking_lot_cores.specs.declared.act.Seen.TheVariants as seen
-use Rattle.parking_lot_cores.specs.declared.rw_phase.Want.{Want}
-use Rattle.parking_lot_cores.specs.declared.rw_phase.Want.TheVariants as want
-use Rattle.parking_lot_cores.specs.declared.rw_phase.RwPhase.{RwPhase}
-use Rattle.parking_lot_cores.specs.declared.rw_phase.Draining.{Draining}
-use Rattle.parking_lot_cores.specs.declared.rw_phase.RwPhase.TheVariants.{Locking, Trying, Loads, Admits, Spins, Flags, Enters, Checks, Sleeps, Loads2, Flags2, Enters2, Checks2, Sleeps2, TryLoads, TryAdmits, Refuses, Relocks, Unshares, Owes2, Takes2, Masks2, Unlocks, LooksExclusive, Downgrades, Owes, Scans, Stores, Appends, Appends2}
-use Rattle.parking_lot_cores.specs.Acts.{word_after}
-use Rattle.parking_lot_cores.specs.RwTable.{act_of, next_phase, is_parked, is_writer_parked, is_barred, has_readers}
-use Rattle.parking_lot_cores.specs.RwRules.{Spot, Listed, role, Move, Stays, Makes, IsWoken, move, admission, try_admission, mode_of, IsMove, IsReady, IsTold, MayAsk, Fits}
-use Rattle.parking_lot_cores.proofs.RwWords.{parts}
-use Rattle.parking_lot_cores.proofs.RwFollowing.{follows}
+use Rattle.parking_lot_protocol.specs.declared.act.ActResult.{ActResult}
+use Rattle.parking_lot_protocol.specs.declared.act.ActResult.TheVariants as seen
+use Rattle.parking_lot_protocol.specs.declared.rw_phase.LockMode.{LockMode}
+use Rattle.parking_lot_protocol.specs.declared.rw_phase.LockMode.TheVariants as want
+use Rattle.parking_lot_protocol.specs.declared.rw_phase.RwPhase.{RwPhase}
+use Rattle.parking_lot_protocol.specs.declared.rw_phase.Draining.{Draining}
+use Rattle.parking_lot_protocol.specs.declared.rw_phase.RwPhase.TheVariants.{Locking, Trying, Loads, Admits, Spins, SetParked, Enters, Checks, Sleeps, DrainLoads, DrainSetParked, DrainEnters, DrainChecks, DrainSleeps, TryLoads, TryAdmits, Refuses, Relocks, Unshares, EnterWriterWakeSection, TakeWriter, ClearWriterParked, Unlocks, LooksExclusive, Downgrades, EnterWakeSection, Scans, Stores, Appends, DrainAppends}
+use Rattle.parking_lot_protocol.specs.Acts.{word_after}
+use Rattle.parking_lot_protocol.specs.RwTable.{act_of, next_phase, is_parked, is_writer_parked, is_barred, has_readers}
+use Rattle.parking_lot_protocol.specs.RwRules.{QueuePosition, Listed, role, Move, Stays, Makes, IsWoken, move, admission, try_admission, mode_of, IsMove, IsReady, IsTold, MayAsk, Fits}
+use Rattle.parking_lot_protocol.proofs.RwWords.{parts}
+use Rattle.parking_lot_protocol.proofs.RwFollowing.{follows}
 use Rattle.parking_lot_world.specs.RowFits.{rw_prepared}
 use Rattle.parking_lot_world.specs.RwLaws.{WordsAreNumbers, Meets, IsMoved, AnswersAreMoves, NobodyIs, Finds, StaysAreSteps, MakesAreSteps, JoinsAreSteps}
 
@@ -74,7 +74,7 @@ total_most k (r ∷ rs) few =
 
 -- WHAT FITS A PHASE
 
-asks : (n : ℕ) (want : Want) (w v : Word) → MayAsk false n want w → MayAsk false n want v
+asks : (n : ℕ) (want : LockMode) (w v : Word) → MayAsk false n want w → MayAsk false n want v
 asks n (want.Shared true) w v m = absurd (both_ways false refl m.0)
 asks n (want.Shared false) w v m = m
 asks n want.Exclusive w v m = m
@@ -87,13 +87,13 @@ writes_weigh : weight Writers (record { owns = Excludes; does = rules.Idle }) �
 unfolding weight
 writes_weigh = refl
 
-fits_word : (l : Lock) (t n : ℕ) (spot : Spot) (us : List ℕ) (p : RwPhase) → IsSound l → slice_get l.roles t ≡ Some (role n spot us p) → rw_prepared n us p → Fits false n us p l.word
+fits_word : (l : Lock) (t n : ℕ) (spot : QueuePosition) (us : List ℕ) (p : RwPhase) → IsSound l → slice_get l.roles t ≡ Some (role n spot us p) → rw_prepared n us p → Fits false n us p l.word
 fits_word l t n spot us (Locking a) h at m = asks n a (word_of 0) l.word m
 fits_word l t n spot us (Trying a) h at m = asks n a (word_of 0) l.word m
 fits_word l t n spot us (Loads a) h at m = asks n a.want (word_of 0) l.word m
 fits_word l t n spot us (Admits a word) h at m = asks n a.want (word_of 0) l.word m
 fits_word l t n spot us (Spins a) h at m = asks n a.want (word_of 0) l.word m
-fits_word l t n spot us (Flags a word) h at m = asks n a.want (word_of 0) l.word m
+fits_word l t n spot us (SetParked a word) h at m = asks n a.want (word_of 0) l.word m
 fits_word l t n spot us (TryLoads a) h at m = asks n a (word_of 0) l.word m
 fits_word l t n spot us (TryAdmits a word left) h at m = asks n a (word_of 0) l.word m
 fits_word l t n spot us (Refuses a) h at m = asks n a (word_of 0) l.word m
@@ -109,7 +109,7 @@ fits_word l t n spot us Downgrades h at m =
     omega (arith, f.writer, f.one, own, writes_weigh)
 fits_word l t n spot us p h at m = m
 
-module _ (l : Lock) (t n : ℕ) (spot : Spot) (us : List ℕ) (p : RwPhase) (x : ℕ) (h : Meets l t n spot us p x) where
+module _ (l : Lock) (t n : ℕ) (spot : QueuePosition) (us : List ℕ) (p : RwPhase) (x : ℕ) (h : Meets l t n spot us p x) where
   pub few_readers : l.word.readers < 2 ^ 60 - 1
   few_readers = let f = h.sound.fits in omega (arith, f.readers, f.upgradable, f.one, total_most 256 l.roles h.few, h.threads)
 
@@ -119,7 +119,7 @@ module _ (l : Lock) (t n : ℕ) (spot : Spot) (us : List ℕ) (p : RwPhase) (x :
   pub number_is : number l.word ≡ x
   number_is = ap number h.word ∙ number-word x
 
-  pub moved : (s : Seen) → IsTold p x s → IsMoved l n us p x s
+  pub moved : (s : ActResult) → IsTold p x s → IsMoved l n us p x s
   moved s told =
       let P : ℕ → Type 0 = λ y. IsTold p y s → IsMove false (move n us p s) n us p (next_phase p s) l.word (word_after (act_of p) s y) × IsReady (next_phase p s) in
       subst P number_is (follows p s false n us l.word h.ready (sound_word l h.sound) few_readers fits) told
@@ -130,7 +130,7 @@ answers_are_moves l t n spot us p x s h told = (fits l t n spot us p x h, few_re
 -- STEPS
 
 -- the move that is named is the one that is made
-pub named : (l : Lock) (n : ℕ) (us : List ℕ) (p : RwPhase) (x : ℕ) (s : Seen) (m : Move) → move n us p s ≡ m → IsMoved l n us p x s → IsMove false m n us p (next_phase p s) l.word (word_after (act_of p) s x)
+pub named : (l : Lock) (n : ℕ) (us : List ℕ) (p : RwPhase) (x : ℕ) (s : ActResult) (m : Move) → move n us p s ≡ m → IsMoved l n us p x s → IsMove false m n us p (next_phase p s) l.word (word_after (act_of p) s x)
 named l n us p x s m e h = subst (λ k. IsMove false k n us p (next_phase p s) l.word (word_after (act_of p) s x)) e h.0
 
 pub stays_are_steps : StaysAreSteps
@@ -144,10 +144,10 @@ IsOwn (IsWoken k) = ⊥
 IsOwn m = Unit {0}
 
 -- it isn't asleep then
-pub awake : (n : ℕ) (spot : Spot) (us : List ℕ) (p : RwPhase) (x : ℕ) (s : Seen) → IsTold p x s → IsOwn (move n us p s) → role n spot us p ≡ role n Listed us p
+pub awake : (n : ℕ) (spot : QueuePosition) (us : List ℕ) (p : RwPhase) (x : ℕ) (s : ActResult) → IsTold p x s → IsOwn (move n us p s) → role n spot us p ≡ role n Listed us p
 awake n spot us (Sleeps want) x (seen.Woken token) told own = absurd own
 awake n spot us (Sleeps want) x s told own = absurd told
-awake n spot us (Sleeps2 rounds) x s told own = absurd own
+awake n spot us (DrainSleeps rounds) x s told own = absurd own
 awake n spot us p x s told own = refl
 
 -- the word of a sound lock, from its number
@@ -197,36 +197,36 @@ drains : (l : Lock) (d : Draining) (b : Bool) → MoveClears (cond b Stays (Make
 drains l d true = tt
 drains l d false = tt
 
-pub finds : (l : Lock) (n : ℕ) (us : List ℕ) (p : RwPhase) (x : ℕ) (s : Seen) → IsTold p x s → Finds (act_of p) l → MoveClears (move n us p s) l
+pub finds : (l : Lock) (n : ℕ) (us : List ℕ) (p : RwPhase) (x : ℕ) (s : ActResult) → IsTold p x s → Finds (act_of p) l → MoveClears (move n us p s) l
 finds l n us (Enters a woken) x s told found = found
-finds l n us (Enters2 d) x s told found = found
-finds l n us (Owes2 rest) x s told found = found
-finds l n us (Masks2 rest taken) x s told found = found
+finds l n us (DrainEnters d) x s told found = found
+finds l n us (EnterWriterWakeSection rest) x s told found = found
+finds l n us (ClearWriterParked rest taken) x s told found = found
 finds l n us (LooksExclusive fair rest) x s told found = found
-finds l n us Owes x s told found = found
+finds l n us EnterWakeSection x s told found = found
 finds l n us (Locking a) x s told found = tt
 finds l n us (Trying a) x s told found = tt
 finds l n us (Admits a word) x seen.Exchanged told found = admits a.want
   where
-    admits : (q : Want) → MoveClears (Makes (admission n q a.woken)) l
+    admits : (q : LockMode) → MoveClears (Makes (admission n q a.woken)) l
     admits (want.Shared recursive) = tt
     admits want.Exclusive = tt
-finds l n us (Flags a word) x seen.Exchanged told found = tt
+finds l n us (SetParked a word) x seen.Exchanged told found = tt
 finds l n us (Checks a woken) x (seen.Word word) told found = go (is_barred a word && is_parked word)
   where
     go : (b : Bool) → MoveClears (cond b (Makes (plain.Check1 (mode_of a) woken)) Stays) l
     go true = tt
     go false = tt
-finds l n us (Loads2 d) x (seen.Word word) told found = drains l d (has_readers word)
-finds l n us (Flags2 d flagged) x (seen.Word word) told found = drains l d (has_readers word)
-finds l n us (Checks2 d) x (seen.Word word) told found = go (has_readers word && is_writer_parked word)
+finds l n us (DrainLoads d) x (seen.Word word) told found = drains l d (has_readers word)
+finds l n us (DrainSetParked d flagged) x (seen.Word word) told found = drains l d (has_readers word)
+finds l n us (DrainChecks d) x (seen.Word word) told found = go (has_readers word && is_writer_parked word)
   where
     go : (b : Bool) → MoveClears (cond b (Makes (plain.Check2 false d.woken)) Stays) l
     go true = tt
     go false = tt
 finds l n us (TryAdmits a word left) x seen.Exchanged told found = admits a
   where
-    admits : (q : Want) → MoveClears (Makes (try_admission n q)) l
+    admits : (q : LockMode) → MoveClears (Makes (try_admission n q)) l
     admits (want.Shared recursive) = tt
     admits want.Exclusive = tt
 finds l n us (Unshares rest) x (seen.Before word) told found = go (word / 16 == 1 && is_writer_parked word)
@@ -234,10 +234,10 @@ finds l n us (Unshares rest) x (seen.Before word) told found = go (word / 16 == 
     go : (b : Bool) → Clears (cond b (plain.UnshareLast n) (plain.Unshare n)) l
     go true = tt
     go false = tt
-finds l n us (Takes2 rest) x (seen.Took (Some token) left) told found = tt
+finds l n us (TakeWriter rest) x (seen.Took (Some token) left) told found = tt
 finds l n us (Scans a) x (seen.Took (Some token) left) told found = tt
 finds l n us (Sleeps a) x (seen.Woken token) told found = tt
-finds l n us (Flags2 d flagged) x seen.Exchanged told found = tt
+finds l n us (DrainSetParked d flagged) x seen.Exchanged told found = tt
 finds l n us (Unlocks fair rest) x seen.Exchanged told found = tt
 finds l n us Downgrades x (seen.Before word) told found = tt
 finds l n us (Stores a left) x (seen.Stored fair) told found = tt
@@ -261,6 +261,6 @@ joins_are_steps = record {
       let m = (moved l t n spot us (Appends want) x h seen.Made tt).0 in
       ((h.here ∙ ap (λ r. Some r) m.0, tt), λ i. record l { word = h.word i; roles = slice_set l.roles t (sym m.1 i); first = l.first ++ t ∷ [] });
   second = λ l t n spot us rounds x h.
-      let m = (moved l t n spot us (Appends2 rounds) x h seen.Made tt).0 in
+      let m = (moved l t n spot us (DrainAppends rounds) x h seen.Made tt).0 in
       ((h.here ∙ ap (λ r. Some r) m.0, tt), λ i. record l { word = h.word i; roles = slice_set l.roles t (sym m.1 i); second = l.second ++ t ∷ [] });
 }

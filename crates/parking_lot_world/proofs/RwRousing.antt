@@ -7,22 +7,22 @@ use Rattle.parking_lot_rules.specs.Roles.{Role}
 use Rattle.parking_lot_rules.specs.Roles as rules
 use Rattle.parking_lot_rules.specs.Lock.{Lock}
 use Rattle.parking_lot_rules.specs.Steps.{Wake, Waking}
-use Rattle.parking_lot_cores.specs.declared.act.Act.TheVariants as act
-use Rattle.parking_lot_cores.specs.declared.act.SectionAct.TheVariants as section
-use Rattle.parking_lot_cores.specs.declared.act.Seen.TheVariants as seen
-use Rattle.parking_lot_cores.specs.declared.rw_core.RwCore.{RwCore}
-use Rattle.parking_lot_cores.specs.declared.rw_phase.RwPhase.{RwPhase}
-use Rattle.parking_lot_cores.specs.declared.rw_phase.RwPhase.TheVariants as r
-use Rattle.parking_lot_cores.specs.declared.rw_phase.Rest.{Rest}
-use Rattle.parking_lot_cores.specs.declared.rw_phase.Rest.TheVariants as rest
-use Rattle.parking_lot_cores.specs.RwTable as table
-use Rattle.parking_lot_cores.specs.RwRules as of_rw
+use Rattle.parking_lot_protocol.specs.declared.act.Act.TheVariants as act
+use Rattle.parking_lot_protocol.specs.declared.act.SectionAct.TheVariants as section
+use Rattle.parking_lot_protocol.specs.declared.act.ActResult.TheVariants as seen
+use Rattle.parking_lot_protocol.specs.declared.rw_core.RwCore.{RwCore}
+use Rattle.parking_lot_protocol.specs.declared.rw_phase.RwPhase.{RwPhase}
+use Rattle.parking_lot_protocol.specs.declared.rw_phase.RwPhase.TheVariants as r
+use Rattle.parking_lot_protocol.specs.declared.rw_phase.AfterWake.{AfterWake}
+use Rattle.parking_lot_protocol.specs.declared.rw_phase.AfterWake.TheVariants as rest
+use Rattle.parking_lot_protocol.specs.RwTable as table
+use Rattle.parking_lot_protocol.specs.RwRules as of_rw
 use Rattle.parking_lot_world.specs.declared.calls.LockKind.TheVariants as kind
 use Rattle.parking_lot_world.specs.declared.seat.Hold.{Hold}
-use Rattle.parking_lot_world.specs.declared.seat.Spot.TheVariants as spot
+use Rattle.parking_lot_world.specs.declared.seat.QueuePosition.TheVariants as spot
 use Rattle.parking_lot_world.specs.declared.seat.Core.{Core}
 use Rattle.parking_lot_world.specs.declared.seat.Core.TheVariants as core
-use Rattle.parking_lot_world.specs.declared.seat.Call.{Call}
+use Rattle.parking_lot_world.specs.declared.open_call.Call.{Call}
 use Rattle.parking_lot_world.specs.declared.seat.Wakeup.{Wakeup}
 use Rattle.parking_lot_world.specs.Rows.{State, word_at, call_at, hold_at, taken_by, owned_of, mark_of, rw_spot, rw_role_in, rw_role_at, rw_core_role, rw_lock_at}
 use Rattle.parking_lot_world.specs.Stances.{Out, Asleep, stance, rw_stance, core_next}
@@ -42,7 +42,7 @@ use Rattle.parking_lot_world.proofs.Rousing.{was_off, same_lock, apart, at_t, at
 use Rattle.parking_lot_world.proofs.Telling.{rw_hears}
 
 -- one that is to wake
-pub rw_wakes : (p : RwPhase) → table.act_of p ≡ act.Section section.Wake → (rs : Rest) × (count : ℕ) × (p ≡ r.Wakes rs count)
+pub rw_wakes : (p : RwPhase) → table.act_of p ≡ act.Section section.Wake → (rs : AfterWake) × (count : ℕ) × (p ≡ r.Wakes rs count)
 rw_wakes (r.Wakes rs count) e = (rs, count, refl)
 rw_wakes (r.Finishes rest.FreedShared) e = absurd cc
 rw_wakes (r.Finishes rest.FreedExclusive) e = absurd cc
@@ -57,7 +57,7 @@ out_asleep e = cc
 -- a sleeper may be told to go on
 sleeper_hears : (q : RwPhase) (key : ℕ) (park : ParkToken) (x : ℕ) (token : UnparkToken) → rw_stance q ≡ Asleep key park → of_rw.IsTold q x (seen.Woken token) × ((f g : List Waiter) → Learns q (seen.Woken token) f g)
 sleeper_hears (r.Sleeps want) key park x token e = (tt, λ f g. tt)
-sleeper_hears (r.Sleeps2 rounds) key park x token e = (tt, λ f g. tt)
+sleeper_hears (r.DrainSleeps rounds) key park x token e = (tt, λ f g. tt)
 sleeper_hears q key park x token e = absurd cc
 
 -- the role of a call at a lock
@@ -65,7 +65,7 @@ role_there : (j : ℕ) (us : List ℕ) (hold : Hold) (d : Call) → d.lock ≡ j
 role_there j us hold d same = ap (λ q. cond q (rw_core_role d.others d.spot us d.core) (record { owns = owned_of hold; does = rules.Idle })) (eq-eqb d.lock j same)
 
 module _ (s : State) (t : ℕ) (c : Call) (h : FitsTogether s) (here : call_at s t ≡ Some c) (e : Wakeup) (d : Call) (token : UnparkToken) (due : IsDue s t e d token) (from : stance c.core ≡ Out) (to : stance (core_next c.core seen.Made) ≡ Out)
-    (k : RwCore) (ce : c.core ≡ core.Rw k) (q : RwCore) (de : d.core ≡ core.Rw q) (rs : Rest) (count : ℕ) (ph : k.phase ≡ r.Wakes rs count) where
+    (k : RwCore) (ce : c.core ≡ core.Rw k) (q : RwCore) (de : d.core ≡ core.Rw q) (rs : AfterWake) (count : ℕ) (ph : k.phase ≡ r.Wakes rs count) where
   abbrev u : State
   u = woke s t c e.thread d token
 

@@ -5,23 +5,23 @@ use Rattle.parking_lot_core.specs.declared.parking.FilterOp.TheVariants.{Unpark}
 use Rattle.parking_lot_rules.specs.Roles.{Shares, Mark}
 use Rattle.parking_lot_rules.specs.Roles as rules
 use Rattle.parking_lot_rules.specs.Steps.{look}
-use Rattle.parking_lot_cores.specs.Wake.{wake_answer}
-use Rattle.parking_lot_cores.specs.WakeRules.{answer_to}
-use Rattle.parking_lot_cores.specs.declared.rw_phase.Want.{Want}
-use Rattle.parking_lot_cores.specs.declared.rw_phase.Want.TheVariants as want
-use Rattle.parking_lot_cores.specs.declared.rw_phase.Scanning.{Scanning}
-use Rattle.parking_lot_cores.specs.declared.rw_phase.RwPhase.{RwPhase}
-use Rattle.parking_lot_cores.specs.declared.rw_phase.RwPhase.TheVariants.{Sleeps, Sleeps2}
-use Rattle.parking_lot_cores.specs.RwTable.{share_of, sum_of}
-use Rattle.parking_lot_cores.specs.RwRules.{Listed, Off, role}
-use Rattle.parking_lot_cores.proofs.WakeFollowing.{looks_rightly}
+use Rattle.parking_lot_protocol.specs.Wake.{wake_answer}
+use Rattle.parking_lot_protocol.specs.WakeRules.{answer_to}
+use Rattle.parking_lot_protocol.specs.declared.rw_phase.LockMode.{LockMode}
+use Rattle.parking_lot_protocol.specs.declared.rw_phase.LockMode.TheVariants as want
+use Rattle.parking_lot_protocol.specs.declared.rw_phase.Scanning.{Scanning}
+use Rattle.parking_lot_protocol.specs.declared.rw_phase.RwPhase.{RwPhase}
+use Rattle.parking_lot_protocol.specs.declared.rw_phase.RwPhase.TheVariants.{Sleeps, DrainSleeps}
+use Rattle.parking_lot_protocol.specs.RwTable.{share_of, sum_of}
+use Rattle.parking_lot_protocol.specs.RwRules.{Listed, Off, role}
+use Rattle.parking_lot_protocol.proofs.WakeFollowing.{looks_rightly}
 use Rattle.parking_lot_world.specs.Stances.{rw_stance}
 use Rattle.parking_lot_world.specs.Stances as stance
 use Rattle.parking_lot_world.specs.RowFits.{rw_prepared}
 use Rattle.parking_lot_world.specs.RwLaws.{SleepsFirst, SleepsSecond, SleepersAreKnown}
 use Rattle.parking_lot_world.proofs.RwTaking.{scan_holds}
 
-sleeps_first : (n : ℕ) (us : List ℕ) (want : Want) → n ≡ 0 → SleepsFirst n us (Sleeps want) (record { 0 = share_of want })
+sleeps_first : (n : ℕ) (us : List ℕ) (want : LockMode) → n ≡ 0 → SleepsFirst n us (Sleeps want) (record { 0 = share_of want })
 sleeps_first n us (want.Shared recursive) z = record {
   listed = ap (λ k. role k Listed us (Sleeps (want.Shared recursive))) z;
   off = λ t mark. ap (λ k. role k (Off t mark) us (Sleeps (want.Shared recursive))) z;
@@ -34,9 +34,9 @@ stands n us (Sleeps want) key park z e =
     let there : key ≡ 0 = cc in
     let token : record { 0 = share_of want } ≡ park = cc in
     inl (there, subst (λ (t : ParkToken). SleepsFirst n us (Sleeps want) t) token (sleeps_first n us want z))
-stands n us (Sleeps2 rounds) key park z e =
+stands n us (DrainSleeps rounds) key park z e =
     let there : key ≡ 1 = cc in
-    inr (there, record { listed = ap (λ k. role k Listed us (Sleeps2 rounds)) z; off = λ t mark. ap (λ k. role k (Off t mark) us (Sleeps2 rounds)) z })
+    inr (there, record { listed = ap (λ k. role k Listed us (DrainSleeps rounds)) z; off = λ t mark. ap (λ k. role k (Off t mark) us (DrainSleeps rounds)) z })
 stands n us p key park z e = absurd (cc)
 
 takes_first : (a : Scanning) (mode : rules.Mode) (token : ℕ) → wake_answer (sum_of a) token ≡ answer_to (look a.upgradable a.writer mode) → a.upgradable ≡ false → a.writer ≡ false → wake_answer (sum_of a) token ≡ Unpark

@@ -3,14 +3,14 @@ use Rattle.std.proofs.Common.{◌≡◌, ℕ, false, List, [], ◌∷◌, ◌++�
 use Rattle.parking_lot_rules.specs.Roles.{Mode, Shares, Role}
 use Rattle.parking_lot_rules.specs.Roles as rules
 use Rattle.parking_lot_rules.specs.Steps.{Scan, scanning, taking, holds_upgradable, look, Take, AreSkipped}
-use Rattle.parking_lot_cores.specs.declared.act.Seen.TheVariants as seen
-use Rattle.parking_lot_cores.specs.declared.rw_phase.Want.TheVariants as want
-use Rattle.parking_lot_cores.specs.declared.rw_phase.Rest.{Rest}
-use Rattle.parking_lot_cores.specs.declared.rw_phase.Rest.TheVariants.{FreedShared, FreedExclusive, Downgraded, AgainShared, AgainExclusive}
-use Rattle.parking_lot_cores.specs.declared.rw_phase.Scanning.{Scanning}
-use Rattle.parking_lot_cores.specs.declared.rw_phase.RwPhase.TheVariants.{Takes2, Scans}
-use Rattle.parking_lot_cores.specs.RwTable.{next_phase}
-use Rattle.parking_lot_cores.specs.RwRules.{Listed, role, scan_of, mode_by}
+use Rattle.parking_lot_protocol.specs.declared.act.ActResult.TheVariants as seen
+use Rattle.parking_lot_protocol.specs.declared.rw_phase.LockMode.TheVariants as want
+use Rattle.parking_lot_protocol.specs.declared.rw_phase.AfterWake.{AfterWake}
+use Rattle.parking_lot_protocol.specs.declared.rw_phase.AfterWake.TheVariants.{FreedShared, FreedExclusive, Downgraded, AgainShared, AgainExclusive}
+use Rattle.parking_lot_protocol.specs.declared.rw_phase.Scanning.{Scanning}
+use Rattle.parking_lot_protocol.specs.declared.rw_phase.RwPhase.TheVariants.{TakeWriter, Scans}
+use Rattle.parking_lot_protocol.specs.RwTable.{next_phase}
+use Rattle.parking_lot_protocol.specs.RwRules.{Listed, role, scan_of, mode_by}
 use Rattle.parking_lot_world.specs.RwLaws.{TakesAreSteps, FirstsMayBeTaken, TokensTell, WritersAreTaken}
 use Rattle.parking_lot_world.proofs.RwMoving.{moved}
 
@@ -29,7 +29,7 @@ same_scan s r e = ap unscan e
 pub scan_holds : (n : ℕ) (a : Scanning) (us : List ℕ) → holds_upgradable (scan_of n a us) ≡ a.upgradable
 scan_holds n a us = by_rest a.rest
   where
-    by_rest : (q : Rest) → holds_upgradable (scan_of n (record a { rest = q }) us) ≡ a.upgradable
+    by_rest : (q : AfterWake) → holds_upgradable (scan_of n (record a { rest = q }) us) ≡ a.upgradable
     by_rest FreedShared = refl
     by_rest FreedExclusive = refl
     by_rest Downgraded = refl
@@ -71,5 +71,5 @@ pub writers_are_taken : WritersAreTaken
 writers_are_taken l t n spot us rest x token left v h at waits =
     let none : us ≡ [] = h.prepared in
     let here : slice_get l.roles t ≡ Some (record { owns = Shares n; does = rules.Scans2 [] }) = h.here in
-    let to : role n Listed (us ++ v ∷ []) (next_phase (Takes2 rest) (seen.Took (Some token) left)) ≡ record { owns = Shares n; does = rules.Scans2 (v ∷ []) } = ap (λ vs. record { owns = Shares n; does = rules.Scans2 (vs ++ v ∷ []) }) none in
+    let to : role n Listed (us ++ v ∷ []) (next_phase (TakeWriter rest) (seen.Took (Some token) left)) ≡ record { owns = Shares n; does = rules.Scans2 (v ∷ []) } = ap (λ vs. record { owns = Shares n; does = rules.Scans2 (vs ++ v ∷ []) }) none in
     ((here, at, waits), λ j. record l { word = h.word j; roles = slice_set (slice_set l.roles t (sym to j)) v (record { owns = Shares 0; does = rules.Taken2 false t rules.Asleep }); second = remove l.second 0 })

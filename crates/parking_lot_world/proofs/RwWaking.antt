@@ -10,18 +10,18 @@ use Rattle.parking_lot_rules.specs.Lock.{Lock, On1, to_wake}
 use Rattle.parking_lot_rules.specs.ReadLock.{word_of}
 use Rattle.parking_lot_rules.specs.Steps.{Scan, IsOver, Ending, Free, FreeUpgradable, Hand, HandUpgradable, Keep, ends_saying, stored, settle, Store, Wake, Waking, Recheck, waking_from, waking_to, Allowed, after}
 use Rattle.parking_lot_rules.proofs.Sounds.{step_sound}
-use Rattle.parking_lot_cores.specs.MutexTable as of_mutex
-use Rattle.parking_lot_cores.specs.declared.act.Seen.TheVariants as seen
-use Rattle.parking_lot_cores.specs.declared.rw_phase.Want.{Want}
-use Rattle.parking_lot_cores.specs.declared.rw_phase.Want.TheVariants as want
-use Rattle.parking_lot_cores.specs.declared.rw_phase.Rest.{Rest}
-use Rattle.parking_lot_cores.specs.declared.rw_phase.Rest.TheVariants.{FreedShared, FreedExclusive, Downgraded, AgainShared, AgainExclusive}
-use Rattle.parking_lot_cores.specs.declared.rw_phase.RwPhase.TheVariants.{Sleeps, Sleeps2, Stores, Leaves, Wakes, Loads}
-use Rattle.parking_lot_cores.specs.RwTable.{next_phase, hands, count_of, wakes_with, admits, begins, act_of, may_hand}
-use Rattle.parking_lot_cores.specs.Acts.{word_after}
-use Rattle.parking_lot_cores.specs.RwRules.{Spot, Listed, Off, role, mode_of, waking, ending, owned_at_last, scan_of}
-use Rattle.parking_lot_cores.proofs.MutexFollowing.{either}
-use Rattle.parking_lot_world.specs.declared.seat.Told.TheVariants as told
+use Rattle.parking_lot_protocol.specs.MutexTable as of_mutex
+use Rattle.parking_lot_protocol.specs.declared.act.ActResult.TheVariants as seen
+use Rattle.parking_lot_protocol.specs.declared.rw_phase.LockMode.{LockMode}
+use Rattle.parking_lot_protocol.specs.declared.rw_phase.LockMode.TheVariants as want
+use Rattle.parking_lot_protocol.specs.declared.rw_phase.AfterWake.{AfterWake}
+use Rattle.parking_lot_protocol.specs.declared.rw_phase.AfterWake.TheVariants.{FreedShared, FreedExclusive, Downgraded, AgainShared, AgainExclusive}
+use Rattle.parking_lot_protocol.specs.declared.rw_phase.RwPhase.TheVariants.{Sleeps, DrainSleeps, Stores, Leaves, Wakes, Loads}
+use Rattle.parking_lot_protocol.specs.RwTable.{next_phase, hands, count_of, wakes_with, admits, begins, act_of, may_hand}
+use Rattle.parking_lot_protocol.specs.Acts.{word_after}
+use Rattle.parking_lot_protocol.specs.RwRules.{QueuePosition, Listed, Off, role, mode_of, waking, ending, owned_at_last, scan_of}
+use Rattle.parking_lot_protocol.proofs.MutexFollowing.{either}
+use Rattle.parking_lot_world.specs.declared.seat.WakeResult.TheVariants as told
 use Rattle.parking_lot_world.specs.RwLaws.{IsStep, Meets, ending_of, StoresAreSteps, TokensSay, WakesAreSteps, WokenAreTold, OnlySleepersStand}
 use Rattle.parking_lot_world.specs.Rows.{mark_of}
 use Rattle.parking_lot_world.specs.RowActs.{told_of}
@@ -72,7 +72,7 @@ stores_are_steps l t n spot us a left x fair h same over =
 pub tokens_say : TokensSay
 tokens_say a left fair = by_rest a.rest (hands a (a.fair || fair)) (λ e. ap (λ q. may_hand q && ((a.fair || fair) && nat_lt 0 (count_of a))) e)
   where
-    by_rest : (q : Rest) (b : Bool) → (q ≡ Downgraded → b ≡ false) → mark_of (told_of (wakes_with (Leaves q (count_of a) b))) ≡ ends_saying (ending q b)
+    by_rest : (q : AfterWake) (b : Bool) → (q ≡ Downgraded → b ≡ false) → mark_of (told_of (wakes_with (Leaves q (count_of a) b))) ≡ ends_saying (ending q b)
     by_rest FreedShared true f = refl
     by_rest FreedShared false f = refl
     by_rest FreedExclusive true f = refl
@@ -86,21 +86,21 @@ tokens_say a left fair = by_rest a.rest (hands a (a.fair || fair)) (λ e. ap (λ
 
 -- WAKES
 
-wakes_role : (n : ℕ) (vs : List ℕ) (rest : Rest) (count : ℕ) → role n Listed vs (next_phase (Wakes rest count) seen.Made) ≡ record { owns = owned_at_last n rest; does = rules.Wakes vs }
+wakes_role : (n : ℕ) (vs : List ℕ) (rest : AfterWake) (count : ℕ) → role n Listed vs (next_phase (Wakes rest count) seen.Made) ≡ record { owns = owned_at_last n rest; does = rules.Wakes vs }
 wakes_role n vs rest count = either (role n Listed vs) (nat_lt 0 (count - 1)) _ _ _ refl refl
 
 -- what one that was told so is, before it is woken and after that
-before_wake : (want : Want) (t : ℕ) (b : Bool) → record { owns = Shares 0; does = rules.Taken1 (mode_of want) t (mark_of (cond b told.HandedOver told.TryAgain)) rules.Asleep } ≡ waking_from (waking want b) t rules.Asleep
+before_wake : (want : LockMode) (t : ℕ) (b : Bool) → record { owns = Shares 0; does = rules.Taken1 (mode_of want) t (mark_of (cond b told.HandedOver told.TryAgain)) rules.Asleep } ≡ waking_from (waking want b) t rules.Asleep
 before_wake want t false = refl
 before_wake (want.Shared recursive) t true = refl
 before_wake want.Exclusive t true = refl
 
-after_wake : (want : Want) (ws : List ℕ) (b : Bool) → role 0 Listed ws (cond b (admits want true) (Loads (begins want true))) ≡ waking_to (waking want b)
+after_wake : (want : LockMode) (ws : List ℕ) (b : Bool) → role 0 Listed ws (cond b (admits want true) (Loads (begins want true))) ≡ waking_to (waking want b)
 after_wake want ws false = refl
 after_wake (want.Shared recursive) ws true = refl
 after_wake want.Exclusive ws true = refl
 
-wakes_one : (l : Lock) (t n : ℕ) (spot : Spot) (v : ℕ) (vs : List ℕ) (rest : Rest) (count x : ℕ) (k : Waking) (r : Role) → Meets l t n spot (v ∷ vs) (Wakes rest count) x → slice_get l.roles v ≡ Some (waking_from k t rules.Asleep) → r ≡ waking_to k
+wakes_one : (l : Lock) (t n : ℕ) (spot : QueuePosition) (v : ℕ) (vs : List ℕ) (rest : AfterWake) (count x : ℕ) (k : Waking) (r : Role) → Meets l t n spot (v ∷ vs) (Wakes rest count) x → slice_get l.roles v ≡ Some (waking_from k t rules.Asleep) → r ≡ waking_to k
     → IsStep t (Wake (owned_at_last n rest) v vs k rules.Asleep) l
     (record l { word = word_of x; roles = slice_set (slice_set l.roles v r) t (role n Listed vs (next_phase (Wakes rest count) seen.Made)) })
 wakes_one l t n spot v vs rest count x k r h from to =
@@ -114,9 +114,9 @@ wakes_are_steps l t n spot v vs rest count x m mark ws (Sleeps want) key park to
     ap (λ y. role y (Off t mark) ws (Sleeps want)) nothing ∙ ap (λ y. role 0 (Off t y) ws (Sleeps want)) said ∙ before_wake want t b in
     let to : role m Listed ws (next_phase (Sleeps want) (seen.Woken token)) ≡ waking_to (waking want b) = ap (λ y. role y Listed ws (next_phase (Sleeps want) (seen.Woken token))) nothing ∙ after_wake want ws b in
     (waking want b, wakes_one l t n spot v vs rest count x (waking want b) _ h (at ∙ ap (λ r. Some r) from) to)
-wakes_are_steps l t n spot v vs rest count x m mark ws (Sleeps2 rounds) key park token h at asleep nothing said =
-    let from : role m (Off t mark) ws (Sleeps2 rounds) ≡ waking_from (Recheck false) t rules.Asleep = ap (λ y. role y (Off t mark) ws (Sleeps2 rounds)) nothing in
-    let to : role m Listed ws (next_phase (Sleeps2 rounds) (seen.Woken token)) ≡ waking_to (Recheck false) = ap (λ y. role y Listed ws (next_phase (Sleeps2 rounds) (seen.Woken token))) nothing in
+wakes_are_steps l t n spot v vs rest count x m mark ws (DrainSleeps rounds) key park token h at asleep nothing said =
+    let from : role m (Off t mark) ws (DrainSleeps rounds) ≡ waking_from (Recheck false) t rules.Asleep = ap (λ y. role y (Off t mark) ws (DrainSleeps rounds)) nothing in
+    let to : role m Listed ws (next_phase (DrainSleeps rounds) (seen.Woken token)) ≡ waking_to (Recheck false) = ap (λ y. role y Listed ws (next_phase (DrainSleeps rounds) (seen.Woken token))) nothing in
     (Recheck false, wakes_one l t n spot v vs rest count x (Recheck false) _ h (at ∙ ap (λ r. Some r) from) to)
 wakes_are_steps l t n spot v vs rest count x m mark ws q key park token h at asleep nothing said = absurd (cc)
 
@@ -131,5 +131,5 @@ woken_are_told l t v own has us mode rules.Handed sound waker there e = cc
 
 pub only_sleepers_stand : OnlySleepersStand
 only_sleepers_stand n spot us (Sleeps want) awake = absurd (awake _ _ refl)
-only_sleepers_stand n spot us (Sleeps2 rounds) awake = absurd (awake _ _ refl)
+only_sleepers_stand n spot us (DrainSleeps rounds) awake = absurd (awake _ _ refl)
 only_sleepers_stand n spot us p awake = refl

@@ -3,11 +3,11 @@ use Rattle.std.proofs.Common.{◌≡◌, ◌≤◌, ◌<◌, ℕ, ◌^◌, ◌�
 use Rattle.std.proofs.lemmas.List.Sums.{count_by-le-length}
 use Rattle.parking_lot_core.specs.declared.parking.ParkToken.{ParkToken}
 use Rattle.parking_lot_core.specs.declared.place.Waiter.{Waiter}
-use Rattle.parking_lot_cores.specs.declared.rw_phase.RwPhase.{RwPhase}
-use Rattle.parking_lot_cores.specs.declared.rw_phase.RwPhase.TheVariants as r
-use Rattle.parking_lot_cores.specs.declared.rw_phase.Want.TheVariants as want
+use Rattle.parking_lot_protocol.specs.declared.rw_phase.RwPhase.{RwPhase}
+use Rattle.parking_lot_protocol.specs.declared.rw_phase.RwPhase.TheVariants as r
+use Rattle.parking_lot_protocol.specs.declared.rw_phase.LockMode.TheVariants as want
 use Rattle.parking_lot_world.specs.declared.calls.LockKind.TheVariants as kind
-use Rattle.parking_lot_world.specs.declared.seat.Call.{Call}
+use Rattle.parking_lot_world.specs.declared.open_call.Call.{Call}
 use Rattle.parking_lot_world.specs.declared.seat.Core.{Core}
 use Rattle.parking_lot_world.specs.declared.seat.Core.TheVariants as core
 use Rattle.parking_lot_world.specs.Rows.{State, call_at, is_by, taken_by}
@@ -26,7 +26,7 @@ same_token e = cc
 sleeper_token : (p : RwPhase) (k : ℕ) (token : ParkToken) → rw_stance p ≡ Asleep k token → (token.0 ≡ 16) ⊎ (token.0 ≡ 8)
 sleeper_token (r.Sleeps (want.Shared recursive)) k token e = inl (ap (λ (x : ParkToken). x.0) (same_token e))
 sleeper_token (r.Sleeps want.Exclusive) k token e = inr (ap (λ (x : ParkToken). x.0) (same_token e))
-sleeper_token (r.Sleeps2 rounds) k token e = inr (ap (λ (x : ParkToken). x.0) (same_token e))
+sleeper_token (r.DrainSleeps rounds) k token e = inr (ap (λ (x : ParkToken). x.0) (same_token e))
 sleeper_token p k token e = absurd (up_sleeps k token (rw_stance p) tt e)
 
 module _ (s : State) (h : FitsTogether s) (t : ℕ) (c : Call) (here : call_at s t ≡ Some c) where

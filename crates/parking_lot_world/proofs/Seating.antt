@@ -1,11 +1,11 @@
 -- No step of a machine changes how many threads there are: no step of the rules changes the threads of another lock.
 use Rattle.std.proofs.Common.{◌≡◌, ◌≢◌, ℕ, suc, List, length, Bool, Option, None, Some, slice_get, sym, ap, ◌∙◌, arith}
 use Rattle.parking_lot_rules.specs.Any.{AnyLock, AnyStep, Rw, Mx}
-use Rattle.parking_lot_cores.specs.MutexRules as of_mutex
-use Rattle.parking_lot_cores.specs.RwRules as of_rw
-use Rattle.parking_lot_cores.specs.declared.act.CoreAnswer.{CoreAnswer}
-use Rattle.parking_lot_cores.specs.declared.act.Seen.{Seen}
-use Rattle.parking_lot_cores.specs.declared.act.Seen.TheVariants as seen
+use Rattle.parking_lot_protocol.specs.MutexRules as of_mutex
+use Rattle.parking_lot_protocol.specs.RwRules as of_rw
+use Rattle.parking_lot_protocol.specs.declared.act.CoreAnswer.{CoreAnswer}
+use Rattle.parking_lot_protocol.specs.declared.act.ActResult.{ActResult}
+use Rattle.parking_lot_protocol.specs.declared.act.ActResult.TheVariants as seen
 use Rattle.parking_lot_world.specs.declared.calls.LockCall.{LockCall}
 use Rattle.parking_lot_world.specs.declared.calls.LockKind.{LockKind}
 use Rattle.parking_lot_world.specs.declared.calls.LockKind.TheVariants as kind
@@ -64,7 +64,7 @@ module _ (s u : State) where
   mutex_moves of_mutex.WakesOne us j t (handed, v, rest, h) = made j t _ h
   mutex_moves (of_mutex.IsWoken handed) us j t h = absurd h
 
-  goes : (k : Core) (n : ℕ) (us : List ℕ) (told : Seen) (j t : ℕ) → IsMoveOf k n us told j t s u → Stay s u
+  goes : (k : Core) (n : ℕ) (us : List ℕ) (told : ActResult) (j t : ℕ) → IsMoveOf k n us told j t s u → Stay s u
   goes (core.Rw c) n us told j t h = rw_moves _ j t h
   goes (core.Mutex c) n us told j t h = mutex_moves _ us j t h
 

@@ -7,16 +7,16 @@ use Rattle.std.proofs.lemmas.Option.{none-some}
 use Rattle.parking_lot_core.specs.declared.parking.UnparkToken.{UnparkToken}
 use Rattle.parking_lot_core.specs.Machine.{stored}
 use Rattle.parking_lot_core.proofs.Numbers.{count_by-set, count_by-map_same}
-use Rattle.parking_lot_cores.specs.declared.act.Seen.{Seen}
+use Rattle.parking_lot_protocol.specs.declared.act.ActResult.{ActResult}
 use Rattle.parking_lot_world.specs.declared.calls.LockKind.{LockKind}
 use Rattle.parking_lot_world.specs.declared.calls.LockKind.TheVariants as kind
-use Rattle.parking_lot_world.specs.declared.seat.Told.{Told}
-use Rattle.parking_lot_world.specs.declared.seat.Told.TheVariants as told
-use Rattle.parking_lot_world.specs.declared.seat.Spot.{Spot}
-use Rattle.parking_lot_world.specs.declared.seat.Spot.TheVariants as spot
+use Rattle.parking_lot_world.specs.declared.seat.WakeResult.{WakeResult}
+use Rattle.parking_lot_world.specs.declared.seat.WakeResult.TheVariants as told
+use Rattle.parking_lot_world.specs.declared.seat.QueuePosition.{QueuePosition}
+use Rattle.parking_lot_world.specs.declared.seat.QueuePosition.TheVariants as spot
 use Rattle.parking_lot_world.specs.declared.seat.Core.{Core}
 use Rattle.parking_lot_world.specs.declared.seat.Core.TheVariants as core
-use Rattle.parking_lot_world.specs.declared.seat.Call.{Call}
+use Rattle.parking_lot_world.specs.declared.open_call.Call.{Call}
 use Rattle.parking_lot_world.specs.declared.seat.Wakeup.{Wakeup}
 use Rattle.parking_lot_world.specs.Rows.{State, word_at, call_at, taken_by}
 use Rattle.parking_lot_world.specs.Stances.{core_next}
@@ -30,43 +30,40 @@ use Rattle.parking_lot_world.proofs.Lifting.{IsThere, Elsewhere}
 use Rattle.parking_lot_world.proofs.LotStores.{call_at-map}
 use Rattle.parking_lot_world.proofs.Making.{IsSoundState}
 use Rattle.parking_lot_world.proofs.Ruling.{CallFits, call_fits, rules_after}
+use Rattle.parking_lot_world.proofs.TakeOutside.{same_kind}
 
 -- WHERE ONE STANDS THAT IS TOLD
 
-off_before : (t by : ℕ) (said now : Told) (at : Spot) → settled_spot t said at ≡ spot.Off by now → (x : Told) × (at ≡ spot.Off by x)
+off_before : (t by : ℕ) (said now : WakeResult) (at : QueuePosition) → settled_spot t said at ≡ spot.Off by now → (x : WakeResult) × (at ≡ spot.Off by x)
 off_before t by said now spot.Listed e = absurd cc
 off_before t by said now (spot.Off b told.Nothing) e = let same : b ≡ by = cc in (told.Nothing, ap (λ n. spot.Off n told.Nothing) same)
 off_before t by said now (spot.Off b told.TryAgain) e = let same : b ≡ by = cc in (told.TryAgain, ap (λ n. spot.Off n told.TryAgain) same)
 off_before t by said now (spot.Off b told.HandedOver) e = let same : b ≡ by = cc in (told.HandedOver, ap (λ n. spot.Off n told.HandedOver) same)
 
-same_off : (t : ℕ) (said : Told) (at : Spot) → is_off (settled_spot t said at) ≡ is_off at
+same_off : (t : ℕ) (said : WakeResult) (at : QueuePosition) → is_off (settled_spot t said at) ≡ is_off at
 same_off t said spot.Listed = refl
 same_off t said (spot.Off b told.Nothing) = refl
 same_off t said (spot.Off b told.TryAgain) = refl
 same_off t said (spot.Off b told.HandedOver) = refl
 
 -- it stays, or was taken by t
-same_or_mine : (t : ℕ) (said : Told) (at : Spot) → (settled_spot t said at ≡ at) ⊎ (at ≡ spot.Off t told.Nothing)
+same_or_mine : (t : ℕ) (said : WakeResult) (at : QueuePosition) → (settled_spot t said at ≡ at) ⊎ (at ≡ spot.Off t told.Nothing)
 same_or_mine t said spot.Listed = inl refl
 same_or_mine t said (spot.Off b told.Nothing) = elim (cases_eq b t) [ inl e ↦ inr (ap (λ n. spot.Off n told.Nothing) e) | inr ne ↦ inl (ap (λ q. spot.Off b (cond q said told.Nothing)) (ne_eqb b t ne)) ]
 same_or_mine t said (spot.Off b told.TryAgain) = inl refl
 same_or_mine t said (spot.Off b told.HandedOver) = inl refl
 
-away_settled : (t : ℕ) (said : Told) (o : Option Call) → is_away (option_map (settled t said) o) ≡ is_away o
+away_settled : (t : ℕ) (said : WakeResult) (o : Option Call) → is_away (option_map (settled t said) o) ≡ is_away o
 away_settled t said None = refl
 away_settled t said (Some c) = same_off t said c.spot
 
-before_settled : (t : ℕ) (said : Told) (o : Option Call) (e : Call) → option_map (settled t said) o ≡ Some e → (f : Call) × (o ≡ Some f) × (settled t said f ≡ e)
+before_settled : (t : ℕ) (said : WakeResult) (o : Option Call) (e : Call) → option_map (settled t said) o ≡ Some e → (f : Call) × (o ≡ Some f) × (settled t said f ≡ e)
 before_settled t said None e h = absurd (none-some e h)
 before_settled t said (Some f) e h = (f, refl, same_call h)
 
-pub same_kind : (c : Core) (heard : Seen) (o : Option LockKind) → IsOfKind o c → IsOfKind o (core_next c heard)
-same_kind (core.Mutex k) heard o h = h
-same_kind (core.Rw k) heard o h = h
-
 -- THE MACHINE
 
-module _ (s : State) (t : ℕ) (c : Call) (heard : Seen) (token : UnparkToken) (word : ℕ) where
+module _ (s : State) (t : ℕ) (c : Call) (heard : ActResult) (token : UnparkToken) (word : ℕ) where
   abbrev pub next_call : Call
   next_call = hears c heard
 
@@ -132,7 +129,7 @@ module _ (s : State) (t : ℕ) (c : Call) (heard : Seen) (token : UnparkToken) (
         others : (x : ℕ) → x ≢ t → (o : Option Call) → call_at s x ≡ o → ((call_at told_state x ≡ call_at s x) × (taken_by s.wakes x ≡ taken_by s.wakes x)) ⊎ (IsThere c.lock (call_at s x) × IsThere c.lock (call_at told_state x))
         others x ne None e = inl (told_others x ne ∙ ap (option_map (settled t (told_of token))) e ∙ sym e, refl)
         others x ne (Some f) e = elim (same_or_mine t (told_of token) f.spot) [
-          | inl same ↦ inl (told_others x ne ∙ ap (option_map (settled t (told_of token))) e ∙ ap (λ (y : Spot). Some (record f { spot = y })) same ∙ sym e, refl)
+          | inl same ↦ inl (told_others x ne ∙ ap (option_map (settled t (told_of token))) e ∙ ap (λ (y : QueuePosition). Some (record f { spot = y })) same ∙ sym e, refl)
           | inr mine ↦
               let there = mine_there x f e mine in
               inr (subst (IsThere c.lock) (sym e) there, subst (IsThere c.lock) (sym (told_others x ne ∙ ap (option_map (settled t (told_of token))) e)) there)

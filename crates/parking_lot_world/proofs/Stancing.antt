@@ -4,28 +4,28 @@ use Rattle.std.proofs.lemmas.Bool.{eq-eqb, ne_eqb, ltb-true, ltb-false, cond-tru
 use Rattle.std.specs.Option.{option_map, option_map_or, option_and_then}
 use Rattle.parking_lot_core.specs.declared.parking.ParkToken.{ParkToken}
 use Rattle.parking_lot_core.specs.declared.parking.UnparkToken.{UnparkToken}
-use Rattle.parking_lot_cores.specs.Acts.{Gives, is_start, is_entered, is_made, word_seen, word_before, exchange_seen, spun_seen, took_seen, stored_seen, woken_seen}
-use Rattle.parking_lot_cores.specs.MutexTable as mt
-use Rattle.parking_lot_cores.specs.RwTable as rt
-use Rattle.parking_lot_cores.specs.declared.act.Act.{Act}
-use Rattle.parking_lot_cores.specs.declared.act.Act.TheVariants as act
-use Rattle.parking_lot_cores.specs.declared.act.CoreAnswer.TheVariants as answer
-use Rattle.parking_lot_cores.specs.declared.act.SectionAct.TheVariants as section
-use Rattle.parking_lot_cores.specs.declared.act.Seen.{Seen}
-use Rattle.parking_lot_cores.specs.declared.act.Seen.TheVariants as seen
-use Rattle.parking_lot_cores.specs.declared.mutex_phase.Asking.{Asking}
-use Rattle.parking_lot_cores.specs.declared.mutex_phase.MutexPhase.{MutexPhase}
-use Rattle.parking_lot_cores.specs.declared.mutex_phase.MutexPhase.TheVariants as m
-use Rattle.parking_lot_cores.specs.declared.rw_phase.Draining.{Draining}
-use Rattle.parking_lot_cores.specs.declared.rw_phase.Outcome.TheVariants as outcome
-use Rattle.parking_lot_cores.specs.declared.rw_phase.Rest.{Rest}
-use Rattle.parking_lot_cores.specs.declared.rw_phase.Rest.TheVariants as rest
-use Rattle.parking_lot_cores.specs.declared.rw_phase.RwPhase.{RwPhase}
-use Rattle.parking_lot_cores.specs.declared.rw_phase.RwPhase.TheVariants as r
-use Rattle.parking_lot_cores.specs.declared.rw_phase.Scanning.{Scanning}
-use Rattle.parking_lot_cores.specs.declared.rw_phase.Seeking.{Seeking}
-use Rattle.parking_lot_cores.specs.declared.rw_phase.Want.{Want}
-use Rattle.parking_lot_cores.specs.declared.rw_phase.Want.TheVariants as want
+use Rattle.parking_lot_protocol.specs.Acts.{Gives, is_start, is_entered, is_made, word_seen, word_before, exchange_seen, spun_seen, took_seen, stored_seen, woken_seen}
+use Rattle.parking_lot_protocol.specs.MutexTable as mt
+use Rattle.parking_lot_protocol.specs.RwTable as rt
+use Rattle.parking_lot_protocol.specs.declared.act.Act.{Act}
+use Rattle.parking_lot_protocol.specs.declared.act.Act.TheVariants as act
+use Rattle.parking_lot_protocol.specs.declared.act.CoreAnswer.TheVariants as answer
+use Rattle.parking_lot_protocol.specs.declared.act.SectionAct.TheVariants as section
+use Rattle.parking_lot_protocol.specs.declared.act.ActResult.{ActResult}
+use Rattle.parking_lot_protocol.specs.declared.act.ActResult.TheVariants as seen
+use Rattle.parking_lot_protocol.specs.declared.mutex_phase.Asking.{Asking}
+use Rattle.parking_lot_protocol.specs.declared.mutex_phase.MutexPhase.{MutexPhase}
+use Rattle.parking_lot_protocol.specs.declared.mutex_phase.MutexPhase.TheVariants as m
+use Rattle.parking_lot_protocol.specs.declared.rw_phase.Draining.{Draining}
+use Rattle.parking_lot_protocol.specs.declared.rw_phase.Outcome.TheVariants as outcome
+use Rattle.parking_lot_protocol.specs.declared.rw_phase.AfterWake.{AfterWake}
+use Rattle.parking_lot_protocol.specs.declared.rw_phase.AfterWake.TheVariants as rest
+use Rattle.parking_lot_protocol.specs.declared.rw_phase.RwPhase.{RwPhase}
+use Rattle.parking_lot_protocol.specs.declared.rw_phase.RwPhase.TheVariants as r
+use Rattle.parking_lot_protocol.specs.declared.rw_phase.Scanning.{Scanning}
+use Rattle.parking_lot_protocol.specs.declared.rw_phase.Seeking.{Seeking}
+use Rattle.parking_lot_protocol.specs.declared.rw_phase.LockMode.{LockMode}
+use Rattle.parking_lot_protocol.specs.declared.rw_phase.LockMode.TheVariants as want
 use Rattle.parking_lot_world.specs.declared.seat.Core.{Core}
 use Rattle.parking_lot_world.specs.declared.seat.Core.TheVariants as core
 use Rattle.parking_lot_world.specs.Stances.{Doing, Takes, Stores, Tells, Stance, Out, In, Asleep, sign, mutex_stance, rw_stance, stance, mutex_taken, rw_taken, taken_count, core_act, core_next}
@@ -53,10 +53,10 @@ tries_idle left word = pick Idle (word == 0) _ _ (refl, refl) (pick Idle (word =
 retries_idle : (left word : ℕ) → Idle (mt.retries left word)
 retries_idle left word = pick Idle (nat_lt 0 left) _ _ (tries_idle (left - 1) word) (refl, refl)
 
-abbrev LeadsM : MutexPhase → Seen → MutexPhase → Type 0
+abbrev LeadsM : MutexPhase → ActResult → MutexPhase → Type 0
 LeadsM p s q = Leads (mt.act_of p) s (mutex_stance p) (mutex_stance q) (mutex_taken p) (mutex_taken q) (mt.wakes_with q)
 
-pub mutex_leads : (p : MutexPhase) (word : ℕ) (s : Seen) → Gives (mt.act_of p) word s → LeadsM p s (mt.next_phase p s)
+pub mutex_leads : (p : MutexPhase) (word : ℕ) (s : ActResult) → Gives (mt.act_of p) word s → LeadsM p s (mt.next_phase p s)
 mutex_leads (m.Loads a) word (seen.Word w) g = let i = seeks_idle a w in (refl, i.0, i.1)
 mutex_leads (m.Locks a waiters) word seen.Exchanged g = (refl, refl, refl)
 mutex_leads (m.Locks a waiters) word (seen.Word w) g = let i = seeks_idle a w in (refl, i.0, i.1)
@@ -95,7 +95,7 @@ mutex_leads (m.Leaves a false handed) word seen.Made g = inr (inr (0, sign hande
 mutex_leads (m.Wakes a) word seen.Made g = (refl, refl, refl)
 mutex_leads (m.Finishes a) word s g = go a.again s g
   where
-    go : (b : Bool) (s : Seen) → Gives (cond b act.Load (act.Done answer.Released)) word s → let q = option_map_or (λ p. p) (cond b (option_map (λ w. m.Relocks) (word_seen s)) None) m.Strays in
+    go : (b : Bool) (s : ActResult) → Gives (cond b act.Load (act.Done answer.Released)) word s → let q = option_map_or (λ p. p) (cond b (option_map (λ w. m.Relocks) (word_seen s)) None) m.Invalid in
         Leads (cond b act.Load (act.Done answer.Released)) s Out (mutex_stance q) 0 (mutex_taken q) (mt.wakes_with q)
     go true (seen.Word w) g = (refl, refl, refl)
     go false s g = absurd g
@@ -117,50 +117,50 @@ drains_idle : (d : Draining) (word : ℕ) → RwIdle (rt.drains d word)
 drains_idle d word =
     pick RwIdle (rt.has_readers word) _ _ (pick RwIdle (nat_lt 0 d.rounds) _ _ (refl, refl) (pick RwIdle (rt.is_writer_parked word) _ _ (refl, refl) (refl, refl))) (refl, refl)
 
-rw_tries_idle : (want : Want) (left word : ℕ) → RwIdle (rt.tries want left word)
+rw_tries_idle : (want : LockMode) (left word : ℕ) → RwIdle (rt.tries want left word)
 rw_tries_idle want left word = pick RwIdle (rt.is_tried want word) _ _ (refl, refl) (refl, refl)
 
-rw_retries_idle : (want : Want) (left word : ℕ) → RwIdle (rt.retries want left word)
+rw_retries_idle : (want : LockMode) (left word : ℕ) → RwIdle (rt.retries want left word)
 rw_retries_idle want left word = pick RwIdle (nat_lt 0 left) _ _ (rw_tries_idle want (left - 1) word) (refl, refl)
 
-admits_idle : (want : Want) (woken : Bool) → RwIdle (rt.admits want woken)
+admits_idle : (want : LockMode) (woken : Bool) → RwIdle (rt.admits want woken)
 admits_idle (want.Shared recursive) woken = (refl, refl)
 admits_idle want.Exclusive woken = (refl, refl)
 
-over_idle : (rest : Rest) → RwIdle (rt.over rest)
+over_idle : (rest : AfterWake) → RwIdle (rt.over rest)
 over_idle rest.FreedShared = (refl, refl)
 over_idle rest.FreedExclusive = (refl, refl)
 over_idle rest.Downgraded = (refl, refl)
 over_idle rest.AgainShared = (refl, refl)
 over_idle rest.AgainExclusive = (refl, refl)
 
-bumps_idle : (want : Want) (word : ℕ) → RwIdle (rt.bumps want word)
+bumps_idle : (want : LockMode) (word : ℕ) → RwIdle (rt.bumps want word)
 bumps_idle (want.Shared recursive) word = pick RwIdle (rt.is_written word) _ _ (refl, refl) (refl, refl)
 bumps_idle want.Exclusive word = pick RwIdle (rt.is_parked word) _ _ (refl, refl) (refl, refl)
 
 -- those that are to be woken are counted
-wakes_count : (rest : Rest) (count : ℕ) → (rw_stance (rt.wakes rest count) ≡ Out) × (rw_taken (rt.wakes rest count) ≡ count)
+wakes_count : (rest : AfterWake) (count : ℕ) → (rw_stance (rt.wakes rest count) ≡ Out) × (rw_taken (rt.wakes rest count) ≡ count)
 wakes_count rest count = go (nat_lt 0 count) refl
   where
     go : (b : Bool) → nat_lt 0 count ≡ b → (rw_stance (cond b (r.Wakes rest count) (r.Finishes rest)) ≡ Out) × (rw_taken (cond b (r.Wakes rest count) (r.Finishes rest)) ≡ count)
     go true e = (refl, refl)
     go false e = let z : count ≤ 0 = ltb-false 0 count e in (refl, omega arith)
 
-abbrev LeadsRw : RwPhase → Seen → RwPhase → Type 0
+abbrev LeadsRw : RwPhase → ActResult → RwPhase → Type 0
 LeadsRw p s q = Leads (rt.act_of p) s (rw_stance p) (rw_stance q) (rw_taken p) (rw_taken q) (rt.wakes_with q)
 
-finishes : (rest : Rest) (word : ℕ) (s : Seen) → Gives (rt.last_act rest) word s → Leads (rt.last_act rest) s Out (rw_stance (rt.next_phase (r.Finishes rest) s)) 0 (rw_taken (rt.next_phase (r.Finishes rest) s)) (rt.wakes_with (rt.next_phase (r.Finishes rest) s))
+finishes : (rest : AfterWake) (word : ℕ) (s : ActResult) → Gives (rt.last_act rest) word s → Leads (rt.last_act rest) s Out (rw_stance (rt.next_phase (r.Finishes rest) s)) 0 (rw_taken (rt.next_phase (r.Finishes rest) s)) (rt.wakes_with (rt.next_phase (r.Finishes rest) s))
 finishes rest.AgainShared word (seen.Word w) g = (refl, refl, refl)
 finishes rest.AgainExclusive word (seen.Word w) g = (refl, refl, refl)
 finishes rest word s g = absurd g
 
-pub rw_leads : (p : RwPhase) (word : ℕ) (s : Seen) → Gives (rt.act_of p) word s → LeadsRw p s (rt.next_phase p s)
+pub rw_leads : (p : RwPhase) (word : ℕ) (s : ActResult) → Gives (rt.act_of p) word s → LeadsRw p s (rt.next_phase p s)
 rw_leads (r.Loads a) word (seen.Word w) g = let i = rw_seeks_idle a w in (refl, i.0, i.1)
 rw_leads (r.Admits a from) word seen.Exchanged g = let i = admits_idle a.want false in (refl, i.0, i.1)
 rw_leads (r.Admits a from) word (seen.Word w) g = let i = rw_seeks_idle a w in (refl, i.0, i.1)
 rw_leads (r.Spins a) word (seen.Spun spun) g = (refl, refl, refl)
-rw_leads (r.Flags a from) word seen.Exchanged g = (refl, refl, refl)
-rw_leads (r.Flags a from) word (seen.Word w) g = let i = rw_seeks_idle a w in (refl, i.0, i.1)
+rw_leads (r.SetParked a from) word seen.Exchanged g = (refl, refl, refl)
+rw_leads (r.SetParked a from) word (seen.Word w) g = let i = rw_seeks_idle a w in (refl, i.0, i.1)
 rw_leads (r.Enters want woken) word seen.Entered g = (refl, inl refl, refl)
 rw_leads (r.Checks want woken) word (seen.Word w) g = go (rt.is_barred want w && rt.is_parked w)
   where
@@ -172,36 +172,36 @@ rw_leads (r.Appends want) word seen.Made g = (0, omega arith, refl, refl, refl, 
 rw_leads (r.Rests want) word seen.Made g = inr (inl (0, record { 0 = rt.share_of want }, refl, refl, refl, refl))
 rw_leads (r.Sleeps want) word (seen.Woken token) g =
     let i = pick RwIdle (token.0 == 1) (rt.admits want true) (r.Loads (rt.begins want true)) (admits_idle want true) (refl, refl) in (0, record { 0 = rt.share_of want }, refl, i.0, refl, i.1)
-rw_leads (r.Loads2 d) word (seen.Word w) g = let i = drains_idle d w in (refl, i.0, i.1)
-rw_leads (r.Spins2 d) word (seen.Spun spun) g = (refl, refl, refl)
-rw_leads (r.Flags2 d from) word seen.Exchanged g = (refl, refl, refl)
-rw_leads (r.Flags2 d from) word (seen.Word w) g = let i = drains_idle d w in (refl, i.0, i.1)
-rw_leads (r.Enters2 d) word seen.Entered g = (refl, inl refl, refl)
-rw_leads (r.Checks2 d) word (seen.Word w) g = go (rt.has_readers w && rt.is_writer_parked w)
+rw_leads (r.DrainLoads d) word (seen.Word w) g = let i = drains_idle d w in (refl, i.0, i.1)
+rw_leads (r.DrainSpins d) word (seen.Spun spun) g = (refl, refl, refl)
+rw_leads (r.DrainSetParked d from) word seen.Exchanged g = (refl, refl, refl)
+rw_leads (r.DrainSetParked d from) word (seen.Word w) g = let i = drains_idle d w in (refl, i.0, i.1)
+rw_leads (r.DrainEnters d) word seen.Entered g = (refl, inl refl, refl)
+rw_leads (r.DrainChecks d) word (seen.Word w) g = go (rt.has_readers w && rt.is_writer_parked w)
   where
-    go : (b : Bool) → LeadsRw (r.Checks2 d) (seen.Word w) (cond b (r.Appends2 d.rounds) (r.Retreats2 d))
+    go : (b : Bool) → LeadsRw (r.DrainChecks d) (seen.Word w) (cond b (r.DrainAppends d.rounds) (r.DrainRetreats d))
     go true = (1, refl, inr (record { 0 = 8 }, refl), refl, refl)
     go false = (1, refl, inl refl, refl, refl)
-rw_leads (r.Retreats2 d) word seen.Made g = inl (1, refl, refl, refl, refl)
-rw_leads (r.Appends2 rounds) word seen.Made g = (1, omega arith, refl, refl, refl, refl)
-rw_leads (r.Rests2 rounds) word seen.Made g = inr (inl (1, record { 0 = 8 }, refl, refl, refl, refl))
-rw_leads (r.Sleeps2 rounds) word (seen.Woken token) g = (1, record { 0 = 8 }, refl, refl, refl, refl)
+rw_leads (r.DrainRetreats d) word seen.Made g = inl (1, refl, refl, refl, refl)
+rw_leads (r.DrainAppends rounds) word seen.Made g = (1, omega arith, refl, refl, refl, refl)
+rw_leads (r.DrainRests rounds) word seen.Made g = inr (inl (1, record { 0 = 8 }, refl, refl, refl, refl))
+rw_leads (r.DrainSleeps rounds) word (seen.Woken token) g = (1, record { 0 = 8 }, refl, refl, refl, refl)
 rw_leads (r.TryLoads want) word (seen.Word w) g = let i = rw_tries_idle want 63 w in (refl, i.0, i.1)
 rw_leads (r.TryAdmits want from left) word seen.Exchanged g = (refl, refl, refl)
 rw_leads (r.TryAdmits want from left) word (seen.Word w) g = let i = rw_retries_idle want left w in (refl, i.0, i.1)
 rw_leads (r.BumpLoads want) word (seen.Word w) g = let i = bumps_idle want w in (refl, i.0, i.1)
 rw_leads (r.Relocks want) word (seen.Word w) g = let i = rw_seeks_idle (rt.begins want false) w in (refl, i.0, i.1)
-rw_leads (r.Unshares rest) word (seen.Before w) g = let i = pick RwIdle (w / 16 == 1 && rt.is_writer_parked w) (r.Owes2 rest) (rt.over rest) (refl, refl) (over_idle rest) in (refl, i.0, i.1)
-rw_leads (r.Owes2 rest) word seen.Entered g = (refl, inr refl, refl)
-rw_leads (r.Takes2 rest) word (seen.Took None left) g = (1, refl, (refl, refl))
-rw_leads (r.Takes2 rest) word (seen.Took (Some token) left) g = (1, refl, tt)
-rw_leads (r.Masks2 rest taken) word (seen.Before w) g = (refl, refl, refl)
-rw_leads (r.Leaves2 rest taken) word seen.Made g = let i = wakes_count rest (mt.bit taken) in inr (inr (1, sign false, refl, i.0, i.1))
+rw_leads (r.Unshares rest) word (seen.Before w) g = let i = pick RwIdle (w / 16 == 1 && rt.is_writer_parked w) (r.EnterWriterWakeSection rest) (rt.over rest) (refl, refl) (over_idle rest) in (refl, i.0, i.1)
+rw_leads (r.EnterWriterWakeSection rest) word seen.Entered g = (refl, inr refl, refl)
+rw_leads (r.TakeWriter rest) word (seen.Took None left) g = (1, refl, (refl, refl))
+rw_leads (r.TakeWriter rest) word (seen.Took (Some token) left) g = (1, refl, tt)
+rw_leads (r.ClearWriterParked rest taken) word (seen.Before w) g = (refl, refl, refl)
+rw_leads (r.LeaveWriterWakeSection rest taken) word seen.Made g = let i = wakes_count rest (mt.bit taken) in inr (inr (1, sign false, refl, i.0, i.1))
 rw_leads (r.Unlocks fair rest) word seen.Exchanged g = let i = over_idle rest in (refl, i.0, i.1)
 rw_leads (r.Unlocks fair rest) word (seen.Word w) g = (refl, refl, refl)
 rw_leads (r.LooksExclusive fair rest) word seen.Entered g = (refl, inr refl, refl)
-rw_leads r.Downgrades word (seen.Before w) g = let i = pick RwIdle (rt.is_parked w) r.Owes (r.Ends outcome.Downgraded) (refl, refl) (refl, refl) in (refl, i.0, i.1)
-rw_leads r.Owes word seen.Entered g = (refl, inr refl, refl)
+rw_leads r.Downgrades word (seen.Before w) g = let i = pick RwIdle (rt.is_parked w) r.EnterWakeSection (r.Ends outcome.Downgraded) (refl, refl) (refl, refl) in (refl, i.0, i.1)
+rw_leads r.EnterWakeSection word seen.Entered g = (refl, inr refl, refl)
 rw_leads (r.Scans a) word (seen.Took None left) g = (0, refl, (refl, refl))
 rw_leads (r.Scans a) word (seen.Took (Some token) left) g = (0, refl, tt)
 rw_leads (r.Stores a left) word (seen.Stored fair) g = go (rt.hands a (a.fair || fair))
@@ -216,12 +216,12 @@ rw_leads p word s g = absurd g
 
 -- CORES OF EITHER KIND
 
-pub acts_lead : (c : Core) (word : ℕ) (s : Seen) → Gives (core_act c) word s → LeadsCore (core_act c) s c (core_next c s)
+pub acts_lead : (c : Core) (word : ℕ) (s : ActResult) → Gives (core_act c) word s → LeadsCore (core_act c) s c (core_next c s)
 acts_lead (core.Mutex c) word s g = mutex_leads c.phase word s g
 acts_lead (core.Rw c) word s g = rw_leads c.phase word s g
 
 -- the same of an act that is known
-pub leads_by : (c : Core) (a : Act) (word : ℕ) (s : Seen) → core_act c ≡ a → Gives a word s → LeadsCore a s c (core_next c s)
+pub leads_by : (c : Core) (a : Act) (word : ℕ) (s : ActResult) → core_act c ≡ a → Gives a word s → LeadsCore a s c (core_next c s)
 leads_by c a word s is g =
     subst (λ (b : Act). LeadsCore b s c (core_next c s)) is (acts_lead c word s (subst (λ (b : Act). Gives b word s) (sym is) g))
 
@@ -245,21 +245,21 @@ scan_takes : (a : Scanning) (token : ParkToken) (left : Bool) → rw_counts (r.S
 scan_takes a token left (inl h) =
     let b : Scanning = record a { shared = min (a.shared + 1) (2 ^ 32 - 1) } in
     let room : a.shared < 2 ^ 32 - 1 = h.1 in
-    subst (λ (o : Option Scanning). let q = option_map_or (λ p. p) (option_map (rt.goes_on left) o) r.Strays in TakesOne (In 0 Takes) (rw_stance q) (rt.count_of a) (rw_taken q))
+    subst (λ (o : Option Scanning). let q = option_map_or (λ p. p) (option_map (rt.goes_on left) o) r.Invalid in TakesOne (In 0 Takes) (rw_stance q) (rt.count_of a) (rw_taken q))
     (sym (cond-true (token.0 == 16) (Some b) (cond (token.0 == 8) (Some (record a { writer = true })) (cond (token.0 == 20) (Some (record a { upgradable = true })) None)) (eq-eqb token.0 16 h.0)))
     (goes left a b (omega arith))
 scan_takes a token left (inr h) =
     let b : Scanning = record a { writer = true } in
     let rest : Option Scanning = cond (token.0 == 20) (Some (record a { upgradable = true })) None in
     let was : mt.bit a.writer ≡ 0 = ap mt.bit h.1 in
-    subst (λ (o : Option Scanning). let q = option_map_or (λ p. p) (option_map (rt.goes_on left) o) r.Strays in TakesOne (In 0 Takes) (rw_stance q) (rt.count_of a) (rw_taken q))
+    subst (λ (o : Option Scanning). let q = option_map_or (λ p. p) (option_map (rt.goes_on left) o) r.Invalid in TakesOne (In 0 Takes) (rw_stance q) (rt.count_of a) (rw_taken q))
     (sym (cond-false (token.0 == 16) (Some (record a { shared = min (a.shared + 1) (2 ^ 32 - 1) })) (cond (token.0 == 8) (Some b) rest) (ne_eqb token.0 16 (λ e. absurd (let z = h.0 in omega arith)))
     ∙ cond-true (token.0 == 8) (Some b) rest (eq-eqb token.0 8 h.0)))
     (goes left a b (omega arith))
 
 rw_takes : (p : RwPhase) (word : ℕ) (token : ParkToken) (left : Bool) → let s = seen.Took (Some token) left in
     Gives (rt.act_of p) word s → rw_counts p token → TakesOne (rw_stance p) (rw_stance (rt.next_phase p s)) (rw_taken p) (rw_taken (rt.next_phase p s))
-rw_takes (r.Takes2 rest) word token left g h = (1, omega arith, refl, inr refl, refl)
+rw_takes (r.TakeWriter rest) word token left g h = (1, omega arith, refl, inr refl, refl)
 rw_takes (r.Scans a) word token left g h = scan_takes a token left h
 rw_takes (r.Finishes rest.FreedShared) word token left g h = absurd g
 rw_takes (r.Finishes rest.FreedExclusive) word token left g h = absurd g
@@ -276,7 +276,7 @@ takings_count (core.Rw c) word token left g h = rw_takes c.phase word token left
 -- WHERE CALLS BEGIN AND END
 
 mutex_begins : (p : MutexPhase) → Idle (mt.next_phase p seen.Start)
-mutex_begins (m.Finishes a) = pick (λ (o : Option MutexPhase). Idle (option_map_or (λ q. q) o m.Strays)) a.again None None (refl, refl) (refl, refl)
+mutex_begins (m.Finishes a) = pick (λ (o : Option MutexPhase). Idle (option_map_or (λ q. q) o m.Invalid)) a.again None None (refl, refl) (refl, refl)
 mutex_begins p = (refl, refl)
 
 rw_begins : (p : RwPhase) → RwIdle (rt.next_phase p seen.Start)
@@ -295,7 +295,7 @@ mutex_ends (m.Unlocking fair) = (refl, refl)
 mutex_ends m.Bumping = (refl, refl)
 mutex_ends m.Refuses = (refl, refl)
 mutex_ends (m.Ends a) = (refl, refl)
-mutex_ends m.Strays = (refl, refl)
+mutex_ends m.Invalid = (refl, refl)
 mutex_ends p = tt
 
 rw_ends : (p : RwPhase) → IsOver (rt.act_of p) (rw_stance p) (rw_taken p)
@@ -313,7 +313,7 @@ rw_ends (r.Finishes rest.Downgraded) = (refl, refl)
 rw_ends (r.Finishes rest.AgainShared) = tt
 rw_ends (r.Finishes rest.AgainExclusive) = tt
 rw_ends (r.Ends outcome) = (refl, refl)
-rw_ends r.Strays = (refl, refl)
+rw_ends r.Invalid = (refl, refl)
 rw_ends p = tt
 
 pub calls_end : (c : Core) → IsOver (core_act c) (stance c) (taken_count c)
@@ -335,7 +335,7 @@ mutex_wakes p k token said e = absurd (not_asleep {a = mutex_stance p} tt e)
 
 rw_wakes : (p : RwPhase) (k : ℕ) (token : ParkToken) (said : UnparkToken) → rw_stance p ≡ Asleep k token → (rw_taken p ≡ 0) × RwIdle (rt.next_phase p (seen.Woken said))
 rw_wakes (r.Sleeps want) k token said e = (refl, pick RwIdle (said.0 == 1) (rt.admits want true) (r.Loads (rt.begins want true)) (admits_idle want true) (refl, refl))
-rw_wakes (r.Sleeps2 rounds) k token said e = (refl, (refl, refl))
+rw_wakes (r.DrainSleeps rounds) k token said e = (refl, (refl, refl))
 rw_wakes p k token said e = absurd (not_asleep {a = rw_stance p} tt e)
 
 pub sleepers_wake : (c : Core) (k : ℕ) (token : ParkToken) (said : UnparkToken) → stance c ≡ Asleep k token
@@ -358,11 +358,11 @@ abbrev HasSome : RwPhase → Type 0
 HasSome (r.Wakes rest count) = 1 ≤ count
 HasSome p = Unit {0}
 
-if_once : (b : Bool) (p : RwPhase) → HasSome p → HasSome (option_map_or (λ q. q) (rt.once b p) r.Strays)
+if_once : (b : Bool) (p : RwPhase) → HasSome p → HasSome (option_map_or (λ q. q) (rt.once b p) r.Invalid)
 if_once true p h = h
 if_once false p h = tt
 
-if_seen : {X : Type 0} (o : Option X) (f : X → RwPhase) → ((x : X) → HasSome (f x)) → HasSome (option_map_or (λ q. q) (option_map f o) r.Strays)
+if_seen : {X : Type 0} (o : Option X) (f : X → RwPhase) → ((x : X) → HasSome (f x)) → HasSome (option_map_or (λ q. q) (option_map f o) r.Invalid)
 if_seen None f h = tt
 if_seen (Some x) f h = h x
 
@@ -379,28 +379,28 @@ seeks_some a word =
 drains_some : (d : Draining) (word : ℕ) → HasSome (rt.drains d word)
 drains_some d word = pick HasSome (rt.has_readers word) _ _ (pick HasSome (nat_lt 0 d.rounds) _ _ tt (pick HasSome (rt.is_writer_parked word) _ _ tt tt)) tt
 
-tries_some : (want : Want) (left word : ℕ) → HasSome (rt.tries want left word)
+tries_some : (want : LockMode) (left word : ℕ) → HasSome (rt.tries want left word)
 tries_some want left word = pick HasSome (rt.is_tried want word) _ _ tt tt
 
-retries_some : (want : Want) (left word : ℕ) → HasSome (rt.retries want left word)
+retries_some : (want : LockMode) (left word : ℕ) → HasSome (rt.retries want left word)
 retries_some want left word = pick HasSome (nat_lt 0 left) _ _ (tries_some want (left - 1) word) tt
 
-admits_some : (want : Want) (woken : Bool) → HasSome (rt.admits want woken)
+admits_some : (want : LockMode) (woken : Bool) → HasSome (rt.admits want woken)
 admits_some (want.Shared recursive) woken = tt
 admits_some want.Exclusive woken = tt
 
-over_some : (rest : Rest) → HasSome (rt.over rest)
+over_some : (rest : AfterWake) → HasSome (rt.over rest)
 over_some rest.FreedShared = tt
 over_some rest.FreedExclusive = tt
 over_some rest.Downgraded = tt
 over_some rest.AgainShared = tt
 over_some rest.AgainExclusive = tt
 
-bumps_some : (want : Want) (word : ℕ) → HasSome (rt.bumps want word)
+bumps_some : (want : LockMode) (word : ℕ) → HasSome (rt.bumps want word)
 bumps_some (want.Shared recursive) word = pick HasSome (rt.is_written word) _ _ tt tt
 bumps_some want.Exclusive word = pick HasSome (rt.is_parked word) _ _ tt tt
 
-wakes_has_some : (rest : Rest) (count : ℕ) → HasSome (rt.wakes rest count)
+wakes_has_some : (rest : AfterWake) (count : ℕ) → HasSome (rt.wakes rest count)
 wakes_has_some rest count = go (nat_lt 0 count) refl
   where
     go : (b : Bool) → nat_lt 0 count ≡ b → HasSome (cond b (r.Wakes rest count) (r.Finishes rest))
@@ -410,12 +410,12 @@ wakes_has_some rest count = go (nat_lt 0 count) refl
 goes_some : (left : Bool) (a : Scanning) → HasSome (rt.goes_on left a)
 goes_some left a = pick HasSome (left && not a.writer) (r.Scans a) (r.Stores a left) tt tt
 
-scans_some : (a : Scanning) (s : Seen) → HasSome (rt.next_phase (r.Scans a) s)
+scans_some : (a : Scanning) (s : ActResult) → HasSome (rt.next_phase (r.Scans a) s)
 scans_some a (seen.Took None left) = tt
 scans_some a (seen.Took (Some token) left) = if_seen (rt.with_taken a token) (rt.goes_on left) (goes_some left)
 scans_some a s = tt
 
-finishes_some : (rest : Rest) (o : Option ℕ) → HasSome (option_map_or (λ q. q) (option_and_then (λ word. rt.asks_again rest) o) r.Strays)
+finishes_some : (rest : AfterWake) (o : Option ℕ) → HasSome (option_map_or (λ q. q) (option_and_then (λ word. rt.asks_again rest) o) r.Invalid)
 finishes_some rest None = tt
 finishes_some rest.FreedShared (Some w) = tt
 finishes_some rest.FreedExclusive (Some w) = tt
@@ -423,7 +423,7 @@ finishes_some rest.Downgraded (Some w) = tt
 finishes_some rest.AgainShared (Some w) = tt
 finishes_some rest.AgainExclusive (Some w) = tt
 
-rw_next_some : (p : RwPhase) (s : Seen) → HasSome (rt.next_phase p s)
+rw_next_some : (p : RwPhase) (s : ActResult) → HasSome (rt.next_phase p s)
 rw_next_some (r.Locking want) s = if_once (is_start s) _ tt
 rw_next_some (r.Trying want) s = if_once (is_start s) _ tt
 rw_next_some r.UnlockingShared s = if_once (is_start s) _ tt
@@ -434,43 +434,43 @@ rw_next_some r.BumpingExclusive s = if_once (is_start s) _ tt
 rw_next_some (r.Loads a) s = if_seen (word_seen s) _ (seeks_some a)
 rw_next_some (r.Admits a word) s = if_seen (exchange_seen s) _ (won_some _ _ (admits_some a.want false) (seeks_some a))
 rw_next_some (r.Spins a) s = if_seen (spun_seen s) (λ spun. r.Loads (record a { rounds = cond spun (a.rounds - 1) 0 })) (λ x. tt)
-rw_next_some (r.Flags a word) s = if_seen (exchange_seen s) _ (won_some (r.Enters a.want a.woken) (rt.seeks a) tt (seeks_some a))
+rw_next_some (r.SetParked a word) s = if_seen (exchange_seen s) _ (won_some (r.Enters a.want a.woken) (rt.seeks a) tt (seeks_some a))
 rw_next_some (r.Enters want woken) s = if_once (is_entered s) _ tt
 rw_next_some (r.Checks want woken) s = if_seen (word_seen s) _ (λ w. pick HasSome (rt.is_barred want w && rt.is_parked w) (r.Appends want) (r.Retreats want woken) tt tt)
 rw_next_some (r.Retreats want woken) s = if_once (is_made s) _ tt
 rw_next_some (r.Appends want) s = if_once (is_made s) _ tt
 rw_next_some (r.Rests want) s = if_once (is_made s) _ tt
 rw_next_some (r.Sleeps want) s = if_seen (woken_seen s) _ (λ (token : UnparkToken). pick HasSome (token.0 == 1) (rt.admits want true) (r.Loads (rt.begins want true)) (admits_some want true) tt)
-rw_next_some (r.Loads2 d) s = if_seen (word_seen s) _ (drains_some d)
-rw_next_some (r.Spins2 d) s = if_seen (spun_seen s) (λ spun. r.Loads2 (record d { rounds = cond spun (d.rounds - 1) 0 })) (λ x. tt)
-rw_next_some (r.Flags2 d word) s = if_seen (exchange_seen s) _ (won_some (r.Enters2 d) (rt.drains d) tt (drains_some d))
-rw_next_some (r.Enters2 d) s = if_once (is_entered s) _ tt
-rw_next_some (r.Checks2 d) s = if_seen (word_seen s) _ (λ w. pick HasSome (rt.has_readers w && rt.is_writer_parked w) (r.Appends2 d.rounds) (r.Retreats2 d) tt tt)
-rw_next_some (r.Retreats2 d) s = if_once (is_made s) _ tt
-rw_next_some (r.Appends2 rounds) s = if_once (is_made s) _ tt
-rw_next_some (r.Rests2 rounds) s = if_once (is_made s) _ tt
-rw_next_some (r.Sleeps2 rounds) s = if_seen (woken_seen s) (λ token. r.Loads2 (record { woken = true; rounds = rounds })) (λ x. tt)
+rw_next_some (r.DrainLoads d) s = if_seen (word_seen s) _ (drains_some d)
+rw_next_some (r.DrainSpins d) s = if_seen (spun_seen s) (λ spun. r.DrainLoads (record d { rounds = cond spun (d.rounds - 1) 0 })) (λ x. tt)
+rw_next_some (r.DrainSetParked d word) s = if_seen (exchange_seen s) _ (won_some (r.DrainEnters d) (rt.drains d) tt (drains_some d))
+rw_next_some (r.DrainEnters d) s = if_once (is_entered s) _ tt
+rw_next_some (r.DrainChecks d) s = if_seen (word_seen s) _ (λ w. pick HasSome (rt.has_readers w && rt.is_writer_parked w) (r.DrainAppends d.rounds) (r.DrainRetreats d) tt tt)
+rw_next_some (r.DrainRetreats d) s = if_once (is_made s) _ tt
+rw_next_some (r.DrainAppends rounds) s = if_once (is_made s) _ tt
+rw_next_some (r.DrainRests rounds) s = if_once (is_made s) _ tt
+rw_next_some (r.DrainSleeps rounds) s = if_seen (woken_seen s) (λ token. r.DrainLoads (record { woken = true; rounds = rounds })) (λ x. tt)
 rw_next_some (r.TryLoads want) s = if_seen (word_seen s) _ (tries_some want 63)
 rw_next_some (r.TryAdmits want word left) s = if_seen (exchange_seen s) _ (won_some (r.Ends (rt.gains want)) (rt.retries want left) tt (retries_some want left))
 rw_next_some (r.Refuses want) s = tt
 rw_next_some (r.BumpLoads want) s = if_seen (word_seen s) _ (bumps_some want)
 rw_next_some (r.Relocks want) s = if_seen (word_seen s) _ (seeks_some (rt.begins want false))
-rw_next_some (r.Unshares rest) s = if_seen (word_before s) _ (λ w. pick HasSome (w / 16 == 1 && rt.is_writer_parked w) (r.Owes2 rest) (rt.over rest) tt (over_some rest))
-rw_next_some (r.Owes2 rest) s = if_once (is_entered s) _ tt
-rw_next_some (r.Takes2 rest) s = if_seen (took_seen s) (λ t. r.Masks2 rest (is_some t.token)) (λ x. tt)
-rw_next_some (r.Masks2 rest taken) s = if_seen (word_before s) (λ w. r.Leaves2 rest taken) (λ x. tt)
-rw_next_some (r.Leaves2 rest taken) s = if_once (is_made s) _ (wakes_has_some rest (mt.bit taken))
+rw_next_some (r.Unshares rest) s = if_seen (word_before s) _ (λ w. pick HasSome (w / 16 == 1 && rt.is_writer_parked w) (r.EnterWriterWakeSection rest) (rt.over rest) tt (over_some rest))
+rw_next_some (r.EnterWriterWakeSection rest) s = if_once (is_entered s) _ tt
+rw_next_some (r.TakeWriter rest) s = if_seen (took_seen s) (λ t. r.ClearWriterParked rest (is_some t.token)) (λ x. tt)
+rw_next_some (r.ClearWriterParked rest taken) s = if_seen (word_before s) (λ w. r.LeaveWriterWakeSection rest taken) (λ x. tt)
+rw_next_some (r.LeaveWriterWakeSection rest taken) s = if_once (is_made s) _ (wakes_has_some rest (mt.bit taken))
 rw_next_some (r.Unlocks fair rest) s = if_seen (exchange_seen s) _ (won_some (rt.over rest) (λ w. r.LooksExclusive fair rest) (over_some rest) (λ w. tt))
 rw_next_some (r.LooksExclusive fair rest) s = if_once (is_entered s) _ tt
-rw_next_some r.Downgrades s = if_seen (word_before s) _ (λ w. pick HasSome (rt.is_parked w) r.Owes (r.Ends outcome.Downgraded) tt tt)
-rw_next_some r.Owes s = if_once (is_entered s) _ tt
+rw_next_some r.Downgrades s = if_seen (word_before s) _ (λ w. pick HasSome (rt.is_parked w) r.EnterWakeSection (r.Ends outcome.Downgraded) tt tt)
+rw_next_some r.EnterWakeSection s = if_once (is_entered s) _ tt
 rw_next_some (r.Scans a) s = scans_some a s
 rw_next_some (r.Stores a left) s = if_seen (stored_seen s) (λ fair. r.Leaves a.rest (rt.count_of a) (rt.hands a (a.fair || fair))) (λ x. tt)
 rw_next_some (r.Leaves rest count handed) s = if_once (is_made s) _ (wakes_has_some rest count)
 rw_next_some (r.Wakes rest count) s = if_once (is_made s) _ (wakes_has_some rest (count - 1))
 rw_next_some (r.Finishes rest) s = finishes_some rest (word_seen s)
 rw_next_some (r.Ends outcome) s = tt
-rw_next_some r.Strays s = tt
+rw_next_some r.Invalid s = tt
 
 rw_some : (p : RwPhase) → HasSome p → rt.act_of p ≡ act.Section section.Wake → 1 ≤ rw_taken p
 rw_some (r.Wakes rest count) h e = h
@@ -481,7 +481,7 @@ rw_some (r.Finishes rest.AgainShared) h e = cc
 rw_some (r.Finishes rest.AgainExclusive) h e = cc
 rw_some p h e = cc
 
-pub wakes_some : (c : Core) (s : Seen) → core_act (core_next c s) ≡ act.Section section.Wake → 1 ≤ taken_count (core_next c s)
+pub wakes_some : (c : Core) (s : ActResult) → core_act (core_next c s) ≡ act.Section section.Wake → 1 ≤ taken_count (core_next c s)
 wakes_some (core.Mutex c) s e = mutex_some (mt.next_phase c.phase s) e
 wakes_some (core.Rw c) s e = rw_some (rt.next_phase c.phase s) (rw_next_some c.phase s) e
 
@@ -504,14 +504,14 @@ rw_keys (r.Retreats want woken) = omega arith
 rw_keys (r.Appends want) = omega arith
 rw_keys (r.Rests want) = omega arith
 rw_keys (r.Sleeps want) = omega arith
-rw_keys (r.Checks2 d) = omega arith
-rw_keys (r.Retreats2 d) = omega arith
-rw_keys (r.Appends2 rounds) = omega arith
-rw_keys (r.Rests2 rounds) = omega arith
-rw_keys (r.Sleeps2 rounds) = omega arith
-rw_keys (r.Takes2 rest) = omega arith
-rw_keys (r.Masks2 rest taken) = omega arith
-rw_keys (r.Leaves2 rest taken) = omega arith
+rw_keys (r.DrainChecks d) = omega arith
+rw_keys (r.DrainRetreats d) = omega arith
+rw_keys (r.DrainAppends rounds) = omega arith
+rw_keys (r.DrainRests rounds) = omega arith
+rw_keys (r.DrainSleeps rounds) = omega arith
+rw_keys (r.TakeWriter rest) = omega arith
+rw_keys (r.ClearWriterParked rest taken) = omega arith
+rw_keys (r.LeaveWriterWakeSection rest taken) = omega arith
 rw_keys (r.Scans s) = omega arith
 rw_keys (r.Stores s left) = omega arith
 rw_keys (r.Leaves rest count handed) = omega arith

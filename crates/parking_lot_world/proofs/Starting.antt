@@ -11,33 +11,33 @@ use Rattle.parking_lot_rules.specs.Roles.{Role, Idle}
 use Rattle.parking_lot_rules.specs.Mutex as mutex
 use Rattle.parking_lot_rules.specs.Any.{AnyLock, AnyStep, any_rules, any_crossing}
 use Rattle.parking_lot_rules.specs.Family.{IsFree, entered_after}
-use Rattle.parking_lot_cores.specs.declared.act.Act.{Act}
-use Rattle.parking_lot_cores.specs.declared.act.Act.TheVariants as act
-use Rattle.parking_lot_cores.specs.declared.act.SectionAct.TheVariants as section
-use Rattle.parking_lot_cores.specs.Acts.{word_after}
-use Rattle.parking_lot_cores.specs.declared.act.Seen.TheVariants as seen
-use Rattle.parking_lot_cores.specs.declared.rw_core.RwCore.{RwCore}
-use Rattle.parking_lot_cores.specs.declared.mutex_core.MutexCore.{MutexCore}
-use Rattle.parking_lot_cores.specs.RwRules as of_rw
-use Rattle.parking_lot_cores.specs.MutexRules as of_mutex
+use Rattle.parking_lot_protocol.specs.declared.act.Act.{Act}
+use Rattle.parking_lot_protocol.specs.declared.act.Act.TheVariants as act
+use Rattle.parking_lot_protocol.specs.declared.act.SectionAct.TheVariants as section
+use Rattle.parking_lot_protocol.specs.Acts.{word_after}
+use Rattle.parking_lot_protocol.specs.declared.act.ActResult.TheVariants as seen
+use Rattle.parking_lot_protocol.specs.declared.rw_core.RwCore.{RwCore}
+use Rattle.parking_lot_protocol.specs.declared.mutex_core.MutexCore.{MutexCore}
+use Rattle.parking_lot_protocol.specs.RwRules as of_rw
+use Rattle.parking_lot_protocol.specs.MutexRules as of_mutex
 use Rattle.parking_lot_world.specs.declared.seat.Core.{Core}
 use Rattle.parking_lot_world.specs.declared.seat.Core.TheVariants as core
-use Rattle.parking_lot_world.specs.declared.seat.Call.{Call}
+use Rattle.parking_lot_world.specs.declared.open_call.Call.{Call}
 use Rattle.parking_lot_rules.specs.Roles.{Owned}
-use Rattle.parking_lot_world.specs.declared.seat.Spot.{Spot}
-use Rattle.parking_lot_world.specs.declared.seat.Spot.TheVariants as spot
+use Rattle.parking_lot_world.specs.declared.seat.QueuePosition.{QueuePosition}
+use Rattle.parking_lot_world.specs.declared.seat.QueuePosition.TheVariants as spot
 use Rattle.parking_lot_world.specs.Rows.{State, word_at, call_at, hold_at, taken_by, rw_spot, first_of_all, mutex_spot, mutex_role_in, mutex_role_at, mutex_core_role, mutex_at, rw_role_in, rw_role_at, rw_core_role, rw_lock_at, inside, one_bucket}
 use Rattle.parking_lot_world.specs.Stances.{rw_begun, mutex_begun, core_act, core_next}
 use Rattle.parking_lot_world.specs.RowActs.{with_call, hears, begun}
 use Rattle.parking_lot_world.specs.RowFits.{FitsTogether, LotFits, WakesFit, RulesFit, IsOfKind, IsPrepared, KnowsList, rw_prepared, rw_knows, mutex_knows, is_off, is_away}
 use Rattle.parking_lot_rules.specs.Holds.{shared_holds}
 use Rattle.parking_lot_rules.specs.Lock.{Lock}
-use Rattle.parking_lot_cores.specs.declared.rw_phase.RwPhase.{RwPhase}
-use Rattle.parking_lot_cores.specs.declared.rw_phase.RwPhase.TheVariants as r
-use Rattle.parking_lot_cores.specs.RwTable as of_rw_table
+use Rattle.parking_lot_protocol.specs.declared.rw_phase.RwPhase.{RwPhase}
+use Rattle.parking_lot_protocol.specs.declared.rw_phase.RwPhase.TheVariants as r
+use Rattle.parking_lot_protocol.specs.RwTable as of_rw_table
 use Rattle.parking_lot_world.specs.declared.calls.LockKind.TheVariants as kind
 use Rattle.parking_lot_world.specs.RwLaws.{rw_begins, Finds, Learns, Meets}
-use Rattle.parking_lot_cores.specs.MutexTable as of_mutex_table
+use Rattle.parking_lot_protocol.specs.MutexTable as of_mutex_table
 use Rattle.parking_lot_rules.specs.Family.{Crossing}
 use Rattle.parking_lot_world.specs.declared.seat.Wakeup.{Wakeup}
 use Rattle.parking_lot_world.specs.MutexLaws.{Plays, IsOwnStep, crossing_of}
@@ -58,8 +58,8 @@ use Rattle.parking_lot_world.proofs.Lifting.{IsThere, Elsewhere, rw_there, mutex
 use Rattle.parking_lot_world.proofs.Everybody.{all, same-all, get-all, was-all, length-all}
 use Rattle.parking_lot_world.proofs.Making.{IsSoundState, Crossed, TellsOf, quiet_rw, quiet_mutex, mutex_goes}
 use Rattle.parking_lot_world.proofs.Owning.{OwnAct, own-there, own-elsewhere, mutex_after, rw_goes_from}
-use Rattle.parking_lot_cores.specs.declared.mutex_phase.MutexPhase.{MutexPhase}
-use Rattle.parking_lot_cores.specs.declared.mutex_phase.MutexPhase.TheVariants as m
+use Rattle.parking_lot_protocol.specs.declared.mutex_phase.MutexPhase.{MutexPhase}
+use Rattle.parking_lot_protocol.specs.declared.mutex_phase.MutexPhase.TheVariants as m
 use Rattle.parking_lot_world.proofs.Calling.{call_of, call-here, call-elsewhere}
 use Rattle.parking_lot_world.specs.RowSteps.{IsQuiet, IsMade, IsRwMove, IsMutexMove, IsMoveOf}
 
@@ -109,7 +109,7 @@ start_word : (a : Act) (word : ℕ) → word_after a seen.Start word ≡ word
 start_word act.Load w = refl
 start_word (act.Exchange from to) w = refl
 start_word (act.Add by) w = refl
-start_word (act.Mask keep) w = refl
+start_word (act.FetchAnd keep) w = refl
 start_word act.Spin w = refl
 start_word (act.Enter key) w = refl
 start_word (act.Section section.Check) w = refl
@@ -122,7 +122,7 @@ start_word (act.Section section.Wake) w = refl
 start_word act.Sleep w = refl
 start_word (act.Done answer) w = refl
 
-mutex_idle : (at : of_mutex.Spot) (v : ℕ) (p : MutexPhase) → mutex_begun p ≡ false → of_mutex.role at v p ≡ record { owns = of_mutex.owns p; does = mutex.Idle }
+mutex_idle : (at : of_mutex.QueuePosition) (v : ℕ) (p : MutexPhase) → mutex_begun p ≡ false → of_mutex.role at v p ≡ record { owns = of_mutex.owns p; does = mutex.Idle }
 mutex_idle at v m.Locking h = refl
 mutex_idle at v m.Trying h = refl
 mutex_idle at v (m.Unlocking fair) h = refl
@@ -383,7 +383,7 @@ module _ (s : State) (t : ℕ) (c : Call) (may : MayBegin s t c) (h : FitsTogeth
   wakes_begun = record {
     off = λ v by x said at is. calls_begun (λ (n : ℕ) (y : Call). y.spot ≡ spot.Off by said → (i : ℕ) × (w : Wakeup) × (slice_get s.wakes i ≡ Some w) × (w.by ≡ by) × (w.thread ≡ n))
         (λ n y at_n off. h.wakes.off n by y said at_n off) (λ off. absurd (both_ways (is_off c.spot) (ap is_off may.listed) (ap is_off off))) v x at is;
-    room = h.wakes.room ∙ omega (arith, count_by-set is_away s.calls t None (Some (hears c seen.Start)) (empty_slot s.calls t may.low may.free), ap (λ (o : Spot). flag (is_off o)) may.listed);
+    room = h.wakes.room ∙ omega (arith, count_by-set is_away s.calls t None (Some (hears c seen.Start)) (empty_slot s.calls t may.low may.free), ap (λ (o : QueuePosition). flag (is_off o)) may.listed);
   }
 
   rules_begun : CallFits s.kinds s.lot.queues (hears c seen.Start) → IsSoundState u → RulesFit u

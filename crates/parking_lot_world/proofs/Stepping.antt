@@ -5,12 +5,12 @@ use Rattle.std.specs.Prelude.{not, is_some}
 use Rattle.std.proofs.lemmas.Bool.{both_ways}
 use Rattle.parking_lot_core.specs.declared.place.Section.{Section}
 use Rattle.parking_lot_core.specs.declared.parking.ParkToken.{ParkToken}
-use Rattle.parking_lot_cores.specs.declared.act.Act.{Act}
-use Rattle.parking_lot_cores.specs.declared.act.Act.TheVariants as act
-use Rattle.parking_lot_cores.specs.declared.act.SectionAct.TheVariants as section
-use Rattle.parking_lot_cores.specs.declared.act.CoreAnswer.{CoreAnswer}
-use Rattle.parking_lot_cores.specs.declared.act.WordChange.{WordChange}
-use Rattle.parking_lot_world.specs.declared.seat.Call.{Call}
+use Rattle.parking_lot_protocol.specs.declared.act.Act.{Act}
+use Rattle.parking_lot_protocol.specs.declared.act.Act.TheVariants as act
+use Rattle.parking_lot_protocol.specs.declared.act.SectionAct.TheVariants as section
+use Rattle.parking_lot_protocol.specs.declared.act.CoreAnswer.{CoreAnswer}
+use Rattle.parking_lot_protocol.specs.declared.act.WordChange.{WordChange}
+use Rattle.parking_lot_world.specs.declared.open_call.Call.{Call}
 use Rattle.parking_lot_world.specs.Rows.{State, call_at}
 use Rattle.parking_lot_world.specs.Stances.{In, Joins, Takes, sign, stance, core_act, core_next, core_tells}
 use Rattle.parking_lot_world.specs.RowActs.{key_of, added, appended, answered, checked, entered, exchanged, left, loaded, masked, spun, told_all, took, took_nobody, woke}
@@ -18,7 +18,7 @@ use Rattle.parking_lot_world.specs.RowFits.{FitsTogether}
 use Rattle.parking_lot_world.specs.ActLaws.{Acts, Ends, Keeps}
 use Rattle.parking_lot_world.specs.Machines.{is_possible, can_move_in, can_move, IsAsSaid, IsStepped, IsTakenFrom, IsWoken}
 use Rattle.parking_lot_core.specs.declared.place.Place.TheVariants.{Taken}
-use Rattle.parking_lot_cores.specs.declared.act.Seen.TheVariants as seen
+use Rattle.parking_lot_protocol.specs.declared.act.ActResult.TheVariants as seen
 use Rattle.parking_lot_world.specs.Ranks.{Pays}
 use Rattle.parking_lot_world.proofs.Stancing.{small_key}
 use Rattle.parking_lot_world.proofs.LotKept.{acts_keep_fits}
@@ -49,8 +49,8 @@ module _ (s u : State) (t : ℕ) (c : Call) (fair : Bool) (h : FitsTogether s) (
   pub spin : core_act c.core ≡ act.Spin → u ≡ spun s t c → IsStepped t fair None s u
   spin asked e = plain act.Spin asked tt (spun s t c) e (laws.spin s t c asked) (pays.spin s t c h here asked)
 
-  pub mask : (keep : ℕ) → core_act c.core ≡ act.Mask keep → u ≡ masked s t c keep → IsStepped t fair None s u
-  mask keep asked e = plain (act.Mask keep) asked tt (masked s t c keep) e (tells.laws.mask s t c keep asked (stored_sound s t c h.lots here (sign false))) (pays.mask s t c h here keep asked)
+  pub mask : (keep : ℕ) → core_act c.core ≡ act.FetchAnd keep → u ≡ masked s t c keep → IsStepped t fair None s u
+  mask keep asked e = plain (act.FetchAnd keep) asked tt (masked s t c keep) e (tells.laws.mask s t c keep asked (stored_sound s t c h.lots here (sign false))) (pays.mask s t c h here keep asked)
 
   pub enter : (key : ℕ) → core_act c.core ≡ act.Enter key → s.lot.section ≡ None → u ≡ entered s t c key → IsStepped t fair None s u
   enter key asked free e = plain (act.Enter key) asked tt (entered s t c key) e (laws.enter s t c key asked free (acts_keep_fits.enters s t c key free h.lots here asked).sound) (pays.enter s t c h here key asked free)

@@ -1,8 +1,8 @@
 -- The steps of sum_by (far_steps n) threads but one, where calls have changed.
 use Rattle.std.proofs.Common.{◌≡◌, ℕ, zero, suc, ◌+◌, ◌≤◌, List, [], ◌∷◌, map, Option, Some, None, option_map, slice_set, sum_by, refl, ap, arith}
 use Rattle.std.proofs.lemmas.List.Sums.{sum_by-cons}
-use Rattle.parking_lot_world.specs.declared.seat.Told.{Told}
-use Rattle.parking_lot_world.specs.declared.seat.Call.{Call}
+use Rattle.parking_lot_world.specs.declared.seat.WakeResult.{WakeResult}
+use Rattle.parking_lot_world.specs.declared.open_call.Call.{Call}
 use Rattle.parking_lot_world.specs.RowActs.{settled}
 use Rattle.parking_lot_world.specs.Ranks.{far_steps}
 use Rattle.parking_lot_world.proofs.Calling.{call_of}
@@ -30,11 +30,11 @@ module _ (n : ℕ) where
   others_same calls t x = ap (sum_by (far_steps n)) (set_twice calls t x None)
 
   -- nor does what a thread was told that is off its list
-  told_far : (t : ℕ) (said : Told) (x : Option Call) → far_steps n (option_map (settled t said) x) ≡ far_steps n x
+  told_far : (t : ℕ) (said : WakeResult) (x : Option Call) → far_steps n (option_map (settled t said) x) ≡ far_steps n x
   told_far t said None = refl
   told_far t said (Some c) = refl
 
-  all_told : (t : ℕ) (said : Told) (calls : List (Option Call)) → sum_by (far_steps n) (map (option_map (settled t said)) calls) ≡ sum_by (far_steps n) calls
+  all_told : (t : ℕ) (said : WakeResult) (calls : List (Option Call)) → sum_by (far_steps n) (map (option_map (settled t said)) calls) ≡ sum_by (far_steps n) calls
   all_told t said [] = refl
   all_told t said (c ∷ calls) =
       omega (
@@ -45,7 +45,7 @@ module _ (n : ℕ) where
         all_told t said calls,
       )
 
-  pub others_told : (t : ℕ) (said : Told) (calls : List (Option Call)) (v : ℕ) → sum_by (far_steps n) (slice_set (map (option_map (settled t said)) calls) v None) ≡ sum_by (far_steps n) (slice_set calls v None)
+  pub others_told : (t : ℕ) (said : WakeResult) (calls : List (Option Call)) (v : ℕ) → sum_by (far_steps n) (slice_set (map (option_map (settled t said)) calls) v None) ≡ sum_by (far_steps n) (slice_set calls v None)
   others_told t said [] v = refl
   others_told t said (c ∷ calls) zero =
       omega (arith, sum_by-cons (far_steps n) None calls, sum_by-cons (far_steps n) None (map (option_map (settled t said)) calls), all_told t said calls)

@@ -6,20 +6,20 @@ use Rattle.parking_lot_core.specs.declared.place.Waiter.{Waiter}
 use Rattle.parking_lot_core.specs.Results.{is_left}
 use Rattle.parking_lot_core.specs.Sound as lot
 use Rattle.parking_lot_core.specs.declared.parking.FilterOp.TheVariants.{Unpark}
-use Rattle.parking_lot_cores.specs.declared.act.Act.TheVariants as act
-use Rattle.parking_lot_cores.specs.declared.act.SectionAct.TheVariants as section
-use Rattle.parking_lot_cores.specs.declared.act.Seen.{Seen}
-use Rattle.parking_lot_cores.specs.declared.act.Seen.TheVariants as seen
-use Rattle.parking_lot_cores.specs.Wake.{wake_answer}
-use Rattle.parking_lot_cores.specs.declared.rw_phase.RwPhase.{RwPhase}
-use Rattle.parking_lot_cores.specs.declared.rw_phase.RwPhase.TheVariants as r
-use Rattle.parking_lot_cores.specs.declared.mutex_phase.MutexPhase.{MutexPhase}
-use Rattle.parking_lot_cores.specs.declared.mutex_phase.MutexPhase.TheVariants as m
-use Rattle.parking_lot_cores.specs.RwTable as of_rw
-use Rattle.parking_lot_cores.specs.MutexTable as of_mutex
+use Rattle.parking_lot_protocol.specs.declared.act.Act.TheVariants as act
+use Rattle.parking_lot_protocol.specs.declared.act.SectionAct.TheVariants as section
+use Rattle.parking_lot_protocol.specs.declared.act.ActResult.{ActResult}
+use Rattle.parking_lot_protocol.specs.declared.act.ActResult.TheVariants as seen
+use Rattle.parking_lot_protocol.specs.Wake.{wake_answer}
+use Rattle.parking_lot_protocol.specs.declared.rw_phase.RwPhase.{RwPhase}
+use Rattle.parking_lot_protocol.specs.declared.rw_phase.RwPhase.TheVariants as r
+use Rattle.parking_lot_protocol.specs.declared.mutex_phase.MutexPhase.{MutexPhase}
+use Rattle.parking_lot_protocol.specs.declared.mutex_phase.MutexPhase.TheVariants as m
+use Rattle.parking_lot_protocol.specs.RwTable as of_rw
+use Rattle.parking_lot_protocol.specs.MutexTable as of_mutex
 use Rattle.parking_lot_world.specs.declared.seat.Core.{Core}
 use Rattle.parking_lot_world.specs.declared.seat.Core.TheVariants as core
-use Rattle.parking_lot_world.specs.declared.seat.Call.{Call}
+use Rattle.parking_lot_world.specs.declared.open_call.Call.{Call}
 use Rattle.parking_lot_world.specs.Rows.{State, word_at, call_at}
 use Rattle.parking_lot_world.specs.Stances.{Takes, Stores, Stance, In, Asleep, rw_stance, mutex_stance, stance, core_act}
 use Rattle.parking_lot_world.specs.RowActs.{hears, key_of, off_list, took}
@@ -30,7 +30,7 @@ use Rattle.parking_lot_world.proofs.Beginning.{goes_on}
 use Rattle.parking_lot_world.proofs.Carrying.{same_call}
 use Rattle.parking_lot_world.proofs.LotTakes.{took_fits}
 use Rattle.parking_lot_world.proofs.Ruling.{CallFits, call_fits, rules_after}
-use Rattle.parking_lot_world.proofs.TakeOutside.{IsOut, others_out, out_knows, next_kind}
+use Rattle.parking_lot_world.proofs.TakeOutside.{IsOut, others_out, out_knows, same_kind}
 use Rattle.parking_lot_world.proofs.TakeParts.{took_told, TakesSo, the_sleeper, taker_after, sleeper_after, others_after, same_threads, wakes_after}
 use Rattle.parking_lot_world.proofs.TakeRw.{rw_takes, rw_lets_go}
 use Rattle.parking_lot_world.proofs.TakeMutex.{mutex_takes}
@@ -46,7 +46,7 @@ module _ (s : State) (t : ℕ) (c : Call) (k : ℕ) (w : Waiter) (from : stance 
   abbrev u : State
   u = took s t c (key_of c k) 0 w
 
-  abbrev told : Seen
+  abbrev told : ActResult
   told = took_told s c k w
 
   by_core : (x : Core) → c.core ≡ x → TakesSo s t c k w x
@@ -72,7 +72,7 @@ module _ (s : State) (t : ℕ) (c : Call) (k : ℕ) (w : Waiter) (from : stance 
       mine : CallFits s.kinds u.lot.queues (hears c told)
       mine =
           let f = call_fits s h.rules t c here in
-          record { kind = next_kind c.core told (slice_get s.kinds c.lock) f.kind; prepared = so.1; knows = so.2; beside = f.beside; begun = goes_on c.core told }
+          record { kind = same_kind c.core told (slice_get s.kinds c.lock) f.kind; prepared = so.1; knows = so.2; beside = f.beside; begun = goes_on c.core told }
 
       its : CallFits s.kinds u.lot.queues (off_list t (the_sleeper s t c k w from at h here).call)
       its =
@@ -102,14 +102,14 @@ module _ (s : State) (t : ℕ) (c : Call) (k : ℕ) (w : Waiter) (from : stance 
       refl (elim counts.3 [ inl f ↦ inl (f ∙ ap (λ n. In n Takes) same) | inr f ↦ inr (f ∙ ap (λ n. In n Stores) same) ])
       counts.4 sound
 
-  pub takes : lot.Sound u.lot → (what : Seen) × Acts t c what s u
+  pub takes : lot.Sound u.lot → (what : ActResult) × Acts t c what s u
   takes sound = (told, record { fits = record { lots = lots sound; wakes = wakes_after s t c k w from at h here; rules = rules }; goes = so.0 })
 
 -- WHO IS LET GO
 
 -- only a scan asks for the next, and it goes through the first list
 pub scans_first : (q : RwPhase) (k sum : ℕ) → rw_stance q ≡ In k Takes → of_rw.act_of q ≡ act.Section (section.TakeNext sum) → rw_stance q ≡ In 0 Takes
-scans_first (r.Takes2 rest) k sum is asked = absurd (cc)
+scans_first (r.TakeWriter rest) k sum is asked = absurd (cc)
 scans_first (r.Scans a) k sum is asked = refl
 scans_first q k sum is asked = absurd (cc)
 

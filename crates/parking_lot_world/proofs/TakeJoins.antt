@@ -8,27 +8,27 @@ use Rattle.parking_lot_core.specs.declared.place.Phase.TheVariants as phase
 use Rattle.parking_lot_core.specs.Machine.{threads_of}
 use Rattle.parking_lot_core.specs.Sound as lot
 use Rattle.parking_lot_core.proofs.Kept.{updated_at, updated_other}
-use Rattle.parking_lot_cores.specs.declared.act.Act.{Act}
-use Rattle.parking_lot_cores.specs.declared.act.Act.TheVariants as act
-use Rattle.parking_lot_cores.specs.declared.act.SectionAct.TheVariants as section
-use Rattle.parking_lot_cores.specs.declared.act.Seen.{Seen}
-use Rattle.parking_lot_cores.specs.declared.act.Seen.TheVariants as seen
-use Rattle.parking_lot_cores.specs.Acts.{word_after}
-use Rattle.parking_lot_cores.specs.declared.rw_core.RwCore.{RwCore}
-use Rattle.parking_lot_cores.specs.declared.rw_phase.RwPhase.{RwPhase}
-use Rattle.parking_lot_cores.specs.declared.rw_phase.RwPhase.TheVariants as r
-use Rattle.parking_lot_cores.specs.declared.mutex_core.MutexCore.{MutexCore}
-use Rattle.parking_lot_cores.specs.declared.mutex_phase.MutexPhase.{MutexPhase}
-use Rattle.parking_lot_cores.specs.declared.mutex_phase.MutexPhase.TheVariants as m
-use Rattle.parking_lot_cores.specs.RwRules as of_rw
-use Rattle.parking_lot_cores.specs.MutexRules as of_mutex
+use Rattle.parking_lot_protocol.specs.declared.act.Act.{Act}
+use Rattle.parking_lot_protocol.specs.declared.act.Act.TheVariants as act
+use Rattle.parking_lot_protocol.specs.declared.act.SectionAct.TheVariants as section
+use Rattle.parking_lot_protocol.specs.declared.act.ActResult.{ActResult}
+use Rattle.parking_lot_protocol.specs.declared.act.ActResult.TheVariants as seen
+use Rattle.parking_lot_protocol.specs.Acts.{word_after}
+use Rattle.parking_lot_protocol.specs.declared.rw_core.RwCore.{RwCore}
+use Rattle.parking_lot_protocol.specs.declared.rw_phase.RwPhase.{RwPhase}
+use Rattle.parking_lot_protocol.specs.declared.rw_phase.RwPhase.TheVariants as r
+use Rattle.parking_lot_protocol.specs.declared.mutex_core.MutexCore.{MutexCore}
+use Rattle.parking_lot_protocol.specs.declared.mutex_phase.MutexPhase.{MutexPhase}
+use Rattle.parking_lot_protocol.specs.declared.mutex_phase.MutexPhase.TheVariants as m
+use Rattle.parking_lot_protocol.specs.RwRules as of_rw
+use Rattle.parking_lot_protocol.specs.MutexRules as of_mutex
 use Rattle.parking_lot_rules.specs.Mutex as mutex
 use Rattle.parking_lot_rules.specs.Steps.{List_changes, Join1, Join2}
-use Rattle.parking_lot_world.specs.declared.seat.Spot.{Spot}
-use Rattle.parking_lot_world.specs.declared.seat.Spot.TheVariants as spot
+use Rattle.parking_lot_world.specs.declared.seat.QueuePosition.{QueuePosition}
+use Rattle.parking_lot_world.specs.declared.seat.QueuePosition.TheVariants as spot
 use Rattle.parking_lot_world.specs.declared.seat.Core.{Core}
 use Rattle.parking_lot_world.specs.declared.seat.Core.TheVariants as core
-use Rattle.parking_lot_world.specs.declared.seat.Call.{Call}
+use Rattle.parking_lot_world.specs.declared.open_call.Call.{Call}
 use Rattle.parking_lot_world.specs.Rows.{State, word_at, call_at, taken_by, first_of_all, rw_spot, mutex_spot, rw_lock_at, mutex_at}
 use Rattle.parking_lot_world.specs.Stances.{Joins, In, rw_stance, mutex_stance, stance, core_act, core_next}
 use Rattle.parking_lot_world.specs.Stances as stances
@@ -51,7 +51,7 @@ use Rattle.parking_lot_world.proofs.Owning.{OwnAct, own-there, own-elsewhere, rw
 use Rattle.parking_lot_world.proofs.Ruling.{rules_own, rw_move_sound, mutex_move_sound}
 use Rattle.parking_lot_world.proofs.WakesKept.{wakes_own}
 use Rattle.parking_lot_world.proofs.Acting.{still_inside}
-use Rattle.parking_lot_world.proofs.TakeOutside.{awake_listed, others_out, out_knows, next_kind}
+use Rattle.parking_lot_world.proofs.TakeOutside.{awake_listed, others_out, out_knows, same_kind}
 
 module _ (s : State) (t : ℕ) (c : Call) (k : ℕ) (token : ParkToken) (asked : core_act c.core ≡ act.Section (section.Append token)) (from : stance c.core ≡ In k (Joins token))
     (sound : lot.Sound (appended s t c (key_of c k) token).lot) (h : FitsTogether s) (here : call_at s t ≡ Some c) where
@@ -87,7 +87,7 @@ module _ (s : State) (t : ℕ) (c : Call) (k : ℕ) (token : ParkToken) (asked :
   wakes : WakesFit u
   wakes =
       wakes_own s u t c seen.Made (core_next c.core seen.Made)
-      (subst (λ (x : Spot). OwnAct s u t c seen.Made (core_next c.core seen.Made) x) (sym (awake_listed s h t c here (λ l park e. awake_sleeps l park (stance c.core) (awake_by (stance c.core) (In k (Joins token)) from tt) e))) own)
+      (subst (λ (x : QueuePosition). OwnAct s u t c seen.Made (core_next c.core seen.Made) x) (sym (awake_listed s h t c here (λ l park e. awake_sleeps l park (stance c.core) (awake_by (stance c.core) (In k (Joins token)) from tt) e))) own)
       h.wakes
 
   -- the lists then
@@ -116,7 +116,7 @@ module _ (s : State) (t : ℕ) (c : Call) (k : ℕ) (token : ParkToken) (asked :
   Joined x = IsMoveOf x c.others (taken_by s.wakes t) seen.Made c.lock t s u × IsPrepared c.others (NextOf x) × KnowsList (NextOf x) u.lot.queues c.lock × IsSoundState u
 
   goes : Joined c.core → RulesFit u × Goes t c seen.Made s u
-  goes j = (rules_own s u t c seen.Made (NextOf c.core) spot.Listed own h others (next_kind c.core seen.Made) j.1 j.2 (goes_on c.core seen.Made) (h.rules.bits c.lock) j.3, j.0)
+  goes j = (rules_own s u t c seen.Made (NextOf c.core) spot.Listed own h others (same_kind c.core seen.Made) j.1 j.2 (goes_on c.core seen.Made) (h.rules.bits c.lock) j.3, j.0)
 
   -- AT A READER-WRITER LOCK
 
@@ -134,8 +134,8 @@ module _ (s : State) (t : ℕ) (c : Call) (k : ℕ) (token : ParkToken) (asked :
       (rw_after s u t c seen.Made z spot.Listed e a ∙ same_rw _ _ _ _ _ _ _ _ refl refl (list_here (2 * c.lock) (omega (arith, zero))) (list_there (2 * c.lock + 1) (λ f. omega (arith, zero, f))) ∙ sym step.1)
       (still_inside s.lot.section phase.Joined) in
       (made, (tt, (subst (IsPrepared c.others) e (h.rules.prepared t c here)).1), tt, rw_move_sound s u t c.lock (of_rw.Joins (Join1 (of_rw.mode_of want))) made h.rules.sound)
-  joins_rw (r.Appends2 rounds) y e at =
-      let z : RwCore = record y { phase = r.Appends2 rounds } in
+  joins_rw (r.DrainAppends rounds) y e at =
+      let z : RwCore = record y { phase = r.DrainAppends rounds } in
       let a = own_of (core.Rw z) e in
       let one : 1 ≡ k = cc in
       let step = joins_are_steps.second (rw_lock_at s c.lock) t c.others (rw_spot c.spot) owed rounds (word_at s c.lock) (meets s h t c z e here) in
@@ -165,5 +165,5 @@ module _ (s : State) (t : ℕ) (c : Call) (k : ℕ) (token : ParkToken) (asked :
   by_core (core.Rw y) e = goes (subst Joined (sym e) (joins_rw y.phase y e (ap stance (sym e) ∙ from)))
   by_core (core.Mutex y) e = goes (subst Joined (sym e) (joins_mutex y.phase y e (ap stance (sym e) ∙ from)))
 
-  pub appends : (told : Seen) × Acts t c told s u
+  pub appends : (told : ActResult) × Acts t c told s u
   appends = let both = by_core c.core refl in (seen.Made, record { fits = record { lots = leads.2; wakes = wakes; rules = both.0 }; goes = both.1 })

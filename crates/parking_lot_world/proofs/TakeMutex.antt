@@ -7,18 +7,18 @@ use Rattle.parking_lot_core.specs.declared.place.Phase.TheVariants as phase
 use Rattle.parking_lot_core.specs.Results.{is_left}
 use Rattle.parking_lot_rules.specs.Roles.{Asleep, Open}
 use Rattle.parking_lot_rules.specs.Mutex as mutex
-use Rattle.parking_lot_cores.specs.declared.mutex_core.MutexCore.{MutexCore}
-use Rattle.parking_lot_cores.specs.declared.mutex_phase.Giving.{Giving}
-use Rattle.parking_lot_cores.specs.declared.mutex_phase.MutexPhase.{MutexPhase}
-use Rattle.parking_lot_cores.specs.declared.mutex_phase.MutexPhase.TheVariants as m
-use Rattle.parking_lot_cores.specs.MutexRules as of_mutex
+use Rattle.parking_lot_protocol.specs.declared.mutex_core.MutexCore.{MutexCore}
+use Rattle.parking_lot_protocol.specs.declared.mutex_phase.Giving.{Giving}
+use Rattle.parking_lot_protocol.specs.declared.mutex_phase.MutexPhase.{MutexPhase}
+use Rattle.parking_lot_protocol.specs.declared.mutex_phase.MutexPhase.TheVariants as m
+use Rattle.parking_lot_protocol.specs.MutexRules as of_mutex
 use Rattle.parking_lot_world.specs.declared.calls.LockKind.TheVariants as kind
-use Rattle.parking_lot_world.specs.declared.seat.Told.TheVariants as told
-use Rattle.parking_lot_world.specs.declared.seat.Spot.{Spot}
-use Rattle.parking_lot_world.specs.declared.seat.Spot.TheVariants as spot
+use Rattle.parking_lot_world.specs.declared.seat.WakeResult.TheVariants as told
+use Rattle.parking_lot_world.specs.declared.seat.QueuePosition.{QueuePosition}
+use Rattle.parking_lot_world.specs.declared.seat.QueuePosition.TheVariants as spot
 use Rattle.parking_lot_world.specs.declared.seat.Core.{Core}
 use Rattle.parking_lot_world.specs.declared.seat.Core.TheVariants as core
-use Rattle.parking_lot_world.specs.declared.seat.Call.{Call}
+use Rattle.parking_lot_world.specs.declared.open_call.Call.{Call}
 use Rattle.parking_lot_world.specs.Rows.{State, word_at, hold_at, call_at, taken_by, first_of_all, mutex_spot, mutex_core_role, mutex_role_in, mutex_role_at, mutex_at}
 use Rattle.parking_lot_world.specs.Stances.{Takes, In, mutex_stance, stance, taken_count, core_next}
 use Rattle.parking_lot_world.specs.Stances as stances
@@ -34,7 +34,7 @@ use Rattle.parking_lot_world.proofs.Acting.{still_inside}
 use Rattle.parking_lot_world.proofs.TakeParts.{took_told, TakesSo, the_sleeper, taker_after, sleeper_after, others_after, taker_has, others_have, took_list, list_here, first_there, took_elsewhere, two_roles}
 
 -- who sleeps at a mutex does nothing else
-sleeps : (q : MutexPhase) (k : ℕ) (park : ParkToken) → mutex_stance q ≡ stances.Asleep k park → (p : of_mutex.Spot) (v : ℕ) → of_mutex.role p v q ≡ of_mutex.role p 0 m.Sleeps
+sleeps : (q : MutexPhase) (k : ℕ) (park : ParkToken) → mutex_stance q ≡ stances.Asleep k park → (p : of_mutex.QueuePosition) (v : ℕ) → of_mutex.role p v q ≡ of_mutex.role p 0 m.Sleeps
 sleeps m.Sleeps k park e p v = refl
 sleeps q k park e p v = absurd (cc)
 
@@ -66,7 +66,7 @@ module _ (s : State) (t : ℕ) (c : Call) (k : ℕ) (w : Waiter) (from : stance 
       let asleep = sleeps y.phase k w.token (ap stance (sym e) ∙ x.asleep) in
       record {
         before = subst (λ (j : ℕ). slice_get (mutex_at s j).roles v ≡ Some (of_mutex.role of_mutex.Listed 0 m.Sleeps)) x.lock
-            ((plays s h v z y e x.there).here ∙ ap (λ (p : Spot). Some (of_mutex.role (mutex_spot p) (first_of_all (taken_by s.wakes v)) y.phase)) x.listed ∙ ap Some (asleep of_mutex.Listed (first_of_all (taken_by s.wakes v))));
+            ((plays s h v z y e x.there).here ∙ ap (λ (p : QueuePosition). Some (of_mutex.role (mutex_spot p) (first_of_all (taken_by s.wakes v)) y.phase)) x.listed ∙ ap Some (asleep of_mutex.Listed (first_of_all (taken_by s.wakes v))));
         after = subst (λ (j : ℕ). mutex_role_at u j v ≡ of_mutex.role (of_mutex.Off t Open) 0 m.Sleeps) x.lock
             (ap (mutex_role_in z.lock (taken_by u.wakes v) (hold_at u v z.lock)) (sleeper_after s t c k w from at h here)
             ∙ mutex_there (taken_by u.wakes v) (hold_at u v z.lock) (off_list t z)

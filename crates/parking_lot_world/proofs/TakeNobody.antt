@@ -3,22 +3,22 @@ use Rattle.std.proofs.Common.{◌≡◌, ◌≢◌, ℕ, ◌+◌, ◌*◌, ◌�
 use Rattle.parking_lot_core.specs.declared.place.Phase.TheVariants as phase
 use Rattle.parking_lot_core.specs.Results.{is_left}
 use Rattle.parking_lot_core.specs.Sound as lot
-use Rattle.parking_lot_cores.specs.declared.act.Act.{Act}
-use Rattle.parking_lot_cores.specs.declared.act.Act.TheVariants as act
-use Rattle.parking_lot_cores.specs.declared.act.SectionAct.TheVariants as section
-use Rattle.parking_lot_cores.specs.declared.act.Seen.{Seen}
-use Rattle.parking_lot_cores.specs.declared.act.Seen.TheVariants as seen
-use Rattle.parking_lot_cores.specs.declared.rw_core.RwCore.{RwCore}
-use Rattle.parking_lot_cores.specs.declared.rw_phase.RwPhase.{RwPhase}
-use Rattle.parking_lot_cores.specs.declared.rw_phase.RwPhase.TheVariants as r
-use Rattle.parking_lot_cores.specs.declared.mutex_core.MutexCore.{MutexCore}
-use Rattle.parking_lot_cores.specs.declared.mutex_phase.MutexPhase.{MutexPhase}
-use Rattle.parking_lot_cores.specs.declared.mutex_phase.MutexPhase.TheVariants as m
-use Rattle.parking_lot_cores.specs.Acts.{word_after}
-use Rattle.parking_lot_cores.specs.RwTable.{sum_of}
+use Rattle.parking_lot_protocol.specs.declared.act.Act.{Act}
+use Rattle.parking_lot_protocol.specs.declared.act.Act.TheVariants as act
+use Rattle.parking_lot_protocol.specs.declared.act.SectionAct.TheVariants as section
+use Rattle.parking_lot_protocol.specs.declared.act.ActResult.{ActResult}
+use Rattle.parking_lot_protocol.specs.declared.act.ActResult.TheVariants as seen
+use Rattle.parking_lot_protocol.specs.declared.rw_core.RwCore.{RwCore}
+use Rattle.parking_lot_protocol.specs.declared.rw_phase.RwPhase.{RwPhase}
+use Rattle.parking_lot_protocol.specs.declared.rw_phase.RwPhase.TheVariants as r
+use Rattle.parking_lot_protocol.specs.declared.mutex_core.MutexCore.{MutexCore}
+use Rattle.parking_lot_protocol.specs.declared.mutex_phase.MutexPhase.{MutexPhase}
+use Rattle.parking_lot_protocol.specs.declared.mutex_phase.MutexPhase.TheVariants as m
+use Rattle.parking_lot_protocol.specs.Acts.{word_after}
+use Rattle.parking_lot_protocol.specs.RwTable.{sum_of}
 use Rattle.parking_lot_world.specs.declared.seat.Core.{Core}
 use Rattle.parking_lot_world.specs.declared.seat.Core.TheVariants as core
-use Rattle.parking_lot_world.specs.declared.seat.Call.{Call}
+use Rattle.parking_lot_world.specs.declared.open_call.Call.{Call}
 use Rattle.parking_lot_world.specs.Rows.{State, word_at, call_at, taken_by, first_of_all, rw_spot, mutex_spot, rw_lock_at, mutex_at}
 use Rattle.parking_lot_world.specs.Stances.{Takes, Stores, In, rw_stance, mutex_stance, stance, taken_count, core_act, core_next}
 use Rattle.parking_lot_world.specs.RowActs.{key_of, took_nobody}
@@ -40,7 +40,7 @@ use Rattle.parking_lot_world.proofs.Owning.{OwnAct, own-there, own-elsewhere, se
 use Rattle.parking_lot_world.proofs.Ruling.{rules_own}
 use Rattle.parking_lot_world.proofs.WakesKept.{wakes_own}
 use Rattle.parking_lot_world.proofs.Acting.{still_inside}
-use Rattle.parking_lot_world.proofs.TakeOutside.{others_out, out_knows, next_kind}
+use Rattle.parking_lot_world.proofs.TakeOutside.{others_out, out_knows, same_kind}
 
 -- WHO TAKES
 
@@ -49,7 +49,7 @@ abbrev pub AsksToTake : Act → Type 0
 AsksToTake a = (a ≡ act.Section section.TakeFirst) ⊎ ((sum : ℕ) × (a ≡ act.Section (section.TakeNext sum)))
 
 rw_takes : (q : RwPhase) (y : RwCore) (k : ℕ) → rw_stance q ≡ In k Takes → AsksToTake (core_act (core.Rw (record y { phase = q })))
-rw_takes (r.Takes2 rest) y k e = inl refl
+rw_takes (r.TakeWriter rest) y k e = inl refl
 rw_takes (r.Scans a) y k e = inr (sum_of a, refl)
 rw_takes q y k e = absurd (cc)
 
@@ -62,7 +62,7 @@ asks_to_take (core.Rw y) k e = rw_takes y.phase y k e
 asks_to_take (core.Mutex y) k e = mutex_takes y.phase y k e
 
 -- whatever it takes, the word stays
-pub takes_no_word : (a : Act) (told : Seen) (x : ℕ) → AsksToTake a → word_after a told x ≡ x
+pub takes_no_word : (a : Act) (told : ActResult) (x : ℕ) → AsksToTake a → word_after a told x ≡ x
 takes_no_word a told x (inl e) = ap (λ b. word_after b told x) e
 takes_no_word a told x (inr e) = ap (λ b. word_after b told x) e.1
 
@@ -74,7 +74,7 @@ module _ (s : State) (t : ℕ) (c : Call) (k : ℕ) (from : stance c.core ≡ In
   abbrev left : Bool
   left = is_left (s.lot.queues (key_of c k))
 
-  abbrev told : Seen
+  abbrev told : ActResult
   told = seen.Took None left
 
   abbrev NextOf : Core → Core
@@ -119,7 +119,7 @@ module _ (s : State) (t : ℕ) (c : Call) (k : ℕ) (from : stance c.core ≡ In
   Finds x = IsMoveOf x c.others (taken_by s.wakes t) told c.lock t s u × IsPrepared c.others (NextOf x) × KnowsList (NextOf x) u.lot.queues c.lock × IsSoundState u
 
   goes : Finds c.core → RulesFit u × Goes t c told s u
-  goes j = (rules_own s u t c told (NextOf c.core) c.spot own h others (next_kind c.core told) j.1 j.2 (goes_on c.core told) (h.rules.bits c.lock) j.3, j.0)
+  goes j = (rules_own s u t c told (NextOf c.core) c.spot own h others (same_kind c.core told) j.1 j.2 (goes_on c.core told) (h.rules.bits c.lock) j.3, j.0)
 
   list_empty : (key : ℕ) → key ≡ key_of c k → s.lot.queues key ≡ []
   list_empty key e = ap s.lot.queues e ∙ empty
@@ -133,12 +133,12 @@ module _ (s : State) (t : ℕ) (c : Call) (k : ℕ) (from : stance c.core ≡ In
   -- AT A READER-WRITER LOCK
 
   finds_rw : (q : RwPhase) (y : RwCore) → c.core ≡ core.Rw (record y { phase = q }) → rw_stance q ≡ In k Takes → Finds (core.Rw (record y { phase = q }))
-  finds_rw (r.Takes2 rest) y e at =
-      let z : RwCore = record y { phase = r.Takes2 rest } in
+  finds_rw (r.TakeWriter rest) y e at =
+      let z : RwCore = record y { phase = r.TakeWriter rest } in
       let a = own_of (core.Rw z) e in
       let one : 1 ≡ k = cc in
       let met = meets s h t c z e here in
-      let kept = stays_are_steps (rw_lock_at s c.lock) t c.others (rw_spot c.spot) owed (r.Takes2 rest) (word_at s c.lock) told met tt refl in
+      let kept = stays_are_steps (rw_lock_at s c.lock) t c.others (rw_spot c.spot) owed (r.TakeWriter rest) (word_at s c.lock) told met tt refl in
       let quiet = quiet_rw s u t c.lock (own-there s u t c told _ c.spot a) (own-elsewhere s u t c told _ c.spot a) (subst (IsOfKind (slice_get s.kinds c.lock)) e (h.rules.kinds t c here))
       (rw_after_quietly s u t c told z c.spot e a (λ key. refl) ∙ ap (with_role (rw_lock_at s c.lock) (word_at s c.lock) t) kept.0 ∙ ap (λ rs. record (rw_lock_at s c.lock) { roles = rs }) (set-same (rw_lock_at s c.lock).roles t _ met.here))
       (still_inside s.lot.section phase.Ended) in
@@ -173,7 +173,7 @@ module _ (s : State) (t : ℕ) (c : Call) (k : ℕ) (from : stance c.core ≡ In
   by_core (core.Rw y) e = goes (subst Finds (sym e) (finds_rw y.phase y e (ap stance (sym e) ∙ from)))
   by_core (core.Mutex y) e = goes (subst Finds (sym e) (finds_mutex y.phase y e (ap stance (sym e) ∙ from)))
 
-  pub takes_nobody : (what : Seen) × Acts t c what s u
+  pub takes_nobody : (what : ActResult) × Acts t c what s u
   takes_nobody =
       let both = by_core c.core refl in
       (told, record { fits = record { lots = took_nobody_fits s t c k h.lots here from leads.0 leads.1 sound; wakes = wakes_own s u t c told (NextOf c.core) own h.wakes; rules = both.0 }; goes = both.1 })

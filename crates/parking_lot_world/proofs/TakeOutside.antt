@@ -3,17 +3,17 @@ use Rattle.std.proofs.Common.{◌≡◌, ◌≢◌, ℕ, ◌+◌, ◌*◌, List,
 use Rattle.std.proofs.lemmas.Bool.{ne_eqb}
 use Rattle.parking_lot_core.specs.declared.parking.ParkToken.{ParkToken}
 use Rattle.parking_lot_core.specs.declared.place.Waiter.{Waiter}
-use Rattle.parking_lot_cores.specs.declared.act.Seen.{Seen}
-use Rattle.parking_lot_cores.specs.declared.mutex_phase.MutexPhase.{MutexPhase}
-use Rattle.parking_lot_cores.specs.declared.mutex_phase.MutexPhase.TheVariants as m
-use Rattle.parking_lot_cores.specs.declared.rw_phase.RwPhase.{RwPhase}
-use Rattle.parking_lot_cores.specs.declared.rw_phase.RwPhase.TheVariants as r
+use Rattle.parking_lot_protocol.specs.declared.act.ActResult.{ActResult}
+use Rattle.parking_lot_protocol.specs.declared.mutex_phase.MutexPhase.{MutexPhase}
+use Rattle.parking_lot_protocol.specs.declared.mutex_phase.MutexPhase.TheVariants as m
+use Rattle.parking_lot_protocol.specs.declared.rw_phase.RwPhase.{RwPhase}
+use Rattle.parking_lot_protocol.specs.declared.rw_phase.RwPhase.TheVariants as r
 use Rattle.parking_lot_world.specs.declared.calls.LockKind.{LockKind}
-use Rattle.parking_lot_world.specs.declared.seat.Spot.{Spot}
-use Rattle.parking_lot_world.specs.declared.seat.Spot.TheVariants as spot
+use Rattle.parking_lot_world.specs.declared.seat.QueuePosition.{QueuePosition}
+use Rattle.parking_lot_world.specs.declared.seat.QueuePosition.TheVariants as spot
 use Rattle.parking_lot_world.specs.declared.seat.Core.{Core}
 use Rattle.parking_lot_world.specs.declared.seat.Core.TheVariants as core
-use Rattle.parking_lot_world.specs.declared.seat.Call.{Call}
+use Rattle.parking_lot_world.specs.declared.open_call.Call.{Call}
 use Rattle.parking_lot_world.specs.Rows.{State, call_at}
 use Rattle.parking_lot_world.specs.Stances.{Doing, Takes, Stores, Stance, In, Asleep, mutex_stance, rw_stance, stance, core_next}
 use Rattle.parking_lot_world.specs.RowFits.{FitsTogether, LotFits, IsOfKind, KnowsList, mutex_knows, rw_knows}
@@ -31,7 +31,7 @@ mutex_out p queue out = tt
 rw_out : (p : RwPhase) (first second : List Waiter) → IsOut (rw_stance p) → rw_knows p first second
 rw_out (r.Scans a) first second out = absurd (out 0 Takes refl)
 rw_out (r.Stores a left) first second out = absurd (out 0 Stores refl)
-rw_out (r.Masks2 rest taken) first second out = absurd (out 1 Stores refl)
+rw_out (r.ClearWriterParked rest taken) first second out = absurd (out 1 Stores refl)
 rw_out p first second out = tt
 
 pub out_knows : (x : Core) (queues : ℕ → List Waiter) (j : ℕ) → IsOut (stance x) → KnowsList x queues j
@@ -49,7 +49,7 @@ others_out s h t c here k how from v e ne at k' how' is =
 pub awake_listed : (s : State) → FitsTogether s → (t : ℕ) (c : Call) → call_at s t ≡ Some c → ((k : ℕ) (token : ParkToken) → stance c.core ≡ Asleep k token → ⊥) → c.spot ≡ spot.Listed
 awake_listed s h t c here awake = go c.spot refl
   where
-    go : (x : Spot) → c.spot ≡ x → c.spot ≡ spot.Listed
+    go : (x : QueuePosition) → c.spot ≡ x → c.spot ≡ spot.Listed
     go spot.Listed e = e
     go (spot.Off by said) e =
         let owed = h.wakes.off t by c said here e in
@@ -57,6 +57,6 @@ awake_listed s h t c here awake = go c.spot refl
         absurd (awake its.key its.token (ap (λ (x : Call). stance x.core) (same_call (sym here ∙ (ap (call_at s) (sym owed.4) ∙ its.here))) ∙ its.asleep))
 
 -- a call stays of its kind
-pub next_kind : (x : Core) (told : Seen) (k : Option LockKind) → IsOfKind k x → IsOfKind k (core_next x told)
-next_kind (core.Rw c) told k h = h
-next_kind (core.Mutex c) told k h = h
+pub same_kind : (x : Core) (told : ActResult) (k : Option LockKind) → IsOfKind k x → IsOfKind k (core_next x told)
+same_kind (core.Rw c) told k h = h
+same_kind (core.Mutex c) told k h = h

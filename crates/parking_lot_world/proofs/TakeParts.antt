@@ -12,15 +12,15 @@ use Rattle.parking_lot_core.specs.Places.{place_at, mark_of}
 use Rattle.parking_lot_core.specs.Results.{is_left}
 use Rattle.parking_lot_core.proofs.Kept.{updated_at, updated_other, slice_get-seam}
 use Rattle.parking_lot_core.proofs.Numbers.{flag, count_by-set}
-use Rattle.parking_lot_cores.specs.declared.act.Seen.{Seen}
-use Rattle.parking_lot_cores.specs.declared.act.Seen.TheVariants as seen
-use Rattle.parking_lot_cores.specs.Acts.{Gives}
-use Rattle.parking_lot_world.specs.declared.seat.Told.{Told}
-use Rattle.parking_lot_world.specs.declared.seat.Told.TheVariants as told
-use Rattle.parking_lot_world.specs.declared.seat.Spot.{Spot}
-use Rattle.parking_lot_world.specs.declared.seat.Spot.TheVariants as spot
+use Rattle.parking_lot_protocol.specs.declared.act.ActResult.{ActResult}
+use Rattle.parking_lot_protocol.specs.declared.act.ActResult.TheVariants as seen
+use Rattle.parking_lot_protocol.specs.Acts.{Gives}
+use Rattle.parking_lot_world.specs.declared.seat.WakeResult.{WakeResult}
+use Rattle.parking_lot_world.specs.declared.seat.WakeResult.TheVariants as told
+use Rattle.parking_lot_world.specs.declared.seat.QueuePosition.{QueuePosition}
+use Rattle.parking_lot_world.specs.declared.seat.QueuePosition.TheVariants as spot
 use Rattle.parking_lot_world.specs.declared.seat.Core.{Core}
-use Rattle.parking_lot_world.specs.declared.seat.Call.{Call}
+use Rattle.parking_lot_world.specs.declared.open_call.Call.{Call}
 use Rattle.parking_lot_world.specs.declared.seat.Wakeup.{Wakeup}
 use Rattle.parking_lot_world.specs.Rows.{State, word_at, call_at, taken_by, is_by}
 use Rattle.parking_lot_world.specs.Stances.{Takes, In, stance, core_act, core_next}
@@ -72,7 +72,7 @@ remove_first (x ∷ q) = refl
 -- WHAT IS TO BE SHOWN OF A CALL'S PHASE
 
 -- what the thread is told
-abbrev pub took_told : State → Call → ℕ → Waiter → Seen
+abbrev pub took_told : State → Call → ℕ → Waiter → ActResult
 took_told s c k w = seen.Took (Some w.token) (is_left (remove (s.lot.queues (key_of c k)) 0))
 
 -- it makes the move that its table names, its call and its lock fit then, and it counts whom it took
@@ -169,7 +169,7 @@ module _ (s : State) (t : ℕ) (c : Call) (k : ℕ) (w : Waiter) (from : stance 
   abbrev IsIn : List Wakeup → ℕ → ℕ → Type 0
   IsIn ws by x = (n : ℕ) × (e : Wakeup) × (slice_get ws n ≡ Some e) × (e.by ≡ by) × (e.thread ≡ x)
 
-  off_after : (x by : ℕ) (d : Call) (said : Told) → call_at u x ≡ Some d → d.spot ≡ spot.Off by said → IsIn u.wakes by x
+  off_after : (x by : ℕ) (d : Call) (said : WakeResult) → call_at u x ≡ Some d → d.spot ≡ spot.Off by said → IsIn u.wakes by x
   off_after x by d said is off = elim (cases_eq x t) [
     | inl e ↦ absurd (listed (sym taker_listed ∙ ap (λ (y : Call). y.spot) (same_call (sym taker_after ∙ (ap (call_at u) (sym e) ∙ is))) ∙ off))
     | inr nt ↦ elim (cases_eq x w.thread) [
@@ -190,7 +190,7 @@ module _ (s : State) (t : ℕ) (c : Call) (k : ℕ) (w : Waiter) (from : stance 
   room_after : length u.wakes ≡ count_by is_away u.calls
   room_after =
       let one : flag (is_away (option_map (off_list t) (call_at s w.thread))) ≡ 1 = ap (λ o. flag (is_away (option_map (off_list t) o))) the_sleeper.there in
-      let none : flag (is_away (Some z)) ≡ 0 = ap (λ (x : Spot). flag (is_off x)) the_sleeper.listed in
+      let none : flag (is_away (Some z)) ≡ 0 = ap (λ (x : QueuePosition). flag (is_off x)) the_sleeper.listed in
       let there : call_of calls_off t ≡ Some c = call-elsewhere s.calls w.thread t (option_map (off_list t) (call_at s w.thread)) (λ e. took_apart (sym e)) ∙ here in
       omega (
         arith,

@@ -7,23 +7,23 @@ use Rattle.parking_lot_core.specs.Machine.{threads_of}
 use Rattle.parking_lot_rules.specs.Roles.{Role, Shares, Asleep, Open, Taken1, Taken2}
 use Rattle.parking_lot_rules.specs.Steps.{Take1, Take2}
 use Rattle.parking_lot_core.specs.declared.parking.FilterOp.TheVariants.{Unpark}
-use Rattle.parking_lot_cores.specs.declared.act.Act.TheVariants as act
-use Rattle.parking_lot_cores.specs.declared.act.SectionAct.TheVariants as section
-use Rattle.parking_lot_cores.specs.declared.rw_core.RwCore.{RwCore}
-use Rattle.parking_lot_cores.specs.declared.rw_phase.Rest.{Rest}
-use Rattle.parking_lot_cores.specs.declared.rw_phase.Scanning.{Scanning}
-use Rattle.parking_lot_cores.specs.declared.rw_phase.RwPhase.{RwPhase}
-use Rattle.parking_lot_cores.specs.declared.rw_phase.RwPhase.TheVariants as r
-use Rattle.parking_lot_cores.specs.RwTable.{act_of, next_phase, sum_of}
-use Rattle.parking_lot_cores.specs.Wake.{wake_answer}
-use Rattle.parking_lot_cores.specs.RwRules as of_rw
+use Rattle.parking_lot_protocol.specs.declared.act.Act.TheVariants as act
+use Rattle.parking_lot_protocol.specs.declared.act.SectionAct.TheVariants as section
+use Rattle.parking_lot_protocol.specs.declared.rw_core.RwCore.{RwCore}
+use Rattle.parking_lot_protocol.specs.declared.rw_phase.AfterWake.{AfterWake}
+use Rattle.parking_lot_protocol.specs.declared.rw_phase.Scanning.{Scanning}
+use Rattle.parking_lot_protocol.specs.declared.rw_phase.RwPhase.{RwPhase}
+use Rattle.parking_lot_protocol.specs.declared.rw_phase.RwPhase.TheVariants as r
+use Rattle.parking_lot_protocol.specs.RwTable.{act_of, next_phase, sum_of}
+use Rattle.parking_lot_protocol.specs.Wake.{wake_answer}
+use Rattle.parking_lot_protocol.specs.RwRules as of_rw
 use Rattle.parking_lot_world.specs.declared.calls.LockKind.TheVariants as kind
-use Rattle.parking_lot_world.specs.declared.seat.Told.TheVariants as told
-use Rattle.parking_lot_world.specs.declared.seat.Spot.{Spot}
-use Rattle.parking_lot_world.specs.declared.seat.Spot.TheVariants as spot
+use Rattle.parking_lot_world.specs.declared.seat.WakeResult.TheVariants as told
+use Rattle.parking_lot_world.specs.declared.seat.QueuePosition.{QueuePosition}
+use Rattle.parking_lot_world.specs.declared.seat.QueuePosition.TheVariants as spot
 use Rattle.parking_lot_world.specs.declared.seat.Core.{Core}
 use Rattle.parking_lot_world.specs.declared.seat.Core.TheVariants as core
-use Rattle.parking_lot_world.specs.declared.seat.Call.{Call}
+use Rattle.parking_lot_world.specs.declared.open_call.Call.{Call}
 use Rattle.parking_lot_world.specs.Rows.{State, word_at, hold_at, call_at, taken_by, rw_spot, rw_core_role, rw_role_in, rw_role_at, rw_lock_at}
 use Rattle.parking_lot_world.specs.Stances.{Takes, In, rw_stance, stance, core_next}
 use Rattle.parking_lot_world.specs.RowActs.{hears, key_of, off_list, took}
@@ -85,7 +85,7 @@ module _ (s : State) (t : ℕ) (c : Call) (k : ℕ) (w : Waiter) (from : stance 
       let its = meets s h v z y e x.there in
       record {
         before = subst (λ (j : ℕ). slice_get (rw_lock_at s j).roles v ≡ Some (of_rw.role z.others of_rw.Listed ws y.phase)) x.lock
-            (its.here ∙ ap (λ (p : Spot). Some (of_rw.role z.others (rw_spot p) ws y.phase)) x.listed);
+            (its.here ∙ ap (λ (p : QueuePosition). Some (of_rw.role z.others (rw_spot p) ws y.phase)) x.listed);
         after = subst (λ (j : ℕ). rw_role_at u j v ≡ of_rw.role z.others (of_rw.Off t Open) ws y.phase) x.lock
             (ap (rw_role_in z.lock (taken_by u.wakes v) (hold_at u v z.lock)) (sleeper_after s t c k w from at h here)
             ∙ rw_there (taken_by u.wakes v) (hold_at u v z.lock) (off_list t z)
@@ -157,9 +157,9 @@ module _ (s : State) (t : ℕ) (c : Call) (k : ℕ) (w : Waiter) (from : stance 
         tt,
       )
 
-  writer_takes : (rest : Rest) (y : RwCore) (e : c.core ≡ core.Rw (record y { phase = r.Takes2 rest })) → 1 ≡ k → (o : RwCore) → Waits o → SleepsSecond z.others ws o.phase → TakesSo s t c k w (core.Rw (record y { phase = r.Takes2 rest }))
+  writer_takes : (rest : AfterWake) (y : RwCore) (e : c.core ≡ core.Rw (record y { phase = r.TakeWriter rest })) → 1 ≡ k → (o : RwCore) → Waits o → SleepsSecond z.others ws o.phase → TakesSo s t c k w (core.Rw (record y { phase = r.TakeWriter rest }))
   writer_takes rest y e one o its sleeps =
-      let q : RwPhase = r.Takes2 rest in
+      let q : RwPhase = r.TakeWriter rest in
       let second : 2 * c.lock + 1 ≡ key_of c k = omega (arith, one) in
       let met = meets s h t c (record y { phase = q }) e here in
       let few : length (threads_of (s.lot.queues (2 * c.lock + 1))) ≤ 1 = lists_are_known.second (rw_lock_at s c.lock) (rw_sound s h c.lock (rw_kind q y e)) in
@@ -178,9 +178,9 @@ module _ (s : State) (t : ℕ) (c : Call) (k : ℕ) (w : Waiter) (from : stance 
       )
 
   takes_rw : (q : RwPhase) (y : RwCore) → c.core ≡ core.Rw (record y { phase = q }) → rw_stance q ≡ In k Takes → TakesSo s t c k w (core.Rw (record y { phase = q }))
-  takes_rw (r.Takes2 rest) y e is =
+  takes_rw (r.TakeWriter rest) y e is =
       let one : 1 ≡ k = cc in
-      let o = rw_waits (rw_kind (r.Takes2 rest) y e) z.core refl in
+      let o = rw_waits (rw_kind (r.TakeWriter rest) y e) z.core refl in
       let its = waits o.0 o.1 in
       elim its.sleeps [ inl x ↦ absurd (omega (arith, one, x.0)) | inr x ↦ writer_takes rest y e one o.0 its x.1 ]
   takes_rw (r.Scans a) y e is =
@@ -196,7 +196,7 @@ module _ (s : State) (t : ℕ) (c : Call) (k : ℕ) (w : Waiter) (from : stance 
   -- AND WHOEVER IS FIRST IS LET GO
 
   lets_go : (q : RwPhase) (y : RwCore) → c.core ≡ core.Rw (record y { phase = q }) → rw_stance q ≡ In k Takes → (sum : ℕ) → act_of q ≡ act.Section (section.TakeNext sum) → wake_answer sum w.token.0 ≡ Unpark
-  lets_go (r.Takes2 rest) y e is sum asked = absurd (cc)
+  lets_go (r.TakeWriter rest) y e is sum asked = absurd (cc)
   lets_go (r.Scans a) y e is sum asked =
       let zero : 0 ≡ k = cc in
       let same : sum_of a ≡ sum = cc in

@@ -2,17 +2,17 @@
 use Rattle.std.proofs.Common.{◌≡◌, ℕ, inl, inr, cond, Bool, false, Some, slice_get, refl, sym, ap, ◌∙◌, subst, arith}
 use Rattle.parking_lot_core.specs.declared.parking.UnparkToken.{UnparkToken}
 use Rattle.parking_lot_core.specs.Sound as lot
-use Rattle.parking_lot_cores.specs.declared.act.Act.TheVariants as act
-use Rattle.parking_lot_cores.specs.declared.act.SectionAct.TheVariants as section
-use Rattle.parking_lot_cores.specs.declared.act.WordChange.{WordChange}
-use Rattle.parking_lot_cores.specs.declared.act.Seen.{Seen}
-use Rattle.parking_lot_cores.specs.declared.act.Seen.TheVariants as seen
-use Rattle.parking_lot_cores.specs.RwTable as of_rw_table
-use Rattle.parking_lot_cores.specs.Acts.{change_of}
+use Rattle.parking_lot_protocol.specs.declared.act.Act.TheVariants as act
+use Rattle.parking_lot_protocol.specs.declared.act.SectionAct.TheVariants as section
+use Rattle.parking_lot_protocol.specs.declared.act.WordChange.{WordChange}
+use Rattle.parking_lot_protocol.specs.declared.act.ActResult.{ActResult}
+use Rattle.parking_lot_protocol.specs.declared.act.ActResult.TheVariants as seen
+use Rattle.parking_lot_protocol.specs.RwTable as of_rw_table
+use Rattle.parking_lot_protocol.specs.Acts.{change_of}
 use Rattle.std.specs.Prelude.{bit_and}
 use Rattle.parking_lot_world.specs.declared.seat.Core.{Core}
 use Rattle.parking_lot_world.specs.declared.seat.Core.TheVariants as core
-use Rattle.parking_lot_world.specs.declared.seat.Call.{Call}
+use Rattle.parking_lot_world.specs.declared.open_call.Call.{Call}
 use Rattle.parking_lot_world.specs.declared.seat.Wakeup.{Wakeup}
 use Rattle.parking_lot_world.specs.Rows.{State, word_at, call_at}
 use Rattle.parking_lot_world.specs.Stances.{Out, In, Stores, Tells, sign, stance, taken_count, core_act, core_next, core_tells}
@@ -35,7 +35,7 @@ use Rattle.parking_lot_world.proofs.Stancing.{leads_by, wakes_some}
 use Rattle.parking_lot_world.proofs.Telling.{rw_stores, rw_store, rw_mask}
 
 -- What fits of the lot, whatever word is stored.
-lots_told : (s : State) (t : ℕ) (c : Call) (heard : Seen) (token : UnparkToken) (word k : ℕ) → LotFits s → call_at s t ≡ Some c → stance c.core ≡ In k Stores → stance (core_next c.core heard) ≡ In k (Tells token)
+lots_told : (s : State) (t : ℕ) (c : Call) (heard : ActResult) (token : UnparkToken) (word k : ℕ) → LotFits s → call_at s t ≡ Some c → stance c.core ≡ In k Stores → stance (core_next c.core heard) ≡ In k (Tells token)
     → taken_count (core_next c.core heard) ≡ taken_count c.core → lot.Sound (told_state s t c heard token word).lot → LotFits (told_state s t c heard token word)
 lots_told s t c heard token word k h here from to counts sound =
     same_parts (with_lot (settles (with_call s t (hears c heard)) t (told_of token)) (told_state s t c heard token word).lot) (told_state s t c heard token word) refl refl refl
@@ -61,14 +61,14 @@ store s t c plain fair is_fair asked sound h here =
       | inr p ↦ rw_store s t c plain fair is_fair asked h here k e p.0 p.1 p.2
     ]
       where
-        masks_none : {n : ℕ} → act.Mask n ≡ act.Section (section.Store plain fair) → ⊥
+        masks_none : {n : ℕ} → act.FetchAnd n ≡ act.Section (section.Store plain fair) → ⊥
         masks_none e = cc
 
-mask : (s : State) (t : ℕ) (c : Call) (keep : ℕ) → core_act c.core ≡ act.Mask keep → lot.Sound (masked s t c keep).lot → Keeps t c s (masked s t c keep)
+mask : (s : State) (t : ℕ) (c : Call) (keep : ℕ) → core_act c.core ≡ act.FetchAnd keep → lot.Sound (masked s t c keep).lot → Keeps t c s (masked s t c keep)
 mask s t c keep asked sound h here =
     let heard = seen.Before (word_at s c.lock) in
     let word = bit_and (word_at s c.lock) keep in
-    let leads = leads_by c.core (act.Mask keep) (word_at s c.lock) heard asked refl in
+    let leads = leads_by c.core (act.FetchAnd keep) (word_at s c.lock) heard asked refl in
     let rules = by_core c.core refl leads.0 in
     (heard, record { fits = record { lots = lots_told s t c heard (sign false) word 1 h.lots here leads.0 leads.1 leads.2 sound; wakes = wakes_told s t c heard (sign false) word h here; rules = rules.0 }; goes = rules.1 })
   where
@@ -79,7 +79,7 @@ mask s t c keep asked sound h here =
       | inr p ↦ absurd (stores_none (sym (ap of_rw_table.act_of p.2) ∙ sym (ap core_act e) ∙ asked))
     ]
       where
-        stores_none : {a b : WordChange} → act.Section (section.Store a b) ≡ act.Mask keep → ⊥
+        stores_none : {a b : WordChange} → act.Section (section.Store a b) ≡ act.FetchAnd keep → ⊥
         stores_none e = cc
 
 -- WAKING

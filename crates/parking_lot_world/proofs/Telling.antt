@@ -14,27 +14,27 @@ use Rattle.parking_lot_rules.specs.Plain.{Mask2}
 use Rattle.parking_lot_rules.specs.Lock.{Lock}
 use Rattle.parking_lot_rules.specs.ReadLock.{word_of}
 use Rattle.parking_lot_rules.specs.Steps.{Alone, Store, settle, ends_saying}
-use Rattle.parking_lot_cores.specs.declared.act.Act.{Act}
-use Rattle.parking_lot_cores.specs.declared.act.Act.TheVariants as act
-use Rattle.parking_lot_cores.specs.declared.act.SectionAct.TheVariants as section
-use Rattle.parking_lot_cores.specs.declared.act.WordChange.{WordChange}
-use Rattle.parking_lot_cores.specs.declared.act.Seen.{Seen}
-use Rattle.parking_lot_cores.specs.declared.act.Seen.TheVariants as seen
-use Rattle.parking_lot_cores.specs.declared.rw_core.RwCore.{RwCore}
-use Rattle.parking_lot_cores.specs.declared.rw_phase.RwPhase.{RwPhase}
-use Rattle.parking_lot_cores.specs.declared.rw_phase.RwPhase.TheVariants as r
-use Rattle.parking_lot_cores.specs.declared.rw_phase.Scanning.{Scanning}
-use Rattle.parking_lot_cores.specs.declared.rw_phase.Rest.{Rest}
-use Rattle.parking_lot_cores.specs.Acts.{word_after, change_of}
+use Rattle.parking_lot_protocol.specs.declared.act.Act.{Act}
+use Rattle.parking_lot_protocol.specs.declared.act.Act.TheVariants as act
+use Rattle.parking_lot_protocol.specs.declared.act.SectionAct.TheVariants as section
+use Rattle.parking_lot_protocol.specs.declared.act.WordChange.{WordChange}
+use Rattle.parking_lot_protocol.specs.declared.act.ActResult.{ActResult}
+use Rattle.parking_lot_protocol.specs.declared.act.ActResult.TheVariants as seen
+use Rattle.parking_lot_protocol.specs.declared.rw_core.RwCore.{RwCore}
+use Rattle.parking_lot_protocol.specs.declared.rw_phase.RwPhase.{RwPhase}
+use Rattle.parking_lot_protocol.specs.declared.rw_phase.RwPhase.TheVariants as r
+use Rattle.parking_lot_protocol.specs.declared.rw_phase.Scanning.{Scanning}
+use Rattle.parking_lot_protocol.specs.declared.rw_phase.AfterWake.{AfterWake}
+use Rattle.parking_lot_protocol.specs.Acts.{word_after, change_of}
 use Rattle.std.specs.Prelude.{bit_and}
-use Rattle.parking_lot_cores.specs.RwTable as of_rw_table
-use Rattle.parking_lot_cores.specs.RwRules as of_rw
+use Rattle.parking_lot_protocol.specs.RwTable as of_rw_table
+use Rattle.parking_lot_protocol.specs.RwRules as of_rw
 use Rattle.parking_lot_world.specs.declared.calls.LockKind.TheVariants as kind
 use Rattle.parking_lot_world.specs.declared.seat.Hold.{Hold}
-use Rattle.parking_lot_world.specs.declared.seat.Spot.{Spot}
+use Rattle.parking_lot_world.specs.declared.seat.QueuePosition.{QueuePosition}
 use Rattle.parking_lot_world.specs.declared.seat.Core.{Core}
 use Rattle.parking_lot_world.specs.declared.seat.Core.TheVariants as core
-use Rattle.parking_lot_world.specs.declared.seat.Call.{Call}
+use Rattle.parking_lot_world.specs.declared.open_call.Call.{Call}
 use Rattle.parking_lot_world.specs.Rows.{State, word_at, call_at, hold_at, taken_by, owned_of, mark_of, rw_spot, rw_role_in, rw_role_at, rw_core_role, rw_lock_at}
 use Rattle.parking_lot_world.specs.Stances.{Doing, In, Asleep, Stores, sign, rw_stance, core_act, core_next, core_tells}
 use Rattle.parking_lot_world.specs.RowActs.{settled_spot, settled, told_of}
@@ -66,7 +66,7 @@ left_threads [] = refl
 left_threads (w ∷ ws) = refl
 
 -- a call at a reader-writer lock that hears what it may stands on what its next phase needs, while the lists stay
-pub rw_hears : (s : State) → FitsTogether s → (t : ℕ) (c : Call) (k : RwCore) → c.core ≡ core.Rw k → call_at s t ≡ Some c → (heard : Seen) → of_rw.IsTold k.phase (word_at s c.lock) heard
+pub rw_hears : (s : State) → FitsTogether s → (t : ℕ) (c : Call) (k : RwCore) → c.core ≡ core.Rw k → call_at s t ≡ Some c → (heard : ActResult) → of_rw.IsTold k.phase (word_at s c.lock) heard
     → Learns k.phase heard (s.lot.queues (2 * c.lock)) (s.lot.queues (2 * c.lock + 1)) → IsPrepared c.others (core_next c.core heard) × KnowsList (core_next c.core heard) s.lot.queues c.lock
 rw_hears s h t c k e here heard hears_so learns = (
   subst (λ (x : Core). IsPrepared c.others (core_next x heard)) (sym e) (
@@ -80,7 +80,7 @@ rw_hears s h t c k e here heard hears_so learns = (
 
 -- AT A READER-WRITER LOCK
 
-module _ (s : State) (t : ℕ) (c : Call) (heard : Seen) (token : UnparkToken) (word : ℕ) (h : FitsTogether s) (here : call_at s t ≡ Some c) (k : RwCore) (e : c.core ≡ core.Rw k) where
+module _ (s : State) (t : ℕ) (c : Call) (heard : ActResult) (token : UnparkToken) (word : ℕ) (h : FitsTogether s) (here : call_at s t ≡ Some c) (k : RwCore) (e : c.core ≡ core.Rw k) where
   abbrev us : List ℕ
   us = taken_by s.wakes t
 
@@ -116,7 +116,7 @@ module _ (s : State) (t : ℕ) (c : Call) (heard : Seen) (token : UnparkToken) (
 
   -- the others' roles change so
   module _ (g : Role → Role) (idle : (o : Owned) → g (record { owns = o; does = Idle }) ≡ record { owns = o; does = Idle })
-      (tells : (x n : ℕ) (at : Spot) (vs : List ℕ) (p : RwPhase) → slice_get old_lock.roles x ≡ Some (of_rw.role n (rw_spot at) vs p) → of_rw.role n (told_by t (told_of token) at) vs p ≡ g (of_rw.role n (rw_spot at) vs p)) where
+      (tells : (x n : ℕ) (at : QueuePosition) (vs : List ℕ) (p : RwPhase) → slice_get old_lock.roles x ≡ Some (of_rw.role n (rw_spot at) vs p) → of_rw.role n (told_by t (told_of token) at) vs p ≡ g (of_rw.role n (rw_spot at) vs p)) where
     module _ (x : ℕ) (low : x < length s.calls) (ne : x ≢ t) where
       abbrev vs : List ℕ
       vs = taken_by s.wakes x
@@ -158,8 +158,8 @@ module _ (s : State) (t : ℕ) (c : Call) (heard : Seen) (token : UnparkToken) (
         )
 
 -- one that stores in a section
-pub rw_stores : (p : RwPhase) (key : ℕ) → rw_stance p ≡ In key Stores → ((rest : Rest) × (taken : Bool) × (p ≡ r.Masks2 rest taken)) ⊎ ((a : Scanning) × (left : Bool) × (p ≡ r.Stores a left))
-rw_stores (r.Masks2 rest taken) key e = inl (rest, taken, refl)
+pub rw_stores : (p : RwPhase) (key : ℕ) → rw_stance p ≡ In key Stores → ((rest : AfterWake) × (taken : Bool) × (p ≡ r.ClearWriterParked rest taken)) ⊎ ((a : Scanning) × (left : Bool) × (p ≡ r.Stores a left))
+rw_stores (r.ClearWriterParked rest taken) key e = inl (rest, taken, refl)
 rw_stores (r.Stores a left) key e = inr (a, left, refl)
 rw_stores p key e = absurd cc
 
@@ -169,7 +169,7 @@ in_asleep e = cc
 -- The end of a scan.
 module _ (s : State) (t : ℕ) (c : Call) (plain fair : WordChange) (is_fair : Bool) (asked : core_act c.core ≡ act.Section (section.Store plain fair)) (h : FitsTogether s) (here : call_at s t ≡ Some c) (k : RwCore) (e : c.core ≡ core.Rw k)
     (a : Scanning) (left : Bool) (ph : k.phase ≡ r.Stores a left) where
-  abbrev heard : Seen
+  abbrev heard : ActResult
   heard = seen.Stored is_fair
 
   abbrev token : UnparkToken
@@ -199,7 +199,7 @@ module _ (s : State) (t : ℕ) (c : Call) (plain fair : WordChange) (is_fair : B
   knows : rw_knows (r.Stores a left) (s.lot.queues (2 * c.lock)) (s.lot.queues (2 * c.lock + 1))
   knows = subst (λ p. rw_knows p (s.lot.queues (2 * c.lock)) (s.lot.queues (2 * c.lock + 1))) ph (subst (λ (x : Core). KnowsList x s.lot.queues c.lock) e (h.rules.knows t c here))
 
-  tells : (x n : ℕ) (at : Spot) (vs : List ℕ) (p : RwPhase) → slice_get lock.roles x ≡ Some (of_rw.role n (rw_spot at) vs p) → of_rw.role n (told_by t (told_of token) at) vs p ≡ settle (ends_saying (ending_of a is_fair)) (of_rw.role n (rw_spot at) vs p)
+  tells : (x n : ℕ) (at : QueuePosition) (vs : List ℕ) (p : RwPhase) → slice_get lock.roles x ≡ Some (of_rw.role n (rw_spot at) vs p) → of_rw.role n (told_by t (told_of token) at) vs p ≡ settle (ends_saying (ending_of a is_fair)) (of_rw.role n (rw_spot at) vs p)
   tells x n at vs p is = subst (λ m. of_rw.role n (told_by t (told_of token) at) vs p ≡ settle m (of_rw.role n (rw_spot at) vs p)) says (stores_tell.here lock t x n at vs p (of_rw.scan_of c.others a taken) (told_of token) met.sound met.here is)
 
   lock_after : rw_lock_at lock_then c.lock ≡ record lock {
@@ -230,9 +230,9 @@ module _ (s : State) (t : ℕ) (c : Call) (plain fair : WordChange) (is_fair : B
       (subst (λ p. IsRwMove (of_rw.move c.others taken p heard) c.lock t s lock_then) (sym ph) made)
 
 -- The last reader takes the mark of a pending writer off the word.
-module _ (s : State) (t : ℕ) (c : Call) (keep : ℕ) (asked : core_act c.core ≡ act.Mask keep) (h : FitsTogether s) (here : call_at s t ≡ Some c) (k : RwCore) (e : c.core ≡ core.Rw k)
-    (rest : Rest) (has : Bool) (ph : k.phase ≡ r.Masks2 rest has) where
-  abbrev before : Seen
+module _ (s : State) (t : ℕ) (c : Call) (keep : ℕ) (asked : core_act c.core ≡ act.FetchAnd keep) (h : FitsTogether s) (here : call_at s t ≡ Some c) (k : RwCore) (e : c.core ≡ core.Rw k)
+    (rest : AfterWake) (has : Bool) (ph : k.phase ≡ r.ClearWriterParked rest has) where
+  abbrev before : ActResult
   before = seen.Before (word_at s c.lock)
 
   abbrev masks : ℕ
@@ -247,19 +247,19 @@ module _ (s : State) (t : ℕ) (c : Call) (keep : ℕ) (asked : core_act c.core 
   abbrev lock_before : Lock
   lock_before = rw_lock_at s c.lock
 
-  masked_word : masks ≡ word_after (of_rw_table.act_of (r.Masks2 rest has)) before (word_at s c.lock)
+  masked_word : masks ≡ word_after (of_rw_table.act_of (r.ClearWriterParked rest has)) before (word_at s c.lock)
   masked_word = ap (λ (y : Act). word_after y before (word_at s c.lock)) (sym asked ∙ ap core_act e ∙ ap of_rw_table.act_of ph)
 
-  met_so : Meets lock_before t c.others (rw_spot c.spot) taken_so (r.Masks2 rest has) (word_at s c.lock)
+  met_so : Meets lock_before t c.others (rw_spot c.spot) taken_so (r.ClearWriterParked rest has) (word_at s c.lock)
   met_so = subst (λ p. Meets lock_before t c.others (rw_spot c.spot) taken_so p (word_at s c.lock)) ph (meets s h t c k e here)
 
   nobody : s.lot.queues (2 * c.lock + 1) ≡ []
   nobody = subst (λ p. rw_knows p (s.lot.queues (2 * c.lock)) (s.lot.queues (2 * c.lock + 1))) ph (subst (λ (x : Core). KnowsList x s.lot.queues c.lock) e (h.rules.knows t c here))
 
-  stay : (x n : ℕ) (at : Spot) (vs : List ℕ) (p : RwPhase) → slice_get lock_before.roles x ≡ Some (of_rw.role n (rw_spot at) vs p) → of_rw.role n (told_by t (told_of (sign false)) at) vs p ≡ of_rw.role n (rw_spot at) vs p
-  stay x n at vs p is = stores_tell.elsewhere lock_before t x n at vs p (of_rw.role c.others (rw_spot c.spot) taken_so (r.Masks2 rest has)) (told_of (sign false)) met_so.sound met_so.here refl is
+  stay : (x n : ℕ) (at : QueuePosition) (vs : List ℕ) (p : RwPhase) → slice_get lock_before.roles x ≡ Some (of_rw.role n (rw_spot at) vs p) → of_rw.role n (told_by t (told_of (sign false)) at) vs p ≡ of_rw.role n (rw_spot at) vs p
+  stay x n at vs p is = stores_tell.elsewhere lock_before t x n at vs p (of_rw.role c.others (rw_spot c.spot) taken_so (r.ClearWriterParked rest has)) (told_of (sign false)) met_so.sound met_so.here refl is
 
-  mask_after : rw_lock_at mask_then c.lock ≡ with_role lock_before (word_after (of_rw_table.act_of (r.Masks2 rest has)) before (word_at s c.lock)) t (of_rw.role c.others of_rw.Listed taken_so (of_rw_table.next_phase (r.Masks2 rest has) before))
+  mask_after : rw_lock_at mask_then c.lock ≡ with_role lock_before (word_after (of_rw_table.act_of (r.ClearWriterParked rest has)) before (word_at s c.lock)) t (of_rw.role c.others of_rw.Listed taken_so (of_rw_table.next_phase (r.ClearWriterParked rest has) before))
   mask_after =
       same_rw _ _ _ _ _ _ _ _ (ap word_of (told_word s t c before (sign false) masks h here k e ∙ masked_word))
       (ap (λ n. all (rw_role_at mask_then c.lock) 0 n) (told_threads s t c before (sign false) masks h here)
@@ -269,9 +269,9 @@ module _ (s : State) (t : ℕ) (c : Call) (keep : ℕ) (asked : core_act c.core 
       (role_then s t c before (sign false) masks h here k e (λ key park z. in_asleep (sym (ap (λ p. rw_stance (of_rw_table.next_phase p before)) ph) ∙ z)) ∙ ap (λ p. of_rw.role c.others of_rw.Listed taken_so (of_rw_table.next_phase p before)) ph))
       refl refl
 
-  made_so : IsRwMove (of_rw.move c.others taken_so (r.Masks2 rest has) before) c.lock t s mask_then
+  made_so : IsRwMove (of_rw.move c.others taken_so (r.ClearWriterParked rest has) before) c.lock t s mask_then
   made_so =
-      let step = makes_are_steps lock_before t c.others (rw_spot c.spot) taken_so (r.Masks2 rest has) (word_at s c.lock) before (Mask2 c.others taken_so) met_so refl refl (ap threads_of nobody) in
+      let step = makes_are_steps lock_before t c.others (rw_spot c.spot) taken_so (r.ClearWriterParked rest has) (word_at s c.lock) before (Mask2 c.others taken_so) met_so refl refl (ap threads_of nobody) in
       made_rw s mask_then t c.lock (there s t c before (sign false) masks h here k e) (told_elsewhere s t c before (sign false) masks h here) (Alone (Mask2 c.others taken_so)) (rw_kind s t c before (sign false) masks h here k e)
       step.0 (mask_after ∙ sym step.1) (inside_stored (sign false) s.lot.section)
 

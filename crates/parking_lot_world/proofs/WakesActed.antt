@@ -7,16 +7,16 @@ use Rattle.parking_lot_core.specs.declared.place.Waiter.{Waiter}
 use Rattle.parking_lot_core.specs.Places.{place_at, mark_of}
 use Rattle.parking_lot_core.specs.Results.{is_left}
 use Rattle.parking_lot_core.proofs.Sounds.{none≢some}
-use Rattle.parking_lot_cores.specs.declared.act.Act.{Act}
-use Rattle.parking_lot_cores.specs.declared.act.Act.TheVariants as act
-use Rattle.parking_lot_cores.specs.declared.act.CoreAnswer.{CoreAnswer}
-use Rattle.parking_lot_cores.specs.declared.act.SectionAct.TheVariants as section
-use Rattle.parking_lot_cores.specs.declared.act.Seen.{Seen}
-use Rattle.parking_lot_cores.specs.declared.act.Seen.TheVariants as seen
-use Rattle.parking_lot_world.specs.declared.seat.Spot.TheVariants as spot
-use Rattle.parking_lot_world.specs.declared.seat.Told.{Told}
-use Rattle.parking_lot_world.specs.declared.seat.Told.TheVariants as told
-use Rattle.parking_lot_world.specs.declared.seat.Call.{Call}
+use Rattle.parking_lot_protocol.specs.declared.act.Act.{Act}
+use Rattle.parking_lot_protocol.specs.declared.act.Act.TheVariants as act
+use Rattle.parking_lot_protocol.specs.declared.act.CoreAnswer.{CoreAnswer}
+use Rattle.parking_lot_protocol.specs.declared.act.SectionAct.TheVariants as section
+use Rattle.parking_lot_protocol.specs.declared.act.ActResult.{ActResult}
+use Rattle.parking_lot_protocol.specs.declared.act.ActResult.TheVariants as seen
+use Rattle.parking_lot_world.specs.declared.seat.QueuePosition.TheVariants as spot
+use Rattle.parking_lot_world.specs.declared.seat.WakeResult.{WakeResult}
+use Rattle.parking_lot_world.specs.declared.seat.WakeResult.TheVariants as told
+use Rattle.parking_lot_world.specs.declared.open_call.Call.{Call}
 use Rattle.parking_lot_world.specs.declared.seat.Wakeup.{Wakeup}
 use Rattle.parking_lot_world.specs.Rows.{State, word_at, call_at, is_by}
 use Rattle.parking_lot_world.specs.Stances.{Joins, Takes, Stance, Out, In, stance, taken_count, core_tells}
@@ -33,7 +33,7 @@ use Rattle.parking_lot_world.proofs.LotKept.{by_first}
 use Rattle.parking_lot_world.proofs.WakesActs.{stands_listed, wakes_still, wakes_listed, wakes_settled, wakes_taken, wakes_woken}
 
 -- one that hears something, and stands where it stood
-hears_still : (s u : State) (t : ℕ) (c : Call) (told : Seen) → WakesFit s → call_at s t ≡ Some c → u.calls ≡ slice_set s.calls t (Some (hears c told)) → u.wakes ≡ s.wakes → WakesFit u
+hears_still : (s u : State) (t : ℕ) (c : Call) (told : ActResult) → WakesFit s → call_at s t ≡ Some c → u.calls ≡ slice_set s.calls t (Some (hears c told)) → u.wakes ≡ s.wakes → WakesFit u
 hears_still s u t c told w here calls wakes = wakes_still s u t c (hears c told) w here refl calls wakes
 
 exchanges : (s : State) (t : ℕ) (c : Call) (from to : ℕ) → WakesFit s → call_at s t ≡ Some c → WakesFit (exchanged s t c from to)
@@ -55,7 +55,7 @@ takes s t c k nth x from at h w here =
     wakes_taken s (took s t c (key_of c k) nth x) t x.thread c (hears c told) z.call e w z.other here z.there z.listed refl refl refl
     (ap (λ (o : Option Call). slice_set (slice_set s.calls x.thread (option_map (off_list t) o)) t (Some (hears c told))) z.there) refl
 
-tells : (s u : State) (t : ℕ) (c : Call) (told : Seen) (said : Told) → WakesFit s → call_at s t ≡ Some c → u.calls ≡ map (option_map (settled t said)) (slice_set s.calls t (Some (hears c told))) → u.wakes ≡ s.wakes → WakesFit u
+tells : (s u : State) (t : ℕ) (c : Call) (told : ActResult) (said : WakeResult) → WakesFit s → call_at s t ≡ Some c → u.calls ≡ map (option_map (settled t said)) (slice_set s.calls t (Some (hears c told))) → u.wakes ≡ s.wakes → WakesFit u
 tells s u t c told said w here calls wakes = wakes_settled (with_call s t (hears c told)) u t said (hears_still s (with_call s t (hears c told)) t c told w here refl refl) calls wakes
 
 wakes : (s : State) (t : ℕ) (c : Call) (e : Wakeup) (d : Call) (token : UnparkToken) → slice_get s.wakes (position_or_len (is_by t) s.wakes) ≡ Some e → call_at s e.thread ≡ Some d → KeepsWakes s t c (act.Section section.Wake) (woke s t c e.thread d token)

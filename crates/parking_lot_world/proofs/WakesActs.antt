@@ -8,11 +8,11 @@ use Rattle.std.proofs.lemmas.Option.{slice_get_within}
 use Rattle.parking_lot_core.proofs.Kept.{slice_get-seam, eqb_false_symm}
 use Rattle.parking_lot_core.proofs.Numbers.{flag, count_by-set, count_by-map_same}
 use Rattle.parking_lot_core.proofs.Sounds.{none≢some, by_eqb}
-use Rattle.parking_lot_world.specs.declared.seat.Spot.{Spot}
-use Rattle.parking_lot_world.specs.declared.seat.Spot.TheVariants as spot
-use Rattle.parking_lot_world.specs.declared.seat.Told.{Told}
-use Rattle.parking_lot_world.specs.declared.seat.Told.TheVariants as told
-use Rattle.parking_lot_world.specs.declared.seat.Call.{Call}
+use Rattle.parking_lot_world.specs.declared.seat.QueuePosition.{QueuePosition}
+use Rattle.parking_lot_world.specs.declared.seat.QueuePosition.TheVariants as spot
+use Rattle.parking_lot_world.specs.declared.seat.WakeResult.{WakeResult}
+use Rattle.parking_lot_world.specs.declared.seat.WakeResult.TheVariants as told
+use Rattle.parking_lot_world.specs.declared.open_call.Call.{Call}
 use Rattle.parking_lot_world.specs.declared.seat.Wakeup.{Wakeup}
 use Rattle.parking_lot_world.specs.Rows.{State, call_at}
 use Rattle.parking_lot_world.specs.Stances.{stance}
@@ -30,14 +30,14 @@ slot_of [] t h = absurd (omega arith)
 slot_of (c ∷ calls) zero h = refl
 slot_of (c ∷ calls) (suc t) h = slot_of calls t (omega arith)
 
-off_listed : {by : ℕ} {said : Told} → spot.Off by said ≡ spot.Listed → ⊥
+off_listed : {by : ℕ} {said : WakeResult} → spot.Off by said ≡ spot.Listed → ⊥
 off_listed e = cc
 
 -- whoever doesn't sleep stands as if listed
 pub stands_listed : (s : State) → LotFits s → WakesFit s → (t : ℕ) (c : Call) → call_at s t ≡ Some c → IsUp (stance c.core) → c.spot ≡ spot.Listed
 stands_listed s h w t c here up = go c.spot refl
   where
-    go : (a : Spot) → c.spot ≡ a → c.spot ≡ spot.Listed
+    go : (a : QueuePosition) → c.spot ≡ a → c.spot ≡ spot.Listed
     go spot.Listed e = e
     go (spot.Off by said) e =
         let o = w.off t by c said here e in
@@ -47,7 +47,7 @@ stands_listed s h w t c here up = go c.spot refl
 -- one call changes, whose thread stands on the same side of its list
 pub wakes_one : (s u : State) (t : ℕ) (o : Option Call) → WakesFit s → t < length s.calls → u.calls ≡ slice_set s.calls t o → u.wakes ≡ s.wakes
     → is_away o ≡ is_away (call_at s t)
-    → ((d : Call) (by : ℕ) (said : Told) → o ≡ Some d → d.spot ≡ spot.Off by said → (c : Call) × (call_at s t ≡ Some c) × (before : Told) × (c.spot ≡ spot.Off by before))
+    → ((d : Call) (by : ℕ) (said : WakeResult) → o ≡ Some d → d.spot ≡ spot.Off by said → (c : Call) × (call_at s t ≡ Some c) × (before : WakeResult) × (c.spot ≡ spot.Off by before))
     → WakesFit u
 wakes_one s u t o w low calls wakes same back = record {
   off = λ v by d said at is. subst (λ (ws : List Wakeup). IsOwed ws by v) (sym wakes) (by_eqb v t (IsOwed s.wakes by v)
@@ -80,13 +80,13 @@ wakes_listed s u t o w low calls wakes was listed =
     side (Some d) l = ap is_off (l d refl)
 
 -- threads are told
-settled_side : (t : ℕ) (said : Told) (a : Spot) → is_off (settled_spot t said a) ≡ is_off a
+settled_side : (t : ℕ) (said : WakeResult) (a : QueuePosition) → is_off (settled_spot t said a) ≡ is_off a
 settled_side t said spot.Listed = refl
 settled_side t said (spot.Off by told.Nothing) = refl
 settled_side t said (spot.Off by told.TryAgain) = refl
 settled_side t said (spot.Off by told.HandedOver) = refl
 
-settled_away : (t : ℕ) (said : Told) (o : Option Call) → is_away (option_map (settled t said) o) ≡ is_away o
+settled_away : (t : ℕ) (said : WakeResult) (o : Option Call) → is_away (option_map (settled t said) o) ≡ is_away o
 settled_away t said None = refl
 settled_away t said (Some c) = settled_side t said c.spot
 
@@ -96,14 +96,14 @@ call_of-map g (None ∷ cs) zero = refl
 call_of-map g (Some c ∷ cs) zero = refl
 call_of-map g (c ∷ cs) (suc v) = call_of-map g cs v
 
-pub wakes_settled : (s u : State) (t : ℕ) (said : Told) → WakesFit s → u.calls ≡ map (option_map (settled t said)) s.calls → u.wakes ≡ s.wakes → WakesFit u
+pub wakes_settled : (s u : State) (t : ℕ) (said : WakeResult) → WakesFit s → u.calls ≡ map (option_map (settled t said)) s.calls → u.wakes ≡ s.wakes → WakesFit u
 wakes_settled s u t said w calls wakes = record {
   off = λ v by d x at is. subst (λ (ws : List Wakeup). IsOwed ws by v) (sym wakes)
       (told_off (call_at s v) v by d x refl (sym (call_of-map (settled t said) s.calls v) ∙ (ap (λ cs. call_of cs v) (sym calls) ∙ at)) is);
   room = ap length wakes ∙ (w.room ∙ (sym (count_by-map_same is_away (option_map (settled t said)) (settled_away t said) s.calls) ∙ ap (count_by is_away) (sym calls)));
 }
   where
-    told_off : (o : Option Call) (v by : ℕ) (d : Call) (x : Told) → call_at s v ≡ o → option_map (settled t said) o ≡ Some d → d.spot ≡ spot.Off by x → IsOwed s.wakes by v
+    told_off : (o : Option Call) (v by : ℕ) (d : Call) (x : WakeResult) → call_at s v ≡ o → option_map (settled t said) o ≡ Some d → d.spot ≡ spot.Off by x → IsOwed s.wakes by v
     told_off None v by d x here is off = absurd (none≢some is)
     told_off (Some c) v by d x here is off =
         let before = unsettled_off t said by x c.spot (ap (λ (y : Call). y.spot) (same_call is) ∙ off) in
@@ -120,13 +120,13 @@ wakes_taken s u t v c d x e w apart here there listed at by_t is_v calls wakes =
     taken : State
     taken = record s { calls = slice_set s.calls v (Some (off_list t x)); wakes = s.wakes ++ e ∷ [] }
 
-    same_by : {by : ℕ} {said : Told} → spot.Off t told.Nothing ≡ spot.Off by said → t ≡ by
+    same_by : {by : ℕ} {said : WakeResult} → spot.Off t told.Nothing ≡ spot.Off by said → t ≡ by
     same_by e = cc
 
     low : v < length s.calls
     low = call_within s v x there
 
-    off : (y by : ℕ) (z : Call) (said : Told) → call_of (slice_set s.calls v (Some (off_list t x))) y ≡ Some z → z.spot ≡ spot.Off by said → IsOwed (s.wakes ++ e ∷ []) by y
+    off : (y by : ℕ) (z : Call) (said : WakeResult) → call_of (slice_set s.calls v (Some (off_list t x))) y ≡ Some z → z.spot ≡ spot.Off by said → IsOwed (s.wakes ++ e ∷ []) by y
     off y by z said is out = by_eqb y v (IsOwed (s.wakes ++ e ∷ []) by y)
         (λ f. (length s.wakes, e, slice_get-seam s.wakes e [], by_t ∙ same_by (ap (λ (q : Call). q.spot) (same_call (sym (set_here s.calls v (Some (off_list t x)) low) ∙ (ap (call_of (slice_set s.calls v (Some (off_list t x)))) (sym f) ∙ is))) ∙ out), is_v ∙ sym f))
         (λ f. let old = w.off y by z said (sym (set_elsewhere s.calls v y (Some (off_list t x)) f) ∙ is) out in (old.0, old.1, get_front s.wakes (e ∷ []) old.0 old.1 old.2, old.3, old.4))
@@ -139,7 +139,7 @@ wakes_taken s u t v c d x e w apart here there listed at by_t is_v calls wakes =
         length_push s.wakes e ∙ omega arith
 
 -- one is woken
-pub wakes_woken : (s u : State) (t i : ℕ) (c d x y : Call) (e : Wakeup) (by : ℕ) (said : Told) → LotFits s → WakesFit s → (e.thread == t) ≡ false → slice_get s.wakes i ≡ Some e → call_at s t ≡ Some c → call_at s e.thread ≡ Some x
+pub wakes_woken : (s u : State) (t i : ℕ) (c d x y : Call) (e : Wakeup) (by : ℕ) (said : WakeResult) → LotFits s → WakesFit s → (e.thread == t) ≡ false → slice_get s.wakes i ≡ Some e → call_at s t ≡ Some c → call_at s e.thread ≡ Some x
     → x.spot ≡ spot.Off by said → y.spot ≡ spot.Listed → d.spot ≡ c.spot → u.calls ≡ slice_set (slice_set s.calls e.thread (Some y)) t (Some d) → u.wakes ≡ remove s.wakes i → WakesFit u
 wakes_woken s u t i c d x y e by said h w apart first here there gone listed at calls wakes =
     wakes_still woken u t c d
@@ -155,7 +155,7 @@ wakes_woken s u t i c d x y e by said h w apart first here there gone listed at 
     low : e.thread < length s.calls
     low = call_within s e.thread x there
 
-    off : (q b : ℕ) (z : Call) (told : Told) → call_of (slice_set s.calls e.thread (Some y)) q ≡ Some z → z.spot ≡ spot.Off b told → IsOwed (remove s.wakes i) b q
+    off : (q b : ℕ) (z : Call) (told : WakeResult) → call_of (slice_set s.calls e.thread (Some y)) q ≡ Some z → z.spot ≡ spot.Off b told → IsOwed (remove s.wakes i) b q
     off q b z told is out = by_eqb q e.thread (IsOwed (remove s.wakes i) b q)
         (λ f. absurd (off_listed (sym out ∙ (ap (λ (a : Call). a.spot) (sym (same_call (sym (set_here s.calls e.thread (Some y) low) ∙ (ap (call_of (slice_set s.calls e.thread (Some y))) (sym f) ∙ is)))) ∙ listed))))
         (λ f.

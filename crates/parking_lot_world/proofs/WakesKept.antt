@@ -2,10 +2,10 @@
 use Rattle.std.proofs.Common.{◌≡◌, ℕ, List, length, Some, slice_get, sym, ap, ◌∙◌, subst, arith}
 use Rattle.std.specs.Prelude.{count_by}
 use Rattle.parking_lot_core.proofs.Numbers.{count_by-set}
-use Rattle.parking_lot_cores.specs.declared.act.Seen.{Seen}
-use Rattle.parking_lot_world.specs.declared.seat.Spot.TheVariants as spot
+use Rattle.parking_lot_protocol.specs.declared.act.ActResult.{ActResult}
+use Rattle.parking_lot_world.specs.declared.seat.QueuePosition.TheVariants as spot
 use Rattle.parking_lot_world.specs.declared.seat.Core.{Core}
-use Rattle.parking_lot_world.specs.declared.seat.Call.{Call}
+use Rattle.parking_lot_world.specs.declared.open_call.Call.{Call}
 use Rattle.parking_lot_world.specs.declared.seat.Wakeup.{Wakeup}
 use Rattle.parking_lot_world.specs.Rows.{State}
 use Rattle.parking_lot_world.specs.RowFits.{WakesFit, is_away}
@@ -13,7 +13,7 @@ use Rattle.parking_lot_world.proofs.Calling.{call_of, slot, calls-change}
 use Rattle.parking_lot_world.proofs.Owning.{OwnAct, call_after}
 
 -- one whose spot stays
-pub wakes_own : (s u : State) (t : ℕ) (c : Call) (told : Seen) (next : Core) → OwnAct s u t c told next c.spot → WakesFit s → WakesFit u
+pub wakes_own : (s u : State) (t : ℕ) (c : Call) (told : ActResult) (next : Core) → OwnAct s u t c told next c.spot → WakesFit s → WakesFit u
 wakes_own s u t c told next a h =
     let d : Call = call_after s u t c told next c.spot a in
     record {

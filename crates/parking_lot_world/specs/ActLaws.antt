@@ -1,18 +1,18 @@
 -- What each act of the machine keeps, and which step of the rules it is.
 use Rattle.std.specs.Prelude.{◌≡◌, ℕ, ◌<◌, ◌≤◌, false, length, None, Some, slice_get}
 use Rattle.parking_lot_core.specs.Sound as lot
-use Rattle.parking_lot_cores.specs.declared.act.Act.TheVariants as act
-use Rattle.parking_lot_cores.specs.declared.act.SectionAct.TheVariants as section
-use Rattle.parking_lot_cores.specs.declared.act.Seen.{Seen}
-use Rattle.parking_lot_cores.specs.declared.act.Seen.TheVariants as seen
-use Rattle.parking_lot_cores.specs.declared.act.CoreAnswer.{CoreAnswer}
-use Rattle.parking_lot_cores.specs.MutexRules as of_mutex
-use Rattle.parking_lot_cores.specs.RwRules as of_rw
+use Rattle.parking_lot_protocol.specs.declared.act.Act.TheVariants as act
+use Rattle.parking_lot_protocol.specs.declared.act.SectionAct.TheVariants as section
+use Rattle.parking_lot_protocol.specs.declared.act.ActResult.{ActResult}
+use Rattle.parking_lot_protocol.specs.declared.act.ActResult.TheVariants as seen
+use Rattle.parking_lot_protocol.specs.declared.act.CoreAnswer.{CoreAnswer}
+use Rattle.parking_lot_protocol.specs.MutexRules as of_mutex
+use Rattle.parking_lot_protocol.specs.RwRules as of_rw
 use Rattle.parking_lot_world.specs.declared.seat.Hold.{Hold}
-use Rattle.parking_lot_world.specs.declared.seat.Spot.TheVariants as spot
+use Rattle.parking_lot_world.specs.declared.seat.QueuePosition.TheVariants as spot
 use Rattle.parking_lot_world.specs.declared.seat.Core.{Core}
 use Rattle.parking_lot_world.specs.declared.seat.Core.TheVariants as core
-use Rattle.parking_lot_world.specs.declared.seat.Call.{Call}
+use Rattle.parking_lot_world.specs.declared.open_call.Call.{Call}
 use Rattle.parking_lot_world.specs.Rows.{State, call_at, hold_at, owned_of, owns_mutex}
 use Rattle.parking_lot_world.specs.Stances.{core_act, rw_begun, mutex_begun}
 use Rattle.parking_lot_world.specs.RowActs.{loaded, exchanged, added, spun, entered, checked, left, begun, answered}
@@ -21,7 +21,7 @@ use Rattle.parking_lot_world.specs.RwLaws.{rw_begins}
 use Rattle.parking_lot_world.specs.RowSteps.{Goes, GoesAway}
 
 -- The act of thread t in a call c, which is told this, keeps the machine fit, and is the step of the rules that the core's table names.
-pub record Acts (t : ℕ) (c : Call) (told : Seen) (s u : State) : Type 0 where
+pub record Acts (t : ℕ) (c : Call) (told : ActResult) (s u : State) : Type 0 where
   pub fits : FitsTogether u
   pub goes : Goes t c told s u
 
@@ -45,7 +45,7 @@ pub record MayBegin (s : State) (t : ℕ) (c : Call) : Type 0 where
 
 -- of a machine that fits, where t is in that call
 abbrev pub Keeps : ℕ → Call → State → State → Type 0
-Keeps t c s u = FitsTogether s → call_at s t ≡ Some c → (told : Seen) × Acts t c told s u
+Keeps t c s u = FitsTogether s → call_at s t ≡ Some c → (told : ActResult) × Acts t c told s u
 
 pub record ActsAreSteps : Type 0 where
   pub load : (s : State) (t : ℕ) (c : Call) → core_act c.core ≡ act.Load → Keeps t c s (loaded s t c)

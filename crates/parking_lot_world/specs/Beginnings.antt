@@ -2,15 +2,15 @@
 use Rattle.std.specs.Prelude.{◌≡◌, ℕ, zero, suc, ◌-◌, Bool, true, false, List, Some}
 use Rattle.parking_lot_rules.specs.Roles.{Idle}
 use Rattle.parking_lot_rules.specs.Mutex as mutex
-use Rattle.parking_lot_cores.specs.declared.act.Seen.TheVariants as seen
-use Rattle.parking_lot_cores.specs.declared.mutex_phase.MutexPhase.TheVariants as m
-use Rattle.parking_lot_cores.specs.declared.rw_phase.RwPhase.TheVariants as r
-use Rattle.parking_lot_cores.specs.declared.rw_phase.Want.TheVariants as want
+use Rattle.parking_lot_protocol.specs.declared.act.ActResult.TheVariants as seen
+use Rattle.parking_lot_protocol.specs.declared.mutex_phase.MutexPhase.TheVariants as m
+use Rattle.parking_lot_protocol.specs.declared.rw_phase.RwPhase.TheVariants as r
+use Rattle.parking_lot_protocol.specs.declared.rw_phase.LockMode.TheVariants as want
 use Rattle.parking_lot_world.specs.declared.calls.LockCall.{LockCall}
 use Rattle.parking_lot_world.specs.declared.calls.LockCall.TheVariants as call
 use Rattle.parking_lot_world.specs.declared.seat.Hold.{Hold}
 use Rattle.parking_lot_world.specs.declared.seat.Hold.TheVariants as hold
-use Rattle.parking_lot_world.specs.declared.seat.Spot.{Spot}
+use Rattle.parking_lot_world.specs.declared.seat.QueuePosition.{QueuePosition}
 use Rattle.parking_lot_world.specs.declared.seat.Core.{Core}
 use Rattle.parking_lot_world.specs.declared.seat.Core.TheVariants as core
 use Rattle.parking_lot_world.specs.Rows.{owned_of, owns_mutex, rw_core_role, mutex_core_role}
@@ -64,8 +64,8 @@ holds_beside hold.Excludes = 0
 
 -- Its role as the call begins is the one that it had.
 abbrev pub BeginsAs : Hold → Core → Type 0
-BeginsAs h (core.Mutex c) = (at : Spot) (us : List ℕ) → mutex_core_role at us (core.Mutex c) ≡ record { owns = owns_mutex h; does = mutex.Idle }
-BeginsAs h (core.Rw c) = (at : Spot) (us : List ℕ) → rw_core_role (holds_beside h) at us (core.Rw c) ≡ record { owns = owned_of h; does = Idle }
+BeginsAs h (core.Mutex c) = (at : QueuePosition) (us : List ℕ) → mutex_core_role at us (core.Mutex c) ≡ record { owns = owns_mutex h; does = mutex.Idle }
+BeginsAs h (core.Rw c) = (at : QueuePosition) (us : List ℕ) → rw_core_role (holds_beside h) at us (core.Rw c) ≡ record { owns = owned_of h; does = Idle }
 
 pub record BeginsWell (h : Hold) (k : LockCall) : Type 0 where
   pub kind : IsOfKind (Some (kind_of k)) (core_of k)

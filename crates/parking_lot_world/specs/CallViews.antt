@@ -9,16 +9,16 @@ use Rattle.parking_lot_rules.specs.Mutex as mutex
 use Rattle.parking_lot_rules.specs.MutexOwners as mutex_owners
 use Rattle.parking_lot_rules.specs.MutexLaws as of_mutex
 use Rattle.parking_lot_rules.specs.MutexDebts as mutex_debts
-use Rattle.parking_lot_cores.specs.declared.mutex_phase.MutexPhase.{MutexPhase}
-use Rattle.parking_lot_cores.specs.declared.mutex_phase.MutexPhase.TheVariants as m
-use Rattle.parking_lot_cores.specs.declared.rw_phase.RwPhase.{RwPhase}
-use Rattle.parking_lot_cores.specs.declared.rw_phase.RwPhase.TheVariants as r
+use Rattle.parking_lot_protocol.specs.declared.mutex_phase.MutexPhase.{MutexPhase}
+use Rattle.parking_lot_protocol.specs.declared.mutex_phase.MutexPhase.TheVariants as m
+use Rattle.parking_lot_protocol.specs.declared.rw_phase.RwPhase.{RwPhase}
+use Rattle.parking_lot_protocol.specs.declared.rw_phase.RwPhase.TheVariants as r
 use Rattle.parking_lot_world.specs.declared.calls.OwnMode.{OwnMode}
 use Rattle.parking_lot_world.specs.declared.calls.OwnMode.TheVariants as mode
-use Rattle.parking_lot_world.specs.declared.seat.Spot.{Spot}
+use Rattle.parking_lot_world.specs.declared.seat.QueuePosition.{QueuePosition}
 use Rattle.parking_lot_world.specs.declared.seat.Core.{Core}
 use Rattle.parking_lot_world.specs.declared.seat.Core.TheVariants as core
-use Rattle.parking_lot_world.specs.declared.seat.Call.{Call}
+use Rattle.parking_lot_world.specs.declared.open_call.Call.{Call}
 use Rattle.parking_lot_world.specs.Rows.{rw_core_role, mutex_core_role}
 
 -- HOW A ROLE OWNS ITS LOCK
@@ -60,15 +60,15 @@ pub record ModesAreWeighed : Type 0 where
 
 -- THE ROLE OF A CALL'S THREAD, WHICH HAS TAKEN us AND IS TO WAKE THEM
 
-abbrev pub core_mode : ℕ → Spot → List ℕ → Core → Option OwnMode
+abbrev pub core_mode : ℕ → QueuePosition → List ℕ → Core → Option OwnMode
 core_mode n at us (core.Mutex c) = mutex_mode (mutex_core_role at us (core.Mutex c))
 core_mode n at us (core.Rw c) = rw_mode (rw_core_role n at us (core.Rw c))
 
-abbrev pub core_in_debt : ℕ → Spot → List ℕ → Core → Bool
+abbrev pub core_in_debt : ℕ → QueuePosition → List ℕ → Core → Bool
 core_in_debt n at us (core.Mutex c) = mutex_debts.is_in_debt (mutex_core_role at us (core.Mutex c)).does
 core_in_debt n at us (core.Rw c) = rw_debts.is_in_debt (rw_core_role n at us (core.Rw c)).does
 
-abbrev pub core_asleep : ℕ → Spot → List ℕ → Core → Bool
+abbrev pub core_asleep : ℕ → QueuePosition → List ℕ → Core → Bool
 core_asleep n at us (core.Mutex c) = of_mutex.is_asleep (mutex_core_role at us (core.Mutex c)).does
 core_asleep n at us (core.Rw c) = of_rw.is_asleep (rw_core_role n at us (core.Rw c)).does
 

@@ -1,7 +1,7 @@
 -- What calls are about: of which locks they can be asked, and what their callers have to own.
 use Rattle.std.specs.Prelude.{ℕ, Option, Some, None}
-use Rattle.parking_lot_cores.specs.declared.act.CoreAnswer.{CoreAnswer}
-use Rattle.parking_lot_cores.specs.declared.act.CoreAnswer.TheVariants as from_core
+use Rattle.parking_lot_protocol.specs.declared.act.CoreAnswer.{CoreAnswer}
+use Rattle.parking_lot_protocol.specs.declared.act.CoreAnswer.TheVariants as from_core
 use Rattle.parking_lot_world.specs.declared.calls.LockKind.{LockKind}
 use Rattle.parking_lot_world.specs.declared.calls.LockKind.TheVariants as kind
 use Rattle.parking_lot_world.specs.declared.calls.LockCall.{LockCall}

@@ -11,13 +11,13 @@ use Rattle.parking_lot_core.specs.declared.place.Waiter.{Waiter}
 use Rattle.parking_lot_core.specs.Machine.{Machine, registered, enter_fault, step_fault, resume_fault, section_of, any_phase, changed_at}
 use Rattle.parking_lot_core.specs.Places.{place_at, is_due, roused, may_check, may_join, may_take, may_store, passed_of}
 use Rattle.parking_lot_core.specs.Sound.{Sound}
-use Rattle.parking_lot_cores.specs.declared.act.Act.{Act}
-use Rattle.parking_lot_cores.specs.declared.act.Act.TheVariants as act
-use Rattle.parking_lot_cores.specs.declared.act.CoreAnswer.{CoreAnswer}
-use Rattle.parking_lot_cores.specs.declared.act.SectionAct.TheVariants as section
-use Rattle.parking_lot_cores.specs.declared.act.WordChange.{WordChange}
-use Rattle.parking_lot_world.specs.declared.seat.Spot.TheVariants as spot
-use Rattle.parking_lot_world.specs.declared.seat.Call.{Call}
+use Rattle.parking_lot_protocol.specs.declared.act.Act.{Act}
+use Rattle.parking_lot_protocol.specs.declared.act.Act.TheVariants as act
+use Rattle.parking_lot_protocol.specs.declared.act.CoreAnswer.{CoreAnswer}
+use Rattle.parking_lot_protocol.specs.declared.act.SectionAct.TheVariants as section
+use Rattle.parking_lot_protocol.specs.declared.act.WordChange.{WordChange}
+use Rattle.parking_lot_world.specs.declared.seat.QueuePosition.TheVariants as spot
+use Rattle.parking_lot_world.specs.declared.open_call.Call.{Call}
 use Rattle.parking_lot_world.specs.declared.seat.Wakeup.{Wakeup}
 use Rattle.parking_lot_world.specs.Rows.{State, call_at, is_by}
 use Rattle.parking_lot_world.specs.Stances.{Doing, Joins, Takes, In, Asleep, stance, core_act}
@@ -52,7 +52,7 @@ pub record ActsKeepFits : Type 0 where
   pub takes_nobody : (s : State) (t : ℕ) (c : Call) (a : Act) (k : ℕ) → IsTaking a → stance c.core ≡ In k Takes
       → Keeps s t c a (acts.took_nobody s t c (acts.key_of c k))
   pub stores : (s : State) (t : ℕ) (c : Call) (plain fair change : WordChange) (is_fair : Bool) → Keeps s t c (act.Section (section.Store plain fair)) (acts.told_all s t c change is_fair)
-  pub masks : (s : State) (t : ℕ) (c : Call) (keep : ℕ) → Keeps s t c (act.Mask keep) (acts.masked s t c keep)
+  pub masks : (s : State) (t : ℕ) (c : Call) (keep : ℕ) → Keeps s t c (act.FetchAnd keep) (acts.masked s t c keep)
   pub leaves : (s : State) (t : ℕ) (c : Call) → Keeps s t c (act.Section section.Leave) (acts.left s t c)
   -- the first whom it is to wake
   pub wakes : (s : State) (t : ℕ) (c : Call) (e : Wakeup) (d : Call) (token : UnparkToken) → slice_get s.wakes (position_or_len (is_by t) s.wakes) ≡ Some e → call_at s e.thread ≡ Some d
@@ -105,7 +105,7 @@ pub record LotNeverRefuses : Type 0 where
   pub appends : (s : State) (t : ℕ) (c : Call) (token : ParkToken) → Asks s t c (act.Section (section.Append token)) → step_fault may_join s.lot t ≡ None
   pub takes : (s : State) (t : ℕ) (c : Call) (a : Act) → IsTaking a → Asks s t c a → step_fault may_take s.lot t ≡ None
   pub stores : (s : State) (t : ℕ) (c : Call) (plain fair : WordChange) → Asks s t c (act.Section (section.Store plain fair)) → step_fault may_store s.lot t ≡ None
-  pub masks : (s : State) (t : ℕ) (c : Call) (keep : ℕ) → Asks s t c (act.Mask keep) → step_fault may_store s.lot t ≡ None
+  pub masks : (s : State) (t : ℕ) (c : Call) (keep : ℕ) → Asks s t c (act.FetchAnd keep) → step_fault may_store s.lot t ≡ None
   pub leaves : (s : State) (t : ℕ) (c : Call) → Asks s t c (act.Section section.Leave) → step_fault any_phase s.lot t ≡ None
   -- in the section of the key that its stance says
   pub inside : (s : State) (t : ℕ) (c : Call) (k : ℕ) (how : Doing) → LotFits s → call_at s t ≡ Some c → stance c.core ≡ In k how → IsInside s t (acts.key_of c k)
@@ -133,7 +133,7 @@ pub record ActsKeepWakes : Type 0 where
       → KeepsWakes s t c a (acts.took s t c (acts.key_of c k) nth w)
   pub takes_nobody : (s : State) (t : ℕ) (c : Call) (a : Act) (key : ℕ) → IsTaking a → KeepsWakes s t c a (acts.took_nobody s t c key)
   pub stores : (s : State) (t : ℕ) (c : Call) (plain fair change : WordChange) (is_fair : Bool) → KeepsWakes s t c (act.Section (section.Store plain fair)) (acts.told_all s t c change is_fair)
-  pub masks : (s : State) (t : ℕ) (c : Call) (keep : ℕ) → KeepsWakes s t c (act.Mask keep) (acts.masked s t c keep)
+  pub masks : (s : State) (t : ℕ) (c : Call) (keep : ℕ) → KeepsWakes s t c (act.FetchAnd keep) (acts.masked s t c keep)
   pub leaves : (s : State) (t : ℕ) (c : Call) → KeepsWakes s t c (act.Section section.Leave) (acts.left s t c)
   pub wakes : (s : State) (t : ℕ) (c : Call) (e : Wakeup) (d : Call) (token : UnparkToken) → slice_get s.wakes (position_or_len (is_by t) s.wakes) ≡ Some e → call_at s e.thread ≡ Some d
       → KeepsWakes s t c (act.Section section.Wake) (acts.woke s t c e.thread d token)

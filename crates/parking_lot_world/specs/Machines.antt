@@ -3,18 +3,18 @@ use Rattle.std.specs.Prelude.{◌≡◌, ℕ, ◌*◌, ◌&&◌, ◌⊎◌, Bool
 use Rattle.std.specs.Option.{option_and_then, option_map}
 use Rattle.parking_lot_core.specs.Runs.{fresh}
 use Rattle.parking_lot_core.specs.declared.place.Place.TheVariants.{Running}
-use Rattle.parking_lot_cores.specs.declared.act.Act.{Act}
-use Rattle.parking_lot_cores.specs.declared.act.Act.TheVariants as act
-use Rattle.parking_lot_cores.specs.declared.act.SectionAct.TheVariants as section
-use Rattle.parking_lot_cores.specs.declared.act.CoreAnswer.{CoreAnswer}
-use Rattle.parking_lot_cores.specs.declared.act.Seen.{Seen}
-use Rattle.parking_lot_cores.specs.declared.act.Seen.TheVariants as seen
+use Rattle.parking_lot_protocol.specs.declared.act.Act.{Act}
+use Rattle.parking_lot_protocol.specs.declared.act.Act.TheVariants as act
+use Rattle.parking_lot_protocol.specs.declared.act.SectionAct.TheVariants as section
+use Rattle.parking_lot_protocol.specs.declared.act.CoreAnswer.{CoreAnswer}
+use Rattle.parking_lot_protocol.specs.declared.act.ActResult.{ActResult}
+use Rattle.parking_lot_protocol.specs.declared.act.ActResult.TheVariants as seen
 use Rattle.parking_lot_world.specs.declared.calls.LockCall.{LockCall}
 use Rattle.parking_lot_world.specs.declared.calls.LockKind.{LockKind}
 use Rattle.parking_lot_world.specs.declared.calls.LockKind.TheVariants as kind
-use Rattle.parking_lot_world.specs.declared.seat.Call.{Call}
+use Rattle.parking_lot_world.specs.declared.open_call.Call.{Call}
 use Rattle.parking_lot_world.specs.declared.seat.Hold.TheVariants as hold
-use Rattle.parking_lot_world.specs.declared.seat.Spot.TheVariants as spot
+use Rattle.parking_lot_world.specs.declared.seat.QueuePosition.TheVariants as spot
 use Rattle.parking_lot_world.specs.Calls.{kind_of}
 use Rattle.parking_lot_world.specs.Beginnings.{core_of, holds_beside, is_allowed}
 use Rattle.parking_lot_world.specs.Rows.{State, call_at, hold_at}
@@ -69,7 +69,7 @@ IsAsSaid other t fair c s u = Unit {0}
 -- A thread in a call has made a step: its core is told what its act gave, and that is the step of the rules that the core's table names; or its
 -- call is answered. Either is paid for by the steps that were left.
 abbrev pub IsStepped : ℕ → Bool → Option CoreAnswer → State → State → Type 0
-IsStepped t fair None s u = (c : Call) × (call_at s t ≡ Some c) × ((told : Seen) × Acts t c told s u) × IsAsSaid (core_act c.core) t fair c s u × Pays t s u
+IsStepped t fair None s u = (c : Call) × (call_at s t ≡ Some c) × ((told : ActResult) × Acts t c told s u) × IsAsSaid (core_act c.core) t fair c s u × Pays t s u
 IsStepped t fair (Some answer) s u = (c : Call) × (call_at s t ≡ Some c) × (core_act c.core ≡ act.Done answer) × Ends t c s u × Pays t s u
 
 -- a machine where nobody has done anything

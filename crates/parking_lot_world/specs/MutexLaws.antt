@@ -11,21 +11,21 @@ use Rattle.parking_lot_rules.specs.Mutex.{Role, Word, Inside, weight, number, Mu
 use Rattle.parking_lot_rules.specs.Family.{Crossing, Comes, Goes, First}
 use Rattle.parking_lot_rules.specs.Family as crossing
 use Rattle.parking_lot_rules.specs.Any.{mutex_crossing}
-use Rattle.parking_lot_cores.specs.declared.act.Act.{Act}
-use Rattle.parking_lot_cores.specs.declared.act.Act.TheVariants as act
-use Rattle.parking_lot_cores.specs.declared.act.SectionAct.TheVariants as section
-use Rattle.parking_lot_cores.specs.declared.act.WordChange.{WordChange}
-use Rattle.parking_lot_cores.specs.declared.act.CoreAnswer.{CoreAnswer}
-use Rattle.parking_lot_cores.specs.declared.act.Seen.{Seen}
-use Rattle.parking_lot_cores.specs.declared.act.Seen.TheVariants as seen
-use Rattle.parking_lot_cores.specs.declared.mutex_phase.MutexPhase.{MutexPhase}
-use Rattle.parking_lot_cores.specs.declared.mutex_phase.MutexPhase.TheVariants as phase
-use Rattle.parking_lot_cores.specs.Acts.{word_after, Gives}
-use Rattle.parking_lot_cores.specs.MutexTable.{act_of, next_phase, wakes_with, bit}
-use Rattle.parking_lot_cores.specs.MutexRules.{Spot, Listed, Off, role, owns, owns_after, taken_of, Move, Stays, Makes, Joins, TakesOne, Tells, WakesOne, IsWoken, move, last_move, IsWord, mark_of}
+use Rattle.parking_lot_protocol.specs.declared.act.Act.{Act}
+use Rattle.parking_lot_protocol.specs.declared.act.Act.TheVariants as act
+use Rattle.parking_lot_protocol.specs.declared.act.SectionAct.TheVariants as section
+use Rattle.parking_lot_protocol.specs.declared.act.WordChange.{WordChange}
+use Rattle.parking_lot_protocol.specs.declared.act.CoreAnswer.{CoreAnswer}
+use Rattle.parking_lot_protocol.specs.declared.act.ActResult.{ActResult}
+use Rattle.parking_lot_protocol.specs.declared.act.ActResult.TheVariants as seen
+use Rattle.parking_lot_protocol.specs.declared.mutex_phase.MutexPhase.{MutexPhase}
+use Rattle.parking_lot_protocol.specs.declared.mutex_phase.MutexPhase.TheVariants as phase
+use Rattle.parking_lot_protocol.specs.Acts.{word_after, Gives}
+use Rattle.parking_lot_protocol.specs.MutexTable.{act_of, next_phase, wakes_with, bit}
+use Rattle.parking_lot_protocol.specs.MutexRules.{QueuePosition, Listed, Off, role, owns, owns_after, taken_of, Move, Stays, Makes, Joins, TakesOne, Tells, WakesOne, IsWoken, move, last_move, IsWord, mark_of}
 use Rattle.parking_lot_world.specs.declared.seat.Hold.{Hold}
-use Rattle.parking_lot_world.specs.declared.seat.Told.{Told}
-use Rattle.parking_lot_world.specs.declared.seat.Call.{Call}
+use Rattle.parking_lot_world.specs.declared.seat.WakeResult.{WakeResult}
+use Rattle.parking_lot_world.specs.declared.open_call.Call.{Call}
 use Rattle.parking_lot_world.specs.Rows as rows
 use Rattle.parking_lot_world.specs.Rows.{mutex_word_of, first_of_all, owns_mutex, mutex_role_in}
 use Rattle.parking_lot_world.specs.RowActs.{settled, mutex_hold_after}
@@ -82,7 +82,7 @@ move_crossing (Makes k) = mutex_crossing (Alone k)
 move_crossing other = crossing.Stays
 
 -- who was taken learns so
-abbrev pub settle_spot : Mark → Spot → Spot
+abbrev pub settle_spot : Mark → QueuePosition → QueuePosition
 settle_spot mark Listed = Listed
 settle_spot mark (Off by Open) = Off by mark
 settle_spot mark (Off by other) = Off by other
@@ -93,10 +93,10 @@ woken_role true = record { owns = true; does = Idle }
 woken_role false = doing (Seeks true)
 
 -- what a call that is told s in phase p leaves: the phase, and the word
-abbrev pub word_next : MutexPhase → Seen → ℕ → ℕ
+abbrev pub word_next : MutexPhase → ActResult → ℕ → ℕ
 word_next p s x = word_after (act_of p) s x
 
-abbrev pub role_next : ℕ → MutexPhase → Seen → Role
+abbrev pub role_next : ℕ → MutexPhase → ActResult → Role
 role_next v p s = role Listed v (next_phase p s)
 
 -- WORDS AND ROLES
@@ -109,13 +109,13 @@ pub record MutexWordsAreNumbers : Type 0 where
 
 pub record MutexRolesAreKnown : Type 0 where
   -- where one stood that is awake doesn't matter
-  pub awake : (at to : Spot) (v : ℕ) (p : MutexPhase) → act_of p ≢ act.Sleep → role at v p ≡ role to v p
+  pub awake : (at to : QueuePosition) (v : ℕ) (p : MutexPhase) → act_of p ≢ act.Sleep → role at v p ≡ role to v p
   -- nor whom one has taken that has taken nobody
-  pub alone : (at : Spot) (v u : ℕ) (p : MutexPhase) → mutex_taken p ≡ 0 → role at v p ≡ role at u p
+  pub alone : (at : QueuePosition) (v u : ℕ) (p : MutexPhase) → mutex_taken p ≡ 0 → role at v p ≡ role at u p
   -- one that is told whether it was handed the mutex
-  pub settled : (mark : Mark) (at : Spot) (v : ℕ) (p : MutexPhase) → settle mark (role at v p) ≡ role (settle_spot mark at) v p
+  pub settled : (mark : Mark) (at : QueuePosition) (v : ℕ) (p : MutexPhase) → settle mark (role at v p) ≡ role (settle_spot mark at) v p
   -- one that is woken
-  pub woken : (at : Spot) (v : ℕ) (token : UnparkToken) → role at v (next_phase phase.Sleeps (seen.Woken token)) ≡ woken_role (token.0 == 1)
+  pub woken : (at : QueuePosition) (v : ℕ) (token : UnparkToken) → role at v (next_phase phase.Sleeps (seen.Woken token)) ≡ woken_role (token.0 == 1)
   -- whom one has taken that has taken one or nobody
   pub taken : (p : MutexPhase) (us : List ℕ) (b : Bool) → length us ≡ mutex_taken p → mutex_taken p ≡ bit b → us ≡ taken_of (first_of_all us) b
   -- The section of one that gives the mutex up is the one in which those were taken that know nothing yet.
@@ -127,25 +127,25 @@ pub record MutexRolesAreKnown : Type 0 where
 -- WHAT THE ANSWERS ARE
 
 -- An answer to a thread's own act: only the word and its own role change.
-pub record IsOwnStep (m : Mutex) (x t v : ℕ) (p : MutexPhase) (s : Seen) : Type 0 where
+pub record IsOwnStep (m : Mutex) (x t v : ℕ) (p : MutexPhase) (s : ActResult) : Type 0 where
   pub leads : LeadsBy (move v p s) v t m (mutex_of (word_next p s x) (slice_set m.roles t (role_next v p s)) m.queue)
   pub small : word_next p s x < 4
   pub crossing : move_crossing (move v p s) ≡ crossing_of (act_of p)
 
 -- It joins the list.
-pub record IsJoining (m : Mutex) (x t v : ℕ) (p : MutexPhase) (s : Seen) : Type 0 where
+pub record IsJoining (m : Mutex) (x t v : ℕ) (p : MutexPhase) (s : ActResult) : Type 0 where
   pub move : move v p s ≡ Joins
   pub leads : Leads t Join m (mutex_of (word_next p s x) (slice_set m.roles t (role_next v p s)) (m.queue ++ t ∷ []))
   pub same : word_next p s x ≡ x
 
 -- It takes the first of the list.
-pub record IsTaking (m : Mutex) (x t v : ℕ) (p : MutexPhase) (s : Seen) : Type 0 where
+pub record IsTaking (m : Mutex) (x t v : ℕ) (p : MutexPhase) (s : ActResult) : Type 0 where
   pub move : move v p s ≡ TakesOne
   pub leads : Leads t (Take v Asleep) m (mutex_of (word_next p s x) (slice_set (slice_set m.roles t (role_next v p s)) v (role (Off t Open) 0 phase.Sleeps)) (remove m.queue 0))
   pub same : word_next p s x ≡ x
 
 -- It stores, and those whom it has taken know whether they were handed the mutex.
-pub record IsTelling (m : Mutex) (x t v : ℕ) (p : MutexPhase) (s : Seen) : Type 0 where
+pub record IsTelling (m : Mutex) (x t v : ℕ) (p : MutexPhase) (s : ActResult) : Type 0 where
   pub taken : Bool
   pub handed : Bool
   pub left : Bool
@@ -156,7 +156,7 @@ pub record IsTelling (m : Mutex) (x t v : ℕ) (p : MutexPhase) (s : Seen) : Typ
   pub small : word_next p s x < 4
 
 -- It wakes the one that it has taken, with that token.
-pub record IsWaking (m : Mutex) (x t v : ℕ) (p : MutexPhase) (s : Seen) (mark : Mark) (token : UnparkToken) : Type 0 where
+pub record IsWaking (m : Mutex) (x t v : ℕ) (p : MutexPhase) (s : ActResult) (mark : Mark) (token : UnparkToken) : Type 0 where
   pub move : move v p s ≡ WakesOne
   pub leads : mark ≡ mark_of (token.0 == 1)
       → Leads t (wake_step (token.0 == 1) v []) m (mutex_of (word_next p s x) (slice_set (slice_set m.roles v (role Listed 0 (next_phase phase.Sleeps (seen.Woken token)))) t (role_next v p s)) m.queue)
@@ -164,20 +164,20 @@ pub record IsWaking (m : Mutex) (x t v : ℕ) (p : MutexPhase) (s : Seen) (mark 
 
 pub record MutexAnswersAreSteps : Type 0 where
   -- as a section is entered nobody may be inside one
-  pub own : (m : Mutex) (x t v : ℕ) (at : Spot) (p : MutexPhase) (s : Seen) → Plays m x t (role at v p) → Gives (act_of p) x s → is_own (act_of p) ≡ true
+  pub own : (m : Mutex) (x t v : ℕ) (at : QueuePosition) (p : MutexPhase) (s : ActResult) → Plays m x t (role at v p) → Gives (act_of p) x s → is_own (act_of p) ≡ true
       → ((key : ℕ) → act_of p ≡ act.Enter key → NobodyIsInside m) → IsOwnStep m x t v p s
-  pub joins : (m : Mutex) (x t v : ℕ) (at : Spot) (p : MutexPhase) (token : ParkToken) → Plays m x t (role at v p) → act_of p ≡ act.Section (section.Append token) → IsJoining m x t v p seen.Made
-  pub takes : (m : Mutex) (x t v : ℕ) (at : Spot) (p : MutexPhase) (token : ParkToken) (left : Bool) → Plays m x t (role at v p) → act_of p ≡ act.Section section.TakeFirst
+  pub joins : (m : Mutex) (x t v : ℕ) (at : QueuePosition) (p : MutexPhase) (token : ParkToken) → Plays m x t (role at v p) → act_of p ≡ act.Section (section.Append token) → IsJoining m x t v p seen.Made
+  pub takes : (m : Mutex) (x t v : ℕ) (at : QueuePosition) (p : MutexPhase) (token : ParkToken) (left : Bool) → Plays m x t (role at v p) → act_of p ≡ act.Section section.TakeFirst
       → slice_get m.queue 0 ≡ Some v → slice_get m.roles v ≡ Some (role Listed 0 phase.Sleeps) → IsTaking m x t v p (seen.Took (Some token) left)
-  pub takes_nobody : (m : Mutex) (x t v : ℕ) (at : Spot) (p : MutexPhase) (left : Bool) → Plays m x t (role at v p) → act_of p ≡ act.Section section.TakeFirst → IsOwnStep m x t v p (seen.Took None left)
-  pub tells : (m : Mutex) (x t v : ℕ) (at : Spot) (p : MutexPhase) (plain fair : WordChange) (is_fair : Bool) (waiters : List Waiter) → Plays m x t (role at v p)
+  pub takes_nobody : (m : Mutex) (x t v : ℕ) (at : QueuePosition) (p : MutexPhase) (left : Bool) → Plays m x t (role at v p) → act_of p ≡ act.Section section.TakeFirst → IsOwnStep m x t v p (seen.Took None left)
+  pub tells : (m : Mutex) (x t v : ℕ) (at : QueuePosition) (p : MutexPhase) (plain fair : WordChange) (is_fair : Bool) (waiters : List Waiter) → Plays m x t (role at v p)
       → act_of p ≡ act.Section (section.Store plain fair) → m.queue ≡ threads_of waiters → mutex_knows p waiters → IsTelling m x t v p (seen.Stored is_fair)
-  pub wakes : (m : Mutex) (x t v : ℕ) (at : Spot) (p : MutexPhase) (mark : Mark) (token : UnparkToken) → Plays m x t (role at v p) → act_of p ≡ act.Section section.Wake
+  pub wakes : (m : Mutex) (x t v : ℕ) (at : QueuePosition) (p : MutexPhase) (mark : Mark) (token : UnparkToken) → Plays m x t (role at v p) → act_of p ≡ act.Section section.Wake
       → slice_get m.roles v ≡ Some (role (Off t mark) 0 phase.Sleeps) → IsWaking m x t v p seen.Made mark token
   -- a call begins, of a thread that owns the mutex where it is to give it up
   pub begins : (m : Mutex) (x t v : ℕ) (p : MutexPhase) → mutex_begun p ≡ false → Plays m x t (record { owns = owns p; does = Idle }) → IsOwnStep m x t v p seen.Start
   -- and ends, and the thread owns the mutex where the answer says so
-  pub ends : (m : Mutex) (x t v : ℕ) (at : Spot) (p : MutexPhase) (answer : CoreAnswer) → Plays m x t (role at v p) → mutex_begun p ≡ true → act_of p ≡ act.Done answer
+  pub ends : (m : Mutex) (x t v : ℕ) (at : QueuePosition) (p : MutexPhase) (answer : CoreAnswer) → Plays m x t (role at v p) → mutex_begun p ≡ true → act_of p ≡ act.Done answer
       → LeadsBy (last_move p) v t m (mutex_of x (slice_set m.roles t (record { owns = owns_after answer; does = Idle })) m.queue) × (move_crossing (last_move p) ≡ crossing.Stays)
 
 -- HOW THE MACHINE SHOWS IT
@@ -185,7 +185,7 @@ pub record MutexAnswersAreSteps : Type 0 where
 -- Where thread t tells all whom it has taken, every role at its mutex is settled.
 abbrev pub TellingsSettle : Type 0
 TellingsSettle =
-    (m : Mutex) (t u i : ℕ) (us vs : List ℕ) (said : Told) (h : Hold) (o : Option Call) → IsSound m → slice_get m.roles t ≡ Some (doing (Unlocks us)) → slice_get m.roles u ≡ Some (mutex_role_in i vs h o)
+    (m : Mutex) (t u i : ℕ) (us vs : List ℕ) (said : WakeResult) (h : Hold) (o : Option Call) → IsSound m → slice_get m.roles t ≡ Some (doing (Unlocks us)) → slice_get m.roles u ≡ Some (mutex_role_in i vs h o)
     → mutex_role_in i vs h (option_map (settled t said) o) ≡ settle (rows.mark_of said) (mutex_role_in i vs h o)
 
 -- What is kept of a thread, where its call ends, is what the answer says.
@@ -196,7 +196,7 @@ HoldsAreAnswered = (p : MutexPhase) (answer : CoreAnswer) → mutex_begun p ≡ 
 pub record TakersKnow : Type 0 where
   pub one : (p : MutexPhase) (token : ParkToken) (waiters : List Waiter) → act_of p ≡ act.Section section.TakeFirst → mutex_knows (next_phase p (seen.Took (Some token) (is_left waiters))) waiters
   pub nobody : (p : MutexPhase) → act_of p ≡ act.Section section.TakeFirst → mutex_knows (next_phase p (seen.Took None false)) []
-  pub other : (p : MutexPhase) (s : Seen) (waiters : List Waiter) → act_of p ≢ act.Section section.TakeFirst → mutex_knows (next_phase p s) waiters
+  pub other : (p : MutexPhase) (s : ActResult) (waiters : List Waiter) → act_of p ≢ act.Section section.TakeFirst → mutex_knows (next_phase p s) waiters
 
 pub record MutexIsShown : Type 0 where
   pub tells : TellingsSettle

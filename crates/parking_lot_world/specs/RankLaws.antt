@@ -1,23 +1,23 @@
 -- Each act of a call lowers the steps that are left of it.
 use Rattle.std.specs.Prelude.{◌≡◌, ℕ, ◌+◌, ◌-◌, ◌/◌, ◌^◌, ◌<◌, ◌≤◌, Bool, true, false, Some}
 use Rattle.parking_lot_core.specs.declared.parking.UnparkToken.{UnparkToken}
-use Rattle.parking_lot_cores.specs.declared.act.Act.{Act}
-use Rattle.parking_lot_cores.specs.declared.act.Act.TheVariants as act
-use Rattle.parking_lot_cores.specs.declared.act.SectionAct.TheVariants as section
-use Rattle.parking_lot_cores.specs.declared.act.CoreAnswer.{CoreAnswer}
-use Rattle.parking_lot_cores.specs.declared.act.Seen.{Seen}
-use Rattle.parking_lot_cores.specs.declared.act.Seen.TheVariants as seen
-use Rattle.parking_lot_cores.specs.declared.mutex_phase.MutexPhase.{MutexPhase}
-use Rattle.parking_lot_cores.specs.declared.rw_phase.RwPhase.{RwPhase}
-use Rattle.parking_lot_cores.specs.Acts.{Gives, word_after}
-use Rattle.parking_lot_cores.specs.MutexTable as of_mutex
-use Rattle.parking_lot_cores.specs.RwTable as of_rw
-use Rattle.parking_lot_cores.specs.RwRules.{IsReady}
+use Rattle.parking_lot_protocol.specs.declared.act.Act.{Act}
+use Rattle.parking_lot_protocol.specs.declared.act.Act.TheVariants as act
+use Rattle.parking_lot_protocol.specs.declared.act.SectionAct.TheVariants as section
+use Rattle.parking_lot_protocol.specs.declared.act.CoreAnswer.{CoreAnswer}
+use Rattle.parking_lot_protocol.specs.declared.act.ActResult.{ActResult}
+use Rattle.parking_lot_protocol.specs.declared.act.ActResult.TheVariants as seen
+use Rattle.parking_lot_protocol.specs.declared.mutex_phase.MutexPhase.{MutexPhase}
+use Rattle.parking_lot_protocol.specs.declared.rw_phase.RwPhase.{RwPhase}
+use Rattle.parking_lot_protocol.specs.Acts.{Gives, word_after}
+use Rattle.parking_lot_protocol.specs.MutexTable as of_mutex
+use Rattle.parking_lot_protocol.specs.RwTable as of_rw
+use Rattle.parking_lot_protocol.specs.RwRules.{IsReady}
 use Rattle.parking_lot_world.specs.Stances.{rw_taken}
 use Rattle.parking_lot_world.specs.Ranks.{View, Unseen, Sees, wake, mutex_steps, rw_steps}
 
 -- A thread can make the act: it doesn't sleep, spins a round, and isn't shut out of a section that it enters or is in.
-abbrev pub Can : Act → Bool → Seen → Type 0
+abbrev pub Can : Act → Bool → ActResult → Type 0
 Can act.Sleep shut s = ⊥
 Can act.Spin shut s = s ≡ seen.Spun true
 Can (act.Enter key) shut s = shut ≡ false
@@ -26,7 +26,7 @@ Can (act.Section act) shut s = shut ≡ false
 Can act shut s = Unit {0}
 
 -- what an act leaves of the first list, for those that still count it
-abbrev pub Leaves : Act → Seen → ℕ → ℕ → Type 0
+abbrev pub Leaves : Act → ActResult → ℕ → ℕ → Type 0
 Leaves (act.Section (section.TakeNext sum)) (seen.Took (Some token) left) first after = first ≡ after + 1
 Leaves (act.Section act) s first after = Unit {0}
 Leaves act s first after = after ≡ first
@@ -38,7 +38,7 @@ StopsAt (act.Enter key) shut = shut ≡ true
 StopsAt act shut = ⊥
 
 pub record MutexStepsFall : Type 0 where
-  pub falls : (p : MutexPhase) (s : Seen) (word first after : ℕ) (shut : Bool) → word < 4 → Gives (of_mutex.act_of p) word s → Can (of_mutex.act_of p) shut s
+  pub falls : (p : MutexPhase) (s : ActResult) (word first after : ℕ) (shut : Bool) → word < 4 → Gives (of_mutex.act_of p) word s → Can (of_mutex.act_of p) shut s
       → mutex_steps (Sees (word_after (of_mutex.act_of p) s word) after shut) (of_mutex.next_phase p s) + 1 ≤ mutex_steps (Sees word first shut) p
   pub wakes : (p : MutexPhase) (v : View) → of_mutex.act_of p ≡ act.Section section.Wake → mutex_steps v (of_mutex.next_phase p seen.Made) + wake ≤ mutex_steps v p
   pub woken : (p : MutexPhase) (token : UnparkToken) → mutex_steps Unseen (of_mutex.next_phase p (seen.Woken token)) + 1 ≤ mutex_steps Unseen p + wake
@@ -47,7 +47,7 @@ pub record MutexStepsFall : Type 0 where
   pub ends : (p : MutexPhase) (v : View) (answer : CoreAnswer) → of_mutex.act_of p ≡ act.Done answer → 1 ≤ mutex_steps v p
 
 pub record RwStepsFall : Type 0 where
-  pub falls : (n : ℕ) (p : RwPhase) (s : Seen) (word first after : ℕ) (shut : Bool) → word / 16 < 2 ^ 60 - 1 → IsReady p → Gives (of_rw.act_of p) word s → Can (of_rw.act_of p) shut s → Leaves (of_rw.act_of p) s first after
+  pub falls : (n : ℕ) (p : RwPhase) (s : ActResult) (word first after : ℕ) (shut : Bool) → word / 16 < 2 ^ 60 - 1 → IsReady p → Gives (of_rw.act_of p) word s → Can (of_rw.act_of p) shut s → Leaves (of_rw.act_of p) s first after
       → rw_steps n (Sees (word_after (of_rw.act_of p) s word) after shut) (of_rw.next_phase p s) + 1 ≤ rw_steps n (Sees word first shut) p
   pub wakes : (n : ℕ) (p : RwPhase) (v : View) → of_rw.act_of p ≡ act.Section section.Wake → 1 ≤ rw_taken p → rw_steps n v (of_rw.next_phase p seen.Made) + wake ≤ rw_steps n v p
   pub woken : (n : ℕ) (p : RwPhase) (token : UnparkToken) → rw_steps n Unseen (of_rw.next_phase p (seen.Woken token)) + 1 ≤ rw_steps n Unseen p + wake

@@ -1,22 +1,22 @@
 -- How many steps a thread still makes in its call, and all threads in theirs, where one of them is stepped until it can't move.
 use Rattle.std.specs.Prelude.{ℕ, ◌+◌, ◌-◌, ◌*◌, ◌≤◌, ◌==◌, ◌&&◌, not, Bool, false, if◌then◌else◌, length, Option, Some, None, slice_set}
 use Rattle.std.specs.List.{sum_by}
-use Rattle.parking_lot_cores.specs.declared.mutex_phase.Giving.{Giving}
-use Rattle.parking_lot_cores.specs.declared.mutex_phase.MutexPhase.{MutexPhase}
-use Rattle.parking_lot_cores.specs.declared.mutex_phase.MutexPhase.TheVariants as m
-use Rattle.parking_lot_cores.specs.declared.rw_phase.Rest.{Rest}
-use Rattle.parking_lot_cores.specs.declared.rw_phase.Rest.TheVariants as rest
-use Rattle.parking_lot_cores.specs.declared.rw_phase.RwPhase.{RwPhase}
-use Rattle.parking_lot_cores.specs.declared.rw_phase.RwPhase.TheVariants as r
-use Rattle.parking_lot_cores.specs.declared.rw_phase.Want.{Want}
-use Rattle.parking_lot_cores.specs.declared.rw_phase.Want.TheVariants as want
-use Rattle.parking_lot_cores.specs.MutexTable as of_mutex
-use Rattle.parking_lot_cores.specs.RwTable as of_rw
+use Rattle.parking_lot_protocol.specs.declared.mutex_phase.Giving.{Giving}
+use Rattle.parking_lot_protocol.specs.declared.mutex_phase.MutexPhase.{MutexPhase}
+use Rattle.parking_lot_protocol.specs.declared.mutex_phase.MutexPhase.TheVariants as m
+use Rattle.parking_lot_protocol.specs.declared.rw_phase.AfterWake.{AfterWake}
+use Rattle.parking_lot_protocol.specs.declared.rw_phase.AfterWake.TheVariants as rest
+use Rattle.parking_lot_protocol.specs.declared.rw_phase.RwPhase.{RwPhase}
+use Rattle.parking_lot_protocol.specs.declared.rw_phase.RwPhase.TheVariants as r
+use Rattle.parking_lot_protocol.specs.declared.rw_phase.LockMode.{LockMode}
+use Rattle.parking_lot_protocol.specs.declared.rw_phase.LockMode.TheVariants as want
+use Rattle.parking_lot_protocol.specs.MutexTable as of_mutex
+use Rattle.parking_lot_protocol.specs.RwTable as of_rw
 use Rattle.parking_lot_world.specs.declared.calls.LockCall.{LockCall}
 use Rattle.parking_lot_world.specs.declared.calls.LockCall.TheVariants as call
 use Rattle.parking_lot_world.specs.declared.seat.Core.{Core}
 use Rattle.parking_lot_world.specs.declared.seat.Core.TheVariants as core
-use Rattle.parking_lot_world.specs.declared.seat.Call.{Call}
+use Rattle.parking_lot_world.specs.declared.open_call.Call.{Call}
 use Rattle.parking_lot_world.specs.Rows.{State, word_at, call_at, first_key, inside}
 
 -- What counts of the machine for a thread's steps: nothing, where another thread is stepped, and all that it has seen may be out of date; else
@@ -93,22 +93,22 @@ abbrev pub drains : View → ℕ → ℕ
 drains v rounds = 2 * rounds + 1 + drain_parks v
 
 -- what comes after the first admission
-abbrev pub comes_after : View → Want → ℕ
+abbrev pub comes_after : View → LockMode → ℕ
 comes_after v (want.Shared recursive) = 1
 comes_after v want.Exclusive = 1 + drains v 10
 
 -- the most that parking takes, where it is in vain
-abbrev pub vain : Want → ℕ
+abbrev pub vain : LockMode → ℕ
 vain (want.Shared recursive) = 30
 vain want.Exclusive = 55
 
-abbrev pub rw_parks : View → Want → ℕ
+abbrev pub rw_parks : View → LockMode → ℕ
 rw_parks v want = if is_open v then 4 else vain want
 
-abbrev pub rw_asks : View → Want → ℕ → ℕ
+abbrev pub rw_asks : View → LockMode → ℕ → ℕ
 rw_asks v want rounds = 2 * rounds + 1 + rw_parks v want + comes_after v want
 
-abbrev pub rw_ends : View → Rest → ℕ
+abbrev pub rw_ends : View → AfterWake → ℕ
 rw_ends v rest.FreedShared = 1
 rw_ends v rest.FreedExclusive = 1
 rw_ends v rest.Downgraded = 1
@@ -120,7 +120,7 @@ abbrev pub scan : ℕ → View → ℕ
 scan n v = (wake + 1) * may_find n v
 
 -- the word surely keeps out one that asks, and says that somebody waits
-abbrev pub keeps_out : View → Want → Bool
+abbrev pub keeps_out : View → LockMode → Bool
 keeps_out Unseen want = false
 keeps_out (Sees word first shut) want = of_rw.is_barred want word && of_rw.is_parked word
 
@@ -132,35 +132,35 @@ abbrev pub rw_steps : ℕ → View → RwPhase → ℕ
 rw_steps n v (r.Loads a) = 1 + rw_asks v a.want a.rounds
 rw_steps n v (r.Admits a word) = if is_at v word then 1 + comes_after v a.want else 1 + rw_asks v a.want a.rounds
 rw_steps n v (r.Spins a) = 2 + rw_asks v a.want (a.rounds - 1)
-rw_steps n v (r.Flags a word) = if is_at v word then 1 + rw_parks v a.want else 1 + rw_asks v a.want a.rounds
+rw_steps n v (r.SetParked a word) = if is_at v word then 1 + rw_parks v a.want else 1 + rw_asks v a.want a.rounds
 rw_steps n v (r.Enters want woken) = if keeps_out v want then rw_parks v want else vain want
 rw_steps n v (r.Checks want woken) = if keeps_out v want then 3 else vain want - 1
 rw_steps n v (r.Retreats want woken) = vain want - 2
 rw_steps n v (r.Appends want) = 2
 rw_steps n v (r.Rests want) = 1
 rw_steps n v (r.Sleeps want) = 0
-rw_steps n v (r.Loads2 d) = 1 + drains v d.rounds
-rw_steps n v (r.Spins2 d) = 2 + drains v (d.rounds - 1)
-rw_steps n v (r.Flags2 d word) = if is_at v word then 1 + drain_parks v + 2 * d.rounds else 1 + drains v d.rounds
-rw_steps n v (r.Enters2 d) = if keeps_waiting v then drain_parks v + 2 * d.rounds else 9 + 2 * d.rounds
-rw_steps n v (r.Checks2 d) = if keeps_waiting v then 3 + 2 * d.rounds else 8 + 2 * d.rounds
-rw_steps n v (r.Retreats2 d) = 7 + 2 * d.rounds
-rw_steps n v (r.Appends2 rounds) = 2 + 2 * rounds
-rw_steps n v (r.Rests2 rounds) = 1 + 2 * rounds
-rw_steps n v (r.Sleeps2 rounds) = 2 * rounds
+rw_steps n v (r.DrainLoads d) = 1 + drains v d.rounds
+rw_steps n v (r.DrainSpins d) = 2 + drains v (d.rounds - 1)
+rw_steps n v (r.DrainSetParked d word) = if is_at v word then 1 + drain_parks v + 2 * d.rounds else 1 + drains v d.rounds
+rw_steps n v (r.DrainEnters d) = if keeps_waiting v then drain_parks v + 2 * d.rounds else 9 + 2 * d.rounds
+rw_steps n v (r.DrainChecks d) = if keeps_waiting v then 3 + 2 * d.rounds else 8 + 2 * d.rounds
+rw_steps n v (r.DrainRetreats d) = 7 + 2 * d.rounds
+rw_steps n v (r.DrainAppends rounds) = 2 + 2 * rounds
+rw_steps n v (r.DrainRests rounds) = 1 + 2 * rounds
+rw_steps n v (r.DrainSleeps rounds) = 2 * rounds
 rw_steps n v (r.TryLoads want) = 3
 rw_steps n v (r.TryAdmits want word left) = if is_at v word then 2 else 3
 rw_steps n v (r.BumpLoads want) = scan n v + wake + 9 + rw_asks v want 10
 rw_steps n v (r.Relocks want) = 1 + rw_asks v want 10
 rw_steps n v (r.Unshares rest) = wake + 6 + rw_ends v rest
-rw_steps n v (r.Owes2 rest) = wake + 5 + rw_ends v rest
-rw_steps n v (r.Takes2 rest) = wake + 4 + rw_ends v rest
-rw_steps n v (r.Masks2 rest taken) = wake * of_mutex.bit taken + 3 + rw_ends v rest
-rw_steps n v (r.Leaves2 rest taken) = wake * of_mutex.bit taken + 2 + rw_ends v rest
+rw_steps n v (r.EnterWriterWakeSection rest) = wake + 5 + rw_ends v rest
+rw_steps n v (r.TakeWriter rest) = wake + 4 + rw_ends v rest
+rw_steps n v (r.ClearWriterParked rest taken) = wake * of_mutex.bit taken + 3 + rw_ends v rest
+rw_steps n v (r.LeaveWriterWakeSection rest taken) = wake * of_mutex.bit taken + 2 + rw_ends v rest
 rw_steps n v (r.Unlocks fair rest) = scan n v + 6 + rw_ends v rest
 rw_steps n v (r.LooksExclusive fair rest) = scan n v + 5 + rw_ends v rest
 rw_steps n v r.Downgrades = scan n v + 7
-rw_steps n v r.Owes = scan n v + 6
+rw_steps n v r.EnterWakeSection = scan n v + 6
 rw_steps n v (r.Scans s) = scan n v + wake * of_rw.count_of s + 4 + rw_ends v s.rest
 rw_steps n v (r.Stores s left) = wake * of_rw.count_of s + 3 + rw_ends v s.rest
 rw_steps n v (r.Leaves rest count handed) = wake * count + 2 + rw_ends v rest

@@ -10,28 +10,28 @@ use Rattle.parking_lot_core.specs.declared.place.Waiter.{Waiter}
 use Rattle.parking_lot_core.specs.Results.{is_left}
 use Rattle.parking_lot_core.specs.Places.{place_at, mark_of}
 use Rattle.parking_lot_core.specs.Machine.{Machine, opened, in_phase, joined, taken, stored, closed}
-use Rattle.parking_lot_cores.specs.declared.act.Seen.{Seen}
-use Rattle.parking_lot_cores.specs.declared.act.Seen.TheVariants as seen
-use Rattle.parking_lot_cores.specs.declared.act.WordChange.{WordChange}
-use Rattle.parking_lot_cores.specs.Acts.{change_of}
-use Rattle.parking_lot_cores.specs.declared.act.CoreAnswer.TheVariants as answer
-use Rattle.parking_lot_cores.specs.declared.mutex_phase.MutexPhase.{MutexPhase}
-use Rattle.parking_lot_cores.specs.declared.mutex_phase.MutexPhase.TheVariants as m
-use Rattle.parking_lot_cores.specs.declared.rw_phase.RwPhase.{RwPhase}
-use Rattle.parking_lot_cores.specs.declared.rw_phase.RwPhase.TheVariants as r
-use Rattle.parking_lot_cores.specs.declared.rw_phase.Rest.{Rest}
-use Rattle.parking_lot_cores.specs.declared.rw_phase.Rest.TheVariants as rest
-use Rattle.parking_lot_cores.specs.declared.rw_phase.Outcome.{Outcome}
-use Rattle.parking_lot_cores.specs.declared.rw_phase.Outcome.TheVariants as outcome
+use Rattle.parking_lot_protocol.specs.declared.act.ActResult.{ActResult}
+use Rattle.parking_lot_protocol.specs.declared.act.ActResult.TheVariants as seen
+use Rattle.parking_lot_protocol.specs.declared.act.WordChange.{WordChange}
+use Rattle.parking_lot_protocol.specs.Acts.{change_of}
+use Rattle.parking_lot_protocol.specs.declared.act.CoreAnswer.TheVariants as answer
+use Rattle.parking_lot_protocol.specs.declared.mutex_phase.MutexPhase.{MutexPhase}
+use Rattle.parking_lot_protocol.specs.declared.mutex_phase.MutexPhase.TheVariants as m
+use Rattle.parking_lot_protocol.specs.declared.rw_phase.RwPhase.{RwPhase}
+use Rattle.parking_lot_protocol.specs.declared.rw_phase.RwPhase.TheVariants as r
+use Rattle.parking_lot_protocol.specs.declared.rw_phase.AfterWake.{AfterWake}
+use Rattle.parking_lot_protocol.specs.declared.rw_phase.AfterWake.TheVariants as rest
+use Rattle.parking_lot_protocol.specs.declared.rw_phase.Outcome.{Outcome}
+use Rattle.parking_lot_protocol.specs.declared.rw_phase.Outcome.TheVariants as outcome
 use Rattle.parking_lot_world.specs.declared.seat.Hold.{Hold}
 use Rattle.parking_lot_world.specs.declared.seat.Hold.TheVariants as hold
-use Rattle.parking_lot_world.specs.declared.seat.Told.{Told}
-use Rattle.parking_lot_world.specs.declared.seat.Told.TheVariants as told
-use Rattle.parking_lot_world.specs.declared.seat.Spot.{Spot}
-use Rattle.parking_lot_world.specs.declared.seat.Spot.TheVariants as spot
+use Rattle.parking_lot_world.specs.declared.seat.WakeResult.{WakeResult}
+use Rattle.parking_lot_world.specs.declared.seat.WakeResult.TheVariants as told
+use Rattle.parking_lot_world.specs.declared.seat.QueuePosition.{QueuePosition}
+use Rattle.parking_lot_world.specs.declared.seat.QueuePosition.TheVariants as spot
 use Rattle.parking_lot_world.specs.declared.seat.Core.{Core}
 use Rattle.parking_lot_world.specs.declared.seat.Core.TheVariants as core
-use Rattle.parking_lot_world.specs.declared.seat.Call.{Call}
+use Rattle.parking_lot_world.specs.declared.open_call.Call.{Call}
 use Rattle.parking_lot_world.specs.Rows.{State, word_at, call_at, cell, is_by}
 use Rattle.parking_lot_world.specs.Stances.{Doing, Joins, Stance, In, stance, sign, core_next, core_tells}
 
@@ -47,7 +47,7 @@ abbrev pub with_lot : State → Machine → State
 with_lot s lot = record s { lot = lot }
 
 -- a call is told what its act gave
-abbrev pub hears : Call → Seen → Call
+abbrev pub hears : Call → ActResult → Call
 hears c s = record c { core = core_next c.core s }
 
 -- the lot's key: k is 0 for the lock's first, 1 for its second
@@ -64,20 +64,20 @@ joins (In key how) = does_join how
 joins other = false
 
 -- what sleepers are told by a token
-abbrev pub told_of : UnparkToken → Told
+abbrev pub told_of : UnparkToken → WakeResult
 told_of token = if token.0 == 1 then told.HandedOver else told.TryAgain
 
 -- a thread tells all whom it has taken and told nothing yet
-abbrev pub settled_spot : ℕ → Told → Spot → Spot
+abbrev pub settled_spot : ℕ → WakeResult → QueuePosition → QueuePosition
 settled_spot t said spot.Listed = spot.Listed
 settled_spot t said (spot.Off by told.Nothing) = spot.Off by (if by == t then said else told.Nothing)
 settled_spot t said (spot.Off by told.TryAgain) = spot.Off by told.TryAgain
 settled_spot t said (spot.Off by told.HandedOver) = spot.Off by told.HandedOver
 
-abbrev pub settled : ℕ → Told → Call → Call
+abbrev pub settled : ℕ → WakeResult → Call → Call
 settled t said c = record c { spot = settled_spot t said c.spot }
 
-abbrev pub settles : State → ℕ → Told → State
+abbrev pub settles : State → ℕ → WakeResult → State
 settles s t said = record s { calls = map (option_map (settled t said)) s.calls }
 
 -- a sleeper is off its list, taken by a thread
@@ -145,7 +145,7 @@ woke s t c v d token =
 
 -- WHAT A THREAD OWNS WHERE ITS CALL ENDS
 
-abbrev pub rest_hold : ℕ → Rest → Hold
+abbrev pub rest_hold : ℕ → AfterWake → Hold
 rest_hold n rest.FreedShared = hold.Shares n
 rest_hold n rest.FreedExclusive = hold.Shares 0
 rest_hold n rest.Downgraded = hold.Shares 1

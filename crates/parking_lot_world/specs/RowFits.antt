@@ -15,26 +15,26 @@ use Rattle.parking_lot_core.specs.Results.{is_left}
 use Rattle.parking_lot_core.specs.Sound as lot
 use Rattle.parking_lot_rules.specs.Any.{AnySound, any_inside}
 use Rattle.parking_lot_rules.specs.Family.{SoundFamilyOf}
-use Rattle.parking_lot_cores.specs.RwRules as of_rw
-use Rattle.parking_lot_cores.specs.declared.act.Act.TheVariants as act
-use Rattle.parking_lot_cores.specs.declared.act.SectionAct.TheVariants as section
-use Rattle.parking_lot_cores.specs.declared.mutex_phase.MutexPhase.{MutexPhase}
-use Rattle.parking_lot_cores.specs.declared.mutex_phase.MutexPhase.TheVariants as m
-use Rattle.parking_lot_cores.specs.declared.rw_phase.Rest.{Rest}
-use Rattle.parking_lot_cores.specs.declared.rw_phase.Rest.TheVariants as rest
-use Rattle.parking_lot_cores.specs.declared.rw_phase.RwPhase.{RwPhase}
-use Rattle.parking_lot_cores.specs.declared.rw_phase.RwPhase.TheVariants as r
+use Rattle.parking_lot_protocol.specs.RwRules as of_rw
+use Rattle.parking_lot_protocol.specs.declared.act.Act.TheVariants as act
+use Rattle.parking_lot_protocol.specs.declared.act.SectionAct.TheVariants as section
+use Rattle.parking_lot_protocol.specs.declared.mutex_phase.MutexPhase.{MutexPhase}
+use Rattle.parking_lot_protocol.specs.declared.mutex_phase.MutexPhase.TheVariants as m
+use Rattle.parking_lot_protocol.specs.declared.rw_phase.AfterWake.{AfterWake}
+use Rattle.parking_lot_protocol.specs.declared.rw_phase.AfterWake.TheVariants as rest
+use Rattle.parking_lot_protocol.specs.declared.rw_phase.RwPhase.{RwPhase}
+use Rattle.parking_lot_protocol.specs.declared.rw_phase.RwPhase.TheVariants as r
 use Rattle.parking_lot_rules.specs.ReadLock.{word_of}
 use Rattle.parking_lot_world.specs.declared.calls.LockKind.{LockKind}
 use Rattle.parking_lot_world.specs.declared.calls.LockKind.TheVariants as kind
 use Rattle.parking_lot_world.specs.declared.seat.Hold.TheVariants as hold
-use Rattle.parking_lot_world.specs.declared.seat.Told.{Told}
-use Rattle.parking_lot_world.specs.declared.seat.Told.TheVariants as told
-use Rattle.parking_lot_world.specs.declared.seat.Spot.{Spot}
-use Rattle.parking_lot_world.specs.declared.seat.Spot.TheVariants as spot
+use Rattle.parking_lot_world.specs.declared.seat.WakeResult.{WakeResult}
+use Rattle.parking_lot_world.specs.declared.seat.WakeResult.TheVariants as told
+use Rattle.parking_lot_world.specs.declared.seat.QueuePosition.{QueuePosition}
+use Rattle.parking_lot_world.specs.declared.seat.QueuePosition.TheVariants as spot
 use Rattle.parking_lot_world.specs.declared.seat.Core.{Core}
 use Rattle.parking_lot_world.specs.declared.seat.Core.TheVariants as core
-use Rattle.parking_lot_world.specs.declared.seat.Call.{Call}
+use Rattle.parking_lot_world.specs.declared.open_call.Call.{Call}
 use Rattle.parking_lot_world.specs.declared.seat.Wakeup.{Wakeup}
 use Rattle.parking_lot_world.specs.Rows.{State, word_at, hold_at, call_at, taken_by, family, one_bucket}
 use Rattle.parking_lot_world.specs.Stances.{Doing, Looks, TurnsBack, Joins, Joined, Takes, Stores, Tells, Stance, Out, In, Asleep, stance, taken_count, has_begun, core_act}
@@ -56,16 +56,16 @@ HasCome (Tells said) ph token = (ph ≡ phase.Stored) × (token ≡ said)
 abbrev pub WaitsIn : Option Place → ℕ → Type 0
 WaitsIn place key = (sleep : Sleep) × (place ≡ Some (Waiting key sleep)) × (sleep.late ≡ false)
 
-abbrev pub PlaceWhile : Doing → Spot → Option Place → ℕ → Type 0
+abbrev pub PlaceWhile : Doing → QueuePosition → Option Place → ℕ → Type 0
 PlaceWhile (Joined token) at place key = (at ≡ spot.Listed) × WaitsIn place key
 PlaceWhile how at place key = place ≡ Some Running
 
 -- what was said to those that an open section has taken
-abbrev pub SaidIn : Section → Told → Type 0
+abbrev pub SaidIn : Section → WakeResult → Type 0
 SaidIn section said = ((section.phase ≡ phase.Stored) × (said ≡ told_of section.token)) ⊎ ((may_store section.phase ≡ true) × (said ≡ told.Nothing))
 
 -- a sleeper stands in its list, or was taken by a section that is open or by one that is closed
-abbrev pub IsAt : Spot → Option Place → Option Section → ℕ → Type 0
+abbrev pub IsAt : QueuePosition → Option Place → Option Section → ℕ → Type 0
 IsAt spot.Listed place section key = WaitsIn place key
 IsAt (spot.Off by said) place section key =
     (sleep : Sleep) × (sleep.late ≡ false)
@@ -77,7 +77,7 @@ abbrev pub IsOutside : ℕ → Option Section → Type 0
 IsOutside t section = (opened : Section) → section ≡ Some opened → opened.thread ≢ Some t
 
 -- its stance at lock j fits the lot
-abbrev pub Stands : ℕ → ℕ → Stance → Spot → Option Place → Option Section → Type 0
+abbrev pub Stands : ℕ → ℕ → Stance → QueuePosition → Option Place → Option Section → Type 0
 Stands t j Out at place section = (place ≡ Some Running) × IsOutside t section
 Stands t j (In k how) at place section =
     (opened : Section) × (section ≡ Some opened) × (opened.thread ≡ Some t) × (opened.key ≡ 2 * j + k) × HasCome how opened.phase opened.token × PlaceWhile how at place (2 * j + k)
@@ -109,7 +109,7 @@ rw_prepared n us p = of_rw.Fits false n us p (word_of 0)
 
 -- What a call that has begun keeps of what its thread owns beside: one that asks may ask, and one that gives the exclusive hold up, or asks again
 -- for what it gave up, has no other. A scan that goes on has taken no writer.
-abbrev pub rest_keeps : ℕ → Rest → Type 0
+abbrev pub rest_keeps : ℕ → AfterWake → Type 0
 rest_keeps n rest.FreedShared = Unit {0}
 rest_keeps n rest.FreedExclusive = n ≡ 0
 rest_keeps n rest.Downgraded = Unit {0}
@@ -127,7 +127,7 @@ rw_keeps n r.BumpingExclusive = ⊥
 rw_keeps n (r.Loads a) = of_rw.MayAsk false n a.want (word_of 0)
 rw_keeps n (r.Admits a word) = of_rw.MayAsk false n a.want (word_of 0)
 rw_keeps n (r.Spins a) = of_rw.MayAsk false n a.want (word_of 0)
-rw_keeps n (r.Flags a word) = of_rw.MayAsk false n a.want (word_of 0)
+rw_keeps n (r.SetParked a word) = of_rw.MayAsk false n a.want (word_of 0)
 rw_keeps n (r.Enters want woken) = of_rw.MayAsk false n want (word_of 0)
 rw_keeps n (r.Checks want woken) = of_rw.MayAsk false n want (word_of 0)
 rw_keeps n (r.Retreats want woken) = of_rw.MayAsk false n want (word_of 0)
@@ -138,32 +138,32 @@ rw_keeps n (r.TryLoads want) = of_rw.MayAsk false n want (word_of 0)
 rw_keeps n (r.TryAdmits want word left) = of_rw.MayAsk false n want (word_of 0)
 rw_keeps n (r.Refuses want) = of_rw.MayAsk false n want (word_of 0)
 rw_keeps n (r.Relocks want) = of_rw.MayAsk false n want (word_of 0)
-rw_keeps n (r.Loads2 d) = n ≡ 0
-rw_keeps n (r.Spins2 d) = n ≡ 0
-rw_keeps n (r.Flags2 d word) = n ≡ 0
-rw_keeps n (r.Enters2 d) = n ≡ 0
-rw_keeps n (r.Checks2 d) = n ≡ 0
-rw_keeps n (r.Retreats2 d) = n ≡ 0
-rw_keeps n (r.Appends2 rounds) = n ≡ 0
-rw_keeps n (r.Rests2 rounds) = n ≡ 0
-rw_keeps n (r.Sleeps2 rounds) = n ≡ 0
+rw_keeps n (r.DrainLoads d) = n ≡ 0
+rw_keeps n (r.DrainSpins d) = n ≡ 0
+rw_keeps n (r.DrainSetParked d word) = n ≡ 0
+rw_keeps n (r.DrainEnters d) = n ≡ 0
+rw_keeps n (r.DrainChecks d) = n ≡ 0
+rw_keeps n (r.DrainRetreats d) = n ≡ 0
+rw_keeps n (r.DrainAppends rounds) = n ≡ 0
+rw_keeps n (r.DrainRests rounds) = n ≡ 0
+rw_keeps n (r.DrainSleeps rounds) = n ≡ 0
 rw_keeps n (r.BumpLoads want) = n ≡ 0
 rw_keeps n (r.Unlocks fair rest) = n ≡ 0
 rw_keeps n (r.LooksExclusive fair rest) = n ≡ 0
 rw_keeps n (r.Unshares rest) = rest_keeps n rest
-rw_keeps n (r.Owes2 rest) = rest_keeps n rest
-rw_keeps n (r.Takes2 rest) = rest_keeps n rest
-rw_keeps n (r.Masks2 rest taken) = rest_keeps n rest
-rw_keeps n (r.Leaves2 rest taken) = rest_keeps n rest
+rw_keeps n (r.EnterWriterWakeSection rest) = rest_keeps n rest
+rw_keeps n (r.TakeWriter rest) = rest_keeps n rest
+rw_keeps n (r.ClearWriterParked rest taken) = rest_keeps n rest
+rw_keeps n (r.LeaveWriterWakeSection rest taken) = rest_keeps n rest
 rw_keeps n (r.Scans s) = rest_keeps n s.rest × (s.writer ≡ false)
 rw_keeps n (r.Stores s left) = rest_keeps n s.rest
 rw_keeps n (r.Leaves rest count handed) = rest_keeps n rest
 rw_keeps n (r.Wakes rest count) = rest_keeps n rest
 rw_keeps n (r.Finishes rest) = rest_keeps n rest
 rw_keeps n r.Downgrades = Unit {0}
-rw_keeps n r.Owes = Unit {0}
+rw_keeps n r.EnterWakeSection = Unit {0}
 rw_keeps n (r.Ends outcome) = Unit {0}
-rw_keeps n r.Strays = ⊥
+rw_keeps n r.Invalid = ⊥
 
 -- what a call that is kept stands on
 abbrev pub IsPrepared : ℕ → Core → Type 0
@@ -178,7 +178,7 @@ mutex_knows phase queue = Unit {0}
 abbrev pub rw_knows : RwPhase → List Waiter → List Waiter → Type 0
 rw_knows (r.Scans s) first second = s.upgradable ≡ false
 rw_knows (r.Stores s left) first second = (s.upgradable ≡ false) × (is_left first ≡ left) × ((s.writer ≡ true) ⊎ (left ≡ false))
-rw_knows (r.Masks2 rest taken) first second = second ≡ []
+rw_knows (r.ClearWriterParked rest taken) first second = second ≡ []
 rw_knows phase first second = Unit {0}
 
 abbrev pub KnowsList : Core → (ℕ → List Waiter) → ℕ → Type 0
@@ -192,7 +192,7 @@ pub record IsTaken (s : State) (e : Wakeup) : Type 0 where
   pub call : Call
   pub here : call_at s e.thread ≡ Some call
   pub lock : call.lock ≡ taker.lock
-  pub said : Told
+  pub said : WakeResult
   pub spot : call.spot ≡ spot.Off e.by said
   pub key : ℕ
   pub token : ParkToken
@@ -217,7 +217,7 @@ pub record LotFits (s : State) : Type 0 where
   pub waits : (j k n : ℕ) (w : Waiter) → k < 2 → slice_get (s.lot.queues (2 * j + k)) n ≡ Some w
       → (c : Call) × (call_at s w.thread ≡ Some c) × (c.lock ≡ j) × (c.spot ≡ spot.Listed) × Awaits k w.token (stance c.core)
   -- who sleeps off its list is still to be woken by its taker
-  pub owed : (t : ℕ) (c : Call) (key : ℕ) (token : ParkToken) (by : ℕ) (said : Told) → call_at s t ≡ Some c → stance c.core ≡ Asleep key token → c.spot ≡ spot.Off by said → IsOwed s.wakes by t
+  pub owed : (t : ℕ) (c : Call) (key : ℕ) (token : ParkToken) (by : ℕ) (said : WakeResult) → call_at s t ≡ Some c → stance c.core ≡ Asleep key token → c.spot ≡ spot.Off by said → IsOwed s.wakes by t
   -- each is taken once, and its taker counts it
   pub woken : (n : ℕ) (e : Wakeup) → slice_get s.wakes n ≡ Some e → IsTaken s e
   pub once : (n m : ℕ) (e f : Wakeup) → slice_get s.wakes n ≡ Some e → slice_get s.wakes m ≡ Some f → e.thread ≡ f.thread → n ≡ m
@@ -226,7 +226,7 @@ pub record LotFits (s : State) : Type 0 where
   pub wakeful : (t : ℕ) (c : Call) → call_at s t ≡ Some c → WakesSome c.core
 
 -- Who is off its list.
-abbrev pub is_off : Spot → Bool
+abbrev pub is_off : QueuePosition → Bool
 is_off spot.Listed = false
 is_off (spot.Off by said) = true
 
@@ -236,7 +236,7 @@ is_away (Some c) = is_off c.spot
 
 pub record WakesFit (s : State) : Type 0 where
   -- whoever is off its list is to be woken by who took it
-  pub off : (t by : ℕ) (c : Call) (said : Told) → call_at s t ≡ Some c → c.spot ≡ spot.Off by said → (n : ℕ) × (e : Wakeup) × (slice_get s.wakes n ≡ Some e) × (e.by ≡ by) × (e.thread ≡ t)
+  pub off : (t by : ℕ) (c : Call) (said : WakeResult) → call_at s t ≡ Some c → c.spot ≡ spot.Off by said → (n : ℕ) × (e : Wakeup) × (slice_get s.wakes n ≡ Some e) × (e.by ≡ by) × (e.thread ≡ t)
   pub room : length s.wakes ≡ count_by is_away s.calls
 
 -- The side of the rules.

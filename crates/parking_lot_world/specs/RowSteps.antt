@@ -5,12 +5,12 @@ use Rattle.parking_lot_rules.specs.Steps.{Alone, List_changes, Take1, Take2, Sto
 use Rattle.parking_lot_rules.specs.Mutex as mutex
 use Rattle.parking_lot_rules.specs.Any.{AnyStep, RwStep, MxStep, any_rules}
 use Rattle.parking_lot_rules.specs.Family.{StepOf}
-use Rattle.parking_lot_cores.specs.declared.act.Seen.{Seen}
-use Rattle.parking_lot_cores.specs.MutexRules as of_mutex
-use Rattle.parking_lot_cores.specs.RwRules as of_rw
+use Rattle.parking_lot_protocol.specs.declared.act.ActResult.{ActResult}
+use Rattle.parking_lot_protocol.specs.MutexRules as of_mutex
+use Rattle.parking_lot_protocol.specs.RwRules as of_rw
 use Rattle.parking_lot_world.specs.declared.seat.Core.{Core}
 use Rattle.parking_lot_world.specs.declared.seat.Core.TheVariants as core
-use Rattle.parking_lot_world.specs.declared.seat.Call.{Call}
+use Rattle.parking_lot_world.specs.declared.open_call.Call.{Call}
 use Rattle.parking_lot_world.specs.Rows.{State, lock_at, inside, family, one_bucket, taken_by, first_of_all}
 
 -- nothing of the locks changes
@@ -54,11 +54,11 @@ IsMutexMove of_mutex.WakesOne us j t s u = (handed : Bool) × (v : ℕ) × (rest
 IsMutexMove (of_mutex.IsWoken handed) us j t s u = ⊥
 
 -- A thread in a call at lock j is told this, and the machine's step is the one that the core's table names.
-abbrev pub IsMoveOf : Core → ℕ → List ℕ → Seen → ℕ → ℕ → State → State → Type 0
+abbrev pub IsMoveOf : Core → ℕ → List ℕ → ActResult → ℕ → ℕ → State → State → Type 0
 IsMoveOf (core.Rw c) n us told j t s u = IsRwMove (of_rw.move n us c.phase told) j t s u
 IsMoveOf (core.Mutex c) n us told j t s u = IsMutexMove (of_mutex.move (first_of_all us) c.phase told) us j t s u
 
-abbrev pub Goes : ℕ → Call → Seen → State → State → Type 0
+abbrev pub Goes : ℕ → Call → ActResult → State → State → Type 0
 Goes t c told s u = IsMoveOf c.core c.others (taken_by s.wakes t) told c.lock t s u
 
 -- and where the call ends

@@ -9,19 +9,19 @@ use Rattle.parking_lot_rules.specs.Lock.{Lock}
 use Rattle.parking_lot_rules.specs.Mutex as mutex
 use Rattle.parking_lot_rules.specs.Any.{AnyLock, Rw, Mx}
 use Rattle.parking_lot_rules.specs.Family.{Family}
-use Rattle.parking_lot_cores.specs.MutexRules as of_mutex
-use Rattle.parking_lot_cores.specs.RwRules as of_rw
+use Rattle.parking_lot_protocol.specs.MutexRules as of_mutex
+use Rattle.parking_lot_protocol.specs.RwRules as of_rw
 use Rattle.parking_lot_world.specs.declared.calls.LockKind.{LockKind}
 use Rattle.parking_lot_world.specs.declared.calls.LockKind.TheVariants as kind
 use Rattle.parking_lot_world.specs.declared.seat.Hold.{Hold}
 use Rattle.parking_lot_world.specs.declared.seat.Hold.TheVariants as hold
-use Rattle.parking_lot_world.specs.declared.seat.Told.{Told}
-use Rattle.parking_lot_world.specs.declared.seat.Told.TheVariants as told
-use Rattle.parking_lot_world.specs.declared.seat.Spot.{Spot}
-use Rattle.parking_lot_world.specs.declared.seat.Spot.TheVariants as spot
+use Rattle.parking_lot_world.specs.declared.seat.WakeResult.{WakeResult}
+use Rattle.parking_lot_world.specs.declared.seat.WakeResult.TheVariants as told
+use Rattle.parking_lot_world.specs.declared.seat.QueuePosition.{QueuePosition}
+use Rattle.parking_lot_world.specs.declared.seat.QueuePosition.TheVariants as spot
 use Rattle.parking_lot_world.specs.declared.seat.Core.{Core}
 use Rattle.parking_lot_world.specs.declared.seat.Core.TheVariants as core
-use Rattle.parking_lot_world.specs.declared.seat.Call.{Call}
+use Rattle.parking_lot_world.specs.declared.open_call.Call.{Call}
 use Rattle.parking_lot_world.specs.declared.seat.Wakeup.{Wakeup}
 
 pub record State : Type 0 where
@@ -82,16 +82,16 @@ abbrev pub owns_mutex : Hold → Bool
 owns_mutex (hold.Shares n) = false
 owns_mutex hold.Excludes = true
 
-abbrev pub mark_of : Told → Mark
+abbrev pub mark_of : WakeResult → Mark
 mark_of told.Nothing = Open
 mark_of told.TryAgain = Normal
 mark_of told.HandedOver = Handed
 
-abbrev pub rw_spot : Spot → of_rw.Spot
+abbrev pub rw_spot : QueuePosition → of_rw.QueuePosition
 rw_spot spot.Listed = of_rw.Listed
 rw_spot (spot.Off by t) = of_rw.Off by (mark_of t)
 
-abbrev pub mutex_spot : Spot → of_mutex.Spot
+abbrev pub mutex_spot : QueuePosition → of_mutex.QueuePosition
 mutex_spot spot.Listed = of_mutex.Listed
 mutex_spot (spot.Off by t) = of_mutex.Off by (mark_of t)
 
@@ -101,11 +101,11 @@ first_of_all [] = 0
 first_of_all (v ∷ us) = v
 
 -- a core that isn't of the lock's kind is in no role
-abbrev pub rw_core_role : ℕ → Spot → List ℕ → Core → Role
+abbrev pub rw_core_role : ℕ → QueuePosition → List ℕ → Core → Role
 rw_core_role n at us (core.Rw c) = of_rw.role n (rw_spot at) us c.phase
 rw_core_role n at us (core.Mutex c) = away
 
-abbrev pub mutex_core_role : Spot → List ℕ → Core → mutex.Role
+abbrev pub mutex_core_role : QueuePosition → List ℕ → Core → mutex.Role
 mutex_core_role at us (core.Mutex c) = of_mutex.role (mutex_spot at) (first_of_all us) c.phase
 mutex_core_role at us (core.Rw c) = mutex.away
 

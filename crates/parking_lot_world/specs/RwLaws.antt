@@ -9,18 +9,18 @@ use Rattle.parking_lot_rules.specs.Plain.{Plain}
 use Rattle.parking_lot_rules.specs.ReadLock.{word_of}
 use Rattle.parking_lot_rules.specs.Lock.{Lock, IsSound, On1, to_wake}
 use Rattle.parking_lot_rules.specs.Steps.{Step, Alone, Allowed, after, List_changes, Take1, Take2, Join1, Join2, Take, look, AreSkipped, Ending, ends_saying, Store, Waking, settle, Wake, Scan, scanning}
-use Rattle.parking_lot_cores.specs.declared.act.Act.{Act}
-use Rattle.parking_lot_cores.specs.declared.act.Act.TheVariants.{Enter, Mask, Done, Section}
-use Rattle.parking_lot_cores.specs.declared.act.Seen.{Seen}
-use Rattle.parking_lot_cores.specs.declared.act.Seen.TheVariants as seen
-use Rattle.parking_lot_cores.specs.declared.rw_phase.Want.{Want}
-use Rattle.parking_lot_cores.specs.declared.rw_phase.Rest.{Rest}
-use Rattle.parking_lot_cores.specs.declared.rw_phase.Scanning.{Scanning}
-use Rattle.parking_lot_cores.specs.declared.rw_phase.RwPhase.{RwPhase}
-use Rattle.parking_lot_cores.specs.declared.rw_phase.RwPhase.TheVariants.{Takes2, Scans, Appends, Appends2, Stores, Wakes}
-use Rattle.parking_lot_cores.specs.Acts.{word_after}
-use Rattle.parking_lot_cores.specs.RwTable.{act_of, next_phase, share_of, wakes_with, hands, sum_of}
-use Rattle.parking_lot_cores.specs.RwRules.{Spot, Listed, role, Stays, Makes, move, IsMove, IsReady, IsToken, IsTold, Fits, mode_of, mode_by, scan_of, ending, Off, owned_at_last, owned_at_last, owns, last_move, Move, MayAsk}
+use Rattle.parking_lot_protocol.specs.declared.act.Act.{Act}
+use Rattle.parking_lot_protocol.specs.declared.act.Act.TheVariants.{Enter, FetchAnd, Done, Section}
+use Rattle.parking_lot_protocol.specs.declared.act.ActResult.{ActResult}
+use Rattle.parking_lot_protocol.specs.declared.act.ActResult.TheVariants as seen
+use Rattle.parking_lot_protocol.specs.declared.rw_phase.LockMode.{LockMode}
+use Rattle.parking_lot_protocol.specs.declared.rw_phase.AfterWake.{AfterWake}
+use Rattle.parking_lot_protocol.specs.declared.rw_phase.Scanning.{Scanning}
+use Rattle.parking_lot_protocol.specs.declared.rw_phase.RwPhase.{RwPhase}
+use Rattle.parking_lot_protocol.specs.declared.rw_phase.RwPhase.TheVariants.{TakeWriter, Scans, Appends, DrainAppends, Stores, Wakes}
+use Rattle.parking_lot_protocol.specs.Acts.{word_after}
+use Rattle.parking_lot_protocol.specs.RwTable.{act_of, next_phase, share_of, wakes_with, hands, sum_of}
+use Rattle.parking_lot_protocol.specs.RwRules.{QueuePosition, Listed, role, Stays, Makes, move, IsMove, IsReady, IsToken, IsTold, Fits, mode_of, mode_by, scan_of, ending, Off, owned_at_last, owned_at_last, owns, last_move, Move, MayAsk}
 use Rattle.parking_lot_world.specs.RowFits.{rw_prepared, rw_keeps, rw_knows}
 use Rattle.parking_lot_rules.specs.Roles as rules
 use Rattle.parking_lot_core.specs.Results.{is_left}
@@ -29,17 +29,17 @@ use Rattle.parking_lot_world.specs.Rows.{mark_of, owned_of, one_bucket, rw_spot}
 use Rattle.parking_lot_world.specs.RowActs.{told_of, rw_hold_after, settled_spot}
 use Rattle.parking_lot_world.specs.Stances as stance
 use Rattle.parking_lot_world.specs.Stances.{rw_stance, rw_taken, Stance, rw_begun}
-use Rattle.parking_lot_cores.specs.declared.rw_phase.RwPhase.TheVariants as r
-use Rattle.parking_lot_cores.specs.declared.act.CoreAnswer.{CoreAnswer}
+use Rattle.parking_lot_protocol.specs.declared.rw_phase.RwPhase.TheVariants as r
+use Rattle.parking_lot_protocol.specs.declared.act.CoreAnswer.{CoreAnswer}
 use Rattle.parking_lot_core.specs.declared.place.Waiter.{Waiter}
 use Rattle.parking_lot_rules.specs.Family.{Family, SoundFamilyOf, Crossing, Comes, Goes, First, Second, crossing}
 use Rattle.parking_lot_rules.specs.Family as crossings
 use Rattle.parking_lot_rules.specs.Any.{AnyLock, Rw, AnySound, any_inside}
-use Rattle.parking_lot_cores.specs.declared.act.SectionAct.TheVariants.{Leave}
-use Rattle.parking_lot_world.specs.declared.seat.Spot as seat
-use Rattle.parking_lot_world.specs.declared.seat.Told.{Told}
+use Rattle.parking_lot_protocol.specs.declared.act.SectionAct.TheVariants.{Leave}
+use Rattle.parking_lot_world.specs.declared.seat.QueuePosition as seat
+use Rattle.parking_lot_world.specs.declared.seat.WakeResult.{WakeResult}
 use Rattle.parking_lot_core.specs.declared.parking.FilterOp.TheVariants.{Unpark}
-use Rattle.parking_lot_cores.specs.Wake.{wake_answer}
+use Rattle.parking_lot_protocol.specs.Wake.{wake_answer}
 
 -- A number is a word by its parts, and a word of bits is the one of its number.
 pub record WordsAreNumbers : Type 0 where
@@ -49,7 +49,7 @@ pub record WordsAreNumbers : Type 0 where
 
 -- Thread t is in that phase of a call at a sound lock whose word is the number x. It has n shared holds besides the one that the call is
 -- about, and has taken the threads us. Few threads have few holds each.
-pub record Meets (l : Lock) (t n : ℕ) (spot : Spot) (us : List ℕ) (p : RwPhase) (x : ℕ) : Type 0 where
+pub record Meets (l : Lock) (t n : ℕ) (spot : QueuePosition) (us : List ℕ) (p : RwPhase) (x : ℕ) : Type 0 where
   pub sound : IsSound l
   pub word : l.word ≡ word_of x
   pub here : slice_get l.roles t ≡ Some (role n spot us p)
@@ -59,11 +59,11 @@ pub record Meets (l : Lock) (t n : ℕ) (spot : Spot) (us : List ℕ) (p : RwPha
   pub few : (u : ℕ) (r : Role) → slice_get l.roles u ≡ Some r → shared_holds r.owns ≤ 256
 
 -- what it is told is the move that the table says, and the next phase is ready
-abbrev pub IsMoved : Lock → ℕ → List ℕ → RwPhase → ℕ → Seen → Type 0
+abbrev pub IsMoved : Lock → ℕ → List ℕ → RwPhase → ℕ → ActResult → Type 0
 IsMoved l n us p x s = IsMove false (move n us p s) n us p (next_phase p s) l.word (word_after (act_of p) s x) × IsReady (next_phase p s)
 
 abbrev pub AnswersAreMoves : Type 0
-AnswersAreMoves = (l : Lock) (t n : ℕ) (spot : Spot) (us : List ℕ) (p : RwPhase) (x : ℕ) (s : Seen) → Meets l t n spot us p x → IsTold p x s → Fits false n us p l.word × (l.word.readers < 2 ^ 60 - 1) × IsMoved l n us p x s
+AnswersAreMoves = (l : Lock) (t n : ℕ) (spot : QueuePosition) (us : List ℕ) (p : RwPhase) (x : ℕ) (s : ActResult) → Meets l t n spot us p x → IsTold p x s → Fits false n us p l.word × (l.word.readers < 2 ^ 60 - 1) × IsMoved l n us p x s
 
 -- no thread is of a class
 abbrev pub NobodyIs : Class → List Role → Type 0
@@ -74,7 +74,7 @@ NobodyIs c rs = (u : ℕ) (r : Role) → slice_get rs u ≡ Some r → weight c 
 abbrev pub Finds : Act → Lock → Type 0
 Finds (Enter zero) l = NobodyIs Inside1 l.roles
 Finds (Enter (suc key)) l = NobodyIs Inside2 l.roles
-Finds (Mask keep) l = l.second ≡ []
+Finds (FetchAnd keep) l = l.second ≡ []
 Finds act l = Unit {0}
 
 -- a step that may be made at a lock, and the lock after it
@@ -86,19 +86,19 @@ abbrev pub with_role : Lock → ℕ → ℕ → Role → Lock
 with_role l x t r = record l { word = word_of x; roles = slice_set l.roles t r }
 
 abbrev pub StaysAreSteps : Type 0
-StaysAreSteps = (l : Lock) (t n : ℕ) (spot : Spot) (us : List ℕ) (p : RwPhase) (x : ℕ) (s : Seen) → Meets l t n spot us p x → IsTold p x s → move n us p s ≡ Stays
+StaysAreSteps = (l : Lock) (t n : ℕ) (spot : QueuePosition) (us : List ℕ) (p : RwPhase) (x : ℕ) (s : ActResult) → Meets l t n spot us p x → IsTold p x s → move n us p s ≡ Stays
     → (role n spot us (next_phase p s) ≡ role n spot us p) × (word_after (act_of p) s x ≡ x)
 
 abbrev pub MakesAreSteps : Type 0
-MakesAreSteps = (l : Lock) (t n : ℕ) (spot : Spot) (us : List ℕ) (p : RwPhase) (x : ℕ) (s : Seen) (k : Plain) → Meets l t n spot us p x → IsTold p x s → move n us p s ≡ Makes k → Finds (act_of p) l
+MakesAreSteps = (l : Lock) (t n : ℕ) (spot : QueuePosition) (us : List ℕ) (p : RwPhase) (x : ℕ) (s : ActResult) (k : Plain) → Meets l t n spot us p x → IsTold p x s → move n us p s ≡ Makes k → Finds (act_of p) l
     → IsStep t (Alone k) l (with_role l (word_after (act_of p) s x) t (role n Listed us (next_phase p s)))
 
 -- One that goes to sleep joins the end of its list: the lock's first, or as a pending writer its second.
 pub record JoinsAreSteps : Type 0 where
-  pub first : (l : Lock) (t n : ℕ) (spot : Spot) (us : List ℕ) (want : Want) (x : ℕ) → Meets l t n spot us (Appends want) x
+  pub first : (l : Lock) (t n : ℕ) (spot : QueuePosition) (us : List ℕ) (want : LockMode) (x : ℕ) → Meets l t n spot us (Appends want) x
       → IsStep t (List_changes (Join1 (mode_of want))) l (record (with_role l x t (role n Listed us (next_phase (Appends want) seen.Made))) { first = l.first ++ t ∷ [] })
-  pub second : (l : Lock) (t n : ℕ) (spot : Spot) (us : List ℕ) (rounds x : ℕ) → Meets l t n spot us (Appends2 rounds) x
-      → IsStep t (List_changes (Join2 false)) l (record (with_role l x t (role n Listed us (next_phase (Appends2 rounds) seen.Made))) { second = l.second ++ t ∷ [] })
+  pub second : (l : Lock) (t n : ℕ) (spot : QueuePosition) (us : List ℕ) (rounds x : ℕ) → Meets l t n spot us (DrainAppends rounds) x
+      → IsStep t (List_changes (Join2 false)) l (record (with_role l x t (role n Listed us (next_phase (DrainAppends rounds) seen.Made))) { second = l.second ++ t ∷ [] })
 
 -- A thread that scans takes the waiter v at an index of the first list, by its token: it looks at it so, and those before it are skipped.
 pub record MayTakeOne (l : Lock) (a : Scanning) (i v : ℕ) (mode : Mode) : Type 0 where
@@ -112,7 +112,7 @@ abbrev pub with_roles : Lock → ℕ → ℕ → Role → ℕ → Role → Lock
 with_roles l x t r v q = record l { word = word_of x; roles = slice_set (slice_set l.roles t r) v q }
 
 abbrev pub TakesAreSteps : Type 0
-TakesAreSteps = (l : Lock) (t n : ℕ) (spot : Spot) (us : List ℕ) (a : Scanning) (x : ℕ) (token : ParkToken) (left : Bool) (i v : ℕ) → Meets l t n spot us (Scans a) x → IsToken (Some token) → MayTakeOne l a i v (mode_by token)
+TakesAreSteps = (l : Lock) (t n : ℕ) (spot : QueuePosition) (us : List ℕ) (a : Scanning) (x : ℕ) (token : ParkToken) (left : Bool) (i v : ℕ) → Meets l t n spot us (Scans a) x → IsToken (Some token) → MayTakeOne l a i v (mode_by token)
     → IsStep t (Take1 (scan_of n a us) i v (mode_by token) Asleep) l
     (record (with_roles l x t (role n Listed (us ++ v ∷ []) (next_phase (Scans a) (seen.Took (Some token) left))) v (record { owns = Shares 0; does = Taken1 (mode_by token) t Open Asleep })) { first = remove l.first i })
 
@@ -123,13 +123,13 @@ FirstsMayBeTaken = (l : Lock) (a : Scanning) (v : ℕ) (mode : Mode) → slice_g
 
 -- the token of a waiter is that of what it wants
 abbrev pub TokensTell : Type 0
-TokensTell = (want : Want) → IsToken (Some (record { 0 = share_of want })) × (mode_by (record { 0 = share_of want }) ≡ mode_of want)
+TokensTell = (want : LockMode) → IsToken (Some (record { 0 = share_of want })) × (mode_by (record { 0 = share_of want }) ≡ mode_of want)
 
 abbrev pub WritersAreTaken : Type 0
-WritersAreTaken = (l : Lock) (t n : ℕ) (spot : Spot) (us : List ℕ) (rest : Rest) (x : ℕ) (token : ParkToken) (left : Bool) (v : ℕ) → Meets l t n spot us (Takes2 rest) x → slice_get l.second 0 ≡ Some v
+WritersAreTaken = (l : Lock) (t n : ℕ) (spot : QueuePosition) (us : List ℕ) (rest : AfterWake) (x : ℕ) (token : ParkToken) (left : Bool) (v : ℕ) → Meets l t n spot us (TakeWriter rest) x → slice_get l.second 0 ≡ Some v
     → slice_get l.roles v ≡ Some (record { owns = Shares 0; does = Queued2 false Asleep })
     → IsStep t (Take2 (Shares n) v false Asleep) l
-    (record (with_roles l x t (role n Listed (us ++ v ∷ []) (next_phase (Takes2 rest) (seen.Took (Some token) left))) v (record { owns = Shares 0; does = Taken2 false t Asleep })) { second = remove l.second 0 })
+    (record (with_roles l x t (role n Listed (us ++ v ∷ []) (next_phase (TakeWriter rest) (seen.Took (Some token) left))) v (record { owns = Shares 0; does = Taken2 false t Asleep })) { second = remove l.second 0 })
 
 -- The end of the section: what it stores, and what it tells all that the thread has taken. It knows whether waiters are left, and has taken
 -- a writer or all.
@@ -137,7 +137,7 @@ abbrev pub ending_of : Scanning → Bool → Ending
 ending_of a fair = ending a.rest (hands a (a.fair || fair))
 
 abbrev pub StoresAreSteps : Type 0
-StoresAreSteps = (l : Lock) (t n : ℕ) (spot : Spot) (us : List ℕ) (a : Scanning) (left : Bool) (x : ℕ) (fair : Bool) → Meets l t n spot us (Stores a left) x → is_left l.first ≡ left → (a.writer ≡ true) ⊎ (left ≡ false)
+StoresAreSteps = (l : Lock) (t n : ℕ) (spot : QueuePosition) (us : List ℕ) (a : Scanning) (left : Bool) (x : ℕ) (fair : Bool) → Meets l t n spot us (Stores a left) x → is_left l.first ≡ left → (a.writer ≡ true) ⊎ (left ≡ false)
     → IsStep t (Store (ending_of a fair) (scan_of n a us)) l
     (record l { word = word_of (word_after (act_of (Stores a left)) (seen.Stored fair) x); roles = slice_set (map (settle (ends_saying (ending_of a fair))) l.roles) t (role n Listed us (next_phase (Stores a left) (seen.Stored fair))) })
 
@@ -147,7 +147,7 @@ TokensSay = (a : Scanning) (left fair : Bool) → mark_of (told_of (wakes_with (
 
 -- One that has taken others wakes the first of them, which sleeps and goes on as its token says.
 abbrev pub WakesAreSteps : Type 0
-WakesAreSteps = (l : Lock) (t n : ℕ) (spot : Spot) (v : ℕ) (vs : List ℕ) (rest : Rest) (count x : ℕ) (m : ℕ) (mark : Mark) (ws : List ℕ) (q : RwPhase) (key : ℕ) (park : ParkToken) (token : UnparkToken)
+WakesAreSteps = (l : Lock) (t n : ℕ) (spot : QueuePosition) (v : ℕ) (vs : List ℕ) (rest : AfterWake) (count x : ℕ) (m : ℕ) (mark : Mark) (ws : List ℕ) (q : RwPhase) (key : ℕ) (park : ParkToken) (token : UnparkToken)
     → Meets l t n spot (v ∷ vs) (Wakes rest count) x → slice_get l.roles v ≡ Some (role m (Off t mark) ws q) → rw_stance q ≡ stance.Asleep key park → rw_prepared m ws q → mark ≡ mark_of (told_of token)
     → (k : Waking) × IsStep t (Wake (owned_at_last n rest) v vs k Asleep) l
     (record l { word = word_of x; roles = slice_set (slice_set l.roles v (role m Listed ws (next_phase q (seen.Woken token)))) t (role n Listed vs (next_phase (Wakes rest count) seen.Made)) })
@@ -159,19 +159,19 @@ WokenAreTold = (l : Lock) (t v : ℕ) (own has : Owned) (us : List ℕ) (mode : 
 
 -- where a thread stands matters only while it sleeps
 abbrev pub OnlySleepersStand : Type 0
-OnlySleepersStand = (n : ℕ) (spot : Spot) (us : List ℕ) (p : RwPhase) → ((key : ℕ) (park : ParkToken) → rw_stance p ≢ stance.Asleep key park) → role n spot us p ≡ role n Listed us p
+OnlySleepersStand = (n : ℕ) (spot : QueuePosition) (us : List ℕ) (p : RwPhase) → ((key : ℕ) (park : ParkToken) → rw_stance p ≢ stance.Asleep key park) → role n spot us p ≡ role n Listed us p
 
 -- one that is answered
 abbrev pub is_last : RwPhase → Bool
 is_last (r.Refuses want) = true
 is_last (r.Finishes rest) = true
 is_last (r.Ends outcome) = true
-is_last r.Strays = true
+is_last r.Invalid = true
 is_last phase = false
 
 -- a call that begins is no step by itself: its thread is in the role of one in no call, and hears the start
 abbrev pub BeginsAreReady : Type 0
-BeginsAreReady = (n : ℕ) (spot : Spot) (us : List ℕ) (p : RwPhase) (x : ℕ) → rw_begun p ≡ false → (role n spot us p ≡ record { owns = owns n p; does = Idle }) × IsReady p × IsTold p x seen.Start
+BeginsAreReady = (n : ℕ) (spot : QueuePosition) (us : List ℕ) (p : RwPhase) (x : ℕ) → rw_begun p ≡ false → (role n spot us p ≡ record { owns = owns n p; does = Idle }) × IsReady p × IsTold p x seen.Start
 
 -- the last step of a call, where there is one
 abbrev pub IsLastStep : Move → Lock → ℕ → Role → ℕ → Role → Type 0
@@ -180,7 +180,7 @@ IsLastStep move l t old x new = new ≡ old
 
 -- One whose call is answered owns what the machine says, and is in no call.
 abbrev pub EndsAreSteps : Type 0
-EndsAreSteps = (l : Lock) (t n : ℕ) (spot : Spot) (us : List ℕ) (p : RwPhase) (x : ℕ) → Meets l t n spot us p x → is_last p ≡ true → IsLastStep (last_move n p) l t (role n spot us p) x (record { owns = owned_of (rw_hold_after n p); does = Idle })
+EndsAreSteps = (l : Lock) (t n : ℕ) (spot : QueuePosition) (us : List ℕ) (p : RwPhase) (x : ℕ) → Meets l t n spot us p x → is_last p ≡ true → IsLastStep (last_move n p) l t (role n spot us p) x (record { owns = owned_of (rw_hold_after n p); does = Idle })
 
 -- a call that has begun is answered in its last phase
 abbrev pub AnswersAreLast : Type 0
@@ -209,9 +209,9 @@ rw_begins n phase = ⊥
 -- and a scan counts no more readers than there are threads.
 pub record CallsKeep : Type 0 where
   pub begins : (n : ℕ) (p : RwPhase) → rw_begins n p → rw_keeps n (next_phase p seen.Start)
-  pub goes_on : (n : ℕ) (p : RwPhase) (x : ℕ) (s : Seen) → rw_keeps n p → IsTold p x s → rw_keeps n (next_phase p s)
+  pub goes_on : (n : ℕ) (p : RwPhase) (x : ℕ) (s : ActResult) → rw_keeps n p → IsTold p x s → rw_keeps n (next_phase p s)
   pub prepared : (n : ℕ) (us : List ℕ) (p : RwPhase) → rw_keeps n p → length us ≡ rw_taken p → count_shared p ≤ 2 ^ 17 → rw_prepared n us p
-  pub few : (l : Lock) (t n : ℕ) (spot : Spot) (us : List ℕ) (p : RwPhase) → IsSound l → slice_get l.roles t ≡ Some (role n spot us p) → count_shared p ≤ length l.roles
+  pub few : (l : Lock) (t n : ℕ) (spot : QueuePosition) (us : List ℕ) (p : RwPhase) → IsSound l → slice_get l.roles t ≡ Some (role n spot us p) → count_shared p ≤ length l.roles
 
 -- SECTIONS AND LISTS
 
@@ -237,9 +237,9 @@ in_second (stance.In (suc key) how) = 1
 in_second st = 0
 
 pub record ActsCross : Type 0 where
-  pub acts : (n : ℕ) (us : List ℕ) (p : RwPhase) (x : ℕ) (s : Seen) → IsTold p x s → move_crossing (move n us p s) ≡ act_crossing (rw_stance p) (act_of p)
-  pub first : (n : ℕ) (spot : Spot) (us : List ℕ) (p : RwPhase) → weight Inside1 (role n spot us p) ≡ in_first (rw_stance p)
-  pub second : (n : ℕ) (spot : Spot) (us : List ℕ) (p : RwPhase) → weight Inside2 (role n spot us p) ≡ in_second (rw_stance p)
+  pub acts : (n : ℕ) (us : List ℕ) (p : RwPhase) (x : ℕ) (s : ActResult) → IsTold p x s → move_crossing (move n us p s) ≡ act_crossing (rw_stance p) (act_of p)
+  pub first : (n : ℕ) (spot : QueuePosition) (us : List ℕ) (p : RwPhase) → weight Inside1 (role n spot us p) ≡ in_first (rw_stance p)
+  pub second : (n : ℕ) (spot : QueuePosition) (us : List ℕ) (p : RwPhase) → weight Inside2 (role n spot us p) ≡ in_second (rw_stance p)
 
 -- where nobody has entered the bucket, nobody is inside a section of a lock
 abbrev pub FreeSectionsAreEmpty : Type 0
@@ -247,27 +247,27 @@ FreeSectionsAreEmpty = (f : Family AnyLock) (i : ℕ) (l : Lock) → SoundFamily
 
 -- What one that takes waiters learns of the lists as they are after that: whether some are left, that there were none to take, and that
 -- only readers and writers wait.
-abbrev pub Learns : RwPhase → Seen → List Waiter → List Waiter → Type 0
+abbrev pub Learns : RwPhase → ActResult → List Waiter → List Waiter → Type 0
 Learns (Scans a) (seen.Took (Some token) left) first second = ((token.0 ≡ 16) ⊎ (token.0 ≡ 8)) × (is_left first ≡ left)
 Learns (Scans a) (seen.Took None left) first second = (is_left first ≡ left) × (left ≡ false)
-Learns (Takes2 rest) s first second = second ≡ []
+Learns (TakeWriter rest) s first second = second ≡ []
 Learns p s first second = Unit {0}
 
 pub record ListsAreKnown : Type 0 where
-  pub learns : (p : RwPhase) (x : ℕ) (s : Seen) (old1 old2 first second : List Waiter) → IsTold p x s → rw_knows p old1 old2 → Learns p s first second → rw_knows (next_phase p s) first second
+  pub learns : (p : RwPhase) (x : ℕ) (s : ActResult) (old1 old2 first second : List Waiter) → IsTold p x s → rw_knows p old1 old2 → Learns p s first second → rw_knows (next_phase p s) first second
   pub second : (l : Lock) → IsSound l → length l.second ≤ 1
 
 -- WHO IS TOLD BY A STORE
 
 -- Where a thread stands after thread t has told all that it took.
-abbrev pub told_by : ℕ → Told → seat.Spot → Spot
+abbrev pub told_by : ℕ → WakeResult → seat.QueuePosition → QueuePosition
 told_by t said at = rw_spot (settled_spot t said at)
 
 -- At the lock where t stores these are all that were taken and told nothing, and at a lock where t has taken nobody so there are none.
 pub record StoresTell : Type 0 where
-  pub here : (l : Lock) (t u n : ℕ) (at : seat.Spot) (us : List ℕ) (p : RwPhase) (scan : Scan) (said : Told) → IsSound l → slice_get l.roles t ≡ Some (scanning scan) → slice_get l.roles u ≡ Some (role n (rw_spot at) us p)
+  pub here : (l : Lock) (t u n : ℕ) (at : seat.QueuePosition) (us : List ℕ) (p : RwPhase) (scan : Scan) (said : WakeResult) → IsSound l → slice_get l.roles t ≡ Some (scanning scan) → slice_get l.roles u ≡ Some (role n (rw_spot at) us p)
       → role n (told_by t said at) us p ≡ settle (mark_of said) (role n (rw_spot at) us p)
-  pub elsewhere : (l : Lock) (t u n : ℕ) (at : seat.Spot) (us : List ℕ) (p : RwPhase) (own : Role) (said : Told) → IsSound l → slice_get l.roles t ≡ Some own → to_wake own.does (On1 Open) ≡ [] → slice_get l.roles u ≡ Some (role n (rw_spot at) us p)
+  pub elsewhere : (l : Lock) (t u n : ℕ) (at : seat.QueuePosition) (us : List ℕ) (p : RwPhase) (own : Role) (said : WakeResult) → IsSound l → slice_get l.roles t ≡ Some own → to_wake own.does (On1 Open) ≡ [] → slice_get l.roles u ≡ Some (role n (rw_spot at) us p)
       → role n (told_by t said at) us p ≡ role n (rw_spot at) us p
 
 -- WHO SLEEPS

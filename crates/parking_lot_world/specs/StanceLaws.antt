@@ -2,14 +2,14 @@
 use Rattle.std.specs.Prelude.{◌≡◌, ℕ, ◌+◌, ◌-◌, ◌<◌, ◌≤◌, ◌^◌, ◌⊎◌, Bool, false, Some, None}
 use Rattle.parking_lot_core.specs.declared.parking.ParkToken.{ParkToken}
 use Rattle.parking_lot_core.specs.declared.parking.UnparkToken.{UnparkToken}
-use Rattle.parking_lot_cores.specs.Acts.{Gives}
-use Rattle.parking_lot_cores.specs.declared.act.Act.{Act}
-use Rattle.parking_lot_cores.specs.declared.act.Act.TheVariants as act
-use Rattle.parking_lot_cores.specs.declared.act.SectionAct.TheVariants as section
-use Rattle.parking_lot_cores.specs.declared.act.Seen.{Seen}
-use Rattle.parking_lot_cores.specs.declared.act.Seen.TheVariants as seen
-use Rattle.parking_lot_cores.specs.declared.rw_phase.RwPhase.{RwPhase}
-use Rattle.parking_lot_cores.specs.declared.rw_phase.RwPhase.TheVariants as r
+use Rattle.parking_lot_protocol.specs.Acts.{Gives}
+use Rattle.parking_lot_protocol.specs.declared.act.Act.{Act}
+use Rattle.parking_lot_protocol.specs.declared.act.Act.TheVariants as act
+use Rattle.parking_lot_protocol.specs.declared.act.SectionAct.TheVariants as section
+use Rattle.parking_lot_protocol.specs.declared.act.ActResult.{ActResult}
+use Rattle.parking_lot_protocol.specs.declared.act.ActResult.TheVariants as seen
+use Rattle.parking_lot_protocol.specs.declared.rw_phase.RwPhase.{RwPhase}
+use Rattle.parking_lot_protocol.specs.declared.rw_phase.RwPhase.TheVariants as r
 use Rattle.parking_lot_world.specs.declared.seat.Core.{Core}
 use Rattle.parking_lot_world.specs.declared.seat.Core.TheVariants as core
 use Rattle.parking_lot_world.specs.Stances.{Looks, TurnsBack, Joins, Joined, Takes, Stores, Tells, Stance, Out, In, Asleep, sign, stance, taken_count, core_act, core_next, core_tells}
@@ -26,16 +26,16 @@ LeavesFor a b n m =
     ⊎ ((k : ℕ) × (said : UnparkToken) × (a ≡ In k (Tells said)) × (b ≡ Out) × (m ≡ n)))
 
 -- a taking that took nobody
-abbrev pub TookFor : Seen → ℕ → Stance → ℕ → ℕ → Type 0
+abbrev pub TookFor : ActResult → ℕ → Stance → ℕ → ℕ → Type 0
 TookFor (seen.Took None left) k b n m = (b ≡ In k Stores) × (m ≡ n)
 TookFor s k b n m = Unit {0}
 
 -- From stance a and n taken an act leads to stance b and m taken, and the call then tells that token.
-abbrev pub Leads : Act → Seen → Stance → Stance → ℕ → ℕ → UnparkToken → Type 0
+abbrev pub Leads : Act → ActResult → Stance → Stance → ℕ → ℕ → UnparkToken → Type 0
 Leads act.Load s a b n m tells = StaysOut a b n m
 Leads (act.Exchange from to) s a b n m tells = StaysOut a b n m
 Leads (act.Add by) s a b n m tells = StaysOut a b n m
-Leads (act.Mask keep) s a b n m tells = (a ≡ In 1 Stores) × (b ≡ In 1 (Tells (sign false))) × (m ≡ n)
+Leads (act.FetchAnd keep) s a b n m tells = (a ≡ In 1 Stores) × (b ≡ In 1 (Tells (sign false))) × (m ≡ n)
 Leads act.Spin s a b n m tells = StaysOut a b n m
 Leads (act.Enter k) s a b n m tells = (a ≡ Out) × ((b ≡ In k Looks) ⊎ (b ≡ In k Takes)) × (m ≡ n)
 Leads (act.Section section.Check) s a b n m tells =
@@ -49,12 +49,12 @@ Leads (act.Section section.Wake) s a b n m tells = (a ≡ Out) × (b ≡ Out) ×
 Leads act.Sleep s a b n m tells = (k : ℕ) × (token : ParkToken) × (a ≡ Asleep k token) × (b ≡ Out) × (n ≡ 0) × (m ≡ 0)
 Leads (act.Done answer) s a b n m tells = ⊥
 
-abbrev pub LeadsCore : Act → Seen → Core → Core → Type 0
+abbrev pub LeadsCore : Act → ActResult → Core → Core → Type 0
 LeadsCore act s c d = Leads act s (stance c) (stance d) (taken_count c) (taken_count d) (core_tells d)
 
 -- what an act gives leads so
 abbrev pub ActsLead : Type 0
-ActsLead = (c : Core) (word : ℕ) (s : Seen) → Gives (core_act c) word s → LeadsCore (core_act c) s c (core_next c s)
+ActsLead = (c : Core) (word : ℕ) (s : ActResult) → Gives (core_act c) word s → LeadsCore (core_act c) s c (core_next c s)
 
 -- a scan can count one more with that token
 abbrev pub rw_counts : RwPhase → ParkToken → Type 0
@@ -94,7 +94,7 @@ SleepersWake =
 
 -- one that is to wake somebody has taken somebody
 abbrev pub WakersCount : Type 0
-WakersCount = (c : Core) (s : Seen) → core_act (core_next c s) ≡ act.Section section.Wake → 1 ≤ taken_count (core_next c s)
+WakersCount = (c : Core) (s : ActResult) → core_act (core_next c s) ≡ act.Section section.Wake → 1 ≤ taken_count (core_next c s)
 
 -- a lock has two keys
 abbrev pub HasSmallKey : Stance → Type 0

@@ -2,14 +2,14 @@
 use Rattle.std.specs.Prelude.{ℕ, Bool, true, false}
 use Rattle.parking_lot_core.specs.declared.parking.ParkToken.{ParkToken}
 use Rattle.parking_lot_core.specs.declared.parking.UnparkToken.{UnparkToken}
-use Rattle.parking_lot_cores.specs.declared.act.Act.{Act}
-use Rattle.parking_lot_cores.specs.declared.act.Seen.{Seen}
-use Rattle.parking_lot_cores.specs.declared.mutex_phase.MutexPhase.{MutexPhase}
-use Rattle.parking_lot_cores.specs.declared.mutex_phase.MutexPhase.TheVariants as m
-use Rattle.parking_lot_cores.specs.declared.rw_phase.RwPhase.{RwPhase}
-use Rattle.parking_lot_cores.specs.declared.rw_phase.RwPhase.TheVariants as r
-use Rattle.parking_lot_cores.specs.MutexTable as of_mutex
-use Rattle.parking_lot_cores.specs.RwTable as of_rw
+use Rattle.parking_lot_protocol.specs.declared.act.Act.{Act}
+use Rattle.parking_lot_protocol.specs.declared.act.ActResult.{ActResult}
+use Rattle.parking_lot_protocol.specs.declared.mutex_phase.MutexPhase.{MutexPhase}
+use Rattle.parking_lot_protocol.specs.declared.mutex_phase.MutexPhase.TheVariants as m
+use Rattle.parking_lot_protocol.specs.declared.rw_phase.RwPhase.{RwPhase}
+use Rattle.parking_lot_protocol.specs.declared.rw_phase.RwPhase.TheVariants as r
+use Rattle.parking_lot_protocol.specs.MutexTable as of_mutex
+use Rattle.parking_lot_protocol.specs.RwTable as of_rw
 use Rattle.parking_lot_world.specs.declared.seat.Core.{Core}
 use Rattle.parking_lot_world.specs.declared.seat.Core.TheVariants as core
 
@@ -52,14 +52,14 @@ rw_stance (r.Retreats want woken) = In 0 TurnsBack
 rw_stance (r.Appends want) = In 0 (Joins (record { 0 = of_rw.share_of want }))
 rw_stance (r.Rests want) = In 0 (Joined (record { 0 = of_rw.share_of want }))
 rw_stance (r.Sleeps want) = Asleep 0 (record { 0 = of_rw.share_of want })
-rw_stance (r.Checks2 d) = In 1 Looks
-rw_stance (r.Retreats2 d) = In 1 TurnsBack
-rw_stance (r.Appends2 rounds) = In 1 (Joins (record { 0 = 8 }))
-rw_stance (r.Rests2 rounds) = In 1 (Joined (record { 0 = 8 }))
-rw_stance (r.Sleeps2 rounds) = Asleep 1 (record { 0 = 8 })
-rw_stance (r.Takes2 rest) = In 1 Takes
-rw_stance (r.Masks2 rest taken) = In 1 Stores
-rw_stance (r.Leaves2 rest taken) = In 1 (Tells (sign false))
+rw_stance (r.DrainChecks d) = In 1 Looks
+rw_stance (r.DrainRetreats d) = In 1 TurnsBack
+rw_stance (r.DrainAppends rounds) = In 1 (Joins (record { 0 = 8 }))
+rw_stance (r.DrainRests rounds) = In 1 (Joined (record { 0 = 8 }))
+rw_stance (r.DrainSleeps rounds) = Asleep 1 (record { 0 = 8 })
+rw_stance (r.TakeWriter rest) = In 1 Takes
+rw_stance (r.ClearWriterParked rest taken) = In 1 Stores
+rw_stance (r.LeaveWriterWakeSection rest taken) = In 1 (Tells (sign false))
 rw_stance (r.Scans s) = In 0 Takes
 rw_stance (r.Stores s left) = In 0 Stores
 rw_stance (r.Leaves rest count handed) = In 0 (Tells (sign handed))
@@ -77,8 +77,8 @@ mutex_taken (m.Wakes giving) = 1
 mutex_taken phase = 0
 
 abbrev pub rw_taken : RwPhase → ℕ
-rw_taken (r.Masks2 rest taken) = of_mutex.bit taken
-rw_taken (r.Leaves2 rest taken) = of_mutex.bit taken
+rw_taken (r.ClearWriterParked rest taken) = of_mutex.bit taken
+rw_taken (r.LeaveWriterWakeSection rest taken) = of_mutex.bit taken
 rw_taken (r.Scans s) = of_rw.count_of s
 rw_taken (r.Stores s left) = of_rw.count_of s
 rw_taken (r.Leaves rest count handed) = count
@@ -94,7 +94,7 @@ abbrev pub core_act : Core → Act
 core_act (core.Mutex c) = of_mutex.act_of c.phase
 core_act (core.Rw c) = of_rw.act_of c.phase
 
-abbrev pub core_next : Core → Seen → Core
+abbrev pub core_next : Core → ActResult → Core
 core_next (core.Mutex c) seen = core.Mutex (record c { phase = of_mutex.next_phase c.phase seen })
 core_next (core.Rw c) seen = core.Rw (record c { phase = of_rw.next_phase c.phase seen })
 

@@ -8,10 +8,10 @@ use Rattle.parking_lot_core.specs.declared.place.Sleep.{Sleep}
 use Rattle.parking_lot_core.specs.Places.{place_at, is_due, roused}
 use Rattle.parking_lot_core.specs.Machine.{Machine, changed_at, resume_fault}
 use Rattle.parking_lot_core.specs.Sound as lot
-use Rattle.parking_lot_cores.specs.declared.act.Act.TheVariants as act
-use Rattle.parking_lot_cores.specs.declared.act.SectionAct.TheVariants as section
-use Rattle.parking_lot_cores.specs.declared.act.WordChange.{WordChange}
-use Rattle.parking_lot_world.specs.declared.seat.Call.{Call}
+use Rattle.parking_lot_protocol.specs.declared.act.Act.TheVariants as act
+use Rattle.parking_lot_protocol.specs.declared.act.SectionAct.TheVariants as section
+use Rattle.parking_lot_protocol.specs.declared.act.WordChange.{WordChange}
+use Rattle.parking_lot_world.specs.declared.open_call.Call.{Call}
 use Rattle.parking_lot_world.specs.declared.seat.Wakeup.{Wakeup}
 use Rattle.parking_lot_world.specs.Rows.{State, call_at, is_by}
 use Rattle.parking_lot_world.specs.Stances.{core_act}
@@ -37,7 +37,7 @@ pub record GoesOn (m : Machine) (v : ℕ) (token : UnparkToken) (sleep : Sleep) 
 pub record TellsAreSteps : Type 0 where
   pub store : (s : State) (t : ℕ) (c : Call) (plain fair : WordChange) (is_fair : Bool) → core_act c.core ≡ act.Section (section.Store plain fair)
       → lot.Sound (told_all s t c (if is_fair then fair else plain) is_fair).lot → Keeps t c s (told_all s t c (if is_fair then fair else plain) is_fair)
-  pub mask : (s : State) (t : ℕ) (c : Call) (keep : ℕ) → core_act c.core ≡ act.Mask keep → lot.Sound (masked s t c keep).lot → Keeps t c s (masked s t c keep)
+  pub mask : (s : State) (t : ℕ) (c : Call) (keep : ℕ) → core_act c.core ≡ act.FetchAnd keep → lot.Sound (masked s t c keep).lot → Keeps t c s (masked s t c keep)
   -- one that is to wake somebody has somebody to wake, who was taken by it and bears the mark of its sleep
   pub due : (s : State) (t : ℕ) (c : Call) → core_act c.core ≡ act.Section section.Wake → FitsTogether s → call_at s t ≡ Some c
       → (e : Wakeup) × (d : Call) × (token : UnparkToken) × (x : IsDue s t e d token) × (e.by ≡ t) × (x.sleep.mark ≡ e.mark)

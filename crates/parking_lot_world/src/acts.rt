@@ -2,15 +2,15 @@
 ghost use Rattle.std.specs.Prelude.{◌≡◌, ◌<◌, ◌≤◌, ℕ, ◌+◌, ◌*◌, ◌%◌, ◌^◌, length, map, slice_get, Some, None, if◌then◌else◌, vec_capacity, vec_len};
 ghost use Rattle.std.specs.Option.{option_map, option_and_then, option_map_or};
 ghost use Rattle.std.specs.List.{position_or_len, position};
-ghost use Rattle.parking_lot_cores.specs.declared.act.Seen.TheVariants as seen;
-ghost use Rattle.parking_lot_world.specs.declared.seat.Spot.TheVariants as spot;
+ghost use Rattle.parking_lot_protocol.specs.declared.act.ActResult.TheVariants as seen;
+ghost use Rattle.parking_lot_world.specs.declared.seat.QueuePosition.TheVariants as spot;
 ghost use Rattle.parking_lot_core.specs.declared.place.Taking.{Taking};
 ghost use Rattle.parking_lot_core.specs.Machine.{machine};
 ghost use Rattle.parking_lot_core.specs.Results.{is_left};
-ghost use Rattle.parking_lot_cores.specs.declared.act.Act.TheVariants as act;
-ghost use Rattle.parking_lot_cores.specs.declared.act.SectionAct.TheVariants as section;
-ghost use Rattle.parking_lot_cores.specs.declared.act.CoreAnswer.{CoreAnswer};
-ghost use Rattle.parking_lot_cores.specs.declared.act.WordChange.{WordChange};
+ghost use Rattle.parking_lot_protocol.specs.declared.act.Act.TheVariants as act;
+ghost use Rattle.parking_lot_protocol.specs.declared.act.SectionAct.TheVariants as section;
+ghost use Rattle.parking_lot_protocol.specs.declared.act.CoreAnswer.{CoreAnswer};
+ghost use Rattle.parking_lot_protocol.specs.declared.act.WordChange.{WordChange};
 ghost use Rattle.parking_lot_world.specs.ActLaws.{MayBegin};
 ghost use Rattle.parking_lot_world.specs.Rows.{call_at, is_by, state, word_at};
 ghost use Rattle.parking_lot_world.specs.Stances.{In, Joins, Takes, core_act, stance};
@@ -18,21 +18,22 @@ ghost use Rattle.parking_lot_world.specs.Machines.{IsTakenFrom, IsWoken, owes_to
 ghost use Rattle.parking_lot_world.specs.RowActs.{added, answered, appended, begun, checked, entered, exchanged, hears, key_of, left, loaded, masked, off_list, settled, spun, told_all, took, took_nobody, woke};
 
 use crate::lot_calls;
+use crate::open_call::Call;
 use crate::row_machine::RowMachine;
-use crate::seat::{Call, Told, Wakeup};
+use crate::seat::{WakeResult, Wakeup};
 use parking_lot_core::{Lot, ParkToken, Taking, UnparkToken};
-use parking_lot_cores::{Seen, TRY_AGAIN, WordChange};
+use parking_lot_protocol::{ActResult, TRY_AGAIN, WordChange};
 use std::alloc::Allocator;
 
 /// One that took sleepers tells all of them whom it hasn't told yet.
-fn settle<A: Allocator>(calls: &mut Vec<Option<Call>, A>, by: usize, said: Told)
+fn settle<A: Allocator>(calls: &mut Vec<Option<Call>, A>, by: usize, said: WakeResult)
     ensures { calls.new.items ≡ map (option_map (settled by said)) calls.old.items }
 {
     settle_each(calls, by, said);
 }
 
 /// The same of a slice.
-fn settle_each(calls: &mut [Option<Call>], by: usize, said: Told)
+fn settle_each(calls: &mut [Option<Call>], by: usize, said: WakeResult)
     ensures { calls.new ≡ map (option_map (settled by said)) calls.old }
 {
     for call in calls.iter_mut() {
@@ -41,7 +42,7 @@ fn settle_each(calls: &mut [Option<Call>], by: usize, said: Told)
 }
 
 /// The same of one thread.
-fn settled(call: Option<Call>, by: usize, said: Told) -> Option<Call>
+fn settled(call: Option<Call>, by: usize, said: WakeResult) -> Option<Call>
     ensures { result ≡ option_map (settled by said) call }
 {
     call.map(|call| call.settled(by, said))
@@ -114,7 +115,7 @@ fn taker<A: Allocator>(lot: &Lot<A>, call: Call, taking: Option<Taking>) -> Call
 {
     let left = lot.has_waiters(call.key(call.core.list()));
     let token = taking.map(|taking| taking.token);
-    call.told(Seen::Took { token, left })
+    call.told(ActResult::Took { token, left })
 }
 
 impl<A: Allocator> RowMachine<A> {
@@ -125,7 +126,7 @@ impl<A: Allocator> RowMachine<A> {
         ensures { state self.new ≡ loaded (state self.old) thread call }
     {
         let word = self.word(call.lock);
-        self.calls[thread] = Some(call.told(Seen::Word(word)));
+        self.calls[thread] = Some(call.told(ActResult::Word(word)));
     }
 
     /// It compares the word and exchanges it.
@@ -137,9 +138,9 @@ impl<A: Allocator> RowMachine<A> {
         let word = self.word(call.lock);
         if word == from {
             self.words[call.lock] = to;
-            self.calls[thread] = Some(call.told(Seen::Exchanged));
+            self.calls[thread] = Some(call.told(ActResult::Exchanged));
         } else {
-            self.calls[thread] = Some(call.told(Seen::Word(word)));
+            self.calls[thread] = Some(call.told(ActResult::Word(word)));
         }
     }
 
@@ -151,20 +152,20 @@ impl<A: Allocator> RowMachine<A> {
     {
         let word = self.word(call.lock);
         self.words[call.lock] = word.wrapping_add(by);
-        self.calls[thread] = Some(call.told(Seen::Before(word)));
+        self.calls[thread] = Some(call.told(ActResult::Before(word)));
     }
 
     /// It clears bits of the word, in a section of the second list.
     pub(crate) fn mask(&mut self, thread: usize, call: Call, keep: u64)
         requires here { call_at (state self.old) thread ≡ Some call }
-        requires asked { core_act call.core ≡ act.Mask keep }
+        requires asked { core_act call.core ≡ act.FetchAnd keep }
         ensures { state self.new ≡ masked (state self.old) thread call keep }
     {
         let word = self.word(call.lock);
         lot_calls::store(&mut self.lot, thread, TRY_AGAIN);
         self.words[call.lock] = word & keep;
-        self.calls[thread] = Some(call.told(Seen::Before(word)));
-        settle(&mut self.calls, thread, Told::TryAgain);
+        self.calls[thread] = Some(call.told(ActResult::Before(word)));
+        settle(&mut self.calls, thread, WakeResult::TryAgain);
     }
 
     /// It spins for a round.
@@ -173,7 +174,7 @@ impl<A: Allocator> RowMachine<A> {
         requires asked { core_act call.core ≡ act.Spin }
         ensures { state self.new ≡ spun (state self.old) thread call }
     {
-        self.calls[thread] = Some(call.told(Seen::Spun(true)));
+        self.calls[thread] = Some(call.told(ActResult::Spun(true)));
     }
 
     /// It enters a section, where nobody is in one.
@@ -185,7 +186,7 @@ impl<A: Allocator> RowMachine<A> {
         ensures { state self.new ≡ entered (state self.old) thread call which }
     {
         lot_calls::enter(&mut self.lot, thread, call.key(which));
-        self.calls[thread] = Some(call.told(Seen::Entered));
+        self.calls[thread] = Some(call.told(ActResult::Entered));
     }
 
     /// It looks at the word in its section.
@@ -194,7 +195,7 @@ impl<A: Allocator> RowMachine<A> {
         requires asked { core_act call.core ≡ act.Section section.Check }
         ensures { state self.new ≡ checked (state self.old) thread call }
     {
-        let next = call.told(Seen::Word(self.word(call.lock)));
+        let next = call.told(ActResult::Word(self.word(call.lock)));
         lot_calls::check(&mut self.lot, thread, next.core.joins());
         self.calls[thread] = Some(next);
     }
@@ -238,12 +239,12 @@ impl<A: Allocator> RowMachine<A> {
         ensures { state self.new ≡ told_all (state self.old) thread call change fair }
     {
         let word = self.word(call.lock);
-        let next = call.told(Seen::Stored { fair });
+        let next = call.told(ActResult::Stored { fair });
         let token = next.core.wake_token();
         lot_calls::store(&mut self.lot, thread, token);
         self.words[call.lock] = change.of(word);
         self.calls[thread] = Some(next);
-        settle(&mut self.calls, thread, Told::by(token));
+        settle(&mut self.calls, thread, WakeResult::by(token));
     }
 
     /// It leaves its section.
@@ -253,7 +254,7 @@ impl<A: Allocator> RowMachine<A> {
         ensures { state self.new ≡ left (state self.old) thread call }
     {
         lot_calls::leave(&mut self.lot, thread);
-        self.calls[thread] = Some(call.told(Seen::Made));
+        self.calls[thread] = Some(call.told(ActResult::Made));
     }
 
     /// It wakes the first whom it has taken.
@@ -267,7 +268,7 @@ impl<A: Allocator> RowMachine<A> {
         let token = lot_calls::rouse(&mut self.lot, wakeup.thread, wakeup.mark);
         let sleeper = call_in(&self.calls, wakeup.thread);
         self.calls[wakeup.thread] = woken(sleeper, token);
-        self.calls[thread] = Some(call.told(Seen::Made));
+        self.calls[thread] = Some(call.told(ActResult::Made));
     }
 
     /// A call begins.
@@ -275,7 +276,7 @@ impl<A: Allocator> RowMachine<A> {
         requires may { MayBegin (state self.old) thread call }
         ensures { state self.new ≡ begun (state self.old) thread call }
     {
-        self.calls[thread] = Some(call.told(Seen::Start));
+        self.calls[thread] = Some(call.told(ActResult::Start));
     }
 
     /// Its call is over.

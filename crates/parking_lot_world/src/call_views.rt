@@ -4,16 +4,17 @@ ghost use Rattle.parking_lot_rules.specs.Roles.{Scans1};
 ghost use Rattle.parking_lot_rules.specs.Debts as rw_debts;
 ghost use Rattle.parking_lot_rules.specs.MutexDebts as mutex_debts;
 ghost use Rattle.parking_lot_rules.specs.Owners.{Reading, owner_for_good, owner_of};
-ghost use Rattle.parking_lot_cores.specs.MutexRules as of_mutex;
-ghost use Rattle.parking_lot_cores.specs.RwRules as of_rw;
-ghost use Rattle.parking_lot_cores.specs.declared.rw_phase.RwPhase.TheVariants as phase;
+ghost use Rattle.parking_lot_protocol.specs.MutexRules as of_mutex;
+ghost use Rattle.parking_lot_protocol.specs.RwRules as of_rw;
+ghost use Rattle.parking_lot_protocol.specs.declared.rw_phase.RwPhase.TheVariants as phase;
 ghost use Rattle.parking_lot_world.specs.CallViews.{call_asleep, call_in_debt, call_looks, call_mode, mode_of, mutex_mode, rw_mode};
 ghost use Rattle.parking_lot_world.specs.Rows.{mutex_spot, rw_spot};
 ghost use Rattle.parking_lot_world.specs.Stances.{rw_taken, taken_count};
 
 use crate::calls::OwnMode;
-use crate::seat::{Call, Core, Spot, Told};
-use parking_lot_cores::{CoreAnswer, MutexPhase, Outcome, Rest, RwPhase, Want};
+use crate::open_call::Call;
+use crate::seat::{Core, QueuePosition, WakeResult};
+use parking_lot_protocol::{AfterWake, CoreAnswer, LockMode, MutexPhase, Outcome, RwPhase};
 
 /// How one owns a lock that has so many shared holds of it.
 fn readers_mode(holds: u8) -> Option<OwnMode>
@@ -27,7 +28,7 @@ fn readers_mode(holds: u8) -> Option<OwnMode>
 }
 
 /// How one owns a mutex in such a phase.
-fn mutex_mode(phase: MutexPhase, spot: Spot) -> Option<OwnMode>
+fn mutex_mode(phase: MutexPhase, spot: QueuePosition) -> Option<OwnMode>
     ensures { (v : ℕ) → result ≡ mutex_mode (of_mutex.role (mutex_spot spot) v phase) }
 {
     match phase {
@@ -41,7 +42,7 @@ fn mutex_mode(phase: MutexPhase, spot: Spot) -> Option<OwnMode>
             Some(OwnMode::Exclusive)
         }
         MutexPhase::Sleeps => match spot {
-            Spot::Off(_, Told::HandedOver) => Some(OwnMode::Exclusive),
+            QueuePosition::Off(_, WakeResult::HandedOver) => Some(OwnMode::Exclusive),
             _ => None,
         },
         _ => None,
@@ -49,26 +50,26 @@ fn mutex_mode(phase: MutexPhase, spot: Spot) -> Option<OwnMode>
 }
 
 /// How one owns a lock that sleeps until it may have it.
-fn sleeper_mode(want: Want, spot: Spot, others: u8) -> Option<OwnMode>
+fn sleeper_mode(want: LockMode, spot: QueuePosition, others: u8) -> Option<OwnMode>
     ensures { (us : List ℕ) → result ≡ rw_mode (of_rw.role others (rw_spot spot) us (phase.Sleeps want)) }
 {
     match spot {
-        Spot::Off(_, Told::HandedOver) => match want {
-            Want::Shared(_) => Some(OwnMode::Shared),
-            Want::Exclusive => Some(OwnMode::Pending),
+        QueuePosition::Off(_, WakeResult::HandedOver) => match want {
+            LockMode::Shared(_) => Some(OwnMode::Shared),
+            LockMode::Exclusive => Some(OwnMode::Pending),
         },
         _ => readers_mode(others),
     }
 }
 
 /// How one owns a lock that has stored in the section in which it gives it up or downgrades it.
-fn rest_mode(rest: Rest, others: u8) -> Option<OwnMode>
+fn rest_mode(rest: AfterWake, others: u8) -> Option<OwnMode>
     ensures { result ≡ mode_of (owner_for_good (of_rw.owned_at_last others rest)) }
 {
     match rest {
-        Rest::FreedShared | Rest::AgainShared => readers_mode(others),
-        Rest::FreedExclusive | Rest::AgainExclusive => None,
-        Rest::Downgraded => Some(OwnMode::Shared),
+        AfterWake::FreedShared | AfterWake::AgainShared => readers_mode(others),
+        AfterWake::FreedExclusive | AfterWake::AgainExclusive => None,
+        AfterWake::Downgraded => Some(OwnMode::Shared),
     }
 }
 
@@ -85,54 +86,56 @@ fn outcome_mode(outcome: Outcome, others: u8) -> Option<OwnMode>
 }
 
 /// How one owns a lock that is about to give it up or to change its hold.
-fn asker_mode(want: Want) -> Option<OwnMode>
+fn asker_mode(want: LockMode) -> Option<OwnMode>
     ensures { (n : ℕ) → result ≡ mode_of (owner_for_good (of_rw.owned_by n want)) }
 {
     match want {
-        Want::Shared(_) => Some(OwnMode::Shared),
-        Want::Exclusive => Some(OwnMode::Exclusive),
+        LockMode::Shared(_) => Some(OwnMode::Shared),
+        LockMode::Exclusive => Some(OwnMode::Exclusive),
     }
 }
 
 /// How one owns a lock that has begun to go through the list.
-fn giver_mode(rest: Rest) -> Option<OwnMode>
+fn giver_mode(rest: AfterWake) -> Option<OwnMode>
     ensures { (n : ℕ) (shared : ℕ) (upgradable writer : Bool) (us : List ℕ) → result ≡ mode_of (owner_of (of_rw.owned_at_last n rest) (Scans1 (of_rw.cause_of rest) shared upgradable writer us)) }
 {
     match rest {
-        Rest::FreedShared | Rest::FreedExclusive => Some(OwnMode::Exclusive),
-        Rest::AgainShared | Rest::AgainExclusive => Some(OwnMode::Exclusive),
-        Rest::Downgraded => Some(OwnMode::Shared),
+        AfterWake::FreedShared | AfterWake::FreedExclusive => Some(OwnMode::Exclusive),
+        AfterWake::AgainShared | AfterWake::AgainExclusive => Some(OwnMode::Exclusive),
+        AfterWake::Downgraded => Some(OwnMode::Shared),
     }
 }
 
 /// How one owns a reader-writer lock in such a phase.
-fn rw_mode(phase: RwPhase, spot: Spot, others: u8) -> Option<OwnMode>
+fn rw_mode(phase: RwPhase, spot: QueuePosition, others: u8) -> Option<OwnMode>
     ensures { (us : List ℕ) → result ≡ rw_mode (of_rw.role others (rw_spot spot) us phase) }
 {
     use RwPhase::*;
     match phase {
-        UnlockingShared | BumpingShared | Unshares(_) | Owes => Some(OwnMode::Shared),
+        UnlockingShared | BumpingShared | Unshares(_) | EnterWakeSection => Some(OwnMode::Shared),
         UnlockingExclusive(_) | BumpingExclusive | Downgrading => Some(OwnMode::Exclusive),
         Unlocks(_, _) | LooksExclusive(_, _) | Downgrades => Some(OwnMode::Exclusive),
-        Loads2(_) | Spins2(_) | Flags2(_, _) | Enters2(_) => Some(OwnMode::Pending),
-        Checks2(_) | Retreats2(_) | Appends2(_) => Some(OwnMode::Pending),
-        Rests2(_) | Sleeps2(_) => Some(OwnMode::Pending),
+        DrainLoads(_) | DrainSpins(_) | DrainSetParked(_, _) | DrainEnters(_) => Some(
+            OwnMode::Pending,
+        ),
+        DrainChecks(_) | DrainRetreats(_) | DrainAppends(_) => Some(OwnMode::Pending),
+        DrainRests(_) | DrainSleeps(_) => Some(OwnMode::Pending),
         BumpLoads(want) => asker_mode(want),
         Sleeps(want) => sleeper_mode(want, spot, others),
         Scans(scanning) | Stores(scanning, _) => giver_mode(scanning.rest),
         Leaves(rest, _, _) | Wakes(rest, _) | Finishes(rest) => rest_mode(rest, others),
         Ends(outcome) => outcome_mode(outcome, others),
         Locking(_) | Trying(_) | Loads(_) | Admits(_, _) | Spins(_) => readers_mode(others),
-        Flags(_, _) | Enters(_, _) | Checks(_, _) | Retreats(_, _) => readers_mode(others),
+        SetParked(_, _) | Enters(_, _) | Checks(_, _) | Retreats(_, _) => readers_mode(others),
         Appends(_) | Rests(_) | TryLoads(_) | TryAdmits(_, _, _) => readers_mode(others),
-        Refuses(_) | Relocks(_) | Owes2(_) | Takes2(_) => readers_mode(others),
-        Masks2(_, _) | Leaves2(_, _) | Strays => readers_mode(others),
+        Refuses(_) | Relocks(_) | EnterWriterWakeSection(_) | TakeWriter(_) => readers_mode(others),
+        ClearWriterParked(_, _) | LeaveWriterWakeSection(_, _) | Invalid => readers_mode(others),
     }
 }
 
 /// Whether one is in debt at a mutex in such a phase: it is inside a section, is still to wake another, or was woken to try again.
 fn mutex_in_debt(phase: MutexPhase) -> bool
-    ensures { (at : of_mutex.Spot) (v : ℕ) → result ≡ mutex_debts.is_in_debt (of_mutex.does at v phase) }
+    ensures { (at : of_mutex.QueuePosition) (v : ℕ) → result ≡ mutex_debts.is_in_debt (of_mutex.does at v phase) }
 {
     use MutexPhase::*;
     match phase {
@@ -143,33 +146,37 @@ fn mutex_in_debt(phase: MutexPhase) -> bool
         Sleeps => false,
         Locking | Trying | Unlocking(_) | Bumping => false,
         TryLoads | TryLocks(_, _) | Refuses | BumpLoads | Relocks => false,
-        Unlocks(_) | Looks(_) | Finishes(_) | Ends(_) | Strays => false,
+        Unlocks(_) | Looks(_) | Finishes(_) | Ends(_) | Invalid => false,
     }
 }
 
 /// The same at a reader-writer lock.
 fn rw_in_debt(phase: RwPhase) -> bool
-    ensures { (at : of_rw.Spot) (us : List ℕ) → length us ≡ rw_taken phase → result ≡ rw_debts.is_in_debt (of_rw.does at us phase) }
+    ensures { (at : of_rw.QueuePosition) (us : List ℕ) → length us ≡ rw_taken phase → result ≡ rw_debts.is_in_debt (of_rw.does at us phase) }
 {
     use RwPhase::*;
     match phase {
-        Loads(seeking) | Admits(seeking, _) | Spins(seeking) | Flags(seeking, _) => seeking.woken,
+        Loads(seeking) | Admits(seeking, _) | Spins(seeking) | SetParked(seeking, _) =>
+            seeking.woken,
         Enters(_, woken) => woken,
-        Loads2(draining) | Spins2(draining) | Flags2(draining, _) => draining.woken,
-        Enters2(draining) => draining.woken,
+        DrainLoads(draining) | DrainSpins(draining) | DrainSetParked(draining, _) => draining.woken,
+        DrainEnters(draining) => draining.woken,
         Checks(_, _) | Retreats(_, _) | Appends(_) | Rests(_) => true,
-        Checks2(_) | Retreats2(_) | Appends2(_) | Rests2(_) => true,
-        Owes2(_) | Takes2(_) | Masks2(_, _) | Leaves2(_, _) => true,
-        Owes | Scans(_) | Stores(_, _) | Leaves(_, _, _) => true,
+        DrainChecks(_) | DrainRetreats(_) | DrainAppends(_) | DrainRests(_) => true,
+        EnterWriterWakeSection(_)
+        | TakeWriter(_)
+        | ClearWriterParked(_, _)
+        | LeaveWriterWakeSection(_, _) => true,
+        EnterWakeSection | Scans(_) | Stores(_, _) | Leaves(_, _, _) => true,
         Wakes(_, count) => count > 0,
         Finishes(_) => false,
         Sleeps(_) => false,
-        Sleeps2(_) => false,
+        DrainSleeps(_) => false,
         Locking(_) | Trying(_) | UnlockingShared | UnlockingExclusive(_) => false,
         Downgrading | BumpingShared | BumpingExclusive => false,
         TryLoads(_) | TryAdmits(_, _, _) | Refuses(_) | BumpLoads(_) | Relocks(_) => false,
         Unshares(_) | Unlocks(_, _) | LooksExclusive(_, _) | Downgrades => false,
-        Ends(_) | Strays => false,
+        Ends(_) | Invalid => false,
     }
 }
 
@@ -205,7 +212,7 @@ impl Call {
                 _ => false,
             },
             Core::Rw(core) => match core.phase() {
-                RwPhase::Sleeps(_) | RwPhase::Sleeps2(_) => true,
+                RwPhase::Sleeps(_) | RwPhase::DrainSleeps(_) => true,
                 _ => false,
             },
         }

@@ -2,7 +2,7 @@
 ghost use Rattle.std.specs.Prelude.{◌≡◌};
 ghost use Rattle.parking_lot_world.specs.Calls.{answer_of, given_up, kind_of};
 
-use parking_lot_cores::CoreAnswer;
+use parking_lot_protocol::CoreAnswer;
 
 /// The kind of a lock.
 #[derive(Clone, Copy, PartialEq, Eq, Debug)]

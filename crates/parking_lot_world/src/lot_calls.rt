@@ -10,13 +10,13 @@ ghost use Rattle.parking_lot_core.specs.declared.place.Waiter.{Waiter};
 ghost use Rattle.parking_lot_core.specs.Places.{place_at, may_check, may_join, may_store, may_take, passed_of};
 ghost use Rattle.parking_lot_core.specs.Sound.{Sound};
 ghost use Rattle.parking_lot_core.specs.Machine.{machine, any_phase, closed, enter_fault, in_phase, joined, opened, section_of, step_fault, stored};
-ghost use Rattle.parking_lot_cores.specs.Wake.{wake_answer};
+ghost use Rattle.parking_lot_protocol.specs.Wake.{wake_answer};
 ghost use Rattle.parking_lot_world.specs.FrontTakings.{FrontTaken};
 
 use parking_lot_core::{
     DEFAULT_UNPARK_TOKEN, FilterOp, Lot, ParkResult, ParkToken, Taking, UnparkToken,
 };
-use parking_lot_cores::wake_sum;
+use parking_lot_protocol::wake_sum;
 use std::alloc::Allocator;
 
 /// Opens a section of a key.

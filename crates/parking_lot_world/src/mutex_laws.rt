@@ -1,6 +1,6 @@
 //! Laws of mutexes: what the calls' cores are told is a step of the rules.
 ghost use Rattle.std.specs.Prelude.{◌≡◌, true};
-ghost use Rattle.parking_lot_cores.specs.declared.act.Seen.{Seen};
+ghost use Rattle.parking_lot_protocol.specs.declared.act.ActResult.{ActResult};
 ghost use Rattle.parking_lot_world.specs.declared.seat.Core.{Core};
 ghost use Rattle.parking_lot_world.specs.Stances.{core_next, has_begun};
 ghost use Rattle.parking_lot_world.specs.MutexLaws.{MutexAnswersAreSteps, MutexIsShown, MutexRolesAreKnown, MutexWordsAreNumbers};
@@ -23,7 +23,7 @@ pub fn roles_at_a_mutex_are_known()
 
 /// A call that was told that it begins has begun, and goes on so.
 pub fn calls_that_have_begun_go_on()
-    ensures { (c : Core) (s : Seen) → has_begun (core_next c s) ≡ true }
+    ensures { (c : Core) (s : ActResult) → has_begun (core_next c s) ≡ true }
 {}
 
 /// What the machine keeps of threads at a mutex is what the rules say of them: where one stores, all are told that it took; where a

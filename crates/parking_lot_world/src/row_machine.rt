@@ -1,15 +1,16 @@
 //! The machine of locks: words, lists and a call for each thread, moved one atomic step at a time.
 ghost use Rattle.std.specs.Prelude.{◌≡◌, ◌<◌, ◌↔◌, ◌⊎◌, ◌^◌, length, slice_get, Some, None, true, if◌then◌else◌, IsErrOf, IfOk, IfErr, IsTrue};
 ghost use Rattle.parking_lot_core.specs.declared.fault.SizeFault.TheVariants.{BadSize, NoMemory};
-ghost use Rattle.parking_lot_cores.specs.declared.act.Act.TheVariants as act;
+ghost use Rattle.parking_lot_protocol.specs.declared.act.Act.TheVariants as act;
 ghost use Rattle.parking_lot_world.specs.Stances.{core_act};
 ghost use Rattle.parking_lot_world.specs.Rows.{call_at, hold_at, state, word_at};
 ghost use Rattle.parking_lot_world.specs.Machines.{at_rest, can_move, may_begin, IsBegun, IsStepped};
 
 use crate::calls::{LockCall, LockKind};
-use crate::seat::{Call, Hold, Spot, Wakeup};
+use crate::open_call::Call;
+use crate::seat::{Hold, QueuePosition, Wakeup};
 use parking_lot_core::{Lot, SizeFault};
-use parking_lot_cores::{Act, CoreAnswer, SectionAct, WordChange};
+use parking_lot_protocol::{Act, CoreAnswer, SectionAct, WordChange};
 use std::alloc::{Allocator, Global};
 use std::marker::Model;
 
@@ -138,7 +139,7 @@ impl<A: Allocator> RowMachine<A> {
                 lock,
                 others,
                 core: call.core(),
-                spot: Spot::Listed,
+                spot: QueuePosition::Listed,
             },
         );
     }
@@ -158,7 +159,7 @@ impl<A: Allocator> RowMachine<A> {
             Act::Load => self.load(thread, call),
             Act::Exchange(from, to) => self.exchange(thread, call, from, to),
             Act::Add(by) => self.add(thread, call, by),
-            Act::Mask(keep) => self.mask(thread, call, keep),
+            Act::FetchAnd(keep) => self.mask(thread, call, keep),
             Act::Spin => self.spin(thread, call),
             Act::Enter(which) => self.enter(thread, call, which),
             Act::Section(next) => self.step_in_section(thread, call, next, fair),

@@ -1,55 +1,50 @@
 //! What a machine of locks keeps of each thread.
-ghost use Rattle.std.specs.Prelude.{◌≡◌, ◌≤◌, ◌^◌, ℕ};
-ghost use Rattle.parking_lot_cores.specs.declared.act.Seen.TheVariants as seen;
-ghost use Rattle.parking_lot_world.specs.declared.seat.Spot.TheVariants as spot;
+ghost use Rattle.std.specs.Prelude.{◌≡◌, ◌≤◌, ℕ};
 ghost use Rattle.parking_lot_world.specs.Stances.{In, Takes, core_act, core_next, core_tells, stance};
-ghost use Rattle.parking_lot_world.specs.RowActs.{hears, hold_after, mutex_hold_after, rw_hold_after, joins, key_of, off_list, settled, settled_spot, told_of};
+ghost use Rattle.parking_lot_world.specs.RowActs.{hold_after, mutex_hold_after, rw_hold_after, joins, settled_spot, told_of};
 
 use parking_lot_core::UnparkToken;
-use parking_lot_cores::{
-    Act, CoreAnswer, HAND_OVER, MutexCore, MutexPhase, Outcome, Rest, RwCore, RwPhase, SectionAct,
-    Seen,
+use parking_lot_protocol::{
+    Act, ActResult, AfterWake, CoreAnswer, HAND_OVER, MutexCore, MutexPhase, Outcome, RwCore,
+    RwPhase, SectionAct,
 };
 
 /// What a thread owns of a lock between its calls: so many shared holds, or the exclusive one.
 #[derive(Clone, Copy, PartialEq, Eq, Debug)]
 pub enum Hold {
+    /// So many shared holds; with none it owns nothing.
     Shares(u8),
+    /// The exclusive hold.
     Excludes,
 }
 
 /// What one that took a sleeper off its list has told it: nothing yet, that it is to try again, or that it has the lock.
 #[derive(Clone, Copy, PartialEq, Eq, Debug)]
-pub enum Told {
+pub enum WakeResult {
+    /// Nothing yet.
     Nothing,
+    /// That it is to try again.
     TryAgain,
+    /// That it has the lock.
     HandedOver,
 }
 
 /// Where a thread that sleeps stands: in its list, or off it, taken by another.
 #[derive(Clone, Copy, PartialEq, Eq, Debug)]
-pub enum Spot {
+pub enum QueuePosition {
+    /// In its list.
     Listed,
-    Off(usize, Told),
+    /// Off it: who took it, and what that thread has told it.
+    Off(usize, WakeResult),
 }
 
 /// The core of a call, by the kind of its lock.
 #[derive(Clone, Copy)]
 pub enum Core {
+    /// At a mutex.
     Mutex(MutexCore),
+    /// At a reader-writer lock.
     Rw(RwCore),
-}
-
-/// A call that isn't answered yet.
-#[derive(Clone, Copy)]
-pub struct Call {
-    /// The lock's number.
-    pub lock: usize,
-    /// How many shared holds of the lock the thread has beside the one that the call is about.
-    pub others: u8,
-    pub core: Core,
-    /// Where it stands, while it sleeps.
-    pub spot: Spot,
 }
 
 /// A thread that another has taken off its list and is still to wake.
@@ -57,31 +52,34 @@ pub struct Call {
 pub struct Wakeup {
     /// Who is to wake it.
     pub by: usize,
+    /// The thread.
     pub thread: usize,
     /// The mark of the sleep that it was taken out of.
     pub mark: u64,
 }
 
-impl Told {
+impl WakeResult {
     /// What sleepers are told by a token.
-    pub fn by(token: UnparkToken) -> Told
+    pub fn by(token: UnparkToken) -> WakeResult
         ensures { result ≡ told_of token }
     {
         if token.0 == HAND_OVER.0 {
-            Told::HandedOver
+            WakeResult::HandedOver
         } else {
-            Told::TryAgain
+            WakeResult::TryAgain
         }
     }
 }
 
-impl Spot {
+impl QueuePosition {
     /// The spot once a thread has told all whom it has taken.
-    fn settled(self, by: usize, said: Told) -> Spot
+    pub(crate) fn settled(self, by: usize, said: WakeResult) -> QueuePosition
         ensures { result ≡ settled_spot by said self }
     {
         match self {
-            Spot::Off(taker, Told::Nothing) if taker == by => Spot::Off(taker, said),
+            QueuePosition::Off(taker, WakeResult::Nothing) if taker == by => QueuePosition::Off(
+                taker, said,
+            ),
             spot => spot,
         }
     }
@@ -99,7 +97,7 @@ impl Core {
     }
 
     /// The core once it is told what its act gave.
-    pub fn told(self, seen: Seen) -> Core
+    pub fn told(self, seen: ActResult) -> Core
         ensures { result ≡ core_next self seen }
     {
         match self {
@@ -140,7 +138,7 @@ impl Core {
     {
         match self {
             Core::Rw(core) => match core.phase() {
-                RwPhase::Takes2(_) => 1,
+                RwPhase::TakeWriter(_) => 1,
                 _ => 0,
             },
             Core::Mutex(_) => 0,
@@ -175,72 +173,13 @@ fn rw_hold_after(phase: RwPhase, others: u8) -> Hold
     ensures { result ≡ rw_hold_after others phase }
 {
     match phase {
-        RwPhase::Finishes(Rest::FreedShared | Rest::AgainShared) => Hold::Shares(others),
-        RwPhase::Finishes(Rest::FreedExclusive | Rest::AgainExclusive) => Hold::Shares(0),
-        RwPhase::Finishes(Rest::Downgraded) | RwPhase::Ends(Outcome::Downgraded) => Hold::Shares(1),
+        RwPhase::Finishes(AfterWake::FreedShared | AfterWake::AgainShared) => Hold::Shares(others),
+        RwPhase::Finishes(AfterWake::FreedExclusive | AfterWake::AgainExclusive) => Hold::Shares(0),
+        RwPhase::Finishes(AfterWake::Downgraded) | RwPhase::Ends(Outcome::Downgraded) =>
+            Hold::Shares(1),
         RwPhase::Ends(Outcome::Shared) => Hold::Shares(others + 1),
         RwPhase::Ends(Outcome::Exclusive) => Hold::Excludes,
         RwPhase::Ends(Outcome::FreedExclusive) => Hold::Shares(0),
         _ => Hold::Shares(others),
-    }
-}
-
-impl Call {
-    /// The call once it is told what its act gave.
-    pub fn told(self, seen: Seen) -> Call
-        ensures { result ≡ hears self seen }
-    {
-        Call {
-            core: self.core.told(seen),
-            ..self
-        }
-    }
-
-    /// The call once it has joined a list.
-    pub fn listed(self) -> Call
-        ensures { result ≡ record (hears self seen.Made) { spot = spot.Listed } }
-    {
-        Call {
-            spot: Spot::Listed,
-            ..self.told(Seen::Made)
-        }
-    }
-
-    /// The call of a sleeper once it is woken.
-    pub fn woken(self, token: UnparkToken) -> Call
-        ensures { result ≡ record (hears self (seen.Woken token)) { spot = spot.Listed } }
-    {
-        Call {
-            spot: Spot::Listed,
-            ..self.told(Seen::Woken(token))
-        }
-    }
-
-    /// The lot's key of the lock's first list, or of its second.
-    pub fn key(&self, which: u8) -> usize
-        requires small { self.now.lock ≤ 2 ^ 62 }
-        ensures { result ≡ key_of self.now which }
-    {
-        2 * self.lock + usize::from(which)
-    }
-
-    /// The call of a sleeper once a thread has taken it off its list.
-    pub fn off_list(self, by: usize) -> Call
-        ensures { result ≡ off_list by self }
-    {
-        Call {
-            spot: Spot::Off(by, Told::Nothing),
-            ..self
-        }
-    }
-
-    /// The call once a thread has told all whom it has taken.
-    pub fn settled(self, by: usize, said: Told) -> Call
-        ensures { result ≡ settled by said self }
-    {
-        Call {
-            spot: self.spot.settled(by, said),
-            ..self
-        }
     }
 }

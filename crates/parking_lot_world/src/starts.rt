@@ -4,7 +4,7 @@ ghost use Rattle.parking_lot_world.specs.Beginnings.{AllowedCallsBeginWell, core
 
 use crate::calls::LockCall;
 use crate::seat::{Core, Hold};
-use parking_lot_cores::{MutexCore, RwCore};
+use parking_lot_protocol::{MutexCore, RwCore};
 
 impl LockCall {
     /// The core of such a call, before it begins.

@@ -2,7 +2,8 @@
 
 use parking_lot_core::ParkToken;
 use parking_lot_world::{
-    Call, Core, HAND_OVER, MutexCore, OwnMode, RwCore, Seen, Spot, TRY_AGAIN, Told,
+    ActResult, Call, Core, HAND_OVER, MutexCore, OwnMode, QueuePosition, RwCore, TRY_AGAIN,
+    WakeResult,
 };
 use std::process::Abort;
 
@@ -12,12 +13,12 @@ fn call_of(core: Core) -> Call {
         lock: 0,
         others: 0,
         core,
-        spot: Spot::Listed,
+        spot: QueuePosition::Listed,
     }
 }
 
 /// What a call is told, and how its thread owns the lock then, whether it looks next, is in debt, and sleeps.
-type Line = (Seen, Option<OwnMode>, bool, bool, bool);
+type Line = (ActResult, Option<OwnMode>, bool, bool, bool);
 
 fn follow(rt: &impl Abort, call: Call, lines: &[Line]) -> Call {
     let mut call = call;
@@ -31,9 +32,9 @@ fn follow(rt: &impl Abort, call: Call, lines: &[Line]) -> Call {
 }
 
 /// One that took it off its list has told it so.
-fn owns_off_list(rt: &impl Abort, call: Call, told: Told, owns: Option<OwnMode>) {
+fn owns_off_list(rt: &impl Abort, call: Call, told: WakeResult, owns: Option<OwnMode>) {
     let call = Call {
-        spot: Spot::Off(3, told),
+        spot: QueuePosition::Off(3, told),
         ..call
     };
     let is_owned = call.owns() == owns;
@@ -43,8 +44,8 @@ fn owns_off_list(rt: &impl Abort, call: Call, told: Told, owns: Option<OwnMode>)
     );
 }
 
-fn taken(token: usize, left: bool) -> Seen {
-    Seen::Took {
+fn taken(token: usize, left: bool) -> ActResult {
+    ActResult::Took {
         token: Some(ParkToken(token)),
         left,
     }
@@ -62,31 +63,31 @@ fn a_locker_sleeps_and_is_woken(rt: HostRuntime) {
         &rt,
         call_of(Core::Mutex(MutexCore::lock())),
         &[
-            (Seen::Start, None, false, false, false),
-            (Seen::Word(1), None, false, false, false),
-            (Seen::Spun(false), None, false, false, false),
-            (Seen::Exchanged, None, false, false, false),
-            (Seen::Entered, None, false, true, false),
-            (Seen::Word(3), None, false, true, false),
-            (Seen::Made, None, false, true, false),
-            (Seen::Made, None, false, false, true),
+            (ActResult::Start, None, false, false, false),
+            (ActResult::Word(1), None, false, false, false),
+            (ActResult::Spun(false), None, false, false, false),
+            (ActResult::Exchanged, None, false, false, false),
+            (ActResult::Entered, None, false, true, false),
+            (ActResult::Word(3), None, false, true, false),
+            (ActResult::Made, None, false, true, false),
+            (ActResult::Made, None, false, false, true),
         ],
     );
-    owns_off_list(&rt, asleep, Told::Nothing, None);
-    owns_off_list(&rt, asleep, Told::TryAgain, None);
-    owns_off_list(&rt, asleep, Told::HandedOver, EXCLUSIVE);
+    owns_off_list(&rt, asleep, WakeResult::Nothing, None);
+    owns_off_list(&rt, asleep, WakeResult::TryAgain, None);
+    owns_off_list(&rt, asleep, WakeResult::HandedOver, EXCLUSIVE);
     follow(
         &rt,
         asleep,
-        &[(Seen::Woken(HAND_OVER), EXCLUSIVE, false, false, false)],
+        &[(ActResult::Woken(HAND_OVER), EXCLUSIVE, false, false, false)],
     );
     follow(
         &rt,
         asleep,
         &[
-            (Seen::Woken(TRY_AGAIN), None, false, true, false),
-            (Seen::Word(0), None, false, true, false),
-            (Seen::Exchanged, EXCLUSIVE, false, false, false),
+            (ActResult::Woken(TRY_AGAIN), None, false, true, false),
+            (ActResult::Word(0), None, false, true, false),
+            (ActResult::Exchanged, EXCLUSIVE, false, false, false),
         ],
     );
 }
@@ -97,13 +98,13 @@ fn an_unlock_is_in_debt_until_it_has_woken_the_first(rt: HostRuntime) {
         &rt,
         call_of(Core::Mutex(MutexCore::unlock())),
         &[
-            (Seen::Start, EXCLUSIVE, false, false, false),
-            (Seen::Word(3), EXCLUSIVE, true, false, false),
-            (Seen::Entered, EXCLUSIVE, false, true, false),
+            (ActResult::Start, EXCLUSIVE, false, false, false),
+            (ActResult::Word(3), EXCLUSIVE, true, false, false),
+            (ActResult::Entered, EXCLUSIVE, false, true, false),
             (taken(0, true), EXCLUSIVE, false, true, false),
-            (Seen::Stored { fair: true }, None, false, true, false),
-            (Seen::Made, None, false, true, false),
-            (Seen::Made, None, false, false, false),
+            (ActResult::Stored { fair: true }, None, false, true, false),
+            (ActResult::Made, None, false, true, false),
+            (ActResult::Made, None, false, false, false),
         ],
     );
 }
@@ -114,34 +115,34 @@ fn a_writer_is_pending_while_readers_are_left(rt: HostRuntime) {
         &rt,
         call_of(Core::Rw(RwCore::lock_exclusive())),
         &[
-            (Seen::Start, None, false, false, false),
-            (Seen::Word(16), None, false, false, false),
-            (Seen::Exchanged, PENDING, false, false, false),
-            (Seen::Word(24), PENDING, false, false, false),
-            (Seen::Spun(false), PENDING, false, false, false),
-            (Seen::Word(24), PENDING, false, false, false),
-            (Seen::Exchanged, PENDING, false, false, false),
-            (Seen::Entered, PENDING, false, true, false),
-            (Seen::Word(26), PENDING, false, true, false),
-            (Seen::Made, PENDING, false, true, false),
-            (Seen::Made, PENDING, false, false, true),
-            (Seen::Woken(TRY_AGAIN), PENDING, false, true, false),
-            (Seen::Word(8), EXCLUSIVE, false, false, false),
+            (ActResult::Start, None, false, false, false),
+            (ActResult::Word(16), None, false, false, false),
+            (ActResult::Exchanged, PENDING, false, false, false),
+            (ActResult::Word(24), PENDING, false, false, false),
+            (ActResult::Spun(false), PENDING, false, false, false),
+            (ActResult::Word(24), PENDING, false, false, false),
+            (ActResult::Exchanged, PENDING, false, false, false),
+            (ActResult::Entered, PENDING, false, true, false),
+            (ActResult::Word(26), PENDING, false, true, false),
+            (ActResult::Made, PENDING, false, true, false),
+            (ActResult::Made, PENDING, false, false, true),
+            (ActResult::Woken(TRY_AGAIN), PENDING, false, true, false),
+            (ActResult::Word(8), EXCLUSIVE, false, false, false),
         ],
     );
 }
 
 /// What one is told until it sleeps, at a lock that a writer owns.
-const TO_SLEEP: [Seen; 9] = [
-    Seen::Start,
-    Seen::Word(8),
-    Seen::Spun(false),
-    Seen::Word(8),
-    Seen::Exchanged,
-    Seen::Entered,
-    Seen::Word(9),
-    Seen::Made,
-    Seen::Made,
+const TO_SLEEP: [ActResult; 9] = [
+    ActResult::Start,
+    ActResult::Word(8),
+    ActResult::Spun(false),
+    ActResult::Word(8),
+    ActResult::Exchanged,
+    ActResult::Entered,
+    ActResult::Word(9),
+    ActResult::Made,
+    ActResult::Made,
 ];
 
 #[test]
@@ -155,9 +156,9 @@ fn a_sleeper_that_was_handed_the_lock_owns_it(rt: HostRuntime) {
             call = call.told(seen);
         }
         assert!(rt; call.is_asleep() & call.owns().is_none());
-        owns_off_list(&rt, call, Told::Nothing, None);
-        owns_off_list(&rt, call, Told::TryAgain, None);
-        owns_off_list(&rt, call, Told::HandedOver, owns);
+        owns_off_list(&rt, call, WakeResult::Nothing, None);
+        owns_off_list(&rt, call, WakeResult::TryAgain, None);
+        owns_off_list(&rt, call, WakeResult::HandedOver, owns);
     }
 }
 
@@ -167,15 +168,15 @@ fn a_writer_gives_the_lock_to_two(rt: HostRuntime) {
         &rt,
         call_of(Core::Rw(RwCore::unlock_exclusive())),
         &[
-            (Seen::Start, EXCLUSIVE, false, false, false),
-            (Seen::Word(9), EXCLUSIVE, true, false, false),
-            (Seen::Entered, EXCLUSIVE, false, true, false),
+            (ActResult::Start, EXCLUSIVE, false, false, false),
+            (ActResult::Word(9), EXCLUSIVE, true, false, false),
+            (ActResult::Entered, EXCLUSIVE, false, true, false),
             (taken(16, true), EXCLUSIVE, false, true, false),
             (taken(16, false), EXCLUSIVE, false, true, false),
-            (Seen::Stored { fair: false }, None, false, true, false),
-            (Seen::Made, None, false, true, false),
-            (Seen::Made, None, false, true, false),
-            (Seen::Made, None, false, false, false),
+            (ActResult::Stored { fair: false }, None, false, true, false),
+            (ActResult::Made, None, false, true, false),
+            (ActResult::Made, None, false, true, false),
+            (ActResult::Made, None, false, false, false),
         ],
     );
 }
@@ -186,13 +187,13 @@ fn a_downgrade_leaves_a_reader_that_owes_a_look(rt: HostRuntime) {
         &rt,
         call_of(Core::Rw(RwCore::downgrade())),
         &[
-            (Seen::Start, EXCLUSIVE, false, false, false),
-            (Seen::Before(9), SHARED, false, true, false),
-            (Seen::Entered, SHARED, false, true, false),
+            (ActResult::Start, EXCLUSIVE, false, false, false),
+            (ActResult::Before(9), SHARED, false, true, false),
+            (ActResult::Entered, SHARED, false, true, false),
             (taken(16, false), SHARED, false, true, false),
-            (Seen::Stored { fair: true }, SHARED, false, true, false),
-            (Seen::Made, SHARED, false, true, false),
-            (Seen::Made, SHARED, false, false, false),
+            (ActResult::Stored { fair: true }, SHARED, false, true, false),
+            (ActResult::Made, SHARED, false, true, false),
+            (ActResult::Made, SHARED, false, false, false),
         ],
     );
 }
@@ -203,13 +204,13 @@ fn the_last_reader_owes_the_pending_writer_a_wake(rt: HostRuntime) {
         &rt,
         call_of(Core::Rw(RwCore::unlock_shared())),
         &[
-            (Seen::Start, SHARED, false, false, false),
-            (Seen::Before(26), None, false, true, false),
-            (Seen::Entered, None, false, true, false),
+            (ActResult::Start, SHARED, false, false, false),
+            (ActResult::Before(26), None, false, true, false),
+            (ActResult::Entered, None, false, true, false),
             (taken(8, false), None, false, true, false),
-            (Seen::Before(10), None, false, true, false),
-            (Seen::Made, None, false, true, false),
-            (Seen::Made, None, false, false, false),
+            (ActResult::Before(10), None, false, true, false),
+            (ActResult::Made, None, false, true, false),
+            (ActResult::Made, None, false, false, false),
         ],
     );
 }

@@ -3,9 +3,9 @@
 use super::program::{End, Program, may_answer, mode_behind};
 use super::shown::Shown;
 use parking_lot_core::{Place, ThreadStatus};
-use parking_lot_cores::{MutexPhase, RwPhase};
+use parking_lot_protocol::{MutexPhase, RwPhase};
 use parking_lot_world::{
-    Call, Core, Hold, LockAnswer, LockCall, OwnMode, Spot, Wakeup, World, WorldStep,
+    Call, Core, Hold, LockAnswer, LockCall, OwnMode, QueuePosition, Wakeup, World, WorldStep,
 };
 
 /// A call that isn't answered, and what was seen since it began.
@@ -193,7 +193,7 @@ enum Phase {
 
 /// An unanswered call: where it stands, how many holds its thread has beside, and where it is while it sleeps.
 #[derive(Clone, Copy, PartialEq, Eq)]
-struct Standing(Phase, u8, Spot);
+struct Standing(Phase, u8, QueuePosition);
 
 impl Standing {
     fn of(call: Call) -> Standing {

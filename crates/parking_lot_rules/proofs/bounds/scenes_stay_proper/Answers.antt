@@ -1,4 +1,4 @@
-use Rattle.parking_lot_rules.proofs.Propering.{scenes_stay_proper}
+use Rattle.parking_lot_rules.proofs.ProgressInvariant.{scenes_stay_proper}
 use Rattle.parking_lot_rules.proofs.bounds.scenes_stay_proper.Goals as goal
 
 pub returns : goal.returns

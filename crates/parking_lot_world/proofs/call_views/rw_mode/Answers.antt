@@ -1,5 +1,5 @@
 use Rattle.std.proofs.Common.{⊎_elim, sym, ap, ◌∙◌}
-use Rattle.parking_lot_cores.specs.RwRules as of_rw
+use Rattle.parking_lot_protocol.specs.RwRules as of_rw
 use Rattle.parking_lot_world.specs.CallViews.{rw_mode}
 use Rattle.parking_lot_world.specs.Rows.{rw_spot}
 use Rattle.parking_lot_world.proofs.call_views.rw_mode.Goals as goal

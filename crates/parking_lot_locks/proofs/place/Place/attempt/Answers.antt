@@ -1,5 +1,5 @@
 use Rattle.std.proofs.Common.{◌∙◌, ℕ, ◌∷◌, ap, subst}
-use Rattle.parking_lot_cores.specs.Acts.{Gives}
+use Rattle.parking_lot_protocol.specs.Acts.{Gives}
 use Rattle.parking_lot_locks.proofs.place.Place.attempt.Goals as goal
 
 -- the act on the word gave what the core is told next

@@ -1,7 +1,7 @@
 use Rattle.std.proofs.Common.{ℕ, ◌+◌, ◌%◌, ◌^◌, sym, ap, ◌∙◌, subst, arith}
 use Rattle.parking_lot_world.proofs.Calling.{room_set}
-use Rattle.parking_lot_cores.specs.declared.act.Seen.TheVariants as seen
-use Rattle.parking_lot_world.specs.declared.seat.Call.{Call}
+use Rattle.parking_lot_protocol.specs.declared.act.ActResult.TheVariants as seen
+use Rattle.parking_lot_world.specs.declared.open_call.Call.{Call}
 use Rattle.parking_lot_world.specs.Rows.{Rows, State, state}
 use Rattle.parking_lot_world.specs.RowActs.{with_call, with_word, hears}
 use Rattle.parking_lot_world.specs.RowFits.{FitsTogether}

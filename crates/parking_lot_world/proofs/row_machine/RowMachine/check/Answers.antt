@@ -3,8 +3,8 @@ use Rattle.std.proofs.Common.{Bool, cond, sym, ap, ◌∙◌, subst, arith}
 use Rattle.parking_lot_core.specs.declared.place.Phase.TheVariants as phase
 use Rattle.parking_lot_core.specs.Machine.{Machine, in_phase, machine}
 use Rattle.parking_lot_core.specs.Sound.{Sound}
-use Rattle.parking_lot_cores.specs.declared.act.Seen.TheVariants as seen
-use Rattle.parking_lot_world.specs.declared.seat.Call.{Call}
+use Rattle.parking_lot_protocol.specs.declared.act.ActResult.TheVariants as seen
+use Rattle.parking_lot_world.specs.declared.open_call.Call.{Call}
 use Rattle.parking_lot_world.specs.Rows.{Rows, State, state}
 use Rattle.parking_lot_world.specs.Stances.{stance}
 use Rattle.parking_lot_world.specs.RowActs.{with_call, with_lot, hears, joins}

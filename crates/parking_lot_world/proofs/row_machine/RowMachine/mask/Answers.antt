@@ -3,9 +3,9 @@ use Rattle.std.proofs.Common.{ℕ, false, List, map, bit_and, slice_set, Option,
 use Rattle.std.specs.Option.{option_map}
 use Rattle.parking_lot_core.specs.Machine.{Machine, stored, machine}
 use Rattle.parking_lot_core.specs.Sound.{Sound}
-use Rattle.parking_lot_cores.specs.declared.act.Seen.TheVariants as seen
-use Rattle.parking_lot_world.specs.declared.seat.Call.{Call}
-use Rattle.parking_lot_world.specs.declared.seat.Told.TheVariants as told
+use Rattle.parking_lot_protocol.specs.declared.act.ActResult.TheVariants as seen
+use Rattle.parking_lot_world.specs.declared.open_call.Call.{Call}
+use Rattle.parking_lot_world.specs.declared.seat.WakeResult.TheVariants as told
 use Rattle.parking_lot_world.specs.Rows.{Rows, State, state}
 use Rattle.parking_lot_world.specs.Stances.{sign}
 use Rattle.parking_lot_world.specs.RowActs.{with_word, settled, hears}

@@ -26,8 +26,8 @@ returns-in-Exchange g c = steps.exchange (state c.args.self.now) _ c.args.thread
 pub returns-in-Add : goal.returns-in-Add
 returns-in-Add g c = steps.add (state c.args.self.now) _ c.args.thread c.in_ok-call.call c.args.fair (fits c.self.view_is c.self.invariant.0) (sym c.call.ensures ∙ c.in_ok-call.was) _ (sym c.act.ensures ∙ c.in-Add.is) c.add.ensures
 
-pub returns-in-Mask : goal.returns-in-Mask
-returns-in-Mask g c = steps.mask (state c.args.self.now) _ c.args.thread c.in_ok-call.call c.args.fair (fits c.self.view_is c.self.invariant.0) (sym c.call.ensures ∙ c.in_ok-call.was) _ (sym c.act.ensures ∙ c.in-Mask.is) c.mask.ensures
+pub returns-in-FetchAnd : goal.returns-in-FetchAnd
+returns-in-FetchAnd g c = steps.mask (state c.args.self.now) _ c.args.thread c.in_ok-call.call c.args.fair (fits c.self.view_is c.self.invariant.0) (sym c.call.ensures ∙ c.in_ok-call.was) _ (sym c.act.ensures ∙ c.in-FetchAnd.is) c.mask.ensures
 
 pub returns-in-Spin : goal.returns-in-Spin
 returns-in-Spin g c = steps.spin (state c.args.self.now) _ c.args.thread c.in_ok-call.call c.args.fair (fits c.self.view_is c.self.invariant.0) (sym c.call.ensures ∙ c.in_ok-call.was) (sym c.act.ensures ∙ c.in-Spin.is) c.spin.ensures

@@ -1,5 +1,5 @@
 use Rattle.std.proofs.Common.{◌≡◌, ap, ◌∙◌, subst}
-use Rattle.parking_lot_cores.specs.declared.act.Act.TheVariants as act
+use Rattle.parking_lot_protocol.specs.declared.act.Act.TheVariants as act
 use Rattle.parking_lot_world.specs.Rows.{Rows, state}
 use Rattle.parking_lot_world.specs.RowActs.{told_all}
 use Rattle.parking_lot_world.specs.RowFits.{FitsTogether}

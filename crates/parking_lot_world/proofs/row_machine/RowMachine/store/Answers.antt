@@ -4,10 +4,10 @@ use Rattle.std.specs.Option.{option_map}
 use Rattle.parking_lot_core.specs.declared.parking.UnparkToken.{UnparkToken}
 use Rattle.parking_lot_core.specs.Machine.{Machine, stored, machine}
 use Rattle.parking_lot_core.specs.Sound.{Sound}
-use Rattle.parking_lot_cores.specs.Acts.{change_of}
-use Rattle.parking_lot_cores.specs.declared.act.WordChange.{WordChange}
-use Rattle.parking_lot_world.specs.declared.seat.Call.{Call}
-use Rattle.parking_lot_world.specs.declared.seat.Told.{Told}
+use Rattle.parking_lot_protocol.specs.Acts.{change_of}
+use Rattle.parking_lot_protocol.specs.declared.act.WordChange.{WordChange}
+use Rattle.parking_lot_world.specs.declared.open_call.Call.{Call}
+use Rattle.parking_lot_world.specs.declared.seat.WakeResult.{WakeResult}
 use Rattle.parking_lot_world.specs.Rows.{Rows, State, state, word_at}
 use Rattle.parking_lot_world.specs.Stances.{core_tells}
 use Rattle.parking_lot_world.specs.RowActs.{with_word, settled, told_of, told_all}
@@ -36,7 +36,7 @@ pub returns : goal.returns
 returns g c =
     let s : State = state c.args.self.now in
     let done : State → List (Option Call) → ℕ → Machine → State = λ m calls word lot. with_word (record m { calls = calls; lot = lot }) c.args.call.lock word in
-    let all : List (Option Call) → Call → Told → List (Option Call) = λ calls next said. map (option_map (settled c.args.thread said)) (slice_set calls c.args.thread (Some next)) in
+    let all : List (Option Call) → Call → WakeResult → List (Option Call) = λ calls next said. map (option_map (settled c.args.thread said)) (slice_set calls c.args.thread (Some next)) in
     let lot : Machine = machine c.store.new.lot in
     let next : Call = c.told-next.result in
     let token : UnparkToken = c.wake_token-token.result in

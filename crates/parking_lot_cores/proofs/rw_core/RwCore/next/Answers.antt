@@ -1,5 +1,0 @@
-use Rattle.parking_lot_cores.proofs.RwFollowing.{follows}
-use Rattle.parking_lot_cores.proofs.rw_core.RwCore.next.Goals as goal
-
-pub returns-clause-rules : goal.returns-clause-rules
-returns-clause-rules c = follows _ _
