@@ -26,13 +26,13 @@ impl Counter {
         ensures noted { self.new.steps.items ≡ self.old.steps.items ++ step ∷ [] }
     {
         self.count += step;
-        self.steps = self.steps.and(&step);
+        self.steps = self.steps.appended(&step);
     }
 
     pub fn report(&self) -> Past<u64>
         ensures { result.items ≡ self.now.steps.items }
     {
-        self.steps.again()
+        self.steps.duplicate()
     }
 }
 

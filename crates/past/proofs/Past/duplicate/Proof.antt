@@ -32,10 +32,10 @@ use denote.Triple.Walked.{says, Stays, stay_dropped, walk_of, ends_at, walk_Meet
 use Rattle.std.specs.contracts.marker.PhantomData as Mark
 use Rattle.bytes.proofs.Walks.{none, one, one_made}
 use Rattle.past.specs.contracts.Past as Past
-use Rattle.past.specs.contracts.Past.again as F
-use Rattle.past.specs.contracts.Past.again.Key.{name as #self}
-use Rattle.past.proofs.Past.again.Statement as stated
-use Rattle.past.proofs.Past.again.Code as code
+use Rattle.past.specs.contracts.Past.duplicate as F
+use Rattle.past.specs.contracts.Past.duplicate.Key.{name as #self}
+use Rattle.past.proofs.Past.duplicate.Statement as stated
+use Rattle.past.proofs.Past.duplicate.Code as code
 
 module _ (T : RattleType) where
   abbrev args : Args
@@ -94,9 +94,9 @@ module _ (T : RattleType) where
         ) held
         (WpFn 𝓤 H 𝓣.C 𝓣.Λ function) (WpFn-mono 𝓤 H 𝓛.laws 𝓣 function) (walks 𝓣.C 𝓣.Λ)
 
-pub again_spec : {M : Type 1} → stated.statement M
+pub duplicate_spec : {M : Type 1} → stated.statement M
 unfolding tables_of
-again_spec 𝓤 𝓛 𝓜 𝓡 wired T LT =
+duplicate_spec 𝓤 𝓛 𝓜 𝓡 wired T LT =
     let 𝓣 : Tables 𝓤 𝓛.H = tables_of 𝓤 𝓛.H 𝓜 (tables 𝓤 𝓛.H 𝓜 𝓡 𝓡.env) in
     entered 𝓤 𝓛.H (triple_of 𝓛 (ended T).signature (closing 𝓛 (ended T) (held T 𝓛 𝓜.mem 𝓡.returns))) 𝓣.C 𝓣.Λ (#self (args T)) (function T)
     (code.unfolded 𝓤 𝓛.H 𝓜 𝓡 wired (T, tt)) (meets T 𝓛 𝓜.mem 𝓡.returns 𝓣)
