@@ -10,7 +10,7 @@ mod deeds;
 mod ends;
 mod fault;
 mod holds;
-mod laws;
+pub mod laws;
 mod limits;
 mod looks;
 mod making;
@@ -25,7 +25,6 @@ mod world;
 mod world_core;
 
 pub use fault::{NoMemory, RunFault, WorldNewFault};
-pub use laws::equal_keys_share_a_shard;
 pub use mapworld_calls::{
     Answer, Ask, Begin, Block, Deed, Held, Keyed, Reply, SpreadHasher, SpreadState, guard_numbers,
     holds_one_guard,
