@@ -1,4 +1,4 @@
-//! Why a world isn't made, why a run stops, and that memory ran out.
+//! Why a world isn't made, and why a run stops.
 ghost use Rattle.std.specs.Prelude.{◌≡◌};
 ghost use Rattle.mapworld.specs.Faults.{new_fault_code, new_fault_name, run_fault_code, run_fault_done, run_fault_name};
 
@@ -152,54 +152,10 @@ impl fmt::Display for RunFault {
 
 impl Error for RunFault {}
 
-/// Memory ran out: code 99.
-#[derive(Clone, Copy, Debug, PartialEq, Eq)]
-pub struct NoMemory;
-
-impl NoMemory {
-    /// The number of the fault.
-    pub fn code(&self) -> u16
-        ensures { result ≡ 99 }
-    {
-        99
-    }
-}
-
-impl fmt::Display for NoMemory {
-    ghost use Rattle.std.specs.Prelude.{Some, codes};
-
-    ghost output = { λ _. Some (codes "NoMemory") };
-
-    fn fmt<W: fmt::Write>(&self, f: &mut fmt::Formatter<W>) -> fmt::Result {
-        f.write_str("NoMemory")
-    }
-}
-
-impl Error for NoMemory {}
-
-impl From<AllocError> for NoMemory {
-    ghost use Rattle.std.specs.Prelude.{⊤};
-
-    ghost from_gives = { λ _ _. ⊤ };
-
-    fn from(_refused: AllocError) -> NoMemory {
-        NoMemory
-    }
-}
-
-impl<T: Drop> From<AllocFailed<T>> for NoMemory {
-    ghost use Rattle.std.specs.Prelude.{⊤};
-
-    ghost from_gives = { λ _ _. ⊤ };
-
-    fn from(_refused: AllocFailed<T>) -> NoMemory {
-        NoMemory
-    }
-}
-
 #[cfg(test)]
 mod tests {
-    use super::{NoMemory, RunFault, WorldNewFault};
+    use super::{RunFault, WorldNewFault};
+    use lock_api_raw::NoMemory;
 
     #[test]
     fn new_faults_have_codes_and_names(rt: HostRuntime) {

@@ -24,7 +24,8 @@ mod table;
 mod world;
 mod world_core;
 
-pub use fault::{NoMemory, RunFault, WorldNewFault};
+pub use fault::{RunFault, WorldNewFault};
+pub use lock_api_raw::NoMemory;
 pub use mapworld_calls::{
     Answer, Ask, Begin, Block, Deed, Held, Keyed, Reply, SpreadHasher, SpreadState, guard_numbers,
     holds_one_guard,
