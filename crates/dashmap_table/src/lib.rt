@@ -22,6 +22,3 @@ pub use pairs::ShardPairs;
 pub use routing::{capacity_share, default_shards, is_shard_amount, route};
 pub use shard::Shard;
 pub use shards::Shards;
-
-#[cfg(test)]
-mod tests;

@@ -1,4 +1,5 @@
-//! The calls that are measured.
+//! The calls of plain shards that are measured, and how many of them had each answer.
+#![tactic(auto)]
 
 ghost use Rattle.std.specs.Prelude.{◌≤◌};
 
@@ -9,15 +10,22 @@ use std::hash::{BuildHasherDefault, FoldHasher};
 /// What is done after the shards are filled.
 #[derive(Clone, Copy, PartialEq, Eq)]
 pub enum Call {
+    /// Nothing more.
     Fill,
+    /// A look for each key.
     Hit,
+    /// A look for as many keys that aren't there.
     Miss,
+    /// An insertion of each key that is there.
     Insert,
+    /// A removal of each key.
     Remove,
+    /// Each of these, in this order.
     All,
 }
 
 impl Call {
+    /// The call that an argument names; `All` has no name.
     pub fn named(name: &str) -> Option<Call> {
         match name {
             "fill" => Some(Call::Fill),
@@ -37,10 +45,15 @@ impl Call {
 /// How many calls had each answer.
 #[derive(Drop)]
 pub struct Sums {
+    /// Keys that were put in.
     pub filled: u64,
+    /// Keys that were found.
     pub hit: u64,
+    /// Other keys that weren't.
     pub missed: u64,
+    /// Keys whose value was replaced.
     pub inserted: u64,
+    /// Keys that were taken out.
     pub removed: u64,
 }
 
@@ -98,6 +111,7 @@ fn removed<A: Allocator>(map: &mut Map<A>, keys: u64) -> u64 {
     sum
 }
 
+/// Fills so many shards with the keys 0, 1, .. and makes the call once for each key.
 pub fn run<A: Allocator + Clone>(
     alloc: A,
     call: Call,

@@ -1,6 +1,6 @@
 //! Each growth of a table refused in turn, by heaps of all small sizes.
-use crate::work::{Call, run};
 use dashmap_table::{MapFault, NoMemory, Shard, Shards};
+use dashmap_table_work::{Call, run};
 use linked_list_allocator::LocalHeap;
 use std::hash::{BuildHasherDefault, FoldHasher};
 use std::test::Fail;
@@ -27,12 +27,13 @@ fn a_refused_insertion_hands_the_pair_back(rt: HostRuntime) -> Result<(), Fail> 
         taken = taken.max(count);
         if count < 10 {
             let capacity = shard.capacity();
-            assert_eq!(rt; shard.insert(count, count, 7), Err((count, 7)));
-            assert!(rt; shard.capacity() == capacity && shard.find(count, &count).is_none());
+            let is_handed_back = shard.insert(count, count, 7) == Err((count, 7));
+            assert!(rt; is_handed_back && shard.capacity() == capacity);
+            assert!(rt; shard.find(count, &count).is_none());
         }
-        assert_eq!(rt; shard.len() as u64, count);
+        assert!(rt; shard.len() as u64 == count);
     }
-    assert_eq!(rt; taken, 10);
+    assert!(rt; taken == 10);
     Ok(())
 }
 
@@ -43,8 +44,8 @@ fn a_present_key_needs_no_memory(rt: HostRuntime) -> Result<(), Fail> {
         let heap = LocalHeap::new(rt.alloc(), size * 64)?;
         let (mut shard, count) = packed(&heap, 10);
         for key in 0..count {
-            let (_, old) = shard.insert(key, key, 100)?;
-            assert_eq!(rt; old, Some(key));
+            let stored = shard.insert(key, key, 100);
+            assert!(rt; matches!(stored, Ok((_, Some(old))) if old == key));
         }
         if count < 10 {
             refused = true;
@@ -90,7 +91,7 @@ fn a_refused_shrink_changes_nothing(rt: HostRuntime) -> Result<(), Fail> {
             Ok(()) => done = true,
             Err(NoMemory) => {
                 refused = true;
-                assert_eq!(rt; shard.capacity(), capacity);
+                assert!(rt; shard.capacity() == capacity);
             }
         }
         assert!(rt; shard.len() == length && (length == 0 || shard.find(1, &1).is_some()));
@@ -107,8 +108,10 @@ fn a_shard_without_spare_room_shrinks_without_memory(rt: HostRuntime) -> Result<
         let (mut shard, count) = packed(&heap, 12);
         if count < 12 {
             full = true;
-            shard.shrink()?;
-            assert!(rt; shard.len() as u64 == count && shard.capacity() as u64 == count);
+            let is_shrunk = shard.shrink().is_ok();
+            assert!(rt;
+                is_shrunk && shard.len() as u64 == count && shard.capacity() as u64 == count
+            );
         }
     }
     assert!(rt; full);
@@ -127,9 +130,8 @@ fn room_that_is_there_is_never_refused(rt: HostRuntime) -> Result<(), Fail> {
             continue;
         }
         reserved = true;
-        map.reserve(0)?;
-        map.reserve(1)?;
-        assert_eq!(rt; map.insert(0u64, 0u64)?, None);
+        let is_reserved = map.reserve(0).is_ok() & map.reserve(1).is_ok();
+        assert!(rt; is_reserved && map.insert(0u64, 0u64) == Ok(None));
     }
     assert!(rt; reserved);
     Ok(())
@@ -139,8 +141,7 @@ fn room_that_is_there_is_never_refused(rt: HostRuntime) -> Result<(), Fail> {
 fn an_empty_shard_shrinks_without_memory(rt: HostRuntime) -> Result<(), Fail> {
     let heap = LocalHeap::new(rt.alloc(), 0)?;
     let mut shard: Shard<u64, u64, &LocalHeap> = Shard::new(&heap);
-    shard.shrink()?;
-    assert_eq!(rt; shard.capacity(), 0);
+    assert!(rt; shard.shrink().is_ok() && shard.capacity() == 0);
     Ok(())
 }
 
