@@ -17,6 +17,3 @@ pub use deed::Deed;
 pub use program::{guard_numbers, holds_one_guard};
 pub use reply::{Answer, Reply};
 pub use spread::{SpreadHasher, SpreadState, spread_hash};
-
-#[cfg(test)]
-mod tests;

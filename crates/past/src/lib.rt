@@ -13,10 +13,6 @@ ghost use Rattle.std.specs.Borrow.{ftrue};
 
 use std::marker::{Model, PhantomData};
 
-mod example;
-#[cfg(test)]
-mod tests;
-
 /// All that was noted so far, oldest first, as a list that exists for proofs alone.
 ///
 /// A clause reads the list as `items`. At run time there is no list: a `Past<T>` takes no memory,

@@ -1,4 +1,5 @@
-use super::worlds::{drop_guard, get, insert, read, remove, step_round};
+use super::worlds::Call::{Get, Insert, Leave, Read, Remove};
+use super::worlds::{program_of, step_round};
 use mapworld::{Answer, Ask, Begin, Deed, Held, Keyed, MapWorld, SpreadState};
 use std::hash::{BuildHasher, Hasher};
 use std::test::Fail;
@@ -86,16 +87,11 @@ fn equal_keys_are_one_key(rt: HostRuntime) -> Result<(), Fail> {
         Ask::Keyed(Keyed::Remove(letter_of(b'k'))),
     ]?;
     let pairs = vec![in rt.alloc(); (letter_of(b'k'), 0), (letter_of(b'K'), 1)]?;
-    let mut world = MapWorld::new(
-        rt.alloc(),
-        2,
-        SpreadState,
-        pairs,
-        vec![in rt.alloc(); program]?,
-    )?;
-    step_round(&mut world, 1)?;
+    let programs = vec![in rt.alloc(); program]?;
+    let mut world = MapWorld::new(rt.alloc(), 2, SpreadState, pairs, programs)?;
+    let is_done = step_round(&mut world, 1);
     let answers = world.replies();
-    assert_eq!(rt; answers.len(), 5);
+    assert!(rt; is_done && answers.len() == 5);
     // Of equal keys the last value and the first key were there at the start, and the insert left the stored key.
     assert!(rt; answers[0].answer == Answer::Value(1));
     assert!(rt; answers[2].answer == Answer::Read(b'k'));
@@ -105,24 +101,14 @@ fn equal_keys_are_one_key(rt: HostRuntime) -> Result<(), Fail> {
 
 #[test]
 fn keys_of_one_hash_stay_apart(rt: HostRuntime) -> Result<(), Fail> {
-    let program = vec![in rt.alloc();
-        insert(1, 10),
-        insert(2, 20),
-        remove(1),
-        get(2),
-        read(),
-        drop_guard(),
-    ]?;
-    let mut world = MapWorld::new(
-        rt.alloc(),
-        4,
-        OneHash,
-        vec![in rt.alloc(); (1, 5), (3, 30)]?,
-        vec![in rt.alloc(); program]?,
-    )?;
-    step_round(&mut world, 1)?;
+    let calls = [Insert(1, 10), Insert(2, 20), Remove(1), Get(2), Read, Leave];
+    let program = program_of(rt.alloc(), &calls).ok_or("no program")?;
+    let pairs = vec![in rt.alloc(); (1, 5), (3, 30)]?;
+    let programs = vec![in rt.alloc(); program]?;
+    let mut world = MapWorld::new(rt.alloc(), 4, OneHash, pairs, programs)?;
+    let is_done = step_round(&mut world, 1);
     let answers = world.replies();
-    assert_eq!(rt; answers.len(), 6);
+    assert!(rt; is_done && answers.len() == 6);
     assert!(rt; answers[0].answer == Answer::Value(5) && answers[2].answer == Answer::Pair(1, 10));
     assert!(rt; answers[4].answer == Answer::Read(20));
     assert!(rt;

@@ -1,7 +1,7 @@
 -- What a report leaves of its writer.
 use Rattle.std.specs.Prelude.{◌≡◌, ⊤, Result, Ok, Err}
-use Rattle.mapworld_run.specs.declared.report.ReportFault.{ReportFault}
-use Rattle.mapworld_run.specs.declared.report.ReportFault.TheVariants.{Fault, Write}
+use Rattle.mapworld_report.specs.declared.ReportFault.{ReportFault}
+use Rattle.mapworld_report.specs.declared.ReportFault.TheVariants.{Fault, Write}
 
 -- on a fault of the library the writer is as it was
 abbrev pub LeavesOnFault : {X W : Type 0} → Result X ReportFault → W → W → Type 0

@@ -1,5 +1,7 @@
 //! The report: a world of two threads that insert, read and remove, its replies and its contents.
-ghost use Rattle.mapworld_run.specs.Report.{LeavesOnFault};
+#![tactic(auto)]
+
+ghost use Rattle.mapworld_report.specs.Report.{LeavesOnFault};
 
 use mapworld::{
     Answer, Ask, Begin, Deed, Held, Keyed, MapWorld, NoMemory, Reply, RunFault, SpreadState, Step,
@@ -58,7 +60,7 @@ impl<T: Drop> From<AllocFailed<T>> for ReportFault {
 
 /// Reads a pair's value, and would keep the pair and leave the value.
 #[derive(Drop)]
-pub(crate) struct ReadValue;
+struct ReadValue;
 
 impl Deed<u64, u64> for ReadValue {
     type Answer = u64;
