@@ -2,17 +2,14 @@
 use Rattle.std.proofs.Common.{◌≡◌, ◌≢◌, ℕ, Bool, true, false, cond, nat_eq, List, Option, Some, None, refl, sym, ap, ◌∙◌, subst, inl, inr, eq-eqb}
 use Rattle.std.specs.Cmp.{IsEquivalence}
 use Rattle.std.specs.Option.{option_map}
-use Rattle.std.proofs.lemmas.Bool.{cases_Bool, cases_eq, and_parts, and_from, and_right, false_from_ne_true, false≢true, cond-true, cond-false}
+use Rattle.std.proofs.lemmas.Bool.{cases_Bool, cases_eq, and_parts, and_from, and_right, false_from_ne_true, false≢true}
 use Rattle.std.proofs.lemmas.Option.{none-some, same_Some}
 use Rattle.dashmap_table.specs.declared.entry.Entry.{Entry}
 use Rattle.dashmap_table.specs.Slots.{at, holds, slot_of, entry_of, AreDistinct, giving_value, changed}
 use Rattle.dashmap_table.specs.Table.{Table, IsSound, Adds, SamePairs}
+use Rattle.dashmap_table.proofs.Cases.{choice}
 use Rattle.dashmap_table.proofs.Finding.{slot_of-none, slot_of-none_from, holds-both, holds-own, entry_of-at, entry_of-is, entry_of-none, entry_of-same}
 use Rattle.dashmap_table.proofs.Changing.{at-changed, at-changed_other}
-
--- a choice by a test
-pub choice : {X : Type 0} (b : Bool) (x y z : X) → (b ≡ true → z ≡ x) → (b ≡ false → z ≡ y) → z ≡ cond b x y
-choice b x y z then else = elim (cases_Bool b) [ inl t ↦ then t ∙ sym (cond-true b x y t) | inr f ↦ else f ∙ sym (cond-false b x y f) ]
 
 -- what holds of the hash and key of every entry of a list of slots
 abbrev pub Each : {K V : Type 0} → (ℕ → K → Type 0) → List (Option (Entry K V)) → Type 0

@@ -7,7 +7,8 @@ use Rattle.std.proofs.lemmas.Option.{none-some}
 use Rattle.std.proofs.lemmas.List.Quantifiers.{position-Some}
 use Rattle.dashmap_table.specs.declared.entry.Entry.{Entry}
 use Rattle.dashmap_table.specs.Slots.{at, holds, slot_of, entry_of, AreDistinct}
-use Rattle.dashmap_table.proofs.Places.{option_cases, position-None, position-None_from, position-Some_from, at_within}
+use Rattle.dashmap_table.proofs.Cases.{option_cases}
+use Rattle.dashmap_table.proofs.Places.{position-None, position-None_from, position-Some_from, at_within}
 
 module _ {K V : Type 0} (eq : K → K → Bool) where
   pub slot_of-is : (xs : List (Option (Entry K V))) (h : ℕ) (k : K) (i : ℕ) → slot_of eq xs h k ≡ Some i → (e : Entry K V) × (at xs i ≡ Some e) × (holds eq h k (Some e) ≡ true)

@@ -1,4 +1,5 @@
 pub mod ShardAmounts
+pub mod Cases
 pub mod Places
 pub mod Finding
 pub mod Changing

@@ -13,10 +13,11 @@ use Rattle.dashmap_table.specs.Route.{IsShardAmount, route_of, hash_of}
 use Rattle.dashmap_table.specs.Slots.{at, count, pair_of, holds, slot_of, entry_of, AreDistinct, entry_with, giving_value, changed}
 use Rattle.dashmap_table.specs.Table.{Table, IsSound, SamePairs, Adds, Frees, TakesOut, PutsIn, with_value}
 use Rattle.dashmap_table.specs.Shards.{Tables, no_pairs, table_at, put_over, IsFull, key_hash, key_shard, pair_at, with_value_at, AreApart, AreSharded, IsSeenByItsKey}
-use Rattle.dashmap_table.proofs.Places.{option_cases, at-set_same}
+use Rattle.dashmap_table.proofs.Cases.{option_cases, choice}
+use Rattle.dashmap_table.proofs.Places.{at-set_same}
 use Rattle.dashmap_table.proofs.Finding.{slot_of-is, slot_of-at, holds-own, entry_of-none}
 use Rattle.dashmap_table.proofs.Changing.{at-changed, at-changed_other, count-changed, AreDistinct-changed}
-use Rattle.dashmap_table.proofs.Effects.{choice, Each, finds-absent, finds-freed, finds-valued, finds-added, each-added, each-changed}
+use Rattle.dashmap_table.proofs.Effects.{Each, finds-absent, finds-freed, finds-valued, finds-added, each-added, each-changed}
 
 module _ {K V S H : Type 0} (b : builder.Ghosts S H) (h : hasher.Ghosts H) (input : K → HashWrites) (eq : K → K → Bool) where
   -- the hash and the shard of a key, as an entry has to have them

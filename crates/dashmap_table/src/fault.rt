@@ -2,54 +2,9 @@
 ghost use Rattle.std.specs.Prelude.{◌≡◌};
 ghost use Rattle.dashmap_table.specs.Faults.{map_fault_code};
 
-use std::alloc::{AllocError, AllocFailed};
+use lock_api_raw::NoMemory;
 use std::error::Error;
 use std::fmt;
-
-/// A growth was refused: code 99. The call that answers it has changed nothing.
-#[derive(Clone, Copy, Debug, PartialEq, Eq)]
-pub struct NoMemory;
-
-impl NoMemory {
-    /// The number of the refusal.
-    pub fn code(&self) -> u16
-        ensures { result ≡ 99 }
-    {
-        99
-    }
-}
-
-impl fmt::Display for NoMemory {
-    ghost use Rattle.std.specs.Prelude.{Some, codes};
-
-    ghost output = { λ _. Some (codes "NoMemory") };
-
-    fn fmt<W: fmt::Write>(&self, f: &mut fmt::Formatter<W>) -> fmt::Result {
-        f.write_str("NoMemory")
-    }
-}
-
-impl Error for NoMemory {}
-
-impl From<AllocError> for NoMemory {
-    ghost use Rattle.std.specs.Prelude.{⊤};
-
-    ghost from_gives = { λ _ _. ⊤ };
-
-    fn from(_refused: AllocError) -> NoMemory {
-        NoMemory
-    }
-}
-
-impl<T: Drop> From<AllocFailed<T>> for NoMemory {
-    ghost use Rattle.std.specs.Prelude.{⊤};
-
-    ghost from_gives = { λ _ _. ⊤ };
-
-    fn from(_refused: AllocFailed<T>) -> NoMemory {
-        NoMemory
-    }
-}
 
 /// Why a map, a set or a view isn't made or cloned. A call that answers several of them tries them in this order but
 /// for `TableFull`, which comes right before `NoMemory`; what was handed in is let go.

@@ -16,11 +16,9 @@ mod routing;
 mod shard;
 mod shards;
 
-pub use fault::{MapFault, NoMemory};
+pub use fault::MapFault;
+pub use lock_api_raw::NoMemory;
 pub use pairs::ShardPairs;
 pub use routing::{capacity_share, default_shards, is_shard_amount, route};
 pub use shard::Shard;
 pub use shards::Shards;
-
-#[cfg(test)]
-mod tests;

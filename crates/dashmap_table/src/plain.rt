@@ -11,7 +11,7 @@ ghost use Rattle.dashmap_table.specs.Slots.{at, count, slot_of, entry_with, pair
 ghost use Rattle.dashmap_table.specs.Table.{IsSound, Adds, Frees, SamePairs, with_value, with_pair};
 
 use crate::entry::Entry;
-use crate::fault::NoMemory;
+use lock_api_raw::NoMemory;
 use std::alloc::Allocator;
 use std::hash::Hash;
 use std::marker::Model;

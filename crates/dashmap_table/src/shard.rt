@@ -5,9 +5,9 @@ ghost use Rattle.std.specs.Borrow.{sem};
 ghost use Rattle.dashmap_table.specs.Slots.{at, count, slot_of, entry_with, pair_of, pairs_of, IsNextFull};
 ghost use Rattle.dashmap_table.specs.Table.{IsSound, Adds, Frees, SamePairs, with_value, with_pair};
 
-use crate::fault::NoMemory;
 use crate::pairs::ShardPairs;
 use crate::plain::PlainTable;
+use lock_api_raw::NoMemory;
 use std::alloc::{Allocator, Global};
 use std::hash::Hash;
 use std::marker::Model;

@@ -7,9 +7,10 @@ ghost use Rattle.dashmap_table.specs.Slots.{at, count, pair_of};
 ghost use Rattle.dashmap_table.specs.Table.{SamePairs, TakesOut, PutsIn};
 ghost use Rattle.dashmap_table.specs.Shards.{AreApart, AreSharded, no_pairs, table_at, put_over, IsFull, OnlyChanges, key_hash, key_shard, place_of, pair_at, IsSeenByItsKey};
 
-use crate::fault::{MapFault, NoMemory};
+use crate::fault::MapFault;
 use crate::routing::{is_shard_amount, route};
 use crate::shard::Shard;
+use lock_api_raw::NoMemory;
 use std::alloc::{Allocator, Global};
 use std::hash::{BuildHasher, Hash};
 use std::marker::Model;

@@ -5,13 +5,9 @@
 //! difference of two counts, divided by the number of keys.
 #![tactic(auto)]
 
-#[cfg(test)]
-mod tests;
-mod work;
-
+use dashmap_table_work::{Call, Fault, run};
 use std::env;
 use std::process::ExitCode;
-use work::{Call, Fault, run};
 
 /// The run that the arguments ask for, or the small one.
 fn asked(rt: &HostRuntime) -> Option<(Call, u64, usize)> {

@@ -7,20 +7,12 @@ use Rattle.std.proofs.lemmas.Bool.{cases_Bool, cond-true, cond-false, false≢tr
 use Rattle.std.proofs.lemmas.List.Sums.{fails_before_first}
 use Rattle.std.proofs.lemmas.List.Folds.{find_at}
 use Rattle.std.proofs.lemmas.List.Quantifiers.{position-Some}
+use Rattle.dashmap_table.proofs.Cases.{option_cases}
 
 -- two look-ups answer the same where one answers what the other does, and nothing where it does
 pub same_option : {X : Type 0} (o r : Option X) → ((x : X) → o ≡ Some x → r ≡ Some x) → (o ≡ None → r ≡ None) → r ≡ o
 same_option None r some none = none refl
 same_option (Some x) r some none = some x refl
-
-pub option_cases : {X : Type 0} (o : Option X) → (o ≡ None) ⊎ ((x : X) × (o ≡ Some x))
-option_cases None = inl refl
-option_cases (Some x) = inr (x, refl)
-
--- a choice is what each of its cases gives
-pub choice : {X : Type 0} (b : Bool) (x y z : X) → (b ≡ true → z ≡ x) → (b ≡ false → z ≡ y) → z ≡ cond b x y
-choice true x y z then else' = then refl
-choice false x y z then else' = else' refl
 
 module _ {X : Type 0} where
   none_before : (p : X → Bool) (z : X) (zs : List X) (i : ℕ) → p z ≡ false → ((k : ℕ) (y : X) → k < i → slice_get zs k ≡ Some y → p y ≡ false) → (k : ℕ) (y : X) → k < suc i → slice_get (z ∷ zs) k ≡ Some y → p y ≡ false

@@ -5,7 +5,8 @@ use Rattle.std.proofs.lemmas.Option.{none-some, same_Some}
 use Rattle.std.proofs.lemmas.Bool.{false≢true, false_from_ne_true}
 use Rattle.mapworld_calls.specs.Pairs.{has_key, pair_of, AreDistinct}
 use Rattle.mapworld_calls.proofs.Lists.{slice_get-set_same, slice_get-set_other, slice_get-set_cases, slice_get-push_below, slice_get-push_at, slice_get-push_cases, slice_get-remove, slice_get-remove_is, slice_get-remove_kept, stood_at, stood_at-same}
-use Rattle.mapworld.proofs.Finds.{option_cases, same_option, choice, find-Some, find-None, find-None_from, find-alike}
+use Rattle.dashmap_table.proofs.Cases.{option_cases, choice}
+use Rattle.mapworld.proofs.Finds.{same_option, find-Some, find-None, find-None_from, find-alike}
 
 -- two keys that are equal to a third are equal
 pub equal_by : {K : Type 0} (eq : K → K → Bool) → IsEquivalence eq → (j k q : K) → eq j q ≡ true → eq k q ≡ true → eq j k ≡ true

@@ -12,7 +12,7 @@ use Rattle.mapworld_calls.specs.Pairs.{pair_of, AreDistinct}
 use Rattle.mapworld_calls.specs.declared.block.Block.{Block}
 use Rattle.mapworld.specs.Tables.{joined, AreRouted, AreEachDistinct}
 use Rattle.mapworld.specs.Sound.{TablesAgree}
-use Rattle.mapworld.proofs.Finds.{option_cases}
+use Rattle.dashmap_table.proofs.Cases.{option_cases}
 use Rattle.mapworld.proofs.Joins.{AreDistinct-joined, pair_of-joined}
 
 -- one list more

@@ -3,12 +3,12 @@ ghost use Rattle.std.specs.Prelude.{◌≡◌, ◌^◌, ◌≤◌, length, map, 
 ghost use Rattle.mapworld.specs.Route.{IsWorldAmount, key_route};
 ghost use Rattle.mapworld.specs.Beginning.{at_start, AreAtStart, IsPut, AreFilled, pairs_in, AreEmpty, IsReady, AreReady};
 
-use crate::fault::NoMemory;
 use crate::holds::ShardDesk;
 use crate::place::{Phase, Place};
 use crate::route::shard_of;
 use crate::table::slot_of;
 use lock_api_desk::{Desk, TokenTable};
+use lock_api_raw::NoMemory;
 use mapworld_calls::Ask;
 use std::alloc::Allocator;
 use std::collections::VecDeque;

@@ -4,8 +4,8 @@ ghost use Rattle.std.specs.Option.{option_map};
 ghost use Rattle.mapworld_calls.specs.Pairs.{pair_of};
 ghost use Rattle.mapworld.specs.Views.{shown};
 
-use crate::fault::NoMemory;
 use crate::table;
+use lock_api_raw::NoMemory;
 use std::alloc::Allocator;
 
 /// Adds a table's pairs to a list of references.

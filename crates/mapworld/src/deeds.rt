@@ -43,7 +43,7 @@ pub(crate) fn append<
     count_in(&mut core.blocks, place.block, place.next);
     core.pairs += 1;
     core.count += 1;
-    core.steps = core.steps.and(&step);
+    core.steps = core.steps.appended(&step);
 }
 
 /// The deed that replaces a value.
@@ -71,7 +71,7 @@ pub(crate) fn replace<
     enter(&mut place.phase, Phase::Release(Answer::Value(old)));
     count_in(&mut core.blocks, place.block, place.next);
     core.count += 1;
-    core.steps = core.steps.and(&step);
+    core.steps = core.steps.appended(&step);
 }
 
 /// The deed that takes a pair out.
@@ -99,7 +99,7 @@ pub(crate) fn take<
     count_in(&mut core.blocks, place.block, place.next);
     core.pairs -= 1;
     core.count += 1;
-    core.steps = core.steps.and(&step);
+    core.steps = core.steps.appended(&step);
 }
 
 /// The deed that reads the guarded pair.
@@ -132,7 +132,7 @@ pub(crate) fn read<
     );
     count_in(&mut core.blocks, place.block, place.next);
     core.count += 1;
-    core.steps = core.steps.and(&step);
+    core.steps = core.steps.appended(&step);
 }
 
 /// The deed that writes the guarded pair's value.
@@ -161,5 +161,5 @@ pub(crate) fn write<
     store_effect(table, slot, &deed);
     count_in(&mut core.blocks, place.block, place.next);
     core.count += 1;
-    core.steps = core.steps.and(&step);
+    core.steps = core.steps.appended(&step);
 }

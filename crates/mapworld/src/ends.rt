@@ -66,7 +66,7 @@ pub(crate) fn release<
     end_hold(desk, step.thread as u64, hold.guard);
     count_in(&mut core.blocks, counts, place.next);
     core.count += 1;
-    core.steps = core.steps.and(&step);
+    core.steps = core.steps.appended(&step);
 }
 
 /// The answer of a call.
@@ -102,5 +102,5 @@ pub(crate) fn answer<
     });
     core.unanswered -= 1;
     core.count = end;
-    core.steps = core.steps.and(&step);
+    core.steps = core.steps.appended(&step);
 }

@@ -10,7 +10,7 @@ mod deeds;
 mod ends;
 mod fault;
 mod holds;
-mod laws;
+pub mod laws;
 mod limits;
 mod looks;
 mod making;
@@ -24,8 +24,8 @@ mod table;
 mod world;
 mod world_core;
 
-pub use fault::{NoMemory, RunFault, WorldNewFault};
-pub use laws::equal_keys_share_a_shard;
+pub use fault::{RunFault, WorldNewFault};
+pub use lock_api_raw::NoMemory;
 pub use mapworld_calls::{
     Answer, Ask, Begin, Block, Deed, Held, Keyed, Reply, SpreadHasher, SpreadState, guard_numbers,
     holds_one_guard,

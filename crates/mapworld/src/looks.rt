@@ -74,7 +74,7 @@ pub(crate) fn find<
     enter(&mut place.phase, found_phase(request, slot, room));
     list_block(&mut core.blocks, done, started, number);
     core.count = number;
-    core.steps = core.steps.and(&step);
+    core.steps = core.steps.appended(&step);
 }
 
 /// The growth of the held shard's list, or its refusal.
@@ -102,7 +102,7 @@ pub(crate) fn grow<
         unreachable!()
     };
     core.count = number;
-    core.steps = core.steps.and(&step);
+    core.steps = core.steps.appended(&step);
     let table = &mut core.tables[place.shard];
     let Ok(()) = table.reserve(1) else {
         enter(&mut place.phase, Phase::Release(Answer::NoMemory));

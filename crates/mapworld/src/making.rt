@@ -6,8 +6,8 @@ ghost use Rattle.mapworld.specs.Sound.{Sound};
 ghost use Rattle.mapworld.specs.Core.{state_of, Room};
 
 use crate::beginning::{desks_of, empty_tables, fill, places_of};
-use crate::fault::NoMemory;
 use crate::world_core::Core;
+use lock_api_raw::NoMemory;
 use mapworld_calls::{Ask, Deed};
 use past::Past;
 use std::alloc::Allocator;

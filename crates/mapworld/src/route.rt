@@ -23,37 +23,3 @@ pub(crate) fn shard_of<K: Eq + Hash, S: BuildHasher>(hasher: &S, shards: usize, 
 {
     route(hasher.hash_one(key), shards)
 }
-
-#[cfg(test)]
-mod tests {
-    use super::{is_world_amount, shard_of};
-    use std::hash::{BuildHasherDefault, FoldHasher};
-
-    #[test]
-    fn amounts_are_powers_of_two_in_range(rt: HostRuntime) {
-        for (shards, want) in [
-            (0, false),
-            (1, false),
-            (2, true),
-            (3, false),
-            (48, false),
-            (4096, true),
-            (8192, false),
-        ] {
-            assert_eq!(rt; is_world_amount(shards), want, "at {shards}");
-        }
-    }
-
-    #[test]
-    fn a_key_has_one_shard(rt: HostRuntime) {
-        let shards = 16;
-        assert!(rt; is_world_amount(shards));
-        let hasher = BuildHasherDefault::<FoldHasher>::new();
-        for key in 0u32..8 {
-            assert!(rt;
-                shard_of(&hasher, shards, &key) == shard_of(&hasher, shards, &key),
-                "of {key}"
-            );
-        }
-    }
-}

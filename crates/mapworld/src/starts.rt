@@ -50,7 +50,7 @@ pub(crate) fn start<
     enter(&mut place.phase, start_phase(ask, guard));
     count_in(&mut core.blocks, counts, place.next);
     core.count = number;
-    core.steps = core.steps.and(&step);
+    core.steps = core.steps.appended(&step);
 }
 
 /// The admission to a shard.
@@ -83,5 +83,5 @@ pub(crate) fn admit<
     take_hold(desk, hold.mode, step.thread as u64, hold.guard);
     core.guards += 1;
     core.count += 1;
-    core.steps = core.steps.and(&step);
+    core.steps = core.steps.appended(&step);
 }

@@ -37,15 +37,3 @@ pub(crate) fn store_effect<K, V, D: Deed<K, V>, A: Allocator>(
     table.push_reserved((key, value));
     table.swap(slot, last);
 }
-
-#[cfg(test)]
-mod tests {
-    use super::slot_of;
-
-    #[test]
-    fn a_key_is_found_at_its_place(rt: HostRuntime) {
-        let pairs = [(3u32, true), (5, false)];
-        assert_eq!(rt; slot_of(&pairs, &5), Some(1));
-        assert_eq!(rt; slot_of(&pairs, &4), None);
-    }
-}

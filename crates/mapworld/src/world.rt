@@ -14,10 +14,11 @@ ghost use Rattle.mapworld.specs.Sound.{Sound, HoldsMatch};
 ghost use Rattle.mapworld_calls.specs.Agrees.{Agrees};
 ghost use Rattle.mapworld_calls.specs.Placed.{WellPlaced, OnlyAdds};
 
-use crate::fault::{NoMemory, RunFault, WorldNewFault};
+use crate::fault::{RunFault, WorldNewFault};
 use crate::step::{Status, Step};
 use crate::world_core::Core;
 use crate::{advance, contents, counts, limits, making, route, status};
+use lock_api_raw::NoMemory;
 use mapworld_calls::{Ask, Block, Deed, Reply};
 use std::alloc::{Allocator, Global};
 use std::hash::{BuildHasher, Hash};

@@ -6,7 +6,7 @@
 mod ask;
 mod block;
 mod deed;
-mod laws;
+pub mod laws;
 mod program;
 mod reply;
 mod spread;
@@ -14,10 +14,6 @@ mod spread;
 pub use ask::{Ask, Begin, Held, Keyed};
 pub use block::Block;
 pub use deed::Deed;
-pub use laws::shards_commute;
-pub use program::{guard_numbers, holds_one_guard, sessions_are_apart};
+pub use program::{guard_numbers, holds_one_guard};
 pub use reply::{Answer, Reply};
 pub use spread::{SpreadHasher, SpreadState, spread_hash};
-
-#[cfg(test)]
-mod tests;

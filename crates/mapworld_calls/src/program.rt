@@ -1,7 +1,6 @@
 //! Whether a program is fit to run, and how many guard numbers it takes.
 ghost use Rattle.std.specs.Prelude.{◌≡◌, ◌↔◌, IsTrue, false, sum_by};
 ghost use Rattle.mapworld_calls.specs.Programs.{HoldsOneGuard, numbers_of, one_guard};
-ghost use Rattle.mapworld_calls.specs.Sessions.{SessionsAreApart};
 
 use crate::ask::{Ask, Held};
 
@@ -65,9 +64,3 @@ pub fn guard_numbers<K, V, D>(program: &[Ask<K, V, D>], _shards: u64) -> u64
     }
     numbers
 }
-
-/// While a session is open, a program that holds one guard at a time asks for nothing else: a keyed call or an opening
-/// never stands in a session. It is a law for proofs, and does nothing when it runs.
-pub fn sessions_are_apart<K, V, D>()
-    ensures { SessionsAreApart K V D }
-{}

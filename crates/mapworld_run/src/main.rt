@@ -1,11 +1,7 @@
 //! One small world of a map under two threads, run by one schedule, and what came out of it.
 #![tactic(auto)]
 
-mod report;
-#[cfg(test)]
-mod tests;
-
-use report::{ReportFault, report};
+use mapworld_report::{ReportFault, report};
 use std::io;
 use std::process::ExitCode;
 

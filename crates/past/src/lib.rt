@@ -13,10 +13,6 @@ ghost use Rattle.std.specs.Borrow.{ftrue};
 
 use std::marker::{Model, PhantomData};
 
-mod example;
-#[cfg(test)]
-mod tests;
-
 /// All that was noted so far, oldest first, as a list that exists for proofs alone.
 ///
 /// A clause reads the list as `items`. At run time there is no list: a `Past<T>` takes no memory,
@@ -50,7 +46,7 @@ mod tests;
 ///         ensures noted { self.new.steps.items ≡ self.old.steps.items ++ step ∷ [] }
 ///     {
 ///         self.count += step;
-///         self.steps = self.steps.and(&step);
+///         self.steps = self.steps.appended(&step);
 ///     }
 /// }
 /// ```
@@ -95,13 +91,13 @@ impl<T> Past<T> {
     /// it in the place of the old one. It takes no memory, copies no `T` and does nothing at run time.
     ///
     /// ```rust
-    /// self.steps = self.steps.and(&step);
+    /// self.steps = self.steps.appended(&step);
     /// ```
     ///
     /// What is noted is the value that `last` has now, and a later change of that variable does not
     /// reach it. That the step was taken is unconstrained: a clause of the caller has to tie `step` to
     /// what the program stores.
-    pub fn and(&self, last: &T) -> Past<T>
+    pub fn appended(&self, last: &T) -> Past<T>
         ensures { result.items ≡ self.now.items ++ last.now ∷ [] }
     {
         Past { of: PhantomData }
@@ -111,12 +107,12 @@ impl<T> Past<T> {
     /// memory and does nothing at run time, and `T` need not be `Clone`.
     ///
     /// ```rust
-    /// let before = self.steps.again();
+    /// let before = self.steps.duplicate();
     /// ```
     ///
     /// The two go on apart: what is noted in one is not in the other. Each is unconstrained, so only a
     /// contract can say that they still agree.
-    pub fn again(&self) -> Past<T>
+    pub fn duplicate(&self) -> Past<T>
         ensures { result.items ≡ self.now.items }
     {
         Past { of: PhantomData }

@@ -57,7 +57,7 @@ returns-clause-step g c =
       pairs = c.push_reserved.ensures.items;
       blocks = c.count_in.new.blocks.items;
       counted = c.count_in.ensures.counted;
-      after = rw (c.and-core.ensures, c.replace.ensures.after) refl;
+      after = rw (c.appended-core.ensures, c.replace.ensures.after) refl;
     }
 
 pub returns-clause-room : goal.returns-clause-room
@@ -74,7 +74,7 @@ returns-clause-room g c =
       here = here;
       places = refl;
       numbers = c.requires.numbers;
-      steps = simp length-append at (ap length c.and-core.ensures);
+      steps = simp length-append at (ap length c.appended-core.ensures);
       count = refl;
       programs = refl;
       tables = length-set c.args.core.now.tables.items p.shard c.push_reserved.new.self;

@@ -75,7 +75,7 @@ returns-clause-step g c =
       found = table.1 ∙ ap Some (sym same);
       blocks = c.count_in.new.blocks.items;
       counted = c.count_in.ensures.counted;
-      after = rw (c.and-core.ensures, c.enter.ensures, c.answer.ensures) refl;
+      after = rw (c.appended-core.ensures, c.enter.ensures, c.answer.ensures) refl;
     }
 
 pub returns-clause-room : goal.returns-clause-room
@@ -89,7 +89,7 @@ returns-clause-room g c =
       here = here;
       places = refl;
       numbers = c.requires.numbers;
-      steps = simp length-append at (ap length c.and-core.ensures);
+      steps = simp length-append at (ap length c.appended-core.ensures);
       count = refl;
       programs = refl;
       tables = refl;

@@ -65,7 +65,7 @@ returns-clause-step g c =
       pairs = rw c.replace-old.ensures.after refl;
       blocks = c.count_in.new.blocks.items;
       counted = c.count_in.ensures.counted;
-      after = rw (c.and-core.ensures, c.enter.ensures, c.replace-old.ensures.value) refl;
+      after = rw (c.appended-core.ensures, c.enter.ensures, c.replace-old.ensures.value) refl;
     }
 
 pub returns-clause-room : goal.returns-clause-room
@@ -81,7 +81,7 @@ returns-clause-room g c =
       here = here;
       places = refl;
       numbers = c.requires.numbers;
-      steps = simp length-append at (ap length c.and-core.ensures);
+      steps = simp length-append at (ap length c.appended-core.ensures);
       count = refl;
       programs = refl;
       tables = length-set c.args.core.now.tables.items p.shard (with_item c.index_mut-table.result.now c.in-Replace.slot (c.index_mut-pair.result.now.0, c.replace-old.new.dest));

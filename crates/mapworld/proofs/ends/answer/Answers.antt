@@ -54,7 +54,7 @@ returns-clause-step g c =
       begun = c.in-Some.is;
       blocks = c.end_block.new.blocks.items;
       ended = rw c.requires.room.count at c.end_block.ensures.ended;
-      after = rw (c.and-core.ensures, c.leave_call-answer.ensures.after, c.push_reserved.ensures.items, c.requires.room.count) refl;
+      after = rw (c.appended-core.ensures, c.leave_call-answer.ensures.after, c.push_reserved.ensures.items, c.requires.room.count) refl;
     }
 
 pub returns-clause-room : goal.returns-clause-room
@@ -68,7 +68,7 @@ returns-clause-room g c =
       here = here;
       places = refl;
       numbers = c.requires.numbers;
-      steps = simp length-append at (ap length c.and-core.ensures);
+      steps = simp length-append at (ap length c.appended-core.ensures);
       count = refl;
       programs = refl;
       tables = refl;

@@ -73,7 +73,7 @@ returns-clause-step g c =
           desk_read c.args.core.now.desks.items c.in-Some.hold.shard listed.0 c.index_mut-desk.result.now listed.2 c.index_mut-desk.ensures.value;
       blocks = c.count_in.new.blocks.items;
       counted = rw c.release_counts-counts.ensures at c.count_in.ensures.counted;
-      after = rw (c.and-core.ensures, c.enter.ensures, c.end_hold.ensures) refl;
+      after = rw (c.appended-core.ensures, c.enter.ensures, c.end_hold.ensures) refl;
     }
 
 pub returns-clause-room : goal.returns-clause-room
@@ -89,7 +89,7 @@ returns-clause-room g c =
       here = here;
       places = refl;
       numbers = c.requires.numbers;
-      steps = simp length-append at (ap length c.and-core.ensures);
+      steps = simp length-append at (ap length c.appended-core.ensures);
       count = refl;
       programs = refl;
       tables = refl;

@@ -61,8 +61,8 @@ returns-clause-step g c =
       listed = lists_block (state_of c.args.core.now) c.args.step.thread p c.found_done-done.result
           (record { thread = c.args.step.thread; call = p.next; start = c.in-Some.start }) (c.args.core.now.count + 1) c.list_block.new.blocks.items
           c.list_block.ensures.listed refl refl c.in-Some.is (ap (λ n. n + 1) c.requires.room.count);
-      after = after_find (state_of c.args.core.now) c.args.step p c.and-core.result.items c.list_block.new.blocks.items c.block_behind-place.result c.found_slot-place.result c.enter.new.phase _ _ _
-          c.and-core.ensures
+      after = after_find (state_of c.args.core.now) c.args.step p c.appended-core.result.items c.list_block.new.blocks.items c.block_behind-place.result c.found_slot-place.result c.enter.new.phase _ _ _
+          c.appended-core.ensures
           (c.block_behind-place.ensures ∙ ap (λ n. block_behind c.found_done-done.result n p.block) (c.len-index.ensures ∙ c.args.core.now.blocks.ok.0))
           (c.found_slot-place.ensures ∙ ap (λ i. found_slot c.in-Find.request i) c.slot_for-slot.ensures)
           (c.enter.ensures ∙ (c.found_phase.ensures ∙ ap₂ (λ i r. found_phase c.in-Find.request i r) c.slot_for-slot.ensures c.has_room-room.ensures));
@@ -89,7 +89,7 @@ returns-clause-room g c =
       here = here;
       places = refl;
       numbers = c.requires.numbers;
-      steps = simp length-append at (ap length c.and-core.ensures);
+      steps = simp length-append at (ap length c.appended-core.ensures);
       count = refl;
       programs = refl;
       tables = refl;

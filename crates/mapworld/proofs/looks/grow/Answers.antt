@@ -58,7 +58,7 @@ returns-clause-step g c =
       listed = lists_block (state_of c.args.core.now) c.args.step.thread p (Some 0)
           (record { thread = c.args.step.thread; call = p.next; start = c.in-Some.start }) (c.args.core.now.count + 1) c.list_block.new.blocks.items
           c.list_block.ensures.listed refl refl c.in-Some.is (ap (λ n. n + 1) c.requires.room.count);
-      after = rw (c.and-core.ensures, c.len-index.ensures, c.args.core.now.blocks.ok.0, c.enter-2.ensures) refl;
+      after = rw (c.appended-core.ensures, c.len-index.ensures, c.args.core.now.blocks.ok.0, c.enter-2.ensures) refl;
     })
 
 pub returns-clause-room : goal.returns-clause-room
@@ -77,7 +77,7 @@ returns-clause-room g c =
       here = here;
       places = refl;
       numbers = c.requires.numbers;
-      steps = simp length-append at (ap length c.and-core.ensures);
+      steps = simp length-append at (ap length c.appended-core.ensures);
       count = refl;
       programs = refl;
       tables = length-set c.args.core.now.tables.items p.shard c.reserve.new.self;
@@ -116,7 +116,7 @@ returns-in_default-reserve-clause-step g c =
       kept = c.reserve.new.self;
       pairs = c.reserve.ensures.items;
       full = table.1.1;
-      after = rw (c.and-core.ensures, c.enter.ensures) refl;
+      after = rw (c.appended-core.ensures, c.enter.ensures) refl;
     })
 
 pub returns-in_default-reserve-clause-room : goal.returns-in_default-reserve-clause-room
@@ -132,7 +132,7 @@ returns-in_default-reserve-clause-room g c =
       here = here;
       places = refl;
       numbers = c.requires.numbers;
-      steps = simp length-append at (ap length c.and-core.ensures);
+      steps = simp length-append at (ap length c.appended-core.ensures);
       count = refl;
       programs = refl;
       tables = length-set c.args.core.now.tables.items p.shard c.reserve.new.self;

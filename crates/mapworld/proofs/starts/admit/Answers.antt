@@ -60,7 +60,7 @@ returns-clause-step g c =
       fresh = λ u q h at has e. let below = c.requires.room.guards u q h at has in omega (arith, below, e);
       desk = c.index_mut-desk.result.now;
       at_shard = slice_get_read c.args.core.now.desks.items (length c.args.core.now.desks.items) p.shard c.index_mut-desk.result.now refl (omega (arith, fits, c.requires.room.desks)) c.index_mut-desk.ensures.value;
-      after = rw (c.and-core.ensures, c.take_hold.ensures, c.enter.ensures) refl;
+      after = rw (c.appended-core.ensures, c.take_hold.ensures, c.enter.ensures) refl;
     }
 
 pub returns-clause-room : goal.returns-clause-room
@@ -77,7 +77,7 @@ returns-clause-room g c =
       here = here;
       places = refl;
       numbers = c.requires.numbers;
-      steps = simp length-append at (ap length c.and-core.ensures);
+      steps = simp length-append at (ap length c.appended-core.ensures);
       count = refl;
       programs = refl;
       tables = refl;

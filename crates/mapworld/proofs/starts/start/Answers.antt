@@ -33,7 +33,7 @@ returns-clause-step g c =
       asked = c.in-Some.ensures.items;
       blocks = c.count_in.new.blocks.items;
       counted = rw (c.start_counts-counts.ensures, c.guard_of-guard.ensures) at c.count_in.ensures.counted;
-      after = rw (c.and-core.ensures, c.is_last-place.ensures, c.start_shard-place.ensures, c.len-shards.ensures, c.args.core.now.tables.ok.0, c.enter.ensures, c.start_phase.ensures, c.guard_of-guard.ensures, c.requires.room.count) refl;
+      after = rw (c.appended-core.ensures, c.is_last-place.ensures, c.start_shard-place.ensures, c.len-shards.ensures, c.args.core.now.tables.ok.0, c.enter.ensures, c.start_phase.ensures, c.guard_of-guard.ensures, c.requires.room.count) refl;
     }
 
 pub returns-clause-room : goal.returns-clause-room
@@ -54,7 +54,7 @@ returns-clause-room g c =
       here = here;
       places = refl;
       numbers = c.requires.numbers;
-      steps = simp length-append at (ap length c.and-core.ensures);
+      steps = simp length-append at (ap length c.appended-core.ensures);
       count = refl;
       programs = refl;
       tables = refl;

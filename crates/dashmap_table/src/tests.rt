@@ -1,4 +1,0 @@
-mod routes;
-mod shard;
-mod shards;
-mod words;

@@ -1,0 +1,111 @@
+// What no clause says: that the definitions of the programs and of the hash are the ones meant, the printed text, and
+// that blocks are compared by what they show.
+use mapworld_calls::{
+    Answer, Ask, Begin, Block, Held, Keyed, Reply, SpreadState, guard_numbers, holds_one_guard,
+    spread_hash,
+};
+use past::Past;
+use std::hash::BuildHasher;
+use std::snapshot::Snapshot;
+use std::test::Fail;
+
+type Call = Ask<u64, u64, u8>;
+
+const GET: Call = Ask::Begin(Begin::Get(1));
+
+const GET_MUT: Call = Ask::Begin(Begin::GetMut(1));
+
+const READ: Call = Ask::Held(Held::Read(0));
+
+const WRITE: Call = Ask::Held(Held::Write(0));
+
+const DROP: Call = Ask::Held(Held::Drop);
+
+const INSERT: Call = Ask::Keyed(Keyed::Insert(2, 3));
+
+const REMOVE: Call = Ask::Keyed(Keyed::Remove(1));
+
+#[test]
+fn a_program_holds_one_guard(rt: HostRuntime) {
+    let table: [(&[Call], bool); 10] = [
+        (&[], true),
+        (&[READ, DROP], true),
+        (&[GET, READ, DROP], true),
+        (&[GET, READ, READ, DROP, REMOVE], true),
+        (&[GET_MUT, WRITE, READ, DROP], true),
+        (&[GET], false),
+        (&[GET_MUT, WRITE], false),
+        (&[GET, READ], false),
+        (&[GET, GET, DROP], false),
+        (&[GET, INSERT, DROP], false),
+    ];
+    for (i, (program, want)) in table.into_iter().enumerate() {
+        assert!(rt; holds_one_guard(program) == want, "program {i}");
+    }
+}
+
+#[test]
+fn a_program_takes_guard_numbers(rt: HostRuntime) {
+    assert!(rt; guard_numbers(&[INSERT, GET, READ, DROP], 2) == 2);
+}
+
+#[test]
+fn keys_spread(rt: HostRuntime) {
+    let table = [
+        (0, 0),
+        (1, 0x0100_0000_0000_0000),
+        (2, 0x0200_0000_0000_0000),
+        (3, 0x0300_0000_0000_0000),
+        (256, 0),
+        (257, 0x0100_0000_0000_0000),
+    ];
+    for (key, want) in table {
+        assert!(rt; SpreadState.hash_one(key) == want, "key {key}");
+        assert!(rt; spread_hash(key) == want, "key {key}");
+    }
+}
+
+#[test]
+fn calls_are_shown(rt: HostRuntime) -> Result<(), Fail> {
+    let alloc = rt.alloc();
+    let shown = format!(in alloc;
+        "{INSERT:?} {REMOVE:?} {GET:?} {GET_MUT:?} {READ:?} {WRITE:?} {DROP:?}"
+    )?;
+    let want =
+        "Keyed(Insert(2, 3)) Keyed(Remove(1)) Begin(Get(1)) Begin(GetMut(1)) Held(Read(0)) Held(Write(0)) Held(Drop)";
+    assert!(rt; shown.as_str() == want);
+    let reply: Reply<u64, u64, u8> = Reply {
+        thread: 0,
+        call: 1,
+        start: 2,
+        end: 4,
+        answer: Answer::Pair(1, 3),
+    };
+    let shown = format!(in alloc; "{reply:?}")?;
+    let want = "Reply { thread: 0, call: 1, start: 2, end: 4, answer: Pair(1, 3) }";
+    assert!(rt; shown.as_str() == want);
+    Ok(())
+}
+
+fn block(done: usize) -> Block<u64> {
+    Block {
+        thread: 0,
+        call: 1,
+        visit: 0,
+        start: 2,
+        position: 3,
+        end: None,
+        done: Snapshot::of(&done),
+        visited: Past::new(),
+    }
+}
+
+#[test]
+fn a_block_shows_six_fields(rt: HostRuntime) -> Result<(), Fail> {
+    // the two dots stand for what is kept for proofs alone
+    let shown = format!(in rt.alloc(); "{:?}", block(0))?;
+    let want = "Block { thread: 0, call: 1, visit: 0, start: 2, position: 3, end: None }";
+    assert!(rt; shown.as_str() == want);
+    assert!(rt; block(0) == block(1));
+    Ok(())
+}

@@ -1,0 +1,120 @@
+use super::worlds::Call::{Get, Insert, Leave, Read, Remove};
+use super::worlds::{program_of, step_round};
+use mapworld::{Answer, Ask, Begin, Deed, Held, Keyed, MapWorld, SpreadState};
+use std::hash::{BuildHasher, Hasher};
+use std::test::Fail;
+
+/// A letter that is compared without its case.
+#[derive(Drop)]
+#[derive_where(PartialEq, Eq, Hash)]
+struct Letter {
+    folded: u8,
+    #[derive_where(skip)]
+    shown: u8,
+}
+
+fn letter_of(shown: u8) -> Letter {
+    Letter {
+        folded: shown.to_ascii_lowercase(),
+        shown,
+    }
+}
+
+/// Reads the stored key's letter.
+#[derive(Drop)]
+struct ReadKey;
+
+impl Deed<Letter, u64> for ReadKey {
+    type Answer = u8;
+
+    ghost use Rattle.std.specs.Prelude.{true};
+
+    ghost answer_of = { λ deed key value. key.shown };
+
+    ghost keeps = { λ deed key value. true };
+
+    ghost effect_of = { λ deed key value. value };
+
+    fn answer(&self, key: &Letter, _value: &u64) -> u8 {
+        key.shown
+    }
+
+    fn keep(&self, _key: &Letter, _value: &u64) -> bool {
+        true
+    }
+
+    fn effect(&self, _key: &Letter, value: u64) -> u64 {
+        value
+    }
+}
+
+/// Gives every key the same hash.
+#[derive(Clone, Copy)]
+struct OneHash;
+
+#[derive(Clone, Copy)]
+struct OneHasher;
+
+impl Hasher for OneHasher {
+    ghost write = { λ hasher bytes. hasher };
+
+    ghost finish = { λ hasher. 0 };
+
+    fn write(&mut self, _bytes: &[u8]) {}
+
+    fn finish(&self) -> u64 {
+        0
+    }
+}
+
+impl BuildHasher for OneHash {
+    type Hasher = OneHasher;
+
+    ghost build_hasher = { λ builder. record {} };
+
+    fn build_hasher(&self) -> OneHasher {
+        OneHasher
+    }
+}
+
+#[test]
+fn equal_keys_are_one_key(rt: HostRuntime) -> Result<(), Fail> {
+    let program = vec![in rt.alloc();
+        Ask::Keyed(Keyed::Insert(letter_of(b'K'), 2)),
+        Ask::Begin(Begin::Get(letter_of(b'k'))),
+        Ask::Held(Held::Read(ReadKey)),
+        Ask::Held(Held::Drop),
+        Ask::Keyed(Keyed::Remove(letter_of(b'k'))),
+    ]?;
+    let pairs = vec![in rt.alloc(); (letter_of(b'k'), 0), (letter_of(b'K'), 1)]?;
+    let programs = vec![in rt.alloc(); program]?;
+    let mut world = MapWorld::new(rt.alloc(), 2, SpreadState, pairs, programs)?;
+    let is_done = step_round(&mut world, 1);
+    let answers = world.replies();
+    assert!(rt; is_done && answers.len() == 5);
+    // Of equal keys the last value and the first key were there at the start, and the insert left the stored key.
+    assert!(rt; answers[0].answer == Answer::Value(1));
+    assert!(rt; answers[2].answer == Answer::Read(b'k'));
+    assert!(rt; answers[4].answer == Answer::Pair(letter_of(b'k'), 2));
+    Ok(())
+}
+
+#[test]
+fn keys_of_one_hash_stay_apart(rt: HostRuntime) -> Result<(), Fail> {
+    let calls = [Insert(1, 10), Insert(2, 20), Remove(1), Get(2), Read, Leave];
+    let program = program_of(rt.alloc(), &calls).ok_or("no program")?;
+    let pairs = vec![in rt.alloc(); (1, 5), (3, 30)]?;
+    let programs = vec![in rt.alloc(); program]?;
+    let mut world = MapWorld::new(rt.alloc(), 4, OneHash, pairs, programs)?;
+    let is_done = step_round(&mut world, 1);
+    let answers = world.replies();
+    assert!(rt; is_done && answers.len() == 6);
+    assert!(rt; answers[0].answer == Answer::Value(5) && answers[2].answer == Answer::Pair(1, 10));
+    assert!(rt; answers[4].answer == Answer::Read(20));
+    assert!(rt;
+        world.pair(&1).is_none()
+            && world.pair(&2) == Some((&2, &20))
+            && world.pair(&3) == Some((&3, &30))
+    );
+    Ok(())
+}

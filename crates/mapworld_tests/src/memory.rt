@@ -1,0 +1,80 @@
+use super::worlds::Call::{Get, Insert, Leave};
+use super::worlds::{World, stands, step_round, step_through, step_times, told, world_of};
+use linked_list_allocator::LocalHeap;
+use mapworld::{Answer, Status};
+use std::test::Fail;
+
+/// Whether thread 1 sleeps while thread 0 is in its insertion, and both are finished after it.
+fn runs_to_the_end(world: &mut World<&LocalHeap>) -> bool {
+    let is_done = step_times(world, 0, 2) & step_times(world, 1, 1);
+    let sleeps = stands(world, 1, Status::Asleep);
+    let is_finished = step_through(world, 0) & step_round(world, 2);
+    is_done & sleeps & is_finished & stands(world, 1, Status::Finished)
+}
+
+/// Whether the refused insertion changed nothing, and thread 1 found no key.
+fn shows_no_insertion(world: &World<&LocalHeap>) -> bool {
+    world.pair(&1).is_none()
+        & told(world, 1, 0, &Answer::None)
+        & told(world, 1, 1, &Answer::NoGuard)
+        & world.blocks().iter().all(|block| block.thread == 1)
+}
+
+#[test]
+fn a_refused_growth_changes_nothing_and_leaves_no_hold(rt: HostRuntime) -> Result<(), Fail> {
+    let mut has_refused = false;
+    let mut has_done = false;
+    for size in 0..300 {
+        let heap = LocalHeap::new(rt.alloc(), size * 16)?;
+        // Thread 0 inserts, and thread 1 looks for the same key.
+        let Some(mut world) = world_of(&heap, &[], &[&[Insert(1, 10)], &[Get(1), Leave]]) else {
+            continue;
+        };
+        assert!(rt; runs_to_the_end(&mut world), "of size {size}");
+        if told(&world, 0, 0, &Answer::NoMemory) {
+            has_refused = true;
+            assert!(rt; shows_no_insertion(&world), "of size {size}");
+        } else {
+            has_done = true;
+            assert!(rt;
+                told(&world, 0, 0, &Answer::None)
+                    && told(&world, 1, 0, &Answer::Held)
+                    && told(&world, 1, 1, &Answer::Done),
+                "of size {size}"
+            );
+        }
+    }
+    assert!(rt; has_refused && has_done);
+    Ok(())
+}
+
+#[test]
+fn an_insert_on_a_present_key_needs_no_memory(rt: HostRuntime) -> Result<(), Fail> {
+    let mut has_done = false;
+    for size in 0..300 {
+        let heap = LocalHeap::new(rt.alloc(), size * 16)?;
+        let Some(mut world) = world_of(&heap, &[(1, 5)], &[&[Insert(1, 6)]]) else {
+            continue;
+        };
+        // All the memory that is left goes to somebody else.
+        let _hoard = hoard(&heap);
+        let is_done = step_round(&mut world, 1) & told(&world, 0, 0, &Answer::Value(5));
+        assert!(rt;
+            is_done && world.pair(&1) == Some((&1, &6)),
+            "of size {size}"
+        );
+        has_done = true;
+    }
+    assert!(rt; has_done);
+    Ok(())
+}
+
+fn hoard(heap: &LocalHeap) -> Vec<u8, &LocalHeap> {
+    let mut taken = Vec::new(heap);
+    for _ in 0..5000 {
+        if taken.push(0).is_err() {
+            break;
+        }
+    }
+    taken
+}

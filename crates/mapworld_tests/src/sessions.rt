@@ -1,0 +1,72 @@
+use super::scripts::{Line, failed_line};
+use super::worlds::Call::{Add, Get, GetMut, Leave, Read, Set};
+use mapworld::{Answer, Status};
+
+#[test]
+fn of_two_sessions_that_add_one_reads_what_the_other_left(rt: HostRuntime) {
+    const SCRIPT: &[Line<'_>] = &[
+        Line::Round,
+        Line::Told(0, 1, Answer::Read(0)),
+        Line::Told(1, 1, Answer::Read(1)),
+        Line::Told(0, 2, Answer::Done),
+        Line::Told(1, 2, Answer::Done),
+        Line::Pairs(&[(1, 2)]),
+    ];
+    let failed = failed_line(
+        rt.alloc(),
+        &[(1, 0)],
+        &[
+            &[GetMut(1), Read, Add(1), Leave],
+            &[GetMut(1), Read, Add(1), Leave],
+        ],
+        SCRIPT,
+    );
+    assert!(rt; failed.is_none(), "at line {failed:?}");
+}
+
+#[test]
+fn a_session_reads_what_it_wrote_while_a_reader_waits(rt: HostRuntime) {
+    const SCRIPT: &[Line<'_>] = &[
+        // The opening: start, admit, find, answer.
+        Line::Steps(0, 4),
+        Line::Through(1),
+        Line::Stands(1, Status::Asleep),
+        // The write and the read: start, deed, answer each.
+        Line::Steps(0, 6),
+        Line::Told(0, 1, Answer::Done),
+        Line::Told(0, 2, Answer::Read(7)),
+        Line::Stands(1, Status::Asleep),
+        Line::Round,
+        Line::Told(1, 1, Answer::Read(7)),
+    ];
+    let failed = failed_line(
+        rt.alloc(),
+        &[(1, 0)],
+        &[&[GetMut(1), Set(7), Read, Leave], &[Get(1), Read, Leave]],
+        SCRIPT,
+    );
+    assert!(rt; failed.is_none(), "at line {failed:?}");
+}
+
+#[test]
+fn a_shared_guard_writes_nothing(rt: HostRuntime) {
+    const SCRIPT: &[Line<'_>] = &[
+        Line::Round,
+        Line::Told(0, 1, Answer::WrongGuard),
+        Line::Told(0, 2, Answer::Read(5)),
+        Line::Told(0, 4, Answer::NoGuard),
+        Line::Told(1, 0, Answer::None),
+        Line::Told(1, 1, Answer::NoGuard),
+        Line::Pairs(&[(1, 5)]),
+    ];
+    let failed = failed_line(
+        rt.alloc(),
+        &[(1, 5)],
+        &[
+            &[Get(1), Add(1), Read, Leave, Add(1)],
+            &[GetMut(3), Add(1), Leave],
+        ],
+        SCRIPT,
+    );
+    assert!(rt; failed.is_none(), "at line {failed:?}");
+}

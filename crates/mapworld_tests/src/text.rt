@@ -1,0 +1,57 @@
+use linked_list_allocator::LocalHeap;
+use mapworld_report::{ReportFault, report};
+use std::io;
+use std::test::Fail;
+
+/// A writer that takes nothing.
+#[derive(Drop)]
+struct Closed;
+
+impl io::Write for Closed {
+    fn write(&mut self, _bytes: &[u8]) -> io::Result<usize> {
+        Err(io::Error::from(io::ErrorKind::BrokenPipe))
+    }
+
+    fn flush(&mut self) -> io::Result<()> {
+        Ok(())
+    }
+}
+
+const TEXT: &str =
+    "thread 0 call 0: value 20\nthread 0 call 1: held\nthread 0 call 2: value 10\nthread 0 call 3: done\nthread 1 call 0: none\nthread 1 call 1: none\npair 1: 10\n";
+
+#[test]
+fn a_report_tells_replies_and_contents(rt: HostRuntime) -> Result<(), Fail> {
+    let mut out = Vec::new(rt.alloc());
+    assert!(rt; report(rt.alloc(), &mut out).is_ok());
+    assert!(rt; out.as_slice() == TEXT.as_bytes());
+    Ok(())
+}
+
+#[test]
+fn a_writer_that_fails_ends_the_report(rt: HostRuntime) {
+    assert!(rt; matches!(report(rt.alloc(), &mut Closed), Err(ReportFault::Write)));
+}
+
+#[test]
+fn a_report_without_memory_writes_nothing(rt: HostRuntime) -> Result<(), Fail> {
+    let mut has_told = false;
+    let mut has_refused = false;
+    for size in 0..600 {
+        let heap = LocalHeap::new(rt.alloc(), size * 16)?;
+        let mut out = Vec::new(rt.alloc());
+        match report(&heap, &mut out) {
+            Ok(()) => {
+                has_told = true;
+                assert!(rt; out.as_slice() == TEXT.as_bytes());
+            }
+            Err(ReportFault::Fault { code, name }) => {
+                assert!(rt; code == 99 && name == "NoMemory" && out.is_empty());
+                has_refused = true;
+            }
+            Err(ReportFault::Write) => assert!(rt; false),
+        }
+    }
+    assert!(rt; has_told && has_refused);
+    Ok(())
+}

@@ -1,0 +1,177 @@
+//! Worlds of numbers for the other tests, and how they are stepped.
+
+use mapworld::{Answer, Ask, Begin, Deed, Held, Keyed, MapWorld, SpreadState, Status, Step};
+use std::alloc::Allocator;
+use std::hash::{BuildHasher, Hash};
+
+/// Reads the value, and stores it times a number and one more number, cut to the width.
+#[derive(Drop)]
+pub struct Linear {
+    times: u64,
+    more: u64,
+}
+
+impl Deed<u64, u64> for Linear {
+    type Answer = u64;
+
+    ghost use Rattle.std.specs.Prelude.{true, ◌+◌, ◌*◌, ◌%◌, ◌^◌};
+
+    ghost answer_of = { λ deed key value. value };
+
+    ghost keeps = { λ deed key value. true };
+
+    ghost effect_of = { λ deed key value. (value * deed.times % 2 ^ 64 + deed.more) % 2 ^ 64 };
+
+    fn answer(&self, _key: &u64, value: &u64) -> u64 {
+        *value
+    }
+
+    fn keep(&self, _key: &u64, _value: &u64) -> bool {
+        true
+    }
+
+    fn effect(&self, _key: &u64, value: u64) -> u64 {
+        value.wrapping_mul(self.times).wrapping_add(self.more)
+    }
+}
+
+pub type Asked = Ask<u64, u64, Linear>;
+
+pub type Answered = Answer<u64, u64, u64>;
+
+pub type World<A> = MapWorld<u64, u64, SpreadState, Linear, A>;
+
+/// One call of a program, as the tests write it.
+#[derive(Clone, Copy)]
+pub enum Call {
+    Insert(u64, u64),
+    Remove(u64),
+    Get(u64),
+    GetMut(u64),
+    Read,
+    /// Adds a number to the guarded value.
+    Add(u64),
+    /// Puts a number in the guarded value's place.
+    Set(u64),
+    /// Ends the guard.
+    Leave,
+}
+
+/// What the call asks of the world.
+pub fn ask_of(call: Call) -> Asked {
+    match call {
+        Call::Insert(key, value) => Ask::Keyed(Keyed::Insert(key, value)),
+        Call::Remove(key) => Ask::Keyed(Keyed::Remove(key)),
+        Call::Get(key) => Ask::Begin(Begin::Get(key)),
+        Call::GetMut(key) => Ask::Begin(Begin::GetMut(key)),
+        Call::Read => Ask::Held(Held::Read(Linear { times: 1, more: 0 })),
+        Call::Add(more) => Ask::Held(Held::Write(Linear { times: 1, more })),
+        Call::Set(more) => Ask::Held(Held::Write(Linear { times: 0, more })),
+        Call::Leave => Ask::Held(Held::Drop),
+    }
+}
+
+/// The program of these calls.
+pub fn program_of<A: Allocator>(alloc: A, calls: &[Call]) -> Option<Vec<Asked, A>> {
+    let mut program = Vec::with_capacity(alloc, calls.len()).ok()?;
+    for call in calls {
+        program.push(ask_of(*call)).ok()?;
+    }
+    Some(program)
+}
+
+/// A world of two shards that begins with these pairs, and has a thread for each of the programs; all is in one memory.
+pub fn world_of<A: Allocator + Copy + Drop>(
+    alloc: A,
+    pairs: &[(u64, u64)],
+    programs: &[&[Call]],
+) -> Option<World<A>> {
+    let mut first = Vec::with_capacity(alloc, pairs.len()).ok()?;
+    for pair in pairs {
+        first.push(*pair).ok()?;
+    }
+    let mut asked = Vec::with_capacity(alloc, programs.len()).ok()?;
+    for calls in programs {
+        asked.push(program_of(alloc, calls)?).ok()?;
+    }
+    MapWorld::new(alloc, 2, SpreadState, first, asked).ok()
+}
+
+pub fn step(thread: usize) -> Step {
+    Step {
+        thread,
+        fair: false,
+    }
+}
+
+/// Makes as many steps of the thread, and says whether all of them were done.
+pub fn step_times<A: Allocator>(world: &mut World<A>, thread: usize, times: usize) -> bool {
+    let mut done = true;
+    for _ in 0..times {
+        done &= world.run(&[step(thread)]).is_ok();
+    }
+    done
+}
+
+/// Steps the thread while it can move, and says whether all steps were done.
+pub fn step_through<A: Allocator>(world: &mut World<A>, thread: usize) -> bool {
+    let mut done = true;
+    for _ in 0..world.bound() {
+        if !world.can_move(thread) {
+            break;
+        }
+        done &= world.run(&[step(thread)]).is_ok();
+    }
+    done
+}
+
+/// Steps the threads below that number in turn, each once if it can move, until none can, and says whether all steps
+/// were done.
+pub fn step_round<K: Eq + Hash + Drop, V: Drop, S: BuildHasher, D: Deed<K, V> + Drop, A: Allocator>(
+    world: &mut MapWorld<K, V, S, D, A>,
+    threads: usize,
+) -> bool {
+    let mut done = true;
+    for _ in 0..world.bound() {
+        let mut moved = false;
+        for thread in 0..threads {
+            if world.can_move(thread) {
+                done &= world.run(&[step(thread)]).is_ok();
+                moved = true;
+            }
+        }
+        if !moved {
+            break;
+        }
+    }
+    done
+}
+
+/// Whether the thread's call was answered so.
+pub fn told<A: Allocator>(world: &World<A>, thread: usize, call: usize, want: &Answered) -> bool {
+    world.replies().iter().any(|reply| reply.thread == thread
+        && reply.call == call
+        && reply.answer == *want)
+}
+
+/// Whether the world has the thread, and it stands so.
+pub fn stands<A: Allocator>(world: &World<A>, thread: usize, want: Status) -> bool {
+    thread < world.threads() && world.status(thread) == want
+}
+
+/// Whether the world has the thread, and its unanswered call started at that step.
+pub fn started<A: Allocator>(world: &World<A>, thread: usize, want: u64) -> bool {
+    thread < world.threads() && world.started(thread) == Some(want)
+}
+
+/// Whether the contents are these pairs and no others.
+pub fn has_pairs<A: Allocator + Clone + Drop>(world: &World<A>, want: &[(u64, u64)]) -> bool {
+    let is_full = match world.contents() {
+        Ok(pairs) => pairs.len() == want.len(),
+        Err(_) => false,
+    };
+    is_full
+        && want
+            .iter()
+            .all(|pair| world.pair(&pair.0) == Some((&pair.0, &pair.1)))
+}
