@@ -1,3 +1,5 @@
+//! Routes, shares of a capacity, and amounts of shards.
+
 use dashmap_table::{capacity_share, default_shards, is_shard_amount, route};
 
 #[test]

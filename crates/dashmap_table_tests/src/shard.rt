@@ -1,3 +1,5 @@
+//! One shard: its room, its keys and its pairs.
+
 use super::words::{Word, spelled};
 use dashmap_table::{NoMemory, Shard};
 use std::test::Fail;

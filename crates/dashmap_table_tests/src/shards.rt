@@ -1,3 +1,5 @@
+//! Plain shards: routes, values and room, and a hash map as a twin.
+
 use super::words::spelled;
 use dashmap_table::{MapFault, Shards, is_shard_amount, route};
 use std::collections::HashMap;

@@ -1,5 +1,6 @@
-// What no clause says: that the definitions of the programs and of the hash are the ones meant, the printed text, and
-// that blocks are compared by what they show.
+//! What no clause says: that the definitions of the programs and of the hash are the ones meant, the printed text, and
+//! that blocks are compared by what they show.
+
 use mapworld_calls::{
     Answer, Ask, Begin, Block, Held, Keyed, Reply, SpreadState, guard_numbers, holds_one_guard,
     spread_hash,

@@ -1,3 +1,5 @@
+//! The codes and the names of the faults.
+
 use mapworld::{NoMemory, RunFault, WorldNewFault};
 
 #[test]

@@ -1,5 +1,6 @@
-// What no clause says: that a history takes no bytes beside what it is kept with, that it may cross
-// threads, and that the counter of the docs counts.
+//! What no clause says: that a history takes no bytes beside what it is kept with, that it may cross
+//! threads, and that the counter of the docs counts.
+
 use past::Past;
 use past_example::{Counter, three_steps};
 

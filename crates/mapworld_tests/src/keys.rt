@@ -1,3 +1,5 @@
+//! Keys that are equal though they differ, and keys that share a hash.
+
 use super::worlds::Call::{Get, Insert, Leave, Read, Remove};
 use super::worlds::{program_of, step_round};
 use mapworld::{Answer, Ask, Begin, Deed, Held, Keyed, MapWorld, SpreadState};

@@ -1,3 +1,5 @@
+//! Which worlds are made and which are refused, and worlds of the largest sizes.
+
 use super::worlds::Call::{Get, Insert, Leave, Read, Remove};
 use super::worlds::{Asked, Call, World, has_pairs, program_of, stands, step_round, told};
 use mapworld::{Answer, MapWorld, SpreadState, Status, WorldNewFault};

@@ -1,3 +1,5 @@
+//! Worlds on heaps of all small sizes.
+
 use super::worlds::Call::{Get, Insert, Leave};
 use super::worlds::{World, stands, step_round, step_through, step_times, told, world_of};
 use linked_list_allocator::LocalHeap;

@@ -1,3 +1,5 @@
+//! Calls on one key, guards, refused steps, and what blocks and bounds show.
+
 use super::scripts::{Line, failed_line};
 use super::worlds::Call::{Get, Insert, Leave, Read, Remove};
 use super::worlds::{step_through, world_of};

@@ -1,3 +1,5 @@
+//! Guards that read and write, beside other threads.
+
 use super::scripts::{Line, failed_line};
 use super::worlds::Call::{Add, Get, GetMut, Leave, Read, Set};
 use mapworld::{Answer, Status};

@@ -1,3 +1,5 @@
+//! The report: its text, a writer that fails, and want of memory.
+
 use linked_list_allocator::LocalHeap;
 use mapworld_report::{ReportFault, report};
 use std::io;
