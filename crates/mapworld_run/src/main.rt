@@ -1,7 +1,7 @@
 //! One small world of a map under two threads, run by one schedule, and what came out of it.
 #![tactic(auto)]
 
-use mapworld_report::{ReportFault, report};
+pub use mapworld_report::{ReportFault, report};
 use std::io;
 use std::process::ExitCode;
 
