@@ -1,15 +1,92 @@
 //! Checks of upgradable guards of the reader-writer lock.
 
-use crate::guard_checks::{lends, prints_its_value, writes};
-use crate::raw_checks::TURNS;
-use crate::rwlock_seen::{is_free, is_read, is_written};
-use crate::wrong::{Wrong, expect};
 use lock_api::{RwLock, RwLockUpgradableReadGuard, RwLockWriteGuard};
+use lock_api_mutex_checks::guard_checks::{
+    lends, prints_its_value, shows, unlocks_for_a_while as lets_go_for_a_while, writes,
+};
+use lock_api_mutex_checks::raw_checks::TURNS;
+use lock_api_mutex_checks::{Look, Seen, Wrong, expect, expect_all, is_alone, is_free, is_read};
 use lock_api_raw::{RawRwLockUpgrade, RawRwLockUpgradeDowngrade, RawRwLockUpgradeFair};
 use std::alloc::Allocator;
 use std::sync::Wait;
 use std::thread;
 use std::thread::Threads;
+
+/// Who holds a lock of 5 while it is looked at.
+#[derive(Clone, Copy)]
+enum Holder {
+    Nobody,
+    Reader,
+    TwoReaders,
+    Upgradable,
+    UpgradableAndReader,
+    Writer,
+}
+
+/// How the lock shows itself, and whether it lets in an upgradable reader.
+fn look_upgradably<R: RawRwLockUpgrade>(lock: &RwLock<R, u64>) -> (Seen, bool)
+where
+    R::Runtime: Wait,
+{
+    let upgradable = lock.try_upgradable_read().is_some();
+    (lock.look(), upgradable)
+}
+
+/// How the lock answers beside one more reader.
+fn beside_a_reader<R: RawRwLockUpgrade>(lock: &RwLock<R, u64>, party: &mut R::Party) -> (Seen, bool)
+where
+    R::Runtime: Wait,
+{
+    let _reader = lock.read(party);
+    look_upgradably(lock)
+}
+
+/// How the lock answers beside that holder, which is gone afterwards.
+fn beside<R: RawRwLockUpgrade>(
+    lock: &RwLock<R, u64>,
+    holder: Holder,
+    party: &mut R::Party,
+) -> (Seen, bool)
+where
+    R::Runtime: Wait,
+{
+    match holder {
+        Holder::Nobody => look_upgradably(lock),
+        Holder::Reader => beside_a_reader(lock, party),
+        Holder::TwoReaders => {
+            let _reader = lock.read(party);
+            beside_a_reader(lock, party)
+        }
+        Holder::Upgradable => {
+            let _upgradable = lock.upgradable_read(party);
+            look_upgradably(lock)
+        }
+        Holder::UpgradableAndReader => {
+            let _upgradable = lock.upgradable_read(party);
+            beside_a_reader(lock, party)
+        }
+        Holder::Writer => {
+            let _writer = lock.write(party);
+            look_upgradably(lock)
+        }
+    }
+}
+
+/// Goes on where the lock answers beside each holder as it must.
+fn shows_each<R: RawRwLockUpgrade>(
+    lock: &RwLock<R, u64>,
+    party: &mut R::Party,
+    steps: &[(Holder, Seen, bool, &'static str)],
+) -> Result<(), Wrong>
+where
+    R::Runtime: Wait,
+{
+    for (holder, seen, upgradable, what) in steps {
+        let (shown, admitted) = beside(lock, *holder, party);
+        expect(shown == *seen && admitted == *upgradable, *what)?;
+    }
+    Ok(())
+}
 
 /// Beside an upgradable guard there are readers, and neither a writer nor another upgradable guard.
 pub fn admits_one<R: RawRwLockUpgrade + Drop>(
@@ -20,31 +97,29 @@ where
     R::Runtime: Wait,
 {
     let lock = RwLock::<R, u64>::new(source, 4, 5)?;
-    let reader = lock.read(party);
-    expect(
-        lock.try_upgradable_read().is_some(),
-        "try_upgradable_read beside a reader: Some",
+    shows_each(
+        &lock,
+        party,
+        &[
+            (Holder::Reader, Seen::Read, true, "beside a reader"),
+            (
+                Holder::Upgradable,
+                Seen::Read,
+                false,
+                "beside an upgradable guard",
+            ),
+            (
+                Holder::Nobody,
+                Seen::Free,
+                true,
+                "a dropped upgradable guard releases",
+            ),
+            (Holder::Writer, Seen::Alone, false, "beside a writer"),
+            (Holder::Nobody, Seen::Free, true, "each of them released"),
+        ],
     )?;
-    drop(reader);
-    let upgradable = lock.upgradable_read(party);
-    expect(is_read(&lock), "beside an upgradable guard")?;
-    expect(
-        lock.try_upgradable_read().is_none(),
-        "try_upgradable_read beside an upgradable guard: None",
-    )?;
-    expect(lends(&upgradable, 5), "an upgradable guard reads")?;
-    drop(upgradable);
-    expect(is_free(&lock), "a dropped upgradable guard releases")?;
-    let writer = lock.write(party);
-    expect(
-        lock.try_upgradable_read().is_none(),
-        "try_upgradable_read beside a writer: None",
-    )?;
-    drop(writer);
-    expect(
-        lock.try_upgradable_read().is_some(),
-        "try_upgradable_read of a free lock: Some",
-    )
+    let read = lends(&lock.upgradable_read(party), 5);
+    expect(read, "an upgradable guard reads")
 }
 
 /// An upgradable guard counts among the readers.
@@ -56,22 +131,31 @@ where
     R::Runtime: Wait,
 {
     let lock = RwLock::<R, u64>::new(source, 2, 5)?;
-    let upgradable = lock.upgradable_read(party);
-    let reader = lock.read(party);
-    expect(lock.try_read().is_none(), "the third hold of two: None")?;
-    drop(upgradable);
-    expect(
-        lock.try_upgradable_read().is_some(),
-        "an upgradable guard's end makes room for another",
-    )?;
-    let other = lock.read(party);
-    expect(
-        lock.try_upgradable_read().is_none(),
-        "try_upgradable_read beside two readers of two: None",
-    )?;
-    drop(reader);
-    drop(other);
-    expect(is_free(&lock), "the last end releases")
+    shows_each(
+        &lock,
+        party,
+        &[
+            (
+                Holder::UpgradableAndReader,
+                Seen::Full,
+                false,
+                "no third hold of two",
+            ),
+            (
+                Holder::Reader,
+                Seen::Read,
+                true,
+                "one reader leaves room for an upgradable guard",
+            ),
+            (
+                Holder::TwoReaders,
+                Seen::Full,
+                false,
+                "two readers of two leave none",
+            ),
+            (Holder::Nobody, Seen::Free, true, "the last end releases"),
+        ],
+    )
 }
 
 /// An upgrade waits for readers to go, and a try of one gives the same guard back, still held.
@@ -83,29 +167,40 @@ where
     R::Runtime: Wait,
 {
     let lock = RwLock::<R, u64>::new(source, 4, 5)?;
+    tries_to_upgrade(&lock, party)?;
+    expect(is_free(&lock), "a guard that was upgraded releases")?;
+    let writer = RwLockUpgradableReadGuard::upgrade(lock.upgradable_read(party), party);
+    expect_all(&[
+        (is_alone(&lock), "beside a guard that waited to upgrade"),
+        (lends(&writer, 6), "what was written is read next"),
+    ])
+}
+
+/// As above, by tries: beside a reader, and then alone, which leaves 6.
+fn tries_to_upgrade<R: RawRwLockUpgrade>(
+    lock: &RwLock<R, u64>,
+    party: &mut R::Party,
+) -> Result<(), Wrong>
+where
+    R::Runtime: Wait,
+{
     let upgradable = lock.upgradable_read(party);
     let reader = lock.read(party);
     let Err(upgradable) = RwLockUpgradableReadGuard::try_upgrade(upgradable) else {
         return expect(false, "try_upgrade beside a reader: the same guard");
     };
     drop(reader);
-    expect(is_read(&lock), "a guard that came back holds")?;
-    expect(
-        lock.try_upgradable_read().is_none(),
-        "a guard that came back is upgradable",
-    )?;
-    expect(lends(&upgradable, 5), "a guard that came back reads")?;
+    let held = look_upgradably(lock) == (Seen::Read, false);
+    let read = lends(&upgradable, 5);
     let Ok(mut writer) = RwLockUpgradableReadGuard::try_upgrade(upgradable) else {
         return expect(false, "try_upgrade beside nobody: a write guard");
     };
-    expect(is_written(&lock), "beside a guard that was upgraded")?;
-    expect(writes(&mut writer, 6), "an upgraded guard writes")?;
-    drop(writer);
-    expect(is_free(&lock), "a guard that was upgraded releases")?;
-    let upgradable = lock.upgradable_read(party);
-    let writer = RwLockUpgradableReadGuard::upgrade(upgradable, party);
-    expect(is_written(&lock), "beside a guard that waited to upgrade")?;
-    expect(lends(&writer, 6), "what was written is read next")
+    expect_all(&[
+        (held, "a guard that came back holds"),
+        (read, "a guard that came back reads"),
+        (is_alone(lock), "beside a guard that was upgraded"),
+        (writes(&mut writer, 6), "an upgraded guard writes"),
+    ])
 }
 
 /// The value is written under the upgraded guard for a closure's time, and not beside a reader.
@@ -120,26 +215,28 @@ where
     let mut upgradable = lock.upgradable_read(party);
     let inside = RwLockUpgradableReadGuard::with_upgraded(&mut upgradable, party, |value| {
         *value = 5;
-        is_written(&lock)
+        is_alone(&lock)
     });
-    expect(inside, "held alone inside with_upgraded")?;
-    expect(lends(&upgradable, 5), "with_upgraded wrote")?;
-    expect(is_read(&lock), "not alone after with_upgraded")?;
+    let wrote = lends(&upgradable, 5);
+    let read = is_read(&lock);
     let reader = lock.read(party);
     let tried = RwLockUpgradableReadGuard::try_with_upgraded(&mut upgradable, |value| *value = 6);
-    expect(tried.is_none(), "try_with_upgraded beside a reader: None")?;
-    expect(
-        lends(&upgradable, 5),
-        "the closure wasn't called beside a reader",
-    )?;
+    let uncalled = lends(&upgradable, 5);
     drop(reader);
-    let tried = RwLockUpgradableReadGuard::try_with_upgraded(&mut upgradable, |value| *value = 7);
-    expect(tried.is_some(), "try_with_upgraded beside nobody: Some")?;
-    expect(lends(&upgradable, 7), "try_with_upgraded wrote")?;
-    expect(
-        lock.try_upgradable_read().is_none(),
-        "upgradable again afterwards",
-    )
+    let again = RwLockUpgradableReadGuard::try_with_upgraded(&mut upgradable, |value| *value = 7);
+    expect_all(&[
+        (inside, "held alone inside with_upgraded"),
+        (wrote, "with_upgraded wrote"),
+        (read, "not alone after with_upgraded"),
+        (tried.is_none(), "try_with_upgraded beside a reader: None"),
+        (uncalled, "the closure wasn't called beside a reader"),
+        (again.is_some(), "try_with_upgraded beside nobody: Some"),
+        (lends(&upgradable, 7), "try_with_upgraded wrote"),
+        (
+            look_upgradably(&lock) == (Seen::Read, false),
+            "upgradable again afterwards",
+        ),
+    ])
 }
 
 /// A writer becomes upgradable, and an upgradable guard a reader, and each keeps the value.
@@ -152,26 +249,22 @@ where
 {
     let lock = RwLock::<R, u64>::new(source, 4, 5)?;
     let mut writer = lock.write(party);
-    expect(writes(&mut writer, 7), "a writer reads what it wrote")?;
+    let wrote = writes(&mut writer, 7);
     let upgradable = RwLockWriteGuard::downgrade_to_upgradable(writer);
-    expect(is_read(&lock), "beside a guard that became upgradable")?;
-    expect(
-        lock.try_upgradable_read().is_none(),
-        "a guard that became upgradable is",
-    )?;
-    expect(
-        lends(&upgradable, 7),
-        "downgrade_to_upgradable keeps the value",
-    )?;
+    let is_upgradable = look_upgradably(&lock) == (Seen::Read, false);
+    let kept = lends(&upgradable, 7);
     let reader = RwLockUpgradableReadGuard::downgrade(upgradable);
-    expect(is_read(&lock), "beside a guard that became a reader")?;
-    expect(
-        lock.try_upgradable_read().is_some(),
-        "a guard that became a reader isn't upgradable",
-    )?;
-    expect(lends(&reader, 7), "downgrade keeps the value")?;
+    let is_shared = look_upgradably(&lock) == (Seen::Read, true);
+    let kept_again = lends(&reader, 7);
     drop(reader);
-    expect(is_free(&lock), "a guard that became a reader releases")
+    expect_all(&[
+        (wrote, "a writer reads what it wrote"),
+        (is_upgradable, "beside a guard that became upgradable"),
+        (kept, "downgrade_to_upgradable keeps the value"),
+        (is_shared, "beside a guard that became a reader"),
+        (kept_again, "downgrade keeps the value"),
+        (is_free(&lock), "a guard that became a reader releases"),
+    ])
 }
 
 /// `unlocked` lets an upgradable guard go for the closure's time, and it is held again afterwards.
@@ -184,28 +277,16 @@ where
 {
     let lock = RwLock::<R, u64>::new(source, 4, 5)?;
     let mut upgradable = lock.upgradable_read(party);
-    let inside = RwLockUpgradableReadGuard::unlocked(&mut upgradable, party, || is_free(&lock));
-    expect(inside, "free inside unlocked")?;
-    expect(is_read(&lock), "held again after unlocked")?;
-    let inside = RwLockUpgradableReadGuard::unlocked_fair(
-        &mut upgradable,
-        party,
-        || is_free(&lock),
-    );
-    expect(inside, "free inside unlocked_fair")?;
-    expect(is_read(&lock), "held again after unlocked_fair")?;
-    RwLockUpgradableReadGuard::bump(&mut upgradable, party);
-    expect(
-        lock.try_upgradable_read().is_none(),
-        "upgradable after bump",
-    )?;
-    expect(lends(&upgradable, 5), "the value is still there")?;
-    expect(
-        RwLockUpgradableReadGuard::rwlock(&upgradable).is_locked(),
-        "the lock of a guard",
-    )?;
+    let let_go = lets_go_for_a_while(&mut upgradable, party, &lock, Seen::Read).is_ok();
+    let still = look_upgradably(&lock) == (Seen::Read, false);
+    let of_it = RwLockUpgradableReadGuard::rwlock(&upgradable).is_locked();
     RwLockUpgradableReadGuard::unlock_fair(upgradable);
-    expect(is_free(&lock), "unlock_fair releases")
+    expect_all(&[
+        (let_go, "let go for a while and held again"),
+        (still, "upgradable after bump"),
+        (of_it, "the lock of a guard"),
+        (is_free(&lock), "unlock_fair releases"),
+    ])
 }
 
 /// An upgradable guard prints its value, and so does the lock, which a reader may take beside it.
@@ -219,13 +300,16 @@ where
 {
     let lock = RwLock::<R, u64>::new(source, 4, 5)?;
     let upgradable = lock.upgradable_read(party);
-    let text = format!(in alloc; "{lock:?}")?;
-    expect(
-        text.as_str() == "RwLock { data: 5 }",
-        "Debug of a lock that is read",
-    )?;
-    let same = prints_its_value(alloc, &upgradable, "5 5")?;
-    expect(same, "Debug and Display of an upgradable guard")
+    expect_all(&[
+        (
+            shows(alloc, &lock, "RwLock { data: 5 }"),
+            "Debug of a lock that is read",
+        ),
+        (
+            prints_its_value(alloc, &upgradable, "5 5"),
+            "Debug and Display of an upgradable guard",
+        ),
+    ])
 }
 
 /// Adds 1 to what an upgradable guard read, under the guard that it becomes, a thousand times.

@@ -46,6 +46,3 @@ pub use mode::Mode;
 pub use packed_word::PackedWord;
 pub use raw::RawState;
 pub use token_table::TokenTable;
-
-#[cfg(test)]
-mod tests;

@@ -1,4 +1,4 @@
--- The two ways that the tests take.
+-- The two ways that tests and checks take.
 use Rattle.std.specs.Prelude.{◌≡◌, Option, None, Some, IsSome, refl}
 use Rattle.std.proofs.Common.{ap, sym}
 use Rattle.lock_api_raw.specs.Parts.{IsWay}

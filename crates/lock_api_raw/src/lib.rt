@@ -28,6 +28,3 @@ pub use rwlock::{
     RawRwLockUpgradeDowngrade, RawRwLockUpgradeFair, RawRwLockUpgradeTimed,
 };
 pub use token::{GuardNoSend, GuardSend};
-
-#[cfg(test)]
-mod tests;

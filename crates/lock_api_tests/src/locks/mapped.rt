@@ -1,8 +1,8 @@
 //! Mapped guards of locks that are named.
 
-use crate::parts::{First, Inside};
-use crate::{PackedLock, PackedMutex};
+use crate::steps::all_right;
 use lock_api::{MappedMutexGuard, Mutex, MutexGuard, RwLock, RwLockReadGuard, RwLockWriteGuard};
+use lock_api_packed::{First, Inside, PackedLock, PackedMutex};
 use std::test::Fail;
 
 #[test]
@@ -10,17 +10,23 @@ fn a_mapped_mutex_guard_reads_and_writes_its_part(rt: HostRuntime) -> Result<(),
     let mut party = 1;
     let mutex = Mutex::<PackedMutex<HostRuntime>, (Option<u64>, u64)>::new(rt, (Some(1), 2))?;
     let mut first = MutexGuard::map(mutex.lock(&mut party), First);
-    assert!(rt; *first == Some(1));
+    let read = *first == Some(1);
     *first = None;
-    match MappedMutexGuard::try_map(first, Inside) {
+    let missing = match MappedMutexGuard::try_map(first, Inside) {
         Ok(inside) => {
             drop(inside);
-            assert!(rt; false, "a part that is missing was there");
+            false
         }
-        Err(first) => drop(first),
-    }
-    assert!(rt; !mutex.is_locked());
-    assert!(rt; mutex.into_inner() == (None, 2));
+        Err(first) => {
+            drop(first);
+            true
+        }
+    };
+    let freed = !mutex.is_locked();
+    all_right(
+        &rt,
+        &[read, missing, freed, mutex.into_inner() == (None, 2)],
+    );
     Ok(())
 }
 
@@ -29,16 +35,20 @@ fn a_mapped_lock_guard_reads_and_writes_its_part(rt: HostRuntime) -> Result<(), 
     let mut party = 1;
     let lock = RwLock::<PackedLock<HostRuntime>, (Option<u64>, u64)>::new(rt, 4, (Some(1), 2))?;
     let mut writer = RwLockWriteGuard::map(lock.write(&mut party), First);
-    assert!(rt; lock.is_locked_exclusive());
-    assert!(rt; *writer == Some(1));
+    let exclusive = lock.is_locked_exclusive();
+    let read = *writer == Some(1);
     *writer = None;
     drop(writer);
-    assert!(rt; !lock.is_locked());
+    let freed = !lock.is_locked();
     let reader = RwLockReadGuard::map(lock.read(&mut party), First);
-    assert!(rt; *reader == None);
-    assert!(rt; lock.is_locked() && !lock.is_locked_exclusive());
+    let written = *reader == None;
+    let shared = lock.is_locked() && !lock.is_locked_exclusive();
     drop(reader);
-    assert!(rt; !lock.is_locked());
-    assert!(rt; lock.into_inner() == (None, 2));
+    let freed_again = !lock.is_locked();
+    let kept = lock.into_inner() == (None, 2);
+    all_right(
+        &rt,
+        &[exclusive, read, freed, written, shared, freed_again, kept],
+    );
     Ok(())
 }

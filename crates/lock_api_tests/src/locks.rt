@@ -1,10 +1,11 @@
-//! The raw locks of the tests, and the checks on them.
+//! Tests of the raw locks of one atomic word, and of the generic locks over them.
 mod mapped;
 mod mutexes;
 mod reentrant;
 mod rwlocks;
 
-use crate::{PackedLock, PackedMutex, Parties};
+use crate::steps::all_right;
+use lock_api_packed::{PackedLock, PackedMutex, Parties};
 use lock_api_raw::{GetThreadId, RawMutex, RawMutexTimed, RawRwLock, RawRwLockUpgrade};
 use std::test::Fail;
 use std::time::Duration;
@@ -15,22 +16,22 @@ fn a_held_mutex_admits_nobody(rt: HostRuntime) -> Result<(), Fail> {
     let mut party = 1;
     let token = raw.lock(&mut party);
     let second = raw.try_lock();
-    assert!(rt; second.is_none());
+    let refused = second.is_none();
     if let Some(token) = second {
         raw.unlock(token);
     }
     let third = raw.try_lock_for(Duration::from_millis(1), &rt, &mut party);
-    assert!(rt; third.is_none());
+    let given_up = third.is_none();
     if let Some(token) = third {
         raw.unlock(token);
     }
     raw.unlock(token);
     let fourth = raw.try_lock();
-    assert!(rt; fourth.is_some());
+    let admitted = fourth.is_some();
     if let Some(token) = fourth {
         raw.unlock(token);
     }
-    assert!(rt; !raw.is_locked());
+    all_right(&rt, &[refused, given_up, admitted, !raw.is_locked()]);
     Ok(())
 }
 
@@ -41,25 +42,29 @@ fn an_upgradable_hold_stands_beside_readers(rt: HostRuntime) -> Result<(), Fail>
     let upgradable = raw.lock_upgradable(&mut party);
     let reader = raw.lock_shared(&mut party);
     let full = raw.try_lock_shared();
-    assert!(rt; full.is_none());
+    let refused = full.is_none();
     if let Some(token) = full {
         raw.unlock_shared(token);
     }
-    match raw.try_upgrade(upgradable) {
+    let came_back = match raw.try_upgrade(upgradable) {
         Ok(token) => {
             raw.unlock_exclusive(token);
-            assert!(rt; false, "upgraded beside a reader");
+            false
         }
-        Err(token) => raw.unlock_upgradable(token),
-    }
+        Err(token) => {
+            raw.unlock_upgradable(token);
+            true
+        }
+    };
     raw.unlock_shared(reader);
-    assert!(rt; !raw.is_locked());
+    all_right(&rt, &[refused, came_back, !raw.is_locked()]);
     Ok(())
 }
 
 #[test]
 fn parties_are_told_apart(rt: HostRuntime) {
     for (party, id) in [(0, 1), (1, 2), (u32::MAX, 4_294_967_296)] {
-        assert_eq!(rt; Parties::new().nonzero_thread_id(&party).get(), id);
+        let told = Parties::new().nonzero_thread_id(&party).get();
+        assert!(rt; told == id, "party {party}: {told}");
     }
 }

@@ -10,7 +10,7 @@ use std::thread;
 use std::thread::Threads;
 
 /// How often each of two threads takes a lock.
-pub(crate) const TURNS: u32 = 1_000;
+pub const TURNS: u32 = 1_000;
 
 /// Reads the count, lets others run, and writes it with 1 added.
 fn count_up(count: &AtomicU64) {

@@ -1,6 +1,7 @@
 //! Memory that is refused.
-use crate::{Desk, DeskFault, TokenTable};
+use crate::steps::all_right;
 use linked_list_allocator::LocalHeap;
+use lock_api_desk::{Desk, DeskFault, TokenTable};
 use std::alloc::AllocError;
 use std::test::Fail;
 
@@ -19,11 +20,16 @@ fn hoard(heap: &LocalHeap) -> Vec<u8, &LocalHeap> {
 fn a_first_guard_without_memory_is_refused(rt: HostRuntime) -> Result<(), Fail> {
     let heap = LocalHeap::new(rt.alloc(), 0)?;
     let mut desk = Desk::new(&heap, TokenTable::new(9), 0_u64);
-    assert_eq!(rt; desk.reserve(1), Err(DeskFault::NoMemory));
-    assert_eq!(rt; desk.write(1, 1), Err(DeskFault::NoMemory));
-    assert_eq!(rt; desk.held(1), None);
-    assert_eq!(rt; desk.unlock(1, 1), Err(DeskFault::NoSuchGuard));
-    assert_eq!(rt; desk.reserve(0), Ok(()));
+    all_right(
+        &rt,
+        &[
+            desk.reserve(1) == Err(DeskFault::NoMemory),
+            desk.write(1, 1) == Err(DeskFault::NoMemory),
+            desk.held(1) == None,
+            desk.unlock(1, 1) == Err(DeskFault::NoSuchGuard),
+            desk.reserve(0) == Ok(()),
+        ],
+    );
     Ok(())
 }
 
@@ -31,12 +37,18 @@ fn a_first_guard_without_memory_is_refused(rt: HostRuntime) -> Result<(), Fail> 
 fn a_guard_within_the_reserve_takes_no_memory(rt: HostRuntime) -> Result<(), Fail> {
     let heap = LocalHeap::new(rt.alloc(), 4000)?;
     let mut desk = Desk::new(&heap, TokenTable::new(9), 0_u64);
-    assert_eq!(rt; desk.reserve(1), Ok(()));
+    let reserved = desk.reserve(1) == Ok(());
     let _hoard = hoard(&heap);
-    assert_eq!(rt; desk.write(1, 1), Ok(()));
-    assert_eq!(rt; desk.set_aside(1, 1), Ok(()));
-    assert_eq!(rt; desk.take_up(1, 1), Ok(()));
-    assert_eq!(rt; desk.unlock(1, 1), Ok(()));
-    assert_eq!(rt; desk.read(1, 2), Ok(()));
+    all_right(
+        &rt,
+        &[
+            reserved,
+            desk.write(1, 1) == Ok(()),
+            desk.set_aside(1, 1) == Ok(()),
+            desk.take_up(1, 1) == Ok(()),
+            desk.unlock(1, 1) == Ok(()),
+            desk.read(1, 2) == Ok(()),
+        ],
+    );
     Ok(())
 }

@@ -26,6 +26,14 @@ pub fn expect(holds: bool, what: &'static str) -> Result<(), Wrong>
     if holds { Ok(()) } else { Err(Wrong { what }) }
 }
 
+/// Goes on where each step is right, and else says what is the first that isn't.
+pub fn expect_all(steps: &[(bool, &'static str)]) -> Result<(), Wrong> {
+    for (right, what) in steps {
+        expect(*right, *what)?;
+    }
+    Ok(())
+}
+
 impl From<TableFull> for Wrong {
     fn from(_fault: TableFull) -> Wrong {
         Wrong { what: "TableFull" }

@@ -1,16 +1,17 @@
 //! Checks of guards, whatever lock they are of. An error is the number of the step that went wrong.
 ghost use Rattle.std.specs.Prelude.{◌≡◌, ◌==◌, Bool, IsOk, Ok, Err, None, Some, if◌then◌else◌, true};
 
-use crate::parts::{First, Inside};
+use crate::seen::{Look, Seen, is_free};
 use lock_api::{Guard, Mapped};
+use lock_api_packed::{First, Inside};
 use lock_api_raw::Then;
-use lock_api_rw::{FairHold, Hold, Lender, LenderMut};
-use std::alloc::{AllocError, Allocator};
+use lock_api_rw::{Access, FairHold, Hold, Lender, LenderMut};
+use std::alloc::Allocator;
 use std::fmt::{Debug, Display};
 use std::sync::Wait;
 
 /// Goes on where `holds` is true, and else says at which step it was not.
-fn step(number: u8, holds: bool) -> Result<(), u8>
+pub(crate) fn step(number: u8, holds: bool) -> Result<(), u8>
     ensures { result ≡ if holds then Ok tt else Err number }
 {
     if holds { Ok(()) } else { Err(number) }
@@ -133,30 +134,70 @@ where
     }
 }
 
-/// A guard prints its value by Debug and by Display, with a space between.
+/// `unlocked` and `unlocked_fair` let a guard of 5 go for the closure's time. It is held again afterwards as it is to be
+/// seen, and so it is after a bump.
+pub fn unlocks_for_a_while<W: Lender<Part = u64> + Drop, H: FairHold + Access<Inner = W>, L: Look>(
+    guard: &mut Guard<W, H>,
+    party: &mut H::Party,
+    lock: &L,
+    held: Seen,
+) -> Result<(), u8>
+where
+    H::Runtime: Wait,
+    L::Runtime: Wait,
+{
+    let let_go = Guard::unlocked(guard, party, || is_free(lock));
+    let again = lock.look();
+    let let_go_fairly = Guard::unlocked_fair(guard, party, || is_free(lock));
+    let again_fairly = lock.look();
+    Guard::bump(guard, party);
+    let bumped = lock.look();
+    step(1, let_go)?;
+    step(2, again == held)?;
+    step(3, let_go_fairly)?;
+    step(4, again_fairly == held)?;
+    step(5, bumped == held)?;
+    step(6, lends(guard, 5))
+}
+
+/// Whether Debug prints this text.
+pub fn shows<D: Debug, A: Allocator>(alloc: A, shown: &D, text: &str) -> bool {
+    match format!(in alloc; "{shown:?}") {
+        Ok(printed) => printed.as_str() == text,
+        Err(_) => false,
+    }
+}
+
+/// Whether Debug and Display print these texts, with a space between.
+pub fn shows_both<D: Debug + Display, A: Allocator>(alloc: A, shown: &D, both: &str) -> bool {
+    match format!(in alloc; "{shown:?} {shown}") {
+        Ok(printed) => printed.as_str() == both,
+        Err(_) => false,
+    }
+}
+
+/// Whether a guard prints its value by Debug and by Display, with a space between.
 pub fn prints_its_value<W: Lender + Drop, H: Hold, A: Allocator>(
     alloc: A,
     guard: &Guard<W, H>,
     both: &str,
-) -> Result<bool, AllocError>
+) -> bool
 where
     W::Part: Debug + Display,
     H::Runtime: Wait,
 {
-    let text = format!(in alloc; "{guard:?} {guard}")?;
-    Ok(text.as_str() == both)
+    shows_both(alloc, guard, both)
 }
 
-/// A guard that is narrowed to its first field prints that by Debug and by Display, with a space between.
+/// Whether a guard that is narrowed to its first field prints that by Debug and by Display, with a space between.
 pub fn prints_its_first<W: Lender<Part = (u64, u64)> + Drop, H: Hold, A: Allocator>(
     alloc: A,
     guard: Guard<W, H>,
     both: &str,
-) -> Result<bool, AllocError>
+) -> bool
 where
     H::Runtime: Wait,
 {
     let first = Guard::map(guard, First);
-    let text = format!(in alloc; "{first:?} {first}")?;
-    Ok(text.as_str() == both)
+    shows_both(alloc, &first, both)
 }

@@ -1,10 +1,10 @@
-//! Tests, on both raw states.
+//! Tests of desks, on both raw states.
 mod lists;
 mod memory;
 mod rows;
 mod words;
 
-use crate::{DeskFault, DeskRunFault};
+use lock_api_desk::{DeskFault, DeskRunFault};
 use std::test::Fail;
 
 #[test]
@@ -21,9 +21,9 @@ fn refusals_have_codes_and_names(rt: HostRuntime) -> Result<(), Fail> {
         (DeskFault::NoMemory, 99, "NoMemory"),
     ];
     for (fault, code, name) in refusals {
-        assert_eq!(rt; fault.code(), code, "of {name}");
-        assert_eq!(rt; fault.to_string(alloc)?.as_str(), name);
-        assert_eq!(rt; DeskRunFault { place: 3, fault }.code(), code);
+        let text = fault.to_string(alloc)?;
+        let right = fault.code() == code && DeskRunFault { place: 3, fault }.code() == code;
+        assert!(rt; right && text.as_str() == name, "of {name}");
     }
     Ok(())
 }

@@ -1,9 +1,9 @@
 //! The checks of the reader-writer lock, on the raw lock of the tests.
 
-use crate::{
-    PackedLock, raw_checks, rwlock_arc_checks, rwlock_checks, rwlock_timed_checks,
-    upgradable_checks,
+use lock_api_checks::{
+    raw_checks, rwlock_arc_checks, rwlock_checks, rwlock_timed_checks, upgradable_checks,
 };
+use lock_api_packed::PackedLock;
 use std::test::Fail;
 
 type Raw = PackedLock<HostRuntime>;
