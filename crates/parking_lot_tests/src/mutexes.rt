@@ -196,6 +196,13 @@ const HANDED_OVER: Met = Met {
     word: Some(0),
 };
 
+/// Unparks so often the first waiter of a key that has none.
+fn unpark_nobody<R: Wait>(lot: &ParkingLot<R>, times: u32) {
+    for _turn in 0..times {
+        unpark_one(lot, 1_000, |_| DEFAULT_UNPARK_TOKEN);
+    }
+}
+
 /// Has two threads meet at a mutex, behind so many unparks of nobody. The second is a participant of a lot of that number, and
 /// the mutex stands on lot 7.
 fn meet<R: Wait + Threads + Clock + Sync + Copy + Drop>(
@@ -206,6 +213,7 @@ fn meet<R: Wait + Threads + Clock + Sync + Copy + Drop>(
     number: u64,
 ) -> Result<Met, Fail> {
     let lot = ParkingLot::new(rt, alloc, 4, 7)?;
+    unpark_nobody(&lot, unparks);
     let others = ParkingLot::new(rt, alloc, 4, number)?;
     let mut me = lot.thread_data()?;
     let mut other = if number == 7 {
@@ -216,9 +224,6 @@ fn meet<R: Wait + Threads + Clock + Sync + Copy + Drop>(
     let table = LockTable::new(alloc, &lot, 1)?;
     let mutex = RawMutex::new(&table, 5)?;
     let said = AtomicU64::new(0);
-    for _turn in 0..unparks {
-        unpark_one(&lot, 1_000, |_| DEFAULT_UNPARK_TOKEN);
-    }
     let (before, (slept, last)) = thread::join(
         &rt,
         || locks_second(&rt, &table, &mutex, &mut other, &said),
