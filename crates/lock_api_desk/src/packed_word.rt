@@ -4,6 +4,7 @@ ghost use Rattle.lock_api_desk.specs.Out.{nothing_out};
 ghost use Rattle.lock_api_desk.specs.Words.{word_of, word_with_shared, word_with_exclusive, word_with_upgradable, word_with_upgrade, HasShared, HasExclusive, HasUpgradable};
 
 use crate::raw::RawState;
+use lock_api_raw::MAX_READERS;
 use std::marker::Model;
 
 /// What an exclusive hold adds to the word.
@@ -14,9 +15,6 @@ const UPGRADABLE: u64 = 4;
 
 /// What a reader adds to the word.
 const READER: u64 = 16;
-
-/// As many readers as a word can count.
-const MAX_READERS: u64 = 0x0fff_ffff_ffff_ffff;
 
 /// The token of a hold of a [`PackedWord`]. It takes no memory, and only a word makes one.
 #[derive(Drop)]

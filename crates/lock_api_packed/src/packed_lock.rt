@@ -3,17 +3,15 @@ ghost use Rattle.std.specs.Prelude.{◌≡◌, ◌-◌, ◌^◌, IfSome, min, ma
 
 use crate::turn::Turn;
 use lock_api_raw::{
-    GuardSend, RawRwLock, RawRwLockDowngrade, RawRwLockFair, RawRwLockTimed, RawRwLockUpgrade,
-    RawRwLockUpgradeDowngrade, RawRwLockUpgradeFair, RawRwLockUpgradeTimed, TableFull,
+    GuardSend, MAX_READERS, RawRwLock, RawRwLockDowngrade, RawRwLockFair, RawRwLockTimed,
+    RawRwLockUpgrade, RawRwLockUpgradeDowngrade, RawRwLockUpgradeFair, RawRwLockUpgradeTimed,
+    TableFull,
 };
 use std::rt::Clock;
 use std::sync::Wait;
 use std::sync::atomic::{AtomicU64, Ordering};
 use std::thread;
 use std::time::{Duration, Instant};
-
-/// As many readers as the word can count.
-const MAX_READERS: u64 = 0x0fff_ffff_ffff_ffff;
 
 /// How many exchanges a try makes at most.
 const EXCHANGES: u32 = 64;

@@ -12,6 +12,7 @@
 
 mod condvar;
 mod fault;
+mod limit;
 mod mutex;
 mod projection;
 mod remutex;
@@ -20,6 +21,7 @@ mod token;
 
 pub use condvar::{RawCondvar, RawCondvarTimed};
 pub use fault::{NoMemory, ReadersFull, TableFull, WaitFault};
+pub use limit::MAX_READERS;
 pub use mutex::{RawMutex, RawMutexFair, RawMutexTimed};
 pub use projection::{Projection, Then, TotalProjection};
 pub use remutex::GetThreadId;

@@ -4,7 +4,9 @@ ghost use Rattle.std.specs.Fn.{FnOnceReturnsAtMut};
 ghost use Rattle.lock_api_rw.specs.Holds.{WasHeld};
 
 use crate::arc_guard::ArcGuard;
-use crate::held::{DowngradeHold, Hold, LowerHold, RestoreHold, TimedUpgradeHold, UpgradeHold};
+use crate::held::{
+    DowngradeHold, DowngradeToUpgradable, Hold, RestoreHold, TimedUpgradeHold, UpgradeHold,
+};
 use crate::lock::{HasValue, HasValueMut};
 use core::mem;
 use std::rt::Clock;
@@ -26,7 +28,7 @@ where
     }
 }
 
-impl<H: LowerHold> ArcGuard<H>
+impl<H: DowngradeToUpgradable> ArcGuard<H>
 where
     H::Runtime: Wait,
     <H::Low as Hold>::Runtime: Wait,

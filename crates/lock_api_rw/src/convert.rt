@@ -2,7 +2,9 @@
 ghost use Rattle.std.specs.Prelude.{◌≡◌, MatchResult};
 
 use crate::guard::Guard;
-use crate::held::{Access, DowngradeHold, Hold, LowerHold, TimedUpgradeHold, UpgradeHold};
+use crate::held::{
+    Access, DowngradeHold, DowngradeToUpgradable, Hold, TimedUpgradeHold, UpgradeHold,
+};
 use std::rt::Clock;
 use std::sync::Wait;
 
@@ -23,7 +25,7 @@ where
     }
 }
 
-impl<W: Drop, H: LowerHold> Guard<W, H>
+impl<W: Drop, H: DowngradeToUpgradable> Guard<W, H>
 where
     H::Low: Access,
     H::Runtime: Wait,

@@ -92,7 +92,7 @@ pub trait DowngradeHold: Hold {
 }
 
 /// A hold that can become an upgradable one. For the layer above.
-pub trait LowerHold: Hold {
+pub trait DowngradeToUpgradable: Hold {
     /// The upgradable hold.
     type Low: Hold<Lock = Self::Lock>;
 
@@ -258,7 +258,7 @@ where
     }
 }
 
-impl<H: LowerHold, W> Held<H, W>
+impl<H: DowngradeToUpgradable, W> Held<H, W>
 where
     H::Runtime: Wait,
 {

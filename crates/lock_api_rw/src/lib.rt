@@ -26,14 +26,14 @@ pub use arc_forms::{ArcRwLockReadGuard, ArcRwLockUpgradableReadGuard, ArcRwLockW
 pub use arc_guard::ArcGuard;
 pub use guard::Guard;
 pub use held::{
-    Access, ArcHold, DowngradeHold, FairHold, Held, Hold, LowerHold, MutexHold, ReentrantHold,
-    RestoreHold, RwLockHold, TimedUpgradeHold, UpgradeHold, WriteHold,
+    Access, ArcHold, DowngradeHold, DowngradeToUpgradable, FairHold, Held, Hold, MutexHold,
+    ReentrantHold, RestoreHold, RwLockHold, TimedUpgradeHold, UpgradeHold, WriteHold,
 };
 pub use lend::{Lender, LenderMut};
 pub use lock::{HasValue, HasValueMut, lent, lent_mut};
 pub use mapped::Mapped;
 pub use mode::{Exclusive, FairMode, Mode, Shared, TimedMode, Upgradable, Writes};
-pub use raw_hold::{HasRaw, Lodges, Place, RawHold};
+pub use raw_hold::{HasRaw, LockValue, Place, RawHold};
 pub use rwlock::{
     MappedRwLockReadGuard, MappedRwLockWriteGuard, RwLock, RwLockReadGuard,
     RwLockUpgradableReadGuard, RwLockWriteGuard,

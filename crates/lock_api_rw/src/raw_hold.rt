@@ -57,7 +57,7 @@ impl<L: HasRaw, A: Allocator> Place for Arc<L, A> {
 }
 
 /// A lock that lends its value under a hold of the mode `M`. For the layer above.
-pub trait Lodges<'l, M: Mode<Self::Raw>>: HasRaw {
+pub trait LockValue<'l, M: Mode<Self::Raw>>: HasRaw {
     /// The std guard of the value.
     type Inner: Drop;
 
@@ -238,7 +238,7 @@ impl<L: Place + Drop, M: FairMode<<L::Lock as HasRaw>::Raw>> FairHold for RawHol
     }
 }
 
-impl<'l, L: Lodges<'l, M>, M: Mode<L::Raw>> Access for RawHold<&'l L, M> {
+impl<'l, L: LockValue<'l, M>, M: Mode<L::Raw>> Access for RawHold<&'l L, M> {
     type Inner = L::Inner;
 
     fn access(&self) -> L::Inner

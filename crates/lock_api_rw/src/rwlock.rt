@@ -7,7 +7,7 @@ use crate::held::RwLockHold;
 use crate::lock::{HasValue, HasValueMut, lent, lent_mut};
 use crate::mapped::Mapped;
 use crate::mode::{Exclusive, Mode, Shared, Upgradable};
-use crate::raw_hold::{HasRaw, Lodges, RawHold};
+use crate::raw_hold::{HasRaw, LockValue, RawHold};
 use lock_api_raw::{RawRwLock, RawRwLockUpgrade, TableFull};
 use std::alloc::Allocator;
 use std::marker::Model;
@@ -117,7 +117,7 @@ impl<R, T, M: Mode<R>> RwLockHold for RawHold<&RwLock<R, T>, M> {}
 
 impl<R: Drop, T: Drop, A: Allocator, M: Mode<R>> RwLockHold for RawHold<Arc<RwLock<R, T>, A>, M> {}
 
-impl<'l, R: RawRwLock, T: 'l> Lodges<'l, Shared> for RwLock<R, T> {
+impl<'l, R: RawRwLock, T: 'l> LockValue<'l, Shared> for RwLock<R, T> {
     type Inner = sync::RwLockReadGuard<'l, T>;
 
     fn access(&'l self) -> sync::RwLockReadGuard<'l, T>
@@ -128,7 +128,7 @@ impl<'l, R: RawRwLock, T: 'l> Lodges<'l, Shared> for RwLock<R, T> {
     }
 }
 
-impl<'l, R: RawRwLockUpgrade, T: 'l> Lodges<'l, Upgradable> for RwLock<R, T> {
+impl<'l, R: RawRwLockUpgrade, T: 'l> LockValue<'l, Upgradable> for RwLock<R, T> {
     type Inner = sync::RwLockReadGuard<'l, T>;
 
     fn access(&'l self) -> sync::RwLockReadGuard<'l, T>
@@ -139,7 +139,7 @@ impl<'l, R: RawRwLockUpgrade, T: 'l> Lodges<'l, Upgradable> for RwLock<R, T> {
     }
 }
 
-impl<'l, R: RawRwLock, T: 'l> Lodges<'l, Exclusive> for RwLock<R, T> {
+impl<'l, R: RawRwLock, T: 'l> LockValue<'l, Exclusive> for RwLock<R, T> {
     type Inner = sync::RwLockWriteGuard<'l, T>;
 
     fn access(&'l self) -> sync::RwLockWriteGuard<'l, T>

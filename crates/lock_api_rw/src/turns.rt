@@ -1,5 +1,7 @@
 //! How the holds of reader-writer locks turn into one another.
-use crate::held::{DowngradeHold, LowerHold, RestoreHold, TimedUpgradeHold, UpgradeHold};
+use crate::held::{
+    DowngradeHold, DowngradeToUpgradable, RestoreHold, TimedUpgradeHold, UpgradeHold,
+};
 use crate::mode::{Exclusive, Shared, Upgradable};
 use crate::raw_hold::{HasRaw, Place, RawHold};
 use lock_api_raw::{
@@ -40,7 +42,7 @@ where
     }
 }
 
-impl<R: RawRwLockUpgradeDowngrade, L: Place + Drop> LowerHold for RawHold<L, Exclusive>
+impl<R: RawRwLockUpgradeDowngrade, L: Place + Drop> DowngradeToUpgradable for RawHold<L, Exclusive>
 where
     L::Lock: HasRaw<Raw = R>,
 {

@@ -11,7 +11,7 @@
 //! let lot = ParkingLot::new(rt, alloc, 16, 7)?;
 //! let table = LockTable::new(alloc, &lot, 2)?;
 //! let mut me = lot.thread_data()?;
-//! let lock = RwLock::new(&table, 5)?;
+//! let lock = RwLock::new(&table, 8, 5)?;
 //! *lock.write(&mut me) = 6;
 //! ```
 #![tactic(auto)]

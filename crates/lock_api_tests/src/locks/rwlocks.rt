@@ -1,9 +1,8 @@
 //! The checks of the reader-writer lock, on the raw lock of the tests.
 
-use lock_api_checks::{
-    raw_checks, rwlock_arc_checks, rwlock_checks, rwlock_timed_checks, upgradable_checks,
-};
+use lock_api_checks::{raw_checks, rwlock_arc_checks, rwlock_checks};
 use lock_api_packed::PackedLock;
+use lock_api_upgrade_checks::{rwlock_timed_checks, upgradable_arc_checks, upgradable_checks};
 use std::test::Fail;
 
 type Raw = PackedLock<HostRuntime>;
@@ -55,8 +54,8 @@ fn upgradable_guards_turn(rt: HostRuntime) -> Result<(), Fail> {
 fn arc_guards_own_their_lock(rt: HostRuntime) -> Result<(), Fail> {
     rwlock_arc_checks::owns_an_arc::<Raw, _>(rt.alloc(), rt, &mut 1)?;
     rwlock_arc_checks::downgrades::<Raw, _>(rt.alloc(), rt)?;
-    rwlock_arc_checks::upgrades::<Raw, _>(rt.alloc(), rt, &mut 1)?;
-    rwlock_arc_checks::writes_upgraded::<Raw, _>(rt.alloc(), rt, &mut 1)?;
+    upgradable_arc_checks::upgrades::<Raw, _>(rt.alloc(), rt, &mut 1)?;
+    upgradable_arc_checks::writes_upgraded::<Raw, _>(rt.alloc(), rt, &mut 1)?;
     Ok(())
 }
 

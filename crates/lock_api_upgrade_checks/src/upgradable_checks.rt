@@ -1,11 +1,11 @@
 //! Checks of upgradable guards of the reader-writer lock.
 
 use lock_api::{RwLock, RwLockUpgradableReadGuard, RwLockWriteGuard};
-use lock_api_mutex_checks::guard_checks::{
+use lock_api_checks::guard_checks::{
     lends, prints_its_value, shows, unlocks_for_a_while as lets_go_for_a_while, writes,
 };
-use lock_api_mutex_checks::raw_checks::TURNS;
-use lock_api_mutex_checks::{Look, Seen, Wrong, expect, expect_all, is_alone, is_free, is_read};
+use lock_api_checks::raw_checks::TURNS;
+use lock_api_checks::{Look, Seen, Wrong, expect, expect_all, is_alone, is_free, is_read};
 use lock_api_raw::{RawRwLockUpgrade, RawRwLockUpgradeDowngrade, RawRwLockUpgradeFair};
 use std::alloc::Allocator;
 use std::sync::Wait;

@@ -1,10 +1,10 @@
 //! Checks of the waits of the reader-writer lock that give up.
 
-use crate::rwlock_arc_checks::lock_in_arc;
 use lock_api::{ArcGuard, RwLock, RwLockUpgradableReadGuard};
-use lock_api_mutex_checks::arc_guard_checks::lends_to_closures;
-use lock_api_mutex_checks::guard_checks::lends;
-use lock_api_mutex_checks::{Wrong, expect, expect_all, is_alone, is_free, is_read, moment, short};
+use lock_api_checks::arc_guard_checks::lends_to_closures;
+use lock_api_checks::guard_checks::lends;
+use lock_api_checks::rwlock_arc_checks::lock_in_arc;
+use lock_api_checks::{Wrong, expect, expect_all, is_alone, is_free, is_read, moment, short};
 use lock_api_raw::{RawRwLockTimed, RawRwLockUpgradeDowngrade, RawRwLockUpgradeTimed};
 use std::alloc::Allocator;
 use std::rt::Clock;
