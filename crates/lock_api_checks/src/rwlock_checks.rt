@@ -51,7 +51,7 @@ where
     }
 }
 
-/// How the lock shows itself beside two readers, who both read 5.
+/// How the lock shows itself beside two readers, who both read 5. One goes before the other, which leaves room.
 fn beside_two<R: RawRwLock>(lock: &RwLock<R, u64>, party: &mut R::Party) -> Seen
 where
     R::Runtime: Wait,
@@ -59,11 +59,10 @@ where
     let one = lock.read(party);
     let other = lock.read(party);
     let seen = lock.look();
-    if lends(&one, 5) && lends(&other, 5) {
-        seen
-    } else {
-        Seen::Odd
-    }
+    let read = lends(&one, 5) && lends(&other, 5);
+    drop(one);
+    let room = lock.look() == Seen::Read;
+    if read && room { seen } else { Seen::Odd }
 }
 
 /// Goes on where the lock shows itself beside each holder as it must.

@@ -41,6 +41,23 @@ where
     look_upgradably(lock)
 }
 
+/// How the lock answers beside an upgradable guard and a reader, of which the upgradable one goes first, which leaves
+/// room for another.
+fn beside_both<R: RawRwLockUpgrade>(lock: &RwLock<R, u64>, party: &mut R::Party) -> (Seen, bool)
+where
+    R::Runtime: Wait,
+{
+    let upgradable = lock.upgradable_read(party);
+    let _reader = lock.read(party);
+    let answers = look_upgradably(lock);
+    drop(upgradable);
+    if look_upgradably(lock) == (Seen::Read, true) {
+        answers
+    } else {
+        (Seen::Odd, false)
+    }
+}
+
 /// How the lock answers beside that holder, which is gone afterwards.
 fn beside<R: RawRwLockUpgrade>(
     lock: &RwLock<R, u64>,
@@ -61,10 +78,7 @@ where
             let _upgradable = lock.upgradable_read(party);
             look_upgradably(lock)
         }
-        Holder::UpgradableAndReader => {
-            let _upgradable = lock.upgradable_read(party);
-            beside_a_reader(lock, party)
-        }
+        Holder::UpgradableAndReader => beside_both(lock, party),
         Holder::Writer => {
             let _writer = lock.write(party);
             look_upgradably(lock)
