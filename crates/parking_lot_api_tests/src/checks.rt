@@ -16,21 +16,13 @@ fn of_mutex<R: RawMutexFair + Drop + Sync, T: Threads + Sync>(
     source: R::Source,
     one: &mut R::Party,
     other: &mut R::Party,
-) -> [bool; 7]
+) -> bool
 where
     R::Source: Copy,
     R::Party: Send,
     R::Runtime: Wait,
 {
-    [
-        mutex_checks::admits_one::<R>(source, one).is_ok(),
-        mutex_checks::keeps_its_value::<R>(source, one).is_ok(),
-        mutex_checks::unlocks_for_a_while::<R>(source, one).is_ok(),
-        mutex_checks::narrows::<R>(source, one).is_ok(),
-        mutex_checks::prints::<R, _>(alloc, source, one).is_ok(),
-        mutex_checks::owns_an_arc::<R, _>(alloc, source, one).is_ok(),
-        mutex_checks::excludes::<R, T>(rt, source, one, other).is_ok(),
-    ]
+    mutex_checks::all::<R, T, Global>(rt, alloc, source, one, other).is_ok()
 }
 
 #[test]
@@ -46,38 +38,26 @@ fn the_checks_of_the_mutex_pass(rt: HostRuntime) -> Result<(), Fail> {
         &mut one,
         &mut other,
     );
-    assert!(rt; passed == [true; 7]);
+    assert!(rt; passed);
     Ok(())
 }
 
-/// Whether each check of the reader-writer lock finds what it must.
+/// Whether each check of the reader-writer lock, and each of its Arc guards, finds what it must.
 fn of_lock<R: RawRwLockFair + RawRwLockDowngrade + Drop + Sync, T: Threads + Sync>(
     rt: &T,
     alloc: Global,
     source: R::Source,
     one: &mut R::Party,
     other: &mut R::Party,
-) -> [bool; 14]
+) -> [bool; 2]
 where
     R::Source: Copy,
     R::Party: Send,
     R::Runtime: Wait,
 {
     [
-        rwlock_checks::admits_readers_or_a_writer::<R>(source, one).is_ok(),
-        rwlock_checks::keeps_its_value::<R>(source, one).is_ok(),
-        rwlock_checks::counts_its_readers::<R>(source, one).is_ok(),
-        rwlock_checks::unlocks_a_writer::<R>(source, one).is_ok(),
-        rwlock_checks::unlocks_a_reader::<R>(source, one).is_ok(),
-        rwlock_checks::downgrades::<R>(source, one).is_ok(),
-        rwlock_checks::narrows_a_writer::<R>(source, one).is_ok(),
-        rwlock_checks::narrows_a_reader::<R>(source, one).is_ok(),
-        rwlock_checks::prints::<R, _>(alloc, source, one).is_ok(),
-        rwlock_checks::prints_parts::<R, _>(alloc, source, one).is_ok(),
-        rwlock_checks::excludes::<R, T>(rt, source, one, other).is_ok(),
-        rwlock_arc_checks::owns_an_arc::<R, _>(alloc, source, one).is_ok(),
-        rwlock_arc_checks::unlocks_for_a_while::<R, _>(alloc, source, one).is_ok(),
-        rwlock_arc_checks::downgrades::<R, _>(alloc, source).is_ok(),
+        rwlock_checks::all::<R, T, Global>(rt, alloc, source, one, other).is_ok(),
+        rwlock_arc_checks::all::<R, Global>(alloc, source, one).is_ok(),
     ]
 }
 
@@ -94,7 +74,7 @@ fn the_checks_of_the_lock_pass(rt: HostRuntime) -> Result<(), Fail> {
         &mut one,
         &mut other,
     );
-    assert!(rt; passed == [true; 14]);
+    assert!(rt; passed == [true; 2]);
     Ok(())
 }
 
@@ -104,18 +84,12 @@ fn of_reentrant<R: RawMutexFair + Drop, G: GetThreadId<Party = R::Party> + Drop>
     source: R::Source,
     one: &mut R::Party,
     other: &mut R::Party,
-) -> [bool; 5]
+) -> bool
 where
     R::Source: Copy,
     R::Runtime: Wait,
 {
-    [
-        reentrant_checks::nests::<R, G, _>(alloc, source, one, other).is_ok(),
-        reentrant_checks::nests_by_borrow::<R, G>(source, one, other).is_ok(),
-        reentrant_checks::lends_by_borrow::<R, G, _>(alloc, source, one).is_ok(),
-        reentrant_checks::unlocks_for_a_while::<R, G, _>(alloc, source, one).is_ok(),
-        reentrant_checks::prints::<R, G, _>(alloc, source, one).is_ok(),
-    ]
+    reentrant_checks::all::<R, G, Global>(alloc, source, one, other).is_ok()
 }
 
 #[test]
@@ -133,6 +107,6 @@ fn the_checks_of_the_reentrant_mutex_pass(rt: HostRuntime) -> Result<(), Fail> {
         &mut one,
         &mut other,
     );
-    assert!(rt; is_first & is_second & (passed == [true; 5]));
+    assert!(rt; is_first & is_second & passed);
     Ok(())
 }
