@@ -148,6 +148,24 @@ where
     ])
 }
 
+/// The upgradable guard, where each timed upgrade of it gives it back.
+fn stays<W: Drop, H: TimedUpgradeHold<Duration = Duration, Instant = Instant>, C: Clock>(
+    upgradable: Guard<W, H>,
+    past: Instant,
+    clock: &C,
+    party: &mut H::Party,
+) -> Option<Guard<W, H>>
+where
+    H::Alone: Access,
+    H::Runtime: Wait,
+    <H::Alone as Hold>::Runtime: Wait,
+{
+    let Err(upgradable) = Guard::try_upgrade_for(upgradable, short(), clock, party) else {
+        return None;
+    };
+    Guard::try_upgrade_until(upgradable, past, clock, party).err()
+}
+
 /// Whether an upgradable guard of 5 comes back from its waits beside a reader, holds and reads, and is upgraded by a wait
 /// beside nobody.
 fn upgrades_in_time<
@@ -171,13 +189,11 @@ where
     <H::Alone as Hold>::Runtime: Wait,
     L::Runtime: Wait,
 {
-    let Err(upgradable) = Guard::try_upgrade_for(upgradable, short(), clock, party) else {
-        return false;
-    };
-    let Err(upgradable) = Guard::try_upgrade_until(upgradable, past, clock, party) else {
-        return false;
-    };
+    let stayed = stays(upgradable, past, clock, party);
     drop(reader);
+    let Some(upgradable) = stayed else {
+        return false;
+    };
     let held = is_read(lock) & lends(&upgradable, 5);
     let upgraded = Guard::try_upgrade_for(upgradable, short(), clock, party);
     held & upgraded.is_ok() & is_alone(lock)
@@ -261,6 +277,26 @@ where
     ])
 }
 
+/// The upgradable Arc guard, where each timed upgrade of it gives it back.
+fn stays_with_its_arc<H: TimedUpgradeHold<Duration = Duration, Instant = Instant>, C: Clock>(
+    upgradable: Result<ArcGuard<H>, NoMemory>,
+    past: Instant,
+    clock: &C,
+    party: &mut H::Party,
+) -> Option<ArcGuard<H>>
+where
+    H::Runtime: Wait,
+    <H::Alone as Hold>::Runtime: Wait,
+{
+    let Ok(upgradable) = upgradable else {
+        return None;
+    };
+    let Err(upgradable) = ArcGuard::try_upgrade_for(upgradable, short(), clock, party) else {
+        return None;
+    };
+    ArcGuard::try_upgrade_until(upgradable, past, clock, party).err()
+}
+
 /// Whether an upgradable Arc guard comes back from its waits beside a reader and holds, and is upgraded by a wait beside
 /// nobody.
 fn upgrades_an_arc_in_time<
@@ -283,16 +319,11 @@ where
     <H::Alone as Hold>::Runtime: Wait,
     L::Runtime: Wait,
 {
-    let Ok(upgradable) = upgradable else {
-        return false;
-    };
-    let Err(upgradable) = ArcGuard::try_upgrade_for(upgradable, short(), clock, party) else {
-        return false;
-    };
-    let Err(upgradable) = ArcGuard::try_upgrade_until(upgradable, past, clock, party) else {
-        return false;
-    };
+    let stayed = stays_with_its_arc(upgradable, past, clock, party);
     drop(reader);
+    let Some(upgradable) = stayed else {
+        return false;
+    };
     let held = is_read(lock);
     let upgraded = ArcGuard::try_upgrade_until(upgradable, past, clock, party);
     held & upgraded.is_ok() & is_alone(lock)
