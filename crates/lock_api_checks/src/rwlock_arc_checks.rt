@@ -1,12 +1,18 @@
 //! Checks of guards of the reader-writer lock that own an Arc of it.
+//!
+//! What is done with a guard stands in functions over any hold: at a named lock each such call would cost a proof ten
+//! times as long.
 
 use lock_api::{ArcGuard, RwLock};
 use lock_api_mutex_checks::arc_guard_checks::{
     lends_to_closures, unlocks_an_arc_for_a_while, writes_by_closures,
 };
 use lock_api_mutex_checks::guard_checks::shows_both;
-use lock_api_mutex_checks::{Seen, Wrong, expect, expect_all, is_alone, is_free, is_read};
-use lock_api_raw::{RawRwLock, RawRwLockDowngrade, RawRwLockFair};
+use lock_api_mutex_checks::{Look, Seen, Wrong, expect_all, is_alone, is_free, is_read};
+use lock_api_raw::{NoMemory, RawRwLock, RawRwLockDowngrade, RawRwLockFair};
+use lock_api_rw::{
+    ArcHold, DowngradeHold, FairHold, HasValue, HasValueMut, Hold, RwLockHold, WriteHold,
+};
 use std::alloc::Allocator;
 use std::sync::{Arc, Wait};
 
@@ -24,6 +30,22 @@ pub fn lock_in_arc<R: RawRwLock + Drop, A: Allocator>(
     }
 }
 
+/// Whether a try gave a guard, which is gone afterwards.
+pub fn is_given<H: Hold>(tried: Result<Option<ArcGuard<H>>, NoMemory>) -> bool
+where
+    H::Runtime: Wait,
+{
+    matches!(tried, Ok(Some(_)))
+}
+
+/// Whether a try gave no guard, though there was memory for it.
+pub fn is_refused<H: Hold>(tried: Result<Option<ArcGuard<H>>, NoMemory>) -> bool
+where
+    H::Runtime: Wait,
+{
+    matches!(tried, Ok(None))
+}
+
 /// An Arc guard holds the lock, lends the value to closures and gives its Arc back.
 pub fn owns_an_arc<R: RawRwLock + Drop, A: Allocator + Copy>(
     alloc: A,
@@ -34,57 +56,64 @@ where
     R::Runtime: Wait,
 {
     let lock = lock_in_arc::<R, A>(alloc, source, 5)?;
-    writes_by_an_arc(&lock, party)?;
-    reads_by_an_arc(alloc, &lock, party)?;
-    expect(is_free(&*lock), "a dropped Arc guard releases")
-}
-
-/// As above, of a write guard, which leaves 6.
-fn writes_by_an_arc<R: RawRwLock + Drop, A: Allocator>(
-    lock: &Arc<RwLock<R, u64>, A>,
-    party: &mut R::Party,
-) -> Result<(), Wrong>
-where
-    R::Runtime: Wait,
-{
-    let mut writer = RwLock::write_arc(lock, party)?;
-    let written = is_alone(&**lock);
-    let no_reader = matches!(RwLock::try_read_arc(lock), Ok(None));
-    let no_writer = matches!(RwLock::try_write_arc(lock), Ok(None));
-    let wrote = writes_by_closures(&mut writer, 6);
-    let of_it = ArcGuard::rwlock(&writer).is_locked();
-    let arc = ArcGuard::into_arc(writer);
+    let writer = RwLock::write_arc(&lock, party);
+    let no_reader = is_refused(RwLock::try_read_arc(&lock));
+    let no_writer = is_refused(RwLock::try_write_arc(&lock));
+    let wrote = writes_and_gives_its_arc_back(writer);
+    let read = reads_and_prints(alloc, RwLock::read_arc(&lock, party), &*lock);
     expect_all(&[
-        (written, "beside a write guard"),
         (no_reader, "try_read_arc beside a writer: Ok(None)"),
         (no_writer, "try_write_arc beside a writer: Ok(None)"),
-        (wrote, "with reads what with_mut wrote"),
-        (of_it, "the Arc of a guard"),
-        (is_free(&*arc), "into_arc releases"),
+        (
+            wrote,
+            "a write guard is alone, with reads what with_mut wrote, and into_arc releases",
+        ),
+        (
+            read,
+            "a read guard lets others read, reads what was written, and prints it",
+        ),
+        (is_free(&*lock), "a dropped Arc guard releases"),
     ])
 }
 
-/// As above, of a read guard of 6.
-fn reads_by_an_arc<R: RawRwLock + Drop, A: Allocator, B: Allocator>(
-    alloc: B,
-    lock: &Arc<RwLock<R, u64>, A>,
-    party: &mut R::Party,
-) -> Result<(), Wrong>
+/// Whether a write guard is alone, writes 6 by a closure and reads it by the next one, and gives its Arc back.
+fn writes_and_gives_its_arc_back<
+    H: WriteHold + RwLockHold + ArcHold<Apart = Arc<L, A>>,
+    L: Look + Drop,
+    A: Allocator,
+>(writer: Result<ArcGuard<H>, NoMemory>) -> bool
 where
-    R::Runtime: Wait,
+    H::Lock: HasValueMut<Value = u64>,
+    <H::Lock as HasValue>::Waiting: Wait,
+    H::Runtime: Wait,
+    L::Runtime: Wait,
 {
-    let reader = RwLock::read_arc(lock, party)?;
-    expect_all(&[
-        (is_read(&**lock), "beside a read guard"),
-        (
-            lends_to_closures(&reader, 6),
-            "with reads what with_mut wrote",
-        ),
-        (
-            shows_both(alloc, &reader, "6 6"),
-            "Debug and Display of an Arc guard",
-        ),
-    ])
+    let Ok(mut writer) = writer else {
+        return false;
+    };
+    let alone = is_alone(&**ArcGuard::rwlock(&writer));
+    let wrote = writes_by_closures(&mut writer, 6);
+    let arc = ArcGuard::into_arc(writer);
+    alone & wrote & is_free(&*arc)
+}
+
+/// Whether a read guard of 6 lets others read, lends it to a closure, and prints it.
+fn reads_and_prints<H: RwLockHold, L: Look, A: Allocator>(
+    alloc: A,
+    reader: Result<ArcGuard<H>, NoMemory>,
+    lock: &L,
+) -> bool
+where
+    H::Lock: HasValue<Value = u64>,
+    <H::Lock as HasValue>::Waiting: Wait,
+    H::Runtime: Wait,
+    L::Runtime: Wait,
+{
+    let Ok(reader) = reader else {
+        return false;
+    };
+    let lent = is_read(lock) & lends_to_closures(&reader, 6);
+    lent & shows_both(alloc, &reader, "6 6")
 }
 
 /// `unlocked` of Arc guards, and their fair ends.
@@ -97,42 +126,57 @@ where
     R::Runtime: Wait,
 {
     let lock = lock_in_arc::<R, A>(alloc, source, 5)?;
-    unlocks_a_writer(&lock, party)?;
-    unlocks_a_reader(&lock, party)?;
-    expect(is_free(&*lock), "unlock_fair releases")
-}
-
-/// As above, of a write guard.
-fn unlocks_a_writer<R: RawRwLockFair + Drop, A: Allocator>(
-    lock: &Arc<RwLock<R, u64>, A>,
-    party: &mut R::Party,
-) -> Result<(), Wrong>
-where
-    R::Runtime: Wait,
-{
-    let mut writer = RwLock::write_arc(lock, party)?;
-    let let_go = unlocks_an_arc_for_a_while(&mut writer, party, &**lock, Seen::Alone).is_ok();
-    let arc = ArcGuard::into_arc_fair(writer);
+    let writer = RwLock::write_arc(&lock, party);
+    let writer_let_go = unlocks_a_writer(writer, &*lock, party);
+    let reader = RwLock::try_read_arc(&lock);
+    let reader_let_go = unlocks_a_reader(reader, &*lock, party);
     expect_all(&[
-        (let_go, "a write guard let go for a while and held again"),
-        (is_free(&*arc), "into_arc_fair releases"),
+        (
+            writer_let_go,
+            "a write guard let go for a while and held again, and into_arc_fair releases",
+        ),
+        (
+            reader_let_go,
+            "a read guard of a try let go for a while and held again",
+        ),
+        (is_free(&*lock), "unlock_fair releases"),
     ])
 }
 
-/// As above, of a read guard that tried.
-fn unlocks_a_reader<R: RawRwLockFair + Drop, A: Allocator>(
-    lock: &Arc<RwLock<R, u64>, A>,
-    party: &mut R::Party,
-) -> Result<(), Wrong>
+/// Whether a write guard is let go for a while and held again, and gives its Arc back by a fair end.
+fn unlocks_a_writer<H: FairHold + ArcHold<Apart = Arc<L, A>>, L: Look + Drop, A: Allocator + Copy>(
+    writer: Result<ArcGuard<H>, NoMemory>,
+    lock: &L,
+    party: &mut H::Party,
+) -> bool
 where
-    R::Runtime: Wait,
+    H::Runtime: Wait,
+    L::Runtime: Wait,
 {
-    let Some(mut reader) = RwLock::try_read_arc(lock)? else {
-        return expect(false, "try_read_arc of a free lock: Some");
+    let Ok(mut writer) = writer else {
+        return false;
     };
-    let let_go = unlocks_an_arc_for_a_while(&mut reader, party, &**lock, Seen::Read).is_ok();
+    let let_go = unlocks_an_arc_for_a_while(&mut writer, party, lock, Seen::Alone).is_ok();
+    let arc = ArcGuard::into_arc_fair(writer);
+    let_go & is_free(&*arc)
+}
+
+/// Whether a read guard of a try is let go for a while and held again. It ends fairly.
+fn unlocks_a_reader<H: FairHold, L: Look>(
+    tried: Result<Option<ArcGuard<H>>, NoMemory>,
+    lock: &L,
+    party: &mut H::Party,
+) -> bool
+where
+    H::Runtime: Wait,
+    L::Runtime: Wait,
+{
+    let Ok(Some(mut reader)) = tried else {
+        return false;
+    };
+    let let_go = unlocks_an_arc_for_a_while(&mut reader, party, lock, Seen::Read).is_ok();
     ArcGuard::unlock_fair(reader);
-    expect(let_go, "a read guard let go for a while and held again")
+    let_go
 }
 
 /// An Arc write guard that is downgraded reads what it wrote, and lets other readers in.
@@ -144,20 +188,34 @@ where
     R::Runtime: Wait,
 {
     let lock = lock_in_arc::<R, A>(alloc, source, 5)?;
-    let Some(mut writer) = RwLock::try_write_arc(&lock)? else {
-        return expect(false, "try_write_arc of a free lock: Some");
+    let became = becomes_a_reader(RwLock::try_write_arc(&lock), &*lock);
+    expect_all(&[
+        (
+            became,
+            "a write guard of a try that is downgraded keeps what it wrote and lets others read",
+        ),
+        (is_free(&*lock), "a guard that was downgraded releases"),
+    ])
+}
+
+/// Whether a write guard of a try writes 7, and becomes a reader of it that lets others read.
+fn becomes_a_reader<H: WriteHold + DowngradeHold, L: Look>(
+    tried: Result<Option<ArcGuard<H>>, NoMemory>,
+    lock: &L,
+) -> bool
+where
+    H::Lock: HasValueMut<Value = u64>,
+    <H::Lock as HasValue>::Waiting: Wait,
+    H::Runtime: Wait,
+    <H::Down as Hold>::Runtime: Wait,
+    L::Runtime: Wait,
+{
+    let Ok(Some(mut writer)) = tried else {
+        return false;
     };
     let wrote = writes_by_closures(&mut writer, 7);
     let reader = ArcGuard::downgrade(writer);
-    let read = is_read(&*lock);
-    let kept = lends_to_closures(&reader, 7);
-    drop(reader);
-    expect_all(&[
-        (wrote, "with reads what with_mut wrote"),
-        (read, "beside a guard that was downgraded"),
-        (kept, "downgrade keeps the value"),
-        (is_free(&*lock), "a guard that was downgraded releases"),
-    ])
+    wrote & is_read(lock) & lends_to_closures(&reader, 7)
 }
 
 /// Each check here, one after the other: the first that finds something wrong says so.

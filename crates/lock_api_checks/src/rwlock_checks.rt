@@ -1,14 +1,19 @@
 //! Checks of the reader-writer lock over any raw lock.
+//!
+//! What is done with a guard stands in functions over any hold: at a named lock each such call would cost a proof ten
+//! times as long.
 
-use lock_api::{RwLock, RwLockReadGuard, RwLockWriteGuard};
+use lock_api::{Guard, RwLock};
 use lock_api_mutex_checks::guard_checks::{
     Pair, keeps_what_has_no_part, lends, narrows_at_once, narrows_step_by_step, prints_its_first,
     prints_its_value, reads_step_by_step, shows, unlocks_for_a_while, writes,
 };
 use lock_api_mutex_checks::raw_checks::TURNS;
-use lock_api_mutex_checks::{Look, Seen, Wrong, expect, expect_all, is_alone, is_free, is_read};
+use lock_api_mutex_checks::{Look, Seen, Wrong, expect, expect_all, is_free, is_read};
 use lock_api_raw::{RawRwLock, RawRwLockDowngrade, RawRwLockFair};
+use lock_api_rw::{Access, DowngradeHold, FairHold, Hold, Lender, LenderMut, RwLockHold};
 use std::alloc::Allocator;
+use std::fmt::Debug;
 use std::sync::Wait;
 use std::thread;
 use std::thread::Threads;
@@ -24,6 +29,46 @@ enum Holder {
     TryingWriter,
 }
 
+/// How the lock shows itself beside a guard, which is gone afterwards.
+fn beside_guard<W: Drop, H: Hold, L: Look>(guard: Guard<W, H>, lock: &L) -> Seen
+where
+    H::Runtime: Wait,
+    L::Runtime: Wait,
+{
+    let _guard = guard;
+    lock.look()
+}
+
+/// How the lock shows itself beside what a try gave, which is gone afterwards.
+fn beside_tried<W: Drop, H: Hold, L: Look>(guard: Option<Guard<W, H>>, lock: &L) -> Seen
+where
+    H::Runtime: Wait,
+    L::Runtime: Wait,
+{
+    let _guard = guard;
+    lock.look()
+}
+
+/// How the lock shows itself beside two readers, who both read 5. One goes before the other, which leaves room.
+fn beside_two<W: Lender<Part = u64> + Drop, H: Hold, L: Look>(
+    one: Guard<W, H>,
+    other: Guard<W, H>,
+    lock: &L,
+) -> Seen
+where
+    H::Runtime: Wait,
+    L::Runtime: Wait,
+{
+    let seen = lock.look();
+    let read = lends(&one, 5) & lends(&other, 5);
+    drop(one);
+    if read & is_read(lock) {
+        seen
+    } else {
+        Seen::Odd
+    }
+}
+
 /// How the lock shows itself beside that holder, which is gone afterwards.
 fn beside<R: RawRwLock>(lock: &RwLock<R, u64>, holder: Holder, party: &mut R::Party) -> Seen
 where
@@ -31,38 +76,12 @@ where
 {
     match holder {
         Holder::Nobody => lock.look(),
-        Holder::Reader => {
-            let _reader = lock.read(party);
-            lock.look()
-        }
-        Holder::TryingReader => {
-            let _reader = lock.try_read();
-            lock.look()
-        }
-        Holder::TwoReaders => beside_two(lock, party),
-        Holder::Writer => {
-            let _writer = lock.write(party);
-            lock.look()
-        }
-        Holder::TryingWriter => {
-            let _writer = lock.try_write();
-            lock.look()
-        }
+        Holder::Reader => beside_guard(lock.read(party), lock),
+        Holder::TryingReader => beside_tried(lock.try_read(), lock),
+        Holder::TwoReaders => beside_two(lock.read(party), lock.read(party), lock),
+        Holder::Writer => beside_guard(lock.write(party), lock),
+        Holder::TryingWriter => beside_tried(lock.try_write(), lock),
     }
-}
-
-/// How the lock shows itself beside two readers, who both read 5. One goes before the other, which leaves room.
-fn beside_two<R: RawRwLock>(lock: &RwLock<R, u64>, party: &mut R::Party) -> Seen
-where
-    R::Runtime: Wait,
-{
-    let one = lock.read(party);
-    let other = lock.read(party);
-    let seen = lock.look();
-    let read = lends(&one, 5) && lends(&other, 5);
-    drop(one);
-    let room = lock.look() == Seen::Read;
-    if read && room { seen } else { Seen::Odd }
 }
 
 /// Goes on where the lock shows itself beside each holder as it must.
@@ -137,6 +156,23 @@ where
     )
 }
 
+/// The number that a guard lends.
+fn read_by<W: Lender<Part = u64> + Drop, H: Hold>(guard: Guard<W, H>) -> u64
+where
+    H::Runtime: Wait,
+{
+    *guard
+}
+
+/// Writes a number by a guard, and says whether the guard lends it then.
+fn is_written_by<W: LenderMut<Part = u64> + Drop, H: Hold>(guard: Guard<W, H>, value: u64) -> bool
+where
+    H::Runtime: Wait,
+{
+    let mut guard = guard;
+    writes(&mut guard, value)
+}
+
 /// What was written is what is read next, and what is taken out.
 pub fn keeps_its_value<R: RawRwLock + Drop>(
     source: R::Source,
@@ -147,19 +183,39 @@ where
     R::Runtime: Wait,
 {
     let mut lock = RwLock::<R, u64>::default(source, 4)?;
-    let at_first = *lock.read(party);
-    *lock.write(party) = 3;
-    let written = *lock.read(party);
+    let at_first = read_by(lock.read(party));
+    let wrote = is_written_by(lock.write(party), 3);
+    let written = read_by(lock.read(party));
     *lock.get_mut() = 4;
     let taken = lock.into_inner();
     let (raw, value) = RwLock::from_raw(R::new(source, 4)?, 5_u64).into_inner_with_raw();
     expect_all(&[
         (at_first == 0, "the default of a number"),
-        (written == 3, "what was written is read next"),
+        (wrote & (written == 3), "what was written is read next"),
         (taken == 4, "get_mut writes, into_inner takes out"),
         (value == 5, "into_inner_with_raw gives the value"),
         (!raw.is_locked(), "into_inner_with_raw gives the raw lock"),
     ])
+}
+
+/// Whether a guard of 5 is let go for a while and held again as it is to be seen, and names its lock. It ends fairly.
+fn lets_go<W: Lender<Part = u64> + Drop, H: FairHold + RwLockHold + Access<Inner = W>, L: Look>(
+    guard: Guard<W, H>,
+    lock: &L,
+    held: Seen,
+    party: &mut H::Party,
+) -> bool
+where
+    H::Lock: Look,
+    <H::Lock as Look>::Runtime: Wait,
+    H::Runtime: Wait,
+    L::Runtime: Wait,
+{
+    let mut guard = guard;
+    let let_go = unlocks_for_a_while(&mut guard, party, lock, held).is_ok();
+    let of_it = Guard::rwlock(&guard).look() == held;
+    Guard::unlock_fair(guard);
+    let_go & of_it
 }
 
 /// `unlocked` lets a writer go for the closure's time, and the guard is held again afterwards.
@@ -171,13 +227,9 @@ where
     R::Runtime: Wait,
 {
     let lock = RwLock::<R, u64>::new(source, 4, 5)?;
-    let mut writer = lock.write(party);
-    let done = unlocks_for_a_while(&mut writer, party, &lock, Seen::Alone).is_ok();
-    let of_it = RwLockWriteGuard::rwlock(&writer).is_locked_exclusive();
-    RwLockWriteGuard::unlock_fair(writer);
+    let let_go = lets_go(lock.write(party), &lock, Seen::Alone, party);
     expect_all(&[
-        (done, "let go for a while and held again"),
-        (of_it, "the lock of a guard"),
+        (let_go, "let go for a while and held again, and of its lock"),
         (is_free(&lock), "unlock_fair releases"),
     ])
 }
@@ -191,15 +243,29 @@ where
     R::Runtime: Wait,
 {
     let lock = RwLock::<R, u64>::new(source, 4, 5)?;
-    let mut reader = lock.read(party);
-    let done = unlocks_for_a_while(&mut reader, party, &lock, Seen::Read).is_ok();
-    let of_it = RwLockReadGuard::rwlock(&reader).is_locked();
-    RwLockReadGuard::unlock_fair(reader);
+    let let_go = lets_go(lock.read(party), &lock, Seen::Read, party);
     expect_all(&[
-        (done, "let go for a while and held again"),
-        (of_it, "the lock of a guard"),
+        (let_go, "let go for a while and held again, and of its lock"),
         (is_free(&lock), "unlock_fair releases"),
     ])
+}
+
+/// Whether a writer writes 7, and becomes a reader of it that lets others read.
+fn becomes_a_reader<W: LenderMut<Part = u64> + Drop, H: DowngradeHold, L: Look>(
+    writer: Guard<W, H>,
+    lock: &L,
+) -> bool
+where
+    H::Down: Access,
+    <H::Down as Access>::Inner: Lender<Part = u64>,
+    H::Runtime: Wait,
+    <H::Down as Hold>::Runtime: Wait,
+    L::Runtime: Wait,
+{
+    let mut writer = writer;
+    let wrote = writes(&mut writer, 7);
+    let reader = Guard::downgrade(writer);
+    wrote & is_read(lock) & lends(&reader, 7)
 }
 
 /// A write guard that is downgraded reads what it wrote, and lets other readers in.
@@ -211,18 +277,44 @@ where
     R::Runtime: Wait,
 {
     let lock = RwLock::<R, u64>::new(source, 4, 5)?;
-    let mut writer = lock.write(party);
-    let wrote = writes(&mut writer, 7);
-    let reader = RwLockWriteGuard::downgrade(writer);
-    let read = is_read(&lock);
-    let kept = lends(&reader, 7);
-    drop(reader);
+    let became = becomes_a_reader(lock.write(party), &lock);
     expect_all(&[
-        (wrote, "a writer reads what it wrote"),
-        (read, "beside a guard that was downgraded"),
-        (kept, "downgrade keeps the value"),
+        (
+            became,
+            "a writer that is downgraded keeps what it wrote and lets others read",
+        ),
         (is_free(&lock), "a guard that was downgraded releases"),
     ])
+}
+
+/// Whether a guard lends this pair.
+fn is_lent_by<W: Lender<Part = Pair> + Drop, H: Hold>(guard: Guard<W, H>, pair: Pair) -> bool
+where
+    H::Runtime: Wait,
+{
+    *guard == pair
+}
+
+/// Writes a pair by a guard.
+fn put_by<W: LenderMut<Part = Pair> + Drop, H: Hold>(guard: Guard<W, H>, pair: Pair)
+where
+    H::Runtime: Wait,
+{
+    let mut guard = guard;
+    *guard = pair;
+}
+
+/// Whether a guard of (None, 2) comes back where its part is missing, and the lock is held as it is to be seen.
+fn comes_back<W: Lender<Part = Pair> + Drop, H: Hold, L: Look>(
+    guard: Guard<W, H>,
+    lock: &L,
+    held: Seen,
+) -> bool
+where
+    H::Runtime: Wait,
+    L::Runtime: Wait,
+{
+    keeps_what_has_no_part(guard, &|| lock.look() == held).is_ok()
 }
 
 /// A narrowed write guard lends the part alone, and writes it back into the whole.
@@ -236,11 +328,11 @@ where
     let lock = RwLock::<R, Pair>::new(source, 4, (Some(1), 2))?;
     let by_steps = narrows_step_by_step(lock.write(party)).is_ok();
     let freed = is_free(&lock);
-    let written = *lock.read(party) == (Some(7), 2);
+    let written = is_lent_by(lock.read(party), (Some(7), 2));
     let at_once = narrows_at_once(lock.write(party)).is_ok();
-    let written_at_once = *lock.read(party) == (Some(6), 2);
-    *lock.write(party) = (None, 2);
-    let kept = keeps_what_has_no_part(lock.write(party), &|| is_alone(&lock)).is_ok();
+    let written_at_once = is_lent_by(lock.read(party), (Some(6), 2));
+    put_by(lock.write(party), (None, 2));
+    let kept = comes_back(lock.write(party), &lock, Seen::Alone);
     expect_all(&[
         (by_steps, "a guard narrowed step by step"),
         (freed, "unlock_fair of a mapped guard"),
@@ -266,8 +358,8 @@ where
     let lock = RwLock::<R, Pair>::new(source, 4, (Some(7), 2))?;
     let by_steps = reads_step_by_step(lock.read(party)).is_ok();
     let freed = is_free(&lock);
-    *lock.write(party) = (None, 2);
-    let kept = keeps_what_has_no_part(lock.read(party), &|| is_read(&lock)).is_ok();
+    put_by(lock.write(party), (None, 2));
+    let kept = comes_back(lock.read(party), &lock, Seen::Read);
     expect_all(&[
         (by_steps, "a guard narrowed step by step"),
         (freed, "unlock_fair of a mapped guard"),
@@ -277,6 +369,19 @@ where
             "a guard that came back releases at its drop",
         ),
     ])
+}
+
+/// Whether a guard of 5 prints it, and the lock prints this text beside the guard.
+fn prints_beside<W: Lender<Part = u64> + Drop, H: Hold, D: Debug, A: Allocator + Copy>(
+    alloc: A,
+    guard: Guard<W, H>,
+    lock: &D,
+    text: &str,
+) -> bool
+where
+    H::Runtime: Wait,
+{
+    shows(alloc, lock, text) & prints_its_value(alloc, &guard, "5 5")
 }
 
 /// Guards and locks print what they must.
@@ -290,18 +395,17 @@ where
 {
     let lock = RwLock::<R, u64>::new(source, 4, 5)?;
     let free = shows(alloc, &lock, "RwLock { data: 5 }");
-    let read = prints_its_value(alloc, &lock.read(party), "5 5");
-    let writer = lock.write(party);
+    let read = prints_beside(alloc, lock.read(party), &lock, "RwLock { data: 5 }");
+    let written = prints_beside(alloc, lock.write(party), &lock, "RwLock { data: <locked> }");
     expect_all(&[
         (free, "Debug of a free lock"),
-        (read, "Debug and Display of a read guard"),
         (
-            shows(alloc, &lock, "RwLock { data: <locked> }"),
-            "Debug of a lock that is written",
+            read,
+            "Debug and Display of a read guard, and Debug of its lock",
         ),
         (
-            prints_its_value(alloc, &writer, "5 5"),
-            "Debug and Display of a write guard",
+            written,
+            "Debug and Display of a write guard, and Debug of a lock that is written",
         ),
     ])
 }
@@ -324,14 +428,22 @@ where
     ])
 }
 
+/// Adds 1 by a guard.
+fn adds_one<W: LenderMut<Part = u64> + Drop, H: Hold>(writer: Guard<W, H>)
+where
+    H::Runtime: Wait,
+{
+    let mut writer = writer;
+    *writer = writer.wrapping_add(1);
+}
+
 /// Adds 1 under a write guard, a thousand times.
 fn adds<R: RawRwLock + Drop>(lock: &RwLock<R, u64>, party: &mut R::Party)
 where
     R::Runtime: Wait,
 {
     for _ in 0..TURNS {
-        let mut writer = lock.write(party);
-        *writer = writer.wrapping_add(1);
+        adds_one(lock.write(party));
     }
 }
 

@@ -1,15 +1,37 @@
 //! Checks of the waits of the reader-writer lock that give up.
+//!
+//! What is done with a guard stands in functions over any hold: at a named lock each such call would cost a proof ten
+//! times as long.
 
-use lock_api::{ArcGuard, RwLock, RwLockUpgradableReadGuard};
+use lock_api::{ArcGuard, Guard, RwLock};
 use lock_api_checks::arc_guard_checks::lends_to_closures;
 use lock_api_checks::guard_checks::lends;
-use lock_api_checks::rwlock_arc_checks::lock_in_arc;
-use lock_api_checks::{Wrong, expect, expect_all, is_alone, is_free, is_read, moment, short};
-use lock_api_raw::{RawRwLockTimed, RawRwLockUpgradeDowngrade, RawRwLockUpgradeTimed};
+use lock_api_checks::rwlock_arc_checks::{is_given, is_refused, lock_in_arc};
+use lock_api_checks::{Look, Wrong, expect_all, is_alone, is_free, is_read, moment, short};
+use lock_api_raw::{NoMemory, RawRwLockTimed, RawRwLockUpgradeDowngrade, RawRwLockUpgradeTimed};
+use lock_api_rw::{
+    Access, HasValue, HasValueMut, Hold, Lender, LenderMut, RestoreHold, TimedUpgradeHold,
+};
 use std::alloc::Allocator;
 use std::rt::Clock;
-use std::sync::{Arc, Wait};
+use std::sync::Wait;
 use std::time::{Duration, Instant};
+
+/// Whether a guard was had, which is gone afterwards.
+fn is_had<W: Drop, H: Hold>(guard: Option<Guard<W, H>>) -> bool
+where
+    H::Runtime: Wait,
+{
+    guard.is_some()
+}
+
+/// Whether one guard was had and another beside it wasn't.
+fn is_had_alone<W: Drop, H: Hold>(one: Option<Guard<W, H>>, other: Option<Guard<W, H>>) -> bool
+where
+    H::Runtime: Wait,
+{
+    one.is_some() & other.is_none()
+}
 
 /// Whether the timed reads are both answered so, and the timed writes: Some, or None.
 fn answers_in_time<R: RawRwLockTimed<Duration = Duration, Instant = Instant>, C: Clock>(
@@ -23,12 +45,11 @@ fn answers_in_time<R: RawRwLockTimed<Duration = Duration, Instant = Instant>, C:
 where
     R::Runtime: Wait,
 {
-    let read_waited = lock.try_read_for(short(), clock, party).is_some();
-    let read_at_once = lock.try_read_until(past, clock, party).is_some();
-    let write_waited = lock.try_write_for(short(), clock, party).is_some();
-    let write_at_once = lock.try_write_until(past, clock, party).is_some();
-    let both_reads = read_waited == reads && read_at_once == reads;
-    both_reads && write_waited == writes && write_at_once == writes
+    let read_waited = is_had(lock.try_read_for(short(), clock, party)) == reads;
+    let read_at_once = is_had(lock.try_read_until(past, clock, party)) == reads;
+    let write_waited = is_had(lock.try_write_for(short(), clock, party)) == writes;
+    let write_at_once = is_had(lock.try_write_until(past, clock, party)) == writes;
+    read_waited & read_at_once & write_waited & write_at_once
 }
 
 /// Timed forms give up beside a guard that excludes them, and have a free lock. A moment that has come gives up at once.
@@ -72,78 +93,28 @@ where
     let lock = lock_in_arc::<R, A>(alloc, source, 5)?;
     let past = moment(clock)?;
     let reader = lock.read(party);
-    let waited = matches!(
-        RwLock::try_write_arc_for(&lock, short(), clock, party),
-        Ok(None)
-    );
-    let at_once = matches!(
-        RwLock::try_write_arc_until(&lock, past, clock, party),
-        Ok(None)
-    );
-    let read = matches!(
-        RwLock::try_read_arc_for(&lock, short(), clock, party),
-        Ok(Some(_))
-    );
+    let waited = is_refused(RwLock::try_write_arc_for(&lock, short(), clock, party));
+    let at_once = is_refused(RwLock::try_write_arc_until(&lock, past, clock, party));
+    let read = is_given(RwLock::try_read_arc_for(&lock, short(), clock, party));
     drop(reader);
-    let Some(writer) = RwLock::try_write_arc_until(&lock, past, clock, party)? else {
-        return expect(false, "try_write_arc_until of a free lock: Some");
-    };
+    let writer = RwLock::try_write_arc_until(&lock, past, clock, party);
     let written = is_alone(&*lock);
-    let unread = matches!(
-        RwLock::try_read_arc_until(&lock, past, clock, party),
-        Ok(None)
-    );
-    drop(writer);
+    let unread = is_refused(RwLock::try_read_arc_until(&lock, past, clock, party));
+    let had = is_given(writer);
     expect_all(&[
         (waited, "try_write_arc_for beside a reader: Ok(None)"),
         (at_once, "try_write_arc_until beside a reader: Ok(None)"),
         (read, "try_read_arc_for beside a reader: Some"),
+        (had, "try_write_arc_until of a free lock: Some"),
         (written, "beside a write guard by try_write_arc_until"),
         (unread, "try_read_arc_until beside a writer: Ok(None)"),
         (is_free(&*lock), "a dropped Arc guard releases"),
     ])
 }
 
-/// An upgrade that gives up gives the same guard back, still held, and one beside nobody succeeds.
+/// An upgrade that gives up gives the same guard back, still held, and one beside nobody succeeds. Writing under an
+/// upgraded guard gives up beside a reader, and then the closure isn't called.
 pub fn gives_up_an_upgrade<
-    R: RawRwLockUpgradeTimed<Duration = Duration, Instant = Instant> + Drop,
-    C: Clock,
->(source: R::Source, clock: &C, party: &mut R::Party) -> Result<(), Wrong>
-where
-    R::Runtime: Wait,
-{
-    let lock = RwLock::<R, u64>::new(source, 4, 5)?;
-    let past = moment(clock)?;
-    let Some(upgradable) = lock.try_upgradable_read_for(short(), clock, party) else {
-        return expect(false, "try_upgradable_read_for of a free lock: Some");
-    };
-    let alone = lock.try_upgradable_read_until(past, clock, party).is_none();
-    let reader = lock.read(party);
-    let waited = RwLockUpgradableReadGuard::try_upgrade_for(upgradable, short(), clock, party);
-    let Err(upgradable) = waited else {
-        return expect(false, "try_upgrade_for beside a reader: the same guard");
-    };
-    let at_once = RwLockUpgradableReadGuard::try_upgrade_until(upgradable, past, clock, party);
-    let Err(upgradable) = at_once else {
-        return expect(false, "try_upgrade_until beside a reader: the same guard");
-    };
-    drop(reader);
-    let held = is_read(&lock);
-    let read = lends(&upgradable, 5);
-    let upgraded = RwLockUpgradableReadGuard::try_upgrade_for(upgradable, short(), clock, party);
-    expect_all(&[
-        (alone, "try_upgradable_read_until beside another: None"),
-        (held, "a guard that came back holds"),
-        (read, "a guard that came back reads"),
-        (
-            upgraded.is_ok() && is_alone(&lock),
-            "try_upgrade_for beside nobody: a write guard",
-        ),
-    ])
-}
-
-/// Writing under an upgraded guard gives up beside a reader, and then the closure isn't called.
-pub fn gives_up_writing_upgraded<
     R: RawRwLockUpgradeTimed<Duration = Duration, Instant = Instant>
         + RawRwLockUpgradeDowngrade
         + Drop,
@@ -154,99 +125,123 @@ where
 {
     let lock = RwLock::<R, u64>::new(source, 4, 5)?;
     let past = moment(clock)?;
-    let mut upgradable = lock.upgradable_read(party);
-    let reader = lock.read(party);
-    let waited = RwLockUpgradableReadGuard::try_with_upgraded_for(
-        &mut upgradable,
-        short(),
-        clock,
-        party,
-        |value| *value = 6,
-    );
-    let at_once = RwLockUpgradableReadGuard::try_with_upgraded_until(
-        &mut upgradable,
-        past,
-        clock,
-        party,
-        |value| *value = 7,
-    );
-    let uncalled = lends(&upgradable, 5);
-    drop(reader);
-    let alone = RwLockUpgradableReadGuard::try_with_upgraded_until(
-        &mut upgradable,
-        past,
-        clock,
-        party,
-        |value| *value = 8,
-    );
-    expect_all(&[
-        (waited.is_none(), "try_with_upgraded_for beside a reader"),
-        (at_once.is_none(), "try_with_upgraded_until beside a reader"),
-        (uncalled, "the closures weren't called"),
-        (alone.is_some(), "try_with_upgraded_until beside nobody"),
-        (lends(&upgradable, 8), "try_with_upgraded_until wrote"),
-        (is_read(&lock), "not alone afterwards"),
-    ])
-}
-
-/// Timed upgrades of Arc guards.
-pub fn gives_up_an_upgrade_of_an_arc<
-    R: RawRwLockUpgradeTimed<Duration = Duration, Instant = Instant> + Drop,
-    C: Clock,
-    A: Allocator + Copy,
->(alloc: A, source: R::Source, clock: &C, party: &mut R::Party) -> Result<(), Wrong>
-where
-    R::Runtime: Wait,
-{
-    let lock = lock_in_arc::<R, A>(alloc, source, 5)?;
-    let past = moment(clock)?;
-    upgrades_an_arc_in_time(&lock, past, clock, party)
-}
-
-/// As above, of a lock of 5 that is free.
-fn upgrades_an_arc_in_time<
-    R: RawRwLockUpgradeTimed<Duration = Duration, Instant = Instant> + Drop,
-    C: Clock,
-    A: Allocator,
->(
-    lock: &Arc<RwLock<R, u64>, A>,
-    past: Instant,
-    clock: &C,
-    party: &mut R::Party,
-) -> Result<(), Wrong>
-where
-    R::Runtime: Wait,
-{
-    let Some(upgradable) = RwLock::try_upgradable_read_arc_for(lock, short(), clock, party)? else {
-        return expect(false, "try_upgradable_read_arc_for of a free lock: Some");
-    };
-    let other = RwLock::try_upgradable_read_arc_until(lock, past, clock, party);
-    let alone = matches!(other, Ok(None));
-    let reader = lock.read(party);
-    let Err(upgradable) = ArcGuard::try_upgrade_for(upgradable, short(), clock, party) else {
-        return expect(false, "try_upgrade_for beside a reader: the same guard");
-    };
-    let Err(upgradable) = ArcGuard::try_upgrade_until(upgradable, past, clock, party) else {
-        return expect(false, "try_upgrade_until beside a reader: the same guard");
-    };
-    drop(reader);
-    let held = is_read(&**lock);
-    let upgraded = ArcGuard::try_upgrade_until(upgradable, past, clock, party);
+    let upgradable = lock.try_upgradable_read_for(short(), clock, party);
+    let other = lock.try_upgradable_read_until(past, clock, party);
+    let alone = is_had_alone(upgradable, other);
+    let upgradable = lock.upgradable_read(party);
+    let upgraded = upgrades_in_time(upgradable, lock.read(party), &lock, past, clock, party);
+    let upgradable = lock.upgradable_read(party);
+    let wrote = writes_in_time(upgradable, lock.read(party), &lock, past, clock, party);
     expect_all(&[
         (
             alone,
-            "try_upgradable_read_arc_until beside another: Ok(None)",
+            "try_upgradable_read_for of a free lock: Some, and try_upgradable_read_until beside it: None",
         ),
-        (held, "a guard that came back holds"),
         (
-            upgraded.is_ok() && is_alone(&**lock),
-            "try_upgrade_until beside nobody: a write guard",
+            upgraded,
+            "timed upgrades beside a reader: the same guard, and beside nobody a write guard",
+        ),
+        (
+            wrote,
+            "writing upgraded in time: None beside a reader, and beside nobody it wrote",
         ),
     ])
 }
 
-/// Writing under an upgraded Arc guard gives up beside a reader, and then the closure isn't called.
-pub fn gives_up_writing_an_arc<
+/// The upgradable guard, where each timed upgrade of it gives it back.
+fn stays<W: Drop, H: TimedUpgradeHold<Duration = Duration, Instant = Instant>, C: Clock>(
+    upgradable: Guard<W, H>,
+    past: Instant,
+    clock: &C,
+    party: &mut H::Party,
+) -> Option<Guard<W, H>>
+where
+    H::Alone: Access,
+    H::Runtime: Wait,
+    <H::Alone as Hold>::Runtime: Wait,
+{
+    let Err(upgradable) = Guard::try_upgrade_for(upgradable, short(), clock, party) else {
+        return None;
+    };
+    Guard::try_upgrade_until(upgradable, past, clock, party).err()
+}
+
+/// Whether an upgradable guard of 5 comes back from its waits beside a reader, holds and reads, and is upgraded by a wait
+/// beside nobody.
+fn upgrades_in_time<
+    W: Lender<Part = u64> + Drop,
+    H: TimedUpgradeHold<Duration = Duration, Instant = Instant>,
+    S: Hold,
+    L: Look,
+    C: Clock,
+>(
+    upgradable: Guard<W, H>,
+    reader: Guard<W, S>,
+    lock: &L,
+    past: Instant,
+    clock: &C,
+    party: &mut H::Party,
+) -> bool
+where
+    H::Alone: Access,
+    H::Runtime: Wait,
+    S::Runtime: Wait,
+    <H::Alone as Hold>::Runtime: Wait,
+    L::Runtime: Wait,
+{
+    let stayed = stays(upgradable, past, clock, party);
+    drop(reader);
+    let Some(upgradable) = stayed else {
+        return false;
+    };
+    let held = is_read(lock) & lends(&upgradable, 5);
+    let upgraded = Guard::try_upgrade_for(upgradable, short(), clock, party);
+    held & upgraded.is_ok() & is_alone(lock)
+}
+
+/// Whether writing under an upgradable guard of 5 gives up beside a reader with no closure called, and writes beside
+/// nobody. The guard isn't alone afterwards.
+fn writes_in_time<
+    W: Lender<Part = u64> + Drop,
+    H: RestoreHold + TimedUpgradeHold<Duration = Duration, Instant = Instant> + Access<Inner = W>,
+    S: Hold,
+    L: Look,
+    C: Clock,
+>(
+    upgradable: Guard<W, H>,
+    reader: Guard<W, S>,
+    lock: &L,
+    past: Instant,
+    clock: &C,
+    party: &mut H::Party,
+) -> bool
+where
+    H::Alone: Access,
+    <H::Alone as Access>::Inner: LenderMut<Part = u64>,
+    H::Runtime: Wait,
+    S::Runtime: Wait,
+    <H::Alone as Hold>::Runtime: Wait,
+    L::Runtime: Wait,
+{
+    let mut upgradable = upgradable;
+    let waited = Guard::try_with_upgraded_for(&mut upgradable, short(), clock, party, |value| {
+        *value = 6;
+    });
+    let at_once = Guard::try_with_upgraded_until(&mut upgradable, past, clock, party, |value| {
+        *value = 7;
+    });
+    let uncalled = lends(&upgradable, 5);
+    drop(reader);
+    let alone = Guard::try_with_upgraded_until(&mut upgradable, past, clock, party, |value| {
+        *value = 8;
+    });
+    let refused = waited.is_none() & at_once.is_none() & uncalled;
+    let wrote = alone.is_some() & lends(&upgradable, 8);
+    refused & wrote & is_read(lock)
+}
+
+/// Timed upgrades of Arc guards, and writing under a guard that was upgraded so.
+pub fn gives_up_an_upgrade_of_an_arc<
     R: RawRwLockUpgradeTimed<Duration = Duration, Instant = Instant>
         + RawRwLockUpgradeDowngrade
         + Drop,
@@ -258,8 +253,106 @@ where
 {
     let lock = lock_in_arc::<R, A>(alloc, source, 5)?;
     let past = moment(clock)?;
-    let mut upgradable = RwLock::upgradable_read_arc(&lock, party)?;
+    let upgradable = RwLock::try_upgradable_read_arc_for(&lock, short(), clock, party);
+    let other = RwLock::try_upgradable_read_arc_until(&lock, past, clock, party);
+    let alone = is_refused(other) & is_given(upgradable);
+    let upgradable = RwLock::upgradable_read_arc(&lock, party);
     let reader = lock.read(party);
+    let upgraded = upgrades_an_arc_in_time(upgradable, reader, &*lock, past, clock, party);
+    let upgradable = RwLock::upgradable_read_arc(&lock, party);
+    let wrote = writes_an_arc_in_time(upgradable, lock.read(party), past, clock, party);
+    expect_all(&[
+        (
+            alone,
+            "try_upgradable_read_arc_for of a free lock: Some, and try_upgradable_read_arc_until beside it: None",
+        ),
+        (
+            upgraded,
+            "timed upgrades beside a reader: the same guard, and beside nobody a write guard",
+        ),
+        (
+            wrote,
+            "writing upgraded in time: None beside a reader, and beside nobody it wrote",
+        ),
+    ])
+}
+
+/// The upgradable Arc guard, where each timed upgrade of it gives it back.
+fn stays_with_its_arc<H: TimedUpgradeHold<Duration = Duration, Instant = Instant>, C: Clock>(
+    upgradable: Result<ArcGuard<H>, NoMemory>,
+    past: Instant,
+    clock: &C,
+    party: &mut H::Party,
+) -> Option<ArcGuard<H>>
+where
+    H::Runtime: Wait,
+    <H::Alone as Hold>::Runtime: Wait,
+{
+    let Ok(upgradable) = upgradable else {
+        return None;
+    };
+    let Err(upgradable) = ArcGuard::try_upgrade_for(upgradable, short(), clock, party) else {
+        return None;
+    };
+    ArcGuard::try_upgrade_until(upgradable, past, clock, party).err()
+}
+
+/// Whether an upgradable Arc guard comes back from its waits beside a reader and holds, and is upgraded by a wait beside
+/// nobody.
+fn upgrades_an_arc_in_time<
+    H: TimedUpgradeHold<Duration = Duration, Instant = Instant>,
+    V: Drop,
+    S: Hold,
+    L: Look,
+    C: Clock,
+>(
+    upgradable: Result<ArcGuard<H>, NoMemory>,
+    reader: Guard<V, S>,
+    lock: &L,
+    past: Instant,
+    clock: &C,
+    party: &mut H::Party,
+) -> bool
+where
+    H::Runtime: Wait,
+    S::Runtime: Wait,
+    <H::Alone as Hold>::Runtime: Wait,
+    L::Runtime: Wait,
+{
+    let stayed = stays_with_its_arc(upgradable, past, clock, party);
+    drop(reader);
+    let Some(upgradable) = stayed else {
+        return false;
+    };
+    let held = is_read(lock);
+    let upgraded = ArcGuard::try_upgrade_until(upgradable, past, clock, party);
+    held & upgraded.is_ok() & is_alone(lock)
+}
+
+/// Whether writing under an upgradable Arc guard of 5 gives up beside a reader with no closure called, and writes beside
+/// nobody.
+fn writes_an_arc_in_time<
+    H: RestoreHold + TimedUpgradeHold<Duration = Duration, Instant = Instant>,
+    V: Drop,
+    S: Hold,
+    C: Clock,
+>(
+    upgradable: Result<ArcGuard<H>, NoMemory>,
+    reader: Guard<V, S>,
+    past: Instant,
+    clock: &C,
+    party: &mut H::Party,
+) -> bool
+where
+    H::Lock: HasValueMut<Value = u64>,
+    <H::Lock as HasValue>::Waiting: Wait,
+    H::Runtime: Wait,
+    S::Runtime: Wait,
+    <H::Alone as Hold>::Runtime: Wait,
+{
+    let Ok(mut upgradable) = upgradable else {
+        return false;
+    };
     let waited = ArcGuard::try_with_upgraded_for(
         &mut upgradable,
         short(),
@@ -271,12 +364,5 @@ where
     let alone = ArcGuard::try_with_upgraded_until(&mut upgradable, past, clock, party, |value| {
         *value = value.wrapping_add(1);
     });
-    expect_all(&[
-        (waited.is_none(), "try_with_upgraded_for beside a reader"),
-        (alone.is_some(), "try_with_upgraded_until beside nobody"),
-        (
-            lends_to_closures(&upgradable, 6),
-            "only the closure beside nobody was called",
-        ),
-    ])
+    waited.is_none() & alone.is_some() & lends_to_closures(&upgradable, 6)
 }

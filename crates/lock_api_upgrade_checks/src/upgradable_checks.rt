@@ -1,12 +1,19 @@
 //! Checks of upgradable guards of the reader-writer lock.
+//!
+//! What is done with a guard stands in functions over any hold: at a named lock each such call would cost a proof ten
+//! times as long.
 
-use lock_api::{RwLock, RwLockUpgradableReadGuard, RwLockWriteGuard};
+use lock_api::{Guard, RwLock};
 use lock_api_checks::guard_checks::{
     lends, prints_its_value, shows, unlocks_for_a_while as lets_go_for_a_while, writes,
 };
 use lock_api_checks::raw_checks::TURNS;
 use lock_api_checks::{Look, Seen, Wrong, expect, expect_all, is_alone, is_free, is_read};
 use lock_api_raw::{RawRwLockUpgrade, RawRwLockUpgradeDowngrade, RawRwLockUpgradeFair};
+use lock_api_rw::{
+    Access, DowngradeHold, DowngradeToUpgradable, FairHold, Hold, Lender, LenderMut, RestoreHold,
+    RwLockHold, UpgradeHold,
+};
 use std::alloc::Allocator;
 use std::sync::Wait;
 use std::thread;
@@ -23,35 +30,65 @@ enum Holder {
     Writer,
 }
 
-/// How the lock shows itself, and whether it lets in an upgradable reader.
-fn look_upgradably<R: RawRwLockUpgrade>(lock: &RwLock<R, u64>) -> (Seen, bool)
-where
-    R::Runtime: Wait,
-{
-    let upgradable = lock.try_upgradable_read().is_some();
-    (lock.look(), upgradable)
+/// A lock that can be looked at, and may let in an upgradable reader.
+pub(crate) trait LookUpgradably: Look {
+    /// How the lock shows itself, and whether it lets in an upgradable reader.
+    fn look_upgradably(&self) -> (Seen, bool)
+    where
+        Self::Runtime: Wait;
 }
 
-/// How the lock answers beside one more reader.
-fn beside_a_reader<R: RawRwLockUpgrade>(lock: &RwLock<R, u64>, party: &mut R::Party) -> (Seen, bool)
-where
-    R::Runtime: Wait,
-{
-    let _reader = lock.read(party);
-    look_upgradably(lock)
+impl<R: RawRwLockUpgrade, T> LookUpgradably for RwLock<R, T> {
+    fn look_upgradably(&self) -> (Seen, bool)
+    where
+        R::Runtime: Wait,
+    {
+        let upgradable = self.try_upgradable_read().is_some();
+        (self.look(), upgradable)
+    }
 }
 
-/// How the lock answers beside an upgradable guard and a reader, of which the upgradable one goes first, which leaves
-/// room for another.
-fn beside_both<R: RawRwLockUpgrade>(lock: &RwLock<R, u64>, party: &mut R::Party) -> (Seen, bool)
+/// An upgradable guard and perhaps readers hold the lock.
+fn is_upgradable<L: LookUpgradably>(lock: &L) -> bool
 where
-    R::Runtime: Wait,
+    L::Runtime: Wait,
 {
-    let upgradable = lock.upgradable_read(party);
-    let _reader = lock.read(party);
-    let answers = look_upgradably(lock);
-    drop(upgradable);
-    if look_upgradably(lock) == (Seen::Read, true) {
+    lock.look_upgradably() == (Seen::Read, false)
+}
+
+/// Readers hold the lock, and none of them is upgradable.
+pub(crate) fn is_shared<L: LookUpgradably>(lock: &L) -> bool
+where
+    L::Runtime: Wait,
+{
+    lock.look_upgradably() == (Seen::Read, true)
+}
+
+/// How the lock answers beside a guard, which is gone afterwards.
+fn beside_guard<W: Drop, H: Hold, L: LookUpgradably>(guard: Guard<W, H>, lock: &L) -> (Seen, bool)
+where
+    H::Runtime: Wait,
+    L::Runtime: Wait,
+{
+    let _guard = guard;
+    lock.look_upgradably()
+}
+
+/// How the lock answers beside two guards, of which the first goes before the other, which leaves room for another.
+fn beside_two<W: Drop, H: Hold, S: Hold, L: LookUpgradably>(
+    one: Guard<W, H>,
+    other: Guard<W, S>,
+    lock: &L,
+) -> (Seen, bool)
+where
+    H::Runtime: Wait,
+    S::Runtime: Wait,
+    L::Runtime: Wait,
+{
+    let _other = other;
+    let answers = lock.look_upgradably();
+    drop(one);
+    if is_shared(lock) {
         answers
     } else {
         (Seen::Odd, false)
@@ -68,21 +105,14 @@ where
     R::Runtime: Wait,
 {
     match holder {
-        Holder::Nobody => look_upgradably(lock),
-        Holder::Reader => beside_a_reader(lock, party),
-        Holder::TwoReaders => {
-            let _reader = lock.read(party);
-            beside_a_reader(lock, party)
+        Holder::Nobody => lock.look_upgradably(),
+        Holder::Reader => beside_guard(lock.read(party), lock),
+        Holder::TwoReaders => beside_two(lock.read(party), lock.read(party), lock),
+        Holder::Upgradable => beside_guard(lock.upgradable_read(party), lock),
+        Holder::UpgradableAndReader => {
+            beside_two(lock.upgradable_read(party), lock.read(party), lock)
         }
-        Holder::Upgradable => {
-            let _upgradable = lock.upgradable_read(party);
-            look_upgradably(lock)
-        }
-        Holder::UpgradableAndReader => beside_both(lock, party),
-        Holder::Writer => {
-            let _writer = lock.write(party);
-            look_upgradably(lock)
-        }
+        Holder::Writer => beside_guard(lock.write(party), lock),
     }
 }
 
@@ -181,40 +211,64 @@ where
     R::Runtime: Wait,
 {
     let lock = RwLock::<R, u64>::new(source, 4, 5)?;
-    tries_to_upgrade(&lock, party)?;
-    expect(is_free(&lock), "a guard that was upgraded releases")?;
-    let writer = RwLockUpgradableReadGuard::upgrade(lock.upgradable_read(party), party);
+    let upgradable = lock.upgradable_read(party);
+    let tried = tries_to_upgrade(upgradable, lock.read(party), &lock);
+    let freed = is_free(&lock);
+    let waited = waits_to_upgrade(lock.upgradable_read(party), &lock, party);
     expect_all(&[
-        (is_alone(&lock), "beside a guard that waited to upgrade"),
-        (lends(&writer, 6), "what was written is read next"),
+        (
+            tried,
+            "try_upgrade beside a reader: the same guard, and beside nobody a write guard",
+        ),
+        (freed, "a guard that was upgraded releases"),
+        (
+            waited,
+            "a guard that waited to upgrade is alone and reads what was written",
+        ),
     ])
 }
 
-/// As above, by tries: beside a reader, and then alone, which leaves 6.
-fn tries_to_upgrade<R: RawRwLockUpgrade>(
-    lock: &RwLock<R, u64>,
-    party: &mut R::Party,
-) -> Result<(), Wrong>
+/// Whether an upgradable guard of 5 comes back from its try beside a reader, holds and reads, and is upgraded by a try
+/// beside nobody, which writes 6.
+fn tries_to_upgrade<W: Lender<Part = u64> + Drop, H: UpgradeHold, S: Hold, L: LookUpgradably>(
+    upgradable: Guard<W, H>,
+    reader: Guard<W, S>,
+    lock: &L,
+) -> bool
 where
-    R::Runtime: Wait,
+    H::Alone: Access,
+    <H::Alone as Access>::Inner: LenderMut<Part = u64>,
+    H::Runtime: Wait,
+    <H::Alone as Hold>::Runtime: Wait,
+    S::Runtime: Wait,
+    L::Runtime: Wait,
 {
-    let upgradable = lock.upgradable_read(party);
-    let reader = lock.read(party);
-    let Err(upgradable) = RwLockUpgradableReadGuard::try_upgrade(upgradable) else {
-        return expect(false, "try_upgrade beside a reader: the same guard");
+    let Err(upgradable) = Guard::try_upgrade(upgradable) else {
+        return false;
     };
     drop(reader);
-    let held = look_upgradably(lock) == (Seen::Read, false);
-    let read = lends(&upgradable, 5);
-    let Ok(mut writer) = RwLockUpgradableReadGuard::try_upgrade(upgradable) else {
-        return expect(false, "try_upgrade beside nobody: a write guard");
+    let held = is_upgradable(lock) & lends(&upgradable, 5);
+    let Ok(mut writer) = Guard::try_upgrade(upgradable) else {
+        return false;
     };
-    expect_all(&[
-        (held, "a guard that came back holds"),
-        (read, "a guard that came back reads"),
-        (is_alone(lock), "beside a guard that was upgraded"),
-        (writes(&mut writer, 6), "an upgraded guard writes"),
-    ])
+    held & is_alone(lock) & writes(&mut writer, 6)
+}
+
+/// Whether an upgradable guard of 6 is alone and reads it once it has waited to upgrade.
+fn waits_to_upgrade<W: Drop, H: UpgradeHold, L: Look>(
+    upgradable: Guard<W, H>,
+    lock: &L,
+    party: &mut H::Party,
+) -> bool
+where
+    H::Alone: Access,
+    <H::Alone as Access>::Inner: Lender<Part = u64>,
+    H::Runtime: Wait,
+    <H::Alone as Hold>::Runtime: Wait,
+    L::Runtime: Wait,
+{
+    let writer = Guard::upgrade(upgradable, party);
+    is_alone(lock) & lends(&writer, 6)
 }
 
 /// The value is written under the upgraded guard for a closure's time, and not beside a reader.
@@ -226,31 +280,64 @@ where
     R::Runtime: Wait,
 {
     let lock = RwLock::<R, u64>::new(source, 4, 4)?;
-    let mut upgradable = lock.upgradable_read(party);
-    let inside = RwLockUpgradableReadGuard::with_upgraded(&mut upgradable, party, |value| {
-        *value = 5;
-        is_alone(&lock)
-    });
-    let wrote = lends(&upgradable, 5);
-    let read = is_read(&lock);
-    let reader = lock.read(party);
-    let tried = RwLockUpgradableReadGuard::try_with_upgraded(&mut upgradable, |value| *value = 6);
-    let uncalled = lends(&upgradable, 5);
-    drop(reader);
-    let again = RwLockUpgradableReadGuard::try_with_upgraded(&mut upgradable, |value| *value = 7);
+    let (alone, upgradable) = writes_alone(lock.upgradable_read(party), &lock, party);
+    let tried = writes_beside_nobody(upgradable, lock.read(party), &lock);
     expect_all(&[
-        (inside, "held alone inside with_upgraded"),
-        (wrote, "with_upgraded wrote"),
-        (read, "not alone after with_upgraded"),
-        (tried.is_none(), "try_with_upgraded beside a reader: None"),
-        (uncalled, "the closure wasn't called beside a reader"),
-        (again.is_some(), "try_with_upgraded beside nobody: Some"),
-        (lends(&upgradable, 7), "try_with_upgraded wrote"),
         (
-            look_upgradably(&lock) == (Seen::Read, false),
-            "upgradable again afterwards",
+            alone,
+            "with_upgraded is alone, wrote, and isn't alone afterwards",
+        ),
+        (
+            tried,
+            "try_with_upgraded wrote beside nobody alone, and is upgradable afterwards",
         ),
     ])
+}
+
+/// Whether 5 is written under the upgraded guard, which is alone for the closure's time and not afterwards, and the guard.
+fn writes_alone<W: Lender<Part = u64> + Drop, H: RestoreHold + Access<Inner = W>, L: Look>(
+    upgradable: Guard<W, H>,
+    lock: &L,
+    party: &mut H::Party,
+) -> (bool, Guard<W, H>)
+where
+    H::Alone: Access,
+    <H::Alone as Access>::Inner: LenderMut<Part = u64>,
+    H::Runtime: Wait,
+    <H::Alone as Hold>::Runtime: Wait,
+    L::Runtime: Wait,
+{
+    let mut upgradable = upgradable;
+    let inside = Guard::with_upgraded(&mut upgradable, party, |value| {
+        *value = 5;
+        is_alone(lock)
+    });
+    let alone = inside & lends(&upgradable, 5) & is_read(lock);
+    (alone, upgradable)
+}
+
+/// Whether a try under an upgradable guard of 5 calls no closure beside a reader, and writes 7 beside nobody. The guard
+/// is upgradable afterwards.
+fn writes_beside_nobody<
+    W: Lender<Part = u64> + Drop,
+    H: RestoreHold + Access<Inner = W>,
+    S: Hold,
+    L: LookUpgradably,
+>(upgradable: Guard<W, H>, reader: Guard<W, S>, lock: &L) -> bool
+where
+    H::Alone: Access,
+    <H::Alone as Access>::Inner: LenderMut<Part = u64>,
+    H::Runtime: Wait,
+    <H::Alone as Hold>::Runtime: Wait,
+    S::Runtime: Wait,
+    L::Runtime: Wait,
+{
+    let mut upgradable = upgradable;
+    let refused = Guard::try_with_upgraded(&mut upgradable, |value| *value = 6).is_none();
+    let uncalled = lends(&upgradable, 5);
+    drop(reader);
+    let tried = Guard::try_with_upgraded(&mut upgradable, |value| *value = 7).is_some();
+    refused & uncalled & tried & lends(&upgradable, 7) & is_upgradable(lock)
 }
 
 /// A writer becomes upgradable, and an upgradable guard a reader, and each keeps the value.
@@ -262,23 +349,47 @@ where
     R::Runtime: Wait,
 {
     let lock = RwLock::<R, u64>::new(source, 4, 5)?;
-    let mut writer = lock.write(party);
-    let wrote = writes(&mut writer, 7);
-    let upgradable = RwLockWriteGuard::downgrade_to_upgradable(writer);
-    let is_upgradable = look_upgradably(&lock) == (Seen::Read, false);
-    let kept = lends(&upgradable, 7);
-    let reader = RwLockUpgradableReadGuard::downgrade(upgradable);
-    let is_shared = look_upgradably(&lock) == (Seen::Read, true);
-    let kept_again = lends(&reader, 7);
-    drop(reader);
+    let (wrote, upgradable) = becomes_upgradable(lock.write(party));
+    let became = becomes_a_reader(upgradable, &lock);
     expect_all(&[
         (wrote, "a writer reads what it wrote"),
-        (is_upgradable, "beside a guard that became upgradable"),
-        (kept, "downgrade_to_upgradable keeps the value"),
-        (is_shared, "beside a guard that became a reader"),
-        (kept_again, "downgrade keeps the value"),
+        (
+            became,
+            "a guard that became upgradable and then a reader shows it and keeps the value",
+        ),
         (is_free(&lock), "a guard that became a reader releases"),
     ])
+}
+
+/// Whether a writer reads the 7 that it writes, and the upgradable guard that it becomes.
+fn becomes_upgradable<W: LenderMut<Part = u64> + Drop, H: DowngradeToUpgradable>(
+    writer: Guard<W, H>,
+) -> (bool, Guard<<H::Low as Access>::Inner, H::Low>)
+where
+    H::Low: Access,
+    H::Runtime: Wait,
+    <H::Low as Hold>::Runtime: Wait,
+{
+    let mut writer = writer;
+    let wrote = writes(&mut writer, 7);
+    (wrote, Guard::downgrade_to_upgradable(writer))
+}
+
+/// Whether a guard of 7 that became upgradable becomes a reader, and keeps the value each time.
+fn becomes_a_reader<W: Lender<Part = u64> + Drop, H: DowngradeHold, L: LookUpgradably>(
+    upgradable: Guard<W, H>,
+    lock: &L,
+) -> bool
+where
+    H::Down: Access,
+    <H::Down as Access>::Inner: Lender<Part = u64>,
+    H::Runtime: Wait,
+    <H::Down as Hold>::Runtime: Wait,
+    L::Runtime: Wait,
+{
+    let kept = is_upgradable(lock) & lends(&upgradable, 7);
+    let reader = Guard::downgrade(upgradable);
+    kept & is_shared(lock) & lends(&reader, 7)
 }
 
 /// `unlocked` lets an upgradable guard go for the closure's time, and it is held again afterwards.
@@ -290,17 +401,34 @@ where
     R::Runtime: Wait,
 {
     let lock = RwLock::<R, u64>::new(source, 4, 5)?;
-    let mut upgradable = lock.upgradable_read(party);
-    let let_go = lets_go_for_a_while(&mut upgradable, party, &lock, Seen::Read).is_ok();
-    let still = look_upgradably(&lock) == (Seen::Read, false);
-    let of_it = RwLockUpgradableReadGuard::rwlock(&upgradable).is_locked();
-    RwLockUpgradableReadGuard::unlock_fair(upgradable);
+    let unlocked = lets_go(lock.upgradable_read(party), &lock, party);
     expect_all(&[
-        (let_go, "let go for a while and held again"),
-        (still, "upgradable after bump"),
-        (of_it, "the lock of a guard"),
+        (
+            unlocked,
+            "let go for a while, upgradable again, and of its lock",
+        ),
         (is_free(&lock), "unlock_fair releases"),
     ])
+}
+
+/// Whether an upgradable guard of 5 is let go for a while and upgradable again, and names its lock. It ends fairly.
+fn lets_go<
+    W: Lender<Part = u64> + Drop,
+    H: FairHold + RwLockHold + Access<Inner = W>,
+    L: LookUpgradably,
+>(upgradable: Guard<W, H>, lock: &L, party: &mut H::Party) -> bool
+where
+    H::Lock: Look,
+    <H::Lock as Look>::Runtime: Wait,
+    H::Runtime: Wait,
+    L::Runtime: Wait,
+{
+    let mut upgradable = upgradable;
+    let let_go = lets_go_for_a_while(&mut upgradable, party, lock, Seen::Read).is_ok();
+    let still = is_upgradable(lock);
+    let of_it = is_read(Guard::rwlock(&upgradable));
+    Guard::unlock_fair(upgradable);
+    let_go & still & of_it
 }
 
 /// An upgradable guard prints its value, and so does the lock, which a reader may take beside it.
@@ -326,16 +454,29 @@ where
     ])
 }
 
-/// Adds 1 to what an upgradable guard read, under the guard that it becomes, a thousand times.
+/// Adds 1 to what an upgradable guard read, under the guard that it becomes.
+fn adds_one<W: Lender<Part = u64> + Drop, H: UpgradeHold>(
+    upgradable: Guard<W, H>,
+    party: &mut H::Party,
+)
+where
+    H::Alone: Access,
+    <H::Alone as Access>::Inner: LenderMut<Part = u64>,
+    H::Runtime: Wait,
+    <H::Alone as Hold>::Runtime: Wait,
+{
+    let seen = *upgradable;
+    let mut writer = Guard::upgrade(upgradable, party);
+    *writer = seen.wrapping_add(1);
+}
+
+/// Adds 1 under an upgraded guard, a thousand times.
 fn adds<R: RawRwLockUpgrade + Drop>(lock: &RwLock<R, u64>, party: &mut R::Party)
 where
     R::Runtime: Wait,
 {
     for _ in 0..TURNS {
-        let upgradable = lock.upgradable_read(party);
-        let seen = *upgradable;
-        let mut writer = RwLockUpgradableReadGuard::upgrade(upgradable, party);
-        *writer = seen.wrapping_add(1);
+        adds_one(lock.upgradable_read(party), party);
     }
 }
 

@@ -63,7 +63,6 @@ fn arc_guards_own_their_lock(rt: HostRuntime) -> Result<(), Fail> {
 fn timed_forms_give_up(rt: HostRuntime) -> Result<(), Fail> {
     rwlock_timed_checks::gives_up_in_time::<Raw, _>(rt, &rt, &mut 1)?;
     rwlock_timed_checks::gives_up_an_upgrade::<Raw, _>(rt, &rt, &mut 1)?;
-    rwlock_timed_checks::gives_up_writing_upgraded::<Raw, _>(rt, &rt, &mut 1)?;
     Ok(())
 }
 
@@ -72,7 +71,6 @@ fn timed_arc_forms_give_up(rt: HostRuntime) -> Result<(), Fail> {
     let alloc = rt.alloc();
     rwlock_timed_checks::gives_up_an_arc_in_time::<Raw, _, _>(alloc, rt, &rt, &mut 1)?;
     rwlock_timed_checks::gives_up_an_upgrade_of_an_arc::<Raw, _, _>(alloc, rt, &rt, &mut 1)?;
-    rwlock_timed_checks::gives_up_writing_an_arc::<Raw, _, _>(alloc, rt, &rt, &mut 1)?;
     Ok(())
 }
 
