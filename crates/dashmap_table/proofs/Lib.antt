@@ -4,7 +4,9 @@ pub mod Places
 pub mod Finding
 pub mod Changing
 pub mod Adding
-pub mod Packing
 pub mod Sounds
 pub mod Effects
 pub mod Sharding
+pub mod Tagging
+pub mod TagChanges
+pub mod Moving

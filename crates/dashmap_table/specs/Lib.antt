@@ -6,3 +6,4 @@ pub mod Lending
 pub mod ShardLending
 pub mod Shards
 pub mod ShardsLending
+pub mod Tagged

@@ -4,17 +4,19 @@
 //! shards, a hasher, and the [`route`] by which a key's hash tells its shard.
 //!
 //! What a shard is made of is private, and its contract leaves it open: pairs may move where an insertion finds no room
-//! and where `reserve` or `shrink` make another table, and at no other time. Today it is the plain table, a list of slots
-//! that is searched from the first one on, so that each call takes time in proportion to the number of slots.
+//! and where `reserve` or `shrink` make another table, and at no other time. It is a table of tags: a byte for each slot tells
+//! most of the slots that can't have a hash apart from the few that may, and sixteen bytes are compared at once.
 #![tactic(auto)]
 
 mod entry;
 mod fault;
 mod pairs;
-mod plain;
+mod probe;
 mod routing;
 mod shard;
 mod shards;
+mod slot;
+mod tag_table;
 
 pub use fault::MapFault;
 pub use lock_api_raw::NoMemory;

@@ -1,12 +1,13 @@
 //! One shard of the map: a finite map from hash and key to a pair.
-ghost use Rattle.std.specs.Prelude.{◌≡◌, ℕ, ◌+◌, ◌*◌, ◌≤◌, ◌==◌, [], None, Some, IsTrue, IsSome, IfSome, IfNone, MatchOption, IfOk, IfErr, OnOk, OnErr};
+ghost use Rattle.std.specs.Prelude.{◌≡◌, ℕ, ◌+◌, ◌*◌, ◌<◌, ◌≤◌, ◌==◌, [], None, Some, IsTrue, IsSome, IfSome, IfNone, MatchOption, IfOk, IfErr, OnOk, OnErr};
 ghost use Rattle.std.specs.Option.{option_map, option_copied_mut, is_some};
 ghost use Rattle.std.specs.Borrow.{sem};
 ghost use Rattle.dashmap_table.specs.Slots.{at, count, slot_of, entry_with, pair_of, pairs_of, IsNextFull};
 ghost use Rattle.dashmap_table.specs.Table.{IsSound, Adds, Frees, SamePairs, with_value, with_pair};
 
+use crate::entry::Entry;
 use crate::pairs::ShardPairs;
-use crate::plain::PlainTable;
+use crate::tag_table::TagTable;
 use lock_api_raw::NoMemory;
 use std::alloc::{Allocator, Global};
 use std::hash::Hash;
@@ -18,8 +19,9 @@ use std::marker::Model;
 /// and never calls a hasher, not even when it grows. So one map can hash a key once and find both the shard, by
 /// [`route`](crate::route), and the pair.
 ///
-/// **Memory.** An insertion of a new key may ask for memory, and so do `reserve` and `shrink`; nothing else does. An entry
-/// takes the room of its hash, its key and its value and 8 bytes more.
+/// **Memory.** An insertion of a new key may ask for memory, and so do `reserve` and `shrink`; nothing else does. A slot takes
+/// a byte, the room of a hash, a key and a value, and 8 bytes more, and at most seven slots in eight are full. While a shard
+/// grows or shrinks it has both tables.
 ///
 /// ```rust
 /// let mut shard = Shard::new(alloc);
@@ -30,7 +32,7 @@ use std::marker::Model;
 /// ```
 #[derive(Drop)]
 pub struct Shard<K: Eq + Hash, V, A: Allocator = Global> {
-    table: PlainTable<K, V, A>,
+    table: TagTable<K, V, A>,
 }
 
 impl<K: Eq + Hash, V, A: Allocator> Model for Shard<K, V, A> {
@@ -50,7 +52,7 @@ impl<K: Eq + Hash, V, A: Allocator> Shard<K, V, A> {
         ensures room { result.room ≡ 0 }
     {
         Shard {
-            table: PlainTable::new(alloc),
+            table: TagTable::new(alloc),
         }
     }
 
@@ -77,6 +79,7 @@ impl<K: Eq + Hash, V, A: Allocator> Shard<K, V, A> {
     where
         K: Drop,
         V: Drop,
+        A: Clone,
         // A present key keeps its slot and its stored key, and gets the value. This is never refused.
         ensures present { IfSome (slot_of K.eq self.old.slots hash key) (λ i. (result ≡ Ok (i, option_map (λ e. e.value) (at self.old.slots i))) × (self.new ≡ with_value self.old i value)) }
 
@@ -86,6 +89,20 @@ impl<K: Eq + Hash, V, A: Allocator> Shard<K, V, A> {
         ensures sound { IsSound K.eq self.new }
     {
         self.table.insert(hash, key, value)
+    }
+
+    /// Puts a pair in whose key isn't there, and answers its slot. There has to be room, so it can't be refused and asks for no
+    /// memory. Where `find` and `reserve` went before, an insertion looks through the shard no more than it has to.
+    pub fn add(&mut self, hash: u64, key: K, value: V) -> usize
+    where
+        K: Drop,
+        V: Drop,
+        requires absent { slot_of K.eq self.old.slots hash key ≡ None }
+        requires room { count self.old.slots < self.old.room }
+        ensures added { Adds K.eq self.old self.new (entry_with hash key value) result }
+        ensures sound { IsSound K.eq self.new }
+    {
+        self.table.add(Entry { hash, key, value })
     }
 
     /// Takes the pair out of a slot and frees the slot; `None` where it is free. No other pair moves.
@@ -189,6 +206,10 @@ impl<K: Eq + Hash, V, A: Allocator> Shard<K, V, A> {
     /// Makes room for so many more pairs than there are. As many insertions of new keys then take no memory and move no pair,
     /// unless the room is given up by `shrink` before. Where there is such room already nothing changes; else pairs may move.
     pub fn reserve(&mut self, additional: usize) -> Result<(), NoMemory>
+    where
+        K: Drop,
+        V: Drop,
+        A: Clone,
         ensures ok { OnOk result (count self.new.slots + additional ≤ self.new.room) }
         ensures pairs { SamePairs K.eq self.old self.new }
         ensures room { self.old.room ≤ self.new.room }

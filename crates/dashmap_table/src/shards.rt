@@ -135,6 +135,10 @@ impl<K: Eq + Hash, V, S: BuildHasher, A: Allocator> Shards<K, V, S, A> {
     /// Makes room for one more pair in a shard: the next insertion of a key of that shard isn't refused. Where there is such
     /// room already nothing changes.
     pub fn reserve(&mut self, shard: usize) -> Result<(), NoMemory>
+    where
+        K: Drop,
+        V: Drop,
+        A: Clone,
         requires { shard < length self.old.tables }
         ensures ok { OnOk result (count (table_at self.new.tables shard).slots + 1 ≤ (table_at self.new.tables shard).room) }
         ensures pairs { (q : K) → pair_at S.BuildHasher S.Hasher.Hasher K.hash_input K.eq self.new q ≡ pair_at S.BuildHasher S.Hasher.Hasher K.hash_input K.eq self.old q }
@@ -153,6 +157,7 @@ impl<K: Eq + Hash, V, S: BuildHasher, A: Allocator> Shards<K, V, S, A> {
     where
         K: Drop,
         V: Drop,
+        A: Clone,
         ensures old { IfOk result (λ old. old ≡ option_map (λ p. p.1) (pair_at S.BuildHasher S.Hasher.Hasher K.hash_input K.eq self.old key)) }
         ensures after { OnOk result ((q : K) → pair_at S.BuildHasher S.Hasher.Hasher K.hash_input K.eq self.new q ≡ (if K.eq key q then Some (put_over (pair_at S.BuildHasher S.Hasher.Hasher K.hash_input K.eq self.old key) key value) else pair_at S.BuildHasher S.Hasher.Hasher K.hash_input K.eq self.old q)) }
         ensures others { OnlyChanges self.old self.new (key_shard S.BuildHasher S.Hasher.Hasher K.hash_input self.old key) }

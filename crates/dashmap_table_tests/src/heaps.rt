@@ -76,17 +76,31 @@ fn refused_room_changes_nothing(rt: HostRuntime) -> Result<(), Fail> {
     Ok(())
 }
 
+/// The largest block that a heap still has, taken.
+fn largest_block(heap: &LocalHeap) -> Vec<u8, &LocalHeap> {
+    let mut block = Vec::new(heap);
+    for less in 0..160 {
+        if block.reserve((160 - less) * 16).is_ok() {
+            break;
+        }
+    }
+    block
+}
+
 #[test]
 fn a_refused_shrink_changes_nothing(rt: HostRuntime) -> Result<(), Fail> {
     let mut refused = false;
     let mut done = false;
     for size in 2..40 {
         let heap = LocalHeap::new(rt.alloc(), size * 64)?;
-        let (mut shard, _) = packed(&heap, 12);
-        if let Some(slot) = shard.find(0, &0) {
-            shard.remove(slot);
+        let (mut shard, count) = packed(&heap, 12);
+        for key in 2..count {
+            if let Some(slot) = shard.find(key, &key) {
+                shard.remove(slot);
+            }
         }
         let (length, capacity) = (shard.len(), shard.capacity());
+        let _taken = (size % 2 == 0).then(|| (largest_block(&heap), largest_block(&heap)));
         match shard.shrink() {
             Ok(()) => done = true,
             Err(NoMemory) => {

@@ -4,10 +4,14 @@
 #[cfg(test)]
 mod heaps;
 #[cfg(test)]
+mod kernel;
+#[cfg(test)]
 mod routes;
 #[cfg(test)]
 mod shard;
 #[cfg(test)]
 mod shards;
+#[cfg(test)]
+mod twins;
 #[cfg(test)]
 mod words;

@@ -37,6 +37,28 @@ fn reserved_insertions_take_no_memory(rt: HostRuntime) {
     assert!(rt; right && shard.len() == 21 && shard.capacity() == capacity);
 }
 
+/// Adds a key that isn't there where there is room.
+fn added(shard: &mut Shard<u64, u64>, hash: u64, key: u64, value: u64) -> Option<usize> {
+    if shard.find(hash, &key).is_none() && shard.len() < shard.capacity() {
+        Some(shard.add(hash, key, value))
+    } else {
+        None
+    }
+}
+
+#[test]
+fn a_key_that_is_known_to_be_absent_is_added(rt: HostRuntime) -> Result<(), Fail> {
+    let mut shard = Shard::new(rt.alloc());
+    shard.reserve(3)?;
+    let capacity = shard.capacity();
+    let first = added(&mut shard, 7, 1, 10).ok_or("no room")?;
+    let second = added(&mut shard, 7, 2, 20).ok_or("no room for two")?;
+    let mut right = added(&mut shard, 7, 1, 30).is_none() & (shard.len() == 2);
+    right &= (shard.find(7, &1) == Some(first)) & (shard.remove(second) == Some((2, 20)));
+    assert!(rt; right && shard.remove(first) == Some((1, 10)) && shard.capacity() == capacity);
+    Ok(())
+}
+
 #[test]
 fn one_hash_keeps_all_keys_apart(rt: HostRuntime) {
     let mut shard = Shard::new(rt.alloc());
@@ -67,7 +89,7 @@ fn new_keys_come_and_go(rt: HostRuntime) {
             Ok((slot, _)) => shard.remove(slot).is_some(),
             Err(_) => false,
         };
-        right &= shard.find(key, &key).is_none();
+        right &= shard.find(key, &key).is_none() & (shard.capacity() < 16);
     }
     assert!(rt; right && shard.is_empty());
 }

@@ -3,6 +3,9 @@
 
 ghost use Rattle.std.specs.Prelude.{◌≤◌};
 
+mod bare;
+
+pub use bare::{Bare, Deed};
 use dashmap_table::{MapFault, Shards};
 use std::alloc::Allocator;
 use std::hash::{BuildHasherDefault, FoldHasher};
@@ -89,7 +92,7 @@ fn found<A: Allocator>(map: &Map<A>, from: u64, keys: u64) -> u64
 }
 
 /// Inserts the keys again, and counts those that were there.
-fn replaced<A: Allocator>(map: &mut Map<A>, keys: u64) -> Result<u64, Fault> {
+fn replaced<A: Allocator + Clone>(map: &mut Map<A>, keys: u64) -> Result<u64, Fault> {
     let mut sum = 0u64;
     for key in 0..keys {
         match map.insert(key, keys) {

@@ -4,10 +4,10 @@ ghost use Rattle.std.specs.Arc.{arc_value};
 ghost use Rattle.std.specs.Fn.{FnOnceReturnsAt, FnOnceReturnsAtMut};
 
 use crate::mutex::Mutex;
-use lock_api_raw::{NoMemory, RawMutex, RawMutexFair, RawMutexTimed};
-use lock_api_rw::{
+use lock_api_guards::{
     ArcGuard, ArcHold, FairHold, HasValue, HasValueMut, Hold, MutexHold, WriteHold, lent, lent_mut,
 };
+use lock_api_raw::{NoMemory, RawMutex, RawMutexFair, RawMutexTimed};
 use std::alloc::{Allocator, Global};
 use std::rt::Clock;
 use std::sync::{Arc, Wait};

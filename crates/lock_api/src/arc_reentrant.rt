@@ -5,8 +5,8 @@ ghost use Rattle.std.specs.Fn.{FnOnceReturnsAt};
 
 use crate::arc_fault::ReentrantArcFault;
 use crate::reentrant::ReentrantMutex;
+use lock_api_guards::{ArcGuard, ArcHold, FairHold, HasValue, Hold, ReentrantHold, lent};
 use lock_api_raw::{GetThreadId, GuardNoSend, RawMutex, RawMutexFair, RawMutexTimed};
-use lock_api_rw::{ArcGuard, ArcHold, FairHold, HasValue, Hold, ReentrantHold, lent};
 use std::alloc::{Allocator, Global};
 use std::rt::Clock;
 use std::sync::{Arc, Wait};

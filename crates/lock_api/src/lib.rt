@@ -1,5 +1,5 @@
 //! The generic locks over any raw lock: the mutex, the reentrant mutex, the condition variable and, from the crates
-//! below, the reader-writer lock, the raw traits and the exact model of guards. This is the one crate to name.
+//! below, the reader-writer lock, guards, the raw traits and the exact model of guards. This is the one crate to name.
 //!
 //! The value of a mutex lies in a std lock, and the raw mutex decides who may come in. The std lock is taken after the
 //! raw mutex admits and given back before its release, and a try takes the std lock by its own try first. **A held
@@ -30,6 +30,7 @@ pub use condvar::Condvar;
 pub use lock_api_desk::{
     Desk, DeskCall, DeskFault, DeskRunFault, Mode, PackedWord, RawState, TokenTable,
 };
+pub use lock_api_guards::{ArcGuard, Guard, Mapped};
 pub use lock_api_raw::{
     GetThreadId, GuardNoSend, GuardSend, NoMemory, Projection, RawCondvar, RawCondvarTimed,
     RawMutex, RawMutexFair, RawMutexTimed, RawRwLock, RawRwLockDowngrade, RawRwLockFair,
@@ -37,9 +38,8 @@ pub use lock_api_raw::{
     RawRwLockUpgradeTimed, ReadersFull, TableFull, Then, TotalProjection, WaitFault,
 };
 pub use lock_api_rw::{
-    ArcGuard, ArcRwLockReadGuard, ArcRwLockUpgradableReadGuard, ArcRwLockWriteGuard, Guard, Mapped,
-    MappedRwLockReadGuard, MappedRwLockWriteGuard, RwLock, RwLockReadGuard,
-    RwLockUpgradableReadGuard, RwLockWriteGuard,
+    ArcRwLockReadGuard, ArcRwLockUpgradableReadGuard, ArcRwLockWriteGuard, MappedRwLockReadGuard,
+    MappedRwLockWriteGuard, RwLock, RwLockReadGuard, RwLockUpgradableReadGuard, RwLockWriteGuard,
 };
 pub use mutex::{LockedMutex, MappedMutexGuard, Mutex, MutexGuard};
 pub use raw_reentrant::RawReentrantMutex;

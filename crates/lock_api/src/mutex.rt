@@ -1,8 +1,8 @@
 //! The mutex, and the hold that its guards keep.
 ghost use Rattle.std.specs.Prelude.{◌≡◌, IfSome, IfOk};
 
+use lock_api_guards::{Access, FairHold, Guard, Hold, Mapped, MutexHold};
 use lock_api_raw::{RawMutex, RawMutexFair, RawMutexTimed, TableFull};
-use lock_api_rw::{Access, FairHold, Guard, Hold, Mapped, MutexHold};
 use std::fmt::Debug;
 use std::rt::Clock;
 use std::sync::Wait;

@@ -3,10 +3,10 @@ ghost use Rattle.std.specs.Prelude.{◌≡◌, ◌-◌, ◌^◌, IfSome, IfOk, O
 ghost use Rattle.lock_api_raw.specs.Limits.{kept_limit};
 
 use crate::raw_reentrant::RawReentrantMutex;
+use lock_api_guards::{Access, FairHold, Guard, Hold, Mapped, ReentrantHold};
 use lock_api_raw::{
     GetThreadId, GuardNoSend, RawMutex, RawMutexFair, RawMutexTimed, ReadersFull, TableFull,
 };
-use lock_api_rw::{Access, FairHold, Guard, Hold, Mapped, ReentrantHold};
 use std::fmt::Debug;
 use std::rt::Clock;
 use std::sync::Wait;

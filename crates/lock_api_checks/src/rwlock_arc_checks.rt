@@ -4,15 +4,15 @@
 //! times as long.
 
 use lock_api::{ArcGuard, RwLock};
+use lock_api_guards::{
+    ArcHold, DowngradeHold, FairHold, HasValue, HasValueMut, Hold, RwLockHold, WriteHold,
+};
 use lock_api_mutex_checks::arc_guard_checks::{
-    lends_to_closures, unlocks_an_arc_for_a_while, writes_by_closures,
+    is_refused, lends_to_closures, unlocks_an_arc_for_a_while, writes_by_closures,
 };
 use lock_api_mutex_checks::guard_checks::shows_both;
 use lock_api_mutex_checks::{Look, Seen, Wrong, expect_all, is_alone, is_free, is_read};
 use lock_api_raw::{NoMemory, RawRwLock, RawRwLockDowngrade, RawRwLockFair};
-use lock_api_rw::{
-    ArcHold, DowngradeHold, FairHold, HasValue, HasValueMut, Hold, RwLockHold, WriteHold,
-};
 use std::alloc::Allocator;
 use std::sync::{Arc, Wait};
 
@@ -28,22 +28,6 @@ pub fn lock_in_arc<R: RawRwLock + Drop, A: Allocator>(
             what: "no memory for an Arc",
         }),
     }
-}
-
-/// Whether a try gave a guard, which is gone afterwards.
-pub fn is_given<H: Hold>(tried: Result<Option<ArcGuard<H>>, NoMemory>) -> bool
-where
-    H::Runtime: Wait,
-{
-    matches!(tried, Ok(Some(_)))
-}
-
-/// Whether a try gave no guard, though there was memory for it.
-pub fn is_refused<H: Hold>(tried: Result<Option<ArcGuard<H>>, NoMemory>) -> bool
-where
-    H::Runtime: Wait,
-{
-    matches!(tried, Ok(None))
 }
 
 /// An Arc guard holds the lock, lends the value to closures and gives its Arc back.

@@ -4,16 +4,16 @@
 //! times as long.
 
 use lock_api::{Guard, RwLock};
+use lock_api_guards::{Access, DowngradeHold, FairHold, Hold, Lender, LenderMut, RwLockHold};
 use lock_api_mutex_checks::guard_checks::{
-    Pair, keeps_what_has_no_part, lends, narrows_at_once, narrows_step_by_step, prints_its_first,
-    prints_its_value, reads_step_by_step, shows, unlocks_for_a_while, writes,
+    Pair, add_one_by, beside_guard, comes_back, is_lent_by, is_put_by, is_written_by, lends,
+    narrows_at_once, narrows_step_by_step, prints_beside, prints_its_first, read_by,
+    reads_step_by_step, shows, unlocks_for_a_while, writes,
 };
 use lock_api_mutex_checks::raw_checks::TURNS;
 use lock_api_mutex_checks::{Look, Seen, Wrong, expect, expect_all, is_free, is_read};
 use lock_api_raw::{RawRwLock, RawRwLockDowngrade, RawRwLockFair};
-use lock_api_rw::{Access, DowngradeHold, FairHold, Hold, Lender, LenderMut, RwLockHold};
 use std::alloc::Allocator;
-use std::fmt::Debug;
 use std::sync::Wait;
 use std::thread;
 use std::thread::Threads;
@@ -27,16 +27,6 @@ enum Holder {
     TwoReaders,
     Writer,
     TryingWriter,
-}
-
-/// How the lock shows itself beside a guard, which is gone afterwards.
-fn beside_guard<W: Drop, H: Hold, L: Look>(guard: Guard<W, H>, lock: &L) -> Seen
-where
-    H::Runtime: Wait,
-    L::Runtime: Wait,
-{
-    let _guard = guard;
-    lock.look()
 }
 
 /// How the lock shows itself beside what a try gave, which is gone afterwards.
@@ -156,23 +146,6 @@ where
     )
 }
 
-/// The number that a guard lends.
-fn read_by<W: Lender<Part = u64> + Drop, H: Hold>(guard: Guard<W, H>) -> u64
-where
-    H::Runtime: Wait,
-{
-    *guard
-}
-
-/// Writes a number by a guard, and says whether the guard lends it then.
-fn is_written_by<W: LenderMut<Part = u64> + Drop, H: Hold>(guard: Guard<W, H>, value: u64) -> bool
-where
-    H::Runtime: Wait,
-{
-    let mut guard = guard;
-    writes(&mut guard, value)
-}
-
 /// What was written is what is read next, and what is taken out.
 pub fn keeps_its_value<R: RawRwLock + Drop>(
     source: R::Source,
@@ -287,36 +260,6 @@ where
     ])
 }
 
-/// Whether a guard lends this pair.
-fn is_lent_by<W: Lender<Part = Pair> + Drop, H: Hold>(guard: Guard<W, H>, pair: Pair) -> bool
-where
-    H::Runtime: Wait,
-{
-    *guard == pair
-}
-
-/// Writes a pair by a guard.
-fn put_by<W: LenderMut<Part = Pair> + Drop, H: Hold>(guard: Guard<W, H>, pair: Pair)
-where
-    H::Runtime: Wait,
-{
-    let mut guard = guard;
-    *guard = pair;
-}
-
-/// Whether a guard of (None, 2) comes back where its part is missing, and the lock is held as it is to be seen.
-fn comes_back<W: Lender<Part = Pair> + Drop, H: Hold, L: Look>(
-    guard: Guard<W, H>,
-    lock: &L,
-    held: Seen,
-) -> bool
-where
-    H::Runtime: Wait,
-    L::Runtime: Wait,
-{
-    keeps_what_has_no_part(guard, &|| lock.look() == held).is_ok()
-}
-
 /// A narrowed write guard lends the part alone, and writes it back into the whole.
 pub fn narrows_a_writer<R: RawRwLockFair + Drop>(
     source: R::Source,
@@ -331,7 +274,7 @@ where
     let written = is_lent_by(lock.read(party), (Some(7), 2));
     let at_once = narrows_at_once(lock.write(party)).is_ok();
     let written_at_once = is_lent_by(lock.read(party), (Some(6), 2));
-    put_by(lock.write(party), (None, 2));
+    let put = is_put_by(lock.write(party), (None, 2));
     let kept = comes_back(lock.write(party), &lock, Seen::Alone);
     expect_all(&[
         (by_steps, "a guard narrowed step by step"),
@@ -339,7 +282,7 @@ where
         (written, "written back into the whole"),
         (at_once, "a guard narrowed by the composition"),
         (written_at_once, "written back by the composition"),
-        (kept, "a guard without the part"),
+        (put & kept, "a guard without the part"),
         (
             is_free(&lock),
             "a guard that came back releases at its drop",
@@ -358,30 +301,17 @@ where
     let lock = RwLock::<R, Pair>::new(source, 4, (Some(7), 2))?;
     let by_steps = reads_step_by_step(lock.read(party)).is_ok();
     let freed = is_free(&lock);
-    put_by(lock.write(party), (None, 2));
+    let put = is_put_by(lock.write(party), (None, 2));
     let kept = comes_back(lock.read(party), &lock, Seen::Read);
     expect_all(&[
         (by_steps, "a guard narrowed step by step"),
         (freed, "unlock_fair of a mapped guard"),
-        (kept, "a guard without the part"),
+        (put & kept, "a guard without the part"),
         (
             is_free(&lock),
             "a guard that came back releases at its drop",
         ),
     ])
-}
-
-/// Whether a guard of 5 prints it, and the lock prints this text beside the guard.
-fn prints_beside<W: Lender<Part = u64> + Drop, H: Hold, D: Debug, A: Allocator + Copy>(
-    alloc: A,
-    guard: Guard<W, H>,
-    lock: &D,
-    text: &str,
-) -> bool
-where
-    H::Runtime: Wait,
-{
-    shows(alloc, lock, text) & prints_its_value(alloc, &guard, "5 5")
 }
 
 /// Guards and locks print what they must.
@@ -428,22 +358,13 @@ where
     ])
 }
 
-/// Adds 1 by a guard.
-fn adds_one<W: LenderMut<Part = u64> + Drop, H: Hold>(writer: Guard<W, H>)
-where
-    H::Runtime: Wait,
-{
-    let mut writer = writer;
-    *writer = writer.wrapping_add(1);
-}
-
 /// Adds 1 under a write guard, a thousand times.
 fn adds<R: RawRwLock + Drop>(lock: &RwLock<R, u64>, party: &mut R::Party)
 where
     R::Runtime: Wait,
 {
     for _ in 0..TURNS {
-        adds_one(lock.write(party));
+        let _sum = add_one_by(lock.write(party));
     }
 }
 

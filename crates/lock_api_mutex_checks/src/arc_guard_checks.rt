@@ -4,8 +4,24 @@
 use crate::guard_checks::step;
 use crate::seen::{Look, Seen, is_free};
 use lock_api::ArcGuard;
-use lock_api_rw::{FairHold, HasValue, HasValueMut, Hold, WriteHold};
+use lock_api_guards::{FairHold, HasValue, HasValueMut, Hold, WriteHold};
 use std::sync::Wait;
+
+/// Whether a try gave a guard, which is gone afterwards.
+pub fn is_given<H: Hold, E: Drop>(tried: Result<Option<ArcGuard<H>>, E>) -> bool
+where
+    H::Runtime: Wait,
+{
+    matches!(tried, Ok(Some(_)))
+}
+
+/// Whether a try gave no guard, though there was memory for it.
+pub fn is_refused<H: Hold, E: Drop>(tried: Result<Option<ArcGuard<H>>, E>) -> bool
+where
+    H::Runtime: Wait,
+{
+    matches!(tried, Ok(None))
+}
 
 /// Whether an Arc guard lends this number to a closure.
 pub fn lends_to_closures<H: Hold>(guard: &ArcGuard<H>, value: u64) -> bool

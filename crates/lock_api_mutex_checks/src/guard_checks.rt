@@ -1,11 +1,12 @@
 //! Checks of guards, whatever lock they are of. An error is the number of the step that went wrong.
-ghost use Rattle.std.specs.Prelude.{◌≡◌, ◌==◌, Bool, IsOk, Ok, Err, None, Some, if◌then◌else◌, true};
+ghost use Rattle.std.specs.Prelude.{◌≡◌, ◌==◌, ◌+◌, ◌%◌, ◌^◌, Bool, IsOk, Ok, Err, None, Some, if◌then◌else◌, true};
+ghost use Rattle.std.specs.Option.{is_some};
 
 use crate::seen::{Look, Seen, is_free};
 use lock_api::{Guard, Mapped};
+use lock_api_guards::{Access, FairHold, Hold, Lender, LenderMut};
 use lock_api_packed::{First, Inside};
 use lock_api_raw::Then;
-use lock_api_rw::{Access, FairHold, Hold, Lender, LenderMut};
 use std::alloc::Allocator;
 use std::fmt::{Debug, Display};
 use std::sync::Wait;
@@ -38,6 +39,79 @@ where
 {
     **guard = value;
     lends(guard, value)
+}
+
+/// The number that a guard lends. The guard is gone afterwards.
+pub fn read_by<W: Lender<Part = u64> + Drop, H: Hold>(guard: Guard<W, H>) -> u64
+where
+    H::Runtime: Wait,
+    ensures { result ≡ W.part guard.inner }
+{
+    *guard.look()
+}
+
+/// As `writes`, of a guard that is gone afterwards.
+pub fn is_written_by<W: LenderMut<Part = u64> + Drop, H: Hold>(
+    guard: Guard<W, H>,
+    value: u64,
+) -> bool
+where
+    H::Runtime: Wait,
+    ensures { result ≡ true }
+{
+    let mut guard = guard;
+    writes(&mut guard, value)
+}
+
+/// Adds 1 by a guard, and says which number the guard lends then: 0 after the largest one. The guard is gone
+/// afterwards.
+pub fn add_one_by<W: LenderMut<Part = u64> + Drop, H: Hold>(guard: Guard<W, H>) -> u64
+where
+    H::Runtime: Wait,
+    ensures { result ≡ (W.part guard.inner + 1) % 2 ^ 64 }
+{
+    let mut guard = guard;
+    *guard = guard.wrapping_add(1);
+    *guard
+}
+
+/// Whether a guard lends this pair. The guard is gone afterwards.
+pub fn is_lent_by<W: Lender<Part = Pair> + Drop, H: Hold>(guard: Guard<W, H>, pair: Pair) -> bool
+where
+    H::Runtime: Wait,
+    ensures { (W.part guard.inner ≡ pair → result ≡ true) × (result ≡ true → W.part guard.inner ≡ pair) }
+{
+    *guard == pair
+}
+
+/// Writes a pair by a guard, and says whether the guard lends it then: it always does. The guard is gone afterwards.
+pub fn is_put_by<W: LenderMut<Part = Pair> + Drop, H: Hold>(guard: Guard<W, H>, pair: Pair) -> bool
+where
+    H::Runtime: Wait,
+    ensures { result ≡ true }
+{
+    let mut guard = guard;
+    *guard = pair;
+    is_lent_by(guard, pair)
+}
+
+/// Whether a guard was had, which is gone afterwards.
+pub fn is_had<W: Drop, H: Hold>(guard: Option<Guard<W, H>>) -> bool
+where
+    H::Runtime: Wait,
+    ensures { result ≡ is_some guard }
+{
+    guard.is_some()
+}
+
+/// How the lock shows itself beside a guard, which is gone afterwards.
+pub fn beside_guard<W: Drop, H: Hold, L: Look>(guard: Guard<W, H>, lock: &L) -> Seen
+where
+    H::Runtime: Wait,
+    L::Runtime: Wait,
+{
+    let _guard = guard;
+    lock.look()
 }
 
 /// Narrows a guard of (Some(7), 2) to its first field and then to the inside, and reads both.
@@ -134,6 +208,19 @@ where
     }
 }
 
+/// Whether a guard of (None, 2) comes back where its part is missing, and the lock is held as it is to be seen.
+pub fn comes_back<W: Lender<Part = Pair> + Drop, H: Hold, L: Look>(
+    guard: Guard<W, H>,
+    lock: &L,
+    held: Seen,
+) -> bool
+where
+    H::Runtime: Wait,
+    L::Runtime: Wait,
+{
+    keeps_what_has_no_part(guard, &|| lock.look() == held).is_ok()
+}
+
 /// `unlocked` and `unlocked_fair` let a guard of 5 go for the closure's time. It is held again afterwards as it is to be
 /// seen, and so it is after a bump.
 pub fn unlocks_for_a_while<W: Lender<Part = u64> + Drop, H: FairHold + Access<Inner = W>, L: Look>(
@@ -187,6 +274,19 @@ where
     H::Runtime: Wait,
 {
     shows_both(alloc, guard, both)
+}
+
+/// Whether a guard of 5 prints it, and the lock prints this text beside the guard, which is gone afterwards.
+pub fn prints_beside<W: Lender<Part = u64> + Drop, H: Hold, D: Debug, A: Allocator + Copy>(
+    alloc: A,
+    guard: Guard<W, H>,
+    lock: &D,
+    text: &str,
+) -> bool
+where
+    H::Runtime: Wait,
+{
+    shows(alloc, lock, text) & prints_its_value(alloc, &guard, "5 5")
 }
 
 /// Whether a guard that is narrowed to its first field prints that by Debug and by Display, with a space between.

@@ -1,16 +1,23 @@
 //! Checks of the mutex over any raw mutex.
+//!
+//! What is done with a guard stands in functions over any hold: at a named mutex each such call would cost a proof ten
+//! times as long.
 
-use crate::arc_guard_checks::{unlocks_an_arc_for_a_while, writes_by_closures};
+use crate::arc_guard_checks::{is_refused, unlocks_an_arc_for_a_while, writes_by_closures};
 use crate::guard_checks::{
-    Pair, keeps_what_has_no_part, narrows_at_once, narrows_step_by_step, prints_its_value, shows,
+    Pair, add_one_by, beside_guard, comes_back, is_had, is_lent_by, is_put_by, is_written_by,
+    narrows_at_once, narrows_step_by_step, prints_beside, read_by, shows,
     unlocks_for_a_while as lets_go_for_a_while,
 };
 use crate::moments::{moment, short};
 use crate::raw_checks::TURNS;
-use crate::seen::{Seen, is_alone, is_free};
+use crate::seen::{Look, Seen, is_alone, is_free};
 use crate::wrong::{Wrong, expect, expect_all};
-use lock_api::{ArcGuard, Mutex, MutexGuard};
-use lock_api_raw::{RawMutex, RawMutexFair, RawMutexTimed};
+use lock_api::{ArcGuard, Guard, Mutex};
+use lock_api_guards::{
+    Access, ArcHold, FairHold, HasValue, HasValueMut, Lender, MutexHold, WriteHold,
+};
+use lock_api_raw::{NoMemory, RawMutex, RawMutexFair, RawMutexTimed};
 use std::alloc::Allocator;
 use std::rt::Clock;
 use std::sync::{Arc, Wait};
@@ -25,9 +32,7 @@ where
 {
     let mutex = Mutex::<R, u64>::new(source, 5)?;
     let new = is_free(&mutex);
-    let guard = mutex.lock(party);
-    let held = is_alone(&mutex);
-    drop(guard);
+    let held = beside_guard(mutex.lock(party), &mutex) == Seen::Alone;
     expect_all(&[
         (new, "a new mutex is unlocked"),
         (held, "beside a guard"),
@@ -46,15 +51,15 @@ where
     R::Runtime: Wait,
 {
     let mut mutex = Mutex::<R, u64>::default(source)?;
-    let at_first = *mutex.lock(party);
-    *mutex.lock(party) = 3;
-    let written = *mutex.lock(party);
+    let at_first = read_by(mutex.lock(party));
+    let wrote = is_written_by(mutex.lock(party), 3);
+    let written = read_by(mutex.lock(party));
     *mutex.get_mut() = 4;
     let taken = mutex.into_inner();
     let (raw, value) = Mutex::from_raw(R::new(source, 1)?, 5_u64).into_inner_with_raw();
     expect_all(&[
         (at_first == 0, "the default of a number"),
-        (written == 3, "what was written is read next"),
+        (wrote & (written == 3), "what was written is read next"),
         (taken == 4, "get_mut writes, into_inner takes out"),
         (value == 5, "into_inner_with_raw gives the value"),
         (!raw.is_locked(), "into_inner_with_raw gives the raw mutex"),
@@ -72,9 +77,9 @@ fn locks_in_time<R: RawMutexTimed<Duration = Duration, Instant = Instant>, C: Cl
 where
     R::Runtime: Wait,
 {
-    let waited = mutex.try_lock_for(short(), clock, party).is_some();
-    let at_once = mutex.try_lock_until(past, clock, party).is_some();
-    waited == some && at_once == some
+    let waited = is_had(mutex.try_lock_for(short(), clock, party)) == some;
+    let at_once = is_had(mutex.try_lock_until(past, clock, party)) == some;
+    waited & at_once
 }
 
 /// Timed forms give up beside a guard, and have a free mutex.
@@ -98,6 +103,25 @@ where
     ])
 }
 
+/// Whether a guard of 5 is let go for a while and held again, and names its mutex. It ends fairly.
+fn lets_go<W: Lender<Part = u64> + Drop, H: FairHold + MutexHold + Access<Inner = W>, L: Look>(
+    guard: Guard<W, H>,
+    mutex: &L,
+    party: &mut H::Party,
+) -> bool
+where
+    H::Lock: Look,
+    <H::Lock as Look>::Runtime: Wait,
+    H::Runtime: Wait,
+    L::Runtime: Wait,
+{
+    let mut guard = guard;
+    let let_go = lets_go_for_a_while(&mut guard, party, mutex, Seen::Alone).is_ok();
+    let of_it = is_alone(Guard::mutex(&guard));
+    Guard::unlock_fair(guard);
+    let_go & of_it
+}
+
 /// `unlocked` lets go for the closure's time, and the guard is held again afterwards.
 pub fn unlocks_for_a_while<R: RawMutexFair + Drop>(
     source: R::Source,
@@ -107,14 +131,13 @@ where
     R::Runtime: Wait,
 {
     let mutex = Mutex::<R, u64>::new(source, 5)?;
-    let mut guard = mutex.lock(party);
-    let done = lets_go_for_a_while(&mut guard, party, &mutex, Seen::Alone).is_ok();
-    let of_it = MutexGuard::mutex(&guard).is_locked();
-    MutexGuard::unlock_fair(guard);
+    let let_go = lets_go(mutex.lock(party), &mutex, party);
     expect_all(&[
-        (done, "let go for a while and held again"),
-        (of_it, "the mutex of a guard"),
-        (!mutex.is_locked(), "unlock_fair releases"),
+        (
+            let_go,
+            "let go for a while and held again, and of its mutex",
+        ),
+        (is_free(&mutex), "unlock_fair releases"),
     ])
 }
 
@@ -125,21 +148,21 @@ where
 {
     let mutex = Mutex::<R, Pair>::new(source, (Some(1), 2))?;
     let by_steps = narrows_step_by_step(mutex.lock(party)).is_ok();
-    let freed = !mutex.is_locked();
-    let written = *mutex.lock(party) == (Some(7), 2);
+    let freed = is_free(&mutex);
+    let written = is_lent_by(mutex.lock(party), (Some(7), 2));
     let at_once = narrows_at_once(mutex.lock(party)).is_ok();
-    let written_at_once = *mutex.lock(party) == (Some(6), 2);
-    *mutex.lock(party) = (None, 2);
-    let kept = keeps_what_has_no_part(mutex.lock(party), &|| mutex.is_locked()).is_ok();
+    let written_at_once = is_lent_by(mutex.lock(party), (Some(6), 2));
+    let put = is_put_by(mutex.lock(party), (None, 2));
+    let kept = comes_back(mutex.lock(party), &mutex, Seen::Alone);
     expect_all(&[
         (by_steps, "a guard narrowed step by step"),
         (freed, "unlock_fair of a mapped guard"),
         (written, "written back into the whole"),
         (at_once, "a guard narrowed by the composition"),
         (written_at_once, "written back by the composition"),
-        (kept, "a guard without the part"),
+        (put & kept, "a guard without the part"),
         (
-            !mutex.is_locked(),
+            is_free(&mutex),
             "a guard that came back releases at its drop",
         ),
     ])
@@ -156,17 +179,10 @@ where
 {
     let mutex = Mutex::<R, u64>::new(source, 5)?;
     let free = shows(alloc, &mutex, "Mutex { data: 5 }");
-    let guard = mutex.lock(party);
+    let held = prints_beside(alloc, mutex.lock(party), &mutex, "Mutex { data: <locked> }");
     expect_all(&[
         (free, "Debug of a free mutex"),
-        (
-            shows(alloc, &mutex, "Mutex { data: <locked> }"),
-            "Debug of a held mutex",
-        ),
-        (
-            prints_its_value(alloc, &guard, "5 5"),
-            "Debug and Display of a guard",
-        ),
+        (held, "Debug and Display of a guard, and Debug of its mutex"),
     ])
 }
 
@@ -182,33 +198,60 @@ where
     let Ok(mutex) = Arc::new(alloc, Mutex::<R, u64>::new(source, 5)?) else {
         return expect(false, "memory for an Arc");
     };
-    locks_by_an_arc(&mutex, party)?;
-    let Some(guard) = Mutex::try_lock_arc(&mutex)? else {
-        return expect(false, "try_lock_arc of a free mutex: Some");
-    };
-    let _arc = ArcGuard::into_arc_fair(guard);
-    expect(!mutex.is_locked(), "into_arc_fair releases")
+    let guard = Mutex::lock_arc(&mutex, party);
+    let refused = is_refused(Mutex::try_lock_arc(&mutex));
+    let lent = lends_and_gives_its_arc_back(guard, &*mutex, party);
+    let given_fairly = gives_its_arc_back_fairly(Mutex::try_lock_arc(&mutex));
+    expect_all(&[
+        (refused, "try_lock_arc beside a guard: Ok(None)"),
+        (
+            lent,
+            "with reads what with_mut wrote, let go for a while and held again, and into_arc releases",
+        ),
+        (
+            given_fairly,
+            "try_lock_arc of a free mutex: Some, and into_arc_fair releases",
+        ),
+    ])
 }
 
-/// As above, of a guard that waited.
-fn locks_by_an_arc<R: RawMutexFair + Drop, A: Allocator + Copy>(
-    mutex: &Arc<Mutex<R, u64>, A>,
-    party: &mut R::Party,
-) -> Result<(), Wrong>
+/// Whether a guard writes 6 by a closure and reads it by the next one, is let go for a while and held again, and gives
+/// its Arc of the mutex back.
+fn lends_and_gives_its_arc_back<
+    H: WriteHold + FairHold + ArcHold<Apart = Arc<L, A>>,
+    L: Look + Drop,
+    A: Allocator,
+>(guard: Result<ArcGuard<H>, NoMemory>, mutex: &L, party: &mut H::Party) -> bool
 where
-    R::Runtime: Wait,
+    H::Lock: HasValueMut<Value = u64>,
+    <H::Lock as HasValue>::Waiting: Wait,
+    H::Runtime: Wait,
+    L::Runtime: Wait,
 {
-    let mut guard = Mutex::lock_arc(mutex, party)?;
-    let refused = matches!(Mutex::try_lock_arc(mutex), Ok(None));
+    let Ok(mut guard) = guard else {
+        return false;
+    };
     let wrote = writes_by_closures(&mut guard, 6);
-    let let_go = unlocks_an_arc_for_a_while(&mut guard, party, &**mutex, Seen::Alone).is_ok();
+    let let_go = unlocks_an_arc_for_a_while(&mut guard, party, mutex, Seen::Alone).is_ok();
     let arc = ArcGuard::into_arc(guard);
-    expect_all(&[
-        (refused, "try_lock_arc beside a guard: None"),
-        (wrote, "with reads what with_mut wrote"),
-        (let_go, "an Arc guard let go for a while and held again"),
-        (!arc.is_locked(), "into_arc releases"),
-    ])
+    wrote & let_go & is_free(&*arc)
+}
+
+/// Whether a try gave a guard, which gives its Arc of the mutex back by a fair end.
+fn gives_its_arc_back_fairly<
+    H: FairHold + ArcHold<Apart = Arc<L, A>>,
+    L: Look + Drop,
+    A: Allocator,
+>(tried: Result<Option<ArcGuard<H>>, NoMemory>) -> bool
+where
+    H::Runtime: Wait,
+    L::Runtime: Wait,
+{
+    let Ok(Some(guard)) = tried else {
+        return false;
+    };
+    let arc = ArcGuard::into_arc_fair(guard);
+    is_free(&*arc)
 }
 
 /// Adds 1 under the mutex, a thousand times.
@@ -217,8 +260,7 @@ where
     R::Runtime: Wait,
 {
     for _ in 0..TURNS {
-        let mut guard = mutex.lock(party);
-        *guard = guard.wrapping_add(1);
+        let _sum = add_one_by(mutex.lock(party));
     }
 }
 

@@ -1,14 +1,19 @@
 //! Checks of the reentrant mutex over any raw mutex.
+//!
+//! As with the mutex, what is done with a guard stands in functions over any hold.
 
-use crate::arc_guard_checks::{lends_to_closures, unlocks_an_arc_for_a_while};
+use crate::arc_guard_checks::{
+    is_given, is_refused, lends_to_closures, unlocks_an_arc_for_a_while,
+};
 use crate::guard_checks::{
     Pair, prints_its_value, reads_step_by_step, shows, unlocks_for_a_while as lets_go_for_a_while,
 };
 use crate::moments::{moment, short};
-use crate::seen::Seen;
-use crate::wrong::{Wrong, expect, expect_all};
-use lock_api::{ArcGuard, ReentrantArcFault, ReentrantMutex, ReentrantMutexGuard};
-use lock_api_raw::{GetThreadId, RawMutex, RawMutexFair, RawMutexTimed};
+use crate::seen::{Look, Seen, is_alone, is_free};
+use crate::wrong::{Wrong, expect_all};
+use lock_api::{ArcGuard, Guard, ReentrantArcFault, ReentrantMutex};
+use lock_api_guards::{Access, ArcHold, FairHold, HasValue, Hold, Lender, ReentrantHold};
+use lock_api_raw::{GetThreadId, RawMutex, RawMutexFair, RawMutexTimed, ReadersFull};
 use std::alloc::Allocator;
 use std::rt::Clock;
 use std::sync::{Arc, Wait};
@@ -30,6 +35,27 @@ where
     }
 }
 
+/// Whether a hold was refused because the count is full.
+fn is_full<H: Hold>(tried: Result<ArcGuard<H>, ReentrantArcFault>) -> bool
+where
+    H::Runtime: Wait,
+{
+    matches!(tried, Err(ReentrantArcFault::ReadersFull))
+}
+
+/// Whether a hold was had that lends this number to a closure. It is gone afterwards.
+fn lends_what_it_has<H: Hold>(had: Result<ArcGuard<H>, ReentrantArcFault>, value: u64) -> bool
+where
+    H::Lock: HasValue<Value = u64>,
+    <H::Lock as HasValue>::Waiting: Wait,
+    H::Runtime: Wait,
+{
+    match had {
+        Ok(guard) => lends_to_closures(&guard, value),
+        Err(_) => false,
+    }
+}
+
 /// Whether a second hold can be had, and no third one, and another party has none meanwhile.
 fn holds_twice<R: RawMutex + Drop, G: GetThreadId<Party = R::Party> + Drop, A: Allocator>(
     mutex: &Arc<ReentrantMutex<R, G, u64>, A>,
@@ -39,27 +65,10 @@ fn holds_twice<R: RawMutex + Drop, G: GetThreadId<Party = R::Party> + Drop, A: A
 where
     R::Runtime: Wait,
 {
-    let Ok(second) = ReentrantMutex::lock_arc(mutex, one) else {
-        return false;
-    };
-    let full = matches!(
-        ReentrantMutex::lock_arc(mutex, one),
-        Err(ReentrantArcFault::ReadersFull)
-    );
-    let refused = matches!(ReentrantMutex::try_lock_arc(mutex, other), Ok(None));
-    full & refused & lends_to_closures(&second, 5)
-}
-
-/// Whether a party has a free mutex at once, and gives it up again.
-fn has_it_free<R: RawMutex + Drop, G: GetThreadId<Party = R::Party> + Drop, A: Allocator>(
-    mutex: &Arc<ReentrantMutex<R, G, u64>, A>,
-    party: &mut R::Party,
-) -> bool
-where
-    R::Runtime: Wait,
-{
-    let tried = matches!(ReentrantMutex::try_lock_arc(mutex, party), Ok(Some(_)));
-    tried & !mutex.is_locked()
+    let second = ReentrantMutex::lock_arc(mutex, one);
+    let full = is_full(ReentrantMutex::lock_arc(mutex, one));
+    let refused = is_refused(ReentrantMutex::try_lock_arc(mutex, other));
+    full & refused & lends_what_it_has(second, 5)
 }
 
 /// One party locks twice, and the last of its holds releases. The third hold of a limit of two is refused.
@@ -74,15 +83,14 @@ where
 {
     let mutex = mutex_in_arc::<R, G, A>(alloc, source)?;
     let unowned = !mutex.is_owned_by_current_thread(one);
-    let first = ReentrantMutex::lock_arc(&mutex, one)?;
+    let first = ReentrantMutex::lock_arc(&mutex, one);
     let twice = holds_twice(&mutex, one, other);
     let owned = mutex.is_owned_by_current_thread(one);
     let not_by_another = !mutex.is_owned_by_current_thread(other);
-    let read = lends_to_closures(&first, 5);
     let still = mutex.is_locked();
-    drop(first);
+    let read = lends_what_it_has(first, 5);
     let freed = !mutex.is_locked();
-    let had = has_it_free(&mutex, other);
+    let had = is_given(ReentrantMutex::try_lock_arc(&mutex, other));
     expect_all(&[
         (unowned, "nobody owns a new one"),
         (
@@ -94,7 +102,7 @@ where
         (read, "a hold reads the value"),
         (still, "locked after the second hold's end"),
         (freed, "unlocked after the last end"),
-        (had, "then another party has it"),
+        (had & !mutex.is_locked(), "then another party has it"),
     ])
 }
 
@@ -108,8 +116,40 @@ where
     R::Runtime: Wait,
 {
     let mutex = ReentrantMutex::<R, G, Pair>::new(source, 2, (Some(7), 2))?;
-    expect(nests_on(&mutex, one, other), "borrowed holds that nest")?;
-    expect(!mutex.is_locked(), "unlocked after the last end")
+    let nested = nests_on(&mutex, one, other);
+    expect_all(&[
+        (nested, "borrowed holds that nest"),
+        (!mutex.is_locked(), "unlocked after the last end"),
+    ])
+}
+
+/// Whether a hold of (Some(7), 2) was had, and is narrowed. It is gone afterwards.
+fn reads_what_it_has<W: Lender<Part = Pair> + Drop, H: FairHold>(
+    had: Result<Guard<W, H>, ReadersFull>,
+) -> bool
+where
+    H::Runtime: Wait,
+{
+    match had {
+        Ok(guard) => reads_step_by_step(guard).is_ok(),
+        Err(_) => false,
+    }
+}
+
+/// Whether a try of a borrowed hold gave none, though there was room for it.
+fn is_barred<W: Drop, H: Hold>(tried: Result<Option<Guard<W, H>>, ReadersFull>) -> bool
+where
+    H::Runtime: Wait,
+{
+    matches!(tried, Ok(None))
+}
+
+/// Whether a try of a borrowed hold was refused because the count is full.
+fn has_no_room<W: Drop, H: Hold>(tried: Result<Option<Guard<W, H>>, ReadersFull>) -> bool
+where
+    H::Runtime: Wait,
+{
+    tried.is_err()
 }
 
 /// Whether two holds can be had of a mutex of two holds and (Some(7), 2), and no third one, and none of another party,
@@ -122,27 +162,12 @@ fn nests_on<R: RawMutexFair + Drop, G: GetThreadId<Party = R::Party> + Drop>(
 where
     R::Runtime: Wait,
 {
-    let Ok(first) = mutex.lock(one) else {
-        return false;
-    };
-    let second = nests_again(mutex, one);
-    let refused = matches!(mutex.try_lock(other), Ok(None));
-    second & refused & reads_step_by_step(first).is_ok()
-}
-
-/// Whether a second hold of two can be had and narrowed, and no third one.
-fn nests_again<R: RawMutexFair + Drop, G: GetThreadId<Party = R::Party> + Drop>(
-    mutex: &ReentrantMutex<R, G, Pair>,
-    one: &mut R::Party,
-) -> bool
-where
-    R::Runtime: Wait,
-{
-    let Ok(second) = mutex.lock(one) else {
-        return false;
-    };
-    let full = mutex.try_lock(one).is_err();
-    full & reads_step_by_step(second).is_ok()
+    let first = mutex.lock(one);
+    let second = mutex.lock(one);
+    let full = has_no_room(mutex.try_lock(one));
+    let nested = full & reads_what_it_has(second);
+    let refused = is_barred(mutex.try_lock(other));
+    nested & refused & reads_what_it_has(first)
 }
 
 /// A borrowed guard gives its hold up for a closure's time, and prints its value.
@@ -155,15 +180,15 @@ where
     R::Runtime: Wait,
 {
     let mutex = ReentrantMutex::<R, G, u64>::new(source, 2, 5)?;
-    expect(
-        lends_from(alloc, &mutex, party),
-        "a borrowed hold of a mutex of 5",
-    )?;
-    expect(!mutex.is_locked(), "unlock_fair releases")
+    let lent = lends_on(alloc, &mutex, party);
+    expect_all(&[
+        (lent, "a borrowed hold of a mutex of 5"),
+        (!mutex.is_locked(), "unlock_fair releases"),
+    ])
 }
 
-/// Whether a borrowed guard of a mutex of 5 is let go for a while, knows its mutex and prints its value.
-fn lends_from<R: RawMutexFair + Drop, G: GetThreadId<Party = R::Party> + Drop, A: Allocator>(
+/// As `lends_from`, of a mutex of 5.
+fn lends_on<R: RawMutexFair + Drop, G: GetThreadId<Party = R::Party> + Drop, A: Allocator>(
     alloc: A,
     mutex: &ReentrantMutex<R, G, u64>,
     party: &mut R::Party,
@@ -171,13 +196,30 @@ fn lends_from<R: RawMutexFair + Drop, G: GetThreadId<Party = R::Party> + Drop, A
 where
     R::Runtime: Wait,
 {
-    let Ok(mut guard) = mutex.lock(party) else {
+    let had = mutex.lock(party);
+    lends_from(alloc, had, mutex, party)
+}
+
+/// Whether a borrowed guard of 5 was had, is let go for a while, knows its mutex and prints its value. It ends fairly.
+fn lends_from<
+    W: Lender<Part = u64> + Drop,
+    H: FairHold + ReentrantHold + Access<Inner = W>,
+    L: Look,
+    A: Allocator,
+>(alloc: A, had: Result<Guard<W, H>, ReadersFull>, mutex: &L, party: &mut H::Party) -> bool
+where
+    H::Lock: Look,
+    <H::Lock as Look>::Runtime: Wait,
+    H::Runtime: Wait,
+    L::Runtime: Wait,
+{
+    let Ok(mut guard) = had else {
         return false;
     };
     let let_go = lets_go_for_a_while(&mut guard, party, mutex, Seen::Alone).is_ok();
-    let of_it = ReentrantMutexGuard::remutex(&guard).is_locked();
+    let of_it = is_alone(Guard::remutex(&guard));
     let printed = prints_its_value(alloc, &guard, "5 5");
-    ReentrantMutexGuard::unlock_fair(guard);
+    Guard::unlock_fair(guard);
     let_go & of_it & printed
 }
 
@@ -192,16 +234,55 @@ where
     R::Runtime: Wait,
 {
     let mutex = mutex_in_arc::<R, G, A>(alloc, source)?;
-    let mut guard = ReentrantMutex::lock_arc(&mutex, party)?;
-    let let_go = unlocks_an_arc_for_a_while(&mut guard, party, &*mutex, Seen::Alone).is_ok();
+    let had = ReentrantMutex::lock_arc(&mutex, party);
+    let guard = lets_go(had, &*mutex, party);
     let owned = mutex.is_owned_by_current_thread(party);
-    let arc = ArcGuard::into_arc_fair(guard);
+    let ended = gives_its_arc_back_fairly(guard);
     expect_all(&[
-        (let_go, "unlocked lets go and takes again"),
         (owned, "owned again after bump"),
-        (!arc.is_locked(), "into_arc_fair releases"),
+        (
+            ended,
+            "unlocked lets go and takes again, and into_arc_fair releases",
+        ),
     ])?;
     gives_its_value::<R, G>(source)
+}
+
+/// An Arc guard that was let go for a while and is held again.
+fn lets_go<H: FairHold, L: Look>(
+    had: Result<ArcGuard<H>, ReentrantArcFault>,
+    mutex: &L,
+    party: &mut H::Party,
+) -> Option<ArcGuard<H>>
+where
+    H::Runtime: Wait,
+    L::Runtime: Wait,
+{
+    let Ok(mut guard) = had else {
+        return None;
+    };
+    if unlocks_an_arc_for_a_while(&mut guard, party, mutex, Seen::Alone).is_ok() {
+        Some(guard)
+    } else {
+        None
+    }
+}
+
+/// Whether there is a guard, which gives its Arc of the mutex back by a fair end.
+fn gives_its_arc_back_fairly<
+    H: FairHold + ArcHold<Apart = Arc<L, A>>,
+    L: Look + Drop,
+    A: Allocator,
+>(guard: Option<ArcGuard<H>>) -> bool
+where
+    H::Runtime: Wait,
+    L::Runtime: Wait,
+{
+    let Some(guard) = guard else {
+        return false;
+    };
+    let arc = ArcGuard::into_arc_fair(guard);
+    is_free(&*arc)
 }
 
 /// What `get_mut` wrote is what is taken out, of a mutex over a raw one and of one with the value's default.
@@ -241,16 +322,14 @@ where
 {
     let mutex = mutex_in_arc::<R, G, A>(alloc, source)?;
     let past = moment(clock)?;
-    let _held = ReentrantMutex::lock_arc(&mutex, one)?;
+    let had = ReentrantMutex::lock_arc(&mutex, one);
+    let gave_up = gives_up_beside(&mutex, past, clock, other);
+    let nested = is_given(ReentrantMutex::try_lock_arc_until(&mutex, past, clock, one));
+    let read = lends_what_it_has(had, 5);
     expect_all(&[
-        (
-            gives_up_beside(&mutex, past, clock, other),
-            "timed tries beside a hold: Ok(None)",
-        ),
-        (
-            nests_in_time(&mutex, past, clock, one),
-            "try_lock_arc_until of the owner: Some",
-        ),
+        (gave_up, "timed tries beside a hold: Ok(None)"),
+        (nested, "try_lock_arc_until of the owner: Some"),
+        (read, "a hold beside them reads the value"),
     ])
 }
 
@@ -264,26 +343,8 @@ fn gives_up_beside<
 where
     R::Runtime: Wait,
 {
-    let waited = ReentrantMutex::try_lock_arc_for(mutex, short(), clock, other);
-    let gave_up = matches!(waited, Ok(None));
-    let at_once = ReentrantMutex::try_lock_arc_until(mutex, past, clock, other);
-    gave_up & matches!(at_once, Ok(None))
-}
-
-/// Whether the owner has one more hold by a timed try.
-fn nests_in_time<
-    R: RawMutexTimed<Duration = Duration, Instant = Instant> + Drop,
-    G: GetThreadId<Party = R::Party> + Drop,
-    C: Clock,
-    A: Allocator,
->(mutex: &Arc<ReentrantMutex<R, G, u64>, A>, past: Instant, clock: &C, owner: &mut R::Party) -> bool
-where
-    R::Runtime: Wait,
-{
-    matches!(
-        ReentrantMutex::try_lock_arc_until(mutex, past, clock, owner),
-        Ok(Some(_))
-    )
+    let waited = is_refused(ReentrantMutex::try_lock_arc_for(mutex, short(), clock, other));
+    waited & is_refused(ReentrantMutex::try_lock_arc_until(mutex, past, clock, other))
 }
 
 /// A reentrant mutex prints what it must.
@@ -297,13 +358,12 @@ where
 {
     let mutex = mutex_in_arc::<R, G, A>(alloc, source)?;
     let free = shows(alloc, &*mutex, "ReentrantMutex { data: 5 }");
-    let _held = ReentrantMutex::lock_arc(&mutex, party)?;
+    let had = ReentrantMutex::lock_arc(&mutex, party);
+    let held = shows(alloc, &*mutex, "ReentrantMutex { data: <locked> }");
+    let read = lends_what_it_has(had, 5);
     expect_all(&[
         (free, "Debug of a free one"),
-        (
-            shows(alloc, &*mutex, "ReentrantMutex { data: <locked> }"),
-            "Debug of a held one",
-        ),
+        (held & read, "Debug of a held one"),
     ])
 }
 

@@ -1,5 +1,6 @@
 //! What a lock shows to one who looks.
 
+use crate::guard_checks::is_had;
 use lock_api::{Mutex, ReentrantMutex, RwLock};
 use lock_api_raw::{GetThreadId, RawMutex, RawRwLock};
 use std::sync::Wait;
@@ -37,8 +38,8 @@ impl<R: RawRwLock, T> Look for RwLock<R, T> {
     where
         R::Runtime: Wait,
     {
-        let reader = self.try_read().is_some();
-        let writer = self.try_write().is_some();
+        let reader = is_had(self.try_read());
+        let writer = is_had(self.try_write());
         match (self.is_locked(), self.is_locked_exclusive(), reader, writer) {
             (false, false, true, true) => Seen::Free,
             (true, false, true, false) => Seen::Read,
@@ -56,7 +57,7 @@ impl<R: RawMutex, T> Look for Mutex<R, T> {
     where
         R::Runtime: Wait,
     {
-        let admitted = self.try_lock().is_some();
+        let admitted = is_had(self.try_lock());
         match (self.is_locked(), admitted) {
             (false, true) => Seen::Free,
             (true, false) => Seen::Alone,

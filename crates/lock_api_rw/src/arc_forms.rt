@@ -2,10 +2,10 @@
 ghost use Rattle.std.specs.Prelude.{◌≡◌, IfOk, IfSome, OnErr};
 ghost use Rattle.std.specs.Arc.{arc_value};
 
-use crate::arc_guard::ArcGuard;
 use crate::mode::{Exclusive, Shared, Upgradable};
 use crate::raw_hold::RawHold;
 use crate::rwlock::RwLock;
+use lock_api_guards::ArcGuard;
 use lock_api_raw::{NoMemory, RawRwLock, RawRwLockTimed, RawRwLockUpgrade, RawRwLockUpgradeTimed};
 use std::alloc::{Allocator, Global};
 use std::rt::Clock;

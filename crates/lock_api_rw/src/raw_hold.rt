@@ -1,8 +1,8 @@
 //! A hold of any mode, of a lock that is borrowed or owned.
 ghost use Rattle.std.specs.Prelude.{◌≡◌, IfSome};
 
-use crate::held::{Access, ArcHold, FairHold, Hold, WriteHold};
 use crate::mode::{FairMode, Mode, TimedMode, Writes};
+use lock_api_guards::{Access, ArcHold, FairHold, Hold, WriteHold};
 use std::alloc::Allocator;
 use std::marker::{Model, PhantomData};
 use std::rt::Clock;

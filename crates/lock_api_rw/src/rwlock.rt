@@ -2,12 +2,9 @@
 ghost use Rattle.std.specs.Prelude.{◌≡◌, IfOk, IfSome};
 ghost use Rattle.lock_api_raw.specs.Limits.{kept_limit};
 
-use crate::guard::Guard;
-use crate::held::RwLockHold;
-use crate::lock::{HasValue, HasValueMut, lent, lent_mut};
-use crate::mapped::Mapped;
 use crate::mode::{Exclusive, Mode, Shared, Upgradable};
 use crate::raw_hold::{HasRaw, LockValue, RawHold};
+use lock_api_guards::{Guard, HasValue, HasValueMut, Mapped, RwLockHold, lent, lent_mut};
 use lock_api_raw::{RawRwLock, RawRwLockUpgrade, TableFull};
 use std::alloc::Allocator;
 use std::marker::Model;

@@ -1,9 +1,9 @@
 //! Timed forms of the reader-writer lock.
 ghost use Rattle.std.specs.Prelude.{◌≡◌, IfSome};
 
-use crate::guard::Guard;
 use crate::raw_hold::RawHold;
 use crate::rwlock::{RwLock, RwLockReadGuard, RwLockUpgradableReadGuard, RwLockWriteGuard};
+use lock_api_guards::Guard;
 use lock_api_raw::{RawRwLockTimed, RawRwLockUpgradeTimed};
 use std::rt::Clock;
 use std::sync::Wait;

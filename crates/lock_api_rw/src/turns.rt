@@ -1,9 +1,9 @@
 //! How the holds of reader-writer locks turn into one another.
-use crate::held::{
-    DowngradeHold, DowngradeToUpgradable, RestoreHold, TimedUpgradeHold, UpgradeHold,
-};
 use crate::mode::{Exclusive, Shared, Upgradable};
 use crate::raw_hold::{HasRaw, Place, RawHold};
+use lock_api_guards::{
+    DowngradeHold, DowngradeToUpgradable, RestoreHold, TimedUpgradeHold, UpgradeHold,
+};
 use lock_api_raw::{
     RawRwLockDowngrade, RawRwLockUpgrade, RawRwLockUpgradeDowngrade, RawRwLockUpgradeTimed,
 };

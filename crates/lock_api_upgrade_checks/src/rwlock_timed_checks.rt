@@ -4,26 +4,18 @@
 //! times as long.
 
 use lock_api::{ArcGuard, Guard, RwLock};
-use lock_api_checks::arc_guard_checks::lends_to_closures;
-use lock_api_checks::guard_checks::lends;
-use lock_api_checks::rwlock_arc_checks::{is_given, is_refused, lock_in_arc};
+use lock_api_checks::arc_guard_checks::{is_given, is_refused, lends_to_closures};
+use lock_api_checks::guard_checks::{is_had, lends};
+use lock_api_checks::rwlock_arc_checks::lock_in_arc;
 use lock_api_checks::{Look, Wrong, expect_all, is_alone, is_free, is_read, moment, short};
-use lock_api_raw::{NoMemory, RawRwLockTimed, RawRwLockUpgradeDowngrade, RawRwLockUpgradeTimed};
-use lock_api_rw::{
+use lock_api_guards::{
     Access, HasValue, HasValueMut, Hold, Lender, LenderMut, RestoreHold, TimedUpgradeHold,
 };
+use lock_api_raw::{NoMemory, RawRwLockTimed, RawRwLockUpgradeDowngrade, RawRwLockUpgradeTimed};
 use std::alloc::Allocator;
 use std::rt::Clock;
 use std::sync::Wait;
 use std::time::{Duration, Instant};
-
-/// Whether a guard was had, which is gone afterwards.
-fn is_had<W: Drop, H: Hold>(guard: Option<Guard<W, H>>) -> bool
-where
-    H::Runtime: Wait,
-{
-    guard.is_some()
-}
 
 /// Whether one guard was had and another beside it wasn't.
 fn is_had_alone<W: Drop, H: Hold>(one: Option<Guard<W, H>>, other: Option<Guard<W, H>>) -> bool

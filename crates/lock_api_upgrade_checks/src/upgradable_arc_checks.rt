@@ -5,13 +5,13 @@
 
 use crate::upgradable_checks::{LookUpgradably, is_shared};
 use lock_api::{ArcGuard, Guard, RwLock};
-use lock_api_checks::arc_guard_checks::lends_to_closures;
-use lock_api_checks::rwlock_arc_checks::{is_refused, lock_in_arc};
+use lock_api_checks::arc_guard_checks::{is_refused, lends_to_closures};
+use lock_api_checks::rwlock_arc_checks::lock_in_arc;
 use lock_api_checks::{Look, Wrong, expect_all, is_alone, is_free, is_read};
-use lock_api_raw::{NoMemory, RawRwLockUpgrade, RawRwLockUpgradeDowngrade};
-use lock_api_rw::{
+use lock_api_guards::{
     DowngradeHold, DowngradeToUpgradable, HasValue, HasValueMut, Hold, RestoreHold, UpgradeHold,
 };
+use lock_api_raw::{NoMemory, RawRwLockUpgrade, RawRwLockUpgradeDowngrade};
 use std::alloc::Allocator;
 use std::sync::Wait;
 

@@ -9,11 +9,11 @@ use lock_api_checks::guard_checks::{
 };
 use lock_api_checks::raw_checks::TURNS;
 use lock_api_checks::{Look, Seen, Wrong, expect, expect_all, is_alone, is_free, is_read};
-use lock_api_raw::{RawRwLockUpgrade, RawRwLockUpgradeDowngrade, RawRwLockUpgradeFair};
-use lock_api_rw::{
+use lock_api_guards::{
     Access, DowngradeHold, DowngradeToUpgradable, FairHold, Hold, Lender, LenderMut, RestoreHold,
     RwLockHold, UpgradeHold,
 };
+use lock_api_raw::{RawRwLockUpgrade, RawRwLockUpgradeDowngrade, RawRwLockUpgradeFair};
 use std::alloc::Allocator;
 use std::sync::Wait;
 use std::thread;

@@ -6,3 +6,4 @@ pub mod Kept
 pub mod Commuting
 pub mod Programs
 pub mod Hashes
+pub mod Every

@@ -9,3 +9,4 @@ pub mod Placed
 pub mod Laws
 pub mod Sessions
 pub mod Spread
+pub mod Every

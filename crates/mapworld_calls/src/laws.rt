@@ -1,4 +1,23 @@
 //! Laws of programs and of blocks: each function's contract is the law. They are for proofs, and do nothing when they run.
+//! The first two are of the calls that programs have today, the rest of every call that a map has.
+ghost use Rattle.mapworld_calls.specs.Every.Laws.{
+  BlocksArePlain,
+  BlocksCommute,
+  EndsAgree,
+  LastCallsAgree,
+  LastVisitsAgree,
+  NewBlocksAgree,
+  PlacesStay,
+  PlacesStayBefore,
+  QuietCallsAgree,
+  QuietVisitsAgree,
+  ReadingWalksChangeNothing,
+  RefusedCallsChangeNothing,
+  RepliesAgree,
+  ReplaySplits,
+  SettledIsNow,
+  SettledStays,
+};
 ghost use Rattle.mapworld_calls.specs.Laws.{ShardsCommute};
 ghost use Rattle.mapworld_calls.specs.Sessions.{SessionsAreApart};
 
@@ -14,4 +33,88 @@ pub fn shards_commute<K, V, D: Deed<K, V>>()
 /// never stands in a session. It is a law for proofs, and does nothing when it runs.
 pub fn sessions_are_apart<K, V, D>()
     ensures { SessionsAreApart K V D }
+{}
+
+/// Blocks of any kind, each of which works on the keys of one shard: two neighbours on different shards may change
+/// places, contents stay, and each finds on its shard what it found.
+pub fn blocks_commute<B, K, O>()
+    ensures { BlocksCommute B K O }
+{}
+
+/// What a key has is told by the blocks of its shard alone, so a replay may be read shard by shard.
+pub fn replay_splits<B, K, O>()
+    ensures { ReplaySplits B K O }
+{}
+
+/// Where no later block changes what a block left, its keys have now what it left.
+pub fn settled_is_now<B, K, O>()
+    ensures { SettledIsNow B K O }
+{}
+
+/// A settled block stays so while others change nothing or are on other shards; the last block on a shard is settled,
+/// whatever it does, and stays the last while no block is added.
+pub fn settled_stays<B, K, O>()
+    ensures { SettledStays B K O }
+{}
+
+/// The blocks of a world are such blocks, walks included: each changes keys of its own shard alone, tells what it finds
+/// there, and treats equal keys alike.
+pub fn blocks_are_plain<K, V, D: Deed<K, V>>()
+    ensures { BlocksArePlain K V D D.Answer }
+{}
+
+/// A call that leaves its key's pair as it is may be made whatever stands behind its block: no answer that was given and
+/// no pair is another by it. Reads are such calls, and so are calls that a guard's kind doesn't allow.
+pub fn quiet_calls_agree<K, V, D: Deed<K, V>>()
+    ensures { QuietCallsAgree K V D D.Answer }
+{}
+
+/// A call that changes its key's pair may be made where no later block is on its shard.
+pub fn last_calls_agree<K, V, D: Deed<K, V>>()
+    ensures { LastCallsAgree K V D D.Answer }
+{}
+
+/// A visit may do one more key whatever stands behind its block, if it leaves the key's pair as it is.
+pub fn quiet_visits_agree<K, V, D: Deed<K, V>>()
+    ensures { QuietVisitsAgree K V D D.Answer }
+{}
+
+/// A visit that changes or removes the key's pair may do so where no later block is on its shard.
+pub fn last_visits_agree<K, V, D: Deed<K, V>>()
+    ensures { LastVisitsAgree K V D D.Answer }
+{}
+
+/// The end of a call may be written into its block.
+pub fn ends_agree<K, V, D: Deed<K, V>>()
+    ensures { EndsAgree K V D D.Answer }
+{}
+
+/// A block of a new call may be added at the end, with what it did there.
+pub fn new_blocks_agree<K, V, D: Deed<K, V>>()
+    ensures { NewBlocksAgree K V D D.Answer }
+{}
+
+/// A reply may be added whose answer is that of the replay.
+pub fn replies_agree<K, V, D: Deed<K, V>>()
+    ensures { RepliesAgree K V D D.Answer }
+{}
+
+/// A call on a guard of a kind that doesn't allow it, or where none is held, changes nothing.
+pub fn refused_calls_change_nothing<K, V, D: Deed<K, V>>()
+    ensures { RefusedCallsChangeNothing K V D D.Answer }
+{}
+
+/// A walk that only reads or counts changes no pair, so each of its visits may be made whatever stands behind its block.
+pub fn reading_walks_change_nothing<K, V, D: Deed<K, V>>()
+    ensures { ReadingWalksChangeNothing K V D D.Answer }
+{}
+
+/// Blocks stay well placed when one of them goes on: a session makes its next call, or a visit does one more key.
+pub fn places_stay<K, V, D: Deed<K, V>>()
+    ensures { PlacesStay K V D D.Answer }
+{}
+
+/// Blocks stay well placed when one is added at the end.
+pub fn places_stay_before<K, V, D: Deed<K, V>>()
+    ensures { PlacesStayBefore K V D D.Answer }
 {}

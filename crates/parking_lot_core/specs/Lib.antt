@@ -1,11 +1,2 @@
-pub mod Faults
-pub mod Lists
-pub mod Results
-pub mod Places
-pub mod Machine
-pub mod Sound
-pub mod Operations
-pub mod Runs
-pub mod InSteps
 pub mod Participants
 pub mod Shared

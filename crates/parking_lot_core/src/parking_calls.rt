@@ -1,17 +1,17 @@
 //! Parking and unparking of real threads.
 ghost use Rattle.std.specs.Prelude.{◌≡◌, ◌<◌, ◌≤◌, ℕ, Bool, true, IsSome, MatchBool, ◌≢◌};
-ghost use Rattle.parking_lot_core.specs.declared.parking.ParkResult.TheVariants.{Invalid, TimedOut};
-ghost use Rattle.parking_lot_core.specs.declared.parking.UnparkToken.{UnparkToken};
-ghost use Rattle.parking_lot_core.specs.Operations.{Resumes, UnparksOne, UnparksAll, UnparksAndRequeues, UnparksByFilter};
-ghost use Rattle.parking_lot_core.specs.Machine.{machine, busy, resume_fault, Does};
+ghost use Rattle.parking_lot_core_lot.specs.declared.parking.ParkResult.TheVariants.{Invalid, TimedOut};
+ghost use Rattle.parking_lot_core_lot.specs.declared.parking.UnparkToken.{UnparkToken};
+ghost use Rattle.parking_lot_core_lot.specs.Operations.{Resumes, UnparksOne, UnparksAll, UnparksAndRequeues, UnparksByFilter};
+ghost use Rattle.parking_lot_core_lot.specs.Machine.{machine, busy, resume_fault, Does};
 ghost use Rattle.parking_lot_core.specs.Shared.{OnSomeLot, Counts, Tells, waits_in};
 ghost use Rattle.std.specs.Sync.Mutex.{mutex_guard_value};
 
-use crate::parking::{FilterOp, ParkResult, ParkToken, RequeueOp, UnparkResult, UnparkToken};
 use crate::parking_lot::ParkingLot;
 use crate::state::State;
 use crate::thread_data::ThreadData;
 use crate::thread_parker::{Timed, time_left};
+use parking_lot_core_lot::{FilterOp, ParkResult, ParkToken, RequeueOp, UnparkResult, UnparkToken};
 use std::alloc::Allocator;
 use std::convert::Infallible;
 use std::sync::{Arc, Condvar, CondvarTimeouts, MutexGuard, Wait};

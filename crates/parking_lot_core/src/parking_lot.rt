@@ -1,13 +1,12 @@
 //! The lot for real threads.
 ghost use Rattle.std.specs.Prelude.{◌≡◌, ◌<◌, ◌↔◌, ◌⊎◌, IsTrue, IsErrOf, IfOk, IfErr, []};
-ghost use Rattle.parking_lot_core.specs.declared.fault.SizeFault.TheVariants.{BadSize};
+ghost use Rattle.parking_lot_core_lot.specs.declared.fault.SizeFault.TheVariants.{BadSize};
 ghost use Rattle.parking_lot_core.specs.Shared.{IsRefused};
-ghost use Rattle.parking_lot_core.specs.declared.fault.LotFault.TheVariants.{TooManyThreads, NoMemory};
+ghost use Rattle.parking_lot_core_lot.specs.declared.fault.LotFault.TheVariants.{TooManyThreads, NoMemory};
 
-use crate::fault::{LotFault, SizeFault};
-use crate::lot::Lot;
 use crate::state::State;
 use crate::thread_data::ThreadData;
+use parking_lot_core_lot::{Lot, LotFault, SizeFault};
 use std::alloc::{Allocator, Global};
 use std::sync::atomic::{AtomicUsize, Ordering};
 use std::sync::{Mutex, Wait};
@@ -44,8 +43,10 @@ impl<R: Drop, A: Allocator + Clone> ParkingLot<R, A> {
         ensures size { IsErrOf result BadSize ↔ ((max_threads ≡ 0) ⊎ (65536 < max_threads)) }
         ensures made { IfOk result (λ lot. (lot.rt ≡ rt) × (lot.number ≡ number) × (lot.max_threads ≡ max_threads)) }
     {
+        // A bad size is told before refused memory, so the copy's refusal is looked at behind the lot's.
+        let for_seats: Result<A, _> = alloc.clone();
         let lot = Lot::new(alloc, max_threads, number)?;
-        let seats = Vec::new(lot.places.allocator().clone()?);
+        let seats = Vec::new(for_seats?);
         Ok(ParkingLot {
             rt,
             number,

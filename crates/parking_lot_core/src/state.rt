@@ -3,17 +3,16 @@
 //! No clause can name what a lock guards. So each call on a [`ParkingLot`](crate::ParkingLot) takes the lock and calls one
 //! of the functions here, whose clauses say what it does.
 ghost use Rattle.std.specs.Prelude.{◌≡◌, ◌<◌, ◌+◌, ◌%◌, ◌==◌, ◌⊎◌, IfOk, IfErr, IfSome, Some, Err, []};
-ghost use Rattle.parking_lot_core.specs.Machine.{machine, free_number, busy, resume_fault, registered, Does};
-ghost use Rattle.parking_lot_core.specs.Operations.{Resumes, UnparksOne, UnparksAll, UnparksByFilter, UnparksAndRequeues};
+ghost use Rattle.parking_lot_core_lot.specs.Machine.{machine, free_number, busy, resume_fault, registered, Does};
+ghost use Rattle.parking_lot_core_lot.specs.Operations.{Resumes, UnparksOne, UnparksAll, UnparksByFilter, UnparksAndRequeues};
 ghost use Rattle.parking_lot_core.specs.Shared.{admit_fault, waits_in};
-ghost use Rattle.parking_lot_core.specs.Sound.{Sound};
-ghost use Rattle.parking_lot_core.specs.declared.fault.LotFault.TheVariants.{NoMemory};
+ghost use Rattle.parking_lot_core_lot.specs.Sound.{Sound};
+ghost use Rattle.parking_lot_core_lot.specs.declared.fault.LotFault.TheVariants.{NoMemory};
 
-use crate::fault::LotFault;
-use crate::lot::Lot;
-use crate::parking::{FilterOp, ParkResult, ParkToken, RequeueOp, UnparkResult, UnparkToken};
-use crate::place::Place;
 use crate::thread_data::ThreadData;
+use parking_lot_core_lot::{
+    FilterOp, Lot, LotFault, ParkResult, ParkToken, Place, RequeueOp, UnparkResult, UnparkToken,
+};
 use std::alloc::{AllocError, Allocator};
 use std::sync::{Arc, Condvar};
 

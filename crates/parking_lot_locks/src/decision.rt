@@ -1,6 +1,6 @@
 //! What a decision core offers to whoever runs it.
 ghost use Rattle.std.specs.Prelude.{◌≡◌};
-ghost use Rattle.parking_lot_core.specs.declared.parking.UnparkToken.{UnparkToken};
+ghost use Rattle.parking_lot_core_lot.specs.declared.parking.UnparkToken.{UnparkToken};
 ghost use Rattle.parking_lot_protocol.specs.declared.act.Act.{Act};
 ghost use Rattle.parking_lot_protocol.specs.declared.act.ActResult.{ActResult};
 

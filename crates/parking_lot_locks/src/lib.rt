@@ -23,7 +23,6 @@ mod run;
 mod section;
 mod table;
 mod thread_id;
-mod word;
 
 pub use parking_lot_protocol::{
     Act, ActResult, CoreAnswer, MutexCore, RwCore, SectionAct, WordChange, wake_sum,

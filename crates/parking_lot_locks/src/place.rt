@@ -5,8 +5,7 @@ ghost use Rattle.parking_lot_protocol.specs.Acts.{Gives};
 ghost use Rattle.parking_lot_protocol.specs.declared.act.Act.TheVariants.{Exchange};
 
 use crate::table::Row;
-use crate::word::READER;
-use parking_lot_protocol::{Act, ActResult, WordChange};
+use parking_lot_protocol::{Act, ActResult, WordChange, word};
 use std::alloc::Allocator;
 use std::sync::Wait;
 
@@ -23,7 +22,10 @@ impl<R, A: Allocator> Place<'_, '_, '_, R, A> {
         ensures { result ≡ passes self.now.limit act }
     {
         match act {
-            Act::Exchange(from, to) => from / READER < to / READER && self.limit < to / READER,
+            Act::Exchange(from, to) => {
+                let readers = word::readers(to);
+                word::readers(from) < readers && self.limit < readers
+            }
             _ => false,
         }
     }

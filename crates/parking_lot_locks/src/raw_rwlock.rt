@@ -1,19 +1,25 @@
 //! The raw reader-writer lock.
-ghost use Rattle.std.specs.Prelude.{◌≡◌, ◌+◌, ◌-◌, ◌*◌, ◌/◌, ◌%◌, ◌^◌, IfOk, IfSome, min, max};
+ghost use Rattle.std.specs.Prelude.{◌≡◌, ◌+◌, ◌-◌, ◌*◌, ◌/◌, ◌%◌, ◌^◌, ◌&&◌, nat_lt, not, IfOk, IfSome, min, max};
 ghost use Rattle.lock_api_raw.specs.Limits.{kept_limit};
+ghost use Rattle.parking_lot_protocol.specs.RwTable.{is_written};
 
 use crate::place::Place;
 use crate::table::{LockTable, Row};
-use crate::word;
-use crate::word::{READER, WRITER};
 use lock_api_raw::{GuardSend, RawRwLock as _, RawRwLockDowngrade, RawRwLockFair, TableFull};
 use parking_lot_core::{ThreadData, thread_yield};
-use parking_lot_protocol::{ActResult, CoreAnswer, RwCore};
+use parking_lot_protocol::word::{MAX_READERS, READER, WRITER};
+use parking_lot_protocol::{ActResult, CoreAnswer, RwCore, word};
 use std::alloc::{Allocator, Global};
 use std::sync::Wait;
 
-/// The most readers that a word can count.
-const MAX_READERS: u64 = (1 << 60) - 1;
+/// Whether a reader is admitted at once: no writer owns the lock or waits for readers to leave, and the word is less than one
+/// with the most readers.
+#[inline(always)]
+fn is_open(word: u64, full: u64) -> bool
+    ensures { result ≡ (not (is_written word) && nat_lt word full) }
+{
+    !word::is_written(word) && word < full
+}
 
 /// An unfair reader-writer lock on one row of a lock table. A writer that waits keeps new readers out; where `RECURSIVE` is 1
 /// a thread that reads may read again past it, and else `RECURSIVE` is 0.
@@ -63,8 +69,7 @@ impl<'t, 'l, R, const RECURSIVE: u8, A: Allocator> RawRwLock<'t, 'l, R, RECURSIV
     #[inline(always)]
     fn reads_at_once(&self) -> bool {
         let word = self.row.load();
-        word::has_room(word, self.full)
-            && self.row.exchange(word, word.wrapping_add(READER)).is_ok()
+        is_open(word, self.full) && self.row.exchange(word, word.wrapping_add(READER)).is_ok()
     }
 }
 

@@ -1,6 +1,6 @@
 //! A table of lock words.
 ghost use Rattle.std.specs.Prelude.{◌≡◌, ◌≢◌, ◌<◌, ◌+◌, ◌*◌, ◌%◌, ◌^◌, ◌↔◌, ◌⊎◌, IsTrue, IsSome, IsErrOf, IfOk, IfErr, MatchResult, length};
-ghost use Rattle.parking_lot_core.specs.declared.fault.SizeFault.TheVariants.{BadSize, NoMemory};
+ghost use Rattle.parking_lot_core_lot.specs.declared.fault.SizeFault.TheVariants.{BadSize, NoMemory};
 
 use crossbeam_utils::CachePadded;
 use lock_api_raw::TableFull;

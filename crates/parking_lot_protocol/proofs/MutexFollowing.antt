@@ -1,17 +1,18 @@
 -- Each answer to a mutex's core is the step that the table says.
-use Rattle.std.proofs.Common.{◌≡◌, ◌≢◌, ◌≤◌, ℕ, ◌+◌, ◌*◌, ◌==◌, ◌&&◌, ◌||◌, Bool, true, false, cond, nat_lt, ◌-◌, List, [], ◌∷◌, Option, Some, None, refl, sym, ap, ◌∙◌, subst, arith, eqb-true, ◌/◌, ◌%◌, ◌^◌, bit_and}
+use Rattle.std.proofs.Common.{◌≡◌, ℕ, ◌+◌, ◌*◌, ◌==◌, ◌&&◌, ◌||◌, Bool, true, false, cond, nat_lt, ◌-◌, Some, None, refl, sym, ap, subst, arith, eqb-true, ◌/◌, ◌%◌, ◌^◌, bit_and}
 use Rattle.std.specs.Int.Bits.{and_zero_r}
 use Rattle.parking_lot_rules.specs.Mutex as rules
 use Rattle.parking_lot_protocol.specs.declared.act.ActResult.{ActResult}
-use Rattle.parking_lot_protocol.specs.declared.act.ActResult.TheVariants.{Start, Word, Exchanged, Before, Spun, Entered, Took, Stored, Made, Woken}
+use Rattle.parking_lot_protocol.specs.declared.act.ActResult.TheVariants.{Start, Word, Exchanged, Spun, Entered, Took, Stored, Made, Woken}
 use Rattle.parking_lot_protocol.specs.declared.mutex_phase.MutexPhase.{MutexPhase}
-use Rattle.parking_lot_protocol.specs.declared.mutex_phase.MutexPhase.TheVariants.{Locking, Trying, Unlocking, Bumping, Loads, Locks, Spins, Parks, Enters, Checks, Retreats, Appends, Rests, Sleeps, TryLoads, TryLocks, Refuses, BumpLoads, Relocks, Unlocks, Looks, Takes, Stores, Leaves, Wakes, Finishes, Ends, Invalid}
+use Rattle.parking_lot_protocol.specs.declared.mutex_phase.MutexPhase.TheVariants.{Locking, Trying, Unlocking, Bumping, Loads, Locks, Spins, Parks, Enters, Checks, Retreats, Appends, Rests, Sleeps, TryLoads, TryLocks, BumpLoads, Relocks, Unlocks, Looks, Takes, Stores, Leaves, Wakes, Finishes, Ends}
 use Rattle.parking_lot_protocol.specs.declared.mutex_phase.Asking.{Asking}
 use Rattle.parking_lot_protocol.specs.declared.mutex_phase.Giving.{Giving}
-use Rattle.parking_lot_protocol.specs.MutexTable.{seeks, tries, retries, begins, store_of, act_of, next_phase, bit}
+use Rattle.parking_lot_protocol.specs.MutexTable.{seeks, tries, retries, begins, store_of, act_of}
+use Rattle.parking_lot_rules.specs.Classes.{bit}
 use Rattle.parking_lot_protocol.specs.Acts.{change_of, word_after}
-use Rattle.parking_lot_protocol.specs.declared.act.CoreAnswer.TheVariants.{Owned, Released}
-use Rattle.parking_lot_protocol.specs.MutexRules.{QueuePosition, Listed, role, Follows, IsPlain, IsWord, IsMove, Move, Stays, Makes, Tells, move}
+use Rattle.parking_lot_protocol.specs.declared.act.CoreAnswer.TheVariants.{Owned}
+use Rattle.parking_lot_protocol.specs.MutexRules.{QueuePosition, Listed, role, Follows, IsWord, IsMove, Stays, Makes, Tells}
 
 -- what holds of both holds of either
 pub either : {X Y : Type 0} (f : X → Y) (b : Bool) (x y : X) (r : Y) → f x ≡ r → f y ≡ r → f (cond b x y) ≡ r

@@ -1,10 +1,7 @@
 -- Each answer to a reader-writer lock's core is the step that the table says.
-use Rattle.std.proofs.Common.{◌≡◌, ◌≢◌, ◌≤◌, ◌<◌, ℕ, ◌+◌, ◌-◌, ◌*◌, ◌/◌, ◌%◌, ◌^◌, ◌==◌, ◌&&◌, ◌||◌, ◌⊎◌, inl, inr, nat_lt, not, min, bit_and, Bool, true, false, cond, List, [], ◌∷◌, ◌++◌, length, Option, Some, None, refl, sym, ap, ◌∙◌, subst, arith, eqb-true}
-use Rattle.std.proofs.lemmas.Bool.{both_ways, ltb-true, ltb-false, lt-ltb, eqb-false}
-use Rattle.std.proofs.Common.{lit<, lit≤}
-use Rattle.std.proofs.lemmas.Nat.{and_comm, and-not}
-use Rattle.std.proofs.lemmas.Nat.Bits.{and_pow, and_high_mask}
-use Rattle.std.proofs.Math.Nat.{mod-eq_of_lt, add-mod_left}
+use Rattle.std.proofs.Common.{◌≡◌, ◌≢◌, ◌<◌, ℕ, ◌+◌, ◌-◌, ◌*◌, ◌/◌, ◌%◌, ◌^◌, ◌==◌, ◌&&◌, ◌||◌, ◌⊎◌, inl, inr, nat_lt, not, min, bit_and, Bool, true, false, cond, List, [], ◌∷◌, ◌++◌, length, Some, None, refl, sym, ap, ◌∙◌, subst, arith, eqb-true}
+use Rattle.std.proofs.lemmas.Bool.{both_ways, ltb-true, eqb-false}
+use Rattle.std.proofs.Math.Nat.{mod-eq_of_lt}
 use Rattle.std.specs.Int.Bits.{and_zero_r}
 use Rattle.parking_lot_rules.specs.Roles as rules
 use Rattle.parking_lot_rules.specs.Clauses.{Word, IsWord, number}
@@ -17,16 +14,16 @@ use Rattle.parking_lot_protocol.specs.declared.rw_phase.AfterWake.{AfterWake}
 use Rattle.parking_lot_protocol.specs.declared.rw_phase.AfterWake.TheVariants.{FreedShared, FreedExclusive, Downgraded, AgainShared, AgainExclusive}
 use Rattle.parking_lot_protocol.specs.declared.rw_phase.RwPhase.{RwPhase}
 use Rattle.parking_lot_protocol.specs.declared.rw_phase.RwPhase.TheVariants.{Locking, Trying, UnlockingShared, UnlockingExclusive, Downgrading, BumpingShared, BumpingExclusive, Loads, Admits, Spins, SetParked, Enters, Checks, Retreats, Appends, Rests, Sleeps, DrainLoads, DrainSpins, DrainSetParked, DrainEnters, DrainChecks, DrainRetreats, DrainAppends, DrainRests, DrainSleeps, TryLoads, TryAdmits, Refuses, BumpLoads, Relocks, Unshares, EnterWriterWakeSection, TakeWriter, ClearWriterParked, LeaveWriterWakeSection, Unlocks, LooksExclusive, Downgrades, EnterWakeSection, Scans, Stores, Leaves, Wakes, Finishes, Ends, Invalid}
-use Rattle.parking_lot_protocol.specs.RwTable.{is_parked, is_writer_parked, is_upgradable, is_written, has_readers, has_room, is_barred, is_admitted, is_tried, seeks, tries, retries, begins, admits, gains, share_of, bumps, over, wakes, goes_on, scans, scans_for, asks_again, last_act, hands, may_hand, count_of, store_of}
+use Rattle.parking_lot_protocol.specs.RwTable.{is_parked, is_writer_parked, is_written, has_readers, is_barred, is_admitted, is_tried, seeks, tries, retries, begins, admits, gains, share_of, bumps, over, wakes, goes_on, scans, scans_for, asks_again, last_act, hands, may_hand, count_of, store_of}
 use Rattle.parking_lot_protocol.specs.declared.rw_phase.Outcome.TheVariants as outcome
 use Rattle.parking_lot_protocol.specs.declared.rw_phase.Seeking.{Seeking}
 use Rattle.parking_lot_protocol.specs.declared.rw_phase.Draining.{Draining}
 use Rattle.parking_lot_protocol.specs.RwRules.{Follows, IsMove, IsReady, Move, Stays, Makes, QueuePosition, Listed, role, mode_of, MayAsk, IsWoken, waking, admission, try_admission, gives_shared, gives_exclusive, owned_at_last, scan_of, TakesOne, mode_by, IsToken, cause_of, ending, Telling}
 use Rattle.parking_lot_rules.specs.Steps.{Scan, scanning, Hand, Free, Keep, stored}
-use Rattle.parking_lot_protocol.specs.MutexTable.{bit}
+use Rattle.parking_lot_rules.specs.Classes.{bit}
 use Rattle.parking_lot_protocol.specs.Acts.{Gives, change_of}
 use Rattle.parking_lot_protocol.specs.declared.rw_phase.Scanning.{Scanning}
-use Rattle.parking_lot_core.specs.declared.parking.ParkToken.{ParkToken}
+use Rattle.parking_lot_core_lot.specs.declared.parking.ParkToken.{ParkToken}
 use Rattle.std.specs.Option.{option_map_or}
 use Rattle.parking_lot_rules.specs.Roles.{Fresh}
 use Rattle.parking_lot_rules.specs.Roles.{Normal, Handed, Asleep}

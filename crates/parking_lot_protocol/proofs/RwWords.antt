@@ -1,16 +1,15 @@
 -- What the number of a reader-writer lock's word says, and what acts make of it.
-use Rattle.std.proofs.Common.{◌≡◌, ◌≢◌, ◌≤◌, ◌<◌, ℕ, ◌+◌, ◌-◌, ◌*◌, ◌/◌, ◌%◌, ◌^◌, ◌==◌, ◌&&◌, ◌||◌, ◌⊎◌, inl, inr, nat_lt, not, min, bit_and, Bool, true, false, cond, List, [], ◌∷◌, ◌++◌, length, Option, Some, None, refl, sym, ap, ◌∙◌, subst, arith, eqb-true}
+use Rattle.std.proofs.Common.{◌≡◌, ◌≢◌, ◌≤◌, ◌<◌, ℕ, ◌+◌, ◌-◌, ◌*◌, ◌/◌, ◌%◌, ◌^◌, ◌==◌, ◌&&◌, ◌||◌, ◌⊎◌, inl, inr, not, bit_and, Bool, true, false, refl, sym, ap, ◌∙◌, arith, eqb-true}
 use Rattle.std.proofs.lemmas.Bool.{both_ways, ltb-true, ltb-false, lt-ltb, eqb-false}
 use Rattle.std.proofs.Common.{lit<, lit≤}
 use Rattle.std.proofs.lemmas.Nat.{and_comm, and-not}
 use Rattle.std.proofs.lemmas.Nat.Bits.{and_pow, and_high_mask}
 use Rattle.std.proofs.Math.Nat.{mod-eq_of_lt, add-mod_left}
-use Rattle.parking_lot_rules.specs.Roles as rules
 use Rattle.parking_lot_rules.specs.Clauses.{Word, IsWord, number}
 use Rattle.parking_lot_rules.specs.Plain as plain
 use Rattle.parking_lot_protocol.specs.declared.rw_phase.LockMode.{LockMode}
 use Rattle.parking_lot_protocol.specs.declared.rw_phase.LockMode.TheVariants.{Shared, Exclusive}
-use Rattle.parking_lot_protocol.specs.RwTable.{is_parked, is_writer_parked, is_upgradable, is_written, has_readers, has_room, is_barred, is_admitted, is_tried, seeks, tries, retries, begins, admits, gains, share_of, bumps, over, wakes, goes_on, scans, scans_for, asks_again, last_act, hands, may_hand, count_of, store_of}
+use Rattle.parking_lot_protocol.specs.RwTable.{is_parked, is_writer_parked, is_upgradable, is_written, has_readers, has_room, is_barred, is_admitted}
 use Rattle.parking_lot_protocol.specs.RwRules.{mode_of, MayAsk}
 
 -- WHAT THE NUMBER OF A WORD SAYS

@@ -1,13 +1,13 @@
 -- What a waking section does at a waiter is what the rules say.
-use Rattle.std.proofs.Common.{◌≡◌, ◌≤◌, ℕ, ◌+◌, ◌*◌, ◌/◌, ◌%◌, ◌==◌, ◌&&◌, ◌||◌, Bool, true, false, cond, List, refl, sym, ap, ◌∙◌, subst, arith}
+use Rattle.std.proofs.Common.{◌≡◌, ℕ, ◌+◌, ◌*◌, ◌/◌, ◌%◌, ◌==◌, ◌&&◌, ◌||◌, Bool, true, false, cond, List, refl, sym, ap, ◌∙◌, subst, arith}
 use Rattle.parking_lot_rules.specs.Roles.{Mode, Shared, Exclusive, Upgradable}
 use Rattle.parking_lot_rules.specs.Steps.{look, holds_upgradable}
 use Rattle.parking_lot_protocol.specs.declared.rw_phase.Scanning.{Scanning}
 use Rattle.parking_lot_protocol.specs.declared.rw_phase.AfterWake.{AfterWake}
 use Rattle.parking_lot_protocol.specs.declared.rw_phase.AfterWake.TheVariants.{FreedShared, FreedExclusive, Downgraded, AgainShared, AgainExclusive}
-use Rattle.parking_lot_protocol.specs.MutexTable.{bit}
-use Rattle.parking_lot_core.specs.declared.parking.FilterOp.{FilterOp}
-use Rattle.parking_lot_core.specs.declared.parking.FilterOp.TheVariants.{Unpark, Skip, Stop}
+use Rattle.parking_lot_rules.specs.Classes.{bit}
+use Rattle.parking_lot_core_lot.specs.declared.parking.FilterOp.{FilterOp}
+use Rattle.parking_lot_core_lot.specs.declared.parking.FilterOp.TheVariants.{Unpark, Skip, Stop}
 use Rattle.parking_lot_protocol.specs.Wake.{wake_answer}
 use Rattle.parking_lot_protocol.specs.RwTable.{sum_of, base_of, taken_sum}
 use Rattle.parking_lot_protocol.specs.RwRules.{scan_of}

@@ -1,5 +1,6 @@
 pub mod Acts
 pub mod MutexTable
+pub mod Positions
 pub mod MutexRules
 pub mod Wake
 pub mod RwTable

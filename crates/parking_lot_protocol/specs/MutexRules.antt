@@ -1,6 +1,6 @@
 -- Which step of the rules each answer to a mutex's core is, and in which role its thread is.
-use Rattle.std.specs.Prelude.{◌≡◌, ◌≤◌, ℕ, ◌+◌, ◌==◌, ◌&&◌, ◌||◌, Bool, true, false, if◌then◌else◌, List, [], ◌∷◌, Option, Some, None, Result, Ok, Err}
-use Rattle.parking_lot_rules.specs.Roles.{Mark, Normal, Handed, Stay, Fresh, Asleep}
+use Rattle.std.specs.Prelude.{◌≡◌, ◌≤◌, ℕ, ◌==◌, ◌&&◌, ◌||◌, Bool, true, false, if◌then◌else◌, List, [], ◌∷◌, Some}
+use Rattle.parking_lot_rules.specs.Roles.{Mark, Normal, Handed, Fresh, Asleep}
 use Rattle.parking_lot_rules.specs.Mutex as rules
 use Rattle.parking_lot_protocol.specs.declared.act.ActResult.{ActResult}
 use Rattle.parking_lot_protocol.specs.declared.act.ActResult.TheVariants as seen
@@ -11,12 +11,9 @@ use Rattle.parking_lot_protocol.specs.declared.mutex_phase.MutexPhase.TheVariant
 use Rattle.parking_lot_protocol.specs.Acts.{Begins, Gives, word_after}
 use Rattle.parking_lot_protocol.specs.declared.act.Act.{Act}
 use Rattle.parking_lot_protocol.specs.declared.act.Act.TheVariants.{Done}
-use Rattle.parking_lot_protocol.specs.MutexTable.{act_of, next_phase, bit}
-
--- Where a thread that sleeps stands: in the list, or off it, taken by another that has said this since.
-pub data QueuePosition : Type 0 where
-  Listed : QueuePosition
-  Off : (by : ℕ) → (mark : Mark) → QueuePosition
+use Rattle.parking_lot_protocol.specs.MutexTable.{act_of, next_phase}
+use Rattle.parking_lot_rules.specs.Classes.{bit}
+pub use Rattle.parking_lot_protocol.specs.Positions.{QueuePosition, Listed, Off}
 
 abbrev pub sleeping : QueuePosition → rules.Phase
 sleeping Listed = rules.Queued Asleep

@@ -1,25 +1,18 @@
 -- The calls of a mutex: the act that each phase has asked for, and the phase that follows what it gives.
-use Rattle.std.specs.Prelude.{◌≡◌, ℕ, ◌+◌, ◌-◌, ◌/◌, ◌%◌, ◌*◌, ◌==◌, nat_lt, ◌&&◌, ◌||◌, Bool, true, false, if◌then◌else◌, Option, Some, None, is_some, Result, Ok, Err}
+use Rattle.std.specs.Prelude.{ℕ, ◌+◌, ◌-◌, ◌/◌, ◌%◌, ◌*◌, ◌==◌, nat_lt, ◌&&◌, ◌||◌, Bool, true, false, if◌then◌else◌, Option, Some, None, is_some, Result, Ok, Err}
 use Rattle.std.specs.Option.{option_map, option_map_or}
-use Rattle.parking_lot_core.specs.declared.parking.UnparkToken.{UnparkToken}
+use Rattle.parking_lot_core_lot.specs.declared.parking.UnparkToken.{UnparkToken}
 use Rattle.parking_lot_protocol.specs.declared.act.Act.{Act}
 use Rattle.parking_lot_protocol.specs.declared.act.Act.TheVariants as act
-use Rattle.parking_lot_protocol.specs.declared.act.SectionAct.{SectionAct}
 use Rattle.parking_lot_protocol.specs.declared.act.SectionAct.TheVariants as section
 use Rattle.parking_lot_protocol.specs.declared.act.WordChange.{WordChange}
 use Rattle.parking_lot_protocol.specs.declared.act.CoreAnswer.TheVariants.{Owned, Refused, Released}
 use Rattle.parking_lot_protocol.specs.declared.act.ActResult.{ActResult}
-use Rattle.parking_lot_protocol.specs.declared.act.Taking.{Taking}
 use Rattle.parking_lot_protocol.specs.declared.mutex_phase.Asking.{Asking}
-use Rattle.parking_lot_protocol.specs.declared.mutex_phase.Giving.{Giving}
 use Rattle.parking_lot_protocol.specs.declared.mutex_phase.MutexPhase.{MutexPhase}
 use Rattle.parking_lot_protocol.specs.declared.mutex_phase.MutexPhase.TheVariants.{Locking, Trying, Unlocking, Bumping, Loads, Locks, Spins, Parks, Enters, Checks, Retreats, Appends, Rests, Sleeps, TryLoads, TryLocks, Refuses, BumpLoads, Relocks, Unlocks, Looks, Takes, Stores, Leaves, Wakes, Finishes, Ends, Invalid}
 use Rattle.parking_lot_protocol.specs.Acts.{is_start, is_entered, is_made, word_seen, exchange_seen, spun_seen, took_seen, stored_seen, woken_seen}
-
--- 1 for true, 0 for false
-abbrev pub bit : Bool → ℕ
-bit true = 1
-bit false = 0
+use Rattle.parking_lot_rules.specs.Classes.{bit}
 
 -- what a release stores: the lock stays locked where it is handed over, and the parked bit where waiters are left
 abbrev pub store_of : Bool → Bool → WordChange

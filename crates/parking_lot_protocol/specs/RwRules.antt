@@ -1,14 +1,12 @@
 -- Which step of the rules each answer to a reader-writer lock's core is, and in which role its thread is.
-use Rattle.std.specs.Prelude.{◌≡◌, ◌≤◌, ◌<◌, ℕ, ◌+◌, ◌-◌, ◌/◌, ◌^◌, ◌*◌, ◌==◌, ◌&&◌, ◌||◌, ◌⊎◌, Bool, true, false, if◌then◌else◌, List, [], ◌∷◌, ◌++◌, length, Option, Some, None, Result, Ok, Err}
-use Rattle.parking_lot_core.specs.declared.parking.ParkToken.{ParkToken}
+use Rattle.std.specs.Prelude.{◌≡◌, ◌≤◌, ◌<◌, ℕ, ◌+◌, ◌-◌, ◌/◌, ◌^◌, ◌==◌, ◌&&◌, ◌||◌, ◌⊎◌, Bool, true, false, if◌then◌else◌, List, [], ◌∷◌, ◌++◌, length, Option, Some, None}
+use Rattle.parking_lot_core_lot.specs.declared.parking.ParkToken.{ParkToken}
 use Rattle.parking_lot_rules.specs.Roles.{Mode, Mark, Normal, Handed, Fresh, Asleep, Cause, Owned, Shares, Excludes, Upgrades, Role}
 use Rattle.parking_lot_rules.specs.Roles as rules
 use Rattle.parking_lot_rules.specs.Clauses.{Word, IsWord, number}
 use Rattle.parking_lot_rules.specs.Plain.{Plain}
 use Rattle.parking_lot_rules.specs.Plain as plain
 use Rattle.parking_lot_rules.specs.Steps.{Listing, Join1, Join2, listing_from, listing_to, Scan, scanning, taking, Ending, Free, Hand, Keep, ends_for, MayEnd, stored, Waking, Retry, Own, OwnPending, OwnUpgradable, Recheck, waking_from, waking_to}
-use Rattle.parking_lot_protocol.specs.declared.act.Act.{Act}
-use Rattle.parking_lot_protocol.specs.declared.act.Act.TheVariants.{Done}
 use Rattle.parking_lot_protocol.specs.declared.act.ActResult.{ActResult}
 use Rattle.parking_lot_protocol.specs.declared.act.ActResult.TheVariants as seen
 use Rattle.parking_lot_protocol.specs.declared.rw_phase.LockMode.{LockMode}
@@ -19,20 +17,15 @@ use Rattle.parking_lot_protocol.specs.declared.rw_phase.Outcome.{Outcome}
 use Rattle.parking_lot_protocol.specs.declared.rw_phase.Outcome.TheVariants as outcome
 use Rattle.parking_lot_protocol.specs.declared.rw_phase.Scanning.{Scanning}
 use Rattle.parking_lot_protocol.specs.declared.rw_phase.RwPhase.{RwPhase}
-use Rattle.parking_lot_protocol.specs.declared.rw_phase.RwPhase.TheVariants.{Locking, Trying, UnlockingShared, UnlockingExclusive, Downgrading, BumpingShared, BumpingExclusive, Loads, Admits, Spins, SetParked, Enters, Checks, Retreats, Appends, Rests, Sleeps, DrainLoads, DrainSpins, DrainSetParked, DrainEnters, DrainChecks, DrainRetreats, DrainAppends, DrainRests, DrainSleeps, TryLoads, TryAdmits, Refuses, BumpLoads, Relocks, Unshares, EnterWriterWakeSection, TakeWriter, ClearWriterParked, LeaveWriterWakeSection, Unlocks, LooksExclusive, Downgrades, EnterWakeSection, Scans, Stores, Leaves, Wakes, Finishes, Ends, Invalid}
+use Rattle.parking_lot_protocol.specs.declared.rw_phase.RwPhase.TheVariants.{Locking, Trying, UnlockingShared, UnlockingExclusive, Downgrading, BumpingShared, BumpingExclusive, Loads, Admits, Spins, SetParked, Enters, Checks, Retreats, Appends, Rests, Sleeps, DrainLoads, DrainSpins, DrainSetParked, DrainEnters, DrainChecks, DrainRetreats, DrainAppends, DrainRests, DrainSleeps, TryLoads, TryAdmits, Refuses, BumpLoads, Relocks, Unshares, EnterWriterWakeSection, TakeWriter, ClearWriterParked, LeaveWriterWakeSection, Unlocks, LooksExclusive, Downgrades, EnterWakeSection, Scans, Stores, Leaves, Wakes, Finishes, Ends}
 use Rattle.parking_lot_protocol.specs.Acts.{Begins, Gives, word_after}
-use Rattle.parking_lot_protocol.specs.MutexRules.{mark_of}
-use Rattle.parking_lot_protocol.specs.MutexTable.{bit}
-use Rattle.parking_lot_protocol.specs.RwTable.{act_of, next_phase, is_admitted, is_barred, is_parked, is_writer_parked, is_tried, has_readers, hands, may_hand, count_of, over}
+use Rattle.parking_lot_rules.specs.Classes.{bit}
+use Rattle.parking_lot_protocol.specs.RwTable.{act_of, next_phase, is_admitted, is_barred, is_parked, is_writer_parked, is_tried, has_readers, hands, count_of}
+pub use Rattle.parking_lot_protocol.specs.Positions.{QueuePosition, Listed, Off}
 
 abbrev pub mode_of : LockMode → Mode
 mode_of (want.Shared recursive) = rules.Shared
 mode_of want.Exclusive = rules.Exclusive
-
--- Where a thread that sleeps stands: in its list, or off it, taken by another that has said this since.
-pub data QueuePosition : Type 0 where
-  Listed : QueuePosition
-  Off : (by : ℕ) → (mark : Mark) → QueuePosition
 
 abbrev pub sleeping : QueuePosition → Mode → rules.Phase
 sleeping Listed mode = rules.Queued1 mode Asleep

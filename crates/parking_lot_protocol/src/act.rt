@@ -1,8 +1,8 @@
 //! What a decision core asks for, and what it is told of it.
 ghost use Rattle.std.specs.Prelude.{◌≡◌};
-ghost use Rattle.parking_lot_protocol.specs.Acts.{change_of, is_start, is_entered, is_made, word_seen, word_before, exchange_seen, spun_seen, took_seen, stored_seen, woken_seen};
+ghost use Rattle.parking_lot_protocol.specs.Acts.{change_of, is_start, is_entered, is_made, word_seen, exchange_seen, spun_seen, took_seen, stored_seen, woken_seen};
 
-use parking_lot_core::{ParkToken, UnparkToken};
+use parking_lot_core_lot::{ParkToken, UnparkToken};
 
 /// The token with which a lock is handed over to those that are woken: they own it, or its first part, at once.
 pub const HAND_OVER: UnparkToken = UnparkToken(1);
@@ -185,24 +185,6 @@ impl ActResult {
             ActResult::Start
             | ActResult::Exchanged
             | ActResult::Before(_)
-            | ActResult::Spun(_)
-            | ActResult::Entered
-            | ActResult::Took { .. }
-            | ActResult::Stored { .. }
-            | ActResult::Made
-            | ActResult::Woken(_) => None,
-        }
-    }
-
-    /// A word that an add or a mask found.
-    pub(crate) fn before(self) -> Option<u64>
-        ensures { result ≡ word_before self }
-    {
-        match self {
-            ActResult::Before(word) => Some(word),
-            ActResult::Start
-            | ActResult::Word(_)
-            | ActResult::Exchanged
             | ActResult::Spun(_)
             | ActResult::Entered
             | ActResult::Took { .. }

@@ -17,6 +17,7 @@ mod rw_core;
 mod rw_next;
 mod rw_phase;
 mod wake;
+pub mod word;
 
 pub use act::{Act, ActResult, CoreAnswer, HAND_OVER, SectionAct, TRY_AGAIN, WordChange};
 pub use mutex_core::MutexCore;

@@ -3,10 +3,11 @@ ghost use Rattle.std.specs.Prelude.{◌≡◌, ◌==◌, ◌+◌, ◌*◌, ◌-�
 ghost use Rattle.parking_lot_protocol.specs.declared.act.Act.TheVariants as act;
 ghost use Rattle.parking_lot_protocol.specs.declared.act.CoreAnswer.TheVariants.{Owned, Released};
 ghost use Rattle.parking_lot_protocol.specs.declared.mutex_phase.MutexPhase.TheVariants.{Loads, Locks, Parks, Enters, Appends, Retreats, Relocks, Unlocks, Looks, Stores, Leaves, Wakes, Finishes, Ends};
-ghost use Rattle.parking_lot_protocol.specs.MutexTable.{act_of, after, bit, begins, once, retries, seeks, store_of, tries, won_or};
+ghost use Rattle.parking_lot_protocol.specs.MutexTable.{act_of, after, begins, once, retries, seeks, store_of, tries, won_or};
+ghost use Rattle.parking_lot_rules.specs.Classes.{bit};
 
 use crate::act::{Act, ActResult, CoreAnswer, HAND_OVER, SectionAct, Taking, WordChange};
-use parking_lot_core::{DEFAULT_PARK_TOKEN, UnparkToken};
+use parking_lot_core_lot::{DEFAULT_PARK_TOKEN, UnparkToken};
 
 /// How many rounds a call spins before it sets the parked bit.
 pub(crate) const ROUNDS: u8 = 10;

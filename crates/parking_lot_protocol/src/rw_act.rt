@@ -2,25 +2,17 @@
 ghost use Rattle.std.specs.Prelude.{◌≡◌, ◌+◌, ◌<◌, ◌%◌, ◌^◌, true};
 ghost use Rattle.parking_lot_protocol.specs.declared.act.Act.TheVariants as act;
 ghost use Rattle.parking_lot_protocol.specs.declared.act.SectionAct.TheVariants as section;
-ghost use Rattle.parking_lot_protocol.specs.MutexTable.{bit};
+ghost use Rattle.parking_lot_rules.specs.Classes.{bit};
 ghost use Rattle.parking_lot_protocol.specs.RwTable.{act_of, answer_of, base_of, count_of, hands, last_act, may_hand, share_of, store_of, sum_of};
 
 use crate::act::{Act, CoreAnswer, SectionAct, WordChange};
 use crate::rw_phase::{AfterWake, LockMode, Outcome, RwPhase, Scanning};
-use parking_lot_core::ParkToken;
-
-/// What an admission of a reader adds to the word, and the token of one that waits.
-pub(crate) const READER: u8 = 16;
-
-/// The same of a writer.
-pub(crate) const WRITER: u8 = 8;
-
-/// The same of one that wants the upgradable hold.
-pub(crate) const UPGRADABLE: u8 = 20;
+use crate::word::{PARKED, READER, UPGRADABLE, WRITER, WRITER_PARKED};
+use parking_lot_core_lot::ParkToken;
 
 impl LockMode {
     /// What an admission adds to the word, and the token of one that waits for it.
-    pub(crate) fn share(self) -> u8
+    pub(crate) fn share(self) -> u64
         ensures { result ≡ share_of self }
     {
         match self {
@@ -33,13 +25,13 @@ impl LockMode {
     fn admission(self, word: u64) -> Act
         ensures { result ≡ act.Exchange word ((word + share_of self) % 2 ^ 64) }
     {
-        Act::Exchange(word, word.wrapping_add(u64::from(self.share())))
+        Act::Exchange(word, word.wrapping_add(self.share()))
     }
 }
 
 impl AfterWake {
     /// What one that scans for this has counted from the beginning: the hold that it keeps.
-    fn base(self) -> u8
+    fn base(self) -> u64
         ensures { result ≡ base_of self }
     {
         match self {
@@ -85,7 +77,7 @@ impl Outcome {
 }
 
 /// 1 for true, 0 for false.
-fn bit(flag: bool) -> u8
+fn bit(flag: bool) -> u64
     ensures { result ≡ bit flag }
 {
     if flag { 1 } else { 0 }
@@ -96,8 +88,8 @@ impl Scanning {
     pub fn sum(&self) -> u64
         ensures { result ≡ sum_of self.now }
     {
-        let greedy = UPGRADABLE * bit(self.upgradable) + WRITER * bit(self.writer);
-        u64::from(self.rest.base()) + 16 * u64::from(self.shared) + u64::from(greedy)
+        let greedy = (READER + UPGRADABLE) * bit(self.upgradable) + WRITER * bit(self.writer);
+        self.rest.base() + READER * u64::from(self.shared) + greedy
     }
 
     /// How many it has taken.
@@ -105,7 +97,7 @@ impl Scanning {
         ensures count { result ≡ count_of self.now }
         ensures small { result < 2 ^ 33 }
     {
-        u64::from(self.shared) + u64::from(bit(self.upgradable)) + u64::from(bit(self.writer))
+        u64::from(self.shared) + bit(self.upgradable) + bit(self.writer)
     }
 
     /// Whether it hands the lock over, where the release is fair.
@@ -119,7 +111,7 @@ impl Scanning {
     fn store(&self, handed: bool, left: bool) -> WordChange
         ensures { result ≡ store_of self.now handed left }
     {
-        let left = u64::from(bit(left));
+        let left = bit(left);
         if handed {
             WordChange {
                 keep: 0,
@@ -129,7 +121,7 @@ impl Scanning {
             WordChange { keep: 0, add: left }
         } else {
             WordChange {
-                keep: u64::MAX - 1 + left,
+                keep: u64::MAX - PARKED + left,
                 add: 0,
             }
         }
@@ -157,16 +149,19 @@ impl RwPhase {
             RwPhase::Admits(seeking, word) => seeking.want.admission(word),
             RwPhase::TryAdmits(want, word, _) => want.admission(word),
             RwPhase::Spins(_) | RwPhase::DrainSpins(_) => Act::Spin,
-            RwPhase::SetParked(_, word) => Act::Exchange(word, word.wrapping_add(1)),
-            RwPhase::DrainSetParked(_, word) => Act::Exchange(word, word.wrapping_add(2)),
+            RwPhase::SetParked(_, word) => Act::Exchange(word, word.wrapping_add(PARKED)),
+            RwPhase::DrainSetParked(_, word) => Act::Exchange(
+                word,
+                word.wrapping_add(WRITER_PARKED),
+            ),
             RwPhase::Enters(..) | RwPhase::LooksExclusive(..) | RwPhase::EnterWakeSection =>
                 Act::Enter(0),
             RwPhase::DrainEnters(_) | RwPhase::EnterWriterWakeSection(_) => Act::Enter(1),
             RwPhase::Sleeps(_) | RwPhase::DrainSleeps(_) => Act::Sleep,
-            RwPhase::Unshares(_) => Act::Add(u64::MAX - 15),
-            RwPhase::ClearWriterParked(..) => Act::FetchAnd(u64::MAX - 2),
-            RwPhase::Unlocks(..) => Act::Exchange(8, 0),
-            RwPhase::Downgrades => Act::Add(8),
+            RwPhase::Unshares(_) => Act::Add(READER.wrapping_neg()),
+            RwPhase::ClearWriterParked(..) => Act::FetchAnd(u64::MAX - WRITER_PARKED),
+            RwPhase::Unlocks(..) => Act::Exchange(WRITER, 0),
+            RwPhase::Downgrades => Act::Add(READER - WRITER),
             RwPhase::Finishes(rest) => rest.last_act(),
             RwPhase::Ends(outcome) => Act::Done(outcome.answer()),
             RwPhase::Checks(..) | RwPhase::DrainChecks(_) => Act::Section(SectionAct::Check),
@@ -193,8 +188,8 @@ impl RwPhase {
 }
 
 /// The token of that number.
-fn token(number: u8) -> ParkToken
+fn token(number: u64) -> ParkToken
     ensures { result ≡ record { 0 = number } }
 {
-    ParkToken(usize::from(number))
+    ParkToken(number as usize)
 }

@@ -1,54 +1,18 @@
 //! Where a call at a reader-writer lock goes on, by what its act gave.
-ghost use Rattle.std.specs.Prelude.{◌≡◌, ◌+◌, ◌-◌, ◌<◌, ◌%◌, ◌^◌, ◌==◌, ◌&&◌, ◌||◌, nat_lt, if◌then◌else◌, true, false, is_some, Some};
-ghost use Rattle.parking_lot_protocol.specs.declared.rw_phase.RwPhase.TheVariants.{Enters, Loads, LeaveWriterWakeSection, Scans, DrainLoads, DrainEnters, Appends, Retreats, DrainAppends, DrainRetreats, Ends, LooksExclusive, EnterWakeSection, Leaves};
+ghost use Rattle.std.specs.Prelude.{◌≡◌, ◌+◌, ◌-◌, ◌<◌, ◌==◌, ◌&&◌, ◌||◌, if◌then◌else◌, true, is_some, Some};
+ghost use Rattle.parking_lot_protocol.specs.declared.rw_phase.RwPhase.TheVariants.{Loads, Scans, DrainLoads, Appends, Retreats, DrainAppends, DrainRetreats, Ends, EnterWakeSection, Leaves};
+ghost use Rattle.parking_lot_protocol.specs.declared.act.ActResult.TheVariants as seen;
 ghost use Rattle.parking_lot_protocol.specs.declared.rw_phase.Outcome.TheVariants as outcome;
-ghost use Rattle.parking_lot_protocol.specs.RwTable.{admits, after, asks_again, begins, bumps, count_of, drains, gains, goes_on, hands, has_readers, has_room, is_admitted, is_barred, is_parked, is_tried, is_upgradable, is_writer_parked, is_written, once, over, pends, retries, scans, scans_for, seeks, tries, unshares, wakes, with_taken, won_or};
+ghost use Rattle.parking_lot_protocol.specs.RwTable.{admits, after, asks_again, begins, bumps, count_of, drains, gains, goes_on, hands, has_readers, is_admitted, is_barred, is_parked, is_tried, is_writer_parked, over, retries, scans, scans_for, seeks, tries, unshares, wakes, with_taken};
 
-use crate::act::{ActResult, HAND_OVER, Taking};
+use crate::act::{ActResult, HAND_OVER};
 use crate::mutex_phase::{ROUNDS, TRIES};
-use crate::rw_act::{READER, UPGRADABLE, WRITER};
 use crate::rw_phase::{AfterWake, Draining, LockMode, Outcome, RwPhase, Scanning, Seeking};
-use parking_lot_core::{ParkToken, UnparkToken};
-
-/// One reader more can be counted than this.
-const MAX_READERS: u64 = (1 << 60) - 1;
-
-fn is_parked(word: u64) -> bool
-    ensures { result ≡ is_parked word }
-{
-    word % 2 == 1
-}
-
-fn is_writer_parked(word: u64) -> bool
-    ensures { result ≡ is_writer_parked word }
-{
-    (word / 2) % 2 == 1
-}
-
-fn is_upgradable(word: u64) -> bool
-    ensures { result ≡ is_upgradable word }
-{
-    (word / 4) % 2 == 1
-}
-
-fn is_written(word: u64) -> bool
-    ensures { result ≡ is_written word }
-{
-    (word / 8) % 2 == 1
-}
-
-fn has_readers(word: u64) -> bool
-    ensures { result ≡ has_readers word }
-{
-    word / 16 > 0
-}
-
-/// Whether one reader more can be counted.
-fn has_room(word: u64) -> bool
-    ensures { result ≡ has_room word }
-{
-    word / 16 < MAX_READERS
-}
+use crate::word::{
+    READER, UPGRADABLE, WRITER, has_readers, has_room, is_parked, is_upgradable, is_writer_parked,
+    is_written, readers,
+};
+use parking_lot_core_lot::{ParkToken, UnparkToken};
 
 impl LockMode {
     /// Whether somebody is in its way who is to be waited for.
@@ -128,14 +92,14 @@ impl LockMode {
         }
     }
 
-    /// A try's exchange was won, or lost to this word.
-    fn tried(self, left: u8, outcome: Result<(), u64>) -> RwPhase
-        ensures { result ≡ won_or (Ends (gains self)) (retries self left) outcome }
+    /// A try has lost an exchange to this word, and may make so many more.
+    fn retries(self, left: u8, word: u64) -> RwPhase
+        ensures { result ≡ retries self left word }
     {
-        match outcome {
-            Ok(()) => RwPhase::Ends(self.gains()),
-            Err(word) if left > 0 => self.tries(left - 1, word),
-            Err(_) => RwPhase::Refuses(self),
+        if left > 0 {
+            self.tries(left - 1, word)
+        } else {
+            RwPhase::Refuses(self)
         }
     }
 
@@ -196,26 +160,6 @@ impl Seeking {
         }
     }
 
-    /// The exchange that admits it was won, or lost to this word.
-    fn admitted(self, outcome: Result<(), u64>) -> RwPhase
-        ensures { result ≡ won_or (admits self.want false) (seeks self) outcome }
-    {
-        match outcome {
-            Ok(()) => self.want.admits(false),
-            Err(word) => self.seeks(word),
-        }
-    }
-
-    /// The exchange that sets the parked bit was won, or lost to this word.
-    fn flagged(self, outcome: Result<(), u64>) -> RwPhase
-        ensures { result ≡ won_or (Enters self.want self.woken) (seeks self) outcome }
-    {
-        match outcome {
-            Ok(()) => RwPhase::Enters(self.want, self.woken),
-            Err(word) => self.seeks(word),
-        }
-    }
-
     /// A round was spun, or there were enough.
     fn spun(self, spun: bool) -> RwPhase
         ensures { result ≡ Loads (record self { rounds = if spun then self.rounds - 1 else 0 }) }
@@ -242,16 +186,6 @@ impl Draining {
             RwPhase::DrainEnters(self)
         } else {
             RwPhase::DrainSetParked(self, word)
-        }
-    }
-
-    /// The exchange that sets the writer-parked bit was won, or lost to this word.
-    fn flagged(self, outcome: Result<(), u64>) -> RwPhase
-        ensures { result ≡ won_or (DrainEnters self) (drains self) outcome }
-    {
-        match outcome {
-            Ok(()) => RwPhase::DrainEnters(self),
-            Err(word) => self.drains(word),
         }
     }
 
@@ -293,8 +227,8 @@ impl AfterWake {
         }
     }
 
-    /// All is done, and a bump asks again, whatever the word is.
-    fn finished(self, _word: u64) -> Option<RwPhase>
+    /// All is done, and a bump asks again.
+    fn finished(self) -> Option<RwPhase>
         ensures { result ≡ asks_again self }
     {
         match self {
@@ -308,20 +242,10 @@ impl AfterWake {
     fn unshares(self, word: u64) -> RwPhase
         ensures { result ≡ unshares self word }
     {
-        if word / 16 == 1 && is_writer_parked(word) {
+        if readers(word) == 1 && is_writer_parked(word) {
             RwPhase::EnterWriterWakeSection(self)
         } else {
             self.over()
-        }
-    }
-
-    /// The exchange that gives the exclusive hold up was won, or waiters are there.
-    fn unlocked(self, fair: bool, outcome: Result<(), u64>) -> RwPhase
-        ensures { result ≡ won_or (over self) (λ word. LooksExclusive fair self) outcome }
-    {
-        match outcome {
-            Ok(()) => self.over(),
-            Err(_) => RwPhase::LooksExclusive(fair, self),
         }
     }
 
@@ -355,15 +279,15 @@ impl Scanning {
     fn with(self, token: ParkToken) -> Option<Scanning>
         ensures { result ≡ with_taken self token }
     {
-        if token.0 == usize::from(READER) {
+        if token.0 == READER as usize {
             let shared = self.shared.saturating_add(1);
             Some(Scanning { shared, ..self })
-        } else if token.0 == usize::from(WRITER) {
+        } else if token.0 == WRITER as usize {
             Some(Scanning {
                 writer: true,
                 ..self
             })
-        } else if token.0 == usize::from(UPGRADABLE) {
+        } else if token.0 == (READER + UPGRADABLE) as usize {
             Some(Scanning {
                 upgradable: true,
                 ..self
@@ -385,12 +309,12 @@ impl Scanning {
     }
 
     /// It has taken the next waiter, or there was none for it.
-    fn scans(self, taking: Taking) -> Option<RwPhase>
-        ensures { result ≡ scans self taking.token taking.left }
+    fn scans(self, token: Option<ParkToken>, left: bool) -> Option<RwPhase>
+        ensures { result ≡ scans self token left }
     {
-        match taking.token {
-            None => Some(RwPhase::Stores(self, taking.left)),
-            Some(token) => Some(self.with(token)?.goes_on(taking.left)),
+        match token {
+            None => Some(RwPhase::Stores(self, left)),
+            Some(token) => Some(self.with(token)?.goes_on(left)),
         }
     }
 
@@ -413,101 +337,169 @@ fn downgraded(word: u64) -> RwPhase
     }
 }
 
-/// The pending writer was taken, if there was one, and the writer-parked bit is cleared.
-fn masked(rest: AfterWake, taken: bool, _word: u64) -> RwPhase
-    ensures { result ≡ LeaveWriterWakeSection rest taken }
-{
-    RwPhase::LeaveWriterWakeSection(rest, taken)
-}
-
-/// A pending writer was woken, whatever the token.
-fn looks_again(rounds: u8, _token: UnparkToken) -> Option<RwPhase>
-    ensures { result ≡ Some (DrainLoads (record { woken = true; rounds = rounds })) }
-{
-    Some(RwPhase::DrainLoads(Draining {
-        woken: true,
-        rounds,
-    }))
-}
-
-/// The phase, if that was seen.
-fn once(seen: bool, phase: RwPhase) -> Option<RwPhase>
-    ensures { result ≡ once seen phase }
-{
-    if seen { Some(phase) } else { None }
-}
-
 impl RwPhase {
     /// The phase that follows what the act of this one gave; `None` where the act can't give that.
     pub fn after(self, seen: ActResult) -> Option<RwPhase>
         ensures { result ≡ after self seen }
     {
-        let started = seen.is_start();
-        let made = seen.is_made();
+        match seen {
+            ActResult::Start => self.after_start(),
+            ActResult::Word(word) => self.after_word(word),
+            ActResult::Exchanged => self.after_exchange(),
+            ActResult::Before(word) => self.after_change(word),
+            ActResult::Spun(spun) => self.after_spin(spun),
+            ActResult::Entered => self.after_entry(),
+            ActResult::Took { token, left } => self.after_taking(token, left),
+            ActResult::Stored { fair } => self.after_store(fair),
+            ActResult::Made => self.after_act(),
+            ActResult::Woken(token) => self.after_sleep(token),
+        }
+    }
+
+    /// The call begins.
+    fn after_start(self) -> Option<RwPhase>
+        ensures { result ≡ after self seen.Start }
+    {
         match self {
-            RwPhase::Locking(want) => once(started, RwPhase::Loads(want.begins(false))),
-            RwPhase::Trying(want) => once(started, RwPhase::TryLoads(want)),
-            RwPhase::UnlockingShared => once(started, RwPhase::Unshares(AfterWake::FreedShared)),
-            RwPhase::UnlockingExclusive(fair) => once(
-                started,
-                RwPhase::Unlocks(fair, AfterWake::FreedExclusive),
-            ),
-            RwPhase::Downgrading => once(started, RwPhase::Downgrades),
-            RwPhase::BumpingShared => once(started, RwPhase::BumpLoads(LockMode::Shared(false))),
-            RwPhase::BumpingExclusive => once(started, RwPhase::BumpLoads(LockMode::Exclusive)),
-            RwPhase::Loads(seeking) => Some(seeking.seeks(seen.word()?)),
-            RwPhase::Admits(seeking, _) => Some(seeking.admitted(seen.exchange()?)),
-            RwPhase::Spins(seeking) => Some(seeking.spun(seen.spun()?)),
-            RwPhase::SetParked(seeking, _) => Some(seeking.flagged(seen.exchange()?)),
-            RwPhase::Enters(want, woken) => once(seen.is_entered(), RwPhase::Checks(want, woken)),
-            RwPhase::Checks(want, woken) => Some(want.checks(woken, seen.word()?)),
-            RwPhase::Retreats(want, woken) => once(made, RwPhase::Loads(want.begins(woken))),
-            RwPhase::Appends(want) => once(made, RwPhase::Rests(want)),
-            RwPhase::Rests(want) => once(made, RwPhase::Sleeps(want)),
-            RwPhase::Sleeps(want) => Some(want.wakes(seen.woken()?)),
-            RwPhase::TryLoads(want) => Some(want.tries(TRIES - 1, seen.word()?)),
-            RwPhase::TryAdmits(want, _, left) => Some(want.tried(left, seen.exchange()?)),
-            RwPhase::BumpLoads(want) => Some(want.bumps(seen.word()?)),
-            RwPhase::Relocks(want) => Some(want.begins(false).seeks(seen.word()?)),
-            RwPhase::DrainLoads(draining) => Some(draining.drains(seen.word()?)),
-            RwPhase::DrainSpins(draining) => Some(draining.spun(seen.spun()?)),
-            RwPhase::DrainSetParked(draining, _) => Some(draining.flagged(seen.exchange()?)),
-            RwPhase::DrainEnters(draining) => once(
-                seen.is_entered(),
-                RwPhase::DrainChecks(draining),
-            ),
-            RwPhase::DrainChecks(draining) => Some(draining.checks(seen.word()?)),
-            RwPhase::DrainRetreats(draining) => once(made, RwPhase::DrainLoads(draining)),
-            RwPhase::DrainAppends(rounds) => once(made, RwPhase::DrainRests(rounds)),
-            RwPhase::DrainRests(rounds) => once(made, RwPhase::DrainSleeps(rounds)),
-            RwPhase::DrainSleeps(rounds) => looks_again(rounds, seen.woken()?),
-            RwPhase::Unshares(rest) => Some(rest.unshares(seen.before()?)),
-            RwPhase::EnterWriterWakeSection(rest) => once(
-                seen.is_entered(),
-                RwPhase::TakeWriter(rest),
-            ),
-            RwPhase::TakeWriter(rest) => Some(RwPhase::ClearWriterParked(
-                rest,
-                seen.took()?.token.is_some(),
+            RwPhase::Locking(want) => Some(RwPhase::Loads(want.begins(false))),
+            RwPhase::Trying(want) => Some(RwPhase::TryLoads(want)),
+            RwPhase::UnlockingShared => Some(RwPhase::Unshares(AfterWake::FreedShared)),
+            RwPhase::UnlockingExclusive(fair) => Some(RwPhase::Unlocks(
+                fair,
+                AfterWake::FreedExclusive,
             )),
-            RwPhase::ClearWriterParked(rest, taken) => Some(masked(rest, taken, seen.before()?)),
-            RwPhase::LeaveWriterWakeSection(rest, taken) => once(
-                made,
-                rest.wakes(u64::from(taken)),
-            ),
-            RwPhase::Unlocks(fair, rest) => Some(rest.unlocked(fair, seen.exchange()?)),
-            RwPhase::LooksExclusive(fair, rest) => once(seen.is_entered(), rest.scans(fair)),
-            RwPhase::Downgrades => Some(downgraded(seen.before()?)),
-            RwPhase::EnterWakeSection => once(
-                seen.is_entered(),
-                AfterWake::Downgraded.scans(false),
-            ),
-            RwPhase::Scans(scanning) => scanning.scans(seen.took()?),
-            RwPhase::Stores(scanning, _) => Some(scanning.stored(seen.stored()?)),
-            RwPhase::Leaves(rest, count, _) => once(made, rest.wakes(count)),
-            RwPhase::Wakes(rest, count) => once(made, rest.wakes(count.saturating_sub(1))),
-            RwPhase::Finishes(rest) => rest.finished(seen.word()?),
-            RwPhase::Refuses(_) | RwPhase::Ends(_) | RwPhase::Invalid => None,
+            RwPhase::Downgrading => Some(RwPhase::Downgrades),
+            RwPhase::BumpingShared => Some(RwPhase::BumpLoads(LockMode::Shared(false))),
+            RwPhase::BumpingExclusive => Some(RwPhase::BumpLoads(LockMode::Exclusive)),
+            _ => None,
+        }
+    }
+
+    /// A load or a check saw this word, or an exchange was lost to it.
+    fn after_word(self, word: u64) -> Option<RwPhase>
+        ensures { result ≡ after self (seen.Word word) }
+    {
+        match self {
+            RwPhase::Loads(seeking) => Some(seeking.seeks(word)),
+            RwPhase::Admits(seeking, _) => Some(seeking.seeks(word)),
+            RwPhase::SetParked(seeking, _) => Some(seeking.seeks(word)),
+            RwPhase::Checks(want, woken) => Some(want.checks(woken, word)),
+            RwPhase::TryLoads(want) => Some(want.tries(TRIES - 1, word)),
+            RwPhase::TryAdmits(want, _, left) => Some(want.retries(left, word)),
+            RwPhase::BumpLoads(want) => Some(want.bumps(word)),
+            RwPhase::Relocks(want) => Some(want.begins(false).seeks(word)),
+            RwPhase::DrainLoads(draining) => Some(draining.drains(word)),
+            RwPhase::DrainSetParked(draining, _) => Some(draining.drains(word)),
+            RwPhase::DrainChecks(draining) => Some(draining.checks(word)),
+            RwPhase::Unlocks(fair, rest) => Some(RwPhase::LooksExclusive(fair, rest)),
+            RwPhase::Finishes(rest) => rest.finished(),
+            _ => None,
+        }
+    }
+
+    /// An exchange was won.
+    fn after_exchange(self) -> Option<RwPhase>
+        ensures { result ≡ after self seen.Exchanged }
+    {
+        match self {
+            RwPhase::Admits(seeking, _) => Some(seeking.want.admits(false)),
+            RwPhase::SetParked(seeking, _) => Some(RwPhase::Enters(seeking.want, seeking.woken)),
+            RwPhase::TryAdmits(want, _, _) => Some(RwPhase::Ends(want.gains())),
+            RwPhase::DrainSetParked(draining, _) => Some(RwPhase::DrainEnters(draining)),
+            RwPhase::Unlocks(_, rest) => Some(rest.over()),
+            _ => None,
+        }
+    }
+
+    /// An add or a mask found this word.
+    fn after_change(self, word: u64) -> Option<RwPhase>
+        ensures { result ≡ after self (seen.Before word) }
+    {
+        match self {
+            RwPhase::Unshares(rest) => Some(rest.unshares(word)),
+            RwPhase::ClearWriterParked(rest, taken) => Some(RwPhase::LeaveWriterWakeSection(
+                rest, taken,
+            )),
+            RwPhase::Downgrades => Some(downgraded(word)),
+            _ => None,
+        }
+    }
+
+    /// A round was spun, or there were enough.
+    fn after_spin(self, spun: bool) -> Option<RwPhase>
+        ensures { result ≡ after self (seen.Spun spun) }
+    {
+        match self {
+            RwPhase::Spins(seeking) => Some(seeking.spun(spun)),
+            RwPhase::DrainSpins(draining) => Some(draining.spun(spun)),
+            _ => None,
+        }
+    }
+
+    /// A section is entered.
+    fn after_entry(self) -> Option<RwPhase>
+        ensures { result ≡ after self seen.Entered }
+    {
+        match self {
+            RwPhase::Enters(want, woken) => Some(RwPhase::Checks(want, woken)),
+            RwPhase::DrainEnters(draining) => Some(RwPhase::DrainChecks(draining)),
+            RwPhase::EnterWriterWakeSection(rest) => Some(RwPhase::TakeWriter(rest)),
+            RwPhase::LooksExclusive(fair, rest) => Some(rest.scans(fair)),
+            RwPhase::EnterWakeSection => Some(AfterWake::Downgraded.scans(false)),
+            _ => None,
+        }
+    }
+
+    /// The waiter with that token was taken, or there was none; and waiters are left or not.
+    fn after_taking(self, token: Option<ParkToken>, left: bool) -> Option<RwPhase>
+        ensures { result ≡ after self (seen.Took token left) }
+    {
+        match self {
+            RwPhase::TakeWriter(rest) => Some(RwPhase::ClearWriterParked(rest, token.is_some())),
+            RwPhase::Scans(scanning) => scanning.scans(token, left),
+            _ => None,
+        }
+    }
+
+    /// One of the two changes was made.
+    fn after_store(self, fair: bool) -> Option<RwPhase>
+        ensures { result ≡ after self (seen.Stored fair) }
+    {
+        match self {
+            RwPhase::Stores(scanning, _) => Some(scanning.stored(fair)),
+            _ => None,
+        }
+    }
+
+    /// The act was made.
+    fn after_act(self) -> Option<RwPhase>
+        ensures { result ≡ after self seen.Made }
+    {
+        match self {
+            RwPhase::Retreats(want, woken) => Some(RwPhase::Loads(want.begins(woken))),
+            RwPhase::Appends(want) => Some(RwPhase::Rests(want)),
+            RwPhase::Rests(want) => Some(RwPhase::Sleeps(want)),
+            RwPhase::DrainRetreats(draining) => Some(RwPhase::DrainLoads(draining)),
+            RwPhase::DrainAppends(rounds) => Some(RwPhase::DrainRests(rounds)),
+            RwPhase::DrainRests(rounds) => Some(RwPhase::DrainSleeps(rounds)),
+            RwPhase::LeaveWriterWakeSection(rest, taken) => Some(rest.wakes(u64::from(taken))),
+            RwPhase::Leaves(rest, count, _) => Some(rest.wakes(count)),
+            RwPhase::Wakes(rest, count) => Some(rest.wakes(count.saturating_sub(1))),
+            _ => None,
+        }
+    }
+
+    /// It was woken with that token. A pending writer looks at the word again, whatever the token.
+    fn after_sleep(self, token: UnparkToken) -> Option<RwPhase>
+        ensures { result ≡ after self (seen.Woken token) }
+    {
+        match self {
+            RwPhase::Sleeps(want) => Some(want.wakes(token)),
+            RwPhase::DrainSleeps(rounds) => Some(RwPhase::DrainLoads(Draining {
+                woken: true,
+                rounds,
+            })),
+            _ => None,
         }
     }
 }

@@ -3,7 +3,8 @@ ghost use Rattle.std.specs.Prelude.{◌≡◌};
 ghost use Rattle.parking_lot_protocol.specs.Wake.{wake_answer};
 ghost use Rattle.parking_lot_protocol.specs.WakeRules.{LooksRightly};
 
-use parking_lot_core::{FilterOp, ParkToken};
+use crate::word::{READER, UPGRADABLE, WRITER, is_upgradable, is_written};
+use parking_lot_core_lot::{FilterOp, ParkToken};
 
 /// What a waking section does at a waiter with that token, where the tokens that it has taken so far, and what its own thread
 /// keeps, come to `sum`: it stops behind a writer, skips one that wants more than a shared hold beside an upgradable owner, and
@@ -24,9 +25,10 @@ pub fn wake_sum(sum: u64, token: ParkToken) -> FilterOp
 fn answer_at(sum: u64, token: usize) -> FilterOp
     ensures { result ≡ wake_answer sum token }
 {
-    if (sum / 8) % 2 == 1 {
+    let is_greedy = token == WRITER as usize || token == (READER + UPGRADABLE) as usize;
+    if is_written(sum) {
         FilterOp::Stop
-    } else if (token == 8 || token == 20) && (sum / 4) % 2 == 1 {
+    } else if is_greedy && is_upgradable(sum) {
         FilterOp::Skip
     } else {
         FilterOp::Unpark

@@ -13,10 +13,10 @@ use Rattle.parking_lot_rules.specs.Ranks.{where_some, to_come, is_deadline}
 use Rattle.parking_lot_rules.specs.Sights.{WordKnowledge, Blind, Sees, is_stale, looks_left}
 use Rattle.parking_lot_rules.specs.Aims.{CallGoal, Watches, Enters, Knowledge, New, Old, Set, knowledge, by, asks, drains, checks1, checks2, View, near, near_rank, looking, looks_of, most_looks, far_steps, near_steps, GoesBy}
 use Rattle.parking_lot_rules.specs.Agenda.{IsWoken}
-use Rattle.parking_lot_rules.proofs.Indexed.{get-set_other, get-set_cases}
+use Rattle.parking_lot_rules.proofs.Indexed.{get-set_other, get-set_cases, two_apart}
 use Rattle.parking_lot_rules.proofs.Sounds.{waking_apart}
 use Rattle.parking_lot_rules.proofs.Changing.{taking_taken}
-use Rattle.parking_lot_rules.proofs.Ranking.{chosen, few1, two_apart, to_come_few, phase_before, phase_after}
+use Rattle.parking_lot_rules.proofs.Ranking.{chosen, few1, to_come_few, phase_before, phase_after}
 
 -- which of the two numbers it is
 abbrev Chosen : ℕ → ℕ → ℕ → Type 0
@@ -298,11 +298,11 @@ module _ (recursive : Bool) (t : ℕ) (l : Lock) (sound : IsSound l) (other1 oth
   others_turn (List_changes k) may u ne r there new_aim aim aims = one_set (List_changes k) u (listing_from k) (listing_to k) r new_aim aim may.0 ne there aims
   others_turn (Take1 s i v m stay) may u ne r there new_aim aim aims =
       two_set (Take1 s i v m stay) u v (scanning s) (scanning (taking s v m)) (record { owns = Shares 0; does = Queued1 m stay }) (record { owns = Shares 0; does = Taken1 m t Open stay }) r new_aim aim may.0 may.1.role
-      (two_apart l.roles t v (scanning s) (record { owns = Shares 0; does = Queued1 m stay }) may.0 may.1.role (λ e. cc))
+      (two_apart (λ (r : Role). r.does) l.roles t v (scanning s) (record { owns = Shares 0; does = Queued1 m stay }) may.0 may.1.role (λ e. cc))
       ne (taken_far1 (length l.roles) t aim m stay) there aims
   others_turn (Take2 o v f stay) may u ne r there new_aim aim aims =
       two_set (Take2 o v f stay) u v (record { owns = o; does = Scans2 [] }) (record { owns = o; does = Scans2 (v ∷ []) }) (record { owns = Shares 0; does = Queued2 f stay }) (record { owns = Shares 0; does = Taken2 f t stay })
-      r new_aim aim may.0 may.2 (two_apart l.roles t v (record { owns = o; does = Scans2 [] }) (record { owns = Shares 0; does = Queued2 f stay }) may.0 may.2 (λ e. cc))
+      r new_aim aim may.0 may.2 (two_apart (λ (r : Role). r.does) l.roles t v (record { owns = o; does = Scans2 [] }) (record { owns = Shares 0; does = Queued2 f stay }) may.0 may.2 (λ e. cc))
       ne (taken_far2 (length l.roles) t aim f stay) there aims
   others_turn (Store e s) may u ne r there new_aim aim (inr never) = absurd never
   others_turn (Store e s) may u ne r there new_aim aim (inl same) = ⊎_elim

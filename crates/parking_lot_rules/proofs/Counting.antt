@@ -11,12 +11,12 @@ use Rattle.parking_lot_rules.specs.Plain.{Plain, Look2, LookExclusive, LookUpgra
 use Rattle.parking_lot_rules.specs.Steps.{Take, look, has_upgradable, Step, Alone, List_changes, Take1, Take2, Store, Wake, Pass, Allowed, after, Listing, Join1, listing_from, listing_to, Scan, scanning, taking, ends_saying, settle, told, Waking, Retry, Own, waking_from, waking_to}
 use Rattle.parking_lot_rules.specs.World.{World, lock_at, family}
 use Rattle.parking_lot_rules.specs.Runs.{Move, moved, Runs, at_rest, IsReached}
-use Rattle.parking_lot_rules.proofs.Indexed.{get-set_other, get-set_cases}
+use Rattle.parking_lot_rules.proofs.Indexed.{get-set_other, get-set_cases, two_apart}
 use Rattle.parking_lot_rules.proofs.Totals.{total-at}
 use Rattle.parking_lot_rules.proofs.Sounds.{waking_apart}
 use Rattle.parking_lot_rules.proofs.Worlds.{world_step, world_sound}
 use Rattle.parking_lot_rules.proofs.Running.{all_away, rest_sound_family}
-use Rattle.parking_lot_rules.proofs.Ranking.{two_apart, phase_after, role_after}
+use Rattle.parking_lot_rules.proofs.Ranking.{phase_after, role_after}
 use Rattle.parking_lot_rules.proofs.Planning.{after_length}
 
 -- how many it has taken, among n threads
@@ -165,10 +165,10 @@ module _ (recursive : Bool) (t : ℕ) (l : Lock) (sound : IsSound l) (counted : 
   counted_other (List_changes k) may u ne r there = one_other u (listing_from k) (listing_to k) r may.0 ne there
   counted_other (Take1 s i v m stay) may u ne r there =
       two_others u v (scanning s) (scanning (taking s v m)) (record { owns = Shares 0; does = Queued1 m stay }) (record { owns = Shares 0; does = Taken1 m t Open stay }) r may.0 may.1.role
-      (two_apart l.roles t v (scanning s) (record { owns = Shares 0; does = Queued1 m stay }) may.0 may.1.role (λ e. cc)) ne tt there
+      (two_apart (λ (r : Role). r.does) l.roles t v (scanning s) (record { owns = Shares 0; does = Queued1 m stay }) may.0 may.1.role (λ e. cc)) ne tt there
   counted_other (Take2 o v f stay) may u ne r there =
       two_others u v (record { owns = o; does = Scans2 [] }) (record { owns = o; does = Scans2 (v ∷ []) }) (record { owns = Shares 0; does = Queued2 f stay }) (record { owns = Shares 0; does = Taken2 f t stay }) r may.0 may.2
-      (two_apart l.roles t v (record { owns = o; does = Scans2 [] }) (record { owns = Shares 0; does = Queued2 f stay }) may.0 may.2 (λ e. cc)) ne tt there
+      (two_apart (λ (r : Role). r.does) l.roles t v (record { owns = o; does = Scans2 [] }) (record { owns = Shares 0; does = Queued2 f stay }) may.0 may.2 (λ e. cc)) ne tt there
   counted_other (Store e s) may u ne r there = ⊎_elim
       (λ x. absurd (ne x.0))
       (λ x. go (slice_get l.roles u) refl (sym (slice_get-map (settle (ends_saying e)) l.roles u) ∙ x.1))

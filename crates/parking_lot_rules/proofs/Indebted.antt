@@ -8,7 +8,7 @@ use Rattle.parking_lot_rules.specs.Lock.{Lock, IsSound}
 use Rattle.parking_lot_rules.specs.Plain.{Plain, ExpireTaken1, ReenterTaken1, Depart1, Depart2, Yield, YieldBack, Downgrade, DowngradeToUpgradable, DowngradeUpgradable, from, to}
 use Rattle.parking_lot_rules.specs.Steps.{Step, Alone, List_changes, Take1, Take2, Store, Wake, Pass, Allowed, after, Listing, Join1, listing_from, listing_to, Scan, scanning, taking, Ending, Free, FreeUpgradable, Hand, HandUpgradable, Keep, ends_saying, settle, told, Waking, Retry, Own, OwnPending, OwnUpgradable, Recheck, waking_from, waking_to}
 use Rattle.parking_lot_rules.specs.Debts.{is_inside, is_up, owes_section, still_tries, and_up, retries, DebtChange, Remains, turned, begins_if, ends_without, owing, retrying, waking, handing, where_same, retrying_other, DebtsAreBooked}
-use Rattle.parking_lot_rules.proofs.Indexed.{get-set_same, get-set_other}
+use Rattle.parking_lot_rules.proofs.Indexed.{get-set_same, get-set_other, two_apart}
 
 plain_owes : (k : Plain) → owes_section (to k).does ≡ turned (owing (Alone k)) (owes_section (from k).does)
 plain_owes (Yield true) = refl
@@ -134,9 +134,6 @@ unmoved : (turn : DebtChange) (a b : Role) → turn ≡ Remains → a ≡ b → 
 unmoved turn a b still same = (ap (λ (r : Role). owes_section r.does) (sym same), ap (λ (r : Role). retries r.does) (sym same) ∙ ap (λ k. turned k (retries a.does)) (sym still))
 
 module _ (recursive : Bool) (t : ℕ) (l : Lock) where
-  two_apart : (v : ℕ) (a x : Role) → slice_get l.roles t ≡ Some a → slice_get l.roles v ≡ Some x → a.does ≢ x.does → t ≢ v
-  two_apart v a x at there ne e = ne (ap (λ (r : Role). r.does) (same_Some a x (sym at ∙ ap (λ i. slice_get l.roles i) e ∙ there)))
-
   abbrev set_both : ℕ → Role → ℕ → Role → List Role
   set_both i x j y = slice_set (slice_set l.roles i x) j y
 
@@ -162,7 +159,7 @@ module _ (recursive : Bool) (t : ℕ) (l : Lock) where
   mover_booked (List_changes k) may a b here there = moved l.roles t (listing_from k) (listing_to k) a b (Both Remains Remains) may.0 here there (listing_owes k)
   mover_booked (Take1 s i v m stay) may a b here there =
       subst (λ (r : Role). Both Remains Remains r b) (before (scanning s) a may.0 here)
-      (subst (λ (r : Role). Both Remains Remains (scanning s) r) (first_of_two t v (scanning s) (scanning (taking s v m)) _ b (two_apart v (scanning s) _ may.0 may.1.role (λ e. cc)) may.0 there) (go m))
+      (subst (λ (r : Role). Both Remains Remains (scanning s) r) (first_of_two t v (scanning s) (scanning (taking s v m)) _ b (two_apart (λ (r : Role). r.does) l.roles t v (scanning s) _ may.0 may.1.role (λ e. cc)) may.0 there) (go m))
     where
       go : (m : Mode) → Both Remains Remains (scanning s) (scanning (taking s v m))
       go Shared = (refl, refl)
@@ -171,7 +168,7 @@ module _ (recursive : Bool) (t : ℕ) (l : Lock) where
   mover_booked (Take2 o v f stay) may a b here there =
       subst (λ (r : Role). Both Remains Remains r b) (before (record { owns = o; does = Scans2 [] }) a may.0 here)
       (subst (λ (r : Role). Both Remains Remains (record { owns = o; does = Scans2 [] }) r)
-      (first_of_two t v (record { owns = o; does = Scans2 [] }) (record { owns = o; does = Scans2 (v ∷ []) }) _ b (two_apart v (record { owns = o; does = Scans2 [] }) _ may.0 may.2 (λ e. cc)) may.0 there) (refl, refl))
+      (first_of_two t v (record { owns = o; does = Scans2 [] }) (record { owns = o; does = Scans2 (v ∷ []) }) _ b (two_apart (λ (r : Role). r.does) l.roles t v (record { owns = o; does = Scans2 [] }) _ may.0 may.2 (λ e. cc)) may.0 there) (refl, refl))
   mover_booked (Store e s) may a b here there =
       subst (λ (r : Role). Both Remains Remains r b) (before (scanning s) a may.0 here)
       (subst (λ (r : Role). Both Remains Remains (scanning s) r)
@@ -183,11 +180,11 @@ module _ (recursive : Bool) (t : ℕ) (l : Lock) where
       (second_of_two v t (waking_to k) (record { owns = o; does = Wakes (v ∷ us) }) (record { owns = o; does = Wakes us }) b (apart k may) may.0 there) (wakes_owe v us, refl))
     where
       apart : (k : Waking) → Allowed recursive t (Wake o v us k stay) l → v ≢ t
-      apart (Retry m) may e = two_apart v _ _ may.0 may.1 (λ x. cc) (sym e)
-      apart Own may e = two_apart v _ _ may.0 may.1 (λ x. cc) (sym e)
-      apart OwnPending may e = two_apart v _ _ may.0 may.1 (λ x. cc) (sym e)
-      apart OwnUpgradable may e = two_apart v _ _ may.0 may.1 (λ x. cc) (sym e)
-      apart (Recheck f) may e = two_apart v _ _ may.0 may.1 (λ x. cc) (sym e)
+      apart (Retry m) may e = two_apart (λ (r : Role). r.does) l.roles t v _ _ may.0 may.1 (λ x. cc) (sym e)
+      apart Own may e = two_apart (λ (r : Role). r.does) l.roles t v _ _ may.0 may.1 (λ x. cc) (sym e)
+      apart OwnPending may e = two_apart (λ (r : Role). r.does) l.roles t v _ _ may.0 may.1 (λ x. cc) (sym e)
+      apart OwnUpgradable may e = two_apart (λ (r : Role). r.does) l.roles t v _ _ may.0 may.1 (λ x. cc) (sym e)
+      apart (Recheck f) may e = two_apart (λ (r : Role). r.does) l.roles t v _ _ may.0 may.1 (λ x. cc) (sym e)
   mover_booked (Pass o v us) may a b here there =
       moved l.roles t (record { owns = o; does = Wakes (v ∷ us) }) (record { owns = o; does = Wakes us }) a b (Both (ends_without us) Remains) may.0 here there (wakes_owe v us, refl)
 

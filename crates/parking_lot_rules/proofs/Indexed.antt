@@ -1,5 +1,5 @@
 -- Lists by index: what stands at each index after a write, and sums over a list.
-use Rattle.std.proofs.Common.{◌≡◌, ◌≢◌, ℕ, zero, suc, ◌+◌, ◌⊎◌, List, [], ◌∷◌, Some, slice_get, slice_set, sum_by, refl, sym, ap, subst, inl, inr, arith}
+use Rattle.std.proofs.Common.{◌≡◌, ◌≢◌, ℕ, zero, suc, ◌+◌, ◌⊎◌, List, [], ◌∷◌, Some, slice_get, slice_set, sum_by, refl, sym, ap, ◌∙◌, subst, inl, inr, arith}
 use Rattle.std.proofs.lemmas.Option.{none-some, same_Some, slice_get_within, get_or_from_slice_get}
 use Rattle.std.proofs.lemmas.List.Sums as sums
 
@@ -31,3 +31,7 @@ module _ {X : Type 0} where
   sum_by-set_at f xs i x y h =
       let at = get_or_from_slice_get xs i x x h in
       subst (λ (z : X). sum_by f (slice_set xs i y) + f z ≡ sum_by f xs + f y) at (sums.sum_by-set f xs i y x (slice_get_within xs i x h))
+
+  -- two that stand in a list and differ in something stand at two places
+  pub two_apart : {Y : Type 0} (f : X → Y) (xs : List X) (i j : ℕ) (x y : X) → slice_get xs i ≡ Some x → slice_get xs j ≡ Some y → f x ≢ f y → i ≢ j
+  two_apart f xs i j x y at there ne e = ne (ap f (same_Some x y (sym at ∙ ap (λ k. slice_get xs k) e ∙ there)))

@@ -49,4 +49,3 @@ pub mod Alive
 pub mod Trying
 pub mod MutexTrying
 pub mod Holding
-pub mod ReadLocks

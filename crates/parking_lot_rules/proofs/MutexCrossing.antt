@@ -1,13 +1,13 @@
 -- What a step at a mutex does to its section, and that families of both kinds of locks stay sound.
 use Rattle.std.proofs.Common.{◌≡◌, ◌≢◌, ℕ, ◌+◌, ◌≤◌, ⊎_elim, Bool, true, List, [], ◌∷◌, map, Option, Some, None, option_map, slice_get, slice_set, refl, sym, ap, ◌∙◌, subst, arith}
 use Rattle.std.proofs.lemmas.Bool.{cases_eq}
-use Rattle.std.proofs.lemmas.Option.{same_Some, slice_get-map}
+use Rattle.std.proofs.lemmas.Option.{slice_get-map}
 use Rattle.parking_lot_rules.specs.Roles.{Fresh, Asleep, Late, Back, Mark, Open, Normal, Handed}
 use Rattle.parking_lot_rules.specs.Lists.{at_index}
 use Rattle.parking_lot_rules.specs.Mutex.{Phase, Idle, Seeks, Queued, Taken, Unlocks, Stored, Wakes, Comes, Role, away, Inside, weight, Mutex, Plain, Begin, Retreat, Rest, Leave, Resume, Receive, Depart, GoUnmarked, Go, from, to, told, settle, Step, Alone, Join, Quit, QuitLast, Requeue, Pull, Follow, Take, Free, Hand, Wake, WakeOwner, Pass, doing, Allowed, after}
 use Rattle.parking_lot_rules.specs.Family.{Key, First, Second, rw_rules}
 use Rattle.parking_lot_rules.specs.Any.{AnyLock, Rw, Mx, AnyStep, RwStep, MxStep, mutex_crossing, mutex_inside, mutex_rules, any_rules, FamiliesStaySound}
-use Rattle.parking_lot_rules.proofs.Indexed.{get-set_same, get-set_other}
+use Rattle.parking_lot_rules.proofs.Indexed.{get-set_same, get-set_other, two_apart}
 use Rattle.parking_lot_rules.proofs.Crossing.{crossed, WasIn}
 use Rattle.parking_lot_rules.proofs.Families.{AreRules, any_family_sound, rw_are_rules}
 use Rattle.parking_lot_rules.proofs.Mutexes.{step_sound}
@@ -48,9 +48,6 @@ weighs-same rs t u a b at same = ⊎_elim
     (weighs-other rs t u b)
     (cases_eq u t)
 
-two_apart : (rs : List Role) (t v : ℕ) (a x : Role) → slice_get rs t ≡ Some a → slice_get rs v ≡ Some x → a.does ≢ x.does → t ≢ v
-two_apart rs t v a x at there ne e = ne (ap (λ (r : Role). r.does) (same_Some a x (sym at ∙ ap (λ i. slice_get rs i) e ∙ there)))
-
 told_inside : (h : Mark) (o : Bool) (p : Phase) → weight Inside (record { owns = o; does = told h p }) ≡ weight Inside (record { owns = o; does = p })
 unfolding weight
 told_inside h o (Taken by Open s) = refl
@@ -73,12 +70,12 @@ module _ (t : ℕ) (m : Mutex) where
   stay_all (QuitLast i) may apart u = weighs-same m.roles t u _ _ may.0 refl
   stay_all (Requeue o v) may apart u = weighs-same m.roles v u _ _ may.1 refl
   stay_all (Pull o v) may apart u =
-      let ne : t ≢ v = two_apart m.roles t v (record { owns = o; does = Comes }) away may.0 may.1 (λ e. cc) in
+      let ne : t ≢ v = two_apart (λ (r : Role). r.does) m.roles t v (record { owns = o; does = Comes }) away may.0 may.1 (λ e. cc) in
       weighs-same (slice_set m.roles t (record { owns = o; does = Stored (v ∷ []) })) v u away (doing (Taken t Normal Asleep)) (get-set_other m.roles t v _ ne ∙ may.1) refl
       ∙ weighs-same m.roles t u (record { owns = o; does = Comes }) (record { owns = o; does = Stored (v ∷ []) }) may.0 refl
   stay_all (Follow o v stay w) may apart u = weighs-same m.roles w u _ _ may.2 refl
   stay_all (Take v stay) may apart u =
-      let ne : t ≢ v = two_apart m.roles t v (doing (Unlocks [])) (doing (Queued stay)) may.0 may.2 (λ e. cc) in
+      let ne : t ≢ v = two_apart (λ (r : Role). r.does) m.roles t v (doing (Unlocks [])) (doing (Queued stay)) may.0 may.2 (λ e. cc) in
       weighs-same (slice_set m.roles t (doing (Unlocks (v ∷ [])))) v u (doing (Queued stay)) (doing (Taken t Open stay)) (get-set_other m.roles t v _ ne ∙ may.2) refl
       ∙ weighs-same m.roles t u (doing (Unlocks [])) (doing (Unlocks (v ∷ []))) may.0 refl
   stay_all (Free us) may apart u =
@@ -86,11 +83,11 @@ module _ (t : ℕ) (m : Mutex) where
   stay_all (Hand v) may apart u =
       weighs-same (map (settle Handed) m.roles) t u (doing (Unlocks (v ∷ []))) _ (slice_get-map (settle Handed) m.roles t ∙ ap (option_map (settle Handed)) may) refl ∙ settle_inside Handed m.roles u
   stay_all (Wake o v us stay) may apart u =
-      let ne : t ≢ v = two_apart m.roles t v (record { owns = o; does = Wakes (v ∷ us) }) (doing (Taken t Normal stay)) may.0 may.1 (λ e. cc) in
+      let ne : t ≢ v = two_apart (λ (r : Role). r.does) m.roles t v (record { owns = o; does = Wakes (v ∷ us) }) (doing (Taken t Normal stay)) may.0 may.1 (λ e. cc) in
       weighs-same (slice_set m.roles v (doing (Seeks true))) t u (record { owns = o; does = Wakes (v ∷ us) }) (record { owns = o; does = Wakes us }) (get-set_other m.roles v t _ (λ e. ne (sym e)) ∙ may.0) refl
       ∙ weighs-same m.roles v u (doing (Taken t Normal stay)) (doing (Seeks true)) may.1 (omega (arith, may.2))
   stay_all (WakeOwner o v us stay) may apart u =
-      let ne : t ≢ v = two_apart m.roles t v (record { owns = o; does = Wakes (v ∷ us) }) (doing (Taken t Handed stay)) may.0 may.1 (λ e. cc) in
+      let ne : t ≢ v = two_apart (λ (r : Role). r.does) m.roles t v (record { owns = o; does = Wakes (v ∷ us) }) (doing (Taken t Handed stay)) may.0 may.1 (λ e. cc) in
       weighs-same (slice_set m.roles v (record { owns = true; does = Idle })) t u (record { owns = o; does = Wakes (v ∷ us) }) (record { owns = o; does = Wakes us }) (get-set_other m.roles v t _ (λ e. ne (sym e)) ∙ may.0) refl
       ∙ weighs-same m.roles v u (doing (Taken t Handed stay)) (record { owns = true; does = Idle }) may.1 (omega (arith, may.2))
   stay_all (Pass o v us) may apart u = weighs-same m.roles t u _ _ may.0 refl

@@ -10,7 +10,7 @@ use Rattle.parking_lot_rules.specs.Mutex.{Phase, Idle, Seeks, Enters, Queued, Ta
 use Rattle.parking_lot_rules.specs.MutexLaws.{is_asleep}
 use Rattle.parking_lot_rules.specs.Debts.{is_up, DebtChange, Begins, Ends, Remains, turned, begins_if, ends_without, where_same}
 use Rattle.parking_lot_rules.specs.MutexDebts.{owes_section, still_tries, retries, is_in_debt, debts, owing, retrying, handing, retrying_other, SomebodyIsInDebt, SomebodyOwns, MutexDebtsArePaid, MutexDebtsAreBooked, ThroughoutMutex}
-use Rattle.parking_lot_rules.proofs.Indexed.{get-set_same, get-set_other, sum_by-set_at}
+use Rattle.parking_lot_rules.proofs.Indexed.{get-set_same, get-set_other, sum_by-set_at, two_apart}
 use Rattle.parking_lot_rules.proofs.Finding.{none_or}
 use Rattle.parking_lot_rules.proofs.Indebted.{late, back, taken_up, out_of_it, where-same, where-other}
 use Rattle.parking_lot_rules.proofs.Paying.{passing-at}
@@ -51,9 +51,6 @@ unmoved : (turn : DebtChange) (a b : Role) → turn ≡ Remains → a ≡ b → 
 unmoved turn a b still same = (ap (λ (r : Role). owes_section r.does) (sym same), ap (λ (r : Role). retries r.does) (sym same) ∙ ap (λ k. turned k (retries a.does)) (sym still))
 
 module _ (t : ℕ) (m : Mutex) where
-  two_apart : (v : ℕ) (a x : Role) → slice_get m.roles t ≡ Some a → slice_get m.roles v ≡ Some x → a.does ≢ x.does → t ≢ v
-  two_apart v a x at there ne e = ne (ap (λ (r : Role). r.does) (same_Some a x (sym at ∙ ap (λ i. slice_get m.roles i) e ∙ there)))
-
   -- the role of thread i after the one write, or the two
   now : (rs : List Role) (i : ℕ) (x y b : Role) → slice_get rs i ≡ Some x → slice_get (slice_set rs i y) i ≡ Some b → y ≡ b
   now rs i x y b at there = same_Some y b (sym (get-set_same rs i x y at) ∙ there)
@@ -82,16 +79,16 @@ module _ (t : ℕ) (m : Mutex) where
   mover_booked Join may a b here there = moved Remains Remains _ _ a b may here (now m.roles t _ _ b may there) (refl, refl)
   mover_booked (Quit i) may a b here there = moved Remains Remains _ _ a b may.0 here (now m.roles t _ _ b may.0 there) (refl, refl)
   mover_booked (QuitLast i) may a b here there = moved Remains Remains _ _ a b may.0 here (now m.roles t _ _ b may.0 there) (refl, refl)
-  mover_booked (Requeue o v) may a b here there = unmoved Remains a b refl (not_one v t (doing (Queued Asleep)) a b (two_apart v _ _ may.0 may.1 (λ e. cc)) here there)
-  mover_booked (Pull o v) may a b here there = moved Remains Remains _ _ a b may.0 here (first_now t v _ _ _ b (two_apart v _ _ may.0 may.1 (λ e. cc)) may.0 there) (refl, refl)
-  mover_booked (Follow o v stay w) may a b here there = unmoved Remains a b refl (not_one w t (doing (Queued Asleep)) a b (two_apart w _ _ may.0 may.2 (λ e. cc)) here there)
-  mover_booked (Take v stay) may a b here there = moved Remains Remains _ _ a b may.0 here (first_now t v _ _ _ b (two_apart v _ _ may.0 may.2 (λ e. cc)) may.0 there) (refl, refl)
+  mover_booked (Requeue o v) may a b here there = unmoved Remains a b refl (not_one v t (doing (Queued Asleep)) a b (two_apart (λ (r : Role). r.does) m.roles t v _ _ may.0 may.1 (λ e. cc)) here there)
+  mover_booked (Pull o v) may a b here there = moved Remains Remains _ _ a b may.0 here (first_now t v _ _ _ b (two_apart (λ (r : Role). r.does) m.roles t v _ _ may.0 may.1 (λ e. cc)) may.0 there) (refl, refl)
+  mover_booked (Follow o v stay w) may a b here there = unmoved Remains a b refl (not_one w t (doing (Queued Asleep)) a b (two_apart (λ (r : Role). r.does) m.roles t w _ _ may.0 may.2 (λ e. cc)) here there)
+  mover_booked (Take v stay) may a b here there = moved Remains Remains _ _ a b may.0 here (first_now t v _ _ _ b (two_apart (λ (r : Role). r.does) m.roles t v _ _ may.0 may.2 (λ e. cc)) may.0 there) (refl, refl)
   mover_booked (Free us) may a b here there = moved Remains Remains _ _ a b may.0 here (told_now Normal _ _ b may.0 there) (refl, refl)
   mover_booked (Hand v) may a b here there = moved Remains Remains _ _ a b may here (told_now Handed _ _ b may there) (refl, refl)
   mover_booked (Wake o v us stay) may a b here there =
-      moved (ends_without us) Remains _ _ a b may.0 here (second_now v t _ _ _ b (λ e. two_apart v _ _ may.0 may.1 (λ x. cc) (sym e)) may.0 there) (wakes_owe v us, refl)
+      moved (ends_without us) Remains _ _ a b may.0 here (second_now v t _ _ _ b (λ e. two_apart (λ (r : Role). r.does) m.roles t v _ _ may.0 may.1 (λ x. cc) (sym e)) may.0 there) (wakes_owe v us, refl)
   mover_booked (WakeOwner o v us stay) may a b here there =
-      moved (ends_without us) Remains _ _ a b may.0 here (second_now v t _ _ _ b (λ e. two_apart v _ _ may.0 may.1 (λ x. cc) (sym e)) may.0 there) (wakes_owe v us, refl)
+      moved (ends_without us) Remains _ _ a b may.0 here (second_now v t _ _ _ b (λ e. two_apart (λ (r : Role). r.does) m.roles t v _ _ may.0 may.1 (λ x. cc) (sym e)) may.0 there) (wakes_owe v us, refl)
   mover_booked (Pass o v us) may a b here there = moved (ends_without us) Remains _ _ a b may.0 here (now m.roles t _ _ b may.0 there) (wakes_owe v us, refl)
 
   -- one thread beside the mover changes
@@ -127,20 +124,20 @@ module _ (t : ℕ) (m : Mutex) where
   others_booked (Requeue o v) may u a b ne here there =
       still (slice_set m.roles v (doing (Queued Asleep))) v _ (doing (Queued Asleep)) may.1 u a b here there (λ x. now m.roles v _ _ b may.1 x) (λ x. not_one v u _ a b x here there) (refl, refl)
   others_booked (Pull o v) may u a b ne here there =
-      let apart : t ≢ v = two_apart v _ _ may.0 may.1 (λ e. cc) in
+      let apart : t ≢ v = two_apart (λ (r : Role). r.does) m.roles t v _ _ may.0 may.1 (λ e. cc) in
       still (after t (Pull o v) m).roles v _ (doing (Taken t Normal Asleep)) may.1 u a b here there (λ x. second_now t v _ _ _ b apart may.1 x) (λ x. neither t v u _ _ a b ne x here there) (refl, refl)
   others_booked (Follow o v stay w) may u a b ne here there =
       still (slice_set m.roles w (doing (Queued Asleep))) w _ (doing (Queued Asleep)) may.2 u a b here there (λ x. now m.roles w _ _ b may.2 x) (λ x. not_one w u _ a b x here there) (refl, refl)
   others_booked (Take v stay) may u a b ne here there =
-      let apart : t ≢ v = two_apart v _ _ may.0 may.2 (λ e. cc) in
+      let apart : t ≢ v = two_apart (λ (r : Role). r.does) m.roles t v _ _ may.0 may.2 (λ e. cc) in
       other (after t (Take v stay) m).roles v (begins_if (is_up stay)) _ (doing (Taken t Open stay)) may.2 u a b here there (λ x. second_now t v _ _ _ b apart may.2 x) (λ x. neither t v u _ _ a b ne x here there) (refl, taken_up stay)
   others_booked (Free us) may u a b ne here there = subst (λ (r : Role). Both Remains Remains a r) (told_other Normal (doing (Stored us)) u a b ne here there) (told_owes Normal a.does, told_retries a.does)
   others_booked (Hand v) may u a b ne here there = subst (λ (r : Role). Both Remains (handing a.does) a r) (told_other Handed (doing (Stored (v ∷ []))) u a b ne here there) (told_owes Handed a.does, handed_retries a.does)
   others_booked (Wake o v us stay) may u a b ne here there =
-      let apart : v ≢ t = λ e. two_apart v _ _ may.0 may.1 (λ x. cc) (sym e) in
+      let apart : v ≢ t = λ e. two_apart (λ (r : Role). r.does) m.roles t v _ _ may.0 may.1 (λ x. cc) (sym e) in
       other (after t (Wake o v us stay) m).roles v Begins _ (doing (Seeks true)) may.1 u a b here there (λ x. first_now v t _ _ _ b apart may.1 x) (λ x. neither v t u _ _ a b x ne here there) (sym (out_of_it stay may.2), refl)
   others_booked (WakeOwner o v us stay) may u a b ne here there =
-      let apart : v ≢ t = λ e. two_apart v _ _ may.0 may.1 (λ x. cc) (sym e) in
+      let apart : v ≢ t = λ e. two_apart (λ (r : Role). r.does) m.roles t v _ _ may.0 may.1 (λ x. cc) (sym e) in
       other (after t (WakeOwner o v us stay) m).roles v Ends _ (record { owns = true; does = Idle }) may.1 u a b here there (λ x. first_now v t _ _ _ b apart may.1 x) (λ x. neither v t u _ _ a b x ne here there) (sym (out_of_it stay may.2), refl)
   others_booked (Pass o v us) may u a b ne here there = unmoved Remains a b refl (not_one t u _ a b ne here there)
 
@@ -245,17 +242,17 @@ module _ (m : Mutex) (sound : IsSound m) where
   passed t (QuitLast i) may b there some before none = absurd (omega (arith, before, none, owning_same m.roles t _ (doing Masks) may.0 refl))
   passed t (Requeue o v) may b there some before none = absurd (omega (arith, before, none, owning_same m.roles v _ (doing (Queued Asleep)) may.1 refl))
   passed t (Pull o v) may b there some before none =
-      subst (λ (r : Role). IsTrue (is_in_debt r.does)) (first_now t m t v _ (record { owns = o; does = Stored (v ∷ []) }) (doing (Taken t Normal Asleep)) b (two_apart t m v _ _ may.0 may.1 (λ e. cc)) may.0 there) refl
+      subst (λ (r : Role). IsTrue (is_in_debt r.does)) (first_now t m t v _ (record { owns = o; does = Stored (v ∷ []) }) (doing (Taken t Normal Asleep)) b (two_apart (λ (r : Role). r.does) m.roles t v _ _ may.0 may.1 (λ e. cc)) may.0 there) refl
   passed t (Follow o v stay w) may b there some before none = absurd (omega (arith, before, none, owning_same m.roles w _ (doing (Queued Asleep)) may.2 refl))
   passed t (Take v stay) may b there some before none =
-      subst (λ (r : Role). IsTrue (is_in_debt r.does)) (first_now t m t v _ (doing (Unlocks (v ∷ []))) (doing (Taken t Open stay)) b (two_apart t m v _ _ may.0 may.2 (λ e. cc)) may.0 there) refl
+      subst (λ (r : Role). IsTrue (is_in_debt r.does)) (first_now t m t v _ (doing (Unlocks (v ∷ []))) (doing (Taken t Open stay)) b (two_apart (λ (r : Role). r.does) m.roles t v _ _ may.0 may.2 (λ e. cc)) may.0 there) refl
   passed t (Free us) may b there some before none = subst (λ (r : Role). IsTrue (is_in_debt r.does)) (told_now t m Normal _ (doing (Stored us)) b may.0 there) refl
   passed t (Hand v) may b there some before none = subst (λ (r : Role). IsTrue (is_in_debt r.does)) (told_now t m Handed _ (doing (Stored (v ∷ []))) b may there) refl
   passed t (Wake o v us stay) may b there some before none =
-      let apart : v ≢ t = λ e. two_apart t m v _ _ may.0 may.1 (λ x. cc) (sym e) in
+      let apart : v ≢ t = λ e. two_apart (λ (r : Role). r.does) m.roles t v _ _ may.0 may.1 (λ x. cc) (sym e) in
       absurd (omega (arith, before, none, owning_same (slice_set m.roles v (doing (Seeks true))) t _ (record { owns = o; does = Wakes us }) (get-set_other m.roles v t (doing (Seeks true)) apart ∙ may.0) refl, owning_same m.roles v _ (doing (Seeks true)) may.1 refl))
   passed t (WakeOwner o v us stay) may b there some before none =
-      let apart : v ≢ t = λ e. two_apart t m v _ _ may.0 may.1 (λ x. cc) (sym e) in
+      let apart : v ≢ t = λ e. two_apart (λ (r : Role). r.does) m.roles t v _ _ may.0 may.1 (λ x. cc) (sym e) in
       absurd (omega (arith, before, none, owning_same (slice_set m.roles v (record { owns = true; does = Idle })) t _ (record { owns = o; does = Wakes us }) (get-set_other m.roles v t (record { owns = true; does = Idle }) apart ∙ may.0) refl, owning_same m.roles v _ (record { owns = true; does = Idle }) may.1 refl))
   passed t (Pass o v us) may b there some before none = absurd (omega (arith, before, none, owning_same m.roles t _ (record { owns = o; does = Wakes us }) may.0 refl))
 

@@ -7,7 +7,7 @@ use Rattle.parking_lot_rules.specs.Mutex.{Phase, Idle, Seeks, Checked, Queued, T
 use Rattle.parking_lot_rules.specs.MutexLaws.{is_asleep}
 use Rattle.parking_lot_rules.specs.Ranks.{where_some}
 use Rattle.parking_lot_rules.specs.MutexRanks.{asks, worst, fresh, rank_of_others, ranks, is_apart, KnowsTheWord, MutexRanksFall}
-use Rattle.parking_lot_rules.proofs.Indexed.{get-set_same, get-set_other, sum_by-set_at}
+use Rattle.parking_lot_rules.proofs.Indexed.{get-set_same, get-set_other, sum_by-set_at, two_apart}
 use Rattle.parking_lot_rules.proofs.Ranking.{chosen}
 
 before : Bool → Word → Phase → ℕ
@@ -94,9 +94,6 @@ others-told rs t a b h at =
     let still : slice_get (map (settle h) rs) t ≡ Some (settle h a) = slice_get-map (settle h) rs t ∙ ap (option_map (settle h)) at in
     omega (arith, others-set (map (settle h) rs) t (settle h a) b still, others-at (map (settle h) rs) t (settle h a) still, sum-settle h rs, others-at rs t a at, told_same h a.does)
 
-pub two_apart : (rs : List Role) (t v : ℕ) (a x : Role) → slice_get rs t ≡ Some a → slice_get rs v ≡ Some x → a.does ≢ x.does → t ≢ v
-two_apart rs t v a x at there ne e = ne (ap (λ (r : Role). r.does) (same_Some a x (sym at ∙ ap (λ i. slice_get rs i) e ∙ there)))
-
 taken_less : (t : ℕ) (stay : Stay) → worst (Taken t Open stay) ≤ worst (Queued stay)
 taken_less t Fresh = omega arith
 taken_less t Asleep = omega arith
@@ -154,7 +151,7 @@ module _ (m : Mutex) (sound : IsSound m) (t : ℕ) where
   step_falls stale (Pull o v) b may there busy now knows = absurd cc
   step_falls stale (Follow o v stay w) b may there busy now knows = absurd cc
   step_falls true (Take v stay) b may there busy now knows =
-      let ne : t ≢ v = two_apart m.roles t v (doing (Unlocks [])) (doing (Queued stay)) may.0 may.2 (λ e. cc) in
+      let ne : t ≢ v = two_apart (λ (r : Role). r.does) m.roles t v (doing (Unlocks [])) (doing (Queued stay)) may.0 may.2 (λ e. cc) in
       let same : Unlocks (v ∷ []) ≡ b.does = ap (λ (x : Role). x.does) (same_Some _ b (sym (get-set_other (slice_set m.roles t (doing (Unlocks (v ∷ [])))) v t (doing (Taken t Open stay)) (λ e. ne (sym e)) ∙ get-set_same m.roles t _ (doing (Unlocks (v ∷ []))) may.0) ∙ there)) in
       subst (λ p. ranks false (after t (Take v stay) m) t p + 1 ≤ ranks true m t (Unlocks [])) same
       (omega (arith, taken_less t stay, others-after m.roles t v (doing (Unlocks [])) (doing (Unlocks (v ∷ []))) (doing (Queued stay)) (doing (Taken t Open stay)) may.0 may.2 ne))
@@ -165,12 +162,12 @@ module _ (m : Mutex) (sound : IsSound m) (t : ℕ) where
       let same : Stored (v ∷ []) ≡ b.does = ap (λ (x : Role). x.does) (same_Some _ b (sym (get-set_same (map (settle Handed) m.roles) t _ (doing (Stored (v ∷ []))) (slice_get-map (settle Handed) m.roles t ∙ ap (option_map (settle Handed)) may)) ∙ there)) in
       subst (λ p. ranks false (after t (Hand v) m) t p + 1 ≤ ranks true m t (Unlocks (v ∷ []))) same (omega (arith, others-told m.roles t (doing (Unlocks (v ∷ []))) (doing (Stored (v ∷ []))) Handed may))
   step_falls true (Wake o v us stay) b may there busy now knows =
-      let ne : t ≢ v = two_apart m.roles t v (record { owns = o; does = Wakes (v ∷ us) }) (doing (Taken t Normal stay)) may.0 may.1 (λ e. cc) in
+      let ne : t ≢ v = two_apart (λ (r : Role). r.does) m.roles t v (record { owns = o; does = Wakes (v ∷ us) }) (doing (Taken t Normal stay)) may.0 may.1 (λ e. cc) in
       let same : Wakes us ≡ b.does = ap (λ (z : Role). z.does) (same_Some _ b (sym (get-set_same (slice_set m.roles v (doing (Seeks true))) t _ (record { owns = o; does = Wakes us }) (get-set_other m.roles v t (doing (Seeks true)) (λ e. ne (sym e)) ∙ may.0)) ∙ there)) in
       subst (λ p. ranks false (after t (Wake o v us stay) m) t p + 1 ≤ ranks true m t (Wakes (v ∷ us))) same
       (omega (arith, others-before m.roles t v _ (record { owns = o; does = Wakes us }) (doing (Taken t Normal stay)) (doing (Seeks true)) may.0 may.1 (λ e. ne (sym e))))
   step_falls true (WakeOwner o v us stay) b may there busy now knows =
-      let ne : t ≢ v = two_apart m.roles t v (record { owns = o; does = Wakes (v ∷ us) }) (doing (Taken t Handed stay)) may.0 may.1 (λ e. cc) in
+      let ne : t ≢ v = two_apart (λ (r : Role). r.does) m.roles t v (record { owns = o; does = Wakes (v ∷ us) }) (doing (Taken t Handed stay)) may.0 may.1 (λ e. cc) in
       let same : Wakes us ≡ b.does = ap (λ (z : Role). z.does) (same_Some _ b (sym (get-set_same (slice_set m.roles v (record { owns = true; does = Idle })) t _ (record { owns = o; does = Wakes us }) (get-set_other m.roles v t (record { owns = true; does = Idle }) (λ e. ne (sym e)) ∙ may.0)) ∙ there)) in
       subst (λ p. ranks false (after t (WakeOwner o v us stay) m) t p + 1 ≤ ranks true m t (Wakes (v ∷ us))) same
       (omega (arith, others-before m.roles t v _ (record { owns = o; does = Wakes us }) (doing (Taken t Handed stay)) (record { owns = true; does = Idle }) may.0 may.1 (λ e. ne (sym e))))
@@ -178,7 +175,7 @@ module _ (m : Mutex) (sound : IsSound m) (t : ℕ) where
       let same : Wakes us ≡ b.does = ap (λ (x : Role). x.does) (same_Some _ b (sym (get-set_same m.roles t _ (record { owns = o; does = Wakes us }) may.0) ∙ there)) in
       subst (λ p. ranks false (after t (Pass o v us) m) t p + 1 ≤ ranks true m t (Wakes (v ∷ us))) same (omega (arith, others-set m.roles t _ (record { owns = o; does = Wakes us }) may.0))
   step_falls false (Take v stay) b may there busy now knows =
-      let ne : t ≢ v = two_apart m.roles t v (doing (Unlocks [])) (doing (Queued stay)) may.0 may.2 (λ e. cc) in
+      let ne : t ≢ v = two_apart (λ (r : Role). r.does) m.roles t v (doing (Unlocks [])) (doing (Queued stay)) may.0 may.2 (λ e. cc) in
       let same : Unlocks (v ∷ []) ≡ b.does = ap (λ (x : Role). x.does) (same_Some _ b (sym (get-set_other (slice_set m.roles t (doing (Unlocks (v ∷ [])))) v t (doing (Taken t Open stay)) (λ e. ne (sym e)) ∙ get-set_same m.roles t _ (doing (Unlocks (v ∷ []))) may.0) ∙ there)) in
       subst (λ p. ranks false (after t (Take v stay) m) t p + 1 ≤ ranks false m t (Unlocks [])) same
       (omega (arith, taken_less t stay, others-after m.roles t v (doing (Unlocks [])) (doing (Unlocks (v ∷ []))) (doing (Queued stay)) (doing (Taken t Open stay)) may.0 may.2 ne))
@@ -189,12 +186,12 @@ module _ (m : Mutex) (sound : IsSound m) (t : ℕ) where
       let same : Stored (v ∷ []) ≡ b.does = ap (λ (x : Role). x.does) (same_Some _ b (sym (get-set_same (map (settle Handed) m.roles) t _ (doing (Stored (v ∷ []))) (slice_get-map (settle Handed) m.roles t ∙ ap (option_map (settle Handed)) may)) ∙ there)) in
       subst (λ p. ranks false (after t (Hand v) m) t p + 1 ≤ ranks false m t (Unlocks (v ∷ []))) same (omega (arith, others-told m.roles t (doing (Unlocks (v ∷ []))) (doing (Stored (v ∷ []))) Handed may))
   step_falls false (Wake o v us stay) b may there busy now knows =
-      let ne : t ≢ v = two_apart m.roles t v (record { owns = o; does = Wakes (v ∷ us) }) (doing (Taken t Normal stay)) may.0 may.1 (λ e. cc) in
+      let ne : t ≢ v = two_apart (λ (r : Role). r.does) m.roles t v (record { owns = o; does = Wakes (v ∷ us) }) (doing (Taken t Normal stay)) may.0 may.1 (λ e. cc) in
       let same : Wakes us ≡ b.does = ap (λ (z : Role). z.does) (same_Some _ b (sym (get-set_same (slice_set m.roles v (doing (Seeks true))) t _ (record { owns = o; does = Wakes us }) (get-set_other m.roles v t (doing (Seeks true)) (λ e. ne (sym e)) ∙ may.0)) ∙ there)) in
       subst (λ p. ranks false (after t (Wake o v us stay) m) t p + 1 ≤ ranks false m t (Wakes (v ∷ us))) same
       (omega (arith, others-before m.roles t v _ (record { owns = o; does = Wakes us }) (doing (Taken t Normal stay)) (doing (Seeks true)) may.0 may.1 (λ e. ne (sym e))))
   step_falls false (WakeOwner o v us stay) b may there busy now knows =
-      let ne : t ≢ v = two_apart m.roles t v (record { owns = o; does = Wakes (v ∷ us) }) (doing (Taken t Handed stay)) may.0 may.1 (λ e. cc) in
+      let ne : t ≢ v = two_apart (λ (r : Role). r.does) m.roles t v (record { owns = o; does = Wakes (v ∷ us) }) (doing (Taken t Handed stay)) may.0 may.1 (λ e. cc) in
       let same : Wakes us ≡ b.does = ap (λ (z : Role). z.does) (same_Some _ b (sym (get-set_same (slice_set m.roles v (record { owns = true; does = Idle })) t _ (record { owns = o; does = Wakes us }) (get-set_other m.roles v t (record { owns = true; does = Idle }) (λ e. ne (sym e)) ∙ may.0)) ∙ there)) in
       subst (λ p. ranks false (after t (WakeOwner o v us stay) m) t p + 1 ≤ ranks false m t (Wakes (v ∷ us))) same
       (omega (arith, others-before m.roles t v _ (record { owns = o; does = Wakes us }) (doing (Taken t Handed stay)) (record { owns = true; does = Idle }) may.0 may.1 (λ e. ne (sym e))))

@@ -7,10 +7,10 @@ use Rattle.parking_lot_rules.specs.Ranks.{where_some}
 use Rattle.parking_lot_rules.specs.MutexRanks.{asks, worst, fresh, rank_of_others, ranks, is_apart, KnowsTheWord}
 use Rattle.parking_lot_rules.specs.Sights.{WordKnowledge, Blind, Sees, is_stale}
 use Rattle.parking_lot_rules.specs.MutexSights.{full_ranks, MutexLooksLower, MutexStepsLower}
-use Rattle.parking_lot_rules.proofs.Indexed.{get-set_same, get-set_other, sum_by-set_at}
+use Rattle.parking_lot_rules.proofs.Indexed.{get-set_same, get-set_other, sum_by-set_at, two_apart}
 use Rattle.parking_lot_rules.proofs.Ranking.{chosen}
 use Rattle.parking_lot_rules.proofs.Sighting.{looks_few}
-use Rattle.parking_lot_rules.proofs.MutexRanking.{phase_before, role_before, others-at, others-set, others-after, two_apart, mutex_ranks_fall}
+use Rattle.parking_lot_rules.proofs.MutexRanking.{phase_before, role_before, others-at, others-set, others-after, mutex_ranks_fall}
 
 -- who knows the word has no more to do
 fresh_least : (w : Word) (p : Phase) → fresh w p ≤ worst p
@@ -67,7 +67,7 @@ module _ (m : Mutex) (sound : IsSound m) (t : ℕ) where
 
   requeued : (o : Bool) (v : ℕ) → Allowed t (Requeue o v) m → (a b : Role) → slice_get m.roles t ≡ Some a → slice_get (after t (Requeue o v) m).roles t ≡ Some b → ranks false (after t (Requeue o v) m) t b.does ≡ ranks false m t a.does
   requeued o v may a b here there =
-      let ne : t ≢ v = two_apart m.roles t v _ away may.0 may.1 (λ e. cc) in
+      let ne : t ≢ v = two_apart (λ (r : Role). r.does) m.roles t v _ away may.0 may.1 (λ e. cc) in
       let same : record { owns = o; does = Moves } ≡ b = same_Some _ b (sym may.0 ∙ sym (get-set_other m.roles v t (doing (Queued Asleep)) (λ e. ne (sym e))) ∙ there) in
       let was : record { owns = o; does = Moves } ≡ a = same_Some _ a (sym may.0 ∙ here) in
       subst (λ (r : Role). ranks false (after t (Requeue o v) m) t b.does ≡ ranks false m t r.does) was
@@ -75,7 +75,7 @@ module _ (m : Mutex) (sound : IsSound m) (t : ℕ) where
 
   followed : (o : Bool) (v : ℕ) (stay : Stay) (w : ℕ) → Allowed t (Follow o v stay w) m → (a b : Role) → slice_get m.roles t ≡ Some a → slice_get (after t (Follow o v stay w) m).roles t ≡ Some b → ranks false (after t (Follow o v stay w) m) t b.does ≡ ranks false m t a.does
   followed o v stay w may a b here there =
-      let ne : t ≢ w = two_apart m.roles t w _ away may.0 may.2 (λ e. cc) in
+      let ne : t ≢ w = two_apart (λ (r : Role). r.does) m.roles t w _ away may.0 may.2 (λ e. cc) in
       let same : record { owns = o; does = Stored (v ∷ []) } ≡ b = same_Some _ b (sym may.0 ∙ sym (get-set_other m.roles w t (doing (Queued Asleep)) (λ e. ne (sym e))) ∙ there) in
       let was : record { owns = o; does = Stored (v ∷ []) } ≡ a = same_Some _ a (sym may.0 ∙ here) in
       subst (λ (r : Role). ranks false (after t (Follow o v stay w) m) t b.does ≡ ranks false m t r.does) was
@@ -83,7 +83,7 @@ module _ (m : Mutex) (sound : IsSound m) (t : ℕ) where
 
   pulled : (o : Bool) (v : ℕ) → Allowed t (Pull o v) m → (a b : Role) → slice_get m.roles t ≡ Some a → slice_get (after t (Pull o v) m).roles t ≡ Some b → ranks false (after t (Pull o v) m) t b.does ≡ ranks false m t a.does + 9
   pulled o v may a b here there =
-      let ne : t ≢ v = two_apart m.roles t v _ away may.0 may.1 (λ e. cc) in
+      let ne : t ≢ v = two_apart (λ (r : Role). r.does) m.roles t v _ away may.0 may.1 (λ e. cc) in
       let now : Role = record { owns = o; does = Stored (v ∷ []) } in
       let same : record { owns = o; does = Stored (v ∷ []) } ≡ b =
       same_Some _ b (sym (get-set_other (slice_set m.roles t now) v t (doing (Taken t Normal Asleep)) (λ e. ne (sym e)) ∙ get-set_same m.roles t _ now may.0) ∙ there) in

@@ -12,12 +12,11 @@ use Rattle.parking_lot_rules.specs.Runs.{IsReached}
 use Rattle.parking_lot_rules.specs.Ranks.{is_deadline}
 use Rattle.parking_lot_rules.specs.Agenda.{CallProgress, Rests, Begins, Works, ProgressState, phase_of, phase, lock, ScheduledStep, Look, Start, First_step, Next_step, Refusal, Answer, Turned}
 use Rattle.parking_lot_rules.specs.Drains.{IsProper, Expires, Takes, Hands_on, Passes, ScenesStayProper}
-use Rattle.parking_lot_rules.proofs.Indexed.{get-set_other, get-set_cases}
+use Rattle.parking_lot_rules.proofs.Indexed.{get-set_other, get-set_cases, two_apart}
 use Rattle.parking_lot_rules.proofs.Families.{put-same, put-other}
 use Rattle.parking_lot_rules.proofs.Sounds.{waking_apart}
 use Rattle.parking_lot_rules.proofs.Worlds.{seen-idle, waking_busy}
 use Rattle.parking_lot_rules.proofs.Running.{reached_sound}
-use Rattle.parking_lot_rules.proofs.Ranking.{two_apart}
 use Rattle.parking_lot_rules.proofs.Planning.{map_got, is_at, phase_here}
 use Rattle.parking_lot_rules.proofs.Draining.{turned_world, stepped_world}
 
@@ -40,10 +39,10 @@ module _ (recursive : Bool) (t : ℕ) (l : Lock) where
   others_idle (List_changes k) may u ne r there = one_idle u (listing_from k) (listing_to k) r may.0 ne there
   others_idle (Take1 s i v m stay) may u ne r there =
       two_idle u v (scanning s) (scanning (taking s v m)) (record { owns = Shares 0; does = Queued1 m stay }) (record { owns = Shares 0; does = Taken1 m t Open stay }) r may.0 may.1.role
-      (two_apart l.roles t v (scanning s) (record { owns = Shares 0; does = Queued1 m stay }) may.0 may.1.role (λ e. cc)) ne (λ e. cc) there
+      (two_apart (λ (r : Role). r.does) l.roles t v (scanning s) (record { owns = Shares 0; does = Queued1 m stay }) may.0 may.1.role (λ e. cc)) ne (λ e. cc) there
   others_idle (Take2 o v f stay) may u ne r there =
       two_idle u v (record { owns = o; does = Scans2 [] }) (record { owns = o; does = Scans2 (v ∷ []) }) (record { owns = Shares 0; does = Queued2 f stay }) (record { owns = Shares 0; does = Taken2 f t stay }) r may.0 may.2
-      (two_apart l.roles t v (record { owns = o; does = Scans2 [] }) (record { owns = Shares 0; does = Queued2 f stay }) may.0 may.2 (λ e. cc)) ne (λ e. cc) there
+      (two_apart (λ (r : Role). r.does) l.roles t v (record { owns = o; does = Scans2 [] }) (record { owns = Shares 0; does = Queued2 f stay }) may.0 may.2 (λ e. cc)) ne (λ e. cc) there
   others_idle (Store e s) may u ne r there = ⊎_elim
       (λ x. absurd (ne x.0))
       (λ x. go (slice_get l.roles u) refl (sym (slice_get-map (settle (ends_saying e)) l.roles u) ∙ x.1))

@@ -12,14 +12,11 @@ use Rattle.parking_lot_rules.specs.Plain.{Plain, Begin, Refuse, Share, Pend, Dra
 use Rattle.parking_lot_rules.specs.Steps.{Step, Alone, List_changes, Take1, Take2, Store, Wake, Pass, Allowed, after, Listing, Join1, Join2, Quit1, QuitLast1, Quit2, listing_from, listing_to, scanning, taking, ends_saying, settle, told, Waking, Retry, Own, OwnPending, OwnUpgradable, Recheck, waking_from, waking_to}
 use Rattle.parking_lot_rules.specs.Laws.{is_asleep}
 use Rattle.parking_lot_rules.specs.Ranks.{where_some, to_come, asks, drains, worst, fresh, rank_of_others, ranks, is_deadline, KnowsTheWord, RanksFall, RanksBegin, RanksChange}
-use Rattle.parking_lot_rules.proofs.Indexed.{get-set_same, get-set_other, sum_by-set_at}
+use Rattle.parking_lot_rules.proofs.Indexed.{get-set_same, get-set_other, sum_by-set_at, two_apart}
 use Rattle.parking_lot_rules.proofs.Changing.{taking_taken}
 use Rattle.parking_lot_rules.proofs.Sounds.{waking_apart}
 
 -- two threads whose phases differ
-pub two_apart : (rs : List Role) (t v : ℕ) (a x : Role) → slice_get rs t ≡ Some a → slice_get rs v ≡ Some x → a.does ≢ x.does → t ≢ v
-two_apart rs t v a x at there ne e = ne (ap (λ (r : Role). r.does) (same_Some a x (sym at ∙ ap (λ i. slice_get rs i) e ∙ there)))
-
 -- which of the two numbers it is
 pub chosen : (n a b : ℕ) → ((n ≡ 0) × (where_some n a b ≡ b)) ⊎ ((0 < n) × (where_some n a b ≡ a))
 chosen zero a b = inl (refl, refl)
@@ -284,7 +281,7 @@ module _ (recursive : Bool) (t : ℕ) (l : Lock) (sound : IsSound l) where
       (go stale)
     where
       ne : t ≢ v
-      ne = two_apart l.roles t v (scanning s) (record { owns = Shares 0; does = Queued1 m stay }) may.0 may.1.role (λ e. cc)
+      ne = two_apart (λ (r : Role). r.does) l.roles t v (scanning s) (record { owns = Shares 0; does = Queued1 m stay }) may.0 may.1.role (λ e. cc)
 
       go : (stale : Bool) → fresh (length l.roles) l.word (length (remove l.first i)) (length l.second) (scanning (taking s v m)).does + rank_of_others (length l.roles) (after t (Take1 s i v m stay) l).roles t + 1
           ≤ before stale (length l.roles) l.word (length l.first) (length l.second) (scanning s).does + rank_of_others (length l.roles) l.roles t
@@ -311,7 +308,7 @@ module _ (recursive : Bool) (t : ℕ) (l : Lock) (sound : IsSound l) where
       (go stale)
     where
       ne : t ≢ v
-      ne = two_apart l.roles t v (record { owns = o; does = Scans2 [] }) (record { owns = Shares 0; does = Queued2 f stay }) may.0 may.2 (λ e. cc)
+      ne = two_apart (λ (r : Role). r.does) l.roles t v (record { owns = o; does = Scans2 [] }) (record { owns = Shares 0; does = Queued2 f stay }) may.0 may.2 (λ e. cc)
 
       go : (stale : Bool) → fresh (length l.roles) l.word (length l.first) (length (remove l.second 0)) (Scans2 (v ∷ [])) + rank_of_others (length l.roles) (after t (Take2 o v f stay) l).roles t + 1
           ≤ before stale (length l.roles) l.word (length l.first) (length l.second) (Scans2 []) + rank_of_others (length l.roles) l.roles t
@@ -370,11 +367,11 @@ module _ (recursive : Bool) (t : ℕ) (l : Lock) (sound : IsSound l) where
   role_after (Alone k) may r at = ap (λ (x : Role). x.does) (same_Some _ r (sym (get-set_same l.roles t _ (to k) may.0) ∙ at))
   role_after (List_changes k) may r at = ap (λ (x : Role). x.does) (same_Some _ r (sym (get-set_same l.roles t _ (listing_to k) may.0) ∙ at))
   role_after (Take1 s i v m stay) may r at =
-      let apart : t ≢ v = two_apart l.roles t v (scanning s) (record { owns = Shares 0; does = Queued1 m stay }) may.0 may.1.role (λ e. cc) in
+      let apart : t ≢ v = two_apart (λ (r : Role). r.does) l.roles t v (scanning s) (record { owns = Shares 0; does = Queued1 m stay }) may.0 may.1.role (λ e. cc) in
       ap (λ (x : Role). x.does) (same_Some _ r (sym (get-set_other (slice_set l.roles t (scanning (taking s v m))) v t (record { owns = Shares 0; does = Taken1 m t Open stay }) (λ e. apart (sym e))
       ∙ get-set_same l.roles t _ (scanning (taking s v m)) may.0) ∙ at))
   role_after (Take2 o v f stay) may r at =
-      let apart : t ≢ v = two_apart l.roles t v (record { owns = o; does = Scans2 [] }) (record { owns = Shares 0; does = Queued2 f stay }) may.0 may.2 (λ e. cc) in
+      let apart : t ≢ v = two_apart (λ (r : Role). r.does) l.roles t v (record { owns = o; does = Scans2 [] }) (record { owns = Shares 0; does = Queued2 f stay }) may.0 may.2 (λ e. cc) in
       ap (λ (x : Role). x.does) (same_Some _ r (sym (get-set_other (slice_set l.roles t (record { owns = o; does = Scans2 (v ∷ []) })) v t (record { owns = Shares 0; does = Taken2 f t stay }) (λ e. apart (sym e))
       ∙ get-set_same l.roles t _ (record { owns = o; does = Scans2 (v ∷ []) }) may.0) ∙ at))
   role_after (Store e s) may r at =

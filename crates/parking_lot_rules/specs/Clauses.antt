@@ -1,5 +1,5 @@
 -- The clauses that hold of a lock at every moment.
-use Rattle.std.specs.Prelude.{◌≡◌, ℕ, ◌+◌, ◌≤◌, ◌<◌, ◌*◌}
+use Rattle.std.specs.Prelude.{◌≡◌, ℕ, ◌+◌, ◌≤◌, ◌<◌, ◌*◌, ◌/◌, ◌%◌}
 use Rattle.parking_lot_rules.specs.Classes.{Class, Readers, Upgraders, Pending, Writers, Inside1, Inside2, Waiting1, Waiting2, Joining1, Joining2, Masking, Owing1, Owing2, Called, OpenReaders, OpenUpgraders, OpenWriters, TakenReaders, TakenUpgraders, TakenWriters, Strange}
 
 -- The word of a lock by its parts: the reader count, and the bits writer, upgradable, writer parked and parked.
@@ -13,6 +13,10 @@ pub record Word : Type 0 where
 -- as one number
 abbrev pub number : Word → ℕ
 number w = 16 * w.readers + 8 * w.writer + 4 * w.upgradable + 2 * w.parked2 + w.parked1
+
+-- and the parts that a number tells
+abbrev pub word_of : ℕ → Word
+word_of n = record { readers = n / 16; writer = n / 8 % 2; upgradable = n / 4 % 2; parked2 = n / 2 % 2; parked1 = n % 2 }
 
 -- each of its bits is 0 or 1
 pub record IsWord (w : Word) : Type 0 where

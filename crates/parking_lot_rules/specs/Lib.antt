@@ -32,4 +32,3 @@ pub mod Variable
 pub mod Every
 pub mod Tries
 pub mod Holds
-pub mod ReadLock

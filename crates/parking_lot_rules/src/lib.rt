@@ -10,14 +10,6 @@ pub mod laws;
 mod many;
 mod mutex;
 mod progress;
-mod read_lock;
 mod steps;
 mod tries;
-mod word;
 mod wrong;
-
-pub use read_lock::{Place, ReadLock};
-pub use word::{
-    is_parked, is_upgradable, is_writer_parked, is_written, readers, with_parked, without_parked,
-    without_writer_parked,
-};

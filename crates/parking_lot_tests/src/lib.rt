@@ -13,9 +13,9 @@ mod readers;
 #[cfg(test)]
 mod rows;
 #[cfg(test)]
-mod rules;
-#[cfg(test)]
 mod rw_calls;
+#[cfg(test)]
+mod rw_words;
 #[cfg(test)]
 mod script;
 #[cfg(test)]

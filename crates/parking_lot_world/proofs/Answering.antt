@@ -6,8 +6,8 @@ use Rattle.std.proofs.lemmas.Option.{none-some, same_Some, slice_get_within, sli
 use Rattle.std.proofs.lemmas.List.{length-set}
 use Rattle.std.specs.Option.{option_map_or}
 use Rattle.std.specs.Prelude.{get_or}
-use Rattle.parking_lot_core.specs.declared.parking.ParkToken.{ParkToken}
-use Rattle.parking_lot_core.proofs.Numbers.{count_by-set, flag}
+use Rattle.parking_lot_core_lot.specs.declared.parking.ParkToken.{ParkToken}
+use Rattle.parking_lot_core_lot.proofs.Numbers.{count_by-set, flag}
 use Rattle.parking_lot_rules.proofs.Indexed.{get-set_same, get-set_other}
 use Rattle.parking_lot_world.specs.declared.seat.Hold.{Hold}
 use Rattle.parking_lot_world.specs.declared.seat.Hold.TheVariants as hold
@@ -231,7 +231,7 @@ module _ (s : State) (h : FitsTogether s) (t : ℕ) (c : Call) (here : call_at s
       met = meets s h t c k e here
 
       last : is_last k.phase ≡ true
-      last = answers_are_last k.phase answer (subst (λ (x : Core). has_begun x ≡ true) e (h.rules.begun t c here)) asked
+      last = answers_are_last k.phase answer (subst (λ (x : Core). has_begun x ≡ true) e (h.rules.begun t c here).begun) asked
 
       step : IsLastStep (of_rw.last_move c.others k.phase) (rw_lock_at s c.lock) t (of_rw.role c.others (rw_spot c.spot) (taken_by s.wakes t) k.phase) (word_at s c.lock) (record { owns = owned_of (rw_hold_after c.others k.phase); does = Idle })
       step = ends_are_steps (rw_lock_at s c.lock) t c.others (rw_spot c.spot) (taken_by s.wakes t) k.phase (word_at s c.lock) met last
@@ -267,7 +267,7 @@ module _ (s : State) (h : FitsTogether s) (t : ℕ) (c : Call) (here : call_at s
 
   mutex_goes_away : (k : MutexCore) → c.core ≡ core.Mutex k → (answer : CoreAnswer) → of_mutex_table.act_of k.phase ≡ act.Done answer → slice_get s.kinds c.lock ≡ Some kind.Mutex → IsMutexMove (of_mutex.last_move k.phase) [] c.lock t s u
   mutex_goes_away k e answer asked kind_is =
-      let begun : mutex_begun k.phase ≡ true = subst (λ (x : Core). has_begun x ≡ true) e (h.rules.begun t c here) in
+      let begun : mutex_begun k.phase ≡ true = subst (λ (x : Core). has_begun x ≡ true) e (h.rules.begun t c here).begun in
       let step = steps.ends (mutex_at s c.lock) (word_at s c.lock) t (first_of_all (taken_by s.wakes t)) (mutex_spot c.spot) k.phase answer (plays s h t c k e here) begun asked in
       mutex_goes s u t c.lock (first_of_all (taken_by s.wakes t)) [] _ (of_mutex.last_move k.phase) there_before ends_elsewhere kind_is step.0
       (mutex_ended k e ∙ ap (λ (b : Bool). mutex_of (word_at s c.lock) (slice_set (mutex_at s c.lock).roles t (record { owns = b; does = mutex.Idle })) (mutex_at s c.lock).queue) (ap (λ (y : Core). owns_mutex (hold_after c.others y)) e ∙ shown.ends k.phase answer begun asked))

@@ -21,6 +21,7 @@ use Rattle.parking_lot_protocol.proofs.MutexFollowing.{either}
 use Rattle.parking_lot_world.specs.declared.seat.Core.{Core}
 use Rattle.parking_lot_world.specs.declared.seat.Core.TheVariants as core
 use Rattle.parking_lot_world.specs.Stances.{mutex_begun, rw_begun, has_begun, core_next}
+use Rattle.parking_lot_rules.specs.Classes.{bit}
 
 -- A MUTEX
 
@@ -140,7 +141,7 @@ rw_on (r.Unshares rs) (Before n) = either rw_begun (n / 16 == 1 && of_rw.is_writ
 rw_on (r.EnterWriterWakeSection rs) Entered = refl
 rw_on (r.TakeWriter rs) (Took token left) = refl
 rw_on (r.ClearWriterParked rs taken) (Before n) = refl
-rw_on (r.LeaveWriterWakeSection rs taken) Made = wakes_on rs (of_mutex.bit taken)
+rw_on (r.LeaveWriterWakeSection rs taken) Made = wakes_on rs (bit taken)
 rw_on (r.Unlocks fair rs) Exchanged = over_on rs
 rw_on (r.Unlocks fair rs) (Word n) = refl
 rw_on (r.LooksExclusive fair rs) Entered = refl

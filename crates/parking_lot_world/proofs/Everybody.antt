@@ -28,7 +28,7 @@ module _ {R : Type 0} where
   pub get-all : (f : ℕ → R) (n i : ℕ) → i < n → slice_get (all f 0 n) i ≡ Some (f i)
   get-all f n i h = at f 0 n i h ∙ ap (λ k. Some (f k)) (omega arith)
 
-  past : (f : ℕ → R) (n i : ℕ) → n ≤ i → slice_get (all f 0 n) i ≡ None
+  pub past : (f : ℕ → R) (n i : ℕ) → n ≤ i → slice_get (all f 0 n) i ≡ None
   past f n i h = slice_get_past (all f 0 n) i (omega (arith, h, length-all f 0 n))
 
   pub within-all : (f : ℕ → R) (n i : ℕ) (r : R) → slice_get (all f 0 n) i ≡ Some r → i < n

@@ -4,17 +4,17 @@ use Rattle.std.specs.Prelude.{MatchBool, IsSomeAnd}
 use Rattle.std.specs.List.{list_any}
 use Rattle.std.specs.Option.{option_map, option_flatten}
 use Rattle.std.specs.Result.{result_ok}
-use Rattle.parking_lot_core.specs.declared.fault.LotFault.{LotFault}
-use Rattle.parking_lot_core.specs.declared.parking.FilterOp.{FilterOp}
-use Rattle.parking_lot_core.specs.declared.parking.FilterOp.TheVariants.{Unpark, Skip, Stop}
-use Rattle.parking_lot_core.specs.declared.parking.ParkToken.{ParkToken}
-use Rattle.parking_lot_core.specs.declared.place.Phase.TheVariants as phase
-use Rattle.parking_lot_core.specs.declared.place.Section.{Section}
-use Rattle.parking_lot_core.specs.declared.place.Taking.{Taking}
-use Rattle.parking_lot_core.specs.declared.place.Waiter.{Waiter}
-use Rattle.parking_lot_core.specs.Machine.{Machine, tokens_of, taking_of, in_phase, taken, section_of, step_fault, Does, Unless, TakesNext, TakesInSection}
-use Rattle.parking_lot_core.specs.Places.{may_take, passed_of}
-use Rattle.parking_lot_core.specs.Results.{Answers, is_no_skip, is_take, is_skip}
+use Rattle.parking_lot_core_lot.specs.declared.fault.LotFault.{LotFault}
+use Rattle.parking_lot_core_lot.specs.declared.parking.FilterOp.{FilterOp}
+use Rattle.parking_lot_core_lot.specs.declared.parking.FilterOp.TheVariants.{Unpark, Skip, Stop}
+use Rattle.parking_lot_core_lot.specs.declared.parking.ParkToken.{ParkToken}
+use Rattle.parking_lot_core_lot.specs.declared.place.Phase.TheVariants as phase
+use Rattle.parking_lot_core_lot.specs.declared.place.Section.{Section}
+use Rattle.parking_lot_core_lot.specs.declared.place.Taking.{Taking}
+use Rattle.parking_lot_core_lot.specs.declared.place.Waiter.{Waiter}
+use Rattle.parking_lot_core_lot.specs.Machine.{Machine, tokens_of, taking_of, in_phase, taken, section_of, step_fault, Does, Unless, TakesNext, TakesInSection}
+use Rattle.parking_lot_core_lot.specs.Places.{may_take, passed_of}
+use Rattle.parking_lot_core_lot.specs.Results.{Answers, is_no_skip, is_take, is_skip}
 use Rattle.parking_lot_world.specs.FrontTakings.{FrontTaken}
 
 module _ {F : Type 0} (gives : F → ParkToken → FilterOp → F → Type 0) (filter : F) (old new : Machine) (result : Result (Option Taking) LotFault) (key : ℕ) where

@@ -1,7 +1,7 @@
 -- Elements of a list with one more at its end, and with one taken out.
 use Rattle.std.proofs.Common.{◌≡◌, ◌≤◌, ◌<◌, ℕ, ◌+◌, ◌⊎◌, inl, inr, List, [], ◌∷◌, ◌++◌, length, remove, Some, Bool, true, false, not, cond, slice_get, slice_set, refl, sym, ap, ◌∙◌, arith, zero, suc}
 use Rattle.std.specs.List.{position_or_len}
-use Rattle.parking_lot_core.proofs.Sounds.{none≢some}
+use Rattle.parking_lot_core_lot.proofs.Sounds.{none≢some}
 
 -- two that are left stood apart
 pub apart_before : (i n m a b : ℕ) → (((n < i) × (a ≡ n)) ⊎ ((i ≤ n) × (a ≡ suc n))) → (((m < i) × (b ≡ m)) ⊎ ((i ≤ m) × (b ≡ suc m))) → a ≡ b → n ≡ m

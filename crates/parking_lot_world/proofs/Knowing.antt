@@ -1,7 +1,7 @@
 -- What a call knows of its list goes on through its thread's own acts.
 use Rattle.std.proofs.Common.{◌≡◌, ℕ, inl, inr, List, sym, subst}
-use Rattle.parking_lot_core.specs.declared.parking.UnparkToken.{UnparkToken}
-use Rattle.parking_lot_core.specs.declared.place.Waiter.{Waiter}
+use Rattle.parking_lot_core_lot.specs.declared.parking.UnparkToken.{UnparkToken}
+use Rattle.parking_lot_core_lot.specs.declared.place.Waiter.{Waiter}
 use Rattle.parking_lot_protocol.specs.declared.act.Act.{Act}
 use Rattle.parking_lot_protocol.specs.declared.act.Act.TheVariants as act
 use Rattle.parking_lot_protocol.specs.declared.act.SectionAct.TheVariants as section

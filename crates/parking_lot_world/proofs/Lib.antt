@@ -8,6 +8,16 @@ mod OwnMoves
 mod Owning
 mod Knowing
 mod Ruling
+mod NthTaken
+mod Agreeing
+mod Serving
+mod Spinning
+mod Bounding
+mod Queueing
+mod Promising
+mod Moves
+mod Cases
+mod Indebting
 mod OwnActs
 mod WakesKept
 pub mod Stancing

@@ -3,9 +3,9 @@ use Rattle.std.proofs.Common.{◌≡◌, ◌≢◌, ℕ, ◌+◌, ◌*◌, ◌<�
 use Rattle.std.proofs.lemmas.Bool.{ne_eqb}
 use Rattle.std.specs.Prelude.{map}
 use Rattle.std.specs.List.{range_with_len}
-use Rattle.parking_lot_core.specs.Machine.{threads_of}
+use Rattle.parking_lot_core_lot.specs.Machine.{threads_of}
 use Rattle.parking_lot_rules.specs.Roles.{Idle, Role}
-use Rattle.parking_lot_rules.specs.Clauses.{Word}
+use Rattle.parking_lot_rules.specs.Clauses.{Word, word_of}
 use Rattle.parking_lot_rules.specs.Lock.{Lock}
 use Rattle.parking_lot_rules.specs.Mutex as mutex
 use Rattle.parking_lot_rules.specs.Any.{Rw, Mx}
@@ -14,7 +14,6 @@ use Rattle.parking_lot_world.specs.declared.calls.LockKind.TheVariants as kind
 use Rattle.parking_lot_world.specs.declared.seat.Hold.{Hold}
 use Rattle.parking_lot_world.specs.declared.open_call.Call.{Call}
 use Rattle.parking_lot_world.specs.Rows.{State, word_at, hold_at, call_at, taken_by, owned_of, owns_mutex, rw_role_in, mutex_role_in, rw_role_at, mutex_role_at, rw_core_role, mutex_core_role, rw_lock_at, mutex_at, mutex_word_of, any_lock, lock_at, queue_at}
-use Rattle.parking_lot_rules.specs.ReadLock.{word_of}
 use Rattle.parking_lot_world.proofs.Everybody.{same-all}
 
 -- the thread is at lock j, or at none

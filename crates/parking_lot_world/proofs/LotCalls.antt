@@ -3,20 +3,20 @@ use Rattle.std.proofs.Common.{◌≡◌, ◌≢◌, ◌≤◌, ℕ, ◌==◌, �
 use Rattle.std.specs.List.{position_or_len}
 use Rattle.std.specs.Option.{option_map, option_map_or, option_and_then}
 use Rattle.std.proofs.lemmas.Bool.{eqb-false, eqb-true}
-use Rattle.parking_lot_core.specs.declared.fault.LotFault.{LotFault}
-use Rattle.parking_lot_core.specs.declared.fault.LotFault.TheVariants.{Busy, WrongStatus}
-use Rattle.parking_lot_core.specs.declared.parking.UnparkToken.{UnparkToken}
-use Rattle.parking_lot_core.specs.declared.place.Phase.{Phase}
-use Rattle.parking_lot_core.specs.declared.place.Place.{Place}
-use Rattle.parking_lot_core.specs.declared.place.Place.TheVariants.{Running, Taken}
-use Rattle.parking_lot_core.specs.declared.place.Section.{Section}
-use Rattle.parking_lot_core.specs.declared.place.Sleep.{Sleep}
-use Rattle.parking_lot_core.specs.declared.place.ThreadStatus.TheVariants as status
-use Rattle.parking_lot_core.specs.declared.place.Waiter.{Waiter}
-use Rattle.parking_lot_core.specs.Machine.{Machine, enter_fault, step_fault, resume_fault_at, section_of, any_phase, changed_at, runs, is_of, busy, is_in, token_of}
-use Rattle.parking_lot_core.specs.Places.{place_at, is_due, roused, status_of, may_check, may_join, may_take, may_store, passed_of}
-use Rattle.parking_lot_core.proofs.Numbers.{first_passes}
-use Rattle.parking_lot_core.proofs.Sounds.{place_at-set_same}
+use Rattle.parking_lot_core_lot.specs.declared.fault.LotFault.{LotFault}
+use Rattle.parking_lot_core_lot.specs.declared.fault.LotFault.TheVariants.{Busy, WrongStatus}
+use Rattle.parking_lot_core_lot.specs.declared.parking.UnparkToken.{UnparkToken}
+use Rattle.parking_lot_core_lot.specs.declared.place.Phase.{Phase}
+use Rattle.parking_lot_core_lot.specs.declared.place.Place.{Place}
+use Rattle.parking_lot_core_lot.specs.declared.place.Place.TheVariants.{Running, Taken}
+use Rattle.parking_lot_core_lot.specs.declared.place.Section.{Section}
+use Rattle.parking_lot_core_lot.specs.declared.place.Sleep.{Sleep}
+use Rattle.parking_lot_core_lot.specs.declared.place.ThreadStatus.TheVariants as status
+use Rattle.parking_lot_core_lot.specs.declared.place.Waiter.{Waiter}
+use Rattle.parking_lot_core_lot.specs.Machine.{Machine, enter_fault, step_fault, resume_fault_at, section_of, any_phase, changed_at, runs, is_of, busy, is_in, token_of}
+use Rattle.parking_lot_core_lot.specs.Places.{place_at, is_due, roused, status_of, may_check, may_join, may_take, may_store, passed_of}
+use Rattle.parking_lot_core_lot.proofs.Numbers.{first_passes}
+use Rattle.parking_lot_core_lot.proofs.Sounds.{place_at-set_same}
 use Rattle.parking_lot_protocol.specs.declared.act.Act.{Act}
 use Rattle.parking_lot_protocol.specs.declared.act.Act.TheVariants as act
 use Rattle.parking_lot_protocol.specs.declared.act.SectionAct.TheVariants as section

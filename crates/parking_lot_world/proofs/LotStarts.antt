@@ -1,14 +1,14 @@
 -- What fits of a machine in which nobody is in a call.
 use Rattle.std.proofs.Common.{◌≡◌, ℕ, ◌+◌, ◌*◌, List, [], ◌∷◌, ◌++◌, length, take, drop, replicate, Option, Some, None, slice_get, count_by, refl, sym, ap, ◌∙◌, subst, arith, zero, suc}
 use Rattle.std.specs.Option.{option_and_then}
-use Rattle.parking_lot_core.specs.declared.place.Place.{Place}
-use Rattle.parking_lot_core.specs.declared.place.Place.TheVariants.{Running}
-use Rattle.parking_lot_core.specs.declared.place.Waiter.{Waiter}
-use Rattle.parking_lot_core.specs.Machine.{Machine, registered, free_number}
-use Rattle.parking_lot_core.specs.Places.{place_at}
-use Rattle.parking_lot_core.specs.Sound.{Sound}
-use Rattle.parking_lot_core.proofs.Numbers.{flag, count_by-cons}
-use Rattle.parking_lot_core.proofs.Sounds.{none≢some}
+use Rattle.parking_lot_core_lot.specs.declared.place.Place.{Place}
+use Rattle.parking_lot_core_lot.specs.declared.place.Place.TheVariants.{Running}
+use Rattle.parking_lot_core_lot.specs.declared.place.Waiter.{Waiter}
+use Rattle.parking_lot_core_lot.specs.Machine.{Machine, registered, free_number}
+use Rattle.parking_lot_core_lot.specs.Places.{place_at}
+use Rattle.parking_lot_core_lot.specs.Sound.{Sound}
+use Rattle.parking_lot_core_lot.proofs.Numbers.{flag, count_by-cons}
+use Rattle.parking_lot_core_lot.proofs.Sounds.{none≢some}
 use Rattle.parking_lot_world.specs.declared.open_call.Call.{Call}
 use Rattle.parking_lot_world.specs.declared.seat.Wakeup.{Wakeup}
 use Rattle.parking_lot_world.specs.Rows.{State, call_at, taken_by}

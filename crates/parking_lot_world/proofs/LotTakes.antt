@@ -2,21 +2,21 @@
 use Rattle.std.proofs.Common.{◌≡◌, ◌≤◌, ◌<◌, ℕ, ◌+◌, ◌*◌, ◌==◌, ◌⊎◌, inl, inr, false, List, [], ◌∷◌, length, remove, Option, Some, slice_get, slice_set, count_by, refl, sym, ap, ◌∙◌, subst, arith, eq-eqb}
 use Rattle.std.specs.Option.{option_map, option_map_or}
 use Rattle.std.proofs.lemmas.Bool.{ne_eqb, eqb-false}
-use Rattle.parking_lot_core.specs.declared.parking.ParkToken.{ParkToken}
-use Rattle.parking_lot_core.specs.declared.place.Place.{Place}
-use Rattle.parking_lot_core.specs.declared.place.Place.TheVariants.{Running, Waiting, Held}
-use Rattle.parking_lot_core.specs.declared.place.Phase.TheVariants as phase
-use Rattle.parking_lot_core.specs.declared.place.Section.{Section}
-use Rattle.parking_lot_core.specs.declared.place.Sleep.{Sleep}
-use Rattle.parking_lot_core.specs.declared.place.Waiter.{Waiter}
-use Rattle.parking_lot_core.specs.Machine.{is_thread}
-use Rattle.parking_lot_core.specs.Places.{place_at, mark_of, held, changed}
-use Rattle.parking_lot_core.specs.Results.{is_left}
-use Rattle.parking_lot_core.specs.Sound.{Sound, times_at}
+use Rattle.parking_lot_core_lot.specs.declared.parking.ParkToken.{ParkToken}
+use Rattle.parking_lot_core_lot.specs.declared.place.Place.{Place}
+use Rattle.parking_lot_core_lot.specs.declared.place.Place.TheVariants.{Running, Waiting, Held}
+use Rattle.parking_lot_core_lot.specs.declared.place.Phase.TheVariants as phase
+use Rattle.parking_lot_core_lot.specs.declared.place.Section.{Section}
+use Rattle.parking_lot_core_lot.specs.declared.place.Sleep.{Sleep}
+use Rattle.parking_lot_core_lot.specs.declared.place.Waiter.{Waiter}
+use Rattle.parking_lot_core_lot.specs.Machine.{is_thread}
+use Rattle.parking_lot_core_lot.specs.Places.{place_at, mark_of, held, changed}
+use Rattle.parking_lot_core_lot.specs.Results.{is_left}
+use Rattle.parking_lot_core_lot.specs.Sound.{Sound, times_at}
 use Rattle.std.proofs.lemmas.List.{length-set}
-use Rattle.parking_lot_core.proofs.Kept.{updated_at, updated_other, slice_get-seam, eqb_false_symm}
-use Rattle.parking_lot_core.proofs.Numbers.{flag, count_by-at, count_by-push}
-use Rattle.parking_lot_core.proofs.Sounds.{by_eqb, place_at-set_same, place_at-set_other}
+use Rattle.parking_lot_core_lot.proofs.Kept.{updated_at, updated_other, slice_get-seam, eqb_false_symm}
+use Rattle.parking_lot_core_lot.proofs.Numbers.{flag, count_by-at, count_by-push}
+use Rattle.parking_lot_core_lot.proofs.Sounds.{by_eqb, place_at-set_same, place_at-set_other}
 use Rattle.parking_lot_protocol.specs.declared.act.ActResult.TheVariants as seen
 use Rattle.parking_lot_world.specs.declared.seat.WakeResult.{WakeResult}
 use Rattle.parking_lot_world.specs.declared.seat.WakeResult.TheVariants as told

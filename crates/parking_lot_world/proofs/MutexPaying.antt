@@ -1,6 +1,6 @@
 -- Acts of a call at a mutex lower the steps that are left of it.
 use Rattle.std.proofs.Common.{◌≡◌, ◌≢◌, ℕ, zero, suc, ◌+◌, ◌-◌, ◌*◌, ◌/◌, ◌%◌, ◌<◌, ◌≤◌, ◌==◌, nat_lt, not, Bool, true, false, cond, Some, None, refl, sym, ap, subst, arith, eq-eqb, ne_eqb, le_refl, ltb-true}
-use Rattle.parking_lot_core.specs.declared.parking.UnparkToken.{UnparkToken}
+use Rattle.parking_lot_core_lot.specs.declared.parking.UnparkToken.{UnparkToken}
 use Rattle.parking_lot_protocol.specs.declared.act.Act.{Act}
 use Rattle.parking_lot_protocol.specs.declared.act.Act.TheVariants as act
 use Rattle.parking_lot_protocol.specs.declared.act.SectionAct.TheVariants as section
@@ -13,7 +13,8 @@ use Rattle.parking_lot_protocol.specs.declared.mutex_phase.MutexPhase.TheVariant
 use Rattle.parking_lot_protocol.specs.declared.mutex_phase.Asking.{Asking}
 use Rattle.parking_lot_protocol.specs.declared.mutex_phase.Giving.{Giving}
 use Rattle.parking_lot_protocol.specs.Acts.{Gives, word_after}
-use Rattle.parking_lot_protocol.specs.MutexTable.{act_of, next_phase, seeks, tries, retries, begins, bit}
+use Rattle.parking_lot_protocol.specs.MutexTable.{act_of, next_phase, seeks, tries, retries, begins}
+use Rattle.parking_lot_rules.specs.Classes.{bit}
 use Rattle.parking_lot_world.specs.RankLaws.{Can, StopsAt, MutexStepsFall}
 use Rattle.parking_lot_world.specs.Ranks.{View, Unseen, Sees, wake, is_at, is_open, mutex_parks, mutex_asks, mutex_ends, mutex_steps}
 

@@ -2,7 +2,7 @@
 use Rattle.std.proofs.Common.{◌≡◌, ◌≢◌, ℕ, zero, suc, ◌+◌, ◌<◌, ◌≤◌, ⊎_elim, ◌==◌, Bool, true, false, cond, List, [], ◌∷◌, length, Some, slice_get, slice_set, refl, sym, ◌∙◌, subst, arith}
 use Rattle.std.proofs.lemmas.Bool.{cases_eq}
 use Rattle.std.proofs.lemmas.Option.{same_Some}
-use Rattle.parking_lot_core.specs.declared.parking.UnparkToken.{UnparkToken}
+use Rattle.parking_lot_core_lot.specs.declared.parking.UnparkToken.{UnparkToken}
 use Rattle.parking_lot_rules.specs.Roles.{Mark, Open, Normal, Handed, Asleep}
 use Rattle.parking_lot_rules.specs.Lists.{occurs}
 use Rattle.parking_lot_rules.specs.Mutex as rules
@@ -13,7 +13,8 @@ use Rattle.parking_lot_protocol.specs.declared.act.CoreAnswer.TheVariants.{Owned
 use Rattle.parking_lot_protocol.specs.declared.act.ActResult.TheVariants.{Woken}
 use Rattle.parking_lot_protocol.specs.declared.mutex_phase.MutexPhase.{MutexPhase}
 use Rattle.parking_lot_protocol.specs.declared.mutex_phase.MutexPhase.TheVariants.{Locking, Loads, Sleeps, Stores, Leaves, Wakes, Ends}
-use Rattle.parking_lot_protocol.specs.MutexTable.{begins, act_of, next_phase, bit}
+use Rattle.parking_lot_protocol.specs.MutexTable.{begins, act_of, next_phase}
+use Rattle.parking_lot_rules.specs.Classes.{bit}
 use Rattle.parking_lot_protocol.specs.MutexRules.{QueuePosition, Listed, Off, role, taken_of, IsWord}
 use Rattle.parking_lot_world.specs.Rows.{mutex_word_of, first_of_all}
 use Rattle.parking_lot_world.specs.Stances.{mutex_taken}

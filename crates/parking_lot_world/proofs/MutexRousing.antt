@@ -1,8 +1,8 @@
 -- A thread wakes the one whom it has taken, at a mutex: a step of the rules.
 use Rattle.std.proofs.Common.{◌≡◌, ◌≢◌, ℕ, ◌*◌, ◌==◌, cond, Bool, true, false, List, length, Some, slice_get, slice_set, refl, sym, ap, ◌∙◌, subst, eq-eqb}
-use Rattle.parking_lot_core.specs.declared.parking.ParkToken.{ParkToken}
-use Rattle.parking_lot_core.specs.declared.parking.UnparkToken.{UnparkToken}
-use Rattle.parking_lot_core.specs.declared.place.Waiter.{Waiter}
+use Rattle.parking_lot_core_lot.specs.declared.parking.ParkToken.{ParkToken}
+use Rattle.parking_lot_core_lot.specs.declared.parking.UnparkToken.{UnparkToken}
+use Rattle.parking_lot_core_lot.specs.declared.place.Waiter.{Waiter}
 use Rattle.parking_lot_rules.specs.Mutex as mutex
 use Rattle.parking_lot_protocol.specs.declared.act.Act.TheVariants as act
 use Rattle.parking_lot_protocol.specs.declared.act.SectionAct.TheVariants as section

@@ -1,8 +1,8 @@
 -- What the machine keeps of threads at a mutex is what the rules say of them.
 use Rattle.std.proofs.Common.{◌≡◌, ◌≢◌, ℕ, ◌/◌, ◌%◌, ◌-◌, nat_lt, ◌==◌, Bool, true, false, cond, List, [], Some, None, slice_get, refl, sym, ap, ◌∙◌, eq-eqb}
-use Rattle.parking_lot_core.specs.declared.parking.ParkToken.{ParkToken}
-use Rattle.parking_lot_core.specs.declared.place.Waiter.{Waiter}
-use Rattle.parking_lot_core.specs.Results.{is_left}
+use Rattle.parking_lot_core_lot.specs.declared.parking.ParkToken.{ParkToken}
+use Rattle.parking_lot_core_lot.specs.declared.place.Waiter.{Waiter}
+use Rattle.parking_lot_core_lot.specs.Results.{is_left}
 use Rattle.parking_lot_rules.specs.Roles.{Open, Asleep}
 use Rattle.parking_lot_rules.specs.Mutex as rules
 use Rattle.parking_lot_protocol.specs.declared.act.Act.{Act}

@@ -2,7 +2,7 @@
 use Rattle.std.proofs.Common.{◌≡◌, ◌≢◌, ℕ, zero, suc, ◌+◌, ◌*◌, ◌<◌, ◌≤◌, ◌==◌, cond, Bool, true, false, List, length, Option, Some, None, slice_get, slice_set, refl, sym, ap, ◌∙◌, subst, arith}
 use Rattle.std.proofs.lemmas.Bool.{both_ways}
 use Rattle.std.proofs.lemmas.Option.{none-some}
-use Rattle.parking_lot_core.specs.Machine.{threads_of}
+use Rattle.parking_lot_core_lot.specs.Machine.{threads_of}
 use Rattle.parking_lot_rules.specs.Lists.{at_index}
 use Rattle.parking_lot_rules.specs.Classes.{Inside1, Inside2, weighs}
 use Rattle.parking_lot_rules.specs.Mutex as mutex
@@ -31,7 +31,8 @@ use Rattle.parking_lot_world.specs.Stances.{has_begun, rw_begun, core_act, core_
 use Rattle.parking_lot_world.specs.RowFits.{FitsTogether, RulesFit, IsOfKind, IsPrepared, KnowsList}
 use Rattle.parking_lot_world.specs.RowSteps.{Goes, IsMoveOf, IsRwMove, IsMutexMove}
 use Rattle.parking_lot_world.specs.RwLaws.{Finds, NobodyIs}
-use Rattle.parking_lot_world.proofs.Beginning.{goes_on}
+use Rattle.parking_lot_world.proofs.Spinning.{under_way}
+use Rattle.parking_lot_world.specs.Rounds.{FewRounds}
 use Rattle.parking_lot_world.proofs.RwMoving.{answers_are_moves}
 use Rattle.parking_lot_protocol.specs.MutexTable as of_mutex_table
 use Rattle.parking_lot_protocol.specs.declared.mutex_phase.MutexPhase.{MutexPhase}
@@ -121,7 +122,7 @@ module _ (s u : State) (t : ℕ) (h : FitsTogether s) where
     rw_kind = subst (IsOfKind (slice_get s.kinds c.lock)) e (h.rules.kinds t c a.here)
 
     rw_heard : of_rw.IsTold k.phase (word_at s c.lock) told
-    rw_heard = rw_told k.phase (word_at s c.lock) told (subst (λ (x : Core). has_begun x ≡ true) e (h.rules.begun t c a.here)) own gives
+    rw_heard = rw_told k.phase (word_at s c.lock) told (subst (λ (x : Core). has_begun x ≡ true) e (h.rules.begun t c a.here).begun) own gives
 
     rw_made : IsRwMove (of_rw.move c.others (taken_by s.wakes t) k.phase told) c.lock t s u
     rw_made = rw_goes s u t c told k c.spot e a h lists_same refl rw_heard own (finds (of_rw_table.act_of k.phase) c.lock own around rw_kind) around rw_kind
@@ -139,7 +140,7 @@ module _ (s u : State) (t : ℕ) (h : FitsTogether s) where
 
     pub own_rw : RulesFit u × Goes t c told s u
     own_rw = (
-      rules_own s u t c told (core_next (core.Rw k) told) c.spot a h (others_know s u t c told _ c.spot a h lists_same) (λ o x. subst (IsOfKind o) e x) rw_prepared knows (goes_on (core.Rw k) told)
+      rules_own s u t c told (core_next (core.Rw k) told) c.spot a h (others_know s u t c told _ c.spot a h lists_same) (λ o x. subst (IsOfKind o) e x) rw_prepared knows (under_way (core.Rw k) told (subst FewRounds e (h.rules.begun t c a.here).few))
           (λ m. absurd (two_kinds (sym rw_kind ∙ m))) (rw_move_sound s u t c.lock (of_rw.move c.others (taken_by s.wakes t) k.phase told) rw_made h.rules.sound),
       subst (λ (x : Core). IsMoveOf x c.others (taken_by s.wakes t) told c.lock t s u) (sym e) rw_made,
     )
@@ -239,7 +240,7 @@ module _ (s u : State) (t : ℕ) (h : FitsTogether s) (c : Call) (told : ActResu
 
   pub own_mutex : RulesFit u × Goes t c told s u
   own_mutex = (
-    rules_own s u t c told (core_next (core.Mutex k) told) c.spot a h (others_know s u t c told _ c.spot a h lists_same) (λ o x. subst (IsOfKind o) e x) (subst (IsPrepared c.others) e (h.rules.prepared t c a.here)) (mutex_learns (core.Mutex k) (of_mutex_table.next_phase k.phase told) (word_at s c.lock) told refl refl own gives (u.lot.queues (2 * c.lock))) (goes_on (core.Mutex k) told)
+    rules_own s u t c told (core_next (core.Mutex k) told) c.spot a h (others_know s u t c told _ c.spot a h lists_same) (λ o x. subst (IsOfKind o) e x) (subst (IsPrepared c.others) e (h.rules.prepared t c a.here)) (mutex_learns (core.Mutex k) (of_mutex_table.next_phase k.phase told) (word_at s c.lock) told refl refl own gives (u.lot.queues (2 * c.lock))) (under_way (core.Mutex k) told (subst FewRounds e (h.rules.begun t c a.here).few))
         (λ m. subst (λ n. n < 4) (sym (a.word ∙ ap (λ x. word_after (core_act x) told (word_at s c.lock)) e)) own_step.small)
         (mutex_move_sound s u t c.lock (taken_by s.wakes t) (of_mutex.move taken_first k.phase told) mutex_made h.rules.sound),
     subst (λ (x : Core). IsMoveOf x c.others (taken_by s.wakes t) told c.lock t s u) (sym e) mutex_made,

@@ -4,8 +4,8 @@ use Rattle.std.specs.Prelude.{is_some}
 use Rattle.std.specs.Option.{option_and_then}
 use Rattle.std.proofs.lemmas.Bool.{ne_eqb, both_ways}
 use Rattle.std.proofs.lemmas.List.{length-set, length-map}
-use Rattle.parking_lot_core.specs.declared.parking.UnparkToken.{UnparkToken}
-use Rattle.parking_lot_core.specs.declared.place.Section.{Section}
+use Rattle.parking_lot_core_lot.specs.declared.parking.UnparkToken.{UnparkToken}
+use Rattle.parking_lot_core_lot.specs.declared.place.Section.{Section}
 use Rattle.parking_lot_protocol.specs.declared.act.Act.{Act}
 use Rattle.parking_lot_protocol.specs.declared.act.Act.TheVariants as act
 use Rattle.parking_lot_protocol.specs.declared.act.CoreAnswer.{CoreAnswer}
@@ -25,7 +25,7 @@ use Rattle.parking_lot_world.specs.Stances.{Out, taken_count, core_act, core_nex
 use Rattle.parking_lot_world.specs.RowActs.{hears, answered, begun, woke}
 use Rattle.parking_lot_world.specs.RowFits.{FitsTogether, IsOfKind}
 use Rattle.parking_lot_world.specs.ActLaws.{MayBegin}
-use Rattle.parking_lot_world.specs.Machines.{can_move, can_move_in, is_possible}
+use Rattle.parking_lot_world.specs.Machines.{can_move, can_move_in, is_possible, is_taken}
 use Rattle.parking_lot_world.specs.RankLaws.{StopsAt}
 use Rattle.parking_lot_world.specs.Ranks.{View, Unseen, Sees, wake, core_steps, far_steps, is_shut_to, own_steps, view_of, Pays, cost, Costs, AnyMayBeStepped}
 use Rattle.parking_lot_world.proofs.Everybody.{length-all}
@@ -139,7 +139,7 @@ begins_cost s t c what h may is =
 -- ANOTHER IS STEPPED
 
 module _ (s : State) (h : FitsTogether s) where
-  none_more : (u : ℕ) (o : Option Call) → call_at s u ≡ o → own_steps s u o ≤ far_steps (length s.calls) o
+  pub none_more : (u : ℕ) (o : Option Call) → call_at s u ≡ o → own_steps s u o ≤ far_steps (length s.calls) o
   none_more u None at = omega arith
   none_more u (Some c) at = own_few s h (word_at s c.lock) c.lock (is_shut_to u (inside s)) c.core (h.rules.kinds u c at)
 
@@ -151,7 +151,7 @@ module _ (s : State) (h : FitsTogether s) where
       let seat = seat_of s h.lots t c Out here leads.0 in
       ap (is_shut_to t) by.1 ∙ ap not (ne_eqb by.0 t (λ q. seat.1 x e (by.1 ∙ ap Some q)))
 
-  stops_at : (t : ℕ) (c : Call) → call_at s t ≡ Some c → (a : Act) → core_act c.core ≡ a → is_possible (is_some s.lot.section) a ≡ false → StopsAt a (is_shut_to t (inside s))
+  stops_at : (t : ℕ) (c : Call) → call_at s t ≡ Some c → (a : Act) → core_act c.core ≡ a → is_possible (is_taken s c) a ≡ false → StopsAt a (is_shut_to t (inside s))
   stops_at t c here act.Sleep asked cannot = tt
   stops_at t c here (act.Enter key) asked cannot = is_shut t c key here asked s.lot.section refl (some_is (is_some s.lot.section) cannot)
     where
@@ -160,7 +160,7 @@ module _ (s : State) (h : FitsTogether s) where
       some_is false e = absurd (both_ways true e refl)
   stops_at t c here a asked cannot = absurd cc
 
-  none_less : (t : ℕ) (o : Option Call) → call_at s t ≡ o → can_move_in (is_some s.lot.section) o ≡ false → far_steps (length s.calls) o ≤ own_steps s t o
+  none_less : (t : ℕ) (o : Option Call) → call_at s t ≡ o → can_move_in s o ≡ false → far_steps (length s.calls) o ≤ own_steps s t o
   none_less t None at cannot = omega arith
   none_less t (Some c) at cannot = core_stops (length s.calls) c.core (word_at s c.lock) (length (s.lot.queues (first_key c.lock))) (is_shut_to t (inside s)) (stops_at t c at (core_act c.core) refl cannot)
 

@@ -3,13 +3,13 @@ use Rattle.std.proofs.Common.{◌≡◌, ℕ, zero, suc, ◌+◌, ◌*◌, ◌<�
 use Rattle.std.proofs.lemmas.List.{length-replicate}
 use Rattle.std.proofs.lemmas.Option.{none-some}
 use Rattle.std.specs.Option.{option_and_then, option_map_or}
-use Rattle.parking_lot_core.specs.declared.place.Place.TheVariants.{Running}
-use Rattle.parking_lot_core.specs.Sound as lot
+use Rattle.parking_lot_core_lot.specs.declared.place.Place.TheVariants.{Running}
+use Rattle.parking_lot_core_lot.specs.Sound as lot
 use Rattle.parking_lot_rules.specs.Roles.{away}
 use Rattle.parking_lot_rules.specs.Mutex as mutex
 use Rattle.parking_lot_rules.specs.Lists.{at_index}
 use Rattle.parking_lot_rules.specs.Lock.{IsSound}
-use Rattle.parking_lot_rules.specs.ReadLock.{word_of}
+use Rattle.parking_lot_rules.specs.Clauses.{word_of}
 use Rattle.parking_lot_rules.specs.Any.{AnySound, any_inside, mutex_inside}
 use Rattle.parking_lot_rules.specs.Family.{Key, First, Second, SoundFamilyOf, rw_inside}
 use Rattle.parking_lot_rules.specs.Runs as rules

@@ -1,16 +1,16 @@
 -- One that was taken is woken, and goes on with its token.
 use Rattle.std.proofs.Common.{◌≡◌, ℕ, zero, suc, ◌&&◌, cond, Bool, true, false, List, [], ◌∷◌, Some, None, Result, Ok, slice_set, refl, sym, ap, ◌∙◌, subst, eq-eqb}
 use Rattle.std.specs.Option.{option_map, option_map_or}
-use Rattle.parking_lot_core.specs.declared.fault.LotFault.{LotFault}
-use Rattle.parking_lot_core.specs.declared.parking.ParkResult.{ParkResult}
-use Rattle.parking_lot_core.specs.declared.parking.ParkResult.TheVariants.{Unparked}
-use Rattle.parking_lot_core.specs.declared.parking.UnparkToken.{UnparkToken}
-use Rattle.parking_lot_core.specs.declared.place.Place.TheVariants.{Running, Taken}
-use Rattle.parking_lot_core.specs.declared.place.Sleep.{Sleep}
-use Rattle.parking_lot_core.specs.Machine.{Machine, Does, Unless, busy, changed_at, resume_fault, resume_fault_at}
-use Rattle.parking_lot_core.specs.Operations.{Resumes, ResumesFrom}
-use Rattle.parking_lot_core.specs.Places.{place_at, is_due, roused}
-use Rattle.parking_lot_core.proofs.Sounds.{place_at-set_same}
+use Rattle.parking_lot_core_lot.specs.declared.fault.LotFault.{LotFault}
+use Rattle.parking_lot_core_lot.specs.declared.parking.ParkResult.{ParkResult}
+use Rattle.parking_lot_core_lot.specs.declared.parking.ParkResult.TheVariants.{Unparked}
+use Rattle.parking_lot_core_lot.specs.declared.parking.UnparkToken.{UnparkToken}
+use Rattle.parking_lot_core_lot.specs.declared.place.Place.TheVariants.{Running, Taken}
+use Rattle.parking_lot_core_lot.specs.declared.place.Sleep.{Sleep}
+use Rattle.parking_lot_core_lot.specs.Machine.{Machine, Does, Unless, busy, changed_at, resume_fault, resume_fault_at}
+use Rattle.parking_lot_core_lot.specs.Operations.{Resumes, ResumesFrom}
+use Rattle.parking_lot_core_lot.specs.Places.{place_at, is_due, roused}
+use Rattle.parking_lot_core_lot.proofs.Sounds.{place_at-set_same}
 use Rattle.parking_lot_world.specs.TellLaws.{GoesOn}
 
 set_twice : {X : Type 0} (xs : List X) (i : ℕ) (x y : X) → slice_set (slice_set xs i x) i y ≡ slice_set xs i y

@@ -4,11 +4,11 @@ use Rattle.std.specs.List.{position_or_len}
 use Rattle.std.proofs.lemmas.Bool.{cases_eq, ne_eqb, eqb-false}
 use Rattle.std.proofs.lemmas.List.Edits.{length-remove}
 use Rattle.std.proofs.lemmas.Option.{none-some, slice_get_within}
-use Rattle.parking_lot_core.specs.declared.parking.ParkToken.{ParkToken}
-use Rattle.parking_lot_core.specs.declared.parking.UnparkToken.{UnparkToken}
-use Rattle.parking_lot_core.specs.declared.place.Place.TheVariants.{Taken}
-use Rattle.parking_lot_core.specs.declared.place.Sleep.{Sleep}
-use Rattle.parking_lot_core.proofs.Numbers.{flag, count_by-set}
+use Rattle.parking_lot_core_lot.specs.declared.parking.ParkToken.{ParkToken}
+use Rattle.parking_lot_core_lot.specs.declared.parking.UnparkToken.{UnparkToken}
+use Rattle.parking_lot_core_lot.specs.declared.place.Place.TheVariants.{Taken}
+use Rattle.parking_lot_core_lot.specs.declared.place.Sleep.{Sleep}
+use Rattle.parking_lot_core_lot.proofs.Numbers.{flag, count_by-set}
 use Rattle.parking_lot_rules.proofs.Indexed.{get-set_other}
 use Rattle.parking_lot_protocol.specs.declared.act.ActResult.TheVariants as seen
 use Rattle.parking_lot_world.specs.declared.seat.WakeResult.{WakeResult}
@@ -21,7 +21,7 @@ use Rattle.parking_lot_world.specs.Stances.{Out, Asleep, stance, taken_count, co
 use Rattle.parking_lot_world.specs.RowActs.{hears, woke, told_of}
 use Rattle.parking_lot_world.specs.RowFits.{FitsTogether, RulesFit, WakesFit, IsTaken, IsPrepared, KnowsList, is_away, is_off}
 use Rattle.parking_lot_world.specs.TellLaws.{IsDue}
-use Rattle.parking_lot_world.proofs.Beginning.{goes_on}
+use Rattle.parking_lot_world.proofs.Spinning.{under_way}
 use Rattle.parking_lot_world.proofs.Calling.{slot}
 use Rattle.parking_lot_world.proofs.Carrying.{same_call}
 use Rattle.parking_lot_world.proofs.Indexing.{kept_remove}
@@ -210,8 +210,8 @@ module _ (s : State) (t : ℕ) (c : Call) (h : FitsTogether s) (here : call_at s
     words = refl;
     calls = calls-woken (λ x z. CallFits s.kinds s.lot.queues z)
         (λ x z nt nv at. call_fits s h.rules x z at)
-        (record { kind = same_kind c.core seen.Made (slice_get s.kinds c.lock) (h.rules.kinds t c here); prepared = prepared; knows = knows; beside = h.rules.beside t c here; begun = goes_on c.core seen.Made })
-        (record { kind = same_kind d.core (seen.Woken token) (slice_get s.kinds d.lock) (h.rules.kinds e.thread d due.there); prepared = ready; knows = learns; beside = h.rules.beside e.thread d due.there; begun = goes_on d.core (seen.Woken token) });
+        (record { kind = same_kind c.core seen.Made (slice_get s.kinds c.lock) (h.rules.kinds t c here); prepared = prepared; knows = knows; beside = h.rules.beside t c here; begun = under_way c.core seen.Made (h.rules.begun t c here).few })
+        (record { kind = same_kind d.core (seen.Woken token) (slice_get s.kinds d.lock) (h.rules.kinds e.thread d due.there); prepared = ready; knows = learns; beside = h.rules.beside e.thread d due.there; begun = under_way d.core (seen.Woken token) (h.rules.begun e.thread d due.there).few });
     few = h.rules.few;
     elsewhere = λ j ne. refl;
     bits = h.rules.bits c.lock;

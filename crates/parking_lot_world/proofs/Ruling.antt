@@ -1,8 +1,8 @@
 -- The side of the rules is kept where one thread's call has changed.
-use Rattle.std.proofs.Common.{◌≡◌, ◌≢◌, ℕ, ◌+◌, ◌*◌, ◌<◌, ◌≤◌, ◌^◌, inl, inr, true, List, length, Option, Some, slice_get, sym, ap, ◌∙◌, subst}
+use Rattle.std.proofs.Common.{◌≡◌, ◌≢◌, ℕ, ◌+◌, ◌*◌, ◌<◌, ◌≤◌, ◌^◌, inl, inr, List, length, Option, Some, slice_get, sym, ap, ◌∙◌, subst}
 use Rattle.std.proofs.lemmas.Bool.{cases_eq}
 use Rattle.std.proofs.lemmas.List.{length-set}
-use Rattle.parking_lot_core.specs.declared.place.Waiter.{Waiter}
+use Rattle.parking_lot_core_lot.specs.declared.place.Waiter.{Waiter}
 use Rattle.parking_lot_rules.specs.Steps.{Alone, List_changes, Take1, Store, Wake}
 use Rattle.parking_lot_rules.specs.Roles.{Asleep}
 use Rattle.parking_lot_rules.specs.Mutex as mutex
@@ -18,7 +18,7 @@ use Rattle.parking_lot_world.specs.declared.seat.Core.{Core}
 use Rattle.parking_lot_world.specs.declared.seat.Core.TheVariants as core
 use Rattle.parking_lot_world.specs.declared.open_call.Call.{Call}
 use Rattle.parking_lot_world.specs.Rows.{State, word_at, hold_at, call_at}
-use Rattle.parking_lot_world.specs.Stances.{has_begun}
+use Rattle.parking_lot_world.specs.Rounds.{IsUnderWay}
 use Rattle.parking_lot_world.specs.RowFits.{FitsTogether, RulesFit, IsOfKind, IsPrepared, KnowsList, mutex_knows, rw_knows}
 use Rattle.parking_lot_world.specs.RowSteps.{IsRwMove, IsMutexMove, store_step, wake_step}
 use Rattle.parking_lot_world.proofs.Making.{IsSoundState, quiet_sound, made_sound}
@@ -51,7 +51,7 @@ pub record CallFits (kinds : List LockKind) (queues : ℕ → List Waiter) (e : 
   pub prepared : IsPrepared e.others e.core
   pub knows : KnowsList e.core queues e.lock
   pub beside : e.others ≤ 254
-  pub begun : has_begun e.core ≡ true
+  pub begun : IsUnderWay e.core
 
 -- What is to be shown of an act for that side.
 pub record RulesAfter (s u : State) (j : ℕ) : Type 0 where
@@ -106,7 +106,7 @@ module _ (s u : State) (t : ℕ) (c : Call) (told : ActResult) (next : Core) (at
   pub others_know : ((key : ℕ) → u.lot.queues key ≡ s.lot.queues key) → (v : ℕ) (e : Call) → v ≢ t → call_at s v ≡ Some e → KnowsList e.core u.lot.queues e.lock
   others_know same v e ne here = knows_same s.lot.queues u.lot.queues same e.core e.lock (h.rules.knows v e here)
 
-  pub rules_own : ((v : ℕ) (e : Call) → v ≢ t → call_at s v ≡ Some e → KnowsList e.core u.lot.queues e.lock) → ((k : Option LockKind) → IsOfKind k c.core → IsOfKind k next) → IsPrepared c.others next → KnowsList next u.lot.queues c.lock → has_begun next ≡ true
+  pub rules_own : ((v : ℕ) (e : Call) → v ≢ t → call_at s v ≡ Some e → KnowsList e.core u.lot.queues e.lock) → ((k : Option LockKind) → IsOfKind k c.core → IsOfKind k next) → IsPrepared c.others next → KnowsList next u.lot.queues c.lock → IsUnderWay next
       → (slice_get s.kinds c.lock ≡ Some kind.Mutex → word_at u c.lock < 4) → IsSoundState u → RulesFit u
   rules_own others same_kind prepared knows begun bits sound = rules_after s u c.lock h.rules (record {
     kinds = a.kinds;

@@ -2,10 +2,10 @@
 use Rattle.std.proofs.Common.{◌≡◌, ◌≤◌, ℕ, zero, suc, ◌+◌, ◌/◌, ◌==◌, ◌&&◌, ◌⊎◌, inl, inr, not, min, Bool, true, false, cond, List, Some, None, refl, sym, ap, ◌∙◌, subst, arith, ◌||◌, ◌^◌, ◌-◌, nat_lt}
 use Rattle.std.specs.Option.{option_map_or}
 use Rattle.std.proofs.lemmas.Option.{none-some}
-use Rattle.parking_lot_core.specs.Results.{is_left}
-use Rattle.parking_lot_core.specs.declared.parking.ParkToken.{ParkToken}
-use Rattle.parking_lot_core.specs.declared.place.Waiter.{Waiter}
-use Rattle.parking_lot_rules.specs.Classes.{Inside1, Inside2, weight, total, weighs}
+use Rattle.parking_lot_core_lot.specs.Results.{is_left}
+use Rattle.parking_lot_core_lot.specs.declared.parking.ParkToken.{ParkToken}
+use Rattle.parking_lot_core_lot.specs.declared.place.Waiter.{Waiter}
+use Rattle.parking_lot_rules.specs.Classes.{Inside1, Inside2, weight, total, weighs, bit}
 use Rattle.parking_lot_rules.specs.Lock.{IsSound}
 use Rattle.parking_lot_rules.specs.Family.{Family, SoundFamilyOf, Key, First, Second, section, Crossing, Comes, Goes, crossing}
 use Rattle.parking_lot_rules.specs.Family as crossings
@@ -25,7 +25,6 @@ use Rattle.parking_lot_protocol.specs.RwRules.{QueuePosition, Listed, Off, role,
 use Rattle.parking_lot_rules.specs.Clauses.{Fits}
 use Rattle.parking_lot_protocol.specs.declared.rw_phase.Seeking.{Seeking}
 use Rattle.parking_lot_protocol.specs.declared.rw_phase.Draining.{Draining}
-use Rattle.parking_lot_protocol.specs.MutexTable.{bit}
 use Rattle.parking_lot_world.specs.Stances.{rw_stance}
 use Rattle.parking_lot_world.specs.RowFits.{rw_knows}
 use Rattle.parking_lot_world.specs.RwLaws.{NobodyIs, act_crossing, move_crossing, in_first, in_second, ActsCross, FreeSectionsAreEmpty, Learns, ListsAreKnown}

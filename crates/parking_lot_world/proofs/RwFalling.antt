@@ -3,7 +3,7 @@ use Rattle.std.proofs.Common.{◌≡◌, ◌≤◌, ◌<◌, ℕ, ◌+◌, ◌-�
 use Rattle.std.specs.Option.{option_map_or}
 use Rattle.std.proofs.Math.Nat.{mod-eq_of_lt}
 use Rattle.std.proofs.lemmas.Bool.{both_ways, ltb-true, eq-eqb, eqb-false, ne_eqb, cond-true, cond-false, cond_both, and_from, not_from_false, lt-ltb}
-use Rattle.parking_lot_core.specs.declared.parking.ParkToken.{ParkToken}
+use Rattle.parking_lot_core_lot.specs.declared.parking.ParkToken.{ParkToken}
 use Rattle.parking_lot_protocol.specs.declared.act.ActResult.{ActResult}
 use Rattle.parking_lot_protocol.specs.declared.act.ActResult.TheVariants as seen
 use Rattle.parking_lot_protocol.specs.declared.rw_phase.LockMode.{LockMode}
@@ -16,7 +16,7 @@ use Rattle.parking_lot_protocol.specs.declared.rw_phase.Scanning.{Scanning}
 use Rattle.parking_lot_protocol.specs.declared.rw_phase.RwPhase.{RwPhase}
 use Rattle.parking_lot_protocol.specs.declared.rw_phase.RwPhase.TheVariants.{Loads, Admits, Spins, SetParked, Enters, Checks, Retreats, Appends, Rests, Sleeps, DrainLoads, DrainSpins, DrainSetParked, DrainEnters, DrainChecks, DrainRetreats, DrainAppends, DrainRests, DrainSleeps, TryLoads, TryAdmits, BumpLoads, Relocks, Unshares, EnterWriterWakeSection, TakeWriter, ClearWriterParked, LeaveWriterWakeSection, Unlocks, LooksExclusive, Downgrades, EnterWakeSection, Scans, Stores, Leaves, Wakes, Finishes, Invalid}
 use Rattle.parking_lot_protocol.specs.Acts.{Gives, word_after}
-use Rattle.parking_lot_protocol.specs.MutexTable.{bit}
+use Rattle.parking_lot_rules.specs.Classes.{bit}
 use Rattle.parking_lot_protocol.specs.RwTable as of_rw
 use Rattle.parking_lot_protocol.specs.RwTable.{act_of, next_phase, is_parked, is_writer_parked, is_written, has_readers, is_barred, count_of, begins}
 use Rattle.parking_lot_protocol.specs.RwRules.{IsReady}

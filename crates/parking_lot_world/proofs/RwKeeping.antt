@@ -5,11 +5,11 @@ use Rattle.std.proofs.lemmas.Bool.{both_ways}
 use Rattle.std.proofs.lemmas.List.Sums.{sum_by-cons}
 use Rattle.parking_lot_rules.proofs.Totals.{total-at}
 use Rattle.parking_lot_world.specs.Stances.{rw_taken}
-use Rattle.parking_lot_core.specs.declared.parking.ParkToken.{ParkToken}
+use Rattle.parking_lot_core_lot.specs.declared.parking.ParkToken.{ParkToken}
 use Rattle.parking_lot_rules.specs.Classes.{OpenReaders, TakenReaders, weight, total}
 use Rattle.parking_lot_rules.specs.Roles.{Owned, Role}
 use Rattle.parking_lot_rules.specs.Roles as rules
-use Rattle.parking_lot_rules.specs.ReadLock.{word_of}
+use Rattle.parking_lot_rules.specs.Clauses.{word_of}
 use Rattle.parking_lot_rules.specs.Lock.{Lock, IsSound}
 use Rattle.parking_lot_protocol.specs.declared.act.ActResult.{ActResult}
 use Rattle.parking_lot_protocol.specs.declared.act.ActResult.TheVariants as seen

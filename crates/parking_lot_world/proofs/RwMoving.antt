@@ -5,11 +5,10 @@ use Rattle.std.proofs.lemmas.List.Sums.{sum_by-cons}
 use Rattle.parking_lot_rules.specs.Roles.{Owned, Shares, Excludes, Upgrades, Role, away}
 use Rattle.parking_lot_rules.specs.Roles as rules
 use Rattle.parking_lot_rules.specs.Classes.{Class, Readers, Writers, Inside1, Inside2, weight, total, done, owned}
-use Rattle.parking_lot_rules.specs.Clauses.{Word, IsWord, number}
+use Rattle.parking_lot_rules.specs.Clauses.{Word, IsWord, number, word_of}
 use Rattle.parking_lot_rules.specs.Holds.{shared_holds}
 use Rattle.parking_lot_rules.specs.Plain.{Plain, Enter1, Reenter1, ReenterTaken1, Enter2, Reenter2, ReenterTaken2, Look2, Mask2, LookExclusive, LookUpgradable, LookOwed, May, from, to, written}
 use Rattle.parking_lot_rules.specs.Plain as plain
-use Rattle.parking_lot_rules.specs.ReadLock.{word_of}
 use Rattle.parking_lot_rules.specs.Lock.{Lock, IsSound}
 use Rattle.parking_lot_rules.specs.Steps.{Alone, after}
 use Rattle.parking_lot_rules.proofs.Totals.{total-at}

@@ -1,16 +1,15 @@
 -- A thread that has taken waiters stores, and wakes them one by one: steps of the rules.
 use Rattle.std.proofs.Common.{◌≡◌, ◌<◌, ℕ, ◌==◌, ◌||◌, ◌⊎◌, inl, inr, Bool, true, false, cond, List, [], ◌∷◌, length, map, Some, slice_get, slice_set, refl, sym, ap, ◌∙◌, subst, arith, ◌&&◌, nat_lt, ◌-◌}
 use Rattle.std.proofs.lemmas.Option.{same_Some}
-use Rattle.parking_lot_core.specs.Results.{is_left}
+use Rattle.parking_lot_core_lot.specs.Results.{is_left}
 use Rattle.parking_lot_rules.specs.Roles.{Mode, Shares, Role, Mark, Owned}
 use Rattle.parking_lot_rules.specs.Roles as rules
-use Rattle.parking_lot_rules.specs.Clauses.{Word, number}
+use Rattle.parking_lot_rules.specs.Clauses.{Word, number, word_of}
 use Rattle.parking_lot_rules.specs.Lists.{occurs}
 use Rattle.parking_lot_rules.specs.Lock.{Lock, On1, to_wake}
-use Rattle.parking_lot_rules.specs.ReadLock.{word_of}
 use Rattle.parking_lot_rules.specs.Steps.{Scan, IsOver, Ending, Free, FreeUpgradable, Hand, HandUpgradable, Keep, ends_saying, stored, settle, Store, Wake, Waking, Recheck, waking_from, waking_to, Allowed, after}
 use Rattle.parking_lot_rules.proofs.Sounds.{step_sound}
-use Rattle.parking_lot_protocol.specs.MutexTable as of_mutex
+use Rattle.parking_lot_rules.specs.Classes.{bit}
 use Rattle.parking_lot_protocol.specs.declared.act.ActResult.TheVariants as seen
 use Rattle.parking_lot_protocol.specs.declared.rw_phase.LockMode.{LockMode}
 use Rattle.parking_lot_protocol.specs.declared.rw_phase.LockMode.TheVariants as want
@@ -31,10 +30,10 @@ use Rattle.parking_lot_world.proofs.RwTaking.{same_scan}
 -- STORES
 
 -- how many are left doesn't matter, but whether some are
-stored_left : (e : Ending) (r : ℕ) (u x : Bool) (q : List ℕ) (left : Bool) (w : Word) → is_left q ≡ left → stored e r u x (of_mutex.bit left) w ≡ stored e r u x (length q) w
-stored_left e r u x q left w same = sym (ap (λ b. stored e r u x (of_mutex.bit b) w) same) ∙ some e q
+stored_left : (e : Ending) (r : ℕ) (u x : Bool) (q : List ℕ) (left : Bool) (w : Word) → is_left q ≡ left → stored e r u x (bit left) w ≡ stored e r u x (length q) w
+stored_left e r u x q left w same = sym (ap (λ b. stored e r u x (bit b) w) same) ∙ some e q
   where
-    some : (e : Ending) (q : List ℕ) → stored e r u x (of_mutex.bit (is_left q)) w ≡ stored e r u x (length q) w
+    some : (e : Ending) (q : List ℕ) → stored e r u x (bit (is_left q)) w ≡ stored e r u x (length q) w
     some Free [] = refl
     some Free (y ∷ ys) = refl
     some FreeUpgradable [] = refl
@@ -65,7 +64,7 @@ stores_are_steps l t n spot us a left x fair h same over =
     let may : Allowed false t (Store e s) l = (h.here, ap (λ (c : Scan). c.cause) (sym is) ∙ m.1.cause, m.1.may, is_over l s left same over) in
     let to : role n Listed us (next_phase p (seen.Stored fair)) ≡ record { owns = s.owns; does = rules.Stored1 us } = m.1.to ∙ ap (λ (c : Scan). record { owns = c.owns; does = rules.Stored1 us }) is in
     let said : w ≡ number (stored e s.shared s.upgradable s.writer (length l.first) l.word) =
-    m.1.written ∙ ap (λ (c : Scan). number (stored e c.shared c.upgradable c.writer (of_mutex.bit left) l.word)) is ∙ ap number (stored_left e s.shared s.upgradable s.writer l.first left l.word same) in
+    m.1.written ∙ ap (λ (c : Scan). number (stored e c.shared c.upgradable c.writer (bit left) l.word)) is ∙ ap number (stored_left e s.shared s.upgradable s.writer l.first left l.word same) in
     let word : stored e s.shared s.upgradable s.writer (length l.first) l.word ≡ word_of w = same_word (after t (Store e s) l) (step_sound false t (Store e s) l h.sound may) w said in
     (may, λ j. record l { word = word j; roles = slice_set (map (settle (ends_saying e)) l.roles) t (sym to j) })
 

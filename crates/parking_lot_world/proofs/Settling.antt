@@ -4,26 +4,23 @@ use Rattle.std.specs.Option.{option_map}
 use Rattle.std.proofs.lemmas.Bool.{cases_eq, ne_eqb}
 use Rattle.std.proofs.lemmas.List.{length-set, length-map}
 use Rattle.std.proofs.lemmas.Option.{none-some}
-use Rattle.parking_lot_core.specs.declared.parking.UnparkToken.{UnparkToken}
-use Rattle.parking_lot_core.specs.Machine.{stored}
-use Rattle.parking_lot_core.proofs.Numbers.{count_by-set, count_by-map_same}
+use Rattle.parking_lot_core_lot.specs.declared.parking.UnparkToken.{UnparkToken}
+use Rattle.parking_lot_core_lot.specs.Machine.{stored}
+use Rattle.parking_lot_core_lot.proofs.Numbers.{count_by-set, count_by-map_same}
 use Rattle.parking_lot_protocol.specs.declared.act.ActResult.{ActResult}
-use Rattle.parking_lot_world.specs.declared.calls.LockKind.{LockKind}
 use Rattle.parking_lot_world.specs.declared.calls.LockKind.TheVariants as kind
 use Rattle.parking_lot_world.specs.declared.seat.WakeResult.{WakeResult}
 use Rattle.parking_lot_world.specs.declared.seat.WakeResult.TheVariants as told
 use Rattle.parking_lot_world.specs.declared.seat.QueuePosition.{QueuePosition}
 use Rattle.parking_lot_world.specs.declared.seat.QueuePosition.TheVariants as spot
-use Rattle.parking_lot_world.specs.declared.seat.Core.{Core}
-use Rattle.parking_lot_world.specs.declared.seat.Core.TheVariants as core
 use Rattle.parking_lot_world.specs.declared.open_call.Call.{Call}
 use Rattle.parking_lot_world.specs.declared.seat.Wakeup.{Wakeup}
 use Rattle.parking_lot_world.specs.Rows.{State, word_at, call_at, taken_by}
 use Rattle.parking_lot_world.specs.Stances.{core_next}
 use Rattle.parking_lot_world.specs.RowActs.{with_call, with_lot, with_word, hears, settled_spot, settled, settles, told_of}
-use Rattle.parking_lot_world.specs.RowFits.{FitsTogether, RulesFit, WakesFit, IsTaken, IsOfKind, IsPrepared, KnowsList, is_away, is_off}
+use Rattle.parking_lot_world.specs.RowFits.{FitsTogether, RulesFit, WakesFit, IsTaken, IsPrepared, KnowsList, is_away, is_off}
 use Rattle.parking_lot_world.proofs.Acting.{word-elsewhere}
-use Rattle.parking_lot_world.proofs.Beginning.{goes_on}
+use Rattle.parking_lot_world.proofs.Spinning.{under_way}
 use Rattle.parking_lot_world.proofs.Calling.{call_of, slot, call-here, call-elsewhere, calls-change}
 use Rattle.parking_lot_world.proofs.Carrying.{same_call}
 use Rattle.parking_lot_world.proofs.Lifting.{IsThere, Elsewhere}
@@ -143,7 +140,7 @@ module _ (s : State) (t : ℕ) (c : Call) (heard : ActResult) (token : UnparkTok
       words = length-set s.words c.lock word;
       calls = calls-told (λ v e. CallFits s.kinds s.lot.queues e)
           (λ v e ne at. let f = call_fits s h.rules v e at in record { kind = f.kind; prepared = f.prepared; knows = f.knows; beside = f.beside; begun = f.begun })
-          (record { kind = same_kind c.core heard (slice_get s.kinds c.lock) (h.rules.kinds t c here); prepared = prepared; knows = knows; beside = h.rules.beside t c here; begun = goes_on c.core heard });
+          (record { kind = same_kind c.core heard (slice_get s.kinds c.lock) (h.rules.kinds t c here); prepared = prepared; knows = knows; beside = h.rules.beside t c here; begun = under_way c.core heard (h.rules.begun t c here).few });
       few = h.rules.few;
       elsewhere = told_elsewhere.words;
       bits = bits;

@@ -2,8 +2,8 @@
 use Rattle.std.proofs.Common.{◌≡◌, ◌≤◌, ◌<◌, ℕ, ◌+◌, ◌-◌, ◌/◌, ◌%◌, ◌^◌, ◌==◌, ◌&&◌, ◌||◌, inl, inr, nat_lt, not, min, Bool, true, false, cond, Option, Some, None, is_some, Result, Ok, Err, refl, sym, ap, ◌∙◌, subst, arith}
 use Rattle.std.proofs.lemmas.Bool.{eq-eqb, ne_eqb, ltb-true, ltb-false, cond-true, cond-false}
 use Rattle.std.specs.Option.{option_map, option_map_or, option_and_then}
-use Rattle.parking_lot_core.specs.declared.parking.ParkToken.{ParkToken}
-use Rattle.parking_lot_core.specs.declared.parking.UnparkToken.{UnparkToken}
+use Rattle.parking_lot_core_lot.specs.declared.parking.ParkToken.{ParkToken}
+use Rattle.parking_lot_core_lot.specs.declared.parking.UnparkToken.{UnparkToken}
 use Rattle.parking_lot_protocol.specs.Acts.{Gives, is_start, is_entered, is_made, word_seen, word_before, exchange_seen, spun_seen, took_seen, stored_seen, woken_seen}
 use Rattle.parking_lot_protocol.specs.MutexTable as mt
 use Rattle.parking_lot_protocol.specs.RwTable as rt
@@ -30,6 +30,7 @@ use Rattle.parking_lot_world.specs.declared.seat.Core.{Core}
 use Rattle.parking_lot_world.specs.declared.seat.Core.TheVariants as core
 use Rattle.parking_lot_world.specs.Stances.{Doing, Takes, Stores, Tells, Stance, Out, In, Asleep, sign, mutex_stance, rw_stance, stance, mutex_taken, rw_taken, taken_count, core_act, core_next}
 use Rattle.parking_lot_world.specs.StanceLaws.{Leads, LeadsCore, rw_counts, Counts, TakesOne, IsOver, HasSmallKey}
+use Rattle.parking_lot_rules.specs.Classes.{bit}
 
 -- what holds of both holds of either
 pick : {X : Type 0} (P : X → Type 0) (b : Bool) (x y : X) → P x → P y → P (cond b x y)
@@ -87,7 +88,7 @@ mutex_leads (m.Takes a) word (seen.Took None left) g = (0, refl, (refl, refl))
 mutex_leads (m.Takes a) word (seen.Took (Some token) left) g = (0, refl, tt)
 mutex_leads (m.Stores a taken left) word (seen.Stored fair) g = go (taken && (a.fair || fair))
   where
-    go : (b : Bool) → Leads (mt.act_of (m.Stores a taken left)) (seen.Stored fair) (In 0 Stores) (In 0 (Tells (sign b))) (mt.bit taken) (mt.bit taken) (mt.wakes_with (m.Leaves a taken b))
+    go : (b : Bool) → Leads (mt.act_of (m.Stores a taken left)) (seen.Stored fair) (In 0 Stores) (In 0 (Tells (sign b))) (bit taken) (bit taken) (mt.wakes_with (m.Leaves a taken b))
     go true = (0, refl, refl, refl)
     go false = (0, refl, refl, refl)
 mutex_leads (m.Leaves a true handed) word seen.Made g = inr (inr (0, sign handed, refl, refl, refl))
@@ -196,7 +197,7 @@ rw_leads (r.EnterWriterWakeSection rest) word seen.Entered g = (refl, inr refl, 
 rw_leads (r.TakeWriter rest) word (seen.Took None left) g = (1, refl, (refl, refl))
 rw_leads (r.TakeWriter rest) word (seen.Took (Some token) left) g = (1, refl, tt)
 rw_leads (r.ClearWriterParked rest taken) word (seen.Before w) g = (refl, refl, refl)
-rw_leads (r.LeaveWriterWakeSection rest taken) word seen.Made g = let i = wakes_count rest (mt.bit taken) in inr (inr (1, sign false, refl, i.0, i.1))
+rw_leads (r.LeaveWriterWakeSection rest taken) word seen.Made g = let i = wakes_count rest (bit taken) in inr (inr (1, sign false, refl, i.0, i.1))
 rw_leads (r.Unlocks fair rest) word seen.Exchanged g = let i = over_idle rest in (refl, i.0, i.1)
 rw_leads (r.Unlocks fair rest) word (seen.Word w) g = (refl, refl, refl)
 rw_leads (r.LooksExclusive fair rest) word seen.Entered g = (refl, inr refl, refl)
@@ -251,7 +252,7 @@ scan_takes a token left (inl h) =
 scan_takes a token left (inr h) =
     let b : Scanning = record a { writer = true } in
     let rest : Option Scanning = cond (token.0 == 20) (Some (record a { upgradable = true })) None in
-    let was : mt.bit a.writer ≡ 0 = ap mt.bit h.1 in
+    let was : bit a.writer ≡ 0 = ap bit h.1 in
     subst (λ (o : Option Scanning). let q = option_map_or (λ p. p) (option_map (rt.goes_on left) o) r.Invalid in TakesOne (In 0 Takes) (rw_stance q) (rt.count_of a) (rw_taken q))
     (sym (cond-false (token.0 == 16) (Some (record a { shared = min (a.shared + 1) (2 ^ 32 - 1) })) (cond (token.0 == 8) (Some b) rest) (ne_eqb token.0 16 (λ e. absurd (let z = h.0 in omega arith)))
     ∙ cond-true (token.0 == 8) (Some b) rest (eq-eqb token.0 8 h.0)))
@@ -459,7 +460,7 @@ rw_next_some (r.Unshares rest) s = if_seen (word_before s) _ (λ w. pick HasSome
 rw_next_some (r.EnterWriterWakeSection rest) s = if_once (is_entered s) _ tt
 rw_next_some (r.TakeWriter rest) s = if_seen (took_seen s) (λ t. r.ClearWriterParked rest (is_some t.token)) (λ x. tt)
 rw_next_some (r.ClearWriterParked rest taken) s = if_seen (word_before s) (λ w. r.LeaveWriterWakeSection rest taken) (λ x. tt)
-rw_next_some (r.LeaveWriterWakeSection rest taken) s = if_once (is_made s) _ (wakes_has_some rest (mt.bit taken))
+rw_next_some (r.LeaveWriterWakeSection rest taken) s = if_once (is_made s) _ (wakes_has_some rest (bit taken))
 rw_next_some (r.Unlocks fair rest) s = if_seen (exchange_seen s) _ (won_some (rt.over rest) (λ w. r.LooksExclusive fair rest) (over_some rest) (λ w. tt))
 rw_next_some (r.LooksExclusive fair rest) s = if_once (is_entered s) _ tt
 rw_next_some r.Downgrades s = if_seen (word_before s) _ (λ w. pick HasSome (rt.is_parked w) r.EnterWakeSection (r.Ends outcome.Downgraded) tt tt)

@@ -5,8 +5,8 @@ use Rattle.std.proofs.lemmas.Option.{none-some, same_Some, slice_get-get_or}
 use Rattle.std.proofs.lemmas.List.{length-set}
 use Rattle.std.specs.Option.{option_and_then}
 use Rattle.std.specs.Prelude.{get_or}
-use Rattle.parking_lot_core.specs.declared.place.Waiter.{Waiter}
-use Rattle.parking_lot_core.proofs.Numbers.{count_by-set, flag}
+use Rattle.parking_lot_core_lot.specs.declared.place.Waiter.{Waiter}
+use Rattle.parking_lot_core_lot.proofs.Numbers.{count_by-set, flag}
 use Rattle.parking_lot_rules.specs.Roles.{Role, Idle}
 use Rattle.parking_lot_rules.specs.Mutex as mutex
 use Rattle.parking_lot_rules.specs.Any.{AnyLock, AnyStep, any_rules, any_crossing}
@@ -27,7 +27,7 @@ use Rattle.parking_lot_rules.specs.Roles.{Owned}
 use Rattle.parking_lot_world.specs.declared.seat.QueuePosition.{QueuePosition}
 use Rattle.parking_lot_world.specs.declared.seat.QueuePosition.TheVariants as spot
 use Rattle.parking_lot_world.specs.Rows.{State, word_at, call_at, hold_at, taken_by, rw_spot, first_of_all, mutex_spot, mutex_role_in, mutex_role_at, mutex_core_role, mutex_at, rw_role_in, rw_role_at, rw_core_role, rw_lock_at, inside, one_bucket}
-use Rattle.parking_lot_world.specs.Stances.{rw_begun, mutex_begun, core_act, core_next}
+use Rattle.parking_lot_world.specs.Stances.{has_begun, rw_begun, mutex_begun, core_act, core_next}
 use Rattle.parking_lot_world.specs.RowActs.{with_call, hears, begun}
 use Rattle.parking_lot_world.specs.RowFits.{FitsTogether, LotFits, WakesFit, RulesFit, IsOfKind, IsPrepared, KnowsList, rw_prepared, rw_knows, mutex_knows, is_off, is_away}
 use Rattle.parking_lot_rules.specs.Holds.{shared_holds}
@@ -42,7 +42,7 @@ use Rattle.parking_lot_rules.specs.Family.{Crossing}
 use Rattle.parking_lot_world.specs.declared.seat.Wakeup.{Wakeup}
 use Rattle.parking_lot_world.specs.MutexLaws.{Plays, IsOwnStep, crossing_of}
 use Rattle.parking_lot_world.specs.ActLaws.{Acts, OwnsFor, MayBegin}
-use Rattle.parking_lot_world.proofs.Beginning.{goes_on}
+use Rattle.parking_lot_world.proofs.Spinning.{unbegun_few, under_way}
 use Rattle.parking_lot_world.proofs.LotActs.{begun_fits}
 use Rattle.parking_lot_world.proofs.MutexMoving.{steps}
 use Rattle.parking_lot_world.proofs.MutexRoles.{words}
@@ -309,7 +309,7 @@ module _ (s : State) (t : ℕ) (c : Call) (may : MayBegin s t c) (h : FitsTogeth
           (let known = begin_knows k.phase (s.lot.queues (2 * c.lock)) (s.lot.queues (2 * c.lock + 1)) owns_rw.0 in
           lists_are_known.learns k.phase (word_at s c.lock) seen.Start (s.lot.queues (2 * c.lock)) (s.lot.queues (2 * c.lock + 1)) (s.lot.queues (2 * c.lock)) (s.lot.queues (2 * c.lock + 1)) told_rw known.0 known.1);
       beside = may.beside;
-      begun = goes_on c.core seen.Start;
+      begun = under_way c.core seen.Start (unbegun_few c.core (ap has_begun e ∙ owns_rw.0));
     }
 
   begin_tells : (v : ℕ) (vs : List ℕ) (p : MutexPhase) → mutex_begun p ≡ false → TellsOf (of_mutex.move v p seen.Start) vs v
@@ -365,7 +365,7 @@ module _ (s : State) (t : ℕ) (c : Call) (may : MayBegin s t c) (h : FitsTogeth
       prepared = subst (λ (x : Core). IsPrepared c.others (core_next x seen.Start)) (sym e) owns_mx.1;
       knows = subst (λ (x : Core). KnowsList (core_next x seen.Start) s.lot.queues c.lock) (sym e) (begin_waits k.phase (s.lot.queues (2 * c.lock)) owns_mx.0);
       beside = may.beside;
-      begun = goes_on c.core seen.Start;
+      begun = under_way c.core seen.Start (unbegun_few c.core (ap has_begun e ∙ owns_mx.0));
     }
 
     small_mx : word_at s c.lock < 4

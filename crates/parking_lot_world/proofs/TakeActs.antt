@@ -1,11 +1,11 @@
 -- A thread that takes the first of a list: the machine stays fit, and it is a step of the rules.
 use Rattle.std.proofs.Common.{◌≡◌, ℕ, inl, inr, false, remove, None, Some, slice_get, refl, sym, ap, ◌∙◌, subst}
 use Rattle.std.proofs.lemmas.Bool.{cases_eq}
-use Rattle.parking_lot_core.specs.declared.parking.ParkToken.{ParkToken}
-use Rattle.parking_lot_core.specs.declared.place.Waiter.{Waiter}
-use Rattle.parking_lot_core.specs.Results.{is_left}
-use Rattle.parking_lot_core.specs.Sound as lot
-use Rattle.parking_lot_core.specs.declared.parking.FilterOp.TheVariants.{Unpark}
+use Rattle.parking_lot_core_lot.specs.declared.parking.ParkToken.{ParkToken}
+use Rattle.parking_lot_core_lot.specs.declared.place.Waiter.{Waiter}
+use Rattle.parking_lot_core_lot.specs.Results.{is_left}
+use Rattle.parking_lot_core_lot.specs.Sound as lot
+use Rattle.parking_lot_core_lot.specs.declared.parking.FilterOp.TheVariants.{Unpark}
 use Rattle.parking_lot_protocol.specs.declared.act.Act.TheVariants as act
 use Rattle.parking_lot_protocol.specs.declared.act.SectionAct.TheVariants as section
 use Rattle.parking_lot_protocol.specs.declared.act.ActResult.{ActResult}
@@ -26,7 +26,7 @@ use Rattle.parking_lot_world.specs.RowActs.{hears, key_of, off_list, took}
 use Rattle.parking_lot_world.specs.RowFits.{FitsTogether, LotFits, RulesFit}
 use Rattle.parking_lot_world.specs.ActLaws.{Acts}
 use Rattle.parking_lot_world.proofs.Stancing.{leads_by, small_key, takings_count}
-use Rattle.parking_lot_world.proofs.Beginning.{goes_on}
+use Rattle.parking_lot_world.proofs.Spinning.{under_way}
 use Rattle.parking_lot_world.proofs.Carrying.{same_call}
 use Rattle.parking_lot_world.proofs.LotTakes.{took_fits}
 use Rattle.parking_lot_world.proofs.Ruling.{CallFits, call_fits, rules_after}
@@ -72,7 +72,7 @@ module _ (s : State) (t : ℕ) (c : Call) (k : ℕ) (w : Waiter) (from : stance 
       mine : CallFits s.kinds u.lot.queues (hears c told)
       mine =
           let f = call_fits s h.rules t c here in
-          record { kind = same_kind c.core told (slice_get s.kinds c.lock) f.kind; prepared = so.1; knows = so.2; beside = f.beside; begun = goes_on c.core told }
+          record { kind = same_kind c.core told (slice_get s.kinds c.lock) f.kind; prepared = so.1; knows = so.2; beside = f.beside; begun = under_way c.core told f.begun.few }
 
       its : CallFits s.kinds u.lot.queues (off_list t (the_sleeper s t c k w from at h here).call)
       its =

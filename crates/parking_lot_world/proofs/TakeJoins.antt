@@ -2,12 +2,12 @@
 use Rattle.std.proofs.Common.{◌≡◌, ◌≢◌, ℕ, ◌+◌, ◌*◌, ◌<◌, false, List, [], ◌∷◌, ◌++◌, Some, slice_get, refl, sym, ap, ◌∙◌, subst, arith}
 use Rattle.std.proofs.lemmas.Bool.{ne_eqb}
 use Rattle.std.proofs.lemmas.List.{map-append}
-use Rattle.parking_lot_core.specs.declared.parking.ParkToken.{ParkToken}
-use Rattle.parking_lot_core.specs.declared.place.Waiter.{Waiter}
-use Rattle.parking_lot_core.specs.declared.place.Phase.TheVariants as phase
-use Rattle.parking_lot_core.specs.Machine.{threads_of}
-use Rattle.parking_lot_core.specs.Sound as lot
-use Rattle.parking_lot_core.proofs.Kept.{updated_at, updated_other}
+use Rattle.parking_lot_core_lot.specs.declared.parking.ParkToken.{ParkToken}
+use Rattle.parking_lot_core_lot.specs.declared.place.Waiter.{Waiter}
+use Rattle.parking_lot_core_lot.specs.declared.place.Phase.TheVariants as phase
+use Rattle.parking_lot_core_lot.specs.Machine.{threads_of}
+use Rattle.parking_lot_core_lot.specs.Sound as lot
+use Rattle.parking_lot_core_lot.proofs.Kept.{updated_at, updated_other}
 use Rattle.parking_lot_protocol.specs.declared.act.Act.{Act}
 use Rattle.parking_lot_protocol.specs.declared.act.Act.TheVariants as act
 use Rattle.parking_lot_protocol.specs.declared.act.SectionAct.TheVariants as section
@@ -42,7 +42,7 @@ use Rattle.parking_lot_world.proofs.LotActs.{awake_by}
 use Rattle.parking_lot_world.proofs.LotLists.{one_key, appended_fits}
 use Rattle.parking_lot_world.proofs.RwMoving.{joins_are_steps}
 use Rattle.parking_lot_world.proofs.MutexMoving.{steps}
-use Rattle.parking_lot_world.proofs.Beginning.{goes_on}
+use Rattle.parking_lot_world.proofs.Spinning.{under_way}
 use Rattle.parking_lot_world.proofs.OwnActs.{plays}
 use Rattle.parking_lot_world.proofs.Lifting.{same_rw, same_mutex}
 use Rattle.parking_lot_world.proofs.Making.{IsSoundState, made_rw, made_mutex}
@@ -116,7 +116,7 @@ module _ (s : State) (t : ℕ) (c : Call) (k : ℕ) (token : ParkToken) (asked :
   Joined x = IsMoveOf x c.others (taken_by s.wakes t) seen.Made c.lock t s u × IsPrepared c.others (NextOf x) × KnowsList (NextOf x) u.lot.queues c.lock × IsSoundState u
 
   goes : Joined c.core → RulesFit u × Goes t c seen.Made s u
-  goes j = (rules_own s u t c seen.Made (NextOf c.core) spot.Listed own h others (same_kind c.core seen.Made) j.1 j.2 (goes_on c.core seen.Made) (h.rules.bits c.lock) j.3, j.0)
+  goes j = (rules_own s u t c seen.Made (NextOf c.core) spot.Listed own h others (same_kind c.core seen.Made) j.1 j.2 (under_way c.core seen.Made (h.rules.begun t c here).few) (h.rules.bits c.lock) j.3, j.0)
 
   -- AT A READER-WRITER LOCK
 

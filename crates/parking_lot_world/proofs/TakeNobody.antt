@@ -1,8 +1,8 @@
 -- A thread that takes waiters and finds nobody: the machine stays fit, and nothing changes at its lock.
 use Rattle.std.proofs.Common.{◌≡◌, ◌≢◌, ℕ, ◌+◌, ◌*◌, ◌⊎◌, inl, inr, Bool, false, List, [], Some, None, slice_get, refl, sym, ap, ◌∙◌, subst, arith}
-use Rattle.parking_lot_core.specs.declared.place.Phase.TheVariants as phase
-use Rattle.parking_lot_core.specs.Results.{is_left}
-use Rattle.parking_lot_core.specs.Sound as lot
+use Rattle.parking_lot_core_lot.specs.declared.place.Phase.TheVariants as phase
+use Rattle.parking_lot_core_lot.specs.Results.{is_left}
+use Rattle.parking_lot_core_lot.specs.Sound as lot
 use Rattle.parking_lot_protocol.specs.declared.act.Act.{Act}
 use Rattle.parking_lot_protocol.specs.declared.act.Act.TheVariants as act
 use Rattle.parking_lot_protocol.specs.declared.act.SectionAct.TheVariants as section
@@ -29,7 +29,7 @@ use Rattle.parking_lot_world.specs.RwLaws.{with_role}
 use Rattle.parking_lot_world.proofs.Stancing.{leads_by}
 use Rattle.parking_lot_world.proofs.RwMoving.{stays_are_steps}
 use Rattle.parking_lot_world.proofs.MutexMoving.{steps}
-use Rattle.parking_lot_world.proofs.Beginning.{goes_on}
+use Rattle.parking_lot_world.proofs.Spinning.{under_way}
 use Rattle.parking_lot_world.proofs.Carrying.{up_sleeps}
 use Rattle.parking_lot_world.proofs.LotActs.{up_by}
 use Rattle.parking_lot_world.proofs.LotSections.{took_nobody_fits}
@@ -119,7 +119,7 @@ module _ (s : State) (t : ℕ) (c : Call) (k : ℕ) (from : stance c.core ≡ In
   Finds x = IsMoveOf x c.others (taken_by s.wakes t) told c.lock t s u × IsPrepared c.others (NextOf x) × KnowsList (NextOf x) u.lot.queues c.lock × IsSoundState u
 
   goes : Finds c.core → RulesFit u × Goes t c told s u
-  goes j = (rules_own s u t c told (NextOf c.core) c.spot own h others (same_kind c.core told) j.1 j.2 (goes_on c.core told) (h.rules.bits c.lock) j.3, j.0)
+  goes j = (rules_own s u t c told (NextOf c.core) c.spot own h others (same_kind c.core told) j.1 j.2 (under_way c.core told (h.rules.begun t c here).few) (h.rules.bits c.lock) j.3, j.0)
 
   list_empty : (key : ℕ) → key ≡ key_of c k → s.lot.queues key ≡ []
   list_empty key e = ap s.lot.queues e ∙ empty

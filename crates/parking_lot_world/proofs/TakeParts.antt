@@ -6,12 +6,12 @@ use Rattle.std.proofs.lemmas.List.Elements.{filter-append}
 use Rattle.std.proofs.lemmas.Option.{none-some, same_Some}
 use Rattle.std.specs.Prelude.{count_by, filter}
 use Rattle.std.specs.Option.{option_map, option_map_or}
-use Rattle.parking_lot_core.specs.declared.place.Waiter.{Waiter}
-use Rattle.parking_lot_core.specs.Machine.{threads_of}
-use Rattle.parking_lot_core.specs.Places.{place_at, mark_of}
-use Rattle.parking_lot_core.specs.Results.{is_left}
-use Rattle.parking_lot_core.proofs.Kept.{updated_at, updated_other, slice_get-seam}
-use Rattle.parking_lot_core.proofs.Numbers.{flag, count_by-set}
+use Rattle.parking_lot_core_lot.specs.declared.place.Waiter.{Waiter}
+use Rattle.parking_lot_core_lot.specs.Machine.{threads_of}
+use Rattle.parking_lot_core_lot.specs.Places.{place_at, mark_of}
+use Rattle.parking_lot_core_lot.specs.Results.{is_left}
+use Rattle.parking_lot_core_lot.proofs.Kept.{updated_at, updated_other, slice_get-seam}
+use Rattle.parking_lot_core_lot.proofs.Numbers.{flag, count_by-set}
 use Rattle.parking_lot_protocol.specs.declared.act.ActResult.{ActResult}
 use Rattle.parking_lot_protocol.specs.declared.act.ActResult.TheVariants as seen
 use Rattle.parking_lot_protocol.specs.Acts.{Gives}

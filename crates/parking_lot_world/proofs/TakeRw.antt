@@ -1,12 +1,12 @@
 -- A thread that takes the first of a list of a reader-writer lock makes a step of the rules.
 use Rattle.std.proofs.Common.{◌≡◌, ◌≢◌, ◌≤◌, ℕ, ◌+◌, ◌*◌, ◌⊎◌, inl, inr, false, List, [], ◌∷◌, ◌++◌, length, remove, Some, slice_get, slice_set, refl, sym, ap, ◌∙◌, subst, arith}
-use Rattle.parking_lot_core.specs.declared.place.Waiter.{Waiter}
-use Rattle.parking_lot_core.specs.declared.place.Phase.TheVariants as phase
-use Rattle.parking_lot_core.specs.Results.{is_left}
-use Rattle.parking_lot_core.specs.Machine.{threads_of}
+use Rattle.parking_lot_core_lot.specs.declared.place.Waiter.{Waiter}
+use Rattle.parking_lot_core_lot.specs.declared.place.Phase.TheVariants as phase
+use Rattle.parking_lot_core_lot.specs.Results.{is_left}
+use Rattle.parking_lot_core_lot.specs.Machine.{threads_of}
 use Rattle.parking_lot_rules.specs.Roles.{Role, Shares, Asleep, Open, Taken1, Taken2}
 use Rattle.parking_lot_rules.specs.Steps.{Take1, Take2}
-use Rattle.parking_lot_core.specs.declared.parking.FilterOp.TheVariants.{Unpark}
+use Rattle.parking_lot_core_lot.specs.declared.parking.FilterOp.TheVariants.{Unpark}
 use Rattle.parking_lot_protocol.specs.declared.act.Act.TheVariants as act
 use Rattle.parking_lot_protocol.specs.declared.act.SectionAct.TheVariants as section
 use Rattle.parking_lot_protocol.specs.declared.rw_core.RwCore.{RwCore}

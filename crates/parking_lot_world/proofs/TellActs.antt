@@ -1,7 +1,7 @@
 -- The acts that tell and wake: each keeps the machine fit, and is a step of the rules.
 use Rattle.std.proofs.Common.{◌≡◌, ℕ, inl, inr, cond, Bool, false, Some, slice_get, refl, sym, ap, ◌∙◌, subst, arith}
-use Rattle.parking_lot_core.specs.declared.parking.UnparkToken.{UnparkToken}
-use Rattle.parking_lot_core.specs.Sound as lot
+use Rattle.parking_lot_core_lot.specs.declared.parking.UnparkToken.{UnparkToken}
+use Rattle.parking_lot_core_lot.specs.Sound as lot
 use Rattle.parking_lot_protocol.specs.declared.act.Act.TheVariants as act
 use Rattle.parking_lot_protocol.specs.declared.act.SectionAct.TheVariants as section
 use Rattle.parking_lot_protocol.specs.declared.act.WordChange.{WordChange}

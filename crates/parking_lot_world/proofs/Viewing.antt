@@ -1,7 +1,10 @@
 -- What the calls and holds of a machine say of its threads is what the locks of the rules say.
-use Rattle.std.proofs.Common.{◌≡◌, ◌≢◌, ℕ, zero, suc, ◌<◌, ◌||◌, cond, false, List, length, Option, None, Some, slice_get, refl, sym, ap, ◌∙◌}
+use Rattle.std.proofs.Common.{◌≡◌, ◌≢◌, ℕ, zero, suc, ◌<◌, ◌≤◌, ◌||◌, inl, inr, cond, Bool, true, false, List, length, Option, None, Some, slice_get, refl, sym, ap, ◌∙◌, arith}
+use Rattle.std.specs.Prelude.{nat_lt, if◌then◌else◌}
 use Rattle.std.specs.Option.{option_and_then, option_map_or}
-use Rattle.std.proofs.lemmas.Bool.{ne_eqb}
+use Rattle.std.proofs.Math.Nat.{mul-le-mul_right}
+use Rattle.std.proofs.lemmas.Bool.{cases_lt, ne_eqb}
+use Rattle.std.proofs.lemmas.Option.{slice_get_past}
 use Rattle.parking_lot_rules.specs.Roles.{Idle, Role}
 use Rattle.parking_lot_rules.specs.Debts as rw_debts
 use Rattle.parking_lot_rules.specs.Mutex as mutex
@@ -13,11 +16,11 @@ use Rattle.parking_lot_world.specs.declared.seat.Hold.TheVariants as hold
 use Rattle.parking_lot_world.specs.declared.seat.Core.{Core}
 use Rattle.parking_lot_world.specs.declared.seat.Core.TheVariants as core
 use Rattle.parking_lot_world.specs.declared.open_call.Call.{Call}
-use Rattle.parking_lot_world.specs.Rows.{State, any_lock, call_at, everybody, hold_at, lock_at, mutex_core_role, mutex_role_at, mutex_role_in, owned_of, owns_mutex, rw_core_role, rw_role_at, rw_role_in, taken_by}
+use Rattle.parking_lot_world.specs.Rows.{State, any_lock, call_at, cell, everybody, hold_at, lock_at, mutex_core_role, mutex_role_at, mutex_role_in, owned_of, owns_mutex, rw_core_role, rw_role_at, rw_role_in, taken_by}
 use Rattle.parking_lot_world.specs.RowFits.{FitsTogether, IsOfKind}
 use Rattle.parking_lot_world.specs.CallViews.{call_in_debt, call_looks, call_mode, core_in_debt, core_mode, mutex_mode, rw_mode}
 use Rattle.parking_lot_world.specs.Worlds.{hold_mode, in_debt_at, is_indebted, mode_in}
-use Rattle.parking_lot_world.proofs.Everybody.{get-all}
+use Rattle.parking_lot_world.proofs.Everybody.{get-all, past}
 use Rattle.parking_lot_world.proofs.Lifting.{mutex_there, rw_there}
 use Rattle.parking_lot_world.proofs.Meeting.{in_range}
 
@@ -41,18 +44,18 @@ abbrev pub IsApart : ℕ → Option Call → Type 0
 IsApart i None = Unit {0}
 IsApart i (Some c) = c.lock ≢ i
 
-rw_apart : (i : ℕ) (us : List ℕ) (h : Hold) (o : Option Call) → IsApart i o → rw_role_in i us h o ≡ record { owns = owned_of h; does = Idle }
+pub rw_apart : (i : ℕ) (us : List ℕ) (h : Hold) (o : Option Call) → IsApart i o → rw_role_in i us h o ≡ record { owns = owned_of h; does = Idle }
 rw_apart i us h None e = refl
 rw_apart i us h (Some c) e = ap (λ b. cond b (rw_core_role c.others c.spot us c.core) (record { owns = owned_of h; does = Idle })) (ne_eqb c.lock i e)
 
-mutex_apart : (i : ℕ) (us : List ℕ) (h : Hold) (o : Option Call) → IsApart i o → mutex_role_in i us h o ≡ record { owns = owns_mutex h; does = mutex.Idle }
+pub mutex_apart : (i : ℕ) (us : List ℕ) (h : Hold) (o : Option Call) → IsApart i o → mutex_role_in i us h o ≡ record { owns = owns_mutex h; does = mutex.Idle }
 mutex_apart i us h None e = refl
 mutex_apart i us h (Some c) e = ap (λ b. cond b (mutex_core_role c.spot us c.core) (record { owns = owns_mutex h; does = mutex.Idle })) (ne_eqb c.lock i e)
 
 module _ (s : State) (t : ℕ) where
   module _ (low : t < length s.calls) where
     -- between its calls
-    pub apart_mode : (i : ℕ) → IsApart i (call_at s t) → mode_in (lock_at s i) t ≡ hold_mode (slice_get s.kinds i) (hold_at s t i)
+    apart_mode : (i : ℕ) → IsApart i (call_at s t) → mode_in (lock_at s i) t ≡ hold_mode (slice_get s.kinds i) (hold_at s t i)
     apart_mode i apart = go (slice_get s.kinds i)
       where
         reads : option_and_then rw_mode (slice_get (everybody (rw_role_at s i) s) t) ≡ rw_mode (record { owns = owned_of (hold_at s t i); does = Idle })
@@ -65,12 +68,36 @@ module _ (s : State) (t : ℕ) where
             ap (option_and_then mutex_mode) (get-all (mutex_role_at s i) (length s.calls) t low) ∙ ap mutex_mode (mutex_apart i (taken_by s.wakes t) (hold_at s t i) (call_at s t) apart)
             ∙ idle_mutex (hold_at s t i)
 
+  -- beyond the last thread
+  module _ (fit : FitsTogether s) (high : length s.calls ≤ t) where
+    nothing_held : (i : ℕ) → hold_at s t i ≡ hold.Shares 0
+    nothing_held i = both_ways_in (nat_lt i (length s.kinds))
+      where
+        both_ways_in : (b : Bool) → (if b then option_map_or (λ h. h) (slice_get s.holds (cell s t i)) (hold.Shares 0) else hold.Shares 0) ≡ hold.Shares 0
+        both_ways_in true = ap (λ o. option_map_or (λ h. h) o (hold.Shares 0)) (slice_get_past s.holds (cell s t i) (omega (arith, fit.rules.size_holds, mul-le-mul_right (length s.kinds) high)))
+        both_ways_in false = refl
+
+    unowned : (i : ℕ) → mode_in (lock_at s i) t ≡ hold_mode (slice_get s.kinds i) (hold_at s t i)
+    unowned i = go (slice_get s.kinds i) ∙ sym (ap (hold_mode (slice_get s.kinds i)) (nothing_held i))
+      where
+        go : (k : Option LockKind) → mode_in (any_lock k s i) t ≡ hold_mode k (hold.Shares 0)
+        go (Some kind.Rw) = ap (option_and_then rw_mode) (past (rw_role_at s i) (length s.calls) t high)
+        go None = ap (option_and_then rw_mode) (past (rw_role_at s i) (length s.calls) t high)
+        go (Some kind.Mutex) = ap (option_and_then mutex_mode) (past (mutex_role_at s i) (length s.calls) t high)
+
+  -- between its calls, and beyond the last thread
+  pub apart_owner : FitsTogether s → (i : ℕ) → IsApart i (call_at s t) → mode_in (lock_at s i) t ≡ hold_mode (slice_get s.kinds i) (hold_at s t i)
+  apart_owner fit i apart = elim (cases_lt t (length s.calls)) [
+    | inl low ↦ apart_mode low i apart
+    | inr high ↦ unowned fit high i
+  ]
+
   module _ (fit : FitsTogether s) (c : Call) (there : call_at s t ≡ Some c) where
     -- it is in the role that its call says
-    rw_role : rw_role_at s c.lock t ≡ rw_core_role c.others c.spot (taken_by s.wakes t) c.core
+    pub rw_role : rw_role_at s c.lock t ≡ rw_core_role c.others c.spot (taken_by s.wakes t) c.core
     rw_role = ap (rw_role_in c.lock (taken_by s.wakes t) (hold_at s t c.lock)) there ∙ rw_there (taken_by s.wakes t) (hold_at s t c.lock) c
 
-    mutex_role : mutex_role_at s c.lock t ≡ mutex_core_role c.spot (taken_by s.wakes t) c.core
+    pub mutex_role : mutex_role_at s c.lock t ≡ mutex_core_role c.spot (taken_by s.wakes t) c.core
     mutex_role = ap (mutex_role_in c.lock (taken_by s.wakes t) (hold_at s t c.lock)) there ∙ mutex_there (taken_by s.wakes t) (hold_at s t c.lock) c
 
     get_rw : slice_get (everybody (rw_role_at s c.lock) s) t ≡ Some (rw_core_role c.others c.spot (taken_by s.wakes t) c.core)

@@ -5,9 +5,9 @@ use Rattle.std.proofs.lemmas.Bool.{eqb-false}
 use Rattle.std.proofs.lemmas.List.{length_push}
 use Rattle.std.proofs.lemmas.List.Edits.{length-remove}
 use Rattle.std.proofs.lemmas.Option.{slice_get_within}
-use Rattle.parking_lot_core.proofs.Kept.{slice_get-seam, eqb_false_symm}
-use Rattle.parking_lot_core.proofs.Numbers.{flag, count_by-set, count_by-map_same}
-use Rattle.parking_lot_core.proofs.Sounds.{none≢some, by_eqb}
+use Rattle.parking_lot_core_lot.proofs.Kept.{slice_get-seam, eqb_false_symm}
+use Rattle.parking_lot_core_lot.proofs.Numbers.{flag, count_by-set, count_by-map_same}
+use Rattle.parking_lot_core_lot.proofs.Sounds.{none≢some, by_eqb}
 use Rattle.parking_lot_world.specs.declared.seat.QueuePosition.{QueuePosition}
 use Rattle.parking_lot_world.specs.declared.seat.QueuePosition.TheVariants as spot
 use Rattle.parking_lot_world.specs.declared.seat.WakeResult.{WakeResult}

@@ -1,7 +1,7 @@
 -- Who is off its list is to be woken by who took it, and those are as many as are to be woken.
 use Rattle.std.proofs.Common.{◌≡◌, ℕ, List, length, Some, slice_get, sym, ap, ◌∙◌, subst, arith}
 use Rattle.std.specs.Prelude.{count_by}
-use Rattle.parking_lot_core.proofs.Numbers.{count_by-set}
+use Rattle.parking_lot_core_lot.proofs.Numbers.{count_by-set}
 use Rattle.parking_lot_protocol.specs.declared.act.ActResult.{ActResult}
 use Rattle.parking_lot_world.specs.declared.seat.QueuePosition.TheVariants as spot
 use Rattle.parking_lot_world.specs.declared.seat.Core.{Core}

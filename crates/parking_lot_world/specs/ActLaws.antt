@@ -1,6 +1,6 @@
 -- What each act of the machine keeps, and which step of the rules it is.
 use Rattle.std.specs.Prelude.{◌≡◌, ℕ, ◌<◌, ◌≤◌, false, length, None, Some, slice_get}
-use Rattle.parking_lot_core.specs.Sound as lot
+use Rattle.parking_lot_core_lot.specs.Sound as lot
 use Rattle.parking_lot_protocol.specs.declared.act.Act.TheVariants as act
 use Rattle.parking_lot_protocol.specs.declared.act.SectionAct.TheVariants as section
 use Rattle.parking_lot_protocol.specs.declared.act.ActResult.{ActResult}

@@ -1,15 +1,15 @@
 -- What a section takes that has passed nobody, by a filter that wants whoever is first.
 use Rattle.std.specs.Prelude.{◌≡◌, ℕ, ◌⊎◌, [], Option, Some, None, Result, Ok, slice_get}
-use Rattle.parking_lot_core.specs.declared.fault.LotFault.{LotFault}
-use Rattle.parking_lot_core.specs.declared.parking.FilterOp.{FilterOp}
-use Rattle.parking_lot_core.specs.declared.parking.FilterOp.TheVariants.{Unpark}
-use Rattle.parking_lot_core.specs.declared.parking.ParkToken.{ParkToken}
-use Rattle.parking_lot_core.specs.declared.place.Phase.TheVariants as phase
-use Rattle.parking_lot_core.specs.declared.place.Section.{Section}
-use Rattle.parking_lot_core.specs.declared.place.Taking.{Taking}
-use Rattle.parking_lot_core.specs.declared.place.Waiter.{Waiter}
-use Rattle.parking_lot_core.specs.Machine.{Machine, taking_of, in_phase, taken, TakesNext}
-use Rattle.parking_lot_core.specs.Places.{passed_of}
+use Rattle.parking_lot_core_lot.specs.declared.fault.LotFault.{LotFault}
+use Rattle.parking_lot_core_lot.specs.declared.parking.FilterOp.{FilterOp}
+use Rattle.parking_lot_core_lot.specs.declared.parking.FilterOp.TheVariants.{Unpark}
+use Rattle.parking_lot_core_lot.specs.declared.parking.ParkToken.{ParkToken}
+use Rattle.parking_lot_core_lot.specs.declared.place.Phase.TheVariants as phase
+use Rattle.parking_lot_core_lot.specs.declared.place.Section.{Section}
+use Rattle.parking_lot_core_lot.specs.declared.place.Taking.{Taking}
+use Rattle.parking_lot_core_lot.specs.declared.place.Waiter.{Waiter}
+use Rattle.parking_lot_core_lot.specs.Machine.{Machine, taking_of, in_phase, taken, TakesNext}
+use Rattle.parking_lot_core_lot.specs.Places.{passed_of}
 
 -- it takes the first of the list, or nobody where the list is empty
 abbrev pub FrontTaken : Machine → Machine → Result (Option Taking) LotFault → ℕ → Type 0

@@ -1,5 +1,6 @@
 pub mod Rows
 pub mod Stances
+pub mod Rounds
 pub mod Ranks
 pub mod RankLaws
 pub mod RowActs
@@ -19,3 +20,4 @@ pub mod FrontTakings
 pub mod Beginnings
 pub mod Machines
 pub mod Worlds
+pub mod SoundLaws

@@ -2,15 +2,15 @@
 use Rattle.std.specs.Prelude.{◌≡◌, ◌≢◌, ℕ, ◌+◌, ◌<◌, Bool, true, false, Some, None, length, slice_get, slice_set, [], replicate}
 use Rattle.std.specs.List.{position_or_len}
 use Rattle.std.specs.Option.{option_map_or}
-use Rattle.parking_lot_core.specs.declared.parking.ParkToken.{ParkToken}
-use Rattle.parking_lot_core.specs.declared.parking.UnparkToken.{UnparkToken}
-use Rattle.parking_lot_core.specs.declared.place.Place.TheVariants.{Running, Waiting, Taken}
-use Rattle.parking_lot_core.specs.declared.place.Section.{Section}
-use Rattle.parking_lot_core.specs.declared.place.Sleep.{Sleep}
-use Rattle.parking_lot_core.specs.declared.place.Waiter.{Waiter}
-use Rattle.parking_lot_core.specs.Machine.{Machine, registered, enter_fault, step_fault, resume_fault, section_of, any_phase, changed_at}
-use Rattle.parking_lot_core.specs.Places.{place_at, is_due, roused, may_check, may_join, may_take, may_store, passed_of}
-use Rattle.parking_lot_core.specs.Sound.{Sound}
+use Rattle.parking_lot_core_lot.specs.declared.parking.ParkToken.{ParkToken}
+use Rattle.parking_lot_core_lot.specs.declared.parking.UnparkToken.{UnparkToken}
+use Rattle.parking_lot_core_lot.specs.declared.place.Place.TheVariants.{Running, Waiting, Taken}
+use Rattle.parking_lot_core_lot.specs.declared.place.Section.{Section}
+use Rattle.parking_lot_core_lot.specs.declared.place.Sleep.{Sleep}
+use Rattle.parking_lot_core_lot.specs.declared.place.Waiter.{Waiter}
+use Rattle.parking_lot_core_lot.specs.Machine.{Machine, registered, enter_fault, step_fault, resume_fault, section_of, any_phase, changed_at}
+use Rattle.parking_lot_core_lot.specs.Places.{place_at, is_due, roused, may_check, may_join, may_take, may_store, passed_of}
+use Rattle.parking_lot_core_lot.specs.Sound.{Sound}
 use Rattle.parking_lot_protocol.specs.declared.act.Act.{Act}
 use Rattle.parking_lot_protocol.specs.declared.act.Act.TheVariants as act
 use Rattle.parking_lot_protocol.specs.declared.act.CoreAnswer.{CoreAnswer}

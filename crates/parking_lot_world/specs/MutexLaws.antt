@@ -1,10 +1,10 @@
 -- What an answer to a mutex's core is, as a step of a sound mutex.
 use Rattle.std.specs.Prelude.{◌≡◌, ◌≢◌, ℕ, ◌<◌, ◌==◌, Bool, true, false, List, [], ◌∷◌, ◌++◌, length, map, remove, Some, None, slice_get, slice_set, Option}
-use Rattle.parking_lot_core.specs.declared.parking.ParkToken.{ParkToken}
-use Rattle.parking_lot_core.specs.declared.parking.UnparkToken.{UnparkToken}
-use Rattle.parking_lot_core.specs.declared.place.Waiter.{Waiter}
-use Rattle.parking_lot_core.specs.Machine.{threads_of}
-use Rattle.parking_lot_core.specs.Results.{is_left}
+use Rattle.parking_lot_core_lot.specs.declared.parking.ParkToken.{ParkToken}
+use Rattle.parking_lot_core_lot.specs.declared.parking.UnparkToken.{UnparkToken}
+use Rattle.parking_lot_core_lot.specs.declared.place.Waiter.{Waiter}
+use Rattle.parking_lot_core_lot.specs.Machine.{threads_of}
+use Rattle.parking_lot_core_lot.specs.Results.{is_left}
 use Rattle.std.specs.Option.{option_map}
 use Rattle.parking_lot_rules.specs.Roles.{Mark, Open, Asleep}
 use Rattle.parking_lot_rules.specs.Mutex.{Role, Word, Inside, weight, number, Mutex, IsSound, Idle, Seeks, Taken, Unlocks, Wakes, Step, Alone, Join, Take, Allowed, after, doing, note_of, settle}
@@ -21,7 +21,8 @@ use Rattle.parking_lot_protocol.specs.declared.act.ActResult.TheVariants as seen
 use Rattle.parking_lot_protocol.specs.declared.mutex_phase.MutexPhase.{MutexPhase}
 use Rattle.parking_lot_protocol.specs.declared.mutex_phase.MutexPhase.TheVariants as phase
 use Rattle.parking_lot_protocol.specs.Acts.{word_after, Gives}
-use Rattle.parking_lot_protocol.specs.MutexTable.{act_of, next_phase, wakes_with, bit}
+use Rattle.parking_lot_protocol.specs.MutexTable.{act_of, next_phase, wakes_with}
+use Rattle.parking_lot_rules.specs.Classes.{bit}
 use Rattle.parking_lot_protocol.specs.MutexRules.{QueuePosition, Listed, Off, role, owns, owns_after, taken_of, Move, Stays, Makes, Joins, TakesOne, Tells, WakesOne, IsWoken, move, last_move, IsWord, mark_of}
 use Rattle.parking_lot_world.specs.declared.seat.Hold.{Hold}
 use Rattle.parking_lot_world.specs.declared.seat.WakeResult.{WakeResult}

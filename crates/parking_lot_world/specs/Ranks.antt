@@ -10,7 +10,6 @@ use Rattle.parking_lot_protocol.specs.declared.rw_phase.RwPhase.{RwPhase}
 use Rattle.parking_lot_protocol.specs.declared.rw_phase.RwPhase.TheVariants as r
 use Rattle.parking_lot_protocol.specs.declared.rw_phase.LockMode.{LockMode}
 use Rattle.parking_lot_protocol.specs.declared.rw_phase.LockMode.TheVariants as want
-use Rattle.parking_lot_protocol.specs.MutexTable as of_mutex
 use Rattle.parking_lot_protocol.specs.RwTable as of_rw
 use Rattle.parking_lot_world.specs.declared.calls.LockCall.{LockCall}
 use Rattle.parking_lot_world.specs.declared.calls.LockCall.TheVariants as call
@@ -18,6 +17,7 @@ use Rattle.parking_lot_world.specs.declared.seat.Core.{Core}
 use Rattle.parking_lot_world.specs.declared.seat.Core.TheVariants as core
 use Rattle.parking_lot_world.specs.declared.open_call.Call.{Call}
 use Rattle.parking_lot_world.specs.Rows.{State, word_at, call_at, first_key, inside}
+use Rattle.parking_lot_rules.specs.Classes.{bit}
 
 -- What counts of the machine for a thread's steps: nothing, where another thread is stepped, and all that it has seen may be out of date; else
 -- the word of its lock, how many wait in the first list, and whether another thread is inside a section and shuts it out.
@@ -60,7 +60,7 @@ mutex_ends v g = if g.again then 2 + mutex_asks v 10 else 1
 
 abbrev pub mutex_steps : View → MutexPhase → ℕ
 mutex_steps v (m.Loads a) = 1 + mutex_asks v a.rounds
-mutex_steps v (m.Locks a waiters) = if is_at v (2 * of_mutex.bit waiters) then 2 else 1 + mutex_asks v a.rounds
+mutex_steps v (m.Locks a waiters) = if is_at v (2 * bit waiters) then 2 else 1 + mutex_asks v a.rounds
 mutex_steps v (m.Spins a) = 2 + mutex_asks v (a.rounds - 1)
 mutex_steps v (m.Parks a) = if is_at v 1 then 1 + mutex_parks v else 1 + mutex_asks v a.rounds
 mutex_steps v (m.Enters woken) = if is_at v 3 then mutex_parks v else 29
@@ -70,14 +70,14 @@ mutex_steps v m.Appends = 2
 mutex_steps v m.Rests = 1
 mutex_steps v m.Sleeps = 0
 mutex_steps v m.TryLoads = 3
-mutex_steps v (m.TryLocks waiters left) = if is_at v (2 * of_mutex.bit waiters) then 2 else 3
+mutex_steps v (m.TryLocks waiters left) = if is_at v (2 * bit waiters) then 2 else 3
 mutex_steps v m.BumpLoads = wake + 8 + mutex_asks v 10
 mutex_steps v m.Relocks = 1 + mutex_asks v 10
 mutex_steps v (m.Unlocks g) = wake + 5 + mutex_ends v g
 mutex_steps v (m.Looks g) = wake + 4 + mutex_ends v g
 mutex_steps v (m.Takes g) = wake + 3 + mutex_ends v g
-mutex_steps v (m.Stores g taken left) = wake * of_mutex.bit taken + 2 + mutex_ends v g
-mutex_steps v (m.Leaves g taken handed) = wake * of_mutex.bit taken + 1 + mutex_ends v g
+mutex_steps v (m.Stores g taken left) = wake * bit taken + 2 + mutex_ends v g
+mutex_steps v (m.Leaves g taken handed) = wake * bit taken + 1 + mutex_ends v g
 mutex_steps v (m.Wakes g) = wake + mutex_ends v g
 mutex_steps v (m.Finishes g) = mutex_ends v g
 mutex_steps v phase = 1
@@ -155,8 +155,8 @@ rw_steps n v (r.Relocks want) = 1 + rw_asks v want 10
 rw_steps n v (r.Unshares rest) = wake + 6 + rw_ends v rest
 rw_steps n v (r.EnterWriterWakeSection rest) = wake + 5 + rw_ends v rest
 rw_steps n v (r.TakeWriter rest) = wake + 4 + rw_ends v rest
-rw_steps n v (r.ClearWriterParked rest taken) = wake * of_mutex.bit taken + 3 + rw_ends v rest
-rw_steps n v (r.LeaveWriterWakeSection rest taken) = wake * of_mutex.bit taken + 2 + rw_ends v rest
+rw_steps n v (r.ClearWriterParked rest taken) = wake * bit taken + 3 + rw_ends v rest
+rw_steps n v (r.LeaveWriterWakeSection rest taken) = wake * bit taken + 2 + rw_ends v rest
 rw_steps n v (r.Unlocks fair rest) = scan n v + 6 + rw_ends v rest
 rw_steps n v (r.LooksExclusive fair rest) = scan n v + 5 + rw_ends v rest
 rw_steps n v r.Downgrades = scan n v + 7

@@ -2,9 +2,10 @@
 use Rattle.std.specs.Prelude.{ℕ, ◌+◌, ◌*◌, ◌/◌, ◌%◌, ◌==◌, Bool, true, false, nat_lt, if◌then◌else◌, List, [], ◌∷◌, length, map, filter, Option, Some, None, slice_get}
 use Rattle.std.specs.List.{range_with_len}
 use Rattle.std.specs.Option.{option_and_then, option_map_or}
-use Rattle.parking_lot_core.specs.Machine.{Machine, Parts, machine, threads_of}
+use Rattle.parking_lot_core_lot.specs.declared.place.Section.{Section}
+use Rattle.parking_lot_core_lot.specs.Machine.{Machine, Parts, machine, threads_of}
 use Rattle.parking_lot_rules.specs.Roles.{Owned, Shares, Excludes, Mark, Open, Normal, Handed, Idle, Role, away}
-use Rattle.parking_lot_rules.specs.ReadLock.{word_of}
+use Rattle.parking_lot_rules.specs.Clauses.{word_of}
 use Rattle.parking_lot_rules.specs.Lock.{Lock}
 use Rattle.parking_lot_rules.specs.Mutex as mutex
 use Rattle.parking_lot_rules.specs.Any.{AnyLock, Rw, Mx}
@@ -156,11 +157,15 @@ any_lock None s i = Rw (rw_lock_at s i)
 abbrev pub lock_at : State → ℕ → AnyLock
 lock_at s i = any_lock (slice_get s.kinds i) s i
 
+-- The section that is open in the bucket of a key, where one is. All keys are in one bucket.
+abbrev pub open_at : State → ℕ → Option Section
+open_at s key = s.lot.section
+
 -- who is in the section that is open
 abbrev pub inside : State → Option ℕ
 inside s = option_and_then (λ section. section.thread) s.lot.section
 
--- The locks of the rules. All keys are in one bucket.
+-- The locks of the rules.
 abbrev pub one_bucket : ℕ → ℕ
 one_bucket key = 0
 

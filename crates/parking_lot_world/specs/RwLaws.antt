@@ -1,12 +1,11 @@
 -- What a core is told at a sound reader-writer lock is a step of the rules there.
 use Rattle.std.specs.Prelude.{◌≡◌, ◌<◌, ◌≤◌, ℕ, zero, suc, ◌-◌, ◌^◌, false, List, [], length, Some, slice_get, slice_set, Bool, true, ◌++◌, ◌∷◌, remove, ◌⊎◌, ◌≢◌, ◌||◌, map, None}
-use Rattle.parking_lot_core.specs.declared.parking.ParkToken.{ParkToken}
+use Rattle.parking_lot_core_lot.specs.declared.parking.ParkToken.{ParkToken}
 use Rattle.parking_lot_rules.specs.Roles.{Mode, Shares, Asleep, Open, Queued1, Taken1, Queued2, Taken2, Role, Mark, Owned, Idle}
 use Rattle.parking_lot_rules.specs.Classes.{Class, Inside1, Inside2, weight}
-use Rattle.parking_lot_rules.specs.Clauses.{Word, IsWord, number}
+use Rattle.parking_lot_rules.specs.Clauses.{Word, IsWord, number, word_of}
 use Rattle.parking_lot_rules.specs.Holds.{shared_holds}
 use Rattle.parking_lot_rules.specs.Plain.{Plain}
-use Rattle.parking_lot_rules.specs.ReadLock.{word_of}
 use Rattle.parking_lot_rules.specs.Lock.{Lock, IsSound, On1, to_wake}
 use Rattle.parking_lot_rules.specs.Steps.{Step, Alone, Allowed, after, List_changes, Take1, Take2, Join1, Join2, Take, look, AreSkipped, Ending, ends_saying, Store, Waking, settle, Wake, Scan, scanning}
 use Rattle.parking_lot_protocol.specs.declared.act.Act.{Act}
@@ -23,22 +22,22 @@ use Rattle.parking_lot_protocol.specs.RwTable.{act_of, next_phase, share_of, wak
 use Rattle.parking_lot_protocol.specs.RwRules.{QueuePosition, Listed, role, Stays, Makes, move, IsMove, IsReady, IsToken, IsTold, Fits, mode_of, mode_by, scan_of, ending, Off, owned_at_last, owned_at_last, owns, last_move, Move, MayAsk}
 use Rattle.parking_lot_world.specs.RowFits.{rw_prepared, rw_keeps, rw_knows}
 use Rattle.parking_lot_rules.specs.Roles as rules
-use Rattle.parking_lot_core.specs.Results.{is_left}
-use Rattle.parking_lot_core.specs.declared.parking.UnparkToken.{UnparkToken}
+use Rattle.parking_lot_core_lot.specs.Results.{is_left}
+use Rattle.parking_lot_core_lot.specs.declared.parking.UnparkToken.{UnparkToken}
 use Rattle.parking_lot_world.specs.Rows.{mark_of, owned_of, one_bucket, rw_spot}
 use Rattle.parking_lot_world.specs.RowActs.{told_of, rw_hold_after, settled_spot}
 use Rattle.parking_lot_world.specs.Stances as stance
 use Rattle.parking_lot_world.specs.Stances.{rw_stance, rw_taken, Stance, rw_begun}
 use Rattle.parking_lot_protocol.specs.declared.rw_phase.RwPhase.TheVariants as r
 use Rattle.parking_lot_protocol.specs.declared.act.CoreAnswer.{CoreAnswer}
-use Rattle.parking_lot_core.specs.declared.place.Waiter.{Waiter}
+use Rattle.parking_lot_core_lot.specs.declared.place.Waiter.{Waiter}
 use Rattle.parking_lot_rules.specs.Family.{Family, SoundFamilyOf, Crossing, Comes, Goes, First, Second, crossing}
 use Rattle.parking_lot_rules.specs.Family as crossings
 use Rattle.parking_lot_rules.specs.Any.{AnyLock, Rw, AnySound, any_inside}
 use Rattle.parking_lot_protocol.specs.declared.act.SectionAct.TheVariants.{Leave}
 use Rattle.parking_lot_world.specs.declared.seat.QueuePosition as seat
 use Rattle.parking_lot_world.specs.declared.seat.WakeResult.{WakeResult}
-use Rattle.parking_lot_core.specs.declared.parking.FilterOp.TheVariants.{Unpark}
+use Rattle.parking_lot_core_lot.specs.declared.parking.FilterOp.TheVariants.{Unpark}
 use Rattle.parking_lot_protocol.specs.Wake.{wake_answer}
 
 -- A number is a word by its parts, and a word of bits is the one of its number.

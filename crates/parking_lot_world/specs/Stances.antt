@@ -1,7 +1,7 @@
 -- Where a call stands to the sections and lists of the lot, whatever the kind of its lock.
 use Rattle.std.specs.Prelude.{ℕ, Bool, true, false}
-use Rattle.parking_lot_core.specs.declared.parking.ParkToken.{ParkToken}
-use Rattle.parking_lot_core.specs.declared.parking.UnparkToken.{UnparkToken}
+use Rattle.parking_lot_core_lot.specs.declared.parking.ParkToken.{ParkToken}
+use Rattle.parking_lot_core_lot.specs.declared.parking.UnparkToken.{UnparkToken}
 use Rattle.parking_lot_protocol.specs.declared.act.Act.{Act}
 use Rattle.parking_lot_protocol.specs.declared.act.ActResult.{ActResult}
 use Rattle.parking_lot_protocol.specs.declared.mutex_phase.MutexPhase.{MutexPhase}
@@ -12,6 +12,7 @@ use Rattle.parking_lot_protocol.specs.MutexTable as of_mutex
 use Rattle.parking_lot_protocol.specs.RwTable as of_rw
 use Rattle.parking_lot_world.specs.declared.seat.Core.{Core}
 use Rattle.parking_lot_world.specs.declared.seat.Core.TheVariants as core
+use Rattle.parking_lot_rules.specs.Classes.{bit}
 
 -- What a thread does in its section.
 pub data Doing : Type 0 where
@@ -71,14 +72,14 @@ stance (core.Rw c) = rw_stance c.phase
 
 -- how many it has taken and not woken yet
 abbrev pub mutex_taken : MutexPhase → ℕ
-mutex_taken (m.Stores giving taken left) = of_mutex.bit taken
-mutex_taken (m.Leaves giving taken handed) = of_mutex.bit taken
+mutex_taken (m.Stores giving taken left) = bit taken
+mutex_taken (m.Leaves giving taken handed) = bit taken
 mutex_taken (m.Wakes giving) = 1
 mutex_taken phase = 0
 
 abbrev pub rw_taken : RwPhase → ℕ
-rw_taken (r.ClearWriterParked rest taken) = of_mutex.bit taken
-rw_taken (r.LeaveWriterWakeSection rest taken) = of_mutex.bit taken
+rw_taken (r.ClearWriterParked rest taken) = bit taken
+rw_taken (r.LeaveWriterWakeSection rest taken) = bit taken
 rw_taken (r.Scans s) = of_rw.count_of s
 rw_taken (r.Stores s left) = of_rw.count_of s
 rw_taken (r.Leaves rest count handed) = count

@@ -2,6 +2,7 @@
 #![tactic(auto)]
 
 mod acts;
+mod advance;
 mod call_views;
 mod calls;
 mod fault;
@@ -16,6 +17,7 @@ mod rank_laws;
 mod row_machine;
 mod rw_laws;
 mod seat;
+mod sound_laws;
 mod starts;
 mod step;
 mod take_laws;

@@ -1,19 +1,19 @@
 //! Calls on the lot where they are never refused.
 ghost use Rattle.std.specs.Prelude.{◌≡◌, None, Some, if◌then◌else◌, Ok, false, slice_get, slice_set};
-ghost use Rattle.parking_lot_core.specs.declared.place.Phase.TheVariants as phase;
-ghost use Rattle.parking_lot_core.specs.declared.parking.FilterOp.TheVariants.{Unpark};
-ghost use Rattle.parking_lot_core.specs.declared.parking.UnparkToken.{UnparkToken};
-ghost use Rattle.parking_lot_core.specs.declared.place.Place.TheVariants.{Running, Taken};
-ghost use Rattle.parking_lot_core.specs.declared.place.Section.{Section};
-ghost use Rattle.parking_lot_core.specs.declared.place.Sleep.{Sleep};
-ghost use Rattle.parking_lot_core.specs.declared.place.Waiter.{Waiter};
-ghost use Rattle.parking_lot_core.specs.Places.{place_at, may_check, may_join, may_store, may_take, passed_of};
-ghost use Rattle.parking_lot_core.specs.Sound.{Sound};
-ghost use Rattle.parking_lot_core.specs.Machine.{machine, any_phase, closed, enter_fault, in_phase, joined, opened, section_of, step_fault, stored};
+ghost use Rattle.parking_lot_core_lot.specs.declared.place.Phase.TheVariants as phase;
+ghost use Rattle.parking_lot_core_lot.specs.declared.parking.FilterOp.TheVariants.{Unpark};
+ghost use Rattle.parking_lot_core_lot.specs.declared.parking.UnparkToken.{UnparkToken};
+ghost use Rattle.parking_lot_core_lot.specs.declared.place.Place.TheVariants.{Running, Taken};
+ghost use Rattle.parking_lot_core_lot.specs.declared.place.Section.{Section};
+ghost use Rattle.parking_lot_core_lot.specs.declared.place.Sleep.{Sleep};
+ghost use Rattle.parking_lot_core_lot.specs.declared.place.Waiter.{Waiter};
+ghost use Rattle.parking_lot_core_lot.specs.Places.{place_at, may_check, may_join, may_store, may_take, passed_of};
+ghost use Rattle.parking_lot_core_lot.specs.Sound.{Sound};
+ghost use Rattle.parking_lot_core_lot.specs.Machine.{machine, any_phase, closed, enter_fault, in_phase, joined, opened, section_of, step_fault, stored};
 ghost use Rattle.parking_lot_protocol.specs.Wake.{wake_answer};
 ghost use Rattle.parking_lot_world.specs.FrontTakings.{FrontTaken};
 
-use parking_lot_core::{
+use parking_lot_core_lot::{
     DEFAULT_UNPARK_TOKEN, FilterOp, Lot, ParkResult, ParkToken, Taking, UnparkToken,
 };
 use parking_lot_protocol::wake_sum;

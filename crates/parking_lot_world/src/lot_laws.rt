@@ -3,7 +3,7 @@ ghost use Rattle.parking_lot_world.specs.StanceLaws.{ActsLead, CallsBegin, Calls
 ghost use Rattle.parking_lot_world.specs.FrontTakings.{FirstsAreTaken};
 ghost use Rattle.parking_lot_world.specs.LotLaws.{ActsKeepFits, ActsKeepWakes, LotNeverRefuses, NewMachinesFit, RegisteredThreadsRun, ScansHaveRoom};
 
-use parking_lot_core::{FilterOp, ParkToken};
+use parking_lot_core_lot::{FilterOp, ParkToken};
 
 /// What an act gives leads a call in or out of its section, from one thing that it does there to the next, to its sleep or
 /// out of it, and it counts whom it has taken and is still to wake. A scan counts one more while it has room for it: a

@@ -1,16 +1,17 @@
 //! What is seen of a machine of locks: who owns a lock, who waits, and who is in debt.
-ghost use Rattle.std.specs.Prelude.{◌≡◌, ◌<◌, false, length, IfOk, IfErr};
-ghost use Rattle.parking_lot_core.specs.declared.fault.SizeFault.TheVariants.{NoMemory};
-ghost use Rattle.parking_lot_world.specs.Machines.{can_move};
+ghost use Rattle.std.specs.Prelude.{◌≡◌, false, slice_get, IfOk, IfErr};
+ghost use Rattle.parking_lot_core_lot.specs.declared.fault.SizeFault.TheVariants.{NoMemory};
+ghost use Rattle.parking_lot_world.specs.Machines.{can_move, ended, is_asleep};
 ghost use Rattle.parking_lot_world.specs.Ranks.{AnyMayBeStepped};
 ghost use Rattle.parking_lot_world.specs.RowFits.{FitsTogether};
-ghost use Rattle.parking_lot_world.specs.Rows.{lock_at, queue_at, state};
+ghost use Rattle.parking_lot_world.specs.Rows.{lock_at, queue_at, state, taken_by};
 ghost use Rattle.parking_lot_world.specs.Worlds.{hold_mode, is_indebted, mode_in};
 
 use crate::calls::{LockKind, OwnMode};
 use crate::row_machine::RowMachine;
-use crate::seat::Hold;
-use parking_lot_core::SizeFault;
+use crate::seat::{Hold, Wakeup};
+use parking_lot_core_lot::SizeFault;
+use parking_lot_protocol::{Act, CoreAnswer};
 use std::alloc::Allocator;
 
 impl Hold {
@@ -46,8 +47,8 @@ impl<A: Allocator> RowMachine<A> {
     }
 
     /// How a thread owns a lock now, also within a call there.
-    pub fn mode(&self, thread: usize, lock: usize) -> Option<OwnMode>
-        ensures { thread < length (state self.now).calls → result ≡ mode_in (lock_at (state self.now) lock) thread }
+    pub fn owner(&self, thread: usize, lock: usize) -> Option<OwnMode>
+        ensures { result ≡ mode_in (lock_at (state self.now) lock) thread }
     {
         self.known();
         match self.call(thread) {
@@ -58,7 +59,7 @@ impl<A: Allocator> RowMachine<A> {
 
     /// Whether a thread owes a wake or is about to retry.
     pub fn is_in_debt(&self, thread: usize) -> bool
-        ensures { thread < length (state self.now).calls → result ≡ is_indebted (state self.now) thread }
+        ensures { result ≡ is_indebted (state self.now) thread }
     {
         self.known();
         match self.call(thread) {
@@ -66,6 +67,53 @@ impl<A: Allocator> RowMachine<A> {
             None => false,
         }
     }
+
+    /// How a thread's call ended, where nothing of it is left but its answer: the thread's next step gives it, and changes no word, no list and
+    /// no other thread.
+    pub fn ended(&self, thread: usize) -> Option<CoreAnswer>
+        ensures { result ≡ ended (state self.now) thread }
+    {
+        match self.call(thread)?.core.act() {
+            Act::Done(answer) => Some(answer),
+            _ => None,
+        }
+    }
+
+    /// Whether a thread sleeps in its call.
+    pub fn is_asleep(&self, thread: usize) -> bool
+        ensures { result ≡ is_asleep (state self.now) thread }
+    {
+        match self.call(thread) {
+            Some(call) => match call.core.act() {
+                Act::Sleep => true,
+                _ => false,
+            },
+            None => false,
+        }
+    }
+
+    /// Whom a thread has taken off a list and is still to wake: the first of them by 0, in the order of the list.
+    pub fn taken(&self, thread: usize, nth: usize) -> Option<usize>
+        ensures { result ≡ slice_get (taken_by (state self.now).wakes thread) nth }
+    {
+        nth_taken(&self.wakes, thread, nth)
+    }
+}
+
+/// The one whom a thread is to wake after so many others.
+fn nth_taken(wakes: &[Wakeup], by: usize, nth: usize) -> Option<usize>
+    ensures { result ≡ slice_get (taken_by wakes.now by) nth }
+{
+    let mut left = nth;
+    for wakeup in wakes {
+        if wakeup.by == by {
+            if left == 0 {
+                return Some(wakeup.thread);
+            }
+            left -= 1;
+        }
+    }
+    None
 }
 
 impl<A: Allocator + Clone> RowMachine<A> {

@@ -1,17 +1,17 @@
 //! How a machine of locks is made.
 ghost use Rattle.std.specs.Prelude.{◌≡◌, ◌<◌, ◌≤◌, ◌↔◌, ◌⊎◌, ◌^◌, length, replicate, Some, IsErrOf, IfErr, IfOk};
-ghost use Rattle.parking_lot_core.specs.Machine.{machine};
-ghost use Rattle.parking_lot_core.specs.Runs.{fresh};
-ghost use Rattle.parking_lot_core.specs.Sound.{Sound};
-ghost use Rattle.parking_lot_core.specs.declared.fault.SizeFault.TheVariants.{BadSize, NoMemory};
-ghost use Rattle.parking_lot_core.specs.declared.place.Place.TheVariants.{Running};
+ghost use Rattle.parking_lot_core_lot.specs.Machine.{machine};
+ghost use Rattle.parking_lot_core_lot.specs.Runs.{fresh};
+ghost use Rattle.parking_lot_core_lot.specs.Sound.{Sound};
+ghost use Rattle.parking_lot_core_lot.specs.declared.fault.SizeFault.TheVariants.{BadSize, NoMemory};
+ghost use Rattle.parking_lot_core_lot.specs.declared.place.Place.TheVariants.{Running};
 ghost use Rattle.parking_lot_world.specs.Rows.{state};
 ghost use Rattle.parking_lot_world.specs.Machines.{at_rest};
 
 use crate::calls::LockKind;
 use crate::row_machine::RowMachine;
 use crate::seat::Hold;
-use parking_lot_core::{Lot, SizeFault};
+use parking_lot_core_lot::{Lot, SizeFault};
 use std::alloc::Allocator;
 
 /// The most threads.

@@ -5,7 +5,7 @@ ghost use Rattle.parking_lot_world.specs.declared.seat.QueuePosition.TheVariants
 ghost use Rattle.parking_lot_world.specs.RowActs.{hears, key_of, off_list, settled};
 
 use crate::seat::{Core, QueuePosition, WakeResult};
-use parking_lot_core::UnparkToken;
+use parking_lot_core_lot::UnparkToken;
 use parking_lot_protocol::ActResult;
 
 /// A call that isn't answered yet.
@@ -33,7 +33,7 @@ impl Call {
     }
 
     /// The call once it has joined a list.
-    pub fn listed(self) -> Call
+    pub(crate) fn listed(self) -> Call
         ensures { result ≡ record (hears self seen.Made) { spot = spot.Listed } }
     {
         Call {
@@ -43,7 +43,7 @@ impl Call {
     }
 
     /// The call of a sleeper once it is woken.
-    pub fn woken(self, token: UnparkToken) -> Call
+    pub(crate) fn woken(self, token: UnparkToken) -> Call
         ensures { result ≡ record (hears self (seen.Woken token)) { spot = spot.Listed } }
     {
         Call {
@@ -53,7 +53,7 @@ impl Call {
     }
 
     /// The lot's key of the lock's first list, or of its second.
-    pub fn key(&self, which: u8) -> usize
+    pub(crate) fn key(&self, which: u8) -> usize
         requires small { self.now.lock ≤ 2 ^ 62 }
         ensures { result ≡ key_of self.now which }
     {
@@ -61,7 +61,7 @@ impl Call {
     }
 
     /// The call of a sleeper once a thread has taken it off its list.
-    pub fn off_list(self, by: usize) -> Call
+    pub(crate) fn off_list(self, by: usize) -> Call
         ensures { result ≡ off_list by self }
     {
         Call {
@@ -71,7 +71,7 @@ impl Call {
     }
 
     /// The call once a thread has told all whom it has taken.
-    pub fn settled(self, by: usize, said: WakeResult) -> Call
+    pub(crate) fn settled(self, by: usize, said: WakeResult) -> Call
         ensures { result ≡ settled by said self }
     {
         Call {

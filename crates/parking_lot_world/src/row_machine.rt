@@ -1,6 +1,6 @@
 //! The machine of locks: words, lists and a call for each thread, moved one atomic step at a time.
 ghost use Rattle.std.specs.Prelude.{◌≡◌, ◌<◌, ◌↔◌, ◌⊎◌, ◌^◌, length, slice_get, Some, None, true, if◌then◌else◌, IsErrOf, IfOk, IfErr, IsTrue};
-ghost use Rattle.parking_lot_core.specs.declared.fault.SizeFault.TheVariants.{BadSize, NoMemory};
+ghost use Rattle.parking_lot_core_lot.specs.declared.fault.SizeFault.TheVariants.{BadSize, NoMemory};
 ghost use Rattle.parking_lot_protocol.specs.declared.act.Act.TheVariants as act;
 ghost use Rattle.parking_lot_world.specs.Stances.{core_act};
 ghost use Rattle.parking_lot_world.specs.Rows.{call_at, hold_at, state, word_at};
@@ -9,7 +9,7 @@ ghost use Rattle.parking_lot_world.specs.Machines.{at_rest, can_move, may_begin,
 use crate::calls::{LockCall, LockKind};
 use crate::open_call::Call;
 use crate::seat::{Hold, QueuePosition, Wakeup};
-use parking_lot_core::{Lot, SizeFault};
+use parking_lot_core_lot::{Lot, SizeFault};
 use parking_lot_protocol::{Act, CoreAnswer, SectionAct, WordChange};
 use std::alloc::{Allocator, Global};
 use std::marker::Model;

@@ -3,7 +3,7 @@ ghost use Rattle.std.specs.Prelude.{◌≡◌, ◌≤◌, ℕ};
 ghost use Rattle.parking_lot_world.specs.Stances.{In, Takes, core_act, core_next, core_tells, stance};
 ghost use Rattle.parking_lot_world.specs.RowActs.{hold_after, mutex_hold_after, rw_hold_after, joins, settled_spot, told_of};
 
-use parking_lot_core::UnparkToken;
+use parking_lot_core_lot::UnparkToken;
 use parking_lot_protocol::{
     Act, ActResult, AfterWake, CoreAnswer, HAND_OVER, MutexCore, MutexPhase, Outcome, RwCore,
     RwPhase, SectionAct,
@@ -60,7 +60,7 @@ pub struct Wakeup {
 
 impl WakeResult {
     /// What sleepers are told by a token.
-    pub fn by(token: UnparkToken) -> WakeResult
+    pub(crate) fn by(token: UnparkToken) -> WakeResult
         ensures { result ≡ told_of token }
     {
         if token.0 == HAND_OVER.0 {
@@ -87,7 +87,7 @@ impl QueuePosition {
 
 impl Core {
     /// What it has asked for.
-    pub fn act(&self) -> Act
+    pub(crate) fn act(&self) -> Act
         ensures { result ≡ core_act self.now }
     {
         match self {
@@ -97,7 +97,7 @@ impl Core {
     }
 
     /// The core once it is told what its act gave.
-    pub fn told(self, seen: ActResult) -> Core
+    pub(crate) fn told(self, seen: ActResult) -> Core
         ensures { result ≡ core_next self seen }
     {
         match self {
@@ -113,7 +113,7 @@ impl Core {
     }
 
     /// The token for those that its section took, once it has stored.
-    pub fn wake_token(&self) -> UnparkToken
+    pub(crate) fn wake_token(&self) -> UnparkToken
         ensures { result ≡ core_tells self.now }
     {
         match self {
@@ -123,7 +123,7 @@ impl Core {
     }
 
     /// Whether it is about to join a list.
-    pub fn joins(&self) -> bool
+    pub(crate) fn joins(&self) -> bool
         ensures { result ≡ joins (stance self.now) }
     {
         match self.act() {
@@ -133,7 +133,7 @@ impl Core {
     }
 
     /// The list at which it goes through waiters: 0 is the lock's first, 1 its second.
-    pub fn list(&self) -> u8
+    pub(crate) fn list(&self) -> u8
         ensures { (k : ℕ) → stance self.now ≡ In k Takes → result ≡ k }
     {
         match self {
@@ -146,7 +146,7 @@ impl Core {
     }
 
     /// What its thread owns where its call ends, with so many shared holds beside.
-    pub fn hold_after(&self, others: u8) -> Hold
+    pub(crate) fn hold_after(&self, others: u8) -> Hold
         requires few { others ≤ 254 }
         ensures { result ≡ hold_after others self.now }
     {

@@ -68,7 +68,7 @@ impl Hold {
     }
 
     /// How many shared holds it is beside one that is given up.
-    pub fn beside(&self) -> u8
+    pub(crate) fn beside(&self) -> u8
         ensures { result ≡ holds_beside self.now }
     {
         match self {

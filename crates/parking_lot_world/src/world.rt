@@ -1,17 +1,18 @@
 //! Worlds of locks: threads at them, moved by a schedule.
 ghost use Rattle.std.specs.Prelude.{◌≡◌, ◌<◌, ◌↔◌, ◌⊎◌, ◌^◌, length, replicate, take, slice_get, None, Some, true, IsErrOf, IfErr, IfOk, MatchResult};
-ghost use Rattle.parking_lot_core.specs.declared.fault.SizeFault.TheVariants.{BadSize};
+ghost use Rattle.parking_lot_core_lot.specs.declared.fault.SizeFault.TheVariants.{BadSize};
 ghost use Rattle.parking_lot_rules.specs.Any.{AnySound, any_inside};
 ghost use Rattle.parking_lot_rules.specs.Family.{SoundFamilyOf};
 ghost use Rattle.parking_lot_world.specs.Rows.{family, one_bucket, state};
 ghost use Rattle.parking_lot_world.specs.Machines.{at_rest};
+ghost use Rattle.parking_lot_world.specs.SoundLaws.{IsSoundMachine};
 ghost use Rattle.parking_lot_world.specs.Worlds.{IsMade, Ran, may_make, refusal, steps_done};
 
 use crate::calls::{LockAnswer, LockKind};
 use crate::fault::{WorldFault, WorldRefusal};
 use crate::row_machine::RowMachine;
 use crate::step::WorldStep;
-use parking_lot_core::SizeFault;
+use parking_lot_core_lot::SizeFault;
 use std::alloc::{Allocator, Global};
 use std::marker::Model;
 
@@ -126,7 +127,8 @@ impl<A: Allocator> World<A> {
 
     /// Makes the steps, one after another, up to the first that is refused. It takes no memory.
     ///
-    /// Each is a step of the rules of the lock that the thread's call is at, and after it every lock is still sound.
+    /// Each is a step of the rules of the lock that the thread's call is at, and after it every lock is still sound: owners agree, lists have
+    /// exactly the waiters, no waiter is forgotten, and somebody can move wherever a thread is in a call that nobody keeps from its lock.
     ///
     /// # Errors
     ///
@@ -140,6 +142,7 @@ impl<A: Allocator> World<A> {
         ensures ran { Ran self.old (take (steps_done result (length steps.now)) steps.now) self.new }
         ensures refused { IfErr result (λ fault. (step : _) × (slice_get steps.now fault.done ≡ Some step) × (refusal self.new step ≡ Some fault.fault)) }
         ensures sound { SoundFamilyOf AnySound any_inside one_bucket (family (state self.new.rows)) }
+        ensures promises { IsSoundMachine (state self.new.rows) }
     {
         let result = self.make_steps(steps);
         self.machine.known();

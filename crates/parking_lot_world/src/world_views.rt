@@ -1,14 +1,14 @@
 //! What is seen of a world.
 ghost use Rattle.std.specs.Prelude.{◌≡◌, length, slice_get, IfErr, IfOk};
 ghost use Rattle.std.specs.Option.{option_and_then};
-ghost use Rattle.parking_lot_core.specs.declared.fault.SizeFault.TheVariants.{NoMemory};
+ghost use Rattle.parking_lot_core_lot.specs.declared.fault.SizeFault.TheVariants.{NoMemory};
 ghost use Rattle.parking_lot_world.specs.Rows.{lock_at, queue_at, state, word_at};
 ghost use Rattle.parking_lot_world.specs.Worlds.{is_indebted, mode_in, owners_below, those_below};
 
 use crate::calls::{LockAnswer, OwnMode};
 use crate::row_machine::RowMachine;
 use crate::world::World;
-use parking_lot_core::SizeFault;
+use parking_lot_core_lot::SizeFault;
 use std::alloc::Allocator;
 
 impl<A: Allocator> World<A> {
@@ -44,7 +44,7 @@ impl<A: Allocator + Clone + Drop> World<A> {
         let alloc = self.answers.allocator().clone()?;
         let mut owners = Vec::with_capacity(alloc, threads)?;
         for thread in 0..threads {
-            if let Some(mode) = self.machine.mode(thread, lock) {
+            if let Some(mode) = self.machine.owner(thread, lock) {
                 owners.push_reserved((thread, mode));
             }
         }

@@ -1,6 +1,6 @@
 //! Calls told one thing after the other, and what is said of their threads on the way.
 
-use parking_lot_core::ParkToken;
+use parking_lot_core_lot::ParkToken;
 use parking_lot_world::{
     ActResult, Call, Core, HAND_OVER, MutexCore, OwnMode, QueuePosition, RwCore, TRY_AGAIN,
     WakeResult,

@@ -7,6 +7,8 @@ mod calls;
 #[cfg(test)]
 mod heaps;
 #[cfg(test)]
+mod machine;
+#[cfg(test)]
 mod refusals;
 #[cfg(test)]
 mod schedules;

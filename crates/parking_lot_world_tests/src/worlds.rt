@@ -1,6 +1,6 @@
 //! Schedules worked by hand, with what is seen on the way.
 
-use parking_lot_core::SizeFault;
+use parking_lot_core_lot::SizeFault;
 use parking_lot_world::{
     LockAnswer, LockCall, LockKind, OwnMode, World, WorldFault, WorldRefusal, WorldStep,
 };

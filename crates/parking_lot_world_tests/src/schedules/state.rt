@@ -2,7 +2,7 @@
 
 use super::program::{End, Program, may_answer, mode_behind};
 use super::shown::Shown;
-use parking_lot_core::{Place, ThreadStatus};
+use parking_lot_core_lot::{Place, ThreadStatus};
 use parking_lot_protocol::{MutexPhase, RwPhase};
 use parking_lot_world::{
     Call, Core, Hold, LockAnswer, LockCall, OwnMode, QueuePosition, Wakeup, World, WorldStep,

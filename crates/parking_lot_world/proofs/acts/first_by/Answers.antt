@@ -1,5 +1,5 @@
 use Rattle.std.proofs.Common.{◌∙◌, ap, unwrap_or, length}
-use Rattle.parking_lot_core.proofs.Numbers.{unwrap_or-position}
+use Rattle.parking_lot_core_lot.proofs.Numbers.{unwrap_or-position}
 use Rattle.parking_lot_world.specs.Rows.{is_by}
 use Rattle.parking_lot_world.proofs.acts.first_by.Goals as goal
 

@@ -1,4 +1,4 @@
-use Rattle.parking_lot_core.specs.Machine.{machine}
+use Rattle.parking_lot_core_lot.specs.Machine.{machine}
 use Rattle.parking_lot_world.proofs.Resuming.{rouses}
 use Rattle.parking_lot_world.proofs.lot_calls.rouse.Goals as goal
 

@@ -1,6 +1,6 @@
 use Rattle.std.proofs.Common.{ap, ◌∙◌}
 use Rattle.std.specs.Option.{option_flatten}
-use Rattle.parking_lot_core.specs.Machine.{machine}
+use Rattle.parking_lot_core_lot.specs.Machine.{machine}
 use Rattle.parking_lot_world.proofs.FirstTaken.{front_taken}
 use Rattle.parking_lot_world.proofs.lot_calls.take_first.Goals as goal
 

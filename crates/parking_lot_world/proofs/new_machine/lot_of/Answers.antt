@@ -1,8 +1,8 @@
 use Rattle.std.proofs.Common.{List, replicate, Option, Some, ap, ◌∙◌, refl}
-use Rattle.parking_lot_core.specs.declared.place.Place.{Place}
-use Rattle.parking_lot_core.specs.declared.place.Place.TheVariants.{Running}
-use Rattle.parking_lot_core.specs.Machine.{Machine, registered}
-use Rattle.parking_lot_core.specs.Runs.{fresh}
+use Rattle.parking_lot_core_lot.specs.declared.place.Place.{Place}
+use Rattle.parking_lot_core_lot.specs.declared.place.Place.TheVariants.{Running}
+use Rattle.parking_lot_core_lot.specs.Machine.{Machine, registered}
+use Rattle.parking_lot_core_lot.specs.Runs.{fresh}
 use Rattle.parking_lot_world.proofs.LotStarts.{registered_threads_run}
 use Rattle.parking_lot_world.proofs.new_machine.lot_of.Goals as goal
 

@@ -1,8 +1,8 @@
 use Rattle.std.proofs.Common.{ℕ, false, Some, sym, ap, ◌∙◌, subst, arith}
 use Rattle.std.proofs.lemmas.List.{length-set}
-use Rattle.parking_lot_core.specs.declared.place.Phase.TheVariants as phase
-use Rattle.parking_lot_core.specs.Machine.{Machine, joined, in_phase, machine}
-use Rattle.parking_lot_core.specs.Sound.{Sound}
+use Rattle.parking_lot_core_lot.specs.declared.place.Phase.TheVariants as phase
+use Rattle.parking_lot_core_lot.specs.Machine.{Machine, joined, in_phase, machine}
+use Rattle.parking_lot_core_lot.specs.Sound.{Sound}
 use Rattle.parking_lot_protocol.specs.declared.act.Act.TheVariants as act
 use Rattle.parking_lot_protocol.specs.declared.act.SectionAct.TheVariants as section
 use Rattle.parking_lot_protocol.specs.declared.act.ActResult.TheVariants as seen

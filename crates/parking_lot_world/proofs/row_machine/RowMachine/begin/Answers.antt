@@ -35,4 +35,4 @@ returns g c =
     let may = may_begins s c.args.thread c.args.lock c.args.call fits.rules c.requires.may in
     subst (IsBegun c.args.thread c.args.lock c.args.call s)
     (sym (c.begin_call.ensures ∙ ap (begun s c.args.thread) (same_call c.args.lock _ _ _ _ (c.beside-others.ensures ∙ ap holds_beside c.hold.ensures) c.core.ensures)))
-    (record { acts = laws.begin s c.args.thread asked fits may; costs = begins_cost s c.args.thread asked c.args.call fits may refl })
+    (record { became = refl; acts = laws.begin s c.args.thread asked fits may; costs = begins_cost s c.args.thread asked c.args.call fits may refl })

@@ -1,8 +1,8 @@
 use Rattle.parking_lot_world.proofs.Calling.{room_set}
 use Rattle.std.proofs.Common.{Bool, cond, sym, ap, ◌∙◌, subst, arith}
-use Rattle.parking_lot_core.specs.declared.place.Phase.TheVariants as phase
-use Rattle.parking_lot_core.specs.Machine.{Machine, in_phase, machine}
-use Rattle.parking_lot_core.specs.Sound.{Sound}
+use Rattle.parking_lot_core_lot.specs.declared.place.Phase.TheVariants as phase
+use Rattle.parking_lot_core_lot.specs.Machine.{Machine, in_phase, machine}
+use Rattle.parking_lot_core_lot.specs.Sound.{Sound}
 use Rattle.parking_lot_protocol.specs.declared.act.ActResult.TheVariants as seen
 use Rattle.parking_lot_world.specs.declared.open_call.Call.{Call}
 use Rattle.parking_lot_world.specs.Rows.{Rows, State, state}

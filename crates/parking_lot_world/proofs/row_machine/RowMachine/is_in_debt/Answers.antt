@@ -6,7 +6,7 @@ use Rattle.parking_lot_world.proofs.row_machine.RowMachine.is_in_debt.Goals as g
 
 -- src/machine_views.rt:49:5
 pub returns-else-looks : goal.returns-else-looks
-returns-else-looks g c low =
+returns-else-looks g c =
     let s = state c.args.self.now in
     let us = taken_by s.wakes c.args.thread in
     let call = c.in-Some.call in

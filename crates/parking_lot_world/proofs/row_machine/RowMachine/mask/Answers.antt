@@ -1,8 +1,8 @@
 use Rattle.parking_lot_world.proofs.Calling.{room_settled}
 use Rattle.std.proofs.Common.{ℕ, false, List, map, bit_and, slice_set, Option, Some, sym, ap, ◌∙◌, subst, arith}
 use Rattle.std.specs.Option.{option_map}
-use Rattle.parking_lot_core.specs.Machine.{Machine, stored, machine}
-use Rattle.parking_lot_core.specs.Sound.{Sound}
+use Rattle.parking_lot_core_lot.specs.Machine.{Machine, stored, machine}
+use Rattle.parking_lot_core_lot.specs.Sound.{Sound}
 use Rattle.parking_lot_protocol.specs.declared.act.ActResult.TheVariants as seen
 use Rattle.parking_lot_world.specs.declared.open_call.Call.{Call}
 use Rattle.parking_lot_world.specs.declared.seat.WakeResult.TheVariants as told

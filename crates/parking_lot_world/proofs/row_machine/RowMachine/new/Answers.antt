@@ -3,7 +3,7 @@ use Rattle.std.specs.Prelude.{vec_capacity}
 use Rattle.parking_lot_world.specs.Rows.{State, state}
 use Rattle.parking_lot_world.specs.RowFits.{FitsTogether}
 use Rattle.parking_lot_world.specs.Machines.{at_rest}
-use Rattle.parking_lot_core.specs.Sound as lot
+use Rattle.parking_lot_core_lot.specs.Sound as lot
 use Rattle.parking_lot_world.proofs.Resting.{rest_fits, threads_at_rest}
 use Rattle.parking_lot_world.proofs.row_machine.RowMachine.new.Goals as goal
 

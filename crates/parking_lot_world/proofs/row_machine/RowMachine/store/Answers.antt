@@ -1,9 +1,9 @@
 use Rattle.parking_lot_world.proofs.Calling.{room_settled}
 use Rattle.std.proofs.Common.{ℕ, List, map, slice_set, Option, Some, sym, ap, ◌∙◌, subst, arith}
 use Rattle.std.specs.Option.{option_map}
-use Rattle.parking_lot_core.specs.declared.parking.UnparkToken.{UnparkToken}
-use Rattle.parking_lot_core.specs.Machine.{Machine, stored, machine}
-use Rattle.parking_lot_core.specs.Sound.{Sound}
+use Rattle.parking_lot_core_lot.specs.declared.parking.UnparkToken.{UnparkToken}
+use Rattle.parking_lot_core_lot.specs.Machine.{Machine, stored, machine}
+use Rattle.parking_lot_core_lot.specs.Sound.{Sound}
 use Rattle.parking_lot_protocol.specs.Acts.{change_of}
 use Rattle.parking_lot_protocol.specs.declared.act.WordChange.{WordChange}
 use Rattle.parking_lot_world.specs.declared.open_call.Call.{Call}

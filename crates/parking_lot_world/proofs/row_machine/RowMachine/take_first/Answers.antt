@@ -1,6 +1,6 @@
 use Rattle.std.proofs.Common.{ℕ, Some, None, Ok, false, length, ap, subst, arith}
 use Rattle.std.proofs.lemmas.List.{length-set}
-use Rattle.parking_lot_core.specs.Machine.{machine}
+use Rattle.parking_lot_core_lot.specs.Machine.{machine}
 use Rattle.parking_lot_protocol.specs.declared.act.Act.TheVariants as act
 use Rattle.parking_lot_protocol.specs.declared.act.SectionAct.TheVariants as section
 use Rattle.parking_lot_protocol.specs.declared.act.ActResult.TheVariants as seen

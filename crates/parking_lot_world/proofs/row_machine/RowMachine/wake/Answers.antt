@@ -3,9 +3,9 @@ use Rattle.std.proofs.lemmas.List.{length-set}
 use Rattle.std.proofs.lemmas.Option.{slice_get_within}
 use Rattle.std.specs.List.{position_or_len}
 use Rattle.std.specs.Option.{option_map, option_and_then}
-use Rattle.parking_lot_core.specs.Machine.{machine}
-use Rattle.parking_lot_core.specs.Places.{place_at}
-use Rattle.parking_lot_core.specs.Sound.{Sound}
+use Rattle.parking_lot_core_lot.specs.Machine.{machine}
+use Rattle.parking_lot_core_lot.specs.Places.{place_at}
+use Rattle.parking_lot_core_lot.specs.Sound.{Sound}
 use Rattle.parking_lot_world.specs.declared.seat.Wakeup.{Wakeup}
 use Rattle.parking_lot_world.specs.Rows.{Rows, State, state, is_by, call_at}
 use Rattle.parking_lot_world.specs.RowFits.{FitsTogether}

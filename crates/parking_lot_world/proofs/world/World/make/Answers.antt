@@ -11,7 +11,7 @@ invariant_of-self g c =
 
 pub index_mut-requires-in-Some : goal.index_mut-requires-in-Some
 index_mut-requires-in-Some g c =
-    omega (arith, c.self.invariant, c.self.inside.answers.ok.0, in_range (state c.self.inside.machine) c.in-Go.thread c.in-Some.ensures.0 c.in-Some.ensures.1)
+    omega (arith, c.self.invariant, c.self.inside.answers.ok.0, in_range (state c.self.inside.machine) c.in-Go.thread c.in-Some.ensures.call c.in-Some.ensures.here)
 
 pub invariant_of-self-in-Some : goal.invariant_of-self-in-Some
 invariant_of-self-in-Some g c =

@@ -1,4 +1,4 @@
-use Rattle.std.proofs.Common.{◌≡◌, ◌<◌, ◌++◌, ◌∷◌, [], length, sym, ap, ◌∙◌, arith}
+use Rattle.std.proofs.Common.{◌≡◌, ◌++◌, ◌∷◌, [], length, sym, ap, ◌∙◌, arith}
 use Rattle.std.specs.Prelude.{vec_capacity}
 use Rattle.std.proofs.lemmas.List.{length_push}
 use Rattle.parking_lot_world.specs.Rows.{lock_at, state}
@@ -12,16 +12,15 @@ pub loop-thread-preserved : goal.loop-thread-preserved
 loop-thread-preserved g c =
     let t = c.loop-thread.thread in
     let f = mode_in (lock_at (state c.self.inside.machine) c.args.lock) in
-    let low : t < length c.self.inside.machine.calls = omega (arith, c.loop-thread-test.true, c.threads-threads.ensures) in
-    elim c.match-mode.branch [
+    elim c.match-owner.branch [
       | in-Some w ↦ record {
         listed = ap (λ v. v.items) w.owners-is ∙ w.push_reserved.ensures.items ∙ ap (λ xs. xs ++ (t, w.in-Some.mode) ∷ []) c.loop-thread.invariant.listed
-            ∙ owner_more f t w.in-Some.mode (sym (c.mode.ensures low) ∙ w.in-Some.is);
+            ∙ owner_more f t w.in-Some.mode (sym (c.owner.ensures) ∙ w.in-Some.is);
         few = omega (arith, c.loop-thread.invariant.few, ap (λ v. length v.items) w.owners-is, ap length w.push_reserved.ensures.items, length_push c.loop-thread.owners.items (t, w.in-Some.mode));
         room = omega (arith, c.loop-thread.invariant.room, ap vec_capacity w.owners-is, w.push_reserved.ensures.capacity);
       }
       | in_default w ↦ record {
-        listed = ap (λ v. v.items) w.owners-is ∙ c.loop-thread.invariant.listed ∙ owner_same f t (sym (c.mode.ensures low) ∙ w.in_default.is);
+        listed = ap (λ v. v.items) w.owners-is ∙ c.loop-thread.invariant.listed ∙ owner_same f t (sym (c.owner.ensures) ∙ w.in_default.is);
         few = omega (arith, c.loop-thread.invariant.few, ap (λ v. length v.items) w.owners-is);
         room = omega (arith, c.loop-thread.invariant.room, ap vec_capacity w.owners-is);
       }

@@ -1,0 +1,7 @@
+pub mod Frames
+pub mod Settled
+pub mod Works
+pub mod Kept
+pub mod Growing
+pub mod Tables
+pub mod Placing

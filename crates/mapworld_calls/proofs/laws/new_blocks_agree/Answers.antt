@@ -1,0 +1,5 @@
+use Rattle.mapworld_calls.proofs.Every.Growing.{new-agrees}
+use Rattle.mapworld_calls.proofs.laws.new_blocks_agree.Goals as goal
+
+pub returns : goal.returns
+returns g c = new-agrees

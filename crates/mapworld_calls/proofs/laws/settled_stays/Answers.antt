@@ -1,0 +1,5 @@
+use Rattle.mapworld_calls.proofs.Every.Settled.{stays-settled}
+use Rattle.mapworld_calls.proofs.laws.settled_stays.Goals as goal
+
+pub returns : goal.returns
+returns g c = stays-settled

@@ -1,0 +1,136 @@
+-- No thread in a call has more steps left than a number that goes by how many threads there are.
+use Rattle.std.proofs.Common.{◌≡◌, ◌≤◌, ℕ, suc, ◌+◌, ◌*◌, Bool, true, false, List, [], ◌∷◌, length, Option, Some, None, slice_get, refl, ap, arith}
+use Rattle.std.proofs.Math.Nat.{suc-mul}
+use Rattle.std.specs.List.{sum_by}
+use Rattle.std.specs.Option.{option_and_then}
+use Rattle.std.specs.Prelude.{if◌then◌else◌}
+use Rattle.std.proofs.lemmas.List.Sums.{count_by-le-length, sum_by-cons}
+use Rattle.parking_lot_protocol.specs.declared.mutex_phase.Giving.{Giving}
+use Rattle.parking_lot_protocol.specs.declared.mutex_phase.MutexPhase.{MutexPhase}
+use Rattle.parking_lot_protocol.specs.declared.mutex_phase.MutexPhase.TheVariants as m
+use Rattle.parking_lot_protocol.specs.declared.rw_phase.AfterWake.{AfterWake}
+use Rattle.parking_lot_protocol.specs.declared.rw_phase.AfterWake.TheVariants as rest
+use Rattle.parking_lot_protocol.specs.declared.rw_phase.LockMode.{LockMode}
+use Rattle.parking_lot_protocol.specs.declared.rw_phase.LockMode.TheVariants as want
+use Rattle.parking_lot_protocol.specs.declared.rw_phase.RwPhase.{RwPhase}
+use Rattle.parking_lot_protocol.specs.declared.rw_phase.RwPhase.TheVariants as r
+use Rattle.parking_lot_rules.specs.Classes.{bit}
+use Rattle.parking_lot_world.specs.declared.seat.Core.{Core}
+use Rattle.parking_lot_world.specs.declared.seat.Core.TheVariants as core
+use Rattle.parking_lot_world.specs.declared.open_call.Call.{Call}
+use Rattle.parking_lot_world.specs.Ranks.{Unseen, comes_after, core_steps, far_steps, mutex_asks, mutex_ends, mutex_steps, rw_ends, rw_steps, vain}
+use Rattle.parking_lot_world.specs.Rounds.{FewRounds, mutex_rounds, rw_rounds}
+use Rattle.parking_lot_world.specs.RowFits.{FitsTogether, is_away}
+use Rattle.parking_lot_world.specs.Rows.{State, call_at, is_by}
+use Rattle.parking_lot_world.specs.SoundLaws.{StepsAreFew, most_steps}
+use Rattle.parking_lot_world.specs.Stances.{rw_taken, taken_count}
+use Rattle.parking_lot_world.proofs.Carrying.{taken_by-count}
+use Rattle.parking_lot_world.proofs.Meeting.{in_range}
+use Rattle.parking_lot_world.proofs.PayEnds.{none_more}
+use Rattle.parking_lot_world.proofs.Summing.{others_and_one}
+
+-- the parts of a call that goes on
+after_most : (w : LockMode) → comes_after Unseen w ≤ 31
+after_most (want.Shared recursive) = omega arith
+after_most want.Exclusive = omega arith
+
+vain_most : (w : LockMode) → vain w ≤ 55
+vain_most (want.Shared recursive) = omega arith
+vain_most want.Exclusive = omega arith
+
+ends_most : (rs : AfterWake) → rw_ends Unseen rs ≤ 109
+ends_most rest.FreedShared = omega arith
+ends_most rest.FreedExclusive = omega arith
+ends_most rest.Downgraded = omega arith
+ends_most rest.AgainShared = omega arith
+ends_most rest.AgainExclusive = omega arith
+
+bit_most : (b : Bool) → bit b ≤ 1
+bit_most true = omega arith
+bit_most false = omega arith
+
+given_most : (g : Giving) → mutex_ends Unseen g ≤ 52
+given_most g = go g.again
+  where
+    go : (b : Bool) → (if b then 2 + mutex_asks Unseen 10 else 1) ≤ 52
+    go true = omega arith
+    go false = omega arith
+
+mutex_most : (p : MutexPhase) → mutex_rounds p ≤ 10 → mutex_steps Unseen p ≤ 219
+mutex_most (m.Loads a) h = omega (arith, h)
+mutex_most (m.Locks a waiters) h = omega (arith, h)
+mutex_most (m.Spins a) h = omega (arith, h)
+mutex_most (m.Parks a) h = omega (arith, h)
+mutex_most (m.Unlocks g) h = omega (arith, given_most g)
+mutex_most (m.Looks g) h = omega (arith, given_most g)
+mutex_most (m.Takes g) h = omega (arith, given_most g)
+mutex_most (m.Stores g taken left) h = omega (arith, given_most g, bit_most taken)
+mutex_most (m.Leaves g taken handed) h = omega (arith, given_most g, bit_most taken)
+mutex_most (m.Wakes g) h = omega (arith, given_most g)
+mutex_most (m.Finishes g) h = omega (arith, given_most g)
+mutex_most p h = omega arith
+
+rw_most : (n : ℕ) (p : RwPhase) → 1 ≤ n → rw_rounds p ≤ 10 → rw_taken p ≤ n → rw_steps n Unseen p ≤ 219 * n + 200
+rw_most n (r.Loads a) some h k = omega (arith, h, some, vain_most a.want, after_most a.want)
+rw_most n (r.Admits a word) some h k = omega (arith, h, some, vain_most a.want, after_most a.want)
+rw_most n (r.Spins a) some h k = omega (arith, h, some, vain_most a.want, after_most a.want)
+rw_most n (r.SetParked a word) some h k = omega (arith, h, some, vain_most a.want, after_most a.want)
+rw_most n (r.Enters w woken) some h k = omega (arith, some, vain_most w)
+rw_most n (r.Checks w woken) some h k = omega (arith, some, vain_most w)
+rw_most n (r.Retreats w woken) some h k = omega (arith, some, vain_most w)
+rw_most n (r.DrainLoads d) some h k = omega (arith, h, some)
+rw_most n (r.DrainSpins d) some h k = omega (arith, h, some)
+rw_most n (r.DrainSetParked d word) some h k = omega (arith, h, some)
+rw_most n (r.DrainEnters d) some h k = omega (arith, h, some)
+rw_most n (r.DrainChecks d) some h k = omega (arith, h, some)
+rw_most n (r.DrainRetreats d) some h k = omega (arith, h, some)
+rw_most n (r.DrainAppends rounds) some h k = omega (arith, h, some)
+rw_most n (r.DrainRests rounds) some h k = omega (arith, h, some)
+rw_most n (r.DrainSleeps rounds) some h k = omega (arith, h, some)
+rw_most n (r.BumpLoads w) some h k = omega (arith, some, vain_most w, after_most w)
+rw_most n (r.Relocks w) some h k = omega (arith, some, vain_most w, after_most w)
+rw_most n (r.Unshares rs) some h k = omega (arith, some, ends_most rs)
+rw_most n (r.EnterWriterWakeSection rs) some h k = omega (arith, some, ends_most rs)
+rw_most n (r.TakeWriter rs) some h k = omega (arith, some, ends_most rs)
+rw_most n (r.ClearWriterParked rs taken) some h k = omega (arith, some, ends_most rs, bit_most taken)
+rw_most n (r.LeaveWriterWakeSection rs taken) some h k = omega (arith, some, ends_most rs, bit_most taken)
+rw_most n (r.Unlocks fair rs) some h k = omega (arith, some, ends_most rs)
+rw_most n (r.LooksExclusive fair rs) some h k = omega (arith, some, ends_most rs)
+rw_most n (r.Scans s) some h k = omega (arith, some, k, ends_most s.rest)
+rw_most n (r.Stores s left) some h k = omega (arith, some, k, ends_most s.rest)
+rw_most n (r.Leaves rs count handed) some h k = omega (arith, some, k, ends_most rs)
+rw_most n (r.Wakes rs count) some h k = omega (arith, some, k, ends_most rs)
+rw_most n (r.Finishes rs) some h k = omega (arith, some, ends_most rs)
+rw_most n p some h k = omega (arith, some)
+
+pub core_most : (n : ℕ) (c : Core) → 1 ≤ n → FewRounds c → taken_count c ≤ n → core_steps n Unseen c ≤ 219 * n + 200
+core_most n (core.Mutex c) some h k = omega (arith, some, mutex_most c.phase h)
+core_most n (core.Rw c) some h k = rw_most n c.phase some h k
+
+-- all of a list
+pub sum_most : {X : Type 0} (f : X → ℕ) (m : ℕ) (xs : List X) → ((i : ℕ) (x : X) → slice_get xs i ≡ Some x → f x ≤ m) → sum_by f xs ≤ length xs * m
+sum_most f m [] all = omega arith
+sum_most f m (x ∷ xs) all = omega (arith, sum_by-cons f x xs, all 0 x refl, sum_most f m xs (λ i y at. all (suc i) y at), suc-mul (length xs) m)
+
+module _ (s : State) (h : FitsTogether s) where
+  -- a thread in a call is one of the threads, and has taken no more than there are
+  some : (t : ℕ) (c : Call) → call_at s t ≡ Some c → 1 ≤ length s.calls
+  some t c here = omega (arith, in_range s t c here)
+
+  few : (t : ℕ) (c : Call) → call_at s t ≡ Some c → taken_count c.core ≤ length s.calls
+  few t c here =
+      omega (arith, h.lots.counted t c here, taken_by-count s.wakes t, count_by-le-length (is_by t) s.wakes, h.wakes.room, count_by-le-length is_away s.calls)
+
+  far_few : (t : ℕ) (c : Call) → call_at s t ≡ Some c → far_steps (length s.calls) (Some c) ≤ most_steps (length s.calls)
+  far_few t c here = core_most (length s.calls) c.core (some t c here) (h.rules.begun t c here).few (few t c here)
+
+  slot_few : (t : ℕ) (o : Option Call) → slice_get s.calls t ≡ Some o → far_steps (length s.calls) o ≤ most_steps (length s.calls)
+  slot_few t None at = omega arith
+  slot_few t (Some c) at = far_few t c (ap (λ x. option_and_then (λ o. o) x) at)
+
+  pub steps_are_few : StepsAreFew s
+  steps_are_few = record {
+    each = λ t c here. omega (arith, none_more s h t (Some c) here, far_few t c here);
+    all = λ t.
+        omega (arith, others_and_one (length s.calls) s.calls t, none_more s h t (call_at s t) refl, sum_most (far_steps (length s.calls)) (most_steps (length s.calls)) s.calls slot_few);
+  }

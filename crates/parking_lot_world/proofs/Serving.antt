@@ -1,0 +1,265 @@
+-- Where threads wait, somebody is in debt; and where a thread is in a call, somebody can move.
+use Rattle.std.proofs.Common.{◌≡◌, ◌≢◌, ℕ, zero, suc, ◌<◌, ◌⊎◌, inl, inr, cond, Bool, true, false, not, List, length, Option, Some, None, slice_get, refl, sym, ap, ◌∙◌, subst}
+use Rattle.std.specs.Prelude.{IsTrue, is_some}
+use Rattle.std.specs.Option.{option_and_then, option_map_or}
+use Rattle.std.proofs.lemmas.Bool.{both_ways, cases_eq}
+use Rattle.parking_lot_core_lot.specs.declared.place.Section.{Section}
+use Rattle.parking_lot_core_lot.specs.Places.{place_at}
+use Rattle.parking_lot_rules.specs.Roles.{Asleep, Phase, Queued1, Taken1, Queued2, Taken2, Shares, Excludes, Upgrades, Owned, Idle}
+use Rattle.parking_lot_rules.specs.Laws as rw_laws
+use Rattle.parking_lot_rules.specs.Mutex as mutex
+use Rattle.parking_lot_rules.specs.MutexLaws as mutex_laws
+use Rattle.parking_lot_rules.proofs.Following as rw_follow
+use Rattle.parking_lot_rules.proofs.MutexFollowing as mutex_follow
+use Rattle.parking_lot_protocol.specs.declared.act.Act.{Act}
+use Rattle.parking_lot_protocol.specs.declared.act.Act.TheVariants as act
+use Rattle.parking_lot_protocol.specs.declared.mutex_phase.MutexPhase.{MutexPhase}
+use Rattle.parking_lot_protocol.specs.declared.mutex_phase.MutexPhase.TheVariants as m
+use Rattle.parking_lot_protocol.specs.declared.rw_phase.RwPhase.{RwPhase}
+use Rattle.parking_lot_protocol.specs.declared.rw_phase.RwPhase.TheVariants as r
+use Rattle.parking_lot_protocol.specs.declared.act.CoreAnswer.TheVariants as answer
+use Rattle.parking_lot_protocol.specs.declared.rw_phase.AfterWake.TheVariants as rest
+use Rattle.parking_lot_protocol.specs.MutexRules as rules_of_mutex
+use Rattle.parking_lot_protocol.specs.RwRules as rules_of_rw
+use Rattle.parking_lot_protocol.specs.MutexTable as of_mutex
+use Rattle.parking_lot_protocol.specs.RwTable as of_rw
+use Rattle.parking_lot_world.specs.declared.calls.LockKind.TheVariants as kind
+use Rattle.parking_lot_world.specs.declared.calls.OwnMode.{OwnMode}
+use Rattle.parking_lot_world.specs.declared.calls.OwnMode.TheVariants as mode
+use Rattle.parking_lot_world.specs.declared.seat.QueuePosition.{QueuePosition}
+use Rattle.parking_lot_world.specs.declared.seat.QueuePosition.TheVariants as spot
+use Rattle.parking_lot_world.specs.declared.seat.Core.{Core}
+use Rattle.parking_lot_world.specs.declared.seat.Core.TheVariants as core
+use Rattle.parking_lot_world.specs.declared.open_call.Call.{Call}
+use Rattle.parking_lot_world.specs.CallViews.{mutex_mode, rw_mode}
+use Rattle.parking_lot_world.specs.Machines.{can_move, can_move_in, is_asleep, is_possible, is_taken, sleeps}
+use Rattle.parking_lot_world.specs.RowFits.{FitsTogether, IsOfKind, Stands, Seated}
+use Rattle.parking_lot_world.specs.Rows.{State, first_of_all, mutex_spot, rw_spot, any_lock, mutex_at, rw_lock_at, call_at, everybody, hold_at, lock_at, mutex_core_role, mutex_role_at, rw_core_role, rw_role_at, taken_by}
+use Rattle.parking_lot_world.specs.SoundLaws.{IsApart, SomebodyCanMove, SomebodyKeeps}
+use Rattle.parking_lot_world.specs.Stances.{Stance, Out, In, Doing, core_act, mutex_stance, rw_stance, stance}
+use Rattle.parking_lot_world.specs.Stances as stances
+use Rattle.parking_lot_world.specs.Worlds.{mode_in}
+use Rattle.parking_lot_world.proofs.Everybody.{get-all, within-all, was-all}
+use Rattle.parking_lot_world.proofs.Viewing.{mutex_apart, mutex_role, rw_apart, rw_role}
+use Rattle.parking_lot_world.proofs.Meeting.{in_range, mutex_sound, rw_sound}
+
+-- ACTS
+
+pub possible_alone : (taken : ℕ → Bool) (a : Act) → sleeps a ≡ false → ((k : ℕ) → a ≡ act.Enter k → taken k ≡ false) → is_possible taken a ≡ true
+possible_alone taken act.Sleep e free = absurd cc
+possible_alone taken (act.Enter k) e free = ap not (free k refl)
+possible_alone taken a e free = refl
+
+-- one that is inside a section can go on
+mutex_inside : (p : MutexPhase) (k : ℕ) (how : Doing) (taken : ℕ → Bool) → mutex_stance p ≡ In k how → is_possible taken (of_mutex.act_of p) ≡ true
+mutex_inside (m.Checks woken) k how taken e = refl
+mutex_inside (m.Retreats woken) k how taken e = refl
+mutex_inside m.Appends k how taken e = refl
+mutex_inside m.Rests k how taken e = refl
+mutex_inside (m.Takes giving) k how taken e = refl
+mutex_inside (m.Stores giving took left) k how taken e = refl
+mutex_inside (m.Leaves giving took handed) k how taken e = refl
+mutex_inside p k how taken e = absurd cc
+
+rw_inside : (p : RwPhase) (k : ℕ) (how : Doing) (taken : ℕ → Bool) → rw_stance p ≡ In k how → is_possible taken (of_rw.act_of p) ≡ true
+rw_inside (r.Checks want woken) k how taken e = refl
+rw_inside (r.Retreats want woken) k how taken e = refl
+rw_inside (r.Appends want) k how taken e = refl
+rw_inside (r.Rests want) k how taken e = refl
+rw_inside (r.DrainChecks d) k how taken e = refl
+rw_inside (r.DrainRetreats d) k how taken e = refl
+rw_inside (r.DrainAppends rounds) k how taken e = refl
+rw_inside (r.DrainRests rounds) k how taken e = refl
+rw_inside (r.TakeWriter rest) k how taken e = refl
+rw_inside (r.ClearWriterParked rest took) k how taken e = refl
+rw_inside (r.LeaveWriterWakeSection rest took) k how taken e = refl
+rw_inside (r.Scans s) k how taken e = refl
+rw_inside (r.Stores s left) k how taken e = refl
+rw_inside (r.Leaves rest count handed) k how taken e = refl
+rw_inside p k how taken e = absurd cc
+
+inside_possible : (c : Core) (k : ℕ) (how : Doing) (taken : ℕ → Bool) → stance c ≡ In k how → is_possible taken (core_act c) ≡ true
+inside_possible (core.Mutex c) k how taken e = mutex_inside c.phase k how taken e
+inside_possible (core.Rw c) k how taken e = rw_inside c.phase k how taken e
+
+-- A SLEEPER, AS THE RULES SEE IT
+
+mutex_sleeps : (at : QueuePosition) (us : List ℕ) (p : MutexPhase) → sleeps (of_mutex.act_of p) ≡ true → mutex_laws.is_asleep (rules_of_mutex.does (mutex_spot at) (first_of_all us) p) ≡ true
+mutex_sleeps spot.Listed us m.Sleeps e = refl
+mutex_sleeps (spot.Off by said) us m.Sleeps e = refl
+mutex_sleeps at us (m.Finishes giving) e = absurd (goes_on giving.again e)
+  where
+    goes_on : (again : Bool) → sleeps (cond again act.Load (act.Done answer.Released)) ≡ true → ⊥
+    goes_on true e = cc
+    goes_on false e = cc
+mutex_sleeps at us p e = absurd cc
+
+rw_sleeps : (at : QueuePosition) (us : List ℕ) (p : RwPhase) → sleeps (of_rw.act_of p) ≡ true → rw_laws.is_asleep (rules_of_rw.does (rw_spot at) us p) ≡ true
+rw_sleeps spot.Listed us (r.Sleeps want) e = refl
+rw_sleeps (spot.Off by said) us (r.Sleeps want) e = refl
+rw_sleeps spot.Listed us (r.DrainSleeps rounds) e = refl
+rw_sleeps (spot.Off by said) us (r.DrainSleeps rounds) e = refl
+rw_sleeps at us (r.Finishes rest.FreedShared) e = absurd cc
+rw_sleeps at us (r.Finishes rest.FreedExclusive) e = absurd cc
+rw_sleeps at us (r.Finishes rest.Downgraded) e = absurd cc
+rw_sleeps at us (r.Finishes rest.AgainShared) e = absurd cc
+rw_sleeps at us (r.Finishes rest.AgainExclusive) e = absurd cc
+rw_sleeps at us p e = absurd cc
+
+-- a sleeper isn't at work, and isn't idle
+mutex_rests : (p : mutex.Phase) → mutex_laws.is_asleep p ≡ true → mutex_laws.is_at_work p ≡ false
+mutex_rests (mutex.Queued Asleep) e = refl
+mutex_rests (mutex.Taken by mark Asleep) e = refl
+mutex_rests p e = absurd cc
+
+rw_rests : (p : Phase) → rw_laws.is_asleep p ≡ true → rw_laws.is_at_work p ≡ false
+rw_rests (Queued1 mode Asleep) e = refl
+rw_rests (Taken1 mode by mark Asleep) e = refl
+rw_rests (Queued2 from Asleep) e = refl
+rw_rests (Taken2 from by Asleep) e = refl
+rw_rests p e = absurd cc
+
+-- one that owns a lock and does nothing there owns it in some mode
+keeps_rw : (o : Owned) → o ≢ Shares 0 → (a : OwnMode) × (rw_mode (record { owns = o; does = Idle }) ≡ Some a)
+keeps_rw (Shares zero) ne = absurd (ne refl)
+keeps_rw (Shares (suc n)) ne = (mode.Shared, refl)
+keeps_rw Excludes ne = (mode.Exclusive, refl)
+keeps_rw Upgrades ne = (mode.Upgradable, refl)
+
+-- the kinds are two
+apart_kinds : Some kind.Mutex ≡ Some kind.Rw → ⊥
+apart_kinds e = cc
+
+module _ (s : State) (h : FitsTogether s) where
+  -- WHO CAN MOVE
+
+  abbrev Moves : Type 0
+  Moves = (u : ℕ) × (can_move s u ≡ true)
+
+  -- where a section is open, the one inside can
+  module _ (o : Section) (is : s.lot.section ≡ Some o) where
+    abbrev whose : ℕ
+    whose = (h.lots.opened o is).0
+
+    at_work : (c : Call) (a : Stance) → stance c.core ≡ a → Stands whose c.lock a c.spot (place_at s.lot.places whose) s.lot.section → is_possible (is_taken s c) (core_act c.core) ≡ true
+    at_work c Out e st = absurd (st.1 o is (h.lots.opened o is).1)
+    at_work c (In k how) e st = inside_possible c.core k how (is_taken s c) e
+    at_work c (stances.Asleep k token) e st = absurd (st.1 o is (h.lots.opened o is).1)
+
+    goes_on : (call : Option Call) → Seated whose call (place_at s.lot.places whose) s.lot.section → can_move_in s call ≡ true
+    goes_on None seated = absurd (seated.1 o is (h.lots.opened o is).1)
+    goes_on (Some c) seated = at_work c (stance c.core) refl seated
+
+    inside_moves : (u : ℕ) × (can_move s u ≡ true)
+    inside_moves = (whose, goes_on (call_at s whose) (h.lots.seated whose (h.lots.opened o is).2))
+
+  -- where a thread in a call is awake, it can move, or the one inside a section
+  awake_moves : (t : ℕ) (c : Call) → call_at s t ≡ Some c → sleeps (core_act c.core) ≡ false → (u : ℕ) × (can_move s u ≡ true)
+  awake_moves t c here awake = go s.lot.section refl
+    where
+      go : (o : Option Section) → s.lot.section ≡ o → (u : ℕ) × (can_move s u ≡ true)
+      go None is = (t, ap (can_move_in s) here ∙ possible_alone (is_taken s c) (core_act c.core) awake (λ k e. ap is_some is))
+      go (Some o) is = inside_moves o is
+
+  -- WHO IS UP AT A LOCK WHERE A THREAD SLEEPS
+
+  pub by_call : (i v : ℕ) → (IsApart i (call_at s v)) ⊎ ((d : Call) × (call_at s v ≡ Some d) × (d.lock ≡ i))
+  by_call i v = go (call_at s v) refl
+    where
+      go : (o : Option Call) → call_at s v ≡ o → IsApart i o ⊎ ((d : Call) × (o ≡ Some d) × (d.lock ≡ i))
+      go None e = inl tt
+      go (Some d) e = elim (cases_eq d.lock i) [
+        | inl same ↦ inr (d, refl, same)
+        | inr ne ↦ inl ne
+      ]
+
+  -- Of locks of a kind whose threads are in such roles: `up` is what the rules say of a lock where a thread sleeps.
+  module _ {R : Type 0} (i : ℕ) (role_at : ℕ → R) (asleep at_work_there : R → Bool) (owner : R → Type 0)
+      (rests : (q : R) → asleep q ≡ true → at_work_there q ≡ false)
+      (idles : (q : R) → owner q → asleep q ≡ false)
+      (apart : (v : ℕ) → IsApart i (call_at s v) → at_work_there (role_at v) ≡ false)
+      (sleeper : (v : ℕ) (d : Call) → call_at s v ≡ Some d → d.lock ≡ i → sleeps (core_act d.core) ≡ true → asleep (role_at v) ≡ true)
+      (keeps : (v : ℕ) → v < length s.calls → owner (role_at v) → (a : OwnMode) × (mode_in (lock_at s i) v ≡ Some a)) where
+    up_there : (v : ℕ) (q : R) → slice_get (everybody role_at s) v ≡ Some q → (IsTrue (at_work_there q) ⊎ owner q) → Moves ⊎ SomebodyKeeps s i
+    up_there v q at does = elim (by_call i v) [
+      | inl away ↦ elim does [
+        | inl works ↦ absurd (both_ways (at_work_there q) (ap at_work_there is ∙ apart v away) works)
+        | inr owns ↦ let held = keeps v (within-all role_at (length s.calls) v q at) (subst owner is owns) in inr (v, held.0, held.1, away)
+      ]
+      | inr d ↦ go d.0 d.1 d.2 (sleeps (core_act d.0.core)) refl
+    ]
+      where
+        is : q ≡ role_at v
+        is = was-all role_at (length s.calls) v q at
+
+        go : (d : Call) → call_at s v ≡ Some d → d.lock ≡ i → (b : Bool) → sleeps (core_act d.core) ≡ b → Moves ⊎ SomebodyKeeps s i
+        go d there same false e = inl (awake_moves v d there e)
+        go d there same true e = let rest : asleep q ≡ true = ap asleep is ∙ sleeper v d there same e in elim does [
+          | inl works ↦ absurd (both_ways (at_work_there q) (rests q rest) works)
+          | inr owns ↦ absurd (both_ways (asleep q) (idles q owns) rest)
+        ]
+
+  -- the role of a sleeper
+  rw_sleeper : (i v : ℕ) (d : Call) → slice_get s.kinds i ≡ Some kind.Rw → call_at s v ≡ Some d → d.lock ≡ i → sleeps (core_act d.core) ≡ true → rw_laws.is_asleep (rw_role_at s i v).does ≡ true
+  rw_sleeper i v d of there same e =
+      ap (λ j. rw_laws.is_asleep (rw_role_at s j v).does) (sym same) ∙ ap (λ x. rw_laws.is_asleep x.does) (rw_role s v h d there) ∙ go d.core refl (h.rules.kinds v d there)
+    where
+      go : (x : Core) → d.core ≡ x → IsOfKind (slice_get s.kinds d.lock) x → rw_laws.is_asleep (rw_core_role d.others d.spot (taken_by s.wakes v) d.core).does ≡ true
+      go (core.Rw k) f of_kind =
+          ap (λ x. rw_laws.is_asleep (rw_core_role d.others d.spot (taken_by s.wakes v) x).does) f ∙ rw_sleeps d.spot (taken_by s.wakes v) k.phase (ap (λ x. sleeps (core_act x)) (sym f) ∙ e)
+      go (core.Mutex k) f of_kind = absurd (apart_kinds (sym of_kind ∙ ap (slice_get s.kinds) same ∙ of))
+
+  mutex_sleeper : (i v : ℕ) (d : Call) → slice_get s.kinds i ≡ Some kind.Mutex → call_at s v ≡ Some d → d.lock ≡ i → sleeps (core_act d.core) ≡ true → mutex_laws.is_asleep (mutex_role_at s i v).does ≡ true
+  mutex_sleeper i v d of there same e =
+      ap (λ j. mutex_laws.is_asleep (mutex_role_at s j v).does) (sym same) ∙ ap (λ x. mutex_laws.is_asleep x.does) (mutex_role s v h d there) ∙ go d.core refl (h.rules.kinds v d there)
+    where
+      go : (x : Core) → d.core ≡ x → IsOfKind (slice_get s.kinds d.lock) x → mutex_laws.is_asleep (mutex_core_role d.spot (taken_by s.wakes v) d.core).does ≡ true
+      go (core.Mutex k) f of_kind =
+          ap (λ x. mutex_laws.is_asleep (mutex_core_role d.spot (taken_by s.wakes v) x).does) f ∙ mutex_sleeps d.spot (taken_by s.wakes v) k.phase (ap (λ x. sleeps (core_act x)) (sym f) ∙ e)
+      go (core.Rw k) f of_kind = absurd (apart_kinds (sym (ap (slice_get s.kinds) same ∙ of) ∙ of_kind))
+
+  module _ (t : ℕ) (c : Call) (here : call_at s t ≡ Some c) where
+    rw_up : slice_get s.kinds c.lock ≡ Some kind.Rw → sleeps (core_act c.core) ≡ true → Moves ⊎ SomebodyKeeps s c.lock
+    rw_up of asleep =
+        let i = c.lock in
+        let up = rw_follow.somebody_can_move (rw_lock_at s i) (rw_sound s h i of) t (rw_role_at s i t) (get-all (rw_role_at s i) (length s.calls) t (in_range s t c here)) (rw_sleeper i t c of here refl asleep) in
+        up_there i (rw_role_at s i) (λ q. rw_laws.is_asleep q.does) (λ q. rw_laws.is_at_work q.does) rw_laws.IsOwner
+        (λ q e. rw_rests q.does e)
+        (λ q owns. ap rw_laws.is_asleep owns.0)
+        (λ v away. ap (λ q. rw_laws.is_at_work q.does) (rw_apart i (taken_by s.wakes v) (hold_at s v i) (call_at s v) away))
+        (λ v d there same e. rw_sleeper i v d of there same e)
+        (λ v low owns.
+        let held = keeps_rw (rw_role_at s i v).owns owns.1 in
+        (held.0, ap (λ o. mode_in (any_lock o s i) v) of ∙ ap (option_and_then rw_mode) (get-all (rw_role_at s i) (length s.calls) v low) ∙ ap (λ p. rw_mode (record { owns = (rw_role_at s i v).owns; does = p })) owns.0 ∙ held.1))
+        up.0 up.1 up.2 up.3
+
+    mutex_up : slice_get s.kinds c.lock ≡ Some kind.Mutex → sleeps (core_act c.core) ≡ true → Moves ⊎ SomebodyKeeps s c.lock
+    mutex_up of asleep =
+        let i = c.lock in
+        let up = mutex_follow.somebody_can_move (mutex_at s i) (mutex_sound s h i of) t (mutex_role_at s i t) (get-all (mutex_role_at s i) (length s.calls) t (in_range s t c here)) (mutex_sleeper i t c of here refl asleep) in
+        up_there i (mutex_role_at s i) (λ q. mutex_laws.is_asleep q.does) (λ q. mutex_laws.is_at_work q.does) (λ q. (q.owns ≡ true) × (q.does ≡ mutex.Idle))
+        (λ q e. mutex_rests q.does e)
+        (λ q owns. ap mutex_laws.is_asleep owns.1)
+        (λ v away. ap (λ q. mutex_laws.is_at_work q.does) (mutex_apart i (taken_by s.wakes v) (hold_at s v i) (call_at s v) away))
+        (λ v d there same e. mutex_sleeper i v d of there same e)
+        (λ v low owns.
+        (mode.Exclusive, ap (λ o. mode_in (any_lock o s i) v) of ∙ ap (option_and_then mutex_mode) (get-all (mutex_role_at s i) (length s.calls) v low) ∙ ap (λ p. mutex_mode (record { owns = (mutex_role_at s i v).owns; does = p })) owns.1 ∙ ap (λ b. mutex_mode (record { owns = b; does = mutex.Idle })) owns.0))
+        up.0 up.1 up.2 up.3
+
+    somebody : Moves ⊎ ((is_asleep s t ≡ true) × SomebodyKeeps s c.lock)
+    somebody = go (sleeps (core_act c.core)) refl
+      where
+        slept : sleeps (core_act c.core) ≡ true → Moves ⊎ SomebodyKeeps s c.lock → Moves ⊎ ((is_asleep s t ≡ true) × SomebodyKeeps s c.lock)
+        slept e (inl x) = inl x
+        slept e (inr x) = inr (ap (λ o. option_map_or (λ (d : Call). sleeps (core_act d.core)) o false) here ∙ e, x)
+
+        by_core : (k : Core) → c.core ≡ k → IsOfKind (slice_get s.kinds c.lock) k → sleeps (core_act c.core) ≡ true → Moves ⊎ SomebodyKeeps s c.lock
+        by_core (core.Rw k) e of asleep = rw_up of asleep
+        by_core (core.Mutex k) e of asleep = mutex_up of asleep
+
+        go : (b : Bool) → sleeps (core_act c.core) ≡ b → Moves ⊎ ((is_asleep s t ≡ true) × SomebodyKeeps s c.lock)
+        go false e = inl (awake_moves t c here e)
+        go true e = slept e (by_core c.core refl (h.rules.kinds t c here) e)
+
+pub somebody_can_move : (s : State) → FitsTogether s → SomebodyCanMove s
+somebody_can_move s h t c here = somebody s h t c here

@@ -1,0 +1,45 @@
+-- For how many rounds a call may still spin before it goes to sleep.
+use Rattle.std.specs.Prelude.{◌≡◌, ℕ, ◌≤◌, true}
+use Rattle.parking_lot_protocol.specs.declared.mutex_phase.MutexPhase.{MutexPhase}
+use Rattle.parking_lot_protocol.specs.declared.mutex_phase.MutexPhase.TheVariants as m
+use Rattle.parking_lot_protocol.specs.declared.rw_phase.RwPhase.{RwPhase}
+use Rattle.parking_lot_protocol.specs.declared.rw_phase.RwPhase.TheVariants as r
+use Rattle.parking_lot_world.specs.declared.seat.Core.{Core}
+use Rattle.parking_lot_world.specs.declared.seat.Core.TheVariants as core
+use Rattle.parking_lot_world.specs.Stances.{has_begun}
+
+abbrev pub mutex_rounds : MutexPhase → ℕ
+mutex_rounds (m.Loads a) = a.rounds
+mutex_rounds (m.Locks a waiters) = a.rounds
+mutex_rounds (m.Spins a) = a.rounds
+mutex_rounds (m.Parks a) = a.rounds
+mutex_rounds phase = 0
+
+abbrev pub rw_rounds : RwPhase → ℕ
+rw_rounds (r.Loads a) = a.rounds
+rw_rounds (r.Admits a word) = a.rounds
+rw_rounds (r.Spins a) = a.rounds
+rw_rounds (r.SetParked a word) = a.rounds
+rw_rounds (r.DrainLoads d) = d.rounds
+rw_rounds (r.DrainSpins d) = d.rounds
+rw_rounds (r.DrainSetParked d word) = d.rounds
+rw_rounds (r.DrainEnters d) = d.rounds
+rw_rounds (r.DrainChecks d) = d.rounds
+rw_rounds (r.DrainRetreats d) = d.rounds
+rw_rounds (r.DrainAppends rounds) = rounds
+rw_rounds (r.DrainRests rounds) = rounds
+rw_rounds (r.DrainSleeps rounds) = rounds
+rw_rounds phase = 0
+
+abbrev pub rounds : Core → ℕ
+rounds (core.Mutex c) = mutex_rounds c.phase
+rounds (core.Rw c) = rw_rounds c.phase
+
+-- at most ten
+abbrev pub FewRounds : Core → Type 0
+FewRounds c = rounds c ≤ 10
+
+-- a call that was told that it begins
+pub record IsUnderWay (c : Core) : Type 0 where
+  pub begun : has_begun c ≡ true
+  pub few : FewRounds c
