@@ -11,45 +11,31 @@ use Rattle.parking_lot_core_lot.specs.declared.parking.ParkToken.{ParkToken}
 use Rattle.parking_lot_core_lot.specs.Sound as lot
 use Rattle.parking_lot_rules.proofs.Indexed.{get-set_same, get-set_other}
 use Rattle.parking_lot_protocol.specs.declared.act.Act.{Act}
-use Rattle.parking_lot_protocol.specs.declared.act.Act.TheVariants as act
 use Rattle.parking_lot_protocol.specs.declared.act.SectionAct.TheVariants as section
 use Rattle.parking_lot_protocol.specs.declared.act.ActResult.{ActResult}
-use Rattle.parking_lot_protocol.specs.declared.act.ActResult.TheVariants as seen
 use Rattle.parking_lot_protocol.specs.Acts.{Gives, word_after}
 use Rattle.parking_lot_world.specs.declared.seat.QueuePosition.TheVariants as spot
 use Rattle.parking_lot_world.specs.declared.seat.Core.{Core}
-use Rattle.parking_lot_world.specs.declared.seat.Core.TheVariants as core
 use Rattle.parking_lot_world.specs.declared.open_call.Call.{Call}
 use Rattle.parking_lot_world.specs.Rows.{State, word_at, call_at, inside}
 use Rattle.parking_lot_world.specs.Stances.{Doing, Stance, Out, In, Joined, Asleep, stance, taken_count, core_act, core_next}
 use Rattle.parking_lot_world.specs.StanceLaws.{StaysOut, LeavesFor}
 use Rattle.parking_lot_world.specs.RowActs.{with_call, with_word, hears, loaded, exchanged, added, spun, entered, checked, left}
-use Rattle.parking_lot_world.specs.RowFits.{FitsTogether, LotFits, RulesFit, IsOfKind}
-use Rattle.parking_lot_world.specs.RowSteps.{Goes}
+use Rattle.parking_lot_world.specs.RowFits.{FitsTogether, LotFits, IsOfKind}
 use Rattle.parking_lot_world.specs.ActLaws.{ActsAreSteps, Acts, Keeps}
 use Rattle.parking_lot_world.proofs.Stancing.{leads_by}
-use Rattle.parking_lot_world.proofs.LotActs.{stays_out, same_parts, seat_of}
-use Rattle.parking_lot_world.proofs.LotSections.{entered_fits, checked_fits, left_fits}
+use Rattle.parking_lot_world.proofs.LotActs.{stays_out, same_parts, seat_of, entered_fits, checked_fits, left_fits}
 use Rattle.parking_lot_world.proofs.OwnMoves.{AfterAct, IsOwnAct}
 use Rattle.parking_lot_world.proofs.Owning.{OwnAct}
-use Rattle.parking_lot_world.proofs.OwnActs.{own_rw, own_mutex}
+use Rattle.parking_lot_world.proofs.OwnActs.{own_fits}
 use Rattle.parking_lot_world.proofs.WakesKept.{wakes_own}
-use Rattle.parking_lot_world.proofs.Starting.{begins}
-use Rattle.parking_lot_world.proofs.Answering.{ends, never}
+use Rattle.parking_lot_world.proofs.Starting.{begins, ends, never}
 
 -- A thread's own act, of which the lot's side is known.
 module _ (s u : State) (t : ℕ) (c : Call) (told : ActResult) (h : FitsTogether s) (a : OwnAct s u t c told (core_next c.core told) c.spot) (lists_same : (key : ℕ) → u.lot.queues key ≡ s.lot.queues key) (gives : Gives (core_act c.core) (word_at s c.lock) told)
     (own : IsOwnAct (core_act c.core)) (around : AfterAct (core_act c.core) t (inside s) (inside u)) (lots : LotFits u) where
-  by_core : (x : Core) → c.core ≡ x → RulesFit u × Goes t c told s u
-  by_core (core.Rw k) e =
-      own_rw s u t h c told k e (subst (λ (x : Core). OwnAct s u t c told (core_next x told) c.spot) e a) lists_same (subst (λ (x : Core). Gives (core_act x) (word_at s c.lock) told) e gives)
-      (subst (λ (x : Core). IsOwnAct (core_act x)) e own) (subst (λ (x : Core). AfterAct (core_act x) t (inside s) (inside u)) e around)
-  by_core (core.Mutex k) e =
-      own_mutex s u t h c told k e (subst (λ (x : Core). OwnAct s u t c told (core_next x told) c.spot) e a) lists_same (subst (λ (x : Core). Gives (core_act x) (word_at s c.lock) told) e gives)
-      (subst (λ (x : Core). IsOwnAct (core_act x)) e own) (subst (λ (x : Core). AfterAct (core_act x) t (inside s) (inside u)) e around)
-
   pub own_act : (what : ActResult) × Acts t c what s u
-  own_act = let both = by_core c.core refl in (told, record { fits = record { lots = lots; wakes = wakes_own s u t c told (core_next c.core told) a h.wakes; rules = both.0 }; goes = both.1 })
+  own_act = let both = own_fits s u t h c told lists_same a gives own around in (told, record { fits = record { lots = lots; wakes = wakes_own s u t c told (core_next c.core told) a h.wakes; rules = both.0 }; goes = both.1 })
 
 -- THE WORD
 
@@ -58,8 +44,8 @@ pub has_word : (s : State) → FitsTogether s → (t : ℕ) (c : Call) → call_
 has_word s h t c here = subst (λ n. c.lock < n) (sym h.rules.size_words) (within c.core refl)
   where
     within : (x : Core) → c.core ≡ x → c.lock < length s.kinds
-    within (core.Rw k) e = slice_get_within s.kinds c.lock _ (subst (IsOfKind (slice_get s.kinds c.lock)) e (h.rules.kinds t c here))
-    within (core.Mutex k) e = slice_get_within s.kinds c.lock _ (subst (IsOfKind (slice_get s.kinds c.lock)) e (h.rules.kinds t c here))
+    within (Core.Rw k) e = slice_get_within s.kinds c.lock _ (subst (IsOfKind (slice_get s.kinds c.lock)) e (h.rules.kinds t c here))
+    within (Core.Mutex k) e = slice_get_within s.kinds c.lock _ (subst (IsOfKind (slice_get s.kinds c.lock)) e (h.rules.kinds t c here))
 
 pub word-here : (words : List ℕ) (j x : ℕ) → j < length words → option_map_or (λ w. w) (slice_get (slice_set words j x) j) 0 ≡ x
 word-here words j x b = go (slice_get words j) refl
@@ -128,55 +114,55 @@ module _ (s : State) (t : ℕ) (c : Call) (told : ActResult) (x : Act) (asked : 
       (subst (λ (y : Act). Gives y (word_at s c.lock) told) (sym asked) gives) (subst IsOwnAct (sym asked) own) (subst (λ (y : Act). AfterAct y t (inside s) (inside s)) (sym asked) (around (inside s)))
       (same_parts (with_call s t (hears c told)) (with_word (with_call s t (hears c told)) c.lock word) refl refl refl (stays_out s t c told h.lots here leads))
 
-load : (s : State) (t : ℕ) (c : Call) → core_act c.core ≡ act.Load → Keeps t c s (loaded s t c)
+load : (s : State) (t : ℕ) (c : Call) → core_act c.core ≡ Act.Load → Keeps t c s (loaded s t c)
 load s t c asked h here =
-    let told = seen.Word (word_at s c.lock) in
-    looks s t c told act.Load asked h here refl tt (λ o. refl) (leads_by c.core act.Load (word_at s c.lock) told asked refl) refl
+    let told = ActResult.Word (word_at s c.lock) in
+    looks s t c told Act.Load asked h here refl tt (λ o. refl) (leads_by c.core Act.Load (word_at s c.lock) told asked refl) refl
 
-spin : (s : State) (t : ℕ) (c : Call) → core_act c.core ≡ act.Spin → Keeps t c s (spun s t c)
+spin : (s : State) (t : ℕ) (c : Call) → core_act c.core ≡ Act.Spin → Keeps t c s (spun s t c)
 spin s t c asked h here =
-    let told = seen.Spun true in
-    looks s t c told act.Spin asked h here tt tt (λ o. refl) (leads_by c.core act.Spin (word_at s c.lock) told asked tt) refl
+    let told = ActResult.Spun true in
+    looks s t c told Act.Spin asked h here tt tt (λ o. refl) (leads_by c.core Act.Spin (word_at s c.lock) told asked tt) refl
 
-add : (s : State) (t : ℕ) (c : Call) (by : ℕ) → core_act c.core ≡ act.Add by → Keeps t c s (added s t c by)
+add : (s : State) (t : ℕ) (c : Call) (by : ℕ) → core_act c.core ≡ Act.Add by → Keeps t c s (added s t c by)
 add s t c by asked h here =
-    let told = seen.Before (word_at s c.lock) in
-    writes s t c told (act.Add by) asked h here refl tt (λ o. refl) (leads_by c.core (act.Add by) (word_at s c.lock) told asked refl) ((word_at s c.lock + by) % 2 ^ 64) refl
+    let told = ActResult.Before (word_at s c.lock) in
+    writes s t c told (Act.Add by) asked h here refl tt (λ o. refl) (leads_by c.core (Act.Add by) (word_at s c.lock) told asked refl) ((word_at s c.lock + by) % 2 ^ 64) refl
 
-exchange : (s : State) (t : ℕ) (c : Call) (from to : ℕ) → core_act c.core ≡ act.Exchange from to → Keeps t c s (exchanged s t c from to)
+exchange : (s : State) (t : ℕ) (c : Call) (from to : ℕ) → core_act c.core ≡ Act.Exchange from to → Keeps t c s (exchanged s t c from to)
 exchange s t c from to asked h here = elim (cases_eq (word_at s c.lock) from) [
-  | inl e ↦ subst (λ (b : Bool). (what : ActResult) × Acts t c what s (cond b (with_word (with_call s t (hears c seen.Exchanged)) c.lock to) (loaded s t c))) (sym (eq-eqb (word_at s c.lock) from e))
-      (writes s t c seen.Exchanged (act.Exchange from to) asked h here e tt (λ o. refl) (leads_by c.core (act.Exchange from to) (word_at s c.lock) seen.Exchanged asked e) to refl)
-  | inr ne ↦ subst (λ (b : Bool). (what : ActResult) × Acts t c what s (cond b (with_word (with_call s t (hears c seen.Exchanged)) c.lock to) (loaded s t c))) (sym (ne_eqb (word_at s c.lock) from ne))
-      (let told = seen.Word (word_at s c.lock) in looks s t c told (act.Exchange from to) asked h here (refl, ne) tt (λ o. refl) (leads_by c.core (act.Exchange from to) (word_at s c.lock) told asked (refl, ne)) refl)
+  | inl e ↦ subst (λ (b : Bool). (what : ActResult) × Acts t c what s (cond b (with_word (with_call s t (hears c ActResult.Exchanged)) c.lock to) (loaded s t c))) (sym (eq-eqb (word_at s c.lock) from e))
+      (writes s t c ActResult.Exchanged (Act.Exchange from to) asked h here e tt (λ o. refl) (leads_by c.core (Act.Exchange from to) (word_at s c.lock) ActResult.Exchanged asked e) to refl)
+  | inr ne ↦ subst (λ (b : Bool). (what : ActResult) × Acts t c what s (cond b (with_word (with_call s t (hears c ActResult.Exchanged)) c.lock to) (loaded s t c))) (sym (ne_eqb (word_at s c.lock) from ne))
+      (let told = ActResult.Word (word_at s c.lock) in looks s t c told (Act.Exchange from to) asked h here (refl, ne) tt (λ o. refl) (leads_by c.core (Act.Exchange from to) (word_at s c.lock) told asked (refl, ne)) refl)
 ]
 
 -- SECTIONS
 
-enter : (s : State) (t : ℕ) (c : Call) (key : ℕ) → core_act c.core ≡ act.Enter key → s.lot.section ≡ None → lot.Sound (entered s t c key).lot → Keeps t c s (entered s t c key)
+enter : (s : State) (t : ℕ) (c : Call) (key : ℕ) → core_act c.core ≡ Act.Enter key → s.lot.section ≡ None → lot.Sound (entered s t c key).lot → Keeps t c s (entered s t c key)
 enter s t c key asked free sound h here =
-    let leads = leads_by c.core (act.Enter key) (word_at s c.lock) seen.Entered asked tt in
-    own_act s (entered s t c key) t c seen.Entered h (record {
+    let leads = leads_by c.core (Act.Enter key) (word_at s c.lock) ActResult.Entered asked tt in
+    own_act s (entered s t c key) t c ActResult.Entered h (record {
       here = here;
       calls = refl;
       kinds = refl;
       wakes = refl;
       holds = refl;
       sizes = refl;
-      word = sym (ap (λ y. word_after y seen.Entered (word_at s c.lock)) asked);
+      word = sym (ap (λ y. word_after y ActResult.Entered (word_at s c.lock)) asked);
       words = λ i ne. refl;
       queues = λ i k ne b. refl;
       listed = λ k token e. elim leads.1 [ inl x ↦ awake_never _ key _ k token _ x e | inr x ↦ awake_never _ key _ k token _ x e ];
     })
     (λ key. refl)
-    (subst (λ (y : Act). Gives y (word_at s c.lock) seen.Entered) (sym asked) tt) (subst IsOwnAct (sym asked) tt)
+    (subst (λ (y : Act). Gives y (word_at s c.lock) ActResult.Entered) (sym asked) tt) (subst IsOwnAct (sym asked) tt)
     (subst (λ (y : Act). AfterAct y t (inside s) (inside (entered s t c key))) (sym asked) (ap (option_and_then (λ x. x.thread)) free, refl))
     (entered_fits s t c h.lots here key free sound leads.0 leads.1 leads.2)
 
-check : (s : State) (t : ℕ) (c : Call) → core_act c.core ≡ act.Section section.Check → lot.Sound (checked s t c).lot → Keeps t c s (checked s t c)
+check : (s : State) (t : ℕ) (c : Call) → core_act c.core ≡ Act.Section section.Check → lot.Sound (checked s t c).lot → Keeps t c s (checked s t c)
 check s t c asked sound h here =
-    let told = seen.Word (word_at s c.lock) in
-    let leads = leads_by c.core (act.Section section.Check) (word_at s c.lock) told asked refl in
+    let told = ActResult.Word (word_at s c.lock) in
+    let leads = leads_by c.core (Act.Section section.Check) (word_at s c.lock) told asked refl in
     own_act s (checked s t c) t c told h (record {
       here = here;
       calls = refl;
@@ -194,27 +180,27 @@ check s t c asked sound h here =
     (subst (λ (y : Act). AfterAct y t (inside s) (inside (checked s t c))) (sym asked) (still_inside s.lot.section _))
     (checked_fits s t c h.lots here leads.0 leads.1 leads.3 sound leads.2 leads.4)
 
-leave : (s : State) (t : ℕ) (c : Call) → core_act c.core ≡ act.Section section.Leave → lot.Sound (left s t c).lot → Keeps t c s (left s t c)
+leave : (s : State) (t : ℕ) (c : Call) → core_act c.core ≡ Act.Section section.Leave → lot.Sound (left s t c).lot → Keeps t c s (left s t c)
 leave s t c asked sound h here =
-    let leads = leads_by c.core (act.Section section.Leave) (word_at s c.lock) seen.Made asked tt in
-    own_act s (left s t c) t c seen.Made h (record {
+    let leads = leads_by c.core (Act.Section section.Leave) (word_at s c.lock) ActResult.Made asked tt in
+    own_act s (left s t c) t c ActResult.Made h (record {
       here = here;
       calls = refl;
       kinds = refl;
       wakes = refl;
       holds = refl;
       sizes = refl;
-      word = sym (ap (λ y. word_after y seen.Made (word_at s c.lock)) asked);
+      word = sym (ap (λ y. word_after y ActResult.Made (word_at s c.lock)) asked);
       words = λ i ne. refl;
       queues = λ i k ne b. refl;
       listed = λ k token e. listed_as leads k token e;
     })
     (λ key. refl)
-    (subst (λ (y : Act). Gives y (word_at s c.lock) seen.Made) (sym asked) tt) (subst IsOwnAct (sym asked) tt)
+    (subst (λ (y : Act). Gives y (word_at s c.lock) ActResult.Made) (sym asked) tt) (subst IsOwnAct (sym asked) tt)
     (subst (λ (y : Act). AfterAct y t (inside s) None) (sym asked) refl)
     (left_fits s t c h.lots here sound leads)
   where
-    listed_as : LeavesFor (stance c.core) (stance (core_next c.core seen.Made)) (taken_count c.core) (taken_count (core_next c.core seen.Made)) → (k : ℕ) (token : ParkToken) → stance (core_next c.core seen.Made) ≡ Asleep k token → c.spot ≡ spot.Listed
+    listed_as : LeavesFor (stance c.core) (stance (core_next c.core ActResult.Made)) (taken_count c.core) (taken_count (core_next c.core ActResult.Made)) → (k : ℕ) (token : ParkToken) → stance (core_next c.core ActResult.Made) ≡ Asleep k token → c.spot ≡ spot.Listed
     listed_as (inl x) k token e = never _ k token _ x.2 e
     listed_as (inr (inl x)) k token e = (seat_of s h.lots t c (In x.0 (Joined x.1)) here x.2).5.0
     listed_as (inr (inr x)) k token e = never _ k token _ x.3 e

@@ -13,7 +13,6 @@ use Rattle.parking_lot_rules.proofs.Mutexes as mutexes
 use Rattle.parking_lot_rules.proofs.Following.{owners_exclude}
 use Rattle.parking_lot_rules.proofs.MutexFollowing.{mutex_tells}
 use Rattle.parking_lot_world.specs.declared.calls.OwnMode.{OwnMode}
-use Rattle.parking_lot_world.specs.declared.calls.OwnMode.TheVariants as mode
 use Rattle.parking_lot_world.specs.CallViews.{Weighs, mutex_mode, owning_of, rw_mode}
 use Rattle.parking_lot_world.specs.RowFits.{FitsTogether}
 use Rattle.parking_lot_world.specs.Rows.{State, lock_at}
@@ -24,22 +23,22 @@ use Rattle.parking_lot_world.proofs.Weighing.{weighed}
 -- what the weights of two owners allow
 by_weights : (a b : OwnMode) (r x p w r' x' p' w' : ℕ) → Weighs r x p w (Some a) → Weighs r' x' p' w' (Some b)
     → (0 < w → r' + x' + p' + w' ≡ 0) → (0 < w' → r + x + p + w ≡ 0) → (0 < x + p + w → x' + p' + w' ≡ 0) → agrees a b ≡ true
-by_weights mode.Shared mode.Shared r x p w r' x' p' w' h k one two both = refl
-by_weights mode.Shared mode.Upgradable r x p w r' x' p' w' h k one two both = refl
-by_weights mode.Shared mode.Pending r x p w r' x' p' w' h k one two both = refl
-by_weights mode.Shared mode.Exclusive r x p w r' x' p' w' h k one two both = absurd (omega (arith, h.0, two (omega (arith, k.3))))
-by_weights mode.Upgradable mode.Shared r x p w r' x' p' w' h k one two both = refl
-by_weights mode.Upgradable mode.Upgradable r x p w r' x' p' w' h k one two both = absurd (omega (arith, k.1, both (omega (arith, h.1))))
-by_weights mode.Upgradable mode.Pending r x p w r' x' p' w' h k one two both = absurd (omega (arith, k.2, both (omega (arith, h.1))))
-by_weights mode.Upgradable mode.Exclusive r x p w r' x' p' w' h k one two both = absurd (omega (arith, k.3, both (omega (arith, h.1))))
-by_weights mode.Pending mode.Shared r x p w r' x' p' w' h k one two both = refl
-by_weights mode.Pending mode.Upgradable r x p w r' x' p' w' h k one two both = absurd (omega (arith, k.1, both (omega (arith, h.2))))
-by_weights mode.Pending mode.Pending r x p w r' x' p' w' h k one two both = absurd (omega (arith, k.2, both (omega (arith, h.2))))
-by_weights mode.Pending mode.Exclusive r x p w r' x' p' w' h k one two both = absurd (omega (arith, k.3, both (omega (arith, h.2))))
-by_weights mode.Exclusive mode.Shared r x p w r' x' p' w' h k one two both = absurd (omega (arith, k.0, one (omega (arith, h.3))))
-by_weights mode.Exclusive mode.Upgradable r x p w r' x' p' w' h k one two both = absurd (omega (arith, k.1, one (omega (arith, h.3))))
-by_weights mode.Exclusive mode.Pending r x p w r' x' p' w' h k one two both = absurd (omega (arith, k.2, one (omega (arith, h.3))))
-by_weights mode.Exclusive mode.Exclusive r x p w r' x' p' w' h k one two both = absurd (omega (arith, k.3, one (omega (arith, h.3))))
+by_weights OwnMode.Shared OwnMode.Shared r x p w r' x' p' w' h k one two both = refl
+by_weights OwnMode.Shared OwnMode.Upgradable r x p w r' x' p' w' h k one two both = refl
+by_weights OwnMode.Shared OwnMode.Pending r x p w r' x' p' w' h k one two both = refl
+by_weights OwnMode.Shared OwnMode.Exclusive r x p w r' x' p' w' h k one two both = absurd (omega (arith, h.0, two (omega (arith, k.3))))
+by_weights OwnMode.Upgradable OwnMode.Shared r x p w r' x' p' w' h k one two both = refl
+by_weights OwnMode.Upgradable OwnMode.Upgradable r x p w r' x' p' w' h k one two both = absurd (omega (arith, k.1, both (omega (arith, h.1))))
+by_weights OwnMode.Upgradable OwnMode.Pending r x p w r' x' p' w' h k one two both = absurd (omega (arith, k.2, both (omega (arith, h.1))))
+by_weights OwnMode.Upgradable OwnMode.Exclusive r x p w r' x' p' w' h k one two both = absurd (omega (arith, k.3, both (omega (arith, h.1))))
+by_weights OwnMode.Pending OwnMode.Shared r x p w r' x' p' w' h k one two both = refl
+by_weights OwnMode.Pending OwnMode.Upgradable r x p w r' x' p' w' h k one two both = absurd (omega (arith, k.1, both (omega (arith, h.2))))
+by_weights OwnMode.Pending OwnMode.Pending r x p w r' x' p' w' h k one two both = absurd (omega (arith, k.2, both (omega (arith, h.2))))
+by_weights OwnMode.Pending OwnMode.Exclusive r x p w r' x' p' w' h k one two both = absurd (omega (arith, k.3, both (omega (arith, h.2))))
+by_weights OwnMode.Exclusive OwnMode.Shared r x p w r' x' p' w' h k one two both = absurd (omega (arith, k.0, one (omega (arith, h.3))))
+by_weights OwnMode.Exclusive OwnMode.Upgradable r x p w r' x' p' w' h k one two both = absurd (omega (arith, k.1, one (omega (arith, h.3))))
+by_weights OwnMode.Exclusive OwnMode.Pending r x p w r' x' p' w' h k one two both = absurd (omega (arith, k.2, one (omega (arith, h.3))))
+by_weights OwnMode.Exclusive OwnMode.Exclusive r x p w r' x' p' w' h k one two both = absurd (omega (arith, k.3, one (omega (arith, h.3))))
 
 -- a thread that owns a lock of the rules is in a role there
 pub owner_role : {R : Type 0} (f : R → Option OwnMode) (o : Option R) (a : OwnMode) → option_and_then f o ≡ Some a → (q : R) × (o ≡ Some q) × (f q ≡ Some a)
@@ -76,8 +75,13 @@ module _ (m : mutex.Mutex) (sound : mutex.IsSound m) where
   one_alone t u a b ne e f =
       let x = owner_role mutex_mode (slice_get m.roles t) a e in
       let y = owner_role mutex_mode (slice_get m.roles u) b f in
-      omega (arith, owner_weighs t x.0 a x.1 x.2, owner_weighs u y.0 b y.1 y.2, ap (at_index (mutex.weight mutex.Owning)) y.1,
-      (mutex_tells m sound).alone t u ne (omega (arith, owner_weighs t x.0 a x.1 x.2, ap (at_index (mutex.weight mutex.Owning)) x.1)))
+      omega (
+        arith,
+        owner_weighs t x.0 a x.1 x.2,
+        owner_weighs u y.0 b y.1 y.2,
+        ap (at_index (mutex.weight mutex.Owning)) y.1,
+        (mutex_tells m sound).alone t u ne (omega (arith, owner_weighs t x.0 a x.1 x.2, ap (at_index (mutex.weight mutex.Owning)) x.1)),
+      )
 
 all_agree : (l : AnyLock) → AnySound l → (t u : ℕ) (a b : OwnMode) → t ≢ u → mode_in l t ≡ Some a → mode_in l u ≡ Some b → agrees a b ≡ true
 all_agree (Rw l) sound t u a b ne e f = agree l sound t u a b ne e f

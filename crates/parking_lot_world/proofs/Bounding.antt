@@ -7,16 +7,11 @@ use Rattle.std.specs.Prelude.{if◌then◌else◌}
 use Rattle.std.proofs.lemmas.List.Sums.{count_by-le-length, sum_by-cons}
 use Rattle.parking_lot_protocol.specs.declared.mutex_phase.Giving.{Giving}
 use Rattle.parking_lot_protocol.specs.declared.mutex_phase.MutexPhase.{MutexPhase}
-use Rattle.parking_lot_protocol.specs.declared.mutex_phase.MutexPhase.TheVariants as m
 use Rattle.parking_lot_protocol.specs.declared.rw_phase.AfterWake.{AfterWake}
-use Rattle.parking_lot_protocol.specs.declared.rw_phase.AfterWake.TheVariants as rest
 use Rattle.parking_lot_protocol.specs.declared.rw_phase.LockMode.{LockMode}
-use Rattle.parking_lot_protocol.specs.declared.rw_phase.LockMode.TheVariants as want
 use Rattle.parking_lot_protocol.specs.declared.rw_phase.RwPhase.{RwPhase}
-use Rattle.parking_lot_protocol.specs.declared.rw_phase.RwPhase.TheVariants as r
 use Rattle.parking_lot_rules.specs.Classes.{bit}
 use Rattle.parking_lot_world.specs.declared.seat.Core.{Core}
-use Rattle.parking_lot_world.specs.declared.seat.Core.TheVariants as core
 use Rattle.parking_lot_world.specs.declared.open_call.Call.{Call}
 use Rattle.parking_lot_world.specs.Ranks.{Unseen, comes_after, core_steps, far_steps, mutex_asks, mutex_ends, mutex_steps, rw_ends, rw_steps, vain}
 use Rattle.parking_lot_world.specs.Rounds.{FewRounds, mutex_rounds, rw_rounds}
@@ -26,24 +21,24 @@ use Rattle.parking_lot_world.specs.SoundLaws.{StepsAreFew, most_steps}
 use Rattle.parking_lot_world.specs.Stances.{rw_taken, taken_count}
 use Rattle.parking_lot_world.proofs.Carrying.{taken_by-count}
 use Rattle.parking_lot_world.proofs.Meeting.{in_range}
-use Rattle.parking_lot_world.proofs.PayEnds.{none_more}
+use Rattle.parking_lot_world.proofs.Paying.{none_more}
 use Rattle.parking_lot_world.proofs.Summing.{others_and_one}
 
 -- the parts of a call that goes on
 after_most : (w : LockMode) → comes_after Unseen w ≤ 31
-after_most (want.Shared recursive) = omega arith
-after_most want.Exclusive = omega arith
+after_most (LockMode.Shared recursive) = omega arith
+after_most LockMode.Exclusive = omega arith
 
 vain_most : (w : LockMode) → vain w ≤ 55
-vain_most (want.Shared recursive) = omega arith
-vain_most want.Exclusive = omega arith
+vain_most (LockMode.Shared recursive) = omega arith
+vain_most LockMode.Exclusive = omega arith
 
 ends_most : (rs : AfterWake) → rw_ends Unseen rs ≤ 109
-ends_most rest.FreedShared = omega arith
-ends_most rest.FreedExclusive = omega arith
-ends_most rest.Downgraded = omega arith
-ends_most rest.AgainShared = omega arith
-ends_most rest.AgainExclusive = omega arith
+ends_most AfterWake.FreedShared = omega arith
+ends_most AfterWake.FreedExclusive = omega arith
+ends_most AfterWake.Downgraded = omega arith
+ends_most AfterWake.AgainShared = omega arith
+ends_most AfterWake.AgainExclusive = omega arith
 
 bit_most : (b : Bool) → bit b ≤ 1
 bit_most true = omega arith
@@ -57,55 +52,55 @@ given_most g = go g.again
     go false = omega arith
 
 mutex_most : (p : MutexPhase) → mutex_rounds p ≤ 10 → mutex_steps Unseen p ≤ 219
-mutex_most (m.Loads a) h = omega (arith, h)
-mutex_most (m.Locks a waiters) h = omega (arith, h)
-mutex_most (m.Spins a) h = omega (arith, h)
-mutex_most (m.Parks a) h = omega (arith, h)
-mutex_most (m.Unlocks g) h = omega (arith, given_most g)
-mutex_most (m.Looks g) h = omega (arith, given_most g)
-mutex_most (m.Takes g) h = omega (arith, given_most g)
-mutex_most (m.Stores g taken left) h = omega (arith, given_most g, bit_most taken)
-mutex_most (m.Leaves g taken handed) h = omega (arith, given_most g, bit_most taken)
-mutex_most (m.Wakes g) h = omega (arith, given_most g)
-mutex_most (m.Finishes g) h = omega (arith, given_most g)
+mutex_most (MutexPhase.Loads a) h = omega (arith, h)
+mutex_most (MutexPhase.Locks a waiters) h = omega (arith, h)
+mutex_most (MutexPhase.Spins a) h = omega (arith, h)
+mutex_most (MutexPhase.Parks a) h = omega (arith, h)
+mutex_most (MutexPhase.Unlocks g) h = omega (arith, given_most g)
+mutex_most (MutexPhase.Looks g) h = omega (arith, given_most g)
+mutex_most (MutexPhase.Takes g) h = omega (arith, given_most g)
+mutex_most (MutexPhase.Stores g taken left) h = omega (arith, given_most g, bit_most taken)
+mutex_most (MutexPhase.Leaves g taken handed) h = omega (arith, given_most g, bit_most taken)
+mutex_most (MutexPhase.Wakes g) h = omega (arith, given_most g)
+mutex_most (MutexPhase.Finishes g) h = omega (arith, given_most g)
 mutex_most p h = omega arith
 
 rw_most : (n : ℕ) (p : RwPhase) → 1 ≤ n → rw_rounds p ≤ 10 → rw_taken p ≤ n → rw_steps n Unseen p ≤ 219 * n + 200
-rw_most n (r.Loads a) some h k = omega (arith, h, some, vain_most a.want, after_most a.want)
-rw_most n (r.Admits a word) some h k = omega (arith, h, some, vain_most a.want, after_most a.want)
-rw_most n (r.Spins a) some h k = omega (arith, h, some, vain_most a.want, after_most a.want)
-rw_most n (r.SetParked a word) some h k = omega (arith, h, some, vain_most a.want, after_most a.want)
-rw_most n (r.Enters w woken) some h k = omega (arith, some, vain_most w)
-rw_most n (r.Checks w woken) some h k = omega (arith, some, vain_most w)
-rw_most n (r.Retreats w woken) some h k = omega (arith, some, vain_most w)
-rw_most n (r.DrainLoads d) some h k = omega (arith, h, some)
-rw_most n (r.DrainSpins d) some h k = omega (arith, h, some)
-rw_most n (r.DrainSetParked d word) some h k = omega (arith, h, some)
-rw_most n (r.DrainEnters d) some h k = omega (arith, h, some)
-rw_most n (r.DrainChecks d) some h k = omega (arith, h, some)
-rw_most n (r.DrainRetreats d) some h k = omega (arith, h, some)
-rw_most n (r.DrainAppends rounds) some h k = omega (arith, h, some)
-rw_most n (r.DrainRests rounds) some h k = omega (arith, h, some)
-rw_most n (r.DrainSleeps rounds) some h k = omega (arith, h, some)
-rw_most n (r.BumpLoads w) some h k = omega (arith, some, vain_most w, after_most w)
-rw_most n (r.Relocks w) some h k = omega (arith, some, vain_most w, after_most w)
-rw_most n (r.Unshares rs) some h k = omega (arith, some, ends_most rs)
-rw_most n (r.EnterWriterWakeSection rs) some h k = omega (arith, some, ends_most rs)
-rw_most n (r.TakeWriter rs) some h k = omega (arith, some, ends_most rs)
-rw_most n (r.ClearWriterParked rs taken) some h k = omega (arith, some, ends_most rs, bit_most taken)
-rw_most n (r.LeaveWriterWakeSection rs taken) some h k = omega (arith, some, ends_most rs, bit_most taken)
-rw_most n (r.Unlocks fair rs) some h k = omega (arith, some, ends_most rs)
-rw_most n (r.LooksExclusive fair rs) some h k = omega (arith, some, ends_most rs)
-rw_most n (r.Scans s) some h k = omega (arith, some, k, ends_most s.rest)
-rw_most n (r.Stores s left) some h k = omega (arith, some, k, ends_most s.rest)
-rw_most n (r.Leaves rs count handed) some h k = omega (arith, some, k, ends_most rs)
-rw_most n (r.Wakes rs count) some h k = omega (arith, some, k, ends_most rs)
-rw_most n (r.Finishes rs) some h k = omega (arith, some, ends_most rs)
+rw_most n (RwPhase.Loads a) some h k = omega (arith, h, some, vain_most a.want, after_most a.want)
+rw_most n (RwPhase.Admits a word) some h k = omega (arith, h, some, vain_most a.want, after_most a.want)
+rw_most n (RwPhase.Spins a) some h k = omega (arith, h, some, vain_most a.want, after_most a.want)
+rw_most n (RwPhase.SetParked a word) some h k = omega (arith, h, some, vain_most a.want, after_most a.want)
+rw_most n (RwPhase.Enters w woken) some h k = omega (arith, some, vain_most w)
+rw_most n (RwPhase.Checks w woken) some h k = omega (arith, some, vain_most w)
+rw_most n (RwPhase.Retreats w woken) some h k = omega (arith, some, vain_most w)
+rw_most n (RwPhase.DrainLoads d) some h k = omega (arith, h, some)
+rw_most n (RwPhase.DrainSpins d) some h k = omega (arith, h, some)
+rw_most n (RwPhase.DrainSetParked d word) some h k = omega (arith, h, some)
+rw_most n (RwPhase.DrainEnters d) some h k = omega (arith, h, some)
+rw_most n (RwPhase.DrainChecks d) some h k = omega (arith, h, some)
+rw_most n (RwPhase.DrainRetreats d) some h k = omega (arith, h, some)
+rw_most n (RwPhase.DrainAppends rounds) some h k = omega (arith, h, some)
+rw_most n (RwPhase.DrainRests rounds) some h k = omega (arith, h, some)
+rw_most n (RwPhase.DrainSleeps rounds) some h k = omega (arith, h, some)
+rw_most n (RwPhase.BumpLoads w) some h k = omega (arith, some, vain_most w, after_most w)
+rw_most n (RwPhase.Relocks w) some h k = omega (arith, some, vain_most w, after_most w)
+rw_most n (RwPhase.Unshares rs) some h k = omega (arith, some, ends_most rs)
+rw_most n (RwPhase.EnterWriterWakeSection rs) some h k = omega (arith, some, ends_most rs)
+rw_most n (RwPhase.TakeWriter rs) some h k = omega (arith, some, ends_most rs)
+rw_most n (RwPhase.ClearWriterParked rs taken) some h k = omega (arith, some, ends_most rs, bit_most taken)
+rw_most n (RwPhase.LeaveWriterWakeSection rs taken) some h k = omega (arith, some, ends_most rs, bit_most taken)
+rw_most n (RwPhase.Unlocks fair rs) some h k = omega (arith, some, ends_most rs)
+rw_most n (RwPhase.LooksExclusive fair rs) some h k = omega (arith, some, ends_most rs)
+rw_most n (RwPhase.Scans s) some h k = omega (arith, some, k, ends_most s.rest)
+rw_most n (RwPhase.Stores s left) some h k = omega (arith, some, k, ends_most s.rest)
+rw_most n (RwPhase.Leaves rs count handed) some h k = omega (arith, some, k, ends_most rs)
+rw_most n (RwPhase.Wakes rs count) some h k = omega (arith, some, k, ends_most rs)
+rw_most n (RwPhase.Finishes rs) some h k = omega (arith, some, ends_most rs)
 rw_most n p some h k = omega (arith, some)
 
 pub core_most : (n : ℕ) (c : Core) → 1 ≤ n → FewRounds c → taken_count c ≤ n → core_steps n Unseen c ≤ 219 * n + 200
-core_most n (core.Mutex c) some h k = omega (arith, some, mutex_most c.phase h)
-core_most n (core.Rw c) some h k = rw_most n c.phase some h k
+core_most n (Core.Mutex c) some h k = omega (arith, some, mutex_most c.phase h)
+core_most n (Core.Rw c) some h k = rw_most n c.phase some h k
 
 -- all of a list
 pub sum_most : {X : Type 0} (f : X → ℕ) (m : ℕ) (xs : List X) → ((i : ℕ) (x : X) → slice_get xs i ≡ Some x → f x ≤ m) → sum_by f xs ≤ length xs * m

@@ -12,9 +12,7 @@ use Rattle.parking_lot_core_lot.specs.Sound.{Sound}
 use Rattle.parking_lot_core_lot.proofs.Numbers.{slice_get-set_other, count_by-at}
 use Rattle.parking_lot_core_lot.proofs.Sounds.{none≢some}
 use Rattle.parking_lot_world.specs.declared.seat.WakeResult.{WakeResult}
-use Rattle.parking_lot_world.specs.declared.seat.WakeResult.TheVariants as told
 use Rattle.parking_lot_world.specs.declared.seat.QueuePosition.{QueuePosition}
-use Rattle.parking_lot_world.specs.declared.seat.QueuePosition.TheVariants as spot
 use Rattle.parking_lot_world.specs.declared.open_call.Call.{Call}
 use Rattle.parking_lot_world.specs.declared.seat.Wakeup.{Wakeup}
 use Rattle.parking_lot_world.specs.Rows.{State, call_at, is_by, taken_by}
@@ -56,13 +54,13 @@ Wakeful o = (c : Call) → o ≡ Some c → WakesSome c.core
 
 pub record Carries (old new : Option Call) : Type 0 where
   -- who stands in a list stands there
-  pub listed : (k : ℕ) (token : ParkToken) (c : Call) → old ≡ Some c → c.spot ≡ spot.Listed → Awaits k token (stance c.core)
-      → (d : Call) × (new ≡ Some d) × (d.lock ≡ c.lock) × (d.spot ≡ spot.Listed) × Awaits k token (stance d.core)
+  pub listed : (k : ℕ) (token : ParkToken) (c : Call) → old ≡ Some c → c.spot ≡ QueuePosition.Listed → Awaits k token (stance c.core)
+      → (d : Call) × (new ≡ Some d) × (d.lock ≡ c.lock) × (d.spot ≡ QueuePosition.Listed) × Awaits k token (stance d.core)
   -- who sleeps off its list sleeps there, and nobody else does
-  pub sleeps : (k : ℕ) (token : ParkToken) (by : ℕ) (said : WakeResult) (c : Call) → old ≡ Some c → stance c.core ≡ Asleep k token → c.spot ≡ spot.Off by said
-      → (d : Call) × (new ≡ Some d) × (d.lock ≡ c.lock) × (stance d.core ≡ Asleep k token) × (now : WakeResult) × (d.spot ≡ spot.Off by now)
-  pub slept : (k : ℕ) (token : ParkToken) (by : ℕ) (said : WakeResult) (d : Call) → new ≡ Some d → stance d.core ≡ Asleep k token → d.spot ≡ spot.Off by said
-      → (c : Call) × (old ≡ Some c) × (stance c.core ≡ Asleep k token) × (before : WakeResult) × (c.spot ≡ spot.Off by before)
+  pub sleeps : (k : ℕ) (token : ParkToken) (by : ℕ) (said : WakeResult) (c : Call) → old ≡ Some c → stance c.core ≡ Asleep k token → c.spot ≡ QueuePosition.Off by said
+      → (d : Call) × (new ≡ Some d) × (d.lock ≡ c.lock) × (stance d.core ≡ Asleep k token) × (now : WakeResult) × (d.spot ≡ QueuePosition.Off by now)
+  pub slept : (k : ℕ) (token : ParkToken) (by : ℕ) (said : WakeResult) (d : Call) → new ≡ Some d → stance d.core ≡ Asleep k token → d.spot ≡ QueuePosition.Off by said
+      → (c : Call) × (old ≡ Some c) × (stance c.core ≡ Asleep k token) × (before : WakeResult) × (c.spot ≡ QueuePosition.Off by before)
   -- who has taken somebody stays at its lock, and has taken as many
   pub taker : (c : Call) → old ≡ Some c → 1 ≤ taken_count c.core → (d : Call) × (new ≡ Some d) × (d.lock ≡ c.lock)
   pub counts : tally new ≡ tally old
@@ -140,7 +138,7 @@ carries_awake c d awake up lock counts some = record {
 }
 
 -- one that joined goes to sleep
-pub carries_lain : (c d : Call) (key : ℕ) (park : ParkToken) → stance c.core ≡ In key (Joined park) → stance d.core ≡ Asleep key park → d.lock ≡ c.lock → c.spot ≡ spot.Listed → d.spot ≡ spot.Listed → taken_count d.core ≡ taken_count c.core → WakesSome d.core → Carries (Some c) (Some d)
+pub carries_lain : (c d : Call) (key : ℕ) (park : ParkToken) → stance c.core ≡ In key (Joined park) → stance d.core ≡ Asleep key park → d.lock ≡ c.lock → c.spot ≡ QueuePosition.Listed → d.spot ≡ QueuePosition.Listed → taken_count d.core ≡ taken_count c.core → WakesSome d.core → Carries (Some c) (Some d)
 carries_lain c d key park from to lock at at' counts some = record {
   listed = λ k token x is here waits. (d, refl, lock ∙ ap (λ (y : Call). y.lock) (same_call is), at', subst (Awaits k token) (sym to) (subst (Awaits k token) (sym (ap (λ (y : Call). stance y.core) (same_call is)) ∙ from) waits));
   sleeps = λ k token by said x is asleep here. absurd (listed≢off (sym at ∙ (ap (λ (y : Call). y.spot) (same_call is) ∙ here)));
@@ -150,7 +148,7 @@ carries_lain c d key park from to lock at at' counts some = record {
   wakeful = λ w x is. subst (λ (y : Call). WakesSome y.core) (same_call is) some;
 }
   where
-    listed≢off : {by : ℕ} {said : WakeResult} → spot.Listed ≡ spot.Off by said → ⊥
+    listed≢off : {by : ℕ} {said : WakeResult} → QueuePosition.Listed ≡ QueuePosition.Off by said → ⊥
     listed≢off e = cc
 
 -- a call begins, and ends
@@ -175,22 +173,22 @@ carries_ended c awake counts = record {
 }
 
 -- sleepers are told
-pub settled_off : (t : ℕ) (said : WakeResult) (by : ℕ) (x : WakeResult) → (now : WakeResult) × (settled_spot t said (spot.Off by x) ≡ spot.Off by now)
-settled_off t said by told.Nothing = (cond (by == t) said told.Nothing, refl)
-settled_off t said by told.TryAgain = (told.TryAgain, refl)
-settled_off t said by told.HandedOver = (told.HandedOver, refl)
+pub settled_off : (t : ℕ) (said : WakeResult) (by : ℕ) (x : WakeResult) → (now : WakeResult) × (settled_spot t said (QueuePosition.Off by x) ≡ QueuePosition.Off by now)
+settled_off t said by WakeResult.Nothing = (cond (by == t) said WakeResult.Nothing, refl)
+settled_off t said by WakeResult.TryAgain = (WakeResult.TryAgain, refl)
+settled_off t said by WakeResult.HandedOver = (WakeResult.HandedOver, refl)
 
-pub unsettled_off : (t : ℕ) (said : WakeResult) (by : ℕ) (x : WakeResult) (a : QueuePosition) → settled_spot t said a ≡ spot.Off by x → (before : WakeResult) × (a ≡ spot.Off by before)
-unsettled_off t said by x spot.Listed e = absurd (listed≢off e)
+pub unsettled_off : (t : ℕ) (said : WakeResult) (by : ℕ) (x : WakeResult) (a : QueuePosition) → settled_spot t said a ≡ QueuePosition.Off by x → (before : WakeResult) × (a ≡ QueuePosition.Off by before)
+unsettled_off t said by x QueuePosition.Listed e = absurd (listed≢off e)
   where
-    listed≢off : spot.Listed ≡ spot.Off by x → ⊥
+    listed≢off : QueuePosition.Listed ≡ QueuePosition.Off by x → ⊥
     listed≢off e = cc
-unsettled_off t said by x (spot.Off u told.Nothing) e = (told.Nothing, ap (λ (v : ℕ). spot.Off v told.Nothing) (same e))
+unsettled_off t said by x (QueuePosition.Off u WakeResult.Nothing) e = (WakeResult.Nothing, ap (λ (v : ℕ). QueuePosition.Off v WakeResult.Nothing) (same e))
   where
-    same : {a b : ℕ} {y z : WakeResult} → spot.Off a y ≡ spot.Off b z → a ≡ b
+    same : {a b : ℕ} {y z : WakeResult} → QueuePosition.Off a y ≡ QueuePosition.Off b z → a ≡ b
     same e = cc
-unsettled_off t said by x (spot.Off u told.TryAgain) e = (x, e)
-unsettled_off t said by x (spot.Off u told.HandedOver) e = (x, e)
+unsettled_off t said by x (QueuePosition.Off u WakeResult.TryAgain) e = (x, e)
+unsettled_off t said by x (QueuePosition.Off u WakeResult.HandedOver) e = (x, e)
 
 pub carries_settled : (t : ℕ) (said : WakeResult) (o : Option Call) → Carries o (option_map (settled t said) o)
 carries_settled t said None = carries_same None None refl
@@ -230,7 +228,7 @@ tallied s h t = go (call_at s t) refl
 
 module _ (s u : State) (h : LotFits s) (carries : (v : ℕ) → Carries (call_at s v) (call_at u v)) where
   pub waits_carried : (j k n : ℕ) (w : Waiter) → k < 2 → slice_get (s.lot.queues (2 * j + k)) n ≡ Some w
-      → (c : Call) × (call_at u w.thread ≡ Some c) × (c.lock ≡ j) × (c.spot ≡ spot.Listed) × Awaits k w.token (stance c.core)
+      → (c : Call) × (call_at u w.thread ≡ Some c) × (c.lock ≡ j) × (c.spot ≡ QueuePosition.Listed) × Awaits k w.token (stance c.core)
   waits_carried j k n w two at =
       let old = h.waits j k n w two at in
       let new = (carries w.thread).listed k w.token old.0 old.1 old.3 old.4 in
@@ -260,7 +258,7 @@ module _ (s u : State) (h : LotFits s) (carries : (v : ℕ) → Carries (call_at
 
   -- where nobody more is to be woken
   pub carried_by : Sound u.lot → u.wakes ≡ s.wakes
-      → ((j k n : ℕ) (w : Waiter) → k < 2 → slice_get (u.lot.queues (2 * j + k)) n ≡ Some w → (c : Call) × (call_at u w.thread ≡ Some c) × (c.lock ≡ j) × (c.spot ≡ spot.Listed) × Awaits k w.token (stance c.core))
+      → ((j k n : ℕ) (w : Waiter) → k < 2 → slice_get (u.lot.queues (2 * j + k)) n ≡ Some w → (c : Call) × (call_at u w.thread ≡ Some c) × (c.lock ≡ j) × (c.spot ≡ QueuePosition.Listed) × Awaits k w.token (stance c.core))
       → ((v k : ℕ) (token : ParkToken) (c : Call) → call_at s v ≡ Some c → stance c.core ≡ Asleep k token → option_map_or mark_of (place_at u.lot.places v) 0 ≡ option_map_or mark_of (place_at s.lot.places v) 0)
       → ((t : ℕ) → t < length u.calls → Seated t (call_at u t) (place_at u.lot.places t) u.lot.section)
       → ((section : Section) → u.lot.section ≡ Some section → (t : ℕ) × (section.thread ≡ Some t) × (t < length u.calls))

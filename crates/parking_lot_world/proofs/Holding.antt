@@ -4,7 +4,7 @@ use Rattle.parking_lot_world.specs.declared.open_call.Call.{Call}
 use Rattle.parking_lot_world.specs.Rows.{Rows, state, call_at}
 use Rattle.parking_lot_world.specs.RowFits.{FitsTogether}
 use Rattle.parking_lot_world.proofs.Acting.{has_word}
-use Rattle.parking_lot_world.proofs.Answering.{cell_within}
+use Rattle.parking_lot_world.proofs.Starting.{cell_within}
 use Rattle.parking_lot_world.proofs.Meeting.{in_range}
 
 -- the machine fits that the parts are of

@@ -5,7 +5,6 @@ use Rattle.std.specs.Prelude.{is_some}
 use Rattle.std.specs.Option.{option_and_then, option_map_or}
 use Rattle.std.proofs.lemmas.Bool.{both_ways}
 use Rattle.std.proofs.lemmas.Option.{none-some, same_Some}
-use Rattle.parking_lot_core_lot.specs.declared.place.Section.{Section}
 use Rattle.parking_lot_rules.specs.Roles.{Role}
 use Rattle.parking_lot_rules.specs.Classes.{Class, Readers, Upgraders, Pending, Writers, weight, weighs, total}
 use Rattle.parking_lot_rules.specs.Debts as rw_debts
@@ -18,49 +17,47 @@ use Rattle.parking_lot_rules.proofs.Families.{total-none}
 use Rattle.parking_lot_rules.proofs.Mutexes as mutexes
 use Rattle.parking_lot_rules.proofs.Paying as rw_pays
 use Rattle.parking_lot_rules.proofs.MutexPaying as mutex_pays
-use Rattle.parking_lot_protocol.specs.declared.act.Act.{Act}
-use Rattle.parking_lot_protocol.specs.declared.act.Act.TheVariants as act
 use Rattle.parking_lot_world.specs.declared.calls.LockKind.{LockKind}
-use Rattle.parking_lot_world.specs.declared.calls.LockKind.TheVariants as kind
 use Rattle.parking_lot_world.specs.declared.calls.OwnMode.{OwnMode}
-use Rattle.parking_lot_world.specs.declared.calls.OwnMode.TheVariants as mode
 use Rattle.parking_lot_world.specs.declared.open_call.Call.{Call}
 use Rattle.parking_lot_world.specs.CallViews.{Weighs, call_looks, mutex_mode, mutex_mode_if, owning_of, rw_mode}
 use Rattle.parking_lot_world.specs.Machines.{can_move_in, is_taken, sleeps}
 use Rattle.parking_lot_world.specs.RowFits.{FitsTogether}
-use Rattle.parking_lot_world.specs.Rows.{State, any_lock, call_at, first_key, hold_at, inside, lock_at, mutex_at, mutex_role_at, queue_at, rw_lock_at, rw_role_at, second_key, taken_by}
+use Rattle.parking_lot_world.specs.Rows.{State, any_lock, call_at, first_key, hold_at, lock_at, mutex_at, queue_at, rw_lock_at, second_key, taken_by}
 use Rattle.parking_lot_world.specs.SoundLaws.{AwakeCanMove, DebtsAreKept, IsApart, NoReaders, OnlyReaders, SomebodyIsInDebt}
 use Rattle.parking_lot_world.specs.Stances.{core_act}
 use Rattle.parking_lot_world.specs.Worlds.{in_debt_at, mode_in}
 use Rattle.parking_lot_world.proofs.Agreeing.{role_weighs}
 use Rattle.parking_lot_world.proofs.Everybody.{get-all, within-all}
 use Rattle.parking_lot_world.proofs.Serving.{by_call, possible_alone}
-use Rattle.parking_lot_world.proofs.Viewing.{mutex_apart, rw_apart}
+use Rattle.parking_lot_world.proofs.Viewing.{apart_role}
+use Rattle.parking_lot_world.proofs.KindTable.{Kind, of_mutexes, of_rws, role_at, roles_at}
+use Rattle.parking_lot_world.specs.declared.seat.Hold.{Hold}
 use Rattle.parking_lot_world.proofs.Weighing.{weighed}
 
 -- of an owner by shared holds alone, or of none, no other class weighs; and of one that doesn't read no class of readers
-keeps_nobody_out : (o : Option OwnMode) (r x p w : ℕ) → ((a : OwnMode) → o ≡ Some a → a ≡ mode.Shared) → Weighs r x p w o → x + p + w ≡ 0
+keeps_nobody_out : (o : Option OwnMode) (r x p w : ℕ) → ((a : OwnMode) → o ≡ Some a → a ≡ OwnMode.Shared) → Weighs r x p w o → x + p + w ≡ 0
 keeps_nobody_out None r x p w only h = omega (arith, h.1, h.2, h.3)
-keeps_nobody_out (Some mode.Shared) r x p w only h = omega (arith, h.1, h.2, h.3)
-keeps_nobody_out (Some mode.Upgradable) r x p w only h = absurd (not_shared (only mode.Upgradable refl))
+keeps_nobody_out (Some OwnMode.Shared) r x p w only h = omega (arith, h.1, h.2, h.3)
+keeps_nobody_out (Some OwnMode.Upgradable) r x p w only h = absurd (not_shared (only OwnMode.Upgradable refl))
   where
-    not_shared : mode.Upgradable ≡ mode.Shared → ⊥
+    not_shared : OwnMode.Upgradable ≡ OwnMode.Shared → ⊥
     not_shared e = cc
-keeps_nobody_out (Some mode.Pending) r x p w only h = absurd (not_shared (only mode.Pending refl))
+keeps_nobody_out (Some OwnMode.Pending) r x p w only h = absurd (not_shared (only OwnMode.Pending refl))
   where
-    not_shared : mode.Pending ≡ mode.Shared → ⊥
+    not_shared : OwnMode.Pending ≡ OwnMode.Shared → ⊥
     not_shared e = cc
-keeps_nobody_out (Some mode.Exclusive) r x p w only h = absurd (not_shared (only mode.Exclusive refl))
+keeps_nobody_out (Some OwnMode.Exclusive) r x p w only h = absurd (not_shared (only OwnMode.Exclusive refl))
   where
-    not_shared : mode.Exclusive ≡ mode.Shared → ⊥
+    not_shared : OwnMode.Exclusive ≡ OwnMode.Shared → ⊥
     not_shared e = cc
 
-reads_nothing : (o : Option OwnMode) (r x p w : ℕ) → ((a : OwnMode) → o ≡ Some a → (a ≢ mode.Shared) × (a ≢ mode.Upgradable)) → Weighs r x p w o → r + x ≡ 0
+reads_nothing : (o : Option OwnMode) (r x p w : ℕ) → ((a : OwnMode) → o ≡ Some a → (a ≢ OwnMode.Shared) × (a ≢ OwnMode.Upgradable)) → Weighs r x p w o → r + x ≡ 0
 reads_nothing None r x p w none h = omega (arith, h.0, h.1)
-reads_nothing (Some mode.Shared) r x p w none h = absurd ((none mode.Shared refl).0 refl)
-reads_nothing (Some mode.Upgradable) r x p w none h = absurd ((none mode.Upgradable refl).1 refl)
-reads_nothing (Some mode.Pending) r x p w none h = omega (arith, h.0, h.1)
-reads_nothing (Some mode.Exclusive) r x p w none h = omega (arith, h.0, h.1)
+reads_nothing (Some OwnMode.Shared) r x p w none h = absurd ((none OwnMode.Shared refl).0 refl)
+reads_nothing (Some OwnMode.Upgradable) r x p w none h = absurd ((none OwnMode.Upgradable refl).1 refl)
+reads_nothing (Some OwnMode.Pending) r x p w none h = omega (arith, h.0, h.1)
+reads_nothing (Some OwnMode.Exclusive) r x p w none h = omega (arith, h.0, h.1)
 
 zero_or_more : (n : ℕ) → (n ≡ 0) ⊎ (0 < n)
 zero_or_more zero = inl refl
@@ -75,7 +72,7 @@ module _ (l : Lock) (sound : IsSound l) where
       go u None e = ap (weighs c) e
       go u (Some q) e = ap (weighs c) e ∙ none u q e
 
-  module _ (only : (u : ℕ) (a : OwnMode) → option_and_then rw_mode (slice_get l.roles u) ≡ Some a → a ≡ mode.Shared) where
+  module _ (only : (u : ℕ) (a : OwnMode) → option_and_then rw_mode (slice_get l.roles u) ≡ Some a → a ≡ OwnMode.Shared) where
     light : (u : ℕ) (q : Role) → slice_get l.roles u ≡ Some q → weight Upgraders q + weight Pending q + weight Writers q ≡ 0
     light u q at =
         keeps_nobody_out (rw_mode q) (weight Readers q) (weight Upgraders q) (weight Pending q) (weight Writers q) (λ a e. only u a (ap (option_and_then rw_mode) at ∙ e)) (role_weighs l sound u q at)
@@ -83,7 +80,7 @@ module _ (l : Lock) (sound : IsSound l) where
     rw_open : total Writers l.roles + total Pending l.roles + total Upgraders l.roles ≡ 0
     rw_open = omega (arith, nobody_in Writers (λ u q at. omega (arith, light u q at)), nobody_in Pending (λ u q at. omega (arith, light u q at)), nobody_in Upgraders (λ u q at. omega (arith, light u q at)))
 
-  module _ (none : (u : ℕ) (a : OwnMode) → option_and_then rw_mode (slice_get l.roles u) ≡ Some a → (a ≢ mode.Shared) × (a ≢ mode.Upgradable)) where
+  module _ (none : (u : ℕ) (a : OwnMode) → option_and_then rw_mode (slice_get l.roles u) ≡ Some a → (a ≢ OwnMode.Shared) × (a ≢ OwnMode.Upgradable)) where
     unread : (u : ℕ) (q : Role) → slice_get l.roles u ≡ Some q → weight Readers q + weight Upgraders q ≡ 0
     unread u q at =
         reads_nothing (rw_mode q) (weight Readers q) (weight Upgraders q) (weight Pending q) (weight Writers q) (λ a e. none u a (ap (option_and_then rw_mode) at ∙ e)) (role_weighs l sound u q at)
@@ -91,27 +88,31 @@ module _ (l : Lock) (sound : IsSound l) where
     rw_unread : total Readers l.roles + total Upgraders l.roles ≡ 0
     rw_unread = omega (arith, nobody_in Readers (λ u q at. omega (arith, unread u q at)), nobody_in Upgraders (λ u q at. omega (arith, unread u q at)))
 
-module _ (m : mutex.Mutex) (sound : mutex.IsSound m) (only : (u : ℕ) (a : OwnMode) → option_and_then mutex_mode (slice_get m.roles u) ≡ Some a → a ≡ mode.Shared) where
+module _ (m : mutex.Mutex) (sound : mutex.IsSound m) (only : (u : ℕ) (a : OwnMode) → option_and_then mutex_mode (slice_get m.roles u) ≡ Some a → a ≡ OwnMode.Shared) where
   -- an owner of a mutex owns it exclusively
-  no_owner : (o : Option OwnMode) → ((a : OwnMode) → o ≡ Some a → a ≡ mode.Shared) → ((a : OwnMode) → o ≡ Some a → a ≡ mode.Exclusive) → owning_of o ≡ 0
+  no_owner : (o : Option OwnMode) → ((a : OwnMode) → o ≡ Some a → a ≡ OwnMode.Shared) → ((a : OwnMode) → o ≡ Some a → a ≡ OwnMode.Exclusive) → owning_of o ≡ 0
   no_owner None shared exclusive = refl
   no_owner (Some a) shared exclusive = absurd (apart (sym (shared a refl) ∙ exclusive a refl))
     where
-      apart : mode.Shared ≡ mode.Exclusive → ⊥
+      apart : OwnMode.Shared ≡ OwnMode.Exclusive → ⊥
       apart e = cc
 
-  owned_exclusively : (b : Bool) (a : OwnMode) → mutex_mode_if b ≡ Some a → a ≡ mode.Exclusive
-  owned_exclusively true a e = same_Some a mode.Exclusive (sym e)
+  owned_exclusively : (b : Bool) (a : OwnMode) → mutex_mode_if b ≡ Some a → a ≡ OwnMode.Exclusive
+  owned_exclusively true a e = same_Some a OwnMode.Exclusive (sym e)
   owned_exclusively false a e = absurd (none-some a e)
 
   unowned : mutex.total mutex.Owning m.roles ≡ 0
   unowned = elim (zero_or_more (mutex.total mutex.Owning m.roles)) [
     | inl none ↦ none
     | inr some ↦
-      let x = mutex_pays.somebody mutex.Owning m.roles some in
-      let q = x.1 in
-      absurd (omega (arith, x.3, weighed.mutex q (omega (arith, sound.fits.proper, mutexes.total-at m.roles x.0 q x.2 mutex.Strange)),
-      no_owner (mutex_mode q) (λ a e. only x.0 a (ap (option_and_then mutex_mode) x.2 ∙ e)) (λ a e. owned_exclusively (mutex_owners.owner_of q.owns q.does) a e)))
+        let x = mutex_pays.somebody mutex.Owning m.roles some in
+        let q = x.1 in
+        absurd (omega (
+          arith,
+          x.3,
+          weighed.mutex q (omega (arith, sound.fits.proper, mutexes.total-at m.roles x.0 q x.2 mutex.Strange)),
+          no_owner (mutex_mode q) (λ a e. only x.0 a (ap (option_and_then mutex_mode) x.2 ∙ e)) (λ a e. owned_exclusively (mutex_owners.owner_of q.owns q.does) a e),
+        ))
   ]
 
 module _ (s : State) (h : FitsTogether s) where
@@ -125,18 +126,25 @@ module _ (s : State) (h : FitsTogether s) where
     owing_call : (u : ℕ) → in_debt_at (lock_at s i) u ≡ true → (IsApart i (call_at s u) → in_debt_at (lock_at s i) u ≡ false) → SomebodyIsInDebt s i
     owing_call u owes apart = elim (by_call s h i u) [
       | inl away ↦ absurd (both_ways (in_debt_at (lock_at s i) u) (apart away) owes)
-      | inr d ↦ (u, d.0, d.1, d.2,
+      | inr d ↦ (
+        u,
+        d.0,
+        d.1,
+        d.2,
         ap (λ o. option_map_or (λ (c : Call). call_looks c.core || in_debt_at (lock_at s c.lock) u) o false) d.1
-        ∙ ap (λ j. call_looks d.0.core || in_debt_at (lock_at s j) u) d.2 ∙ ap (λ b. call_looks d.0.core || b) owes ∙ or-true (call_looks d.0.core))
+            ∙ ap (λ j. call_looks d.0.core || in_debt_at (lock_at s j) u) d.2 ∙ ap (λ b. call_looks d.0.core || b) owes ∙ or-true (call_looks d.0.core),
+      )
     ]
+
+    owes_at : {C R L : Type 0} (K : Kind C R L) (debt : R → Bool) → ((u : ℕ) → in_debt_at (lock_at s i) u ≡ option_map_or debt (slice_get (roles_at K s i) u) false) → ((x : Hold) → debt (K.idle x) ≡ false)
+        → (u : ℕ) (q : R) → slice_get (roles_at K s i) u ≡ Some q → debt q ≡ true → SomebodyIsInDebt s i
+    owes_at K debt as_seen idles u q at owes = owing_call u (as_seen u ∙ ap (λ o. option_map_or debt o false) at ∙ owes)
+        (λ away. as_seen u ∙ ap (λ o. option_map_or debt o false) (get-all (role_at K s i) (length s.calls) u (within-all (role_at K s i) (length s.calls) u q at))
+        ∙ ap debt (apart_role K i (taken_by s.wakes u) (hold_at s u i) (call_at s u) away) ∙ idles (hold_at s u i))
 
     module _ (is : lock_at s i ≡ Rw (rw_lock_at s i)) where
       rw_owes : rw_debts.SomebodyIsInDebt (rw_lock_at s i) → SomebodyIsInDebt s i
-      rw_owes d = owing_call d.0
-          (ap (λ l. in_debt_at l d.0) is ∙ ap (λ o. option_map_or (λ (x : Role). rw_debts.is_in_debt x.does) o false) d.2 ∙ d.3)
-          (λ away. ap (λ l. in_debt_at l d.0) is
-          ∙ ap (λ o. option_map_or (λ (x : Role). rw_debts.is_in_debt x.does) o false) (get-all (rw_role_at s i) (length s.calls) d.0 (within-all (rw_role_at s i) (length s.calls) d.0 d.1 d.2))
-          ∙ ap (λ (q : Role). rw_debts.is_in_debt q.does) (rw_apart i (taken_by s.wakes d.0) (hold_at s d.0 i) (call_at s d.0) away))
+      rw_owes d = owes_at of_rws (λ x. rw_debts.is_in_debt x.does) (λ u. ap (λ l. in_debt_at l u) is) (λ x. refl) d.0 d.1 d.2 d.3
 
       rw_is_sound : IsSound (rw_lock_at s i)
       rw_is_sound = subst AnySound is (h.rules.sound.sound i)
@@ -151,11 +159,7 @@ module _ (s : State) (h : FitsTogether s) where
 
     module _ (is : lock_at s i ≡ Mx (mutex_at s i)) where
       mutex_owes : mutex_debts.SomebodyIsInDebt (mutex_at s i) → SomebodyIsInDebt s i
-      mutex_owes d = owing_call d.0
-          (ap (λ l. in_debt_at l d.0) is ∙ ap (λ o. option_map_or (λ (x : mutex.Role). mutex_debts.is_in_debt x.does) o false) d.2 ∙ d.3)
-          (λ away. ap (λ l. in_debt_at l d.0) is
-          ∙ ap (λ o. option_map_or (λ (x : mutex.Role). mutex_debts.is_in_debt x.does) o false) (get-all (mutex_role_at s i) (length s.calls) d.0 (within-all (mutex_role_at s i) (length s.calls) d.0 d.1 d.2))
-          ∙ ap (λ (q : mutex.Role). mutex_debts.is_in_debt q.does) (mutex_apart i (taken_by s.wakes d.0) (hold_at s d.0 i) (call_at s d.0) away))
+      mutex_owes d = owes_at of_mutexes (λ x. mutex_debts.is_in_debt x.does) (λ u. ap (λ l. in_debt_at l u) is) (λ x. refl) d.0 d.1 d.2 d.3
 
       mutex_is_sound : mutex.IsSound (mutex_at s i)
       mutex_is_sound = subst AnySound is (h.rules.sound.sound i)
@@ -168,9 +172,9 @@ module _ (s : State) (h : FitsTogether s) where
     first_kept some only = go (slice_get s.kinds i) refl
       where
         go : (k : Option LockKind) → slice_get s.kinds i ≡ k → SomebodyIsInDebt s i
-        go (Some kind.Rw) of = rw_first (ap (λ k. any_lock k s i) of) some only
+        go (Some LockKind.Rw) of = rw_first (ap (λ k. any_lock k s i) of) some only
         go None of = rw_first (ap (λ k. any_lock k s i) of) some only
-        go (Some kind.Mutex) of = mutex_first (ap (λ k. any_lock k s i) of) some only
+        go (Some LockKind.Mutex) of = mutex_first (ap (λ k. any_lock k s i) of) some only
 
   pub debts_are_kept : DebtsAreKept s
   debts_are_kept = record {

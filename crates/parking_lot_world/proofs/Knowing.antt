@@ -3,13 +3,10 @@ use Rattle.std.proofs.Common.{◌≡◌, ℕ, inl, inr, List, sym, subst}
 use Rattle.parking_lot_core_lot.specs.declared.parking.UnparkToken.{UnparkToken}
 use Rattle.parking_lot_core_lot.specs.declared.place.Waiter.{Waiter}
 use Rattle.parking_lot_protocol.specs.declared.act.Act.{Act}
-use Rattle.parking_lot_protocol.specs.declared.act.Act.TheVariants as act
 use Rattle.parking_lot_protocol.specs.declared.act.SectionAct.TheVariants as section
 use Rattle.parking_lot_protocol.specs.declared.act.ActResult.{ActResult}
 use Rattle.parking_lot_protocol.specs.declared.mutex_phase.MutexPhase.{MutexPhase}
-use Rattle.parking_lot_protocol.specs.declared.mutex_phase.MutexPhase.TheVariants as m
 use Rattle.parking_lot_protocol.specs.declared.rw_phase.RwPhase.{RwPhase}
-use Rattle.parking_lot_protocol.specs.declared.rw_phase.RwPhase.TheVariants as r
 use Rattle.parking_lot_protocol.specs.Acts.{Gives}
 use Rattle.parking_lot_protocol.specs.RwTable as of_rw
 use Rattle.parking_lot_world.specs.declared.seat.Core.{Core}
@@ -36,26 +33,26 @@ is_so : (a b : Stance) → a ≡ b → StoresNone b → StoresNone a
 is_so a b e h = subst StoresNone (sym e) h
 
 stores_none : (a : Act) (s : ActResult) (x y : Stance) (i j : ℕ) (says : UnparkToken) → IsOwnAct a → Leads a s x y i j says → StoresNone y
-stores_none act.Load s x y i j says own h = is_so y Out h.1 tt
-stores_none (act.Exchange from to) s x y i j says own h = is_so y Out h.1 tt
-stores_none (act.Add by) s x y i j says own h = is_so y Out h.1 tt
-stores_none (act.FetchAnd keep) s x y i j says own h = absurd own
-stores_none act.Spin s x y i j says own h = is_so y Out h.1 tt
-stores_none (act.Enter key) s x y i j says own h = elim h.1 [ inl e ↦ is_so y (In key Looks) e tt | inr e ↦ is_so y (In key Takes) e tt ]
-stores_none (act.Section section.Check) s x y i j says own h = elim h.2 [ inl e ↦ is_so y (In h.0 TurnsBack) e tt | inr e ↦ is_so y (In h.0 (Joins e.0)) e.1 tt ]
-stores_none (act.Section section.TakeFirst) s x y i j says own h = absurd own
-stores_none (act.Section (section.TakeNext sum)) s x y i j says own h = absurd own
-stores_none (act.Section (section.Append token)) s x y i j says own h = absurd own
-stores_none (act.Section (section.Store plain fair)) s x y i j says own h = absurd own
-stores_none (act.Section section.Leave) s x y i j says own (inl h) = is_so y Out h.2 tt
-stores_none (act.Section section.Leave) s x y i j says own (inr (inl h)) = is_so y (Asleep h.0 h.1) h.3 tt
-stores_none (act.Section section.Leave) s x y i j says own (inr (inr h)) = is_so y Out h.3 tt
-stores_none (act.Section section.Wake) s x y i j says own h = absurd own
-stores_none act.Sleep s x y i j says own h = absurd own
-stores_none (act.Done answer) s x y i j says own h = absurd h
+stores_none Act.Load s x y i j says own h = is_so y Out h.1 tt
+stores_none (Act.Exchange from to) s x y i j says own h = is_so y Out h.1 tt
+stores_none (Act.Add by) s x y i j says own h = is_so y Out h.1 tt
+stores_none (Act.FetchAnd keep) s x y i j says own h = absurd own
+stores_none Act.Spin s x y i j says own h = is_so y Out h.1 tt
+stores_none (Act.Enter key) s x y i j says own h = elim h.1 [ inl e ↦ is_so y (In key Looks) e tt | inr e ↦ is_so y (In key Takes) e tt ]
+stores_none (Act.Section section.Check) s x y i j says own h = elim h.2 [ inl e ↦ is_so y (In h.0 TurnsBack) e tt | inr e ↦ is_so y (In h.0 (Joins e.0)) e.1 tt ]
+stores_none (Act.Section section.TakeFirst) s x y i j says own h = absurd own
+stores_none (Act.Section (section.TakeNext sum)) s x y i j says own h = absurd own
+stores_none (Act.Section (section.Append token)) s x y i j says own h = absurd own
+stores_none (Act.Section (section.Store plain fair)) s x y i j says own h = absurd own
+stores_none (Act.Section section.Leave) s x y i j says own (inl h) = is_so y Out h.2 tt
+stores_none (Act.Section section.Leave) s x y i j says own (inr (inl h)) = is_so y (Asleep h.0 h.1) h.3 tt
+stores_none (Act.Section section.Leave) s x y i j says own (inr (inr h)) = is_so y Out h.3 tt
+stores_none (Act.Section section.Wake) s x y i j says own h = absurd own
+stores_none Act.Sleep s x y i j says own h = absurd own
+stores_none (Act.Done answer) s x y i j says own h = absurd h
 
 mutex_knows_none : (p : MutexPhase) → StoresNone (mutex_stance p) → (q : List Waiter) → mutex_knows p q
-mutex_knows_none (m.Stores giving taken left) h q = absurd h
+mutex_knows_none (MutexPhase.Stores giving taken left) h q = absurd h
 mutex_knows_none p h q = tt
 
 -- at a mutex
@@ -65,6 +62,6 @@ mutex_learns c p x s same e own gives q =
 
 -- and at a reader-writer lock
 pub rw_learns : (p : RwPhase) (s : ActResult) → IsOwnAct (of_rw.act_of p) → (first second : List Waiter) → Learns p s first second
-rw_learns (r.Scans a) s own f g = absurd own
-rw_learns (r.TakeWriter rest) s own f g = absurd own
+rw_learns (RwPhase.Scans a) s own f g = absurd own
+rw_learns (RwPhase.TakeWriter rest) s own f g = absurd own
 rw_learns p s own f g = tt

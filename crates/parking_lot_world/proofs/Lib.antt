@@ -1,5 +1,5 @@
+mod KindTable
 mod Everybody
-mod Lifting
 mod Making
 mod Meeting
 mod Calling
@@ -27,11 +27,8 @@ pub mod Carrying
 pub mod Indexing
 pub mod Listing
 pub mod LotActs
-pub mod LotSections
 pub mod LotLists
-pub mod LotStores
 pub mod RwWaking
-pub mod RwEnding
 pub mod MutexRoles
 pub mod MutexMoving
 pub mod Beginning
@@ -42,7 +39,6 @@ pub mod LotKept
 pub mod LotCalls
 pub mod WakesActs
 pub mod Viewing
-pub mod WakesActed
 pub mod FirstTaken
 pub mod LotStarts
 pub mod ScanRoom
@@ -51,38 +47,26 @@ pub mod Seating
 pub mod RwKeeping
 pub mod RwCrossing
 mod Starting
-mod Answering
 mod Acting
 mod Requesting
 mod Stepping
-mod TakeOutside
 mod TakeJoins
-mod TakeNobody
 mod TakeParts
-mod TakeRw
-mod TakeMutex
+mod TakeFirst
 mod TakeActs
 mod TakeLaws
 mod Settling
 mod Telling
 mod MutexTelling
 mod Rousing
-mod RwRousing
-mod MutexRousing
 mod Resting
 mod Resuming
 mod TellActs
 pub mod RwTelling
-pub mod RwSleeping
 pub mod Weighing
 pub mod Woken
 pub mod Takings
-mod MutexStoring
 mod MutexPaying
-mod RwCosts
-mod RwFalling
 mod RwPaying
 mod Summing
 mod Paying
-mod PayActs
-mod PayEnds

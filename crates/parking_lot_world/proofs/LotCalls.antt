@@ -18,7 +18,6 @@ use Rattle.parking_lot_core_lot.specs.Places.{place_at, is_due, roused, status_o
 use Rattle.parking_lot_core_lot.proofs.Numbers.{first_passes}
 use Rattle.parking_lot_core_lot.proofs.Sounds.{place_at-set_same}
 use Rattle.parking_lot_protocol.specs.declared.act.Act.{Act}
-use Rattle.parking_lot_protocol.specs.declared.act.Act.TheVariants as act
 use Rattle.parking_lot_protocol.specs.declared.act.SectionAct.TheVariants as section
 use Rattle.parking_lot_protocol.specs.declared.act.ActResult.TheVariants as seen
 use Rattle.parking_lot_world.specs.declared.open_call.Call.{Call}
@@ -62,16 +61,16 @@ steps_in s t c h here k how may from fits =
     may_step s.lot t seat.0 may seat.1 seat.2 (fits seat.0 seat.4)
 
 takes : (s : State) (t : ℕ) (c : Call) (a : Act) → IsTaking a → Asks s t c a → step_fault may_take s.lot t ≡ None
-takes s t c (act.Section section.TakeFirst) taking x =
-    let l = leads_by c.core (act.Section section.TakeFirst) 0 (seen.Took None false) x.2 tt in
+takes s t c (Act.Section section.TakeFirst) taking x =
+    let l = leads_by c.core (Act.Section section.TakeFirst) 0 (seen.Took None false) x.2 tt in
     steps_in s t c x.0 x.1 l.0 Takes may_take l.1 (λ o come. come.0)
-takes s t c (act.Section (section.TakeNext sum)) taking x =
-    let l = leads_by c.core (act.Section (section.TakeNext sum)) 0 (seen.Took None false) x.2 tt in
+takes s t c (Act.Section (section.TakeNext sum)) taking x =
+    let l = leads_by c.core (Act.Section (section.TakeNext sum)) 0 (seen.Took None false) x.2 tt in
     steps_in s t c x.0 x.1 l.0 Takes may_take l.1 (λ o come. come.0)
 takes s t c a taking x = absurd taking
 
-leaves : (s : State) (t : ℕ) (c : Call) → Asks s t c (act.Section section.Leave) → step_fault any_phase s.lot t ≡ None
-leaves s t c x = go (leads_by c.core (act.Section section.Leave) 0 seen.Made x.2 tt)
+leaves : (s : State) (t : ℕ) (c : Call) → Asks s t c (Act.Section section.Leave) → step_fault any_phase s.lot t ≡ None
+leaves s t c x = go (leads_by c.core (Act.Section section.Leave) 0 seen.Made x.2 tt)
   where
     go : {b : Stance} {n m : ℕ} → LeavesFor (stance c.core) b n m → step_fault any_phase s.lot t ≡ None
     go (inl l) = steps_in s t c x.0 x.1 l.0 TurnsBack any_phase l.1 (λ o come. refl)
@@ -124,32 +123,32 @@ wakes_as s t c h here from e first by_t =
     let d = due_place s t c h here e taken.call first by_t taken.here from in
     due_of s t e taken.call (eqb-false e.thread t (other s t c h here e taken.call first by_t taken.here from)) taken.here d.0 d.1 d.2 d.3 d.4
 
-wakes : (s : State) (t : ℕ) (c : Call) → Asks s t c (act.Section section.Wake) → (e : Wakeup) × (slice_get s.wakes (position_or_len (is_by t) s.wakes) ≡ Some e) × (e.by ≡ t) × IsDue s t e
+wakes : (s : State) (t : ℕ) (c : Call) → Asks s t c (Act.Section section.Wake) → (e : Wakeup) × (slice_get s.wakes (position_or_len (is_by t) s.wakes) ≡ Some e) × (e.by ≡ t) × IsDue s t e
 wakes s t c x =
     let some : 1 ≤ taken_count c.core = x.0.wakeful t c x.1 x.2 in
     let count : count_by (is_by t) s.wakes ≡ taken_count c.core = sym (taken_by-count s.wakes t) ∙ x.0.counted t c x.1 in
     let first = first_passes (is_by t) s.wakes (subst (λ (n : ℕ). 1 ≤ n) (sym count) some) in
     let by_t = eqb-true first.0.by t first.2 in
-    let l = leads_by c.core (act.Section section.Wake) 0 seen.Made x.2 tt in
+    let l = leads_by c.core (Act.Section section.Wake) 0 seen.Made x.2 tt in
     (first.0, first.1, by_t, wakes_as s t c x.0 x.1 l.0 first.0 first.1 by_t)
 
 pub lot_never_refuses : LotNeverRefuses
 lot_never_refuses = record {
   enters = λ s t c k x free.
-      let l = leads_by c.core (act.Enter k) 0 seen.Entered x.2 tt in
+      let l = leads_by c.core (Act.Enter k) 0 seen.Entered x.2 tt in
       may_enter s.lot t free (seat_of s x.0 t c Out x.1 l.0).0;
   checks = λ s t c x.
-      let l = leads_by c.core (act.Section section.Check) 0 (seen.Word 0) x.2 refl in
+      let l = leads_by c.core (Act.Section section.Check) 0 (seen.Word 0) x.2 refl in
       steps_in s t c x.0 x.1 l.0 Looks may_check l.1 (λ o come. ap may_check come);
   appends = λ s t c token x.
-      let l = leads_by c.core (act.Section (section.Append token)) 0 seen.Made x.2 tt in
+      let l = leads_by c.core (Act.Section (section.Append token)) 0 seen.Made x.2 tt in
       steps_in s t c x.0 x.1 l.0 (Joins token) may_join l.2 (λ o come. ap may_join come);
   takes = takes;
   stores = λ s t c plain fair x.
-      let l = leads_by c.core (act.Section (section.Store plain fair)) 0 (seen.Stored false) x.2 tt in
+      let l = leads_by c.core (Act.Section (section.Store plain fair)) 0 (seen.Stored false) x.2 tt in
       steps_in s t c x.0 x.1 l.0 Stores may_store l.1 (λ o come. come);
   masks = λ s t c keep x.
-      let l = leads_by c.core (act.FetchAnd keep) 0 (seen.Before 0) x.2 refl in
+      let l = leads_by c.core (Act.FetchAnd keep) 0 (seen.Before 0) x.2 refl in
       steps_in s t c x.0 x.1 1 Stores may_store l.0 (λ o come. come);
   leaves = leaves;
   inside = λ s t c k how h here from.

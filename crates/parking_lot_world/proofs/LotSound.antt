@@ -5,7 +5,6 @@ use Rattle.std.proofs.lemmas.Bool.{false≢true}
 use Rattle.parking_lot_core_lot.specs.declared.parking.ParkToken.{ParkToken}
 use Rattle.parking_lot_core_lot.specs.declared.parking.UnparkToken.{UnparkToken}
 use Rattle.parking_lot_core_lot.specs.declared.place.Phase.{Phase}
-use Rattle.parking_lot_core_lot.specs.declared.place.Phase.TheVariants as phase
 use Rattle.parking_lot_core_lot.specs.declared.place.Place.{Place}
 use Rattle.parking_lot_core_lot.specs.declared.place.Place.TheVariants.{Running, Held}
 use Rattle.parking_lot_core_lot.specs.declared.place.Section.{Section}
@@ -38,11 +37,11 @@ module _ (s : State) (t : ℕ) (c : Call) (h : LotFits s) (here : call_at s t �
       let seat = seat_of s h t c (In k Looks) here from in
       phased ph (λ may o at. ap (λ (x : Section). may_join x.phase) (same_section (sym at ∙ seat.1)) ∙ ap may_join seat.4)
 
-  pub took_nobody_sound : Sound (in_phase s.lot phase.Ended)
-  took_nobody_sound = ended phase.Ended refl
+  pub took_nobody_sound : Sound (in_phase s.lot Phase.Ended)
+  took_nobody_sound = ended Phase.Ended refl
 
   pub stored_sound : (token : UnparkToken) → Sound (stored s.lot token)
-  stored_sound token = sound_section s.lot (λ x. record x { phase = phase.Stored; token = token }) h.sound (λ x. refl) (λ x at may. absurd (false≢true may))
+  stored_sound token = sound_section s.lot (λ x. record x { phase = Phase.Stored; token = token }) h.sound (λ x. refl) (λ x at may. absurd (false≢true may))
 
   pub left_sound : Sound (closed s.lot false)
   left_sound = sound_closed s.lot (token_of s.lot) false h.sound
@@ -50,16 +49,16 @@ module _ (s : State) (t : ℕ) (c : Call) (h : LotFits s) (here : call_at s t �
   pub appended_sound : (k : ℕ) (token : ParkToken) → stance c.core ≡ In k (Joins token) → Sound (appended s t c (key_of c k) token).lot
   appended_sound k token from =
       let seat = seat_of s h t c (In k (Joins token)) here from in
-      sound_joined (in_phase s.lot phase.Joined) t (key_of c k) token false (ended phase.Joined refl) seat.5
-      (λ x is own. ap (λ (y : Section). may_join y.phase) (sym (same_section (sym (ap (option_map {T = Section} (λ y. record y { phase = phase.Joined })) seat.1) ∙ is))))
+      sound_joined (in_phase s.lot Phase.Joined) t (key_of c k) token false (ended Phase.Joined refl) seat.5
+      (λ x is own. ap (λ (y : Section). may_join y.phase) (sym (same_section (sym (ap (option_map {T = Section} (λ y. record y { phase = Phase.Joined })) seat.1) ∙ is))))
 
   pub took_sound : (k nth : ℕ) (w : Waiter) → k < 2 → stance c.core ≡ In k Takes → slice_get (s.lot.queues (key_of c k)) nth ≡ Some w → Sound (took s t c (key_of c k) nth w).lot
   took_sound k nth w two from at =
       let seat = seat_of s h t c (In k Takes) here from in
       let z : Sleeper s t k c w = sleeper s t c h here k nth w two from at in
       subst (λ (ps : List (Option Place)). Sound (record (took s t c (key_of c k) nth w).lot { places = ps })) (sym (took_places s t c h here k nth w two from at))
-      (sound_left (in_phase s.lot (phase.Taking nth)) (key_of c k) nth w (ended (phase.Taking nth) refl) at (Held z.sleep) (λ j. refl)
-      (λ none. absurd (some≢none (sym (ap (option_map {T = Section} (λ y. record y { phase = phase.Taking nth })) seat.1) ∙ none))))
+      (sound_left (in_phase s.lot (Phase.Taking nth)) (key_of c k) nth w (ended (Phase.Taking nth) refl) at (Held z.sleep) (λ j. refl)
+      (λ none. absurd (some≢none (sym (ap (option_map {T = Section} (λ y. record y { phase = Phase.Taking nth })) seat.1) ∙ none))))
 
 -- one that was told runs
 pub woke_sound : (s : State) → LotFits s → (v : ℕ) (p : Place) → place_at s.lot.places v ≡ Some p → ((k : ℕ) → waits_at k Running ≡ waits_at k p) → Sound (record s.lot { places = slice_set s.lot.places v (Some Running) })

@@ -19,9 +19,7 @@ use Rattle.parking_lot_core_lot.proofs.Numbers.{flag, count_by-at, count_by-push
 use Rattle.parking_lot_core_lot.proofs.Sounds.{by_eqb, place_at-set_same, place_at-set_other}
 use Rattle.parking_lot_protocol.specs.declared.act.ActResult.TheVariants as seen
 use Rattle.parking_lot_world.specs.declared.seat.WakeResult.{WakeResult}
-use Rattle.parking_lot_world.specs.declared.seat.WakeResult.TheVariants as told
 use Rattle.parking_lot_world.specs.declared.seat.QueuePosition.{QueuePosition}
-use Rattle.parking_lot_world.specs.declared.seat.QueuePosition.TheVariants as spot
 use Rattle.parking_lot_world.specs.declared.open_call.Call.{Call}
 use Rattle.parking_lot_world.specs.declared.seat.Wakeup.{Wakeup}
 use Rattle.parking_lot_world.specs.Rows.{State, call_at, is_by, taken_by}
@@ -31,8 +29,7 @@ use Rattle.parking_lot_world.specs.RowFits.{IsAt, Stands, Seated, Awaits, IsTake
 use Rattle.parking_lot_world.proofs.Indexing.{get_push, get_front, get_remove}
 use Rattle.parking_lot_world.proofs.Stancing.{wakes_some}
 use Rattle.parking_lot_world.proofs.Carrying.{same_call, call_within, set_here, set_elsewhere, tally, tallied, taken_by-count, no_length, awake_sleeps}
-use Rattle.parking_lot_world.proofs.LotActs.{same_section, outside_of, seat_of, awake_by}
-use Rattle.parking_lot_world.proofs.LotSections.{sits, seats_still, still_said}
+use Rattle.parking_lot_world.proofs.LotActs.{same_section, outside_of, seat_of, awake_by, sits, seats_still, still_said}
 
 -- who waits has joined the list, or sleeps
 awaits_how : (k : ℕ) (token : ParkToken) (a : Stance) → Awaits k token a → (a ≡ In k (Joined token)) ⊎ (a ≡ Asleep k token)
@@ -51,7 +48,7 @@ pub record Sleeper (s : State) (t k : ℕ) (c : Call) (w : Waiter) : Type 0 wher
   pub call : Call
   pub there : call_at s w.thread ≡ Some call
   pub lock : call.lock ≡ c.lock
-  pub listed : call.spot ≡ spot.Listed
+  pub listed : call.spot ≡ QueuePosition.Listed
   pub asleep : stance call.core ≡ Asleep k w.token
   pub other : (w.thread == t) ≡ false
   pub sleep : Sleep
@@ -65,7 +62,7 @@ sleeper s t c h here k nth w two from at =
     let other : (w.thread == t) ≡ false = ne_eqb w.thread t (λ e. subst (Awaits k w.token) (ap (λ (y : Call). stance y.core) (same_call (sym x.1 ∙ (ap (call_at s) e ∙ here))) ∙ from) x.4) in
     go x.0 x.1 x.2 x.3 other (awaits_how k w.token (stance x.0.core) x.4)
   where
-    go : (x : Call) → call_at s w.thread ≡ Some x → x.lock ≡ c.lock → x.spot ≡ spot.Listed → (w.thread == t) ≡ false → (stance x.core ≡ In k (Joined w.token)) ⊎ (stance x.core ≡ Asleep k w.token) → Sleeper s t k c w
+    go : (x : Call) → call_at s w.thread ≡ Some x → x.lock ≡ c.lock → x.spot ≡ QueuePosition.Listed → (w.thread == t) ≡ false → (stance x.core ≡ In k (Joined w.token)) ⊎ (stance x.core ≡ Asleep k w.token) → Sleeper s t k c w
     go x there lock listed other (inl e) =
         let mine = seat_of s h t c (In k Takes) here from in
         let its = seat_of s h w.thread x (In k (Joined w.token)) there e in
@@ -149,10 +146,10 @@ module _ (s : State) (t : ℕ) (c : Call) (h : LotFits s) (here : call_at s t �
   not_mine : (x j : ℕ) (token : ParkToken) (y : Call) → call_at s x ≡ Some y → stance y.core ≡ Asleep j token → (x == t) ≡ false
   not_mine x j token y is asleep = ne_eqb x t (λ e. awake_sleeps j token (stance c.core) (awake_by (stance c.core) (In k Takes) from tt) (ap (λ (d : Call). stance d.core) (same_call (sym here ∙ (ap (call_at s) (sym e) ∙ is))) ∙ asleep))
 
-  not_taken : (x by : ℕ) (said : WakeResult) (y : Call) → call_at s x ≡ Some y → y.spot ≡ spot.Off by said → (x == v) ≡ false
+  not_taken : (x by : ℕ) (said : WakeResult) (y : Call) → call_at s x ≡ Some y → y.spot ≡ QueuePosition.Off by said → (x == v) ≡ false
   not_taken x by said y is off = ne_eqb x v (λ e. listed≢off (sym z.listed ∙ (ap (λ (d : Call). d.spot) (same_call (sym z.there ∙ (ap (call_at s) (sym e) ∙ is))) ∙ off)))
     where
-      listed≢off : spot.Listed ≡ spot.Off by said → ⊥
+      listed≢off : QueuePosition.Listed ≡ QueuePosition.Off by said → ⊥
       listed≢off e = cc
 
   module _ (how : Doing) (to : stance takes.core ≡ In k how) (counts : taken_count takes.core ≡ taken_count c.core + 1) (sound : Sound u.lot)
@@ -194,21 +191,21 @@ module _ (s : State) (t : ℕ) (c : Call) (h : LotFits s) (here : call_at s t �
         (r.0, ap (λ (key : ℕ). slice_get (s.lot.queues key) r.0) e ∙ r.1))
         (λ e. (n, sym (ap (λ (qs : List Waiter). slice_get qs n) (updated_other s.lot.queues (key_of c k) q (2 * j + l) e)) ∙ is))
 
-    took_waits : (j l n : ℕ) (x : Waiter) → l < 2 → slice_get (u.lot.queues (2 * j + l)) n ≡ Some x → (d : Call) × (call_at u x.thread ≡ Some d) × (d.lock ≡ j) × (d.spot ≡ spot.Listed) × Awaits l x.token (stance d.core)
+    took_waits : (j l n : ℕ) (x : Waiter) → l < 2 → slice_get (u.lot.queues (2 * j + l)) n ≡ Some x → (d : Call) × (call_at u x.thread ≡ Some d) × (d.lock ≡ j) × (d.spot ≡ QueuePosition.Listed) × Awaits l x.token (stance d.core)
     took_waits j l n x low is =
         let m = was_there j l n x is in
         let old = h.waits j l m.0 x low m.1 in
         let not_t : (x.thread == t) ≡ false = ne_eqb x.thread t (λ e. subst (Awaits l x.token) (ap (λ (y : Call). stance y.core) (same_call (sym old.1 ∙ (ap (call_at s) e ∙ here))) ∙ from) old.4) in
         (old.0, call_other x.thread not_t (gone j l n x is) ∙ old.1, old.2, old.3, old.4)
 
-    took_owed : (x : ℕ) (d : Call) (j : ℕ) (token : ParkToken) (by : ℕ) (said : WakeResult) → call_at u x ≡ Some d → stance d.core ≡ Asleep j token → d.spot ≡ spot.Off by said → IsOwed u.wakes by x
+    took_owed : (x : ℕ) (d : Call) (j : ℕ) (token : ParkToken) (by : ℕ) (said : WakeResult) → call_at u x ≡ Some d → stance d.core ≡ Asleep j token → d.spot ≡ QueuePosition.Off by said → IsOwed u.wakes by x
     took_owed x d j token by said is asleep off' = by_eqb x t (IsOwed u.wakes by x)
         (λ e. absurd (up_how how (stance takes.core) to (ap (λ (y : Call). stance y.core) (same_call (sym call_mine ∙ (ap (call_at u) (sym e) ∙ is))) ∙ asleep)))
         (λ e. by_eqb x v (IsOwed u.wakes by x)
         (λ f. (length s.wakes, entry, slice_get-seam s.wakes entry [], same_by (ap (λ (y : Call). y.spot) (same_call (sym call_taken ∙ (ap (call_at u) (sym f) ∙ is))) ∙ off'), sym f))
         (λ f. let old = h.owed x d j token by said (sym (call_other x e f) ∙ is) asleep off' in (old.0, old.1, get_front s.wakes (entry ∷ []) old.0 old.1 old.2, old.3, old.4)))
       where
-        same_by : spot.Off t told.Nothing ≡ spot.Off by said → t ≡ by
+        same_by : QueuePosition.Off t WakeResult.Nothing ≡ QueuePosition.Off by said → t ≡ by
         same_by e = cc
 
         up_how : (how : Doing) (a : Stance) → a ≡ In k how → a ≡ Asleep j token → ⊥
@@ -227,7 +224,7 @@ module _ (s : State) (t : ℕ) (c : Call) (h : LotFits s) (here : call_at s t �
           call = off;
           here = call_taken;
           lock = z.lock;
-          said = told.Nothing;
+          said = WakeResult.Nothing;
           spot = refl;
           key = k;
           token = w.token;

@@ -19,7 +19,6 @@ use Rattle.parking_lot_core_lot.proofs.Sounds.{by_eqb, place_at-set_same, place_
 use Rattle.parking_lot_protocol.specs.declared.act.ActResult.TheVariants as seen
 use Rattle.parking_lot_world.specs.declared.seat.WakeResult.{WakeResult}
 use Rattle.parking_lot_world.specs.declared.seat.QueuePosition.{QueuePosition}
-use Rattle.parking_lot_world.specs.declared.seat.QueuePosition.TheVariants as spot
 use Rattle.parking_lot_world.specs.declared.open_call.Call.{Call}
 use Rattle.parking_lot_world.specs.declared.seat.Wakeup.{Wakeup}
 use Rattle.parking_lot_world.specs.Rows.{State, call_at, is_by, taken_by}
@@ -29,8 +28,7 @@ use Rattle.parking_lot_world.specs.RowFits.{IsAt, IsOutside, SaidIn, Seated, Awa
 use Rattle.parking_lot_world.proofs.Stancing.{sleepers_wake, wakes_some}
 use Rattle.parking_lot_world.proofs.Indexing.{get_remove, kept_remove, apart_before, not_removed}
 use Rattle.parking_lot_world.proofs.Carrying.{same_call, call_within, set_here, set_elsewhere, tally, tallied, taken_by-count, no_length}
-use Rattle.parking_lot_world.proofs.LotActs.{seat_of}
-use Rattle.parking_lot_world.proofs.LotSections.{sits}
+use Rattle.parking_lot_world.proofs.LotActs.{seat_of, sits}
 
 same_wakeup : {e f : Wakeup} → Some e ≡ Some f → e ≡ f
 same_wakeup e = cc
@@ -42,14 +40,14 @@ out_asleep e = cc
 module _ (s : State) (t : ℕ) (c : Call) (h : LotFits s) (here : call_at s t ≡ Some c) (e : Wakeup) (d : Call)
     (first : slice_get s.wakes (position_or_len (is_by t) s.wakes) ≡ Some e) (by_t : e.by ≡ t) (there : call_at s e.thread ≡ Some d) (from : stance c.core ≡ Out) where
   -- it sleeps, off its list
-  pub woken_off : (said : WakeResult) × (k : ℕ) × (token : ParkToken) × (d.spot ≡ spot.Off t said) × (stance d.core ≡ Asleep k token)
+  pub woken_off : (said : WakeResult) × (k : ℕ) × (token : ParkToken) × (d.spot ≡ QueuePosition.Off t said) × (stance d.core ≡ Asleep k token)
   woken_off =
       let x = h.woken (position_or_len (is_by t) s.wakes) e first in
       let same : x.call ≡ d = same_call (sym x.here ∙ there) in (
         x.said,
         x.key,
         x.token,
-        subst (λ (b : ℕ). d.spot ≡ spot.Off b x.said) by_t (ap (λ (y : Call). y.spot) (sym same) ∙ x.spot),
+        subst (λ (b : ℕ). d.spot ≡ QueuePosition.Off b x.said) by_t (ap (λ (y : Call). y.spot) (sym same) ∙ x.spot),
         ap (λ (y : Call). stance y.core) (sym same) ∙ x.asleep,
       )
 
@@ -64,7 +62,7 @@ module _ (s : State) (t : ℕ) (c : Call) (h : LotFits s) (here : call_at s t �
       marked : (token : UnparkToken) (sleep : Sleep) → place_at s.lot.places e.thread ≡ Some (Taken token sleep false) → sleep.mark ≡ e.mark
       marked token sleep place = sym (ap (λ (p : Option Place). option_map_or mark_of p 0) place) ∙ (h.woken (position_or_len (is_by t) s.wakes) e first).mark
 
-      go : (said : WakeResult) → IsOutside t s.lot.section → (key : ℕ) → IsAt (spot.Off t said) (place_at s.lot.places e.thread) s.lot.section key
+      go : (said : WakeResult) → IsOutside t s.lot.section → (key : ℕ) → IsAt (QueuePosition.Off t said) (place_at s.lot.places e.thread) s.lot.section key
           → (token : UnparkToken) × (sleep : Sleep) × (place_at s.lot.places e.thread ≡ Some (Taken token sleep false)) × (sleep.late ≡ false) × (sleep.mark ≡ e.mark) × (said ≡ told_of token)
       go said out key x = told x.2
         where
@@ -81,7 +79,7 @@ module _ (s : State) (t : ℕ) (c : Call) (h : LotFits s) (here : call_at s t �
     rouses = hears c seen.Made
 
     abbrev roused_call : Call
-    roused_call = record (hears d (seen.Woken token)) { spot = spot.Listed }
+    roused_call = record (hears d (seen.Woken token)) { spot = QueuePosition.Listed }
 
     abbrev u : State
     u = woke s t c e.thread d token
@@ -141,17 +139,17 @@ module _ (s : State) (t : ℕ) (c : Call) (h : LotFits s) (here : call_at s t �
           (λ g. subst (λ (o : Option Call). Seated x o (place_at u.lot.places x) u.lot.section) (sym (call_other x f g))
           (subst (λ (p : Option Place). Seated x (call_at s x) p u.lot.section) (sym (place_other x g)) (h.seated x (subst (λ (n : ℕ). x < n) woke_length within)))))
 
-      woke_waits : (j l n : ℕ) (w : Waiter) → l < 2 → slice_get (u.lot.queues (2 * j + l)) n ≡ Some w → (z : Call) × (call_at u w.thread ≡ Some z) × (z.lock ≡ j) × (z.spot ≡ spot.Listed) × Awaits l w.token (stance z.core)
+      woke_waits : (j l n : ℕ) (w : Waiter) → l < 2 → slice_get (u.lot.queues (2 * j + l)) n ≡ Some w → (z : Call) × (call_at u w.thread ≡ Some z) × (z.lock ≡ j) × (z.spot ≡ QueuePosition.Listed) × Awaits l w.token (stance z.core)
       woke_waits j l n w low is =
           let old = h.waits j l n w low is in
           let not_t : (w.thread == t) ≡ false = ne_eqb w.thread t (λ f. subst (Awaits l w.token) (ap (λ (y : Call). stance y.core) (same_call (sym old.1 ∙ (ap (call_at s) f ∙ here))) ∙ from) old.4) in
           let not_e : (w.thread == e.thread) ≡ false = ne_eqb w.thread e.thread (λ f. listed≢off (sym old.3 ∙ (ap (λ (y : Call). y.spot) (same_call (sym old.1 ∙ (ap (call_at s) f ∙ there))) ∙ woken_off.3))) in
           (old.0, call_other w.thread not_t not_e ∙ old.1, old.2, old.3, old.4)
         where
-          listed≢off : {said : WakeResult} → spot.Listed ≡ spot.Off t said → ⊥
+          listed≢off : {said : WakeResult} → QueuePosition.Listed ≡ QueuePosition.Off t said → ⊥
           listed≢off e = cc
 
-      woke_owed : (x : ℕ) (z : Call) (j : ℕ) (park : ParkToken) (by : ℕ) (said : WakeResult) → call_at u x ≡ Some z → stance z.core ≡ Asleep j park → z.spot ≡ spot.Off by said → IsOwed u.wakes by x
+      woke_owed : (x : ℕ) (z : Call) (j : ℕ) (park : ParkToken) (by : ℕ) (said : WakeResult) → call_at u x ≡ Some z → stance z.core ≡ Asleep j park → z.spot ≡ QueuePosition.Off by said → IsOwed u.wakes by x
       woke_owed x z j park by said is asleep off = by_eqb x t (IsOwed u.wakes by x)
           (λ f. absurd (out_asleep (sym to ∙ (ap (λ (y : Call). stance y.core) (same_call (sym call_mine ∙ (ap (call_at u) (sym f) ∙ is))) ∙ asleep))))
           (λ f. by_eqb x e.thread (IsOwed u.wakes by x)

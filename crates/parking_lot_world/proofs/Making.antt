@@ -1,21 +1,26 @@
--- What is a step of a lock is a step of the machine's family of locks, and keeps it sound.
+-- What is a step of a lock is a step of the machine's family of locks, and keeps it sound: whichever move a call of any kind makes.
 use Rattle.std.proofs.Common.{◌≡◌, ◌≢◌, ℕ, inl, inr, ◌==◌, cond, Bool, true, false, List, [], ◌∷◌, length, Option, Some, None, slice_get, sym, ap, ◌∙◌, subst}
 use Rattle.std.proofs.lemmas.Bool.{ne_eqb, cases_eq}
-use Rattle.parking_lot_rules.specs.Roles.{Idle, Role}
-use Rattle.parking_lot_rules.specs.Steps.{Step, Allowed, after}
+use Rattle.parking_lot_rules.specs.Roles.{Asleep, Idle, Owned, Role}
+use Rattle.parking_lot_rules.specs.Steps.{Alone, List_changes, Scan, Store, Take1, Take2, Wake}
+use Rattle.parking_lot_rules.specs.Lock.{Lock}
 use Rattle.parking_lot_rules.specs.Mutex as mutex
-use Rattle.parking_lot_rules.specs.Any.{Rw, Mx, AnyStep, RwStep, MxStep, any_rules, AnySound, any_inside, IsIdleAt, any_after, mutex_crossing}
-use Rattle.parking_lot_rules.specs.Family.{Crossing, Stays, Comes, Goes, crossing, SoundFamilyOf, IsFree, entered_after}
-use Rattle.parking_lot_world.specs.declared.calls.LockKind.{LockKind}
-use Rattle.parking_lot_world.specs.declared.calls.LockKind.TheVariants as kind
-use Rattle.parking_lot_world.specs.Rows.{State, call_at, hold_at, taken_by, rw_role_at, mutex_role_at, rw_lock_at, mutex_at, any_lock, lock_at, inside, family, one_bucket}
-use Rattle.parking_lot_rules.specs.Roles.{Asleep}
+use Rattle.parking_lot_rules.specs.Any.{Rw, Mx, AnyStep, RwStep, MxStep, any_rules, AnySound, any_inside, any_crossing, IsIdleAt, any_after, mutex_crossing}
+use Rattle.parking_lot_rules.specs.Family.{Crossing, Stays, Comes, Goes, SoundFamilyOf, IsFree, entered_after}
+use Rattle.parking_lot_protocol.specs.declared.act.ActResult.{ActResult}
 use Rattle.parking_lot_protocol.specs.MutexRules as of_mutex
-use Rattle.parking_lot_world.specs.MutexLaws.{LeadsBy, move_crossing}
-use Rattle.parking_lot_world.specs.RowSteps.{IsQuiet, IsMade, IsMutexMove, store_step, wake_step}
+use Rattle.parking_lot_protocol.specs.RwRules as of_rw
+use Rattle.parking_lot_world.specs.declared.calls.LockKind.{LockKind}
+use Rattle.parking_lot_world.specs.declared.seat.Core.{Core}
+use Rattle.parking_lot_world.specs.Rows.{State, call_at, hold_at, taken_by, rw_lock_at, mutex_at, any_lock, lock_at, inside, family, one_bucket}
+use Rattle.parking_lot_world.specs.MutexLaws as mutex_laws
+use Rattle.parking_lot_world.specs.RwLaws as rw_laws
+use Rattle.parking_lot_world.specs.RwLaws.{IsStep}
+use Rattle.parking_lot_world.specs.RowSteps.{IsLastOf, IsQuiet, IsMade, IsMoveOf, IsMutexMove, IsRwMove, store_step, wake_step}
 use Rattle.parking_lot_rules.proofs.MutexCrossing.{families_stay_sound}
 use Rattle.parking_lot_world.proofs.Everybody.{was-all}
-use Rattle.parking_lot_world.proofs.Lifting.{IsThere, rw_away, mutex_away, Elsewhere, elsewhere}
+use Rattle.parking_lot_world.proofs.KindTable.{Kind, of_rws, of_mutexes, IsThere, Elsewhere, elsewhere, idle_in, role_at, shown}
+use Rattle.parking_lot_world.proofs.Moves.{goes, ends}
 
 -- who is inside, where thread t crosses so
 abbrev pub Crossed : Crossing → ℕ → Option ℕ → Option ℕ → Type 0
@@ -24,17 +29,16 @@ Crossed (Comes k) t old new = (old ≡ None) × (new ≡ Some t)
 Crossed (Goes k) t old new = new ≡ None
 
 -- a thread that is at lock j does nothing at another
-module _ (s : State) (t j : ℕ) (there : IsThere j (call_at s t)) (i : ℕ) (ne : i ≢ j) where
-  idle_rw : (r : Role) → slice_get (rw_lock_at s i).roles t ≡ Some r → r.does ≡ Idle
-  idle_rw r h = ap (λ (x : Role). x.does) (was-all (rw_role_at s i) (length s.calls) t r h ∙ rw_away i j ne (taken_by s.wakes t) (hold_at s t i) (call_at s t) there)
+idle_any : (s : State) (t j : ℕ) → IsThere j (call_at s t) → (i : ℕ) → i ≢ j → (o : Option LockKind) → IsIdleAt (any_lock o s i) t
+idle_any s t j there i ne o = go o
+  where
+    idle_rw : (r : Role) → slice_get (rw_lock_at s i).roles t ≡ Some r → r.does ≡ Idle
+    idle_rw r h = ap (λ (x : Role). x.does) (was-all (role_at of_rws s i) (length s.calls) t r h ∙ idle_in of_rws i j ne (taken_by s.wakes t) (hold_at s t i) (call_at s t) there)
 
-  idle_mutex : (r : mutex.Role) → slice_get (mutex_at s i).roles t ≡ Some r → r.does ≡ mutex.Idle
-  idle_mutex r h = ap (λ (x : mutex.Role). x.does) (was-all (mutex_role_at s i) (length s.calls) t r h ∙ mutex_away i j ne (taken_by s.wakes t) (hold_at s t i) (call_at s t) there)
-
-  idle_any : (k : Option LockKind) → IsIdleAt (any_lock k s i) t
-  idle_any None = idle_rw
-  idle_any (Some kind.Rw) = idle_rw
-  idle_any (Some kind.Mutex) = idle_mutex
+    go : (o : Option LockKind) → IsIdleAt (any_lock o s i) t
+    go None = idle_rw
+    go (Some LockKind.Rw) = idle_rw
+    go (Some LockKind.Mutex) = λ r h. ap (λ (x : mutex.Role). x.does) (was-all (role_at of_mutexes s i) (length s.calls) t r h ∙ idle_in of_mutexes i j ne (taken_by s.wakes t) (hold_at s t i) (call_at s t) there)
 
 free : (c : Crossing) (t j : ℕ) (s u : State) → Crossed c t (inside s) (inside u) → IsFree one_bucket (family s).entered j c
 free Stays t j s u h = tt
@@ -52,43 +56,25 @@ marks (Goes k) t j s u h b = elim (cases_eq b 0) [
   | inr ne ↦ ap (λ q. cond q (inside u) None) (ne_eqb b 0 ne) ∙ sym (ap (λ q. cond q None (cond q (inside s) None)) (ne_eqb b 0 ne))
 ]
 
-module _ (s u : State) (t j : ℕ) (there : IsThere j (call_at s t)) (others : Elsewhere j s u) where
-  pub made_rw : (step : Step) → slice_get s.kinds j ≡ Some kind.Rw → Allowed false t step (rw_lock_at s j) → rw_lock_at u j ≡ after t step (rw_lock_at s j)
-      → Crossed (crossing step) t (inside s) (inside u) → IsMade j t (RwStep step) s u
-  made_rw step k allowed here crossed = record {
-    allowed = subst (λ (o : Option LockKind). (any_rules (λ i. false)).allowed j t (RwStep step) (any_lock o s j)) (sym k) allowed;
-    free = free (crossing step) t j s u crossed;
-    idle = λ i ne. idle_any s t j there i ne (slice_get s.kinds i);
-    here = ap (λ ks. any_lock (slice_get ks j) u j) others.kinds ∙ ap (λ o. any_lock o u j) k ∙ ap Rw here ∙ sym (ap (λ o. any_after t (RwStep step) (any_lock o s j)) k);
-    elsewhere = λ i ne. elsewhere j s u others i ne;
-    entered = marks (crossing step) t j s u crossed;
-  }
+module _ {C R L : Type 0} (K : Kind C R L) (s u : State) (t j : ℕ) (there : IsThere j (call_at s t)) (others : Elsewhere j s u) (k : slice_get s.kinds j ≡ Some K.kind) where
+  shown_after : lock_at u j ≡ K.any (shown K u j)
+  shown_after = ap (λ ks. any_lock (slice_get ks j) u j) others.kinds ∙ K.shows u j (slice_get s.kinds j) k
 
-  pub made_mutex : (step : mutex.Step) → slice_get s.kinds j ≡ Some kind.Mutex → mutex.Allowed t step (mutex_at s j) → mutex_at u j ≡ mutex.after t step (mutex_at s j)
-      → Crossed (mutex_crossing step) t (inside s) (inside u) → IsMade j t (MxStep step) s u
-  made_mutex step k allowed here crossed = record {
-    allowed = subst (λ (o : Option LockKind). (any_rules (λ i. false)).allowed j t (MxStep step) (any_lock o s j)) (sym k) allowed;
-    free = free (mutex_crossing step) t j s u crossed;
+  pub made : (step : AnyStep) → (any_rules (λ i. false)).allowed j t step (K.any (shown K s j)) → K.any (shown K u j) ≡ any_after t step (K.any (shown K s j)) → Crossed (any_crossing step) t (inside s) (inside u) → IsMade j t step s u
+  made step allowed here crossed = record {
+    allowed = subst ((any_rules (λ i. false)).allowed j t step) (sym (K.shows s j (slice_get s.kinds j) k)) allowed;
+    free = free (any_crossing step) t j s u crossed;
     idle = λ i ne. idle_any s t j there i ne (slice_get s.kinds i);
-    here = ap (λ ks. any_lock (slice_get ks j) u j) others.kinds ∙ ap (λ o. any_lock o u j) k ∙ ap Mx here ∙ sym (ap (λ o. any_after t (MxStep step) (any_lock o s j)) k);
+    here = shown_after ∙ here ∙ sym (ap (any_after t step) (K.shows s j (slice_get s.kinds j) k));
     elsewhere = λ i ne. elsewhere j s u others i ne;
-    entered = marks (mutex_crossing step) t j s u crossed;
+    entered = marks (any_crossing step) t j s u crossed;
   }
 
   -- where nothing changes at lock j either
-  pub quiet_rw : slice_get s.kinds j ≡ Some kind.Rw → rw_lock_at u j ≡ rw_lock_at s j → inside u ≡ inside s → IsQuiet s u
-  quiet_rw k here same = record {
+  pub quiet : shown K u j ≡ shown K s j → inside u ≡ inside s → IsQuiet s u
+  quiet here same = record {
     locks = λ i. elim (cases_eq i j) [
-      | inl e ↦ subst (λ (n : ℕ). lock_at u n ≡ lock_at s n) (sym e) (ap (λ ks. any_lock (slice_get ks j) u j) others.kinds ∙ ap (λ o. any_lock o u j) k ∙ ap Rw here ∙ sym (ap (λ o. any_lock o s j) k))
-      | inr ne ↦ elsewhere j s u others i ne
-    ];
-    inside = same;
-  }
-
-  pub quiet_mutex : slice_get s.kinds j ≡ Some kind.Mutex → mutex_at u j ≡ mutex_at s j → inside u ≡ inside s → IsQuiet s u
-  quiet_mutex k here same = record {
-    locks = λ i. elim (cases_eq i j) [
-      | inl e ↦ subst (λ (n : ℕ). lock_at u n ≡ lock_at s n) (sym e) (ap (λ ks. any_lock (slice_get ks j) u j) others.kinds ∙ ap (λ o. any_lock o u j) k ∙ ap Mx here ∙ sym (ap (λ o. any_lock o s j) k))
+      | inl e ↦ subst (λ (n : ℕ). lock_at u n ≡ lock_at s n) (sym e) (shown_after ∙ ap K.any here ∙ sym (K.shows s j (slice_get s.kinds j) k))
       | inr ne ↦ elsewhere j s u others i ne
     ];
     inside = same;
@@ -109,29 +95,60 @@ quiet_sound s u q sound = record {
 pub made_sound : (s u : State) (t j : ℕ) (step : AnyStep) → IsMade j t step s u → IsSoundState s → IsSoundState u
 made_sound s u t j step made sound = families_stay_sound (λ i. false) one_bucket j t step (family s) (family u) sound made
 
--- AT A MUTEX
+-- whichever move it is
+pub move_sound : (s u : State) (x : Core) (n : ℕ) (us : List ℕ) (told : ActResult) (j t : ℕ) → IsMoveOf x n us told j t s u → IsSoundState s → IsSoundState u
+move_sound s u x n us told j t h sound = goes s u (λ t j. IsSoundState u) (λ t j q. quiet_sound s u q sound) (λ t j step m. made_sound s u t j step m sound) x n us told j t h
+
+pub last_sound : (s u : State) (x : Core) (n j t : ℕ) → IsLastOf x n j t s u → IsSoundState s → IsSoundState u
+last_sound s u x n j t h sound = ends s u (λ t j. IsSoundState u) (λ t j q. quiet_sound s u q sound) (λ t j step m. made_sound s u t j step m sound) x n j t h
+
+-- THE MOVES OF A READER-WRITER LOCK
+
+-- The move of thread t leads from the one lock to the other.
+abbrev pub RwLeadsBy : of_rw.Move → ℕ → Lock → Lock → Type 0
+RwLeadsBy of_rw.Stays t l n = n ≡ l
+RwLeadsBy (of_rw.Makes k) t l n = IsStep t (Alone k) l n
+RwLeadsBy (of_rw.Joins k) t l n = IsStep t (List_changes k) l n
+RwLeadsBy (of_rw.TakesOne mode) t l n = (scan : Scan) × (i v : ℕ) × IsStep t (Take1 scan i v mode Asleep) l n
+RwLeadsBy of_rw.TakesWriter t l n = (owns : Owned) × (v : ℕ) × IsStep t (Take2 owns v false Asleep) l n
+RwLeadsBy (of_rw.Tells end left) t l n = (scan : Scan) × IsStep t (Store end scan) l n
+RwLeadsBy of_rw.WakesOne t l n = (owns : Owned) × (v : ℕ) × (us : List ℕ) × (k : _) × IsStep t (Wake owns v us k Asleep) l n
+RwLeadsBy (of_rw.IsWoken k) t l n = ⊥
+
+pub rw_goes : (s u : State) (t j : ℕ) (m : of_rw.Move) (n : Lock) → IsThere j (call_at s t) → Elsewhere j s u → slice_get s.kinds j ≡ Some LockKind.Rw → RwLeadsBy m t (rw_lock_at s j) n → rw_lock_at u j ≡ n
+    → Crossed (rw_laws.move_crossing m) t (inside s) (inside u) → IsRwMove m j t s u
+rw_goes s u t j of_rw.Stays n there others k leads here crossed = quiet of_rws s u t j there others k (here ∙ leads) crossed
+rw_goes s u t j (of_rw.Makes x) n there others k leads here crossed = made of_rws s u t j there others k (RwStep (Alone x)) leads.0 (ap Rw (here ∙ sym leads.1)) crossed
+rw_goes s u t j (of_rw.Joins x) n there others k leads here crossed = made of_rws s u t j there others k (RwStep (List_changes x)) leads.0 (ap Rw (here ∙ sym leads.1)) crossed
+rw_goes s u t j (of_rw.TakesOne mode) n there others k (scan, i, v, leads) here crossed = (scan, i, v, made of_rws s u t j there others k (RwStep (Take1 scan i v mode Asleep)) leads.0 (ap Rw (here ∙ sym leads.1)) crossed)
+rw_goes s u t j of_rw.TakesWriter n there others k (owns, v, leads) here crossed = (owns, v, made of_rws s u t j there others k (RwStep (Take2 owns v false Asleep)) leads.0 (ap Rw (here ∙ sym leads.1)) crossed)
+rw_goes s u t j (of_rw.Tells end left) n there others k (scan, leads) here crossed = (scan, made of_rws s u t j there others k (RwStep (Store end scan)) leads.0 (ap Rw (here ∙ sym leads.1)) crossed)
+rw_goes s u t j of_rw.WakesOne n there others k (owns, v, us, w, leads) here crossed = (owns, v, us, w, made of_rws s u t j there others k (RwStep (Wake owns v us w Asleep)) leads.0 (ap Rw (here ∙ sym leads.1)) crossed)
+rw_goes s u t j (of_rw.IsWoken x) n there others k leads here crossed = absurd leads
+
+-- THE MOVES OF A MUTEX
 
 -- one that tells has taken those whom its phase says
 abbrev pub TellsOf : of_mutex.Move → List ℕ → ℕ → Type 0
 TellsOf (of_mutex.Tells taken handed left) us v = us ≡ of_mutex.taken_of v taken
 TellsOf m us v = Unit {0}
 
-pub mutex_goes : (s u : State) (t j v : ℕ) (us : List ℕ) (n : mutex.Mutex) (m : of_mutex.Move) → IsThere j (call_at s t) → Elsewhere j s u → slice_get s.kinds j ≡ Some kind.Mutex
-    → LeadsBy m v t (mutex_at s j) n → mutex_at u j ≡ n → Crossed (move_crossing m) t (inside s) (inside u) → TellsOf m us v → IsMutexMove m us j t s u
-mutex_goes s u t j v us n of_mutex.Stays there others k leads here crossed tells = quiet_mutex s u t j there others k (here ∙ leads) crossed
-mutex_goes s u t j v us n (of_mutex.Makes x) there others k leads here crossed tells = made_mutex s u t j there others (mutex.Alone x) k leads.0 (here ∙ sym leads.1) crossed
-mutex_goes s u t j v us n of_mutex.Joins there others k leads here crossed tells = made_mutex s u t j there others mutex.Join k leads.0 (here ∙ sym leads.1) crossed
-mutex_goes s u t j v us n of_mutex.TakesOne there others k leads here crossed tells = (v, made_mutex s u t j there others (mutex.Take v Asleep) k leads.0 (here ∙ sym leads.1) crossed)
+pub mutex_goes : (s u : State) (t j v : ℕ) (us : List ℕ) (n : mutex.Mutex) (m : of_mutex.Move) → IsThere j (call_at s t) → Elsewhere j s u → slice_get s.kinds j ≡ Some LockKind.Mutex
+    → mutex_laws.LeadsBy m v t (mutex_at s j) n → mutex_at u j ≡ n → Crossed (mutex_laws.move_crossing m) t (inside s) (inside u) → TellsOf m us v → IsMutexMove m us j t s u
+mutex_goes s u t j v us n of_mutex.Stays there others k leads here crossed tells = quiet of_mutexes s u t j there others k (here ∙ leads) crossed
+mutex_goes s u t j v us n (of_mutex.Makes x) there others k leads here crossed tells = made of_mutexes s u t j there others k (MxStep (mutex.Alone x)) leads.0 (ap Mx (here ∙ sym leads.1)) crossed
+mutex_goes s u t j v us n of_mutex.Joins there others k leads here crossed tells = made of_mutexes s u t j there others k (MxStep mutex.Join) leads.0 (ap Mx (here ∙ sym leads.1)) crossed
+mutex_goes s u t j v us n of_mutex.TakesOne there others k leads here crossed tells = (v, made of_mutexes s u t j there others k (MxStep (mutex.Take v Asleep)) leads.0 (ap Mx (here ∙ sym leads.1)) crossed)
 mutex_goes s u t j v us n (of_mutex.Tells taken handed left) there others k leads here crossed tells =
     subst (λ (vs : List ℕ). IsMade j t (MxStep (store_step handed vs)) s u) (sym tells)
-    (made_mutex s u t j there others (store_step handed (of_mutex.taken_of v taken)) k leads.0 (here ∙ sym leads.1) (stores handed (of_mutex.taken_of v taken)))
+    (made of_mutexes s u t j there others k (MxStep (store_step handed (of_mutex.taken_of v taken))) leads.0 (ap Mx (here ∙ sym leads.1)) (stores handed (of_mutex.taken_of v taken)))
   where
     stores : (b : Bool) (vs : List ℕ) → Crossed (mutex_crossing (store_step b vs)) t (inside s) (inside u)
     stores true (x ∷ vs) = crossed
     stores true [] = crossed
     stores false vs = crossed
 mutex_goes s u t j v us n of_mutex.WakesOne there others k leads here crossed tells =
-    (leads.0, v, [], made_mutex s u t j there others (wake_step leads.0 v []) k leads.1.0 (here ∙ sym leads.1.1) (wakes leads.0))
+    (leads.0, v, [], made of_mutexes s u t j there others k (MxStep (wake_step leads.0 v [])) leads.1.0 (ap Mx (here ∙ sym leads.1.1)) (wakes leads.0))
   where
     wakes : (b : Bool) → Crossed (mutex_crossing (wake_step b v [])) t (inside s) (inside u)
     wakes true = crossed

@@ -1,5 +1,5 @@
 -- A thread in a call at a lock of the machine, as one lock sees it.
-use Rattle.std.proofs.Common.{◌≡◌, ℕ, ◌+◌, ◌<◌, ◌≤◌, ◌^◌, inl, inr, ◌==◌, cond, Bool, true, false, List, length, Option, Some, None, slice_get, refl, sym, ap, ◌∙◌, subst, arith}
+use Rattle.std.proofs.Common.{◌≡◌, ℕ, ◌+◌, ◌*◌, ◌<◌, ◌≤◌, ◌^◌, inl, inr, ◌==◌, cond, Bool, true, false, List, length, Option, Some, None, slice_get, refl, sym, ap, ◌∙◌, subst, arith}
 use Rattle.std.proofs.lemmas.Bool.{cases_lt}
 use Rattle.std.proofs.lemmas.Option.{none-some, slice_get_past}
 use Rattle.std.proofs.lemmas.List.{length-map}
@@ -14,26 +14,29 @@ use Rattle.parking_lot_rules.specs.Any.{AnySound}
 use Rattle.parking_lot_protocol.specs.declared.rw_core.RwCore.{RwCore}
 use Rattle.parking_lot_protocol.specs.declared.rw_phase.LockMode.TheVariants as want
 use Rattle.parking_lot_protocol.specs.declared.rw_phase.AfterWake.{AfterWake}
-use Rattle.parking_lot_protocol.specs.declared.rw_phase.AfterWake.TheVariants as rest
 use Rattle.parking_lot_protocol.specs.declared.rw_phase.Outcome.TheVariants as outcome
 use Rattle.parking_lot_protocol.specs.declared.rw_phase.RwPhase.{RwPhase}
-use Rattle.parking_lot_protocol.specs.declared.rw_phase.RwPhase.TheVariants as r
 use Rattle.parking_lot_protocol.specs.RwRules as of_rw
+use Rattle.parking_lot_protocol.specs.MutexRules as of_mutex
+use Rattle.parking_lot_protocol.specs.declared.act.ActResult.{ActResult}
+use Rattle.parking_lot_protocol.specs.declared.mutex_core.MutexCore.{MutexCore}
+use Rattle.parking_lot_core_lot.specs.declared.place.Waiter.{Waiter}
 use Rattle.parking_lot_world.specs.declared.calls.LockKind.{LockKind}
-use Rattle.parking_lot_world.specs.declared.calls.LockKind.TheVariants as kind
 use Rattle.parking_lot_world.specs.declared.seat.Hold.{Hold}
-use Rattle.parking_lot_world.specs.declared.seat.Hold.TheVariants as hold
 use Rattle.parking_lot_world.specs.declared.seat.QueuePosition.{QueuePosition}
 use Rattle.parking_lot_world.specs.declared.seat.Core.{Core}
-use Rattle.parking_lot_world.specs.declared.seat.Core.TheVariants as core
 use Rattle.parking_lot_world.specs.declared.open_call.Call.{Call}
-use Rattle.parking_lot_world.specs.Rows.{State, word_at, hold_at, call_at, is_by, taken_by, owned_of, rw_spot, rw_role_in, rw_role_at, rw_core_role, rw_lock_at, mutex_at, any_lock}
-use Rattle.parking_lot_world.specs.Stances.{rw_taken, taken_count}
-use Rattle.parking_lot_world.specs.RowFits.{FitsTogether, is_away, IsOfKind, IsPrepared}
-use Rattle.parking_lot_world.specs.RwLaws.{Meets, count_shared}
+use Rattle.parking_lot_world.specs.Rows.{State, word_at, hold_at, call_at, is_by, taken_by, owned_of, rw_spot, rw_role_in, rw_role_at, rw_core_role, rw_lock_at, mutex_at, mutex_spot, first_of_all, any_lock}
+use Rattle.parking_lot_world.specs.Stances.{core_next, rw_taken, taken_count}
+use Rattle.parking_lot_world.specs.RowFits.{FitsTogether, is_away, IsOfKind, IsPrepared, KnowsList}
+use Rattle.parking_lot_world.specs.RwLaws.{Learns, Meets, count_shared}
+use Rattle.parking_lot_world.specs.MutexLaws.{Plays}
+use Rattle.parking_lot_world.proofs.MutexRoles.{words}
+use Rattle.parking_lot_world.proofs.RwCrossing.{lists_are_known}
+use Rattle.parking_lot_world.proofs.RwMoving.{answers_are_moves}
 use Rattle.parking_lot_world.proofs.RwKeeping.{calls_keep}
-use Rattle.parking_lot_world.proofs.Everybody.{get-all, was-all, length-all}
-use Rattle.parking_lot_world.proofs.Lifting.{rw_there}
+use Rattle.parking_lot_world.proofs.Everybody.{was-all, length-all}
+use Rattle.parking_lot_world.proofs.KindTable.{of_rws, of_mutexes, in_its_place}
 
 -- who is in a call is a thread of the machine
 pub in_range : (s : State) (t : ℕ) (c : Call) → call_at s t ≡ Some c → t < length s.calls
@@ -49,42 +52,37 @@ few_taken s h t =
 
 -- a scan counts few
 few_counted : (us : List ℕ) (p : RwPhase) → length us < 2 ^ 17 → length us ≡ rw_taken p → count_shared p ≤ 2 ^ 17
-few_counted us (r.Scans a) b e = omega (arith, b, e)
-few_counted us (r.Stores a left) b e = omega (arith, b, e)
+few_counted us (RwPhase.Scans a) b e = omega (arith, b, e)
+few_counted us (RwPhase.Stores a left) b e = omega (arith, b, e)
 few_counted us p b e = omega arith
 
 -- FEW SHARED HOLDS
 
 last_few : (n : ℕ) (q : AfterWake) → shared_holds (of_rw.owned_at_last n q) ≤ n + 1
-last_few n rest.FreedShared = omega arith
-last_few n rest.FreedExclusive = omega arith
-last_few n rest.Downgraded = omega arith
-last_few n rest.AgainShared = omega arith
-last_few n rest.AgainExclusive = omega arith
+last_few n AfterWake.FreedShared = omega arith
+last_few n AfterWake.FreedExclusive = omega arith
+last_few n AfterWake.Downgraded = omega arith
+last_few n AfterWake.AgainShared = omega arith
+last_few n AfterWake.AgainExclusive = omega arith
 
 owns_few : (n : ℕ) (p : RwPhase) → shared_holds (of_rw.owns n p) ≤ n + 1
-owns_few n (r.BumpLoads (want.Shared recursive)) = omega arith
-owns_few n (r.BumpLoads want.Exclusive) = omega arith
-owns_few n (r.Scans a) = last_few n a.rest
-owns_few n (r.Stores a left) = last_few n a.rest
-owns_few n (r.Leaves rest count handed) = last_few n rest
-owns_few n (r.Wakes rest count) = last_few n rest
-owns_few n (r.Finishes rest) = last_few n rest
-owns_few n (r.Ends outcome.Shared) = omega arith
-owns_few n (r.Ends outcome.Exclusive) = omega arith
-owns_few n (r.Ends outcome.Downgraded) = omega arith
-owns_few n (r.Ends outcome.FreedShared) = omega arith
-owns_few n (r.Ends outcome.FreedExclusive) = omega arith
+owns_few n (RwPhase.BumpLoads (want.Shared recursive)) = omega arith
+owns_few n (RwPhase.Scans a) = last_few n a.rest
+owns_few n (RwPhase.Stores a left) = last_few n a.rest
+owns_few n (RwPhase.Leaves rest count handed) = last_few n rest
+owns_few n (RwPhase.Wakes rest count) = last_few n rest
+owns_few n (RwPhase.Finishes rest) = last_few n rest
+owns_few n (RwPhase.Ends outcome.Shared) = omega arith
 owns_few n p = omega arith
 
 module _ (s : State) (h : FitsTogether s) where
   pub hold_few : (u i : ℕ) (x : Hold) → hold_at s u i ≡ x → shared_holds (owned_of x) ≤ 256
-  hold_few u i (hold.Shares n) e = omega (arith, h.rules.few u i n e)
-  hold_few u i hold.Excludes e = omega arith
+  hold_few u i (Hold.Shares n) e = omega (arith, h.rules.few u i n e)
+  hold_few u i Hold.Excludes e = omega arith
 
   core_few : (n : ℕ) (at : QueuePosition) (us : List ℕ) (x : Core) → n ≤ 254 → shared_holds (rw_core_role n at us x).owns ≤ 256
-  core_few n at us (core.Rw k) e = omega (arith, owns_few n k.phase, e)
-  core_few n at us (core.Mutex k) e = omega arith
+  core_few n at us (Core.Rw k) e = omega (arith, owns_few n k.phase, e)
+  core_few n at us (Core.Mutex k) e = omega arith
 
   pub role_few : (i u : ℕ) (o : Option Call) → call_at s u ≡ o → shared_holds (rw_role_in i (taken_by s.wakes u) (hold_at s u i) o).owns ≤ 256
   role_few i u None e = hold_few u i (hold_at s u i) refl
@@ -94,14 +92,14 @@ module _ (s : State) (h : FitsTogether s) where
       go true = core_few c.others c.spot (taken_by s.wakes u) c.core (h.rules.beside u c e)
       go false = hold_few u i (hold_at s u i) refl
 
-  pub rw_sound : (i : ℕ) → slice_get s.kinds i ≡ Some kind.Rw → IsSound (rw_lock_at s i)
+  pub rw_sound : (i : ℕ) → slice_get s.kinds i ≡ Some LockKind.Rw → IsSound (rw_lock_at s i)
   rw_sound i k = subst (λ (o : Option LockKind). AnySound (any_lock o s i)) k (h.rules.sound.sound i)
 
-  pub mutex_sound : (i : ℕ) → slice_get s.kinds i ≡ Some kind.Mutex → mutex.IsSound (mutex_at s i)
+  pub mutex_sound : (i : ℕ) → slice_get s.kinds i ≡ Some LockKind.Mutex → mutex.IsSound (mutex_at s i)
   mutex_sound i k = subst (λ (o : Option LockKind). AnySound (any_lock o s i)) k (h.rules.sound.sound i)
 
   -- thread t is in that call
-  pub meets : (t : ℕ) (c : Call) (k : RwCore) → c.core ≡ core.Rw k → call_at s t ≡ Some c
+  pub meets : (t : ℕ) (c : Call) (k : RwCore) → c.core ≡ Core.Rw k → call_at s t ≡ Some c
       → Meets (rw_lock_at s c.lock) t c.others (rw_spot c.spot) (taken_by s.wakes t) k.phase (word_at s c.lock)
   meets t c k e here =
       let ready = subst (IsPrepared c.others) e (h.rules.prepared t c here) in
@@ -109,9 +107,27 @@ module _ (s : State) (h : FitsTogether s) where
       record {
         sound = rw_sound c.lock (subst (IsOfKind (slice_get s.kinds c.lock)) e (h.rules.kinds t c here));
         word = refl;
-        here = get-all (rw_role_at s c.lock) (length s.calls) t (in_range s t c here) ∙ ap Some (ap (rw_role_in c.lock (taken_by s.wakes t) (hold_at s t c.lock)) here ∙ rw_there (taken_by s.wakes t) (hold_at s t c.lock) c ∙ ap (rw_core_role c.others (c.spot) (taken_by s.wakes t)) e);
+        here = in_its_place of_rws s t c k (in_range s t c here) here e;
         ready = ready.0;
         prepared = calls_keep.prepared c.others (taken_by s.wakes t) k.phase ready.1 counted (few_counted (taken_by s.wakes t) k.phase (few_taken s h t) counted);
         threads = omega (arith, length-all (rw_role_at s c.lock) 0 (length s.calls), h.rules.small);
         few = λ u x at. subst (λ (q : Role). shared_holds q.owns ≤ 256) (sym (was-all (rw_role_at s c.lock) (length s.calls) u x at)) (role_few c.lock u (call_at s u) refl);
       }
+
+  -- thread t plays the part of its call's phase
+  pub plays : (t : ℕ) (c : Call) (k : MutexCore) → c.core ≡ Core.Mutex k → call_at s t ≡ Some c → Plays (mutex_at s c.lock) (word_at s c.lock) t (of_mutex.role (mutex_spot c.spot) (first_of_all (taken_by s.wakes t)) k.phase)
+  plays t c k e here =
+      let kind_is = subst (IsOfKind (slice_get s.kinds c.lock)) e (h.rules.kinds t c here) in
+      record { sound = mutex_sound c.lock kind_is; word = sym (words.forth (word_at s c.lock) (h.rules.bits c.lock kind_is)); here = in_its_place of_mutexes s t c k (in_range s t c here) here e }
+
+  -- a call at a reader-writer lock that hears what it may stands on what its next phase needs
+  pub rw_hears : (t : ℕ) (c : Call) (k : RwCore) → c.core ≡ Core.Rw k → call_at s t ≡ Some c → (heard : ActResult) → of_rw.IsTold k.phase (word_at s c.lock) heard → (queues : ℕ → List Waiter) → Learns k.phase heard (queues (2 * c.lock)) (queues (2 * c.lock + 1))
+      → IsPrepared c.others (core_next (Core.Rw k) heard) × KnowsList (core_next (Core.Rw k) heard) queues c.lock
+  rw_hears t c k e here heard so queues learns = (
+    (
+      (answers_are_moves (rw_lock_at s c.lock) t c.others (rw_spot c.spot) (taken_by s.wakes t) k.phase (word_at s c.lock) heard (meets t c k e here) so).2.1,
+      calls_keep.goes_on c.others k.phase (word_at s c.lock) heard (subst (IsPrepared c.others) e (h.rules.prepared t c here)).1 so,
+    ),
+    lists_are_known.learns k.phase (word_at s c.lock) heard (s.lot.queues (2 * c.lock)) (s.lot.queues (2 * c.lock + 1)) (queues (2 * c.lock)) (queues (2 * c.lock + 1)) so
+        (subst (λ (x : Core). KnowsList x s.lot.queues c.lock) e (h.rules.knows t c here)) learns,
+  )

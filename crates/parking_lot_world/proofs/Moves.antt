@@ -2,13 +2,11 @@
 use Rattle.std.proofs.Common.{ℕ, Bool, List, Option, Some, None}
 use Rattle.parking_lot_rules.specs.Any.{AnyStep}
 use Rattle.parking_lot_protocol.specs.declared.act.ActResult.{ActResult}
-use Rattle.parking_lot_protocol.specs.declared.act.ActResult.TheVariants as seen
 use Rattle.parking_lot_protocol.specs.declared.act.CoreAnswer.{CoreAnswer}
 use Rattle.parking_lot_protocol.specs.MutexRules as of_mutex
 use Rattle.parking_lot_protocol.specs.RwRules as of_rw
 use Rattle.parking_lot_world.specs.declared.calls.LockCall.{LockCall}
 use Rattle.parking_lot_world.specs.declared.seat.Core.{Core}
-use Rattle.parking_lot_world.specs.declared.seat.Core.TheVariants as core
 use Rattle.parking_lot_world.specs.Machines.{call_for, IsBegun, IsStepped}
 use Rattle.parking_lot_world.specs.Rows.{State, taken_by}
 use Rattle.parking_lot_world.specs.RowSteps.{IsLastOf, IsMade, IsMoveOf, IsMutexMove, IsQuiet, IsRwMove}
@@ -33,17 +31,17 @@ module _ (s u : State) (P : (t j : ℕ) → Type 0) (quiet : (t j : ℕ) → IsQ
   mutex_moves of_mutex.WakesOne us j t (handed, v, rest, h) = made t j _ h
   mutex_moves (of_mutex.IsWoken handed) us j t h = absurd h
 
-  goes : (k : Core) (n : ℕ) (us : List ℕ) (told : ActResult) (j t : ℕ) → IsMoveOf k n us told j t s u → P t j
-  goes (core.Rw c) n us told j t h = rw_moves _ j t h
-  goes (core.Mutex c) n us told j t h = mutex_moves _ us j t h
+  pub goes : (k : Core) (n : ℕ) (us : List ℕ) (told : ActResult) (j t : ℕ) → IsMoveOf k n us told j t s u → P t j
+  goes (Core.Rw c) n us told j t h = rw_moves _ j t h
+  goes (Core.Mutex c) n us told j t h = mutex_moves _ us j t h
 
-  ends : (k : Core) (n j t : ℕ) → IsLastOf k n j t s u → P t j
-  ends (core.Rw c) n j t h = rw_moves _ j t h
-  ends (core.Mutex c) n j t h = mutex_moves _ _ j t h
+  pub ends : (k : Core) (n j t : ℕ) → IsLastOf k n j t s u → P t j
+  ends (Core.Rw c) n j t h = rw_moves _ j t h
+  ends (Core.Mutex c) n j t h = mutex_moves _ _ j t h
 
   pub stepped : (t : ℕ) (fair : Bool) (answer : Option CoreAnswer) (x : IsStepped t fair answer s u) → P t x.call.lock
   stepped t fair None x = goes x.call.core x.call.others (taken_by s.wakes t) x.lawful.0 x.call.lock t x.lawful.1.goes
   stepped t fair (Some answer) x = ends x.call.core x.call.others x.call.lock t x.lawful.goes
 
   pub begins : (t lock : ℕ) (call : LockCall) → IsBegun t lock call s u → P t lock
-  begins t lock call x = goes (call_for s t lock call).core (call_for s t lock call).others (taken_by s.wakes t) seen.Start lock t x.acts.goes
+  begins t lock call x = goes (call_for s t lock call).core (call_for s t lock call).others (taken_by s.wakes t) ActResult.Start lock t x.acts.goes

@@ -12,7 +12,6 @@ use Rattle.parking_lot_rules.specs.Mutex as rules
 use Rattle.parking_lot_rules.specs.Family.{Crossing, Comes, Goes, First}
 use Rattle.parking_lot_rules.specs.Family as crossing
 use Rattle.parking_lot_protocol.specs.declared.act.Act.{Act}
-use Rattle.parking_lot_protocol.specs.declared.act.Act.TheVariants as act
 use Rattle.parking_lot_protocol.specs.declared.act.SectionAct.TheVariants as section
 use Rattle.parking_lot_protocol.specs.declared.act.WordChange.{WordChange}
 use Rattle.parking_lot_protocol.specs.declared.act.CoreAnswer.{CoreAnswer}
@@ -105,22 +104,22 @@ alone_by v (Stores g taken left) s own = absurd (let e : false ≡ true = own in
 alone_by v (Wakes g) s own = absurd (let e : false ≡ true = own in cc)
 alone_by v p s own = refl
 
-enters_by : (a : Act) → crossing_of a ≡ Comes First → (key : ℕ) × (a ≡ act.Enter key)
-enters_by (act.Enter key) e = (key, refl)
-enters_by (act.Section section.Leave) e = absurd (let f : Goes First ≡ Comes First = e in cc)
+enters_by : (a : Act) → crossing_of a ≡ Comes First → (key : ℕ) × (a ≡ Act.Enter key)
+enters_by (Act.Enter key) e = (key, refl)
+enters_by (Act.Section section.Leave) e = absurd (let f : Goes First ≡ Comes First = e in cc)
 enters_by a e = absurd (let f : crossing.Stays ≡ Comes First = e in cc)
 
 -- numbers for the acts that aren't a thread's own, and for the last
 abbrev tag : Act → ℕ
-tag (act.Section section.TakeFirst) = 1
-tag (act.Section (section.Append token)) = 2
-tag (act.Section (section.Store plain fair)) = 3
-tag (act.Section section.Wake) = 4
-tag (act.Done answer) = 5
+tag (Act.Section section.TakeFirst) = 1
+tag (Act.Section (section.Append token)) = 2
+tag (Act.Section (section.Store plain fair)) = 3
+tag (Act.Section section.Wake) = 4
+tag (Act.Done answer) = 5
 tag other = 0
 
 -- the act of one that has woken all isn't one of the others
-finishing : (again : Bool) (n : ℕ) → n < 5 → 0 < n → tag (cond again act.Load (act.Done Released)) ≢ n
+finishing : (again : Bool) (n : ℕ) → n < 5 → 0 < n → tag (cond again Act.Load (Act.Done Released)) ≢ n
 finishing true n few some e = omega (arith, few, some, e)
 finishing false n few some e = omega (arith, few, some, e)
 
@@ -148,7 +147,7 @@ module _ (m : rules.Mutex) (sound : rules.IsSound m) (t v : ℕ) (p q : MutexPha
   alone_leads (IsWoken handed) at h alone free = absurd (let e : false ≡ true = alone in cc)
 
 module _ (m : rules.Mutex) (sound : rules.IsSound m) (t v : ℕ) (p : MutexPhase) (s : ActResult) where
-  own_step : slice_get m.roles t ≡ Some (role Listed v p) → IsTold p (rules.number m.word) s → is_alone (move v p s) ≡ true → ((key : ℕ) → act_of p ≡ act.Enter key → NobodyIsInside m)
+  own_step : slice_get m.roles t ≡ Some (role Listed v p) → IsTold p (rules.number m.word) s → is_alone (move v p s) ≡ true → ((key : ℕ) → act_of p ≡ Act.Enter key → NobodyIsInside m)
       → IsOwnStep m (rules.number m.word) t v p s
   own_step at heard alone free =
       let h : IsMove (move v p s) v p (next_phase p s) m.word (word_next p s (rules.number m.word)) = follows p s m.word v (sound_word m sound) heard in
@@ -158,14 +157,14 @@ module _ (m : rules.Mutex) (sound : rules.IsSound m) (t v : ℕ) (p : MutexPhase
       record { leads = k.0; small = k.1; crossing = crossed v p s }
 
 -- who doesn't sleep has the same role wherever it stood
-listed : (m : rules.Mutex) (t v : ℕ) (at : QueuePosition) (p : MutexPhase) → slice_get m.roles t ≡ Some (role at v p) → act_of p ≢ act.Sleep → slice_get m.roles t ≡ Some (role Listed v p)
+listed : (m : rules.Mutex) (t v : ℕ) (at : QueuePosition) (p : MutexPhase) → slice_get m.roles t ≡ Some (role at v p) → act_of p ≢ Act.Sleep → slice_get m.roles t ≡ Some (role Listed v p)
 listed m t v at p here ne = here ∙ ap (λ r. Some r) (awake at Listed v p ne)
 
-own_awake : (a : Act) → is_own a ≡ true → a ≢ act.Sleep
+own_awake : (a : Act) → is_own a ≡ true → a ≢ Act.Sleep
 own_awake a own e = let f : true ≡ false = sym own ∙ ap is_own e in cc
 
 own_law : (m : rules.Mutex) (x t v : ℕ) (at : QueuePosition) (p : MutexPhase) (s : ActResult) → Plays m x t (role at v p) → Gives (act_of p) x s → is_own (act_of p) ≡ true
-    → ((key : ℕ) → act_of p ≡ act.Enter key → NobodyIsInside m) → IsOwnStep m x t v p s
+    → ((key : ℕ) → act_of p ≡ Act.Enter key → NobodyIsInside m) → IsOwnStep m x t v p s
 own_law m x t v at p s plays g own free =
     subst (λ (y : ℕ). IsOwnStep m y t v p s) (sym plays.word)
     (own_step m plays.sound t v p s (listed m t v at p plays.here (own_awake (act_of p) own)) (told p (rules.number m.word) s (subst (λ (y : ℕ). Gives (act_of p) y s) plays.word g)) (alone_by v p s own) free)
@@ -180,10 +179,10 @@ begins m x t v p new plays = subst (λ (y : ℕ). IsOwnStep m y t v p Start) (sy
     by_phase Bumping new here = own_step m plays.sound t v Bumping Start here tt refl (λ key e. absurd (omega (arith, ap tag e)))
     by_phase p new here = absurd (let e : true ≡ false = new in cc)
 
-takes_nobody : (m : rules.Mutex) (x t v : ℕ) (at : QueuePosition) (p : MutexPhase) (left : Bool) → Plays m x t (role at v p) → act_of p ≡ act.Section section.TakeFirst → IsOwnStep m x t v p (Took None left)
+takes_nobody : (m : rules.Mutex) (x t v : ℕ) (at : QueuePosition) (p : MutexPhase) (left : Bool) → Plays m x t (role at v p) → act_of p ≡ Act.Section section.TakeFirst → IsOwnStep m x t v p (Took None left)
 takes_nobody m x t v at (Takes g) left plays e =
     subst (λ (y : ℕ). IsOwnStep m y t v (Takes g) (Took None left)) (sym plays.word)
-    (own_step m plays.sound t v (Takes g) (Took None left) plays.here tt refl (λ key e. absurd (let f : act.Section section.TakeFirst ≡ act.Enter key = e in cc)))
+    (own_step m plays.sound t v (Takes g) (Took None left) plays.here tt refl (λ key e. absurd (let f : Act.Section section.TakeFirst ≡ Act.Enter key = e in cc)))
 takes_nobody m x t v at (Finishes g) left plays e = absurd (finishing g.again 1 (omega arith) (omega arith) (ap tag e))
 takes_nobody m x t v at p left plays e = absurd (omega (arith, ap tag e))
 
@@ -193,14 +192,14 @@ takes_nobody m x t v at p left plays e = absurd (omega (arith, ap tag e))
 word_back : (m : rules.Mutex) → rules.IsSound m → m.word ≡ mutex_word_of (rules.number m.word)
 word_back m sound = sym (back m.word (sound_word m sound))
 
-joins : (m : rules.Mutex) (x t v : ℕ) (at : QueuePosition) (p : MutexPhase) (token : ParkToken) → Plays m x t (role at v p) → act_of p ≡ act.Section (section.Append token) → IsJoining m x t v p Made
+joins : (m : rules.Mutex) (x t v : ℕ) (at : QueuePosition) (p : MutexPhase) (token : ParkToken) → Plays m x t (role at v p) → act_of p ≡ Act.Section (section.Append token) → IsJoining m x t v p Made
 joins m x t v at Appends token plays e =
     subst (λ (y : ℕ). IsJoining m y t v Appends Made) (sym plays.word)
     (record { move = refl; leads = (plays.here, same_mutex _ _ (word_back m plays.sound) refl refl); same = refl })
 joins m x t v at (Finishes g) token plays e = absurd (finishing g.again 2 (omega arith) (omega arith) (ap tag e))
 joins m x t v at p token plays e = absurd (omega (arith, ap tag e))
 
-takes : (m : rules.Mutex) (x t v : ℕ) (at : QueuePosition) (p : MutexPhase) (token : ParkToken) (left : Bool) → Plays m x t (role at v p) → act_of p ≡ act.Section section.TakeFirst
+takes : (m : rules.Mutex) (x t v : ℕ) (at : QueuePosition) (p : MutexPhase) (token : ParkToken) (left : Bool) → Plays m x t (role at v p) → act_of p ≡ Act.Section section.TakeFirst
     → slice_get m.queue 0 ≡ Some v → slice_get m.roles v ≡ Some (role Listed 0 Sleeps) → IsTaking m x t v p (Took (Some token) left)
 takes m x t v at (Takes g) token left plays e first there =
     subst (λ (y : ℕ). IsTaking m y t v (Takes g) (Took (Some token) left)) (sym plays.word)
@@ -264,7 +263,7 @@ tells_at m t v g taken left is_fair waiters plays queue knows =
     one false = omega arith
 
 tells : (m : rules.Mutex) (x t v : ℕ) (at : QueuePosition) (p : MutexPhase) (plain fair : WordChange) (is_fair : Bool) (waiters : List Waiter) → Plays m x t (role at v p)
-    → act_of p ≡ act.Section (section.Store plain fair) → m.queue ≡ threads_of waiters → mutex_knows p waiters → IsTelling m x t v p (Stored is_fair)
+    → act_of p ≡ Act.Section (section.Store plain fair) → m.queue ≡ threads_of waiters → mutex_knows p waiters → IsTelling m x t v p (Stored is_fair)
 tells m x t v at (Stores g taken left) plain fair is_fair waiters plays e queue knows =
     subst (λ (y : ℕ). IsTelling m y t v (Stores g taken left) (Stored is_fair)) (sym plays.word)
     (tells_at m t v g taken left is_fair waiters (record { sound = plays.sound; word = refl; here = plays.here }) queue knows)
@@ -276,7 +275,7 @@ wake : (m : rules.Mutex) (t v : ℕ) (mark : Mark) (handed : Bool) → slice_get
 wake m t v mark true at there e = ((at, subst (λ (x : Mark). slice_get m.roles v ≡ Some (rules.doing (rules.Taken t x Asleep))) e there, refl), refl)
 wake m t v mark false at there e = ((at, subst (λ (x : Mark). slice_get m.roles v ≡ Some (rules.doing (rules.Taken t x Asleep))) e there, refl), refl)
 
-wakes : (m : rules.Mutex) (x t v : ℕ) (at : QueuePosition) (p : MutexPhase) (mark : Mark) (token : UnparkToken) → Plays m x t (role at v p) → act_of p ≡ act.Section section.Wake
+wakes : (m : rules.Mutex) (x t v : ℕ) (at : QueuePosition) (p : MutexPhase) (mark : Mark) (token : UnparkToken) → Plays m x t (role at v p) → act_of p ≡ Act.Section section.Wake
     → slice_get m.roles v ≡ Some (role (Off t mark) 0 Sleeps) → IsWaking m x t v p Made mark token
 wakes m x t v at (Wakes g) mark token plays e there =
     subst (λ (y : ℕ). IsWaking m y t v (Wakes g) Made mark token) (sym plays.word)
@@ -293,10 +292,10 @@ wakes m x t v at p mark token plays e there = absurd (omega (arith, ap tag e))
 -- THE END
 
 abbrev answer_of : Act → CoreAnswer
-answer_of (act.Done answer) = answer
+answer_of (Act.Done answer) = answer
 answer_of other = Refused
 
-last_is : (v : ℕ) (p : MutexPhase) (answer : CoreAnswer) (w : rules.Word) → mutex_begun p ≡ true → act_of p ≡ act.Done answer → IsMove (last_move p) v p (Ends answer) w (rules.number w)
+last_is : (v : ℕ) (p : MutexPhase) (answer : CoreAnswer) (w : rules.Word) → mutex_begun p ≡ true → act_of p ≡ Act.Done answer → IsMove (last_move p) v p (Ends answer) w (rules.number w)
 last_is v Locking answer w begun e = absurd (let f : false ≡ true = begun in cc)
 last_is v Trying answer w begun e = absurd (let f : false ≡ true = begun in cc)
 last_is v (Unlocking fair) answer w begun e = absurd (let f : false ≡ true = begun in cc)
@@ -306,7 +305,7 @@ last_is v Refuses answer w begun e =
     record { from = refl; to = ap (λ a. role Listed v (Ends a)) (sym same); may = tt; written = refl }
 last_is v (Finishes g) answer w begun e = by_bump g.again e
   where
-    by_bump : (again : Bool) → cond again act.Load (act.Done Released) ≡ act.Done answer → IsPlain (rules.Finish false) (role Listed v (Finishes g)) (role Listed v (Ends answer)) w (rules.number w)
+    by_bump : (again : Bool) → cond again Act.Load (Act.Done Released) ≡ Act.Done answer → IsPlain (rules.Finish false) (role Listed v (Finishes g)) (role Listed v (Ends answer)) w (rules.number w)
     by_bump true e = absurd (omega (arith, ap tag e))
     by_bump false e = let same : Released ≡ answer = ap answer_of e in record { from = refl; to = ap (λ a. role Listed v (Ends a)) (sym same); may = tt; written = refl }
 last_is v (Ends a) answer w begun e = let same : a ≡ answer = ap answer_of e in (λ at. ap (λ b. role at v (Ends b)) (sym same), refl)
@@ -318,10 +317,10 @@ last_alone Refuses = (refl, refl)
 last_alone (Finishes g) = (refl, refl)
 last_alone p = (refl, refl)
 
-done_awake : (a : Act) (answer : CoreAnswer) → a ≡ act.Done answer → a ≢ act.Sleep
+done_awake : (a : Act) (answer : CoreAnswer) → a ≡ Act.Done answer → a ≢ Act.Sleep
 done_awake a answer e f = omega (arith, ap tag (sym e ∙ f))
 
-ends : (m : rules.Mutex) (x t v : ℕ) (at : QueuePosition) (p : MutexPhase) (answer : CoreAnswer) → Plays m x t (role at v p) → mutex_begun p ≡ true → act_of p ≡ act.Done answer
+ends : (m : rules.Mutex) (x t v : ℕ) (at : QueuePosition) (p : MutexPhase) (answer : CoreAnswer) → Plays m x t (role at v p) → mutex_begun p ≡ true → act_of p ≡ Act.Done answer
     → LeadsBy (last_move p) v t m (mutex_of x (slice_set m.roles t (record { owns = owns_after answer; does = rules.Idle })) m.queue) × (move_crossing (last_move p) ≡ crossing.Stays)
 ends m x t v at p answer plays begun e =
     let still = last_alone p in

@@ -2,7 +2,6 @@
 use Rattle.std.proofs.Common.{◌≡◌, ◌≢◌, ℕ, zero, suc, ◌+◌, ◌-◌, ◌*◌, ◌/◌, ◌%◌, ◌<◌, ◌≤◌, ◌==◌, nat_lt, not, Bool, true, false, cond, Some, None, refl, sym, ap, subst, arith, eq-eqb, ne_eqb, le_refl, ltb-true}
 use Rattle.parking_lot_core_lot.specs.declared.parking.UnparkToken.{UnparkToken}
 use Rattle.parking_lot_protocol.specs.declared.act.Act.{Act}
-use Rattle.parking_lot_protocol.specs.declared.act.Act.TheVariants as act
 use Rattle.parking_lot_protocol.specs.declared.act.SectionAct.TheVariants as section
 use Rattle.parking_lot_protocol.specs.declared.act.CoreAnswer.{CoreAnswer}
 use Rattle.parking_lot_protocol.specs.declared.act.CoreAnswer.TheVariants.{Owned, Released}
@@ -150,16 +149,16 @@ falls p s word first after shut few g can = absurd g
 
 -- numbers for the acts of which only some phases ask
 abbrev tag : Act → ℕ
-tag (act.Section section.Wake) = 1
-tag (act.Done answer) = 2
+tag (Act.Section section.Wake) = 1
+tag (Act.Done answer) = 2
 tag other = 0
 
 -- one that has woken all doesn't wake
-finishing : (again : Bool) → tag (cond again act.Load (act.Done Released)) ≢ 1
+finishing : (again : Bool) → tag (cond again Act.Load (Act.Done Released)) ≢ 1
 finishing true e = omega (arith, e)
 finishing false e = omega (arith, e)
 
-wakes : (p : MutexPhase) (v : View) → act_of p ≡ act.Section section.Wake → mutex_steps v (next_phase p Made) + wake ≤ mutex_steps v p
+wakes : (p : MutexPhase) (v : View) → act_of p ≡ Act.Section section.Wake → mutex_steps v (next_phase p Made) + wake ≤ mutex_steps v p
 wakes (Wakes g) v e = omega arith
 wakes (Finishes g) v e = absurd (finishing g.again (ap tag e))
 wakes p v e = absurd (omega (arith, ap tag e))
@@ -218,7 +217,7 @@ module _ (word first : ℕ) where
   enters_shut true false e = absurd (let f : false ≡ true = e in cc)
   enters_shut false shut e = omega arith
 
-goes_on : (again shut : Bool) → StopsAt (cond again act.Load (act.Done Released)) shut → ⊥
+goes_on : (again shut : Bool) → StopsAt (cond again Act.Load (Act.Done Released)) shut → ⊥
 goes_on true shut e = e
 goes_on false shut e = e
 
@@ -231,7 +230,7 @@ stops p word first shut e = absurd e
 
 -- ENDS
 
-ends : (p : MutexPhase) (v : View) (answer : CoreAnswer) → act_of p ≡ act.Done answer → 1 ≤ mutex_steps v p
+ends : (p : MutexPhase) (v : View) (answer : CoreAnswer) → act_of p ≡ Act.Done answer → 1 ≤ mutex_steps v p
 ends Refuses v answer e = omega arith
 ends (Ends a) v answer e = omega arith
 ends Invalid v answer e = omega arith

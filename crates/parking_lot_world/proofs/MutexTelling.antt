@@ -6,7 +6,6 @@ use Rattle.parking_lot_core_lot.specs.Results.{is_left}
 use Rattle.parking_lot_rules.specs.Roles.{Open, Asleep}
 use Rattle.parking_lot_rules.specs.Mutex as rules
 use Rattle.parking_lot_protocol.specs.declared.act.Act.{Act}
-use Rattle.parking_lot_protocol.specs.declared.act.Act.TheVariants as act
 use Rattle.parking_lot_protocol.specs.declared.act.SectionAct.TheVariants as section
 use Rattle.parking_lot_protocol.specs.declared.act.CoreAnswer.{CoreAnswer}
 use Rattle.parking_lot_protocol.specs.declared.act.CoreAnswer.TheVariants.{Owned, Refused, Released}
@@ -21,11 +20,8 @@ use Rattle.parking_lot_protocol.specs.MutexRules.{role, owns_after}
 use Rattle.parking_lot_protocol.proofs.MutexFollowing.{either}
 use Rattle.parking_lot_world.specs.declared.seat.Hold.{Hold}
 use Rattle.parking_lot_world.specs.declared.seat.WakeResult.{WakeResult}
-use Rattle.parking_lot_world.specs.declared.seat.WakeResult.TheVariants as told
 use Rattle.parking_lot_world.specs.declared.seat.QueuePosition.{QueuePosition}
-use Rattle.parking_lot_world.specs.declared.seat.QueuePosition.TheVariants as spot
 use Rattle.parking_lot_world.specs.declared.seat.Core.{Core}
-use Rattle.parking_lot_world.specs.declared.seat.Core.TheVariants as core
 use Rattle.parking_lot_world.specs.declared.open_call.Call.{Call}
 use Rattle.parking_lot_world.specs.Rows.{mark_of, mutex_spot, mutex_core_role, owns_mutex, first_of_all}
 use Rattle.parking_lot_world.specs.RowActs.{settled_spot, mutex_hold_after}
@@ -37,30 +33,30 @@ use Rattle.parking_lot_world.proofs.MutexRoles.{settled as settled_role, opener}
 
 -- who was taken by nobody but t, where it knows nothing yet
 abbrev IsOf : ℕ → QueuePosition → Type 0
-IsOf t (spot.Off by told.Nothing) = by ≡ t
+IsOf t (QueuePosition.Off by WakeResult.Nothing) = by ≡ t
 IsOf t at = Unit {0}
 
 settles_spot : (t : ℕ) (said : WakeResult) (at : QueuePosition) → IsOf t at → mutex_spot (settled_spot t said at) ≡ settle_spot (mark_of said) (mutex_spot at)
-settles_spot t said spot.Listed e = refl
-settles_spot t said (spot.Off by told.Nothing) e = ap (λ b. of_mutex.Off by (mark_of (cond b said told.Nothing))) (eq-eqb by t e)
-settles_spot t said (spot.Off by told.TryAgain) e = refl
-settles_spot t said (spot.Off by told.HandedOver) e = refl
+settles_spot t said QueuePosition.Listed e = refl
+settles_spot t said (QueuePosition.Off by WakeResult.Nothing) e = ap (λ b. of_mutex.Off by (mark_of (cond b said WakeResult.Nothing))) (eq-eqb by t e)
+settles_spot t said (QueuePosition.Off by WakeResult.TryAgain) e = refl
+settles_spot t said (QueuePosition.Off by WakeResult.HandedOver) e = refl
 
 -- one that sleeps so was taken by the thread that is inside
 sleeper_of : (m : rules.Mutex) (t u : ℕ) (us : List ℕ) (v : ℕ) (at : QueuePosition) → rules.IsSound m → slice_get m.roles t ≡ Some (rules.doing (rules.Unlocks us)) → slice_get m.roles u ≡ Some (role (mutex_spot at) v Sleeps) → IsOf t at
-sleeper_of m t u us v spot.Listed sound here there = tt
-sleeper_of m t u us v (spot.Off by told.Nothing) sound here there = opener m t u by us (rules.doing (rules.Taken by Open Asleep)) sound here there refl
-sleeper_of m t u us v (spot.Off by told.TryAgain) sound here there = tt
-sleeper_of m t u us v (spot.Off by told.HandedOver) sound here there = tt
+sleeper_of m t u us v QueuePosition.Listed sound here there = tt
+sleeper_of m t u us v (QueuePosition.Off by WakeResult.Nothing) sound here there = opener m t u by us (rules.doing (rules.Taken by Open Asleep)) sound here there refl
+sleeper_of m t u us v (QueuePosition.Off by WakeResult.TryAgain) sound here there = tt
+sleeper_of m t u us v (QueuePosition.Off by WakeResult.HandedOver) sound here there = tt
 
 module _ (m : rules.Mutex) (t u : ℕ) (us vs : List ℕ) (said : WakeResult) (sound : rules.IsSound m) (here : slice_get m.roles t ≡ Some (rules.doing (rules.Unlocks us))) where
-  tells_phase : (v : ℕ) (at : QueuePosition) (p : MutexPhase) → slice_get m.roles u ≡ Some (role (mutex_spot at) v p) → role (mutex_spot (settled_spot t said at)) v p ≡ rules.settle (mark_of said) (role (mutex_spot at) v p)
+  pub tells_phase : (v : ℕ) (at : QueuePosition) (p : MutexPhase) → slice_get m.roles u ≡ Some (role (mutex_spot at) v p) → role (mutex_spot (settled_spot t said at)) v p ≡ rules.settle (mark_of said) (role (mutex_spot at) v p)
   tells_phase v at Sleeps there = ap (λ x. role x v Sleeps) (settles_spot t said at (sleeper_of m t u us v at sound here there)) ∙ sym (settled_role (mark_of said) (mutex_spot at) v Sleeps)
   tells_phase v at p there = refl
 
   tells_core : (at : QueuePosition) (k : Core) → slice_get m.roles u ≡ Some (mutex_core_role at vs k) → mutex_core_role (settled_spot t said at) vs k ≡ rules.settle (mark_of said) (mutex_core_role at vs k)
-  tells_core at (core.Mutex c) there = tells_phase (first_of_all vs) at c.phase there
-  tells_core at (core.Rw c) there = refl
+  tells_core at (Core.Mutex c) there = tells_phase (first_of_all vs) at c.phase there
+  tells_core at (Core.Rw c) there = refl
 
   tells_here : (i : ℕ) (h : Hold) (c : Call) (b : Bool) → slice_get m.roles u ≡ Some (cond b (mutex_core_role c.spot vs c.core) (record { owns = owns_mutex h; does = rules.Idle }))
       → cond b (mutex_core_role (settled_spot t said c.spot) vs c.core) (record { owns = owns_mutex h; does = rules.Idle }) ≡ rules.settle (mark_of said) (cond b (mutex_core_role c.spot vs c.core) (record { owns = owns_mutex h; does = rules.Idle }))
@@ -74,11 +70,11 @@ tells m t u i us vs said h (Some c) sound here there = tells_here m t u us vs sa
 -- ONE ENDS
 
 abbrev answer_of : Act → CoreAnswer
-answer_of (act.Done answer) = answer
+answer_of (Act.Done answer) = answer
 answer_of other = Refused
 
 abbrev is_done : Act → Bool
-is_done (act.Done answer) = true
+is_done (Act.Done answer) = true
 is_done other = false
 
 ends_so : (a : CoreAnswer) → owns_mutex (mutex_hold_after (Ends a)) ≡ owns_after a
@@ -92,7 +88,7 @@ ends Invalid answer begun e = let same : Refused ≡ answer = ap answer_of e in 
 ends (Ends a) answer begun e = let same : a ≡ answer = ap answer_of e in ends_so a ∙ ap owns_after same
 ends (Finishes g) answer begun e = by_bump g.again e
   where
-    by_bump : (again : Bool) → cond again act.Load (act.Done Released) ≡ act.Done answer → false ≡ owns_after answer
+    by_bump : (again : Bool) → cond again Act.Load (Act.Done Released) ≡ Act.Done answer → false ≡ owns_after answer
     by_bump true e = absurd (let f : false ≡ true = ap is_done e in cc)
     by_bump false e = let same : Released ≡ answer = ap answer_of e in ap owns_after same
 ends Locking answer begun e = absurd (let f : false ≡ true = begun in cc)
@@ -122,7 +118,7 @@ finishes_off : (fair again : Bool) (s : ActResult) → is_off (next_phase (Finis
 finishes_off fair true (Word n) = refl
 finishes_off fair again s = refl
 
-off : (p : MutexPhase) (s : ActResult) → act_of p ≢ act.Section section.TakeFirst → is_off (next_phase p s) ≡ true
+off : (p : MutexPhase) (s : ActResult) → act_of p ≢ Act.Section section.TakeFirst → is_off (next_phase p s) ≡ true
 off Locking Start ne = refl
 off Trying Start ne = refl
 off (Unlocking fair) Start ne = refl
@@ -154,10 +150,10 @@ off p s ne = refl
 
 -- no other phase asks for it
 abbrev takes_first : Act → Bool
-takes_first (act.Section section.TakeFirst) = true
+takes_first (Act.Section section.TakeFirst) = true
 takes_first other = false
 
-elsewhere : (p : MutexPhase) → takes_first (act_of p) ≡ false → act_of p ≢ act.Section section.TakeFirst
+elsewhere : (p : MutexPhase) → takes_first (act_of p) ≡ false → act_of p ≢ Act.Section section.TakeFirst
 elsewhere p other e = let f : false ≡ true = sym other ∙ ap takes_first e in cc
 
 pub takes : TakersKnow
@@ -167,12 +163,12 @@ takes = record {
   other = λ p s waiters ne. knows_nothing (next_phase p s) waiters (off p s ne);
 }
   where
-    one : (p : MutexPhase) (token : ParkToken) (waiters : List Waiter) → act_of p ≡ act.Section section.TakeFirst → mutex_knows (next_phase p (Took (Some token) (is_left waiters))) waiters
+    one : (p : MutexPhase) (token : ParkToken) (waiters : List Waiter) → act_of p ≡ Act.Section section.TakeFirst → mutex_knows (next_phase p (Took (Some token) (is_left waiters))) waiters
     one (Takes g) token waiters e = (refl, λ f. absurd (let h : true ≡ false = f in cc))
     one (Finishes g) token waiters e = absurd (elsewhere (Finishes g) (either takes_first g.again _ _ _ refl refl) e)
     one p token waiters e = absurd (elsewhere p refl e)
 
-    nobody : (p : MutexPhase) → act_of p ≡ act.Section section.TakeFirst → mutex_knows (next_phase p (Took None false)) []
+    nobody : (p : MutexPhase) → act_of p ≡ Act.Section section.TakeFirst → mutex_knows (next_phase p (Took None false)) []
     nobody (Takes g) e = (refl, λ f. refl)
     nobody (Finishes g) e = absurd (elsewhere (Finishes g) (either takes_first g.again _ _ _ refl refl) e)
     nobody p e = absurd (elsewhere p refl e)

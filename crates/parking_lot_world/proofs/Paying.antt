@@ -1,41 +1,79 @@
 -- Each act of the machine is paid for by the steps that are left.
-use Rattle.std.proofs.Common.{◌≡◌, ℕ, ◌+◌, ◌-◌, ◌/◌, ◌^◌, ◌<◌, ◌≤◌, Bool, length, Some, None, slice_get, slice_set, sum_by, refl, sym, ap, ◌∙◌, subst, arith}
+use Rattle.std.proofs.Common.{◌≡◌, ℕ, ◌+◌, ◌-◌, ◌/◌, ◌^◌, ◌<◌, ◌≤◌, Bool, length, Some, None, slice_get, slice_set, sum_by, refl, sym, ap, ◌∙◌, subst, arith, ◌≢◌, ◌%◌, ◌*◌, inl, inr, cond, true, false, List, map, remove, not, Option, option_map, eq-eqb, is_some}
+use Rattle.std.specs.Prelude.{get_or, bit_and}
+use Rattle.std.specs.Option.{option_and_then}
+use Rattle.std.proofs.lemmas.Bool.{cases_eq, ne_eqb, both_ways}
+use Rattle.std.proofs.lemmas.List.{length-set, length-map}
+use Rattle.std.proofs.lemmas.List.Edits.{length-remove}
+use Rattle.std.proofs.lemmas.Option.{slice_get_within, slice_get-get_or}
 use Rattle.parking_lot_protocol.specs.declared.act.Act.{Act}
 use Rattle.parking_lot_protocol.specs.declared.act.ActResult.{ActResult}
-use Rattle.parking_lot_protocol.specs.Acts.{Gives, word_after}
+use Rattle.parking_lot_protocol.specs.Acts.{Gives, word_after, change_of}
 use Rattle.parking_lot_protocol.specs.RwRules.{IsReady}
 use Rattle.parking_lot_world.specs.declared.seat.Core.{Core}
-use Rattle.parking_lot_world.specs.declared.seat.Core.TheVariants as core
 use Rattle.parking_lot_world.specs.declared.open_call.Call.{Call}
-use Rattle.parking_lot_world.specs.Rows.{State, word_at, call_at, first_key, inside, rw_lock_at, rw_spot, taken_by}
-use Rattle.parking_lot_world.specs.Stances.{core_act, core_next}
+use Rattle.parking_lot_world.specs.Rows.{State, word_at, call_at, first_key, inside, rw_lock_at, rw_spot, taken_by, rw_role_at}
+use Rattle.parking_lot_world.specs.Stances.{core_act, core_next, mutex_stance, rw_stance, Doing, Joins, In, Takes, sign, stance, core_tells, Out, taken_count}
 use Rattle.parking_lot_world.specs.RowFits.{FitsTogether, IsOfKind, IsPrepared}
-use Rattle.parking_lot_world.specs.RankLaws.{Can, Leaves}
-use Rattle.parking_lot_world.specs.Ranks.{Sees, core_steps, far_steps, is_shut_to, own_steps, view_of, Pays}
-use Rattle.parking_lot_world.proofs.Meeting.{meets}
+use Rattle.parking_lot_world.specs.RankLaws.{Can, Leaves, StopsAt}
+use Rattle.parking_lot_world.specs.Ranks.{Sees, core_steps, far_steps, is_shut_to, own_steps, view_of, Pays, View, Unseen, wake, cost, Costs, AnyMayBeStepped}
+use Rattle.parking_lot_world.proofs.Meeting.{meets, in_range, rw_sound}
 use Rattle.parking_lot_world.proofs.RwMoving.{few_readers}
+use Rattle.parking_lot_core_lot.specs.declared.parking.ParkToken.{ParkToken}
+use Rattle.parking_lot_core_lot.specs.declared.place.Section.{Section}
+use Rattle.parking_lot_core_lot.specs.declared.place.Waiter.{Waiter}
+use Rattle.parking_lot_core_lot.specs.Results.{is_left}
+use Rattle.parking_lot_core_lot.proofs.Kept.{updated_at}
+use Rattle.parking_lot_protocol.specs.declared.act.WordChange.{WordChange}
+use Rattle.parking_lot_protocol.specs.declared.mutex_phase.MutexPhase.{MutexPhase}
+use Rattle.parking_lot_protocol.specs.declared.rw_phase.RwPhase.{RwPhase}
+use Rattle.parking_lot_core_lot.specs.Lists.{updated}
+use Rattle.parking_lot_world.specs.declared.seat.WakeResult.{WakeResult}
+use Rattle.parking_lot_world.specs.StanceLaws.{LeavesFor}
+use Rattle.parking_lot_world.specs.RowActs.{key_of, with_word, with_call, hears, settled, off_list, told_of, loaded, exchanged, added, masked, spun, entered, checked, appended, took, took_nobody, told_all, left, answered, begun, woke}
+use Rattle.parking_lot_world.proofs.Acting.{has_word, word-here, still_inside}
+use Rattle.parking_lot_world.proofs.Calling.{call_of, call-here}
+use Rattle.parking_lot_world.proofs.LotActs.{seat_of}
+use Rattle.parking_lot_world.proofs.LotLists.{call_at-map}
+use Rattle.parking_lot_world.proofs.Stancing.{leads_by}
+use Rattle.parking_lot_world.proofs.Summing.{others_change, others_same, others_told, others_and_one}
+use Rattle.parking_lot_core_lot.specs.declared.parking.UnparkToken.{UnparkToken}
+use Rattle.parking_lot_protocol.specs.declared.act.CoreAnswer.{CoreAnswer}
+use Rattle.parking_lot_rules.proofs.Ranking.{few1}
+use Rattle.parking_lot_world.specs.declared.calls.LockCall.{LockCall}
+use Rattle.parking_lot_world.specs.Beginnings.{core_of}
+use Rattle.parking_lot_world.specs.ActLaws.{MayBegin}
+use Rattle.parking_lot_world.specs.Machines.{can_move, can_move_in, is_possible, is_taken}
+use Rattle.parking_lot_world.proofs.Everybody.{length-all}
 use Rattle.parking_lot_world.proofs.MutexPaying as of_mutex
 use Rattle.parking_lot_world.proofs.RwPaying as of_rw
+use Rattle.parking_lot_core_lot.specs.declared.place.Phase.TheVariants as phase
+use Rattle.parking_lot_protocol.specs.declared.act.SectionAct.TheVariants as section
+use Rattle.parking_lot_protocol.specs.MutexTable as mutex_table
+use Rattle.parking_lot_protocol.specs.RwTable as rw_table
+use Rattle.parking_lot_world.specs.declared.seat.QueuePosition.TheVariants as spot
+use Rattle.parking_lot_protocol.specs.declared.act.ActResult.TheVariants as seen
+use Rattle.parking_lot_world.specs.declared.calls.LockKind.TheVariants as kind
 
 -- ONE CALL
 
 -- what the word and the phase are in time
 abbrev pub IsGood : Core → ℕ → Type 0
-IsGood (core.Mutex k) x = x < 4
-IsGood (core.Rw k) x = (x / 16 < 2 ^ 60 - 1) × IsReady k.phase
+IsGood (Core.Mutex k) x = x < 4
+IsGood (Core.Rw k) x = (x / 16 < 2 ^ 60 - 1) × IsReady k.phase
 
 pub is_good : (s : State) → FitsTogether s → (t : ℕ) (c : Call) → call_at s t ≡ Some c → IsGood c.core (word_at s c.lock)
 is_good s h t c here = by_core c.core refl
   where
     by_core : (x : Core) → c.core ≡ x → IsGood x (word_at s c.lock)
-    by_core (core.Mutex k) e = h.rules.bits c.lock (subst (IsOfKind (slice_get s.kinds c.lock)) e (h.rules.kinds t c here))
-    by_core (core.Rw k) e =
+    by_core (Core.Mutex k) e = h.rules.bits c.lock (subst (IsOfKind (slice_get s.kinds c.lock)) e (h.rules.kinds t c here))
+    by_core (Core.Rw k) e =
         (few_readers (rw_lock_at s c.lock) t c.others (rw_spot c.spot) (taken_by s.wakes t) k.phase (word_at s c.lock) (meets s h t c k e here), (subst (IsPrepared c.others) e (h.rules.prepared t c here)).0)
 
 pub core_falls : (n : ℕ) (c : Core) (x : ℕ) (told : ActResult) (first after : ℕ) (shut : Bool) → IsGood c x → Gives (core_act c) x told → Can (core_act c) shut told → Leaves (core_act c) told first after
     → core_steps n (Sees (word_after (core_act c) told x) after shut) (core_next c told) + 1 ≤ core_steps n (Sees x first shut) c
-core_falls n (core.Mutex k) x told first after shut good gives can leaves = of_mutex.steps_fall.falls k.phase told x first after shut good gives can
-core_falls n (core.Rw k) x told first after shut good gives can leaves = of_rw.steps_fall.falls n k.phase told x first after shut good.0 good.1 gives can leaves
+core_falls n (Core.Mutex k) x told first after shut good gives can leaves = of_mutex.steps_fall.falls k.phase told x first after shut good gives can
+core_falls n (Core.Rw k) x told first after shut good gives can leaves = of_rw.steps_fall.falls n k.phase told x first after shut good.0 good.1 gives can leaves
 
 -- ALL THREADS
 
@@ -75,3 +113,321 @@ module _ (s u : State) (t : ℕ) (c d : Call) (told : ActResult) (h : FitsTogeth
       ap (core_steps n (view_of u t d)) next ∙ ap (λ v. core_steps n v (core_next c.core told))
       (ap (λ j. Sees (word_at u j) (length (u.lot.queues (first_key j))) (is_shut_to t (inside u))) lock ∙ sees _ _ _ _ _ _ (word ∙ ap (λ y. word_after y told (word_at s c.lock)) (sym asked)) refl is) in
       omega (arith, fall, before, same))
+
+-- Each act, once it is made, is paid for.
+
+-- who is inside after a section's act, and after its store
+still_told : (o : Option Section) (x : Section → Section) → ((y : Section) → (x y).thread ≡ y.thread) → option_and_then (λ y. y.thread) (option_map {T = Section} x o) ≡ option_and_then (λ y. y.thread) o
+still_told None x same = refl
+still_told (Some y) x same = same y
+
+-- a thread isn't shut out by itself
+own_open : (t : ℕ) (o : Option ℕ) → o ≡ Some t → is_shut_to t o ≡ false
+own_open t o e = ap (is_shut_to t) e ∙ ap not (eq-eqb t t refl)
+
+pub call-within : (calls : List (Option Call)) (t : ℕ) (o : Option Call) → t < length calls → call_of (slice_set calls t o) t ≡ o
+call-within calls t o b = call-here calls t (get_or calls t None) o (slice_get-get_or calls t None b)
+
+-- TAKING
+
+abbrev pub IsTaking : Act → Type 0
+IsTaking (Act.Section section.TakeFirst) = Unit {0}
+IsTaking (Act.Section (section.TakeNext sum)) = Unit {0}
+IsTaking a = ⊥
+
+-- what a taking gives, and leaves
+gives_took : (a : Act) (word : ℕ) (token : Option ParkToken) (left : Bool) → IsTaking a → Gives a word (ActResult.Took token left) × Can a false (ActResult.Took token left) × (word_after a (ActResult.Took token left) word ≡ word)
+gives_took (Act.Section section.TakeFirst) word token left x = (tt, refl, refl)
+gives_took (Act.Section (section.TakeNext sum)) word token left x = (tt, refl, refl)
+gives_took a word token left x = absurd x
+
+leaves_none : (a : Act) (left : Bool) (first : ℕ) → IsTaking a → Leaves a (ActResult.Took None left) first first
+leaves_none (Act.Section section.TakeFirst) left first x = tt
+leaves_none (Act.Section (section.TakeNext sum)) left first x = tt
+leaves_none a left first x = absurd x
+
+-- a scan that goes on goes through the first list
+rw_first : (p : RwPhase) (sum k : ℕ) → rw_table.act_of p ≡ Act.Section (section.TakeNext sum) → rw_stance p ≡ In k Takes → k ≡ 0
+rw_first (RwPhase.Scans a) sum k e f = cc
+rw_first p sum k e f = absurd cc
+
+mutex_first : (p : MutexPhase) (sum k : ℕ) → mutex_table.act_of p ≡ Act.Section (section.TakeNext sum) → mutex_stance p ≡ In k Takes → k ≡ 0
+mutex_first (MutexPhase.Takes g) sum k e f = absurd cc
+mutex_first p sum k e f = absurd cc
+
+first_list : (c : Core) (sum k : ℕ) → core_act c ≡ Act.Section (section.TakeNext sum) → stance c ≡ In k Takes → k ≡ 0
+first_list (Core.Mutex c) sum k e f = mutex_first c.phase sum k e f
+first_list (Core.Rw c) sum k e f = rw_first c.phase sum k e f
+
+-- one of it is gone
+one_less : (queues : ℕ → List Waiter) (key i : ℕ) (w : Waiter) → key ≡ i → slice_get (queues key) 0 ≡ Some w → length (queues i) ≡ length (updated queues key (remove (queues key) 0) i) + 1
+one_less queues key i w e at =
+    omega (
+      arith,
+      ap (λ j. length (queues j)) (sym e),
+      ap (λ j. length (updated queues key (remove (queues key) 0) j)) (sym e),
+      ap length (updated_at queues key (remove (queues key) 0)),
+      length-remove (queues key) 0 (slice_get_within (queues key) 0 w at),
+    )
+
+leaves_some : (a : Act) (c : Core) (queues : ℕ → List Waiter) (token : ParkToken) (left : Bool) (j k : ℕ) (w : Waiter) → core_act c ≡ a → IsTaking a → stance c ≡ In k Takes → slice_get (queues (2 * j + k)) 0 ≡ Some w
+    → Leaves a (ActResult.Took (Some token) left) (length (queues (2 * j))) (length (updated queues (2 * j + k) (remove (queues (2 * j + k)) 0) (2 * j)))
+leaves_some (Act.Section section.TakeFirst) c queues token left j k w asked x is at = tt
+leaves_some (Act.Section (section.TakeNext sum)) c queues token left j k w asked x is at =
+    one_less queues (2 * j + k) (2 * j) w (omega (arith, first_list c sum k asked is)) at
+leaves_some a c queues token left j k w asked x is at = absurd x
+
+-- whoever is off its list has as many steps as before
+off_far : (n t : ℕ) (o : Option Call) → far_steps n (option_map (off_list t) o) ≡ far_steps n o
+off_far n t None = refl
+off_far n t (Some c) = refl
+
+module _ (s : State) (t : ℕ) (c : Call) (h : FitsTogether s) (here : call_at s t ≡ Some c) where
+  module _ (u : State) (d : Call) (heard : ActResult) (calls : u.calls ≡ slice_set s.calls t (Some d)) (next : d.core ≡ core_next c.core heard) (lock : d.lock ≡ c.lock) where
+    -- its call alone has changed
+    one : (a : Act) → core_act c.core ≡ a → word_at u c.lock ≡ word_after a heard (word_at s c.lock) → (shut : Bool) → is_shut_to t (inside s) ≡ shut → is_shut_to t (inside u) ≡ shut
+        → Gives a (word_at s c.lock) heard → Can a shut heard → Leaves a heard (length (s.lot.queues (first_key c.lock))) (length (u.lot.queues (first_key c.lock))) → Pays t s u
+    one =
+        let n = length s.calls in
+        falls s u t c d heard h here (ap (λ cs. call_of cs t) calls ∙ call-within s.calls t (Some d) (in_range s t c here)) next lock (ap length calls ∙ length-set s.calls t (Some d))
+        (omega (arith, ap (λ cs. sum_by (far_steps n) (slice_set cs t None)) calls, others_same n s.calls t (Some d)))
+
+  -- who is in a section isn't shut out
+  inside_open : (k : ℕ) (how : Doing) → stance c.core ≡ In k how → is_shut_to t (inside s) ≡ false
+  inside_open k how is =
+      let seat = seat_of s h.lots t c (In k how) here is in
+      own_open t (inside s) (ap (option_and_then (λ x. x.thread)) seat.1 ∙ seat.2)
+
+  pub load : core_act c.core ≡ Act.Load → Pays t s (loaded s t c)
+  load asked = one (loaded s t c) (hears c (ActResult.Word (word_at s c.lock))) (ActResult.Word (word_at s c.lock)) refl refl refl Act.Load asked refl (is_shut_to t (inside s)) refl refl refl tt refl
+
+  pub spin : core_act c.core ≡ Act.Spin → Pays t s (spun s t c)
+  spin asked = one (spun s t c) (hears c (ActResult.Spun true)) (ActResult.Spun true) refl refl refl Act.Spin asked refl (is_shut_to t (inside s)) refl refl tt refl refl
+
+  pub add : (by : ℕ) → core_act c.core ≡ Act.Add by → Pays t s (added s t c by)
+  add by asked =
+      one (added s t c by) (hears c (ActResult.Before (word_at s c.lock))) (ActResult.Before (word_at s c.lock)) refl refl refl (Act.Add by) asked
+      (word-here s.words c.lock ((word_at s c.lock + by) % 2 ^ 64) (has_word s h t c here)) (is_shut_to t (inside s)) refl refl refl tt refl
+
+  pub enter : (key : ℕ) → core_act c.core ≡ Act.Enter key → s.lot.section ≡ None → Pays t s (entered s t c key)
+  enter key asked free =
+      one (entered s t c key) (hears c ActResult.Entered) ActResult.Entered refl refl refl (Act.Enter key) asked refl false (ap (is_shut_to t) (ap (option_and_then (λ x. x.thread)) free)) (own_open t (Some t) refl) tt refl refl
+
+  won : (from to : ℕ) → core_act c.core ≡ Act.Exchange from to → word_at s c.lock ≡ from → Pays t s (with_word (with_call s t (hears c ActResult.Exchanged)) c.lock to)
+  won from to asked e =
+      one (with_word (with_call s t (hears c ActResult.Exchanged)) c.lock to) (hears c ActResult.Exchanged) ActResult.Exchanged refl refl refl (Act.Exchange from to) asked
+      (word-here s.words c.lock to (has_word s h t c here)) (is_shut_to t (inside s)) refl refl e tt refl
+
+  lost : (from to : ℕ) → core_act c.core ≡ Act.Exchange from to → word_at s c.lock ≢ from → Pays t s (loaded s t c)
+  lost from to asked ne =
+      one (loaded s t c) (hears c (ActResult.Word (word_at s c.lock))) (ActResult.Word (word_at s c.lock)) refl refl refl (Act.Exchange from to) asked refl (is_shut_to t (inside s)) refl refl (refl, ne) tt refl
+
+  pub exchange : (from to : ℕ) → core_act c.core ≡ Act.Exchange from to → Pays t s (exchanged s t c from to)
+  exchange from to asked = elim (cases_eq (word_at s c.lock) from) [
+    | inl e ↦ subst (λ (b : Bool). Pays t s (cond b (with_word (with_call s t (hears c ActResult.Exchanged)) c.lock to) (loaded s t c))) (sym (eq-eqb (word_at s c.lock) from e)) (won from to asked e)
+    | inr ne ↦ subst (λ (b : Bool). Pays t s (cond b (with_word (with_call s t (hears c ActResult.Exchanged)) c.lock to) (loaded s t c))) (sym (ne_eqb (word_at s c.lock) from ne)) (lost from to asked ne)
+  ]
+
+  pub check : core_act c.core ≡ Act.Section section.Check → Pays t s (checked s t c)
+  check asked =
+      let heard = ActResult.Word (word_at s c.lock) in
+      let leads = leads_by c.core (Act.Section section.Check) (word_at s c.lock) heard asked refl in
+      let free_now = inside_open leads.0 _ leads.1 in
+      one (checked s t c) (hears c heard) heard refl refl refl (Act.Section section.Check) asked refl false free_now (ap (is_shut_to t) (still_inside s.lot.section _) ∙ free_now) refl refl tt
+
+  pub append : (token : ParkToken) (k : ℕ) → core_act c.core ≡ Act.Section (section.Append token) → stance c.core ≡ In k (Joins token) → Pays t s (appended s t c (key_of c k) token)
+  append token k asked is =
+      let free_now = inside_open k _ is in
+      one (appended s t c (key_of c k) token) (record (hears c ActResult.Made) { spot = spot.Listed }) ActResult.Made refl refl refl (Act.Section (section.Append token)) asked refl false free_now
+      (ap (is_shut_to t) (still_inside s.lot.section _) ∙ free_now) tt refl tt
+
+  leaves_open : {n m : ℕ} → LeavesFor (stance c.core) (stance (core_next c.core ActResult.Made)) n m → is_shut_to t (inside s) ≡ false
+  leaves_open (inl x) = inside_open x.0 _ x.1
+  leaves_open (inr (inl x)) = inside_open x.0 _ x.2
+  leaves_open (inr (inr x)) = inside_open x.0 _ x.2
+
+  pub leave : core_act c.core ≡ Act.Section section.Leave → Pays t s (left s t c)
+  leave asked =
+      let leads = leads_by c.core (Act.Section section.Leave) (word_at s c.lock) ActResult.Made asked tt in
+      one (left s t c) (hears c ActResult.Made) ActResult.Made refl refl refl (Act.Section section.Leave) asked refl false (leaves_open leads) refl tt refl tt
+
+  pub take_nobody : (k : ℕ) (a : Act) → core_act c.core ≡ a → IsTaking a → stance c.core ≡ In k Takes → Pays t s (took_nobody s t c (key_of c k))
+  take_nobody k a asked taking is =
+      let heard = ActResult.Took None (is_left (s.lot.queues (key_of c k))) in
+      let free_now = inside_open k _ is in
+      let gives = gives_took a (word_at s c.lock) None (is_left (s.lot.queues (key_of c k))) taking in
+      one (took_nobody s t c (key_of c k)) (hears c heard) heard refl refl refl a asked (sym gives.2) false free_now (ap (is_shut_to t) (still_inside s.lot.section _) ∙ free_now) gives.0 gives.1 (leaves_none a _ _ taking)
+
+  pub take : (k : ℕ) (w : Waiter) (a : Act) → core_act c.core ≡ a → IsTaking a → stance c.core ≡ In k Takes → slice_get (s.lot.queues (key_of c k)) 0 ≡ Some w → Pays t s (took s t c (key_of c k) 0 w)
+  take k w a asked taking is at =
+      let n = length s.calls in
+      let u = took s t c (key_of c k) 0 w in
+      let heard = ActResult.Took (Some w.token) (is_left (remove (s.lot.queues (key_of c k)) 0)) in
+      let away = slice_set s.calls w.thread (option_map (off_list t) (call_at s w.thread)) in
+      let free_now = inside_open k _ is in
+      let gives = gives_took a (word_at s c.lock) (Some w.token) (is_left (remove (s.lot.queues (key_of c k)) 0)) taking in
+      falls s u t c (hears c heard) heard h here (call-within away t (Some (hears c heard)) (subst (λ m. t < m) (sym (length-set s.calls w.thread _)) (in_range s t c here))) refl refl
+      (length-set away t (Some (hears c heard)) ∙ length-set s.calls w.thread _)
+      (omega (arith, others_same n away t (Some (hears c heard)), others_change n s.calls t w.thread 0 (option_map (off_list t) (call_at s w.thread)) (omega (arith, off_far n t (call_at s w.thread)))))
+      a asked (sym gives.2) false free_now (ap (is_shut_to t) (still_inside s.lot.section _) ∙ free_now) gives.0 gives.1 (leaves_some a c.core s.lot.queues w.token _ c.lock k w asked taking is at)
+
+  -- it tells whom it has taken
+  module _ (u : State) (heard : ActResult) (said : WakeResult) (calls : u.calls ≡ map (option_map (settled t said)) (slice_set s.calls t (Some (hears c heard)))) where
+    tells : (a : Act) → core_act c.core ≡ a → word_at u c.lock ≡ word_after a heard (word_at s c.lock) → (shut : Bool) → is_shut_to t (inside s) ≡ shut → is_shut_to t (inside u) ≡ shut
+        → Gives a (word_at s c.lock) heard → Can a shut heard → Leaves a heard (length (s.lot.queues (first_key c.lock))) (length (u.lot.queues (first_key c.lock))) → Pays t s u
+    tells =
+        let n = length s.calls in
+        let news = slice_set s.calls t (Some (hears c heard)) in
+        falls s u t c (settled t said (hears c heard)) heard h here
+        (ap (λ cs. call_of cs t) calls ∙ call_at-map (settled t said) news t ∙ ap (option_map (settled t said)) (call-within s.calls t (Some (hears c heard)) (in_range s t c here))) refl refl
+        (ap length calls ∙ length-map news (option_map (settled t said)) ∙ length-set s.calls t (Some (hears c heard)))
+        (omega (arith, ap (λ cs. sum_by (far_steps n) (slice_set cs t None)) calls, others_told n t said news t, others_same n s.calls t (Some (hears c heard))))
+
+  pub store : (plain handing : WordChange) (fair : Bool) → core_act c.core ≡ Act.Section (section.Store plain handing) → Pays t s (told_all s t c (cond fair handing plain) fair)
+  store plain handing fair asked =
+      let heard = ActResult.Stored fair in
+      let token = core_tells (core_next c.core heard) in
+      let leads = leads_by c.core (Act.Section (section.Store plain handing)) (word_at s c.lock) heard asked tt in
+      let free_now = inside_open leads.0 _ leads.1 in
+      tells (told_all s t c (cond fair handing plain) fair) heard (told_of token) refl (Act.Section (section.Store plain handing)) asked
+      (word-here s.words c.lock (change_of (cond fair handing plain) (word_at s c.lock)) (has_word s h t c here)) false free_now
+      (ap (is_shut_to t) (still_told s.lot.section (λ x. record x { phase = phase.Stored; token = token }) (λ x. refl)) ∙ free_now) tt refl tt
+
+  pub mask : (keep : ℕ) → core_act c.core ≡ Act.FetchAnd keep → Pays t s (masked s t c keep)
+  mask keep asked =
+      let heard = ActResult.Before (word_at s c.lock) in
+      tells (masked s t c keep) heard WakeResult.TryAgain refl (Act.FetchAnd keep) asked (word-here s.words c.lock (bit_and (word_at s c.lock) keep) (has_word s h t c here)) (is_shut_to t (inside s)) refl
+      (ap (is_shut_to t) (still_told s.lot.section (λ x. record x { phase = phase.Stored; token = sign false }) (λ x. refl))) refl tt refl
+
+-- Wakes, answers and beginnings are paid for; and where a thread can't move, another may be stepped.
+
+-- ONE CALL, AT EITHER KIND OF LOCK
+
+core_wakes : (n : ℕ) (c : Core) (v : View) → core_act c ≡ Act.Section section.Wake → 1 ≤ taken_count c → core_steps n v (core_next c seen.Made) + wake ≤ core_steps n v c
+core_wakes n (Core.Mutex c) v asked some = of_mutex.steps_fall.wakes c.phase v asked
+core_wakes n (Core.Rw c) v asked some = of_rw.steps_fall.wakes n c.phase v asked some
+
+core_woken : (n : ℕ) (c : Core) (token : UnparkToken) → core_steps n Unseen (core_next c (seen.Woken token)) + 1 ≤ core_steps n Unseen c + wake
+core_woken n (Core.Mutex c) token = of_mutex.steps_fall.woken c.phase token
+core_woken n (Core.Rw c) token = of_rw.steps_fall.woken n c.phase token
+
+core_ends : (n : ℕ) (c : Core) (v : View) (answer : CoreAnswer) → core_act c ≡ Act.Done answer → 1 ≤ core_steps n v c
+core_ends n (Core.Mutex c) v answer asked = of_mutex.steps_fall.ends c.phase v answer asked
+core_ends n (Core.Rw c) v answer asked = of_rw.steps_fall.ends n c.phase v answer asked
+
+core_stops : (n : ℕ) (c : Core) (word first : ℕ) (shut : Bool) → StopsAt (core_act c) shut → core_steps n Unseen c ≤ core_steps n (Sees word first shut) c
+core_stops n (Core.Mutex c) word first shut stops = of_mutex.steps_fall.stops c.phase word first shut stops
+core_stops n (Core.Rw c) word first shut stops = of_rw.steps_fall.stops n c.phase word first shut stops
+
+-- WAKES AND ANSWERS
+
+pub wakes_pay : (s : State) (t : ℕ) (c : Call) (v : ℕ) (d : Call) (token : UnparkToken) → FitsTogether s → call_at s t ≡ Some c → call_at s v ≡ Some d → core_act c.core ≡ Act.Section section.Wake → Pays t s (woke s t c v d token)
+wakes_pay s t c v d token h here there asked =
+    let n = length s.calls in
+    let u = woke s t c v d token in
+    let e : Call = record (hears d (seen.Woken token)) { spot = spot.Listed } in
+    let news = slice_set s.calls v (Some e) in
+    pays s u t 108 c (hears c seen.Made) here (call-within news t (Some (hears c seen.Made)) (subst (λ m. t < m) (sym (length-set s.calls v (Some e))) (in_range s t c here)))
+    (length-set news t (Some (hears c seen.Made)) ∙ length-set s.calls v (Some e))
+    (omega (arith, others_same n news t (Some (hears c seen.Made)), others_change n s.calls t v 108 (Some e) (omega (arith, core_woken n d.core token, ap (far_steps n) there))))
+    (omega (arith, core_wakes n c.core (view_of s t c) asked (h.lots.wakeful t c here asked)))
+
+pub ends_pay : (s : State) (t : ℕ) (c : Call) (answer : CoreAnswer) → call_at s t ≡ Some c → core_act c.core ≡ Act.Done answer → Pays t s (answered s t c)
+ends_pay s t c answer here asked =
+    let n = length s.calls in
+    let u = answered s t c in
+    omega (
+      arith,
+      ap (own_steps u t) (call-within s.calls t None (in_range s t c here)),
+      ap (own_steps s t) here,
+      ap (λ m. sum_by (far_steps m) (slice_set u.calls t None)) (length-set s.calls t None),
+      others_same n s.calls t None,
+      core_ends n c.core (view_of s t c) answer asked,
+    )
+
+-- NO MORE THAN WHERE ANOTHER IS STEPPED
+
+few_in_list : (s : State) → FitsTogether s → (j : ℕ) → slice_get s.kinds j ≡ Some kind.Rw → length (s.lot.queues (first_key j)) ≤ length s.calls
+few_in_list s h j is =
+    omega (arith, few1 false 0 (rw_lock_at s j) (rw_sound s h j is), length-map (s.lot.queues (first_key j)) (λ w. w.thread), length-all (rw_role_at s j) 0 (length s.calls))
+
+own_few : (s : State) → FitsTogether s → (word j : ℕ) (shut : Bool) (c : Core) → IsOfKind (slice_get s.kinds j) c → core_steps (length s.calls) (Sees word (length (s.lot.queues (first_key j))) shut) c ≤ core_steps (length s.calls) Unseen c
+own_few s h word j shut (Core.Mutex c) is = of_mutex.steps_fall.few c.phase (Sees word (length (s.lot.queues (first_key j))) shut)
+own_few s h word j shut (Core.Rw c) is = of_rw.steps_fall.few (length s.calls) word (length (s.lot.queues (first_key j))) shut c.phase (few_in_list s h j is)
+
+-- BEGINNINGS
+
+costs_most : (n : ℕ) (c : LockCall) → core_steps n Unseen (core_next (core_of c) seen.Start) ≤ cost n c
+costs_most n LockCall.Lock = omega arith
+costs_most n LockCall.TryLock = omega arith
+costs_most n LockCall.Unlock = omega arith
+costs_most n LockCall.Read = omega arith
+costs_most n LockCall.TryRead = omega arith
+costs_most n LockCall.UnlockRead = omega arith
+costs_most n LockCall.Write = omega arith
+costs_most n LockCall.TryWrite = omega arith
+costs_most n LockCall.UnlockWrite = omega arith
+costs_most n LockCall.Downgrade = omega arith
+
+begun_kind : (k : _) (c : LockCall) → IsOfKind k (core_of c) → IsOfKind k (core_next (core_of c) seen.Start)
+begun_kind k LockCall.Lock is = is
+begun_kind k LockCall.TryLock is = is
+begun_kind k LockCall.Unlock is = is
+begun_kind k LockCall.Read is = is
+begun_kind k LockCall.TryRead is = is
+begun_kind k LockCall.UnlockRead is = is
+begun_kind k LockCall.Write is = is
+begun_kind k LockCall.TryWrite is = is
+begun_kind k LockCall.UnlockWrite is = is
+begun_kind k LockCall.Downgrade is = is
+
+pub begins_cost : (s : State) (t : ℕ) (c : Call) (what : LockCall) → FitsTogether s → MayBegin s t c → c.core ≡ core_of what → Costs t what s (begun s t c)
+begins_cost s t c what h may is =
+    let n = length s.calls in
+    let u = begun s t c in
+    let d = hears c seen.Start in
+    let sees = view_of u t d in
+    omega (
+      arith,
+      ap (own_steps u t) (call-within s.calls t (Some d) may.low),
+      ap (own_steps s t) may.free,
+      ap (λ m. core_steps m sees d.core) (length-set s.calls t (Some d)),
+      ap (λ m. sum_by (far_steps m) (slice_set u.calls t None)) (length-set s.calls t (Some d)),
+      others_same n s.calls t (Some d),
+      ap (λ x. core_steps n sees (core_next x seen.Start)) is,
+      own_few s h (word_at u c.lock) c.lock (is_shut_to t (inside u)) (core_next (core_of what) seen.Start) (begun_kind (slice_get s.kinds c.lock) what (subst (IsOfKind (slice_get s.kinds c.lock)) is may.kind)),
+      costs_most n what,
+    )
+
+-- ANOTHER IS STEPPED
+
+module _ (s : State) (h : FitsTogether s) where
+  pub none_more : (u : ℕ) (o : Option Call) → call_at s u ≡ o → own_steps s u o ≤ far_steps (length s.calls) o
+  none_more u None at = omega arith
+  none_more u (Some c) at = own_few s h (word_at s c.lock) c.lock (is_shut_to u (inside s)) c.core (h.rules.kinds u c at)
+
+  is_shut : (t : ℕ) (c : Call) (key : ℕ) → call_at s t ≡ Some c → core_act c.core ≡ Act.Enter key → (o : Option Section) → s.lot.section ≡ o → is_some o ≡ true → is_shut_to t (option_and_then (λ x. x.thread) o) ≡ true
+  is_shut t c key here asked None e some = absurd (both_ways false refl some)
+  is_shut t c key here asked (Some x) e some =
+      let by = h.lots.opened x e in
+      let leads = leads_by c.core (Act.Enter key) (word_at s c.lock) seen.Entered asked tt in
+      let seat = seat_of s h.lots t c Out here leads.0 in
+      ap (is_shut_to t) by.1 ∙ ap not (ne_eqb by.0 t (λ q. seat.1 x e (by.1 ∙ ap Some q)))
+
+  stops_at : (t : ℕ) (c : Call) → call_at s t ≡ Some c → (a : Act) → core_act c.core ≡ a → is_possible (is_taken s c) a ≡ false → StopsAt a (is_shut_to t (inside s))
+  stops_at t c here Act.Sleep asked cannot = tt
+  stops_at t c here (Act.Enter key) asked cannot = is_shut t c key here asked s.lot.section refl (some_is (is_some s.lot.section) cannot)
+    where
+      some_is : (b : Bool) → not b ≡ false → b ≡ true
+      some_is true e = refl
+      some_is false e = absurd (both_ways true e refl)
+  stops_at t c here a asked cannot = absurd cc
+
+  none_less : (t : ℕ) (o : Option Call) → call_at s t ≡ o → can_move_in s o ≡ false → far_steps (length s.calls) o ≤ own_steps s t o
+  none_less t None at cannot = omega arith
+  none_less t (Some c) at cannot = core_stops (length s.calls) c.core (word_at s c.lock) (length (s.lot.queues (first_key c.lock))) (is_shut_to t (inside s)) (stops_at t c at (core_act c.core) refl cannot)
+
+  pub any_may_be_stepped : (t : ℕ) → can_move s t ≡ false → AnyMayBeStepped s t
+  any_may_be_stepped t cannot u =
+      let n = length s.calls in
+      omega (arith, none_more u (call_at s u) refl, none_less t (call_at s t) refl cannot, others_and_one n s.calls u, others_and_one n s.calls t)

@@ -17,10 +17,8 @@ use Rattle.parking_lot_rules.specs.World as many
 use Rattle.parking_lot_rules.proofs.Running.{all_away, rest_sound_family}
 use Rattle.parking_lot_rules.proofs.Mutexes as mutexes
 use Rattle.parking_lot_world.specs.declared.calls.LockKind.{LockKind}
-use Rattle.parking_lot_world.specs.declared.calls.LockKind.TheVariants as kind
 use Rattle.parking_lot_world.specs.declared.open_call.Call.{Call}
 use Rattle.parking_lot_world.specs.declared.seat.Hold.{Hold}
-use Rattle.parking_lot_world.specs.declared.seat.Hold.TheVariants as hold
 use Rattle.parking_lot_world.specs.Rows.{State, any_lock, call_at, family, hold_at, lock_at, mutex_at, mutex_role_at, mutex_role_in, mutex_word_of, one_bucket, rw_lock_at, rw_role_at, rw_role_in, word_at}
 use Rattle.parking_lot_world.specs.RowFits.{FitsTogether}
 use Rattle.parking_lot_world.specs.LotLaws.{IsNew}
@@ -55,11 +53,11 @@ module _ (n : ℕ) (ks : List LockKind) where
   nobody : (t : ℕ) → call_at s t ≡ None
   nobody t = all_the_same None n t (option_and_then (λ c. c)) None refl refl
 
-  nothing : (t i : ℕ) → hold_at s t i ≡ hold.Shares 0
+  nothing : (t i : ℕ) → hold_at s t i ≡ Hold.Shares 0
   nothing t i = go (nat_lt i (length ks))
     where
-      go : (b : Bool) → (if b then option_map_or (λ h. h) (slice_get s.holds (t * length ks + i)) (hold.Shares 0) else hold.Shares 0) ≡ hold.Shares 0
-      go true = all_the_same (hold.Shares 0) (n * length ks) (t * length ks + i) (λ o. option_map_or (λ h. h) o (hold.Shares 0)) (hold.Shares 0) refl refl
+      go : (b : Bool) → (if b then option_map_or (λ h. h) (slice_get s.holds (t * length ks + i)) (Hold.Shares 0) else Hold.Shares 0) ≡ Hold.Shares 0
+      go true = all_the_same (Hold.Shares 0) (n * length ks) (t * length ks + i) (λ o. option_map_or (λ h. h) o (Hold.Shares 0)) (Hold.Shares 0) refl refl
       go false = refl
 
   blank : (i : ℕ) → word_at s i ≡ 0
@@ -91,8 +89,8 @@ module _ (n : ℕ) (ks : List LockKind) where
       rw = subst IsSound (sym (rw_lock i)) ((rest_sound_family (λ k. k) n).sound i)
 
       go : (k : Option LockKind) → AnySound (any_lock k s i)
-      go (Some kind.Mutex) = subst mutex.IsSound (sym (mutex_lock i)) (mutexes.rest_sound n)
-      go (Some kind.Rw) = rw
+      go (Some LockKind.Mutex) = subst mutex.IsSound (sym (mutex_lock i)) (mutexes.rest_sound n)
+      go (Some LockKind.Rw) = rw
       go None = rw
 
   nobody_in_mutex : (k : Key) (u : ℕ) → mutex_inside (mutex.unlocked n) k u ≡ 0
@@ -107,8 +105,8 @@ module _ (n : ℕ) (ks : List LockKind) where
       rw h = none-some u ((rest_sound_family (λ k. k) n).entered i x u (ap (λ l. rw_inside l x u) (sym (rw_lock i)) ∙ h))
 
       go : (k : Option LockKind) → any_inside (any_lock k s i) x u ≡ 1 → ⊥
-      go (Some kind.Mutex) h = omega (arith, h, ap (λ m. mutex_inside m x u) (mutex_lock i), nobody_in_mutex x u)
-      go (Some kind.Rw) h = rw h
+      go (Some LockKind.Mutex) h = omega (arith, h, ap (λ m. mutex_inside m x u) (mutex_lock i), nobody_in_mutex x u)
+      go (Some LockKind.Rw) h = rw h
       go None h = rw h
 
   free : (b : Bool) (u : ℕ) → (if b then None else None) ≡ Some u → ⊥
@@ -125,10 +123,10 @@ module _ (n : ℕ) (ks : List LockKind) where
   no_call : {X : Type 0} (t : ℕ) (c : Call) → call_at s t ≡ Some c → X
   no_call t c is = absurd (none-some c (sym (nobody t) ∙ is))
 
-  few_shares : (h : Hold) (m : ℕ) → h ≡ hold.Shares 0 → h ≡ hold.Shares m → m ≤ 255
+  few_shares : (h : Hold) (m : ℕ) → h ≡ Hold.Shares 0 → h ≡ Hold.Shares m → m ≤ 255
   few_shares h m none some = omega (arith, same_shares m (sym none ∙ some))
     where
-      same_shares : (k : ℕ) → hold.Shares 0 ≡ hold.Shares k → k ≡ 0
+      same_shares : (k : ℕ) → Hold.Shares 0 ≡ Hold.Shares k → k ≡ 0
       same_shares k e = cc
 
   pub rest_fits : lot.Sound s.lot → n ≤ 65536 → length ks ≤ 2 ^ 20 → FitsTogether s
@@ -145,7 +143,7 @@ module _ (n : ℕ) (ks : List LockKind) where
         lots = fits.0;
         wakes = fits.1;
         rules = record {
-          size_holds = length-replicate (n * length ks) (hold.Shares 0) ∙ ap (λ m. m * length ks) (sym threads_at_rest);
+          size_holds = length-replicate (n * length ks) (Hold.Shares 0) ∙ ap (λ m. m * length ks) (sym threads_at_rest);
           size_words = length-replicate (length ks) 0;
           small = omega (arith, threads_at_rest, low);
           few_locks = omega (arith, locks);

@@ -1,5 +1,5 @@
 -- The machine once a thread has woken the first of those whom it has taken.
-use Rattle.std.proofs.Common.{◌≡◌, ◌≢◌, ℕ, zero, suc, ◌+◌, ◌≤◌, inl, inr, ◌==◌, cond, not, Bool, true, false, List, [], ◌∷◌, length, map, filter, remove, Some, slice_get, slice_set, refl, sym, ap, ◌∙◌, subst, arith, eqb-true}
+use Rattle.std.proofs.Common.{◌≡◌, ◌≢◌, ℕ, zero, suc, ◌+◌, ◌*◌, ◌≤◌, inl, inr, ◌==◌, cond, not, Bool, true, false, List, [], ◌∷◌, length, map, filter, remove, Some, slice_get, slice_set, refl, sym, ap, ◌∙◌, subst, arith, eqb-true}
 use Rattle.std.specs.List.{position_or_len}
 use Rattle.std.proofs.lemmas.Bool.{cases_eq, ne_eqb, eqb-false}
 use Rattle.std.proofs.lemmas.List.Edits.{length-remove}
@@ -13,23 +13,43 @@ use Rattle.parking_lot_rules.proofs.Indexed.{get-set_other}
 use Rattle.parking_lot_protocol.specs.declared.act.ActResult.TheVariants as seen
 use Rattle.parking_lot_world.specs.declared.seat.WakeResult.{WakeResult}
 use Rattle.parking_lot_world.specs.declared.seat.QueuePosition.{QueuePosition}
-use Rattle.parking_lot_world.specs.declared.seat.QueuePosition.TheVariants as spot
 use Rattle.parking_lot_world.specs.declared.open_call.Call.{Call}
 use Rattle.parking_lot_world.specs.declared.seat.Wakeup.{Wakeup}
-use Rattle.parking_lot_world.specs.Rows.{State, call_at, is_by, taken_by}
-use Rattle.parking_lot_world.specs.Stances.{Out, Asleep, stance, taken_count, core_next}
+use Rattle.parking_lot_world.specs.Rows.{State, word_at, hold_at, call_at, is_by, taken_by, mark_of, first_of_all, rw_spot, mutex_spot, rw_lock_at, mutex_at, queue_at}
+use Rattle.parking_lot_world.specs.Stances.{Out, Asleep, mutex_stance, rw_stance, stance, taken_count, core_act, core_next}
 use Rattle.parking_lot_world.specs.RowActs.{hears, woke, told_of}
-use Rattle.parking_lot_world.specs.RowFits.{FitsTogether, RulesFit, WakesFit, IsTaken, IsPrepared, KnowsList, is_away, is_off}
+use Rattle.parking_lot_world.specs.RowFits.{FitsTogether, RulesFit, WakesFit, IsOfKind, IsTaken, IsPrepared, KnowsList, is_away, is_off, mutex_knows}
 use Rattle.parking_lot_world.specs.TellLaws.{IsDue}
-use Rattle.parking_lot_world.proofs.Spinning.{under_way}
 use Rattle.parking_lot_world.proofs.Calling.{slot}
 use Rattle.parking_lot_world.proofs.Carrying.{same_call}
 use Rattle.parking_lot_world.proofs.Indexing.{kept_remove}
-use Rattle.parking_lot_world.proofs.Lifting.{IsThere, Elsewhere}
+use Rattle.parking_lot_world.proofs.KindTable.{Kind, of_rws, of_mutexes, IsThere, Elsewhere, in_its_place, role_at, role_now, role_stays, roles_at, same, shown}
 use Rattle.parking_lot_world.proofs.LotWakes.{woken_off, due_place, other, call_mine, call_woken, call_other, woke_length}
-use Rattle.parking_lot_world.proofs.Making.{IsSoundState}
-use Rattle.parking_lot_world.proofs.Ruling.{CallFits, call_fits, rules_after}
-use Rattle.parking_lot_world.proofs.TakeOutside.{same_kind}
+use Rattle.parking_lot_world.proofs.Making.{move_sound, mutex_goes, rw_goes}
+use Rattle.parking_lot_world.proofs.Ruling.{CallFits, Fitted, call_fits, fits_next, rules_after}
+use Rattle.parking_lot_world.proofs.Everybody.{all, change-two}
+use Rattle.parking_lot_world.proofs.Meeting.{in_range, meets, plays, rw_hears}
+use Rattle.parking_lot_world.proofs.MutexMoving.{steps}
+use Rattle.parking_lot_world.proofs.MutexRoles.{roles}
+use Rattle.parking_lot_world.proofs.OwnActs.{two_kinds}
+use Rattle.parking_lot_world.proofs.RwWaking.{wakes_are_steps}
+use Rattle.parking_lot_core_lot.specs.declared.place.Waiter.{Waiter}
+use Rattle.parking_lot_protocol.specs.MutexRules as of_mutex
+use Rattle.parking_lot_protocol.specs.MutexTable as mutex_table
+use Rattle.parking_lot_protocol.specs.RwRules as of_rw
+use Rattle.parking_lot_protocol.specs.RwTable as table
+use Rattle.parking_lot_protocol.specs.declared.act.Act.TheVariants as act
+use Rattle.parking_lot_protocol.specs.declared.act.CoreAnswer.TheVariants.{Owned}
+use Rattle.parking_lot_protocol.specs.declared.act.SectionAct.TheVariants as section
+use Rattle.parking_lot_protocol.specs.declared.mutex_core.MutexCore.{MutexCore}
+use Rattle.parking_lot_protocol.specs.declared.mutex_phase.Giving.{Giving}
+use Rattle.parking_lot_protocol.specs.declared.mutex_phase.MutexPhase.{MutexPhase}
+use Rattle.parking_lot_protocol.specs.declared.rw_core.RwCore.{RwCore}
+use Rattle.parking_lot_protocol.specs.declared.rw_phase.AfterWake.{AfterWake}
+use Rattle.parking_lot_protocol.specs.declared.rw_phase.RwPhase.{RwPhase}
+use Rattle.parking_lot_world.specs.MutexLaws.{Plays}
+use Rattle.parking_lot_world.specs.RwLaws.{Meets, Learns}
+use Rattle.parking_lot_world.specs.declared.seat.Core.{Core}
 
 -- WHOM A THREAD IS TO WAKE
 
@@ -92,6 +112,9 @@ is_due s t c h here out some =
     let p = due_place s t c h.lots here x.0 w.call x.1 by_t w.here out in
     (x.0, w.call, p.0, record { first = x.1; there = w.here; sleep = p.1; place = p.2; late = p.3 }, by_t, p.4)
 
+out_asleep : {key : ℕ} {park : ParkToken} → Out ≡ Asleep key park → ⊥
+out_asleep e = cc
+
 -- THE MACHINE
 
 module _ (s : State) (t : ℕ) (c : Call) (h : FitsTogether s) (here : call_at s t ≡ Some c) (e : Wakeup) (d : Call) (token : UnparkToken) (due : IsDue s t e d token) (from : stance c.core ≡ Out) where
@@ -99,7 +122,7 @@ module _ (s : State) (t : ℕ) (c : Call) (h : FitsTogether s) (here : call_at s
   woke_state = woke s t c e.thread d token
 
   abbrev pub woken_call : Call
-  woken_call = record (hears d (seen.Woken token)) { spot = spot.Listed }
+  woken_call = record (hears d (seen.Woken token)) { spot = QueuePosition.Listed }
 
   abbrev pub rest : List ℕ
   rest = taken_by woke_state.wakes t
@@ -111,12 +134,12 @@ module _ (s : State) (t : ℕ) (c : Call) (h : FitsTogether s) (here : call_at s
   mine = first_is_by t s.wakes e due.first
 
   -- it sleeps, and was told as the token says
-  pub was_off : (k : ℕ) × (park : ParkToken) × (d.spot ≡ spot.Off t (told_of token)) × (stance d.core ≡ Asleep k park)
+  pub was_off : (k : ℕ) × (park : ParkToken) × (d.spot ≡ QueuePosition.Off t (told_of token)) × (stance d.core ≡ Asleep k park)
   was_off =
       let x = woken_off s t c h.lots here e d due.first mine due.there from in
       let y = due_place s t c h.lots here e d due.first mine due.there from in
       let token_is : y.0 ≡ token = same_token y.1 due.sleep (sym y.2 ∙ due.place) in
-      (x.1, x.2, x.3 ∙ ap (λ (z : WakeResult). spot.Off t z) (y.5 ∙ ap told_of token_is), x.4)
+      (x.1, x.2, x.3 ∙ ap (λ (z : WakeResult). QueuePosition.Off t z) (y.5 ∙ ap told_of token_is), x.4)
     where
       same_token : {a b : UnparkToken} → (p q : Sleep) → Some (Taken a p false) ≡ Some (Taken b q false) → a ≡ b
       same_token p q z = cc
@@ -187,7 +210,7 @@ module _ (s : State) (t : ℕ) (c : Call) (h : FitsTogether s) (here : call_at s
 
   pub wakes_roused : WakesFit woke_state
   wakes_roused = record {
-    off = λ x by z said at off. calls-woken (λ y g. g.spot ≡ spot.Off by said → IsStill woke_state.wakes by y)
+    off = λ x by z said at off. calls-woken (λ y g. g.spot ≡ QueuePosition.Off by said → IsStill woke_state.wakes by y)
         (λ y g nt nv there z. still by y nv (h.wakes.off y by g said there z))
         (λ z. still by t (λ same. apart (sym same)) (h.wakes.off t by c said here z))
         (λ z. absurd cc)
@@ -201,19 +224,177 @@ module _ (s : State) (t : ℕ) (c : Call) (h : FitsTogether s) (here : call_at s
         omega arith;
   }
 
-  pub rules_roused : IsPrepared c.others (core_next c.core seen.Made) → KnowsList (core_next c.core seen.Made) s.lot.queues c.lock → IsPrepared d.others (core_next d.core (seen.Woken token)) → KnowsList (core_next d.core (seen.Woken token)) s.lot.queues d.lock
-      → IsSoundState woke_state → RulesFit woke_state
-  rules_roused prepared knows ready learns sound = rules_after s woke_state c.lock h.rules (record {
+  -- what is left to be shown by the kind of the lock: of the one that wakes, and of what the woken one stands on
+  abbrev pub Roused : Core → Core → Type 0
+  Roused x y = Fitted s woke_state t c seen.Made x × IsPrepared d.others (core_next y (seen.Woken token)) × KnowsList (core_next y (seen.Woken token)) s.lot.queues d.lock
+
+  pub rules_roused : Roused c.core d.core → RulesFit woke_state
+  rules_roused (fit, ready, learns) = rules_after s woke_state c.lock h.rules (record {
     kinds = refl;
     threads = woke_threads;
     holds = refl;
     words = refl;
-    calls = calls-woken (λ x z. CallFits s.kinds s.lot.queues z)
-        (λ x z nt nv at. call_fits s h.rules x z at)
-        (record { kind = same_kind c.core seen.Made (slice_get s.kinds c.lock) (h.rules.kinds t c here); prepared = prepared; knows = knows; beside = h.rules.beside t c here; begun = under_way c.core seen.Made (h.rules.begun t c here).few })
-        (record { kind = same_kind d.core (seen.Woken token) (slice_get s.kinds d.lock) (h.rules.kinds e.thread d due.there); prepared = ready; knows = learns; beside = h.rules.beside e.thread d due.there; begun = under_way d.core (seen.Woken token) (h.rules.begun e.thread d due.there).few });
+    calls = calls-woken (λ x z. CallFits s.kinds s.lot.queues z) (λ x z nt nv at. call_fits s h.rules x z at) (fits_next s h t c here seen.Made s.lot.queues c.spot fit.1 fit.2) (fits_next s h e.thread d due.there (seen.Woken token) s.lot.queues QueuePosition.Listed ready learns);
     few = h.rules.few;
     elsewhere = λ j ne. refl;
-    bits = h.rules.bits c.lock;
-    sound = sound;
+    bits = fit.3;
+    sound = move_sound s woke_state c.core c.others (taken_by s.wakes t) seen.Made c.lock t fit.0 h.rules.sound;
   })
+
+  -- AT A LOCK OF ANY KIND
+
+  module _ {C R L : Type 0} (K : Kind C R L) (k q k' q' : C) (mine_is : core_next c.core seen.Made ≡ K.core k') (its : d.core ≡ K.core q) (its_is : core_next d.core (seen.Woken token) ≡ K.core q') (to : stance (core_next c.core seen.Made) ≡ Out) where
+    -- whom it wakes sleeps off its list
+    pub sleeps_off : slice_get (roles_at K s c.lock) e.thread ≡ Some (K.plays d.others (QueuePosition.Off t (told_of token)) (taken_by s.wakes e.thread) q)
+    sleeps_off =
+        subst (λ j. slice_get (roles_at K s j) e.thread ≡ Some (K.plays d.others d.spot (taken_by s.wakes e.thread) q)) same_lock (in_its_place K s e.thread d q (in_range s e.thread d due.there) due.there its)
+        ∙ ap (λ at. Some (K.plays d.others at (taken_by s.wakes e.thread) q)) was_off.2
+
+    -- and what the two are then is all that changes
+    pub roused_after : (x : ℕ) → word_at s c.lock ≡ x → shown K woke_state c.lock
+        ≡ K.lock x (slice_set (slice_set (roles_at K s c.lock) e.thread (K.plays d.others QueuePosition.Listed (taken_by s.wakes e.thread) q')) t (K.plays c.others QueuePosition.Listed rest k')) (queue_at s (2 * c.lock)) (queue_at s (2 * c.lock + 1))
+    roused_after x word =
+        same K _ _ _ _ _ _ _ _ word
+        (ap (all (role_at K woke_state c.lock) 0) woke_threads
+        ∙ change-two (role_at K s c.lock) (role_at K woke_state c.lock) (length s.calls) e.thread t (in_range s e.thread d due.there) (in_range s t c here) apart (λ y low nv nt. role_stays K s woke_state c.lock y (at_others y nt nv) (taken_others y nt) refl)
+        ∙ ap (λ y. slice_set (slice_set (roles_at K s c.lock) e.thread y) t (role_at K woke_state c.lock t))
+        (ap (λ us. K.role_in c.lock us (hold_at s e.thread c.lock) (call_at woke_state e.thread)) (taken_others e.thread apart) ∙ ap (K.role_in c.lock (taken_by s.wakes e.thread) (hold_at s e.thread c.lock)) at_v
+        ∙ K.here c.lock (taken_by s.wakes e.thread) (hold_at s e.thread c.lock) woken_call q' its_is same_lock)
+        ∙ ap (slice_set (slice_set (roles_at K s c.lock) e.thread (K.plays d.others QueuePosition.Listed (taken_by s.wakes e.thread) q')) t)
+        (role_now K woke_state t rest (hears c seen.Made) k' at_t refl mine_is ∙ K.listed c.others rest k' c.spot (λ key park z. absurd (out_asleep (sym to ∙ ap stance mine_is ∙ z)))))
+        refl refl
+
+-- AT A READER-WRITER LOCK
+
+-- one that is to wake
+rw_wakes : (p : RwPhase) → table.act_of p ≡ act.Section section.Wake → (rs : AfterWake) × (count : ℕ) × (p ≡ RwPhase.Wakes rs count)
+rw_wakes (RwPhase.Wakes rs count) e = (rs, count, refl)
+rw_wakes (RwPhase.Finishes AfterWake.FreedShared) e = absurd cc
+rw_wakes p e = absurd cc
+
+-- a sleeper may be told to go on
+sleeper_hears : (q : RwPhase) (key : ℕ) (park : ParkToken) (x : ℕ) (token : UnparkToken) (f g : List Waiter) → rw_stance q ≡ Asleep key park → of_rw.IsTold q x (seen.Woken token) × Learns q (seen.Woken token) f g
+sleeper_hears (RwPhase.Sleeps want) key park x token f g e = (tt, tt)
+sleeper_hears (RwPhase.DrainSleeps rounds) key park x token f g e = (tt, tt)
+sleeper_hears q key park x token f g e = absurd cc
+
+-- AT A MUTEX
+
+-- one that is to wake
+mutex_wakes : (p : MutexPhase) → mutex_table.act_of p ≡ act.Section section.Wake → (g : Giving) × (p ≡ MutexPhase.Wakes g)
+mutex_wakes (MutexPhase.Wakes g) e = (g, refl)
+mutex_wakes (MutexPhase.Finishes g) e = absurd (finishes g.again e)
+  where
+    finishes : (b : Bool) → mutex_table.act_of (MutexPhase.Finishes (record g { again = b })) ≡ act.Section section.Wake → ⊥
+    finishes true e = cc
+    finishes false e = cc
+mutex_wakes p e = absurd cc
+
+-- one that sleeps
+mutex_sleeps : (p : MutexPhase) (key : ℕ) (park : ParkToken) → mutex_stance p ≡ Asleep key park → p ≡ MutexPhase.Sleeps
+mutex_sleeps MutexPhase.Sleeps key park e = refl
+mutex_sleeps p key park e = absurd cc
+
+-- what it knows once it was woken
+woken_knows : (token : UnparkToken) (waiters : List Waiter) → mutex_knows (mutex_table.next_phase MutexPhase.Sleeps (seen.Woken token)) waiters
+woken_knows token waiters = go (token.0 == 1)
+  where
+    go : (b : Bool) → mutex_knows (cond b (MutexPhase.Ends Owned) (MutexPhase.Loads (mutex_table.begins true))) waiters
+    go true = tt
+    go false = tt
+
+marks : (b : Bool) → mark_of (cond b WakeResult.HandedOver WakeResult.TryAgain) ≡ of_mutex.mark_of b
+marks true = refl
+marks false = refl
+
+-- AT A LOCK OF EITHER KIND
+
+module _ (s : State) (t : ℕ) (c : Call) (h : FitsTogether s) (here : call_at s t ≡ Some c) (e : Wakeup) (d : Call) (token : UnparkToken) (due : IsDue s t e d token) (from : stance c.core ≡ Out) (to : stance (core_next c.core seen.Made) ≡ Out) where
+  abbrev u : State
+  u = woke s t c e.thread d token
+
+  abbrev v : ℕ
+  v = e.thread
+
+  abbrev ws : List ℕ
+  ws = taken_by s.wakes v
+
+  abbrev vs : List ℕ
+  vs = taken_by u.wakes t
+
+  off : (key : ℕ) × (park : ParkToken) × (d.spot ≡ QueuePosition.Off t (told_of token)) × (stance d.core ≡ Asleep key park)
+  off = was_off s t c h here e d token due from
+
+  wake_rw : (rs : AfterWake) (count : ℕ) (y q : RwCore) → c.core ≡ Core.Rw (record y { phase = RwPhase.Wakes rs count }) → d.core ≡ Core.Rw q → Roused s t c h here e d token due from (Core.Rw (record y { phase = RwPhase.Wakes rs count })) (Core.Rw q)
+  wake_rw rs count y q ce de =
+      let k : RwCore = record y { phase = RwPhase.Wakes rs count } in
+      let k' : RwCore = record y { phase = table.next_phase (RwPhase.Wakes rs count) seen.Made } in
+      let q' : RwCore = record q { phase = table.next_phase q.phase (seen.Woken token) } in
+      let its = meets s h v d q de due.there in
+      let met : Meets (rw_lock_at s c.lock) t c.others (rw_spot c.spot) (v ∷ vs) (RwPhase.Wakes rs count) (word_at s c.lock) =
+      subst (λ us. Meets (rw_lock_at s c.lock) t c.others (rw_spot c.spot) us (RwPhase.Wakes rs count) (word_at s c.lock)) (taken_mine s t c h here e d token due from) (meets s h t c k ce here) in
+      let asleep : rw_stance q.phase ≡ Asleep off.0 off.1 = sym (ap stance de) ∙ off.3 in
+      let after_is = λ (n : ℕ) (w : word_at s c.lock ≡ n). roused_after s t c h here e d token due from of_rws k q k' q' (ap (λ (x : Core). core_next x seen.Made) ce) de (ap (λ (x : Core). core_next x (seen.Woken token)) de) to n w in
+      let step = wakes_are_steps (rw_lock_at s c.lock) t c.others (rw_spot c.spot) v vs rs count (word_at s c.lock) d.others (mark_of (told_of token)) ws q.phase off.0 off.1 token met
+      (sleeps_off s t c h here e d token due from of_rws k q k' q' (ap (λ (x : Core). core_next x seen.Made) ce) de (ap (λ (x : Core). core_next x (seen.Woken token)) de) to) asleep its.prepared refl in
+      let kind_is = subst (IsOfKind (slice_get s.kinds c.lock)) ce (h.rules.kinds t c here) in
+      let mine = rw_hears s h t c k ce here seen.Made tt s.lot.queues tt in
+      let may = sleeper_hears q.phase off.0 off.1 (word_at s d.lock) token (s.lot.queues (2 * d.lock)) (s.lot.queues (2 * d.lock + 1)) asleep in
+      let others = rw_hears s h v d q de due.there (seen.Woken token) may.0 s.lot.queues may.1 in (
+        (
+          rw_goes s u t c.lock of_rw.WakesOne _ (subst (IsThere c.lock) (sym here) refl) (woke_elsewhere s t c h here e d token due from) kind_is (of_rw.owned_at_last c.others rs, v, vs, step.0, step.1) (after_is (word_at s c.lock) refl) refl,
+          mine.0,
+          mine.1,
+          h.rules.bits c.lock,
+        ),
+        others.0,
+        others.1,
+      )
+
+  wake_mutex : (g : Giving) (y q : MutexCore) → c.core ≡ Core.Mutex (record y { phase = MutexPhase.Wakes g }) → d.core ≡ Core.Mutex q → q.phase ≡ MutexPhase.Sleeps → Roused s t c h here e d token due from (Core.Mutex (record y { phase = MutexPhase.Wakes g })) (Core.Mutex q)
+  wake_mutex g y q ce de asleep =
+      let k : MutexCore = record y { phase = MutexPhase.Wakes g } in
+      let k' : MutexCore = record y { phase = mutex_table.next_phase (MutexPhase.Wakes g) seen.Made } in
+      let q' : MutexCore = record q { phase = mutex_table.next_phase q.phase (seen.Woken token) } in
+      let us = taken_by s.wakes t in
+      let first : first_of_all us ≡ v = ap first_of_all (taken_mine s t c h here e d token due from) in
+      let mine = ap (λ (x : Core). core_next x seen.Made) ce in
+      let its = ap (λ (x : Core). core_next x (seen.Woken token)) de in
+      let sleeps = sleeps_off s t c h here e d token due from of_mutexes k q k' q' mine de its to ∙ ap (λ p. Some (of_mutex.role (of_mutex.Off t (mark_of (told_of token))) (first_of_all ws) p)) asleep in
+      let woken : of_mutex.role of_mutex.Listed (first_of_all ws) q'.phase ≡ of_mutex.role of_mutex.Listed 0 (mutex_table.next_phase MutexPhase.Sleeps (seen.Woken token)) =
+      ap (λ p. of_mutex.role of_mutex.Listed (first_of_all ws) (mutex_table.next_phase p (seen.Woken token))) asleep ∙ roles.woken of_mutex.Listed (first_of_all ws) token ∙ sym (roles.woken of_mutex.Listed 0 token) in
+      let waking = steps.wakes (mutex_at s c.lock) (word_at s c.lock) t v (mutex_spot c.spot) (MutexPhase.Wakes g) (mark_of (told_of token)) token
+      (subst (λ n. Plays (mutex_at s c.lock) (word_at s c.lock) t (of_mutex.role (mutex_spot c.spot) n (MutexPhase.Wakes g))) first (plays s h t c k ce here)) refl sleeps in (
+        (
+          mutex_goes s u t c.lock v us _ of_mutex.WakesOne (subst (IsThere c.lock) (sym here) refl) (woke_elsewhere s t c h here e d token due from) (subst (IsOfKind (slice_get s.kinds c.lock)) ce (h.rules.kinds t c here)) (token.0 == 1, waking.leads (marks (token.0 == 1)))
+              (roused_after s t c h here e d token due from of_mutexes k q k' q' mine de its to (word_at s c.lock) refl
+              ∙ same of_mutexes _ _ _ _ _ _ [] [] refl (ap (λ x. slice_set (slice_set (roles_at of_mutexes s c.lock) v x) t (of_mutex.role of_mutex.Listed (first_of_all vs) k'.phase)) woken) refl refl)
+              refl tt,
+          subst (IsPrepared c.others) ce (h.rules.prepared t c here),
+          tt,
+          h.rules.bits c.lock,
+        ),
+        subst (IsPrepared d.others) de (h.rules.prepared v d due.there),
+        subst (λ p. mutex_knows (mutex_table.next_phase p (seen.Woken token)) (s.lot.queues (2 * d.lock))) (sym asleep) (woken_knows token (s.lot.queues (2 * d.lock))),
+      )
+
+  of_one_kind : (x y : Core) → c.core ≡ x → d.core ≡ y → IsOfKind (slice_get s.kinds c.lock) x × IsOfKind (slice_get s.kinds c.lock) y
+  of_one_kind x y ce de = (
+    subst (IsOfKind (slice_get s.kinds c.lock)) ce (h.rules.kinds t c here),
+    subst (λ j. IsOfKind (slice_get s.kinds j) y) (same_lock s t c h here e d token due from) (subst (IsOfKind (slice_get s.kinds d.lock)) de (h.rules.kinds v d due.there)),
+  )
+
+  pub roused : core_act c.core ≡ act.Section section.Wake → Roused s t c h here e d token due from c.core d.core
+  roused asked = go c.core d.core refl refl
+    where
+      go : (x y : Core) → c.core ≡ x → d.core ≡ y → Roused s t c h here e d token due from x y
+      go (Core.Rw k) (Core.Rw q) ce de =
+          let p = rw_wakes k.phase (sym (ap core_act ce) ∙ asked) in
+          let is : k ≡ record k { phase = RwPhase.Wakes p.0 p.1 } = ap (λ (z : RwPhase). record k { phase = z }) p.2 in
+          subst (λ (z : RwCore). Roused s t c h here e d token due from (Core.Rw z) (Core.Rw q)) (sym is) (wake_rw p.0 p.1 k q (ce ∙ ap Core.Rw is) de)
+      go (Core.Mutex k) (Core.Mutex q) ce de =
+          let p = mutex_wakes k.phase (sym (ap core_act ce) ∙ asked) in
+          let is : k ≡ record k { phase = MutexPhase.Wakes p.0 } = ap (λ (z : MutexPhase). record k { phase = z }) p.1 in
+          subst (λ (z : MutexCore). Roused s t c h here e d token due from (Core.Mutex z) (Core.Mutex q)) (sym is) (wake_mutex p.0 k q (ce ∙ ap Core.Mutex is) de (mutex_sleeps q.phase off.0 off.1 (sym (ap stance de) ∙ off.3)))
+      go (Core.Mutex k) (Core.Rw q) ce de = let z = of_one_kind (Core.Mutex k) (Core.Rw q) ce de in absurd (two_kinds (sym z.1 ∙ z.0))
+      go (Core.Rw k) (Core.Mutex q) ce de = let z = of_one_kind (Core.Rw k) (Core.Mutex q) ce de in absurd (two_kinds (sym z.0 ∙ z.1))

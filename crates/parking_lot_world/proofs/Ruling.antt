@@ -3,47 +3,21 @@ use Rattle.std.proofs.Common.{◌≡◌, ◌≢◌, ℕ, ◌+◌, ◌*◌, ◌<�
 use Rattle.std.proofs.lemmas.Bool.{cases_eq}
 use Rattle.std.proofs.lemmas.List.{length-set}
 use Rattle.parking_lot_core_lot.specs.declared.place.Waiter.{Waiter}
-use Rattle.parking_lot_rules.specs.Steps.{Alone, List_changes, Take1, Store, Wake}
-use Rattle.parking_lot_rules.specs.Roles.{Asleep}
-use Rattle.parking_lot_rules.specs.Mutex as mutex
-use Rattle.parking_lot_rules.specs.Any.{RwStep, MxStep}
 use Rattle.parking_lot_protocol.specs.declared.act.ActResult.{ActResult}
-use Rattle.parking_lot_protocol.specs.MutexRules as of_mutex
-use Rattle.parking_lot_protocol.specs.RwRules as of_rw
 use Rattle.parking_lot_world.specs.declared.calls.LockKind.{LockKind}
-use Rattle.parking_lot_world.specs.declared.calls.LockKind.TheVariants as kind
 use Rattle.parking_lot_world.specs.declared.seat.Hold.TheVariants as hold
 use Rattle.parking_lot_world.specs.declared.seat.QueuePosition.{QueuePosition}
 use Rattle.parking_lot_world.specs.declared.seat.Core.{Core}
-use Rattle.parking_lot_world.specs.declared.seat.Core.TheVariants as core
 use Rattle.parking_lot_world.specs.declared.open_call.Call.{Call}
-use Rattle.parking_lot_world.specs.Rows.{State, word_at, hold_at, call_at}
+use Rattle.parking_lot_world.specs.Rows.{State, word_at, hold_at, call_at, taken_by}
 use Rattle.parking_lot_world.specs.Rounds.{IsUnderWay}
 use Rattle.parking_lot_world.specs.RowFits.{FitsTogether, RulesFit, IsOfKind, IsPrepared, KnowsList, mutex_knows, rw_knows}
-use Rattle.parking_lot_world.specs.RowSteps.{IsRwMove, IsMutexMove, store_step, wake_step}
-use Rattle.parking_lot_world.proofs.Making.{IsSoundState, quiet_sound, made_sound}
+use Rattle.parking_lot_world.specs.RowSteps.{Goes, IsMoveOf}
+use Rattle.parking_lot_world.specs.Stances.{core_next}
+use Rattle.parking_lot_world.proofs.Making.{IsSoundState, move_sound}
 use Rattle.parking_lot_world.proofs.Calling.{call_of, calls-change, same-holds}
 use Rattle.parking_lot_world.proofs.Owning.{OwnAct, call_after}
-
--- a move keeps the locks sound
-pub rw_move_sound : (s u : State) (t j : ℕ) (m : of_rw.Move) → IsRwMove m j t s u → IsSoundState s → IsSoundState u
-rw_move_sound s u t j of_rw.Stays h sound = quiet_sound s u h sound
-rw_move_sound s u t j (of_rw.Makes k) h sound = made_sound s u t j (RwStep (Alone k)) h sound
-rw_move_sound s u t j (of_rw.Joins k) h sound = made_sound s u t j (RwStep (List_changes k)) h sound
-rw_move_sound s u t j (of_rw.TakesOne mode) h sound = made_sound s u t j (RwStep (Take1 h.0 h.1 h.2 mode Asleep)) h.3 sound
-rw_move_sound s u t j of_rw.TakesWriter h sound = made_sound s u t j _ h.2 sound
-rw_move_sound s u t j (of_rw.Tells end left) h sound = made_sound s u t j (RwStep (Store end h.0)) h.1 sound
-rw_move_sound s u t j of_rw.WakesOne h sound = made_sound s u t j (RwStep (Wake h.0 h.1 h.2 h.3 Asleep)) h.4 sound
-rw_move_sound s u t j (of_rw.IsWoken k) h sound = absurd h
-
-pub mutex_move_sound : (s u : State) (t j : ℕ) (us : List ℕ) (m : of_mutex.Move) → IsMutexMove m us j t s u → IsSoundState s → IsSoundState u
-mutex_move_sound s u t j us of_mutex.Stays h sound = quiet_sound s u h sound
-mutex_move_sound s u t j us (of_mutex.Makes k) h sound = made_sound s u t j (MxStep (mutex.Alone k)) h sound
-mutex_move_sound s u t j us of_mutex.Joins h sound = made_sound s u t j (MxStep mutex.Join) h sound
-mutex_move_sound s u t j us of_mutex.TakesOne h sound = made_sound s u t j (MxStep (mutex.Take h.0 Asleep)) h.1 sound
-mutex_move_sound s u t j us (of_mutex.Tells taken handed left) h sound = made_sound s u t j (MxStep (store_step handed us)) h sound
-mutex_move_sound s u t j us of_mutex.WakesOne h sound = made_sound s u t j (MxStep (wake_step h.0 h.1 h.2)) h.3 sound
-mutex_move_sound s u t j us (of_mutex.IsWoken handed) h sound = absurd h
+use Rattle.parking_lot_world.proofs.Spinning.{under_way}
 
 -- what holds of a call on the side of the rules
 pub record CallFits (kinds : List LockKind) (queues : ℕ → List Waiter) (e : Call) : Type 0 where
@@ -62,7 +36,7 @@ pub record RulesAfter (s u : State) (j : ℕ) : Type 0 where
   pub calls : (v : ℕ) (e : Call) → call_at u v ≡ Some e → CallFits s.kinds u.lot.queues e
   pub few : (x i n : ℕ) → hold_at u x i ≡ hold.Shares n → n ≤ 255
   pub elsewhere : (i : ℕ) → i ≢ j → word_at u i ≡ word_at s i
-  pub bits : slice_get s.kinds j ≡ Some kind.Mutex → word_at u j < 4
+  pub bits : slice_get s.kinds j ≡ Some LockKind.Mutex → word_at u j < 4
   pub sound : IsSoundState u
 
 pub rules_after : (s u : State) (j : ℕ) → RulesFit s → RulesAfter s u j → RulesFit u
@@ -90,34 +64,51 @@ call_fits s h v e here = record { kind = h.kinds v e here; prepared = h.prepared
 
 -- lists that stay
 pub knows_same : (f g : ℕ → List Waiter) → ((key : ℕ) → g key ≡ f key) → (x : Core) (j : ℕ) → KnowsList x f j → KnowsList x g j
-knows_same f g same (core.Mutex k) j h = subst (mutex_knows k.phase) (sym (same (2 * j))) h
-knows_same f g same (core.Rw k) j h = subst (λ (q : List Waiter). rw_knows k.phase q (g (2 * j + 1))) (sym (same (2 * j))) (subst (rw_knows k.phase (f (2 * j))) (sym (same (2 * j + 1))) h)
+knows_same f g same (Core.Mutex k) j h = subst (mutex_knows k.phase) (sym (same (2 * j))) h
+knows_same f g same (Core.Rw k) j h = subst (λ (q : List Waiter). rw_knows k.phase q (g (2 * j + 1))) (sym (same (2 * j))) (subst (rw_knows k.phase (f (2 * j))) (sym (same (2 * j + 1))) h)
 
-module _ (s u : State) (t : ℕ) (c : Call) (told : ActResult) (next : Core) (at : QueuePosition) (a : OwnAct s u t c told next at) (h : FitsTogether s) where
-  abbrev d : Call
-  d = call_after s u t c told next at a
+-- a call stays of its kind
+pub same_kind : (x : Core) (told : ActResult) (k : Option LockKind) → IsOfKind k x → IsOfKind k (core_next x told)
+same_kind (Core.Rw c) told k h = h
+same_kind (Core.Mutex c) told k h = h
 
-  -- what holds of every call
-  calls-after : (P : ℕ → Call → Type 0) → ((v : ℕ) (e : Call) → v ≢ t → call_at s v ≡ Some e → P v e) → P t d → (v : ℕ) (e : Call) → call_at u v ≡ Some e → P v e
-  calls-after P others this v e here =
-      calls-change P s.calls t c d a.here others this v e (sym (ap (λ cs. call_of cs v) a.calls) ∙ here)
+module _ (s : State) (h : FitsTogether s) (t : ℕ) (c : Call) (here : call_at s t ≡ Some c) where
+  -- it fits wherever it stands, with what it knows of the lists
+  pub fits_at : (queues : ℕ → List Waiter) (at : QueuePosition) → KnowsList c.core queues c.lock → CallFits s.kinds queues (record c { spot = at })
+  fits_at queues at knows = record { kind = h.rules.kinds t c here; prepared = h.rules.prepared t c here; knows = knows; beside = h.rules.beside t c here; begun = h.rules.begun t c here }
 
-  -- of the other calls, where no list changes
-  pub others_know : ((key : ℕ) → u.lot.queues key ≡ s.lot.queues key) → (v : ℕ) (e : Call) → v ≢ t → call_at s v ≡ Some e → KnowsList e.core u.lot.queues e.lock
-  others_know same v e ne here = knows_same s.lot.queues u.lot.queues same e.core e.lock (h.rules.knows v e here)
+  -- and once it was told what its act gave
+  pub fits_next : (told : ActResult) (queues : ℕ → List Waiter) (at : QueuePosition) → IsPrepared c.others (core_next c.core told) → KnowsList (core_next c.core told) queues c.lock
+      → CallFits s.kinds queues (record c { core = core_next c.core told; spot = at })
+  fits_next told queues at prepared knows = record {
+    kind = same_kind c.core told (slice_get s.kinds c.lock) (h.rules.kinds t c here);
+    prepared = prepared;
+    knows = knows;
+    beside = h.rules.beside t c here;
+    begun = under_way c.core told (h.rules.begun t c here).few;
+  }
 
-  pub rules_own : ((v : ℕ) (e : Call) → v ≢ t → call_at s v ≡ Some e → KnowsList e.core u.lot.queues e.lock) → ((k : Option LockKind) → IsOfKind k c.core → IsOfKind k next) → IsPrepared c.others next → KnowsList next u.lot.queues c.lock → IsUnderWay next
-      → (slice_get s.kinds c.lock ≡ Some kind.Mutex → word_at u c.lock < 4) → IsSoundState u → RulesFit u
-  rules_own others same_kind prepared knows begun bits sound = rules_after s u c.lock h.rules (record {
-    kinds = a.kinds;
-    threads = ap length a.calls ∙ length-set s.calls t (Some d);
-    holds = ap length a.holds;
-    words = a.sizes;
-    calls = calls-after (λ v e. CallFits s.kinds u.lot.queues e)
-        (λ v e ne here. let f = call_fits s h.rules v e here in record { kind = f.kind; prepared = f.prepared; knows = others v e ne here; beside = f.beside; begun = f.begun })
-        (record { kind = same_kind (slice_get s.kinds c.lock) (h.rules.kinds t c a.here); prepared = prepared; knows = knows; beside = h.rules.beside t c a.here; begun = begun });
-    few = λ x i n e. h.rules.few x i n (sym (same-holds s u a.kinds a.holds x i) ∙ e);
-    elsewhere = a.words;
-    bits = bits;
-    sound = sound;
-  })
+-- What is left to be shown of an act by the kind of its lock: it is the move that the core's table names, the next phase may rely on what it
+-- needs, and a mutex's word stays one.
+abbrev pub Fitted : State → State → ℕ → Call → ActResult → Core → Type 0
+Fitted s u t c told x =
+    IsMoveOf x c.others (taken_by s.wakes t) told c.lock t s u × IsPrepared c.others (core_next x told) × KnowsList (core_next x told) u.lot.queues c.lock × (slice_get s.kinds c.lock ≡ Some LockKind.Mutex → word_at u c.lock < 4)
+
+module _ (s u : State) (t : ℕ) (c : Call) (told : ActResult) (at : QueuePosition) (a : OwnAct s u t c told (core_next c.core told) at) (h : FitsTogether s) where
+  pub rules_own : ((v : ℕ) (e : Call) → v ≢ t → call_at s v ≡ Some e → KnowsList e.core u.lot.queues e.lock) → Fitted s u t c told c.core → RulesFit u × Goes t c told s u
+  rules_own others fit = (
+    rules_after s u c.lock h.rules (record {
+      kinds = a.kinds;
+      threads = ap length a.calls ∙ length-set s.calls t (Some (call_after s u t c told _ at a));
+      holds = ap length a.holds;
+      words = a.sizes;
+      calls = λ v e is. calls-change (λ x f. CallFits s.kinds u.lot.queues f) s.calls t c (call_after s u t c told _ at a) a.here (λ x f ne here. fits_at s h x f here u.lot.queues f.spot (others x f ne here))
+          (fits_next s h t c a.here told u.lot.queues at fit.1 fit.2)
+          v e (sym (ap (λ cs. call_of cs v) a.calls) ∙ is);
+      few = λ x i n e. h.rules.few x i n (sym (same-holds s u a.kinds a.holds x i) ∙ e);
+      elsewhere = a.words;
+      bits = fit.3;
+      sound = move_sound s u c.core c.others (taken_by s.wakes t) told c.lock t fit.0 h.rules.sound;
+    }),
+    fit.0,
+  )

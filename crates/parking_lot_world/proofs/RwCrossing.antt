@@ -12,9 +12,7 @@ use Rattle.parking_lot_rules.specs.Family as crossings
 use Rattle.parking_lot_rules.specs.Any.{AnySound, any_inside}
 use Rattle.parking_lot_rules.proofs.Totals.{total-at}
 use Rattle.parking_lot_protocol.specs.declared.act.ActResult.{ActResult}
-use Rattle.parking_lot_protocol.specs.declared.act.ActResult.TheVariants as seen
 use Rattle.parking_lot_protocol.specs.declared.rw_phase.LockMode.{LockMode}
-use Rattle.parking_lot_protocol.specs.declared.rw_phase.LockMode.TheVariants as want
 use Rattle.parking_lot_protocol.specs.declared.rw_phase.AfterWake.{AfterWake}
 use Rattle.parking_lot_protocol.specs.declared.rw_phase.AfterWake.TheVariants.{FreedShared, FreedExclusive, Downgraded, AgainShared, AgainExclusive}
 use Rattle.parking_lot_protocol.specs.declared.rw_phase.Scanning.{Scanning}
@@ -36,12 +34,12 @@ abbrev IsQuietly : Move → Type 0
 IsQuietly m = move_crossing m ≡ crossings.Stays
 
 admits_quietly : (n : ℕ) (q : LockMode) (woken : Bool) → IsQuietly (Makes (admission n q woken))
-admits_quietly n (want.Shared recursive) woken = refl
-admits_quietly n want.Exclusive woken = refl
+admits_quietly n (LockMode.Shared recursive) woken = refl
+admits_quietly n LockMode.Exclusive woken = refl
 
 tries_quietly : (n : ℕ) (q : LockMode) → IsQuietly (Makes (try_admission n q))
-tries_quietly n (want.Shared recursive) = refl
-tries_quietly n want.Exclusive = refl
+tries_quietly n (LockMode.Shared recursive) = refl
+tries_quietly n LockMode.Exclusive = refl
 
 finishes_quietly : (rest : AfterWake) → crossings.Stays ≡ act_crossing (rw_stance (Finishes rest)) (act_of (Finishes rest))
 finishes_quietly FreedShared = refl
@@ -51,21 +49,21 @@ finishes_quietly AgainShared = refl
 finishes_quietly AgainExclusive = refl
 
 crosses : (n : ℕ) (us : List ℕ) (p : RwPhase) (x : ℕ) (s : ActResult) → IsTold p x s → move_crossing (move n us p s) ≡ act_crossing (rw_stance p) (act_of p)
-crosses n us (Admits a word) x seen.Exchanged told = admits_quietly n a.want a.woken
-crosses n us (SetParked a word) x seen.Exchanged told = refl
-crosses n us (Checks a woken) x (seen.Word word) told = one_of IsQuietly (is_barred a word && is_parked word) _ _ refl refl
-crosses n us (DrainLoads d) x (seen.Word word) told = one_of IsQuietly (has_readers word) _ _ refl refl
-crosses n us (DrainSetParked d flagged) x seen.Exchanged told = refl
-crosses n us (DrainSetParked d flagged) x (seen.Word word) told = one_of IsQuietly (has_readers word) _ _ refl refl
-crosses n us (DrainChecks d) x (seen.Word word) told = one_of IsQuietly (has_readers word && is_writer_parked word) _ _ refl refl
-crosses n us (Sleeps a) x (seen.Woken token) told = refl
-crosses n us (TryAdmits a word left) x seen.Exchanged told = tries_quietly n a
-crosses n us (Unshares rest) x (seen.Before word) told = one_of (λ k. IsQuietly (Makes k)) (word / 16 == 1 && is_writer_parked word) _ _ refl refl
-crosses n us (TakeWriter rest) x (seen.Took (Some token) left) told = refl
-crosses n us (Unlocks fair rest) x seen.Exchanged told = refl
-crosses n us Downgrades x (seen.Before word) told = refl
-crosses n us (Scans a) x (seen.Took (Some token) left) told = refl
-crosses n us (Stores a left) x (seen.Stored fair) told = refl
+crosses n us (Admits a word) x ActResult.Exchanged told = admits_quietly n a.want a.woken
+crosses n us (SetParked a word) x ActResult.Exchanged told = refl
+crosses n us (Checks a woken) x (ActResult.Word word) told = one_of IsQuietly (is_barred a word && is_parked word) _ _ refl refl
+crosses n us (DrainLoads d) x (ActResult.Word word) told = one_of IsQuietly (has_readers word) _ _ refl refl
+crosses n us (DrainSetParked d flagged) x ActResult.Exchanged told = refl
+crosses n us (DrainSetParked d flagged) x (ActResult.Word word) told = one_of IsQuietly (has_readers word) _ _ refl refl
+crosses n us (DrainChecks d) x (ActResult.Word word) told = one_of IsQuietly (has_readers word && is_writer_parked word) _ _ refl refl
+crosses n us (Sleeps a) x (ActResult.Woken token) told = refl
+crosses n us (TryAdmits a word left) x ActResult.Exchanged told = tries_quietly n a
+crosses n us (Unshares rest) x (ActResult.Before word) told = one_of (λ k. IsQuietly (Makes k)) (word / 16 == 1 && is_writer_parked word) _ _ refl refl
+crosses n us (TakeWriter rest) x (ActResult.Took (Some token) left) told = refl
+crosses n us (Unlocks fair rest) x ActResult.Exchanged told = refl
+crosses n us Downgrades x (ActResult.Before word) told = refl
+crosses n us (Scans a) x (ActResult.Took (Some token) left) told = refl
+crosses n us (Stores a left) x (ActResult.Stored fair) told = refl
 crosses n us (Finishes rest) x s told = finishes_quietly rest
 crosses n us p x s told = refl
 
@@ -127,15 +125,15 @@ drains_calm : (d : Draining) (word : ℕ) → IsCalm (drains d word)
 drains_calm d word = one_of IsCalm (has_readers word) _ _ (one_of IsCalm (nat_lt 0 d.rounds) _ _ tt (one_of IsCalm (is_writer_parked word) _ _ tt tt)) tt
 
 admits_calm : (want : LockMode) (woken : Bool) → IsCalm (admits want woken)
-admits_calm (want.Shared recursive) woken = tt
-admits_calm want.Exclusive woken = tt
+admits_calm (LockMode.Shared recursive) woken = tt
+admits_calm LockMode.Exclusive woken = tt
 
 tries_calm : (want : LockMode) (left word : ℕ) → IsCalm (tries want left word)
 tries_calm want left word = one_of IsCalm (is_tried want word) _ _ tt tt
 
 bumps_calm : (want : LockMode) (word : ℕ) → IsCalm (bumps want word)
-bumps_calm (want.Shared recursive) word = one_of IsCalm (is_written word) _ _ tt tt
-bumps_calm want.Exclusive word = one_of IsCalm (is_parked word) _ _ tt tt
+bumps_calm (LockMode.Shared recursive) word = one_of IsCalm (is_written word) _ _ tt tt
+bumps_calm LockMode.Exclusive word = one_of IsCalm (is_parked word) _ _ tt tt
 
 over_calm : (rest : AfterWake) → IsCalm (over rest)
 over_calm FreedShared = tt
@@ -148,8 +146,8 @@ wakes_calm : (rest : AfterWake) (count : ℕ) → IsCalm (wakes rest count)
 wakes_calm rest count = one_of IsCalm (nat_lt 0 count) _ _ tt tt
 
 finishes_calm : (rest : AfterWake) (x : ℕ) (s : ActResult) → IsTold (Finishes rest) x s → IsCalm (next_phase (Finishes rest) s)
-finishes_calm AgainShared x (seen.Word v) told = tt
-finishes_calm AgainExclusive x (seen.Word v) told = tt
+finishes_calm AgainShared x (ActResult.Word v) told = tt
+finishes_calm AgainExclusive x (ActResult.Word v) told = tt
 finishes_calm rest x s told = absurd told
 
 -- what one knows of a scan that has taken one more
@@ -169,55 +167,55 @@ takes_knows a left token first second u (inl e) same = subst (KnowsAt a left fir
 takes_knows a left token first second u (inr e) same = subst (KnowsAt a left first second) (sym e) (goes_knows (record a { writer = true }) left first second u same)
 
 knows_next : (p : RwPhase) (x : ℕ) (s : ActResult) (old1 old2 first second : List Waiter) → IsTold p x s → rw_knows p old1 old2 → Learns p s first second → rw_knows (next_phase p s) first second
-knows_next (Scans a) x (seen.Took (Some token) left) old1 old2 first second told k h = takes_knows a left token first second k h.0 h.1
-knows_next (Scans a) x (seen.Took None left) old1 old2 first second told k h = (k, h.0, inr h.1)
-knows_next (TakeWriter rest) x (seen.Took token left) old1 old2 first second told k h = h
-knows_next (LooksExclusive fair rest) x seen.Entered old1 old2 first second told k h = refl
-knows_next EnterWakeSection x seen.Entered old1 old2 first second told k h = refl
-knows_next (Locking want) x seen.Start old1 old2 first second told k h = tt
-knows_next (Trying want) x seen.Start old1 old2 first second told k h = tt
-knows_next UnlockingShared x seen.Start old1 old2 first second told k h = tt
-knows_next (UnlockingExclusive fair) x seen.Start old1 old2 first second told k h = tt
-knows_next Downgrading x seen.Start old1 old2 first second told k h = tt
-knows_next BumpingShared x seen.Start old1 old2 first second told k h = tt
-knows_next BumpingExclusive x seen.Start old1 old2 first second told k h = tt
-knows_next (Loads a) x (seen.Word v) old1 old2 first second told k h = calm_knows (next_phase (Loads a) (seen.Word v)) first second (seeks_calm a v)
-knows_next (Admits a word) x seen.Exchanged old1 old2 first second told k h = calm_knows (next_phase (Admits a word) seen.Exchanged) first second (admits_calm a.want false)
-knows_next (Admits a word) x (seen.Word v) old1 old2 first second told k h = calm_knows (next_phase (Admits a word) (seen.Word v)) first second (seeks_calm a v)
-knows_next (Spins a) x (seen.Spun spun) old1 old2 first second told k h = tt
-knows_next (SetParked a word) x seen.Exchanged old1 old2 first second told k h = tt
-knows_next (SetParked a word) x (seen.Word v) old1 old2 first second told k h = calm_knows (next_phase (SetParked a word) (seen.Word v)) first second (seeks_calm a v)
-knows_next (Enters want woken) x seen.Entered old1 old2 first second told k h = tt
-knows_next (Checks want woken) x (seen.Word v) old1 old2 first second told k h = calm_knows (next_phase (Checks want woken) (seen.Word v)) first second (one_of IsCalm (is_barred want v && is_parked v) _ _ tt tt)
-knows_next (Retreats want woken) x seen.Made old1 old2 first second told k h = tt
-knows_next (Appends want) x seen.Made old1 old2 first second told k h = tt
-knows_next (Rests want) x seen.Made old1 old2 first second told k h = tt
-knows_next (Sleeps want) x (seen.Woken token) old1 old2 first second told k h = calm_knows (next_phase (Sleeps want) (seen.Woken token)) first second (one_of IsCalm (token.0 == 1) _ _ (admits_calm want true) tt)
-knows_next (DrainLoads d) x (seen.Word v) old1 old2 first second told k h = calm_knows (next_phase (DrainLoads d) (seen.Word v)) first second (drains_calm d v)
-knows_next (DrainSpins d) x (seen.Spun spun) old1 old2 first second told k h = tt
-knows_next (DrainSetParked d word) x seen.Exchanged old1 old2 first second told k h = tt
-knows_next (DrainSetParked d word) x (seen.Word v) old1 old2 first second told k h = calm_knows (next_phase (DrainSetParked d word) (seen.Word v)) first second (drains_calm d v)
-knows_next (DrainEnters d) x seen.Entered old1 old2 first second told k h = tt
-knows_next (DrainChecks d) x (seen.Word v) old1 old2 first second told k h = calm_knows (next_phase (DrainChecks d) (seen.Word v)) first second (one_of IsCalm (has_readers v && is_writer_parked v) _ _ tt tt)
-knows_next (DrainRetreats d) x seen.Made old1 old2 first second told k h = tt
-knows_next (DrainAppends rounds) x seen.Made old1 old2 first second told k h = tt
-knows_next (DrainRests rounds) x seen.Made old1 old2 first second told k h = tt
-knows_next (DrainSleeps rounds) x (seen.Woken token) old1 old2 first second told k h = tt
-knows_next (TryLoads want) x (seen.Word v) old1 old2 first second told k h = calm_knows (next_phase (TryLoads want) (seen.Word v)) first second (tries_calm want 63 v)
-knows_next (TryAdmits want word left) x seen.Exchanged old1 old2 first second told k h = tt
-knows_next (TryAdmits want word left) x (seen.Word v) old1 old2 first second told k h = calm_knows (next_phase (TryAdmits want word left) (seen.Word v)) first second (one_of IsCalm (nat_lt 0 left) _ _ (tries_calm want (left - 1) v) tt)
-knows_next (BumpLoads want) x (seen.Word v) old1 old2 first second told k h = calm_knows (next_phase (BumpLoads want) (seen.Word v)) first second (bumps_calm want v)
-knows_next (Relocks want) x (seen.Word v) old1 old2 first second told k h = calm_knows (next_phase (Relocks want) (seen.Word v)) first second (seeks_calm (begins want false) v)
-knows_next (Unshares rest) x (seen.Before v) old1 old2 first second told k h = calm_knows (next_phase (Unshares rest) (seen.Before v)) first second (one_of IsCalm (v / 16 == 1 && is_writer_parked v) _ _ tt (over_calm rest))
-knows_next (EnterWriterWakeSection rest) x seen.Entered old1 old2 first second told k h = tt
-knows_next (ClearWriterParked rest taken) x (seen.Before v) old1 old2 first second told k h = tt
-knows_next (LeaveWriterWakeSection rest taken) x seen.Made old1 old2 first second told k h = calm_knows (next_phase (LeaveWriterWakeSection rest taken) seen.Made) first second (wakes_calm rest (bit taken))
-knows_next (Unlocks fair rest) x seen.Exchanged old1 old2 first second told k h = calm_knows (next_phase (Unlocks fair rest) seen.Exchanged) first second (over_calm rest)
-knows_next (Unlocks fair rest) x (seen.Word v) old1 old2 first second told k h = tt
-knows_next Downgrades x (seen.Before v) old1 old2 first second told k h = calm_knows (next_phase Downgrades (seen.Before v)) first second (one_of IsCalm (is_parked v) _ _ tt tt)
-knows_next (Stores a left) x (seen.Stored fair) old1 old2 first second told k h = tt
-knows_next (Leaves rest count handed) x seen.Made old1 old2 first second told k h = calm_knows (next_phase (Leaves rest count handed) seen.Made) first second (wakes_calm rest count)
-knows_next (Wakes rest count) x seen.Made old1 old2 first second told k h = calm_knows (next_phase (Wakes rest count) seen.Made) first second (wakes_calm rest (count - 1))
+knows_next (Scans a) x (ActResult.Took (Some token) left) old1 old2 first second told k h = takes_knows a left token first second k h.0 h.1
+knows_next (Scans a) x (ActResult.Took None left) old1 old2 first second told k h = (k, h.0, inr h.1)
+knows_next (TakeWriter rest) x (ActResult.Took token left) old1 old2 first second told k h = h
+knows_next (LooksExclusive fair rest) x ActResult.Entered old1 old2 first second told k h = refl
+knows_next EnterWakeSection x ActResult.Entered old1 old2 first second told k h = refl
+knows_next (Locking want) x ActResult.Start old1 old2 first second told k h = tt
+knows_next (Trying want) x ActResult.Start old1 old2 first second told k h = tt
+knows_next UnlockingShared x ActResult.Start old1 old2 first second told k h = tt
+knows_next (UnlockingExclusive fair) x ActResult.Start old1 old2 first second told k h = tt
+knows_next Downgrading x ActResult.Start old1 old2 first second told k h = tt
+knows_next BumpingShared x ActResult.Start old1 old2 first second told k h = tt
+knows_next BumpingExclusive x ActResult.Start old1 old2 first second told k h = tt
+knows_next (Loads a) x (ActResult.Word v) old1 old2 first second told k h = calm_knows (next_phase (Loads a) (ActResult.Word v)) first second (seeks_calm a v)
+knows_next (Admits a word) x ActResult.Exchanged old1 old2 first second told k h = calm_knows (next_phase (Admits a word) ActResult.Exchanged) first second (admits_calm a.want false)
+knows_next (Admits a word) x (ActResult.Word v) old1 old2 first second told k h = calm_knows (next_phase (Admits a word) (ActResult.Word v)) first second (seeks_calm a v)
+knows_next (Spins a) x (ActResult.Spun spun) old1 old2 first second told k h = tt
+knows_next (SetParked a word) x ActResult.Exchanged old1 old2 first second told k h = tt
+knows_next (SetParked a word) x (ActResult.Word v) old1 old2 first second told k h = calm_knows (next_phase (SetParked a word) (ActResult.Word v)) first second (seeks_calm a v)
+knows_next (Enters want woken) x ActResult.Entered old1 old2 first second told k h = tt
+knows_next (Checks want woken) x (ActResult.Word v) old1 old2 first second told k h = calm_knows (next_phase (Checks want woken) (ActResult.Word v)) first second (one_of IsCalm (is_barred want v && is_parked v) _ _ tt tt)
+knows_next (Retreats want woken) x ActResult.Made old1 old2 first second told k h = tt
+knows_next (Appends want) x ActResult.Made old1 old2 first second told k h = tt
+knows_next (Rests want) x ActResult.Made old1 old2 first second told k h = tt
+knows_next (Sleeps want) x (ActResult.Woken token) old1 old2 first second told k h = calm_knows (next_phase (Sleeps want) (ActResult.Woken token)) first second (one_of IsCalm (token.0 == 1) _ _ (admits_calm want true) tt)
+knows_next (DrainLoads d) x (ActResult.Word v) old1 old2 first second told k h = calm_knows (next_phase (DrainLoads d) (ActResult.Word v)) first second (drains_calm d v)
+knows_next (DrainSpins d) x (ActResult.Spun spun) old1 old2 first second told k h = tt
+knows_next (DrainSetParked d word) x ActResult.Exchanged old1 old2 first second told k h = tt
+knows_next (DrainSetParked d word) x (ActResult.Word v) old1 old2 first second told k h = calm_knows (next_phase (DrainSetParked d word) (ActResult.Word v)) first second (drains_calm d v)
+knows_next (DrainEnters d) x ActResult.Entered old1 old2 first second told k h = tt
+knows_next (DrainChecks d) x (ActResult.Word v) old1 old2 first second told k h = calm_knows (next_phase (DrainChecks d) (ActResult.Word v)) first second (one_of IsCalm (has_readers v && is_writer_parked v) _ _ tt tt)
+knows_next (DrainRetreats d) x ActResult.Made old1 old2 first second told k h = tt
+knows_next (DrainAppends rounds) x ActResult.Made old1 old2 first second told k h = tt
+knows_next (DrainRests rounds) x ActResult.Made old1 old2 first second told k h = tt
+knows_next (DrainSleeps rounds) x (ActResult.Woken token) old1 old2 first second told k h = tt
+knows_next (TryLoads want) x (ActResult.Word v) old1 old2 first second told k h = calm_knows (next_phase (TryLoads want) (ActResult.Word v)) first second (tries_calm want 63 v)
+knows_next (TryAdmits want word left) x ActResult.Exchanged old1 old2 first second told k h = tt
+knows_next (TryAdmits want word left) x (ActResult.Word v) old1 old2 first second told k h = calm_knows (next_phase (TryAdmits want word left) (ActResult.Word v)) first second (one_of IsCalm (nat_lt 0 left) _ _ (tries_calm want (left - 1) v) tt)
+knows_next (BumpLoads want) x (ActResult.Word v) old1 old2 first second told k h = calm_knows (next_phase (BumpLoads want) (ActResult.Word v)) first second (bumps_calm want v)
+knows_next (Relocks want) x (ActResult.Word v) old1 old2 first second told k h = calm_knows (next_phase (Relocks want) (ActResult.Word v)) first second (seeks_calm (begins want false) v)
+knows_next (Unshares rest) x (ActResult.Before v) old1 old2 first second told k h = calm_knows (next_phase (Unshares rest) (ActResult.Before v)) first second (one_of IsCalm (v / 16 == 1 && is_writer_parked v) _ _ tt (over_calm rest))
+knows_next (EnterWriterWakeSection rest) x ActResult.Entered old1 old2 first second told k h = tt
+knows_next (ClearWriterParked rest taken) x (ActResult.Before v) old1 old2 first second told k h = tt
+knows_next (LeaveWriterWakeSection rest taken) x ActResult.Made old1 old2 first second told k h = calm_knows (next_phase (LeaveWriterWakeSection rest taken) ActResult.Made) first second (wakes_calm rest (bit taken))
+knows_next (Unlocks fair rest) x ActResult.Exchanged old1 old2 first second told k h = calm_knows (next_phase (Unlocks fair rest) ActResult.Exchanged) first second (over_calm rest)
+knows_next (Unlocks fair rest) x (ActResult.Word v) old1 old2 first second told k h = tt
+knows_next Downgrades x (ActResult.Before v) old1 old2 first second told k h = calm_knows (next_phase Downgrades (ActResult.Before v)) first second (one_of IsCalm (is_parked v) _ _ tt tt)
+knows_next (Stores a left) x (ActResult.Stored fair) old1 old2 first second told k h = tt
+knows_next (Leaves rest count handed) x ActResult.Made old1 old2 first second told k h = calm_knows (next_phase (Leaves rest count handed) ActResult.Made) first second (wakes_calm rest count)
+knows_next (Wakes rest count) x ActResult.Made old1 old2 first second told k h = calm_knows (next_phase (Wakes rest count) ActResult.Made) first second (wakes_calm rest (count - 1))
 knows_next (Finishes rest) x s old1 old2 first second told k h = calm_knows (next_phase (Finishes rest) s) first second (finishes_calm rest x s told)
 knows_next p x s old1 old2 first second told k h = absurd told
 

@@ -12,7 +12,6 @@ use Rattle.parking_lot_rules.specs.Roles as rules
 use Rattle.parking_lot_rules.specs.Clauses.{word_of}
 use Rattle.parking_lot_rules.specs.Lock.{Lock, IsSound}
 use Rattle.parking_lot_protocol.specs.declared.act.ActResult.{ActResult}
-use Rattle.parking_lot_protocol.specs.declared.act.ActResult.TheVariants as seen
 use Rattle.parking_lot_protocol.specs.declared.rw_phase.LockMode.{LockMode}
 use Rattle.parking_lot_protocol.specs.declared.rw_phase.LockMode.TheVariants.{Shared, Exclusive}
 use Rattle.parking_lot_protocol.specs.declared.rw_phase.AfterWake.{AfterWake}
@@ -88,7 +87,7 @@ module _ (n : ℕ) where
   abbrev KeepsAt : Scanning → Bool → ℕ → Type 0
   KeepsAt a left y = Keeps (option_map_or (λ q. q) (scans a (Some (record { 0 = y })) left) Invalid)
 
-  takes_keeps : (a : Scanning) (left : Bool) (token : ParkToken) → rest_keeps n a.rest → IsToken (Some token) → Keeps (next_phase (Scans a) (seen.Took (Some token) left))
+  takes_keeps : (a : Scanning) (left : Bool) (token : ParkToken) → rest_keeps n a.rest → IsToken (Some token) → Keeps (next_phase (Scans a) (ActResult.Took (Some token) left))
   takes_keeps a left token k t = by_token t
     where
       by_token : IsToken (Some token) → KeepsAt a left token.0
@@ -97,53 +96,53 @@ module _ (n : ℕ) where
       by_token (inr (inr e)) = subst (KeepsAt a left) (sym e) (goes_keeps (record a { upgradable = true }) left k)
 
   finishes_keeps : (rest : AfterWake) (x : ℕ) (s : ActResult) → rest_keeps n rest → IsTold (Finishes rest) x s → Keeps (next_phase (Finishes rest) s)
-  finishes_keeps AgainShared x (seen.Word v) k told = k
-  finishes_keeps AgainExclusive x (seen.Word v) k told = k
+  finishes_keeps AgainShared x (ActResult.Word v) k told = k
+  finishes_keeps AgainExclusive x (ActResult.Word v) k told = k
   finishes_keeps rest x s k told = absurd told
 
   keeps_on : (p : RwPhase) (x : ℕ) (s : ActResult) → Keeps p → IsTold p x s → Keeps (next_phase p s)
-  keeps_on (Loads a) x (seen.Word v) k told = seeks_keeps a v k
-  keeps_on (Admits a word) x seen.Exchanged k told = admits_keeps a.want false k
-  keeps_on (Admits a word) x (seen.Word v) k told = seeks_keeps a v k
-  keeps_on (Spins a) x (seen.Spun spun) k told = k
-  keeps_on (SetParked a word) x seen.Exchanged k told = k
-  keeps_on (SetParked a word) x (seen.Word v) k told = seeks_keeps a v k
-  keeps_on (Enters want woken) x seen.Entered k told = k
-  keeps_on (Checks want woken) x (seen.Word v) k told = one_of Keeps (is_barred want v && is_parked v) _ _ k k
-  keeps_on (Retreats want woken) x seen.Made k told = k
-  keeps_on (Appends want) x seen.Made k told = k
-  keeps_on (Rests want) x seen.Made k told = k
-  keeps_on (Sleeps want) x (seen.Woken token) k told = one_of Keeps (token.0 == 1) _ _ (admits_keeps want true k) k
-  keeps_on (DrainLoads d) x (seen.Word v) k told = drains_keeps d v k
-  keeps_on (DrainSpins d) x (seen.Spun spun) k told = k
-  keeps_on (DrainSetParked d word) x seen.Exchanged k told = k
-  keeps_on (DrainSetParked d word) x (seen.Word v) k told = drains_keeps d v k
-  keeps_on (DrainEnters d) x seen.Entered k told = k
-  keeps_on (DrainChecks d) x (seen.Word v) k told = one_of Keeps (has_readers v && is_writer_parked v) _ _ k k
-  keeps_on (DrainRetreats d) x seen.Made k told = k
-  keeps_on (DrainAppends rounds) x seen.Made k told = k
-  keeps_on (DrainRests rounds) x seen.Made k told = k
-  keeps_on (DrainSleeps rounds) x (seen.Woken token) k told = k
-  keeps_on (TryLoads want) x (seen.Word v) k told = tries_keeps want 63 v k
-  keeps_on (TryAdmits want word left) x seen.Exchanged k told = tt
-  keeps_on (TryAdmits want word left) x (seen.Word v) k told = one_of Keeps (nat_lt 0 left) _ _ (tries_keeps want (left - 1) v k) k
-  keeps_on (BumpLoads want) x (seen.Word v) k told = bumps_keeps want v k
-  keeps_on (Relocks want) x (seen.Word v) k told = seeks_keeps (begins want false) v k
-  keeps_on (Unshares rest) x (seen.Before v) k told = one_of Keeps (v / 16 == 1 && is_writer_parked v) _ _ k (over_keeps rest k)
-  keeps_on (EnterWriterWakeSection rest) x seen.Entered k told = k
-  keeps_on (TakeWriter rest) x (seen.Took token left) k told = k
-  keeps_on (ClearWriterParked rest taken) x (seen.Before v) k told = k
-  keeps_on (LeaveWriterWakeSection rest taken) x seen.Made k told = wakes_keeps rest _ k
-  keeps_on (Unlocks fair rest) x seen.Exchanged k told = over_keeps rest (zero_keeps rest k)
-  keeps_on (Unlocks fair rest) x (seen.Word v) k told = k
-  keeps_on (LooksExclusive fair rest) x seen.Entered k told = (zero_keeps rest k, refl)
-  keeps_on Downgrades x (seen.Before v) k told = one_of Keeps (is_parked v) _ _ tt tt
-  keeps_on EnterWakeSection x seen.Entered k told = (tt, refl)
-  keeps_on (Scans a) x (seen.Took (Some token) left) k told = takes_keeps a left token k.0 told
-  keeps_on (Scans a) x (seen.Took None left) k told = k.0
-  keeps_on (Stores a left) x (seen.Stored fair) k told = k
-  keeps_on (Leaves rest count handed) x seen.Made k told = wakes_keeps rest count k
-  keeps_on (Wakes rest count) x seen.Made k told = wakes_keeps rest (count - 1) k
+  keeps_on (Loads a) x (ActResult.Word v) k told = seeks_keeps a v k
+  keeps_on (Admits a word) x ActResult.Exchanged k told = admits_keeps a.want false k
+  keeps_on (Admits a word) x (ActResult.Word v) k told = seeks_keeps a v k
+  keeps_on (Spins a) x (ActResult.Spun spun) k told = k
+  keeps_on (SetParked a word) x ActResult.Exchanged k told = k
+  keeps_on (SetParked a word) x (ActResult.Word v) k told = seeks_keeps a v k
+  keeps_on (Enters want woken) x ActResult.Entered k told = k
+  keeps_on (Checks want woken) x (ActResult.Word v) k told = one_of Keeps (is_barred want v && is_parked v) _ _ k k
+  keeps_on (Retreats want woken) x ActResult.Made k told = k
+  keeps_on (Appends want) x ActResult.Made k told = k
+  keeps_on (Rests want) x ActResult.Made k told = k
+  keeps_on (Sleeps want) x (ActResult.Woken token) k told = one_of Keeps (token.0 == 1) _ _ (admits_keeps want true k) k
+  keeps_on (DrainLoads d) x (ActResult.Word v) k told = drains_keeps d v k
+  keeps_on (DrainSpins d) x (ActResult.Spun spun) k told = k
+  keeps_on (DrainSetParked d word) x ActResult.Exchanged k told = k
+  keeps_on (DrainSetParked d word) x (ActResult.Word v) k told = drains_keeps d v k
+  keeps_on (DrainEnters d) x ActResult.Entered k told = k
+  keeps_on (DrainChecks d) x (ActResult.Word v) k told = one_of Keeps (has_readers v && is_writer_parked v) _ _ k k
+  keeps_on (DrainRetreats d) x ActResult.Made k told = k
+  keeps_on (DrainAppends rounds) x ActResult.Made k told = k
+  keeps_on (DrainRests rounds) x ActResult.Made k told = k
+  keeps_on (DrainSleeps rounds) x (ActResult.Woken token) k told = k
+  keeps_on (TryLoads want) x (ActResult.Word v) k told = tries_keeps want 63 v k
+  keeps_on (TryAdmits want word left) x ActResult.Exchanged k told = tt
+  keeps_on (TryAdmits want word left) x (ActResult.Word v) k told = one_of Keeps (nat_lt 0 left) _ _ (tries_keeps want (left - 1) v k) k
+  keeps_on (BumpLoads want) x (ActResult.Word v) k told = bumps_keeps want v k
+  keeps_on (Relocks want) x (ActResult.Word v) k told = seeks_keeps (begins want false) v k
+  keeps_on (Unshares rest) x (ActResult.Before v) k told = one_of Keeps (v / 16 == 1 && is_writer_parked v) _ _ k (over_keeps rest k)
+  keeps_on (EnterWriterWakeSection rest) x ActResult.Entered k told = k
+  keeps_on (TakeWriter rest) x (ActResult.Took token left) k told = k
+  keeps_on (ClearWriterParked rest taken) x (ActResult.Before v) k told = k
+  keeps_on (LeaveWriterWakeSection rest taken) x ActResult.Made k told = wakes_keeps rest _ k
+  keeps_on (Unlocks fair rest) x ActResult.Exchanged k told = over_keeps rest (zero_keeps rest k)
+  keeps_on (Unlocks fair rest) x (ActResult.Word v) k told = k
+  keeps_on (LooksExclusive fair rest) x ActResult.Entered k told = (zero_keeps rest k, refl)
+  keeps_on Downgrades x (ActResult.Before v) k told = one_of Keeps (is_parked v) _ _ tt tt
+  keeps_on EnterWakeSection x ActResult.Entered k told = (tt, refl)
+  keeps_on (Scans a) x (ActResult.Took (Some token) left) k told = takes_keeps a left token k.0 told
+  keeps_on (Scans a) x (ActResult.Took None left) k told = k.0
+  keeps_on (Stores a left) x (ActResult.Stored fair) k told = k
+  keeps_on (Leaves rest count handed) x ActResult.Made k told = wakes_keeps rest count k
+  keeps_on (Wakes rest count) x ActResult.Made k told = wakes_keeps rest (count - 1) k
   keeps_on (Finishes rest) x s k told = finishes_keeps rest x s k told
   keeps_on (Locking want) x s k told = absurd k
   keeps_on (Trying want) x s k told = absurd k
@@ -155,7 +154,7 @@ module _ (n : ℕ) where
   keeps_on Invalid x s k told = absurd k
   keeps_on p x s k told = absurd told
 
-  begins_keep : (p : RwPhase) → rw_begins n p → Keeps (next_phase p seen.Start)
+  begins_keep : (p : RwPhase) → rw_begins n p → Keeps (next_phase p ActResult.Start)
   begins_keep (Locking want) m = m
   begins_keep (Trying want) m = m
   begins_keep UnlockingShared m = tt

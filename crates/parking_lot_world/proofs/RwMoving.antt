@@ -14,9 +14,7 @@ use Rattle.parking_lot_rules.specs.Steps.{Alone, after}
 use Rattle.parking_lot_rules.proofs.Totals.{total-at}
 use Rattle.parking_lot_rules.proofs.Sounds.{step_sound}
 use Rattle.parking_lot_protocol.specs.declared.act.ActResult.{ActResult}
-use Rattle.parking_lot_protocol.specs.declared.act.ActResult.TheVariants as seen
 use Rattle.parking_lot_protocol.specs.declared.rw_phase.LockMode.{LockMode}
-use Rattle.parking_lot_protocol.specs.declared.rw_phase.LockMode.TheVariants as want
 use Rattle.parking_lot_protocol.specs.declared.rw_phase.RwPhase.{RwPhase}
 use Rattle.parking_lot_protocol.specs.declared.rw_phase.Draining.{Draining}
 use Rattle.parking_lot_protocol.specs.declared.rw_phase.RwPhase.TheVariants.{Locking, Trying, Loads, Admits, Spins, SetParked, Enters, Checks, Sleeps, DrainLoads, DrainSetParked, DrainEnters, DrainChecks, DrainSleeps, TryLoads, TryAdmits, Refuses, Relocks, Unshares, EnterWriterWakeSection, TakeWriter, ClearWriterParked, Unlocks, LooksExclusive, Downgrades, EnterWakeSection, Scans, Stores, Appends, DrainAppends}
@@ -74,9 +72,9 @@ total_most k (r ∷ rs) few =
 -- WHAT FITS A PHASE
 
 asks : (n : ℕ) (want : LockMode) (w v : Word) → MayAsk false n want w → MayAsk false n want v
-asks n (want.Shared true) w v m = absurd (both_ways false refl m.0)
-asks n (want.Shared false) w v m = m
-asks n want.Exclusive w v m = m
+asks n (LockMode.Shared true) w v m = absurd (both_ways false refl m.0)
+asks n (LockMode.Shared false) w v m = m
+asks n LockMode.Exclusive w v m = m
 
 shares_weigh : (n : ℕ) → weight Readers (record { owns = Shares (n + 1); does = rules.Idle }) ≡ n + 1
 unfolding weight
@@ -144,7 +142,7 @@ IsOwn m = Unit {0}
 
 -- it isn't asleep then
 pub awake : (n : ℕ) (spot : QueuePosition) (us : List ℕ) (p : RwPhase) (x : ℕ) (s : ActResult) → IsTold p x s → IsOwn (move n us p s) → role n spot us p ≡ role n Listed us p
-awake n spot us (Sleeps want) x (seen.Woken token) told own = absurd own
+awake n spot us (Sleeps want) x (ActResult.Woken token) told own = absurd own
 awake n spot us (Sleeps want) x s told own = absurd told
 awake n spot us (DrainSleeps rounds) x s told own = absurd own
 awake n spot us p x s told own = refl
@@ -205,41 +203,41 @@ finds l n us (LooksExclusive fair rest) x s told found = found
 finds l n us EnterWakeSection x s told found = found
 finds l n us (Locking a) x s told found = tt
 finds l n us (Trying a) x s told found = tt
-finds l n us (Admits a word) x seen.Exchanged told found = admits a.want
+finds l n us (Admits a word) x ActResult.Exchanged told found = admits a.want
   where
     admits : (q : LockMode) → MoveClears (Makes (admission n q a.woken)) l
-    admits (want.Shared recursive) = tt
-    admits want.Exclusive = tt
-finds l n us (SetParked a word) x seen.Exchanged told found = tt
-finds l n us (Checks a woken) x (seen.Word word) told found = go (is_barred a word && is_parked word)
+    admits (LockMode.Shared recursive) = tt
+    admits LockMode.Exclusive = tt
+finds l n us (SetParked a word) x ActResult.Exchanged told found = tt
+finds l n us (Checks a woken) x (ActResult.Word word) told found = go (is_barred a word && is_parked word)
   where
     go : (b : Bool) → MoveClears (cond b (Makes (plain.Check1 (mode_of a) woken)) Stays) l
     go true = tt
     go false = tt
-finds l n us (DrainLoads d) x (seen.Word word) told found = drains l d (has_readers word)
-finds l n us (DrainSetParked d flagged) x (seen.Word word) told found = drains l d (has_readers word)
-finds l n us (DrainChecks d) x (seen.Word word) told found = go (has_readers word && is_writer_parked word)
+finds l n us (DrainLoads d) x (ActResult.Word word) told found = drains l d (has_readers word)
+finds l n us (DrainSetParked d flagged) x (ActResult.Word word) told found = drains l d (has_readers word)
+finds l n us (DrainChecks d) x (ActResult.Word word) told found = go (has_readers word && is_writer_parked word)
   where
     go : (b : Bool) → MoveClears (cond b (Makes (plain.Check2 false d.woken)) Stays) l
     go true = tt
     go false = tt
-finds l n us (TryAdmits a word left) x seen.Exchanged told found = admits a
+finds l n us (TryAdmits a word left) x ActResult.Exchanged told found = admits a
   where
     admits : (q : LockMode) → MoveClears (Makes (try_admission n q)) l
-    admits (want.Shared recursive) = tt
-    admits want.Exclusive = tt
-finds l n us (Unshares rest) x (seen.Before word) told found = go (word / 16 == 1 && is_writer_parked word)
+    admits (LockMode.Shared recursive) = tt
+    admits LockMode.Exclusive = tt
+finds l n us (Unshares rest) x (ActResult.Before word) told found = go (word / 16 == 1 && is_writer_parked word)
   where
     go : (b : Bool) → Clears (cond b (plain.UnshareLast n) (plain.Unshare n)) l
     go true = tt
     go false = tt
-finds l n us (TakeWriter rest) x (seen.Took (Some token) left) told found = tt
-finds l n us (Scans a) x (seen.Took (Some token) left) told found = tt
-finds l n us (Sleeps a) x (seen.Woken token) told found = tt
-finds l n us (DrainSetParked d flagged) x seen.Exchanged told found = tt
-finds l n us (Unlocks fair rest) x seen.Exchanged told found = tt
-finds l n us Downgrades x (seen.Before word) told found = tt
-finds l n us (Stores a left) x (seen.Stored fair) told found = tt
+finds l n us (TakeWriter rest) x (ActResult.Took (Some token) left) told found = tt
+finds l n us (Scans a) x (ActResult.Took (Some token) left) told found = tt
+finds l n us (Sleeps a) x (ActResult.Woken token) told found = tt
+finds l n us (DrainSetParked d flagged) x ActResult.Exchanged told found = tt
+finds l n us (Unlocks fair rest) x ActResult.Exchanged told found = tt
+finds l n us Downgrades x (ActResult.Before word) told found = tt
+finds l n us (Stores a left) x (ActResult.Stored fair) told found = tt
 finds l n us p x s told found = tt
 
 pub makes_are_steps : MakesAreSteps
@@ -257,9 +255,9 @@ makes_are_steps l t n spot us p x s k h told e found =
 pub joins_are_steps : JoinsAreSteps
 joins_are_steps = record {
   first = λ l t n spot us want x h.
-      let m = (moved l t n spot us (Appends want) x h seen.Made tt).0 in
+      let m = (moved l t n spot us (Appends want) x h ActResult.Made tt).0 in
       ((h.here ∙ ap (λ r. Some r) m.0, tt), λ i. record l { word = h.word i; roles = slice_set l.roles t (sym m.1 i); first = l.first ++ t ∷ [] });
   second = λ l t n spot us rounds x h.
-      let m = (moved l t n spot us (DrainAppends rounds) x h seen.Made tt).0 in
+      let m = (moved l t n spot us (DrainAppends rounds) x h ActResult.Made tt).0 in
       ((h.here ∙ ap (λ r. Some r) m.0, tt), λ i. record l { word = h.word i; roles = slice_set l.roles t (sym m.1 i); second = l.second ++ t ∷ [] });
 }

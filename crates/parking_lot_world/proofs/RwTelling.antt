@@ -15,9 +15,7 @@ use Rattle.parking_lot_protocol.specs.declared.rw_phase.RwPhase.TheVariants.{Sle
 use Rattle.parking_lot_protocol.specs.RwRules.{role, mode_of}
 use Rattle.parking_lot_protocol.specs.RwRules as rules_of
 use Rattle.parking_lot_world.specs.declared.seat.QueuePosition.{QueuePosition}
-use Rattle.parking_lot_world.specs.declared.seat.QueuePosition.TheVariants as spot
 use Rattle.parking_lot_world.specs.declared.seat.WakeResult.{WakeResult}
-use Rattle.parking_lot_world.specs.declared.seat.WakeResult.TheVariants as told
 use Rattle.parking_lot_world.specs.Rows.{rw_spot, mark_of}
 use Rattle.parking_lot_world.specs.RwLaws.{told_by, StoresTell}
 
@@ -37,34 +35,34 @@ open_none l t u mine own m stay h at none there =
     omega arith
 
 -- one that was taken by t is told
-is_told : (t by n : ℕ) (us : List ℕ) (want : LockMode) (said : WakeResult) → by ≡ t → role n (told_by t said (spot.Off by told.Nothing)) us (Sleeps want) ≡ settle (mark_of said) (role n (rw_spot (spot.Off by told.Nothing)) us (Sleeps want))
-is_told t by n us want said e = ap (λ b. role n (rules_of.Off by (mark_of (cond b said told.Nothing))) us (Sleeps want)) (eq-eqb by t e)
+is_told : (t by n : ℕ) (us : List ℕ) (want : LockMode) (said : WakeResult) → by ≡ t → role n (told_by t said (QueuePosition.Off by WakeResult.Nothing)) us (Sleeps want) ≡ settle (mark_of said) (role n (rw_spot (QueuePosition.Off by WakeResult.Nothing)) us (Sleeps want))
+is_told t by n us want said e = ap (λ b. role n (rules_of.Off by (mark_of (cond b said WakeResult.Nothing))) us (Sleeps want)) (eq-eqb by t e)
 
 told_here : (l : Lock) (t u n : ℕ) (at : QueuePosition) (us : List ℕ) (p : RwPhase) (scan : Scan) (said : WakeResult) → IsSound l → slice_get l.roles t ≡ Some (scanning scan) → slice_get l.roles u ≡ Some (role n (rw_spot at) us p)
     → role n (told_by t said at) us p ≡ settle (mark_of said) (role n (rw_spot at) us p)
-told_here l t u n spot.Listed us (Sleeps want) scan said h mine there = refl
-told_here l t u n (spot.Off by told.Nothing) us (Sleeps want) scan said h mine there = is_told t by n us want said (open_by l t u by scan _ _ _ h mine there)
-told_here l t u n (spot.Off by told.TryAgain) us (Sleeps want) scan said h mine there = refl
-told_here l t u n (spot.Off by told.HandedOver) us (Sleeps want) scan said h mine there = refl
-told_here l t u n spot.Listed us (DrainSleeps rounds) scan said h mine there = refl
-told_here l t u n (spot.Off by told.Nothing) us (DrainSleeps rounds) scan said h mine there = refl
-told_here l t u n (spot.Off by told.TryAgain) us (DrainSleeps rounds) scan said h mine there = refl
-told_here l t u n (spot.Off by told.HandedOver) us (DrainSleeps rounds) scan said h mine there = refl
+told_here l t u n QueuePosition.Listed us (Sleeps want) scan said h mine there = refl
+told_here l t u n (QueuePosition.Off by WakeResult.Nothing) us (Sleeps want) scan said h mine there = is_told t by n us want said (open_by l t u by scan _ _ _ h mine there)
+told_here l t u n (QueuePosition.Off by WakeResult.TryAgain) us (Sleeps want) scan said h mine there = refl
+told_here l t u n (QueuePosition.Off by WakeResult.HandedOver) us (Sleeps want) scan said h mine there = refl
+told_here l t u n QueuePosition.Listed us (DrainSleeps rounds) scan said h mine there = refl
+told_here l t u n (QueuePosition.Off by WakeResult.Nothing) us (DrainSleeps rounds) scan said h mine there = refl
+told_here l t u n (QueuePosition.Off by WakeResult.TryAgain) us (DrainSleeps rounds) scan said h mine there = refl
+told_here l t u n (QueuePosition.Off by WakeResult.HandedOver) us (DrainSleeps rounds) scan said h mine there = refl
 told_here l t u n at us p scan said h mine there = refl
 
 told_elsewhere : (l : Lock) (t u n : ℕ) (at : QueuePosition) (us : List ℕ) (p : RwPhase) (own : Role) (said : WakeResult) → IsSound l → slice_get l.roles t ≡ Some own → to_wake own.does (On1 rules.Open) ≡ [] → slice_get l.roles u ≡ Some (role n (rw_spot at) us p)
     → role n (told_by t said at) us p ≡ role n (rw_spot at) us p
-told_elsewhere l t u n spot.Listed us (Sleeps want) own said h mine none there = refl
-told_elsewhere l t u n (spot.Off by told.Nothing) us (Sleeps want) own said h mine none there = ⊎_elim
+told_elsewhere l t u n QueuePosition.Listed us (Sleeps want) own said h mine none there = refl
+told_elsewhere l t u n (QueuePosition.Off by WakeResult.Nothing) us (Sleeps want) own said h mine none there = ⊎_elim
     (λ e. let same = subst (λ y. slice_get l.roles u ≡ Some (record { owns = rules.Shares n; does = rules.Taken1 (mode_of want) y rules.Open rules.Asleep })) e there in absurd (open_none l t u own _ _ _ h mine none same))
-    (λ ne. ap (λ b. role n (rules_of.Off by (mark_of (cond b said told.Nothing))) us (Sleeps want)) (ne_eqb by t ne))
+    (λ ne. ap (λ b. role n (rules_of.Off by (mark_of (cond b said WakeResult.Nothing))) us (Sleeps want)) (ne_eqb by t ne))
     (cases_eq by t)
-told_elsewhere l t u n (spot.Off by told.TryAgain) us (Sleeps want) own said h mine none there = refl
-told_elsewhere l t u n (spot.Off by told.HandedOver) us (Sleeps want) own said h mine none there = refl
-told_elsewhere l t u n spot.Listed us (DrainSleeps rounds) own said h mine none there = refl
-told_elsewhere l t u n (spot.Off by told.Nothing) us (DrainSleeps rounds) own said h mine none there = refl
-told_elsewhere l t u n (spot.Off by told.TryAgain) us (DrainSleeps rounds) own said h mine none there = refl
-told_elsewhere l t u n (spot.Off by told.HandedOver) us (DrainSleeps rounds) own said h mine none there = refl
+told_elsewhere l t u n (QueuePosition.Off by WakeResult.TryAgain) us (Sleeps want) own said h mine none there = refl
+told_elsewhere l t u n (QueuePosition.Off by WakeResult.HandedOver) us (Sleeps want) own said h mine none there = refl
+told_elsewhere l t u n QueuePosition.Listed us (DrainSleeps rounds) own said h mine none there = refl
+told_elsewhere l t u n (QueuePosition.Off by WakeResult.Nothing) us (DrainSleeps rounds) own said h mine none there = refl
+told_elsewhere l t u n (QueuePosition.Off by WakeResult.TryAgain) us (DrainSleeps rounds) own said h mine none there = refl
+told_elsewhere l t u n (QueuePosition.Off by WakeResult.HandedOver) us (DrainSleeps rounds) own said h mine none there = refl
 told_elsewhere l t u n at us p own said h mine none there = refl
 
 pub stores_tell : StoresTell

@@ -12,7 +12,6 @@ use Rattle.parking_lot_rules.proofs.Sounds.{step_sound}
 use Rattle.parking_lot_rules.specs.Classes.{bit}
 use Rattle.parking_lot_protocol.specs.declared.act.ActResult.TheVariants as seen
 use Rattle.parking_lot_protocol.specs.declared.rw_phase.LockMode.{LockMode}
-use Rattle.parking_lot_protocol.specs.declared.rw_phase.LockMode.TheVariants as want
 use Rattle.parking_lot_protocol.specs.declared.rw_phase.AfterWake.{AfterWake}
 use Rattle.parking_lot_protocol.specs.declared.rw_phase.AfterWake.TheVariants.{FreedShared, FreedExclusive, Downgraded, AgainShared, AgainExclusive}
 use Rattle.parking_lot_protocol.specs.declared.rw_phase.RwPhase.TheVariants.{Sleeps, DrainSleeps, Stores, Leaves, Wakes, Loads}
@@ -91,13 +90,13 @@ wakes_role n vs rest count = either (role n Listed vs) (nat_lt 0 (count - 1)) _ 
 -- what one that was told so is, before it is woken and after that
 before_wake : (want : LockMode) (t : ℕ) (b : Bool) → record { owns = Shares 0; does = rules.Taken1 (mode_of want) t (mark_of (cond b told.HandedOver told.TryAgain)) rules.Asleep } ≡ waking_from (waking want b) t rules.Asleep
 before_wake want t false = refl
-before_wake (want.Shared recursive) t true = refl
-before_wake want.Exclusive t true = refl
+before_wake (LockMode.Shared recursive) t true = refl
+before_wake LockMode.Exclusive t true = refl
 
 after_wake : (want : LockMode) (ws : List ℕ) (b : Bool) → role 0 Listed ws (cond b (admits want true) (Loads (begins want true))) ≡ waking_to (waking want b)
 after_wake want ws false = refl
-after_wake (want.Shared recursive) ws true = refl
-after_wake want.Exclusive ws true = refl
+after_wake (LockMode.Shared recursive) ws true = refl
+after_wake LockMode.Exclusive ws true = refl
 
 wakes_one : (l : Lock) (t n : ℕ) (spot : QueuePosition) (v : ℕ) (vs : List ℕ) (rest : AfterWake) (count x : ℕ) (k : Waking) (r : Role) → Meets l t n spot (v ∷ vs) (Wakes rest count) x → slice_get l.roles v ≡ Some (waking_from k t rules.Asleep) → r ≡ waking_to k
     → IsStep t (Wake (owned_at_last n rest) v vs k rules.Asleep) l

@@ -4,12 +4,10 @@ use Rattle.std.proofs.lemmas.List.Sums.{count_by-le-length}
 use Rattle.parking_lot_core_lot.specs.declared.parking.ParkToken.{ParkToken}
 use Rattle.parking_lot_core_lot.specs.declared.place.Waiter.{Waiter}
 use Rattle.parking_lot_protocol.specs.declared.rw_phase.RwPhase.{RwPhase}
-use Rattle.parking_lot_protocol.specs.declared.rw_phase.RwPhase.TheVariants as r
 use Rattle.parking_lot_protocol.specs.declared.rw_phase.LockMode.TheVariants as want
 use Rattle.parking_lot_world.specs.declared.calls.LockKind.TheVariants as kind
 use Rattle.parking_lot_world.specs.declared.open_call.Call.{Call}
 use Rattle.parking_lot_world.specs.declared.seat.Core.{Core}
-use Rattle.parking_lot_world.specs.declared.seat.Core.TheVariants as core
 use Rattle.parking_lot_world.specs.Rows.{State, call_at, is_by, taken_by}
 use Rattle.parking_lot_world.specs.Stances.{Takes, In, Asleep, stance, rw_stance, rw_taken, taken_count}
 use Rattle.parking_lot_world.specs.StanceLaws.{Counts, rw_counts}
@@ -24,9 +22,9 @@ same_token e = cc
 
 -- who sleeps at a reader-writer lock wants to read or to write
 sleeper_token : (p : RwPhase) (k : ℕ) (token : ParkToken) → rw_stance p ≡ Asleep k token → (token.0 ≡ 16) ⊎ (token.0 ≡ 8)
-sleeper_token (r.Sleeps (want.Shared recursive)) k token e = inl (ap (λ (x : ParkToken). x.0) (same_token e))
-sleeper_token (r.Sleeps want.Exclusive) k token e = inr (ap (λ (x : ParkToken). x.0) (same_token e))
-sleeper_token (r.DrainSleeps rounds) k token e = inr (ap (λ (x : ParkToken). x.0) (same_token e))
+sleeper_token (RwPhase.Sleeps (want.Shared recursive)) k token e = inl (ap (λ (x : ParkToken). x.0) (same_token e))
+sleeper_token (RwPhase.Sleeps want.Exclusive) k token e = inr (ap (λ (x : ParkToken). x.0) (same_token e))
+sleeper_token (RwPhase.DrainSleeps rounds) k token e = inr (ap (λ (x : ParkToken). x.0) (same_token e))
 sleeper_token p k token e = absurd (up_sleeps k token (rw_stance p) tt e)
 
 module _ (s : State) (h : FitsTogether s) (t : ℕ) (c : Call) (here : call_at s t ≡ Some c) where
@@ -48,20 +46,20 @@ module _ (s : State) (h : FitsTogether s) (t : ℕ) (c : Call) (here : call_at s
       z = sleeper s t c h.lots here k nth w (small_key c.core k Takes from) from at
 
       of_rw : (y : Core) → stance y ≡ Asleep k w.token → IsOfKind (slice_get s.kinds c.lock) y → slice_get s.kinds c.lock ≡ Some kind.Rw → (w.token.0 ≡ 16) ⊎ (w.token.0 ≡ 8)
-      of_rw (core.Rw y) e of here' = sleeper_token y.phase k w.token e
-      of_rw (core.Mutex y) e of here' = absurd (other_kind (sym of ∙ here'))
+      of_rw (Core.Rw y) e of here' = sleeper_token y.phase k w.token e
+      of_rw (Core.Mutex y) e of here' = absurd (other_kind (sym of ∙ here'))
         where
           other_kind : Some kind.Mutex ≡ Some kind.Rw → ⊥
           other_kind e = cc
 
       by_phase : (p : RwPhase) → (rw_keeps c.others p) → taken_count c.core ≡ rw_taken p → ((w.token.0 ≡ 16) ⊎ (w.token.0 ≡ 8)) → rw_counts p w.token
-      by_phase (r.Scans a) keeps count (inl e) = let less = few in inl (e, omega arith)
-      by_phase (r.Scans a) keeps count (inr e) = inr (e, keeps.1)
+      by_phase (RwPhase.Scans a) keeps count (inl e) = let less = few in inl (e, omega arith)
+      by_phase (RwPhase.Scans a) keeps count (inr e) = inr (e, keeps.1)
       by_phase p keeps count token = tt
 
       by_core : (x : Core) → c.core ≡ x → Counts x w.token
-      by_core (core.Mutex x) e = tt
-      by_core (core.Rw x) e =
+      by_core (Core.Mutex x) e = tt
+      by_core (Core.Rw x) e =
           let ready = subst (IsPrepared c.others) e (h.rules.prepared t c here) in
           by_phase x.phase ready.1 (ap taken_count e)
           (of_rw z.call.core z.asleep

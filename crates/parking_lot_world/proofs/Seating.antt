@@ -4,7 +4,6 @@ use Rattle.parking_lot_rules.specs.Any.{AnyLock, AnyStep, Rw, Mx}
 use Rattle.parking_lot_protocol.specs.declared.act.CoreAnswer.{CoreAnswer}
 use Rattle.parking_lot_world.specs.declared.calls.LockCall.{LockCall}
 use Rattle.parking_lot_world.specs.declared.calls.LockKind.{LockKind}
-use Rattle.parking_lot_world.specs.declared.calls.LockKind.TheVariants as kind
 use Rattle.parking_lot_world.specs.Rows.{State, any_lock, lock_at, mutex_role_at, rw_role_at}
 use Rattle.parking_lot_world.specs.RowSteps.{IsQuiet, IsMade}
 use Rattle.parking_lot_world.specs.Machines.{IsBegun, IsStepped}
@@ -20,8 +19,8 @@ seats_at : (s : State) (i : ℕ) → seats (lock_at s i) ≡ length s.calls
 seats_at s i = go (slice_get s.kinds i)
   where
     go : (k : Option LockKind) → seats (any_lock k s i) ≡ length s.calls
-    go (Some kind.Mutex) = length-all (mutex_role_at s i) 0 (length s.calls)
-    go (Some kind.Rw) = length-all (rw_role_at s i) 0 (length s.calls)
+    go (Some LockKind.Mutex) = length-all (mutex_role_at s i) 0 (length s.calls)
+    go (Some LockKind.Rw) = length-all (rw_role_at s i) 0 (length s.calls)
     go None = length-all (rw_role_at s i) 0 (length s.calls)
 
 abbrev Stay : State → State → Type 0

@@ -12,98 +12,93 @@ use Rattle.parking_lot_rules.specs.MutexLaws as mutex_laws
 use Rattle.parking_lot_rules.proofs.Following as rw_follow
 use Rattle.parking_lot_rules.proofs.MutexFollowing as mutex_follow
 use Rattle.parking_lot_protocol.specs.declared.act.Act.{Act}
-use Rattle.parking_lot_protocol.specs.declared.act.Act.TheVariants as act
 use Rattle.parking_lot_protocol.specs.declared.mutex_phase.MutexPhase.{MutexPhase}
-use Rattle.parking_lot_protocol.specs.declared.mutex_phase.MutexPhase.TheVariants as m
 use Rattle.parking_lot_protocol.specs.declared.rw_phase.RwPhase.{RwPhase}
-use Rattle.parking_lot_protocol.specs.declared.rw_phase.RwPhase.TheVariants as r
 use Rattle.parking_lot_protocol.specs.declared.act.CoreAnswer.TheVariants as answer
 use Rattle.parking_lot_protocol.specs.declared.rw_phase.AfterWake.TheVariants as rest
 use Rattle.parking_lot_protocol.specs.MutexRules as rules_of_mutex
 use Rattle.parking_lot_protocol.specs.RwRules as rules_of_rw
 use Rattle.parking_lot_protocol.specs.MutexTable as of_mutex
 use Rattle.parking_lot_protocol.specs.RwTable as of_rw
-use Rattle.parking_lot_world.specs.declared.calls.LockKind.TheVariants as kind
 use Rattle.parking_lot_world.specs.declared.calls.OwnMode.{OwnMode}
-use Rattle.parking_lot_world.specs.declared.calls.OwnMode.TheVariants as mode
 use Rattle.parking_lot_world.specs.declared.seat.QueuePosition.{QueuePosition}
-use Rattle.parking_lot_world.specs.declared.seat.QueuePosition.TheVariants as spot
 use Rattle.parking_lot_world.specs.declared.seat.Core.{Core}
-use Rattle.parking_lot_world.specs.declared.seat.Core.TheVariants as core
 use Rattle.parking_lot_world.specs.declared.open_call.Call.{Call}
 use Rattle.parking_lot_world.specs.CallViews.{mutex_mode, rw_mode}
 use Rattle.parking_lot_world.specs.Machines.{can_move, can_move_in, is_asleep, is_possible, is_taken, sleeps}
 use Rattle.parking_lot_world.specs.RowFits.{FitsTogether, IsOfKind, Stands, Seated}
-use Rattle.parking_lot_world.specs.Rows.{State, first_of_all, mutex_spot, rw_spot, any_lock, mutex_at, rw_lock_at, call_at, everybody, hold_at, lock_at, mutex_core_role, mutex_role_at, rw_core_role, rw_role_at, taken_by}
+use Rattle.parking_lot_world.specs.Rows.{State, first_of_all, mutex_spot, rw_spot, any_lock, mutex_at, rw_lock_at, call_at, everybody, hold_at, lock_at, mutex_role_at, rw_role_at, taken_by}
 use Rattle.parking_lot_world.specs.SoundLaws.{IsApart, SomebodyCanMove, SomebodyKeeps}
 use Rattle.parking_lot_world.specs.Stances.{Stance, Out, In, Doing, core_act, mutex_stance, rw_stance, stance}
 use Rattle.parking_lot_world.specs.Stances as stances
 use Rattle.parking_lot_world.specs.Worlds.{mode_in}
 use Rattle.parking_lot_world.proofs.Everybody.{get-all, within-all, was-all}
-use Rattle.parking_lot_world.proofs.Viewing.{mutex_apart, mutex_role, rw_apart, rw_role}
+use Rattle.parking_lot_world.specs.declared.calls.LockKind.{LockKind}
+use Rattle.parking_lot_world.proofs.Viewing.{apart_role}
+use Rattle.parking_lot_world.proofs.KindTable.{Kind, of_mutexes, of_rws, role_at, role_now}
 use Rattle.parking_lot_world.proofs.Meeting.{in_range, mutex_sound, rw_sound}
 
 -- ACTS
 
-pub possible_alone : (taken : ℕ → Bool) (a : Act) → sleeps a ≡ false → ((k : ℕ) → a ≡ act.Enter k → taken k ≡ false) → is_possible taken a ≡ true
-possible_alone taken act.Sleep e free = absurd cc
-possible_alone taken (act.Enter k) e free = ap not (free k refl)
+pub possible_alone : (taken : ℕ → Bool) (a : Act) → sleeps a ≡ false → ((k : ℕ) → a ≡ Act.Enter k → taken k ≡ false) → is_possible taken a ≡ true
+possible_alone taken Act.Sleep e free = absurd cc
+possible_alone taken (Act.Enter k) e free = ap not (free k refl)
 possible_alone taken a e free = refl
 
 -- one that is inside a section can go on
 mutex_inside : (p : MutexPhase) (k : ℕ) (how : Doing) (taken : ℕ → Bool) → mutex_stance p ≡ In k how → is_possible taken (of_mutex.act_of p) ≡ true
-mutex_inside (m.Checks woken) k how taken e = refl
-mutex_inside (m.Retreats woken) k how taken e = refl
-mutex_inside m.Appends k how taken e = refl
-mutex_inside m.Rests k how taken e = refl
-mutex_inside (m.Takes giving) k how taken e = refl
-mutex_inside (m.Stores giving took left) k how taken e = refl
-mutex_inside (m.Leaves giving took handed) k how taken e = refl
+mutex_inside (MutexPhase.Checks woken) k how taken e = refl
+mutex_inside (MutexPhase.Retreats woken) k how taken e = refl
+mutex_inside MutexPhase.Appends k how taken e = refl
+mutex_inside MutexPhase.Rests k how taken e = refl
+mutex_inside (MutexPhase.Takes giving) k how taken e = refl
+mutex_inside (MutexPhase.Stores giving took left) k how taken e = refl
+mutex_inside (MutexPhase.Leaves giving took handed) k how taken e = refl
 mutex_inside p k how taken e = absurd cc
 
 rw_inside : (p : RwPhase) (k : ℕ) (how : Doing) (taken : ℕ → Bool) → rw_stance p ≡ In k how → is_possible taken (of_rw.act_of p) ≡ true
-rw_inside (r.Checks want woken) k how taken e = refl
-rw_inside (r.Retreats want woken) k how taken e = refl
-rw_inside (r.Appends want) k how taken e = refl
-rw_inside (r.Rests want) k how taken e = refl
-rw_inside (r.DrainChecks d) k how taken e = refl
-rw_inside (r.DrainRetreats d) k how taken e = refl
-rw_inside (r.DrainAppends rounds) k how taken e = refl
-rw_inside (r.DrainRests rounds) k how taken e = refl
-rw_inside (r.TakeWriter rest) k how taken e = refl
-rw_inside (r.ClearWriterParked rest took) k how taken e = refl
-rw_inside (r.LeaveWriterWakeSection rest took) k how taken e = refl
-rw_inside (r.Scans s) k how taken e = refl
-rw_inside (r.Stores s left) k how taken e = refl
-rw_inside (r.Leaves rest count handed) k how taken e = refl
+rw_inside (RwPhase.Checks want woken) k how taken e = refl
+rw_inside (RwPhase.Retreats want woken) k how taken e = refl
+rw_inside (RwPhase.Appends want) k how taken e = refl
+rw_inside (RwPhase.Rests want) k how taken e = refl
+rw_inside (RwPhase.DrainChecks d) k how taken e = refl
+rw_inside (RwPhase.DrainRetreats d) k how taken e = refl
+rw_inside (RwPhase.DrainAppends rounds) k how taken e = refl
+rw_inside (RwPhase.DrainRests rounds) k how taken e = refl
+rw_inside (RwPhase.TakeWriter rest) k how taken e = refl
+rw_inside (RwPhase.ClearWriterParked rest took) k how taken e = refl
+rw_inside (RwPhase.LeaveWriterWakeSection rest took) k how taken e = refl
+rw_inside (RwPhase.Scans s) k how taken e = refl
+rw_inside (RwPhase.Stores s left) k how taken e = refl
+rw_inside (RwPhase.Leaves rest count handed) k how taken e = refl
 rw_inside p k how taken e = absurd cc
 
 inside_possible : (c : Core) (k : ℕ) (how : Doing) (taken : ℕ → Bool) → stance c ≡ In k how → is_possible taken (core_act c) ≡ true
-inside_possible (core.Mutex c) k how taken e = mutex_inside c.phase k how taken e
-inside_possible (core.Rw c) k how taken e = rw_inside c.phase k how taken e
+inside_possible (Core.Mutex c) k how taken e = mutex_inside c.phase k how taken e
+inside_possible (Core.Rw c) k how taken e = rw_inside c.phase k how taken e
 
 -- A SLEEPER, AS THE RULES SEE IT
 
 mutex_sleeps : (at : QueuePosition) (us : List ℕ) (p : MutexPhase) → sleeps (of_mutex.act_of p) ≡ true → mutex_laws.is_asleep (rules_of_mutex.does (mutex_spot at) (first_of_all us) p) ≡ true
-mutex_sleeps spot.Listed us m.Sleeps e = refl
-mutex_sleeps (spot.Off by said) us m.Sleeps e = refl
-mutex_sleeps at us (m.Finishes giving) e = absurd (goes_on giving.again e)
+mutex_sleeps QueuePosition.Listed us MutexPhase.Sleeps e = refl
+mutex_sleeps (QueuePosition.Off by said) us MutexPhase.Sleeps e = refl
+mutex_sleeps at us (MutexPhase.Finishes giving) e = absurd (goes_on giving.again e)
   where
-    goes_on : (again : Bool) → sleeps (cond again act.Load (act.Done answer.Released)) ≡ true → ⊥
+    goes_on : (again : Bool) → sleeps (cond again Act.Load (Act.Done answer.Released)) ≡ true → ⊥
     goes_on true e = cc
     goes_on false e = cc
 mutex_sleeps at us p e = absurd cc
 
 rw_sleeps : (at : QueuePosition) (us : List ℕ) (p : RwPhase) → sleeps (of_rw.act_of p) ≡ true → rw_laws.is_asleep (rules_of_rw.does (rw_spot at) us p) ≡ true
-rw_sleeps spot.Listed us (r.Sleeps want) e = refl
-rw_sleeps (spot.Off by said) us (r.Sleeps want) e = refl
-rw_sleeps spot.Listed us (r.DrainSleeps rounds) e = refl
-rw_sleeps (spot.Off by said) us (r.DrainSleeps rounds) e = refl
-rw_sleeps at us (r.Finishes rest.FreedShared) e = absurd cc
-rw_sleeps at us (r.Finishes rest.FreedExclusive) e = absurd cc
-rw_sleeps at us (r.Finishes rest.Downgraded) e = absurd cc
-rw_sleeps at us (r.Finishes rest.AgainShared) e = absurd cc
-rw_sleeps at us (r.Finishes rest.AgainExclusive) e = absurd cc
+rw_sleeps QueuePosition.Listed us (RwPhase.Sleeps want) e = refl
+rw_sleeps (QueuePosition.Off by said) us (RwPhase.Sleeps want) e = refl
+rw_sleeps QueuePosition.Listed us (RwPhase.DrainSleeps rounds) e = refl
+rw_sleeps (QueuePosition.Off by said) us (RwPhase.DrainSleeps rounds) e = refl
+rw_sleeps at us (RwPhase.Finishes rest.FreedShared) e = absurd cc
+rw_sleeps at us (RwPhase.Finishes rest.FreedExclusive) e = absurd cc
+rw_sleeps at us (RwPhase.Finishes rest.Downgraded) e = absurd cc
+rw_sleeps at us (RwPhase.Finishes rest.AgainShared) e = absurd cc
+rw_sleeps at us (RwPhase.Finishes rest.AgainExclusive) e = absurd cc
 rw_sleeps at us p e = absurd cc
 
 -- a sleeper isn't at work, and isn't idle
@@ -122,13 +117,9 @@ rw_rests p e = absurd cc
 -- one that owns a lock and does nothing there owns it in some mode
 keeps_rw : (o : Owned) → o ≢ Shares 0 → (a : OwnMode) × (rw_mode (record { owns = o; does = Idle }) ≡ Some a)
 keeps_rw (Shares zero) ne = absurd (ne refl)
-keeps_rw (Shares (suc n)) ne = (mode.Shared, refl)
-keeps_rw Excludes ne = (mode.Exclusive, refl)
-keeps_rw Upgrades ne = (mode.Upgradable, refl)
-
--- the kinds are two
-apart_kinds : Some kind.Mutex ≡ Some kind.Rw → ⊥
-apart_kinds e = cc
+keeps_rw (Shares (suc n)) ne = (OwnMode.Shared, refl)
+keeps_rw Excludes ne = (OwnMode.Exclusive, refl)
+keeps_rw Upgrades ne = (OwnMode.Upgradable, refl)
 
 module _ (s : State) (h : FitsTogether s) where
   -- WHO CAN MOVE
@@ -199,51 +190,46 @@ module _ (s : State) (h : FitsTogether s) where
           | inr owns ↦ absurd (both_ways (asleep q) (idles q owns) rest)
         ]
 
-  -- the role of a sleeper
-  rw_sleeper : (i v : ℕ) (d : Call) → slice_get s.kinds i ≡ Some kind.Rw → call_at s v ≡ Some d → d.lock ≡ i → sleeps (core_act d.core) ≡ true → rw_laws.is_asleep (rw_role_at s i v).does ≡ true
-  rw_sleeper i v d of there same e =
-      ap (λ j. rw_laws.is_asleep (rw_role_at s j v).does) (sym same) ∙ ap (λ x. rw_laws.is_asleep x.does) (rw_role s v h d there) ∙ go d.core refl (h.rules.kinds v d there)
-    where
-      go : (x : Core) → d.core ≡ x → IsOfKind (slice_get s.kinds d.lock) x → rw_laws.is_asleep (rw_core_role d.others d.spot (taken_by s.wakes v) d.core).does ≡ true
-      go (core.Rw k) f of_kind =
-          ap (λ x. rw_laws.is_asleep (rw_core_role d.others d.spot (taken_by s.wakes v) x).does) f ∙ rw_sleeps d.spot (taken_by s.wakes v) k.phase (ap (λ x. sleeps (core_act x)) (sym f) ∙ e)
-      go (core.Mutex k) f of_kind = absurd (apart_kinds (sym of_kind ∙ ap (slice_get s.kinds) same ∙ of))
+  -- the role of a sleeper, at a lock of a kind whose calls that sleep are asleep
+  sleeper : {C R L : Type 0} (K : Kind C R L) (asleep : R → Bool) → ((n : ℕ) (at : QueuePosition) (us : List ℕ) (k : C) → sleeps (core_act (K.core k)) ≡ true → asleep (K.plays n at us k) ≡ true)
+      → (i v : ℕ) (d : Call) → slice_get s.kinds i ≡ Some K.kind → call_at s v ≡ Some d → d.lock ≡ i → sleeps (core_act d.core) ≡ true → asleep (role_at K s i v) ≡ true
+  sleeper K asleep so i v d of there same e =
+      let k = K.only d.core (subst (λ (o : Option LockKind). IsOfKind o d.core) (ap (slice_get s.kinds) same ∙ of) (h.rules.kinds v d there)) in
+      subst (λ j. asleep (role_at K s j v) ≡ true) same
+      (ap asleep (role_now K s v (taken_by s.wakes v) d k.0 there refl k.1) ∙ so d.others d.spot (taken_by s.wakes v) k.0 (ap (λ x. sleeps (core_act x)) (sym k.1) ∙ e))
 
-  mutex_sleeper : (i v : ℕ) (d : Call) → slice_get s.kinds i ≡ Some kind.Mutex → call_at s v ≡ Some d → d.lock ≡ i → sleeps (core_act d.core) ≡ true → mutex_laws.is_asleep (mutex_role_at s i v).does ≡ true
-  mutex_sleeper i v d of there same e =
-      ap (λ j. mutex_laws.is_asleep (mutex_role_at s j v).does) (sym same) ∙ ap (λ x. mutex_laws.is_asleep x.does) (mutex_role s v h d there) ∙ go d.core refl (h.rules.kinds v d there)
-    where
-      go : (x : Core) → d.core ≡ x → IsOfKind (slice_get s.kinds d.lock) x → mutex_laws.is_asleep (mutex_core_role d.spot (taken_by s.wakes v) d.core).does ≡ true
-      go (core.Mutex k) f of_kind =
-          ap (λ x. mutex_laws.is_asleep (mutex_core_role d.spot (taken_by s.wakes v) x).does) f ∙ mutex_sleeps d.spot (taken_by s.wakes v) k.phase (ap (λ x. sleeps (core_act x)) (sym f) ∙ e)
-      go (core.Rw k) f of_kind = absurd (apart_kinds (sym (ap (slice_get s.kinds) same ∙ of) ∙ of_kind))
+  rw_sleeper : (i v : ℕ) (d : Call) → slice_get s.kinds i ≡ Some LockKind.Rw → call_at s v ≡ Some d → d.lock ≡ i → sleeps (core_act d.core) ≡ true → rw_laws.is_asleep (rw_role_at s i v).does ≡ true
+  rw_sleeper = sleeper of_rws (λ q. rw_laws.is_asleep q.does) (λ n at us k e. rw_sleeps at us k.phase e)
+
+  mutex_sleeper : (i v : ℕ) (d : Call) → slice_get s.kinds i ≡ Some LockKind.Mutex → call_at s v ≡ Some d → d.lock ≡ i → sleeps (core_act d.core) ≡ true → mutex_laws.is_asleep (mutex_role_at s i v).does ≡ true
+  mutex_sleeper = sleeper of_mutexes (λ q. mutex_laws.is_asleep q.does) (λ n at us k e. mutex_sleeps at us k.phase e)
 
   module _ (t : ℕ) (c : Call) (here : call_at s t ≡ Some c) where
-    rw_up : slice_get s.kinds c.lock ≡ Some kind.Rw → sleeps (core_act c.core) ≡ true → Moves ⊎ SomebodyKeeps s c.lock
+    rw_up : slice_get s.kinds c.lock ≡ Some LockKind.Rw → sleeps (core_act c.core) ≡ true → Moves ⊎ SomebodyKeeps s c.lock
     rw_up of asleep =
         let i = c.lock in
         let up = rw_follow.somebody_can_move (rw_lock_at s i) (rw_sound s h i of) t (rw_role_at s i t) (get-all (rw_role_at s i) (length s.calls) t (in_range s t c here)) (rw_sleeper i t c of here refl asleep) in
         up_there i (rw_role_at s i) (λ q. rw_laws.is_asleep q.does) (λ q. rw_laws.is_at_work q.does) rw_laws.IsOwner
         (λ q e. rw_rests q.does e)
         (λ q owns. ap rw_laws.is_asleep owns.0)
-        (λ v away. ap (λ q. rw_laws.is_at_work q.does) (rw_apart i (taken_by s.wakes v) (hold_at s v i) (call_at s v) away))
+        (λ v away. ap (λ q. rw_laws.is_at_work q.does) (apart_role of_rws i (taken_by s.wakes v) (hold_at s v i) (call_at s v) away))
         (λ v d there same e. rw_sleeper i v d of there same e)
         (λ v low owns.
         let held = keeps_rw (rw_role_at s i v).owns owns.1 in
         (held.0, ap (λ o. mode_in (any_lock o s i) v) of ∙ ap (option_and_then rw_mode) (get-all (rw_role_at s i) (length s.calls) v low) ∙ ap (λ p. rw_mode (record { owns = (rw_role_at s i v).owns; does = p })) owns.0 ∙ held.1))
         up.0 up.1 up.2 up.3
 
-    mutex_up : slice_get s.kinds c.lock ≡ Some kind.Mutex → sleeps (core_act c.core) ≡ true → Moves ⊎ SomebodyKeeps s c.lock
+    mutex_up : slice_get s.kinds c.lock ≡ Some LockKind.Mutex → sleeps (core_act c.core) ≡ true → Moves ⊎ SomebodyKeeps s c.lock
     mutex_up of asleep =
         let i = c.lock in
         let up = mutex_follow.somebody_can_move (mutex_at s i) (mutex_sound s h i of) t (mutex_role_at s i t) (get-all (mutex_role_at s i) (length s.calls) t (in_range s t c here)) (mutex_sleeper i t c of here refl asleep) in
         up_there i (mutex_role_at s i) (λ q. mutex_laws.is_asleep q.does) (λ q. mutex_laws.is_at_work q.does) (λ q. (q.owns ≡ true) × (q.does ≡ mutex.Idle))
         (λ q e. mutex_rests q.does e)
         (λ q owns. ap mutex_laws.is_asleep owns.1)
-        (λ v away. ap (λ q. mutex_laws.is_at_work q.does) (mutex_apart i (taken_by s.wakes v) (hold_at s v i) (call_at s v) away))
+        (λ v away. ap (λ q. mutex_laws.is_at_work q.does) (apart_role of_mutexes i (taken_by s.wakes v) (hold_at s v i) (call_at s v) away))
         (λ v d there same e. mutex_sleeper i v d of there same e)
         (λ v low owns.
-        (mode.Exclusive, ap (λ o. mode_in (any_lock o s i) v) of ∙ ap (option_and_then mutex_mode) (get-all (mutex_role_at s i) (length s.calls) v low) ∙ ap (λ p. mutex_mode (record { owns = (mutex_role_at s i v).owns; does = p })) owns.1 ∙ ap (λ b. mutex_mode (record { owns = b; does = mutex.Idle })) owns.0))
+        (OwnMode.Exclusive, ap (λ o. mode_in (any_lock o s i) v) of ∙ ap (option_and_then mutex_mode) (get-all (mutex_role_at s i) (length s.calls) v low) ∙ ap (λ p. mutex_mode (record { owns = (mutex_role_at s i v).owns; does = p })) owns.1 ∙ ap (λ b. mutex_mode (record { owns = b; does = mutex.Idle })) owns.0))
         up.0 up.1 up.2 up.3
 
     somebody : Moves ⊎ ((is_asleep s t ≡ true) × SomebodyKeeps s c.lock)
@@ -254,8 +240,8 @@ module _ (s : State) (h : FitsTogether s) where
         slept e (inr x) = inr (ap (λ o. option_map_or (λ (d : Call). sleeps (core_act d.core)) o false) here ∙ e, x)
 
         by_core : (k : Core) → c.core ≡ k → IsOfKind (slice_get s.kinds c.lock) k → sleeps (core_act c.core) ≡ true → Moves ⊎ SomebodyKeeps s c.lock
-        by_core (core.Rw k) e of asleep = rw_up of asleep
-        by_core (core.Mutex k) e of asleep = mutex_up of asleep
+        by_core (Core.Rw k) e of asleep = rw_up of asleep
+        by_core (Core.Mutex k) e of asleep = mutex_up of asleep
 
         go : (b : Bool) → sleeps (core_act c.core) ≡ b → Moves ⊎ ((is_asleep s t ≡ true) × SomebodyKeeps s c.lock)
         go false e = inl (awake_moves t c here e)

@@ -1,5 +1,5 @@
 -- The machine once a thread has told all whom it has taken and told nothing yet, and has written the word of its lock.
-use Rattle.std.proofs.Common.{◌≡◌, ◌≢◌, ℕ, ◌<◌, ◌⊎◌, inl, inr, cond, length, Option, Some, None, slice_get, slice_set, refl, sym, ap, ◌∙◌, subst, arith}
+use Rattle.std.proofs.Common.{◌≡◌, ◌≢◌, ℕ, ◌⊎◌, inl, inr, cond, length, Option, Some, None, slice_get, slice_set, refl, sym, ap, ◌∙◌, subst, arith}
 use Rattle.std.specs.Option.{option_map}
 use Rattle.std.proofs.lemmas.Bool.{cases_eq, ne_eqb}
 use Rattle.std.proofs.lemmas.List.{length-set, length-map}
@@ -8,47 +8,41 @@ use Rattle.parking_lot_core_lot.specs.declared.parking.UnparkToken.{UnparkToken}
 use Rattle.parking_lot_core_lot.specs.Machine.{stored}
 use Rattle.parking_lot_core_lot.proofs.Numbers.{count_by-set, count_by-map_same}
 use Rattle.parking_lot_protocol.specs.declared.act.ActResult.{ActResult}
-use Rattle.parking_lot_world.specs.declared.calls.LockKind.TheVariants as kind
 use Rattle.parking_lot_world.specs.declared.seat.WakeResult.{WakeResult}
-use Rattle.parking_lot_world.specs.declared.seat.WakeResult.TheVariants as told
 use Rattle.parking_lot_world.specs.declared.seat.QueuePosition.{QueuePosition}
-use Rattle.parking_lot_world.specs.declared.seat.QueuePosition.TheVariants as spot
 use Rattle.parking_lot_world.specs.declared.open_call.Call.{Call}
 use Rattle.parking_lot_world.specs.declared.seat.Wakeup.{Wakeup}
 use Rattle.parking_lot_world.specs.Rows.{State, word_at, call_at, taken_by}
-use Rattle.parking_lot_world.specs.Stances.{core_next}
 use Rattle.parking_lot_world.specs.RowActs.{with_call, with_lot, with_word, hears, settled_spot, settled, settles, told_of}
-use Rattle.parking_lot_world.specs.RowFits.{FitsTogether, RulesFit, WakesFit, IsTaken, IsPrepared, KnowsList, is_away, is_off}
+use Rattle.parking_lot_world.specs.RowFits.{FitsTogether, RulesFit, WakesFit, IsTaken, is_away, is_off}
 use Rattle.parking_lot_world.proofs.Acting.{word-elsewhere}
-use Rattle.parking_lot_world.proofs.Spinning.{under_way}
 use Rattle.parking_lot_world.proofs.Calling.{call_of, slot, call-here, call-elsewhere, calls-change}
 use Rattle.parking_lot_world.proofs.Carrying.{same_call}
-use Rattle.parking_lot_world.proofs.Lifting.{IsThere, Elsewhere}
-use Rattle.parking_lot_world.proofs.LotStores.{call_at-map}
-use Rattle.parking_lot_world.proofs.Making.{IsSoundState}
-use Rattle.parking_lot_world.proofs.Ruling.{CallFits, call_fits, rules_after}
-use Rattle.parking_lot_world.proofs.TakeOutside.{same_kind}
+use Rattle.parking_lot_world.proofs.KindTable.{IsThere, Elsewhere}
+use Rattle.parking_lot_world.proofs.LotLists.{call_at-map}
+use Rattle.parking_lot_world.proofs.Making.{move_sound}
+use Rattle.parking_lot_world.proofs.Ruling.{CallFits, Fitted, fits_at, fits_next, rules_after}
 
 -- WHERE ONE STANDS THAT IS TOLD
 
-off_before : (t by : ℕ) (said now : WakeResult) (at : QueuePosition) → settled_spot t said at ≡ spot.Off by now → (x : WakeResult) × (at ≡ spot.Off by x)
-off_before t by said now spot.Listed e = absurd cc
-off_before t by said now (spot.Off b told.Nothing) e = let same : b ≡ by = cc in (told.Nothing, ap (λ n. spot.Off n told.Nothing) same)
-off_before t by said now (spot.Off b told.TryAgain) e = let same : b ≡ by = cc in (told.TryAgain, ap (λ n. spot.Off n told.TryAgain) same)
-off_before t by said now (spot.Off b told.HandedOver) e = let same : b ≡ by = cc in (told.HandedOver, ap (λ n. spot.Off n told.HandedOver) same)
+off_before : (t by : ℕ) (said now : WakeResult) (at : QueuePosition) → settled_spot t said at ≡ QueuePosition.Off by now → (x : WakeResult) × (at ≡ QueuePosition.Off by x)
+off_before t by said now QueuePosition.Listed e = absurd cc
+off_before t by said now (QueuePosition.Off b WakeResult.Nothing) e = let same : b ≡ by = cc in (WakeResult.Nothing, ap (λ n. QueuePosition.Off n WakeResult.Nothing) same)
+off_before t by said now (QueuePosition.Off b WakeResult.TryAgain) e = let same : b ≡ by = cc in (WakeResult.TryAgain, ap (λ n. QueuePosition.Off n WakeResult.TryAgain) same)
+off_before t by said now (QueuePosition.Off b WakeResult.HandedOver) e = let same : b ≡ by = cc in (WakeResult.HandedOver, ap (λ n. QueuePosition.Off n WakeResult.HandedOver) same)
 
 same_off : (t : ℕ) (said : WakeResult) (at : QueuePosition) → is_off (settled_spot t said at) ≡ is_off at
-same_off t said spot.Listed = refl
-same_off t said (spot.Off b told.Nothing) = refl
-same_off t said (spot.Off b told.TryAgain) = refl
-same_off t said (spot.Off b told.HandedOver) = refl
+same_off t said QueuePosition.Listed = refl
+same_off t said (QueuePosition.Off b WakeResult.Nothing) = refl
+same_off t said (QueuePosition.Off b WakeResult.TryAgain) = refl
+same_off t said (QueuePosition.Off b WakeResult.HandedOver) = refl
 
 -- it stays, or was taken by t
-same_or_mine : (t : ℕ) (said : WakeResult) (at : QueuePosition) → (settled_spot t said at ≡ at) ⊎ (at ≡ spot.Off t told.Nothing)
-same_or_mine t said spot.Listed = inl refl
-same_or_mine t said (spot.Off b told.Nothing) = elim (cases_eq b t) [ inl e ↦ inr (ap (λ n. spot.Off n told.Nothing) e) | inr ne ↦ inl (ap (λ q. spot.Off b (cond q said told.Nothing)) (ne_eqb b t ne)) ]
-same_or_mine t said (spot.Off b told.TryAgain) = inl refl
-same_or_mine t said (spot.Off b told.HandedOver) = inl refl
+same_or_mine : (t : ℕ) (said : WakeResult) (at : QueuePosition) → (settled_spot t said at ≡ at) ⊎ (at ≡ QueuePosition.Off t WakeResult.Nothing)
+same_or_mine t said QueuePosition.Listed = inl refl
+same_or_mine t said (QueuePosition.Off b WakeResult.Nothing) = elim (cases_eq b t) [ inl e ↦ inr (ap (λ n. QueuePosition.Off n WakeResult.Nothing) e) | inr ne ↦ inl (ap (λ q. QueuePosition.Off b (cond q said WakeResult.Nothing)) (ne_eqb b t ne)) ]
+same_or_mine t said (QueuePosition.Off b WakeResult.TryAgain) = inl refl
+same_or_mine t said (QueuePosition.Off b WakeResult.HandedOver) = inl refl
 
 away_settled : (t : ℕ) (said : WakeResult) (o : Option Call) → is_away (option_map (settled t said) o) ≡ is_away o
 away_settled t said None = refl
@@ -89,7 +83,7 @@ module _ (s : State) (t : ℕ) (c : Call) (heard : ActResult) (token : UnparkTok
     pub wakes_told : WakesFit told_state
     wakes_told = record {
       off = λ v by e said at is.
-          calls-told (λ x g. g.spot ≡ spot.Off by said → (n : ℕ) × (w : Wakeup) × (slice_get s.wakes n ≡ Some w) × (w.by ≡ by) × (w.thread ≡ x))
+          calls-told (λ x g. g.spot ≡ QueuePosition.Off by said → (n : ℕ) × (w : Wakeup) × (slice_get s.wakes n ≡ Some w) × (w.by ≡ by) × (w.thread ≡ x))
           (λ x g ne there is. let z = off_before t by (told_of token) said g.spot is in h.wakes.off x by g z.0 there z.1)
           (λ is. let z = off_before t by (told_of token) said c.spot is in h.wakes.off t by c z.0 here z.1)
           v e at is;
@@ -99,9 +93,9 @@ module _ (s : State) (t : ℕ) (c : Call) (heard : ActResult) (token : UnparkTok
     }
 
     -- whom t has taken is at its lock
-    mine_there : (v : ℕ) (e : Call) → call_at s v ≡ Some e → e.spot ≡ spot.Off t told.Nothing → e.lock ≡ c.lock
+    mine_there : (v : ℕ) (e : Call) → call_at s v ≡ Some e → e.spot ≡ QueuePosition.Off t WakeResult.Nothing → e.lock ≡ c.lock
     mine_there v e at off =
-        let w = h.wakes.off v t e told.Nothing at off in
+        let w = h.wakes.off v t e WakeResult.Nothing at off in
         let x : IsTaken s w.1 = h.lots.woken w.0 w.1 w.2 in
         let its : x.call ≡ e = same_call (sym x.here ∙ ap (call_at s) w.4 ∙ at) in
         let mine : x.taker ≡ c = same_call (sym x.there ∙ ap (call_at s) w.3 ∙ here) in
@@ -132,17 +126,15 @@ module _ (s : State) (t : ℕ) (c : Call) (heard : ActResult) (token : UnparkTok
               inr (subst (IsThere c.lock) (sym e) there, subst (IsThere c.lock) (sym (told_others x ne ∙ ap (option_map (settled t (told_of token))) e)) there)
         ]
 
-    pub rules_told : IsPrepared c.others (core_next c.core heard) → KnowsList (core_next c.core heard) s.lot.queues c.lock → (slice_get s.kinds c.lock ≡ Some kind.Mutex → word_at told_state c.lock < 4) → IsSoundState told_state → RulesFit told_state
-    rules_told prepared knows bits sound = rules_after s told_state c.lock h.rules (record {
+    pub rules_told : Fitted s told_state t c heard c.core → RulesFit told_state
+    rules_told fit = rules_after s told_state c.lock h.rules (record {
       kinds = refl;
       threads = told_threads;
       holds = refl;
       words = length-set s.words c.lock word;
-      calls = calls-told (λ v e. CallFits s.kinds s.lot.queues e)
-          (λ v e ne at. let f = call_fits s h.rules v e at in record { kind = f.kind; prepared = f.prepared; knows = f.knows; beside = f.beside; begun = f.begun })
-          (record { kind = same_kind c.core heard (slice_get s.kinds c.lock) (h.rules.kinds t c here); prepared = prepared; knows = knows; beside = h.rules.beside t c here; begun = under_way c.core heard (h.rules.begun t c here).few });
+      calls = calls-told (λ v e. CallFits s.kinds s.lot.queues e) (λ v e ne at. fits_at s h v e at s.lot.queues (settled_spot t (told_of token) e.spot) (h.rules.knows v e at)) (fits_next s h t c here heard s.lot.queues (settled_spot t (told_of token) c.spot) fit.1 fit.2);
       few = h.rules.few;
       elsewhere = told_elsewhere.words;
-      bits = bits;
-      sound = sound;
+      bits = fit.3;
+      sound = move_sound s told_state c.core c.others (taken_by s.wakes t) heard c.lock t fit.0 h.rules.sound;
     })

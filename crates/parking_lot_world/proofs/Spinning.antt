@@ -4,21 +4,16 @@ use Rattle.std.specs.Option.{option_map_or}
 use Rattle.parking_lot_protocol.specs.declared.act.ActResult.{ActResult}
 use Rattle.parking_lot_protocol.specs.declared.act.ActResult.TheVariants.{Start, Word, Exchanged, Before, Spun, Entered, Took, Stored, Made, Woken}
 use Rattle.parking_lot_protocol.specs.declared.mutex_phase.MutexPhase.{MutexPhase}
-use Rattle.parking_lot_protocol.specs.declared.mutex_phase.MutexPhase.TheVariants as m
 use Rattle.parking_lot_protocol.specs.declared.mutex_phase.Asking.{Asking}
 use Rattle.parking_lot_protocol.specs.declared.rw_phase.RwPhase.{RwPhase}
-use Rattle.parking_lot_protocol.specs.declared.rw_phase.RwPhase.TheVariants as r
 use Rattle.parking_lot_protocol.specs.declared.rw_phase.LockMode.{LockMode}
-use Rattle.parking_lot_protocol.specs.declared.rw_phase.LockMode.TheVariants as want
 use Rattle.parking_lot_protocol.specs.declared.rw_phase.AfterWake.{AfterWake}
-use Rattle.parking_lot_protocol.specs.declared.rw_phase.AfterWake.TheVariants as rest
 use Rattle.parking_lot_protocol.specs.declared.rw_phase.Seeking.{Seeking}
 use Rattle.parking_lot_protocol.specs.declared.rw_phase.Draining.{Draining}
 use Rattle.parking_lot_protocol.specs.declared.rw_phase.Scanning.{Scanning}
 use Rattle.parking_lot_protocol.specs.MutexTable as of_mutex
 use Rattle.parking_lot_protocol.specs.RwTable as of_rw
 use Rattle.parking_lot_world.specs.declared.seat.Core.{Core}
-use Rattle.parking_lot_world.specs.declared.seat.Core.TheVariants as core
 use Rattle.parking_lot_world.specs.Rounds.{FewRounds, IsUnderWay, mutex_rounds, rw_rounds}
 use Rattle.parking_lot_world.specs.Stances.{core_next, has_begun, mutex_begun, rw_begun}
 use Rattle.parking_lot_world.proofs.Beginning.{goes_on}
@@ -47,38 +42,38 @@ seeks_on a word h =
 tries_on : (left word : ℕ) → mutex_rounds (of_mutex.tries left word) ≤ 10
 tries_on left word = either mutex_rounds (word == 0) _ _ no_rounds (either mutex_rounds (word == 2) _ _ no_rounds no_rounds)
 
-finishes_on : (fair again : Bool) (s : ActResult) → mutex_rounds (of_mutex.next_phase (m.Finishes (record { fair = fair; again = again })) s) ≤ 10
+finishes_on : (fair again : Bool) (s : ActResult) → mutex_rounds (of_mutex.next_phase (MutexPhase.Finishes (record { fair = fair; again = again })) s) ≤ 10
 finishes_on fair true (Word n) = no_rounds
 finishes_on fair again s = no_rounds
 
 mutex_on : (p : MutexPhase) (s : ActResult) → mutex_rounds p ≤ 10 → mutex_rounds (of_mutex.next_phase p s) ≤ 10
-mutex_on m.Locking Start h = all_rounds
-mutex_on m.Trying Start h = no_rounds
-mutex_on (m.Unlocking fair) Start h = no_rounds
-mutex_on m.Bumping Start h = no_rounds
-mutex_on (m.Loads a) (Word n) h = seeks_on a n h
-mutex_on (m.Locks a waiters) (Word n) h = seeks_on a n h
-mutex_on (m.Spins a) (Spun true) h = one_less a.rounds h
-mutex_on (m.Spins a) (Spun false) h = h
-mutex_on (m.Parks a) (Word n) h = seeks_on a n h
-mutex_on (m.Enters c) Entered h = no_rounds
-mutex_on (m.Retreats c) Made h = all_rounds
-mutex_on m.Appends Made h = no_rounds
-mutex_on m.Rests Made h = no_rounds
-mutex_on (m.Checks c) (Word n) h = either mutex_rounds (n == 3) _ _ no_rounds no_rounds
-mutex_on m.Sleeps (Woken token) h = either mutex_rounds (token.0 == 1) _ _ no_rounds all_rounds
-mutex_on m.TryLoads (Word n) h = tries_on 63 n
-mutex_on (m.TryLocks waiters left) (Word n) h = either mutex_rounds (nat_lt 0 left) _ _ (tries_on (left - 1) n) no_rounds
-mutex_on m.BumpLoads (Word n) h = either mutex_rounds (n / 2 % 2 == 1) _ _ no_rounds no_rounds
-mutex_on m.Relocks (Word n) h = seeks_on (of_mutex.begins false) n all_rounds
-mutex_on (m.Unlocks g) Exchanged h = either mutex_rounds g.again _ _ no_rounds no_rounds
-mutex_on (m.Looks g) Entered h = no_rounds
-mutex_on (m.Takes g) (Took token left) h = no_rounds
-mutex_on (m.Stores g taken left) (Stored fair) h = no_rounds
-mutex_on (m.Wakes g) Made h = no_rounds
-mutex_on (m.Leaves g true handed) Made h = no_rounds
-mutex_on (m.Leaves g false handed) Made h = no_rounds
-mutex_on (m.Finishes g) s h = finishes_on g.fair g.again s
+mutex_on MutexPhase.Locking Start h = all_rounds
+mutex_on MutexPhase.Trying Start h = no_rounds
+mutex_on (MutexPhase.Unlocking fair) Start h = no_rounds
+mutex_on MutexPhase.Bumping Start h = no_rounds
+mutex_on (MutexPhase.Loads a) (Word n) h = seeks_on a n h
+mutex_on (MutexPhase.Locks a waiters) (Word n) h = seeks_on a n h
+mutex_on (MutexPhase.Spins a) (Spun true) h = one_less a.rounds h
+mutex_on (MutexPhase.Spins a) (Spun false) h = h
+mutex_on (MutexPhase.Parks a) (Word n) h = seeks_on a n h
+mutex_on (MutexPhase.Enters c) Entered h = no_rounds
+mutex_on (MutexPhase.Retreats c) Made h = all_rounds
+mutex_on MutexPhase.Appends Made h = no_rounds
+mutex_on MutexPhase.Rests Made h = no_rounds
+mutex_on (MutexPhase.Checks c) (Word n) h = either mutex_rounds (n == 3) _ _ no_rounds no_rounds
+mutex_on MutexPhase.Sleeps (Woken token) h = either mutex_rounds (token.0 == 1) _ _ no_rounds all_rounds
+mutex_on MutexPhase.TryLoads (Word n) h = tries_on 63 n
+mutex_on (MutexPhase.TryLocks waiters left) (Word n) h = either mutex_rounds (nat_lt 0 left) _ _ (tries_on (left - 1) n) no_rounds
+mutex_on MutexPhase.BumpLoads (Word n) h = either mutex_rounds (n / 2 % 2 == 1) _ _ no_rounds no_rounds
+mutex_on MutexPhase.Relocks (Word n) h = seeks_on (of_mutex.begins false) n all_rounds
+mutex_on (MutexPhase.Unlocks g) Exchanged h = either mutex_rounds g.again _ _ no_rounds no_rounds
+mutex_on (MutexPhase.Looks g) Entered h = no_rounds
+mutex_on (MutexPhase.Takes g) (Took token left) h = no_rounds
+mutex_on (MutexPhase.Stores g taken left) (Stored fair) h = no_rounds
+mutex_on (MutexPhase.Wakes g) Made h = no_rounds
+mutex_on (MutexPhase.Leaves g true handed) Made h = no_rounds
+mutex_on (MutexPhase.Leaves g false handed) Made h = no_rounds
+mutex_on (MutexPhase.Finishes g) s h = finishes_on g.fair g.again s
 mutex_on p s h = no_rounds
 
 -- A READER-WRITER LOCK
@@ -97,87 +92,87 @@ rw_tries_on : (w : LockMode) (left word : ℕ) → rw_rounds (of_rw.tries w left
 rw_tries_on w left word = either rw_rounds (of_rw.is_tried w word) _ _ no_rounds no_rounds
 
 admits_on : (w : LockMode) (woken : Bool) → rw_rounds (of_rw.admits w woken) ≤ 10
-admits_on (want.Shared recursive) woken = no_rounds
-admits_on want.Exclusive woken = all_rounds
+admits_on (LockMode.Shared recursive) woken = no_rounds
+admits_on LockMode.Exclusive woken = all_rounds
 
 over_on : (rs : AfterWake) → rw_rounds (of_rw.over rs) ≤ 10
-over_on rest.FreedShared = no_rounds
-over_on rest.FreedExclusive = no_rounds
-over_on rest.Downgraded = no_rounds
-over_on rest.AgainShared = no_rounds
-over_on rest.AgainExclusive = no_rounds
+over_on AfterWake.FreedShared = no_rounds
+over_on AfterWake.FreedExclusive = no_rounds
+over_on AfterWake.Downgraded = no_rounds
+over_on AfterWake.AgainShared = no_rounds
+over_on AfterWake.AgainExclusive = no_rounds
 
 bumps_on : (w : LockMode) (word : ℕ) → rw_rounds (of_rw.bumps w word) ≤ 10
-bumps_on (want.Shared recursive) word = either rw_rounds (of_rw.is_written word) _ _ no_rounds no_rounds
-bumps_on want.Exclusive word = either rw_rounds (of_rw.is_parked word) _ _ no_rounds no_rounds
+bumps_on (LockMode.Shared recursive) word = either rw_rounds (of_rw.is_written word) _ _ no_rounds no_rounds
+bumps_on LockMode.Exclusive word = either rw_rounds (of_rw.is_parked word) _ _ no_rounds no_rounds
 
 wakes_on : (rs : AfterWake) (count : ℕ) → rw_rounds (of_rw.wakes rs count) ≤ 10
 wakes_on rs count = either rw_rounds (nat_lt 0 count) _ _ no_rounds no_rounds
 
-taken_on : (left : Bool) (s : Option Scanning) → rw_rounds (option_map_or (λ q. q) (option_map (of_rw.goes_on left) s) r.Invalid) ≤ 10
+taken_on : (left : Bool) (s : Option Scanning) → rw_rounds (option_map_or (λ q. q) (option_map (of_rw.goes_on left) s) RwPhase.Invalid) ≤ 10
 taken_on left None = no_rounds
 taken_on left (Some s) = either rw_rounds (left && not s.writer) _ _ no_rounds no_rounds
 
 rw_on : (p : RwPhase) (s : ActResult) → rw_rounds p ≤ 10 → rw_rounds (of_rw.next_phase p s) ≤ 10
-rw_on (r.Locking w) Start h = all_rounds
-rw_on (r.Trying w) Start h = no_rounds
-rw_on r.UnlockingShared Start h = no_rounds
-rw_on (r.UnlockingExclusive fair) Start h = no_rounds
-rw_on r.Downgrading Start h = no_rounds
-rw_on r.BumpingShared Start h = no_rounds
-rw_on r.BumpingExclusive Start h = no_rounds
-rw_on (r.Loads a) (Word n) h = rw_seeks_on a n h
-rw_on (r.Admits a word) Exchanged h = admits_on a.want false
-rw_on (r.Admits a word) (Word n) h = rw_seeks_on a n h
-rw_on (r.Spins a) (Spun true) h = one_less a.rounds h
-rw_on (r.Spins a) (Spun false) h = no_rounds
-rw_on (r.SetParked a word) (Word n) h = rw_seeks_on a n h
-rw_on (r.Enters w c) Entered h = no_rounds
-rw_on (r.Appends w) Made h = no_rounds
-rw_on (r.Rests w) Made h = no_rounds
-rw_on (r.Checks w c) (Word n) h = either rw_rounds (of_rw.is_barred w n && of_rw.is_parked n) _ _ no_rounds no_rounds
-rw_on (r.Retreats w c) Made h = all_rounds
-rw_on (r.Sleeps w) (Woken token) h = either rw_rounds (token.0 == 1) _ _ (admits_on w true) all_rounds
-rw_on (r.DrainLoads d) (Word n) h = drains_on d n h
-rw_on (r.DrainSpins d) (Spun true) h = one_less d.rounds h
-rw_on (r.DrainSpins d) (Spun false) h = no_rounds
-rw_on (r.DrainSetParked d word) Exchanged h = h
-rw_on (r.DrainSetParked d word) (Word n) h = drains_on d n h
-rw_on (r.DrainEnters d) Entered h = h
-rw_on (r.DrainChecks d) (Word n) h = either rw_rounds (of_rw.has_readers n && of_rw.is_writer_parked n) _ _ h h
-rw_on (r.DrainRetreats d) Made h = h
-rw_on (r.DrainAppends rounds) Made h = h
-rw_on (r.DrainRests rounds) Made h = h
-rw_on (r.DrainSleeps rounds) (Woken token) h = h
-rw_on (r.TryLoads w) (Word n) h = rw_tries_on w 63 n
-rw_on (r.TryAdmits w word left) (Word n) h = either rw_rounds (nat_lt 0 left) _ _ (rw_tries_on w (left - 1) n) no_rounds
-rw_on (r.BumpLoads w) (Word n) h = bumps_on w n
-rw_on (r.Relocks w) (Word n) h = rw_seeks_on (of_rw.begins w false) n all_rounds
-rw_on (r.Unshares rs) (Before n) h = either rw_rounds (n / 16 == 1 && of_rw.is_writer_parked n) _ _ no_rounds (over_on rs)
-rw_on (r.EnterWriterWakeSection rs) Entered h = no_rounds
-rw_on (r.TakeWriter rs) (Took token left) h = no_rounds
-rw_on (r.ClearWriterParked rs taken) (Before n) h = no_rounds
-rw_on (r.LeaveWriterWakeSection rs taken) Made h = wakes_on rs (bit taken)
-rw_on (r.Unlocks fair rs) Exchanged h = over_on rs
-rw_on (r.Unlocks fair rs) (Word n) h = no_rounds
-rw_on (r.LooksExclusive fair rs) Entered h = no_rounds
-rw_on r.EnterWakeSection Entered h = no_rounds
-rw_on (r.Stores a left) (Stored fair) h = no_rounds
-rw_on r.Downgrades (Before n) h = either rw_rounds (of_rw.is_parked n) _ _ no_rounds no_rounds
-rw_on (r.Scans a) (Took None left) h = no_rounds
-rw_on (r.Scans a) (Took (Some token) left) h = taken_on left (of_rw.with_taken a token)
-rw_on (r.Leaves rs count handed) Made h = wakes_on rs count
-rw_on (r.Wakes rs count) Made h = wakes_on rs (count - 1)
-rw_on (r.Finishes rest.FreedShared) (Word n) h = no_rounds
-rw_on (r.Finishes rest.FreedExclusive) (Word n) h = no_rounds
-rw_on (r.Finishes rest.Downgraded) (Word n) h = no_rounds
-rw_on (r.Finishes rest.AgainShared) (Word n) h = no_rounds
-rw_on (r.Finishes rest.AgainExclusive) (Word n) h = no_rounds
+rw_on (RwPhase.Locking w) Start h = all_rounds
+rw_on (RwPhase.Trying w) Start h = no_rounds
+rw_on RwPhase.UnlockingShared Start h = no_rounds
+rw_on (RwPhase.UnlockingExclusive fair) Start h = no_rounds
+rw_on RwPhase.Downgrading Start h = no_rounds
+rw_on RwPhase.BumpingShared Start h = no_rounds
+rw_on RwPhase.BumpingExclusive Start h = no_rounds
+rw_on (RwPhase.Loads a) (Word n) h = rw_seeks_on a n h
+rw_on (RwPhase.Admits a word) Exchanged h = admits_on a.want false
+rw_on (RwPhase.Admits a word) (Word n) h = rw_seeks_on a n h
+rw_on (RwPhase.Spins a) (Spun true) h = one_less a.rounds h
+rw_on (RwPhase.Spins a) (Spun false) h = no_rounds
+rw_on (RwPhase.SetParked a word) (Word n) h = rw_seeks_on a n h
+rw_on (RwPhase.Enters w c) Entered h = no_rounds
+rw_on (RwPhase.Appends w) Made h = no_rounds
+rw_on (RwPhase.Rests w) Made h = no_rounds
+rw_on (RwPhase.Checks w c) (Word n) h = either rw_rounds (of_rw.is_barred w n && of_rw.is_parked n) _ _ no_rounds no_rounds
+rw_on (RwPhase.Retreats w c) Made h = all_rounds
+rw_on (RwPhase.Sleeps w) (Woken token) h = either rw_rounds (token.0 == 1) _ _ (admits_on w true) all_rounds
+rw_on (RwPhase.DrainLoads d) (Word n) h = drains_on d n h
+rw_on (RwPhase.DrainSpins d) (Spun true) h = one_less d.rounds h
+rw_on (RwPhase.DrainSpins d) (Spun false) h = no_rounds
+rw_on (RwPhase.DrainSetParked d word) Exchanged h = h
+rw_on (RwPhase.DrainSetParked d word) (Word n) h = drains_on d n h
+rw_on (RwPhase.DrainEnters d) Entered h = h
+rw_on (RwPhase.DrainChecks d) (Word n) h = either rw_rounds (of_rw.has_readers n && of_rw.is_writer_parked n) _ _ h h
+rw_on (RwPhase.DrainRetreats d) Made h = h
+rw_on (RwPhase.DrainAppends rounds) Made h = h
+rw_on (RwPhase.DrainRests rounds) Made h = h
+rw_on (RwPhase.DrainSleeps rounds) (Woken token) h = h
+rw_on (RwPhase.TryLoads w) (Word n) h = rw_tries_on w 63 n
+rw_on (RwPhase.TryAdmits w word left) (Word n) h = either rw_rounds (nat_lt 0 left) _ _ (rw_tries_on w (left - 1) n) no_rounds
+rw_on (RwPhase.BumpLoads w) (Word n) h = bumps_on w n
+rw_on (RwPhase.Relocks w) (Word n) h = rw_seeks_on (of_rw.begins w false) n all_rounds
+rw_on (RwPhase.Unshares rs) (Before n) h = either rw_rounds (n / 16 == 1 && of_rw.is_writer_parked n) _ _ no_rounds (over_on rs)
+rw_on (RwPhase.EnterWriterWakeSection rs) Entered h = no_rounds
+rw_on (RwPhase.TakeWriter rs) (Took token left) h = no_rounds
+rw_on (RwPhase.ClearWriterParked rs taken) (Before n) h = no_rounds
+rw_on (RwPhase.LeaveWriterWakeSection rs taken) Made h = wakes_on rs (bit taken)
+rw_on (RwPhase.Unlocks fair rs) Exchanged h = over_on rs
+rw_on (RwPhase.Unlocks fair rs) (Word n) h = no_rounds
+rw_on (RwPhase.LooksExclusive fair rs) Entered h = no_rounds
+rw_on RwPhase.EnterWakeSection Entered h = no_rounds
+rw_on (RwPhase.Stores a left) (Stored fair) h = no_rounds
+rw_on RwPhase.Downgrades (Before n) h = either rw_rounds (of_rw.is_parked n) _ _ no_rounds no_rounds
+rw_on (RwPhase.Scans a) (Took None left) h = no_rounds
+rw_on (RwPhase.Scans a) (Took (Some token) left) h = taken_on left (of_rw.with_taken a token)
+rw_on (RwPhase.Leaves rs count handed) Made h = wakes_on rs count
+rw_on (RwPhase.Wakes rs count) Made h = wakes_on rs (count - 1)
+rw_on (RwPhase.Finishes AfterWake.FreedShared) (Word n) h = no_rounds
+rw_on (RwPhase.Finishes AfterWake.FreedExclusive) (Word n) h = no_rounds
+rw_on (RwPhase.Finishes AfterWake.Downgraded) (Word n) h = no_rounds
+rw_on (RwPhase.Finishes AfterWake.AgainShared) (Word n) h = no_rounds
+rw_on (RwPhase.Finishes AfterWake.AgainExclusive) (Word n) h = no_rounds
 rw_on p s h = no_rounds
 
 pub spins_few : (c : Core) (s : ActResult) → FewRounds c → FewRounds (core_next c s)
-spins_few (core.Mutex c) s h = mutex_on c.phase s h
-spins_few (core.Rw c) s h = rw_on c.phase s h
+spins_few (Core.Mutex c) s h = mutex_on c.phase s h
+spins_few (Core.Rw c) s h = rw_on c.phase s h
 
 -- one that goes on is under way
 pub under_way : (c : Core) (s : ActResult) → FewRounds c → IsUnderWay (core_next c s)
@@ -185,28 +180,28 @@ under_way c s h = record { begun = goes_on c s; few = spins_few c s h }
 
 -- and one that is to begin has no rounds yet
 mutex_unbegun : (p : MutexPhase) → mutex_begun p ≡ false → mutex_rounds p ≤ 10
-mutex_unbegun (m.Loads a) e = absurd cc
-mutex_unbegun (m.Locks a waiters) e = absurd cc
-mutex_unbegun (m.Spins a) e = absurd cc
-mutex_unbegun (m.Parks a) e = absurd cc
+mutex_unbegun (MutexPhase.Loads a) e = absurd cc
+mutex_unbegun (MutexPhase.Locks a waiters) e = absurd cc
+mutex_unbegun (MutexPhase.Spins a) e = absurd cc
+mutex_unbegun (MutexPhase.Parks a) e = absurd cc
 mutex_unbegun p e = no_rounds
 
 rw_unbegun : (p : RwPhase) → rw_begun p ≡ false → rw_rounds p ≤ 10
-rw_unbegun (r.Loads a) e = absurd cc
-rw_unbegun (r.Admits a word) e = absurd cc
-rw_unbegun (r.Spins a) e = absurd cc
-rw_unbegun (r.SetParked a word) e = absurd cc
-rw_unbegun (r.DrainLoads d) e = absurd cc
-rw_unbegun (r.DrainSpins d) e = absurd cc
-rw_unbegun (r.DrainSetParked d word) e = absurd cc
-rw_unbegun (r.DrainEnters d) e = absurd cc
-rw_unbegun (r.DrainChecks d) e = absurd cc
-rw_unbegun (r.DrainRetreats d) e = absurd cc
-rw_unbegun (r.DrainAppends rounds) e = absurd cc
-rw_unbegun (r.DrainRests rounds) e = absurd cc
-rw_unbegun (r.DrainSleeps rounds) e = absurd cc
+rw_unbegun (RwPhase.Loads a) e = absurd cc
+rw_unbegun (RwPhase.Admits a word) e = absurd cc
+rw_unbegun (RwPhase.Spins a) e = absurd cc
+rw_unbegun (RwPhase.SetParked a word) e = absurd cc
+rw_unbegun (RwPhase.DrainLoads d) e = absurd cc
+rw_unbegun (RwPhase.DrainSpins d) e = absurd cc
+rw_unbegun (RwPhase.DrainSetParked d word) e = absurd cc
+rw_unbegun (RwPhase.DrainEnters d) e = absurd cc
+rw_unbegun (RwPhase.DrainChecks d) e = absurd cc
+rw_unbegun (RwPhase.DrainRetreats d) e = absurd cc
+rw_unbegun (RwPhase.DrainAppends rounds) e = absurd cc
+rw_unbegun (RwPhase.DrainRests rounds) e = absurd cc
+rw_unbegun (RwPhase.DrainSleeps rounds) e = absurd cc
 rw_unbegun p e = no_rounds
 
 pub unbegun_few : (c : Core) → has_begun c ≡ false → FewRounds c
-unbegun_few (core.Mutex c) e = mutex_unbegun c.phase e
-unbegun_few (core.Rw c) e = rw_unbegun c.phase e
+unbegun_few (Core.Mutex c) e = mutex_unbegun c.phase e
+unbegun_few (Core.Rw c) e = rw_unbegun c.phase e

@@ -1,133 +1,76 @@
 -- A call begins: its thread goes from no call to the first phase.
-use Rattle.std.proofs.Common.{◌≡◌, ◌≢◌, ℕ, zero, suc, ◌+◌, ◌*◌, ◌<◌, ◌≤◌, inl, inr, ◌==◌, cond, Bool, true, false, List, [], ◌∷◌, length, Option, Some, None, slice_get, slice_set, refl, sym, ap, ◌∙◌, subst, arith}
-use Rattle.std.proofs.lemmas.Bool.{cases_eq, both_ways}
-use Rattle.std.proofs.lemmas.Option.{none-some, same_Some, slice_get-get_or}
+use Rattle.std.proofs.Common.{◌≡◌, ◌≢◌, ℕ, ◌+◌, ◌*◌, ◌<◌, ◌≤◌, inl, inr, Bool, true, false, List, [], length, Option, Some, None, slice_get, slice_set, refl, sym, ap, ◌∙◌, subst, arith, zero, suc, ◌⊎◌, cond, nat_lt}
+use Rattle.std.proofs.lemmas.Bool.{cases_eq, both_ways, cases_lt, lt-ltb, ltb-true}
+use Rattle.std.proofs.lemmas.Option.{none-some, same_Some, slice_get-get_or, slice_get_within}
 use Rattle.std.proofs.lemmas.List.{length-set}
-use Rattle.std.specs.Option.{option_and_then}
+use Rattle.std.specs.Option.{option_and_then, option_map_or}
 use Rattle.std.specs.Prelude.{get_or}
+use Rattle.std.proofs.Math.Nat.{suc-mul}
 use Rattle.parking_lot_core_lot.specs.declared.place.Waiter.{Waiter}
 use Rattle.parking_lot_core_lot.proofs.Numbers.{count_by-set, flag}
-use Rattle.parking_lot_rules.specs.Roles.{Role, Idle}
-use Rattle.parking_lot_rules.specs.Mutex as mutex
-use Rattle.parking_lot_rules.specs.Any.{AnyLock, AnyStep, any_rules, any_crossing}
-use Rattle.parking_lot_rules.specs.Family.{IsFree, entered_after}
+use Rattle.parking_lot_rules.specs.Roles.{Role, Idle, Owned}
+use Rattle.parking_lot_rules.specs.Family.{IsFree, entered_after, Crossing}
 use Rattle.parking_lot_protocol.specs.declared.act.Act.{Act}
-use Rattle.parking_lot_protocol.specs.declared.act.Act.TheVariants as act
-use Rattle.parking_lot_protocol.specs.declared.act.SectionAct.TheVariants as section
 use Rattle.parking_lot_protocol.specs.Acts.{word_after}
-use Rattle.parking_lot_protocol.specs.declared.act.ActResult.TheVariants as seen
 use Rattle.parking_lot_protocol.specs.declared.rw_core.RwCore.{RwCore}
 use Rattle.parking_lot_protocol.specs.declared.mutex_core.MutexCore.{MutexCore}
-use Rattle.parking_lot_protocol.specs.RwRules as of_rw
-use Rattle.parking_lot_protocol.specs.MutexRules as of_mutex
 use Rattle.parking_lot_world.specs.declared.seat.Core.{Core}
-use Rattle.parking_lot_world.specs.declared.seat.Core.TheVariants as core
 use Rattle.parking_lot_world.specs.declared.open_call.Call.{Call}
-use Rattle.parking_lot_rules.specs.Roles.{Owned}
 use Rattle.parking_lot_world.specs.declared.seat.QueuePosition.{QueuePosition}
-use Rattle.parking_lot_world.specs.declared.seat.QueuePosition.TheVariants as spot
-use Rattle.parking_lot_world.specs.Rows.{State, word_at, call_at, hold_at, taken_by, rw_spot, first_of_all, mutex_spot, mutex_role_in, mutex_role_at, mutex_core_role, mutex_at, rw_role_in, rw_role_at, rw_core_role, rw_lock_at, inside, one_bucket}
-use Rattle.parking_lot_world.specs.Stances.{has_begun, rw_begun, mutex_begun, core_act, core_next}
-use Rattle.parking_lot_world.specs.RowActs.{with_call, hears, begun}
-use Rattle.parking_lot_world.specs.RowFits.{FitsTogether, LotFits, WakesFit, RulesFit, IsOfKind, IsPrepared, KnowsList, rw_prepared, rw_knows, mutex_knows, is_off, is_away}
+use Rattle.parking_lot_world.specs.Rows.{State, word_at, call_at, hold_at, taken_by, rw_spot, first_of_all, mutex_at, rw_role_at, rw_lock_at, queue_at, inside, owned_of, owns_mutex, mutex_spot}
+use Rattle.parking_lot_world.specs.Stances.{has_begun, rw_begun, mutex_begun, core_act, core_next, Stance, Out, In, Asleep, stance, taken_count}
+use Rattle.parking_lot_world.specs.RowActs.{hears, begun, answered, hold_after, rw_hold_after, mutex_hold_after}
+use Rattle.parking_lot_world.specs.RowFits.{FitsTogether, WakesFit, IsOfKind, rw_prepared, rw_knows, mutex_knows, is_off, is_away}
 use Rattle.parking_lot_rules.specs.Holds.{shared_holds}
 use Rattle.parking_lot_rules.specs.Lock.{Lock}
 use Rattle.parking_lot_protocol.specs.declared.rw_phase.RwPhase.{RwPhase}
-use Rattle.parking_lot_protocol.specs.declared.rw_phase.RwPhase.TheVariants as r
-use Rattle.parking_lot_protocol.specs.RwTable as of_rw_table
-use Rattle.parking_lot_world.specs.declared.calls.LockKind.TheVariants as kind
-use Rattle.parking_lot_world.specs.RwLaws.{rw_begins, Finds, Learns, Meets}
-use Rattle.parking_lot_protocol.specs.MutexTable as of_mutex_table
-use Rattle.parking_lot_rules.specs.Family.{Crossing}
+use Rattle.parking_lot_world.specs.RwLaws.{rw_begins, Finds, Learns, Meets, with_role, IsLastStep, move_crossing}
 use Rattle.parking_lot_world.specs.declared.seat.Wakeup.{Wakeup}
-use Rattle.parking_lot_world.specs.MutexLaws.{Plays, IsOwnStep, crossing_of}
-use Rattle.parking_lot_world.specs.ActLaws.{Acts, OwnsFor, MayBegin}
+use Rattle.parking_lot_world.specs.MutexLaws.{crossing_of, mutex_of}
+use Rattle.parking_lot_world.specs.ActLaws.{Acts, OwnsFor, MayBegin, Ends}
 use Rattle.parking_lot_world.proofs.Spinning.{unbegun_few, under_way}
-use Rattle.parking_lot_world.proofs.LotActs.{begun_fits}
+use Rattle.parking_lot_world.proofs.LotActs.{begun_fits, same_parts, ended_fits}
 use Rattle.parking_lot_world.proofs.MutexMoving.{steps}
 use Rattle.parking_lot_world.proofs.MutexRoles.{words}
-use Rattle.parking_lot_world.proofs.Stancing.{calls_begin}
-use Rattle.parking_lot_world.proofs.Meeting.{rw_sound, mutex_sound, role_few}
+use Rattle.parking_lot_world.proofs.Stancing.{calls_begin, calls_end}
+use Rattle.parking_lot_world.proofs.Meeting.{rw_sound, mutex_sound, role_few, in_range, meets, plays}
 use Rattle.parking_lot_world.proofs.OwnMoves.{OwnMove}
-use Rattle.parking_lot_world.proofs.Ruling.{CallFits, call_fits, rules_after, rw_move_sound, mutex_move_sound}
+use Rattle.parking_lot_world.proofs.Ruling.{CallFits, Fitted, call_fits, rules_after, same_kind}
 use Rattle.parking_lot_world.proofs.RwMoving.{answers_are_moves}
 use Rattle.parking_lot_world.proofs.RwKeeping.{calls_keep}
 use Rattle.parking_lot_world.proofs.RwCrossing.{lists_are_known}
-use Rattle.parking_lot_world.proofs.RwEnding.{begins_are_ready}
-use Rattle.parking_lot_world.proofs.Lifting.{IsThere, Elsewhere, rw_there, mutex_there, same_rw, same_mutex}
-use Rattle.parking_lot_world.proofs.Everybody.{all, same-all, get-all, was-all, length-all}
-use Rattle.parking_lot_world.proofs.Making.{IsSoundState, Crossed, TellsOf, quiet_rw, quiet_mutex, mutex_goes}
-use Rattle.parking_lot_world.proofs.Owning.{OwnAct, own-there, own-elsewhere, mutex_after, rw_goes_from}
+use Rattle.parking_lot_world.proofs.RwTaking.{begins_are_ready, ends_are_steps, answers_are_last}
+use Rattle.parking_lot_world.proofs.KindTable.{Kind, of_rws, of_mutexes, IsThere, Elsewhere, one_changed, role_at, role_now, role_stays, roles_at, same, shown}
+use Rattle.parking_lot_world.proofs.Everybody.{get-all, was-all, length-all}
+use Rattle.parking_lot_world.proofs.Making.{Crossed, TellsOf, move_sound, rw_goes, mutex_goes, RwLeadsBy, last_sound}
+use Rattle.parking_lot_world.proofs.Owning.{rw_leads, set-same}
 use Rattle.parking_lot_protocol.specs.declared.mutex_phase.MutexPhase.{MutexPhase}
-use Rattle.parking_lot_protocol.specs.declared.mutex_phase.MutexPhase.TheVariants as m
-use Rattle.parking_lot_world.proofs.Calling.{call_of, call-here, call-elsewhere}
-use Rattle.parking_lot_world.specs.RowSteps.{IsQuiet, IsMade, IsRwMove, IsMutexMove, IsMoveOf}
-
--- FROM A STATE THAT SHOWS THE SAME LOCKS
-
-abbrev marked : Option ℕ → ℕ → Option ℕ
-marked w b = cond (b == 0) w None
-
-pub made_from : (s o u : State) (j t : ℕ) (step : AnyStep) → IsQuiet s o → IsMade j t step o u → IsMade j t step s u
-made_from s o u j t step same h = record {
-  allowed = subst ((any_rules (λ i. false)).allowed j t step) (same.locks j) h.allowed;
-  free = subst (λ (w : Option ℕ). IsFree one_bucket (marked w) j (any_crossing step)) same.inside h.free;
-  idle = λ i ne. subst (λ (l : AnyLock). (any_rules (λ i. false)).idle l t) (same.locks i) (h.idle i ne);
-  here = h.here ∙ ap ((any_rules (λ i. false)).after t step) (same.locks j);
-  elsewhere = λ i ne. h.elsewhere i ne ∙ same.locks i;
-  entered = λ b. h.entered b ∙ ap (λ (w : Option ℕ). entered_after one_bucket (marked w) j t (any_crossing step) b) same.inside;
-}
-
-pub rw_move_from : (s o u : State) (j t : ℕ) (m : of_rw.Move) → IsQuiet s o → IsRwMove m j t o u → IsRwMove m j t s u
-rw_move_from s o u j t of_rw.Stays same h = record { locks = λ i. h.locks i ∙ same.locks i; inside = h.inside ∙ same.inside }
-rw_move_from s o u j t (of_rw.Makes k) same h = made_from s o u j t _ same h
-rw_move_from s o u j t (of_rw.Joins k) same h = made_from s o u j t _ same h
-rw_move_from s o u j t (of_rw.TakesOne mode) same h = (h.0, h.1, h.2, made_from s o u j t _ same h.3)
-rw_move_from s o u j t of_rw.TakesWriter same h = (h.0, h.1, made_from s o u j t _ same h.2)
-rw_move_from s o u j t (of_rw.Tells end left) same h = (h.0, made_from s o u j t _ same h.1)
-rw_move_from s o u j t of_rw.WakesOne same h = (h.0, h.1, h.2, h.3, made_from s o u j t _ same h.4)
-rw_move_from s o u j t (of_rw.IsWoken k) same h = h
-
-pub mutex_move_from : (s o u : State) (j t : ℕ) (us : List ℕ) (m : of_mutex.Move) → IsQuiet s o → IsMutexMove m us j t o u → IsMutexMove m us j t s u
-mutex_move_from s o u j t us of_mutex.Stays same h = record { locks = λ i. h.locks i ∙ same.locks i; inside = h.inside ∙ same.inside }
-mutex_move_from s o u j t us (of_mutex.Makes k) same h = made_from s o u j t _ same h
-mutex_move_from s o u j t us of_mutex.Joins same h = made_from s o u j t _ same h
-mutex_move_from s o u j t us of_mutex.TakesOne same h = (h.0, made_from s o u j t _ same h.1)
-mutex_move_from s o u j t us (of_mutex.Tells taken handed left) same h = made_from s o u j t _ same h
-mutex_move_from s o u j t us of_mutex.WakesOne same h = (h.0, h.1, h.2, made_from s o u j t _ same h.3)
-mutex_move_from s o u j t us (of_mutex.IsWoken handed) same h = h
-
--- THE CALL BEFORE IT BEGINS
-
-set-set : {X : Type 0} (xs : List X) (i : ℕ) (x y : X) → slice_set (slice_set xs i x) i y ≡ slice_set xs i y
-set-set [] i x y = refl
-set-set (z ∷ zs) zero x y = refl
-set-set (z ∷ zs) (suc i) x y = ap (λ ws. z ∷ ws) (set-set zs i x y)
+use Rattle.parking_lot_world.proofs.Calling.{call_of, call-here, call-elsewhere, slot}
+use Rattle.parking_lot_core_lot.specs.declared.parking.ParkToken.{ParkToken}
+use Rattle.parking_lot_rules.proofs.Indexed.{get-set_same, get-set_other}
+use Rattle.parking_lot_world.specs.declared.seat.Hold.{Hold}
+use Rattle.parking_lot_rules.specs.Clauses.{word_of}
+use Rattle.parking_lot_world.specs.StanceLaws.{IsOver}
+use Rattle.parking_lot_protocol.specs.declared.act.CoreAnswer.{CoreAnswer}
+use Rattle.parking_lot_world.specs.RowSteps.{IsLastOf}
+use Rattle.parking_lot_world.proofs.MutexTelling.{shown as shown_as}
+use Rattle.parking_lot_rules.specs.Mutex as mutex
+use Rattle.parking_lot_protocol.specs.declared.act.SectionAct.TheVariants as section
+use Rattle.parking_lot_protocol.specs.declared.act.ActResult.TheVariants as seen
+use Rattle.parking_lot_protocol.specs.RwRules as of_rw
+use Rattle.parking_lot_protocol.specs.MutexRules as of_mutex
+use Rattle.parking_lot_protocol.specs.RwTable as of_rw_table
+use Rattle.parking_lot_world.specs.declared.calls.LockKind.TheVariants as kind
+use Rattle.parking_lot_protocol.specs.MutexTable as of_mutex_table
+use Rattle.parking_lot_rules.specs.Family as crossing
+use Rattle.parking_lot_protocol.specs.declared.rw_phase.AfterWake.TheVariants as rest
+use Rattle.parking_lot_protocol.specs.declared.rw_phase.Outcome.TheVariants as outcome
 
 -- a start leaves the word
 start_word : (a : Act) (word : ℕ) → word_after a seen.Start word ≡ word
-start_word act.Load w = refl
-start_word (act.Exchange from to) w = refl
-start_word (act.Add by) w = refl
-start_word (act.FetchAnd keep) w = refl
-start_word act.Spin w = refl
-start_word (act.Enter key) w = refl
-start_word (act.Section section.Check) w = refl
-start_word (act.Section section.TakeFirst) w = refl
-start_word (act.Section (section.TakeNext sum)) w = refl
-start_word (act.Section (section.Append token)) w = refl
-start_word (act.Section (section.Store plain fair)) w = refl
-start_word (act.Section section.Leave) w = refl
-start_word (act.Section section.Wake) w = refl
-start_word act.Sleep w = refl
-start_word (act.Done answer) w = refl
-
-mutex_idle : (at : of_mutex.QueuePosition) (v : ℕ) (p : MutexPhase) → mutex_begun p ≡ false → of_mutex.role at v p ≡ record { owns = of_mutex.owns p; does = mutex.Idle }
-mutex_idle at v m.Locking h = refl
-mutex_idle at v m.Trying h = refl
-mutex_idle at v (m.Unlocking fair) h = refl
-mutex_idle at v m.Bumping h = refl
-mutex_idle at v p h = absurd (both_ways true h refl)
+start_word Act.Load w = refl
+start_word (Act.Section section.Check) w = refl
+start_word a w = refl
 
 -- the place of a thread in no call
 pub empty_slot : (calls : List (Option Call)) (t : ℕ) → t < length calls → call_of calls t ≡ None → slice_get calls t ≡ Some None
@@ -138,279 +81,390 @@ empty_slot calls t b h = go (slice_get calls t) refl
     go (Some None) e = e
     go (Some (Some c)) e = absurd (none-some c (sym h ∙ ap (option_and_then (λ y. y)) e))
 
-module _ (s : State) (t : ℕ) (c : Call) (may : MayBegin s t c) where
-  abbrev placed : State
-  placed = with_call s t c
+-- What a phase in which a reader-writer call begins needs, finds and knows; and its start is a move of its own, or none.
+begin_rw : (t n : ℕ) (us : List ℕ) (p : RwPhase) (l : Lock) (o : Option ℕ) (f g : List Waiter) → rw_begun p ≡ false → rw_begins n p
+    → rw_prepared n us p × Finds (of_rw_table.act_of p) l × OwnMove (of_rw.move n us p seen.Start) t o o × Learns p seen.Start f g × rw_knows p f g
+begin_rw t n us (RwPhase.Locking q) l o f g b h = (h, tt, refl, tt, tt)
+begin_rw t n us (RwPhase.Trying q) l o f g b h = (h, tt, refl, tt, tt)
+begin_rw t n us RwPhase.UnlockingShared l o f g b h = (tt, tt, refl, tt, tt)
+begin_rw t n us (RwPhase.UnlockingExclusive fair) l o f g b h = (tt, tt, refl, tt, tt)
+begin_rw t n us RwPhase.Downgrading l o f g b h = (tt, tt, refl, tt, tt)
+begin_rw t n us RwPhase.BumpingShared l o f g b h = (tt, tt, refl, tt, tt)
+begin_rw t n us RwPhase.BumpingExclusive l o f g b h = (tt, tt, refl, tt, tt)
+begin_rw t n us p l o f g b h = absurd h
 
-  placed_here : call_at placed t ≡ Some c
-  placed_here = call-here s.calls t None (Some c) (empty_slot s.calls t may.low may.free)
-
-  placed_others : (x : ℕ) → x ≢ t → call_at placed x ≡ call_at s x
-  placed_others x ne = call-elsewhere s.calls t x (Some c) ne
-
-  placed_elsewhere : Elsewhere c.lock s placed
-  placed_elsewhere = record {
-    kinds = refl;
-    threads = length-set s.calls t (Some c);
-    words = λ i ne. refl;
-    queues = λ i k ne b. refl;
-    holds = λ x i ne. refl;
-    calls = λ x. elim (cases_eq x t) [
-      | inl e ↦ inr (subst (λ n. IsThere c.lock (call_at s n)) (sym e) (subst (IsThere c.lock) (sym may.free) tt), subst (λ n. IsThere c.lock (call_at placed n)) (sym e) (subst (IsThere c.lock) (sym placed_here) refl))
-      | inr ne ↦ inl (placed_others x ne, refl)
-    ];
-  }
-
-  -- a thread that owns what the phase says, and does nothing
-  rw_same : (k : RwCore) → c.core ≡ core.Rw k → OwnsFor (hold_at s t c.lock) c.others (core.Rw k) → rw_role_at placed c.lock t ≡ rw_role_at s c.lock t
-  rw_same k e owns =
-      ap (rw_role_in c.lock (taken_by s.wakes t) (hold_at s t c.lock)) placed_here
-      ∙ rw_there (taken_by s.wakes t) (hold_at s t c.lock) c
-      ∙ ap (rw_core_role c.others c.spot (taken_by s.wakes t)) e
-      ∙ (begins_are_ready c.others (rw_spot c.spot) (taken_by s.wakes t) k.phase (word_at s c.lock) owns.0).0
-      ∙ ap (λ (o : Owned). record { owns = o; does = Idle }) (sym owns.2)
-      ∙ sym (ap (rw_role_in c.lock (taken_by s.wakes t) (hold_at s t c.lock)) may.free)
-
-  mutex_same : (k : MutexCore) → c.core ≡ core.Mutex k → OwnsFor (hold_at s t c.lock) c.others (core.Mutex k) → mutex_role_at placed c.lock t ≡ mutex_role_at s c.lock t
-  mutex_same k e owns =
-      ap (mutex_role_in c.lock (taken_by s.wakes t) (hold_at s t c.lock)) placed_here
-      ∙ mutex_there (taken_by s.wakes t) (hold_at s t c.lock) c
-      ∙ ap (mutex_core_role c.spot (taken_by s.wakes t)) e
-      ∙ mutex_idle (mutex_spot c.spot) (first_of_all (taken_by s.wakes t)) k.phase owns.0
-      ∙ ap (λ (o : Bool). record { owns = o; does = mutex.Idle }) (sym owns.2)
-      ∙ sym (ap (mutex_role_in c.lock (taken_by s.wakes t) (hold_at s t c.lock)) may.free)
-
-  -- so the machine shows the same locks
-  rw_placed : (k : RwCore) → c.core ≡ core.Rw k → rw_lock_at placed c.lock ≡ rw_lock_at s c.lock
-  rw_placed k e =
-      same_rw _ _ _ _ _ _ _ _ refl
-      (ap (λ n. all (rw_role_at placed c.lock) 0 n) placed_elsewhere.threads ∙ same-all (rw_role_at s c.lock) (rw_role_at placed c.lock) (length s.calls) (λ x b. elim (cases_eq x t) [
-        | inl q ↦ subst (λ n. rw_role_at placed c.lock n ≡ rw_role_at s c.lock n) (sym q) (rw_same k e (subst (OwnsFor (hold_at s t c.lock) c.others) e may.owns))
-        | inr ne ↦ ap (rw_role_in c.lock (taken_by s.wakes x) (hold_at s x c.lock)) (placed_others x ne)
-      ]))
-      refl refl
-
-  mutex_placed : (k : MutexCore) → c.core ≡ core.Mutex k → mutex_at placed c.lock ≡ mutex_at s c.lock
-  mutex_placed k e =
-      same_mutex _ _ _ _ _ _ refl
-      (ap (λ n. all (mutex_role_at placed c.lock) 0 n) placed_elsewhere.threads ∙ same-all (mutex_role_at s c.lock) (mutex_role_at placed c.lock) (length s.calls) (λ x b. elim (cases_eq x t) [
-        | inl q ↦ subst (λ n. mutex_role_at placed c.lock n ≡ mutex_role_at s c.lock n) (sym q) (mutex_same k e (subst (OwnsFor (hold_at s t c.lock) c.others) e may.owns))
-        | inr ne ↦ ap (mutex_role_in c.lock (taken_by s.wakes x) (hold_at s x c.lock)) (placed_others x ne)
-      ]))
-      refl
-
-  none_there : IsThere c.lock (call_at s t)
-  none_there = subst (IsThere c.lock) (sym may.free) tt
-
-  pub placed_quietly : IsQuiet s placed
-  placed_quietly = go c.core refl
-    where
-      go : (x : Core) → c.core ≡ x → IsQuiet s placed
-      go (core.Rw k) e = quiet_rw s placed t c.lock none_there placed_elsewhere (subst (IsOfKind (slice_get s.kinds c.lock)) e may.kind) (rw_placed k e) refl
-      go (core.Mutex k) e = quiet_mutex s placed t c.lock none_there placed_elsewhere (subst (IsOfKind (slice_get s.kinds c.lock)) e may.kind) (mutex_placed k e) refl
-
-  -- and from there it begins
-  pub starts : OwnAct placed (begun s t c) t c seen.Start (core_next c.core seen.Start) c.spot
-  starts = record {
-    here = placed_here;
-    calls = sym (set-set s.calls t (Some c) (Some (hears c seen.Start)));
-    kinds = refl;
-    wakes = refl;
-    holds = refl;
-    sizes = refl;
-    word = sym (start_word (core_act c.core) (word_at s c.lock));
-    words = λ i ne. refl;
-    queues = λ i k ne b. refl;
-    listed = λ k token e. may.listed;
-  }
-
-begin_prepared : (n : ℕ) (us : List ℕ) (p : RwPhase) → rw_begins n p → rw_prepared n us p
-begin_prepared n us (r.Locking q) h = h
-begin_prepared n us (r.Trying q) h = h
-begin_prepared n us r.UnlockingShared h = tt
-begin_prepared n us (r.UnlockingExclusive fair) h = tt
-begin_prepared n us r.Downgrading h = tt
-begin_prepared n us r.BumpingShared h = tt
-begin_prepared n us r.BumpingExclusive h = tt
-begin_prepared n us p h = absurd h
-
-begin_moves : (t n : ℕ) (us : List ℕ) (p : RwPhase) (o : Option ℕ) → rw_begun p ≡ false → OwnMove (of_rw.move n us p seen.Start) t o o
-begin_moves t n us (r.Locking q) o h = refl
-begin_moves t n us (r.Trying q) o h = refl
-begin_moves t n us r.UnlockingShared o h = refl
-begin_moves t n us (r.UnlockingExclusive fair) o h = refl
-begin_moves t n us r.Downgrading o h = refl
-begin_moves t n us r.BumpingShared o h = refl
-begin_moves t n us r.BumpingExclusive o h = refl
-begin_moves t n us p o h = absurd (both_ways true h refl)
-
-begin_finds : (p : RwPhase) (l : Lock) → rw_begun p ≡ false → Finds (of_rw_table.act_of p) l
-begin_finds (r.Locking q) l h = tt
-begin_finds (r.Trying q) l h = tt
-begin_finds r.UnlockingShared l h = tt
-begin_finds (r.UnlockingExclusive fair) l h = tt
-begin_finds r.Downgrading l h = tt
-begin_finds r.BumpingShared l h = tt
-begin_finds r.BumpingExclusive l h = tt
-begin_finds p l h = absurd (both_ways true h refl)
-
-begin_knows : (p : RwPhase) (first second : List Waiter) → rw_begun p ≡ false → rw_knows p first second × Learns p seen.Start first second
-begin_knows (r.Locking q) f g h = (tt, tt)
-begin_knows (r.Trying q) f g h = (tt, tt)
-begin_knows r.UnlockingShared f g h = (tt, tt)
-begin_knows (r.UnlockingExclusive fair) f g h = (tt, tt)
-begin_knows r.Downgrading f g h = (tt, tt)
-begin_knows r.BumpingShared f g h = (tt, tt)
-begin_knows r.BumpingExclusive f g h = (tt, tt)
-begin_knows p f g h = absurd (both_ways true h refl)
+-- and one in which a mutex's does
+begin_mutex : (v : ℕ) (us : List ℕ) (p : MutexPhase) (q : List Waiter) → mutex_begun p ≡ false → TellsOf (of_mutex.move v p seen.Start) us v × (crossing_of (of_mutex_table.act_of p) ≡ crossing.Stays) × mutex_knows (of_mutex_table.next_phase p seen.Start) q
+begin_mutex v us MutexPhase.Locking q b = (tt, refl, tt)
+begin_mutex v us MutexPhase.Trying q b = (tt, refl, tt)
+begin_mutex v us (MutexPhase.Unlocking fair) q b = (tt, refl, tt)
+begin_mutex v us MutexPhase.Bumping q b = (tt, refl, tt)
+begin_mutex v us p q b = absurd (both_ways true b refl)
 
 module _ (s : State) (t : ℕ) (c : Call) (may : MayBegin s t c) (h : FitsTogether s) where
   abbrev us : List ℕ
   us = taken_by s.wakes t
 
-  abbrev u : State
-  u = begun s t c
+  abbrev next : State
+  next = begun s t c
 
-  module _ (k : RwCore) (e : c.core ≡ core.Rw k) where
-    owns_rw : OwnsFor (hold_at s t c.lock) c.others (core.Rw k)
-    owns_rw = subst (OwnsFor (hold_at s t c.lock) c.others) e may.owns
+  begun_here : call_at next t ≡ Some (hears c seen.Start)
+  begun_here = call-here s.calls t None (Some (hears c seen.Start)) (empty_slot s.calls t may.low may.free)
 
-    kind_rw : slice_get s.kinds c.lock ≡ Some kind.Rw
-    kind_rw = subst (IsOfKind (slice_get s.kinds c.lock)) e may.kind
+  begun_others : (x : ℕ) → x ≢ t → call_at next x ≡ call_at s x
+  begun_others x ne = call-elsewhere s.calls t x (Some (hears c seen.Start)) ne
 
-    meets_rw : Meets (rw_lock_at (placed s t c may) c.lock) t c.others (rw_spot c.spot) us k.phase (word_at s c.lock)
-    meets_rw =
-        let ready = begins_are_ready c.others (rw_spot c.spot) us k.phase (word_at s c.lock) owns_rw.0 in
-        subst (λ (l : Lock). Meets l t c.others (rw_spot c.spot) us k.phase (word_at s c.lock)) (sym (rw_placed s t c may k e)) (record {
-          sound = rw_sound s h c.lock kind_rw;
-          word = refl;
-          here = get-all (rw_role_at s c.lock) (length s.calls) t may.low ∙ ap Some (ap (rw_role_in c.lock us (hold_at s t c.lock)) may.free ∙ ap (λ (o : Owned). record { owns = o; does = Idle }) owns_rw.2 ∙ sym ready.0);
-          ready = ready.1;
-          prepared = begin_prepared c.others us k.phase owns_rw.1;
-          threads = omega (arith, length-all (rw_role_at s c.lock) 0 (length s.calls), h.rules.small);
-          few = λ x q at. subst (λ (y : Role). shared_holds y.owns ≤ 256) (sym (was-all (rw_role_at s c.lock) (length s.calls) x q at)) (role_few s h c.lock x (call_at s x) refl);
-        })
+  none_there : IsThere c.lock (call_at s t)
+  none_there = subst (IsThere c.lock) (sym may.free) tt
 
-    told_rw : of_rw.IsTold k.phase (word_at s c.lock) seen.Start
-    told_rw = (begins_are_ready c.others (rw_spot c.spot) us k.phase (word_at s c.lock) owns_rw.0).2
+  begun_elsewhere : Elsewhere c.lock s next
+  begun_elsewhere = record {
+    kinds = refl;
+    threads = length-set s.calls t (Some (hears c seen.Start));
+    words = λ i ne. refl;
+    queues = λ i k ne b. refl;
+    holds = λ x i ne. refl;
+    calls = λ x. elim (cases_eq x t) [
+      | inl e ↦ inr (subst (λ n. IsThere c.lock (call_at s n)) (sym e) none_there, subst (λ n. IsThere c.lock (call_at next n)) (sym e) (subst (IsThere c.lock) (sym begun_here) refl))
+      | inr ne ↦ inl (begun_others x ne, refl)
+    ];
+  }
 
-    moves_rw : IsRwMove (of_rw.move c.others us k.phase seen.Start) c.lock t s u
-    moves_rw =
-        rw_move_from s (placed s t c may) u c.lock t (of_rw.move c.others us k.phase seen.Start) (placed_quietly s t c may)
-        (rw_goes_from (placed s t c may) u t c seen.Start k c.spot e (subst (λ (x : Core). OwnAct (placed s t c may) u t c seen.Start (core_next x seen.Start) c.spot) e (starts s t c may)) meets_rw (λ key. refl) refl
-        told_rw (begin_finds k.phase _ owns_rw.0) (begin_moves t c.others us k.phase (inside s) owns_rw.0) kind_rw)
+  -- AT A LOCK OF ANY KIND
 
-    fits_rw : CallFits s.kinds s.lot.queues (hears c seen.Start)
-    fits_rw = record {
-      kind = subst (λ (x : Core). IsOfKind (slice_get s.kinds c.lock) (core_next x seen.Start)) (sym e) kind_rw;
-      prepared = subst (λ (x : Core). IsPrepared c.others (core_next x seen.Start)) (sym e)
-          ((answers_are_moves _ t c.others (rw_spot c.spot) us k.phase (word_at s c.lock) seen.Start meets_rw told_rw).2.1, calls_keep.begins c.others k.phase owns_rw.1);
-      knows = subst (λ (x : Core). KnowsList (core_next x seen.Start) s.lot.queues c.lock) (sym e)
-          (let known = begin_knows k.phase (s.lot.queues (2 * c.lock)) (s.lot.queues (2 * c.lock + 1)) owns_rw.0 in
-          lists_are_known.learns k.phase (word_at s c.lock) seen.Start (s.lot.queues (2 * c.lock)) (s.lot.queues (2 * c.lock + 1)) (s.lot.queues (2 * c.lock)) (s.lot.queues (2 * c.lock + 1)) told_rw known.0 known.1);
-      beside = may.beside;
-      begun = under_way c.core seen.Start (unbegun_few c.core (ap has_begun e ∙ owns_rw.0));
-    }
+  module _ {C R L : Type 0} (K : Kind C R L) where
+    free_role : slice_get (roles_at K s c.lock) t ≡ Some (K.idle (hold_at s t c.lock))
+    free_role = get-all (role_at K s c.lock) (length s.calls) t may.low ∙ ap Some (ap (K.role_in c.lock us (hold_at s t c.lock)) may.free ∙ K.none c.lock us (hold_at s t c.lock))
 
-  begin_tells : (v : ℕ) (vs : List ℕ) (p : MutexPhase) → mutex_begun p ≡ false → TellsOf (of_mutex.move v p seen.Start) vs v
-  begin_tells v vs m.Locking x = tt
-  begin_tells v vs m.Trying x = tt
-  begin_tells v vs (m.Unlocking fair) x = tt
-  begin_tells v vs m.Bumping x = tt
-  begin_tells v vs p x = absurd (both_ways true x refl)
+    begun_after : (q : C) → core_next c.core seen.Start ≡ K.core q → shown K next c.lock
+        ≡ K.lock (word_after (core_act c.core) seen.Start (word_at s c.lock)) (slice_set (roles_at K s c.lock) t (K.plays c.others QueuePosition.Listed us q)) (queue_at s (2 * c.lock)) (queue_at s (2 * c.lock + 1))
+    begun_after q e =
+        same K _ _ _ _ _ _ _ _ (sym (start_word (core_act c.core) (word_at s c.lock)))
+        (one_changed (role_at K s c.lock) (role_at K next c.lock) (length s.calls) (length next.calls) t _ may.low begun_elsewhere.threads (λ x ne. role_stays K s next c.lock x (begun_others x ne) refl refl)
+        (role_now K next t us (hears c seen.Start) q begun_here refl e ∙ K.listed c.others us q c.spot (λ key token z. may.listed)))
+        refl refl
 
-  begin_crossing : (p : MutexPhase) → mutex_begun p ≡ false → (x : Crossing) → x ≡ crossing_of (of_mutex_table.act_of p) → Crossed x t (inside s) (inside s)
-  begin_crossing m.Locking b x e = subst (λ (y : Crossing). Crossed y t (inside s) (inside s)) (sym e) refl
-  begin_crossing m.Trying b x e = subst (λ (y : Crossing). Crossed y t (inside s) (inside s)) (sym e) refl
-  begin_crossing (m.Unlocking fair) b x e = subst (λ (y : Crossing). Crossed y t (inside s) (inside s)) (sym e) refl
-  begin_crossing m.Bumping b x e = subst (λ (y : Crossing). Crossed y t (inside s) (inside s)) (sym e) refl
-  begin_crossing p b x e = absurd (both_ways true b refl)
+  abbrev x : ℕ
+  x = word_at s c.lock
 
-  begin_waits : (p : MutexPhase) (queue : List Waiter) → mutex_begun p ≡ false → mutex_knows (of_mutex_table.next_phase p seen.Start) queue
-  begin_waits m.Locking q b = tt
-  begin_waits m.Trying q b = tt
-  begin_waits (m.Unlocking fair) q b = tt
-  begin_waits m.Bumping q b = tt
-  begin_waits p q b = absurd (both_ways true b refl)
+  begin_rws : (k : RwCore) → c.core ≡ Core.Rw k → OwnsFor (hold_at s t c.lock) c.others (Core.Rw k) → slice_get s.kinds c.lock ≡ Some kind.Rw → Fitted s next t c seen.Start (Core.Rw k)
+  begin_rws k e owns kind_is =
+      let ready = begins_are_ready c.others (rw_spot c.spot) us k.phase x owns.0 in
+      let well = begin_rw t c.others us k.phase (rw_lock_at s c.lock) (inside s) (s.lot.queues (2 * c.lock)) (s.lot.queues (2 * c.lock + 1)) owns.0 owns.1 in
+      let met : Meets (rw_lock_at s c.lock) t c.others (rw_spot c.spot) us k.phase x = record {
+        sound = rw_sound s h c.lock kind_is;
+        word = refl;
+        here = free_role of_rws ∙ ap Some (ap (λ (o : Owned). record { owns = o; does = Idle }) owns.2 ∙ sym ready.0);
+        ready = ready.1;
+        prepared = well.0;
+        threads = omega (arith, length-all (rw_role_at s c.lock) 0 (length s.calls), h.rules.small);
+        few = λ y q at. subst (λ (z : Role). shared_holds z.owns ≤ 256) (sym (was-all (rw_role_at s c.lock) (length s.calls) y q at)) (role_few s h c.lock y (call_at s y) refl);
+      } in
+      let leads = rw_leads (rw_lock_at s c.lock) t c.others c.spot us k.phase x seen.Start met ready.2 well.1 (λ key token z. may.listed) (inside s) (inside next) well.2 in (
+        rw_goes s next t c.lock (of_rw.move c.others us k.phase seen.Start) _ none_there begun_elsewhere kind_is leads.0
+            (begun_after of_rws (record k { phase = of_rw_table.next_phase k.phase seen.Start }) (ap (λ (y : Core). core_next y seen.Start) e) ∙ same of_rws _ _ _ _ _ _ _ _ (ap (λ y. word_after (core_act y) seen.Start x) e) refl refl refl) leads.1,
+        ((answers_are_moves (rw_lock_at s c.lock) t c.others (rw_spot c.spot) us k.phase x seen.Start met ready.2).2.1, calls_keep.begins c.others k.phase owns.1),
+        lists_are_known.learns k.phase x seen.Start (s.lot.queues (2 * c.lock)) (s.lot.queues (2 * c.lock + 1)) (s.lot.queues (2 * c.lock)) (s.lot.queues (2 * c.lock + 1)) ready.2 well.4 well.3,
+        h.rules.bits c.lock,
+      )
 
-  module _ (k : MutexCore) (e : c.core ≡ core.Mutex k) where
-    owns_mx : OwnsFor (hold_at s t c.lock) c.others (core.Mutex k)
-    owns_mx = subst (OwnsFor (hold_at s t c.lock) c.others) e may.owns
+  begin_mutexes : (k : MutexCore) → c.core ≡ Core.Mutex k → OwnsFor (hold_at s t c.lock) c.others (Core.Mutex k) → slice_get s.kinds c.lock ≡ Some kind.Mutex → Fitted s next t c seen.Start (Core.Mutex k)
+  begin_mutexes k e owns kind_is =
+      let v = first_of_all us in
+      let well = begin_mutex v us k.phase (s.lot.queues (2 * c.lock)) owns.0 in
+      let step = steps.begins (mutex_at s c.lock) x t v k.phase owns.0
+      (record { sound = mutex_sound s h c.lock kind_is; word = sym (words.forth x (h.rules.bits c.lock kind_is)); here = free_role of_mutexes ∙ ap Some (ap (λ (o : Bool). record { owns = o; does = mutex.Idle }) owns.2) }) in (
+        mutex_goes s next t c.lock v us _ (of_mutex.move v k.phase seen.Start) none_there begun_elsewhere kind_is step.leads
+            (begun_after of_mutexes (record k { phase = of_mutex_table.next_phase k.phase seen.Start }) (ap (λ (y : Core). core_next y seen.Start) e) ∙ same of_mutexes _ _ _ _ _ _ [] [] (ap (λ y. word_after (core_act y) seen.Start x) e) refl refl refl)
+            (subst (λ (y : Crossing). Crossed y t (inside s) (inside next)) (sym (step.crossing ∙ well.1)) refl) well.0,
+        owns.1,
+        well.2,
+        h.rules.bits c.lock,
+      )
 
-    kind_mx : slice_get s.kinds c.lock ≡ Some kind.Mutex
-    kind_mx = subst (IsOfKind (slice_get s.kinds c.lock)) e may.kind
-
-    step_mx : IsOwnStep (mutex_at (placed s t c may) c.lock) (word_at s c.lock) t (first_of_all us) k.phase seen.Start
-    step_mx =
-        steps.begins (mutex_at (placed s t c may) c.lock) (word_at s c.lock) t (first_of_all us) k.phase owns_mx.0
-        (subst (λ (q : mutex.Mutex). Plays q (word_at s c.lock) t (record { owns = of_mutex.owns k.phase; does = mutex.Idle })) (sym (mutex_placed s t c may k e)) (record {
-          sound = mutex_sound s h c.lock kind_mx;
-          word = sym (words.forth (word_at s c.lock) (h.rules.bits c.lock kind_mx));
-          here = get-all (mutex_role_at s c.lock) (length s.calls) t may.low ∙ ap Some (ap (mutex_role_in c.lock us (hold_at s t c.lock)) may.free ∙ ap (λ (o : Bool). record { owns = o; does = mutex.Idle }) owns_mx.2);
-        }))
-
-    starts_mx : OwnAct (placed s t c may) u t c seen.Start (core_next (core.Mutex k) seen.Start) c.spot
-    starts_mx = subst (λ (x : Core). OwnAct (placed s t c may) u t c seen.Start (core_next x seen.Start) c.spot) e (starts s t c may)
-
-    moves_mx : IsMutexMove (of_mutex.move (first_of_all us) k.phase seen.Start) us c.lock t s u
-    moves_mx =
-        mutex_move_from s (placed s t c may) u c.lock t us (of_mutex.move (first_of_all us) k.phase seen.Start) (placed_quietly s t c may)
-        (mutex_goes (placed s t c may) u t c.lock (first_of_all us) us _ (of_mutex.move (first_of_all us) k.phase seen.Start) (own-there (placed s t c may) u t c seen.Start _ c.spot starts_mx)
-        (own-elsewhere (placed s t c may) u t c seen.Start _ c.spot starts_mx) kind_mx step_mx.leads (mutex_after (placed s t c may) u t c seen.Start k c.spot e starts_mx)
-        (begin_crossing k.phase owns_mx.0 _ step_mx.crossing) (begin_tells (first_of_all us) us k.phase owns_mx.0))
-
-    fits_mx : CallFits s.kinds s.lot.queues (hears c seen.Start)
-    fits_mx = record {
-      kind = subst (λ (x : Core). IsOfKind (slice_get s.kinds c.lock) (core_next x seen.Start)) (sym e) kind_mx;
-      prepared = subst (λ (x : Core). IsPrepared c.others (core_next x seen.Start)) (sym e) owns_mx.1;
-      knows = subst (λ (x : Core). KnowsList (core_next x seen.Start) s.lot.queues c.lock) (sym e) (begin_waits k.phase (s.lot.queues (2 * c.lock)) owns_mx.0);
-      beside = may.beside;
-      begun = under_way c.core seen.Start (unbegun_few c.core (ap has_begun e ∙ owns_mx.0));
-    }
-
-    small_mx : word_at s c.lock < 4
-    small_mx = h.rules.bits c.lock kind_mx
+  begin_so : (y : Core) → c.core ≡ y → Fitted s next t c seen.Start y × (has_begun y ≡ false)
+  begin_so (Core.Rw k) e = let owns = subst (OwnsFor (hold_at s t c.lock) c.others) e may.owns in (begin_rws k e owns (subst (IsOfKind (slice_get s.kinds c.lock)) e may.kind), owns.0)
+  begin_so (Core.Mutex k) e = let owns = subst (OwnsFor (hold_at s t c.lock) c.others) e may.owns in (begin_mutexes k e owns (subst (IsOfKind (slice_get s.kinds c.lock)) e may.kind), owns.0)
 
   -- TOGETHER
 
-  calls_begun : (P : ℕ → Call → Type 0) → ((v : ℕ) (x : Call) → call_at s v ≡ Some x → P v x) → P t (hears c seen.Start) → (v : ℕ) (x : Call) → call_at u v ≡ Some x → P v x
+  calls_begun : (P : ℕ → Call → Type 0) → ((v : ℕ) (x : Call) → call_at s v ≡ Some x → P v x) → P t (hears c seen.Start) → (v : ℕ) (x : Call) → call_at next v ≡ Some x → P v x
   calls_begun P others this v x at = elim (cases_eq v t) [
-    | inl q ↦ subst (λ (n : ℕ). P n x) (sym q) (subst (P t) (same_Some (hears c seen.Start) x (sym (call-here s.calls t None (Some (hears c seen.Start)) (empty_slot s.calls t may.low may.free)) ∙ ap (call_at u) (sym q) ∙ at)) this)
-    | inr ne ↦ others v x (sym (call-elsewhere s.calls t v (Some (hears c seen.Start)) ne) ∙ at)
+    | inl q ↦ subst (λ (n : ℕ). P n x) (sym q) (subst (P t) (same_Some (hears c seen.Start) x (sym begun_here ∙ ap (call_at next) (sym q) ∙ at)) this)
+    | inr ne ↦ others v x (sym (begun_others v ne) ∙ at)
   ]
 
-  wakes_begun : WakesFit u
+  wakes_begun : WakesFit next
   wakes_begun = record {
-    off = λ v by x said at is. calls_begun (λ (n : ℕ) (y : Call). y.spot ≡ spot.Off by said → (i : ℕ) × (w : Wakeup) × (slice_get s.wakes i ≡ Some w) × (w.by ≡ by) × (w.thread ≡ n))
+    off = λ v by x said at is. calls_begun (λ (n : ℕ) (y : Call). y.spot ≡ QueuePosition.Off by said → (i : ℕ) × (w : Wakeup) × (slice_get s.wakes i ≡ Some w) × (w.by ≡ by) × (w.thread ≡ n))
         (λ n y at_n off. h.wakes.off n by y said at_n off) (λ off. absurd (both_ways (is_off c.spot) (ap is_off may.listed) (ap is_off off))) v x at is;
     room = h.wakes.room ∙ omega (arith, count_by-set is_away s.calls t None (Some (hears c seen.Start)) (empty_slot s.calls t may.low may.free), ap (λ (o : QueuePosition). flag (is_off o)) may.listed);
   }
 
-  rules_begun : CallFits s.kinds s.lot.queues (hears c seen.Start) → IsSoundState u → RulesFit u
-  rules_begun fit sound = rules_after s u c.lock h.rules (record {
-    kinds = refl;
-    threads = length-set s.calls t (Some (hears c seen.Start));
-    holds = refl;
-    words = refl;
-    calls = calls_begun (λ v x. CallFits s.kinds s.lot.queues x) (call_fits s h.rules) fit;
-    few = h.rules.few;
-    elsewhere = λ i ne. refl;
-    bits = h.rules.bits c.lock;
-    sound = sound;
-  })
+  pub begins : Acts t c seen.Start s next
+  begins =
+      let so = begin_so c.core refl in
+      let fit = so.0 in
+      record {
+        fits = record {
+          lots = begun_fits s t c h.lots may.low may.free (calls_begin c.core).0 (calls_begin c.core).1;
+          wakes = wakes_begun;
+          rules = rules_after s next c.lock h.rules (record {
+            kinds = refl;
+            threads = length-set s.calls t (Some (hears c seen.Start));
+            holds = refl;
+            words = refl;
+            calls = calls_begun (λ v y. CallFits s.kinds s.lot.queues y) (call_fits s h.rules)
+                (record { kind = same_kind c.core seen.Start (slice_get s.kinds c.lock) may.kind; prepared = fit.1; knows = fit.2; beside = may.beside; begun = under_way c.core seen.Start (unbegun_few c.core so.1) });
+            few = h.rules.few;
+            elsewhere = λ i ne. refl;
+            bits = fit.3;
+            sound = move_sound s next c.core c.others us seen.Start c.lock t fit.0 h.rules.sound;
+          });
+        };
+        goes = fit.0;
+      }
 
-  pub begins : Acts t c seen.Start s u
-  begins = go c.core refl
+-- A call is answered: its thread owns what the answer says, and is in no call.
+
+is_out : Stance → Bool
+is_out Out = true
+is_out (In key how) = false
+is_out (Asleep key token) = false
+
+-- a call that is out of lists sleeps nowhere
+pub never : (b : Stance) (k : ℕ) (token : ParkToken) (A : Type 0) → b ≡ Out → b ≡ Asleep k token → A
+unfolding is_out
+never b k token A e f = absurd (both_ways (is_out b) (ap is_out f) (ap is_out e))
+
+-- FEW HOLDS
+
+same_shares : (n m : ℕ) → Hold.Shares n ≡ Hold.Shares m → n ≡ m
+same_shares n m e = ap shares_in e
+  where
+    shares_in : Hold → ℕ
+    shares_in (Hold.Shares k) = k
+    shares_in Hold.Excludes = 0
+
+no_shares : (m : ℕ) → Hold.Excludes ≡ Hold.Shares m → ⊥
+no_shares m e = both_ways (excludes (Hold.Shares m)) refl (ap excludes (sym e))
+  where
+    excludes : Hold → Bool
+    excludes (Hold.Shares k) = false
+    excludes Hold.Excludes = true
+
+mutex_few : (p : MutexPhase) (n : ℕ) → mutex_hold_after p ≡ Hold.Shares n → n ≤ 255
+mutex_few (MutexPhase.Ends CoreAnswer.Owned) n e = absurd (no_shares n e)
+mutex_few p n e = omega (arith, same_shares 0 n e)
+
+rw_few : (k : ℕ) (p : RwPhase) (n : ℕ) → k ≤ 254 → rw_hold_after k p ≡ Hold.Shares n → n ≤ 255
+rw_few k (RwPhase.Finishes rest.FreedShared) n b e = omega (arith, same_shares k n e, b)
+rw_few k (RwPhase.Finishes rest.FreedExclusive) n b e = omega (arith, same_shares 0 n e)
+rw_few k (RwPhase.Finishes rest.Downgraded) n b e = omega (arith, same_shares 1 n e)
+rw_few k (RwPhase.Finishes rest.AgainShared) n b e = omega (arith, same_shares k n e, b)
+rw_few k (RwPhase.Finishes rest.AgainExclusive) n b e = omega (arith, same_shares 0 n e)
+rw_few k (RwPhase.Ends outcome.Shared) n b e = omega (arith, same_shares (k + 1) n e, b)
+rw_few k (RwPhase.Ends outcome.Exclusive) n b e = absurd (no_shares n e)
+rw_few k (RwPhase.Ends outcome.Downgraded) n b e = omega (arith, same_shares 1 n e)
+rw_few k (RwPhase.Ends outcome.FreedShared) n b e = omega (arith, same_shares k n e, b)
+rw_few k (RwPhase.Ends outcome.FreedExclusive) n b e = omega (arith, same_shares 0 n e)
+rw_few k p n b e = omega (arith, same_shares k n e, b)
+
+-- CELLS
+
+-- rows of cells lie one after another
+rows_apart : (locks x t : ℕ) → x < t → x * locks + locks ≤ t * locks
+rows_apart locks x zero h = absurd (omega (arith, h))
+rows_apart locks x (suc t) h = elim (cases_lt x t) [
+  | inl b ↦ omega (arith, rows_apart locks x t b, suc-mul t locks)
+  | inr b ↦ subst (λ n. n * locks + locks ≤ suc t * locks) (same h b) (omega (arith, suc-mul t locks))
+]
+  where
+    same : x < suc t → t ≤ x → t ≡ x
+    same a b = omega (arith, a, b)
+
+pub cells_apart : (locks x i t j : ℕ) → i < locks → j < locks → x * locks + i ≡ t * locks + j → (x ≡ t) × (i ≡ j)
+cells_apart locks x i t j bi bj e = elim (cases_lt x t) [
+  | inl b ↦ absurd (omega (arith, rows_apart locks x t b, e, bi))
+  | inr b ↦ elim (cases_lt t x) [
+    | inl d ↦ absurd (omega (arith, rows_apart locks t x d, e, bj))
+    | inr d ↦ let same : x ≡ t = omega (arith, b, d) in (same, omega (arith, subst (λ n. n * locks + i ≡ t * locks + j) same e))
+  ]
+]
+
+pub cell_within : (threads locks t j : ℕ) → t < threads → j < locks → t * locks + j < threads * locks
+cell_within threads locks t j bt bj = omega (arith, rows_apart locks t threads bt, bj)
+
+abbrev read : List Hold → ℕ → Hold
+read holds at = option_map_or (λ h. h) (slice_get holds at) (Hold.Shares 0)
+
+read_here : (holds : List Hold) (at : ℕ) (x : Hold) → at < length holds → read (slice_set holds at x) at ≡ x
+read_here holds at x b =
+    ap (λ o. option_map_or (λ h. h) o (Hold.Shares 0)) (get-set_same holds at (get_or holds at (Hold.Shares 0)) x (slice_get-get_or holds at (Hold.Shares 0) b))
+
+read_elsewhere : (holds : List Hold) (at to : ℕ) (x : Hold) → to ≢ at → read (slice_set holds at x) to ≡ read holds to
+read_elsewhere holds at to x ne = ap (λ o. option_map_or (λ h. h) o (Hold.Shares 0)) (get-set_other holds at to x (λ e. ne (sym e)))
+
+module _ (s : State) (h : FitsTogether s) (t : ℕ) (c : Call) (here : call_at s t ≡ Some c) where
+  abbrev u : State
+  u = answered s t c
+
+  abbrev now : Hold
+  now = hold_after c.others c.core
+
+  lock_within : c.lock < length s.kinds
+  lock_within = go c.core refl
     where
-      lots : LotFits u
-      lots = begun_fits s t c h.lots may.low may.free (calls_begin c.core).0 (calls_begin c.core).1
+      go : (x : Core) → c.core ≡ x → c.lock < length s.kinds
+      go (Core.Rw k) e = slice_get_within s.kinds c.lock _ (subst (IsOfKind (slice_get s.kinds c.lock)) e (h.rules.kinds t c here))
+      go (Core.Mutex k) e = slice_get_within s.kinds c.lock _ (subst (IsOfKind (slice_get s.kinds c.lock)) e (h.rules.kinds t c here))
 
-      go : (x : Core) → c.core ≡ x → Acts t c seen.Start s u
-      go (core.Rw k) e = record {
-        fits = record { lots = lots; wakes = wakes_begun; rules = rules_begun (fits_rw k e) (rw_move_sound s u t c.lock (of_rw.move c.others us k.phase seen.Start) (moves_rw k e) h.rules.sound) };
-        goes = subst (λ (y : Core). IsMoveOf y c.others us seen.Start c.lock t s u) (sym e) (moves_rw k e);
-      }
-      go (core.Mutex k) e = record {
-        fits = record { lots = lots; wakes = wakes_begun; rules = rules_begun (fits_mx k e) (mutex_move_sound s u t c.lock us (of_mutex.move (first_of_all us) k.phase seen.Start) (moves_mx k e) h.rules.sound) };
-        goes = subst (λ (y : Core). IsMoveOf y c.others us seen.Start c.lock t s u) (sym e) (moves_mx k e);
-      }
+  hold_here : hold_at u t c.lock ≡ now
+  hold_here =
+      ap (λ b. cond b (read u.holds (t * length s.kinds + c.lock)) (Hold.Shares 0)) (lt-ltb c.lock (length s.kinds) lock_within)
+      ∙ read_here s.holds (t * length s.kinds + c.lock) now (subst (λ n. t * length s.kinds + c.lock < n) (sym h.rules.size_holds) (cell_within (length s.calls) (length s.kinds) t c.lock (in_range s t c here) lock_within))
+
+  -- of any other lock, or any other thread
+  hold_elsewhere : (x i : ℕ) → (x ≢ t) ⊎ (i ≢ c.lock) → hold_at u x i ≡ hold_at s x i
+  hold_elsewhere x i other = elim (cases_lt i (length s.kinds)) [
+    | inl b ↦ ap (λ q. cond q (read u.holds (x * length s.kinds + i)) (Hold.Shares 0)) (lt-ltb i (length s.kinds) b)
+        ∙ read_elsewhere s.holds (t * length s.kinds + c.lock) (x * length s.kinds + i) now (λ e. let same = cells_apart (length s.kinds) x i t c.lock b lock_within e in elim other [ inl n ↦ n same.0 | inr n ↦ n same.1 ])
+        ∙ sym (ap (λ q. cond q (read s.holds (x * length s.kinds + i)) (Hold.Shares 0)) (lt-ltb i (length s.kinds) b))
+    | inr b ↦ ap (λ q. cond q (read u.holds (x * length s.kinds + i)) (Hold.Shares 0)) (beyond i b) ∙ sym (ap (λ q. cond q (read s.holds (x * length s.kinds + i)) (Hold.Shares 0)) (beyond i b))
+  ]
+    where
+      by_test : (n : ℕ) → length s.kinds ≤ n → (b : Bool) → nat_lt n (length s.kinds) ≡ b → nat_lt n (length s.kinds) ≡ false
+      by_test n le false e = e
+      by_test n le true e = absurd (omega (arith, ltb-true n (length s.kinds) e, le))
+
+      beyond : (n : ℕ) → length s.kinds ≤ n → nat_lt n (length s.kinds) ≡ false
+      beyond n le = by_test n le (nat_lt n (length s.kinds)) refl
+
+  gone : call_at u t ≡ None
+  gone = call-here s.calls t (Some c) None (slot s.calls t c here)
+
+  others_stay : (x : ℕ) → x ≢ t → call_at u x ≡ call_at s x
+  others_stay x ne = call-elsewhere s.calls t x None ne
+
+  there_before : IsThere c.lock (call_at s t)
+  there_before = subst (IsThere c.lock) (sym here) refl
+
+  ends_elsewhere : Elsewhere c.lock s u
+  ends_elsewhere = record {
+    kinds = refl;
+    threads = length-set s.calls t None;
+    words = λ i ne. refl;
+    queues = λ i k ne b. refl;
+    holds = λ x i ne. hold_elsewhere x i (inr ne);
+    calls = λ x. elim (cases_eq x t) [
+      | inl e ↦ inr (subst (λ n. IsThere c.lock (call_at s n)) (sym e) there_before, subst (λ n. IsThere c.lock (call_at u n)) (sym e) (subst (IsThere c.lock) (sym gone) tt))
+      | inr ne ↦ inl (others_stay x ne, refl)
+    ];
+  }
+
+  -- AT A LOCK OF ANY KIND
+
+  ended : {C R L : Type 0} (K : Kind C R L) → shown K u c.lock ≡ K.lock (word_at s c.lock) (slice_set (roles_at K s c.lock) t (K.idle now)) (queue_at s (2 * c.lock)) (queue_at s (2 * c.lock + 1))
+  ended K =
+      same K _ _ _ _ _ _ _ _ refl
+      (one_changed (role_at K s c.lock) (role_at K u c.lock) (length s.calls) (length u.calls) t _ (in_range s t c here) ends_elsewhere.threads (λ x ne. role_stays K s u c.lock x (others_stay x ne) refl (hold_elsewhere x c.lock (inl ne)))
+      (ap (K.role_in c.lock (taken_by s.wakes t) (hold_at u t c.lock)) gone ∙ K.none c.lock (taken_by s.wakes t) (hold_at u t c.lock) ∙ ap K.idle hold_here))
+      refl refl
+
+  -- THE LAST STEP
+
+  last_moves : (n : ℕ) (p : RwPhase) (o : Option ℕ) → OwnMove (of_rw.last_move n p) t o o
+  last_moves n (RwPhase.Refuses q) o = refl
+  last_moves n p o = refl
+
+  last_leads : (m : of_rw.Move) (l : Lock) (x : ℕ) (old new : Role) (o : Option ℕ) → l.word ≡ word_of x → slice_get l.roles t ≡ Some old → OwnMove m t o o → IsLastStep m l t old x new → RwLeadsBy m t l (with_role l x t new) × Crossed (move_crossing m) t o o
+  last_leads of_rw.Stays l x old new o word is moves step =
+      (ap (λ w. record { word = w; roles = slice_set l.roles t new; first = l.first; second = l.second }) (sym word) ∙ ap (λ rs. record l { roles = rs }) (ap (slice_set l.roles t) step ∙ set-same l.roles t old is), refl)
+  last_leads (of_rw.Makes k) l x old new o word is moves step = (step, moves)
+  last_leads (of_rw.Joins k) l x old new o word is moves step = absurd moves
+  last_leads (of_rw.TakesOne k) l x old new o word is moves step = absurd moves
+  last_leads of_rw.TakesWriter l x old new o word is moves step = absurd moves
+  last_leads (of_rw.Tells k left) l x old new o word is moves step = absurd moves
+  last_leads of_rw.WakesOne l x old new o word is moves step = absurd moves
+  last_leads (of_rw.IsWoken k) l x old new o word is moves step = absurd moves
+
+  last_tells : (v : ℕ) (us : List ℕ) (p : MutexPhase) → TellsOf (of_mutex.last_move p) us v
+  last_tells v us MutexPhase.Refuses = tt
+  last_tells v us p = tt
+
+  module _ (answer : CoreAnswer) where
+    last_of : (x : Core) → c.core ≡ x → core_act x ≡ Act.Done answer → IsLastOf x c.others c.lock t s u
+    last_of (Core.Rw k) e asked =
+        let met = meets s h t c k e here in
+        let last = answers_are_last k.phase answer (subst (λ (x : Core). has_begun x ≡ true) e (h.rules.begun t c here).begun) asked in
+        let leads = last_leads (of_rw.last_move c.others k.phase) (rw_lock_at s c.lock) (word_at s c.lock) _ _ (inside s) refl met.here (last_moves c.others k.phase (inside s))
+        (ends_are_steps (rw_lock_at s c.lock) t c.others (rw_spot c.spot) (taken_by s.wakes t) k.phase (word_at s c.lock) met last) in
+        rw_goes s u t c.lock (of_rw.last_move c.others k.phase) _ there_before ends_elsewhere (subst (IsOfKind (slice_get s.kinds c.lock)) e (h.rules.kinds t c here)) leads.0
+        (ended of_rws ∙ ap (λ (y : Core). with_role (rw_lock_at s c.lock) (word_at s c.lock) t (record { owns = owned_of (hold_after c.others y); does = Idle })) e) leads.1
+    last_of (Core.Mutex k) e asked =
+        let begun : mutex_begun k.phase ≡ true = subst (λ (x : Core). has_begun x ≡ true) e (h.rules.begun t c here).begun in
+        let v = first_of_all (taken_by s.wakes t) in
+        let step = steps.ends (mutex_at s c.lock) (word_at s c.lock) t v (mutex_spot c.spot) k.phase answer (plays s h t c k e here) begun asked in
+        mutex_goes s u t c.lock v [] _ (of_mutex.last_move k.phase) there_before ends_elsewhere (subst (IsOfKind (slice_get s.kinds c.lock)) e (h.rules.kinds t c here)) step.0
+        (ended of_mutexes ∙ ap (λ (b : Bool). mutex_of (word_at s c.lock) (slice_set (mutex_at s c.lock).roles t (record { owns = b; does = mutex.Idle })) (mutex_at s c.lock).queue) (ap (λ (y : Core). owns_mutex (hold_after c.others y)) e ∙ shown_as.ends k.phase answer begun asked))
+        (subst (λ (x : Crossing). Crossed x t (inside s) (inside u)) (sym step.1) refl) (last_tells v [] k.phase)
+
+  -- WHAT STAYS
+
+  calls_ended : (P : ℕ → Call → Type 0) → ((v : ℕ) (x : Call) → call_at s v ≡ Some x → P v x) → (v : ℕ) (x : Call) → call_at u v ≡ Some x → P v x
+  calls_ended P others v x at = elim (cases_eq v t) [
+    | inl q ↦ absurd (none-some x (sym gone ∙ ap (call_at u) (sym q) ∙ at))
+    | inr ne ↦ others v x (sym (others_stay v ne) ∙ at)
+  ]
+
+  few_after : (i n : ℕ) (o : Core) → c.core ≡ o → now ≡ Hold.Shares n → n ≤ 255
+  few_after i n (Core.Mutex k) e is = mutex_few k.phase n (sym (ap (hold_after c.others) e) ∙ is)
+  few_after i n (Core.Rw k) e is = rw_few c.others k.phase n (h.rules.beside t c here) (sym (ap (hold_after c.others) e) ∙ is)
+
+  few_now : (x i n : ℕ) → hold_at u x i ≡ Hold.Shares n → n ≤ 255
+  few_now x i n is = elim (cases_eq x t) [
+    | inl q ↦ elim (cases_eq i c.lock) [
+      | inl p ↦ few_after i n c.core refl (sym hold_here ∙ ap (hold_at u t) (sym p) ∙ ap (λ y. hold_at u y i) (sym q) ∙ is)
+      | inr ne ↦ h.rules.few x i n (sym (hold_elsewhere x i (inr ne)) ∙ is)
+    ]
+    | inr ne ↦ h.rules.few x i n (sym (hold_elsewhere x i (inl ne)) ∙ is)
+  ]
+
+  module _ (answer : CoreAnswer) (asked : core_act c.core ≡ Act.Done answer) where
+    out : (stance c.core ≡ Out) × (taken_count c.core ≡ 0)
+    out = subst (λ (a : Act). IsOver a (stance c.core) (taken_count c.core)) asked (calls_end c.core)
+
+    stands : (x : QueuePosition) → c.spot ≡ x → is_off c.spot ≡ false
+    stands QueuePosition.Listed e = ap is_off e
+    stands (QueuePosition.Off by said) e =
+        let owed = h.wakes.off t by c said here e in
+        let taken = h.lots.woken owed.0 owed.1 owed.2 in
+        absurd (never (stance c.core) taken.key taken.token ⊥ out.0 (ap (λ (y : Call). stance y.core) (same_Some c taken.call (sym here ∙ ap (call_at s) (sym owed.4) ∙ taken.here)) ∙ taken.asleep))
+
+    wakes_ended : WakesFit u
+    wakes_ended = record {
+      off = λ v by x said at is. calls_ended (λ (n : ℕ) (y : Call). y.spot ≡ QueuePosition.Off by said → (i : ℕ) × (w : Wakeup) × (slice_get s.wakes i ≡ Some w) × (w.by ≡ by) × (w.thread ≡ n)) (λ n y at_n off. h.wakes.off n by y said at_n off) v x at is;
+      room = h.wakes.room ∙ omega (arith, count_by-set is_away s.calls t (Some c) None (slot s.calls t c here), ap flag (stands c.spot refl));
+    }
+
+    pub ends : Ends t c s u
+    ends =
+        let moved = last_of answer c.core refl asked in
+        record {
+          fits = record {
+            lots = same_parts (record s { calls = slice_set s.calls t None }) u refl refl refl (ended_fits s t c h.lots here out.0 out.1);
+            wakes = wakes_ended;
+            rules = rules_after s u c.lock h.rules (record {
+              kinds = refl;
+              threads = length-set s.calls t None;
+              holds = length-set s.holds (t * length s.kinds + c.lock) now;
+              words = refl;
+              calls = calls_ended (λ v x. CallFits s.kinds s.lot.queues x) (call_fits s h.rules);
+              few = few_now;
+              elsewhere = λ i ne. refl;
+              bits = h.rules.bits c.lock;
+              sound = last_sound s u c.core c.others c.lock t moved h.rules.sound;
+            });
+          };
+          goes = moved;
+        }

@@ -9,31 +9,27 @@ use Rattle.parking_lot_core_lot.specs.declared.parking.FilterOp.TheVariants.{Unp
 use Rattle.parking_lot_protocol.specs.declared.act.Act.TheVariants as act
 use Rattle.parking_lot_protocol.specs.declared.act.SectionAct.TheVariants as section
 use Rattle.parking_lot_protocol.specs.declared.act.ActResult.{ActResult}
-use Rattle.parking_lot_protocol.specs.declared.act.ActResult.TheVariants as seen
 use Rattle.parking_lot_protocol.specs.Wake.{wake_answer}
 use Rattle.parking_lot_protocol.specs.declared.rw_phase.RwPhase.{RwPhase}
-use Rattle.parking_lot_protocol.specs.declared.rw_phase.RwPhase.TheVariants as r
 use Rattle.parking_lot_protocol.specs.declared.mutex_phase.MutexPhase.{MutexPhase}
-use Rattle.parking_lot_protocol.specs.declared.mutex_phase.MutexPhase.TheVariants as m
 use Rattle.parking_lot_protocol.specs.RwTable as of_rw
 use Rattle.parking_lot_protocol.specs.MutexTable as of_mutex
 use Rattle.parking_lot_world.specs.declared.seat.Core.{Core}
-use Rattle.parking_lot_world.specs.declared.seat.Core.TheVariants as core
 use Rattle.parking_lot_world.specs.declared.open_call.Call.{Call}
-use Rattle.parking_lot_world.specs.Rows.{State, word_at, call_at}
+use Rattle.parking_lot_world.specs.Rows.{State, word_at, call_at, taken_by}
 use Rattle.parking_lot_world.specs.Stances.{Takes, Stores, Stance, In, Asleep, rw_stance, mutex_stance, stance, core_act}
 use Rattle.parking_lot_world.specs.RowActs.{hears, key_of, off_list, took}
 use Rattle.parking_lot_world.specs.RowFits.{FitsTogether, LotFits, RulesFit}
 use Rattle.parking_lot_world.specs.ActLaws.{Acts}
 use Rattle.parking_lot_world.proofs.Stancing.{leads_by, small_key, takings_count}
-use Rattle.parking_lot_world.proofs.Spinning.{under_way}
+use Rattle.parking_lot_world.specs.declared.seat.QueuePosition.TheVariants as spot
+use Rattle.parking_lot_world.specs.declared.seat.WakeResult.TheVariants as said
+use Rattle.parking_lot_world.proofs.Making.{move_sound}
 use Rattle.parking_lot_world.proofs.Carrying.{same_call}
 use Rattle.parking_lot_world.proofs.LotTakes.{took_fits}
-use Rattle.parking_lot_world.proofs.Ruling.{CallFits, call_fits, rules_after}
-use Rattle.parking_lot_world.proofs.TakeOutside.{IsOut, others_out, out_knows, same_kind}
-use Rattle.parking_lot_world.proofs.TakeParts.{took_told, TakesSo, the_sleeper, taker_after, sleeper_after, others_after, same_threads, wakes_after}
-use Rattle.parking_lot_world.proofs.TakeRw.{rw_takes, rw_lets_go}
-use Rattle.parking_lot_world.proofs.TakeMutex.{mutex_takes}
+use Rattle.parking_lot_world.proofs.Ruling.{CallFits, fits_at, fits_next, rules_after}
+use Rattle.parking_lot_world.proofs.TakeParts.{IsOut, others_out, out_knows, took_told, TakesSo, the_sleeper, taker_after, sleeper_after, others_after, same_threads, wakes_after}
+use Rattle.parking_lot_world.proofs.TakeFirst.{rw_lets_go, takes_so}
 
 -- a sleeper is in no section
 asleep_out : (a : Stance) (k : ℕ) (token : ParkToken) → a ≡ Asleep k token → IsOut a
@@ -49,12 +45,8 @@ module _ (s : State) (t : ℕ) (c : Call) (k : ℕ) (w : Waiter) (from : stance 
   abbrev told : ActResult
   told = took_told s c k w
 
-  by_core : (x : Core) → c.core ≡ x → TakesSo s t c k w x
-  by_core (core.Rw y) e = rw_takes s t c k w from at h here y e
-  by_core (core.Mutex y) e = mutex_takes s t c k w from at h here y e
-
   so : TakesSo s t c k w c.core
-  so = by_core c.core refl
+  so = takes_so s t c k w from at h here c.core refl
 
   -- the calls fit
   calls_fit : (x : ℕ) (d : Call) → call_at u x ≡ Some d → CallFits s.kinds u.lot.queues d
@@ -62,23 +54,17 @@ module _ (s : State) (t : ℕ) (c : Call) (k : ℕ) (w : Waiter) (from : stance 
     | inl e ↦ subst (CallFits s.kinds u.lot.queues) (same_call (sym (taker_after s t c k w from at h here) ∙ (ap (call_at u) (sym e) ∙ is))) mine
     | inr nt ↦ elim (cases_eq x w.thread) [
       | inl e ↦ subst (CallFits s.kinds u.lot.queues) (same_call (sym (sleeper_after s t c k w from at h here) ∙ (ap (call_at u) (sym e) ∙ is))) its
-      | inr nv ↦
-          let old : call_at s x ≡ Some d = sym (others_after s t c k w from at h here x nt nv) ∙ is in
-          let f = call_fits s h.rules x d old in
-          record { kind = f.kind; prepared = f.prepared; knows = out_knows d.core u.lot.queues d.lock (others_out s h.lots t c here k Takes from x d nt old); beside = f.beside; begun = f.begun }
+      | inr nv ↦ let old : call_at s x ≡ Some d = sym (others_after s t c k w from at h here x nt nv) ∙ is in fits_at s h x d old u.lot.queues d.spot (out_knows d.core u.lot.queues d.lock (others_out s h.lots t c here k Takes from x d nt old))
     ]
   ]
     where
       mine : CallFits s.kinds u.lot.queues (hears c told)
-      mine =
-          let f = call_fits s h.rules t c here in
-          record { kind = same_kind c.core told (slice_get s.kinds c.lock) f.kind; prepared = so.1; knows = so.2; beside = f.beside; begun = under_way c.core told f.begun.few }
+      mine = fits_next s h t c here told u.lot.queues c.spot so.0.1 so.0.2
 
       its : CallFits s.kinds u.lot.queues (off_list t (the_sleeper s t c k w from at h here).call)
       its =
           let x = the_sleeper s t c k w from at h here in
-          let f = call_fits s h.rules w.thread x.call x.there in
-          record { kind = f.kind; prepared = f.prepared; knows = out_knows x.call.core u.lot.queues x.call.lock (asleep_out (stance x.call.core) k w.token x.asleep); beside = f.beside; begun = f.begun }
+          fits_at s h w.thread x.call x.there u.lot.queues (spot.Off t said.Nothing) (out_knows x.call.core u.lot.queues x.call.lock (asleep_out (stance x.call.core) k w.token x.asleep))
 
   rules : RulesFit u
   rules = rules_after s u c.lock h.rules (record {
@@ -89,13 +75,13 @@ module _ (s : State) (t : ℕ) (c : Call) (k : ℕ) (w : Waiter) (from : stance 
     calls = calls_fit;
     few = h.rules.few;
     elsewhere = λ i ne. refl;
-    bits = h.rules.bits c.lock;
-    sound = so.3;
+    bits = so.0.3;
+    sound = move_sound s u c.core c.others (taken_by s.wakes t) told c.lock t so.0.0 h.rules.sound;
   })
 
   lots : lot.Sound u.lot → LotFits u
   lots sound =
-      let counts = takings_count c.core (word_at s c.lock) w.token (is_left (remove (s.lot.queues (key_of c k)) 0)) so.5 so.4 in
+      let counts = takings_count c.core (word_at s c.lock) w.token (is_left (remove (s.lot.queues (key_of c k)) 0)) so.2 so.1 in
       let e : In counts.0 Takes ≡ In k Takes = sym counts.2 ∙ from in
       let same : counts.0 ≡ k = cc in
       took_fits s t c h.lots here k 0 w (small_key c.core k Takes from) from at
@@ -103,29 +89,28 @@ module _ (s : State) (t : ℕ) (c : Call) (k : ℕ) (w : Waiter) (from : stance 
       counts.4 sound
 
   pub takes : lot.Sound u.lot → (what : ActResult) × Acts t c what s u
-  takes sound = (told, record { fits = record { lots = lots sound; wakes = wakes_after s t c k w from at h here; rules = rules }; goes = so.0 })
+  takes sound = (told, record { fits = record { lots = lots sound; wakes = wakes_after s t c k w from at h here; rules = rules }; goes = so.0.0 })
 
 -- WHO IS LET GO
 
 -- only a scan asks for the next, and it goes through the first list
 pub scans_first : (q : RwPhase) (k sum : ℕ) → rw_stance q ≡ In k Takes → of_rw.act_of q ≡ act.Section (section.TakeNext sum) → rw_stance q ≡ In 0 Takes
-scans_first (r.TakeWriter rest) k sum is asked = absurd (cc)
-scans_first (r.Scans a) k sum is asked = refl
+scans_first (RwPhase.Scans a) k sum is asked = refl
 scans_first q k sum is asked = absurd (cc)
 
 pub scans_none : (q : MutexPhase) (k sum : ℕ) → mutex_stance q ≡ In k Takes → of_mutex.act_of q ≡ act.Section (section.TakeNext sum) → ⊥
-scans_none (m.Takes giving) k sum is asked = absurd (cc)
+scans_none (MutexPhase.Takes giving) k sum is asked = absurd (cc)
 scans_none q k sum is asked = absurd (cc)
 
 module _ (s : State) (t : ℕ) (c : Call) (sum : ℕ) (w : Waiter) (h : FitsTogether s) (here : call_at s t ≡ Some c) (asked : core_act c.core ≡ act.Section (section.TakeNext sum)) (at : slice_get (s.lot.queues (key_of c 0)) 0 ≡ Some w) where
   stands : (k : ℕ) × (stance c.core ≡ In k Takes)
-  stands = let l = leads_by c.core (act.Section (section.TakeNext sum)) 0 (seen.Took None false) asked tt in (l.0, l.1)
+  stands = let l = leads_by c.core (act.Section (section.TakeNext sum)) 0 (ActResult.Took None false) asked tt in (l.0, l.1)
 
   go : (x : Core) → c.core ≡ x → wake_answer sum w.token.0 ≡ Unpark
-  go (core.Rw y) e =
+  go (Core.Rw y) e =
       let from : stance c.core ≡ In 0 Takes = ap stance e ∙ scans_first y.phase stands.0 sum (ap stance (sym e) ∙ stands.1) (ap core_act (sym e) ∙ asked) in
       rw_lets_go s t c 0 w from at h here y e sum (ap core_act (sym e) ∙ asked)
-  go (core.Mutex y) e = absurd (scans_none y.phase stands.0 sum (ap stance (sym e) ∙ stands.1) (ap core_act (sym e) ∙ asked))
+  go (Core.Mutex y) e = absurd (scans_none y.phase stands.0 sum (ap stance (sym e) ∙ stands.1) (ap core_act (sym e) ∙ asked))
 
   pub lets_go : wake_answer sum w.token.0 ≡ Unpark
   lets_go = go c.core refl

@@ -1,76 +1,73 @@
 -- A thread that joins a list: the machine stays fit, and it is a step of the rules.
-use Rattle.std.proofs.Common.{◌≡◌, ◌≢◌, ℕ, ◌+◌, ◌*◌, ◌<◌, false, List, [], ◌∷◌, ◌++◌, Some, slice_get, refl, sym, ap, ◌∙◌, subst, arith}
+use Rattle.std.proofs.Common.{◌≡◌, ◌≢◌, ℕ, ◌+◌, ◌*◌, ◌<◌, false, List, [], ◌∷◌, ◌++◌, Some, slice_get, refl, sym, ap, ◌∙◌, subst, arith, ◌⊎◌, inl, inr, Bool, None}
 use Rattle.std.proofs.lemmas.Bool.{ne_eqb}
 use Rattle.std.proofs.lemmas.List.{map-append}
 use Rattle.parking_lot_core_lot.specs.declared.parking.ParkToken.{ParkToken}
 use Rattle.parking_lot_core_lot.specs.declared.place.Waiter.{Waiter}
-use Rattle.parking_lot_core_lot.specs.declared.place.Phase.TheVariants as phase
 use Rattle.parking_lot_core_lot.specs.Machine.{threads_of}
-use Rattle.parking_lot_core_lot.specs.Sound as lot
 use Rattle.parking_lot_core_lot.proofs.Kept.{updated_at, updated_other}
 use Rattle.parking_lot_protocol.specs.declared.act.Act.{Act}
-use Rattle.parking_lot_protocol.specs.declared.act.Act.TheVariants as act
-use Rattle.parking_lot_protocol.specs.declared.act.SectionAct.TheVariants as section
 use Rattle.parking_lot_protocol.specs.declared.act.ActResult.{ActResult}
-use Rattle.parking_lot_protocol.specs.declared.act.ActResult.TheVariants as seen
 use Rattle.parking_lot_protocol.specs.Acts.{word_after}
 use Rattle.parking_lot_protocol.specs.declared.rw_core.RwCore.{RwCore}
 use Rattle.parking_lot_protocol.specs.declared.rw_phase.RwPhase.{RwPhase}
-use Rattle.parking_lot_protocol.specs.declared.rw_phase.RwPhase.TheVariants as r
 use Rattle.parking_lot_protocol.specs.declared.mutex_core.MutexCore.{MutexCore}
 use Rattle.parking_lot_protocol.specs.declared.mutex_phase.MutexPhase.{MutexPhase}
-use Rattle.parking_lot_protocol.specs.declared.mutex_phase.MutexPhase.TheVariants as m
-use Rattle.parking_lot_protocol.specs.RwRules as of_rw
-use Rattle.parking_lot_protocol.specs.MutexRules as of_mutex
-use Rattle.parking_lot_rules.specs.Mutex as mutex
-use Rattle.parking_lot_rules.specs.Steps.{List_changes, Join1, Join2}
+use Rattle.parking_lot_rules.specs.Steps.{Join1, Join2}
 use Rattle.parking_lot_world.specs.declared.seat.QueuePosition.{QueuePosition}
-use Rattle.parking_lot_world.specs.declared.seat.QueuePosition.TheVariants as spot
 use Rattle.parking_lot_world.specs.declared.seat.Core.{Core}
-use Rattle.parking_lot_world.specs.declared.seat.Core.TheVariants as core
 use Rattle.parking_lot_world.specs.declared.open_call.Call.{Call}
-use Rattle.parking_lot_world.specs.Rows.{State, word_at, call_at, taken_by, first_of_all, rw_spot, mutex_spot, rw_lock_at, mutex_at}
-use Rattle.parking_lot_world.specs.Stances.{Joins, In, rw_stance, mutex_stance, stance, core_act, core_next}
-use Rattle.parking_lot_world.specs.Stances as stances
-use Rattle.parking_lot_world.specs.RowActs.{key_of, appended}
-use Rattle.parking_lot_world.specs.RowFits.{FitsTogether, LotFits, WakesFit, RulesFit, IsOfKind, IsPrepared, KnowsList}
-use Rattle.parking_lot_world.specs.RowSteps.{Goes, IsMoveOf}
+use Rattle.parking_lot_world.specs.Rows.{State, word_at, call_at, taken_by, first_of_all, rw_spot, mutex_spot, rw_lock_at, mutex_at, inside}
+use Rattle.parking_lot_world.specs.Stances.{Joins, In, rw_stance, mutex_stance, stance, core_act, core_next, Takes, Stores, taken_count}
+use Rattle.parking_lot_world.specs.RowActs.{key_of, appended, took_nobody}
+use Rattle.parking_lot_world.specs.RowFits.{FitsTogether, LotFits, WakesFit, IsOfKind, IsPrepared, KnowsList}
 use Rattle.parking_lot_world.specs.ActLaws.{Acts}
 use Rattle.parking_lot_world.proofs.Stancing.{leads_by}
-use Rattle.parking_lot_world.proofs.Carrying.{awake_sleeps}
-use Rattle.parking_lot_world.proofs.LotActs.{awake_by}
+use Rattle.parking_lot_world.proofs.Carrying.{awake_sleeps, up_sleeps}
+use Rattle.parking_lot_world.proofs.LotActs.{awake_by, up_by, took_nobody_fits}
 use Rattle.parking_lot_world.proofs.LotLists.{one_key, appended_fits}
 use Rattle.parking_lot_world.proofs.RwMoving.{joins_are_steps}
 use Rattle.parking_lot_world.proofs.MutexMoving.{steps}
-use Rattle.parking_lot_world.proofs.Spinning.{under_way}
-use Rattle.parking_lot_world.proofs.OwnActs.{plays}
-use Rattle.parking_lot_world.proofs.Lifting.{same_rw, same_mutex}
-use Rattle.parking_lot_world.proofs.Making.{IsSoundState, made_rw, made_mutex}
-use Rattle.parking_lot_world.proofs.Meeting.{meets}
-use Rattle.parking_lot_world.proofs.Owning.{OwnAct, own-there, own-elsewhere, rw_after, mutex_after}
-use Rattle.parking_lot_world.proofs.Ruling.{rules_own, rw_move_sound, mutex_move_sound}
+use Rattle.parking_lot_world.proofs.KindTable.{of_rws, of_mutexes, same}
+use Rattle.parking_lot_world.proofs.Making.{mutex_goes, rw_goes}
+use Rattle.parking_lot_world.proofs.Meeting.{meets, plays}
+use Rattle.parking_lot_world.proofs.Owning.{OwnAct, own-there, own-elsewhere, own_after, rw_leads}
+use Rattle.parking_lot_world.proofs.Ruling.{Fitted, rules_own}
 use Rattle.parking_lot_world.proofs.WakesKept.{wakes_own}
 use Rattle.parking_lot_world.proofs.Acting.{still_inside}
-use Rattle.parking_lot_world.proofs.TakeOutside.{awake_listed, others_out, out_knows, same_kind}
+use Rattle.parking_lot_world.proofs.TakeParts.{awake_listed, others_out, out_knows}
+use Rattle.parking_lot_core_lot.specs.Results.{is_left}
+use Rattle.parking_lot_protocol.specs.RwTable.{sum_of}
+use Rattle.parking_lot_world.specs.RowSteps.{IsRwMove}
+use Rattle.parking_lot_world.specs.RwLaws.{Finds}
+use Rattle.parking_lot_world.proofs.OwnMoves.{OwnMove}
+use Rattle.parking_lot_core_lot.specs.declared.place.Phase.TheVariants as phase
+use Rattle.parking_lot_core_lot.specs.Sound as lot
+use Rattle.parking_lot_protocol.specs.declared.act.SectionAct.TheVariants as section
+use Rattle.parking_lot_protocol.specs.RwRules as of_rw
+use Rattle.parking_lot_protocol.specs.RwTable as of_rw_table
+use Rattle.parking_lot_protocol.specs.MutexTable as of_mutex_table
+use Rattle.parking_lot_protocol.specs.MutexRules as of_mutex
+use Rattle.parking_lot_world.specs.Stances as stances
 
-module _ (s : State) (t : ℕ) (c : Call) (k : ℕ) (token : ParkToken) (asked : core_act c.core ≡ act.Section (section.Append token)) (from : stance c.core ≡ In k (Joins token))
+module _ (s : State) (t : ℕ) (c : Call) (k : ℕ) (token : ParkToken) (asked : core_act c.core ≡ Act.Section (section.Append token)) (from : stance c.core ≡ In k (Joins token))
     (sound : lot.Sound (appended s t c (key_of c k) token).lot) (h : FitsTogether s) (here : call_at s t ≡ Some c) where
   abbrev u : State
   u = appended s t c (key_of c k) token
 
-  leads : (k < 2) × (stance (core_next c.core seen.Made) ≡ In k (stances.Joined token)) × LotFits u
+  leads : (k < 2) × (stance (core_next c.core ActResult.Made) ≡ In k (stances.Joined token)) × LotFits u
   leads =
-      let l = leads_by c.core (act.Section (section.Append token)) (word_at s c.lock) seen.Made asked tt in
+      let l = leads_by c.core (Act.Section (section.Append token)) (word_at s c.lock) ActResult.Made asked tt in
       let e : In l.0 (Joins token) ≡ In k (Joins token) = sym l.2 ∙ from in
       let same : l.0 ≡ k = cc in
       let two : k < 2 = subst (λ (n : ℕ). n < 2) same l.1 in
-      let to : stance (core_next c.core seen.Made) ≡ In k (stances.Joined token) = l.3 ∙ ap (λ (n : ℕ). In n (stances.Joined token)) same in
+      let to : stance (core_next c.core ActResult.Made) ≡ In k (stances.Joined token) = l.3 ∙ ap (λ (n : ℕ). In n (stances.Joined token)) same in
       (two, to, appended_fits s t c h.lots here k two token from l.4 sound to l.5)
 
   other_key : (i l : ℕ) → i ≢ c.lock → l < 2 → u.lot.queues (2 * i + l) ≡ s.lot.queues (2 * i + l)
   other_key i l ne b = updated_other s.lot.queues (key_of c k) _ (2 * i + l) (ne_eqb (2 * i + l) (key_of c k) (λ e. ne (one_key i c.lock l k b leads.0 e).0))
 
-  own : OwnAct s u t c seen.Made (core_next c.core seen.Made) spot.Listed
+  own : OwnAct s u t c ActResult.Made (core_next c.core ActResult.Made) QueuePosition.Listed
   own = record {
     here = here;
     calls = refl;
@@ -78,7 +75,7 @@ module _ (s : State) (t : ℕ) (c : Call) (k : ℕ) (token : ParkToken) (asked :
     wakes = refl;
     holds = refl;
     sizes = refl;
-    word = sym (ap (λ (x : Act). word_after x seen.Made (word_at s c.lock)) asked);
+    word = sym (ap (λ (x : Act). word_after x ActResult.Made (word_at s c.lock)) asked);
     words = λ i ne. refl;
     queues = other_key;
     listed = λ l park e. refl;
@@ -86,8 +83,8 @@ module _ (s : State) (t : ℕ) (c : Call) (k : ℕ) (token : ParkToken) (asked :
 
   wakes : WakesFit u
   wakes =
-      wakes_own s u t c seen.Made (core_next c.core seen.Made)
-      (subst (λ (x : QueuePosition). OwnAct s u t c seen.Made (core_next c.core seen.Made) x) (sym (awake_listed s h t c here (λ l park e. awake_sleeps l park (stance c.core) (awake_by (stance c.core) (In k (Joins token)) from tt) e))) own)
+      wakes_own s u t c ActResult.Made (core_next c.core ActResult.Made)
+      (subst (λ (x : QueuePosition). OwnAct s u t c ActResult.Made (core_next c.core ActResult.Made) x) (sym (awake_listed s h t c here (λ l park e. awake_sleeps l park (stance c.core) (awake_by (stance c.core) (In k (Joins token)) from tt) e))) own)
       h.wakes
 
   -- the lists then
@@ -105,65 +102,194 @@ module _ (s : State) (t : ℕ) (c : Call) (k : ℕ) (token : ParkToken) (asked :
   others : (v : ℕ) (e : Call) → v ≢ t → call_at s v ≡ Some e → KnowsList e.core u.lot.queues e.lock
   others v e ne at = out_knows e.core u.lot.queues e.lock (others_out s h.lots t c here k (Joins token) from v e ne at)
 
-  abbrev NextOf : Core → Core
-  NextOf x = core_next x seen.Made
-
-  own_of : (x : Core) → c.core ≡ x → OwnAct s u t c seen.Made (NextOf x) spot.Listed
-  own_of x e = subst (λ (y : Core). OwnAct s u t c seen.Made (NextOf y) spot.Listed) e own
-
-  -- what is left to be shown of a call's phase
-  abbrev Joined : Core → Type 0
-  Joined x = IsMoveOf x c.others (taken_by s.wakes t) seen.Made c.lock t s u × IsPrepared c.others (NextOf x) × KnowsList (NextOf x) u.lot.queues c.lock × IsSoundState u
-
-  goes : Joined c.core → RulesFit u × Goes t c seen.Made s u
-  goes j = (rules_own s u t c seen.Made (NextOf c.core) spot.Listed own h others (same_kind c.core seen.Made) j.1 j.2 (under_way c.core seen.Made (h.rules.begun t c here).few) (h.rules.bits c.lock) j.3, j.0)
+  own_of : (x : Core) → c.core ≡ x → OwnAct s u t c ActResult.Made (core_next x ActResult.Made) QueuePosition.Listed
+  own_of x e = subst (λ (y : Core). OwnAct s u t c ActResult.Made (core_next y ActResult.Made) QueuePosition.Listed) e own
 
   -- AT A READER-WRITER LOCK
 
   abbrev owed : List ℕ
   owed = taken_by s.wakes t
 
-  joins_rw : (q : RwPhase) (y : RwCore) → c.core ≡ core.Rw (record y { phase = q }) → rw_stance q ≡ In k (Joins token) → Joined (core.Rw (record y { phase = q }))
-  joins_rw (r.Appends want) y e at =
-      let z : RwCore = record y { phase = r.Appends want } in
-      let a = own_of (core.Rw z) e in
-      let zero : 0 ≡ k = cc in
-      let step = joins_are_steps.first (rw_lock_at s c.lock) t c.others (rw_spot c.spot) owed want (word_at s c.lock) (meets s h t c z e here) in
-      let made = made_rw s u t c.lock (own-there s u t c seen.Made _ spot.Listed a) (own-elsewhere s u t c seen.Made _ spot.Listed a) (List_changes (Join1 (of_rw.mode_of want)))
-      (subst (IsOfKind (slice_get s.kinds c.lock)) e (h.rules.kinds t c here)) step.0
-      (rw_after s u t c seen.Made z spot.Listed e a ∙ same_rw _ _ _ _ _ _ _ _ refl refl (list_here (2 * c.lock) (omega (arith, zero))) (list_there (2 * c.lock + 1) (λ f. omega (arith, zero, f))) ∙ sym step.1)
-      (still_inside s.lot.section phase.Joined) in
-      (made, (tt, (subst (IsPrepared c.others) e (h.rules.prepared t c here)).1), tt, rw_move_sound s u t c.lock (of_rw.Joins (Join1 (of_rw.mode_of want))) made h.rules.sound)
-  joins_rw (r.DrainAppends rounds) y e at =
-      let z : RwCore = record y { phase = r.DrainAppends rounds } in
-      let a = own_of (core.Rw z) e in
-      let one : 1 ≡ k = cc in
-      let step = joins_are_steps.second (rw_lock_at s c.lock) t c.others (rw_spot c.spot) owed rounds (word_at s c.lock) (meets s h t c z e here) in
-      let made = made_rw s u t c.lock (own-there s u t c seen.Made _ spot.Listed a) (own-elsewhere s u t c seen.Made _ spot.Listed a) (List_changes (Join2 false))
-      (subst (IsOfKind (slice_get s.kinds c.lock)) e (h.rules.kinds t c here)) step.0
-      (rw_after s u t c seen.Made z spot.Listed e a ∙ same_rw _ _ _ _ _ _ _ _ refl refl (list_there (2 * c.lock) (λ f. omega (arith, one, f))) (list_here (2 * c.lock + 1) (omega (arith, one))) ∙ sym step.1)
-      (still_inside s.lot.section phase.Joined) in
-      (made, (tt, (subst (IsPrepared c.others) e (h.rules.prepared t c here)).1), tt, rw_move_sound s u t c.lock (of_rw.Joins (Join2 false)) made h.rules.sound)
+  joins_rw : (q : RwPhase) (y : RwCore) → c.core ≡ Core.Rw (record y { phase = q }) → rw_stance q ≡ In k (Joins token) → Fitted s u t c ActResult.Made (Core.Rw (record y { phase = q }))
+  joins_rw (RwPhase.Appends want) y e at =
+      let z : RwCore = record y { phase = RwPhase.Appends want } in
+      let a = own_of (Core.Rw z) e in
+      let zero : 0 ≡ k = cc in (
+        rw_goes s u t c.lock (of_rw.Joins (Join1 (of_rw.mode_of want))) _ (own-there s u t c ActResult.Made _ QueuePosition.Listed a) (own-elsewhere s u t c ActResult.Made _ QueuePosition.Listed a) (subst (IsOfKind (slice_get s.kinds c.lock)) e (h.rules.kinds t c here))
+            (joins_are_steps.first (rw_lock_at s c.lock) t c.others (rw_spot c.spot) owed want (word_at s c.lock) (meets s h t c z e here))
+            (own_after of_rws s u t c ActResult.Made (record z { phase = of_rw_table.next_phase (RwPhase.Appends want) ActResult.Made }) QueuePosition.Listed a (word_at s c.lock) refl
+            ∙ same of_rws _ _ _ _ _ _ _ _ refl refl (list_here (2 * c.lock) (omega (arith, zero))) (list_there (2 * c.lock + 1) (λ f. omega (arith, zero, f))))
+            (still_inside s.lot.section phase.Joined),
+        (tt, (subst (IsPrepared c.others) e (h.rules.prepared t c here)).1),
+        tt,
+        h.rules.bits c.lock,
+      )
+  joins_rw (RwPhase.DrainAppends rounds) y e at =
+      let z : RwCore = record y { phase = RwPhase.DrainAppends rounds } in
+      let a = own_of (Core.Rw z) e in
+      let one : 1 ≡ k = cc in (
+        rw_goes s u t c.lock (of_rw.Joins (Join2 false)) _ (own-there s u t c ActResult.Made _ QueuePosition.Listed a) (own-elsewhere s u t c ActResult.Made _ QueuePosition.Listed a) (subst (IsOfKind (slice_get s.kinds c.lock)) e (h.rules.kinds t c here))
+            (joins_are_steps.second (rw_lock_at s c.lock) t c.others (rw_spot c.spot) owed rounds (word_at s c.lock) (meets s h t c z e here))
+            (own_after of_rws s u t c ActResult.Made (record z { phase = of_rw_table.next_phase (RwPhase.DrainAppends rounds) ActResult.Made }) QueuePosition.Listed a (word_at s c.lock) refl
+            ∙ same of_rws _ _ _ _ _ _ _ _ refl refl (list_there (2 * c.lock) (λ f. omega (arith, one, f))) (list_here (2 * c.lock + 1) (omega (arith, one))))
+            (still_inside s.lot.section phase.Joined),
+        (tt, (subst (IsPrepared c.others) e (h.rules.prepared t c here)).1),
+        tt,
+        h.rules.bits c.lock,
+      )
   joins_rw q y e at = absurd (cc)
 
   -- AT A MUTEX
 
-  joins_mutex : (q : MutexPhase) (y : MutexCore) → c.core ≡ core.Mutex (record y { phase = q }) → mutex_stance q ≡ In k (Joins token) → Joined (core.Mutex (record y { phase = q }))
-  joins_mutex m.Appends y e at =
-      let z : MutexCore = record y { phase = m.Appends } in
-      let a = own_of (core.Mutex z) e in
-      let zero : 0 ≡ k = cc in
-      let step = steps.joins (mutex_at s c.lock) (word_at s c.lock) t (first_of_all owed) (mutex_spot c.spot) m.Appends (record { 0 = 0 }) (plays s h t c z e here) refl in
-      let made = made_mutex s u t c.lock (own-there s u t c seen.Made _ spot.Listed a) (own-elsewhere s u t c seen.Made _ spot.Listed a) mutex.Join
-      (subst (IsOfKind (slice_get s.kinds c.lock)) e (h.rules.kinds t c here)) step.leads.0
-      (mutex_after s u t c seen.Made z spot.Listed e a ∙ same_mutex _ _ _ _ _ _ refl refl (list_here (2 * c.lock) (omega (arith, zero))) ∙ sym step.leads.1)
-      (still_inside s.lot.section phase.Joined) in
-      (made, subst (IsPrepared c.others) e (h.rules.prepared t c here), tt, mutex_move_sound s u t c.lock owed of_mutex.Joins made h.rules.sound)
+  joins_mutex : (q : MutexPhase) (y : MutexCore) → c.core ≡ Core.Mutex (record y { phase = q }) → mutex_stance q ≡ In k (Joins token) → Fitted s u t c ActResult.Made (Core.Mutex (record y { phase = q }))
+  joins_mutex MutexPhase.Appends y e at =
+      let z : MutexCore = record y { phase = MutexPhase.Appends } in
+      let a = own_of (Core.Mutex z) e in
+      let zero : 0 ≡ k = cc in (
+        mutex_goes s u t c.lock (first_of_all owed) owed _ of_mutex.Joins (own-there s u t c ActResult.Made _ QueuePosition.Listed a) (own-elsewhere s u t c ActResult.Made _ QueuePosition.Listed a) (subst (IsOfKind (slice_get s.kinds c.lock)) e (h.rules.kinds t c here))
+            (steps.joins (mutex_at s c.lock) (word_at s c.lock) t (first_of_all owed) (mutex_spot c.spot) MutexPhase.Appends (record { 0 = 0 }) (plays s h t c z e here) refl).leads
+            (own_after of_mutexes s u t c ActResult.Made (record z { phase = of_mutex_table.next_phase MutexPhase.Appends ActResult.Made }) QueuePosition.Listed a (word_at s c.lock) refl ∙ same of_mutexes _ _ _ _ _ _ [] [] refl refl (list_here (2 * c.lock) (omega (arith, zero))) refl)
+            (still_inside s.lot.section phase.Joined) tt,
+        subst (IsPrepared c.others) e (h.rules.prepared t c here),
+        tt,
+        h.rules.bits c.lock,
+      )
   joins_mutex q y e at = absurd (cc)
 
-  by_core : (x : Core) → c.core ≡ x → RulesFit u × Goes t c seen.Made s u
-  by_core (core.Rw y) e = goes (subst Joined (sym e) (joins_rw y.phase y e (ap stance (sym e) ∙ from)))
-  by_core (core.Mutex y) e = goes (subst Joined (sym e) (joins_mutex y.phase y e (ap stance (sym e) ∙ from)))
+  by_core : (x : Core) → c.core ≡ x → Fitted s u t c ActResult.Made x
+  by_core (Core.Rw y) e = joins_rw y.phase y e (ap stance (sym e) ∙ from)
+  by_core (Core.Mutex y) e = joins_mutex y.phase y e (ap stance (sym e) ∙ from)
 
   pub appends : (told : ActResult) × Acts t c told s u
-  appends = let both = by_core c.core refl in (seen.Made, record { fits = record { lots = leads.2; wakes = wakes; rules = both.0 }; goes = both.1 })
+  appends = let both = rules_own s u t c ActResult.Made QueuePosition.Listed own h others (by_core c.core refl) in (ActResult.Made, record { fits = record { lots = leads.2; wakes = wakes; rules = both.0 }; goes = both.1 })
+
+-- A thread that takes waiters and finds nobody: the machine stays fit, and nothing changes at its lock.
+
+-- WHO TAKES
+
+-- which act it asks for
+abbrev pub AsksToTake : Act → Type 0
+AsksToTake a = (a ≡ Act.Section section.TakeFirst) ⊎ ((sum : ℕ) × (a ≡ Act.Section (section.TakeNext sum)))
+
+rw_takes : (q : RwPhase) (y : RwCore) (k : ℕ) → rw_stance q ≡ In k Takes → AsksToTake (core_act (Core.Rw (record y { phase = q })))
+rw_takes (RwPhase.TakeWriter rest) y k e = inl refl
+rw_takes (RwPhase.Scans a) y k e = inr (sum_of a, refl)
+rw_takes q y k e = absurd (cc)
+
+mutex_takes : (q : MutexPhase) (y : MutexCore) (k : ℕ) → mutex_stance q ≡ In k Takes → AsksToTake (core_act (Core.Mutex (record y { phase = q })))
+mutex_takes (MutexPhase.Takes giving) y k e = inl refl
+mutex_takes q y k e = absurd (cc)
+
+pub asks_to_take : (x : Core) (k : ℕ) → stance x ≡ In k Takes → AsksToTake (core_act x)
+asks_to_take (Core.Rw y) k e = rw_takes y.phase y k e
+asks_to_take (Core.Mutex y) k e = mutex_takes y.phase y k e
+
+-- whatever it takes, the word stays
+pub takes_no_word : (a : Act) (finds_none : ActResult) (x : ℕ) → AsksToTake a → word_after a finds_none x ≡ x
+takes_no_word a finds_none x (inl e) = ap (λ b. word_after b finds_none x) e
+takes_no_word a finds_none x (inr e) = ap (λ b. word_after b finds_none x) e.1
+
+module _ (s : State) (t : ℕ) (c : Call) (k : ℕ) (from : stance c.core ≡ In k Takes) (empty : s.lot.queues (key_of c k) ≡ []) (sound : lot.Sound (took_nobody s t c (key_of c k)).lot)
+    (h : FitsTogether s) (here : call_at s t ≡ Some c) where
+  abbrev found_state : State
+  found_state = took_nobody s t c (key_of c k)
+
+  abbrev left_over : Bool
+  left_over = is_left (s.lot.queues (key_of c k))
+
+  abbrev finds_none : ActResult
+  finds_none = ActResult.Took None left_over
+
+  abbrev NextOf : Core → Core
+  NextOf x = core_next x finds_none
+
+  leads_on : (stance (NextOf c.core) ≡ In k Stores) × (taken_count (NextOf c.core) ≡ taken_count c.core)
+  leads_on = elim (asks_to_take c.core k from) [
+    | inl e ↦
+        let l = leads_by c.core (Act.Section section.TakeFirst) (word_at s c.lock) finds_none e tt in
+        let f : In l.0 Takes ≡ In k Takes = sym l.1 ∙ from in
+        let same : l.0 ≡ k = cc in
+        (l.2.0 ∙ ap (λ (n : ℕ). In n Stores) same, l.2.1)
+    | inr e ↦
+        let l = leads_by c.core (Act.Section (section.TakeNext e.0)) (word_at s c.lock) finds_none e.1 tt in
+        let f : In l.0 Takes ≡ In k Takes = sym l.1 ∙ from in
+        let same : l.0 ≡ k = cc in
+        (l.2.0 ∙ ap (λ (n : ℕ). In n Stores) same, l.2.1)
+  ]
+
+  own_find : OwnAct s found_state t c finds_none (NextOf c.core) c.spot
+  own_find = record {
+    here = here;
+    calls = refl;
+    kinds = refl;
+    wakes = refl;
+    holds = refl;
+    sizes = refl;
+    word = sym (takes_no_word (core_act c.core) finds_none (word_at s c.lock) (asks_to_take c.core k from));
+    words = λ i ne. refl;
+    queues = λ i l ne b. refl;
+    listed = λ l park e. absurd (up_sleeps l park (stance (NextOf c.core)) (up_by (stance (NextOf c.core)) (In k Stores) leads_on.0 tt) e);
+  }
+
+  find_of : (x : Core) → c.core ≡ x → OwnAct s found_state t c finds_none (core_next x finds_none) c.spot
+  find_of x e = subst (λ (y : Core). OwnAct s found_state t c finds_none (core_next y finds_none) c.spot) e own_find
+
+  others_know : (v : ℕ) (e : Call) → v ≢ t → call_at s v ≡ Some e → KnowsList e.core found_state.lot.queues e.lock
+  others_know v e ne at = out_knows e.core found_state.lot.queues e.lock (others_out s h.lots t c here k Takes from v e ne at)
+
+  list_empty : (key : ℕ) → key ≡ key_of c k → s.lot.queues key ≡ []
+  list_empty key e = ap s.lot.queues e ∙ empty
+
+  none_left : left_over ≡ false
+  none_left = ap is_left empty
+
+  abbrev owed_here : List ℕ
+  owed_here = taken_by s.wakes t
+
+  -- AT A READER-WRITER LOCK
+
+  stays_rw : (z : RwCore) → c.core ≡ Core.Rw z → of_rw.IsTold z.phase (word_at s c.lock) finds_none → Finds (of_rw_table.act_of z.phase) (rw_lock_at s c.lock) → OwnMove (of_rw.move c.others owed_here z.phase finds_none) t (inside s) (inside found_state) → IsRwMove (of_rw.move c.others owed_here z.phase finds_none) c.lock t s found_state
+  stays_rw z e heard finds moves =
+      let a = find_of (Core.Rw z) e in
+      let leads_on = rw_leads (rw_lock_at s c.lock) t c.others c.spot owed_here z.phase (word_at s c.lock) finds_none (meets s h t c z e here) heard finds a.listed (inside s) (inside found_state) moves in
+      rw_goes s found_state t c.lock (of_rw.move c.others owed_here z.phase finds_none) _ (own-there s found_state t c finds_none _ c.spot a) (own-elsewhere s found_state t c finds_none _ c.spot a) (subst (IsOfKind (slice_get s.kinds c.lock)) e (h.rules.kinds t c here)) leads_on.0
+      (own_after of_rws s found_state t c finds_none (record z { phase = of_rw_table.next_phase z.phase finds_none }) c.spot a _ (a.word ∙ ap (λ y. word_after (core_act y) finds_none (word_at s c.lock)) e)) leads_on.1
+
+  finds_rw : (q : RwPhase) (y : RwCore) → c.core ≡ Core.Rw (record y { phase = q }) → rw_stance q ≡ In k Takes → Fitted s found_state t c finds_none (Core.Rw (record y { phase = q }))
+  finds_rw (RwPhase.TakeWriter rest) y e at =
+      let one : 1 ≡ k = cc in
+      (stays_rw (record y { phase = RwPhase.TakeWriter rest }) e tt tt (still_inside s.lot.section phase.Ended), subst (IsPrepared c.others) e (h.rules.prepared t c here), list_empty (2 * c.lock + 1) (omega (arith, one)), h.rules.bits c.lock)
+  finds_rw (RwPhase.Scans b) y e at =
+      let zero : 0 ≡ k = cc in
+      let ready = subst (IsPrepared c.others) e (h.rules.prepared t c here) in (
+        stays_rw (record y { phase = RwPhase.Scans b }) e tt tt (still_inside s.lot.section phase.Ended),
+        (ready.0, ready.1.0),
+        (subst (λ (x : Core). KnowsList x s.lot.queues c.lock) e (h.rules.knows t c here), ap (λ n. is_left (s.lot.queues n)) (omega (arith, zero)), inr none_left),
+        h.rules.bits c.lock,
+      )
+  finds_rw q y e at = absurd (cc)
+
+  -- AT A MUTEX
+
+  finds_mutex : (q : MutexPhase) (y : MutexCore) → c.core ≡ Core.Mutex (record y { phase = q }) → mutex_stance q ≡ In k Takes → Fitted s found_state t c finds_none (Core.Mutex (record y { phase = q }))
+  finds_mutex (MutexPhase.Takes giving) y e at =
+      let z : MutexCore = record y { phase = MutexPhase.Takes giving } in
+      let a = find_of (Core.Mutex z) e in
+      let zero : 0 ≡ k = cc in (
+        mutex_goes s found_state t c.lock (first_of_all owed_here) owed_here _ of_mutex.Stays (own-there s found_state t c finds_none _ c.spot a) (own-elsewhere s found_state t c finds_none _ c.spot a) (subst (IsOfKind (slice_get s.kinds c.lock)) e (h.rules.kinds t c here))
+            (steps.takes_nobody (mutex_at s c.lock) (word_at s c.lock) t (first_of_all owed_here) (mutex_spot c.spot) (MutexPhase.Takes giving) left_over (plays s h t c z e here) refl).leads
+            (own_after of_mutexes s found_state t c finds_none (record z { phase = of_mutex_table.next_phase (MutexPhase.Takes giving) finds_none }) c.spot a (word_at s c.lock) refl) (still_inside s.lot.section phase.Ended) tt,
+        subst (IsPrepared c.others) e (h.rules.prepared t c here),
+        (ap (λ n. is_left (s.lot.queues n)) (omega (arith, zero)), λ f. none_left),
+        h.rules.bits c.lock,
+      )
+  finds_mutex q y e at = absurd (cc)
+
+  find_by_core : (x : Core) → c.core ≡ x → Fitted s found_state t c finds_none x
+  find_by_core (Core.Rw y) e = finds_rw y.phase y e (ap stance (sym e) ∙ from)
+  find_by_core (Core.Mutex y) e = finds_mutex y.phase y e (ap stance (sym e) ∙ from)
+
+  pub takes_nobody : (what : ActResult) × Acts t c what s found_state
+  takes_nobody =
+      let both = rules_own s found_state t c finds_none c.spot own_find h others_know (find_by_core c.core refl) in
+      (finds_none, record { fits = record { lots = took_nobody_fits s t c k h.lots here from leads_on.0 leads_on.1 sound; wakes = wakes_own s found_state t c finds_none (NextOf c.core) own_find h.wakes; rules = both.0 }; goes = both.1 })

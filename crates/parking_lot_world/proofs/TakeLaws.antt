@@ -1,8 +1,7 @@
 -- The acts that put threads into lists and take them off: each keeps the machine fit, and is a step of the rules.
 use Rattle.parking_lot_world.specs.TakeLaws.{TakesAreSteps}
-use Rattle.parking_lot_world.proofs.TakeJoins.{appends}
+use Rattle.parking_lot_world.proofs.TakeJoins.{appends, takes_nobody}
 use Rattle.parking_lot_world.proofs.TakeActs.{takes, lets_go}
-use Rattle.parking_lot_world.proofs.TakeNobody.{takes_nobody}
 
 pub laws : TakesAreSteps
 laws = record {

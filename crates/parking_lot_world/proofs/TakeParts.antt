@@ -1,45 +1,82 @@
--- The machine once a thread has taken the first of a list: what the locks see of the two, and what it keeps beside the lot and the rules.
-use Rattle.std.proofs.Common.{◌≡◌, ◌≢◌, ℕ, ◌+◌, ◌*◌, inl, inr, ◌==◌, cond, eq-eqb, Bool, true, false, List, [], ◌∷◌, ◌++◌, length, length-append, map, remove, Option, Some, slice_get, slice_set, refl, sym, ap, ◌∙◌, subst, arith}
-use Rattle.std.proofs.lemmas.Bool.{cases_eq, ne_eqb, eqb-false}
+-- While one thread is in a section no other is, and only whoever is in one knows anything of the lists.
+use Rattle.std.proofs.Common.{◌≡◌, ◌≢◌, ℕ, ◌+◌, ◌*◌, List, Some, refl, sym, ap, ◌∙◌, inl, inr, ◌==◌, cond, eq-eqb, Bool, true, false, [], ◌∷◌, ◌++◌, length, length-append, map, remove, Option, slice_get, slice_set, subst, arith}
+use Rattle.std.proofs.lemmas.Bool.{ne_eqb, cases_eq, eqb-false}
 use Rattle.std.proofs.lemmas.List.{map-append}
 use Rattle.std.proofs.lemmas.List.Elements.{filter-append}
 use Rattle.std.proofs.lemmas.Option.{none-some, same_Some}
 use Rattle.std.specs.Prelude.{count_by, filter}
 use Rattle.std.specs.Option.{option_map, option_map_or}
+use Rattle.parking_lot_core_lot.specs.declared.parking.ParkToken.{ParkToken}
 use Rattle.parking_lot_core_lot.specs.declared.place.Waiter.{Waiter}
+use Rattle.parking_lot_protocol.specs.declared.mutex_phase.MutexPhase.{MutexPhase}
+use Rattle.parking_lot_protocol.specs.declared.rw_phase.RwPhase.{RwPhase}
+use Rattle.parking_lot_world.specs.declared.seat.QueuePosition.{QueuePosition}
+use Rattle.parking_lot_world.specs.declared.seat.Core.{Core}
+use Rattle.parking_lot_world.specs.declared.open_call.Call.{Call}
+use Rattle.parking_lot_world.specs.Rows.{State, call_at, word_at, taken_by, is_by, queue_at}
+use Rattle.parking_lot_world.specs.Stances.{Doing, Takes, Stores, Stance, In, Asleep, mutex_stance, rw_stance, stance, core_act, core_next}
+use Rattle.parking_lot_world.specs.RowFits.{FitsTogether, LotFits, KnowsList, mutex_knows, rw_knows, WakesFit, IsOfKind, is_away, is_off}
+use Rattle.parking_lot_world.proofs.Carrying.{same_call, awake_sleeps}
+use Rattle.parking_lot_world.proofs.LotActs.{outside_of, seat_of, awake_by}
 use Rattle.parking_lot_core_lot.specs.Machine.{threads_of}
 use Rattle.parking_lot_core_lot.specs.Places.{place_at, mark_of}
 use Rattle.parking_lot_core_lot.specs.Results.{is_left}
 use Rattle.parking_lot_core_lot.proofs.Kept.{updated_at, updated_other, slice_get-seam}
 use Rattle.parking_lot_core_lot.proofs.Numbers.{flag, count_by-set}
 use Rattle.parking_lot_protocol.specs.declared.act.ActResult.{ActResult}
-use Rattle.parking_lot_protocol.specs.declared.act.ActResult.TheVariants as seen
 use Rattle.parking_lot_protocol.specs.Acts.{Gives}
 use Rattle.parking_lot_world.specs.declared.seat.WakeResult.{WakeResult}
-use Rattle.parking_lot_world.specs.declared.seat.WakeResult.TheVariants as told
-use Rattle.parking_lot_world.specs.declared.seat.QueuePosition.{QueuePosition}
-use Rattle.parking_lot_world.specs.declared.seat.QueuePosition.TheVariants as spot
-use Rattle.parking_lot_world.specs.declared.seat.Core.{Core}
-use Rattle.parking_lot_world.specs.declared.open_call.Call.{Call}
 use Rattle.parking_lot_world.specs.declared.seat.Wakeup.{Wakeup}
-use Rattle.parking_lot_world.specs.Rows.{State, word_at, call_at, taken_by, is_by}
-use Rattle.parking_lot_world.specs.Stances.{Takes, In, stance, core_act, core_next}
 use Rattle.parking_lot_world.specs.RowActs.{hears, key_of, off_list, took}
-use Rattle.parking_lot_world.specs.RowFits.{FitsTogether, WakesFit, IsPrepared, KnowsList, is_away, is_off}
-use Rattle.parking_lot_world.specs.RowSteps.{IsMoveOf}
 use Rattle.parking_lot_world.specs.StanceLaws.{Counts}
 use Rattle.parking_lot_world.proofs.Stancing.{small_key}
 use Rattle.parking_lot_world.proofs.Indexing.{get_front}
 use Rattle.parking_lot_world.proofs.Everybody.{all, change-two}
-use Rattle.parking_lot_world.proofs.Lifting.{IsThere, Elsewhere}
-use Rattle.parking_lot_world.proofs.Making.{IsSoundState}
+use Rattle.parking_lot_world.proofs.KindTable.{Kind, IsThere, Elsewhere, in_its_place, role_at, role_now, role_stays, roles_at, same, shown}
+use Rattle.parking_lot_world.proofs.Ruling.{Fitted}
+use Rattle.parking_lot_world.specs.declared.calls.LockKind.{LockKind}
 use Rattle.parking_lot_world.proofs.Meeting.{in_range}
 use Rattle.parking_lot_world.proofs.Calling.{call_of, slot, call-elsewhere}
-use Rattle.parking_lot_world.proofs.Carrying.{same_call, awake_sleeps}
-use Rattle.parking_lot_world.proofs.LotActs.{awake_by}
 use Rattle.parking_lot_world.proofs.LotLists.{one_key}
 use Rattle.parking_lot_world.proofs.LotTakes.{Sleeper, sleeper, call_taken, call_mine, call_other, took_length}
-use Rattle.parking_lot_world.proofs.TakeOutside.{awake_listed}
+
+-- it isn't in a section
+abbrev pub IsOut : Stance → Type 0
+IsOut a = (k : ℕ) (how : Doing) → a ≡ In k how → ⊥
+
+mutex_out : (p : MutexPhase) (queue : List Waiter) → IsOut (mutex_stance p) → mutex_knows p queue
+mutex_out (MutexPhase.Stores giving taken left) queue out = absurd (out 0 Stores refl)
+mutex_out p queue out = tt
+
+rw_out : (p : RwPhase) (first second : List Waiter) → IsOut (rw_stance p) → rw_knows p first second
+rw_out (RwPhase.Scans a) first second out = absurd (out 0 Takes refl)
+rw_out (RwPhase.Stores a left) first second out = absurd (out 0 Stores refl)
+rw_out (RwPhase.ClearWriterParked rest taken) first second out = absurd (out 1 Stores refl)
+rw_out p first second out = tt
+
+pub out_knows : (x : Core) (queues : ℕ → List Waiter) (j : ℕ) → IsOut (stance x) → KnowsList x queues j
+out_knows (Core.Mutex c) queues j out = mutex_out c.phase (queues (2 * j)) out
+out_knows (Core.Rw c) queues j out = rw_out c.phase (queues (2 * j)) (queues (2 * j + 1)) out
+
+-- beside a thread that is in a section
+pub others_out : (s : State) → LotFits s → (t : ℕ) (c : Call) → call_at s t ≡ Some c → (k : ℕ) (how : Doing) → stance c.core ≡ In k how → (v : ℕ) (e : Call) → v ≢ t → call_at s v ≡ Some e → IsOut (stance e.core)
+others_out s h t c here k how from v e ne at k' how' is =
+    let mine = seat_of s h t c (In k how) here from in
+    let its = seat_of s h v e (In k' how') at is in
+    outside_of s.lot.section mine.0 t v (ne_eqb v t ne) mine.1 mine.2 its.0 its.1 its.2
+
+-- only who sleeps is off its list
+pub awake_listed : (s : State) → FitsTogether s → (t : ℕ) (c : Call) → call_at s t ≡ Some c → ((k : ℕ) (token : ParkToken) → stance c.core ≡ Asleep k token → ⊥) → c.spot ≡ QueuePosition.Listed
+awake_listed s h t c here awake = go c.spot refl
+  where
+    go : (x : QueuePosition) → c.spot ≡ x → c.spot ≡ QueuePosition.Listed
+    go QueuePosition.Listed e = e
+    go (QueuePosition.Off by said) e =
+        let owed = h.wakes.off t by c said here e in
+        let its = h.lots.woken owed.0 owed.1 owed.2 in
+        absurd (awake its.key its.token (ap (λ (x : Call). stance x.core) (same_call (sym here ∙ (ap (call_at s) (sym owed.4) ∙ its.here))) ∙ its.asleep))
+
+-- The machine once a thread has taken the first of a list: what the locks see of the two, and what it keeps beside the lot and the rules.
 
 -- WHOM A THREAD HAS TAKEN
 
@@ -73,14 +110,11 @@ remove_first (x ∷ q) = refl
 
 -- what the thread is told
 abbrev pub took_told : State → Call → ℕ → Waiter → ActResult
-took_told s c k w = seen.Took (Some w.token) (is_left (remove (s.lot.queues (key_of c k)) 0))
+took_told s c k w = ActResult.Took (Some w.token) (is_left (remove (s.lot.queues (key_of c k)) 0))
 
--- it makes the move that its table names, its call and its lock fit then, and it counts whom it took
+-- the kind of its lock shows the rest, and it counts whom it took
 abbrev pub TakesSo : State → ℕ → Call → ℕ → Waiter → Core → Type 0
-TakesSo s t c k w x =
-    let u = took s t c (key_of c k) 0 w in
-    let y = core_next x (took_told s c k w) in
-    IsMoveOf x c.others (taken_by s.wakes t) (took_told s c k w) c.lock t s u × IsPrepared c.others y × KnowsList y u.lot.queues c.lock × IsSoundState u × Counts x w.token × Gives (core_act x) (word_at s c.lock) (took_told s c k w)
+TakesSo s t c k w x = Fitted s (took s t c (key_of c k) 0 w) t c (took_told s c k w) x × Counts x w.token × Gives (core_act x) (word_at s c.lock) (took_told s c k w)
 
 -- THE PARTS
 
@@ -97,7 +131,7 @@ module _ (s : State) (t : ℕ) (c : Call) (k : ℕ) (w : Waiter) (from : stance 
   pub took_apart : w.thread ≢ t
   took_apart e = eqb-false w.thread t the_sleeper.other e
 
-  pub taker_listed : c.spot ≡ spot.Listed
+  pub taker_listed : c.spot ≡ QueuePosition.Listed
   taker_listed = awake_listed s h t c here (λ l park e. awake_sleeps l park (stance c.core) (awake_by (stance c.core) (In k Takes) from tt) e)
 
   -- the calls
@@ -155,11 +189,31 @@ module _ (s : State) (t : ℕ) (c : Call) (k : ℕ) (w : Waiter) (from : stance 
     ];
   }
 
-  -- a list of what each thread is
-  pub two_roles : {R : Type 0} (f g : ℕ → R) → ((x : ℕ) → x ≢ t → x ≢ w.thread → g x ≡ f x) → all g 0 (length u.calls) ≡ slice_set (slice_set (all f 0 (length s.calls)) t (g t)) w.thread (g w.thread)
-  two_roles f g others =
-      ap (λ n. all g 0 n) same_threads
-      ∙ change-two f g (length s.calls) t w.thread (in_range s t c here) (in_range s w.thread z the_sleeper.there) (λ e. took_apart (sym e)) (λ x b nt nv. others x nt nv)
+  -- AT A LOCK OF ANY KIND
+
+  module _ {C R L : Type 0} (K : Kind C R L) where
+    -- who waits there is in a call of the lock's kind
+    pub waits_so : slice_get s.kinds c.lock ≡ Some K.kind → (q : C) × (z.core ≡ K.core q)
+    waits_so is = K.only z.core (subst (λ (o : Option LockKind). IsOfKind o z.core) (ap (slice_get s.kinds) the_sleeper.lock ∙ is) (h.rules.kinds w.thread z the_sleeper.there))
+
+    module _ (q : C) (its : z.core ≡ K.core q) where
+      -- it waits in its list
+      pub waits_listed : slice_get (roles_at K s c.lock) w.thread ≡ Some (K.plays z.others QueuePosition.Listed (taken_by s.wakes w.thread) q)
+      waits_listed =
+          subst (λ (j : ℕ). slice_get (roles_at K s j) w.thread ≡ Some (K.plays z.others QueuePosition.Listed (taken_by s.wakes w.thread) q)) the_sleeper.lock
+          (in_its_place K s w.thread z q (in_range s w.thread z the_sleeper.there) the_sleeper.there its ∙ ap (λ (p : QueuePosition). Some (K.plays z.others p (taken_by s.wakes w.thread) q)) the_sleeper.listed)
+
+      -- and what the two are then is all that changes, but for the list
+      pub took_after : (k' : C) → core_next c.core (took_told s c k w) ≡ K.core k' → (mine : R) → K.plays c.others QueuePosition.Listed (taken_by s.wakes t ++ w.thread ∷ []) k' ≡ mine → (theirs : R) → K.plays z.others (QueuePosition.Off t WakeResult.Nothing) (taken_by s.wakes w.thread) q ≡ theirs
+          → (first second : List ℕ) → queue_at u (2 * c.lock) ≡ first → queue_at u (2 * c.lock + 1) ≡ second → shown K u c.lock ≡ K.lock (word_at s c.lock) (slice_set (slice_set (roles_at K s c.lock) t mine) w.thread theirs) first second
+      took_after k' next mine mine_is theirs theirs_is first second =
+          same K _ _ _ _ _ _ _ _ refl
+          (ap (all (role_at K u c.lock) 0) same_threads
+          ∙ change-two (role_at K s c.lock) (role_at K u c.lock) (length s.calls) t w.thread (in_range s t c here) (in_range s w.thread z the_sleeper.there) (λ e. took_apart (sym e)) (λ x b nt nv. role_stays K s u c.lock x (others_after x nt nv) (others_have x nt) refl)
+          ∙ ap (λ r. slice_set (slice_set (roles_at K s c.lock) t r) w.thread (role_at K u c.lock w.thread))
+          (role_now K u t (taken_by s.wakes t ++ w.thread ∷ []) (hears c (took_told s c k w)) k' taker_after taker_has next ∙ ap (λ p. K.plays c.others p (taken_by s.wakes t ++ w.thread ∷ []) k') taker_listed ∙ mine_is)
+          ∙ ap (slice_set (slice_set (roles_at K s c.lock) t mine) w.thread)
+          (subst (λ (j : ℕ). role_at K u j w.thread ≡ theirs) the_sleeper.lock (role_now K u w.thread (taken_by s.wakes w.thread) (off_list t z) q sleeper_after (others_have w.thread took_apart) its ∙ theirs_is)))
 
   -- WHO IS TO BE WOKEN
 
@@ -169,7 +223,7 @@ module _ (s : State) (t : ℕ) (c : Call) (k : ℕ) (w : Waiter) (from : stance 
   abbrev IsIn : List Wakeup → ℕ → ℕ → Type 0
   IsIn ws by x = (n : ℕ) × (e : Wakeup) × (slice_get ws n ≡ Some e) × (e.by ≡ by) × (e.thread ≡ x)
 
-  off_after : (x by : ℕ) (d : Call) (said : WakeResult) → call_at u x ≡ Some d → d.spot ≡ spot.Off by said → IsIn u.wakes by x
+  off_after : (x by : ℕ) (d : Call) (said : WakeResult) → call_at u x ≡ Some d → d.spot ≡ QueuePosition.Off by said → IsIn u.wakes by x
   off_after x by d said is off = elim (cases_eq x t) [
     | inl e ↦ absurd (listed (sym taker_listed ∙ ap (λ (y : Call). y.spot) (same_call (sym taker_after ∙ (ap (call_at u) (sym e) ∙ is))) ∙ off))
     | inr nt ↦ elim (cases_eq x w.thread) [
@@ -178,10 +232,10 @@ module _ (s : State) (t : ℕ) (c : Call) (k : ℕ) (w : Waiter) (from : stance 
     ]
   ]
     where
-      listed : spot.Listed ≡ spot.Off by said → ⊥
+      listed : QueuePosition.Listed ≡ QueuePosition.Off by said → ⊥
       listed e = cc
 
-      same_by : spot.Off t told.Nothing ≡ spot.Off by said → t ≡ by
+      same_by : QueuePosition.Off t WakeResult.Nothing ≡ QueuePosition.Off by said → t ≡ by
       same_by e = cc
 
   abbrev calls_off : List (Option Call)

@@ -18,7 +18,6 @@ use Rattle.parking_lot_protocol.specs.declared.act.ActResult.TheVariants as seen
 use Rattle.parking_lot_protocol.specs.declared.act.Act.TheVariants as act
 use Rattle.parking_lot_protocol.specs.declared.act.SectionAct.TheVariants as section
 use Rattle.parking_lot_world.specs.declared.seat.Core.{Core}
-use Rattle.parking_lot_world.specs.declared.seat.Core.TheVariants as core
 use Rattle.parking_lot_world.specs.declared.open_call.Call.{Call}
 use Rattle.parking_lot_world.specs.declared.seat.Wakeup.{Wakeup}
 use Rattle.parking_lot_world.specs.FrontTakings.{FrontTaken}
@@ -113,5 +112,5 @@ takes_fit s t c u x sound h here = elim x.2 [
 
 -- a scan goes through the first list
 pub scan_key : (x : Core) (k sum : ℕ) → stance x ≡ In k Takes → core_act x ≡ act.Section (section.TakeNext sum) → k ≡ 0
-scan_key (core.Rw y) k sum from asked = let e : In k Takes ≡ In 0 Takes = sym from ∙ scans_first y.phase k sum from asked in cc
-scan_key (core.Mutex y) k sum from asked = absurd (scans_none y.phase k sum from asked)
+scan_key (Core.Rw y) k sum from asked = let e : In k Takes ≡ In 0 Takes = sym from ∙ scans_first y.phase k sum from asked in cc
+scan_key (Core.Mutex y) k sum from asked = absurd (scans_none y.phase k sum from asked)

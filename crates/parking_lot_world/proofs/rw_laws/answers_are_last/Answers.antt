@@ -1,4 +1,4 @@
-use Rattle.parking_lot_world.proofs.RwEnding.{answers_are_last}
+use Rattle.parking_lot_world.proofs.RwTaking.{answers_are_last}
 use Rattle.parking_lot_world.proofs.rw_laws.answers_are_last.Goals as goal
 
 pub returns : goal.returns

@@ -1,4 +1,4 @@
-use Rattle.parking_lot_world.proofs.RwEnding.{ends_are_steps}
+use Rattle.parking_lot_world.proofs.RwTaking.{ends_are_steps}
 use Rattle.parking_lot_world.proofs.rw_laws.ends_are_steps.Goals as goal
 
 pub returns : goal.returns

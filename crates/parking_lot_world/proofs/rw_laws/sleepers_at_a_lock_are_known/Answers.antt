@@ -1,4 +1,4 @@
-use Rattle.parking_lot_world.proofs.RwSleeping.{sleepers_at_a_lock_are_known}
+use Rattle.parking_lot_world.proofs.RwTaking.{sleepers_at_a_lock_are_known}
 use Rattle.parking_lot_world.proofs.rw_laws.sleepers_at_a_lock_are_known.Goals as goal
 
 pub returns : goal.returns

@@ -1,0 +1,177 @@
+-- A kind of locks, as the machine shows one; and what a thread does at one lock leaves the other locks as they are.
+use Rattle.std.proofs.Common.{◌≡◌, ◌≢◌, ℕ, ◌+◌, ◌*◌, ◌<◌, ◌⊎◌, inl, inr, cond, List, length, Option, Some, None, slice_get, slice_set, refl, sym, ap, ◌∙◌, arith, eq-eqb}
+use Rattle.std.proofs.lemmas.Bool.{ne_eqb}
+use Rattle.parking_lot_core_lot.specs.Machine.{threads_of}
+use Rattle.parking_lot_core_lot.specs.declared.parking.ParkToken.{ParkToken}
+use Rattle.parking_lot_rules.specs.Roles.{Idle, Role}
+use Rattle.parking_lot_rules.specs.Clauses.{word_of}
+use Rattle.parking_lot_rules.specs.Lock.{Lock}
+use Rattle.parking_lot_rules.specs.Mutex as mutex
+use Rattle.parking_lot_rules.specs.Any.{AnyLock, Rw, Mx}
+use Rattle.parking_lot_protocol.specs.MutexRules as of_mutex
+use Rattle.parking_lot_protocol.specs.RwRules as of_rw
+use Rattle.parking_lot_protocol.specs.declared.mutex_core.MutexCore.{MutexCore}
+use Rattle.parking_lot_protocol.specs.declared.mutex_phase.MutexPhase.{MutexPhase}
+use Rattle.parking_lot_protocol.specs.declared.rw_core.RwCore.{RwCore}
+use Rattle.parking_lot_protocol.specs.declared.rw_phase.RwPhase.{RwPhase}
+use Rattle.parking_lot_world.specs.declared.calls.LockKind.{LockKind}
+use Rattle.parking_lot_world.specs.declared.open_call.Call.{Call}
+use Rattle.parking_lot_world.specs.declared.seat.Core.{Core}
+use Rattle.parking_lot_world.specs.declared.seat.Hold.{Hold}
+use Rattle.parking_lot_world.specs.declared.seat.QueuePosition.{QueuePosition}
+use Rattle.parking_lot_world.specs.RowFits.{IsOfKind}
+use Rattle.parking_lot_world.specs.Rows.{State, word_at, hold_at, call_at, everybody, taken_by, owned_of, owns_mutex, rw_spot, mutex_spot, first_of_all, rw_role_in, mutex_role_in, rw_core_role, mutex_core_role, mutex_word_of, any_lock, lock_at, queue_at}
+use Rattle.parking_lot_world.specs.Stances.{Asleep, mutex_stance, rw_stance, stance}
+use Rattle.parking_lot_world.proofs.Everybody.{all, change-all, get-all, same-all}
+
+-- What the machine shows of a kind of locks. C is the core of a call at one, R what a thread is to it, and L the lock of the rules. A thread is
+-- what its call's core plays, beside so many other holds, at that place in the lists, with those taken; and else what it owns makes it.
+pub record Kind (C R L : Type 0) : Type 1 where
+  pub kind : LockKind
+  pub core : C → Core
+  pub of_kind : (o : Option LockKind) (k : C) → IsOfKind o (core k) → o ≡ Some kind
+  pub only : (x : Core) → IsOfKind (Some kind) x → (k : C) × (x ≡ core k)
+  pub idle : Hold → R
+  pub plays : ℕ → QueuePosition → List ℕ → C → R
+  pub role_in : ℕ → List ℕ → Hold → Option Call → R
+  pub none : (i : ℕ) (us : List ℕ) (h : Hold) → role_in i us h None ≡ idle h
+  pub here : (i : ℕ) (us : List ℕ) (h : Hold) (c : Call) (k : C) → c.core ≡ core k → c.lock ≡ i → role_in i us h (Some c) ≡ plays c.others c.spot us k
+  pub away : (i : ℕ) (us : List ℕ) (h : Hold) (c : Call) → c.lock ≢ i → role_in i us h (Some c) ≡ idle h
+  -- where one stood matters only while it sleeps
+  pub listed : (n : ℕ) (us : List ℕ) (k : C) (at : QueuePosition) → ((key : ℕ) (token : ParkToken) → stance (core k) ≡ Asleep key token → at ≡ QueuePosition.Listed) → plays n at us k ≡ plays n QueuePosition.Listed us k
+  -- the lock of a word, of what all are to it, and of its two lists
+  pub lock : ℕ → List R → List ℕ → List ℕ → L
+  pub any : L → AnyLock
+  pub shows : (s : State) (i : ℕ) (o : Option LockKind) → o ≡ Some kind
+      → any_lock o s i ≡ any (lock (word_at s i) (everybody (λ t. role_in i (taken_by s.wakes t) (hold_at s t i) (call_at s t)) s) (queue_at s (2 * i)) (queue_at s (2 * i + 1)))
+
+-- THE TWO KINDS
+
+pub rw_listed : (n : ℕ) (us : List ℕ) (q : RwPhase) (at : QueuePosition) → ((k : ℕ) (token : ParkToken) → rw_stance q ≡ Asleep k token → at ≡ QueuePosition.Listed) → of_rw.role n (rw_spot at) us q ≡ of_rw.role n of_rw.Listed us q
+rw_listed n us (RwPhase.Sleeps want) at h = ap (λ x. of_rw.role n (rw_spot x) us (RwPhase.Sleeps want)) (h _ _ refl)
+rw_listed n us (RwPhase.DrainSleeps rounds) at h = ap (λ x. of_rw.role n (rw_spot x) us (RwPhase.DrainSleeps rounds)) (h _ _ refl)
+rw_listed n us q at h = refl
+
+pub mutex_listed : (v : ℕ) (q : MutexPhase) (at : QueuePosition) → ((k : ℕ) (token : ParkToken) → mutex_stance q ≡ Asleep k token → at ≡ QueuePosition.Listed) → of_mutex.role (mutex_spot at) v q ≡ of_mutex.role of_mutex.Listed v q
+mutex_listed v MutexPhase.Sleeps at h = ap (λ x. of_mutex.role (mutex_spot x) v MutexPhase.Sleeps) (h _ _ refl)
+mutex_listed v q at h = refl
+
+pub rw_only : (x : Core) → IsOfKind (Some LockKind.Rw) x → (k : RwCore) × (x ≡ Core.Rw k)
+rw_only (Core.Rw k) e = (k, refl)
+rw_only (Core.Mutex k) e = absurd cc
+
+pub mutex_only : (x : Core) → IsOfKind (Some LockKind.Mutex) x → (k : MutexCore) × (x ≡ Core.Mutex k)
+mutex_only (Core.Mutex k) e = (k, refl)
+mutex_only (Core.Rw k) e = absurd cc
+
+abbrev pub of_rws : Kind RwCore Role Lock
+of_rws = record {
+  kind = LockKind.Rw;
+  core = Core.Rw;
+  of_kind = λ o k e. e;
+  only = rw_only;
+  idle = λ h. record { owns = owned_of h; does = Idle };
+  plays = λ n at us k. of_rw.role n (rw_spot at) us k.phase;
+  role_in = rw_role_in;
+  none = λ i us h. refl;
+  here = λ i us h c k e at. ap (λ b. cond b (rw_core_role c.others c.spot us c.core) (record { owns = owned_of h; does = Idle })) (eq-eqb c.lock i at) ∙ ap (rw_core_role c.others c.spot us) e;
+  away = λ i us h c ne. ap (λ b. cond b (rw_core_role c.others c.spot us c.core) (record { owns = owned_of h; does = Idle })) (ne_eqb c.lock i ne);
+  listed = λ n us k at h. rw_listed n us k.phase at h;
+  lock = λ x rs first second. record { word = word_of x; roles = rs; first = first; second = second };
+  any = Rw;
+  shows = λ s i o e. ap (λ (q : Option LockKind). any_lock q s i) e;
+}
+
+abbrev pub of_mutexes : Kind MutexCore mutex.Role mutex.Mutex
+of_mutexes = record {
+  kind = LockKind.Mutex;
+  core = Core.Mutex;
+  of_kind = λ o k e. e;
+  only = mutex_only;
+  idle = λ h. record { owns = owns_mutex h; does = mutex.Idle };
+  plays = λ n at us k. of_mutex.role (mutex_spot at) (first_of_all us) k.phase;
+  role_in = mutex_role_in;
+  none = λ i us h. refl;
+  here = λ i us h c k e at. ap (λ b. cond b (mutex_core_role c.spot us c.core) (record { owns = owns_mutex h; does = mutex.Idle })) (eq-eqb c.lock i at) ∙ ap (mutex_core_role c.spot us) e;
+  away = λ i us h c ne. ap (λ b. cond b (mutex_core_role c.spot us c.core) (record { owns = owns_mutex h; does = mutex.Idle })) (ne_eqb c.lock i ne);
+  listed = λ n us k at h. mutex_listed (first_of_all us) k.phase at h;
+  lock = λ x rs first second. record { word = mutex_word_of x; roles = rs; queue = first };
+  any = Mx;
+  shows = λ s i o e. ap (λ (q : Option LockKind). any_lock q s i) e;
+}
+
+-- ONE LOCK
+
+-- the thread is at lock j, or at none
+abbrev pub IsThere : ℕ → Option Call → Type 0
+IsThere j None = Unit {0}
+IsThere j (Some c) = c.lock ≡ j
+
+-- What is the same beyond lock j, where threads act there.
+pub record Elsewhere (j : ℕ) (s u : State) : Type 0 where
+  pub kinds : u.kinds ≡ s.kinds
+  pub threads : length u.calls ≡ length s.calls
+  pub words : (i : ℕ) → i ≢ j → word_at u i ≡ word_at s i
+  pub queues : (i k : ℕ) → i ≢ j → k < 2 → u.lot.queues (2 * i + k) ≡ s.lot.queues (2 * i + k)
+  pub holds : (x i : ℕ) → i ≢ j → hold_at u x i ≡ hold_at s x i
+  pub calls : (x : ℕ) → ((call_at u x ≡ call_at s x) × (taken_by u.wakes x ≡ taken_by s.wakes x)) ⊎ (IsThere j (call_at s x) × IsThere j (call_at u x))
+
+-- what all are to a lock, where one has changed
+pub one_changed : {R : Type 0} (f g : ℕ → R) (n m t : ℕ) (r : R) → t < n → m ≡ n → ((x : ℕ) → x ≢ t → g x ≡ f x) → g t ≡ r → all g 0 m ≡ slice_set (all f 0 n) t r
+one_changed f g n m t r low same others is = ap (all g 0) same ∙ change-all f g n t low (λ x b ne. others x ne) ∙ ap (slice_set (all f 0 n) t) is
+
+module _ {C R L : Type 0} (K : Kind C R L) where
+  abbrev pub role_at : State → ℕ → ℕ → R
+  role_at s i t = K.role_in i (taken_by s.wakes t) (hold_at s t i) (call_at s t)
+
+  abbrev pub roles_at : State → ℕ → List R
+  roles_at s i = everybody (role_at s i) s
+
+  abbrev pub shown : State → ℕ → L
+  shown s i = K.lock (word_at s i) (roles_at s i) (queue_at s (2 * i)) (queue_at s (2 * i + 1))
+
+  pub same : (x x' : ℕ) (rs rs' : List R) (f f' g g' : List ℕ) → x ≡ x' → rs ≡ rs' → f ≡ f' → g ≡ g' → K.lock x rs f g ≡ K.lock x' rs' f' g'
+  same x x' rs rs' f f' g g' a b c d = ap (λ y. K.lock y rs f g) a ∙ ap (λ y. K.lock x' y f g) b ∙ ap (λ y. K.lock x' rs' y g) c ∙ ap (K.lock x' rs' f') d
+
+  pub idle_in : (i j : ℕ) → i ≢ j → (us : List ℕ) (h : Hold) (o : Option Call) → IsThere j o → K.role_in i us h o ≡ K.idle h
+  idle_in i j ne us h None e = K.none i us h
+  idle_in i j ne us h (Some c) e = K.away i us h c (λ f. ne (sym f ∙ e))
+
+  -- what a thread is to a lock is the same, where its call, its holds and those that it has taken are
+  pub role_stays : (s u : State) (j x : ℕ) → call_at u x ≡ call_at s x → taken_by u.wakes x ≡ taken_by s.wakes x → hold_at u x j ≡ hold_at s x j → role_at u j x ≡ role_at s j x
+  role_stays s u j x calls taken holds = ap (λ us. K.role_in j us (hold_at u x j) (call_at u x)) taken ∙ ap (λ h. K.role_in j (taken_by s.wakes x) h (call_at u x)) holds ∙ ap (K.role_in j (taken_by s.wakes x) (hold_at s x j)) calls
+
+  -- one in a call at a lock plays its part there
+  pub role_now : (s : State) (t : ℕ) (us : List ℕ) (c : Call) (k : C) → call_at s t ≡ Some c → taken_by s.wakes t ≡ us → c.core ≡ K.core k → role_at s c.lock t ≡ K.plays c.others c.spot us k
+  role_now s t us c k here taken e = ap (K.role_in c.lock (taken_by s.wakes t) (hold_at s t c.lock)) here ∙ K.here c.lock (taken_by s.wakes t) (hold_at s t c.lock) c k e refl ∙ ap (λ vs. K.plays c.others c.spot vs k) taken
+
+  -- and it is so in the list of all
+  pub in_its_place : (s : State) (t : ℕ) (c : Call) (k : C) → t < length s.calls → call_at s t ≡ Some c → c.core ≡ K.core k → slice_get (roles_at s c.lock) t ≡ Some (K.plays c.others c.spot (taken_by s.wakes t) k)
+  in_its_place s t c k low here e = get-all (role_at s c.lock) (length s.calls) t low ∙ ap Some (role_now s t (taken_by s.wakes t) c k here refl e)
+
+  module _ (j : ℕ) (s u : State) (h : Elsewhere j s u) (i : ℕ) (ne : i ≢ j) where
+    role_same : (x : ℕ) → role_at u i x ≡ role_at s i x
+    role_same x =
+        ap (λ o. K.role_in i (taken_by u.wakes x) o (call_at u x)) (h.holds x i ne)
+        ∙ elim (h.calls x) [
+          | inl a ↦ ap (λ us. K.role_in i us (hold_at s x i) (call_at u x)) a.1 ∙ ap (K.role_in i (taken_by s.wakes x) (hold_at s x i)) a.0
+          | inr b ↦ idle_in i j ne (taken_by u.wakes x) (hold_at s x i) (call_at u x) b.1 ∙ sym (idle_in i j ne (taken_by s.wakes x) (hold_at s x i) (call_at s x) b.0)
+        ]
+
+    first_same : queue_at u (2 * i) ≡ queue_at s (2 * i)
+    first_same = ap (λ k. threads_of (u.lot.queues k)) (omega arith) ∙ ap threads_of (h.queues i 0 ne (omega arith)) ∙ ap (λ k. threads_of (s.lot.queues k)) (omega arith)
+
+    pub same_elsewhere : shown u i ≡ shown s i
+    same_elsewhere =
+        same _ _ _ _ _ _ _ _ (h.words i ne) (ap (λ n. all (role_at u i) 0 n) h.threads ∙ same-all (role_at s i) (role_at u i) (length s.calls) (λ x b. role_same x))
+        first_same (ap threads_of (h.queues i 1 ne (omega arith)))
+
+-- ANOTHER LOCK, OF ANY KIND
+
+pub elsewhere : (j : ℕ) (s u : State) → Elsewhere j s u → (i : ℕ) → i ≢ j → lock_at u i ≡ lock_at s i
+elsewhere j s u h i ne = ap (λ ks. any_lock (slice_get ks i) u i) h.kinds ∙ go (slice_get s.kinds i)
+  where
+    go : (o : Option LockKind) → any_lock o u i ≡ any_lock o s i
+    go None = ap Rw (same_elsewhere of_rws j s u h i ne)
+    go (Some LockKind.Rw) = ap Rw (same_elsewhere of_rws j s u h i ne)
+    go (Some LockKind.Mutex) = ap Mx (same_elsewhere of_mutexes j s u h i ne)
