@@ -185,9 +185,9 @@ asks_to_take (Core.Rw y) k e = rw_takes y.phase y k e
 asks_to_take (Core.Mutex y) k e = mutex_takes y.phase y k e
 
 -- whatever it takes, the word stays
-pub takes_no_word : (a : Act) (finds_none : ActResult) (x : ℕ) → AsksToTake a → word_after a finds_none x ≡ x
-takes_no_word a finds_none x (inl e) = ap (λ b. word_after b finds_none x) e
-takes_no_word a finds_none x (inr e) = ap (λ b. word_after b finds_none x) e.1
+pub takes_no_word : (a : Act) (told : ActResult) (x : ℕ) → AsksToTake a → word_after a told x ≡ x
+takes_no_word a told x (inl e) = ap (λ b. word_after b told x) e
+takes_no_word a told x (inr e) = ap (λ b. word_after b told x) e.1
 
 module _ (s : State) (t : ℕ) (c : Call) (k : ℕ) (from : stance c.core ≡ In k Takes) (empty : s.lot.queues (key_of c k) ≡ []) (sound : lot.Sound (took_nobody s t c (key_of c k)).lot)
     (h : FitsTogether s) (here : call_at s t ≡ Some c) where
