@@ -76,8 +76,13 @@ module _ (m : mutex.Mutex) (sound : mutex.IsSound m) where
   one_alone t u a b ne e f =
       let x = owner_role mutex_mode (slice_get m.roles t) a e in
       let y = owner_role mutex_mode (slice_get m.roles u) b f in
-      omega (arith, owner_weighs t x.0 a x.1 x.2, owner_weighs u y.0 b y.1 y.2, ap (at_index (mutex.weight mutex.Owning)) y.1,
-      (mutex_tells m sound).alone t u ne (omega (arith, owner_weighs t x.0 a x.1 x.2, ap (at_index (mutex.weight mutex.Owning)) x.1)))
+      omega (
+        arith,
+        owner_weighs t x.0 a x.1 x.2,
+        owner_weighs u y.0 b y.1 y.2,
+        ap (at_index (mutex.weight mutex.Owning)) y.1,
+        (mutex_tells m sound).alone t u ne (omega (arith, owner_weighs t x.0 a x.1 x.2, ap (at_index (mutex.weight mutex.Owning)) x.1)),
+      )
 
 all_agree : (l : AnyLock) → AnySound l → (t u : ℕ) (a b : OwnMode) → t ≢ u → mode_in l t ≡ Some a → mode_in l u ≡ Some b → agrees a b ≡ true
 all_agree (Rw l) sound t u a b ne e f = agree l sound t u a b ne e f

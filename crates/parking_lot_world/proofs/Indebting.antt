@@ -108,10 +108,14 @@ module _ (m : mutex.Mutex) (sound : mutex.IsSound m) (only : (u : ℕ) (a : OwnM
   unowned = elim (zero_or_more (mutex.total mutex.Owning m.roles)) [
     | inl none ↦ none
     | inr some ↦
-      let x = mutex_pays.somebody mutex.Owning m.roles some in
-      let q = x.1 in
-      absurd (omega (arith, x.3, weighed.mutex q (omega (arith, sound.fits.proper, mutexes.total-at m.roles x.0 q x.2 mutex.Strange)),
-      no_owner (mutex_mode q) (λ a e. only x.0 a (ap (option_and_then mutex_mode) x.2 ∙ e)) (λ a e. owned_exclusively (mutex_owners.owner_of q.owns q.does) a e)))
+        let x = mutex_pays.somebody mutex.Owning m.roles some in
+        let q = x.1 in
+        absurd (omega (
+          arith,
+          x.3,
+          weighed.mutex q (omega (arith, sound.fits.proper, mutexes.total-at m.roles x.0 q x.2 mutex.Strange)),
+          no_owner (mutex_mode q) (λ a e. only x.0 a (ap (option_and_then mutex_mode) x.2 ∙ e)) (λ a e. owned_exclusively (mutex_owners.owner_of q.owns q.does) a e),
+        ))
   ]
 
 module _ (s : State) (h : FitsTogether s) where
@@ -125,9 +129,14 @@ module _ (s : State) (h : FitsTogether s) where
     owing_call : (u : ℕ) → in_debt_at (lock_at s i) u ≡ true → (IsApart i (call_at s u) → in_debt_at (lock_at s i) u ≡ false) → SomebodyIsInDebt s i
     owing_call u owes apart = elim (by_call s h i u) [
       | inl away ↦ absurd (both_ways (in_debt_at (lock_at s i) u) (apart away) owes)
-      | inr d ↦ (u, d.0, d.1, d.2,
+      | inr d ↦ (
+        u,
+        d.0,
+        d.1,
+        d.2,
         ap (λ o. option_map_or (λ (c : Call). call_looks c.core || in_debt_at (lock_at s c.lock) u) o false) d.1
-        ∙ ap (λ j. call_looks d.0.core || in_debt_at (lock_at s j) u) d.2 ∙ ap (λ b. call_looks d.0.core || b) owes ∙ or-true (call_looks d.0.core))
+            ∙ ap (λ j. call_looks d.0.core || in_debt_at (lock_at s j) u) d.2 ∙ ap (λ b. call_looks d.0.core || b) owes ∙ or-true (call_looks d.0.core),
+      )
     ]
 
     module _ (is : lock_at s i ≡ Rw (rw_lock_at s i)) where

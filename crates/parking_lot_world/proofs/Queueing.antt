@@ -118,11 +118,11 @@ module _ (s : State) (h : FitsTogether s) (i : ℕ) where
     rw_lists t =
         let sound = subst AnySound is (h.rules.sound.sound i) in (
           sound.waiting1.each t ∙ by_thread (weight Waiting1) (rw_role_in i) (λ c us. rw_core_role c.others c.spot us c.core) (λ x. record { owns = owned_of x; does = Idle }) 0
-          (λ us x. refl) (λ us x c. refl) idle_first (λ u c us here same. rw_stands (waits_as 0) c us u here same (weight Waiting1) (λ n p. rw_first n c.spot us p)) t (slice_get (rw_lock_at s i).roles t)
-          (λ low. get-all (rw_role_at s i) (length s.calls) t low) (λ high. past (rw_role_at s i) (length s.calls) t high),
+              (λ us x. refl) (λ us x c. refl) idle_first (λ u c us here same. rw_stands (waits_as 0) c us u here same (weight Waiting1) (λ n p. rw_first n c.spot us p)) t (slice_get (rw_lock_at s i).roles t)
+              (λ low. get-all (rw_role_at s i) (length s.calls) t low) (λ high. past (rw_role_at s i) (length s.calls) t high),
           sound.waiting2.each t ∙ by_thread (weight Waiting2) (rw_role_in i) (λ c us. rw_core_role c.others c.spot us c.core) (λ x. record { owns = owned_of x; does = Idle }) 1
-          (λ us x. refl) (λ us x c. refl) idle_second (λ u c us here same. rw_stands (waits_as 1) c us u here same (weight Waiting2) (λ n p. rw_second n c.spot us p)) t (slice_get (rw_lock_at s i).roles t)
-          (λ low. get-all (rw_role_at s i) (length s.calls) t low) (λ high. past (rw_role_at s i) (length s.calls) t high),
+              (λ us x. refl) (λ us x c. refl) idle_second (λ u c us here same. rw_stands (waits_as 1) c us u here same (weight Waiting2) (λ n p. rw_second n c.spot us p)) t (slice_get (rw_lock_at s i).roles t)
+              (λ low. get-all (rw_role_at s i) (length s.calls) t low) (λ high. past (rw_role_at s i) (length s.calls) t high),
         )
 
   module _ (of : slice_get s.kinds i ≡ Some kind.Mutex) where

@@ -21,11 +21,11 @@ loop-wakeup-preserved c =
     let us = taken_by (drop i c.args.wakes.now) c.args.by in
     elim c.if-wakeup-by.branch [
       | then-wakeup-by+else-left-eq0 w ↦
-        let one_less : suc c.if-wakeup-by.left ≡ c.loop-wakeup.left = omega (arith, w.left-is, w.if-left-eq0.false) in
-        sym (ap (λ xs. slice_get xs (suc c.if-wakeup-by.left)) (is_next c.args.wakes.now c.args.by i _ c.loop-wakeup-test.true (eq-eqb _ _ w.if-wakeup-by.true)))
-        ∙ ap (slice_get us) one_less ∙ c.loop-wakeup.invariant
+          let one_less : suc c.if-wakeup-by.left ≡ c.loop-wakeup.left = omega (arith, w.left-is, w.if-left-eq0.false) in
+          sym (ap (λ xs. slice_get xs (suc c.if-wakeup-by.left)) (is_next c.args.wakes.now c.args.by i _ c.loop-wakeup-test.true (eq-eqb _ _ w.if-wakeup-by.true)))
+          ∙ ap (slice_get us) one_less ∙ c.loop-wakeup.invariant
       | else-wakeup-by w ↦ sym (ap (λ xs. slice_get xs c.if-wakeup-by.left) (is_passed c.args.wakes.now c.args.by i _ c.loop-wakeup-test.true (ne_eqb _ _ w.if-wakeup-by.false)))
-        ∙ ap (slice_get us) w.left-is ∙ c.loop-wakeup.invariant
+          ∙ ap (slice_get us) w.left-is ∙ c.loop-wakeup.invariant
     ]
 
 pub returns : goal.returns
