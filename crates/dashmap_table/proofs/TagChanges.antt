@@ -1,5 +1,5 @@
 -- Tags agree with slots after each change.
-use Rattle.std.proofs.Common.{◌≡◌, ◌≢◌, ℕ, zero, suc, ◌+◌, ◌-◌, ◌/◌, ◌^◌, ◌<◌, ◌≤◌, ◌==◌, cond, nat_eq, Bool, true, false, List, [], ◌∷◌, length, replicate, Option, Some, None, is_some, IsTrue, IsSome, IfSome, IfNone, slice_index, slice_set, refl, sym, ap, ◌∙◌, subst, inl, inr, arith, eqb-true, eq-eqb, length-set}
+use Rattle.std.proofs.Common.{◌≡◌, ◌≢◌, ℕ, zero, suc, ◌+◌, ◌-◌, ◌/◌, ◌%◌, ◌^◌, ◌<◌, ◌≤◌, ◌==◌, cond, nat_eq, Bool, true, false, List, [], ◌∷◌, length, replicate, Option, Some, None, is_some, IsTrue, IsSome, IfSome, IfNone, slice_index, slice_set, refl, sym, ap, ◌∙◌, subst, inl, inr, arith, eqb-true, eq-eqb, length-set}
 use Rattle.std.specs.Cmp.{IsEquivalence}
 use Rattle.std.specs.Option.{option_map}
 use Rattle.std.proofs.lemmas.Bool.{cases_eq, and_parts, false_from_ne_true, false≢true}
@@ -12,7 +12,7 @@ use Rattle.dashmap_table_tags.specs.Way.{tag_of}
 use Rattle.dashmap_table.specs.declared.entry.Entry.{Entry}
 use Rattle.dashmap_table.specs.Slots.{at, count, slot_of, entry_of, AreDistinct, changed}
 use Rattle.dashmap_table.specs.Table.{Table, IsSound, Adds}
-use Rattle.dashmap_table.specs.Tagged.{NoneOnWay, NoneBefore, IsEmpty, IsFree, empties, no_entry, IsTagged, IsTable}
+use Rattle.dashmap_table.specs.Tagged.{NoneOnWay, NoneBefore, IsEmpty, IsFree, empties, no_entry, IsPlace, IsTagged, IsTable, IsWhole}
 use Rattle.dashmap_table.proofs.Cases.{option_cases}
 use Rattle.dashmap_table.proofs.Places.{at_within, count-set}
 use Rattle.dashmap_table.proofs.Finding.{slot_of-is}
@@ -39,6 +39,9 @@ none_on_way-fewer m n P Q h w same fewer none =
 
 empties-set : (tags : List ℕ) (i t : ℕ) → i < length tags → empties (slice_set tags i t) + cond {A = ℕ} (slice_index tags i == 255) 1 0 ≡ empties tags + cond {A = ℕ} (t == 255) 1 0
 empties-set tags i t within = sum_by-set (λ x. cond (x == 255) 1 0) tags i t 0 within
+
+whole-set : (tags : List ℕ) (i t : ℕ) → IsWhole tags → IsWhole (slice_set tags i t)
+whole-set tags i t whole = subst (λ m. 16 ≤ m → m % 16 ≡ 0) (sym (length-set tags i t)) whole
 
 one_if : (t : ℕ) → t ≡ 255 → cond {A = ℕ} (t == 255) 1 0 ≡ 1
 one_if t is = ap (λ b. cond {A = ℕ} b 1 0) (eq-eqb t 255 is)
@@ -236,12 +239,13 @@ rooms (t ∷ tags) (Some d ∷ slots) long low =
     let none = none_if t (λ is. absurd (omega (arith, is, full))) in
     let rest = rooms tags slots (omega (arith, long)) (λ i b here. low (suc i) b here) in omega (arith, c, e, rest, none)
 
-pub table-fresh : (K V : Type 0) (eq : K → K → Bool) (n left : ℕ) → left < n → IsTable eq (replicate n 255) (replicate n (no_entry K V)) 0 left
-table-fresh K V eq n left less =
+pub table-fresh : (K V : Type 0) (eq : K → K → Bool) (n left : ℕ) → left < n → (16 ≤ n → n % 16 ≡ 0) → IsTable eq (replicate n 255) (replicate n (no_entry K V)) 0 left
+table-fresh K V eq n left less whole =
     record {
       distinct = λ i j d e hi hj has. absurd (nothing i d hi);
       counted = sym (count-fresh K V n);
       tagged = tagged-fresh K V n;
+      whole = subst (λ m. 16 ≤ m → m % 16 ≡ 0) (sym (length-replicate {A = ℕ} n 255)) whole;
       kept = omega (arith, less, empties-fresh n, length-replicate {A = ℕ} n 255);
     }
   where
@@ -256,6 +260,7 @@ table-none K V eq =
       distinct = λ i j d e hi hj has. absurd (none-some d (sym (get_or_past [] i None (omega arith)) ∙ hi));
       counted = refl;
       tagged = tagged-fresh K V 0;
+      whole = λ _. refl;
       kept = omega arith;
     }
 
@@ -271,12 +276,12 @@ module _ {K V : Type 0} (eq : K → K → Bool) where
 
   -- fewer pairs may be promised than there is room for
   pub table-limited : (tags : List ℕ) (slots : List (Option (Entry K V))) (full left less : ℕ) → less ≤ left → IsTable eq tags slots full left → IsTable eq tags slots full less
-  table-limited tags slots full left less below is = record { distinct = is.distinct; counted = is.counted; tagged = is.tagged; kept = omega (arith, is.kept, below) }
+  table-limited tags slots full left less below is = record { distinct = is.distinct; counted = is.counted; tagged = is.tagged; whole = is.whole; kept = omega (arith, is.kept, below) }
 
   -- other contents, with the same hashes
   pub table-changed : (f : Entry K V → Entry K V) → ((e : Entry K V) → (f e).hash ≡ e.hash) → (tags : List ℕ) (slots zs : List (Option (Entry K V))) (full left i : ℕ) → IsTable eq tags slots full left → zs ≡ changed f slots i → AreDistinct eq zs × (full ≡ count zs) → IsTable eq tags zs full left
   table-changed f keeps tags slots zs full left i is same sound =
-      record { distinct = sound.0; counted = sound.1; tagged = subst (IsTagged tags) (sym same) (tagged-changed f keeps tags slots i is.tagged); kept = is.kept }
+      record { distinct = sound.0; counted = sound.1; tagged = subst (IsTagged tags) (sym same) (tagged-changed f keeps tags slots i is.tagged); whole = is.whole; kept = is.kept }
 
   pub distinct-freed : (slots : List (Option (Entry K V))) (i : ℕ) → i < length slots → AreDistinct eq slots → AreDistinct eq (slice_set slots i None)
   distinct-freed slots i within distinct j k d e hj hk has = distinct j k d e (was j d hj) (was k e hk) has
@@ -310,6 +315,7 @@ module _ {K V : Type 0} (eq : K → K → Bool) where
         distinct = distinct-freed slots i inside is.distinct;
         counted = omega (arith, one_less, is.counted);
         tagged = tagged-freed tags slots is.tagged i t within free ends;
+        whole = whole-set tags i t is.whole;
         kept = omega (arith, is.kept, sum, byte, counts, was, length-set tags i t);
       })
 
@@ -334,6 +340,7 @@ module _ {K V : Type 0} (eq : K → K → Bool) where
           distinct = AreDistinct-filled eq laws slots e is.distinct absent i put-within put-free;
           counted = omega (arith, one_more, is.counted);
           tagged = tagged-put tags slots is.tagged e i t within tag low first;
+          whole = whole-set tags i t is.whole;
           kept = omega (arith, is.kept, some, sum, byte, most, counts, now, length-set tags i t);
         }
 
@@ -367,12 +374,15 @@ module _ {K V : Type 0} (eq : K → K → Bool) where
 
 module _ {K V : Type 0} (eq : K → K → Bool) (tags : List ℕ) (slots : List (Option (Entry K V))) (full left : ℕ) (is : IsTable eq tags slots full left) (read : List ℕ) (same : read ≡ tags)
     (old : Table K V) (was : record { slots = slots; room = full + left } ≡ old) where
-  -- a table that was read as these tags, slots and room, and takes an entry that it doesn't find
-  module _ (laws : IsEquivalence eq) (e : Entry K V) (absent : slot_of eq old.slots e.hash e.key ≡ None) (room : count old.slots < old.room) (i t : ℕ) (within : i < length read) (free : IsFree (slice_index read i))
-      (first : NoneBefore IsFree read e.hash (i / 16)) (tag : t ≡ tag_of e.hash) (low : t < 128) where
-    abbrev less : ℕ
-    less = left - bool_byte (slice_index read i == 255)
+  pub has-room : 0 < left → count old.slots < old.room
+  has-room some =
+      let rooms : old.room ≡ full + left = sym (ap (λ (o : Table K V). o.room) was) in
+      let counts : count old.slots ≡ count slots = sym (ap (λ (o : Table K V). count o.slots) was) in
+      omega (arith, rooms, counts, is.counted, some)
 
+  -- a table that was read as these tags, slots and room, and takes an entry that it doesn't find
+  module _ (laws : IsEquivalence eq) (e : Entry K V) (absent : slot_of eq old.slots e.hash e.key ≡ None) (room : count old.slots < old.room) (i : ℕ) (place : IsPlace read e.hash i) (low : tag_of e.hash < 128)
+      (empty : Bool) (was_empty : empty ≡ (slice_index tags i == 255)) (ts : List ℕ) (written : ts ≡ slice_set tags i (tag_of e.hash)) (zs : List (Option (Entry K V))) (put : zs ≡ slice_set slots i (Some e)) where
     put_some : 0 < left
     put_some =
         let rooms : old.room ≡ full + left = sym (ap (λ (o : Table K V). o.room) was) in
@@ -382,16 +392,19 @@ module _ {K V : Type 0} (eq : K → K → Bool) (tags : List ℕ) (slots : List 
     was_absent : slot_of eq slots e.hash e.key ≡ None
     was_absent = ap (λ (o : Table K V). slot_of eq o.slots e.hash e.key) was ∙ absent
 
-    pub put-table : (ts : List ℕ) → ts ≡ slice_set tags i t → IsTable eq ts (slice_set slots i (Some e)) (full + 1) less
-    put-table ts written =
-        subst (λ l. IsTable eq l (slice_set slots i (Some e)) (full + 1) less) (sym written)
-        (table-put eq laws tags slots full left is e i t less was_absent (subst (λ l. i < length l) same within) (subst (λ l. IsFree (slice_index l i)) same free)
-        (subst (λ l. NoneBefore IsFree l e.hash (i / 16)) same first) tag low put_some (ap (λ l. left - bool_byte (slice_index l i == 255)) same))
+    was_place : IsPlace tags e.hash i
+    was_place = subst (λ l. IsPlace l e.hash i) same place
 
-    pub put-adds : Adds eq old (record { slots = slice_set slots i (Some e); room = full + 1 + less }) e i
+    pub put-table : IsTable eq ts zs (full + 1) (left - bool_byte empty)
+    put-table =
+        subst (λ l. IsTable eq l zs (full + 1) (left - bool_byte empty)) (sym written)
+        (subst (λ l. IsTable eq (slice_set tags i (tag_of e.hash)) l (full + 1) (left - bool_byte empty)) (sym put)
+        (table-put eq laws tags slots full left is e i (tag_of e.hash) (left - bool_byte empty) was_absent was_place.within was_place.free was_place.first refl low put_some (ap (λ b. left - bool_byte b) was_empty)))
+
+    pub put-adds : Adds eq old (record { slots = zs; room = full + 1 + (left - bool_byte empty) }) e i
     put-adds =
-        adds-put eq laws tags slots full left is e i t less was_absent (subst (λ l. i < length l) same within) (subst (λ l. IsFree (slice_index l i)) same free)
-        (subst (λ l. NoneBefore IsFree l e.hash (i / 16)) same first) tag low old was (omega (arith, byte-small (slice_index read i == 255))) (full + 1 + less) refl
+        subst (λ l. Adds eq old (record { slots = l; room = full + 1 + (left - bool_byte empty) }) e i) (sym put)
+        (adds-put eq laws tags slots full left is e i (tag_of e.hash) (left - bool_byte empty) was_absent was_place.within was_place.free was_place.first refl low old was (omega (arith, byte-small empty)) (full + 1 + (left - bool_byte empty)) refl)
 
   -- or whose slot's entry goes
   module _ (i t : ℕ) (e : Entry K V) (here : at slots i ≡ Some e) (free : IsFree t) (ends : IsEmpty t → (l : ℕ) × (l < length read) × (l / 16 ≡ i / 16) × IsEmpty (slice_index read l)) where
@@ -401,9 +414,9 @@ module _ {K V : Type 0} (eq : K → K → Bool) (tags : List ℕ) (slots : List 
         (table-freed eq tags slots zs full left i t (left + bool_byte (t == 255)) e is here taken free
         (λ empty. let end = ends empty in (end.0, subst (λ l. end.0 < length l) same end.1, end.2, subst (λ l. IsEmpty (slice_index l end.0)) same end.3)) refl)
 
-pub table-fresh_is : (K V : Type 0) (eq : K → K → Bool) (tags : List ℕ) (slots : List (Option (Entry K V))) (n left : ℕ) → tags ≡ replicate n 255 → slots ≡ replicate n (no_entry K V) → left < n → IsTable eq tags slots 0 left
-table-fresh_is K V eq tags slots n left ts xs less =
-    subst (λ l. IsTable eq l slots 0 left) (sym ts) (subst (λ l. IsTable eq (replicate n 255) l 0 left) (sym xs) (table-fresh K V eq n left less))
+pub table-fresh_is : (K V : Type 0) (eq : K → K → Bool) (tags : List ℕ) (slots : List (Option (Entry K V))) (n left : ℕ) → tags ≡ replicate n 255 → slots ≡ replicate n (no_entry K V) → left < n → (16 ≤ n → n % 16 ≡ 0) → IsTable eq tags slots 0 left
+table-fresh_is K V eq tags slots n left ts xs less whole =
+    subst (λ l. IsTable eq l slots 0 left) (sym ts) (subst (λ l. IsTable eq (replicate n 255) l 0 left) (sym xs) (table-fresh K V eq n left less whole))
 
 -- a slot that is full is there
 pub full-within : {K V : Type 0} (t : Table K V) (xs : List (Option (Entry K V))) (room i : ℕ) → record { slots = xs; room = room } ≡ t → IsSome (at t.slots i) → i < length xs

@@ -1,18 +1,18 @@
 -- Tags agree with slots: what a probe may conclude from them, and that each change keeps it so.
-use Rattle.std.proofs.Common.{◌≡◌, ℕ, suc, ◌+◌, ◌-◌, ◌*◌, ◌/◌, ◌^◌, ◌<◌, ◌≤◌, ◌↔◌, ◌==◌, cond, nat_eq, Bool, true, false, List, [], ◌∷◌, length, Option, Some, None, is_some, MatchOption, nat_lt, slice_index, sym, ap, ◌∙◌, subst, inl, inr, arith, eqb-true, eq-eqb}
+use Rattle.std.proofs.Common.{◌≡◌, ℕ, suc, ◌+◌, ◌-◌, ◌*◌, ◌/◌, ◌^◌, ◌<◌, ◌≤◌, ◌↔◌, ◌==◌, cond, nat_eq, Bool, true, false, List, [], ◌∷◌, length, Option, Some, None, is_some, IsSome, MatchOption, nat_lt, nat_le, slice_index, refl, sym, ap, ◌∙◌, subst, inl, inr, arith, eqb-true, eq-eqb}
 use Rattle.std.specs.Cmp.{IsEquivalence}
-use Rattle.std.proofs.lemmas.Bool.{cases_lt, cases_eq, and_parts, false_from_ne_true, false≢true, lt-ltb, ltb-true}
+use Rattle.std.proofs.lemmas.Bool.{cases_lt, cases_eq, and_parts, false_from_ne_true, false≢true, lt-ltb, ltb-true, le-leb, leb-true}
 use Rattle.std.proofs.lemmas.List.{get_or_past}
 use Rattle.std.proofs.lemmas.List.Sums.{sum_by-cons}
 use Rattle.dashmap_table_tags.specs.declared.lanes.Lanes.{Lanes}
-use Rattle.dashmap_table_tags.specs.declared.window.Wanted.TheVariants.{Tag, Full}
+use Rattle.dashmap_table_tags.specs.declared.window.Wanted.TheVariants.{Tag, Free, Full}
 use Rattle.dashmap_table_tags.specs.Lanes.{HasLane, IsWanted}
 use Rattle.dashmap_table_tags.specs.Way.{tag_of, on_way}
-use Rattle.dashmap_table_tags.proofs.Ways.{way-comes, slot-window, lane-window}
+use Rattle.dashmap_table_tags.proofs.Ways.{way-comes, way-once, slot-window, lane-window}
 use Rattle.dashmap_table.specs.declared.entry.Entry.{Entry}
 use Rattle.dashmap_table.specs.Slots.{at, count, holds, slot_of, AreDistinct, IsNextFull}
 use Rattle.dashmap_table.specs.Table.{Table}
-use Rattle.dashmap_table.specs.Tagged.{windows_in, NoneBefore, IsEmpty, IsFree, IsFullFrom, empties, IsTagged}
+use Rattle.dashmap_table.specs.Tagged.{windows_in, NoneBefore, IsEmpty, IsFree, IsFullFrom, IsPlace, empties, IsTagged}
 use Rattle.dashmap_table.proofs.Cases.{option_cases}
 use Rattle.dashmap_table.proofs.Places.{at_within}
 use Rattle.dashmap_table.proofs.Finding.{slot_of-none_from, slot_of-at}
@@ -37,6 +37,18 @@ module _ {K V : Type 0} (eq : K → K → Bool) (tags : List ℕ) (slots : List 
         let within = at_within slots l e some.1 in
         (omega (arith, within, tagged.long), tagged.full l e some.1 ∙ ap tag_of (eqb-true e.hash h both.0))
   ]
+
+  -- a slot with a full slot's tag has something
+  pub lane-some : (tag from : ℕ) (lanes : Lanes) → tag < 128 → ((k : ℕ) → HasLane lanes k ↔ IsWanted (Tag tag) tags from k) → (k : ℕ) → HasLane lanes k → (from + k < length slots) × IsSome (at slots (from + k))
+  lane-some tag from lanes low wanted k has =
+      let w = (wanted k).0 has in
+      let is : slice_index tags (from + k) ≡ tag = eqb-true (slice_index tags (from + k)) tag w.2 in (
+        omega (arith, w.1, tagged.long),
+        elim (option_cases (at slots (from + k))) [
+          | inl none ↦ absurd (omega (arith, is, low, tagged.free (from + k) w.1 none))
+          | inr some ↦ ap is_some some.1
+        ],
+      )
 
   -- a window is clean where none of the lanes with the hash's tag holds it
   pub window-clean : (window : ℕ) (lanes : Lanes) → ((k : ℕ) → IsWanted (Tag (tag_of h)) tags (16 * window) k → HasLane lanes k)
@@ -94,6 +106,57 @@ module _ {K V : Type 0} (eq : K → K → Bool) (tags : List ℕ) (slots : List 
       let way : window ≡ on_way (windows_in tags) h passed = is ∙ ap (λ n. on_way n h passed) many in
       let w = (wanted lane).0 has in
       absent-at_empty passed (16 * window + lane) (omega (arith, within, many)) before w.1 (lane-window window lane w.0 ∙ way) (eqb-true (slice_index tags (16 * window + lane)) 255 w.2)
+
+  -- the window that is looked through first
+  pub first-absent : (from tag lane : ℕ) (same ended : Lanes) → 16 ≤ length tags → from ≡ 16 * on_way (windows_in tags) h 0 → tag ≡ tag_of h
+      → ((k : ℕ) → HasLane same k ↔ IsWanted (Tag tag) tags from k) → ((k : ℕ) → HasLane same k → holds eq h key (at slots (from + k)) ≡ false)
+      → ((k : ℕ) → HasLane ended k ↔ IsWanted (Tag 255) tags from k) → HasLane ended lane → slot_of eq slots h key ≡ None
+  first-absent from tag lane same ended some first is wanted missed empty has =
+      let window = on_way (windows_in tags) h 0 in
+      let here = probe-clean (windows_in tags) 0 window tag same refl refl is (subst (λ f. (k : ℕ) → HasLane same k ↔ IsWanted (Tag tag) tags f k) first wanted)
+      (subst (λ f. (k : ℕ) → HasLane same k → holds eq h key (at slots (f + k)) ≡ false) first missed) in
+      probe-absent (windows_in tags) 0 window lane ended refl refl (omega (arith, some)) (passed-more 0 (λ j below. absurd (omega (arith, below))) here)
+      (subst (λ f. (k : ℕ) → HasLane ended k ↔ IsWanted (Tag 255) tags f k) first empty) has
+
+-- nothing is before the first window of a way
+pub none-first : (tags : List ℕ) (P : ℕ → Type 0) (h from lane : ℕ) → from ≡ 16 * on_way (windows_in tags) h 0 → lane < 16 → NoneBefore P tags h ((from + lane) / 16)
+none-first tags P h from lane is low k j l hk at_k hj hl at_j p =
+    let here : (from + lane) / 16 ≡ on_way (windows_in tags) h 0 = ap (λ f. (f + lane) / 16) is ∙ lane-window (on_way (windows_in tags) h 0) lane low in
+    let first : k ≡ 0 = way-once (windows_in tags) h k 0 hk (omega (arith, hk)) (at_k ∙ here) in absurd (omega (arith, first, hj))
+
+-- a free slot of the window that is looked through first
+pub place-first : (tags : List ℕ) (h from lane : ℕ) (lanes : Lanes) → from ≡ 16 * on_way (windows_in tags) h 0 → ((k : ℕ) → HasLane lanes k ↔ IsWanted Free tags from k) → HasLane lanes lane → IsPlace tags h (from + lane)
+place-first tags h from lane lanes first wanted has =
+    let w = (wanted lane).0 has in
+    record { within = w.1; free = leb-true 128 (slice_index tags (from + lane)) w.2; first = none-first tags IsFree h from lane first w.0 }
+
+-- or of a further one, where those that were passed are full
+pub place-on_way : (tags : List ℕ) (h count passed window lane : ℕ) (lanes : Lanes) → count ≡ windows_in tags → window ≡ on_way count h passed → passed < count
+    → ((j m : ℕ) → j < passed → m < length tags → m / 16 ≡ on_way (windows_in tags) h j → ¬ IsFree (slice_index tags m))
+    → ((k : ℕ) → HasLane lanes k ↔ IsWanted Free tags (16 * window) k) → HasLane lanes lane → IsPlace tags h (16 * window + lane)
+place-on_way tags h count passed window lane lanes many is within full wanted has =
+    let w = (wanted lane).0 has in
+    let here : (16 * window + lane) / 16 ≡ on_way (windows_in tags) h passed = lane-window window lane w.0 ∙ (is ∙ ap (λ n. on_way n h passed) many) in
+    record {
+      within = w.1;
+      free = leb-true 128 (slice_index tags (16 * window + lane)) w.2;
+      first = λ k j l hk at_k hj hl at_j p.
+          let same : k ≡ passed = way-once (windows_in tags) h k passed hk (omega (arith, within, many)) (at_k ∙ here) in full j l (omega (arith, same, hj)) hl at_j p;
+    }
+
+-- a window is full behind which its hash's way goes on
+pub window-full : (tags : List ℕ) (h count passed window : ℕ) (lanes : Lanes) → count ≡ windows_in tags → window ≡ on_way count h passed
+    → ((j m : ℕ) → j < passed → m < length tags → m / 16 ≡ on_way (windows_in tags) h j → ¬ IsFree (slice_index tags m))
+    → ((k : ℕ) → HasLane lanes k ↔ IsWanted Free tags (16 * window) k) → ((k : ℕ) → ¬ HasLane lanes k)
+    → (j m : ℕ) → j < passed + 1 → m < length tags → m / 16 ≡ on_way (windows_in tags) h j → ¬ IsFree (slice_index tags m)
+window-full tags h count passed window lanes many is full wanted none j m below within at_j free = elim (cases_lt j passed) [
+  | inl sooner ↦ full j m sooner within at_j free
+  | inr later ↦
+      let same : j ≡ passed = omega (arith, below, later) in
+      let here : m / 16 ≡ window = at_j ∙ (ap (on_way (windows_in tags) h) same ∙ sym (is ∙ ap (λ n. on_way n h passed) many)) in
+      let place : 16 * window + (m - 16 * window) ≡ m = omega (arith, here) in
+      none (m - 16 * window) ((wanted (m - 16 * window)).1 (omega (arith, here), omega (arith, place, within), ap (λ n. nat_le 128 (slice_index tags n)) place ∙ le-leb 128 (slice_index tags m) free))
+]
 
 -- among distinct entries, a slot that has a hash and a key is the one that is found
 pub found-slot : {K V : Type 0} (eq : K → K → Bool) → IsEquivalence eq → (slots : List (Option (Entry K V))) → AreDistinct eq slots → (h : ℕ) (key : K) (i : ℕ) → holds eq h key (at slots i) ≡ true → slot_of eq slots h key ≡ Some i
@@ -181,3 +244,31 @@ next-full {K} {V} tags read slots old room from tagged same was small o found =
           first = λ j above below. free j (is.first j above below);
           numbered = omega (arith, is.within, tagged.long, small);
         }
+
+-- the full slots of a window, as the tags tell them
+pub full-lanes : {K V : Type 0} (tags read : List ℕ) (slots : List (Option (Entry K V))) (old : Table K V) (room from : ℕ) → IsTagged tags slots → read ≡ tags → record { slots = slots; room = room } ≡ old → (lanes : Lanes)
+    → ((k : ℕ) → HasLane lanes k ↔ IsWanted Full read from k) → (k : ℕ) → HasLane lanes k ↔ ((k < 16) × IsSome (at old.slots (from + k)))
+full-lanes {K} {V} tags read slots old room from tagged same was lanes wanted k =
+    subst (λ (t : Table K V). HasLane lanes k ↔ ((k < 16) × IsSome (at t.slots (from + k)))) was (there, back)
+  where
+    is : HasLane lanes k ↔ IsWanted Full tags from k
+    is = subst (λ l. HasLane lanes k ↔ IsWanted Full l from k) same (wanted k)
+
+    there : HasLane lanes k → (k < 16) × IsSome (at slots (from + k))
+    there has =
+        let w = is.0 has in
+        let low = ltb-true (slice_index tags (from + k)) 128 w.2 in (
+          w.0,
+          elim (option_cases (at slots (from + k))) [
+            | inl none ↦ absurd (omega (arith, low, tagged.free (from + k) w.1 none))
+            | inr some ↦ ap is_some some.1
+          ],
+        )
+
+    back : (k < 16) × IsSome (at slots (from + k)) → HasLane lanes k
+    back h = elim (option_cases (at slots (from + k))) [
+      | inl none ↦ absurd (false≢true (sym (ap is_some none) ∙ h.1))
+      | inr some ↦
+          let within = at_within slots (from + k) some.0 some.1 in
+          is.1 (h.0, omega (arith, within, tagged.long), lt-ltb (slice_index tags (from + k)) 128 (tagged.low (from + k) some.0 some.1))
+    ]

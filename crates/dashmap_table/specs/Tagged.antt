@@ -1,5 +1,5 @@
 -- A table of tags: how the tags of its slots agree with what stands in them.
-use Rattle.std.specs.Prelude.{◌≡◌, ℕ, ◌+◌, ◌-◌, ◌/◌, ◌<◌, ◌≤◌, ◌==◌, min, max, Bool, List, length, Option, Some, None, count_by, slice_index}
+use Rattle.std.specs.Prelude.{◌≡◌, ℕ, ◌+◌, ◌-◌, ◌/◌, ◌%◌, ◌<◌, ◌≤◌, ◌==◌, min, max, Bool, List, length, Option, Some, None, count_by, slice_index}
 use Rattle.dashmap_table_tags.specs.Way.{tag_of, windows_of, on_way}
 use Rattle.dashmap_table.specs.declared.entry.Entry.{Entry}
 use Rattle.dashmap_table.specs.Slots.{at, count, AreDistinct}
@@ -25,12 +25,22 @@ IsEmpty tag = tag ≡ 255
 abbrev pub IsFree : ℕ → Type 0
 IsFree tag = 128 ≤ tag
 
+-- the first slot on the way of a hash with nothing in it, up to its window
+pub record IsPlace (tags : List ℕ) (hash i : ℕ) : Type 0 where
+  pub within : i < length tags
+  pub free : IsFree (slice_index tags i)
+  pub first : NoneBefore IsFree tags hash (i / 16)
+
 -- the first slot that isn't below one and has something in it
 pub record IsFullFrom (tags : List ℕ) (from i : ℕ) : Type 0 where
   pub above : from ≤ i
   pub within : i < length tags
   pub full : slice_index tags i < 128
   pub first : (j : ℕ) → from ≤ j → j < i → IsFree (slice_index tags j)
+
+-- every window is whole, unless there are fewer slots than a window has
+abbrev pub IsWhole : List ℕ → Type 0
+IsWhole tags = 16 ≤ length tags → length tags % 16 ≡ 0
 
 -- into how many slots nothing was put
 abbrev pub empties : List ℕ → ℕ
@@ -59,5 +69,6 @@ module _ {K V : Type 0} where
     pub distinct : AreDistinct eq slots
     pub counted : full ≡ count slots
     pub tagged : IsTagged tags slots
+    pub whole : IsWhole tags
     -- a slot is always empty, unless there is none at all
     pub kept : left + min 1 (length tags) ≤ empties tags

@@ -18,6 +18,7 @@ mod shards;
 mod slot;
 mod tag_table;
 
+pub use dashmap_table_tags::{Lanes, WIDTH};
 pub use fault::MapFault;
 pub use lock_api_raw::NoMemory;
 pub use pairs::ShardPairs;

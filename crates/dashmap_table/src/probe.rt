@@ -1,20 +1,25 @@
 //! What reads the tags and the slots of a table as two slices.
-ghost use Rattle.std.specs.Prelude.{◌≡◌, ℕ, ◌+◌, ◌/◌, ◌%◌, ◌^◌, ◌<◌, ◌≤◌, true, false, length, slice_index, IsTrue, IfSome, IfNone, MatchOption};
+ghost use Rattle.std.specs.Prelude.{◌≡◌, ℕ, ◌+◌, ◌/◌, ◌^◌, ◌<◌, ◌≤◌, true, false, length, slice_index, None, Some, IsSome, IfSome, IfNone, MatchOption, IfOk, IfErr, OnErr};
 ghost use Rattle.dashmap_table_tags.specs.Lanes.{HasLane};
 ghost use Rattle.dashmap_table.specs.Slots.{at, holds, slot_of, AreDistinct};
-ghost use Rattle.dashmap_table.specs.Tagged.{IsTagged, IsFree, IsEmpty, IsFullFrom, NoneBefore, empties};
+ghost use Rattle.dashmap_table.specs.Tagged.{IsTagged, IsFree, IsEmpty, IsFullFrom, IsPlace, IsWhole, empties};
 
 use crate::entry::Entry;
 use dashmap_table_tags::{
-    EMPTY, Lanes, REMOVED, WIDTH, Wanted, lanes_at, lanes_in, tag_of, window_on_way, windows,
+    EMPTY, Lanes, REMOVED, WIDTH, Wanted, first_on_way, lanes_at, tag_of, whole_lanes_at,
+    window_on_way, windows,
 };
 
-/// Whether a slot has this hash and an equal key.
+/// Whether a full slot has this hash and an equal key.
 #[inline(always)]
 fn is_held<K: Eq, V>(slot: &Option<Entry<K, V>>, hash: u64, key: &K) -> bool
+    requires { IsSome slot.now }
     ensures { result ≡ holds K.eq hash key.now slot.now }
 {
-    matches!(slot, Some(entry) if entry.hash == hash && entry.key == *key)
+    match slot {
+        Some(entry) => entry.hash == hash && entry.key == *key,
+        None => unreachable!(),
+    }
 }
 
 /// The first of some lanes of a window whose slot has the hash and an equal key.
@@ -26,7 +31,8 @@ fn find_among<K: Eq, V>(
     hash: u64,
     key: &K,
 ) -> Option<usize>
-    requires { (k : ℕ) → HasLane lanes k → from + k < length slots.now }
+    requires within { (k : ℕ) → HasLane lanes k → from + k < length slots.now }
+    requires full { (k : ℕ) → HasLane lanes k → IsSome (at slots.now (from + k)) }
     ensures found { IfSome result (λ i. holds K.eq hash key.now (at slots.now i) ≡ true) }
     ensures absent { IfNone result ((k : ℕ) → HasLane lanes k → holds K.eq hash key.now (at slots.now (from + k)) ≡ false) }
 {
@@ -41,9 +47,10 @@ fn find_among<K: Eq, V>(
     None
 }
 
-/// The slot of a hash and key. Windows are looked through until one has an empty slot.
-#[inline(always)]
-fn find_in_windows<K: Eq, V, const WHOLE: bool>(
+/// The slot of a hash and key, wherever it is on the way of the hash. Windows are looked through until one has an empty slot.
+#[cold]
+#[inline(never)]
+fn find_on_way<K: Eq, V>(
     tags: &[u8],
     slots: &[Option<Entry<K, V>>],
     hash: u64,
@@ -52,41 +59,24 @@ fn find_in_windows<K: Eq, V, const WHOLE: bool>(
     requires tagged { IsTagged tags.now slots.now }
     requires distinct { AreDistinct K.eq slots.now }
     requires small { length tags.now < 2 ^ 63 }
-    requires whole { IsTrue WHOLE → length tags.now % 16 ≡ 0 }
     ensures { result ≡ slot_of K.eq slots.now hash key.now }
 {
     let count = windows(tags.len());
     for passed in 0..count {
         let from = WIDTH * window_on_way(hash, passed, count);
-        let same = lanes_in::<WHOLE>(tags, from, Wanted::Tag(tag_of(hash)));
+        let same = lanes_at(tags, from, Wanted::Tag(tag_of(hash)));
         if let Some(slot) = find_among(slots, same, from, hash, key) {
             return Some(slot);
         }
-        if let Some(_) = lanes_in::<WHOLE>(tags, from, Wanted::Tag(EMPTY)).first() {
+        if let Some(_) = lanes_at(tags, from, Wanted::Tag(EMPTY)).first() {
             return None;
         }
     }
     None
 }
 
-#[cold]
-#[inline(never)]
-fn find_in_parts<K: Eq, V>(
-    tags: &[u8],
-    slots: &[Option<Entry<K, V>>],
-    hash: u64,
-    key: &K,
-) -> Option<usize>
-    requires tagged { IsTagged tags.now slots.now }
-    requires distinct { AreDistinct K.eq slots.now }
-    requires small { length tags.now < 2 ^ 63 }
-    ensures { result ≡ slot_of K.eq slots.now hash key.now }
-{
-    find_in_windows::<K, V, false>(tags, slots, hash, key)
-}
-
-/// The slot of a hash and key. All windows of a table are whole, unless it has fewer than sixteen slots: such a one is
-/// looked through apart, so that nothing is kept for it where they are.
+/// The slot of a hash and key. Mostly it is in the window that is looked through first, or that window has an empty slot: so
+/// the others, and tables with fewer slots than a window, are looked through out of line.
 #[inline(always)]
 pub(crate) fn find_slot<K: Eq, V>(
     tags: &[u8],
@@ -97,60 +87,115 @@ pub(crate) fn find_slot<K: Eq, V>(
     requires tagged { IsTagged tags.now slots.now }
     requires distinct { AreDistinct K.eq slots.now }
     requires small { length tags.now < 2 ^ 63 }
+    requires whole { IsWhole tags.now }
     ensures { result ≡ slot_of K.eq slots.now hash key.now }
 {
-    if tags.len() % WIDTH == 0 {
-        find_in_windows::<K, V, true>(tags, slots, hash, key)
-    } else {
-        find_in_parts(tags, slots, hash, key)
+    if tags.len() < WIDTH {
+        return find_on_way(tags, slots, hash, key);
     }
+    let from = first_on_way(hash, tags.len());
+    let same = whole_lanes_at(tags, from, Wanted::Tag(tag_of(hash)));
+    if let Some(slot) = find_among(slots, same, from, hash, key) {
+        return Some(slot);
+    }
+    if let Some(_) = whole_lanes_at(tags, from, Wanted::Tag(EMPTY)).first() {
+        return None;
+    }
+    find_on_way(tags, slots, hash, key)
 }
 
-#[inline(always)]
-fn free_in_windows<const WHOLE: bool>(tags: &[u8], hash: u64) -> usize
+/// The first slot on the way of a hash with nothing in it, wherever it is.
+#[cold]
+#[inline(never)]
+fn free_on_way(tags: &[u8], hash: u64) -> usize
     requires some { 0 < empties tags.now }
     requires small { length tags.now < 2 ^ 63 }
-    requires whole { IsTrue WHOLE → length tags.now % 16 ≡ 0 }
-    ensures within { result < length tags.now }
-    ensures free { IsFree (slice_index tags.now result) }
-    ensures first { NoneBefore IsFree tags.now hash (result / 16) }
+    ensures { IsPlace tags.now hash result }
 {
     let count = windows(tags.len());
     for passed in 0..count {
         let from = WIDTH * window_on_way(hash, passed, count);
-        if let Some(lane) = lanes_in::<WHOLE>(tags, from, Wanted::Free).first() {
+        if let Some(lane) = lanes_at(tags, from, Wanted::Free).first() {
             return from + lane;
         }
     }
     unreachable!()
 }
 
-#[cold]
-#[inline(never)]
-fn free_in_parts(tags: &[u8], hash: u64) -> usize
-    requires some { 0 < empties tags.now }
-    requires small { length tags.now < 2 ^ 63 }
-    ensures within { result < length tags.now }
-    ensures free { IsFree (slice_index tags.now result) }
-    ensures first { NoneBefore IsFree tags.now hash (result / 16) }
-{
-    free_in_windows::<false>(tags, hash)
-}
-
-/// The first slot on the way of a hash with nothing in it.
+/// The first slot on the way of a hash with nothing in it. Mostly it is in the window that is looked through first.
 #[inline(always)]
 pub(crate) fn free_slot(tags: &[u8], hash: u64) -> usize
     requires some { 0 < empties tags.now }
     requires small { length tags.now < 2 ^ 63 }
-    ensures within { result < length tags.now }
-    ensures free { IsFree (slice_index tags.now result) }
-    ensures first { NoneBefore IsFree tags.now hash (result / 16) }
+    requires whole { IsWhole tags.now }
+    ensures { IsPlace tags.now hash result }
 {
-    if tags.len() % WIDTH == 0 {
-        free_in_windows::<true>(tags, hash)
-    } else {
-        free_in_parts(tags, hash)
+    if tags.len() < WIDTH {
+        return free_on_way(tags, hash);
     }
+    let from = first_on_way(hash, tags.len());
+    match whole_lanes_at(tags, from, Wanted::Free).first() {
+        Some(lane) => from + lane,
+        None => free_on_way(tags, hash),
+    }
+}
+
+/// The slot of a hash and key, or where they may be put.
+#[cold]
+#[inline(never)]
+fn find_or_place_on_way<K: Eq, V>(
+    tags: &[u8],
+    slots: &[Option<Entry<K, V>>],
+    hash: u64,
+    key: &K,
+) -> Result<usize, usize>
+    requires tagged { IsTagged tags.now slots.now }
+    requires distinct { AreDistinct K.eq slots.now }
+    requires some { 0 < empties tags.now }
+    requires small { length tags.now < 2 ^ 63 }
+    ensures held { IfOk result (λ i. slot_of K.eq slots.now hash key.now ≡ Some i) }
+    ensures absent { OnErr result (slot_of K.eq slots.now hash key.now ≡ None) }
+    ensures place { IfErr result (λ i. IsPlace tags.now hash i) }
+{
+    match find_on_way(tags, slots, hash, key) {
+        Some(slot) => Ok(slot),
+        None => Err(free_on_way(tags, hash)),
+    }
+}
+
+/// The slot of a hash and key, or where they may be put: the window that is looked through first mostly tells both.
+#[inline(always)]
+pub(crate) fn find_or_place<K: Eq, V>(
+    tags: &[u8],
+    slots: &[Option<Entry<K, V>>],
+    hash: u64,
+    key: &K,
+) -> Result<usize, usize>
+    requires tagged { IsTagged tags.now slots.now }
+    requires distinct { AreDistinct K.eq slots.now }
+    requires some { 0 < empties tags.now }
+    requires small { length tags.now < 2 ^ 63 }
+    requires whole { IsWhole tags.now }
+    ensures held { IfOk result (λ i. slot_of K.eq slots.now hash key.now ≡ Some i) }
+    ensures absent { OnErr result (slot_of K.eq slots.now hash key.now ≡ None) }
+    ensures place { IfErr result (λ i. IsPlace tags.now hash i) }
+{
+    if tags.len() < WIDTH {
+        return find_or_place_on_way(tags, slots, hash, key);
+    }
+    let from = first_on_way(hash, tags.len());
+    let same = whole_lanes_at(tags, from, Wanted::Tag(tag_of(hash)));
+    if let Some(slot) = find_among(slots, same, from, hash, key) {
+        return Ok(slot);
+    }
+    let ended = whole_lanes_at(tags, from, Wanted::Tag(EMPTY));
+    let free = whole_lanes_at(tags, from, Wanted::Free);
+    if let Some(_) = ended.first() {
+        if let Some(lane) = free.first() {
+            return Err(from + lane);
+        }
+    }
+    find_or_place_on_way(tags, slots, hash, key)
 }
 
 /// The tag of a slot whose entry goes: it is empty again where its window has another empty slot, so that no way goes on

@@ -1,13 +1,15 @@
 //! One shard of the map: a finite map from hash and key to a pair.
-ghost use Rattle.std.specs.Prelude.{◌≡◌, ℕ, ◌+◌, ◌*◌, ◌<◌, ◌≤◌, ◌==◌, [], None, Some, IsTrue, IsSome, IfSome, IfNone, MatchOption, IfOk, IfErr, OnOk, OnErr};
+ghost use Rattle.std.specs.Prelude.{◌≡◌, ℕ, ◌+◌, ◌*◌, ◌<◌, ◌≤◌, ◌↔◌, ◌==◌, [], length, None, Some, IsTrue, IsSome, IfSome, IfNone, MatchOption, IfOk, IfErr, OnOk, OnErr};
 ghost use Rattle.std.specs.Option.{option_map, option_copied_mut, is_some};
 ghost use Rattle.std.specs.Borrow.{sem};
+ghost use Rattle.dashmap_table_tags.specs.Lanes.{HasLane};
 ghost use Rattle.dashmap_table.specs.Slots.{at, count, slot_of, entry_with, pair_of, pairs_of, IsNextFull};
 ghost use Rattle.dashmap_table.specs.Table.{IsSound, Adds, Frees, SamePairs, with_value, with_pair};
 
 use crate::entry::Entry;
 use crate::pairs::ShardPairs;
 use crate::tag_table::TagTable;
+use dashmap_table_tags::Lanes;
 use lock_api_raw::NoMemory;
 use std::alloc::{Allocator, Global};
 use std::hash::Hash;
@@ -201,6 +203,23 @@ impl<K: Eq + Hash, V, A: Allocator> Shard<K, V, A> {
         ensures { MatchOption result ((i : ℕ) → slot ≤ i → at self.now.slots i ≡ None) (IsNextFull self.now.slots slot) }
     {
         self.table.next_from(slot)
+    }
+
+    /// How many slots there are, full and free.
+    pub fn slots(&self) -> usize
+        ensures { result ≡ length self.now.slots }
+    {
+        self.table.slots()
+    }
+
+    /// Which of the sixteen slots from one on are full.
+    ///
+    /// Where a walk removes nothing it may go from sixteen slots to the next sixteen, instead of asking for each by `next_from`.
+    pub fn full_from(&self, slot: usize) -> Lanes
+        requires { slot ≤ length self.now.slots }
+        ensures { (k : ℕ) → HasLane result k ↔ ((k < 16) × IsSome (at self.now.slots (slot + k))) }
+    {
+        self.table.full_from(slot)
     }
 
     /// Makes room for so many more pairs than there are. As many insertions of new keys then take no memory and move no pair,

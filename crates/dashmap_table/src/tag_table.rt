@@ -1,15 +1,17 @@
 //! A table of tags: a byte for each slot, which are looked through sixteen at a time, and the slots beside them.
-ghost use Rattle.std.specs.Prelude.{◌≡◌, ℕ, ◌+◌, ◌*◌, ◌^◌, ◌<◌, ◌≤◌, [], None, Some, IsTrue, IsSome, IfSome, IfNone, MatchOption, IfOk, IfErr, OnOk, OnErr, replicate};
+ghost use Rattle.std.specs.Prelude.{◌≡◌, ℕ, ◌+◌, ◌*◌, ◌%◌, ◌^◌, ◌<◌, ◌≤◌, ◌↔◌, [], None, Some, IsTrue, IsSome, IfSome, IfNone, MatchOption, IfOk, IfErr, OnOk, OnErr, length, replicate, slice_index, slice_set, ◌==◌};
 ghost use Rattle.std.specs.Option.{option_map, option_copied_mut, is_some};
 ghost use Rattle.std.specs.Borrow.{sem};
 ghost use Rattle.dashmap_table.specs.Slots.{at, count, slot_of, entry_of, entry_with, pair_of, AreDistinct, IsNextFull};
 ghost use Rattle.dashmap_table.specs.Table.{IsSound, Adds, Frees, SamePairs, with_value, with_pair};
+ghost use Rattle.dashmap_table_tags.specs.Lanes.{HasLane};
+ghost use Rattle.dashmap_table_tags.specs.Way.{tag_of};
 ghost use Rattle.dashmap_table.specs.Tagged.{no_entry, room_of};
 
 use crate::entry::Entry;
-use crate::probe::{find_slot, free_slot, freed_tag, full_slot_from};
+use crate::probe::{find_or_place, find_slot, free_slot, freed_tag, full_slot_from};
 use crate::slot::{lend_pair, lend_value, set_pair, set_value};
-use dashmap_table_tags::{EMPTY, Tags, tag_of};
+use dashmap_table_tags::{EMPTY, Lanes, Tags, Wanted, lanes_at, tag_of};
 use lock_api_raw::NoMemory;
 use std::alloc::Allocator;
 use std::hash::Hash;
@@ -53,6 +55,7 @@ fn room_of(slots: usize) -> usize
 fn slots_for(pairs: usize) -> Option<usize>
     ensures room { IfSome result (λ slots. pairs ≤ room_of slots) }
     ensures some { IfSome result (λ slots. 4 ≤ slots) }
+    ensures whole { IfSome result (λ slots. 16 ≤ slots → slots % 16 ≡ 0) }
     ensures tight { IfSome result (λ slots. 0 < pairs → slots ≤ 4 * pairs) }
 {
     if pairs > MOST_PAIRS {
@@ -79,6 +82,27 @@ fn free_slots<K, V, A: Allocator>(
     Ok(slots)
 }
 
+/// Puts an entry into a slot, under its hash's tag, and answers whether nothing was put there before.
+#[inline(always)]
+fn fill<K: Drop, V: Drop, A: Allocator>(
+    tags: &mut Tags<A>,
+    slots: &mut Vec<Option<Entry<K, V>>, A>,
+    slot: usize,
+    entry: Entry<K, V>,
+) -> bool
+    requires tagged { slot < length tags.old }
+    requires within { slot < length slots.old.items }
+    ensures empty { result ≡ (slice_index tags.old slot == 255) }
+    ensures tags { tags.new ≡ slice_set tags.old slot (tag_of entry.hash) }
+    ensures low { tag_of entry.hash < 128 }
+    ensures slots { slots.new.items ≡ slice_set slots.old.items slot (Some entry) }
+{
+    let is_empty = tags.as_slice()[slot] == EMPTY;
+    tags.set(slot, tag_of(entry.hash));
+    slots[slot] = Some(entry);
+    is_empty
+}
+
 impl<K: Eq + Hash, V, A: Allocator> TagTable<K, V, A> {
     ghost use Rattle.dashmap_table.specs.Lending.{lends_tagged, lends_tagged_if};
 
@@ -98,7 +122,8 @@ impl<K: Eq + Hash, V, A: Allocator> TagTable<K, V, A> {
     fn with_slots(alloc: A, slots: usize, room: usize) -> Result<TagTable<K, V, A>, NoMemory>
     where
         A: Clone,
-        requires { room < slots }
+        requires some { room < slots }
+        requires whole { 16 ≤ slots → slots % 16 ≡ 0 }
         ensures slots { IfOk result (λ t. count t.slots ≡ 0) }
         ensures room { IfOk result (λ t. t.room ≡ room) }
     {
@@ -163,6 +188,19 @@ impl<K: Eq + Hash, V, A: Allocator> TagTable<K, V, A> {
         full_slot_from(self.tags.as_slice(), slot)
     }
 
+    pub(crate) fn slots(&self) -> usize
+        ensures { result ≡ length self.now.slots }
+    {
+        self.slots.len()
+    }
+
+    pub(crate) fn full_from(&self, slot: usize) -> Lanes
+        requires { slot ≤ length self.now.slots }
+        ensures { (k : ℕ) → HasLane result k ↔ ((k < 16) × IsSome (at self.now.slots (slot + k))) }
+    {
+        lanes_at(self.tags.as_slice(), slot, Wanted::Full)
+    }
+
     pub(crate) fn remove(&mut self, slot: usize) -> Option<(K, V)>
         ensures pair { result ≡ option_map pair_of (at self.old.slots slot) }
         ensures frees { Frees self.old self.new slot }
@@ -220,11 +258,8 @@ impl<K: Eq + Hash, V, A: Allocator> TagTable<K, V, A> {
         ensures added { Adds K.eq self.old self.new entry result }
         ensures sound { IsSound K.eq self.new }
     {
-        let tags = self.tags.as_slice();
-        let slot = free_slot(tags, entry.hash);
-        self.left -= (tags[slot] == EMPTY) as usize;
-        self.tags.set(slot, tag_of(entry.hash));
-        self.slots[slot] = Some(entry);
+        let slot = free_slot(self.tags.as_slice(), entry.hash);
+        self.left -= fill(&mut self.tags, &mut self.slots, slot, entry) as usize;
         self.full += 1;
         slot
     }
@@ -288,6 +323,7 @@ impl<K: Eq + Hash, V, A: Allocator> TagTable<K, V, A> {
         A: Clone,
         requires fits { count self.old.slots ≤ room }
         requires some { room < slots }
+        requires whole { 16 ≤ slots → slots % 16 ≡ 0 }
         ensures pairs { SamePairs K.eq self.old self.new }
         ensures room { OnOk result (self.new.room ≡ room) }
         ensures refused { OnErr result (self.new ≡ self.old) }
@@ -352,12 +388,10 @@ impl<K: Eq + Hash, V, A: Allocator> TagTable<K, V, A> {
         self.grow(additional)
     }
 
-    pub(crate) fn insert(
-        &mut self,
-        hash: u64,
-        key: K,
-        value: V,
-    ) -> Result<(usize, Option<V>), (K, V)>
+    /// `insert` where there is no room, so that the table has to grow for a new key.
+    #[cold]
+    #[inline(never)]
+    fn insert_growing(&mut self, hash: u64, key: K, value: V) -> Result<(usize, Option<V>), (K, V)>
     where
         K: Drop,
         V: Drop,
@@ -374,6 +408,35 @@ impl<K: Eq + Hash, V, A: Allocator> TagTable<K, V, A> {
         match self.reserve(1) {
             Ok(()) => Ok((self.add(Entry { hash, key, value }), None)),
             Err(NoMemory) => Err((key, value)),
+        }
+    }
+
+    pub(crate) fn insert(
+        &mut self,
+        hash: u64,
+        key: K,
+        value: V,
+    ) -> Result<(usize, Option<V>), (K, V)>
+    where
+        K: Drop,
+        V: Drop,
+        A: Clone,
+        ensures present { IfSome (slot_of K.eq self.old.slots hash key) (λ i. (result ≡ Ok (i, option_map (λ e. e.value) (at self.old.slots i))) × (self.new ≡ with_value self.old i value)) }
+        ensures added { IfNone (slot_of K.eq self.old.slots hash key) (IfOk result (λ r. (r.1 ≡ None) × Adds K.eq self.old self.new (entry_with hash key value) r.0)) }
+        ensures refused { IfErr result (λ back. (back ≡ (key, value)) × (self.new ≡ self.old) × (self.old.room ≤ count self.old.slots)) }
+        ensures sound { IsSound K.eq self.new }
+    {
+        if self.left < 1 {
+            return self.insert_growing(hash, key, value);
+        }
+        match find_or_place(self.tags.as_slice(), self.slots.as_slice(), hash, &key) {
+            Ok(slot) => Ok((slot, self.replace_value(slot, value))),
+            Err(slot) => {
+                let entry = Entry { hash, key, value };
+                self.left -= fill(&mut self.tags, &mut self.slots, slot, entry) as usize;
+                self.full += 1;
+                Ok((slot, None))
+            }
         }
     }
 

@@ -1,5 +1,5 @@
 -- The way of a hash comes to every window, and to each of them once.
-use Rattle.std.proofs.Common.{◌≡◌, ℕ, ◌+◌, ◌-◌, ◌*◌, ◌/◌, ◌<◌, ◌≤◌, nat_lt, ◌∙◌, inl, inr, arith}
+use Rattle.std.proofs.Common.{◌≡◌, ℕ, ◌+◌, ◌-◌, ◌*◌, ◌/◌, ◌%◌, ◌<◌, ◌≤◌, nat_lt, bit_and, ap, ◌∙◌, inl, inr, arith}
 use Rattle.std.proofs.lemmas.Bool.{cond-true, cond-false, lt-ltb, le-ltb, cases_lt}
 use Rattle.std.proofs.lemmas.Nat.{and_le_r}
 use Rattle.dashmap_table_tags.specs.Way.{home, round, on_way, windows_of}
@@ -45,3 +45,13 @@ slot-window slots l within = (omega (arith, within), omega arith, omega arith)
 -- a lane of a window is in it
 pub lane-window : (w k : ℕ) → k < 16 → (16 * w + k) / 16 ≡ w
 lane-window w k within = omega (arith, within)
+
+pub first-on_way : (n h : ℕ) → 0 < n → on_way n h 0 ≡ home n h
+first-on_way n h some = round-on n (home n h) 0 (omega (arith, home-below n h some)) ∙ omega arith
+
+-- among whole windows, the first on a way is told by as many of the hash's bits as there are windows
+pub first-window : (slots h : ℕ) → 16 ≤ slots → slots % 16 ≡ 0 → on_way (windows_of slots) h 0 ≡ bit_and h (slots / 16 - 1)
+unfolding home
+first-window slots h many whole =
+    let windows : windows_of slots ≡ slots / 16 = omega (arith, whole) in
+    first-on_way (windows_of slots) h (omega (arith, many)) ∙ ap (λ m. bit_and h (m - 1)) windows

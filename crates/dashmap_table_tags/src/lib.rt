@@ -13,5 +13,5 @@ mod window;
 
 pub use lanes::Lanes;
 pub use tags::Tags;
-pub use way::{EMPTY, REMOVED, tag_of, window_on_way, windows};
-pub use window::{WIDTH, Wanted, lanes_at, lanes_in};
+pub use way::{EMPTY, REMOVED, first_on_way, tag_of, window_on_way, windows};
+pub use window::{WIDTH, Wanted, lanes_at, whole_lanes_at};

@@ -1,5 +1,5 @@
 //! The tag of a hash, and the order in which windows are looked through for it.
-ghost use Rattle.std.specs.Prelude.{◌≡◌, ℕ, ◌+◌, ◌*◌, ◌^◌, ◌<◌, ◌≤◌};
+ghost use Rattle.std.specs.Prelude.{◌≡◌, ℕ, ◌+◌, ◌*◌, ◌%◌, ◌^◌, ◌<◌, ◌≤◌};
 ghost use Rattle.dashmap_table_tags.specs.Way.{tag_of, windows_of, on_way};
 
 use crate::window::WIDTH;
@@ -26,6 +26,17 @@ pub fn windows(slots: usize) -> usize
     ensures { result ≡ windows_of slots }
 {
     (slots + (WIDTH - 1)) / WIDTH
+}
+
+/// Where the window begins that is looked through for a hash first, among windows that are all whole.
+#[inline(always)]
+pub fn first_on_way(hash: u64, slots: usize) -> usize
+    requires some { 16 ≤ slots }
+    requires whole { slots % 16 ≡ 0 }
+    ensures window { result ≡ 16 * on_way (windows_of slots) hash 0 }
+    ensures within { result + 16 ≤ slots }
+{
+    WIDTH * (hash as usize & (slots / WIDTH - 1))
 }
 
 /// The window that is looked through for a hash after so many others. The first one is chosen by the hash's lowest bits,

@@ -1,5 +1,5 @@
 //! Which lanes of a window have what.
-ghost use Rattle.std.specs.Prelude.{◌≡◌, ℕ, ◌+◌, ◌<◌, ◌≤◌, ◌↔◌, length, IsTrue};
+ghost use Rattle.std.specs.Prelude.{◌≡◌, ℕ, ◌+◌, ◌<◌, ◌≤◌, ◌↔◌, length};
 ghost use Rattle.dashmap_table_tags.specs.Lanes.{HasLane, IsWanted, lanes_by, accepts};
 
 use crate::lanes::Lanes;
@@ -46,7 +46,16 @@ fn whole(tags: &[u8], from: usize, wanted: Wanted) -> Lanes
     Lanes { bits }
 }
 
-/// The same where fewer lanes are left, one after another from the last on.
+/// The lanes of a window of sixteen slots, among those that are wanted.
+#[inline(always)]
+pub fn whole_lanes_at(tags: &[u8], from: usize, wanted: Wanted) -> Lanes
+    requires { from + 16 ≤ length tags.now }
+    ensures { (k : ℕ) → HasLane result k ↔ IsWanted wanted tags.now from k }
+{
+    whole(tags, from, wanted)
+}
+
+/// The wanted lanes where fewer are left, one after another from the last on.
 #[cold]
 #[inline(never)]
 fn part(tags: &[u8], from: usize, wanted: Wanted) -> Lanes
@@ -64,29 +73,15 @@ fn part(tags: &[u8], from: usize, wanted: Wanted) -> Lanes
 }
 
 /// The lanes of the window that begins at a slot, among those that are wanted. There are fewer than sixteen where the tags
-/// end before.
+/// end before, and then they are looked at one after another.
 #[inline(always)]
 pub fn lanes_at(tags: &[u8], from: usize, wanted: Wanted) -> Lanes
     requires { from ≤ length tags.now }
     ensures { (k : ℕ) → HasLane result k ↔ IsWanted wanted tags.now from k }
 {
     if tags.len() - from >= WIDTH {
-        whole(tags, from, wanted)
+        whole_lanes_at(tags, from, wanted)
     } else {
         part(tags, from, wanted)
-    }
-}
-
-/// The same, for a caller that knows beforehand where windows are whole, so that no test is left where they are.
-#[inline(always)]
-pub fn lanes_in<const WHOLE: bool>(tags: &[u8], from: usize, wanted: Wanted) -> Lanes
-    requires within { from ≤ length tags.now }
-    requires whole { IsTrue WHOLE → from + 16 ≤ length tags.now }
-    ensures { (k : ℕ) → HasLane result k ↔ IsWanted wanted tags.now from k }
-{
-    if WHOLE {
-        whole(tags, from, wanted)
-    } else {
-        lanes_at(tags, from, wanted)
     }
 }

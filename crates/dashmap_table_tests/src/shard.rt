@@ -37,6 +37,19 @@ fn reserved_insertions_take_no_memory(rt: HostRuntime) {
     assert!(rt; right && shard.len() == 21 && shard.capacity() == capacity);
 }
 
+#[test]
+fn full_slots_are_shown_together(rt: HostRuntime) {
+    let mut shard = Shard::new(rt.alloc());
+    let mut right = shard.slots() == 0 && shard.full_from(0).is_none();
+    right &= shard.insert(7, 1u64, 2u64).is_ok() & (shard.slots() > 0);
+    let full = shard.full_from(0);
+    right &= full.first() == shard.next_from(0);
+    match full.first() {
+        Some(lane) => assert!(rt; right && full.without(lane).is_none()),
+        None => assert!(rt; false),
+    }
+}
+
 /// Adds a key that isn't there where there is room.
 fn added(shard: &mut Shard<u64, u64>, hash: u64, key: u64, value: u64) -> Option<usize> {
     if shard.find(hash, &key).is_none() && shard.len() < shard.capacity() {

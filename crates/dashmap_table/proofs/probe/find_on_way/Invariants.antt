@@ -1,5 +1,5 @@
 use Rattle.dashmap_table.proofs.Tagging.{Passed}
-use Rattle.dashmap_table.proofs.probe.find_in_windows.Given as goal
+use Rattle.dashmap_table.proofs.probe.find_on_way.Given as goal
 
 -- no slot of the windows that were looked through has the hash and an equal key
 abbrev pub invariant-loop-passed : goal.invariant-loop-passed
