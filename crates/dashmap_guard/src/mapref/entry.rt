@@ -1,6 +1,7 @@
 //! The place of one key in a shard that is held exclusively.
-ghost use Rattle.std.specs.Prelude.{◌≡◌, ◌≤◌, None, Some, IfOk, IfErr};
+ghost use Rattle.std.specs.Prelude.{◌≡◌, ◌≤◌, None, Some, Ok, Err, IfOk, IfErr, MatchResult};
 ghost use Rattle.std.specs.Borrow.{Lends, sem};
+ghost use Rattle.std.specs.Fn.{FnOnceReturnsAtMut};
 ghost use Rattle.dashmap_table.specs.Slots.{at, count, slot_of, entry_with};
 ghost use Rattle.dashmap_table.specs.Table.{Adds, Frees, SamePairs, with_value, with_pair};
 ghost use Rattle.dashmap_guard.specs.Guarded.{pair_in, key_in, value_in};
@@ -10,11 +11,19 @@ use crate::mapref::one::RefMut;
 use crate::slot_guard::SlotGuard;
 use dashmap_table::Shard;
 use lock_api_guards::{Guard, Hold, Lender, LenderMut};
-use std::alloc::{AllocError, Allocator};
+use std::alloc::Allocator;
 use std::hash::Hash;
 use std::marker::{Model, PhantomData};
 use std::mem;
 use std::sync::Wait;
+
+/// Lets a closure change a value.
+fn change<T, F: FnOnce(&mut T)>(value: &mut T, f: F)
+    requires { F.IsAlwaysCallable f }
+    ensures { FnOnceReturnsAtMut F.FnOnce f value.old tt value.new }
+{
+    f(value)
+}
 
 /// An absent key, whose shard is held exclusively and has room for it.
 ///
@@ -130,6 +139,36 @@ where
         } = self;
         let slot = guard.inner.lend().add(hash, key, value);
         RefMut::of_slot(guard, slot)
+    }
+
+    /// Adds the pair with a clone of the key, and stays at it. Where the clone is refused, entry and value come back and nothing is
+    /// added. A key has to be equal to its clone.
+    pub fn insert_entry(
+        self,
+        value: V,
+    ) -> Result<OccupiedEntry<K, V, A, W, H, D>, (VacantEntry<K, V, A, W, H, D>, V)>
+    where
+        K: Drop + Clone,
+        V: Drop,
+        requires { (k copy : K) → K.is_clone k copy → copy ≡ k }
+        ensures { MatchResult result
+            (λ o. Adds K.eq (W.part self.0.inner) (W.part o.0.0.inner) (entry_with self.1 self.2 value) o.0.1 × (o.0.0.held ≡ self.0.held) × (o.1 ≡ self.2))
+            (λ back. back ≡ (self, value)) }
+    {
+        let Ok(copy) = self.key.clone() else {
+            return Err((self, value));
+        };
+        let VacantEntry {
+            mut guard,
+            hash,
+            key,
+            party: _,
+        } = self;
+        let slot = guard.inner.lend().add(hash, copy, value);
+        Ok(OccupiedEntry {
+            of: SlotGuard::of_slot(guard, slot),
+            key,
+        })
     }
 }
 
@@ -382,6 +421,7 @@ where
     H::Runtime: Wait,
 {
     ghost use Rattle.dashmap_guard.specs.Entries.{by_entry};
+    ghost use Rattle.dashmap_guard.specs.declared.mapref.entry.Entry.TheVariants.{Occupied, Vacant};
 
     /// The place of a key in a shard that is held exclusively. For the layer above.
     ///
@@ -437,6 +477,97 @@ where
                 entry.into_ref()
             }
             Entry::Vacant(entry) => entry.insert(value),
+        }
+    }
+
+    /// Lets the closure change the value of an occupied entry. It isn't called for a vacant one.
+    pub fn and_modify<F: FnOnce(&mut V) + Drop>(self, f: F) -> Entry<K, V, A, W, H, D>
+        requires { F.IsAlwaysCallable f }
+        ensures { by_entry
+            (λ o. (old : V) × (new : V) × (value_in (W.part o.0.0.inner) o.0.1 ≡ Some old) × FnOnceReturnsAtMut F.FnOnce f old tt new × (result ≡ Occupied ((record o.0.0 { inner = W.with_part o.0.0.inner (with_value (W.part o.0.0.inner) o.0.1 new) }, o.0.1), o.1)))
+            (λ v. result ≡ Vacant v) self }
+    {
+        match self {
+            Entry::Occupied(mut entry) => {
+                change(entry.get_mut(), f);
+                Entry::Occupied(entry)
+            }
+            Entry::Vacant(entry) => Entry::Vacant(entry),
+        }
+    }
+
+    /// As `or_insert`, with the closure's answer. It isn't called for an occupied entry.
+    pub fn or_insert_with<F: FnOnce() -> V + Drop>(self, f: F) -> RefMut<K, V, A, W, H, D>
+        requires { F.IsAlwaysCallable f }
+        ensures { by_entry
+            (λ o. result ≡ o.0)
+            (λ v. (value : V) × F.post f value × Adds K.eq (W.part v.0.inner) (W.part result.0.inner) (entry_with v.1 v.2 value) result.1 × (result.0.held ≡ v.0.held)) self }
+    {
+        match self {
+            Entry::Occupied(entry) => entry.into_ref(),
+            Entry::Vacant(entry) => entry.insert(f()),
+        }
+    }
+
+    /// As `or_insert_with`, but where the closure answers an error nothing is added and the hold ends.
+    pub fn or_try_insert_with<F: FnOnce() -> Result<V, E> + Drop, E>(
+        self,
+        f: F,
+    ) -> Result<RefMut<K, V, A, W, H, D>, E>
+        requires { F.IsAlwaysCallable f }
+        ensures { by_entry
+            (λ o. result ≡ Ok o.0)
+            (λ v. MatchResult result
+            (λ r. (value : V) × F.post f (Ok value) × Adds K.eq (W.part v.0.inner) (W.part r.0.inner) (entry_with v.1 v.2 value) r.1 × (r.0.held ≡ v.0.held))
+            (λ e. F.post f (Err e))) self }
+    {
+        match self {
+            Entry::Occupied(entry) => Ok(entry.into_ref()),
+            Entry::Vacant(entry) => match f() {
+                Ok(value) => Ok(entry.insert(value)),
+                Err(error) => Err(error),
+            },
+        }
+    }
+
+    /// The pair of an occupied entry, or the default value added.
+    pub fn or_default(self) -> RefMut<K, V, A, W, H, D>
+    where
+        V: Default,
+        ensures { by_entry
+            (λ o. result ≡ o.0)
+            (λ v. (value : V) × V.is_default value × Adds K.eq (W.part v.0.inner) (W.part result.0.inner) (entry_with v.1 v.2 value) result.1 × (result.0.held ≡ v.0.held)) self }
+    {
+        match self {
+            Entry::Occupied(entry) => entry.into_ref(),
+            Entry::Vacant(entry) => entry.insert(V::default()),
+        }
+    }
+
+    /// Stores the value and stays at the pair. A vacant entry adds it with a clone of the key, as
+    /// [`VacantEntry::insert_entry`] does; where the clone is refused, entry and value come back.
+    pub fn insert_entry(
+        self,
+        value: V,
+    ) -> Result<OccupiedEntry<K, V, A, W, H, D>, (Entry<K, V, A, W, H, D>, V)>
+    where
+        K: Clone,
+        requires { (k copy : K) → K.is_clone k copy → copy ≡ k }
+        ensures { by_entry
+            (λ o. result ≡ Ok ((record o.0.0 { inner = W.with_part o.0.0.inner (with_value (W.part o.0.0.inner) o.0.1 value) }, o.0.1), o.1))
+            (λ v. MatchResult result
+            (λ o. Adds K.eq (W.part v.0.inner) (W.part o.0.0.inner) (entry_with v.1 v.2 value) o.0.1 × (o.0.0.held ≡ v.0.held) × (o.1 ≡ v.2))
+            (λ back. back ≡ (self, value))) self }
+    {
+        match self {
+            Entry::Occupied(mut entry) => {
+                let _old = entry.insert(value);
+                Ok(entry)
+            }
+            Entry::Vacant(entry) => match entry.insert_entry(value) {
+                Ok(entry) => Ok(entry),
+                Err((entry, value)) => Err((Entry::Vacant(entry), value)),
+            },
         }
     }
 }

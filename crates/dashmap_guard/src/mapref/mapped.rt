@@ -10,6 +10,7 @@ ghost use Rattle.dashmap_guard.specs.contracts.mapref.mapped.MappedRefMut as map
 
 use crate::mapref::one::{Ref, RefMut};
 use crate::slot_guard::SlotGuard;
+use core::convert::AsRef;
 use dashmap_table::Shard;
 use lock_api_guards::{Hold, Lender, LenderMut};
 use lock_api_raw::{Projection, Then, TotalProjection};
@@ -249,6 +250,25 @@ where
         } else {
             Err(self)
         }
+    }
+}
+
+impl<
+    T,
+    K: Eq + Hash,
+    V,
+    A: Allocator,
+    W: Lender<Part = Shard<K, V, A>> + Drop,
+    H: Hold,
+    D,
+    P: Projection<V> + Drop,
+> AsRef<T> for MappedRef<K, V, A, W, H, D, P>
+where
+    P::Out: AsRef<T>,
+    H::Runtime: Wait,
+{
+    fn as_ref(&self) -> &T {
+        self.value().as_ref()
     }
 }
 
