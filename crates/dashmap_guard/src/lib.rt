@@ -9,7 +9,6 @@
 #![tactic(auto)]
 
 pub mod mapref;
-mod slot_guard;
 mod try_result;
 mod util;
 

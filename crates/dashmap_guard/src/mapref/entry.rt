@@ -8,7 +8,6 @@ ghost use Rattle.dashmap_guard.specs.Guarded.{pair_in, key_in, value_in};
 ghost use Rattle.dashmap_guard.specs.contracts.mapref.entry.OccupiedEntry as occupied;
 
 use crate::mapref::one::RefMut;
-use crate::slot_guard::SlotGuard;
 use dashmap_table::Shard;
 use lock_api_guards::{Guard, Hold, Lender, LenderMut};
 use std::alloc::Allocator;
@@ -166,7 +165,7 @@ where
         } = self;
         let slot = guard.inner.lend().add(hash, copy, value);
         Ok(OccupiedEntry {
-            of: SlotGuard::of_slot(guard, slot),
+            of: RefMut::of_slot(guard, slot),
             key,
         })
     }
@@ -186,7 +185,7 @@ pub struct OccupiedEntry<
 where
     H::Runtime: Wait,
 {
-    of: SlotGuard<K, V, A, W, H, D>,
+    of: RefMut<K, V, A, W, H, D>,
     key: K,
 }
 
@@ -251,7 +250,7 @@ where
         ensures { result ≡ self.0 }
     {
         let OccupiedEntry { of, key: _ } = self;
-        RefMut::of_slot_guard(of)
+        of
     }
 
     /// Gives the key back that was handed in, and releases the shard. The pair stays.
@@ -438,7 +437,7 @@ where
         let mut guard = guard;
         match guard.look().find(hash, &key) {
             Some(slot) => Ok(Entry::Occupied(OccupiedEntry {
-                of: SlotGuard::of_slot(guard, slot),
+                of: RefMut::of_slot(guard, slot),
                 key,
             })),
             None => match guard.inner.lend().reserve(1) {

@@ -1,7 +1,7 @@
 use Rattle.std.proofs.Common.{IsSome, refl, sym, subst, ◌∙◌}
 use Rattle.dashmap_table.specs.Slots.{at}
 use Rattle.dashmap_table.proofs.Finding.{slot_of-is}
-use Rattle.dashmap_guard.proofs.slot_guard.SlotGuard.find.Goals as goal
+use Rattle.dashmap_guard.proofs.mapref.one.PairGuard.find.Goals as goal
 
 pub of_slot-requires : goal.of_slot-requires
 of_slot-requires g c =
