@@ -1,0 +1,3 @@
+pub mod Guarded
+pub mod Tries
+pub mod Entries

@@ -1,0 +1,4 @@
+//! Guards of pairs.
+pub mod entry;
+mod mapped;
+pub mod one;
