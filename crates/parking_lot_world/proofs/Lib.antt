@@ -10,6 +10,7 @@ mod Knowing
 mod Ruling
 mod NthTaken
 mod Agreeing
+mod Losing
 mod Serving
 mod Spinning
 mod Bounding

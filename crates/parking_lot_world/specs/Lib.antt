@@ -21,3 +21,4 @@ pub mod Beginnings
 pub mod Machines
 pub mod Worlds
 pub mod SoundLaws
+pub mod LostExchanges

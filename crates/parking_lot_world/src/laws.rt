@@ -18,8 +18,8 @@ pub use crate::rw_laws::{
     woken_are_told, words_are_numbers, writers_are_taken,
 };
 pub use crate::sound_laws::{
-    awake_can_move, debts_are_kept, each_step_is_a_case, lists_are_waiters, owners_agree,
-    somebody_can_move, steps_are_few,
+    awake_can_move, debts_are_kept, each_step_is_a_case, lists_are_waiters,
+    lost_exchanges_have_causes, owners_agree, somebody_can_move, steps_are_few,
 };
 pub use crate::starts::allowed_calls_begin_well;
 pub use crate::take_laws::takes_are_steps_of_the_machine;

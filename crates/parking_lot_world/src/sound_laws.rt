@@ -1,4 +1,5 @@
 //! What holds of a machine at every moment, in the words of its views.
+ghost use Rattle.parking_lot_world.specs.LostExchanges.{LostExchangesHaveCauses};
 ghost use Rattle.parking_lot_world.specs.SoundLaws.{Always, AwakeCanMove, DebtsAreKept, ListsAreWaiters, OwnersAgree, SomebodyCanMove, StepsAreCases, StepsAreFew};
 
 /// Any two owners of a lock may own it so at one time: shared holds agree with one another, with the upgradable hold and with a pending
@@ -40,4 +41,10 @@ pub fn steps_are_few()
 /// A lock's two lists have exactly the threads that wait there, each once: those that have joined the list and that nobody has taken off it.
 pub fn lists_are_waiters()
     ensures { Always ListsAreWaiters }
+{}
+
+/// A lost exchange has a cause: where a thread is about to exchange a word for another than the lock's, and the word was the one that it
+/// expects when it made its last step, one of the steps since is another thread's and has changed that word.
+pub fn lost_exchanges_have_causes()
+    ensures { LostExchangesHaveCauses }
 {}
