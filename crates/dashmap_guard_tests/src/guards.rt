@@ -2,8 +2,8 @@
 
 use dashmap_guard::mapref::one::{Ref, RefMut};
 use dashmap_table::Shard;
-use lock_api::RwLock;
 use lock_api_packed::{First, PackedLock};
+use lock_api_rw::RwLock;
 use std::test::Fail;
 
 #[test]
@@ -15,7 +15,10 @@ fn a_guard_lends_its_pair(rt: HostRuntime) -> Result<(), Fail> {
     let is_free = missed.is_none() & !lock.is_locked();
     let found: Option<Ref<u64, u64, _, _, _, ()>> = Ref::find(lock.read(&mut 1), 7, &1);
     let guard = found.ok_or("not found")?;
-    let lent = (*guard.key() == 1) & (*guard.value() == 5) & (guard.pair() == (&1, &5)) & (*guard == 5);
+    let lent = (*guard.key() == 1)
+        & (*guard.value() == 5)
+        & (guard.pair() == (&1, &5))
+        & (*guard == 5);
     let shown = format!(in rt.alloc(); "{guard:?}")?;
     let is_held = lock.is_locked() & !lock.is_locked_exclusive();
     drop(guard);
