@@ -147,6 +147,10 @@ impl<R: RawRwLock> Mode<R> for Shared {
 }
 
 impl<R: RawRwLockFair> FairMode<R> for Shared {
+    ghost spent_fairly = { λ token. R.shared_spent_fairly token };
+
+    ghost bumped = { λ token after. R.shared_bumped token after };
+
     fn unlock_fair(raw: &R, token: R::SharedGuard)
     where
         R::Runtime: Wait,
@@ -223,6 +227,10 @@ impl<R: RawRwLock> Mode<R> for Exclusive {
 }
 
 impl<R: RawRwLockFair> FairMode<R> for Exclusive {
+    ghost spent_fairly = { λ token. R.exclusive_spent_fairly token };
+
+    ghost bumped = { λ token after. R.exclusive_bumped token after };
+
     fn unlock_fair(raw: &R, token: R::ExclusiveGuard)
     where
         R::Runtime: Wait,
@@ -299,6 +307,10 @@ impl<R: RawRwLockUpgrade> Mode<R> for Upgradable {
 }
 
 impl<R: RawRwLockUpgradeFair> FairMode<R> for Upgradable {
+    ghost spent_fairly = { λ token. R.upgradable_spent_fairly token };
+
+    ghost bumped = { λ token after. R.upgradable_bumped token after };
+
     fn unlock_fair(raw: &R, token: R::UpgradableGuard)
     where
         R::Runtime: Wait,
@@ -375,6 +387,10 @@ impl<R: RawMutex> Mode<R> for Locked {
 }
 
 impl<R: RawMutexFair> FairMode<R> for Locked {
+    ghost spent_fairly = { λ token. R.spent_fairly token };
+
+    ghost bumped = { λ token after. R.bumped token after };
+
     fn unlock_fair(raw: &R, token: R::Guard)
     where
         R::Runtime: Wait,
