@@ -1,5 +1,6 @@
 -- Blocks on different shards may change places.
 use Rattle.std.proofs.Common.{◌≡◌, ◌+◌, ⊎_elim, true, false, List, [], ◌∷◌, ◌++◌, length, Option, Some, None, take, fold, refl, ap, sym, ◌∙◌}
+use Rattle.std.specs.Option.{option_map}
 use Rattle.std.proofs.lemmas.Bool.{cases_Bool}
 use Rattle.std.proofs.lemmas.List.Sums.{fold-append}
 use Rattle.std.proofs.Math.Seq.{take-append_seam, take-append-add}
@@ -7,7 +8,7 @@ use Rattle.mapworld_calls.specs.declared.block.Block.{Block}
 use Rattle.mapworld_calls.specs.Setup.{Setup, Laws}
 use Rattle.mapworld_calls.specs.Pairs.{opening_pair}
 use Rattle.mapworld_calls.specs.Replay.{block_key, is_key, left, contents, at_key, found, AreApart}
-use Rattle.mapworld_calls.specs.Laws.{Commute}
+use Rattle.mapworld_calls.specs.Laws.{AreOnOtherShards, Commute}
 use Rattle.mapworld_calls.proofs.Replays.{left-untouched, apart-other, apart-untouched, contents-push}
 
 module _ {K V D T : Type 0} (w : Setup K V D T) (laws : Laws w) (b c : Block K) (apart : AreApart w b c) where
@@ -46,8 +47,13 @@ module _ {K V D T : Type 0} (w : Setup K V D T) (before later : List (Block K)) 
 AreApart-turned : {K V D T : Type 0} (w : Setup K V D T) (b c : Block K) → AreApart w b c → AreApart w c b
 AreApart-turned w b c apart j k hj hk same = apart k j hk hj (sym same)
 
-pub commute : {K V D T : Type 0} (w : Setup K V D T) → Laws w → (before : List (Block K)) (b c : Block K) (later : List (Block K)) → AreApart w b c → Commute w before b c later
-commute w laws before b c later apart =
+-- blocks on different shards have keys of different shards
+apart-from : {K V D T : Type 0} (w : Setup K V D T) (b c : Block K) → AreOnOtherShards w b c → AreApart w b c
+apart-from w b c other j k hj hk same =
+    other (w.route j) (ap (λ o. option_map w.route o) hj) (ap (λ o. option_map w.route o) hk ∙ ap (λ s. Some s) (sym same))
+
+commute-apart : {K V D T : Type 0} (w : Setup K V D T) → Laws w → (before : List (Block K)) (b c : Block K) (later : List (Block K)) → AreApart w b c → Commute w before b c later
+commute-apart w laws before b c later apart =
     record {
       contents_stay = swapped-contents w laws b c apart before later;
       first_finds =
@@ -59,3 +65,7 @@ commute w laws before b c later apart =
           ∙ found-behind w laws b c apart before (block_key w c) refl
           ∙ sym (found-first w before later c b c);
     }
+
+pub commute : {K V D T : Type 0} (w : Setup K V D T) → Laws w → (before : List (Block K)) (b c : Block K) (later : List (Block K))
+    → AreOnOtherShards w b c → Commute w before b c later
+commute w laws before b c later other = commute-apart w laws before b c later (apart-from w b c other)

@@ -5,3 +5,4 @@ pub mod Kept
 pub mod Growing
 pub mod Tables
 pub mod Placing
+pub mod Today

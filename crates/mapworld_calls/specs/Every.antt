@@ -14,3 +14,4 @@ pub mod Growth
 pub mod Placed
 pub mod Shards
 pub mod Laws
+pub mod Today

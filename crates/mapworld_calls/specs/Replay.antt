@@ -24,6 +24,10 @@ reached w t c (suc n) o = after_ask w.deeds (ask_at w t (c + n)) (reached w t c 
 abbrev pub block_key : {K V D T : Type 0} → Setup K V D T → Block K → Option K
 block_key w b = option_and_then key_of (ask_at w b.thread b.call)
 
+-- the shard that a block works on
+abbrev pub block_shard : {K V D T : Type 0} → Setup K V D T → Block K → Option ℕ
+block_shard w b = option_map w.route (block_key w b)
+
 abbrev pub is_key : {K : Type 0} → (K → K → Bool) → Option K → K → Bool
 is_key eq None q = false
 is_key eq (Some k) q = eq k q

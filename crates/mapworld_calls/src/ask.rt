@@ -1,7 +1,7 @@
 //! What a thread's program asks.
 
 /// One call of a program. Each counts as one.
-#[derive(Debug, Drop)]
+#[derive(Clone, Debug, Drop, PartialEq, Eq)]
 pub enum Ask<K, V, D> {
     /// A call on one key, done under one hold of its shard.
     Keyed(Keyed<K, V>),
@@ -12,7 +12,7 @@ pub enum Ask<K, V, D> {
 }
 
 /// A call on one key.
-#[derive(Debug, Drop)]
+#[derive(Clone, Debug, Drop, PartialEq, Eq)]
 pub enum Keyed<K, V> {
     /// Stores the value at the key. On an absent key it answers `None` and adds the pair; on a present one it answers
     /// `Value` with the old value, and the stored key stays.
@@ -22,7 +22,7 @@ pub enum Keyed<K, V> {
 }
 
 /// An opening. The guard that it gives is held until the program's next `Held::Drop`.
-#[derive(Debug, Drop)]
+#[derive(Clone, Debug, Drop, PartialEq, Eq)]
 pub enum Begin<K> {
     /// A shared guard of the key's pair, answered `Held`; `None` where the key is absent, and then there is no guard.
     Get(K),
@@ -31,7 +31,7 @@ pub enum Begin<K> {
 }
 
 /// A call on the guard. Where no guard is held it answers `NoGuard` and changes nothing.
-#[derive(Debug, Drop)]
+#[derive(Clone, Debug, Drop, PartialEq, Eq)]
 pub enum Held<D> {
     /// Answers `Read` with the deed's answer of the guarded pair.
     Read(D),

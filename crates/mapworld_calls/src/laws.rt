@@ -18,6 +18,7 @@ ghost use Rattle.mapworld_calls.specs.Every.Laws.{
   SettledIsNow,
   SettledStays,
 };
+ghost use Rattle.mapworld_calls.specs.Every.Today.{AddsAsEvery, AgreesAsEvery, PlacedAsEvery};
 ghost use Rattle.mapworld_calls.specs.Laws.{ShardsCommute};
 ghost use Rattle.mapworld_calls.specs.Sessions.{SessionsAreApart};
 
@@ -117,4 +118,20 @@ pub fn places_stay<K, V, D: Deed<K, V>>()
 /// Blocks stay well placed when one is added at the end.
 pub fn places_stay_before<K, V, D: Deed<K, V>>()
     ensures { PlacesStayBefore K V D D.Answer }
+{}
+
+/// The calls that programs have today are calls of every kind: blocks and replies that are well placed among them are so
+/// by the definitions of every call.
+pub fn placed_as_every_call<K, V, D: Deed<K, V>>()
+    ensures { PlacedAsEvery K V D D.Answer }
+{}
+
+/// Contents and replies that are those of the replay of today's calls are those of the replay of every call.
+pub fn agrees_as_every_call<K, V, D: Deed<K, V>>()
+    ensures { AgreesAsEvery K V D D.Answer }
+{}
+
+/// What is only added to stays so by the definitions of every call.
+pub fn adds_as_every_call<K, V, D: Deed<K, V>>()
+    ensures { AddsAsEvery K V D.Answer }
 {}
