@@ -1,0 +1,12 @@
+pub mod Lists
+pub mod Rising
+pub mod Equal
+pub mod Searching
+pub mod Numbered
+pub mod Replaying
+pub mod Framing
+pub mod Sharing
+pub mod Legal
+pub mod Verdicts
+pub mod Gathered
+pub mod Sorting
