@@ -130,7 +130,7 @@ returns-in_default-reserve_exact-clause-step g c =
       absent = table.1.0;
       full = table.1.1;
       pairs = c.reserve_exact.ensures.items;
-      room_stays = ?;
+      room_stays = c.in_default-reserve_exact.ensures.err;
       after = rw (c.appended-core.ensures, c.enter.ensures) refl;
     })
 
