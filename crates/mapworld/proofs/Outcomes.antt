@@ -1,5 +1,5 @@
 -- What holds of every world: it agrees with the replay, and exactly the threads between admission and release hold.
-use Rattle.std.proofs.Common.{◌≡◌, ℕ, ◌+◌, ◌<◌, inl, inr, Bool, true, IsTrue, List, length, Option, Some, None, is_some, slice_get, refl, sym, ap, ◌∙◌, subst, arith}
+use Rattle.std.proofs.Common.{◌≡◌, ℕ, ◌+◌, ◌<◌, inl, inr, Bool, true, IsTrue, List, length, map, Option, Some, None, is_some, slice_get, refl, sym, ap, ◌∙◌, subst, arith}
 use Rattle.std.specs.declared.vec.Vec.{Vec}
 use Rattle.std.specs.Hash.{HashWrites}
 use Rattle.std.specs.Cmp.{IsEquivalence}
@@ -10,15 +10,20 @@ use Rattle.std.proofs.lemmas.Option.{slice_get_cases, none-some}
 use Rattle.mapworld_calls.specs.declared.block.Block.{Block}
 use Rattle.mapworld_calls.specs.Setup.{Setup, Laws}
 use Rattle.mapworld_calls.specs.Agrees.{Agrees}
+use Rattle.mapworld_calls.specs.Every.Agrees as every_agrees
+use Rattle.mapworld_calls.specs.Every.Placed as every_placed
+use Rattle.mapworld_calls.specs.Every.Setup as every_setup
+use Rattle.mapworld_calls.specs.Every.Today.{as_reply}
+use Rattle.mapworld_calls.proofs.Every.Today.{placed-as, agrees-as}
 use Rattle.mapworld.specs.declared.holds.Mode.{Mode}
 use Rattle.mapworld.specs.declared.holds.Hold.{Hold}
 use Rattle.mapworld.specs.declared.place.Phase.{Phase}
 use Rattle.mapworld.specs.declared.place.Phase.TheVariants as phase
 use Rattle.mapworld.specs.declared.place.Place.{Place}
-use Rattle.mapworld.specs.State.{State, pairs_of, threads_of}
+use Rattle.mapworld.specs.State.{State, pairs_of, threads_of, started_of}
 use Rattle.mapworld.specs.Held.{holds_before, HoldByPhase}
 use Rattle.mapworld.specs.Sound.{HoldsShard, HoldsByGuard, IsInSession, IsReady, Claim, Sound}
-use Rattle.mapworld.specs.World.{setup_of}
+use Rattle.mapworld.specs.World.{setup_of, world_setup}
 use Rattle.mapworld.proofs.Setups.{setup-laws}
 use Rattle.mapworld.proofs.Viewing.{pairs_distinct, pair_at_route}
 
@@ -35,11 +40,20 @@ agrees x laws w sound = record {
   replies_are = sound.replies;
 }
 
--- so it is with a world's own setup
-pub setup-agrees : {K V S H D T A : Type 0} (d : deed.Ghosts D K V T) (b : builder.Ghosts S H) (h : hasher.Ghosts H) (eq : K → K → Bool) (writes : K → HashWrites)
-    {w : State K V S D T A} → IsEquivalence eq → ((j k : K) → IsTrue (eq j k) → writes j ≡ writes k) → Sound (setup_of d b h eq writes w) w
-    → Agrees (setup_of d b h eq writes w) w.blocks (pairs_of w) w.replies
-setup-agrees d b h eq writes {w = w} lawful respects sound = agrees (setup_of d b h eq writes w) (setup-laws d b h eq writes w lawful respects) w sound
+-- so it is with a world's own setup, and with its calls as calls of every kind
+module _ {K V S H D T A : Type 0} (d : deed.Ghosts D K V T) (b : builder.Ghosts S H) (h : hasher.Ghosts H) (eq : K → K → Bool) (writes : K → HashWrites) where
+  pub world-lawful : (w : State K V S D T A) → IsEquivalence eq → ((j k : K) → IsTrue (eq j k) → writes j ≡ writes k) → every_setup.Laws (world_setup d b h eq writes w)
+  world-lawful w lawful respects = let l = setup-laws d b h eq writes w lawful respects in record { equivalence = l.equivalence; routes = l.routes }
+
+  pub world-agrees : (w : State K V S D T A) → IsEquivalence eq → ((j k : K) → IsTrue (eq j k) → writes j ≡ writes k) → Sound (setup_of d b h eq writes w) w
+      → every_agrees.Agrees (world_setup d b h eq writes w) w.blocks (pairs_of w) (map as_reply w.replies)
+  world-agrees w lawful respects sound =
+      agrees-as (setup_of d b h eq writes w) (length w.tables) (threads_of w) (started_of w) w.blocks w.replies sound.placed (pairs_of w)
+      (agrees (setup_of d b h eq writes w) (setup-laws d b h eq writes w lawful respects) w sound)
+
+  pub world-placed : (w : State K V S D T A) → Sound (setup_of d b h eq writes w) w
+      → every_placed.WellPlaced (world_setup d b h eq writes w) (threads_of w) (started_of w) w.blocks (map as_reply w.replies)
+  world-placed w sound = placed-as (setup_of d b h eq writes w) (length w.tables) (threads_of w) (started_of w) w.blocks w.replies sound.placed
 
 -- a hold that is known
 has_hold : (o : Option Hold) (h : Hold) → o ≡ Some h → is_some o ≡ true

@@ -1,9 +1,9 @@
 //! Laws of the world's routes and setups.
 ghost use Rattle.std.specs.Prelude.{◌≡◌, ℕ, IsTrue};
-ghost use Rattle.mapworld_calls.specs.Setup.{Laws};
+ghost use Rattle.mapworld_calls.specs.Every.Setup.{Laws};
 ghost use Rattle.mapworld.specs.Route.{key_route};
 ghost use Rattle.mapworld.specs.State.{State};
-ghost use Rattle.mapworld.specs.World.{setup_of};
+ghost use Rattle.mapworld.specs.World.{world_setup};
 
 use mapworld_calls::Deed;
 use std::alloc::Allocator;
@@ -19,5 +19,5 @@ pub fn equal_keys_share_a_shard<K: Eq + Hash, S: BuildHasher>()
 /// The setup of every world is lawful: its keys are compared by an equivalence, and equal keys route to one shard. So the
 /// laws of the replay, which ask for that, hold of each world.
 pub fn setups_are_lawful<K: Eq + Hash, V, S: BuildHasher, D: Deed<K, V>, A: Allocator>()
-    ensures { (w : State K V S D D.Answer A) → Laws (setup_of D.Deed S.BuildHasher S.Hasher.Hasher K.eq K.hash_input w) }
+    ensures { (w : State K V S D D.Answer A) → Laws (world_setup D.Deed S.BuildHasher S.Hasher.Hasher K.eq K.hash_input w) }
 {}

@@ -10,11 +10,13 @@ ghost use Rattle.mapworld.specs.Views.{shown};
 ghost use Rattle.mapworld.specs.Making.{new_refusal, IsMadeUnless, IsNew, StaysFixed};
 ghost use Rattle.mapworld.specs.Faults.{run_fault_done};
 ghost use Rattle.mapworld.specs.Steps.{IsStep};
-ghost use Rattle.mapworld.specs.World.{setup_of};
+ghost use Rattle.mapworld.specs.World.{setup_of, world_setup};
 ghost use Rattle.mapworld.specs.Sound.{Sound};
 ghost use Rattle.mapworld.specs.Held.{HoldsMatch, HoldByPhase};
-ghost use Rattle.mapworld_calls.specs.Agrees.{Agrees};
-ghost use Rattle.mapworld_calls.specs.Placed.{WellPlaced, OnlyAdds};
+ghost use Rattle.mapworld_calls.specs.Placed as today;
+ghost use Rattle.mapworld_calls.specs.Every.Agrees.{Agrees};
+ghost use Rattle.mapworld_calls.specs.Every.Placed.{WellPlaced, OnlyAdds};
+ghost use Rattle.mapworld_calls.specs.Every.Today.{as_reply};
 
 use crate::fault::{RunFault, WorldNewFault};
 use crate::step::{Status, Step};
@@ -214,8 +216,8 @@ where
     ) -> Result<MapWorld<K, V, S, D, A>, WorldNewFault>
         ensures refused { IsMadeUnless (new_refusal shards (length pairs.items) (map (λ program. program.items) programs.items)) result }
         ensures made { IfOk result (λ world. IsNew K.eq shards hasher pairs.items (map (λ program. program.items) programs.items) world) }
-        ensures agrees { IfOk result (λ world. Agrees (setup_of D.Deed S.BuildHasher S.Hasher.Hasher K.eq K.hash_input world) world.blocks (pairs_of world) world.replies) }
-        ensures placed { IfOk result (λ world. WellPlaced (setup_of D.Deed S.BuildHasher S.Hasher.Hasher K.eq K.hash_input world) (threads_of world) (started_of world) world.blocks world.replies) }
+        ensures agrees { IfOk result (λ world. Agrees (world_setup D.Deed S.BuildHasher S.Hasher.Hasher K.eq K.hash_input world) world.blocks (pairs_of world) (map as_reply world.replies)) }
+        ensures placed { IfOk result (λ world. WellPlaced (world_setup D.Deed S.BuildHasher S.Hasher.Hasher K.eq K.hash_input world) (threads_of world) (started_of world) world.blocks (map as_reply world.replies)) }
         ensures held { IfOk result (λ world. HoldsMatch world.places world.holds) }
     {
         if let Some(fault) = limits::refusal(shards, pairs.len(), &programs) {
@@ -260,7 +262,7 @@ where
     fn make_steps(&mut self, steps: &[Step]) -> Result<(), RunFault>
         ensures ran { Ran (setup_of D.Deed S.BuildHasher S.Hasher.Hasher K.eq K.hash_input self.old) 0 self.old (take (steps_done result (length steps.now)) steps.now) self.new }
         ensures refused { IfErr result (λ fault. (step : _) × (slice_get steps.now (run_fault_done fault) ≡ Some step) × (refusal self.new (run_fault_done fault) step ≡ Some fault)) }
-        ensures adds { OnlyAdds (threads_of self.old) (threads_of self.new) self.old.blocks self.new.blocks self.old.replies self.new.replies }
+        ensures adds { today.OnlyAdds (threads_of self.old) (threads_of self.new) self.old.blocks self.new.blocks self.old.replies self.new.replies }
         ensures fixed { StaysFixed self.old self.new }
     {
         let mut done = 0;
@@ -300,9 +302,9 @@ where
     pub fn run(&mut self, steps: &[Step]) -> Result<(), RunFault>
         ensures ran { Ran (setup_of D.Deed S.BuildHasher S.Hasher.Hasher K.eq K.hash_input self.old) 0 self.old (take (steps_done result (length steps.now)) steps.now) self.new }
         ensures refused { IfErr result (λ fault. (step : _) × (slice_get steps.now (run_fault_done fault) ≡ Some step) × (refusal self.new (run_fault_done fault) step ≡ Some fault)) }
-        ensures agrees { Agrees (setup_of D.Deed S.BuildHasher S.Hasher.Hasher K.eq K.hash_input self.new) self.new.blocks (pairs_of self.new) self.new.replies }
-        ensures placed { WellPlaced (setup_of D.Deed S.BuildHasher S.Hasher.Hasher K.eq K.hash_input self.new) (threads_of self.new) (started_of self.new) self.new.blocks self.new.replies }
-        ensures adds { OnlyAdds (threads_of self.old) (threads_of self.new) self.old.blocks self.new.blocks self.old.replies self.new.replies }
+        ensures agrees { Agrees (world_setup D.Deed S.BuildHasher S.Hasher.Hasher K.eq K.hash_input self.new) self.new.blocks (pairs_of self.new) (map as_reply self.new.replies) }
+        ensures placed { WellPlaced (world_setup D.Deed S.BuildHasher S.Hasher.Hasher K.eq K.hash_input self.new) (threads_of self.new) (started_of self.new) self.new.blocks (map as_reply self.new.replies) }
+        ensures adds { OnlyAdds (threads_of self.old) (threads_of self.new) self.old.blocks self.new.blocks (map as_reply self.old.replies) (map as_reply self.new.replies) }
         ensures fixed { StaysFixed self.old self.new }
         ensures held { HoldsMatch self.new.places self.new.holds }
         ensures by_phase { HoldByPhase self.new.places }

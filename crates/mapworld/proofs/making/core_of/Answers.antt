@@ -6,7 +6,7 @@ use Rattle.mapworld.specs.Route.{IsWorldAmount, key_route}
 use Rattle.mapworld.specs.Beginning.{AreAtStart, AreFilled, AreReady}
 use Rattle.mapworld.proofs.Refusals.{accepted, sum_by-map}
 use Rattle.mapworld.proofs.Beginnings.{new-sound, new-contents, new-room}
-use Rattle.mapworld.proofs.Outcomes.{setup-agrees}
+use Rattle.mapworld.proofs.Outcomes.{world-agrees, world-placed}
 use Rattle.mapworld.proofs.making.core_of.Goals as goal
 
 pub fill-requires-clause-shards : goal.fill-requires-clause-shards
@@ -86,11 +86,12 @@ returns-clause-room g c =
 
 pub returns-clause-agrees : goal.returns-clause-agrees
 returns-clause-agrees g c =
-    setup-agrees g.D.Deed g.S.BuildHasher g.S.Hasher.Hasher g.K.PartialEq.eq g.K.Hash.hash_input g.met.K.Eq.laws g.met.K.Hash.respects_eq
+    world-agrees g.D.Deed g.S.BuildHasher g.S.Hasher.Hasher g.K.PartialEq.eq g.K.Hash.hash_input _ g.met.K.Eq.laws g.met.K.Hash.respects_eq
     (returns-clause-sound g c)
 
 pub returns-clause-placed : goal.returns-clause-placed
-returns-clause-placed g c = (returns-clause-sound g c).placed
+returns-clause-placed g c =
+    world-placed g.D.Deed g.S.BuildHasher g.S.Hasher.Hasher g.K.PartialEq.eq g.K.Hash.hash_input _ (returns-clause-sound g c)
 
 pub returns-clause-held : goal.returns-clause-held
 returns-clause-held g c = (returns-clause-sound g c).holds
