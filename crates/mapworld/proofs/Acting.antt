@@ -180,7 +180,7 @@ module _ {K V S D T A : Type 0} (x : Setup K V D T) (laws : Laws x) (w : State K
       agree
       (holds-same w.places w.holds sound.holds s.thread p p' at refl)
       (placed-grown x (threads_of w) s.thread (started_of w) (started_of (stepped w s p')) w.blocks w.replies (started-stays x w s p p' at (λ n h. h)) d.index b c listed
-      (record { thread = counts.thread; call = counts.call; visit = counts.visit; start = counts.start; position = counts.position }) counts.end (done-kept (started_of (stepped w s p'))) sound.placed)
+      (record { thread = counts.thread; call = counts.call; visit = counts.visit; start = counts.start; position = counts.position; visited = counts.visited }) counts.end (done-kept (started_of (stepped w s p'))) sound.placed)
       (replies-kept x w.blocks (slice_set w.blocks d.index c) w.replies (λ j r hr. keeps-grown x laws w.blocks d.index b c grows r.thread r.call) sound.replies)
 
 module _ {K V S D T A : Type 0} (x : Setup K V D T) (laws : Laws x) (w : State K V S D T A) (s : Step) (w' : State K V S D T A) (sound : Sound x w) where

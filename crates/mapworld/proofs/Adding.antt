@@ -27,7 +27,7 @@ abbrev pub BlocksStay : {K : Type 0} → List (Block K) → List (Block K) → T
 BlocksStay {K} bs bs' = (i : ℕ) (b : Block K) → slice_get bs i ≡ Some b → (c : Block K) × (slice_get bs' i ≡ Some c) × StaysListed b c
 
 stays : {K : Type 0} (b : Block K) → StaysListed b b
-stays b = record { thread = refl; call = refl; visit = refl; start = refl; position = refl; done = omega arith; end = λ e h. h }
+stays b = record { thread = refl; call = refl; visit = refl; start = refl; position = refl; done = omega arith; visited = refl; end = λ e h. h }
 
 module _ {K : Type 0} (bs bs' : List (Block K)) where
   blocks-same : bs' ≡ bs → BlocksStay bs bs'
@@ -79,6 +79,7 @@ module _ {K V S D T A : Type 0} (x : Setup K V D T) (w : State K V S D T A) (sou
         thread = h.3.thread;
         call = h.3.call;
         visit = h.3.visit;
+        visited = h.3.visited;
         start = h.3.start;
         position = h.3.position;
         done = rw h.3.done (counts-more i h.0 (mine i refl) h.2);
@@ -108,6 +109,7 @@ module _ {K V S D T A : Type 0} (x : Setup K V D T) (w : State K V S D T A) (sou
         thread = e.thread;
         call = e.call;
         visit = e.visit;
+        visited = e.visited;
         start = e.start;
         position = e.position;
         done = rw e.done (omega arith);
@@ -192,6 +194,7 @@ adds-more v w w' s h g = record {
           thread = d.2.thread ∙ c.2.thread;
           call = d.2.call ∙ c.2.call;
           visit = d.2.visit ∙ c.2.visit;
+          visited = d.2.visited ∙ c.2.visited;
           start = d.2.start ∙ c.2.start;
           position = d.2.position ∙ c.2.position;
           done = let le = c.2.done in let le' = d.2.done in omega arith;

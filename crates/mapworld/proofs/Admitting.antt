@@ -80,7 +80,7 @@ module _ {K V S D T A : Type 0} (x : Setup K V D T) (laws : Laws x) (w : State K
         );
       })
       (tables-same x w.blocks w.blocks w.tables w.tables sound.tables (λ q. refl))
-      (holds-push w.places w.holds sound.holds s.thread p p' a.stands a.hold c.2 refl a.fresh (rw (a.hold_is.0, a.hold_is.1) a.admitted) a.desk a.at_shard)
+      (holds-push w.places w.holds sound.holds s.thread p p' a.stands a.hold c.2 refl a.fresh (rw (a.hold_is.0, a.hold_is.1) a.admitted) a.desk a.at_shard a.granted)
       (placed-same x (threads_of w) s.thread (started_of w) (started_of (stepped w s p')) w.blocks w.replies
       (started-stays x w s p p' a.stands (λ n h. h)) sound.placed)
       sound.replies)

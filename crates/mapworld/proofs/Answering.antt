@@ -43,7 +43,7 @@ pub record Ended {K V D T : Type 0} (x : Setup K V D T) (bs bs' : List (Block K)
   pub none : (u c : ℕ) → HasNoBlock bs u c → HasNoBlock bs' u c
 
 same-call : {K : Type 0} (b : Block K) → SameCall b b
-same-call b = record { thread = refl; call = refl; visit = refl; start = refl; position = refl }
+same-call b = record { thread = refl; call = refl; visit = refl; start = refl; position = refl; visited = refl }
 
 module _ {K V D T A : Type 0} (x : Setup K V D T) (laws : Laws x) (bs bs' : List (Block K)) (t : ℕ) (p : Place K V D T A) (own : HasOwnBlock bs t p) (owns : OwnsBlocks bs t p) (end : ℕ) where
   ended-none : p.block ≡ None → bs' ≡ bs → Ended x bs bs' t p.next end
@@ -118,7 +118,7 @@ module _ {K V D T A : Type 0} (x : Setup K V D T) (laws : Laws x) (bs bs' : List
   ended-by None none h = ended-none none h
   ended-by (Some i) mine h = rw h.4 (⊎_elim
       (λ yes_. let e : EndsAt end h.0 h.1 = subst (λ (z : Bool). MatchBool z (EndsAt end h.0 h.1) (h.1 ≡ h.0)) yes_ h.3 in
-      ended-some i mine h.0 h.1 h.2 (record { thread = e.thread; call = e.call; visit = e.visit; start = e.start; position = e.position }) e.done (inl (eqb-true h.0.call p.next yes_, e.end)))
+      ended-some i mine h.0 h.1 h.2 (record { thread = e.thread; call = e.call; visit = e.visit; start = e.start; position = e.position; visited = e.visited }) e.done (inl (eqb-true h.0.call p.next yes_, e.end)))
       (λ no_. let e : h.1 ≡ h.0 = subst (λ (z : Bool). MatchBool z (EndsAt end h.0 h.1) (h.1 ≡ h.0)) no_ h.3 in
       ended-some i mine h.0 h.1 h.2 (subst (λ (z : Block K). SameCall h.0 z) (sym e) (same-call h.0)) (ap (λ z. z.done.value) e)
       (inr ((λ call. eqb-false h.0.call p.next no_ call), ap (λ z. z.end) e)))

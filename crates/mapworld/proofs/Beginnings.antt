@@ -32,9 +32,11 @@ use Rattle.mapworld.specs.declared.world_core.Core.{Core}
 use Rattle.mapworld.specs.Route.{IsWorldAmount, key_route}
 use Rattle.mapworld.specs.State.{State, started_of}
 use Rattle.mapworld.specs.World.{setup_of}
-use Rattle.mapworld.specs.Sound.{IsInSession, Stands, TablesAgree, HoldsMatch, Sound}
+use Rattle.mapworld.specs.Sound.{IsInSession, Stands, TablesAgree, Sound}
+use Rattle.mapworld.specs.Held.{HoldsMatch}
 use Rattle.mapworld.specs.Core.{state_of, owes, lists, adds, unheld, Room}
 use Rattle.mapworld.specs.Beginning.{at_start, AreAtStart, AreFilled, pairs_in, AreReady}
+use Rattle.mapworld.proofs.Orderly.{sound_empty}
 use Rattle.mapworld.proofs.Routes.{key_route-below}
 use Rattle.mapworld.proofs.Refusals.{sum_by-map}
 use Rattle.mapworld.proofs.Setups.{setup-laws}
@@ -56,9 +58,9 @@ all-at : {X : Type 0} (p : X → Bool) (xs : List X) (i : ℕ) (x : X) → list_
 all-at p xs i x all at = true_from_ne_false (p x) (λ e.
     false≢true (sym (list_all_at p xs i x (slice_get_within xs i x at) (ap p (get_or_from_slice_get xs i x x at) ∙ e)) ∙ all))
 
--- no desk has a guard
+-- no desk has a guard, and each admits readers
 abbrev pub HasNoGuards : Desks → Type 0
-HasNoGuards holds = (i : ℕ) (desk : DeskState (Unit {0})) → slice_get holds i ≡ Some desk → desk.guards ≡ []
+HasNoGuards holds = (i : ℕ) (desk : DeskState (Unit {0})) → slice_get holds i ≡ Some desk → (desk.guards ≡ []) × (1 ≤ desk.limit)
 
 module _ {K V D T A : Type 0} (x : Setup K V D T) (tables : List (Vec (K × V) A)) where
   start_stands : (t : ℕ) (asks : VecDeque (Ask K V D) A) → slice_get x.programs t ≡ Some asks.items → Stands x [] [] [] tables t (at_start asks)
@@ -85,9 +87,10 @@ module _ {K V D T A : Type 0} (x : Setup K V D T) (tables : List (Vec (K × V) A
   nothing_held : (places : List (Place K V D T A)) (holds : Desks) → AreAtStart x.programs places → HasNoGuards holds → HoldsMatch places holds
   nothing_held places holds start free = record {
     listed = λ t p h at has. absurd (none t p h at has);
-    owned = λ s i desk g at listed. absurd (none-some g (ap (λ gs. slice_get gs i) (sym (free s desk at)) ∙ listed));
+    owned = λ s i desk g at listed. absurd (none-some g (ap (λ gs. slice_get gs i) (sym (free s desk at).0) ∙ listed));
     apart = λ t u p q a b hp hq ha hb same. absurd (none t p a hp ha);
     compatible = λ t u p q a b ne hp hq ha hb same. absurd (none t p a hp ha);
+    sound = λ s desk at. sound_empty desk.limit desk.guards (free s desk at).1 (free s desk at).0;
   }
     where
       none : (t : ℕ) (p : Place K V D T A) (h : Hold) → slice_get places t ≡ Some p → p.hold ≡ Some h → ⊥

@@ -24,7 +24,8 @@ use Rattle.mapworld.specs.declared.place.Phase.{Phase}
 use Rattle.mapworld.specs.declared.place.Place.{Place}
 use Rattle.mapworld.specs.State.{State, threads_of, started_of}
 use Rattle.mapworld.specs.Moves.{stepped}
-use Rattle.mapworld.specs.Sound.{is_resting, block_after, HoldsShard, GuardIs, IsOnShard, IsSettled, IsInSessionOf, IsInSession, IsReady, IsInCall, Claim, Stands, TablesAgree, HoldsMatch, Sound}
+use Rattle.mapworld.specs.Sound.{is_resting, block_after, HoldsShard, GuardIs, IsOnShard, IsSettled, IsInSessionOf, IsInSession, IsReady, IsInCall, Claim, Stands, TablesAgree, Sound}
+use Rattle.mapworld.specs.Held.{HoldsMatch}
 use Rattle.mapworld.proofs.Effects.{Effect}
 use Rattle.mapworld.proofs.Others.{stands-other}
 use Rattle.mapworld.proofs.Timing.{count_by-before}

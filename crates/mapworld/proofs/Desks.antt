@@ -12,7 +12,7 @@ use Rattle.mapworld.specs.declared.holds.Mode.TheVariants.{Shared, Exclusive}
 use Rattle.mapworld.specs.declared.holds.Hold.{Hold}
 use Rattle.mapworld.specs.declared.place.Place.{Place}
 use Rattle.mapworld.specs.Holds.{excludes, is_excluded, Desks, at_desk, guard_for}
-use Rattle.mapworld.specs.Sound.{HoldsMatch}
+use Rattle.mapworld.specs.Held.{HoldsMatch}
 use Rattle.mapworld.proofs.Finds.{find-Some, find-there}
 use Rattle.mapworld.proofs.Facts.{read_at}
 use Rattle.mapworld.proofs.HoldsTable.{list_any-true, is_excluded-by}

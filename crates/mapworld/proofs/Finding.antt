@@ -358,15 +358,14 @@ module _ {K V S D T A : Type 0} (x : Setup K V D T) (laws : Laws x) (w : State K
       let not_yet : may_own p.phase ≡ false = ap may_own g.before in
       let l = g.listed.1 in
       let d = g.listed.0 in
-      let is : pair_of x.eq g.table.items g.key ≡ None =
-      ap (λ (z : Vec (K × V) A). pair_of x.eq z.items g.key) (same_Some g.table c.3.table (sym g.held ∙ c.3.held)) ∙ c.3.so.0 in
+      let len : vec_len g.grown ≡ vec_len g.table = g.grown.ok.0 ∙ (ap length g.pairs ∙ sym g.table.ok.0) in
       subst (Sound x) (sym (g.after ∙ ap (λ (z : List (Block K)). record (stepped w s p') { tables = slice_set w.tables p.shard g.grown; blocks = z }) g.listed.2))
       (sound-listed x laws w s sound p g.stands _ c.0 g.key refl Exclusive c.2 c.1.shard not_yet 0 d l p' refl refl refl refl refl
       (done-none d 0 l.done (omega arith) l.end) (slice_set w.tables p.shard g.grown) (length-set w.tables p.shard g.grown)
       (kept-alone x w s p g.stands sound g.grown c.2) (
         IsInCall-push x (threads_of w) s.thread s.thread p' _ (in_call-moved x p p' (threads_of w) s.thread _ refl refl refl c.0),
-        before-deed x laws w s sound p g.stands _ c.0 g.key refl c.1.shard not_yet g.table g.held d c.2 l p' None is refl refl c.1.slot refl refl,
-        record { table = g.grown; held = slice_get-set_same w.tables p.shard g.table g.grown g.held; so = g.room },
+        before-deed x laws w s sound p g.stands _ c.0 g.key refl c.1.shard not_yet g.table g.held d c.2 l p' None g.absent refl refl c.1.slot refl refl,
+        record { table = g.grown; held = slice_get-set_same w.tables p.shard g.table g.grown g.held; so = omega (arith, len, g.room) },
       )
       (taken-at x (threads_of w) w.blocks w.replies w.tables s.thread p (phase.Grow g.key g.value) g.before st)
       (within-at x (threads_of w) w.blocks w.replies w.tables s.thread p (phase.Grow g.key g.value) g.before st)

@@ -26,7 +26,8 @@ use Rattle.mapworld.specs.declared.place.Request.TheVariants as request
 use Rattle.mapworld.specs.declared.place.Place.{Place}
 use Rattle.mapworld.specs.State.{State, threads_of, started_of}
 use Rattle.mapworld.specs.Moves.{request_key, stepped, CountsIn}
-use Rattle.mapworld.specs.Sound.{taken, may_own, HoldsShard, GuardIs, HasSession, IsInSession, Claim, OwnsBlocks, HasOwnBlock, Stands, TablesAgree, HoldsMatch, Sound}
+use Rattle.mapworld.specs.Sound.{taken, may_own, HoldsShard, GuardIs, HasSession, IsInSession, Claim, OwnsBlocks, HasOwnBlock, Stands, TablesAgree, Sound}
+use Rattle.mapworld.specs.Held.{HoldsMatch}
 use Rattle.mapworld.proofs.Effects.{effect-grow, Anyhow}
 use Rattle.mapworld.proofs.Finding.{begin-key}
 use Rattle.mapworld.proofs.Timing.{placed-grown}
@@ -232,7 +233,7 @@ module _ {K V S D T A : Type 0} (x : Setup K V D T) (laws : Laws x) (w : State K
         agree
         match
         (placed-grown x (threads_of w) s.thread (started_of w) (started_of (stepped w s p')) w.blocks w.replies (started-stays x w s p p' at stays) i b d listed
-        (record { thread = counts.thread; call = counts.call; visit = counts.visit; start = counts.start; position = counts.position }) counts.end more-done sound.placed)
+        (record { thread = counts.thread; call = counts.call; visit = counts.visit; start = counts.start; position = counts.position; visited = counts.visited }) counts.end more-done sound.placed)
         (replies-kept x w.blocks (slice_set w.blocks i d) w.replies (λ j r hr. keeps-grown x laws w.blocks i b d grows r.thread r.call) sound.replies)
 
     -- where the call leaves its pair, no list changes

@@ -1,16 +1,19 @@
 -- The desks match the threads' places: kept by a step that changes no hold, by an admission and by a release.
-use Rattle.std.proofs.Common.{◌≡◌, ◌≢◌, ℕ, ◌⊎◌, inl, inr, ⊎_elim, false, List, length, Some, None, slice_get, slice_set, ap, sym, ◌∙◌, subst}
+use Rattle.std.proofs.Common.{◌≡◌, ◌≢◌, ℕ, ◌⊎◌, inl, inr, ⊎_elim, false, List, length, Some, None, slice_get, slice_set, refl, ap, sym, ◌∙◌, subst}
 use Rattle.std.proofs.lemmas.Bool.{cases_eq}
 use Rattle.std.proofs.lemmas.Option.{same_Some, none-some}
 use Rattle.mapworld_calls.proofs.Lists.{slice_get-set_same, slice_get-set_other, slice_get-set_cases, slice_get-push_below, slice_get-push_at, slice_get-push_cases}
 use Rattle.lock_api_desk.specs.Guards.{Guard}
-use Rattle.lock_api_desk.specs.Desk.{DeskState, admitted, released}
+use Rattle.lock_api_desk.specs.declared.fault.DeskFault.TheVariants.{WouldWait}
+use Rattle.lock_api_desk.specs.Desk.{DeskState, IsSound, admitted, released}
+use Rattle.lock_api_desk.specs.Refusals.{acquire_refusal}
 use Rattle.mapworld.specs.declared.holds.Mode.TheVariants.{Shared}
 use Rattle.mapworld.specs.declared.holds.Hold.{Hold}
 use Rattle.mapworld.specs.declared.place.Place.{Place}
 use Rattle.mapworld.specs.Holds.{is_excluded, Desks, at_desk, guard_for}
-use Rattle.mapworld.specs.Sound.{HoldsMatch}
+use Rattle.mapworld.specs.Held.{HoldsMatch}
 use Rattle.mapworld.proofs.HoldsTable.{is_excluded-shared, without-kept, without-was}
+use Rattle.mapworld.proofs.Orderly.{sound_admitted, sound_released}
 
 module _ {K V D T A : Type 0} (places : List (Place K V D T A)) (holds : Desks) (h : HoldsMatch places holds) where
   -- two threads that hold one shard share it
@@ -45,6 +48,7 @@ module _ {K V D T A : Type 0} (places : List (Place K V D T A)) (holds : Desks) 
           let i = was u q a hq ha in let j = was v r b hr hb in h.apart u v i.0 j.0 a b i.1 j.1 i.2 j.2 e;
       compatible = λ u v q r a b ne hq hr ha hb e.
           let i = was u q a hq ha in let j = was v r b hr hb in h.compatible u v i.0 j.0 a b ne i.1 j.1 i.2 j.2 e;
+      sound = h.sound;
     }
       where
         was : (u : ℕ) (q : Place K V D T A) (a : Hold) → slice_get (slice_set places t p') u ≡ Some q → q.hold ≡ Some a → (r : Place K V D T A) × (slice_get places u ≡ Some r) × (r.hold ≡ Some a)
@@ -55,8 +59,9 @@ module _ {K V D T A : Type 0} (places : List (Place K V D T A)) (holds : Desks) 
 
     pub holds-push : (a : Hold) → p.hold ≡ None → p'.hold ≡ Some a → ((u : ℕ) (q : Place K V D T A) (b : Hold) → slice_get places u ≡ Some q → q.hold ≡ Some b → b.guard ≢ a.guard)
         → is_excluded places a.shard a.mode ≡ false → (desk : DeskState (Unit {0})) → slice_get holds a.shard ≡ Some desk
+        → acquire_refusal WouldWait (at_desk a.mode) a.guard desk ≡ None
         → HoldsMatch (slice_set places t p') (slice_set holds a.shard (admitted (at_desk a.mode) t a.guard desk))
-    holds-push a free taken fresh unexcluded desk held = record {
+    holds-push a free taken fresh unexcluded desk held grant = record {
       listed = λ u q b hq hb. elim (there u q hq) [
         | inl own ↦
             let same : a ≡ b = is-mine q b own.1 hb in (
@@ -109,6 +114,11 @@ module _ {K V D T A : Type 0} (places : List (Place K V D T A)) (holds : Desks) 
           (both.0, ap (λ (z : Hold). z.mode) (sym same) ∙ both.1))
           (λ other. h.compatible u v q r b c ne old.1 other.1 hb hc e) (there v r hr))
           (there u q hq);
+      sound = λ s d hd. elim (slice_get-set_cases holds a.shard s desk d after held hd) [
+        | inl here ↦ subst (λ (z : DeskState (Unit {0})). IsSound z.limit z.guards) (sym here.1)
+            (sound_admitted WouldWait (guard_for t a) desk (h.sound a.shard desk held) refl grant)
+        | inr other ↦ h.sound s d other.1
+      ];
     }
       where
         after : DeskState (Unit {0})
@@ -146,6 +156,15 @@ module _ {K V D T A : Type 0} (places : List (Place K V D T A)) (holds : Desks) 
       ];
       apart = λ u v q r b c hq hr hb hc e. h.apart u v q r b c (other u q b hq hb).1 (other v r c hr hc).1 hb hc e;
       compatible = λ u v q r b c ne hq hr hb hc e. h.compatible u v q r b c ne (other u q b hq hb).1 (other v r c hr hc).1 hb hc e;
+      sound = λ s d hd. elim (slice_get-set_cases holds a.shard s desk d after there-is hd) [
+        | inl here ↦
+            let l = h.listed t p a at held in
+            let one : l.0 ≡ desk = same_Some l.0 desk (sym l.2 ∙ there-is) in
+            let listed = ap (λ (z : DeskState (Unit {0})). slice_get z.guards l.1) (sym one) ∙ l.3 in
+            subst (λ (z : DeskState (Unit {0})). IsSound z.limit z.guards) (sym here.1)
+            (sound_released desk.limit desk.guards (h.sound a.shard desk there-is) l.1 a.guard (guard_for t a) listed refl)
+        | inr other-desk ↦ h.sound s d other-desk.1
+      ];
     }
       where
         after : DeskState (Unit {0})

@@ -1,6 +1,7 @@
 pub mod Effects
 pub mod Others
 pub mod Timing
+pub mod Orderly
 pub mod Holding
 pub mod Building
 pub mod Admitting
@@ -15,6 +16,7 @@ pub mod Sounds
 pub mod Viewing
 pub mod Setups
 pub mod Outcomes
+pub mod Footprints
 pub mod Adding
 pub mod Runs
 pub mod Finds

@@ -67,6 +67,7 @@ module _ {K V S D T A : Type 0} (x : Setup K V D T) (laws : Laws x) (w : State K
       asked = rw (listed.thread, listed.call) call.asked;
       done = done;
       visit = listed.visit;
+      visited = listed.visited;
       start = rw (listed.thread, start-is) (IsStepOf-push (threads_of w) s.thread s.thread call.start call.begun);
       position = rw (listed.thread, listed.position, number) (IsStepOf-next (threads_of w) s.thread);
       order = let lt = IsStepOf-below (threads_of w) s.thread call.start call.begun in rw (start-is, listed.position, number) (omega arith);

@@ -1,10 +1,30 @@
--- What holds of every world: it agrees with the replay.
-use Rattle.std.proofs.Common.{◌≡◌, ℕ, ◌<◌, inl, inr, List, length, Some, slice_get, ◌∙◌, arith}
-use Rattle.std.proofs.lemmas.Option.{slice_get_cases}
+-- What holds of every world: it agrees with the replay, and exactly the threads between admission and release hold.
+use Rattle.std.proofs.Common.{◌≡◌, ℕ, ◌+◌, ◌<◌, inl, inr, Bool, true, IsTrue, List, length, map, Option, Some, None, is_some, slice_get, refl, sym, ap, ◌∙◌, subst, arith}
+use Rattle.std.specs.declared.vec.Vec.{Vec}
+use Rattle.std.specs.Hash.{HashWrites}
+use Rattle.std.specs.Cmp.{IsEquivalence}
+use Rattle.std.specs.declared.hash.BuildHasher as builder
+use Rattle.std.specs.declared.hash.Hasher as hasher
+use Rattle.mapworld_calls.specs.declared.deed.Deed as deed
+use Rattle.std.proofs.lemmas.Option.{slice_get_cases, none-some}
+use Rattle.mapworld_calls.specs.declared.block.Block.{Block}
 use Rattle.mapworld_calls.specs.Setup.{Setup, Laws}
 use Rattle.mapworld_calls.specs.Agrees.{Agrees}
-use Rattle.mapworld.specs.State.{State, pairs_of}
-use Rattle.mapworld.specs.Sound.{Sound}
+use Rattle.mapworld_calls.specs.Every.Agrees as every_agrees
+use Rattle.mapworld_calls.specs.Every.Placed as every_placed
+use Rattle.mapworld_calls.specs.Every.Setup as every_setup
+use Rattle.mapworld_calls.specs.Every.Today.{as_reply}
+use Rattle.mapworld_calls.proofs.Every.Today.{placed-as, agrees-as}
+use Rattle.mapworld.specs.declared.holds.Mode.{Mode}
+use Rattle.mapworld.specs.declared.holds.Hold.{Hold}
+use Rattle.mapworld.specs.declared.place.Phase.{Phase}
+use Rattle.mapworld.specs.declared.place.Phase.TheVariants as phase
+use Rattle.mapworld.specs.declared.place.Place.{Place}
+use Rattle.mapworld.specs.State.{State, pairs_of, threads_of, started_of}
+use Rattle.mapworld.specs.Held.{holds_before, HoldByPhase}
+use Rattle.mapworld.specs.Sound.{HoldsShard, HoldsByGuard, IsInSession, IsReady, Claim, Sound}
+use Rattle.mapworld.specs.World.{setup_of, world_setup}
+use Rattle.mapworld.proofs.Setups.{setup-laws}
 use Rattle.mapworld.proofs.Viewing.{pairs_distinct, pair_at_route}
 
 -- an index below the length has an element
@@ -19,3 +39,50 @@ agrees x laws w sound = record {
       pair_at_route x w.blocks w.tables laws sound.tables q table.0 table.1 ∙ sound.tables.contents_are q table.0 table.1;
   replies_are = sound.replies;
 }
+
+-- so it is with a world's own setup, and with its calls as calls of every kind
+module _ {K V S H D T A : Type 0} (d : deed.Ghosts D K V T) (b : builder.Ghosts S H) (h : hasher.Ghosts H) (eq : K → K → Bool) (writes : K → HashWrites) where
+  pub world-lawful : (w : State K V S D T A) → IsEquivalence eq → ((j k : K) → IsTrue (eq j k) → writes j ≡ writes k) → every_setup.Laws (world_setup d b h eq writes w)
+  world-lawful w lawful respects = let l = setup-laws d b h eq writes w lawful respects in record { equivalence = l.equivalence; routes = l.routes }
+
+  pub world-agrees : (w : State K V S D T A) → IsEquivalence eq → ((j k : K) → IsTrue (eq j k) → writes j ≡ writes k) → Sound (setup_of d b h eq writes w) w
+      → every_agrees.Agrees (world_setup d b h eq writes w) w.blocks (pairs_of w) (map as_reply w.replies)
+  world-agrees w lawful respects sound =
+      agrees-as (setup_of d b h eq writes w) (length w.tables) (threads_of w) (started_of w) w.blocks w.replies sound.placed (pairs_of w)
+      (agrees (setup_of d b h eq writes w) (setup-laws d b h eq writes w lawful respects) w sound)
+
+  pub world-placed : (w : State K V S D T A) → Sound (setup_of d b h eq writes w) w
+      → every_placed.WellPlaced (world_setup d b h eq writes w) (threads_of w) (started_of w) w.blocks (map as_reply w.replies)
+  world-placed w sound = placed-as (setup_of d b h eq writes w) (length w.tables) (threads_of w) (started_of w) w.blocks w.replies sound.placed
+
+-- a hold that is known
+has_hold : (o : Option Hold) (h : Hold) → o ≡ Some h → is_some o ≡ true
+has_hold o h is = ap is_some is
+
+module _ {K V D T A : Type 0} (x : Setup K V D T) (threads : List ℕ) (bs : List (Block K)) (tables : List (Vec (K × V) A)) (t : ℕ) (p : Place K V D T A) where
+  -- a guard's thread holds its shard
+  guard_holds : (n slot : ℕ) (session block : Option ℕ) → p.slot ≡ Some slot → IsInSession x bs tables t p n session block → (h : Hold) × (p.hold ≡ Some h)
+  guard_holds n slot None block guarded h = absurd (none-some slot (sym h.0 ∙ guarded))
+  guard_holds n slot (Some c) None guarded h = absurd (none-some slot (sym h.0 ∙ guarded))
+  guard_holds n slot (Some c) (Some i) guarded h = let g = rw guarded at h.guard in (g.3.hold, g.3.has)
+
+  -- between two calls, and before an answer, a thread holds where it has a guard
+  by_guard : (n : ℕ) (session block guard : Option ℕ) → p.slot ≡ guard → HoldsByGuard p → IsInSession x bs tables t p n session block → is_some p.hold ≡ is_some guard
+  by_guard n session block None is free ready = ap is_some (free is)
+  by_guard n session block (Some slot) is free ready = let h = guard_holds n slot session block is ready in has_hold p.hold h.0 h.1
+
+  by_claim : (f : Phase K V D T) → Claim x threads bs tables t p f → is_some p.hold ≡ holds_before p.slot f
+  by_claim phase.Rest c = by_guard p.next _ p.block p.slot refl c.1 c.2
+  by_claim (phase.Admit r) c = ap is_some c.2
+  by_claim (phase.Find r) c = has_hold p.hold c.2.hold c.2.has
+  by_claim (phase.Grow k v) c = has_hold p.hold c.2.hold c.2.has
+  by_claim (phase.Append k v) c = has_hold p.hold c.1.alone.hold c.1.alone.has
+  by_claim (phase.Replace i v) c = has_hold p.hold c.3.alone.hold c.3.alone.has
+  by_claim (phase.Take i) c = has_hold p.hold c.3.alone.hold c.3.alone.has
+  by_claim (phase.Read d) c = let h = guard_holds p.next c.0 _ p.block c.2 c.3 in has_hold p.hold h.0 h.1
+  by_claim (phase.Write d) c = has_hold p.hold c.3.hold c.3.has
+  by_claim (phase.Release r) c = has_hold p.hold c.1 c.3
+  by_claim (phase.Answer r) c = by_guard (p.next + 1) _ _ p.slot refl c.2 c.4
+
+pub hold_by_phase : {K V S D T A : Type 0} (x : Setup K V D T) (w : State K V S D T A) → Sound x w → HoldByPhase w.places
+hold_by_phase x w sound t p at = by_claim x (threads_of w) w.blocks w.tables t p p.phase (sound.stands t p at).claim

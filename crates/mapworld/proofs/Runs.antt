@@ -10,20 +10,22 @@ use Rattle.mapworld.specs.declared.step.Step.{Step}
 use Rattle.mapworld.specs.Route.{key_route}
 use Rattle.mapworld.specs.State.{State}
 use Rattle.mapworld.specs.Steps.{IsStep}
+use Rattle.mapworld.specs.Footprint.{HasFootprint}
 use Rattle.mapworld.specs.Running.{refusal, Ran}
 use Rattle.mapworld.specs.World.{deeds_of, setup_of}
 use Rattle.mapworld.specs.Making.{StaysFixed}
 
 module _ {K V S D T A : Type 0} (x : Setup K V D T) where
   pub Ran-more : (n : ℕ) (w : State K V S D T A) (steps : List Step) (w' : State K V S D T A) (s : Step) (w'' : State K V S D T A)
-      → Ran x n w steps w' → refusal w' (n + length steps) s ≡ None → IsStep x w' s w'' → Ran x n w (steps ++ s ∷ []) w''
-  Ran-more n w [] w' s w'' ran free_ step =
+      → Ran x n w steps w' → refusal w' (n + length steps) s ≡ None → IsStep x w' s w'' → HasFootprint x.eq w' s w''
+      → Ran x n w (steps ++ s ∷ []) w''
+  Ran-more n w [] w' s w'' ran free_ step footprint =
       let here : n + 0 ≡ n = omega arith in
       subst (λ (v : State K V S D T A). Ran x n v (s ∷ []) w'') ran
-      (w'', ap (λ k. refusal w' k s) (sym here) ∙ free_, step, refl)
-  Ran-more n w (t ∷ steps) w' s w'' ran free_ step =
+      (w'', ap (λ k. refusal w' k s) (sym here) ∙ free_, step, footprint, refl)
+  Ran-more n w (t ∷ steps) w' s w'' ran free_ step footprint =
       let here : n + length (t ∷ steps) ≡ n + 1 + length steps = omega arith in
-      (ran.0, ran.1, ran.2, Ran-more (n + 1) ran.0 steps w' s w'' ran.3 (ap (λ k. refusal w' k s) (sym here) ∙ free_) step)
+      (ran.0, ran.1, ran.2, ran.3, Ran-more (n + 1) ran.0 steps w' s w'' ran.4 (ap (λ k. refusal w' k s) (sym here) ∙ free_) step footprint)
 
 module _ {K V S H D T : Type 0} (d : deed.Ghosts D K V T) (b : builder.Ghosts S H) (h : hasher.Ghosts H) (eq : K → K → Bool) (writes : K → HashWrites) where
   abbrev made : S → ℕ → List (List (Ask K V D)) → List (K × V) → Setup K V D T

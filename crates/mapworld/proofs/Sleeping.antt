@@ -1,7 +1,8 @@
--- A thread is asleep where another thread's hold excludes the admission that it is before.
-use Rattle.std.proofs.Common.{◌≡◌, ◌≢◌, ◌↔◌, ℕ, Bool, true, false, if◌then◌else◌, List, length, Option, Some, None, slice_get, refl, ap, sym, ◌∙◌, subst, ◌==◌}
+-- A thread is asleep where another thread's hold excludes the admission that it is before, and finished where all its calls
+-- are answered.
+use Rattle.std.proofs.Common.{◌≡◌, ◌≢◌, ◌↔◌, ℕ, zero, suc, ◌+◌, ◌-◌, ◌<◌, ◌≤◌, Bool, true, false, if◌then◌else◌, List, length, drop, get_or, Option, Some, None, slice_get, refl, ap, sym, ◌∙◌, subst, ◌==◌, arith, length-drop}
 use Rattle.std.proofs.lemmas.Option.{none-some, same_Some}
-use Rattle.std.proofs.lemmas.Bool.{cond-true}
+use Rattle.std.proofs.lemmas.Bool.{cond-true, eqb-true}
 use Rattle.mapworld_calls.specs.Setup.{Setup}
 use Rattle.mapworld.specs.declared.step.Status.{Status}
 use Rattle.mapworld.specs.declared.step.Status.TheVariants as status
@@ -13,8 +14,8 @@ use Rattle.mapworld.specs.Holds.{is_excluded}
 use Rattle.mapworld.specs.State.{State, threads_of}
 use Rattle.mapworld.specs.Moves.{mode_of}
 use Rattle.mapworld.specs.Running.{status_before, status_at, status_of}
-use Rattle.mapworld.specs.Sound.{Claim, Sound}
-use Rattle.mapworld.specs.Asleep.{IsAsleep}
+use Rattle.mapworld.specs.Sound.{is_resting, Claim, Sound}
+use Rattle.mapworld.specs.Asleep.{IsAsleep, IsFinished}
 use Rattle.mapworld.proofs.HoldsTable.{is_excluded-true, is_excluded-by}
 
 never : (b : Bool) → (if b then status.Finished else status.Running) ≡ status.Asleep → ⊥
@@ -94,3 +95,84 @@ module _ {K V S D T A : Type 0} (x : Setup K V D T) (w : State K V S D T A) (sou
 
   pub status-asleep : (r : Status) → r ≡ status_of w t → (r ≡ status.Asleep) ↔ IsAsleep w t
   status-asleep r is = (λ h. asleep_there (sym is ∙ h), λ h. is ∙ asleep_back h)
+
+-- only a thread between two calls that has none left is finished
+is_over : (b : Bool) → (if b then status.Finished else status.Running) ≡ status.Finished → b ≡ true
+is_over true h = refl
+is_over false h = cc
+
+none_left : (n : ℕ) → (if n == 0 then status.Finished else status.Running) ≡ status.Finished → n ≡ 0
+none_left n h = eqb-true n 0 (is_over (n == 0) h)
+
+not_over : (b : Bool) → (if b then status.Asleep else status.Running) ≡ status.Finished → ⊥
+not_over true h = cc
+not_over false h = cc
+
+module _ {K V D T A : Type 0} (places : List (Place K V D T A)) (left shard : ℕ) where
+  over : (f : Phase K V D T) → status_before places left shard f ≡ status.Finished → (is_resting f ≡ true) × (left ≡ 0)
+  over phase.Rest h = (refl, none_left left h)
+  over (phase.Admit r) h = absurd (not_over (is_excluded places shard (mode_of r)) h)
+  over (phase.Find r) h = cc
+  over (phase.Grow k v) h = cc
+  over (phase.Append k v) h = cc
+  over (phase.Replace i v) h = cc
+  over (phase.Take i) h = cc
+  over (phase.Read d) h = cc
+  over (phase.Write d) h = cc
+  over (phase.Release a) h = cc
+  over (phase.Answer a) h = cc
+
+  over_at_rest : (f : Phase K V D T) → is_resting f ≡ true → left ≡ 0 → status_before places left shard f ≡ status.Finished
+  over_at_rest phase.Rest h none = rw none refl
+  over_at_rest (phase.Admit r) h none = cc
+  over_at_rest (phase.Find r) h none = cc
+  over_at_rest (phase.Grow k v) h none = cc
+  over_at_rest (phase.Append k v) h none = cc
+  over_at_rest (phase.Replace i v) h none = cc
+  over_at_rest (phase.Take i) h none = cc
+  over_at_rest (phase.Read d) h none = cc
+  over_at_rest (phase.Write d) h none = cc
+  over_at_rest (phase.Release a) h none = cc
+  over_at_rest (phase.Answer a) h none = cc
+
+-- a thread that has taken its whole program is between two calls
+rests_at_the_end : (b : Bool) (next n : ℕ) → (if b then next else next + 1) ≤ n → next ≡ n → b ≡ true
+rests_at_the_end true next n within same = refl
+rests_at_the_end false next n within same = absurd (omega (arith, within, same))
+
+taken_at_rest : {X : Type 0} (b : Bool) (next : ℕ) (xs : List X) → b ≡ true → length (drop (if b then next else next + 1) xs) ≡ length xs - next
+taken_at_rest true next xs h = length-drop next xs
+taken_at_rest false next xs h = cc
+
+rests_within : (b : Bool) (next n : ℕ) → b ≡ true → (if b then next else next + 1) ≤ n → next ≤ n
+rests_within true next n h within = within
+rests_within false next n h within = cc
+
+module _ {K V S D T A : Type 0} (x : Setup K V D T) (w : State K V S D T A) (sound : Sound x w) (same : x.programs ≡ w.programs) (t : ℕ)
+    (p : Place K V D T A) (at : slice_get w.places t ≡ Some p) where
+  status_there : status_of w t ≡ status_before w.places (length p.asks.items) p.shard p.phase
+  status_there = ap (λ o. status_at w.places o) at
+
+  finished_there : status_of w t ≡ status.Finished → IsFinished w t
+  finished_there h =
+      let st = sound.stands t p at in
+      let o = over w.places (length p.asks.items) p.shard p.phase (sym status_there ∙ h) in
+      let left = ap length st.asks_left ∙ taken_at_rest (is_resting p.phase) p.next st.program o.0 in
+      let within = rests_within (is_resting p.phase) p.next (length st.program) o.0 st.within in
+      record {
+        program = st.program;
+        has = ap (λ ps. slice_get ps t) (sym same) ∙ st.has;
+        answered = omega (arith, left, o.1, within, st.answered);
+      }
+
+  finished_back : IsFinished w t → status_of w t ≡ status.Finished
+  finished_back f =
+      let st = sound.stands t p at in
+      let one : f.program ≡ st.program = same_Some f.program st.program (sym f.has ∙ (ap (λ ps. slice_get ps t) (sym same) ∙ st.has)) in
+      let count : p.next ≡ length st.program = st.answered ∙ (f.answered ∙ ap length one) in
+      let rests = rests_at_the_end (is_resting p.phase) p.next (length st.program) st.within count in
+      let left = ap length st.asks_left ∙ taken_at_rest (is_resting p.phase) p.next st.program rests in
+      status_there ∙ over_at_rest w.places (length p.asks.items) p.shard p.phase rests (omega (arith, left, count))
+
+  pub status-finished : (r : Status) → r ≡ status_of w t → (r ≡ status.Finished) ↔ IsFinished w t
+  status-finished r is = (λ h. finished_there (sym is ∙ h), λ h. is ∙ finished_back h)

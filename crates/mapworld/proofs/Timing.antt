@@ -21,6 +21,7 @@ pub record SameCall {K : Type 0} (b c : Block K) : Type 0 where
   pub visit : c.visit ≡ b.visit
   pub start : c.start ≡ b.start
   pub position : c.position ≡ b.position
+  pub visited : c.visited.items ≡ b.visited.items
 
 IsSome-of : {X : Type 0} (o : Option X) → IsSome o → (y : X) × (o ≡ Some y)
 IsSome-of None h = absurd cc
@@ -50,6 +51,7 @@ module _ {K V D T : Type 0} (x : Setup K V D T) (steps : List ℕ) (s : ℕ) (st
     asked = h.asked;
     done = done-kept b h.ask mono h.done;
     visit = h.visit;
+    visited = h.visited;
     start = IsStepOf-push steps s b.thread b.start h.start;
     position = IsStepOf-push steps s b.thread b.position h.position;
     order = h.order;
@@ -65,6 +67,7 @@ module _ {K V D T : Type 0} (x : Setup K V D T) (steps : List ℕ) (s : ℕ) (st
     asked = rw (same.thread, same.call) h.asked;
     done = done h.ask h.asked h.done;
     visit = same.visit ∙ h.visit;
+    visited = same.visited ∙ h.visited;
     start = rw (same.thread, same.start) (IsStepOf-push steps s b.thread b.start h.start);
     position = rw (same.thread, same.position) (IsStepOf-push steps s b.thread b.position h.position);
     order = rw (same.start, same.position) h.order;
@@ -135,7 +138,7 @@ module _ {K V D T : Type 0} (x : Setup K V D T) (steps : List ℕ) (s : ℕ) (st
       was : (j : ℕ) (d : Block K) → slice_get (slice_set bs i c) j ≡ Some d → (e : Block K) × SameCall e d × (slice_get bs j ≡ Some e)
       was j d here = ⊎_elim
           (λ own. (b, subst (λ (z : Block K). SameCall b z) (sym own.1) same, ap (λ k. slice_get bs k) own.0 ∙ at))
-          (λ other. (d, record { thread = refl; call = refl; visit = refl; start = refl; position = refl }, other.1))
+          (λ other. (d, record { thread = refl; call = refl; visit = refl; start = refl; position = refl; visited = refl }, other.1))
           (slice_get-set_cases bs i j b d c at here)
 
   -- one block is added, at this step

@@ -1,5 +1,7 @@
--- When a thread is asleep.
-use Rattle.std.specs.Prelude.{◌≡◌, ◌≢◌, ℕ, true, Some, slice_get}
+-- When a thread is asleep, and when it has finished.
+use Rattle.std.specs.Prelude.{◌≡◌, ◌≢◌, ℕ, true, List, length, Some, slice_get}
+use Rattle.mapworld_calls.specs.declared.ask.Ask.{Ask}
+use Rattle.mapworld_calls.specs.Placed.{answered_of}
 use Rattle.mapworld.specs.declared.holds.Hold.{Hold}
 use Rattle.mapworld.specs.declared.place.Request.{Request}
 use Rattle.mapworld.specs.declared.place.Phase.TheVariants as phase
@@ -22,3 +24,9 @@ pub record IsAsleep {K V S D T A : Type 0} (w : State K V S D T A) (t : ℕ) : T
   pub held : holder.hold ≡ Some hold
   pub same_shard : hold.shard ≡ place.shard
   pub excluded : excludes hold.mode (mode_of request) ≡ true
+
+-- all calls of the thread's program are answered
+pub record IsFinished {K V S D T A : Type 0} (w : State K V S D T A) (t : ℕ) : Type 0 where
+  pub program : List (Ask K V D)
+  pub has : slice_get w.programs t ≡ Some program
+  pub answered : answered_of w.replies t ≡ length program

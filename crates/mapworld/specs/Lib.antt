@@ -1,7 +1,9 @@
 pub mod State
 pub mod Holds
+pub mod Held
 pub mod Moves
 pub mod Steps
+pub mod Footprint
 pub mod Sound
 pub mod Running
 pub mod Route

@@ -10,6 +10,7 @@ use Rattle.dashmap_table.specs.Route.{log2}
 use Rattle.lock_api_desk.specs.Desk.{DeskState}
 use Rattle.mapworld.specs.Holds.{Desks}
 use Rattle.mapworld.specs.State.{State, pairs_of}
+use Rattle.mapworld.specs.Beginning.{AreAtStart}
 
 -- a power of two from 2 to 4,096
 abbrev pub is_amount : ℕ → Bool
@@ -42,7 +43,8 @@ pub record AreFree (shards : ℕ) (holds : Desks) : Type 0 where
   pub count : length holds ≡ shards
   pub free : (i : ℕ) (desk : DeskState (Unit {0})) → slice_get holds i ≡ Some desk → desk.guards ≡ []
 
--- a new world has what it was made with, and nothing has happened in it
+-- a new world has what it was made with, a thread for each program that is before the first of its calls, and nothing has
+-- happened in it
 pub record IsNew {K V S D T A : Type 0} (eq : K → K → Bool) (shards : ℕ) (hasher : S) (pairs : List (K × V)) (programs : List (List (Ask K V D))) (w : State K V S D T A) : Type 0 where
   pub hasher_is : w.hasher ≡ hasher
   pub shards_are : length w.tables ≡ shards
@@ -50,6 +52,7 @@ pub record IsNew {K V S D T A : Type 0} (eq : K → K → Bool) (shards : ℕ) (
   pub programs_are : w.programs ≡ programs
   pub contents_are : (q : K) → pair_of eq (pairs_of w) q ≡ opening_pair eq pairs q
   pub steps : w.steps ≡ []
+  pub places : AreAtStart programs w.places
   pub holds : AreFree shards w.holds
   pub blocks : w.blocks ≡ []
   pub replies : w.replies ≡ []

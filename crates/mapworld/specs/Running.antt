@@ -13,6 +13,7 @@ use Rattle.mapworld.specs.Holds.{is_excluded}
 use Rattle.mapworld.specs.State.{State, pairs_of}
 use Rattle.mapworld.specs.Moves.{mode_of}
 use Rattle.mapworld.specs.Steps.{IsStep}
+use Rattle.mapworld.specs.Footprint.{HasFootprint}
 use Rattle.mapworld.specs.Faults.{run_fault_done}
 
 -- how many calls aren't answered
@@ -65,11 +66,11 @@ refusal w n s =
     else Some (fault.CannotMove n))
     else Some (fault.NoSuchThread n)
 
--- the steps lead from one world to the other, one after another, each one of a kind and none refused
+-- the steps lead from one world to the other, one after another, each one of a kind and within its footprint, and none refused
 abbrev pub Ran : {K V S D T A : Type 0} → Setup K V D T → ℕ → State K V S D T A → List Step → State K V S D T A → Type 0
 Ran x n w [] w' = w' ≡ w
 Ran {K} {V} {S} {D} {T} {A} x n w (s ∷ steps) w' =
-    (mid : State K V S D T A) × (refusal w n s ≡ None) × IsStep x w s mid × Ran x (n + 1) mid steps w'
+    (mid : State K V S D T A) × (refusal w n s ≡ None) × IsStep x w s mid × HasFootprint x.eq w s mid × Ran x (n + 1) mid steps w'
 
 -- how many of n steps a run did
 abbrev pub steps_done : {X : Type 0} → Result X RunFault → ℕ → ℕ

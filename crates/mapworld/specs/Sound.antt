@@ -22,9 +22,7 @@ use Rattle.mapworld.specs.declared.holds.Hold.{Hold}
 use Rattle.mapworld.specs.declared.place.Phase.{Phase}
 use Rattle.mapworld.specs.declared.place.Phase.TheVariants as phase
 use Rattle.mapworld.specs.declared.place.Place.{Place}
-use Rattle.lock_api_desk.specs.Guards.{Guard}
-use Rattle.lock_api_desk.specs.Desk.{DeskState}
-use Rattle.mapworld.specs.Holds.{Desks, guard_for}
+use Rattle.mapworld.specs.Held.{HoldsMatch}
 use Rattle.mapworld.specs.State.{State, threads_of, started_of}
 use Rattle.mapworld.specs.Moves.{ask_of, request_key, mode_of, is_last}
 
@@ -213,16 +211,6 @@ pub record TablesAgree {K V D T A : Type 0} (x : Setup K V D T) (bs : List (Bloc
   pub routed : (i j : ℕ) (table : Vec (K × V) A) (pair : K × V) → slice_get tables i ≡ Some table → slice_get table.items j ≡ Some pair → x.route pair.0 ≡ i
   pub distinct : (i : ℕ) (table : Vec (K × V) A) → slice_get tables i ≡ Some table → AreDistinct x.eq table.items
   pub contents_are : (q : K) (table : Vec (K × V) A) → slice_get tables (x.route q) ≡ Some table → pair_of x.eq table.items q ≡ contents x bs q
-
--- the guards at the desks are the holds of the threads and no others, each under a guard number of its own, and no two holds exclude each other
-pub record HoldsMatch {K V D T A : Type 0} (places : List (Place K V D T A)) (holds : Desks) : Type 0 where
-  pub listed : (t : ℕ) (p : Place K V D T A) (h : Hold) → slice_get places t ≡ Some p → p.hold ≡ Some h
-      → (desk : DeskState (Unit {0})) × (i : ℕ) × (slice_get holds h.shard ≡ Some desk) × (slice_get desk.guards i ≡ Some (guard_for t h))
-  pub owned : (s i : ℕ) (desk : DeskState (Unit {0})) (g : Guard) → slice_get holds s ≡ Some desk → slice_get desk.guards i ≡ Some g
-      → (p : Place K V D T A) × (h : Hold) × (slice_get places g.party ≡ Some p) × (p.hold ≡ Some h) × (h.shard ≡ s) × (g ≡ guard_for g.party h)
-  pub apart : (t u : ℕ) (p q : Place K V D T A) (a b : Hold) → slice_get places t ≡ Some p → slice_get places u ≡ Some q → p.hold ≡ Some a → q.hold ≡ Some b → a.guard ≡ b.guard → t ≡ u
-  pub compatible : (t u : ℕ) (p q : Place K V D T A) (a b : Hold) → t ≢ u → slice_get places t ≡ Some p → slice_get places u ≡ Some q → p.hold ≡ Some a → q.hold ≡ Some b → a.shard ≡ b.shard
-      → (a.mode ≡ Shared) × (b.mode ≡ Shared)
 
 pub record Sound {K V S D T A : Type 0} (x : Setup K V D T) (w : State K V S D T A) : Type 0 where
   pub guarded : (t : ℕ) (program : List (Ask K V D)) → slice_get x.programs t ≡ Some program → one_guard false program ≡ true

@@ -1,5 +1,5 @@
 -- The kinds of steps: what each changes, of which thread, and that nothing else changes.
-use Rattle.std.specs.Prelude.{◌≡◌, ◌≢◌, ℕ, ◌+◌, ◌<◌, ◌≤◌, Bool, false, if◌then◌else◌, nat_lt, List, [], ◌∷◌, ◌++◌, length, Option, Some, None, slice_get, slice_set, position, remove, vec_len, vec_capacity, is_some}
+use Rattle.std.specs.Prelude.{◌≡◌, ◌≢◌, ℕ, ◌+◌, ◌*◌, ◌≤◌, Bool, false, if◌then◌else◌, nat_lt, List, [], ◌∷◌, ◌++◌, length, Option, Some, None, slice_get, slice_set, position, remove, vec_len, vec_capacity, is_some}
 use Rattle.std.specs.declared.vec.Vec.{Vec}
 use Rattle.std.specs.declared.collections.VecDeque.{VecDeque}
 use Rattle.mapworld_calls.specs.declared.ask.Ask.{Ask}
@@ -7,23 +7,29 @@ use Rattle.mapworld_calls.specs.declared.block.Block.{Block}
 use Rattle.mapworld_calls.specs.declared.reply.Answer.{Answer}
 use Rattle.mapworld_calls.specs.declared.reply.Answer.TheVariants as answer
 use Rattle.mapworld_calls.specs.Setup.{Setup}
-use Rattle.mapworld_calls.specs.Pairs.{has_key}
+use Rattle.mapworld_calls.specs.Pairs.{has_key, pair_of}
 use Rattle.mapworld.specs.declared.holds.Hold.{Hold}
 use Rattle.mapworld.specs.declared.step.Step.{Step}
 use Rattle.mapworld.specs.declared.place.Request.{Request}
 use Rattle.mapworld.specs.declared.place.Phase.TheVariants as phase
 use Rattle.mapworld.specs.declared.place.Place.{Place}
+use Rattle.lock_api_desk.specs.declared.fault.DeskFault.TheVariants.{WouldWait}
 use Rattle.lock_api_desk.specs.Desk.{DeskState, admitted as with_guard, released}
+use Rattle.lock_api_desk.specs.Refusals.{acquire_refusal}
 use Rattle.mapworld.specs.Holds.{is_excluded, at_desk}
 use Rattle.mapworld.specs.State.{State, next_step}
 use Rattle.mapworld.specs.Moves.{request_key, mode_of, is_last, guard_of, start_phase, start_shard, start_counts, found_phase, found_done, found_slot, block_behind, stepped, ListsBlock, CountsCall, EndsBlock}
 
--- where the key's pair stands in a shard's list, and whether the list has room for one more
+-- where the key's pair stands in a shard's list, whether the list has room for one more, and for how many a full one of n
+-- pairs has room behind a growth
 abbrev pub slot_in : {K V A : Type 0} → (K → K → Bool) → Vec (K × V) A → K → Option ℕ
 slot_in eq table k = position (has_key eq k) table.items
 
 abbrev pub has_room : {X A : Type 0} → Vec X A → Bool
 has_room v = nat_lt (vec_len v) (vec_capacity v)
+
+abbrev pub grown_room : ℕ → ℕ
+grown_room n = 2 * n + 4
 
 module _ {K V S D T A : Type 0} (x : Setup K V D T) (w : State K V S D T A) (s : Step) (w' : State K V S D T A) where
   -- a start takes the thread's next call and sets `started` to its number
@@ -44,7 +50,8 @@ module _ {K V S D T A : Type 0} (x : Setup K V D T) (w : State K V S D T A) (s :
       phase = start_phase ask (guard_of place);
     })) { blocks = blocks }
 
-  -- an admission takes a hold that no other hold excludes, under a guard number that none of them has, and the shard's desk lists it
+  -- an admission takes a hold that no other hold excludes, under a guard number that none of them has: the shard's desk grants
+  -- and lists it
   pub record Admits : Type 0 where
     pub place : Place K V D T A
     pub stands : slice_get w.places s.thread ≡ Some place
@@ -56,6 +63,7 @@ module _ {K V S D T A : Type 0} (x : Setup K V D T) (w : State K V S D T A) (s :
     pub fresh : (u : ℕ) (q : Place K V D T A) (h : Hold) → slice_get w.places u ≡ Some q → q.hold ≡ Some h → h.guard ≢ hold.guard
     pub desk : DeskState (Unit {0})
     pub at_shard : slice_get w.holds hold.shard ≡ Some desk
+    pub granted : acquire_refusal WouldWait (at_desk hold.mode) hold.guard desk ≡ None
     pub after : w' ≡ record (stepped w s (record place { hold = Some hold; phase = phase.Find request })) { holds = slice_set w.holds hold.shard (with_guard (at_desk hold.mode) s.thread hold.guard desk) }
 
   -- a find looks for the key in the held shard; it is the position of the block that it lists
@@ -76,7 +84,8 @@ module _ {K V S D T A : Type 0} (x : Setup K V D T) (w : State K V S D T A) (s :
       phase = found_phase request (slot_in x.eq table (request_key request)) (has_room table);
     })) { blocks = blocks }
 
-  -- a find that grows the shard's list, which keeps its pairs; it is the position of the block that it lists
+  -- a find that grows the shard's list, which is full and has no pair of the key, and keeps its pairs; it is the position of the
+  -- block that it lists
   pub record GrowsList : Type 0 where
     pub place : Place K V D T A
     pub stands : slice_get w.places s.thread ≡ Some place
@@ -86,13 +95,16 @@ module _ {K V S D T A : Type 0} (x : Setup K V D T) (w : State K V S D T A) (s :
     pub table : Vec (K × V) A
     pub held : slice_get w.tables place.shard ≡ Some table
     pub grown : Vec (K × V) A
+    pub absent : pair_of x.eq table.items key ≡ None
+    pub full : vec_capacity table ≤ vec_len table
     pub pairs : grown.items ≡ table.items
-    pub room : vec_len grown < vec_capacity grown
+    pub room : vec_capacity grown ≡ grown_room (vec_len table)
     pub blocks : List (Block K)
     pub listed : ListsBlock w s.thread place (Some 0) blocks
     pub after : w' ≡ record (stepped w s (record place { block = Some (length w.blocks); phase = phase.Append key value })) { tables = slice_set w.tables place.shard grown; blocks = blocks }
 
-  -- a find whose growth is refused: no block is listed, no pair changes, and the call goes on to its release
+  -- a find whose growth is refused, of a list that is full and has no pair of the key: no block is listed, no pair changes, and
+  -- the call goes on to its release
   pub record IsRefusedGrowth : Type 0 where
     pub place : Place K V D T A
     pub stands : slice_get w.places s.thread ≡ Some place
@@ -102,8 +114,10 @@ module _ {K V S D T A : Type 0} (x : Setup K V D T) (w : State K V S D T A) (s :
     pub table : Vec (K × V) A
     pub held : slice_get w.tables place.shard ≡ Some table
     pub kept : Vec (K × V) A
-    pub pairs : kept.items ≡ table.items
+    pub absent : pair_of x.eq table.items key ≡ None
     pub full : vec_capacity table ≤ vec_len table
+    pub pairs : kept.items ≡ table.items
+    pub room_stays : vec_capacity kept ≡ vec_capacity table
     pub after : w' ≡ record (stepped w s (record place { phase = phase.Release answer.NoMemory })) { tables = slice_set w.tables place.shard kept }
 
   -- a deed adds the pair
@@ -117,6 +131,7 @@ module _ {K V S D T A : Type 0} (x : Setup K V D T) (w : State K V S D T A) (s :
     pub held : slice_get w.tables place.shard ≡ Some table
     pub changed : Vec (K × V) A
     pub pairs : changed.items ≡ table.items ++ (key, value) ∷ []
+    pub room_stays : vec_capacity changed ≡ vec_capacity table
     pub blocks : List (Block K)
     pub counted : CountsCall w.blocks place.block place.next blocks
     pub after : w' ≡ record (stepped w s (record place { phase = phase.Release answer.None })) { tables = slice_set w.tables place.shard changed; blocks = blocks }
@@ -134,6 +149,7 @@ module _ {K V S D T A : Type 0} (x : Setup K V D T) (w : State K V S D T A) (s :
     pub found : slice_get table.items slot ≡ Some pair
     pub changed : Vec (K × V) A
     pub pairs : changed.items ≡ slice_set table.items slot (pair.0, value)
+    pub room_stays : vec_capacity changed ≡ vec_capacity table
     pub blocks : List (Block K)
     pub counted : CountsCall w.blocks place.block place.next blocks
     pub after : w' ≡ record (stepped w s (record place { phase = phase.Release (answer.Value pair.1) })) { tables = slice_set w.tables place.shard changed; blocks = blocks }
@@ -150,6 +166,7 @@ module _ {K V S D T A : Type 0} (x : Setup K V D T) (w : State K V S D T A) (s :
     pub found : slice_get table.items slot ≡ Some pair
     pub changed : Vec (K × V) A
     pub pairs : changed.items ≡ remove table.items slot
+    pub room_stays : vec_capacity changed ≡ vec_capacity table
     pub blocks : List (Block K)
     pub counted : CountsCall w.blocks place.block place.next blocks
     pub after : w' ≡ record (stepped w s (record place { phase = phase.Release (answer.Pair pair.0 pair.1) })) { tables = slice_set w.tables place.shard changed; blocks = blocks }
@@ -184,6 +201,7 @@ module _ {K V S D T A : Type 0} (x : Setup K V D T) (w : State K V S D T A) (s :
     pub found : slice_get table.items slot ≡ Some pair
     pub changed : Vec (K × V) A
     pub pairs : changed.items ≡ slice_set table.items slot (pair.0, x.deeds.effect deed pair.0 pair.1)
+    pub room_stays : vec_capacity changed ≡ vec_capacity table
     pub blocks : List (Block K)
     pub counted : CountsCall w.blocks place.block place.next blocks
     pub after : w' ≡ record (stepped w s (record place { phase = phase.Answer answer.Done })) { tables = slice_set w.tables place.shard changed; blocks = blocks }

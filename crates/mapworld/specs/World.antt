@@ -6,6 +6,8 @@ use Rattle.std.specs.declared.hash.Hasher as hasher
 use Rattle.mapworld_calls.specs.declared.deed.Deed as deed
 use Rattle.mapworld_calls.specs.Deeds.{Deeds}
 use Rattle.mapworld_calls.specs.Setup.{Setup}
+use Rattle.mapworld_calls.specs.Every.Setup as every
+use Rattle.mapworld_calls.specs.Every.Today.{as_setup}
 use Rattle.mapworld.specs.Route.{key_route}
 use Rattle.mapworld.specs.State.{State}
 
@@ -20,3 +22,7 @@ setup_of d b h eq writes w = record {
   programs = w.programs;
   opening = w.opening;
 }
+
+-- the same with its programs as calls of every kind, which is what the theorem speaks of
+abbrev pub world_setup : {K V S H D T A : Type 0} → deed.Ghosts D K V T → builder.Ghosts S H → hasher.Ghosts H → (K → K → Bool) → (K → HashWrites) → State K V S D T A → every.Setup K V D T
+world_setup d b h eq writes w = as_setup (length w.tables) (setup_of d b h eq writes w)

@@ -1,12 +1,12 @@
 //! The steps that look into a held shard.
-ghost use Rattle.std.specs.Prelude.{◌≡◌, ◌⊎◌, true};
+ghost use Rattle.std.specs.Prelude.{◌≡◌, ◌+◌, ◌≤◌, ◌^◌, ◌⊎◌, true};
 ghost use Rattle.mapworld.specs.declared.place.Phase.TheVariants as phase;
 ghost use Rattle.mapworld.specs.Sound.{Sound};
 ghost use Rattle.mapworld.specs.Running.{has_numbers};
 ghost use Rattle.mapworld.specs.World.{setup_of};
 ghost use Rattle.mapworld.specs.Core.{state_of, Room, IsBefore};
 ghost use Rattle.mapworld.specs.Moves.{request_key};
-ghost use Rattle.mapworld.specs.Steps.{slot_in, has_room, Finds, GrowsList, IsRefusedGrowth};
+ghost use Rattle.mapworld.specs.Steps.{slot_in, has_room, grown_room, Finds, GrowsList, IsRefusedGrowth};
 
 use crate::blocks::{Started, list_block};
 use crate::moves::{block_behind, enter, found_done, found_phase, found_slot, request_key};
@@ -77,6 +77,14 @@ pub(crate) fn find<
     core.steps = core.steps.appended(&step);
 }
 
+/// How many more pairs than it has a full list of so many makes room for: as many, and some at the least.
+fn more_room(pairs: usize) -> usize
+    requires { pairs ≤ 2 ^ 32 }
+    ensures { pairs + result ≡ grown_room pairs }
+{
+    pairs + 4
+}
+
 /// The growth of the held shard's list, or its refusal.
 pub(crate) fn grow<
     K: Eq + Hash + Drop,
@@ -104,7 +112,7 @@ pub(crate) fn grow<
     core.count = number;
     core.steps = core.steps.appended(&step);
     let table = &mut core.tables[place.shard];
-    let Ok(()) = table.reserve(1) else {
+    let Ok(()) = table.reserve_exact(more_room(table.len())) else {
         enter(&mut place.phase, Phase::Release(Answer::NoMemory));
         return;
     };

@@ -1,5 +1,5 @@
 //! A shard's table: a plain list of pairs.
-ghost use Rattle.std.specs.Prelude.{◌≡◌, ◌<◌, position, slice_get, slice_set, vec_len, Some};
+ghost use Rattle.std.specs.Prelude.{◌≡◌, ◌<◌, position, slice_get, slice_set, vec_len, vec_capacity, Some};
 ghost use Rattle.std.specs.Option.{option_and_then};
 ghost use Rattle.mapworld_calls.specs.Pairs.{has_key, pair_of};
 
@@ -30,6 +30,7 @@ pub(crate) fn store_effect<K, V, D: Deed<K, V>, A: Allocator>(
     requires { slot < vec_len table.old }
     ensures items { (pair : K × V) → slice_get table.old.items slot ≡ Some pair → table.new.items ≡ slice_set table.old.items slot (pair.0, D.effect_of deed.now pair.0 pair.1) }
     ensures len { vec_len table.new ≡ vec_len table.old }
+    ensures capacity { vec_capacity table.new ≡ vec_capacity table.old }
 {
     let last = table.len() - 1;
     let (key, value) = table.swap_remove(slot);

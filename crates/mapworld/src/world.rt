@@ -3,16 +3,20 @@ ghost use Rattle.std.specs.Prelude.{◌≡◌, ◌<◌, ◌↔◌, IfOk, IfErr, 
 ghost use Rattle.std.specs.Option.{option_map};
 ghost use Rattle.mapworld_calls.specs.Pairs.{pair_of};
 ghost use Rattle.mapworld.specs.State.{pairs_of, started_of, threads_of};
+ghost use Rattle.mapworld.specs.Route.{key_route};
 ghost use Rattle.mapworld.specs.Running.{status_of, is_running, bound_of, refusal, Ran, steps_done};
-ghost use Rattle.mapworld.specs.Asleep.{IsAsleep};
+ghost use Rattle.mapworld.specs.Asleep.{IsAsleep, IsFinished};
 ghost use Rattle.mapworld.specs.Views.{shown};
 ghost use Rattle.mapworld.specs.Making.{new_refusal, IsMadeUnless, IsNew, StaysFixed};
 ghost use Rattle.mapworld.specs.Faults.{run_fault_done};
 ghost use Rattle.mapworld.specs.Steps.{IsStep};
-ghost use Rattle.mapworld.specs.World.{setup_of};
-ghost use Rattle.mapworld.specs.Sound.{Sound, HoldsMatch};
-ghost use Rattle.mapworld_calls.specs.Agrees.{Agrees};
-ghost use Rattle.mapworld_calls.specs.Placed.{WellPlaced, OnlyAdds};
+ghost use Rattle.mapworld.specs.World.{setup_of, world_setup};
+ghost use Rattle.mapworld.specs.Sound.{Sound};
+ghost use Rattle.mapworld.specs.Held.{HoldsMatch, HoldByPhase};
+ghost use Rattle.mapworld_calls.specs.Placed as today;
+ghost use Rattle.mapworld_calls.specs.Every.Agrees.{Agrees};
+ghost use Rattle.mapworld_calls.specs.Every.Placed.{WellPlaced, OnlyAdds};
+ghost use Rattle.mapworld_calls.specs.Every.Today.{as_reply};
 
 use crate::fault::{RunFault, WorldNewFault};
 use crate::step::{Status, Step};
@@ -97,6 +101,22 @@ impl<K: Eq + Hash, V, S: BuildHasher, D: Deed<K, V>, A: Allocator> MapWorld<K, V
         self.core.places.len()
     }
 
+    /// How many steps were made so far, over the life of the world: the number of the last one. It takes no memory and
+    /// cannot fail.
+    pub fn steps(&self) -> u64
+        ensures { result ≡ length self.now.steps }
+    {
+        self.core.count
+    }
+
+    /// The shard that a key is on, which is also that of every equal key. It takes no memory and cannot fail.
+    pub fn shard_of(&self, key: &K) -> usize
+        ensures value { result ≡ key_route S.BuildHasher S.Hasher.Hasher K.hash_input self.now.hasher (length self.now.tables) key.now }
+        ensures below { result < length self.now.tables }
+    {
+        route::shard_of(&self.core.hasher, self.core.tables.len(), key)
+    }
+
     /// Where a thread stands: `Finished` where all its calls are answered, `Asleep` where it is before an admission that
     /// another thread's hold excludes, and otherwise `Running`. A thread that is asleep is `Running` again once no such
     /// hold is left. It takes no memory and cannot fail.
@@ -106,6 +126,7 @@ impl<K: Eq + Hash, V, S: BuildHasher, D: Deed<K, V>, A: Allocator> MapWorld<K, V
         requires { thread < length self.now.programs }
         ensures value { result ≡ status_of self.now thread }
         ensures asleep { (result ≡ Status.Asleep) ↔ IsAsleep self.now thread }
+        ensures finished { (result ≡ Status.Finished) ↔ IsFinished self.now thread }
     {
         status::status(&self.core, thread)
     }
@@ -170,7 +191,8 @@ where
 {
     /// A world of so many shards that begins with these pairs, and has a thread for each program.
     ///
-    /// Of opening pairs with equal keys the first key and the last value stay. No thread has started.
+    /// Of opening pairs with equal keys the first key and the last value stay. Each thread is before the first call of its
+    /// program, which is queued as it was handed in, and none has started.
     ///
     /// # Errors
     ///
@@ -194,6 +216,9 @@ where
     ) -> Result<MapWorld<K, V, S, D, A>, WorldNewFault>
         ensures refused { IsMadeUnless (new_refusal shards (length pairs.items) (map (λ program. program.items) programs.items)) result }
         ensures made { IfOk result (λ world. IsNew K.eq shards hasher pairs.items (map (λ program. program.items) programs.items) world) }
+        ensures agrees { IfOk result (λ world. Agrees (world_setup D.Deed S.BuildHasher S.Hasher.Hasher K.eq K.hash_input world) world.blocks (pairs_of world) (map as_reply world.replies)) }
+        ensures placed { IfOk result (λ world. WellPlaced (world_setup D.Deed S.BuildHasher S.Hasher.Hasher K.eq K.hash_input world) (threads_of world) (started_of world) world.blocks (map as_reply world.replies)) }
+        ensures held { IfOk result (λ world. HoldsMatch world.places world.holds) }
     {
         if let Some(fault) = limits::refusal(shards, pairs.len(), &programs) {
             return Err(fault);
@@ -237,7 +262,7 @@ where
     fn make_steps(&mut self, steps: &[Step]) -> Result<(), RunFault>
         ensures ran { Ran (setup_of D.Deed S.BuildHasher S.Hasher.Hasher K.eq K.hash_input self.old) 0 self.old (take (steps_done result (length steps.now)) steps.now) self.new }
         ensures refused { IfErr result (λ fault. (step : _) × (slice_get steps.now (run_fault_done fault) ≡ Some step) × (refusal self.new (run_fault_done fault) step ≡ Some fault)) }
-        ensures adds { OnlyAdds (threads_of self.old) (threads_of self.new) self.old.blocks self.new.blocks self.old.replies self.new.replies }
+        ensures adds { today.OnlyAdds (threads_of self.old) (threads_of self.new) self.old.blocks self.new.blocks self.old.replies self.new.replies }
         ensures fixed { StaysFixed self.old self.new }
     {
         let mut done = 0;
@@ -277,11 +302,12 @@ where
     pub fn run(&mut self, steps: &[Step]) -> Result<(), RunFault>
         ensures ran { Ran (setup_of D.Deed S.BuildHasher S.Hasher.Hasher K.eq K.hash_input self.old) 0 self.old (take (steps_done result (length steps.now)) steps.now) self.new }
         ensures refused { IfErr result (λ fault. (step : _) × (slice_get steps.now (run_fault_done fault) ≡ Some step) × (refusal self.new (run_fault_done fault) step ≡ Some fault)) }
-        ensures agrees { Agrees (setup_of D.Deed S.BuildHasher S.Hasher.Hasher K.eq K.hash_input self.new) self.new.blocks (pairs_of self.new) self.new.replies }
-        ensures placed { WellPlaced (setup_of D.Deed S.BuildHasher S.Hasher.Hasher K.eq K.hash_input self.new) (threads_of self.new) (started_of self.new) self.new.blocks self.new.replies }
-        ensures adds { OnlyAdds (threads_of self.old) (threads_of self.new) self.old.blocks self.new.blocks self.old.replies self.new.replies }
+        ensures agrees { Agrees (world_setup D.Deed S.BuildHasher S.Hasher.Hasher K.eq K.hash_input self.new) self.new.blocks (pairs_of self.new) (map as_reply self.new.replies) }
+        ensures placed { WellPlaced (world_setup D.Deed S.BuildHasher S.Hasher.Hasher K.eq K.hash_input self.new) (threads_of self.new) (started_of self.new) self.new.blocks (map as_reply self.new.replies) }
+        ensures adds { OnlyAdds (threads_of self.old) (threads_of self.new) self.old.blocks self.new.blocks (map as_reply self.old.replies) (map as_reply self.new.replies) }
         ensures fixed { StaysFixed self.old self.new }
         ensures held { HoldsMatch self.new.places self.new.holds }
+        ensures by_phase { HoldByPhase self.new.places }
     {
         let result = self.make_steps(steps);
         let _ = &self.core;

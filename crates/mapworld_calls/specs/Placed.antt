@@ -1,5 +1,5 @@
 -- Blocks and replies stand at steps of their own threads, each of a call that was asked and has started.
-use Rattle.std.specs.Prelude.{◌≡◌, ℕ, ◌+◌, ◌-◌, ◌<◌, ◌≤◌, ◌⊎◌, ◌==◌, List, Option, Some, None, slice_get, take, count_by, IsSome, ◌++◌}
+use Rattle.std.specs.Prelude.{◌≡◌, ℕ, ◌+◌, ◌-◌, ◌<◌, ◌≤◌, ◌⊎◌, ◌==◌, List, [], Option, Some, None, slice_get, take, count_by, IsSome, ◌++◌}
 use Rattle.mapworld_calls.specs.declared.ask.Ask.{Ask}
 use Rattle.mapworld_calls.specs.declared.ask.Ask.TheVariants as ask
 use Rattle.mapworld_calls.specs.declared.ask.Held.{Held}
@@ -53,12 +53,14 @@ IsDoneWithin w started replies b (ask.Begin g) = IsSessionDone w started replies
 -- no block is of a call on a guard
 IsDoneWithin w started replies b (ask.Held h) = ⊥
 
--- a block is of a call that was asked and has started, and stands at a step of its own thread between start and end
+-- a block is of a call that was asked and has started, and stands at a step of its own thread between start and end; none is
+-- a visit
 pub record IsPlaced {K V D T : Type 0} (w : Setup K V D T) (steps : List ℕ) (started : ℕ → Option ℕ) (replies : List (Reply K V T)) (b : Block K) : Type 0 where
   pub ask : Ask K V D
   pub asked : ask_at w b.thread b.call ≡ Some ask
   pub done : IsDoneWithin w started replies b ask
   pub visit : b.visit ≡ 0
+  pub visited : b.visited.items ≡ []
   pub start : IsStepOf steps b.thread b.start
   pub position : IsStepOf steps b.thread b.position
   pub order : b.start ≤ b.position
@@ -90,6 +92,7 @@ pub record StaysListed {K : Type 0} (b c : Block K) : Type 0 where
   pub start : c.start ≡ b.start
   pub position : c.position ≡ b.position
   pub done : b.done.value ≤ c.done.value
+  pub visited : c.visited.items ≡ b.visited.items
   pub end : (e : ℕ) → b.end ≡ Some e → c.end ≡ Some e
 
 -- steps, blocks and replies are only added to

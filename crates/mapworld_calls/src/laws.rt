@@ -121,7 +121,7 @@ pub fn places_stay_before<K, V, D: Deed<K, V>>()
 {}
 
 /// The calls that programs have today are calls of every kind: blocks and replies that are well placed among them are so
-/// by the definitions of every call. None of these blocks is a visit, so none has done keys.
+/// by the definitions of every call.
 pub fn placed_as_every_call<K, V, D: Deed<K, V>>()
     ensures { PlacedAsEvery K V D D.Answer }
 {}

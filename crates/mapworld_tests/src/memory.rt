@@ -1,9 +1,10 @@
 //! Worlds on heaps of all small sizes.
 
 use super::worlds::Call::{Get, Insert, Leave};
-use super::worlds::{World, stands, step_round, step_through, step_times, told, world_of};
+use super::worlds::{World, ask_of, stands, step_round, step_through, step_times, told, world_of};
 use linked_list_allocator::LocalHeap;
-use mapworld::{Answer, Status};
+use mapworld::{Answer, MapWorld, SpreadState, Status};
+use std::alloc::Global;
 use std::test::Fail;
 
 /// Whether thread 1 sleeps while thread 0 is in its insertion, and both are finished after it.
@@ -79,4 +80,28 @@ fn hoard(heap: &LocalHeap) -> Vec<u8, &LocalHeap> {
         }
     }
     taken
+}
+
+/// A world of one thread that inserts so many even keys, which are all on one shard.
+fn world_of_insertions(alloc: Global, count: u64) -> Option<World<Global>> {
+    let mut program = Vec::new(alloc);
+    for number in 0..count {
+        program.push(ask_of(Insert(number << 1, number))).ok()?;
+    }
+    let mut programs = Vec::new(alloc);
+    programs.push(program).ok()?;
+    MapWorld::new(alloc, 2, SpreadState, Vec::new(alloc), programs).ok()
+}
+
+#[test]
+fn a_shard_grows_to_thousands_of_pairs(rt: HostRuntime) -> Result<(), Fail> {
+    let mut world = world_of_insertions(rt.alloc(), 3000).ok_or("no world")?;
+    assert!(rt; step_through(&mut world, 0) && stands(&world, 0, Status::Finished));
+    let are_added = world
+        .replies()
+        .iter()
+        .all(|reply| reply.answer == Answer::None);
+    let count = world.contents()?.len();
+    assert!(rt; are_added && count == 3000 && world.pair(&5998) == Some((&5998, &2999)));
+    Ok(())
 }

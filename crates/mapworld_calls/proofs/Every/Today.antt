@@ -1,5 +1,6 @@
 -- What is said of today's calls is said of them as calls of every kind.
-use Rattle.std.proofs.Common.{◌≡◌, ℕ, zero, suc, ◌+◌, ◌-◌, ◌<◌, ◌==◌, ◌⊎◌, inl, inr, cond, if◌then◌else◌, List, [], ◌∷◌, map, take, fold, Option, Some, None, IsSome, IsTrue, slice_get, refl, ap, ap₂, sym, ◌∙◌, subst, arith}
+use Rattle.std.proofs.Common.{◌≡◌, ℕ, zero, suc, ◌+◌, ◌-◌, ◌<◌, ◌≤◌, ◌==◌, ◌⊎◌, inl, inr, Bool, true, false, cond, if◌then◌else◌, List, [], ◌∷◌, ◌++◌, map, take, fold, length, Option, Some, None, IsSome, IsTrue, slice_get, refl, ap, ap₂, sym, ◌∙◌, subst, arith}
+use Rattle.std.specs.List.{sum_by, count_by}
 use Rattle.std.specs.Option.{option_map, option_and_then}
 use Rattle.std.proofs.lemmas.List.{take-map, map-append, append-nil}
 use Rattle.std.proofs.lemmas.List.Sums.{sum_by-cons}
@@ -9,26 +10,30 @@ use Rattle.mapworld_calls.specs.declared.ask.Ask.{Ask}
 use Rattle.mapworld_calls.specs.declared.ask.Ask.TheVariants as ask
 use Rattle.mapworld_calls.specs.declared.ask.Keyed.{Keyed}
 use Rattle.mapworld_calls.specs.declared.ask.Keyed.TheVariants as keyed
+use Rattle.mapworld_calls.specs.declared.ask.Begin.{Begin}
 use Rattle.mapworld_calls.specs.declared.ask.Begin.TheVariants as begin
 use Rattle.mapworld_calls.specs.declared.ask.Held.{Held}
 use Rattle.mapworld_calls.specs.declared.ask.Held.TheVariants as held
 use Rattle.mapworld_calls.specs.declared.block.Block.{Block}
 use Rattle.mapworld_calls.specs.declared.reply.Answer.{Answer}
+use Rattle.mapworld_calls.specs.declared.reply.Answer.TheVariants as answer
 use Rattle.mapworld_calls.specs.declared.reply.Reply.{Reply}
 use Rattle.mapworld_calls.specs.Programs.{key_of, may_grow, session_behind, opening_before}
 use Rattle.mapworld_calls.specs.Calls as today
 use Rattle.mapworld_calls.specs.Setup.{Setup, ask_at, session_of}
 use Rattle.mapworld_calls.specs.Pairs.{opening_pair}
-use Rattle.mapworld_calls.specs.Replay.{after_ask, reached, block_key, is_key, left, contents, at_key, found}
+use Rattle.mapworld_calls.specs.Replay.{after_ask, reached, block_key, is_key, left, contents, at_key, found, told_by}
 use Rattle.mapworld_calls.specs.Agrees as agrees
 use Rattle.mapworld_calls.specs.Placed as placed
 use Rattle.mapworld_calls.specs.Every.Ask.{Ask as AnyAsk}
+use Rattle.mapworld_calls.specs.Every.Ask as any_ask
+use Rattle.mapworld_calls.specs.Every.Answer as any_answer
 use Rattle.mapworld_calls.specs.Every.Calls as every
 use Rattle.mapworld_calls.specs.Every.Setup as every_setup
 use Rattle.mapworld_calls.specs.Every.Replay as every_replay
 use Rattle.mapworld_calls.specs.Every.Agrees as every_agrees
 use Rattle.mapworld_calls.specs.Every.Placed as every_placed
-use Rattle.mapworld_calls.specs.Every.Today.{as_keyed, as_held, as_ask, as_answer, as_reply, as_setup, HaveNoKeys}
+use Rattle.mapworld_calls.specs.Every.Today.{as_keyed, as_begin, as_held, as_ask, as_answer, as_reply, as_setup}
 
 -- the calls of the same numbers
 
@@ -343,14 +348,14 @@ module _ {K V D T : Type 0} (w : Setup K V D T) (shards : ℕ) (steps : List ℕ
   )
   done-as i b (ask.Held k) visit visited h = absurd h
 
-  pub placed-as : HaveNoKeys bs → every_placed.WellPlaced e steps started bs as_replies
-  placed-as none = record {
+  pub placed-as : every_placed.WellPlaced e steps started bs as_replies
+  placed-as = record {
     placed = λ i b at.
         let p = well.placed i b at in
         record {
           ask = as_ask p.ask;
           asked = asked w shards b.thread b.call p.ask p.asked;
-          done = done-as i b p.ask p.visit (none i b at) p.done;
+          done = done-as i b p.ask p.visit p.visited p.done;
           start = p.start;
           position = p.position;
           order = p.order;
@@ -376,8 +381,8 @@ module _ {K V D T : Type 0} (w : Setup K V D T) (shards : ℕ) (steps : List ℕ
 
 -- and is only added to
 pub adds-as : {K V T : Type 0} (steps steps' : List ℕ) (bs bs' : List (Block K)) (replies replies' : List (Reply K V T))
-    → HaveNoKeys bs → HaveNoKeys bs' → placed.OnlyAdds steps steps' bs bs' replies replies' → every_placed.OnlyAdds steps steps' bs bs' (map as_reply replies) (map as_reply replies')
-adds-as steps steps' bs bs' replies replies' none none' h = record {
+    → placed.OnlyAdds steps steps' bs bs' replies replies' → every_placed.OnlyAdds steps steps' bs bs' (map as_reply replies) (map as_reply replies')
+adds-as steps steps' bs bs' replies replies' h = record {
   steps_added = h.steps_added;
   blocks_stay = λ i b at.
       let c = h.blocks_stay i b at in
@@ -392,7 +397,7 @@ adds-as steps steps' bs bs' replies replies' none none' h = record {
           start = s.start;
           position = s.position;
           done = s.done;
-          visited = ([], none' i c.0 c.1 ∙ (sym (none i b at) ∙ sym (append-nil b.visited.items)));
+          visited = ([], s.visited ∙ sym (append-nil b.visited.items));
           end = s.end;
         };
       };

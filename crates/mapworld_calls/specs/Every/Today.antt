@@ -1,5 +1,5 @@
 -- The calls that programs have today, as calls of every kind: each as the call of its name.
-use Rattle.std.specs.Prelude.{◌≡◌, ℕ, List, [], map, Option, Some, slice_get}
+use Rattle.std.specs.Prelude.{◌≡◌, ℕ, List, Option, map}
 use Rattle.mapworld_calls.specs.declared.ask.Ask.{Ask}
 use Rattle.mapworld_calls.specs.declared.ask.Ask.TheVariants as ask
 use Rattle.mapworld_calls.specs.declared.ask.Keyed.{Keyed}
@@ -12,7 +12,7 @@ use Rattle.mapworld_calls.specs.declared.block.Block.{Block}
 use Rattle.mapworld_calls.specs.declared.reply.Answer.{Answer}
 use Rattle.mapworld_calls.specs.declared.reply.Answer.TheVariants as answer
 use Rattle.mapworld_calls.specs.declared.reply.Reply.{Reply}
-use Rattle.mapworld_calls.specs.Setup.{Setup}
+use Rattle.mapworld_calls.specs.Setup.{Setup, Laws}
 use Rattle.mapworld_calls.specs.Agrees.{Agrees}
 use Rattle.mapworld_calls.specs.Placed.{WellPlaced, OnlyAdds}
 use Rattle.mapworld_calls.specs.Every.Keyed.{Keyed as AnyKeyed}
@@ -72,15 +72,11 @@ as_setup shards w = record {
   opening = w.opening;
 }
 
--- no block has done keys, as a visit has
-abbrev pub HaveNoKeys : {K : Type 0} → List (Block K) → Type 0
-HaveNoKeys {K} bs = (i : ℕ) (b : Block K) → slice_get bs i ≡ Some b → b.visited.items ≡ []
-
 -- what is said of today's calls is said of them as calls of every kind
 abbrev pub PlacedAsEvery : Type 0 → Type 0 → Type 0 → Type 0 → Type 0
 PlacedAsEvery K V D T =
     (w : Setup K V D T) (shards : ℕ) (steps : List ℕ) (started : ℕ → Option ℕ) (bs : List (Block K)) (replies : List (Reply K V T))
-    → HaveNoKeys bs → WellPlaced w steps started bs replies
+    → WellPlaced w steps started bs replies
     → every_placed.WellPlaced (as_setup shards w) steps started bs (map as_reply replies)
 
 abbrev pub AgreesAsEvery : Type 0 → Type 0 → Type 0 → Type 0 → Type 0
@@ -92,5 +88,5 @@ AgreesAsEvery K V D T =
 abbrev pub AddsAsEvery : Type 0 → Type 0 → Type 0 → Type 0
 AddsAsEvery K V T =
     (steps steps' : List ℕ) (bs bs' : List (Block K)) (replies replies' : List (Reply K V T))
-    → HaveNoKeys bs → HaveNoKeys bs' → OnlyAdds steps steps' bs bs' replies replies'
+    → OnlyAdds steps steps' bs bs' replies replies'
     → every_placed.OnlyAdds steps steps' bs bs' (map as_reply replies) (map as_reply replies')

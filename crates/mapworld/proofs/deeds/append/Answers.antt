@@ -55,6 +55,7 @@ returns-clause-step g c =
       held = (list_read c.args.core.now.tables.items p.shard c.index_mut-table.result.now c.index_mut-table.ensures.value _ claim.2).0;
       changed = c.push_reserved.new.self;
       pairs = c.push_reserved.ensures.items;
+      room_stays = c.push_reserved.ensures.capacity;
       blocks = c.count_in.new.blocks.items;
       counted = c.count_in.ensures.counted;
       after = rw (c.appended-core.ensures, c.replace.ensures.after) refl;

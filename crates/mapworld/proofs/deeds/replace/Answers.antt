@@ -63,6 +63,7 @@ returns-clause-step g c =
       found = table.1 ∙ ap Some (sym same);
       changed = with_item c.index_mut-table.result.now c.in-Replace.slot (c.index_mut-pair.result.now.0, c.replace-old.new.dest);
       pairs = rw c.replace-old.ensures.after refl;
+      room_stays = refl;
       blocks = c.count_in.new.blocks.items;
       counted = c.count_in.ensures.counted;
       after = rw (c.appended-core.ensures, c.enter.ensures, c.replace-old.ensures.value) refl;

@@ -73,6 +73,7 @@ returns-clause-step g c =
       found = table.1 ∙ ap Some (sym same);
       changed = c.remove-key.new.self;
       pairs = c.remove-key.ensures.items;
+      room_stays = c.remove-key.ensures.capacity;
       blocks = c.count_in.new.blocks.items;
       counted = c.count_in.ensures.counted;
       after = rw (c.appended-core.ensures, c.enter.ensures) refl;

@@ -75,6 +75,7 @@ returns-clause-step g c =
       found = table.1;
       changed = c.store_effect.new.table;
       pairs = c.store_effect.ensures.items lent.0 table.1;
+      room_stays = c.store_effect.ensures.capacity;
       blocks = c.count_in.new.blocks.items;
       counted = c.count_in.ensures.counted;
       after = rw (c.appended-core.ensures, c.replace.ensures.after) refl;

@@ -4,7 +4,7 @@ use Rattle.mapworld.specs.declared.blocks.Started.{Started}
 use Rattle.mapworld.specs.Core.{state_of, owes, lists, adds}
 use Rattle.mapworld.proofs.Rooms.{shifted, same_desks, block_left}
 use Rattle.mapworld.proofs.Facts.{stands_here, phase_here, claim_at, list_read}
-use Rattle.mapworld.proofs.Weights.{one_added, lists_block, pairs_kept}
+use Rattle.mapworld.proofs.Weights.{one_added, lists_block, pairs_kept, pairs_at}
 use Rattle.mapworld.proofs.looks.grow.Goals as goal
 
 pub unreachable-requires : goal.unreachable-requires
@@ -29,6 +29,16 @@ index_mut-table-requires g c =
     let claim = claim_at c.requires.sound c.args.step.thread p here (phase_here b p c.index_mut-place.ensures.value) in
     omega (arith, slice_get_within c.args.core.now.tables.items p.shard claim.3.table claim.3.held, c.args.core.now.tables.ok.0)
 
+pub more_room-requires : goal.more_room-requires
+more_room-requires g c =
+    let b = c.requires.before.2 in
+    let p = c.index_mut-place.result.now in
+    let here = stands_here b p c.index_mut-place.ensures.value in
+    let claim = claim_at c.requires.sound c.args.step.thread p here (phase_here b p c.index_mut-place.ensures.value) in
+    let table = list_read c.args.core.now.tables.items p.shard c.index_mut-table.result.now c.index_mut-table.ensures.value _ claim.3 in
+    let part = pairs_at c.args.core.now.tables.items p.shard c.index_mut-table.result.now table.0 in
+    omega (arith, part, c.requires.room.pairs, c.requires.room.pairs_fit, c.len.ensures, c.index_mut-table.result.now.ok.0)
+
 pub list_block-requires : goal.list_block-requires
 list_block-requires g c =
     let b = c.requires.before.2 in
@@ -43,6 +53,7 @@ returns-clause-step g c =
     let here = stands_here b p c.index_mut-place.ensures.value in
     let before = sym c.replace.ensures.value ∙ c.in-Grow.is in
     let claim = claim_at c.requires.sound c.args.step.thread p here before in
+    let table = list_read c.args.core.now.tables.items p.shard c.index_mut-table.result.now c.index_mut-table.ensures.value _ claim.3 in
     inl (record {
       place = p;
       stands = here;
@@ -50,10 +61,12 @@ returns-clause-step g c =
       value = c.in-Grow.value;
       before = before;
       table = c.index_mut-table.result.now;
-      held = (list_read c.args.core.now.tables.items p.shard c.index_mut-table.result.now c.index_mut-table.ensures.value _ claim.3).0;
-      grown = c.reserve.new.self;
-      pairs = c.reserve.ensures.items;
-      room = omega (arith, c.in-Ok.ensures.ok);
+      held = table.0;
+      grown = c.reserve_exact.new.self;
+      absent = table.1.0;
+      full = table.1.1;
+      pairs = c.reserve_exact.ensures.items;
+      room = omega (arith, c.in-Ok.ensures.capacity_exact, table.1.1, c.more_room.ensures, c.len.ensures);
       blocks = c.list_block.new.blocks.items;
       listed = lists_block (state_of c.args.core.now) c.args.step.thread p (Some 0)
           (record { thread = c.args.step.thread; call = p.next; start = c.in-Some.start }) (c.args.core.now.count + 1) c.list_block.new.blocks.items
@@ -72,7 +85,7 @@ returns-clause-room g c =
     let st : Started = record { thread = c.args.step.thread; call = p.next; start = c.in-Some.start } in
     let added : length c.list_block.new.blocks.items ≡ length c.args.core.now.blocks.items + 1 =
     one_added c.args.core.now.blocks.items st (c.args.core.now.count + 1) c.list_block.new.blocks.items 0 c.list_block.ensures.listed in
-    let kept = pairs_kept c.args.core.now.tables.items p.shard c.index_mut-table.result.now c.reserve.new.self held (ap length c.reserve.ensures.items) in
+    let kept = pairs_kept c.args.core.now.tables.items p.shard c.index_mut-table.result.now c.reserve_exact.new.self held (ap length c.reserve_exact.ensures.items) in
     shifted _ _ c.args.step.thread p (record p { block = Some c.len-index.result; phase = c.enter-2.new.phase }) c.requires.room (record {
       here = here;
       places = refl;
@@ -80,7 +93,7 @@ returns-clause-room g c =
       steps = simp length-append at (ap length c.appended-core.ensures);
       count = refl;
       programs = refl;
-      tables = length-set c.args.core.now.tables.items p.shard c.reserve.new.self;
+      tables = length-set c.args.core.now.tables.items p.shard c.reserve_exact.new.self;
       guards = λ h has. c.requires.room.guards c.args.step.thread p h here has;
       more_guards = omega arith;
       guards_fit = omega arith;
@@ -97,8 +110,8 @@ returns-clause-room g c =
       listed = λ i e. omega (arith, same_Some c.len-index.result i e, c.len-index.ensures, c.args.core.now.blocks.ok.0, added);
     })
 
-pub returns-in_default-reserve-clause-step : goal.returns-in_default-reserve-clause-step
-returns-in_default-reserve-clause-step g c =
+pub returns-in_default-reserve_exact-clause-step : goal.returns-in_default-reserve_exact-clause-step
+returns-in_default-reserve_exact-clause-step g c =
     let b = c.requires.before.2 in
     let p = c.index_mut-place.result.now in
     let here = stands_here b p c.index_mut-place.ensures.value in
@@ -113,21 +126,23 @@ returns-in_default-reserve-clause-step g c =
       before = before;
       table = c.index_mut-table.result.now;
       held = table.0;
-      kept = c.reserve.new.self;
-      pairs = c.reserve.ensures.items;
+      kept = c.reserve_exact.new.self;
+      absent = table.1.0;
       full = table.1.1;
+      pairs = c.reserve_exact.ensures.items;
+      room_stays = c.in_default-reserve_exact.ensures.err;
       after = rw (c.appended-core.ensures, c.enter.ensures) refl;
     })
 
-pub returns-in_default-reserve-clause-room : goal.returns-in_default-reserve-clause-room
-returns-in_default-reserve-clause-room g c =
+pub returns-in_default-reserve_exact-clause-room : goal.returns-in_default-reserve_exact-clause-room
+returns-in_default-reserve_exact-clause-room g c =
     let b = c.requires.before.2 in
     let p = c.index_mut-place.result.now in
     let here = stands_here b p c.index_mut-place.ensures.value in
     let before = sym c.replace.ensures.value ∙ c.in-Grow.is in
     let claim = claim_at c.requires.sound c.args.step.thread p here before in
     let held = (list_read c.args.core.now.tables.items p.shard c.index_mut-table.result.now c.index_mut-table.ensures.value _ claim.3).0 in
-    let kept = pairs_kept c.args.core.now.tables.items p.shard c.index_mut-table.result.now c.reserve.new.self held (ap length c.reserve.ensures.items) in
+    let kept = pairs_kept c.args.core.now.tables.items p.shard c.index_mut-table.result.now c.reserve_exact.new.self held (ap length c.reserve_exact.ensures.items) in
     shifted _ _ c.args.step.thread p (record p { phase = c.enter.new.phase }) c.requires.room (record {
       here = here;
       places = refl;
@@ -135,7 +150,7 @@ returns-in_default-reserve-clause-room g c =
       steps = simp length-append at (ap length c.appended-core.ensures);
       count = refl;
       programs = refl;
-      tables = length-set c.args.core.now.tables.items p.shard c.reserve.new.self;
+      tables = length-set c.args.core.now.tables.items p.shard c.reserve_exact.new.self;
       guards = λ h has. c.requires.room.guards c.args.step.thread p h here has;
       more_guards = omega arith;
       guards_fit = omega arith;

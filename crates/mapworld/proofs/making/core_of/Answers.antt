@@ -1,4 +1,4 @@
-use Rattle.std.proofs.Common.{◌≡◌, ℕ, length, map, sum_by, false, refl, ap, sym, ◌∙◌, subst, arith}
+use Rattle.std.proofs.Common.{◌≡◌, ◌≤◌, ℕ, length, map, sum_by, false, refl, ap, sym, ◌∙◌, subst, arith}
 use Rattle.std.specs.List.{list_all}
 use Rattle.std.proofs.lemmas.List.{length-map}
 use Rattle.mapworld_calls.specs.Programs.{one_guard}
@@ -6,6 +6,7 @@ use Rattle.mapworld.specs.Route.{IsWorldAmount, key_route}
 use Rattle.mapworld.specs.Beginning.{AreAtStart, AreFilled, AreReady}
 use Rattle.mapworld.proofs.Refusals.{accepted, sum_by-map}
 use Rattle.mapworld.proofs.Beginnings.{new-sound, new-contents, new-room}
+use Rattle.mapworld.proofs.Outcomes.{world-agrees, world-placed}
 use Rattle.mapworld.proofs.making.core_of.Goals as goal
 
 pub fill-requires-clause-shards : goal.fill-requires-clause-shards
@@ -23,8 +24,11 @@ returns-clause-sound g c =
     let a = accepted c.args.shards (length c.args.pairs.items) (map (λ program. program.items) c.args.programs.items) c.requires in
     let kept = ap (λ v. map (λ program. program.items) v.items) c.of-kept.ensures in
     let shards = c.in_ok-count.ensures.shards ∙ c.in_ok-tables.ensures.0 in
+    let as_many = length-map c.args.programs.items (λ program. program.items) in
+    let own = c.args.programs.ok.0 in
+    let some : 1 ≤ c.len.result = omega (arith, a.some, as_many, own, c.len.ensures) in
     new-sound g.D.Deed g.S.BuildHasher g.S.Hasher.Hasher g.K.PartialEq.eq g.K.Hash.hash_input _
-    (record { steps = c.new.ensures; holds = λ i desk at. (c.in_ok-desks.ensures.1 i desk at).free; blocks = c.in_ok-blocks.ensures.items; replies = c.in_ok-replies.ensures.items })
+    (record { steps = c.new.ensures; holds = λ i desk at. let r = c.in_ok-desks.ensures.1 i desk at in (r.free, omega (arith, r.limit, some)); blocks = c.in_ok-blocks.ensures.items; replies = c.in_ok-replies.ensures.items })
     (subst (λ n. IsWorldAmount n) (sym shards) a.amount)
     (ap (λ ps. list_all (one_guard false) ps) kept ∙ a.guarded)
     (subst (λ ps. AreAtStart ps c.in_ok-places.places.items) (sym kept) c.in_ok-places.ensures)
@@ -43,6 +47,7 @@ returns-clause-new g c =
       contents_are = new-contents g.D.Deed g.S.BuildHasher g.S.Hasher.Hasher g.K.PartialEq.eq g.K.Hash.hash_input c.args.hasher c.args.pairs.items c.fill.new.tables.items
           g.met.K.Eq.laws g.met.K.Hash.respects_eq (subst (λ n. IsWorldAmount n) (sym shards) a.amount) c.in_ok-count.ensures.filled;
       steps = c.new.ensures;
+      places = c.in_ok-places.ensures;
       holds = record { count = c.in_ok-desks.ensures.0; free = λ i desk at. (c.in_ok-desks.ensures.1 i desk at).free };
       blocks = c.in_ok-blocks.ensures.items;
       replies = c.in_ok-replies.ensures.items;
@@ -60,8 +65,9 @@ returns-clause-room g c =
     let threads : length programs ≡ length (map (λ program. program.items) c.args.programs.items) = ap (λ ps. length ps) kept in
     let as_many = length-map c.args.programs.items (λ program. program.items) in
     let own = c.args.programs.ok.0 in
+    let some : 1 ≤ c.len.result = omega (arith, a.some, as_many, own, c.len.ensures) in
     new-room _
-    (record { steps = c.new.ensures; holds = λ i desk at. (c.in_ok-desks.ensures.1 i desk at).free; blocks = c.in_ok-blocks.ensures.items; replies = c.in_ok-replies.ensures.items })
+    (record { steps = c.new.ensures; holds = λ i desk at. let r = c.in_ok-desks.ensures.1 i desk at in (r.free, omega (arith, r.limit, some)); blocks = c.in_ok-blocks.ensures.items; replies = c.in_ok-replies.ensures.items })
     (subst (λ ps. AreAtStart ps c.in_ok-places.places.items) (sym kept) c.in_ok-places.ensures)
     (record {
       count = refl;
@@ -77,3 +83,15 @@ returns-clause-room g c =
       threads_fit = omega (arith, threads, a.threads);
       shards = subst (λ n. IsWorldAmount n) (sym shards) a.amount;
     })
+
+pub returns-clause-agrees : goal.returns-clause-agrees
+returns-clause-agrees g c =
+    world-agrees g.D.Deed g.S.BuildHasher g.S.Hasher.Hasher g.K.PartialEq.eq g.K.Hash.hash_input _ g.met.K.Eq.laws g.met.K.Hash.respects_eq
+    (returns-clause-sound g c)
+
+pub returns-clause-placed : goal.returns-clause-placed
+returns-clause-placed g c =
+    world-placed g.D.Deed g.S.BuildHasher g.S.Hasher.Hasher g.K.PartialEq.eq g.K.Hash.hash_input _ (returns-clause-sound g c)
+
+pub returns-clause-held : goal.returns-clause-held
+returns-clause-held g c = (returns-clause-sound g c).holds

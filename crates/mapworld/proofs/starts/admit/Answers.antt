@@ -49,17 +49,21 @@ returns-clause-step g c =
     let before = sym c.replace.ensures.value ∙ c.in-Admit.is in
     let claim = claim_at c.requires.sound c.args.step.thread p here before in
     let fits = way_fits c.requires.sound p _ claim.1 in
+    let there = slice_get_read c.args.core.now.desks.items (length c.args.core.now.desks.items) p.shard c.index_mut-desk.result.now refl (omega (arith, fits, c.requires.room.desks)) c.index_mut-desk.ensures.value in
+    let free = still_admitted b p c.index_mut-place.ensures.value c.in-Admit.request before c.requires.before.2 in
+    let left = hold_left c.args.core.now c.args.step.thread p c.requires.room here claim.2 p.shard c.index_mut-desk.result.now there in
     record {
       place = p;
       stands = here;
       request = c.in-Admit.request;
       before = before;
-      admitted = still_admitted b p c.index_mut-place.ensures.value c.in-Admit.request before c.requires.before.2;
+      admitted = free;
       hold = record { shard = p.shard; guard = c.args.core.now.guards; mode = c.mode_of.result };
       hold_is = (refl, c.mode_of.ensures);
       fresh = λ u q h at has e. let below = c.requires.room.guards u q h at has in omega (arith, below, e);
       desk = c.index_mut-desk.result.now;
-      at_shard = slice_get_read c.args.core.now.desks.items (length c.args.core.now.desks.items) p.shard c.index_mut-desk.result.now refl (omega (arith, fits, c.requires.room.desks)) c.index_mut-desk.ensures.value;
+      at_shard = there;
+      granted = rw c.mode_of.ensures (granted c.requires.sound.holds p.shard c.index_mut-desk.result.now there WouldWait (mode_of c.in-Admit.request) c.args.core.now.guards c.requires.room.guards free left.1);
       after = rw (c.appended-core.ensures, c.take_hold.ensures, c.enter.ensures) refl;
     }
 

@@ -8,6 +8,8 @@ use Rattle.mapworld.specs.World.{setup_of}
 use Rattle.mapworld.specs.Faults.{run_fault_done}
 use Rattle.mapworld.proofs.Adding.{step-adds, adds-more, fixed-more}
 use Rattle.mapworld.proofs.Runs.{Ran-more, setup-fixed}
+use Rattle.mapworld.proofs.Setups.{setup-laws}
+use Rattle.mapworld.proofs.Footprints.{step_footprint}
 use Rattle.mapworld.proofs.Faulting.{refusal-done}
 use Rattle.mapworld.proofs.world.MapWorld.make_steps.Goals as goal
 
@@ -40,11 +42,14 @@ loop-step-preserved g c =
     let same = setup-fixed g.D.Deed g.S.BuildHasher g.S.Hasher.Hasher g.K.PartialEq.eq g.K.Hash.hash_input first mid c.loop-step.invariant.fixed in
     let made = subst (λ y. IsStep y mid step new) same m.1 in
     let added = step-adds (setup_of g.D.Deed g.S.BuildHasher g.S.Hasher.Hasher g.K.PartialEq.eq g.K.Hash.hash_input mid) mid step new c.in_ok-make_step.ensures.sound m.1 in
+    let own = setup_of g.D.Deed g.S.BuildHasher g.S.Hasher.Hasher g.K.PartialEq.eq g.K.Hash.hash_input mid in
+    let laws = setup-laws g.D.Deed g.S.BuildHasher g.S.Hasher.Hasher g.K.PartialEq.eq g.K.Hash.hash_input mid g.met.K.Eq.laws g.met.K.Hash.respects_eq in
+    let footprint = step_footprint own laws mid step new c.in_ok-make_step.ensures.sound m.1 in
     let taken : length (take i steps) ≡ i = length-take-le i steps (omega arith) in
     let count : 0 + length (take i steps) ≡ c.loop-step.done = omega (arith, taken, c.loop-step.invariant.done) in
     record {
       ran = subst (λ ss. Ran x 0 first ss new) (sym (take_more steps i (record { thread = 0; fair = false }) lt))
-          (Ran-more x 0 first (take i steps) mid step new c.loop-step.invariant.ran (ap (λ n. refusal mid n step) count ∙ m.0) made);
+          (Ran-more x 0 first (take i steps) mid step new c.loop-step.invariant.ran (ap (λ n. refusal mid n step) count ∙ m.0) made footprint);
       done = ap (λ n. n + 1) c.loop-step.invariant.done;
       adds = adds-more first mid new step c.loop-step.invariant.adds added;
       fixed = fixed-more first mid new c.loop-step.invariant.fixed added.fixed;

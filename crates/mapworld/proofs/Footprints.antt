@@ -1,0 +1,159 @@
+-- Every step keeps to its footprint.
+use Rattle.std.proofs.Common.{◌≡◌, ◌≢◌, ℕ, zero, suc, inl, inr, Bool, true, false, List, [], ◌∷◌, ◌++◌, Option, Some, None, take, slice_get, slice_set, refl, ap, sym, ◌∙◌}
+use Rattle.std.specs.List.{flat_map}
+use Rattle.std.specs.declared.vec.Vec.{Vec}
+use Rattle.std.proofs.lemmas.Option.{same_Some, none-some}
+use Rattle.mapworld_calls.specs.declared.ask.Ask.{Ask}
+use Rattle.mapworld_calls.specs.declared.ask.Ask.TheVariants as ask
+use Rattle.mapworld_calls.specs.declared.ask.Keyed.TheVariants as keyed
+use Rattle.mapworld_calls.specs.declared.ask.Begin.TheVariants as begin
+use Rattle.mapworld_calls.specs.declared.block.Block.{Block}
+use Rattle.mapworld_calls.specs.Setup.{Setup, Laws}
+use Rattle.mapworld_calls.specs.Pairs.{pair_of, opening_pair}
+use Rattle.mapworld_calls.specs.Programs.{key_of}
+use Rattle.mapworld_calls.specs.Replay.{block_key, is_key, left, contents}
+use Rattle.mapworld_calls.specs.Placed.{IsDoneWithin}
+use Rattle.mapworld_calls.proofs.Folds.{fold-replaced}
+use Rattle.mapworld_calls.proofs.Lists.{slice_get-set_other}
+use Rattle.mapworld_calls.proofs.Replays.{left-untouched}
+use Rattle.mapworld.specs.declared.step.Step.{Step}
+use Rattle.mapworld.specs.declared.place.Place.{Place}
+use Rattle.mapworld.specs.State.{State, pairs_of, threads_of, started_of}
+use Rattle.mapworld.specs.Moves.{CountsIn, CountsCall}
+use Rattle.mapworld.specs.Steps.{Appends, Replaces, Takes, Writes, IsStep, start, admit, find, find_grows, find_refused, deed_appends, deed_replaces, deed_takes, deed_reads, deed_writes, release, answers}
+use Rattle.mapworld.specs.Footprint.{OthersKeepPairs, Touches, neither, one_pair, one_desk, HasFootprint}
+use Rattle.mapworld.specs.Sound.{Sound}
+use Rattle.mapworld.proofs.Outcomes.{agrees}
+use Rattle.mapworld.proofs.Sounds.{sound-step}
+
+-- a list that is another value with the same pairs
+same_pairs : {X A : Type 0} (tables : List (Vec X A)) (i : ℕ) (old new : Vec X A) → slice_get tables i ≡ Some old → new.items ≡ old.items
+    → flat_map (λ (v : Vec X A). v.items) (slice_set tables i new) ≡ flat_map (λ (v : Vec X A). v.items) tables
+same_pairs [] i old new at same = refl
+same_pairs {X} {A} (t ∷ ts) zero old new at same =
+    ap (λ xs. xs ++ flat_map (λ (v : Vec X A). v.items) ts) (same ∙ ap (λ (v : Vec X A). v.items) (sym (same_Some t old at)))
+same_pairs (t ∷ ts) (suc i) old new at same = ap (λ xs. t.items ++ xs) (same_pairs ts i old new at same)
+
+-- a call that has a block of its own is handed a key
+asked_key : {K V D T : Type 0} (x : Setup K V D T) (started : ℕ → Option ℕ) (replies : _) (b : Block K) (a : Ask K V D) → IsDoneWithin x started replies b a
+    → (k : K) × (key_of a ≡ Some k)
+asked_key x started replies b (ask.Keyed (keyed.Insert k v)) done = (k, refl)
+asked_key x started replies b (ask.Keyed (keyed.Remove k)) done = (k, refl)
+asked_key x started replies b (ask.Begin (begin.Get k)) done = (k, refl)
+asked_key x started replies b (ask.Begin (begin.GetMut k)) done = (k, refl)
+asked_key x started replies b (ask.Held h) done = absurd done
+
+module _ {K V S D T A : Type 0} (x : Setup K V D T) (laws : Laws x) (w : State K V S D T A) (s : Step) (w' : State K V S D T A) (sound : Sound x w) where
+  block_has_key : (i : ℕ) (b : Block K) → slice_get w.blocks i ≡ Some b → (k : K) × (block_key x b ≡ Some k)
+  block_has_key i b at =
+      let placed = sound.placed.placed i b at in
+      let k = asked_key x (started_of w) w.replies b placed.ask placed.done in
+      (k.0, rw placed.asked k.1)
+
+  -- a block that counts a call in changes nothing at other keys
+  counted_elsewhere : (i : ℕ) (b c : Block K) → slice_get w.blocks i ≡ Some b → (n : ℕ) → CountsIn n b c → (q : K) → is_key x.eq (block_key x b) q ≡ false
+      → contents x (slice_set w.blocks i c) q ≡ contents x w.blocks q
+  counted_elsewhere i b c at n counts q other =
+      let key : block_key x c ≡ block_key x b = rw (counts.thread, counts.call) refl in
+      let o = contents x (take i w.blocks) q in
+      fold-replaced (left x q) (opening_pair x.eq x.opening q) w.blocks i b c at
+      (left-untouched x q o c (ap (λ k. is_key x.eq k q) key ∙ other) ∙ sym (left-untouched x q o b other))
+
+  -- the key of the block that a step counts in
+  touched : K → (o : Option ℕ) (n : ℕ) (bs' : List (Block K)) → CountsCall w.blocks o n bs'
+      → (key : K) × ((q : K) → x.eq key q ≡ false → contents x bs' q ≡ contents x w.blocks q)
+  touched any None n bs' h = (any, λ q other. ap (λ bs. contents x bs q) h)
+  touched any (Some i) n bs' h =
+      let k = block_has_key i h.0 h.2 in
+      (k.0, λ q other. ap (λ bs. contents x bs q) h.4 ∙ counted_elsewhere i h.0 h.1 h.2 n h.3 q (ap (λ o. is_key x.eq o q) k.1 ∙ other))
+
+  -- so the pairs of other keys stay
+  module _ (step : IsStep x w s w') where
+    now_sound : Sound x w'
+    now_sound = sound-step x laws w s w' sound step
+
+    others_keep : (any : K) (o : Option ℕ) (n : ℕ) (bs' : List (Block K)) → CountsCall w.blocks o n bs' → w'.blocks ≡ bs' → (key : K) × OthersKeepPairs x.eq w w' key
+    others_keep any o n bs' counted same =
+        let k = touched any o n bs' counted in (
+          k.0,
+          λ q other.
+              (agrees x laws w' now_sound).contents_are q
+              ∙ (ap (λ bs. contents x bs q) same
+              ∙ (k.1 q other
+              ∙ sym ((agrees x laws w sound).contents_are q))),
+        )
+
+  stays_elsewhere : (p' : Place K V D T A) (t : ℕ) → t ≢ s.thread → slice_get (slice_set w.places s.thread p') t ≡ slice_get w.places t
+  stays_elsewhere p' t ne = slice_get-set_other w.places s.thread t p' (λ e. ne (sym e))
+
+  pub step_footprint : IsStep x w s w' → HasFootprint x.eq w s w'
+  step_footprint (start a) = record {
+    places = λ t ne. ap (λ (v : State K V S D T A). slice_get v.places t) a.after ∙ stays_elsewhere _ t ne;
+    touches = neither (ap pairs_of a.after) (ap (λ (v : State K V S D T A). v.holds) a.after);
+    replies = inl (ap (λ (v : State K V S D T A). v.replies) a.after);
+  }
+  step_footprint (admit a) = record {
+    places = λ t ne. ap (λ (v : State K V S D T A). slice_get v.places t) a.after ∙ stays_elsewhere _ t ne;
+    touches = one_desk a.hold.shard (ap pairs_of a.after)
+        (λ i ne. ap (λ (v : State K V S D T A). slice_get v.holds i) a.after ∙ slice_get-set_other w.holds a.hold.shard i _ (λ e. ne (sym e)));
+    replies = inl (ap (λ (v : State K V S D T A). v.replies) a.after);
+  }
+  step_footprint (find a) = record {
+    places = λ t ne. ap (λ (v : State K V S D T A). slice_get v.places t) a.after ∙ stays_elsewhere _ t ne;
+    touches = neither (ap pairs_of a.after) (ap (λ (v : State K V S D T A). v.holds) a.after);
+    replies = inl (ap (λ (v : State K V S D T A). v.replies) a.after);
+  }
+  step_footprint (find_grows a) = record {
+    places = λ t ne. ap (λ (v : State K V S D T A). slice_get v.places t) a.after ∙ stays_elsewhere _ t ne;
+    touches = neither (ap pairs_of a.after ∙ same_pairs w.tables a.place.shard a.table a.grown a.held a.pairs) (ap (λ (v : State K V S D T A). v.holds) a.after);
+    replies = inl (ap (λ (v : State K V S D T A). v.replies) a.after);
+  }
+  step_footprint (find_refused a) = record {
+    places = λ t ne. ap (λ (v : State K V S D T A). slice_get v.places t) a.after ∙ stays_elsewhere _ t ne;
+    touches = neither (ap pairs_of a.after ∙ same_pairs w.tables a.place.shard a.table a.kept a.held a.pairs) (ap (λ (v : State K V S D T A). v.holds) a.after);
+    replies = inl (ap (λ (v : State K V S D T A). v.replies) a.after);
+  }
+  step_footprint (deed_appends a) =
+      let k = others_keep (deed_appends a) a.key a.place.block a.place.next a.blocks a.counted (ap (λ (v : State K V S D T A). v.blocks) a.after) in
+      record {
+        places = λ t ne. ap (λ (v : State K V S D T A). slice_get v.places t) a.after ∙ stays_elsewhere _ t ne;
+        touches = one_pair k.0 k.1 (ap (λ (v : State K V S D T A). v.holds) a.after);
+        replies = inl (ap (λ (v : State K V S D T A). v.replies) a.after);
+      }
+  step_footprint (deed_replaces a) =
+      let k = others_keep (deed_replaces a) a.pair.0 a.place.block a.place.next a.blocks a.counted (ap (λ (v : State K V S D T A). v.blocks) a.after) in
+      record {
+        places = λ t ne. ap (λ (v : State K V S D T A). slice_get v.places t) a.after ∙ stays_elsewhere _ t ne;
+        touches = one_pair k.0 k.1 (ap (λ (v : State K V S D T A). v.holds) a.after);
+        replies = inl (ap (λ (v : State K V S D T A). v.replies) a.after);
+      }
+  step_footprint (deed_takes a) =
+      let k = others_keep (deed_takes a) a.pair.0 a.place.block a.place.next a.blocks a.counted (ap (λ (v : State K V S D T A). v.blocks) a.after) in
+      record {
+        places = λ t ne. ap (λ (v : State K V S D T A). slice_get v.places t) a.after ∙ stays_elsewhere _ t ne;
+        touches = one_pair k.0 k.1 (ap (λ (v : State K V S D T A). v.holds) a.after);
+        replies = inl (ap (λ (v : State K V S D T A). v.replies) a.after);
+      }
+  step_footprint (deed_reads a) = record {
+    places = λ t ne. ap (λ (v : State K V S D T A). slice_get v.places t) a.after ∙ stays_elsewhere _ t ne;
+    touches = neither (ap pairs_of a.after) (ap (λ (v : State K V S D T A). v.holds) a.after);
+    replies = inl (ap (λ (v : State K V S D T A). v.replies) a.after);
+  }
+  step_footprint (deed_writes a) =
+      let k = others_keep (deed_writes a) a.pair.0 a.place.block a.place.next a.blocks a.counted (ap (λ (v : State K V S D T A). v.blocks) a.after) in
+      record {
+        places = λ t ne. ap (λ (v : State K V S D T A). slice_get v.places t) a.after ∙ stays_elsewhere _ t ne;
+        touches = one_pair k.0 k.1 (ap (λ (v : State K V S D T A). v.holds) a.after);
+        replies = inl (ap (λ (v : State K V S D T A). v.replies) a.after);
+      }
+  step_footprint (release a) = record {
+    places = λ t ne. ap (λ (v : State K V S D T A). slice_get v.places t) a.after ∙ stays_elsewhere _ t ne;
+    touches = one_desk a.hold.shard (ap pairs_of a.after)
+        (λ i ne. ap (λ (v : State K V S D T A). slice_get v.holds i) a.after ∙ slice_get-set_other w.holds a.hold.shard i _ (λ e. ne (sym e)));
+    replies = inl (ap (λ (v : State K V S D T A). v.replies) a.after);
+  }
+  step_footprint (answers a) = record {
+    places = λ t ne. ap (λ (v : State K V S D T A). slice_get v.places t) a.after ∙ stays_elsewhere _ t ne;
+    touches = neither (ap pairs_of a.after) (ap (λ (v : State K V S D T A). v.holds) a.after);
+    replies = inr (_, refl, ap (λ (v : State K V S D T A). v.replies) a.after);
+  }

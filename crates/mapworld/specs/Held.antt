@@ -1,0 +1,42 @@
+-- Which threads hold shards, and what the desks list of it.
+use Rattle.std.specs.Prelude.{◌≡◌, ◌≢◌, ℕ, Bool, true, false, List, Option, Some, is_some, slice_get}
+use Rattle.lock_api_desk.specs.Guards.{Guard}
+use Rattle.lock_api_desk.specs.Desk.{DeskState, IsSound}
+use Rattle.mapworld.specs.declared.holds.Mode.TheVariants.{Shared}
+use Rattle.mapworld.specs.declared.holds.Hold.{Hold}
+use Rattle.mapworld.specs.declared.place.Phase.{Phase}
+use Rattle.mapworld.specs.declared.place.Phase.TheVariants as phase
+use Rattle.mapworld.specs.declared.place.Place.{Place}
+use Rattle.mapworld.specs.Holds.{Desks, guard_for}
+
+-- the guards at the desks are the holds of the threads and no others, each under a guard number of its own, and no two holds
+-- exclude each other; and each desk is sound: it lists a number once, and its guards go together and are within its limit
+pub record HoldsMatch {K V D T A : Type 0} (places : List (Place K V D T A)) (holds : Desks) : Type 0 where
+  pub listed : (t : ℕ) (p : Place K V D T A) (h : Hold) → slice_get places t ≡ Some p → p.hold ≡ Some h
+      → (desk : DeskState (Unit {0})) × (i : ℕ) × (slice_get holds h.shard ≡ Some desk) × (slice_get desk.guards i ≡ Some (guard_for t h))
+  pub owned : (s i : ℕ) (desk : DeskState (Unit {0})) (g : Guard) → slice_get holds s ≡ Some desk → slice_get desk.guards i ≡ Some g
+      → (p : Place K V D T A) × (h : Hold) × (slice_get places g.party ≡ Some p) × (p.hold ≡ Some h) × (h.shard ≡ s) × (g ≡ guard_for g.party h)
+  pub apart : (t u : ℕ) (p q : Place K V D T A) (a b : Hold) → slice_get places t ≡ Some p → slice_get places u ≡ Some q → p.hold ≡ Some a → q.hold ≡ Some b → a.guard ≡ b.guard → t ≡ u
+  pub compatible : (t u : ℕ) (p q : Place K V D T A) (a b : Hold) → t ≢ u → slice_get places t ≡ Some p → slice_get places u ≡ Some q → p.hold ≡ Some a → q.hold ≡ Some b → a.shard ≡ b.shard
+      → (a.mode ≡ Shared) × (b.mode ≡ Shared)
+  pub sound : (s : ℕ) (desk : DeskState (Unit {0})) → slice_get holds s ≡ Some desk → IsSound desk.limit desk.guards
+
+-- whether a thread before that phase has a hold: it has one from its admission to its release, and between two calls and
+-- before an answer where it has a guard
+abbrev pub holds_before : {K V D T : Type 0} → Option ℕ → Phase K V D T → Bool
+holds_before guard phase.Rest = is_some guard
+holds_before guard (phase.Admit r) = false
+holds_before guard (phase.Find r) = true
+holds_before guard (phase.Grow k v) = true
+holds_before guard (phase.Append k v) = true
+holds_before guard (phase.Replace i v) = true
+holds_before guard (phase.Take i) = true
+holds_before guard (phase.Read d) = true
+holds_before guard (phase.Write d) = true
+holds_before guard (phase.Release a) = true
+holds_before guard (phase.Answer a) = is_some guard
+
+-- exactly those threads have holds
+abbrev pub HoldByPhase : {K V D T A : Type 0} → List (Place K V D T A) → Type 0
+HoldByPhase {K} {V} {D} {T} {A} places =
+    (t : ℕ) (p : Place K V D T A) → slice_get places t ≡ Some p → is_some p.hold ≡ holds_before p.slot p.phase
