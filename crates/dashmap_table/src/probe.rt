@@ -198,16 +198,35 @@ pub(crate) fn find_or_place<K: Eq, V>(
     find_or_place_on_way(tags, slots, hash, key)
 }
 
-/// The tag of a slot whose entry goes: it is empty again where its window has another empty slot, so that no way goes on
-/// past it.
-#[inline(always)]
-pub(crate) fn freed_tag(tags: &[u8], slot: usize) -> u8
+/// `freed_tag` in a table with fewer slots than a window.
+#[cold]
+#[inline(never)]
+fn freed_tag_of_few(tags: &[u8], slot: usize) -> u8
     requires { slot < length tags.now }
     ensures free { IsFree result }
     ensures ends { IsEmpty result → (l : ℕ) × (l < length tags.now) × (l / 16 ≡ slot / 16) × IsEmpty (slice_index tags.now l) }
 {
     let from = slot / WIDTH * WIDTH;
     match lanes_at(tags, from, Wanted::Tag(EMPTY)).first() {
+        Some(_) => EMPTY,
+        None => REMOVED,
+    }
+}
+
+/// The tag of a slot whose entry goes: it is empty again where its window has another empty slot, so that no way goes on
+/// past it.
+#[inline(always)]
+pub(crate) fn freed_tag(tags: &[u8], slot: usize) -> u8
+    requires within { slot < length tags.now }
+    requires whole { IsWhole tags.now }
+    ensures free { IsFree result }
+    ensures ends { IsEmpty result → (l : ℕ) × (l < length tags.now) × (l / 16 ≡ slot / 16) × IsEmpty (slice_index tags.now l) }
+{
+    if tags.len() < WIDTH {
+        return freed_tag_of_few(tags, slot);
+    }
+    let from = slot / WIDTH * WIDTH;
+    match whole_lanes_at(tags, from, Wanted::Tag(EMPTY)).first() {
         Some(_) => EMPTY,
         None => REMOVED,
     }

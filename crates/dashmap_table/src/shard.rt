@@ -62,6 +62,7 @@ impl<K: Eq + Hash, V, A: Allocator> Shard<K, V, A> {
     ///
     /// The slot is good for the calls that take one until the shard is changed by an insertion of a new key, `reserve` or
     /// `shrink`. A removal moves no other pair.
+    #[inline(always)]
     pub fn find(&self, hash: u64, key: &K) -> Option<usize>
         ensures slot { result ≡ slot_of K.eq self.now.slots hash key.now }
         ensures equal { IfSome result (λ i. IfSome (at self.now.slots i) (λ e. (e.hash ≡ hash) × IsTrue (K.eq e.key key.now))) }
@@ -77,6 +78,7 @@ impl<K: Eq + Hash, V, A: Allocator> Shard<K, V, A> {
     /// shard has to grow, which may move pairs; where it can't, the pair comes back and nothing has changed.
     ///
     /// Equal keys have to come with equal hashes, or the shard keeps both.
+    #[inline(always)]
     pub fn insert(&mut self, hash: u64, key: K, value: V) -> Result<(usize, Option<V>), (K, V)>
     where
         K: Drop,
@@ -95,6 +97,7 @@ impl<K: Eq + Hash, V, A: Allocator> Shard<K, V, A> {
 
     /// Puts a pair in whose key isn't there, and answers its slot. There has to be room, so it can't be refused and asks for no
     /// memory. Where `find` and `reserve` went before, an insertion looks through the shard no more than it has to.
+    #[inline(always)]
     pub fn add(&mut self, hash: u64, key: K, value: V) -> usize
     where
         K: Drop,
@@ -108,6 +111,7 @@ impl<K: Eq + Hash, V, A: Allocator> Shard<K, V, A> {
     }
 
     /// Takes the pair out of a slot and frees the slot; `None` where it is free. No other pair moves.
+    #[inline(always)]
     pub fn remove(&mut self, slot: usize) -> Option<(K, V)>
         ensures pair { result ≡ option_map pair_of (at self.old.slots slot) }
         ensures frees { Frees self.old self.new slot }
@@ -131,6 +135,7 @@ impl<K: Eq + Hash, V, A: Allocator> Shard<K, V, A> {
     }
 
     /// Lends the pair of a full slot.
+    #[inline(always)]
     pub fn pair(&self, slot: usize) -> Option<(&K, &V)>
         ensures { option_map (λ p. (p.0.now, p.1.now)) result ≡ option_map pair_of (at self.now.slots slot) }
     {
@@ -156,6 +161,7 @@ impl<K: Eq + Hash, V, A: Allocator> Shard<K, V, A> {
 
     /// `pair_mut` for a slot that is known to be full. It is for the layer above, which keeps the slot of a pair while it
     /// holds the shard: afterwards the slot has the value that was written, and nothing else has changed.
+    #[inline(always)]
     pub fn lend(&mut self, slot: usize) -> (&K, &mut V)
         requires { IsSome (at self.old.slots slot) }
         ensures* writes_back { sem 𝓛 (lends_slot K.row V.row A.row K.Hash A.Allocator self.entry slot result.1) }
@@ -164,6 +170,7 @@ impl<K: Eq + Hash, V, A: Allocator> Shard<K, V, A> {
         self.table.lend(slot)
     }
 
+    #[inline(always)]
     pub(crate) fn is_full(&self, slot: usize) -> bool
         ensures { result ≡ is_some (at self.now.slots slot) }
     {
@@ -171,6 +178,7 @@ impl<K: Eq + Hash, V, A: Allocator> Shard<K, V, A> {
     }
 
     /// Lends the value of a full slot for writing.
+    #[inline(always)]
     pub(crate) fn lend_value(&mut self, slot: usize) -> &mut V
         requires { IsSome (at self.old.slots slot) }
         ensures* writes_back { sem 𝓛 (lends_slot K.row V.row A.row K.Hash A.Allocator self.entry slot result) }
@@ -181,6 +189,7 @@ impl<K: Eq + Hash, V, A: Allocator> Shard<K, V, A> {
 
     /// Lends the value of a full slot for writing. Afterwards the slot has the value that was written, and nothing else has
     /// changed.
+    #[inline(always)]
     pub fn value_mut(&mut self, slot: usize) -> Option<&mut V>
         ensures* writes_back { sem 𝓛 (lends_slot_if K.row V.row A.row K.Hash A.Allocator self.entry slot result) }
         ensures value { option_copied_mut result ≡ option_map (λ e. e.value) (at self.old.slots slot) }
@@ -189,6 +198,7 @@ impl<K: Eq + Hash, V, A: Allocator> Shard<K, V, A> {
     }
 
     /// The hash that is kept with the pair of a full slot.
+    #[inline(always)]
     pub fn hash_of(&self, slot: usize) -> Option<u64>
         ensures { result ≡ option_map (λ e. e.hash) (at self.now.slots slot) }
     {
@@ -206,6 +216,7 @@ impl<K: Eq + Hash, V, A: Allocator> Shard<K, V, A> {
     }
 
     /// How many slots there are, full and free.
+    #[inline(always)]
     pub fn slots(&self) -> usize
         ensures { result ≡ length self.now.slots }
     {
@@ -215,6 +226,7 @@ impl<K: Eq + Hash, V, A: Allocator> Shard<K, V, A> {
     /// Which of the sixteen slots from one on are full.
     ///
     /// Where a walk removes nothing it may go from sixteen slots to the next sixteen, instead of asking for each by `next_from`.
+    #[inline(always)]
     pub fn full_from(&self, slot: usize) -> Lanes
         requires { slot ≤ length self.now.slots }
         ensures { (k : ℕ) → HasLane result k ↔ ((k < 16) × IsSome (at self.now.slots (slot + k))) }
@@ -258,6 +270,7 @@ impl<K: Eq + Hash, V, A: Allocator> Shard<K, V, A> {
     }
 
     /// How many pairs there are.
+    #[inline(always)]
     pub fn len(&self) -> usize
         ensures count { result ≡ count self.now.slots }
         ensures sound { IsSound K.eq self.now }

@@ -136,6 +136,7 @@ impl<K: Eq + Hash, V, A: Allocator> TagTable<K, V, A> {
         })
     }
 
+    #[inline(always)]
     pub(crate) fn find(&self, hash: u64, key: &K) -> Option<usize>
         ensures slot { result ≡ slot_of K.eq self.now.slots hash key.now }
         ensures equal { IfSome result (λ i. IfSome (at self.now.slots i) (λ e. (e.hash ≡ hash) × IsTrue (K.eq e.key key.now))) }
@@ -144,6 +145,7 @@ impl<K: Eq + Hash, V, A: Allocator> TagTable<K, V, A> {
         find_slot(self.tags.as_slice(), self.slots.as_slice(), hash, key)
     }
 
+    #[inline(always)]
     pub(crate) fn len(&self) -> usize
         ensures count { result ≡ count self.now.slots }
         ensures sound { IsSound K.eq self.now }
@@ -158,6 +160,7 @@ impl<K: Eq + Hash, V, A: Allocator> TagTable<K, V, A> {
         self.full + self.left
     }
 
+    #[inline(always)]
     pub(crate) fn pair(&self, slot: usize) -> Option<(&K, &V)>
         ensures { option_map (λ p. (p.0.now, p.1.now)) result ≡ option_map pair_of (at self.now.slots slot) }
     {
@@ -167,12 +170,14 @@ impl<K: Eq + Hash, V, A: Allocator> TagTable<K, V, A> {
         }
     }
 
+    #[inline(always)]
     pub(crate) fn is_full(&self, slot: usize) -> bool
         ensures { result ≡ is_some (at self.now.slots slot) }
     {
         matches!(self.slots.get(slot), Some(Some(_)))
     }
 
+    #[inline(always)]
     pub(crate) fn hash_of(&self, slot: usize) -> Option<u64>
         ensures { result ≡ option_map (λ e. e.hash) (at self.now.slots slot) }
     {
@@ -188,12 +193,14 @@ impl<K: Eq + Hash, V, A: Allocator> TagTable<K, V, A> {
         full_slot_from(self.tags.as_slice(), slot)
     }
 
+    #[inline(always)]
     pub(crate) fn slots(&self) -> usize
         ensures { result ≡ length self.now.slots }
     {
         self.slots.len()
     }
 
+    #[inline(always)]
     pub(crate) fn full_from(&self, slot: usize) -> Lanes
         requires { slot ≤ length self.now.slots }
         ensures { (k : ℕ) → HasLane result k ↔ ((k < 16) × IsSome (at self.now.slots (slot + k))) }
@@ -201,6 +208,7 @@ impl<K: Eq + Hash, V, A: Allocator> TagTable<K, V, A> {
         lanes_at(self.tags.as_slice(), slot, Wanted::Full)
     }
 
+    #[inline(always)]
     pub(crate) fn remove(&mut self, slot: usize) -> Option<(K, V)>
         ensures pair { result ≡ option_map pair_of (at self.old.slots slot) }
         ensures frees { Frees self.old self.new slot }
@@ -235,6 +243,7 @@ impl<K: Eq + Hash, V, A: Allocator> TagTable<K, V, A> {
     }
 
     /// Puts a value into a full slot and gives the one that was there.
+    #[inline(always)]
     fn replace_value(&mut self, slot: usize, value: V) -> Option<V>
     where
         V: Drop,
@@ -249,6 +258,7 @@ impl<K: Eq + Hash, V, A: Allocator> TagTable<K, V, A> {
     }
 
     /// Puts an entry that isn't found into the first free slot on its way.
+    #[inline(always)]
     pub(crate) fn add(&mut self, entry: Entry<K, V>) -> usize
     where
         K: Drop,
@@ -265,6 +275,7 @@ impl<K: Eq + Hash, V, A: Allocator> TagTable<K, V, A> {
     }
 
     /// Lends the value of a full slot for writing, beside its key.
+    #[inline(always)]
     pub(crate) fn lend(&mut self, slot: usize) -> (&K, &mut V)
         requires { IsSome (at self.old.slots slot) }
         ensures* writes_back { sem 𝓛 (lends_tagged K.row V.row A.row K.Hash A.Allocator self.entry slot result.1) }
@@ -273,6 +284,7 @@ impl<K: Eq + Hash, V, A: Allocator> TagTable<K, V, A> {
         lend_pair(&mut self.slots[slot])
     }
 
+    #[inline(always)]
     pub(crate) fn lend_value(&mut self, slot: usize) -> &mut V
         requires { IsSome (at self.old.slots slot) }
         ensures* writes_back { sem 𝓛 (lends_tagged K.row V.row A.row K.Hash A.Allocator self.entry slot result) }
@@ -281,6 +293,7 @@ impl<K: Eq + Hash, V, A: Allocator> TagTable<K, V, A> {
         lend_value(&mut self.slots[slot])
     }
 
+    #[inline(always)]
     pub(crate) fn value_mut(&mut self, slot: usize) -> Option<&mut V>
         ensures* writes_back { sem 𝓛 (lends_tagged_if K.row V.row A.row K.Hash A.Allocator self.entry slot result) }
         ensures value { option_copied_mut result ≡ option_map (λ e. e.value) (at self.old.slots slot) }
@@ -411,6 +424,7 @@ impl<K: Eq + Hash, V, A: Allocator> TagTable<K, V, A> {
         }
     }
 
+    #[inline(always)]
     pub(crate) fn insert(
         &mut self,
         hash: u64,

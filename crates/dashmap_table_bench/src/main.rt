@@ -5,7 +5,7 @@
 //! difference of two counts, divided by the number of keys.
 //!
 //! With `st` it prints a line for each call of one bare shard with 1,000,000 keys, and with 1,000: its name and how many
-//! nanoseconds the call takes.
+//! nanoseconds the call takes. The first line is for a loop that makes and hashes keys and calls nothing.
 #![tactic(auto)]
 
 mod clock;
@@ -39,6 +39,7 @@ fn line(
 
 fn lines(rt: &HostRuntime) -> io::Result<()> {
     let mut bare = Bare::new(rt.alloc());
+    line(rt, &mut bare, "st.loop.table", Deed::Mix, MANY, MANY)?;
     line(rt, &mut bare, "st.insert.table", Deed::Insert, MANY, MANY)?;
     line(rt, &mut bare, "st.get_hit.table", Deed::Hit, MANY, MANY)?;
     line(rt, &mut bare, "st.get_miss.table", Deed::Miss, MANY, MANY)?;

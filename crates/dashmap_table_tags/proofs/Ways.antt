@@ -6,7 +6,7 @@ use Rattle.dashmap_table_tags.specs.Way.{home, round, on_way, windows_of}
 
 pub home-below : (n h : ℕ) → 0 < n → home n h < n
 unfolding home
-home-below n h some = omega (arith, some, and_le_r h (n - 1))
+home-below n h some = omega (arith, some, and_le_r (h / 16) (n - 1))
 
 round-on : (n a k : ℕ) → a + k < n → round n a k ≡ a + k
 round-on n a k on = cond-true (nat_lt (a + k) n) (a + k) (a + k - n) (lt-ltb (a + k) n on)
@@ -50,8 +50,8 @@ pub first-on_way : (n h : ℕ) → 0 < n → on_way n h 0 ≡ home n h
 first-on_way n h some = round-on n (home n h) 0 (omega (arith, home-below n h some)) ∙ omega arith
 
 -- among whole windows, the first on a way is told by as many of the hash's bits as there are windows
-pub first-window : (slots h : ℕ) → 16 ≤ slots → slots % 16 ≡ 0 → on_way (windows_of slots) h 0 ≡ bit_and h (slots / 16 - 1)
+pub first-window : (slots h : ℕ) → 16 ≤ slots → slots % 16 ≡ 0 → on_way (windows_of slots) h 0 ≡ bit_and (h / 16) (slots / 16 - 1)
 unfolding home
 first-window slots h many whole =
     let windows : windows_of slots ≡ slots / 16 = omega (arith, whole) in
-    first-on_way (windows_of slots) h (omega (arith, many)) ∙ ap (λ m. bit_and h (m - 1)) windows
+    first-on_way (windows_of slots) h (omega (arith, many)) ∙ ap (λ m. bit_and (h / 16) (m - 1)) windows

@@ -10,9 +10,9 @@ tag_of hash = hash / 2 ^ 57
 abbrev pub windows_of : ℕ → ℕ
 windows_of slots = (slots + 15) / 16
 
--- where a hash is looked for first
+-- where a hash is looked for first: as many of its bits as tell a window, from the fifth on
 unfoldable pub home : ℕ → ℕ → ℕ
-home windows hash = bit_and hash (windows - 1)
+home windows hash = bit_and (hash / 16) (windows - 1)
 
 -- where it is looked for after so many windows: round from the first
 abbrev pub round : ℕ → ℕ → ℕ → ℕ

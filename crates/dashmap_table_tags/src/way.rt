@@ -36,11 +36,12 @@ pub fn first_on_way(hash: u64, slots: usize) -> usize
     ensures window { result ≡ 16 * on_way (windows_of slots) hash 0 }
     ensures within { result + 16 ≤ slots }
 {
-    WIDTH * (hash as usize & (slots / WIDTH - 1))
+    WIDTH * ((hash / 16) as usize & (slots / WIDTH - 1))
 }
 
-/// The window that is looked through for a hash after so many others. The first one is chosen by the hash's lowest bits,
-/// and each further one is the one behind, with the first behind the last.
+/// The window that is looked through for a hash after so many others. The first one is chosen by the hash's bits from the
+/// fifth on, so that the number of its first slot is the hash with some bits left out. Each further one is the one behind,
+/// with the first behind the last.
 #[inline(always)]
 pub fn window_on_way(hash: u64, passed: usize, windows: usize) -> usize
     requires within { passed < windows }
@@ -48,7 +49,7 @@ pub fn window_on_way(hash: u64, passed: usize, windows: usize) -> usize
     ensures window { result ≡ on_way windows hash passed }
     ensures within { result < windows }
 {
-    let window = (hash as usize & (windows - 1)) + passed;
+    let window = ((hash / 16) as usize & (windows - 1)) + passed;
     if window < windows {
         window
     } else {

@@ -16,6 +16,8 @@ pub struct Bare<A: Allocator> {
 /// What is done with each key.
 #[derive(Clone, Copy, PartialEq, Eq)]
 pub enum Deed {
+    /// The key is made and hashed, and no more: what the others take beside their calls.
+    Mix,
     /// A new key is put in.
     Insert,
     /// A key that is there is looked for.
@@ -26,7 +28,7 @@ pub enum Deed {
     Walk,
     /// Each key is taken out.
     Remove,
-    /// A new key is put in and taken out.
+    /// A new key is put in and taken out, which are two calls.
     Churn,
 }
 
@@ -53,6 +55,17 @@ impl<A: Allocator> Bare<A> {
             shard: Shard::new(alloc),
             hasher: BuildHasherDefault::new(),
         }
+    }
+
+    /// The sum of the hashes of so many keys.
+    fn mix_all(&self, count: u64, keys: u64) -> u64 {
+        let mut sum = 0u64;
+        let mut turn = 0u64;
+        for _ in 0..count {
+            sum = sum.wrapping_add(self.hasher.hash_one(&spread(turn)));
+            turn = behind(turn, keys);
+        }
+        sum
     }
 
     #[inline(always)]
@@ -115,7 +128,7 @@ impl<A: Allocator> Bare<A> {
         sum
     }
 
-    /// Puts keys in that aren't there, and takes each out before the next.
+    /// Puts so many keys in that aren't there, and takes each out before the next.
     fn churn(&mut self, count: u64, keys: u64) -> Result<u64, Fault>
     where
         A: Clone,
@@ -159,18 +172,19 @@ impl<A: Allocator> Bare<A> {
         sum
     }
 
-    /// Does something with so many keys, of which the shard has so many by turns, and answers a sum of what it saw.
+    /// Makes so many calls with keys, of which there are so many by turns, and answers a sum of what it saw.
     pub fn run(&mut self, deed: Deed, count: u64, keys: u64) -> Result<u64, Fault>
     where
         A: Clone,
     {
         match deed {
+            Deed::Mix => Ok(self.mix_all(count, keys)),
             Deed::Insert => self.put_all(count, keys),
             Deed::Hit => Ok(self.look_up_all(0, count, keys)),
             Deed::Miss => Ok(self.look_up_all(keys, count, keys)),
             Deed::Walk => Ok(self.walked()),
             Deed::Remove => Ok(self.take_all(count, keys)),
-            Deed::Churn => self.churn(count, keys),
+            Deed::Churn => self.churn(count / 2, keys),
         }
     }
 }
