@@ -1,6 +1,6 @@
 //! Two callers at a map of two shards, and their notes doctored in each way.
 use dashmap_record_history::{Call, CallReply, Entered, GatherFault, gather};
-use dashmap_table::route;
+use dashmap_table::{is_shard_amount, route};
 use std::alloc::{AllocError, Allocator};
 use std::hash::{BuildHasher, BuildHasherDefault, FoldHasher};
 use std::test::Fail;
@@ -15,7 +15,7 @@ type Lists<A> = Vec<Vec<Entry, A>, A>;
 fn key_on(shard: usize) -> u64 {
     let hasher = Fold::new();
     for key in 0..64u64 {
-        if route(hasher.hash_one(key), 2) == shard {
+        if is_shard_amount(2) && route(hasher.hash_one(key), 2) == shard {
             return key;
         }
     }
