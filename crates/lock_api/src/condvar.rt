@@ -9,7 +9,9 @@ use crate::mutex::{LockedMutex, Mutex, MutexGuard};
 use crate::timed_out::WaitTimeoutResult;
 use core::mem;
 use lock_api_guards::{Access, Guard};
-use lock_api_raw::{RawCondvar, RawCondvarTimed, RawMutex, RawMutexTimed, TableFull, WaitFault};
+use lock_api_raw::{
+    MakeCondvar, RawCondvar, RawCondvarTimed, RawMutex, RawMutexTimed, TableFull, WaitFault,
+};
 use std::fmt;
 use std::fmt::Debug;
 use std::rt::Clock;
@@ -65,14 +67,20 @@ where
     <C::RawMutex as RawMutex>::Runtime: Wait,
 {
     /// One on which nobody waits.
-    pub fn new(source: C::Source) -> Result<Condvar<C>, TableFull> {
+    pub fn new<S>(source: S) -> Result<Condvar<C>, TableFull>
+    where
+        C: MakeCondvar<S>,
+    {
         Ok(Condvar {
             raw: C::new(source)?,
         })
     }
 
     /// The same as `new`.
-    pub fn default(source: C::Source) -> Result<Condvar<C>, TableFull> {
+    pub fn default<S>(source: S) -> Result<Condvar<C>, TableFull>
+    where
+        C: MakeCondvar<S>,
+    {
         Condvar::new(source)
     }
 

@@ -32,10 +32,11 @@ pub use lock_api_desk::{
 };
 pub use lock_api_guards::{ArcGuard, Guard, Mapped};
 pub use lock_api_raw::{
-    GetThreadId, GuardNoSend, GuardSend, NoMemory, Projection, RawCondvar, RawCondvarTimed,
-    RawMutex, RawMutexFair, RawMutexTimed, RawRwLock, RawRwLockDowngrade, RawRwLockFair,
-    RawRwLockTimed, RawRwLockUpgrade, RawRwLockUpgradeDowngrade, RawRwLockUpgradeFair,
-    RawRwLockUpgradeTimed, ReadersFull, TableFull, Then, TotalProjection, WaitFault,
+    GetThreadId, GuardNoSend, GuardSend, MakeCondvar, MakeLock, NoMemory, Projection, RawCondvar,
+    RawCondvarTimed, RawMutex, RawMutexFair, RawMutexTimed, RawRwLock, RawRwLockDowngrade,
+    RawRwLockFair, RawRwLockTimed, RawRwLockUpgrade, RawRwLockUpgradeDowngrade,
+    RawRwLockUpgradeFair, RawRwLockUpgradeTimed, ReadersFull, TableFull, Then, TotalProjection,
+    WaitFault,
 };
 pub use lock_api_rw::{
     ArcRwLockReadGuard, ArcRwLockUpgradableReadGuard, ArcRwLockWriteGuard, MappedRwLockReadGuard,

@@ -2,7 +2,7 @@
 ghost use Rattle.std.specs.Prelude.{◌≡◌, IfSome, IfOk};
 
 use lock_api_guards::{Access, FairHold, Guard, Hold, Mapped, MutexHold};
-use lock_api_raw::{RawMutex, RawMutexFair, RawMutexTimed, TableFull};
+use lock_api_raw::{MakeLock, RawMutex, RawMutexFair, RawMutexTimed, TableFull};
 use std::fmt::Debug;
 use std::rt::Clock;
 use std::sync::Wait;
@@ -40,8 +40,9 @@ pub type MappedMutexGuard<'l, R, T, P> = Mapped<sync::MutexGuard<'l, T>, LockedM
 
 impl<R: RawMutex, T> Mutex<R, T> {
     /// Makes an unlocked mutex. A refusal drops the value.
-    pub fn new(source: R::Source, value: T) -> Result<Mutex<R, T>, TableFull>
+    pub fn new<S>(source: S, value: T) -> Result<Mutex<R, T>, TableFull>
     where
+        R: MakeLock<S>,
         T: Drop,
     {
         let raw = R::new(source, 1)?;
@@ -49,8 +50,9 @@ impl<R: RawMutex, T> Mutex<R, T> {
     }
 
     /// As `new`, with the value's default.
-    pub fn default(source: R::Source) -> Result<Mutex<R, T>, TableFull>
+    pub fn default<S>(source: S) -> Result<Mutex<R, T>, TableFull>
     where
+        R: MakeLock<S>,
         T: Default + Drop,
     {
         Mutex::new(source, T::default())

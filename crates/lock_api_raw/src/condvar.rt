@@ -2,7 +2,7 @@
 ghost use Rattle.std.specs.Prelude.{◌≡◌, Bool, true, false, Err, IsOk};
 ghost use Rattle.lock_api_raw.specs.Waits.{IsRefusedRightly};
 
-use crate::fault::{TableFull, WaitFault};
+use crate::fault::WaitFault;
 use crate::mutex::{RawMutex, RawMutexTimed};
 use std::rt::Clock;
 use std::sync::Wait;
@@ -12,14 +12,8 @@ pub trait RawCondvar {
     /// The mutex that it works with.
     type RawMutex: RawMutex;
 
-    /// What it is made from.
-    type Source;
-
     /// Whether the mutex belongs to the same lot as the condition variable.
     ghost same_lot: { Self → Self.RawMutex → Bool };
-
-    /// Makes a condition variable on which nobody waits. `TableFull` is the only refusal, and it takes no memory.
-    fn new(source: Self::Source) -> Result<Self, TableFull>;
 
     /// Joins the queue, then unlocks the mutex, sleeps until it is notified and locks the mutex again. It spends the
     /// token of the hold and answers the one that is out afterwards.

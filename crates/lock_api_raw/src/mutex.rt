@@ -1,7 +1,6 @@
 //! Raw locks with one kind of hold.
 ghost use Rattle.std.specs.Prelude.{◌≡◌, ℕ, IfSome};
 
-use crate::fault::TableFull;
 use std::rt::Clock;
 use std::sync::Wait;
 
@@ -19,9 +18,6 @@ pub trait RawMutex {
     /// The runtime that the lock uses to wait.
     type Runtime;
 
-    /// What the lock is made from: a table of lock words, or for a lock without a table the runtime alone.
-    type Source;
-
     /// What a thread lends to a call that may wait.
     type Party;
 
@@ -36,10 +32,6 @@ pub trait RawMutex {
 
     /// The runtime that the lock keeps.
     ghost runtime_of: { Self → Self.Runtime };
-
-    /// Makes an unlocked lock. A plain mutex ignores `readers`, and a reentrant one keeps it as its limit of nested
-    /// holds. `TableFull` is the only refusal, and it takes no memory.
-    fn new(source: Self::Source, readers: u64) -> Result<Self, TableFull>;
 
     /// The runtime, by which the layer above takes the lock that holds the value.
     fn runtime(&self) -> &Self::Runtime

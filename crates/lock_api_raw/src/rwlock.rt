@@ -1,8 +1,6 @@
 //! Raw locks with shared, exclusive and upgradable holds.
-ghost use Rattle.std.specs.Prelude.{◌≡◌, ℕ, IfSome, IfOk, MatchResult};
-ghost use Rattle.lock_api_raw.specs.Limits.{kept_limit};
+ghost use Rattle.std.specs.Prelude.{◌≡◌, ℕ, IfSome, MatchResult};
 
-use crate::fault::TableFull;
 use std::rt::Clock;
 use std::sync::Wait;
 
@@ -19,9 +17,6 @@ use std::sync::Wait;
 pub trait RawRwLock {
     /// The runtime that the lock uses to wait.
     type Runtime;
-
-    /// What the lock is made from: a table of lock words, or for a lock without a table the runtime alone.
-    type Source;
 
     /// What a thread lends to a call that may wait.
     type Party;
@@ -43,17 +38,6 @@ pub trait RawRwLock {
 
     /// The runtime that the lock keeps.
     ghost runtime_of: { Self → Self.Runtime };
-
-    /// The limit of readers that the lock keeps.
-    ghost limit: { Self → ℕ };
-
-    /// The greatest limit that a lock of this type can keep.
-    ghost own_limit: { ℕ };
-
-    /// Makes an unlocked lock whose limit of readers is `readers`, where 0 counts as 1, or the greatest that it can
-    /// keep if that is less. `TableFull` is the only refusal, and it takes no memory.
-    fn new(source: Self::Source, readers: u64) -> Result<Self, TableFull>
-        ensures { IfOk result (λ lock. limit lock ≡ kept_limit own_limit readers) };
 
     /// The runtime, by which the layer above takes the lock that holds the value.
     fn runtime(&self) -> &Self::Runtime

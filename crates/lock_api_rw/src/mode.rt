@@ -2,8 +2,8 @@
 ghost use Rattle.std.specs.Prelude.{◌≡◌, ℕ, ⊤, IfSome};
 
 use lock_api_raw::{
-    RawRwLock, RawRwLockFair, RawRwLockTimed, RawRwLockUpgrade, RawRwLockUpgradeFair,
-    RawRwLockUpgradeTimed,
+    RawMutex, RawMutexFair, RawMutexTimed, RawRwLock, RawRwLockFair, RawRwLockTimed,
+    RawRwLockUpgrade, RawRwLockUpgradeFair, RawRwLockUpgradeTimed,
 };
 use std::rt::Clock;
 use std::sync::Wait;
@@ -102,6 +102,8 @@ pub trait Writes {}
 
 impl Writes for Exclusive {}
 
+impl Writes for Locked {}
+
 /// The mode of those that read beside each other.
 pub struct Shared;
 
@@ -110,6 +112,9 @@ pub struct Exclusive;
 
 /// The mode of one that reads beside others and may become exclusive.
 pub struct Upgradable;
+
+/// The one mode of a mutex.
+pub struct Locked;
 
 impl<R: RawRwLock> Mode<R> for Shared {
     type Token = R::SharedGuard;
@@ -336,5 +341,81 @@ impl<R: RawRwLockUpgradeTimed> TimedMode<R> for Upgradable {
         R::Runtime: Wait,
     {
         raw.try_lock_upgradable_until(deadline, clock, party)
+    }
+}
+
+impl<R: RawMutex> Mode<R> for Locked {
+    type Token = R::Guard;
+
+    type Runtime = R::Runtime;
+
+    type Party = R::Party;
+
+    ghost number = { λ raw. R.number raw };
+
+    ghost issued_by = { λ token. R.issued_by token };
+
+    fn lock(raw: &R, party: &mut R::Party) -> R::Guard
+    where
+        R::Runtime: Wait,
+    {
+        raw.lock(party)
+    }
+
+    fn try_lock(raw: &R) -> Option<R::Guard> {
+        raw.try_lock()
+    }
+
+    fn unlock(raw: &R, token: R::Guard)
+    where
+        R::Runtime: Wait,
+    {
+        raw.unlock(token);
+    }
+}
+
+impl<R: RawMutexFair> FairMode<R> for Locked {
+    fn unlock_fair(raw: &R, token: R::Guard)
+    where
+        R::Runtime: Wait,
+    {
+        raw.unlock_fair(token);
+    }
+
+    fn bump(raw: &R, token: R::Guard, party: &mut R::Party) -> R::Guard
+    where
+        R::Runtime: Wait,
+    {
+        raw.bump(token, party)
+    }
+}
+
+impl<R: RawMutexTimed> TimedMode<R> for Locked {
+    type Duration = R::Duration;
+
+    type Instant = R::Instant;
+
+    fn lock_for<C: Clock>(
+        raw: &R,
+        timeout: R::Duration,
+        clock: &C,
+        party: &mut R::Party,
+    ) -> Option<R::Guard>
+    where
+        R::Runtime: Wait,
+    {
+        raw.try_lock_for(timeout, clock, party)
+    }
+
+    fn lock_until<C: Clock>(
+        raw: &R,
+        deadline: R::Instant,
+        clock: &C,
+        party: &mut R::Party,
+    ) -> Option<R::Guard>
+    where
+        R::Runtime: Wait,
+    {
+        raw.try_lock_until(deadline, clock, party)
     }
 }

@@ -1,8 +1,9 @@
 //! A hold of any mode, of a lock that is borrowed or owned.
 ghost use Rattle.std.specs.Prelude.{◌≡◌, IfSome};
 
-use crate::mode::{FairMode, Mode, TimedMode, Writes};
-use lock_api_guards::{Access, ArcHold, FairHold, Hold, WriteHold};
+use crate::mode::{FairMode, Locked, Mode, TimedMode, Writes};
+use lock_api_guards::{Access, ArcHold, FairHold, Hold, MutexHold, WriteHold};
+use lock_api_raw::RawMutex;
 use std::alloc::Allocator;
 use std::marker::{Model, PhantomData};
 use std::rt::Clock;
@@ -113,6 +114,13 @@ impl<L: Place, M: Mode<<L::Lock as HasRaw>::Raw>> RawHold<L, M> {
         (place, token)
     }
 
+    /// Lends the place of the lock.
+    pub fn place(&self) -> &L
+        ensures { result.now ≡ self.now.place }
+    {
+        &self.place
+    }
+
     /// Waits for a hold.
     pub fn wait(place: L, party: &mut M::Party) -> RawHold<L, M>
     where
@@ -213,6 +221,11 @@ where
 }
 
 impl<L: Place + Drop, M: Mode<<L::Lock as HasRaw>::Raw> + Writes> WriteHold for RawHold<L, M> {}
+
+impl<R: RawMutex, L: Place + Drop> MutexHold for RawHold<L, Locked>
+where
+    L::Lock: HasRaw<Raw = R>,
+{}
 
 impl<L: Place + Drop, M: FairMode<<L::Lock as HasRaw>::Raw>> FairHold for RawHold<L, M> {
     ghost left_fairly = { λ hold _. M.spent_fairly hold.token };

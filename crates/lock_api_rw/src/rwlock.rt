@@ -5,7 +5,7 @@ ghost use Rattle.lock_api_raw.specs.Limits.{kept_limit};
 use crate::mode::{Exclusive, Mode, Shared, Upgradable};
 use crate::raw_hold::{HasRaw, LockValue, RawHold};
 use lock_api_guards::{Guard, HasValue, HasValueMut, Mapped, RwLockHold, lent, lent_mut};
-use lock_api_raw::{RawRwLock, RawRwLockUpgrade, TableFull};
+use lock_api_raw::{MakeLock, RawRwLock, RawRwLockUpgrade, TableFull};
 use std::alloc::Allocator;
 use std::marker::Model;
 use std::rt::Clock;
@@ -192,15 +192,18 @@ where
 
 impl<R: RawRwLock, T: Drop> RwLock<R, T> {
     /// Makes an unlocked lock over a new raw lock with that limit of readers. A refusal lets the value go.
-    pub fn new(source: R::Source, readers: u64, value: T) -> Result<RwLock<R, T>, TableFull>
+    pub fn new<S>(source: S, readers: u64, value: T) -> Result<RwLock<R, T>, TableFull>
+    where
+        R: MakeLock<S>,
         ensures { IfOk result (λ lock. R.limit lock ≡ kept_limit R.own_limit readers) }
     {
         Ok(RwLock::from_raw(R::new(source, readers)?, value))
     }
 
     /// `new` with the value's default.
-    pub fn default(source: R::Source, readers: u64) -> Result<RwLock<R, T>, TableFull>
+    pub fn default<S>(source: S, readers: u64) -> Result<RwLock<R, T>, TableFull>
     where
+        R: MakeLock<S>,
         T: Default,
         ensures { IfOk result (λ lock. R.limit lock ≡ kept_limit R.own_limit readers) }
     {

@@ -3,7 +3,7 @@ ghost use Rattle.std.specs.Prelude.{◌≡◌, ◌+◌, ◌*◌, ◌%◌, ◌^�
 
 use crate::place::Place;
 use crate::table::{LockTable, Row};
-use lock_api_raw::{GuardSend, RawMutex as _, RawMutexFair, TableFull};
+use lock_api_raw::{GuardSend, MakeLock, RawMutex as _, RawMutexFair, TableFull};
 use parking_lot_core::ThreadData;
 use parking_lot_protocol::{ActResult, CoreAnswer, MutexCore};
 use std::alloc::{Allocator, Global};
@@ -80,10 +80,23 @@ impl<'t, 'l, R: Wait, A: Allocator> RawMutex<'t, 'l, R, A> {
     }
 }
 
+impl<'t, 'l, R, A: Allocator> MakeLock<&'t LockTable<'l, R, A>> for RawMutex<'t, 'l, R, A> {
+    ghost limit = { λ _. 1 };
+
+    ghost own_limit = { 1 };
+
+    fn new(
+        source: &'t LockTable<'l, R, A>,
+        _readers: u64,
+    ) -> Result<RawMutex<'t, 'l, R, A>, TableFull> {
+        Ok(RawMutex {
+            row: source.claim()?,
+        })
+    }
+}
+
 impl<'t, 'l, R, A: Allocator> lock_api_raw::RawMutex for RawMutex<'t, 'l, R, A> {
     type Runtime = R;
-
-    type Source = &'t LockTable<'l, R, A>;
 
     type Party = ThreadData<A>;
 
@@ -94,15 +107,6 @@ impl<'t, 'l, R, A: Allocator> lock_api_raw::RawMutex for RawMutex<'t, 'l, R, A> 
     ghost issued_by = { λ token. token };
 
     ghost runtime_of = { λ mutex. mutex.row.table.now.lot.now.rt };
-
-    fn new(
-        source: &'t LockTable<'l, R, A>,
-        _readers: u64,
-    ) -> Result<RawMutex<'t, 'l, R, A>, TableFull> {
-        Ok(RawMutex {
-            row: source.claim()?,
-        })
-    }
 
     fn runtime(&self) -> &R {
         self.row.lot().runtime()

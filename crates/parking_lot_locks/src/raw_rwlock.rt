@@ -5,7 +5,9 @@ ghost use Rattle.parking_lot_protocol.specs.RwTable.{is_written};
 
 use crate::place::Place;
 use crate::table::{LockTable, Row};
-use lock_api_raw::{GuardSend, RawRwLock as _, RawRwLockDowngrade, RawRwLockFair, TableFull};
+use lock_api_raw::{
+    GuardSend, MakeLock, RawRwLock as _, RawRwLockDowngrade, RawRwLockFair, TableFull,
+};
 use parking_lot_core::{ThreadData, thread_yield};
 use parking_lot_protocol::word::{MAX_READERS, READER, WRITER};
 use parking_lot_protocol::{ActResult, CoreAnswer, RwCore, word};
@@ -143,11 +145,26 @@ impl<'t, 'l, R: Wait, const RECURSIVE: u8, A: Allocator> RawRwLock<'t, 'l, R, RE
     }
 }
 
+impl<'t, 'l, R, const RECURSIVE: u8, A: Allocator> MakeLock<&'t LockTable<'l, R, A>>
+    for RawRwLock<'t, 'l, R, RECURSIVE, A> {
+    ghost limit = { λ lock. lock.full / 16 };
+
+    ghost own_limit = { 2 ^ 60 - 1 };
+
+    fn new(
+        source: &'t LockTable<'l, R, A>,
+        readers: u64,
+    ) -> Result<RawRwLock<'t, 'l, R, RECURSIVE, A>, TableFull> {
+        Ok(RawRwLock {
+            row: source.claim()?,
+            full: readers.max(1).min(MAX_READERS) * READER,
+        })
+    }
+}
+
 impl<'t, 'l, R, const RECURSIVE: u8, A: Allocator> lock_api_raw::RawRwLock
     for RawRwLock<'t, 'l, R, RECURSIVE, A> {
     type Runtime = R;
-
-    type Source = &'t LockTable<'l, R, A>;
 
     type Party = ThreadData<A>;
 
@@ -162,20 +179,6 @@ impl<'t, 'l, R, const RECURSIVE: u8, A: Allocator> lock_api_raw::RawRwLock
     ghost exclusive_by = { λ token. token };
 
     ghost runtime_of = { λ lock. lock.row.table.now.lot.now.rt };
-
-    ghost limit = { λ lock. lock.full / 16 };
-
-    ghost own_limit = { 2 ^ 60 - 1 };
-
-    fn new(
-        source: &'t LockTable<'l, R, A>,
-        readers: u64,
-    ) -> Result<RawRwLock<'t, 'l, R, RECURSIVE, A>, TableFull> {
-        Ok(RawRwLock {
-            row: source.claim()?,
-            full: readers.max(1).min(MAX_READERS) * READER,
-        })
-    }
 
     fn runtime(&self) -> &R {
         self.row.lot().runtime()

@@ -9,6 +9,8 @@ mod mutex_calls;
 #[cfg(test)]
 mod mutexes;
 #[cfg(test)]
+mod named;
+#[cfg(test)]
 mod readers;
 #[cfg(test)]
 mod rows;

@@ -1,7 +1,7 @@
 //! Readers and writers that sleep.
 
 use crate::words::{TURNS, has_come};
-use lock_api_raw::{RawRwLock as _, RawRwLockFair};
+use lock_api_raw::{MakeLock as _, RawRwLock as _, RawRwLockFair};
 use parking_lot_core::{ParkingLot, ThreadData};
 use parking_lot_locks::{LockTable, RawRwLock};
 use std::sync::Wait;

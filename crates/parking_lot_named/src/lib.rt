@@ -1,0 +1,19 @@
+//! What a program does with guards of a reader-writer lock that it can name: they stand in signatures, in results and in
+//! fields of types of its own, and what is written through them is known afterwards.
+//!
+//! Each function here is one such use, with the contract that it has because guards have theirs.
+#![tactic(auto)]
+
+mod any_lock;
+mod entry;
+mod number;
+mod turn;
+
+pub use any_lock::{
+    AnyEntry, any_overwrite, any_read, any_seen_by, any_write_and_look, any_writer_of,
+};
+pub use entry::Entry;
+pub use number::{
+    Number, NumberReader, NumberWriter, add, overwrite, read, seen_by, write_and_look, writer_of,
+};
+pub use turn::Turn;
