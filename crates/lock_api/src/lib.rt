@@ -19,12 +19,13 @@ mod arc_mutex;
 mod arc_reentrant;
 mod condvar;
 mod mutex;
+mod parted;
 mod raw_reentrant;
 mod reentrant;
 mod timed_out;
 
 pub use arc_fault::ReentrantArcFault;
-pub use arc_mutex::{ArcMutexGuard, OwnedMutex};
+pub use arc_mutex::ArcMutexGuard;
 pub use arc_reentrant::{ArcReentrantMutexGuard, OwnedReentrant};
 pub use condvar::Condvar;
 pub use lock_api_desk::{
@@ -42,7 +43,7 @@ pub use lock_api_rw::{
     ArcRwLockReadGuard, ArcRwLockUpgradableReadGuard, ArcRwLockWriteGuard, MappedRwLockReadGuard,
     MappedRwLockWriteGuard, RwLock, RwLockReadGuard, RwLockUpgradableReadGuard, RwLockWriteGuard,
 };
-pub use mutex::{LockedMutex, MappedMutexGuard, Mutex, MutexGuard};
+pub use mutex::{MappedMutexGuard, Mutex, MutexGuard};
 pub use raw_reentrant::RawReentrantMutex;
 pub use reentrant::{
     LockedReentrant, MappedReentrantMutexGuard, ReentrantMutex, ReentrantMutexGuard,

@@ -127,6 +127,7 @@ impl<R: RawRwLock> Mode<R> for Shared {
 
     ghost issued_by = { λ token. R.shared_by token };
 
+    #[inline(always)]
     fn lock(raw: &R, party: &mut R::Party) -> R::SharedGuard
     where
         R::Runtime: Wait,
@@ -134,10 +135,12 @@ impl<R: RawRwLock> Mode<R> for Shared {
         raw.lock_shared(party)
     }
 
+    #[inline(always)]
     fn try_lock(raw: &R) -> Option<R::SharedGuard> {
         raw.try_lock_shared()
     }
 
+    #[inline(always)]
     fn unlock(raw: &R, token: R::SharedGuard)
     where
         R::Runtime: Wait,
@@ -147,6 +150,10 @@ impl<R: RawRwLock> Mode<R> for Shared {
 }
 
 impl<R: RawRwLockFair> FairMode<R> for Shared {
+    ghost spent_fairly = { λ token. R.shared_spent_fairly token };
+
+    ghost bumped = { λ token after. R.shared_bumped token after };
+
     fn unlock_fair(raw: &R, token: R::SharedGuard)
     where
         R::Runtime: Wait,
@@ -203,6 +210,7 @@ impl<R: RawRwLock> Mode<R> for Exclusive {
 
     ghost issued_by = { λ token. R.exclusive_by token };
 
+    #[inline(always)]
     fn lock(raw: &R, party: &mut R::Party) -> R::ExclusiveGuard
     where
         R::Runtime: Wait,
@@ -210,10 +218,12 @@ impl<R: RawRwLock> Mode<R> for Exclusive {
         raw.lock_exclusive(party)
     }
 
+    #[inline(always)]
     fn try_lock(raw: &R) -> Option<R::ExclusiveGuard> {
         raw.try_lock_exclusive()
     }
 
+    #[inline(always)]
     fn unlock(raw: &R, token: R::ExclusiveGuard)
     where
         R::Runtime: Wait,
@@ -223,6 +233,10 @@ impl<R: RawRwLock> Mode<R> for Exclusive {
 }
 
 impl<R: RawRwLockFair> FairMode<R> for Exclusive {
+    ghost spent_fairly = { λ token. R.exclusive_spent_fairly token };
+
+    ghost bumped = { λ token after. R.exclusive_bumped token after };
+
     fn unlock_fair(raw: &R, token: R::ExclusiveGuard)
     where
         R::Runtime: Wait,
@@ -279,6 +293,7 @@ impl<R: RawRwLockUpgrade> Mode<R> for Upgradable {
 
     ghost issued_by = { λ token. R.upgradable_by token };
 
+    #[inline(always)]
     fn lock(raw: &R, party: &mut R::Party) -> R::UpgradableGuard
     where
         R::Runtime: Wait,
@@ -286,10 +301,12 @@ impl<R: RawRwLockUpgrade> Mode<R> for Upgradable {
         raw.lock_upgradable(party)
     }
 
+    #[inline(always)]
     fn try_lock(raw: &R) -> Option<R::UpgradableGuard> {
         raw.try_lock_upgradable()
     }
 
+    #[inline(always)]
     fn unlock(raw: &R, token: R::UpgradableGuard)
     where
         R::Runtime: Wait,
@@ -299,6 +316,10 @@ impl<R: RawRwLockUpgrade> Mode<R> for Upgradable {
 }
 
 impl<R: RawRwLockUpgradeFair> FairMode<R> for Upgradable {
+    ghost spent_fairly = { λ token. R.upgradable_spent_fairly token };
+
+    ghost bumped = { λ token after. R.upgradable_bumped token after };
+
     fn unlock_fair(raw: &R, token: R::UpgradableGuard)
     where
         R::Runtime: Wait,
@@ -355,6 +376,7 @@ impl<R: RawMutex> Mode<R> for Locked {
 
     ghost issued_by = { λ token. R.issued_by token };
 
+    #[inline(always)]
     fn lock(raw: &R, party: &mut R::Party) -> R::Guard
     where
         R::Runtime: Wait,
@@ -362,10 +384,12 @@ impl<R: RawMutex> Mode<R> for Locked {
         raw.lock(party)
     }
 
+    #[inline(always)]
     fn try_lock(raw: &R) -> Option<R::Guard> {
         raw.try_lock()
     }
 
+    #[inline(always)]
     fn unlock(raw: &R, token: R::Guard)
     where
         R::Runtime: Wait,
@@ -375,6 +399,10 @@ impl<R: RawMutex> Mode<R> for Locked {
 }
 
 impl<R: RawMutexFair> FairMode<R> for Locked {
+    ghost spent_fairly = { λ token. R.spent_fairly token };
+
+    ghost bumped = { λ token after. R.bumped token after };
+
     fn unlock_fair(raw: &R, token: R::Guard)
     where
         R::Runtime: Wait,

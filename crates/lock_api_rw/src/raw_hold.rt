@@ -40,6 +40,7 @@ impl<'l, L: HasRaw> Place for &'l L {
 
     ghost lock_of = { λ place. place.now };
 
+    #[inline(always)]
     fn lock(&self) -> &L {
         *self
     }
@@ -52,6 +53,7 @@ impl<L: HasRaw, A: Allocator> Place for Arc<L, A> {
 
     ghost lock_of = { λ place. arc_value place };
 
+    #[inline(always)]
     fn lock(&self) -> &L {
         &**self
     }
@@ -90,6 +92,7 @@ impl<L: Place, M: Mode<<L::Lock as HasRaw>::Raw>> Model for RawHold<L, M> {
 
 impl<L: Place, M: Mode<<L::Lock as HasRaw>::Raw>> RawHold<L, M> {
     /// Keeps a token that the lock issued.
+    #[inline(always)]
     pub fn new(place: L, token: M::Token) -> RawHold<L, M>
         requires { M.issued_by token ≡ M.number (L.Lock.raw_of (L.lock_of place)) }
         ensures { result ≡ record { place = place; token = token } }
@@ -102,6 +105,7 @@ impl<L: Place, M: Mode<<L::Lock as HasRaw>::Raw>> RawHold<L, M> {
     }
 
     /// The place and the token, which is one that the lock issued.
+    #[inline(always)]
     pub fn into_parts(self) -> (L, M::Token)
         ensures parts { result ≡ (self.place, self.token) }
         ensures issued { M.issued_by self.token ≡ M.number (L.Lock.raw_of (L.lock_of self.place)) }
@@ -115,6 +119,7 @@ impl<L: Place, M: Mode<<L::Lock as HasRaw>::Raw>> RawHold<L, M> {
     }
 
     /// Lends the place of the lock.
+    #[inline(always)]
     pub fn place(&self) -> &L
         ensures { result.now ≡ self.now.place }
     {
@@ -122,6 +127,7 @@ impl<L: Place, M: Mode<<L::Lock as HasRaw>::Raw>> RawHold<L, M> {
     }
 
     /// Waits for a hold.
+    #[inline(always)]
     pub fn wait(place: L, party: &mut M::Party) -> RawHold<L, M>
     where
         M::Runtime: Wait,
@@ -132,6 +138,7 @@ impl<L: Place, M: Mode<<L::Lock as HasRaw>::Raw>> RawHold<L, M> {
     }
 
     /// A hold at once, or None.
+    #[inline(always)]
     pub fn at_once(place: L) -> Option<RawHold<L, M>>
     where
         L: Drop,
@@ -190,10 +197,12 @@ impl<L: Place + Drop, M: Mode<<L::Lock as HasRaw>::Raw>> Hold for RawHold<L, M> 
 
     ghost apart_of = { λ place. L.lock_of place };
 
+    #[inline(always)]
     fn lock(&self) -> &L::Lock {
         self.place.lock()
     }
 
+    #[inline(always)]
     fn release(self) -> L
     where
         M::Runtime: Wait,
@@ -203,6 +212,7 @@ impl<L: Place + Drop, M: Mode<<L::Lock as HasRaw>::Raw>> Hold for RawHold<L, M> 
         place
     }
 
+    #[inline(always)]
     fn again(place: L, party: &mut M::Party) -> RawHold<L, M>
     where
         M::Runtime: Wait,
@@ -254,6 +264,7 @@ impl<L: Place + Drop, M: FairMode<<L::Lock as HasRaw>::Raw>> FairHold for RawHol
 impl<'l, L: LockValue<'l, M>, M: Mode<L::Raw>> Access for RawHold<&'l L, M> {
     type Inner = L::Inner;
 
+    #[inline(always)]
     fn access(&self) -> L::Inner
     where
         M::Runtime: Wait,

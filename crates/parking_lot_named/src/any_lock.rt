@@ -98,7 +98,7 @@ where
 
     /// Whether the number was written. Others may come in then.
     pub fn close(self) -> bool
-        ensures { result ≡ self.changed }
+        ensures { result ≡ self.entry.changed }
     {
         let AnyEntry { writer, changed } = self;
         drop(writer);

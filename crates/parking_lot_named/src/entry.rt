@@ -46,7 +46,7 @@ impl<'m, 't, 'l, R: Wait, A: Allocator> Entry<'m, 't, 'l, R, A> {
 
     /// Whether the number was written. Others may come in then.
     pub fn close(self) -> bool
-        ensures { result ≡ self.changed }
+        ensures { result ≡ self.entry.changed }
     {
         let Entry { writer, changed } = self;
         drop(writer);

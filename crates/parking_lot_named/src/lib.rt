@@ -1,16 +1,20 @@
-//! What a program does with guards of a reader-writer lock that it can name: they stand in signatures, in results and in
+//! What a program does with guards of a reader-writer lock or a mutex that it can name: they stand in signatures, in results and in
 //! fields of types of its own, and what is written through them is known afterwards.
 //!
 //! Each function here is one such use, with the contract that it has because guards have theirs.
 #![tactic(auto)]
 
 mod any_lock;
+mod counter;
 mod entry;
 mod number;
 mod turn;
 
 pub use any_lock::{
     AnyEntry, any_overwrite, any_read, any_seen_by, any_write_and_look, any_writer_of,
+};
+pub use counter::{
+    Counter, CounterGuard, Tally, any_lock_and_look, count, counted_by, lock_and_look,
 };
 pub use entry::Entry;
 pub use number::{

@@ -42,7 +42,7 @@ impl<'m, 't, 'l, R: Wait, A: Allocator> Turn<'m, 't, 'l, R, A> {
 
     /// Writes the number through a turn to write, and hands any turn back.
     pub fn put(self, number: u64) -> Turn<'m, 't, 'l, R, A>
-        ensures { number_of result ≡ number_put number self }
+        ensures { number_of result ≡ number_put number self.entry }
     {
         match self {
             Turn::Reads(reader) => Turn::Reads(reader),
