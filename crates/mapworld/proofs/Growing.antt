@@ -25,11 +25,10 @@ use Rattle.mapworld.specs.declared.holds.Mode.{Mode}
 use Rattle.mapworld.specs.declared.place.Request.TheVariants as request
 use Rattle.mapworld.specs.declared.place.Place.{Place}
 use Rattle.mapworld.specs.State.{State, threads_of, started_of}
-use Rattle.mapworld.specs.Moves.{request_key, stepped, CountsIn}
+use Rattle.mapworld.specs.Moves.{stepped, CountsIn}
 use Rattle.mapworld.specs.Sound.{taken, may_own, HoldsShard, GuardIs, HasSession, IsInSession, Claim, OwnsBlocks, HasOwnBlock, Stands, TablesAgree, Sound}
 use Rattle.mapworld.specs.Held.{HoldsMatch}
 use Rattle.mapworld.proofs.Effects.{effect-grow, Anyhow}
-use Rattle.mapworld.proofs.Finding.{begin-key}
 use Rattle.mapworld.proofs.Timing.{placed-grown}
 use Rattle.mapworld.proofs.Building.{started-own, started-stays, sound-by, replies-kept, asked-at, session-is, reached-next, told-next, settled-moved, alone-moved, tables-same}
 
@@ -65,8 +64,8 @@ session-of-guard x bs tables t p n slot None block guarded h = absurd (none-some
 session-of-guard x bs tables t p n slot (Some c) None guarded h = absurd (none-some slot (sym h.0 ∙ guarded))
 session-of-guard x bs tables t p n slot (Some c) (Some i) guarded h = (c, i, refl, refl, h)
 
-opening-key_of : {K V D T : Type 0} (x : Setup K V D T) (b : Block K) (t c : ℕ) (g : Begin K) → b.thread ≡ t → b.call ≡ c → ask_at x t c ≡ Some (ask.Begin g) → block_key x b ≡ Some (request_key {V = V} (request.Begin g))
-opening-key_of {K} {V} {D} x b t c g thread call asked = rw (thread, call, asked) (begin-key V D g)
+opening-key_of : {K V D T : Type 0} (x : Setup K V D T) (b : Block K) (t c : ℕ) (g : Begin K) → b.thread ≡ t → b.call ≡ c → ask_at x t c ≡ Some (ask.Begin g) → block_key x b ≡ Some (opening_key g)
+opening-key_of {K} {V} {D} x b t c g thread call asked = rw (thread, call, asked) refl
 
 IsSome-at : (o : Option ℕ) → IsSome o → (y : ℕ) × (o ≡ Some y)
 IsSome-at None h = absurd cc
@@ -166,7 +165,7 @@ module _ {K V S D T A : Type 0} (x : Setup K V D T) (laws : Laws x) (w : State K
       (o.0, asked-at x s.thread st.program st.has c (ask.Begin o.0) o.1)
 
   -- the key of the session's block is its opening's
-  pub opening-key : block_key x b ≡ Some (request_key {V = V} (request.Begin opening-asked.0))
+  pub opening-key : block_key x b ≡ Some (opening_key opening-asked.0)
   opening-key = opening-key_of x b s.thread c opening-asked.0 thread-is call-is opening-asked.1
 
   own-block : (p' : Place K V D T A) → p'.block ≡ p.block ⊎ (p'.block ≡ None) → HasOwnBlock (slice_set w.blocks i d) s.thread p'

@@ -77,8 +77,7 @@ module _ {K V D T A : Type 0} (x : Setup K V D T) (threads : List ℕ) (bs : Lis
   by_claim (phase.Find r) c = has_hold p.hold c.2.hold c.2.has
   by_claim (phase.Grow k v) c = has_hold p.hold c.2.hold c.2.has
   by_claim (phase.Append k v) c = has_hold p.hold c.1.alone.hold c.1.alone.has
-  by_claim (phase.Replace i v) c = has_hold p.hold c.3.alone.hold c.3.alone.has
-  by_claim (phase.Take i) c = has_hold p.hold c.3.alone.hold c.3.alone.has
+  by_claim (phase.Apply i k) c = has_hold p.hold c.2.alone.hold c.2.alone.has
   by_claim (phase.Read d) c = let h = guard_holds p.next c.0 _ p.block c.2 c.3 in has_hold p.hold h.0 h.1
   by_claim (phase.Write d) c = has_hold p.hold c.3.hold c.3.has
   by_claim (phase.Release r) c = has_hold p.hold c.1 c.3

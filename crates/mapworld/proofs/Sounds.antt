@@ -2,12 +2,12 @@
 use Rattle.mapworld_calls.specs.Setup.{Setup, Laws}
 use Rattle.mapworld.specs.declared.step.Step.{Step}
 use Rattle.mapworld.specs.State.{State}
-use Rattle.mapworld.specs.Steps.{IsStep, start, admit, find, find_grows, find_refused, deed_appends, deed_replaces, deed_takes, deed_reads, deed_writes, release, answers}
+use Rattle.mapworld.specs.Steps.{IsStep, start, admit, find, find_grows, find_refused, deed_appends, deed_applies, deed_reads, deed_writes, release, answers}
 use Rattle.mapworld.specs.Sound.{Sound}
 use Rattle.mapworld.proofs.Starting.{sound-starts}
 use Rattle.mapworld.proofs.Admitting.{sound-admits, sound-refused}
 use Rattle.mapworld.proofs.Finding.{sound-finds, sound-grows}
-use Rattle.mapworld.proofs.Acting.{sound-appends, sound-replaces, sound-takes}
+use Rattle.mapworld.proofs.Acting.{sound-appends, sound-applies}
 use Rattle.mapworld.proofs.Reading.{sound-reads, sound-releases}
 use Rattle.mapworld.proofs.Writing.{sound-writes}
 use Rattle.mapworld.proofs.Answering.{sound-answers}
@@ -19,8 +19,7 @@ sound-step x laws w s w' sound (find h) = sound-finds x laws w s sound w' h
 sound-step x laws w s w' sound (find_grows h) = sound-grows x laws w s sound w' h
 sound-step x laws w s w' sound (find_refused h) = sound-refused x laws w s w' sound h
 sound-step x laws w s w' sound (deed_appends h) = sound-appends x laws w s w' sound h
-sound-step x laws w s w' sound (deed_replaces h) = sound-replaces x laws w s w' sound h
-sound-step x laws w s w' sound (deed_takes h) = sound-takes x laws w s w' sound h
+sound-step x laws w s w' sound (deed_applies h) = sound-applies x laws w s w' sound h
 sound-step x laws w s w' sound (deed_reads h) = sound-reads x laws w s w' sound h
 sound-step x laws w s w' sound (deed_writes h) = sound-writes x laws w s w' sound h
 sound-step x laws w s w' sound (release h) = sound-releases x laws w s w' sound h

@@ -16,7 +16,7 @@ use Rattle.mapworld_calls.specs.declared.block.Block.{Block}
 use Rattle.mapworld_calls.specs.declared.reply.Answer.{Answer}
 use Rattle.mapworld_calls.specs.declared.reply.Answer.TheVariants as answer
 use Rattle.mapworld_calls.specs.Calls.{At, free, shared, pair_in, held_answer, held_leaves}
-use Rattle.mapworld_calls.specs.Programs.{is_drop}
+use Rattle.mapworld_calls.specs.Programs.{is_drop, keyed_key, opening_key}
 use Rattle.mapworld_calls.specs.Setup.{Setup, Laws, ask_at, session_of}
 use Rattle.mapworld_calls.specs.Replay.{reached, found}
 use Rattle.mapworld_calls.specs.Agrees.{IsToldBy, IsAnsweredInSession}
@@ -28,7 +28,7 @@ use Rattle.mapworld.specs.declared.place.Request.TheVariants as request
 use Rattle.mapworld.specs.declared.place.Phase.TheVariants as phase
 use Rattle.mapworld.specs.declared.place.Place.{Place}
 use Rattle.mapworld.specs.State.{State, threads_of, started_of, next_step}
-use Rattle.mapworld.specs.Moves.{request_key, is_last, guard_mode, guard_of, start_phase, start_shard, start_counts, stepped, CountsCall}
+use Rattle.mapworld.specs.Moves.{is_last, guard_mode, guard_of, start_phase, start_shard, start_counts, stepped, CountsCall}
 use Rattle.mapworld.specs.Steps.{Starts}
 use Rattle.mapworld.specs.Sound.{is_resting, may_own, block_after, guarded, GuardIs, HoldsShard, HasSession, IsInSessionOf, IsInSession, IsReady, IsInCall, IsReleasing, Claim, Stands, Sound}
 use Rattle.mapworld.proofs.Timing.{IsStepOf-next, placed-same}
@@ -44,13 +44,11 @@ outside-free : {K V D T A : Type 0} (x : Setup K V D T) (bs : List (Block K)) (t
     → session_of x t n ≡ None → IsReady x bs tables t p n block → (p.slot ≡ None) × (block ≡ None)
 outside-free x bs tables t p n block outside h = subst (λ (o : Option ℕ). IsInSession x bs tables t p n o block) outside h
 
-shard-keyed : {K V : Type 0} (D : Type 0) (route : K → ℕ) (k : Keyed K V) (shard : ℕ) → start_shard {D = D} route (ask.Keyed k) shard ≡ route (request_key (request.Keyed k))
-shard-keyed D route (keyed.Insert k v) shard = refl
-shard-keyed D route (keyed.Remove k) shard = refl
+shard-keyed : {K V : Type 0} (D : Type 0) (route : K → ℕ) (k : Keyed K V D) (shard : ℕ) → start_shard route (ask.Keyed k) shard ≡ route (keyed_key k)
+shard-keyed D route k shard = refl
 
-shard-begin : {K : Type 0} (V D : Type 0) (route : K → ℕ) (b : Begin K) (shard : ℕ) → start_shard {V = V} {D = D} route (ask.Begin b) shard ≡ route (request_key {V = V} (request.Begin b))
-shard-begin V D route (begin.Get k) shard = refl
-shard-begin V D route (begin.GetMut k) shard = refl
+shard-begin : {K : Type 0} (V D : Type 0) (route : K → ℕ) (b : Begin K) (shard : ℕ) → start_shard {V = V} {D = D} route (ask.Begin b) shard ≡ route (opening_key b)
+shard-begin V D route b shard = refl
 
 module _ {K V S D T A : Type 0} (x : Setup K V D T) (laws : Laws x) (w : State K V S D T A) (s : Step) (sound : Sound x w)
     (p : Place K V D T A) (at : slice_get w.places s.thread ≡ Some p) (before : p.phase ≡ phase.Rest) (rest : VecDeque (Ask K V D) A) where

@@ -22,7 +22,7 @@ use Rattle.mapworld.specs.declared.place.Request.TheVariants as request
 use Rattle.mapworld.specs.declared.place.Phase.TheVariants as phase
 use Rattle.mapworld.specs.declared.place.Place.{Place}
 use Rattle.mapworld.specs.State.{State, threads_of}
-use Rattle.mapworld.specs.Moves.{request_key, stepped}
+use Rattle.mapworld.specs.Moves.{stepped}
 use Rattle.mapworld.specs.Steps.{Writes}
 use Rattle.mapworld.specs.Sound.{may_own, block_after, guarded, GuardIs, HasPair, Sound}
 use Rattle.mapworld.proofs.Others.{IsInCall-push}
@@ -64,7 +64,7 @@ module _ {K V S D T A : Type 0} (x : Setup K V D T) (laws : Laws x) (w : State K
       let grows = growing.grows x laws w s sound p a.stands h call.asked c i inside session b d n.2 n.3 still in
       -- its key
       let opening = growing.opening-asked x laws w s sound p a.stands h call.asked c i inside session b d n.2 n.3 still in
-      let key : K = request_key {V = V} (request.Begin opening.0) in
+      let key : K = opening_key opening.0 in
       let key-is : block_key x b ≡ Some key = growing.opening-key x laws w s sound p a.stands h call.asked c i inside session b d n.2 n.3 still in
       let here : p.shard ≡ x.route key = session.settled.here key (ap (λ z. block_key x z) its ∙ key-is) in
       let touched : (q : K) → x.eq key q ≡ true → is_key x.eq (block_key x b) q ≡ true = λ q e. ap (λ z. is_key x.eq z q) key-is ∙ e in

@@ -6,7 +6,7 @@ ghost use Rattle.mapworld.specs.Running.{has_numbers, status_of, is_running};
 ghost use Rattle.mapworld.specs.World.{setup_of};
 ghost use Rattle.mapworld.specs.Core.{state_of, Room};
 
-use crate::deeds::{append, read, replace, take, write};
+use crate::deeds::{append, apply, read, write};
 use crate::ends::{answer, release};
 use crate::looks::{find, grow};
 use crate::place::Phase;
@@ -39,8 +39,7 @@ pub(crate) fn advance<
         Phase::Find(_) => find(core, step),
         Phase::Grow(_, _) => grow(core, step),
         Phase::Append(_, _) => append(core, step),
-        Phase::Replace(_, _) => replace(core, step),
-        Phase::Take(_) => take(core, step),
+        Phase::Apply(_, _) => apply(core, step),
         Phase::Read(_) => read(core, step),
         Phase::Write(_) => write(core, step),
         Phase::Release(_) => release(core, step),

@@ -1,17 +1,17 @@
 //! The steps that change or read a pair.
-ghost use Rattle.std.specs.Prelude.{◌≡◌, true};
+ghost use Rattle.std.specs.Prelude.{◌≡◌, ◌+◌, ◌≤◌, true, if◌then◌else◌};
 ghost use Rattle.mapworld.specs.declared.place.Phase.TheVariants as phase;
 ghost use Rattle.mapworld.specs.Sound.{Sound};
 ghost use Rattle.mapworld.specs.Running.{has_numbers};
 ghost use Rattle.mapworld.specs.World.{setup_of};
 ghost use Rattle.mapworld.specs.Core.{state_of, Room, IsBefore};
-ghost use Rattle.mapworld.specs.Steps.{Appends, Replaces, Takes, Reads, Writes};
+ghost use Rattle.mapworld.specs.Steps.{Appends, Applies, Reads, Writes};
 
 use crate::blocks::count_in;
 use crate::moves::enter;
 use crate::place::Phase;
 use crate::step::Step;
-use crate::table::store_effect;
+use crate::table::{apply_at, store_effect};
 use crate::world_core::Core;
 use mapworld_calls::{Answer, Deed};
 use std::alloc::Allocator;
@@ -46,36 +46,16 @@ pub(crate) fn append<
     core.steps = core.steps.appended(&step);
 }
 
-/// The deed that replaces a value.
-pub(crate) fn replace<
-    K: Eq + Hash + Drop,
-    V: Drop,
-    S: BuildHasher,
-    D: Deed<K, V> + Drop,
-    A: Allocator,
->(core: &mut Core<K, V, S, D, D::Answer, A>, step: Step)
-    requires sound { Sound (setup_of D.Deed S.BuildHasher S.Hasher.Hasher K.eq K.hash_input (state_of core.old)) (state_of core.old) }
-    requires room { Room core.old }
-    requires numbers { has_numbers (state_of core.old) ≡ true }
-    requires before { (slot : _) × (value : _) × IsBefore core.old.places.items step.thread (phase.Replace slot value) }
-    ensures step { Replaces (setup_of D.Deed S.BuildHasher S.Hasher.Hasher K.eq K.hash_input (state_of core.old)) (state_of core.old) step (state_of core.new) }
-    ensures room { Room core.new }
+/// How many pairs there are behind a deed that may have taken one out.
+fn less_one(pairs: u64, gone: bool) -> u64
+    requires { (if gone then 1 else 0) ≤ pairs }
+    ensures { result + (if gone then 1 else 0) ≡ pairs }
 {
-    let place = &mut core.places[step.thread];
-    let Phase::Replace(slot, value) = mem::replace(&mut place.phase, Phase::Rest) else {
-        unreachable!()
-    };
-    let table = &mut core.tables[place.shard];
-    let pair = &mut table[slot];
-    let old = mem::replace(&mut pair.1, value);
-    enter(&mut place.phase, Phase::Release(Answer::Value(old)));
-    count_in(&mut core.blocks, place.block, place.next);
-    core.count += 1;
-    core.steps = core.steps.appended(&step);
+    if gone { pairs - 1 } else { pairs }
 }
 
-/// The deed that takes a pair out.
-pub(crate) fn take<
+/// The deed of a call on one key that found a pair.
+pub(crate) fn apply<
     K: Eq + Hash + Drop,
     V: Drop,
     S: BuildHasher,
@@ -85,19 +65,19 @@ pub(crate) fn take<
     requires sound { Sound (setup_of D.Deed S.BuildHasher S.Hasher.Hasher K.eq K.hash_input (state_of core.old)) (state_of core.old) }
     requires room { Room core.old }
     requires numbers { has_numbers (state_of core.old) ≡ true }
-    requires before { (slot : _) × IsBefore core.old.places.items step.thread (phase.Take slot) }
-    ensures step { Takes (setup_of D.Deed S.BuildHasher S.Hasher.Hasher K.eq K.hash_input (state_of core.old)) (state_of core.old) step (state_of core.new) }
+    requires before { (slot : _) × (call : _) × IsBefore core.old.places.items step.thread (phase.Apply slot call) }
+    ensures step { Applies (setup_of D.Deed S.BuildHasher S.Hasher.Hasher K.eq K.hash_input (state_of core.old)) (state_of core.old) step (state_of core.new) }
     ensures room { Room core.new }
 {
     let place = &mut core.places[step.thread];
-    let Phase::Take(slot) = mem::replace(&mut place.phase, Phase::Rest) else {
+    let Phase::Apply(slot, call) = mem::replace(&mut place.phase, Phase::Rest) else {
         unreachable!()
     };
     let table = &mut core.tables[place.shard];
-    let (key, value) = table.remove(slot);
-    enter(&mut place.phase, Phase::Release(Answer::Pair(key, value)));
+    let (answer, gone) = apply_at(table, slot, call);
+    enter(&mut place.phase, Phase::Release(answer));
     count_in(&mut core.blocks, place.block, place.next);
-    core.pairs -= 1;
+    core.pairs = less_one(core.pairs, gone);
     core.count += 1;
     core.steps = core.steps.appended(&step);
 }

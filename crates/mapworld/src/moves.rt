@@ -1,5 +1,6 @@
 //! Where each kind of step leads a thread.
 ghost use Rattle.std.specs.Prelude.{◌≡◌, is_some, if◌then◌else◌};
+ghost use Rattle.mapworld_calls.specs.Programs.{keyed_key, opening_key};
 ghost use Rattle.mapworld.specs.Route.{IsWorldAmount, key_route};
 ghost use Rattle.mapworld.specs.Moves.{request_key, mode_of, is_last, guard_of, start_phase, start_shard, start_counts, found_phase, found_done, found_slot, block_behind};
 
@@ -11,22 +12,45 @@ use std::alloc::Allocator;
 use std::hash::{BuildHasher, Hash};
 
 /// The key of a call on one key.
-pub(crate) fn request_key<K, V>(request: &Request<K, V>) -> &K
+fn keyed_key<K, V, D>(call: &Keyed<K, V, D>) -> &K
+    ensures { result.now ≡ keyed_key call.now }
+{
+    match call {
+        Keyed::Insert(key, _) => key,
+        Keyed::Remove(key) => key,
+        Keyed::RemoveIf(key, _) => key,
+        Keyed::RemoveIfMut(key, _) => key,
+        Keyed::Alter(key, _) => key,
+        Keyed::ContainsKey(key) => key,
+    }
+}
+
+/// The key of an opening.
+fn opening_key<K>(begin: &Begin<K>) -> &K
+    ensures { result.now ≡ opening_key begin.now }
+{
+    match begin {
+        Begin::Get(key) => key,
+        Begin::GetMut(key) => key,
+    }
+}
+
+/// The key that a call is on its way to.
+pub(crate) fn request_key<K, V, D>(request: &Request<K, V, D>) -> &K
     ensures { result.now ≡ request_key request.now }
 {
     match request {
-        Request::Keyed(Keyed::Insert(key, _)) => key,
-        Request::Keyed(Keyed::Remove(key)) => key,
-        Request::Begin(Begin::Get(key)) => key,
-        Request::Begin(Begin::GetMut(key)) => key,
+        Request::Keyed(call) => keyed_key(call),
+        Request::Begin(begin) => opening_key(begin),
     }
 }
 
 /// How a call on one key holds its shard.
-pub(crate) fn mode_of<K, V>(request: &Request<K, V>) -> Mode
+pub(crate) fn mode_of<K, V, D>(request: &Request<K, V, D>) -> Mode
     ensures { result ≡ mode_of request.now }
 {
     match request {
+        Request::Keyed(Keyed::ContainsKey(_)) => Mode::Shared,
         Request::Keyed(_) => Mode::Exclusive,
         Request::Begin(Begin::Get(_)) => Mode::Shared,
         Request::Begin(Begin::GetMut(_)) => Mode::Exclusive,
@@ -84,10 +108,8 @@ pub(crate) fn start_shard<K: Eq + Hash, V, D, S: BuildHasher>(
     ensures { result ≡ start_shard (key_route S.BuildHasher S.Hasher.Hasher K.hash_input hasher.now shards) ask.now shard }
 {
     match ask {
-        Ask::Keyed(Keyed::Insert(key, _)) => shard_of(hasher, shards, key),
-        Ask::Keyed(Keyed::Remove(key)) => shard_of(hasher, shards, key),
-        Ask::Begin(Begin::Get(key)) => shard_of(hasher, shards, key),
-        Ask::Begin(Begin::GetMut(key)) => shard_of(hasher, shards, key),
+        Ask::Keyed(call) => shard_of(hasher, shards, keyed_key(call)),
+        Ask::Begin(begin) => shard_of(hasher, shards, opening_key(begin)),
         Ask::Held(_) => shard,
     }
 }
@@ -108,15 +130,18 @@ pub(crate) fn start_counts<K, V, D>(
 }
 
 /// The phase behind a find.
-pub(crate) fn found_phase<K: Drop, V: Drop, D, T>(
-    request: Request<K, V>,
+pub(crate) fn found_phase<K: Drop, V: Drop, D: Drop, T>(
+    request: Request<K, V, D>,
     slot: Option<usize>,
     room: bool,
 ) -> Phase<K, V, D, T>
     ensures { result ≡ found_phase request slot room }
 {
     match (request, slot) {
-        (Request::Keyed(Keyed::Insert(_, value)), Some(slot)) => Phase::Replace(slot, value),
+        (Request::Keyed(Keyed::ContainsKey(_)), slot) => {
+            Phase::Release(Answer::Flag(slot.is_some()))
+        }
+        (Request::Keyed(call), Some(slot)) => Phase::Apply(slot, call),
         (Request::Keyed(Keyed::Insert(key, value)), None) => {
             if room {
                 Phase::Append(key, value)
@@ -124,21 +149,22 @@ pub(crate) fn found_phase<K: Drop, V: Drop, D, T>(
                 Phase::Grow(key, value)
             }
         }
-        (Request::Keyed(Keyed::Remove(_)), Some(slot)) => Phase::Take(slot),
+        (Request::Keyed(Keyed::Alter(_, _)), None) => Phase::Release(Answer::Done),
         (Request::Begin(_), Some(_)) => Phase::Answer(Answer::Held),
         (_, None) => Phase::Release(Answer::None),
     }
 }
 
 /// How many of its calls the block that a find lists has done, if it lists one.
-pub(crate) fn found_done<K, V>(
-    request: &Request<K, V>,
+pub(crate) fn found_done<K, V, D>(
+    request: &Request<K, V, D>,
     slot: Option<usize>,
     room: bool,
 ) -> Option<usize>
     ensures { result ≡ found_done request.now slot room }
 {
     match (request, slot) {
+        (Request::Keyed(Keyed::ContainsKey(_)), _) => Some(1),
         (Request::Keyed(Keyed::Insert(_, _)), None) => { if room { Some(0) } else { None } }
         (Request::Keyed(_), Some(_)) => Some(0),
         _ => Some(1),
@@ -146,7 +172,10 @@ pub(crate) fn found_done<K, V>(
 }
 
 /// The guard that a find gives.
-pub(crate) fn found_slot<K, V>(request: &Request<K, V>, slot: Option<usize>) -> Option<usize>
+pub(crate) fn found_slot<K, V, D>(
+    request: &Request<K, V, D>,
+    slot: Option<usize>,
+) -> Option<usize>
     ensures { result ≡ found_slot request.now slot }
 {
     match request {

@@ -18,7 +18,7 @@ use Rattle.mapworld_calls.specs.declared.block.Block.{Block}
 use Rattle.mapworld_calls.specs.declared.reply.Answer.{Answer}
 use Rattle.mapworld_calls.specs.declared.reply.Answer.TheVariants as answer
 use Rattle.mapworld_calls.specs.declared.reply.Reply.{Reply}
-use Rattle.mapworld_calls.specs.Programs.{key_of, may_grow, session_behind, opening_before}
+use Rattle.mapworld_calls.specs.Programs.{keyed_key, opening_key, key_of, may_grow, session_behind, opening_before}
 use Rattle.mapworld_calls.specs.Calls as today
 use Rattle.mapworld_calls.specs.Setup.{Setup, ask_at, session_of}
 use Rattle.mapworld_calls.specs.Pairs.{opening_pair}
@@ -86,18 +86,37 @@ pair-as (today.free o) = refl
 pair-as (today.shared p) = refl
 pair-as (today.exclusive p) = refl
 
+keyed-key-as : {K V D : Type 0} (k : Keyed K V D) → every_setup.keyed_key (as_keyed k) ≡ keyed_key k
+keyed-key-as (keyed.Insert k v) = refl
+keyed-key-as (keyed.Remove k) = refl
+keyed-key-as (keyed.RemoveIf k d) = refl
+keyed-key-as (keyed.RemoveIfMut k d) = refl
+keyed-key-as (keyed.Alter k d) = refl
+keyed-key-as (keyed.ContainsKey k) = refl
+
 work-as : {K V D : Type 0} (a : Ask K V D) (key : K) → key_of a ≡ Some key → every_replay.work_of (Some (as_ask a)) ≡ every_replay.one key
-work-as (ask.Keyed (keyed.Insert k v)) key is = ap every_replay.one (same_Some k key is)
-work-as (ask.Keyed (keyed.Remove k)) key is = ap every_replay.one (same_Some k key is)
+work-as (ask.Keyed k) key is = ap every_replay.one (keyed-key-as k ∙ same_Some (keyed_key k) key is)
 work-as (ask.Begin (begin.Get k)) key is = ap every_replay.one (same_Some k key is)
 work-as (ask.Begin (begin.GetMut k)) key is = ap every_replay.one (same_Some k key is)
 work-as (ask.Held h) key is = absurd (none-some key is)
+
+-- an answer by a test
+if-as : {K V T : Type 0} (b : Bool) (x y : Answer K V T) → (if b then as_answer x else as_answer y) ≡ as_answer (if b then x else y)
+if-as true x y = refl
+if-as false x y = refl
 
 module _ {K V D T : Type 0} (deeds : Deeds D K V T) (key : K) where
   first-leaves : (a : Ask K V D) → key_of a ≡ Some key → (o : Option (K × V)) → every.after deeds key (as_ask a) (every.free o) ≡ as_at (today.after deeds a (today.free o))
   first-leaves (ask.Keyed (keyed.Insert k v)) is None = ap (λ j. every.free (Some (j, v))) (sym (same_Some k key is))
   first-leaves (ask.Keyed (keyed.Insert k v)) is (Some p) = refl
   first-leaves (ask.Keyed (keyed.Remove k)) is o = refl
+  first-leaves (ask.Keyed (keyed.RemoveIf k d)) is None = refl
+  first-leaves (ask.Keyed (keyed.RemoveIf k d)) is (Some p) = refl
+  first-leaves (ask.Keyed (keyed.RemoveIfMut k d)) is None = refl
+  first-leaves (ask.Keyed (keyed.RemoveIfMut k d)) is (Some p) = refl
+  first-leaves (ask.Keyed (keyed.Alter k d)) is None = refl
+  first-leaves (ask.Keyed (keyed.Alter k d)) is (Some p) = refl
+  first-leaves (ask.Keyed (keyed.ContainsKey k)) is o = refl
   first-leaves (ask.Begin (begin.Get k)) is None = refl
   first-leaves (ask.Begin (begin.Get k)) is (Some p) = refl
   first-leaves (ask.Begin (begin.GetMut k)) is None = refl
@@ -109,6 +128,13 @@ module _ {K V D T : Type 0} (deeds : Deeds D K V T) (key : K) where
   first-tells (ask.Keyed (keyed.Insert k v)) is (Some p) = refl
   first-tells (ask.Keyed (keyed.Remove k)) is None = refl
   first-tells (ask.Keyed (keyed.Remove k)) is (Some p) = refl
+  first-tells (ask.Keyed (keyed.RemoveIf k d)) is None = refl
+  first-tells (ask.Keyed (keyed.RemoveIf k d)) is (Some p) = if-as (deeds.keep d p.0 p.1) answer.None (answer.Pair p.0 p.1)
+  first-tells (ask.Keyed (keyed.RemoveIfMut k d)) is None = refl
+  first-tells (ask.Keyed (keyed.RemoveIfMut k d)) is (Some p) = if-as (deeds.keep d p.0 p.1) answer.None (answer.Pair p.0 (deeds.effect d p.0 p.1))
+  first-tells (ask.Keyed (keyed.Alter k d)) is o = refl
+  first-tells (ask.Keyed (keyed.ContainsKey k)) is None = refl
+  first-tells (ask.Keyed (keyed.ContainsKey k)) is (Some p) = refl
   first-tells (ask.Begin (begin.Get k)) is None = refl
   first-tells (ask.Begin (begin.Get k)) is (Some p) = refl
   first-tells (ask.Begin (begin.GetMut k)) is None = refl
@@ -220,14 +246,10 @@ module _ {K V D T : Type 0} (w : Setup K V D T) (shards : ℕ) (steps : List ℕ
 
   -- a listed block has done calls of its own alone
   calls-of : (b : Block K) (a : Ask K V D) → ask_at w b.thread b.call ≡ Some a → placed.IsDoneWithin w started replies b a → IsOfBlock w b.thread b.call b.done.value
-  calls-of b (ask.Keyed (keyed.Insert k v)) is done =
-      record { first = ask.Keyed (keyed.Insert k v); asked = is; key = k; key_is = refl; others = λ m pos lt. absurd (let le = done.once in omega (arith, le, pos, lt)) }
-  calls-of b (ask.Keyed (keyed.Remove k)) is done =
-      record { first = ask.Keyed (keyed.Remove k); asked = is; key = k; key_is = refl; others = λ m pos lt. absurd (let le = done.once in omega (arith, le, pos, lt)) }
-  calls-of b (ask.Begin (begin.Get k)) is done =
-      record { first = ask.Begin (begin.Get k); asked = is; key = k; key_is = refl; others = λ m pos lt. let c = done.calls m pos lt in (c.0, c.1) }
-  calls-of b (ask.Begin (begin.GetMut k)) is done =
-      record { first = ask.Begin (begin.GetMut k); asked = is; key = k; key_is = refl; others = λ m pos lt. let c = done.calls m pos lt in (c.0, c.1) }
+  calls-of b (ask.Keyed k) is done =
+      record { first = ask.Keyed k; asked = is; key = keyed_key k; key_is = refl; others = λ m pos lt. absurd (let le = done.once in omega (arith, le, pos, lt)) }
+  calls-of b (ask.Begin g) is done =
+      record { first = ask.Begin g; asked = is; key = opening_key g; key_is = refl; others = λ m pos lt. let c = done.calls m pos lt in (c.0, c.1) }
   calls-of b (ask.Held h) is done = absurd done
 
   of-block : (i : ℕ) (b : Block K) → slice_get bs i ≡ Some b → IsOfBlock w b.thread b.call b.done.value
@@ -276,9 +298,13 @@ module _ {K V D T : Type 0} (w : Setup K V D T) (shards : ℕ) (steps : List ℕ
             ∙ ap (option_map as_answer) h.told));
       }
 
-  grows-as : (k : Keyed K V) → IsTrue (may_grow k) → IsTrue (every_setup.keyed_may_grow (as_keyed {D = D} k))
+  grows-as : (k : Keyed K V D) → IsTrue (may_grow k) → IsTrue (every_setup.keyed_may_grow (as_keyed k))
   grows-as (keyed.Insert k v) h = h
   grows-as (keyed.Remove k) h = h
+  grows-as (keyed.RemoveIf k d) h = h
+  grows-as (keyed.RemoveIfMut k d) h = h
+  grows-as (keyed.Alter k d) h = h
+  grows-as (keyed.ContainsKey k) h = h
 
   in-session-as : (t c : ℕ) (s : Option ℕ) (a : Answer K V T) → agrees.IsAnsweredInSession w bs t c s a → every_agrees.IsAnsweredInSession e bs t c s (as_answer a)
   in-session-as t c None a h = ap as_answer h

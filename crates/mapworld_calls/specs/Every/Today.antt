@@ -29,9 +29,13 @@ use Rattle.mapworld_calls.specs.Every.Setup as every_setup
 use Rattle.mapworld_calls.specs.Every.Agrees as every_agrees
 use Rattle.mapworld_calls.specs.Every.Placed as every_placed
 
-abbrev pub as_keyed : {K V D : Type 0} → Keyed K V → AnyKeyed K V D
+abbrev pub as_keyed : {K V D : Type 0} → Keyed K V D → AnyKeyed K V D
 as_keyed (keyed.Insert k v) = any_keyed.Insert k v
 as_keyed (keyed.Remove k) = any_keyed.Remove k
+as_keyed (keyed.RemoveIf k d) = any_keyed.RemoveIf k d
+as_keyed (keyed.RemoveIfMut k d) = any_keyed.RemoveIfMut k d
+as_keyed (keyed.Alter k d) = any_keyed.Alter k d
+as_keyed (keyed.ContainsKey k) = any_keyed.ContainsKey k
 
 abbrev pub as_begin : {K : Type 0} → Begin K → AnyBegin K
 as_begin (begin.Get k) = any_begin.Get k
@@ -56,6 +60,7 @@ as_answer (answer.Read t) = any_answer.Read t
 as_answer answer.Held = any_answer.Held
 as_answer answer.NoGuard = any_answer.NoGuard
 as_answer answer.WrongGuard = any_answer.WrongGuard
+as_answer (answer.Flag b) = any_answer.Flag b
 as_answer answer.NoMemory = any_answer.NoMemory
 
 abbrev pub as_reply : {K V T : Type 0} → Reply K V T → every_agrees.Reply K V T
