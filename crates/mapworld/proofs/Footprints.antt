@@ -70,8 +70,7 @@ module _ {K V S D T A : Type 0} (x : Setup K V D T) (laws : Laws x) (w : State K
 
     others_keep : (any : K) (o : Option ℕ) (n : ℕ) (bs' : List (Block K)) → CountsCall w.blocks o n bs' → w'.blocks ≡ bs' → (key : K) × OthersKeepPairs x.eq w w' key
     others_keep any o n bs' counted same =
-        let k = touched any o n bs' counted in
-        (
+        let k = touched any o n bs' counted in (
           k.0,
           λ q other.
               (agrees x laws w' now_sound).contents_are q

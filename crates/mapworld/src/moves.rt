@@ -172,10 +172,7 @@ pub(crate) fn found_done<K, V, D>(
 }
 
 /// The guard that a find gives.
-pub(crate) fn found_slot<K, V, D>(
-    request: &Request<K, V, D>,
-    slot: Option<usize>,
-) -> Option<usize>
+pub(crate) fn found_slot<K, V, D>(request: &Request<K, V, D>, slot: Option<usize>) -> Option<usize>
     ensures { result ≡ found_slot request.now slot }
 {
     match request {

@@ -342,37 +342,36 @@ module _ {K V D T : Type 0} (w : Setup K V D T) (shards : ℕ) (steps : List ℕ
       → every_placed.IsShownAnswered as_replies b ⊎ every_placed.IsShownStarted started as_replies b
   shown-as b h = elim h [
     | inl old ↦ inl (record {
-        place = old.place;
-        reply = as_reply old.reply;
-        listed = listed-there as_reply replies old.place old.reply old.listed;
-        thread = old.thread;
-        call = old.call;
-        start = old.start;
-        end = old.end;
-        before = old.before;
-      })
+      place = old.place;
+      reply = as_reply old.reply;
+      listed = listed-there as_reply replies old.place old.reply old.listed;
+      thread = old.thread;
+      call = old.call;
+      start = old.start;
+      end = old.end;
+      before = old.before;
+    })
     | inr now ↦ inr (record { call = now.call ∙ sym (count-as b.thread replies); start = now.start; end = now.end })
   ]
 
   done-as : (i : ℕ) (b : Block K) (a : Ask K V D) → b.visit ≡ 0 → b.visited.items ≡ [] → placed.IsDoneWithin w started replies b a
       → every_placed.IsDoneWithin e started bs as_replies i b (as_ask a)
   done-as i b (ask.Keyed k) visit visited h = (record { once = h.once; whole = h.whole }, visit, visited)
-  done-as i b (ask.Begin g) visit visited h =
-      (
-        record {
-          opened = h.opened;
-          calls = λ n pos lt.
-              let c = h.calls n pos lt in
-              record {
-                held = as_held c.0;
-                asked = asked w shards b.thread (b.call + n) (ask.Held c.0) c.1;
-                session = sessions w shards b.thread (b.call + n) ∙ c.2;
-                begun = begun-as b.thread (b.call + n) c.3;
-              };
-        },
-        visit,
-        visited,
-      )
+  done-as i b (ask.Begin g) visit visited h = (
+    record {
+      opened = h.opened;
+      calls = λ n pos lt.
+          let c = h.calls n pos lt in
+          record {
+            held = as_held c.0;
+            asked = asked w shards b.thread (b.call + n) (ask.Held c.0) c.1;
+            session = sessions w shards b.thread (b.call + n) ∙ c.2;
+            begun = begun-as b.thread (b.call + n) c.3;
+          };
+    },
+    visit,
+    visited,
+  )
   done-as i b (ask.Held k) visit visited h = absurd h
 
   pub placed-as : every_placed.WellPlaced e steps started bs as_replies
