@@ -16,7 +16,7 @@ returns-clause-placed g c =
     rw (← c.self.view_is) (world-placed g.D.Deed g.S.BuildHasher g.S.Hasher.Hasher g.K.PartialEq.eq g.K.Hash.hash_input w c.self.invariant.0)
 
 pub returns-clause-adds : goal.returns-clause-adds
-returns-clause-adds g c = adds-as _ _ _ _ _ _ c.make_steps.ensures.adds
+returns-clause-adds g c = adds-as _ _ _ _ _ _ c.make_steps-result.ensures.adds
 
 pub returns-clause-by_phase : goal.returns-clause-by_phase
 returns-clause-by_phase g c =
