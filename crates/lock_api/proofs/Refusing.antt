@@ -1,10 +1,13 @@
--- A refusal is right whatever the answer would have been.
-use Rattle.std.specs.Prelude.{◌≡◌, Bool, Result, Err}
-use Rattle.std.proofs.Common.{subst}
+-- A timed wait is refused as the raw condition variable refuses.
+use Rattle.std.specs.Prelude.{◌≡◌, Bool, Result, Ok, Err}
+use Rattle.std.proofs.Common.{subst, sym}
 use Rattle.lock_api_raw.specs.Waits.{IsRefusedRightly}
 use Rattle.lock_api_raw.specs.declared.fault.WaitFault.{WaitFault}
 use Rattle.lock_api_raw.specs.declared.fault.WaitFault.TheVariants.{WrongMutex, WrongLot}
+use Rattle.lock_api.specs.Waits.{timed_answer}
+use Rattle.lock_api.specs.declared.timed_out.WaitTimeoutResult.{WaitTimeoutResult}
 
-pub refused_as : {G : Type 0} (A B : Type 0) (same : Bool) (before after : G) (answer : Result A WaitFault) (fault : WaitFault) → answer ≡ Err fault → IsRefusedRightly {G = G} {A = A} same before after answer → IsRefusedRightly {G = G} {A = B} same before after (Err fault)
-refused_as A B same before after answer WrongMutex is said = subst (λ (r : Result A WaitFault). IsRefusedRightly {A = A} same before after r) is said
-refused_as A B same before after answer WrongLot is said = subst (λ (r : Result A WaitFault). IsRefusedRightly {A = A} same before after r) is said
+pub refused_as : {G : Type 0} (same : Bool) (before after : G) (answer : Result WaitTimeoutResult WaitFault) (raw : Result Bool WaitFault) → timed_answer answer ≡ raw → IsRefusedRightly {G = G} {A = Bool} same before after raw → IsRefusedRightly {G = G} {A = WaitTimeoutResult} same before after answer
+refused_as same before after (Ok answer) raw is said = subst (λ (r : Result Bool WaitFault). IsRefusedRightly {A = Bool} same before after r) (sym is) said
+refused_as same before after (Err WrongMutex) raw is said = subst (λ (r : Result Bool WaitFault). IsRefusedRightly {A = Bool} same before after r) (sym is) said
+refused_as same before after (Err WrongLot) raw is said = subst (λ (r : Result Bool WaitFault). IsRefusedRightly {A = Bool} same before after r) (sym is) said

@@ -4,12 +4,17 @@ ghost use Rattle.std.specs.Sync.Mutex.{mutex_guard_value};
 ghost use Rattle.std.specs.Sync.Condvar.{StoppedAt, AnsweredAt};
 ghost use Rattle.std.specs.Iterator.Runs.{CallKeepsClosure};
 ghost use Rattle.lock_api_raw.specs.Waits.{IsRefusedRightly};
+ghost use Rattle.lock_api.specs.Waits.{timed_answer};
 
-use crate::mutex::{LockedMutex, Mutex, MutexGuard};
+use crate::mutex::{Mutex, MutexGuard};
+use crate::parted::{MutexPlace, Parted};
 use crate::timed_out::WaitTimeoutResult;
 use core::mem;
 use lock_api_guards::{Access, Guard};
-use lock_api_raw::{RawCondvar, RawCondvarTimed, RawMutex, RawMutexTimed, TableFull, WaitFault};
+use lock_api_raw::{
+    MakeCondvar, RawCondvar, RawCondvarTimed, RawMutex, RawMutexTimed, TableFull, WaitFault,
+};
+use lock_api_rw::HasRaw as _;
 use std::fmt;
 use std::fmt::Debug;
 use std::rt::Clock;
@@ -32,32 +37,110 @@ pub struct Condvar<C> {
 fn mutex_of<'l, R: RawMutex, T>(guard: &MutexGuard<'l, R, T>) -> &'l Mutex<R, T>
 where
     R::Runtime: Wait,
-    ensures { result.now ≡ guard.now.held.0.lock.now }
+    ensures { result.now ≡ guard.now.held.0.place.now }
 {
-    guard.held.hold().lock
+    *guard.held.hold().place()
 }
 
-/// Gives the value back, lets `f` give up the raw hold and take it again, and takes the value's std lock again.
-fn apart<W: Drop, H: Access<Inner = W>, X, U, F: FnOnce(H, X) -> (H, U)>(
+/// Gives the value back, has the raw variable wait with the mutex and the token of the guard, and takes the value's std
+/// lock again.
+fn waits<C: RawCondvar, W: Drop, H: Parted<C::RawMutex> + Access<Inner = W>>(
+    raw: &C,
     guard: &mut Guard<W, H>,
-    x: X,
-    f: F,
-) -> U
+    party: &mut <C::RawMutex as RawMutex>::Party,
+) -> Result<(), WaitFault>
 where
     H::Runtime: Wait,
-    requires { F.IsAlwaysCallable f }
-    ensures { F.post f guard.old.held.0 x (guard.new.held.0, result) }
+    <C::RawMutex as RawMutex>::Runtime: Wait,
+    ensures place { H.place_of guard.new.held.0 ≡ H.place_of guard.old.held.0 }
+    ensures refused { IsRefusedRightly (C.same_lot raw.now (H.Place.raw_of (H.place_of guard.old.held.0))) (H.token_of guard.old.held.0) (H.token_of guard.new.held.0) result }
+    ensures answer { C.waited raw.now (H.token_of guard.old.held.0) (H.token_of guard.new.held.0) result }
 {
     mem::replace_with(
         guard,
-        (x, f),
-        |guard, (x, f)|
-            requires { F.IsAlwaysCallable f }
+        party,
+        |guard, party| -> (Guard<W, H>, Result<(), WaitFault>)
+            ensures place { H.place_of result.0.held.0 ≡ H.place_of guard.held.0 }
+            ensures refused { IsRefusedRightly (C.same_lot raw.entry.now (H.Place.raw_of (H.place_of guard.held.0))) (H.token_of guard.held.0) (H.token_of result.0.held.0) result.1 }
+            ensures answer { C.waited raw.entry.now (H.token_of guard.held.0) (H.token_of result.0.held.0) result.1 }
         {
-            let (hold, answer) = f(Guard::into_hold(guard), x);
-            (Guard::under(hold), answer)
+            let (place, token) = Guard::into_hold(guard).into_parts();
+            let (token, answer) = raw.wait(place.raw_mutex(), token, party);
+            (Guard::under(H::from_parts(place, token)), answer)
         },
     )
+}
+
+/// As `waits`, until the moment at the latest.
+fn waits_until<C: RawCondvarTimed, W: Drop, H: Parted<C::RawMutex> + Access<Inner = W>, K: Clock>(
+    raw: &C,
+    guard: &mut Guard<W, H>,
+    deadline: <C::RawMutex as RawMutexTimed>::Instant,
+    clock: &K,
+    party: &mut <C::RawMutex as RawMutex>::Party,
+) -> Result<bool, WaitFault>
+where
+    C::RawMutex: RawMutexTimed,
+    H::Runtime: Wait,
+    <C::RawMutex as RawMutex>::Runtime: Wait,
+    ensures place { H.place_of guard.new.held.0 ≡ H.place_of guard.old.held.0 }
+    ensures refused { IsRefusedRightly (C.same_lot raw.now (H.Place.raw_of (H.place_of guard.old.held.0))) (H.token_of guard.old.held.0) (H.token_of guard.new.held.0) result }
+    ensures answer { C.waited_in_time raw.now (H.token_of guard.old.held.0) (H.token_of guard.new.held.0) result }
+{
+    mem::replace_with(
+        guard,
+        deadline,
+        |guard, deadline| -> (Guard<W, H>, Result<bool, WaitFault>)
+            ensures place { H.place_of result.0.held.0 ≡ H.place_of guard.held.0 }
+            ensures refused { IsRefusedRightly (C.same_lot raw.entry.now (H.Place.raw_of (H.place_of guard.held.0))) (H.token_of guard.held.0) (H.token_of result.0.held.0) result.1 }
+            ensures answer { C.waited_in_time raw.entry.now (H.token_of guard.held.0) (H.token_of result.0.held.0) result.1 }
+        {
+            let (place, token) = Guard::into_hold(guard).into_parts();
+            let (token, answer) = raw.wait_until(place.raw_mutex(), token, deadline, clock, party);
+            (Guard::under(H::from_parts(place, token)), answer)
+        },
+    )
+}
+
+/// As `waits`, for that long at most.
+fn waits_for<C: RawCondvarTimed, W: Drop, H: Parted<C::RawMutex> + Access<Inner = W>, K: Clock>(
+    raw: &C,
+    guard: &mut Guard<W, H>,
+    timeout: <C::RawMutex as RawMutexTimed>::Duration,
+    clock: &K,
+    party: &mut <C::RawMutex as RawMutex>::Party,
+) -> Result<bool, WaitFault>
+where
+    C::RawMutex: RawMutexTimed,
+    H::Runtime: Wait,
+    <C::RawMutex as RawMutex>::Runtime: Wait,
+    ensures place { H.place_of guard.new.held.0 ≡ H.place_of guard.old.held.0 }
+    ensures refused { IsRefusedRightly (C.same_lot raw.now (H.Place.raw_of (H.place_of guard.old.held.0))) (H.token_of guard.old.held.0) (H.token_of guard.new.held.0) result }
+    ensures answer { C.waited_in_time raw.now (H.token_of guard.old.held.0) (H.token_of guard.new.held.0) result }
+{
+    mem::replace_with(
+        guard,
+        timeout,
+        |guard, timeout| -> (Guard<W, H>, Result<bool, WaitFault>)
+            ensures place { H.place_of result.0.held.0 ≡ H.place_of guard.held.0 }
+            ensures refused { IsRefusedRightly (C.same_lot raw.entry.now (H.Place.raw_of (H.place_of guard.held.0))) (H.token_of guard.held.0) (H.token_of result.0.held.0) result.1 }
+            ensures answer { C.waited_in_time raw.entry.now (H.token_of guard.held.0) (H.token_of result.0.held.0) result.1 }
+        {
+            let (place, token) = Guard::into_hold(guard).into_parts();
+            let (token, answer) = raw.wait_for(place.raw_mutex(), token, timeout, clock, party);
+            (Guard::under(H::from_parts(place, token)), answer)
+        },
+    )
+}
+
+/// What a timed wait answers, of which the raw variable's answer tells.
+fn timed(answer: Result<bool, WaitFault>) -> Result<WaitTimeoutResult, WaitFault>
+    ensures { timed_answer result ≡ answer }
+{
+    match answer {
+        Ok(ran_out) => Ok(WaitTimeoutResult(ran_out)),
+        Err(fault) => Err(fault),
+    }
 }
 
 impl<C: RawCondvar> Condvar<C>
@@ -65,14 +148,20 @@ where
     <C::RawMutex as RawMutex>::Runtime: Wait,
 {
     /// One on which nobody waits.
-    pub fn new(source: C::Source) -> Result<Condvar<C>, TableFull> {
+    pub fn new<S>(source: S) -> Result<Condvar<C>, TableFull>
+    where
+        C: MakeCondvar<S>,
+    {
         Ok(Condvar {
             raw: C::new(source)?,
         })
     }
 
     /// The same as `new`.
-    pub fn default(source: C::Source) -> Result<Condvar<C>, TableFull> {
+    pub fn default<S>(source: S) -> Result<Condvar<C>, TableFull>
+    where
+        C: MakeCondvar<S>,
+    {
         Condvar::new(source)
     }
 
@@ -85,14 +174,11 @@ where
         guard: &mut MutexGuard<'l, C::RawMutex, T>,
         party: &mut <C::RawMutex as RawMutex>::Party,
     ) -> Result<(), WaitFault>
-        ensures lock { guard.new.held.0.lock ≡ guard.old.held.0.lock }
-        ensures refused { IsRefusedRightly (C.same_lot self.now.raw guard.old.held.0.lock.now.raw) guard.old.held.0.token guard.new.held.0.token result }
+        ensures lock { guard.new.held.0.place ≡ guard.old.held.0.place }
+        ensures refused { IsRefusedRightly (C.same_lot self.now.raw guard.old.held.0.place.now) guard.old.held.0.token guard.new.held.0.token result }
+        ensures answer { C.waited self.now.raw guard.old.held.0.token guard.new.held.0.token result }
     {
-        apart(guard, (), |hold, ()| {
-            let LockedMutex { lock, token } = hold;
-            let (token, answer) = self.raw.wait(&lock.raw, token, party);
-            (LockedMutex { lock, token }, answer)
-        })
+        waits(&self.raw, guard, party)
     }
 
     /// Asks the condition of the value, and waits as long as it answers true. Where it returns Ok, the condition's last
@@ -106,7 +192,7 @@ where
         requires { F.IsAlwaysCallable condition }
         ensures { OnOk result (StoppedAt F.step (CallKeepsClosure F.FnMut condition) condition (mutex_guard_value guard.new.inner)) }
     {
-        for _ in mutex_of(guard).raw.runtime().forever() {
+        for _ in mutex_of(guard).raw().runtime().forever() {
             if !condition(&mut **guard) {
                 return Ok(());
             }
@@ -139,33 +225,11 @@ where
         clock: &K,
         party: &mut <C::RawMutex as RawMutex>::Party,
     ) -> Result<WaitTimeoutResult, WaitFault>
-        ensures lock { guard.new.held.0.lock ≡ guard.old.held.0.lock }
-        ensures refused { IsRefusedRightly (C.same_lot self.now.raw guard.old.held.0.lock.now.raw) guard.old.held.0.token guard.new.held.0.token result }
+        ensures lock { guard.new.held.0.place ≡ guard.old.held.0.place }
+        ensures refused { IsRefusedRightly (C.same_lot self.now.raw guard.old.held.0.place.now) guard.old.held.0.token guard.new.held.0.token result }
+        ensures answer { C.waited_in_time self.now.raw guard.old.held.0.token guard.new.held.0.token (timed_answer result) }
     {
-        match self.ran_out_until(guard, deadline, clock, party) {
-            Ok(ran_out) => Ok(WaitTimeoutResult(ran_out)),
-            Err(fault) => Err(fault),
-        }
-    }
-
-    /// As `wait_until`, with the bare answer of the raw variable.
-    fn ran_out_until<'l, T, K: Clock>(
-        &self,
-        guard: &mut MutexGuard<'l, C::RawMutex, T>,
-        deadline: <C::RawMutex as RawMutexTimed>::Instant,
-        clock: &K,
-        party: &mut <C::RawMutex as RawMutex>::Party,
-    ) -> Result<bool, WaitFault>
-        ensures lock { guard.new.held.0.lock ≡ guard.old.held.0.lock }
-        ensures refused { IsRefusedRightly (C.same_lot self.now.raw guard.old.held.0.lock.now.raw) guard.old.held.0.token guard.new.held.0.token result }
-    {
-        apart(guard, deadline, |hold, deadline| {
-            let LockedMutex { lock, token } = hold;
-            let (token, answer) = self
-                .raw
-                .wait_until(&lock.raw, token, deadline, clock, party);
-            (LockedMutex { lock, token }, answer)
-        })
+        timed(waits_until(&self.raw, guard, deadline, clock, party))
     }
 
     /// As `wait_until`, with the moment that lies `timeout` ahead. Where that can't be said there is no limit.
@@ -176,31 +240,11 @@ where
         clock: &K,
         party: &mut <C::RawMutex as RawMutex>::Party,
     ) -> Result<WaitTimeoutResult, WaitFault>
-        ensures lock { guard.new.held.0.lock ≡ guard.old.held.0.lock }
-        ensures refused { IsRefusedRightly (C.same_lot self.now.raw guard.old.held.0.lock.now.raw) guard.old.held.0.token guard.new.held.0.token result }
+        ensures lock { guard.new.held.0.place ≡ guard.old.held.0.place }
+        ensures refused { IsRefusedRightly (C.same_lot self.now.raw guard.old.held.0.place.now) guard.old.held.0.token guard.new.held.0.token result }
+        ensures answer { C.waited_in_time self.now.raw guard.old.held.0.token guard.new.held.0.token (timed_answer result) }
     {
-        match self.ran_out_for(guard, timeout, clock, party) {
-            Ok(ran_out) => Ok(WaitTimeoutResult(ran_out)),
-            Err(fault) => Err(fault),
-        }
-    }
-
-    /// As `wait_for`, with the bare answer of the raw variable.
-    fn ran_out_for<'l, T, K: Clock>(
-        &self,
-        guard: &mut MutexGuard<'l, C::RawMutex, T>,
-        timeout: <C::RawMutex as RawMutexTimed>::Duration,
-        clock: &K,
-        party: &mut <C::RawMutex as RawMutex>::Party,
-    ) -> Result<bool, WaitFault>
-        ensures lock { guard.new.held.0.lock ≡ guard.old.held.0.lock }
-        ensures refused { IsRefusedRightly (C.same_lot self.now.raw guard.old.held.0.lock.now.raw) guard.old.held.0.token guard.new.held.0.token result }
-    {
-        apart(guard, timeout, |hold, timeout| {
-            let LockedMutex { lock, token } = hold;
-            let (token, answer) = self.raw.wait_for(&lock.raw, token, timeout, clock, party);
-            (LockedMutex { lock, token }, answer)
-        })
+        timed(waits_for(&self.raw, guard, timeout, clock, party))
     }
 
     /// As `wait_while`, until the moment at the latest. It timed out exactly if the condition's last answer, asked after
@@ -219,7 +263,7 @@ where
         ensures { IfOk result (λ answer. AnsweredAt F.step (CallKeepsClosure F.FnMut condition) condition answer.0 (mutex_guard_value guard.new.inner)) }
     {
         let mut ran_out = false;
-        for _ in mutex_of(guard).raw.runtime().forever() {
+        for _ in mutex_of(guard).raw().runtime().forever() {
             let waits = condition(&mut **guard);
             if ran_out || !waits {
                 return Ok(WaitTimeoutResult(waits));

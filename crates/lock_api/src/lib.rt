@@ -19,12 +19,13 @@ mod arc_mutex;
 mod arc_reentrant;
 mod condvar;
 mod mutex;
+mod parted;
 mod raw_reentrant;
 mod reentrant;
 mod timed_out;
 
 pub use arc_fault::ReentrantArcFault;
-pub use arc_mutex::{ArcMutexGuard, OwnedMutex};
+pub use arc_mutex::ArcMutexGuard;
 pub use arc_reentrant::{ArcReentrantMutexGuard, OwnedReentrant};
 pub use condvar::Condvar;
 pub use lock_api_desk::{
@@ -32,16 +33,17 @@ pub use lock_api_desk::{
 };
 pub use lock_api_guards::{ArcGuard, Guard, Mapped};
 pub use lock_api_raw::{
-    GetThreadId, GuardNoSend, GuardSend, NoMemory, Projection, RawCondvar, RawCondvarTimed,
-    RawMutex, RawMutexFair, RawMutexTimed, RawRwLock, RawRwLockDowngrade, RawRwLockFair,
-    RawRwLockTimed, RawRwLockUpgrade, RawRwLockUpgradeDowngrade, RawRwLockUpgradeFair,
-    RawRwLockUpgradeTimed, ReadersFull, TableFull, Then, TotalProjection, WaitFault,
+    GetThreadId, GuardNoSend, GuardSend, MakeCondvar, MakeLock, NoMemory, Projection, RawCondvar,
+    RawCondvarTimed, RawMutex, RawMutexFair, RawMutexTimed, RawRwLock, RawRwLockDowngrade,
+    RawRwLockFair, RawRwLockTimed, RawRwLockUpgrade, RawRwLockUpgradeDowngrade,
+    RawRwLockUpgradeFair, RawRwLockUpgradeTimed, ReadersFull, TableFull, Then, TotalProjection,
+    WaitFault,
 };
 pub use lock_api_rw::{
     ArcRwLockReadGuard, ArcRwLockUpgradableReadGuard, ArcRwLockWriteGuard, MappedRwLockReadGuard,
     MappedRwLockWriteGuard, RwLock, RwLockReadGuard, RwLockUpgradableReadGuard, RwLockWriteGuard,
 };
-pub use mutex::{LockedMutex, MappedMutexGuard, Mutex, MutexGuard};
+pub use mutex::{MappedMutexGuard, Mutex, MutexGuard};
 pub use raw_reentrant::RawReentrantMutex;
 pub use reentrant::{
     LockedReentrant, MappedReentrantMutexGuard, ReentrantMutex, ReentrantMutexGuard,

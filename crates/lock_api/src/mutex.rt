@@ -1,9 +1,11 @@
-//! The mutex, and the hold that its guards keep.
+//! The mutex.
 ghost use Rattle.std.specs.Prelude.{◌≡◌, IfSome, IfOk};
 
-use lock_api_guards::{Access, FairHold, Guard, Hold, Mapped, MutexHold};
-use lock_api_raw::{RawMutex, RawMutexFair, RawMutexTimed, TableFull};
+use lock_api_guards::{Guard, HasValue, HasValueMut, Mapped, lent, lent_mut};
+use lock_api_raw::{MakeLock, RawMutex, RawMutexTimed, TableFull};
+use lock_api_rw::{HasRaw, LockValue, Locked, RawHold};
 use std::fmt::Debug;
+use std::marker::Model;
 use std::rt::Clock;
 use std::sync::Wait;
 use std::{fmt, sync};
@@ -11,7 +13,8 @@ use std::{fmt, sync};
 /// A raw mutex and a value.
 ///
 /// The value lies in a std lock, which is taken after the raw mutex admits and given back before its release. So access
-/// is safe whatever the raw mutex does. Only the Arc forms may be refused for memory.
+/// is safe whatever the raw mutex does. A contract sees a mutex as its raw mutex. Only the Arc forms may be refused for
+/// memory.
 ///
 /// ```text
 /// let mutex = Mutex::new(source, 0)?;
@@ -19,29 +22,33 @@ use std::{fmt, sync};
 /// ```
 #[derive(Drop)]
 pub struct Mutex<R, T> {
-    pub(crate) raw: R,
-    pub(crate) value: sync::Mutex<T>,
+    raw: R,
+    value: sync::Mutex<T>,
 }
 
-/// The hold of a mutex: the mutex, and the token of its raw mutex.
-pub struct LockedMutex<'l, R: RawMutex, T> {
-    pub(crate) lock: &'l Mutex<R, T>,
-    pub(crate) token: R::Guard,
-    pub(crate) ghost ours: { R.issued_by token ≡ R.number lock.now.raw },
+impl<R, T> Model for Mutex<R, T> {
+    ghost Value = { R };
+
+    ghost view = { λ mutex. mutex.raw };
 }
 
 /// The guard of a mutex, which lends its value.
 ///
 /// Its drop gives the std lock back, and then releases the raw mutex by its token.
-pub type MutexGuard<'l, R, T> = Guard<sync::MutexGuard<'l, T>, LockedMutex<'l, R, T>>;
+pub type MutexGuard<'l, R, T> = Guard<sync::MutexGuard<'l, T>, RawHold<&'l Mutex<R, T>, Locked>>;
 
 /// A mutex guard that is narrowed to a part of the value.
-pub type MappedMutexGuard<'l, R, T, P> = Mapped<sync::MutexGuard<'l, T>, LockedMutex<'l, R, T>, P>;
+pub type MappedMutexGuard<'l, R, T, P> = Mapped<
+    sync::MutexGuard<'l, T>,
+    RawHold<&'l Mutex<R, T>, Locked>,
+    P,
+>;
 
 impl<R: RawMutex, T> Mutex<R, T> {
     /// Makes an unlocked mutex. A refusal drops the value.
-    pub fn new(source: R::Source, value: T) -> Result<Mutex<R, T>, TableFull>
+    pub fn new<S>(source: S, value: T) -> Result<Mutex<R, T>, TableFull>
     where
+        R: MakeLock<S>,
         T: Drop,
     {
         let raw = R::new(source, 1)?;
@@ -49,8 +56,9 @@ impl<R: RawMutex, T> Mutex<R, T> {
     }
 
     /// As `new`, with the value's default.
-    pub fn default(source: R::Source) -> Result<Mutex<R, T>, TableFull>
+    pub fn default<S>(source: S) -> Result<Mutex<R, T>, TableFull>
     where
+        R: MakeLock<S>,
         T: Default + Drop,
     {
         Mutex::new(source, T::default())
@@ -58,7 +66,7 @@ impl<R: RawMutex, T> Mutex<R, T> {
 
     /// Puts a value behind a raw mutex that exists and isn't held.
     pub fn from_raw(raw: R, value: T) -> Mutex<R, T>
-        ensures { result.raw ≡ raw }
+        ensures { result ≡ raw }
     {
         Mutex {
             raw,
@@ -77,7 +85,7 @@ impl<R: RawMutex, T> Mutex<R, T> {
 
     /// The raw mutex and the value.
     pub fn into_inner_with_raw(self) -> (R, T)
-        ensures { result.0 ≡ self.raw }
+        ensures { result.0 ≡ self }
     {
         let Mutex { raw, value } = self;
         (raw, value.into_inner())
@@ -99,37 +107,41 @@ where
     R::Runtime: Wait,
 {
     /// Waits for the raw mutex, then for the std lock, and gives the guard.
+    #[inline(always)]
     pub fn lock(&self, party: &mut R::Party) -> MutexGuard<'_, R, T>
-        ensures { result.held.0.lock.now ≡ self.now }
+        ensures { result.held.0.place.now ≡ self.now }
     {
-        Guard::under(self.held(party))
-    }
-
-    /// Waits for the raw mutex.
-    fn held(&self, party: &mut R::Party) -> LockedMutex<'_, R, T>
-        ensures { result.lock.now ≡ self.now }
-    {
-        LockedMutex {
-            lock: self,
-            token: self.raw.lock(party),
+        let token = self.raw.lock(party);
+        let hold = RawHold::new(self, token);
+        match self.value.try_lock() {
+            Some(inner) => Guard::over(hold, inner),
+            None => Guard::under(hold),
         }
     }
 
     /// Takes the std lock of the value, by its own try first.
-    pub(crate) fn inner(&self) -> sync::MutexGuard<'_, T> {
+    #[inline(always)]
+    fn inner(&self) -> sync::MutexGuard<'_, T> {
         match self.value.try_lock() {
             Some(guard) => guard,
-            None => self.value.lock(self.raw.runtime()),
+            None => self.wait_inside(),
         }
     }
 
+    /// Waits for the std lock of the value.
+    #[cold]
+    #[inline(never)]
+    fn wait_inside(&self) -> sync::MutexGuard<'_, T> {
+        self.value.lock(self.raw.runtime())
+    }
+
     /// A guard at once, or None. It takes the std lock by its own try first and waits for nobody.
+    #[inline(always)]
     pub fn try_lock(&self) -> Option<MutexGuard<'_, R, T>>
-        ensures { IfSome result (λ guard. guard.held.0.lock.now ≡ self.now) }
+        ensures { IfSome result (λ guard. guard.held.0.place.now ≡ self.now) }
     {
         let inner = self.value.try_lock()?;
-        let token = self.raw.try_lock()?;
-        Some(Guard::over(LockedMutex { lock: self, token }, inner))
+        Some(Guard::over(RawHold::at_once(self)?, inner))
     }
 
     /// As `lock`, but None if the wait for the raw mutex is given up after the length of time.
@@ -141,10 +153,10 @@ where
     ) -> Option<MutexGuard<'_, R, T>>
     where
         R: RawMutexTimed,
-        ensures { IfSome result (λ guard. guard.held.0.lock.now ≡ self.now) }
+        ensures { IfSome result (λ guard. guard.held.0.place.now ≡ self.now) }
     {
-        let token = self.raw.try_lock_for(timeout, clock, party)?;
-        Some(Guard::under(LockedMutex { lock: self, token }))
+        let hold = RawHold::wait_for(self, timeout, clock, party)?;
+        Some(Guard::under(hold))
     }
 
     /// As `lock`, but None if the wait for the raw mutex is given up at the moment.
@@ -156,77 +168,55 @@ where
     ) -> Option<MutexGuard<'_, R, T>>
     where
         R: RawMutexTimed,
-        ensures { IfSome result (λ guard. guard.held.0.lock.now ≡ self.now) }
+        ensures { IfSome result (λ guard. guard.held.0.place.now ≡ self.now) }
     {
-        let token = self.raw.try_lock_until(deadline, clock, party)?;
-        Some(Guard::under(LockedMutex { lock: self, token }))
+        let hold = RawHold::wait_until(self, deadline, clock, party)?;
+        Some(Guard::under(hold))
     }
 }
 
-impl<'l, R: RawMutex, T> Hold for LockedMutex<'l, R, T> {
-    type Lock = Mutex<R, T>;
+impl<R, T> HasRaw for Mutex<R, T> {
+    type Raw = R;
 
-    type Runtime = R::Runtime;
+    ghost raw_of = { λ mutex. mutex };
 
-    type Party = R::Party;
-
-    type Apart = &'l Mutex<R, T>;
-
-    ghost lock_of = { λ hold. hold.lock.now };
-
-    ghost apart_of = { λ lock. lock.now };
-
-    fn lock(&self) -> &Mutex<R, T> {
-        self.lock
-    }
-
-    fn release(self) -> &'l Mutex<R, T>
-    where
-        R::Runtime: Wait,
-    {
-        let LockedMutex { lock, token } = self;
-        lock.raw.unlock(token);
-        lock
-    }
-
-    fn again(apart: &'l Mutex<R, T>, party: &mut R::Party) -> LockedMutex<'l, R, T>
-    where
-        R::Runtime: Wait,
-    {
-        apart.held(party)
+    #[inline(always)]
+    fn raw(&self) -> &R {
+        &self.raw
     }
 }
 
-impl<R: RawMutex, T> MutexHold for LockedMutex<'_, R, T> {}
-
-impl<'l, R: RawMutex, T> Access for LockedMutex<'l, R, T> {
+impl<'l, R: RawMutex, T: 'l> LockValue<'l, Locked> for Mutex<R, T> {
     type Inner = sync::MutexGuard<'l, T>;
 
-    fn access(&self) -> sync::MutexGuard<'l, T>
+    #[inline(always)]
+    fn access(&'l self) -> sync::MutexGuard<'l, T>
     where
         R::Runtime: Wait,
     {
-        self.lock.inner()
+        self.inner()
     }
 }
 
-impl<'l, R: RawMutexFair, T> FairHold for LockedMutex<'l, R, T> {
-    fn release_fair(self) -> &'l Mutex<R, T>
-    where
-        R::Runtime: Wait,
-    {
-        let LockedMutex { lock, token } = self;
-        lock.raw.unlock_fair(token);
-        lock
-    }
+impl<R: RawMutex, T> HasValue for Mutex<R, T> {
+    type Value = T;
 
-    fn bump(self, party: &mut R::Party) -> LockedMutex<'l, R, T>
+    type Waiting = R::Runtime;
+
+    fn with_value<F: FnOnce(&T) -> U, U>(&self, f: F) -> U
     where
         R::Runtime: Wait,
     {
-        let LockedMutex { lock, token } = self;
-        let token = lock.raw.bump(token, party);
-        LockedMutex { lock, token }
+        lent(f, &*self.inner())
+    }
+}
+
+impl<R: RawMutex, T> HasValueMut for Mutex<R, T> {
+    fn with_value_mut<F: FnOnce(&mut T) -> U, U>(&self, f: F) -> U
+    where
+        R::Runtime: Wait,
+    {
+        lent_mut(f, &mut *self.inner())
     }
 }
 

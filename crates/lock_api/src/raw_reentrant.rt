@@ -4,7 +4,8 @@ ghost use Rattle.lock_api_raw.specs.Limits.{kept_limit};
 
 use counted_slot::{Claim, Counted, FREE, Fits, TAKEN};
 use lock_api_raw::{
-    GetThreadId, GuardNoSend, RawMutex, RawMutexFair, RawMutexTimed, ReadersFull, TableFull,
+    GetThreadId, GuardNoSend, MakeLock, RawMutex, RawMutexFair, RawMutexTimed, ReadersFull,
+    TableFull,
 };
 use std::rt::Clock;
 use std::snapshot::Snapshot;
@@ -57,7 +58,9 @@ where
     R::Runtime: Wait,
 {
     /// Makes an unlocked one. It keeps `readers` as its limit of nested holds, where 0 counts as 1.
-    pub fn new(source: R::Source, readers: u64) -> Result<RawReentrantMutex<R, G>, TableFull>
+    pub fn new<S>(source: S, readers: u64) -> Result<RawReentrantMutex<R, G>, TableFull>
+    where
+        R: MakeLock<S>,
         ensures { IfOk result (λ mutex. mutex.limit ≡ kept_limit (2 ^ 64 - 1) readers) }
     {
         let raw = R::new(source, readers)?;

@@ -5,7 +5,8 @@ ghost use Rattle.lock_api_raw.specs.Limits.{kept_limit};
 use crate::raw_reentrant::RawReentrantMutex;
 use lock_api_guards::{Access, FairHold, Guard, Hold, Mapped, ReentrantHold};
 use lock_api_raw::{
-    GetThreadId, GuardNoSend, RawMutex, RawMutexFair, RawMutexTimed, ReadersFull, TableFull,
+    GetThreadId, GuardNoSend, MakeLock, RawMutex, RawMutexFair, RawMutexTimed, ReadersFull,
+    TableFull,
 };
 use std::fmt::Debug;
 use std::rt::Clock;
@@ -55,12 +56,9 @@ where
 {
     /// Makes an unlocked one, which keeps `readers` as its limit of nested holds, where 0 counts as 1. A refusal drops
     /// the value.
-    pub fn new(
-        source: R::Source,
-        readers: u64,
-        value: T,
-    ) -> Result<ReentrantMutex<R, G, T>, TableFull>
+    pub fn new<S>(source: S, readers: u64, value: T) -> Result<ReentrantMutex<R, G, T>, TableFull>
     where
+        R: MakeLock<S>,
         T: Drop,
         ensures { IfOk result (λ mutex. mutex.raw.limit ≡ kept_limit (2 ^ 64 - 1) readers) }
     {
@@ -72,8 +70,9 @@ where
     }
 
     /// As `new`, with the value's default.
-    pub fn default(source: R::Source, readers: u64) -> Result<ReentrantMutex<R, G, T>, TableFull>
+    pub fn default<S>(source: S, readers: u64) -> Result<ReentrantMutex<R, G, T>, TableFull>
     where
+        R: MakeLock<S>,
         T: Default + Drop,
         ensures { IfOk result (λ mutex. mutex.raw.limit ≡ kept_limit (2 ^ 64 - 1) readers) }
     {

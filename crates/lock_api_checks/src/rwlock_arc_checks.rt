@@ -12,14 +12,14 @@ use lock_api_mutex_checks::arc_guard_checks::{
 };
 use lock_api_mutex_checks::guard_checks::shows_both;
 use lock_api_mutex_checks::{Look, Seen, Wrong, expect_all, is_alone, is_free, is_read};
-use lock_api_raw::{NoMemory, RawRwLock, RawRwLockDowngrade, RawRwLockFair};
+use lock_api_raw::{MakeLock, NoMemory, RawRwLock, RawRwLockDowngrade, RawRwLockFair};
 use std::alloc::Allocator;
 use std::sync::{Arc, Wait};
 
 /// A lock of four readers in an Arc.
-pub fn lock_in_arc<R: RawRwLock + Drop, A: Allocator>(
+pub fn lock_in_arc<R: RawRwLock + MakeLock<S> + Drop, A: Allocator, S>(
     alloc: A,
-    source: R::Source,
+    source: S,
     value: u64,
 ) -> Result<Arc<RwLock<R, u64>, A>, Wrong> {
     match Arc::new(alloc, RwLock::new(source, 4, value)?) {
@@ -31,15 +31,15 @@ pub fn lock_in_arc<R: RawRwLock + Drop, A: Allocator>(
 }
 
 /// An Arc guard holds the lock, lends the value to closures and gives its Arc back.
-pub fn owns_an_arc<R: RawRwLock + Drop, A: Allocator + Copy>(
+pub fn owns_an_arc<R: RawRwLock + MakeLock<S> + Drop, A: Allocator + Copy, S>(
     alloc: A,
-    source: R::Source,
+    source: S,
     party: &mut R::Party,
 ) -> Result<(), Wrong>
 where
     R::Runtime: Wait,
 {
-    let lock = lock_in_arc::<R, A>(alloc, source, 5)?;
+    let lock = lock_in_arc::<R, A, S>(alloc, source, 5)?;
     let writer = RwLock::write_arc(&lock, party);
     let no_reader = is_refused(RwLock::try_read_arc(&lock));
     let no_writer = is_refused(RwLock::try_write_arc(&lock));
@@ -101,15 +101,15 @@ where
 }
 
 /// `unlocked` of Arc guards, and their fair ends.
-pub fn unlocks_for_a_while<R: RawRwLockFair + Drop, A: Allocator + Copy>(
+pub fn unlocks_for_a_while<R: RawRwLockFair + MakeLock<S> + Drop, A: Allocator + Copy, S>(
     alloc: A,
-    source: R::Source,
+    source: S,
     party: &mut R::Party,
 ) -> Result<(), Wrong>
 where
     R::Runtime: Wait,
 {
-    let lock = lock_in_arc::<R, A>(alloc, source, 5)?;
+    let lock = lock_in_arc::<R, A, S>(alloc, source, 5)?;
     let writer = RwLock::write_arc(&lock, party);
     let writer_let_go = unlocks_a_writer(writer, &*lock, party);
     let reader = RwLock::try_read_arc(&lock);
@@ -164,14 +164,14 @@ where
 }
 
 /// An Arc write guard that is downgraded reads what it wrote, and lets other readers in.
-pub fn downgrades<R: RawRwLockDowngrade + Drop, A: Allocator + Copy>(
+pub fn downgrades<R: RawRwLockDowngrade + MakeLock<S> + Drop, A: Allocator + Copy, S>(
     alloc: A,
-    source: R::Source,
+    source: S,
 ) -> Result<(), Wrong>
 where
     R::Runtime: Wait,
 {
-    let lock = lock_in_arc::<R, A>(alloc, source, 5)?;
+    let lock = lock_in_arc::<R, A, S>(alloc, source, 5)?;
     let became = becomes_a_reader(RwLock::try_write_arc(&lock), &*lock);
     expect_all(&[
         (
@@ -203,16 +203,16 @@ where
 }
 
 /// Each check here, one after the other: the first that finds something wrong says so.
-pub fn all<R: RawRwLockFair + RawRwLockDowngrade + Drop, A: Allocator + Copy>(
+pub fn all<R: RawRwLockFair + RawRwLockDowngrade + MakeLock<S> + Drop, A: Allocator + Copy, S>(
     alloc: A,
-    source: R::Source,
+    source: S,
     party: &mut R::Party,
 ) -> Result<(), Wrong>
 where
-    R::Source: Copy,
+    S: Copy,
     R::Runtime: Wait,
 {
-    owns_an_arc::<R, A>(alloc, source, party)?;
-    unlocks_for_a_while::<R, A>(alloc, source, party)?;
-    downgrades::<R, A>(alloc, source)
+    owns_an_arc::<R, A, S>(alloc, source, party)?;
+    unlocks_for_a_while::<R, A, S>(alloc, source, party)?;
+    downgrades::<R, A, S>(alloc, source)
 }

@@ -12,7 +12,7 @@ use lock_api_mutex_checks::guard_checks::{
 };
 use lock_api_mutex_checks::raw_checks::TURNS;
 use lock_api_mutex_checks::{Look, Seen, Wrong, expect, expect_all, is_free, is_read};
-use lock_api_raw::{RawRwLock, RawRwLockDowngrade, RawRwLockFair};
+use lock_api_raw::{MakeLock, RawRwLock, RawRwLockDowngrade, RawRwLockFair};
 use std::alloc::Allocator;
 use std::sync::Wait;
 use std::thread;
@@ -90,8 +90,8 @@ where
 }
 
 /// Beside a reader there are readers and no writer, and beside a writer nobody.
-pub fn admits_readers_or_a_writer<R: RawRwLock + Drop>(
-    source: R::Source,
+pub fn admits_readers_or_a_writer<R: RawRwLock + MakeLock<S> + Drop, S>(
+    source: S,
     party: &mut R::Party,
 ) -> Result<(), Wrong>
 where
@@ -123,8 +123,8 @@ where
 }
 
 /// A lock of two readers refuses the third, until one has gone.
-pub fn counts_its_readers<R: RawRwLock + Drop>(
-    source: R::Source,
+pub fn counts_its_readers<R: RawRwLock + MakeLock<S> + Drop, S>(
+    source: S,
     party: &mut R::Party,
 ) -> Result<(), Wrong>
 where
@@ -147,12 +147,12 @@ where
 }
 
 /// What was written is what is read next, and what is taken out.
-pub fn keeps_its_value<R: RawRwLock + Drop>(
-    source: R::Source,
+pub fn keeps_its_value<R: RawRwLock + MakeLock<S> + Drop, S>(
+    source: S,
     party: &mut R::Party,
 ) -> Result<(), Wrong>
 where
-    R::Source: Copy,
+    S: Copy,
     R::Runtime: Wait,
 {
     let mut lock = RwLock::<R, u64>::default(source, 4)?;
@@ -192,8 +192,8 @@ where
 }
 
 /// `unlocked` lets a writer go for the closure's time, and the guard is held again afterwards.
-pub fn unlocks_a_writer<R: RawRwLockFair + Drop>(
-    source: R::Source,
+pub fn unlocks_a_writer<R: RawRwLockFair + MakeLock<S> + Drop, S>(
+    source: S,
     party: &mut R::Party,
 ) -> Result<(), Wrong>
 where
@@ -208,8 +208,8 @@ where
 }
 
 /// `unlocked` lets a reader go for the closure's time, and the guard is held again afterwards.
-pub fn unlocks_a_reader<R: RawRwLockFair + Drop>(
-    source: R::Source,
+pub fn unlocks_a_reader<R: RawRwLockFair + MakeLock<S> + Drop, S>(
+    source: S,
     party: &mut R::Party,
 ) -> Result<(), Wrong>
 where
@@ -242,8 +242,8 @@ where
 }
 
 /// A write guard that is downgraded reads what it wrote, and lets other readers in.
-pub fn downgrades<R: RawRwLockDowngrade + Drop>(
-    source: R::Source,
+pub fn downgrades<R: RawRwLockDowngrade + MakeLock<S> + Drop, S>(
+    source: S,
     party: &mut R::Party,
 ) -> Result<(), Wrong>
 where
@@ -261,8 +261,8 @@ where
 }
 
 /// A narrowed write guard lends the part alone, and writes it back into the whole.
-pub fn narrows_a_writer<R: RawRwLockFair + Drop>(
-    source: R::Source,
+pub fn narrows_a_writer<R: RawRwLockFair + MakeLock<S> + Drop, S>(
+    source: S,
     party: &mut R::Party,
 ) -> Result<(), Wrong>
 where
@@ -291,8 +291,8 @@ where
 }
 
 /// A narrowed read guard lends the part alone.
-pub fn narrows_a_reader<R: RawRwLockFair + Drop>(
-    source: R::Source,
+pub fn narrows_a_reader<R: RawRwLockFair + MakeLock<S> + Drop, S>(
+    source: S,
     party: &mut R::Party,
 ) -> Result<(), Wrong>
 where
@@ -315,9 +315,9 @@ where
 }
 
 /// Guards and locks print what they must.
-pub fn prints<R: RawRwLock + Drop, A: Allocator + Copy>(
+pub fn prints<R: RawRwLock + MakeLock<S> + Drop, A: Allocator + Copy, S>(
     alloc: A,
-    source: R::Source,
+    source: S,
     party: &mut R::Party,
 ) -> Result<(), Wrong>
 where
@@ -341,9 +341,9 @@ where
 }
 
 /// Narrowed guards print their part.
-pub fn prints_parts<R: RawRwLock + Drop, A: Allocator + Copy>(
+pub fn prints_parts<R: RawRwLock + MakeLock<S> + Drop, A: Allocator + Copy, S>(
     alloc: A,
-    source: R::Source,
+    source: S,
     party: &mut R::Party,
 ) -> Result<(), Wrong>
 where
@@ -369,9 +369,9 @@ where
 }
 
 /// Two threads that each add 1 a thousand times make 2,000.
-pub fn excludes<R: RawRwLock + Drop + Sync, T: Threads + Sync>(
+pub fn excludes<R: RawRwLock + MakeLock<S> + Drop + Sync, T: Threads + Sync, S>(
     rt: &T,
-    source: R::Source,
+    source: S,
     one: &mut R::Party,
     other: &mut R::Party,
 ) -> Result<(), Wrong>
@@ -386,30 +386,25 @@ where
 
 /// Each check here, one after the other: the first that finds something wrong says so.
 pub fn all<
-    R: RawRwLockFair + RawRwLockDowngrade + Drop + Sync,
+    R: RawRwLockFair + RawRwLockDowngrade + MakeLock<S> + Drop + Sync,
     T: Threads + Sync,
     A: Allocator + Copy,
->(
-    rt: &T,
-    alloc: A,
-    source: R::Source,
-    one: &mut R::Party,
-    other: &mut R::Party,
-) -> Result<(), Wrong>
+    S,
+>(rt: &T, alloc: A, source: S, one: &mut R::Party, other: &mut R::Party) -> Result<(), Wrong>
 where
-    R::Source: Copy,
+    S: Copy,
     R::Party: Send,
     R::Runtime: Wait,
 {
-    admits_readers_or_a_writer::<R>(source, one)?;
-    counts_its_readers::<R>(source, one)?;
-    keeps_its_value::<R>(source, one)?;
-    unlocks_a_writer::<R>(source, one)?;
-    unlocks_a_reader::<R>(source, one)?;
-    downgrades::<R>(source, one)?;
-    narrows_a_writer::<R>(source, one)?;
-    narrows_a_reader::<R>(source, one)?;
-    prints::<R, A>(alloc, source, one)?;
-    prints_parts::<R, A>(alloc, source, one)?;
-    excludes::<R, T>(rt, source, one, other)
+    admits_readers_or_a_writer::<R, S>(source, one)?;
+    counts_its_readers::<R, S>(source, one)?;
+    keeps_its_value::<R, S>(source, one)?;
+    unlocks_a_writer::<R, S>(source, one)?;
+    unlocks_a_reader::<R, S>(source, one)?;
+    downgrades::<R, S>(source, one)?;
+    narrows_a_writer::<R, S>(source, one)?;
+    narrows_a_reader::<R, S>(source, one)?;
+    prints::<R, A, S>(alloc, source, one)?;
+    prints_parts::<R, A, S>(alloc, source, one)?;
+    excludes::<R, T, S>(rt, source, one, other)
 }

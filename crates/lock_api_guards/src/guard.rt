@@ -28,6 +28,7 @@ impl<W: Drop, H: Hold> Drop for Guard<W, H>
 where
     H::Runtime: Wait,
 {
+    #[inline(always)]
     fn drop(self) {
         let _apart = Guard::into_hold(self).release();
     }
@@ -38,6 +39,7 @@ where
     H::Runtime: Wait,
 {
     /// Puts a hold and its std guard together. For the layer above.
+    #[inline(always)]
     pub fn over(hold: H, inner: W) -> Guard<W, H>
         ensures value { result.inner ≡ inner }
         ensures held { result.held.0 ≡ hold }
@@ -47,6 +49,7 @@ where
     }
 
     /// Gives the value back and keeps the raw hold. For the layer above.
+    #[inline(always)]
     pub fn into_hold(s: Guard<W, H>) -> H
         ensures { result ≡ s.held.0 }
     {
@@ -55,6 +58,7 @@ where
     }
 
     /// The std guard, and the raw hold under which the value is lent. For the layer above.
+    #[inline(always)]
     pub fn into_parts(s: Guard<W, H>) -> (W, Held<H, W>)
         ensures { result ≡ (s.inner, s.held) }
     {
@@ -75,6 +79,7 @@ where
     H::Runtime: Wait,
 {
     /// Takes the std lock under a hold, and puts the two together. For the layer above.
+    #[inline(always)]
     pub fn under(hold: H) -> Guard<H::Inner, H>
         ensures { result.held.0 ≡ hold }
     {
@@ -201,6 +206,7 @@ where
 
     ghost part = { λ guard. W.part guard.inner };
 
+    #[inline(always)]
     fn look(&self) -> &W::Part {
         self.inner.look()
     }
@@ -212,6 +218,7 @@ where
 {
     ghost with_part = { λ guard part. record guard { inner = W.with_part guard.inner part } };
 
+    #[inline(always)]
     fn lend(&mut self) -> &mut W::Part {
         let inner = &mut self.inner;
         inner.lend()
@@ -228,6 +235,7 @@ where
 
     ghost deref_gives = { λ guard x. x ≡ W.part guard.inner };
 
+    #[inline(always)]
     fn deref(&self) -> &W::Part {
         self.inner.look()
     }
@@ -239,6 +247,7 @@ where
 {
     ghost deref_mut_gives = { λ guard x. x ≡ W.part guard.inner };
 
+    #[inline(always)]
     fn deref_mut(&mut self) -> &mut W::Part
         ensures* writes_back { sem 𝓛 (Lends (the_row W.row H.row H.Lock.row H.Runtime.row H.Party.row H.Apart.row) W.Part.row self.entry result (λ part. record self.old { inner = W.with_part self.old.inner part })) }
         ensures value { result.now ≡ W.part self.old.inner }

@@ -197,6 +197,7 @@ impl<H, W> Model for Held<H, W> {
 
 impl<H, W> Held<H, W> {
     /// Keeps a hold, under which the value is lent by `access`.
+    #[inline(always)]
     pub fn lending(hold: H, access: &W) -> Held<H, W>
         ensures { result ≡ (hold, true) }
     {
@@ -209,6 +210,7 @@ impl<H, W> Held<H, W> {
     }
 
     /// Lends the raw hold to look at.
+    #[inline(always)]
     pub fn hold(&self) -> &H
         ensures { result.now ≡ self.now.0 }
     {
@@ -216,6 +218,7 @@ impl<H, W> Held<H, W> {
     }
 
     /// Gives the value back.
+    #[inline(always)]
     pub fn give_back(self, access: W) -> Held<H, W>
     where
         W: Drop,
@@ -231,6 +234,7 @@ impl<H, W> Held<H, W> {
     }
 
     /// The raw hold, under which nothing is lent any more.
+    #[inline(always)]
     pub fn into_hold(self) -> H
         requires { self.1 ≡ false }
         ensures { result ≡ self.0 }

@@ -40,6 +40,7 @@ impl<T> Lender for sync::RwLockReadGuard<'_, T> {
 
     ghost part = { λ guard. read_guard_value guard };
 
+    #[inline(always)]
     fn look(&self) -> &T {
         &**self
     }
@@ -50,6 +51,7 @@ impl<T> Lender for sync::RwLockWriteGuard<'_, T> {
 
     ghost part = { λ guard. write_guard_value guard };
 
+    #[inline(always)]
     fn look(&self) -> &T {
         &**self
     }
@@ -58,6 +60,7 @@ impl<T> Lender for sync::RwLockWriteGuard<'_, T> {
 impl<T> LenderMut for sync::RwLockWriteGuard<'_, T> {
     ghost with_part = { λ guard. write_guard_with_value guard };
 
+    #[inline(always)]
     fn lend(&mut self) -> &mut T {
         &mut **self
     }
@@ -70,6 +73,7 @@ impl<T> Lender for sync::MutexGuard<'_, T> {
 
     ghost part = { λ guard. mutex_guard_value guard };
 
+    #[inline(always)]
     fn look(&self) -> &T {
         &**self
     }
@@ -78,6 +82,7 @@ impl<T> Lender for sync::MutexGuard<'_, T> {
 impl<T> LenderMut for sync::MutexGuard<'_, T> {
     ghost with_part = { λ guard. mutex_guard_with_value guard };
 
+    #[inline(always)]
     fn lend(&mut self) -> &mut T {
         &mut **self
     }

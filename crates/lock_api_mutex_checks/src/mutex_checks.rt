@@ -17,7 +17,7 @@ use lock_api::{ArcGuard, Guard, Mutex};
 use lock_api_guards::{
     Access, ArcHold, FairHold, HasValue, HasValueMut, Lender, MutexHold, WriteHold,
 };
-use lock_api_raw::{NoMemory, RawMutex, RawMutexFair, RawMutexTimed};
+use lock_api_raw::{MakeLock, NoMemory, RawMutex, RawMutexFair, RawMutexTimed};
 use std::alloc::Allocator;
 use std::rt::Clock;
 use std::sync::{Arc, Wait};
@@ -26,7 +26,10 @@ use std::thread::Threads;
 use std::time::{Duration, Instant};
 
 /// A held mutex admits nobody, and a free one somebody.
-pub fn admits_one<R: RawMutex + Drop>(source: R::Source, party: &mut R::Party) -> Result<(), Wrong>
+pub fn admits_one<R: RawMutex + MakeLock<S> + Drop, S>(
+    source: S,
+    party: &mut R::Party,
+) -> Result<(), Wrong>
 where
     R::Runtime: Wait,
 {
@@ -42,12 +45,12 @@ where
 }
 
 /// What was written is what is read next, and what is taken out.
-pub fn keeps_its_value<R: RawMutex + Drop>(
-    source: R::Source,
+pub fn keeps_its_value<R: RawMutex + MakeLock<S> + Drop, S>(
+    source: S,
     party: &mut R::Party,
 ) -> Result<(), Wrong>
 where
-    R::Source: Copy,
+    S: Copy,
     R::Runtime: Wait,
 {
     let mut mutex = Mutex::<R, u64>::default(source)?;
@@ -83,11 +86,11 @@ where
 }
 
 /// Timed forms give up beside a guard, and have a free mutex.
-pub fn gives_up_in_time<R: RawMutexTimed<Duration = Duration, Instant = Instant> + Drop, C: Clock>(
-    source: R::Source,
-    clock: &C,
-    party: &mut R::Party,
-) -> Result<(), Wrong>
+pub fn gives_up_in_time<
+    R: RawMutexTimed<Duration = Duration, Instant = Instant> + MakeLock<S> + Drop,
+    C: Clock,
+    S,
+>(source: S, clock: &C, party: &mut R::Party) -> Result<(), Wrong>
 where
     R::Runtime: Wait,
 {
@@ -123,8 +126,8 @@ where
 }
 
 /// `unlocked` lets go for the closure's time, and the guard is held again afterwards.
-pub fn unlocks_for_a_while<R: RawMutexFair + Drop>(
-    source: R::Source,
+pub fn unlocks_for_a_while<R: RawMutexFair + MakeLock<S> + Drop, S>(
+    source: S,
     party: &mut R::Party,
 ) -> Result<(), Wrong>
 where
@@ -142,7 +145,10 @@ where
 }
 
 /// A mapped guard lends the part alone, and writes it back into the whole.
-pub fn narrows<R: RawMutexFair + Drop>(source: R::Source, party: &mut R::Party) -> Result<(), Wrong>
+pub fn narrows<R: RawMutexFair + MakeLock<S> + Drop, S>(
+    source: S,
+    party: &mut R::Party,
+) -> Result<(), Wrong>
 where
     R::Runtime: Wait,
 {
@@ -169,9 +175,9 @@ where
 }
 
 /// Guards and mutexes print what they must.
-pub fn prints<R: RawMutex + Drop, A: Allocator + Copy>(
+pub fn prints<R: RawMutex + MakeLock<S> + Drop, A: Allocator + Copy, S>(
     alloc: A,
-    source: R::Source,
+    source: S,
     party: &mut R::Party,
 ) -> Result<(), Wrong>
 where
@@ -187,9 +193,9 @@ where
 }
 
 /// An Arc guard holds the mutex, lends the value to closures and gives its Arc back.
-pub fn owns_an_arc<R: RawMutexFair + Drop, A: Allocator + Copy>(
+pub fn owns_an_arc<R: RawMutexFair + MakeLock<S> + Drop, A: Allocator + Copy, S>(
     alloc: A,
-    source: R::Source,
+    source: S,
     party: &mut R::Party,
 ) -> Result<(), Wrong>
 where
@@ -265,9 +271,9 @@ where
 }
 
 /// Two threads that each add 1 a thousand times make 2,000.
-pub fn excludes<R: RawMutex + Drop + Sync, T: Threads + Sync>(
+pub fn excludes<R: RawMutex + MakeLock<S> + Drop + Sync, T: Threads + Sync, S>(
     rt: &T,
-    source: R::Source,
+    source: S,
     one: &mut R::Party,
     other: &mut R::Party,
 ) -> Result<(), Wrong>
@@ -281,23 +287,23 @@ where
 }
 
 /// Each check here that asks for no clock, one after the other: the first that finds something wrong says so.
-pub fn all<R: RawMutexFair + Drop + Sync, T: Threads + Sync, A: Allocator + Copy>(
+pub fn all<R: RawMutexFair + MakeLock<S> + Drop + Sync, T: Threads + Sync, A: Allocator + Copy, S>(
     rt: &T,
     alloc: A,
-    source: R::Source,
+    source: S,
     one: &mut R::Party,
     other: &mut R::Party,
 ) -> Result<(), Wrong>
 where
-    R::Source: Copy,
+    S: Copy,
     R::Party: Send,
     R::Runtime: Wait,
 {
-    admits_one::<R>(source, one)?;
-    keeps_its_value::<R>(source, one)?;
-    unlocks_for_a_while::<R>(source, one)?;
-    narrows::<R>(source, one)?;
-    prints::<R, A>(alloc, source, one)?;
-    owns_an_arc::<R, A>(alloc, source, one)?;
-    excludes::<R, T>(rt, source, one, other)
+    admits_one::<R, S>(source, one)?;
+    keeps_its_value::<R, S>(source, one)?;
+    unlocks_for_a_while::<R, S>(source, one)?;
+    narrows::<R, S>(source, one)?;
+    prints::<R, A, S>(alloc, source, one)?;
+    owns_an_arc::<R, A, S>(alloc, source, one)?;
+    excludes::<R, T, S>(rt, source, one, other)
 }

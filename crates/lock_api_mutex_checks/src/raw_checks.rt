@@ -3,7 +3,7 @@
 //! Nothing but the raw lock keeps the two apart here. A guard would take a std lock too.
 
 use crate::wrong::{Wrong, expect};
-use lock_api_raw::{RawMutex, RawRwLock};
+use lock_api_raw::{MakeLock, RawMutex, RawRwLock};
 use std::sync::Wait;
 use std::sync::atomic::{AtomicU64, Ordering};
 use std::thread;
@@ -39,9 +39,9 @@ where
 }
 
 /// Two threads that each count up a thousand times under a raw mutex count to 2,000.
-pub fn a_mutex_excludes<R: RawMutex + Drop + Sync, T: Threads + Sync>(
+pub fn a_mutex_excludes<R: RawMutex + MakeLock<S> + Drop + Sync, T: Threads + Sync, S>(
     rt: &T,
-    source: R::Source,
+    source: S,
     one: &mut R::Party,
     other: &mut R::Party,
 ) -> Result<(), Wrong>
@@ -79,9 +79,9 @@ where
 
 /// Two threads that each count up a thousand times under a raw reader-writer lock count to 2,000, and while one of them
 /// reads, the count stays.
-pub fn a_rwlock_excludes<R: RawRwLock + Drop + Sync, T: Threads + Sync>(
+pub fn a_rwlock_excludes<R: RawRwLock + MakeLock<S> + Drop + Sync, T: Threads + Sync, S>(
     rt: &T,
-    source: R::Source,
+    source: S,
     one: &mut R::Party,
     other: &mut R::Party,
 ) -> Result<(), Wrong>

@@ -13,17 +13,19 @@ use crate::seen::{Look, Seen, is_alone, is_free};
 use crate::wrong::{Wrong, expect_all};
 use lock_api::{ArcGuard, Guard, ReentrantArcFault, ReentrantMutex};
 use lock_api_guards::{Access, ArcHold, FairHold, HasValue, Hold, Lender, ReentrantHold};
-use lock_api_raw::{GetThreadId, RawMutex, RawMutexFair, RawMutexTimed, ReadersFull};
+use lock_api_raw::{GetThreadId, MakeLock, RawMutex, RawMutexFair, RawMutexTimed, ReadersFull};
 use std::alloc::Allocator;
 use std::rt::Clock;
 use std::sync::{Arc, Wait};
 use std::time::{Duration, Instant};
 
 /// A mutex of 5 and of two holds in an Arc.
-fn mutex_in_arc<R: RawMutex + Drop, G: GetThreadId<Party = R::Party> + Drop, A: Allocator>(
-    alloc: A,
-    source: R::Source,
-) -> Result<Arc<ReentrantMutex<R, G, u64>, A>, Wrong>
+fn mutex_in_arc<
+    R: RawMutex + MakeLock<S> + Drop,
+    G: GetThreadId<Party = R::Party> + Drop,
+    A: Allocator,
+    S,
+>(alloc: A, source: S) -> Result<Arc<ReentrantMutex<R, G, u64>, A>, Wrong>
 where
     R::Runtime: Wait,
 {
@@ -72,16 +74,16 @@ where
 }
 
 /// One party locks twice, and the last of its holds releases. The third hold of a limit of two is refused.
-pub fn nests<R: RawMutex + Drop, G: GetThreadId<Party = R::Party> + Drop, A: Allocator + Copy>(
-    alloc: A,
-    source: R::Source,
-    one: &mut R::Party,
-    other: &mut R::Party,
-) -> Result<(), Wrong>
+pub fn nests<
+    R: RawMutex + MakeLock<S> + Drop,
+    G: GetThreadId<Party = R::Party> + Drop,
+    A: Allocator + Copy,
+    S,
+>(alloc: A, source: S, one: &mut R::Party, other: &mut R::Party) -> Result<(), Wrong>
 where
     R::Runtime: Wait,
 {
-    let mutex = mutex_in_arc::<R, G, A>(alloc, source)?;
+    let mutex = mutex_in_arc::<R, G, A, S>(alloc, source)?;
     let unowned = !mutex.is_owned_by_current_thread(one);
     let first = ReentrantMutex::lock_arc(&mutex, one);
     let twice = holds_twice(&mutex, one, other);
@@ -107,11 +109,11 @@ where
 }
 
 /// Borrowed guards nest too, and a narrowed one keeps its hold.
-pub fn nests_by_borrow<R: RawMutexFair + Drop, G: GetThreadId<Party = R::Party> + Drop>(
-    source: R::Source,
-    one: &mut R::Party,
-    other: &mut R::Party,
-) -> Result<(), Wrong>
+pub fn nests_by_borrow<
+    R: RawMutexFair + MakeLock<S> + Drop,
+    G: GetThreadId<Party = R::Party> + Drop,
+    S,
+>(source: S, one: &mut R::Party, other: &mut R::Party) -> Result<(), Wrong>
 where
     R::Runtime: Wait,
 {
@@ -172,10 +174,11 @@ where
 
 /// A borrowed guard gives its hold up for a closure's time, and prints its value.
 pub fn lends_by_borrow<
-    R: RawMutexFair + Drop,
+    R: RawMutexFair + MakeLock<S> + Drop,
     G: GetThreadId<Party = R::Party> + Drop,
     A: Allocator,
->(alloc: A, source: R::Source, party: &mut R::Party) -> Result<(), Wrong>
+    S,
+>(alloc: A, source: S, party: &mut R::Party) -> Result<(), Wrong>
 where
     R::Runtime: Wait,
 {
@@ -225,15 +228,16 @@ where
 
 /// `unlocked` gives the hold up for the closure's time, and fair releases release.
 pub fn unlocks_for_a_while<
-    R: RawMutexFair + Drop,
+    R: RawMutexFair + MakeLock<S> + Drop,
     G: GetThreadId<Party = R::Party> + Drop,
     A: Allocator + Copy,
->(alloc: A, source: R::Source, party: &mut R::Party) -> Result<(), Wrong>
+    S,
+>(alloc: A, source: S, party: &mut R::Party) -> Result<(), Wrong>
 where
-    R::Source: Copy,
+    S: Copy,
     R::Runtime: Wait,
 {
-    let mutex = mutex_in_arc::<R, G, A>(alloc, source)?;
+    let mutex = mutex_in_arc::<R, G, A, S>(alloc, source)?;
     let had = ReentrantMutex::lock_arc(&mutex, party);
     let guard = lets_go(had, &*mutex, party);
     let owned = mutex.is_owned_by_current_thread(party);
@@ -245,7 +249,7 @@ where
             "unlocked lets go and takes again, and into_arc_fair releases",
         ),
     ])?;
-    gives_its_value::<R, G>(source)
+    gives_its_value::<R, G, S>(source)
 }
 
 /// An Arc guard that was let go for a while and is held again.
@@ -286,11 +290,11 @@ where
 }
 
 /// What `get_mut` wrote is what is taken out, of a mutex over a raw one and of one with the value's default.
-fn gives_its_value<R: RawMutex + Drop, G: GetThreadId<Party = R::Party> + Drop>(
-    source: R::Source,
+fn gives_its_value<R: RawMutex + MakeLock<S> + Drop, G: GetThreadId<Party = R::Party> + Drop, S>(
+    source: S,
 ) -> Result<(), Wrong>
 where
-    R::Source: Copy,
+    S: Copy,
     R::Runtime: Wait,
 {
     let default = ReentrantMutex::<R, G, u64>::default(source, 2)?.into_inner();
@@ -306,21 +310,16 @@ where
 
 /// Timed forms give up beside another party's hold, and nest for the owner.
 pub fn gives_up_in_time<
-    R: RawMutexTimed<Duration = Duration, Instant = Instant> + Drop,
+    R: RawMutexTimed<Duration = Duration, Instant = Instant> + MakeLock<S> + Drop,
     G: GetThreadId<Party = R::Party> + Drop,
     C: Clock,
     A: Allocator + Copy,
->(
-    alloc: A,
-    source: R::Source,
-    clock: &C,
-    one: &mut R::Party,
-    other: &mut R::Party,
-) -> Result<(), Wrong>
+    S,
+>(alloc: A, source: S, clock: &C, one: &mut R::Party, other: &mut R::Party) -> Result<(), Wrong>
 where
     R::Runtime: Wait,
 {
-    let mutex = mutex_in_arc::<R, G, A>(alloc, source)?;
+    let mutex = mutex_in_arc::<R, G, A, S>(alloc, source)?;
     let past = moment(clock)?;
     let had = ReentrantMutex::lock_arc(&mutex, one);
     let gave_up = gives_up_beside(&mutex, past, clock, other);
@@ -348,15 +347,16 @@ where
 }
 
 /// A reentrant mutex prints what it must.
-pub fn prints<R: RawMutex + Drop, G: GetThreadId<Party = R::Party> + Drop, A: Allocator + Copy>(
-    alloc: A,
-    source: R::Source,
-    party: &mut R::Party,
-) -> Result<(), Wrong>
+pub fn prints<
+    R: RawMutex + MakeLock<S> + Drop,
+    G: GetThreadId<Party = R::Party> + Drop,
+    A: Allocator + Copy,
+    S,
+>(alloc: A, source: S, party: &mut R::Party) -> Result<(), Wrong>
 where
     R::Runtime: Wait,
 {
-    let mutex = mutex_in_arc::<R, G, A>(alloc, source)?;
+    let mutex = mutex_in_arc::<R, G, A, S>(alloc, source)?;
     let free = shows(alloc, &*mutex, "ReentrantMutex { data: 5 }");
     let had = ReentrantMutex::lock_arc(&mutex, party);
     let held = shows(alloc, &*mutex, "ReentrantMutex { data: <locked> }");
@@ -368,19 +368,19 @@ where
 }
 
 /// Each check here that asks for no clock, one after the other: the first that finds something wrong says so.
-pub fn all<R: RawMutexFair + Drop, G: GetThreadId<Party = R::Party> + Drop, A: Allocator + Copy>(
-    alloc: A,
-    source: R::Source,
-    one: &mut R::Party,
-    other: &mut R::Party,
-) -> Result<(), Wrong>
+pub fn all<
+    R: RawMutexFair + MakeLock<S> + Drop,
+    G: GetThreadId<Party = R::Party> + Drop,
+    A: Allocator + Copy,
+    S,
+>(alloc: A, source: S, one: &mut R::Party, other: &mut R::Party) -> Result<(), Wrong>
 where
-    R::Source: Copy,
+    S: Copy,
     R::Runtime: Wait,
 {
-    nests::<R, G, A>(alloc, source, one, other)?;
-    nests_by_borrow::<R, G>(source, one, other)?;
-    lends_by_borrow::<R, G, A>(alloc, source, one)?;
-    unlocks_for_a_while::<R, G, A>(alloc, source, one)?;
-    prints::<R, G, A>(alloc, source, one)
+    nests::<R, G, A, S>(alloc, source, one, other)?;
+    nests_by_borrow::<R, G, S>(source, one, other)?;
+    lends_by_borrow::<R, G, A, S>(alloc, source, one)?;
+    unlocks_for_a_while::<R, G, A, S>(alloc, source, one)?;
+    prints::<R, G, A, S>(alloc, source, one)
 }

@@ -3,7 +3,7 @@ ghost use Rattle.std.specs.Prelude.{◌≡◌, ◌-◌, ◌^◌, IfSome, min, ma
 
 use crate::turn::Turn;
 use lock_api_raw::{
-    GuardSend, MAX_READERS, RawRwLock, RawRwLockDowngrade, RawRwLockFair, RawRwLockTimed,
+    GuardSend, MAX_READERS, MakeLock, RawRwLock, RawRwLockDowngrade, RawRwLockFair, RawRwLockTimed,
     RawRwLockUpgrade, RawRwLockUpgradeDowngrade, RawRwLockUpgradeFair, RawRwLockUpgradeTimed,
     TableFull,
 };
@@ -113,10 +113,23 @@ pub(crate) fn ahead<C: Clock>(timeout: Duration, clock: &C) -> Option<Instant> {
     }
 }
 
+impl<R: Drop> MakeLock<R> for PackedLock<R> {
+    ghost limit = { λ lock. lock.limit };
+
+    ghost own_limit = { 2 ^ 60 - 1 };
+
+    fn new(source: R, readers: u64) -> Result<PackedLock<R>, TableFull> {
+        Ok(PackedLock {
+            word: AtomicU64::new(0),
+            limit: readers.max(1).min(MAX_READERS),
+            number: 0,
+            rt: source,
+        })
+    }
+}
+
 impl<R: Drop> RawRwLock for PackedLock<R> {
     type Runtime = R;
-
-    type Source = R;
 
     type Party = u32;
 
@@ -131,19 +144,6 @@ impl<R: Drop> RawRwLock for PackedLock<R> {
     ghost exclusive_by = { λ token. token };
 
     ghost runtime_of = { λ lock. lock.rt };
-
-    ghost limit = { λ lock. lock.limit };
-
-    ghost own_limit = { 2 ^ 60 - 1 };
-
-    fn new(source: R, readers: u64) -> Result<PackedLock<R>, TableFull> {
-        Ok(PackedLock {
-            word: AtomicU64::new(0),
-            limit: readers.max(1).min(MAX_READERS),
-            number: 0,
-            rt: source,
-        })
-    }
 
     fn runtime(&self) -> &R {
         &self.rt

@@ -2,7 +2,8 @@
 
 use crate::packed_lock::PackedLock;
 use lock_api_raw::{
-    GuardSend, RawMutex, RawMutexFair, RawMutexTimed, RawRwLock, RawRwLockTimed, TableFull,
+    GuardSend, MakeLock, RawMutex, RawMutexFair, RawMutexTimed, RawRwLock, RawRwLockTimed,
+    TableFull,
 };
 use std::rt::Clock;
 use std::sync::Wait;
@@ -14,10 +15,20 @@ pub struct PackedMutex<R: Drop> {
     lock: PackedLock<R>,
 }
 
+impl<R: Drop> MakeLock<R> for PackedMutex<R> {
+    ghost limit = { λ _. 1 };
+
+    ghost own_limit = { 1 };
+
+    fn new(source: R, readers: u64) -> Result<PackedMutex<R>, TableFull> {
+        Ok(PackedMutex {
+            lock: PackedLock::new(source, readers)?,
+        })
+    }
+}
+
 impl<R: Drop> RawMutex for PackedMutex<R> {
     type Runtime = R;
-
-    type Source = R;
 
     type Party = u32;
 
@@ -28,12 +39,6 @@ impl<R: Drop> RawMutex for PackedMutex<R> {
     ghost issued_by = { λ token. token };
 
     ghost runtime_of = { λ mutex. mutex.lock.rt };
-
-    fn new(source: R, readers: u64) -> Result<PackedMutex<R>, TableFull> {
-        Ok(PackedMutex {
-            lock: PackedLock::new(source, readers)?,
-        })
-    }
 
     fn runtime(&self) -> &R {
         self.lock.runtime()

@@ -1,8 +1,9 @@
 //! Raw condition variables.
-ghost use Rattle.std.specs.Prelude.{◌≡◌, Bool, true, false, Err, IsOk};
+ghost use Rattle.std.specs.Prelude.{◌≡◌, ⊤, Bool, Result};
 ghost use Rattle.lock_api_raw.specs.Waits.{IsRefusedRightly};
+ghost use Rattle.lock_api_raw.specs.declared.fault.WaitFault.{WaitFault};
 
-use crate::fault::{TableFull, WaitFault};
+use crate::fault::WaitFault;
 use crate::mutex::{RawMutex, RawMutexTimed};
 use std::rt::Clock;
 use std::sync::Wait;
@@ -12,14 +13,11 @@ pub trait RawCondvar {
     /// The mutex that it works with.
     type RawMutex: RawMutex;
 
-    /// What it is made from.
-    type Source;
-
     /// Whether the mutex belongs to the same lot as the condition variable.
     ghost same_lot: { Self → Self.RawMutex → Bool };
 
-    /// Makes a condition variable on which nobody waits. `TableFull` is the only refusal, and it takes no memory.
-    fn new(source: Self::Source) -> Result<Self, TableFull>;
+    /// That a wait with the first token gave the second, and this answer. Of a variable of any type a wait alone gives it.
+    ghost waited: { Self → Self.RawMutex.Guard → Self.RawMutex.Guard → Result (Unit {0}) WaitFault → Type 0 } = { λ _ _ _ _. ⊤ };
 
     /// Joins the queue, then unlocks the mutex, sleeps until it is notified and locks the mutex again. It spends the
     /// token of the hold and answers the one that is out afterwards.
@@ -36,7 +34,8 @@ pub trait RawCondvar {
         <Self::RawMutex as RawMutex>::Runtime: Wait,
         requires { Self.RawMutex.issued_by guard ≡ Self.RawMutex.number mutex.now }
         ensures token { Self.RawMutex.issued_by result.0 ≡ Self.RawMutex.number mutex.now }
-        ensures refused { IsRefusedRightly (same_lot self.now mutex.now) guard result.0 result.1 };
+        ensures refused { IsRefusedRightly (same_lot self.now mutex.now) guard result.0 result.1 }
+        ensures answer { waited self.now guard result.0 result.1 };
 
     /// Takes the first waiter if there is one and the variable still shows the mutex that it looked at, and answers
     /// whether one was taken.
@@ -55,6 +54,10 @@ pub trait RawCondvarTimed: RawCondvar
 where
     Self::RawMutex: RawMutexTimed,
 {
+    /// That a wait that could give up, with the first token, gave the second, and this answer. Of a variable of any type
+    /// such a wait alone gives it.
+    ghost waited_in_time: { Self → Self.RawMutex.Guard → Self.RawMutex.Guard → Result Bool WaitFault → Type 0 } = { λ _ _ _ _. ⊤ };
+
     /// As `wait`, until the moment at the latest. The answer is true exactly if the time ran out while the caller stood
     /// in this variable's own queue.
     fn wait_until<C: Clock>(
@@ -69,7 +72,8 @@ where
         <Self::RawMutex as RawMutex>::Runtime: Wait,
         requires { Self.RawMutex.issued_by guard ≡ Self.RawMutex.number mutex.now }
         ensures token { Self.RawMutex.issued_by result.0 ≡ Self.RawMutex.number mutex.now }
-        ensures refused { IsRefusedRightly (Self.same_lot self.now mutex.now) guard result.0 result.1 };
+        ensures refused { IsRefusedRightly (Self.same_lot self.now mutex.now) guard result.0 result.1 }
+        ensures answer { waited_in_time self.now guard result.0 result.1 };
 
     /// As `wait_until`, with the moment that lies `timeout` ahead. Where that can't be said there is no limit.
     fn wait_for<C: Clock>(
@@ -84,7 +88,8 @@ where
         <Self::RawMutex as RawMutex>::Runtime: Wait,
         requires { Self.RawMutex.issued_by guard ≡ Self.RawMutex.number mutex.now }
         ensures token { Self.RawMutex.issued_by result.0 ≡ Self.RawMutex.number mutex.now }
-        ensures refused { IsRefusedRightly (Self.same_lot self.now mutex.now) guard result.0 result.1 };
+        ensures refused { IsRefusedRightly (Self.same_lot self.now mutex.now) guard result.0 result.1 }
+        ensures answer { waited_in_time self.now guard result.0 result.1 };
 
     /// The moment that lies `timeout` after the clock's now. None where it can't be said, or the clock can't be read.
     fn checked_duration_to_instant<C: Clock>(

@@ -13,6 +13,7 @@
 mod condvar;
 mod fault;
 mod limit;
+mod make;
 mod mutex;
 mod projection;
 mod remutex;
@@ -22,6 +23,7 @@ mod token;
 pub use condvar::{RawCondvar, RawCondvarTimed};
 pub use fault::{NoMemory, ReadersFull, TableFull, WaitFault};
 pub use limit::MAX_READERS;
+pub use make::{MakeCondvar, MakeLock};
 pub use mutex::{RawMutex, RawMutexFair, RawMutexTimed};
 pub use projection::{Projection, Then, TotalProjection};
 pub use remutex::GetThreadId;

@@ -1,7 +1,6 @@
 //! Raw locks with one kind of hold.
-ghost use Rattle.std.specs.Prelude.{◌≡◌, ℕ, IfSome};
+ghost use Rattle.std.specs.Prelude.{◌≡◌, ℕ, ⊤, IfSome};
 
-use crate::fault::TableFull;
 use std::rt::Clock;
 use std::sync::Wait;
 
@@ -19,9 +18,6 @@ pub trait RawMutex {
     /// The runtime that the lock uses to wait.
     type Runtime;
 
-    /// What the lock is made from: a table of lock words, or for a lock without a table the runtime alone.
-    type Source;
-
     /// What a thread lends to a call that may wait.
     type Party;
 
@@ -36,10 +32,6 @@ pub trait RawMutex {
 
     /// The runtime that the lock keeps.
     ghost runtime_of: { Self → Self.Runtime };
-
-    /// Makes an unlocked lock. A plain mutex ignores `readers`, and a reentrant one keeps it as its limit of nested
-    /// holds. `TableFull` is the only refusal, and it takes no memory.
-    fn new(source: Self::Source, readers: u64) -> Result<Self, TableFull>;
 
     /// The runtime, by which the layer above takes the lock that holds the value.
     fn runtime(&self) -> &Self::Runtime
@@ -67,11 +59,18 @@ pub trait RawMutex {
 
 /// A mutex that can hand itself over.
 pub trait RawMutexFair: RawMutex {
+    /// That a fair release spent the token. Of a raw mutex of any type a fair release alone gives it.
+    ghost spent_fairly: { Self.Guard → Type 0 } = { λ _. ⊤ };
+
+    /// That a bump of the token gave this one. Of a raw mutex of any type a bump alone gives it.
+    ghost bumped: { Self.Guard → Self.Guard → Type 0 } = { λ _ _. ⊤ };
+
     /// Gives the lock up, and if somebody waits makes the first waiter its owner without letting go in between.
     fn unlock_fair(&self, guard: Self::Guard)
     where
         Self::Runtime: Wait,
-        requires { Self.issued_by guard ≡ Self.number self.now };
+        requires { Self.issued_by guard ≡ Self.number self.now }
+        ensures { spent_fairly guard };
 
     /// Lets somebody who waits go first: if there is one, a fair release and then a blocking acquisition, and else
     /// nothing. The answer is the token that is then out.
@@ -79,7 +78,8 @@ pub trait RawMutexFair: RawMutex {
     where
         Self::Runtime: Wait,
         requires { Self.issued_by guard ≡ Self.number self.now }
-        ensures { Self.issued_by result ≡ Self.number self.now };
+        ensures issued { Self.issued_by result ≡ Self.number self.now }
+        ensures bump { bumped guard result };
 }
 
 /// A mutex whose wait can give up.

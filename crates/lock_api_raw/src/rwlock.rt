@@ -1,8 +1,6 @@
 //! Raw locks with shared, exclusive and upgradable holds.
-ghost use Rattle.std.specs.Prelude.{◌≡◌, ℕ, IfSome, IfOk, MatchResult};
-ghost use Rattle.lock_api_raw.specs.Limits.{kept_limit};
+ghost use Rattle.std.specs.Prelude.{◌≡◌, ℕ, ⊤, IfSome, MatchResult};
 
-use crate::fault::TableFull;
 use std::rt::Clock;
 use std::sync::Wait;
 
@@ -19,9 +17,6 @@ use std::sync::Wait;
 pub trait RawRwLock {
     /// The runtime that the lock uses to wait.
     type Runtime;
-
-    /// What the lock is made from: a table of lock words, or for a lock without a table the runtime alone.
-    type Source;
 
     /// What a thread lends to a call that may wait.
     type Party;
@@ -43,17 +38,6 @@ pub trait RawRwLock {
 
     /// The runtime that the lock keeps.
     ghost runtime_of: { Self → Self.Runtime };
-
-    /// The limit of readers that the lock keeps.
-    ghost limit: { Self → ℕ };
-
-    /// The greatest limit that a lock of this type can keep.
-    ghost own_limit: { ℕ };
-
-    /// Makes an unlocked lock whose limit of readers is `readers`, where 0 counts as 1, or the greatest that it can
-    /// keep if that is less. `TableFull` is the only refusal, and it takes no memory.
-    fn new(source: Self::Source, readers: u64) -> Result<Self, TableFull>
-        ensures { IfOk result (λ lock. limit lock ≡ kept_limit own_limit readers) };
 
     /// The runtime, by which the layer above takes the lock that holds the value.
     fn runtime(&self) -> &Self::Runtime
@@ -100,24 +84,39 @@ pub trait RawRwLock {
 
 /// Fair releases.
 pub trait RawRwLockFair: RawRwLock {
+    /// That a fair release spent the shared token. Of a raw lock of any type such a release alone gives it.
+    ghost shared_spent_fairly: { Self.SharedGuard → Type 0 } = { λ _. ⊤ };
+
+    /// That a fair release spent the exclusive token. Of a raw lock of any type such a release alone gives it.
+    ghost exclusive_spent_fairly: { Self.ExclusiveGuard → Type 0 } = { λ _. ⊤ };
+
+    /// That a bump of the shared token gave this one. Of a raw lock of any type such a bump alone gives it.
+    ghost shared_bumped: { Self.SharedGuard → Self.SharedGuard → Type 0 } = { λ _ _. ⊤ };
+
+    /// That a bump of the exclusive token gave this one. Of a raw lock of any type such a bump alone gives it.
+    ghost exclusive_bumped: { Self.ExclusiveGuard → Self.ExclusiveGuard → Type 0 } = { λ _ _. ⊤ };
+
     /// Gives a shared hold up. The last shared release hands over exactly as a plain one does.
     fn unlock_shared_fair(&self, guard: Self::SharedGuard)
     where
         Self::Runtime: Wait,
-        requires { Self.shared_by guard ≡ Self.number self.now };
+        requires { Self.shared_by guard ≡ Self.number self.now }
+        ensures { shared_spent_fairly guard };
 
     /// Gives the exclusive hold up, and hands the lock to those who wait without letting go in between.
     fn unlock_exclusive_fair(&self, guard: Self::ExclusiveGuard)
     where
         Self::Runtime: Wait,
-        requires { Self.exclusive_by guard ≡ Self.number self.now };
+        requires { Self.exclusive_by guard ≡ Self.number self.now }
+        ensures { exclusive_spent_fairly guard };
 
     /// If a writer waits, a fair shared release and then a blocking shared acquisition, and else nothing.
     fn bump_shared(&self, guard: Self::SharedGuard, party: &mut Self::Party) -> Self::SharedGuard
     where
         Self::Runtime: Wait,
         requires { Self.shared_by guard ≡ Self.number self.now }
-        ensures { Self.shared_by result ≡ Self.number self.now };
+        ensures issued { Self.shared_by result ≡ Self.number self.now }
+        ensures bump { shared_bumped guard result };
 
     /// If somebody waits, a fair exclusive release and then a blocking exclusive acquisition, and else nothing.
     fn bump_exclusive(
@@ -128,7 +127,8 @@ pub trait RawRwLockFair: RawRwLock {
     where
         Self::Runtime: Wait,
         requires { Self.exclusive_by guard ≡ Self.number self.now }
-        ensures { Self.exclusive_by result ≡ Self.number self.now };
+        ensures issued { Self.exclusive_by result ≡ Self.number self.now }
+        ensures bump { exclusive_bumped guard result };
 }
 
 /// From exclusive to shared.
@@ -239,11 +239,18 @@ pub trait RawRwLockUpgrade: RawRwLock {
 
 /// Fair upgradable releases.
 pub trait RawRwLockUpgradeFair: RawRwLockUpgrade + RawRwLockFair {
+    /// That a fair release spent the upgradable token. Of a raw lock of any type such a release alone gives it.
+    ghost upgradable_spent_fairly: { Self.UpgradableGuard → Type 0 } = { λ _. ⊤ };
+
+    /// That a bump of the upgradable token gave this one. Of a raw lock of any type such a bump alone gives it.
+    ghost upgradable_bumped: { Self.UpgradableGuard → Self.UpgradableGuard → Type 0 } = { λ _ _. ⊤ };
+
     /// Gives the upgradable hold up, and hands over to those who wait.
     fn unlock_upgradable_fair(&self, guard: Self::UpgradableGuard)
     where
         Self::Runtime: Wait,
-        requires { Self.upgradable_by guard ≡ Self.number self.now };
+        requires { Self.upgradable_by guard ≡ Self.number self.now }
+        ensures { upgradable_spent_fairly guard };
 
     /// If somebody waits, a fair upgradable release and then a blocking upgradable acquisition, and else nothing.
     fn bump_upgradable(
@@ -254,7 +261,8 @@ pub trait RawRwLockUpgradeFair: RawRwLockUpgrade + RawRwLockFair {
     where
         Self::Runtime: Wait,
         requires { Self.upgradable_by guard ≡ Self.number self.now }
-        ensures { Self.upgradable_by result ≡ Self.number self.now };
+        ensures issued { Self.upgradable_by result ≡ Self.number self.now }
+        ensures bump { upgradable_bumped guard result };
 }
 
 /// From upgradable to shared, and from exclusive to upgradable.

@@ -11,7 +11,7 @@ use std::sync::{Arc, Wait};
 
 impl<L: HasRaw + Drop, A: Allocator, M: Mode<L::Raw>> RawHold<Arc<L, A>, M> {
     /// Clones the Arc, and then waits for a hold. A refused clone takes no lock.
-    pub(crate) fn wait_by_clone(
+    pub fn wait_by_clone(
         this: &Arc<L, A>,
         party: &mut M::Party,
     ) -> Result<RawHold<Arc<L, A>, M>, NoMemory>
@@ -24,9 +24,7 @@ impl<L: HasRaw + Drop, A: Allocator, M: Mode<L::Raw>> RawHold<Arc<L, A>, M> {
     }
 
     /// Clones the Arc, and then tries. A refused clone takes no lock.
-    pub(crate) fn at_once_by_clone(
-        this: &Arc<L, A>,
-    ) -> Result<Option<RawHold<Arc<L, A>, M>>, NoMemory>
+    pub fn at_once_by_clone(this: &Arc<L, A>) -> Result<Option<RawHold<Arc<L, A>, M>>, NoMemory>
         ensures { IfOk result (λ found. IfSome found (λ hold. arc_value hold.place ≡ arc_value this.now)) }
     {
         Ok(RawHold::at_once(Arc::try_clone(this)?))
@@ -38,7 +36,7 @@ where
     M::Runtime: Wait,
 {
     /// Clones the Arc, and then waits: None if the wait is given up after the length of time.
-    pub(crate) fn wait_by_clone_for<C: Clock>(
+    pub fn wait_by_clone_for<C: Clock>(
         this: &Arc<L, A>,
         timeout: M::Duration,
         clock: &C,
@@ -53,7 +51,7 @@ where
     }
 
     /// Clones the Arc, and then waits: None if the wait is given up at the moment.
-    pub(crate) fn wait_by_clone_until<C: Clock>(
+    pub fn wait_by_clone_until<C: Clock>(
         this: &Arc<L, A>,
         deadline: M::Instant,
         clock: &C,

@@ -2,8 +2,8 @@
 ghost use Rattle.std.specs.Prelude.{◌≡◌, ℕ, ⊤, IfSome};
 
 use lock_api_raw::{
-    RawRwLock, RawRwLockFair, RawRwLockTimed, RawRwLockUpgrade, RawRwLockUpgradeFair,
-    RawRwLockUpgradeTimed,
+    RawMutex, RawMutexFair, RawMutexTimed, RawRwLock, RawRwLockFair, RawRwLockTimed,
+    RawRwLockUpgrade, RawRwLockUpgradeFair, RawRwLockUpgradeTimed,
 };
 use std::rt::Clock;
 use std::sync::Wait;
@@ -102,6 +102,8 @@ pub trait Writes {}
 
 impl Writes for Exclusive {}
 
+impl Writes for Locked {}
+
 /// The mode of those that read beside each other.
 pub struct Shared;
 
@@ -110,6 +112,9 @@ pub struct Exclusive;
 
 /// The mode of one that reads beside others and may become exclusive.
 pub struct Upgradable;
+
+/// The one mode of a mutex.
+pub struct Locked;
 
 impl<R: RawRwLock> Mode<R> for Shared {
     type Token = R::SharedGuard;
@@ -122,6 +127,7 @@ impl<R: RawRwLock> Mode<R> for Shared {
 
     ghost issued_by = { λ token. R.shared_by token };
 
+    #[inline(always)]
     fn lock(raw: &R, party: &mut R::Party) -> R::SharedGuard
     where
         R::Runtime: Wait,
@@ -129,10 +135,12 @@ impl<R: RawRwLock> Mode<R> for Shared {
         raw.lock_shared(party)
     }
 
+    #[inline(always)]
     fn try_lock(raw: &R) -> Option<R::SharedGuard> {
         raw.try_lock_shared()
     }
 
+    #[inline(always)]
     fn unlock(raw: &R, token: R::SharedGuard)
     where
         R::Runtime: Wait,
@@ -142,6 +150,10 @@ impl<R: RawRwLock> Mode<R> for Shared {
 }
 
 impl<R: RawRwLockFair> FairMode<R> for Shared {
+    ghost spent_fairly = { λ token. R.shared_spent_fairly token };
+
+    ghost bumped = { λ token after. R.shared_bumped token after };
+
     fn unlock_fair(raw: &R, token: R::SharedGuard)
     where
         R::Runtime: Wait,
@@ -198,6 +210,7 @@ impl<R: RawRwLock> Mode<R> for Exclusive {
 
     ghost issued_by = { λ token. R.exclusive_by token };
 
+    #[inline(always)]
     fn lock(raw: &R, party: &mut R::Party) -> R::ExclusiveGuard
     where
         R::Runtime: Wait,
@@ -205,10 +218,12 @@ impl<R: RawRwLock> Mode<R> for Exclusive {
         raw.lock_exclusive(party)
     }
 
+    #[inline(always)]
     fn try_lock(raw: &R) -> Option<R::ExclusiveGuard> {
         raw.try_lock_exclusive()
     }
 
+    #[inline(always)]
     fn unlock(raw: &R, token: R::ExclusiveGuard)
     where
         R::Runtime: Wait,
@@ -218,6 +233,10 @@ impl<R: RawRwLock> Mode<R> for Exclusive {
 }
 
 impl<R: RawRwLockFair> FairMode<R> for Exclusive {
+    ghost spent_fairly = { λ token. R.exclusive_spent_fairly token };
+
+    ghost bumped = { λ token after. R.exclusive_bumped token after };
+
     fn unlock_fair(raw: &R, token: R::ExclusiveGuard)
     where
         R::Runtime: Wait,
@@ -274,6 +293,7 @@ impl<R: RawRwLockUpgrade> Mode<R> for Upgradable {
 
     ghost issued_by = { λ token. R.upgradable_by token };
 
+    #[inline(always)]
     fn lock(raw: &R, party: &mut R::Party) -> R::UpgradableGuard
     where
         R::Runtime: Wait,
@@ -281,10 +301,12 @@ impl<R: RawRwLockUpgrade> Mode<R> for Upgradable {
         raw.lock_upgradable(party)
     }
 
+    #[inline(always)]
     fn try_lock(raw: &R) -> Option<R::UpgradableGuard> {
         raw.try_lock_upgradable()
     }
 
+    #[inline(always)]
     fn unlock(raw: &R, token: R::UpgradableGuard)
     where
         R::Runtime: Wait,
@@ -294,6 +316,10 @@ impl<R: RawRwLockUpgrade> Mode<R> for Upgradable {
 }
 
 impl<R: RawRwLockUpgradeFair> FairMode<R> for Upgradable {
+    ghost spent_fairly = { λ token. R.upgradable_spent_fairly token };
+
+    ghost bumped = { λ token after. R.upgradable_bumped token after };
+
     fn unlock_fair(raw: &R, token: R::UpgradableGuard)
     where
         R::Runtime: Wait,
@@ -336,5 +362,88 @@ impl<R: RawRwLockUpgradeTimed> TimedMode<R> for Upgradable {
         R::Runtime: Wait,
     {
         raw.try_lock_upgradable_until(deadline, clock, party)
+    }
+}
+
+impl<R: RawMutex> Mode<R> for Locked {
+    type Token = R::Guard;
+
+    type Runtime = R::Runtime;
+
+    type Party = R::Party;
+
+    ghost number = { λ raw. R.number raw };
+
+    ghost issued_by = { λ token. R.issued_by token };
+
+    #[inline(always)]
+    fn lock(raw: &R, party: &mut R::Party) -> R::Guard
+    where
+        R::Runtime: Wait,
+    {
+        raw.lock(party)
+    }
+
+    #[inline(always)]
+    fn try_lock(raw: &R) -> Option<R::Guard> {
+        raw.try_lock()
+    }
+
+    #[inline(always)]
+    fn unlock(raw: &R, token: R::Guard)
+    where
+        R::Runtime: Wait,
+    {
+        raw.unlock(token);
+    }
+}
+
+impl<R: RawMutexFair> FairMode<R> for Locked {
+    ghost spent_fairly = { λ token. R.spent_fairly token };
+
+    ghost bumped = { λ token after. R.bumped token after };
+
+    fn unlock_fair(raw: &R, token: R::Guard)
+    where
+        R::Runtime: Wait,
+    {
+        raw.unlock_fair(token);
+    }
+
+    fn bump(raw: &R, token: R::Guard, party: &mut R::Party) -> R::Guard
+    where
+        R::Runtime: Wait,
+    {
+        raw.bump(token, party)
+    }
+}
+
+impl<R: RawMutexTimed> TimedMode<R> for Locked {
+    type Duration = R::Duration;
+
+    type Instant = R::Instant;
+
+    fn lock_for<C: Clock>(
+        raw: &R,
+        timeout: R::Duration,
+        clock: &C,
+        party: &mut R::Party,
+    ) -> Option<R::Guard>
+    where
+        R::Runtime: Wait,
+    {
+        raw.try_lock_for(timeout, clock, party)
+    }
+
+    fn lock_until<C: Clock>(
+        raw: &R,
+        deadline: R::Instant,
+        clock: &C,
+        party: &mut R::Party,
+    ) -> Option<R::Guard>
+    where
+        R::Runtime: Wait,
+    {
+        raw.try_lock_until(deadline, clock, party)
     }
 }

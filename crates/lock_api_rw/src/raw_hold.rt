@@ -1,8 +1,9 @@
 //! A hold of any mode, of a lock that is borrowed or owned.
 ghost use Rattle.std.specs.Prelude.{◌≡◌, IfSome};
 
-use crate::mode::{FairMode, Mode, TimedMode, Writes};
-use lock_api_guards::{Access, ArcHold, FairHold, Hold, WriteHold};
+use crate::mode::{FairMode, Locked, Mode, TimedMode, Writes};
+use lock_api_guards::{Access, ArcHold, FairHold, Hold, MutexHold, WriteHold};
+use lock_api_raw::RawMutex;
 use std::alloc::Allocator;
 use std::marker::{Model, PhantomData};
 use std::rt::Clock;
@@ -39,6 +40,7 @@ impl<'l, L: HasRaw> Place for &'l L {
 
     ghost lock_of = { λ place. place.now };
 
+    #[inline(always)]
     fn lock(&self) -> &L {
         *self
     }
@@ -51,6 +53,7 @@ impl<L: HasRaw, A: Allocator> Place for Arc<L, A> {
 
     ghost lock_of = { λ place. arc_value place };
 
+    #[inline(always)]
     fn lock(&self) -> &L {
         &**self
     }
@@ -89,6 +92,7 @@ impl<L: Place, M: Mode<<L::Lock as HasRaw>::Raw>> Model for RawHold<L, M> {
 
 impl<L: Place, M: Mode<<L::Lock as HasRaw>::Raw>> RawHold<L, M> {
     /// Keeps a token that the lock issued.
+    #[inline(always)]
     pub fn new(place: L, token: M::Token) -> RawHold<L, M>
         requires { M.issued_by token ≡ M.number (L.Lock.raw_of (L.lock_of place)) }
         ensures { result ≡ record { place = place; token = token } }
@@ -101,6 +105,7 @@ impl<L: Place, M: Mode<<L::Lock as HasRaw>::Raw>> RawHold<L, M> {
     }
 
     /// The place and the token, which is one that the lock issued.
+    #[inline(always)]
     pub fn into_parts(self) -> (L, M::Token)
         ensures parts { result ≡ (self.place, self.token) }
         ensures issued { M.issued_by self.token ≡ M.number (L.Lock.raw_of (L.lock_of self.place)) }
@@ -113,7 +118,16 @@ impl<L: Place, M: Mode<<L::Lock as HasRaw>::Raw>> RawHold<L, M> {
         (place, token)
     }
 
+    /// Lends the place of the lock.
+    #[inline(always)]
+    pub fn place(&self) -> &L
+        ensures { result.now ≡ self.now.place }
+    {
+        &self.place
+    }
+
     /// Waits for a hold.
+    #[inline(always)]
     pub fn wait(place: L, party: &mut M::Party) -> RawHold<L, M>
     where
         M::Runtime: Wait,
@@ -124,6 +138,7 @@ impl<L: Place, M: Mode<<L::Lock as HasRaw>::Raw>> RawHold<L, M> {
     }
 
     /// A hold at once, or None.
+    #[inline(always)]
     pub fn at_once(place: L) -> Option<RawHold<L, M>>
     where
         L: Drop,
@@ -182,10 +197,12 @@ impl<L: Place + Drop, M: Mode<<L::Lock as HasRaw>::Raw>> Hold for RawHold<L, M> 
 
     ghost apart_of = { λ place. L.lock_of place };
 
+    #[inline(always)]
     fn lock(&self) -> &L::Lock {
         self.place.lock()
     }
 
+    #[inline(always)]
     fn release(self) -> L
     where
         M::Runtime: Wait,
@@ -195,6 +212,7 @@ impl<L: Place + Drop, M: Mode<<L::Lock as HasRaw>::Raw>> Hold for RawHold<L, M> 
         place
     }
 
+    #[inline(always)]
     fn again(place: L, party: &mut M::Party) -> RawHold<L, M>
     where
         M::Runtime: Wait,
@@ -213,6 +231,11 @@ where
 }
 
 impl<L: Place + Drop, M: Mode<<L::Lock as HasRaw>::Raw> + Writes> WriteHold for RawHold<L, M> {}
+
+impl<R: RawMutex, L: Place + Drop> MutexHold for RawHold<L, Locked>
+where
+    L::Lock: HasRaw<Raw = R>,
+{}
 
 impl<L: Place + Drop, M: FairMode<<L::Lock as HasRaw>::Raw>> FairHold for RawHold<L, M> {
     ghost left_fairly = { λ hold _. M.spent_fairly hold.token };
@@ -241,6 +264,7 @@ impl<L: Place + Drop, M: FairMode<<L::Lock as HasRaw>::Raw>> FairHold for RawHol
 impl<'l, L: LockValue<'l, M>, M: Mode<L::Raw>> Access for RawHold<&'l L, M> {
     type Inner = L::Inner;
 
+    #[inline(always)]
     fn access(&self) -> L::Inner
     where
         M::Runtime: Wait,

@@ -5,7 +5,7 @@ ghost use Rattle.lock_api_raw.specs.Limits.{kept_limit};
 use crate::mode::{Exclusive, Mode, Shared, Upgradable};
 use crate::raw_hold::{HasRaw, LockValue, RawHold};
 use lock_api_guards::{Guard, HasValue, HasValueMut, Mapped, RwLockHold, lent, lent_mut};
-use lock_api_raw::{RawRwLock, RawRwLockUpgrade, TableFull};
+use lock_api_raw::{MakeLock, RawRwLock, RawRwLockUpgrade, TableFull};
 use std::alloc::Allocator;
 use std::marker::Model;
 use std::rt::Clock;
@@ -105,6 +105,7 @@ impl<R, T> HasRaw for RwLock<R, T> {
 
     ghost raw_of = { λ lock. lock };
 
+    #[inline(always)]
     fn raw(&self) -> &R {
         &self.raw
     }
@@ -117,6 +118,7 @@ impl<R: Drop, T: Drop, A: Allocator, M: Mode<R>> RwLockHold for RawHold<Arc<RwLo
 impl<'l, R: RawRwLock, T: 'l> LockValue<'l, Shared> for RwLock<R, T> {
     type Inner = sync::RwLockReadGuard<'l, T>;
 
+    #[inline(always)]
     fn access(&'l self) -> sync::RwLockReadGuard<'l, T>
     where
         R::Runtime: Wait,
@@ -128,6 +130,7 @@ impl<'l, R: RawRwLock, T: 'l> LockValue<'l, Shared> for RwLock<R, T> {
 impl<'l, R: RawRwLockUpgrade, T: 'l> LockValue<'l, Upgradable> for RwLock<R, T> {
     type Inner = sync::RwLockReadGuard<'l, T>;
 
+    #[inline(always)]
     fn access(&'l self) -> sync::RwLockReadGuard<'l, T>
     where
         R::Runtime: Wait,
@@ -139,6 +142,7 @@ impl<'l, R: RawRwLockUpgrade, T: 'l> LockValue<'l, Upgradable> for RwLock<R, T> 
 impl<'l, R: RawRwLock, T: 'l> LockValue<'l, Exclusive> for RwLock<R, T> {
     type Inner = sync::RwLockWriteGuard<'l, T>;
 
+    #[inline(always)]
     fn access(&'l self) -> sync::RwLockWriteGuard<'l, T>
     where
         R::Runtime: Wait,
@@ -174,33 +178,52 @@ where
     R::Runtime: Wait,
 {
     /// Takes the std lock to read the value, by its own try first.
+    #[inline(always)]
     pub(crate) fn for_reading(&self) -> sync::RwLockReadGuard<'_, T> {
         match self.value.try_read() {
             Some(inner) => inner,
-            None => self.value.read(self.raw.runtime()),
+            None => self.wait_to_read(),
         }
     }
 
+    /// Waits for the std lock to read the value.
+    #[cold]
+    #[inline(never)]
+    fn wait_to_read(&self) -> sync::RwLockReadGuard<'_, T> {
+        self.value.read(self.raw.runtime())
+    }
+
     /// Takes the std lock to write the value, by its own try first.
+    #[inline(always)]
     pub(crate) fn for_writing(&self) -> sync::RwLockWriteGuard<'_, T> {
         match self.value.try_write() {
             Some(inner) => inner,
-            None => self.value.write(self.raw.runtime()),
+            None => self.wait_to_write(),
         }
+    }
+
+    /// Waits for the std lock to write the value.
+    #[cold]
+    #[inline(never)]
+    fn wait_to_write(&self) -> sync::RwLockWriteGuard<'_, T> {
+        self.value.write(self.raw.runtime())
     }
 }
 
 impl<R: RawRwLock, T: Drop> RwLock<R, T> {
     /// Makes an unlocked lock over a new raw lock with that limit of readers. A refusal lets the value go.
-    pub fn new(source: R::Source, readers: u64, value: T) -> Result<RwLock<R, T>, TableFull>
+    pub fn new<S>(source: S, readers: u64, value: T) -> Result<RwLock<R, T>, TableFull>
+    where
+        R: MakeLock<S>,
         ensures { IfOk result (λ lock. R.limit lock ≡ kept_limit R.own_limit readers) }
     {
         Ok(RwLock::from_raw(R::new(source, readers)?, value))
     }
 
     /// `new` with the value's default.
-    pub fn default(source: R::Source, readers: u64) -> Result<RwLock<R, T>, TableFull>
+    pub fn default<S>(source: S, readers: u64) -> Result<RwLock<R, T>, TableFull>
     where
+        R: MakeLock<S>,
         T: Default,
         ensures { IfOk result (λ lock. R.limit lock ≡ kept_limit R.own_limit readers) }
     {
@@ -225,13 +248,20 @@ where
     R::Runtime: Wait,
 {
     /// Waits for a shared hold of the raw lock, and then for the std lock.
+    #[inline(always)]
     pub fn read(&self, party: &mut R::Party) -> RwLockReadGuard<'_, R, T>
         ensures { result.held.0.place.now ≡ self.now }
     {
-        Guard::under(RawHold::wait(self, party))
+        let token = self.raw.lock_shared(party);
+        let hold = RawHold::new(self, token);
+        match self.value.try_read() {
+            Some(inner) => Guard::over(hold, inner),
+            None => Guard::under(hold),
+        }
     }
 
     /// A shared guard at once, or None. It waits for nobody.
+    #[inline(always)]
     pub fn try_read(&self) -> Option<RwLockReadGuard<'_, R, T>>
         ensures { IfSome result (λ guard. guard.held.0.place.now ≡ self.now) }
     {
@@ -240,13 +270,20 @@ where
     }
 
     /// Waits until no other hold of the raw lock is left, and then for the std lock.
+    #[inline(always)]
     pub fn write(&self, party: &mut R::Party) -> RwLockWriteGuard<'_, R, T>
         ensures { result.held.0.place.now ≡ self.now }
     {
-        Guard::under(RawHold::wait(self, party))
+        let token = self.raw.lock_exclusive(party);
+        let hold = RawHold::new(self, token);
+        match self.value.try_write() {
+            Some(inner) => Guard::over(hold, inner),
+            None => Guard::under(hold),
+        }
     }
 
     /// An exclusive guard at once, or None. It waits for nobody.
+    #[inline(always)]
     pub fn try_write(&self) -> Option<RwLockWriteGuard<'_, R, T>>
         ensures { IfSome result (λ guard. guard.held.0.place.now ≡ self.now) }
     {
@@ -260,6 +297,7 @@ where
     R::Runtime: Wait,
 {
     /// Waits for an upgradable hold of the raw lock, and then for the std lock.
+    #[inline(always)]
     pub fn upgradable_read(&self, party: &mut R::Party) -> RwLockUpgradableReadGuard<'_, R, T>
         ensures { result.held.0.place.now ≡ self.now }
     {
@@ -267,6 +305,7 @@ where
     }
 
     /// An upgradable guard at once, or None. It waits for nobody.
+    #[inline(always)]
     pub fn try_upgradable_read(&self) -> Option<RwLockUpgradableReadGuard<'_, R, T>>
         ensures { IfSome result (λ guard. guard.held.0.place.now ≡ self.now) }
     {

@@ -11,7 +11,9 @@ use lock_api_checks::{Look, Wrong, expect_all, is_alone, is_free, is_read, momen
 use lock_api_guards::{
     Access, HasValue, HasValueMut, Hold, Lender, LenderMut, RestoreHold, TimedUpgradeHold,
 };
-use lock_api_raw::{NoMemory, RawRwLockTimed, RawRwLockUpgradeDowngrade, RawRwLockUpgradeTimed};
+use lock_api_raw::{
+    MakeLock, NoMemory, RawRwLockTimed, RawRwLockUpgradeDowngrade, RawRwLockUpgradeTimed,
+};
 use std::alloc::Allocator;
 use std::rt::Clock;
 use std::sync::Wait;
@@ -45,11 +47,11 @@ where
 }
 
 /// Timed forms give up beside a guard that excludes them, and have a free lock. A moment that has come gives up at once.
-pub fn gives_up_in_time<R: RawRwLockTimed<Duration = Duration, Instant = Instant> + Drop, C: Clock>(
-    source: R::Source,
-    clock: &C,
-    party: &mut R::Party,
-) -> Result<(), Wrong>
+pub fn gives_up_in_time<
+    R: RawRwLockTimed<Duration = Duration, Instant = Instant> + MakeLock<S> + Drop,
+    C: Clock,
+    S,
+>(source: S, clock: &C, party: &mut R::Party) -> Result<(), Wrong>
 where
     R::Runtime: Wait,
 {
@@ -75,14 +77,15 @@ where
 
 /// Timed Arc forms give up beside a guard that excludes them, and have a free lock.
 pub fn gives_up_an_arc_in_time<
-    R: RawRwLockTimed<Duration = Duration, Instant = Instant> + Drop,
+    R: RawRwLockTimed<Duration = Duration, Instant = Instant> + MakeLock<S> + Drop,
     C: Clock,
     A: Allocator + Copy,
->(alloc: A, source: R::Source, clock: &C, party: &mut R::Party) -> Result<(), Wrong>
+    S,
+>(alloc: A, source: S, clock: &C, party: &mut R::Party) -> Result<(), Wrong>
 where
     R::Runtime: Wait,
 {
-    let lock = lock_in_arc::<R, A>(alloc, source, 5)?;
+    let lock = lock_in_arc::<R, A, S>(alloc, source, 5)?;
     let past = moment(clock)?;
     let reader = lock.read(party);
     let waited = is_refused(RwLock::try_write_arc_for(&lock, short(), clock, party));
@@ -109,9 +112,11 @@ where
 pub fn gives_up_an_upgrade<
     R: RawRwLockUpgradeTimed<Duration = Duration, Instant = Instant>
         + RawRwLockUpgradeDowngrade
+        + MakeLock<S>
         + Drop,
     C: Clock,
->(source: R::Source, clock: &C, party: &mut R::Party) -> Result<(), Wrong>
+    S,
+>(source: S, clock: &C, party: &mut R::Party) -> Result<(), Wrong>
 where
     R::Runtime: Wait,
 {
@@ -236,14 +241,16 @@ where
 pub fn gives_up_an_upgrade_of_an_arc<
     R: RawRwLockUpgradeTimed<Duration = Duration, Instant = Instant>
         + RawRwLockUpgradeDowngrade
+        + MakeLock<S>
         + Drop,
     C: Clock,
     A: Allocator + Copy,
->(alloc: A, source: R::Source, clock: &C, party: &mut R::Party) -> Result<(), Wrong>
+    S,
+>(alloc: A, source: S, clock: &C, party: &mut R::Party) -> Result<(), Wrong>
 where
     R::Runtime: Wait,
 {
-    let lock = lock_in_arc::<R, A>(alloc, source, 5)?;
+    let lock = lock_in_arc::<R, A, S>(alloc, source, 5)?;
     let past = moment(clock)?;
     let upgradable = RwLock::try_upgradable_read_arc_for(&lock, short(), clock, party);
     let other = RwLock::try_upgradable_read_arc_until(&lock, past, clock, party);

@@ -11,20 +11,20 @@ use lock_api_checks::{Look, Wrong, expect_all, is_alone, is_free, is_read};
 use lock_api_guards::{
     DowngradeHold, DowngradeToUpgradable, HasValue, HasValueMut, Hold, RestoreHold, UpgradeHold,
 };
-use lock_api_raw::{NoMemory, RawRwLockUpgrade, RawRwLockUpgradeDowngrade};
+use lock_api_raw::{MakeLock, NoMemory, RawRwLockUpgrade, RawRwLockUpgradeDowngrade};
 use std::alloc::Allocator;
 use std::sync::Wait;
 
 /// An Arc guard is upgraded where no reader is left, and else comes back, still held.
-pub fn upgrades<R: RawRwLockUpgrade + Drop, A: Allocator + Copy>(
+pub fn upgrades<R: RawRwLockUpgrade + MakeLock<S> + Drop, A: Allocator + Copy, S>(
     alloc: A,
-    source: R::Source,
+    source: S,
     party: &mut R::Party,
 ) -> Result<(), Wrong>
 where
     R::Runtime: Wait,
 {
-    let lock = lock_in_arc::<R, A>(alloc, source, 5)?;
+    let lock = lock_in_arc::<R, A, S>(alloc, source, 5)?;
     let upgradable = RwLock::upgradable_read_arc(&lock, party);
     let alone = is_refused(RwLock::try_upgradable_read_arc(&lock));
     let tried = tries_to_upgrade(upgradable, lock.read(party), &*lock);
@@ -91,15 +91,15 @@ where
 }
 
 /// The value is written under an upgraded Arc guard for a closure's time, and each mode is turned into the next.
-pub fn writes_upgraded<R: RawRwLockUpgradeDowngrade + Drop, A: Allocator + Copy>(
+pub fn writes_upgraded<R: RawRwLockUpgradeDowngrade + MakeLock<S> + Drop, A: Allocator + Copy, S>(
     alloc: A,
-    source: R::Source,
+    source: S,
     party: &mut R::Party,
 ) -> Result<(), Wrong>
 where
     R::Runtime: Wait,
 {
-    let lock = lock_in_arc::<R, A>(alloc, source, 4)?;
+    let lock = lock_in_arc::<R, A, S>(alloc, source, 4)?;
     let upgradable = becomes_upgradable(RwLock::write_arc(&lock, party));
     let (alone, upgradable) = writes_alone(upgradable, &*lock, party);
     let turned = writes_beside_nobody(upgradable, lock.read(party), &*lock);

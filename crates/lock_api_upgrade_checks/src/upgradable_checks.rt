@@ -13,7 +13,7 @@ use lock_api_guards::{
     Access, DowngradeHold, DowngradeToUpgradable, FairHold, Hold, Lender, LenderMut, RestoreHold,
     RwLockHold, UpgradeHold,
 };
-use lock_api_raw::{RawRwLockUpgrade, RawRwLockUpgradeDowngrade, RawRwLockUpgradeFair};
+use lock_api_raw::{MakeLock, RawRwLockUpgrade, RawRwLockUpgradeDowngrade, RawRwLockUpgradeFair};
 use std::alloc::Allocator;
 use std::sync::Wait;
 use std::thread;
@@ -133,8 +133,8 @@ where
 }
 
 /// Beside an upgradable guard there are readers, and neither a writer nor another upgradable guard.
-pub fn admits_one<R: RawRwLockUpgrade + Drop>(
-    source: R::Source,
+pub fn admits_one<R: RawRwLockUpgrade + MakeLock<S> + Drop, S>(
+    source: S,
     party: &mut R::Party,
 ) -> Result<(), Wrong>
 where
@@ -167,8 +167,8 @@ where
 }
 
 /// An upgradable guard counts among the readers.
-pub fn counts_among_readers<R: RawRwLockUpgrade + Drop>(
-    source: R::Source,
+pub fn counts_among_readers<R: RawRwLockUpgrade + MakeLock<S> + Drop, S>(
+    source: S,
     party: &mut R::Party,
 ) -> Result<(), Wrong>
 where
@@ -203,8 +203,8 @@ where
 }
 
 /// An upgrade waits for readers to go, and a try of one gives the same guard back, still held.
-pub fn upgrades<R: RawRwLockUpgrade + Drop>(
-    source: R::Source,
+pub fn upgrades<R: RawRwLockUpgrade + MakeLock<S> + Drop, S>(
+    source: S,
     party: &mut R::Party,
 ) -> Result<(), Wrong>
 where
@@ -272,8 +272,8 @@ where
 }
 
 /// The value is written under the upgraded guard for a closure's time, and not beside a reader.
-pub fn writes_upgraded<R: RawRwLockUpgradeDowngrade + Drop>(
-    source: R::Source,
+pub fn writes_upgraded<R: RawRwLockUpgradeDowngrade + MakeLock<S> + Drop, S>(
+    source: S,
     party: &mut R::Party,
 ) -> Result<(), Wrong>
 where
@@ -341,8 +341,8 @@ where
 }
 
 /// A writer becomes upgradable, and an upgradable guard a reader, and each keeps the value.
-pub fn downgrades<R: RawRwLockUpgradeDowngrade + Drop>(
-    source: R::Source,
+pub fn downgrades<R: RawRwLockUpgradeDowngrade + MakeLock<S> + Drop, S>(
+    source: S,
     party: &mut R::Party,
 ) -> Result<(), Wrong>
 where
@@ -393,8 +393,8 @@ where
 }
 
 /// `unlocked` lets an upgradable guard go for the closure's time, and it is held again afterwards.
-pub fn unlocks_for_a_while<R: RawRwLockUpgradeFair + Drop>(
-    source: R::Source,
+pub fn unlocks_for_a_while<R: RawRwLockUpgradeFair + MakeLock<S> + Drop, S>(
+    source: S,
     party: &mut R::Party,
 ) -> Result<(), Wrong>
 where
@@ -432,9 +432,9 @@ where
 }
 
 /// An upgradable guard prints its value, and so does the lock, which a reader may take beside it.
-pub fn prints<R: RawRwLockUpgrade + Drop, A: Allocator + Copy>(
+pub fn prints<R: RawRwLockUpgrade + MakeLock<S> + Drop, A: Allocator + Copy, S>(
     alloc: A,
-    source: R::Source,
+    source: S,
     party: &mut R::Party,
 ) -> Result<(), Wrong>
 where
@@ -481,9 +481,9 @@ where
 }
 
 /// Two threads that each add 1 to what they read before they upgrade, a thousand times, make 2,000.
-pub fn excludes<R: RawRwLockUpgrade + Drop + Sync, T: Threads + Sync>(
+pub fn excludes<R: RawRwLockUpgrade + MakeLock<S> + Drop + Sync, T: Threads + Sync, S>(
     rt: &T,
-    source: R::Source,
+    source: S,
     one: &mut R::Party,
     other: &mut R::Party,
 ) -> Result<(), Wrong>

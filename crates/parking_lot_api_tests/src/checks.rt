@@ -1,7 +1,7 @@
 //! Each check of a mutex, a reader-writer lock and a reentrant mutex.
 
 use lock_api_checks::{mutex_checks, reentrant_checks, rwlock_arc_checks, rwlock_checks};
-use lock_api_raw::{GetThreadId, RawMutexFair, RawRwLockDowngrade, RawRwLockFair};
+use lock_api_raw::{GetThreadId, MakeLock, RawMutexFair, RawRwLockDowngrade, RawRwLockFair};
 use parking_lot_core::ParkingLot;
 use parking_lot_locks::{LockTable, RawMutex, RawRwLock, RawThreadId};
 use std::alloc::Global;
@@ -10,19 +10,19 @@ use std::test::Fail;
 use std::thread::Threads;
 
 /// Whether each check of the mutex finds what it must.
-fn of_mutex<R: RawMutexFair + Drop + Sync, T: Threads + Sync>(
+fn of_mutex<R: RawMutexFair + MakeLock<S> + Drop + Sync, T: Threads + Sync, S>(
     rt: &T,
     alloc: Global,
-    source: R::Source,
+    source: S,
     one: &mut R::Party,
     other: &mut R::Party,
 ) -> bool
 where
-    R::Source: Copy,
+    S: Copy,
     R::Party: Send,
     R::Runtime: Wait,
 {
-    mutex_checks::all::<R, T, Global>(rt, alloc, source, one, other).is_ok()
+    mutex_checks::all::<R, T, Global, S>(rt, alloc, source, one, other).is_ok()
 }
 
 #[test]
@@ -31,7 +31,7 @@ fn the_checks_of_the_mutex_pass(rt: HostRuntime) -> Result<(), Fail> {
     let mut one = lot.thread_data()?;
     let mut other = lot.thread_data()?;
     let table = LockTable::new(rt.alloc(), &lot, 8)?;
-    let passed = of_mutex::<RawMutex<HostRuntime>, HostRuntime>(
+    let passed = of_mutex::<RawMutex<HostRuntime>, HostRuntime, _>(
         &rt,
         rt.alloc(),
         &table,
@@ -43,21 +43,21 @@ fn the_checks_of_the_mutex_pass(rt: HostRuntime) -> Result<(), Fail> {
 }
 
 /// Whether each check of the reader-writer lock, and each of its Arc guards, finds what it must.
-fn of_lock<R: RawRwLockFair + RawRwLockDowngrade + Drop + Sync, T: Threads + Sync>(
+fn of_lock<R: RawRwLockFair + RawRwLockDowngrade + MakeLock<S> + Drop + Sync, T: Threads + Sync, S>(
     rt: &T,
     alloc: Global,
-    source: R::Source,
+    source: S,
     one: &mut R::Party,
     other: &mut R::Party,
 ) -> [bool; 2]
 where
-    R::Source: Copy,
+    S: Copy,
     R::Party: Send,
     R::Runtime: Wait,
 {
     [
-        rwlock_checks::all::<R, T, Global>(rt, alloc, source, one, other).is_ok(),
-        rwlock_arc_checks::all::<R, Global>(alloc, source, one).is_ok(),
+        rwlock_checks::all::<R, T, Global, S>(rt, alloc, source, one, other).is_ok(),
+        rwlock_arc_checks::all::<R, Global, S>(alloc, source, one).is_ok(),
     ]
 }
 
@@ -67,7 +67,7 @@ fn the_checks_of_the_lock_pass(rt: HostRuntime) -> Result<(), Fail> {
     let mut one = lot.thread_data()?;
     let mut other = lot.thread_data()?;
     let table = LockTable::new(rt.alloc(), &lot, 16)?;
-    let passed = of_lock::<RawRwLock<HostRuntime, 0>, HostRuntime>(
+    let passed = of_lock::<RawRwLock<HostRuntime, 0>, HostRuntime, _>(
         &rt,
         rt.alloc(),
         &table,
@@ -79,17 +79,17 @@ fn the_checks_of_the_lock_pass(rt: HostRuntime) -> Result<(), Fail> {
 }
 
 /// Whether each check of the reentrant mutex finds what it must.
-fn of_reentrant<R: RawMutexFair + Drop, G: GetThreadId<Party = R::Party> + Drop>(
+fn of_reentrant<R: RawMutexFair + MakeLock<S> + Drop, G: GetThreadId<Party = R::Party> + Drop, S>(
     alloc: Global,
-    source: R::Source,
+    source: S,
     one: &mut R::Party,
     other: &mut R::Party,
 ) -> bool
 where
-    R::Source: Copy,
+    S: Copy,
     R::Runtime: Wait,
 {
-    reentrant_checks::all::<R, G, Global>(alloc, source, one, other).is_ok()
+    reentrant_checks::all::<R, G, Global, S>(alloc, source, one, other).is_ok()
 }
 
 #[test]
@@ -101,7 +101,7 @@ fn the_checks_of_the_reentrant_mutex_pass(rt: HostRuntime) -> Result<(), Fail> {
     let is_first = ids.nonzero_thread_id(&one).get() == 1;
     let is_second = ids.nonzero_thread_id(&other).get() == 2;
     let table = LockTable::new(rt.alloc(), &lot, 8)?;
-    let passed = of_reentrant::<RawMutex<HostRuntime>, RawThreadId>(
+    let passed = of_reentrant::<RawMutex<HostRuntime>, RawThreadId, _>(
         rt.alloc(),
         &table,
         &mut one,

@@ -3,7 +3,7 @@ ghost use Rattle.std.specs.Prelude.{◌≡◌};
 
 use crate::fault::Fault;
 use lock_api::{Mutex, RwLock};
-use lock_api_raw::{RawMutex, RawRwLock as _};
+use lock_api_raw::{MakeLock as _, RawMutex, RawRwLock as _};
 use parking_lot_core::{ParkingLot, ThreadData};
 use parking_lot_locks::{LockTable, RawRwLock};
 use std::alloc::Global;

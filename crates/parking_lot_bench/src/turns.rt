@@ -2,7 +2,7 @@
 
 use crate::fault::Fault;
 use crate::times::nanos_each;
-use lock_api_raw::{RawMutex as _, RawMutexFair, RawRwLock as _, RawRwLockFair};
+use lock_api_raw::{MakeLock as _, RawMutex as _, RawMutexFair, RawRwLock as _, RawRwLockFair};
 use parking_lot_core::{ParkingLot, ThreadData, thread_yield};
 use parking_lot_locks::{LockTable, RawMutex, RawRwLock};
 use std::alloc::Global;

@@ -18,6 +18,10 @@ pub(crate) trait DecisionCore: Copy {
     /// The token for those that a section has taken.
     ghost wakes: { Self → UnparkToken };
 
+    /// The act that it has asked for.
+    fn act(&self) -> Act
+        ensures { result ≡ asks self.now };
+
     /// Is told what the last act gave, and answers the next.
     fn next(&mut self, seen: ActResult) -> Act
         ensures core { self.new ≡ told self.old seen }
@@ -37,6 +41,10 @@ impl DecisionCore for MutexCore {
 
     ghost wakes = { λ core. wakes_with core.phase };
 
+    fn act(&self) -> Act {
+        MutexCore::act(self)
+    }
+
     fn next(&mut self, seen: ActResult) -> Act {
         MutexCore::next(self, seen)
     }
@@ -54,6 +62,10 @@ impl DecisionCore for RwCore {
     ghost asks = { λ core. act_of core.phase };
 
     ghost wakes = { λ core. wakes_with core.phase };
+
+    fn act(&self) -> Act {
+        RwCore::act(self)
+    }
 
     fn next(&mut self, seen: ActResult) -> Act {
         RwCore::next(self, seen)

@@ -12,6 +12,8 @@
 //! asks again. A release may wait for the lot's short sections, in which sleeping threads are woken.
 #![tactic(auto)]
 
+mod at_once;
+mod call;
 mod clock;
 mod decision;
 pub mod laws;
@@ -23,6 +25,7 @@ mod run;
 mod section;
 mod table;
 mod thread_id;
+mod told;
 
 pub use parking_lot_protocol::{
     Act, ActResult, CoreAnswer, MutexCore, RwCore, SectionAct, WordChange, wake_sum,

@@ -1,25 +1,25 @@
 //! A section that goes through the waiters of a key in order.
 
+use crate::call::Call;
 use crate::decision::DecisionCore;
+use crate::told::Run;
 use parking_lot_core::{FilterOp, ParkToken};
 use parking_lot_protocol::{Act, ActResult, SectionAct, wake_sum};
 
-/// A core that is shown one waiter after another. Of the last that it took it is told at the next one, or at the end: only
+/// A call that is shown one waiter after another. Of the last that it took it is told at the next one, or at the end: only
 /// then it is known whether others are left.
 #[derive(Clone, Copy)]
-pub(crate) struct Looking<C: DecisionCore> {
-    pub core: C,
-    /// What the core has asked for.
-    pub act: Act,
-    /// The token of the last that was taken, as long as the core isn't told of it.
+pub(crate) struct Looking<K: Call<Core = C>, C: DecisionCore> {
+    pub run: Run<K, C>,
+    /// The token of the last that was taken, as long as the call isn't told of it.
     pub taken: Option<ParkToken>,
 }
 
-impl<C: DecisionCore> Looking<C> {
+impl<K: Call<Core = C>, C: DecisionCore> Looking<K, C> {
     /// Shows it a waiter, and answers what is to be done with it.
     pub fn shown(&mut self, token: ParkToken) -> FilterOp {
         self.told(true);
-        match self.act {
+        match self.run.act() {
             Act::Section(SectionAct::TakeNext(sum)) => self.looks(sum, token),
             _ => FilterOp::Stop,
         }
@@ -39,15 +39,15 @@ impl<C: DecisionCore> Looking<C> {
         if self.taken.is_some() {
             let token = self.taken;
             self.taken = None;
-            self.act = self.core.next(ActResult::Took { token, left });
+            self.run.tell(ActResult::Took { token, left });
         }
     }
 
     /// Tells it that there are no more to be shown.
     pub fn ended(&mut self, left: bool) {
         self.told(left);
-        if let Act::Section(SectionAct::TakeNext(_)) = self.act {
-            self.act = self.core.next(ActResult::Took { token: None, left });
+        if let Act::Section(SectionAct::TakeNext(_)) = self.run.act() {
+            self.run.tell(ActResult::Took { token: None, left });
         }
     }
 }

@@ -1,9 +1,15 @@
 //! The raw mutex.
-ghost use Rattle.std.specs.Prelude.{◌≡◌, ◌+◌, ◌*◌, ◌%◌, ◌^◌, IfOk, IfSome};
+ghost use Rattle.std.specs.Prelude.{◌≡◌, ◌+◌, ◌*◌, ◌%◌, ◌^◌, IfOk, IfSome, true};
+ghost use Rattle.parking_lot_locks.specs.Ends.{MutexEnded};
+ghost use Rattle.parking_lot_locks.specs.Runs.{Ended};
+ghost use Rattle.parking_lot_protocol.specs.declared.act.CoreAnswer.{CoreAnswer};
+ghost use Rattle.parking_lot_protocol.specs.declared.act.CoreAnswer.TheVariants.{Owned};
+ghost use Rattle.parking_lot_protocol.specs.declared.mutex_phase.MutexPhase.TheVariants.{Locking, Unlocking, Bumping};
 
+use crate::call::{Bump, Call, Lock, Unlock, UnlockFairly};
 use crate::place::Place;
 use crate::table::{LockTable, Row};
-use lock_api_raw::{GuardSend, RawMutex as _, RawMutexFair, TableFull};
+use lock_api_raw::{GuardSend, MakeLock, RawMutex as _, RawMutexFair, TableFull};
 use parking_lot_core::ThreadData;
 use parking_lot_protocol::{ActResult, CoreAnswer, MutexCore};
 use std::alloc::{Allocator, Global};
@@ -51,9 +57,11 @@ impl<'t, 'l, R, A: Allocator> RawMutex<'t, 'l, R, A> {
 
 impl<'t, 'l, R: Wait, A: Allocator> RawMutex<'t, 'l, R, A> {
     /// Asks until the mutex is owned.
-    fn own(&self, core: MutexCore, party: &mut ThreadData<A>) {
+    fn own<K: Call>(&self, call: K, party: &mut ThreadData<A>)
+        ensures { Ended K.Core.told K.Core.asks K.begun Owned }
+    {
         for _call in self.runtime().forever() {
-            if self.place().ask(core, party) == CoreAnswer::Owned {
+            if self.place().ask(call, party) == CoreAnswer::Owned {
                 return;
             }
         }
@@ -63,27 +71,39 @@ impl<'t, 'l, R: Wait, A: Allocator> RawMutex<'t, 'l, R, A> {
     /// Asks for the mutex where it isn't had at once.
     #[cold]
     #[inline(never)]
-    fn lock_slowly(&self, party: &mut ThreadData<A>) {
-        self.own(MutexCore::lock(), party);
+    fn lock_slowly(&self, party: &mut ThreadData<A>)
+        ensures { MutexEnded Locking Owned }
+    {
+        self.own(Lock, party);
     }
 
     /// Gives the mutex up at this word, where threads may sleep.
     #[cold]
     #[inline(never)]
-    fn unlock_slowly(&self, fair: bool, word: u64) {
-        let core = if fair {
-            MutexCore::unlock_fair()
-        } else {
-            MutexCore::unlock()
-        };
-        self.place().give_up(core, ActResult::Word(word));
+    fn unlock_slowly<K: Call>(&self, call: K, word: u64)
+        ensures { (answer : CoreAnswer) × Ended K.Core.told K.Core.asks K.begun answer }
+    {
+        self.place().give_up(call, ActResult::Word(word));
+    }
+}
+
+impl<'t, 'l, R, A: Allocator> MakeLock<&'t LockTable<'l, R, A>> for RawMutex<'t, 'l, R, A> {
+    ghost limit = { λ _. 1 };
+
+    ghost own_limit = { 1 };
+
+    fn new(
+        source: &'t LockTable<'l, R, A>,
+        _readers: u64,
+    ) -> Result<RawMutex<'t, 'l, R, A>, TableFull> {
+        Ok(RawMutex {
+            row: source.claim()?,
+        })
     }
 }
 
 impl<'t, 'l, R, A: Allocator> lock_api_raw::RawMutex for RawMutex<'t, 'l, R, A> {
     type Runtime = R;
-
-    type Source = &'t LockTable<'l, R, A>;
 
     type Party = ThreadData<A>;
 
@@ -95,15 +115,6 @@ impl<'t, 'l, R, A: Allocator> lock_api_raw::RawMutex for RawMutex<'t, 'l, R, A> 
 
     ghost runtime_of = { λ mutex. mutex.row.table.now.lot.now.rt };
 
-    fn new(
-        source: &'t LockTable<'l, R, A>,
-        _readers: u64,
-    ) -> Result<RawMutex<'t, 'l, R, A>, TableFull> {
-        Ok(RawMutex {
-            row: source.claim()?,
-        })
-    }
-
     fn runtime(&self) -> &R {
         self.row.lot().runtime()
     }
@@ -113,7 +124,7 @@ impl<'t, 'l, R, A: Allocator> lock_api_raw::RawMutex for RawMutex<'t, 'l, R, A> 
     where
         R: Wait,
     {
-        if self.row.exchange(0, 1).is_err() {
+        if !self.row.owns_at_once(Lock, 0, 1) {
             self.lock_slowly(party);
         }
         self.token()
@@ -131,8 +142,8 @@ impl<'t, 'l, R, A: Allocator> lock_api_raw::RawMutex for RawMutex<'t, 'l, R, A> 
         R: Wait,
     {
         guard.spend();
-        if let Err(word) = self.row.exchange(1, 0) {
-            self.unlock_slowly(false, word);
+        if let Err(word) = self.row.ends_at_once(Unlock, 1, 0) {
+            self.unlock_slowly(Unlock, word);
         }
     }
 
@@ -142,14 +153,18 @@ impl<'t, 'l, R, A: Allocator> lock_api_raw::RawMutex for RawMutex<'t, 'l, R, A> 
 }
 
 impl<'t, 'l, R, A: Allocator> RawMutexFair for RawMutex<'t, 'l, R, A> {
+    ghost spent_fairly = { λ _. (answer : CoreAnswer) × MutexEnded (Unlocking true) answer };
+
+    ghost bumped = { λ _ _. MutexEnded Bumping Owned };
+
     #[inline(always)]
     fn unlock_fair(&self, guard: GuardSend)
     where
         R: Wait,
     {
         guard.spend();
-        if let Err(word) = self.row.exchange(1, 0) {
-            self.unlock_slowly(true, word);
+        if let Err(word) = self.row.ends_at_once(UnlockFairly, 1, 0) {
+            self.unlock_slowly(UnlockFairly, word);
         }
     }
 
@@ -157,7 +172,7 @@ impl<'t, 'l, R, A: Allocator> RawMutexFair for RawMutex<'t, 'l, R, A> {
     where
         R: Wait,
     {
-        self.own(MutexCore::bump(), party);
+        self.own(Bump, party);
         guard
     }
 }

@@ -1,13 +1,25 @@
 //! The raw reader-writer lock.
-ghost use Rattle.std.specs.Prelude.{◌≡◌, ◌+◌, ◌-◌, ◌*◌, ◌/◌, ◌%◌, ◌^◌, ◌&&◌, nat_lt, not, IfOk, IfSome, min, max};
+ghost use Rattle.std.specs.Prelude.{◌≡◌, ◌+◌, ◌-◌, ◌*◌, ◌/◌, ◌%◌, ◌^◌, ◌&&◌, ◌==◌, nat_lt, not, IfOk, IfSome, min, max, true};
 ghost use Rattle.lock_api_raw.specs.Limits.{kept_limit};
+ghost use Rattle.parking_lot_locks.specs.Ends.{RwEnded};
+ghost use Rattle.parking_lot_locks.specs.Runs.{Ended};
 ghost use Rattle.parking_lot_protocol.specs.RwTable.{is_written};
+ghost use Rattle.parking_lot_protocol.specs.declared.act.CoreAnswer.{CoreAnswer};
+ghost use Rattle.parking_lot_protocol.specs.declared.act.CoreAnswer.TheVariants.{Owned};
+ghost use Rattle.parking_lot_protocol.specs.declared.rw_phase.LockMode.TheVariants.{Shared, Exclusive};
+ghost use Rattle.parking_lot_protocol.specs.declared.rw_phase.RwPhase.TheVariants.{Locking, UnlockingShared, UnlockingExclusive, BumpingShared, BumpingExclusive};
 
+use crate::call::{
+    BumpReader, BumpWriter, Call, Downgrade, Read, StopReading, StopWriting, StopWritingFairly,
+    Write,
+};
 use crate::place::Place;
 use crate::table::{LockTable, Row};
-use lock_api_raw::{GuardSend, RawRwLock as _, RawRwLockDowngrade, RawRwLockFair, TableFull};
+use lock_api_raw::{
+    GuardSend, MakeLock, RawRwLock as _, RawRwLockDowngrade, RawRwLockFair, TableFull,
+};
 use parking_lot_core::{ThreadData, thread_yield};
-use parking_lot_protocol::word::{MAX_READERS, READER, WRITER};
+use parking_lot_protocol::word::{MAX_READERS, READER, WRITER, WRITER_PARKED};
 use parking_lot_protocol::{ActResult, CoreAnswer, RwCore, word};
 use std::alloc::{Allocator, Global};
 use std::sync::Wait;
@@ -75,9 +87,11 @@ impl<'t, 'l, R, const RECURSIVE: u8, A: Allocator> RawRwLock<'t, 'l, R, RECURSIV
 
 impl<'t, 'l, R: Wait, const RECURSIVE: u8, A: Allocator> RawRwLock<'t, 'l, R, RECURSIVE, A> {
     /// Asks until the lock is owned exclusively.
-    fn own(&self, core: RwCore, party: &mut ThreadData<A>) {
+    fn own<K: Call>(&self, call: K, party: &mut ThreadData<A>)
+        ensures { Ended K.Core.told K.Core.asks K.begun Owned }
+    {
         for _call in self.runtime().forever() {
-            if self.place().ask(core, party) == CoreAnswer::Owned {
+            if self.place().ask(call, party) == CoreAnswer::Owned {
                 return;
             }
         }
@@ -86,15 +100,17 @@ impl<'t, 'l, R: Wait, const RECURSIVE: u8, A: Allocator> RawRwLock<'t, 'l, R, RE
 
     /// Asks until a shared hold is owned. A fair writer may hand the lock over to more readers than there may be: then this one
     /// gives its hold back, and asks again.
-    fn own_shared(&self, core: RwCore, party: &mut ThreadData<A>) {
-        self.own(core, party);
+    fn own_shared<K: Call>(&self, call: K, party: &mut ThreadData<A>)
+        ensures { Ended K.Core.told K.Core.asks K.begun Owned }
+    {
+        self.own(call, party);
         for _call in self.runtime().forever() {
             if word::readers(self.row.load()) <= word::readers(self.full) {
                 return;
             }
             self.unlock_shared(self.token());
             thread_yield();
-            self.own(RwCore::lock_shared(RECURSIVE == 1), party);
+            self.own(Read::<RECURSIVE>, party);
         }
         unreachable!()
     }
@@ -102,52 +118,68 @@ impl<'t, 'l, R: Wait, const RECURSIVE: u8, A: Allocator> RawRwLock<'t, 'l, R, RE
     /// Asks to read where that isn't had at once.
     #[cold]
     #[inline(never)]
-    fn read_slowly(&self, party: &mut ThreadData<A>) {
-        self.own_shared(RwCore::lock_shared(RECURSIVE == 1), party);
+    fn read_slowly(&self, party: &mut ThreadData<A>)
+        ensures { RwEnded (Locking (Shared (RECURSIVE == 1))) Owned }
+    {
+        self.own_shared(Read::<RECURSIVE>, party);
     }
 
     /// Asks to write where that isn't had at once.
     #[cold]
     #[inline(never)]
-    fn write_slowly(&self, party: &mut ThreadData<A>) {
-        self.own(RwCore::lock_exclusive(), party);
+    fn write_slowly(&self, party: &mut ThreadData<A>)
+        ensures { RwEnded (Locking Exclusive) Owned }
+    {
+        self.own(Write, party);
     }
 
     /// A shared hold was taken off this word, and a writer may sleep until the readers have left: the core says whether to wake
     /// it.
     #[cold]
     #[inline(never)]
-    fn unread_slowly(&self, word: u64) {
-        self.place()
-            .give_up(RwCore::unlock_shared(), ActResult::Before(word));
+    fn unread_slowly(&self, word: u64)
+        ensures { (answer : CoreAnswer) × RwEnded UnlockingShared answer }
+    {
+        self.place().give_up(StopReading, ActResult::Before(word));
     }
 
     /// Gives the exclusive hold up at this word, where threads may sleep.
     #[cold]
     #[inline(never)]
-    fn unwrite_slowly(&self, fair: bool, word: u64) {
-        let core = if fair {
-            RwCore::unlock_exclusive_fair()
-        } else {
-            RwCore::unlock_exclusive()
-        };
-        self.place().give_up(core, ActResult::Word(word));
+    fn unwrite_slowly<K: Call>(&self, call: K, word: u64)
+        ensures { (answer : CoreAnswer) × Ended K.Core.told K.Core.asks K.begun answer }
+    {
+        self.place().give_up(call, ActResult::Word(word));
     }
 
     /// The exclusive hold has become a shared one at this word, where threads may sleep: the core says whom to wake.
     #[cold]
     #[inline(never)]
     fn downgrade_slowly(&self, word: u64) {
-        self.place()
-            .give_up(RwCore::downgrade(), ActResult::Before(word));
+        self.place().give_up(Downgrade, ActResult::Before(word));
+    }
+}
+
+impl<'t, 'l, R, const RECURSIVE: u8, A: Allocator> MakeLock<&'t LockTable<'l, R, A>>
+    for RawRwLock<'t, 'l, R, RECURSIVE, A> {
+    ghost limit = { λ lock. lock.full / 16 };
+
+    ghost own_limit = { 2 ^ 60 - 1 };
+
+    fn new(
+        source: &'t LockTable<'l, R, A>,
+        readers: u64,
+    ) -> Result<RawRwLock<'t, 'l, R, RECURSIVE, A>, TableFull> {
+        Ok(RawRwLock {
+            row: source.claim()?,
+            full: readers.max(1).min(MAX_READERS) * READER,
+        })
     }
 }
 
 impl<'t, 'l, R, const RECURSIVE: u8, A: Allocator> lock_api_raw::RawRwLock
     for RawRwLock<'t, 'l, R, RECURSIVE, A> {
     type Runtime = R;
-
-    type Source = &'t LockTable<'l, R, A>;
 
     type Party = ThreadData<A>;
 
@@ -162,20 +194,6 @@ impl<'t, 'l, R, const RECURSIVE: u8, A: Allocator> lock_api_raw::RawRwLock
     ghost exclusive_by = { λ token. token };
 
     ghost runtime_of = { λ lock. lock.row.table.now.lot.now.rt };
-
-    ghost limit = { λ lock. lock.full / 16 };
-
-    ghost own_limit = { 2 ^ 60 - 1 };
-
-    fn new(
-        source: &'t LockTable<'l, R, A>,
-        readers: u64,
-    ) -> Result<RawRwLock<'t, 'l, R, RECURSIVE, A>, TableFull> {
-        Ok(RawRwLock {
-            row: source.claim()?,
-            full: readers.max(1).min(MAX_READERS) * READER,
-        })
-    }
 
     fn runtime(&self) -> &R {
         self.row.lot().runtime()
@@ -216,7 +234,7 @@ impl<'t, 'l, R, const RECURSIVE: u8, A: Allocator> lock_api_raw::RawRwLock
     where
         R: Wait,
     {
-        if self.row.exchange(0, WRITER).is_err() {
+        if !self.row.owns_after_a_look(Write, 0, WRITER) {
             self.write_slowly(party);
         }
         self.token()
@@ -235,8 +253,8 @@ impl<'t, 'l, R, const RECURSIVE: u8, A: Allocator> lock_api_raw::RawRwLock
         R: Wait,
     {
         guard.spend();
-        if let Err(word) = self.row.exchange(WRITER, 0) {
-            self.unwrite_slowly(false, word);
+        if let Err(word) = self.row.ends_at_once(StopWriting, WRITER, 0) {
+            self.unwrite_slowly(StopWriting, word);
         }
     }
 
@@ -251,12 +269,26 @@ impl<'t, 'l, R, const RECURSIVE: u8, A: Allocator> lock_api_raw::RawRwLock
 
 impl<'t, 'l, R, const RECURSIVE: u8, A: Allocator> RawRwLockFair
     for RawRwLock<'t, 'l, R, RECURSIVE, A> {
+    ghost shared_spent_fairly = { λ _. (answer : CoreAnswer) × RwEnded UnlockingShared answer };
+
+    ghost exclusive_spent_fairly = { λ _. (answer : CoreAnswer) × RwEnded (UnlockingExclusive true) answer };
+
+    ghost shared_bumped = { λ _ _. RwEnded BumpingShared Owned };
+
+    ghost exclusive_bumped = { λ _ _. RwEnded BumpingExclusive Owned };
+
     #[inline(always)]
     fn unlock_shared_fair(&self, guard: GuardSend)
     where
         R: Wait,
     {
-        self.unlock_shared(guard);
+        guard.spend();
+        let ended = self
+            .row
+            .ends_by_sum(StopReading, READER.wrapping_neg(), WRITER_PARKED);
+        if let Err(word) = ended {
+            self.unread_slowly(word);
+        }
     }
 
     #[inline(always)]
@@ -265,8 +297,8 @@ impl<'t, 'l, R, const RECURSIVE: u8, A: Allocator> RawRwLockFair
         R: Wait,
     {
         guard.spend();
-        if let Err(word) = self.row.exchange(WRITER, 0) {
-            self.unwrite_slowly(true, word);
+        if let Err(word) = self.row.ends_at_once(StopWritingFairly, WRITER, 0) {
+            self.unwrite_slowly(StopWritingFairly, word);
         }
     }
 
@@ -274,7 +306,7 @@ impl<'t, 'l, R, const RECURSIVE: u8, A: Allocator> RawRwLockFair
     where
         R: Wait,
     {
-        self.own_shared(RwCore::bump_shared(), party);
+        self.own_shared(BumpReader, party);
         guard
     }
 
@@ -282,7 +314,7 @@ impl<'t, 'l, R, const RECURSIVE: u8, A: Allocator> RawRwLockFair
     where
         R: Wait,
     {
-        self.own(RwCore::bump_exclusive(), party);
+        self.own(BumpWriter, party);
         guard
     }
 }

@@ -1,12 +1,14 @@
 //! Whole calls: a decision core that is run on a row.
 ghost use Rattle.std.specs.Prelude.{◌≡◌, ◌↔◌, List, IsTrue};
-ghost use Rattle.parking_lot_locks.specs.Runs.{IsRun, told_all};
+ghost use Rattle.parking_lot_locks.specs.Runs.{Ended, IsRun, told_all};
 ghost use Rattle.parking_lot_protocol.specs.declared.act.Act.TheVariants.{Done};
 ghost use Rattle.parking_lot_protocol.specs.declared.act.CoreAnswer.TheVariants.{Owned};
 ghost use Rattle.parking_lot_protocol.specs.declared.act.ActResult.{ActResult};
 
+use crate::call::Call;
 use crate::decision::DecisionCore;
 use crate::place::Place;
+use crate::told::Run;
 use parking_lot_core::{SpinWait, ThreadData, thread_yield};
 use parking_lot_protocol::{Act, ActResult, CoreAnswer};
 use std::alloc::Allocator;
@@ -39,41 +41,57 @@ impl<R: Wait, A: Allocator> Place<'_, '_, '_, R, A> {
     /// Runs a call that may sleep to its end. Where a reader more may not be admitted it lets other threads run, and looks
     /// again.
     #[inline(never)]
-    pub fn ask<C: DecisionCore>(&self, mut core: C, party: &mut ThreadData<A>) -> CoreAnswer {
+    pub fn ask<K: Call>(&self, call: K, party: &mut ThreadData<A>) -> CoreAnswer
+        ensures { Ended K.Core.told K.Core.asks K.begun result }
+    {
         let mut spin = SpinWait::new();
-        let mut act = core.next(ActResult::Start);
+        let mut run = Run::begin(call);
         for _act in self.row.lot().runtime().forever() {
-            act = match act {
-                Act::Done(answer) => return answer,
-                Act::Spin => core.next(ActResult::Spun(spin.spin())),
+            match run.act() {
+                Act::Done(answer) => {
+                    run.ended(answer);
+                    return answer;
+                }
+                Act::Spin => {
+                    run.tell(ActResult::Spun(spin.spin()));
+                }
                 Act::Enter(key) => {
                     spin.reset();
-                    self.enter(&mut core, key, party)
+                    self.enter(&mut run, key, party);
                 }
                 act if self.is_full(act) => {
                     thread_yield();
-                    core.next(ActResult::Word(self.row.load()))
+                    run.tell(ActResult::Word(self.row.load()));
                 }
-                act => core.next(self.after(act)),
-            };
+                act => {
+                    run.tell(self.after(act));
+                }
+            }
         }
         unreachable!()
     }
 
     /// Runs a call that gives something up to its end. It is handed what the call's first act has given.
     #[inline(never)]
-    pub fn give_up<C: DecisionCore>(&self, mut core: C, first: ActResult) {
-        core.next(ActResult::Start);
-        let mut act = core.next(first);
+    pub fn give_up<K: Call>(&self, call: K, first: ActResult) -> CoreAnswer
+        ensures { Ended K.Core.told K.Core.asks K.begun result }
+    {
+        let mut run = Run::begin(call);
+        run.tell(first);
         for _act in self.row.lot().runtime().forever() {
-            act = match act {
-                Act::Done(_) => return,
-                Act::Enter(key) => {
-                    let act = core.next(ActResult::Entered);
-                    self.wake(&mut core, self.key(key), act)
+            match run.act() {
+                Act::Done(answer) => {
+                    run.ended(answer);
+                    return answer;
                 }
-                act => core.next(self.after(act)),
-            };
+                Act::Enter(key) => {
+                    run.tell(ActResult::Entered);
+                    self.wake(&mut run, self.key(key));
+                }
+                act => {
+                    run.tell(self.after(act));
+                }
+            }
         }
         unreachable!()
     }

@@ -1,9 +1,10 @@
 //! The sections of a call: a thread goes to sleep in one, or wakes others.
 
+use crate::call::Call;
 use crate::clock::StillClock;
-use crate::decision::DecisionCore;
 use crate::looking::Looking;
 use crate::place::Place;
+use crate::told::Run;
 use parking_lot_core::{
     DEFAULT_PARK_TOKEN, ParkResult, ParkToken, ThreadData, UnparkToken, park, thread_yield,
     unpark_filter, unpark_one,
@@ -15,54 +16,55 @@ use std::sync::Wait;
 use std::time::Instant;
 
 impl<R: Wait, A: Allocator> Place<'_, '_, '_, R, A> {
-    /// Goes through the section that the core enters, and sleeps if it is to. Answers what the core asks for then.
-    pub fn enter<C: DecisionCore>(&self, core: &mut C, key: u8, party: &mut ThreadData<A>) -> Act {
-        match core.next(ActResult::Entered) {
-            Act::Section(SectionAct::Check) => self.sleep(core, self.key(key), party),
-            act => self.wake(core, self.key(key), act),
+    /// Goes through the section that the call enters, and sleeps if it is to.
+    pub fn enter<K: Call>(&self, run: &mut Run<K, K::Core>, key: u8, party: &mut ThreadData<A>) {
+        match run.tell(ActResult::Entered) {
+            Act::Section(SectionAct::Check) => self.sleep(run, self.key(key), party),
+            _ => self.wake(run, self.key(key)),
         }
     }
 
     /// Goes through a section in which others are woken, from its first act on.
-    pub fn wake<C: DecisionCore>(&self, core: &mut C, key: usize, act: Act) -> Act {
-        match act {
-            Act::Section(SectionAct::TakeFirst) => self.wake_first(core, key),
-            act => self.wake_in_order(core, key, act),
+    pub fn wake<K: Call>(&self, run: &mut Run<K, K::Core>, key: usize) {
+        match run.act() {
+            Act::Section(SectionAct::TakeFirst) => self.wake_first(run, key),
+            _ => self.wake_in_order(run, key),
         }
     }
 
     /// Sleeps until it is woken, unless the word tells it not to. Where it is seen so before the section, that isn't entered.
-    fn sleep<C: DecisionCore>(&self, core: &mut C, key: usize, party: &mut ThreadData<A>) -> Act {
+    fn sleep<K: Call>(&self, run: &mut Run<K, K::Core>, key: usize, party: &mut ThreadData<A>) {
         let word = self.row.load();
-        let mut ahead = *core;
-        match ahead.next(ActResult::Word(word)) {
-            Act::Section(SectionAct::Append(token)) => self.park(core, key, party, token),
-            _ => core.next(ActResult::Word(word)),
+        let mut ahead = *run;
+        match ahead.tell(ActResult::Word(word)) {
+            Act::Section(SectionAct::Append(token)) => self.park(run, key, party, token),
+            _ => *run = ahead,
         }
     }
 
     /// Parks, unless the word tells it not to. A participant of another lot can't sleep here: it lets other threads run, and
-    /// the core is to look again, as if the word had been free.
-    fn park<C: DecisionCore>(
+    /// the call is to look again, as if the word had been free.
+    fn park<K: Call>(
         &self,
-        core: &mut C,
+        run: &mut Run<K, K::Core>,
         key: usize,
         party: &mut ThreadData<A>,
         token: ParkToken,
-    ) -> Act {
+    ) {
         let lot = self.row.lot();
         if !lot.same_lot(party) {
             thread_yield();
-            return core.next(ActResult::Word(0));
+            run.tell(ActResult::Word(0));
+            return;
         }
-        let checks = Cell::new(*core);
+        let checks = Cell::new(*run);
         let ended = park(
             lot,
             party,
             key,
             || {
                 let mut now = checks.get();
-                let act = now.next(ActResult::Word(self.row.load()));
+                let act = now.tell(ActResult::Word(self.row.load()));
                 checks.set(now);
                 matches!(act, Act::Section(SectionAct::Append(_)))
             },
@@ -71,43 +73,42 @@ impl<R: Wait, A: Allocator> Place<'_, '_, '_, R, A> {
             token,
             None::<(Instant, &StillClock)>,
         );
-        *core = checks.get();
+        *run = checks.get();
         match ended {
-            ParkResult::Unparked(token) => woken(core, token),
-            ParkResult::Invalid | ParkResult::TimedOut => core.next(ActResult::Made),
+            ParkResult::Unparked(token) => woken(run, token),
+            ParkResult::Invalid | ParkResult::TimedOut => {
+                run.tell(ActResult::Made);
+            }
         }
     }
 }
 
 impl<R: Wait, A: Allocator> Place<'_, '_, '_, R, A> {
     /// Takes the first waiter of a key and wakes it.
-    fn wake_first<C: DecisionCore>(&self, core: &mut C, key: usize) -> Act {
-        let takes = Cell::new((*core, Act::Load));
+    fn wake_first<K: Call>(&self, run: &mut Run<K, K::Core>, key: usize) {
+        let takes = Cell::new(*run);
         unpark_one(self.row.lot(), key, |done| {
-            let (mut now, _) = takes.get();
+            let mut now = takes.get();
             let token = if done.unparked_threads > 0 {
                 Some(DEFAULT_PARK_TOKEN)
             } else {
                 None
             };
-            let act = now.next(ActResult::Took {
+            now.tell(ActResult::Took {
                 token,
                 left: done.have_more_threads,
             });
-            let act = self.store(&mut now, act, done.be_fair);
-            takes.set((now, act));
+            self.store(&mut now, done.be_fair);
+            takes.set(now);
             now.wake_token()
         });
-        let (now, act) = takes.get();
-        *core = now;
-        act
+        *run = takes.get();
     }
 
-    /// Takes the waiters of a key in order, as far as the core lets them go, and wakes them.
-    fn wake_in_order<C: DecisionCore>(&self, core: &mut C, key: usize, act: Act) -> Act {
+    /// Takes the waiters of a key in order, as far as the call lets them go, and wakes them.
+    fn wake_in_order<K: Call>(&self, run: &mut Run<K, K::Core>, key: usize) {
         let looks = Cell::new(Looking {
-            core: *core,
-            act,
+            run: *run,
             taken: None,
         });
         unpark_filter(
@@ -122,31 +123,31 @@ impl<R: Wait, A: Allocator> Place<'_, '_, '_, R, A> {
             |done| {
                 let mut now = looks.get();
                 now.ended(done.have_more_threads);
-                now.act = self.store(&mut now.core, now.act, done.be_fair);
+                self.store(&mut now.run, done.be_fair);
                 looks.set(now);
-                now.core.wake_token()
+                now.run.wake_token()
             },
         );
-        let now = looks.get();
-        *core = now.core;
-        now.act
+        *run = looks.get().run;
     }
 
     /// Changes the word in a section: by one of the two stores, or by a mask.
-    fn store<C: DecisionCore>(&self, core: &mut C, act: Act, be_fair: bool) -> Act {
-        match act {
+    fn store<K: Call>(&self, run: &mut Run<K, K::Core>, be_fair: bool) {
+        match run.act() {
             Act::Section(SectionAct::Store { plain, fair }) => {
                 self.change(if be_fair { fair } else { plain });
-                core.next(ActResult::Stored { fair: be_fair })
+                run.tell(ActResult::Stored { fair: be_fair });
             }
-            act => core.next(self.after(act)),
+            act => {
+                run.tell(self.after(act));
+            }
         }
     }
 }
 
-/// Tells the core that it has joined the list, has left the section, and was woken with that token.
-fn woken<C: DecisionCore>(core: &mut C, token: UnparkToken) -> Act {
-    core.next(ActResult::Made);
-    core.next(ActResult::Made);
-    core.next(ActResult::Woken(token))
+/// Tells the call that it has joined the list, has left the section, and was woken with that token.
+fn woken<K: Call>(run: &mut Run<K, K::Core>, token: UnparkToken) {
+    run.tell(ActResult::Made);
+    run.tell(ActResult::Made);
+    run.tell(ActResult::Woken(token));
 }

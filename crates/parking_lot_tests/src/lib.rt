@@ -3,11 +3,15 @@
 #![tactic(auto)]
 
 #[cfg(test)]
+mod beside;
+#[cfg(test)]
 mod guards;
 #[cfg(test)]
 mod mutex_calls;
 #[cfg(test)]
 mod mutexes;
+#[cfg(test)]
+mod named;
 #[cfg(test)]
 mod readers;
 #[cfg(test)]

@@ -1,7 +1,7 @@
 //! The raw mutex.
 
 use crate::words::has_come;
-use lock_api_raw::{RawMutex as _, RawMutexFair};
+use lock_api_raw::{MakeLock as _, RawMutex as _, RawMutexFair};
 use parking_lot_core::{DEFAULT_UNPARK_TOKEN, ParkingLot, ThreadData, unpark_one};
 use parking_lot_locks::{LockTable, RawMutex};
 use std::alloc::Global;

@@ -1,6 +1,6 @@
 //! The raw reader-writer lock.
 
-use lock_api_raw::{RawRwLock as _, RawRwLockDowngrade, RawRwLockFair};
+use lock_api_raw::{MakeLock as _, RawRwLock as _, RawRwLockDowngrade, RawRwLockFair};
 use parking_lot_core::{ParkingLot, ThreadData};
 use parking_lot_locks::{LockTable, RawRwLock};
 use std::sync::Wait;

@@ -1,6 +1,6 @@
 //! Tables of lock words, on a parking lot, and the locks that have a row each.
 
-use lock_api_raw::{RawMutex as _, RawRwLock as _, TableFull};
+use lock_api_raw::{MakeLock as _, RawMutex as _, RawRwLock as _, TableFull};
 use parking_lot_core::{ParkingLot, SizeFault};
 use parking_lot_locks::{Act, ActResult, CoreAnswer, LockTable, RawMutex, RawRwLock, Row, RwCore};
 use std::test::Fail;

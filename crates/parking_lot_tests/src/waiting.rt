@@ -1,7 +1,7 @@
 //! Readers and writers that sleep.
 
 use crate::words::{TURNS, has_come};
-use lock_api_raw::{RawRwLock as _, RawRwLockFair};
+use lock_api_raw::{MakeLock as _, RawRwLock as _, RawRwLockFair};
 use parking_lot_core::{ParkingLot, ThreadData};
 use parking_lot_locks::{LockTable, RawRwLock};
 use std::sync::Wait;
@@ -84,8 +84,8 @@ fn reads<R: Wait + Clock>(
     seen
 }
 
-/// Waits until a writer has said that it has the lock.
-fn has_begun<R: Clock>(rt: &R, said: &AtomicU64) -> bool {
+/// Waits until another thread has said that it got there.
+pub(crate) fn has_begun<R: Clock>(rt: &R, said: &AtomicU64) -> bool {
     for _turn in 0..TURNS {
         if said.load(Ordering::SeqCst) > 0 {
             return true;

@@ -9,27 +9,33 @@ type Raw = PackedMutex<HostRuntime>;
 
 #[test]
 fn holds_nest(rt: HostRuntime) -> Result<(), Fail> {
-    reentrant_checks::nests::<Raw, Parties, _>(rt.alloc(), rt, &mut 1, &mut 2)?;
-    reentrant_checks::nests_by_borrow::<Raw, Parties>(rt, &mut 1, &mut 2)?;
+    reentrant_checks::nests::<Raw, Parties, _, _>(rt.alloc(), rt, &mut 1, &mut 2)?;
+    reentrant_checks::nests_by_borrow::<Raw, Parties, _>(rt, &mut 1, &mut 2)?;
     Ok(())
 }
 
 #[test]
 fn a_reentrant_guard_unlocks_for_a_while(rt: HostRuntime) -> Result<(), Fail> {
-    reentrant_checks::unlocks_for_a_while::<Raw, Parties, _>(rt.alloc(), rt, &mut 1)?;
+    reentrant_checks::unlocks_for_a_while::<Raw, Parties, _, _>(rt.alloc(), rt, &mut 1)?;
     Ok(())
 }
 
 #[test]
 fn a_timed_hold_gives_up(rt: HostRuntime) -> Result<(), Fail> {
-    reentrant_checks::gives_up_in_time::<Raw, Parties, _, _>(rt.alloc(), rt, &rt, &mut 1, &mut 2)?;
+    reentrant_checks::gives_up_in_time::<Raw, Parties, _, _, _>(
+        rt.alloc(),
+        rt,
+        &rt,
+        &mut 1,
+        &mut 2,
+    )?;
     Ok(())
 }
 
 #[test]
 fn reentrant_mutexes_print(rt: HostRuntime) -> Result<(), Fail> {
-    reentrant_checks::prints::<Raw, Parties, _>(rt.alloc(), rt, &mut 1)?;
-    reentrant_checks::lends_by_borrow::<Raw, Parties, _>(rt.alloc(), rt, &mut 1)?;
+    reentrant_checks::prints::<Raw, Parties, _, _>(rt.alloc(), rt, &mut 1)?;
+    reentrant_checks::lends_by_borrow::<Raw, Parties, _, _>(rt.alloc(), rt, &mut 1)?;
     Ok(())
 }
 

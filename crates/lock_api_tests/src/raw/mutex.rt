@@ -3,7 +3,8 @@
 use crate::steps::all_right;
 use lock_api_packed::PackedMutex;
 use lock_api_raw::{
-    GuardSend, RawCondvar, RawCondvarTimed, RawMutex, RawMutexFair, TableFull, WaitFault,
+    GuardSend, MakeCondvar, MakeLock as _, RawCondvar, RawCondvarTimed, RawMutex, RawMutexFair,
+    TableFull, WaitFault,
 };
 use std::rt::Clock;
 use std::sync::Wait;
@@ -15,18 +16,18 @@ struct Restless<R: Drop> {
     rt: R,
 }
 
+impl<R: Drop> MakeCondvar<R> for Restless<R> {
+    fn new(source: R) -> Result<Restless<R>, TableFull> {
+        Ok(Restless { rt: source })
+    }
+}
+
 impl<R: Drop> RawCondvar for Restless<R> {
     type RawMutex = PackedMutex<R>;
-
-    type Source = R;
 
     ghost use Rattle.std.specs.Prelude.{true};
 
     ghost same_lot = { λ condvar mutex. true };
-
-    fn new(source: R) -> Result<Restless<R>, TableFull> {
-        Ok(Restless { rt: source })
-    }
 
     fn wait(
         &self,

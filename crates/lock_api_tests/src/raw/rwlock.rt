@@ -3,7 +3,8 @@
 use crate::steps::all_right;
 use lock_api_packed::PackedLock;
 use lock_api_raw::{
-    RawRwLock, RawRwLockDowngrade, RawRwLockUpgradeDowngrade, RawRwLockUpgradeFair, TableFull,
+    MakeLock as _, RawRwLock, RawRwLockDowngrade, RawRwLockUpgradeDowngrade, RawRwLockUpgradeFair,
+    TableFull,
 };
 use std::sync::Wait;
 

@@ -1,6 +1,5 @@
-use Rattle.lock_api.specs.declared.timed_out.WaitTimeoutResult.{WaitTimeoutResult}
 use Rattle.lock_api.proofs.Refusing.{refused_as}
 use Rattle.lock_api.proofs.condvar.Condvar.wait_until.Goals as goal
 
-pub returns-in-Err-clause-refused : goal.returns-in-Err-clause-refused
-returns-in-Err-clause-refused g c = refused_as _ WaitTimeoutResult _ _ _ _ c.in-Err.fault c.in-Err.is c.ran_out_until.ensures.refused
+pub returns-clause-refused : goal.returns-clause-refused
+returns-clause-refused g c = refused_as _ _ _ _ _ c.timed.ensures c.waits_until.ensures.refused

@@ -1,0 +1,64 @@
+//! Guards of a reentrant mutex, two at once.
+ghost use Rattle.std.specs.Prelude.{◌≡◌, IfOk};
+ghost use Rattle.std.specs.Sync.RwLock.{read_guard_value};
+
+use lock_api::{GetThreadId, ReadersFull, ReentrantMutex, ReentrantMutexGuard};
+use parking_lot_core::ThreadData;
+use parking_lot_locks::{RawMutex, RawThreadId};
+use std::alloc::{Allocator, Global};
+use std::sync::Wait;
+
+/// A number behind a reentrant mutex.
+pub type Nested<'t, 'l, R, A = Global> = ReentrantMutex<
+    RawMutex<'t, 'l, R, A>,
+    RawThreadId<A>,
+    u64,
+>;
+
+/// The guard of a [`Nested`].
+pub type NestedGuard<'m, 't, 'l, R, A = Global> = ReentrantMutexGuard<
+    'm,
+    RawMutex<'t, 'l, R, A>,
+    RawThreadId<A>,
+    u64,
+>;
+
+/// Reads under two guards of the same thread, one within the other.
+pub fn read_twice<R: Wait, A: Allocator>(
+    mutex: &Nested<'_, '_, R, A>,
+    me: &mut ThreadData<A>,
+) -> Result<(u64, u64), ReadersFull> {
+    let outer = mutex.lock(me)?;
+    let inner = mutex.lock(me)?;
+    Ok((*outer, *inner))
+}
+
+/// The guard of a hold.
+pub fn nest<'m, 't, 'l, R: Wait, A: Allocator>(
+    mutex: &'m Nested<'t, 'l, R, A>,
+    me: &mut ThreadData<A>,
+) -> Result<NestedGuard<'m, 't, 'l, R, A>, ReadersFull>
+    ensures { IfOk result (λ guard. guard.held.0.lock.now ≡ mutex.now) }
+{
+    mutex.lock(me)
+}
+
+/// What a guard lends.
+pub fn nested_seen_by<R: Wait, A: Allocator>(guard: &NestedGuard<'_, '_, '_, R, A>) -> u64
+    ensures { result ≡ read_guard_value guard.now.inner }
+{
+    **guard
+}
+
+/// The same over any raw mutex.
+pub fn any_read_twice<R: lock_api::RawMutex + Drop, G: GetThreadId<Party = R::Party> + Drop>(
+    mutex: &ReentrantMutex<R, G, u64>,
+    me: &mut R::Party,
+) -> Result<(u64, u64), ReadersFull>
+where
+    R::Runtime: Wait,
+{
+    let outer = mutex.lock(me)?;
+    let inner = mutex.lock(me)?;
+    Ok((*outer, *inner))
+}
