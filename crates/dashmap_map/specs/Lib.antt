@@ -1,0 +1,4 @@
+pub mod Locked
+pub mod Faults
+pub mod Making
+pub mod Calls

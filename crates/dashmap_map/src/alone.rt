@@ -1,0 +1,83 @@
+//! Calls of the map's one owner, who needs no lock.
+//!
+//! A shard is taken out of its lock and put back behind the same raw lock.
+ghost use Rattle.std.specs.Prelude.{◌≡◌, IfErr, OnOk, OnErr};
+
+use crate::fault::TryReserveError;
+use crate::held::insert_into;
+use crate::map::DashMap;
+use core::mem;
+use dashmap_table::{Shard, route};
+use lock_api_raw::NoMemory;
+use lock_api_rw::RwLock;
+use std::alloc::Allocator;
+use std::hash::{BuildHasher, Hash};
+
+/// Puts a pair into the shard behind a lock that nobody else has.
+fn insert_alone<K: Eq + Hash + Drop, V: Drop, Q, A: Allocator + Clone>(
+    lock: &mut RwLock<Q, Shard<K, V, A>>,
+    hash: u64,
+    key: K,
+    value: V,
+) -> Result<Option<V>, (K, V)>
+    ensures lock { lock.new ≡ lock.old }
+    ensures refused { IfErr result (λ back. back ≡ (key, value)) }
+{
+    mem::replace_with(
+        lock,
+        (hash, key, value),
+        |lock, (hash, key, value)|
+            ensures lock { result.0 ≡ lock }
+            ensures refused { IfErr result.1 (λ back. back ≡ (key, value)) }
+        {
+            let (raw, mut shard) = lock.into_inner_with_raw();
+            let answer = insert_into(&mut shard, hash, key, value);
+            (RwLock::from_raw(raw, shard), answer)
+        },
+    )
+}
+
+/// Makes room in the shard behind a lock that nobody else has.
+fn reserve_alone<K: Eq + Hash + Drop, V: Drop, Q, A: Allocator + Clone>(
+    lock: &mut RwLock<Q, Shard<K, V, A>>,
+    additional: usize,
+) -> Result<(), NoMemory>
+    ensures { lock.new ≡ lock.old }
+{
+    mem::replace_with(
+        lock,
+        additional,
+        |lock, additional|
+            ensures { result.0 ≡ lock }
+        {
+            let (raw, mut shard) = lock.into_inner_with_raw();
+            let answer = shard.reserve(additional);
+            (RwLock::from_raw(raw, shard), answer)
+        },
+    )
+}
+
+impl<K: Eq + Hash + Drop, V: Drop, S: BuildHasher, Q, A: Allocator + Clone> DashMap<K, V, S, Q, A> {
+    /// As `insert`, without a lock.
+    pub fn insert_mut(&mut self, key: K, value: V) -> Result<Option<V>, (K, V)>
+        ensures refused { IfErr result (λ back. back ≡ (key, value)) }
+        ensures locks { self.new ≡ self.old }
+    {
+        let hash = self.hasher.hash_one(&key);
+        let shard = route(hash, self.shards.len());
+        insert_alone(&mut self.shards[shard], hash, key, value)
+    }
+
+    /// Makes room for so many more pairs in each shard. Where a shard can't have it all pairs stay, and the shards before it keep their
+    /// room.
+    pub fn try_reserve(&mut self, additional: usize) -> Result<(), TryReserveError>
+        ensures { self.new ≡ self.old }
+    {
+        for shard in 0..self.shards.len() {
+            if reserve_alone(&mut self.shards[shard], additional).is_err() {
+                return Err(TryReserveError {});
+            }
+        }
+        Ok(())
+    }
+}

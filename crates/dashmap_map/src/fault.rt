@@ -1,0 +1,59 @@
+//! The refusals of the running map that plain shards don't have.
+ghost use Rattle.std.specs.Prelude.{◌≡◌};
+ghost use Rattle.dashmap_map.specs.Faults.{new_fault_code};
+
+use dashmap_table::MapFault;
+use std::error::Error;
+use std::fmt;
+
+/// Room could not be had. It has no number.
+#[derive(Clone, PartialEq, Eq, Debug, Drop)]
+pub struct TryReserveError {}
+
+/// Why a constructor that makes its own hasher makes no map. What was handed in is let go.
+#[derive(Clone, Copy, Debug, PartialEq, Eq)]
+pub enum NewFault {
+    /// As the constructors that take a hasher.
+    Map(MapFault),
+    /// The runtime gave no random words: code 36. It comes before want of memory, and after every other refusal.
+    NoRandom,
+}
+
+impl NewFault {
+    /// The number of the refusal.
+    pub fn code(&self) -> u16
+        ensures { result ≡ new_fault_code self.now }
+    {
+        match self {
+            NewFault::Map(fault) => fault.code(),
+            NewFault::NoRandom => 36,
+        }
+    }
+}
+
+impl From<MapFault> for NewFault {
+    ghost use Rattle.std.specs.Prelude.{◌≡◌};
+    ghost use Rattle.dashmap_map.specs.declared.fault.NewFault.{NewFault};
+
+    ghost from_gives = { λ fault made. made ≡ NewFault.Map fault };
+
+    fn from(fault: MapFault) -> NewFault {
+        NewFault::Map(fault)
+    }
+}
+
+impl fmt::Display for NewFault {
+    ghost use Rattle.std.specs.Prelude.{Some};
+    ghost use Rattle.dashmap_map.specs.Faults.{new_fault_name};
+
+    ghost output = { λ fault. Some (new_fault_name fault) };
+
+    fn fmt<W: fmt::Write>(&self, f: &mut fmt::Formatter<W>) -> fmt::Result {
+        match self {
+            NewFault::Map(fault) => fmt::Display::fmt(fault, f),
+            NewFault::NoRandom => f.write_str("NoRandom"),
+        }
+    }
+}
+
+impl Error for NewFault {}

@@ -1,0 +1,231 @@
+//! How a map is made.
+ghost use Rattle.std.specs.Prelude.{◌≡◌, ℕ, ◌^◌, ◌<◌, ◌↔◌, ◌⊎◌, length, Err, IfOk, IfErr, OnOk};
+ghost use Rattle.std.specs.Int.{IsNextPowerOfTwo};
+ghost use Rattle.dashmap_table.specs.Route.{IsShardAmount, HasNoShare, share_of, wanted_shards};
+ghost use Rattle.dashmap_map.specs.Making.{has_shards, HasNoDefaultShare};
+
+use crate::fault::NewFault;
+use crate::map::DashMap;
+use crate::room::Made;
+use dashmap_table::{MapFault, capacity_share, default_shards, is_shard_amount};
+use lock_api_raw::{MakeLock, RawRwLock};
+use std::alloc::Allocator;
+use std::hash::{BuildHasher, Hash, RandomState};
+use std::random::RandomSource;
+
+/// The share of each of so many shards in a capacity.
+fn share_for(capacity: usize, shard_amount: usize) -> Result<usize, MapFault>
+    ensures amount { OnOk result (IsShardAmount shard_amount) }
+    ensures share { IfOk result (λ share. share ≡ share_of capacity shard_amount) }
+    ensures bad_shards { (result ≡ Err MapFault.BadShards) ↔ ¬ IsShardAmount shard_amount }
+    ensures overflow { (result ≡ Err MapFault.CapacityOverflow) ↔ (IsShardAmount shard_amount × HasNoShare capacity shard_amount) }
+{
+    if !is_shard_amount(shard_amount) {
+        return Err(MapFault::BadShards);
+    }
+    match capacity_share(capacity, shard_amount) {
+        Some(share) => Ok(share),
+        None => Err(MapFault::CapacityOverflow),
+    }
+}
+
+/// The map over the shards that were made, with a hasher that their locks' runtime makes.
+fn with_own_hasher<K: Eq + Hash + Drop, V: Drop, Q: RawRwLock + Drop, A: Allocator + Clone>(
+    made: Made<K, V, Q, A>,
+) -> Result<DashMap<K, V, RandomState, Q, A>, NewFault>
+where
+    Q::Runtime: RandomSource,
+    requires { (shards : ℕ) × IsShardAmount shards × has_shards shards made }
+    ensures made { (shards : ℕ) → has_shards shards made → IfOk result (λ m. length m.locks ≡ shards) }
+    ensures refused { IfErr result (λ fault. (fault ≡ NewFault.NoRandom) ⊎ (fault ≡ NewFault.Map MapFault.NoMemory)) }
+{
+    let Some(hasher) = made.hasher() else {
+        return Err(NewFault::NoRandom);
+    };
+    match made {
+        Made::Whole(shards) => Ok(DashMap { shards, hasher }),
+        Made::Short(_lock) => Err(NewFault::Map(MapFault::NoMemory)),
+    }
+}
+
+impl<
+    K: Eq + Hash + Drop,
+    V: Drop,
+    S: BuildHasher + Drop,
+    Q: RawRwLock + Drop,
+    A: Allocator + Clone,
+> DashMap<K, V, S, Q, A> {
+    /// An empty map with that many shards and room for the capacity's share in each. A capacity of 0 takes no room.
+    ///
+    /// Refused as `BadShards`, `CapacityOverflow`, `TableFull` or `NoMemory`, in this order.
+    pub fn with_capacity_and_hasher_and_shard_amount<T: Copy>(
+        alloc: A,
+        capacity: usize,
+        hasher: S,
+        shard_amount: usize,
+        table: T,
+    ) -> Result<DashMap<K, V, S, Q, A>, MapFault>
+    where
+        Q: MakeLock<T>,
+        ensures made { IfOk result (λ m. (length m.locks ≡ shard_amount) × (m.hasher ≡ hasher)) }
+        ensures bad_shards { (result ≡ Err MapFault.BadShards) ↔ ¬ IsShardAmount shard_amount }
+        ensures overflow { (result ≡ Err MapFault.CapacityOverflow) ↔ (IsShardAmount shard_amount × HasNoShare capacity shard_amount) }
+    {
+        let share = share_for(capacity, shard_amount)?;
+        match Made::of(alloc, shard_amount, share, table) {
+            Ok(Made::Whole(shards)) => Ok(DashMap { shards, hasher }),
+            Ok(Made::Short(_)) => Err(MapFault::NoMemory),
+            Err(_) => Err(MapFault::TableFull),
+        }
+    }
+
+    /// An empty map with that many shards, whose capacity is 0.
+    pub fn with_hasher_and_shard_amount<T: Copy>(
+        alloc: A,
+        hasher: S,
+        shard_amount: usize,
+        table: T,
+    ) -> Result<DashMap<K, V, S, Q, A>, MapFault>
+    where
+        Q: MakeLock<T>,
+        ensures made { IfOk result (λ m. (length m.locks ≡ shard_amount) × (m.hasher ≡ hasher)) }
+        ensures bad_shards { (result ≡ Err MapFault.BadShards) ↔ ¬ IsShardAmount shard_amount }
+        ensures fits { ¬ (result ≡ Err MapFault.CapacityOverflow) }
+    {
+        DashMap::with_capacity_and_hasher_and_shard_amount(alloc, 0, hasher, shard_amount, table)
+    }
+
+    /// An empty map with the default shard amount for so many threads, and room for the capacity's share in each shard.
+    pub fn with_capacity_and_hasher<T: Copy>(
+        alloc: A,
+        capacity: usize,
+        hasher: S,
+        parallelism: usize,
+        table: T,
+    ) -> Result<DashMap<K, V, S, Q, A>, MapFault>
+    where
+        Q: MakeLock<T>,
+        ensures made { IfOk result (λ m. IsNextPowerOfTwo (wanted_shards parallelism) (length m.locks) × (m.hasher ≡ hasher)) }
+        ensures bad_shards { (result ≡ Err MapFault.BadShards) ↔ (2 ^ 16 < wanted_shards parallelism) }
+        ensures overflow { (result ≡ Err MapFault.CapacityOverflow) ↔ HasNoDefaultShare capacity parallelism }
+    {
+        let Some(amount) = default_shards(parallelism) else {
+            return Err(MapFault::BadShards);
+        };
+        DashMap::with_capacity_and_hasher_and_shard_amount(alloc, capacity, hasher, amount, table)
+    }
+
+    /// An empty map with the default shard amount for so many threads, whose capacity is 0.
+    pub fn with_hasher<T: Copy>(
+        alloc: A,
+        hasher: S,
+        parallelism: usize,
+        table: T,
+    ) -> Result<DashMap<K, V, S, Q, A>, MapFault>
+    where
+        Q: MakeLock<T>,
+        ensures made { IfOk result (λ m. IsNextPowerOfTwo (wanted_shards parallelism) (length m.locks) × (m.hasher ≡ hasher)) }
+        ensures bad_shards { (result ≡ Err MapFault.BadShards) ↔ (2 ^ 16 < wanted_shards parallelism) }
+        ensures fits { ¬ (result ≡ Err MapFault.CapacityOverflow) }
+    {
+        DashMap::with_capacity_and_hasher(alloc, 0, hasher, parallelism, table)
+    }
+
+    /// The same as `with_hasher`.
+    pub fn default<T: Copy>(
+        alloc: A,
+        hasher: S,
+        parallelism: usize,
+        table: T,
+    ) -> Result<DashMap<K, V, S, Q, A>, MapFault>
+    where
+        Q: MakeLock<T>,
+        ensures made { IfOk result (λ m. IsNextPowerOfTwo (wanted_shards parallelism) (length m.locks) × (m.hasher ≡ hasher)) }
+        ensures bad_shards { (result ≡ Err MapFault.BadShards) ↔ (2 ^ 16 < wanted_shards parallelism) }
+        ensures fits { ¬ (result ≡ Err MapFault.CapacityOverflow) }
+    {
+        DashMap::with_hasher(alloc, hasher, parallelism, table)
+    }
+}
+
+impl<K: Eq + Hash + Drop, V: Drop, Q: RawRwLock + Drop, A: Allocator + Clone> DashMap<
+    K,
+    V,
+    RandomState,
+    Q,
+    A,
+>
+where
+    Q::Runtime: RandomSource,
+{
+    /// An empty map with that many shards, room for the capacity's share in each, and a hasher that the locks' runtime makes.
+    ///
+    /// Refused as `with_capacity_and_hasher_and_shard_amount`, and as `NoRandom` right before `NoMemory`.
+    pub fn with_capacity_and_shard_amount<T: Copy>(
+        alloc: A,
+        capacity: usize,
+        shard_amount: usize,
+        table: T,
+    ) -> Result<DashMap<K, V, RandomState, Q, A>, NewFault>
+    where
+        Q: MakeLock<T>,
+        ensures made { IfOk result (λ m. length m.locks ≡ shard_amount) }
+        ensures bad_shards { (result ≡ Err (NewFault.Map MapFault.BadShards)) ↔ ¬ IsShardAmount shard_amount }
+        ensures overflow { (result ≡ Err (NewFault.Map MapFault.CapacityOverflow)) ↔ (IsShardAmount shard_amount × HasNoShare capacity shard_amount) }
+    {
+        let share = share_for(capacity, shard_amount)?;
+        match Made::of(alloc, shard_amount, share, table) {
+            Ok(made) => with_own_hasher(made),
+            Err(_) => Err(NewFault::Map(MapFault::TableFull)),
+        }
+    }
+
+    /// An empty map with that many shards, whose capacity is 0.
+    pub fn with_shard_amount<T: Copy>(
+        alloc: A,
+        shard_amount: usize,
+        table: T,
+    ) -> Result<DashMap<K, V, RandomState, Q, A>, NewFault>
+    where
+        Q: MakeLock<T>,
+        ensures made { IfOk result (λ m. length m.locks ≡ shard_amount) }
+        ensures bad_shards { (result ≡ Err (NewFault.Map MapFault.BadShards)) ↔ ¬ IsShardAmount shard_amount }
+        ensures fits { ¬ (result ≡ Err (NewFault.Map MapFault.CapacityOverflow)) }
+    {
+        DashMap::with_capacity_and_shard_amount(alloc, 0, shard_amount, table)
+    }
+
+    /// An empty map with the default shard amount for so many threads, and room for the capacity's share in each shard.
+    pub fn with_capacity<T: Copy>(
+        alloc: A,
+        capacity: usize,
+        parallelism: usize,
+        table: T,
+    ) -> Result<DashMap<K, V, RandomState, Q, A>, NewFault>
+    where
+        Q: MakeLock<T>,
+        ensures made { IfOk result (λ m. IsNextPowerOfTwo (wanted_shards parallelism) (length m.locks)) }
+        ensures bad_shards { (result ≡ Err (NewFault.Map MapFault.BadShards)) ↔ (2 ^ 16 < wanted_shards parallelism) }
+        ensures overflow { (result ≡ Err (NewFault.Map MapFault.CapacityOverflow)) ↔ HasNoDefaultShare capacity parallelism }
+    {
+        let Some(amount) = default_shards(parallelism) else {
+            return Err(NewFault::Map(MapFault::BadShards));
+        };
+        DashMap::with_capacity_and_shard_amount(alloc, capacity, amount, table)
+    }
+
+    /// An empty map with the default shard amount for so many threads, whose capacity is 0.
+    pub fn new<T: Copy>(
+        alloc: A,
+        parallelism: usize,
+        table: T,
+    ) -> Result<DashMap<K, V, RandomState, Q, A>, NewFault>
+    where
+        Q: MakeLock<T>,
+        ensures made { IfOk result (λ m. IsNextPowerOfTwo (wanted_shards parallelism) (length m.locks)) }
+        ensures bad_shards { (result ≡ Err (NewFault.Map MapFault.BadShards)) ↔ (2 ^ 16 < wanted_shards parallelism) }
+        ensures fits { ¬ (result ≡ Err (NewFault.Map MapFault.CapacityOverflow)) }
+    {
+        DashMap::with_capacity(alloc, 0, parallelism, table)
+    }
+}

@@ -1,0 +1,3 @@
+//! Guards of pairs and entries of a map.
+pub mod entry;
+pub mod one;

@@ -1,0 +1,77 @@
+//! Calls that wait for nobody. They may be made beside a guard of the same thread.
+ghost use Rattle.std.specs.Prelude.{◌≡◌, Some, IsTrue, IfSome, IfOk, IfErr};
+ghost use Rattle.std.specs.Sync.RwLock.{read_guard_value, write_guard_value};
+ghost use Rattle.dashmap_guard.specs.Guarded.{key_in};
+ghost use Rattle.dashmap_guard.specs.Entries.{by_entry};
+ghost use Rattle.dashmap_guard.specs.Tries.{found};
+ghost use Rattle.dashmap_table.specs.Shards.{key_hash};
+ghost use Rattle.dashmap_map.specs.Locked.{lock_of};
+
+use crate::map::DashMap;
+use crate::mapref::entry::Entry;
+use crate::mapref::one::{Ref, RefMut};
+use dashmap_guard::TryResult;
+use lock_api_raw::RawRwLock;
+use std::alloc::Allocator;
+use std::hash::{BuildHasher, Hash};
+use std::sync::Wait;
+
+impl<K: Eq + Hash, V, S: BuildHasher, Q: RawRwLock, A: Allocator> DashMap<K, V, S, Q, A>
+where
+    Q::Runtime: Wait,
+{
+    /// A shared guard of the pair of a key; `Locked` where its shard can't be had at once.
+    pub fn try_get<'m>(&'m self, key: &K) -> TryResult<Ref<'m, 'm, K, V, Q, A>>
+        ensures asked { IfSome (found result) (λ r. IfSome (key_in (read_guard_value r.0.inner) r.1) (λ k. IsTrue (K.eq k key.now))) }
+        ensures lock { IfSome (found result) (λ r. lock_of S.BuildHasher S.Hasher.Hasher K.hash_input self.now key.now ≡ Some r.0.held.0.place.now) }
+    {
+        let (hash, lock) = self.place_of(key);
+        let Some(guard) = lock.try_read() else {
+            return TryResult::Locked;
+        };
+        match Ref::find(guard, hash, key) {
+            Some(pair) => TryResult::Present(pair),
+            None => TryResult::Absent,
+        }
+    }
+
+    /// An exclusive guard of the pair of a key; `Locked` where its shard can't be had at once.
+    pub fn try_get_mut<'m>(&'m self, key: &K) -> TryResult<RefMut<'m, 'm, K, V, Q, A>>
+        ensures asked { IfSome (found result) (λ r. IfSome (key_in (write_guard_value r.0.inner) r.1) (λ k. IsTrue (K.eq k key.now))) }
+        ensures lock { IfSome (found result) (λ r. lock_of S.BuildHasher S.Hasher.Hasher K.hash_input self.now key.now ≡ Some r.0.held.0.place.now) }
+    {
+        let (hash, lock) = self.place_of(key);
+        let Some(guard) = lock.try_write() else {
+            return TryResult::Locked;
+        };
+        match RefMut::find(guard, hash, key) {
+            Some(pair) => TryResult::Present(pair),
+            None => TryResult::Absent,
+        }
+    }
+}
+
+impl<K: Eq + Hash + Drop, V: Drop, S: BuildHasher, Q: RawRwLock, A: Allocator + Clone> DashMap<
+    K,
+    V,
+    S,
+    Q,
+    A,
+>
+where
+    Q::Runtime: Wait,
+{
+    /// As `entry`; None where the shard can't be had at once, and then the key is let go.
+    pub fn try_entry<'m>(&'m self, key: K) -> Result<Option<Entry<'m, 'm, K, V, Q, A>>, K>
+        ensures found { IfOk result (λ place. IfSome place (by_entry
+            (λ o. (o.1 ≡ key) × (lock_of S.BuildHasher S.Hasher.Hasher K.hash_input self.now key ≡ Some o.0.0.held.0.place.now))
+            (λ v. (v.2 ≡ key) × (v.1 ≡ key_hash S.BuildHasher S.Hasher.Hasher K.hash_input self.now.hasher key) × (lock_of S.BuildHasher S.Hasher.Hasher K.hash_input self.now key ≡ Some v.0.held.0.place.now)))) }
+        ensures refused { IfErr result (λ back. back ≡ key) }
+    {
+        let (hash, lock) = self.place_of(&key);
+        match lock.try_write() {
+            Some(guard) => Ok(Some(Entry::find(guard, hash, key)?)),
+            None => Ok(None),
+        }
+    }
+}
