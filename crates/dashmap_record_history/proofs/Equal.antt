@@ -1,7 +1,6 @@
 -- Equal entries: of one stamp, shard and caller, whichever is compared with which.
 use Rattle.std.proofs.Common.{◌≡◌, ℕ, ◌&&◌, Bool, true, false, nat_eq, refl, sym, ap, ◌∙◌}
 use Rattle.std.specs.Bool.{beq}
-use Rattle.std.specs.Cmp.{IsEquivalence}
 use Rattle.std.proofs.lemmas.Bool.{and_parts, eqb-true, eq-eqb}
 use Rattle.dashmap_record_history.specs.declared.entry.Call.{Call}
 use Rattle.dashmap_record_history.specs.declared.entry.Call.TheVariants.{Insert, Remove, GetCopied, ReplaceIf}

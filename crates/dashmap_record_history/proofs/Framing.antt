@@ -1,7 +1,6 @@
 -- A history over many shards: where each shard's part holds by itself, the whole holds.
-use Rattle.std.proofs.Common.{◌≡◌, ℕ, ◌&&◌, Bool, true, false, cond, nat_eq, List, [], ◌∷◌, Option, Some, None, refl, sym, ap, ◌∙◌, subst, inl, inr, arith}
+use Rattle.std.proofs.Common.{◌≡◌, ℕ, Bool, true, false, cond, nat_eq, List, [], ◌∷◌, Some, None, refl, sym, ap, ◌∙◌, inl, inr}
 use Rattle.std.specs.List.{filter}
-use Rattle.std.proofs.Math.Path.{fun_ext}
 use Rattle.std.proofs.lemmas.Bool.{true≢false, false≢true, and_parts, and_from, cases_Bool, both_ways, cond-true, cond-false, eqb-true, eq-eqb}
 use Rattle.dashmap_table.specs.Shards.{put_over}
 use Rattle.dashmap_record_history.specs.declared.entry.Call.{Call}
@@ -17,7 +16,7 @@ of_shard j es = filter (λ e. nat_eq e.shard j) es
 
 module _ {K V : Type 0} (eq : K → K → Bool) (alike : V → V → Bool) where
   -- maps that agree at a call's key and at q agree at q after the call
-  after-agrees : (c : Call K V) (m n : PlainMap K V) (q : K) → m (key_of c) ≡ n (key_of c) → m q ≡ n q → after eq alike c m q ≡ after eq alike c n q
+  pub after-agrees : (c : Call K V) (m n : PlainMap K V) (q : K) → m (key_of c) ≡ n (key_of c) → m q ≡ n q → after eq alike c m q ≡ after eq alike c n q
   after-agrees (Insert k v) m n q at_key at_q = ap (λ o. cond (eq k q) (Some (put_over o k v)) (m q)) at_key ∙ ap (λ o. cond (eq k q) (Some (put_over (n k) k v)) o) at_q
   after-agrees (Remove k) m n q at_key at_q = ap (λ o. cond (eq k q) None o) at_q
   after-agrees (GetCopied k) m n q at_key at_q = at_q
@@ -31,7 +30,7 @@ module _ {K V : Type 0} (eq : K → K → Bool) (alike : V → V → Bool) where
       replaced false true e = absurd (false≢true e)
 
   -- a call leaves a key that isn't equal to its own
-  after-others : (c : Call K V) (m : PlainMap K V) (q : K) → eq (key_of c) q ≡ false → after eq alike c m q ≡ m q
+  pub after-others : (c : Call K V) (m : PlainMap K V) (q : K) → eq (key_of c) q ≡ false → after eq alike c m q ≡ m q
   after-others (Insert k v) m q apart = cond-false (eq k q) (Some (put_over (m k) k v)) (m q) apart
   after-others (Remove k) m q apart = cond-false (eq k q) None (m q) apart
   after-others (GetCopied k) m q apart = refl

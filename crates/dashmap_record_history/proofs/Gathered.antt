@@ -1,11 +1,10 @@
 -- What is gathered where no clause fails.
-use Rattle.std.proofs.Common.{◌≡◌, ℕ, ◌+◌, ◌<◌, ◌≤◌, ◌⊎◌, ◌&&◌, inl, inr, Bool, true, List, length, map, flat_map, get_or, None, refl, sym, ap, ◌∙◌, subst, arith}
-use Rattle.std.specs.Cmp.{IsEquivalence}
+use Rattle.std.proofs.Common.{◌≡◌, ℕ, ◌+◌, ◌<◌, inl, inr, Bool, true, List, length, map, flat_map, get_or, None, sym, ◌∙◌, subst, arith}
 use Rattle.std.specs.List.Sorted.{IsPermutation}
 use Rattle.std.proofs.lemmas.Bool.{and_parts}
 use Rattle.std.proofs.lemmas.List.Folds.{flat_map-map}
 use Rattle.dashmap_record_history.specs.declared.entry.Entered.{Entered}
-use Rattle.dashmap_record_history.specs.Match.{all_rise, first_mismatch, first_fault, are_logged, are_kept, are_routed, are_hashed, are_replayed}
+use Rattle.dashmap_record_history.specs.Match.{all_rise, first_mismatch, first_fault, are_replayed}
 use Rattle.dashmap_record_history.specs.Merge.{IsUpTo, IsMerge, IsLegal, flat}
 use Rattle.dashmap_record_history.proofs.Lists.{Up, up_from_steps}
 use Rattle.dashmap_record_history.proofs.Verdicts.{all_hold, cleared}

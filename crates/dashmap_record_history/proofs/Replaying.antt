@@ -1,5 +1,5 @@
 -- The rest of a history, replayed.
-use Rattle.std.proofs.Common.{◌≡◌, ℕ, ◌+◌, ◌<◌, ◌≤◌, Bool, true, false, ◌&&◌, List, [], ◌∷◌, length, drop, replicate, slice_index_or, Option, None, Some, refl, sym, ap, ◌∙◌, inl, inr, arith}
+use Rattle.std.proofs.Common.{◌≡◌, ℕ, ◌+◌, ◌<◌, ◌≤◌, Bool, true, false, ◌&&◌, List, length, drop, replicate, slice_index_or, None, sym, ap, ◌∙◌, inl, inr, arith}
 use Rattle.std.proofs.Math.Path.{fun_ext}
 use Rattle.std.specs.Hash.{HashWrites}
 use Rattle.std.specs.Option.{option_map}
@@ -12,7 +12,7 @@ use Rattle.dashmap_table.specs.Table.{Table}
 use Rattle.dashmap_table.specs.Shards.{Tables, no_pairs, table_at, key_hash, key_shard, pair_at}
 use Rattle.dashmap_record_history.specs.declared.entry.Entered.{Entered}
 use Rattle.dashmap_record_history.specs.Entries.{key_of, same_reply}
-use Rattle.dashmap_record_history.specs.Replay.{PlainMap, nothing, told, after, replies_hold}
+use Rattle.dashmap_record_history.specs.Replay.{PlainMap, told, after, replies_hold}
 
 module _ {K V : Type 0} (eq : K → K → Bool) (alike : V → V → Bool) where
   -- maps that agree at each key replay alike

@@ -1,12 +1,12 @@
 -- Stamps that rise, list by list.
-use Rattle.std.proofs.Common.{◌≡◌, ℕ, zero, suc, ◌+◌, ◌<◌, ◌≤◌, Bool, true, false, ◌&&◌, List, [], ◌∷◌, length, drop, slice_index_or, Option, None, Some, inl, inr, refl, sym, ap, ◌∙◌, subst, arith}
+use Rattle.std.proofs.Common.{◌≡◌, ℕ, zero, suc, ◌+◌, ◌<◌, ◌≤◌, Bool, true, false, ◌&&◌, List, [], ◌∷◌, length, drop, slice_index_or, Option, None, Some, inl, inr, sym, ap, ◌∙◌, arith}
 use Rattle.std.proofs.lemmas.List.{at_drop_more, at_drop_all}
 use Rattle.std.specs.Bool.{⊤}
 use Rattle.std.specs.List.{list_all, list_any}
 use Rattle.std.proofs.lemmas.Bool.{and_parts, ltb-true, or_cases}
 use Rattle.dashmap_record_history.specs.declared.entry.Entered.{Entered}
 use Rattle.dashmap_record_history.specs.Match.{is_above, rises_above, rises, list_at}
-use Rattle.dashmap_record_history.proofs.Lists.{Each, Has, Up, Rises, each}
+use Rattle.dashmap_record_history.proofs.Lists.{Each, Has, Rises, each}
 
 abbrev IsAbove : Option ℕ → ℕ → Type 0
 IsAbove None n = ⊤

@@ -1,5 +1,5 @@
 -- What a binary search by stamps finds in a list whose stamps rise.
-use Rattle.std.proofs.Common.{◌≡◌, ℕ, zero, suc, ◌+◌, ◌<◌, ◌≤◌, Bool, true, false, List, [], ◌∷◌, length, map, get_or, IsTrue, Ok, Err, Result, IfOk, IfErr, inl, inr, refl, sym, ap, ◌∙◌, subst, arith}
+use Rattle.std.proofs.Common.{◌≡◌, ℕ, zero, suc, ◌<◌, ◌≤◌, Bool, true, false, List, [], ◌∷◌, length, map, get_or, IsTrue, Ok, Err, Result, IfOk, IfErr, inl, inr, refl, sym, ap, ◌∙◌, subst, arith}
 use Rattle.std.specs.List.{list_any}
 use Rattle.std.specs.List.Sorted.{IsSearchInRange, IsBinarySearchResult, IsNonDecreasingBy}
 use Rattle.std.specs.Ordering.{nat_cmp, ordering_index}
@@ -9,7 +9,7 @@ use Rattle.std.proofs.lemmas.Bool.Decides.{nat_tests}
 use Rattle.std.proofs.lemmas.List.{get_or-map}
 use Rattle.std.proofs.lemmas.List.Elements.{All-from_recursion}
 use Rattle.dashmap_record_history.specs.declared.entry.Entered.{Entered}
-use Rattle.dashmap_record_history.proofs.Lists.{Each, Has, Up, Rises, has, meet}
+use Rattle.dashmap_record_history.proofs.Lists.{Has, Rises, has, meet}
 use Rattle.dashmap_record_history.specs.Match.{rises, all_rise, list_at}
 use Rattle.dashmap_record_history.proofs.Rising.{stamp_of, has_true, list_at-all, rises-up}
 use Rattle.dashmap_record_history.proofs.Equal.{either}

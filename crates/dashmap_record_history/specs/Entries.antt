@@ -1,5 +1,5 @@
 -- Entries: the key of a call, and when two entries are equal.
-use Rattle.std.specs.Prelude.{ℕ, Bool, true, false, ◌&&◌, ◌==◌}
+use Rattle.std.specs.Prelude.{Bool, true, false, ◌&&◌, ◌==◌}
 use Rattle.std.specs.Bool.{beq}
 use Rattle.dashmap_record_history.specs.declared.entry.Call.{Call}
 use Rattle.dashmap_record_history.specs.declared.entry.Call.TheVariants.{Insert, Remove, GetCopied, ReplaceIf}

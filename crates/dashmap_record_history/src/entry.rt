@@ -1,6 +1,6 @@
 //! What is written down of a call.
 ghost use Rattle.std.specs.Prelude.{◌≡◌, ◌+◌, ◌^◌, ◌≤◌, max, MatchOption};
-ghost use Rattle.dashmap_record_history.specs.Entries.{key_of, same_call, same_reply, same_entry};
+ghost use Rattle.dashmap_record_history.specs.Entries.{key_of, same_reply, same_entry};
 
 /// What was asked.
 #[derive(Clone, Copy, PartialEq, Eq, Debug)]
@@ -69,33 +69,6 @@ pub fn next_stamp(caller_last: u64, shard_last: u64) -> Option<u64>
     caller_last.max(shard_last).checked_add(1)
 }
 
-fn same_call<K: PartialEq, V: PartialEq>(one: &Call<K, V>, other: &Call<K, V>) -> bool
-    ensures { result ≡ same_call K.eq V.eq one.now other.now }
-{
-    match (one, other) {
-        (Call::Insert(j, v), Call::Insert(k, w)) => j == k && v == w,
-        (Call::Remove(j), Call::Remove(k)) => j == k,
-        (Call::GetCopied(j), Call::GetCopied(k)) => j == k,
-        (Call::ReplaceIf(j, s, v), Call::ReplaceIf(k, t, w)) => j == k && s == t && v == w,
-        _ => false,
-    }
-}
-
-pub(crate) fn same_reply<K: PartialEq, V: PartialEq>(
-    one: &CallReply<K, V>,
-    other: &CallReply<K, V>,
-) -> bool
-    ensures { result ≡ same_reply K.eq V.eq one.now other.now }
-{
-    match (one, other) {
-        (CallReply::None, CallReply::None) => true,
-        (CallReply::Value(v), CallReply::Value(w)) => v == w,
-        (CallReply::Pair(j, v), CallReply::Pair(k, w)) => j == k && v == w,
-        (CallReply::Flag(a), CallReply::Flag(b)) => *a == *b,
-        _ => false,
-    }
-}
-
 /// Whether two entries are equal, part by part.
 pub(crate) fn same_entry<K: PartialEq, V: PartialEq>(
     one: &Entered<K, V>,
@@ -103,10 +76,15 @@ pub(crate) fn same_entry<K: PartialEq, V: PartialEq>(
 ) -> bool
     ensures { result ≡ same_entry K.eq V.eq one.now other.now }
 {
-    one.caller == other.caller
-        && one.stamp == other.stamp
-        && one.shard == other.shard
-        && one.hash == other.hash
-        && same_call(&one.call, &other.call)
-        && same_reply(&one.reply, &other.reply)
+    *one == *other
+}
+
+/// Whether two replies are equal.
+pub(crate) fn same_reply<K: PartialEq, V: PartialEq>(
+    one: &CallReply<K, V>,
+    other: &CallReply<K, V>,
+) -> bool
+    ensures { result ≡ same_reply K.eq V.eq one.now other.now }
+{
+    *one == *other
 }

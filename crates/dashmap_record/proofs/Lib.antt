@@ -1,0 +1,5 @@
+mod Changes
+mod Replaying
+mod Ordering
+mod Answering
+mod Judging

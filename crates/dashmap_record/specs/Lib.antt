@@ -1,0 +1,5 @@
+pub mod Faults
+pub mod Notes
+pub mod Replaying
+pub mod Recorded
+pub mod Looking
