@@ -18,7 +18,7 @@ use Rattle.mapworld.specs.declared.step.Step.{Step}
 use Rattle.mapworld.specs.declared.place.Place.{Place}
 use Rattle.mapworld.specs.State.{State, threads_of, started_of, next_step}
 use Rattle.mapworld.specs.Moves.{guard_of, start_counts, stepped, ListsBlock, CountsCall, EndsAt, EndsBlock}
-use Rattle.mapworld.specs.Steps.{IsStep, start, admit, find, find_grows, find_refused, deed_appends, deed_replaces, deed_takes, deed_reads, deed_writes, release, answers}
+use Rattle.mapworld.specs.Steps.{IsStep, start, admit, find, find_grows, find_refused, deed_appends, deed_applies, deed_views, deed_reads, deed_writes, downgrade, release, answers}
 use Rattle.mapworld.specs.Making.{StaysFixed}
 use Rattle.mapworld.specs.Sound.{Sound}
 use Rattle.mapworld.proofs.Building.{map-push, reply-below}
@@ -125,6 +125,8 @@ starts-own (ask.Begin k) guard block i h = absurd (none-some i h)
 starts-own (ask.Held (held.Read d)) (Some m) block i h = absurd (none-some i h)
 starts-own (ask.Held (held.Write d)) (Some Shared) block i h = h
 starts-own (ask.Held (held.Write d)) (Some Exclusive) block i h = absurd (none-some i h)
+starts-own (ask.Held held.Downgrade) (Some Shared) block i h = h
+starts-own (ask.Held held.Downgrade) (Some Exclusive) block i h = absurd (none-some i h)
 starts-own (ask.Held held.Drop) (Some m) block i h = absurd (none-some i h)
 starts-own (ask.Held k) None block i h = h
 
@@ -162,13 +164,15 @@ module _ {K V S D T A : Type 0} (x : Setup K V D T) (w : State K V S D T A) (s :
   step-adds (find_refused h) = fixed-by _ (slice_set w.tables h.place.shard h.kept) w.holds w.blocks w.replies (length-set w.tables h.place.shard h.kept) h.after (blocks-same w.blocks w.blocks refl) nothing
   step-adds (deed_appends h) = fixed-by _ (slice_set w.tables h.place.shard h.changed) w.holds h.blocks w.replies (length-set w.tables h.place.shard h.changed) h.after
       (counted-stays x w sound s.thread h.place h.stands h.place.block h.blocks (λ i e. e) h.counted) nothing
-  step-adds (deed_replaces h) = fixed-by _ (slice_set w.tables h.place.shard h.changed) w.holds h.blocks w.replies (length-set w.tables h.place.shard h.changed) h.after
+  step-adds (deed_applies h) = fixed-by _ (slice_set w.tables h.place.shard h.changed) w.holds h.blocks w.replies (length-set w.tables h.place.shard h.changed) h.after
       (counted-stays x w sound s.thread h.place h.stands h.place.block h.blocks (λ i e. e) h.counted) nothing
-  step-adds (deed_takes h) = fixed-by _ (slice_set w.tables h.place.shard h.changed) w.holds h.blocks w.replies (length-set w.tables h.place.shard h.changed) h.after
-      (counted-stays x w sound s.thread h.place h.stands h.place.block h.blocks (λ i e. e) h.counted) nothing
+  step-adds (deed_views h) = fixed-by _ w.tables w.holds h.blocks w.replies refl h.after
+      (listed-stays x w sound s.thread h.place h.stands (Some 1) h.blocks h.listed) nothing
   step-adds (deed_reads h) = fixed-by _ w.tables w.holds h.blocks w.replies refl h.after
       (counted-stays x w sound s.thread h.place h.stands h.place.block h.blocks (λ i e. e) h.counted) nothing
   step-adds (deed_writes h) = fixed-by _ (slice_set w.tables h.place.shard h.changed) w.holds h.blocks w.replies (length-set w.tables h.place.shard h.changed) h.after
+      (counted-stays x w sound s.thread h.place h.stands h.place.block h.blocks (λ i e. e) h.counted) nothing
+  step-adds (downgrade h) = fixed-by _ w.tables _ h.blocks w.replies refl h.after
       (counted-stays x w sound s.thread h.place h.stands h.place.block h.blocks (λ i e. e) h.counted) nothing
   step-adds (release h) = fixed-by _ w.tables _ h.blocks w.replies refl h.after
       (counted-stays x w sound s.thread h.place h.stands (if is_some h.place.slot then h.place.block else None) h.blocks (λ i e. if-own (is_some h.place.slot) h.place.block i e) h.counted) nothing

@@ -92,7 +92,7 @@ module _ {K V S D T A : Type 0} (x : Setup K V D T) (laws : Laws x) (w : State K
       elim (st.owns i b hb thread) [ inl below ↦ omega (arith, call) | inr mine ↦ false≢true (sym not_yet ∙ mine.2) ]
 
   -- a keyed call stands in no session, and nor does the next call behind it
-  pub keyed-apart : (p : Place K V D T A) (st : Stands x (threads_of w) w.blocks w.replies w.tables s.thread p) (k : Keyed K V) → ask_at x s.thread p.next ≡ Some (ask.Keyed k)
+  pub keyed-apart : (p : Place K V D T A) (st : Stands x (threads_of w) w.blocks w.replies w.tables s.thread p) (k : Keyed K V D) → ask_at x s.thread p.next ≡ Some (ask.Keyed k)
       → (session_of x s.thread p.next ≡ None) × (session_of x s.thread (p.next + 1) ≡ None)
   keyed-apart p st k asked =
       let outside : session_of x s.thread p.next ≡ None =

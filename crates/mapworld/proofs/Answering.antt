@@ -147,7 +147,7 @@ module _ {K V D T A : Type 0} (x : Setup K V D T) (bs bs' : List (Block K)) (tab
 module _ {K V S D T A : Type 0} (x : Setup K V D T) (laws : Laws x) (w : State K V S D T A) (s : Step) (w' : State K V S D T A) (sound : Sound x w) where
   -- the block of a keyed call that is answered has done it
   whole-done : (p : Place K V D T A) → slice_get w.places s.thread ≡ Some p → (a : Ask K V D) (r : Answer K V T) → IsAnsweredBy x w.blocks s.thread p.next a r → ask_at x s.thread p.next ≡ Some a
-      → (i : ℕ) (b : Block K) (k : Keyed K V) → slice_get w.blocks i ≡ Some b → b.thread ≡ s.thread → b.call ≡ p.next → ask_at x b.thread b.call ≡ Some (ask.Keyed k) → b.done.value ≡ 1
+      → (i : ℕ) (b : Block K) (k : Keyed K V D) → slice_get w.blocks i ≡ Some b → b.thread ≡ s.thread → b.call ≡ p.next → ask_at x b.thread b.call ≡ Some (ask.Keyed k) → b.done.value ≡ 1
   whole-done p at (ask.Keyed k') r h asked i b k hb thread call asked' =
       let st = sound.stands s.thread p at in
       let placed = sound.placed.placed i b hb in

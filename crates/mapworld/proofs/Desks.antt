@@ -1,10 +1,11 @@
 -- What a shard's desk answers a thread: it grants an admission that no thread's hold excludes, and gives up a hold that it lists.
-use Rattle.std.proofs.Common.{◌≡◌, ℕ, ◌<◌, get_or, Bool, true, false, ◌&&◌, not, nat_le, if◌then◌else◌, List, [], ◌∷◌, length, zero, suc, Some, None, slice_get, refl, ap, sym, ◌∙◌, arith, eq-eqb, eqb-true}
+use Rattle.std.proofs.Common.{◌≡◌, ℕ, ◌<◌, get_or, Bool, true, false, ◌&&◌, not, nat_le, if◌then◌else◌, List, [], ◌∷◌, length, zero, suc, Some, None, slice_get, refl, ap, ap₂, sym, ◌∙◌, arith, eq-eqb, eqb-true}
 use Rattle.std.proofs.lemmas.Bool.{false_from_ne_true, false≢true, and_parts, leb-true}
 use Rattle.std.proofs.lemmas.Option.{none-some, same_Some}
 use Rattle.std.proofs.lemmas.List.Sums.{count_by-le-length, length-filter}
+use Rattle.lock_api_desk.specs.declared.mode.Mode.TheVariants as desk_mode
 use Rattle.lock_api_desk.specs.declared.fault.DeskFault.{DeskFault}
-use Rattle.lock_api_desk.specs.Guards.{Guard, is_held, is_reader, excludes as desk_excludes, has_number, is_in_use, excluded, readers, is_full, without}
+use Rattle.lock_api_desk.specs.Guards.{Guard, is_held, is_reader, excludes as desk_excludes, holds as holds_in, has_number, guard_of, is_in_use, excluded, readers, is_full, without}
 use Rattle.lock_api_desk.specs.Desk.{DeskState}
 use Rattle.lock_api_desk.specs.Refusals.{acquire_refusal, guard_refusal, refusal_at}
 use Rattle.mapworld.specs.declared.holds.Mode.{Mode}
@@ -95,3 +96,24 @@ module _ {K V D T A : Type 0} {places : List (Place K V D T A)} {holds : Desks} 
       let l = match.listed t p h here held in
       let d : l.0 ≡ desk = same_Some l.0 desk (sym l.2 ∙ ap (λ s. slice_get holds s) at ∙ there) in
       shorter h.guard desk.guards l.1 (guard_for t h) (ap (λ (z : DeskState (Unit {0})). slice_get z.guards l.1) (sym d) ∙ l.3) refl
+
+  -- the guard of the hold that a thread has is the thread's
+  listed_as : (t : ℕ) (p : Place K V D T A) (h : Hold) → slice_get places t ≡ Some p → p.hold ≡ Some h → h.shard ≡ shard → guard_of h.guard desk.guards ≡ Some (guard_for t h)
+  listed_as t p h here held at =
+      let l = match.listed t p h here held in
+      let d : l.0 ≡ desk = same_Some l.0 desk (sym l.2 ∙ ap (λ s. slice_get holds s) at ∙ there) in
+      let found = find-there (has_number h.guard) desk.guards l.1 (guard_for t h) (ap (λ (z : DeskState (Unit {0})). slice_get z.guards l.1) (sym d) ∙ l.3) (eq-eqb h.guard h.guard refl) in
+      let g = found.0 in
+      let f = find-Some (has_number h.guard) desk.guards g found.1 in
+      let o = match.owned shard f.0 desk g there f.1 in
+      let number : o.1.guard ≡ h.guard = sym (ap (λ (g : Guard). g.number) o.5) ∙ eqb-true g.number h.guard f.2 in
+      let party : g.party ≡ t = match.apart g.party t o.0 p o.1 h o.2 here o.3 held number in
+      let same : o.0 ≡ p = same_Some o.0 p (sym o.2 ∙ ap (λ u. slice_get places u) party ∙ here) in
+      let hold-is : o.1 ≡ h = same_Some o.1 h (sym o.3 ∙ ap (λ (q : Place K V D T A). q.hold) same ∙ held) in
+      found.1 ∙ ap (λ (z : Guard). Some z) (o.5 ∙ ap₂ (λ u z. guard_for u z) party hold-is)
+
+  -- and it lets a guard share that is held alone
+  pub let_share : (t : ℕ) (p : Place K V D T A) (h : Hold) → slice_get places t ≡ Some p → p.hold ≡ Some h → h.shard ≡ shard → h.mode ≡ Exclusive
+      → guard_refusal (holds_in desk_mode.Exclusive) t h.guard desk ≡ None
+  let_share t p h here held at alone =
+      ap (λ z. refusal_at (holds_in desk_mode.Exclusive) t z) (listed_as t p h here held at) ∙ rw (alone, eq-eqb t t refl) refl

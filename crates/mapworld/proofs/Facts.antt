@@ -88,8 +88,8 @@ module _ {K V D T A : Type 0} (x : Setup K V D T) (bs : List (Block K)) (tables 
   release_counts a r (Some s) h i e = session_counts p.next _ p.block h.2 i e
 
 -- the request that was read is the one that is admitted
-pub still_admitted : {K V D T A : Type 0} {places : List (Place K V D T A)} {t : ℕ} {request : Request K V} (b : IsBefore places t (phase.Admit request)) (r : Place K V D T A)
-    → r ≡ get_or places t r → (read : Request K V) → r.phase ≡ phase.Admit read
+pub still_admitted : {K V D T A : Type 0} {places : List (Place K V D T A)} {t : ℕ} {request : Request K V D} (b : IsBefore places t (phase.Admit request)) (r : Place K V D T A)
+    → r ≡ get_or places t r → (read : Request K V D) → r.phase ≡ phase.Admit read
     → is_excluded places b.place.shard (mode_of request) ≡ false → is_excluded places r.shard (mode_of read) ≡ false
 still_admitted {K} {V} {D} {T} {A} {places = places} {request = request} b r at read is h =
     let same : read ≡ request = cc (is, phase_here b r at) in

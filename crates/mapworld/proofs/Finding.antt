@@ -1,19 +1,20 @@
 -- A find lists the call's block at its position, or finds that the shard's list has to grow first.
-use Rattle.std.proofs.Common.{◌≡◌, ℕ, ◌+◌, ◌-◌, ◌<◌, ◌≤◌, inl, Bool, true, false, if◌then◌else◌, List, [], ◌∷◌, ◌++◌, length, Option, Some, None, IsSome, slice_get, slice_set, vec_len, vec_capacity, refl, ap, sym, ◌∙◌, subst, arith, length-append}
+use Rattle.std.proofs.Common.{◌≡◌, ℕ, ◌+◌, ◌-◌, ◌<◌, ◌≤◌, inl, Bool, true, false, if◌then◌else◌, List, [], ◌∷◌, ◌++◌, length, drop, Option, Some, None, IsSome, slice_get, slice_set, vec_len, vec_capacity, refl, ap, sym, ◌∙◌, subst, arith, length-append}
 use Rattle.std.specs.declared.vec.Vec.{Vec}
 use Rattle.std.proofs.Math.ListN.{length-set}
 use Rattle.std.proofs.lemmas.Option.{same_Some, slice_get_within}
 use Rattle.std.proofs.lemmas.Bool.{false≢true, ltb-true, ltb-false}
 use Rattle.mapworld_calls.specs.declared.ask.Ask.{Ask}
 use Rattle.mapworld_calls.specs.declared.ask.Ask.TheVariants as ask
+use Rattle.mapworld_calls.specs.declared.ask.Keyed.{Keyed}
 use Rattle.mapworld_calls.specs.declared.ask.Keyed.TheVariants as keyed
 use Rattle.mapworld_calls.specs.declared.ask.Begin.{Begin}
 use Rattle.mapworld_calls.specs.declared.ask.Begin.TheVariants as begin
 use Rattle.mapworld_calls.specs.declared.block.Block.{Block}
 use Rattle.mapworld_calls.specs.declared.reply.Answer.{Answer}
 use Rattle.mapworld_calls.specs.declared.reply.Answer.TheVariants as answer
-use Rattle.mapworld_calls.specs.Calls.{At, free, pair_in, told, after, opening_answer, opened}
-use Rattle.mapworld_calls.specs.Programs.{key_of}
+use Rattle.mapworld_calls.specs.Calls.{At, free, pair_in, told, after, keyed_answer, keyed_leaves, opening_answer, opened}
+use Rattle.mapworld_calls.specs.Programs.{keyed_key, key_of}
 use Rattle.mapworld_calls.specs.Setup.{Setup, Laws, session_of}
 use Rattle.mapworld_calls.specs.Pairs.{has_key, pair_of}
 use Rattle.mapworld_calls.specs.Replay.{reached, contents, found, IsLastOnShard}
@@ -21,16 +22,17 @@ use Rattle.mapworld_calls.specs.Agrees.{IsToldBy}
 use Rattle.mapworld_calls.specs.Placed.{IsKeyedDone, IsSessionDone}
 use Rattle.mapworld_calls.proofs.Lists.{slice_get-push_at, slice_get-set_same}
 use Rattle.mapworld.specs.declared.holds.Mode.{Mode}
-use Rattle.mapworld.specs.declared.holds.Mode.TheVariants.{Exclusive}
+use Rattle.mapworld.specs.declared.holds.Mode.TheVariants.{Shared, Exclusive}
 use Rattle.mapworld.specs.declared.step.Step.{Step}
 use Rattle.mapworld.specs.declared.place.Request.{Request}
 use Rattle.mapworld.specs.declared.place.Request.TheVariants as request
+use Rattle.mapworld.specs.declared.place.Phase.{Phase}
 use Rattle.mapworld.specs.declared.place.Phase.TheVariants as phase
 use Rattle.mapworld.specs.declared.place.Place.{Place}
 use Rattle.mapworld.specs.State.{State, threads_of, started_of}
-use Rattle.mapworld.specs.Moves.{request_key, mode_of, stepped, found_phase, found_done, found_slot, block_behind, IsListed, ListsBlock}
-use Rattle.mapworld.specs.Steps.{slot_in, has_room, Finds, GrowsList}
-use Rattle.mapworld.specs.Sound.{may_own, block_after, guarded, GuardIs, HoldsShard, IsInCall, IsBeforeDeed, HasSession, IsInSession, IsReady, Sound}
+use Rattle.mapworld.specs.Moves.{request_key, keyed_mode, opening_mode, mode_of, stepped, found_phase, found_done, found_slot, block_behind, IsListed, ListsBlock}
+use Rattle.mapworld.specs.Steps.{slot_in, has_room, Finds, GrowsList, Views}
+use Rattle.mapworld.specs.Sound.{is_resting, may_own, block_after, guarded, GuardIs, HoldsShard, IsInCall, IsOnItsWay, IsBeforeDeed, HasSession, IsInSession, IsReady, Sound}
 use Rattle.mapworld.proofs.Finds.{find-position, find-no_position, position-Some_at}
 use Rattle.mapworld.proofs.Others.{IsInCall-push}
 use Rattle.mapworld.proofs.Timing.{placed-same}
@@ -121,7 +123,7 @@ opened-quiet (begin.Get k) (Some pair) = refl
 opened-quiet (begin.GetMut k) None = refl
 opened-quiet (begin.GetMut k) (Some pair) = refl
 
-opened-some : {K V : Type 0} (b : Begin K) (pair : K × V) → opened b (Some pair) ≡ guarded (mode_of {V = V} (request.Begin b)) pair
+opened-some : {K V : Type 0} (b : Begin K) (pair : K × V) → opened b (Some pair) ≡ guarded (opening_mode b) pair
 opened-some (begin.Get k) pair = refl
 opened-some (begin.GetMut k) pair = refl
 
@@ -137,10 +139,6 @@ opening-none : {K V T : Type 0} (b : Begin K) → opening_answer {V = V} {T = T}
 opening-none (begin.Get k) = refl
 opening-none (begin.GetMut k) = refl
 
-pub begin-key : {K : Type 0} (V D : Type 0) (b : Begin K) → key_of {V = V} {D = D} (ask.Begin b) ≡ Some (request_key {V = V} (request.Begin b))
-begin-key V D (begin.Get k) = refl
-begin-key V D (begin.GetMut k) = refl
-
 -- an opening's block has done the opening at its position
 opened-done : {K V S D T A : Type 0} (x : Setup K V D T) (w : State K V S D T A) (s : Step) (p' : Place K V D T A) (d : Block K) → d.done.value ≡ 1 → IsSessionDone x (started_of (stepped w s p')) w.replies d
 opened-done x w s p' d done = record { opened = rw done (omega arith); calls = λ n pos lt. absurd (let lt' : n < 1 = subst (λ (k : ℕ). n < k) done lt in omega arith) }
@@ -152,37 +150,94 @@ ready-inside x bs tables t p n c i block inside mine h =
 
 module _ {K V S D T A : Type 0} (x : Setup K V D T) (laws : Laws x) (w : State K V S D T A) (s : Step) (sound : Sound x w) where
   -- the world behind a find
-  abbrev pub Found : Place K V D T A → Request K V → Option ℕ → Bool → List (Block K) → Type 0
+  abbrev pub Found : Place K V D T A → Request K V D → Option ℕ → Bool → List (Block K) → Type 0
   Found p r slot room blocks =
       Sound x (record (stepped w s (record p { block = block_behind (found_done r slot room) (length w.blocks) p.block; slot = found_slot r slot; phase = found_phase r slot room })) { blocks = blocks })
 
   module _ (p : Place K V D T A) (at : slice_get w.places s.thread ≡ Some p) (table : Vec (K × V) A) (held : slice_get w.tables p.shard ≡ Some table) where
-    found-by : (r : Request K V) → p.phase ≡ phase.Find r → (slot : Option ℕ) → slot_in x.eq table (request_key r) ≡ slot → (room : Bool) → has_room table ≡ room
-        → (blocks : List (Block K)) → ListsBlock w s.thread p (found_done r slot room) blocks → Found p r slot room blocks
-    found-by (request.Keyed (keyed.Insert k v)) before (Some i) slot room roomy blocks listed =
-        let r : Request K V = request.Keyed (keyed.Insert k v) in
+    -- a call on one key that has its deed to come
+    found-deed : (k : Keyed K V D) → p.phase ≡ phase.Find (request.Keyed k) → keyed_mode k ≡ Exclusive → (i : ℕ) → slot_in x.eq table (keyed_key k) ≡ Some i
+        → (blocks : List (Block K)) → ListsBlock w s.thread p (Some 0) blocks
+        → Sound x (record (stepped w s (record p { block = Some (length w.blocks); slot = None; phase = phase.Apply i k })) { blocks = blocks })
+    found-deed k before alone i slot blocks listed =
+        let r : Request K V D = request.Keyed k in
+        let key : K = keyed_key k in
         let st = sound.stands s.thread p at in
         let c = claim-at x (threads_of w) w.blocks w.replies w.tables s.thread p (phase.Find r) before st in
-        let here = position-Some_at (has_key x.eq k) table.items i slot in
-        let is : pair_of x.eq table.items k ≡ Some here.0 = find-position (has_key x.eq k) table.items i slot ∙ here.1 in
-        let p' : Place K V D T A = record p { block = Some (length w.blocks); slot = None; phase = phase.Replace i v } in
+        let holds : HoldsShard p Exclusive = subst (λ (m : Mode). HoldsShard p m) alone c.2 in
+        let here = position-Some_at (has_key x.eq key) table.items i slot in
+        let is : pair_of x.eq table.items key ≡ Some here.0 = find-position (has_key x.eq key) table.items i slot ∙ here.1 in
+        let p' : Place K V D T A = record p { block = Some (length w.blocks); slot = None; phase = phase.Apply i k } in
         let not_yet : may_own p.phase ≡ false = ap may_own before in
         let l = listed.1 in
         subst (λ (z : List (Block K)). Sound x (record (stepped w s p') { blocks = z })) (sym listed.2)
-        (sound-listed x laws w s sound p at _ c.0 k refl Exclusive c.2 c.1.shard not_yet 0 listed.0 l p' refl refl refl refl refl
+        (sound-listed x laws w s sound p at _ c.0 key refl Exclusive holds c.1.shard not_yet 0 listed.0 l p' refl refl refl refl refl
         (done-none listed.0 0 l.done (omega arith) l.end) w.tables refl (λ u q m ne hq h. refl) (
-          k,
           here.0,
           IsInCall-push x (threads_of w) s.thread s.thread p' _ (in_call-moved x p p' (threads_of w) s.thread _ refl refl refl c.0),
-          before-deed x laws w s sound p at _ c.0 k refl c.1.shard not_yet table held listed.0 c.2 l p' (Some here.0) is refl refl refl refl refl,
+          before-deed x laws w s sound p at _ c.0 key refl c.1.shard not_yet table held listed.0 holds l p' (Some here.0) is refl refl refl refl refl,
           record { table = table; held = held; pair_is = here.1 },
         )
         (taken-at x (threads_of w) w.blocks w.replies w.tables s.thread p (phase.Find r) before st)
         (within-at x (threads_of w) w.blocks w.replies w.tables s.thread p (phase.Find r) before st)
         (tables-same x w.blocks (w.blocks ++ listed.0 ∷ []) w.tables w.tables sound.tables
-        (contents-listed x laws w s sound p at _ c.0 k refl Exclusive c.2 c.1.shard not_yet 0 listed.0 l (quiet-none x laws w s sound p at _ c.0 k refl c.1.shard not_yet table held listed.0 l))))
+        (contents-listed x laws w s sound p at _ c.0 key refl Exclusive holds c.1.shard not_yet 0 listed.0 l (quiet-none x laws w s sound p at _ c.0 key refl c.1.shard not_yet table held listed.0 l))))
+
+    -- a call on one key that this step has done, since it leaves what it found
+    done-whole : (k : Keyed K V D) (f : Phase K V D T) → p.phase ≡ f → is_resting f ≡ false → may_own f ≡ false
+        → IsInCall x (threads_of w) s.thread p (ask.Keyed k) → IsOnItsWay x p (keyed_key k) → HoldsShard p (keyed_mode k)
+        → (o : Option (K × V)) → pair_of x.eq table.items (keyed_key k) ≡ o
+        → keyed_leaves x.deeds k o ≡ o → (a : Answer K V T) → keyed_answer x.deeds k o ≡ a
+        → (blocks : List (Block K)) → ListsBlock w s.thread p (Some 1) blocks
+        → Sound x (record (stepped w s (record p { block = Some (length w.blocks); slot = None; phase = phase.Release a })) { blocks = blocks })
+    done-whole k f before busy unowned call way holds o is leaves a answered blocks listed =
+        let key : K = keyed_key k in
+        let st = sound.stands s.thread p at in
+        let p' : Place K V D T A = record p { block = Some (length w.blocks); slot = None; phase = phase.Release a } in
+        let not_yet : may_own p.phase ≡ false = ap may_own before ∙ unowned in
+        let l = listed.1 in
+        let outside = keyed-apart x laws w s (record (stepped w s p') { blocks = blocks }) sound p st k call.asked in
+        let closes : block_after p' ≡ None = ap (λ (b : Bool). if b then None else Some (length w.blocks)) call.closes in
+        subst (λ (z : List (Block K)). Sound x (record (stepped w s p') { blocks = z })) (sym listed.2)
+        (sound-listed x laws w s sound p at _ call key refl (keyed_mode k) holds way.shard not_yet 1 listed.0 l p' refl refl refl refl refl
+        (done-none listed.0 1 l.done (omega arith) l.end) w.tables refl (λ u q m ne hq h. refl) (
+          ask.Keyed k,
+          holds.hold,
+          IsInCall-push x (threads_of w) s.thread s.thread p' _ (in_call-moved x p p' (threads_of w) s.thread _ refl refl refl call),
+          holds.has,
+          (
+            inl (subst (λ (z : Answer K V T). IsToldBy x (w.blocks ++ listed.0 ∷ []) s.thread p.next 0 z) answered
+                (told-new x laws w s sound p at _ call key refl way.shard not_yet table held listed.0 (keyed_mode k) holds l o is)),
+            ready-outside x (w.blocks ++ listed.0 ∷ []) w.tables s.thread p' (p.next + 1) (block_after p') outside.1 refl closes,
+          ),
+        )
+        (subst (λ (z : Bool). p.asks.items ≡ drop (if z then p.next else p.next + 1) st.program) busy
+        (taken-at x (threads_of w) w.blocks w.replies w.tables s.thread p f before st))
+        (subst (λ (z : Bool). (if z then p.next else p.next + 1) ≤ length st.program) busy
+        (within-at x (threads_of w) w.blocks w.replies w.tables s.thread p f before st))
+        (tables-same x w.blocks (w.blocks ++ listed.0 ∷ []) w.tables w.tables sound.tables
+        (contents-listed x laws w s sound p at _ call key refl (keyed_mode k) holds way.shard not_yet 1 listed.0 l
+        (λ u h.
+        let same : u ≡ o = sym h ∙ has-now x laws w s sound p at _ call key refl way.shard not_yet table held listed.0 ∙ is in
+        ap pair_in (reached-new x laws w s sound p at _ call key refl way.shard not_yet table held listed.0 l u) ∙ ap (keyed_leaves x.deeds k) same ∙ leaves ∙ sym same))))
+
+    found-whole : (k : Keyed K V D) → p.phase ≡ phase.Find (request.Keyed k) → (o : Option (K × V)) → pair_of x.eq table.items (keyed_key k) ≡ o
+        → keyed_leaves x.deeds k o ≡ o → (a : Answer K V T) → keyed_answer x.deeds k o ≡ a
+        → (blocks : List (Block K)) → ListsBlock w s.thread p (Some 1) blocks
+        → Sound x (record (stepped w s (record p { block = Some (length w.blocks); slot = None; phase = phase.Release a })) { blocks = blocks })
+    found-whole k before =
+        let f : Phase K V D T = phase.Find (request.Keyed k) in
+        let c = claim-at x (threads_of w) w.blocks w.replies w.tables s.thread p f before (sound.stands s.thread p at) in
+        done-whole k f before refl refl c.0 c.1 c.2
+
+    absent : (k : Keyed K V D) → slot_in x.eq table (keyed_key k) ≡ None → pair_of x.eq table.items (keyed_key k) ≡ None
+    absent k slot = find-no_position (has_key x.eq (keyed_key k)) table.items slot
+
+    found-by : (r : Request K V D) → p.phase ≡ phase.Find r → (slot : Option ℕ) → slot_in x.eq table (request_key r) ≡ slot → (room : Bool) → has_room table ≡ room
+        → (blocks : List (Block K)) → ListsBlock w s.thread p (found_done r slot room) blocks → Found p r slot room blocks
+    found-by (request.Keyed (keyed.Insert k v)) before (Some i) slot room roomy blocks listed = found-deed (keyed.Insert k v) before refl i slot blocks listed
     found-by (request.Keyed (keyed.Insert k v)) before None slot true roomy blocks listed =
-        let r : Request K V = request.Keyed (keyed.Insert k v) in
+        let r : Request K V D = request.Keyed (keyed.Insert k v) in
         let st = sound.stands s.thread p at in
         let c = claim-at x (threads_of w) w.blocks w.replies w.tables s.thread p (phase.Find r) before st in
         let is : pair_of x.eq table.items k ≡ None = find-no_position (has_key x.eq k) table.items slot in
@@ -201,7 +256,7 @@ module _ {K V S D T A : Type 0} (x : Setup K V D T) (laws : Laws x) (w : State K
         (tables-same x w.blocks (w.blocks ++ listed.0 ∷ []) w.tables w.tables sound.tables
         (contents-listed x laws w s sound p at _ c.0 k refl Exclusive c.2 c.1.shard not_yet 0 listed.0 l (quiet-none x laws w s sound p at _ c.0 k refl c.1.shard not_yet table held listed.0 l))))
     found-by (request.Keyed (keyed.Insert k v)) before None slot false full blocks listed =
-        let r : Request K V = request.Keyed (keyed.Insert k v) in
+        let r : Request K V D = request.Keyed (keyed.Insert k v) in
         let st = sound.stands s.thread p at in
         let c = claim-at x (threads_of w) w.blocks w.replies w.tables s.thread p (phase.Find r) before st in
         let is : pair_of x.eq table.items k ≡ None = find-no_position (has_key x.eq k) table.items slot in
@@ -227,60 +282,57 @@ module _ {K V S D T A : Type 0} (x : Setup K V D T) (laws : Laws x) (w : State K
         (holds-same w.places w.holds sound.holds s.thread p p' at refl)
         (placed-same x (threads_of w) s.thread (started_of w) (started_of (stepped w s p')) w.blocks w.replies (started-stays x w s p p' at (λ n h. h)) sound.placed)
         sound.replies)
-    found-by (request.Keyed (keyed.Remove k)) before (Some i) slot room roomy blocks listed =
-        let r : Request K V = request.Keyed (keyed.Remove k) in
+    found-by (request.Keyed (keyed.Remove k)) before (Some i) slot room roomy blocks listed = found-deed (keyed.Remove k) before refl i slot blocks listed
+    found-by (request.Keyed (keyed.Remove k)) before None slot room roomy blocks listed =
+        found-whole (keyed.Remove k) before None (absent (keyed.Remove k) slot) refl answer.None refl blocks listed
+    found-by (request.Keyed (keyed.RemoveIf k d)) before (Some i) slot room roomy blocks listed = found-deed (keyed.RemoveIf k d) before refl i slot blocks listed
+    found-by (request.Keyed (keyed.RemoveIf k d)) before None slot room roomy blocks listed =
+        found-whole (keyed.RemoveIf k d) before None (absent (keyed.RemoveIf k d) slot) refl answer.None refl blocks listed
+    found-by (request.Keyed (keyed.RemoveIfMut k d)) before (Some i) slot room roomy blocks listed = found-deed (keyed.RemoveIfMut k d) before refl i slot blocks listed
+    found-by (request.Keyed (keyed.RemoveIfMut k d)) before None slot room roomy blocks listed =
+        found-whole (keyed.RemoveIfMut k d) before None (absent (keyed.RemoveIfMut k d) slot) refl answer.None refl blocks listed
+    found-by (request.Keyed (keyed.Alter k d)) before (Some i) slot room roomy blocks listed = found-deed (keyed.Alter k d) before refl i slot blocks listed
+    found-by (request.Keyed (keyed.Alter k d)) before None slot room roomy blocks listed =
+        found-whole (keyed.Alter k d) before None (absent (keyed.Alter k d) slot) refl answer.Done refl blocks listed
+    found-by (request.Keyed (keyed.View k d)) before (Some i) slot room roomy blocks listed =
+        let r : Request K V D = request.Keyed (keyed.View k d) in
         let st = sound.stands s.thread p at in
         let c = claim-at x (threads_of w) w.blocks w.replies w.tables s.thread p (phase.Find r) before st in
         let here = position-Some_at (has_key x.eq k) table.items i slot in
-        let is : pair_of x.eq table.items k ≡ Some here.0 = find-position (has_key x.eq k) table.items i slot ∙ here.1 in
-        let p' : Place K V D T A = record p { block = Some (length w.blocks); slot = None; phase = phase.Take i } in
-        let not_yet : may_own p.phase ≡ false = ap may_own before in
-        let l = listed.1 in
-        subst (λ (z : List (Block K)). Sound x (record (stepped w s p') { blocks = z })) (sym listed.2)
-        (sound-listed x laws w s sound p at _ c.0 k refl Exclusive c.2 c.1.shard not_yet 0 listed.0 l p' refl refl refl refl refl
-        (done-none listed.0 0 l.done (omega arith) l.end) w.tables refl (λ u q m ne hq h. refl) (
-          k,
-          here.0,
-          IsInCall-push x (threads_of w) s.thread s.thread p' _ (in_call-moved x p p' (threads_of w) s.thread _ refl refl refl c.0),
-          before-deed x laws w s sound p at _ c.0 k refl c.1.shard not_yet table held listed.0 c.2 l p' (Some here.0) is refl refl refl refl refl,
-          record { table = table; held = held; pair_is = here.1 },
-        )
-        (taken-at x (threads_of w) w.blocks w.replies w.tables s.thread p (phase.Find r) before st)
-        (within-at x (threads_of w) w.blocks w.replies w.tables s.thread p (phase.Find r) before st)
-        (tables-same x w.blocks (w.blocks ++ listed.0 ∷ []) w.tables w.tables sound.tables
-        (contents-listed x laws w s sound p at _ c.0 k refl Exclusive c.2 c.1.shard not_yet 0 listed.0 l (quiet-none x laws w s sound p at _ c.0 k refl c.1.shard not_yet table held listed.0 l))))
-    found-by (request.Keyed (keyed.Remove k)) before None slot room roomy blocks listed =
-        let r : Request K V = request.Keyed (keyed.Remove k) in
-        let st = sound.stands s.thread p at in
-        let c = claim-at x (threads_of w) w.blocks w.replies w.tables s.thread p (phase.Find r) before st in
-        let is : pair_of x.eq table.items k ≡ None = find-no_position (has_key x.eq k) table.items slot in
-        let p' : Place K V D T A = record p { block = Some (length w.blocks); slot = None; phase = phase.Release answer.None } in
-        let not_yet : may_own p.phase ≡ false = ap may_own before in
-        let l = listed.1 in
-        let outside = keyed-apart x laws w s (record (stepped w s p') { blocks = blocks }) sound p st (keyed.Remove k) c.0.asked in
-        let closes : block_after p' ≡ None = ap (λ (b : Bool). if b then None else Some (length w.blocks)) c.0.closes in
-        subst (λ (z : List (Block K)). Sound x (record (stepped w s p') { blocks = z })) (sym listed.2)
-        (sound-listed x laws w s sound p at _ c.0 k refl Exclusive c.2 c.1.shard not_yet 1 listed.0 l p' refl refl refl refl refl
-        (done-none listed.0 1 l.done (omega arith) l.end) w.tables refl (λ u q m ne hq h. refl) (
-          ask.Keyed (keyed.Remove k),
-          c.2.hold,
-          IsInCall-push x (threads_of w) s.thread s.thread p' _ (in_call-moved x p p' (threads_of w) s.thread _ refl refl refl c.0),
-          c.2.has,
-          (
-            inl (told-new x laws w s sound p at _ c.0 k refl c.1.shard not_yet table held listed.0 Exclusive c.2 l None is),
-            ready-outside x (w.blocks ++ listed.0 ∷ []) w.tables s.thread p' (p.next + 1) (block_after p') outside.1 refl closes,
-          ),
-        )
-        (taken-at x (threads_of w) w.blocks w.replies w.tables s.thread p (phase.Find r) before st)
-        (within-at x (threads_of w) w.blocks w.replies w.tables s.thread p (phase.Find r) before st)
-        (tables-same x w.blocks (w.blocks ++ listed.0 ∷ []) w.tables w.tables sound.tables
-        (contents-listed x laws w s sound p at _ c.0 k refl Exclusive c.2 c.1.shard not_yet 1 listed.0 l
-        (λ o h. ap pair_in (reached-new x laws w s sound p at _ c.0 k refl c.1.shard not_yet table held listed.0 l o)
-        ∙ sym (sym h ∙ has-now x laws w s sound p at _ c.0 k refl c.1.shard not_yet table held listed.0 ∙ is)))))
+        let p' : Place K V D T A = record p { slot = None; phase = phase.View i k d } in
+        subst (λ (z : List (Block K)). Sound x (record (stepped w s p') { blocks = z })) (sym listed)
+        (sound-by x w s p p' at sound w.blocks w.tables w.holds w.replies _ (leaves-same x w s p p' at sound _)
+        (record {
+          program = st.program;
+          has = st.has;
+          asks_left = taken-at x (threads_of w) w.blocks w.replies w.tables s.thread p (phase.Find r) before st;
+          within = within-at x (threads_of w) w.blocks w.replies w.tables s.thread p (phase.Find r) before st;
+          answered = st.answered;
+          own_block = st.own_block;
+          owns = owns-on w.blocks s.thread p p' st.owns refl refl (λ own. absurd (false≢true (sym (ap may_own before) ∙ own)));
+          claim = (
+            here.0,
+            IsInCall-push x (threads_of w) s.thread s.thread p' _ (in_call-moved x p p' (threads_of w) s.thread _ refl refl refl c.0),
+            record { block = c.1.block; slot = refl; shard = c.1.shard },
+            holds-moved x p p' Shared refl refl c.2,
+            record { table = table; held = held; so = (here.1, find-position (has_key x.eq k) table.items i slot ∙ here.1) },
+          );
+        })
+        (tables-same x w.blocks w.blocks w.tables w.tables sound.tables (λ q. refl))
+        (holds-same w.places w.holds sound.holds s.thread p p' at refl)
+        (placed-same x (threads_of w) s.thread (started_of w) (started_of (stepped w s p')) w.blocks w.replies (started-stays x w s p p' at (λ n h. h)) sound.placed)
+        sound.replies)
+    found-by (request.Keyed (keyed.View k d)) before None slot room roomy blocks listed =
+        found-whole (keyed.View k d) before None (absent (keyed.View k d) slot) refl answer.None refl blocks listed
+    found-by (request.Keyed (keyed.ContainsKey k)) before (Some i) slot room roomy blocks listed =
+        let here = position-Some_at (has_key x.eq k) table.items i slot in
+        found-whole (keyed.ContainsKey k) before (Some here.0) (find-position (has_key x.eq k) table.items i slot ∙ here.1) refl (answer.Flag true) refl blocks listed
+    found-by (request.Keyed (keyed.ContainsKey k)) before None slot room roomy blocks listed =
+        found-whole (keyed.ContainsKey k) before None (absent (keyed.ContainsKey k) slot) refl (answer.Flag false) refl blocks listed
     found-by (request.Begin b) before (Some i) slot room roomy blocks listed =
-        let r : Request K V = request.Begin b in
+        let r : Request K V D = request.Begin b in
         let k = request_key r in
-        let key = begin-key V D b in
+        let key : key_of {V = V} {D = D} (ask.Begin b) ≡ Some k = refl in
         let st = sound.stands s.thread p at in
         let c = claim-at x (threads_of w) w.blocks w.replies w.tables s.thread p (phase.Find r) before st in
         let here = position-Some_at (has_key x.eq k) table.items i slot in
@@ -308,9 +360,9 @@ module _ {K V S D T A : Type 0} (x : Setup K V D T) (laws : Laws x) (w : State K
         (contents-listed x laws w s sound p at _ c.0 k key (mode_of r) c.2 c.1.shard not_yet 1 listed.0 l
         (λ o h. ap pair_in (reached-new x laws w s sound p at _ c.0 k key c.1.shard not_yet table held listed.0 l o) ∙ opened-quiet b o))))
     found-by (request.Begin b) before None slot room roomy blocks listed =
-        let r : Request K V = request.Begin b in
+        let r : Request K V D = request.Begin b in
         let k = request_key r in
-        let key = begin-key V D b in
+        let key : key_of {V = V} {D = D} (ask.Begin b) ≡ Some k = refl in
         let st = sound.stands s.thread p at in
         let c = claim-at x (threads_of w) w.blocks w.replies w.tables s.thread p (phase.Find r) before st in
         let is : pair_of x.eq table.items k ≡ None = find-no_position (has_key x.eq k) table.items slot in
@@ -348,6 +400,19 @@ module _ {K V S D T A : Type 0} (x : Setup K V D T) (laws : Laws x) (w : State K
       })) { blocks = f.blocks }) f.done_is))
       (found-by f.place f.stands f.table f.held f.request f.before (slot_in x.eq f.table (request_key f.request)) refl (has_room f.table) refl f.blocks
       (subst (λ (z : Option ℕ). ListsBlock w s.thread f.place z f.blocks) f.done_is f.listed))
+
+  pub sound-views : (w' : State K V S D T A) → Views x w s w' → Sound x w'
+  sound-views w' v =
+      let p = v.place in
+      let f : Phase K V D T = phase.View v.slot v.key v.deed in
+      let k : Keyed K V D = keyed.View v.key v.deed in
+      let a : Answer K V T = answer.Read (x.deeds.answer v.deed v.pair.0 v.pair.1) in
+      let c = claim-at x (threads_of w) w.blocks w.replies w.tables s.thread p f v.before (sound.stands s.thread p v.stands) in
+      let same : v.table ≡ c.4.table = same_Some v.table c.4.table (sym v.held ∙ c.4.held) in
+      let pair : v.pair ≡ c.0 = same_Some v.pair c.0 (sym v.found ∙ (ap (λ (z : Vec (K × V) A). slice_get z.items v.slot) same ∙ c.4.so.0)) in
+      let is : pair_of x.eq v.table.items v.key ≡ Some v.pair = ap (λ (z : Vec (K × V) A). pair_of x.eq z.items v.key) same ∙ c.4.so.1 ∙ ap Some (sym pair) in
+      subst (Sound x) (sym (v.after ∙ ap (λ (z : Option ℕ). record (stepped w s (record p { block = Some (length w.blocks); slot = z; phase = phase.Release a })) { blocks = v.blocks }) c.2.slot))
+      (done-whole p v.stands v.table v.held k f v.before refl refl c.1 c.2 c.3 (Some v.pair) is refl a refl v.blocks v.listed)
 
   pub sound-grows : (w' : State K V S D T A) → GrowsList x w s w' → Sound x w'
   sound-grows w' g =

@@ -1,16 +1,14 @@
 -- Every step keeps to its footprint.
-use Rattle.std.proofs.Common.{◌≡◌, ◌≢◌, ℕ, zero, suc, inl, inr, Bool, true, false, List, [], ◌∷◌, ◌++◌, Option, Some, None, take, slice_get, slice_set, refl, ap, sym, ◌∙◌}
+use Rattle.std.proofs.Common.{◌≡◌, ◌≢◌, ℕ, zero, suc, inl, inr, false, List, [], ◌∷◌, ◌++◌, Option, Some, None, take, slice_get, slice_set, refl, ap, sym, ◌∙◌}
 use Rattle.std.specs.List.{flat_map}
 use Rattle.std.specs.declared.vec.Vec.{Vec}
-use Rattle.std.proofs.lemmas.Option.{same_Some, none-some}
+use Rattle.std.proofs.lemmas.Option.{same_Some}
 use Rattle.mapworld_calls.specs.declared.ask.Ask.{Ask}
 use Rattle.mapworld_calls.specs.declared.ask.Ask.TheVariants as ask
-use Rattle.mapworld_calls.specs.declared.ask.Keyed.TheVariants as keyed
-use Rattle.mapworld_calls.specs.declared.ask.Begin.TheVariants as begin
 use Rattle.mapworld_calls.specs.declared.block.Block.{Block}
 use Rattle.mapworld_calls.specs.Setup.{Setup, Laws}
-use Rattle.mapworld_calls.specs.Pairs.{pair_of, opening_pair}
-use Rattle.mapworld_calls.specs.Programs.{key_of}
+use Rattle.mapworld_calls.specs.Pairs.{opening_pair}
+use Rattle.mapworld_calls.specs.Programs.{keyed_key, opening_key, key_of}
 use Rattle.mapworld_calls.specs.Replay.{block_key, is_key, left, contents}
 use Rattle.mapworld_calls.specs.Placed.{IsDoneWithin}
 use Rattle.mapworld_calls.proofs.Folds.{fold-replaced}
@@ -18,10 +16,10 @@ use Rattle.mapworld_calls.proofs.Lists.{slice_get-set_other}
 use Rattle.mapworld_calls.proofs.Replays.{left-untouched}
 use Rattle.mapworld.specs.declared.step.Step.{Step}
 use Rattle.mapworld.specs.declared.place.Place.{Place}
-use Rattle.mapworld.specs.State.{State, pairs_of, threads_of, started_of}
+use Rattle.mapworld.specs.State.{State, pairs_of, started_of}
 use Rattle.mapworld.specs.Moves.{CountsIn, CountsCall}
-use Rattle.mapworld.specs.Steps.{Appends, Replaces, Takes, Writes, IsStep, start, admit, find, find_grows, find_refused, deed_appends, deed_replaces, deed_takes, deed_reads, deed_writes, release, answers}
-use Rattle.mapworld.specs.Footprint.{OthersKeepPairs, Touches, neither, one_pair, one_desk, HasFootprint}
+use Rattle.mapworld.specs.Steps.{IsStep, start, admit, find, find_grows, find_refused, deed_appends, deed_applies, deed_views, deed_reads, deed_writes, downgrade, release, answers}
+use Rattle.mapworld.specs.Footprint.{OthersKeepPairs, neither, one_pair, one_desk, HasFootprint}
 use Rattle.mapworld.specs.Sound.{Sound}
 use Rattle.mapworld.proofs.Outcomes.{agrees}
 use Rattle.mapworld.proofs.Sounds.{sound-step}
@@ -37,10 +35,8 @@ same_pairs (t ∷ ts) (suc i) old new at same = ap (λ xs. t.items ++ xs) (same_
 -- a call that has a block of its own is handed a key
 asked_key : {K V D T : Type 0} (x : Setup K V D T) (started : ℕ → Option ℕ) (replies : _) (b : Block K) (a : Ask K V D) → IsDoneWithin x started replies b a
     → (k : K) × (key_of a ≡ Some k)
-asked_key x started replies b (ask.Keyed (keyed.Insert k v)) done = (k, refl)
-asked_key x started replies b (ask.Keyed (keyed.Remove k)) done = (k, refl)
-asked_key x started replies b (ask.Begin (begin.Get k)) done = (k, refl)
-asked_key x started replies b (ask.Begin (begin.GetMut k)) done = (k, refl)
+asked_key x started replies b (ask.Keyed k) done = (keyed_key k, refl)
+asked_key x started replies b (ask.Begin g) done = (opening_key g, refl)
 asked_key x started replies b (ask.Held h) done = absurd done
 
 module _ {K V S D T A : Type 0} (x : Setup K V D T) (laws : Laws x) (w : State K V S D T A) (s : Step) (w' : State K V S D T A) (sound : Sound x w) where
@@ -120,20 +116,18 @@ module _ {K V S D T A : Type 0} (x : Setup K V D T) (laws : Laws x) (w : State K
         touches = one_pair k.0 k.1 (ap (λ (v : State K V S D T A). v.holds) a.after);
         replies = inl (ap (λ (v : State K V S D T A). v.replies) a.after);
       }
-  step_footprint (deed_replaces a) =
-      let k = others_keep (deed_replaces a) a.pair.0 a.place.block a.place.next a.blocks a.counted (ap (λ (v : State K V S D T A). v.blocks) a.after) in
+  step_footprint (deed_applies a) =
+      let k = others_keep (deed_applies a) a.pair.0 a.place.block a.place.next a.blocks a.counted (ap (λ (v : State K V S D T A). v.blocks) a.after) in
       record {
         places = λ t ne. ap (λ (v : State K V S D T A). slice_get v.places t) a.after ∙ stays_elsewhere _ t ne;
         touches = one_pair k.0 k.1 (ap (λ (v : State K V S D T A). v.holds) a.after);
         replies = inl (ap (λ (v : State K V S D T A). v.replies) a.after);
       }
-  step_footprint (deed_takes a) =
-      let k = others_keep (deed_takes a) a.pair.0 a.place.block a.place.next a.blocks a.counted (ap (λ (v : State K V S D T A). v.blocks) a.after) in
-      record {
-        places = λ t ne. ap (λ (v : State K V S D T A). slice_get v.places t) a.after ∙ stays_elsewhere _ t ne;
-        touches = one_pair k.0 k.1 (ap (λ (v : State K V S D T A). v.holds) a.after);
-        replies = inl (ap (λ (v : State K V S D T A). v.replies) a.after);
-      }
+  step_footprint (deed_views a) = record {
+    places = λ t ne. ap (λ (v : State K V S D T A). slice_get v.places t) a.after ∙ stays_elsewhere _ t ne;
+    touches = neither (ap pairs_of a.after) (ap (λ (v : State K V S D T A). v.holds) a.after);
+    replies = inl (ap (λ (v : State K V S D T A). v.replies) a.after);
+  }
   step_footprint (deed_reads a) = record {
     places = λ t ne. ap (λ (v : State K V S D T A). slice_get v.places t) a.after ∙ stays_elsewhere _ t ne;
     touches = neither (ap pairs_of a.after) (ap (λ (v : State K V S D T A). v.holds) a.after);
@@ -146,6 +140,12 @@ module _ {K V S D T A : Type 0} (x : Setup K V D T) (laws : Laws x) (w : State K
         touches = one_pair k.0 k.1 (ap (λ (v : State K V S D T A). v.holds) a.after);
         replies = inl (ap (λ (v : State K V S D T A). v.replies) a.after);
       }
+  step_footprint (downgrade a) = record {
+    places = λ t ne. ap (λ (v : State K V S D T A). slice_get v.places t) a.after ∙ stays_elsewhere _ t ne;
+    touches = one_desk a.hold.shard (ap pairs_of a.after)
+        (λ i ne. ap (λ (v : State K V S D T A). slice_get v.holds i) a.after ∙ slice_get-set_other w.holds a.hold.shard i _ (λ e. ne (sym e)));
+    replies = inl (ap (λ (v : State K V S D T A). v.replies) a.after);
+  }
   step_footprint (release a) = record {
     places = λ t ne. ap (λ (v : State K V S D T A). slice_get v.places t) a.after ∙ stays_elsewhere _ t ne;
     touches = one_desk a.hold.shard (ap pairs_of a.after)

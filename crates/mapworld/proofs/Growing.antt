@@ -16,20 +16,20 @@ use Rattle.mapworld_calls.specs.Replay.{reached, block_key, at_key, contents, fo
 use Rattle.mapworld_calls.specs.Agrees.{IsToldBy}
 use Rattle.mapworld_calls.specs.Placed.{answered_of, HasStarted, IsDoneWithin}
 use Rattle.mapworld_calls.proofs.Lists.{slice_get-set_same, slice_get-set_other, slice_get-set_cases}
+use Rattle.mapworld_calls.specs.Programs.{opening_key}
 use Rattle.mapworld_calls.proofs.Programs.{opening_is}
 use Rattle.mapworld_calls.proofs.Grown.{Grows, IsQuiet, found-grown, block_key-grown, contents-quiet}
 use Rattle.mapworld_calls.proofs.Kept.{keeps-grown}
+use Rattle.mapworld.specs.declared.holds.Mode.TheVariants.{Exclusive}
 use Rattle.mapworld.specs.declared.step.Step.{Step}
 use Rattle.mapworld.specs.Holds.{Desks}
 use Rattle.mapworld.specs.declared.holds.Mode.{Mode}
-use Rattle.mapworld.specs.declared.place.Request.TheVariants as request
 use Rattle.mapworld.specs.declared.place.Place.{Place}
 use Rattle.mapworld.specs.State.{State, threads_of, started_of}
-use Rattle.mapworld.specs.Moves.{request_key, stepped, CountsIn}
+use Rattle.mapworld.specs.Moves.{stepped, CountsIn}
 use Rattle.mapworld.specs.Sound.{taken, may_own, HoldsShard, GuardIs, HasSession, IsInSession, Claim, OwnsBlocks, HasOwnBlock, Stands, TablesAgree, Sound}
 use Rattle.mapworld.specs.Held.{HoldsMatch}
 use Rattle.mapworld.proofs.Effects.{effect-grow, Anyhow}
-use Rattle.mapworld.proofs.Finding.{begin-key}
 use Rattle.mapworld.proofs.Timing.{placed-grown}
 use Rattle.mapworld.proofs.Building.{started-own, started-stays, sound-by, replies-kept, asked-at, session-is, reached-next, told-next, settled-moved, alone-moved, tables-same}
 
@@ -41,6 +41,11 @@ pub read-quiet : {D K V T : Type 0} (deeds : Deeds D K V T) (d : D) (at : At K V
 read-quiet deeds d (free o) = refl
 read-quiet deeds d (shared pair) = refl
 read-quiet deeds d (exclusive pair) = refl
+
+pub downgrade-quiet : {D K V T : Type 0} (deeds : Deeds D K V T) (at : At K V) → LeavesPair deeds held.Downgrade at
+downgrade-quiet deeds (free o) = refl
+downgrade-quiet deeds (shared pair) = refl
+downgrade-quiet deeds (exclusive pair) = refl
 
 pub drop-quiet : {D K V T : Type 0} (deeds : Deeds D K V T) (at : At K V) → LeavesPair deeds held.Drop at
 drop-quiet deeds (free o) = refl
@@ -65,8 +70,8 @@ session-of-guard x bs tables t p n slot None block guarded h = absurd (none-some
 session-of-guard x bs tables t p n slot (Some c) None guarded h = absurd (none-some slot (sym h.0 ∙ guarded))
 session-of-guard x bs tables t p n slot (Some c) (Some i) guarded h = (c, i, refl, refl, h)
 
-opening-key_of : {K V D T : Type 0} (x : Setup K V D T) (b : Block K) (t c : ℕ) (g : Begin K) → b.thread ≡ t → b.call ≡ c → ask_at x t c ≡ Some (ask.Begin g) → block_key x b ≡ Some (request_key {V = V} (request.Begin g))
-opening-key_of {K} {V} {D} x b t c g thread call asked = rw (thread, call, asked) (begin-key V D g)
+opening-key_of : {K V D T : Type 0} (x : Setup K V D T) (b : Block K) (t c : ℕ) (g : Begin K) → b.thread ≡ t → b.call ≡ c → ask_at x t c ≡ Some (ask.Begin g) → block_key x b ≡ Some (opening_key g)
+opening-key_of {K} {V} {D} x b t c g thread call asked = rw (thread, call, asked) refl
 
 IsSome-at : (o : Option ℕ) → IsSome o → (y : ℕ) × (o ≡ Some y)
 IsSome-at None h = absurd cc
@@ -142,10 +147,10 @@ module _ {K V S D T A : Type 0} (x : Setup K V D T) (laws : Laws x) (w : State K
         ∙ ap (λ o. Some (told x.deeds (ask.Held h) (reached x s.thread c (p.next - c) o))) finds-same;
   }
 
-  -- the session goes on behind the call
-  pub session-on : (tables' : List (Vec (K × V) A)) (p' : Place K V D T A) → p'.hold ≡ p.hold → p'.shard ≡ p.shard → GuardIs tables' p' p'.slot (held_leaves x.deeds h was)
+  -- the session goes on behind the call, which may not come to hold its shard alone
+  pub session-goes-on : (tables' : List (Vec (K × V) A)) (p' : Place K V D T A) → (HoldsShard p' Exclusive → HoldsShard p Exclusive) → p'.shard ≡ p.shard → GuardIs tables' p' p'.slot (held_leaves x.deeds h was)
       → HasSession x (slice_set w.blocks i d) tables' s.thread p' (p.next + 1) c i
-  session-on tables' p' hold shard guard =
+  session-goes-on tables' p' alone shard guard =
       let below = session.below in
       let one : p.next + 1 - c ≡ p.next - c + 1 = omega arith in
       record {
@@ -157,8 +162,12 @@ module _ {K V S D T A : Type 0} (x : Setup K V D T) (laws : Laws x) (w : State K
         done = more-is ∙ sym one;
         guard = rw (one, finds-same) (subst (λ (z : At K V). GuardIs tables' p' p'.slot z) (sym reached-more) guard);
         settled = settled-moved x p p' w.blocks (slice_set w.blocks i d) i session.block d (block_key-grown x laws w.blocks i b d grows ∙ ap (λ z. block_key x z) (sym its))
-            (alone-moved x p p' hold shard) shard ((effect-grow x laws w.blocks s.thread i b d grows thread-is).last i session.block session.listed tt) session.settled;
+            alone shard ((effect-grow x laws w.blocks s.thread i b d grows thread-is).last i session.block session.listed tt) session.settled;
       }
+
+  pub session-on : (tables' : List (Vec (K × V) A)) (p' : Place K V D T A) → p'.hold ≡ p.hold → p'.shard ≡ p.shard → GuardIs tables' p' p'.slot (held_leaves x.deeds h was)
+      → HasSession x (slice_set w.blocks i d) tables' s.thread p' (p.next + 1) c i
+  session-on tables' p' hold shard guard = session-goes-on tables' p' (alone-moved x p p' hold shard) shard guard
 
   pub opening-asked : (g : Begin K) × (ask_at x s.thread c ≡ Some (ask.Begin g))
   opening-asked =
@@ -166,7 +175,7 @@ module _ {K V S D T A : Type 0} (x : Setup K V D T) (laws : Laws x) (w : State K
       (o.0, asked-at x s.thread st.program st.has c (ask.Begin o.0) o.1)
 
   -- the key of the session's block is its opening's
-  pub opening-key : block_key x b ≡ Some (request_key {V = V} (request.Begin opening-asked.0))
+  pub opening-key : block_key x b ≡ Some (opening_key opening-asked.0)
   opening-key = opening-key_of x b s.thread c opening-asked.0 thread-is call-is opening-asked.1
 
   own-block : (p' : Place K V D T A) → p'.block ≡ p.block ⊎ (p'.block ≡ None) → HasOwnBlock (slice_set w.blocks i d) s.thread p'

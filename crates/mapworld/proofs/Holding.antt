@@ -3,17 +3,19 @@ use Rattle.std.proofs.Common.{◌≡◌, ◌≢◌, ℕ, ◌⊎◌, inl, inr, �
 use Rattle.std.proofs.lemmas.Bool.{cases_eq}
 use Rattle.std.proofs.lemmas.Option.{same_Some, none-some}
 use Rattle.mapworld_calls.proofs.Lists.{slice_get-set_same, slice_get-set_other, slice_get-set_cases, slice_get-push_below, slice_get-push_at, slice_get-push_cases}
-use Rattle.lock_api_desk.specs.Guards.{Guard}
+use Rattle.lock_api_desk.specs.declared.mode.Mode.TheVariants as desk_mode
+use Rattle.lock_api_desk.specs.Guards.{Guard, held_in}
+use Rattle.lock_api_desk.proofs.Numbers.{amend_at}
 use Rattle.lock_api_desk.specs.declared.fault.DeskFault.TheVariants.{WouldWait}
-use Rattle.lock_api_desk.specs.Desk.{DeskState, IsSound, admitted, released}
+use Rattle.lock_api_desk.specs.Desk.{DeskState, IsSound, admitted, turned, released}
 use Rattle.lock_api_desk.specs.Refusals.{acquire_refusal}
-use Rattle.mapworld.specs.declared.holds.Mode.TheVariants.{Shared}
+use Rattle.mapworld.specs.declared.holds.Mode.TheVariants.{Shared, Exclusive}
 use Rattle.mapworld.specs.declared.holds.Hold.{Hold}
 use Rattle.mapworld.specs.declared.place.Place.{Place}
 use Rattle.mapworld.specs.Holds.{is_excluded, Desks, at_desk, guard_for}
 use Rattle.mapworld.specs.Held.{HoldsMatch}
 use Rattle.mapworld.proofs.HoldsTable.{is_excluded-shared, without-kept, without-was}
-use Rattle.mapworld.proofs.Orderly.{sound_admitted, sound_released}
+use Rattle.mapworld.proofs.Orderly.{sound_admitted, sound_shared, one_place, sound_released}
 
 module _ {K V D T A : Type 0} (places : List (Place K V D T A)) (holds : Desks) (h : HoldsMatch places holds) where
   -- two threads that hold one shard share it
@@ -177,4 +179,105 @@ module _ {K V D T A : Type 0} (places : List (Place K V D T A)) (holds : Desks) 
         other u q b hq hb = elim (there u q hq) [
           | inl own ↦ absurd (none-some b (sym free ∙ ap (λ z. z.hold) (sym own.1) ∙ hb))
           | inr old ↦ old
+        ]
+
+    -- a hold that was alone is shared, as the desk lists it
+    pub holds-shared : (a : Hold) → p.hold ≡ Some a → a.mode ≡ Exclusive → p'.hold ≡ Some (record a { mode = Shared }) → (desk : DeskState (Unit {0})) → slice_get holds a.shard ≡ Some desk
+        → HoldsMatch (slice_set places t p') (slice_set holds a.shard (turned desk_mode.Shared a.guard desk))
+    holds-shared a held alone taken desk there-is = record {
+      listed = λ u q b hq hb. elim (there u q hq) [
+        | inl own ↦
+            let same : now-held ≡ b = same_Some now-held b (sym taken ∙ ap (λ z. z.hold) (sym own.1) ∙ hb) in (
+              after,
+              place-is,
+              subst (λ (z : Hold). slice_get (slice_set holds a.shard after) z.shard ≡ Some after) same (slice_get-set_same holds a.shard desk after there-is),
+              ap (λ gs. slice_get gs place-is) guards-now ∙ slice_get-set_same desk.guards place-is (guard_for t a) (guard_for t now-held) mine-listed
+                  ∙ ap (λ z. Some z) (ap (λ z. guard_for t z) same ∙ ap (λ v. guard_for v b) (sym own.0)),
+            )
+        | inr other ↦ let o = h.listed u q b other.1 hb in ⊎_elim
+            (λ (here : b.shard ≡ a.shard).
+            let d : o.0 ≡ desk = same_Some o.0 desk (sym o.2 ∙ ap (λ s. slice_get holds s) here ∙ there-is) in
+            let at-desk : slice_get desk.guards o.1 ≡ Some (guard_for u b) = ap (λ (z : DeskState (Unit {0})). slice_get z.guards o.1) (sym d) ∙ o.3 in
+            let ne : place-is ≢ o.1 = λ e. other.0 (ap (λ (z : Guard). z.party) (same_Some (guard_for u b) (guard_for t a) (sym at-desk ∙ ap (λ k. slice_get desk.guards k) (sym e) ∙ mine-listed))) in (
+              after,
+              o.1,
+              ap (λ s. slice_get (slice_set holds a.shard after) s) here ∙ slice_get-set_same holds a.shard desk after there-is,
+              ap (λ gs. slice_get gs o.1) guards-now ∙ slice_get-set_other desk.guards place-is o.1 (guard_for t now-held) ne ∙ at-desk,
+            ))
+            (λ ne. (o.0, o.1, slice_get-set_other holds a.shard b.shard after (λ z. ne (sym z)) ∙ o.2, o.3))
+            (cases_eq b.shard a.shard)
+      ];
+      owned = λ s i d g hd hg. elim (slice_get-set_cases holds a.shard s desk d after there-is hd) [
+        | inl here ↦
+            let in-new : slice_get (slice_set desk.guards place-is (guard_for t now-held)) i ≡ Some g = ap (λ gs. slice_get gs i) (sym guards-now) ∙ ap (λ (z : DeskState (Unit {0})). slice_get z.guards i) (sym here.1) ∙ hg in
+            elim (slice_get-set_cases desk.guards place-is i (guard_for t a) g (guard_for t now-held) mine-listed in-new) [
+              | inl own ↦ (
+                p',
+                now-held,
+                now g.party (ap (λ (z : Guard). z.party) own.1),
+                taken,
+                sym here.0,
+                own.1 ∙ ap (λ v. guard_for v now-held) (sym (ap (λ (z : Guard). z.party) own.1)),
+              )
+              | inr other ↦
+                  let o = h.owned a.shard i desk g there-is other.1 in
+                  let ne : g.party ≢ t = λ own.
+                  let b-is : a ≡ o.1 = is-mine g.party o.0 o.1 own o.2 o.3 in
+                  other.0 (one_place desk.guards i place-is g (guard_for t a) (h.sound a.shard desk there-is).distinct other.1 mine-listed
+                  (ap (λ (z : Guard). z.number) o.5 ∙ ap (λ (z : Hold). z.guard) (sym b-is))) in
+                  (o.0, o.1, still g.party o.0 ne o.2, o.3, o.4 ∙ sym here.0, o.5)
+            ]
+        | inr else_ ↦
+            let o = h.owned s i d g else_.1 hg in
+            let ne : g.party ≢ t = λ own. else_.0 (sym o.4 ∙ ap (λ (z : Hold). z.shard) (sym (is-mine g.party o.0 o.1 own o.2 o.3))) in
+            (o.0, o.1, still g.party o.0 ne o.2, o.3, o.4, o.5)
+      ];
+      apart = λ u v q r b c hq hr hb hc e.
+          let i = was u q b hq hb in let j = was v r c hr hc in
+          h.apart u v i.0 j.0 i.1 j.1 i.2 j.2 i.3 j.3 (i.4 ∙ e ∙ sym j.4);
+      compatible = λ u v q r b c ne hq hr hb hc e.
+          let i = was u q b hq hb in let j = was v r c hr hc in
+          let both = h.compatible u v i.0 j.0 i.1 j.1 ne i.2 j.2 i.3 j.3 (i.5 ∙ e ∙ sym j.5) in
+          (i.6 both.0, j.6 both.1);
+      sound = λ s d hd. elim (slice_get-set_cases holds a.shard s desk d after there-is hd) [
+        | inl here ↦ subst (λ (z : DeskState (Unit {0})). IsSound z.limit z.guards) (sym here.1)
+            (sound_shared desk.limit desk.guards (h.sound a.shard desk there-is) place-is a.guard (guard_for t a) mine-listed refl (ap at_desk alone) refl)
+        | inr other-desk ↦ h.sound s d other-desk.1
+      ];
+    }
+      where
+        now-held : Hold
+        now-held = record a { mode = Shared }
+
+        after : DeskState (Unit {0})
+        after = turned desk_mode.Shared a.guard desk
+
+        place-is : ℕ
+        place-is = (h.listed t p a at held).1
+
+        mine-listed : slice_get desk.guards place-is ≡ Some (guard_for t a)
+        mine-listed =
+            let l = h.listed t p a at held in
+            ap (λ (z : DeskState (Unit {0})). slice_get z.guards l.1) (sym (same_Some l.0 desk (sym l.2 ∙ there-is))) ∙ l.3
+
+        guards-now : after.guards ≡ slice_set desk.guards place-is (guard_for t now-held)
+        guards-now = amend_at (held_in desk_mode.Shared) a.guard desk.guards place-is (guard_for t a) (h.sound a.shard desk there-is).distinct mine-listed refl
+
+        is-mine : (u : ℕ) (q : Place K V D T A) (b : Hold) → u ≡ t → slice_get places u ≡ Some q → q.hold ≡ Some b → a ≡ b
+        is-mine u q b own hq hb = same_Some a b (sym held ∙ ap (λ z. z.hold) (sym (mine u q own hq)) ∙ hb)
+
+        was : (u : ℕ) (q : Place K V D T A) (b : Hold) → slice_get (slice_set places t p') u ≡ Some q → q.hold ≡ Some b
+            → (r : Place K V D T A) × (c : Hold) × (slice_get places u ≡ Some r) × (r.hold ≡ Some c) × (c.guard ≡ b.guard) × (c.shard ≡ b.shard) × (c.mode ≡ Shared → b.mode ≡ Shared)
+        was u q b hq hb = elim (there u q hq) [
+          | inl own ↦
+              let same : now-held ≡ b = same_Some now-held b (sym taken ∙ ap (λ z. z.hold) (sym own.1) ∙ hb) in (
+                p,
+                a,
+                ap (λ v. slice_get places v) own.0 ∙ at,
+                held,
+                ap (λ (z : Hold). z.guard) same,
+                ap (λ (z : Hold). z.shard) same,
+                λ z. ap (λ (z : Hold). z.mode) (sym same),
+              )
+          | inr other ↦ (q, b, other.1, hb, refl, refl, λ z. z)
         ]

@@ -10,6 +10,7 @@ pub mod Finding
 pub mod Growing
 pub mod Acting
 pub mod Reading
+pub mod Sharing
 pub mod Answering
 pub mod Starting
 pub mod Sounds

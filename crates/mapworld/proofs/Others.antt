@@ -6,6 +6,7 @@ use Rattle.mapworld_calls.specs.declared.block.Block.{Block}
 use Rattle.mapworld_calls.specs.declared.reply.Reply.{Reply}
 use Rattle.mapworld_calls.specs.declared.reply.Answer.{Answer}
 use Rattle.mapworld_calls.specs.Calls.{At}
+use Rattle.mapworld_calls.specs.Programs.{keyed_key}
 use Rattle.mapworld_calls.specs.Setup.{Setup, session_of}
 use Rattle.std.proofs.lemmas.Option.{same_Some}
 use Rattle.mapworld_calls.specs.Replay.{reached, found, IsLastOnShard}
@@ -14,7 +15,7 @@ use Rattle.mapworld_calls.specs.Placed.{IsStepOf, answered_of}
 use Rattle.mapworld_calls.proofs.Lists.{slice_get-push_below}
 use Rattle.mapworld_calls.proofs.Kept.{answered-by}
 use Rattle.mapworld.specs.declared.holds.Mode.{Mode}
-use Rattle.mapworld.specs.declared.holds.Mode.TheVariants.{Exclusive}
+use Rattle.mapworld.specs.declared.holds.Mode.TheVariants.{Shared, Exclusive}
 use Rattle.mapworld.specs.declared.place.Phase.{Phase}
 use Rattle.mapworld.specs.declared.place.Phase.TheVariants as phase
 use Rattle.mapworld.specs.declared.place.Place.{Place}
@@ -119,12 +120,12 @@ module _ {K V D T A : Type 0} (x : Setup K V D T) (threads : List ℕ) (s : ℕ)
   claim (phase.Find r) h = (in_call _ h.0, h.1, h.2)
   claim (phase.Grow k v) h = (in_call _ h.0, h.1, h.2, list-kept x bs bs' tables tables' u p kept Exclusive _ h.2 h.3)
   claim (phase.Append k v) h = (in_call _ h.0, before_deed k None h.1, list-kept x bs bs' tables tables' u p kept Exclusive _ h.1.alone h.2)
-  claim (phase.Replace i v) h =
-      (h.0, h.1, in_call _ h.2, before_deed h.0 (Some h.1) h.3, pair-kept x bs bs' tables tables' u p kept Exclusive i h.1 h.3.alone h.4)
-  claim (phase.Take i) h =
-      (h.0, h.1, in_call _ h.2, before_deed h.0 (Some h.1) h.3, pair-kept x bs bs' tables tables' u p kept Exclusive i h.1 h.3.alone h.4)
+  claim (phase.Apply i k) h =
+      (h.0, in_call _ h.1, before_deed (keyed_key k) (Some h.0) h.2, pair-kept x bs bs' tables tables' u p kept Exclusive i h.0 h.2.alone h.3)
+  claim (phase.View i k d) h = (h.0, in_call _ h.1, h.2, h.3, list-kept x bs bs' tables tables' u p kept Shared _ h.3 h.4)
   claim (phase.Read d) h = (h.0, in_call _ h.1, h.2, ready p.next p.block h.3)
   claim (phase.Write d) h = (h.0, in_call _ h.1, h.2, h.3, ready p.next p.block h.4)
+  claim phase.Downgrade h = (h.0, in_call _ h.1, h.2, h.3, ready p.next p.block h.4)
   claim (phase.Release r) h = (h.0, h.1, in_call h.0 h.2, h.3, releasing h.0 r p.slot h.4)
   claim (phase.Answer r) h =
       (h.0, in_call h.0 h.1, h.2, answered p.next h.0 r h.3, ready (p.next + 1) (if p.closes then None else p.block) h.4)

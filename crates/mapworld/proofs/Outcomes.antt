@@ -1,5 +1,5 @@
 -- What holds of every world: it agrees with the replay, and exactly the threads between admission and release hold.
-use Rattle.std.proofs.Common.{◌≡◌, ℕ, ◌+◌, ◌<◌, inl, inr, Bool, true, IsTrue, List, length, map, Option, Some, None, is_some, slice_get, refl, sym, ap, ◌∙◌, subst, arith}
+use Rattle.std.proofs.Common.{◌≡◌, ℕ, ◌+◌, ◌<◌, inl, inr, Bool, true, IsTrue, List, length, map, Option, Some, None, is_some, slice_get, refl, sym, ap, ◌∙◌, arith}
 use Rattle.std.specs.declared.vec.Vec.{Vec}
 use Rattle.std.specs.Hash.{HashWrites}
 use Rattle.std.specs.Cmp.{IsEquivalence}
@@ -15,14 +15,13 @@ use Rattle.mapworld_calls.specs.Every.Placed as every_placed
 use Rattle.mapworld_calls.specs.Every.Setup as every_setup
 use Rattle.mapworld_calls.specs.Every.Today.{as_reply}
 use Rattle.mapworld_calls.proofs.Every.Today.{placed-as, agrees-as}
-use Rattle.mapworld.specs.declared.holds.Mode.{Mode}
 use Rattle.mapworld.specs.declared.holds.Hold.{Hold}
 use Rattle.mapworld.specs.declared.place.Phase.{Phase}
 use Rattle.mapworld.specs.declared.place.Phase.TheVariants as phase
 use Rattle.mapworld.specs.declared.place.Place.{Place}
 use Rattle.mapworld.specs.State.{State, pairs_of, threads_of, started_of}
 use Rattle.mapworld.specs.Held.{holds_before, HoldByPhase}
-use Rattle.mapworld.specs.Sound.{HoldsShard, HoldsByGuard, IsInSession, IsReady, Claim, Sound}
+use Rattle.mapworld.specs.Sound.{HoldsByGuard, IsInSession, Claim, Sound}
 use Rattle.mapworld.specs.World.{setup_of, world_setup}
 use Rattle.mapworld.proofs.Setups.{setup-laws}
 use Rattle.mapworld.proofs.Viewing.{pairs_distinct, pair_at_route}
@@ -77,10 +76,11 @@ module _ {K V D T A : Type 0} (x : Setup K V D T) (threads : List ℕ) (bs : Lis
   by_claim (phase.Find r) c = has_hold p.hold c.2.hold c.2.has
   by_claim (phase.Grow k v) c = has_hold p.hold c.2.hold c.2.has
   by_claim (phase.Append k v) c = has_hold p.hold c.1.alone.hold c.1.alone.has
-  by_claim (phase.Replace i v) c = has_hold p.hold c.3.alone.hold c.3.alone.has
-  by_claim (phase.Take i) c = has_hold p.hold c.3.alone.hold c.3.alone.has
+  by_claim (phase.Apply i k) c = has_hold p.hold c.2.alone.hold c.2.alone.has
+  by_claim (phase.View i k d) c = has_hold p.hold c.3.hold c.3.has
   by_claim (phase.Read d) c = let h = guard_holds p.next c.0 _ p.block c.2 c.3 in has_hold p.hold h.0 h.1
   by_claim (phase.Write d) c = has_hold p.hold c.3.hold c.3.has
+  by_claim phase.Downgrade c = has_hold p.hold c.3.hold c.3.has
   by_claim (phase.Release r) c = has_hold p.hold c.1 c.3
   by_claim (phase.Answer r) c = by_guard (p.next + 1) _ _ p.slot refl c.2 c.4
 

@@ -172,3 +172,15 @@ module _ {K V D T A : Type 0} (desks : Desks) (shard : ℕ) (desk : DeskState (U
       let before : unheld i p ≡ 1 = ap (λ o. unheld_at i o) held ∙ unheld-some i h false (false_from_ne_true (h.shard == i) (λ e. other.0 (sym (eqb-true h.shard i e) ∙ here))) in
       (d', other.1, omega (arith, before, after), refl, refl))
       (slice_get-set_cases desks shard i desk d' desk' there at)
+
+  -- a hold that is only in another mode
+  pub one_turned : p.hold ≡ Some h → (h' : Hold) → p'.hold ≡ Some h' → h'.shard ≡ h.shard → length desk'.guards ≡ length desk.guards → desk'.room ≡ desk.room → desk'.limit ≡ desk.limit
+      → (i : ℕ) (d' : DeskState (Unit {0})) → slice_get (slice_set desks shard desk') i ≡ Some d' → Held-at i d'
+  one_turned held h' held' same guards room limit i d' at =
+      let stays : unheld i p' ≡ unheld i p = ap (λ o. unheld_at i o) held' ∙ ap (λ n. if n == i then 0 else 1) same ∙ sym (ap (λ o. unheld_at i o) held) in
+      ⊎_elim
+      (λ own.
+      let more = ap (λ (z : DeskState (Unit {0})). length z.guards) own.1 in
+      (desk, ap (λ k. slice_get desks k) own.0 ∙ there, omega (arith, stays, more, guards), ap (λ (z : DeskState (Unit {0})). z.room) own.1 ∙ room, ap (λ (z : DeskState (Unit {0})). z.limit) own.1 ∙ limit))
+      (λ other. (d', other.1, omega (arith, stays), refl, refl))
+      (slice_get-set_cases desks shard i desk d' desk' there at)

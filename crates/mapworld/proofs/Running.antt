@@ -40,5 +40,5 @@ module _ {K V S D T A : Type 0} (w : State K V S D T A) (t : ℕ) (runs : is_run
       subst (λ (q : Place K V D T A). 0 < length q.asks.items) same (running_rest (length b.place.asks.items) (runs_before phase.Rest b))
 
   -- before an admission nothing excludes it
-  pub not_excluded : (r : Request K V) (b : IsBefore w.places t (phase.Admit r)) → is_excluded w.places b.place.shard (mode_of r) ≡ false
+  pub not_excluded : (r : Request K V D) (b : IsBefore w.places t (phase.Admit r)) → is_excluded w.places b.place.shard (mode_of r) ≡ false
   not_excluded r b = running_admit (is_excluded w.places b.place.shard (mode_of r)) (runs_before (phase.Admit r) b)

@@ -1,6 +1,6 @@
 -- A thread is asleep where another thread's hold excludes the admission that it is before, and finished where all its calls
 -- are answered.
-use Rattle.std.proofs.Common.{◌≡◌, ◌≢◌, ◌↔◌, ℕ, zero, suc, ◌+◌, ◌-◌, ◌<◌, ◌≤◌, Bool, true, false, if◌then◌else◌, List, length, drop, get_or, Option, Some, None, slice_get, refl, ap, sym, ◌∙◌, subst, ◌==◌, arith, length-drop}
+use Rattle.std.proofs.Common.{◌≡◌, ◌≢◌, ◌↔◌, ℕ, ◌+◌, ◌-◌, ◌≤◌, Bool, true, false, if◌then◌else◌, List, length, drop, Option, Some, None, slice_get, refl, ap, sym, ◌∙◌, subst, ◌==◌, arith, length-drop}
 use Rattle.std.proofs.lemmas.Option.{none-some, same_Some}
 use Rattle.std.proofs.lemmas.Bool.{cond-true, eqb-true}
 use Rattle.mapworld_calls.specs.Setup.{Setup}
@@ -27,40 +27,42 @@ sleeps true h = refl
 sleeps false h = cc
 
 module _ {K V D T A : Type 0} (places : List (Place K V D T A)) where
-  before_admission : (left shard : ℕ) (f : Phase K V D T) → status_before places left shard f ≡ status.Asleep → (r : Request K V) × (f ≡ phase.Admit r) × (is_excluded places shard (mode_of r) ≡ true)
+  before_admission : (left shard : ℕ) (f : Phase K V D T) → status_before places left shard f ≡ status.Asleep → (r : Request K V D) × (f ≡ phase.Admit r) × (is_excluded places shard (mode_of r) ≡ true)
   before_admission left shard phase.Rest h = absurd (never (left == 0) h)
   before_admission left shard (phase.Admit r) h = (r, refl, sleeps (is_excluded places shard (mode_of r)) h)
   before_admission left shard (phase.Find r) h = cc
   before_admission left shard (phase.Grow k v) h = cc
   before_admission left shard (phase.Append k v) h = cc
-  before_admission left shard (phase.Replace i v) h = cc
-  before_admission left shard (phase.Take i) h = cc
+  before_admission left shard (phase.Apply i k) h = cc
+  before_admission left shard (phase.View i k d) h = cc
   before_admission left shard (phase.Read d) h = cc
   before_admission left shard (phase.Write d) h = cc
+  before_admission left shard phase.Downgrade h = cc
   before_admission left shard (phase.Release a) h = cc
   before_admission left shard (phase.Answer a) h = cc
 
   -- a thread that is neither between two calls nor before an admission can move
-  pub runs-otherwise : (left shard : ℕ) (f : Phase K V D T) → (f ≡ phase.Rest → ⊥) → ((r : Request K V) → f ≡ phase.Admit r → ⊥) → status.Running ≡ status_before places left shard f
+  pub runs-otherwise : (left shard : ℕ) (f : Phase K V D T) → (f ≡ phase.Rest → ⊥) → ((r : Request K V D) → f ≡ phase.Admit r → ⊥) → status.Running ≡ status_before places left shard f
   runs-otherwise left shard phase.Rest rest admit = absurd (rest refl)
   runs-otherwise left shard (phase.Admit r) rest admit = absurd (admit r refl)
   runs-otherwise left shard (phase.Find r) rest admit = refl
   runs-otherwise left shard (phase.Grow k v) rest admit = refl
   runs-otherwise left shard (phase.Append k v) rest admit = refl
-  runs-otherwise left shard (phase.Replace i v) rest admit = refl
-  runs-otherwise left shard (phase.Take i) rest admit = refl
+  runs-otherwise left shard (phase.Apply i k) rest admit = refl
+  runs-otherwise left shard (phase.View i k d) rest admit = refl
   runs-otherwise left shard (phase.Read d) rest admit = refl
   runs-otherwise left shard (phase.Write d) rest admit = refl
+  runs-otherwise left shard phase.Downgrade rest admit = refl
   runs-otherwise left shard (phase.Release a) rest admit = refl
   runs-otherwise left shard (phase.Answer a) rest admit = refl
 
-  at_admission : (o : Option (Place K V D T A)) → status_at places o ≡ status.Asleep → (p : Place K V D T A) × (r : Request K V) × (o ≡ Some p) × (p.phase ≡ phase.Admit r) × (is_excluded places p.shard (mode_of r) ≡ true)
+  at_admission : (o : Option (Place K V D T A)) → status_at places o ≡ status.Asleep → (p : Place K V D T A) × (r : Request K V D) × (o ≡ Some p) × (p.phase ≡ phase.Admit r) × (is_excluded places p.shard (mode_of r) ≡ true)
   at_admission None h = cc
   at_admission (Some p) h = let r = before_admission (length p.asks.items) p.shard p.phase h in (p, r.0, refl, r.1, r.2)
 
 module _ {K V S D T A : Type 0} (x : Setup K V D T) (w : State K V S D T A) (sound : Sound x w) (t : ℕ) where
   -- a thread that is before an admission holds nothing
-  holds_nothing : (p : Place K V D T A) (r : Request K V) → slice_get w.places t ≡ Some p → p.phase ≡ phase.Admit r → p.hold ≡ None
+  holds_nothing : (p : Place K V D T A) (r : Request K V D) → slice_get w.places t ≡ Some p → p.phase ≡ phase.Admit r → p.hold ≡ None
   holds_nothing p r at before =
       (subst (λ (f : Phase K V D T). Claim x (threads_of w) w.blocks w.tables t p f) before (sound.stands t p at).claim).2
 
@@ -115,10 +117,11 @@ module _ {K V D T A : Type 0} (places : List (Place K V D T A)) (left shard : �
   over (phase.Find r) h = cc
   over (phase.Grow k v) h = cc
   over (phase.Append k v) h = cc
-  over (phase.Replace i v) h = cc
-  over (phase.Take i) h = cc
+  over (phase.Apply i k) h = cc
+  over (phase.View i k d) h = cc
   over (phase.Read d) h = cc
   over (phase.Write d) h = cc
+  over phase.Downgrade h = cc
   over (phase.Release a) h = cc
   over (phase.Answer a) h = cc
 
@@ -128,10 +131,11 @@ module _ {K V D T A : Type 0} (places : List (Place K V D T A)) (left shard : �
   over_at_rest (phase.Find r) h none = cc
   over_at_rest (phase.Grow k v) h none = cc
   over_at_rest (phase.Append k v) h none = cc
-  over_at_rest (phase.Replace i v) h none = cc
-  over_at_rest (phase.Take i) h none = cc
+  over_at_rest (phase.Apply i k) h none = cc
+  over_at_rest (phase.View i k d) h none = cc
   over_at_rest (phase.Read d) h none = cc
   over_at_rest (phase.Write d) h none = cc
+  over_at_rest phase.Downgrade h none = cc
   over_at_rest (phase.Release a) h none = cc
   over_at_rest (phase.Answer a) h none = cc
 

@@ -7,16 +7,14 @@ use Rattle.std.proofs.lemmas.Bool.{false≢true}
 use Rattle.mapworld_calls.specs.declared.ask.Ask.{Ask}
 use Rattle.mapworld_calls.specs.declared.ask.Ask.TheVariants as ask
 use Rattle.mapworld_calls.specs.declared.ask.Keyed.{Keyed}
-use Rattle.mapworld_calls.specs.declared.ask.Keyed.TheVariants as keyed
 use Rattle.mapworld_calls.specs.declared.ask.Begin.{Begin}
-use Rattle.mapworld_calls.specs.declared.ask.Begin.TheVariants as begin
 use Rattle.mapworld_calls.specs.declared.ask.Held.{Held}
 use Rattle.mapworld_calls.specs.declared.ask.Held.TheVariants as held
 use Rattle.mapworld_calls.specs.declared.block.Block.{Block}
 use Rattle.mapworld_calls.specs.declared.reply.Answer.{Answer}
 use Rattle.mapworld_calls.specs.declared.reply.Answer.TheVariants as answer
 use Rattle.mapworld_calls.specs.Calls.{At, free, shared, pair_in, held_answer, held_leaves}
-use Rattle.mapworld_calls.specs.Programs.{is_drop}
+use Rattle.mapworld_calls.specs.Programs.{is_drop, keyed_key, opening_key}
 use Rattle.mapworld_calls.specs.Setup.{Setup, Laws, ask_at, session_of}
 use Rattle.mapworld_calls.specs.Replay.{reached, found}
 use Rattle.mapworld_calls.specs.Agrees.{IsToldBy, IsAnsweredInSession}
@@ -24,11 +22,10 @@ use Rattle.mapworld.specs.declared.holds.Mode.{Mode}
 use Rattle.mapworld.specs.declared.holds.Mode.TheVariants.{Shared, Exclusive}
 use Rattle.mapworld.specs.declared.holds.Hold.{Hold}
 use Rattle.mapworld.specs.declared.step.Step.{Step}
-use Rattle.mapworld.specs.declared.place.Request.TheVariants as request
 use Rattle.mapworld.specs.declared.place.Phase.TheVariants as phase
 use Rattle.mapworld.specs.declared.place.Place.{Place}
 use Rattle.mapworld.specs.State.{State, threads_of, started_of, next_step}
-use Rattle.mapworld.specs.Moves.{request_key, is_last, guard_mode, guard_of, start_phase, start_shard, start_counts, stepped, CountsCall}
+use Rattle.mapworld.specs.Moves.{is_last, guard_mode, guard_of, start_phase, start_shard, start_counts, stepped, CountsCall}
 use Rattle.mapworld.specs.Steps.{Starts}
 use Rattle.mapworld.specs.Sound.{is_resting, may_own, block_after, guarded, GuardIs, HoldsShard, HasSession, IsInSessionOf, IsInSession, IsReady, IsInCall, IsReleasing, Claim, Stands, Sound}
 use Rattle.mapworld.proofs.Timing.{IsStepOf-next, placed-same}
@@ -44,13 +41,11 @@ outside-free : {K V D T A : Type 0} (x : Setup K V D T) (bs : List (Block K)) (t
     → session_of x t n ≡ None → IsReady x bs tables t p n block → (p.slot ≡ None) × (block ≡ None)
 outside-free x bs tables t p n block outside h = subst (λ (o : Option ℕ). IsInSession x bs tables t p n o block) outside h
 
-shard-keyed : {K V : Type 0} (D : Type 0) (route : K → ℕ) (k : Keyed K V) (shard : ℕ) → start_shard {D = D} route (ask.Keyed k) shard ≡ route (request_key (request.Keyed k))
-shard-keyed D route (keyed.Insert k v) shard = refl
-shard-keyed D route (keyed.Remove k) shard = refl
+shard-keyed : {K V : Type 0} (D : Type 0) (route : K → ℕ) (k : Keyed K V D) (shard : ℕ) → start_shard route (ask.Keyed k) shard ≡ route (keyed_key k)
+shard-keyed D route k shard = refl
 
-shard-begin : {K : Type 0} (V D : Type 0) (route : K → ℕ) (b : Begin K) (shard : ℕ) → start_shard {V = V} {D = D} route (ask.Begin b) shard ≡ route (request_key {V = V} (request.Begin b))
-shard-begin V D route (begin.Get k) shard = refl
-shard-begin V D route (begin.GetMut k) shard = refl
+shard-begin : {K : Type 0} (V D : Type 0) (route : K → ℕ) (b : Begin K) (shard : ℕ) → start_shard {V = V} {D = D} route (ask.Begin b) shard ≡ route (opening_key b)
+shard-begin V D route b shard = refl
 
 module _ {K V S D T A : Type 0} (x : Setup K V D T) (laws : Laws x) (w : State K V S D T A) (s : Step) (sound : Sound x w)
     (p : Place K V D T A) (at : slice_get w.places s.thread ≡ Some p) (before : p.phase ≡ phase.Rest) (rest : VecDeque (Ask K V D) A) where
@@ -135,13 +130,18 @@ module _ {K V S D T A : Type 0} (x : Setup K V D T) (laws : Laws x) (w : State K
       let is : (o : Option (K × V)) × (at ≡ free o) = subst (λ (z : Option ℕ). GuardIs w.tables p z at) none g in
       (ap (held_answer x.deeds h) is.1, ap (held_leaves x.deeds h) is.1 ∙ sym is.1)
 
-  no-write : (d : D) → guard_of p ≡ Some Shared → (at : At K V) → GuardIs w.tables p p.slot at → (held_answer x.deeds (held.Write d) at ≡ answer.WrongGuard) × (held_leaves x.deeds (held.Write d) at ≡ at)
-  no-write d e at g =
+  -- a call that only an exclusive guard allows
+  abbrev IsRefusedShared : Held D → Type 0
+  IsRefusedShared h = (pair : K × V) → (held_answer x.deeds h (shared pair) ≡ answer.WrongGuard) × (held_leaves x.deeds h (shared pair) ≡ shared pair)
+
+  no-change : (h : Held D) → IsRefusedShared h → guard_of p ≡ Some Shared → (at : At K V) → GuardIs w.tables p p.slot at → (held_answer x.deeds h at ≡ answer.WrongGuard) × (held_leaves x.deeds h at ≡ at)
+  no-change h refused e at g =
       let slot = some-slot Shared e in
       let guard = guard-at w.tables p p.slot slot.0 at slot.1 g in
       let mode : guard.1 ≡ Shared = sym guard.3.mode_is ∙ ap (λ (z : Hold). z.mode) (same_Some guard.3.hold slot.2.hold (sym guard.3.has ∙ slot.2.has)) ∙ slot.2.mode_is in
       let is : at ≡ shared guard.0 = guard.2 ∙ ap (λ (m : Mode). guarded m guard.0) mode in
-      (ap (held_answer x.deeds (held.Write d)) is, ap (held_leaves x.deeds (held.Write d)) is ∙ sym is)
+      let r = refused guard.0 in
+      (ap (held_answer x.deeds h) is ∙ r.0, ap (held_leaves x.deeds h) is ∙ r.1 ∙ sym is)
 
   still-none : (drops : Bool) (o : Option ℕ) → o ≡ None → (if drops then None else o) ≡ None
   still-none true o none = refl
@@ -232,15 +232,17 @@ module _ {K V S D T A : Type 0} (x : Setup K V D T) (laws : Laws x) (w : State K
       same-blocks (ask.Held h) None blocks n (uncounted h asks None answer.NoGuard phase-is (no-answer h (no-slot none)) (λ drops. no-slot none) free_ refl)
   unguarded h asks none phase-is blocks (Some i) mine n = counted h asks None answer.NoGuard phase-is (no-answer h (no-slot none)) (λ drops. no-slot none) i mine blocks n
 
-  -- a write through a shared guard
-  wrong-guard : (d : D) (asks : p.asks.items ≡ ask.Held (held.Write d) ∷ rest.items) → guard_of p ≡ Some Shared → (blocks : List (Block K)) → (o : Option ℕ) → p.block ≡ o → CountsCall w.blocks o p.next blocks
-      → Begun (ask.Held (held.Write d)) (Some Shared) blocks
-  wrong-guard d asks e blocks None free_ n =
+  -- a call through a shared guard that only an exclusive one allows
+  wrong-guard : (h : Held D) → IsRefusedShared h → (asks : p.asks.items ≡ ask.Held h ∷ rest.items) → guard_of p ≡ Some Shared → start_phase {K = K} {V = V} {T = T} (ask.Held h) (Some Shared) ≡ phase.Answer answer.WrongGuard
+      → (is_drop h ≡ true → p.slot ≡ None)
+      → (blocks : List (Block K)) → (o : Option ℕ) → p.block ≡ o → CountsCall w.blocks o p.next blocks
+      → Begun (ask.Held h) (Some Shared) blocks
+  wrong-guard h refused asks e phase-is drops blocks None free_ n =
       let g = some-slot Shared e in
       let session = growing.session-of-guard x w.blocks w.tables s.thread p p.next g.0 (session_of x s.thread p.next) p.block g.1 resting.2 in
       absurd (none-some session.1 (sym free_ ∙ session.3))
-  wrong-guard d asks e blocks (Some i) mine n =
-      counted (held.Write d) asks (Some Shared) answer.WrongGuard refl (no-write d e) (λ drops. absurd cc) i mine blocks n
+  wrong-guard h refused asks e phase-is drops blocks (Some i) mine n =
+      counted h asks (Some Shared) answer.WrongGuard phase-is (no-change h refused e) drops i mine blocks n
 
   begun-by : (a : Ask K V D) → p.asks.items ≡ a ∷ rest.items → (guard : Option Mode) → guard_of p ≡ guard → (blocks : List (Block K)) → CountsCall w.blocks (start_counts a guard p.block) p.next blocks → Begun a guard blocks
   begun-by (ask.Keyed k) asks guard e blocks n =
@@ -266,7 +268,14 @@ module _ {K V S D T A : Type 0} (x : Setup K V D T) (laws : Laws x) (w : State K
       let p' = begun a (Some Exclusive) in
       same-blocks a (Some Exclusive) blocks n (sound-begun a asks (Some Exclusive) refl
       (g.0, in_call a asks (Some Exclusive), g.1, holds-moved x p p' Exclusive refl refl g.2, ready-moved x p p' w.blocks w.tables s.thread p.next p.block refl refl refl resting.2))
-  begun-by (ask.Held (held.Write d)) asks (Some Shared) e blocks n = wrong-guard d asks e blocks p.block refl n
+  begun-by (ask.Held (held.Write d)) asks (Some Shared) e blocks n = wrong-guard (held.Write d) (λ pair. (refl, refl)) asks e refl (λ z. absurd cc) blocks p.block refl n
+  begun-by (ask.Held held.Downgrade) asks (Some Exclusive) e blocks n =
+      let a : Ask K V D = ask.Held held.Downgrade in
+      let g = some-slot Exclusive e in
+      let p' = begun a (Some Exclusive) in
+      same-blocks a (Some Exclusive) blocks n (sound-begun a asks (Some Exclusive) refl
+      (g.0, in_call a asks (Some Exclusive), g.1, holds-moved x p p' Exclusive refl refl g.2, ready-moved x p p' w.blocks w.tables s.thread p.next p.block refl refl refl resting.2))
+  begun-by (ask.Held held.Downgrade) asks (Some Shared) e blocks n = wrong-guard held.Downgrade (λ pair. (refl, refl)) asks e refl (λ z. absurd cc) blocks p.block refl n
   begun-by (ask.Held held.Drop) asks (Some mode) e blocks n =
       let a : Ask K V D = ask.Held held.Drop in
       let p' = begun a (Some mode) in
@@ -280,6 +289,7 @@ module _ {K V S D T A : Type 0} (x : Setup K V D T) (laws : Laws x) (w : State K
       ))
   begun-by (ask.Held (held.Read d)) asks None e blocks n = unguarded (held.Read d) asks e refl blocks p.block refl n
   begun-by (ask.Held (held.Write d)) asks None e blocks n = unguarded (held.Write d) asks e refl blocks p.block refl n
+  begun-by (ask.Held held.Downgrade) asks None e blocks n = unguarded held.Downgrade asks e refl blocks p.block refl n
   begun-by (ask.Held held.Drop) asks None e blocks n = unguarded held.Drop asks e refl blocks p.block refl n
 
 pub sound-starts : {K V S D T A : Type 0} (x : Setup K V D T) → Laws x → (w : State K V S D T A) (s : Step) (w' : State K V S D T A) → Sound x w → Starts x w s w' → Sound x w'

@@ -28,16 +28,28 @@ module _ {K V D T : Type 0} where
   started_weighs (ask.Held (held.Read d)) (Some m) ph e = rw e (refl, omega arith, omega arith)
   started_weighs (ask.Held (held.Write d)) (Some Shared) ph e = rw e (refl, omega arith, omega arith)
   started_weighs (ask.Held (held.Write d)) (Some Exclusive) ph e = rw e (refl, omega arith, omega arith)
+  started_weighs (ask.Held held.Downgrade) (Some Shared) ph e = rw e (refl, omega arith, omega arith)
+  started_weighs (ask.Held held.Downgrade) (Some Exclusive) ph e = rw e (refl, omega arith, omega arith)
   started_weighs (ask.Held held.Drop) (Some m) ph e = rw e (refl, omega arith, omega arith)
   started_weighs (ask.Held h) None ph e = rw e (refl, omega arith, omega arith)
 
   -- the phase behind a find
-  pub found_weighs : (r : Request K V) (slot : Option ℕ) (room : Bool) (ph : Phase K V D T) → ph ≡ found_phase r slot room → (owes ph ≡ 1) × (adds ph ≤ 1)
+  pub found_weighs : (r : Request K V D) (slot : Option ℕ) (room : Bool) (ph : Phase K V D T) → ph ≡ found_phase r slot room → (owes ph ≡ 1) × (adds ph ≤ 1)
   found_weighs (request.Keyed (keyed.Insert k v)) (Some i) room ph e = rw e (refl, omega arith)
   found_weighs (request.Keyed (keyed.Insert k v)) None true ph e = rw e (refl, omega arith)
   found_weighs (request.Keyed (keyed.Insert k v)) None false ph e = rw e (refl, omega arith)
   found_weighs (request.Keyed (keyed.Remove k)) (Some i) room ph e = rw e (refl, omega arith)
   found_weighs (request.Keyed (keyed.Remove k)) None room ph e = rw e (refl, omega arith)
+  found_weighs (request.Keyed (keyed.RemoveIf k d)) (Some i) room ph e = rw e (refl, omega arith)
+  found_weighs (request.Keyed (keyed.RemoveIf k d)) None room ph e = rw e (refl, omega arith)
+  found_weighs (request.Keyed (keyed.RemoveIfMut k d)) (Some i) room ph e = rw e (refl, omega arith)
+  found_weighs (request.Keyed (keyed.RemoveIfMut k d)) None room ph e = rw e (refl, omega arith)
+  found_weighs (request.Keyed (keyed.Alter k d)) (Some i) room ph e = rw e (refl, omega arith)
+  found_weighs (request.Keyed (keyed.Alter k d)) None room ph e = rw e (refl, omega arith)
+  found_weighs (request.Keyed (keyed.View k d)) (Some i) room ph e = rw e (refl, omega arith)
+  found_weighs (request.Keyed (keyed.View k d)) None room ph e = rw e (refl, omega arith)
+  found_weighs (request.Keyed (keyed.ContainsKey k)) (Some i) room ph e = rw e (refl, omega arith)
+  found_weighs (request.Keyed (keyed.ContainsKey k)) None room ph e = rw e (refl, omega arith)
   found_weighs (request.Begin b) (Some i) room ph e = rw e (refl, omega arith)
   found_weighs (request.Begin b) None room ph e = rw e (refl, omega arith)
 
@@ -50,13 +62,23 @@ module _ {K : Type 0} (bs : List (Block K)) (st : Started) (at : ℕ) (bs' : Lis
   none_lost (Some done) h = omega (arith, one_added done h)
 
   -- a find lists its block, or may do so later
-  pub found_lists : {V D T : Type 0} (r : Request K V) (slot : Option ℕ) (room : Bool) (ph : Phase K V D T) → ph ≡ found_phase r slot room
+  pub found_lists : {V D T : Type 0} (r : Request K V D) (slot : Option ℕ) (room : Bool) (ph : Phase K V D T) → ph ≡ found_phase r slot room
       → AddsBlock bs (found_done r slot room) st at bs' → length bs' + lists ph ≡ length bs + 1
   found_lists (request.Keyed (keyed.Insert k v)) (Some i) room ph e h = omega (arith, ap lists e, one_added 0 h)
   found_lists (request.Keyed (keyed.Insert k v)) None true ph e h = omega (arith, ap lists e, one_added 0 h)
   found_lists (request.Keyed (keyed.Insert k v)) None false ph e h = omega (arith, ap lists e, ap length h)
   found_lists (request.Keyed (keyed.Remove k)) (Some i) room ph e h = omega (arith, ap lists e, one_added 0 h)
   found_lists (request.Keyed (keyed.Remove k)) None room ph e h = omega (arith, ap lists e, one_added 1 h)
+  found_lists (request.Keyed (keyed.RemoveIf k d)) (Some i) room ph e h = omega (arith, ap lists e, one_added 0 h)
+  found_lists (request.Keyed (keyed.RemoveIf k d)) None room ph e h = omega (arith, ap lists e, one_added 1 h)
+  found_lists (request.Keyed (keyed.RemoveIfMut k d)) (Some i) room ph e h = omega (arith, ap lists e, one_added 0 h)
+  found_lists (request.Keyed (keyed.RemoveIfMut k d)) None room ph e h = omega (arith, ap lists e, one_added 1 h)
+  found_lists (request.Keyed (keyed.Alter k d)) (Some i) room ph e h = omega (arith, ap lists e, one_added 0 h)
+  found_lists (request.Keyed (keyed.Alter k d)) None room ph e h = omega (arith, ap lists e, one_added 1 h)
+  found_lists (request.Keyed (keyed.View k d)) (Some i) room ph e h = omega (arith, ap lists e, ap length h)
+  found_lists (request.Keyed (keyed.View k d)) None room ph e h = omega (arith, ap lists e, one_added 1 h)
+  found_lists (request.Keyed (keyed.ContainsKey k)) (Some i) room ph e h = omega (arith, ap lists e, one_added 1 h)
+  found_lists (request.Keyed (keyed.ContainsKey k)) None room ph e h = omega (arith, ap lists e, one_added 1 h)
   found_lists (request.Begin b) (Some i) room ph e h = omega (arith, ap lists e, one_added 1 h)
   found_lists (request.Begin b) None room ph e h = omega (arith, ap lists e, one_added 1 h)
 

@@ -8,6 +8,7 @@ use Rattle.mapworld_calls.specs.declared.block.Block.{Block}
 use Rattle.mapworld_calls.specs.declared.reply.Answer.{Answer}
 use Rattle.mapworld_calls.specs.declared.reply.Answer.TheVariants as answer
 use Rattle.mapworld_calls.specs.Calls.{exclusive, pair_in, held_answer, held_leaves}
+use Rattle.mapworld_calls.specs.Programs.{opening_key}
 use Rattle.mapworld_calls.specs.Setup.{Setup, Laws, session_of}
 use Rattle.mapworld_calls.specs.Pairs.{pair_of, AreDistinct}
 use Rattle.mapworld_calls.specs.Replay.{reached, block_key, is_key, found, IsLastOnShard}
@@ -18,11 +19,10 @@ use Rattle.mapworld.specs.declared.holds.Mode.{Mode}
 use Rattle.mapworld.specs.declared.holds.Mode.TheVariants.{Exclusive}
 use Rattle.mapworld.specs.declared.holds.Hold.{Hold}
 use Rattle.mapworld.specs.declared.step.Step.{Step}
-use Rattle.mapworld.specs.declared.place.Request.TheVariants as request
 use Rattle.mapworld.specs.declared.place.Phase.TheVariants as phase
 use Rattle.mapworld.specs.declared.place.Place.{Place}
 use Rattle.mapworld.specs.State.{State, threads_of}
-use Rattle.mapworld.specs.Moves.{request_key, stepped}
+use Rattle.mapworld.specs.Moves.{stepped}
 use Rattle.mapworld.specs.Steps.{Writes}
 use Rattle.mapworld.specs.Sound.{may_own, block_after, guarded, GuardIs, HasPair, Sound}
 use Rattle.mapworld.proofs.Others.{IsInCall-push}
@@ -64,7 +64,7 @@ module _ {K V S D T A : Type 0} (x : Setup K V D T) (laws : Laws x) (w : State K
       let grows = growing.grows x laws w s sound p a.stands h call.asked c i inside session b d n.2 n.3 still in
       -- its key
       let opening = growing.opening-asked x laws w s sound p a.stands h call.asked c i inside session b d n.2 n.3 still in
-      let key : K = request_key {V = V} (request.Begin opening.0) in
+      let key : K = opening_key opening.0 in
       let key-is : block_key x b ≡ Some key = growing.opening-key x laws w s sound p a.stands h call.asked c i inside session b d n.2 n.3 still in
       let here : p.shard ≡ x.route key = session.settled.here key (ap (λ z. block_key x z) its ∙ key-is) in
       let touched : (q : K) → x.eq key q ≡ true → is_key x.eq (block_key x b) q ≡ true = λ q e. ap (λ z. is_key x.eq z q) key-is ∙ e in

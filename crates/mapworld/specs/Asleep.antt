@@ -14,7 +14,7 @@ use Rattle.mapworld.specs.Moves.{mode_of}
 pub record IsAsleep {K V S D T A : Type 0} (w : State K V S D T A) (t : ℕ) : Type 0 where
   pub place : Place K V D T A
   pub stands : slice_get w.places t ≡ Some place
-  pub request : Request K V
+  pub request : Request K V D
   pub before : place.phase ≡ phase.Admit request
   pub other : ℕ
   pub another : other ≢ t

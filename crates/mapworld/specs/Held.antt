@@ -29,10 +29,11 @@ holds_before guard (phase.Admit r) = false
 holds_before guard (phase.Find r) = true
 holds_before guard (phase.Grow k v) = true
 holds_before guard (phase.Append k v) = true
-holds_before guard (phase.Replace i v) = true
-holds_before guard (phase.Take i) = true
+holds_before guard (phase.Apply i k) = true
+holds_before guard (phase.View i k d) = true
 holds_before guard (phase.Read d) = true
 holds_before guard (phase.Write d) = true
+holds_before guard phase.Downgrade = true
 holds_before guard (phase.Release a) = true
 holds_before guard (phase.Answer a) = is_some guard
 

@@ -2,12 +2,14 @@
 use Rattle.std.specs.Prelude.{◌≡◌, ℕ, ◌+◌, ◌-◌, Bool, true, false, List, [], ◌∷◌, ◌++◌, Option, Some, None, slice_get, slice_set, MatchBool, ◌==◌}
 use Rattle.mapworld_calls.specs.declared.ask.Ask.{Ask}
 use Rattle.mapworld_calls.specs.declared.ask.Ask.TheVariants as ask
+use Rattle.mapworld_calls.specs.declared.ask.Keyed.{Keyed}
 use Rattle.mapworld_calls.specs.declared.ask.Keyed.TheVariants as keyed
+use Rattle.mapworld_calls.specs.declared.ask.Begin.{Begin}
 use Rattle.mapworld_calls.specs.declared.ask.Begin.TheVariants as begin
 use Rattle.mapworld_calls.specs.declared.ask.Held.TheVariants as held
 use Rattle.mapworld_calls.specs.declared.block.Block.{Block}
 use Rattle.mapworld_calls.specs.declared.reply.Answer.TheVariants as answer
-use Rattle.mapworld_calls.specs.Programs.{is_drop}
+use Rattle.mapworld_calls.specs.Programs.{is_drop, keyed_key, opening_key}
 use Rattle.mapworld.specs.declared.holds.Mode.{Mode}
 use Rattle.mapworld.specs.declared.holds.Mode.TheVariants.{Shared, Exclusive}
 use Rattle.mapworld.specs.declared.holds.Hold.{Hold}
@@ -20,21 +22,27 @@ use Rattle.mapworld.specs.declared.place.Place.{Place}
 use Rattle.mapworld.specs.State.{State, next_step}
 
 -- a request is a call on one key: the call, its key, and how it holds the shard
-abbrev pub ask_of : {K V D : Type 0} → Request K V → Ask K V D
+abbrev pub ask_of : {K V D : Type 0} → Request K V D → Ask K V D
 ask_of (request.Keyed k) = ask.Keyed k
 ask_of (request.Begin b) = ask.Begin b
 
-abbrev pub request_key : {K V : Type 0} → Request K V → K
-request_key (request.Keyed (keyed.Insert k v)) = k
-request_key (request.Keyed (keyed.Remove k)) = k
-request_key (request.Begin (begin.Get k)) = k
-request_key (request.Begin (begin.GetMut k)) = k
+abbrev pub request_key : {K V D : Type 0} → Request K V D → K
+request_key (request.Keyed k) = keyed_key k
+request_key (request.Begin b) = opening_key b
 
-abbrev pub mode_of : {K V : Type 0} → Request K V → Mode
-mode_of (request.Keyed (keyed.Insert k v)) = Exclusive
-mode_of (request.Keyed (keyed.Remove k)) = Exclusive
-mode_of (request.Begin (begin.Get k)) = Shared
-mode_of (request.Begin (begin.GetMut k)) = Exclusive
+-- how a call holds its shard
+abbrev pub keyed_mode : {K V D : Type 0} → Keyed K V D → Mode
+keyed_mode (keyed.View k d) = Shared
+keyed_mode (keyed.ContainsKey k) = Shared
+keyed_mode k = Exclusive
+
+abbrev pub opening_mode : {K : Type 0} → Begin K → Mode
+opening_mode (begin.Get k) = Shared
+opening_mode (begin.GetMut k) = Exclusive
+
+abbrev pub mode_of : {K V D : Type 0} → Request K V D → Mode
+mode_of (request.Keyed k) = keyed_mode k
+mode_of (request.Begin b) = opening_mode b
 
 -- whether a call is the last one of its block, if it has one
 abbrev pub is_last : {K V D : Type 0} → Ask K V D → Bool
@@ -58,14 +66,14 @@ start_phase (ask.Begin b) guard = phase.Admit (request.Begin b)
 start_phase (ask.Held (held.Read d)) (Some mode) = phase.Read d
 start_phase (ask.Held (held.Write d)) (Some Shared) = phase.Answer answer.WrongGuard
 start_phase (ask.Held (held.Write d)) (Some Exclusive) = phase.Write d
+start_phase (ask.Held held.Downgrade) (Some Shared) = phase.Answer answer.WrongGuard
+start_phase (ask.Held held.Downgrade) (Some Exclusive) = phase.Downgrade
 start_phase (ask.Held held.Drop) (Some mode) = phase.Release answer.Done
 start_phase (ask.Held h) None = phase.Answer answer.NoGuard
 
 abbrev pub start_shard : {K V D : Type 0} → (K → ℕ) → Ask K V D → ℕ → ℕ
-start_shard route (ask.Keyed (keyed.Insert k v)) shard = route k
-start_shard route (ask.Keyed (keyed.Remove k)) shard = route k
-start_shard route (ask.Begin (begin.Get k)) shard = route k
-start_shard route (ask.Begin (begin.GetMut k)) shard = route k
+start_shard route (ask.Keyed k) shard = route (keyed_key k)
+start_shard route (ask.Begin b) shard = route (opening_key b)
 start_shard route (ask.Held h) shard = shard
 
 -- the block that a start counts its call in: that of the session, where the guard doesn't allow the call or none is held
@@ -75,30 +83,52 @@ start_counts (ask.Begin b) guard block = None
 start_counts (ask.Held (held.Read d)) (Some mode) block = None
 start_counts (ask.Held (held.Write d)) (Some Shared) block = block
 start_counts (ask.Held (held.Write d)) (Some Exclusive) block = None
+start_counts (ask.Held held.Downgrade) (Some Shared) block = block
+start_counts (ask.Held held.Downgrade) (Some Exclusive) block = None
 start_counts (ask.Held held.Drop) (Some mode) block = None
 start_counts (ask.Held h) None block = block
 
 -- a find: by the place of the key's pair in the shard's list, and whether the list has room for one more
-abbrev pub found_phase : {K V D T : Type 0} → Request K V → Option ℕ → Bool → Phase K V D T
-found_phase (request.Keyed (keyed.Insert k v)) (Some i) room = phase.Replace i v
+abbrev pub found_phase : {K V D T : Type 0} → Request K V D → Option ℕ → Bool → Phase K V D T
+found_phase (request.Keyed (keyed.Insert k v)) (Some i) room = phase.Apply i (keyed.Insert k v)
 found_phase (request.Keyed (keyed.Insert k v)) None true = phase.Append k v
 found_phase (request.Keyed (keyed.Insert k v)) None false = phase.Grow k v
-found_phase (request.Keyed (keyed.Remove k)) (Some i) room = phase.Take i
+found_phase (request.Keyed (keyed.Remove k)) (Some i) room = phase.Apply i (keyed.Remove k)
 found_phase (request.Keyed (keyed.Remove k)) None room = phase.Release answer.None
+found_phase (request.Keyed (keyed.RemoveIf k d)) (Some i) room = phase.Apply i (keyed.RemoveIf k d)
+found_phase (request.Keyed (keyed.RemoveIf k d)) None room = phase.Release answer.None
+found_phase (request.Keyed (keyed.RemoveIfMut k d)) (Some i) room = phase.Apply i (keyed.RemoveIfMut k d)
+found_phase (request.Keyed (keyed.RemoveIfMut k d)) None room = phase.Release answer.None
+found_phase (request.Keyed (keyed.Alter k d)) (Some i) room = phase.Apply i (keyed.Alter k d)
+found_phase (request.Keyed (keyed.Alter k d)) None room = phase.Release answer.Done
+found_phase (request.Keyed (keyed.View k d)) (Some i) room = phase.View i k d
+found_phase (request.Keyed (keyed.View k d)) None room = phase.Release answer.None
+found_phase (request.Keyed (keyed.ContainsKey k)) (Some i) room = phase.Release (answer.Flag true)
+found_phase (request.Keyed (keyed.ContainsKey k)) None room = phase.Release (answer.Flag false)
 found_phase (request.Begin b) (Some i) room = phase.Answer answer.Held
 found_phase (request.Begin b) None room = phase.Release answer.None
 
--- how many of its calls the block that a find lists has done; where a growth is needed it lists none
-abbrev pub found_done : {K V : Type 0} → Request K V → Option ℕ → Bool → Option ℕ
+-- how many of its calls the block that a find lists has done: none where a deed is to come, and one where the find is all
+-- that there is to do; where a growth is needed, or the pair is to be read, it lists none
+abbrev pub found_done : {K V D : Type 0} → Request K V D → Option ℕ → Bool → Option ℕ
 found_done (request.Keyed (keyed.Insert k v)) (Some i) room = Some 0
 found_done (request.Keyed (keyed.Insert k v)) None true = Some 0
 found_done (request.Keyed (keyed.Insert k v)) None false = None
 found_done (request.Keyed (keyed.Remove k)) (Some i) room = Some 0
 found_done (request.Keyed (keyed.Remove k)) None room = Some 1
+found_done (request.Keyed (keyed.RemoveIf k d)) (Some i) room = Some 0
+found_done (request.Keyed (keyed.RemoveIf k d)) None room = Some 1
+found_done (request.Keyed (keyed.RemoveIfMut k d)) (Some i) room = Some 0
+found_done (request.Keyed (keyed.RemoveIfMut k d)) None room = Some 1
+found_done (request.Keyed (keyed.Alter k d)) (Some i) room = Some 0
+found_done (request.Keyed (keyed.Alter k d)) None room = Some 1
+found_done (request.Keyed (keyed.View k d)) (Some i) room = None
+found_done (request.Keyed (keyed.View k d)) None room = Some 1
+found_done (request.Keyed (keyed.ContainsKey k)) slot room = Some 1
 found_done (request.Begin b) slot room = Some 1
 
 -- the guard that a find gives
-abbrev pub found_slot : {K V : Type 0} → Request K V → Option ℕ → Option ℕ
+abbrev pub found_slot : {K V D : Type 0} → Request K V D → Option ℕ → Option ℕ
 found_slot (request.Keyed k) slot = None
 found_slot (request.Begin b) slot = slot
 

@@ -34,10 +34,11 @@ status_before places left shard (phase.Admit r) = if is_excluded places shard (m
 status_before places left shard (phase.Find r) = status.Running
 status_before places left shard (phase.Grow k v) = status.Running
 status_before places left shard (phase.Append k v) = status.Running
-status_before places left shard (phase.Replace i v) = status.Running
-status_before places left shard (phase.Take i) = status.Running
+status_before places left shard (phase.Apply i k) = status.Running
+status_before places left shard (phase.View i k d) = status.Running
 status_before places left shard (phase.Read d) = status.Running
 status_before places left shard (phase.Write d) = status.Running
+status_before places left shard phase.Downgrade = status.Running
 status_before places left shard (phase.Release a) = status.Running
 status_before places left shard (phase.Answer a) = status.Running
 

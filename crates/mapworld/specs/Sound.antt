@@ -1,5 +1,5 @@
 -- What holds of a world between two steps, calls half done included.
-use Rattle.std.specs.Prelude.{◌≡◌, ◌≢◌, ℕ, ◌+◌, ◌-◌, ◌<◌, ◌≤◌, ◌⊎◌, Bool, true, false, if◌then◌else◌, List, length, drop, Option, Some, None, slice_get, vec_len, vec_capacity}
+use Rattle.std.specs.Prelude.{◌≡◌, ℕ, ◌+◌, ◌-◌, ◌<◌, ◌≤◌, ◌⊎◌, Bool, true, false, if◌then◌else◌, List, length, drop, Option, Some, None, slice_get, vec_len, vec_capacity}
 use Rattle.std.specs.declared.vec.Vec.{Vec}
 use Rattle.mapworld_calls.specs.declared.ask.Ask.{Ask}
 use Rattle.mapworld_calls.specs.declared.ask.Ask.TheVariants as ask
@@ -9,7 +9,7 @@ use Rattle.mapworld_calls.specs.declared.block.Block.{Block}
 use Rattle.mapworld_calls.specs.declared.reply.Reply.{Reply}
 use Rattle.mapworld_calls.specs.declared.reply.Answer.{Answer}
 use Rattle.mapworld_calls.specs.declared.reply.Answer.TheVariants as answer
-use Rattle.mapworld_calls.specs.Programs.{one_guard}
+use Rattle.mapworld_calls.specs.Programs.{one_guard, keyed_key}
 use Rattle.mapworld_calls.specs.Calls.{At, free, shared, exclusive}
 use Rattle.mapworld_calls.specs.Setup.{Setup, ask_at, session_of}
 use Rattle.mapworld_calls.specs.Pairs.{pair_of, AreDistinct}
@@ -33,10 +33,11 @@ is_resting (phase.Admit r) = false
 is_resting (phase.Find r) = false
 is_resting (phase.Grow k v) = false
 is_resting (phase.Append k v) = false
-is_resting (phase.Replace i v) = false
-is_resting (phase.Take i) = false
+is_resting (phase.Apply i k) = false
+is_resting (phase.View i k d) = false
 is_resting (phase.Read d) = false
 is_resting (phase.Write d) = false
+is_resting phase.Downgrade = false
 is_resting (phase.Release a) = false
 is_resting (phase.Answer a) = false
 
@@ -47,10 +48,11 @@ may_own (phase.Admit r) = false
 may_own (phase.Find r) = false
 may_own (phase.Grow k v) = false
 may_own (phase.Append k v) = true
-may_own (phase.Replace i v) = true
-may_own (phase.Take i) = true
+may_own (phase.Apply i k) = true
+may_own (phase.View i k d) = false
 may_own (phase.Read d) = false
 may_own (phase.Write d) = false
+may_own phase.Downgrade = false
 may_own (phase.Release a) = true
 may_own (phase.Answer a) = true
 
@@ -174,14 +176,17 @@ Claim x threads bs tables t p (phase.Grow k v) =
     × HasList tables p.shard (λ table. (pair_of x.eq table.items k ≡ None) × (vec_capacity table ≤ vec_len table))
 Claim x threads bs tables t p (phase.Append k v) =
     IsInCall x threads t p (ask.Keyed (keyed.Insert k v)) × IsBeforeDeed x bs t p k None × HasList tables p.shard (λ table. vec_len table < vec_capacity table)
-Claim {K} {V} x threads bs tables t p (phase.Replace slot v) =
-    (k : K) × (pair : K × V) × IsInCall x threads t p (ask.Keyed (keyed.Insert k v)) × IsBeforeDeed x bs t p k (Some pair) × HasPair tables p.shard slot pair
-Claim {K} {V} x threads bs tables t p (phase.Take slot) =
-    (k : K) × (pair : K × V) × IsInCall x threads t p (ask.Keyed (keyed.Remove k)) × IsBeforeDeed x bs t p k (Some pair) × HasPair tables p.shard slot pair
+Claim {K} {V} x threads bs tables t p (phase.Apply slot k) =
+    (pair : K × V) × IsInCall x threads t p (ask.Keyed k) × IsBeforeDeed x bs t p (keyed_key k) (Some pair) × HasPair tables p.shard slot pair
+Claim {K} {V} x threads bs tables t p (phase.View slot k d) =
+    (pair : K × V) × IsInCall x threads t p (ask.Keyed (keyed.View k d)) × IsOnItsWay x p k × HoldsShard p Shared
+    × HasList tables p.shard (λ table. (slice_get table.items slot ≡ Some pair) × (pair_of x.eq table.items k ≡ Some pair))
 Claim x threads bs tables t p (phase.Read d) =
     (slot : ℕ) × IsInCall x threads t p (ask.Held (held.Read d)) × (p.slot ≡ Some slot) × IsReady x bs tables t p p.next p.block
 Claim x threads bs tables t p (phase.Write d) =
     (slot : ℕ) × IsInCall x threads t p (ask.Held (held.Write d)) × (p.slot ≡ Some slot) × HoldsShard p Exclusive × IsReady x bs tables t p p.next p.block
+Claim x threads bs tables t p phase.Downgrade =
+    (slot : ℕ) × IsInCall x threads t p (ask.Held held.Downgrade) × (p.slot ≡ Some slot) × HoldsShard p Exclusive × IsReady x bs tables t p p.next p.block
 Claim {K} {V} {D} x threads bs tables t p (phase.Release r) =
     (a : Ask K V D) × (hold : Hold) × IsInCall x threads t p a × (p.hold ≡ Some hold) × IsReleasing x bs tables t p a r p.slot
 Claim {K} {V} {D} x threads bs tables t p (phase.Answer r) =

@@ -3,18 +3,22 @@ use Rattle.std.specs.Prelude.{◌≡◌, ◌≢◌, ℕ, ◌+◌, ◌*◌, ◌�
 use Rattle.std.specs.declared.vec.Vec.{Vec}
 use Rattle.std.specs.declared.collections.VecDeque.{VecDeque}
 use Rattle.mapworld_calls.specs.declared.ask.Ask.{Ask}
+use Rattle.mapworld_calls.specs.declared.ask.Keyed.{Keyed}
 use Rattle.mapworld_calls.specs.declared.block.Block.{Block}
 use Rattle.mapworld_calls.specs.declared.reply.Answer.{Answer}
 use Rattle.mapworld_calls.specs.declared.reply.Answer.TheVariants as answer
+use Rattle.mapworld_calls.specs.Calls.{keyed_answer, keyed_leaves}
 use Rattle.mapworld_calls.specs.Setup.{Setup}
 use Rattle.mapworld_calls.specs.Pairs.{has_key, pair_of}
+use Rattle.lock_api_desk.specs.declared.mode.Mode.TheVariants as desk_mode
+use Rattle.mapworld.specs.declared.holds.Mode.TheVariants.{Shared, Exclusive}
 use Rattle.mapworld.specs.declared.holds.Hold.{Hold}
 use Rattle.mapworld.specs.declared.step.Step.{Step}
 use Rattle.mapworld.specs.declared.place.Request.{Request}
 use Rattle.mapworld.specs.declared.place.Phase.TheVariants as phase
 use Rattle.mapworld.specs.declared.place.Place.{Place}
 use Rattle.lock_api_desk.specs.declared.fault.DeskFault.TheVariants.{WouldWait}
-use Rattle.lock_api_desk.specs.Desk.{DeskState, admitted as with_guard, released}
+use Rattle.lock_api_desk.specs.Desk.{DeskState, admitted as with_guard, turned, released}
 use Rattle.lock_api_desk.specs.Refusals.{acquire_refusal}
 use Rattle.mapworld.specs.Holds.{is_excluded, at_desk}
 use Rattle.mapworld.specs.State.{State, next_step}
@@ -30,6 +34,11 @@ has_room v = nat_lt (vec_len v) (vec_capacity v)
 
 abbrev pub grown_room : ℕ → ℕ
 grown_room n = 2 * n + 4
+
+-- a list with another value at that place, or without the one there
+abbrev pub put_back : {X : Type 0} → List X → ℕ → Option X → List X
+put_back xs i None = remove xs i
+put_back xs i (Some y) = slice_set xs i y
 
 module _ {K V S D T A : Type 0} (x : Setup K V D T) (w : State K V S D T A) (s : Step) (w' : State K V S D T A) where
   -- a start takes the thread's next call and sets `started` to its number
@@ -55,7 +64,7 @@ module _ {K V S D T A : Type 0} (x : Setup K V D T) (w : State K V S D T A) (s :
   pub record Admits : Type 0 where
     pub place : Place K V D T A
     pub stands : slice_get w.places s.thread ≡ Some place
-    pub request : Request K V
+    pub request : Request K V D
     pub before : place.phase ≡ phase.Admit request
     pub admitted : is_excluded w.places place.shard (mode_of request) ≡ false
     pub hold : Hold
@@ -70,7 +79,7 @@ module _ {K V S D T A : Type 0} (x : Setup K V D T) (w : State K V S D T A) (s :
   pub record Finds : Type 0 where
     pub place : Place K V D T A
     pub stands : slice_get w.places s.thread ≡ Some place
-    pub request : Request K V
+    pub request : Request K V D
     pub before : place.phase ≡ phase.Find request
     pub table : Vec (K × V) A
     pub held : slice_get w.tables place.shard ≡ Some table
@@ -136,40 +145,39 @@ module _ {K V S D T A : Type 0} (x : Setup K V D T) (w : State K V S D T A) (s :
     pub counted : CountsCall w.blocks place.block place.next blocks
     pub after : w' ≡ record (stepped w s (record place { phase = phase.Release answer.None })) { tables = slice_set w.tables place.shard changed; blocks = blocks }
 
-  -- a deed replaces the value and leaves the stored key
-  pub record Replaces : Type 0 where
+  -- a deed does with the found pair what the call does with it: its value is another, it goes, or it stays as it is
+  pub record Applies : Type 0 where
     pub place : Place K V D T A
     pub stands : slice_get w.places s.thread ≡ Some place
     pub slot : ℕ
-    pub value : V
-    pub before : place.phase ≡ phase.Replace slot value
+    pub call : Keyed K V D
+    pub before : place.phase ≡ phase.Apply slot call
     pub table : Vec (K × V) A
     pub held : slice_get w.tables place.shard ≡ Some table
     pub pair : K × V
     pub found : slice_get table.items slot ≡ Some pair
     pub changed : Vec (K × V) A
-    pub pairs : changed.items ≡ slice_set table.items slot (pair.0, value)
+    pub pairs : changed.items ≡ put_back table.items slot (keyed_leaves x.deeds call (Some pair))
     pub room_stays : vec_capacity changed ≡ vec_capacity table
     pub blocks : List (Block K)
     pub counted : CountsCall w.blocks place.block place.next blocks
-    pub after : w' ≡ record (stepped w s (record place { phase = phase.Release (answer.Value pair.1) })) { tables = slice_set w.tables place.shard changed; blocks = blocks }
+    pub after : w' ≡ record (stepped w s (record place { phase = phase.Release (keyed_answer x.deeds call (Some pair)) })) { tables = slice_set w.tables place.shard changed; blocks = blocks }
 
-  -- a deed takes the pair out
-  pub record Takes : Type 0 where
+  -- a deed reads the found pair; it is the position of the block that it lists
+  pub record Views : Type 0 where
     pub place : Place K V D T A
     pub stands : slice_get w.places s.thread ≡ Some place
     pub slot : ℕ
-    pub before : place.phase ≡ phase.Take slot
+    pub key : K
+    pub deed : D
+    pub before : place.phase ≡ phase.View slot key deed
     pub table : Vec (K × V) A
     pub held : slice_get w.tables place.shard ≡ Some table
     pub pair : K × V
     pub found : slice_get table.items slot ≡ Some pair
-    pub changed : Vec (K × V) A
-    pub pairs : changed.items ≡ remove table.items slot
-    pub room_stays : vec_capacity changed ≡ vec_capacity table
     pub blocks : List (Block K)
-    pub counted : CountsCall w.blocks place.block place.next blocks
-    pub after : w' ≡ record (stepped w s (record place { phase = phase.Release (answer.Pair pair.0 pair.1) })) { tables = slice_set w.tables place.shard changed; blocks = blocks }
+    pub listed : ListsBlock w s.thread place (Some 1) blocks
+    pub after : w' ≡ record (stepped w s (record place { block = Some (length w.blocks); phase = phase.Release (answer.Read (x.deeds.answer deed pair.0 pair.1)) })) { blocks = blocks }
 
   -- a deed reads the guarded pair
   pub record Reads : Type 0 where
@@ -205,6 +213,23 @@ module _ {K V S D T A : Type 0} (x : Setup K V D T) (w : State K V S D T A) (s :
     pub blocks : List (Block K)
     pub counted : CountsCall w.blocks place.block place.next blocks
     pub after : w' ≡ record (stepped w s (record place { phase = phase.Answer answer.Done })) { tables = slice_set w.tables place.shard changed; blocks = blocks }
+
+  -- a guard that held its shard alone shares it, and the shard's desk lists it so
+  pub record Downgrades : Type 0 where
+    pub place : Place K V D T A
+    pub stands : slice_get w.places s.thread ≡ Some place
+    pub before : place.phase ≡ phase.Downgrade
+    pub hold : Hold
+    pub holds : place.hold ≡ Some hold
+    pub alone : hold.mode ≡ Exclusive
+    pub desk : DeskState (Unit {0})
+    pub at_shard : slice_get w.holds hold.shard ≡ Some desk
+    pub blocks : List (Block K)
+    pub counted : CountsCall w.blocks place.block place.next blocks
+    pub after : w' ≡ record (stepped w s (record place { hold = Some (record hold { mode = Shared }); phase = phase.Answer answer.Held })) {
+      holds = slice_set w.holds hold.shard (turned desk_mode.Shared hold.guard desk);
+      blocks = blocks;
+    }
 
   -- a release ends the thread's hold, and its guard with it, and the shard's desk lists it no more
   pub record Releases : Type 0 where
@@ -248,9 +273,10 @@ pub data IsStep {K V S D T A : Type 0} (x : Setup K V D T) (w : State K V S D T 
   find_grows : GrowsList x w s w' → IsStep x w s w'
   find_refused : IsRefusedGrowth x w s w' → IsStep x w s w'
   deed_appends : Appends x w s w' → IsStep x w s w'
-  deed_replaces : Replaces x w s w' → IsStep x w s w'
-  deed_takes : Takes x w s w' → IsStep x w s w'
+  deed_applies : Applies x w s w' → IsStep x w s w'
+  deed_views : Views x w s w' → IsStep x w s w'
   deed_reads : Reads x w s w' → IsStep x w s w'
   deed_writes : Writes x w s w' → IsStep x w s w'
+  downgrade : Downgrades x w s w' → IsStep x w s w'
   release : Releases x w s w' → IsStep x w s w'
   answers : Answers x w s w' → IsStep x w s w'

@@ -6,8 +6,8 @@ ghost use Rattle.mapworld.specs.Running.{has_numbers, status_of, is_running};
 ghost use Rattle.mapworld.specs.World.{setup_of};
 ghost use Rattle.mapworld.specs.Core.{state_of, Room};
 
-use crate::deeds::{append, read, replace, take, write};
-use crate::ends::{answer, release};
+use crate::deeds::{append, apply, read, view, write};
+use crate::ends::{answer, downgrade, release};
 use crate::looks::{find, grow};
 use crate::place::Phase;
 use crate::starts::{admit, start};
@@ -39,10 +39,11 @@ pub(crate) fn advance<
         Phase::Find(_) => find(core, step),
         Phase::Grow(_, _) => grow(core, step),
         Phase::Append(_, _) => append(core, step),
-        Phase::Replace(_, _) => replace(core, step),
-        Phase::Take(_) => take(core, step),
+        Phase::Apply(_, _) => apply(core, step),
+        Phase::View(_, _, _) => view(core, step),
         Phase::Read(_) => read(core, step),
         Phase::Write(_) => write(core, step),
+        Phase::Downgrade => downgrade(core, step),
         Phase::Release(_) => release(core, step),
         Phase::Answer(_) => answer(core, step),
     }

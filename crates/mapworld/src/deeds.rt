@@ -1,17 +1,17 @@
 //! The steps that change or read a pair.
-ghost use Rattle.std.specs.Prelude.{◌≡◌, true};
+ghost use Rattle.std.specs.Prelude.{◌≡◌, ◌+◌, ◌≤◌, true, if◌then◌else◌};
 ghost use Rattle.mapworld.specs.declared.place.Phase.TheVariants as phase;
 ghost use Rattle.mapworld.specs.Sound.{Sound};
 ghost use Rattle.mapworld.specs.Running.{has_numbers};
 ghost use Rattle.mapworld.specs.World.{setup_of};
 ghost use Rattle.mapworld.specs.Core.{state_of, Room, IsBefore};
-ghost use Rattle.mapworld.specs.Steps.{Appends, Replaces, Takes, Reads, Writes};
+ghost use Rattle.mapworld.specs.Steps.{Appends, Applies, Views, Reads, Writes};
 
-use crate::blocks::count_in;
+use crate::blocks::{Started, count_in, list_block};
 use crate::moves::enter;
 use crate::place::Phase;
 use crate::step::Step;
-use crate::table::store_effect;
+use crate::table::{apply_at, store_effect};
 use crate::world_core::Core;
 use mapworld_calls::{Answer, Deed};
 use std::alloc::Allocator;
@@ -46,8 +46,16 @@ pub(crate) fn append<
     core.steps = core.steps.appended(&step);
 }
 
-/// The deed that replaces a value.
-pub(crate) fn replace<
+/// How many pairs there are behind a deed that may have taken one out.
+fn less_one(pairs: u64, gone: bool) -> u64
+    requires { (if gone then 1 else 0) ≤ pairs }
+    ensures { result + (if gone then 1 else 0) ≡ pairs }
+{
+    if gone { pairs - 1 } else { pairs }
+}
+
+/// The deed of a call on one key that found a pair.
+pub(crate) fn apply<
     K: Eq + Hash + Drop,
     V: Drop,
     S: BuildHasher,
@@ -57,25 +65,25 @@ pub(crate) fn replace<
     requires sound { Sound (setup_of D.Deed S.BuildHasher S.Hasher.Hasher K.eq K.hash_input (state_of core.old)) (state_of core.old) }
     requires room { Room core.old }
     requires numbers { has_numbers (state_of core.old) ≡ true }
-    requires before { (slot : _) × (value : _) × IsBefore core.old.places.items step.thread (phase.Replace slot value) }
-    ensures step { Replaces (setup_of D.Deed S.BuildHasher S.Hasher.Hasher K.eq K.hash_input (state_of core.old)) (state_of core.old) step (state_of core.new) }
+    requires before { (slot : _) × (call : _) × IsBefore core.old.places.items step.thread (phase.Apply slot call) }
+    ensures step { Applies (setup_of D.Deed S.BuildHasher S.Hasher.Hasher K.eq K.hash_input (state_of core.old)) (state_of core.old) step (state_of core.new) }
     ensures room { Room core.new }
 {
     let place = &mut core.places[step.thread];
-    let Phase::Replace(slot, value) = mem::replace(&mut place.phase, Phase::Rest) else {
+    let Phase::Apply(slot, call) = mem::replace(&mut place.phase, Phase::Rest) else {
         unreachable!()
     };
     let table = &mut core.tables[place.shard];
-    let pair = &mut table[slot];
-    let old = mem::replace(&mut pair.1, value);
-    enter(&mut place.phase, Phase::Release(Answer::Value(old)));
+    let (answer, gone) = apply_at(table, slot, call);
+    enter(&mut place.phase, Phase::Release(answer));
     count_in(&mut core.blocks, place.block, place.next);
+    core.pairs = less_one(core.pairs, gone);
     core.count += 1;
     core.steps = core.steps.appended(&step);
 }
 
-/// The deed that takes a pair out.
-pub(crate) fn take<
+/// The deed that reads the found pair of a call on one key.
+pub(crate) fn view<
     K: Eq + Hash + Drop,
     V: Drop,
     S: BuildHasher,
@@ -85,20 +93,33 @@ pub(crate) fn take<
     requires sound { Sound (setup_of D.Deed S.BuildHasher S.Hasher.Hasher K.eq K.hash_input (state_of core.old)) (state_of core.old) }
     requires room { Room core.old }
     requires numbers { has_numbers (state_of core.old) ≡ true }
-    requires before { (slot : _) × IsBefore core.old.places.items step.thread (phase.Take slot) }
-    ensures step { Takes (setup_of D.Deed S.BuildHasher S.Hasher.Hasher K.eq K.hash_input (state_of core.old)) (state_of core.old) step (state_of core.new) }
+    requires before { (slot : _) × (key : _) × (deed : _) × IsBefore core.old.places.items step.thread (phase.View slot key deed) }
+    ensures step { Views (setup_of D.Deed S.BuildHasher S.Hasher.Hasher K.eq K.hash_input (state_of core.old)) (state_of core.old) step (state_of core.new) }
     ensures room { Room core.new }
 {
+    let number = core.count + 1;
+    let index = core.blocks.len();
     let place = &mut core.places[step.thread];
-    let Phase::Take(slot) = mem::replace(&mut place.phase, Phase::Rest) else {
+    let Some(start) = place.started else {
         unreachable!()
     };
-    let table = &mut core.tables[place.shard];
-    let (key, value) = table.remove(slot);
-    enter(&mut place.phase, Phase::Release(Answer::Pair(key, value)));
-    count_in(&mut core.blocks, place.block, place.next);
-    core.pairs -= 1;
-    core.count += 1;
+    let Phase::View(slot, _, deed) = mem::replace(&mut place.phase, Phase::Rest) else {
+        unreachable!()
+    };
+    let table = &core.tables[place.shard];
+    let pair = &table[slot];
+    enter(
+        &mut place.phase,
+        Phase::Release(Answer::Read(deed.answer(&pair.0, &pair.1))),
+    );
+    let started = Started {
+        thread: step.thread,
+        call: place.next,
+        start,
+    };
+    list_block(&mut core.blocks, Some(1), started, number);
+    place.block = Some(index);
+    core.count = number;
     core.steps = core.steps.appended(&step);
 }
 

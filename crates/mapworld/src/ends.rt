@@ -5,10 +5,10 @@ ghost use Rattle.mapworld.specs.Sound.{Sound};
 ghost use Rattle.mapworld.specs.Running.{has_numbers};
 ghost use Rattle.mapworld.specs.World.{setup_of};
 ghost use Rattle.mapworld.specs.Core.{state_of, Room, IsBefore};
-ghost use Rattle.mapworld.specs.Steps.{Releases, Answers};
+ghost use Rattle.mapworld.specs.Steps.{Downgrades, Releases, Answers};
 
 use crate::blocks::{count_in, end_block};
-use crate::holds::end_hold;
+use crate::holds::{Hold, Mode, end_hold, share_hold};
 use crate::moves::{enter, release_counts};
 use crate::place::{Phase, Place};
 use crate::step::Step;
@@ -34,6 +34,38 @@ fn leave_call<K, V, D, T, A: Allocator>(place: &mut Place<K, V, D, T, A>) -> Ans
         Phase::Answer(answer) => answer,
         _ => unreachable!(),
     }
+}
+
+/// The step by which a guard that holds its shard alone shares it.
+pub(crate) fn downgrade<
+    K: Eq + Hash + Drop,
+    V: Drop,
+    S: BuildHasher,
+    D: Deed<K, V> + Drop,
+    A: Allocator,
+>(core: &mut Core<K, V, S, D, D::Answer, A>, step: Step)
+    requires sound { Sound (setup_of D.Deed S.BuildHasher S.Hasher.Hasher K.eq K.hash_input (state_of core.old)) (state_of core.old) }
+    requires room { Room core.old }
+    requires numbers { has_numbers (state_of core.old) ≡ true }
+    requires before { IsBefore core.old.places.items step.thread phase.Downgrade }
+    ensures step { Downgrades (setup_of D.Deed S.BuildHasher S.Hasher.Hasher K.eq K.hash_input (state_of core.old)) (state_of core.old) step (state_of core.new) }
+    ensures room { Room core.new }
+{
+    let place = &mut core.places[step.thread];
+    let Some(hold) = place.hold else {
+        unreachable!()
+    };
+    place.hold = Some(Hold {
+        shard: hold.shard,
+        guard: hold.guard,
+        mode: Mode::Shared,
+    });
+    enter(&mut place.phase, Phase::Answer(Answer::Held));
+    let desk = &mut core.desks[hold.shard];
+    share_hold(desk, step.thread as u64, hold.guard);
+    count_in(&mut core.blocks, place.block, place.next);
+    core.count += 1;
+    core.steps = core.steps.appended(&step);
 }
 
 /// The end of a hold, and of its guard.

@@ -1,7 +1,8 @@
 //! Which shards are held, by which guards and how.
 ghost use Rattle.std.specs.Prelude.{◌≡◌, ◌<◌, None, length};
-ghost use Rattle.lock_api_desk.specs.Guards.{is_held};
-ghost use Rattle.lock_api_desk.specs.Desk.{admitted, released};
+ghost use Rattle.lock_api_desk.specs.Guards.{is_held, holds};
+ghost use Rattle.lock_api_desk.specs.Desk.{admitted, turned, released};
+ghost use Rattle.lock_api_desk.specs.declared.mode.Mode.TheVariants as desk_mode;
 ghost use Rattle.lock_api_desk.specs.Refusals.{acquire_refusal, guard_refusal};
 ghost use Rattle.lock_api_desk.specs.declared.fault.DeskFault.TheVariants.{WouldWait};
 ghost use Rattle.mapworld.specs.Holds.{excludes, is_in_the_way, is_excluded, at_desk};
@@ -77,6 +78,16 @@ pub(crate) fn take_hold<A: Allocator>(desk: &mut ShardDesk<A>, mode: Mode, party
         Mode::Exclusive => desk.write(party, guard),
     };
     let Ok(()) = taken else { unreachable!() };
+}
+
+/// Lets the guard, which the shard's desk lists as the party's and as held alone, share its shard.
+pub(crate) fn share_hold<A: Allocator>(desk: &mut ShardDesk<A>, party: u64, guard: u64)
+    requires { guard_refusal (holds desk_mode.Exclusive) party guard desk.old ≡ None }
+    ensures { desk.new ≡ turned desk_mode.Shared guard desk.old }
+{
+    let Ok(()) = desk.downgrade(party, guard) else {
+        unreachable!()
+    };
 }
 
 /// Gives up the guard's hold at the shard's desk, which lists it as the party's.

@@ -20,9 +20,9 @@ use std::hash::{BuildHasher, Hash};
 use std::mem;
 
 /// Where the pair of the call's key stands in the table.
-fn slot_for<K: Eq, V, A: Allocator>(
+fn slot_for<K: Eq, V, D, A: Allocator>(
     table: &Vec<(K, V), A>,
-    request: &Request<K, V>,
+    request: &Request<K, V, D>,
 ) -> Option<usize>
     ensures { result ≡ slot_in K.eq table.now (request_key request.now) }
 {

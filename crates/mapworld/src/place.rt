@@ -7,8 +7,8 @@ use std::collections::VecDeque;
 
 /// What a call wants of the shard that it is to be admitted to.
 #[derive(Drop)]
-pub(crate) enum Request<K, V> {
-    Keyed(Keyed<K, V>),
+pub(crate) enum Request<K, V, D> {
+    Keyed(Keyed<K, V, D>),
     Begin(Begin<K>),
 }
 
@@ -18,21 +18,23 @@ pub(crate) enum Phase<K, V, D, T> {
     /// Between two calls: the start of the next one, if there is one.
     Rest,
     /// The admission to the shard.
-    Admit(Request<K, V>),
+    Admit(Request<K, V, D>),
     /// The look into the held shard.
-    Find(Request<K, V>),
+    Find(Request<K, V, D>),
     /// The growth of the held shard's list, which has no room for the new pair.
     Grow(K, V),
     /// The new pair is added.
     Append(K, V),
-    /// The value at that place of the list is replaced.
-    Replace(usize, V),
-    /// The pair at that place of the list is taken out.
-    Take(usize),
+    /// The call does with the pair at that place of the list, which is its key's, what it does with a pair.
+    Apply(usize, Keyed<K, V, D>),
+    /// The pair at that place of the list, which is the key's, is read.
+    View(usize, K, D),
     /// The guarded pair is read.
     Read(D),
     /// The guarded pair's value is replaced by the deed's effect.
     Write(D),
+    /// The guard becomes shared.
+    Downgrade,
     /// The hold ends, and the call is to be answered so.
     Release(Answer<K, V, T>),
     /// The call is answered.

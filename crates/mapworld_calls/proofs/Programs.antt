@@ -14,6 +14,7 @@ use Rattle.mapworld_calls.specs.Sessions.{TakesAGuardNumber}
 pub is_drop_is : {D : Type 0} (h : Held D) → is_drop h ≡ true → h ≡ held.Drop
 is_drop_is (held.Read d) e = absurd (cc)
 is_drop_is (held.Write d) e = absurd (cc)
+is_drop_is held.Downgrade e = absurd (cc)
 is_drop_is held.Drop e = refl
 
 -- the guard that is held at the start has its drop, behind other calls on it alone
@@ -104,7 +105,7 @@ other_stays {K} {V} {D} h p other c =
       | inr r ↦ r.1
     ]
 
-keyed_never : {K V D : Type 0} (k : Keyed K V) (p : List (Ask K V D)) → Closes (ask.Keyed k ∷ p) → ⊥
+keyed_never : {K V D : Type 0} (k : Keyed K V D) (p : List (Ask K V D)) → Closes (ask.Keyed k ∷ p) → ⊥
 keyed_never k p c = elim (closes_by (ask.Keyed k) p c) [ inl e ↦ (cc) | inr r ↦ let e = r.0.1 in (cc) ]
 
 opening_never : {K V D : Type 0} (b : Begin K) (p : List (Ask K V D)) → Closes (ask.Begin b ∷ p) → ⊥
@@ -202,7 +203,7 @@ sessions_apart program h c a e t =
     apart_here a (opening_before program c) (drop (suc c) program) t
     (subst P (drop_split program c ∙ ap (λ o. onto o (drop (suc c) program)) e) (passes_from program h c))
 
-pub one_guard_apart : {K V D : Type 0} (program : List (Ask K V D)) → one_guard false program ≡ true → (c : ℕ) (k : Keyed K V) → slice_get program c ≡ Some (ask.Keyed k) → opening_before program c ≡ None
+pub one_guard_apart : {K V D : Type 0} (program : List (Ask K V D)) → one_guard false program ≡ true → (c : ℕ) (k : Keyed K V D) → slice_get program c ≡ Some (ask.Keyed k) → opening_before program c ≡ None
 one_guard_apart program h c k e = sessions_apart program h c (ask.Keyed k) e refl
 
 pub one_guard_begin_apart : {K V D : Type 0} (program : List (Ask K V D)) → one_guard false program ≡ true → (c : ℕ) (b : Begin K) → slice_get program c ≡ Some (ask.Begin b) → opening_before program c ≡ None

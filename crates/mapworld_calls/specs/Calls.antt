@@ -1,5 +1,5 @@
 -- What each call tells and leaves, of one key of a plain map.
-use Rattle.std.specs.Prelude.{Option, Some, None}
+use Rattle.std.specs.Prelude.{true, false, if◌then◌else◌, Option, Some, None}
 use Rattle.mapworld_calls.specs.declared.ask.Ask.{Ask}
 use Rattle.mapworld_calls.specs.declared.ask.Ask.TheVariants as ask
 use Rattle.mapworld_calls.specs.declared.ask.Keyed.{Keyed}
@@ -23,17 +23,40 @@ pair_in (free o) = o
 pair_in (shared p) = Some p
 pair_in (exclusive p) = Some p
 
--- a keyed call, by the pair that it finds
-abbrev pub keyed_answer : {K V T : Type 0} → Keyed K V → Option (K × V) → Answer K V T
-keyed_answer (keyed.Insert k w) None = answer.None
-keyed_answer (keyed.Insert k w) (Some p) = answer.Value p.1
-keyed_answer (keyed.Remove k) None = answer.None
-keyed_answer (keyed.Remove k) (Some p) = answer.Pair p.0 p.1
+module _ {D K V T : Type 0} (deeds : Deeds D K V T) where
+  -- the pair with the deed's effect on its value
+  abbrev pub effect_on : D → K × V → K × V
+  effect_on d p = (p.0, deeds.effect d p.0 p.1)
 
-abbrev pub keyed_leaves : {K V : Type 0} → Keyed K V → Option (K × V) → Option (K × V)
-keyed_leaves (keyed.Insert k w) None = Some (k, w)
-keyed_leaves (keyed.Insert k w) (Some p) = Some (p.0, w)
-keyed_leaves (keyed.Remove k) o = None
+  -- a keyed call, by the pair that it finds
+  abbrev pub keyed_answer : Keyed K V D → Option (K × V) → Answer K V T
+  keyed_answer (keyed.Insert k w) None = answer.None
+  keyed_answer (keyed.Insert k w) (Some p) = answer.Value p.1
+  keyed_answer (keyed.Remove k) None = answer.None
+  keyed_answer (keyed.Remove k) (Some p) = answer.Pair p.0 p.1
+  keyed_answer (keyed.RemoveIf k d) None = answer.None
+  keyed_answer (keyed.RemoveIf k d) (Some p) = if deeds.keep d p.0 p.1 then answer.None else answer.Pair p.0 p.1
+  keyed_answer (keyed.RemoveIfMut k d) None = answer.None
+  keyed_answer (keyed.RemoveIfMut k d) (Some p) =
+      if deeds.keep d p.0 p.1 then answer.None else answer.Pair p.0 (deeds.effect d p.0 p.1)
+  keyed_answer (keyed.Alter k d) o = answer.Done
+  keyed_answer (keyed.View k d) None = answer.None
+  keyed_answer (keyed.View k d) (Some p) = answer.Read (deeds.answer d p.0 p.1)
+  keyed_answer (keyed.ContainsKey k) None = answer.Flag false
+  keyed_answer (keyed.ContainsKey k) (Some p) = answer.Flag true
+
+  abbrev pub keyed_leaves : Keyed K V D → Option (K × V) → Option (K × V)
+  keyed_leaves (keyed.Insert k w) None = Some (k, w)
+  keyed_leaves (keyed.Insert k w) (Some p) = Some (p.0, w)
+  keyed_leaves (keyed.Remove k) o = None
+  keyed_leaves (keyed.RemoveIf k d) None = None
+  keyed_leaves (keyed.RemoveIf k d) (Some p) = if deeds.keep d p.0 p.1 then Some p else None
+  keyed_leaves (keyed.RemoveIfMut k d) None = None
+  keyed_leaves (keyed.RemoveIfMut k d) (Some p) = if deeds.keep d p.0 p.1 then Some (effect_on d p) else None
+  keyed_leaves (keyed.Alter k d) None = None
+  keyed_leaves (keyed.Alter k d) (Some p) = Some (effect_on d p)
+  keyed_leaves (keyed.View k d) o = o
+  keyed_leaves (keyed.ContainsKey k) o = o
 
 -- an opening, by the pair that it finds
 abbrev pub opening_answer : {K V T : Type 0} → Begin K → Option (K × V) → Answer K V T
@@ -53,27 +76,31 @@ abbrev pub held_answer : {D K V T : Type 0} → Deeds D K V T → Held D → At 
 held_answer deeds h (free o) = answer.NoGuard
 held_answer deeds (held.Read d) (shared p) = answer.Read (deeds.answer d p.0 p.1)
 held_answer deeds (held.Write d) (shared p) = answer.WrongGuard
+held_answer deeds held.Downgrade (shared p) = answer.WrongGuard
 held_answer deeds held.Drop (shared p) = answer.Done
 held_answer deeds (held.Read d) (exclusive p) = answer.Read (deeds.answer d p.0 p.1)
 held_answer deeds (held.Write d) (exclusive p) = answer.Done
+held_answer deeds held.Downgrade (exclusive p) = answer.Held
 held_answer deeds held.Drop (exclusive p) = answer.Done
 
 abbrev pub held_leaves : {D K V T : Type 0} → Deeds D K V T → Held D → At K V → At K V
 held_leaves deeds h (free o) = free o
 held_leaves deeds (held.Read d) (shared p) = shared p
 held_leaves deeds (held.Write d) (shared p) = shared p
+held_leaves deeds held.Downgrade (shared p) = shared p
 held_leaves deeds held.Drop (shared p) = free (Some p)
 held_leaves deeds (held.Read d) (exclusive p) = exclusive p
 held_leaves deeds (held.Write d) (exclusive p) = exclusive (p.0, deeds.effect d p.0 p.1)
+held_leaves deeds held.Downgrade (exclusive p) = shared p
 held_leaves deeds held.Drop (exclusive p) = free (Some p)
 
 -- what a call is answered, and what it leaves
 abbrev pub told : {D K V T : Type 0} → Deeds D K V T → Ask K V D → At K V → Answer K V T
-told deeds (ask.Keyed k) s = keyed_answer k (pair_in s)
+told deeds (ask.Keyed k) s = keyed_answer deeds k (pair_in s)
 told deeds (ask.Begin b) s = opening_answer b (pair_in s)
 told deeds (ask.Held h) s = held_answer deeds h s
 
 abbrev pub after : {D K V T : Type 0} → Deeds D K V T → Ask K V D → At K V → At K V
-after deeds (ask.Keyed k) s = free (keyed_leaves k (pair_in s))
+after deeds (ask.Keyed k) s = free (keyed_leaves deeds k (pair_in s))
 after deeds (ask.Begin b) s = opened b (pair_in s)
 after deeds (ask.Held h) s = held_leaves deeds h s

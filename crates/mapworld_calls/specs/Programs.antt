@@ -6,12 +6,14 @@ use Rattle.mapworld_calls.specs.declared.ask.Held.{Held}
 use Rattle.mapworld_calls.specs.declared.ask.Held.TheVariants as held
 use Rattle.mapworld_calls.specs.declared.ask.Keyed.{Keyed}
 use Rattle.mapworld_calls.specs.declared.ask.Keyed.TheVariants as keyed
+use Rattle.mapworld_calls.specs.declared.ask.Begin.{Begin}
 use Rattle.mapworld_calls.specs.declared.ask.Begin.TheVariants as begin
 
 -- whether a call on the guard is its last
 abbrev pub is_drop : {D : Type 0} → Held D → Bool
 is_drop (held.Read d) = false
 is_drop (held.Write d) = false
+is_drop held.Downgrade = false
 is_drop held.Drop = true
 
 -- the session that stands open behind a call: an opening begins one, and a drop ends it
@@ -53,14 +55,25 @@ numbers_of (ask.Begin b) = 1
 numbers_of (ask.Held h) = 0
 
 -- the key that a call names
+abbrev pub keyed_key : {K V D : Type 0} → Keyed K V D → K
+keyed_key (keyed.Insert k v) = k
+keyed_key (keyed.Remove k) = k
+keyed_key (keyed.RemoveIf k d) = k
+keyed_key (keyed.RemoveIfMut k d) = k
+keyed_key (keyed.Alter k d) = k
+keyed_key (keyed.View k d) = k
+keyed_key (keyed.ContainsKey k) = k
+
+abbrev pub opening_key : {K : Type 0} → Begin K → K
+opening_key (begin.Get k) = k
+opening_key (begin.GetMut k) = k
+
 abbrev pub key_of : {K V D : Type 0} → Ask K V D → Option K
-key_of (ask.Keyed (keyed.Insert k v)) = Some k
-key_of (ask.Keyed (keyed.Remove k)) = Some k
-key_of (ask.Begin (begin.Get k)) = Some k
-key_of (ask.Begin (begin.GetMut k)) = Some k
+key_of (ask.Keyed k) = Some (keyed_key k)
+key_of (ask.Begin b) = Some (opening_key b)
 key_of (ask.Held h) = None
 
 -- the calls that may be refused for memory
-abbrev pub may_grow : {K V : Type 0} → Keyed K V → Bool
+abbrev pub may_grow : {K V D : Type 0} → Keyed K V D → Bool
 may_grow (keyed.Insert k v) = true
-may_grow (keyed.Remove k) = false
+may_grow k = false

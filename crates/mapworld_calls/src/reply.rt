@@ -19,6 +19,8 @@ pub enum Answer<K, V, T> {
     NoGuard,
     /// A call that the guard's kind doesn't allow.
     WrongGuard,
+    /// Whether the key is present.
+    Flag(bool),
     /// A growth was refused: code 99. The call changed no pair.
     NoMemory,
 }

@@ -199,6 +199,7 @@ fn tell_reply<A: Allocator>(
         Answer::Held => writeln!(text, "held"),
         Answer::NoGuard => writeln!(text, "no guard"),
         Answer::WrongGuard => writeln!(text, "wrong guard"),
+        Answer::Flag(flag) => writeln!(text, "{flag}"),
         Answer::NoMemory => writeln!(text, "no memory"),
     }
 }

@@ -4,6 +4,8 @@
 #[cfg(test)]
 mod calls;
 #[cfg(test)]
+mod conditions;
+#[cfg(test)]
 mod faults;
 #[cfg(test)]
 mod histories;
@@ -13,6 +15,8 @@ mod keys;
 mod limits;
 #[cfg(test)]
 mod memory;
+#[cfg(test)]
+mod random;
 #[cfg(test)]
 mod routes;
 #[cfg(test)]

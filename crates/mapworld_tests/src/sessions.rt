@@ -1,7 +1,7 @@
 //! Guards that read and write, beside other threads.
 
 use super::scripts::{Line, failed_line};
-use super::worlds::Call::{Add, Get, GetMut, Leave, Read, Set};
+use super::worlds::Call::{Add, Get, GetMut, Insert, Leave, Read, Set, Share};
 use mapworld::{Answer, Status};
 
 #[test]
@@ -67,6 +67,63 @@ fn a_shared_guard_writes_nothing(rt: HostRuntime) {
         &[
             &[Get(1), Add(1), Read, Leave, Add(1)],
             &[GetMut(3), Add(1), Leave],
+        ],
+        SCRIPT,
+    );
+    assert!(rt; failed.is_none(), "at line {failed:?}");
+}
+
+#[test]
+fn a_guard_that_shares_lets_readers_in_and_keeps_its_pair(rt: HostRuntime) {
+    const SCRIPT: &[Line<'_>] = &[
+        // The opening, and the write: start, deed, answer.
+        Line::Steps(0, 7),
+        Line::Through(1),
+        Line::Stands(1, Status::Asleep),
+        Line::Steps(0, 3),
+        Line::Told(0, 2, Answer::Held),
+        Line::Stands(1, Status::Running),
+        Line::Through(2),
+        Line::Stands(2, Status::Asleep),
+        Line::Through(1),
+        Line::Told(1, 1, Answer::Read(7)),
+        Line::Stands(2, Status::Asleep),
+        Line::Through(0),
+        Line::Told(0, 3, Answer::Read(7)),
+        Line::Round,
+        Line::Told(2, 0, Answer::Value(7)),
+        Line::Pairs(&[(1, 9)]),
+    ];
+    let failed = failed_line(
+        rt.alloc(),
+        &[(1, 0)],
+        &[
+            &[GetMut(1), Set(7), Share, Read, Leave],
+            &[Get(1), Read, Leave],
+            &[Insert(1, 9)],
+        ],
+        SCRIPT,
+    );
+    assert!(rt; failed.is_none(), "at line {failed:?}");
+}
+
+#[test]
+fn a_shared_guard_is_shared_no_more(rt: HostRuntime) {
+    const SCRIPT: &[Line<'_>] = &[
+        Line::Round,
+        Line::Told(0, 1, Answer::WrongGuard),
+        Line::Told(0, 3, Answer::NoGuard),
+        Line::Told(1, 1, Answer::Held),
+        Line::Told(1, 2, Answer::WrongGuard),
+        Line::Told(1, 3, Answer::WrongGuard),
+        Line::Pairs(&[(1, 5), (2, 6)]),
+    ];
+    let failed = failed_line(
+        rt.alloc(),
+        &[(1, 5), (2, 6)],
+        &[
+            &[Get(1), Share, Leave, Share],
+            &[GetMut(2), Share, Share, Set(4), Leave],
         ],
         SCRIPT,
     );

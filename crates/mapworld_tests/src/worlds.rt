@@ -4,21 +4,31 @@ use mapworld::{Answer, Ask, Begin, Deed, Held, Keyed, MapWorld, SpreadState, Sta
 use std::alloc::Allocator;
 use std::hash::{BuildHasher, Hash};
 
-/// Reads the value, and stores it times a number and one more number, cut to the width.
+/// Reads the value, stores it times a number and one more number, cut to the width, and keeps values below a number.
 #[derive(Drop)]
 pub struct Linear {
     times: u64,
     more: u64,
+    below: u64,
+}
+
+/// Adds a number to each value, and keeps values below another.
+fn adds(more: u64, below: u64) -> Linear {
+    Linear {
+        times: 1,
+        more,
+        below,
+    }
 }
 
 impl Deed<u64, u64> for Linear {
     type Answer = u64;
 
-    ghost use Rattle.std.specs.Prelude.{true, ◌+◌, ◌*◌, ◌%◌, ◌^◌};
+    ghost use Rattle.std.specs.Prelude.{nat_lt, ◌+◌, ◌*◌, ◌%◌, ◌^◌};
 
     ghost answer_of = { λ deed key value. value };
 
-    ghost keeps = { λ deed key value. true };
+    ghost keeps = { λ deed key value. nat_lt value deed.below };
 
     ghost effect_of = { λ deed key value. (value * deed.times % 2 ^ 64 + deed.more) % 2 ^ 64 };
 
@@ -26,8 +36,8 @@ impl Deed<u64, u64> for Linear {
         *value
     }
 
-    fn keep(&self, _key: &u64, _value: &u64) -> bool {
-        true
+    fn keep(&self, _key: &u64, value: &u64) -> bool {
+        *value < self.below
     }
 
     fn effect(&self, _key: &u64, value: u64) -> u64 {
@@ -46,6 +56,15 @@ pub type World<A> = MapWorld<u64, u64, SpreadState, Linear, A>;
 pub enum Call {
     Insert(u64, u64),
     Remove(u64),
+    /// Takes the pair out where its value is at least that number.
+    TakeFrom(u64, u64),
+    /// Adds a number to the value, and takes the pair out where the value was at least the other number.
+    AddOrTakeFrom(u64, u64, u64),
+    /// Adds a number to the key's value.
+    AddTo(u64, u64),
+    /// Reads the key's value.
+    Look(u64),
+    Has(u64),
     Get(u64),
     GetMut(u64),
     Read,
@@ -53,6 +72,8 @@ pub enum Call {
     Add(u64),
     /// Puts a number in the guarded value's place.
     Set(u64),
+    /// Lets others share the guarded pair.
+    Share,
     /// Ends the guard.
     Leave,
 }
@@ -62,11 +83,25 @@ pub fn ask_of(call: Call) -> Asked {
     match call {
         Call::Insert(key, value) => Ask::Keyed(Keyed::Insert(key, value)),
         Call::Remove(key) => Ask::Keyed(Keyed::Remove(key)),
+        Call::TakeFrom(key, least) => Ask::Keyed(Keyed::RemoveIf(key, adds(0, least))),
+        Call::AddOrTakeFrom(key, more, least) => {
+            Ask::Keyed(Keyed::RemoveIfMut(key, adds(more, least)))
+        }
+        Call::AddTo(key, more) => Ask::Keyed(Keyed::Alter(key, adds(more, 0))),
+        Call::Look(key) => Ask::Keyed(Keyed::View(key, adds(0, 0))),
+        Call::Has(key) => Ask::Keyed(Keyed::ContainsKey(key)),
         Call::Get(key) => Ask::Begin(Begin::Get(key)),
         Call::GetMut(key) => Ask::Begin(Begin::GetMut(key)),
-        Call::Read => Ask::Held(Held::Read(Linear { times: 1, more: 0 })),
-        Call::Add(more) => Ask::Held(Held::Write(Linear { times: 1, more })),
-        Call::Set(more) => Ask::Held(Held::Write(Linear { times: 0, more })),
+        Call::Read => Ask::Held(Held::Read(adds(0, 0))),
+        Call::Add(more) => Ask::Held(Held::Write(adds(more, 0))),
+        Call::Set(more) => {
+            Ask::Held(Held::Write(Linear {
+                times: 0,
+                more,
+                below: 0,
+            }))
+        }
+        Call::Share => Ask::Held(Held::Downgrade),
         Call::Leave => Ask::Held(Held::Drop),
     }
 }

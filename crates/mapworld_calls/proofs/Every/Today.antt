@@ -1,6 +1,5 @@
 -- What is said of today's calls is said of them as calls of every kind.
-use Rattle.std.proofs.Common.{◌≡◌, ℕ, zero, suc, ◌+◌, ◌-◌, ◌<◌, ◌≤◌, ◌==◌, ◌⊎◌, inl, inr, Bool, true, false, cond, if◌then◌else◌, List, [], ◌∷◌, ◌++◌, map, take, fold, length, Option, Some, None, IsSome, IsTrue, slice_get, refl, ap, ap₂, sym, ◌∙◌, subst, arith}
-use Rattle.std.specs.List.{sum_by, count_by}
+use Rattle.std.proofs.Common.{◌≡◌, ℕ, zero, suc, ◌+◌, ◌-◌, ◌<◌, ◌==◌, ◌⊎◌, inl, inr, Bool, true, false, cond, if◌then◌else◌, List, [], ◌∷◌, map, take, fold, Option, Some, None, IsSome, IsTrue, slice_get, refl, ap, ap₂, sym, ◌∙◌, subst, arith}
 use Rattle.std.specs.Option.{option_map, option_and_then}
 use Rattle.std.proofs.lemmas.List.{take-map, map-append, append-nil}
 use Rattle.std.proofs.lemmas.List.Sums.{sum_by-cons}
@@ -10,7 +9,6 @@ use Rattle.mapworld_calls.specs.declared.ask.Ask.{Ask}
 use Rattle.mapworld_calls.specs.declared.ask.Ask.TheVariants as ask
 use Rattle.mapworld_calls.specs.declared.ask.Keyed.{Keyed}
 use Rattle.mapworld_calls.specs.declared.ask.Keyed.TheVariants as keyed
-use Rattle.mapworld_calls.specs.declared.ask.Begin.{Begin}
 use Rattle.mapworld_calls.specs.declared.ask.Begin.TheVariants as begin
 use Rattle.mapworld_calls.specs.declared.ask.Held.{Held}
 use Rattle.mapworld_calls.specs.declared.ask.Held.TheVariants as held
@@ -18,22 +16,20 @@ use Rattle.mapworld_calls.specs.declared.block.Block.{Block}
 use Rattle.mapworld_calls.specs.declared.reply.Answer.{Answer}
 use Rattle.mapworld_calls.specs.declared.reply.Answer.TheVariants as answer
 use Rattle.mapworld_calls.specs.declared.reply.Reply.{Reply}
-use Rattle.mapworld_calls.specs.Programs.{key_of, may_grow, session_behind, opening_before}
+use Rattle.mapworld_calls.specs.Programs.{keyed_key, opening_key, key_of, may_grow, session_behind, opening_before}
 use Rattle.mapworld_calls.specs.Calls as today
 use Rattle.mapworld_calls.specs.Setup.{Setup, ask_at, session_of}
 use Rattle.mapworld_calls.specs.Pairs.{opening_pair}
-use Rattle.mapworld_calls.specs.Replay.{after_ask, reached, block_key, is_key, left, contents, at_key, found, told_by}
+use Rattle.mapworld_calls.specs.Replay.{after_ask, reached, block_key, is_key, left, contents, at_key, found}
 use Rattle.mapworld_calls.specs.Agrees as agrees
 use Rattle.mapworld_calls.specs.Placed as placed
 use Rattle.mapworld_calls.specs.Every.Ask.{Ask as AnyAsk}
-use Rattle.mapworld_calls.specs.Every.Ask as any_ask
-use Rattle.mapworld_calls.specs.Every.Answer as any_answer
 use Rattle.mapworld_calls.specs.Every.Calls as every
 use Rattle.mapworld_calls.specs.Every.Setup as every_setup
 use Rattle.mapworld_calls.specs.Every.Replay as every_replay
 use Rattle.mapworld_calls.specs.Every.Agrees as every_agrees
 use Rattle.mapworld_calls.specs.Every.Placed as every_placed
-use Rattle.mapworld_calls.specs.Every.Today.{as_keyed, as_begin, as_held, as_ask, as_answer, as_reply, as_setup}
+use Rattle.mapworld_calls.specs.Every.Today.{as_keyed, as_held, as_ask, as_answer, as_reply, as_setup}
 
 -- the calls of the same numbers
 
@@ -57,6 +53,7 @@ behind c (Some (ask.Keyed k)) s = refl
 behind c (Some (ask.Begin b)) s = refl
 behind c (Some (ask.Held (held.Read d))) s = refl
 behind c (Some (ask.Held (held.Write d))) s = refl
+behind c (Some (ask.Held held.Downgrade)) s = refl
 behind c (Some (ask.Held held.Drop)) s = refl
 
 opening-before : {K V D : Type 0} (p : List (Ask K V D)) (c : ℕ) → every_setup.opening_before (map as_ask p) c ≡ opening_before p c
@@ -86,18 +83,39 @@ pair-as (today.free o) = refl
 pair-as (today.shared p) = refl
 pair-as (today.exclusive p) = refl
 
+keyed-key-as : {K V D : Type 0} (k : Keyed K V D) → every_setup.keyed_key (as_keyed k) ≡ keyed_key k
+keyed-key-as (keyed.Insert k v) = refl
+keyed-key-as (keyed.Remove k) = refl
+keyed-key-as (keyed.RemoveIf k d) = refl
+keyed-key-as (keyed.RemoveIfMut k d) = refl
+keyed-key-as (keyed.Alter k d) = refl
+keyed-key-as (keyed.View k d) = refl
+keyed-key-as (keyed.ContainsKey k) = refl
+
 work-as : {K V D : Type 0} (a : Ask K V D) (key : K) → key_of a ≡ Some key → every_replay.work_of (Some (as_ask a)) ≡ every_replay.one key
-work-as (ask.Keyed (keyed.Insert k v)) key is = ap every_replay.one (same_Some k key is)
-work-as (ask.Keyed (keyed.Remove k)) key is = ap every_replay.one (same_Some k key is)
+work-as (ask.Keyed k) key is = ap every_replay.one (keyed-key-as k ∙ same_Some (keyed_key k) key is)
 work-as (ask.Begin (begin.Get k)) key is = ap every_replay.one (same_Some k key is)
 work-as (ask.Begin (begin.GetMut k)) key is = ap every_replay.one (same_Some k key is)
 work-as (ask.Held h) key is = absurd (none-some key is)
+
+-- an answer by a test
+if-as : {K V T : Type 0} (b : Bool) (x y : Answer K V T) → (if b then as_answer x else as_answer y) ≡ as_answer (if b then x else y)
+if-as true x y = refl
+if-as false x y = refl
 
 module _ {K V D T : Type 0} (deeds : Deeds D K V T) (key : K) where
   first-leaves : (a : Ask K V D) → key_of a ≡ Some key → (o : Option (K × V)) → every.after deeds key (as_ask a) (every.free o) ≡ as_at (today.after deeds a (today.free o))
   first-leaves (ask.Keyed (keyed.Insert k v)) is None = ap (λ j. every.free (Some (j, v))) (sym (same_Some k key is))
   first-leaves (ask.Keyed (keyed.Insert k v)) is (Some p) = refl
   first-leaves (ask.Keyed (keyed.Remove k)) is o = refl
+  first-leaves (ask.Keyed (keyed.RemoveIf k d)) is None = refl
+  first-leaves (ask.Keyed (keyed.RemoveIf k d)) is (Some p) = refl
+  first-leaves (ask.Keyed (keyed.RemoveIfMut k d)) is None = refl
+  first-leaves (ask.Keyed (keyed.RemoveIfMut k d)) is (Some p) = refl
+  first-leaves (ask.Keyed (keyed.Alter k d)) is None = refl
+  first-leaves (ask.Keyed (keyed.Alter k d)) is (Some p) = refl
+  first-leaves (ask.Keyed (keyed.View k d)) is o = refl
+  first-leaves (ask.Keyed (keyed.ContainsKey k)) is o = refl
   first-leaves (ask.Begin (begin.Get k)) is None = refl
   first-leaves (ask.Begin (begin.Get k)) is (Some p) = refl
   first-leaves (ask.Begin (begin.GetMut k)) is None = refl
@@ -109,6 +127,15 @@ module _ {K V D T : Type 0} (deeds : Deeds D K V T) (key : K) where
   first-tells (ask.Keyed (keyed.Insert k v)) is (Some p) = refl
   first-tells (ask.Keyed (keyed.Remove k)) is None = refl
   first-tells (ask.Keyed (keyed.Remove k)) is (Some p) = refl
+  first-tells (ask.Keyed (keyed.RemoveIf k d)) is None = refl
+  first-tells (ask.Keyed (keyed.RemoveIf k d)) is (Some p) = if-as (deeds.keep d p.0 p.1) answer.None (answer.Pair p.0 p.1)
+  first-tells (ask.Keyed (keyed.RemoveIfMut k d)) is None = refl
+  first-tells (ask.Keyed (keyed.RemoveIfMut k d)) is (Some p) = if-as (deeds.keep d p.0 p.1) answer.None (answer.Pair p.0 (deeds.effect d p.0 p.1))
+  first-tells (ask.Keyed (keyed.Alter k d)) is o = refl
+  first-tells (ask.Keyed (keyed.View k d)) is None = refl
+  first-tells (ask.Keyed (keyed.View k d)) is (Some p) = refl
+  first-tells (ask.Keyed (keyed.ContainsKey k)) is None = refl
+  first-tells (ask.Keyed (keyed.ContainsKey k)) is (Some p) = refl
   first-tells (ask.Begin (begin.Get k)) is None = refl
   first-tells (ask.Begin (begin.Get k)) is (Some p) = refl
   first-tells (ask.Begin (begin.GetMut k)) is None = refl
@@ -119,18 +146,22 @@ module _ {K V D T : Type 0} (deeds : Deeds D K V T) (key : K) where
   held-leaves h (today.free o) = refl
   held-leaves (held.Read d) (today.shared p) = refl
   held-leaves (held.Write d) (today.shared p) = refl
+  held-leaves held.Downgrade (today.shared p) = refl
   held-leaves held.Drop (today.shared p) = refl
   held-leaves (held.Read d) (today.exclusive p) = refl
   held-leaves (held.Write d) (today.exclusive p) = refl
+  held-leaves held.Downgrade (today.exclusive p) = refl
   held-leaves held.Drop (today.exclusive p) = refl
 
   held-tells : (h : Held D) (s : today.At K V) → every.told deeds key (as_ask (ask.Held h)) (as_at s) ≡ as_answer (today.told deeds (ask.Held h) s)
   held-tells h (today.free o) = refl
   held-tells (held.Read d) (today.shared p) = refl
   held-tells (held.Write d) (today.shared p) = refl
+  held-tells held.Downgrade (today.shared p) = refl
   held-tells held.Drop (today.shared p) = refl
   held-tells (held.Read d) (today.exclusive p) = refl
   held-tells (held.Write d) (today.exclusive p) = refl
+  held-tells held.Downgrade (today.exclusive p) = refl
   held-tells held.Drop (today.exclusive p) = refl
 
 -- the calls of a block: the first has a key, and all others are of its guard
@@ -220,14 +251,10 @@ module _ {K V D T : Type 0} (w : Setup K V D T) (shards : ℕ) (steps : List ℕ
 
   -- a listed block has done calls of its own alone
   calls-of : (b : Block K) (a : Ask K V D) → ask_at w b.thread b.call ≡ Some a → placed.IsDoneWithin w started replies b a → IsOfBlock w b.thread b.call b.done.value
-  calls-of b (ask.Keyed (keyed.Insert k v)) is done =
-      record { first = ask.Keyed (keyed.Insert k v); asked = is; key = k; key_is = refl; others = λ m pos lt. absurd (let le = done.once in omega (arith, le, pos, lt)) }
-  calls-of b (ask.Keyed (keyed.Remove k)) is done =
-      record { first = ask.Keyed (keyed.Remove k); asked = is; key = k; key_is = refl; others = λ m pos lt. absurd (let le = done.once in omega (arith, le, pos, lt)) }
-  calls-of b (ask.Begin (begin.Get k)) is done =
-      record { first = ask.Begin (begin.Get k); asked = is; key = k; key_is = refl; others = λ m pos lt. let c = done.calls m pos lt in (c.0, c.1) }
-  calls-of b (ask.Begin (begin.GetMut k)) is done =
-      record { first = ask.Begin (begin.GetMut k); asked = is; key = k; key_is = refl; others = λ m pos lt. let c = done.calls m pos lt in (c.0, c.1) }
+  calls-of b (ask.Keyed k) is done =
+      record { first = ask.Keyed k; asked = is; key = keyed_key k; key_is = refl; others = λ m pos lt. absurd (let le = done.once in omega (arith, le, pos, lt)) }
+  calls-of b (ask.Begin g) is done =
+      record { first = ask.Begin g; asked = is; key = opening_key g; key_is = refl; others = λ m pos lt. let c = done.calls m pos lt in (c.0, c.1) }
   calls-of b (ask.Held h) is done = absurd done
 
   of-block : (i : ℕ) (b : Block K) → slice_get bs i ≡ Some b → IsOfBlock w b.thread b.call b.done.value
@@ -276,9 +303,14 @@ module _ {K V D T : Type 0} (w : Setup K V D T) (shards : ℕ) (steps : List ℕ
             ∙ ap (option_map as_answer) h.told));
       }
 
-  grows-as : (k : Keyed K V) → IsTrue (may_grow k) → IsTrue (every_setup.keyed_may_grow (as_keyed {D = D} k))
+  grows-as : (k : Keyed K V D) → IsTrue (may_grow k) → IsTrue (every_setup.keyed_may_grow (as_keyed k))
   grows-as (keyed.Insert k v) h = h
   grows-as (keyed.Remove k) h = h
+  grows-as (keyed.RemoveIf k d) h = h
+  grows-as (keyed.RemoveIfMut k d) h = h
+  grows-as (keyed.Alter k d) h = h
+  grows-as (keyed.View k d) h = h
+  grows-as (keyed.ContainsKey k) h = h
 
   in-session-as : (t c : ℕ) (s : Option ℕ) (a : Answer K V T) → agrees.IsAnsweredInSession w bs t c s a → every_agrees.IsAnsweredInSession e bs t c s (as_answer a)
   in-session-as t c None a h = ap as_answer h

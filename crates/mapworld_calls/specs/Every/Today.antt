@@ -1,5 +1,5 @@
 -- The calls that programs have today, as calls of every kind: each as the call of its name.
-use Rattle.std.specs.Prelude.{◌≡◌, ℕ, List, Option, map}
+use Rattle.std.specs.Prelude.{ℕ, List, Option, map}
 use Rattle.mapworld_calls.specs.declared.ask.Ask.{Ask}
 use Rattle.mapworld_calls.specs.declared.ask.Ask.TheVariants as ask
 use Rattle.mapworld_calls.specs.declared.ask.Keyed.{Keyed}
@@ -12,7 +12,7 @@ use Rattle.mapworld_calls.specs.declared.block.Block.{Block}
 use Rattle.mapworld_calls.specs.declared.reply.Answer.{Answer}
 use Rattle.mapworld_calls.specs.declared.reply.Answer.TheVariants as answer
 use Rattle.mapworld_calls.specs.declared.reply.Reply.{Reply}
-use Rattle.mapworld_calls.specs.Setup.{Setup, Laws}
+use Rattle.mapworld_calls.specs.Setup.{Setup}
 use Rattle.mapworld_calls.specs.Agrees.{Agrees}
 use Rattle.mapworld_calls.specs.Placed.{WellPlaced, OnlyAdds}
 use Rattle.mapworld_calls.specs.Every.Keyed.{Keyed as AnyKeyed}
@@ -29,9 +29,14 @@ use Rattle.mapworld_calls.specs.Every.Setup as every_setup
 use Rattle.mapworld_calls.specs.Every.Agrees as every_agrees
 use Rattle.mapworld_calls.specs.Every.Placed as every_placed
 
-abbrev pub as_keyed : {K V D : Type 0} → Keyed K V → AnyKeyed K V D
+abbrev pub as_keyed : {K V D : Type 0} → Keyed K V D → AnyKeyed K V D
 as_keyed (keyed.Insert k v) = any_keyed.Insert k v
 as_keyed (keyed.Remove k) = any_keyed.Remove k
+as_keyed (keyed.RemoveIf k d) = any_keyed.RemoveIf k d
+as_keyed (keyed.RemoveIfMut k d) = any_keyed.RemoveIfMut k d
+as_keyed (keyed.Alter k d) = any_keyed.Alter k d
+as_keyed (keyed.View k d) = any_keyed.View k d
+as_keyed (keyed.ContainsKey k) = any_keyed.ContainsKey k
 
 abbrev pub as_begin : {K : Type 0} → Begin K → AnyBegin K
 as_begin (begin.Get k) = any_begin.Get k
@@ -40,6 +45,7 @@ as_begin (begin.GetMut k) = any_begin.GetMut k
 abbrev pub as_held : {V D : Type 0} → Held D → AnyHeld V D
 as_held (held.Read d) = any_held.Read d
 as_held (held.Write d) = any_held.Write d
+as_held held.Downgrade = any_held.Downgrade
 as_held held.Drop = any_held.Drop
 
 abbrev pub as_ask : {K V D : Type 0} → Ask K V D → AnyAsk K V D
@@ -56,6 +62,7 @@ as_answer (answer.Read t) = any_answer.Read t
 as_answer answer.Held = any_answer.Held
 as_answer answer.NoGuard = any_answer.NoGuard
 as_answer answer.WrongGuard = any_answer.WrongGuard
+as_answer (answer.Flag b) = any_answer.Flag b
 as_answer answer.NoMemory = any_answer.NoMemory
 
 abbrev pub as_reply : {K V T : Type 0} → Reply K V T → every_agrees.Reply K V T

@@ -26,13 +26,9 @@ pub append-requires-clause-before : goal.append-requires-clause-before
 append-requires-clause-before g c =
     (c.in-Append.field-0, c.in-Append.field-1, is_before c.args.core.now.places.items c.args.step.thread c.index.result.now (phase.Append c.in-Append.field-0 c.in-Append.field-1) c.requires.thread c.index.ensures c.in-Append.is)
 
-pub replace-requires-clause-before : goal.replace-requires-clause-before
-replace-requires-clause-before g c =
-    (c.in-Replace.field-0, c.in-Replace.field-1, is_before c.args.core.now.places.items c.args.step.thread c.index.result.now (phase.Replace c.in-Replace.field-0 c.in-Replace.field-1) c.requires.thread c.index.ensures c.in-Replace.is)
-
-pub take-requires-clause-before : goal.take-requires-clause-before
-take-requires-clause-before g c =
-    (c.in-Take.field-0, is_before c.args.core.now.places.items c.args.step.thread c.index.result.now (phase.Take c.in-Take.field-0) c.requires.thread c.index.ensures c.in-Take.is)
+pub apply-requires-clause-before : goal.apply-requires-clause-before
+apply-requires-clause-before g c =
+    (c.in-Apply.field-0, c.in-Apply.field-1, is_before c.args.core.now.places.items c.args.step.thread c.index.result.now (phase.Apply c.in-Apply.field-0 c.in-Apply.field-1) c.requires.thread c.index.ensures c.in-Apply.is)
 
 pub read-requires-clause-before : goal.read-requires-clause-before
 read-requires-clause-before g c =
@@ -49,3 +45,10 @@ release-requires-clause-before g c =
 pub answer-requires-clause-before : goal.answer-requires-clause-before
 answer-requires-clause-before g c =
     (c.in-Answer.field-0, is_before c.args.core.now.places.items c.args.step.thread c.index.result.now (phase.Answer c.in-Answer.field-0) c.requires.thread c.index.ensures c.in-Answer.is)
+
+pub view-requires-clause-before : goal.view-requires-clause-before
+view-requires-clause-before g c =
+    (c.in-View.field-0, c.in-View.field-1, c.in-View.field-2, is_before c.args.core.now.places.items c.args.step.thread c.index.result.now (phase.View c.in-View.field-0 c.in-View.field-1 c.in-View.field-2) c.requires.thread c.index.ensures c.in-View.is)
+
+pub downgrade-requires-clause-before : goal.downgrade-requires-clause-before
+downgrade-requires-clause-before g c = is_before c.args.core.now.places.items c.args.step.thread c.index.result.now phase.Downgrade c.requires.thread c.index.ensures c.in-Downgrade.is

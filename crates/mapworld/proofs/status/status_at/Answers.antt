@@ -1,6 +1,20 @@
-use Rattle.std.proofs.Common.{length}
+use Rattle.std.proofs.Common.{◌≡◌, ◌==◌, length, true, false, if◌then◌else◌, ap, sym, ◌∙◌}
+use Rattle.mapworld.specs.declared.step.Status.TheVariants.{Finished, Running}
+use Rattle.mapworld.specs.Running.{status_before}
 use Rattle.mapworld.proofs.Sleeping.{runs-otherwise}
 use Rattle.mapworld.proofs.status.status_at.Goals as goal
+
+pub returns-then-is_empty : goal.returns-then-is_empty
+returns-then-is_empty g c =
+    let left = length c.args.place.now.asks.items in
+    let none : (left == 0) ≡ true = ap (λ n. n == 0) (sym c.args.place.now.asks.ok.0) ∙ sym c.is_empty.ensures ∙ c.if-is_empty.true in
+    sym (ap (λ f. status_before c.args.places.now left c.args.place.now.shard f) c.in-Rest.is ∙ ap (λ b. if b then Finished else Running) none)
+
+pub returns-else-is_empty : goal.returns-else-is_empty
+returns-else-is_empty g c =
+    let left = length c.args.place.now.asks.items in
+    let some : (left == 0) ≡ false = ap (λ n. n == 0) (sym c.args.place.now.asks.ok.0) ∙ sym c.is_empty.ensures ∙ c.if-is_empty.false in
+    sym (ap (λ f. status_before c.args.places.now left c.args.place.now.shard f) c.in-Rest.is ∙ ap (λ b. if b then Finished else Running) some)
 
 pub returns-in_default : goal.returns-in_default
 returns-in_default g c =

@@ -1,11 +1,10 @@
-use Rattle.std.proofs.Common.{length, Some, refl, sym, ap, ◌∙◌, arith, length-append, length-set}
+use Rattle.std.proofs.Common.{length, refl, sym, ap, ◌∙◌, arith, length-append, length-set}
 use Rattle.std.proofs.lemmas.Option.{slice_get_within}
-use Rattle.std.specs.Vec.{with_item}
 use Rattle.mapworld.specs.Core.{owes, lists, adds}
 use Rattle.mapworld.proofs.Rooms.{shifted, same_desks}
-use Rattle.mapworld.proofs.Facts.{stands_here, phase_here, claim_at, next_fits, pair_read, read_at, deed_counts}
-use Rattle.mapworld.proofs.Weights.{pairs_kept}
-use Rattle.mapworld.proofs.deeds.replace.Goals as goal
+use Rattle.mapworld.proofs.Facts.{stands_here, phase_here, claim_at, next_fits, pair_read, deed_counts}
+use Rattle.mapworld.proofs.Weights.{pairs_set, pairs_at}
+use Rattle.mapworld.proofs.deeds.apply.Goals as goal
 
 pub index_mut-table-requires : goal.index_mut-table-requires
 index_mut-table-requires g c =
@@ -13,26 +12,26 @@ index_mut-table-requires g c =
     let p = c.index_mut-place.result.now in
     let here = stands_here b p c.index_mut-place.ensures.value in
     let claim = claim_at c.requires.sound c.args.step.thread p here (phase_here b p c.index_mut-place.ensures.value) in
-    omega (arith, slice_get_within c.args.core.now.tables.items p.shard claim.4.table claim.4.held, c.args.core.now.tables.ok.0)
+    omega (arith, slice_get_within c.args.core.now.tables.items p.shard claim.3.table claim.3.held, c.args.core.now.tables.ok.0)
 
-pub index_mut-pair-requires : goal.index_mut-pair-requires
-index_mut-pair-requires g c =
+pub apply_at-answer-requires : goal.apply_at-answer-requires
+apply_at-answer-requires g c =
     let b = c.requires.before.2 in
     let p = c.index_mut-place.result.now in
     let here = stands_here b p c.index_mut-place.ensures.value in
-    let before = sym c.replace.ensures.value ∙ c.in-Replace.is in
+    let before = sym c.replace.ensures.value ∙ c.in-Apply.is in
     let claim = claim_at c.requires.sound c.args.step.thread p here before in
-    let table = pair_read c.args.core.now.tables.items p.shard c.index_mut-table.result.now c.index_mut-table.ensures.value c.in-Replace.slot claim.1 claim.4 in
-    omega (arith, slice_get_within c.index_mut-table.result.now.items c.in-Replace.slot claim.1 table.1, c.index_mut-table.result.now.ok.0)
+    let table = pair_read c.args.core.now.tables.items p.shard c.index_mut-table.result.now c.index_mut-table.ensures.value c.in-Apply.slot claim.0 claim.3 in
+    omega (arith, slice_get_within c.index_mut-table.result.now.items c.in-Apply.slot claim.0 table.1, c.index_mut-table.result.now.ok.0)
 
 pub count_in-requires-clause-listed : goal.count_in-requires-clause-listed
 count_in-requires-clause-listed g c =
     let b = c.requires.before.2 in
     let p = c.index_mut-place.result.now in
     let here = stands_here b p c.index_mut-place.ensures.value in
-    let before = sym c.replace.ensures.value ∙ c.in-Replace.is in
+    let before = sym c.replace.ensures.value ∙ c.in-Apply.is in
     let claim = claim_at c.requires.sound c.args.step.thread p here before in
-    deed_counts _ _ c.args.core.now.tables.items _ p _ _ claim.3
+    deed_counts _ _ c.args.core.now.tables.items _ p _ _ claim.2
 
 pub count_in-requires-clause-fits : goal.count_in-requires-clause-fits
 count_in-requires-clause-fits g c =
@@ -42,31 +41,41 @@ count_in-requires-clause-fits g c =
     let fits = next_fits c.requires.sound c.args.step.thread p here (phase_here b p c.index_mut-place.ensures.value) in
     omega (arith, fits, c.requires.room.calls_fit)
 
+pub less_one-core-requires : goal.less_one-core-requires
+less_one-core-requires g c =
+    let b = c.requires.before.2 in
+    let p = c.index_mut-place.result.now in
+    let here = stands_here b p c.index_mut-place.ensures.value in
+    let before = sym c.replace.ensures.value ∙ c.in-Apply.is in
+    let claim = claim_at c.requires.sound c.args.step.thread p here before in
+    let table = pair_read c.args.core.now.tables.items p.shard c.index_mut-table.result.now c.index_mut-table.ensures.value c.in-Apply.slot claim.0 claim.3 in
+    let part = pairs_at c.args.core.now.tables.items p.shard c.index_mut-table.result.now table.0 in
+    omega (arith, c.apply_at-answer.ensures.len, part, c.requires.room.pairs, c.index_mut-table.result.now.ok.0)
+
 pub returns-clause-step : goal.returns-clause-step
 returns-clause-step g c =
     let b = c.requires.before.2 in
     let p = c.index_mut-place.result.now in
     let here = stands_here b p c.index_mut-place.ensures.value in
-    let before = sym c.replace.ensures.value ∙ c.in-Replace.is in
+    let before = sym c.replace.ensures.value ∙ c.in-Apply.is in
     let claim = claim_at c.requires.sound c.args.step.thread p here before in
-    let table = pair_read c.args.core.now.tables.items p.shard c.index_mut-table.result.now c.index_mut-table.ensures.value c.in-Replace.slot claim.1 claim.4 in
-    let same = read_at c.index_mut-table.result.now.items c.in-Replace.slot claim.1 c.index_mut-pair.result.now table.1 c.index_mut-pair.ensures.value in
+    let table = pair_read c.args.core.now.tables.items p.shard c.index_mut-table.result.now c.index_mut-table.ensures.value c.in-Apply.slot claim.0 claim.3 in
     record {
       place = p;
       stands = here;
-      slot = c.in-Replace.slot;
-      value = c.in-Replace.value;
+      slot = c.in-Apply.slot;
+      call = c.in-Apply.call;
       before = before;
       table = c.index_mut-table.result.now;
       held = table.0;
-      pair = c.index_mut-pair.result.now;
-      found = table.1 ∙ ap Some (sym same);
-      changed = with_item c.index_mut-table.result.now c.in-Replace.slot (c.index_mut-pair.result.now.0, c.replace-old.new.dest);
-      pairs = rw c.replace-old.ensures.after refl;
-      room_stays = refl;
+      pair = claim.0;
+      found = table.1;
+      changed = c.apply_at-answer.new.table;
+      pairs = c.apply_at-answer.ensures.items claim.0 table.1;
+      room_stays = c.apply_at-answer.ensures.capacity;
       blocks = c.count_in.new.blocks.items;
       counted = c.count_in.ensures.counted;
-      after = rw (c.appended-core.ensures, c.enter.ensures, c.replace-old.ensures.value) refl;
+      after = rw (c.appended-core.ensures, c.enter.ensures, c.apply_at-answer.ensures.answer claim.0 table.1) refl;
     }
 
 pub returns-clause-room : goal.returns-clause-room
@@ -74,10 +83,10 @@ returns-clause-room g c =
     let b = c.requires.before.2 in
     let p = c.index_mut-place.result.now in
     let here = stands_here b p c.index_mut-place.ensures.value in
-    let before = sym c.replace.ensures.value ∙ c.in-Replace.is in
+    let before = sym c.replace.ensures.value ∙ c.in-Apply.is in
     let claim = claim_at c.requires.sound c.args.step.thread p here before in
-    let table = pair_read c.args.core.now.tables.items p.shard c.index_mut-table.result.now c.index_mut-table.ensures.value c.in-Replace.slot claim.1 claim.4 in
-    let kept = pairs_kept c.args.core.now.tables.items p.shard c.index_mut-table.result.now (with_item c.index_mut-table.result.now c.in-Replace.slot (c.index_mut-pair.result.now.0, c.replace-old.new.dest)) table.0 (length-set c.index_mut-table.result.now.items c.in-Replace.slot (c.index_mut-pair.result.now.0, c.replace-old.new.dest)) in
+    let table = pair_read c.args.core.now.tables.items p.shard c.index_mut-table.result.now c.index_mut-table.ensures.value c.in-Apply.slot claim.0 claim.3 in
+    let change = pairs_set c.args.core.now.tables.items p.shard c.index_mut-table.result.now c.apply_at-answer.new.table table.0 in
     shifted _ _ c.args.step.thread p (record p { phase = c.enter.new.phase }) c.requires.room (record {
       here = here;
       places = refl;
@@ -85,7 +94,7 @@ returns-clause-room g c =
       steps = simp length-append at (ap length c.appended-core.ensures);
       count = refl;
       programs = refl;
-      tables = length-set c.args.core.now.tables.items p.shard (with_item c.index_mut-table.result.now c.in-Replace.slot (c.index_mut-pair.result.now.0, c.replace-old.new.dest));
+      tables = length-set c.args.core.now.tables.items p.shard c.apply_at-answer.new.table;
       guards = λ h has. c.requires.room.guards c.args.step.thread p h here has;
       more_guards = omega arith;
       guards_fit = omega arith;
@@ -96,8 +105,8 @@ returns-clause-room g c =
       blocks = c.count_in.ensures.capacity;
       desks = refl;
       holding = same_desks c.args.core.now.desks.items p.hold p.hold refl;
-      adding = omega (arith, ap adds c.enter.ensures, ap adds before);
-      pairs = c.requires.room.pairs ∙ sym kept;
+      adding = omega (arith, ap adds c.enter.ensures, ap adds before, c.less_one-core.ensures);
+      pairs = omega (arith, c.requires.room.pairs, change, c.apply_at-answer.ensures.len, c.less_one-core.ensures, c.apply_at-answer.new.table.ok.0, c.index_mut-table.result.now.ok.0);
       more_blocks = omega (arith, c.count_in.ensures.len);
       listed = λ i e. let below = c.requires.room.listed c.args.step.thread p i here e in omega (arith, below, c.count_in.ensures.len);
     })

@@ -1,0 +1,282 @@
+//! Random programs over every call, stepped at random, beside a plain map that takes the blocks one after another.
+
+use super::worlds::Call::{
+    Add, AddOrTakeFrom, AddTo, Get, GetMut, Has, Insert, Leave, Look, Read, Remove, Set, Share,
+    TakeFrom,
+};
+use super::worlds::{Answered, Call, World, step, told, world_of};
+use mapworld::{Answer, Block};
+use std::alloc::Global;
+use std::test::Fail;
+
+/// How many keys the programs use.
+const KEYS: usize = 4;
+
+/// How many worlds are run.
+const WORLDS: u64 = 60;
+
+/// Numbers that follow no simple rule, and are the same at each run.
+#[derive(Drop)]
+struct Random {
+    state: u64,
+}
+
+impl Random {
+    /// The bits of the next number that the mask has.
+    fn next(&mut self, mask: u64) -> u64 {
+        self.state = self
+            .state
+            .wrapping_mul(6364136223846793005)
+            .wrapping_add(1442695040888963407);
+        (self.state >> 33) & mask
+    }
+
+    fn key(&mut self) -> u64 {
+        self.next(3)
+    }
+}
+
+/// A call on one key.
+fn keyed_call(random: &mut Random) -> Call {
+    let key = random.key();
+    let value = random.next(7);
+    match random.next(7) {
+        0 => Remove(key),
+        1 => TakeFrom(key, value),
+        2 => AddOrTakeFrom(key, random.next(3), value),
+        3 => AddTo(key, value),
+        4 => Look(key),
+        5 => Has(key),
+        _ => Insert(key, value),
+    }
+}
+
+/// A call on the guard that isn't its last.
+fn held_call(random: &mut Random) -> Call {
+    match random.next(3) {
+        0 => Add(random.next(7)),
+        1 => Set(random.next(7)),
+        2 => Share,
+        _ => Read,
+    }
+}
+
+/// A program of calls on one key, and of openings that each have two more calls and their end behind them.
+fn program(alloc: Global, random: &mut Random) -> Option<Vec<Call>> {
+    let mut calls = Vec::new(alloc);
+    for _ in 0..12 {
+        if random.next(1) == 0 {
+            calls.push(keyed_call(random)).ok()?;
+        } else {
+            let key = random.key();
+            let opening = if random.next(1) == 0 {
+                Get(key)
+            } else {
+                GetMut(key)
+            };
+            calls.push(opening).ok()?;
+            calls.push(held_call(random)).ok()?;
+            calls.push(held_call(random)).ok()?;
+            calls.push(Leave).ok()?;
+        }
+    }
+    Some(calls)
+}
+
+/// A guard of the plain map.
+#[derive(Clone, Copy)]
+struct Guard {
+    value: u64,
+    key: u64,
+    writes: bool,
+}
+
+/// A map as a value for each of the keys, if it has one, and the guard that is held of one.
+#[derive(Drop)]
+struct Plain {
+    values: [Option<u64>; KEYS],
+    guard: Option<Guard>,
+}
+
+impl Plain {
+    fn value(&self, key: u64) -> Option<u64> {
+        *self.values.get(key as usize)?
+    }
+
+    fn set(&mut self, key: u64, value: Option<u64>) {
+        if let Some(slot) = self.values.get_mut(key as usize) {
+            *slot = value;
+        }
+    }
+
+    /// Leaves the value where the pair is kept, and takes the pair out otherwise.
+    fn leave(&mut self, key: u64, value: u64, keeps: bool) -> Answered {
+        if keeps {
+            self.set(key, Some(value));
+            Answer::None
+        } else {
+            self.set(key, None);
+            Answer::Pair(key, value)
+        }
+    }
+}
+
+/// What a call on a key that has this value is answered, and what it does.
+fn present_answer(plain: &mut Plain, call: Call, value: u64) -> Answered {
+    match call {
+        Insert(key, new) => {
+            plain.set(key, Some(new));
+            Answer::Value(value)
+        }
+        Remove(key) => plain.leave(key, value, false),
+        TakeFrom(key, least) => plain.leave(key, value, value < least),
+        AddOrTakeFrom(key, more, least) => {
+            plain.leave(key, value.wrapping_add(more), value < least)
+        }
+        AddTo(key, more) => {
+            plain.set(key, Some(value.wrapping_add(more)));
+            Answer::Done
+        }
+        Look(_) => Answer::Read(value),
+        Has(_) => Answer::Flag(true),
+        Get(key) | GetMut(key) => {
+            plain.guard = Some(Guard {
+                value,
+                key,
+                writes: matches!(call, GetMut(_)),
+            });
+            Answer::Held
+        }
+        Read | Add(_) | Set(_) | Share | Leave => Answer::NoGuard,
+    }
+}
+
+/// What a call on a key without a value is answered, and what it does.
+fn absent_answer(plain: &mut Plain, call: Call) -> Answered {
+    match call {
+        Insert(key, value) => {
+            plain.set(key, Some(value));
+            Answer::None
+        }
+        AddTo(_, _) => Answer::Done,
+        Has(_) => Answer::Flag(false),
+        Read | Add(_) | Set(_) | Share | Leave => Answer::NoGuard,
+        _ => Answer::None,
+    }
+}
+
+/// What a call on this guard is answered, and what it does.
+fn held_answer(plain: &mut Plain, call: Call, guard: Guard) -> Answered {
+    if matches!(call, Leave) {
+        plain.guard = None;
+        return Answer::Done;
+    }
+    if matches!(call, Read) {
+        return Answer::Read(guard.value);
+    }
+    if !guard.writes {
+        return Answer::WrongGuard;
+    }
+    let value = match call {
+        Add(more) => guard.value.wrapping_add(more),
+        Set(value) => value,
+        _ => {
+            plain.guard = Some(Guard {
+                value: guard.value,
+                key: guard.key,
+                writes: false,
+            });
+            return Answer::Held;
+        }
+    };
+    plain.set(guard.key, Some(value));
+    plain.guard = Some(Guard {
+        value,
+        key: guard.key,
+        writes: true,
+    });
+    Answer::Done
+}
+
+/// The key of a call that has one.
+fn key_of(call: Call) -> Option<u64> {
+    match call {
+        Insert(key, _) | Remove(key) | TakeFrom(key, _) | AddOrTakeFrom(key, _, _) => Some(key),
+        AddTo(key, _) | Look(key) | Has(key) | Get(key) | GetMut(key) => Some(key),
+        Read | Add(_) | Set(_) | Share | Leave => None,
+    }
+}
+
+/// What the call is answered by the plain map, and what it does.
+fn answer(plain: &mut Plain, call: Call) -> Answered {
+    if let Some(guard) = plain.guard {
+        return held_answer(plain, call, guard);
+    }
+    match key_of(call).and_then(|key| plain.value(key)) {
+        Some(value) => present_answer(plain, call, value),
+        None => absent_answer(plain, call),
+    }
+}
+
+/// Whether each call of the block was answered as the plain map answers it, in its turn.
+fn agrees(world: &World<Global>, plain: &mut Plain, block: &Block<u64>, calls: &[Call]) -> bool {
+    for (i, call) in calls.iter().enumerate().skip(block.call) {
+        let want = answer(plain, *call);
+        if !told(world, block.thread, i, &want) {
+            return false;
+        }
+        if !matches!(call, Get(_) | GetMut(_) | Read | Add(_) | Set(_) | Share) {
+            return true;
+        }
+    }
+    true
+}
+
+/// Makes random steps until every call is answered, and says whether it came to that.
+fn run_through(world: &mut World<Global>, random: &mut Random, calls: usize) -> bool {
+    for _ in 0..world.bound() {
+        if world.replies().len() == calls {
+            return true;
+        }
+        let thread = random.next(3) as usize;
+        if world.can_move(thread) && world.run(&[step(thread)]).is_err() {
+            return false;
+        }
+    }
+    false
+}
+
+/// Whether a world of random programs, run at random, answers and leaves what the plain map does.
+fn world_agrees(alloc: Global, seed: u64) -> Option<bool> {
+    let mut random = Random { state: seed };
+    let first = program(alloc, &mut random)?;
+    let second = program(alloc, &mut random)?;
+    let third = program(alloc, &mut random)?;
+    let programs: [&[Call]; 3] = [&first, &second, &third];
+    let mut world = world_of(alloc, &[(0, 5), (1, 6)], &programs)?;
+    let count = first.len() + second.len() + third.len();
+    if !run_through(&mut world, &mut random, count) {
+        return Some(false);
+    }
+    let mut plain = Plain {
+        values: [Some(5), Some(6), None, None],
+        guard: None,
+    };
+    for block in world.blocks() {
+        plain.guard = None;
+        let calls = programs.get(block.thread)?;
+        if !agrees(&world, &mut plain, block, calls) {
+            return Some(false);
+        }
+    }
+    Some((0..4).all(|key| world.pair(&key).map(|pair| *pair.1) == plain.value(key)))
+}
+
+#[test]
+fn random_programs_are_one_plain_map(rt: HostRuntime) -> Result<(), Fail> {
+    for seed in 0..WORLDS {
+        let agrees = world_agrees(rt.alloc(), seed).ok_or("no world")?;
+        assert!(rt; agrees, "world {seed}");
+    }
+    Ok(())
+}
