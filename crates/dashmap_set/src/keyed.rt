@@ -1,0 +1,95 @@
+//! Calls on one key.
+ghost use Rattle.std.specs.Prelude.{◌≡◌, Some, true, IsTrue, IfSome, IfErr};
+ghost use Rattle.std.specs.Fn.{FnOnceReturnsAt};
+ghost use Rattle.std.specs.Sync.RwLock.{read_guard_value};
+ghost use Rattle.dashmap_guard.specs.Guarded.{key_in};
+ghost use Rattle.dashmap_map.specs.Locked.{lock_of};
+ghost use Rattle.dashmap_set.specs.Calls.{is_new, key_of};
+
+use crate::set::DashSet;
+use crate::setref::one::Ref;
+use lock_api_raw::RawRwLock;
+use std::alloc::Allocator;
+use std::hash::{BuildHasher, Hash};
+use std::sync::Wait;
+
+/// What the map's insertion tells of a key: whether it is new, or the key that was refused.
+fn told<K>(answer: Result<Option<()>, (K, ())>) -> Result<bool, K>
+    ensures { result ≡ is_new answer }
+{
+    match answer {
+        Ok(old) => Ok(old.is_none()),
+        Err((key, ())) => Err(key),
+    }
+}
+
+/// The key of a pair that was taken out.
+fn key_of<K>(pair: Option<(K, ())>) -> Option<K>
+    ensures { result ≡ key_of pair }
+{
+    let (key, ()) = pair?;
+    Some(key)
+}
+
+impl<K: Eq + Hash, S: BuildHasher, Q: RawRwLock, A: Allocator> DashSet<K, S, Q, A>
+where
+    Q::Runtime: Wait,
+{
+    /// Takes the stored key out, if it is there.
+    pub fn remove(&self, key: &K, td: &mut Q::Party) -> Option<K>
+        ensures { IfSome result (λ k. IsTrue (K.eq k key.now)) }
+    {
+        key_of(self.inner.remove(key, td))
+    }
+
+    /// Takes the stored key out if the closure answers true of it. Else it stays.
+    pub fn remove_if<F: FnOnce(&K) -> bool + Drop>(
+        &self,
+        key: &K,
+        f: F,
+        td: &mut Q::Party,
+    ) -> Option<K>
+        requires { F.IsAlwaysCallable f }
+        ensures { IfSome result (λ k. IsTrue (K.eq k key.now) × FnOnceReturnsAt F.FnOnce f k true) }
+    {
+        key_of(
+            self.inner.remove_if(
+                key,
+                |stored, _| -> bool
+                    requires { F.IsAlwaysCallable f }
+                    ensures { FnOnceReturnsAt F.FnOnce f stored.now result }
+                { f(stored) },
+                td,
+            ),
+        )
+    }
+
+    /// A shared guard of a key, if it is there.
+    pub fn get<'m, 'd>(&'m self, key: &K, td: &'d mut Q::Party) -> Option<Ref<'m, 'd, K, Q, A>>
+        ensures asked { IfSome result (λ r. IfSome (key_in (read_guard_value r.0.inner) r.1) (λ k. IsTrue (K.eq k key.now))) }
+        ensures lock { IfSome result (λ r. lock_of S.BuildHasher S.Hasher.Hasher K.hash_input self.now key.now ≡ Some r.0.held.0.place.now) }
+    {
+        match self.inner.get(key, td) {
+            Some(pair) => Some(Ref::of_pair(pair)),
+            None => None,
+        }
+    }
+
+    /// Whether the key is there.
+    pub fn contains(&self, key: &K, td: &mut Q::Party) -> bool {
+        self.inner.contains_key(key, td)
+    }
+}
+
+impl<K: Eq + Hash + Drop, S: BuildHasher, Q: RawRwLock, A: Allocator + Clone> DashSet<K, S, Q, A>
+where
+    Q::Runtime: Wait,
+{
+    /// Puts a key in, and answers whether it is new. Of a present key the stored one stays, and the one that was handed in is let go; it
+    /// is never refused. A new key is refused only where its shard would have to grow and can't, and then it comes back.
+    pub fn insert(&self, key: K, td: &mut Q::Party) -> Result<bool, K>
+        ensures { IfErr result (λ back. back ≡ key) }
+    {
+        told(self.inner.insert(key, (), td))
+    }
+}

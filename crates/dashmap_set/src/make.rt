@@ -1,0 +1,127 @@
+//! How a set is made.
+ghost use Rattle.std.specs.Prelude.{◌≡◌, ◌^◌, ◌<◌, ◌↔◌, length, Err, IfOk};
+ghost use Rattle.std.specs.Int.{IsNextPowerOfTwo};
+ghost use Rattle.dashmap_table.specs.Route.{wanted_shards};
+ghost use Rattle.dashmap_table.specs.declared.fault.MapFault.{MapFault};
+ghost use Rattle.dashmap_map.specs.declared.fault.NewFault.{NewFault};
+ghost use Rattle.dashmap_map.specs.Making.{HasNoDefaultShare};
+
+use crate::set::DashSet;
+use dashmap_map::{DashMap, NewFault};
+use dashmap_table::MapFault;
+use lock_api_raw::{MakeLock, RawRwLock};
+use std::alloc::Allocator;
+use std::hash::{BuildHasher, Hash, RandomState};
+use std::random::RandomSource;
+
+impl<K: Eq + Hash + Drop, Q: RawRwLock + Drop, A: Allocator + Clone> DashSet<K, RandomState, Q, A>
+where
+    Q::Runtime: RandomSource,
+{
+    /// An empty set with the default shard amount for so many threads, whose capacity is 0. The locks' runtime makes the hasher.
+    ///
+    /// Refused as `BadShards`, `TableFull`, `NoRandom` or `NoMemory`, in this order.
+    pub fn new<T: Copy>(
+        alloc: A,
+        parallelism: usize,
+        table: T,
+    ) -> Result<DashSet<K, RandomState, Q, A>, NewFault>
+    where
+        Q: MakeLock<T>,
+        ensures made { IfOk result (λ s. IsNextPowerOfTwo (wanted_shards parallelism) (length s.locks)) }
+        ensures bad_shards { (result ≡ Err (NewFault.Map MapFault.BadShards)) ↔ (2 ^ 16 < wanted_shards parallelism) }
+        ensures fits { ¬ (result ≡ Err (NewFault.Map MapFault.CapacityOverflow)) }
+    {
+        match DashMap::new(alloc, parallelism, table) {
+            Ok(inner) => Ok(DashSet { inner }),
+            Err(fault) => Err(fault),
+        }
+    }
+
+    /// As `new`, with room for the capacity's share in each shard.
+    ///
+    /// Refused as `new`, and as `CapacityOverflow` right after `BadShards`.
+    pub fn with_capacity<T: Copy>(
+        alloc: A,
+        capacity: usize,
+        parallelism: usize,
+        table: T,
+    ) -> Result<DashSet<K, RandomState, Q, A>, NewFault>
+    where
+        Q: MakeLock<T>,
+        ensures made { IfOk result (λ s. IsNextPowerOfTwo (wanted_shards parallelism) (length s.locks)) }
+        ensures bad_shards { (result ≡ Err (NewFault.Map MapFault.BadShards)) ↔ (2 ^ 16 < wanted_shards parallelism) }
+        ensures overflow { (result ≡ Err (NewFault.Map MapFault.CapacityOverflow)) ↔ HasNoDefaultShare capacity parallelism }
+    {
+        match DashMap::with_capacity(alloc, capacity, parallelism, table) {
+            Ok(inner) => Ok(DashSet { inner }),
+            Err(fault) => Err(fault),
+        }
+    }
+}
+
+impl<K: Eq + Hash + Drop, S: BuildHasher + Drop, Q: RawRwLock + Drop, A: Allocator + Clone> DashSet<
+    K,
+    S,
+    Q,
+    A,
+> {
+    /// An empty set with the default shard amount for so many threads, whose capacity is 0.
+    ///
+    /// Refused as `BadShards`, `TableFull` or `NoMemory`, in this order.
+    pub fn with_hasher<T: Copy>(
+        alloc: A,
+        hasher: S,
+        parallelism: usize,
+        table: T,
+    ) -> Result<DashSet<K, S, Q, A>, MapFault>
+    where
+        Q: MakeLock<T>,
+        ensures made { IfOk result (λ s. IsNextPowerOfTwo (wanted_shards parallelism) (length s.locks) × (s.hasher ≡ hasher)) }
+        ensures bad_shards { (result ≡ Err MapFault.BadShards) ↔ (2 ^ 16 < wanted_shards parallelism) }
+        ensures fits { ¬ (result ≡ Err MapFault.CapacityOverflow) }
+    {
+        match DashMap::with_hasher(alloc, hasher, parallelism, table) {
+            Ok(inner) => Ok(DashSet { inner }),
+            Err(fault) => Err(fault),
+        }
+    }
+
+    /// As `with_hasher`, with room for the capacity's share in each shard.
+    ///
+    /// Refused as `with_hasher`, and as `CapacityOverflow` right after `BadShards`.
+    pub fn with_capacity_and_hasher<T: Copy>(
+        alloc: A,
+        capacity: usize,
+        hasher: S,
+        parallelism: usize,
+        table: T,
+    ) -> Result<DashSet<K, S, Q, A>, MapFault>
+    where
+        Q: MakeLock<T>,
+        ensures made { IfOk result (λ s. IsNextPowerOfTwo (wanted_shards parallelism) (length s.locks) × (s.hasher ≡ hasher)) }
+        ensures bad_shards { (result ≡ Err MapFault.BadShards) ↔ (2 ^ 16 < wanted_shards parallelism) }
+        ensures overflow { (result ≡ Err MapFault.CapacityOverflow) ↔ HasNoDefaultShare capacity parallelism }
+    {
+        match DashMap::with_capacity_and_hasher(alloc, capacity, hasher, parallelism, table) {
+            Ok(inner) => Ok(DashSet { inner }),
+            Err(fault) => Err(fault),
+        }
+    }
+
+    /// The same as `with_hasher`.
+    pub fn default<T: Copy>(
+        alloc: A,
+        hasher: S,
+        parallelism: usize,
+        table: T,
+    ) -> Result<DashSet<K, S, Q, A>, MapFault>
+    where
+        Q: MakeLock<T>,
+        ensures made { IfOk result (λ s. IsNextPowerOfTwo (wanted_shards parallelism) (length s.locks) × (s.hasher ≡ hasher)) }
+        ensures bad_shards { (result ≡ Err MapFault.BadShards) ↔ (2 ^ 16 < wanted_shards parallelism) }
+        ensures fits { ¬ (result ≡ Err MapFault.CapacityOverflow) }
+    {
+        DashSet::with_hasher(alloc, hasher, parallelism, table)
+    }
+}

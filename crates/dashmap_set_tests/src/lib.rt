@@ -1,0 +1,11 @@
+//! Tests of the set, for what no clause says: that its calls answer as they are to, and what is refused.
+#![tactic(auto)]
+
+#[cfg(test)]
+mod keys;
+#[cfg(test)]
+mod making;
+#[cfg(test)]
+mod sets;
+#[cfg(test)]
+mod threads;
