@@ -8,9 +8,7 @@
 //! nanoseconds the call takes. The first line is for a loop that makes and hashes keys and calls nothing.
 #![tactic(auto)]
 
-mod clock;
-
-use clock::report;
+use dashmap_table_work::clock::report;
 use dashmap_table_work::{Bare, Call, Deed, Fault, run};
 use std::alloc::Global;
 use std::process::ExitCode;

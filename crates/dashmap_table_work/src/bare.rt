@@ -32,9 +32,9 @@ pub enum Deed {
     Churn,
 }
 
-/// A number for each, spread over all bits.
+/// A number for each, spread over all bits. Different numbers have different ones.
 #[inline(always)]
-fn spread(n: u64) -> u64 {
+pub fn spread(n: u64) -> u64 {
     let far = n.wrapping_add(0x9E37_79B9_7F4A_7C15);
     let once = (far ^ (far >> 30)).wrapping_mul(0xBF58_476D_1CE4_E5B9);
     let twice = (once ^ (once >> 27)).wrapping_mul(0x94D0_49BB_1331_11EB);

@@ -4,8 +4,9 @@
 ghost use Rattle.std.specs.Prelude.{◌≤◌};
 
 mod bare;
+pub mod clock;
 
-pub use bare::{Bare, Deed};
+pub use bare::{Bare, Deed, spread};
 use dashmap_table::{MapFault, Shards};
 use std::alloc::Allocator;
 use std::hash::{BuildHasherDefault, FoldHasher};

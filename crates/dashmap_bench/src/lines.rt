@@ -1,0 +1,186 @@
+//! The runs, and the lines that they print.
+
+use crate::fault::Fault;
+use crate::keys::{Leaping, Onward, Round};
+use crate::threads::{Mix, Team, run};
+use crate::work::{Map, Shared, churn, enter_all, look_up_all, map_over, put_all, take_all};
+use dashmap_table_work::clock::report;
+use lock_api_raw::RawRwLock;
+use parking_lot_core::ParkingLot;
+use parking_lot_locks::LockTable;
+use std::alloc::Global;
+use std::sync::Wait;
+use std::thread::Threads;
+use std::time::{Clock, Instant};
+
+const MANY: u32 = 1_000_000;
+
+/// A call of one thread that is measured.
+#[derive(Clone, Copy)]
+enum Deed {
+    Insert,
+    Hit,
+    Miss,
+    EntryHit,
+    EntryNew,
+    Remove,
+    SmallFill,
+    SmallHit,
+    SmallMiss,
+    SmallChurn,
+}
+
+impl Deed {
+    /// How its line is called.
+    fn name(self) -> &'static str {
+        match self {
+            Deed::Insert => "st.insert.dash_fold",
+            Deed::Hit => "st.get_hit.dash_fold",
+            Deed::Miss => "st.get_miss.dash_fold",
+            Deed::EntryHit => "st.entry_hit.dash_fold",
+            Deed::EntryNew => "st.entry_new.dash_fold",
+            Deed::Remove => "st.remove.dash_fold",
+            Deed::SmallFill => "st.small_fill.dash_fold",
+            Deed::SmallHit => "st.small_hit.dash_fold",
+            Deed::SmallMiss => "st.small_miss.dash_fold",
+            Deed::SmallChurn => "st.small_churn.dash_fold",
+        }
+    }
+
+    /// How many calls its line is about.
+    fn calls(self) -> u32 {
+        match self {
+            Deed::SmallFill => 1_000,
+            Deed::SmallHit | Deed::SmallMiss => 4 * MANY,
+            Deed::SmallChurn => 2 * MANY,
+            _ => MANY,
+        }
+    }
+
+    /// Makes so many of its calls on a map of so many keys, and answers the sum of what they saw.
+    fn run<const KEYS: u64, Q: RawRwLock>(
+        self,
+        map: &Map<Q>,
+        me: &mut Q::Party,
+        calls: u64,
+    ) -> Result<u64, Fault>
+    where
+        Q::Runtime: Wait,
+    {
+        match self {
+            Deed::Insert | Deed::SmallFill => put_all::<Onward<0>, Q>(map, me, calls),
+            Deed::Hit => Ok(look_up_all::<Leaping<KEYS>, Q>(map, me, calls)),
+            Deed::Miss => Ok(look_up_all::<Onward<KEYS>, Q>(map, me, calls)),
+            Deed::EntryHit => enter_all::<Leaping<KEYS>, Q>(map, me, calls),
+            Deed::EntryNew => enter_all::<Onward<0>, Q>(map, me, calls),
+            Deed::Remove => Ok(take_all::<Leaping<KEYS>, Q>(map, me, calls)),
+            Deed::SmallHit => Ok(look_up_all::<Round<0, 1_000>, Q>(map, me, calls)),
+            Deed::SmallMiss => Ok(look_up_all::<Round<5_000, 1_000>, Q>(map, me, calls)),
+            Deed::SmallChurn => churn::<Round<2_000, 1_000>, Q>(map, me, calls / 2),
+        }
+    }
+}
+
+/// The calls that are made on each of three maps, one after another.
+const DEEDS: [&[Deed]; 3] = [
+    &[
+        Deed::Insert,
+        Deed::Hit,
+        Deed::Miss,
+        Deed::EntryHit,
+        Deed::Remove,
+    ],
+    &[Deed::EntryNew],
+    &[
+        Deed::SmallFill,
+        Deed::SmallHit,
+        Deed::SmallMiss,
+        Deed::SmallChurn,
+    ],
+];
+
+/// Makes the calls on a new map, and prints a line for each.
+fn print_lines<R: Wait + Copy + Drop>(
+    rt: &HostRuntime,
+    handle: R,
+    deeds: &[Deed],
+) -> Result<(), Fault> {
+    let lot = ParkingLot::new(handle, rt.alloc(), 1, 7)?;
+    let table = LockTable::new(rt.alloc(), &lot, 16)?;
+    let map: Shared<'_, '_, R> = map_over(rt.alloc(), &table)?;
+    let mut me = lot.thread_data()?;
+    for deed in deeds {
+        let start = Instant::now(rt)?;
+        let sum = deed.run::<1_000_000, _>(&map, &mut me, u64::from(deed.calls()))?;
+        report(rt, deed.name(), start, deed.calls(), sum)?;
+    }
+    Ok(())
+}
+
+/// Prints a line for each call of one thread.
+pub fn print_calls<R: Wait + Copy + Drop>(rt: &HostRuntime, handle: R) -> Result<(), Fault> {
+    for deeds in DEEDS {
+        print_lines(rt, handle, deeds)?;
+    }
+    Ok(())
+}
+
+/// Prints a line for each mix of calls and each team of threads.
+pub fn print_teams<R: Wait + Threads + Clock + Sync + Copy + Drop>(
+    rt: &HostRuntime,
+    handle: R,
+) -> Result<(), Fault> {
+    for mix in Mix::ALL {
+        for team in Team::ALL {
+            let told = run(handle, rt.alloc(), team, mix, 1 << 20, MANY)?;
+            let nanos = told.took.as_secs_f64() * 1e9 / f64::from(MANY);
+            eprintln!(rt; "saw {}, left {}", told.saw, told.left)?;
+            println!(rt; "mt.{}.t{}.dash_fold {nanos}", mix.name, team.count())?;
+        }
+    }
+    Ok(())
+}
+
+/// Fills a map with so many keys, and answers how many pairs it has.
+pub fn fill<R: Wait + Copy + Drop>(alloc: Global, handle: R) -> Result<usize, Fault> {
+    let lot = ParkingLot::new(handle, alloc, 1, 7)?;
+    let table = LockTable::new(alloc, &lot, 16)?;
+    let map: Shared<'_, '_, R> = map_over(alloc, &table)?;
+    let mut me = lot.thread_data()?;
+    put_all::<Onward<0>, _>(&map, &mut me, u64::from(MANY))?;
+    Ok(map.len(&mut me))
+}
+
+/// Makes a thousand of each call, and prints what they saw.
+fn print_sums<R: Wait + Copy + Drop>(
+    rt: &HostRuntime,
+    handle: R,
+    deeds: &[Deed],
+) -> Result<(), Fault> {
+    let lot = ParkingLot::new(handle, rt.alloc(), 1, 7)?;
+    let table = LockTable::new(rt.alloc(), &lot, 16)?;
+    let map: Shared<'_, '_, R> = map_over(rt.alloc(), &table)?;
+    let mut me = lot.thread_data()?;
+    for deed in deeds {
+        let sum = deed.run::<1_000, _>(&map, &mut me, 1_000)?;
+        println!(rt; "{} saw {sum}", deed.name())?;
+    }
+    Ok(())
+}
+
+/// A small run of each kind, whose lines are the same each time: the sums of what single threads saw, and how many pairs teams left.
+pub fn small_run<R: Wait + Threads + Clock + Sync + Copy + Drop>(
+    rt: &HostRuntime,
+    handle: R,
+) -> Result<(), Fault> {
+    for deeds in DEEDS {
+        print_sums(rt, handle, deeds)?;
+    }
+    for mix in Mix::ALL {
+        for team in Team::ALL {
+            let told = run(handle, rt.alloc(), team, mix, 1 << 12, 4_000)?;
+            println!(rt; "mt.{}.t{} left {}", mix.name, team.count(), told.left)?;
+        }
+    }
+    Ok(())
+}

@@ -1,0 +1,120 @@
+//! The calls of one thread that are measured.
+
+use crate::fault::Fault;
+use crate::keys::Way;
+use dashmap_map::DashMap;
+use dashmap_table::MapFault;
+use dashmap_table_work::spread;
+use lock_api_raw::{MakeLock, RawRwLock};
+use parking_lot_locks::RawRwLock as RawRwLockOfRows;
+use std::alloc::Global;
+use std::hash::{BuildHasherDefault, FoldHasher};
+use std::sync::Wait;
+
+/// A hasher that takes one multiplication.
+pub type Fold = BuildHasherDefault<FoldHasher>;
+
+/// A map of numbers.
+pub type Map<Q> = DashMap<u64, u64, Fold, Q, Global>;
+
+/// The same over rows of a table.
+pub type Shared<'t, 'l, R> = Map<RawRwLockOfRows<'t, 'l, R, 0>>;
+
+/// A map of 16 shards, which is the default for 4 processors.
+pub fn map_over<T: Copy, Q: RawRwLock + MakeLock<T> + Drop>(
+    alloc: Global,
+    table: T,
+) -> Result<Map<Q>, MapFault> {
+    DashMap::with_hasher(alloc, BuildHasherDefault::new(), 4, table)
+}
+
+/// Puts so many pairs in, each with its turn as the value.
+#[inline(never)]
+pub fn put_all<W: Way, Q: RawRwLock>(
+    map: &Map<Q>,
+    me: &mut Q::Party,
+    count: u64,
+) -> Result<u64, Fault>
+where
+    Q::Runtime: Wait,
+{
+    for turn in 0..count {
+        if map.insert(spread(W::number(turn)), turn, me).is_err() {
+            return Err(Fault);
+        }
+    }
+    Ok(count)
+}
+
+/// The sum of the values of so many keys; an absent key counts 0.
+#[inline(never)]
+pub fn look_up_all<W: Way, Q: RawRwLock>(map: &Map<Q>, me: &mut Q::Party, count: u64) -> u64
+where
+    Q::Runtime: Wait,
+{
+    let mut sum = 0u64;
+    for turn in 0..count {
+        if let Some(value) = map.get(&spread(W::number(turn)), me) {
+            sum = sum.wrapping_add(*value);
+        }
+    }
+    sum
+}
+
+/// The sum of the values that so many keys have once an absent one has 1.
+#[inline(never)]
+pub fn enter_all<W: Way, Q: RawRwLock>(
+    map: &Map<Q>,
+    me: &mut Q::Party,
+    count: u64,
+) -> Result<u64, Fault>
+where
+    Q::Runtime: Wait,
+{
+    let mut sum = 0u64;
+    for turn in 0..count {
+        match map.entry(spread(W::number(turn)), me) {
+            Ok(entry) => sum = sum.wrapping_add(*entry.or_insert(1)),
+            Err(_) => return Err(Fault),
+        }
+    }
+    Ok(sum)
+}
+
+/// How many of so many keys were there to be taken out.
+#[inline(never)]
+pub fn take_all<W: Way, Q: RawRwLock>(map: &Map<Q>, me: &mut Q::Party, count: u64) -> u64
+where
+    Q::Runtime: Wait,
+{
+    let mut taken = 0u64;
+    for turn in 0..count {
+        if map.remove(&spread(W::number(turn)), me).is_some() {
+            taken = taken.wrapping_add(1);
+        }
+    }
+    taken
+}
+
+/// Puts each of so many pairs in and takes it out before the next, and answers how many were there to be taken out.
+#[inline(never)]
+pub fn churn<W: Way, Q: RawRwLock>(
+    map: &Map<Q>,
+    me: &mut Q::Party,
+    count: u64,
+) -> Result<u64, Fault>
+where
+    Q::Runtime: Wait,
+{
+    let mut taken = 0u64;
+    for turn in 0..count {
+        let key = spread(W::number(turn));
+        if map.insert(key, turn, me).is_err() {
+            return Err(Fault);
+        }
+        if map.remove(&key, me).is_some() {
+            taken = taken.wrapping_add(1);
+        }
+    }
+    Ok(taken)
+}
