@@ -6,6 +6,8 @@ mod heaps;
 #[cfg(test)]
 mod kernel;
 #[cfg(test)]
+mod keys;
+#[cfg(test)]
 mod routes;
 #[cfg(test)]
 mod shard;

@@ -10,7 +10,7 @@ type Fold = BuildHasherDefault<FoldHasher>;
 
 #[test]
 fn amounts_that_are_none_are_refused(rt: HostRuntime) {
-    for shards in [0, 1, 3, 131_072] {
+    for shards in [0, 1, 3, 131_072, usize::MAX] {
         let made: Result<Shards<u64, u64, Fold>, MapFault> = Shards::new(
             rt.alloc(),
             shards,
@@ -86,6 +86,13 @@ fn room_is_reserved_in_one_shard(rt: HostRuntime) -> Result<(), Fail> {
     Ok(())
 }
 
+/// The value of the pair that was found.
+fn value_of(map: &Shards<u64, u64, Fold>, key: u64) -> Option<u64> {
+    let (shard, slot) = map.find(&key)?;
+    let (_, value) = map.shard(shard).pair(slot)?;
+    Some(*value)
+}
+
 /// Whether the call of that number answers the same for both.
 fn answers_alike(map: &mut Shards<u64, u64, Fold>, twin: &mut HashMap<u64, u64>, i: u64) -> bool {
     let key = i / 3 % 64;
@@ -94,7 +101,7 @@ fn answers_alike(map: &mut Shards<u64, u64, Fold>, twin: &mut HashMap<u64, u64>,
             (Ok(old), Ok(twins)) => old == twins,
             _ => false,
         },
-        1 => map.find(&key).is_some() == twin.contains_key(&key),
+        1 => value_of(map, key) == twin.get(&key).copied(),
         _ if i % 2 == 0 => map.remove(&key).map(|(_, value)| value) == twin.remove(&key),
         _ => true,
     }

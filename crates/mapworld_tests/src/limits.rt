@@ -45,6 +45,7 @@ fn shard_amounts_are_powers_of_two_in_range(rt: HostRuntime) {
         (1, refused),
         (3, refused),
         (8192, refused),
+        (usize::MAX, refused),
         (2, None),
         (4096, None),
     ] {

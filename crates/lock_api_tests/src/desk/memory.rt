@@ -1,7 +1,7 @@
 //! Memory that is refused.
 use crate::steps::all_right;
 use linked_list_allocator::LocalHeap;
-use lock_api_desk::{Desk, DeskFault, TokenTable};
+use lock_api_desk::{Desk, DeskFault, Mode, TokenTable};
 use std::alloc::AllocError;
 use std::test::Fail;
 
@@ -50,5 +50,45 @@ fn a_guard_within_the_reserve_takes_no_memory(rt: HostRuntime) -> Result<(), Fai
             desk.read(1, 2) == Ok(()),
         ],
     );
+    Ok(())
+}
+
+/// Reads under new guards, from the first on, until one is refused. Answers that one and why.
+fn first_refused<'h>(
+    desk: &mut Desk<TokenTable, u64, &'h LocalHeap>,
+) -> (u64, Result<(), DeskFault>) {
+    for guard in 1..60 {
+        let asked = desk.read(1, guard);
+        if asked.is_err() {
+            return (guard, asked);
+        }
+    }
+    (0, Ok(()))
+}
+
+#[test]
+fn a_second_growth_without_memory_is_refused(rt: HostRuntime) -> Result<(), Fail> {
+    let heap = LocalHeap::new(rt.alloc(), 4000)?;
+    let mut desk = Desk::new(&heap, TokenTable::new(99), 5_u64);
+    let reserved = desk.reserve(1) == Ok(());
+    let hoard = hoard(&heap);
+    let (guard, fault) = first_refused(&mut desk);
+    all_right(
+        &rt,
+        &[
+            reserved & (guard > 1),
+            fault == Err(DeskFault::NoMemory),
+            desk.held(guard) == None,
+            desk.unlock(1, guard) == Err(DeskFault::NoSuchGuard),
+            desk.reserve(1) == Err(DeskFault::NoMemory),
+            desk.held(1) == Some((Mode::Shared, 1)),
+            desk.read_value(1, 1) == Ok(&5),
+            desk.unlock(1, 1) == Ok(()),
+            desk.read(1, guard) == Ok(()),
+            desk.held(guard) == Some((Mode::Shared, 1)),
+        ],
+    );
+    drop(hoard);
+    all_right(&rt, &[desk.read(1, 1) == Ok(()), *desk.value() == 5]);
     Ok(())
 }
