@@ -22,7 +22,8 @@ fn put<K: Copy + Eq + Hash, V: Copy + Eq, A: Allocator + Clone>(
     value: V,
 ) -> Result<Option<V>, NoMemory>
     ensures old { IfOk result (λ old. old ≡ option_map (λ p. p.1) (found K.eq shard.old hash key)) }
-    ensures after { OnOk result ((h : ℕ) (q : K) → found K.eq shard.new h q ≡ after_under K.eq V.eq hash (Insert key value) (found K.eq shard.old) h q) }
+    ensures after { OnOk result ((h : ℕ) (q : K) →
+        found K.eq shard.new h q ≡ after_under K.eq V.eq hash (Insert key value) (found K.eq shard.old) h q) }
     ensures refused { OnErr result ((shard.new ≡ shard.old) × (shard.old.room ≤ count shard.old.slots)) }
 {
     match shard.insert(hash, key, value) {
@@ -81,7 +82,8 @@ fn replace_if<K: Copy + Eq + Hash, V: Copy + Eq, A: Allocator + Clone>(
     value: V,
 ) -> Result<bool, NoMemory>
     ensures flag { IfOk result (λ is. is ≡ has_value V.eq seen (found K.eq shard.old hash key)) }
-    ensures after { OnOk result ((h : ℕ) (q : K) → found K.eq shard.new h q ≡ after_under K.eq V.eq hash (ReplaceIf key seen value) (found K.eq shard.old) h q) }
+    ensures after { OnOk result ((h : ℕ) (q : K) →
+        found K.eq shard.new h q ≡ after_under K.eq V.eq hash (ReplaceIf key seen value) (found K.eq shard.old) h q) }
     ensures refused { OnErr result ((shard.new ≡ shard.old) × (shard.old.room ≤ count shard.old.slots)) }
 {
     if !has_value(shard, hash, &key, &seen) {
@@ -98,7 +100,8 @@ pub(crate) fn answer<K: Copy + Eq + Hash, V: Copy + Eq, A: Allocator + Clone>(
     call: &Call<K, V>,
 ) -> Result<CallReply<K, V>, NoMemory>
     ensures reply { IfOk result (λ reply. reply ≡ told V.eq call.now (found K.eq shard.old hash (key_of call.now))) }
-    ensures after { OnOk result ((h : ℕ) (q : K) → found K.eq shard.new h q ≡ after_under K.eq V.eq hash call.now (found K.eq shard.old) h q) }
+    ensures after { OnOk result ((h : ℕ) (q : K) →
+        found K.eq shard.new h q ≡ after_under K.eq V.eq hash call.now (found K.eq shard.old) h q) }
     ensures refused { OnErr result ((shard.new ≡ shard.old) × (shard.old.room ≤ count shard.old.slots)) }
 {
     match *call {

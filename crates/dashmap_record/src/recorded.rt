@@ -1,5 +1,6 @@
 //! The recorded map.
-ghost use Rattle.std.specs.Prelude.{◌≡◌, ◌+◌, ◌^◌, ◌≤◌, ◌<◌, ◌↔◌, ◌≢◌, List, length, Err, IsTrue, IsNone, IfSome, IfOk, IfErr};
+ghost use Rattle.std.specs.Prelude.{◌≡◌, ◌+◌, ◌^◌, ◌≤◌, ◌<◌, ◌↔◌, ◌≢◌, List, length};
+ghost use Rattle.std.specs.Prelude.{Err, IsTrue, IsNone, IfSome, IfOk, IfErr};
 ghost use Rattle.std.specs.List.{All};
 ghost use Rattle.dashmap_table.specs.Route.{IsShardAmount, route_of};
 ghost use Rattle.dashmap_table.specs.Shards.{key_hash};
@@ -149,7 +150,9 @@ where
         td: &mut Q::Party,
     ) -> Result<CallReply<K, V>, RecordFault>
         ensures reply { IfOk result (IsReply K.eq V.eq call) }
-        ensures log { IfOk result (Logs caller.old caller.new (shard_of S.BuildHasher S.Hasher.Hasher K.hash_input self.now (key_of call)) (key_hash S.BuildHasher S.Hasher.Hasher K.hash_input self.now.hasher (key_of call)) call) }
+        ensures log { let hash = key_hash S.BuildHasher S.Hasher.Hasher K.hash_input self.now.hasher (key_of call) in
+            let shard = shard_of S.BuildHasher S.Hasher.Hasher K.hash_input self.now (key_of call) in
+            IfOk result (Logs caller.old caller.new shard hash call) }
         ensures refused { IfErr result (λ _. IsStill caller.old caller.new) }
         ensures spent { 2 ^ 64 ≤ caller.old.log.last + 1 → result ≡ Err StampsSpent }
     {
@@ -167,7 +170,9 @@ where
         caller: &mut Caller<K, V, A>,
         td: &mut Q::Party,
     ) -> Result<Option<V>, RecordFault>
-        ensures log { IfOk result (λ old. Logs caller.old caller.new (shard_of S.BuildHasher S.Hasher.Hasher K.hash_input self.now key) (key_hash S.BuildHasher S.Hasher.Hasher K.hash_input self.now.hasher key) (Call.Insert key value) (value_reply old)) }
+        ensures log { let hash = key_hash S.BuildHasher S.Hasher.Hasher K.hash_input self.now.hasher key in
+            let shard = shard_of S.BuildHasher S.Hasher.Hasher K.hash_input self.now key in
+            IfOk result (λ old. Logs caller.old caller.new shard hash (Call.Insert key value) (value_reply old)) }
         ensures refused { IfErr result (λ _. IsStill caller.old caller.new) }
         ensures spent { 2 ^ 64 ≤ caller.old.log.last + 1 → result ≡ Err StampsSpent }
     {
@@ -182,7 +187,9 @@ where
         caller: &mut Caller<K, V, A>,
         td: &mut Q::Party,
     ) -> Result<Option<(K, V)>, RecordFault>
-        ensures log { IfOk result (λ pair. Logs caller.old caller.new (shard_of S.BuildHasher S.Hasher.Hasher K.hash_input self.now key.now) (key_hash S.BuildHasher S.Hasher.Hasher K.hash_input self.now.hasher key.now) (Call.Remove key.now) (pair_reply pair)) }
+        ensures log { let hash = key_hash S.BuildHasher S.Hasher.Hasher K.hash_input self.now.hasher key.now in
+            let shard = shard_of S.BuildHasher S.Hasher.Hasher K.hash_input self.now key.now in
+            IfOk result (λ pair. Logs caller.old caller.new shard hash (Call.Remove key.now) (pair_reply pair)) }
         ensures equal { IfOk result (λ pair. IfSome pair (λ p. IsTrue (K.eq p.0 key.now))) }
         ensures refused { IfErr result (λ _. IsStill caller.old caller.new) }
         ensures spent { 2 ^ 64 ≤ caller.old.log.last + 1 → result ≡ Err StampsSpent }
@@ -198,7 +205,9 @@ where
         caller: &mut Caller<K, V, A>,
         td: &mut Q::Party,
     ) -> Result<Option<V>, RecordFault>
-        ensures log { IfOk result (λ value. Logs caller.old caller.new (shard_of S.BuildHasher S.Hasher.Hasher K.hash_input self.now key.now) (key_hash S.BuildHasher S.Hasher.Hasher K.hash_input self.now.hasher key.now) (Call.GetCopied key.now) (value_reply value)) }
+        ensures log { let hash = key_hash S.BuildHasher S.Hasher.Hasher K.hash_input self.now.hasher key.now in
+            let shard = shard_of S.BuildHasher S.Hasher.Hasher K.hash_input self.now key.now in
+            IfOk result (λ value. Logs caller.old caller.new shard hash (Call.GetCopied key.now) (value_reply value)) }
         ensures refused { IfErr result (λ _. IsStill caller.old caller.new) }
         ensures spent { 2 ^ 64 ≤ caller.old.log.last + 1 → result ≡ Err StampsSpent }
     {
@@ -215,7 +224,9 @@ where
         caller: &mut Caller<K, V, A>,
         td: &mut Q::Party,
     ) -> Result<bool, RecordFault>
-        ensures log { IfOk result (λ is. Logs caller.old caller.new (shard_of S.BuildHasher S.Hasher.Hasher K.hash_input self.now key.now) (key_hash S.BuildHasher S.Hasher.Hasher K.hash_input self.now.hasher key.now) (Call.ReplaceIf key.now seen value) (CallReply.Flag is)) }
+        ensures log { let hash = key_hash S.BuildHasher S.Hasher.Hasher K.hash_input self.now.hasher key.now in
+            let shard = shard_of S.BuildHasher S.Hasher.Hasher K.hash_input self.now key.now in
+            IfOk result (λ is. Logs caller.old caller.new shard hash (Call.ReplaceIf key.now seen value) (CallReply.Flag is)) }
         ensures refused { IfErr result (λ _. IsStill caller.old caller.new) }
         ensures spent { 2 ^ 64 ≤ caller.old.log.last + 1 → result ≡ Err StampsSpent }
     {
@@ -233,7 +244,8 @@ where
     ) -> Option<U>
         requires { F.IsAlwaysCallable f }
         ensures none { IsNone result ↔ (self.now.shards ≤ number) }
-        ensures answer { IfSome result (λ answer. (history : List (Entered K V)) × IsTrue (rises history) × Replies K.eq V.eq (no_pair K V) history × AnswersOf F.FnOnce f history answer) }
+        ensures answer { IfSome result (λ answer. (history : List (Entered K V)) × IsTrue (rises history) × Replies K.eq V.eq (no_pair K V) history
+            × AnswersOf F.FnOnce f history answer) }
     {
         let shard = self.shards.get(number)?.write(td);
         Some(f(shard.history()))

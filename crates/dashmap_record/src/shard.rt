@@ -63,17 +63,24 @@ impl<K: Copy + Eq + Hash, V: Copy + Eq, A: Allocator + Clone> RecordingShard<K, 
     ) -> Result<CallReply<K, V>, RecordFault>
         // The reply is that of the call on what the shard has, and this is what the shard has afterwards.
         ensures reply { IfOk result (λ reply. reply ≡ told V.eq call (found K.eq self.old.table hash (key_of call))) }
-        ensures after { OnOk result ((h : ℕ) (q : K) → found K.eq self.new.table h q ≡ after_under K.eq V.eq hash call (found K.eq self.old.table) h q) }
+        ensures after { OnOk result ((h : ℕ) (q : K) →
+            found K.eq self.new.table h q ≡ after_under K.eq V.eq hash call (found K.eq self.old.table) h q) }
 
         // One and the same entry is added to the log and to the history.
-        ensures log { IfOk result (λ reply. SameNotes (with_entry caller.old.log (written caller.old.number (max caller.old.log.last self.old.history.last + 1) number hash call reply)) caller.new.log) }
-        ensures history { IfOk result (λ reply. SameNotes (with_entry self.old.history (written caller.old.number (max caller.old.log.last self.old.history.last + 1) number hash call reply)) self.new.history) }
+        ensures log { let stamp = max caller.old.log.last self.old.history.last + 1 in
+            IfOk result (λ reply.
+            SameNotes (with_entry caller.old.log (written caller.old.number stamp number hash call reply)) caller.new.log) }
+        ensures history { let stamp = max caller.old.log.last self.old.history.last + 1 in
+            IfOk result (λ reply.
+            SameNotes (with_entry self.old.history (written caller.old.number stamp number hash call reply)) self.new.history) }
         ensures caller { caller.new.number ≡ caller.old.number }
 
         // A refused call adds and changes nothing.
-        ensures refused { OnErr result ((self.new.table ≡ self.old.table) × SameNotes self.old.history self.new.history × SameNotes caller.old.log caller.new.log) }
+        ensures refused { OnErr result ((self.new.table ≡ self.old.table)
+            × SameNotes self.old.history self.new.history × SameNotes caller.old.log caller.new.log) }
         ensures spent { (result ≡ Err StampsSpent) ↔ (2 ^ 64 ≤ max caller.old.log.last self.old.history.last + 1) }
-        ensures full { result ≡ Err NoMemory → IsSpent caller.old.log ⊎ (IsSpent self.old.history ⊎ (self.old.table.room ≤ count self.old.table.slots)) }
+        ensures full { result ≡ Err NoMemory →
+            IsSpent caller.old.log ⊎ (IsSpent self.old.history ⊎ (self.old.table.room ≤ count self.old.table.slots)) }
     {
         let Some(stamp) = next_stamp(caller.last(), self.history.last()) else {
             return Err(RecordFault::StampsSpent);

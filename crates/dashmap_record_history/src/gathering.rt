@@ -20,7 +20,8 @@ fn mismatch<K: Eq + Hash, V: PartialEq, S: BuildHasher, A: Allocator>(
     logs: &[List<K, V, A>],
     hasher: &S,
 ) -> Option<GatherFault>
-    ensures { result ≡ first_mismatch K.eq V.eq (key_hash S.BuildHasher S.Hasher.Hasher K.hash_input hasher.now) (map (λ list. list.items) histories.now) (map (λ list. list.items) logs.now) }
+    ensures { let hash = key_hash S.BuildHasher S.Hasher.Hasher K.hash_input hasher.now in
+        result ≡ first_mismatch K.eq V.eq hash (map (λ list. list.items) histories.now) (map (λ list. list.items) logs.now) }
 {
     if !all_rise(histories) {
         return Some(GatherFault::StampOrder);
@@ -50,7 +51,8 @@ fn fault_of<K: Copy + Eq + Hash, V: Copy + Eq, S: BuildHasher, A: Allocator + Cl
     logs: &[List<K, V, A>],
     hasher: &S,
 ) -> Result<Option<GatherFault>, NoMemory>
-    ensures { IfOk result (λ fault. fault ≡ first_fault K.eq V.eq (key_hash S.BuildHasher S.Hasher.Hasher K.hash_input hasher.now) (map (λ list. list.items) histories.now) (map (λ list. list.items) logs.now)) }
+    ensures { let hash = key_hash S.BuildHasher S.Hasher.Hasher K.hash_input hasher.now in
+        IfOk result (λ fault. fault ≡ first_fault K.eq V.eq hash (map (λ list. list.items) histories.now) (map (λ list. list.items) logs.now)) }
 {
     if let Some(fault) = mismatch(histories, logs, hasher) {
         return Ok(Some(fault));
@@ -79,7 +81,8 @@ fn all_of<K: Copy, V: Copy, A: Allocator>(
 /// Puts entries in order of stamp, then of shard.
 fn sort<K: Copy, V: Copy>(entries: &mut [Entered<K, V>])
     ensures moved { IsPermutation entries.old entries.new }
-    ensures sorted { (k : ℕ) (d : _) → k + 1 < length entries.new → IsUpTo (slice_index_or entries.new k d) (slice_index_or entries.new (k + 1) d) }
+    ensures sorted { (k : ℕ) (d : _) → k + 1 < length entries.new →
+        IsUpTo (slice_index_or entries.new k d) (slice_index_or entries.new (k + 1) d) }
 {
     entries.sort_unstable_by_key(|entry| (entry.stamp, entry.shard));
 }
@@ -90,7 +93,8 @@ fn merged<K: Copy, V: Copy, A: Allocator>(
     histories: &[List<K, V, A>],
 ) -> Result<Vec<Entered<K, V>, A>, NoMemory>
     ensures moved { IfOk result (λ all. IsPermutation (flat_map (λ history. history.items) histories.now) all.items) }
-    ensures sorted { IfOk result (λ all. (k : ℕ) (d : _) → k + 1 < length all.items → IsUpTo (slice_index_or all.items k d) (slice_index_or all.items (k + 1) d)) }
+    ensures sorted { IfOk result (λ all. (k : ℕ) (d : _) → k + 1 < length all.items →
+        IsUpTo (slice_index_or all.items k d) (slice_index_or all.items (k + 1) d)) }
 {
     let mut all = all_of(alloc, histories)?;
     sort(&mut all);
@@ -105,13 +109,18 @@ fn gathered<K: Copy + Eq + Hash, V: Copy + Eq, S: BuildHasher, A: Allocator + Cl
     hasher: &S,
 ) -> Result<Vec<Entered<K, V>, A>, GatherFault>
     // They belong together, and these are all entries.
-    ensures matched { IfOk result (λ all. (first_fault K.eq V.eq (key_hash S.BuildHasher S.Hasher.Hasher K.hash_input hasher.now) (map (λ list. list.items) histories.now) (map (λ list. list.items) logs.now) ≡ None) × IsMerge (map (λ list. list.items) histories.now) all.items) }
+    ensures matched { let hash = key_hash S.BuildHasher S.Hasher.Hasher K.hash_input hasher.now in
+        IfOk result (λ all. (first_fault K.eq V.eq hash (map (λ list. list.items) histories.now) (map (λ list. list.items) logs.now) ≡ None)
+        × IsMerge (map (λ list. list.items) histories.now) all.items) }
 
     // They are a legal history of one plain map, in each shard's and each caller's order.
-    ensures legal { IfOk result (λ all. IsLegal K.eq V.eq (map (λ list. list.items) histories.now) (map (λ list. list.items) logs.now) all.items) }
+    ensures legal { IfOk result (λ all.
+        IsLegal K.eq V.eq (map (λ list. list.items) histories.now) (map (λ list. list.items) logs.now) all.items) }
 
     // They don't belong together, and this is the first clause that fails.
-    ensures fault { IfErr result (λ fault. (fault ≡ GatherFault.NoMemory) ⊎ (first_fault K.eq V.eq (key_hash S.BuildHasher S.Hasher.Hasher K.hash_input hasher.now) (map (λ list. list.items) histories.now) (map (λ list. list.items) logs.now) ≡ Some fault)) }
+    ensures fault { let hash = key_hash S.BuildHasher S.Hasher.Hasher K.hash_input hasher.now in
+        IfErr result (λ fault. (fault ≡ GatherFault.NoMemory)
+        ⊎ (first_fault K.eq V.eq hash (map (λ list. list.items) histories.now) (map (λ list. list.items) logs.now) ≡ Some fault)) }
 {
     match fault_of(alloc.clone()?, histories, logs, hasher)? {
         Some(fault) => Err(fault),
@@ -136,13 +145,18 @@ pub fn gather<K: Copy + Eq + Hash, V: Copy + Eq, S: BuildHasher, A: Allocator + 
     hasher: &S,
 ) -> Result<Vec<Entered<K, V>, A>, GatherFault>
     // They belong together, and these are all entries.
-    ensures matched { IfOk result (λ all. (first_fault K.eq V.eq (key_hash S.BuildHasher S.Hasher.Hasher K.hash_input hasher.now) (map (λ list. list.items) histories.items) (map (λ list. list.items) logs.items) ≡ None) × IsMerge (map (λ list. list.items) histories.items) all.items) }
+    ensures matched { let hash = key_hash S.BuildHasher S.Hasher.Hasher K.hash_input hasher.now in
+        IfOk result (λ all. (first_fault K.eq V.eq hash (map (λ list. list.items) histories.items) (map (λ list. list.items) logs.items) ≡ None)
+        × IsMerge (map (λ list. list.items) histories.items) all.items) }
 
     // They are a legal history of one plain map, in each shard's and each caller's order.
-    ensures legal { IfOk result (λ all. IsLegal K.eq V.eq (map (λ list. list.items) histories.items) (map (λ list. list.items) logs.items) all.items) }
+    ensures legal { IfOk result (λ all.
+        IsLegal K.eq V.eq (map (λ list. list.items) histories.items) (map (λ list. list.items) logs.items) all.items) }
 
     // They don't belong together, and this is the first clause that fails.
-    ensures fault { IfErr result (λ fault. (fault ≡ GatherFault.NoMemory) ⊎ (first_fault K.eq V.eq (key_hash S.BuildHasher S.Hasher.Hasher K.hash_input hasher.now) (map (λ list. list.items) histories.items) (map (λ list. list.items) logs.items) ≡ Some fault)) }
+    ensures fault { let hash = key_hash S.BuildHasher S.Hasher.Hasher K.hash_input hasher.now in
+        IfErr result (λ fault. (fault ≡ GatherFault.NoMemory)
+        ⊎ (first_fault K.eq V.eq hash (map (λ list. list.items) histories.items) (map (λ list. list.items) logs.items) ≡ Some fault)) }
 {
     gathered(alloc, &histories, &logs, hasher)
 }

@@ -83,7 +83,8 @@ pub(crate) fn are_logged<K: PartialEq, V: PartialEq, A: Allocator>(
     logs: &[List<K, V, A>],
 ) -> bool
     requires { IsTrue (all_rise (map (λ list. list.items) logs.now)) }
-    ensures { result ≡ list_all (λ history. list_all (λ e. is_in K.eq V.eq (map (λ list. list.items) logs.now) e.caller e) history.items) histories.now }
+    ensures { let logs = map (λ list. list.items) logs.now in
+        result ≡ list_all (λ history. list_all (λ e. is_in K.eq V.eq logs e.caller e) history.items) histories.now }
 {
     for history in histories {
         if !is_logged(history, logs) {
@@ -177,7 +178,8 @@ pub(crate) fn are_hashed<K: Eq + Hash, V, S: BuildHasher, A: Allocator>(
     histories: &[List<K, V, A>],
     hasher: &S,
 ) -> bool
-    ensures { result ≡ list_all (λ history. list_all (λ e. e.hash == key_hash S.BuildHasher S.Hasher.Hasher K.hash_input hasher.now (key_of e.call)) history.items) histories.now }
+    ensures { let hash = key_hash S.BuildHasher S.Hasher.Hasher K.hash_input hasher.now in
+        result ≡ list_all (λ history. list_all (λ e. e.hash == hash (key_of e.call)) history.items) histories.now }
 {
     for history in histories {
         if !is_hashed(history, hasher) {

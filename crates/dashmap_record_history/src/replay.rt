@@ -47,8 +47,10 @@ fn insert<K: Eq + Hash + Drop, V: Drop, S: BuildHasher, A: Allocator + Clone>(
     key: K,
     value: V,
 ) -> Result<CallReply<K, V>, NoMemory>
-    ensures reply { IfOk result (λ reply. reply ≡ value_told (pair_at S.BuildHasher S.Hasher.Hasher K.hash_input K.eq map.old key)) }
-    ensures after { IfOk result (λ _. (q : K) → pair_at S.BuildHasher S.Hasher.Hasher K.hash_input K.eq map.new q ≡ with_value_at K.eq key value (pair_at S.BuildHasher S.Hasher.Hasher K.hash_input K.eq map.old) q) }
+    ensures reply { IfOk result (λ reply.
+        reply ≡ value_told (pair_at S.BuildHasher S.Hasher.Hasher K.hash_input K.eq map.old key)) }
+    ensures after { let at = pair_at S.BuildHasher S.Hasher.Hasher K.hash_input K.eq in
+        IfOk result (λ _. (q : K) → at map.new q ≡ with_value_at K.eq key value (at map.old) q) }
 {
     match map.insert(key, value) {
         Ok(Some(old)) => Ok(CallReply::Value(old)),
@@ -78,8 +80,10 @@ fn replace_if<K: Eq + Hash + Drop, V: Copy + Eq, S: BuildHasher, A: Allocator + 
     seen: V,
     value: V,
 ) -> Result<bool, NoMemory>
-    ensures flag { IfOk result (λ is. is ≡ has_value V.eq seen (pair_at S.BuildHasher S.Hasher.Hasher K.hash_input K.eq map.old key)) }
-    ensures after { IfOk result (λ _. (q : K) → pair_at S.BuildHasher S.Hasher.Hasher K.hash_input K.eq map.new q ≡ after K.eq V.eq (ReplaceIf key seen value) (pair_at S.BuildHasher S.Hasher.Hasher K.hash_input K.eq map.old) q) }
+    ensures flag { IfOk result (λ is.
+        is ≡ has_value V.eq seen (pair_at S.BuildHasher S.Hasher.Hasher K.hash_input K.eq map.old key)) }
+    ensures after { let at = pair_at S.BuildHasher S.Hasher.Hasher K.hash_input K.eq in
+        IfOk result (λ _. (q : K) → at map.new q ≡ after K.eq V.eq (ReplaceIf key seen value) (at map.old) q) }
 {
     if !has_value(map, &key, &seen) {
         return Ok(false);
@@ -93,8 +97,10 @@ fn answer<K: Copy + Eq + Hash, V: Copy + Eq, S: BuildHasher, A: Allocator + Clon
     map: &mut Shards<K, V, S, A>,
     call: &Call<K, V>,
 ) -> Result<CallReply<K, V>, NoMemory>
-    ensures reply { IfOk result (λ reply. reply ≡ told V.eq call.now (pair_at S.BuildHasher S.Hasher.Hasher K.hash_input K.eq map.old (key_of call.now))) }
-    ensures after { IfOk result (λ _. (q : K) → pair_at S.BuildHasher S.Hasher.Hasher K.hash_input K.eq map.new q ≡ after K.eq V.eq call.now (pair_at S.BuildHasher S.Hasher.Hasher K.hash_input K.eq map.old) q) }
+    ensures reply { IfOk result (λ reply.
+        reply ≡ told V.eq call.now (pair_at S.BuildHasher S.Hasher.Hasher K.hash_input K.eq map.old (key_of call.now))) }
+    ensures after { let at = pair_at S.BuildHasher S.Hasher.Hasher K.hash_input K.eq in
+        IfOk result (λ _. (q : K) → at map.new q ≡ after K.eq V.eq call.now (at map.old) q) }
 {
     match *call {
         Call::Insert(key, value) => insert(map, key, value),
@@ -117,7 +123,8 @@ fn replies_hold<K: Copy + Eq + Hash, V: Copy + Eq, S: BuildHasher, A: Allocator 
     map: &mut Shards<K, V, S, A>,
     history: &[Entered<K, V>],
 ) -> Result<bool, NoMemory>
-    ensures { IfOk result (λ hold. hold ≡ replies_hold K.eq V.eq (pair_at S.BuildHasher S.Hasher.Hasher K.hash_input K.eq map.old) history.now) }
+    ensures { let at = pair_at S.BuildHasher S.Hasher.Hasher K.hash_input K.eq in
+        IfOk result (λ hold. hold ≡ replies_hold K.eq V.eq (at map.old) history.now) }
 {
     for entry in history {
         let reply = answer(map, &entry.call)?;

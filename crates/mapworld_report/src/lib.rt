@@ -1,4 +1,5 @@
-//! The report: a world of two threads that insert, read and remove, its replies and its contents.
+//! The report: a world of two threads that insert, read and remove, its replies and its contents, and what two callers in threads
+//! of their own leave behind.
 #![tactic(auto)]
 
 ghost use Rattle.mapworld_report.specs.Report.{LeavesOnFault};
@@ -7,8 +8,11 @@ use mapworld::{
     Answer, Ask, Begin, Deed, Held, Keyed, MapWorld, NoMemory, Reply, RunFault, SpreadState, Step,
     WorldNewFault,
 };
-use std::alloc::{AllocError, AllocFailed, Allocator};
+use mapworld_callers::{CallersFault, gathered};
+use std::alloc::{AllocError, AllocFailed, Allocator, Global};
 use std::io;
+use std::sync::Wait;
+use std::thread::Threads;
 
 /// Why a report ended early.
 #[derive(Debug, Drop)]
@@ -42,6 +46,15 @@ impl From<NoMemory> for ReportFault {
         ReportFault::Fault {
             code: fault.code(),
             name: "NoMemory",
+        }
+    }
+}
+
+impl From<CallersFault> for ReportFault {
+    fn from(fault: CallersFault) -> ReportFault {
+        ReportFault::Fault {
+            code: fault.code(),
+            name: fault.name(),
         }
     }
 }
@@ -90,10 +103,14 @@ type World<A> = MapWorld<u64, u64, SpreadState, ReadValue, A>;
 
 type Program<A> = Vec<Ask<u64, u64, ReadValue>, A>;
 
-/// Writes the replies by thread and call, and then the contents by key. The whole text is made first, so on a fault
-/// nothing is written.
-pub fn report<A: Allocator + Clone + Drop, W: io::Write>(
+/// Writes the replies by thread and call, then the contents by key, and last how many calls of two callers in threads are gathered.
+/// The whole text is made first, so on a fault nothing is written.
+///
+/// The world and the text lie in memory of `alloc`, and what the callers share in that of `shared`.
+pub fn report<R: Threads + Wait + Sync + Copy, A: Allocator + Clone + Drop, W: io::Write>(
+    rt: R,
     alloc: A,
+    shared: Global,
     out: &mut W,
 ) -> Result<(), ReportFault>
     ensures { LeavesOnFault result out.old out.new }
@@ -102,7 +119,8 @@ pub fn report<A: Allocator + Clone + Drop, W: io::Write>(
     run_once(&mut world, 0)?;
     run_through(&mut world, 1)?;
     run_through(&mut world, 0)?;
-    let text = told(&alloc, &world)?;
+    let mut text = told(&alloc, &world)?;
+    writeln!(text, "gathered: {} entries", gathered(rt, shared)?)?;
     out.write_all(text.as_bytes())
         .map_err(|_| ReportFault::Write)
 }

@@ -1,4 +1,5 @@
-//! One small world of a map under two threads, run by one schedule, and what came out of it.
+//! One small world of a map under two threads, run by one schedule, and two callers of a recorded map in threads of their own: what
+//! came out of it.
 #![tactic(auto)]
 
 pub use mapworld_report::{ReportFault, report};
@@ -7,7 +8,7 @@ use std::process::ExitCode;
 
 /// Prints the report. A fault is told on standard error; a failed write is not, since nobody may be listening.
 fn main(rt: HostRuntime) -> ExitCode {
-    match report(rt.alloc(), &mut io::writer(&rt)) {
+    match report(rt, rt.alloc(), rt.alloc(), &mut io::writer(&rt)) {
         Ok(()) => ExitCode::SUCCESS,
         Err(fault) => {
             if let ReportFault::Fault { code, name } = fault {

@@ -20,19 +20,24 @@ impl io::Write for Closed {
 }
 
 const TEXT: &str =
-    "thread 0 call 0: value 20\nthread 0 call 1: held\nthread 0 call 2: value 10\nthread 0 call 3: done\nthread 1 call 0: none\nthread 1 call 1: none\npair 1: 10\n";
+    "thread 0 call 0: value 20\nthread 0 call 1: held\nthread 0 call 2: value 10\nthread 0 call 3: done\nthread 1 call 0: none\nthread 1 call 1: none\npair 1: 10\ngathered: 8 entries\n";
 
 #[test]
 fn a_report_tells_replies_and_contents(rt: HostRuntime) -> Result<(), Fail> {
     let mut out = Vec::new(rt.alloc());
-    assert!(rt; report(rt.alloc(), &mut out).is_ok());
+    assert!(rt; report(rt, rt.alloc(), rt.alloc(), &mut out).is_ok());
     assert!(rt; out.as_slice() == TEXT.as_bytes());
     Ok(())
 }
 
 #[test]
 fn a_writer_that_fails_ends_the_report(rt: HostRuntime) {
-    assert!(rt; matches!(report(rt.alloc(), &mut Closed), Err(ReportFault::Write)));
+    assert!(rt;
+        matches!(
+            report(rt, rt.alloc(), rt.alloc(), &mut Closed),
+            Err(ReportFault::Write)
+        )
+    );
 }
 
 #[test]
@@ -42,7 +47,7 @@ fn a_report_without_memory_writes_nothing(rt: HostRuntime) -> Result<(), Fail> {
     for size in 0..600 {
         let heap = LocalHeap::new(rt.alloc(), size * 16)?;
         let mut out = Vec::new(rt.alloc());
-        match report(&heap, &mut out) {
+        match report(rt, &heap, rt.alloc(), &mut out) {
             Ok(()) => {
                 has_told = true;
                 assert!(rt; out.as_slice() == TEXT.as_bytes());
