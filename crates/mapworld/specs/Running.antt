@@ -32,12 +32,13 @@ abbrev pub status_before : {K V D T A : Type 0} → List (Place K V D T A) → �
 status_before places left shard phase.Rest = if left == 0 then status.Finished else status.Running
 status_before places left shard (phase.Admit r) = if is_excluded places shard (mode_of r) then status.Asleep else status.Running
 status_before places left shard (phase.Find r) = status.Running
-status_before places left shard (phase.Grow k v) = status.Running
+status_before places left shard (phase.Grow c) = status.Running
 status_before places left shard (phase.Append k v) = status.Running
 status_before places left shard (phase.Apply i k) = status.Running
 status_before places left shard (phase.View i k d) = status.Running
 status_before places left shard (phase.Read d) = status.Running
-status_before places left shard (phase.Write d) = status.Running
+status_before places left shard (phase.Change h) = status.Running
+status_before places left shard (phase.Fill v) = status.Running
 status_before places left shard phase.Downgrade = status.Running
 status_before places left shard (phase.Release a) = status.Running
 status_before places left shard (phase.Answer a) = status.Running

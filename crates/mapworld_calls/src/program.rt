@@ -35,7 +35,7 @@ pub fn holds_one_guard<K, V, D>(program: &[Ask<K, V, D>]) -> bool
                 held = true;
             }
             Ask::Held(Held::Drop) => held = false,
-            Ask::Held(Held::Read(_) | Held::Write(_) | Held::Downgrade) => {}
+            Ask::Held(_) => {}
         }
     }
     !held

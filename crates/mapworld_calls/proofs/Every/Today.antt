@@ -9,6 +9,7 @@ use Rattle.mapworld_calls.specs.declared.ask.Ask.{Ask}
 use Rattle.mapworld_calls.specs.declared.ask.Ask.TheVariants as ask
 use Rattle.mapworld_calls.specs.declared.ask.Keyed.{Keyed}
 use Rattle.mapworld_calls.specs.declared.ask.Keyed.TheVariants as keyed
+use Rattle.mapworld_calls.specs.declared.ask.Begin.{Begin}
 use Rattle.mapworld_calls.specs.declared.ask.Begin.TheVariants as begin
 use Rattle.mapworld_calls.specs.declared.ask.Held.{Held}
 use Rattle.mapworld_calls.specs.declared.ask.Held.TheVariants as held
@@ -16,7 +17,7 @@ use Rattle.mapworld_calls.specs.declared.block.Block.{Block}
 use Rattle.mapworld_calls.specs.declared.reply.Answer.{Answer}
 use Rattle.mapworld_calls.specs.declared.reply.Answer.TheVariants as answer
 use Rattle.mapworld_calls.specs.declared.reply.Reply.{Reply}
-use Rattle.mapworld_calls.specs.Programs.{keyed_key, opening_key, key_of, may_grow, session_behind, opening_before}
+use Rattle.mapworld_calls.specs.Programs.{keyed_key, opening_key, key_of, may_grow, opening_may_grow, session_behind, opening_before}
 use Rattle.mapworld_calls.specs.Calls as today
 use Rattle.mapworld_calls.specs.Setup.{Setup, ask_at, session_of}
 use Rattle.mapworld_calls.specs.Pairs.{opening_pair}
@@ -24,12 +25,13 @@ use Rattle.mapworld_calls.specs.Replay.{after_ask, reached, block_key, is_key, l
 use Rattle.mapworld_calls.specs.Agrees as agrees
 use Rattle.mapworld_calls.specs.Placed as placed
 use Rattle.mapworld_calls.specs.Every.Ask.{Ask as AnyAsk}
+use Rattle.mapworld_calls.specs.Every.Answer as any_answer
 use Rattle.mapworld_calls.specs.Every.Calls as every
 use Rattle.mapworld_calls.specs.Every.Setup as every_setup
 use Rattle.mapworld_calls.specs.Every.Replay as every_replay
 use Rattle.mapworld_calls.specs.Every.Agrees as every_agrees
 use Rattle.mapworld_calls.specs.Every.Placed as every_placed
-use Rattle.mapworld_calls.specs.Every.Today.{as_keyed, as_held, as_ask, as_answer, as_reply, as_setup}
+use Rattle.mapworld_calls.specs.Every.Today.{as_keyed, as_begin, as_held, as_ask, as_answer, as_reply, as_setup}
 
 -- the calls of the same numbers
 
@@ -54,6 +56,12 @@ behind c (Some (ask.Begin b)) s = refl
 behind c (Some (ask.Held (held.Read d))) s = refl
 behind c (Some (ask.Held (held.Write d))) s = refl
 behind c (Some (ask.Held held.Downgrade)) s = refl
+behind c (Some (ask.Held (held.Insert v))) s = refl
+behind c (Some (ask.Held held.IntoRef)) s = refl
+behind c (Some (ask.Held held.Remove)) s = refl
+behind c (Some (ask.Held held.RemoveEntry)) s = refl
+behind c (Some (ask.Held (held.ReplaceEntry v))) s = refl
+behind c (Some (ask.Held held.IntoKey)) s = refl
 behind c (Some (ask.Held held.Drop)) s = refl
 
 opening-before : {K V D : Type 0} (p : List (Ask K V D)) (c : ℕ) → every_setup.opening_before (map as_ask p) c ≡ opening_before p c
@@ -77,11 +85,23 @@ abbrev as_at : {K V : Type 0} → today.At K V → every.At K V
 as_at (today.free o) = every.free o
 as_at (today.shared p) = every.shared p
 as_at (today.exclusive p) = every.exclusive p
+as_at (today.occupied k p) = every.occupied p
+as_at (today.vacant k) = every.vacant
 
 pair-as : {K V : Type 0} (s : today.At K V) → every.pair_in (as_at s) ≡ today.pair_in s
 pair-as (today.free o) = refl
 pair-as (today.shared p) = refl
 pair-as (today.exclusive p) = refl
+pair-as (today.occupied k p) = refl
+pair-as (today.vacant k) = refl
+
+-- an entry's guard has the key that its opening was handed
+abbrev Handed : {K V : Type 0} → K → today.At K V → Type 0
+Handed key (today.free o) = Unit {0}
+Handed key (today.shared p) = Unit {0}
+Handed key (today.exclusive p) = Unit {0}
+Handed key (today.occupied k p) = k ≡ key
+Handed key (today.vacant k) = k ≡ key
 
 keyed-key-as : {K V D : Type 0} (k : Keyed K V D) → every_setup.keyed_key (as_keyed k) ≡ keyed_key k
 keyed-key-as (keyed.Insert k v) = refl
@@ -96,6 +116,7 @@ work-as : {K V D : Type 0} (a : Ask K V D) (key : K) → key_of a ≡ Some key �
 work-as (ask.Keyed k) key is = ap every_replay.one (keyed-key-as k ∙ same_Some (keyed_key k) key is)
 work-as (ask.Begin (begin.Get k)) key is = ap every_replay.one (same_Some k key is)
 work-as (ask.Begin (begin.GetMut k)) key is = ap every_replay.one (same_Some k key is)
+work-as (ask.Begin (begin.Entry k)) key is = ap every_replay.one (same_Some k key is)
 work-as (ask.Held h) key is = absurd (none-some key is)
 
 -- an answer by a test
@@ -120,6 +141,8 @@ module _ {K V D T : Type 0} (deeds : Deeds D K V T) (key : K) where
   first-leaves (ask.Begin (begin.Get k)) is (Some p) = refl
   first-leaves (ask.Begin (begin.GetMut k)) is None = refl
   first-leaves (ask.Begin (begin.GetMut k)) is (Some p) = refl
+  first-leaves (ask.Begin (begin.Entry k)) is None = refl
+  first-leaves (ask.Begin (begin.Entry k)) is (Some p) = refl
   first-leaves (ask.Held h) is o = absurd (none-some key is)
 
   first-tells : (a : Ask K V D) → key_of a ≡ Some key → (o : Option (K × V)) → every.told deeds key (as_ask a) (every.free o) ≡ as_answer (today.told deeds a (today.free o))
@@ -140,29 +163,148 @@ module _ {K V D T : Type 0} (deeds : Deeds D K V T) (key : K) where
   first-tells (ask.Begin (begin.Get k)) is (Some p) = refl
   first-tells (ask.Begin (begin.GetMut k)) is None = refl
   first-tells (ask.Begin (begin.GetMut k)) is (Some p) = refl
+  first-tells (ask.Begin (begin.Entry k)) is None = refl
+  first-tells (ask.Begin (begin.Entry k)) is (Some p) = refl
   first-tells (ask.Held h) is o = absurd (none-some key is)
 
-  held-leaves : (h : Held D) (s : today.At K V) → every.after deeds key (as_ask (ask.Held h)) (as_at s) ≡ as_at (today.after deeds (ask.Held h) s)
-  held-leaves h (today.free o) = refl
-  held-leaves (held.Read d) (today.shared p) = refl
-  held-leaves (held.Write d) (today.shared p) = refl
-  held-leaves held.Downgrade (today.shared p) = refl
-  held-leaves held.Drop (today.shared p) = refl
-  held-leaves (held.Read d) (today.exclusive p) = refl
-  held-leaves (held.Write d) (today.exclusive p) = refl
-  held-leaves held.Downgrade (today.exclusive p) = refl
-  held-leaves held.Drop (today.exclusive p) = refl
+  first-handed : (a : Ask K V D) → key_of a ≡ Some key → (o : Option (K × V)) → Handed key (today.after deeds a (today.free o))
+  first-handed (ask.Keyed k) is o = tt
+  first-handed (ask.Begin (begin.Get k)) is None = tt
+  first-handed (ask.Begin (begin.Get k)) is (Some p) = tt
+  first-handed (ask.Begin (begin.GetMut k)) is None = tt
+  first-handed (ask.Begin (begin.GetMut k)) is (Some p) = tt
+  first-handed (ask.Begin (begin.Entry k)) is None = same_Some k key is
+  first-handed (ask.Begin (begin.Entry k)) is (Some p) = same_Some k key is
+  first-handed (ask.Held h) is o = absurd (none-some key is)
 
-  held-tells : (h : Held D) (s : today.At K V) → every.told deeds key (as_ask (ask.Held h)) (as_at s) ≡ as_answer (today.told deeds (ask.Held h) s)
-  held-tells h (today.free o) = refl
-  held-tells (held.Read d) (today.shared p) = refl
-  held-tells (held.Write d) (today.shared p) = refl
-  held-tells held.Downgrade (today.shared p) = refl
-  held-tells held.Drop (today.shared p) = refl
-  held-tells (held.Read d) (today.exclusive p) = refl
-  held-tells (held.Write d) (today.exclusive p) = refl
-  held-tells held.Downgrade (today.exclusive p) = refl
-  held-tells held.Drop (today.exclusive p) = refl
+  held-handed : (h : Held V D) (s : today.At K V) → Handed key s → Handed key (today.after deeds (ask.Held h) s)
+  held-handed h (today.free o) handed = tt
+  held-handed (held.Read d) (today.shared p) handed = tt
+  held-handed (held.Read d) (today.exclusive p) handed = tt
+  held-handed (held.Read d) (today.occupied k p) handed = handed
+  held-handed (held.Read d) (today.vacant k) handed = handed
+  held-handed (held.Write d) (today.shared p) handed = tt
+  held-handed (held.Write d) (today.exclusive p) handed = tt
+  held-handed (held.Write d) (today.occupied k p) handed = handed
+  held-handed (held.Write d) (today.vacant k) handed = handed
+  held-handed held.Downgrade (today.shared p) handed = tt
+  held-handed held.Downgrade (today.exclusive p) handed = tt
+  held-handed held.Downgrade (today.occupied k p) handed = handed
+  held-handed held.Downgrade (today.vacant k) handed = handed
+  held-handed (held.Insert v) (today.shared p) handed = tt
+  held-handed (held.Insert v) (today.exclusive p) handed = tt
+  held-handed (held.Insert v) (today.occupied k p) handed = handed
+  held-handed (held.Insert v) (today.vacant k) handed = tt
+  held-handed held.IntoRef (today.shared p) handed = tt
+  held-handed held.IntoRef (today.exclusive p) handed = tt
+  held-handed held.IntoRef (today.occupied k p) handed = tt
+  held-handed held.IntoRef (today.vacant k) handed = handed
+  held-handed held.Remove (today.shared p) handed = tt
+  held-handed held.Remove (today.exclusive p) handed = tt
+  held-handed held.Remove (today.occupied k p) handed = tt
+  held-handed held.Remove (today.vacant k) handed = handed
+  held-handed held.RemoveEntry (today.shared p) handed = tt
+  held-handed held.RemoveEntry (today.exclusive p) handed = tt
+  held-handed held.RemoveEntry (today.occupied k p) handed = tt
+  held-handed held.RemoveEntry (today.vacant k) handed = handed
+  held-handed (held.ReplaceEntry v) (today.shared p) handed = tt
+  held-handed (held.ReplaceEntry v) (today.exclusive p) handed = tt
+  held-handed (held.ReplaceEntry v) (today.occupied k p) handed = tt
+  held-handed (held.ReplaceEntry v) (today.vacant k) handed = handed
+  held-handed held.IntoKey (today.shared p) handed = tt
+  held-handed held.IntoKey (today.exclusive p) handed = tt
+  held-handed held.IntoKey (today.occupied k p) handed = tt
+  held-handed held.IntoKey (today.vacant k) handed = tt
+  held-handed held.Drop (today.shared p) handed = tt
+  held-handed held.Drop (today.exclusive p) handed = tt
+  held-handed held.Drop (today.occupied k p) handed = tt
+  held-handed held.Drop (today.vacant k) handed = tt
+
+  held-leaves : (h : Held V D) (s : today.At K V) → Handed key s → every.after deeds key (as_ask (ask.Held h)) (as_at s) ≡ as_at (today.after deeds (ask.Held h) s)
+  held-leaves h (today.free o) handed = refl
+  held-leaves (held.Read d) (today.shared p) handed = refl
+  held-leaves (held.Read d) (today.exclusive p) handed = refl
+  held-leaves (held.Read d) (today.occupied k p) handed = refl
+  held-leaves (held.Read d) (today.vacant k) handed = refl
+  held-leaves (held.Write d) (today.shared p) handed = refl
+  held-leaves (held.Write d) (today.exclusive p) handed = refl
+  held-leaves (held.Write d) (today.occupied k p) handed = refl
+  held-leaves (held.Write d) (today.vacant k) handed = refl
+  held-leaves held.Downgrade (today.shared p) handed = refl
+  held-leaves held.Downgrade (today.exclusive p) handed = refl
+  held-leaves held.Downgrade (today.occupied k p) handed = refl
+  held-leaves held.Downgrade (today.vacant k) handed = refl
+  held-leaves (held.Insert v) (today.shared p) handed = refl
+  held-leaves (held.Insert v) (today.exclusive p) handed = refl
+  held-leaves (held.Insert v) (today.occupied k p) handed = refl
+  held-leaves (held.Insert v) (today.vacant k) handed = ap (λ j. every.exclusive (j, v)) (sym handed)
+  held-leaves held.IntoRef (today.shared p) handed = refl
+  held-leaves held.IntoRef (today.exclusive p) handed = refl
+  held-leaves held.IntoRef (today.occupied k p) handed = refl
+  held-leaves held.IntoRef (today.vacant k) handed = refl
+  held-leaves held.Remove (today.shared p) handed = refl
+  held-leaves held.Remove (today.exclusive p) handed = refl
+  held-leaves held.Remove (today.occupied k p) handed = refl
+  held-leaves held.Remove (today.vacant k) handed = refl
+  held-leaves held.RemoveEntry (today.shared p) handed = refl
+  held-leaves held.RemoveEntry (today.exclusive p) handed = refl
+  held-leaves held.RemoveEntry (today.occupied k p) handed = refl
+  held-leaves held.RemoveEntry (today.vacant k) handed = refl
+  held-leaves (held.ReplaceEntry v) (today.shared p) handed = refl
+  held-leaves (held.ReplaceEntry v) (today.exclusive p) handed = refl
+  held-leaves (held.ReplaceEntry v) (today.occupied k p) handed = ap (λ j. every.free (Some (j, v))) (sym handed)
+  held-leaves (held.ReplaceEntry v) (today.vacant k) handed = refl
+  held-leaves held.IntoKey (today.shared p) handed = refl
+  held-leaves held.IntoKey (today.exclusive p) handed = refl
+  held-leaves held.IntoKey (today.occupied k p) handed = refl
+  held-leaves held.IntoKey (today.vacant k) handed = refl
+  held-leaves held.Drop (today.shared p) handed = refl
+  held-leaves held.Drop (today.exclusive p) handed = refl
+  held-leaves held.Drop (today.occupied k p) handed = refl
+  held-leaves held.Drop (today.vacant k) handed = refl
+
+  held-tells : (h : Held V D) (s : today.At K V) → Handed key s → every.told deeds key (as_ask (ask.Held h)) (as_at s) ≡ as_answer (today.told deeds (ask.Held h) s)
+  held-tells h (today.free o) handed = refl
+  held-tells (held.Read d) (today.shared p) handed = refl
+  held-tells (held.Read d) (today.exclusive p) handed = refl
+  held-tells (held.Read d) (today.occupied k p) handed = refl
+  held-tells (held.Read d) (today.vacant k) handed = refl
+  held-tells (held.Write d) (today.shared p) handed = refl
+  held-tells (held.Write d) (today.exclusive p) handed = refl
+  held-tells (held.Write d) (today.occupied k p) handed = refl
+  held-tells (held.Write d) (today.vacant k) handed = refl
+  held-tells held.Downgrade (today.shared p) handed = refl
+  held-tells held.Downgrade (today.exclusive p) handed = refl
+  held-tells held.Downgrade (today.occupied k p) handed = refl
+  held-tells held.Downgrade (today.vacant k) handed = refl
+  held-tells (held.Insert v) (today.shared p) handed = refl
+  held-tells (held.Insert v) (today.exclusive p) handed = refl
+  held-tells (held.Insert v) (today.occupied k p) handed = refl
+  held-tells (held.Insert v) (today.vacant k) handed = refl
+  held-tells held.IntoRef (today.shared p) handed = refl
+  held-tells held.IntoRef (today.exclusive p) handed = refl
+  held-tells held.IntoRef (today.occupied k p) handed = refl
+  held-tells held.IntoRef (today.vacant k) handed = refl
+  held-tells held.Remove (today.shared p) handed = refl
+  held-tells held.Remove (today.exclusive p) handed = refl
+  held-tells held.Remove (today.occupied k p) handed = refl
+  held-tells held.Remove (today.vacant k) handed = refl
+  held-tells held.RemoveEntry (today.shared p) handed = refl
+  held-tells held.RemoveEntry (today.exclusive p) handed = refl
+  held-tells held.RemoveEntry (today.occupied k p) handed = refl
+  held-tells held.RemoveEntry (today.vacant k) handed = refl
+  held-tells (held.ReplaceEntry v) (today.shared p) handed = refl
+  held-tells (held.ReplaceEntry v) (today.exclusive p) handed = refl
+  held-tells (held.ReplaceEntry v) (today.occupied k p) handed = refl
+  held-tells (held.ReplaceEntry v) (today.vacant k) handed = refl
+  held-tells held.IntoKey (today.shared p) handed = refl
+  held-tells held.IntoKey (today.exclusive p) handed = refl
+  held-tells held.IntoKey (today.occupied k p) handed = ap (λ j. any_answer.Key j) (sym handed)
+  held-tells held.IntoKey (today.vacant k) handed = ap (λ j. any_answer.Key j) (sym handed)
+  held-tells held.Drop (today.shared p) handed = refl
+  held-tells held.Drop (today.exclusive p) handed = refl
+  held-tells held.Drop (today.occupied k p) handed = refl
+  held-tells held.Drop (today.vacant k) handed = refl
 
 -- the calls of a block: the first has a key, and all others are of its guard
 pub record IsOfBlock {K V D T : Type 0} (w : Setup K V D T) (t c n : ℕ) : Type 0 where
@@ -170,11 +312,24 @@ pub record IsOfBlock {K V D T : Type 0} (w : Setup K V D T) (t c n : ℕ) : Type
   pub asked : ask_at w t c ≡ Some first
   pub key : K
   pub key_is : key_of first ≡ Some key
-  pub others : (m : ℕ) → 0 < m → m < n → (h : Held D) × (ask_at w t (c + m) ≡ Some (ask.Held h))
+  pub others : (m : ℕ) → 0 < m → m < n → (h : Held V D) × (ask_at w t (c + m) ≡ Some (ask.Held h))
 
 module _ {K V D T : Type 0} (w : Setup K V D T) (shards t c : ℕ) where
   abbrev g : every_setup.Setup K V D T
   g = as_setup shards w
+
+  -- an entry's guard has the block's key
+  reached-handed : (n : ℕ) (b : IsOfBlock w t c n) (o : Option (K × V)) → Handed b.key (reached w t c n o)
+  reached-handed zero b o = tt
+  reached-handed (suc zero) b o =
+      let here : c + 0 ≡ c = omega arith in
+      let is : ask_at w t (c + 0) ≡ Some b.first = rw here b.asked in
+      subst (λ (a : Option (Ask K V D)). Handed b.key (after_ask w.deeds a (today.free o))) (sym is) (first-handed w.deeds b.key b.first b.key_is o)
+  reached-handed (suc (suc n)) b o =
+      let front : IsOfBlock w t c (suc n) = record { first = b.first; asked = b.asked; key = b.key; key_is = b.key_is; others = λ i pos lt. b.others i pos (omega (arith, lt)) } in
+      let call = b.others (suc n) (omega arith) (omega arith) in
+      subst (λ (a : Option (Ask K V D)). Handed b.key (after_ask w.deeds a (reached w t c (suc n) o))) (sym call.1)
+      (held-handed w.deeds b.key call.0 (reached w t c (suc n) o) (reached-handed (suc n) front o))
 
   -- where the calls lead
   reached-as : (n : ℕ) (b : IsOfBlock w t c n) (o : Option (K × V)) → every_replay.reached g b.key t c n o ≡ as_at (reached w t c n o)
@@ -189,7 +344,7 @@ module _ {K V D T : Type 0} (w : Setup K V D T) (shards t c : ℕ) where
       let front : IsOfBlock w t c (suc n) = record { first = b.first; asked = b.asked; key = b.key; key_is = b.key_is; others = λ i pos lt. b.others i pos (omega (arith, lt)) } in
       let call = b.others (suc n) (omega arith) (omega arith) in
       ap₂ (λ a z. every_replay.after_ask w.deeds b.key a z) (asked w shards t (c + suc n) (ask.Held call.0) call.1) (reached-as (suc n) front o)
-      ∙ (held-leaves w.deeds b.key call.0 (reached w t c (suc n) o)
+      ∙ (held-leaves w.deeds b.key call.0 (reached w t c (suc n) o) (reached-handed (suc n) front o)
       ∙ sym (ap (λ a. as_at (after_ask w.deeds a (reached w t c (suc n) o))) call.1))
 
   -- what the call of that number tells
@@ -206,7 +361,7 @@ module _ {K V D T : Type 0} (w : Setup K V D T) (shards t c : ℕ) where
       let front : IsOfBlock w t c (suc n) = record { first = b.first; asked = b.asked; key = b.key; key_is = b.key_is; others = λ i pos lt. b.others i pos (omega (arith, lt)) } in
       let call = b.others (suc n) (omega arith) (omega arith) in
       ap₂ (λ a z. option_map (λ x. every.told w.deeds b.key x z) a) (asked w shards t (c + suc n) (ask.Held call.0) call.1) (reached-as (suc n) front o)
-      ∙ (ap (λ a. Some a) (held-tells w.deeds b.key call.0 (reached w t c (suc n) o))
+      ∙ (ap (λ a. Some a) (held-tells w.deeds b.key call.0 (reached w t c (suc n) o) (reached-handed (suc n) front o))
       ∙ sym (ap (λ a. option_map as_answer (option_map (λ x. today.told w.deeds x (reached w t c (suc n) o)) a)) call.1))
 
 -- lists that are gone through alike
@@ -312,6 +467,11 @@ module _ {K V D T : Type 0} (w : Setup K V D T) (shards : ℕ) (steps : List ℕ
   grows-as (keyed.View k d) h = h
   grows-as (keyed.ContainsKey k) h = h
 
+  begins-as : (b : Begin K) → IsTrue (opening_may_grow b) → IsTrue (every_setup.opening_may_grow (as_begin b))
+  begins-as (begin.Get k) h = h
+  begins-as (begin.GetMut k) h = h
+  begins-as (begin.Entry k) h = h
+
   in-session-as : (t c : ℕ) (s : Option ℕ) (a : Answer K V T) → agrees.IsAnsweredInSession w bs t c s a → every_agrees.IsAnsweredInSession e bs t c s (as_answer a)
   in-session-as t c None a h = ap as_answer h
   in-session-as t c (Some b) a h = elim h [
@@ -324,7 +484,10 @@ module _ {K V D T : Type 0} (w : Setup K V D T) (shards : ℕ) (steps : List ℕ
     | inl told ↦ inl (told-as t c 0 a told)
     | inr none ↦ inr (ap as_answer none.0, grows-as k none.1, none.2)
   ]
-  answered-by t c (ask.Begin b) a h = inl (told-as t c 0 a h)
+  answered-by t c (ask.Begin b) a h = elim h [
+    | inl told ↦ inl (told-as t c 0 a told)
+    | inr none ↦ inr (inl (ap as_answer none.0, begins-as b none.1), none.2)
+  ]
   answered-by t c (ask.Held k) a h =
       subst (λ (s : Option ℕ). every_agrees.IsAnsweredInSession e bs t c s (as_answer a)) (sym (sessions w shards t c)) (in-session-as t c (session_of w t c) a h)
 
