@@ -1,0 +1,3 @@
+mod Walking
+mod Homes
+mod Saturating
