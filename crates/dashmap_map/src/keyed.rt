@@ -23,6 +23,7 @@ where
     Q::Runtime: Wait,
 {
     /// A shared guard of the pair of a key, if it is there.
+    #[inline(always)]
     pub fn get<'m, 'd>(&'m self, key: &K, td: &'d mut Q::Party) -> Option<Ref<'m, 'd, K, V, Q, A>>
         ensures asked { IfSome result (λ r. IfSome (key_in (read_guard_value r.0.inner) r.1) (λ k. IsTrue (K.eq k key.now))) }
         ensures lock { IfSome result (λ r. lock_of S.BuildHasher S.Hasher.Hasher K.hash_input self.now key.now ≡ Some r.0.held.0.place.now) }
@@ -32,6 +33,7 @@ where
     }
 
     /// An exclusive guard of the pair of a key, if it is there.
+    #[inline(always)]
     pub fn get_mut<'m, 'd>(
         &'m self,
         key: &K,
@@ -45,6 +47,7 @@ where
     }
 
     /// Whether `get` would give a guard.
+    #[inline(always)]
     pub fn contains_key(&self, key: &K, td: &mut Q::Party) -> bool {
         let (hash, lock) = self.place_of(key);
         has_key(&*lock.read(td), hash, key)
@@ -66,6 +69,7 @@ where
     }
 
     /// Takes the pair of a key out, if it is there.
+    #[inline(always)]
     pub fn remove(&self, key: &K, td: &mut Q::Party) -> Option<(K, V)>
         ensures { IfSome result (λ p. IsTrue (K.eq p.0 key.now)) }
     {
@@ -122,6 +126,7 @@ where
 {
     /// Puts a pair in, and answers the value that its key had. A present key keeps the stored key and is never refused. A new key is
     /// refused only where its shard would have to grow and can't, and then the pair comes back.
+    #[inline(always)]
     pub fn insert(&self, key: K, value: V, td: &mut Q::Party) -> Result<Option<V>, (K, V)>
         ensures { IfErr result (λ back. back ≡ (key, value)) }
     {
@@ -131,6 +136,7 @@ where
 
     /// The place of a key, whose shard is held exclusively. An absent key's room is made here; where it can't be had, the key comes
     /// back.
+    #[inline(always)]
     pub fn entry<'m, 'd>(
         &'m self,
         key: K,

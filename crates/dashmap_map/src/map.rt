@@ -46,6 +46,13 @@ impl<K: Eq + Hash, V, S: BuildHasher, Q, A: Allocator> DashMap<K, V, S, Q, A> {
         &self.hasher
     }
 
+    /// Lends the shards in their order, each behind its lock. For the layer above.
+    pub fn shard_locks(&self) -> &[CachePadded<RwLock<Q, Shard<K, V, A>>>]
+        ensures { result.now ≡ self.now.locks }
+    {
+        &self.shards
+    }
+
     /// The hasher's hash of anything that can be hashed.
     pub fn hash_usize<T: Eq + Hash>(&self, item: &T) -> usize
         ensures { result ≡ key_hash S.BuildHasher S.Hasher.Hasher T.hash_input self.now.hasher item.now }
@@ -72,6 +79,7 @@ impl<K: Eq + Hash, V, S: BuildHasher, Q, A: Allocator> DashMap<K, V, S, Q, A> {
     }
 
     /// The hash of a key, and its shard behind its lock.
+    #[inline(always)]
     pub(crate) fn place_of(&self, key: &K) -> (u64, &RwLock<Q, Shard<K, V, A>>)
         ensures hash { result.0 ≡ key_hash S.BuildHasher S.Hasher.Hasher K.hash_input self.now.hasher key.now }
         ensures lock { lock_of S.BuildHasher S.Hasher.Hasher K.hash_input self.now key.now ≡ Some result.1.now }
