@@ -75,7 +75,7 @@ module _ {K V S D T A : Type 0} (x : Setup K V D T) (laws : Laws x) (w : State K
         owns = owns-on w.blocks s.thread p p' st.owns refl refl (λ own. absurd (false≢true (sym (ap may_own a.before) ∙ own)));
         claim = (
           IsInCall-push x (threads_of w) s.thread s.thread p' _ (in_call-moved x p p' (threads_of w) s.thread _ refl refl refl c.0),
-          record { block = c.1.block; slot = c.1.slot; shard = c.1.shard },
+          record { block = c.1.block; guard = c.1.guard; shard = c.1.shard },
           record { hold = a.hold; has = refl; shard = a.hold_is.0; mode_is = a.hold_is.1 },
         );
       })
@@ -137,8 +137,8 @@ module _ {K V S D T A : Type 0} (x : Setup K V D T) (laws : Laws x) (w : State K
           c.2.hold,
           IsInCall-push x (threads_of w) s.thread s.thread p' _ (in_call-moved x p p' (threads_of w) s.thread _ refl refl refl c.0),
           c.2.has,
-          subst (IsReleasing x w.blocks (slice_set w.tables p.shard a.kept) s.thread p' (ask.Keyed (keyed.Insert a.key a.value)) answer.NoMemory) (sym c.1.slot)
-              (inr (refl, refl, none), ready-outside x w.blocks (slice_set w.tables p.shard a.kept) s.thread p' (p.next + 1) (block_after p') outside.1 c.1.slot (block_after-none p' c.1.block)),
+          subst (IsReleasing x w.blocks (slice_set w.tables p.shard a.kept) s.thread p' (ask.Keyed (keyed.Insert a.key a.value)) answer.NoMemory) (sym c.1.guard)
+              (inr (refl, refl, none), ready-outside x w.blocks (slice_set w.tables p.shard a.kept) s.thread p' (p.next + 1) (block_after p') outside.1 c.1.guard (block_after-none p' c.1.block)),
         );
       })
       (tables-rewritten x w.blocks w.blocks w.tables p.shard a.table a.kept a.held a.pairs sound.tables (λ q. refl))

@@ -57,7 +57,7 @@ module _ {K V S D T A : Type 0} (x : Setup K V D T) (laws : Laws x) (w : State K
 
   -- the block of an exclusive call is listed before its deed
   before-deed : (holds : HoldsShard p Exclusive) (listed : IsListed w s.thread p 0 d) (p' : Place K V D T A) (o : Option (K × V)) → pair_of x.eq table.items key ≡ o
-      → p'.next ≡ p.next → p'.shard ≡ p.shard → p'.slot ≡ None → p'.hold ≡ p.hold → p'.block ≡ Some (length w.blocks)
+      → p'.next ≡ p.next → p'.shard ≡ p.shard → p'.guard ≡ None → p'.hold ≡ p.hold → p'.block ≡ Some (length w.blocks)
       → IsBeforeDeed x (w.blocks ++ d ∷ []) s.thread p' key o
   before-deed holds listed p' o is next same slot hold mine = record {
     index = length w.blocks;
@@ -97,7 +97,7 @@ module _ {K V S D T A : Type 0} (x : Setup K V D T) (laws : Laws x) (w : State K
 
   -- the session that an opening begins
   session-new : (m : Mode) (holds : HoldsShard p m) (listed : IsListed w s.thread p 1 d) (p' : Place K V D T A) (o : Option (K × V)) → pair_of x.eq table.items key ≡ o
-      → p'.shard ≡ p.shard → GuardIs w.tables p' p'.slot (after x.deeds a (free o))
+      → p'.shard ≡ p.shard → GuardIs w.tables p' p'.guard (after x.deeds a (free o))
       → HasSession x (w.blocks ++ d ∷ []) w.tables s.thread p' (p.next + 1) p.next (length w.blocks)
   session-new m holds listed p' o is same guard =
       let one : p.next + 1 - p.next ≡ 1 = omega arith in
@@ -109,7 +109,7 @@ module _ {K V S D T A : Type 0} (x : Setup K V D T) (laws : Laws x) (w : State K
         call = listed.call;
         below = omega arith;
         done = listed.done ∙ sym one;
-        guard = rw (one, finds) (subst (λ (z : At K V). GuardIs w.tables p' p'.slot z) (sym (reached-one x s.thread p.next a o call.asked)) guard);
+        guard = rw (one, finds) (subst (λ (z : At K V). GuardIs w.tables p' p'.guard z) (sym (reached-one x s.thread p.next a o call.asked)) guard);
         settled = record {
           here = λ k its. same ∙ shard ∙ ap x.route (same_Some key k (sym (new-key x laws w s sound p at a call key key_is m holds shard not_yet 1 d listed) ∙ its));
           last = λ alone. last-new x w.blocks d;
@@ -158,7 +158,7 @@ module _ {K V S D T A : Type 0} (x : Setup K V D T) (laws : Laws x) (w : State K
     -- a call on one key that has its deed to come
     found-deed : (k : Keyed K V D) → p.phase ≡ phase.Find (request.Keyed k) → keyed_mode k ≡ Exclusive → (i : ℕ) → slot_in x.eq table (keyed_key k) ≡ Some i
         → (blocks : List (Block K)) → ListsBlock w s.thread p (Some 0) blocks
-        → Sound x (record (stepped w s (record p { block = Some (length w.blocks); slot = None; phase = phase.Apply i k })) { blocks = blocks })
+        → Sound x (record (stepped w s (record p { block = Some (length w.blocks); guard = None; phase = phase.Apply i k })) { blocks = blocks })
     found-deed k before alone i slot blocks listed =
         let r : Request K V D = request.Keyed k in
         let key : K = keyed_key k in
@@ -167,7 +167,7 @@ module _ {K V S D T A : Type 0} (x : Setup K V D T) (laws : Laws x) (w : State K
         let holds : HoldsShard p Exclusive = subst (λ (m : Mode). HoldsShard p m) alone c.2 in
         let here = position-Some_at (has_key x.eq key) table.items i slot in
         let is : pair_of x.eq table.items key ≡ Some here.0 = find-position (has_key x.eq key) table.items i slot ∙ here.1 in
-        let p' : Place K V D T A = record p { block = Some (length w.blocks); slot = None; phase = phase.Apply i k } in
+        let p' : Place K V D T A = record p { block = Some (length w.blocks); guard = None; phase = phase.Apply i k } in
         let not_yet : may_own p.phase ≡ false = ap may_own before in
         let l = listed.1 in
         subst (λ (z : List (Block K)). Sound x (record (stepped w s p') { blocks = z })) (sym listed.2)
@@ -189,11 +189,11 @@ module _ {K V S D T A : Type 0} (x : Setup K V D T) (laws : Laws x) (w : State K
         → (o : Option (K × V)) → pair_of x.eq table.items (keyed_key k) ≡ o
         → keyed_leaves x.deeds k o ≡ o → (a : Answer K V T) → keyed_answer x.deeds k o ≡ a
         → (blocks : List (Block K)) → ListsBlock w s.thread p (Some 1) blocks
-        → Sound x (record (stepped w s (record p { block = Some (length w.blocks); slot = None; phase = phase.Release a })) { blocks = blocks })
+        → Sound x (record (stepped w s (record p { block = Some (length w.blocks); guard = None; phase = phase.Release a })) { blocks = blocks })
     done-whole k f before busy unowned call way holds o is leaves a answered blocks listed =
         let key : K = keyed_key k in
         let st = sound.stands s.thread p at in
-        let p' : Place K V D T A = record p { block = Some (length w.blocks); slot = None; phase = phase.Release a } in
+        let p' : Place K V D T A = record p { block = Some (length w.blocks); guard = None; phase = phase.Release a } in
         let not_yet : may_own p.phase ≡ false = ap may_own before ∙ unowned in
         let l = listed.1 in
         let outside = keyed-apart x laws w s (record (stepped w s p') { blocks = blocks }) sound p st k call.asked in
@@ -224,7 +224,7 @@ module _ {K V S D T A : Type 0} (x : Setup K V D T) (laws : Laws x) (w : State K
     found-whole : (k : Keyed K V D) → p.phase ≡ phase.Find (request.Keyed k) → (o : Option (K × V)) → pair_of x.eq table.items (keyed_key k) ≡ o
         → keyed_leaves x.deeds k o ≡ o → (a : Answer K V T) → keyed_answer x.deeds k o ≡ a
         → (blocks : List (Block K)) → ListsBlock w s.thread p (Some 1) blocks
-        → Sound x (record (stepped w s (record p { block = Some (length w.blocks); slot = None; phase = phase.Release a })) { blocks = blocks })
+        → Sound x (record (stepped w s (record p { block = Some (length w.blocks); guard = None; phase = phase.Release a })) { blocks = blocks })
     found-whole k before =
         let f : Phase K V D T = phase.Find (request.Keyed k) in
         let c = claim-at x (threads_of w) w.blocks w.replies w.tables s.thread p f before (sound.stands s.thread p at) in
@@ -241,7 +241,7 @@ module _ {K V S D T A : Type 0} (x : Setup K V D T) (laws : Laws x) (w : State K
         let st = sound.stands s.thread p at in
         let c = claim-at x (threads_of w) w.blocks w.replies w.tables s.thread p (phase.Find r) before st in
         let is : pair_of x.eq table.items k ≡ None = find-no_position (has_key x.eq k) table.items slot in
-        let p' : Place K V D T A = record p { block = Some (length w.blocks); slot = None; phase = phase.Append k v } in
+        let p' : Place K V D T A = record p { block = Some (length w.blocks); guard = None; phase = phase.Append k v } in
         let not_yet : may_own p.phase ≡ false = ap may_own before in
         let l = listed.1 in
         subst (λ (z : List (Block K)). Sound x (record (stepped w s p') { blocks = z })) (sym listed.2)
@@ -260,7 +260,7 @@ module _ {K V S D T A : Type 0} (x : Setup K V D T) (laws : Laws x) (w : State K
         let st = sound.stands s.thread p at in
         let c = claim-at x (threads_of w) w.blocks w.replies w.tables s.thread p (phase.Find r) before st in
         let is : pair_of x.eq table.items k ≡ None = find-no_position (has_key x.eq k) table.items slot in
-        let p' : Place K V D T A = record p { slot = None; phase = phase.Grow k v } in
+        let p' : Place K V D T A = record p { guard = None; phase = phase.Grow k v } in
         subst (λ (z : List (Block K)). Sound x (record (stepped w s p') { blocks = z })) (sym listed)
         (sound-by x w s p p' at sound w.blocks w.tables w.holds w.replies _ (leaves-same x w s p p' at sound _)
         (record {
@@ -273,7 +273,7 @@ module _ {K V S D T A : Type 0} (x : Setup K V D T) (laws : Laws x) (w : State K
           owns = owns-on w.blocks s.thread p p' st.owns refl refl (λ own. absurd (false≢true (sym (ap may_own before) ∙ own)));
           claim = (
             IsInCall-push x (threads_of w) s.thread s.thread p' _ (in_call-moved x p p' (threads_of w) s.thread _ refl refl refl c.0),
-            record { block = c.1.block; slot = refl; shard = c.1.shard },
+            record { block = c.1.block; guard = refl; shard = c.1.shard },
             holds-moved x p p' Exclusive refl refl c.2,
             record { table = table; held = held; so = (is, ltb-false (vec_len table) (vec_capacity table) full) },
           );
@@ -299,7 +299,7 @@ module _ {K V S D T A : Type 0} (x : Setup K V D T) (laws : Laws x) (w : State K
         let st = sound.stands s.thread p at in
         let c = claim-at x (threads_of w) w.blocks w.replies w.tables s.thread p (phase.Find r) before st in
         let here = position-Some_at (has_key x.eq k) table.items i slot in
-        let p' : Place K V D T A = record p { slot = None; phase = phase.View i k d } in
+        let p' : Place K V D T A = record p { guard = None; phase = phase.View i k d } in
         subst (λ (z : List (Block K)). Sound x (record (stepped w s p') { blocks = z })) (sym listed)
         (sound-by x w s p p' at sound w.blocks w.tables w.holds w.replies _ (leaves-same x w s p p' at sound _)
         (record {
@@ -313,7 +313,7 @@ module _ {K V S D T A : Type 0} (x : Setup K V D T) (laws : Laws x) (w : State K
           claim = (
             here.0,
             IsInCall-push x (threads_of w) s.thread s.thread p' _ (in_call-moved x p p' (threads_of w) s.thread _ refl refl refl c.0),
-            record { block = c.1.block; slot = refl; shard = c.1.shard },
+            record { block = c.1.block; guard = refl; shard = c.1.shard },
             holds-moved x p p' Shared refl refl c.2,
             record { table = table; held = held; so = (here.1, find-position (has_key x.eq k) table.items i slot ∙ here.1) },
           );
@@ -366,7 +366,7 @@ module _ {K V S D T A : Type 0} (x : Setup K V D T) (laws : Laws x) (w : State K
         let st = sound.stands s.thread p at in
         let c = claim-at x (threads_of w) w.blocks w.replies w.tables s.thread p (phase.Find r) before st in
         let is : pair_of x.eq table.items k ≡ None = find-no_position (has_key x.eq k) table.items slot in
-        let p' : Place K V D T A = record p { block = Some (length w.blocks); slot = None; phase = phase.Release answer.None } in
+        let p' : Place K V D T A = record p { block = Some (length w.blocks); guard = None; phase = phase.Release answer.None } in
         let not_yet : may_own p.phase ≡ false = ap may_own before in
         let l = listed.1 in
         let inside = begin-apart x laws w s (record (stepped w s p') { blocks = blocks }) sound p st b c.0.asked in
@@ -411,7 +411,7 @@ module _ {K V S D T A : Type 0} (x : Setup K V D T) (laws : Laws x) (w : State K
       let same : v.table ≡ c.4.table = same_Some v.table c.4.table (sym v.held ∙ c.4.held) in
       let pair : v.pair ≡ c.0 = same_Some v.pair c.0 (sym v.found ∙ (ap (λ (z : Vec (K × V) A). slice_get z.items v.slot) same ∙ c.4.so.0)) in
       let is : pair_of x.eq v.table.items v.key ≡ Some v.pair = ap (λ (z : Vec (K × V) A). pair_of x.eq z.items v.key) same ∙ c.4.so.1 ∙ ap Some (sym pair) in
-      subst (Sound x) (sym (v.after ∙ ap (λ (z : Option ℕ). record (stepped w s (record p { block = Some (length w.blocks); slot = z; phase = phase.Release a })) { blocks = v.blocks }) c.2.slot))
+      subst (Sound x) (sym (v.after ∙ ap (λ (z : Option ℕ). record (stepped w s (record p { block = Some (length w.blocks); slot = z; phase = phase.Release a })) { blocks = v.blocks }) c.2.guard))
       (done-whole p v.stands v.table v.held k f v.before refl refl c.1 c.2 c.3 (Some v.pair) is refl a refl v.blocks v.listed)
 
   pub sound-grows : (w' : State K V S D T A) → GrowsList x w s w' → Sound x w'
@@ -429,7 +429,7 @@ module _ {K V S D T A : Type 0} (x : Setup K V D T) (laws : Laws x) (w : State K
       (done-none d 0 l.done (omega arith) l.end) (slice_set w.tables p.shard g.grown) (length-set w.tables p.shard g.grown)
       (kept-alone x w s p g.stands sound g.grown c.2) (
         IsInCall-push x (threads_of w) s.thread s.thread p' _ (in_call-moved x p p' (threads_of w) s.thread _ refl refl refl c.0),
-        before-deed x laws w s sound p g.stands _ c.0 g.key refl c.1.shard not_yet g.table g.held d c.2 l p' None g.absent refl refl c.1.slot refl refl,
+        before-deed x laws w s sound p g.stands _ c.0 g.key refl c.1.shard not_yet g.table g.held d c.2 l p' None g.absent refl refl c.1.guard refl refl,
         record { table = g.grown; held = slice_get-set_same w.tables p.shard g.table g.grown g.held; so = omega (arith, len, g.room) },
       )
       (taken-at x (threads_of w) w.blocks w.replies w.tables s.thread p (phase.Grow g.key g.value) g.before st)

@@ -76,8 +76,8 @@ module _ {K V S D T A : Type 0} (x : Setup K V D T) (laws : Laws x) (w : State K
       let n = counted-block w.blocks p.block i p.next a.blocks g.3 a.counted in
       let b = n.0 in let d = n.1 in
       let its : session.block ≡ b = same_Some session.block b (sym session.listed ∙ n.2) in
-      let slot : p.slot ≡ Some a.slot = a.guarded in
-      let guard = guard-at w.tables p p.slot a.slot (reached x s.thread c (p.next - c) (found x w.blocks i session.block)) slot session.guard in
+      let slot : p.guard ≡ Some a.slot = a.guarded in
+      let guard = guard-at w.tables p p.guard a.slot (reached x s.thread c (p.next - c) (found x w.blocks i session.block)) slot session.guard in
       let stood : reached x s.thread c (p.next - c) (found x w.blocks i b) ≡ guarded guard.1 guard.0 = ap (λ z. reached x s.thread c (p.next - c) (found x w.blocks i z)) (sym its) ∙ guard.2 in
       let pair : a.pair ≡ guard.0 = HasPair-is w.tables p.shard a.slot guard.0 a.pair a.table guard.4 a.held a.found in
       let same = read-quiet x.deeds a.deed (reached x s.thread c (p.next - c) (found x w.blocks i b)) in
@@ -109,7 +109,7 @@ module _ {K V S D T A : Type 0} (x : Setup K V D T) (laws : Laws x) (w : State K
       (growing.owns-grown x laws w s sound p a.stands (held.Read a.deed) call.asked c i inside session b d n.2 n.3 still p' refl (ap may_own a.before)))
 
   -- without a guard neither hold nor list counts
-  unguarded : (p p' : Place K V D T A) (n : ℕ) (o block : Option ℕ) → p.slot ≡ None → p'.slot ≡ None → p'.hold ≡ None → p'.shard ≡ p.shard → IsInSession x w.blocks w.tables s.thread p n o block → IsInSession x w.blocks w.tables s.thread p' n o block
+  unguarded : (p p' : Place K V D T A) (n : ℕ) (o block : Option ℕ) → p.guard ≡ None → p'.guard ≡ None → p'.hold ≡ None → p'.shard ≡ p.shard → IsInSession x w.blocks w.tables s.thread p n o block → IsInSession x w.blocks w.tables s.thread p' n o block
   unguarded p p' n (Some c) (Some i) none none' free_ shard h = record {
     block = h.block;
     listed = h.listed;
@@ -125,12 +125,12 @@ module _ {K V S D T A : Type 0} (x : Setup K V D T) (laws : Laws x) (w : State K
   unguarded p p' n None block none none' free_ shard h = (none', h.1)
 
   -- the world behind a release, with or without a guard
-  released : (a : Releases x w s w') (slot : Option ℕ) → a.place.slot ≡ slot → IsReleasing x w.blocks w.tables s.thread a.place (claim-at x (threads_of w) w.blocks w.replies w.tables s.thread a.place (phase.Release a.answer) a.before (sound.stands s.thread a.place a.stands)).0 a.answer slot → Sound x w'
+  released : (a : Releases x w s w') (slot : Option ℕ) → a.place.guard ≡ slot → IsReleasing x w.blocks w.tables s.thread a.place (claim-at x (threads_of w) w.blocks w.replies w.tables s.thread a.place (phase.Release a.answer) a.before (sound.stands s.thread a.place a.stands)).0 a.answer slot → Sound x w'
   released a None none h =
       let p = a.place in
       let st = sound.stands s.thread p a.stands in
       let cl = claim-at x (threads_of w) w.blocks w.replies w.tables s.thread p (phase.Release a.answer) a.before st in
-      let p' : Place K V D T A = record p { hold = None; slot = None; phase = phase.Answer a.answer } in
+      let p' : Place K V D T A = record p { hold = None; guard = None; phase = phase.Answer a.answer } in
       let same : a.blocks ≡ w.blocks = subst (λ (z : Option ℕ). CountsCall w.blocks (if is_some z then p.block else None) p.next a.blocks) none a.counted in
       subst (Sound x) (sym (a.after ∙ ap (λ (z : List (Block K)). record (stepped w s p') { holds = slice_set w.holds a.hold.shard (without_guard a.hold.guard a.desk); blocks = z }) same))
       (sound-by x w s p p' a.stands sound w.blocks w.tables (slice_set w.holds a.hold.shard (without_guard a.hold.guard a.desk)) w.replies _ (leaves-same x w s p p' a.stands sound (slice_set w.holds a.hold.shard (without_guard a.hold.guard a.desk)))
@@ -165,11 +165,11 @@ module _ {K V S D T A : Type 0} (x : Setup K V D T) (laws : Laws x) (w : State K
       (subst (λ (z : Option ℕ). CountsCall w.blocks (if is_some z then p.block else None) p.next a.blocks) has a.counted) in
       let b = n.0 in let d = n.1 in
       let its : session.block ≡ b = same_Some session.block b (sym session.listed ∙ n.2) in
-      let guard = guard-at w.tables p p.slot slot (reached x s.thread c (p.next - c) (found x w.blocks i session.block)) has session.guard in
+      let guard = guard-at w.tables p p.guard slot (reached x s.thread c (p.next - c) (found x w.blocks i session.block)) has session.guard in
       let stood : reached x s.thread c (p.next - c) (found x w.blocks i b) ≡ guarded guard.1 guard.0 = ap (λ z. reached x s.thread c (p.next - c) (found x w.blocks i z)) (sym its) ∙ guard.2 in
       let same = drop-quiet x.deeds (reached x s.thread c (p.next - c) (found x w.blocks i b)) in
       let still = inl same in
-      let p' : Place K V D T A = record p { hold = None; slot = None; phase = phase.Answer a.answer } in
+      let p' : Place K V D T A = record p { hold = None; guard = None; phase = phase.Answer a.answer } in
       let told : held_answer x.deeds held.Drop (reached x s.thread c (p.next - c) (found x w.blocks i b)) ≡ a.answer = ap (held_answer x.deeds held.Drop) stood ∙ drop-told x.deeds guard.0 guard.1 ∙ sym h.1 in
       let outside : session_of x s.thread (p.next + 1) ≡ None = session-next x s.thread st.program st.has p.next (ask.Held held.Drop) call.asked in
       let closes : block_after p' ≡ None = ap (λ (z : Bool). if z then None else p.block) call.closes in
@@ -194,5 +194,5 @@ module _ {K V S D T A : Type 0} (x : Setup K V D T) (laws : Laws x) (w : State K
 
   pub sound-releases : Releases x w s w' → Sound x w'
   sound-releases a =
-      released a a.place.slot refl
+      released a a.place.guard refl
       (claim-at x (threads_of w) w.blocks w.replies w.tables s.thread a.place (phase.Release a.answer) a.before (sound.stands s.thread a.place a.stands)).4

@@ -53,8 +53,8 @@ sound-downgrades {K} {V} {S} {D} {T} {A} x laws w s w' sound a =
     let n = counted-block w.blocks p.block i p.next a.blocks g.3 a.counted in
     let b = n.0 in let d = n.1 in
     let its : session.block ≡ b = same_Some session.block b (sym session.listed ∙ n.2) in
-    let slot : p.slot ≡ Some cl.0 = cl.2 in
-    let guard = guard-at w.tables p p.slot cl.0 (reached x s.thread c (p.next - c) (found x w.blocks i session.block)) slot session.guard in
+    let slot : p.guard ≡ Some cl.0 = cl.2 in
+    let guard = guard-at w.tables p p.guard cl.0 (reached x s.thread c (p.next - c) (found x w.blocks i session.block)) slot session.guard in
     let mode : guard.1 ≡ Exclusive = sym guard.3.mode_is ∙ ap (λ (z : Hold). z.mode) (same_Some guard.3.hold alone.hold (sym guard.3.has ∙ alone.has)) ∙ alone.mode_is in
     let stood : reached x s.thread c (p.next - c) (found x w.blocks i b) ≡ guarded Exclusive guard.0 =
     ap (λ z. reached x s.thread c (p.next - c) (found x w.blocks i z)) (sym its) ∙ guard.2 ∙ ap (λ (m : Mode). guarded m guard.0) mode in

@@ -38,7 +38,7 @@ use Rattle.mapworld.proofs.Growing as growing
 
 -- outside of every session there is neither guard nor block
 outside-free : {K V D T A : Type 0} (x : Setup K V D T) (bs : List (Block K)) (tables : List (Vec (K × V) A)) (t : ℕ) (p : Place K V D T A) (n : ℕ) (block : Option ℕ)
-    → session_of x t n ≡ None → IsReady x bs tables t p n block → (p.slot ≡ None) × (block ≡ None)
+    → session_of x t n ≡ None → IsReady x bs tables t p n block → (p.guard ≡ None) × (block ≡ None)
 outside-free x bs tables t p n block outside h = subst (λ (o : Option ℕ). IsInSession x bs tables t p n o block) outside h
 
 shard-keyed : {K V : Type 0} (D : Type 0) (route : K → ℕ) (k : Keyed K V D) (shard : ℕ) → start_shard route (ask.Keyed k) shard ≡ route (keyed_key k)
@@ -104,28 +104,28 @@ module _ {K V S D T A : Type 0} (x : Setup K V D T) (laws : Laws x) (w : State K
   same-blocks a guard blocks same h = subst (λ (z : List (Block K)). Begun a guard z) (sym same) h
 
   -- a place with a guard holds its shard
-  guarded-by : (i : ℕ) → p.slot ≡ Some i → (mode : Mode) × HoldsShard p mode × (guard_of p ≡ Some mode)
+  guarded-by : (i : ℕ) → p.guard ≡ Some i → (mode : Mode) × HoldsShard p mode × (guard_of p ≡ Some mode)
   guarded-by i e =
       let g = growing.session-of-guard x w.blocks w.tables s.thread p p.next i (session_of x s.thread p.next) p.block e resting.2 in
-      let guard = guard-at w.tables p p.slot i (reached x s.thread g.0 (p.next - g.0) (found x w.blocks g.1 g.4.block)) e g.4.guard in
+      let guard = guard-at w.tables p p.guard i (reached x s.thread g.0 (p.next - g.0) (found x w.blocks g.1 g.4.block)) e g.4.guard in
       (guard.1, guard.3, ap (λ o. guard_mode o p.hold) e ∙ ap (λ o. guard_mode (Some i) o) guard.3.has ∙ ap (λ m. Some m) guard.3.mode_is)
 
-  no-slot : guard_of p ≡ None → p.slot ≡ None
-  no-slot none = at-slot p.slot refl
+  no-slot : guard_of p ≡ None → p.guard ≡ None
+  no-slot none = at-slot p.guard refl
     where
-      at-slot : (o : Option ℕ) → p.slot ≡ o → p.slot ≡ None
+      at-slot : (o : Option ℕ) → p.guard ≡ o → p.guard ≡ None
       at-slot None e = e
       at-slot (Some i) e = let g = guarded-by i e in absurd (none-some g.0 (sym none ∙ g.2))
 
-  some-slot : (mode : Mode) → guard_of p ≡ Some mode → (i : ℕ) × (p.slot ≡ Some i) × HoldsShard p mode
-  some-slot mode is = at-slot p.slot refl
+  some-slot : (mode : Mode) → guard_of p ≡ Some mode → (i : ℕ) × (p.guard ≡ Some i) × HoldsShard p mode
+  some-slot mode is = at-slot p.guard refl
     where
-      at-slot : (o : Option ℕ) → p.slot ≡ o → (i : ℕ) × (p.slot ≡ Some i) × HoldsShard p mode
+      at-slot : (o : Option ℕ) → p.guard ≡ o → (i : ℕ) × (p.guard ≡ Some i) × HoldsShard p mode
       at-slot None e = absurd (none-some mode (sym (ap (λ o. guard_mode o p.hold) e) ∙ is))
       at-slot (Some i) e = let g = guarded-by i e in (i, e, subst (HoldsShard p) (same_Some g.0 mode (sym g.2 ∙ is)) g.1)
 
   -- what a call is told where no guard is held, and a write through a shared one
-  no-answer : (h : Held D) → p.slot ≡ None → (at : At K V) → GuardIs w.tables p p.slot at → (held_answer x.deeds h at ≡ answer.NoGuard) × (held_leaves x.deeds h at ≡ at)
+  no-answer : (h : Held D) → p.guard ≡ None → (at : At K V) → GuardIs w.tables p p.guard at → (held_answer x.deeds h at ≡ answer.NoGuard) × (held_leaves x.deeds h at ≡ at)
   no-answer h none at g =
       let is : (o : Option (K × V)) × (at ≡ free o) = subst (λ (z : Option ℕ). GuardIs w.tables p z at) none g in
       (ap (held_answer x.deeds h) is.1, ap (held_leaves x.deeds h) is.1 ∙ sym is.1)
@@ -134,10 +134,10 @@ module _ {K V S D T A : Type 0} (x : Setup K V D T) (laws : Laws x) (w : State K
   abbrev IsRefusedShared : Held D → Type 0
   IsRefusedShared h = (pair : K × V) → (held_answer x.deeds h (shared pair) ≡ answer.WrongGuard) × (held_leaves x.deeds h (shared pair) ≡ shared pair)
 
-  no-change : (h : Held D) → IsRefusedShared h → guard_of p ≡ Some Shared → (at : At K V) → GuardIs w.tables p p.slot at → (held_answer x.deeds h at ≡ answer.WrongGuard) × (held_leaves x.deeds h at ≡ at)
+  no-change : (h : Held D) → IsRefusedShared h → guard_of p ≡ Some Shared → (at : At K V) → GuardIs w.tables p p.guard at → (held_answer x.deeds h at ≡ answer.WrongGuard) × (held_leaves x.deeds h at ≡ at)
   no-change h refused e at g =
       let slot = some-slot Shared e in
-      let guard = guard-at w.tables p p.slot slot.0 at slot.1 g in
+      let guard = guard-at w.tables p p.guard slot.0 at slot.1 g in
       let mode : guard.1 ≡ Shared = sym guard.3.mode_is ∙ ap (λ (z : Hold). z.mode) (same_Some guard.3.hold slot.2.hold (sym guard.3.has ∙ slot.2.has)) ∙ slot.2.mode_is in
       let is : at ≡ shared guard.0 = guard.2 ∙ ap (λ (m : Mode). guarded m guard.0) mode in
       let r = refused guard.0 in
@@ -149,8 +149,8 @@ module _ {K V S D T A : Type 0} (x : Setup K V D T) (laws : Laws x) (w : State K
 
   -- a call that the guard doesn't allow, or where none is held: it is answered so, and its session's block counts it in
   module _ (h : Held D) (asks : p.asks.items ≡ ask.Held h ∷ rest.items) (guard : Option Mode) (r : Answer K V T) (phase-is : start_phase {K = K} {V = V} {T = T} (ask.Held h) guard ≡ phase.Answer r)
-      (refused : (at : At K V) → GuardIs w.tables p p.slot at → (held_answer x.deeds h at ≡ r) × (held_leaves x.deeds h at ≡ at))
-      (ended : is_drop h ≡ true → p.slot ≡ None) where
+      (refused : (at : At K V) → GuardIs w.tables p p.guard at → (held_answer x.deeds h at ≡ r) × (held_leaves x.deeds h at ≡ at))
+      (ended : is_drop h ≡ true → p.guard ≡ None) where
     abbrev refused-place : Place K V D T A
     refused-place = begun (ask.Held h) guard
 
@@ -208,12 +208,12 @@ module _ {K V S D T A : Type 0} (x : Setup K V D T) (laws : Laws x) (w : State K
             subst (λ (z : Option ℕ). IsInSession x w.blocks w.tables s.thread p p.next (Some c) z) mine (subst (λ (z : Option ℕ). IsInSession x w.blocks w.tables s.thread p p.next z p.block) inside resting.2) in
             let b = n.0 in let d = n.1 in
             let its : session.block ≡ b = same_Some session.block b (sym session.listed ∙ n.2) in
-            let at-guard : GuardIs w.tables p p.slot (reached x s.thread c (p.next - c) (found x w.blocks i b)) =
-            subst (λ (z : Block K). GuardIs w.tables p p.slot (reached x s.thread c (p.next - c) (found x w.blocks i z))) its session.guard in
+            let at-guard : GuardIs w.tables p p.guard (reached x s.thread c (p.next - c) (found x w.blocks i b)) =
+            subst (λ (z : Block K). GuardIs w.tables p p.guard (reached x s.thread c (p.next - c) (found x w.blocks i z))) its session.guard in
             let no = refused (reached x s.thread c (p.next - c) (found x w.blocks i b)) at-guard in
             let same = ap pair_in no.1 in
             let on = growing.session-on x laws w s sound p at h (asked a asks) c i inside session b d n.2 n.3 (inl same) w.tables p' refl refl
-            (subst (λ (z : At K V). GuardIs w.tables p' p'.slot z) (sym no.1) (guard-moved x p p' w.tables p.slot (reached x s.thread c (p.next - c) (found x w.blocks i b)) refl refl at-guard)) in
+            (subst (λ (z : At K V). GuardIs w.tables p' p'.guard z) (sym no.1) (guard-moved x p p' w.tables p.guard (reached x s.thread c (p.next - c) (found x w.blocks i b)) refl refl at-guard)) in
             subst (λ (z : List (Block K)). Begun a guard z) (sym n.4)
             (growing.sound-counted x laws w s sound p at h (asked a asks) c i inside session b d n.2 n.3 (inl same) p' refl (stays a asks guard) same w.holds refl (inl refl)
             (answered-claim (slice_set w.blocks i d)
@@ -234,7 +234,7 @@ module _ {K V S D T A : Type 0} (x : Setup K V D T) (laws : Laws x) (w : State K
 
   -- a call through a shared guard that only an exclusive one allows
   wrong-guard : (h : Held D) → IsRefusedShared h → (asks : p.asks.items ≡ ask.Held h ∷ rest.items) → guard_of p ≡ Some Shared → start_phase {K = K} {V = V} {T = T} (ask.Held h) (Some Shared) ≡ phase.Answer answer.WrongGuard
-      → (is_drop h ≡ true → p.slot ≡ None)
+      → (is_drop h ≡ true → p.guard ≡ None)
       → (blocks : List (Block K)) → (o : Option ℕ) → p.block ≡ o → CountsCall w.blocks o p.next blocks
       → Begun (ask.Held h) (Some Shared) blocks
   wrong-guard h refused asks e phase-is drops blocks None free_ n =
@@ -250,13 +250,13 @@ module _ {K V S D T A : Type 0} (x : Setup K V D T) (laws : Laws x) (w : State K
       let outside = keyed-apart x laws w s w sound p st k (asked a asks) in
       let nothing = outside-free x w.blocks w.tables s.thread p p.next p.block outside.0 resting.2 in
       same-blocks a guard blocks n (sound-begun a asks guard refl
-      (in_call a asks guard, record { block = nothing.1; slot = nothing.0; shard = shard-keyed D x.route k p.shard }, resting.1 nothing.0))
+      (in_call a asks guard, record { block = nothing.1; guard = nothing.0; shard = shard-keyed D x.route k p.shard }, resting.1 nothing.0))
   begun-by (ask.Begin b) asks guard e blocks n =
       let a : Ask K V D = ask.Begin b in
       let outside = begin-apart x laws w s w sound p st b (asked a asks) in
       let nothing = outside-free x w.blocks w.tables s.thread p p.next p.block outside.0 resting.2 in
       same-blocks a guard blocks n (sound-begun a asks guard refl
-      (in_call a asks guard, record { block = nothing.1; slot = nothing.0; shard = shard-begin V D x.route b p.shard }, resting.1 nothing.0))
+      (in_call a asks guard, record { block = nothing.1; guard = nothing.0; shard = shard-begin V D x.route b p.shard }, resting.1 nothing.0))
   begun-by (ask.Held (held.Read d)) asks (Some mode) e blocks n =
       let a : Ask K V D = ask.Held (held.Read d) in
       let g = some-slot mode e in
