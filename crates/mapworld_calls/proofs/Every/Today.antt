@@ -32,6 +32,7 @@ use Rattle.mapworld_calls.specs.Every.Replay as every_replay
 use Rattle.mapworld_calls.specs.Every.Agrees as every_agrees
 use Rattle.mapworld_calls.specs.Every.Placed as every_placed
 use Rattle.mapworld_calls.specs.Every.Today.{as_keyed, as_begin, as_held, as_ask, as_answer, as_reply, as_setup}
+use Rattle.mapworld_calls.proofs.Handed.{Handed, IsOfBlock, reached-handed, of-block}
 
 -- the calls of the same numbers
 
@@ -95,13 +96,6 @@ pair-as (today.exclusive p) = refl
 pair-as (today.occupied k p) = refl
 pair-as (today.vacant k) = refl
 
--- an entry's guard has the key that its opening was handed
-abbrev Handed : {K V : Type 0} → K → today.At K V → Type 0
-Handed key (today.free o) = Unit {0}
-Handed key (today.shared p) = Unit {0}
-Handed key (today.exclusive p) = Unit {0}
-Handed key (today.occupied k p) = k ≡ key
-Handed key (today.vacant k) = k ≡ key
 
 keyed-key-as : {K V D : Type 0} (k : Keyed K V D) → every_setup.keyed_key (as_keyed k) ≡ keyed_key k
 keyed-key-as (keyed.Insert k v) = refl
@@ -166,59 +160,6 @@ module _ {K V D T : Type 0} (deeds : Deeds D K V T) (key : K) where
   first-tells (ask.Begin (begin.Entry k)) is None = refl
   first-tells (ask.Begin (begin.Entry k)) is (Some p) = refl
   first-tells (ask.Held h) is o = absurd (none-some key is)
-
-  first-handed : (a : Ask K V D) → key_of a ≡ Some key → (o : Option (K × V)) → Handed key (today.after deeds a (today.free o))
-  first-handed (ask.Keyed k) is o = tt
-  first-handed (ask.Begin (begin.Get k)) is None = tt
-  first-handed (ask.Begin (begin.Get k)) is (Some p) = tt
-  first-handed (ask.Begin (begin.GetMut k)) is None = tt
-  first-handed (ask.Begin (begin.GetMut k)) is (Some p) = tt
-  first-handed (ask.Begin (begin.Entry k)) is None = same_Some k key is
-  first-handed (ask.Begin (begin.Entry k)) is (Some p) = same_Some k key is
-  first-handed (ask.Held h) is o = absurd (none-some key is)
-
-  held-handed : (h : Held V D) (s : today.At K V) → Handed key s → Handed key (today.after deeds (ask.Held h) s)
-  held-handed h (today.free o) handed = tt
-  held-handed (held.Read d) (today.shared p) handed = tt
-  held-handed (held.Read d) (today.exclusive p) handed = tt
-  held-handed (held.Read d) (today.occupied k p) handed = handed
-  held-handed (held.Read d) (today.vacant k) handed = handed
-  held-handed (held.Write d) (today.shared p) handed = tt
-  held-handed (held.Write d) (today.exclusive p) handed = tt
-  held-handed (held.Write d) (today.occupied k p) handed = handed
-  held-handed (held.Write d) (today.vacant k) handed = handed
-  held-handed held.Downgrade (today.shared p) handed = tt
-  held-handed held.Downgrade (today.exclusive p) handed = tt
-  held-handed held.Downgrade (today.occupied k p) handed = handed
-  held-handed held.Downgrade (today.vacant k) handed = handed
-  held-handed (held.Insert v) (today.shared p) handed = tt
-  held-handed (held.Insert v) (today.exclusive p) handed = tt
-  held-handed (held.Insert v) (today.occupied k p) handed = handed
-  held-handed (held.Insert v) (today.vacant k) handed = tt
-  held-handed held.IntoRef (today.shared p) handed = tt
-  held-handed held.IntoRef (today.exclusive p) handed = tt
-  held-handed held.IntoRef (today.occupied k p) handed = tt
-  held-handed held.IntoRef (today.vacant k) handed = handed
-  held-handed held.Remove (today.shared p) handed = tt
-  held-handed held.Remove (today.exclusive p) handed = tt
-  held-handed held.Remove (today.occupied k p) handed = tt
-  held-handed held.Remove (today.vacant k) handed = handed
-  held-handed held.RemoveEntry (today.shared p) handed = tt
-  held-handed held.RemoveEntry (today.exclusive p) handed = tt
-  held-handed held.RemoveEntry (today.occupied k p) handed = tt
-  held-handed held.RemoveEntry (today.vacant k) handed = handed
-  held-handed (held.ReplaceEntry v) (today.shared p) handed = tt
-  held-handed (held.ReplaceEntry v) (today.exclusive p) handed = tt
-  held-handed (held.ReplaceEntry v) (today.occupied k p) handed = tt
-  held-handed (held.ReplaceEntry v) (today.vacant k) handed = handed
-  held-handed held.IntoKey (today.shared p) handed = tt
-  held-handed held.IntoKey (today.exclusive p) handed = tt
-  held-handed held.IntoKey (today.occupied k p) handed = tt
-  held-handed held.IntoKey (today.vacant k) handed = tt
-  held-handed held.Drop (today.shared p) handed = tt
-  held-handed held.Drop (today.exclusive p) handed = tt
-  held-handed held.Drop (today.occupied k p) handed = tt
-  held-handed held.Drop (today.vacant k) handed = tt
 
   held-leaves : (h : Held V D) (s : today.At K V) → Handed key s → every.after deeds key (as_ask (ask.Held h)) (as_at s) ≡ as_at (today.after deeds (ask.Held h) s)
   held-leaves h (today.free o) handed = refl
@@ -306,30 +247,9 @@ module _ {K V D T : Type 0} (deeds : Deeds D K V T) (key : K) where
   held-tells held.Drop (today.occupied k p) handed = refl
   held-tells held.Drop (today.vacant k) handed = refl
 
--- the calls of a block: the first has a key, and all others are of its guard
-pub record IsOfBlock {K V D T : Type 0} (w : Setup K V D T) (t c n : ℕ) : Type 0 where
-  pub first : Ask K V D
-  pub asked : ask_at w t c ≡ Some first
-  pub key : K
-  pub key_is : key_of first ≡ Some key
-  pub others : (m : ℕ) → 0 < m → m < n → (h : Held V D) × (ask_at w t (c + m) ≡ Some (ask.Held h))
-
 module _ {K V D T : Type 0} (w : Setup K V D T) (shards t c : ℕ) where
   abbrev g : every_setup.Setup K V D T
   g = as_setup shards w
-
-  -- an entry's guard has the block's key
-  reached-handed : (n : ℕ) (b : IsOfBlock w t c n) (o : Option (K × V)) → Handed b.key (reached w t c n o)
-  reached-handed zero b o = tt
-  reached-handed (suc zero) b o =
-      let here : c + 0 ≡ c = omega arith in
-      let is : ask_at w t (c + 0) ≡ Some b.first = rw here b.asked in
-      subst (λ (a : Option (Ask K V D)). Handed b.key (after_ask w.deeds a (today.free o))) (sym is) (first-handed w.deeds b.key b.first b.key_is o)
-  reached-handed (suc (suc n)) b o =
-      let front : IsOfBlock w t c (suc n) = record { first = b.first; asked = b.asked; key = b.key; key_is = b.key_is; others = λ i pos lt. b.others i pos (omega (arith, lt)) } in
-      let call = b.others (suc n) (omega arith) (omega arith) in
-      subst (λ (a : Option (Ask K V D)). Handed b.key (after_ask w.deeds a (reached w t c (suc n) o))) (sym call.1)
-      (held-handed w.deeds b.key call.0 (reached w t c (suc n) o) (reached-handed (suc n) front o))
 
   -- where the calls lead
   reached-as : (n : ℕ) (b : IsOfBlock w t c n) (o : Option (K × V)) → every_replay.reached g b.key t c n o ≡ as_at (reached w t c n o)
@@ -344,7 +264,7 @@ module _ {K V D T : Type 0} (w : Setup K V D T) (shards t c : ℕ) where
       let front : IsOfBlock w t c (suc n) = record { first = b.first; asked = b.asked; key = b.key; key_is = b.key_is; others = λ i pos lt. b.others i pos (omega (arith, lt)) } in
       let call = b.others (suc n) (omega arith) (omega arith) in
       ap₂ (λ a z. every_replay.after_ask w.deeds b.key a z) (asked w shards t (c + suc n) (ask.Held call.0) call.1) (reached-as (suc n) front o)
-      ∙ (held-leaves w.deeds b.key call.0 (reached w t c (suc n) o) (reached-handed (suc n) front o)
+      ∙ (held-leaves w.deeds b.key call.0 (reached w t c (suc n) o) (reached-handed w t c (suc n) front o)
       ∙ sym (ap (λ a. as_at (after_ask w.deeds a (reached w t c (suc n) o))) call.1))
 
   -- what the call of that number tells
@@ -361,7 +281,7 @@ module _ {K V D T : Type 0} (w : Setup K V D T) (shards t c : ℕ) where
       let front : IsOfBlock w t c (suc n) = record { first = b.first; asked = b.asked; key = b.key; key_is = b.key_is; others = λ i pos lt. b.others i pos (omega (arith, lt)) } in
       let call = b.others (suc n) (omega arith) (omega arith) in
       ap₂ (λ a z. option_map (λ x. every.told w.deeds b.key x z) a) (asked w shards t (c + suc n) (ask.Held call.0) call.1) (reached-as (suc n) front o)
-      ∙ (ap (λ a. Some a) (held-tells w.deeds b.key call.0 (reached w t c (suc n) o) (reached-handed (suc n) front o))
+      ∙ (ap (λ a. Some a) (held-tells w.deeds b.key call.0 (reached w t c (suc n) o) (reached-handed w t c (suc n) front o))
       ∙ sym (ap (λ a. option_map as_answer (option_map (λ x. today.told w.deeds x (reached w t c (suc n) o)) a)) call.1))
 
 -- lists that are gone through alike
@@ -404,17 +324,6 @@ module _ {K V D T : Type 0} (w : Setup K V D T) (shards : ℕ) (steps : List ℕ
   abbrev as_replies : List (every_agrees.Reply K V T)
   as_replies = map as_reply replies
 
-  -- a listed block has done calls of its own alone
-  calls-of : (b : Block K) (a : Ask K V D) → ask_at w b.thread b.call ≡ Some a → placed.IsDoneWithin w started replies b a → IsOfBlock w b.thread b.call b.done.value
-  calls-of b (ask.Keyed k) is done =
-      record { first = ask.Keyed k; asked = is; key = keyed_key k; key_is = refl; others = λ m pos lt. absurd (let le = done.once in omega (arith, le, pos, lt)) }
-  calls-of b (ask.Begin g) is done =
-      record { first = ask.Begin g; asked = is; key = opening_key g; key_is = refl; others = λ m pos lt. let c = done.calls m pos lt in (c.0, c.1) }
-  calls-of b (ask.Held h) is done = absurd done
-
-  of-block : (i : ℕ) (b : Block K) → slice_get bs i ≡ Some b → IsOfBlock w b.thread b.call b.done.value
-  of-block i b at = let p = well.placed i b at in calls-of b p.ask p.asked p.done
-
   work-is : (b : Block K) (n : ℕ) (o : IsOfBlock w b.thread b.call n) → every_replay.block_work e b ≡ every_replay.one o.key
   work-is b n o = ap every_replay.work_of (asked w shards b.thread b.call o.first o.asked) ∙ work-as o.first o.key o.key_is
 
@@ -424,7 +333,7 @@ module _ {K V D T : Type 0} (w : Setup K V D T) (shards : ℕ) (steps : List ℕ
   -- it leaves the same
   left-as : (i : ℕ) (b : Block K) → slice_get bs i ≡ Some b → (q : K) (z : Option (K × V)) → every_replay.left e b q z ≡ left w q z b
   left-as i b at q z =
-      let o = of-block i b at in
+      let o = of-block w steps started bs replies well i b at in
       ap (λ k. if every_replay.works_on e k b q then every_replay.left_by e k b z else z) (work-is b b.done.value o)
       ∙ (ap (λ s. if w.eq o.key q then s else z) (ap every.pair_in (reached-as w shards b.thread b.call b.done.value o z) ∙ pair-as (reached w b.thread b.call b.done.value z))
       ∙ sym (ap (λ k. if is_key w.eq k q then today.pair_in (reached w b.thread b.call b.done.value z) else z) (key-is b b.done.value o)))
@@ -441,7 +350,7 @@ module _ {K V D T : Type 0} (w : Setup K V D T) (shards : ℕ) (steps : List ℕ
   told-as : (t c n : ℕ) (a : Answer K V T) → agrees.IsToldBy w bs t c n a → every_agrees.IsToldBy e bs t c n (as_answer a)
   told-as t c n a h =
       let b = h.block in
-      let o = of-block h.place b h.listed in
+      let o = of-block w steps started bs replies well h.place b h.listed in
       let front : IsOfBlock w b.thread b.call (suc n) = record { first = o.first; asked = o.asked; key = o.key; key_is = o.key_is; others = λ m pos lt. o.others m pos (let le = h.done in omega (arith, lt, le)) } in
       let finds : found w bs h.place b ≡ contents w (take h.place bs) o.key = ap (at_key (contents w (take h.place bs))) (key-is b b.done.value o) in
       record {
