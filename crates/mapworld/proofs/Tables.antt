@@ -76,7 +76,7 @@ module _ {K V : Type 0} (eq : K → K → Bool) (laws : IsEquivalence eq) where
       ])))
 
   -- a pair under an equal key keeps the keys up to equality
-  put-keys : (ps : List (K × V)) (i : ℕ) (p z : K × V) → eq p.0 z.0 ≡ true → slice_get ps i ≡ Some p → (j : ℕ) (r : K × V) → slice_get (slice_set ps i z) j ≡ Some r
+  pub put-keys : (ps : List (K × V)) (i : ℕ) (p z : K × V) → eq p.0 z.0 ≡ true → slice_get ps i ≡ Some p → (j : ℕ) (r : K × V) → slice_get (slice_set ps i z) j ≡ Some r
       → (s : K × V) × (slice_get ps j ≡ Some s) × (eq r.0 s.0 ≡ true)
   put-keys ps i p z same at j r h = elim (slice_get-set_cases ps i j p r z at h) [
     | inl a ↦ (p, ap (λ k. slice_get ps k) a.0 ∙ at, ap (λ (x : K × V). eq x.0 p.0) a.1 ∙ (laws.symm z.0 p.0 ∙ same))
