@@ -42,7 +42,7 @@ use Rattle.mapworld.proofs.Reading.{in-session, guard-at, HasPair-is}
 use Rattle.mapworld.proofs.Acting.{counted-block, eq-found, routed-at}
 use Rattle.mapworld.proofs.Growing as growing
 
-same-kind : {K : Type 0} (g : Option (Guard K)) (k k' : Way K) (i i' : ℕ) → g ≡ Some (guard.Pair k i) → g ≡ Some (guard.Pair k' i') → k ≡ k'
+pub same-kind : {K : Type 0} (g : Option (Guard K)) (k k' : Way K) (i i' : ℕ) → g ≡ Some (guard.Pair k i) → g ≡ Some (guard.Pair k' i') → k ≡ k'
 same-kind g k k' i i' e f = let both : Some (guard.Pair k i) ≡ Some (guard.Pair k' i') = sym e ∙ f in cc
 
 pair-lent : {K V : Type 0} (k : Way K) (p : K × V) → pair_in (lent k p) ≡ Some p
