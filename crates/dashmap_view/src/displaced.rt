@@ -23,7 +23,7 @@ impl<M> Model for Displaced<M> {
 impl<M> Displaced<M> {
     /// The refusal of `map`.
     pub fn new(map: M) -> Displaced<M>
-        ensures { result ≡ map.entry }
+        ensures { result ≡ map }
     {
         Displaced { map }
     }
