@@ -1,8 +1,8 @@
 -- Pairs that are where they belong: slot by slot, and shard by shard.
-use Rattle.std.proofs.Common.{◌≡◌, ℕ, suc, ◌+◌, ◌<◌, ◌≤◌, Bool, List, [], length, Option, Some, None, MatchOption, IfSome, slice_index_or, refl, sym, ap, ◌∙◌, subst, inl, inr, arith}
+use Rattle.std.proofs.Common.{◌≡◌, ℕ, suc, ◌+◌, ◌<◌, ◌≤◌, Bool, List, [], length, Option, Some, None, MatchOption, IfSome, slice_index_or, refl, sym, ap, ◌∙◌, subst, inl, inr, below_more, arith}
 use Rattle.std.proofs.Math.Nat.{eq-or-lt_of_le}
 use Rattle.std.proofs.lemmas.Bool.{cases_lt}
-use Rattle.std.proofs.lemmas.List.{get_or_past}
+use Rattle.std.proofs.lemmas.List.{get_or_past, get_or_read}
 use Rattle.std.proofs.lemmas.Option.{none-some, MatchOption-at_some}
 use Rattle.dashmap_table.specs.declared.entry.Entry.{Entry}
 use Rattle.dashmap_table.specs.Slots.{at, IsNextFull}
@@ -51,6 +51,16 @@ module _ {K V : Type 0} where
     | inl here ↦ within j here
     | inr behind ↦ subst (P j) (sym (get_or_past tables j no_pairs behind)) (past j)
   ]
+
+  -- what holds at each number holds of the shard that was read at one of them
+  pub at_index : (P : ℕ → Table K V → Type 0) (tables : List (Table K V)) (i : ℕ) (t : Table K V) → i < length tables → t ≡ slice_index_or tables i t → ((j : ℕ) → P j (table_at tables j)) → P i t
+  at_index P tables i t within here all = subst (P i) (sym (get_or_read tables i t within here no_pairs)) (all i)
+
+  -- one shard more
+  pub shards-more : (P : ℕ → Table K V → Type 0) (tables : List (Table K V)) (i : ℕ) (t : Table K V) → i < length tables → t ≡ slice_index_or tables i t
+      → ((j : ℕ) → j < i → P j (table_at tables j)) → P i t → (j : ℕ) → j < i + 1 → P j (table_at tables j)
+  shards-more P tables i t within here below holds =
+      below_more (λ j. P j (table_at tables j)) i below (subst (P i) (get_or_read tables i t within here no_pairs) holds)
 
   pub no_pairs-sound : (eq : K → K → Bool) → IsSound {K = K} {V = V} eq no_pairs
   no_pairs-sound eq = record {

@@ -1,6 +1,7 @@
 -- The pairs that are left behind a slot of the first shard.
 use Rattle.std.proofs.Common.{◌≡◌, ℕ, zero, suc, ◌+◌, ◌<◌, ◌≤◌, List, [], ◌∷◌, ◌++◌, length, drop, Option, Some, None, IsSome, MatchOption, refl, sym, ap, ◌∙◌, subst, add-one, arith}
 use Rattle.std.specs.Option.{option_map}
+use Rattle.std.specs.Iterator.{MakesProgress, item_count}
 use Rattle.std.proofs.lemmas.Bool.{false≢true}
 use Rattle.std.proofs.lemmas.Option.{none-some, same_Some}
 use Rattle.dashmap_table.specs.declared.entry.Entry.{Entry}
@@ -66,3 +67,11 @@ module _ {K V : Type 0} where
       → MatchOption left (Unit {0}) (λ l. l ≡ []) → pairs_left (Some (pairs_of t.slots)) ts ≡ pairs_left left tables
   take_shard None tables t ts split none = sym (ap all_pairs split)
   take_shard (Some l) tables t ts split none = sym (ap (λ (l : List (K × V)). l ++ all_pairs tables) none ∙ ap all_pairs split)
+
+-- a call that gives the first of what is left makes progress
+pub progress : {P B : Type 0} (can : List B → Type 0) → ((l : List B) → can l) → (read : P → B) (r : Option P) (before after : List B)
+    → MatchOption r ((before ≡ []) × (after ≡ [])) (λ x. before ≡ read x ∷ after) → MakesProgress can (item_count (λ (l : List B). l)) before r after
+progress can able read None before after given = record { on = λ _. tt; keeps = tt; rests = λ _. tt }
+progress can able read (Some x) before after given =
+    let long : length before ≡ suc (length after) = ap length given in
+    record { on = λ _. (able after, tt, omega arith); keeps = able after; rests = λ _. tt }

@@ -12,6 +12,7 @@ use crate::owning::OwningIter;
 use crate::routed::are_routed;
 use dashmap_table::{Shard, route};
 use std::alloc::{Allocator, Global};
+use std::fmt;
 use std::hash::{BuildHasher, Hash};
 use std::marker::Model;
 
@@ -167,5 +168,13 @@ impl<K: Eq + Hash + Drop, V: Drop, S: BuildHasher + Drop, A: Allocator> IntoIter
     {
         let (shards, _) = self.into_parts();
         OwningIter::new(shards)
+    }
+}
+
+/// A map's text, shards and their slots in order.
+impl<K: Eq + Hash + fmt::Debug, V: fmt::Debug, S: BuildHasher, A: Allocator> fmt::Debug
+    for PlainView<K, V, S, A> {
+    fn fmt<W: fmt::Write>(&self, f: &mut fmt::Formatter<W>) -> fmt::Result {
+        f.debug_map().entries(self.iter()).finish()
     }
 }
