@@ -110,7 +110,7 @@ impl<R: Wait, A: Allocator + Clone> ParkingLot<R, A> {
     /// Gives a participant's number back, and forgets what is recorded for that number in the lot.
     pub fn retire(&self, thread_data: ThreadData<A>)
         requires { (thread_data.lot ≡ self.now.number) × (thread_data.thread < self.now.max_threads) }
-        ensures { OnSomeLot (Does (λ m. retire_fault m thread_data.thread) (Makes (λ m. retired m thread_data.thread))) tt }
+        ensures { OnSomeLot (Does (λ m. retire_fault m thread_data.thread) (Makes (λ m. retired m thread_data.thread))) result }
     {
         match self
             .state

@@ -41,7 +41,7 @@ returns-clause-joined g c =
     let ended : c.in-Ok.ended ≢ Invalid = valid tells thread old new c.in-Ok.ended (resume_fault old thread) (place_at old.places thread) c.in-Ok.ensures.lot in
     let begun : OnSomeLot (Does (λ m. enter_fault m thread) (Parks validates thread c.args.key c.args.park_token c.is_some.result)) None = c.if-not-begin.ensures.joined in
     let known : OnSomeLot (Does (λ m. enter_fault m thread) (Parks validates thread c.args.key c.args.park_token (is_some c.args.timeout))) None =
-        subst (λ b. OnSomeLot (Does (λ m. enter_fault m thread) (Parks validates thread c.args.key c.args.park_token b)) None) c.is_some.ensures begun in
+    subst (λ b. OnSomeLot (Does (λ m. enter_fault m thread) (Parks validates thread c.args.key c.args.park_token b)) None) c.is_some.ensures begun in
     (true, ended, subst (λ t. OnSomeLot (Does (λ m. enter_fault m t) (Parks validates t c.args.key c.args.park_token (is_some c.args.timeout))) None) (ap (λ t. t.thread) c.thread_data.view_is) known)
 
 pub returns-clause-ended : goal.returns-clause-ended
