@@ -205,6 +205,19 @@ where
         Ok(self.begin(token, party))
     }
 
+    /// Waits for a hold. Where the count is full it yields and tries again until there is room.
+    pub(crate) fn lock_again(&self, party: &mut R::Party) -> GuardNoSend
+        ensures { result ≡ self.now.number }
+    {
+        for _ in self.raw.runtime().forever() {
+            match self.lock(party) {
+                Ok(token) => return token,
+                Err(ReadersFull) => thread::yield_now(),
+            }
+        }
+        unreachable!()
+    }
+
     /// As `lock`, but `Ok(None)` where another party holds it.
     pub fn try_lock(&self, party: &R::Party) -> Result<Option<GuardNoSend>, ReadersFull>
         ensures { IfOk result (λ some. IfSome some (λ token. token ≡ self.now.number)) }
