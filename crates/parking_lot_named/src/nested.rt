@@ -59,18 +59,18 @@ pub fn read_again<R: Wait, A: Allocator>(guard: NestedGuard<'_, '_, '_, R, A>) -
 
 /// A guard that a user keeps in a field, with the number that it lent at first.
 #[derive(Drop)]
-pub struct Nest<'m, 't, 'l, R: Wait, A: Allocator = Global> {
+pub struct Nesting<'m, 't, 'l, R: Wait, A: Allocator = Global> {
     guard: NestedGuard<'m, 't, 'l, R, A>,
     first: u64,
 }
 
-impl<'m, 't, 'l, R: Wait, A: Allocator> Nest<'m, 't, 'l, R, A> {
+impl<'m, 't, 'l, R: Wait, A: Allocator> Nesting<'m, 't, 'l, R, A> {
     /// Keeps a guard.
-    pub fn new(guard: NestedGuard<'m, 't, 'l, R, A>) -> Nest<'m, 't, 'l, R, A>
+    pub fn new(guard: NestedGuard<'m, 't, 'l, R, A>) -> Nesting<'m, 't, 'l, R, A>
         ensures { result.first ≡ read_guard_value result.guard.inner }
     {
         let first = *guard;
-        Nest { guard, first }
+        Nesting { guard, first }
     }
 
     /// What it lends.
