@@ -48,7 +48,8 @@ impl<K: Eq + Hash, V, S: BuildHasher, Q, A: Allocator> DashMap<K, V, S, Q, A> {
 
     /// Lends the shards in their order, each behind its lock. For the layer above.
     pub fn shard_locks(&self) -> &[CachePadded<RwLock<Q, Shard<K, V, A>>>]
-        ensures { result.now ≡ self.now.locks }
+        ensures locks { result.now ≡ self.now.locks }
+        ensures amount { IsShardAmount (length self.now.locks) }
     {
         &self.shards
     }

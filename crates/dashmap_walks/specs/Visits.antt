@@ -1,7 +1,8 @@
--- Walks: one step for each number, in order.
+-- Walks: one step for each number, in order; and what a step of a walk over the slots of a shard does.
 use Rattle.std.specs.Prelude.{◌≡◌, ℕ, zero, suc, Bool, true, false, Option, Some, None, MatchOption}
 use Rattle.std.specs.Borrow.{Bor, MutBor}
 use Rattle.std.specs.Fn.{Mut, Called}
+use Rattle.dashmap_table.specs.declared.entry.Entry.{Entry}
 use Rattle.dashmap_table.specs.Slots.{at}
 use Rattle.dashmap_table.specs.Table.{Table, Frees, with_value}
 
@@ -25,18 +26,24 @@ pub record MakesNext {F K V : Type 0} (member : Mut F (Bor K × (V × Unit {0}))
   pub shows : key.now ≡ k
   pub called : Called member f (key, (v, tt)) w g
 
+-- a closure and the shard that it is shown
+abbrev pub Turn : (F K V : Type 0) → Type 0
+Turn F K V = F × Table K V
+
 module _ {F K V : Type 0} where
+  -- one slot of a walk: Q says what is done with the entry of a full one; a free one is passed by
+  abbrev pub AtFull : (Turn F K V → Entry K V → ℕ → Turn F K V → Type 0) → Turn F K V → ℕ → Turn F K V → Type 0
+  AtFull Q p i q = MatchOption (at p.1.slots i) (q ≡ p) (λ e. Q p e i q)
+
   -- an entry stays where the answer is yes, and goes where it is no
   abbrev pub StaysIf : Bool → Table K V → Table K V → ℕ → Type 0
   StaysIf true old new i = new ≡ old
   StaysIf false old new i = Frees old new i
 
-  -- one slot of a walk that keeps the pairs of which the closure answers yes: a free one is passed by
-  abbrev pub Keeps : Mut F (Bor K × (MutBor V × Unit {0})) (Bool × (MutBor V × Unit {0})) → F × Table K V → ℕ → F × Table K V → Type 0
-  Keeps member p i q = MatchOption (at p.1.slots i) (q ≡ p)
-      (λ e. (answer : Bool) × (left : V) × AnswersNext member p.0 e.key e.value answer left q.0 × StaysIf answer (with_value p.1 i left) q.1 i)
+  -- the closure is asked of the pair, which may be written, and the pair goes where it answers no
+  abbrev pub Keeps : Mut F (Bor K × (MutBor V × Unit {0})) (Bool × (MutBor V × Unit {0})) → Turn F K V → Entry K V → ℕ → Turn F K V → Type 0
+  Keeps member p e i q = (answer : Bool) × (left : V) × AnswersNext member p.0 e.key e.value answer left q.0 × StaysIf answer (with_value p.1 i left) q.1 i
 
-  -- one slot of a walk that stores what the closure makes of each value
-  abbrev pub Alters : Mut F (Bor K × (V × Unit {0})) V → F × Table K V → ℕ → F × Table K V → Type 0
-  Alters member p i q = MatchOption (at p.1.slots i) (q ≡ p)
-      (λ e. (made : V) × MakesNext member p.0 e.key e.value made q.0 × (q.1 ≡ with_value p.1 i made))
+  -- the value is what the closure makes of it
+  abbrev pub Alters : Mut F (Bor K × (V × Unit {0})) V → Turn F K V → Entry K V → ℕ → Turn F K V → Type 0
+  Alters member p e i q = (made : V) × MakesNext member p.0 e.key e.value made q.0 × (q.1 ≡ with_value p.1 i made)
