@@ -152,7 +152,7 @@ impl<
         ensures bad_shards { (result ≡ Err MapFault.BadShards) ↔ (2 ^ 16 < wanted_shards parallelism) }
         ensures fits { ¬ (result ≡ Err MapFault.CapacityOverflow) }
     {
-        let mut map = DashMap::with_hasher(alloc, hasher, parallelism, table)?;
+        let mut map = DashMap::default(alloc, hasher, parallelism, table)?;
         match map.extend(iter) {
             Ok(()) => Ok(map),
             Err(_) => Err(MapFault::NoMemory),

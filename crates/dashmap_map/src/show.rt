@@ -10,6 +10,7 @@ use std::hash::{BuildHasher, Hash};
 use std::sync::Wait;
 
 /// What stands for a part of the map.
+#[derive(Drop)]
 enum Shown<'s, K, V> {
     Pair(&'s K, &'s V),
     Locked,

@@ -3,9 +3,9 @@ use Rattle.std.proofs.Common.{◌≡◌, ℕ, zero, suc, ◌+◌, ◌-◌, ◌<�
 use Rattle.std.specs.Borrow.{Bor, MutBor}
 use Rattle.std.specs.Fn.{Mut}
 use Rattle.std.specs.Option.{option_map}
-use Rattle.std.proofs.lemmas.Option.{none-some, same_Some}
+use Rattle.std.proofs.lemmas.Option.{none-some, same_Some, MatchOption-at_some, MatchOption-at_none}
 use Rattle.dashmap_table.specs.declared.entry.Entry.{Entry}
-use Rattle.dashmap_table.specs.Slots.{at, pair_of, giving_value}
+use Rattle.dashmap_table.specs.Slots.{at, pair_of, IsNextFull}
 use Rattle.dashmap_table.specs.Table.{Table, Frees, with_value}
 use Rattle.dashmap_table.proofs.Cases.{option_cases}
 use Rattle.dashmap_walks.specs.Visits.{Walked, AnswersNext, MakesNext, Turn, AtFull, StaysIf}
@@ -20,6 +20,12 @@ module _ {P : Type 0} (R : P → ℕ → P → Type 0) where
   walked_to from to p q le w idle =
       let is : (to - from) + from ≡ to = omega (arith, le) in
       subst (λ n. Walked R n p q) is (pass (to - from) from p q w (λ i low high. idle i low (omega (arith, high, is))))
+
+-- and one step further
+pub walked_next : {P : Type 0} (R : P → ℕ → P → Type 0) (n : ℕ) (p m q : P) → Walked R n p m → R m n q → Walked R (n + 1) p q
+walked_next R n p m q w step =
+    let is : suc n ≡ n + 1 = omega arith in
+    subst (λ k. Walked R k p q) is (m, w, step)
 
 module _ {F K V : Type 0} (Q : Turn F K V → Entry K V → ℕ → Turn F K V → Type 0) where
   -- a free slot is passed by
@@ -52,3 +58,13 @@ pub full_within : {K V : Type 0} (xs : List (Option (Entry K V))) (i : ℕ) → 
 full_within [] i full = absurd full
 full_within (x ∷ xs) zero full = omega arith
 full_within (x ∷ xs) (suc i) full = let rest = full_within xs i full in omega (arith, rest)
+
+-- what is known of the next full slot
+pub next_full : {K V : Type 0} (xs : List (Option (Entry K V))) (from : ℕ) (o : Option ℕ) (i : ℕ) → o ≡ Some i
+    → MatchOption o ((j : ℕ) → from ≤ j → at xs j ≡ None) (IsNextFull xs from) → IsNextFull xs from i
+next_full xs from o i is known = MatchOption-at_some _ (IsNextFull xs from) i is known
+
+-- and of there being none
+pub none_from : {K V : Type 0} (xs : List (Option (Entry K V))) (from : ℕ) (o : Option ℕ) → o ≡ None
+    → MatchOption o ((j : ℕ) → from ≤ j → at xs j ≡ None) (IsNextFull xs from) → (j : ℕ) → from ≤ j → at xs j ≡ None
+none_from xs from o is known = MatchOption-at_none ((j : ℕ) → from ≤ j → at xs j ≡ None) (IsNextFull xs from) is known

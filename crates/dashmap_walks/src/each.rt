@@ -44,9 +44,10 @@ fn keep_slot<K: Eq + Hash + Drop, V: Drop, A: Allocator, F: FnMut(&K, &mut V) ->
 {
     let (key, value) = shard.lend(slot);
     let (stays, f) = ask(key, value, f);
-    if !stays {
-        let _pair = shard.remove(slot);
+    if stays {
+        return f;
     }
+    let _pair = shard.remove(slot);
     f
 }
 
