@@ -122,7 +122,7 @@ pub fn clear_in<K: Eq + Hash + Drop, V: Drop, A: Allocator>(shard: &mut Shard<K,
 {
     let mut from = 0;
     while let Some(slot) = shard.next_from(from) {
-        let _pair = shard.remove(slot);
+        let _gone = shard.remove(slot);
         from = slot + 1;
     }
 }
