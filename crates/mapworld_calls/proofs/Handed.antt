@@ -1,5 +1,5 @@
 -- An entry's guard has the key that its opening was handed, which is the key of the session's block.
-use Rattle.std.proofs.Common.{◌≡◌, ℕ, zero, suc, ◌+◌, ◌<◌, List, Option, Some, None, slice_get, ap, sym, ◌∙◌, subst, arith}
+use Rattle.std.proofs.Common.{◌≡◌, ℕ, zero, suc, ◌+◌, ◌<◌, List, Option, Some, None, slice_get, refl, ap, sym, ◌∙◌, subst, arith}
 use Rattle.std.specs.Option.{option_and_then}
 use Rattle.std.proofs.lemmas.Option.{none-some, same_Some}
 use Rattle.mapworld_calls.specs.Deeds.{Deeds}
