@@ -1,5 +1,5 @@
 -- What the code knows of a thread's place between two steps.
-use Rattle.std.proofs.Common.{◌≡◌, ℕ, ◌+◌, ◌-◌, ◌<◌, ◌≤◌, Bool, true, false, if◌then◌else◌, List, length, get_or, Vec, Option, Some, None, is_some, slice_get, sum_by, vec_len, vec_capacity, sym, ◌∙◌, subst, arith}
+use Rattle.std.proofs.Common.{◌≡◌, ℕ, ◌+◌, ◌-◌, ◌<◌, ◌≤◌, Bool, true, false, if◌then◌else◌, List, length, get_or, Vec, Option, Some, None, is_some, slice_get, sum_by, vec_len, vec_capacity, ap, sym, ◌∙◌, subst, arith}
 use Rattle.std.proofs.lemmas.Option.{get_or_from_slice_get, none-some, same_Some}
 use Rattle.mapworld_calls.specs.declared.ask.Ask.{Ask}
 use Rattle.mapworld_calls.specs.declared.block.Block.{Block}
@@ -84,11 +84,11 @@ module _ {K V D T A : Type 0} (x : Setup K V D T) (bs : List (Block K)) (tables 
 
   pub session_pair : (n : ℕ) (session block : Option ℕ) (kind : Way K) (slot : ℕ) → IsInSession x bs tables t p n session block → p.guard ≡ Some (guard.Pair kind slot)
       → (pair : K × V) × HasPair tables p.shard slot pair
-  session_pair n session block kind slot h e = let g = guard_is n session block (guard.Pair kind slot) h e in (g.1, g.4)
+  session_pair n session block kind slot h e = let g = guard_is n session block (guard.Pair kind slot) h e in (g.1.0, g.1.3)
 
   pub session_room : (n : ℕ) (session block : Option ℕ) (key : K) → IsInSession x bs tables t p n session block → p.guard ≡ Some (guard.Vacant key)
       → HasList tables p.shard (λ table. vec_len table < vec_capacity table)
-  session_room n session block key h e = let g = guard_is n session block (guard.Vacant key) h e in g.3
+  session_room n session block key h e = let g = guard_is n session block (guard.Vacant key) h e in g.1.2
 
   -- the block of a deed is that of its call
   pub deed_counts : (key : K) (o : Option (K × V)) → IsBeforeDeed x bs t p key o → CanCount bs p.block p.next
@@ -135,7 +135,7 @@ release_listed {x = x} {w = w} sound t p here r before =
 -- what a guard is taken apart into tells which it was
 pub pair_is : {K : Type 0} (g : Option (Guard K)) (kind : Way K) (slot : ℕ) → lent_pair g ≡ Some (kind, slot) → g ≡ Some (guard.Pair kind slot)
 pair_is None kind slot e = cc
-pair_is (Some (guard.Pair k i)) kind slot e = cc
+pair_is (Some (guard.Pair k i)) kind slot e = ap (λ z. Some (guard.Pair z.0 z.1)) (same_Some (k, i) (kind, slot) e)
 pair_is (Some (guard.Vacant k)) kind slot e = cc
 
 pub slot_is : {K : Type 0} (g : Option (Guard K)) (slot : ℕ) → lent_slot g ≡ Some slot → (kind : Way K) × (g ≡ Some (guard.Pair kind slot))

@@ -74,7 +74,7 @@ module _ {K V S D T A : Type 0} (x : Setup K V D T) (laws : Laws x) (w : State K
     done = listed.done;
     last = last-new x w.blocks d;
     found_is = new-finds x laws w s sound p at a call key key_is Exclusive holds shard not_yet 0 d listed ∙ has-now ∙ is;
-    slot = slot;
+    guard = slot;
     shard = same ∙ shard;
     alone = holds-moved x p p' Exclusive hold same holds;
   }
@@ -420,7 +420,7 @@ module _ {K V S D T A : Type 0} (x : Setup K V D T) (laws : Laws x) (w : State K
         let c = claim-at x (threads_of w) w.blocks w.replies w.tables s.thread p (phase.Find r) before st in
         let here = position-Some_at (has_key x.eq k) table.items i slot in
         let is : pair_of x.eq table.items k ≡ Some here.0 = find-position (has_key x.eq k) table.items i slot ∙ here.1 in
-        let p' : Place K V D T A = record p { block = Some (length w.blocks); slot = Some i; phase = phase.Answer answer.Held } in
+        let p' : Place K V D T A = record p { block = Some (length w.blocks); guard = Some (guard.Pair (opening_way b) i); phase = phase.Answer answer.Held } in
         let not_yet : may_own p.phase ≡ false = ap may_own before in
         let l = listed.1 in
         let inside = begin-apart x laws w s (record (stepped w s p') { blocks = blocks }) sound p st b c.0.asked in

@@ -271,7 +271,7 @@ module _ {K V S D T A : Type 0} (x : Setup K V D T) (laws : Laws x) (w : State K
       → (blocks : List (Block K)) → CountsCall w.blocks p.block p.next blocks → Begun (ask.Held held.IntoKey) (Some (guard.Pair (way.Occupied k) i)) blocks
   key-occupied asks k i e blocks n =
       let own : Guard K = guard.Pair (way.Occupied k) i in
-      let holds = (guard-of own e).3 in
+      let holds = (guard-of own e).1.2 in
       counted-by held.IntoKey asks (Some own) e (answer.Key k) refl
       (λ at is. (ap (held_answer x.deeds held.IntoKey) is.1, ap (λ z. pair_in (held_leaves x.deeds held.IntoKey z)) is.1 ∙ sym (ap pair_in is.1), (Some is.0, ap (held_leaves x.deeds held.IntoKey) is.1)))
       (λ z. refl)
@@ -282,7 +282,7 @@ module _ {K V S D T A : Type 0} (x : Setup K V D T) (laws : Laws x) (w : State K
       → (blocks : List (Block K)) → CountsCall w.blocks p.block p.next blocks → Begun (ask.Held held.IntoKey) (Some (guard.Vacant k)) blocks
   key-vacant asks k e blocks n =
       let own : Guard K = guard.Vacant k in
-      let holds = (guard-of own e).2 in
+      let holds = (guard-of own e).1.1 in
       counted-by held.IntoKey asks (Some own) e (answer.Key k) refl
       (λ at is. (ap (held_answer x.deeds held.IntoKey) is.0, ap (λ z. pair_in (held_leaves x.deeds held.IntoKey z)) is.0 ∙ sym (ap pair_in is.0), (None, ap (held_leaves x.deeds held.IntoKey) is.0)))
       (λ z. refl)
@@ -296,7 +296,7 @@ module _ {K V S D T A : Type 0} (x : Setup K V D T) (laws : Laws x) (w : State K
 
   to-read : (d : D) (asks : p.asks.items ≡ ask.Held (held.Read d) ∷ rest.items) (kind : Way K) (i : ℕ) → p.guard ≡ Some (guard.Pair kind i)
       → start_phase {K = K} {V = V} {T = T} (ask.Held (held.Read d)) (Some (guard.Pair kind i)) ≡ phase.Read d
-      → start_guard (ask.Held (held.Read {V = V} d)) (Some (guard.Pair kind i)) ≡ Some (guard.Pair kind i)
+      → start_guard {V = V} (ask.Held (held.Read d)) (Some (guard.Pair kind i)) ≡ Some (guard.Pair kind i)
       → Begun (ask.Held (held.Read d)) (Some (guard.Pair kind i)) w.blocks
   to-read d asks kind i e phase-is keeps =
       let a : Ask K V D = ask.Held (held.Read d) in
@@ -312,14 +312,14 @@ module _ {K V S D T A : Type 0} (x : Setup K V D T) (laws : Laws x) (w : State K
   to-change h asks kind i e alone changes phase-is keeps =
       let a : Ask K V D = ask.Held h in
       let g = Some (guard.Pair kind i) in
-      let holds : HoldsShard p Exclusive = subst (λ m. HoldsShard p m) alone (guard-of (guard.Pair kind i) e).3 in
+      let holds : HoldsShard p Exclusive = subst (λ m. HoldsShard p m) alone (guard-of (guard.Pair kind i) e).1.2 in
       sound-begun a asks g (ap is_resting phase-is)
       (subst (λ f. Claim x (threads_of w ++ s.thread ∷ []) w.blocks w.tables s.thread (begun a g) f) (sym phase-is)
       (kind, i, in_call a asks g, keeps, changes, holds-moved x p (begun a g) Exclusive refl refl holds, ready-still a g e keeps refl))
 
   guard-hold : (g : Guard K) → p.guard ≡ Some g → (m : _) × HoldsShard p m
-  guard-hold (guard.Pair kind i) e = (way_mode kind, (guard-of (guard.Pair kind i) e).3)
-  guard-hold (guard.Vacant k) e = (Exclusive, (guard-of (guard.Vacant k) e).2)
+  guard-hold (guard.Pair kind i) e = (way_mode kind, (guard-of (guard.Pair kind i) e).1.2)
+  guard-hold (guard.Vacant k) e = (Exclusive, (guard-of (guard.Vacant k) e).1.1)
 
   to-drop : (asks : p.asks.items ≡ ask.Held held.Drop ∷ rest.items) (own : Guard K) → p.guard ≡ Some own
       → start_phase {K = K} {V = V} {D = D} {T = T} (ask.Held held.Drop) (Some own) ≡ phase.Release answer.Done
@@ -365,7 +365,7 @@ module _ {K V S D T A : Type 0} (x : Setup K V D T) (laws : Laws x) (w : State K
       let a : Ask K V D = ask.Held held.Downgrade in
       let g = Some (guard.Pair way.Exclusive i) in
       same-blocks a g blocks n (sound-begun a asks g refl
-      (i, in_call a asks g, refl, holds-moved x p (begun a g) Exclusive refl refl (guard-of (guard.Pair way.Exclusive i) e).3, ready-still a g e refl refl))
+      (i, in_call a asks g, refl, holds-moved x p (begun a g) Exclusive refl refl (guard-of (guard.Pair way.Exclusive i) e).1.2, ready-still a g e refl refl))
   begun-by (ask.Held held.Downgrade) asks (Some (guard.Pair (way.Occupied k) i)) e blocks n = wrong-pair held.Downgrade asks (way.Occupied k) i e refl refl refl (λ pair. (refl, refl)) blocks p.block refl n
   begun-by (ask.Held held.Downgrade) asks (Some (guard.Vacant k)) e blocks n = wrong-vacant held.Downgrade asks k e refl refl refl (refl, refl) blocks p.block refl n
   begun-by (ask.Held (held.Insert v)) asks (Some (guard.Pair way.Shared i)) e blocks n = wrong-pair (held.Insert v) asks way.Shared i e refl refl refl (λ pair. (refl, refl)) blocks p.block refl n
@@ -375,7 +375,7 @@ module _ {K V S D T A : Type 0} (x : Setup K V D T) (laws : Laws x) (w : State K
       let a : Ask K V D = ask.Held (held.Insert v) in
       let g = Some (guard.Vacant k) in
       same-blocks a g blocks n (sound-begun a asks g refl
-      (k, in_call a asks g, refl, holds-moved x p (begun a g) Exclusive refl refl (guard-of (guard.Vacant k) e).2, ready-still a g e refl refl))
+      (k, in_call a asks g, refl, holds-moved x p (begun a g) Exclusive refl refl (guard-of (guard.Vacant k) e).1.1, ready-still a g e refl refl))
   begun-by (ask.Held held.IntoRef) asks (Some (guard.Pair way.Shared i)) e blocks n = wrong-pair held.IntoRef asks way.Shared i e refl refl refl (λ pair. (refl, refl)) blocks p.block refl n
   begun-by (ask.Held held.IntoRef) asks (Some (guard.Pair way.Exclusive i)) e blocks n = wrong-pair held.IntoRef asks way.Exclusive i e refl refl refl (λ pair. (refl, refl)) blocks p.block refl n
   begun-by (ask.Held held.IntoRef) asks (Some (guard.Pair (way.Occupied k) i)) e blocks n = into-ref asks k i e blocks n

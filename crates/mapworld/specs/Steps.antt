@@ -1,5 +1,5 @@
 -- The kinds of steps: what each changes, of which thread, and that nothing else changes.
-use Rattle.std.specs.Prelude.{◌≡◌, ◌≢◌, ℕ, ◌+◌, ◌*◌, ◌≤◌, Bool, false, if◌then◌else◌, nat_lt, List, [], ◌∷◌, ◌++◌, length, Option, Some, None, slice_get, slice_set, position, remove, vec_len, vec_capacity, is_some}
+use Rattle.std.specs.Prelude.{◌≡◌, ◌≢◌, ℕ, ◌+◌, ◌*◌, ◌≤◌, Bool, true, false, if◌then◌else◌, nat_lt, List, [], ◌∷◌, ◌++◌, length, Option, Some, None, slice_get, slice_set, position, remove, vec_len, vec_capacity, is_some}
 use Rattle.std.specs.declared.vec.Vec.{Vec}
 use Rattle.std.specs.declared.collections.VecDeque.{VecDeque}
 use Rattle.mapworld_calls.specs.declared.ask.Ask.{Ask}

@@ -338,7 +338,7 @@ fn absent_phase<K: Drop, V: Drop, D: Drop, T>(call: Keyed<K, V, D>, room: bool) 
 }
 
 /// The guard that an opening gives of a pair.
-fn opening_way<K>(begin: Begin<K>) -> Way<K>
+fn opening_way<K: Drop>(begin: Begin<K>) -> Way<K>
     ensures { result ≡ opening_way begin }
 {
     match begin {
