@@ -1,6 +1,7 @@
 //! Where each kind of step leads a thread.
 ghost use Rattle.std.specs.Prelude.{◌≡◌, is_some, true, if◌then◌else◌, Some, None};
 ghost use Rattle.mapworld.specs.declared.place.Request.TheVariants as request;
+ghost use Rattle.mapworld.specs.declared.place.Guard.TheVariants as own;
 ghost use Rattle.mapworld_calls.specs.Programs.{keyed_key, opening_key, is_drop};
 ghost use Rattle.mapworld.specs.Route.{IsWorldAmount, key_route};
 ghost use Rattle.mapworld.specs.Moves.{request_key, mode_of, is_last, lent_slot, lent_pair, vacant_key};
@@ -187,6 +188,27 @@ fn start_vacant<K, V: Drop, D: Drop, T>(
     (phase, Some(Guard::Vacant(key)))
 }
 
+/// The phase behind the start of a call on a guard that lends a pair, and the guard behind it.
+fn start_pair<K: Drop, V: Drop, D: Drop, T>(
+    call: Held<V, D>,
+    way: Way<K>,
+    slot: usize,
+) -> (Phase<K, V, D, T>, Option<Guard<K>>)
+    ensures { result ≡ (held_phase (Some (own.Pair way slot)) call, held_guard (Some (own.Pair way slot)) call) }
+{
+    match way {
+        Way::Occupied(key) => start_occupied(call, key, slot),
+        Way::Exclusive => {
+            let guard = Guard::Pair(Way::Exclusive, slot);
+            (exclusive_phase(call), Some(guard))
+        }
+        Way::Shared => {
+            let guard = Guard::Pair(Way::Shared, slot);
+            (shared_phase(call), Some(guard))
+        }
+    }
+}
+
 /// The phase behind the start of a call on the guard, and the guard behind it.
 fn start_held<K: Drop, V: Drop, D: Drop, T>(
     call: Held<V, D>,
@@ -197,15 +219,7 @@ fn start_held<K: Drop, V: Drop, D: Drop, T>(
     match guard {
         None => (Phase::Answer(Answer::NoGuard), None),
         Some(Guard::Vacant(key)) => start_vacant(call, key),
-        Some(Guard::Pair(Way::Occupied(key), slot)) => start_occupied(call, key, slot),
-        Some(Guard::Pair(Way::Exclusive, slot)) => {
-            let guard = Guard::Pair(Way::Exclusive, slot);
-            (exclusive_phase(call), Some(guard))
-        }
-        Some(Guard::Pair(Way::Shared, slot)) => {
-            let guard = Guard::Pair(Way::Shared, slot);
-            (shared_phase(call), Some(guard))
-        }
+        Some(Guard::Pair(way, slot)) => start_pair(call, way, slot),
     }
 }
 

@@ -5,6 +5,7 @@
 mod calls;
 #[cfg(test)]
 mod conditions;
+mod entries;
 #[cfg(test)]
 mod faults;
 #[cfg(test)]
