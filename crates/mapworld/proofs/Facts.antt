@@ -1,5 +1,6 @@
 -- What the code knows of a thread's place between two steps.
-use Rattle.std.proofs.Common.{◌≡◌, ℕ, ◌+◌, ◌-◌, ◌<◌, ◌≤◌, Bool, true, false, if◌then◌else◌, List, length, get_or, Vec, Option, Some, None, is_some, slice_get, sum_by, vec_len, vec_capacity, ap, sym, ◌∙◌, subst, arith}
+use Rattle.std.proofs.Common.{◌≡◌, ℕ, zero, suc, ◌+◌, ◌-◌, ◌<◌, ◌≤◌, Bool, true, false, ◌||◌, if◌then◌else◌, List, [], ◌∷◌, length, drop, get_or, Vec, Option, Some, None, is_some, slice_get, sum_by, vec_len, vec_capacity, refl, ap, sym, ◌∙◌, subst, arith}
+use Rattle.std.specs.List.{list_any}
 use Rattle.std.proofs.lemmas.Option.{get_or_from_slice_get, none-some, same_Some}
 use Rattle.mapworld_calls.specs.declared.ask.Ask.{Ask}
 use Rattle.mapworld_calls.specs.declared.block.Block.{Block}
@@ -147,3 +148,15 @@ pub vacant_is : {K : Type 0} (g : Option (Guard K)) (key : K) → vacant_key g �
 vacant_is None key e = cc
 vacant_is (Some (guard.Pair k i)) key e = cc
 vacant_is (Some (guard.Vacant k)) key e = cc
+
+-- what is left of a list of places, one place further
+pub any-drop : {X : Type 0} (f : X → Bool) (xs : List X) (i : ℕ) (x : X) → slice_get xs i ≡ Some x → list_any f (drop i xs) ≡ (f x || list_any f (drop (suc i) xs))
+any-drop f [] i x at = absurd (none-some x at)
+any-drop f (y ∷ ys) zero x at = ap (λ z. f z || list_any f ys) (same_Some y x at)
+any-drop f (y ∷ ys) (suc i) x at = any-drop f ys i x at
+
+pub any-end : {X : Type 0} (f : X → Bool) (xs : List X) (i : ℕ) → length xs ≤ i → list_any f (drop i xs) ≡ false
+any-end f [] zero le = refl
+any-end f [] (suc i) le = refl
+any-end f (y ∷ ys) zero le = absurd (omega (arith, le))
+any-end f (y ∷ ys) (suc i) le = any-end f ys i (omega (arith, le))

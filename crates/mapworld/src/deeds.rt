@@ -216,7 +216,8 @@ pub(crate) fn fill<
     };
     let table = &mut core.tables[place.shard];
     place.guard = Some(Guard::Pair(Way::Exclusive, table.len()));
-    table.push_reserved((key, value));
+    let pair = (key, value);
+    table.push_reserved(pair);
     count_in(&mut core.blocks, place.block, place.next);
     core.pairs += 1;
     core.count += 1;

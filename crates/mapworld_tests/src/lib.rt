@@ -5,6 +5,7 @@
 mod calls;
 #[cfg(test)]
 mod conditions;
+#[cfg(test)]
 mod entries;
 #[cfg(test)]
 mod faults;
