@@ -4,7 +4,7 @@ ghost use Rattle.std.specs.List.{list_all};
 ghost use Rattle.mapworld_calls.specs.Programs.{one_guard, numbers_of};
 ghost use Rattle.mapworld.specs.Making.{new_refusal};
 
-use crate::fault::WorldNewFault;
+use mapworld_faults::WorldNewFault;
 use crate::route::is_world_amount;
 use mapworld_calls::{Ask, guard_numbers, holds_one_guard};
 use std::alloc::Allocator;
