@@ -1,0 +1,3 @@
+//! Walks.
+
+pub use dashmap_view::OwningIter;

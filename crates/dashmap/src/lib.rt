@@ -1,0 +1,34 @@
+//! The crate to name for maps and sets that threads share by reference.
+//!
+//! It hands on the running map and the set, with their guards and entries, plain shards and views of them, the recorded map with its
+//! judge, and what a map's locks are made of. [`DashMap`] and [`DashSet`] are those over `parking_lot`'s reader-writer lock.
+//!
+//! ```text
+//! let lot = ParkingLot::new(rt, alloc, 3, 1)?;
+//! let table = LockTable::new(alloc, &lot, 8)?;
+//! let map = DashMap::with_hasher(alloc, hasher, 2, &table)?;
+//! let mut me = lot.thread_data()?;
+//! map.insert("seven", 7u64, &mut me)?;
+//! ```
+#![tactic(auto)]
+
+pub mod iter;
+pub mod mapref;
+mod names;
+pub mod setref;
+pub mod try_result;
+
+pub use dashmap_guard::{SharedValue, map_in_place_2, ptr_size_bits};
+pub use dashmap_map::mapref::entry::{Entry, OccupiedEntry, VacantEntry};
+pub use dashmap_map::{Map, NewFault, TryReserveError};
+pub use dashmap_record::{
+    Call, CallReply, Caller, Entered, GatherFault, RecordFault, Recorded, gather, next_stamp,
+};
+pub use dashmap_table::{
+    MapFault, NoMemory, Shard, ShardPairs, Shards, capacity_share, default_shards, is_shard_amount,
+    route,
+};
+pub use dashmap_view::{Displaced, PlainView, ViewIter, ViewKeys, ViewValues};
+pub use names::{DashMap, DashSet};
+pub use parking_lot::{LockTable, RawRwLock, RwLock, RwLockReadGuard, RwLockWriteGuard};
+pub use parking_lot_core::{ParkingLot, ThreadData};

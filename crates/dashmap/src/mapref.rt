@@ -1,0 +1,4 @@
+//! Guards of pairs, and entries.
+
+pub mod entry;
+pub mod one;

@@ -1,0 +1,24 @@
+//! The map and the set over the locks of `parking_lot`, under their usual names.
+//!
+//! `S` is the hasher, `R` the lot's runtime and `A` the allocator of the lot and of the map. The lifetimes are those of the lock table
+//! and of the lot.
+
+use parking_lot::RawRwLock;
+use std::alloc::Global;
+
+/// A map that threads share by reference.
+pub type DashMap<'t, 'l, K, V, S, R, A = Global> = dashmap_map::DashMap<
+    K,
+    V,
+    S,
+    RawRwLock<'t, 'l, R, 0, A>,
+    A,
+>;
+
+/// A set of keys that threads share by reference: a map to `()`.
+pub type DashSet<'t, 'l, K, S, R, A = Global> = dashmap_set::DashSet<
+    K,
+    S,
+    RawRwLock<'t, 'l, R, 0, A>,
+    A,
+>;

@@ -1,0 +1,3 @@
+//! Guards of keys.
+
+pub mod one;

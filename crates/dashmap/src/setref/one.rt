@@ -1,0 +1,3 @@
+//! Guards of one key.
+
+pub use dashmap_set::setref::one::Ref;

@@ -1,0 +1,3 @@
+//! What a try found.
+
+pub use dashmap_guard::TryResult;

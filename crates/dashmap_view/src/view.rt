@@ -1,0 +1,180 @@
+//! Shards that nobody writes.
+ghost use Rattle.std.specs.Prelude.{◌≡◌, ◌↔◌, IsTrue, IfOk, IfErr, length, is_some, map};
+ghost use Rattle.std.specs.Option.{option_map, option_copied};
+ghost use Rattle.dashmap_table.specs.Route.{IsShardAmount};
+ghost use Rattle.dashmap_table.specs.Shards.{AreSharded, pair_at};
+ghost use Rattle.dashmap_view.specs.Views.{AreRouted, all_pairs, pair_count, room_in, at_most_max};
+
+use crate::counting::{pairs_in, room_for};
+use crate::displaced::Displaced;
+use crate::iter::{ViewIter, ViewKeys, ViewValues};
+use crate::owning::OwningIter;
+use crate::routed::are_routed;
+use dashmap_table::{Shard, route};
+use std::alloc::{Allocator, Global};
+use std::fmt;
+use std::hash::{BuildHasher, Hash};
+use std::marker::Model;
+
+/// The shards of a map and its hasher, as long as nobody writes them. It needs no lock, and its calls take no memory.
+///
+/// A contract sees what it sees of plain shards (`Tables`), and a key's pair by `pair_at`. Each pair is in the shard of its key's
+/// route, under its key's hash.
+///
+/// ```rust
+/// let view = PlainView::of(shards, hasher).map_err(|_| "a pair in a wrong shard")?;
+/// let seven = view.get(&"seven");                 // the value, lent
+/// let names = view.keys().count();                // as many as `view.len()`
+/// let (shards, hasher) = view.into_parts();       // what was handed in
+/// ```
+#[derive(Drop)]
+pub struct PlainView<K: Eq + Hash, V, S: BuildHasher, A: Allocator = Global> {
+    shards: Vec<Shard<K, V, A>, A>,
+    hasher: S,
+}
+
+impl<K: Eq + Hash, V, S: BuildHasher, A: Allocator> Model for PlainView<K, V, S, A> {
+    ghost use Rattle.dashmap_table.specs.Shards.{Tables, AreSharded};
+
+    ghost Value = { Tables K V S };
+
+    ghost view = { λ v. record { tables = v.shards.items; hasher = v.hasher } };
+
+    ghost invariant = { λ v. AreSharded S.BuildHasher S.Hasher.Hasher K.hash_input K.eq (record { tables = v.shards.items; hasher = v.hasher }) };
+}
+
+impl<K: Eq + Hash, V, S: BuildHasher, A: Allocator> PlainView<K, V, S, A> {
+    /// A view of these shards, of which there is a power of two from 2 to 65,536.
+    ///
+    /// It tests each pair once. Where one lies in a shard that isn't its key's, or under another hash than its key's, there is no view,
+    /// and the shards come back.
+    pub fn of(
+        shards: Vec<Shard<K, V, A>, A>,
+        hasher: S,
+    ) -> Result<PlainView<K, V, S, A>, Displaced<(Vec<Shard<K, V, A>, A>, S)>>
+        requires { IsShardAmount (length shards.items) }
+        ensures view { IfOk result (λ v. v ≡ record { tables = shards.items; hasher = hasher }) }
+        ensures displaced { IfErr result (λ back. (back ≡ (shards, hasher)) × ¬ AreRouted S.BuildHasher S.Hasher.Hasher K.hash_input hasher shards.items) }
+    {
+        if are_routed(&shards, &hasher) {
+            Ok(PlainView { shards, hasher })
+        } else {
+            Err(Displaced::new((shards, hasher)))
+        }
+    }
+
+    /// The shards and the hasher.
+    pub fn into_parts(self) -> (Vec<Shard<K, V, A>, A>, S)
+        ensures shards { result.0.items ≡ self.tables }
+        ensures hasher { result.1 ≡ self.hasher }
+        ensures sharded { AreSharded S.BuildHasher S.Hasher.Hasher K.hash_input K.eq self }
+    {
+        let PlainView { shards, hasher } = self;
+        (shards, hasher)
+    }
+
+    /// Lends the shards.
+    pub fn shards(&self) -> &[Shard<K, V, A>]
+        ensures shards { result.now ≡ self.now.tables }
+        ensures sharded { AreSharded S.BuildHasher S.Hasher.Hasher K.hash_input K.eq self.now }
+    {
+        &self.shards
+    }
+
+    /// Lends the hasher.
+    pub fn hasher(&self) -> &S
+        ensures { result.now ≡ self.now.hasher }
+    {
+        &self.hasher
+    }
+
+    /// How many pairs there are. It stops at `usize::MAX`.
+    pub fn len(&self) -> usize
+        ensures { result ≡ at_most_max (pair_count self.now.tables) }
+    {
+        pairs_in(&self.shards)
+    }
+
+    /// Whether there are none.
+    pub fn is_empty(&self) -> bool
+        ensures { IsTrue result ↔ (pair_count self.now.tables ≡ 0) }
+    {
+        self.len() == 0
+    }
+
+    /// For how many pairs there is room. It stops at `usize::MAX`.
+    pub fn capacity(&self) -> usize
+        ensures { result ≡ at_most_max (room_in self.now.tables) }
+    {
+        room_for(&self.shards)
+    }
+
+    /// Lends the stored pair of a key.
+    pub fn get_key_value(&self, key: &K) -> Option<(&K, &V)>
+        ensures { option_map (λ p. (p.0.now, p.1.now)) result ≡ pair_at S.BuildHasher S.Hasher.Hasher K.hash_input K.eq self.now key.now }
+    {
+        let hash = self.hasher.hash_one(key);
+        let shard = &self.shards[route(hash, self.shards.len())];
+        shard.pair(shard.find(hash, key)?)
+    }
+
+    /// Lends the value of a key.
+    pub fn get(&self, key: &K) -> Option<&V>
+        ensures { option_copied result ≡ option_map (λ p. p.1) (pair_at S.BuildHasher S.Hasher.Hasher K.hash_input K.eq self.now key.now) }
+    {
+        let (_, value) = self.get_key_value(key)?;
+        Some(value)
+    }
+
+    /// Whether a key is there.
+    pub fn contains_key(&self, key: &K) -> bool
+        ensures { result ≡ is_some (pair_at S.BuildHasher S.Hasher.Hasher K.hash_input K.eq self.now key.now) }
+    {
+        self.get_key_value(key).is_some()
+    }
+
+    /// All pairs, lent, shards and their slots in order.
+    pub fn iter(&self) -> ViewIter<'_, K, V, A>
+        ensures { result ≡ all_pairs self.now.tables }
+    {
+        ViewIter::new(&self.shards)
+    }
+
+    /// All keys, in the order of `iter`.
+    pub fn keys(&self) -> ViewKeys<'_, K, V, A>
+        ensures { result ≡ map (λ p. p.0) (all_pairs self.now.tables) }
+    {
+        ViewKeys::new(self.iter())
+    }
+
+    /// All values, in the order of `iter`.
+    pub fn values(&self) -> ViewValues<'_, K, V, A>
+        ensures { result ≡ map (λ p. p.1) (all_pairs self.now.tables) }
+    {
+        ViewValues::new(self.iter())
+    }
+}
+
+impl<K: Eq + Hash + Drop, V: Drop, S: BuildHasher + Drop, A: Allocator> IntoIterator
+    for PlainView<K, V, S, A> {
+    type Item = (K, V);
+
+    type IntoIter = OwningIter<K, V, A>;
+
+    ghost into_iter_gives = { λ view it. it ≡ all_pairs view.tables };
+
+    fn into_iter(self) -> OwningIter<K, V, A>
+        ensures { result ≡ all_pairs self.tables }
+    {
+        let (shards, _) = self.into_parts();
+        OwningIter::new(shards)
+    }
+}
+
+/// A map's text, shards and their slots in order.
+impl<K: Eq + Hash + fmt::Debug, V: fmt::Debug, S: BuildHasher, A: Allocator> fmt::Debug
+    for PlainView<K, V, S, A> {
+    fn fmt<W: fmt::Write>(&self, f: &mut fmt::Formatter<W>) -> fmt::Result {
+        f.debug_map().entries(self.iter()).finish()
+    }
+}
