@@ -76,8 +76,8 @@ returns-clause-step g c =
       place = p;
       stands = here;
       before = before;
-      slot = c.in-Some-2.slot;
-      guarded = claim.2 ∙ ap (λ z. Some (guard.Pair way.Exclusive z)) (same_Some claim.0 c.in-Some-2.slot (sym (c.lent_slot.ensures ∙ ap lent_slot claim.2) ∙ c.in-Some-2.is));
+      slot = c.in-Some-lent_slot.slot;
+      guarded = claim.2 ∙ ap (λ z. Some (guard.Pair way.Exclusive z)) (same_Some claim.0 c.in-Some-lent_slot.slot (sym (c.lent_slot.ensures ∙ ap lent_slot claim.2) ∙ c.in-Some-lent_slot.is));
       hold = c.in-Some.hold;
       holds = c.in-Some.is;
       alone = ap (λ (z : Hold). z.mode) (same_Some c.in-Some.hold claim.3.hold (sym c.in-Some.is ∙ claim.3.has)) ∙ claim.3.mode_is;
@@ -98,7 +98,7 @@ returns-clause-room g c =
     let listed = c.requires.sound.holds.listed c.args.step.thread p c.in-Some.hold here c.in-Some.is in
     let there = desk_read c.args.core.now.desks.items c.in-Some.hold.shard listed.0 c.index_mut-desk.result.now listed.2 c.index_mut-desk.ensures.value in
     let shared : Hold = record (c.in-Some.hold) { mode = Shared } in
-    let after = record p { hold = Some shared; guard = Some (guard.Pair way.Shared c.in-Some-2.slot); phase = c.enter.new.phase } in
+    let after = record p { hold = Some shared; guard = Some (guard.Pair way.Shared c.in-Some-lent_slot.slot); phase = c.enter.new.phase } in
     shifted _ _ c.args.step.thread p after c.requires.room (record {
       here = here;
       places = refl;

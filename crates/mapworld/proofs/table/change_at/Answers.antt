@@ -42,4 +42,4 @@ returns-then-takes_pair-clause-items g c = λ pair at.
 
 pub returns-else-takes_pair-clause-guard : goal.returns-else-takes_pair-clause-guard
 returns-else-takes_pair-clause-guard g c =
-    c.guard_at-2.ensures ∙ (ap (option_map (λ kept. guard.Pair kept c.args.slot)) c.store_changed-answer.ensures.way ∙ guard-if (ends_guard c.args.call) c.args.way c.args.slot)
+    c.guard_at-else-takes_pair.ensures ∙ (ap (option_map (λ kept. guard.Pair kept c.args.slot)) c.store_changed-answer.ensures.way ∙ guard-if (ends_guard c.args.call) c.args.way c.args.slot)
