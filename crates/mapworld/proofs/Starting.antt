@@ -126,11 +126,11 @@ module _ {K V S D T A : Type 0} (x : Setup K V D T) (laws : Laws x) (w : State K
   -- a call that is told at its start: its session's block counts it in, where it has one
   module _ (h : Held V D) (asks : p.asks.items ≡ ask.Held h ∷ rest.items) (g : Option (Guard K)) (e : p.guard ≡ g) (r : Answer K V T) (busy : is_resting (start_phase {K = K} {V = V} {T = T} (ask.Held h) g) ≡ false)
       (told-all : (at : At K V) → GuardIs w.tables p g at
-          → (held_answer x.deeds h at ≡ r) × (pair_in (held_leaves x.deeds h at) ≡ pair_in at) × GuardIs w.tables p (start_guard (ask.Held h) g) (held_leaves x.deeds h at))
+      → (held_answer x.deeds h at ≡ r) × (pair_in (held_leaves x.deeds h at) ≡ pair_in at) × GuardIs w.tables p (start_guard (ask.Held h) g) (held_leaves x.deeds h at))
       (ended : is_drop h ≡ true → start_guard (ask.Held h) g ≡ None)
       (claim-of : (bs : List (Block K)) → IsAnsweredInSession x bs s.thread p.next (session_of x s.thread p.next) r
-          → IsReady x bs w.tables s.thread (begun (ask.Held h) g) (p.next + 1) (block_after (begun (ask.Held h) g))
-          → Claim x (threads_of w ++ s.thread ∷ []) bs w.tables s.thread (begun (ask.Held h) g) (start_phase (ask.Held h) g)) where
+      → IsReady x bs w.tables s.thread (begun (ask.Held h) g) (p.next + 1) (block_after (begun (ask.Held h) g))
+      → Claim x (threads_of w ++ s.thread ∷ []) bs w.tables s.thread (begun (ask.Held h) g) (start_phase (ask.Held h) g)) where
     abbrev told-place : Place K V D T A
     told-place = begun (ask.Held h) g
 

@@ -23,11 +23,11 @@ mod table;
 mod world;
 mod world_core;
 
-pub use mapworld_faults::{RunFault, WorldNewFault};
 pub use lock_api_raw::NoMemory;
 pub use mapworld_calls::{
     Answer, Ask, Begin, Block, Deed, Held, Keyed, Reply, SpreadHasher, SpreadState, guard_numbers,
     holds_one_guard,
 };
+pub use mapworld_faults::{RunFault, WorldNewFault};
 pub use step::{Status, Step};
 pub use world::MapWorld;

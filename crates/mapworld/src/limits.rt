@@ -4,9 +4,9 @@ ghost use Rattle.std.specs.List.{list_all};
 ghost use Rattle.mapworld_calls.specs.Programs.{one_guard, numbers_of};
 ghost use Rattle.mapworld.specs.Making.{new_refusal};
 
-use mapworld_faults::WorldNewFault;
 use crate::route::is_world_amount;
 use mapworld_calls::{Ask, guard_numbers, holds_one_guard};
+use mapworld_faults::WorldNewFault;
 use std::alloc::Allocator;
 
 /// How many calls all programs have, if they aren't too many.

@@ -427,10 +427,7 @@ pub(crate) fn block_behind(done: Option<usize>, next: usize, block: Option<usize
 }
 
 /// The block that a release counts its call in: that of the guard that ends.
-pub(crate) fn release_counts<K>(
-    guard: &Option<Guard<K>>,
-    block: Option<usize>,
-) -> Option<usize>
+pub(crate) fn release_counts<K>(guard: &Option<Guard<K>>, block: Option<usize>) -> Option<usize>
     ensures { result ≡ (if is_some guard.now then block else None) }
 {
     if guard.is_some() { block } else { None }

@@ -137,10 +137,18 @@ fn changed<K: Drop, V: Drop, D: Deed<K, V> + Drop>(
         }
         (Held::Write(deed), Way::Occupied(handed)) => {
             let value = deed.effect(&key, value);
-            (Answer::Done, Some((key, value)), Some(Way::Occupied(handed)))
+            (
+                Answer::Done,
+                Some((key, value)),
+                Some(Way::Occupied(handed)),
+            )
         }
         (Held::Insert(new), Way::Occupied(handed)) => {
-            (Answer::Value(value), Some((key, new)), Some(Way::Occupied(handed)))
+            (
+                Answer::Value(value),
+                Some((key, new)),
+                Some(Way::Occupied(handed)),
+            )
         }
         (Held::Remove, Way::Occupied(_)) => (Answer::Value(value), None, None),
         (Held::RemoveEntry, Way::Occupied(_)) => (Answer::Pair(key, value), None, None),

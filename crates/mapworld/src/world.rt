@@ -18,12 +18,12 @@ ghost use Rattle.mapworld_calls.specs.Every.Agrees.{Agrees};
 ghost use Rattle.mapworld_calls.specs.Every.Placed.{WellPlaced, OnlyAdds};
 ghost use Rattle.mapworld_calls.specs.Every.Today.{as_reply};
 
-use mapworld_faults::{RunFault, WorldNewFault};
 use crate::step::{Status, Step};
 use crate::world_core::Core;
 use crate::{advance, contents, counts, limits, making, route, status};
 use lock_api_raw::NoMemory;
 use mapworld_calls::{Ask, Block, Deed, Reply};
+use mapworld_faults::{RunFault, WorldNewFault};
 use std::alloc::{Allocator, Global};
 use std::hash::{BuildHasher, Hash};
 use std::marker::Model;

@@ -96,7 +96,6 @@ pair-as (today.exclusive p) = refl
 pair-as (today.occupied k p) = refl
 pair-as (today.vacant k) = refl
 
-
 keyed-key-as : {K V D : Type 0} (k : Keyed K V D) → every_setup.keyed_key (as_keyed k) ≡ keyed_key k
 keyed-key-as (keyed.Insert k v) = refl
 keyed-key-as (keyed.Remove k) = refl
