@@ -1,7 +1,8 @@
 //! Calls of the map's one owner, who needs no lock.
 //!
 //! A shard is taken out of its lock and put back behind the same raw lock.
-ghost use Rattle.std.specs.Prelude.{◌≡◌, IfErr, OnOk, OnErr};
+ghost use Rattle.std.specs.Prelude.{◌≡◌, List, Some, IfErr, OnOk, OnErr};
+ghost use Rattle.std.specs.Iterator.{IsFinite, Drains, YieldsThen};
 
 use crate::fault::TryReserveError;
 use crate::held::insert_into;
@@ -66,6 +67,22 @@ impl<K: Eq + Hash + Drop, V: Drop, S: BuildHasher, Q, A: Allocator + Clone> Dash
         let hash = self.hasher.hash_one(&key);
         let shard = route(hash, self.shards.len());
         insert_alone(&mut self.shards[shard], hash, key, value)
+    }
+
+    /// Puts pairs in, one after another, as `insert_mut` does. The first one that is refused comes back: the pairs before it stay, and
+    /// the rest of the iterator is let go.
+    pub fn extend<I: Iterator<Item = (K, V)> + Drop>(&mut self, iter: I) -> Result<(), (K, V)>
+        requires can { I.can_next iter }
+        requires ends { IsFinite (I.remaining iter) }
+        ensures locks { self.new ≡ self.old }
+        ensures all { OnOk result ((pairs : List (K × V)) × Drains I.next_gives iter pairs) }
+        ensures refused { IfErr result (λ back. (before : List (K × V)) × (rest : I) × YieldsThen I.next_gives iter before (Some back) rest) }
+    {
+        let mut rest = iter;
+        while let Some((key, value)) = rest.next() {
+            let _old = self.insert_mut(key, value)?;
+        }
+        Ok(())
     }
 
     /// Makes room for so many more pairs in each shard. Where a shard can't have it all pairs stay, and the shards before it keep their

@@ -1,5 +1,6 @@
 //! How a map is made.
-ghost use Rattle.std.specs.Prelude.{◌≡◌, ℕ, ◌^◌, ◌<◌, ◌↔◌, ◌⊎◌, length, Err, IfOk, IfErr, OnOk};
+ghost use Rattle.std.specs.Prelude.{◌≡◌, ℕ, ◌^◌, ◌<◌, ◌↔◌, ◌⊎◌, List, length, Err, IfOk, IfErr, OnOk};
+ghost use Rattle.std.specs.Iterator.{IsFinite, Drains};
 ghost use Rattle.std.specs.Int.{IsNextPowerOfTwo};
 ghost use Rattle.dashmap_table.specs.Route.{IsShardAmount, HasNoShare, share_of, wanted_shards};
 ghost use Rattle.dashmap_map.specs.Making.{has_shards, HasNoDefaultShare};
@@ -129,6 +130,33 @@ impl<
         ensures fits { ¬ (result ≡ Err MapFault.CapacityOverflow) }
     {
         DashMap::with_capacity_and_hasher(alloc, 0, hasher, parallelism, table)
+    }
+
+    /// A map with the default shard amount for so many threads, into which the pairs of the iterator are put one after another: of equal
+    /// keys the first stays, with the value of the last.
+    ///
+    /// Refused as `BadShards`, `TableFull` or `NoMemory`, in this order.
+    pub fn from_iter<I: Iterator<Item = (K, V)> + Drop, T: Copy>(
+        alloc: A,
+        iter: I,
+        hasher: S,
+        parallelism: usize,
+        table: T,
+    ) -> Result<DashMap<K, V, S, Q, A>, MapFault>
+    where
+        Q: MakeLock<T>,
+        requires can { I.can_next iter }
+        requires ends { IsFinite (I.remaining iter) }
+        ensures made { IfOk result (λ m. IsNextPowerOfTwo (wanted_shards parallelism) (length m.locks) × (m.hasher ≡ hasher)) }
+        ensures all { OnOk result ((pairs : List (K × V)) × Drains I.next_gives iter pairs) }
+        ensures bad_shards { (result ≡ Err MapFault.BadShards) ↔ (2 ^ 16 < wanted_shards parallelism) }
+        ensures fits { ¬ (result ≡ Err MapFault.CapacityOverflow) }
+    {
+        let mut map = DashMap::default(alloc, hasher, parallelism, table)?;
+        match map.extend(iter) {
+            Ok(()) => Ok(map),
+            Err(_) => Err(MapFault::NoMemory),
+        }
     }
 
     /// The same as `with_hasher`.

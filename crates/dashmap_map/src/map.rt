@@ -46,6 +46,19 @@ impl<K: Eq + Hash, V, S: BuildHasher, Q, A: Allocator> DashMap<K, V, S, Q, A> {
         &self.hasher
     }
 
+    /// Lends the allocator that the map keeps. For the layer above.
+    pub fn allocator(&self) -> &A {
+        self.shards.allocator()
+    }
+
+    /// Lends the shards in their order, each behind its lock. For the layer above.
+    pub fn shard_locks(&self) -> &[CachePadded<RwLock<Q, Shard<K, V, A>>>]
+        ensures locks { result.now ≡ self.now.locks }
+        ensures amount { IsShardAmount (length self.now.locks) }
+    {
+        &self.shards
+    }
+
     /// The hasher's hash of anything that can be hashed.
     pub fn hash_usize<T: Eq + Hash>(&self, item: &T) -> usize
         ensures { result ≡ key_hash S.BuildHasher S.Hasher.Hasher T.hash_input self.now.hasher item.now }
