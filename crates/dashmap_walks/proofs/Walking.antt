@@ -11,14 +11,16 @@ use Rattle.dashmap_table.proofs.Cases.{option_cases}
 use Rattle.dashmap_walks.specs.Visits.{Walked, AnswersNext, MakesNext, Turn, AtFull, StaysIf}
 
 module _ {P : Type 0} (R : P → ℕ → P → Type 0) where
-  pass : (k from : ℕ) (p q : P) → Walked R from p q → ((i : ℕ) → from ≤ i → i < k + from → R q i q) → Walked R (k + from) p q
-  pass zero from p q w idle = w
-  pass (suc k) from p q w idle = (q, pass k from p q w (λ i low high. idle i low (omega (arith, high))), idle (k + from) (omega arith) (omega arith))
+  pass : (k from : ℕ) (p q : P) → Walked R from p q → ((i : ℕ) → from ≤ i → i < from + k → R q i q) → Walked R (from + k) p q
+  pass zero from p q w idle = let is : from ≡ from + 0 = omega arith in subst (λ n. Walked R n p q) is w
+  pass (suc k) from p q w idle =
+      let is : suc (from + k) ≡ from + suc k = omega arith in
+      subst (λ n. Walked R n p q) is (q, pass k from p q w (λ i low high. idle i low (omega (arith, high))), idle (from + k) (omega arith) (omega arith))
 
   -- a walk goes on past numbers at which a step does nothing
   pub walked_to : (from to : ℕ) (p q : P) → from ≤ to → Walked R from p q → ((i : ℕ) → from ≤ i → i < to → R q i q) → Walked R to p q
   walked_to from to p q le w idle =
-      let is : (to - from) + from ≡ to = omega (arith, le) in
+      let is : from + (to - from) ≡ to = omega (arith, le) in
       subst (λ n. Walked R n p q) is (pass (to - from) from p q w (λ i low high. idle i low (omega (arith, high, is))))
 
 -- and one step further
@@ -55,7 +57,8 @@ makes_entry {F} {K} {V} member f k v w g e ke ve a =
 
 -- a full slot is one of the slots
 pub full_within : {K V : Type 0} (xs : List (Option (Entry K V))) (i : ℕ) → IsSome (at xs i) → i < length xs
-full_within [] i full = absurd full
+full_within [] zero full = absurd full
+full_within [] (suc i) full = absurd full
 full_within (x ∷ xs) zero full = omega arith
 full_within (x ∷ xs) (suc i) full = let rest = full_within xs i full in omega (arith, rest)
 

@@ -2,7 +2,7 @@
 use Rattle.std.specs.Prelude.{◌≡◌, ℕ, length, Some}
 use Rattle.std.specs.Borrow.{Bor}
 use Rattle.std.specs.Sync.RwLock.{write_guard_value}
-use Rattle.std.specs.declared.rw.RwLockWriteGuard.{RwLockWriteGuard}
+use Rattle.core.specs.declared.rw.RwLockWriteGuard.{RwLockWriteGuard}
 use Rattle.lock_api_guards.specs.declared.guard.Guard.{Guard}
 use Rattle.lock_api_rw.specs.Holds.{Issued}
 use Rattle.dashmap_table.specs.Table.{Table}

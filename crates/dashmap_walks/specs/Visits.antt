@@ -30,15 +30,15 @@ pub record MakesNext {F K V : Type 0} (member : Mut F (Bor K × (V × Unit {0}))
 abbrev pub Turn : (F K V : Type 0) → Type 0
 Turn F K V = F × Table K V
 
+-- an entry stays where the answer is yes, and goes where it is no
+abbrev pub StaysIf : {K V : Type 0} → Bool → Table K V → Table K V → ℕ → Type 0
+StaysIf true old new i = new ≡ old
+StaysIf false old new i = Frees old new i
+
 module _ {F K V : Type 0} where
   -- one slot of a walk: Q says what is done with the entry of a full one; a free one is passed by
   abbrev pub AtFull : (Turn F K V → Entry K V → ℕ → Turn F K V → Type 0) → Turn F K V → ℕ → Turn F K V → Type 0
   AtFull Q p i q = MatchOption (at p.1.slots i) (q ≡ p) (λ e. Q p e i q)
-
-  -- an entry stays where the answer is yes, and goes where it is no
-  abbrev pub StaysIf : Bool → Table K V → Table K V → ℕ → Type 0
-  StaysIf true old new i = new ≡ old
-  StaysIf false old new i = Frees old new i
 
   -- the closure is asked of the pair, which may be written, and the pair goes where it answers no
   abbrev pub Keeps : Mut F (Bor K × (MutBor V × Unit {0})) (Bool × (MutBor V × Unit {0})) → Turn F K V → Entry K V → ℕ → Turn F K V → Type 0

@@ -22,7 +22,7 @@ fn ask<K, V, F: FnMut(&K, &mut V) -> bool>(key: &K, value: &mut V, f: F) -> (boo
 /// What a closure makes of a value, and the closure after the call.
 fn make<K, V, F: FnMut(&K, V) -> V>(key: &K, value: V, f: F) -> (V, F)
     requires { F.IsAlwaysCallable f }
-    ensures made { MakesNext F.FnMut f key.now value result.0 result.1 }
+    ensures made { MakesNext F.FnMut f key.entry.now value result.0 result.1 }
     ensures again { F.IsAlwaysCallable result.1 }
 {
     let mut f = f;
