@@ -19,7 +19,7 @@ at_start asks = record {
   shard = 0;
   hold = None;
   block = None;
-  guard = None;
+  slot = None;
   phase = phase.Rest;
 }
 

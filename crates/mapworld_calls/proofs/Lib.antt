@@ -7,4 +7,3 @@ pub mod Commuting
 pub mod Programs
 pub mod Hashes
 pub mod Every
-pub mod Handed
