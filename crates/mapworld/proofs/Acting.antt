@@ -175,8 +175,8 @@ module _ {K V S D T A : Type 0} (x : Setup K V D T) (laws : Laws x) (w : State K
           d.alone.hold,
           IsInCall-push x (threads_of w) s.thread s.thread p' _ (in_call-moved x p p' (threads_of w) s.thread _ refl refl refl call),
           d.alone.has,
-          subst (IsReleasing x (slice_set w.blocks d.index c) (slice_set w.tables p.shard changed) s.thread p' (ask.Keyed k) (keyed_answer x.deeds k o)) (sym d.slot)
-              (inl told-done, ready-outside x (slice_set w.blocks d.index c) (slice_set w.tables p.shard changed) s.thread p' (p.next + 1) (block_after p') outside.1 d.slot closes),
+          subst (IsReleasing x (slice_set w.blocks d.index c) (slice_set w.tables p.shard changed) s.thread p' (ask.Keyed k) (keyed_answer x.deeds k o)) (sym d.guard)
+              (inl told-done, ready-outside x (slice_set w.blocks d.index c) (slice_set w.tables p.shard changed) s.thread p' (p.next + 1) (block_after p') outside.1 d.guard closes),
         );
       })
       agree

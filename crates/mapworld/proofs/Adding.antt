@@ -11,14 +11,12 @@ use Rattle.mapworld_calls.specs.declared.reply.Reply.{Reply}
 use Rattle.mapworld_calls.specs.Setup.{Setup}
 use Rattle.mapworld_calls.specs.Placed.{answered_of, IsSessionDone, IsDoneWithin, StaysListed, OnlyAdds, WellPlaced}
 use Rattle.mapworld_calls.proofs.Lists.{slice_get-set_same, slice_get-set_other, slice_get-push_below}
-use Rattle.mapworld_calls.specs.declared.ask.Held.TheVariants as held
-use Rattle.mapworld.specs.declared.holds.Mode.{Mode}
-use Rattle.mapworld.specs.declared.holds.Mode.TheVariants.{Shared, Exclusive}
+use Rattle.mapworld.specs.declared.place.Phase.{Phase}
 use Rattle.mapworld.specs.declared.step.Step.{Step}
 use Rattle.mapworld.specs.declared.place.Place.{Place}
 use Rattle.mapworld.specs.State.{State, threads_of, started_of, next_step}
-use Rattle.mapworld.specs.Moves.{guard_of, start_counts, stepped, ListsBlock, CountsCall, EndsAt, EndsBlock}
-use Rattle.mapworld.specs.Steps.{IsStep, start, admit, find, find_grows, find_refused, deed_appends, deed_applies, deed_views, deed_reads, deed_writes, downgrade, release, answers}
+use Rattle.mapworld.specs.Moves.{is_told, start_phase, start_counts, request_of, found_done, stepped, ListsBlock, CountsCall, EndsAt, EndsBlock}
+use Rattle.mapworld.specs.Steps.{IsStep, start, admit, find, find_grows, find_refused, deed_appends, deed_applies, deed_views, deed_reads, deed_changes, deed_fills, downgrade, release, answers}
 use Rattle.mapworld.specs.Making.{StaysFixed}
 use Rattle.mapworld.specs.Sound.{Sound}
 use Rattle.mapworld.proofs.Building.{map-push, reply-below}
@@ -119,20 +117,12 @@ module _ {K V S D T A : Type 0} (x : Setup K V D T) (w : State K V S D T A) (sou
       (cases_Bool (h.0.call == p.next))) h.4
 
 -- the block that a start or a release counts in is the thread's
-pub starts-own : {K V D : Type 0} (a : Ask K V D) (guard : Option Mode) (block : Option ℕ) (i : ℕ) → start_counts a guard block ≡ Some i → block ≡ Some i
-starts-own (ask.Keyed k) guard block i h = absurd (none-some i h)
-starts-own (ask.Begin k) guard block i h = absurd (none-some i h)
-starts-own (ask.Held (held.Read d)) (Some m) block i h = absurd (none-some i h)
-starts-own (ask.Held (held.Write d)) (Some Shared) block i h = h
-starts-own (ask.Held (held.Write d)) (Some Exclusive) block i h = absurd (none-some i h)
-starts-own (ask.Held held.Downgrade) (Some Shared) block i h = h
-starts-own (ask.Held held.Downgrade) (Some Exclusive) block i h = absurd (none-some i h)
-starts-own (ask.Held held.Drop) (Some m) block i h = absurd (none-some i h)
-starts-own (ask.Held k) None block i h = h
-
 if-own : (b : Bool) (block : Option ℕ) (i : ℕ) → (if b then block else None) ≡ Some i → block ≡ Some i
 if-own true block i h = h
 if-own false block i h = absurd (none-some i h)
+
+pub starts-own : {K V D T : Type 0} (f : Phase K V D T) (block : Option ℕ) (i : ℕ) → start_counts f block ≡ Some i → block ≡ Some i
+starts-own f block i h = if-own (is_told f) block i h
 
 -- what one step leaves of what was there
 pub record Step-adds {K V S D T A : Type 0} (w w' : State K V S D T A) (s : Step) : Type 0 where
@@ -156,11 +146,11 @@ module _ {K V S D T A : Type 0} (x : Setup K V D T) (w : State K V S D T A) (s :
 
   pub step-adds : IsStep x w s w' → Step-adds w w' s
   step-adds (start h) = fixed-by _ w.tables w.holds h.blocks w.replies refl h.after
-      (counted-stays x w sound s.thread h.place h.stands (start_counts h.ask (guard_of h.place) h.place.block) h.blocks (λ i e. starts-own h.ask (guard_of h.place) h.place.block i e) h.counted) nothing
+      (counted-stays x w sound s.thread h.place h.stands (start_counts (start_phase {T = T} h.ask h.place.guard) h.place.block) h.blocks (λ i e. starts-own (start_phase {T = T} h.ask h.place.guard) h.place.block i e) h.counted) nothing
   step-adds (admit h) = fixed-by _ w.tables _ w.blocks w.replies refl h.after (blocks-same w.blocks w.blocks refl) nothing
   step-adds (find h) = fixed-by _ w.tables w.holds h.blocks w.replies refl h.after (listed-stays x w sound s.thread h.place h.stands h.done h.blocks h.listed) nothing
   step-adds (find_grows h) = fixed-by _ (slice_set w.tables h.place.shard h.grown) w.holds h.blocks w.replies (length-set w.tables h.place.shard h.grown) h.after
-      (listed-stays x w sound s.thread h.place h.stands (Some 0) h.blocks h.listed) nothing
+      (listed-stays x w sound s.thread h.place h.stands (found_done {D = D} (request_of h.call) None true) h.blocks h.listed) nothing
   step-adds (find_refused h) = fixed-by _ (slice_set w.tables h.place.shard h.kept) w.holds w.blocks w.replies (length-set w.tables h.place.shard h.kept) h.after (blocks-same w.blocks w.blocks refl) nothing
   step-adds (deed_appends h) = fixed-by _ (slice_set w.tables h.place.shard h.changed) w.holds h.blocks w.replies (length-set w.tables h.place.shard h.changed) h.after
       (counted-stays x w sound s.thread h.place h.stands h.place.block h.blocks (λ i e. e) h.counted) nothing
@@ -170,12 +160,14 @@ module _ {K V S D T A : Type 0} (x : Setup K V D T) (w : State K V S D T A) (s :
       (listed-stays x w sound s.thread h.place h.stands (Some 1) h.blocks h.listed) nothing
   step-adds (deed_reads h) = fixed-by _ w.tables w.holds h.blocks w.replies refl h.after
       (counted-stays x w sound s.thread h.place h.stands h.place.block h.blocks (λ i e. e) h.counted) nothing
-  step-adds (deed_writes h) = fixed-by _ (slice_set w.tables h.place.shard h.changed) w.holds h.blocks w.replies (length-set w.tables h.place.shard h.changed) h.after
+  step-adds (deed_changes h) = fixed-by _ (slice_set w.tables h.place.shard h.changed) w.holds h.blocks w.replies (length-set w.tables h.place.shard h.changed) h.after
+      (counted-stays x w sound s.thread h.place h.stands h.place.block h.blocks (λ i e. e) h.counted) nothing
+  step-adds (deed_fills h) = fixed-by _ (slice_set w.tables h.place.shard h.changed) w.holds h.blocks w.replies (length-set w.tables h.place.shard h.changed) h.after
       (counted-stays x w sound s.thread h.place h.stands h.place.block h.blocks (λ i e. e) h.counted) nothing
   step-adds (downgrade h) = fixed-by _ w.tables _ h.blocks w.replies refl h.after
       (counted-stays x w sound s.thread h.place h.stands h.place.block h.blocks (λ i e. e) h.counted) nothing
   step-adds (release h) = fixed-by _ w.tables _ h.blocks w.replies refl h.after
-      (counted-stays x w sound s.thread h.place h.stands (if is_some h.place.slot then h.place.block else None) h.blocks (λ i e. if-own (is_some h.place.slot) h.place.block i e) h.counted) nothing
+      (counted-stays x w sound s.thread h.place h.stands (if is_some h.place.guard then h.place.block else None) h.blocks (λ i e. if-own (is_some h.place.guard) h.place.block i e) h.counted) nothing
   step-adds (answers h) = fixed-by _ w.tables w.holds h.blocks (w.replies ++ _ ∷ []) refl h.after (ended-stays x w sound s.thread h.place h.stands h.place.block (next_step w) h.blocks refl h.ended) (_ ∷ [], refl)
 
 -- what is added over a run

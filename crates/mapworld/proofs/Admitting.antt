@@ -1,5 +1,5 @@
 -- A start of a keyed call or an opening aside, what leads a thread into its shard: admissions, and growths that are refused.
-use Rattle.std.proofs.Common.{◌≡◌, ◌≢◌, ℕ, ◌+◌, inl, inr, true, false, List, Some, None, slice_get, slice_set, refl, ap, sym, ◌∙◌, subst, arith}
+use Rattle.std.proofs.Common.{◌≡◌, ◌≢◌, ℕ, ◌+◌, inl, inr, true, false, List, Option, Some, None, slice_get, slice_set, refl, ap, sym, ◌∙◌, subst, arith}
 use Rattle.std.specs.declared.vec.Vec.{Vec}
 use Rattle.std.proofs.lemmas.Bool.{false≢true}
 use Rattle.mapworld_calls.specs.declared.block.Block.{Block}
@@ -7,6 +7,7 @@ use Rattle.mapworld_calls.specs.declared.ask.Ask.TheVariants as ask
 use Rattle.mapworld_calls.specs.declared.ask.Keyed.{Keyed}
 use Rattle.mapworld_calls.specs.declared.ask.Keyed.TheVariants as keyed
 use Rattle.mapworld_calls.specs.declared.ask.Begin.{Begin}
+use Rattle.mapworld_calls.specs.declared.ask.Begin.TheVariants as begin
 use Rattle.mapworld_calls.specs.declared.reply.Answer.TheVariants as answer
 use Rattle.mapworld_calls.specs.Setup.{Setup, Laws, ask_at, session_of}
 use Rattle.mapworld_calls.specs.Agrees.{HasNoBlock}
@@ -16,12 +17,14 @@ use Rattle.mapworld_calls.proofs.Lists.{slice_get-set_other}
 use Rattle.mapworld.specs.declared.holds.Mode.{Mode}
 use Rattle.mapworld.specs.declared.holds.Mode.TheVariants.{Exclusive}
 use Rattle.mapworld.specs.declared.step.Step.{Step}
+use Rattle.mapworld.specs.declared.place.Growth.{Growth}
+use Rattle.mapworld.specs.declared.place.Growth.TheVariants as growth
 use Rattle.mapworld.specs.declared.place.Phase.TheVariants as phase
 use Rattle.mapworld.specs.declared.place.Place.{Place}
 use Rattle.mapworld.specs.State.{State, threads_of, started_of}
-use Rattle.mapworld.specs.Moves.{stepped}
+use Rattle.mapworld.specs.Moves.{ask_of, request_of, stepped}
 use Rattle.mapworld.specs.Steps.{Admits, IsRefusedGrowth}
-use Rattle.mapworld.specs.Sound.{may_own, block_after, HoldsShard, OwnsBlocks, IsReleasing, Stands, Sound}
+use Rattle.mapworld.specs.Sound.{may_own, block_after, HoldsShard, OwnsBlocks, IsInSession, IsReleasing, Stands, Sound}
 use Rattle.mapworld.proofs.Effects.{effect-same, Anyhow}
 use Rattle.mapworld.proofs.Others.{IsInCall-push}
 use Rattle.mapworld.proofs.Timing.{placed-same}
@@ -75,7 +78,7 @@ module _ {K V S D T A : Type 0} (x : Setup K V D T) (laws : Laws x) (w : State K
         owns = owns-on w.blocks s.thread p p' st.owns refl refl (λ own. absurd (false≢true (sym (ap may_own a.before) ∙ own)));
         claim = (
           IsInCall-push x (threads_of w) s.thread s.thread p' _ (in_call-moved x p p' (threads_of w) s.thread _ refl refl refl c.0),
-          record { block = c.1.block; slot = c.1.slot; shard = c.1.shard },
+          record { block = c.1.block; guard = c.1.guard; shard = c.1.shard },
           record { hold = a.hold; has = refl; shard = a.hold_is.0; mode_is = a.hold_is.1 },
         );
       })
@@ -108,14 +111,34 @@ module _ {K V S D T A : Type 0} (x : Setup K V D T) (laws : Laws x) (w : State K
       ∙ one_guard_begin_apart st.program (sound.guarded s.thread st.program st.has) p.next b (asked-from x s.thread st.program st.has p.next (ask.Begin b) asked) in
       (outside, session-next x s.thread st.program st.has p.next (ask.Begin b) asked)
 
+  -- what a refused growth leaves its release to do: a keyed call is answered, and an opening gives no guard
+  refused-releasing : (p : Place K V D T A) → slice_get w.places s.thread ≡ Some p → (tables' : List (Vec (K × V) A)) (g : Growth K V) → p.phase ≡ phase.Grow g
+      → IsReleasing x w.blocks tables' s.thread (record p { phase = phase.Release answer.NoMemory }) (ask_of (request_of {D = D} g)) answer.NoMemory None
+  refused-releasing p at tables' (growth.Insert k v) before =
+      let p' : Place K V D T A = record p { phase = phase.Release answer.NoMemory } in
+      let st = sound.stands s.thread p at in
+      let c = claim-at x (threads_of w) w.blocks w.replies w.tables s.thread p (phase.Grow (growth.Insert k v)) before st in
+      let outside = keyed-apart p st (keyed.Insert k v) c.0.asked in (
+        inr (refl, refl, none-yet p at (ap may_own before)),
+        ready-outside x w.blocks tables' s.thread p' (p.next + 1) (block_after p') outside.1 c.1.guard (block_after-none p' c.1.block),
+      )
+  refused-releasing p at tables' (growth.Entry k) before =
+      let p' : Place K V D T A = record p { phase = phase.Release answer.NoMemory } in
+      let st = sound.stands s.thread p at in
+      let c = claim-at x (threads_of w) w.blocks w.replies w.tables s.thread p (phase.Grow (growth.Entry k)) before st in
+      let inside = begin-apart p st (begin.Entry k) c.0.asked in
+      let none = none-yet p at (ap may_own before) in (
+        inr (refl, refl, none),
+        subst (λ (o : Option ℕ). IsInSession x w.blocks tables' s.thread p' (p.next + 1) o (block_after p')) (sym inside.1)
+            (subst (λ (o : Option ℕ). IsInSession x w.blocks tables' s.thread p' (p.next + 1) (Some p.next) o) (sym (block_after-none p' c.1.block)) (c.1.guard, none)),
+      )
+
   pub sound-refused : IsRefusedGrowth x w s w' → Sound x w'
   sound-refused a =
       let p = a.place in
       let p' : Place K V D T A = record p { phase = phase.Release answer.NoMemory } in
       let st = sound.stands s.thread p a.stands in
-      let c = claim-at x (threads_of w) w.blocks w.replies w.tables s.thread p (phase.Grow a.key a.value) a.before st in
-      let outside = keyed-apart p st (keyed.Insert a.key a.value) c.0.asked in
-      let none = none-yet p a.stands (ap may_own a.before) in
+      let c = claim-at x (threads_of w) w.blocks w.replies w.tables s.thread p (phase.Grow a.call) a.before st in
       subst (Sound x) (sym a.after) (sound-by x w s p p' a.stands sound w.blocks (slice_set w.tables p.shard a.kept) w.holds w.replies Anyhow
       (record {
         effect = effect-same x w.blocks s.thread;
@@ -127,18 +150,18 @@ module _ {K V S D T A : Type 0} (x : Setup K V D T) (laws : Laws x) (w : State K
       (record {
         program = st.program;
         has = st.has;
-        asks_left = taken-at x (threads_of w) w.blocks w.replies w.tables s.thread p (phase.Grow a.key a.value) a.before st;
-        within = within-at x (threads_of w) w.blocks w.replies w.tables s.thread p (phase.Grow a.key a.value) a.before st;
+        asks_left = taken-at x (threads_of w) w.blocks w.replies w.tables s.thread p (phase.Grow a.call) a.before st;
+        within = within-at x (threads_of w) w.blocks w.replies w.tables s.thread p (phase.Grow a.call) a.before st;
         answered = st.answered;
         own_block = st.own_block;
         owns = owns-on w.blocks s.thread p p' st.owns refl refl (λ own. refl);
         claim = (
-          ask.Keyed (keyed.Insert a.key a.value),
+          ask_of (request_of {D = D} a.call),
           c.2.hold,
           IsInCall-push x (threads_of w) s.thread s.thread p' _ (in_call-moved x p p' (threads_of w) s.thread _ refl refl refl c.0),
           c.2.has,
-          subst (IsReleasing x w.blocks (slice_set w.tables p.shard a.kept) s.thread p' (ask.Keyed (keyed.Insert a.key a.value)) answer.NoMemory) (sym c.1.slot)
-              (inr (refl, refl, none), ready-outside x w.blocks (slice_set w.tables p.shard a.kept) s.thread p' (p.next + 1) (block_after p') outside.1 c.1.slot (block_after-none p' c.1.block)),
+          subst (IsReleasing x w.blocks (slice_set w.tables p.shard a.kept) s.thread p' (ask_of (request_of {D = D} a.call)) answer.NoMemory) (sym c.1.guard)
+              (refused-releasing p a.stands (slice_set w.tables p.shard a.kept) a.call a.before),
         );
       })
       (tables-rewritten x w.blocks w.blocks w.tables p.shard a.table a.kept a.held a.pairs sound.tables (λ q. refl))

@@ -19,6 +19,7 @@ use Rattle.mapworld_calls.proofs.Grown.{Grows, block_key-grown, found-grown, con
 use Rattle.mapworld_calls.proofs.Kept.{Keeps, none-grown, keeps-grown, answered-by}
 use Rattle.mapworld.specs.declared.step.Step.{Step}
 use Rattle.mapworld.specs.declared.place.Phase.TheVariants as phase
+use Rattle.mapworld.specs.declared.place.Guard.{Guard}
 use Rattle.mapworld.specs.declared.place.Place.{Place}
 use Rattle.mapworld.specs.State.{State, threads_of, started_of, next_step}
 use Rattle.mapworld.specs.Moves.{stepped, EndsAt, EndsBlock}
@@ -126,7 +127,7 @@ module _ {K V D T A : Type 0} (x : Setup K V D T) (laws : Laws x) (bs bs' : List
 
 -- a session goes on where its block shows its end
 module _ {K V D T A : Type 0} (x : Setup K V D T) (bs bs' : List (Block K)) (tables : List (Vec (K × V) A)) (t m end : ℕ) (p p' : Place K V D T A) (e : Ended x bs bs' t m end)
-    (hold : p'.hold ≡ p.hold) (shard : p'.shard ≡ p.shard) (slot : p'.slot ≡ p.slot) where
+    (hold : p'.hold ≡ p.hold) (shard : p'.shard ≡ p.shard) (slot : p'.guard ≡ p.guard) where
   ended-ready : (n : ℕ) (o block : Option ℕ) → IsInSession x bs tables t p n o block → IsInSession x bs' tables t p' n o block
   ended-ready n (Some c) (Some i) h =
       let k = e.comes i h.block h.listed h.thread in
@@ -137,8 +138,8 @@ module _ {K V D T A : Type 0} (x : Setup K V D T) (bs bs' : List (Block K)) (tab
         call = k.2.call ∙ h.call;
         below = h.below;
         done = k.3 ∙ h.done;
-        guard = subst (λ (f : Option (K × V)). GuardIs tables p' p'.slot (reached x t c (n - c) f)) (sym k.4)
-            (subst (λ (z : Option ℕ). GuardIs tables p' z (reached x t c (n - c) (found x bs i h.block))) (sym slot) (guard-moved x p p' tables p.slot (reached x t c (n - c) (found x bs i h.block)) hold shard h.guard));
+        guard = subst (λ (f : Option (K × V)). GuardIs tables p' p'.guard (reached x t c (n - c) f)) (sym k.4)
+            (subst (λ (z : Option (Guard K)). GuardIs tables p' z (reached x t c (n - c) (found x bs i h.block))) (sym slot) (guard-moved x p p' tables p.guard (reached x t c (n - c) (found x bs i h.block)) hold shard h.guard));
         settled = settled-moved x p p' bs bs' i h.block k.0 (rw (k.2.thread, k.2.call) refl) (alone-moved x p p' hold shard) shard (e.effect.last i h.block h.listed tt) h.settled;
       }
   ended-ready n (Some c) None h = (slot ∙ h.0, e.none t c h.1)

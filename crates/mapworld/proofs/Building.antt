@@ -21,9 +21,11 @@ use Rattle.mapworld.specs.declared.holds.Mode.TheVariants.{Exclusive}
 use Rattle.mapworld.specs.Holds.{Desks}
 use Rattle.mapworld.specs.declared.step.Step.{Step}
 use Rattle.mapworld.specs.declared.place.Phase.{Phase}
+use Rattle.mapworld.specs.declared.place.Guard.{Guard}
+use Rattle.mapworld.specs.declared.place.Guard.TheVariants as guard
 use Rattle.mapworld.specs.declared.place.Place.{Place}
 use Rattle.mapworld.specs.State.{State, threads_of, started_of}
-use Rattle.mapworld.specs.Moves.{stepped}
+use Rattle.mapworld.specs.Moves.{way_mode, stepped}
 use Rattle.mapworld.specs.Sound.{is_resting, block_after, HoldsShard, GuardIs, IsOnShard, IsSettled, IsInSessionOf, IsInSession, IsReady, IsInCall, Claim, Stands, TablesAgree, Sound}
 use Rattle.mapworld.specs.Held.{HoldsMatch}
 use Rattle.mapworld.proofs.Effects.{Effect}
@@ -96,9 +98,10 @@ module _ {K V D T A : Type 0} (x : Setup K V D T) (p p' : Place K V D T A) where
   pub holds-moved : (m : Mode) → p'.hold ≡ p.hold → p'.shard ≡ p.shard → HoldsShard p m → HoldsShard p' m
   holds-moved m hold shard h = record { hold = h.hold; has = hold ∙ h.has; shard = h.shard ∙ sym shard; mode_is = h.mode_is }
 
-  pub guard-moved : (tables : List (Vec (K × V) A)) (slot : Option ℕ) (at : At K V) → p'.hold ≡ p.hold → p'.shard ≡ p.shard → GuardIs tables p slot at → GuardIs tables p' slot at
+  pub guard-moved : (tables : List (Vec (K × V) A)) (g : Option (Guard K)) (at : At K V) → p'.hold ≡ p.hold → p'.shard ≡ p.shard → GuardIs tables p g at → GuardIs tables p' g at
   guard-moved tables None at hold shard h = h
-  guard-moved tables (Some i) at hold shard h = (h.0, h.1, h.2, holds-moved h.1 hold shard h.3, rw shard h.4)
+  guard-moved tables (Some (guard.Pair kind i)) at hold shard h = (h.0, h.1, holds-moved (way_mode kind) hold shard h.2, rw shard h.3)
+  guard-moved tables (Some (guard.Vacant k)) at hold shard h = (h.0, holds-moved Exclusive hold shard h.1, rw shard h.2)
 
   pub settled-moved : (bs bs' : List (Block K)) (i : ℕ) (b c : Block K) → block_key x c ≡ block_key x b → (HoldsShard p' Exclusive → HoldsShard p Exclusive) → p'.shard ≡ p.shard
       → (IsLastOnShard x bs i b → IsLastOnShard x bs' i b) → IsSettled x bs p i b → IsSettled x bs' p' i c
@@ -110,7 +113,7 @@ module _ {K V D T A : Type 0} (x : Setup K V D T) (p p' : Place K V D T A) where
   pub alone-moved : p'.hold ≡ p.hold → p'.shard ≡ p.shard → HoldsShard p' Exclusive → HoldsShard p Exclusive
   alone-moved hold shard h = record { hold = h.hold; has = sym hold ∙ h.has; shard = h.shard ∙ shard; mode_is = h.mode_is }
 
-  session-moved : (bs : List (Block K)) (tables : List (Vec (K × V) A)) (t n c : ℕ) (block : Option ℕ) → p'.hold ≡ p.hold → p'.shard ≡ p.shard → p'.slot ≡ p.slot
+  session-moved : (bs : List (Block K)) (tables : List (Vec (K × V) A)) (t n c : ℕ) (block : Option ℕ) → p'.hold ≡ p.hold → p'.shard ≡ p.shard → p'.guard ≡ p.guard
       → IsInSessionOf x bs tables t p n c block → IsInSessionOf x bs tables t p' n c block
   session-moved bs tables t n c (Some i) hold shard slot h = record {
     block = h.block;
@@ -119,17 +122,17 @@ module _ {K V D T A : Type 0} (x : Setup K V D T) (p p' : Place K V D T A) where
     call = h.call;
     below = h.below;
     done = h.done;
-    guard = subst (λ (o : Option ℕ). GuardIs tables p' o (reached x t c (n - c) (found x bs i h.block))) (sym slot) (guard-moved tables p.slot (reached x t c (n - c) (found x bs i h.block)) hold shard h.guard);
+    guard = subst (λ (o : Option (Guard K)). GuardIs tables p' o (reached x t c (n - c) (found x bs i h.block))) (sym slot) (guard-moved tables p.guard (reached x t c (n - c) (found x bs i h.block)) hold shard h.guard);
     settled = settled-moved bs bs i h.block h.block refl (alone-moved hold shard) shard (λ z. z) h.settled;
   }
   session-moved bs tables t n c None hold shard slot h = (slot ∙ h.0, h.1)
 
-  in_session-moved : (bs : List (Block K)) (tables : List (Vec (K × V) A)) (t n : ℕ) (o : Option ℕ) (block : Option ℕ) → p'.hold ≡ p.hold → p'.shard ≡ p.shard → p'.slot ≡ p.slot
+  in_session-moved : (bs : List (Block K)) (tables : List (Vec (K × V) A)) (t n : ℕ) (o : Option ℕ) (block : Option ℕ) → p'.hold ≡ p.hold → p'.shard ≡ p.shard → p'.guard ≡ p.guard
       → IsInSession x bs tables t p n o block → IsInSession x bs tables t p' n o block
   in_session-moved bs tables t n (Some c) block hold shard slot h = session-moved bs tables t n c block hold shard slot h
   in_session-moved bs tables t n None block hold shard slot h = (slot ∙ h.0, h.1)
 
-  pub ready-moved : (bs : List (Block K)) (tables : List (Vec (K × V) A)) (t n : ℕ) (block : Option ℕ) → p'.hold ≡ p.hold → p'.shard ≡ p.shard → p'.slot ≡ p.slot
+  pub ready-moved : (bs : List (Block K)) (tables : List (Vec (K × V) A)) (t n : ℕ) (block : Option ℕ) → p'.hold ≡ p.hold → p'.shard ≡ p.shard → p'.guard ≡ p.guard
       → IsReady x bs tables t p n block → IsReady x bs tables t p' n block
   ready-moved bs tables t n block hold shard slot h = in_session-moved bs tables t n (session_of x t n) block hold shard slot h
 
@@ -196,7 +199,7 @@ tables-changed x laws bs bs' tables agree key leaves i here now still table chan
 
 -- outside of every session
 pub ready-outside : {K V D T A : Type 0} (x : Setup K V D T) (bs : List (Block K)) (tables : List (Vec (K × V) A)) (t : ℕ) (p : Place K V D T A) (n : ℕ) (block : Option ℕ)
-    → session_of x t n ≡ None → p.slot ≡ None → block ≡ None → IsReady x bs tables t p n block
+    → session_of x t n ≡ None → p.guard ≡ None → block ≡ None → IsReady x bs tables t p n block
 ready-outside x bs tables t p n block outside slot none =
     subst (λ (o : Option ℕ). IsInSession x bs tables t p n o block) (sym outside) (slot, none)
 

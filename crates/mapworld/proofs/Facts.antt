@@ -1,19 +1,25 @@
 -- What the code knows of a thread's place between two steps.
-use Rattle.std.proofs.Common.{◌≡◌, ℕ, ◌+◌, ◌<◌, ◌≤◌, Bool, true, false, if◌then◌else◌, List, length, get_or, Vec, Option, Some, None, is_some, slice_get, sum_by, sym, ◌∙◌, subst, arith}
+use Rattle.std.proofs.Common.{◌≡◌, ℕ, zero, suc, ◌+◌, ◌-◌, ◌<◌, ◌≤◌, Bool, true, false, ◌||◌, if◌then◌else◌, List, [], ◌∷◌, length, drop, get_or, Vec, Option, Some, None, is_some, slice_get, sum_by, vec_len, vec_capacity, refl, ap, sym, ◌∙◌, subst, arith}
+use Rattle.std.specs.List.{list_any}
 use Rattle.std.proofs.lemmas.Option.{get_or_from_slice_get, none-some, same_Some}
 use Rattle.mapworld_calls.specs.declared.ask.Ask.{Ask}
 use Rattle.mapworld_calls.specs.declared.block.Block.{Block}
 use Rattle.mapworld_calls.specs.declared.reply.Answer.{Answer}
+use Rattle.mapworld_calls.specs.Calls.{At}
+use Rattle.mapworld_calls.specs.Replay.{reached, found}
 use Rattle.mapworld_calls.specs.Setup.{Setup}
 use Rattle.mapworld_calls.proofs.Lists.{sum_by-at}
+use Rattle.mapworld.specs.declared.place.Way.{Way}
+use Rattle.mapworld.specs.declared.place.Guard.{Guard}
+use Rattle.mapworld.specs.declared.place.Guard.TheVariants as guard
 use Rattle.mapworld.specs.declared.place.Phase.{Phase}
 use Rattle.mapworld.specs.declared.place.Phase.TheVariants as phase
 use Rattle.mapworld.specs.declared.place.Request.{Request}
 use Rattle.mapworld.specs.declared.place.Place.{Place}
 use Rattle.mapworld.specs.State.{State, threads_of}
 use Rattle.mapworld.specs.Holds.{is_excluded}
-use Rattle.mapworld.specs.Moves.{mode_of}
-use Rattle.mapworld.specs.Sound.{Sound, Claim, HasPair, HasList, IsInSession, IsOnItsWay, IsBeforeDeed, IsReleasing, is_resting}
+use Rattle.mapworld.specs.Moves.{mode_of, lent_slot, lent_pair, vacant_key}
+use Rattle.mapworld.specs.Sound.{Sound, Claim, GuardIs, HasPair, HasList, IsInSession, IsOnItsWay, IsBeforeDeed, IsReleasing, is_resting}
 use Rattle.mapworld.specs.Core.{IsBefore}
 use Rattle.mapworld.specs.Listing.{CanCount}
 
@@ -70,20 +76,28 @@ module _ {K V D T A : Type 0} (x : Setup K V D T) (bs : List (Block K)) (tables 
   session_counts n (Some c) (Some j) h i e =
       (h.block, subst (λ k. slice_get bs k ≡ Some h.block) (same_Some j i e) h.listed, omega (arith, h.call, h.below))
 
-  -- a guard lends a pair of its shard's list
-  pub session_pair : (n : ℕ) (session block : Option ℕ) (slot : ℕ) → IsInSession x bs tables t p n session block → p.slot ≡ Some slot
+  -- a guard lends a pair of its shard's list, or has room in it
+  guard_is : (n : ℕ) (session block : Option ℕ) (g : Guard K) → IsInSession x bs tables t p n session block → p.guard ≡ Some g → (at : At K V) × GuardIs tables p (Some g) at
+  guard_is n None block g h e = absurd (none-some g (sym h.0 ∙ e))
+  guard_is n (Some c) None g h e = absurd (none-some g (sym h.0 ∙ e))
+  guard_is n (Some c) (Some j) g h e =
+      (reached x t c (n - c) (found x bs j h.block), subst (λ (z : Option (Guard K)). GuardIs tables p z (reached x t c (n - c) (found x bs j h.block))) e h.guard)
+
+  pub session_pair : (n : ℕ) (session block : Option ℕ) (kind : Way K) (slot : ℕ) → IsInSession x bs tables t p n session block → p.guard ≡ Some (guard.Pair kind slot)
       → (pair : K × V) × HasPair tables p.shard slot pair
-  session_pair n None block slot h e = absurd (none-some slot (sym h.0 ∙ e))
-  session_pair n (Some c) None slot h e = absurd (none-some slot (sym h.0 ∙ e))
-  session_pair n (Some c) (Some j) slot h e = let g = rw e at h.guard in (g.0, g.4)
+  session_pair n session block kind slot h e = let g = guard_is n session block (guard.Pair kind slot) h e in (g.1.0, g.1.3)
+
+  pub session_room : (n : ℕ) (session block : Option ℕ) (key : K) → IsInSession x bs tables t p n session block → p.guard ≡ Some (guard.Vacant key)
+      → HasList tables p.shard (λ table. vec_len table < vec_capacity table)
+  session_room n session block key h e = let g = guard_is n session block (guard.Vacant key) h e in g.1.2
 
   -- the block of a deed is that of its call
   pub deed_counts : (key : K) (o : Option (K × V)) → IsBeforeDeed x bs t p key o → CanCount bs p.block p.next
   deed_counts key o d i e =
       (d.block, subst (λ k. slice_get bs k ≡ Some d.block) (same_Some d.index i (sym d.mine ∙ e)) d.listed, omega (arith, d.call))
 
-  pub release_counts : (a : Ask K V D) (r : Answer K V T) (slot : Option ℕ) → IsReleasing x bs tables t p a r slot
-      → CanCount bs (if is_some slot then p.block else None) p.next
+  pub release_counts : (a : Ask K V D) (r : Answer K V T) (g : Option (Guard K)) → IsReleasing x bs tables t p a r g
+      → CanCount bs (if is_some g then p.block else None) p.next
   release_counts a r None h i e = absurd (none-some i e)
   release_counts a r (Some s) h i e = session_counts p.next _ p.block h.2 i e
 
@@ -114,7 +128,35 @@ module _ {K V A : Type 0} (tables : List (Vec (K × V) A)) (shard : ℕ) (r : Ve
 
 -- the block that a release counts its call in
 pub release_listed : {K V S D T A : Type 0} {x : Setup K V D T} {w : State K V S D T A} (sound : Sound x w) (t : ℕ) (p : Place K V D T A) → slice_get w.places t ≡ Some p
-    → (r : Answer K V T) → p.phase ≡ phase.Release r → CanCount w.blocks (if is_some p.slot then p.block else None) p.next
+    → (r : Answer K V T) → p.phase ≡ phase.Release r → CanCount w.blocks (if is_some p.guard then p.block else None) p.next
 release_listed {x = x} {w = w} sound t p here r before =
     let claim = claim_at sound t p here before in
-    release_counts x w.blocks w.tables t p claim.0 r p.slot claim.4
+    release_counts x w.blocks w.tables t p claim.0 r p.guard claim.4
+
+-- what a guard is taken apart into tells which it was
+pub pair_is : {K : Type 0} (g : Option (Guard K)) (kind : Way K) (slot : ℕ) → lent_pair g ≡ Some (kind, slot) → g ≡ Some (guard.Pair kind slot)
+pair_is None kind slot e = cc
+pair_is (Some (guard.Pair k i)) kind slot e = ap (λ z. Some (guard.Pair z.0 z.1)) (same_Some (k, i) (kind, slot) e)
+pair_is (Some (guard.Vacant k)) kind slot e = cc
+
+pub slot_is : {K : Type 0} (g : Option (Guard K)) (slot : ℕ) → lent_slot g ≡ Some slot → (kind : Way K) × (g ≡ Some (guard.Pair kind slot))
+slot_is None slot e = cc
+slot_is (Some (guard.Pair k i)) slot e = (k, cc)
+slot_is (Some (guard.Vacant k)) slot e = cc
+
+pub vacant_is : {K : Type 0} (g : Option (Guard K)) (key : K) → vacant_key g ≡ Some key → g ≡ Some (guard.Vacant key)
+vacant_is None key e = cc
+vacant_is (Some (guard.Pair k i)) key e = cc
+vacant_is (Some (guard.Vacant k)) key e = cc
+
+-- what is left of a list of places, one place further
+pub any-drop : {X : Type 0} (f : X → Bool) (xs : List X) (i : ℕ) (x : X) → slice_get xs i ≡ Some x → list_any f (drop i xs) ≡ (f x || list_any f (drop (suc i) xs))
+any-drop f [] i x at = absurd (none-some x at)
+any-drop f (y ∷ ys) zero x at = ap (λ z. f z || list_any f ys) (same_Some y x at)
+any-drop f (y ∷ ys) (suc i) x at = any-drop f ys i x at
+
+pub any-end : {X : Type 0} (f : X → Bool) (xs : List X) (i : ℕ) → length xs ≤ i → list_any f (drop i xs) ≡ false
+any-end f [] zero le = refl
+any-end f [] (suc i) le = refl
+any-end f (y ∷ ys) zero le = absurd (omega (arith, le))
+any-end f (y ∷ ys) (suc i) le = any-end f ys i (omega (arith, le))

@@ -1,10 +1,10 @@
 -- Where a step is refused, the fault has the number of steps that were done.
 use Rattle.std.proofs.Common.{◌≡◌, ℕ, Bool, true, false, if◌then◌else◌, Some, None, nat_lt, length, ap, sym}
 use Rattle.std.proofs.lemmas.Option.{none-some, same_Some}
-use Rattle.mapworld.specs.declared.fault.RunFault.{RunFault}
-use Rattle.mapworld.specs.declared.fault.RunFault.TheVariants as fault
+use Rattle.mapworld_faults.specs.declared.fault.RunFault.{RunFault}
+use Rattle.mapworld_faults.specs.declared.fault.RunFault.TheVariants as fault
 use Rattle.mapworld.specs.declared.step.Step.{Step}
-use Rattle.mapworld.specs.Faults.{run_fault_done}
+use Rattle.mapworld_faults.specs.Faults.{run_fault_done}
 use Rattle.mapworld.specs.State.{State}
 use Rattle.mapworld.specs.Running.{status_of, is_running, has_numbers, refusal}
 

@@ -10,7 +10,7 @@ use Rattle.mapworld_calls.specs.declared.ask.Held.{Held}
 use Rattle.mapworld_calls.specs.declared.ask.Held.TheVariants as held
 use Rattle.mapworld_calls.specs.declared.block.Block.{Block}
 use Rattle.mapworld_calls.specs.Deeds.{Deeds}
-use Rattle.mapworld_calls.specs.Calls.{At, free, shared, exclusive, pair_in, told, held_leaves}
+use Rattle.mapworld_calls.specs.Calls.{At, free, shared, exclusive, occupied, vacant, pair_in, told, held_leaves}
 use Rattle.mapworld_calls.specs.Setup.{Setup, Laws, ask_at, session_of}
 use Rattle.mapworld_calls.specs.Replay.{reached, block_key, at_key, contents, found, IsLastOnShard}
 use Rattle.mapworld_calls.specs.Agrees.{IsToldBy}
@@ -24,6 +24,7 @@ use Rattle.mapworld.specs.declared.holds.Mode.TheVariants.{Exclusive}
 use Rattle.mapworld.specs.declared.step.Step.{Step}
 use Rattle.mapworld.specs.Holds.{Desks}
 use Rattle.mapworld.specs.declared.holds.Mode.{Mode}
+use Rattle.mapworld.specs.declared.place.Guard.{Guard}
 use Rattle.mapworld.specs.declared.place.Place.{Place}
 use Rattle.mapworld.specs.State.{State, threads_of, started_of}
 use Rattle.mapworld.specs.Moves.{stepped, CountsIn}
@@ -34,23 +35,29 @@ use Rattle.mapworld.proofs.Timing.{placed-grown}
 use Rattle.mapworld.proofs.Building.{started-own, started-stays, sound-by, replies-kept, asked-at, session-is, reached-next, told-next, settled-moved, alone-moved, tables-same}
 
 -- a call on the guard of a session that stands there leaves its pair
-abbrev pub LeavesPair : {D K V T : Type 0} → Deeds D K V T → Held D → At K V → Type 0
+abbrev pub LeavesPair : {D K V T : Type 0} → Deeds D K V T → Held V D → At K V → Type 0
 LeavesPair deeds h at = pair_in (held_leaves deeds h at) ≡ pair_in at
 
 pub read-quiet : {D K V T : Type 0} (deeds : Deeds D K V T) (d : D) (at : At K V) → LeavesPair deeds (held.Read d) at
 read-quiet deeds d (free o) = refl
 read-quiet deeds d (shared pair) = refl
 read-quiet deeds d (exclusive pair) = refl
+read-quiet deeds d (occupied k pair) = refl
+read-quiet deeds d (vacant k) = refl
 
 pub downgrade-quiet : {D K V T : Type 0} (deeds : Deeds D K V T) (at : At K V) → LeavesPair deeds held.Downgrade at
 downgrade-quiet deeds (free o) = refl
 downgrade-quiet deeds (shared pair) = refl
 downgrade-quiet deeds (exclusive pair) = refl
+downgrade-quiet deeds (occupied k pair) = refl
+downgrade-quiet deeds (vacant k) = refl
 
 pub drop-quiet : {D K V T : Type 0} (deeds : Deeds D K V T) (at : At K V) → LeavesPair deeds held.Drop at
 drop-quiet deeds (free o) = refl
 drop-quiet deeds (shared pair) = refl
 drop-quiet deeds (exclusive pair) = refl
+drop-quiet deeds (occupied k pair) = refl
+drop-quiet deeds (vacant k) = refl
 
 same-reached : {K V D T : Type 0} (x : Setup K V D T) (t u c e n m : ℕ) (o : Option (K × V)) → t ≡ u → c ≡ e → n ≡ m → reached x t c n o ≡ reached x u e m o
 same-reached x t u c e n m o ht hc hn = rw (ht, hc, hn)
@@ -64,11 +71,11 @@ own-grown bs i b c t at thread p own j mine = ⊎_elim
     (cases_eq i j)
 
 -- a guard is one of a session with a block
-pub session-of-guard : {K V D T A : Type 0} (x : Setup K V D T) (bs : List (Block K)) (tables : List (Vec (K × V) A)) (t : ℕ) (p : Place K V D T A) (n slot : ℕ) (o block : Option ℕ)
-    → p.slot ≡ Some slot → IsInSession x bs tables t p n o block → (c : ℕ) × (i : ℕ) × (o ≡ Some c) × (block ≡ Some i) × HasSession x bs tables t p n c i
-session-of-guard x bs tables t p n slot None block guarded h = absurd (none-some slot (sym h.0 ∙ guarded))
-session-of-guard x bs tables t p n slot (Some c) None guarded h = absurd (none-some slot (sym h.0 ∙ guarded))
-session-of-guard x bs tables t p n slot (Some c) (Some i) guarded h = (c, i, refl, refl, h)
+pub session-of-guard : {K V D T A : Type 0} (x : Setup K V D T) (bs : List (Block K)) (tables : List (Vec (K × V) A)) (t : ℕ) (p : Place K V D T A) (n : ℕ) (g : Guard K) (o block : Option ℕ)
+    → p.guard ≡ Some g → IsInSession x bs tables t p n o block → (c : ℕ) × (i : ℕ) × (o ≡ Some c) × (block ≡ Some i) × HasSession x bs tables t p n c i
+session-of-guard x bs tables t p n g None block guarded h = absurd (none-some g (sym h.0 ∙ guarded))
+session-of-guard x bs tables t p n g (Some c) None guarded h = absurd (none-some g (sym h.0 ∙ guarded))
+session-of-guard x bs tables t p n g (Some c) (Some i) guarded h = (c, i, refl, refl, h)
 
 opening-key_of : {K V D T : Type 0} (x : Setup K V D T) (b : Block K) (t c : ℕ) (g : Begin K) → b.thread ≡ t → b.call ≡ c → ask_at x t c ≡ Some (ask.Begin g) → block_key x b ≡ Some (opening_key g)
 opening-key_of {K} {V} {D} x b t c g thread call asked = rw (thread, call, asked) refl
@@ -78,7 +85,7 @@ IsSome-at None h = absurd cc
 IsSome-at (Some y) h = (y, refl)
 
 module _ {K V S D T A : Type 0} (x : Setup K V D T) (laws : Laws x) (w : State K V S D T A) (s : Step) (sound : Sound x w)
-    (p : Place K V D T A) (at : slice_get w.places s.thread ≡ Some p) (h : Held D) (asked : ask_at x s.thread p.next ≡ Some (ask.Held h)) (c i : ℕ) (inside : session_of x s.thread p.next ≡ Some c)
+    (p : Place K V D T A) (at : slice_get w.places s.thread ≡ Some p) (h : Held V D) (asked : ask_at x s.thread p.next ≡ Some (ask.Held h)) (c i : ℕ) (inside : session_of x s.thread p.next ≡ Some c)
     (session : HasSession x w.blocks w.tables s.thread p p.next c i) (b d : Block K) (listed : slice_get w.blocks i ≡ Some b) (counts : CountsIn p.next b d)
     (settled : LeavesPair x.deeds h (reached x s.thread c (p.next - c) (found x w.blocks i b)) ⊎ IsLastOnShard x w.blocks i b) where
   abbrev pub st : Stands x (threads_of w) w.blocks w.replies w.tables s.thread p
@@ -148,7 +155,7 @@ module _ {K V S D T A : Type 0} (x : Setup K V D T) (laws : Laws x) (w : State K
   }
 
   -- the session goes on behind the call, which may not come to hold its shard alone
-  pub session-goes-on : (tables' : List (Vec (K × V) A)) (p' : Place K V D T A) → (HoldsShard p' Exclusive → HoldsShard p Exclusive) → p'.shard ≡ p.shard → GuardIs tables' p' p'.slot (held_leaves x.deeds h was)
+  pub session-goes-on : (tables' : List (Vec (K × V) A)) (p' : Place K V D T A) → (HoldsShard p' Exclusive → HoldsShard p Exclusive) → p'.shard ≡ p.shard → GuardIs tables' p' p'.guard (held_leaves x.deeds h was)
       → HasSession x (slice_set w.blocks i d) tables' s.thread p' (p.next + 1) c i
   session-goes-on tables' p' alone shard guard =
       let below = session.below in
@@ -160,12 +167,12 @@ module _ {K V S D T A : Type 0} (x : Setup K V D T) (laws : Laws x) (w : State K
         call = counts.call ∙ call-is;
         below = omega arith;
         done = more-is ∙ sym one;
-        guard = rw (one, finds-same) (subst (λ (z : At K V). GuardIs tables' p' p'.slot z) (sym reached-more) guard);
+        guard = rw (one, finds-same) (subst (λ (z : At K V). GuardIs tables' p' p'.guard z) (sym reached-more) guard);
         settled = settled-moved x p p' w.blocks (slice_set w.blocks i d) i session.block d (block_key-grown x laws w.blocks i b d grows ∙ ap (λ z. block_key x z) (sym its))
             alone shard ((effect-grow x laws w.blocks s.thread i b d grows thread-is).last i session.block session.listed tt) session.settled;
       }
 
-  pub session-on : (tables' : List (Vec (K × V) A)) (p' : Place K V D T A) → p'.hold ≡ p.hold → p'.shard ≡ p.shard → GuardIs tables' p' p'.slot (held_leaves x.deeds h was)
+  pub session-on : (tables' : List (Vec (K × V) A)) (p' : Place K V D T A) → p'.hold ≡ p.hold → p'.shard ≡ p.shard → GuardIs tables' p' p'.guard (held_leaves x.deeds h was)
       → HasSession x (slice_set w.blocks i d) tables' s.thread p' (p.next + 1) c i
   session-on tables' p' hold shard guard = session-goes-on tables' p' (alone-moved x p p' hold shard) shard guard
 

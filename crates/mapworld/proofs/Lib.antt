@@ -40,4 +40,4 @@ pub mod Afters
 pub mod Bounds
 pub mod Running
 pub mod Rewriting
-pub mod Writing
+pub mod Changing

@@ -18,7 +18,10 @@ use Rattle.mapworld.specs.declared.holds.Mode.{Mode}
 use Rattle.mapworld.specs.declared.holds.Mode.TheVariants.{Shared, Exclusive}
 use Rattle.mapworld.specs.declared.place.Phase.{Phase}
 use Rattle.mapworld.specs.declared.place.Phase.TheVariants as phase
+use Rattle.mapworld.specs.declared.place.Guard.{Guard}
+use Rattle.mapworld.specs.declared.place.Guard.TheVariants as guard
 use Rattle.mapworld.specs.declared.place.Place.{Place}
+use Rattle.mapworld.specs.Moves.{way_mode}
 use Rattle.mapworld.specs.Sound.{HasPair, HoldsShard, GuardIs, IsOnShard, IsInSessionOf, IsInSession, IsReady, IsInCall, IsBeforeDeed, HasList, IsReleasing, Claim, Stands}
 use Rattle.mapworld.proofs.Effects.{Effect, keeps-other}
 
@@ -38,9 +41,10 @@ module _ {K V D T A : Type 0} (x : Setup K V D T) (bs bs' : List (Block K)) (tab
   pub list-kept : (m : Mode) (IsSo : Vec (K × V) A → Type 0) → HoldsShard p m → HasList tables p.shard IsSo → HasList tables' p.shard IsSo
   list-kept m IsSo h has = record { table = has.table; held = kept m h ∙ has.held; so = has.so }
 
-  pub guard-kept : (slot : Option ℕ) (at at' : At K V) → at' ≡ at → GuardIs tables p slot at → GuardIs tables' p slot at'
+  pub guard-kept : (g : Option (Guard K)) (at at' : At K V) → at' ≡ at → GuardIs tables p g at → GuardIs tables' p g at'
   guard-kept None at at' same h = (h.0, same ∙ h.1)
-  guard-kept (Some i) at at' same h = (h.0, h.1, same ∙ h.2, h.3, pair-kept h.1 i h.0 h.3 h.4)
+  guard-kept (Some (guard.Pair kind i)) at at' same h = (h.0, same ∙ h.1, h.2, pair-kept (way_mode kind) i h.0 h.2 h.3)
+  guard-kept (Some (guard.Vacant k)) at at' same h = (same ∙ h.0, h.1, list-kept Exclusive _ h.1 h.2)
 
   session-kept : (n c : ℕ) (o : Option ℕ)
       → ((i : ℕ) (b : Block K) → slice_get bs i ≡ Some b → b.thread ≡ t → (slice_get bs' i ≡ Some b) × (found x bs' i b ≡ found x bs i b))
@@ -56,7 +60,7 @@ module _ {K V D T A : Type 0} (x : Setup K V D T) (bs bs' : List (Block K)) (tab
         call = h.call;
         below = h.below;
         done = h.done;
-        guard = guard-kept p.slot (reached x t c (n - c) (found x bs i h.block)) (reached x t c (n - c) (found x bs' i h.block)) (ap (λ o. reached x t c (n - c) o) both.1) h.guard;
+        guard = guard-kept p.guard (reached x t c (n - c) (found x bs i h.block)) (reached x t c (n - c) (found x bs' i h.block)) (ap (λ o. reached x t c (n - c) o) both.1) h.guard;
         settled = record { here = h.settled.here; last = λ alone. lasts i h.block h.listed alone h.settled.here (h.settled.last alone) };
       }
   session-kept n c None stays back lasts h = (h.0, λ i b at thread call. h.1 i b (back i b at thread) thread call)
@@ -105,12 +109,12 @@ module _ {K V D T A : Type 0} (x : Setup K V D T) (threads : List ℕ) (s : ℕ)
         done = d.done;
         last = effect.last d.index d.block d.listed (foreign d.block d.alone (λ j is. d.shard ∙ ap x.route (same_Some k j (sym d.key_is ∙ is)))) d.last;
         found_is = both.1 ∙ d.found_is;
-        slot = d.slot;
+        guard = d.guard;
         shard = d.shard;
         alone = d.alone;
       }
 
-  releasing : (a : Ask K V D) (r : Answer K V T) (slot : Option ℕ) → IsReleasing x bs tables u p a r slot → IsReleasing x bs' tables' u p a r slot
+  releasing : (a : Ask K V D) (r : Answer K V T) (g : Option (Guard K)) → IsReleasing x bs tables u p a r g → IsReleasing x bs' tables' u p a r g
   releasing a r (Some i) h = (h.0, h.1, ready p.next p.block h.2)
   releasing a r None h = (answered p.next a r h.0, ready (p.next + 1) (if p.closes then None else p.block) h.1)
 
@@ -118,15 +122,16 @@ module _ {K V D T A : Type 0} (x : Setup K V D T) (threads : List ℕ) (s : ℕ)
   claim phase.Rest h = (h.0, h.1, ready p.next p.block h.2)
   claim (phase.Admit r) h = (in_call _ h.0, h.1, h.2)
   claim (phase.Find r) h = (in_call _ h.0, h.1, h.2)
-  claim (phase.Grow k v) h = (in_call _ h.0, h.1, h.2, list-kept x bs bs' tables tables' u p kept Exclusive _ h.2 h.3)
+  claim (phase.Grow c) h = (in_call _ h.0, h.1, h.2, list-kept x bs bs' tables tables' u p kept Exclusive _ h.2 h.3)
   claim (phase.Append k v) h = (in_call _ h.0, before_deed k None h.1, list-kept x bs bs' tables tables' u p kept Exclusive _ h.1.alone h.2)
   claim (phase.Apply i k) h =
       (h.0, in_call _ h.1, before_deed (keyed_key k) (Some h.0) h.2, pair-kept x bs bs' tables tables' u p kept Exclusive i h.0 h.2.alone h.3)
   claim (phase.View i k d) h = (h.0, in_call _ h.1, h.2, h.3, list-kept x bs bs' tables tables' u p kept Shared _ h.3 h.4)
-  claim (phase.Read d) h = (h.0, in_call _ h.1, h.2, ready p.next p.block h.3)
-  claim (phase.Write d) h = (h.0, in_call _ h.1, h.2, h.3, ready p.next p.block h.4)
+  claim (phase.Read d) h = (h.0, h.1, in_call _ h.2, h.3, ready p.next p.block h.4)
+  claim (phase.Change k) h = (h.0, h.1, in_call _ h.2, h.3, h.4, h.5, ready p.next p.block h.6)
+  claim (phase.Fill v) h = (h.0, in_call _ h.1, h.2, h.3, ready p.next p.block h.4)
   claim phase.Downgrade h = (h.0, in_call _ h.1, h.2, h.3, ready p.next p.block h.4)
-  claim (phase.Release r) h = (h.0, h.1, in_call h.0 h.2, h.3, releasing h.0 r p.slot h.4)
+  claim (phase.Release r) h = (h.0, h.1, in_call h.0 h.2, h.3, releasing h.0 r p.guard h.4)
   claim (phase.Answer r) h =
       (h.0, in_call h.0 h.1, h.2, answered p.next h.0 r h.3, ready (p.next + 1) (if p.closes then None else p.block) h.4)
 

@@ -2,14 +2,14 @@
 use Rattle.mapworld_calls.specs.Setup.{Setup, Laws}
 use Rattle.mapworld.specs.declared.step.Step.{Step}
 use Rattle.mapworld.specs.State.{State}
-use Rattle.mapworld.specs.Steps.{IsStep, start, admit, find, find_grows, find_refused, deed_appends, deed_applies, deed_views, deed_reads, deed_writes, downgrade, release, answers}
+use Rattle.mapworld.specs.Steps.{IsStep, start, admit, find, find_grows, find_refused, deed_appends, deed_applies, deed_views, deed_reads, deed_changes, deed_fills, downgrade, release, answers}
 use Rattle.mapworld.specs.Sound.{Sound}
 use Rattle.mapworld.proofs.Starting.{sound-starts}
 use Rattle.mapworld.proofs.Admitting.{sound-admits, sound-refused}
 use Rattle.mapworld.proofs.Finding.{sound-finds, sound-grows, sound-views}
 use Rattle.mapworld.proofs.Acting.{sound-appends, sound-applies}
 use Rattle.mapworld.proofs.Reading.{sound-reads, sound-releases}
-use Rattle.mapworld.proofs.Writing.{sound-writes}
+use Rattle.mapworld.proofs.Changing.{sound-changes, sound-fills}
 use Rattle.mapworld.proofs.Sharing.{sound-downgrades}
 use Rattle.mapworld.proofs.Answering.{sound-answers}
 
@@ -23,7 +23,8 @@ sound-step x laws w s w' sound (deed_appends h) = sound-appends x laws w s w' so
 sound-step x laws w s w' sound (deed_applies h) = sound-applies x laws w s w' sound h
 sound-step x laws w s w' sound (deed_views h) = sound-views x laws w s sound w' h
 sound-step x laws w s w' sound (deed_reads h) = sound-reads x laws w s w' sound h
-sound-step x laws w s w' sound (deed_writes h) = sound-writes x laws w s w' sound h
+sound-step x laws w s w' sound (deed_changes h) = sound-changes x laws w s w' sound h
+sound-step x laws w s w' sound (deed_fills h) = sound-fills x laws w s w' sound h
 sound-step x laws w s w' sound (downgrade h) = sound-downgrades x laws w s w' sound h
 sound-step x laws w s w' sound (release h) = sound-releases x laws w s w' sound h
 sound-step x laws w s w' sound (answers h) = sound-answers x laws w s w' sound h

@@ -75,7 +75,38 @@ module _ {K V : Type 0} (eq : K → K → Bool) (laws : IsEquivalence eq) where
         | inr b ↦ ap (λ (w : K × V). eq w.0 q) b.1 ∙ e
       ])))
 
-  -- a write keeps the keys
+  -- a pair under an equal key keeps the keys up to equality
+  pub put-keys : (ps : List (K × V)) (i : ℕ) (p z : K × V) → eq p.0 z.0 ≡ true → slice_get ps i ≡ Some p → (j : ℕ) (r : K × V) → slice_get (slice_set ps i z) j ≡ Some r
+      → (s : K × V) × (slice_get ps j ≡ Some s) × (eq r.0 s.0 ≡ true)
+  put-keys ps i p z same at j r h = elim (slice_get-set_cases ps i j p r z at h) [
+    | inl a ↦ (p, ap (λ k. slice_get ps k) a.0 ∙ at, ap (λ (x : K × V). eq x.0 p.0) a.1 ∙ (laws.symm z.0 p.0 ∙ same))
+    | inr b ↦ (r, b.1, laws.refl r.0)
+  ]
+
+  pub AreDistinct-put : (ps : List (K × V)) (i : ℕ) (p z : K × V) → eq p.0 z.0 ≡ true → AreDistinct eq ps → slice_get ps i ≡ Some p → AreDistinct eq (slice_set ps i z)
+  AreDistinct-put ps i p z same distinct at j k r s hr hs e =
+      let a = put-keys ps i p z same at j r hr in
+      let b = put-keys ps i p z same at k s hs in
+      distinct j k a.0 b.0 a.1 b.1 (sym (laws.congr r.0 a.0.0 b.0.0 a.2) ∙ equal_by eq laws r.0 b.0.0 s.0 e (laws.symm b.0.0 s.0 ∙ b.2))
+
+  -- another pair at a key that the table has
+  pub pair_of-put : (ps : List (K × V)) (i : ℕ) (p z : K × V) → eq p.0 z.0 ≡ true → AreDistinct eq ps → slice_get ps i ≡ Some p → (q : K) → pair_of eq (slice_set ps i z) q ≡ (if eq p.0 q then Some z else pair_of eq ps q)
+  pair_of-put ps i p z same distinct at q =
+      let still = AreDistinct-put ps i p z same distinct at in
+      choice (eq p.0 q) (Some z) (pair_of eq ps q) (pair_of eq (slice_set ps i z) q)
+      (λ e. pair_of-at (slice_set ps i z) i z q still (slice_get-set_same ps i p z at) (sym (laws.congr p.0 z.0 q same) ∙ e))
+      (λ e. same_option (pair_of eq ps q) (pair_of eq (slice_set ps i z) q)
+      (λ x h.
+      let r = pair_of-is ps q x h in
+      let apart : i ≢ r.0 = λ here.
+      let one = same_Some p x (sym at ∙ (ap (λ k. slice_get ps k) here ∙ r.1)) in
+      false≢true (sym e ∙ (ap (λ (y : K × V). eq y.0 q) one ∙ r.2)) in
+      pair_of-at (slice_set ps i z) r.0 x q still (slice_get-set_other ps i r.0 z apart ∙ r.1) r.2)
+      (λ h. pair_of-none_from (slice_set ps i z) q (λ j r there.
+      let a = put-keys ps i p z same at j r there in
+      laws.congr r.0 a.0.0 q a.2 ∙ pair_of-none ps q h j a.0 a.1)))
+
+  -- so it is with another value, which keeps the keys
   pub set-keys : (ps : List (K × V)) (i : ℕ) (p : K × V) (w : V) → slice_get ps i ≡ Some p → (j : ℕ) (r : K × V) → slice_get (slice_set ps i (p.0, w)) j ≡ Some r → (s : K × V) × (slice_get ps j ≡ Some s) × (r.0 ≡ s.0)
   set-keys ps i p w at j r h = elim (slice_get-set_cases ps i j p r (p.0, w) at h) [
     | inl a ↦ (p, ap (λ k. slice_get ps k) a.0 ∙ at, ap (λ (x : K × V). x.0) a.1)
@@ -83,27 +114,10 @@ module _ {K V : Type 0} (eq : K → K → Bool) (laws : IsEquivalence eq) where
   ]
 
   pub AreDistinct-set : (ps : List (K × V)) (i : ℕ) (p : K × V) (w : V) → AreDistinct eq ps → slice_get ps i ≡ Some p → AreDistinct eq (slice_set ps i (p.0, w))
-  AreDistinct-set ps i p w distinct at j k r s hr hs e =
-      let a = set-keys ps i p w at j r hr in
-      let b = set-keys ps i p w at k s hs in
-      distinct j k a.0 b.0 a.1 b.1 (ap (λ x. eq x b.0.0) (sym a.2) ∙ (ap (λ x. eq r.0 x) (sym b.2) ∙ e))
+  AreDistinct-set ps i p w distinct at = AreDistinct-put ps i p (p.0, w) (laws.refl p.0) distinct at
 
-  -- another value at a key that the table has
   pub pair_of-set : (ps : List (K × V)) (i : ℕ) (p : K × V) (w : V) → AreDistinct eq ps → slice_get ps i ≡ Some p → (q : K) → pair_of eq (slice_set ps i (p.0, w)) q ≡ (if eq p.0 q then Some (p.0, w) else pair_of eq ps q)
-  pair_of-set ps i p w distinct at q =
-      let still = AreDistinct-set ps i p w distinct at in
-      choice (eq p.0 q) (Some (p.0, w)) (pair_of eq ps q) (pair_of eq (slice_set ps i (p.0, w)) q)
-      (λ e. pair_of-at (slice_set ps i (p.0, w)) i (p.0, w) q still (slice_get-set_same ps i p (p.0, w) at) e)
-      (λ e. same_option (pair_of eq ps q) (pair_of eq (slice_set ps i (p.0, w)) q)
-      (λ x h.
-      let r = pair_of-is ps q x h in
-      let apart : i ≢ r.0 = λ same.
-      let one = same_Some p x (sym at ∙ (ap (λ k. slice_get ps k) same ∙ r.1)) in
-      false≢true (sym e ∙ (ap (λ (y : K × V). eq y.0 q) one ∙ r.2)) in
-      pair_of-at (slice_set ps i (p.0, w)) r.0 x q still (slice_get-set_other ps i r.0 (p.0, w) apart ∙ r.1) r.2)
-      (λ h. pair_of-none_from (slice_set ps i (p.0, w)) q (λ j r there.
-      let a = set-keys ps i p w at j r there in
-      ap (λ x. eq x q) a.2 ∙ pair_of-none ps q h j a.0 a.1)))
+  pair_of-set ps i p w distinct at = pair_of-put ps i p (p.0, w) (laws.refl p.0) distinct at
 
   pub AreDistinct-remove : (ps : List (K × V)) (i : ℕ) → AreDistinct eq ps → AreDistinct eq (remove ps i)
   AreDistinct-remove ps i distinct j k r s hr hs e =

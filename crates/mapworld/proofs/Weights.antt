@@ -5,33 +5,77 @@ use Rattle.std.proofs.lemmas.List.Concat.{length-flat_map}
 use Rattle.mapworld_calls.specs.declared.ask.Ask.{Ask}
 use Rattle.mapworld_calls.specs.declared.ask.Ask.TheVariants as ask
 use Rattle.mapworld_calls.specs.declared.ask.Keyed.TheVariants as keyed
+use Rattle.mapworld_calls.specs.declared.ask.Begin.TheVariants as begin
 use Rattle.mapworld_calls.specs.declared.ask.Held.TheVariants as held
 use Rattle.mapworld_calls.specs.declared.block.Block.{Block}
+use Rattle.mapworld_calls.specs.declared.reply.Answer.{Answer}
 use Rattle.mapworld_calls.proofs.Lists.{sum_by-set, sum_by-at}
-use Rattle.mapworld.specs.declared.holds.Mode.{Mode}
-use Rattle.mapworld.specs.declared.holds.Mode.TheVariants.{Shared, Exclusive}
 use Rattle.mapworld.specs.declared.blocks.Started.{Started}
+use Rattle.mapworld.specs.declared.place.Way.TheVariants as way
+use Rattle.mapworld.specs.declared.place.Guard.{Guard}
+use Rattle.mapworld.specs.declared.place.Guard.TheVariants as guard
+use Rattle.mapworld.specs.declared.place.Growth.{Growth}
+use Rattle.mapworld.specs.declared.place.Growth.TheVariants as growth
 use Rattle.mapworld.specs.declared.place.Phase.{Phase}
 use Rattle.mapworld.specs.declared.place.Request.{Request}
 use Rattle.mapworld.specs.declared.place.Request.TheVariants as request
 use Rattle.mapworld.specs.declared.place.Place.{Place}
 use Rattle.mapworld.specs.State.{State, next_step}
-use Rattle.mapworld.specs.Moves.{start_phase, found_phase, found_done, block_behind, ListsBlock}
+use Rattle.mapworld.specs.Moves.{start_phase, changed_phase, request_of, found_phase, found_done, block_behind, ListsBlock}
 use Rattle.mapworld.specs.Core.{owes, lists, adds}
 use Rattle.mapworld.specs.Listing.{AddsBlock}
 
 module _ {K V D T : Type 0} where
   -- the phase behind a start, in the three weights
-  pub started_weighs : (a : Ask K V D) (guard : Option Mode) (ph : Phase K V D T) → ph ≡ start_phase a guard → (owes ph ≡ 1) × (lists ph ≤ 1) × (adds ph ≤ 1)
-  started_weighs (ask.Keyed k) guard ph e = rw e (refl, omega arith, omega arith)
-  started_weighs (ask.Begin b) guard ph e = rw e (refl, omega arith, omega arith)
-  started_weighs (ask.Held (held.Read d)) (Some m) ph e = rw e (refl, omega arith, omega arith)
-  started_weighs (ask.Held (held.Write d)) (Some Shared) ph e = rw e (refl, omega arith, omega arith)
-  started_weighs (ask.Held (held.Write d)) (Some Exclusive) ph e = rw e (refl, omega arith, omega arith)
-  started_weighs (ask.Held held.Downgrade) (Some Shared) ph e = rw e (refl, omega arith, omega arith)
-  started_weighs (ask.Held held.Downgrade) (Some Exclusive) ph e = rw e (refl, omega arith, omega arith)
-  started_weighs (ask.Held held.Drop) (Some m) ph e = rw e (refl, omega arith, omega arith)
+  pub started_weighs : (a : Ask K V D) (g : Option (Guard K)) (ph : Phase K V D T) → ph ≡ start_phase a g → (owes ph ≡ 1) × (lists ph ≤ 1) × (adds ph ≤ 1)
+  started_weighs (ask.Keyed k) g ph e = rw e (refl, omega arith, omega arith)
+  started_weighs (ask.Begin b) g ph e = rw e (refl, omega arith, omega arith)
   started_weighs (ask.Held h) None ph e = rw e (refl, omega arith, omega arith)
+  started_weighs (ask.Held (held.Read d)) (Some (guard.Pair way.Shared i)) ph e = rw e (refl, omega arith, omega arith)
+  started_weighs (ask.Held (held.Write d)) (Some (guard.Pair way.Shared i)) ph e = rw e (refl, omega arith, omega arith)
+  started_weighs (ask.Held held.Downgrade) (Some (guard.Pair way.Shared i)) ph e = rw e (refl, omega arith, omega arith)
+  started_weighs (ask.Held (held.Insert v)) (Some (guard.Pair way.Shared i)) ph e = rw e (refl, omega arith, omega arith)
+  started_weighs (ask.Held held.IntoRef) (Some (guard.Pair way.Shared i)) ph e = rw e (refl, omega arith, omega arith)
+  started_weighs (ask.Held held.Remove) (Some (guard.Pair way.Shared i)) ph e = rw e (refl, omega arith, omega arith)
+  started_weighs (ask.Held held.RemoveEntry) (Some (guard.Pair way.Shared i)) ph e = rw e (refl, omega arith, omega arith)
+  started_weighs (ask.Held (held.ReplaceEntry v)) (Some (guard.Pair way.Shared i)) ph e = rw e (refl, omega arith, omega arith)
+  started_weighs (ask.Held held.IntoKey) (Some (guard.Pair way.Shared i)) ph e = rw e (refl, omega arith, omega arith)
+  started_weighs (ask.Held held.Drop) (Some (guard.Pair way.Shared i)) ph e = rw e (refl, omega arith, omega arith)
+  started_weighs (ask.Held (held.Read d)) (Some (guard.Pair way.Exclusive i)) ph e = rw e (refl, omega arith, omega arith)
+  started_weighs (ask.Held (held.Write d)) (Some (guard.Pair way.Exclusive i)) ph e = rw e (refl, omega arith, omega arith)
+  started_weighs (ask.Held held.Downgrade) (Some (guard.Pair way.Exclusive i)) ph e = rw e (refl, omega arith, omega arith)
+  started_weighs (ask.Held (held.Insert v)) (Some (guard.Pair way.Exclusive i)) ph e = rw e (refl, omega arith, omega arith)
+  started_weighs (ask.Held held.IntoRef) (Some (guard.Pair way.Exclusive i)) ph e = rw e (refl, omega arith, omega arith)
+  started_weighs (ask.Held held.Remove) (Some (guard.Pair way.Exclusive i)) ph e = rw e (refl, omega arith, omega arith)
+  started_weighs (ask.Held held.RemoveEntry) (Some (guard.Pair way.Exclusive i)) ph e = rw e (refl, omega arith, omega arith)
+  started_weighs (ask.Held (held.ReplaceEntry v)) (Some (guard.Pair way.Exclusive i)) ph e = rw e (refl, omega arith, omega arith)
+  started_weighs (ask.Held held.IntoKey) (Some (guard.Pair way.Exclusive i)) ph e = rw e (refl, omega arith, omega arith)
+  started_weighs (ask.Held held.Drop) (Some (guard.Pair way.Exclusive i)) ph e = rw e (refl, omega arith, omega arith)
+  started_weighs (ask.Held (held.Read d)) (Some (guard.Pair (way.Occupied k) i)) ph e = rw e (refl, omega arith, omega arith)
+  started_weighs (ask.Held (held.Write d)) (Some (guard.Pair (way.Occupied k) i)) ph e = rw e (refl, omega arith, omega arith)
+  started_weighs (ask.Held held.Downgrade) (Some (guard.Pair (way.Occupied k) i)) ph e = rw e (refl, omega arith, omega arith)
+  started_weighs (ask.Held (held.Insert v)) (Some (guard.Pair (way.Occupied k) i)) ph e = rw e (refl, omega arith, omega arith)
+  started_weighs (ask.Held held.IntoRef) (Some (guard.Pair (way.Occupied k) i)) ph e = rw e (refl, omega arith, omega arith)
+  started_weighs (ask.Held held.Remove) (Some (guard.Pair (way.Occupied k) i)) ph e = rw e (refl, omega arith, omega arith)
+  started_weighs (ask.Held held.RemoveEntry) (Some (guard.Pair (way.Occupied k) i)) ph e = rw e (refl, omega arith, omega arith)
+  started_weighs (ask.Held (held.ReplaceEntry v)) (Some (guard.Pair (way.Occupied k) i)) ph e = rw e (refl, omega arith, omega arith)
+  started_weighs (ask.Held held.IntoKey) (Some (guard.Pair (way.Occupied k) i)) ph e = rw e (refl, omega arith, omega arith)
+  started_weighs (ask.Held held.Drop) (Some (guard.Pair (way.Occupied k) i)) ph e = rw e (refl, omega arith, omega arith)
+  started_weighs (ask.Held (held.Read d)) (Some (guard.Vacant k)) ph e = rw e (refl, omega arith, omega arith)
+  started_weighs (ask.Held (held.Write d)) (Some (guard.Vacant k)) ph e = rw e (refl, omega arith, omega arith)
+  started_weighs (ask.Held held.Downgrade) (Some (guard.Vacant k)) ph e = rw e (refl, omega arith, omega arith)
+  started_weighs (ask.Held (held.Insert v)) (Some (guard.Vacant k)) ph e = rw e (refl, omega arith, omega arith)
+  started_weighs (ask.Held held.IntoRef) (Some (guard.Vacant k)) ph e = rw e (refl, omega arith, omega arith)
+  started_weighs (ask.Held held.Remove) (Some (guard.Vacant k)) ph e = rw e (refl, omega arith, omega arith)
+  started_weighs (ask.Held held.RemoveEntry) (Some (guard.Vacant k)) ph e = rw e (refl, omega arith, omega arith)
+  started_weighs (ask.Held (held.ReplaceEntry v)) (Some (guard.Vacant k)) ph e = rw e (refl, omega arith, omega arith)
+  started_weighs (ask.Held held.IntoKey) (Some (guard.Vacant k)) ph e = rw e (refl, omega arith, omega arith)
+  started_weighs (ask.Held held.Drop) (Some (guard.Vacant k)) ph e = rw e (refl, omega arith, omega arith)
+
+  -- the phase behind a change of a guard's pair
+  pub changed_weighs : (ends : Bool) (r : Answer K V T) (ph : Phase K V D T) → ph ≡ changed_phase ends r → (owes ph ≡ 1) × (lists ph ≡ 0) × (adds ph ≡ 0)
+  changed_weighs true r ph e = rw e (refl, refl, refl)
+  changed_weighs false r ph e = rw e (refl, refl, refl)
 
   -- the phase behind a find
   pub found_weighs : (r : Request K V D) (slot : Option ℕ) (room : Bool) (ph : Phase K V D T) → ph ≡ found_phase r slot room → (owes ph ≡ 1) × (adds ph ≤ 1)
@@ -51,7 +95,10 @@ module _ {K V D T : Type 0} where
   found_weighs (request.Keyed (keyed.ContainsKey k)) (Some i) room ph e = rw e (refl, omega arith)
   found_weighs (request.Keyed (keyed.ContainsKey k)) None room ph e = rw e (refl, omega arith)
   found_weighs (request.Begin b) (Some i) room ph e = rw e (refl, omega arith)
-  found_weighs (request.Begin b) None room ph e = rw e (refl, omega arith)
+  found_weighs (request.Begin (begin.Get k)) None room ph e = rw e (refl, omega arith)
+  found_weighs (request.Begin (begin.GetMut k)) None room ph e = rw e (refl, omega arith)
+  found_weighs (request.Begin (begin.Entry k)) None true ph e = rw e (refl, omega arith)
+  found_weighs (request.Begin (begin.Entry k)) None false ph e = rw e (refl, omega arith)
 
 module _ {K : Type 0} (bs : List (Block K)) (st : Started) (at : ℕ) (bs' : List (Block K)) where
   pub one_added : (done : ℕ) → AddsBlock bs (Some done) st at bs' → length bs' ≡ length bs + 1
@@ -80,7 +127,15 @@ module _ {K : Type 0} (bs : List (Block K)) (st : Started) (at : ℕ) (bs' : Lis
   found_lists (request.Keyed (keyed.ContainsKey k)) (Some i) room ph e h = omega (arith, ap lists e, one_added 1 h)
   found_lists (request.Keyed (keyed.ContainsKey k)) None room ph e h = omega (arith, ap lists e, one_added 1 h)
   found_lists (request.Begin b) (Some i) room ph e h = omega (arith, ap lists e, one_added 1 h)
-  found_lists (request.Begin b) None room ph e h = omega (arith, ap lists e, one_added 1 h)
+  found_lists (request.Begin (begin.Get k)) None room ph e h = omega (arith, ap lists e, one_added 1 h)
+  found_lists (request.Begin (begin.GetMut k)) None room ph e h = omega (arith, ap lists e, one_added 1 h)
+  found_lists (request.Begin (begin.Entry k)) None true ph e h = omega (arith, ap lists e, one_added 1 h)
+  found_lists (request.Begin (begin.Entry k)) None false ph e h = omega (arith, ap lists e, ap length h)
+
+  pub grown_lists : {V D T : Type 0} (g : Growth K V) (ph : Phase K V D T) → ph ≡ found_phase (request_of g) None true
+      → AddsBlock bs (found_done {D = D} (request_of g) None true) st at bs' → (length bs' ≡ length bs + 1) × (lists ph ≡ 0)
+  grown_lists (growth.Insert k v) ph e h = (one_added 0 h, ap lists e)
+  grown_lists (growth.Entry k) ph e h = (one_added 1 h, ap lists e)
 
   -- the block behind is listed
   pub behind_listed : (done : Option ℕ) (n : ℕ) (block : Option ℕ) → AddsBlock bs done st at bs' → n ≡ length bs → ((i : ℕ) → block ≡ Some i → i < length bs)

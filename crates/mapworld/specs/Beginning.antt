@@ -19,7 +19,7 @@ at_start asks = record {
   shard = 0;
   hold = None;
   block = None;
-  slot = None;
+  guard = None;
   phase = phase.Rest;
 }
 

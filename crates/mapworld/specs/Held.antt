@@ -4,6 +4,7 @@ use Rattle.lock_api_desk.specs.Guards.{Guard}
 use Rattle.lock_api_desk.specs.Desk.{DeskState, IsSound}
 use Rattle.mapworld.specs.declared.holds.Mode.TheVariants.{Shared}
 use Rattle.mapworld.specs.declared.holds.Hold.{Hold}
+use Rattle.mapworld.specs.declared.place.Guard.{Guard as PlaceGuard}
 use Rattle.mapworld.specs.declared.place.Phase.{Phase}
 use Rattle.mapworld.specs.declared.place.Phase.TheVariants as phase
 use Rattle.mapworld.specs.declared.place.Place.{Place}
@@ -23,16 +24,17 @@ pub record HoldsMatch {K V D T A : Type 0} (places : List (Place K V D T A)) (ho
 
 -- whether a thread before that phase has a hold: it has one from its admission to its release, and between two calls and
 -- before an answer where it has a guard
-abbrev pub holds_before : {K V D T : Type 0} → Option ℕ → Phase K V D T → Bool
+abbrev pub holds_before : {K V D T : Type 0} → Option (PlaceGuard K) → Phase K V D T → Bool
 holds_before guard phase.Rest = is_some guard
 holds_before guard (phase.Admit r) = false
 holds_before guard (phase.Find r) = true
-holds_before guard (phase.Grow k v) = true
+holds_before guard (phase.Grow c) = true
 holds_before guard (phase.Append k v) = true
 holds_before guard (phase.Apply i k) = true
 holds_before guard (phase.View i k d) = true
 holds_before guard (phase.Read d) = true
-holds_before guard (phase.Write d) = true
+holds_before guard (phase.Change h) = true
+holds_before guard (phase.Fill v) = true
 holds_before guard phase.Downgrade = true
 holds_before guard (phase.Release a) = true
 holds_before guard (phase.Answer a) = is_some guard
@@ -40,4 +42,4 @@ holds_before guard (phase.Answer a) = is_some guard
 -- exactly those threads have holds
 abbrev pub HoldByPhase : {K V D T A : Type 0} → List (Place K V D T A) → Type 0
 HoldByPhase {K} {V} {D} {T} {A} places =
-    (t : ℕ) (p : Place K V D T A) → slice_get places t ≡ Some p → is_some p.hold ≡ holds_before p.slot p.phase
+    (t : ℕ) (p : Place K V D T A) → slice_get places t ≡ Some p → is_some p.hold ≡ holds_before p.guard p.phase

@@ -10,7 +10,6 @@ pub mod Route
 pub mod World
 pub mod Core
 pub mod Making
-pub mod Faults
 pub mod Tables
 pub mod Asleep
 pub mod Views

@@ -4,8 +4,8 @@ use Rattle.std.specs.List.{list_all}
 use Rattle.mapworld_calls.specs.declared.ask.Ask.{Ask}
 use Rattle.mapworld_calls.specs.Programs.{one_guard, numbers_of}
 use Rattle.mapworld_calls.specs.Pairs.{pair_of, opening_pair}
-use Rattle.mapworld.specs.declared.fault.WorldNewFault.{WorldNewFault}
-use Rattle.mapworld.specs.declared.fault.WorldNewFault.TheVariants as fault
+use Rattle.mapworld_faults.specs.declared.fault.WorldNewFault.{WorldNewFault}
+use Rattle.mapworld_faults.specs.declared.fault.WorldNewFault.TheVariants as fault
 use Rattle.dashmap_table.specs.Route.{log2}
 use Rattle.lock_api_desk.specs.Desk.{DeskState}
 use Rattle.mapworld.specs.Holds.{Desks}

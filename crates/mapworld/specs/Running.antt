@@ -1,8 +1,8 @@
 -- Which steps are refused, and what a run of steps leads to.
 use Rattle.std.specs.Prelude.{◌≡◌, ℕ, ◌+◌, ◌-◌, ◌*◌, ◌^◌, Bool, true, false, if◌then◌else◌, nat_lt, nat_le, List, [], ◌∷◌, length, Option, Some, None, Result, Ok, Err, slice_get, sum_by, ◌==◌}
 use Rattle.mapworld_calls.specs.Setup.{Setup}
-use Rattle.mapworld.specs.declared.fault.RunFault.{RunFault}
-use Rattle.mapworld.specs.declared.fault.RunFault.TheVariants as fault
+use Rattle.mapworld_faults.specs.declared.fault.RunFault.{RunFault}
+use Rattle.mapworld_faults.specs.declared.fault.RunFault.TheVariants as fault
 use Rattle.mapworld.specs.declared.step.Step.{Step}
 use Rattle.mapworld.specs.declared.step.Status.{Status}
 use Rattle.mapworld.specs.declared.step.Status.TheVariants as status
@@ -14,7 +14,7 @@ use Rattle.mapworld.specs.State.{State, pairs_of}
 use Rattle.mapworld.specs.Moves.{mode_of}
 use Rattle.mapworld.specs.Steps.{IsStep}
 use Rattle.mapworld.specs.Footprint.{HasFootprint}
-use Rattle.mapworld.specs.Faults.{run_fault_done}
+use Rattle.mapworld_faults.specs.Faults.{run_fault_done}
 
 -- how many calls aren't answered
 abbrev pub unanswered_of : {K V S D T A : Type 0} → State K V S D T A → ℕ
@@ -32,12 +32,13 @@ abbrev pub status_before : {K V D T A : Type 0} → List (Place K V D T A) → �
 status_before places left shard phase.Rest = if left == 0 then status.Finished else status.Running
 status_before places left shard (phase.Admit r) = if is_excluded places shard (mode_of r) then status.Asleep else status.Running
 status_before places left shard (phase.Find r) = status.Running
-status_before places left shard (phase.Grow k v) = status.Running
+status_before places left shard (phase.Grow c) = status.Running
 status_before places left shard (phase.Append k v) = status.Running
 status_before places left shard (phase.Apply i k) = status.Running
 status_before places left shard (phase.View i k d) = status.Running
 status_before places left shard (phase.Read d) = status.Running
-status_before places left shard (phase.Write d) = status.Running
+status_before places left shard (phase.Change h) = status.Running
+status_before places left shard (phase.Fill v) = status.Running
 status_before places left shard phase.Downgrade = status.Running
 status_before places left shard (phase.Release a) = status.Running
 status_before places left shard (phase.Answer a) = status.Running

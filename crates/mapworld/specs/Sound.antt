@@ -10,7 +10,7 @@ use Rattle.mapworld_calls.specs.declared.reply.Reply.{Reply}
 use Rattle.mapworld_calls.specs.declared.reply.Answer.{Answer}
 use Rattle.mapworld_calls.specs.declared.reply.Answer.TheVariants as answer
 use Rattle.mapworld_calls.specs.Programs.{one_guard, keyed_key}
-use Rattle.mapworld_calls.specs.Calls.{At, free, shared, exclusive}
+use Rattle.mapworld_calls.specs.Calls.{At, free, vacant}
 use Rattle.mapworld_calls.specs.Setup.{Setup, ask_at, session_of}
 use Rattle.mapworld_calls.specs.Pairs.{pair_of, AreDistinct}
 use Rattle.mapworld_calls.specs.Replay.{reached, block_key, contents, found, IsLastOnShard}
@@ -19,24 +19,29 @@ use Rattle.mapworld_calls.specs.Placed.{IsStepOf, answered_of, WellPlaced}
 use Rattle.mapworld.specs.declared.holds.Mode.{Mode}
 use Rattle.mapworld.specs.declared.holds.Mode.TheVariants.{Shared, Exclusive}
 use Rattle.mapworld.specs.declared.holds.Hold.{Hold}
+use Rattle.mapworld.specs.declared.place.Way.{Way}
+use Rattle.mapworld.specs.declared.place.Way.TheVariants as way
+use Rattle.mapworld.specs.declared.place.Guard.{Guard}
+use Rattle.mapworld.specs.declared.place.Guard.TheVariants as guard
 use Rattle.mapworld.specs.declared.place.Phase.{Phase}
 use Rattle.mapworld.specs.declared.place.Phase.TheVariants as phase
 use Rattle.mapworld.specs.declared.place.Place.{Place}
 use Rattle.mapworld.specs.Held.{HoldsMatch}
 use Rattle.mapworld.specs.State.{State, threads_of, started_of}
-use Rattle.mapworld.specs.Moves.{ask_of, request_key, mode_of, is_last}
+use Rattle.mapworld.specs.Moves.{ask_of, request_key, mode_of, is_last, way_mode, lent, is_change, request_of, growth_key}
 
 -- whether a thread is between two calls
 abbrev pub is_resting : {K V D T : Type 0} → Phase K V D T → Bool
 is_resting phase.Rest = true
 is_resting (phase.Admit r) = false
 is_resting (phase.Find r) = false
-is_resting (phase.Grow k v) = false
+is_resting (phase.Grow c) = false
 is_resting (phase.Append k v) = false
 is_resting (phase.Apply i k) = false
 is_resting (phase.View i k d) = false
 is_resting (phase.Read d) = false
-is_resting (phase.Write d) = false
+is_resting (phase.Change h) = false
+is_resting (phase.Fill v) = false
 is_resting phase.Downgrade = false
 is_resting (phase.Release a) = false
 is_resting (phase.Answer a) = false
@@ -46,12 +51,13 @@ abbrev pub may_own : {K V D T : Type 0} → Phase K V D T → Bool
 may_own phase.Rest = false
 may_own (phase.Admit r) = false
 may_own (phase.Find r) = false
-may_own (phase.Grow k v) = false
+may_own (phase.Grow c) = false
 may_own (phase.Append k v) = true
 may_own (phase.Apply i k) = true
 may_own (phase.View i k d) = false
 may_own (phase.Read d) = false
-may_own (phase.Write d) = false
+may_own (phase.Change h) = false
+may_own (phase.Fill v) = false
 may_own phase.Downgrade = false
 may_own (phase.Release a) = true
 may_own (phase.Answer a) = true
@@ -77,19 +83,24 @@ pub record HoldsShard {K V D T A : Type 0} (p : Place K V D T A) (mode : Mode) :
   pub shard : hold.shard ≡ p.shard
   pub mode_is : hold.mode ≡ mode
 
+-- the shard's list, and what is so of it
+pub record HasList {K V A : Type 0} (tables : List (Vec (K × V) A)) (shard : ℕ) (IsSo : Vec (K × V) A → Type 0) : Type 0 where
+  pub table : Vec (K × V) A
+  pub held : slice_get tables shard ≡ Some table
+  pub so : IsSo table
+
 -- without a hold where there is no guard
 abbrev pub HoldsByGuard : {K V D T A : Type 0} → Place K V D T A → Type 0
-HoldsByGuard p = p.slot ≡ None → p.hold ≡ None
+HoldsByGuard p = p.guard ≡ None → p.hold ≡ None
 
--- a session at its guard's pair, by the guard's mode
-abbrev pub guarded : {K V : Type 0} → Mode → K × V → At K V
-guarded Shared pair = shared pair
-guarded Exclusive pair = exclusive pair
-
--- a guard lends the pair that its session has come to, and a session without one is free
-abbrev pub GuardIs : {K V D T A : Type 0} → List (Vec (K × V) A) → Place K V D T A → Option ℕ → At K V → Type 0
+-- a guard lends the pair that its session has come to, or keeps room for the one that its key is to have; a session without a
+-- guard is free
+abbrev pub GuardIs : {K V D T A : Type 0} → List (Vec (K × V) A) → Place K V D T A → Option (Guard K) → At K V → Type 0
 GuardIs {K} {V} tables p None at = (o : Option (K × V)) × (at ≡ free o)
-GuardIs {K} {V} tables p (Some slot) at = (pair : K × V) × (mode : Mode) × (at ≡ guarded mode pair) × HoldsShard p mode × HasPair tables p.shard slot pair
+GuardIs {K} {V} tables p (Some (guard.Pair kind slot)) at =
+    (pair : K × V) × (at ≡ lent kind pair) × HoldsShard p (way_mode kind) × HasPair tables p.shard slot pair
+GuardIs tables p (Some (guard.Vacant key)) at =
+    (at ≡ vacant key) × HoldsShard p Exclusive × HasList tables p.shard (λ table. vec_len table < vec_capacity table)
 
 -- the block is of a key of the place's shard
 abbrev pub IsOnShard : {K V D T A : Type 0} → Setup K V D T → Place K V D T A → Block K → Type 0
@@ -108,18 +119,18 @@ pub record HasSession {K V D T A : Type 0} (x : Setup K V D T) (bs : List (Block
   pub call : block.call ≡ c
   pub below : c < n
   pub done : block.done.value ≡ n - c
-  pub guard : GuardIs tables p p.slot (reached x t c (n - c) (found x bs i block))
+  pub guard : GuardIs tables p p.guard (reached x t c (n - c) (found x bs i block))
   pub settled : IsSettled x bs p i block
 
 abbrev pub IsInSessionOf : {K V D T A : Type 0} → Setup K V D T → List (Block K) → List (Vec (K × V) A) → ℕ → Place K V D T A → ℕ → ℕ → Option ℕ → Type 0
 IsInSessionOf x bs tables t p n c (Some i) = HasSession x bs tables t p n c i
 -- an opening without block gave no guard
-IsInSessionOf x bs tables t p n c None = (p.slot ≡ None) × HasNoBlock bs t c
+IsInSessionOf x bs tables t p n c None = (p.guard ≡ None) × HasNoBlock bs t c
 
 abbrev pub IsInSession : {K V D T A : Type 0} → Setup K V D T → List (Block K) → List (Vec (K × V) A) → ℕ → Place K V D T A → ℕ → Option ℕ → Option ℕ → Type 0
 IsInSession x bs tables t p n (Some c) block = IsInSessionOf x bs tables t p n c block
 -- outside of every session there is neither guard nor block
-IsInSession x bs tables t p n None block = (p.slot ≡ None) × (block ≡ None)
+IsInSession x bs tables t p n None block = (p.guard ≡ None) × (block ≡ None)
 
 -- between its calls, as call n is next
 abbrev pub IsReady : {K V D T A : Type 0} → Setup K V D T → List (Block K) → List (Vec (K × V) A) → ℕ → Place K V D T A → ℕ → Option ℕ → Type 0
@@ -136,7 +147,7 @@ pub record IsInCall {K V D T A : Type 0} (x : Setup K V D T) (threads : List ℕ
 -- on its way to a pair, without block or guard
 pub record IsOnItsWay {K V D T A : Type 0} (x : Setup K V D T) (p : Place K V D T A) (key : K) : Type 0 where
   pub block : p.block ≡ None
-  pub slot : p.slot ≡ None
+  pub guard : p.guard ≡ None
   pub shard : p.shard ≡ x.route key
 
 -- before the deed of a keyed call: its block has found o and done nothing, is the last one on its shard, and the shard is held alone
@@ -151,19 +162,13 @@ pub record IsBeforeDeed {K V D T A : Type 0} (x : Setup K V D T) (bs : List (Blo
   pub done : block.done.value ≡ 0
   pub last : IsLastOnShard x bs index block
   pub found_is : found x bs index block ≡ o
-  pub slot : p.slot ≡ None
+  pub guard : p.guard ≡ None
   pub shard : p.shard ≡ x.route key
   pub alone : HoldsShard p Exclusive
 
--- the shard's list, and whether it has room for one more
-pub record HasList {K V A : Type 0} (tables : List (Vec (K × V) A)) (shard : ℕ) (IsSo : Vec (K × V) A → Type 0) : Type 0 where
-  pub table : Vec (K × V) A
-  pub held : slice_get tables shard ≡ Some table
-  pub so : IsSo table
-
 -- what a release has still to do: a guard's drop is counted in by it, and all else is told already
-abbrev pub IsReleasing : {K V D T A : Type 0} → Setup K V D T → List (Block K) → List (Vec (K × V) A) → ℕ → Place K V D T A → Ask K V D → Answer K V T → Option ℕ → Type 0
-IsReleasing x bs tables t p a r (Some slot) = (a ≡ ask.Held held.Drop) × (r ≡ answer.Done) × IsReady x bs tables t p p.next p.block
+abbrev pub IsReleasing : {K V D T A : Type 0} → Setup K V D T → List (Block K) → List (Vec (K × V) A) → ℕ → Place K V D T A → Ask K V D → Answer K V T → Option (Guard K) → Type 0
+IsReleasing x bs tables t p a r (Some kept) = (a ≡ ask.Held held.Drop) × (r ≡ answer.Done) × IsReady x bs tables t p p.next p.block
 IsReleasing x bs tables t p a r None = IsAnsweredBy x bs t p.next a r × IsReady x bs tables t p (p.next + 1) (block_after p)
 
 -- what holds of a thread's place, by its next step
@@ -171,9 +176,9 @@ abbrev pub Claim : {K V D T A : Type 0} → Setup K V D T → List ℕ → List 
 Claim x threads bs tables t p phase.Rest = (p.started ≡ None) × HoldsByGuard p × IsReady x bs tables t p p.next p.block
 Claim x threads bs tables t p (phase.Admit r) = IsInCall x threads t p (ask_of r) × IsOnItsWay x p (request_key r) × (p.hold ≡ None)
 Claim x threads bs tables t p (phase.Find r) = IsInCall x threads t p (ask_of r) × IsOnItsWay x p (request_key r) × HoldsShard p (mode_of r)
-Claim x threads bs tables t p (phase.Grow k v) =
-    IsInCall x threads t p (ask.Keyed (keyed.Insert k v)) × IsOnItsWay x p k × HoldsShard p Exclusive
-    × HasList tables p.shard (λ table. (pair_of x.eq table.items k ≡ None) × (vec_capacity table ≤ vec_len table))
+Claim {K} {V} {D} x threads bs tables t p (phase.Grow c) =
+    IsInCall x threads t p (ask_of (request_of {D = D} c)) × IsOnItsWay x p (growth_key c) × HoldsShard p Exclusive
+    × HasList tables p.shard (λ table. (pair_of x.eq table.items (growth_key c) ≡ None) × (vec_capacity table ≤ vec_len table))
 Claim x threads bs tables t p (phase.Append k v) =
     IsInCall x threads t p (ask.Keyed (keyed.Insert k v)) × IsBeforeDeed x bs t p k None × HasList tables p.shard (λ table. vec_len table < vec_capacity table)
 Claim {K} {V} x threads bs tables t p (phase.Apply slot k) =
@@ -181,14 +186,17 @@ Claim {K} {V} x threads bs tables t p (phase.Apply slot k) =
 Claim {K} {V} x threads bs tables t p (phase.View slot k d) =
     (pair : K × V) × IsInCall x threads t p (ask.Keyed (keyed.View k d)) × IsOnItsWay x p k × HoldsShard p Shared
     × HasList tables p.shard (λ table. (slice_get table.items slot ≡ Some pair) × (pair_of x.eq table.items k ≡ Some pair))
-Claim x threads bs tables t p (phase.Read d) =
-    (slot : ℕ) × IsInCall x threads t p (ask.Held (held.Read d)) × (p.slot ≡ Some slot) × IsReady x bs tables t p p.next p.block
-Claim x threads bs tables t p (phase.Write d) =
-    (slot : ℕ) × IsInCall x threads t p (ask.Held (held.Write d)) × (p.slot ≡ Some slot) × HoldsShard p Exclusive × IsReady x bs tables t p p.next p.block
+Claim {K} x threads bs tables t p (phase.Read d) =
+    (kind : Way K) × (slot : ℕ) × IsInCall x threads t p (ask.Held (held.Read d)) × (p.guard ≡ Some (guard.Pair kind slot)) × IsReady x bs tables t p p.next p.block
+Claim {K} x threads bs tables t p (phase.Change h) =
+    (kind : Way K) × (slot : ℕ) × IsInCall x threads t p (ask.Held h) × (p.guard ≡ Some (guard.Pair kind slot)) × (is_change h kind ≡ true)
+    × HoldsShard p Exclusive × IsReady x bs tables t p p.next p.block
+Claim {K} x threads bs tables t p (phase.Fill v) =
+    (key : K) × IsInCall x threads t p (ask.Held (held.Insert v)) × (p.guard ≡ Some (guard.Vacant key)) × HoldsShard p Exclusive × IsReady x bs tables t p p.next p.block
 Claim x threads bs tables t p phase.Downgrade =
-    (slot : ℕ) × IsInCall x threads t p (ask.Held held.Downgrade) × (p.slot ≡ Some slot) × HoldsShard p Exclusive × IsReady x bs tables t p p.next p.block
+    (slot : ℕ) × IsInCall x threads t p (ask.Held held.Downgrade) × (p.guard ≡ Some (guard.Pair way.Exclusive slot)) × HoldsShard p Exclusive × IsReady x bs tables t p p.next p.block
 Claim {K} {V} {D} x threads bs tables t p (phase.Release r) =
-    (a : Ask K V D) × (hold : Hold) × IsInCall x threads t p a × (p.hold ≡ Some hold) × IsReleasing x bs tables t p a r p.slot
+    (a : Ask K V D) × (hold : Hold) × IsInCall x threads t p a × (p.hold ≡ Some hold) × IsReleasing x bs tables t p a r p.guard
 Claim {K} {V} {D} x threads bs tables t p (phase.Answer r) =
     (a : Ask K V D) × IsInCall x threads t p a × HoldsByGuard p × IsAnsweredBy x bs t p.next a r × IsReady x bs tables t p (p.next + 1) (block_after p)
 

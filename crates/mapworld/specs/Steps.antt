@@ -1,13 +1,14 @@
 -- The kinds of steps: what each changes, of which thread, and that nothing else changes.
-use Rattle.std.specs.Prelude.{◌≡◌, ◌≢◌, ℕ, ◌+◌, ◌*◌, ◌≤◌, Bool, false, if◌then◌else◌, nat_lt, List, [], ◌∷◌, ◌++◌, length, Option, Some, None, slice_get, slice_set, position, remove, vec_len, vec_capacity, is_some}
+use Rattle.std.specs.Prelude.{◌≡◌, ◌≢◌, ℕ, ◌+◌, ◌*◌, ◌≤◌, Bool, true, false, if◌then◌else◌, nat_lt, List, [], ◌∷◌, ◌++◌, length, Option, Some, None, slice_get, slice_set, position, remove, vec_len, vec_capacity, is_some}
 use Rattle.std.specs.declared.vec.Vec.{Vec}
 use Rattle.std.specs.declared.collections.VecDeque.{VecDeque}
 use Rattle.mapworld_calls.specs.declared.ask.Ask.{Ask}
 use Rattle.mapworld_calls.specs.declared.ask.Keyed.{Keyed}
+use Rattle.mapworld_calls.specs.declared.ask.Held.{Held}
 use Rattle.mapworld_calls.specs.declared.block.Block.{Block}
 use Rattle.mapworld_calls.specs.declared.reply.Answer.{Answer}
 use Rattle.mapworld_calls.specs.declared.reply.Answer.TheVariants as answer
-use Rattle.mapworld_calls.specs.Calls.{keyed_answer, keyed_leaves}
+use Rattle.mapworld_calls.specs.Calls.{pair_in, keyed_answer, keyed_leaves, held_answer, held_leaves}
 use Rattle.mapworld_calls.specs.Setup.{Setup}
 use Rattle.mapworld_calls.specs.Pairs.{has_key, pair_of}
 use Rattle.lock_api_desk.specs.declared.mode.Mode.TheVariants as desk_mode
@@ -15,6 +16,10 @@ use Rattle.mapworld.specs.declared.holds.Mode.TheVariants.{Shared, Exclusive}
 use Rattle.mapworld.specs.declared.holds.Hold.{Hold}
 use Rattle.mapworld.specs.declared.step.Step.{Step}
 use Rattle.mapworld.specs.declared.place.Request.{Request}
+use Rattle.mapworld.specs.declared.place.Way.{Way}
+use Rattle.mapworld.specs.declared.place.Way.TheVariants as way
+use Rattle.mapworld.specs.declared.place.Guard.TheVariants as guard
+use Rattle.mapworld.specs.declared.place.Growth.{Growth}
 use Rattle.mapworld.specs.declared.place.Phase.TheVariants as phase
 use Rattle.mapworld.specs.declared.place.Place.{Place}
 use Rattle.lock_api_desk.specs.declared.fault.DeskFault.TheVariants.{WouldWait}
@@ -22,7 +27,7 @@ use Rattle.lock_api_desk.specs.Desk.{DeskState, admitted as with_guard, turned, 
 use Rattle.lock_api_desk.specs.Refusals.{acquire_refusal}
 use Rattle.mapworld.specs.Holds.{is_excluded, at_desk}
 use Rattle.mapworld.specs.State.{State, next_step}
-use Rattle.mapworld.specs.Moves.{request_key, mode_of, is_last, guard_of, start_phase, start_shard, start_counts, found_phase, found_done, found_slot, block_behind, stepped, ListsBlock, CountsCall, EndsBlock}
+use Rattle.mapworld.specs.Moves.{request_key, mode_of, is_last, lent, start_phase, start_guard, start_shard, start_counts, ends_guard, changed_phase, request_of, growth_key, found_phase, found_done, found_guard, block_behind, stepped, ListsBlock, CountsCall, EndsBlock}
 
 -- where the key's pair stands in a shard's list, whether the list has room for one more, and for how many a full one of n
 -- pairs has room behind a growth
@@ -50,13 +55,14 @@ module _ {K V S D T A : Type 0} (x : Setup K V D T) (w : State K V S D T A) (s :
     pub rest : VecDeque (Ask K V D) A
     pub asked : place.asks.items ≡ ask ∷ rest.items
     pub blocks : List (Block K)
-    pub counted : CountsCall w.blocks (start_counts ask (guard_of place) place.block) place.next blocks
+    pub counted : CountsCall w.blocks (start_counts (start_phase {T = T} ask place.guard) place.block) place.next blocks
     pub after : w' ≡ record (stepped w s (record place {
       asks = rest;
       started = Some (next_step w);
       closes = is_last ask;
       shard = start_shard x.route ask place.shard;
-      phase = start_phase ask (guard_of place);
+      guard = start_guard ask place.guard;
+      phase = start_phase ask place.guard;
     })) { blocks = blocks }
 
   -- an admission takes a hold that no other hold excludes, under a guard number that none of them has: the shard's desk grants
@@ -89,41 +95,43 @@ module _ {K V S D T A : Type 0} (x : Setup K V D T) (w : State K V S D T A) (s :
     pub listed : ListsBlock w s.thread place done blocks
     pub after : w' ≡ record (stepped w s (record place {
       block = block_behind done (length w.blocks) place.block;
-      slot = found_slot request (slot_in x.eq table (request_key request));
+      guard = found_guard request (slot_in x.eq table (request_key request)) (has_room table);
       phase = found_phase request (slot_in x.eq table (request_key request)) (has_room table);
     })) { blocks = blocks }
 
-  -- a find that grows the shard's list, which is full and has no pair of the key, and keeps its pairs; it is the position of the
-  -- block that it lists
+  -- a find that grows the shard's list, which is full and has no pair of the key, and keeps its pairs; it leads where a find
+  -- leads that has room, and is the position of the block that it lists
   pub record GrowsList : Type 0 where
     pub place : Place K V D T A
     pub stands : slice_get w.places s.thread ≡ Some place
-    pub key : K
-    pub value : V
-    pub before : place.phase ≡ phase.Grow key value
+    pub call : Growth K V
+    pub before : place.phase ≡ phase.Grow call
     pub table : Vec (K × V) A
     pub held : slice_get w.tables place.shard ≡ Some table
     pub grown : Vec (K × V) A
-    pub absent : pair_of x.eq table.items key ≡ None
+    pub absent : pair_of x.eq table.items (growth_key call) ≡ None
     pub full : vec_capacity table ≤ vec_len table
     pub pairs : grown.items ≡ table.items
     pub room : vec_capacity grown ≡ grown_room (vec_len table)
     pub blocks : List (Block K)
-    pub listed : ListsBlock w s.thread place (Some 0) blocks
-    pub after : w' ≡ record (stepped w s (record place { block = Some (length w.blocks); phase = phase.Append key value })) { tables = slice_set w.tables place.shard grown; blocks = blocks }
+    pub listed : ListsBlock w s.thread place (found_done {D = D} (request_of call) None true) blocks
+    pub after : w' ≡ record (stepped w s (record place {
+      block = Some (length w.blocks);
+      guard = found_guard {D = D} (request_of call) None true;
+      phase = found_phase (request_of call) None true;
+    })) { tables = slice_set w.tables place.shard grown; blocks = blocks }
 
   -- a find whose growth is refused, of a list that is full and has no pair of the key: no block is listed, no pair changes, and
   -- the call goes on to its release
   pub record IsRefusedGrowth : Type 0 where
     pub place : Place K V D T A
     pub stands : slice_get w.places s.thread ≡ Some place
-    pub key : K
-    pub value : V
-    pub before : place.phase ≡ phase.Grow key value
+    pub call : Growth K V
+    pub before : place.phase ≡ phase.Grow call
     pub table : Vec (K × V) A
     pub held : slice_get w.tables place.shard ≡ Some table
     pub kept : Vec (K × V) A
-    pub absent : pair_of x.eq table.items key ≡ None
+    pub absent : pair_of x.eq table.items (growth_key call) ≡ None
     pub full : vec_capacity table ≤ vec_len table
     pub pairs : kept.items ≡ table.items
     pub room_stays : vec_capacity kept ≡ vec_capacity table
@@ -187,38 +195,66 @@ module _ {K V S D T A : Type 0} (x : Setup K V D T) (w : State K V S D T A) (s :
     pub before : place.phase ≡ phase.Read deed
     pub table : Vec (K × V) A
     pub held : slice_get w.tables place.shard ≡ Some table
+    pub kind : Way K
     pub slot : ℕ
-    pub guarded : place.slot ≡ Some slot
+    pub guarded : place.guard ≡ Some (guard.Pair kind slot)
     pub pair : K × V
     pub found : slice_get table.items slot ≡ Some pair
     pub blocks : List (Block K)
     pub counted : CountsCall w.blocks place.block place.next blocks
     pub after : w' ≡ record (stepped w s (record place { phase = phase.Answer (answer.Read (x.deeds.answer deed pair.0 pair.1)) })) { blocks = blocks }
 
-  -- a deed stores its effect in the place of the guarded value and leaves the stored key
-  pub record Writes : Type 0 where
+  -- a deed does with the guarded pair what the call does with it: its value or its key is another, or it goes, and the guard
+  -- ends or stays
+  pub record Changes : Type 0 where
     pub place : Place K V D T A
     pub stands : slice_get w.places s.thread ≡ Some place
-    pub deed : D
-    pub before : place.phase ≡ phase.Write deed
+    pub call : Held V D
+    pub before : place.phase ≡ phase.Change call
     pub table : Vec (K × V) A
     pub held : slice_get w.tables place.shard ≡ Some table
+    pub kind : Way K
     pub slot : ℕ
-    pub guarded : place.slot ≡ Some slot
+    pub guarded : place.guard ≡ Some (guard.Pair kind slot)
     pub pair : K × V
     pub found : slice_get table.items slot ≡ Some pair
     pub changed : Vec (K × V) A
-    pub pairs : changed.items ≡ slice_set table.items slot (pair.0, x.deeds.effect deed pair.0 pair.1)
+    pub pairs : changed.items ≡ put_back table.items slot (pair_in (held_leaves x.deeds call (lent kind pair)))
     pub room_stays : vec_capacity changed ≡ vec_capacity table
     pub blocks : List (Block K)
     pub counted : CountsCall w.blocks place.block place.next blocks
-    pub after : w' ≡ record (stepped w s (record place { phase = phase.Answer answer.Done })) { tables = slice_set w.tables place.shard changed; blocks = blocks }
+    pub after : w' ≡ record (stepped w s (record place {
+      guard = if ends_guard call then None else place.guard;
+      phase = changed_phase (ends_guard call) (held_answer x.deeds call (lent kind pair));
+    })) { tables = slice_set w.tables place.shard changed; blocks = blocks }
+
+  -- a deed adds the pair of a vacant guard's key, and the guard is exclusive
+  pub record Fills : Type 0 where
+    pub place : Place K V D T A
+    pub stands : slice_get w.places s.thread ≡ Some place
+    pub value : V
+    pub before : place.phase ≡ phase.Fill value
+    pub table : Vec (K × V) A
+    pub held : slice_get w.tables place.shard ≡ Some table
+    pub key : K
+    pub guarded : place.guard ≡ Some (guard.Vacant key)
+    pub changed : Vec (K × V) A
+    pub pairs : changed.items ≡ table.items ++ (key, value) ∷ []
+    pub room_stays : vec_capacity changed ≡ vec_capacity table
+    pub blocks : List (Block K)
+    pub counted : CountsCall w.blocks place.block place.next blocks
+    pub after : w' ≡ record (stepped w s (record place { guard = Some (guard.Pair way.Exclusive (length table.items)); phase = phase.Answer answer.Held })) {
+      tables = slice_set w.tables place.shard changed;
+      blocks = blocks;
+    }
 
   -- a guard that held its shard alone shares it, and the shard's desk lists it so
   pub record Downgrades : Type 0 where
     pub place : Place K V D T A
     pub stands : slice_get w.places s.thread ≡ Some place
     pub before : place.phase ≡ phase.Downgrade
+    pub slot : ℕ
+    pub guarded : place.guard ≡ Some (guard.Pair way.Exclusive slot)
     pub hold : Hold
     pub holds : place.hold ≡ Some hold
     pub alone : hold.mode ≡ Exclusive
@@ -226,7 +262,11 @@ module _ {K V S D T A : Type 0} (x : Setup K V D T) (w : State K V S D T A) (s :
     pub at_shard : slice_get w.holds hold.shard ≡ Some desk
     pub blocks : List (Block K)
     pub counted : CountsCall w.blocks place.block place.next blocks
-    pub after : w' ≡ record (stepped w s (record place { hold = Some (record hold { mode = Shared }); phase = phase.Answer answer.Held })) {
+    pub after : w' ≡ record (stepped w s (record place {
+      hold = Some (record hold { mode = Shared });
+      guard = Some (guard.Pair way.Shared slot);
+      phase = phase.Answer answer.Held;
+    })) {
       holds = slice_set w.holds hold.shard (turned desk_mode.Shared hold.guard desk);
       blocks = blocks;
     }
@@ -242,8 +282,8 @@ module _ {K V S D T A : Type 0} (x : Setup K V D T) (w : State K V S D T A) (s :
     pub desk : DeskState (Unit {0})
     pub at_shard : slice_get w.holds hold.shard ≡ Some desk
     pub blocks : List (Block K)
-    pub counted : CountsCall w.blocks (if is_some place.slot then place.block else None) place.next blocks
-    pub after : w' ≡ record (stepped w s (record place { hold = None; slot = None; phase = phase.Answer answer })) { holds = slice_set w.holds hold.shard (released hold.guard desk); blocks = blocks }
+    pub counted : CountsCall w.blocks (if is_some place.guard then place.block else None) place.next blocks
+    pub after : w' ≡ record (stepped w s (record place { hold = None; guard = None; phase = phase.Answer answer })) { holds = slice_set w.holds hold.shard (released hold.guard desk); blocks = blocks }
 
   -- an answer carries the start into the reply
   pub record Answers : Type 0 where
@@ -276,7 +316,8 @@ pub data IsStep {K V S D T A : Type 0} (x : Setup K V D T) (w : State K V S D T 
   deed_applies : Applies x w s w' → IsStep x w s w'
   deed_views : Views x w s w' → IsStep x w s w'
   deed_reads : Reads x w s w' → IsStep x w s w'
-  deed_writes : Writes x w s w' → IsStep x w s w'
+  deed_changes : Changes x w s w' → IsStep x w s w'
+  deed_fills : Fills x w s w' → IsStep x w s w'
   downgrade : Downgrades x w s w' → IsStep x w s w'
   release : Releases x w s w' → IsStep x w s w'
   answers : Answers x w s w' → IsStep x w s w'

@@ -6,7 +6,7 @@ ghost use Rattle.mapworld.specs.Running.{has_numbers, status_of, is_running};
 ghost use Rattle.mapworld.specs.World.{setup_of};
 ghost use Rattle.mapworld.specs.Core.{state_of, Room};
 
-use crate::deeds::{append, apply, read, view, write};
+use crate::deeds::{append, apply, change, fill, read, view};
 use crate::ends::{answer, downgrade, release};
 use crate::looks::{find, grow};
 use crate::place::Phase;
@@ -37,12 +37,13 @@ pub(crate) fn advance<
         Phase::Rest => start(core, step),
         Phase::Admit(_) => admit(core, step),
         Phase::Find(_) => find(core, step),
-        Phase::Grow(_, _) => grow(core, step),
+        Phase::Grow(_) => grow(core, step),
         Phase::Append(_, _) => append(core, step),
         Phase::Apply(_, _) => apply(core, step),
         Phase::View(_, _, _) => view(core, step),
         Phase::Read(_) => read(core, step),
-        Phase::Write(_) => write(core, step),
+        Phase::Change(_) => change(core, step),
+        Phase::Fill(_) => fill(core, step),
         Phase::Downgrade => downgrade(core, step),
         Phase::Release(_) => release(core, step),
         Phase::Answer(_) => answer(core, step),

@@ -26,7 +26,7 @@ fn at_start<K, V, D, T, A: Allocator>(asks: VecDeque<Ask<K, V, D>, A>) -> Place<
         shard: 0,
         hold: None,
         block: None,
-        slot: None,
+        guard: None,
         phase: Phase::Rest,
     }
 }

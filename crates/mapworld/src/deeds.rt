@@ -5,13 +5,15 @@ ghost use Rattle.mapworld.specs.Sound.{Sound};
 ghost use Rattle.mapworld.specs.Running.{has_numbers};
 ghost use Rattle.mapworld.specs.World.{setup_of};
 ghost use Rattle.mapworld.specs.Core.{state_of, Room, IsBefore};
-ghost use Rattle.mapworld.specs.Steps.{Appends, Applies, Views, Reads, Writes};
+ghost use Rattle.mapworld.specs.Steps.{Appends, Applies, Views, Reads, Changes, Fills};
 
 use crate::blocks::{Started, count_in, list_block};
-use crate::moves::enter;
-use crate::place::Phase;
+use crate::moves::{
+    changed_phase, ends_guard, enter, lent_pair, lent_slot, takes_pair, vacant_key,
+};
+use crate::place::{Guard, Phase, Way};
 use crate::step::Step;
-use crate::table::{apply_at, store_effect};
+use crate::table::{apply_at, change_at};
 use crate::world_core::Core;
 use mapworld_calls::{Answer, Deed};
 use std::alloc::Allocator;
@@ -142,7 +144,7 @@ pub(crate) fn read<
     let Phase::Read(deed) = mem::replace(&mut place.phase, Phase::Rest) else {
         unreachable!()
     };
-    let Some(slot) = place.slot else {
+    let Some(slot) = lent_slot(&place.guard) else {
         unreachable!()
     };
     let table = &core.tables[place.shard];
@@ -156,8 +158,8 @@ pub(crate) fn read<
     core.steps = core.steps.appended(&step);
 }
 
-/// The deed that writes the guarded pair's value.
-pub(crate) fn write<
+/// The deed of a call that changes the guarded pair.
+pub(crate) fn change<
     K: Eq + Hash + Drop,
     V: Drop,
     S: BuildHasher,
@@ -167,20 +169,57 @@ pub(crate) fn write<
     requires sound { Sound (setup_of D.Deed S.BuildHasher S.Hasher.Hasher K.eq K.hash_input (state_of core.old)) (state_of core.old) }
     requires room { Room core.old }
     requires numbers { has_numbers (state_of core.old) ≡ true }
-    requires before { (deed : _) × IsBefore core.old.places.items step.thread (phase.Write deed) }
-    ensures step { Writes (setup_of D.Deed S.BuildHasher S.Hasher.Hasher K.eq K.hash_input (state_of core.old)) (state_of core.old) step (state_of core.new) }
+    requires before { (call : _) × IsBefore core.old.places.items step.thread (phase.Change call) }
+    ensures step { Changes (setup_of D.Deed S.BuildHasher S.Hasher.Hasher K.eq K.hash_input (state_of core.old)) (state_of core.old) step (state_of core.new) }
     ensures room { Room core.new }
 {
     let place = &mut core.places[step.thread];
-    let Phase::Write(deed) = mem::replace(&mut place.phase, Phase::Answer(Answer::Done)) else {
+    let Phase::Change(call) = mem::replace(&mut place.phase, Phase::Rest) else {
         unreachable!()
     };
-    let Some(slot) = place.slot else {
+    let Some((way, slot)) = lent_pair(mem::replace(&mut place.guard, None)) else {
+        unreachable!()
+    };
+    let ends = ends_guard(&call);
+    let gone = takes_pair(&call);
+    let table = &mut core.tables[place.shard];
+    let (answer, guard) = change_at(table, slot, call, way);
+    place.guard = guard;
+    enter(&mut place.phase, changed_phase(ends, answer));
+    count_in(&mut core.blocks, place.block, place.next);
+    core.pairs = less_one(core.pairs, gone);
+    core.count += 1;
+    core.steps = core.steps.appended(&step);
+}
+
+/// The deed that adds the pair of a vacant guard's key.
+pub(crate) fn fill<
+    K: Eq + Hash + Drop,
+    V: Drop,
+    S: BuildHasher,
+    D: Deed<K, V> + Drop,
+    A: Allocator,
+>(core: &mut Core<K, V, S, D, D::Answer, A>, step: Step)
+    requires sound { Sound (setup_of D.Deed S.BuildHasher S.Hasher.Hasher K.eq K.hash_input (state_of core.old)) (state_of core.old) }
+    requires room { Room core.old }
+    requires numbers { has_numbers (state_of core.old) ≡ true }
+    requires before { (value : _) × IsBefore core.old.places.items step.thread (phase.Fill value) }
+    ensures step { Fills (setup_of D.Deed S.BuildHasher S.Hasher.Hasher K.eq K.hash_input (state_of core.old)) (state_of core.old) step (state_of core.new) }
+    ensures room { Room core.new }
+{
+    let place = &mut core.places[step.thread];
+    let Phase::Fill(value) = mem::replace(&mut place.phase, Phase::Answer(Answer::Held)) else {
+        unreachable!()
+    };
+    let Some(key) = vacant_key(mem::replace(&mut place.guard, None)) else {
         unreachable!()
     };
     let table = &mut core.tables[place.shard];
-    store_effect(table, slot, &deed);
+    place.guard = Some(Guard::Pair(Way::Exclusive, table.len()));
+    let pair = (key, value);
+    table.push_reserved(pair);
     count_in(&mut core.blocks, place.block, place.next);
+    core.pairs += 1;
     core.count += 1;
     core.steps = core.steps.appended(&step);
 }

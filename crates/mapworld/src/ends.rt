@@ -9,8 +9,8 @@ ghost use Rattle.mapworld.specs.Steps.{Downgrades, Releases, Answers};
 
 use crate::blocks::{count_in, end_block};
 use crate::holds::{Hold, Mode, end_hold, share_hold};
-use crate::moves::{enter, release_counts};
-use crate::place::{Phase, Place};
+use crate::moves::{enter, lent_slot, release_counts};
+use crate::place::{Guard, Phase, Place, Way};
 use crate::step::Step;
 use crate::world_core::Core;
 use mapworld_calls::{Answer, Deed, Reply};
@@ -55,11 +55,15 @@ pub(crate) fn downgrade<
     let Some(hold) = place.hold else {
         unreachable!()
     };
+    let Some(slot) = lent_slot(&place.guard) else {
+        unreachable!()
+    };
     place.hold = Some(Hold {
         shard: hold.shard,
         guard: hold.guard,
         mode: Mode::Shared,
     });
+    place.guard = Some(Guard::Pair(Way::Shared, slot));
     enter(&mut place.phase, Phase::Answer(Answer::Held));
     let desk = &mut core.desks[hold.shard];
     share_hold(desk, step.thread as u64, hold.guard);
@@ -90,9 +94,9 @@ pub(crate) fn release<
     let Phase::Release(answer) = mem::replace(&mut place.phase, Phase::Rest) else {
         unreachable!()
     };
-    let counts = release_counts(place.slot, place.block);
+    let counts = release_counts(&place.guard, place.block);
     place.hold = None;
-    place.slot = None;
+    place.guard = None;
     enter(&mut place.phase, Phase::Answer(answer));
     let desk = &mut core.desks[hold.shard];
     end_hold(desk, step.thread as u64, hold.guard);

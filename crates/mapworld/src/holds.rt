@@ -62,9 +62,12 @@ pub(crate) fn is_excluded<K, V, D, T, A: Allocator>(
 ) -> bool
     ensures { result ≡ is_excluded places.now shard mode }
 {
-    places
-        .iter()
-        .any(|place| is_in_the_way(place.hold, shard, mode))
+    for place in places {
+        if is_in_the_way(place.hold, shard, mode) {
+            return true;
+        }
+    }
+    false
 }
 
 /// Takes a hold at the shard's desk, which nothing there excludes and which has room for it.

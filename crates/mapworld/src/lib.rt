@@ -8,7 +8,6 @@ mod contents;
 mod counts;
 mod deeds;
 mod ends;
-mod fault;
 mod holds;
 pub mod laws;
 mod limits;
@@ -24,11 +23,11 @@ mod table;
 mod world;
 mod world_core;
 
-pub use fault::{RunFault, WorldNewFault};
 pub use lock_api_raw::NoMemory;
 pub use mapworld_calls::{
     Answer, Ask, Begin, Block, Deed, Held, Keyed, Reply, SpreadHasher, SpreadState, guard_numbers,
     holds_one_guard,
 };
+pub use mapworld_faults::{RunFault, WorldNewFault};
 pub use step::{Status, Step};
 pub use world::MapWorld;

@@ -9,7 +9,7 @@ ghost use Rattle.mapworld.specs.Moves.{request_key};
 ghost use Rattle.mapworld.specs.Steps.{slot_in, has_room, grown_room, Finds, GrowsList, IsRefusedGrowth};
 
 use crate::blocks::{Started, list_block};
-use crate::moves::{block_behind, enter, found_done, found_phase, found_slot, request_key};
+use crate::moves::{block_behind, enter, found, found_done, request_key, request_of};
 use crate::place::{Phase, Request};
 use crate::step::Step;
 use crate::table::slot_of;
@@ -70,8 +70,9 @@ pub(crate) fn find<
         start,
     };
     place.block = block_behind(done, index, place.block);
-    place.slot = found_slot(&request, slot);
-    enter(&mut place.phase, found_phase(request, slot, room));
+    let (phase, guard) = found(request, slot, room);
+    place.guard = guard;
+    enter(&mut place.phase, phase);
     list_block(&mut core.blocks, done, started, number);
     core.count = number;
     core.steps = core.steps.appended(&step);
@@ -96,7 +97,7 @@ pub(crate) fn grow<
     requires sound { Sound (setup_of D.Deed S.BuildHasher S.Hasher.Hasher K.eq K.hash_input (state_of core.old)) (state_of core.old) }
     requires room { Room core.old }
     requires numbers { has_numbers (state_of core.old) ≡ true }
-    requires before { (key : _) × (value : _) × IsBefore core.old.places.items step.thread (phase.Grow key value) }
+    requires before { (call : _) × IsBefore core.old.places.items step.thread (phase.Grow call) }
     ensures step { GrowsList (setup_of D.Deed S.BuildHasher S.Hasher.Hasher K.eq K.hash_input (state_of core.old)) (state_of core.old) step (state_of core.new) ⊎ IsRefusedGrowth (setup_of D.Deed S.BuildHasher S.Hasher.Hasher K.eq K.hash_input (state_of core.old)) (state_of core.old) step (state_of core.new) }
     ensures room { Room core.new }
 {
@@ -106,7 +107,7 @@ pub(crate) fn grow<
     let Some(start) = place.started else {
         unreachable!()
     };
-    let Phase::Grow(key, value) = mem::replace(&mut place.phase, Phase::Rest) else {
+    let Phase::Grow(call) = mem::replace(&mut place.phase, Phase::Rest) else {
         unreachable!()
     };
     core.count = number;
@@ -121,7 +122,11 @@ pub(crate) fn grow<
         call: place.next,
         start,
     };
-    list_block(&mut core.blocks, Some(0), started, number);
+    let request = request_of(call);
+    let done = found_done(&request, None, true);
+    let (phase, guard) = found(request, None, true);
+    list_block(&mut core.blocks, done, started, number);
     place.block = Some(index);
-    enter(&mut place.phase, Phase::Append(key, value));
+    place.guard = guard;
+    enter(&mut place.phase, phase);
 }

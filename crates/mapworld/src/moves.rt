@@ -1,15 +1,19 @@
 //! Where each kind of step leads a thread.
-ghost use Rattle.std.specs.Prelude.{◌≡◌, is_some, if◌then◌else◌, Some, None};
+ghost use Rattle.std.specs.Prelude.{◌≡◌, is_some, true, if◌then◌else◌, Some, None};
 ghost use Rattle.mapworld.specs.declared.place.Request.TheVariants as request;
-ghost use Rattle.mapworld_calls.specs.Programs.{keyed_key, opening_key};
+ghost use Rattle.mapworld.specs.declared.place.Guard.TheVariants as own;
+ghost use Rattle.mapworld_calls.specs.Programs.{keyed_key, opening_key, is_drop};
 ghost use Rattle.mapworld.specs.Route.{IsWorldAmount, key_route};
-ghost use Rattle.mapworld.specs.Moves.{request_key, mode_of, is_last, guard_of, start_phase, start_shard, start_counts, found_phase, found_done, found_slot, block_behind};
+ghost use Rattle.mapworld.specs.Moves.{request_key, mode_of, is_last, lent_slot, lent_pair, vacant_key};
+ghost use Rattle.mapworld.specs.Moves.{shared_phase, exclusive_phase, occupied_phase, occupied_guard, vacant_phase, vacant_guard};
+ghost use Rattle.mapworld.specs.Moves.{held_phase, held_guard, start_phase, start_guard, start_shard, is_told, start_counts};
+ghost use Rattle.mapworld.specs.Moves.{ends_guard, takes_pair, changed_phase, growth_key, request_of};
+ghost use Rattle.mapworld.specs.Moves.{opening_way, opening_mode, found_phase, found_done, found_guard, block_behind};
 
 use crate::holds::Mode;
-use crate::place::{Phase, Place, Request};
+use crate::place::{Growth, Guard, Phase, Request, Way};
 use crate::route::shard_of;
 use mapworld_calls::{Answer, Ask, Begin, Held, Keyed};
-use std::alloc::Allocator;
 use std::hash::{BuildHasher, Hash};
 
 /// The key of a call on one key.
@@ -34,6 +38,7 @@ fn opening_key<K>(begin: &Begin<K>) -> &K
     match begin {
         Begin::Get(key) => key,
         Begin::GetMut(key) => key,
+        Begin::Entry(key) => key,
     }
 }
 
@@ -47,6 +52,17 @@ pub(crate) fn request_key<K, V, D>(request: &Request<K, V, D>) -> &K
     }
 }
 
+/// How an opening holds its shard.
+fn opening_mode<K>(begin: &Begin<K>) -> Mode
+    ensures { result ≡ opening_mode begin.now }
+{
+    match begin {
+        Begin::Get(_) => Mode::Shared,
+        Begin::GetMut(_) => Mode::Exclusive,
+        Begin::Entry(_) => Mode::Exclusive,
+    }
+}
+
 /// How a call on one key holds its shard.
 pub(crate) fn mode_of<K, V, D>(request: &Request<K, V, D>) -> Mode
     ensures { result ≡ mode_of request.now }
@@ -55,8 +71,17 @@ pub(crate) fn mode_of<K, V, D>(request: &Request<K, V, D>) -> Mode
         Request::Keyed(Keyed::View(_, _)) => Mode::Shared,
         Request::Keyed(Keyed::ContainsKey(_)) => Mode::Shared,
         Request::Keyed(_) => Mode::Exclusive,
-        Request::Begin(Begin::Get(_)) => Mode::Shared,
-        Request::Begin(Begin::GetMut(_)) => Mode::Exclusive,
+        Request::Begin(begin) => opening_mode(begin),
+    }
+}
+
+/// Whether a call on the guard is its last.
+fn is_drop<V, D>(call: &Held<V, D>) -> bool
+    ensures { result ≡ is_drop call.now }
+{
+    match call {
+        Held::Drop => true,
+        _ => false,
     }
 }
 
@@ -67,38 +92,148 @@ pub(crate) fn is_last<K, V, D>(ask: &Ask<K, V, D>) -> bool
     match ask {
         Ask::Keyed(_) => true,
         Ask::Begin(_) => false,
-        Ask::Held(Held::Read(_) | Held::Write(_) | Held::Downgrade) => false,
-        Ask::Held(Held::Drop) => true,
+        Ask::Held(call) => is_drop(call),
     }
 }
 
-/// How the guard of a place holds its shard, if it has a guard.
-pub(crate) fn guard_of<K, V, D, T, A: Allocator>(place: &Place<K, V, D, T, A>) -> Option<Mode>
-    ensures { result ≡ guard_of place.now }
+/// The place of the pair that a guard lends, if it lends one.
+pub(crate) fn lent_slot<K>(guard: &Option<Guard<K>>) -> Option<usize>
+    ensures { result ≡ lent_slot guard.now }
 {
-    match (place.slot, place.hold) {
-        (Some(_), Some(hold)) => Some(hold.mode),
+    match guard {
+        Some(Guard::Pair(_, slot)) => Some(*slot),
         _ => None,
     }
 }
 
-/// The phase behind a call's start.
-pub(crate) fn start_phase<K: Drop, V: Drop, D: Drop, T>(
-    ask: Ask<K, V, D>,
-    guard: Option<Mode>,
-) -> Phase<K, V, D, T>
-    ensures { result ≡ start_phase ask guard }
+/// Takes a guard apart that lends a pair: how, and the pair's place.
+pub(crate) fn lent_pair<K: Drop>(guard: Option<Guard<K>>) -> Option<(Way<K>, usize)>
+    ensures { result ≡ lent_pair guard }
 {
-    match (ask, guard) {
-        (Ask::Keyed(keyed), _) => Phase::Admit(Request::Keyed(keyed)),
-        (Ask::Begin(begin), _) => Phase::Admit(Request::Begin(begin)),
-        (Ask::Held(Held::Read(deed)), Some(_)) => Phase::Read(deed),
-        (Ask::Held(Held::Write(deed)), Some(Mode::Exclusive)) => Phase::Write(deed),
-        (Ask::Held(Held::Write(_)), Some(Mode::Shared)) => Phase::Answer(Answer::WrongGuard),
-        (Ask::Held(Held::Downgrade), Some(Mode::Exclusive)) => Phase::Downgrade,
-        (Ask::Held(Held::Downgrade), Some(Mode::Shared)) => Phase::Answer(Answer::WrongGuard),
-        (Ask::Held(Held::Drop), Some(_)) => Phase::Release(Answer::Done),
-        (Ask::Held(_), None) => Phase::Answer(Answer::NoGuard),
+    match guard {
+        Some(Guard::Pair(way, slot)) => Some((way, slot)),
+        _ => None,
+    }
+}
+
+/// Takes a vacant guard apart: the key that was handed in.
+pub(crate) fn vacant_key<K: Drop>(guard: Option<Guard<K>>) -> Option<K>
+    ensures { result ≡ vacant_key guard }
+{
+    match guard {
+        Some(Guard::Vacant(key)) => Some(key),
+        _ => None,
+    }
+}
+
+/// The phase behind the start of a call on a shared guard.
+fn shared_phase<K, V: Drop, D: Drop, T>(call: Held<V, D>) -> Phase<K, V, D, T>
+    ensures { result ≡ shared_phase call }
+{
+    match call {
+        Held::Read(deed) => Phase::Read(deed),
+        Held::Drop => Phase::Release(Answer::Done),
+        _ => Phase::Answer(Answer::WrongGuard),
+    }
+}
+
+/// The phase behind the start of a call on an exclusive guard.
+fn exclusive_phase<K, V: Drop, D: Drop, T>(call: Held<V, D>) -> Phase<K, V, D, T>
+    ensures { result ≡ exclusive_phase call }
+{
+    match call {
+        Held::Read(deed) => Phase::Read(deed),
+        Held::Write(deed) => Phase::Change(Held::Write(deed)),
+        Held::Downgrade => Phase::Downgrade,
+        Held::Drop => Phase::Release(Answer::Done),
+        _ => Phase::Answer(Answer::WrongGuard),
+    }
+}
+
+/// The phase behind the start of a call on an occupied guard, and the guard behind it.
+fn start_occupied<K: Drop, V: Drop, D: Drop, T>(
+    call: Held<V, D>,
+    key: K,
+    slot: usize,
+) -> (Phase<K, V, D, T>, Option<Guard<K>>)
+    ensures { result ≡ (occupied_phase call key, occupied_guard call key slot) }
+{
+    let phase = match call {
+        Held::IntoRef => {
+            let guard = Guard::Pair(Way::Exclusive, slot);
+            return (Phase::Answer(Answer::Held), Some(guard));
+        }
+        Held::IntoKey => return (Phase::Release(Answer::Key(key)), None),
+        Held::Read(deed) => Phase::Read(deed),
+        Held::Downgrade => Phase::Answer(Answer::WrongGuard),
+        Held::Drop => Phase::Release(Answer::Done),
+        call => Phase::Change(call),
+    };
+    (phase, Some(Guard::Pair(Way::Occupied(key), slot)))
+}
+
+/// The phase behind the start of a call on a vacant guard, and the guard behind it.
+fn start_vacant<K, V: Drop, D: Drop, T>(
+    call: Held<V, D>,
+    key: K,
+) -> (Phase<K, V, D, T>, Option<Guard<K>>)
+    ensures { result ≡ (vacant_phase call key, vacant_guard call key) }
+{
+    let phase = match call {
+        Held::IntoKey => return (Phase::Release(Answer::Key(key)), None),
+        Held::Insert(value) => Phase::Fill(value),
+        Held::Drop => Phase::Release(Answer::Done),
+        _ => Phase::Answer(Answer::WrongGuard),
+    };
+    (phase, Some(Guard::Vacant(key)))
+}
+
+/// The phase behind the start of a call on a guard that lends a pair, and the guard behind it.
+fn start_pair<K: Drop, V: Drop, D: Drop, T>(
+    call: Held<V, D>,
+    way: Way<K>,
+    slot: usize,
+) -> (Phase<K, V, D, T>, Option<Guard<K>>)
+    ensures { result ≡ (held_phase (Some (own.Pair way slot)) call, held_guard (Some (own.Pair way slot)) call) }
+{
+    match way {
+        Way::Occupied(key) => start_occupied(call, key, slot),
+        Way::Exclusive => {
+            let guard = Guard::Pair(Way::Exclusive, slot);
+            (exclusive_phase(call), Some(guard))
+        }
+        Way::Shared => {
+            let guard = Guard::Pair(Way::Shared, slot);
+            (shared_phase(call), Some(guard))
+        }
+    }
+}
+
+/// The phase behind the start of a call on the guard, and the guard behind it.
+fn start_held<K: Drop, V: Drop, D: Drop, T>(
+    call: Held<V, D>,
+    guard: Option<Guard<K>>,
+) -> (Phase<K, V, D, T>, Option<Guard<K>>)
+    ensures { result ≡ (held_phase guard call, held_guard guard call) }
+{
+    match guard {
+        None => (Phase::Answer(Answer::NoGuard), None),
+        Some(Guard::Vacant(key)) => start_vacant(call, key),
+        Some(Guard::Pair(way, slot)) => start_pair(call, way, slot),
+    }
+}
+
+/// The phase behind a call's start, and the guard behind it.
+pub(crate) fn start_call<K: Drop, V: Drop, D: Drop, T>(
+    ask: Ask<K, V, D>,
+    guard: Option<Guard<K>>,
+) -> (Phase<K, V, D, T>, Option<Guard<K>>)
+    ensures { result ≡ (start_phase ask guard, start_guard ask guard) }
+{
+    match ask {
+        Ask::Keyed(keyed) => (Phase::Admit(Request::Keyed(keyed)), guard),
+        Ask::Begin(begin) => (Phase::Admit(Request::Begin(begin)), guard),
+        Ask::Held(call) => start_held(call, guard),
     }
 }
 
@@ -119,19 +254,68 @@ pub(crate) fn start_shard<K: Eq + Hash, V, D, S: BuildHasher>(
     }
 }
 
-/// The block that a start counts its call in.
-pub(crate) fn start_counts<K, V, D>(
-    ask: &Ask<K, V, D>,
-    guard: Option<Mode>,
+/// Whether a call is told at its start, by the phase behind it.
+fn is_told<K, V, D, T>(phase: &Phase<K, V, D, T>) -> bool
+    ensures { result ≡ is_told phase.now }
+{
+    match phase {
+        Phase::Answer(_) => true,
+        Phase::Release(Answer::Key(_)) => true,
+        _ => false,
+    }
+}
+
+/// The block that a start counts its call in, by the phase behind it.
+pub(crate) fn start_counts<K, V, D, T>(
+    phase: &Phase<K, V, D, T>,
     block: Option<usize>,
 ) -> Option<usize>
-    ensures { result ≡ start_counts ask.now guard block }
+    ensures { result ≡ start_counts phase.now block }
 {
-    match (ask, guard) {
-        (Ask::Held(_), None) => block,
-        (Ask::Held(Held::Write(_)), Some(Mode::Shared)) => block,
-        (Ask::Held(Held::Downgrade), Some(Mode::Shared)) => block,
-        _ => None,
+    if is_told(phase) { block } else { None }
+}
+
+/// Whether a guard ends by a call that changes its pair.
+pub(crate) fn ends_guard<V, D>(call: &Held<V, D>) -> bool
+    ensures { result ≡ ends_guard call.now }
+{
+    match call {
+        Held::Remove => true,
+        Held::RemoveEntry => true,
+        Held::ReplaceEntry(_) => true,
+        _ => false,
+    }
+}
+
+/// Whether the guard's pair goes by such a call.
+pub(crate) fn takes_pair<V, D>(call: &Held<V, D>) -> bool
+    ensures { result ≡ takes_pair call.now }
+{
+    match call {
+        Held::Remove => true,
+        Held::RemoveEntry => true,
+        _ => false,
+    }
+}
+
+/// The phase behind such a call's deed.
+pub(crate) fn changed_phase<K, V, D, T>(ends: bool, answer: Answer<K, V, T>) -> Phase<K, V, D, T>
+    ensures { result ≡ changed_phase ends answer }
+{
+    if ends {
+        Phase::Release(answer)
+    } else {
+        Phase::Answer(answer)
+    }
+}
+
+/// The call for which a shard's list grows.
+pub(crate) fn request_of<K, V, D>(call: Growth<K, V>) -> Request<K, V, D>
+    ensures { result ≡ request_of call }
+{
+    match call {
+        Growth::Insert(key, value) => Request::Keyed(Keyed::Insert(key, value)),
+        Growth::Entry(key) => Request::Begin(Begin::Entry(key)),
     }
 }
 
@@ -158,7 +342,7 @@ fn absent_phase<K: Drop, V: Drop, D: Drop, T>(call: Keyed<K, V, D>, room: bool) 
             if room {
                 Phase::Append(key, value)
             } else {
-                Phase::Grow(key, value)
+                Phase::Grow(Growth::Insert(key, value))
             }
         }
         Keyed::Alter(_, _) => Phase::Release(Answer::Done),
@@ -167,19 +351,53 @@ fn absent_phase<K: Drop, V: Drop, D: Drop, T>(call: Keyed<K, V, D>, room: bool) 
     }
 }
 
-/// The phase behind a find.
-pub(crate) fn found_phase<K: Drop, V: Drop, D: Drop, T>(
+/// The guard that an opening gives of a pair.
+fn opening_way<K: Drop>(begin: Begin<K>) -> Way<K>
+    ensures { result ≡ opening_way begin }
+{
+    match begin {
+        Begin::Get(_) => Way::Shared,
+        Begin::GetMut(_) => Way::Exclusive,
+        Begin::Entry(key) => Way::Occupied(key),
+    }
+}
+
+/// The phase behind an opening's find of a key that is absent, and the guard that the find gives.
+fn find_nothing<K: Drop, V, D, T>(
+    begin: Begin<K>,
+    room: bool,
+) -> (Phase<K, V, D, T>, Option<Guard<K>>)
+    ensures { result ≡ (found_phase (request.Begin begin) None room, found_guard {V = V} {D = D} (request.Begin begin) None room) }
+{
+    match begin {
+        Begin::Entry(key) => {
+            if room {
+                (Phase::Answer(Answer::Vacant), Some(Guard::Vacant(key)))
+            } else {
+                (Phase::Grow(Growth::Entry(key)), None)
+            }
+        }
+        Begin::Get(_) => (Phase::Release(Answer::None), None),
+        Begin::GetMut(_) => (Phase::Release(Answer::None), None),
+    }
+}
+
+/// The phase behind a find, and the guard that it gives.
+pub(crate) fn found<K: Drop, V: Drop, D: Drop, T>(
     request: Request<K, V, D>,
     slot: Option<usize>,
     room: bool,
-) -> Phase<K, V, D, T>
-    ensures { result ≡ found_phase request slot room }
+) -> (Phase<K, V, D, T>, Option<Guard<K>>)
+    ensures { result ≡ (found_phase request slot room, found_guard request slot room) }
 {
     match (request, slot) {
-        (Request::Keyed(call), Some(slot)) => present_phase(call, slot),
-        (Request::Keyed(call), None) => absent_phase(call, room),
-        (Request::Begin(_), Some(_)) => Phase::Answer(Answer::Held),
-        (Request::Begin(_), None) => Phase::Release(Answer::None),
+        (Request::Keyed(call), Some(slot)) => (present_phase(call, slot), None),
+        (Request::Keyed(call), None) => (absent_phase(call, room), None),
+        (Request::Begin(begin), Some(slot)) => {
+            let guard = Guard::Pair(opening_way(begin), slot);
+            (Phase::Answer(Answer::Held), Some(guard))
+        }
+        (Request::Begin(begin), None) => find_nothing(begin, room),
     }
 }
 
@@ -196,17 +414,8 @@ pub(crate) fn found_done<K, V, D>(
         (Request::Keyed(Keyed::View(_, _)), Some(_)) => None,
         (Request::Keyed(Keyed::Insert(_, _)), None) => { if room { Some(0) } else { None } }
         (Request::Keyed(_), Some(_)) => Some(0),
+        (Request::Begin(Begin::Entry(_)), None) => { if room { Some(1) } else { None } }
         _ => Some(1),
-    }
-}
-
-/// The guard that a find gives.
-pub(crate) fn found_slot<K, V, D>(request: &Request<K, V, D>, slot: Option<usize>) -> Option<usize>
-    ensures { result ≡ found_slot request.now slot }
-{
-    match request {
-        Request::Keyed(_) => None,
-        Request::Begin(_) => slot,
     }
 }
 
@@ -218,10 +427,10 @@ pub(crate) fn block_behind(done: Option<usize>, next: usize, block: Option<usize
 }
 
 /// The block that a release counts its call in: that of the guard that ends.
-pub(crate) fn release_counts(slot: Option<usize>, block: Option<usize>) -> Option<usize>
-    ensures { result ≡ (if is_some slot then block else None) }
+pub(crate) fn release_counts<K>(guard: &Option<Guard<K>>, block: Option<usize>) -> Option<usize>
+    ensures { result ≡ (if is_some guard.now then block else None) }
 {
-    if slot.is_some() { block } else { None }
+    if guard.is_some() { block } else { None }
 }
 
 /// Puts a phase in the place of the one before.

@@ -1,7 +1,7 @@
 //! Where a thread stands in its program.
 
 use crate::holds::Hold;
-use mapworld_calls::{Answer, Ask, Begin, Keyed};
+use mapworld_calls::{Answer, Ask, Begin, Held, Keyed};
 use std::alloc::Allocator;
 use std::collections::VecDeque;
 
@@ -10,6 +10,33 @@ use std::collections::VecDeque;
 pub(crate) enum Request<K, V, D> {
     Keyed(Keyed<K, V, D>),
     Begin(Begin<K>),
+}
+
+/// How a guard lends its pair.
+#[derive(Drop)]
+pub(crate) enum Way<K> {
+    /// To read, beside others that do so too.
+    Shared,
+    /// Alone.
+    Exclusive,
+    /// Alone, by an entry, which keeps the key that it was handed.
+    Occupied(K),
+}
+
+/// What a thread holds between its calls.
+#[derive(Drop)]
+pub(crate) enum Guard<K> {
+    /// The pair at that place of its shard's list.
+    Pair(Way<K>, usize),
+    /// The room for a pair of the key that an entry was handed, which is absent.
+    Vacant(K),
+}
+
+/// A call on an absent key for whose pair the shard's list has to grow.
+#[derive(Drop)]
+pub(crate) enum Growth<K, V> {
+    Insert(K, V),
+    Entry(K),
 }
 
 /// What a thread's next step is.
@@ -22,7 +49,7 @@ pub(crate) enum Phase<K, V, D, T> {
     /// The look into the held shard.
     Find(Request<K, V, D>),
     /// The growth of the held shard's list, which has no room for the new pair.
-    Grow(K, V),
+    Grow(Growth<K, V>),
     /// The new pair is added.
     Append(K, V),
     /// The call does with the pair at that place of the list, which is its key's, what it does with a pair.
@@ -31,8 +58,10 @@ pub(crate) enum Phase<K, V, D, T> {
     View(usize, K, D),
     /// The guarded pair is read.
     Read(D),
-    /// The guarded pair's value is replaced by the deed's effect.
-    Write(D),
+    /// The call does with the guarded pair what it does with a pair.
+    Change(Held<V, D>),
+    /// The value is added under a vacant guard's key.
+    Fill(V),
     /// The guard becomes shared.
     Downgrade,
     /// The hold ends, and the call is to be answered so.
@@ -58,7 +87,7 @@ pub(crate) struct Place<K, V, D, T, A: Allocator> {
     pub hold: Option<Hold>,
     /// The block of its call or session, from the position on.
     pub block: Option<usize>,
-    /// The place of the guarded pair in its shard's list, while it has a guard.
-    pub slot: Option<usize>,
+    /// Its guard, while it has one.
+    pub guard: Option<Guard<K>>,
     pub phase: Phase<K, V, D, T>,
 }

@@ -11,7 +11,7 @@ ghost use Rattle.mapworld.specs.Steps.{Starts, Admits};
 
 use crate::blocks::count_in;
 use crate::holds::{Hold, take_hold};
-use crate::moves::{enter, guard_of, is_last, mode_of, start_counts, start_phase, start_shard};
+use crate::moves::{enter, is_last, mode_of, start_call, start_counts, start_shard};
 use crate::place::Phase;
 use crate::step::Step;
 use crate::world_core::Core;
@@ -42,12 +42,13 @@ pub(crate) fn start<
     let Some(ask) = place.asks.pop_front() else {
         unreachable!()
     };
-    let guard = guard_of(place);
-    let counts = start_counts(&ask, guard, place.block);
     place.started = Some(number);
     place.closes = is_last(&ask);
     place.shard = start_shard(&core.hasher, shards, &ask, place.shard);
-    enter(&mut place.phase, start_phase(ask, guard));
+    let (phase, guard) = start_call(ask, mem::replace(&mut place.guard, None));
+    let counts = start_counts(&phase, place.block);
+    place.guard = guard;
+    enter(&mut place.phase, phase);
     count_in(&mut core.blocks, counts, place.next);
     core.count = number;
     core.steps = core.steps.appended(&step);

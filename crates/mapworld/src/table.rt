@@ -1,12 +1,16 @@
 //! A shard's table: a plain list of pairs.
-ghost use Rattle.std.specs.Prelude.{◌≡◌, ◌+◌, ◌<◌, true, if◌then◌else◌, is_some, position, slice_get, slice_set, vec_len, vec_capacity, Some};
-ghost use Rattle.std.specs.Option.{option_and_then};
+ghost use Rattle.std.specs.Prelude.{◌≡◌, ◌+◌, ◌<◌, true, false, if◌then◌else◌, is_some, position, slice_get, slice_set, vec_len, vec_capacity, Some, None};
+ghost use Rattle.std.specs.Option.{option_and_then, option_map};
 ghost use Rattle.mapworld_calls.specs.Pairs.{has_key, pair_of};
-ghost use Rattle.mapworld_calls.specs.Calls.{keyed_answer, keyed_leaves};
+ghost use Rattle.mapworld_calls.specs.Calls.{pair_in, keyed_answer, keyed_leaves, held_answer, held_leaves};
+ghost use Rattle.mapworld.specs.declared.place.Guard.TheVariants as guard;
+ghost use Rattle.mapworld.specs.Moves.{lent, is_change, ends_guard, takes_pair};
 ghost use Rattle.mapworld.specs.Steps.{put_back};
 ghost use Rattle.mapworld.specs.World.{deeds_of};
 
-use mapworld_calls::{Answer, Deed, Keyed};
+use crate::moves::takes_pair;
+use crate::place::{Guard, Way};
+use mapworld_calls::{Answer, Deed, Held, Keyed};
 use std::alloc::Allocator;
 
 /// The first place at which a pair of the key stands.
@@ -22,24 +26,6 @@ pub(crate) fn slot_of<K: Eq, V>(pairs: &[(K, V)], key: &K) -> Option<usize>
     ensures pair { pair_of K.eq pairs.now key.now ≡ option_and_then (λ i. slice_get pairs.now i) result }
 {
     first_of(pairs, key)
-}
-
-/// Stores the deed's effect in the place of a pair's value. The stored key stays, and so does the pair's place.
-pub(crate) fn store_effect<K, V, D: Deed<K, V>, A: Allocator>(
-    table: &mut Vec<(K, V), A>,
-    slot: usize,
-    deed: &D,
-)
-    requires { slot < vec_len table.old }
-    ensures items { (pair : K × V) → slice_get table.old.items slot ≡ Some pair → table.new.items ≡ slice_set table.old.items slot (pair.0, D.effect_of deed.now pair.0 pair.1) }
-    ensures len { vec_len table.new ≡ vec_len table.old }
-    ensures capacity { vec_capacity table.new ≡ vec_capacity table.old }
-{
-    let last = table.len() - 1;
-    let (key, value) = table.swap_remove(slot);
-    let value = deed.effect(&key, value);
-    table.push_reserved((key, value));
-    table.swap(slot, last);
 }
 
 /// What a call on one key does with the pair that it finds: its answer, and the pair that it leaves, if it leaves one.
@@ -128,5 +114,105 @@ pub(crate) fn apply_at<K: Drop, V: Drop, D: Deed<K, V> + Drop, A: Allocator>(
     } else {
         let (answer, _) = applied(call, table.remove(slot));
         (answer, true)
+    }
+}
+
+/// What a call on the guard does with the pair that the guard lends, if it changes it: its answer, the pair that it leaves, if
+/// it leaves one, and how the guard lends that one.
+fn changed<K: Drop, V: Drop, D: Deed<K, V> + Drop>(
+    call: Held<V, D>,
+    way: Way<K>,
+    pair: (K, V),
+) -> (Answer<K, V, D::Answer>, Option<(K, V)>, Option<Way<K>>)
+    requires { is_change call way ≡ true }
+    ensures answer { result.0 ≡ held_answer (deeds_of D.Deed) call (lent way pair) }
+    ensures pair { result.1 ≡ pair_in (held_leaves (deeds_of D.Deed) call (lent way pair)) }
+    ensures way { result.2 ≡ (if ends_guard call then None else Some way) }
+{
+    let (key, value) = pair;
+    match (call, way) {
+        (Held::Write(deed), Way::Exclusive) => {
+            let value = deed.effect(&key, value);
+            (Answer::Done, Some((key, value)), Some(Way::Exclusive))
+        }
+        (Held::Write(deed), Way::Occupied(handed)) => {
+            let value = deed.effect(&key, value);
+            (
+                Answer::Done,
+                Some((key, value)),
+                Some(Way::Occupied(handed)),
+            )
+        }
+        (Held::Insert(new), Way::Occupied(handed)) => {
+            (
+                Answer::Value(value),
+                Some((key, new)),
+                Some(Way::Occupied(handed)),
+            )
+        }
+        (Held::Remove, Way::Occupied(_)) => (Answer::Value(value), None, None),
+        (Held::RemoveEntry, Way::Occupied(_)) => (Answer::Pair(key, value), None, None),
+        (Held::ReplaceEntry(new), Way::Occupied(handed)) => {
+            (Answer::Pair(key, value), Some((handed, new)), None)
+        }
+        _ => unreachable!(),
+    }
+}
+
+/// The guard that lends the pair at that place, if any still does.
+fn guard_at<K>(way: Option<Way<K>>, slot: usize) -> Option<Guard<K>>
+    ensures { result ≡ option_map (λ kept. guard.Pair kept slot) way }
+{
+    match way {
+        Some(way) => Some(Guard::Pair(way, slot)),
+        None => None,
+    }
+}
+
+/// Stores what the call leaves in the place of the guarded pair, and gives its answer and how the guard lends it.
+fn store_changed<K: Drop, V: Drop, D: Deed<K, V> + Drop, A: Allocator>(
+    table: &mut Vec<(K, V), A>,
+    slot: usize,
+    call: Held<V, D>,
+    way: Way<K>,
+) -> (Answer<K, V, D::Answer>, Option<Way<K>>)
+    requires within { slot < vec_len table.old }
+    requires change { is_change call way ≡ true }
+    requires leaves { takes_pair call ≡ false }
+    ensures answer { (pair : K × V) → slice_get table.old.items slot ≡ Some pair → result.0 ≡ held_answer (deeds_of D.Deed) call (lent way pair) }
+    ensures way { result.1 ≡ (if ends_guard call then None else Some way) }
+    ensures items { (pair : K × V) → slice_get table.old.items slot ≡ Some pair → table.new.items ≡ put_back table.old.items slot (pair_in (held_leaves (deeds_of D.Deed) call (lent way pair))) }
+    ensures len { vec_len table.new ≡ vec_len table.old }
+    ensures capacity { vec_capacity table.new ≡ vec_capacity table.old }
+{
+    let last = table.len() - 1;
+    let (answer, left, way) = changed(call, way, table.swap_remove(slot));
+    let Some(pair) = left else { unreachable!() };
+    table.push_reserved(pair);
+    table.swap(slot, last);
+    (answer, way)
+}
+
+/// Does with the guarded pair, which stands at that place, what the call does with it: the call's answer, and the guard behind it.
+pub(crate) fn change_at<K: Drop, V: Drop, D: Deed<K, V> + Drop, A: Allocator>(
+    table: &mut Vec<(K, V), A>,
+    slot: usize,
+    call: Held<V, D>,
+    way: Way<K>,
+) -> (Answer<K, V, D::Answer>, Option<Guard<K>>)
+    requires within { slot < vec_len table.old }
+    requires change { is_change call way ≡ true }
+    ensures answer { (pair : K × V) → slice_get table.old.items slot ≡ Some pair → result.0 ≡ held_answer (deeds_of D.Deed) call (lent way pair) }
+    ensures guard { result.1 ≡ (if ends_guard call then None else Some (guard.Pair way slot)) }
+    ensures items { (pair : K × V) → slice_get table.old.items slot ≡ Some pair → table.new.items ≡ put_back table.old.items slot (pair_in (held_leaves (deeds_of D.Deed) call (lent way pair))) }
+    ensures len { vec_len table.new + (if takes_pair call then 1 else 0) ≡ vec_len table.old }
+    ensures capacity { vec_capacity table.new ≡ vec_capacity table.old }
+{
+    if takes_pair(&call) {
+        let (answer, _, way) = changed(call, way, table.remove(slot));
+        (answer, guard_at(way, slot))
+    } else {
+        let (answer, way) = store_changed(table, slot, call, way);
+        (answer, guard_at(way, slot))
     }
 }

@@ -8,7 +8,7 @@ ghost use Rattle.mapworld.specs.Running.{status_of, is_running, bound_of, refusa
 ghost use Rattle.mapworld.specs.Asleep.{IsAsleep, IsFinished};
 ghost use Rattle.mapworld.specs.Views.{shown};
 ghost use Rattle.mapworld.specs.Making.{new_refusal, IsMadeUnless, IsNew, StaysFixed};
-ghost use Rattle.mapworld.specs.Faults.{run_fault_done};
+ghost use Rattle.mapworld_faults.specs.Faults.{run_fault_done};
 ghost use Rattle.mapworld.specs.Steps.{IsStep};
 ghost use Rattle.mapworld.specs.World.{setup_of, world_setup};
 ghost use Rattle.mapworld.specs.Sound.{Sound};
@@ -18,12 +18,12 @@ ghost use Rattle.mapworld_calls.specs.Every.Agrees.{Agrees};
 ghost use Rattle.mapworld_calls.specs.Every.Placed.{WellPlaced, OnlyAdds};
 ghost use Rattle.mapworld_calls.specs.Every.Today.{as_reply};
 
-use crate::fault::{RunFault, WorldNewFault};
 use crate::step::{Status, Step};
 use crate::world_core::Core;
 use crate::{advance, contents, counts, limits, making, route, status};
 use lock_api_raw::NoMemory;
 use mapworld_calls::{Ask, Block, Deed, Reply};
+use mapworld_faults::{RunFault, WorldNewFault};
 use std::alloc::{Allocator, Global};
 use std::hash::{BuildHasher, Hash};
 use std::marker::Model;

@@ -20,7 +20,7 @@ find-requires-clause-before g c =
 
 pub grow-requires-clause-before : goal.grow-requires-clause-before
 grow-requires-clause-before g c =
-    (c.in-Grow.field-0, c.in-Grow.field-1, is_before c.args.core.now.places.items c.args.step.thread c.index.result.now (phase.Grow c.in-Grow.field-0 c.in-Grow.field-1) c.requires.thread c.index.ensures c.in-Grow.is)
+    (c.in-Grow.field-0, is_before c.args.core.now.places.items c.args.step.thread c.index.result.now (phase.Grow c.in-Grow.field-0) c.requires.thread c.index.ensures c.in-Grow.is)
 
 pub append-requires-clause-before : goal.append-requires-clause-before
 append-requires-clause-before g c =
@@ -34,9 +34,13 @@ pub read-requires-clause-before : goal.read-requires-clause-before
 read-requires-clause-before g c =
     (c.in-Read.field-0, is_before c.args.core.now.places.items c.args.step.thread c.index.result.now (phase.Read c.in-Read.field-0) c.requires.thread c.index.ensures c.in-Read.is)
 
-pub write-requires-clause-before : goal.write-requires-clause-before
-write-requires-clause-before g c =
-    (c.in-Write.field-0, is_before c.args.core.now.places.items c.args.step.thread c.index.result.now (phase.Write c.in-Write.field-0) c.requires.thread c.index.ensures c.in-Write.is)
+pub change-requires-clause-before : goal.change-requires-clause-before
+change-requires-clause-before g c =
+    (c.in-Change.field-0, is_before c.args.core.now.places.items c.args.step.thread c.index.result.now (phase.Change c.in-Change.field-0) c.requires.thread c.index.ensures c.in-Change.is)
+
+pub fill-requires-clause-before : goal.fill-requires-clause-before
+fill-requires-clause-before g c =
+    (c.in-Fill.field-0, is_before c.args.core.now.places.items c.args.step.thread c.index.result.now (phase.Fill c.in-Fill.field-0) c.requires.thread c.index.ensures c.in-Fill.is)
 
 pub release-requires-clause-before : goal.release-requires-clause-before
 release-requires-clause-before g c =

@@ -1,17 +1,18 @@
 use Rattle.std.proofs.Common.{length, Some, refl, sym, ap, ◌∙◌, arith, length-append}
 use Rattle.std.proofs.lemmas.Option.{slice_get_within}
 use Rattle.mapworld.specs.Core.{owes, lists, adds}
+use Rattle.mapworld.specs.Moves.{lent_slot}
 use Rattle.mapworld.proofs.Rooms.{shifted, same_desks}
-use Rattle.mapworld.proofs.Facts.{stands_here, phase_here, claim_at, next_fits, pair_read, read_at, session_counts, session_pair}
+use Rattle.mapworld.proofs.Facts.{stands_here, phase_here, claim_at, next_fits, pair_read, read_at, session_counts, session_pair, slot_is}
 use Rattle.mapworld.proofs.deeds.read.Goals as goal
 
-pub unreachable-requires-in_default-slot : goal.unreachable-requires-in_default-slot
-unreachable-requires-in_default-slot g c =
+pub unreachable-requires-in_default-lent_slot : goal.unreachable-requires-in_default-lent_slot
+unreachable-requires-in_default-lent_slot g c =
     let b = c.requires.before.1 in
     let p = c.index_mut-place.result.now in
     let here = stands_here b p c.index_mut-place.ensures.value in
     let claim = claim_at c.requires.sound c.args.step.thread p here (phase_here b p c.index_mut-place.ensures.value) in
-    c.in_default-slot.not-Some claim.0 claim.2
+    c.in_default-lent_slot.not-Some claim.1 (c.lent_slot.ensures ∙ ap lent_slot claim.3)
 
 pub index-table-requires : goal.index-table-requires
 index-table-requires g c =
@@ -20,7 +21,8 @@ index-table-requires g c =
     let here = stands_here b p c.index_mut-place.ensures.value in
     let before = sym c.replace.ensures.value ∙ c.in-Read.is in
     let claim = claim_at c.requires.sound c.args.step.thread p here before in
-    let lent = session_pair _ _ _ _ p p.next _ p.block c.in-Some.slot claim.3 c.in-Some.is in
+    let own = slot_is p.guard c.in-Some.slot (sym c.lent_slot.ensures ∙ c.in-Some.is) in
+    let lent = session_pair _ _ _ _ p p.next _ p.block own.0 c.in-Some.slot claim.4 own.1 in
     omega (arith, slice_get_within c.args.core.now.tables.items p.shard lent.1.table lent.1.held, c.args.core.now.tables.ok.0)
 
 pub index-pair-requires : goal.index-pair-requires
@@ -30,7 +32,8 @@ index-pair-requires g c =
     let here = stands_here b p c.index_mut-place.ensures.value in
     let before = sym c.replace.ensures.value ∙ c.in-Read.is in
     let claim = claim_at c.requires.sound c.args.step.thread p here before in
-    let lent = session_pair _ _ _ _ p p.next _ p.block c.in-Some.slot claim.3 c.in-Some.is in
+    let own = slot_is p.guard c.in-Some.slot (sym c.lent_slot.ensures ∙ c.in-Some.is) in
+    let lent = session_pair _ _ _ _ p p.next _ p.block own.0 c.in-Some.slot claim.4 own.1 in
     let table = pair_read c.args.core.now.tables.items p.shard c.index-table.result.now c.index-table.ensures c.in-Some.slot lent.0 lent.1 in
     omega (arith, slice_get_within c.index-table.result.now.items c.in-Some.slot lent.0 table.1, c.index-table.result.now.ok.0)
 
@@ -41,7 +44,7 @@ count_in-requires-clause-listed g c =
     let here = stands_here b p c.index_mut-place.ensures.value in
     let before = sym c.replace.ensures.value ∙ c.in-Read.is in
     let claim = claim_at c.requires.sound c.args.step.thread p here before in
-    let counts = session_counts _ _ _ _ p p.next _ p.block claim.3 in
+    let counts = session_counts _ _ _ _ p p.next _ p.block claim.4 in
     counts
 
 pub count_in-requires-clause-fits : goal.count_in-requires-clause-fits
@@ -59,7 +62,8 @@ returns-clause-step g c =
     let here = stands_here b p c.index_mut-place.ensures.value in
     let before = sym c.replace.ensures.value ∙ c.in-Read.is in
     let claim = claim_at c.requires.sound c.args.step.thread p here before in
-    let lent = session_pair _ _ _ _ p p.next _ p.block c.in-Some.slot claim.3 c.in-Some.is in
+    let own = slot_is p.guard c.in-Some.slot (sym c.lent_slot.ensures ∙ c.in-Some.is) in
+    let lent = session_pair _ _ _ _ p p.next _ p.block own.0 c.in-Some.slot claim.4 own.1 in
     let table = pair_read c.args.core.now.tables.items p.shard c.index-table.result.now c.index-table.ensures c.in-Some.slot lent.0 lent.1 in
     let same = read_at c.index-table.result.now.items c.in-Some.slot lent.0 c.index-pair.result.now table.1 c.index-pair.ensures in
     record {
@@ -69,8 +73,9 @@ returns-clause-step g c =
       before = before;
       table = c.index-table.result.now;
       held = table.0;
+      kind = own.0;
       slot = c.in-Some.slot;
-      guarded = c.in-Some.is;
+      guarded = own.1;
       pair = c.index-pair.result.now;
       found = table.1 ∙ ap Some (sym same);
       blocks = c.count_in.new.blocks.items;

@@ -4,6 +4,9 @@ use Rattle.std.proofs.lemmas.List.{length-map}
 use Rattle.lock_api_desk.specs.Desk.{DeskState}
 use Rattle.mapworld.specs.declared.holds.Mode.TheVariants.{Shared}
 use Rattle.mapworld.specs.declared.holds.Hold.{Hold}
+use Rattle.mapworld.specs.declared.place.Way.TheVariants as way
+use Rattle.mapworld.specs.declared.place.Guard.TheVariants as guard
+use Rattle.mapworld.specs.Moves.{lent_slot}
 use Rattle.mapworld.specs.Core.{owes, lists, adds}
 use Rattle.mapworld.proofs.Rooms.{shifted, one_turned}
 use Rattle.mapworld.proofs.Desks.{desk_read, let_share}
@@ -17,6 +20,14 @@ unreachable-requires g c =
     let here = stands_here b p c.index_mut-place.ensures.value in
     let claim = claim_at c.requires.sound c.args.step.thread p here (phase_here b p c.index_mut-place.ensures.value) in
     c.in_default.not-Some claim.3.hold claim.3.has
+
+pub unreachable-requires-in_default-lent_slot : goal.unreachable-requires-in_default-lent_slot
+unreachable-requires-in_default-lent_slot g c =
+    let b = c.requires.before in
+    let p = c.index_mut-place.result.now in
+    let here = stands_here b p c.index_mut-place.ensures.value in
+    let claim = claim_at c.requires.sound c.args.step.thread p here (phase_here b p c.index_mut-place.ensures.value) in
+    c.in_default-lent_slot.not-Some claim.0 (c.lent_slot.ensures ∙ ap lent_slot claim.2)
 
 pub index_mut-desk-requires : goal.index_mut-desk-requires
 index_mut-desk-requires g c =
@@ -65,6 +76,8 @@ returns-clause-step g c =
       place = p;
       stands = here;
       before = before;
+      slot = c.in-Some-lent_slot.slot;
+      guarded = claim.2 ∙ ap (λ z. Some (guard.Pair way.Exclusive z)) (same_Some claim.0 c.in-Some-lent_slot.slot (sym (c.lent_slot.ensures ∙ ap lent_slot claim.2) ∙ c.in-Some-lent_slot.is));
       hold = c.in-Some.hold;
       holds = c.in-Some.is;
       alone = ap (λ (z : Hold). z.mode) (same_Some c.in-Some.hold claim.3.hold (sym c.in-Some.is ∙ claim.3.has)) ∙ claim.3.mode_is;
@@ -85,7 +98,7 @@ returns-clause-room g c =
     let listed = c.requires.sound.holds.listed c.args.step.thread p c.in-Some.hold here c.in-Some.is in
     let there = desk_read c.args.core.now.desks.items c.in-Some.hold.shard listed.0 c.index_mut-desk.result.now listed.2 c.index_mut-desk.ensures.value in
     let shared : Hold = record (c.in-Some.hold) { mode = Shared } in
-    let after = record p { hold = Some shared; phase = c.enter.new.phase } in
+    let after = record p { hold = Some shared; guard = Some (guard.Pair way.Shared c.in-Some-lent_slot.slot); phase = c.enter.new.phase } in
     shifted _ _ c.args.step.thread p after c.requires.room (record {
       here = here;
       places = refl;

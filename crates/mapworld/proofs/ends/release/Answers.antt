@@ -85,7 +85,7 @@ returns-clause-room g c =
     let claim = claim_at c.requires.sound c.args.step.thread p here before in
     let listed = c.requires.sound.holds.listed c.args.step.thread p c.in-Some.hold here c.in-Some.is in
     let there = desk_read c.args.core.now.desks.items c.in-Some.hold.shard listed.0 c.index_mut-desk.result.now listed.2 c.index_mut-desk.ensures.value in
-    shifted _ _ c.args.step.thread p (record p { hold = None; slot = None; phase = c.enter.new.phase }) c.requires.room (record {
+    shifted _ _ c.args.step.thread p (record p { hold = None; guard = None; phase = c.enter.new.phase }) c.requires.room (record {
       here = here;
       places = refl;
       numbers = c.requires.numbers;
@@ -102,7 +102,7 @@ returns-clause-room g c =
       listing = omega (arith, ap lists c.enter.ensures, ap lists before, c.count_in.ensures.len);
       blocks = c.count_in.ensures.capacity;
       desks = length-set c.args.core.now.desks.items c.in-Some.hold.shard c.end_hold.new.desk;
-      holding = one_ended c.args.core.now.desks.items c.in-Some.hold.shard c.index_mut-desk.result.now there c.end_hold.new.desk c.in-Some.hold refl (record p { hold = None; slot = None; phase = c.enter.new.phase }) p c.in-Some.is refl c.end_hold.ensures
+      holding = one_ended c.args.core.now.desks.items c.in-Some.hold.shard c.index_mut-desk.result.now there c.end_hold.new.desk c.in-Some.hold refl (record p { hold = None; guard = None; phase = c.enter.new.phase }) p c.in-Some.is refl c.end_hold.ensures
           (fewer c.requires.sound.holds c.in-Some.hold.shard c.index_mut-desk.result.now there c.args.step.thread p c.in-Some.hold here c.in-Some.is refl);
       adding = omega (arith, ap adds c.enter.ensures, ap adds before);
       pairs = c.requires.room.pairs;

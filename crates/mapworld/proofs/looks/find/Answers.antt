@@ -3,7 +3,7 @@ use Rattle.std.proofs.lemmas.Option.{slice_get_read}
 use Rattle.mapworld.specs.Core.{state_of, owes, lists, adds}
 use Rattle.mapworld.specs.Listing.{AddsBlock}
 use Rattle.mapworld.specs.declared.blocks.Started.{Started}
-use Rattle.mapworld.specs.Moves.{found_done, found_slot, found_phase, block_behind}
+use Rattle.mapworld.specs.Moves.{found_done, found_guard, found_phase, block_behind}
 use Rattle.mapworld.proofs.Afters.{after_find}
 use Rattle.mapworld.proofs.Rooms.{shifted, same_desks, block_left}
 use Rattle.mapworld.proofs.Facts.{stands_here, phase_here, claim_at, way_fits}
@@ -61,11 +61,11 @@ returns-clause-step g c =
       listed = lists_block (state_of c.args.core.now) c.args.step.thread p c.found_done-done.result
           (record { thread = c.args.step.thread; call = p.next; start = c.in-Some.start }) (c.args.core.now.count + 1) c.list_block.new.blocks.items
           c.list_block.ensures.listed refl refl c.in-Some.is (ap (λ n. n + 1) c.requires.room.count);
-      after = after_find (state_of c.args.core.now) c.args.step p c.appended-core.result.items c.list_block.new.blocks.items c.block_behind-place.result c.found_slot-place.result c.enter.new.phase _ _ _
+      after = after_find (state_of c.args.core.now) c.args.step p c.appended-core.result.items c.list_block.new.blocks.items c.block_behind-place.result c.found-phase.result.1 c.enter.new.phase _ _ _
           c.appended-core.ensures
           (c.block_behind-place.ensures ∙ ap (λ n. block_behind c.found_done-done.result n p.block) (c.len-index.ensures ∙ c.args.core.now.blocks.ok.0))
-          (c.found_slot-place.ensures ∙ ap (λ i. found_slot c.in-Find.request i) c.slot_for-slot.ensures)
-          (c.enter.ensures ∙ (c.found_phase.ensures ∙ ap₂ (λ i r. found_phase c.in-Find.request i r) c.slot_for-slot.ensures c.has_room-room.ensures));
+          (ap (λ z. z.1) c.found-phase.ensures ∙ ap₂ (λ i r. found_guard c.in-Find.request i r) c.slot_for-slot.ensures c.has_room-room.ensures)
+          (c.enter.ensures ∙ (ap (λ z. z.0) c.found-phase.ensures ∙ ap₂ (λ i r. found_phase c.in-Find.request i r) c.slot_for-slot.ensures c.has_room-room.ensures));
     }
 
 pub returns-clause-room : goal.returns-clause-room
@@ -76,7 +76,7 @@ returns-clause-room g c =
     let before = sym c.replace.ensures.value ∙ c.in-Find.is in
     let slot = c.slot_for-slot.result in
     let room = c.has_room-room.result in
-    let entered = c.enter.ensures ∙ c.found_phase.ensures in
+    let entered = c.enter.ensures ∙ ap (λ z. z.0) c.found-phase.ensures in
     let weights = found_weighs c.in-Find.request slot room c.enter.new.phase entered in
     let st : Started = record { thread = c.args.step.thread; call = p.next; start = c.in-Some.start } in
     let at = c.args.core.now.count + 1 in
@@ -85,7 +85,7 @@ returns-clause-room g c =
     let listed : AddsBlock bs c.found_done-done.result st at bs' = c.list_block.ensures.listed in
     let added = subst (λ (o : Option ℕ). AddsBlock bs o st at bs') c.found_done-done.ensures listed in
     let listing = found_lists bs st at bs' c.in-Find.request slot room c.enter.new.phase entered added in
-    shifted _ _ c.args.step.thread p (record p { block = c.block_behind-place.result; slot = c.found_slot-place.result; phase = c.enter.new.phase }) c.requires.room (record {
+    shifted _ _ c.args.step.thread p (record p { block = c.block_behind-place.result; guard = c.found-phase.result.1; phase = c.enter.new.phase }) c.requires.room (record {
       here = here;
       places = refl;
       numbers = c.requires.numbers;

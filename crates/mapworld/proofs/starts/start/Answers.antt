@@ -2,7 +2,6 @@ use Rattle.std.proofs.Common.{◌+◌, length, Some, refl, sym, ap, ◌∙◌, a
 use Rattle.mapworld.specs.Core.{owes, lists, adds}
 use Rattle.mapworld.proofs.Rooms.{shifted, same_desks}
 use Rattle.mapworld.proofs.Facts.{stands_here, phase_here, claim_at, next_fits, session_counts}
-use Rattle.mapworld.specs.Moves.{guard_of, start_counts}
 use Rattle.mapworld.proofs.Adding.{starts-own}
 use Rattle.mapworld.proofs.Weights.{started_weighs}
 use Rattle.mapworld.proofs.starts.start.Goals as goal
@@ -12,7 +11,7 @@ count_in-requires-clause-listed g c i e =
     let p = c.index_mut-place.result.now in
     let here = stands_here c.requires.before p c.index_mut-place.ensures.value in
     let claim = claim_at c.requires.sound c.args.step.thread p here (phase_here c.requires.before p c.index_mut-place.ensures.value) in
-    session_counts _ _ _ _ p p.next _ p.block claim.2 i (starts-own c.in-Some.ask (guard_of p) p.block i (sym (ap (λ m. start_counts c.in-Some.ask m p.block) c.guard_of-guard.ensures) ∙ (sym c.start_counts-counts.ensures ∙ e)))
+    session_counts _ _ _ _ p p.next _ p.block claim.2 i (starts-own c.start_call-phase.result.0 p.block i (sym c.start_counts-counts.ensures ∙ e))
 
 pub count_in-requires-clause-fits : goal.count_in-requires-clause-fits
 count_in-requires-clause-fits g c =
@@ -32,8 +31,8 @@ returns-clause-step g c =
       rest = c.pop_front.new.self;
       asked = c.in-Some.ensures.items;
       blocks = c.count_in.new.blocks.items;
-      counted = rw (c.start_counts-counts.ensures, c.guard_of-guard.ensures) at c.count_in.ensures.counted;
-      after = rw (c.appended-core.ensures, c.is_last-place.ensures, c.start_shard-place.ensures, c.len-shards.ensures, c.args.core.now.tables.ok.0, c.enter.ensures, c.start_phase.ensures, c.guard_of-guard.ensures, c.requires.room.count) refl;
+      counted = rw (c.start_counts-counts.ensures, c.start_call-phase.ensures, c.replace.ensures.value) at c.count_in.ensures.counted;
+      after = rw (c.appended-core.ensures, c.is_last-place.ensures, c.start_shard-place.ensures, c.len-shards.ensures, c.args.core.now.tables.ok.0, c.enter.ensures, c.start_call-phase.ensures, c.replace.ensures.value, c.requires.room.count) refl;
     }
 
 pub returns-clause-room : goal.returns-clause-room
@@ -41,13 +40,14 @@ returns-clause-room g c =
     let p = c.index_mut-place.result.now in
     let here = stands_here c.requires.before p c.index_mut-place.ensures.value in
     let before = phase_here c.requires.before p c.index_mut-place.ensures.value in
-    let weights = started_weighs c.in-Some.ask c.guard_of-guard.result c.enter.new.phase (c.enter.ensures ∙ c.start_phase.ensures) in
+    let weights = started_weighs c.in-Some.ask c.replace.result c.enter.new.phase (c.enter.ensures ∙ ap (λ z. z.0) c.start_call-phase.ensures) in
     let asks = ap length c.in-Some.ensures.items in
     let after = record p {
       asks = c.pop_front.new.self;
       started = Some (c.args.core.now.count + 1);
       closes = c.is_last-place.result;
       shard = c.start_shard-place.result;
+      guard = c.start_call-phase.result.1;
       phase = c.enter.new.phase;
     } in
     shifted _ _ c.args.step.thread p after c.requires.room (record {

@@ -5,7 +5,7 @@ use Rattle.std.proofs.lemmas.Result.{err_from_is_err_and}
 use Rattle.mapworld.specs.Running.{refusal, Ran}
 use Rattle.mapworld.specs.Steps.{IsStep}
 use Rattle.mapworld.specs.World.{setup_of}
-use Rattle.mapworld.specs.Faults.{run_fault_done}
+use Rattle.mapworld_faults.specs.Faults.{run_fault_done}
 use Rattle.mapworld.proofs.Adding.{step-adds, adds-more, fixed-more}
 use Rattle.mapworld.proofs.Runs.{Ran-more, setup-fixed}
 use Rattle.mapworld.proofs.Setups.{setup-laws}

@@ -1,6 +1,6 @@
 //! Why a world isn't made, and why a run stops.
 ghost use Rattle.std.specs.Prelude.{◌≡◌};
-ghost use Rattle.mapworld.specs.Faults.{new_fault_code, new_fault_name, run_fault_code, run_fault_done, run_fault_name};
+ghost use Rattle.mapworld_faults.specs.Faults.{new_fault_code, new_fault_name, run_fault_code, run_fault_done, run_fault_name};
 
 use std::alloc::{AllocError, AllocFailed};
 use std::error::Error;
@@ -59,7 +59,7 @@ impl WorldNewFault {
 
 impl fmt::Display for WorldNewFault {
     ghost use Rattle.std.specs.Prelude.{Some};
-    ghost use Rattle.mapworld.specs.Faults.{new_fault_name};
+    ghost use Rattle.mapworld_faults.specs.Faults.{new_fault_name};
 
     ghost output = { λ fault. Some (new_fault_name fault) };
 
@@ -71,7 +71,7 @@ impl fmt::Display for WorldNewFault {
 impl Error for WorldNewFault {}
 
 impl From<AllocError> for WorldNewFault {
-    ghost use Rattle.mapworld.specs.declared.fault.WorldNewFault.TheVariants.{NoMemory as out_of_memory};
+    ghost use Rattle.mapworld_faults.specs.declared.fault.WorldNewFault.TheVariants.{NoMemory as out_of_memory};
     ghost use Rattle.std.specs.Prelude.{◌≡◌};
 
     ghost from_gives = { λ _ fault. fault ≡ out_of_memory };
@@ -82,7 +82,7 @@ impl From<AllocError> for WorldNewFault {
 }
 
 impl<T: Drop> From<AllocFailed<T>> for WorldNewFault {
-    ghost use Rattle.mapworld.specs.declared.fault.WorldNewFault.TheVariants.{NoMemory as out_of_memory};
+    ghost use Rattle.mapworld_faults.specs.declared.fault.WorldNewFault.TheVariants.{NoMemory as out_of_memory};
     ghost use Rattle.std.specs.Prelude.{◌≡◌};
 
     ghost from_gives = { λ _ fault. fault ≡ out_of_memory };
@@ -141,7 +141,7 @@ impl RunFault {
 
 impl fmt::Display for RunFault {
     ghost use Rattle.std.specs.Prelude.{Some};
-    ghost use Rattle.mapworld.specs.Faults.{run_fault_name};
+    ghost use Rattle.mapworld_faults.specs.Faults.{run_fault_name};
 
     ghost output = { λ fault. Some (run_fault_name fault) };
 

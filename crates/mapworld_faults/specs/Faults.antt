@@ -1,9 +1,9 @@
 -- The numbers and the names of the faults.
 use Rattle.std.specs.Prelude.{ℕ, List, codes}
-use Rattle.mapworld.specs.declared.fault.WorldNewFault.{WorldNewFault}
-use Rattle.mapworld.specs.declared.fault.WorldNewFault.TheVariants as new_fault
-use Rattle.mapworld.specs.declared.fault.RunFault.{RunFault}
-use Rattle.mapworld.specs.declared.fault.RunFault.TheVariants as run_fault
+use Rattle.mapworld_faults.specs.declared.fault.WorldNewFault.{WorldNewFault}
+use Rattle.mapworld_faults.specs.declared.fault.WorldNewFault.TheVariants as new_fault
+use Rattle.mapworld_faults.specs.declared.fault.RunFault.{RunFault}
+use Rattle.mapworld_faults.specs.declared.fault.RunFault.TheVariants as run_fault
 
 abbrev pub new_fault_code : WorldNewFault → ℕ
 new_fault_code new_fault.BadShards = 31
