@@ -4,33 +4,21 @@ ghost use Rattle.std.specs.Arc.{arc_value};
 ghost use Rattle.std.specs.Fn.{FnOnceReturnsAt};
 
 use crate::arc_fault::ReentrantArcFault;
-use crate::reentrant::ReentrantMutex;
-use lock_api_guards::{ArcGuard, ArcHold, FairHold, HasValue, Hold, ReentrantHold, lent};
-use lock_api_raw::{GetThreadId, GuardNoSend, RawMutex, RawMutexFair, RawMutexTimed};
+use crate::reentrant::{Nested, ReentrantMutex};
+use lock_api_guards::{ArcGuard, HasValue, lent};
+use lock_api_raw::{GetThreadId, RawMutex, RawMutexTimed};
+use lock_api_rw::RawHold;
 use std::alloc::{Allocator, Global};
 use std::rt::Clock;
 use std::sync::{Arc, Wait};
-
-/// One nested hold that owns an Arc of its mutex: the Arc, and the token of the hold.
-pub struct OwnedReentrant<
-    R: RawMutex + Drop,
-    G: GetThreadId<Party = R::Party> + Drop,
-    T,
-    A: Allocator,
->
-where
-    R::Runtime: Wait,
-{
-    lock: Arc<ReentrantMutex<R, G, T>, A>,
-    token: GuardNoSend,
-    ghost ours: { token ≡ (arc_value lock).raw.number },
-}
 
 /// The guard of one nested hold that owns an Arc of its mutex.
 ///
 /// It keeps the token alone, and takes the std lock of the value inside `with`. Its drop takes one from the count, and
 /// then lets the Arc go.
-pub type ArcReentrantMutexGuard<R, G, T, A = Global> = ArcGuard<OwnedReentrant<R, G, T, A>>;
+pub type ArcReentrantMutexGuard<R, G, T, A = Global> = ArcGuard<
+    RawHold<Arc<ReentrantMutex<R, G, T>, A>, Nested>,
+>;
 
 impl<R: RawMutex + Drop, G: GetThreadId<Party = R::Party> + Drop, T: Drop> ReentrantMutex<R, G, T>
 where
@@ -41,14 +29,12 @@ where
         this: &Arc<ReentrantMutex<R, G, T>, A>,
         party: &mut R::Party,
     ) -> Result<ArcReentrantMutexGuard<R, G, T, A>, ReentrantArcFault>
-        ensures lock { IfOk result (λ guard. arc_value guard.hold.lock ≡ arc_value this.now) }
+        ensures lock { IfOk result (λ guard. arc_value guard.hold.place ≡ arc_value this.now) }
         ensures refused { OnErr result (party.new ≡ party.old) }
     {
         let lock = Arc::try_clone(this)?;
         let token = lock.raw.lock(party)?;
-        Ok(ArcGuard {
-            hold: OwnedReentrant { lock, token },
-        })
+        Ok(ArcGuard::over(RawHold::new(lock, token)))
     }
 
     /// Clones the Arc, and then tries. A refused clone takes no lock, and a full count changes nothing.
@@ -56,13 +42,11 @@ where
         this: &Arc<ReentrantMutex<R, G, T>, A>,
         party: &R::Party,
     ) -> Result<Option<ArcReentrantMutexGuard<R, G, T, A>>, ReentrantArcFault>
-        ensures { IfOk result (λ some. IfSome some (λ guard. arc_value guard.hold.lock ≡ arc_value this.now)) }
+        ensures { IfOk result (λ some. IfSome some (λ guard. arc_value guard.hold.place ≡ arc_value this.now)) }
     {
         let lock = Arc::try_clone(this)?;
         match lock.raw.try_lock(party)? {
-            Some(token) => Ok(Some(ArcGuard {
-                hold: OwnedReentrant { lock, token },
-            })),
+            Some(token) => Ok(Some(ArcGuard::over(RawHold::new(lock, token)))),
             None => Ok(None),
         }
     }
@@ -77,14 +61,12 @@ where
     where
         R: RawMutexTimed,
         R::Duration: Drop,
-        ensures lock { IfOk result (λ some. IfSome some (λ guard. arc_value guard.hold.lock ≡ arc_value this.now)) }
+        ensures lock { IfOk result (λ some. IfSome some (λ guard. arc_value guard.hold.place ≡ arc_value this.now)) }
         ensures refused { OnErr result (party.new ≡ party.old) }
     {
         let lock = Arc::try_clone(this)?;
         match lock.raw.try_lock_for(timeout, clock, party)? {
-            Some(token) => Ok(Some(ArcGuard {
-                hold: OwnedReentrant { lock, token },
-            })),
+            Some(token) => Ok(Some(ArcGuard::over(RawHold::new(lock, token)))),
             None => Ok(None),
         }
     }
@@ -99,94 +81,14 @@ where
     where
         R: RawMutexTimed,
         R::Instant: Drop,
-        ensures lock { IfOk result (λ some. IfSome some (λ guard. arc_value guard.hold.lock ≡ arc_value this.now)) }
+        ensures lock { IfOk result (λ some. IfSome some (λ guard. arc_value guard.hold.place ≡ arc_value this.now)) }
         ensures refused { OnErr result (party.new ≡ party.old) }
     {
         let lock = Arc::try_clone(this)?;
         match lock.raw.try_lock_until(deadline, clock, party)? {
-            Some(token) => Ok(Some(ArcGuard {
-                hold: OwnedReentrant { lock, token },
-            })),
+            Some(token) => Ok(Some(ArcGuard::over(RawHold::new(lock, token)))),
             None => Ok(None),
         }
-    }
-}
-
-impl<R: RawMutex + Drop, G: GetThreadId<Party = R::Party> + Drop, T: Drop, A: Allocator> Hold
-    for OwnedReentrant<R, G, T, A>
-where
-    R::Runtime: Wait,
-{
-    type Lock = ReentrantMutex<R, G, T>;
-
-    type Runtime = R::Runtime;
-
-    type Party = R::Party;
-
-    type Apart = Arc<ReentrantMutex<R, G, T>, A>;
-
-    ghost lock_of = { λ hold. arc_value hold.lock };
-
-    ghost apart_of = { λ lock. arc_value lock };
-
-    fn lock(&self) -> &ReentrantMutex<R, G, T> {
-        &*self.lock
-    }
-
-    fn release(self) -> Arc<ReentrantMutex<R, G, T>, A> {
-        let OwnedReentrant { lock, token } = self;
-        lock.raw.unlock(token);
-        lock
-    }
-
-    fn again(
-        lock: Arc<ReentrantMutex<R, G, T>, A>,
-        party: &mut R::Party,
-    ) -> OwnedReentrant<R, G, T, A> {
-        let token = lock.hold_again(party);
-        OwnedReentrant { lock, token }
-    }
-}
-
-impl<R: RawMutex + Drop, G: GetThreadId<Party = R::Party> + Drop, T: Drop, A: Allocator> ArcHold
-    for OwnedReentrant<R, G, T, A>
-where
-    R::Runtime: Wait,
-{
-    fn arc(&self) -> &Arc<ReentrantMutex<R, G, T>, A> {
-        &self.lock
-    }
-}
-
-impl<
-    R: RawMutex + Drop,
-    G: GetThreadId<Party = R::Party> + Drop,
-    T: Drop,
-    A: Allocator,
-> ReentrantHold for OwnedReentrant<R, G, T, A>
-where
-    R::Runtime: Wait,
-{}
-
-impl<
-    R: RawMutexFair + Drop,
-    G: GetThreadId<Party = R::Party> + Drop,
-    T: Drop,
-    A: Allocator,
-> FairHold for OwnedReentrant<R, G, T, A>
-where
-    R::Runtime: Wait,
-{
-    fn release_fair(self) -> Arc<ReentrantMutex<R, G, T>, A> {
-        let OwnedReentrant { lock, token } = self;
-        lock.raw.unlock_fair(token);
-        lock
-    }
-
-    fn bump(self, party: &mut R::Party) -> OwnedReentrant<R, G, T, A> {
-        let OwnedReentrant { lock, token } = self;
-        let token = lock.raw.bump(token, party);
-        OwnedReentrant { lock, token }
     }
 }
 

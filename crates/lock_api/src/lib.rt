@@ -26,7 +26,7 @@ mod timed_out;
 
 pub use arc_fault::ReentrantArcFault;
 pub use arc_mutex::ArcMutexGuard;
-pub use arc_reentrant::{ArcReentrantMutexGuard, OwnedReentrant};
+pub use arc_reentrant::ArcReentrantMutexGuard;
 pub use condvar::Condvar;
 pub use lock_api_desk::{
     Desk, DeskCall, DeskFault, DeskRunFault, Mode, PackedWord, RawState, TokenTable,
@@ -45,7 +45,5 @@ pub use lock_api_rw::{
 };
 pub use mutex::{MappedMutexGuard, Mutex, MutexGuard};
 pub use raw_reentrant::RawReentrantMutex;
-pub use reentrant::{
-    LockedReentrant, MappedReentrantMutexGuard, ReentrantMutex, ReentrantMutexGuard,
-};
+pub use reentrant::{MappedReentrantMutexGuard, Nested, ReentrantMutex, ReentrantMutexGuard};
 pub use timed_out::WaitTimeoutResult;

@@ -1,6 +1,7 @@
 //! A raw mutex that its owner may take again.
-ghost use Rattle.std.specs.Prelude.{◌≡◌, ◌-◌, ◌^◌, IfSome, IfOk, OnErr};
+ghost use Rattle.std.specs.Prelude.{◌≡◌, ◌-◌, ◌^◌, Option, IfSome, IfOk, OnErr};
 ghost use Rattle.lock_api_raw.specs.Limits.{kept_limit};
+ghost use Rattle.lock_api.specs.Leaves.{Left};
 
 use counted_slot::{Claim, Counted, FREE, Fits, TAKEN};
 use lock_api_raw::{
@@ -174,6 +175,14 @@ where
 
     /// Takes one from the count, and with the last the raw token.
     fn leave(&self) -> Option<R::Guard>
+        ensures issued { IfSome result (λ token. R.issued_by token ≡ R.number self.now.raw) }
+        ensures left { Left result }
+    {
+        self.take_one()
+    }
+
+    /// The same, of which nothing is told but whose the token is.
+    fn take_one(&self) -> Option<R::Guard>
         ensures { IfSome result (λ token. R.issued_by token ≡ R.number self.now.raw) }
     {
         let depth = self.depth.load(Ordering::SeqCst);
@@ -205,6 +214,19 @@ where
         Ok(self.begin(token, party))
     }
 
+    /// Waits for a hold. Where the count is full it yields and tries again until there is room.
+    pub(crate) fn lock_again(&self, party: &mut R::Party) -> GuardNoSend
+        ensures { result ≡ self.now.number }
+    {
+        for _ in self.raw.runtime().forever() {
+            match self.lock(party) {
+                Ok(token) => return token,
+                Err(ReadersFull) => thread::yield_now(),
+            }
+        }
+        unreachable!()
+    }
+
     /// As `lock`, but `Ok(None)` where another party holds it.
     pub fn try_lock(&self, party: &R::Party) -> Result<Option<GuardNoSend>, ReadersFull>
         ensures { IfOk result (λ some. IfSome some (λ token. token ≡ self.now.number)) }
@@ -233,6 +255,7 @@ where
     where
         R: RawMutexFair,
         requires { guard ≡ self.now.number }
+        ensures { (token : Option R.Guard) × Left token × IfSome token (λ last. R.spent_fairly last) }
     {
         guard.spend();
         if let Some(token) = self.leave() {

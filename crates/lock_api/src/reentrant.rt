@@ -3,15 +3,16 @@ ghost use Rattle.std.specs.Prelude.{◌≡◌, ◌-◌, ◌^◌, IfSome, IfOk, O
 ghost use Rattle.lock_api_raw.specs.Limits.{kept_limit};
 
 use crate::raw_reentrant::RawReentrantMutex;
-use lock_api_guards::{Access, FairHold, Guard, Hold, Mapped, ReentrantHold};
+use lock_api_guards::{Guard, Mapped};
 use lock_api_raw::{
     GetThreadId, GuardNoSend, MakeLock, RawMutex, RawMutexFair, RawMutexTimed, ReadersFull,
     TableFull,
 };
+use lock_api_rw::{FairMode, HasRaw, LockValue, Mode, Nests, RawHold};
 use std::fmt::Debug;
 use std::rt::Clock;
 use std::sync::Wait;
-use std::{fmt, sync, thread};
+use std::{fmt, sync};
 
 /// A mutex that its owner may take again, and a value that its guards read.
 ///
@@ -25,28 +26,23 @@ where
     pub(crate) value: sync::RwLock<T>,
 }
 
-/// One nested hold of a reentrant mutex: the mutex, and the token of the hold.
-pub struct LockedReentrant<'l, R: RawMutex + Drop, G: GetThreadId<Party = R::Party> + Drop, T>
-where
-    R::Runtime: Wait,
-{
-    pub(crate) lock: &'l ReentrantMutex<R, G, T>,
-    pub(crate) token: GuardNoSend,
-    pub(crate) ghost ours: { token ≡ lock.now.raw.number },
-}
+/// The mode of a hold of a reentrant mutex, which may nest.
+pub struct Nested;
+
+impl Nests for Nested {}
 
 /// The guard of one nested hold, which lends the value to be read.
 ///
 /// Its drop gives the std lock back, and then takes one from the count.
 pub type ReentrantMutexGuard<'l, R, G, T> = Guard<
     sync::RwLockReadGuard<'l, T>,
-    LockedReentrant<'l, R, G, T>,
+    RawHold<&'l ReentrantMutex<R, G, T>, Nested>,
 >;
 
 /// A reentrant guard that is narrowed to a part of the value.
 pub type MappedReentrantMutexGuard<'l, R, G, T, P> = Mapped<
     sync::RwLockReadGuard<'l, T>,
-    LockedReentrant<'l, R, G, T>,
+    RawHold<&'l ReentrantMutex<R, G, T>, Nested>,
     P,
 >;
 
@@ -128,7 +124,7 @@ where
         &self,
         party: &mut R::Party,
     ) -> Result<ReentrantMutexGuard<'_, R, G, T>, ReadersFull>
-        ensures lock { IfOk result (λ guard. guard.held.0.lock.now ≡ self.now) }
+        ensures lock { IfOk result (λ guard. guard.held.0.place.now ≡ self.now) }
         ensures refused { OnErr result (party.new ≡ party.old) }
     {
         let token = self.raw.lock(party)?;
@@ -138,9 +134,9 @@ where
     /// The guard of a hold.
     fn guard(&self, token: GuardNoSend) -> ReentrantMutexGuard<'_, R, G, T>
         requires { token ≡ self.now.raw.number }
-        ensures { result.held.0.lock.now ≡ self.now }
+        ensures { result.held.0.place.now ≡ self.now }
     {
-        Guard::under(LockedReentrant { lock: self, token })
+        Guard::under(RawHold::new(self, token))
     }
 
     /// Takes the std lock of the value, by its own try first.
@@ -157,13 +153,13 @@ where
         &self,
         party: &R::Party,
     ) -> Result<Option<ReentrantMutexGuard<'_, R, G, T>>, ReadersFull>
-        ensures { IfOk result (λ some. IfSome some (λ guard. guard.held.0.lock.now ≡ self.now)) }
+        ensures { IfOk result (λ some. IfSome some (λ guard. guard.held.0.place.now ≡ self.now)) }
     {
         let Some(inner) = self.value.try_read() else {
             return Ok(None);
         };
         match self.raw.try_lock(party)? {
-            Some(token) => Ok(Some(Guard::over(LockedReentrant { lock: self, token }, inner))),
+            Some(token) => Ok(Some(Guard::over(RawHold::new(self, token), inner))),
             None => Ok(None),
         }
     }
@@ -178,7 +174,7 @@ where
     where
         R: RawMutexTimed,
         R::Duration: Drop,
-        ensures lock { IfOk result (λ some. IfSome some (λ guard. guard.held.0.lock.now ≡ self.now)) }
+        ensures lock { IfOk result (λ some. IfSome some (λ guard. guard.held.0.place.now ≡ self.now)) }
         ensures refused { OnErr result (party.new ≡ party.old) }
     {
         match self.raw.try_lock_for(timeout, clock, party)? {
@@ -197,7 +193,7 @@ where
     where
         R: RawMutexTimed,
         R::Instant: Drop,
-        ensures lock { IfOk result (λ some. IfSome some (λ guard. guard.held.0.lock.now ≡ self.now)) }
+        ensures lock { IfOk result (λ some. IfSome some (λ guard. guard.held.0.place.now ≡ self.now)) }
         ensures refused { OnErr result (party.new ≡ party.old) }
     {
         match self.raw.try_lock_until(deadline, clock, party)? {
@@ -205,90 +201,85 @@ where
             None => Ok(None),
         }
     }
-
-    /// Waits for a hold. At a full count it yields and tries again until there is room.
-    pub(crate) fn hold_again(&self, party: &mut R::Party) -> GuardNoSend
-        ensures { result ≡ self.now.raw.number }
-    {
-        for _ in self.raw.raw().runtime().forever() {
-            match self.raw.lock(party) {
-                Ok(token) => return token,
-                Err(ReadersFull) => thread::yield_now(),
-            }
-        }
-        unreachable!()
-    }
 }
 
-impl<'l, R: RawMutex + Drop, G: GetThreadId<Party = R::Party> + Drop, T> Hold
-    for LockedReentrant<'l, R, G, T>
+impl<R: RawMutex + Drop, G: GetThreadId<Party = R::Party> + Drop, T> HasRaw
+    for ReentrantMutex<R, G, T>
 where
     R::Runtime: Wait,
 {
-    type Lock = ReentrantMutex<R, G, T>;
+    type Raw = RawReentrantMutex<R, G>;
 
-    type Runtime = R::Runtime;
+    ghost raw_of = { λ mutex. mutex.raw };
 
-    type Party = R::Party;
-
-    type Apart = &'l ReentrantMutex<R, G, T>;
-
-    ghost lock_of = { λ hold. hold.lock.now };
-
-    ghost apart_of = { λ lock. lock.now };
-
-    fn lock(&self) -> &ReentrantMutex<R, G, T> {
-        self.lock
-    }
-
-    fn release(self) -> &'l ReentrantMutex<R, G, T> {
-        let LockedReentrant { lock, token } = self;
-        lock.raw.unlock(token);
-        lock
-    }
-
-    fn again(
-        lock: &'l ReentrantMutex<R, G, T>,
-        party: &mut R::Party,
-    ) -> LockedReentrant<'l, R, G, T> {
-        let token = lock.hold_again(party);
-        LockedReentrant { lock, token }
+    fn raw(&self) -> &RawReentrantMutex<R, G> {
+        &self.raw
     }
 }
 
-impl<R: RawMutex + Drop, G: GetThreadId<Party = R::Party> + Drop, T> ReentrantHold
-    for LockedReentrant<'_, R, G, T>
-where
-    R::Runtime: Wait,
-{}
-
-impl<'l, R: RawMutex + Drop, G: GetThreadId<Party = R::Party> + Drop, T> Access
-    for LockedReentrant<'l, R, G, T>
+impl<'l, R: RawMutex + Drop, G: GetThreadId<Party = R::Party> + Drop, T: 'l> LockValue<'l, Nested>
+    for ReentrantMutex<R, G, T>
 where
     R::Runtime: Wait,
 {
     type Inner = sync::RwLockReadGuard<'l, T>;
 
-    fn access(&self) -> sync::RwLockReadGuard<'l, T> {
-        self.lock.inner()
+    fn access(&'l self) -> sync::RwLockReadGuard<'l, T>
+    where
+        R::Runtime: Wait,
+    {
+        self.inner()
     }
 }
 
-impl<'l, R: RawMutexFair + Drop, G: GetThreadId<Party = R::Party> + Drop, T> FairHold
-    for LockedReentrant<'l, R, G, T>
+impl<R: RawMutex + Drop, G: GetThreadId<Party = R::Party> + Drop> Mode<RawReentrantMutex<R, G>>
+    for Nested
 where
     R::Runtime: Wait,
 {
-    fn release_fair(self) -> &'l ReentrantMutex<R, G, T> {
-        let LockedReentrant { lock, token } = self;
-        lock.raw.unlock_fair(token);
-        lock
+    type Token = GuardNoSend;
+
+    type Runtime = R::Runtime;
+
+    type Party = R::Party;
+
+    ghost number = { λ raw. raw.number };
+
+    ghost issued_by = { λ token. token };
+
+    fn lock(raw: &RawReentrantMutex<R, G>, party: &mut R::Party) -> GuardNoSend
+    where
+        R::Runtime: Wait,
+    {
+        raw.lock_again(party)
     }
 
-    fn bump(self, party: &mut R::Party) -> LockedReentrant<'l, R, G, T> {
-        let LockedReentrant { lock, token } = self;
-        let token = lock.raw.bump(token, party);
-        LockedReentrant { lock, token }
+    fn unlock(raw: &RawReentrantMutex<R, G>, token: GuardNoSend)
+    where
+        R::Runtime: Wait,
+    {
+        raw.unlock(token);
+    }
+}
+
+impl<R: RawMutexFair + Drop, G: GetThreadId<Party = R::Party> + Drop> FairMode<
+    RawReentrantMutex<R, G>,
+> for Nested
+where
+    R::Runtime: Wait,
+{
+    fn unlock_fair(raw: &RawReentrantMutex<R, G>, token: GuardNoSend)
+    where
+        R::Runtime: Wait,
+    {
+        raw.unlock_fair(token);
+    }
+
+    fn bump(raw: &RawReentrantMutex<R, G>, token: GuardNoSend, party: &mut R::Party) -> GuardNoSend
+    where
+        R::Runtime: Wait,
+    {
+        raw.bump(token, party)
     }
 }
 

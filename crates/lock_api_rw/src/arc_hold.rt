@@ -2,7 +2,7 @@
 ghost use Rattle.std.specs.Prelude.{◌≡◌, IfOk, IfSome, OnErr};
 ghost use Rattle.std.specs.Arc.{arc_value};
 
-use crate::mode::{Mode, TimedMode};
+use crate::mode::{Mode, TimedMode, TryMode};
 use crate::raw_hold::{HasRaw, RawHold};
 use lock_api_raw::NoMemory;
 use std::alloc::Allocator;
@@ -22,7 +22,9 @@ impl<L: HasRaw + Drop, A: Allocator, M: Mode<L::Raw>> RawHold<Arc<L, A>, M> {
     {
         Ok(RawHold::wait(Arc::try_clone(this)?, party))
     }
+}
 
+impl<L: HasRaw + Drop, A: Allocator, M: TryMode<L::Raw>> RawHold<Arc<L, A>, M> {
     /// Clones the Arc, and then tries. A refused clone takes no lock.
     pub fn at_once_by_clone(this: &Arc<L, A>) -> Result<Option<RawHold<Arc<L, A>, M>>, NoMemory>
         ensures { IfOk result (λ found. IfSome found (λ hold. arc_value hold.place ≡ arc_value this.now)) }

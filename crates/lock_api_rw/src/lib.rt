@@ -19,7 +19,9 @@ pub use lock_api_guards::{
     HasValueMut, Held, Hold, Lender, LenderMut, Mapped, MutexHold, ReentrantHold, RestoreHold,
     RwLockHold, TimedUpgradeHold, UpgradeHold, WriteHold, lent, lent_mut,
 };
-pub use mode::{Exclusive, FairMode, Locked, Mode, Shared, TimedMode, Upgradable, Writes};
+pub use mode::{
+    Exclusive, FairMode, Locked, Mode, Nests, Shared, TimedMode, TryMode, Upgradable, Writes,
+};
 pub use raw_hold::{HasRaw, LockValue, Place, RawHold};
 pub use rwlock::{
     MappedRwLockReadGuard, MappedRwLockWriteGuard, RwLock, RwLockReadGuard,

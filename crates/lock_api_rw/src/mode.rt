@@ -31,15 +31,18 @@ pub trait Mode<R> {
         Self::Runtime: Wait,
         ensures { issued_by result ≡ number raw.now };
 
-    /// A hold at once, or None.
-    fn try_lock(raw: &R) -> Option<Self::Token>
-        ensures { IfSome result (λ token. issued_by token ≡ number raw.now) };
-
     /// Gives a hold up.
     fn unlock(raw: &R, token: Self::Token)
     where
         Self::Runtime: Wait,
         requires { issued_by token ≡ number raw.now };
+}
+
+/// A mode whose try needs no more than the raw lock. For the layer above.
+pub trait TryMode<R>: Mode<R> {
+    /// A hold at once, or None.
+    fn try_lock(raw: &R) -> Option<Self::Token>
+        ensures { IfSome result (λ token. Self.issued_by token ≡ Self.number raw.now) };
 }
 
 /// A mode whose release can be fair. For the layer above.
@@ -104,6 +107,9 @@ impl Writes for Exclusive {}
 
 impl Writes for Locked {}
 
+/// A mode whose holds nest: who has one may have another. For the layer above.
+pub trait Nests {}
+
 /// The mode of those that read beside each other.
 pub struct Shared;
 
@@ -136,16 +142,18 @@ impl<R: RawRwLock> Mode<R> for Shared {
     }
 
     #[inline(always)]
-    fn try_lock(raw: &R) -> Option<R::SharedGuard> {
-        raw.try_lock_shared()
-    }
-
-    #[inline(always)]
     fn unlock(raw: &R, token: R::SharedGuard)
     where
         R::Runtime: Wait,
     {
         raw.unlock_shared(token);
+    }
+}
+
+impl<R: RawRwLock> TryMode<R> for Shared {
+    #[inline(always)]
+    fn try_lock(raw: &R) -> Option<R::SharedGuard> {
+        raw.try_lock_shared()
     }
 }
 
@@ -219,16 +227,18 @@ impl<R: RawRwLock> Mode<R> for Exclusive {
     }
 
     #[inline(always)]
-    fn try_lock(raw: &R) -> Option<R::ExclusiveGuard> {
-        raw.try_lock_exclusive()
-    }
-
-    #[inline(always)]
     fn unlock(raw: &R, token: R::ExclusiveGuard)
     where
         R::Runtime: Wait,
     {
         raw.unlock_exclusive(token);
+    }
+}
+
+impl<R: RawRwLock> TryMode<R> for Exclusive {
+    #[inline(always)]
+    fn try_lock(raw: &R) -> Option<R::ExclusiveGuard> {
+        raw.try_lock_exclusive()
     }
 }
 
@@ -302,16 +312,18 @@ impl<R: RawRwLockUpgrade> Mode<R> for Upgradable {
     }
 
     #[inline(always)]
-    fn try_lock(raw: &R) -> Option<R::UpgradableGuard> {
-        raw.try_lock_upgradable()
-    }
-
-    #[inline(always)]
     fn unlock(raw: &R, token: R::UpgradableGuard)
     where
         R::Runtime: Wait,
     {
         raw.unlock_upgradable(token);
+    }
+}
+
+impl<R: RawRwLockUpgrade> TryMode<R> for Upgradable {
+    #[inline(always)]
+    fn try_lock(raw: &R) -> Option<R::UpgradableGuard> {
+        raw.try_lock_upgradable()
     }
 }
 
@@ -385,16 +397,18 @@ impl<R: RawMutex> Mode<R> for Locked {
     }
 
     #[inline(always)]
-    fn try_lock(raw: &R) -> Option<R::Guard> {
-        raw.try_lock()
-    }
-
-    #[inline(always)]
     fn unlock(raw: &R, token: R::Guard)
     where
         R::Runtime: Wait,
     {
         raw.unlock(token);
+    }
+}
+
+impl<R: RawMutex> TryMode<R> for Locked {
+    #[inline(always)]
+    fn try_lock(raw: &R) -> Option<R::Guard> {
+        raw.try_lock()
     }
 }
 

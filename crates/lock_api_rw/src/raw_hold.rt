@@ -1,8 +1,8 @@
 //! A hold of any mode, of a lock that is borrowed or owned.
 ghost use Rattle.std.specs.Prelude.{◌≡◌, IfSome};
 
-use crate::mode::{FairMode, Locked, Mode, TimedMode, Writes};
-use lock_api_guards::{Access, ArcHold, FairHold, Hold, MutexHold, WriteHold};
+use crate::mode::{FairMode, Locked, Mode, Nests, TimedMode, TryMode, Writes};
+use lock_api_guards::{Access, ArcHold, FairHold, Hold, MutexHold, ReentrantHold, WriteHold};
 use lock_api_raw::RawMutex;
 use std::alloc::Allocator;
 use std::marker::{Model, PhantomData};
@@ -136,7 +136,9 @@ impl<L: Place, M: Mode<<L::Lock as HasRaw>::Raw>> RawHold<L, M> {
         let token = M::lock(place.lock().raw(), party);
         RawHold::new(place, token)
     }
+}
 
+impl<L: Place, M: TryMode<<L::Lock as HasRaw>::Raw>> RawHold<L, M> {
     /// A hold at once, or None.
     #[inline(always)]
     pub fn at_once(place: L) -> Option<RawHold<L, M>>
@@ -236,6 +238,8 @@ impl<R: RawMutex, L: Place + Drop> MutexHold for RawHold<L, Locked>
 where
     L::Lock: HasRaw<Raw = R>,
 {}
+
+impl<L: Place + Drop, M: Mode<<L::Lock as HasRaw>::Raw> + Nests> ReentrantHold for RawHold<L, M> {}
 
 impl<L: Place + Drop, M: FairMode<<L::Lock as HasRaw>::Raw>> FairHold for RawHold<L, M> {
     ghost left_fairly = { λ hold _. M.spent_fairly hold.token };

@@ -21,7 +21,9 @@ pub use counter::{
     Counter, CounterGuard, Tally, any_lock_and_look, count, counted_by, lock_and_look,
 };
 pub use entry::Entry;
-pub use nested::{Nested, NestedGuard, any_read_twice, nest, nested_seen_by, read_twice};
+pub use nested::{
+    Nested, NestedGuard, Nesting, any_read_twice, nest, nested_seen_by, read_again, read_twice,
+};
 pub use number::{
     Number, NumberReader, NumberWriter, add, overwrite, read, seen_by, write_and_look, writer_of,
 };

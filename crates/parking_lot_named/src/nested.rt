@@ -38,7 +38,7 @@ pub fn nest<'m, 't, 'l, R: Wait, A: Allocator>(
     mutex: &'m Nested<'t, 'l, R, A>,
     me: &mut ThreadData<A>,
 ) -> Result<NestedGuard<'m, 't, 'l, R, A>, ReadersFull>
-    ensures { IfOk result (λ guard. guard.held.0.lock.now ≡ mutex.now) }
+    ensures { IfOk result (λ guard. guard.held.0.place.now ≡ mutex.now) }
 {
     mutex.lock(me)
 }
@@ -48,6 +48,37 @@ pub fn nested_seen_by<R: Wait, A: Allocator>(guard: &NestedGuard<'_, '_, '_, R, 
     ensures { result ≡ read_guard_value guard.now.inner }
 {
     **guard
+}
+
+/// What it lends, read twice in a row.
+pub fn read_again<R: Wait, A: Allocator>(guard: NestedGuard<'_, '_, '_, R, A>) -> (u64, u64)
+    ensures { result ≡ (read_guard_value guard.inner, read_guard_value guard.inner) }
+{
+    (*guard, *guard)
+}
+
+/// A guard that a user keeps in a field, with the number that it lent at first.
+#[derive(Drop)]
+pub struct Nesting<'m, 't, 'l, R: Wait, A: Allocator = Global> {
+    guard: NestedGuard<'m, 't, 'l, R, A>,
+    first: u64,
+}
+
+impl<'m, 't, 'l, R: Wait, A: Allocator> Nesting<'m, 't, 'l, R, A> {
+    /// Keeps a guard.
+    pub fn new(guard: NestedGuard<'m, 't, 'l, R, A>) -> Nesting<'m, 't, 'l, R, A>
+        ensures { result.first ≡ read_guard_value result.guard.inner }
+    {
+        let first = *guard;
+        Nesting { guard, first }
+    }
+
+    /// What it lends.
+    pub fn seen(&self) -> u64
+        ensures { result ≡ read_guard_value self.now.guard.inner }
+    {
+        *self.guard
+    }
 }
 
 /// The same over any raw mutex.
