@@ -1,6 +1,7 @@
 //! The reentrant mutex, and the hold that its guards keep.
 ghost use Rattle.std.specs.Prelude.{◌≡◌, ◌-◌, ◌^◌, IfSome, IfOk, OnErr};
 ghost use Rattle.lock_api_raw.specs.Limits.{kept_limit};
+ghost use Rattle.lock_api.specs.Leaves.{EndedFairly, BumpedAlone};
 
 use crate::raw_reentrant::RawReentrantMutex;
 use lock_api_guards::{Guard, Mapped};
@@ -268,6 +269,10 @@ impl<R: RawMutexFair + Drop, G: GetThreadId<Party = R::Party> + Drop> FairMode<
 where
     R::Runtime: Wait,
 {
+    ghost spent_fairly = { λ _. EndedFairly R.spent_fairly };
+
+    ghost bumped = { λ _ _. BumpedAlone R.bumped };
+
     fn unlock_fair(raw: &RawReentrantMutex<R, G>, token: GuardNoSend)
     where
         R::Runtime: Wait,
