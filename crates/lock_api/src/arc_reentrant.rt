@@ -6,7 +6,7 @@ ghost use Rattle.std.specs.Fn.{FnOnceReturnsAt};
 use crate::arc_fault::ReentrantArcFault;
 use crate::reentrant::{Nested, ReentrantMutex};
 use lock_api_guards::{ArcGuard, HasValue, lent};
-use lock_api_raw::{GetThreadId, RawMutex, RawMutexTimed};
+use lock_api_raw::{GetThreadId, GuardNoSend, RawMutex, RawMutexTimed};
 use lock_api_rw::RawHold;
 use std::alloc::{Allocator, Global};
 use std::rt::Clock;
@@ -19,6 +19,19 @@ use std::sync::{Arc, Wait};
 pub type ArcReentrantMutexGuard<R, G, T, A = Global> = ArcGuard<
     RawHold<Arc<ReentrantMutex<R, G, T>, A>, Nested>,
 >;
+
+/// The hold of a token that the mutex issued.
+fn hold_by<R: RawMutex + Drop, G: GetThreadId<Party = R::Party> + Drop, T: Drop, A: Allocator>(
+    lock: Arc<ReentrantMutex<R, G, T>, A>,
+    token: GuardNoSend,
+) -> RawHold<Arc<ReentrantMutex<R, G, T>, A>, Nested>
+where
+    R::Runtime: Wait,
+    requires { token ≡ (arc_value lock).raw.number }
+    ensures { result.place ≡ lock }
+{
+    RawHold::new(lock, token)
+}
 
 impl<R: RawMutex + Drop, G: GetThreadId<Party = R::Party> + Drop, T: Drop> ReentrantMutex<R, G, T>
 where
@@ -34,7 +47,7 @@ where
     {
         let lock = Arc::try_clone(this)?;
         let token = lock.raw.lock(party)?;
-        Ok(ArcGuard::over(RawHold::new(lock, token)))
+        Ok(ArcGuard::over(hold_by(lock, token)))
     }
 
     /// Clones the Arc, and then tries. A refused clone takes no lock, and a full count changes nothing.
@@ -46,7 +59,7 @@ where
     {
         let lock = Arc::try_clone(this)?;
         match lock.raw.try_lock(party)? {
-            Some(token) => Ok(Some(ArcGuard::over(RawHold::new(lock, token)))),
+            Some(token) => Ok(Some(ArcGuard::over(hold_by(lock, token)))),
             None => Ok(None),
         }
     }
@@ -66,7 +79,7 @@ where
     {
         let lock = Arc::try_clone(this)?;
         match lock.raw.try_lock_for(timeout, clock, party)? {
-            Some(token) => Ok(Some(ArcGuard::over(RawHold::new(lock, token)))),
+            Some(token) => Ok(Some(ArcGuard::over(hold_by(lock, token)))),
             None => Ok(None),
         }
     }
@@ -86,7 +99,7 @@ where
     {
         let lock = Arc::try_clone(this)?;
         match lock.raw.try_lock_until(deadline, clock, party)? {
-            Some(token) => Ok(Some(ArcGuard::over(RawHold::new(lock, token)))),
+            Some(token) => Ok(Some(ArcGuard::over(hold_by(lock, token)))),
             None => Ok(None),
         }
     }
