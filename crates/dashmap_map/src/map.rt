@@ -29,7 +29,7 @@ pub struct DashMap<K: Eq + Hash, V, S: BuildHasher, Q, A: Allocator = Global> {
 }
 
 impl<K: Eq + Hash, V, S: BuildHasher, Q, A: Allocator> Model for DashMap<K, V, S, Q, A> {
-    ghost use Rattle.std.specs.Prelude.{length};
+    ghost use Rattle.std.specs.Prelude.{◌≡◌, length};
     ghost use Rattle.dashmap_table.specs.Route.{IsShardAmount};
     ghost use Rattle.dashmap_map.specs.Locked.{Locked};
 

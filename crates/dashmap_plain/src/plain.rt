@@ -27,7 +27,7 @@ pub trait Plain<K: Eq + Hash, V, S: BuildHasher, Q, A: Allocator>: Sized {
     fn into_shards(self) -> Vec<Shard<K, V, A>, A>
         ensures { length result.items ≡ length (seen self).locks };
 
-    /// The pairs, shards in order.
+    /// The pairs, one after another, shards in order.
     fn into_iter(self) -> OwningIter<K, V, A>;
 
     /// A view, for any number of readers.
@@ -53,7 +53,7 @@ impl<K: Eq + Hash + Drop, V: Drop, S: BuildHasher + Drop, Q: Drop, A: Allocator>
     }
 
     fn into_iter(self) -> OwningIter<K, V, A> {
-        OwningIter::new(self.into_shards())
+        Unlocked::of(self).into_pairs()
     }
 
     fn into_read_only(

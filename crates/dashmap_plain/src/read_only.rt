@@ -32,7 +32,7 @@ pub struct ReadOnlyView<K: Eq + Hash, V, S: BuildHasher, Q, A: Allocator = Globa
 }
 
 impl<K: Eq + Hash, V, S: BuildHasher, Q, A: Allocator> Model for ReadOnlyView<K, V, S, Q, A> {
-    ghost use Rattle.std.specs.Prelude.{length};
+    ghost use Rattle.std.specs.Prelude.{◌≡◌, length};
     ghost use Rattle.dashmap_plain.specs.Opened.{Opened};
 
     ghost Value = { Opened K V S Q };

@@ -1,14 +1,15 @@
 //! A map that is taken apart.
 ghost use Rattle.std.specs.Prelude.{◌≡◌, length, IfOk, IfErr};
 ghost use Rattle.dashmap_table.specs.Route.{IsShardAmount};
-ghost use Rattle.dashmap_view.specs.Views.{AreRouted};
+ghost use Rattle.dashmap_table.specs.Shards.{AreSharded};
+ghost use Rattle.dashmap_view.specs.Views.{AreRouted, all_pairs};
 
 use crate::exchange::exchange_all;
 use crate::read_only::ReadOnlyView;
 use crossbeam_utils::CachePadded;
 use dashmap_map::DashMap;
 use dashmap_table::Shard;
-use dashmap_view::{Displaced, PlainView};
+use dashmap_view::{Displaced, OwningIter, PlainView};
 use lock_api_rw::RwLock;
 use std::alloc::{Allocator, Global};
 use std::hash::{BuildHasher, Hash};
@@ -26,7 +27,7 @@ pub struct Unlocked<K: Eq + Hash, V, S: BuildHasher, Q, A: Allocator = Global> {
 }
 
 impl<K: Eq + Hash, V, S: BuildHasher, Q, A: Allocator> Model for Unlocked<K, V, S, Q, A> {
-    ghost use Rattle.std.specs.Prelude.{length};
+    ghost use Rattle.std.specs.Prelude.{◌≡◌, length};
     ghost use Rattle.dashmap_table.specs.Route.{IsShardAmount};
     ghost use Rattle.dashmap_plain.specs.Opened.{Opened};
 
@@ -37,6 +38,13 @@ impl<K: Eq + Hash, V, S: BuildHasher, Q, A: Allocator> Model for Unlocked<K, V, 
     ghost invariant = { λ u. IsShardAmount (length u.shards.items) × (length u.locks.items ≡ length u.shards.items) };
 }
 
+/// The parts of a map that is taken apart: its shards, the locks that they stood behind, and its hasher.
+type Parts<K, V, S, Q, A> = (
+    Vec<Shard<K, V, A>, A>,
+    Vec<CachePadded<RwLock<Q, Shard<K, V, A>>>, A>,
+    S,
+);
+
 impl<K: Eq + Hash, V, S: BuildHasher, Q, A: Allocator> Unlocked<K, V, S, Q, A> {
     /// Takes a map apart. That it is owned shows that nobody holds a shard.
     pub fn of(map: DashMap<K, V, S, Q, A>) -> Unlocked<K, V, S, Q, A>
@@ -46,11 +54,7 @@ impl<K: Eq + Hash, V, S: BuildHasher, Q, A: Allocator> Unlocked<K, V, S, Q, A> {
     {
         let (mut locks, mut shards, hasher) = map.into_parts();
         exchange_all(&mut locks, &mut shards);
-        Unlocked {
-            shards,
-            locks,
-            hasher,
-        }
+        Unlocked::of_parts(shards, locks, hasher)
     }
 
     /// The map again, each shard behind its lock.
@@ -58,30 +62,22 @@ impl<K: Eq + Hash, V, S: BuildHasher, Q, A: Allocator> Unlocked<K, V, S, Q, A> {
         ensures locks { result.locks ≡ self.locks }
         ensures hasher { result.hasher ≡ self.plain.hasher }
     {
-        let Unlocked {
-            mut shards,
-            mut locks,
-            hasher,
-        } = self;
+        let (mut shards, mut locks, hasher) = self.into_parts();
         exchange_all(&mut locks, &mut shards);
         DashMap::from_parts(locks, shards, hasher)
     }
 
-    /// The shards, in their order. The locks go; their rows stay used.
-    pub fn into_shards(self) -> Vec<Shard<K, V, A>, A>
+    /// As many other shards in place of these, which are let go.
+    pub fn with_shards(self, shards: Vec<Shard<K, V, A>, A>) -> Unlocked<K, V, S, Q, A>
     where
         K: Drop,
         V: Drop,
-        S: Drop,
-        Q: Drop,
-        ensures { result.items ≡ self.plain.tables }
+        requires { length shards.items ≡ length self.plain.tables }
+        ensures plain { result.plain ≡ record { tables = shards.items; hasher = self.plain.hasher } }
+        ensures locks { result.locks ≡ self.locks }
     {
-        let Unlocked {
-            shards,
-            locks: _,
-            hasher: _,
-        } = self;
-        shards
+        let (_, locks, hasher) = self.into_parts();
+        Unlocked::of_parts(shards, locks, hasher)
     }
 
     /// A view of the shards.
@@ -94,25 +90,27 @@ impl<K: Eq + Hash, V, S: BuildHasher, Q, A: Allocator> Unlocked<K, V, S, Q, A> {
         ensures view { IfOk result (λ v. v ≡ self) }
         ensures displaced { IfErr result (λ back. (back ≡ self) × ¬ AreRouted S.BuildHasher S.Hasher.Hasher K.hash_input self.plain.hasher self.plain.tables) }
     {
-        let Unlocked {
-            shards,
-            locks,
-            hasher,
-        } = self;
+        let (shards, locks, hasher) = self.into_parts();
         match PlainView::of(shards, hasher) {
             Ok(plain) => Ok(ReadOnlyView::of_parts(plain, locks)),
             Err(back) => {
                 let (shards, hasher) = back.into_map();
-                Err(Displaced::new(Unlocked {
-                    shards,
-                    locks,
-                    hasher,
-                }))
+                Err(Displaced::new(Unlocked::of_parts(shards, locks, hasher)))
             }
         }
     }
 
-    /// Puts what was taken apart together again. For views.
+    /// A view of shards whose pairs are known to be in the shards of their routes. It tests nothing.
+    pub fn into_view(self) -> ReadOnlyView<K, V, S, Q, A>
+        requires { AreSharded S.BuildHasher S.Hasher.Hasher K.hash_input K.eq self.plain }
+        ensures { result ≡ self }
+    {
+        let (shards, locks, hasher) = self.into_parts();
+        let plain = PlainView::from_parts(shards, hasher);
+        ReadOnlyView::of_parts(plain, locks)
+    }
+
+    /// Puts what was taken apart together again.
     pub(crate) fn of_parts(
         shards: Vec<Shard<K, V, A>, A>,
         locks: Vec<CachePadded<RwLock<Q, Shard<K, V, A>>>, A>,
@@ -128,5 +126,44 @@ impl<K: Eq + Hash, V, S: BuildHasher, Q, A: Allocator> Unlocked<K, V, S, Q, A> {
             locks,
             hasher,
         }
+    }
+
+    /// The shards, the locks and the hasher.
+    pub(crate) fn into_parts(self) -> Parts<K, V, S, Q, A>
+        ensures shards { result.0.items ≡ self.plain.tables }
+        ensures locks { result.1.items ≡ self.locks }
+        ensures hasher { result.2 ≡ self.plain.hasher }
+        ensures amount { IsShardAmount (length self.plain.tables) }
+        ensures as_many { length self.locks ≡ length self.plain.tables }
+    {
+        let Unlocked {
+            shards,
+            locks,
+            hasher,
+        } = self;
+        (shards, locks, hasher)
+    }
+}
+
+impl<K: Eq + Hash + Drop, V: Drop, S: BuildHasher + Drop, Q: Drop, A: Allocator> Unlocked<
+    K,
+    V,
+    S,
+    Q,
+    A,
+> {
+    /// The shards, in their order. The locks go; their rows stay used.
+    pub fn into_shards(self) -> Vec<Shard<K, V, A>, A>
+        ensures { result.items ≡ self.plain.tables }
+    {
+        let (shards, _, _) = self.into_parts();
+        shards
+    }
+
+    /// The pairs, one after another, shards in order. The locks go; their rows stay used.
+    pub fn into_pairs(self) -> OwningIter<K, V, A>
+        ensures { result ≡ all_pairs self.plain.tables }
+    {
+        OwningIter::new(self.into_shards())
     }
 }

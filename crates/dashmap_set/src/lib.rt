@@ -5,10 +5,14 @@
 //! (`Q::Party`) last, and a guard that it gives keeps that borrow.
 #![tactic(auto)]
 
+mod alone;
+mod clone;
+pub mod iter_set;
 mod keyed;
 mod make;
 mod set;
 pub mod setref;
+mod show;
 mod whole;
 
 pub use set::DashSet;

@@ -7,7 +7,7 @@ use mapworld_calls::SpreadState;
 use std::hash::Hash;
 
 /// A set whose locks are words that are tried again and again.
-pub type Set<K> = DashSet<K, SpreadState, PackedLock<HostRuntime>>;
+pub type Set<K, R = HostRuntime> = DashSet<K, SpreadState, PackedLock<R>>;
 
 /// An empty set.
 pub fn set_of<K: Eq + Hash + Drop>(rt: HostRuntime) -> Result<Set<K>, MapFault> {
