@@ -1,7 +1,7 @@
 -- A thread is asleep where another thread's hold excludes the admission that it is before, and finished where all its calls
 -- are answered.
 use Rattle.std.proofs.Common.{◌≡◌, ◌≢◌, ◌↔◌, ℕ, ◌+◌, ◌-◌, ◌≤◌, Bool, true, false, if◌then◌else◌, List, length, drop, Option, Some, None, slice_get, refl, ap, sym, ◌∙◌, subst, ◌==◌, arith, length-drop}
-use Rattle.std.proofs.lemmas.Option.{none-some, same_Some, slice_get_past, slice_get_within}
+use Rattle.std.proofs.lemmas.Option.{none-some, same_Some}
 use Rattle.std.proofs.lemmas.Bool.{cond-true, eqb-true}
 use Rattle.mapworld_calls.specs.Setup.{Setup}
 use Rattle.mapworld.specs.declared.step.Status.{Status}
@@ -169,11 +169,3 @@ module _ {K V S D T A : Type 0} (x : Setup K V D T) (w : State K V S D T A) (sou
 
   pub status-finished : (r : Status) → r ≡ status_of w t → (r ≡ status.Finished) ↔ IsFinished w t
   status-finished r is = (λ h. finished_there (sym is ∙ h), λ h. is ∙ finished_back h)
-
--- a thread that the world doesn't have is neither asleep nor in a call
-module _ {K V S D T A : Type 0} (w : State K V S D T A) (t : ℕ) (past : length w.places ≤ t) (same : length w.places ≡ length w.programs) where
-  pub status_past : status_of w t ≡ status.Finished
-  status_past = ap (λ o. status_at w.places o) (slice_get_past w.places t past)
-
-  pub finished_past : IsFinished w t
-  finished_past program has = absurd (let below = slice_get_within w.programs t program has in omega (arith, below, past, same))

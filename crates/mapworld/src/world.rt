@@ -91,8 +91,7 @@ impl<K: Eq + Hash, V, S: BuildHasher, D: Deed<K, V>, A: Allocator> MapWorld<K, V
         contents::pair_in(&self.core.tables[shard], key)
     }
 
-    /// The pairs of the map as it is now, lent one after another, calls half done included. Their order may be any. It takes
-    /// no memory and cannot fail.
+    /// The pairs of the map as it is now, lent one after another, in any order. It takes no memory and cannot fail.
     pub fn pairs(&self) -> Pairs<'_, K, V, A>
         ensures { result ≡ pairs_of self.now }
     {
@@ -144,7 +143,10 @@ impl<K: Eq + Hash, V, S: BuildHasher, D: Deed<K, V>, A: Allocator> MapWorld<K, V
     pub fn started(&self, thread: usize) -> Option<u64>
         ensures { result ≡ started_of self.now thread }
     {
-        self.core.places.get(thread)?.started
+        if thread >= self.core.places.len() {
+            return None;
+        }
+        self.core.places[thread].started
     }
 
     /// Whether a step of the thread would be done: it is `Running`. A thread that the world doesn't have can't move.
