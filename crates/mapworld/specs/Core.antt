@@ -1,5 +1,10 @@
 -- What the code keeps of a world, and how much room it has.
-use Rattle.std.specs.Prelude.{◌≡◌, ℕ, ◌+◌, ◌<◌, ◌≤◌, ◌^◌, if◌then◌else◌, List, length, map, Option, Some, None, ◌==◌, slice_get, sum_by, vec_capacity}
+use Rattle.std.specs.Prelude.{◌≡◌, ℕ, Bool, ◌+◌, ◌<◌, ◌≤◌, ◌^◌, if◌then◌else◌, List, length, map, Option, Some, None, ◌==◌, slice_get, sum_by, vec_capacity}
+use Rattle.std.specs.Hash.{HashWrites}
+use Rattle.std.specs.declared.hash.BuildHasher as builder
+use Rattle.std.specs.declared.hash.Hasher as hasher
+use Rattle.mapworld_calls.specs.declared.deed.Deed as deed
+use Rattle.mapworld_calls.specs.Setup.{Setup}
 use Rattle.lock_api_desk.specs.Desk.{DeskState}
 use Rattle.mapworld.specs.declared.holds.Hold.{Hold}
 use Rattle.mapworld.specs.declared.place.Phase.{Phase}
@@ -8,7 +13,10 @@ use Rattle.mapworld.specs.declared.world_core.Core.{Core}
 use Rattle.mapworld.specs.Classes.{class_of, answers_owed, blocks_left, pairs_left}
 use Rattle.mapworld.specs.Route.{IsWorldAmount}
 use Rattle.mapworld.specs.State.{State, pairs_of}
+use Rattle.mapworld.specs.declared.step.Step.{Step}
 use Rattle.mapworld.specs.Running.{unanswered_of}
+use Rattle.mapworld.specs.Sound.{Sound}
+use Rattle.mapworld.specs.World.{setup_of}
 
 abbrev pub state_of : {K V S D T A : Type 0} → Core K V S D T A → State K V S D T A
 state_of c = record {
@@ -82,3 +90,12 @@ pub record IsBefore {K V D T A : Type 0} (places : List (Place K V D T A)) (t : 
   pub place : Place K V D T A
   pub stands : slice_get places t ≡ Some place
   pub before : place.phase ≡ ph
+
+-- what is kept is a sound world with its own setup
+abbrev pub IsSoundCore : {K V S H D T A : Type 0} → deed.Ghosts D K V T → builder.Ghosts S H → hasher.Ghosts H → (K → K → Bool) → (K → HashWrites) → Core K V S D T A → Type 0
+IsSoundCore d b h eq writes c = Sound (setup_of d b h eq writes (state_of c)) (state_of c)
+
+-- a step of that kind leads from the one to the other
+abbrev pub MakesStep : {K V S H D T A : Type 0} → (Setup K V D T → State K V S D T A → Step → State K V S D T A → Type 0)
+    → deed.Ghosts D K V T → builder.Ghosts S H → hasher.Ghosts H → (K → K → Bool) → (K → HashWrites) → Core K V S D T A → Step → Core K V S D T A → Type 0
+MakesStep kind d b h eq writes c s c' = kind (setup_of d b h eq writes (state_of c)) (state_of c) s (state_of c')

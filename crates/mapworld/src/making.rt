@@ -1,10 +1,9 @@
 //! How a world is made.
 ghost use Rattle.std.specs.Prelude.{◌≡◌, ◌≤◌, ◌^◌, length, map, sum_by, IfOk};
 ghost use Rattle.mapworld.specs.Making.{new_refusal, IsNew};
-ghost use Rattle.mapworld.specs.World.{setup_of, AgreesWithBlocks, HasPlacedBlocks};
-ghost use Rattle.mapworld.specs.Sound.{Sound};
+ghost use Rattle.mapworld.specs.World.{AgreesWithBlocks, HasPlacedBlocks};
 ghost use Rattle.mapworld.specs.Held.{HoldsMatch};
-ghost use Rattle.mapworld.specs.Core.{state_of, Room};
+ghost use Rattle.mapworld.specs.Core.{state_of, IsSoundCore, Room};
 
 use crate::beginning::{desks_of, empty_tables, fill, places_of};
 use crate::world_core::Core;
@@ -40,8 +39,7 @@ pub(crate) fn core_of<
     requires { new_refusal shards (length pairs.items) (map (λ program. program.items) programs.items) ≡ None }
     ensures new { let asked = map (λ program. program.items) programs.items in
         IfOk result (λ core. IsNew K.eq shards hasher pairs.items asked (state_of core)) }
-    ensures sound { IfOk result (λ core. let world = state_of core in
-        Sound (setup_of D.Deed S.BuildHasher S.Hasher.Hasher K.eq K.hash_input world) world) }
+    ensures sound { IfOk result (IsSoundCore D.Deed S.BuildHasher S.Hasher.Hasher K.eq K.hash_input) }
     ensures room { IfOk result Room }
     ensures agrees { IfOk result (λ core. AgreesWithBlocks D.Deed S.BuildHasher S.Hasher.Hasher K.eq K.hash_input (state_of core)) }
     ensures placed { IfOk result (λ core. HasPlacedBlocks D.Deed S.BuildHasher S.Hasher.Hasher K.eq K.hash_input (state_of core)) }

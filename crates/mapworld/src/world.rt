@@ -57,13 +57,11 @@ impl<K: Eq + Hash, V, S: BuildHasher, D: Deed<K, V>, A: Allocator> Model
 
     ghost Value = { State K V S D D.Answer A };
 
-    ghost use Rattle.mapworld.specs.Core.{state_of, Room};
-    ghost use Rattle.mapworld.specs.Sound.{Sound};
-    ghost use Rattle.mapworld.specs.World.{setup_of};
+    ghost use Rattle.mapworld.specs.Core.{state_of, IsSoundCore, Room};
 
     ghost view = { λ w. state_of w.core };
 
-    ghost invariant = { λ w. Sound (setup_of D.Deed S.BuildHasher S.Hasher.Hasher K.eq K.hash_input (state_of w.core)) (state_of w.core) × Room w.core };
+    ghost invariant = { λ w. IsSoundCore D.Deed S.BuildHasher S.Hasher.Hasher K.eq K.hash_input w.core × Room w.core };
 }
 
 impl<K: Eq + Hash, V, S: BuildHasher, D: Deed<K, V>, A: Allocator> MapWorld<K, V, S, D, A> {
