@@ -85,17 +85,17 @@ impl<K: Eq + Hash, V, S: BuildHasher, Q, A: Allocator> DashMap<K, V, S, Q, A> {
     /// Puts a map together of shards behind their locks, as many without pairs, and a hasher. Each pair has to be in the shard of its
     /// route, or its key doesn't find it. For the layer above.
     pub fn from_parts(
-        shards: Vec<CachePadded<RwLock<Q, Shard<K, V, A>>>, A>,
+        locks: Vec<CachePadded<RwLock<Q, Shard<K, V, A>>>, A>,
         spare: Vec<Shard<K, V, A>, A>,
         hasher: S,
     ) -> DashMap<K, V, S, Q, A>
-        requires amount { IsShardAmount (length shards.items) }
-        requires spare { length spare.items ≡ length shards.items }
-        ensures locks { result.locks ≡ shards.items }
+        requires amount { IsShardAmount (length locks.items) }
+        requires spare { length spare.items ≡ length locks.items }
+        ensures locks { result.locks ≡ locks.items }
         ensures hasher { result.hasher ≡ hasher }
     {
         DashMap {
-            shards,
+            shards: locks,
             spare,
             hasher,
         }

@@ -1,0 +1,3 @@
+//! Walks over sets.
+
+pub use dashmap_set::iter_set::OwningIter;
