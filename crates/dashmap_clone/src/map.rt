@@ -9,7 +9,7 @@ use crate::rows::fault_without_memory;
 use dashmap_map::DashMap;
 use dashmap_plain::Unlocked;
 use dashmap_table::{MapFault, Shard};
-use dashmap_view::clone_shard;
+use dashmap_view::{clone_hasher, clone_shard};
 use lock_api_raw::{MakeLock, NoMemory, RawRwLock};
 use lock_api_rw::RwLock;
 use std::alloc::Allocator;
@@ -82,14 +82,6 @@ where
         clones.push(clone_behind(&**lock, alloc.clone()?, td)?)?;
     }
     Ok(clones)
-}
-
-/// A clone of a hasher, which has to be equal to it.
-pub(crate) fn clone_hasher<S: Clone>(hasher: &S) -> Result<S, NoMemory>
-    requires { (hasher copy : S) → S.is_clone hasher copy → copy ≡ hasher }
-    ensures { IfOk result (λ copy. copy ≡ hasher.now) }
-{
-    Ok(hasher.clone()?)
 }
 
 /// A map of these shards, each behind a new lock, taken apart.

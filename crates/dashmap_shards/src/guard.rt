@@ -5,7 +5,8 @@ use dashmap_table::Shard;
 use lock_api_guards::{Guard, Hold, Lender};
 use lock_api_raw::RawRwLock;
 use lock_api_rw::{Exclusive, RawHold, RwLock, Shared};
-use std::alloc::Global;
+use std::alloc::{Allocator, Global};
+use std::hash::Hash;
 use std::marker::{Model, PhantomData};
 use std::ops::Deref;
 use std::sync;
@@ -84,4 +85,28 @@ where
     fn deref(&self) -> &W::Part {
         self.guard.look()
     }
+}
+
+/// Waits for a shared hold of the shard behind a lock.
+pub(crate) fn hold_to_read<'m, 'd, K: Eq + Hash, V, Q: RawRwLock, A: Allocator>(
+    lock: &'m RwLock<Q, Shard<K, V, A>>,
+    td: &'d mut Q::Party,
+) -> ShardReadGuard<'m, 'd, K, V, Q, A>
+where
+    Q::Runtime: Wait,
+    ensures { result.held.0.place.now ≡ lock.now }
+{
+    ShardGuard::new(lock.read(td))
+}
+
+/// Waits for an exclusive hold of the shard behind a lock.
+pub(crate) fn hold_to_write<'m, 'd, K: Eq + Hash, V, Q: RawRwLock, A: Allocator>(
+    lock: &'m RwLock<Q, Shard<K, V, A>>,
+    td: &'d mut Q::Party,
+) -> ShardWriteGuard<'m, 'd, K, V, Q, A>
+where
+    Q::Runtime: Wait,
+    ensures { result.held.0.place.now ≡ lock.now }
+{
+    ShardGuard::new(lock.write(td))
 }

@@ -2,7 +2,7 @@
 ghost use Rattle.std.specs.Prelude.{◌≡◌, ◌<◌, length, Some, IfSome};
 ghost use Rattle.dashmap_map.specs.Locked.{Locked, lock_at};
 
-use crate::guard::{ShardGuard, ShardReadGuard, ShardWriteGuard};
+use crate::guard::{ShardGuard, ShardReadGuard, ShardWriteGuard, hold_to_read, hold_to_write};
 use crate::view::ShardsView;
 use dashmap_map::DashMap;
 use lock_api_raw::RawRwLock;
@@ -83,7 +83,7 @@ impl<K: Eq + Hash, V, S: BuildHasher, Q: RawRwLock, A: Allocator> Looks<K, V, S,
     where
         Q::Runtime: Wait,
     {
-        ShardGuard::new(self.shard_locks()[shard].read(td))
+        hold_to_read(self.shards().lock(shard), td)
     }
 
     fn _yield_write_shard<'m, 'd>(
@@ -94,7 +94,7 @@ impl<K: Eq + Hash, V, S: BuildHasher, Q: RawRwLock, A: Allocator> Looks<K, V, S,
     where
         Q::Runtime: Wait,
     {
-        ShardGuard::new(self.shard_locks()[shard].write(td))
+        hold_to_write(self.shards().lock(shard), td)
     }
 
     fn _try_yield_read_shard<'m>(
@@ -104,7 +104,7 @@ impl<K: Eq + Hash, V, S: BuildHasher, Q: RawRwLock, A: Allocator> Looks<K, V, S,
     where
         Q::Runtime: Wait,
     {
-        Some(ShardGuard::new(self.shard_locks()[shard].try_read()?))
+        Some(ShardGuard::new(self.shards().lock(shard).try_read()?))
     }
 
     fn _try_yield_write_shard<'m>(
@@ -114,6 +114,6 @@ impl<K: Eq + Hash, V, S: BuildHasher, Q: RawRwLock, A: Allocator> Looks<K, V, S,
     where
         Q::Runtime: Wait,
     {
-        Some(ShardGuard::new(self.shard_locks()[shard].try_write()?))
+        Some(ShardGuard::new(self.shards().lock(shard).try_write()?))
     }
 }

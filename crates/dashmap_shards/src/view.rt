@@ -1,11 +1,13 @@
 //! A look at the shards of a map.
-ghost use Rattle.std.specs.Prelude.{◌≡◌, ◌≤◌, length, Some, MatchOption};
+ghost use Rattle.std.specs.Prelude.{◌≡◌, ◌<◌, ◌≤◌, length, Some, MatchOption};
 ghost use Rattle.dashmap_table.specs.Route.{IsShardAmount};
 ghost use Rattle.dashmap_map.specs.Locked.{lock_at};
 
-use crate::guard::{ShardGuard, ShardReadGuard};
+use crate::guard::{ShardReadGuard, hold_to_read};
 use dashmap_map::DashMap;
+use dashmap_table::Shard;
 use lock_api_raw::RawRwLock;
+use lock_api_rw::RwLock;
 use std::alloc::{Allocator, Global};
 use std::hash::{BuildHasher, Hash};
 use std::marker::Model;
@@ -59,7 +61,18 @@ impl<'m, K: Eq + Hash, V, S: BuildHasher, Q, A: Allocator> ShardsView<'m, K, V, 
         Q::Runtime: Wait,
         ensures { MatchOption result (length self.now.locks ≤ shard) (λ g. lock_at self.now shard ≡ Some g.held.0.place.now) }
     {
-        let lock = self.map.shard_locks().get(shard)?;
-        Some(ShardGuard::new(lock.read(td)))
+        if shard < self.count() {
+            Some(hold_to_read(self.lock(shard), td))
+        } else {
+            None
+        }
+    }
+
+    /// A shard behind its lock.
+    pub(crate) fn lock(&self, shard: usize) -> &'m RwLock<Q, Shard<K, V, A>>
+        requires { shard < length self.now.locks }
+        ensures { lock_at self.now shard ≡ Some result.now }
+    {
+        &*self.map.shard_locks()[shard]
     }
 }

@@ -34,15 +34,18 @@ module _ {K V : Type 0} (eq : K → K → Bool) (old new : List (Table K V)) (cl
   ]
 
   module _ {S H : Type 0} (b : builder.Ghosts S H) (h : hasher.Ghosts H) (input : K → HashWrites) (s : S) where
+    abbrev with_tables : List (Table K V) → Tables K V S
+    with_tables tables = record { tables = tables; hasher = s }
+
     -- a key has the same shard
-    same_shard : (k : K) → key_shard b h input {V = V} (record { tables = new; hasher = s }) k ≡ key_shard b h input {V = V} (record { tables = old; hasher = s }) k
+    same_shard : (k : K) → key_shard b h input (with_tables new) k ≡ key_shard b h input (with_tables old) k
     same_shard k = ap (λ n. route_of (key_hash b h input s k) n) as_many
 
     -- every key finds what it found
     pub pairs-cloned : (k : K) → pair_at b h input eq (record { tables = new; hasher = s }) k ≡ pair_at b h input eq (record { tables = old; hasher = s }) k
     pairs-cloned k =
         ap (λ n. option_map pair_of (entry_of eq (table_at new n).slots (key_hash b h input s k) k)) (same_shard k)
-        ∙ ap (option_map pair_of) ((clone-at (key_shard b h input {V = V} (record { tables = old; hasher = s }) k)).pairs.found (key_hash b h input s k) k)
+        ∙ ap (option_map pair_of) ((clone-at (key_shard b h input (with_tables old) k)).pairs.found (key_hash b h input s k) k)
 
     -- each pair is where it was
     pub sharded-cloned : IsEquivalence eq → AreSharded b h input eq (record { tables = old; hasher = s }) → AreSharded b h input eq (record { tables = new; hasher = s })

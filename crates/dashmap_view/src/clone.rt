@@ -30,6 +30,14 @@ fn clone_slot<K: Eq + Hash + Clone + Drop, V: Clone + Drop, A: Allocator>(
     Ok(clones)
 }
 
+/// A clone of a hasher, which has to be equal to it.
+pub fn clone_hasher<S: Clone>(hasher: &S) -> Result<S, NoMemory>
+    requires { (hasher copy : S) → S.is_clone hasher copy → copy ≡ hasher }
+    ensures { IfOk result (λ copy. copy ≡ hasher.now) }
+{
+    Ok(hasher.clone()?)
+}
+
 /// A shard with clones of all pairs of another, under the same hashes. It has room for them and asks for no more.
 pub fn clone_shard<K: Eq + Hash + Clone + Drop, V: Clone + Drop, A: Allocator + Clone>(
     shard: &Shard<K, V, A>,

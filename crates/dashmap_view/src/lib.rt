@@ -12,7 +12,7 @@ mod owning;
 mod routed;
 mod view;
 
-pub use clone::clone_shard;
+pub use clone::{clone_hasher, clone_shard};
 pub use displaced::Displaced;
 pub use iter::{ViewIter, ViewKeys, ViewValues};
 pub use owning::OwningIter;

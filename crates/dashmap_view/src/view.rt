@@ -7,7 +7,7 @@ ghost use Rattle.std.specs.List.{AllZip};
 ghost use Rattle.dashmap_view.specs.Clones.{IsCloneOf};
 ghost use Rattle.dashmap_view.specs.Views.{AreRouted, all_pairs, pair_count, room_in, at_most_max};
 
-use crate::clone::clone_shards;
+use crate::clone::{clone_hasher, clone_shards};
 use crate::counting::{pairs_in, room_for};
 use crate::displaced::Displaced;
 use crate::iter::{ViewIter, ViewKeys, ViewValues};
@@ -91,7 +91,7 @@ impl<K: Eq + Hash, V, S: BuildHasher, A: Allocator> PlainView<K, V, S, A> {
         ensures hasher { IfOk result (λ v. v.hasher ≡ self.now.hasher) }
         ensures pairs { IfOk result (λ v. (q : K) → pair_at S.BuildHasher S.Hasher.Hasher K.hash_input K.eq v q ≡ pair_at S.BuildHasher S.Hasher.Hasher K.hash_input K.eq self.now q) }
     {
-        let hasher = self.hasher.clone()?;
+        let hasher = clone_hasher(&self.hasher)?;
         let shards = clone_shards(&self.shards, self.shards.allocator().clone()?)?;
         Ok(PlainView { shards, hasher })
     }
