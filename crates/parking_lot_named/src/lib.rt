@@ -21,11 +21,13 @@ pub use counter::{
     Counter, CounterGuard, Tally, any_lock_and_look, count, counted_by, lock_and_look,
 };
 pub use entry::Entry;
-pub use nested::{Nested, NestedGuard, any_read_twice, nest, nested_seen_by, read_twice};
+pub use nested::{
+    Nested, NestedGuard, any_read_twice, nest, nested_seen_by, read_again, read_twice,
+};
 pub use number::{
     Number, NumberReader, NumberWriter, add, overwrite, read, seen_by, write_and_look, writer_of,
 };
 pub use owned::{any_write_owned, write_owned};
 pub use part::{First, Numbers, any_write_first, write_first};
-pub use shown::{any_shown_by, show, shown_by};
+pub use shown::{any_shown_by, any_told_by, show, shown_by, told_by};
 pub use turn::{NumberTurn, Turn, seen_in_turn, take_and_put};

@@ -50,6 +50,13 @@ pub fn nested_seen_by<R: Wait, A: Allocator>(guard: &NestedGuard<'_, '_, '_, R, 
     **guard
 }
 
+/// What it lends, read twice in a row.
+pub fn read_again<R: Wait, A: Allocator>(guard: NestedGuard<'_, '_, '_, R, A>) -> (u64, u64)
+    ensures { result ≡ (read_guard_value guard.inner, read_guard_value guard.inner) }
+{
+    (*guard, *guard)
+}
+
 /// The same over any raw mutex.
 pub fn any_read_twice<R: lock_api::RawMutex + Drop, G: GetThreadId<Party = R::Party> + Drop>(
     mutex: &ReentrantMutex<R, G, u64>,

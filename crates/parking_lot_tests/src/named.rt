@@ -5,10 +5,11 @@ use parking_lot_core::ParkingLot;
 use parking_lot_locks::LockTable;
 use parking_lot_named::{
     AnyEntry, Counter, Entry, Nested, Number, Numbers, Tally, Turn, add, any_lock_and_look,
-    any_overwrite, any_read, any_read_twice, any_seen_by, any_shown_by, any_write_and_look,
-    any_write_first, any_write_owned, any_writer_of, count, counted_by, lock_and_look, nest,
-    nested_seen_by, overwrite, read, read_twice, seen_by, seen_in_turn, show, shown_by,
-    take_and_put, write_and_look, write_first, write_owned, writer_of,
+    any_overwrite, any_read, any_read_twice, any_seen_by, any_shown_by, any_told_by,
+    any_write_and_look, any_write_first, any_write_owned, any_writer_of, count, counted_by,
+    lock_and_look, nest, nested_seen_by, overwrite, read, read_again, read_twice, seen_by,
+    seen_in_turn, show, shown_by, take_and_put, told_by, write_and_look, write_first, write_owned,
+    writer_of,
 };
 use std::sync::Arc;
 use std::test::Fail;
@@ -110,7 +111,7 @@ fn a_named_reentrant_guard_nests(rt: HostRuntime) -> Result<(), Fail> {
     let seen = match nest(&mutex, &mut me) {
         Ok(guard) => {
             let full = matches!(read_twice(&mutex, &mut me), Err(ReadersFull));
-            full & (nested_seen_by(&guard) == 5)
+            full & (nested_seen_by(&guard) == 5) & (read_again(guard) == (5, 5))
         }
         Err(ReadersFull) => false,
     };
@@ -146,6 +147,8 @@ fn an_owned_guard_writes_and_a_guard_prints(rt: HostRuntime) -> Result<(), Fail>
     let guard = counter.lock(&mut me);
     right = right & (shown_by(&guard, rt.alloc())?.as_str() == "34");
     right = right & (any_shown_by(&guard, rt.alloc())?.as_str() == "34");
+    right = right & (told_by(&guard, rt.alloc())?.as_str() == "34");
+    right = right & (any_told_by(&guard, rt.alloc())?.as_str() == "34");
     drop(guard);
     assert!(rt; right & !counter.is_locked());
     Ok(())
