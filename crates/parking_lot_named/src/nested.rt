@@ -69,3 +69,52 @@ where
     let inner = mutex.lock(me)?;
     Ok((*outer, *inner))
 }
+
+/// A guard of any reentrant mutex that a program keeps, with the number that it lent at first.
+#[derive(Drop)]
+pub struct Nest<'m, R: lock_api::RawMutex + Drop, G: GetThreadId<Party = R::Party> + Drop>
+where
+    R::Runtime: Wait,
+{
+    guard: ReentrantMutexGuard<'m, R, G, u64>,
+    first: u64,
+}
+
+impl<'m, R: lock_api::RawMutex + Drop, G: GetThreadId<Party = R::Party> + Drop> Nest<'m, R, G>
+where
+    R::Runtime: Wait,
+{
+    /// Keeps a guard.
+    pub fn new(guard: ReentrantMutexGuard<'m, R, G, u64>) -> Nest<'m, R, G>
+        ensures { result.first ≡ read_guard_value result.guard.inner }
+    {
+        let first = *guard;
+        Nest { guard, first }
+    }
+
+    /// What the guard lends.
+    pub fn get(&self) -> u64
+        ensures { result ≡ read_guard_value self.now.guard.inner }
+    {
+        *self.guard
+    }
+
+    /// Whether it lent this number at first. Others may come in then.
+    pub fn close(self, number: u64) -> bool
+        ensures { result ≡ (self.entry.first == number) }
+    {
+        let Nest { guard, first } = self;
+        drop(guard);
+        first == number
+    }
+}
+
+/// Keeps a guard of a mutex whose types are all named, and tells whether it lends what it lent at first.
+pub fn keep_and_look<R: Wait, A: Allocator>(
+    mutex: &Nested<'_, '_, R, A>,
+    me: &mut ThreadData<A>,
+) -> Result<bool, ReadersFull> {
+    let nest = Nest::new(mutex.lock(me)?);
+    let seen = nest.get();
+    Ok(nest.close(seen))
+}
