@@ -22,7 +22,8 @@ pub use counter::{
 };
 pub use entry::Entry;
 pub use nested::{
-    Nested, NestedGuard, any_read_twice, nest, nested_seen_by, read_again, read_twice,
+    Nested, NestedGuard, Stay, any_read_twice, keep_and_look, nest, nested_seen_by, read_again,
+    read_twice,
 };
 pub use number::{
     Number, NumberReader, NumberWriter, add, overwrite, read, seen_by, write_and_look, writer_of,

@@ -1,5 +1,5 @@
 //! Guards of a reentrant mutex, two at once.
-ghost use Rattle.std.specs.Prelude.{◌≡◌, IfOk};
+ghost use Rattle.std.specs.Prelude.{◌≡◌, ◌==◌, true, IfOk};
 ghost use Rattle.std.specs.Sync.RwLock.{read_guard_value};
 
 use lock_api::{GetThreadId, ReadersFull, ReentrantMutex, ReentrantMutexGuard};
@@ -72,7 +72,7 @@ where
 
 /// A guard of any reentrant mutex that a program keeps, with the number that it lent at first.
 #[derive(Drop)]
-pub struct Nest<'m, R: lock_api::RawMutex + Drop, G: GetThreadId<Party = R::Party> + Drop>
+pub struct Stay<'m, R: lock_api::RawMutex + Drop, G: GetThreadId<Party = R::Party> + Drop>
 where
     R::Runtime: Wait,
 {
@@ -80,16 +80,16 @@ where
     first: u64,
 }
 
-impl<'m, R: lock_api::RawMutex + Drop, G: GetThreadId<Party = R::Party> + Drop> Nest<'m, R, G>
+impl<'m, R: lock_api::RawMutex + Drop, G: GetThreadId<Party = R::Party> + Drop> Stay<'m, R, G>
 where
     R::Runtime: Wait,
 {
     /// Keeps a guard.
-    pub fn new(guard: ReentrantMutexGuard<'m, R, G, u64>) -> Nest<'m, R, G>
+    pub fn new(guard: ReentrantMutexGuard<'m, R, G, u64>) -> Stay<'m, R, G>
         ensures { result.first ≡ read_guard_value result.guard.inner }
     {
         let first = *guard;
-        Nest { guard, first }
+        Stay { guard, first }
     }
 
     /// What the guard lends.
@@ -103,7 +103,7 @@ where
     pub fn close(self, number: u64) -> bool
         ensures { result ≡ (self.entry.first == number) }
     {
-        let Nest { guard, first } = self;
+        let Stay { guard, first } = self;
         drop(guard);
         first == number
     }
@@ -113,8 +113,10 @@ where
 pub fn keep_and_look<R: Wait, A: Allocator>(
     mutex: &Nested<'_, '_, R, A>,
     me: &mut ThreadData<A>,
-) -> Result<bool, ReadersFull> {
-    let nest = Nest::new(mutex.lock(me)?);
-    let seen = nest.get();
-    Ok(nest.close(seen))
+) -> Result<bool, ReadersFull>
+    ensures { IfOk result (λ same. same ≡ true) }
+{
+    let stay = Stay::new(mutex.lock(me)?);
+    let seen = stay.get();
+    Ok(stay.close(seen))
 }

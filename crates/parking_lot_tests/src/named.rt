@@ -7,9 +7,9 @@ use parking_lot_named::{
     AnyEntry, Counter, Entry, Nested, Number, Numbers, Tally, Turn, add, any_lock_and_look,
     any_overwrite, any_read, any_read_twice, any_seen_by, any_shown_by, any_told_by,
     any_write_and_look, any_write_first, any_write_owned, any_writer_of, count, counted_by,
-    lock_and_look, nest, nested_seen_by, overwrite, read, read_again, read_twice, seen_by,
-    seen_in_turn, show, shown_by, take_and_put, told_by, write_and_look, write_first, write_owned,
-    writer_of,
+    keep_and_look, lock_and_look, nest, nested_seen_by, overwrite, read, read_again, read_twice,
+    seen_by, seen_in_turn, show, shown_by, take_and_put, told_by, write_and_look, write_first,
+    write_owned, writer_of,
 };
 use std::sync::Arc;
 use std::test::Fail;
@@ -108,6 +108,7 @@ fn a_named_reentrant_guard_nests(rt: HostRuntime) -> Result<(), Fail> {
     let mutex: Nested<HostRuntime> = ReentrantMutex::new(&table, 2, 5)?;
     let mut right = matches!(read_twice(&mutex, &mut me), Ok((5, 5)));
     right = right & matches!(any_read_twice(&mutex, &mut me), Ok((5, 5)));
+    right = right & matches!(keep_and_look(&mutex, &mut me), Ok(true));
     let seen = match nest(&mutex, &mut me) {
         Ok(guard) => {
             let full = matches!(read_twice(&mutex, &mut me), Err(ReadersFull));
