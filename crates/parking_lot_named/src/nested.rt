@@ -52,7 +52,7 @@ pub fn nested_seen_by<R: Wait, A: Allocator>(guard: &NestedGuard<'_, '_, '_, R, 
 
 /// What it lends, read twice in a row.
 pub fn read_again<R: Wait, A: Allocator>(guard: NestedGuard<'_, '_, '_, R, A>) -> (u64, u64)
-    ensures { result ≡ (read_guard_value guard.inner, read_guard_value guard.inner) }
+    ensures { result ≡ (read_guard_value guard.entry.inner, read_guard_value guard.entry.inner) }
 {
     (*guard, *guard)
 }
