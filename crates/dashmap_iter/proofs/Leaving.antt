@@ -1,6 +1,7 @@
 -- Each item of a walk leaves fewer to come.
 use Rattle.std.proofs.Common.{◌≡◌, ℕ, zero, suc, ◌+◌, ◌*◌, ◌-◌, ◌^◌, ◌<◌, ◌≤◌, Bool, true, false, cond, List, [], ◌∷◌, length, Option, Some, None, IsSome, slice_get, refl, sym, ap, subst, ◌∙◌, inl, inr, arith}
 use Rattle.std.specs.Option.{option_map}
+use Rattle.std.proofs.lemmas.Bool.{false≢true}
 use Rattle.std.proofs.lemmas.Option.{none-some, slice_get_within}
 use Rattle.crossbeam_utils.specs.Padded.{padded_value}
 use Rattle.dashmap_table.specs.declared.entry.Entry.{Entry}
@@ -11,8 +12,8 @@ use Rattle.dashmap_iter.specs.Lending.{Walk, slots_held, IsThrough, left, Enters
 
 -- a full slot is one of the slots
 pub full_within : {K V : Type 0} (xs : List (Option (Entry K V))) (i : ℕ) → IsSome (at xs i) → i < length xs
-full_within [] zero full = absurd full
-full_within [] (suc i) full = absurd full
+full_within [] zero full = absurd (false≢true full)
+full_within [] (suc i) full = absurd (false≢true full)
 full_within (x ∷ xs) zero full = omega arith
 full_within (x ∷ xs) (suc i) full = let rest = full_within xs i full in omega (arith, rest)
 
@@ -60,5 +61,5 @@ module _ {K V Q G : Type 0} (eq : K → K → Bool) (table : G → Table K V) (l
   pub fail_left : (v w : Walk Q G) → Fails eq table lock v w → left table w < left table v
   fail_left v w e =
       let before = passes_left e.passed v e.stop e.passes in
-      let ready : cond e.stop.failed 0 1 ≡ 1 = ap (λ b. cond b 0 1) (passes_failed e.passed v e.stop e.passes ∙ e.ready) in
+      let ready : ◌≡◌ {A = ℕ} (cond e.stop.failed 0 1) 1 = ap (λ b. cond b 0 1) (passes_failed e.passed v e.stop e.passes ∙ e.ready) in
       subst (λ (x : Walk Q G). left table x < left table v) (sym e.after) (omega (arith, before, ready))

@@ -19,18 +19,19 @@ pub record Walk (Q G : Type 0) : Type 0 where
   -- whether there was no memory for an item
   pub failed : Bool
 
-module _ {K V Q G : Type 0} (table : G → Table K V) where
-  abbrev pub slots_held : Option G → List (Option (Entry K V))
-  slots_held None = []
-  slots_held (Some guard) = (table guard).slots
+-- the slots of a shard that is held
+abbrev pub slots_held : {K V G : Type 0} → (G → Table K V) → Option G → List (Option (Entry K V))
+slots_held table None = []
+slots_held table (Some guard) = (table guard).slots
 
+module _ {K V Q G : Type 0} (table : G → Table K V) where
   -- no pair is left in the shard that is held
   abbrev pub IsThrough : Walk Q G → Type 0
-  IsThrough w = (i : ℕ) → w.from ≤ i → at (slots_held w.held) i ≡ None
+  IsThrough w = (i : ℕ) → w.from ≤ i → at (slots_held table w.held) i ≡ None
 
   -- how many items may be left: each shard has less than 2 ^ 63 slots
   abbrev pub left : Walk Q G → ℕ
-  left w = (length w.locks - w.next) * 2 ^ 63 + (length (slots_held w.held) - w.from) + cond w.failed 0 1
+  left w = (length w.locks - w.next) * 2 ^ 63 + (length (slots_held table w.held) - w.from) + cond w.failed 0 1
 
 module _ {K V Q G : Type 0} (eq : K → K → Bool) (table : G → Table K V) (lock : G → Q) where
   -- the next shard is held, and no longer the last one

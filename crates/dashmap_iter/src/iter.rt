@@ -1,20 +1,32 @@
 //! A walk that lends the pairs one by one, to be read.
-ghost use Rattle.std.specs.Prelude.{◌≡◌, ℕ, ◌+◌, ◌<◌, None, Some, true, false, length, MatchOption, IfOk, IfSome, OnOk, OnErr, IfNone};
+ghost use Rattle.std.specs.Prelude.{◌≡◌, ℕ, ◌+◌, ◌<◌, None, Some, true, false, length, MatchOption, IfOk, IfSome, OnOk, OnErr, slice_get};
 ghost use Rattle.std.specs.Iterator.{at_most, UpTo};
 ghost use Rattle.std.specs.Iterator.SizeHint.{IsWithinCount};
 ghost use Rattle.std.specs.Sync.RwLock.{read_guard_value};
+ghost use Rattle.std.specs.Option.{option_map};
+ghost use Rattle.crossbeam_utils.specs.Padded.{padded_value};
 ghost use Rattle.dashmap_table.specs.Slots.{IsNextFull};
+ghost use Rattle.dashmap_table.specs.Table.{IsSound};
 ghost use Rattle.dashmap_iter.specs.Lending.{slots_held, IsThrough, Enters, Passes, Gives, left};
 
 use crate::multiple::RefMulti;
+use crate::shared::SharedGuard;
 use crossbeam_utils::CachePadded;
 use dashmap_table::Shard;
 use lock_api_raw::{NoMemory, RawRwLock};
-use lock_api_rw::{RwLock, RwLockReadGuard};
+use lock_api_rw::{RawHold, RwLock, Shared};
 use std::alloc::{Allocator, Global};
 use std::hash::Hash;
 use std::marker::Model;
-use std::sync::{Arc, Wait};
+use std::sync;
+use std::sync::Wait;
+
+/// A shared guard of a shard, of which the items of a walk are owners.
+type ShardGuard<'m, K, V, Q, A> = SharedGuard<
+    sync::RwLockReadGuard<'m, Shard<K, V, A>>,
+    RawHold<&'m RwLock<Q, Shard<K, V, A>>, Shared>,
+    A,
+>;
 
 /// A walk that reads: each pair of the first shard, of the second, and so on. Nothing is held before the first item.
 ///
@@ -28,7 +40,7 @@ where
     alloc: &'m A,
     party: &'d mut Q::Party,
     next: usize,
-    held: Option<Arc<RwLockReadGuard<'m, Q, Shard<K, V, A>>, A>>,
+    held: Option<ShardGuard<'m, K, V, Q, A>>,
     from: usize,
     failed: bool,
 }
@@ -37,8 +49,6 @@ impl<'m, 'd, K: Eq + Hash, V, Q: RawRwLock, A: Allocator> Model for Iter<'m, 'd,
 where
     Q::Runtime: Wait,
 {
-    ghost use Rattle.std.specs.Option.{option_map};
-    ghost use Rattle.std.specs.Arc.{arc_value};
     ghost use Rattle.std.specs.Borrow.{Bor};
     ghost use Rattle.core.specs.declared.rw.RwLockReadGuard.{RwLockReadGuard};
     ghost use Rattle.lock_api_guards.specs.declared.guard.Guard.{Guard};
@@ -48,7 +58,7 @@ where
 
     ghost Value = { Walk Q (Guard (RwLockReadGuard (Table K V)) (Issued (Bor Q) Q.SharedGuard) Q Q.Runtime Q.Party (Bor Q)) };
 
-    ghost view = { λ s. record { locks = s.locks.now; next = s.next; held = option_map arc_value s.held; from = s.from; failed = s.failed } };
+    ghost view = { λ s. record { locks = s.locks.now; next = s.next; held = s.held; from = s.from; failed = s.failed } };
 }
 
 impl<'m, 'd, K: Eq + Hash, V, Q: RawRwLock, A: Allocator> Drop for Iter<'m, 'd, K, V, Q, A>
@@ -95,11 +105,11 @@ where
     }
 
     /// The next full slot of the shard that is held.
-    fn find(&self) -> Option<usize>
+    fn next_slot(&self) -> Option<usize>
         ensures { MatchOption result (IsThrough (λ g. read_guard_value g.inner) self.now) (IsNextFull (slots_held (λ g. read_guard_value g.inner) self.now.held) self.now.from) }
     {
         match &self.held {
-            Some(guard) => guard.inner.next_from(self.from),
+            Some(guard) => guard.inner().next_from(self.from),
             None => None,
         }
     }
@@ -111,7 +121,7 @@ where
         ensures refused { OnErr result (self.new ≡ record self.old { failed = true }) }
     {
         let shared = match &self.held {
-            Some(guard) => Arc::try_clone(guard),
+            Some(guard) => guard.share(),
             None => unreachable!(),
         };
         match shared {
@@ -131,22 +141,33 @@ impl<'m, 'd, K: Eq + Hash, V, Q: RawRwLock, A: Allocator + Clone> Iter<'m, 'd, K
 where
     Q::Runtime: Wait,
 {
+    /// Waits for a hold of the next shard.
+    fn hold_next(&mut self) -> Result<ShardGuard<'m, K, V, Q, A>, NoMemory>
+        requires { self.old.next < length self.old.locks }
+        ensures taken { IfOk result (λ g. option_map padded_value (slice_get self.old.locks self.old.next) ≡ Some g.held.0.place.now) }
+        ensures sound { IfOk result (λ g. IsSound K.eq (read_guard_value g.inner)) }
+        ensures stays { self.new ≡ self.old }
+    {
+        let alloc = self.alloc.clone()?;
+        let locks = self.locks;
+        let guard = locks[self.next].read(&mut *self.party);
+        let _pairs = guard.inner.len();
+        SharedGuard::new(alloc, guard)
+    }
+
     /// Holds the next shard, and then gives the last one back.
     fn enter(&mut self) -> Result<(), NoMemory>
         requires { self.old.next < length self.old.locks }
         ensures entered { OnOk result (Enters K.eq (λ g. read_guard_value g.inner) (λ g. g.held.0.place.now) self.old self.new) }
         ensures refused { OnErr result (self.new ≡ self.old) }
     {
-        let alloc = self.alloc.clone()?;
-        let locks = self.locks;
-        let guard = locks[self.next].read(&mut *self.party);
-        let _pairs = guard.inner.len();
-        let Ok(shared) = Arc::new(alloc, guard) else {
-            return Err(NoMemory);
-        };
-        self.held = Some(shared);
+        let shared = self.hold_next()?;
+        let last = self.held.replace(shared);
         self.next += 1;
         self.from = 0;
+        if let Some(last) = last {
+            drop(last);
+        }
         Ok(())
     }
 
@@ -156,12 +177,12 @@ where
         ensures refused { OnErr result ((passed : ℕ) × Passes K.eq (λ g. read_guard_value g.inner) (λ g. g.held.0.place.now) passed self.old self.new) }
     {
         while self.next < self.locks.len() {
-            if let Some(slot) = self.find() {
+            if let Some(slot) = self.next_slot() {
                 return Ok(Some(slot));
             }
             self.enter()?;
         }
-        Ok(self.find())
+        Ok(self.next_slot())
     }
 }
 

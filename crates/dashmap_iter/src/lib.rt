@@ -6,5 +6,6 @@
 
 mod iter;
 pub mod multiple;
+mod shared;
 
 pub use iter::Iter;

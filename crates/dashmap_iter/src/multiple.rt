@@ -1,11 +1,11 @@
 //! Items of walks that lend.
 ghost use Rattle.std.specs.Prelude.{◌≡◌, Some, IsSome};
-ghost use Rattle.std.specs.Arc.{arc_value};
 ghost use Rattle.dashmap_table.specs.Slots.{at};
 ghost use Rattle.dashmap_guard.specs.Guarded.{pair_in, key_in, value_in};
 
+use crate::shared::SharedGuard;
 use dashmap_table::Shard;
-use lock_api_guards::{Guard, Hold, Lender};
+use lock_api_guards::{Hold, Lender};
 use lock_api_raw::RawRwLock;
 use lock_api_rw::{RawHold, RwLock, Shared};
 use std::alloc::{Allocator, Global};
@@ -13,7 +13,7 @@ use std::hash::Hash;
 use std::marker::{Model, PhantomData};
 use std::ops::Deref;
 use std::sync;
-use std::sync::{Arc, Wait};
+use std::sync::Wait;
 
 /// An item of a walk that reads: one pair of the shard that the walk holds. It shares the hold with the walk, and keeps it as long as it
 /// lives, also where the walk has gone on.
@@ -30,7 +30,7 @@ pub struct MultiGuard<
 where
     H::Runtime: Wait,
 {
-    guard: Arc<Guard<W, H>, A>,
+    guard: SharedGuard<W, H, A>,
     slot: usize,
     party: PhantomData<D>,
 }
@@ -58,15 +58,14 @@ where
     H::Runtime: Wait,
 {
     ghost use Rattle.std.specs.Prelude.{ℕ, IsSome};
-    ghost use Rattle.std.specs.Arc.{arc_value};
     ghost use Rattle.lock_api_guards.specs.declared.guard.Guard.{Guard};
     ghost use Rattle.dashmap_table.specs.Slots.{at};
 
     ghost Value = { Guard W H H.Lock H.Runtime H.Party H.Apart × ℕ };
 
-    ghost view = { λ s. (arc_value s.guard, s.slot) };
+    ghost view = { λ s. (s.guard, s.slot) };
 
-    ghost invariant = { λ s. IsSome (at (W.part (arc_value s.guard).inner).slots s.slot) };
+    ghost invariant = { λ s. IsSome (at (W.part s.guard.inner).slots s.slot) };
 }
 
 // By hand: where a derived drop ends the scope of a caller that dereferenced, the caller isn't covered.
@@ -97,9 +96,9 @@ where
     H::Runtime: Wait,
 {
     /// Keeps a shared guard of a shard and a full slot of it. For the layer above.
-    pub fn of_slot(guard: Arc<Guard<W, H>, A>, slot: usize) -> MultiGuard<K, V, A, W, H, D>
-        requires { IsSome (at (W.part (arc_value guard).inner).slots slot) }
-        ensures { result ≡ (arc_value guard, slot) }
+    pub fn of_slot(guard: SharedGuard<W, H, A>, slot: usize) -> MultiGuard<K, V, A, W, H, D>
+        requires { IsSome (at (W.part guard.inner).slots slot) }
+        ensures { result ≡ (guard, slot) }
     {
         MultiGuard {
             guard,
@@ -112,7 +111,7 @@ where
     pub fn pair(&self) -> (&K, &V)
         ensures { pair_in (W.part self.now.0.inner) self.now.1 ≡ Some (result.0.now, result.1.now) }
     {
-        match self.guard.inner.look().pair(self.slot) {
+        match self.guard.inner().look().pair(self.slot) {
             Some(pair) => pair,
             None => unreachable!(),
         }

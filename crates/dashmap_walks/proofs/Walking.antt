@@ -3,6 +3,7 @@ use Rattle.std.proofs.Common.{◌≡◌, ℕ, zero, suc, ◌+◌, ◌-◌, ◌<�
 use Rattle.std.specs.Borrow.{Bor, MutBor}
 use Rattle.std.specs.Fn.{Mut}
 use Rattle.std.specs.Option.{option_map}
+use Rattle.std.proofs.lemmas.Bool.{false≢true}
 use Rattle.std.proofs.lemmas.Option.{none-some, same_Some, MatchOption-at_some, MatchOption-at_none}
 use Rattle.dashmap_table.specs.declared.entry.Entry.{Entry}
 use Rattle.dashmap_table.specs.Slots.{at, pair_of, IsNextFull}
@@ -57,8 +58,8 @@ makes_entry {F} {K} {V} member f k v w g e ke ve a =
 
 -- a full slot is one of the slots
 pub full_within : {K V : Type 0} (xs : List (Option (Entry K V))) (i : ℕ) → IsSome (at xs i) → i < length xs
-full_within [] zero full = absurd full
-full_within [] (suc i) full = absurd full
+full_within [] zero full = absurd (false≢true full)
+full_within [] (suc i) full = absurd (false≢true full)
 full_within (x ∷ xs) zero full = omega arith
 full_within (x ∷ xs) (suc i) full = let rest = full_within xs i full in omega (arith, rest)
 

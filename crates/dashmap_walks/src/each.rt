@@ -89,7 +89,7 @@ fn alter_slot<K: Eq + Hash, V, A: Allocator, F: FnMut(&K, V) -> V>(
         (key, f),
         |value, (key, f)|
             requires { F.IsAlwaysCallable f }
-            ensures made { MakesNext F.FnMut f key.now value result.0 result.1 }
+            ensures made { MakesNext F.FnMut f key.entry.now value result.0 result.1 }
             ensures again { F.IsAlwaysCallable result.1 }
         { make(key, value, f) },
     )

@@ -1,11 +1,14 @@
 //! Walks over all shards of a map, each of which is held exclusively in its turn.
-ghost use Rattle.std.specs.Prelude.{◌≡◌, ◌≤◌, ℕ, None, length};
+ghost use Rattle.std.specs.Prelude.{◌≡◌, ◌<◌, ℕ, None, Some, length, slice_get};
+ghost use Rattle.std.specs.Option.{option_map};
+ghost use Rattle.crossbeam_utils.specs.Padded.{padded_value};
 ghost use Rattle.dashmap_table.specs.Slots.{at};
 ghost use Rattle.dashmap_map.specs.Locked.{Locked};
 ghost use Rattle.dashmap_walks.specs.Visits.{Walked, AtFull, Keeps, Alters};
 ghost use Rattle.dashmap_walks.specs.Held.{WhileHeld, EachHeld};
 
 use crate::each::{alter_each_in, clear_in, retain_in};
+use crossbeam_utils::CachePadded;
 use dashmap_map::DashMap;
 use dashmap_table::Shard;
 use lock_api_raw::RawRwLock;
@@ -50,7 +53,18 @@ where
     where
         K: Drop,
         V: Drop,
-        ensures { EachHeld {K = K} {V = V} Q.ExclusiveGuard Q.Runtime Q.Party (seen self.now) (λ p q. (i : ℕ) → at q.1.slots i ≡ None) tt tt };
+        ensures { EachHeld {K = K} {V = V} Q.ExclusiveGuard Q.Runtime Q.Party {F = Unit {0}} (seen self.now) (λ p q. (i : ℕ) → at q.1.slots i ≡ None) tt tt };
+}
+
+/// The lock of a shard.
+fn lock_behind<K: Eq + Hash, V, Q, A: Allocator>(
+    locks: &[CachePadded<RwLock<Q, Shard<K, V, A>>>],
+    shard: usize,
+) -> &RwLock<Q, Shard<K, V, A>>
+    requires { shard < length locks.now }
+    ensures { option_map padded_value (slice_get locks.now shard) ≡ Some result.now }
+{
+    &*locks[shard]
 }
 
 /// `retain` for one shard, which is held meanwhile.
@@ -114,16 +128,16 @@ where
         let locks = self.shard_locks();
         let mut f = f;
         for shard in 0..locks.len() {
-            f = retain_behind(&*locks[shard], f, td);
+            f = retain_behind(lock_behind(locks, shard), f, td);
         }
     }
 
     fn alter_all<F: FnMut(&K, V) -> V + Drop>(&self, f: F, td: &mut Q::Party) {
         let locks = self.shard_locks();
-        let mut held = locks[0].write(td);
+        let mut held = lock_behind(locks, 0).write(td);
         let mut f = alter_each_in(&mut *held, f);
         for shard in 1..locks.len() {
-            held = hold_next(&*locks[shard], held, td);
+            held = hold_next(lock_behind(locks, shard), held, td);
             f = alter_each_in(&mut *held, f);
         }
     }
@@ -135,7 +149,7 @@ where
     {
         let locks = self.shard_locks();
         for shard in 0..locks.len() {
-            clear_behind(&*locks[shard], td);
+            clear_behind(lock_behind(locks, shard), td);
         }
     }
 }
