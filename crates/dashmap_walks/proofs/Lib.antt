@@ -1,1 +1,2 @@
 mod Walking
+mod Holding

@@ -1,5 +1,5 @@
 -- Walks over slots, a step at a time.
-use Rattle.std.proofs.Common.{◌≡◌, ℕ, zero, suc, ◌+◌, ◌-◌, ◌<◌, ◌≤◌, Bool, true, false, Option, Some, None, IsSome, MatchOption, List, [], ◌∷◌, length, refl, sym, ap, ◌∙◌, subst, inl, inr, arith, length-set}
+use Rattle.std.proofs.Common.{◌≡◌, ℕ, zero, suc, ◌+◌, ◌-◌, ◌<◌, ◌≤◌, Option, Some, None, IsSome, MatchOption, List, [], ◌∷◌, length, refl, sym, ap, ◌∙◌, subst, inl, inr, arith}
 use Rattle.std.specs.Borrow.{Bor, MutBor}
 use Rattle.std.specs.Fn.{Mut}
 use Rattle.std.specs.Option.{option_map}
@@ -7,9 +7,8 @@ use Rattle.std.proofs.lemmas.Bool.{false≢true}
 use Rattle.std.proofs.lemmas.Option.{none-some, same_Some, MatchOption-at_some, MatchOption-at_none}
 use Rattle.dashmap_table.specs.declared.entry.Entry.{Entry}
 use Rattle.dashmap_table.specs.Slots.{at, pair_of, IsNextFull}
-use Rattle.dashmap_table.specs.Table.{Table, Frees, with_value}
 use Rattle.dashmap_table.proofs.Cases.{option_cases}
-use Rattle.dashmap_walks.specs.Visits.{Walked, AnswersNext, MakesNext, Turn, AtFull, StaysIf}
+use Rattle.dashmap_walks.specs.Visits.{Walked, AnswersNext, MakesNext, Turn, AtFull}
 
 module _ {P : Type 0} (R : P → ℕ → P → Type 0) where
   pass : (k from : ℕ) (p q : P) → Walked R from p q → ((i : ℕ) → from ≤ i → i < from + k → R q i q) → Walked R (from + k) p q

@@ -1,5 +1,5 @@
 -- Walks: one step for each number, in order; and what a step of a walk over the slots of a shard does.
-use Rattle.std.specs.Prelude.{◌≡◌, ℕ, zero, suc, Bool, true, false, Option, Some, None, MatchOption}
+use Rattle.std.specs.Prelude.{◌≡◌, ℕ, zero, suc, Bool, true, false, MatchOption}
 use Rattle.std.specs.Borrow.{Bor, MutBor}
 use Rattle.std.specs.Fn.{Mut, Called}
 use Rattle.dashmap_table.specs.declared.entry.Entry.{Entry}
