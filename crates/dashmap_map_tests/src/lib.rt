@@ -22,5 +22,3 @@ mod refused;
 mod threads;
 #[cfg(test)]
 mod tries;
-#[cfg(test)]
-mod whole;
