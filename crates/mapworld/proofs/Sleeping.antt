@@ -13,7 +13,8 @@ use Rattle.mapworld.specs.declared.place.Place.{Place}
 use Rattle.mapworld.specs.Holds.{is_excluded}
 use Rattle.mapworld.specs.State.{State, threads_of}
 use Rattle.mapworld.specs.Moves.{mode_of}
-use Rattle.mapworld.specs.Running.{status_before, status_at, status_of}
+use Rattle.mapworld.specs.Classes.{Class, resting, waiting, inside, placed, leaving, answering, class_of, rests_in, status_in}
+use Rattle.mapworld.specs.Running.{is_kept_out, status_before, status_at, status_of}
 use Rattle.mapworld.specs.Sound.{is_resting, Claim, Sound}
 use Rattle.mapworld.specs.Asleep.{IsAsleep, IsFinished}
 use Rattle.mapworld.proofs.HoldsTable.{is_excluded-true, is_excluded-by}
@@ -112,36 +113,22 @@ not_over : (b : Bool) → (if b then status.Asleep else status.Running) ≡ stat
 not_over true h = cc
 not_over false h = cc
 
-module _ {K V D T A : Type 0} (places : List (Place K V D T A)) (left shard : ℕ) where
-  over : (f : Phase K V D T) → status_before places left shard f ≡ status.Finished → (is_resting f ≡ true) × (left ≡ 0)
-  over phase.Rest h = (refl, none_left left h)
-  over (phase.Admit r) h = absurd (not_over (is_excluded places shard (mode_of r)) h)
-  over (phase.Find r) h = cc
-  over (phase.Grow c) h = cc
-  over (phase.Append k v) h = cc
-  over (phase.Apply i k) h = cc
-  over (phase.View i k d) h = cc
-  over (phase.Read d) h = cc
-  over (phase.Change k) h = cc
-  over (phase.Fill v) h = cc
-  over phase.Downgrade h = cc
-  over (phase.Release a) h = cc
-  over (phase.Answer a) h = cc
+module _ (excluded : Bool) (left : ℕ) where
+  over : (c : Class) → status_in excluded left c ≡ status.Finished → (rests_in c ≡ true) × (left ≡ 0)
+  over resting h = (refl, none_left left h)
+  over waiting h = absurd (not_over excluded h)
+  over inside h = cc
+  over placed h = cc
+  over leaving h = cc
+  over answering h = cc
 
-  over_at_rest : (f : Phase K V D T) → is_resting f ≡ true → left ≡ 0 → status_before places left shard f ≡ status.Finished
-  over_at_rest phase.Rest h none = rw none refl
-  over_at_rest (phase.Admit r) h none = cc
-  over_at_rest (phase.Find r) h none = cc
-  over_at_rest (phase.Grow c) h none = cc
-  over_at_rest (phase.Append k v) h none = cc
-  over_at_rest (phase.Apply i k) h none = cc
-  over_at_rest (phase.View i k d) h none = cc
-  over_at_rest (phase.Read d) h none = cc
-  over_at_rest (phase.Change k) h none = cc
-  over_at_rest (phase.Fill v) h none = cc
-  over_at_rest phase.Downgrade h none = cc
-  over_at_rest (phase.Release a) h none = cc
-  over_at_rest (phase.Answer a) h none = cc
+  over_at_rest : (c : Class) → rests_in c ≡ true → left ≡ 0 → status_in excluded left c ≡ status.Finished
+  over_at_rest resting h none = rw none refl
+  over_at_rest waiting h none = cc
+  over_at_rest inside h none = cc
+  over_at_rest placed h none = cc
+  over_at_rest leaving h none = cc
+  over_at_rest answering h none = cc
 
 -- a thread that has taken its whole program is between two calls
 rests_at_the_end : (b : Bool) (next n : ℕ) → (if b then next else next + 1) ≤ n → next ≡ n → b ≡ true
@@ -164,23 +151,21 @@ module _ {K V S D T A : Type 0} (x : Setup K V D T) (w : State K V S D T A) (sou
   finished_there : status_of w t ≡ status.Finished → IsFinished w t
   finished_there h =
       let st = sound.stands t p at in
-      let o = over w.places (length p.asks.items) p.shard p.phase (sym status_there ∙ h) in
+      let o = over (is_kept_out w.places p.shard p.phase) (length p.asks.items) (class_of p.phase) (sym status_there ∙ h) in
       let left = ap length st.asks_left ∙ taken_at_rest (is_resting p.phase) p.next st.program o.0 in
       let within = rests_within (is_resting p.phase) p.next (length st.program) o.0 st.within in
-      record {
-        program = st.program;
-        has = ap (λ ps. slice_get ps t) (sym same) ∙ st.has;
-        answered = omega (arith, left, o.1, within, st.answered);
-      }
+      λ program has.
+      let one = same_Some program st.program (sym has ∙ (ap (λ ps. slice_get ps t) (sym same) ∙ st.has)) in
+      let all = ap length one in
+      omega (arith, left, o.1, within, st.answered, all)
 
   finished_back : IsFinished w t → status_of w t ≡ status.Finished
   finished_back f =
       let st = sound.stands t p at in
-      let one : f.program ≡ st.program = same_Some f.program st.program (sym f.has ∙ (ap (λ ps. slice_get ps t) (sym same) ∙ st.has)) in
-      let count : p.next ≡ length st.program = st.answered ∙ (f.answered ∙ ap length one) in
+      let count : p.next ≡ length st.program = st.answered ∙ f st.program (ap (λ ps. slice_get ps t) (sym same) ∙ st.has) in
       let rests = rests_at_the_end (is_resting p.phase) p.next (length st.program) st.within count in
       let left = ap length st.asks_left ∙ taken_at_rest (is_resting p.phase) p.next st.program rests in
-      status_there ∙ over_at_rest w.places (length p.asks.items) p.shard p.phase rests (omega (arith, left, count))
+      status_there ∙ over_at_rest (is_kept_out w.places p.shard p.phase) (length p.asks.items) (class_of p.phase) rests (omega (arith, left, count))
 
   pub status-finished : (r : Status) → r ≡ status_of w t → (r ≡ status.Finished) ↔ IsFinished w t
   status-finished r is = (λ h. finished_there (sym is ∙ h), λ h. is ∙ finished_back h)

@@ -25,8 +25,6 @@ pub record IsAsleep {K V S D T A : Type 0} (w : State K V S D T A) (t : ℕ) : T
   pub same_shard : hold.shard ≡ place.shard
   pub excluded : excludes hold.mode (mode_of request) ≡ true
 
--- all calls of the thread's program are answered
-pub record IsFinished {K V S D T A : Type 0} (w : State K V S D T A) (t : ℕ) : Type 0 where
-  pub program : List (Ask K V D)
-  pub has : slice_get w.programs t ≡ Some program
-  pub answered : answered_of w.replies t ≡ length program
+-- all calls of the thread's program are answered; a thread that the world doesn't have has none
+abbrev pub IsFinished : {K V S D T A : Type 0} → State K V S D T A → ℕ → Type 0
+IsFinished {K} {V} {S} {D} w t = (program : List (Ask K V D)) → slice_get w.programs t ≡ Some program → answered_of w.replies t ≡ length program

@@ -1,14 +1,22 @@
 -- What the code keeps of a world, and how much room it has.
-use Rattle.std.specs.Prelude.{◌≡◌, ℕ, ◌+◌, ◌<◌, ◌≤◌, ◌^◌, if◌then◌else◌, List, length, map, Option, Some, None, ◌==◌, slice_get, sum_by, vec_capacity}
+use Rattle.std.specs.Prelude.{◌≡◌, ℕ, Bool, ◌+◌, ◌<◌, ◌≤◌, ◌^◌, if◌then◌else◌, List, length, map, Option, Some, None, ◌==◌, slice_get, sum_by, vec_capacity}
+use Rattle.std.specs.Hash.{HashWrites}
+use Rattle.std.specs.declared.hash.BuildHasher as builder
+use Rattle.std.specs.declared.hash.Hasher as hasher
+use Rattle.mapworld_calls.specs.declared.deed.Deed as deed
+use Rattle.mapworld_calls.specs.Setup.{Setup}
 use Rattle.lock_api_desk.specs.Desk.{DeskState}
 use Rattle.mapworld.specs.declared.holds.Hold.{Hold}
 use Rattle.mapworld.specs.declared.place.Phase.{Phase}
-use Rattle.mapworld.specs.declared.place.Phase.TheVariants as phase
 use Rattle.mapworld.specs.declared.place.Place.{Place}
 use Rattle.mapworld.specs.declared.world_core.Core.{Core}
+use Rattle.mapworld.specs.Classes.{class_of, answers_owed, blocks_left, pairs_left}
 use Rattle.mapworld.specs.Route.{IsWorldAmount}
 use Rattle.mapworld.specs.State.{State, pairs_of}
+use Rattle.mapworld.specs.declared.step.Step.{Step}
 use Rattle.mapworld.specs.Running.{unanswered_of}
+use Rattle.mapworld.specs.Sound.{Sound}
+use Rattle.mapworld.specs.World.{setup_of}
 
 abbrev pub state_of : {K V S D T A : Type 0} → Core K V S D T A → State K V S D T A
 state_of c = record {
@@ -25,49 +33,13 @@ state_of c = record {
 
 -- whether a call before that phase isn't answered, may still list a block, and may still add a pair
 abbrev pub owes : {K V D T : Type 0} → Phase K V D T → ℕ
-owes phase.Rest = 0
-owes (phase.Admit r) = 1
-owes (phase.Find r) = 1
-owes (phase.Grow c) = 1
-owes (phase.Append k v) = 1
-owes (phase.Apply i k) = 1
-owes (phase.View i k d) = 1
-owes (phase.Read d) = 1
-owes (phase.Change h) = 1
-owes (phase.Fill v) = 1
-owes phase.Downgrade = 1
-owes (phase.Release a) = 1
-owes (phase.Answer a) = 1
+owes f = answers_owed (class_of f)
 
 abbrev pub lists : {K V D T : Type 0} → Phase K V D T → ℕ
-lists phase.Rest = 0
-lists (phase.Admit r) = 1
-lists (phase.Find r) = 1
-lists (phase.Grow c) = 1
-lists (phase.Append k v) = 0
-lists (phase.Apply i k) = 0
-lists (phase.View i k d) = 1
-lists (phase.Read d) = 0
-lists (phase.Change h) = 0
-lists (phase.Fill v) = 0
-lists phase.Downgrade = 0
-lists (phase.Release a) = 0
-lists (phase.Answer a) = 0
+lists f = blocks_left (class_of f)
 
 abbrev pub adds : {K V D T : Type 0} → Phase K V D T → ℕ
-adds phase.Rest = 0
-adds (phase.Admit r) = 1
-adds (phase.Find r) = 1
-adds (phase.Grow c) = 1
-adds (phase.Append k v) = 1
-adds (phase.Apply i k) = 0
-adds (phase.View i k d) = 0
-adds (phase.Read d) = 0
-adds (phase.Change h) = 0
-adds (phase.Fill v) = 1
-adds phase.Downgrade = 0
-adds (phase.Release a) = 0
-adds (phase.Answer a) = 0
+adds f = pairs_left (class_of f)
 
 -- how many answers a thread owes, how many blocks it may list, and how many pairs it may add
 abbrev pub owed : {K V D T A : Type 0} → Place K V D T A → ℕ
@@ -118,3 +90,12 @@ pub record IsBefore {K V D T A : Type 0} (places : List (Place K V D T A)) (t : 
   pub place : Place K V D T A
   pub stands : slice_get places t ≡ Some place
   pub before : place.phase ≡ ph
+
+-- what is kept is a sound world with its own setup
+abbrev pub IsSoundCore : {K V S H D T A : Type 0} → deed.Ghosts D K V T → builder.Ghosts S H → hasher.Ghosts H → (K → K → Bool) → (K → HashWrites) → Core K V S D T A → Type 0
+IsSoundCore d b h eq writes c = Sound (setup_of d b h eq writes (state_of c)) (state_of c)
+
+-- a step of that kind leads from the one to the other
+abbrev pub MakesStep : {K V S H D T A : Type 0} → (Setup K V D T → State K V S D T A → Step → State K V S D T A → Type 0)
+    → deed.Ghosts D K V T → builder.Ghosts S H → hasher.Ghosts H → (K → K → Bool) → (K → HashWrites) → Core K V S D T A → Step → Core K V S D T A → Type 0
+MakesStep kind d b h eq writes c s c' = kind (setup_of d b h eq writes (state_of c)) (state_of c) s (state_of c')

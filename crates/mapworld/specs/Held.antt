@@ -1,13 +1,13 @@
 -- Which threads hold shards, and what the desks list of it.
-use Rattle.std.specs.Prelude.{◌≡◌, ◌≢◌, ℕ, Bool, true, false, List, Option, Some, is_some, slice_get}
+use Rattle.std.specs.Prelude.{◌≡◌, ◌≢◌, ℕ, Bool, List, Option, Some, is_some, slice_get}
 use Rattle.lock_api_desk.specs.Guards.{Guard}
 use Rattle.lock_api_desk.specs.Desk.{DeskState, IsSound}
 use Rattle.mapworld.specs.declared.holds.Mode.TheVariants.{Shared}
 use Rattle.mapworld.specs.declared.holds.Hold.{Hold}
 use Rattle.mapworld.specs.declared.place.Guard.{Guard as PlaceGuard}
 use Rattle.mapworld.specs.declared.place.Phase.{Phase}
-use Rattle.mapworld.specs.declared.place.Phase.TheVariants as phase
 use Rattle.mapworld.specs.declared.place.Place.{Place}
+use Rattle.mapworld.specs.Classes.{class_of, holds_in}
 use Rattle.mapworld.specs.Holds.{Desks, guard_for}
 
 -- the guards at the desks are the holds of the threads and no others, each under a guard number of its own, and no two holds
@@ -22,22 +22,9 @@ pub record HoldsMatch {K V D T A : Type 0} (places : List (Place K V D T A)) (ho
       → (a.mode ≡ Shared) × (b.mode ≡ Shared)
   pub sound : (s : ℕ) (desk : DeskState (Unit {0})) → slice_get holds s ≡ Some desk → IsSound desk.limit desk.guards
 
--- whether a thread before that phase has a hold: it has one from its admission to its release, and between two calls and
--- before an answer where it has a guard
+-- whether a thread before that phase has a hold
 abbrev pub holds_before : {K V D T : Type 0} → Option (PlaceGuard K) → Phase K V D T → Bool
-holds_before guard phase.Rest = is_some guard
-holds_before guard (phase.Admit r) = false
-holds_before guard (phase.Find r) = true
-holds_before guard (phase.Grow c) = true
-holds_before guard (phase.Append k v) = true
-holds_before guard (phase.Apply i k) = true
-holds_before guard (phase.View i k d) = true
-holds_before guard (phase.Read d) = true
-holds_before guard (phase.Change h) = true
-holds_before guard (phase.Fill v) = true
-holds_before guard phase.Downgrade = true
-holds_before guard (phase.Release a) = true
-holds_before guard (phase.Answer a) = is_some guard
+holds_before guard f = holds_in guard (class_of f)
 
 -- exactly those threads have holds
 abbrev pub HoldByPhase : {K V D T A : Type 0} → List (Place K V D T A) → Type 0

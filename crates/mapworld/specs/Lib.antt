@@ -1,5 +1,6 @@
 pub mod State
 pub mod Holds
+pub mod Classes
 pub mod Held
 pub mod Moves
 pub mod Steps

@@ -9,6 +9,7 @@ use Rattle.mapworld.specs.declared.step.Status.TheVariants as status
 use Rattle.mapworld.specs.declared.place.Phase.{Phase}
 use Rattle.mapworld.specs.declared.place.Phase.TheVariants as phase
 use Rattle.mapworld.specs.declared.place.Place.{Place}
+use Rattle.mapworld.specs.Classes.{class_of, status_in}
 use Rattle.mapworld.specs.Holds.{is_excluded}
 use Rattle.mapworld.specs.State.{State, pairs_of}
 use Rattle.mapworld.specs.Moves.{mode_of}
@@ -27,21 +28,14 @@ bound n s p c = 256 * (n + 1) * (n + 1) * (c + 1) * (s + 1) + 2 * (c + 1) * (p +
 abbrev pub bound_of : {K V S D T A : Type 0} → State K V S D T A → ℕ
 bound_of w = bound (length w.programs) (length w.tables) (length (pairs_of w)) (unanswered_of w)
 
+-- whether a thread before that phase waits for a shard that another thread's hold keeps it out of
+abbrev pub is_kept_out : {K V D T A : Type 0} → List (Place K V D T A) → ℕ → Phase K V D T → Bool
+is_kept_out places shard (phase.Admit r) = is_excluded places shard (mode_of r)
+is_kept_out places shard f = false
+
 -- where a thread stands that is before that phase, with that much of its program left
 abbrev pub status_before : {K V D T A : Type 0} → List (Place K V D T A) → ℕ → ℕ → Phase K V D T → Status
-status_before places left shard phase.Rest = if left == 0 then status.Finished else status.Running
-status_before places left shard (phase.Admit r) = if is_excluded places shard (mode_of r) then status.Asleep else status.Running
-status_before places left shard (phase.Find r) = status.Running
-status_before places left shard (phase.Grow c) = status.Running
-status_before places left shard (phase.Append k v) = status.Running
-status_before places left shard (phase.Apply i k) = status.Running
-status_before places left shard (phase.View i k d) = status.Running
-status_before places left shard (phase.Read d) = status.Running
-status_before places left shard (phase.Change h) = status.Running
-status_before places left shard (phase.Fill v) = status.Running
-status_before places left shard phase.Downgrade = status.Running
-status_before places left shard (phase.Release a) = status.Running
-status_before places left shard (phase.Answer a) = status.Running
+status_before places left shard f = status_in (is_kept_out places shard f) left (class_of f)
 
 abbrev pub status_at : {K V D T A : Type 0} → List (Place K V D T A) → Option (Place K V D T A) → Status
 status_at places None = status.Finished
@@ -78,3 +72,7 @@ Ran {K} {V} {S} {D} {T} {A} x n w (s ∷ steps) w' =
 abbrev pub steps_done : {X : Type 0} → Result X RunFault → ℕ → ℕ
 steps_done (Ok x) n = n
 steps_done (Err f) n = run_fault_done f
+
+-- the step that a run stopped at is refused so, by the world that it left
+abbrev pub StopsAt : {K V S D T A : Type 0} → State K V S D T A → List Step → RunFault → Type 0
+StopsAt w steps f = (step : Step) × (slice_get steps (run_fault_done f) ≡ Some step) × (refusal w (run_fault_done f) step ≡ Some f)

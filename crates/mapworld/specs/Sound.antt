@@ -26,41 +26,17 @@ use Rattle.mapworld.specs.declared.place.Guard.TheVariants as guard
 use Rattle.mapworld.specs.declared.place.Phase.{Phase}
 use Rattle.mapworld.specs.declared.place.Phase.TheVariants as phase
 use Rattle.mapworld.specs.declared.place.Place.{Place}
+use Rattle.mapworld.specs.Classes.{class_of, rests_in, may_own_in}
 use Rattle.mapworld.specs.Held.{HoldsMatch}
 use Rattle.mapworld.specs.State.{State, threads_of, started_of}
 use Rattle.mapworld.specs.Moves.{ask_of, request_key, mode_of, is_last, way_mode, lent, is_change, request_of, growth_key}
 
--- whether a thread is between two calls
+-- whether a thread is between two calls, and whether the call that it is in may have its block listed already
 abbrev pub is_resting : {K V D T : Type 0} → Phase K V D T → Bool
-is_resting phase.Rest = true
-is_resting (phase.Admit r) = false
-is_resting (phase.Find r) = false
-is_resting (phase.Grow c) = false
-is_resting (phase.Append k v) = false
-is_resting (phase.Apply i k) = false
-is_resting (phase.View i k d) = false
-is_resting (phase.Read d) = false
-is_resting (phase.Change h) = false
-is_resting (phase.Fill v) = false
-is_resting phase.Downgrade = false
-is_resting (phase.Release a) = false
-is_resting (phase.Answer a) = false
+is_resting f = rests_in (class_of f)
 
--- whether the call that a thread is in may have its block listed already
 abbrev pub may_own : {K V D T : Type 0} → Phase K V D T → Bool
-may_own phase.Rest = false
-may_own (phase.Admit r) = false
-may_own (phase.Find r) = false
-may_own (phase.Grow c) = false
-may_own (phase.Append k v) = true
-may_own (phase.Apply i k) = true
-may_own (phase.View i k d) = false
-may_own (phase.Read d) = false
-may_own (phase.Change h) = false
-may_own (phase.Fill v) = false
-may_own phase.Downgrade = false
-may_own (phase.Release a) = true
-may_own (phase.Answer a) = true
+may_own f = may_own_in (class_of f)
 
 -- how many calls a thread has taken from its program
 abbrev pub taken : {K V D T A : Type 0} → Place K V D T A → ℕ

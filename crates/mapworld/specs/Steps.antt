@@ -1,5 +1,5 @@
 -- The kinds of steps: what each changes, of which thread, and that nothing else changes.
-use Rattle.std.specs.Prelude.{◌≡◌, ◌≢◌, ℕ, ◌+◌, ◌*◌, ◌≤◌, Bool, true, false, if◌then◌else◌, nat_lt, List, [], ◌∷◌, ◌++◌, length, Option, Some, None, slice_get, slice_set, position, remove, vec_len, vec_capacity, is_some}
+use Rattle.std.specs.Prelude.{◌≡◌, ◌≢◌, ℕ, ◌+◌, ◌*◌, ◌≤◌, ◌⊎◌, Bool, true, false, if◌then◌else◌, nat_lt, List, [], ◌∷◌, ◌++◌, length, Option, Some, None, slice_get, slice_set, position, remove, vec_len, vec_capacity, is_some}
 use Rattle.std.specs.declared.vec.Vec.{Vec}
 use Rattle.std.specs.declared.collections.VecDeque.{VecDeque}
 use Rattle.mapworld_calls.specs.declared.ask.Ask.{Ask}
@@ -304,6 +304,10 @@ module _ {K V S D T A : Type 0} (x : Setup K V D T) (w : State K V S D T A) (s :
       blocks = blocks;
       replies = w.replies ++ record { thread = s.thread; call = place.next; start = start; end = next_step w; answer = answer } ∷ [];
     }
+
+-- a find for which the shard's list has to grow: it grows, or that is refused
+abbrev pub Grows : {K V S D T A : Type 0} → Setup K V D T → State K V S D T A → Step → State K V S D T A → Type 0
+Grows x w s w' = GrowsList x w s w' ⊎ IsRefusedGrowth x w s w'
 
 -- one step of a world, of one kind
 pub data IsStep {K V S D T A : Type 0} (x : Setup K V D T) (w : State K V S D T A) (s : Step) (w' : State K V S D T A) : Type 0 where

@@ -1,10 +1,8 @@
 //! One step of a world, of the kind that its thread stands before.
 ghost use Rattle.std.specs.Prelude.{◌≡◌, ◌<◌, true, length};
-ghost use Rattle.mapworld.specs.Sound.{Sound};
 ghost use Rattle.mapworld.specs.Steps.{IsStep};
 ghost use Rattle.mapworld.specs.Running.{has_numbers, status_of, is_running};
-ghost use Rattle.mapworld.specs.World.{setup_of};
-ghost use Rattle.mapworld.specs.Core.{state_of, Room};
+ghost use Rattle.mapworld.specs.Core.{state_of, Room, IsSoundCore, MakesStep};
 
 use crate::deeds::{append, apply, change, fill, read, view};
 use crate::ends::{answer, downgrade, release};
@@ -25,12 +23,12 @@ pub(crate) fn advance<
     D: Deed<K, V> + Drop,
     A: Allocator,
 >(core: &mut Core<K, V, S, D, D::Answer, A>, step: Step)
-    requires sound { Sound (setup_of D.Deed S.BuildHasher S.Hasher.Hasher K.eq K.hash_input (state_of core.old)) (state_of core.old) }
+    requires sound { IsSoundCore D.Deed S.BuildHasher S.Hasher.Hasher K.eq K.hash_input core.old }
     requires room { Room core.old }
     requires numbers { has_numbers (state_of core.old) ≡ true }
     requires thread { step.thread < length core.old.places.items }
     requires running { is_running (status_of (state_of core.old) step.thread) ≡ true }
-    ensures step { IsStep (setup_of D.Deed S.BuildHasher S.Hasher.Hasher K.eq K.hash_input (state_of core.old)) (state_of core.old) step (state_of core.new) }
+    ensures step { MakesStep IsStep D.Deed S.BuildHasher S.Hasher.Hasher K.eq K.hash_input core.old step core.new }
     ensures room { Room core.new }
 {
     match &core.places[step.thread].phase {

@@ -1,10 +1,8 @@
 //! The steps that change or read a pair.
 ghost use Rattle.std.specs.Prelude.{◌≡◌, ◌+◌, ◌≤◌, true, if◌then◌else◌};
 ghost use Rattle.mapworld.specs.declared.place.Phase.TheVariants as phase;
-ghost use Rattle.mapworld.specs.Sound.{Sound};
 ghost use Rattle.mapworld.specs.Running.{has_numbers};
-ghost use Rattle.mapworld.specs.World.{setup_of};
-ghost use Rattle.mapworld.specs.Core.{state_of, Room, IsBefore};
+ghost use Rattle.mapworld.specs.Core.{state_of, Room, IsBefore, IsSoundCore, MakesStep};
 ghost use Rattle.mapworld.specs.Steps.{Appends, Applies, Views, Reads, Changes, Fills};
 
 use crate::blocks::{Started, count_in, list_block};
@@ -28,11 +26,11 @@ pub(crate) fn append<
     D: Deed<K, V> + Drop,
     A: Allocator,
 >(core: &mut Core<K, V, S, D, D::Answer, A>, step: Step)
-    requires sound { Sound (setup_of D.Deed S.BuildHasher S.Hasher.Hasher K.eq K.hash_input (state_of core.old)) (state_of core.old) }
+    requires sound { IsSoundCore D.Deed S.BuildHasher S.Hasher.Hasher K.eq K.hash_input core.old }
     requires room { Room core.old }
     requires numbers { has_numbers (state_of core.old) ≡ true }
     requires before { (key : _) × (value : _) × IsBefore core.old.places.items step.thread (phase.Append key value) }
-    ensures step { Appends (setup_of D.Deed S.BuildHasher S.Hasher.Hasher K.eq K.hash_input (state_of core.old)) (state_of core.old) step (state_of core.new) }
+    ensures step { MakesStep Appends D.Deed S.BuildHasher S.Hasher.Hasher K.eq K.hash_input core.old step core.new }
     ensures room { Room core.new }
 {
     let place = &mut core.places[step.thread];
@@ -64,11 +62,11 @@ pub(crate) fn apply<
     D: Deed<K, V> + Drop,
     A: Allocator,
 >(core: &mut Core<K, V, S, D, D::Answer, A>, step: Step)
-    requires sound { Sound (setup_of D.Deed S.BuildHasher S.Hasher.Hasher K.eq K.hash_input (state_of core.old)) (state_of core.old) }
+    requires sound { IsSoundCore D.Deed S.BuildHasher S.Hasher.Hasher K.eq K.hash_input core.old }
     requires room { Room core.old }
     requires numbers { has_numbers (state_of core.old) ≡ true }
     requires before { (slot : _) × (call : _) × IsBefore core.old.places.items step.thread (phase.Apply slot call) }
-    ensures step { Applies (setup_of D.Deed S.BuildHasher S.Hasher.Hasher K.eq K.hash_input (state_of core.old)) (state_of core.old) step (state_of core.new) }
+    ensures step { MakesStep Applies D.Deed S.BuildHasher S.Hasher.Hasher K.eq K.hash_input core.old step core.new }
     ensures room { Room core.new }
 {
     let place = &mut core.places[step.thread];
@@ -92,11 +90,11 @@ pub(crate) fn view<
     D: Deed<K, V> + Drop,
     A: Allocator,
 >(core: &mut Core<K, V, S, D, D::Answer, A>, step: Step)
-    requires sound { Sound (setup_of D.Deed S.BuildHasher S.Hasher.Hasher K.eq K.hash_input (state_of core.old)) (state_of core.old) }
+    requires sound { IsSoundCore D.Deed S.BuildHasher S.Hasher.Hasher K.eq K.hash_input core.old }
     requires room { Room core.old }
     requires numbers { has_numbers (state_of core.old) ≡ true }
     requires before { (slot : _) × (key : _) × (deed : _) × IsBefore core.old.places.items step.thread (phase.View slot key deed) }
-    ensures step { Views (setup_of D.Deed S.BuildHasher S.Hasher.Hasher K.eq K.hash_input (state_of core.old)) (state_of core.old) step (state_of core.new) }
+    ensures step { MakesStep Views D.Deed S.BuildHasher S.Hasher.Hasher K.eq K.hash_input core.old step core.new }
     ensures room { Room core.new }
 {
     let number = core.count + 1;
@@ -133,11 +131,11 @@ pub(crate) fn read<
     D: Deed<K, V> + Drop,
     A: Allocator,
 >(core: &mut Core<K, V, S, D, D::Answer, A>, step: Step)
-    requires sound { Sound (setup_of D.Deed S.BuildHasher S.Hasher.Hasher K.eq K.hash_input (state_of core.old)) (state_of core.old) }
+    requires sound { IsSoundCore D.Deed S.BuildHasher S.Hasher.Hasher K.eq K.hash_input core.old }
     requires room { Room core.old }
     requires numbers { has_numbers (state_of core.old) ≡ true }
     requires before { (deed : _) × IsBefore core.old.places.items step.thread (phase.Read deed) }
-    ensures step { Reads (setup_of D.Deed S.BuildHasher S.Hasher.Hasher K.eq K.hash_input (state_of core.old)) (state_of core.old) step (state_of core.new) }
+    ensures step { MakesStep Reads D.Deed S.BuildHasher S.Hasher.Hasher K.eq K.hash_input core.old step core.new }
     ensures room { Room core.new }
 {
     let place = &mut core.places[step.thread];
@@ -166,11 +164,11 @@ pub(crate) fn change<
     D: Deed<K, V> + Drop,
     A: Allocator,
 >(core: &mut Core<K, V, S, D, D::Answer, A>, step: Step)
-    requires sound { Sound (setup_of D.Deed S.BuildHasher S.Hasher.Hasher K.eq K.hash_input (state_of core.old)) (state_of core.old) }
+    requires sound { IsSoundCore D.Deed S.BuildHasher S.Hasher.Hasher K.eq K.hash_input core.old }
     requires room { Room core.old }
     requires numbers { has_numbers (state_of core.old) ≡ true }
     requires before { (call : _) × IsBefore core.old.places.items step.thread (phase.Change call) }
-    ensures step { Changes (setup_of D.Deed S.BuildHasher S.Hasher.Hasher K.eq K.hash_input (state_of core.old)) (state_of core.old) step (state_of core.new) }
+    ensures step { MakesStep Changes D.Deed S.BuildHasher S.Hasher.Hasher K.eq K.hash_input core.old step core.new }
     ensures room { Room core.new }
 {
     let place = &mut core.places[step.thread];
@@ -200,11 +198,11 @@ pub(crate) fn fill<
     D: Deed<K, V> + Drop,
     A: Allocator,
 >(core: &mut Core<K, V, S, D, D::Answer, A>, step: Step)
-    requires sound { Sound (setup_of D.Deed S.BuildHasher S.Hasher.Hasher K.eq K.hash_input (state_of core.old)) (state_of core.old) }
+    requires sound { IsSoundCore D.Deed S.BuildHasher S.Hasher.Hasher K.eq K.hash_input core.old }
     requires room { Room core.old }
     requires numbers { has_numbers (state_of core.old) ≡ true }
     requires before { (value : _) × IsBefore core.old.places.items step.thread (phase.Fill value) }
-    ensures step { Fills (setup_of D.Deed S.BuildHasher S.Hasher.Hasher K.eq K.hash_input (state_of core.old)) (state_of core.old) step (state_of core.new) }
+    ensures step { MakesStep Fills D.Deed S.BuildHasher S.Hasher.Hasher K.eq K.hash_input core.old step core.new }
     ensures room { Room core.new }
 {
     let place = &mut core.places[step.thread];

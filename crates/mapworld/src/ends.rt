@@ -1,10 +1,8 @@
 //! The steps that end a hold and a call.
 ghost use Rattle.std.specs.Prelude.{◌≡◌, ◌+◌, ◌<◌, ◌^◌, true, if◌then◌else◌};
 ghost use Rattle.mapworld.specs.declared.place.Phase.TheVariants as phase;
-ghost use Rattle.mapworld.specs.Sound.{Sound};
 ghost use Rattle.mapworld.specs.Running.{has_numbers};
-ghost use Rattle.mapworld.specs.World.{setup_of};
-ghost use Rattle.mapworld.specs.Core.{state_of, Room, IsBefore};
+ghost use Rattle.mapworld.specs.Core.{state_of, Room, IsBefore, IsSoundCore, MakesStep};
 ghost use Rattle.mapworld.specs.Steps.{Downgrades, Releases, Answers};
 
 use crate::blocks::{count_in, end_block};
@@ -44,11 +42,11 @@ pub(crate) fn downgrade<
     D: Deed<K, V> + Drop,
     A: Allocator,
 >(core: &mut Core<K, V, S, D, D::Answer, A>, step: Step)
-    requires sound { Sound (setup_of D.Deed S.BuildHasher S.Hasher.Hasher K.eq K.hash_input (state_of core.old)) (state_of core.old) }
+    requires sound { IsSoundCore D.Deed S.BuildHasher S.Hasher.Hasher K.eq K.hash_input core.old }
     requires room { Room core.old }
     requires numbers { has_numbers (state_of core.old) ≡ true }
     requires before { IsBefore core.old.places.items step.thread phase.Downgrade }
-    ensures step { Downgrades (setup_of D.Deed S.BuildHasher S.Hasher.Hasher K.eq K.hash_input (state_of core.old)) (state_of core.old) step (state_of core.new) }
+    ensures step { MakesStep Downgrades D.Deed S.BuildHasher S.Hasher.Hasher K.eq K.hash_input core.old step core.new }
     ensures room { Room core.new }
 {
     let place = &mut core.places[step.thread];
@@ -80,11 +78,11 @@ pub(crate) fn release<
     D: Deed<K, V> + Drop,
     A: Allocator,
 >(core: &mut Core<K, V, S, D, D::Answer, A>, step: Step)
-    requires sound { Sound (setup_of D.Deed S.BuildHasher S.Hasher.Hasher K.eq K.hash_input (state_of core.old)) (state_of core.old) }
+    requires sound { IsSoundCore D.Deed S.BuildHasher S.Hasher.Hasher K.eq K.hash_input core.old }
     requires room { Room core.old }
     requires numbers { has_numbers (state_of core.old) ≡ true }
     requires before { (answer : _) × IsBefore core.old.places.items step.thread (phase.Release answer) }
-    ensures step { Releases (setup_of D.Deed S.BuildHasher S.Hasher.Hasher K.eq K.hash_input (state_of core.old)) (state_of core.old) step (state_of core.new) }
+    ensures step { MakesStep Releases D.Deed S.BuildHasher S.Hasher.Hasher K.eq K.hash_input core.old step core.new }
     ensures room { Room core.new }
 {
     let place = &mut core.places[step.thread];
@@ -113,11 +111,11 @@ pub(crate) fn answer<
     D: Deed<K, V> + Drop,
     A: Allocator,
 >(core: &mut Core<K, V, S, D, D::Answer, A>, step: Step)
-    requires sound { Sound (setup_of D.Deed S.BuildHasher S.Hasher.Hasher K.eq K.hash_input (state_of core.old)) (state_of core.old) }
+    requires sound { IsSoundCore D.Deed S.BuildHasher S.Hasher.Hasher K.eq K.hash_input core.old }
     requires room { Room core.old }
     requires numbers { has_numbers (state_of core.old) ≡ true }
     requires before { (answer : _) × IsBefore core.old.places.items step.thread (phase.Answer answer) }
-    ensures step { Answers (setup_of D.Deed S.BuildHasher S.Hasher.Hasher K.eq K.hash_input (state_of core.old)) (state_of core.old) step (state_of core.new) }
+    ensures step { MakesStep Answers D.Deed S.BuildHasher S.Hasher.Hasher K.eq K.hash_input core.old step core.new }
     ensures room { Room core.new }
 {
     let end = core.count + 1;

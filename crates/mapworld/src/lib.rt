@@ -14,6 +14,7 @@ mod limits;
 mod looks;
 mod making;
 mod moves;
+mod pairs;
 mod place;
 mod route;
 mod starts;
@@ -29,5 +30,6 @@ pub use mapworld_calls::{
     holds_one_guard,
 };
 pub use mapworld_faults::{RunFault, WorldNewFault};
+pub use pairs::Pairs;
 pub use step::{Status, Step};
 pub use world::MapWorld;

@@ -1,12 +1,10 @@
 //! The steps that look into a held shard.
-ghost use Rattle.std.specs.Prelude.{◌≡◌, ◌+◌, ◌≤◌, ◌^◌, ◌⊎◌, true};
+ghost use Rattle.std.specs.Prelude.{◌≡◌, ◌+◌, ◌≤◌, ◌^◌, true};
 ghost use Rattle.mapworld.specs.declared.place.Phase.TheVariants as phase;
-ghost use Rattle.mapworld.specs.Sound.{Sound};
 ghost use Rattle.mapworld.specs.Running.{has_numbers};
-ghost use Rattle.mapworld.specs.World.{setup_of};
-ghost use Rattle.mapworld.specs.Core.{state_of, Room, IsBefore};
+ghost use Rattle.mapworld.specs.Core.{state_of, Room, IsBefore, IsSoundCore, MakesStep};
 ghost use Rattle.mapworld.specs.Moves.{request_key};
-ghost use Rattle.mapworld.specs.Steps.{slot_in, has_room, grown_room, Finds, GrowsList, IsRefusedGrowth};
+ghost use Rattle.mapworld.specs.Steps.{slot_in, has_room, grown_room, Finds, Grows};
 
 use crate::blocks::{Started, list_block};
 use crate::moves::{block_behind, enter, found, found_done, request_key, request_of};
@@ -44,11 +42,11 @@ pub(crate) fn find<
     D: Deed<K, V> + Drop,
     A: Allocator,
 >(core: &mut Core<K, V, S, D, D::Answer, A>, step: Step)
-    requires sound { Sound (setup_of D.Deed S.BuildHasher S.Hasher.Hasher K.eq K.hash_input (state_of core.old)) (state_of core.old) }
+    requires sound { IsSoundCore D.Deed S.BuildHasher S.Hasher.Hasher K.eq K.hash_input core.old }
     requires room { Room core.old }
     requires numbers { has_numbers (state_of core.old) ≡ true }
     requires before { (request : _) × IsBefore core.old.places.items step.thread (phase.Find request) }
-    ensures step { Finds (setup_of D.Deed S.BuildHasher S.Hasher.Hasher K.eq K.hash_input (state_of core.old)) (state_of core.old) step (state_of core.new) }
+    ensures step { MakesStep Finds D.Deed S.BuildHasher S.Hasher.Hasher K.eq K.hash_input core.old step core.new }
     ensures room { Room core.new }
 {
     let number = core.count + 1;
@@ -94,11 +92,11 @@ pub(crate) fn grow<
     D: Deed<K, V> + Drop,
     A: Allocator,
 >(core: &mut Core<K, V, S, D, D::Answer, A>, step: Step)
-    requires sound { Sound (setup_of D.Deed S.BuildHasher S.Hasher.Hasher K.eq K.hash_input (state_of core.old)) (state_of core.old) }
+    requires sound { IsSoundCore D.Deed S.BuildHasher S.Hasher.Hasher K.eq K.hash_input core.old }
     requires room { Room core.old }
     requires numbers { has_numbers (state_of core.old) ≡ true }
     requires before { (call : _) × IsBefore core.old.places.items step.thread (phase.Grow call) }
-    ensures step { GrowsList (setup_of D.Deed S.BuildHasher S.Hasher.Hasher K.eq K.hash_input (state_of core.old)) (state_of core.old) step (state_of core.new) ⊎ IsRefusedGrowth (setup_of D.Deed S.BuildHasher S.Hasher.Hasher K.eq K.hash_input (state_of core.old)) (state_of core.old) step (state_of core.new) }
+    ensures step { MakesStep Grows D.Deed S.BuildHasher S.Hasher.Hasher K.eq K.hash_input core.old step core.new }
     ensures room { Room core.new }
 {
     let number = core.count + 1;

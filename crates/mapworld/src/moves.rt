@@ -79,10 +79,7 @@ pub(crate) fn mode_of<K, V, D>(request: &Request<K, V, D>) -> Mode
 fn is_drop<V, D>(call: &Held<V, D>) -> bool
     ensures { result ≡ is_drop call.now }
 {
-    match call {
-        Held::Drop => true,
-        _ => false,
-    }
+    matches!(call, Held::Drop)
 }
 
 /// Whether a call is the last one of its block, if it has one.
@@ -258,11 +255,7 @@ pub(crate) fn start_shard<K: Eq + Hash, V, D, S: BuildHasher>(
 fn is_told<K, V, D, T>(phase: &Phase<K, V, D, T>) -> bool
     ensures { result ≡ is_told phase.now }
 {
-    match phase {
-        Phase::Answer(_) => true,
-        Phase::Release(Answer::Key(_)) => true,
-        _ => false,
-    }
+    matches!(phase, Phase::Answer(_) | Phase::Release(Answer::Key(_)))
 }
 
 /// The block that a start counts its call in, by the phase behind it.
@@ -279,23 +272,17 @@ pub(crate) fn start_counts<K, V, D, T>(
 pub(crate) fn ends_guard<V, D>(call: &Held<V, D>) -> bool
     ensures { result ≡ ends_guard call.now }
 {
-    match call {
-        Held::Remove => true,
-        Held::RemoveEntry => true,
-        Held::ReplaceEntry(_) => true,
-        _ => false,
-    }
+    matches!(
+        call,
+        Held::Remove | Held::RemoveEntry | Held::ReplaceEntry(_)
+    )
 }
 
 /// Whether the guard's pair goes by such a call.
 pub(crate) fn takes_pair<V, D>(call: &Held<V, D>) -> bool
     ensures { result ≡ takes_pair call.now }
 {
-    match call {
-        Held::Remove => true,
-        Held::RemoveEntry => true,
-        _ => false,
-    }
+    matches!(call, Held::Remove | Held::RemoveEntry)
 }
 
 /// The phase behind such a call's deed.
@@ -338,13 +325,8 @@ fn absent_phase<K: Drop, V: Drop, D: Drop, T>(call: Keyed<K, V, D>, room: bool) 
     ensures { result ≡ found_phase (request.Keyed call) None room }
 {
     match call {
-        Keyed::Insert(key, value) => {
-            if room {
-                Phase::Append(key, value)
-            } else {
-                Phase::Grow(Growth::Insert(key, value))
-            }
-        }
+        Keyed::Insert(key, value) if room => Phase::Append(key, value),
+        Keyed::Insert(key, value) => Phase::Grow(Growth::Insert(key, value)),
         Keyed::Alter(_, _) => Phase::Release(Answer::Done),
         Keyed::ContainsKey(_) => Phase::Release(Answer::Flag(false)),
         _ => Phase::Release(Answer::None),
@@ -370,15 +352,9 @@ fn find_nothing<K: Drop, V, D, T>(
     ensures { result ≡ (found_phase (request.Begin begin) None room, found_guard {V = V} {D = D} (request.Begin begin) None room) }
 {
     match begin {
-        Begin::Entry(key) => {
-            if room {
-                (Phase::Answer(Answer::Vacant), Some(Guard::Vacant(key)))
-            } else {
-                (Phase::Grow(Growth::Entry(key)), None)
-            }
-        }
-        Begin::Get(_) => (Phase::Release(Answer::None), None),
-        Begin::GetMut(_) => (Phase::Release(Answer::None), None),
+        Begin::Entry(key) if room => (Phase::Answer(Answer::Vacant), Some(Guard::Vacant(key))),
+        Begin::Entry(key) => (Phase::Grow(Growth::Entry(key)), None),
+        Begin::Get(_) | Begin::GetMut(_) => (Phase::Release(Answer::None), None),
     }
 }
 

@@ -1,10 +1,8 @@
 //! The steps that lead a thread to its shard.
 ghost use Rattle.std.specs.Prelude.{◌≡◌, ◌<◌, true, false, length, slice_get};
 ghost use Rattle.mapworld.specs.declared.place.Phase.TheVariants as phase;
-ghost use Rattle.mapworld.specs.Sound.{Sound};
 ghost use Rattle.mapworld.specs.Running.{has_numbers};
-ghost use Rattle.mapworld.specs.World.{setup_of};
-ghost use Rattle.mapworld.specs.Core.{state_of, Room, IsBefore};
+ghost use Rattle.mapworld.specs.Core.{state_of, Room, IsBefore, IsSoundCore, MakesStep};
 ghost use Rattle.mapworld.specs.Holds.{is_excluded};
 ghost use Rattle.mapworld.specs.Moves.{mode_of};
 ghost use Rattle.mapworld.specs.Steps.{Starts, Admits};
@@ -28,12 +26,12 @@ pub(crate) fn start<
     D: Deed<K, V> + Drop,
     A: Allocator,
 >(core: &mut Core<K, V, S, D, D::Answer, A>, step: Step)
-    requires sound { Sound (setup_of D.Deed S.BuildHasher S.Hasher.Hasher K.eq K.hash_input (state_of core.old)) (state_of core.old) }
+    requires sound { IsSoundCore D.Deed S.BuildHasher S.Hasher.Hasher K.eq K.hash_input core.old }
     requires room { Room core.old }
     requires numbers { has_numbers (state_of core.old) ≡ true }
     requires before { IsBefore core.old.places.items step.thread phase.Rest }
     requires left { (p : _) → slice_get core.old.places.items step.thread ≡ Some p → 0 < length p.asks.items }
-    ensures step { Starts (setup_of D.Deed S.BuildHasher S.Hasher.Hasher K.eq K.hash_input (state_of core.old)) (state_of core.old) step (state_of core.new) }
+    ensures step { MakesStep Starts D.Deed S.BuildHasher S.Hasher.Hasher K.eq K.hash_input core.old step core.new }
     ensures room { Room core.new }
 {
     let number = core.count + 1;
@@ -62,11 +60,11 @@ pub(crate) fn admit<
     D: Deed<K, V> + Drop,
     A: Allocator,
 >(core: &mut Core<K, V, S, D, D::Answer, A>, step: Step)
-    requires sound { Sound (setup_of D.Deed S.BuildHasher S.Hasher.Hasher K.eq K.hash_input (state_of core.old)) (state_of core.old) }
+    requires sound { IsSoundCore D.Deed S.BuildHasher S.Hasher.Hasher K.eq K.hash_input core.old }
     requires room { Room core.old }
     requires numbers { has_numbers (state_of core.old) ≡ true }
     requires before { (request : _) × (b : IsBefore core.old.places.items step.thread (phase.Admit request)) × (is_excluded core.old.places.items b.place.shard (mode_of request) ≡ false) }
-    ensures step { Admits (setup_of D.Deed S.BuildHasher S.Hasher.Hasher K.eq K.hash_input (state_of core.old)) (state_of core.old) step (state_of core.new) }
+    ensures step { MakesStep Admits D.Deed S.BuildHasher S.Hasher.Hasher K.eq K.hash_input core.old step core.new }
     ensures room { Room core.new }
 {
     let place = &mut core.places[step.thread];

@@ -210,14 +210,14 @@ pub fn told<A: Allocator>(world: &World<A>, thread: usize, call: usize, want: &A
         && reply.answer == *want)
 }
 
-/// Whether the world has the thread, and it stands so.
+/// Whether the thread stands so.
 pub fn stands<A: Allocator>(world: &World<A>, thread: usize, want: Status) -> bool {
-    thread < world.threads() && world.status(thread) == want
+    world.status(thread) == want
 }
 
-/// Whether the world has the thread, and its unanswered call started at that step.
+/// Whether the thread's unanswered call started at that step.
 pub fn started<A: Allocator>(world: &World<A>, thread: usize, want: u64) -> bool {
-    thread < world.threads() && world.started(thread) == Some(want)
+    world.started(thread) == Some(want)
 }
 
 /// Whether the contents are these pairs and no others.
@@ -227,6 +227,7 @@ pub fn has_pairs<A: Allocator + Clone + Drop>(world: &World<A>, want: &[(u64, u6
         Err(_) => false,
     };
     is_full
+        && world.pairs().count() == want.len()
         && want
             .iter()
             .all(|pair| world.pair(&pair.0) == Some((&pair.0, &pair.1)))

@@ -17,7 +17,7 @@ use Rattle.mapworld_calls.specs.declared.block.Block.{Block}
 use Rattle.mapworld_calls.specs.declared.reply.Answer.{Answer}
 use Rattle.mapworld_calls.specs.declared.reply.Answer.TheVariants as answer
 use Rattle.mapworld_calls.specs.declared.reply.Reply.{Reply}
-use Rattle.mapworld_calls.specs.Programs.{keyed_key, opening_key, key_of, may_grow, opening_may_grow, session_behind, opening_before}
+use Rattle.mapworld_calls.specs.Programs.{keyed_key, key_of, may_grow, opening_may_grow, session_behind, opening_before}
 use Rattle.mapworld_calls.specs.Calls as today
 use Rattle.mapworld_calls.specs.Setup.{Setup, ask_at, session_of}
 use Rattle.mapworld_calls.specs.Pairs.{opening_pair}
