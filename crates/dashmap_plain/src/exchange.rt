@@ -30,12 +30,12 @@ fn exchange<K: Eq + Hash, V, Q, A: Allocator>(
 
 /// Exchanges each shard behind its lock for the plain one of the same number.
 pub(crate) fn exchange_all<K: Eq + Hash, V, Q, A: Allocator>(
-    locks: &mut [CachePadded<RwLock<Q, Shard<K, V, A>>>],
-    plain: &mut [Shard<K, V, A>],
+    locks: &mut Vec<CachePadded<RwLock<Q, Shard<K, V, A>>>, A>,
+    plain: &mut Vec<Shard<K, V, A>, A>,
 )
-    requires { length plain.old ≡ length locks.old }
-    ensures locks { locks.new ≡ locks.old }
-    ensures plain { length plain.new ≡ length plain.old }
+    requires { length plain.old.items ≡ length locks.old.items }
+    ensures locks { locks.new.items ≡ locks.old.items }
+    ensures plain { length plain.new.items ≡ length plain.old.items }
 {
     for number in 0..plain.len() {
         exchange(&mut locks[number], &mut plain[number]);
