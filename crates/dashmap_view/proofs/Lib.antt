@@ -1,2 +1,2 @@
-mod Walking
+pub mod Walking
 mod Homes
