@@ -1,2 +1,4 @@
-mod Walking
+pub mod Walking
 mod Homes
+mod Cloning
+mod CloneViews

@@ -4,6 +4,7 @@
 //! the shard of its key's route, and from then on finds keys and walks over pairs without a lock and without memory.
 #![tactic(auto)]
 
+mod clone;
 mod counting;
 mod displaced;
 mod iter;
@@ -11,6 +12,7 @@ mod owning;
 mod routed;
 mod view;
 
+pub use clone::{clone_hasher, clone_shard};
 pub use displaced::Displaced;
 pub use iter::{ViewIter, ViewKeys, ViewValues};
 pub use owning::OwningIter;

@@ -3,14 +3,17 @@ ghost use Rattle.std.specs.Prelude.{◌≡◌, ◌↔◌, IsTrue, IfOk, IfErr, l
 ghost use Rattle.std.specs.Option.{option_map, option_copied};
 ghost use Rattle.dashmap_table.specs.Route.{IsShardAmount};
 ghost use Rattle.dashmap_table.specs.Shards.{AreSharded, pair_at};
+ghost use Rattle.std.specs.List.{AllZip};
+ghost use Rattle.dashmap_view.specs.Clones.{IsCloneOf};
 ghost use Rattle.dashmap_view.specs.Views.{AreRouted, all_pairs, pair_count, room_in, at_most_max};
 
+use crate::clone::{clone_hasher, clone_shards};
 use crate::counting::{pairs_in, room_for};
 use crate::displaced::Displaced;
 use crate::iter::{ViewIter, ViewKeys, ViewValues};
 use crate::owning::OwningIter;
 use crate::routed::are_routed;
-use dashmap_table::{Shard, route};
+use dashmap_table::{NoMemory, Shard, route};
 use std::alloc::{Allocator, Global};
 use std::fmt;
 use std::hash::{BuildHasher, Hash};
@@ -61,6 +64,36 @@ impl<K: Eq + Hash, V, S: BuildHasher, A: Allocator> PlainView<K, V, S, A> {
         } else {
             Err(Displaced::new((shards, hasher)))
         }
+    }
+
+    /// A view of shards and a hasher that are known to belong together, as those of another view do. It tests nothing.
+    pub fn from_parts(plain: Vec<Shard<K, V, A>, A>, hasher: S) -> PlainView<K, V, S, A>
+        requires { AreSharded S.BuildHasher S.Hasher.Hasher K.hash_input K.eq (record { tables = plain.items; hasher = hasher }) }
+        ensures { result ≡ record { tables = plain.items; hasher = hasher } }
+    {
+        PlainView {
+            shards: plain,
+            hasher,
+        }
+    }
+
+    /// A view of clones of all pairs, with as many shards. Keys, values and the hasher have to be equal to their clones.
+    pub fn clone(&self) -> Result<PlainView<K, V, S, A>, NoMemory>
+    where
+        K: Clone + Drop,
+        V: Clone + Drop,
+        S: Clone + Drop,
+        A: Clone,
+        requires keys { (key copy : K) → K.is_clone key copy → copy ≡ key }
+        requires values { (value copy : V) → V.is_clone value copy → copy ≡ value }
+        requires hasher { (hasher copy : S) → S.is_clone hasher copy → copy ≡ hasher }
+        ensures shards { IfOk result (λ v. AllZip (IsCloneOf K.eq) self.now.tables v.tables) }
+        ensures hasher { IfOk result (λ v. v.hasher ≡ self.now.hasher) }
+        ensures pairs { IfOk result (λ v. (q : K) → pair_at S.BuildHasher S.Hasher.Hasher K.hash_input K.eq v q ≡ pair_at S.BuildHasher S.Hasher.Hasher K.hash_input K.eq self.now q) }
+    {
+        let hasher = clone_hasher(&self.hasher)?;
+        let shards = clone_shards(&self.shards, self.shards.allocator().clone()?)?;
+        Ok(PlainView { shards, hasher })
     }
 
     /// The shards and the hasher.

@@ -41,6 +41,18 @@ fn a_view_finds_its_keys_alone(rt: HostRuntime) -> Result<(), Fail> {
 }
 
 #[test]
+fn a_clone_of_a_view_finds_what_the_view_finds(rt: HostRuntime) -> Result<(), Fail> {
+    let view = view_of(rt.alloc(), 100)?;
+    let clone = view.clone()?;
+    let mut right = clone.len() == 100 && clone.shards().len() == 4 && view.len() == 100;
+    for key in 0..101 {
+        right &= clone.get(&key) == view.get(&key);
+    }
+    assert!(rt; right);
+    Ok(())
+}
+
+#[test]
 fn a_view_of_no_pair_is_empty(rt: HostRuntime) -> Result<(), Fail> {
     let view = view_of(rt.alloc(), 0)?;
     let empty = view.is_empty() && view.len() == 0 && view.capacity() == 0;

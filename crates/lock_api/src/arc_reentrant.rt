@@ -2,6 +2,7 @@
 ghost use Rattle.std.specs.Prelude.{◌≡◌, IfSome, IfOk, OnErr};
 ghost use Rattle.std.specs.Arc.{arc_value};
 ghost use Rattle.std.specs.Fn.{FnOnceReturnsAt};
+ghost use Rattle.lock_api.specs.Leaves.{EndedFairly, BumpedAlone};
 
 use crate::arc_fault::ReentrantArcFault;
 use crate::reentrant::ReentrantMutex;
@@ -177,6 +178,10 @@ impl<
 where
     R::Runtime: Wait,
 {
+    ghost left_fairly = { λ _ _. EndedFairly R.spent_fairly };
+
+    ghost bumped = { λ _ _. BumpedAlone R.bumped };
+
     fn release_fair(self) -> Arc<ReentrantMutex<R, G, T>, A> {
         let OwnedReentrant { lock, token } = self;
         lock.raw.unlock_fair(token);

@@ -1,6 +1,7 @@
 //! A raw mutex that its owner may take again.
 ghost use Rattle.std.specs.Prelude.{◌≡◌, ◌-◌, ◌^◌, IfSome, IfOk, OnErr};
 ghost use Rattle.lock_api_raw.specs.Limits.{kept_limit};
+ghost use Rattle.lock_api.specs.Leaves.{Left, LeftAlone, EndedFairly, BumpedAlone};
 
 use counted_slot::{Claim, Counted, FREE, Fits, TAKEN};
 use lock_api_raw::{
@@ -174,13 +175,32 @@ where
 
     /// Takes one from the count, and with the last the raw token.
     fn leave(&self) -> Option<R::Guard>
-        ensures { IfSome result (λ token. R.issued_by token ≡ R.number self.now.raw) }
+        ensures issued { IfSome result (λ token. R.issued_by token ≡ R.number self.now.raw) }
+        ensures left { Left result }
     {
         let depth = self.depth.load(Ordering::SeqCst);
         if depth > 1 {
             self.depth.store(depth - 1, Ordering::SeqCst);
             return None;
         }
+        self.leave_last()
+    }
+
+    /// The raw token, with the count at 0, if the hold is the only one. Where it isn't, nothing changes.
+    fn leave_alone(&self) -> Option<R::Guard>
+        ensures issued { IfSome result (λ token. R.issued_by token ≡ R.number self.now.raw) }
+        ensures left { LeftAlone result }
+    {
+        if self.depth.load(Ordering::SeqCst) > 1 {
+            return None;
+        }
+        self.leave_last()
+    }
+
+    /// The raw token, with the count at 0.
+    fn leave_last(&self) -> Option<R::Guard>
+        ensures { IfSome result (λ token. R.issued_by token ≡ R.number self.now.raw) }
+    {
         self.owner.store(0, Ordering::SeqCst);
         self.depth.store(0, Ordering::SeqCst);
         match self.claim().put(None, FREE) {
@@ -233,6 +253,7 @@ where
     where
         R: RawMutexFair,
         requires { guard ≡ self.now.number }
+        ensures { EndedFairly R.spent_fairly }
     {
         guard.spend();
         if let Some(token) = self.leave() {
@@ -245,12 +266,10 @@ where
     where
         R: RawMutexFair,
         requires { guard ≡ self.now.number }
-        ensures { result ≡ self.now.number }
+        ensures issued { result ≡ self.now.number }
+        ensures bump { BumpedAlone R.bumped }
     {
-        if self.depth.load(Ordering::SeqCst) > 1 {
-            return guard;
-        }
-        match self.leave() {
+        match self.leave_alone() {
             Some(token) => {
                 guard.spend();
                 let token = self.raw.bump(token, party);

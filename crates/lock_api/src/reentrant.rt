@@ -1,6 +1,7 @@
 //! The reentrant mutex, and the hold that its guards keep.
 ghost use Rattle.std.specs.Prelude.{◌≡◌, ◌-◌, ◌^◌, IfSome, IfOk, OnErr};
 ghost use Rattle.lock_api_raw.specs.Limits.{kept_limit};
+ghost use Rattle.lock_api.specs.Leaves.{EndedFairly, BumpedAlone};
 
 use crate::raw_reentrant::RawReentrantMutex;
 use lock_api_guards::{Access, FairHold, Guard, Hold, Mapped, ReentrantHold};
@@ -279,6 +280,10 @@ impl<'l, R: RawMutexFair + Drop, G: GetThreadId<Party = R::Party> + Drop, T> Fai
 where
     R::Runtime: Wait,
 {
+    ghost left_fairly = { λ _ _. EndedFairly R.spent_fairly };
+
+    ghost bumped = { λ _ _. BumpedAlone R.bumped };
+
     fn release_fair(self) -> &'l ReentrantMutex<R, G, T> {
         let LockedReentrant { lock, token } = self;
         lock.raw.unlock_fair(token);

@@ -21,22 +21,22 @@ use Rattle.mapworld_calls.specs.Programs.{one_guard, opening_before}
 use Rattle.mapworld_calls.specs.Pairs.{pair_of, opening_pair}
 use Rattle.mapworld_calls.specs.Setup.{Setup}
 use Rattle.mapworld_calls.specs.Placed.{WellPlaced}
-use Rattle.mapworld.specs.declared.step.Step.{Step}
+use Rattle.mapworld_state.specs.declared.step.Step.{Step}
 use Rattle.lock_api_desk.specs.Desk.{DeskState}
-use Rattle.mapworld.specs.Holds.{Desks}
-use Rattle.mapworld.specs.declared.holds.Hold.{Hold}
-use Rattle.mapworld.specs.declared.place.Phase.{Phase}
-use Rattle.mapworld.specs.declared.place.Phase.TheVariants as phase
-use Rattle.mapworld.specs.declared.place.Place.{Place}
-use Rattle.mapworld.specs.declared.world_core.Core.{Core}
-use Rattle.mapworld.specs.Route.{IsWorldAmount, key_route}
-use Rattle.mapworld.specs.State.{State, started_of}
-use Rattle.mapworld.specs.World.{setup_of}
-use Rattle.mapworld.specs.Sound.{IsInSession, Stands, TablesAgree, Sound}
-use Rattle.mapworld.specs.Held.{HoldsMatch}
-use Rattle.mapworld.specs.Core.{state_of, owes, lists, adds, unheld, Room}
+use Rattle.mapworld_state.specs.Holds.{Desks}
+use Rattle.mapworld_state.specs.declared.holds.Hold.{Hold}
+use Rattle.mapworld_state.specs.declared.place.Phase.{Phase}
+use Rattle.mapworld_state.specs.declared.place.Phase.TheVariants as phase
+use Rattle.mapworld_state.specs.declared.place.Place.{Place}
+use Rattle.mapworld_state.specs.declared.world_core.Core.{Core}
+use Rattle.mapworld_state.specs.Route.{IsWorldAmount, key_route}
+use Rattle.mapworld_state.specs.State.{State, started_of}
+use Rattle.mapworld_state.specs.World.{setup_of}
+use Rattle.mapworld_state.specs.Sound.{IsInSession, Stands, TablesAgree, Sound}
+use Rattle.mapworld_state.specs.Held.{HoldsMatch}
+use Rattle.mapworld_state.specs.Core.{state_of, owes, lists, adds, unheld, Room}
 use Rattle.mapworld.specs.Beginning.{at_start, AreAtStart, AreFilled, pairs_in, AreReady}
-use Rattle.mapworld.proofs.Orderly.{sound_empty}
+use Rattle.mapworld_sound.proofs.Orderly.{sound_empty}
 use Rattle.mapworld.proofs.Routes.{key_route-below}
 use Rattle.mapworld.proofs.Refusals.{sum_by-map}
 use Rattle.mapworld.proofs.Setups.{setup-laws}

@@ -1,12 +1,12 @@
 -- Where a step is refused, the fault has the number of steps that were done.
 use Rattle.std.proofs.Common.{◌≡◌, ℕ, Bool, true, false, if◌then◌else◌, Some, None, nat_lt, length, ap, sym}
 use Rattle.std.proofs.lemmas.Option.{none-some, same_Some}
-use Rattle.mapworld.specs.declared.fault.RunFault.{RunFault}
-use Rattle.mapworld.specs.declared.fault.RunFault.TheVariants as fault
-use Rattle.mapworld.specs.declared.step.Step.{Step}
-use Rattle.mapworld.specs.Faults.{run_fault_done}
-use Rattle.mapworld.specs.State.{State}
-use Rattle.mapworld.specs.Running.{status_of, is_running, has_numbers, refusal}
+use Rattle.mapworld_faults.specs.declared.fault.RunFault.{RunFault}
+use Rattle.mapworld_faults.specs.declared.fault.RunFault.TheVariants as fault
+use Rattle.mapworld_state.specs.declared.step.Step.{Step}
+use Rattle.mapworld_faults.specs.Faults.{run_fault_done}
+use Rattle.mapworld_state.specs.State.{State}
+use Rattle.mapworld_state.specs.Running.{status_of, is_running, has_numbers, refusal}
 
 done_of : (a b c : Bool) (n : ℕ) (f : RunFault) → (if a then (if b then (if c then None else Some (fault.StepsShort n)) else Some (fault.CannotMove n)) else Some (fault.NoSuchThread n)) ≡ Some f → run_fault_done f ≡ n
 done_of true true true n f h = absurd (none-some f h)

@@ -10,7 +10,7 @@ use Rattle.std.proofs.lemmas.Option.{none-some}
 use Rattle.mapworld_calls.specs.Pairs.{pair_of, opening_pair, AreDistinct}
 use Rattle.mapworld_calls.proofs.Lists.{slice_get-set_cases, slice_get-push_cases, sum_by-set}
 use Rattle.mapworld.specs.Beginning.{IsPut, AreFilled, pairs_in, AreEmpty}
-use Rattle.mapworld.proofs.Tables.{pair_of-at, pair_of-push, pair_of-set, AreDistinct-none, AreDistinct-push, AreDistinct-set, set-keys}
+use Rattle.mapworld_state.proofs.Tables.{pair_of-at, pair_of-push, pair_of-set, AreDistinct-none, AreDistinct-push, AreDistinct-set, set-keys}
 use Rattle.mapworld.proofs.Openings.{opening_pair-push_new, opening_pair-push_again}
 
 pub length-slice_set : {X : Type 0} (xs : List X) (i : ℕ) (y : X) → length (slice_set xs i y) ≡ length xs

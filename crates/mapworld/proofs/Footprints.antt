@@ -14,15 +14,15 @@ use Rattle.mapworld_calls.specs.Placed.{IsDoneWithin}
 use Rattle.mapworld_calls.proofs.Folds.{fold-replaced}
 use Rattle.mapworld_calls.proofs.Lists.{slice_get-set_other}
 use Rattle.mapworld_calls.proofs.Replays.{left-untouched}
-use Rattle.mapworld.specs.declared.step.Step.{Step}
-use Rattle.mapworld.specs.declared.place.Place.{Place}
-use Rattle.mapworld.specs.State.{State, pairs_of, started_of}
-use Rattle.mapworld.specs.Moves.{CountsIn, CountsCall}
-use Rattle.mapworld.specs.Steps.{IsStep, start, admit, find, find_grows, find_refused, deed_appends, deed_applies, deed_views, deed_reads, deed_writes, downgrade, release, answers}
-use Rattle.mapworld.specs.Footprint.{OthersKeepPairs, neither, one_pair, one_desk, HasFootprint}
-use Rattle.mapworld.specs.Sound.{Sound}
+use Rattle.mapworld_state.specs.declared.step.Step.{Step}
+use Rattle.mapworld_state.specs.declared.place.Place.{Place}
+use Rattle.mapworld_state.specs.State.{State, pairs_of, started_of}
+use Rattle.mapworld_state.specs.Moves.{CountsIn, CountsCall}
+use Rattle.mapworld_state.specs.Steps.{IsStep, start, admit, find, find_grows, find_refused, deed_appends, deed_applies, deed_views, deed_reads, deed_changes, deed_fills, downgrade, release, answers}
+use Rattle.mapworld_state.specs.Footprint.{OthersKeepPairs, neither, one_pair, one_desk, HasFootprint}
+use Rattle.mapworld_state.specs.Sound.{Sound}
 use Rattle.mapworld.proofs.Outcomes.{agrees}
-use Rattle.mapworld.proofs.Sounds.{sound-step}
+use Rattle.mapworld_sound.proofs.Sounds.{sound-step}
 
 -- a list that is another value with the same pairs
 same_pairs : {X A : Type 0} (tables : List (Vec X A)) (i : ℕ) (old new : Vec X A) → slice_get tables i ≡ Some old → new.items ≡ old.items
@@ -133,8 +133,15 @@ module _ {K V S D T A : Type 0} (x : Setup K V D T) (laws : Laws x) (w : State K
     touches = neither (ap pairs_of a.after) (ap (λ (v : State K V S D T A). v.holds) a.after);
     replies = inl (ap (λ (v : State K V S D T A). v.replies) a.after);
   }
-  step_footprint (deed_writes a) =
-      let k = others_keep (deed_writes a) a.pair.0 a.place.block a.place.next a.blocks a.counted (ap (λ (v : State K V S D T A). v.blocks) a.after) in
+  step_footprint (deed_changes a) =
+      let k = others_keep (deed_changes a) a.pair.0 a.place.block a.place.next a.blocks a.counted (ap (λ (v : State K V S D T A). v.blocks) a.after) in
+      record {
+        places = λ t ne. ap (λ (v : State K V S D T A). slice_get v.places t) a.after ∙ stays_elsewhere _ t ne;
+        touches = one_pair k.0 k.1 (ap (λ (v : State K V S D T A). v.holds) a.after);
+        replies = inl (ap (λ (v : State K V S D T A). v.replies) a.after);
+      }
+  step_footprint (deed_fills a) =
+      let k = others_keep (deed_fills a) a.key a.place.block a.place.next a.blocks a.counted (ap (λ (v : State K V S D T A). v.blocks) a.after) in
       record {
         places = λ t ne. ap (λ (v : State K V S D T A). slice_get v.places t) a.after ∙ stays_elsewhere _ t ne;
         touches = one_pair k.0 k.1 (ap (λ (v : State K V S D T A). v.holds) a.after);

@@ -7,8 +7,8 @@ use Rattle.std.proofs.lemmas.Bool.{false≢true, false_from_ne_true}
 use Rattle.mapworld_calls.specs.Pairs.{pair_of, AreDistinct}
 use Rattle.mapworld.specs.Tables.{joined, AreRouted, AreEachDistinct}
 use Rattle.mapworld_calls.proofs.Lists.{slice_get-append_left, slice_get-append_right, slice_get-append_cases}
-use Rattle.mapworld.proofs.Finds.{same_option}
-use Rattle.mapworld.proofs.Tables.{pair_of-is, pair_of-none, pair_of-none_from, pair_of-at, AreDistinct-none}
+use Rattle.mapworld_state.proofs.Finds.{same_option}
+use Rattle.mapworld_state.proofs.Tables.{pair_of-is, pair_of-none, pair_of-none_from, pair_of-at, AreDistinct-none}
 
 -- an element of one of the lists stands in the joined list
 pub joined-there : {X : Type 0} (tables : List (List X)) (i j : ℕ) (table : List X) (x : X) → slice_get tables i ≡ Some table → slice_get table j ≡ Some x → (n : ℕ) × (slice_get (joined tables) n ≡ Some x)

@@ -8,7 +8,7 @@ use Rattle.std.proofs.lemmas.List.{reverse-append}
 use Rattle.std.proofs.lemmas.List.Folds.{find-append}
 use Rattle.mapworld_calls.specs.Pairs.{has_key, pair_of, key_and_value, opening_pair}
 use Rattle.dashmap_table.proofs.Cases.{choice}
-use Rattle.mapworld.proofs.Tables.{pair_of-same, pair_of-is}
+use Rattle.mapworld_state.proofs.Tables.{pair_of-same, pair_of-is}
 
 option_or-none : {X : Type 0} (o : Option X) → option_or o None ≡ o
 option_or-none None = refl

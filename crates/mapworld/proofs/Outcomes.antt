@@ -15,14 +15,16 @@ use Rattle.mapworld_calls.specs.Every.Placed as every_placed
 use Rattle.mapworld_calls.specs.Every.Setup as every_setup
 use Rattle.mapworld_calls.specs.Every.Today.{as_reply}
 use Rattle.mapworld_calls.proofs.Every.Today.{placed-as, agrees-as}
-use Rattle.mapworld.specs.declared.holds.Hold.{Hold}
-use Rattle.mapworld.specs.declared.place.Phase.{Phase}
-use Rattle.mapworld.specs.declared.place.Phase.TheVariants as phase
-use Rattle.mapworld.specs.declared.place.Place.{Place}
-use Rattle.mapworld.specs.State.{State, pairs_of, threads_of, started_of}
-use Rattle.mapworld.specs.Held.{holds_before, HoldByPhase}
-use Rattle.mapworld.specs.Sound.{HoldsByGuard, IsInSession, Claim, Sound}
-use Rattle.mapworld.specs.World.{setup_of, world_setup}
+use Rattle.mapworld_state.specs.declared.holds.Hold.{Hold}
+use Rattle.mapworld_state.specs.declared.place.Guard.{Guard}
+use Rattle.mapworld_state.specs.declared.place.Guard.TheVariants as guard
+use Rattle.mapworld_state.specs.declared.place.Phase.{Phase}
+use Rattle.mapworld_state.specs.declared.place.Phase.TheVariants as phase
+use Rattle.mapworld_state.specs.declared.place.Place.{Place}
+use Rattle.mapworld_state.specs.State.{State, pairs_of, threads_of, started_of}
+use Rattle.mapworld_state.specs.Held.{holds_before, HoldByPhase}
+use Rattle.mapworld_state.specs.Sound.{HoldsByGuard, IsInSession, Claim, Sound}
+use Rattle.mapworld_state.specs.World.{setup_of, world_setup}
 use Rattle.mapworld.proofs.Setups.{setup-laws}
 use Rattle.mapworld.proofs.Viewing.{pairs_distinct, pair_at_route}
 
@@ -60,29 +62,31 @@ has_hold o h is = ap is_some is
 
 module _ {K V D T A : Type 0} (x : Setup K V D T) (threads : List ℕ) (bs : List (Block K)) (tables : List (Vec (K × V) A)) (t : ℕ) (p : Place K V D T A) where
   -- a guard's thread holds its shard
-  guard_holds : (n slot : ℕ) (session block : Option ℕ) → p.slot ≡ Some slot → IsInSession x bs tables t p n session block → (h : Hold) × (p.hold ≡ Some h)
-  guard_holds n slot None block guarded h = absurd (none-some slot (sym h.0 ∙ guarded))
-  guard_holds n slot (Some c) None guarded h = absurd (none-some slot (sym h.0 ∙ guarded))
-  guard_holds n slot (Some c) (Some i) guarded h = let g = rw guarded at h.guard in (g.3.hold, g.3.has)
+  guard_holds : (n : ℕ) (g : Guard K) (session block : Option ℕ) → p.guard ≡ Some g → IsInSession x bs tables t p n session block → (h : Hold) × (p.hold ≡ Some h)
+  guard_holds n g None block guarded h = absurd (none-some g (sym h.0 ∙ guarded))
+  guard_holds n g (Some c) None guarded h = absurd (none-some g (sym h.0 ∙ guarded))
+  guard_holds n (guard.Pair kind slot) (Some c) (Some i) guarded h = let g = rw guarded at h.guard in (g.2.hold, g.2.has)
+  guard_holds n (guard.Vacant k) (Some c) (Some i) guarded h = let g = rw guarded at h.guard in (g.1.hold, g.1.has)
 
   -- between two calls, and before an answer, a thread holds where it has a guard
-  by_guard : (n : ℕ) (session block guard : Option ℕ) → p.slot ≡ guard → HoldsByGuard p → IsInSession x bs tables t p n session block → is_some p.hold ≡ is_some guard
+  by_guard : (n : ℕ) (session block : Option ℕ) (g : Option (Guard K)) → p.guard ≡ g → HoldsByGuard p → IsInSession x bs tables t p n session block → is_some p.hold ≡ is_some g
   by_guard n session block None is free ready = ap is_some (free is)
-  by_guard n session block (Some slot) is free ready = let h = guard_holds n slot session block is ready in has_hold p.hold h.0 h.1
+  by_guard n session block (Some g) is free ready = let h = guard_holds n g session block is ready in has_hold p.hold h.0 h.1
 
-  by_claim : (f : Phase K V D T) → Claim x threads bs tables t p f → is_some p.hold ≡ holds_before p.slot f
-  by_claim phase.Rest c = by_guard p.next _ p.block p.slot refl c.1 c.2
+  by_claim : (f : Phase K V D T) → Claim x threads bs tables t p f → is_some p.hold ≡ holds_before p.guard f
+  by_claim phase.Rest c = by_guard p.next _ p.block p.guard refl c.1 c.2
   by_claim (phase.Admit r) c = ap is_some c.2
   by_claim (phase.Find r) c = has_hold p.hold c.2.hold c.2.has
-  by_claim (phase.Grow k v) c = has_hold p.hold c.2.hold c.2.has
+  by_claim (phase.Grow w) c = has_hold p.hold c.2.hold c.2.has
   by_claim (phase.Append k v) c = has_hold p.hold c.1.alone.hold c.1.alone.has
   by_claim (phase.Apply i k) c = has_hold p.hold c.2.alone.hold c.2.alone.has
   by_claim (phase.View i k d) c = has_hold p.hold c.3.hold c.3.has
-  by_claim (phase.Read d) c = let h = guard_holds p.next c.0 _ p.block c.2 c.3 in has_hold p.hold h.0 h.1
-  by_claim (phase.Write d) c = has_hold p.hold c.3.hold c.3.has
+  by_claim (phase.Read d) c = let h = guard_holds p.next (guard.Pair c.0 c.1) _ p.block c.3 c.4 in has_hold p.hold h.0 h.1
+  by_claim (phase.Change h) c = has_hold p.hold c.5.hold c.5.has
+  by_claim (phase.Fill v) c = has_hold p.hold c.3.hold c.3.has
   by_claim phase.Downgrade c = has_hold p.hold c.3.hold c.3.has
   by_claim (phase.Release r) c = has_hold p.hold c.1 c.3
-  by_claim (phase.Answer r) c = by_guard (p.next + 1) _ _ p.slot refl c.2 c.4
+  by_claim (phase.Answer r) c = by_guard (p.next + 1) _ _ p.guard refl c.2 c.4
 
 pub hold_by_phase : {K V S D T A : Type 0} (x : Setup K V D T) (w : State K V S D T A) → Sound x w → HoldByPhase w.places
 hold_by_phase x w sound t p at = by_claim x (threads_of w) w.blocks w.tables t p p.phase (sound.stands t p at).claim

@@ -6,7 +6,7 @@ use Rattle.std.proofs.lemmas.List.{map_push}
 use Rattle.std.proofs.lemmas.Option.{none-some}
 use Rattle.mapworld_calls.specs.declared.ask.Ask.{Ask}
 use Rattle.mapworld_calls.proofs.Lists.{slice_get-push_cases}
-use Rattle.mapworld.specs.declared.place.Place.{Place}
+use Rattle.mapworld_state.specs.declared.place.Place.{Place}
 use Rattle.mapworld.specs.Beginning.{at_start, AreAtStart, AreEmpty}
 
 pub AreEmpty-push : {K V A : Type 0} (tables tables' : List (Vec (K × V) A)) (table : Vec (K × V) A) → AreEmpty tables → table.items ≡ [] → tables' ≡ tables ++ table ∷ [] → AreEmpty tables'

@@ -5,7 +5,7 @@ use Rattle.std.proofs.lemmas.Grind.{common_steps}
 use Rattle.std.proofs.lemmas.List.Sums.{sum_by-cons}
 use Rattle.mapworld_calls.specs.declared.ask.Ask.{Ask}
 use Rattle.mapworld_calls.specs.Programs.{one_guard}
-use Rattle.mapworld.specs.Route.{IsWorldAmount}
+use Rattle.mapworld_state.specs.Route.{IsWorldAmount}
 use Rattle.mapworld.specs.Making.{new_refusal}
 
 pub sum_by-map : {X Y : Type 0} (f : Y → ℕ) (g : X → Y) (xs : List X) → sum_by f (map g xs) ≡ sum_by (λ x. f (g x)) xs

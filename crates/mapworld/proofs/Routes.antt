@@ -5,7 +5,7 @@ use Rattle.std.specs.declared.hash.BuildHasher as builder
 use Rattle.std.specs.declared.hash.Hasher as hasher
 use Rattle.dashmap_table.specs.Route.{IsShardAmount, route_of, hash_of}
 use Rattle.dashmap_table.proofs.ShardAmounts.{route_of-below}
-use Rattle.mapworld.specs.Route.{IsWorldAmount, key_route}
+use Rattle.mapworld_state.specs.Route.{IsWorldAmount, key_route}
 
 -- a world has as many shards as a map may have
 pub IsShardAmount-of : (n : ℕ) → IsWorldAmount n → IsShardAmount n

@@ -6,14 +6,14 @@ use Rattle.std.specs.declared.hash.Hasher as hasher
 use Rattle.mapworld_calls.specs.declared.ask.Ask.{Ask}
 use Rattle.mapworld_calls.specs.declared.deed.Deed as deed
 use Rattle.mapworld_calls.specs.Setup.{Setup}
-use Rattle.mapworld.specs.declared.step.Step.{Step}
-use Rattle.mapworld.specs.Route.{key_route}
-use Rattle.mapworld.specs.State.{State}
-use Rattle.mapworld.specs.Steps.{IsStep}
-use Rattle.mapworld.specs.Footprint.{HasFootprint}
-use Rattle.mapworld.specs.Running.{refusal, Ran}
-use Rattle.mapworld.specs.World.{deeds_of, setup_of}
-use Rattle.mapworld.specs.Making.{StaysFixed}
+use Rattle.mapworld_state.specs.declared.step.Step.{Step}
+use Rattle.mapworld_state.specs.Route.{key_route}
+use Rattle.mapworld_state.specs.State.{State}
+use Rattle.mapworld_state.specs.Steps.{IsStep}
+use Rattle.mapworld_state.specs.Footprint.{HasFootprint}
+use Rattle.mapworld_state.specs.Running.{refusal, Ran}
+use Rattle.mapworld_state.specs.World.{deeds_of, setup_of}
+use Rattle.mapworld_state.specs.Running.{StaysFixed}
 
 module _ {K V S D T A : Type 0} (x : Setup K V D T) where
   pub Ran-more : (n : ℕ) (w : State K V S D T A) (steps : List Step) (w' : State K V S D T A) (s : Step) (w'' : State K V S D T A)

@@ -6,8 +6,8 @@ use Rattle.std.specs.declared.hash.BuildHasher as builder
 use Rattle.std.specs.declared.hash.Hasher as hasher
 use Rattle.mapworld_calls.specs.declared.deed.Deed as deed
 use Rattle.mapworld_calls.specs.Setup.{Laws}
-use Rattle.mapworld.specs.State.{State}
-use Rattle.mapworld.specs.World.{setup_of}
+use Rattle.mapworld_state.specs.State.{State}
+use Rattle.mapworld_state.specs.World.{setup_of}
 use Rattle.mapworld.proofs.Routes.{key_route-equal}
 
 module _ {K V S H D T A : Type 0} (d : deed.Ghosts D K V T) (b : builder.Ghosts S H) (h : hasher.Ghosts H) (eq : K → K → Bool) (writes : K → HashWrites) where

@@ -1,22 +1,26 @@
 -- A thread is asleep where another thread's hold excludes the admission that it is before, and finished where all its calls
 -- are answered.
-use Rattle.std.proofs.Common.{◌≡◌, ◌≢◌, ◌↔◌, ℕ, ◌+◌, ◌-◌, ◌≤◌, Bool, true, false, if◌then◌else◌, List, length, drop, Option, Some, None, slice_get, refl, ap, sym, ◌∙◌, subst, ◌==◌, arith, length-drop}
-use Rattle.std.proofs.lemmas.Option.{none-some, same_Some}
+use Rattle.std.proofs.Common.{◌≡◌, ◌≢◌, ◌↔◌, ℕ, ◌+◌, ◌-◌, ◌≤◌, inl, inr, Bool, true, false, if◌then◌else◌, List, length, drop, Option, Some, None, slice_get, refl, ap, sym, ◌∙◌, subst, ◌==◌, arith, length-drop}
+use Rattle.std.proofs.lemmas.Option.{none-some, same_Some, slice_get_within}
 use Rattle.std.proofs.lemmas.Bool.{cond-true, eqb-true}
+use Rattle.dashmap_table.proofs.Cases.{option_cases}
+use Rattle.mapworld_calls.specs.declared.ask.Ask.{Ask}
 use Rattle.mapworld_calls.specs.Setup.{Setup}
-use Rattle.mapworld.specs.declared.step.Status.{Status}
-use Rattle.mapworld.specs.declared.step.Status.TheVariants as status
-use Rattle.mapworld.specs.declared.place.Request.{Request}
-use Rattle.mapworld.specs.declared.place.Phase.{Phase}
-use Rattle.mapworld.specs.declared.place.Phase.TheVariants as phase
-use Rattle.mapworld.specs.declared.place.Place.{Place}
-use Rattle.mapworld.specs.Holds.{is_excluded}
-use Rattle.mapworld.specs.State.{State, threads_of}
-use Rattle.mapworld.specs.Moves.{mode_of}
-use Rattle.mapworld.specs.Running.{status_before, status_at, status_of}
-use Rattle.mapworld.specs.Sound.{is_resting, Claim, Sound}
+use Rattle.mapworld_state.specs.declared.step.Status.{Status}
+use Rattle.mapworld_state.specs.declared.step.Status.TheVariants as status
+use Rattle.mapworld_state.specs.declared.place.Request.{Request}
+use Rattle.mapworld_state.specs.declared.place.Phase.{Phase}
+use Rattle.mapworld_state.specs.declared.place.Phase.TheVariants as phase
+use Rattle.mapworld_state.specs.declared.place.Place.{Place}
+use Rattle.mapworld_state.specs.Holds.{is_excluded}
+use Rattle.mapworld_state.specs.State.{State, threads_of}
+use Rattle.mapworld_state.specs.Moves.{mode_of}
+use Rattle.mapworld_state.specs.Classes.{Class, resting, waiting, inside, placed, leaving, answering, class_of, rests_in, status_in}
+use Rattle.mapworld_state.specs.Running.{is_kept_out, status_before, status_at, status_of}
+use Rattle.mapworld_state.specs.Sound.{is_resting, Claim, Sound}
 use Rattle.mapworld.specs.Asleep.{IsAsleep, IsFinished}
-use Rattle.mapworld.proofs.HoldsTable.{is_excluded-true, is_excluded-by}
+use Rattle.mapworld.proofs.Outcomes.{element-at}
+use Rattle.mapworld_state.proofs.HoldsTable.{is_excluded-true, is_excluded-by}
 
 never : (b : Bool) → (if b then status.Finished else status.Running) ≡ status.Asleep → ⊥
 never true h = cc
@@ -31,30 +35,16 @@ module _ {K V D T A : Type 0} (places : List (Place K V D T A)) where
   before_admission left shard phase.Rest h = absurd (never (left == 0) h)
   before_admission left shard (phase.Admit r) h = (r, refl, sleeps (is_excluded places shard (mode_of r)) h)
   before_admission left shard (phase.Find r) h = cc
-  before_admission left shard (phase.Grow k v) h = cc
+  before_admission left shard (phase.Grow c) h = cc
   before_admission left shard (phase.Append k v) h = cc
   before_admission left shard (phase.Apply i k) h = cc
   before_admission left shard (phase.View i k d) h = cc
   before_admission left shard (phase.Read d) h = cc
-  before_admission left shard (phase.Write d) h = cc
+  before_admission left shard (phase.Change k) h = cc
+  before_admission left shard (phase.Fill v) h = cc
   before_admission left shard phase.Downgrade h = cc
   before_admission left shard (phase.Release a) h = cc
   before_admission left shard (phase.Answer a) h = cc
-
-  -- a thread that is neither between two calls nor before an admission can move
-  pub runs-otherwise : (left shard : ℕ) (f : Phase K V D T) → (f ≡ phase.Rest → ⊥) → ((r : Request K V D) → f ≡ phase.Admit r → ⊥) → status.Running ≡ status_before places left shard f
-  runs-otherwise left shard phase.Rest rest admit = absurd (rest refl)
-  runs-otherwise left shard (phase.Admit r) rest admit = absurd (admit r refl)
-  runs-otherwise left shard (phase.Find r) rest admit = refl
-  runs-otherwise left shard (phase.Grow k v) rest admit = refl
-  runs-otherwise left shard (phase.Append k v) rest admit = refl
-  runs-otherwise left shard (phase.Apply i k) rest admit = refl
-  runs-otherwise left shard (phase.View i k d) rest admit = refl
-  runs-otherwise left shard (phase.Read d) rest admit = refl
-  runs-otherwise left shard (phase.Write d) rest admit = refl
-  runs-otherwise left shard phase.Downgrade rest admit = refl
-  runs-otherwise left shard (phase.Release a) rest admit = refl
-  runs-otherwise left shard (phase.Answer a) rest admit = refl
 
   at_admission : (o : Option (Place K V D T A)) → status_at places o ≡ status.Asleep → (p : Place K V D T A) × (r : Request K V D) × (o ≡ Some p) × (p.phase ≡ phase.Admit r) × (is_excluded places p.shard (mode_of r) ≡ true)
   at_admission None h = cc
@@ -110,34 +100,22 @@ not_over : (b : Bool) → (if b then status.Asleep else status.Running) ≡ stat
 not_over true h = cc
 not_over false h = cc
 
-module _ {K V D T A : Type 0} (places : List (Place K V D T A)) (left shard : ℕ) where
-  over : (f : Phase K V D T) → status_before places left shard f ≡ status.Finished → (is_resting f ≡ true) × (left ≡ 0)
-  over phase.Rest h = (refl, none_left left h)
-  over (phase.Admit r) h = absurd (not_over (is_excluded places shard (mode_of r)) h)
-  over (phase.Find r) h = cc
-  over (phase.Grow k v) h = cc
-  over (phase.Append k v) h = cc
-  over (phase.Apply i k) h = cc
-  over (phase.View i k d) h = cc
-  over (phase.Read d) h = cc
-  over (phase.Write d) h = cc
-  over phase.Downgrade h = cc
-  over (phase.Release a) h = cc
-  over (phase.Answer a) h = cc
+module _ (excluded : Bool) (left : ℕ) where
+  over : (c : Class) → status_in excluded left c ≡ status.Finished → (rests_in c ≡ true) × (left ≡ 0)
+  over resting h = (refl, none_left left h)
+  over waiting h = absurd (not_over excluded h)
+  over inside h = cc
+  over placed h = cc
+  over leaving h = cc
+  over answering h = cc
 
-  over_at_rest : (f : Phase K V D T) → is_resting f ≡ true → left ≡ 0 → status_before places left shard f ≡ status.Finished
-  over_at_rest phase.Rest h none = rw none refl
-  over_at_rest (phase.Admit r) h none = cc
-  over_at_rest (phase.Find r) h none = cc
-  over_at_rest (phase.Grow k v) h none = cc
-  over_at_rest (phase.Append k v) h none = cc
-  over_at_rest (phase.Apply i k) h none = cc
-  over_at_rest (phase.View i k d) h none = cc
-  over_at_rest (phase.Read d) h none = cc
-  over_at_rest (phase.Write d) h none = cc
-  over_at_rest phase.Downgrade h none = cc
-  over_at_rest (phase.Release a) h none = cc
-  over_at_rest (phase.Answer a) h none = cc
+  over_at_rest : (c : Class) → rests_in c ≡ true → left ≡ 0 → status_in excluded left c ≡ status.Finished
+  over_at_rest resting h none = rw none refl
+  over_at_rest waiting h none = cc
+  over_at_rest inside h none = cc
+  over_at_rest placed h none = cc
+  over_at_rest leaving h none = cc
+  over_at_rest answering h none = cc
 
 -- a thread that has taken its whole program is between two calls
 rests_at_the_end : (b : Bool) (next n : ℕ) → (if b then next else next + 1) ≤ n → next ≡ n → b ≡ true
@@ -160,23 +138,35 @@ module _ {K V S D T A : Type 0} (x : Setup K V D T) (w : State K V S D T A) (sou
   finished_there : status_of w t ≡ status.Finished → IsFinished w t
   finished_there h =
       let st = sound.stands t p at in
-      let o = over w.places (length p.asks.items) p.shard p.phase (sym status_there ∙ h) in
+      let o = over (is_kept_out w.places p.shard p.phase) (length p.asks.items) (class_of p.phase) (sym status_there ∙ h) in
       let left = ap length st.asks_left ∙ taken_at_rest (is_resting p.phase) p.next st.program o.0 in
       let within = rests_within (is_resting p.phase) p.next (length st.program) o.0 st.within in
-      record {
-        program = st.program;
-        has = ap (λ ps. slice_get ps t) (sym same) ∙ st.has;
-        answered = omega (arith, left, o.1, within, st.answered);
-      }
+      λ program has.
+      let one = same_Some program st.program (sym has ∙ (ap (λ ps. slice_get ps t) (sym same) ∙ st.has)) in
+      let all = ap length one in
+      omega (arith, left, o.1, within, st.answered, all)
 
   finished_back : IsFinished w t → status_of w t ≡ status.Finished
   finished_back f =
       let st = sound.stands t p at in
-      let one : f.program ≡ st.program = same_Some f.program st.program (sym f.has ∙ (ap (λ ps. slice_get ps t) (sym same) ∙ st.has)) in
-      let count : p.next ≡ length st.program = st.answered ∙ (f.answered ∙ ap length one) in
+      let count : p.next ≡ length st.program = st.answered ∙ f st.program (ap (λ ps. slice_get ps t) (sym same) ∙ st.has) in
       let rests = rests_at_the_end (is_resting p.phase) p.next (length st.program) st.within count in
       let left = ap length st.asks_left ∙ taken_at_rest (is_resting p.phase) p.next st.program rests in
-      status_there ∙ over_at_rest w.places (length p.asks.items) p.shard p.phase rests (omega (arith, left, count))
+      status_there ∙ over_at_rest (is_kept_out w.places p.shard p.phase) (length p.asks.items) (class_of p.phase) rests (omega (arith, left, count))
 
   pub status-finished : (r : Status) → r ≡ status_of w t → (r ≡ status.Finished) ↔ IsFinished w t
   status-finished r is = (λ h. finished_there (sym is ∙ h), λ h. is ∙ finished_back h)
+
+-- and a thread that the world doesn't have is finished, and has no program
+module _ {K V S D T A : Type 0} (x : Setup K V D T) (w : State K V S D T A) (sound : Sound x w) (same : x.programs ≡ w.programs) (long : length w.places ≡ length w.programs) (t : ℕ) where
+  no_program : slice_get w.places t ≡ None → (program : List (Ask K V D)) → slice_get w.programs t ≡ Some program → ⊥
+  no_program none program has =
+      let within = slice_get_within w.programs t program has in
+      let place = element-at w.places t (omega (arith, within, long)) in
+      none-some place.0 (sym none ∙ place.1)
+
+  pub status-finished-any : (r : Status) → r ≡ status_of w t → (r ≡ status.Finished) ↔ IsFinished w t
+  status-finished-any r is = elim (option_cases (slice_get w.places t)) [
+    | inl none ↦ (λ h program has. absurd (no_program none program has), λ h. is ∙ ap (λ o. status_at w.places o) none)
+    | inr some ↦ status-finished x w sound same t some.0 some.1 r is
+  ]

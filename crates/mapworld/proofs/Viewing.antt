@@ -11,19 +11,9 @@ use Rattle.mapworld_calls.specs.Setup.{Setup, Laws}
 use Rattle.mapworld_calls.specs.Pairs.{pair_of, AreDistinct}
 use Rattle.mapworld_calls.specs.declared.block.Block.{Block}
 use Rattle.mapworld.specs.Tables.{joined, AreRouted, AreEachDistinct}
-use Rattle.mapworld.specs.Sound.{TablesAgree}
+use Rattle.mapworld_state.specs.Sound.{TablesAgree}
 use Rattle.dashmap_table.proofs.Cases.{option_cases}
 use Rattle.mapworld.proofs.Joins.{AreDistinct-joined, pair_of-joined}
-
--- one list more
-pub flat_map_more : {X A : Type 0} (f : X → List A) (xs : List X) (i : ℕ) (x : X) (before ys now : List A) → i < length xs → x ≡ get_or xs i x → before ≡ flat_map f (take i xs) → ys ≡ f x → now ≡ before ++ ys → now ≡ flat_map f (take (i + 1) xs)
-flat_map_more f xs i x before ys now within is was same more =
-    let next : flat_map f (take (i + 1) xs) ≡ flat_map f (take i xs) ++ f x =
-    ap (λ zs. flat_map f zs) (take_more xs i x within)
-    ∙ (flat_map-append f (take i xs) (get_or xs i x ∷ [])
-    ∙ (ap (λ y. flat_map f (take i xs) ++ (f y ++ [])) (sym is)
-    ∙ ap (λ zs. flat_map f (take i xs) ++ zs) (append-nil (f x)))) in
-    more ∙ (ap₂ (λ zs ws. zs ++ ws) was same ∙ sym next)
 
 -- a mapped list's elements
 pub map_at : {X Y : Type 0} (f : X → Y) (xs : List X) (i : ℕ) (y : Y) → slice_get (map f xs) i ≡ Some y → (x : X) × (slice_get xs i ≡ Some x) × (f x ≡ y)

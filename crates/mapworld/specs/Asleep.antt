@@ -2,13 +2,13 @@
 use Rattle.std.specs.Prelude.{◌≡◌, ◌≢◌, ℕ, true, List, length, Some, slice_get}
 use Rattle.mapworld_calls.specs.declared.ask.Ask.{Ask}
 use Rattle.mapworld_calls.specs.Placed.{answered_of}
-use Rattle.mapworld.specs.declared.holds.Hold.{Hold}
-use Rattle.mapworld.specs.declared.place.Request.{Request}
-use Rattle.mapworld.specs.declared.place.Phase.TheVariants as phase
-use Rattle.mapworld.specs.declared.place.Place.{Place}
-use Rattle.mapworld.specs.Holds.{excludes}
-use Rattle.mapworld.specs.State.{State}
-use Rattle.mapworld.specs.Moves.{mode_of}
+use Rattle.mapworld_state.specs.declared.holds.Hold.{Hold}
+use Rattle.mapworld_state.specs.declared.place.Request.{Request}
+use Rattle.mapworld_state.specs.declared.place.Phase.TheVariants as phase
+use Rattle.mapworld_state.specs.declared.place.Place.{Place}
+use Rattle.mapworld_state.specs.Holds.{excludes}
+use Rattle.mapworld_state.specs.State.{State}
+use Rattle.mapworld_state.specs.Moves.{mode_of}
 
 -- the thread is before an admission, and another thread holds the shard in a way that excludes it
 pub record IsAsleep {K V S D T A : Type 0} (w : State K V S D T A) (t : ℕ) : Type 0 where
@@ -25,8 +25,6 @@ pub record IsAsleep {K V S D T A : Type 0} (w : State K V S D T A) (t : ℕ) : T
   pub same_shard : hold.shard ≡ place.shard
   pub excluded : excludes hold.mode (mode_of request) ≡ true
 
--- all calls of the thread's program are answered
-pub record IsFinished {K V S D T A : Type 0} (w : State K V S D T A) (t : ℕ) : Type 0 where
-  pub program : List (Ask K V D)
-  pub has : slice_get w.programs t ≡ Some program
-  pub answered : answered_of w.replies t ≡ length program
+-- all calls of the thread's program are answered; a thread that the world doesn't have has none
+abbrev pub IsFinished : {K V S D T A : Type 0} → State K V S D T A → ℕ → Type 0
+IsFinished {K} {V} {S} {D} w t = (program : List (Ask K V D)) → slice_get w.programs t ≡ Some program → answered_of w.replies t ≡ length program

@@ -5,9 +5,9 @@ use Rattle.std.specs.declared.collections.VecDeque.{VecDeque}
 use Rattle.mapworld_calls.specs.declared.ask.Ask.{Ask}
 use Rattle.mapworld_calls.specs.Pairs.{pair_of, opening_pair, AreDistinct}
 use Rattle.lock_api_desk.specs.Desk.{DeskState}
-use Rattle.mapworld.specs.declared.place.Phase.TheVariants as phase
-use Rattle.mapworld.specs.declared.place.Place.{Place}
-use Rattle.mapworld.specs.Holds.{Desks}
+use Rattle.mapworld_state.specs.declared.place.Phase.TheVariants as phase
+use Rattle.mapworld_state.specs.declared.place.Place.{Place}
+use Rattle.mapworld_state.specs.Holds.{Desks}
 
 -- before its first call a thread has neither started, nor does it hold anything
 abbrev pub at_start : {K V D T A : Type 0} → VecDeque (Ask K V D) A → Place K V D T A
@@ -19,7 +19,7 @@ at_start asks = record {
   shard = 0;
   hold = None;
   block = None;
-  slot = None;
+  guard = None;
   phase = phase.Rest;
 }
 

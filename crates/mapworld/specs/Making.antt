@@ -4,12 +4,12 @@ use Rattle.std.specs.List.{list_all}
 use Rattle.mapworld_calls.specs.declared.ask.Ask.{Ask}
 use Rattle.mapworld_calls.specs.Programs.{one_guard, numbers_of}
 use Rattle.mapworld_calls.specs.Pairs.{pair_of, opening_pair}
-use Rattle.mapworld.specs.declared.fault.WorldNewFault.{WorldNewFault}
-use Rattle.mapworld.specs.declared.fault.WorldNewFault.TheVariants as fault
+use Rattle.mapworld_faults.specs.declared.fault.WorldNewFault.{WorldNewFault}
+use Rattle.mapworld_faults.specs.declared.fault.WorldNewFault.TheVariants as fault
 use Rattle.dashmap_table.specs.Route.{log2}
 use Rattle.lock_api_desk.specs.Desk.{DeskState}
-use Rattle.mapworld.specs.Holds.{Desks}
-use Rattle.mapworld.specs.State.{State, pairs_of}
+use Rattle.mapworld_state.specs.Holds.{Desks}
+use Rattle.mapworld_state.specs.State.{State, pairs_of}
 use Rattle.mapworld.specs.Beginning.{AreAtStart}
 
 -- a power of two from 2 to 4,096
@@ -56,10 +56,3 @@ pub record IsNew {K V S D T A : Type 0} (eq : K → K → Bool) (shards : ℕ) (
   pub holds : AreFree shards w.holds
   pub blocks : w.blocks ≡ []
   pub replies : w.replies ≡ []
-
--- what a run never changes
-pub record StaysFixed {K V S D T A : Type 0} (w w' : State K V S D T A) : Type 0 where
-  pub hasher : w'.hasher ≡ w.hasher
-  pub shards : length w'.tables ≡ length w.tables
-  pub opening : w'.opening ≡ w.opening
-  pub programs : w'.programs ≡ w.programs

@@ -1,15 +1,13 @@
 //! How a new world's threads and tables begin.
 ghost use Rattle.std.specs.Prelude.{◌≡◌, ◌^◌, ◌≤◌, length, map, IfOk};
-ghost use Rattle.mapworld.specs.Route.{IsWorldAmount, key_route};
+ghost use Rattle.mapworld_state.specs.Route.{IsWorldAmount, key_route};
 ghost use Rattle.mapworld.specs.Beginning.{at_start, AreAtStart, IsPut, AreFilled, pairs_in, AreEmpty, IsReady, AreReady};
 
-use crate::holds::ShardDesk;
-use crate::place::{Phase, Place};
-use crate::route::shard_of;
-use crate::table::slot_of;
 use lock_api_desk::{Desk, TokenTable};
 use lock_api_raw::NoMemory;
 use mapworld_calls::Ask;
+use mapworld_state::{Phase, Place, ShardDesk};
+use mapworld_steps::{shard_of, slot_of};
 use std::alloc::Allocator;
 use std::collections::VecDeque;
 use std::hash::{BuildHasher, Hash};
@@ -26,7 +24,7 @@ fn at_start<K, V, D, T, A: Allocator>(asks: VecDeque<Ask<K, V, D>, A>) -> Place<
         shard: 0,
         hold: None,
         block: None,
-        slot: None,
+        guard: None,
         phase: Phase::Rest,
     }
 }

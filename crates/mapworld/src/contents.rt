@@ -1,25 +1,13 @@
 //! The pairs of all tables.
-ghost use Rattle.std.specs.Prelude.{◌≡◌, ◌++◌, map, flat_map, OnOk, IfOk};
+ghost use Rattle.std.specs.Prelude.{◌≡◌, map, flat_map, IfOk};
 ghost use Rattle.std.specs.Option.{option_map};
 ghost use Rattle.mapworld_calls.specs.Pairs.{pair_of};
 ghost use Rattle.mapworld.specs.Views.{shown};
 
-use crate::table;
+use crate::pairs::pairs_of;
 use lock_api_raw::NoMemory;
+use mapworld_steps::slot_of;
 use std::alloc::Allocator;
-
-/// Adds a table's pairs to a list of references.
-fn add_pairs<'a, K, V, A: Allocator>(
-    list: &mut Vec<(&'a K, &'a V), A>,
-    table: &'a [(K, V)],
-) -> Result<(), NoMemory>
-    ensures { OnOk result (map shown list.new.items ≡ map shown list.old.items ++ table.now) }
-{
-    for pair in table {
-        list.push((&pair.0, &pair.1))?;
-    }
-    Ok(())
-}
 
 /// References to the pairs of all tables, in their order.
 pub(crate) fn pairs_in<'a, K, V, A: Allocator + Drop>(
@@ -29,8 +17,8 @@ pub(crate) fn pairs_in<'a, K, V, A: Allocator + Drop>(
     ensures { IfOk result (λ pairs. map shown pairs.items ≡ flat_map (λ table. table.items) tables.now) }
 {
     let mut list = Vec::new(alloc);
-    for table in tables {
-        add_pairs(&mut list, table)?;
+    for pair in pairs_of(tables) {
+        list.push(pair)?;
     }
     Ok(list)
 }
@@ -39,7 +27,7 @@ pub(crate) fn pairs_in<'a, K, V, A: Allocator + Drop>(
 pub(crate) fn pair_in<'a, K: Eq, V>(pairs: &'a [(K, V)], key: &K) -> Option<(&'a K, &'a V)>
     ensures { option_map shown result ≡ pair_of K.eq pairs.now key.now }
 {
-    match table::slot_of(pairs, key) {
+    match slot_of(pairs, key) {
         Some(slot) => {
             let pair = &pairs[slot];
             Some((&pair.0, &pair.1))

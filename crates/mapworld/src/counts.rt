@@ -1,9 +1,9 @@
 //! How many steps a world may still need, and whether their numbers fit.
 ghost use Rattle.std.specs.Prelude.{◌≡◌, ◌+◌, ◌≤◌, ◌^◌};
-ghost use Rattle.mapworld.specs.Running.{bound, bound_of, has_numbers};
-ghost use Rattle.mapworld.specs.Core.{state_of, Room};
+ghost use Rattle.mapworld_state.specs.Running.{bound, bound_of, has_numbers};
+ghost use Rattle.mapworld_state.specs.Core.{state_of, Room};
 
-use crate::world_core::Core;
+use mapworld_state::Core;
 use std::alloc::Allocator;
 
 /// How many steps are enough for so many threads, shards, pairs and unanswered calls.

@@ -1,9 +1,9 @@
 //! Laws of the world's routes and setups.
 ghost use Rattle.std.specs.Prelude.{◌≡◌, ℕ, IsTrue};
 ghost use Rattle.mapworld_calls.specs.Every.Setup.{Laws};
-ghost use Rattle.mapworld.specs.Route.{key_route};
-ghost use Rattle.mapworld.specs.State.{State};
-ghost use Rattle.mapworld.specs.World.{world_setup};
+ghost use Rattle.mapworld_state.specs.Route.{key_route};
+ghost use Rattle.mapworld_state.specs.State.{State};
+ghost use Rattle.mapworld_state.specs.World.{world_setup};
 
 use mapworld_calls::Deed;
 use std::alloc::Allocator;

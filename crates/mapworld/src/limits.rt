@@ -4,9 +4,9 @@ ghost use Rattle.std.specs.List.{list_all};
 ghost use Rattle.mapworld_calls.specs.Programs.{one_guard, numbers_of};
 ghost use Rattle.mapworld.specs.Making.{new_refusal};
 
-use crate::fault::WorldNewFault;
-use crate::route::is_world_amount;
 use mapworld_calls::{Ask, guard_numbers, holds_one_guard};
+use mapworld_faults::WorldNewFault;
+use mapworld_steps::is_world_amount;
 use std::alloc::Allocator;
 
 /// How many calls all programs have, if they aren't too many.
@@ -25,13 +25,20 @@ pub(crate) fn calls_of<K, V, D, A: Allocator>(programs: &[Vec<Ask<K, V, D>, A>])
     Some(calls)
 }
 
+/// How many guard numbers the program takes.
+fn numbers_in<K, V, D, A: Allocator>(program: &Vec<Ask<K, V, D>, A>, shards: u64) -> u64
+    ensures { result ≡ sum_by numbers_of program.now.items }
+{
+    guard_numbers(program, shards)
+}
+
 /// Whether there are numbers for all guards that the programs take.
 fn has_guard_numbers<K, V, D, A: Allocator>(programs: &[Vec<Ask<K, V, D>, A>], shards: u64) -> bool
     ensures { result ≡ nat_lt (sum_by (λ program. sum_by numbers_of program.items) programs.now) (2 ^ 32) }
 {
     let mut numbers = 0;
     for program in programs {
-        let more = guard_numbers(program, shards);
+        let more = numbers_in(program, shards);
         if more >= (1 << 32) - numbers {
             return false;
         }

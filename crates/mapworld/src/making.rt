@@ -1,19 +1,14 @@
 //! How a world is made.
 ghost use Rattle.std.specs.Prelude.{◌≡◌, ◌≤◌, ◌^◌, length, map, sum_by, IfOk};
 ghost use Rattle.mapworld.specs.Making.{new_refusal, IsNew};
-ghost use Rattle.mapworld.specs.World.{setup_of, world_setup};
-ghost use Rattle.mapworld.specs.Sound.{Sound};
-ghost use Rattle.mapworld.specs.Held.{HoldsMatch};
-ghost use Rattle.mapworld.specs.State.{pairs_of, started_of, threads_of};
-ghost use Rattle.mapworld_calls.specs.Every.Agrees.{Agrees};
-ghost use Rattle.mapworld_calls.specs.Every.Placed.{WellPlaced};
-ghost use Rattle.mapworld_calls.specs.Every.Today.{as_reply};
-ghost use Rattle.mapworld.specs.Core.{state_of, Room};
+ghost use Rattle.mapworld_state.specs.World.{AgreesWithBlocks, HasPlacedBlocks};
+ghost use Rattle.mapworld_state.specs.Held.{HoldsMatch};
+ghost use Rattle.mapworld_state.specs.Core.{state_of, IsSoundCore, Room};
 
 use crate::beginning::{desks_of, empty_tables, fill, places_of};
-use crate::world_core::Core;
 use lock_api_raw::NoMemory;
 use mapworld_calls::{Ask, Deed};
+use mapworld_state::Core;
 use past::Past;
 use std::alloc::Allocator;
 use std::hash::{BuildHasher, Hash};
@@ -42,11 +37,12 @@ pub(crate) fn core_of<
     programs: Vec<Vec<Ask<K, V, D>, A>, A>,
 ) -> Result<Core<K, V, S, D, D::Answer, A>, NoMemory>
     requires { new_refusal shards (length pairs.items) (map (λ program. program.items) programs.items) ≡ None }
-    ensures new { IfOk result (λ core. IsNew K.eq shards hasher pairs.items (map (λ program. program.items) programs.items) (state_of core)) }
-    ensures sound { IfOk result (λ core. Sound (setup_of D.Deed S.BuildHasher S.Hasher.Hasher K.eq K.hash_input (state_of core)) (state_of core)) }
+    ensures new { let asked = map (λ program. program.items) programs.items in
+        IfOk result (λ core. IsNew K.eq shards hasher pairs.items asked (state_of core)) }
+    ensures sound { IfOk result (IsSoundCore D.Deed S.BuildHasher S.Hasher.Hasher K.eq K.hash_input) }
     ensures room { IfOk result Room }
-    ensures agrees { IfOk result (λ core. Agrees (world_setup D.Deed S.BuildHasher S.Hasher.Hasher K.eq K.hash_input (state_of core)) (state_of core).blocks (pairs_of (state_of core)) (map as_reply (state_of core).replies)) }
-    ensures placed { IfOk result (λ core. WellPlaced (world_setup D.Deed S.BuildHasher S.Hasher.Hasher K.eq K.hash_input (state_of core)) (threads_of (state_of core)) (started_of (state_of core)) (state_of core).blocks (map as_reply (state_of core).replies)) }
+    ensures agrees { IfOk result (λ core. AgreesWithBlocks D.Deed S.BuildHasher S.Hasher.Hasher K.eq K.hash_input (state_of core)) }
+    ensures placed { IfOk result (λ core. HasPlacedBlocks D.Deed S.BuildHasher S.Hasher.Hasher K.eq K.hash_input (state_of core)) }
     ensures held { IfOk result (λ core. HoldsMatch (state_of core).places (state_of core).holds) }
 {
     let opening = Snapshot::of(&pairs);

@@ -1,29 +1,26 @@
 //! The world of maps: how it is made, run and looked at.
-ghost use Rattle.std.specs.Prelude.{◌≡◌, ◌<◌, ◌↔◌, IfOk, IfErr, MatchResult, length, map, take, slice_get};
+ghost use Rattle.std.specs.Prelude.{◌≡◌, ◌<◌, ◌↔◌, IfOk, IfErr, MatchResult, length, map, take};
 ghost use Rattle.std.specs.Option.{option_map};
 ghost use Rattle.mapworld_calls.specs.Pairs.{pair_of};
-ghost use Rattle.mapworld.specs.State.{pairs_of, started_of, threads_of};
-ghost use Rattle.mapworld.specs.Route.{key_route};
-ghost use Rattle.mapworld.specs.Running.{status_of, is_running, bound_of, refusal, Ran, steps_done};
+ghost use Rattle.mapworld_state.specs.State.{pairs_of, started_of, threads_of};
+ghost use Rattle.mapworld_state.specs.Route.{key_route};
+ghost use Rattle.mapworld_state.specs.Running.{status_of, is_running, bound_of, refusal, Ran, steps_done, StopsAt, StaysFixed};
 ghost use Rattle.mapworld.specs.Asleep.{IsAsleep, IsFinished};
 ghost use Rattle.mapworld.specs.Views.{shown};
-ghost use Rattle.mapworld.specs.Making.{new_refusal, IsMadeUnless, IsNew, StaysFixed};
-ghost use Rattle.mapworld.specs.Faults.{run_fault_done};
-ghost use Rattle.mapworld.specs.Steps.{IsStep};
-ghost use Rattle.mapworld.specs.World.{setup_of, world_setup};
-ghost use Rattle.mapworld.specs.Sound.{Sound};
-ghost use Rattle.mapworld.specs.Held.{HoldsMatch, HoldByPhase};
+ghost use Rattle.mapworld.specs.Making.{new_refusal, IsMadeUnless, IsNew};
+ghost use Rattle.mapworld_state.specs.Steps.{IsStep};
+ghost use Rattle.mapworld_state.specs.World.{setup_of, AgreesWithBlocks, HasPlacedBlocks, OnlyAddsTo};
+ghost use Rattle.mapworld_state.specs.Sound.{Sound};
+ghost use Rattle.mapworld_state.specs.Held.{HoldsMatch, HoldByPhase};
 ghost use Rattle.mapworld_calls.specs.Placed as today;
-ghost use Rattle.mapworld_calls.specs.Every.Agrees.{Agrees};
-ghost use Rattle.mapworld_calls.specs.Every.Placed.{WellPlaced, OnlyAdds};
-ghost use Rattle.mapworld_calls.specs.Every.Today.{as_reply};
 
-use crate::fault::{RunFault, WorldNewFault};
-use crate::step::{Status, Step};
-use crate::world_core::Core;
-use crate::{advance, contents, counts, limits, making, route, status};
+use crate::pairs::Pairs;
+use crate::{contents, counts, limits, making, pairs};
 use lock_api_raw::NoMemory;
 use mapworld_calls::{Ask, Block, Deed, Reply};
+use mapworld_faults::{RunFault, WorldNewFault};
+use mapworld_state::{Core, Status, Step};
+use mapworld_steps as steps;
 use std::alloc::{Allocator, Global};
 use std::hash::{BuildHasher, Hash};
 use std::marker::Model;
@@ -56,17 +53,15 @@ pub struct MapWorld<K: Eq + Hash, V, S: BuildHasher, D: Deed<K, V>, A: Allocator
 
 impl<K: Eq + Hash, V, S: BuildHasher, D: Deed<K, V>, A: Allocator> Model
     for MapWorld<K, V, S, D, A> {
-    ghost use Rattle.mapworld.specs.State.{State};
+    ghost use Rattle.mapworld_state.specs.State.{State};
 
     ghost Value = { State K V S D D.Answer A };
 
-    ghost use Rattle.mapworld.specs.Core.{state_of, Room};
-    ghost use Rattle.mapworld.specs.Sound.{Sound};
-    ghost use Rattle.mapworld.specs.World.{setup_of};
+    ghost use Rattle.mapworld_state.specs.Core.{state_of, IsSoundCore, Room};
 
     ghost view = { λ w. state_of w.core };
 
-    ghost invariant = { λ w. Sound (setup_of D.Deed S.BuildHasher S.Hasher.Hasher K.eq K.hash_input (state_of w.core)) (state_of w.core) × Room w.core };
+    ghost invariant = { λ w. IsSoundCore D.Deed S.BuildHasher S.Hasher.Hasher K.eq K.hash_input w.core × Room w.core };
 }
 
 impl<K: Eq + Hash, V, S: BuildHasher, D: Deed<K, V>, A: Allocator> MapWorld<K, V, S, D, A> {
@@ -90,8 +85,15 @@ impl<K: Eq + Hash, V, S: BuildHasher, D: Deed<K, V>, A: Allocator> MapWorld<K, V
     pub fn pair(&self, key: &K) -> Option<(&K, &V)>
         ensures { option_map shown result ≡ pair_of K.eq (pairs_of self.now) key.now }
     {
-        let shard = route::shard_of(&self.core.hasher, self.core.tables.len(), key);
+        let shard = steps::shard_of(&self.core.hasher, self.core.tables.len(), key);
         contents::pair_in(&self.core.tables[shard], key)
+    }
+
+    /// The pairs of the map as it is now, lent one after another, in any order. It takes no memory and cannot fail.
+    pub fn pairs(&self) -> Pairs<'_, K, V, A>
+        ensures { result ≡ pairs_of self.now }
+    {
+        pairs::pairs_of(&self.core.tables)
     }
 
     /// How many threads the world has: one for each program. Threads are numbered from 0.
@@ -111,35 +113,35 @@ impl<K: Eq + Hash, V, S: BuildHasher, D: Deed<K, V>, A: Allocator> MapWorld<K, V
 
     /// The shard that a key is on, which is also that of every equal key. It takes no memory and cannot fail.
     pub fn shard_of(&self, key: &K) -> usize
-        ensures value { result ≡ key_route S.BuildHasher S.Hasher.Hasher K.hash_input self.now.hasher (length self.now.tables) key.now }
+        ensures value { let shards = length self.now.tables in
+            result ≡ key_route S.BuildHasher S.Hasher.Hasher K.hash_input self.now.hasher shards key.now }
         ensures below { result < length self.now.tables }
     {
-        route::shard_of(&self.core.hasher, self.core.tables.len(), key)
+        steps::shard_of(&self.core.hasher, self.core.tables.len(), key)
     }
 
     /// Where a thread stands: `Finished` where all its calls are answered, `Asleep` where it is before an admission that
     /// another thread's hold excludes, and otherwise `Running`. A thread that is asleep is `Running` again once no such
     /// hold is left. It takes no memory and cannot fail.
     ///
-    /// Callers show that the world has the thread: threads are numbered from 0, one for each program.
+    /// Threads are numbered from 0, one for each program. A thread that the world doesn't have is `Finished`.
     pub fn status(&self, thread: usize) -> Status
-        requires { thread < length self.now.programs }
         ensures value { result ≡ status_of self.now thread }
         ensures asleep { (result ≡ Status.Asleep) ↔ IsAsleep self.now thread }
         ensures finished { (result ≡ Status.Finished) ↔ IsFinished self.now thread }
     {
-        status::status(&self.core, thread)
+        steps::status(&self.core, thread)
     }
 
-    /// The step at which a thread's call started, while it is in one; `None` between two calls. Steps are numbered from 1
-    /// over the life of the world. It takes no memory and cannot fail.
-    ///
-    /// Callers show that the world has the thread.
+    /// The step at which a thread's call started, while it is in one; `None` between two calls, and of a thread that the
+    /// world doesn't have. Steps are numbered from 1 over the life of the world. It takes no memory and cannot fail.
     pub fn started(&self, thread: usize) -> Option<u64>
-        requires { thread < length self.now.programs }
         ensures { result ≡ started_of self.now thread }
     {
-        self.core.places[thread].started
+        match self.core.places.get(thread) {
+            Some(place) => place.started,
+            None => None,
+        }
     }
 
     /// Whether a step of the thread would be done: it is `Running`. A thread that the world doesn't have can't move.
@@ -148,10 +150,7 @@ impl<K: Eq + Hash, V, S: BuildHasher, D: Deed<K, V>, A: Allocator> MapWorld<K, V
     pub fn can_move(&self, thread: usize) -> bool
         ensures { result ≡ is_running (status_of self.now thread) }
     {
-        if thread >= self.core.places.len() {
-            return false;
-        }
-        matches!(status::status(&self.core, thread), Status::Running)
+        matches!(self.status(thread), Status::Running)
     }
 
     /// How many steps are to be enough from here, by the world's size alone: its threads, shards and pairs, and the calls
@@ -214,10 +213,12 @@ where
         pairs: Vec<(K, V), A>,
         programs: Vec<Vec<Ask<K, V, D>, A>, A>,
     ) -> Result<MapWorld<K, V, S, D, A>, WorldNewFault>
-        ensures refused { IsMadeUnless (new_refusal shards (length pairs.items) (map (λ program. program.items) programs.items)) result }
-        ensures made { IfOk result (λ world. IsNew K.eq shards hasher pairs.items (map (λ program. program.items) programs.items) world) }
-        ensures agrees { IfOk result (λ world. Agrees (world_setup D.Deed S.BuildHasher S.Hasher.Hasher K.eq K.hash_input world) world.blocks (pairs_of world) (map as_reply world.replies)) }
-        ensures placed { IfOk result (λ world. WellPlaced (world_setup D.Deed S.BuildHasher S.Hasher.Hasher K.eq K.hash_input world) (threads_of world) (started_of world) world.blocks (map as_reply world.replies)) }
+        ensures refused { let asked = map (λ program. program.items) programs.items in
+            IsMadeUnless (new_refusal shards (length pairs.items) asked) result }
+        ensures made { let asked = map (λ program. program.items) programs.items in
+            IfOk result (λ world. IsNew K.eq shards hasher pairs.items asked world) }
+        ensures agrees { IfOk result (AgreesWithBlocks D.Deed S.BuildHasher S.Hasher.Hasher K.eq K.hash_input) }
+        ensures placed { IfOk result (HasPlacedBlocks D.Deed S.BuildHasher S.Hasher.Hasher K.eq K.hash_input) }
         ensures held { IfOk result (λ world. HoldsMatch world.places world.holds) }
     {
         if let Some(fault) = limits::refusal(shards, pairs.len(), &programs) {
@@ -241,28 +242,31 @@ where
     /// Makes a step, or says why not, where so many steps of the run are done.
     fn make_step(&mut self, step: Step, done: u64) -> Result<(), RunFault>
         ensures sound { Sound (setup_of D.Deed S.BuildHasher S.Hasher.Hasher K.eq K.hash_input self.old) self.old }
-        ensures made { MatchResult result
-            (λ _. (refusal self.old done step ≡ None) × IsStep (setup_of D.Deed S.BuildHasher S.Hasher.Hasher K.eq K.hash_input self.old) self.old step self.new)
+        ensures made { let setup = setup_of D.Deed S.BuildHasher S.Hasher.Hasher K.eq K.hash_input self.old in
+            MatchResult result
+            (λ _. (refusal self.old done step ≡ None) × IsStep setup self.old step self.new)
             (λ fault. (self.new ≡ self.old) × (refusal self.old done step ≡ Some fault)) }
     {
         if step.thread >= self.core.places.len() {
             return Err(RunFault::NoSuchThread(done));
         }
-        if !matches!(status::status(&self.core, step.thread), Status::Running) {
+        if !matches!(steps::status(&self.core, step.thread), Status::Running) {
             return Err(RunFault::CannotMove(done));
         }
         if !counts::fits(&self.core) {
             return Err(RunFault::StepsShort(done));
         }
-        advance::advance(&mut self.core, step);
+        steps::advance(&mut self.core, step);
         Ok(())
     }
 
     /// Makes the steps, one after another, up to the first that is refused.
     fn make_steps(&mut self, steps: &[Step]) -> Result<(), RunFault>
-        ensures ran { Ran (setup_of D.Deed S.BuildHasher S.Hasher.Hasher K.eq K.hash_input self.old) 0 self.old (take (steps_done result (length steps.now)) steps.now) self.new }
-        ensures refused { IfErr result (λ fault. (step : _) × (slice_get steps.now (run_fault_done fault) ≡ Some step) × (refusal self.new (run_fault_done fault) step ≡ Some fault)) }
-        ensures adds { today.OnlyAdds (threads_of self.old) (threads_of self.new) self.old.blocks self.new.blocks self.old.replies self.new.replies }
+        ensures ran { let setup = setup_of D.Deed S.BuildHasher S.Hasher.Hasher K.eq K.hash_input self.old in
+            Ran setup 0 self.old (take (steps_done result (length steps.now)) steps.now) self.new }
+        ensures refused { IfErr result (StopsAt self.new steps.now) }
+        ensures adds { today.OnlyAdds (threads_of self.old) (threads_of self.new)
+            self.old.blocks self.new.blocks self.old.replies self.new.replies }
         ensures fixed { StaysFixed self.old self.new }
     {
         let mut done = 0;
@@ -300,11 +304,12 @@ where
     /// }
     /// ```
     pub fn run(&mut self, steps: &[Step]) -> Result<(), RunFault>
-        ensures ran { Ran (setup_of D.Deed S.BuildHasher S.Hasher.Hasher K.eq K.hash_input self.old) 0 self.old (take (steps_done result (length steps.now)) steps.now) self.new }
-        ensures refused { IfErr result (λ fault. (step : _) × (slice_get steps.now (run_fault_done fault) ≡ Some step) × (refusal self.new (run_fault_done fault) step ≡ Some fault)) }
-        ensures agrees { Agrees (world_setup D.Deed S.BuildHasher S.Hasher.Hasher K.eq K.hash_input self.new) self.new.blocks (pairs_of self.new) (map as_reply self.new.replies) }
-        ensures placed { WellPlaced (world_setup D.Deed S.BuildHasher S.Hasher.Hasher K.eq K.hash_input self.new) (threads_of self.new) (started_of self.new) self.new.blocks (map as_reply self.new.replies) }
-        ensures adds { OnlyAdds (threads_of self.old) (threads_of self.new) self.old.blocks self.new.blocks (map as_reply self.old.replies) (map as_reply self.new.replies) }
+        ensures ran { let setup = setup_of D.Deed S.BuildHasher S.Hasher.Hasher K.eq K.hash_input self.old in
+            Ran setup 0 self.old (take (steps_done result (length steps.now)) steps.now) self.new }
+        ensures refused { IfErr result (StopsAt self.new steps.now) }
+        ensures agrees { AgreesWithBlocks D.Deed S.BuildHasher S.Hasher.Hasher K.eq K.hash_input self.new }
+        ensures placed { HasPlacedBlocks D.Deed S.BuildHasher S.Hasher.Hasher K.eq K.hash_input self.new }
+        ensures adds { OnlyAddsTo self.old self.new }
         ensures fixed { StaysFixed self.old self.new }
         ensures held { HoldsMatch self.new.places self.new.holds }
         ensures by_phase { HoldByPhase self.new.places }

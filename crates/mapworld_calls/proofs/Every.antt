@@ -6,3 +6,4 @@ pub mod Growing
 pub mod Tables
 pub mod Placing
 pub mod Today
+pub mod Visiting

@@ -29,7 +29,8 @@ module _ {K V D T : Type 0} (w : Setup K V D T) where
       → IsAnsweredBy w bs t c x a → IsAnsweredBy w bs' t c x a
   answered-by bs bs' t c (ask.Keyed k) a keeps below h =
       elim h [ inl told ↦ inl (keeps.told c 0 a told) | inr none ↦ inr (none.0, none.1, keeps.none c (omega arith) none.2) ]
-  answered-by bs bs' t c (ask.Begin b) a keeps below h = keeps.told c 0 a h
+  answered-by bs bs' t c (ask.Begin b) a keeps below h =
+      elim h [ inl told ↦ inl (keeps.told c 0 a told) | inr none ↦ inr (none.0, none.1, keeps.none c (omega arith) none.2) ]
   answered-by bs bs' t c (ask.Held b) a keeps below h = answered-in_session bs bs' t c (session_of w t c) a keeps below h
 
   pub answered-kept : (bs bs' : List (Block K)) (t c : ℕ) (a : Answer K V T) → Keeps bs bs' t c → ((b : ℕ) → session_of w t c ≡ Some b → b ≤ c)

@@ -7,3 +7,4 @@ pub mod Commuting
 pub mod Programs
 pub mod Hashes
 pub mod Every
+pub mod Handed

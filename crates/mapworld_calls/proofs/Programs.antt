@@ -11,10 +11,16 @@ use Rattle.mapworld_calls.specs.Programs.{is_drop, session_behind, opening_befor
 use Rattle.mapworld_calls.specs.Sessions.{TakesAGuardNumber}
 
 -- a call that is the guard's last is its drop
-pub is_drop_is : {D : Type 0} (h : Held D) → is_drop h ≡ true → h ≡ held.Drop
+pub is_drop_is : {V D : Type 0} (h : Held V D) → is_drop h ≡ true → h ≡ held.Drop
 is_drop_is (held.Read d) e = absurd (cc)
 is_drop_is (held.Write d) e = absurd (cc)
 is_drop_is held.Downgrade e = absurd (cc)
+is_drop_is (held.Insert v) e = absurd (cc)
+is_drop_is held.IntoRef e = absurd (cc)
+is_drop_is held.Remove e = absurd (cc)
+is_drop_is held.RemoveEntry e = absurd (cc)
+is_drop_is (held.ReplaceEntry v) e = absurd (cc)
+is_drop_is held.IntoKey e = absurd (cc)
 is_drop_is held.Drop e = refl
 
 -- the guard that is held at the start has its drop, behind other calls on it alone
@@ -58,11 +64,11 @@ opening_holds b p h c zero b' e = (suc c.at, omega arith, c.last, reads_after (a
 opening_holds b p h c (suc i) b' e = let d = h i b' e in (suc d.0, omega (arith, d.1), d.2, reads_behind (ask.Begin b) p i d.0 d.3)
 
 -- what closes, by its first call
-other_behind : {K V D : Type 0} (h : Held D) (p : List (Ask K V D)) → is_drop h ≡ false → (c : Closes p) (k : ℕ) → k < suc c.at → IsBeforeDrop (slice_get (ask.Held h ∷ p) k)
+other_behind : {K V D : Type 0} (h : Held V D) (p : List (Ask K V D)) → is_drop h ≡ false → (c : Closes p) (k : ℕ) → k < suc c.at → IsBeforeDrop (slice_get (ask.Held h ∷ p) k)
 other_behind h p other c zero l = (h, refl, other)
 other_behind h p other c (suc k) l = c.reads k (omega arith)
 
-other_closes : {K V D : Type 0} (h : Held D) (p : List (Ask K V D)) → is_drop h ≡ false → Closes p → Closes (ask.Held h ∷ p)
+other_closes : {K V D : Type 0} (h : Held V D) (p : List (Ask K V D)) → is_drop h ≡ false → Closes p → Closes (ask.Held h ∷ p)
 other_closes h p other c = record { at = suc c.at; last = c.last; reads = other_behind h p other c }
 
 drop_closes : {K V D : Type 0} (p : List (Ask K V D)) → Closes (ask.Held held.Drop ∷ p)
@@ -82,9 +88,9 @@ abbrev HoldsWithin : {K V D : Type 0} → Bool → List (Ask K V D) → Type 0
 HoldsWithin false p = HoldsOneGuard p
 HoldsWithin true p = HoldsOneGuard p × Closes p
 
-held_within : {K V D : Type 0} (h : Held D) (p : List (Ask K V D)) (is : Bool) → is_drop h ≡ is → HoldsWithin (not is) p → HoldsOneGuard (ask.Held h ∷ p) × Closes (ask.Held h ∷ p)
+held_within : {K V D : Type 0} (h : Held V D) (p : List (Ask K V D)) (is : Bool) → is_drop h ≡ is → HoldsWithin (not is) p → HoldsOneGuard (ask.Held h ∷ p) × Closes (ask.Held h ∷ p)
 held_within h p true e r =
-    (other_holds (ask.Held h) p (λ b z. cc) r, subst (λ (z : Held _). Closes (ask.Held z ∷ p)) (sym (is_drop_is h e)) (drop_closes p))
+    (other_holds (ask.Held h) p (λ b z. cc) r, subst (λ (z : Held _ _). Closes (ask.Held z ∷ p)) (sym (is_drop_is h e)) (drop_closes p))
 held_within h p false e r = (other_holds (ask.Held h) p (λ b z. cc) r.0, other_closes h p e r.1)
 
 holds_within : {K V D : Type 0} (within : Bool) (p : List (Ask K V D)) → one_guard within p ≡ true → HoldsWithin within p
@@ -98,10 +104,10 @@ holds_within false (ask.Held g ∷ p) h = other_holds (ask.Held g) p (λ b e. cc
 holds_within true (ask.Held g ∷ p) h = held_within g p (is_drop g) refl (holds_within (not (is_drop g)) p h)
 
 -- a guard that is held at a call closes by that call, or behind it
-other_stays : {K V D : Type 0} (h : Held D) (p : List (Ask K V D)) → is_drop h ≡ false → Closes (ask.Held h ∷ p) → Closes p
+other_stays : {K V D : Type 0} (h : Held V D) (p : List (Ask K V D)) → is_drop h ≡ false → Closes (ask.Held h ∷ p) → Closes p
 other_stays {K} {V} {D} h p other c =
     elim (closes_by (ask.Held h) p c) [
-      | inl e ↦ let same : h ≡ held.Drop = cc in absurd (let drops : is_drop h ≡ true = ap (λ (z : Held D). is_drop z) same in cc)
+      | inl e ↦ let same : h ≡ held.Drop = cc in absurd (let drops : is_drop h ≡ true = ap (λ (z : Held V D). is_drop z) same in cc)
       | inr r ↦ r.1
     ]
 
@@ -114,7 +120,7 @@ opening_never b p c = elim (closes_by (ask.Begin b) p c) [ inl e ↦ (cc) | inr 
 empty_never : {K V D : Type 0} → Closes {K = K} {V = V} {D = D} [] → ⊥
 empty_never c = let e = c.last in (cc)
 
-stays_within : {K V D : Type 0} (h : Held D) (p : List (Ask K V D)) (is : Bool) → is_drop h ≡ is → HoldsOneGuard (ask.Held h ∷ p) → Closes (ask.Held h ∷ p) → HoldsWithin (not is) p
+stays_within : {K V D : Type 0} (h : Held V D) (p : List (Ask K V D)) (is : Bool) → is_drop h ≡ is → HoldsOneGuard (ask.Held h ∷ p) → Closes (ask.Held h ∷ p) → HoldsWithin (not is) p
 stays_within h p true e holds closes = rest_holds (ask.Held h) p holds
 stays_within h p false e holds closes = (rest_holds (ask.Held h) p holds, other_stays h p e closes)
 

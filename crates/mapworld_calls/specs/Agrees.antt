@@ -6,7 +6,7 @@ use Rattle.mapworld_calls.specs.declared.block.Block.{Block}
 use Rattle.mapworld_calls.specs.declared.reply.Reply.{Reply}
 use Rattle.mapworld_calls.specs.declared.reply.Answer.{Answer}
 use Rattle.mapworld_calls.specs.declared.reply.Answer.TheVariants as answer
-use Rattle.mapworld_calls.specs.Programs.{may_grow}
+use Rattle.mapworld_calls.specs.Programs.{may_grow, opening_may_grow}
 use Rattle.mapworld_calls.specs.Setup.{Setup, ask_at, session_of}
 use Rattle.mapworld_calls.specs.Pairs.{pair_of, AreDistinct}
 use Rattle.mapworld_calls.specs.Replay.{contents, found, told_by}
@@ -34,7 +34,8 @@ IsAnsweredInSession w bs t c (Some b) a = IsToldBy w bs t b (c - b) a ⊎ ((a �
 abbrev pub IsAnsweredBy : {K V D T : Type 0} → Setup K V D T → List (Block K) → ℕ → ℕ → Ask K V D → Answer K V T → Type 0
 IsAnsweredBy w bs t c (ask.Keyed k) a =
     IsToldBy w bs t c 0 a ⊎ ((a ≡ answer.NoMemory) × IsTrue (may_grow k) × HasNoBlock bs t c)
-IsAnsweredBy w bs t c (ask.Begin b) a = IsToldBy w bs t c 0 a
+IsAnsweredBy w bs t c (ask.Begin b) a =
+    IsToldBy w bs t c 0 a ⊎ ((a ≡ answer.NoMemory) × IsTrue (opening_may_grow b) × HasNoBlock bs t c)
 IsAnsweredBy w bs t c (ask.Held h) a = IsAnsweredInSession w bs t c (session_of w t c) a
 
 pub record IsAnswered {K V D T : Type 0} (w : Setup K V D T) (bs : List (Block K)) (t c : ℕ) (a : Answer K V T) : Type 0 where

@@ -12,16 +12,21 @@ use Rattle.mapworld_calls.specs.declared.reply.Answer.{Answer}
 use Rattle.mapworld_calls.specs.declared.reply.Answer.TheVariants as answer
 use Rattle.mapworld_calls.specs.Deeds.{Deeds}
 
--- one key between two calls of a block: no guard and the key's pair, if there is one, or a guard with its pair
+-- one key between two calls of a block: no guard and the key's pair, if there is one, or a guard with its pair; an entry's
+-- guard has the key that was handed in, and a vacant one has no pair
 pub data At (K V : Type 0) : Type 0 where
   free : Option (K × V) → At K V
   shared : K × V → At K V
   exclusive : K × V → At K V
+  occupied : K → K × V → At K V
+  vacant : K → At K V
 
 abbrev pub pair_in : {K V : Type 0} → At K V → Option (K × V)
 pair_in (free o) = o
 pair_in (shared p) = Some p
 pair_in (exclusive p) = Some p
+pair_in (occupied k p) = Some p
+pair_in (vacant k) = None
 
 module _ {D K V T : Type 0} (deeds : Deeds D K V T) where
   -- the pair with the deed's effect on its value
@@ -64,35 +69,52 @@ opening_answer (begin.Get k) None = answer.None
 opening_answer (begin.Get k) (Some p) = answer.Held
 opening_answer (begin.GetMut k) None = answer.None
 opening_answer (begin.GetMut k) (Some p) = answer.Held
+opening_answer (begin.Entry k) None = answer.Vacant
+opening_answer (begin.Entry k) (Some p) = answer.Held
 
 abbrev pub opened : {K V : Type 0} → Begin K → Option (K × V) → At K V
 opened (begin.Get k) None = free None
 opened (begin.Get k) (Some p) = shared p
 opened (begin.GetMut k) None = free None
 opened (begin.GetMut k) (Some p) = exclusive p
+opened (begin.Entry k) None = vacant k
+opened (begin.Entry k) (Some p) = occupied k p
 
--- a call on the guard
-abbrev pub held_answer : {D K V T : Type 0} → Deeds D K V T → Held D → At K V → Answer K V T
+-- a call on the guard; on one of another kind it is answered `WrongGuard` and changes nothing
+abbrev pub held_answer : {D K V T : Type 0} → Deeds D K V T → Held V D → At K V → Answer K V T
 held_answer deeds h (free o) = answer.NoGuard
 held_answer deeds (held.Read d) (shared p) = answer.Read (deeds.answer d p.0 p.1)
-held_answer deeds (held.Write d) (shared p) = answer.WrongGuard
-held_answer deeds held.Downgrade (shared p) = answer.WrongGuard
-held_answer deeds held.Drop (shared p) = answer.Done
 held_answer deeds (held.Read d) (exclusive p) = answer.Read (deeds.answer d p.0 p.1)
+held_answer deeds (held.Read d) (occupied k p) = answer.Read (deeds.answer d p.0 p.1)
 held_answer deeds (held.Write d) (exclusive p) = answer.Done
+held_answer deeds (held.Write d) (occupied k p) = answer.Done
 held_answer deeds held.Downgrade (exclusive p) = answer.Held
-held_answer deeds held.Drop (exclusive p) = answer.Done
+held_answer deeds (held.Insert v) (occupied k p) = answer.Value p.1
+held_answer deeds (held.Insert v) (vacant k) = answer.Held
+held_answer deeds held.IntoRef (occupied k p) = answer.Held
+held_answer deeds held.Remove (occupied k p) = answer.Value p.1
+held_answer deeds held.RemoveEntry (occupied k p) = answer.Pair p.0 p.1
+held_answer deeds (held.ReplaceEntry v) (occupied k p) = answer.Pair p.0 p.1
+held_answer deeds held.IntoKey (occupied k p) = answer.Key k
+held_answer deeds held.IntoKey (vacant k) = answer.Key k
+held_answer deeds held.Drop s = answer.Done
+held_answer deeds h s = answer.WrongGuard
 
-abbrev pub held_leaves : {D K V T : Type 0} → Deeds D K V T → Held D → At K V → At K V
+abbrev pub held_leaves : {D K V T : Type 0} → Deeds D K V T → Held V D → At K V → At K V
 held_leaves deeds h (free o) = free o
-held_leaves deeds (held.Read d) (shared p) = shared p
-held_leaves deeds (held.Write d) (shared p) = shared p
-held_leaves deeds held.Downgrade (shared p) = shared p
-held_leaves deeds held.Drop (shared p) = free (Some p)
-held_leaves deeds (held.Read d) (exclusive p) = exclusive p
 held_leaves deeds (held.Write d) (exclusive p) = exclusive (p.0, deeds.effect d p.0 p.1)
+held_leaves deeds (held.Write d) (occupied k p) = occupied k (p.0, deeds.effect d p.0 p.1)
 held_leaves deeds held.Downgrade (exclusive p) = shared p
-held_leaves deeds held.Drop (exclusive p) = free (Some p)
+held_leaves deeds (held.Insert v) (occupied k p) = occupied k (p.0, v)
+held_leaves deeds (held.Insert v) (vacant k) = exclusive (k, v)
+held_leaves deeds held.IntoRef (occupied k p) = exclusive p
+held_leaves deeds held.Remove (occupied k p) = free None
+held_leaves deeds held.RemoveEntry (occupied k p) = free None
+held_leaves deeds (held.ReplaceEntry v) (occupied k p) = free (Some (k, v))
+held_leaves deeds held.IntoKey (occupied k p) = free (Some p)
+held_leaves deeds held.IntoKey (vacant k) = free None
+held_leaves deeds held.Drop s = free (pair_in s)
+held_leaves deeds h s = s
 
 -- what a call is answered, and what it leaves
 abbrev pub told : {D K V T : Type 0} → Deeds D K V T → Ask K V D → At K V → Answer K V T

@@ -45,7 +45,7 @@ pub record IsKeyedDone {K : Type 0} (b : Block K) : Type 0 where
 pub record IsSessionDone {K V D T : Type 0} (w : Setup K V D T) (started : ℕ → Option ℕ) (replies : List (Reply K V T)) (b : Block K) : Type 0 where
   pub opened : 0 < b.done.value
   pub calls : (n : ℕ) → 0 < n → n < b.done.value
-      → (h : Held D) × (ask_at w b.thread (b.call + n) ≡ Some (ask.Held h)) × (session_of w b.thread (b.call + n) ≡ Some b.call) × HasStarted started replies b.thread (b.call + n)
+      → (h : Held V D) × (ask_at w b.thread (b.call + n) ≡ Some (ask.Held h)) × (session_of w b.thread (b.call + n) ≡ Some b.call) × HasStarted started replies b.thread (b.call + n)
 
 abbrev pub IsDoneWithin : {K V D T : Type 0} → Setup K V D T → (ℕ → Option ℕ) → List (Reply K V T) → Block K → Ask K V D → Type 0
 IsDoneWithin w started replies b (ask.Keyed k) = IsKeyedDone b

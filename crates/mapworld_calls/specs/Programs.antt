@@ -10,10 +10,16 @@ use Rattle.mapworld_calls.specs.declared.ask.Begin.{Begin}
 use Rattle.mapworld_calls.specs.declared.ask.Begin.TheVariants as begin
 
 -- whether a call on the guard is its last
-abbrev pub is_drop : {D : Type 0} → Held D → Bool
+abbrev pub is_drop : {V D : Type 0} → Held V D → Bool
 is_drop (held.Read d) = false
 is_drop (held.Write d) = false
 is_drop held.Downgrade = false
+is_drop (held.Insert v) = false
+is_drop held.IntoRef = false
+is_drop held.Remove = false
+is_drop held.RemoveEntry = false
+is_drop (held.ReplaceEntry v) = false
+is_drop held.IntoKey = false
 is_drop held.Drop = true
 
 -- the session that stands open behind a call: an opening begins one, and a drop ends it
@@ -30,7 +36,7 @@ opening_before program (suc c) = session_behind c (slice_get program c) (opening
 
 -- the call is one of a guard's, and not its last
 abbrev pub IsBeforeDrop : {K V D : Type 0} → Option (Ask K V D) → Type 0
-IsBeforeDrop {K} {V} {D} a = (h : Held D) × (a ≡ Some (ask.Held h)) × (is_drop h ≡ false)
+IsBeforeDrop {K} {V} {D} a = (h : Held V D) × (a ≡ Some (ask.Held h)) × (is_drop h ≡ false)
 
 -- each opening has its drop behind it, with nothing but calls on the guard between
 abbrev pub HoldsOneGuard : {K V D : Type 0} → List (Ask K V D) → Type 0
@@ -67,6 +73,7 @@ keyed_key (keyed.ContainsKey k) = k
 abbrev pub opening_key : {K : Type 0} → Begin K → K
 opening_key (begin.Get k) = k
 opening_key (begin.GetMut k) = k
+opening_key (begin.Entry k) = k
 
 abbrev pub key_of : {K V D : Type 0} → Ask K V D → Option K
 key_of (ask.Keyed k) = Some (keyed_key k)
@@ -77,3 +84,7 @@ key_of (ask.Held h) = None
 abbrev pub may_grow : {K V D : Type 0} → Keyed K V D → Bool
 may_grow (keyed.Insert k v) = true
 may_grow k = false
+
+abbrev pub opening_may_grow : {K : Type 0} → Begin K → Bool
+opening_may_grow (begin.Entry k) = true
+opening_may_grow b = false

@@ -8,7 +8,7 @@ pub enum Ask<K, V, D> {
     /// An opening, which may give a guard.
     Begin(Begin<K>),
     /// A call on the guard.
-    Held(Held<D>),
+    Held(Held<V, D>),
 }
 
 /// A call on one key.
@@ -42,18 +42,36 @@ pub enum Begin<K> {
     Get(K),
     /// An exclusive guard of the key's pair, answered `Held`; `None` where the key is absent, and then there is no guard.
     GetMut(K),
+    /// A guard of the key's place, which keeps the handed-in key: on a present key an occupied one, answered `Held`; on an
+    /// absent one a vacant one, answered `Vacant`, for which room is made. Where that room is refused it answers `NoMemory`,
+    /// and there is no guard.
+    Entry(K),
 }
 
-/// A call on the guard. Where no guard is held it answers `NoGuard` and changes nothing.
+/// A call on the guard. Where no guard is held it answers `NoGuard`, and on a guard of a kind that it isn't for `WrongGuard`;
+/// neither changes anything.
 #[derive(Clone, Debug, Drop, PartialEq, Eq)]
-pub enum Held<D> {
-    /// Answers `Read` with the deed's answer of the guarded pair.
+pub enum Held<V, D> {
+    /// On a guard that has a pair, of any kind: answers `Read` with the deed's answer of the pair.
     Read(D),
-    /// Under an exclusive guard it answers `Done`, and the value is the deed's effect; under a shared one it answers
-    /// `WrongGuard` and changes nothing.
+    /// On an exclusive or an occupied guard: answers `Done`, and the value is the deed's effect.
     Write(D),
-    /// Under an exclusive guard it answers `Held`, and the guard is shared; under a shared one it answers `WrongGuard`.
+    /// On an exclusive guard: answers `Held`, and the guard is shared.
     Downgrade,
-    /// Answers `Done`; the guard ends.
+    /// On an occupied guard: answers `Value` with the old value, and the stored key stays. On a vacant one: answers `Held`;
+    /// the handed-in key's pair is added, and the guard is exclusive. It never takes memory.
+    Insert(V),
+    /// On an occupied guard: answers `Held`, and the guard is exclusive; the handed-in key is let go.
+    IntoRef,
+    /// On an occupied guard: answers `Value` with the value; the pair goes, and the guard ends.
+    Remove,
+    /// On an occupied guard: answers `Pair` with the stored key and the value; the pair goes, and the guard ends.
+    RemoveEntry,
+    /// On an occupied guard: answers `Pair` with the stored key and the old value; the pair is that of the handed-in key and
+    /// the new value, and the guard ends.
+    ReplaceEntry(V),
+    /// On an occupied or a vacant guard: answers `Key` with the handed-in key; the guard ends.
+    IntoKey,
+    /// On any guard: answers `Done`; the guard ends.
     Drop,
 }

@@ -17,6 +17,7 @@ ghost use Rattle.mapworld_calls.specs.Every.Laws.{
   ReplaySplits,
   SettledIsNow,
   SettledStays,
+  VisitsStayDone,
 };
 ghost use Rattle.mapworld_calls.specs.Every.Today.{AddsAsEvery, AgreesAsEvery, PlacedAsEvery};
 ghost use Rattle.mapworld_calls.specs.Laws.{ShardsCommute};
@@ -83,6 +84,12 @@ pub fn quiet_visits_agree<K, V, D: Deed<K, V>>()
 /// A visit that changes or removes the key's pair may do so where no later block is on its shard.
 pub fn last_visits_agree<K, V, D: Deed<K, V>>()
     ensures { LastVisitsAgree K V D D.Answer }
+{}
+
+/// What a visit has done stays within its walk when it does one more key: one of its shard that it hadn't done and that has a
+/// pair, while the walk has an item left to give.
+pub fn visits_stay_done<K, V, D: Deed<K, V>>()
+    ensures { VisitsStayDone K V D D.Answer }
 {}
 
 /// The end of a call may be written into its block.

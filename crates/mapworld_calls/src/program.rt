@@ -1,8 +1,18 @@
 //! Whether a program is fit to run, and how many guard numbers it takes.
-ghost use Rattle.std.specs.Prelude.{◌≡◌, ◌↔◌, IsTrue, false, sum_by};
-ghost use Rattle.mapworld_calls.specs.Programs.{HoldsOneGuard, numbers_of, one_guard};
+ghost use Rattle.std.specs.Prelude.{◌≡◌, ◌↔◌, ◌≤◌, IsTrue, false, sum_by};
+ghost use Rattle.mapworld_calls.specs.Programs.{HoldsOneGuard, is_drop, numbers_of, one_guard};
 
 use crate::ask::{Ask, Held};
+
+/// Whether a call on the guard is its last.
+fn is_drop<V, D>(call: &Held<V, D>) -> bool
+    ensures { result ≡ is_drop call.now }
+{
+    match call {
+        Held::Drop => true,
+        _ => false,
+    }
+}
 
 /// Whether the program holds one guard at a time: behind each opening stands its drop, with nothing but calls on the guard between.
 /// A world takes only such programs, so that no thread waits for a shard while it holds a guard.
@@ -34,11 +44,21 @@ pub fn holds_one_guard<K, V, D>(program: &[Ask<K, V, D>]) -> bool
                 }
                 held = true;
             }
-            Ask::Held(Held::Drop) => held = false,
-            Ask::Held(Held::Read(_) | Held::Write(_) | Held::Downgrade) => {}
+            Ask::Held(call) => held = held && !is_drop(call),
         }
     }
     !held
+}
+
+/// How many guard numbers a call takes.
+fn numbers_of<K, V, D>(ask: &Ask<K, V, D>) -> u64
+    ensures value { result ≡ numbers_of ask.now }
+    ensures few { result ≤ 1 }
+{
+    match ask {
+        Ask::Held(_) => 0,
+        _ => 1,
+    }
 }
 
 /// How many guard numbers the program takes on a map of so many shards: one for each keyed call and each opening, since
@@ -56,11 +76,7 @@ pub fn guard_numbers<K, V, D>(program: &[Ask<K, V, D>], _shards: u64) -> u64
 {
     let mut numbers = 0;
     for ask in program {
-        match ask {
-            Ask::Keyed(_) => numbers += 1,
-            Ask::Begin(_) => numbers += 1,
-            Ask::Held(_) => {}
-        }
+        numbers += numbers_of(ask);
     }
     numbers
 }

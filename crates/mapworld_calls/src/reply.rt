@@ -11,10 +11,14 @@ pub enum Answer<K, V, T> {
     Value(V),
     /// The pair that was taken out: the stored key and its value.
     Pair(K, V),
+    /// The key that an entry was handed.
+    Key(K),
     /// What a deed read.
     Read(T),
     /// A guard is held.
     Held,
+    /// A guard of an absent key's place is held.
+    Vacant,
     /// A call on a guard where none is held.
     NoGuard,
     /// A call that the guard's kind doesn't allow.

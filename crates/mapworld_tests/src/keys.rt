@@ -101,6 +101,43 @@ fn equal_keys_are_one_key(rt: HostRuntime) -> Result<(), Fail> {
     Ok(())
 }
 
+/// Whether the answer is the key of that letter, or a pair with it.
+fn shows_letter(answer: &Answer<Letter, u64, u8>, shown: u8) -> bool {
+    match answer {
+        Answer::Key(key) => key.shown == shown,
+        Answer::Pair(key, _) => key.shown == shown,
+        Answer::Read(letter) => *letter == shown,
+        _ => false,
+    }
+}
+
+#[test]
+fn an_entry_keeps_the_key_that_it_was_handed(rt: HostRuntime) -> Result<(), Fail> {
+    let program = vec![in rt.alloc();
+        Ask::Begin(Begin::Entry(letter_of(b'K'))),
+        Ask::Held(Held::Insert(2)),
+        Ask::Held(Held::Read(ReadKey)),
+        Ask::Held(Held::IntoKey),
+        Ask::Held(Held::Drop),
+        Ask::Begin(Begin::Entry(letter_of(b'K'))),
+        Ask::Held(Held::ReplaceEntry(3)),
+        Ask::Held(Held::Drop),
+        Ask::Keyed(Keyed::Remove(letter_of(b'k'))),
+    ]?;
+    let pairs = vec![in rt.alloc(); (letter_of(b'k'), 0)]?;
+    let programs = vec![in rt.alloc(); program]?;
+    let mut world = MapWorld::new(rt.alloc(), 2, SpreadState, pairs, programs)?;
+    let is_done = step_round(&mut world, 1);
+    let answers = world.replies();
+    assert!(rt; is_done && answers.len() == 9);
+    // The stored key stays at an insertion, and the handed-in one is given back or put in its place.
+    assert!(rt; shows_letter(&answers[2].answer, b'k') && shows_letter(&answers[3].answer, b'K'));
+    assert!(rt; shows_letter(&answers[6].answer, b'k') && shows_letter(&answers[8].answer, b'K'));
+    assert!(rt; answers[6].answer == Answer::Pair(letter_of(b'k'), 2));
+    assert!(rt; answers[8].answer == Answer::Pair(letter_of(b'k'), 3));
+    Ok(())
+}
+
 #[test]
 fn keys_of_one_hash_stay_apart(rt: HostRuntime) -> Result<(), Fail> {
     let calls = [Insert(1, 10), Insert(2, 20), Remove(1), Get(2), Read, Leave];

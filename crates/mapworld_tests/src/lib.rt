@@ -6,6 +6,8 @@ mod calls;
 #[cfg(test)]
 mod conditions;
 #[cfg(test)]
+mod entries;
+#[cfg(test)]
 mod faults;
 #[cfg(test)]
 mod histories;

@@ -1,6 +1,6 @@
 //! Worlds on heaps of all small sizes.
 
-use super::worlds::Call::{Get, Insert, Leave};
+use super::worlds::Call::{Enter, Get, Insert, Leave, PutIn};
 use super::worlds::{World, ask_of, stands, step_round, step_through, step_times, told, world_of};
 use linked_list_allocator::LocalHeap;
 use mapworld::{Answer, MapWorld, SpreadState, Status};
@@ -43,6 +43,41 @@ fn a_refused_growth_changes_nothing_and_leaves_no_hold(rt: HostRuntime) -> Resul
                 told(&world, 0, 0, &Answer::None)
                     && told(&world, 1, 0, &Answer::Held)
                     && told(&world, 1, 1, &Answer::Done),
+                "of size {size}"
+            );
+        }
+    }
+    assert!(rt; has_refused && has_done);
+    Ok(())
+}
+
+#[test]
+fn an_entry_that_is_refused_for_memory_gives_no_guard(rt: HostRuntime) -> Result<(), Fail> {
+    let mut has_refused = false;
+    let mut has_done = false;
+    for size in 0..300 {
+        let heap = LocalHeap::new(rt.alloc(), size * 16)?;
+        // Thread 0 enters and inserts, and thread 1 looks for the same key.
+        let programs: [&[_]; 2] = [&[Enter(1), PutIn(10), Leave], &[Get(1), Leave]];
+        let Some(mut world) = world_of(&heap, &[], &programs) else {
+            continue;
+        };
+        assert!(rt; runs_to_the_end(&mut world), "of size {size}");
+        if told(&world, 0, 0, &Answer::NoMemory) {
+            has_refused = true;
+            assert!(rt;
+                shows_no_insertion(&world)
+                    & told(&world, 0, 1, &Answer::NoGuard)
+                    & told(&world, 0, 2, &Answer::NoGuard),
+                "of size {size}"
+            );
+        } else {
+            has_done = true;
+            assert!(rt;
+                told(&world, 0, 0, &Answer::Vacant)
+                    & told(&world, 0, 1, &Answer::Held)
+                    & told(&world, 0, 2, &Answer::Done)
+                    & (world.pair(&1) == Some((&1, &10))),
                 "of size {size}"
             );
         }

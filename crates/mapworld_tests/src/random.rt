@@ -1,8 +1,8 @@
 //! Random programs over every call, stepped at random, beside a plain map that takes the blocks one after another.
 
 use super::worlds::Call::{
-    Add, AddOrTakeFrom, AddTo, Get, GetMut, Has, Insert, Leave, Look, Read, Remove, Set, Share,
-    TakeFrom,
+    Add, AddOrTakeFrom, AddTo, Enter, Get, GetMut, HandBack, Has, Insert, Leave, Lend, Look, PutIn,
+    Read, Remove, Replace, Set, Share, TakeFrom, TakePair, TakeValue,
 };
 use super::worlds::{Answered, Call, World, step, told, world_of};
 use mapworld::{Answer, Block};
@@ -53,28 +53,39 @@ fn keyed_call(random: &mut Random) -> Call {
 
 /// A call on the guard that isn't its last.
 fn held_call(random: &mut Random) -> Call {
-    match random.next(3) {
+    match random.next(15) {
         0 => Add(random.next(7)),
         1 => Set(random.next(7)),
         2 => Share,
+        3 | 4 => PutIn(random.next(7)),
+        5 => Lend,
+        6 => TakeValue,
+        7 => TakePair,
+        8 => Replace(random.next(7)),
+        9 => HandBack,
         _ => Read,
     }
 }
 
-/// A program of calls on one key, and of openings that each have two more calls and their end behind them.
+/// An opening.
+fn opening(random: &mut Random) -> Call {
+    let key = random.key();
+    match random.next(3) {
+        0 => Get(key),
+        1 => GetMut(key),
+        _ => Enter(key),
+    }
+}
+
+/// A program of calls on one key, and of openings that each have three more calls and their end behind them.
 fn program(alloc: Global, random: &mut Random) -> Option<Vec<Call>> {
     let mut calls = Vec::new(alloc);
     for _ in 0..12 {
         if random.next(1) == 0 {
             calls.push(keyed_call(random)).ok()?;
         } else {
-            let key = random.key();
-            let opening = if random.next(1) == 0 {
-                Get(key)
-            } else {
-                GetMut(key)
-            };
-            calls.push(opening).ok()?;
+            calls.push(opening(random)).ok()?;
+            calls.push(held_call(random)).ok()?;
             calls.push(held_call(random)).ok()?;
             calls.push(held_call(random)).ok()?;
             calls.push(Leave).ok()?;
@@ -83,12 +94,21 @@ fn program(alloc: Global, random: &mut Random) -> Option<Vec<Call>> {
     Some(calls)
 }
 
-/// A guard of the plain map.
+/// What a guard of the plain map is.
+#[derive(Clone, Copy, PartialEq, Eq)]
+enum Kind {
+    Shared,
+    Exclusive,
+    Occupied,
+    Vacant,
+}
+
+/// A guard of the plain map, with its pair's value, if it has a pair.
 #[derive(Clone, Copy)]
 struct Guard {
     value: u64,
     key: u64,
-    writes: bool,
+    kind: Kind,
 }
 
 /// A map as a value for each of the keys, if it has one, and the guard that is held of one.
@@ -107,6 +127,12 @@ impl Plain {
         if let Some(slot) = self.values.get_mut(key as usize) {
             *slot = value;
         }
+    }
+
+    /// Holds a guard of that pair.
+    fn lend(&mut self, key: u64, value: u64, kind: Kind) -> Answered {
+        self.guard = Some(Guard { value, key, kind });
+        Answer::Held
     }
 
     /// Leaves the value where the pair is kept, and takes the pair out otherwise.
@@ -139,15 +165,10 @@ fn present_answer(plain: &mut Plain, call: Call, value: u64) -> Answered {
         }
         Look(_) => Answer::Read(value),
         Has(_) => Answer::Flag(true),
-        Get(key) | GetMut(key) => {
-            plain.guard = Some(Guard {
-                value,
-                key,
-                writes: matches!(call, GetMut(_)),
-            });
-            Answer::Held
-        }
-        Read | Add(_) | Set(_) | Share | Leave => Answer::NoGuard,
+        Get(key) => plain.lend(key, value, Kind::Shared),
+        GetMut(key) => plain.lend(key, value, Kind::Exclusive),
+        Enter(key) => plain.lend(key, value, Kind::Occupied),
+        _ => Answer::NoGuard,
     }
 }
 
@@ -160,8 +181,63 @@ fn absent_answer(plain: &mut Plain, call: Call) -> Answered {
         }
         AddTo(_, _) => Answer::Done,
         Has(_) => Answer::Flag(false),
-        Read | Add(_) | Set(_) | Share | Leave => Answer::NoGuard,
-        _ => Answer::None,
+        Enter(key) => {
+            let _ = plain.lend(key, 0, Kind::Vacant);
+            Answer::Vacant
+        }
+        _ => {
+            if key_of(call).is_some() {
+                Answer::None
+            } else {
+                Answer::NoGuard
+            }
+        }
+    }
+}
+
+/// What a call is answered that stores a value under an exclusive or an occupied guard.
+fn stored(plain: &mut Plain, guard: Guard, value: u64) -> Answered {
+    plain.set(guard.key, Some(value));
+    let _ = plain.lend(guard.key, value, guard.kind);
+    Answer::Done
+}
+
+/// What a call on an occupied guard is answered that is for no other kind, and what it does.
+fn occupied_answer(plain: &mut Plain, call: Call, guard: Guard) -> Answered {
+    if matches!(call, Lend) {
+        return plain.lend(guard.key, guard.value, Kind::Exclusive);
+    }
+    if let PutIn(value) = call {
+        let _ = stored(plain, guard, value);
+        return Answer::Value(guard.value);
+    }
+    plain.guard = None;
+    match call {
+        TakeValue => {
+            plain.set(guard.key, None);
+            Answer::Value(guard.value)
+        }
+        TakePair => plain.leave(guard.key, guard.value, false),
+        Replace(value) => {
+            plain.set(guard.key, Some(value));
+            Answer::Pair(guard.key, guard.value)
+        }
+        _ => Answer::Key(guard.key),
+    }
+}
+
+/// What a call on a vacant guard is answered, and what it does.
+fn vacant_answer(plain: &mut Plain, call: Call, guard: Guard) -> Answered {
+    match call {
+        PutIn(value) => {
+            plain.set(guard.key, Some(value));
+            plain.lend(guard.key, value, Kind::Exclusive)
+        }
+        HandBack => {
+            plain.guard = None;
+            Answer::Key(guard.key)
+        }
+        _ => Answer::WrongGuard,
     }
 }
 
@@ -171,39 +247,39 @@ fn held_answer(plain: &mut Plain, call: Call, guard: Guard) -> Answered {
         plain.guard = None;
         return Answer::Done;
     }
+    if guard.kind == Kind::Vacant {
+        return vacant_answer(plain, call, guard);
+    }
     if matches!(call, Read) {
         return Answer::Read(guard.value);
     }
-    if !guard.writes {
+    if guard.kind == Kind::Shared {
         return Answer::WrongGuard;
     }
-    let value = match call {
-        Add(more) => guard.value.wrapping_add(more),
-        Set(value) => value,
-        _ => {
-            plain.guard = Some(Guard {
-                value: guard.value,
-                key: guard.key,
-                writes: false,
-            });
-            return Answer::Held;
-        }
+    let stores = match call {
+        Add(more) => Some(guard.value.wrapping_add(more)),
+        Set(value) => Some(value),
+        _ => None,
     };
-    plain.set(guard.key, Some(value));
-    plain.guard = Some(Guard {
-        value,
-        key: guard.key,
-        writes: true,
-    });
-    Answer::Done
+    if let Some(value) = stores {
+        return stored(plain, guard, value);
+    }
+    if matches!(call, Share) && guard.kind == Kind::Exclusive {
+        return plain.lend(guard.key, guard.value, Kind::Shared);
+    }
+    if matches!(call, Share) || guard.kind == Kind::Exclusive {
+        return Answer::WrongGuard;
+    }
+    occupied_answer(plain, call, guard)
 }
 
 /// The key of a call that has one.
 fn key_of(call: Call) -> Option<u64> {
     match call {
         Insert(key, _) | Remove(key) | TakeFrom(key, _) | AddOrTakeFrom(key, _, _) => Some(key),
-        AddTo(key, _) | Look(key) | Has(key) | Get(key) | GetMut(key) => Some(key),
-        Read | Add(_) | Set(_) | Share | Leave => None,
+        AddTo(key, _) | Look(key) | Has(key) => Some(key),
+        Get(key) | GetMut(key) | Enter(key) => Some(key),
+        _ => None,
     }
 }
 
@@ -225,7 +301,9 @@ fn agrees(world: &World<Global>, plain: &mut Plain, block: &Block<u64>, calls: &
         if !told(world, block.thread, i, &want) {
             return false;
         }
-        if !matches!(call, Get(_) | GetMut(_) | Read | Add(_) | Set(_) | Share) {
+        // A keyed call's block ends with it, and a session's with its drop.
+        let is_keyed = key_of(*call).is_some() && !matches!(call, Get(_) | GetMut(_) | Enter(_));
+        if is_keyed || matches!(call, Leave) {
             return true;
         }
     }

@@ -73,6 +73,7 @@ fn a_guard_reads_the_same_pair_until_it_is_dropped(rt: HostRuntime) {
 fn a_refused_step_leaves_those_before_it(rt: HostRuntime) {
     const SCRIPT: &[Line<'_>] = &[
         Line::Stops(&[9], RunFault::NoSuchThread(0)),
+        Line::Stands(9, Status::Finished),
         Line::Steps(0, 4),
         Line::Steps(1, 1),
         Line::Stops(&[2, 2, 1], RunFault::CannotMove(2)),

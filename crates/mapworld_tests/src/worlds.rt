@@ -67,6 +67,8 @@ pub enum Call {
     Has(u64),
     Get(u64),
     GetMut(u64),
+    /// Opens an entry.
+    Enter(u64),
     Read,
     /// Adds a number to the guarded value.
     Add(u64),
@@ -74,6 +76,18 @@ pub enum Call {
     Set(u64),
     /// Lets others share the guarded pair.
     Share,
+    /// Puts a value in an entry.
+    PutIn(u64),
+    /// Makes an occupied entry an exclusive guard.
+    Lend,
+    /// Takes the value out of an occupied entry.
+    TakeValue,
+    /// Takes the pair out of an occupied entry.
+    TakePair,
+    /// Puts the handed-in key and a value in the place of an occupied entry's pair.
+    Replace(u64),
+    /// Gives back the key that the entry was handed.
+    HandBack,
     /// Ends the guard.
     Leave,
 }
@@ -92,6 +106,7 @@ pub fn ask_of(call: Call) -> Asked {
         Call::Has(key) => Ask::Keyed(Keyed::ContainsKey(key)),
         Call::Get(key) => Ask::Begin(Begin::Get(key)),
         Call::GetMut(key) => Ask::Begin(Begin::GetMut(key)),
+        Call::Enter(key) => Ask::Begin(Begin::Entry(key)),
         Call::Read => Ask::Held(Held::Read(adds(0, 0))),
         Call::Add(more) => Ask::Held(Held::Write(adds(more, 0))),
         Call::Set(more) => {
@@ -102,6 +117,12 @@ pub fn ask_of(call: Call) -> Asked {
             }))
         }
         Call::Share => Ask::Held(Held::Downgrade),
+        Call::PutIn(value) => Ask::Held(Held::Insert(value)),
+        Call::Lend => Ask::Held(Held::IntoRef),
+        Call::TakeValue => Ask::Held(Held::Remove),
+        Call::TakePair => Ask::Held(Held::RemoveEntry),
+        Call::Replace(value) => Ask::Held(Held::ReplaceEntry(value)),
+        Call::HandBack => Ask::Held(Held::IntoKey),
         Call::Leave => Ask::Held(Held::Drop),
     }
 }
@@ -189,14 +210,14 @@ pub fn told<A: Allocator>(world: &World<A>, thread: usize, call: usize, want: &A
         && reply.answer == *want)
 }
 
-/// Whether the world has the thread, and it stands so.
+/// Whether the thread stands so.
 pub fn stands<A: Allocator>(world: &World<A>, thread: usize, want: Status) -> bool {
-    thread < world.threads() && world.status(thread) == want
+    world.status(thread) == want
 }
 
-/// Whether the world has the thread, and its unanswered call started at that step.
+/// Whether the thread's unanswered call started at that step.
 pub fn started<A: Allocator>(world: &World<A>, thread: usize, want: u64) -> bool {
-    thread < world.threads() && world.started(thread) == Some(want)
+    world.started(thread) == Some(want)
 }
 
 /// Whether the contents are these pairs and no others.
@@ -206,6 +227,7 @@ pub fn has_pairs<A: Allocator + Clone + Drop>(world: &World<A>, want: &[(u64, u6
         Err(_) => false,
     };
     is_full
+        && world.pairs().count() == want.len()
         && want
             .iter()
             .all(|pair| world.pair(&pair.0) == Some((&pair.0, &pair.1)))

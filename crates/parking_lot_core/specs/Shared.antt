@@ -1,5 +1,5 @@
 -- What calls on the lot for threads say, where the lock alone knows the lot.
-use Rattle.std.specs.Prelude.{◌≡◌, ◌⊎◌, ℕ, nat_lt, Bool, false, if◌then◌else◌, MatchBool, List, [], length, Option, Some, Result, Ok}
+use Rattle.std.specs.Prelude.{◌≡◌, ◌⊎◌, ℕ, nat_lt, Bool, true, false, if◌then◌else◌, MatchBool, List, [], length, Option, Some, Result, Ok}
 use Rattle.std.specs.Option.{option_map_or}
 use Rattle.parking_lot_core_lot.specs.declared.fault.LotFault.{LotFault}
 use Rattle.parking_lot_core_lot.specs.declared.fault.LotFault.TheVariants.{TooManyThreads, NoMemory}
@@ -8,6 +8,8 @@ use Rattle.parking_lot_core_lot.specs.declared.parking.UnparkToken.{UnparkToken}
 use Rattle.parking_lot_core_lot.specs.declared.parking.UnparkResult.{UnparkResult}
 use Rattle.parking_lot_core_lot.specs.declared.parking.RequeueOp.{RequeueOp}
 use Rattle.parking_lot_core_lot.specs.declared.parking.FilterOp.{FilterOp}
+use Rattle.parking_lot_core_lot.specs.declared.place.Place.{Place}
+use Rattle.parking_lot_core_lot.specs.declared.place.Place.TheVariants.{Running, Waiting, Held, Taken}
 use Rattle.parking_lot_core_lot.specs.declared.place.Waiter.{Waiter}
 use Rattle.parking_lot_core_lot.specs.Results.{Answers, is_stop, is_left, unpark_result, chosen_by, passed_by}
 use Rattle.parking_lot_core_lot.specs.Machine.{Machine, free_number, register_fault, tokens_of}
@@ -30,6 +32,16 @@ IsRefused limit fault = (m : Machine) × Sound m × ((admit_fault limit m ≡ So
 -- the thread stands in a list
 abbrev pub waits_in : Machine → ℕ → Bool
 waits_in m thread = option_map_or is_waiting (place_at m.places thread) false
+
+-- it was taken, and hasn't gone on
+abbrev pub is_taken : Place → Bool
+is_taken Running = false
+is_taken (Waiting key sleep) = false
+is_taken (Held sleep) = false
+is_taken (Taken token sleep woken) = true
+
+abbrev pub taken_in : Machine → ℕ → Bool
+taken_in m thread = option_map_or is_taken (place_at m.places thread) false
 
 -- what a filter answered, shown the tokens of some waiters, is what the result counts
 abbrev pub Counts : {F : Type 0} → (F → ParkToken → FilterOp → F → Type 0) → F → UnparkResult → Type 0

@@ -1,9 +1,9 @@
 //! Parking and unparking of real threads.
-ghost use Rattle.std.specs.Prelude.{◌≡◌, ◌<◌, ◌≤◌, ℕ, Bool, true, IsSome, MatchBool, ◌≢◌};
+ghost use Rattle.std.specs.Prelude.{◌≡◌, ◌<◌, ◌≤◌, ℕ, Bool, true, if◌then◌else◌, None, Some, IsSome, is_some, MatchBool, ◌≢◌};
 ghost use Rattle.parking_lot_core_lot.specs.declared.parking.ParkResult.TheVariants.{Invalid, TimedOut};
 ghost use Rattle.parking_lot_core_lot.specs.declared.parking.UnparkToken.{UnparkToken};
-ghost use Rattle.parking_lot_core_lot.specs.Operations.{Resumes, UnparksOne, UnparksAll, UnparksAndRequeues, UnparksByFilter};
-ghost use Rattle.parking_lot_core_lot.specs.Machine.{machine, busy, resume_fault, Does};
+ghost use Rattle.parking_lot_core_lot.specs.Operations.{Parks, Resumes, UnparksOne, UnparksAll, UnparksAndRequeues, UnparksByFilter};
+ghost use Rattle.parking_lot_core_lot.specs.Machine.{machine, busy, enter_fault, resume_fault, Does};
 ghost use Rattle.parking_lot_core.specs.Shared.{OnSomeLot, Counts, Tells, waits_in};
 ghost use Rattle.std.specs.Sync.Mutex.{mutex_guard_value};
 
@@ -44,6 +44,7 @@ where
     requires lot { thread_data.old.lot ≡ lot.now.number }
     requires thread { thread_data.old.thread < lot.now.max_threads }
     ensures valid { (valid : Bool) × V.post validate valid × MatchBool valid (result ≢ Invalid) (result ≡ Invalid) }
+    ensures joined { (valid : Bool) × MatchBool valid (result ≢ Invalid) (result ≡ Invalid) × OnSomeLot (Does (λ m. enter_fault m thread_data.old.thread) (Parks (V.post validate) thread_data.old.thread key park_token (is_some timeout.entry))) (if valid then None else Some Invalid) }
     ensures before { result ≢ Invalid → B.post before_sleep tt }
     ensures late { result ≡ TimedOut → (key : ℕ) × (last : Bool) × T.post timed_out key last tt }
     ensures limit { result ≡ TimedOut → IsSome timeout.entry }
@@ -78,10 +79,11 @@ fn begin<R: Wait, A: Allocator, V: FnOnce() -> bool + Drop>(
     timed: bool,
 ) -> bool
     requires { V.IsAlwaysCallable validate }
-    ensures { V.post validate result }
+    ensures asked { V.post validate result }
+    ensures joined { OnSomeLot (Does (λ m. enter_fault m thread) (Parks (V.post validate) thread key park_token timed)) (if result then None else Some Invalid) }
 {
     let mut state = lot.state.lock(&lot.rt);
-    match state.lot.park(thread, key, validate, park_token, timed) {
+    match state.park(thread, key, validate, park_token, timed) {
         Ok(ended) => ended.is_none(),
         Err(_) => match stuck(&lot.rt) {},
     }
@@ -128,8 +130,9 @@ pub fn unpark_one<R: Wait, A: Allocator, C: FnOnce(UnparkResult) -> UnparkToken 
     ensures done { (fair : Bool) × OnSomeLot (Does busy (UnparksOne fair (C.post callback) key)) result }
 {
     let mut state = lot.state.lock(&lot.rt);
-    let seat = state.first_seat(key);
+    let first = state.first(key);
     let done = state.unpark_one(key, callback);
+    let seat = first.and_then(|thread| state.taken_seat(thread));
     drop(state);
     ring(seat);
     match done {
@@ -171,8 +174,9 @@ where
     ensures done { OnSomeLot (Does busy (UnparksAndRequeues (V.post validate) (C.post callback) key_from key_to)) result }
 {
     let mut state = lot.state.lock(&lot.rt);
-    let seat = state.first_seat(key_from);
+    let first = state.first(key_from);
     let done = state.unpark_requeue(key_from, key_to, validate, callback);
+    let seat = first.and_then(|thread| state.taken_seat(thread));
     drop(state);
     ring(seat);
     match done {
@@ -213,7 +217,7 @@ fn ring<A: Allocator>(seat: Option<Arc<Condvar, A>>) {
 
 /// Waits for ever: for what can't come about, since a lot under its lock has no open section, and a participant is lent to
 /// one call at a time.
-fn stuck<R: Wait>(rt: &R) -> Infallible {
+pub(crate) fn stuck<R: Wait>(rt: &R) -> Infallible {
     for _turn in rt.forever() {}
     unreachable!()
 }

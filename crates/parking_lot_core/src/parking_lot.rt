@@ -1,9 +1,11 @@
 //! The lot for real threads.
 ghost use Rattle.std.specs.Prelude.{◌≡◌, ◌<◌, ◌↔◌, ◌⊎◌, IsTrue, IsErrOf, IfOk, IfErr, []};
 ghost use Rattle.parking_lot_core_lot.specs.declared.fault.SizeFault.TheVariants.{BadSize};
-ghost use Rattle.parking_lot_core.specs.Shared.{IsRefused};
+ghost use Rattle.parking_lot_core.specs.Shared.{IsRefused, OnSomeLot};
+ghost use Rattle.parking_lot_core_lot.specs.Machine.{retire_fault, retired, Does, Makes};
 ghost use Rattle.parking_lot_core_lot.specs.declared.fault.LotFault.TheVariants.{TooManyThreads, NoMemory};
 
+use crate::parking_calls::stuck;
 use crate::state::State;
 use crate::thread_data::ThreadData;
 use parking_lot_core_lot::{Lot, LotFault, SizeFault};
@@ -105,14 +107,18 @@ impl<R: Wait, A: Allocator + Clone> ParkingLot<R, A> {
             .admit(self.number, self.max_threads)
     }
 
-    /// Gives a participant's number back.
+    /// Gives a participant's number back, and forgets what is recorded for that number in the lot.
     pub fn retire(&self, thread_data: ThreadData<A>)
         requires { (thread_data.lot ≡ self.now.number) × (thread_data.thread < self.now.max_threads) }
+        ensures { OnSomeLot (Does (λ m. retire_fault m thread_data.thread) (Makes (λ m. retired m thread_data.thread))) result }
     {
-        let _ = self
+        match self
             .state
             .lock(&self.rt)
-            .lot
-            .retire(thread_data.thread_number());
+            .retire(thread_data.thread_number())
+        {
+            Ok(()) => {}
+            Err(_) => match stuck(&self.rt) {},
+        }
     }
 }

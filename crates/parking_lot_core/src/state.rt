@@ -2,10 +2,10 @@
 //!
 //! No clause can name what a lock guards. So each call on a [`ParkingLot`](crate::ParkingLot) takes the lock and calls one
 //! of the functions here, whose clauses say what it does.
-ghost use Rattle.std.specs.Prelude.{◌≡◌, ◌<◌, ◌+◌, ◌%◌, ◌==◌, ◌⊎◌, IfOk, IfErr, IfSome, Some, Err, []};
-ghost use Rattle.parking_lot_core_lot.specs.Machine.{machine, free_number, busy, resume_fault, registered, Does};
-ghost use Rattle.parking_lot_core_lot.specs.Operations.{Resumes, UnparksOne, UnparksAll, UnparksByFilter, UnparksAndRequeues};
-ghost use Rattle.parking_lot_core.specs.Shared.{admit_fault, waits_in};
+ghost use Rattle.std.specs.Prelude.{◌≡◌, ◌<◌, ◌+◌, ◌%◌, ◌==◌, ◌⊎◌, IfOk, IfErr, IfSome, IsSome, Some, Err, true, []};
+ghost use Rattle.parking_lot_core_lot.specs.Machine.{machine, free_number, busy, enter_fault, resume_fault, retire_fault, registered, retired, Does, Makes};
+ghost use Rattle.parking_lot_core_lot.specs.Operations.{Parks, Resumes, UnparksOne, UnparksAll, UnparksByFilter, UnparksAndRequeues};
+ghost use Rattle.parking_lot_core.specs.Shared.{admit_fault, waits_in, taken_in};
 ghost use Rattle.parking_lot_core_lot.specs.Sound.{Sound};
 ghost use Rattle.parking_lot_core_lot.specs.declared.fault.LotFault.TheVariants.{NoMemory};
 
@@ -53,25 +53,48 @@ impl<A: Allocator> State<A> {
         self.turns == 0
     }
 
-    /// Has all waiters of a key look at the lot again.
-    fn ring_all(&self, key: usize) {
-        for nth in 0..self.lot.count(key) {
-            if let Some(waiter) = self.lot.waiter(key, nth) {
-                if let Some(seat) = self.seats.get(waiter.thread) {
-                    seat.notify_all();
-                }
+    /// The thread that waits first under a key.
+    pub fn first(&self, key: usize) -> Option<usize> {
+        Some(self.lot.waiter(key, 0)?.thread)
+    }
+
+    /// Whether the thread was taken and hasn't gone on.
+    fn is_taken(&self, thread: usize) -> bool
+        ensures { result ≡ taken_in (machine self.now.lot) thread }
+    {
+        matches!(self.lot.place(thread), Some(Place::Taken(_, _, _)))
+    }
+
+    /// Wakes a thread that was taken. One that is to sleep on isn't woken.
+    fn ring(&self, thread: usize)
+        requires { taken_in (machine self.now.lot) thread ≡ true }
+    {
+        if let Some(seat) = self.seats.get(thread) {
+            seat.notify_all();
+        }
+    }
+
+    /// Wakes the threads that were taken and haven't gone on. It looks at each thread once, as each move on the lists looks
+    /// at each that waits.
+    fn ring_taken(&self) {
+        for thread in 0..self.seats.len() {
+            if self.is_taken(thread) {
+                self.ring(thread);
             }
         }
     }
 
-    /// What the first waiter of a key sleeps on, for who wakes it once the lock is given back: until then it couldn't go
+    /// What the thread sleeps on, if it was taken, for who wakes it once the lock is given back: until then it couldn't go
     /// on. Where it can't be shared it is rung now.
-    pub fn first_seat(&self, key: usize) -> Option<Arc<Condvar, A>> {
-        let waiter = self.lot.waiter(key, 0)?;
-        let seat = self.seats.get(waiter.thread)?;
-        let shared = Arc::try_clone(seat).ok();
+    pub fn taken_seat(&self, thread: usize) -> Option<Arc<Condvar, A>>
+        ensures { IsSome result → taken_in (machine self.now.lot) thread ≡ true }
+    {
+        if !self.is_taken(thread) {
+            return None;
+        }
+        let shared = Arc::try_clone(self.seats.get(thread)?).ok();
         if shared.is_none() {
-            seat.notify_all();
+            self.ring(thread);
         }
         shared
     }
@@ -81,6 +104,34 @@ impl<A: Allocator> State<A> {
         ensures { result ≡ waits_in (machine self.now.lot) thread }
     {
         matches!(self.lot.place(thread), Some(Place::Waiting(_, _)))
+    }
+
+    /// Has a running thread join a key's list, where the validation holds.
+    pub fn park<V: FnOnce() -> bool + Drop>(
+        &mut self,
+        thread: usize,
+        key: usize,
+        validate: V,
+        park_token: ParkToken,
+        timed: bool,
+    ) -> Result<Option<ParkResult>, LotFault>
+        requires { V.IsAlwaysCallable validate }
+        ensures sound { Sound (machine self.old.lot) }
+        ensures lot { Does (λ m. enter_fault m thread) (Parks (V.post validate) thread key park_token timed) (machine self.old.lot) result (machine self.new.lot) }
+        ensures turns { self.new.turns ≡ self.old.turns }
+    {
+        self.lot.known();
+        self.lot.park(thread, key, validate, park_token, timed)
+    }
+
+    /// Gives a running thread's number back.
+    pub fn retire(&mut self, thread: usize) -> Result<(), LotFault>
+        ensures sound { Sound (machine self.old.lot) }
+        ensures lot { Does (λ m. retire_fault m thread) (Makes (λ m. retired m thread)) (machine self.old.lot) result (machine self.new.lot) }
+        ensures turns { self.new.turns ≡ self.old.turns }
+    {
+        self.lot.known();
+        self.lot.retire(thread)
     }
 
     /// Has a thread go on that was taken, or whose deadline has come.
@@ -121,8 +172,9 @@ impl<A: Allocator> State<A> {
         ensures turns { self.new.turns ≡ self.old.turns }
     {
         self.lot.known();
-        self.ring_all(key);
-        self.lot.unpark_all(key, unpark_token)
+        let done = self.lot.unpark_all(key, unpark_token);
+        self.ring_taken();
+        done
     }
 
     /// Takes those waiters of a key that a filter wants, and wakes them.
@@ -143,8 +195,9 @@ impl<A: Allocator> State<A> {
     {
         self.lot.known();
         let fair = self.turn();
-        self.ring_all(key);
-        self.lot.unpark_wanted(key, fair, filter, callback)
+        let done = self.lot.unpark_wanted(key, fair, filter, callback);
+        self.ring_taken();
+        done
     }
 
     /// Takes and moves waiters as the validation says.

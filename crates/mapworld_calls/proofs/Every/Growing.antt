@@ -187,7 +187,7 @@ filter-one : {X : Type 0} (p : X → Bool) (k : X) → p k ≡ true → filter p
 filter-one p k e = rw e refl
 
 module _ {K V D T : Type 0} (w : Setup K V D T) (laws : Laws w) (bs : List (Block K)) (i : ℕ) (b c : Block K) (f : Walk D) (k : K) (s : Visits w bs i b c f k) where
-  keys-added : done_keys w c ≡ done_keys w b ++ k ∷ []
+  pub keys-added : done_keys w c ≡ done_keys w b ++ k ∷ []
   keys-added =
       let at = s.on in
       ap (λ v. filter (λ q. w.route q == v) c.visited.items) s.same.visit

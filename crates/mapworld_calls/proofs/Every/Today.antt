@@ -9,6 +9,7 @@ use Rattle.mapworld_calls.specs.declared.ask.Ask.{Ask}
 use Rattle.mapworld_calls.specs.declared.ask.Ask.TheVariants as ask
 use Rattle.mapworld_calls.specs.declared.ask.Keyed.{Keyed}
 use Rattle.mapworld_calls.specs.declared.ask.Keyed.TheVariants as keyed
+use Rattle.mapworld_calls.specs.declared.ask.Begin.{Begin}
 use Rattle.mapworld_calls.specs.declared.ask.Begin.TheVariants as begin
 use Rattle.mapworld_calls.specs.declared.ask.Held.{Held}
 use Rattle.mapworld_calls.specs.declared.ask.Held.TheVariants as held
@@ -16,7 +17,7 @@ use Rattle.mapworld_calls.specs.declared.block.Block.{Block}
 use Rattle.mapworld_calls.specs.declared.reply.Answer.{Answer}
 use Rattle.mapworld_calls.specs.declared.reply.Answer.TheVariants as answer
 use Rattle.mapworld_calls.specs.declared.reply.Reply.{Reply}
-use Rattle.mapworld_calls.specs.Programs.{keyed_key, opening_key, key_of, may_grow, session_behind, opening_before}
+use Rattle.mapworld_calls.specs.Programs.{keyed_key, key_of, may_grow, opening_may_grow, session_behind, opening_before}
 use Rattle.mapworld_calls.specs.Calls as today
 use Rattle.mapworld_calls.specs.Setup.{Setup, ask_at, session_of}
 use Rattle.mapworld_calls.specs.Pairs.{opening_pair}
@@ -24,12 +25,14 @@ use Rattle.mapworld_calls.specs.Replay.{after_ask, reached, block_key, is_key, l
 use Rattle.mapworld_calls.specs.Agrees as agrees
 use Rattle.mapworld_calls.specs.Placed as placed
 use Rattle.mapworld_calls.specs.Every.Ask.{Ask as AnyAsk}
+use Rattle.mapworld_calls.specs.Every.Answer as any_answer
 use Rattle.mapworld_calls.specs.Every.Calls as every
 use Rattle.mapworld_calls.specs.Every.Setup as every_setup
 use Rattle.mapworld_calls.specs.Every.Replay as every_replay
 use Rattle.mapworld_calls.specs.Every.Agrees as every_agrees
 use Rattle.mapworld_calls.specs.Every.Placed as every_placed
-use Rattle.mapworld_calls.specs.Every.Today.{as_keyed, as_held, as_ask, as_answer, as_reply, as_setup}
+use Rattle.mapworld_calls.specs.Every.Today.{as_keyed, as_begin, as_held, as_ask, as_answer, as_reply, as_setup}
+use Rattle.mapworld_calls.proofs.Handed.{Handed, IsOfBlock, reached-handed, of-block}
 
 -- the calls of the same numbers
 
@@ -54,6 +57,12 @@ behind c (Some (ask.Begin b)) s = refl
 behind c (Some (ask.Held (held.Read d))) s = refl
 behind c (Some (ask.Held (held.Write d))) s = refl
 behind c (Some (ask.Held held.Downgrade)) s = refl
+behind c (Some (ask.Held (held.Insert v))) s = refl
+behind c (Some (ask.Held held.IntoRef)) s = refl
+behind c (Some (ask.Held held.Remove)) s = refl
+behind c (Some (ask.Held held.RemoveEntry)) s = refl
+behind c (Some (ask.Held (held.ReplaceEntry v))) s = refl
+behind c (Some (ask.Held held.IntoKey)) s = refl
 behind c (Some (ask.Held held.Drop)) s = refl
 
 opening-before : {K V D : Type 0} (p : List (Ask K V D)) (c : ℕ) → every_setup.opening_before (map as_ask p) c ≡ opening_before p c
@@ -77,11 +86,15 @@ abbrev as_at : {K V : Type 0} → today.At K V → every.At K V
 as_at (today.free o) = every.free o
 as_at (today.shared p) = every.shared p
 as_at (today.exclusive p) = every.exclusive p
+as_at (today.occupied k p) = every.occupied p
+as_at (today.vacant k) = every.vacant
 
 pair-as : {K V : Type 0} (s : today.At K V) → every.pair_in (as_at s) ≡ today.pair_in s
 pair-as (today.free o) = refl
 pair-as (today.shared p) = refl
 pair-as (today.exclusive p) = refl
+pair-as (today.occupied k p) = refl
+pair-as (today.vacant k) = refl
 
 keyed-key-as : {K V D : Type 0} (k : Keyed K V D) → every_setup.keyed_key (as_keyed k) ≡ keyed_key k
 keyed-key-as (keyed.Insert k v) = refl
@@ -96,6 +109,7 @@ work-as : {K V D : Type 0} (a : Ask K V D) (key : K) → key_of a ≡ Some key �
 work-as (ask.Keyed k) key is = ap every_replay.one (keyed-key-as k ∙ same_Some (keyed_key k) key is)
 work-as (ask.Begin (begin.Get k)) key is = ap every_replay.one (same_Some k key is)
 work-as (ask.Begin (begin.GetMut k)) key is = ap every_replay.one (same_Some k key is)
+work-as (ask.Begin (begin.Entry k)) key is = ap every_replay.one (same_Some k key is)
 work-as (ask.Held h) key is = absurd (none-some key is)
 
 -- an answer by a test
@@ -120,6 +134,8 @@ module _ {K V D T : Type 0} (deeds : Deeds D K V T) (key : K) where
   first-leaves (ask.Begin (begin.Get k)) is (Some p) = refl
   first-leaves (ask.Begin (begin.GetMut k)) is None = refl
   first-leaves (ask.Begin (begin.GetMut k)) is (Some p) = refl
+  first-leaves (ask.Begin (begin.Entry k)) is None = refl
+  first-leaves (ask.Begin (begin.Entry k)) is (Some p) = refl
   first-leaves (ask.Held h) is o = absurd (none-some key is)
 
   first-tells : (a : Ask K V D) → key_of a ≡ Some key → (o : Option (K × V)) → every.told deeds key (as_ask a) (every.free o) ≡ as_answer (today.told deeds a (today.free o))
@@ -140,37 +156,95 @@ module _ {K V D T : Type 0} (deeds : Deeds D K V T) (key : K) where
   first-tells (ask.Begin (begin.Get k)) is (Some p) = refl
   first-tells (ask.Begin (begin.GetMut k)) is None = refl
   first-tells (ask.Begin (begin.GetMut k)) is (Some p) = refl
+  first-tells (ask.Begin (begin.Entry k)) is None = refl
+  first-tells (ask.Begin (begin.Entry k)) is (Some p) = refl
   first-tells (ask.Held h) is o = absurd (none-some key is)
 
-  held-leaves : (h : Held D) (s : today.At K V) → every.after deeds key (as_ask (ask.Held h)) (as_at s) ≡ as_at (today.after deeds (ask.Held h) s)
-  held-leaves h (today.free o) = refl
-  held-leaves (held.Read d) (today.shared p) = refl
-  held-leaves (held.Write d) (today.shared p) = refl
-  held-leaves held.Downgrade (today.shared p) = refl
-  held-leaves held.Drop (today.shared p) = refl
-  held-leaves (held.Read d) (today.exclusive p) = refl
-  held-leaves (held.Write d) (today.exclusive p) = refl
-  held-leaves held.Downgrade (today.exclusive p) = refl
-  held-leaves held.Drop (today.exclusive p) = refl
+  held-leaves : (h : Held V D) (s : today.At K V) → Handed key s → every.after deeds key (as_ask (ask.Held h)) (as_at s) ≡ as_at (today.after deeds (ask.Held h) s)
+  held-leaves h (today.free o) handed = refl
+  held-leaves (held.Read d) (today.shared p) handed = refl
+  held-leaves (held.Read d) (today.exclusive p) handed = refl
+  held-leaves (held.Read d) (today.occupied k p) handed = refl
+  held-leaves (held.Read d) (today.vacant k) handed = refl
+  held-leaves (held.Write d) (today.shared p) handed = refl
+  held-leaves (held.Write d) (today.exclusive p) handed = refl
+  held-leaves (held.Write d) (today.occupied k p) handed = refl
+  held-leaves (held.Write d) (today.vacant k) handed = refl
+  held-leaves held.Downgrade (today.shared p) handed = refl
+  held-leaves held.Downgrade (today.exclusive p) handed = refl
+  held-leaves held.Downgrade (today.occupied k p) handed = refl
+  held-leaves held.Downgrade (today.vacant k) handed = refl
+  held-leaves (held.Insert v) (today.shared p) handed = refl
+  held-leaves (held.Insert v) (today.exclusive p) handed = refl
+  held-leaves (held.Insert v) (today.occupied k p) handed = refl
+  held-leaves (held.Insert v) (today.vacant k) handed = ap (λ j. every.exclusive (j, v)) (sym handed)
+  held-leaves held.IntoRef (today.shared p) handed = refl
+  held-leaves held.IntoRef (today.exclusive p) handed = refl
+  held-leaves held.IntoRef (today.occupied k p) handed = refl
+  held-leaves held.IntoRef (today.vacant k) handed = refl
+  held-leaves held.Remove (today.shared p) handed = refl
+  held-leaves held.Remove (today.exclusive p) handed = refl
+  held-leaves held.Remove (today.occupied k p) handed = refl
+  held-leaves held.Remove (today.vacant k) handed = refl
+  held-leaves held.RemoveEntry (today.shared p) handed = refl
+  held-leaves held.RemoveEntry (today.exclusive p) handed = refl
+  held-leaves held.RemoveEntry (today.occupied k p) handed = refl
+  held-leaves held.RemoveEntry (today.vacant k) handed = refl
+  held-leaves (held.ReplaceEntry v) (today.shared p) handed = refl
+  held-leaves (held.ReplaceEntry v) (today.exclusive p) handed = refl
+  held-leaves (held.ReplaceEntry v) (today.occupied k p) handed = ap (λ j. every.free (Some (j, v))) (sym handed)
+  held-leaves (held.ReplaceEntry v) (today.vacant k) handed = refl
+  held-leaves held.IntoKey (today.shared p) handed = refl
+  held-leaves held.IntoKey (today.exclusive p) handed = refl
+  held-leaves held.IntoKey (today.occupied k p) handed = refl
+  held-leaves held.IntoKey (today.vacant k) handed = refl
+  held-leaves held.Drop (today.shared p) handed = refl
+  held-leaves held.Drop (today.exclusive p) handed = refl
+  held-leaves held.Drop (today.occupied k p) handed = refl
+  held-leaves held.Drop (today.vacant k) handed = refl
 
-  held-tells : (h : Held D) (s : today.At K V) → every.told deeds key (as_ask (ask.Held h)) (as_at s) ≡ as_answer (today.told deeds (ask.Held h) s)
-  held-tells h (today.free o) = refl
-  held-tells (held.Read d) (today.shared p) = refl
-  held-tells (held.Write d) (today.shared p) = refl
-  held-tells held.Downgrade (today.shared p) = refl
-  held-tells held.Drop (today.shared p) = refl
-  held-tells (held.Read d) (today.exclusive p) = refl
-  held-tells (held.Write d) (today.exclusive p) = refl
-  held-tells held.Downgrade (today.exclusive p) = refl
-  held-tells held.Drop (today.exclusive p) = refl
-
--- the calls of a block: the first has a key, and all others are of its guard
-pub record IsOfBlock {K V D T : Type 0} (w : Setup K V D T) (t c n : ℕ) : Type 0 where
-  pub first : Ask K V D
-  pub asked : ask_at w t c ≡ Some first
-  pub key : K
-  pub key_is : key_of first ≡ Some key
-  pub others : (m : ℕ) → 0 < m → m < n → (h : Held D) × (ask_at w t (c + m) ≡ Some (ask.Held h))
+  held-tells : (h : Held V D) (s : today.At K V) → Handed key s → every.told deeds key (as_ask (ask.Held h)) (as_at s) ≡ as_answer (today.told deeds (ask.Held h) s)
+  held-tells h (today.free o) handed = refl
+  held-tells (held.Read d) (today.shared p) handed = refl
+  held-tells (held.Read d) (today.exclusive p) handed = refl
+  held-tells (held.Read d) (today.occupied k p) handed = refl
+  held-tells (held.Read d) (today.vacant k) handed = refl
+  held-tells (held.Write d) (today.shared p) handed = refl
+  held-tells (held.Write d) (today.exclusive p) handed = refl
+  held-tells (held.Write d) (today.occupied k p) handed = refl
+  held-tells (held.Write d) (today.vacant k) handed = refl
+  held-tells held.Downgrade (today.shared p) handed = refl
+  held-tells held.Downgrade (today.exclusive p) handed = refl
+  held-tells held.Downgrade (today.occupied k p) handed = refl
+  held-tells held.Downgrade (today.vacant k) handed = refl
+  held-tells (held.Insert v) (today.shared p) handed = refl
+  held-tells (held.Insert v) (today.exclusive p) handed = refl
+  held-tells (held.Insert v) (today.occupied k p) handed = refl
+  held-tells (held.Insert v) (today.vacant k) handed = refl
+  held-tells held.IntoRef (today.shared p) handed = refl
+  held-tells held.IntoRef (today.exclusive p) handed = refl
+  held-tells held.IntoRef (today.occupied k p) handed = refl
+  held-tells held.IntoRef (today.vacant k) handed = refl
+  held-tells held.Remove (today.shared p) handed = refl
+  held-tells held.Remove (today.exclusive p) handed = refl
+  held-tells held.Remove (today.occupied k p) handed = refl
+  held-tells held.Remove (today.vacant k) handed = refl
+  held-tells held.RemoveEntry (today.shared p) handed = refl
+  held-tells held.RemoveEntry (today.exclusive p) handed = refl
+  held-tells held.RemoveEntry (today.occupied k p) handed = refl
+  held-tells held.RemoveEntry (today.vacant k) handed = refl
+  held-tells (held.ReplaceEntry v) (today.shared p) handed = refl
+  held-tells (held.ReplaceEntry v) (today.exclusive p) handed = refl
+  held-tells (held.ReplaceEntry v) (today.occupied k p) handed = refl
+  held-tells (held.ReplaceEntry v) (today.vacant k) handed = refl
+  held-tells held.IntoKey (today.shared p) handed = refl
+  held-tells held.IntoKey (today.exclusive p) handed = refl
+  held-tells held.IntoKey (today.occupied k p) handed = ap (λ j. any_answer.Key j) (sym handed)
+  held-tells held.IntoKey (today.vacant k) handed = ap (λ j. any_answer.Key j) (sym handed)
+  held-tells held.Drop (today.shared p) handed = refl
+  held-tells held.Drop (today.exclusive p) handed = refl
+  held-tells held.Drop (today.occupied k p) handed = refl
+  held-tells held.Drop (today.vacant k) handed = refl
 
 module _ {K V D T : Type 0} (w : Setup K V D T) (shards t c : ℕ) where
   abbrev g : every_setup.Setup K V D T
@@ -189,7 +263,7 @@ module _ {K V D T : Type 0} (w : Setup K V D T) (shards t c : ℕ) where
       let front : IsOfBlock w t c (suc n) = record { first = b.first; asked = b.asked; key = b.key; key_is = b.key_is; others = λ i pos lt. b.others i pos (omega (arith, lt)) } in
       let call = b.others (suc n) (omega arith) (omega arith) in
       ap₂ (λ a z. every_replay.after_ask w.deeds b.key a z) (asked w shards t (c + suc n) (ask.Held call.0) call.1) (reached-as (suc n) front o)
-      ∙ (held-leaves w.deeds b.key call.0 (reached w t c (suc n) o)
+      ∙ (held-leaves w.deeds b.key call.0 (reached w t c (suc n) o) (reached-handed w t c (suc n) front o)
       ∙ sym (ap (λ a. as_at (after_ask w.deeds a (reached w t c (suc n) o))) call.1))
 
   -- what the call of that number tells
@@ -206,7 +280,7 @@ module _ {K V D T : Type 0} (w : Setup K V D T) (shards t c : ℕ) where
       let front : IsOfBlock w t c (suc n) = record { first = b.first; asked = b.asked; key = b.key; key_is = b.key_is; others = λ i pos lt. b.others i pos (omega (arith, lt)) } in
       let call = b.others (suc n) (omega arith) (omega arith) in
       ap₂ (λ a z. option_map (λ x. every.told w.deeds b.key x z) a) (asked w shards t (c + suc n) (ask.Held call.0) call.1) (reached-as (suc n) front o)
-      ∙ (ap (λ a. Some a) (held-tells w.deeds b.key call.0 (reached w t c (suc n) o))
+      ∙ (ap (λ a. Some a) (held-tells w.deeds b.key call.0 (reached w t c (suc n) o) (reached-handed w t c (suc n) front o))
       ∙ sym (ap (λ a. option_map as_answer (option_map (λ x. today.told w.deeds x (reached w t c (suc n) o)) a)) call.1))
 
 -- lists that are gone through alike
@@ -249,17 +323,6 @@ module _ {K V D T : Type 0} (w : Setup K V D T) (shards : ℕ) (steps : List ℕ
   abbrev as_replies : List (every_agrees.Reply K V T)
   as_replies = map as_reply replies
 
-  -- a listed block has done calls of its own alone
-  calls-of : (b : Block K) (a : Ask K V D) → ask_at w b.thread b.call ≡ Some a → placed.IsDoneWithin w started replies b a → IsOfBlock w b.thread b.call b.done.value
-  calls-of b (ask.Keyed k) is done =
-      record { first = ask.Keyed k; asked = is; key = keyed_key k; key_is = refl; others = λ m pos lt. absurd (let le = done.once in omega (arith, le, pos, lt)) }
-  calls-of b (ask.Begin g) is done =
-      record { first = ask.Begin g; asked = is; key = opening_key g; key_is = refl; others = λ m pos lt. let c = done.calls m pos lt in (c.0, c.1) }
-  calls-of b (ask.Held h) is done = absurd done
-
-  of-block : (i : ℕ) (b : Block K) → slice_get bs i ≡ Some b → IsOfBlock w b.thread b.call b.done.value
-  of-block i b at = let p = well.placed i b at in calls-of b p.ask p.asked p.done
-
   work-is : (b : Block K) (n : ℕ) (o : IsOfBlock w b.thread b.call n) → every_replay.block_work e b ≡ every_replay.one o.key
   work-is b n o = ap every_replay.work_of (asked w shards b.thread b.call o.first o.asked) ∙ work-as o.first o.key o.key_is
 
@@ -269,7 +332,7 @@ module _ {K V D T : Type 0} (w : Setup K V D T) (shards : ℕ) (steps : List ℕ
   -- it leaves the same
   left-as : (i : ℕ) (b : Block K) → slice_get bs i ≡ Some b → (q : K) (z : Option (K × V)) → every_replay.left e b q z ≡ left w q z b
   left-as i b at q z =
-      let o = of-block i b at in
+      let o = of-block w steps started bs replies well i b at in
       ap (λ k. if every_replay.works_on e k b q then every_replay.left_by e k b z else z) (work-is b b.done.value o)
       ∙ (ap (λ s. if w.eq o.key q then s else z) (ap every.pair_in (reached-as w shards b.thread b.call b.done.value o z) ∙ pair-as (reached w b.thread b.call b.done.value z))
       ∙ sym (ap (λ k. if is_key w.eq k q then today.pair_in (reached w b.thread b.call b.done.value z) else z) (key-is b b.done.value o)))
@@ -286,7 +349,7 @@ module _ {K V D T : Type 0} (w : Setup K V D T) (shards : ℕ) (steps : List ℕ
   told-as : (t c n : ℕ) (a : Answer K V T) → agrees.IsToldBy w bs t c n a → every_agrees.IsToldBy e bs t c n (as_answer a)
   told-as t c n a h =
       let b = h.block in
-      let o = of-block h.place b h.listed in
+      let o = of-block w steps started bs replies well h.place b h.listed in
       let front : IsOfBlock w b.thread b.call (suc n) = record { first = o.first; asked = o.asked; key = o.key; key_is = o.key_is; others = λ m pos lt. o.others m pos (let le = h.done in omega (arith, lt, le)) } in
       let finds : found w bs h.place b ≡ contents w (take h.place bs) o.key = ap (at_key (contents w (take h.place bs))) (key-is b b.done.value o) in
       record {
@@ -312,6 +375,11 @@ module _ {K V D T : Type 0} (w : Setup K V D T) (shards : ℕ) (steps : List ℕ
   grows-as (keyed.View k d) h = h
   grows-as (keyed.ContainsKey k) h = h
 
+  begins-as : (b : Begin K) → IsTrue (opening_may_grow b) → IsTrue (every_setup.opening_may_grow (as_begin b))
+  begins-as (begin.Get k) h = h
+  begins-as (begin.GetMut k) h = h
+  begins-as (begin.Entry k) h = h
+
   in-session-as : (t c : ℕ) (s : Option ℕ) (a : Answer K V T) → agrees.IsAnsweredInSession w bs t c s a → every_agrees.IsAnsweredInSession e bs t c s (as_answer a)
   in-session-as t c None a h = ap as_answer h
   in-session-as t c (Some b) a h = elim h [
@@ -324,7 +392,10 @@ module _ {K V D T : Type 0} (w : Setup K V D T) (shards : ℕ) (steps : List ℕ
     | inl told ↦ inl (told-as t c 0 a told)
     | inr none ↦ inr (ap as_answer none.0, grows-as k none.1, none.2)
   ]
-  answered-by t c (ask.Begin b) a h = inl (told-as t c 0 a h)
+  answered-by t c (ask.Begin b) a h = elim h [
+    | inl told ↦ inl (told-as t c 0 a told)
+    | inr none ↦ inr (inl (ap as_answer none.0, begins-as b none.1), none.2)
+  ]
   answered-by t c (ask.Held k) a h =
       subst (λ (s : Option ℕ). every_agrees.IsAnsweredInSession e bs t c s (as_answer a)) (sym (sessions w shards t c)) (in-session-as t c (session_of w t c) a h)
 

@@ -1,5 +1,5 @@
 -- The laws of the replay for every call, over definitions alone.
-use Rattle.std.specs.Prelude.{◌≡◌, ℕ, ◌+◌, ◌<◌, ◌⊎◌, Bool, true, false, IsTrue, List, [], ◌∷◌, ◌++◌, length, Option, Some, slice_get, slice_set}
+use Rattle.std.specs.Prelude.{◌≡◌, ℕ, suc, ◌+◌, ◌<◌, ◌⊎◌, Bool, true, false, IsSome, IsTrue, List, [], ◌∷◌, ◌++◌, length, Option, Some, slice_get, slice_set, take}
 use Rattle.mapworld_calls.specs.declared.block.Block.{Block}
 use Rattle.mapworld_calls.specs.Pairs.{pair_of, AreDistinct}
 use Rattle.mapworld_calls.specs.Every.Ask.{Ask}
@@ -9,12 +9,12 @@ use Rattle.mapworld_calls.specs.Every.Walk.{Walk}
 use Rattle.mapworld_calls.specs.Every.Walk as walk
 use Rattle.mapworld_calls.specs.Every.Answer as answer
 use Rattle.mapworld_calls.specs.Every.Calls.{At, pair_in, told, after, held_answer, held_leaves, visit_answer, visit_leaves}
-use Rattle.mapworld_calls.specs.Every.Setup.{Setup, Laws, ask_at}
+use Rattle.mapworld_calls.specs.Every.Setup.{Setup, Laws, ask_at, stop_of}
 use Rattle.mapworld_calls.specs.Every.Frame.{Frame, IsOn, KeepsToShard, LooksAtShard, AreApart, IsLastOnShard, IsSettled, IsQuiet, Grows, of_shard}
 use Rattle.mapworld_calls.specs.Every.Frame as frame
 use Rattle.mapworld_calls.specs.Every.Replay.{left, done_keys, told_by, frame_of, contents, before}
-use Rattle.mapworld_calls.specs.Every.Agrees.{Reply, IsToldBy, IsAnswered, Agrees}
-use Rattle.mapworld_calls.specs.Every.Placed.{IsDoneWithin, IsPlaced, IsEarlier, WellPlaced, StaysListed}
+use Rattle.mapworld_calls.specs.Every.Agrees.{Reply, IsToldBy, IsAnswered, IsBelow, Agrees}
+use Rattle.mapworld_calls.specs.Every.Placed.{done_by_walk, IsVisitDone, IsDoneWithin, IsPlaced, IsEarlier, WellPlaced, StaysListed}
 use Rattle.mapworld_calls.specs.Every.Growth.{state_of, Calls, Visits, Ends, IsUnfinished, IsOfLaterCall, IsPut}
 
 -- blocks of any kind that keep to their shards: two neighbours on different shards may change places, contents stay, and
@@ -101,6 +101,16 @@ LastVisitsAgree K V D T =
     → IsPut w pairs pairs' k (visit_leaves w.deeds f (before w bs i k))
     → Agrees w (slice_set bs i c) pairs' replies
     × (told_by w (length (done_keys w b)) c (before w (slice_set bs i c) i) ≡ Some (visit_answer w.deeds f (before w bs i k)))
+
+-- a visit that does one more key is still within its walk, if it hadn't done that key, which has a pair at the visit's turn, and
+-- the walk has an item left to give
+abbrev pub VisitsStayDone : Type 0 → Type 0 → Type 0 → Type 0 → Type 0
+VisitsStayDone K V D T =
+    (w : Setup K V D T) → Laws w → (bs : List (Block K)) (i : ℕ) (b c : Block K) (f : Walk D) (k : K)
+    → Visits w bs i b c f k → IsSome (before w bs i k)
+    → ((n : ℕ) (j : K) → slice_get b.visited.items n ≡ Some j → w.eq j k ≡ false)
+    → IsBelow (stop_of f) (done_by_walk w (take (suc i) bs) b.thread b.call)
+    → IsVisitDone w bs i b f → IsVisitDone w (slice_set bs i c) i c f
 
 -- an end that is written into a block
 abbrev pub EndsAgree : Type 0 → Type 0 → Type 0 → Type 0 → Type 0

@@ -41,11 +41,18 @@ as_keyed (keyed.ContainsKey k) = any_keyed.ContainsKey k
 abbrev pub as_begin : {K : Type 0} → Begin K → AnyBegin K
 as_begin (begin.Get k) = any_begin.Get k
 as_begin (begin.GetMut k) = any_begin.GetMut k
+as_begin (begin.Entry k) = any_begin.Entry k
 
-abbrev pub as_held : {V D : Type 0} → Held D → AnyHeld V D
+abbrev pub as_held : {V D : Type 0} → Held V D → AnyHeld V D
 as_held (held.Read d) = any_held.Read d
 as_held (held.Write d) = any_held.Write d
 as_held held.Downgrade = any_held.Downgrade
+as_held (held.Insert v) = any_held.Insert v
+as_held held.IntoRef = any_held.IntoRef
+as_held held.Remove = any_held.Remove
+as_held held.RemoveEntry = any_held.RemoveEntry
+as_held (held.ReplaceEntry v) = any_held.ReplaceEntry v
+as_held held.IntoKey = any_held.IntoKey
 as_held held.Drop = any_held.Drop
 
 abbrev pub as_ask : {K V D : Type 0} → Ask K V D → AnyAsk K V D
@@ -58,8 +65,10 @@ as_answer answer.Done = any_answer.Done
 as_answer answer.None = any_answer.None
 as_answer (answer.Value v) = any_answer.Value v
 as_answer (answer.Pair k v) = any_answer.Pair k v
+as_answer (answer.Key k) = any_answer.Key k
 as_answer (answer.Read t) = any_answer.Read t
 as_answer answer.Held = any_answer.Held
+as_answer answer.Vacant = any_answer.Vacant
 as_answer answer.NoGuard = any_answer.NoGuard
 as_answer answer.WrongGuard = any_answer.WrongGuard
 as_answer (answer.Flag b) = any_answer.Flag b

@@ -2,7 +2,7 @@ use Rattle.std.proofs.Common.{◌+◌, cond, length, refl, ap, sym, ◌∙◌, a
 use Rattle.std.proofs.lemmas.List.{length_push}
 use Rattle.std.proofs.lemmas.Option.{slice_get_read}
 use Rattle.dashmap_table.specs.Route.{route_of, hash_of}
-use Rattle.mapworld.specs.Route.{key_route}
+use Rattle.mapworld_state.specs.Route.{key_route}
 use Rattle.mapworld.specs.Beginning.{pairs_in}
 use Rattle.mapworld.proofs.Routes.{key_route-equal}
 use Rattle.mapworld.proofs.Filling.{AreFilled-none, AreFilled-put, pairs_in-put, pairs_in-none, length-slice_set}

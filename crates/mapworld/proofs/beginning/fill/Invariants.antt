@@ -1,5 +1,5 @@
 use Rattle.std.proofs.Common.{◌≡◌, ◌≤◌, length}
-use Rattle.mapworld.specs.Route.{key_route}
+use Rattle.mapworld_state.specs.Route.{key_route}
 use Rattle.mapworld.specs.Beginning.{AreFilled, pairs_in}
 use Rattle.mapworld.proofs.beginning.fill.Given as goal
 

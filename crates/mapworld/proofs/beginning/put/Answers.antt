@@ -1,7 +1,7 @@
 use Rattle.std.proofs.Common.{ap, sym, ◌∙◌, slice_set, position}
 use Rattle.std.proofs.lemmas.Option.{get_or_from_slice_get}
 use Rattle.mapworld_calls.specs.Pairs.{has_key}
-use Rattle.mapworld.proofs.Finds.{position-Some_at}
+use Rattle.mapworld_state.proofs.Finds.{position-Some_at}
 use Rattle.mapworld.proofs.beginning.put.Goals as goal
 
 pub returns-in-Some : goal.returns-in-Some

@@ -1,6 +1,7 @@
-use Rattle.std.proofs.Common.{◌≡◌, map, flat_map, take}
+use Rattle.std.proofs.Common.{◌≡◌, ◌++◌, map, flat_map}
 use Rattle.mapworld.specs.Views.{shown}
 use Rattle.mapworld.proofs.contents.pairs_in.Given as goal
 
-abbrev pub invariant-loop-table : goal.invariant-loop-table
-invariant-loop-table g l = map shown l.list.items ≡ flat_map (λ table. table.items) (take l.table-index l.tables)
+-- the pairs that are listed, and then those that are left
+abbrev pub invariant-loop-pair : goal.invariant-loop-pair
+invariant-loop-pair g l = map shown l.list.items ++ l.pair-iterator ≡ flat_map (λ list. list.items) l.tables

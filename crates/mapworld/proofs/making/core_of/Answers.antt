@@ -2,7 +2,7 @@ use Rattle.std.proofs.Common.{◌≡◌, ◌≤◌, ℕ, length, map, sum_by, fa
 use Rattle.std.specs.List.{list_all}
 use Rattle.std.proofs.lemmas.List.{length-map}
 use Rattle.mapworld_calls.specs.Programs.{one_guard}
-use Rattle.mapworld.specs.Route.{IsWorldAmount, key_route}
+use Rattle.mapworld_state.specs.Route.{IsWorldAmount, key_route}
 use Rattle.mapworld.specs.Beginning.{AreAtStart, AreFilled, AreReady}
 use Rattle.mapworld.proofs.Refusals.{accepted, sum_by-map}
 use Rattle.mapworld.proofs.Beginnings.{new-sound, new-contents, new-room}

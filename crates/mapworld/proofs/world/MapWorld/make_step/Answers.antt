@@ -1,10 +1,10 @@
 use Rattle.std.proofs.Common.{sym, subst}
-use Rattle.mapworld.specs.Core.{state_of}
-use Rattle.mapworld.specs.World.{setup_of}
-use Rattle.mapworld.specs.Sound.{Sound}
+use Rattle.mapworld_state.specs.Core.{state_of}
+use Rattle.mapworld_state.specs.World.{setup_of}
+use Rattle.mapworld_state.specs.Sound.{Sound}
 use Rattle.mapworld.proofs.Setups.{setup-laws}
-use Rattle.mapworld.proofs.Sounds.{sound-step}
-use Rattle.mapworld.proofs.Adding.{step-adds}
+use Rattle.mapworld_sound.proofs.Sounds.{sound-step}
+use Rattle.mapworld_sound.proofs.Adding.{step-adds}
 use Rattle.mapworld.proofs.Runs.{setup-fixed}
 use Rattle.mapworld.proofs.world.MapWorld.make_step.Goals as goal
 

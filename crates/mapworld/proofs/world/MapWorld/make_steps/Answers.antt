@@ -2,11 +2,11 @@ use Rattle.std.proofs.Common.{◌≡◌, ◌+◌, ◌<◌, false, length, take, 
 use Rattle.std.proofs.lemmas.List.{take_more, length-take-le}
 use Rattle.std.proofs.lemmas.Option.{slice_get-get_or}
 use Rattle.std.proofs.lemmas.Result.{err_from_is_err_and}
-use Rattle.mapworld.specs.Running.{refusal, Ran}
-use Rattle.mapworld.specs.Steps.{IsStep}
-use Rattle.mapworld.specs.World.{setup_of}
-use Rattle.mapworld.specs.Faults.{run_fault_done}
-use Rattle.mapworld.proofs.Adding.{step-adds, adds-more, fixed-more}
+use Rattle.mapworld_state.specs.Running.{refusal, Ran}
+use Rattle.mapworld_state.specs.Steps.{IsStep}
+use Rattle.mapworld_state.specs.World.{setup_of}
+use Rattle.mapworld_faults.specs.Faults.{run_fault_done}
+use Rattle.mapworld_sound.proofs.Adding.{step-adds, adds-more, fixed-more}
 use Rattle.mapworld.proofs.Runs.{Ran-more, setup-fixed}
 use Rattle.mapworld.proofs.Setups.{setup-laws}
 use Rattle.mapworld.proofs.Footprints.{step_footprint}

@@ -1,9 +1,9 @@
 use Rattle.std.proofs.Common.{◌≡◌, take}
 use Rattle.mapworld_calls.specs.Placed.{OnlyAdds}
-use Rattle.mapworld.specs.State.{threads_of}
-use Rattle.mapworld.specs.Running.{Ran}
-use Rattle.mapworld.specs.World.{setup_of}
-use Rattle.mapworld.specs.Making.{StaysFixed}
+use Rattle.mapworld_state.specs.State.{threads_of}
+use Rattle.mapworld_state.specs.Running.{Ran}
+use Rattle.mapworld_state.specs.World.{setup_of}
+use Rattle.mapworld_state.specs.Running.{StaysFixed}
 use Rattle.mapworld.proofs.world.MapWorld.make_steps.Given as goal
 
 abbrev pub invariant-loop-step : goal.invariant-loop-step

@@ -1,6 +1,6 @@
 use Rattle.std.proofs.Common.{ap, ◌∙◌}
 use Rattle.std.proofs.lemmas.Option.{slice_get_read}
-use Rattle.mapworld.specs.Core.{state_of}
+use Rattle.mapworld_state.specs.Core.{state_of}
 use Rattle.dashmap_table.specs.Route.{route_of, hash_of}
 use Rattle.mapworld.proofs.Setups.{setup-laws}
 use Rattle.mapworld.proofs.Viewing.{pair_in_shard}

@@ -1,5 +1,5 @@
-use Rattle.mapworld.specs.Core.{state_of}
-use Rattle.mapworld.specs.World.{setup_of}
+use Rattle.mapworld_state.specs.Core.{state_of}
+use Rattle.mapworld_state.specs.World.{setup_of}
 use Rattle.mapworld_calls.proofs.Every.Today.{adds-as}
 use Rattle.mapworld.proofs.Outcomes.{world-agrees, world-placed, hold_by_phase}
 use Rattle.mapworld.proofs.world.MapWorld.run.Goals as goal

@@ -1,7 +1,6 @@
-use Rattle.std.proofs.Common.{length, refl, ap, arith}
-use Rattle.mapworld.specs.Core.{state_of}
-use Rattle.mapworld.proofs.Outcomes.{element-at}
-use Rattle.mapworld.proofs.Sleeping.{status-asleep, status-finished}
+use Rattle.std.proofs.Common.{refl}
+use Rattle.mapworld_state.specs.Core.{state_of}
+use Rattle.mapworld.proofs.Sleeping.{status-asleep, status-finished-any}
 use Rattle.mapworld.proofs.world.MapWorld.status.Goals as goal
 
 pub returns-clause-asleep : goal.returns-clause-asleep
@@ -11,6 +10,4 @@ returns-clause-asleep g c =
 pub returns-clause-finished : goal.returns-clause-finished
 returns-clause-finished g c =
     let w = state_of c.self.inside.core in
-    let seen = ap (λ v. length v.programs) c.self.view_is in
-    let there = element-at w.places c.args.thread (omega (arith, c.requires, seen, c.self.invariant.1.places)) in
-    rw (← c.self.view_is) (status-finished _ w c.self.invariant.0 refl c.args.thread there.0 there.1 c.status.result c.status.ensures)
+    rw (← c.self.view_is) (status-finished-any _ w c.self.invariant.0 refl c.self.invariant.1.places c.args.thread c.status.result c.status.ensures)

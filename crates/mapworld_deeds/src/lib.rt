@@ -1,0 +1,6 @@
+//! The steps of a world of maps that change or read a pair, one function for each kind.
+#![tactic(auto)]
+
+mod deeds;
+
+pub use deeds::{append, apply, change, fill, read, view};

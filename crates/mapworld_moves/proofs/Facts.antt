@@ -1,0 +1,162 @@
+-- What the code knows of a thread's place between two steps.
+use Rattle.std.proofs.Common.{◌≡◌, ℕ, zero, suc, ◌+◌, ◌-◌, ◌<◌, ◌≤◌, Bool, true, false, ◌||◌, if◌then◌else◌, List, [], ◌∷◌, length, drop, get_or, Vec, Option, Some, None, is_some, slice_get, sum_by, vec_len, vec_capacity, refl, ap, sym, ◌∙◌, subst, arith}
+use Rattle.std.specs.List.{list_any}
+use Rattle.std.proofs.lemmas.Option.{get_or_from_slice_get, none-some, same_Some}
+use Rattle.mapworld_calls.specs.declared.ask.Ask.{Ask}
+use Rattle.mapworld_calls.specs.declared.block.Block.{Block}
+use Rattle.mapworld_calls.specs.declared.reply.Answer.{Answer}
+use Rattle.mapworld_calls.specs.Calls.{At}
+use Rattle.mapworld_calls.specs.Replay.{reached, found}
+use Rattle.mapworld_calls.specs.Setup.{Setup}
+use Rattle.mapworld_calls.proofs.Lists.{sum_by-at}
+use Rattle.mapworld_state.specs.declared.place.Way.{Way}
+use Rattle.mapworld_state.specs.declared.place.Guard.{Guard}
+use Rattle.mapworld_state.specs.declared.place.Guard.TheVariants as guard
+use Rattle.mapworld_state.specs.declared.place.Phase.{Phase}
+use Rattle.mapworld_state.specs.declared.place.Phase.TheVariants as phase
+use Rattle.mapworld_state.specs.declared.place.Request.{Request}
+use Rattle.mapworld_state.specs.declared.place.Place.{Place}
+use Rattle.mapworld_state.specs.State.{State, threads_of}
+use Rattle.mapworld_state.specs.Holds.{is_excluded}
+use Rattle.mapworld_state.specs.Moves.{mode_of, lent_slot, lent_pair, vacant_key}
+use Rattle.mapworld_state.specs.Sound.{Sound, Claim, GuardIs, HasPair, HasList, IsInSession, IsOnItsWay, IsBeforeDeed, IsReleasing, is_resting}
+use Rattle.mapworld_state.specs.Core.{IsBefore}
+use Rattle.mapworld_moves.specs.Listing.{CanCount}
+
+-- the place that was read at the thread's number
+module _ {K V D T A : Type 0} {places : List (Place K V D T A)} {t : ℕ} {ph : Phase K V D T} (b : IsBefore places t ph) (r : Place K V D T A) (read : r ≡ get_or places t r) where
+  pub read_is : r ≡ b.place
+  read_is = read ∙ get_or_from_slice_get places t b.place r b.stands
+
+  pub stands_here : slice_get places t ≡ Some r
+  stands_here = subst (λ q. slice_get places t ≡ Some q) (sym read_is) b.stands
+
+  pub phase_here : r.phase ≡ ph
+  phase_here = subst (λ (q : Place K V D T A). q.phase ≡ ph) (sym read_is) b.before
+
+-- what was read at an index at which an element is known
+pub read_at : {X : Type 0} (xs : List X) (i : ℕ) (x r : X) → slice_get xs i ≡ Some x → r ≡ get_or xs i r → r ≡ x
+read_at xs i x r h e = e ∙ get_or_from_slice_get xs i x r h
+
+module _ {K V S D T A : Type 0} {x : Setup K V D T} {w : State K V S D T A} (sound : Sound x w) (t : ℕ) (p : Place K V D T A) (here : slice_get w.places t ≡ Some p) {ph : Phase K V D T} (before : p.phase ≡ ph) where
+  pub claim_at : Claim x (threads_of w) w.blocks w.tables t p ph
+  claim_at = subst (λ f. Claim x (threads_of w) w.blocks w.tables t p f) before (sound.stands t p here).claim
+
+  -- a call that has started is one of a program
+  pub call_fits : is_resting ph ≡ false → p.next + 1 ≤ sum_by length x.programs
+  call_fits busy =
+      let s = sound.stands t p here in
+      let within = subst (λ f. (if is_resting f then p.next else p.next + 1) ≤ length s.program) before s.within in
+      let started = subst (λ (b : Bool). (if b then p.next else p.next + 1) ≤ length s.program) busy within in
+      let part = sum_by-at length x.programs t s.program s.has in
+      omega (arith, started, part)
+
+  -- and so is the next one
+  pub next_fits : p.next ≤ sum_by length x.programs
+  next_fits =
+      let s = sound.stands t p here in
+      let part = sum_by-at length x.programs t s.program s.has in
+      let least = at_least (is_resting p.phase) p.next (length s.program) s.within in
+      omega (arith, least, part)
+    where
+      at_least : (b : Bool) (n m : ℕ) → (if b then n else n + 1) ≤ m → n ≤ m
+      at_least true n m h = h
+      at_least false n m h = omega (arith, h)
+
+-- the block that a place keeps was its own
+pub kept_block : (closes : Bool) (block : Option ℕ) (i : ℕ) → (if closes then None else block) ≡ Some i → block ≡ Some i
+kept_block true block i e = absurd (none-some i e)
+kept_block false block i e = e
+
+module _ {K V D T A : Type 0} (x : Setup K V D T) (bs : List (Block K)) (tables : List (Vec (K × V) A)) (t : ℕ) (p : Place K V D T A) where
+  -- the block of a session is of an earlier call than that
+  pub session_counts : (n : ℕ) (session block : Option ℕ) → IsInSession x bs tables t p n session block → CanCount bs block n
+  session_counts n None block h i e = absurd (none-some i (sym h.1 ∙ e))
+  session_counts n (Some c) None h i e = absurd (none-some i e)
+  session_counts n (Some c) (Some j) h i e =
+      (h.block, subst (λ k. slice_get bs k ≡ Some h.block) (same_Some j i e) h.listed, omega (arith, h.call, h.below))
+
+  -- a guard lends a pair of its shard's list, or has room in it
+  guard_is : (n : ℕ) (session block : Option ℕ) (g : Guard K) → IsInSession x bs tables t p n session block → p.guard ≡ Some g → (at : At K V) × GuardIs tables p (Some g) at
+  guard_is n None block g h e = absurd (none-some g (sym h.0 ∙ e))
+  guard_is n (Some c) None g h e = absurd (none-some g (sym h.0 ∙ e))
+  guard_is n (Some c) (Some j) g h e =
+      (reached x t c (n - c) (found x bs j h.block), subst (λ (z : Option (Guard K)). GuardIs tables p z (reached x t c (n - c) (found x bs j h.block))) e h.guard)
+
+  pub session_pair : (n : ℕ) (session block : Option ℕ) (kind : Way K) (slot : ℕ) → IsInSession x bs tables t p n session block → p.guard ≡ Some (guard.Pair kind slot)
+      → (pair : K × V) × HasPair tables p.shard slot pair
+  session_pair n session block kind slot h e = let g = guard_is n session block (guard.Pair kind slot) h e in (g.1.0, g.1.3)
+
+  pub session_room : (n : ℕ) (session block : Option ℕ) (key : K) → IsInSession x bs tables t p n session block → p.guard ≡ Some (guard.Vacant key)
+      → HasList tables p.shard (λ table. vec_len table < vec_capacity table)
+  session_room n session block key h e = let g = guard_is n session block (guard.Vacant key) h e in g.1.2
+
+  -- the block of a deed is that of its call
+  pub deed_counts : (key : K) (o : Option (K × V)) → IsBeforeDeed x bs t p key o → CanCount bs p.block p.next
+  deed_counts key o d i e =
+      (d.block, subst (λ k. slice_get bs k ≡ Some d.block) (same_Some d.index i (sym d.mine ∙ e)) d.listed, omega (arith, d.call))
+
+  pub release_counts : (a : Ask K V D) (r : Answer K V T) (g : Option (Guard K)) → IsReleasing x bs tables t p a r g
+      → CanCount bs (if is_some g then p.block else None) p.next
+  release_counts a r None h i e = absurd (none-some i e)
+  release_counts a r (Some s) h i e = session_counts p.next _ p.block h.2 i e
+
+-- the request that was read is the one that is admitted
+pub still_admitted : {K V D T A : Type 0} {places : List (Place K V D T A)} {t : ℕ} {request : Request K V D} (b : IsBefore places t (phase.Admit request)) (r : Place K V D T A)
+    → r ≡ get_or places t r → (read : Request K V D) → r.phase ≡ phase.Admit read
+    → is_excluded places b.place.shard (mode_of request) ≡ false → is_excluded places r.shard (mode_of read) ≡ false
+still_admitted {K} {V} {D} {T} {A} {places = places} {request = request} b r at read is h =
+    let same : read ≡ request = cc (is, phase_here b r at) in
+    let place = read_is b r at in
+    rw same (subst (λ (p : Place K V D T A). is_excluded places p.shard (mode_of request) ≡ false) (sym place) h)
+
+-- a thread on its way to a pair has the number of a shard
+pub way_fits : {K V S D T A : Type 0} {x : Setup K V D T} {w : State K V S D T A} (sound : Sound x w) (p : Place K V D T A) (key : K) → IsOnItsWay x p key → p.shard < length w.tables
+way_fits {w = w} sound p key h = subst (λ n. n < length w.tables) (sym h.shard) (sound.routes key)
+
+-- the table that was read at a shard's number
+module _ {K V A : Type 0} (tables : List (Vec (K × V) A)) (shard : ℕ) (r : Vec (K × V) A) (read : r ≡ get_or tables shard r) where
+  pub list_read : (IsSo : Vec (K × V) A → Type 0) → HasList tables shard IsSo → (slice_get tables shard ≡ Some r) × IsSo r
+  list_read IsSo h =
+      let same = read_at tables shard h.table r h.held read in
+      (subst (λ v. slice_get tables shard ≡ Some v) (sym same) h.held, subst IsSo (sym same) h.so)
+
+  pub pair_read : (slot : ℕ) (pair : K × V) → HasPair tables shard slot pair → (slice_get tables shard ≡ Some r) × (slice_get r.items slot ≡ Some pair)
+  pair_read slot pair h =
+      let same = read_at tables shard h.table r h.held read in
+      (subst (λ v. slice_get tables shard ≡ Some v) (sym same) h.held, subst (λ (v : Vec (K × V) A). slice_get v.items slot ≡ Some pair) (sym same) h.pair_is)
+
+-- the block that a release counts its call in
+pub release_listed : {K V S D T A : Type 0} {x : Setup K V D T} {w : State K V S D T A} (sound : Sound x w) (t : ℕ) (p : Place K V D T A) → slice_get w.places t ≡ Some p
+    → (r : Answer K V T) → p.phase ≡ phase.Release r → CanCount w.blocks (if is_some p.guard then p.block else None) p.next
+release_listed {x = x} {w = w} sound t p here r before =
+    let claim = claim_at sound t p here before in
+    release_counts x w.blocks w.tables t p claim.0 r p.guard claim.4
+
+-- what a guard is taken apart into tells which it was
+pub pair_is : {K : Type 0} (g : Option (Guard K)) (kind : Way K) (slot : ℕ) → lent_pair g ≡ Some (kind, slot) → g ≡ Some (guard.Pair kind slot)
+pair_is None kind slot e = cc
+pair_is (Some (guard.Pair k i)) kind slot e = ap (λ z. Some (guard.Pair z.0 z.1)) (same_Some (k, i) (kind, slot) e)
+pair_is (Some (guard.Vacant k)) kind slot e = cc
+
+pub slot_is : {K : Type 0} (g : Option (Guard K)) (slot : ℕ) → lent_slot g ≡ Some slot → (kind : Way K) × (g ≡ Some (guard.Pair kind slot))
+slot_is None slot e = cc
+slot_is (Some (guard.Pair k i)) slot e = (k, cc)
+slot_is (Some (guard.Vacant k)) slot e = cc
+
+pub vacant_is : {K : Type 0} (g : Option (Guard K)) (key : K) → vacant_key g ≡ Some key → g ≡ Some (guard.Vacant key)
+vacant_is None key e = cc
+vacant_is (Some (guard.Pair k i)) key e = cc
+vacant_is (Some (guard.Vacant k)) key e = cc
+
+-- what is left of a list of places, one place further
+pub any-drop : {X : Type 0} (f : X → Bool) (xs : List X) (i : ℕ) (x : X) → slice_get xs i ≡ Some x → list_any f (drop i xs) ≡ (f x || list_any f (drop (suc i) xs))
+any-drop f [] i x at = absurd (none-some x at)
+any-drop f (y ∷ ys) zero x at = ap (λ z. f z || list_any f ys) (same_Some y x at)
+any-drop f (y ∷ ys) (suc i) x at = any-drop f ys i x at
+
+pub any-end : {X : Type 0} (f : X → Bool) (xs : List X) (i : ℕ) → length xs ≤ i → list_any f (drop i xs) ≡ false
+any-end f [] zero le = refl
+any-end f [] (suc i) le = refl
+any-end f (y ∷ ys) zero le = absurd (omega (arith, le))
+any-end f (y ∷ ys) (suc i) le = any-end f ys i (omega (arith, le))

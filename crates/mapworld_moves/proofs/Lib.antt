@@ -1,0 +1,4 @@
+pub mod Rooms
+pub mod Facts
+pub mod Weights
+pub mod Rewriting

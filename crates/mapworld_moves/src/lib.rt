@@ -1,0 +1,12 @@
+//! What the steps of a world of maps are made of: where each kind leads a thread, what it does to the list of blocks and to a shard's
+//! list, and what it asks of the holds.
+#![tactic(auto)]
+
+pub mod blocks;
+pub mod holds;
+pub mod moves;
+mod route;
+mod table;
+
+pub use route::{is_world_amount, shard_of};
+pub use table::{apply_at, change_at, slot_of};

@@ -1,0 +1,200 @@
+-- A step only adds, and never changes what a world was made with.
+use Rattle.std.proofs.Common.{◌≡◌, ℕ, zero, suc, ◌+◌, ◌-◌, ◌≤◌, ◌==◌, inl, inr, ⊎_elim, Bool, true, false, if◌then◌else◌, List, [], ◌∷◌, ◌++◌, length, map, Option, Some, None, is_some, slice_get, slice_set, MatchBool, refl, ap, sym, ◌∙◌, subst, arith, append_assoc}
+use Rattle.std.proofs.Math.ListN.{length-set}
+use Rattle.std.proofs.lemmas.List.{append-nil}
+use Rattle.std.proofs.lemmas.Option.{same_Some, none-some}
+use Rattle.std.proofs.lemmas.Bool.{cases_eq, cases_Bool, eqb-true}
+use Rattle.mapworld_calls.specs.declared.ask.Ask.{Ask}
+use Rattle.mapworld_calls.specs.declared.ask.Ask.TheVariants as ask
+use Rattle.mapworld_calls.specs.declared.block.Block.{Block}
+use Rattle.mapworld_calls.specs.declared.reply.Reply.{Reply}
+use Rattle.mapworld_calls.specs.Setup.{Setup}
+use Rattle.mapworld_calls.specs.Placed.{answered_of, IsSessionDone, IsDoneWithin, StaysListed, OnlyAdds, WellPlaced}
+use Rattle.mapworld_calls.proofs.Lists.{slice_get-set_same, slice_get-set_other, slice_get-push_below}
+use Rattle.mapworld_state.specs.declared.place.Phase.{Phase}
+use Rattle.mapworld_state.specs.declared.step.Step.{Step}
+use Rattle.mapworld_state.specs.declared.place.Place.{Place}
+use Rattle.mapworld_state.specs.State.{State, threads_of, started_of, next_step}
+use Rattle.mapworld_state.specs.Moves.{start_phase, start_counts, request_of, found_done, stepped, ListsBlock, CountsCall, EndsAt, EndsBlock}
+use Rattle.mapworld_state.specs.Steps.{IsStep, start, admit, find, find_grows, find_refused, deed_appends, deed_applies, deed_views, deed_reads, deed_changes, deed_fills, downgrade, release, answers}
+use Rattle.mapworld_state.specs.Running.{StaysFixed}
+use Rattle.mapworld_state.specs.Sound.{Sound}
+use Rattle.mapworld_state.proofs.Owning.{if-own, starts-own}
+use Rattle.mapworld_sound.proofs.Building.{map-push, reply-below}
+
+abbrev pub BlocksStay : {K : Type 0} → List (Block K) → List (Block K) → Type 0
+BlocksStay {K} bs bs' = (i : ℕ) (b : Block K) → slice_get bs i ≡ Some b → (c : Block K) × (slice_get bs' i ≡ Some c) × StaysListed b c
+
+stays : {K : Type 0} (b : Block K) → StaysListed b b
+stays b = record { thread = refl; call = refl; visit = refl; start = refl; position = refl; done = omega arith; visited = refl; end = λ e h. h }
+
+module _ {K : Type 0} (bs bs' : List (Block K)) where
+  blocks-same : bs' ≡ bs → BlocksStay bs bs'
+  blocks-same same i b at = (b, ap (λ z. slice_get z i) same ∙ at, stays b)
+
+  blocks-push : (d : Block K) → bs' ≡ bs ++ d ∷ [] → BlocksStay bs bs'
+  blocks-push d same i b at = (b, ap (λ z. slice_get z i) same ∙ slice_get-push_below bs i b d at, stays b)
+
+  blocks-set : (i : ℕ) (b c : Block K) → slice_get bs i ≡ Some b → StaysListed b c → bs' ≡ slice_set bs i c → BlocksStay bs bs'
+  blocks-set i b c listed more same j e at = ⊎_elim
+      (λ here.
+      let its : e ≡ b = same_Some e b (sym at ∙ ap (λ k. slice_get bs k) (sym here) ∙ listed) in
+      (c, ap (λ z. slice_get z j) same ∙ ap (λ k. slice_get (slice_set bs i c) k) (sym here) ∙ slice_get-set_same bs i b c listed, subst (λ (z : Block K). StaysListed z c) (sym its) more))
+      (λ ne. (e, ap (λ z. slice_get z j) same ∙ slice_get-set_other bs i j c ne ∙ at, stays e))
+      (cases_eq i j)
+
+-- no block has done more than its calls so far
+done-below : {K V D T : Type 0} (x : Setup K V D T) (steps : List ℕ) (started : ℕ → Option ℕ) (bs : List (Block K)) (replies : List (Reply K V T)) → WellPlaced x steps started bs replies
+    → (i : ℕ) (b : Block K) → slice_get bs i ≡ Some b → b.done.value ≤ answered_of replies b.thread - b.call + 1
+done-below {K} {V} {D} x steps started bs replies h i b at = let g = h.placed i b at in below g.ask g.done
+  where
+    last : (n : ℕ) → b.done.value ≡ n → IsSessionDone x started replies b → n ≤ answered_of replies b.thread - b.call + 1
+    last zero e s = omega arith
+    last (suc zero) e s = omega arith
+    last (suc (suc n)) e s =
+        let o = s.calls (suc n) (omega arith) (omega (arith, e)) in
+        elim o.3 [ inl under ↦ omega arith | inr now ↦ let k = now.0 in omega arith ]
+
+    below : (a : Ask K V D) → IsDoneWithin x started replies b a → b.done.value ≤ answered_of replies b.thread - b.call + 1
+    below (ask.Keyed k) s = let le = s.once in omega arith
+    below (ask.Begin g) s = last b.done.value refl s
+    below (ask.Held g) s = absurd s
+
+module _ {K V S D T A : Type 0} (x : Setup K V D T) (w : State K V S D T A) (sound : Sound x w) (t : ℕ) (p : Place K V D T A) (at : slice_get w.places t ≡ Some p) where
+  own : (i : ℕ) (b : Block K) → p.block ≡ Some i → slice_get w.blocks i ≡ Some b → b.thread ≡ t
+  own i b mine listed = let o = (sound.stands t p at).own_block i mine in ap (λ z. z.thread) (same_Some b o.0 (sym listed ∙ o.1)) ∙ o.2
+
+  counts-more : (i : ℕ) (b : Block K) → p.block ≡ Some i → slice_get w.blocks i ≡ Some b → b.done.value ≤ p.next - b.call + 1
+  counts-more i b mine listed =
+      let le = done-below x (threads_of w) (started_of w) w.blocks w.replies sound.placed i b listed in
+      let n : answered_of w.replies b.thread ≡ p.next = ap (answered_of w.replies) (own i b mine listed) ∙ sym (sound.stands t p at).answered in
+      subst (λ (z : ℕ). b.done.value ≤ z - b.call + 1) n le
+
+  pub counted-stays : (o : Option ℕ) (bs' : List (Block K)) → ((i : ℕ) → o ≡ Some i → p.block ≡ Some i) → CountsCall w.blocks o p.next bs' → BlocksStay w.blocks bs'
+  counted-stays None bs' mine h = blocks-same w.blocks bs' h
+  counted-stays (Some i) bs' mine h =
+      blocks-set w.blocks bs' i h.0 h.1 h.2
+      (record {
+        thread = h.3.thread;
+        call = h.3.call;
+        visit = h.3.visit;
+        visited = h.3.visited;
+        start = h.3.start;
+        position = h.3.position;
+        done = rw h.3.done (counts-more i h.0 (mine i refl) h.2);
+        end = λ e here. h.3.end ∙ here;
+      })
+      h.4
+
+  pub listed-stays : (o : Option ℕ) (bs' : List (Block K)) → ListsBlock w t p o bs' → BlocksStay w.blocks bs'
+  listed-stays None bs' h = blocks-same w.blocks bs' h
+  listed-stays (Some n) bs' h = blocks-push w.blocks bs' h.0 h.2
+
+  -- the call that a thread is in shows no end
+  no-end : (i : ℕ) (b : Block K) → p.block ≡ Some i → slice_get w.blocks i ≡ Some b → b.call ≡ p.next → b.end ≡ None
+  no-end i b mine listed call = elim (sound.placed.placed i b listed).shown [
+    | inl old ↦ absurd (
+        let lt = reply-below x (threads_of w) (started_of w) w.blocks w.replies sound.placed old.place old.reply old.listed in
+        let n : answered_of w.replies old.reply.thread ≡ p.next = ap (answered_of w.replies) (old.thread ∙ own i b mine listed) ∙ sym (sound.stands t p at).answered in
+        let k = old.call in omega (arith, call))
+    | inr now ↦ now.end
+  ]
+
+  pub ended-stays : (o : Option ℕ) (n : ℕ) (bs' : List (Block K)) → p.block ≡ o → EndsBlock w.blocks o p.next n bs' → BlocksStay w.blocks bs'
+  ended-stays None n bs' mine h = blocks-same w.blocks bs' h
+  ended-stays (Some i) n bs' mine h = blocks-set w.blocks bs' i h.0 h.1 h.2 (⊎_elim
+      (λ (yes_ : (h.0.call == p.next) ≡ true). let e : EndsAt n h.0 h.1 = subst (λ (z : Bool). MatchBool z (EndsAt n h.0 h.1) (h.1 ≡ h.0)) yes_ h.3 in
+      record {
+        thread = e.thread;
+        call = e.call;
+        visit = e.visit;
+        visited = e.visited;
+        start = e.start;
+        position = e.position;
+        done = rw e.done (omega arith);
+        end = λ k here. absurd (none-some k (sym (no-end i h.0 mine h.2 (eqb-true h.0.call p.next yes_)) ∙ here));
+      })
+      (λ no_. let e : h.1 ≡ h.0 = subst (λ (z : Bool). MatchBool z (EndsAt n h.0 h.1) (h.1 ≡ h.0)) no_ h.3 in subst (λ (z : Block K). StaysListed h.0 z) (sym e) (stays h.0))
+      (cases_Bool (h.0.call == p.next))) h.4
+
+-- what one step leaves of what was there
+pub record Step-adds {K V S D T A : Type 0} (w w' : State K V S D T A) (s : Step) : Type 0 where
+  pub steps : w'.steps ≡ w.steps ++ s ∷ []
+  pub blocks : BlocksStay w.blocks w'.blocks
+  pub replies : (more : List (Reply K V T)) × (w'.replies ≡ w.replies ++ more)
+  pub fixed : StaysFixed w w'
+
+module _ {K V S D T A : Type 0} (x : Setup K V D T) (w : State K V S D T A) (s : Step) (w' : State K V S D T A) (sound : Sound x w) where
+  fixed-by : (p : Place K V D T A) (tables : _) (holds : _) (bs : List (Block K)) (rs : List (Reply K V T)) → length tables ≡ length w.tables
+      → w' ≡ record (stepped w s p) { tables = tables; holds = holds; blocks = bs; replies = rs } → BlocksStay w.blocks bs → (more : List (Reply K V T)) × (rs ≡ w.replies ++ more) → Step-adds w w' s
+  fixed-by p tables holds bs rs shards after blocks more = subst (λ (z : State K V S D T A). Step-adds w z s) (sym after) (record {
+    steps = refl;
+    blocks = blocks;
+    replies = more;
+    fixed = record { hasher = refl; shards = shards; opening = refl; programs = refl };
+  })
+
+  nothing : (more : List (Reply K V T)) × (w.replies ≡ w.replies ++ more)
+  nothing = ([], sym (append-nil w.replies))
+
+  pub step-adds : IsStep x w s w' → Step-adds w w' s
+  step-adds (start h) = fixed-by _ w.tables w.holds h.blocks w.replies refl h.after
+      (counted-stays x w sound s.thread h.place h.stands (start_counts (start_phase {T = T} h.ask h.place.guard) h.place.block) h.blocks (λ i e. starts-own (start_phase {T = T} h.ask h.place.guard) h.place.block i e) h.counted) nothing
+  step-adds (admit h) = fixed-by _ w.tables _ w.blocks w.replies refl h.after (blocks-same w.blocks w.blocks refl) nothing
+  step-adds (find h) = fixed-by _ w.tables w.holds h.blocks w.replies refl h.after (listed-stays x w sound s.thread h.place h.stands h.done h.blocks h.listed) nothing
+  step-adds (find_grows h) = fixed-by _ (slice_set w.tables h.place.shard h.grown) w.holds h.blocks w.replies (length-set w.tables h.place.shard h.grown) h.after
+      (listed-stays x w sound s.thread h.place h.stands (found_done {D = D} (request_of h.call) None true) h.blocks h.listed) nothing
+  step-adds (find_refused h) = fixed-by _ (slice_set w.tables h.place.shard h.kept) w.holds w.blocks w.replies (length-set w.tables h.place.shard h.kept) h.after (blocks-same w.blocks w.blocks refl) nothing
+  step-adds (deed_appends h) = fixed-by _ (slice_set w.tables h.place.shard h.changed) w.holds h.blocks w.replies (length-set w.tables h.place.shard h.changed) h.after
+      (counted-stays x w sound s.thread h.place h.stands h.place.block h.blocks (λ i e. e) h.counted) nothing
+  step-adds (deed_applies h) = fixed-by _ (slice_set w.tables h.place.shard h.changed) w.holds h.blocks w.replies (length-set w.tables h.place.shard h.changed) h.after
+      (counted-stays x w sound s.thread h.place h.stands h.place.block h.blocks (λ i e. e) h.counted) nothing
+  step-adds (deed_views h) = fixed-by _ w.tables w.holds h.blocks w.replies refl h.after
+      (listed-stays x w sound s.thread h.place h.stands (Some 1) h.blocks h.listed) nothing
+  step-adds (deed_reads h) = fixed-by _ w.tables w.holds h.blocks w.replies refl h.after
+      (counted-stays x w sound s.thread h.place h.stands h.place.block h.blocks (λ i e. e) h.counted) nothing
+  step-adds (deed_changes h) = fixed-by _ (slice_set w.tables h.place.shard h.changed) w.holds h.blocks w.replies (length-set w.tables h.place.shard h.changed) h.after
+      (counted-stays x w sound s.thread h.place h.stands h.place.block h.blocks (λ i e. e) h.counted) nothing
+  step-adds (deed_fills h) = fixed-by _ (slice_set w.tables h.place.shard h.changed) w.holds h.blocks w.replies (length-set w.tables h.place.shard h.changed) h.after
+      (counted-stays x w sound s.thread h.place h.stands h.place.block h.blocks (λ i e. e) h.counted) nothing
+  step-adds (downgrade h) = fixed-by _ w.tables _ h.blocks w.replies refl h.after
+      (counted-stays x w sound s.thread h.place h.stands h.place.block h.blocks (λ i e. e) h.counted) nothing
+  step-adds (release h) = fixed-by _ w.tables _ h.blocks w.replies refl h.after
+      (counted-stays x w sound s.thread h.place h.stands (if is_some h.place.guard then h.place.block else None) h.blocks (λ i e. if-own (is_some h.place.guard) h.place.block i e) h.counted) nothing
+  step-adds (answers h) = fixed-by _ w.tables w.holds h.blocks (w.replies ++ _ ∷ []) refl h.after (ended-stays x w sound s.thread h.place h.stands h.place.block (next_step w) h.blocks refl h.ended) (_ ∷ [], refl)
+
+-- what is added over a run
+pub adds-none : {K V S D T A : Type 0} (w : State K V S D T A) → OnlyAdds (threads_of w) (threads_of w) w.blocks w.blocks w.replies w.replies
+adds-none w = record { steps_added = ([], sym (append-nil (threads_of w))); blocks_stay = blocks-same w.blocks w.blocks refl; replies_stay = ([], sym (append-nil w.replies)) }
+
+pub adds-more : {K V S D T A : Type 0} (v w w' : State K V S D T A) (s : Step) → OnlyAdds (threads_of v) (threads_of w) v.blocks w.blocks v.replies w.replies → Step-adds w w' s
+    → OnlyAdds (threads_of v) (threads_of w') v.blocks w'.blocks v.replies w'.replies
+adds-more v w w' s h g = record {
+  steps_added = (
+    h.steps_added.0 ++ s.thread ∷ [],
+    ap (λ z. map (λ (q : Step). q.thread) z) g.steps ∙ map-push (λ (q : Step). q.thread) w.steps s ∙ ap (λ z. z ++ s.thread ∷ []) h.steps_added.1 ∙ append_assoc (threads_of v) h.steps_added.0 (s.thread ∷ []),
+  );
+  blocks_stay = λ i b at.
+      let c = h.blocks_stay i b at in
+      let d = g.blocks i c.0 c.1 in (
+        d.0,
+        d.1,
+        record {
+          thread = d.2.thread ∙ c.2.thread;
+          call = d.2.call ∙ c.2.call;
+          visit = d.2.visit ∙ c.2.visit;
+          visited = d.2.visited ∙ c.2.visited;
+          start = d.2.start ∙ c.2.start;
+          position = d.2.position ∙ c.2.position;
+          done = let le = c.2.done in let le' = d.2.done in omega arith;
+          end = λ e here. d.2.end e (c.2.end e here);
+        },
+      );
+  replies_stay = (h.replies_stay.0 ++ g.replies.0, g.replies.1 ∙ ap (λ z. z ++ g.replies.0) h.replies_stay.1 ∙ append_assoc v.replies h.replies_stay.0 g.replies.0);
+}
+
+pub fixed-none : {K V S D T A : Type 0} (w : State K V S D T A) → StaysFixed w w
+fixed-none w = record { hasher = refl; shards = refl; opening = refl; programs = refl }
+
+pub fixed-more : {K V S D T A : Type 0} (v w w' : State K V S D T A) → StaysFixed v w → StaysFixed w w' → StaysFixed v w'
+fixed-more v w w' h g = record { hasher = g.hasher ∙ h.hasher; shards = g.shards ∙ h.shards; opening = g.opening ∙ h.opening; programs = g.programs ∙ h.programs }

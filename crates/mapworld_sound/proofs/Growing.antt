@@ -1,0 +1,271 @@
+-- A call on a guard, or where a guard was, is counted in by the session's block.
+use Rattle.std.proofs.Common.{◌≡◌, ◌≢◌, ℕ, ◌+◌, ◌-◌, ◌≤◌, ◌⊎◌, inl, inr, ⊎_elim, false, List, [], ◌∷◌, ◌++◌, length, take, drop, Option, Some, None, IsSome, slice_get, slice_set, refl, ap, sym, ◌∙◌, subst, arith}
+use Rattle.std.specs.declared.vec.Vec.{Vec}
+use Rattle.std.proofs.lemmas.Option.{same_Some, none-some}
+use Rattle.std.proofs.lemmas.Bool.{cases_lt, cases_eq, false≢true}
+use Rattle.mapworld_calls.specs.declared.ask.Ask.{Ask}
+use Rattle.mapworld_calls.specs.declared.ask.Ask.TheVariants as ask
+use Rattle.mapworld_calls.specs.declared.ask.Begin.{Begin}
+use Rattle.mapworld_calls.specs.declared.ask.Held.{Held}
+use Rattle.mapworld_calls.specs.declared.ask.Held.TheVariants as held
+use Rattle.mapworld_calls.specs.declared.block.Block.{Block}
+use Rattle.mapworld_calls.specs.Deeds.{Deeds}
+use Rattle.mapworld_calls.specs.Calls.{At, free, shared, exclusive, occupied, vacant, pair_in, told, held_leaves}
+use Rattle.mapworld_calls.specs.Setup.{Setup, Laws, ask_at, session_of}
+use Rattle.mapworld_calls.specs.Replay.{reached, block_key, at_key, contents, found, IsLastOnShard}
+use Rattle.mapworld_calls.specs.Agrees.{IsToldBy}
+use Rattle.mapworld_calls.specs.Placed.{answered_of, HasStarted, IsDoneWithin}
+use Rattle.mapworld_calls.proofs.Lists.{slice_get-set_same, slice_get-set_other, slice_get-set_cases}
+use Rattle.mapworld_calls.specs.Programs.{opening_key}
+use Rattle.mapworld_calls.proofs.Programs.{opening_is}
+use Rattle.mapworld_calls.proofs.Grown.{Grows, IsQuiet, found-grown, block_key-grown, contents-quiet}
+use Rattle.mapworld_calls.proofs.Kept.{keeps-grown}
+use Rattle.mapworld_state.specs.declared.holds.Mode.TheVariants.{Exclusive}
+use Rattle.mapworld_state.specs.declared.step.Step.{Step}
+use Rattle.mapworld_state.specs.Holds.{Desks}
+use Rattle.mapworld_state.specs.declared.holds.Mode.{Mode}
+use Rattle.mapworld_state.specs.declared.place.Guard.{Guard}
+use Rattle.mapworld_state.specs.declared.place.Place.{Place}
+use Rattle.mapworld_state.specs.State.{State, threads_of, started_of}
+use Rattle.mapworld_state.specs.Moves.{stepped, CountsIn}
+use Rattle.mapworld_state.specs.Sound.{taken, may_own, HoldsShard, GuardIs, HasSession, IsInSession, Claim, OwnsBlocks, HasOwnBlock, Stands, TablesAgree, Sound}
+use Rattle.mapworld_state.specs.Held.{HoldsMatch}
+use Rattle.mapworld_sound.proofs.Effects.{effect-grow, Anyhow}
+use Rattle.mapworld_sound.proofs.Timing.{placed-grown}
+use Rattle.mapworld_sound.proofs.Building.{started-own, started-stays, sound-by, replies-kept, asked-at, session-is, reached-next, told-next, settled-moved, alone-moved, tables-same}
+
+-- a call on the guard of a session that stands there leaves its pair
+abbrev pub LeavesPair : {D K V T : Type 0} → Deeds D K V T → Held V D → At K V → Type 0
+LeavesPair deeds h at = pair_in (held_leaves deeds h at) ≡ pair_in at
+
+pub read-quiet : {D K V T : Type 0} (deeds : Deeds D K V T) (d : D) (at : At K V) → LeavesPair deeds (held.Read d) at
+read-quiet deeds d (free o) = refl
+read-quiet deeds d (shared pair) = refl
+read-quiet deeds d (exclusive pair) = refl
+read-quiet deeds d (occupied k pair) = refl
+read-quiet deeds d (vacant k) = refl
+
+pub downgrade-quiet : {D K V T : Type 0} (deeds : Deeds D K V T) (at : At K V) → LeavesPair deeds held.Downgrade at
+downgrade-quiet deeds (free o) = refl
+downgrade-quiet deeds (shared pair) = refl
+downgrade-quiet deeds (exclusive pair) = refl
+downgrade-quiet deeds (occupied k pair) = refl
+downgrade-quiet deeds (vacant k) = refl
+
+pub drop-quiet : {D K V T : Type 0} (deeds : Deeds D K V T) (at : At K V) → LeavesPair deeds held.Drop at
+drop-quiet deeds (free o) = refl
+drop-quiet deeds (shared pair) = refl
+drop-quiet deeds (exclusive pair) = refl
+drop-quiet deeds (occupied k pair) = refl
+drop-quiet deeds (vacant k) = refl
+
+same-reached : {K V D T : Type 0} (x : Setup K V D T) (t u c e n m : ℕ) (o : Option (K × V)) → t ≡ u → c ≡ e → n ≡ m → reached x t c n o ≡ reached x u e m o
+same-reached x t u c e n m o ht hc hn = rw (ht, hc, hn)
+
+-- a thread's block stays its own where a block of the thread grows
+pub own-grown : {K V D T A : Type 0} (bs : List (Block K)) (i : ℕ) (b c : Block K) (t : ℕ) → slice_get bs i ≡ Some b → c.thread ≡ t → (p : Place K V D T A) → HasOwnBlock bs t p
+    → (j : ℕ) → p.block ≡ Some j → (e : Block K) × (slice_get (slice_set bs i c) j ≡ Some e) × (e.thread ≡ t)
+own-grown bs i b c t at thread p own j mine = ⊎_elim
+    (λ same. (c, ap (λ k. slice_get (slice_set bs i c) k) (sym same) ∙ slice_get-set_same bs i b c at, thread))
+    (λ ne. let o = own j mine in (o.0, slice_get-set_other bs i j c ne ∙ o.1, o.2))
+    (cases_eq i j)
+
+-- a guard is one of a session with a block
+pub session-of-guard : {K V D T A : Type 0} (x : Setup K V D T) (bs : List (Block K)) (tables : List (Vec (K × V) A)) (t : ℕ) (p : Place K V D T A) (n : ℕ) (g : Guard K) (o block : Option ℕ)
+    → p.guard ≡ Some g → IsInSession x bs tables t p n o block → (c : ℕ) × (i : ℕ) × (o ≡ Some c) × (block ≡ Some i) × HasSession x bs tables t p n c i
+session-of-guard x bs tables t p n g None block guarded h = absurd (none-some g (sym h.0 ∙ guarded))
+session-of-guard x bs tables t p n g (Some c) None guarded h = absurd (none-some g (sym h.0 ∙ guarded))
+session-of-guard x bs tables t p n g (Some c) (Some i) guarded h = (c, i, refl, refl, h)
+
+opening-key_of : {K V D T : Type 0} (x : Setup K V D T) (b : Block K) (t c : ℕ) (g : Begin K) → b.thread ≡ t → b.call ≡ c → ask_at x t c ≡ Some (ask.Begin g) → block_key x b ≡ Some (opening_key g)
+opening-key_of {K} {V} {D} x b t c g thread call asked = rw (thread, call, asked) refl
+
+IsSome-at : (o : Option ℕ) → IsSome o → (y : ℕ) × (o ≡ Some y)
+IsSome-at None h = absurd cc
+IsSome-at (Some y) h = (y, refl)
+
+module _ {K V S D T A : Type 0} (x : Setup K V D T) (laws : Laws x) (w : State K V S D T A) (s : Step) (sound : Sound x w)
+    (p : Place K V D T A) (at : slice_get w.places s.thread ≡ Some p) (h : Held V D) (asked : ask_at x s.thread p.next ≡ Some (ask.Held h)) (c i : ℕ) (inside : session_of x s.thread p.next ≡ Some c)
+    (session : HasSession x w.blocks w.tables s.thread p p.next c i) (b d : Block K) (listed : slice_get w.blocks i ≡ Some b) (counts : CountsIn p.next b d)
+    (settled : LeavesPair x.deeds h (reached x s.thread c (p.next - c) (found x w.blocks i b)) ⊎ IsLastOnShard x w.blocks i b) where
+  abbrev pub st : Stands x (threads_of w) w.blocks w.replies w.tables s.thread p
+  st = sound.stands s.thread p at
+
+  -- where the session stood
+  abbrev pub was : At K V
+  was = reached x s.thread c (p.next - c) (found x w.blocks i b)
+
+  its : session.block ≡ b
+  its = same_Some session.block b (sym session.listed ∙ listed)
+
+  pub thread-is : b.thread ≡ s.thread
+  thread-is = sym (ap (λ z. z.thread) its) ∙ session.thread
+
+  pub call-is : b.call ≡ c
+  call-is = sym (ap (λ z. z.call) its) ∙ session.call
+
+  done-is : b.done.value ≡ p.next - c
+  done-is = sym (ap (λ z. z.done.value) its) ∙ session.done
+
+  asked-there : ask_at x s.thread (c + (p.next - c)) ≡ Some (ask.Held h)
+  asked-there = let below = session.below in let same : c + (p.next - c) ≡ p.next = omega arith in rw same asked
+
+  more-is : d.done.value ≡ p.next - c + 1
+  more-is = counts.done ∙ ap (λ k. p.next - k + 1) call-is
+
+  -- one call more leads there
+  pub reached-more : reached x s.thread c (p.next - c + 1) (found x w.blocks i b) ≡ held_leaves x.deeds h was
+  reached-more = reached-next x s.thread c (ask.Held h) (p.next - c) (found x w.blocks i b) asked-there
+
+  -- what the block reached, and what it reaches with the call
+  pub reached-was : reached x b.thread b.call b.done.value (found x w.blocks i b) ≡ was
+  reached-was = same-reached x b.thread s.thread b.call c b.done.value (p.next - c) (found x w.blocks i b) thread-is call-is done-is
+
+  pub reached-now : reached x b.thread b.call d.done.value (found x w.blocks i b) ≡ held_leaves x.deeds h was
+  reached-now = same-reached x b.thread s.thread b.call c d.done.value (p.next - c + 1) (found x w.blocks i b) thread-is call-is more-is ∙ reached-more
+
+  quiet : LeavesPair x.deeds h was → IsQuiet x b d.done.value (found x w.blocks i b)
+  quiet same = ap pair_in reached-now ∙ same ∙ sym (ap pair_in reached-was)
+
+  pub grows : Grows x w.blocks i b d
+  grows = record {
+    listed = listed;
+    thread = counts.thread;
+    call = counts.call;
+    done = let e = done-is in let m = more-is in omega arith;
+    settled = elim settled [ inl same ↦ inl (quiet same) | inr last ↦ inr last ];
+  }
+
+  pub finds-same : found x (slice_set w.blocks i d) i d ≡ found x w.blocks i b
+  finds-same =
+      found-grown x laws w.blocks i b d grows i d (inl (omega arith))
+      ∙ ap (λ k. at_key (contents x (take i w.blocks)) k) (block_key-grown x laws w.blocks i b d grows)
+
+  -- the grown block tells the answer
+  pub told-more : IsToldBy x (slice_set w.blocks i d) s.thread c (p.next - c) (told x.deeds (ask.Held h) was)
+  told-more = record {
+    place = i;
+    block = d;
+    listed = slice_get-set_same w.blocks i b d listed;
+    thread = counts.thread ∙ thread-is;
+    call = counts.call ∙ call-is;
+    done = let m = more-is in omega arith;
+    told = told-next x s.thread c (ask.Held h) d (p.next - c) (found x (slice_set w.blocks i d) i d) (counts.thread ∙ thread-is) (counts.call ∙ call-is) asked-there
+        ∙ ap (λ o. Some (told x.deeds (ask.Held h) (reached x s.thread c (p.next - c) o))) finds-same;
+  }
+
+  -- the session goes on behind the call, which may not come to hold its shard alone
+  pub session-goes-on : (tables' : List (Vec (K × V) A)) (p' : Place K V D T A) → (HoldsShard p' Exclusive → HoldsShard p Exclusive) → p'.shard ≡ p.shard → GuardIs tables' p' p'.guard (held_leaves x.deeds h was)
+      → HasSession x (slice_set w.blocks i d) tables' s.thread p' (p.next + 1) c i
+  session-goes-on tables' p' alone shard guard =
+      let below = session.below in
+      let one : p.next + 1 - c ≡ p.next - c + 1 = omega arith in
+      record {
+        block = d;
+        listed = slice_get-set_same w.blocks i b d listed;
+        thread = counts.thread ∙ thread-is;
+        call = counts.call ∙ call-is;
+        below = omega arith;
+        done = more-is ∙ sym one;
+        guard = rw (one, finds-same) (subst (λ (z : At K V). GuardIs tables' p' p'.guard z) (sym reached-more) guard);
+        settled = settled-moved x p p' w.blocks (slice_set w.blocks i d) i session.block d (block_key-grown x laws w.blocks i b d grows ∙ ap (λ z. block_key x z) (sym its))
+            alone shard ((effect-grow x laws w.blocks s.thread i b d grows thread-is).last i session.block session.listed tt) session.settled;
+      }
+
+  pub session-on : (tables' : List (Vec (K × V) A)) (p' : Place K V D T A) → p'.hold ≡ p.hold → p'.shard ≡ p.shard → GuardIs tables' p' p'.guard (held_leaves x.deeds h was)
+      → HasSession x (slice_set w.blocks i d) tables' s.thread p' (p.next + 1) c i
+  session-on tables' p' hold shard guard = session-goes-on tables' p' (alone-moved x p p' hold shard) shard guard
+
+  pub opening-asked : (g : Begin K) × (ask_at x s.thread c ≡ Some (ask.Begin g))
+  opening-asked =
+      let o = opening_is st.program p.next c (sym (session-is x s.thread st.program st.has p.next) ∙ inside) in
+      (o.0, asked-at x s.thread st.program st.has c (ask.Begin o.0) o.1)
+
+  -- the key of the session's block is its opening's
+  pub opening-key : block_key x b ≡ Some (opening_key opening-asked.0)
+  opening-key = opening-key_of x b s.thread c opening-asked.0 thread-is call-is opening-asked.1
+
+  own-block : (p' : Place K V D T A) → p'.block ≡ p.block ⊎ (p'.block ≡ None) → HasOwnBlock (slice_set w.blocks i d) s.thread p'
+  own-block p' block j mine = elim block [
+    | inl same ↦ own-grown w.blocks i b d s.thread listed (counts.thread ∙ thread-is) p st.own_block j (sym same ∙ mine)
+    | inr none ↦ absurd (none-some j (sym none ∙ mine))
+  ]
+
+  module _ (p' : Place K V D T A) (running : IsSome p'.started) (stays : (n : ℕ) → p.started ≡ Some n → p'.started ≡ Some n) where
+    now : HasStarted (started_of (stepped w s p')) w.replies b.thread p.next
+    now = inr (
+      st.answered ∙ ap (answered_of w.replies) (sym thread-is),
+      subst (λ (o : Option ℕ). IsSome o) (sym (started-own x w s p p' at) ∙ ap (started_of (stepped w s p')) (sym thread-is)) running,
+    )
+
+    more-done : (a : Ask K V D) → ask_at x b.thread b.call ≡ Some a → IsDoneWithin x (started_of w) w.replies b a → IsDoneWithin x (started_of (stepped w s p')) w.replies d a
+    more-done (ask.Begin g) e old = record {
+      opened = let m = more-is in omega arith;
+      calls = λ n pos lt. ⊎_elim
+          (λ below.
+          let o = old.calls n pos below in
+          (o.0, rw (counts.thread, counts.call) o.1, rw (counts.thread, counts.call) o.2, rw (counts.thread, counts.call) (mono-started b.thread (b.call + n) o.3)))
+          (λ above.
+          let m = more-is in let e' = done-is in let k = call-is in let under = session.below in
+          let last : b.call + n ≡ p.next = omega arith in (
+            h,
+            rw (counts.thread, counts.call, last, thread-is) asked,
+            rw (counts.thread, counts.call, last, thread-is) (inside ∙ ap (λ z. Some z) (sym call-is)),
+            rw (counts.thread, counts.call, last) now,
+          ))
+          (cases_lt n b.done.value);
+    }
+      where
+        mono-started : (t k : ℕ) → HasStarted (started_of w) w.replies t k → HasStarted (started_of (stepped w s p')) w.replies t k
+        mono-started t k g = elim g [
+          | inl before ↦ inl before
+          | inr here ↦ inr (here.0, let o = IsSome-at (started_of w t) here.1 in rw (started-stays x w s p p' at stays t o.0 o.1) refl)
+        ]
+    more-done (ask.Keyed g) e old =
+        let o = opening-asked in
+        absurd (let both : ◌≡◌ {A = Option (Ask K V D)} (Some (ask.Begin o.0)) (Some (ask.Keyed g)) = sym o.1 ∙ (let z : ask_at x s.thread c ≡ Some (ask.Keyed g) = rw (sym thread-is, sym call-is) e in z) in cc)
+    more-done (ask.Held g) e old = old
+
+    -- the world behind a step that counts the call in, and may change the list of a shard that is held alone
+    pub sound-changed : (tables' : List (Vec (K × V) A)) → length tables' ≡ length w.tables
+        → ((u : ℕ) (q : Place K V D T A) (m : Mode) → u ≢ s.thread → slice_get w.places u ≡ Some q → HoldsShard q m → slice_get tables' q.shard ≡ slice_get w.tables q.shard)
+        → TablesAgree x (slice_set w.blocks i d) tables'
+        → (holds' : Desks) → p'.next ≡ p.next → p'.block ≡ p.block ⊎ (p'.block ≡ None)
+        → Claim x (threads_of w ++ s.thread ∷ []) (slice_set w.blocks i d) tables' s.thread p' p'.phase
+        → p'.asks.items ≡ drop (taken p') st.program → taken p' ≤ length st.program
+        → HoldsMatch (slice_set w.places s.thread p') holds'
+        → OwnsBlocks (slice_set w.blocks i d) s.thread p'
+        → Sound x (record (stepped w s p') { tables = tables'; holds = holds'; blocks = slice_set w.blocks i d; replies = w.replies })
+    sound-changed tables' shards kept agree holds' next block claim left within match owns =
+        sound-by x w s p p' at sound (slice_set w.blocks i d) tables' holds' w.replies Anyhow
+        (record {
+          effect = effect-grow x laws w.blocks s.thread i b d grows thread-is;
+          count = λ u ne. refl;
+          kept = kept;
+          foreign = λ u q k ne hq alone here. tt;
+          shards = shards;
+        })
+        (record { program = st.program; has = st.has; asks_left = left; within = within; answered = next ∙ st.answered; owns = owns; own_block = own-block p' block; claim = claim })
+        agree
+        match
+        (placed-grown x (threads_of w) s.thread (started_of w) (started_of (stepped w s p')) w.blocks w.replies (started-stays x w s p p' at stays) i b d listed
+        (record { thread = counts.thread; call = counts.call; visit = counts.visit; start = counts.start; position = counts.position; visited = counts.visited }) counts.end more-done sound.placed)
+        (replies-kept x w.blocks (slice_set w.blocks i d) w.replies (λ j r hr. keeps-grown x laws w.blocks i b d grows r.thread r.call) sound.replies)
+
+    -- where the call leaves its pair, no list changes
+    pub sound-counted : LeavesPair x.deeds h was → (holds' : Desks) → p'.next ≡ p.next → p'.block ≡ p.block ⊎ (p'.block ≡ None)
+        → Claim x (threads_of w ++ s.thread ∷ []) (slice_set w.blocks i d) w.tables s.thread p' p'.phase
+        → p'.asks.items ≡ drop (taken p') st.program → taken p' ≤ length st.program
+        → HoldsMatch (slice_set w.places s.thread p') holds'
+        → OwnsBlocks (slice_set w.blocks i d) s.thread p'
+        → Sound x (record (stepped w s p') { tables = w.tables; holds = holds'; blocks = slice_set w.blocks i d; replies = w.replies })
+    sound-counted same =
+        sound-changed w.tables refl (λ u q m ne hq hh. refl)
+        (tables-same x w.blocks (slice_set w.blocks i d) w.tables w.tables sound.tables (λ q. contents-quiet x laws w.blocks i b d grows (quiet same) q))
+
+  -- the thread's blocks are those that it had
+  pub owns-grown : (p' : Place K V D T A) → p'.next ≡ p.next → may_own p.phase ≡ false → OwnsBlocks (slice_set w.blocks i d) s.thread p'
+  owns-grown p' next not_yet j e here thread = elim (slice_get-set_cases w.blocks i j b e d listed here) [
+    | inl own ↦ inl (rw (next, own.1, counts.call, call-is) session.below)
+    | inr other ↦ elim (st.owns j e other.1 thread) [ inl below ↦ inl (rw next below) | inr mine ↦ absurd (false≢true (sym not_yet ∙ mine.2)) ]
+  ]

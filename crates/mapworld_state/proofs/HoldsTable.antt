@@ -1,0 +1,90 @@
+-- What the holds of all threads say of a shard, and what its desk lists.
+use Rattle.std.proofs.Common.{◌≡◌, ◌≢◌, ℕ, zero, suc, ◌⊎◌, inl, inr, Bool, true, false, not, if◌then◌else◌, ◌==◌, List, [], ◌∷◌, Option, Some, None, slice_get, refl, sym, ap, ◌∙◌, eq-eqb, eqb-true}
+use Rattle.std.specs.List.{list_any}
+use Rattle.std.proofs.lemmas.Option.{none-some, same_Some, slice_get_within, get_or_from_slice_get, slice_get-get_or}
+use Rattle.std.proofs.lemmas.Bool.{false≢true, false_from_ne_true, and_from, and_parts}
+use Rattle.std.proofs.lemmas.List.Folds.{list_any_at, Any-from_list_any}
+use Rattle.mapworld_state.specs.declared.holds.Mode.{Mode}
+use Rattle.mapworld_state.specs.declared.holds.Mode.TheVariants.{Shared, Exclusive}
+use Rattle.mapworld_state.specs.declared.holds.Hold.{Hold}
+use Rattle.mapworld_state.specs.declared.place.Place.{Place}
+use Rattle.lock_api_desk.specs.Guards.{Guard, has_number, without}
+use Rattle.mapworld_state.specs.Holds.{excludes, is_in_the_way, is_excluded}
+
+module _ {X : Type 0} where
+  pub list_any-false : (p : X → Bool) (xs : List X) → list_any p xs ≡ false → (i : ℕ) (x : X) → slice_get xs i ≡ Some x → p x ≡ false
+  list_any-false p xs none i x at = false_from_ne_true (p x) (λ e.
+      let there = get_or_from_slice_get xs i x x at in
+      false≢true (sym none ∙ list_any_at p xs i x (slice_get_within xs i x at) (ap p there ∙ e)))
+
+  pub list_any-true : (p : X → Bool) (xs : List X) → list_any p xs ≡ true → (i : ℕ) × (x : X) × (slice_get xs i ≡ Some x) × (p x ≡ true)
+  list_any-true p xs some =
+      let a = Any-from_list_any p xs some in
+      (a.0, a.1, slice_get-get_or xs a.0 a.1 a.2 ∙ ap (λ x. Some x) a.3, a.4)
+
+-- two modes that don't exclude each other both share
+pub excludes-false : (a b : Mode) → excludes a b ≡ false → (a ≡ Shared) × (b ≡ Shared)
+excludes-false Shared Shared h = (refl, refl)
+excludes-false Shared Exclusive h = absurd (false≢true (sym h))
+excludes-false Exclusive b h = absurd (false≢true (sym h))
+
+pub excludes-symm : (a b : Mode) → excludes a b ≡ excludes b a
+excludes-symm Shared Shared = refl
+excludes-symm Shared Exclusive = refl
+excludes-symm Exclusive Shared = refl
+excludes-symm Exclusive Exclusive = refl
+
+module _ {K V D T A : Type 0} (places : List (Place K V D T A)) (shard : ℕ) (mode : Mode) where
+  -- a hold in the way, if there is one
+  in_the_way : (o : Option Hold) → is_in_the_way shard mode o ≡ true → (h : Hold) × (o ≡ Some h) × (h.shard ≡ shard) × (excludes h.mode mode ≡ true)
+  in_the_way None e = absurd (false≢true e)
+  in_the_way (Some h) e = let parts = and_parts (h.shard == shard) (excludes h.mode mode) e in (h, refl, eqb-true h.shard shard parts.0, parts.1)
+
+  -- a hold of the shard that excludes the mode is in the way
+  pub is_excluded-by : (u : ℕ) (q : Place K V D T A) (h : Hold) → slice_get places u ≡ Some q → q.hold ≡ Some h → h.shard ≡ shard → excludes h.mode mode ≡ true → is_excluded places shard mode ≡ true
+  is_excluded-by u q h at held same e =
+      list_any_at (λ (p : Place K V D T A). is_in_the_way shard mode p.hold) places u q (slice_get_within places u q at)
+      (ap (λ (p : Place K V D T A). is_in_the_way shard mode p.hold) (get_or_from_slice_get places u q q at)
+      ∙ ap (λ o. is_in_the_way shard mode o) held
+      ∙ and_from (h.shard == shard) (excludes h.mode mode) (eq-eqb h.shard shard same) e)
+
+  -- where nothing is in the way, each hold of the shard shares it, and so does the mode
+  pub is_excluded-shared : (u : ℕ) (q : Place K V D T A) (h : Hold) → is_excluded places shard mode ≡ false → slice_get places u ≡ Some q → q.hold ≡ Some h → h.shard ≡ shard → (h.mode ≡ Shared) × (mode ≡ Shared)
+  is_excluded-shared u q h free at held same =
+      excludes-false h.mode mode (false_from_ne_true (excludes h.mode mode) (λ e. false≢true (sym free ∙ is_excluded-by u q h at held same e)))
+
+  -- where something is in the way, some thread's hold of the shard excludes the mode
+  pub is_excluded-true : is_excluded places shard mode ≡ true → (u : ℕ) × (q : Place K V D T A) × (h : Hold) × (slice_get places u ≡ Some q) × (q.hold ≡ Some h) × (h.shard ≡ shard) × (excludes h.mode mode ≡ true)
+  is_excluded-true some =
+      let r = list_any-true (λ (p : Place K V D T A). is_in_the_way shard mode p.hold) places some in
+      let w = in_the_way r.1.hold r.3 in
+      (r.0, r.1, w.0, r.2, w.1, w.2, w.3)
+
+-- what is left of a desk's guards without one number
+first-kept : (b : Bool) (g : Guard) (kept : List Guard) (k : ℕ) → slice_get kept k ≡ slice_get (if b then g ∷ kept else kept) (if b then suc k else k)
+first-kept true g kept k = refl
+first-kept false g kept k = refl
+
+pub without-kept : (n : ℕ) (gs : List Guard) (i : ℕ) (g : Guard) → slice_get gs i ≡ Some g → g.number ≢ n → (k : ℕ) × (slice_get (without n gs) k ≡ Some g)
+without-kept n [] i g at ne = absurd (none-some g at)
+without-kept n (z ∷ zs) zero g at ne =
+    let same : z ≡ g = same_Some z g at in
+    let stays : not (has_number n z) ≡ true = ap (λ (x : Guard). not (has_number n x)) same ∙ ap not (false_from_ne_true (g.number == n) (λ e. ne (eqb-true g.number n e))) in
+    (0, ap (λ (b : Bool). slice_get (if b then z ∷ without n zs else without n zs) 0) stays ∙ at)
+without-kept n (z ∷ zs) (suc i) g at ne =
+    let o = without-kept n zs i g at ne in
+    let b = not (has_number n z) in
+    (if b then suc o.0 else o.0, sym (first-kept b z (without n zs) o.0) ∙ o.1)
+
+without-cons : (n : ℕ) (b : Bool) (z : Guard) (kept : List Guard) (k : ℕ) (g : Guard) → slice_get (if b then z ∷ kept else kept) k ≡ Some g
+    → ((b ≡ true) × (z ≡ g)) ⊎ ((j : ℕ) × (slice_get kept j ≡ Some g))
+without-cons n true z kept zero g at = inl (refl, same_Some z g at)
+without-cons n true z kept (suc k) g at = inr (k, at)
+without-cons n false z kept k g at = inr (k, at)
+
+pub without-was : (n : ℕ) (gs : List Guard) (k : ℕ) (g : Guard) → slice_get (without n gs) k ≡ Some g → (i : ℕ) × (slice_get gs i ≡ Some g) × (g.number ≢ n)
+without-was n [] k g at = absurd (none-some g at)
+without-was n (z ∷ zs) k g at = elim (without-cons n (not (has_number n z)) z (without n zs) k g at) [
+  | inl first ↦ (0, ap (λ (x : Guard). Some x) first.1, λ e. false≢true (sym (ap not (eq-eqb z.number n (ap (λ (x : Guard). x.number) first.1 ∙ e))) ∙ first.0))
+  | inr rest ↦ let o = without-was n zs rest.0 g rest.1 in (suc o.0, o.1, o.2)
+]

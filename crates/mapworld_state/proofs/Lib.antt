@@ -1,0 +1,4 @@
+pub mod Finds
+pub mod Tables
+pub mod HoldsTable
+pub mod Owning

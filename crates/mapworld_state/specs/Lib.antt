@@ -1,0 +1,12 @@
+pub mod State
+pub mod Holds
+pub mod Classes
+pub mod Held
+pub mod Moves
+pub mod Steps
+pub mod Footprint
+pub mod Sound
+pub mod Running
+pub mod Route
+pub mod World
+pub mod Core

@@ -1,0 +1,14 @@
+//! What a world of maps consists of: where its threads stand, how shards are held, and what the code keeps of it.
+//!
+//! The definitions of its steps, of what holds between two steps and of what runs promise stand in `specs/`.
+#![tactic(auto)]
+
+mod holds;
+mod place;
+mod step;
+mod world_core;
+
+pub use holds::{Hold, Mode, ShardDesk};
+pub use place::{Growth, Guard, Phase, Place, Request, Way};
+pub use step::{Status, Step};
+pub use world_core::Core;

@@ -1,0 +1,93 @@
+//! Where a thread stands in its program.
+
+use crate::holds::Hold;
+use mapworld_calls::{Answer, Ask, Begin, Held, Keyed};
+use std::alloc::Allocator;
+use std::collections::VecDeque;
+
+/// What a call wants of the shard that it is to be admitted to.
+#[derive(Drop)]
+pub enum Request<K, V, D> {
+    Keyed(Keyed<K, V, D>),
+    Begin(Begin<K>),
+}
+
+/// How a guard lends its pair.
+#[derive(Drop)]
+pub enum Way<K> {
+    /// To read, beside others that do so too.
+    Shared,
+    /// Alone.
+    Exclusive,
+    /// Alone, by an entry, which keeps the key that it was handed.
+    Occupied(K),
+}
+
+/// What a thread holds between its calls.
+#[derive(Drop)]
+pub enum Guard<K> {
+    /// The pair at that place of its shard's list.
+    Pair(Way<K>, usize),
+    /// The room for a pair of the key that an entry was handed, which is absent.
+    Vacant(K),
+}
+
+/// A call on an absent key for whose pair the shard's list has to grow.
+#[derive(Drop)]
+pub enum Growth<K, V> {
+    Insert(K, V),
+    Entry(K),
+}
+
+/// What a thread's next step is.
+#[derive(Drop)]
+pub enum Phase<K, V, D, T> {
+    /// Between two calls: the start of the next one, if there is one.
+    Rest,
+    /// The admission to the shard.
+    Admit(Request<K, V, D>),
+    /// The look into the held shard.
+    Find(Request<K, V, D>),
+    /// The growth of the held shard's list, which has no room for the new pair.
+    Grow(Growth<K, V>),
+    /// The new pair is added.
+    Append(K, V),
+    /// The call does with the pair at that place of the list, which is its key's, what it does with a pair.
+    Apply(usize, Keyed<K, V, D>),
+    /// The pair at that place of the list, which is the key's, is read.
+    View(usize, K, D),
+    /// The guarded pair is read.
+    Read(D),
+    /// The call does with the guarded pair what it does with a pair.
+    Change(Held<V, D>),
+    /// The value is added under a vacant guard's key.
+    Fill(V),
+    /// The guard becomes shared.
+    Downgrade,
+    /// The hold ends, and the call is to be answered so.
+    Release(Answer<K, V, T>),
+    /// The call is answered.
+    Answer(Answer<K, V, T>),
+}
+
+/// A thread's place: what is left of its program, and what belongs to its call or session.
+#[derive(Drop)]
+pub struct Place<K, V, D, T, A: Allocator> {
+    /// The calls that have not started, in order.
+    pub asks: VecDeque<Ask<K, V, D>, A>,
+    /// The number of the call that it is in, or that is next.
+    pub next: usize,
+    /// The step at which its call started, while it is in one.
+    pub started: Option<u64>,
+    /// Whether its block ends with the call that it is in.
+    pub closes: bool,
+    /// The shard of its call or session.
+    pub shard: usize,
+    /// Its hold, from the admission to the release.
+    pub hold: Option<Hold>,
+    /// The block of its call or session, from the position on.
+    pub block: Option<usize>,
+    /// Its guard, while it has one.
+    pub guard: Option<Guard<K>>,
+    pub phase: Phase<K, V, D, T>,
+}

@@ -1,0 +1,37 @@
+//! What the code keeps of a world.
+
+use crate::holds::ShardDesk;
+use crate::place::Place;
+use crate::step::Step;
+use mapworld_calls::{Ask, Block, Reply};
+use past::Past;
+use std::alloc::Allocator;
+use std::snapshot::Snapshot;
+
+/// A world's parts. Each step changes them by the definition of its kind.
+#[derive(Drop)]
+pub struct Core<K, V, S, D, T, A: Allocator> {
+    pub hasher: S,
+    /// The pairs that it was made with, for contracts alone.
+    pub opening: Snapshot<Vec<(K, V), A>>,
+    /// The programs that it was made with, for contracts alone.
+    pub programs: Snapshot<Vec<Vec<Ask<K, V, D>, A>, A>>,
+    /// The steps so far, for contracts alone.
+    pub steps: Past<Step>,
+    /// How many steps there were.
+    pub count: u64,
+    /// How many guard numbers were given out.
+    pub guards: u64,
+    /// How many pairs all tables have.
+    pub pairs: u64,
+    /// How many calls aren't answered.
+    pub unanswered: u64,
+    /// Where each thread stands.
+    pub places: Vec<Place<K, V, D, T, A>, A>,
+    /// The pairs of each shard.
+    pub tables: Vec<Vec<(K, V), A>, A>,
+    /// The desk of each shard.
+    pub desks: Vec<ShardDesk<A>, A>,
+    pub blocks: Vec<Block<K>, A>,
+    pub replies: Vec<Reply<K, V, T>, A>,
+}

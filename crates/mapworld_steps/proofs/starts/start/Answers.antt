@@ -1,0 +1,75 @@
+use Rattle.std.proofs.Common.{◌+◌, length, Some, refl, sym, ap, ◌∙◌, arith, length-append}
+use Rattle.mapworld_state.specs.Core.{owes, lists, adds}
+use Rattle.mapworld_moves.proofs.Rooms.{shifted, same_desks}
+use Rattle.mapworld_moves.proofs.Facts.{stands_here, phase_here, claim_at, next_fits, session_counts}
+use Rattle.mapworld_state.proofs.Owning.{starts-own}
+use Rattle.mapworld_moves.proofs.Weights.{started_weighs}
+use Rattle.mapworld_steps.proofs.starts.start.Goals as goal
+
+pub count_in-requires-clause-listed : goal.count_in-requires-clause-listed
+count_in-requires-clause-listed g c i e =
+    let p = c.index_mut-place.result.now in
+    let here = stands_here c.requires.before p c.index_mut-place.ensures.value in
+    let claim = claim_at c.requires.sound c.args.step.thread p here (phase_here c.requires.before p c.index_mut-place.ensures.value) in
+    session_counts _ _ _ _ p p.next _ p.block claim.2 i (starts-own c.start_call-phase.result.0 p.block i (sym c.start_counts-counts.ensures ∙ e))
+
+pub count_in-requires-clause-fits : goal.count_in-requires-clause-fits
+count_in-requires-clause-fits g c =
+    let p = c.index_mut-place.result.now in
+    let here = stands_here c.requires.before p c.index_mut-place.ensures.value in
+    let fits = next_fits c.requires.sound c.args.step.thread p here (phase_here c.requires.before p c.index_mut-place.ensures.value) in
+    omega (arith, fits, c.requires.room.calls_fit)
+
+pub returns-clause-step : goal.returns-clause-step
+returns-clause-step g c =
+    let p = c.index_mut-place.result.now in
+    record {
+      place = p;
+      stands = stands_here c.requires.before p c.index_mut-place.ensures.value;
+      before = phase_here c.requires.before p c.index_mut-place.ensures.value;
+      ask = c.in-Some.ask;
+      rest = c.pop_front.new.self;
+      asked = c.in-Some.ensures.items;
+      blocks = c.count_in.new.blocks.items;
+      counted = rw (c.start_counts-counts.ensures, c.start_call-phase.ensures, c.replace.ensures.value) at c.count_in.ensures.counted;
+      after = rw (c.appended-core.ensures, c.is_last-place.ensures, c.start_shard-place.ensures, c.len-shards.ensures, c.args.core.now.tables.ok.0, c.enter.ensures, c.start_call-phase.ensures, c.replace.ensures.value, c.requires.room.count) refl;
+    }
+
+pub returns-clause-room : goal.returns-clause-room
+returns-clause-room g c =
+    let p = c.index_mut-place.result.now in
+    let here = stands_here c.requires.before p c.index_mut-place.ensures.value in
+    let before = phase_here c.requires.before p c.index_mut-place.ensures.value in
+    let weights = started_weighs c.in-Some.ask c.replace.result c.enter.new.phase (c.enter.ensures ∙ ap (λ z. z.0) c.start_call-phase.ensures) in
+    let asks = ap length c.in-Some.ensures.items in
+    let after = record p {
+      asks = c.pop_front.new.self;
+      started = Some (c.args.core.now.count + 1);
+      closes = c.is_last-place.result;
+      shard = c.start_shard-place.result;
+      guard = c.start_call-phase.result.1;
+      phase = c.enter.new.phase;
+    } in
+    shifted _ _ c.args.step.thread p after c.requires.room (record {
+      here = here;
+      places = refl;
+      numbers = c.requires.numbers;
+      steps = simp length-append at (ap length c.appended-core.ensures);
+      count = refl;
+      programs = refl;
+      tables = refl;
+      guards = λ h has. c.requires.room.guards c.args.step.thread p h here has;
+      more_guards = omega arith;
+      guards_fit = omega arith;
+      unanswered = omega (arith, asks, weights.0, ap owes before);
+      answers = omega (arith, asks, weights.0, ap owes before);
+      replies = refl;
+      listing = omega (arith, asks, weights.1, ap lists before, c.count_in.ensures.len);
+      blocks = c.count_in.ensures.capacity;
+      desks = refl;
+      holding = same_desks c.args.core.now.desks.items p.hold p.hold refl;
+      adding = omega (arith, asks, weights.2, ap adds before);
+      pairs = c.requires.room.pairs;
+      more_blocks = omega (arith, c.count_in.ensures.len);
+      listed = λ i e. let below = c.requires.room.listed c.args.step.thread p i here e in omega (arith, below, c.count_in.ensures.len);
+    })

@@ -1,0 +1,138 @@
+//! The steps that end a hold and a call.
+ghost use Rattle.std.specs.Prelude.{◌≡◌, ◌+◌, ◌<◌, ◌^◌, true, if◌then◌else◌};
+ghost use Rattle.mapworld_state.specs.declared.place.Phase.TheVariants as phase;
+ghost use Rattle.mapworld_state.specs.Running.{has_numbers};
+ghost use Rattle.mapworld_state.specs.Core.{state_of, Room, IsBefore, IsSoundCore, MakesStep};
+ghost use Rattle.mapworld_state.specs.Steps.{Downgrades, Releases, Answers};
+
+use mapworld_calls::{Answer, Deed, Reply};
+use mapworld_moves::blocks::{count_in, end_block};
+use mapworld_moves::holds::{end_hold, share_hold};
+use mapworld_moves::moves::{enter, lent_slot, release_counts};
+use mapworld_state::{Core, Guard, Hold, Mode, Phase, Place, Step, Way};
+use std::alloc::Allocator;
+use std::hash::{BuildHasher, Hash};
+use std::mem;
+
+/// Leads a place behind the answer of its call, which it gives back.
+fn leave_call<K, V, D, T, A: Allocator>(place: &mut Place<K, V, D, T, A>) -> Answer<K, V, T>
+    requires before { (answer : _) × (place.old.phase ≡ phase.Answer answer) }
+    requires fits { place.old.next < 2 ^ 63 }
+    ensures answer { place.old.phase ≡ phase.Answer result }
+    ensures after { place.new ≡ record place.old { next = place.old.next + 1; started = None; block = if place.old.closes then None else place.old.block; phase = phase.Rest } }
+{
+    place.next += 1;
+    place.started = None;
+    if place.closes {
+        place.block = None;
+    }
+    match mem::replace(&mut place.phase, Phase::Rest) {
+        Phase::Answer(answer) => answer,
+        _ => unreachable!(),
+    }
+}
+
+/// The step by which a guard that holds its shard alone shares it.
+pub(crate) fn downgrade<
+    K: Eq + Hash + Drop,
+    V: Drop,
+    S: BuildHasher,
+    D: Deed<K, V> + Drop,
+    A: Allocator,
+>(core: &mut Core<K, V, S, D, D::Answer, A>, step: Step)
+    requires sound { IsSoundCore D.Deed S.BuildHasher S.Hasher.Hasher K.eq K.hash_input core.old }
+    requires room { Room core.old }
+    requires numbers { has_numbers (state_of core.old) ≡ true }
+    requires before { IsBefore core.old.places.items step.thread phase.Downgrade }
+    ensures step { MakesStep Downgrades D.Deed S.BuildHasher S.Hasher.Hasher K.eq K.hash_input core.old step core.new }
+    ensures room { Room core.new }
+{
+    let place = &mut core.places[step.thread];
+    let Some(hold) = place.hold else {
+        unreachable!()
+    };
+    let Some(slot) = lent_slot(&place.guard) else {
+        unreachable!()
+    };
+    place.hold = Some(Hold {
+        shard: hold.shard,
+        guard: hold.guard,
+        mode: Mode::Shared,
+    });
+    place.guard = Some(Guard::Pair(Way::Shared, slot));
+    enter(&mut place.phase, Phase::Answer(Answer::Held));
+    let desk = &mut core.desks[hold.shard];
+    share_hold(desk, step.thread as u64, hold.guard);
+    count_in(&mut core.blocks, place.block, place.next);
+    core.count += 1;
+    core.steps = core.steps.appended(&step);
+}
+
+/// The end of a hold, and of its guard.
+pub(crate) fn release<
+    K: Eq + Hash + Drop,
+    V: Drop,
+    S: BuildHasher,
+    D: Deed<K, V> + Drop,
+    A: Allocator,
+>(core: &mut Core<K, V, S, D, D::Answer, A>, step: Step)
+    requires sound { IsSoundCore D.Deed S.BuildHasher S.Hasher.Hasher K.eq K.hash_input core.old }
+    requires room { Room core.old }
+    requires numbers { has_numbers (state_of core.old) ≡ true }
+    requires before { (answer : _) × IsBefore core.old.places.items step.thread (phase.Release answer) }
+    ensures step { MakesStep Releases D.Deed S.BuildHasher S.Hasher.Hasher K.eq K.hash_input core.old step core.new }
+    ensures room { Room core.new }
+{
+    let place = &mut core.places[step.thread];
+    let Some(hold) = place.hold else {
+        unreachable!()
+    };
+    let Phase::Release(answer) = mem::replace(&mut place.phase, Phase::Rest) else {
+        unreachable!()
+    };
+    let counts = release_counts(&place.guard, place.block);
+    place.hold = None;
+    place.guard = None;
+    enter(&mut place.phase, Phase::Answer(answer));
+    let desk = &mut core.desks[hold.shard];
+    end_hold(desk, step.thread as u64, hold.guard);
+    count_in(&mut core.blocks, counts, place.next);
+    core.count += 1;
+    core.steps = core.steps.appended(&step);
+}
+
+/// The answer of a call.
+pub(crate) fn answer<
+    K: Eq + Hash + Drop,
+    V: Drop,
+    S: BuildHasher,
+    D: Deed<K, V> + Drop,
+    A: Allocator,
+>(core: &mut Core<K, V, S, D, D::Answer, A>, step: Step)
+    requires sound { IsSoundCore D.Deed S.BuildHasher S.Hasher.Hasher K.eq K.hash_input core.old }
+    requires room { Room core.old }
+    requires numbers { has_numbers (state_of core.old) ≡ true }
+    requires before { (answer : _) × IsBefore core.old.places.items step.thread (phase.Answer answer) }
+    ensures step { MakesStep Answers D.Deed S.BuildHasher S.Hasher.Hasher K.eq K.hash_input core.old step core.new }
+    ensures room { Room core.new }
+{
+    let end = core.count + 1;
+    let place = &mut core.places[step.thread];
+    let call = place.next;
+    let block = place.block;
+    let Some(start) = place.started else {
+        unreachable!()
+    };
+    let answer = leave_call(place);
+    end_block(&mut core.blocks, block, call, end);
+    core.replies.push_reserved(Reply {
+        thread: step.thread,
+        call,
+        start,
+        end,
+        answer,
+    });
+    core.unanswered -= 1;
+    core.count = end;
+    core.steps = core.steps.appended(&step);
+}

@@ -1,0 +1,12 @@
+//! The steps of a world of maps, one function for each kind, and where they leave a thread.
+#![tactic(auto)]
+
+mod ends;
+mod looks;
+mod one_step;
+mod standing;
+mod starts;
+
+pub use mapworld_moves::{is_world_amount, shard_of, slot_of};
+pub use one_step::advance;
+pub use standing::status;
