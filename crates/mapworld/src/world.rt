@@ -33,13 +33,13 @@ use std::marker::Model;
 /// steps of real threads may fall can be written as a list of steps, and looked at.
 ///
 /// Contracts see a world as a `State`: what it was made with, the steps so far, where each thread stands, the pairs of
-/// each shard, the holds, and the blocks and replies so far. `run` says of it that its replies and its contents are those
-/// of one plain map that takes the blocks in their order.
+/// each shard, the holds, and the blocks and replies so far. `run` says of it that its replies and its contents are
+/// those of one plain map that takes the blocks in their order.
 ///
 /// `K` is a key, `V` a value, `S` makes the hasher that picks a key's shard, and `D` is what a program does with a pair
 /// that it is lent. The world keeps the allocator that it was made with, and takes all that it needs for its threads,
-/// their blocks and their replies when it is made. After that only a shard's list of pairs may grow; where memory is short
-/// then, the call is answered `NoMemory`, and nothing else is changed.
+/// their blocks and their replies when it is made. After that only a shard's list of pairs may grow; where memory is
+/// short then, the call is answered `NoMemory`, and nothing else is changed.
 ///
 /// ```text
 /// let mut world = MapWorld::new(alloc, 2, SpreadState, pairs, programs)?;
@@ -72,8 +72,8 @@ impl<K: Eq + Hash, V, S: BuildHasher, D: Deed<K, V>, A: Allocator> MapWorld<K, V
         &self.core.replies
     }
 
-    /// The blocks so far, in the order of their positions: the keyed calls, and the sessions of guards, each of which the
-    /// map takes whole. It takes no memory and cannot fail.
+    /// The blocks so far, in the order of their positions: the keyed calls, and the sessions of guards, each of which
+    /// the map takes whole. It takes no memory and cannot fail.
     pub fn blocks(&self) -> &[Block<K>]
         ensures { result.now ≡ self.now.blocks }
     {
@@ -120,9 +120,9 @@ impl<K: Eq + Hash, V, S: BuildHasher, D: Deed<K, V>, A: Allocator> MapWorld<K, V
         steps::shard_of(&self.core.hasher, self.core.tables.len(), key)
     }
 
-    /// Where a thread stands: `Finished` where all its calls are answered, `Asleep` where it is before an admission that
-    /// another thread's hold excludes, and otherwise `Running`. A thread that is asleep is `Running` again once no such
-    /// hold is left. It takes no memory and cannot fail.
+    /// Where a thread stands: `Finished` where all its calls are answered, `Asleep` where it is before an admission
+    /// that another thread's hold excludes, and otherwise `Running`. A thread that is asleep is `Running` again once no
+    /// such hold is left. It takes no memory and cannot fail.
     ///
     /// Threads are numbered from 0, one for each program. A thread that the world doesn't have is `Finished`.
     pub fn status(&self, thread: usize) -> Status
@@ -133,8 +133,9 @@ impl<K: Eq + Hash, V, S: BuildHasher, D: Deed<K, V>, A: Allocator> MapWorld<K, V
         steps::status(&self.core, thread)
     }
 
-    /// The step at which a thread's call started, while it is in one; `None` between two calls, and of a thread that the
-    /// world doesn't have. Steps are numbered from 1 over the life of the world. It takes no memory and cannot fail.
+    /// The step at which a thread's call started, while it is in one; `None` between two calls, and of a thread that
+    /// the world doesn't have. Steps are numbered from 1 over the life of the world. It takes no memory and cannot
+    /// fail.
     pub fn started(&self, thread: usize) -> Option<u64>
         ensures { result ≡ started_of self.now thread }
     {
@@ -153,8 +154,8 @@ impl<K: Eq + Hash, V, S: BuildHasher, D: Deed<K, V>, A: Allocator> MapWorld<K, V
         matches!(self.status(thread), Status::Running)
     }
 
-    /// How many steps are to be enough from here, by the world's size alone: its threads, shards and pairs, and the calls
-    /// that aren't answered. It takes no memory and cannot fail.
+    /// How many steps are to be enough from here, by the world's size alone: its threads, shards and pairs, and the
+    /// calls that aren't answered. It takes no memory and cannot fail.
     pub fn bound(&self) -> u64
         ensures { result ≡ bound_of self.now }
     {
@@ -190,8 +191,8 @@ where
 {
     /// A world of so many shards that begins with these pairs, and has a thread for each program.
     ///
-    /// Of opening pairs with equal keys the first key and the last value stay. Each thread is before the first call of its
-    /// program, which is queued as it was handed in, and none has started.
+    /// Of opening pairs with equal keys the first key and the last value stay. Each thread is before the first call of
+    /// its program, which is queued as it was handed in, and none has started.
     ///
     /// # Errors
     ///
@@ -279,22 +280,23 @@ where
 
     /// Makes the steps, one after another, up to the first that is refused.
     ///
-    /// Behind it, also behind an error, the replies and the contents are those of one plain map that takes the blocks in
-    /// their order; each block stands at a step of its own thread between the start of its call and the answer; what was
-    /// listed and answered before is still there; and no two holds of a shard are at one time, unless both share it.
+    /// Behind it, also behind an error, the replies and the contents are those of one plain map that takes the blocks
+    /// in their order; each block stands at a step of its own thread between the start of its call and the answer; what
+    /// was listed and answered before is still there; and no two holds of a shard are at one time, unless both share
+    /// it.
     ///
     /// # Errors
     ///
     /// The steps before the refused one are done, and the fault has their number. The refused one changes nothing, and
-    /// the steps behind it aren't tried. The world goes on from there with the next `run`. The tests of a step are made in
-    /// this order:
+    /// the steps behind it aren't tried. The world goes on from there with the next `run`. The tests of a step are made
+    /// in this order:
     ///
     /// - `NoSuchThread`: the world doesn't have the thread;
     /// - `CannotMove`: the thread is asleep or finished;
     /// - `StepsShort`: no step numbers are left for the step and all that must come after it.
     ///
-    /// It takes memory only where a shard's list of pairs grows. Where that is refused it is no error of `run`: the call
-    /// is answered `NoMemory`.
+    /// It takes memory only where a shard's list of pairs grows. Where that is refused it is no error of `run`: the
+    /// call is answered `NoMemory`.
     ///
     /// ```text
     /// match world.run(&steps) {
