@@ -12,6 +12,7 @@ mod number;
 mod owned;
 mod part;
 mod shown;
+mod ticks;
 mod turn;
 
 pub use any_lock::{
@@ -21,11 +22,17 @@ pub use counter::{
     Counter, CounterGuard, Tally, any_lock_and_look, count, counted_by, lock_and_look,
 };
 pub use entry::Entry;
-pub use nested::{Nested, NestedGuard, any_read_twice, nest, nested_seen_by, read_twice};
+pub use nested::{
+    Nested, NestedGuard, Stay, any_read_twice, keep_and_look, nest, nested_seen_by, read_again,
+    read_twice,
+};
 pub use number::{
     Number, NumberReader, NumberWriter, add, overwrite, read, seen_by, write_and_look, writer_of,
 };
 pub use owned::{any_write_owned, write_owned};
 pub use part::{First, Numbers, any_write_first, write_first};
-pub use shown::{any_shown_by, show, shown_by};
+pub use shown::{
+    any_shown_by, any_told_by, any_value_told_by, show, shown_by, told_by, value_shown_by,
+};
+pub use ticks::{Ticker, Ticks, any_tick, any_tick_and_look, tick, tick_and_look};
 pub use turn::{NumberTurn, Turn, seen_in_turn, take_and_put};

@@ -1,5 +1,5 @@
 //! Guards of a reentrant mutex, two at once.
-ghost use Rattle.std.specs.Prelude.{◌≡◌, IfOk};
+ghost use Rattle.std.specs.Prelude.{◌≡◌, ◌==◌, true, IfOk};
 ghost use Rattle.std.specs.Sync.RwLock.{read_guard_value};
 
 use lock_api::{GetThreadId, ReadersFull, ReentrantMutex, ReentrantMutexGuard};
@@ -50,6 +50,13 @@ pub fn nested_seen_by<R: Wait, A: Allocator>(guard: &NestedGuard<'_, '_, '_, R, 
     **guard
 }
 
+/// What it lends, read twice in a row.
+pub fn read_again<R: Wait, A: Allocator>(guard: NestedGuard<'_, '_, '_, R, A>) -> (u64, u64)
+    ensures { result ≡ (read_guard_value guard.entry.inner, read_guard_value guard.entry.inner) }
+{
+    (*guard, *guard)
+}
+
 /// The same over any raw mutex.
 pub fn any_read_twice<R: lock_api::RawMutex + Drop, G: GetThreadId<Party = R::Party> + Drop>(
     mutex: &ReentrantMutex<R, G, u64>,
@@ -61,4 +68,55 @@ where
     let outer = mutex.lock(me)?;
     let inner = mutex.lock(me)?;
     Ok((*outer, *inner))
+}
+
+/// A guard of any reentrant mutex that a program keeps, with the number that it lent at first.
+#[derive(Drop)]
+pub struct Stay<'m, R: lock_api::RawMutex + Drop, G: GetThreadId<Party = R::Party> + Drop>
+where
+    R::Runtime: Wait,
+{
+    guard: ReentrantMutexGuard<'m, R, G, u64>,
+    first: u64,
+}
+
+impl<'m, R: lock_api::RawMutex + Drop, G: GetThreadId<Party = R::Party> + Drop> Stay<'m, R, G>
+where
+    R::Runtime: Wait,
+{
+    /// Keeps a guard.
+    pub fn new(guard: ReentrantMutexGuard<'m, R, G, u64>) -> Stay<'m, R, G>
+        ensures { result.first ≡ read_guard_value result.guard.inner }
+    {
+        let first = *guard;
+        Stay { guard, first }
+    }
+
+    /// What the guard lends.
+    pub fn get(&self) -> u64
+        ensures { result ≡ read_guard_value self.now.guard.inner }
+    {
+        *self.guard
+    }
+
+    /// Whether it lent this number at first. Others may come in then.
+    pub fn close(self, number: u64) -> bool
+        ensures { result ≡ (self.entry.first == number) }
+    {
+        let Stay { guard, first } = self;
+        drop(guard);
+        first == number
+    }
+}
+
+/// Keeps a guard of a mutex whose types are all named, and tells whether it lends what it lent at first.
+pub fn keep_and_look<R: Wait, A: Allocator>(
+    mutex: &Nested<'_, '_, R, A>,
+    me: &mut ThreadData<A>,
+) -> Result<bool, ReadersFull>
+    ensures { IfOk result (λ same. same ≡ true) }
+{
+    let stay = Stay::new(mutex.lock(me)?);
+    let seen = stay.get();
+    Ok(stay.close(seen))
 }

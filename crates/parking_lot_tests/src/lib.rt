@@ -17,6 +17,8 @@ mod readers;
 #[cfg(test)]
 mod rows;
 #[cfg(test)]
+mod rw_beside;
+#[cfg(test)]
 mod rw_calls;
 #[cfg(test)]
 mod rw_words;

@@ -4,11 +4,13 @@ use lock_api::{Mutex, ReadersFull, ReentrantMutex, RwLock};
 use parking_lot_core::ParkingLot;
 use parking_lot_locks::LockTable;
 use parking_lot_named::{
-    AnyEntry, Counter, Entry, Nested, Number, Numbers, Tally, Turn, add, any_lock_and_look,
-    any_overwrite, any_read, any_read_twice, any_seen_by, any_shown_by, any_write_and_look,
-    any_write_first, any_write_owned, any_writer_of, count, counted_by, lock_and_look, nest,
-    nested_seen_by, overwrite, read, read_twice, seen_by, seen_in_turn, show, shown_by,
-    take_and_put, write_and_look, write_first, write_owned, writer_of,
+    AnyEntry, Counter, Entry, Nested, Number, Numbers, Tally, Ticker, Ticks, Turn, add,
+    any_lock_and_look, any_overwrite, any_read, any_read_twice, any_seen_by, any_shown_by,
+    any_tick, any_tick_and_look, any_told_by, any_value_told_by, any_write_and_look,
+    any_write_first, any_write_owned, any_writer_of, count, counted_by, keep_and_look,
+    lock_and_look, nest, nested_seen_by, overwrite, read, read_again, read_twice, seen_by,
+    seen_in_turn, show, shown_by, take_and_put, tick, tick_and_look, told_by, value_shown_by,
+    write_and_look, write_first, write_owned, writer_of,
 };
 use std::sync::Arc;
 use std::test::Fail;
@@ -81,6 +83,20 @@ fn a_named_mutex_counts(rt: HostRuntime) -> Result<(), Fail> {
 }
 
 #[test]
+fn a_count_goes_up_in_one_statement(rt: HostRuntime) -> Result<(), Fail> {
+    let lot = ParkingLot::new(rt, rt.alloc(), 1, 7)?;
+    let mut me = lot.thread_data()?;
+    let table = LockTable::new(rt.alloc(), &lot, 1)?;
+    let ticker: Ticker<HostRuntime> = Mutex::new(&table, Ticks::new())?;
+    tick(&ticker, &mut me);
+    any_tick(&ticker, &mut me);
+    let mut right = tick_and_look(&ticker, &mut me) == (2, 3);
+    right = right & (any_tick_and_look(&ticker, &mut me) == (3, 4));
+    assert!(rt; right & !ticker.is_locked());
+    Ok(())
+}
+
+#[test]
 fn a_guard_of_any_lock_reads_and_writes(rt: HostRuntime) -> Result<(), Fail> {
     let lot = ParkingLot::new(rt, rt.alloc(), 1, 7)?;
     let mut me = lot.thread_data()?;
@@ -107,10 +123,11 @@ fn a_named_reentrant_guard_nests(rt: HostRuntime) -> Result<(), Fail> {
     let mutex: Nested<HostRuntime> = ReentrantMutex::new(&table, 2, 5)?;
     let mut right = matches!(read_twice(&mutex, &mut me), Ok((5, 5)));
     right = right & matches!(any_read_twice(&mutex, &mut me), Ok((5, 5)));
+    right = right & matches!(keep_and_look(&mutex, &mut me), Ok(true));
     let seen = match nest(&mutex, &mut me) {
         Ok(guard) => {
             let full = matches!(read_twice(&mutex, &mut me), Err(ReadersFull));
-            full & (nested_seen_by(&guard) == 5)
+            full & (nested_seen_by(&guard) == 5) & (read_again(guard) == (5, 5))
         }
         Err(ReadersFull) => false,
     };
@@ -146,6 +163,10 @@ fn an_owned_guard_writes_and_a_guard_prints(rt: HostRuntime) -> Result<(), Fail>
     let guard = counter.lock(&mut me);
     right = right & (shown_by(&guard, rt.alloc())?.as_str() == "34");
     right = right & (any_shown_by(&guard, rt.alloc())?.as_str() == "34");
+    right = right & (told_by(&guard, rt.alloc())?.as_str() == "34");
+    right = right & (any_told_by(&guard, rt.alloc())?.as_str() == "34");
+    right = right & (value_shown_by(&guard, rt.alloc())?.as_str() == "34");
+    right = right & (any_value_told_by(&guard, rt.alloc())?.as_str() == "34");
     drop(guard);
     assert!(rt; right & !counter.is_locked());
     Ok(())
