@@ -18,17 +18,20 @@ mod names;
 pub mod setref;
 pub mod try_result;
 
+pub use dashmap_clone::{CloneMap, CloneView};
 pub use dashmap_guard::{SharedValue, map_in_place_2, ptr_size_bits};
 pub use dashmap_map::mapref::entry::{Entry, OccupiedEntry, VacantEntry};
 pub use dashmap_map::{Map, NewFault, TryReserveError};
+pub use dashmap_plain::{Plain, Unlocked};
 pub use dashmap_record::{
     Call, CallReply, Caller, Entered, GatherFault, RecordFault, Recorded, gather, next_stamp,
 };
+pub use dashmap_shards::{Looks, ShardReadGuard, ShardWriteGuard};
 pub use dashmap_table::{
     MapFault, NoMemory, Shard, ShardPairs, Shards, capacity_share, default_shards, is_shard_amount,
     route,
 };
 pub use dashmap_view::{Displaced, PlainView, ViewIter, ViewKeys, ViewValues};
-pub use names::{DashMap, DashSet};
+pub use names::{DashMap, DashSet, ReadOnlyView, ShardsView};
 pub use parking_lot::{LockTable, RawRwLock, RwLock, RwLockReadGuard, RwLockWriteGuard};
 pub use parking_lot_core::{ParkingLot, ThreadData};

@@ -1,4 +1,4 @@
-//! The map and the set over the locks of `parking_lot`, under their usual names.
+//! The map, the set and the map's views over the locks of `parking_lot`, under their usual names.
 //!
 //! `S` is the hasher, `R` the lot's runtime and `A` the allocator of the lot and of the map. The lifetimes are those of the lock table
 //! and of the lot.
@@ -18,6 +18,25 @@ pub type DashMap<'t, 'l, K, V, S, R, A = Global> = dashmap_map::DashMap<
 /// A set of keys that threads share by reference: a map to `()`.
 pub type DashSet<'t, 'l, K, S, R, A = Global> = dashmap_set::DashSet<
     K,
+    S,
+    RawRwLock<'t, 'l, R, 0, A>,
+    A,
+>;
+
+/// A map that nobody writes, for any number of readers.
+pub type ReadOnlyView<'t, 'l, K, V, S, R, A = Global> = dashmap_plain::ReadOnlyView<
+    K,
+    V,
+    S,
+    RawRwLock<'t, 'l, R, 0, A>,
+    A,
+>;
+
+/// The shards of a map, to be counted and read.
+pub type ShardsView<'m, 't, 'l, K, V, S, R, A = Global> = dashmap_shards::ShardsView<
+    'm,
+    K,
+    V,
     S,
     RawRwLock<'t, 'l, R, 0, A>,
     A,
