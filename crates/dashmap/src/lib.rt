@@ -13,6 +13,7 @@
 #![tactic(auto)]
 
 pub mod iter;
+pub mod iter_set;
 pub mod mapref;
 mod names;
 pub mod setref;
@@ -32,6 +33,7 @@ pub use dashmap_table::{
     route,
 };
 pub use dashmap_view::{Displaced, PlainView, ViewIter, ViewKeys, ViewValues};
+pub use dashmap_walks::Walks;
 pub use names::{DashMap, DashSet, ReadOnlyView, ShardsView};
 pub use parking_lot::{LockTable, RawRwLock, RwLock, RwLockReadGuard, RwLockWriteGuard};
 pub use parking_lot_core::{ParkingLot, ThreadData};

@@ -14,7 +14,7 @@ use std::hash::{BuildHasher, Hash};
 use std::sync::Wait;
 
 /// What the map's insertion tells of a key: whether it is new, or the key that was refused.
-fn told<K>(answer: Result<Option<()>, (K, ())>) -> Result<bool, K>
+pub(crate) fn told<K>(answer: Result<Option<()>, (K, ())>) -> Result<bool, K>
     ensures { result ≡ is_new answer }
 {
     match answer {

@@ -5,10 +5,14 @@
 //! (`Q::Party`) last, and a guard that it gives keeps that borrow.
 #![tactic(auto)]
 
+mod alone;
+pub mod iter_set;
 mod keyed;
 mod make;
 mod set;
 pub mod setref;
+mod show;
+mod walks;
 mod whole;
 
 pub use set::DashSet;

@@ -1,5 +1,6 @@
 //! How a set is made.
-ghost use Rattle.std.specs.Prelude.{◌≡◌, ◌^◌, ◌<◌, ◌↔◌, length, Err, IfOk};
+ghost use Rattle.std.specs.Prelude.{◌≡◌, ◌^◌, ◌<◌, ◌↔◌, List, length, Err, IfOk, OnOk};
+ghost use Rattle.std.specs.Iterator.{IsFinite, Drains};
 ghost use Rattle.std.specs.Int.{IsNextPowerOfTwo};
 ghost use Rattle.dashmap_table.specs.Route.{wanted_shards};
 ghost use Rattle.dashmap_table.specs.declared.fault.MapFault.{MapFault};
@@ -123,5 +124,32 @@ impl<K: Eq + Hash + Drop, S: BuildHasher + Drop, Q: RawRwLock + Drop, A: Allocat
         ensures fits { ¬ (result ≡ Err MapFault.CapacityOverflow) }
     {
         DashSet::with_hasher(alloc, hasher, parallelism, table)
+    }
+
+    /// A set with the default shard amount for so many threads, into which the keys of the iterator are put one after another: of equal
+    /// keys the first stays.
+    ///
+    /// Refused as `BadShards`, `TableFull` or `NoMemory`, in this order.
+    pub fn from_iter<I: Iterator<Item = K> + Drop, T: Copy>(
+        alloc: A,
+        iter: I,
+        hasher: S,
+        parallelism: usize,
+        table: T,
+    ) -> Result<DashSet<K, S, Q, A>, MapFault>
+    where
+        Q: MakeLock<T>,
+        requires can { I.can_next iter }
+        requires ends { IsFinite (I.remaining iter) }
+        ensures made { IfOk result (λ s. IsNextPowerOfTwo (wanted_shards parallelism) (length s.locks) × (s.hasher ≡ hasher)) }
+        ensures all { OnOk result ((keys : List K) × Drains I.next_gives iter keys) }
+        ensures bad_shards { (result ≡ Err MapFault.BadShards) ↔ (2 ^ 16 < wanted_shards parallelism) }
+        ensures fits { ¬ (result ≡ Err MapFault.CapacityOverflow) }
+    {
+        let mut set = DashSet::default(alloc, hasher, parallelism, table)?;
+        match set.extend(iter) {
+            Ok(()) => Ok(set),
+            Err(_) => Err(MapFault::NoMemory),
+        }
     }
 }

@@ -5,6 +5,7 @@ ghost use Rattle.dashmap_table.specs.Shards.{key_hash};
 ghost use Rattle.dashmap_map.specs.Locked.{shard_of};
 
 use dashmap_map::DashMap;
+use dashmap_shards::ShardsView;
 use std::alloc::{Allocator, Global};
 use std::hash::{BuildHasher, Hash};
 use std::marker::Model;
@@ -32,6 +33,13 @@ impl<K: Eq + Hash, S: BuildHasher, Q, A: Allocator> Model for DashSet<K, S, Q, A
 }
 
 impl<K: Eq + Hash, S: BuildHasher, Q, A: Allocator> DashSet<K, S, Q, A> {
+    /// The shards, to be counted and read.
+    pub fn shards(&self) -> ShardsView<'_, K, (), S, Q, A>
+        ensures { result ≡ self.now }
+    {
+        ShardsView::of(&self.inner)
+    }
+
     /// The hasher's hash of anything that can be hashed.
     pub fn hash_usize<T: Eq + Hash>(&self, item: &T) -> usize
         ensures { result ≡ key_hash S.BuildHasher S.Hasher.Hasher T.hash_input self.now.hasher item.now }

@@ -9,3 +9,5 @@ mod making;
 mod sets;
 #[cfg(test)]
 mod threads;
+#[cfg(test)]
+mod whole;

@@ -6,4 +6,4 @@
 pub mod each;
 mod walks;
 
-pub use walks::Walks;
+pub use walks::{Walks, lock_behind};

@@ -56,8 +56,8 @@ where
         ensures { EachHeld {K = K} {V = V} Q.ExclusiveGuard Q.Runtime Q.Party {F = Unit {0}} (seen self.now) (λ p q. (i : ℕ) → at q.1.slots i ≡ None) tt tt };
 }
 
-/// The lock of a shard.
-fn lock_behind<K: Eq + Hash, V, Q, A: Allocator>(
+/// The lock of a shard. For the layer above.
+pub fn lock_behind<K: Eq + Hash, V, Q, A: Allocator>(
     locks: &[CachePadded<RwLock<Q, Shard<K, V, A>>>],
     shard: usize,
 ) -> &RwLock<Q, Shard<K, V, A>>
