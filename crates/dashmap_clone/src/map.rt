@@ -73,7 +73,7 @@ where
     Q::Runtime: Wait,
     requires keys { (key copy : K) → K.is_clone key copy → copy ≡ key }
     requires values { (value copy : V) → V.is_clone value copy → copy ≡ value }
-    ensures { IfOk result (AreClonesBehind Q.SharedGuard Q.Runtime Q.Party K.eq map.now) }
+    ensures { IfOk result (λ v. AreClonesBehind Q.SharedGuard Q.Runtime Q.Party K.eq map.now v.items) }
 {
     let locks = map.shard_locks();
     let alloc = map.allocator();
@@ -99,7 +99,6 @@ where
     requires hasher { (hasher copy : S) → S.is_clone hasher copy → copy ≡ hasher }
     ensures shards { IfOk result (λ r. AreClonesBehind Q.SharedGuard Q.Runtime Q.Party K.eq map.now r.0.items) }
     ensures hasher { IfOk result (λ r. r.1 ≡ map.now.hasher) }
-    ensures amount { IfOk result (λ r. IsShardAmount (length r.0.items)) }
 {
     let shards = clone_locked(map, td)?;
     let hasher = clone_hasher(map.hasher())?;
