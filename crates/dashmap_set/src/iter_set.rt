@@ -27,7 +27,7 @@ impl<K: Eq + Hash, A: Allocator> Model for OwningIter<K, A> {
 impl<K: Eq + Hash, A: Allocator> OwningIter<K, A> {
     /// The keys of these pairs.
     pub(crate) fn of_pairs(pairs: Pairs<K, (), A>) -> OwningIter<K, A>
-        ensures { result ≡ map (λ p. p.0) pairs.entry }
+        ensures { result ≡ map (λ p. p.0) pairs }
     {
         OwningIter { pairs }
     }

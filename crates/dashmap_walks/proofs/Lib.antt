@@ -1,2 +1,2 @@
-mod Walking
-mod Holding
+pub mod Walking
+pub mod Holding
