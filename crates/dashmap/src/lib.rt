@@ -23,7 +23,7 @@ pub use dashmap_clone::{CloneMap, CloneView};
 pub use dashmap_guard::{SharedValue, map_in_place_2, ptr_size_bits};
 pub use dashmap_map::mapref::entry::{Entry, OccupiedEntry, VacantEntry};
 pub use dashmap_map::{Map, NewFault, TryReserveError};
-pub use dashmap_plain::{Plain, Unlocked};
+pub use dashmap_plain::{ExtendShards, Plain, Unlocked};
 pub use dashmap_record::{
     Call, CallReply, Caller, Entered, GatherFault, RecordFault, Recorded, gather, next_stamp,
 };

@@ -6,10 +6,13 @@
 #![tactic(auto)]
 
 mod exchange;
+mod parallel;
 mod plain;
 mod read_only;
+mod shards;
 mod unlocked;
 
 pub use plain::Plain;
 pub use read_only::ReadOnlyView;
+pub use shards::ExtendShards;
 pub use unlocked::Unlocked;

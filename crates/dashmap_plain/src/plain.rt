@@ -37,6 +37,10 @@ pub trait Plain<K: Eq + Hash, V, S: BuildHasher, Q, A: Allocator>: Sized {
     fn into_read_only(self) -> Result<ReadOnlyView<K, V, S, Q, A>, Displaced<Self>>
         ensures view { IfOk result (λ v. (v.locks ≡ (seen self).locks) × (v.plain.hasher ≡ (seen self).hasher)) }
         ensures displaced { IfErr result (λ back. seen back ≡ seen self) };
+
+    /// All pairs by value: the pairs of one shard are one piece of work, and shards go side by side. The locks go; their rows stay used.
+    fn into_par_iter(self) -> dashmap_rayon::OwningIter<K, V, A>
+        ensures { length result ≡ length (seen self).locks };
 }
 
 impl<K: Eq + Hash + Drop, V: Drop, S: BuildHasher + Drop, Q: Drop, A: Allocator> Plain<
@@ -54,6 +58,10 @@ impl<K: Eq + Hash + Drop, V: Drop, S: BuildHasher + Drop, Q: Drop, A: Allocator>
 
     fn into_iter(self) -> OwningIter<K, V, A> {
         Unlocked::of(self).into_pairs()
+    }
+
+    fn into_par_iter(self) -> dashmap_rayon::OwningIter<K, V, A> {
+        Unlocked::of(self).into_par_iter()
     }
 
     fn into_read_only(

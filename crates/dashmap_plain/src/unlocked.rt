@@ -21,7 +21,7 @@ use std::marker::Model;
 /// shards of their routes is whose changes the shards to know.
 #[derive(Drop)]
 pub struct Unlocked<K: Eq + Hash, V, S: BuildHasher, Q, A: Allocator = Global> {
-    shards: Vec<Shard<K, V, A>, A>,
+    pub(crate) shards: Vec<Shard<K, V, A>, A>,
     locks: Vec<CachePadded<RwLock<Q, Shard<K, V, A>>>, A>,
     hasher: S,
 }

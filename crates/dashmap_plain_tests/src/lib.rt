@@ -6,6 +6,8 @@ mod clones;
 #[cfg(test)]
 mod maps;
 #[cfg(test)]
+mod parallel;
+#[cfg(test)]
 mod parts;
 #[cfg(test)]
 mod shards;

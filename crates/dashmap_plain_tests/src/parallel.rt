@@ -1,0 +1,90 @@
+//! Parallel forms of what a map becomes, and plain shards that are extended.
+
+use crate::maps::{has_all, map_of};
+use dashmap_map::DashMap;
+use dashmap_plain::{ExtendShards, Plain, Unlocked};
+use dashmap_table::Shards;
+use lock_api_packed::PackedLock;
+use mapworld_calls::SpreadState;
+use std::sync::atomic::{AtomicU64, Ordering};
+use std::test::Fail;
+
+#[test]
+fn a_view_answers_in_pieces_as_one_thread_would(rt: HostRuntime) -> Result<(), Fail> {
+    let Ok(view) = map_of(rt, 100)?.into_read_only() else {
+        return Err("no view".into());
+    };
+    let doubles = view
+        .par_iter()
+        .map_collect(&rt, rt.alloc(), |_: &u64, value: &u64| *value)?;
+    let mut right = doubles.len() == 100;
+    for (number, value) in view.values().enumerate() {
+        right &= doubles.get(number) == Some(value);
+    }
+    let sum = AtomicU64::new(0);
+    view.into_par_iter().for_each(&rt, |key: u64, value: u64| {
+        sum.fetch_add(key.wrapping_add(value), Ordering::SeqCst);
+    });
+    assert!(rt; right && sum.load(Ordering::SeqCst) == 14_850);
+    Ok(())
+}
+
+#[test]
+fn a_map_is_given_up_in_pieces(rt: HostRuntime) -> Result<(), Fail> {
+    let calls = AtomicU64::new(0);
+    let sum = AtomicU64::new(0);
+    map_of(rt, 100)?
+        .into_par_iter()
+        .for_each(&rt, |key: u64, value: u64| {
+            calls.fetch_add(1, Ordering::SeqCst);
+            sum.fetch_add(key.wrapping_add(value), Ordering::SeqCst);
+        });
+    assert!(rt; calls.load(Ordering::SeqCst) == 100 && sum.load(Ordering::SeqCst) == 14_850);
+    Ok(())
+}
+
+#[test]
+fn each_value_of_a_map_that_is_taken_apart_is_written(rt: HostRuntime) -> Result<(), Fail> {
+    let mut open = Unlocked::of(map_of(rt, 100)?);
+    open.par_write(
+        &rt,
+        |key: &u64, value: &mut u64| *value = key.wrapping_mul(3),
+    );
+    open.par_write(
+        &rt,
+        |key: &u64, value: &mut u64| *value = value.wrapping_sub(*key),
+    );
+    let map = open.into_map();
+    assert!(rt; has_all(&map, 100));
+    Ok(())
+}
+
+#[test]
+fn a_later_pair_of_an_equal_key_replaces_the_value(rt: HostRuntime) -> Result<(), Fail> {
+    let pairs = vec![in rt.alloc(); (1u64, 1u64), (1, 2)]?;
+    let made: DashMap<u64, u64, SpreadState, PackedLock<HostRuntime>> = DashMap::from_iter(
+        rt.alloc(),
+        pairs.into_iter(),
+        SpreadState,
+        2,
+        rt,
+    )?;
+    let Ok(view) = made.into_read_only() else {
+        return Err("no view".into());
+    };
+    let values = view
+        .par_iter()
+        .map_collect(&rt, rt.alloc(), |_: &u64, value: &u64| *value)?;
+    assert!(rt; values.len() == 1 && values.get(0) == Some(&2));
+    Ok(())
+}
+
+#[test]
+fn plain_shards_take_pairs_one_after_another(rt: HostRuntime) -> Result<(), Fail> {
+    let mut shards: Shards<u64, u64, SpreadState> = Shards::new(rt.alloc(), 4, SpreadState)?;
+    let pairs = vec![in rt.alloc(); (1u64, 1u64), (2, 2), (1, 3)]?;
+    let mut right = shards.extend(pairs.into_iter()) == Ok(());
+    right &= shards.remove(&1) == Some((1, 3)) && shards.remove(&2) == Some((2, 2));
+    assert!(rt; right && shards.remove(&1) == None);
+    Ok(())
+}
