@@ -16,6 +16,7 @@ pub mod iter;
 pub mod iter_set;
 pub mod mapref;
 mod names;
+pub mod rayon;
 pub mod setref;
 pub mod try_result;
 
@@ -24,6 +25,7 @@ pub use dashmap_guard::{SharedValue, map_in_place_2, ptr_size_bits};
 pub use dashmap_map::mapref::entry::{Entry, OccupiedEntry, VacantEntry};
 pub use dashmap_map::{Map, NewFault, TryReserveError};
 pub use dashmap_plain::{ExtendShards, Plain, Unlocked};
+pub use dashmap_rayon::ParallelView;
 pub use dashmap_record::{
     Call, CallReply, Caller, Entered, GatherFault, RecordFault, Recorded, gather, next_stamp,
 };

@@ -1,0 +1,3 @@
+//! Parallel forms.
+
+pub mod map;
