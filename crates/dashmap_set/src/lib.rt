@@ -6,6 +6,7 @@
 #![tactic(auto)]
 
 mod alone;
+mod clone;
 pub mod iter_set;
 mod keyed;
 mod make;

@@ -1,4 +1,4 @@
-//! Walks over a set, calls of its owner, its shards and its text.
+//! Walks over a set, calls of its owner, its clones, its shards and its text.
 
 use crate::sets::{Set, set_of};
 use dashmap_set::DashSet;
@@ -32,6 +32,17 @@ fn a_set_is_made_of_an_iterator(rt: HostRuntime) -> Result<(), Fail> {
     let mut right = set.len(&mut me) == 2 && set.contains(&1, &mut me);
     right &= set.contains(&2, &mut me) && !set.contains(&3, &mut me);
     assert!(rt; right && set.shards().count() == 8);
+    Ok(())
+}
+
+#[test]
+fn a_clone_of_a_set_goes_its_own_way(rt: HostRuntime) -> Result<(), Fail> {
+    let mut set: Set<u64> = set_of(rt)?;
+    let mut me = 1;
+    let mut right = set.extend(vec![in rt.alloc(); 1u64, 2, 3]?.into_iter()) == Ok(());
+    let clone = set.clone(rt, &mut me)?;
+    right &= clone.remove(&1, &mut me) == Some(1) && clone.len(&mut me) == 2;
+    assert!(rt; right && set.len(&mut me) == 3 && set.contains(&1, &mut me));
     Ok(())
 }
 

@@ -1,0 +1,43 @@
+//! Clones of sets.
+ghost use Rattle.std.specs.Prelude.{◌≡◌, ◌⊎◌, length, IfOk, IfErr};
+ghost use Rattle.dashmap_table.specs.declared.fault.MapFault.{MapFault};
+
+use crate::set::DashSet;
+use dashmap_clone::CloneMap;
+use dashmap_table::MapFault;
+use lock_api_raw::{MakeLock, RawRwLock};
+use std::alloc::Allocator;
+use std::hash::{BuildHasher, Hash};
+use std::sync::Wait;
+
+impl<K: Eq + Hash + Drop, S: BuildHasher + Drop, Q: RawRwLock + Drop, A: Allocator + Clone> DashSet<
+    K,
+    S,
+    Q,
+    A,
+> {
+    /// A set with clones of all keys, and as many shards. Keys and the hasher have to be equal to their clones. The shards are taken in
+    /// their order, and one is held at a time.
+    ///
+    /// Refused as `TableFull` or `NoMemory`, in this order; then the rows that were taken stay used.
+    pub fn clone<T: Copy>(
+        &self,
+        table: T,
+        td: &mut Q::Party,
+    ) -> Result<DashSet<K, S, Q, A>, MapFault>
+    where
+        K: Clone,
+        S: Clone,
+        Q: MakeLock<T>,
+        Q::Runtime: Wait,
+        requires keys { (key copy : K) → K.is_clone key copy → copy ≡ key }
+        requires hasher { (hasher copy : S) → S.is_clone hasher copy → copy ≡ hasher }
+        ensures made { IfOk result (λ s. (length s.locks ≡ length self.now.locks) × (s.hasher ≡ self.now.hasher)) }
+        ensures refused { IfErr result (λ fault. (fault ≡ MapFault.TableFull) ⊎ (fault ≡ MapFault.NoMemory)) }
+    {
+        match CloneMap::clone(&self.inner, table, td) {
+            Ok(inner) => Ok(DashSet { inner }),
+            Err(fault) => Err(fault),
+        }
+    }
+}
