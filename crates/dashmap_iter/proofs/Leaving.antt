@@ -1,0 +1,65 @@
+-- Each item of a walk leaves fewer to come.
+use Rattle.std.proofs.Common.{◌≡◌, ℕ, zero, suc, ◌+◌, ◌*◌, ◌-◌, ◌^◌, ◌<◌, ◌≤◌, Bool, true, false, cond, List, [], ◌∷◌, length, Option, Some, None, IsSome, slice_get, refl, sym, ap, subst, ◌∙◌, inl, inr, arith}
+use Rattle.std.specs.Option.{option_map}
+use Rattle.std.proofs.lemmas.Bool.{false≢true}
+use Rattle.std.proofs.lemmas.Option.{none-some, slice_get_within}
+use Rattle.crossbeam_utils.specs.Padded.{padded_value}
+use Rattle.dashmap_table.specs.declared.entry.Entry.{Entry}
+use Rattle.dashmap_table.specs.Slots.{at, IsNextFull}
+use Rattle.dashmap_table.specs.Table.{Table, IsSound}
+use Rattle.dashmap_table.proofs.Cases.{option_cases}
+use Rattle.dashmap_iter.specs.Lending.{Walk, slots_held, IsThrough, left, Enters, Passes, LendsPair, Fails}
+
+-- a full slot is one of the slots
+pub full_within : {K V : Type 0} (xs : List (Option (Entry K V))) (i : ℕ) → IsSome (at xs i) → i < length xs
+full_within [] zero full = absurd (false≢true full)
+full_within [] (suc i) full = absurd (false≢true full)
+full_within (x ∷ xs) zero full = omega arith
+full_within (x ∷ xs) (suc i) full = let rest = full_within xs i full in omega (arith, rest)
+
+-- an element of a list of which something was read is within it
+mapped_within : {X Y : Type 0} (f : X → Y) (xs : List X) (i : ℕ) (y : Y) → option_map f (slice_get xs i) ≡ Some y → i < length xs
+mapped_within f xs i y read = elim (option_cases (slice_get xs i)) [
+    | inl none ↦ absurd (none-some y (sym (ap (option_map f) none) ∙ read))
+    | inr some ↦ slice_get_within xs i some.0 some.1
+  ]
+
+shard_further : (amount next slots rest f : ℕ) → next < amount → slots < 2 ^ 63 → (amount - (next + 1)) * 2 ^ 63 + (slots - 0) + f ≤ (amount - next) * 2 ^ 63 + rest + f
+shard_further amount next slots rest f more few =
+    let is : amount - next ≡ (amount - (next + 1)) + 1 = omega (arith, more) in
+    omega (arith, is, few)
+
+slot_further : (a slots from i f : ℕ) → from ≤ i → i < slots → a + (slots - (i + 1)) + f < a + (slots - from) + f
+slot_further a slots from i f above below = omega (arith, above, below)
+
+module _ {K V Q G : Type 0} (eq : K → K → Bool) (table : G → Table K V) (lock : G → Q) where
+  enters_left : (v w : Walk Q G) → Enters eq table lock v w → left table w ≤ left table v
+  enters_left v w e =
+      subst (λ (x : Walk Q G). left table x ≤ left table v) (sym e.after)
+        (shard_further (length v.locks) v.next (length (table e.guard).slots) (length (slots_held table v.held) - v.from) (cond v.failed 0 1)
+          (mapped_within padded_value v.locks v.next (lock e.guard) e.taken) e.sound.numbered)
+
+  pub passes_left : (n : ℕ) (v w : Walk Q G) → Passes eq table lock n v w → left table w ≤ left table v
+  passes_left zero v w same = subst (λ (x : Walk Q G). left table x ≤ left table v) same (omega arith)
+  passes_left (suc n) v w p =
+      let before = passes_left n v p.0 p.1 in
+      let here = enters_left p.0 w p.3 in
+      omega (arith, before, here)
+
+  pub passes_failed : (n : ℕ) (v w : Walk Q G) → Passes eq table lock n v w → w.failed ≡ v.failed
+  passes_failed zero v w same = ap (λ (x : Walk Q G). x.failed) (sym same)
+  passes_failed (suc n) v w p = ap (λ (x : Walk Q G). x.failed) p.3.after ∙ passes_failed n v p.0 p.1
+
+  pub item_left : (v : Walk Q G) (item : G × ℕ) (w : Walk Q G) → LendsPair eq table lock v item w → left table w < left table v
+  item_left v item w e =
+      let below = full_within (table item.0).slots item.1 e.slot.full in
+      let is : length (slots_held table e.stop.held) ≡ length (table item.0).slots = ap (λ o. length (slots_held table o)) e.held in
+      let nearer = slot_further ((length e.stop.locks - e.stop.next) * 2 ^ 63) (length (slots_held table e.stop.held)) e.stop.from item.1 (cond e.stop.failed 0 1) e.slot.above (subst (λ n. item.1 < n) (sym is) below) in
+      let before = passes_left e.passed v e.stop e.passes in
+      subst (λ (x : Walk Q G). left table x < left table v) (sym e.after) (omega (arith, nearer, before))
+
+  pub fail_left : (v w : Walk Q G) → Fails eq table lock v w → left table w < left table v
+  fail_left v w e =
+      let before = passes_left e.passed v e.stop e.passes in
+      let ready : ◌≡◌ {A = ℕ} (cond e.stop.failed 0 1) 1 = ap (λ b. cond b 0 1) (passes_failed e.passed v e.stop e.passes ∙ e.ready) in
+      subst (λ (x : Walk Q G). left table x < left table v) (sym e.after) (omega (arith, before, ready))

@@ -1,0 +1,5 @@
+//! Tests of walks that lend, over a raw lock of one word.
+#![tactic(auto)]
+
+#[cfg(test)]
+mod lent;
