@@ -1,36 +1,16 @@
 //! Walks that read.
 
+use crate::maps::{Map, map_of};
 use dashmap_iter::LendingWalks;
-use dashmap_map::DashMap;
-use dashmap_table::MapFault;
-use lock_api_packed::PackedLock;
-use mapworld_calls::SpreadState;
 use std::test::Fail;
-
-/// A map of numbers whose locks are words that are tried again and again.
-type Map = DashMap<u64, u64, SpreadState, PackedLock<HostRuntime>>;
-
-/// A map of so many shards, with a pair for each number below one.
-fn map_of(rt: HostRuntime, shards: usize, pairs: u64, me: &mut u32) -> Result<Map, Fail> {
-    let made: Result<Map, MapFault> = DashMap::with_hasher_and_shard_amount(
-        rt.alloc(),
-        SpreadState,
-        shards,
-        rt,
-    );
-    let map = made?;
-    for key in 0..pairs {
-        if map.insert(key, key.wrapping_add(1000), me).is_err() {
-            return Err(Fail::from("no room"));
-        }
-    }
-    Ok(map)
-}
 
 #[test]
 fn each_pair_is_lent_once(rt: HostRuntime) -> Result<(), Fail> {
+    let map: Map<u64, u64> = map_of(rt, 8)?;
     let mut me = 1;
-    let map = map_of(rt, 8, 100, &mut me)?;
+    for key in 0..100u64 {
+        let _ = map.insert(key, key.wrapping_add(1000), &mut me)?;
+    }
     let mut met = 0u64;
     let mut sum = 0u64;
     let mut right = true;
@@ -46,8 +26,8 @@ fn each_pair_is_lent_once(rt: HostRuntime) -> Result<(), Fail> {
 
 #[test]
 fn an_empty_map_has_no_item(rt: HostRuntime) -> Result<(), Fail> {
+    let map: Map<u64, u64> = map_of(rt, 4)?;
     let mut me = 1;
-    let map = map_of(rt, 4, 0, &mut me)?;
     let none = map.iter(&mut me).next().is_none();
     assert!(rt; none);
     Ok(())
@@ -55,8 +35,9 @@ fn an_empty_map_has_no_item(rt: HostRuntime) -> Result<(), Fail> {
 
 #[test]
 fn an_item_keeps_its_shard(rt: HostRuntime) -> Result<(), Fail> {
+    let map: Map<u64, u64> = map_of(rt, 2)?;
     let mut me = 1;
-    let map = map_of(rt, 2, 1, &mut me)?;
+    let _ = map.insert(0, 1000, &mut me)?;
     let mut walk = map.iter(&mut me);
     let Some(item) = walk.next() else {
         return Err(Fail::from("no item"));

@@ -3,3 +3,5 @@
 
 #[cfg(test)]
 mod lent;
+#[cfg(test)]
+mod maps;
