@@ -1,6 +1,8 @@
 -- Each item of a walk leaves fewer to come.
 use Rattle.std.proofs.Common.{◌≡◌, ℕ, zero, suc, ◌+◌, ◌*◌, ◌-◌, ◌^◌, ◌<◌, ◌≤◌, Bool, true, false, cond, List, [], ◌∷◌, length, Option, Some, None, IsSome, slice_get, refl, sym, ap, subst, ◌∙◌, inl, inr, arith}
+use Rattle.std.specs.Prelude.{Result, Ok, Err, IfOk, OnErr, ⊤}
 use Rattle.std.specs.Option.{option_map}
+use Rattle.std.specs.Iterator.{MakesProgress, at_most}
 use Rattle.std.proofs.lemmas.Bool.{false≢true}
 use Rattle.std.proofs.lemmas.Option.{none-some, slice_get_within}
 use Rattle.crossbeam_utils.specs.Padded.{padded_value}
@@ -8,7 +10,7 @@ use Rattle.dashmap_table.specs.declared.entry.Entry.{Entry}
 use Rattle.dashmap_table.specs.Slots.{at, IsNextFull}
 use Rattle.dashmap_table.specs.Table.{Table, IsSound}
 use Rattle.dashmap_table.proofs.Cases.{option_cases}
-use Rattle.dashmap_iter.specs.Lending.{Walk, slots_held, IsThrough, left, Enters, Passes, LendsPair, Fails}
+use Rattle.dashmap_iter.specs.Lending.{Walk, slots_held, IsThrough, left, Enters, Passes, LendsPair, Fails, Gives}
 
 -- a full slot is one of the slots
 pub full_within : {K V : Type 0} (xs : List (Option (Entry K V))) (i : ℕ) → IsSome (at xs i) → i < length xs
@@ -63,3 +65,18 @@ module _ {K V Q G : Type 0} (eq : K → K → Bool) (table : G → Table K V) (l
       let before = passes_left e.passed v e.stop e.passes in
       let ready : ◌≡◌ {A = ℕ} (cond e.stop.failed 0 1) 1 = ap (λ b. cond b 0 1) (passes_failed e.passed v e.stop e.passes ∙ e.ready) in
       subst (λ (x : Walk Q G). left table x < left table v) (sym e.after) (omega (arith, before, ready))
+
+  -- what was answered of the slot that was found is what a call of `next` gives
+  pub shared : {E : Type 0} (v u : Walk Q G) (slot passed : ℕ) (r : Result (G × ℕ) E) (w : Walk Q G) → v.failed ≡ false → Passes eq table lock passed v u → IsNextFull (slots_held table u.held) u.from slot
+      → IfOk r (λ item. (u.held ≡ Some item.0) × (item.1 ≡ slot) × (w ≡ record u { from = slot + 1 })) → OnErr r (w ≡ record u { failed = true }) → Gives eq table lock v (Some r) w
+  shared v u slot passed (Ok item) w ready passes next lent none =
+      let here : IsNextFull (table item.0).slots u.from slot = subst (λ (o : Option G). IsNextFull (slots_held table o) u.from slot) lent.0 next in
+      record { ready = ready; passed = passed; stop = u; passes = passes; held = lent.0; slot = subst (λ (i : ℕ). IsNextFull (table item.0).slots u.from i) (sym lent.1.0) here; after = lent.1.1 ∙ ap (λ (i : ℕ). record u { from = i + 1 }) (sym lent.1.0) }
+  shared v u slot passed (Err e) w ready passes next none failed =
+      record { ready = ready; passed = passed; stop = u; passes = passes; after = failed }
+
+  -- what a call of `next` gives leaves fewer items
+  pub progress : {E : Type 0} (v : Walk Q G) (r : Option (Result (G × ℕ) E)) (w : Walk Q G) → Gives eq table lock v r w → MakesProgress (λ _. ⊤) (λ x. at_most (left table x)) v r w
+  progress v None w gives = record { on = λ _. tt; keeps = tt; rests = λ _. refl }
+  progress v (Some (Ok item)) w gives = record { on = λ _. (tt, refl, item_left v item w gives); keeps = tt; rests = λ _. tt }
+  progress v (Some (Err e)) w gives = record { on = λ _. (tt, refl, fail_left v w gives); keeps = tt; rests = λ _. tt }
