@@ -26,6 +26,11 @@ mapped_within f xs i y read = elim (option_cases (slice_get xs i)) [
     | inr some ↦ slice_get_within xs i some.0 some.1
   ]
 
+-- what holds in any case holds where there is an error
+pub on_err : {T E P : Type 0} (r : Result T E) → P → OnErr r P
+on_err (Ok x) p = tt
+on_err (Err e) p = p
+
 shard_further : (amount next slots rest f : ℕ) → next < amount → slots < 2 ^ 63 → (amount - (next + 1)) * 2 ^ 63 + (slots - 0) + f ≤ (amount - next) * 2 ^ 63 + rest + f
 shard_further amount next slots rest f more few =
     let is : amount - next ≡ (amount - (next + 1)) + 1 = omega (arith, more) in
@@ -71,12 +76,12 @@ module _ {K V Q G : Type 0} (eq : K → K → Bool) (table : G → Table K V) (l
       → IfOk r (λ item. (u.held ≡ Some item.0) × (item.1 ≡ slot) × (w ≡ record u { from = slot + 1 })) → OnErr r (w ≡ record u { failed = true }) → Gives eq table lock v (Some r) w
   shared v u slot passed (Ok item) w ready passes next lent none =
       let here : IsNextFull (table item.0).slots u.from slot = subst (λ (o : Option G). IsNextFull (slots_held table o) u.from slot) lent.0 next in
-      record { ready = ready; passed = passed; stop = u; passes = passes; held = lent.0; slot = subst (λ (i : ℕ). IsNextFull (table item.0).slots u.from i) (sym lent.1.0) here; after = lent.1.1 ∙ ap (λ (i : ℕ). record u { from = i + 1 }) (sym lent.1.0) }
+      record { ready = ready; passed = passed; stop = u; passes = passes; held = lent.0; slot = subst (λ (i : ℕ). IsNextFull (table item.0).slots u.from i) (sym lent.1) here; after = lent.2 ∙ ap (λ (i : ℕ). record u { from = i + 1 }) (sym lent.1) }
   shared v u slot passed (Err e) w ready passes next none failed =
       record { ready = ready; passed = passed; stop = u; passes = passes; after = failed }
 
   -- what a call of `next` gives leaves fewer items
   pub progress : {E : Type 0} (v : Walk Q G) (r : Option (Result (G × ℕ) E)) (w : Walk Q G) → Gives eq table lock v r w → MakesProgress (λ _. ⊤) (λ x. at_most (left table x)) v r w
-  progress v None w gives = record { on = λ _. tt; keeps = tt; rests = λ _. refl }
-  progress v (Some (Ok item)) w gives = record { on = λ _. (tt, refl, item_left v item w gives); keeps = tt; rests = λ _. tt }
-  progress v (Some (Err e)) w gives = record { on = λ _. (tt, refl, fail_left v w gives); keeps = tt; rests = λ _. tt }
+  progress v None w gives = record { on = λ _. tt; keeps = tt; rests = λ _. tt }
+  progress v (Some (Ok item)) w gives = record { on = λ _. (tt, tt, item_left v item w gives); keeps = tt; rests = λ _. tt }
+  progress v (Some (Err e)) w gives = record { on = λ _. (tt, tt, fail_left v w gives); keeps = tt; rests = λ _. tt }

@@ -1,8 +1,9 @@
-use Rattle.std.proofs.Common.{suc, refl, sym, subst, None, OnErr, MatchOption}
+use Rattle.std.proofs.Common.{suc, refl}
 use Rattle.std.proofs.lemmas.Option.{MatchOption-at_none}
 use Rattle.std.specs.Sync.RwLock.{read_guard_value}
 use Rattle.dashmap_table.specs.Slots.{IsNextFull}
-use Rattle.dashmap_iter.specs.Lending.{slots_held, IsThrough, Passes}
+use Rattle.dashmap_iter.specs.Lending.{slots_held, IsThrough}
+use Rattle.dashmap_iter.proofs.Leaving.{on_err}
 use Rattle.dashmap_iter.proofs.iter.Iter.go_on.Goals as goal
 
 pub loop-self-init : goal.loop-self-init
@@ -14,4 +15,4 @@ loop-self-preserved g c =
     (suc c.loop-self.invariant.0, (c.loop-self.self, c.loop-self.invariant.1, through, c.in_ok-enter.ensures.entered))
 
 pub returns-in_err-enter-clause-refused : goal.returns-in_err-enter-clause-refused
-returns-in_err-enter-clause-refused g c = ?
+returns-in_err-enter-clause-refused g c = rw c.in_err-enter.ensures.refused (on_err c.from_residual.result c.loop-self.invariant)
