@@ -1,5 +1,5 @@
 -- Each item of a walk leaves fewer to come.
-use Rattle.std.proofs.Common.{◌≡◌, ℕ, zero, suc, ◌+◌, ◌*◌, ◌-◌, ◌^◌, ◌<◌, ◌≤◌, Bool, true, false, cond, List, [], ◌∷◌, length, Option, Some, None, IsSome, slice_get, refl, sym, ap, subst, ◌∙◌, inl, inr, arith}
+use Rattle.std.proofs.Common.{◌≡◌, ℕ, zero, suc, ◌+◌, ◌*◌, ◌-◌, ◌^◌, ◌<◌, ◌≤◌, Bool, true, false, cond, List, [], ◌∷◌, length, Option, Some, None, IsSome, slice_get, sym, ap, subst, ◌∙◌, inl, inr, arith}
 use Rattle.std.specs.Prelude.{Result, Ok, Err, IfOk, OnErr, ⊤}
 use Rattle.std.specs.Option.{option_map}
 use Rattle.std.specs.Iterator.{MakesProgress, at_most}
@@ -8,9 +8,9 @@ use Rattle.std.proofs.lemmas.Option.{none-some, slice_get_within}
 use Rattle.crossbeam_utils.specs.Padded.{padded_value}
 use Rattle.dashmap_table.specs.declared.entry.Entry.{Entry}
 use Rattle.dashmap_table.specs.Slots.{at, IsNextFull}
-use Rattle.dashmap_table.specs.Table.{Table, IsSound}
+use Rattle.dashmap_table.specs.Table.{Table}
 use Rattle.dashmap_table.proofs.Cases.{option_cases}
-use Rattle.dashmap_iter.specs.Lending.{Walk, slots_held, IsThrough, left, Enters, Passes, LendsPair, Fails, Gives}
+use Rattle.dashmap_iter.specs.Lending.{Walk, slots_held, left, Enters, Passes, LendsPair, Fails, Gives}
 
 -- a full slot is one of the slots
 pub full_within : {K V : Type 0} (xs : List (Option (Entry K V))) (i : ℕ) → IsSome (at xs i) → i < length xs
@@ -22,9 +22,9 @@ full_within (x ∷ xs) (suc i) full = let rest = full_within xs i full in omega 
 -- an element of a list of which something was read is within it
 mapped_within : {X Y : Type 0} (f : X → Y) (xs : List X) (i : ℕ) (y : Y) → option_map f (slice_get xs i) ≡ Some y → i < length xs
 mapped_within f xs i y read = elim (option_cases (slice_get xs i)) [
-    | inl none ↦ absurd (none-some y (sym (ap (option_map f) none) ∙ read))
-    | inr some ↦ slice_get_within xs i some.0 some.1
-  ]
+  | inl none ↦ absurd (none-some y (sym (ap (option_map f) none) ∙ read))
+  | inr some ↦ slice_get_within xs i some.0 some.1
+]
 
 -- what holds in any case holds where there is an error
 pub on_err : {T E P : Type 0} (r : Result T E) → P → OnErr r P
@@ -43,8 +43,8 @@ module _ {K V Q G : Type 0} (eq : K → K → Bool) (table : G → Table K V) (l
   enters_left : (v w : Walk Q G) → Enters eq table lock v w → left table w ≤ left table v
   enters_left v w e =
       subst (λ (x : Walk Q G). left table x ≤ left table v) (sym e.after)
-        (shard_further (length v.locks) v.next (length (table e.guard).slots) (length (slots_held table v.held) - v.from) (cond v.failed 0 1)
-          (mapped_within padded_value v.locks v.next (lock e.guard) e.taken) e.sound.numbered)
+      (shard_further (length v.locks) v.next (length (table e.guard).slots) (length (slots_held table v.held) - v.from) (cond v.failed 0 1)
+      (mapped_within padded_value v.locks v.next (lock e.guard) e.taken) e.sound.numbered)
 
   pub passes_left : (n : ℕ) (v w : Walk Q G) → Passes eq table lock n v w → left table w ≤ left table v
   passes_left zero v w same = subst (λ (x : Walk Q G). left table x ≤ left table v) same (omega arith)

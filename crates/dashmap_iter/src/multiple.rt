@@ -84,14 +84,14 @@ where
     }
 }
 
-impl<
-    K: Eq + Hash,
+impl<K: Eq + Hash, V, A: Allocator, W: Lender<Part = Shard<K, V, A>> + Drop, H: Hold, D> MultiGuard<
+    K,
     V,
-    A: Allocator,
-    W: Lender<Part = Shard<K, V, A>> + Drop,
-    H: Hold,
+    A,
+    W,
+    H,
     D,
-> MultiGuard<K, V, A, W, H, D>
+>
 where
     H::Runtime: Wait,
 {

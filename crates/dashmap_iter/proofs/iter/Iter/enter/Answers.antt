@@ -1,5 +1,4 @@
-use Rattle.std.proofs.Common.{◌≡◌, ◌+◌, Some, refl, ap, sym, subst, ◌∙◌}
-use Rattle.dashmap_iter.specs.Lending.{Walk}
+use Rattle.std.proofs.Common.{◌+◌, Some, ap, ◌∙◌}
 use Rattle.dashmap_iter.proofs.iter.Iter.enter.Goals as goal
 
 pub returns-clause-entered : goal.returns-clause-entered
