@@ -5,9 +5,11 @@
 #![tactic(auto)]
 
 mod iter;
+mod iter_mut;
 mod map;
 pub mod multiple;
 mod shared;
 
 pub use iter::Iter;
+pub use iter_mut::IterMut;
 pub use map::LendingWalks;
