@@ -8,8 +8,11 @@ mod iter;
 mod iter_mut;
 mod map;
 pub mod multiple;
+pub mod multiple_mut;
 mod shared;
+mod shards;
 
 pub use iter::Iter;
-pub use iter_mut::IterMut;
+pub use iter_mut::{IterMut, WritingWalk};
 pub use map::LendingWalks;
+pub use shards::{GivesShards, MapShards};
