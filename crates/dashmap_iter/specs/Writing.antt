@@ -1,19 +1,14 @@
 -- Walks that lend pairs to be written.
-use Rattle.std.specs.Prelude.{◌≡◌, ℕ, zero, suc, Bool, List, [], ◌∷◌, Option, Some, None, IsSome, refl}
-use Rattle.std.proofs.Common.{subst, sym}
+use Rattle.std.specs.Prelude.{ℕ, Bool, Option, Some, None, IsSome, refl}
 use Rattle.std.specs.Option.{option_map}
-use Rattle.dashmap_table.specs.declared.entry.Entry.{Entry}
-use Rattle.dashmap_table.specs.Slots.{at, pair_of, giving_value, changed}
+use Rattle.dashmap_table.specs.Slots.{at, pair_of}
 use Rattle.dashmap_table.specs.Table.{Table, with_value}
 use Rattle.dashmap_iter.specs.Lending.{Walk, slots_held, LendsPair}
 
--- a full slot stays full where its entry is changed
-changed_full : {K V : Type 0} (f : Entry K V → Entry K V) (xs : List (Option (Entry K V))) (i : ℕ) → IsSome (at xs i) → IsSome (at (changed f xs i) i)
-changed_full f [] zero full = full
-changed_full f [] (suc i) full = full
-changed_full f (None ∷ xs) zero full = full
-changed_full f (Some e ∷ xs) zero full = refl
-changed_full f (x ∷ xs) (suc i) full = changed_full f xs i full
+-- what the fact that a slot is full makes, as that of a slot that was written always is
+abbrev pub if_full : {E X : Type 0} → (slot : Option E) → (IsSome slot → X) → X → X
+if_full None made other = other
+if_full (Some entry) made other = made refl
 
 module _ {K V G : Type 0} (table : G → Table K V) where
   -- the pair in a slot of a shard that is held
@@ -31,9 +26,3 @@ module _ {K V G : Type 0} (table : G → Table K V) where
   -- a walk, once a value was written into a full slot of the shard that it holds
   abbrev pub walk_written : {Q : Type 0} → (G → Table K V → G) → Walk Q G → ℕ → V → Walk Q G
   walk_written with_table w slot value = record w { held = option_map (guard_written with_table slot value) w.held }
-
-  -- a slot that was written stays full
-  pub still_full : (with_table : G → Table K V → G) → ((g : G) (t : Table K V) → table (with_table g t) ≡ t) → (held : Option G) (slot : ℕ) (value : V) → IsSome (at (slots_held table held) slot) → IsSome (at (slots_held table (option_map (guard_written with_table slot value) held)) slot)
-  still_full with_table law None slot value full = full
-  still_full with_table law (Some g) slot value full =
-      subst (λ (t : Table K V). IsSome (at t.slots slot)) (sym (law g (with_value (table g) slot value))) (changed_full (giving_value value) (table g).slots slot full)

@@ -4,7 +4,7 @@ ghost use Rattle.std.specs.Borrow.{Lends, sem};
 ghost use Rattle.std.specs.Option.{option_map};
 ghost use Rattle.dashmap_table.specs.Slots.{at};
 ghost use Rattle.dashmap_iter.specs.Lending.{slots_held};
-ghost use Rattle.dashmap_iter.specs.Writing.{pair_held, walk_written, still_full};
+ghost use Rattle.dashmap_iter.specs.Writing.{pair_held, walk_written, if_full};
 ghost use mir.Syntax.{named};
 
 use crate::iter_mut::WritingWalk;
@@ -124,11 +124,81 @@ where
 
     /// The value for writing, beside the stored key. What is left there is what the item lends from then on, and no other pair changes.
     pub fn pair_mut(&mut self) -> (&K, &mut V)
-        ensures* writes_back { sem 𝓛 (Lends (the_row (record { mir = named 1; lft = [] }) K.row V.row A.row W.row H.row L.row H.Lock.row H.Runtime.row H.Party.row H.Apart.row K.PartialEq (record { hash_input = K.hash_input }) A.Allocator W.Lender H.Hold L.GivesShards) V.row self.entry result.1 (λ value. record self.old { walk = record self.old.walk { now = walk_written (λ g. W.part g.inner) (λ g table. record g { inner = W.with_part g.inner table }) self.old.walk.now self.old.slot value }; full = still_full (λ g. W.part g.inner) (λ g table. record g { inner = W.with_part g.inner table }) (λ g table. W.reads_written g.inner table) self.old.walk.now.held self.old.slot value self.old.full })) }
+        ensures* writes_back { sem 𝓛 (Lends (the_row (record { mir = named 1; lft = [] }) K.row V.row A.row W.row H.row L.row H.Lock.row H.Runtime.row H.Party.row H.Apart.row K.PartialEq (record { hash_input = K.hash_input }) A.Allocator W.Lender H.Hold L.GivesShards) V.row self.entry result.1 (λ value. let walk = walk_written (λ g. W.part g.inner) (λ g table. record g { inner = W.with_part g.inner table }) self.old.walk.now self.old.slot value in if_full (at (slots_held (λ g. W.part g.inner) walk.held) self.old.slot) (λ full. record self.old { walk = record self.old.walk { now = walk }; full = full }) self.old)) }
         ensures pair { pair_held (λ g. W.part g.inner) self.old.walk.now.held self.old.slot ≡ Some (result.0.now, result.1.now) }
     {
         let slot = self.slot;
         let walk = &mut *self.walk;
         walk.lend(slot)
+    }
+
+    /// The value for writing.
+    pub fn value_mut(&mut self) -> &mut V
+        ensures* writes_back { sem 𝓛 (Lends (the_row (record { mir = named 1; lft = [] }) K.row V.row A.row W.row H.row L.row H.Lock.row H.Runtime.row H.Party.row H.Apart.row K.PartialEq (record { hash_input = K.hash_input }) A.Allocator W.Lender H.Hold L.GivesShards) V.row self.entry result (λ value. let walk = walk_written (λ g. W.part g.inner) (λ g table. record g { inner = W.with_part g.inner table }) self.old.walk.now self.old.slot value in if_full (at (slots_held (λ g. W.part g.inner) walk.held) self.old.slot) (λ full. record self.old { walk = record self.old.walk { now = walk }; full = full }) self.old)) }
+        ensures value { option_map (λ p. p.1) (pair_held (λ g. W.part g.inner) self.old.walk.now.held self.old.slot) ≡ Some result.now }
+    {
+        self.pair_mut().1
+    }
+}
+
+impl<
+    K: Eq + Hash,
+    V,
+    A: Allocator,
+    W: Lender<Part = Shard<K, V, A>> + Drop,
+    H: Hold,
+    L: GivesShards<W, H>,
+> Deref for MultiGuardMut<'_, K, V, A, W, H, L>
+where
+    H::Runtime: Wait,
+{
+    type Target = V;
+
+    ghost deref_gives = { λ item value. option_map (λ p. p.1) (pair_held (λ g. W.part g.inner) item.walk.now.held item.slot) ≡ Some value };
+
+    fn deref(&self) -> &V {
+        self.value()
+    }
+}
+
+impl<
+    K: Eq + Hash,
+    V,
+    A: Allocator,
+    W: LenderMut<Part = Shard<K, V, A>> + Drop,
+    H: Hold,
+    L: GivesShards<W, H>,
+> DerefMut for MultiGuardMut<'_, K, V, A, W, H, L>
+where
+    H::Runtime: Wait,
+{
+    ghost use Rattle.dashmap_iter.specs.contracts.multiple_mut.MultiGuardMut.{the_row};
+
+    ghost deref_mut_gives = { λ item value. option_map (λ p. p.1) (pair_held (λ g. W.part g.inner) item.walk.now.held item.slot) ≡ Some value };
+
+    fn deref_mut(&mut self) -> &mut V
+        ensures* writes_back { sem 𝓛 (Lends (the_row (record { mir = named 1; lft = [] }) K.row V.row A.row W.row H.row L.row H.Lock.row H.Runtime.row H.Party.row H.Apart.row K.PartialEq (record { hash_input = K.hash_input }) A.Allocator W.Lender H.Hold L.GivesShards) V.row self.entry result (λ value. let walk = walk_written (λ g. W.part g.inner) (λ g table. record g { inner = W.with_part g.inner table }) self.old.walk.now self.old.slot value in if_full (at (slots_held (λ g. W.part g.inner) walk.held) self.old.slot) (λ full. record self.old { walk = record self.old.walk { now = walk }; full = full }) self.old)) }
+        ensures value { option_map (λ p. p.1) (pair_held (λ g. W.part g.inner) self.old.walk.now.held self.old.slot) ≡ Some result.now }
+    {
+        self.value_mut()
+    }
+}
+
+impl<
+    K: Eq + Hash + Debug,
+    V: Debug,
+    A: Allocator,
+    W: Lender<Part = Shard<K, V, A>> + Drop,
+    H: Hold,
+    L: GivesShards<W, H>,
+> Debug for MultiGuardMut<'_, K, V, A, W, H, L>
+where
+    H::Runtime: Wait,
+{
+    fn fmt<F: fmt::Write>(&self, f: &mut fmt::Formatter<F>) -> fmt::Result {
+        f.debug_struct("RefMutMulti")
+            .field("k", self.key())
+            .field("v", self.value())
+            .finish()
     }
 }
