@@ -3,6 +3,8 @@ ghost use Rattle.std.specs.Prelude.{◌≡◌, false, None};
 ghost use Rattle.dashmap_map.specs.Locked.{Locked};
 
 use crate::iter::Iter;
+use crate::iter_mut::{IterMut, WritingWalk};
+use crate::shards::MapShards;
 use dashmap_map::DashMap;
 use lock_api_raw::RawRwLock;
 use std::alloc::Allocator;
@@ -16,6 +18,10 @@ use std::sync::Wait;
 ///     let pair = item?;
 ///     sum += *pair;
 /// }
+/// let mut walk = map.iter_mut(&mut me);
+/// while let Some(mut pair) = walk.next_mut() {
+///     *pair += 1;
+/// }
 /// ```
 pub trait LendingWalks<K: Eq + Hash, V, S, Q: RawRwLock, A: Allocator>
 where
@@ -26,6 +32,18 @@ where
 
     /// A walk that reads. It holds nothing before its first item.
     fn iter<'m, 'd>(&'m self, td: &'d mut Q::Party) -> Iter<'m, 'd, K, V, Q, A>
+        ensures { result ≡ record { locks = (seen self.now).locks; next = 0; held = None; from = 0; failed = false } };
+
+    /// A walk that writes. It holds nothing before its first item.
+    fn iter_mut<'m, 'd>(&'m self, td: &'d mut Q::Party) -> IterMut<'m, 'd, K, V, Q, A>
+        ensures { result ≡ record { locks = (seen self.now).locks; next = 0; held = None; from = 0; failed = false } };
+
+    /// As `iter`.
+    fn _iter<'m, 'd>(&'m self, td: &'d mut Q::Party) -> Iter<'m, 'd, K, V, Q, A>
+        ensures { result ≡ record { locks = (seen self.now).locks; next = 0; held = None; from = 0; failed = false } };
+
+    /// As `iter_mut`.
+    fn _iter_mut<'m, 'd>(&'m self, td: &'d mut Q::Party) -> IterMut<'m, 'd, K, V, Q, A>
         ensures { result ≡ record { locks = (seen self.now).locks; next = 0; held = None; from = 0; failed = false } };
 }
 
@@ -38,5 +56,17 @@ where
 
     fn iter<'m, 'd>(&'m self, td: &'d mut Q::Party) -> Iter<'m, 'd, K, V, Q, A> {
         Iter::over(self.shard_locks(), self.allocator(), td)
+    }
+
+    fn iter_mut<'m, 'd>(&'m self, td: &'d mut Q::Party) -> IterMut<'m, 'd, K, V, Q, A> {
+        WritingWalk::over(MapShards::of(self.shard_locks(), td))
+    }
+
+    fn _iter<'m, 'd>(&'m self, td: &'d mut Q::Party) -> Iter<'m, 'd, K, V, Q, A> {
+        self.iter(td)
+    }
+
+    fn _iter_mut<'m, 'd>(&'m self, td: &'d mut Q::Party) -> IterMut<'m, 'd, K, V, Q, A> {
+        self.iter_mut(td)
     }
 }
