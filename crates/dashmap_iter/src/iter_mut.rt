@@ -21,13 +21,10 @@ use std::sync;
 use std::sync::Wait;
 
 /// Lends the pair of a full slot of a shard that is held.
-fn lend_held<
-    'a,
-    K: Eq + Hash + 'a,
-    V: 'a,
-    A: Allocator + 'a,
-    W: LenderMut<Part = Shard<K, V, A>>,
->(held: &'a mut Option<W>, slot: usize) -> (&'a K, &'a mut V)
+fn lend_held<'a, K: Eq + Hash + 'a, V: 'a, A: Allocator + 'a, W: LenderMut<Part = Shard<K, V, A>>>(
+    held: &'a mut Option<W>,
+    slot: usize,
+) -> (&'a K, &'a mut V)
     requires { IsSomeAnd held.old (λ g. IsSome (at (W.part g).slots slot)) }
     ensures* writes_back { sem 𝓛 (Lends (option.the_row W.row) V.row held.entry result.1 (λ value. option_map (λ g. W.with_part g (with_value (W.part g) slot value)) held.old)) }
     ensures pair { IfSome held.old (λ g. option_map pair_of (at (W.part g).slots slot) ≡ Some (result.0.now, result.1.now)) }

@@ -9,8 +9,8 @@ mod iter_mut;
 mod map;
 pub mod multiple;
 pub mod multiple_mut;
-mod shared;
 mod shards;
+mod shared;
 
 pub use iter::Iter;
 pub use iter_mut::{IterMut, WritingWalk};

@@ -13,12 +13,11 @@ use dashmap_table::Shard;
 use lock_api_guards::{Hold, Lender, LenderMut};
 use lock_api_rw::{Exclusive, RawHold, RwLock};
 use std::alloc::{Allocator, Global};
-use std::fmt;
 use std::fmt::Debug;
 use std::hash::Hash;
 use std::ops::{Deref, DerefMut};
-use std::sync;
 use std::sync::Wait;
+use std::{fmt, sync};
 
 /// An item of a walk that writes: one pair of the shard that the walk holds. The walk lends it until its next call.
 ///

@@ -68,11 +68,10 @@ impl<'m, 'd, K: Eq + Hash, V, Q: RawRwLock, A: Allocator> MapShards<'m, 'd, K, V
     }
 }
 
-impl<'m, 'd, K: Eq + Hash, V, Q: RawRwLock, A: Allocator>
-    GivesShards<
-        sync::RwLockWriteGuard<'m, Shard<K, V, A>>,
-        RawHold<&'m RwLock<Q, Shard<K, V, A>>, Exclusive>,
-    > for MapShards<'m, 'd, K, V, Q, A>
+impl<'m, 'd, K: Eq + Hash, V, Q: RawRwLock, A: Allocator> GivesShards<
+    sync::RwLockWriteGuard<'m, Shard<K, V, A>>,
+    RawHold<&'m RwLock<Q, Shard<K, V, A>>, Exclusive>,
+> for MapShards<'m, 'd, K, V, Q, A>
 where
     Q::Runtime: Wait,
 {
