@@ -5,3 +5,5 @@
 mod lent;
 #[cfg(test)]
 mod maps;
+#[cfg(test)]
+mod written;
