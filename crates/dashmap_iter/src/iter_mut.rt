@@ -6,7 +6,7 @@ ghost use Rattle.std.specs.Option.{option_map};
 ghost use Rattle.crossbeam_utils.specs.Padded.{padded_value};
 ghost use Rattle.dashmap_table.specs.Slots.{at, pair_of, IsNextFull};
 ghost use Rattle.dashmap_table.specs.Table.{IsSound, with_value};
-ghost use Rattle.dashmap_iter.specs.Lending.{slots_held, IsThrough, Enters, Passes, EndsAt};
+ghost use Rattle.dashmap_iter.specs.Lending.{slots_held, IsThrough, Enters, Passes, EndsAt, left};
 ghost use Rattle.dashmap_iter.specs.Writing.{pair_held, walk_written, LendsToWrite};
 
 use crate::multiple_mut::MultiGuardMut;
@@ -201,6 +201,7 @@ where
     /// Goes on to the next pair, and stands behind it.
     fn step(&mut self) -> Option<usize>
         ensures lends { IfSome result (λ slot. LendsToWrite (λ g. W.part g.inner) K.eq (λ g. H.lock_of g.held.0) self.old slot self.new) }
+        ensures nearer { IfSome result (λ slot. left (λ g. W.part g.inner) self.new < left (λ g. W.part g.inner) self.old) }
         ensures full { IfSome result (λ slot. IsSome (at (slots_held (λ g. W.part g.inner) self.new.held) slot)) }
         ensures ends { IfNone result (EndsAt K.eq (λ g. W.part g.inner) (λ g. H.lock_of g.held.0) false self.old self.new) }
     {
@@ -255,6 +256,7 @@ where
         ensures* rests { sem 𝓛 (RestsIfNone (the_row K.row V.row A.row W.row H.row L.row H.Lock.row H.Runtime.row H.Party.row H.Apart.row K.PartialEq (record { hash_input = K.hash_input }) A.Allocator W.Lender H.Hold L.GivesShards) self.entry (λ item. item.walk.ghost_name) result (λ last. EndsAt K.eq (λ g. W.part g.inner) (λ g. H.lock_of g.held.0) false self.old last)) }
         ensures same_walk { IfSome result (λ item. item.walk.ghost_name ≡ self.entry.ghost_name) }
         ensures lends { IfSome result (λ item. LendsToWrite (λ g. W.part g.inner) K.eq (λ g. H.lock_of g.held.0) self.old item.slot item.walk.now) }
+        ensures nearer { IfSome result (λ item. left (λ g. W.part g.inner) item.walk.now < left (λ g. W.part g.inner) self.old) }
     {
         match self.step() {
             Some(slot) => Some(MultiGuardMut { walk: self, slot }),
