@@ -2,6 +2,7 @@
 
 use crate::maps::{Map, map_of};
 use dashmap_iter::LendingWalks;
+use dashmap_shards::Looks;
 use std::test::Fail;
 
 #[test]
@@ -21,6 +22,29 @@ fn each_pair_is_lent_once(rt: HostRuntime) -> Result<(), Fail> {
         sum = sum.wrapping_add(*pair.key());
     }
     assert!(rt; right & (met == 100) & (sum == 4950));
+    Ok(())
+}
+
+#[test]
+fn a_pair_is_counted_in_each_way(rt: HostRuntime) -> Result<(), Fail> {
+    let map: Map<&'static str, u64> = map_of(rt, 4)?;
+    let mut me = 1;
+    let mut right = map.insert("Johnny", 21, &mut me) == Ok(None);
+    right = right & (map.len(&mut me) == 1);
+    let shards = map.shards();
+    let mut count = 0usize;
+    for shard in 0..shards.count() {
+        if let Some(guard) = shards.read(shard, &mut me) {
+            count = count.wrapping_add(guard.len());
+        }
+    }
+    right = right & (count == 1) & shards.read(4, &mut me).is_none();
+    let mut lent = 0u64;
+    for item in map._iter(&mut me) {
+        right = right & item.is_ok();
+        lent = lent.wrapping_add(1);
+    }
+    assert!(rt; right & (lent == 1));
     Ok(())
 }
 
