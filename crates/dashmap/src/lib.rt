@@ -22,6 +22,7 @@ pub mod try_result;
 
 pub use dashmap_clone::{CloneMap, CloneView};
 pub use dashmap_guard::{SharedValue, map_in_place_2, ptr_size_bits};
+pub use dashmap_iter::LendingWalks;
 pub use dashmap_map::mapref::entry::{Entry, OccupiedEntry, VacantEntry};
 pub use dashmap_map::{Map, NewFault, TryReserveError};
 pub use dashmap_plain::{ExtendShards, Plain, Unlocked};

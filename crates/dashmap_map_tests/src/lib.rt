@@ -22,3 +22,5 @@ mod refused;
 mod threads;
 #[cfg(test)]
 mod tries;
+#[cfg(test)]
+mod whole;

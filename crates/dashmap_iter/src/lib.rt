@@ -1,0 +1,18 @@
+//! Walks that lend the pairs of the running map one by one: to be read, or to be written.
+//!
+//! A walk takes the shards in their order and lends each pair of a shard once, in the order of its slots, which is open. It holds nothing
+//! before its first item.
+#![tactic(auto)]
+
+mod iter;
+mod iter_mut;
+mod map;
+pub mod multiple;
+pub mod multiple_mut;
+mod shards;
+mod shared;
+
+pub use iter::Iter;
+pub use iter_mut::{IterMut, WritingWalk};
+pub use map::LendingWalks;
+pub use shards::{GivesShards, MapShards};

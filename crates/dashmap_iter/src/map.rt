@@ -1,0 +1,72 @@
+//! The walks of a map that lend.
+ghost use Rattle.std.specs.Prelude.{◌≡◌, false, None};
+ghost use Rattle.dashmap_map.specs.Locked.{Locked};
+
+use crate::iter::Iter;
+use crate::iter_mut::{IterMut, WritingWalk};
+use crate::shards::MapShards;
+use dashmap_map::DashMap;
+use lock_api_raw::RawRwLock;
+use std::alloc::Allocator;
+use std::hash::{BuildHasher, Hash};
+use std::sync::Wait;
+
+/// Walks over a map that lend its pairs one by one. A walk is lent what the thread has, and keeps it until it is dropped.
+///
+/// ```text
+/// for item in map.iter(&mut me) {
+///     let pair = item?;
+///     sum += *pair;
+/// }
+/// let mut walk = map.iter_mut(&mut me);
+/// while let Some(mut pair) = walk.next_mut() {
+///     *pair += 1;
+/// }
+/// ```
+pub trait LendingWalks<K: Eq + Hash, V, S, Q: RawRwLock, A: Allocator>
+where
+    Q::Runtime: Wait,
+{
+    /// The locks and the hasher of a map.
+    ghost seen: { Self → Locked Q S };
+
+    /// A walk that reads. It holds nothing before its first item.
+    fn iter<'m, 'd>(&'m self, td: &'d mut Q::Party) -> Iter<'m, 'd, K, V, Q, A>
+        ensures { result ≡ record { locks = (seen self.now).locks; next = 0; held = None; from = 0; failed = false } };
+
+    /// A walk that writes. It holds nothing before its first item.
+    fn iter_mut<'m, 'd>(&'m self, td: &'d mut Q::Party) -> IterMut<'m, 'd, K, V, Q, A>
+        ensures { result ≡ record { locks = (seen self.now).locks; next = 0; held = None; from = 0; failed = false } };
+
+    /// As `iter`.
+    fn _iter<'m, 'd>(&'m self, td: &'d mut Q::Party) -> Iter<'m, 'd, K, V, Q, A>
+        ensures { result ≡ record { locks = (seen self.now).locks; next = 0; held = None; from = 0; failed = false } };
+
+    /// As `iter_mut`.
+    fn _iter_mut<'m, 'd>(&'m self, td: &'d mut Q::Party) -> IterMut<'m, 'd, K, V, Q, A>
+        ensures { result ≡ record { locks = (seen self.now).locks; next = 0; held = None; from = 0; failed = false } };
+}
+
+impl<K: Eq + Hash, V, S: BuildHasher, Q: RawRwLock, A: Allocator> LendingWalks<K, V, S, Q, A>
+    for DashMap<K, V, S, Q, A>
+where
+    Q::Runtime: Wait,
+{
+    ghost seen = { λ map. map };
+
+    fn iter<'m, 'd>(&'m self, td: &'d mut Q::Party) -> Iter<'m, 'd, K, V, Q, A> {
+        Iter::over(self.shard_locks(), self.allocator(), td)
+    }
+
+    fn iter_mut<'m, 'd>(&'m self, td: &'d mut Q::Party) -> IterMut<'m, 'd, K, V, Q, A> {
+        WritingWalk::over(MapShards::of(self.shard_locks(), td))
+    }
+
+    fn _iter<'m, 'd>(&'m self, td: &'d mut Q::Party) -> Iter<'m, 'd, K, V, Q, A> {
+        self.iter(td)
+    }
+
+    fn _iter_mut<'m, 'd>(&'m self, td: &'d mut Q::Party) -> IterMut<'m, 'd, K, V, Q, A> {
+        self.iter_mut(td)
+    }
+}

@@ -1,0 +1,18 @@
+//! The maps of the tests.
+
+use dashmap_map::DashMap;
+use dashmap_table::MapFault;
+use lock_api_packed::PackedLock;
+use mapworld_calls::SpreadState;
+use std::hash::Hash;
+
+/// A map whose locks are words that are tried again and again.
+pub type Map<K, V> = DashMap<K, V, SpreadState, PackedLock<HostRuntime>>;
+
+/// A map with so many shards.
+pub fn map_of<K: Eq + Hash + Drop, V: Drop>(
+    rt: HostRuntime,
+    shards: usize,
+) -> Result<Map<K, V>, MapFault> {
+    DashMap::with_hasher_and_shard_amount(rt.alloc(), SpreadState, shards, rt)
+}
