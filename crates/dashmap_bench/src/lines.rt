@@ -3,6 +3,7 @@
 use crate::fault::Fault;
 use crate::keys::{Leaping, Onward, Round};
 use crate::threads::{Mix, Team, run};
+use crate::walks::{count_all, keep_all, read_all, write_all};
 use crate::work::{Map, Shared, churn, enter_all, look_up_all, map_over, put_all, take_all};
 use dashmap_table_work::clock::report;
 use lock_api_raw::RawRwLock;
@@ -28,6 +29,11 @@ enum Deed {
     SmallHit,
     SmallMiss,
     SmallChurn,
+    WalksFill,
+    Iter,
+    IterMut,
+    Retain,
+    Len,
 }
 
 impl Deed {
@@ -44,6 +50,11 @@ impl Deed {
             Deed::SmallHit => "st.small_hit.dash_fold",
             Deed::SmallMiss => "st.small_miss.dash_fold",
             Deed::SmallChurn => "st.small_churn.dash_fold",
+            Deed::WalksFill => "st.walks_fill.dash_fold",
+            Deed::Iter => "st.iter.dash_fold",
+            Deed::IterMut => "st.iter_mut.dash_fold",
+            Deed::Retain => "st.retain.dash_fold",
+            Deed::Len => "st.len.dash_fold",
         }
     }
 
@@ -53,6 +64,7 @@ impl Deed {
             Deed::SmallFill => 1_000,
             Deed::SmallHit | Deed::SmallMiss => 4 * MANY,
             Deed::SmallChurn => 2 * MANY,
+            Deed::Len => 100_000,
             _ => MANY,
         }
     }
@@ -68,7 +80,9 @@ impl Deed {
         Q::Runtime: Wait,
     {
         match self {
-            Deed::Insert | Deed::SmallFill => put_all::<Onward<0>, Q>(map, me, calls),
+            Deed::Insert | Deed::SmallFill | Deed::WalksFill => put_all::<Onward<0>, Q>(
+                map, me, calls,
+            ),
             Deed::Hit => Ok(look_up_all::<Leaping<KEYS>, Q>(map, me, calls)),
             Deed::Miss => Ok(look_up_all::<Onward<KEYS>, Q>(map, me, calls)),
             Deed::EntryHit => enter_all::<Leaping<KEYS>, Q>(map, me, calls),
@@ -77,12 +91,16 @@ impl Deed {
             Deed::SmallHit => Ok(look_up_all::<Round<0, 1_000>, Q>(map, me, calls)),
             Deed::SmallMiss => Ok(look_up_all::<Round<5_000, 1_000>, Q>(map, me, calls)),
             Deed::SmallChurn => churn::<Round<2_000, 1_000>, Q>(map, me, calls / 2),
+            Deed::Iter => read_all(map, me),
+            Deed::IterMut => Ok(write_all(map, me, calls)),
+            Deed::Retain => Ok(keep_all(map, me)),
+            Deed::Len => Ok(count_all(map, me, calls)),
         }
     }
 }
 
-/// The calls that are made on each of three maps, one after another.
-const DEEDS: [&[Deed]; 3] = [
+/// The calls that are made on each of four maps, one after another.
+const DEEDS: [&[Deed]; 4] = [
     &[
         Deed::Insert,
         Deed::Hit,
@@ -96,6 +114,13 @@ const DEEDS: [&[Deed]; 3] = [
         Deed::SmallHit,
         Deed::SmallMiss,
         Deed::SmallChurn,
+    ],
+    &[
+        Deed::WalksFill,
+        Deed::Iter,
+        Deed::IterMut,
+        Deed::Retain,
+        Deed::Len,
     ],
 ];
 

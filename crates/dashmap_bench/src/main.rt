@@ -12,6 +12,7 @@ mod fault;
 mod keys;
 mod lines;
 mod threads;
+mod walks;
 mod work;
 
 use fault::Fault;

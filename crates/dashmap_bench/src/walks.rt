@@ -1,0 +1,69 @@
+//! The walks of one thread that are measured.
+
+use crate::fault::Fault;
+use crate::work::Map;
+use dashmap_iter::LendingWalks;
+use dashmap_walks::Walks;
+use lock_api_raw::RawRwLock;
+use std::sync::Wait;
+
+/// The sum over all pairs, which a walk lends to be read.
+#[inline(never)]
+pub fn read_all<Q: RawRwLock>(map: &Map<Q>, me: &mut Q::Party) -> Result<u64, Fault>
+where
+    Q::Runtime: Wait,
+{
+    let mut sum = 0u64;
+    for item in map.iter(me) {
+        let Ok(pair) = item else {
+            return Err(Fault);
+        };
+        sum = sum.wrapping_add(*pair.key() ^ *pair.value());
+    }
+    Ok(sum)
+}
+
+/// Counts each value up, which a walk lends to be written, and answers how many there were, of so many at most.
+#[inline(never)]
+pub fn write_all<Q: RawRwLock>(map: &Map<Q>, me: &mut Q::Party, count: u64) -> u64
+where
+    Q::Runtime: Wait,
+{
+    let mut walk = map.iter_mut(me);
+    for turn in 0..count {
+        let Some(mut pair) = walk.next_mut() else {
+            return turn;
+        };
+        *pair = pair.wrapping_add(1);
+    }
+    count
+}
+
+/// Counts each value up and keeps all pairs; answers how many there are.
+#[inline(never)]
+pub fn keep_all<Q: RawRwLock>(map: &Map<Q>, me: &mut Q::Party) -> u64
+where
+    Q::Runtime: Wait,
+{
+    map.retain(
+        |_, value| {
+            *value = value.wrapping_add(1);
+            true
+        },
+        me,
+    );
+    map.len(me) as u64
+}
+
+/// Asks so many times how many pairs there are, and answers the sum.
+#[inline(never)]
+pub fn count_all<Q: RawRwLock>(map: &Map<Q>, me: &mut Q::Party, times: u64) -> u64
+where
+    Q::Runtime: Wait,
+{
+    let mut sum = 0u64;
+    for _ in 0..times {
+        sum = sum.wrapping_add(map.len(me) as u64);
+    }
+    sum
+}
