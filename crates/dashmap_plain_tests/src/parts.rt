@@ -2,7 +2,7 @@
 
 use crate::maps::map_of;
 use dashmap_plain::Plain;
-use dashmap_table::route;
+use dashmap_table::{is_shard_amount, route};
 use mapworld_calls::SpreadState;
 use std::hash::BuildHasher;
 use std::test::Fail;
@@ -11,10 +11,14 @@ use std::test::Fail;
 fn the_shards_of_a_map_have_its_pairs_in_their_order(rt: HostRuntime) -> Result<(), Fail> {
     let map = map_of(rt, 100)?;
     let shards = map.into_shards();
-    let mut right = shards.len() == 4;
+    let amount = shards.len();
+    if !is_shard_amount(amount) {
+        return Err("no amount of shards".into());
+    }
+    let mut right = amount == 4;
     for key in 0..100u64 {
         let hash = SpreadState.hash_one(&key);
-        right &= match shards.get(route(hash, 4)) {
+        right &= match shards.get(route(hash, amount)) {
             Some(shard) => shard.find(hash, &key).is_some(),
             None => false,
         };
@@ -29,9 +33,13 @@ fn the_pairs_of_a_map_come_once_each_shards_in_order(rt: HostRuntime) -> Result<
     let mut sum = 0u64;
     let mut pairs = 0u64;
     let mut last = 0;
+    let amount = 4;
+    if !is_shard_amount(amount) {
+        return Err("no amount of shards".into());
+    }
     let mut right = true;
     for (key, value) in map.into_iter() {
-        let shard = route(SpreadState.hash_one(&key), 4);
+        let shard = route(SpreadState.hash_one(&key), amount);
         right &= last <= shard && value == key.wrapping_mul(2);
         last = shard;
         pairs = pairs.wrapping_add(1);
