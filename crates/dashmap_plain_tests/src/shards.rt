@@ -38,7 +38,7 @@ fn is_kept_from_writers<R: Wait + Drop>(map: &Map<R>) -> bool {
     let mut right = !guard.is_empty() && map._try_yield_write_shard(number).is_none();
     right &= map._try_yield_read_shard(number).is_some() && map.try_get_mut(&7).is_locked();
     let other = number ^ 1;
-    right & (other < map._shard_count() && map._try_yield_write_shard(other).is_some())
+    right & (other < map.shard_locks().len() && map._try_yield_write_shard(other).is_some())
 }
 
 #[test]
