@@ -18,8 +18,10 @@ fn a_view_answers_in_pieces_as_one_thread_would(rt: HostRuntime) -> Result<(), F
         .par_iter()
         .map_collect(&rt, rt.alloc(), |_: &u64, value: &u64| *value)?;
     let mut right = doubles.len() == 100;
-    for (number, value) in view.values().enumerate() {
+    let mut number = 0usize;
+    for value in view.values() {
         right &= doubles.get(number) == Some(value);
+        number = number.wrapping_add(1);
     }
     let sum = AtomicU64::new(0);
     view.into_par_iter().for_each(&rt, |key: u64, value: u64| {

@@ -37,7 +37,8 @@ fn is_kept_from_writers<R: Wait + Drop>(map: &Map<R>) -> bool {
     };
     let mut right = !guard.is_empty() && map._try_yield_write_shard(number).is_none();
     right &= map._try_yield_read_shard(number).is_some() && map.try_get_mut(&7).is_locked();
-    right & map._try_yield_write_shard(number ^ 1).is_some()
+    let other = number ^ 1;
+    right & (other < map.shard_locks().len() && map._try_yield_write_shard(other).is_some())
 }
 
 #[test]

@@ -17,8 +17,19 @@ fn a_hundred_keys_become_a_view_and_a_map_again(rt: HostRuntime) -> Result<(), F
         right &= view.get(&key) == Some(&key.wrapping_mul(2)) && view.contains_key(&key);
     }
     right &= view.get(&100).is_none() && view.get_key_value(&7) == Some((&7, &14));
-    right &= view.iter().count() == 100 && view.keys().count() == 100;
-    right &= view.values().count() == 100 && view.shards().len() == 4;
+    let mut met = 0u64;
+    for (key, value) in view.iter() {
+        right &= *value == key.wrapping_mul(2);
+        met = met.wrapping_add(1);
+    }
+    let mut sums = (0u64, 0u64);
+    for key in view.keys() {
+        sums.0 = sums.0.wrapping_add(*key);
+    }
+    for value in view.values() {
+        sums.1 = sums.1.wrapping_add(*value);
+    }
+    right &= met == 100 && sums == (4950, 9900) && view.shards().len() == 4;
     let map = view.into_inner();
     assert!(rt; right && has_all(&map, 100));
     Ok(())
