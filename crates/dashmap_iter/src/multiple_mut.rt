@@ -68,7 +68,9 @@ impl<
 where
     H::Runtime: Wait,
 {
-    fn drop(self) {
+    fn drop(self)
+        ensures { self.exit.0.now ≡ self.entry.walk.now }
+    {
         let MultiGuardMut { walk: _, slot: _ } = self;
     }
 }
