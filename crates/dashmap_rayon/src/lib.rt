@@ -9,7 +9,7 @@ mod lent;
 mod owned;
 mod pieces;
 mod view;
-mod visit;
+pub mod visit;
 mod written;
 
 pub use lent::Iter;

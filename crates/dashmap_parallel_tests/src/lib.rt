@@ -1,0 +1,5 @@
+//! Tests of the parallel forms of a shared map, beside what its calls answer one by one.
+#![tactic(auto)]
+
+#[cfg(test)]
+mod forms;
