@@ -1,2 +1,3 @@
 mod Amounts
 mod Putting
+mod Slices

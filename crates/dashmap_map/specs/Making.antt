@@ -6,9 +6,9 @@ use Rattle.dashmap_map.specs.declared.room.Made.{Made}
 use Rattle.dashmap_map.specs.declared.room.Made.TheVariants.{Whole, Short}
 
 module _ {K V Q A : Type 0} where
-  -- so many are there, if there are any
+  -- so many are there, if there are any, and as many that are spare
   abbrev pub has_shards : ℕ → Made K V Q A → Type 0
-  has_shards amount (Whole shards) = length shards.items ≡ amount
+  has_shards amount (Whole shards spare) = (length shards.items ≡ amount) × (length spare.items ≡ amount)
   has_shards amount (Short lock) = ⊤
 
 -- a capacity that has no share of the default amount of shards for so many threads

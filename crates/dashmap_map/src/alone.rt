@@ -8,6 +8,7 @@ use crate::fault::TryReserveError;
 use crate::held::insert_into;
 use crate::map::DashMap;
 use core::mem;
+use crossbeam_utils::CachePadded;
 use dashmap_table::{Shard, route};
 use lock_api_raw::NoMemory;
 use lock_api_rw::RwLock;
@@ -58,6 +59,19 @@ fn reserve_alone<K: Eq + Hash + Drop, V: Drop, Q, A: Allocator + Clone>(
     )
 }
 
+/// Makes room in each of these shards, one after another.
+fn reserve_each<K: Eq + Hash + Drop, V: Drop, Q, A: Allocator + Clone>(
+    locks: &mut [CachePadded<RwLock<Q, Shard<K, V, A>>>],
+    additional: usize,
+) -> Result<(), NoMemory>
+    ensures { locks.new ≡ locks.old }
+{
+    for shard in 0..locks.len() {
+        reserve_alone(&mut locks[shard], additional)?;
+    }
+    Ok(())
+}
+
 impl<K: Eq + Hash + Drop, V: Drop, S: BuildHasher, Q, A: Allocator + Clone> DashMap<K, V, S, Q, A> {
     /// As `insert`, without a lock.
     pub fn insert_mut(&mut self, key: K, value: V) -> Result<Option<V>, (K, V)>
@@ -90,11 +104,9 @@ impl<K: Eq + Hash + Drop, V: Drop, S: BuildHasher, Q, A: Allocator + Clone> Dash
     pub fn try_reserve(&mut self, additional: usize) -> Result<(), TryReserveError>
         ensures { self.new ≡ self.old }
     {
-        for shard in 0..self.shards.len() {
-            if reserve_alone(&mut self.shards[shard], additional).is_err() {
-                return Err(TryReserveError {});
-            }
+        match reserve_each(&mut self.shards, additional) {
+            Ok(()) => Ok(()),
+            Err(_) => Err(TryReserveError {}),
         }
-        Ok(())
     }
 }

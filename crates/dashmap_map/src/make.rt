@@ -44,7 +44,11 @@ where
         return Err(NewFault::NoRandom);
     };
     match made {
-        Made::Whole(shards) => Ok(DashMap { shards, hasher }),
+        Made::Whole(shards, spare) => Ok(DashMap {
+            shards,
+            spare,
+            hasher,
+        }),
         Made::Short(_lock) => Err(NewFault::Map(MapFault::NoMemory)),
     }
 }
@@ -74,7 +78,11 @@ impl<
     {
         let share = share_for(capacity, shard_amount)?;
         match Made::of(alloc, shard_amount, share, table) {
-            Ok(Made::Whole(shards)) => Ok(DashMap { shards, hasher }),
+            Ok(Made::Whole(shards, spare)) => Ok(DashMap {
+                shards,
+                spare,
+                hasher,
+            }),
             Ok(Made::Short(_)) => Err(MapFault::NoMemory),
             Err(_) => Err(MapFault::TableFull),
         }

@@ -23,11 +23,13 @@ use std::marker::Model;
 #[derive(Drop)]
 pub struct DashMap<K: Eq + Hash, V, S: BuildHasher, Q, A: Allocator = Global> {
     pub(crate) shards: Vec<CachePadded<RwLock<Q, Shard<K, V, A>>>, A>,
+    /// As many shards without pairs: room for the map's plain shards.
+    pub(crate) spare: Vec<Shard<K, V, A>, A>,
     pub(crate) hasher: S,
 }
 
 impl<K: Eq + Hash, V, S: BuildHasher, Q, A: Allocator> Model for DashMap<K, V, S, Q, A> {
-    ghost use Rattle.std.specs.Prelude.{length};
+    ghost use Rattle.std.specs.Prelude.{◌≡◌, length};
     ghost use Rattle.dashmap_table.specs.Route.{IsShardAmount};
     ghost use Rattle.dashmap_map.specs.Locked.{Locked};
 
@@ -35,7 +37,7 @@ impl<K: Eq + Hash, V, S: BuildHasher, Q, A: Allocator> Model for DashMap<K, V, S
 
     ghost view = { λ m. record { locks = m.shards.items; hasher = m.hasher } };
 
-    ghost invariant = { λ m. IsShardAmount (length m.shards.items) };
+    ghost invariant = { λ m. IsShardAmount (length m.shards.items) × (length m.spare.items ≡ length m.shards.items) };
 }
 
 impl<K: Eq + Hash, V, S: BuildHasher, Q, A: Allocator> DashMap<K, V, S, Q, A> {
@@ -57,6 +59,46 @@ impl<K: Eq + Hash, V, S: BuildHasher, Q, A: Allocator> DashMap<K, V, S, Q, A> {
         ensures amount { IsShardAmount (length self.now.locks) }
     {
         &self.shards
+    }
+
+    /// Takes the map apart: its shards behind their locks, as many without pairs, and the hasher. For the layer above.
+    pub fn into_parts(
+        self,
+    ) -> (
+        Vec<CachePadded<RwLock<Q, Shard<K, V, A>>>, A>,
+        Vec<Shard<K, V, A>, A>,
+        S,
+    )
+        ensures locks { result.0.items ≡ self.locks }
+        ensures spare { length result.1.items ≡ length self.locks }
+        ensures hasher { result.2 ≡ self.hasher }
+        ensures amount { IsShardAmount (length self.locks) }
+    {
+        let DashMap {
+            shards,
+            spare,
+            hasher,
+        } = self;
+        (shards, spare, hasher)
+    }
+
+    /// Puts a map together of shards behind their locks, as many without pairs, and a hasher. Each pair has to be in the shard of its
+    /// route, or its key doesn't find it. For the layer above.
+    pub fn from_parts(
+        locks: Vec<CachePadded<RwLock<Q, Shard<K, V, A>>>, A>,
+        spare: Vec<Shard<K, V, A>, A>,
+        hasher: S,
+    ) -> DashMap<K, V, S, Q, A>
+        requires amount { IsShardAmount (length locks.items) }
+        requires spare { length spare.items ≡ length locks.items }
+        ensures locks { result.locks ≡ locks.items }
+        ensures hasher { result.hasher ≡ hasher }
+    {
+        DashMap {
+            shards: locks,
+            spare,
+            hasher,
+        }
     }
 
     /// The hasher's hash of anything that can be hashed.

@@ -77,13 +77,13 @@ pub(crate) fn first_of_rows<Q: RawRwLock + MakeLock<T> + Drop, T: Copy>(
 /// What came of the shards of a map.
 #[derive(Drop)]
 pub(crate) enum Made<K: Eq + Hash, V, Q, A: Allocator> {
-    /// They are there, each behind its lock.
-    Whole(Vec<CachePadded<RwLock<Q, Shard<K, V, A>>>, A>),
+    /// They are there, each behind its lock, and as many without locks, for none of which there is room for a pair.
+    Whole(Vec<CachePadded<RwLock<Q, Shard<K, V, A>>>, A>, Vec<Shard<K, V, A>, A>),
     /// Each had its row, but there was no memory for them. One of the locks is left.
     Short(Q),
 }
 
-/// A list with room for so many shards behind their locks, beside the shards.
+/// Shards, a list with room for as many behind their locks, and as many more that are spare.
 fn room_for<K: Eq + Hash + Drop, V: Drop, Q: RawRwLock + Drop, A: Allocator + Clone>(
     alloc: A,
     amount: usize,
@@ -92,15 +92,18 @@ fn room_for<K: Eq + Hash + Drop, V: Drop, Q: RawRwLock + Drop, A: Allocator + Cl
     (
         Vec<Shard<K, V, A>, A>,
         Vec<CachePadded<RwLock<Q, Shard<K, V, A>>>, A>,
+        Vec<Shard<K, V, A>, A>,
     ),
     NoMemory,
 >
     ensures shards { IfOk result (λ r. vec_len r.0 ≡ amount) }
     ensures empty { IfOk result (λ r. r.1.items ≡ []) }
     ensures room { IfOk result (λ r. amount ≤ vec_capacity r.1) }
+    ensures spare { IfOk result (λ r. length r.2.items ≡ amount) }
 {
     let locks = Vec::with_capacity(alloc.clone()?, amount)?;
-    Ok((empty_shards(alloc, amount, share)?, locks))
+    let spare = empty_shards(alloc.clone()?, amount, 0)?;
+    Ok((empty_shards(alloc, amount, share)?, locks, spare))
 }
 
 impl<K: Eq + Hash + Drop, V: Drop, Q: RawRwLock + Drop, A: Allocator + Clone> Made<K, V, Q, A> {
@@ -116,7 +119,10 @@ impl<K: Eq + Hash + Drop, V: Drop, Q: RawRwLock + Drop, A: Allocator + Clone> Ma
         ensures { IfOk result (has_shards amount) }
     {
         match room_for(alloc, amount, share) {
-            Ok((shards, locks)) => Ok(Made::Whole(lock_shards(shards, locks, table)?)),
+            Ok((shards, locks, spare)) => Ok(Made::Whole(
+                lock_shards(shards, locks, table)?,
+                spare,
+            )),
             Err(_) => Ok(Made::Short(first_of_rows(table, amount)?)),
         }
     }
@@ -128,7 +134,7 @@ impl<K: Eq + Hash, V, Q: RawRwLock, A: Allocator> Made<K, V, Q, A> {
         requires { (shards : ℕ) × (0 < shards) × has_shards shards self.now }
     {
         match self {
-            Made::Whole(shards) => match shards.first() {
+            Made::Whole(shards, _spare) => match shards.first() {
                 Some(lock) => lock.raw().runtime(),
                 None => unreachable!(),
             },
