@@ -1,1 +1,3 @@
 mod Cutting
+mod Dealing
+mod Gathering

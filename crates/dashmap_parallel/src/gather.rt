@@ -1,9 +1,11 @@
 //! Answers about the pairs of a shared map, gathered from pieces that go side by side.
-ghost use Rattle.std.specs.Prelude.{◌≡◌, ◌<◌, length, IfOk};
+ghost use Rattle.std.specs.Prelude.{◌≡◌, ◌<◌, ◌++◌, length, IfOk};
 ghost use Rattle.std.specs.List.{AllZip};
+ghost use Rattle.std.specs.Thread.{IsSync, IsSend};
+ghost use denote.Param.Send.{Frees};
 ghost use Rattle.dashmap_table.specs.Slots.{pairs_of};
 ghost use Rattle.dashmap_rayon.specs.Calls.{AnswersOf};
-ghost use Rattle.dashmap_parallel.specs.Visits.{GatheredFrom};
+ghost use Rattle.dashmap_parallel.specs.Visits.{MadeInPieces, GatheredFrom};
 
 use crate::behind::answers_behind;
 use crossbeam_utils::CachePadded;
@@ -18,7 +20,7 @@ use std::thread;
 use std::thread::Threads;
 
 /// What a closure answers of each pair behind some locks, in their order, by one thread.
-fn answers_in_piece<
+pub(crate) fn answers_in_piece<
     K: Eq + Hash,
     V,
     Q: RawRwLock,
@@ -49,48 +51,45 @@ where
 fn one_after<T: Drop, B: Allocator>(
     first: Result<Vec<T, B>, NoMemory>,
     second: Result<Vec<T, B>, NoMemory>,
-) -> Result<Vec<T, B>, NoMemory> {
+) -> Result<Vec<T, B>, NoMemory>
+    ensures { IfOk result (λ all. IfOk first (λ v. IfOk second (λ w. all.items ≡ v.items ++ w.items))) }
+{
     let mut all = first?;
     let mut rest = second?;
     all.append(&mut rest)?;
     Ok(all)
 }
 
-/// What a closure answers of each pair behind some locks, in their order: pieces go side by side, one for each party.
-pub(crate) fn answers_in_pieces<
+/// What a closure makes of some items, cut into pieces that go side by side, one for each party, contiguous, and the larger ones first.
+/// The lists that it makes stand one behind another.
+#[cycle(halves)]
+pub(crate) fn made_in_pieces<
     R: Threads + Sync,
-    K: Eq + Hash + Send + Sync,
-    V: Send + Sync,
-    Q: RawRwLock + Sync,
-    A: Allocator + Send + Sync,
-    B: Allocator + Clone + Send + Sync,
+    X: Sync,
+    D: Send,
     T: Send + Drop,
-    F: Fn(&K, &V) -> T + Sync,
->(
-    rt: &R,
-    locks: &[CachePadded<RwLock<Q, Shard<K, V, A>>>],
-    parties: &mut [Q::Party],
-    f: &F,
-    alloc: &B,
-) -> Result<Vec<T, B>, NoMemory>
-where
-    Q::Runtime: Wait,
-    Q::Party: Send,
+    B: Allocator + Send,
+    F: Fn(&[X], &mut D) -> Result<Vec<T, B>, NoMemory> + Sync,
+>(rt: &R, items: &[X], parties: &mut [D], f: &F) -> Result<Vec<T, B>, NoMemory>
     requires some { 0 < length parties.old }
     requires callable { F.IsAlwaysCallable f.now }
-    ensures { IfOk result (λ v. GatheredFrom Q.SharedGuard Q.Runtime Q.Party (λ table. AllZip (AnswersOf F.Fn f.now) (pairs_of table.slots)) locks.now v.items) }
+    ensures { IfOk result (λ v. MadeInPieces F.Fn f.now items.now v.items) }
 {
     let pieces = parties.len();
     if pieces == 1 {
-        return answers_in_piece(locks, &mut parties[0], f, alloc);
+        return f(items, &mut parties[0]);
     }
     let half = pieces - pieces / 2;
-    let (here, there) = locks.split_at(first_of(locks.len(), pieces, half));
+    let (here, there) = items.split_at(first_of(items.len(), pieces, half));
     let (mine, yours) = parties.split_at_mut(half);
-    let (first, second) = thread::join(
-        rt,
-        || answers_in_pieces(rt, here, mine, f, alloc),
-        || answers_in_pieces(rt, there, yours, f, alloc),
-    );
+    let front = || -> Result<Vec<T, B>, NoMemory>
+        requires { IsSync R.row × IsSync X.row × IsSync F.row × IsSend D.row × IsSend T.row × IsSend B.row × Frees B.Allocator B.dealloc_token × (0 < length mine.now) × F.IsAlwaysCallable f.now }
+        ensures { IfOk result (λ v. MadeInPieces F.Fn f.entry.now here.entry.now v.items) }
+    { made_in_pieces(rt, here, mine, f) };
+    let back = || -> Result<Vec<T, B>, NoMemory>
+        requires { IsSync R.row × IsSync X.row × IsSync F.row × IsSend D.row × IsSend T.row × IsSend B.row × Frees B.Allocator B.dealloc_token × (0 < length yours.now) × F.IsAlwaysCallable f.now }
+        ensures { IfOk result (λ v. MadeInPieces F.Fn f.entry.now there.entry.now v.items) }
+    { made_in_pieces(rt, there, yours, f) };
+    let (first, second) = thread::join(rt, front, back);
     one_after(first, second)
 }

@@ -7,7 +7,7 @@ ghost use Rattle.dashmap_rayon.specs.Calls.{AnswersOf};
 ghost use Rattle.dashmap_parallel.specs.Visits.{WhileShared, GatheredFrom};
 
 use crate::behind::visit_behind;
-use crate::gather::answers_in_pieces;
+use crate::gather::{answers_in_piece, made_in_pieces};
 use crate::pieces::in_pieces;
 use crossbeam_utils::CachePadded;
 use dashmap_table::{NoMemory, Shard};
@@ -97,6 +97,16 @@ where
         ensures { IfOk result (λ v. GatheredFrom Q.SharedGuard Q.Runtime Q.Party (λ table. AllZip (AnswersOf F.Fn f) (pairs_of table.slots)) self.entry v.items) }
     {
         let SharedIter { locks, parties } = self;
-        answers_in_pieces(rt, locks, parties, &f, &alloc)
+        let f = &f;
+        let alloc = &alloc;
+        made_in_pieces(
+            rt,
+            locks,
+            parties,
+            &|locks: &[CachePadded<RwLock<Q, Shard<K, V, A>>>], td: &mut Q::Party| -> Result<Vec<T, B>, NoMemory>
+                requires { F.IsAlwaysCallable f.now }
+                ensures { IfOk result (λ v. GatheredFrom Q.SharedGuard Q.Runtime Q.Party (λ table. AllZip (AnswersOf F.Fn f.entry.now) (pairs_of table.slots)) locks.now v.items) }
+            { answers_in_piece(locks, td, f, alloc) },
+        )
     }
 }

@@ -4,14 +4,18 @@
 #![tactic(auto)]
 
 mod behind;
+mod deal;
+mod extend;
 mod fault;
 mod gather;
 mod lent;
 mod parallel;
 mod pieces;
+mod put;
 mod written;
 
-pub use fault::NoThreadData;
+pub use extend::ParallelExtend;
+pub use fault::{NoThreadData, ParExtendFault};
 pub use lent::SharedIter;
 pub use parallel::ParallelMap;
 pub use written::SharedIterMut;

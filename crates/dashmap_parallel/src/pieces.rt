@@ -6,23 +6,24 @@ use dashmap_rayon::first_of;
 use std::thread;
 use std::thread::Threads;
 
-/// Visits the items of one piece, in their order.
-fn in_piece<T, D, F: Fn(&T, &mut D)>(
-    items: &[T],
-    pieces: usize,
-    number: usize,
-    party: &mut D,
-    f: &F,
-)
-    requires within { number < pieces }
-    requires callable { F.IsAlwaysCallable f.now }
-    ensures { All (VisitsBy F.Fn f.now) (piece items.now pieces number) }
+/// The items of a piece.
+fn items_of<T>(items: &[T], pieces: usize, number: usize) -> &[T]
+    requires { number < pieces }
+    ensures { result.now ≡ piece items.now pieces number }
 {
     let from = first_of(items.len(), pieces, number);
     let to = first_of(items.len(), pieces, number + 1);
     let (_, rest) = items.split_at(from);
     let (mine, _) = rest.split_at(to - from);
-    for item in mine {
+    mine
+}
+
+/// Visits items, one after another.
+fn visit_all<T, D, F: Fn(&T, &mut D)>(items: &[T], party: &mut D, f: &F)
+    requires { F.IsAlwaysCallable f.now }
+    ensures { All (VisitsBy F.Fn f.now) items.now }
+{
+    for item in items {
         f(item, party);
     }
 }
@@ -42,6 +43,6 @@ pub(crate) fn in_pieces<R: Threads + Sync, T: Sync, D: Send, F: Fn(&T, &mut D) +
     let part = |number: usize, party: &mut D|
         requires { (number < pieces) × F.IsAlwaysCallable f.now }
         ensures { All (VisitsBy F.Fn f.entry.now) (piece items.entry.now pieces number) }
-    { in_piece(items, pieces, number, party, f) };
+    { visit_all(items_of(items, pieces, number), party, f) };
     thread::for_each_mut(rt, parties, pieces, &part);
 }
