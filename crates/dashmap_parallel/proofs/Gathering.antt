@@ -13,8 +13,8 @@ use Rattle.dashmap_table.specs.Table.{Table}
 use Rattle.dashmap_parallel.specs.Visits.{MadeOf, MadeInPieces, WhileShared, GatheredFrom}
 
 -- two lists, each put together of others, one behind another
-put-both : {X : Type 0} (xs ys : List X) (as bs : List (List X)) → xs ≡ flat_map (λ l. l) as → ys ≡ flat_map (λ l. l) bs → xs ++ ys ≡ flat_map (λ l. l) (as ++ bs)
-put-both xs ys as bs p q = ap (λ z. z ++ ys) p ∙ ap (λ z. flat_map (λ l. l) as ++ z) q ∙ sym (flat_map-append as bs)
+put-both : {X : Type 0} (xs ys : List X) (front back : List (List X)) → xs ≡ flat_map (λ l. l) front → ys ≡ flat_map (λ l. l) back → xs ++ ys ≡ flat_map (λ l. l) (front ++ back)
+put-both xs ys front back p q = ap (λ z. z ++ ys) p ∙ ap (λ z. flat_map (λ l. l) front ++ z) q ∙ sym (flat_map-append front back)
 
 module _ {F X D T B E : Type 0} (g : Shared F (Bor (List X) × (MutBor D × Unit {0})) (Result (Vec T B) E × (MutBor D × Unit {0}))) (f : F) where
   pub made-one : (xs : List X) (all : List T) → MadeOf g f xs all → MadeInPieces g f xs all

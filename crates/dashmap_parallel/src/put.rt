@@ -73,11 +73,7 @@ pub(crate) fn put_each<
     S: BuildHasher,
     Q: RawRwLock,
     A: Allocator + Clone,
->(
-    map: &DashMap<K, V, S, Q, A>,
-    td: &mut Q::Party,
-    pairs: Vec<(K, V), A>,
-) -> Result<(), NoMemory>
+>(map: &DashMap<K, V, S, Q, A>, td: &mut Q::Party, pairs: Vec<(K, V), A>) -> Result<(), NoMemory>
 where
     Q::Runtime: Wait,
     ensures { MatchResult result

@@ -93,7 +93,11 @@ fn nobodys_data_is_refused(rt: HostRuntime) -> Result<(), Fail> {
     right &= refused == Err(ParExtendFault::NoThreadData);
     right &= map.is_empty(&mut 0);
     right &= ParExtendFault::NoThreadData.code() == 34 && ParExtendFault::NoMemory.code() == 99;
-    let said = format!(in rt.alloc(); "{NoThreadData} {} {}", ParExtendFault::NoThreadData, ParExtendFault::NoMemory)?;
+    let said = format!(in rt.alloc();
+        "{NoThreadData} {} {}",
+        ParExtendFault::NoThreadData,
+        ParExtendFault::NoMemory
+    )?;
     right &= said == "NoThreadData NoThreadData NoMemory";
     assert!(rt; right);
     Ok(())
