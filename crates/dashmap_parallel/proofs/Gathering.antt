@@ -1,11 +1,11 @@
 -- Lists that are gathered lock by lock, and piece by piece.
-use Rattle.std.proofs.Common.{◌≡◌, ℕ, ◌+◌, ◌<◌, List, [], ◌∷◌, ◌++◌, length, get_or, take, refl, sym, ap, ◌∙◌, subst, append-nil, append_assoc}
+use Rattle.std.proofs.Common.{◌≡◌, ℕ, ◌+◌, ◌<◌, List, [], ◌∷◌, ◌++◌, length, get_or, take, map, Ok, IfOk, refl, sym, ap, ◌∙◌, subst, append-nil}
 use Rattle.std.specs.List.{AllZip, flat_map}
 use Rattle.std.specs.declared.result.Result.{Result}
 use Rattle.std.specs.declared.vec.Vec.{Vec}
 use Rattle.std.specs.Borrow.{Bor, MutBor}
 use Rattle.std.proofs.lemmas.List.{take_more}
-use Rattle.rayon.proofs.ListFacts.{AllZip-append, AllZip-weaken, flat_map-append}
+use Rattle.rayon.proofs.ListFacts.{AllZip-append, flat_map-append}
 use denote.Param.Members.{Shared}
 use Rattle.crossbeam_utils.specs.declared.cache_padded.CachePadded.{CachePadded}
 use Rattle.crossbeam_utils.specs.Padded.{padded_value}
@@ -16,18 +16,12 @@ use Rattle.dashmap_parallel.specs.Visits.{MadeOf, MadeInPieces, WhileShared, Gat
 put-both : {X : Type 0} (xs ys : List X) (front back : List (List X)) → xs ≡ flat_map (λ l. l) front → ys ≡ flat_map (λ l. l) back → xs ++ ys ≡ flat_map (λ l. l) (front ++ back)
 put-both xs ys front back p q = ap (λ z. z ++ ys) p ∙ ap (λ z. flat_map (λ l. l) front ++ z) q ∙ sym (flat_map-append front back)
 
-module _ {F X D T B E : Type 0} (g : Shared F (Bor (List X) × (MutBor D × Unit {0})) (Result (Vec T B) E × (MutBor D × Unit {0}))) (f : F) where
-  pub made-one : (xs : List X) (all : List T) → MadeOf g f xs all → MadeInPieces g f xs all
-  made-one xs all m = (xs ∷ [], all ∷ [], (m, tt), sym (append-nil xs), sym (append-nil all))
+module _ {F X D U : Type 0} (g : Shared F (Bor (List X) × (MutBor D × Unit {0})) (U × (MutBor D × Unit {0}))) (f : F) where
+  pub made-one : (xs : List X) (made : U) (all : List U) → all ≡ made ∷ [] → MadeOf g f xs made → MadeInPieces g f xs all
+  made-one xs made all is m = subst (MadeInPieces g f xs) (sym is) (xs ∷ [], (m, tt), sym (append-nil xs))
 
-  pub made-both : (xs ys : List X) (all more : List T) → MadeInPieces g f xs all → MadeInPieces g f ys more → MadeInPieces g f (xs ++ ys) (all ++ more)
-  made-both xs ys all more h k = (
-    h.0 ++ k.0,
-    h.1 ++ k.1,
-    AllZip-append (MadeOf g f) h.0 k.0 h.1 k.1 h.2 k.2,
-    put-both xs ys h.0 k.0 h.3 k.3,
-    put-both all more h.1 k.1 h.4 k.4,
-  )
+  pub made-both : (xs ys : List X) (all more : List U) → MadeInPieces g f xs all → MadeInPieces g f ys more → MadeInPieces g f (xs ++ ys) (all ++ more)
+  made-both xs ys all more h k = (h.0 ++ k.0, AllZip-append (MadeOf g f) h.0 k.0 all more h.1 k.1, put-both xs ys h.0 k.0 h.2 k.2)
 
 module _ {K V Q T : Type 0} (Token Runtime Party : Type 0) (P : Table K V → List T → Type 0) where
   pub gathered-none : GatheredFrom {Q = Q} Token Runtime Party P [] []
@@ -50,9 +44,20 @@ module _ {K V Q T : Type 0} (Token Runtime Party : Type 0) (P : Table K V → Li
       (gathered-both (take i locks) (lock ∷ []) all part h (part ∷ [], (one, tt), sym (append-nil part)))
 
   -- what was gathered from each piece
-  pub gathered-pieces : (cuts : List (List (CachePadded Q))) (parts : List (List T)) → AllZip (λ cut part. GatheredFrom Token Runtime Party P cut part) cuts parts
-      → GatheredFrom Token Runtime Party P (flat_map (λ l. l) cuts) (flat_map (λ l. l) parts)
+  pub gathered-pieces : {B : Type 0} (cuts : List (List (CachePadded Q))) (lists : List (Vec T B)) → AllZip (λ cut list. GatheredFrom Token Runtime Party P cut list.items) cuts lists
+      → GatheredFrom Token Runtime Party P (flat_map (λ l. l) cuts) (flat_map (λ v. v.items) lists)
   gathered-pieces [] [] h = gathered-none
-  gathered-pieces [] (part ∷ parts) h = absurd h
+  gathered-pieces [] (list ∷ lists) h = absurd h
   gathered-pieces (cut ∷ cuts) [] h = absurd h
-  gathered-pieces (cut ∷ cuts) (part ∷ parts) h = gathered-both cut (flat_map (λ l. l) cuts) part (flat_map (λ l. l) parts) h.0 (gathered-pieces cuts parts h.1)
+  gathered-pieces (cut ∷ cuts) (list ∷ lists) h = gathered-both cut (flat_map (λ l. l) cuts) list.items (flat_map (λ v. v.items) lists) h.0 (gathered-pieces cuts lists h.1)
+
+-- what is known of each of some answers is known of the list in it, where none is a refusal
+pub all-ok : {X T B E : Type 0} (R : X → Vec T B → Type 0) (xs : List X) (answers : List (Result (Vec T B) E)) (lists : List (Vec T B)) → answers ≡ map Ok lists
+    → AllZip (λ x r. IfOk r (R x)) xs answers → AllZip R xs lists
+all-ok {X} {T} {B} {E} R xs answers lists is h = each xs lists (subst (AllZip (λ x r. IfOk r (R x)) xs) is h)
+  where
+    each : (xs : List X) (lists : List (Vec T B)) → AllZip (λ (x : X) (r : Result (Vec T B) E). IfOk r (R x)) xs (map Ok lists) → AllZip R xs lists
+    each [] [] h = tt
+    each [] (l ∷ ls) h = absurd h
+    each (x ∷ xs) [] h = absurd h
+    each (x ∷ xs) (l ∷ ls) h = (h.0, each xs ls h.1)

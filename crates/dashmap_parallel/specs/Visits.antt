@@ -1,8 +1,6 @@
 -- What is visited, by whom, and what a visitor of a lock finds behind it.
-use Rattle.std.specs.Prelude.{◌≡◌, ℕ, ◌+◌, ◌-◌, List, length, take, drop, Ok}
+use Rattle.std.specs.Prelude.{◌≡◌, ℕ, ◌+◌, ◌-◌, List, length, take, drop}
 use Rattle.std.specs.List.{AllZip, flat_map}
-use Rattle.std.specs.declared.result.Result.{Result}
-use Rattle.std.specs.declared.vec.Vec.{Vec}
 use Rattle.std.specs.Borrow.{Bor, MutBor}
 use Rattle.std.specs.Fn.{FnReturns}
 use Rattle.std.specs.Sync.RwLock.{read_guard_value}
@@ -28,20 +26,18 @@ abbrev pub piece : {X : Type 0} → List X → ℕ → ℕ → List X
 piece xs pieces number =
     take (first_shard (length xs) pieces (number + 1) - first_shard (length xs) pieces number) (drop (first_shard (length xs) pieces number) xs)
 
-module _ {F X D T B E : Type 0} (g : Shared F (Bor (List X) × (MutBor D × Unit {0})) (Result (Vec T B) E × (MutBor D × Unit {0}))) (f : F) where
-  -- f, called at a `&` to a piece and somebody's own, made this list
-  pub record MadeOf (cut : List X) (part : List T) : Type 0 where
+module _ {F X D U : Type 0} (g : Shared F (Bor (List X) × (MutBor D × Unit {0})) (U × (MutBor D × Unit {0}))) (f : F) where
+  -- f, called at a `&` to a piece and somebody's own, made this of it
+  pub record MadeOf (cut : List X) (made : U) : Type 0 where
     pub items : Bor (List X)
     pub shows : items.now ≡ cut
     pub party : MutBor D
     pub left : MutBor D
-    pub list : Vec T B
-    pub says : FnReturns g f (items, (party, tt)) (Ok list, (left, tt))
-    pub has : list.items ≡ part
+    pub says : FnReturns g f (items, (party, tt)) (made, (left, tt))
 
-  -- some items are cut into pieces, f made a list of each, and these lists put one behind another are all
-  abbrev pub MadeInPieces : List X → List T → Type 0
-  MadeInPieces xs all = (cuts : List (List X)) × (parts : List (List T)) × AllZip MadeOf cuts parts × (xs ≡ flat_map (λ l. l) cuts) × (all ≡ flat_map (λ l. l) parts)
+  -- some items are cut into pieces, and f made these of them, in order
+  abbrev pub MadeInPieces : List X → List U → Type 0
+  MadeInPieces xs all = (cuts : List (List X)) × AllZip MadeOf cuts all × (xs ≡ flat_map (λ l. l) cuts)
 
 module _ {K V Q : Type 0} (Token Runtime Party : Type 0) where
   -- there was a shared hold of a lock, and P holds of the shard that it lent

@@ -94,7 +94,10 @@ where
         rt: &R,
         pairs: Vec<(K, V), A>,
         tds: &mut [Q::Party],
-    ) -> Result<(), ParExtendFault> {
+    ) -> Result<(), ParExtendFault>
+        ensures threads { MatchResult result (λ _. 0 < length tds.old) (λ fault. (fault ≡ ParExtendFault.NoThreadData) ↔ (length tds.old ≡ 0)) }
+        ensures put { OnOk result (All (WasPut K.eq S.BuildHasher S.Hasher.Hasher K.hash_input Q.ExclusiveGuard Q.Runtime Q.Party self.now) pairs.items) }
+    {
         if tds.is_empty() {
             return Err(ParExtendFault::NoThreadData);
         }

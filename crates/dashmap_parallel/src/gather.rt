@@ -48,10 +48,10 @@ where
 }
 
 /// One list behind another, unless one of them is a refusal.
-fn one_after<T: Drop, B: Allocator>(
-    first: Result<Vec<T, B>, NoMemory>,
-    second: Result<Vec<T, B>, NoMemory>,
-) -> Result<Vec<T, B>, NoMemory>
+fn one_after<U: Drop, B: Allocator>(
+    first: Result<Vec<U, B>, NoMemory>,
+    second: Result<Vec<U, B>, NoMemory>,
+) -> Result<Vec<U, B>, NoMemory>
     ensures { IfOk result (λ all. IfOk first (λ v. IfOk second (λ w. all.items ≡ v.items ++ w.items))) }
 {
     let mut all = first?;
@@ -60,36 +60,45 @@ fn one_after<T: Drop, B: Allocator>(
     Ok(all)
 }
 
-/// What a closure makes of some items, cut into pieces that go side by side, one for each party, contiguous, and the larger ones first.
-/// The lists that it makes stand one behind another.
+/// What a closure makes of each piece of some items, in order. Pieces go side by side, one for each party, contiguous, and the larger ones
+/// first.
 #[cycle(halves)]
 pub(crate) fn made_in_pieces<
     R: Threads + Sync,
     X: Sync,
     D: Send,
-    T: Send + Drop,
-    B: Allocator + Send,
-    F: Fn(&[X], &mut D) -> Result<Vec<T, B>, NoMemory> + Sync,
->(rt: &R, items: &[X], parties: &mut [D], f: &F) -> Result<Vec<T, B>, NoMemory>
+    U: Send + Drop,
+    B: Allocator + Clone + Send,
+    F: Fn(&[X], &mut D) -> U + Sync,
+>(
+    rt: &R,
+    items: &[X],
+    parties: &mut [D],
+    alloc: B,
+    f: &F,
+) -> Result<Vec<U, B>, NoMemory>
     requires some { 0 < length parties.old }
     requires callable { F.IsAlwaysCallable f.now }
     ensures { IfOk result (λ v. MadeInPieces F.Fn f.now items.now v.items) }
 {
     let pieces = parties.len();
     if pieces == 1 {
-        return f(items, &mut parties[0]);
+        let mut one = Vec::new(alloc);
+        one.push(f(items, &mut parties[0]))?;
+        return Ok(one);
     }
     let half = pieces - pieces / 2;
     let (here, there) = items.split_at(first_of(items.len(), pieces, half));
     let (mine, yours) = parties.split_at_mut(half);
-    let front = || -> Result<Vec<T, B>, NoMemory>
-        requires { IsSync R.row × IsSync X.row × IsSync F.row × IsSend D.row × IsSend T.row × IsSend B.row × Frees B.Allocator B.dealloc_token × (0 < length mine.now) × F.IsAlwaysCallable f.now }
+    let theirs = alloc.clone()?;
+    let front = || -> Result<Vec<U, B>, NoMemory>
+        requires { IsSync R.row × IsSync X.row × IsSync F.row × IsSend D.row × IsSend U.row × IsSend B.row × Frees B.Allocator B.dealloc_token × (0 < length mine.now) × F.IsAlwaysCallable f.now }
         ensures { IfOk result (λ v. MadeInPieces F.Fn f.entry.now here.entry.now v.items) }
-    { made_in_pieces(rt, here, mine, f) };
-    let back = || -> Result<Vec<T, B>, NoMemory>
-        requires { IsSync R.row × IsSync X.row × IsSync F.row × IsSend D.row × IsSend T.row × IsSend B.row × Frees B.Allocator B.dealloc_token × (0 < length yours.now) × F.IsAlwaysCallable f.now }
+    { made_in_pieces(rt, here, mine, alloc, f) };
+    let back = || -> Result<Vec<U, B>, NoMemory>
+        requires { IsSync R.row × IsSync X.row × IsSync F.row × IsSend D.row × IsSend U.row × IsSend B.row × Frees B.Allocator B.dealloc_token × (0 < length yours.now) × F.IsAlwaysCallable f.now }
         ensures { IfOk result (λ v. MadeInPieces F.Fn f.entry.now there.entry.now v.items) }
-    { made_in_pieces(rt, there, yours, f) };
+    { made_in_pieces(rt, there, yours, theirs, f) };
     let (first, second) = thread::join(rt, front, back);
     one_after(first, second)
 }

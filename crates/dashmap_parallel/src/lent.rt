@@ -10,6 +10,7 @@ use crate::behind::visit_behind;
 use crate::gather::{answers_in_piece, made_in_pieces};
 use crate::pieces::in_pieces;
 use crossbeam_utils::CachePadded;
+use dashmap_rayon::join::joined;
 use dashmap_table::{NoMemory, Shard};
 use lock_api_raw::RawRwLock;
 use lock_api_rw::RwLock;
@@ -99,17 +100,11 @@ where
         let SharedIter { locks, parties } = self;
         let f = &f;
         let alloc = &alloc;
-        made_in_pieces(
-            rt,
-            locks,
-            parties,
-            &|locks: &[CachePadded<RwLock<Q, Shard<K, V, A>>>], td: &mut Q::Party| -> Result<
-                Vec<T, B>,
-                NoMemory,
-            >
-                requires { F.IsAlwaysCallable f.now }
-                ensures { IfOk result (λ v. GatheredFrom Q.SharedGuard Q.Runtime Q.Party (λ table. AllZip (AnswersOf F.Fn f.entry.now) (pairs_of table.slots)) locks.now v.items) }
-            { answers_in_piece(locks, td, f, alloc) },
-        )
+        let part = |locks: &[CachePadded<RwLock<Q, Shard<K, V, A>>>], td: &mut Q::Party| -> Result<Vec<T, B>, NoMemory>
+            requires { F.IsAlwaysCallable f.now }
+            ensures { IfOk result (λ v. GatheredFrom Q.SharedGuard Q.Runtime Q.Party (λ table. AllZip (AnswersOf F.Fn f.entry.now) (pairs_of table.slots)) locks.now v.items) }
+        { answers_in_piece(locks, td, f, alloc) };
+        let lists = made_in_pieces(rt, locks, parties, alloc.clone()?, &part)?;
+        joined(lists, alloc.clone()?)
     }
 }

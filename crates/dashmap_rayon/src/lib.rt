@@ -4,7 +4,7 @@
 //! that starts threads, at the call that does the work.
 #![tactic(auto)]
 
-mod join;
+pub mod join;
 mod lent;
 mod owned;
 mod pieces;
