@@ -2,7 +2,7 @@
 use Rattle.std.proofs.Common.{◌≡◌, ℕ, zero, suc, ◌+◌, ◌-◌, ◌*◌, ◌/◌, ◌%◌, ◌<◌, ◌≤◌, List, [], ◌∷◌, ◌++◌, length, take, drop, refl, sym, ap, ◌∙◌, subst, inl, inr, arith}
 use Rattle.std.specs.Prelude.{All, min}
 use Rattle.std.proofs.Math.Nat.{min-le_left, min-le_right, le-min, div-add-mod}
-use Rattle.std.proofs.lemmas.Nat.{div_below, mod_below}
+use Rattle.std.proofs.lemmas.Nat.{div_below}
 use Rattle.std.proofs.lemmas.Bool.{cases_lt}
 use Rattle.std.proofs.lemmas.List.Elements.{All-nil, All-append}
 use Rattle.dashmap_rayon.specs.Pieces.{first_shard}
@@ -68,32 +68,9 @@ pub some-of : {X : Type 0} (xs : List X) → 0 < length xs → X
 some-of [] some = absurd (omega (arith, some))
 some-of (x ∷ xs) some = x
 
--- a shard that lies in one of the larger pieces, of e + 1 shards, where r pieces are larger
-module _ (e r x : ℕ) (early : x < r * (e + 1)) where
-  pub early-number : x / (e + 1) < r
-  early-number = div_below x (e + 1) r (omega arith) early
-
-  pub early-first : (x / (e + 1)) * e + min (x / (e + 1)) r ≤ x
-  early-first =
-      let low = min-le_left (x / (e + 1)) r in
-      let all = div-add-mod x (e + 1) in
-      let q = x / (e + 1) in
-      let more : q * (e + 1) ≡ q * e + q = omega arith in
-      omega (arith, low, all, more)
-
-  pub early-last : x < (x / (e + 1) + 1) * e + min (x / (e + 1) + 1) r
-  early-last =
-      let q = x / (e + 1) in
-      let number = early-number in
-      let least : q + 1 ≤ min (q + 1) r = le-min (omega arith) (omega (arith, number)) in
-      let all = div-add-mod x (e + 1) in
-      let more : (q + 1) * e ≡ q * e + e = omega arith in
-      let whole : q * (e + 1) ≡ q * e + q = omega arith in
-      omega (arith, least, all, more, whole)
-
 -- one in a piece of e shards, where s shards are cut into n pieces
 module _ (s n x e r : ℕ) (cut : n * e + r ≡ s) (fewer : r < n) (within : x < s) (late : r * (e + 1) ≤ x) where
-  pub some-each : 0 < e
+  some-each : 0 < e
   some-each = elim (cases_lt 0 e) [
     | inl some ↦ some
     | inr none ↦
@@ -111,22 +88,3 @@ module _ (s n x e r : ℕ) (cut : n * e + r ≡ s) (fewer : r < n) (within : x <
       let below : x - r * (e + 1) < (n - r) * e = omega (arith, whole, more, cut, within, late) in
       let number = div_below (x - r * (e + 1)) e (n - r) some-each below in
       omega (arith, number, fewer)
-
-  pub late-first : (r + (x - r * (e + 1)) / e) * e + min (r + (x - r * (e + 1)) / e) r ≤ x
-  late-first =
-      let q = (x - r * (e + 1)) / e in
-      let low = min-le_right (r + q) r in
-      let all = div-add-mod (x - r * (e + 1)) e in
-      let more : r * (e + 1) ≡ r * e + r = omega arith in
-      let both : (r + q) * e ≡ r * e + e * q = omega arith in
-      omega (arith, low, all, more, both, late)
-
-  pub late-last : x < (r + (x - r * (e + 1)) / e + 1) * e + min (r + (x - r * (e + 1)) / e + 1) r
-  late-last =
-      let q = (x - r * (e + 1)) / e in
-      let least : r ≤ min (r + q + 1) r = le-min (omega arith) (omega arith) in
-      let all = div-add-mod (x - r * (e + 1)) e in
-      let small : (x - r * (e + 1)) % e < e = mod_below (x - r * (e + 1)) e some-each in
-      let more : r * (e + 1) ≡ r * e + r = omega arith in
-      let both : (r + q + 1) * e ≡ r * e + e * q + e = omega arith in
-      omega (arith, least, all, small, more, both, late)

@@ -8,8 +8,8 @@ use Rattle.std.proofs.lemmas.List.Elements.{All-nil, All-cons, All-head, All-tai
 use Rattle.dashmap_parallel.specs.Puts.{AreDealt}
 use Rattle.dashmap_parallel.proofs.Cutting.{some-of}
 
-module _ {X A : Type 0} (to : X → ℕ) where
-  pub deals-none : (lists : List (Vec X A)) → All (λ l. l.items ≡ []) lists → AreDealt to [] lists
+module _ {X : Type 0} (to : X → ℕ) where
+  pub deals-none : {A : Type 0} (lists : List (Vec X A)) → All (λ l. l.items ≡ []) lists → AreDealt to [] lists
   deals-none lists h = record { below = All-nil (λ x. to x < length lists); each = λ k d lt. h k d lt }
 
   -- what is kept of one item
@@ -20,7 +20,7 @@ module _ {X A : Type 0} (to : X → ℕ) where
   one-elsewhere x k other = cond-false (nat_eq (to x) k) (x ∷ []) [] (ne_eqb (to x) k other)
 
   -- one item more
-  pub deals-one : (xs : List X) (x : X) (lists after : List (Vec X A)) (list : Vec X A) → to x < length lists → after ≡ slice_set lists (to x) list
+  pub deals-one : {A : Type 0} (xs : List X) (x : X) (lists after : List (Vec X A)) (list : Vec X A) → to x < length lists → after ≡ slice_set lists (to x) list
       → ((d : Vec X A) → list.items ≡ (slice_index_or lists (to x) d).items ++ x ∷ []) → AreDealt to xs lists → AreDealt to (xs ++ x ∷ []) after
   deals-one xs x lists after list lt is grown h =
       let long = ap length is ∙ length-set lists (to x) list in
@@ -55,7 +55,7 @@ module _ {X A : Type 0} (to : X → ℕ) where
       (all-kept P n xs (All-tail (λ y. to y < n) x xs below) (λ k lt. kept-rest P (nat_eq (to x) k) x (filter (λ y. nat_eq (to y) k) xs) (h k lt)))
 
   -- what holds of each item of each list holds of each item
-  pub dealt-all : (P : X → Type 0) (xs : List X) (lists : List (Vec X A)) → AreDealt to xs lists → All (λ l. All P l.items) lists → All P xs
+  pub dealt-all : {A : Type 0} (P : X → Type 0) (xs : List X) (lists : List (Vec X A)) → AreDealt to xs lists → All (λ l. All P l.items) lists → All P xs
   dealt-all P xs lists dealt h =
       all-kept P (length lists) xs dealt.below
       (λ k lt. let d = some-of lists (some k lt) in subst (All P) (dealt.each k d lt) (h k d lt))

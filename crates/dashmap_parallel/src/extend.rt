@@ -18,6 +18,19 @@ use std::sync::Wait;
 use std::thread;
 use std::thread::Threads;
 
+/// Gives a closure an item, with the first of some parties.
+fn given_one<D, X, F: Fn(X, &mut D) -> Result<(), NoMemory>>(
+    item: X,
+    parties: &mut [D],
+    f: &F,
+) -> Result<(), NoMemory>
+    requires some { 0 < length parties.old }
+    requires callable { F.IsAlwaysCallable f.now }
+    ensures { OnOk result (WentWell F.Fn f.now item) }
+{
+    f(item, &mut parties[0])
+}
+
 /// Gives a closure each of some items, with a party of its own, all side by side. All are given, also where one is refused.
 #[cycle(gifts)]
 fn given_each<
@@ -38,7 +51,7 @@ fn given_each<
     let last = || -> Result<(), NoMemory>
         requires { (0 < length party.now) × F.IsAlwaysCallable f.now }
         ensures { OnOk result (WentWell F.Fn f.entry.now item) }
-    { f(item, &mut party[0]) };
+    { given_one(item, party, f) };
     let rest = || -> Result<(), NoMemory>
         requires { IsSync R.row × IsSend D.row × IsSend X.row × IsSend A.row × Frees A.Allocator A.dealloc_token × IsSync F.row × (length others.now ≡ length items.items) × F.IsAlwaysCallable f.now }
         ensures { OnOk result (All (WentWell F.Fn f.entry.now) items.items) }
@@ -103,7 +116,7 @@ where
         }
         let lists = dealt(self, pairs, tds.len())?;
         let part = |list: Vec<(K, V), A>, td: &mut Q::Party| -> Result<(), NoMemory>
-            ensures { OnOk result (All (WasPut K.eq S.BuildHasher S.Hasher.Hasher K.hash_input Q.ExclusiveGuard Q.Runtime Q.Party self.now) list.items) }
+            ensures { OnOk result (All (WasPut K.eq S.BuildHasher S.Hasher.Hasher K.hash_input Q.ExclusiveGuard Q.Runtime Q.Party self.entry.now) list.items) }
         { put_each(self, td, list) };
         given_each(rt, lists, tds, &part)?;
         Ok(())

@@ -1,5 +1,6 @@
 //! Answers about the pairs of a shared map, gathered from pieces that go side by side.
-ghost use Rattle.std.specs.Prelude.{◌≡◌, ◌<◌, ◌++◌, length, IfOk};
+ghost use Rattle.std.specs.Prelude.{◌≡◌, ◌<◌, ◌++◌, length, Ok, IfOk};
+ghost use Rattle.std.specs.declared.vec.Vec.{Vec};
 ghost use Rattle.std.specs.List.{AllZip};
 ghost use Rattle.std.specs.Thread.{IsSync, IsSend};
 ghost use denote.Param.Send.{Frees};
@@ -52,7 +53,7 @@ fn one_after<U: Drop, B: Allocator>(
     first: Result<Vec<U, B>, NoMemory>,
     second: Result<Vec<U, B>, NoMemory>,
 ) -> Result<Vec<U, B>, NoMemory>
-    ensures { IfOk result (λ all. IfOk first (λ v. IfOk second (λ w. all.items ≡ v.items ++ w.items))) }
+    ensures { IfOk result (λ all. (v : Vec U B) × (w : Vec U B) × (first ≡ Ok v) × (second ≡ Ok w) × (all.items ≡ v.items ++ w.items)) }
 {
     let mut all = first?;
     let mut rest = second?;
@@ -70,13 +71,7 @@ pub(crate) fn made_in_pieces<
     U: Send + Drop,
     B: Allocator + Clone + Send,
     F: Fn(&[X], &mut D) -> U + Sync,
->(
-    rt: &R,
-    items: &[X],
-    parties: &mut [D],
-    alloc: B,
-    f: &F,
-) -> Result<Vec<U, B>, NoMemory>
+>(rt: &R, items: &[X], parties: &mut [D], alloc: B, f: &F) -> Result<Vec<U, B>, NoMemory>
     requires some { 0 < length parties.old }
     requires callable { F.IsAlwaysCallable f.now }
     ensures { IfOk result (λ v. MadeInPieces F.Fn f.now items.now v.items) }

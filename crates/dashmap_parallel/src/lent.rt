@@ -100,7 +100,10 @@ where
         let SharedIter { locks, parties } = self;
         let f = &f;
         let alloc = &alloc;
-        let part = |locks: &[CachePadded<RwLock<Q, Shard<K, V, A>>>], td: &mut Q::Party| -> Result<Vec<T, B>, NoMemory>
+        let part = |locks: &[CachePadded<RwLock<Q, Shard<K, V, A>>>], td: &mut Q::Party| -> Result<
+            Vec<T, B>,
+            NoMemory,
+        >
             requires { F.IsAlwaysCallable f.now }
             ensures { IfOk result (λ v. GatheredFrom Q.SharedGuard Q.Runtime Q.Party (λ table. AllZip (AnswersOf F.Fn f.entry.now) (pairs_of table.slots)) locks.now v.items) }
         { answers_in_piece(locks, td, f, alloc) };
