@@ -9,9 +9,6 @@ use Rattle.dashmap_parallel.specs.Puts.{AreDealt}
 use Rattle.dashmap_parallel.proofs.Cutting.{some-of}
 
 module _ {X : Type 0} (to : X → ℕ) where
-  pub deals-none : {A : Type 0} (lists : List (Vec X A)) → All (λ l. l.items ≡ []) lists → AreDealt to [] lists
-  deals-none lists h = record { below = All-nil (λ x. to x < length lists); each = λ k d lt. h k d lt }
-
   -- what is kept of one item
   one-here : (x : X) (k : ℕ) → to x ≡ k → filter (λ y. nat_eq (to y) k) (x ∷ []) ≡ x ∷ []
   one-here x k same = cond-true (nat_eq (to x) k) (x ∷ []) [] (eq-eqb (to x) k same)
@@ -20,7 +17,7 @@ module _ {X : Type 0} (to : X → ℕ) where
   one-elsewhere x k other = cond-false (nat_eq (to x) k) (x ∷ []) [] (ne_eqb (to x) k other)
 
   -- one item more
-  pub deals-one : {A : Type 0} (xs : List X) (x : X) (lists after : List (Vec X A)) (list : Vec X A) → to x < length lists → after ≡ slice_set lists (to x) list
+  deals-one : {A : Type 0} (xs : List X) (x : X) (lists after : List (Vec X A)) (list : Vec X A) → to x < length lists → after ≡ slice_set lists (to x) list
       → ((d : Vec X A) → list.items ≡ (slice_index_or lists (to x) d).items ++ x ∷ []) → AreDealt to xs lists → AreDealt to (xs ++ x ∷ []) after
   deals-one xs x lists after list lt is grown h =
       let long = ap length is ∙ length-set lists (to x) list in
@@ -40,6 +37,13 @@ module _ {X : Type 0} (to : X → ℕ) where
                   ∙ sym (filter-append (λ y. nat_eq (to y) k) xs (x ∷ []))
             ]);
       }
+
+  -- the same, where the list's number was computed
+  pub deals-at : {A : Type 0} (xs : List X) (x : X) (n : ℕ) (lists after : List (Vec X A)) (list : Vec X A) → n ≡ to x → n < length lists → after ≡ slice_set lists n list
+      → ((d : Vec X A) → list.items ≡ (slice_index_or lists n d).items ++ x ∷ []) → AreDealt to xs lists → AreDealt to (xs ++ x ∷ []) after
+  deals-at xs x n lists after list same lt is grown h =
+      deals-one xs x lists after list (subst (λ k. k < length lists) same lt) (subst (λ k. after ≡ slice_set lists k list) same is)
+      (λ d. subst (λ k. list.items ≡ (slice_index_or lists k d).items ++ x ∷ []) same (grown d)) h
 
   -- what holds of what is kept holds of the rest of it
   kept-rest : (P : X → Type 0) (b : Bool) (x : X) (l : List X) → All P (cond b (x ∷ l) l) → All P l

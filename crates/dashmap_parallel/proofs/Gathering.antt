@@ -50,8 +50,9 @@ module _ {F X D U : Type 0} (g : Shared F (Bor (List X) × (MutBor D × Unit {0}
   made-joined (Err e) first second xs here there cut h one two = tt
 
 module _ {K V Q T : Type 0} (Token Runtime Party : Type 0) (P : Table K V → List T → Type 0) where
-  pub gathered-none : GatheredFrom {Q = Q} Token Runtime Party P [] []
-  gathered-none = ([], tt, refl)
+  pub gathered-none : (locks : List (CachePadded Q)) (all : List T) → locks ≡ [] → all ≡ [] → GatheredFrom Token Runtime Party P locks all
+  gathered-none locks all none empty =
+      subst (λ (ls : List (CachePadded Q)). GatheredFrom {Q = Q} Token Runtime Party P ls all) (sym none) (subst (λ l. GatheredFrom {Q = Q} Token Runtime Party P [] l) (sym empty) ([], tt, refl))
 
   pub gathered-both : (xs ys : List (CachePadded Q)) (all more : List T) → GatheredFrom Token Runtime Party P xs all → GatheredFrom Token Runtime Party P ys more
       → GatheredFrom Token Runtime Party P (xs ++ ys) (all ++ more)
@@ -72,7 +73,7 @@ module _ {K V Q T : Type 0} (Token Runtime Party : Type 0) (P : Table K V → Li
   -- what was gathered from each piece
   pub gathered-pieces : {B : Type 0} (cuts : List (List (CachePadded Q))) (lists : List (Vec T B)) → AllZip (λ cut list. GatheredFrom Token Runtime Party P cut list.items) cuts lists
       → GatheredFrom Token Runtime Party P (flat_map (λ l. l) cuts) (flat_map (λ v. v.items) lists)
-  gathered-pieces [] [] h = gathered-none
+  gathered-pieces [] [] h = gathered-none [] [] refl refl
   gathered-pieces [] (list ∷ lists) h = absurd h
   gathered-pieces (cut ∷ cuts) [] h = absurd h
   gathered-pieces (cut ∷ cuts) (list ∷ lists) h = gathered-both cut (flat_map (λ l. l) cuts) list.items (flat_map (λ v. v.items) lists) h.0 (gathered-pieces cuts lists h.1)

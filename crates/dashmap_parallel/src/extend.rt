@@ -61,6 +61,33 @@ fn given_each<
     last
 }
 
+/// Puts pairs in, each by the piece of its shard.
+fn put_in_pieces<
+    R: Threads + Sync,
+    K: Eq + Hash + Drop + Send + Sync,
+    V: Drop + Send + Sync,
+    S: BuildHasher + Sync,
+    Q: RawRwLock + Sync,
+    A: Allocator + Clone + Send + Sync,
+>(
+    rt: &R,
+    map: &DashMap<K, V, S, Q, A>,
+    pairs: Vec<(K, V), A>,
+    tds: &mut [Q::Party],
+) -> Result<(), NoMemory>
+where
+    Q::Runtime: Wait,
+    Q::Party: Send,
+    requires { 0 < length tds.old }
+    ensures { OnOk result (All (WasPut K.eq S.BuildHasher S.Hasher.Hasher K.hash_input Q.ExclusiveGuard Q.Runtime Q.Party map.now) pairs.items) }
+{
+    let lists = dealt(map, pairs, tds.len())?;
+    let part = |list: Vec<(K, V), A>, td: &mut Q::Party| -> Result<(), NoMemory>
+        ensures { OnOk result (All (WasPut K.eq S.BuildHasher S.Hasher.Hasher K.hash_input Q.ExclusiveGuard Q.Runtime Q.Party map.entry.now) list.items) }
+    { put_each(map, td, list) };
+    given_each(rt, lists, tds, &part)
+}
+
 /// Extension of a shared map by several threads. It is a method by this trait, which has to be in scope.
 ///
 /// ```text
@@ -114,11 +141,7 @@ where
         if tds.is_empty() {
             return Err(ParExtendFault::NoThreadData);
         }
-        let lists = dealt(self, pairs, tds.len())?;
-        let part = |list: Vec<(K, V), A>, td: &mut Q::Party| -> Result<(), NoMemory>
-            ensures { OnOk result (All (WasPut K.eq S.BuildHasher S.Hasher.Hasher K.hash_input Q.ExclusiveGuard Q.Runtime Q.Party self.entry.now) list.items) }
-        { put_each(self, td, list) };
-        given_each(rt, lists, tds, &part)?;
+        put_in_pieces(rt, self, pairs, tds)?;
         Ok(())
     }
 }
