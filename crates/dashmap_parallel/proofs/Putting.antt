@@ -1,5 +1,5 @@
 -- Where a pair is put, and up to which pair.
-use Rattle.std.proofs.Common.{◌≡◌, ℕ, ◌+◌, ◌<◌, Bool, List, ◌∷◌, ◌++◌, length, Some, Ok, Err, OnOk, slice_get, get_or, take, drop, sym, ap, ◌∙◌, subst}
+use Rattle.std.proofs.Common.{◌≡◌, ℕ, ◌+◌, ◌<◌, Bool, List, ◌∷◌, ◌++◌, length, Some, Ok, Err, OnOk, MatchResult, slice_get, get_or, take, drop, sym, ap, ◌∙◌, subst}
 use Rattle.std.specs.Option.{option_map}
 use Rattle.std.specs.Borrow.{MutBor}
 use Rattle.std.specs.Fn.{FnReturns}
@@ -44,3 +44,14 @@ pub went : {F X D E : Type 0} (g : Shared F (X × (MutBor D × Unit {0})) (Resul
     → FnReturns g f (x, (party, tt)) (r, (left, tt)) → OnOk r (WentWell g f x)
 went g f x party left (Ok u) says = record { party = party; left = left; says = says }
 went g f x party left (Err e) says = tt
+
+-- what is answered at a refusal
+pub at-refusal : {T E : Type 0} (r : Result T E) (P Q : Type 0) (e : E) → r ≡ Err e → Q → MatchResult r (λ _. P) (λ _. Q)
+at-refusal {T} {E} r P Q e is h = subst (λ (z : Result T E). MatchResult z (λ _. P) (λ _. Q)) (sym is) h
+
+-- a map's locks and its hasher are what contracts see of it
+abbrev made : {Q S : Type 0} → List (CachePadded Q) → S → Locked Q S
+made locks hasher = record { locks = locks; hasher = hasher }
+
+pub same-locked : {Q S : Type 0} (m : Locked Q S) (locks : List (CachePadded Q)) (hasher : S) → locks ≡ m.locks → hasher ≡ m.hasher → m ≡ record { locks = locks; hasher = hasher }
+same-locked m locks hasher same hashed = ap (λ h. made m.locks h) (sym hashed) ∙ ap (λ l. made l hasher) (sym same)

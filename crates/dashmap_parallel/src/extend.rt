@@ -3,6 +3,7 @@ ghost use Rattle.std.specs.Prelude.{◌≡◌, ◌<◌, ◌↔◌, length, All, 
 ghost use Rattle.std.specs.Thread.{IsSync, IsSend};
 ghost use denote.Param.Send.{Frees};
 ghost use Rattle.dashmap_map.specs.Locked.{Locked};
+ghost use Rattle.dashmap_table.specs.Route.{IsShardAmount};
 ghost use Rattle.dashmap_parallel.specs.declared.fault.ParExtendFault.{ParExtendFault};
 ghost use Rattle.dashmap_parallel.specs.Puts.{WentWell, WasPut};
 
@@ -82,9 +83,11 @@ where
     ensures { OnOk result (All (WasPut K.eq S.BuildHasher S.Hasher.Hasher K.hash_input Q.ExclusiveGuard Q.Runtime Q.Party map.now) pairs.items) }
 {
     let lists = dealt(map, pairs, tds.len())?;
+    let (locks, hasher) = (map.shard_locks(), map.hasher());
     let part = |list: Vec<(K, V), A>, td: &mut Q::Party| -> Result<(), NoMemory>
-        ensures { OnOk result (All (WasPut K.eq S.BuildHasher S.Hasher.Hasher K.hash_input Q.ExclusiveGuard Q.Runtime Q.Party map.entry.now) list.items) }
-    { put_each(map, td, list) };
+        requires { IsShardAmount (length locks.now) }
+        ensures { OnOk result (All (WasPut K.eq S.BuildHasher S.Hasher.Hasher K.hash_input Q.ExclusiveGuard Q.Runtime Q.Party (record { locks = locks.entry.now; hasher = hasher.entry.now })) list.items) }
+    { put_each(locks, hasher, td, list) };
     given_each(rt, lists, tds, &part)
 }
 

@@ -2,14 +2,14 @@
 ghost use Rattle.std.specs.Prelude.{◌≡◌, ◌<◌, Some, length, slice_get, All, MatchResult};
 ghost use Rattle.std.specs.Option.{option_map};
 ghost use Rattle.crossbeam_utils.specs.Padded.{padded_value};
+ghost use Rattle.dashmap_table.specs.Route.{IsShardAmount};
 ghost use Rattle.dashmap_table.specs.Table.{PutsIn};
 ghost use Rattle.dashmap_walks.specs.Held.{WhileHeld};
 ghost use Rattle.dashmap_parallel.specs.Puts.{FindsNoRoom, WasPut, WasRefused, PutUpTo};
 
 use crossbeam_utils::CachePadded;
-use dashmap_map::DashMap;
 use dashmap_map::held::insert_into;
-use dashmap_table::{NoMemory, Shard};
+use dashmap_table::{NoMemory, Shard, route};
 use lock_api_raw::RawRwLock;
 use lock_api_rw::RwLock;
 use std::alloc::Allocator;
@@ -48,22 +48,24 @@ fn lock_behind<K: Eq + Hash, V, Q, A: Allocator>(
     &*locks[shard]
 }
 
-/// Puts a pair into its shard.
+/// Puts a pair into its shard, of a map with these locks and this hasher.
 fn put_one<K: Eq + Hash + Drop, V: Drop, S: BuildHasher, Q: RawRwLock, A: Allocator + Clone>(
-    map: &DashMap<K, V, S, Q, A>,
+    locks: &[CachePadded<RwLock<Q, Shard<K, V, A>>>],
+    hasher: &S,
     td: &mut Q::Party,
     key: K,
     value: V,
 ) -> Result<(), NoMemory>
 where
     Q::Runtime: Wait,
+    requires { IsShardAmount (length locks.now) }
     ensures { MatchResult result
-        (λ _. WasPut K.eq S.BuildHasher S.Hasher.Hasher K.hash_input Q.ExclusiveGuard Q.Runtime Q.Party map.now (key, value))
-        (λ _. WasRefused K.eq S.BuildHasher S.Hasher.Hasher K.hash_input Q.ExclusiveGuard Q.Runtime Q.Party map.now (key, value)) }
+        (λ _. WasPut K.eq S.BuildHasher S.Hasher.Hasher K.hash_input Q.ExclusiveGuard Q.Runtime Q.Party (record { locks = locks.now; hasher = hasher.now }) (key, value))
+        (λ _. WasRefused K.eq S.BuildHasher S.Hasher.Hasher K.hash_input Q.ExclusiveGuard Q.Runtime Q.Party (record { locks = locks.now; hasher = hasher.now }) (key, value)) }
 {
-    let hash = map.hash_usize(&key);
-    let lock = lock_behind(map.shard_locks(), map.determine_shard(hash));
-    put_behind(lock, td, hash as u64, key, value)
+    let hash = hasher.hash_one(&key);
+    let shard = route(hash, locks.len());
+    put_behind(lock_behind(locks, shard), td, hash, key, value)
 }
 
 /// Puts pairs in, one after another, up to the first that is refused.
@@ -73,15 +75,21 @@ pub(crate) fn put_each<
     S: BuildHasher,
     Q: RawRwLock,
     A: Allocator + Clone,
->(map: &DashMap<K, V, S, Q, A>, td: &mut Q::Party, pairs: Vec<(K, V), A>) -> Result<(), NoMemory>
+>(
+    locks: &[CachePadded<RwLock<Q, Shard<K, V, A>>>],
+    hasher: &S,
+    td: &mut Q::Party,
+    pairs: Vec<(K, V), A>,
+) -> Result<(), NoMemory>
 where
     Q::Runtime: Wait,
+    requires { IsShardAmount (length locks.now) }
     ensures { MatchResult result
-        (λ _. All (WasPut K.eq S.BuildHasher S.Hasher.Hasher K.hash_input Q.ExclusiveGuard Q.Runtime Q.Party map.now) pairs.items)
-        (λ _. PutUpTo K.eq S.BuildHasher S.Hasher.Hasher K.hash_input Q.ExclusiveGuard Q.Runtime Q.Party map.now pairs.items) }
+        (λ _. All (WasPut K.eq S.BuildHasher S.Hasher.Hasher K.hash_input Q.ExclusiveGuard Q.Runtime Q.Party (record { locks = locks.now; hasher = hasher.now })) pairs.items)
+        (λ _. PutUpTo K.eq S.BuildHasher S.Hasher.Hasher K.hash_input Q.ExclusiveGuard Q.Runtime Q.Party (record { locks = locks.now; hasher = hasher.now }) pairs.items) }
 {
     for (key, value) in pairs {
-        put_one(map, td, key, value)?;
+        put_one(locks, hasher, td, key, value)?;
     }
     Ok(())
 }
