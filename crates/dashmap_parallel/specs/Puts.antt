@@ -1,5 +1,5 @@
 -- Pairs that are dealt out to pieces, and put into their shards.
-use Rattle.std.specs.Prelude.{◌≡◌, ℕ, ◌+◌, ◌-◌, ◌*◌, ◌/◌, ◌%◌, ◌<◌, ◌≤◌, Bool, if◌then◌else◌, nat_eq, nat_lt, List, ◌∷◌, ◌++◌, length, filter, slice_index_or, All, Some, None, Ok}
+use Rattle.std.specs.Prelude.{◌≡◌, ℕ, ◌+◌, ◌-◌, ◌*◌, ◌/◌, ◌%◌, ◌<◌, ◌≤◌, Bool, if◌then◌else◌, nat_eq, nat_lt, List, ◌∷◌, ◌++◌, length, filter, slice_get, slice_index_or, All, Some, None, Ok}
 use Rattle.std.specs.declared.result.Result.{Result}
 use Rattle.std.specs.declared.vec.Vec.{Vec}
 use Rattle.std.specs.declared.hash.BuildHasher as builder
@@ -8,6 +8,10 @@ use Rattle.std.specs.Hash.{HashWrites}
 use Rattle.std.specs.Borrow.{MutBor}
 use Rattle.std.specs.Fn.{FnReturns}
 use denote.Param.Members.{Shared}
+use Rattle.std.specs.Option.{option_map}
+use Rattle.crossbeam_utils.specs.declared.cache_padded.CachePadded.{CachePadded}
+use Rattle.crossbeam_utils.specs.Padded.{padded_value}
+use Rattle.dashmap_table.specs.Route.{route_of}
 use Rattle.dashmap_table.specs.Slots.{count, slot_of}
 use Rattle.dashmap_table.specs.Table.{Table, PutsIn}
 use Rattle.dashmap_table.specs.Shards.{key_hash}
@@ -36,19 +40,32 @@ pub record FindsNoRoom {K V : Type 0} (eq : K → K → Bool) (old new : Table K
   pub full : old.room ≤ count old.slots
   pub stays : new ≡ old
 
-module _ {K V Q S H : Type 0} (eq : K → K → Bool) (b : builder.Ghosts S H) (h : hasher.Ghosts H) (input : K → HashWrites) (Token Runtime Party : Type 0) where
-  -- there was an exclusive hold of the lock of a key's shard, and P holds of the shard before and after, with the key's hash
-  abbrev pub AtItsShard : Locked Q S → K → (Table K V → Table K V → ℕ → Type 0) → Type 0
-  AtItsShard m k P = (lock : Q) × (lock_of b h input m k ≡ Some lock) × WhileHeld Token Runtime Party lock (λ old new. P old new (key_hash b h input m.hasher k))
+-- the piece of the shard to which a hash leads
+abbrev pub piece_at : {K V : Type 0} → ℕ → ℕ → ℕ × K × V → ℕ
+piece_at shards pieces x = piece_number shards pieces (route_of x.0 shards)
 
-  -- in which a pair was put in
-  abbrev pub WasPut : Locked Q S → K × V → Type 0
-  WasPut m p = AtItsShard m p.0 (λ old new hash. PutsIn eq old new hash p.0 p.1)
+module _ {K V Q : Type 0} (eq : K → K → Bool) (Token Runtime Party : Type 0) where
+  -- there was an exclusive hold of that lock of some shards to which a hash leads, and P holds of the shard before and after
+  abbrev pub AtLockOf : List (CachePadded Q) → ℕ → (Table K V → Table K V → Type 0) → Type 0
+  AtLockOf locks hash P = (lock : Q) × (option_map padded_value (slice_get locks (route_of hash (length locks))) ≡ Some lock) × WhileHeld Token Runtime Party lock P
 
-  -- in which a pair found no room
-  abbrev pub WasRefused : Locked Q S → K × V → Type 0
-  WasRefused m p = AtItsShard m p.0 (λ old new hash. FindsNoRoom eq old new hash p.0)
+  -- in which a pair was put in under its hash
+  abbrev pub PutAt : List (CachePadded Q) → ℕ × K × V → Type 0
+  PutAt locks x = AtLockOf locks x.0 (λ old new. PutsIn eq old new x.0 x.1 x.2)
 
-  -- the first pairs were put in, in their order, and the next one was refused
-  abbrev pub PutUpTo : Locked Q S → List (K × V) → Type 0
-  PutUpTo m ps = (before : List (K × V)) × (p : K × V) × (rest : List (K × V)) × (ps ≡ before ++ p ∷ rest) × All (WasPut m) before × WasRefused m p
+  -- in which it found no room
+  abbrev pub RefusedAt : List (CachePadded Q) → ℕ × K × V → Type 0
+  RefusedAt locks x = AtLockOf locks x.0 (λ old new. FindsNoRoom eq old new x.0 x.1)
+
+  -- the first pairs were put in, in their order, and the next one found no room
+  abbrev pub PutUpTo : List (CachePadded Q) → List (ℕ × K × V) → Type 0
+  PutUpTo locks xs = (before : List (ℕ × K × V)) × (x : ℕ × K × V) × (rest : List (ℕ × K × V)) × (xs ≡ before ++ x ∷ rest) × All (PutAt locks) before × RefusedAt locks x
+
+-- a pair behind the hash of its key
+abbrev pub hashed : {K V S H : Type 0} → builder.Ghosts S H → hasher.Ghosts H → (K → HashWrites) → S → K × V → ℕ × K × V
+hashed b h input s p = (key_hash b h input s p.0, p.0, p.1)
+
+module _ {K V Q S H : Type 0} (b : builder.Ghosts S H) (h : hasher.Ghosts H) (input : K → HashWrites) where
+  -- a pair was put in under an exclusive hold of the lock of its key's shard
+  abbrev pub WasPut : (K → K → Bool) → (Token Runtime Party : Type 0) → Locked Q S → K × V → Type 0
+  WasPut eq Token Runtime Party m p = (lock : Q) × (lock_of b h input m p.0 ≡ Some lock) × WhileHeld Token Runtime Party lock (λ old new. PutsIn eq old new (key_hash b h input m.hasher p.0) p.0 p.1)

@@ -1,9 +1,8 @@
 //! Pairs that are dealt out to the pieces of a map's shards.
-ghost use Rattle.std.specs.Prelude.{◌≡◌, ◌+◌, ◌^◌, ◌<◌, ◌≤◌, [], ◌∷◌, ◌++◌, List, length, slice_index_or, slice_set, All, IfOk, OnOk};
+ghost use Rattle.std.specs.Prelude.{◌≡◌, map as list_map, ◌+◌, ◌^◌, ◌<◌, ◌≤◌, [], ◌∷◌, ◌++◌, List, length, slice_index_or, slice_set, All, IfOk, OnOk};
 ghost use Rattle.std.specs.declared.vec.Vec.{Vec};
-ghost use Rattle.dashmap_map.specs.Locked.{shard_of};
 ghost use Rattle.dashmap_rayon.specs.Pieces.{first_shard};
-ghost use Rattle.dashmap_parallel.specs.Puts.{piece_number, AreDealt};
+ghost use Rattle.dashmap_parallel.specs.Puts.{piece_number, piece_at, hashed, AreDealt};
 
 use dashmap_map::DashMap;
 use dashmap_table::NoMemory;
@@ -56,20 +55,21 @@ fn add_to<T: Drop, A: Allocator>(
     Ok(())
 }
 
-/// Deals pairs out, one after another: each goes to the list of its shard's piece.
+/// Deals pairs out, one after another: each goes to the list of its shard's piece, behind the hash of its key.
 pub(crate) fn dealt<K: Eq + Hash + Drop, V: Drop, S: BuildHasher, Q, A: Allocator + Clone>(
     map: &DashMap<K, V, S, Q, A>,
     pairs: Vec<(K, V), A>,
     pieces: usize,
-) -> Result<Vec<Vec<(K, V), A>, A>, NoMemory>
+) -> Result<Vec<Vec<(u64, K, V), A>, A>, NoMemory>
     requires { 0 < pieces }
-    ensures { IfOk result (λ v. (length v.items ≡ pieces) × AreDealt (λ p. piece_number (length map.now.locks) pieces (shard_of S.BuildHasher S.Hasher.Hasher K.hash_input map.now p.0)) pairs.items v.items) }
+    ensures { IfOk result (λ v. (length v.items ≡ pieces) × AreDealt (piece_at (length map.now.locks) pieces) (list_map (hashed S.BuildHasher S.Hasher.Hasher K.hash_input map.now.hasher) pairs.items) v.items) }
 {
     let shards = map.shard_locks().len();
     let mut lists = empty_lists(map.allocator(), pieces)?;
-    for pair in pairs {
-        let piece = piece_of(shards, pieces, map.determine_map(&pair.0));
-        add_to(&mut lists, piece, pair)?;
+    for (key, value) in pairs {
+        let hash = map.hash_usize(&key);
+        let piece = piece_of(shards, pieces, map.determine_shard(hash));
+        add_to(&mut lists, piece, (hash as u64, key, value))?;
     }
     Ok(lists)
 }

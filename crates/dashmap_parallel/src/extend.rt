@@ -2,10 +2,9 @@
 ghost use Rattle.std.specs.Prelude.{◌≡◌, ◌<◌, ◌↔◌, length, All, OnOk, MatchResult};
 ghost use Rattle.std.specs.Thread.{IsSync, IsSend};
 ghost use denote.Param.Send.{Frees};
-ghost use Rattle.dashmap_map.specs.Locked.{Locked};
 ghost use Rattle.dashmap_table.specs.Route.{IsShardAmount};
 ghost use Rattle.dashmap_parallel.specs.declared.fault.ParExtendFault.{ParExtendFault};
-ghost use Rattle.dashmap_parallel.specs.Puts.{WentWell, WasPut};
+ghost use Rattle.dashmap_parallel.specs.Puts.{WentWell, PutAt, WasPut};
 
 use crate::deal::dealt;
 use crate::fault::ParExtendFault;
@@ -67,7 +66,7 @@ fn put_in_pieces<
     R: Threads + Sync,
     K: Eq + Hash + Drop + Send + Sync,
     V: Drop + Send + Sync,
-    S: BuildHasher + Sync,
+    S: BuildHasher,
     Q: RawRwLock + Sync,
     A: Allocator + Clone + Send + Sync,
 >(
@@ -80,71 +79,49 @@ where
     Q::Runtime: Wait,
     Q::Party: Send,
     requires { 0 < length tds.old }
-    ensures { OnOk result (All (WasPut K.eq S.BuildHasher S.Hasher.Hasher K.hash_input Q.ExclusiveGuard Q.Runtime Q.Party map.now) pairs.items) }
+    ensures { OnOk result (All (WasPut S.BuildHasher S.Hasher.Hasher K.hash_input K.eq Q.ExclusiveGuard Q.Runtime Q.Party map.now) pairs.items) }
 {
     let lists = dealt(map, pairs, tds.len())?;
-    let (locks, hasher) = (map.shard_locks(), map.hasher());
-    let part = |list: Vec<(K, V), A>, td: &mut Q::Party| -> Result<(), NoMemory>
+    let locks = map.shard_locks();
+    let part = |list: Vec<(u64, K, V), A>, td: &mut Q::Party| -> Result<(), NoMemory>
         requires { IsShardAmount (length locks.now) }
-        ensures { OnOk result (All (WasPut K.eq S.BuildHasher S.Hasher.Hasher K.hash_input Q.ExclusiveGuard Q.Runtime Q.Party (record { locks = locks.entry.now; hasher = hasher.entry.now })) list.items) }
-    { put_each(locks, hasher, td, list) };
+        ensures { OnOk result (All (PutAt K.eq Q.ExclusiveGuard Q.Runtime Q.Party locks.entry.now) list.items) }
+    { put_each(locks, td, list) };
     given_each(rt, lists, tds, &part)
 }
 
-/// Extension of a shared map by several threads. It is a method by this trait, which has to be in scope.
+/// Puts pairs into a shared map. Each goes to the piece of its shard, which takes its pairs in their order; pieces go side by side, one for each
+/// thread's data, and shards are cut into them as `par_iter` cuts them.
+///
+/// Refused as `NoThreadData`, where no thread's data was handed in, and nothing is done. Refused as `NoMemory`, where there is no memory to deal
+/// the pairs out, and nothing is put in; or where a shard would have to grow and can't. Then its piece stops, and lets go of what it has left, while
+/// the others go on to their end: what is put in stays.
 ///
 /// ```text
-/// map.par_extend_shared(&rt, pairs, &mut datas)?;
+/// par_extend_shared(&map, &rt, pairs, &mut datas)?;
 /// ```
-pub trait ParallelExtend<K: Eq + Hash, V, S: BuildHasher, Q: RawRwLock, A: Allocator>
-where
-    Q::Runtime: Wait,
-{
-    /// The locks and the hasher of a map.
-    ghost seen: { Self → Locked Q S };
-
-    /// Puts pairs in. Each goes to the piece of its shard, which takes its pairs in their order; pieces go side by side, one for each
-    /// thread's data, and shards are cut into them as `par_iter` cuts them.
-    ///
-    /// Refused as `NoThreadData`, where no thread's data was handed in, and nothing is done. Refused as `NoMemory`, where there is no memory
-    /// to deal the pairs out, and nothing is put in; or where a shard would have to grow and can't. Then its piece stops, and lets go of what it
-    /// has left, while the others go on to their end: what is put in stays.
-    fn par_extend_shared<R: Threads + Sync>(
-        &self,
-        rt: &R,
-        pairs: Vec<(K, V), A>,
-        tds: &mut [Q::Party],
-    ) -> Result<(), ParExtendFault>
-        ensures threads { MatchResult result (λ _. 0 < length tds.old) (λ fault. (fault ≡ ParExtendFault.NoThreadData) ↔ (length tds.old ≡ 0)) }
-        ensures put { OnOk result (All (WasPut K.eq S.BuildHasher S.Hasher.Hasher K.hash_input Q.ExclusiveGuard Q.Runtime Q.Party (seen self.now)) pairs.items) };
-}
-
-impl<
+pub fn par_extend_shared<
+    R: Threads + Sync,
     K: Eq + Hash + Drop + Send + Sync,
     V: Drop + Send + Sync,
-    S: BuildHasher + Sync,
+    S: BuildHasher,
     Q: RawRwLock + Sync,
     A: Allocator + Clone + Send + Sync,
-> ParallelExtend<K, V, S, Q, A> for DashMap<K, V, S, Q, A>
+>(
+    map: &DashMap<K, V, S, Q, A>,
+    rt: &R,
+    pairs: Vec<(K, V), A>,
+    tds: &mut [Q::Party],
+) -> Result<(), ParExtendFault>
 where
     Q::Runtime: Wait,
     Q::Party: Send,
+    ensures threads { MatchResult result (λ _. 0 < length tds.old) (λ fault. (fault ≡ ParExtendFault.NoThreadData) ↔ (length tds.old ≡ 0)) }
+    ensures put { OnOk result (All (WasPut S.BuildHasher S.Hasher.Hasher K.hash_input K.eq Q.ExclusiveGuard Q.Runtime Q.Party map.now) pairs.items) }
 {
-    ghost seen = { λ map. map };
-
-    fn par_extend_shared<R: Threads + Sync>(
-        &self,
-        rt: &R,
-        pairs: Vec<(K, V), A>,
-        tds: &mut [Q::Party],
-    ) -> Result<(), ParExtendFault>
-        ensures threads { MatchResult result (λ _. 0 < length tds.old) (λ fault. (fault ≡ ParExtendFault.NoThreadData) ↔ (length tds.old ≡ 0)) }
-        ensures put { OnOk result (All (WasPut K.eq S.BuildHasher S.Hasher.Hasher K.hash_input Q.ExclusiveGuard Q.Runtime Q.Party self.now) pairs.items) }
-    {
-        if tds.is_empty() {
-            return Err(ParExtendFault::NoThreadData);
-        }
-        put_in_pieces(rt, self, pairs, tds)?;
-        Ok(())
+    if tds.is_empty() {
+        return Err(ParExtendFault::NoThreadData);
     }
+    put_in_pieces(rt, map, pairs, tds)?;
+    Ok(())
 }

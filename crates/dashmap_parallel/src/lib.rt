@@ -14,7 +14,7 @@ mod pieces;
 mod put;
 mod written;
 
-pub use extend::ParallelExtend;
+pub use extend::par_extend_shared;
 pub use fault::{NoThreadData, ParExtendFault};
 pub use lent::SharedIter;
 pub use parallel::ParallelMap;

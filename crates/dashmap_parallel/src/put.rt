@@ -5,7 +5,7 @@ ghost use Rattle.crossbeam_utils.specs.Padded.{padded_value};
 ghost use Rattle.dashmap_table.specs.Route.{IsShardAmount};
 ghost use Rattle.dashmap_table.specs.Table.{PutsIn};
 ghost use Rattle.dashmap_walks.specs.Held.{WhileHeld};
-ghost use Rattle.dashmap_parallel.specs.Puts.{FindsNoRoom, WasPut, WasRefused, PutUpTo};
+ghost use Rattle.dashmap_parallel.specs.Puts.{FindsNoRoom, PutAt, RefusedAt, PutUpTo};
 
 use crossbeam_utils::CachePadded;
 use dashmap_map::held::insert_into;
@@ -13,7 +13,7 @@ use dashmap_table::{NoMemory, Shard, route};
 use lock_api_raw::RawRwLock;
 use lock_api_rw::RwLock;
 use std::alloc::Allocator;
-use std::hash::{BuildHasher, Hash};
+use std::hash::Hash;
 use std::sync::Wait;
 
 /// Puts a pair into the shard behind a lock, under an exclusive hold.
@@ -48,11 +48,11 @@ fn lock_behind<K: Eq + Hash, V, Q, A: Allocator>(
     &*locks[shard]
 }
 
-/// Puts a pair into its shard, of a map with these locks and this hasher.
-fn put_one<K: Eq + Hash + Drop, V: Drop, S: BuildHasher, Q: RawRwLock, A: Allocator + Clone>(
+/// Puts a pair into the shard to which its hash leads.
+fn put_one<K: Eq + Hash + Drop, V: Drop, Q: RawRwLock, A: Allocator + Clone>(
     locks: &[CachePadded<RwLock<Q, Shard<K, V, A>>>],
-    hasher: &S,
     td: &mut Q::Party,
+    hash: u64,
     key: K,
     value: V,
 ) -> Result<(), NoMemory>
@@ -60,36 +60,28 @@ where
     Q::Runtime: Wait,
     requires { IsShardAmount (length locks.now) }
     ensures { MatchResult result
-        (λ _. WasPut K.eq S.BuildHasher S.Hasher.Hasher K.hash_input Q.ExclusiveGuard Q.Runtime Q.Party (record { locks = locks.now; hasher = hasher.now }) (key, value))
-        (λ _. WasRefused K.eq S.BuildHasher S.Hasher.Hasher K.hash_input Q.ExclusiveGuard Q.Runtime Q.Party (record { locks = locks.now; hasher = hasher.now }) (key, value)) }
+        (λ _. PutAt K.eq Q.ExclusiveGuard Q.Runtime Q.Party locks.now (hash, key, value))
+        (λ _. RefusedAt K.eq Q.ExclusiveGuard Q.Runtime Q.Party locks.now (hash, key, value)) }
 {
-    let hash = hasher.hash_one(&key);
     let shard = route(hash, locks.len());
     put_behind(lock_behind(locks, shard), td, hash, key, value)
 }
 
-/// Puts pairs in, one after another, up to the first that is refused.
-pub(crate) fn put_each<
-    K: Eq + Hash + Drop,
-    V: Drop,
-    S: BuildHasher,
-    Q: RawRwLock,
-    A: Allocator + Clone,
->(
+/// Puts pairs in, each behind its hash, one after another, up to the first that is refused.
+pub(crate) fn put_each<K: Eq + Hash + Drop, V: Drop, Q: RawRwLock, A: Allocator + Clone>(
     locks: &[CachePadded<RwLock<Q, Shard<K, V, A>>>],
-    hasher: &S,
     td: &mut Q::Party,
-    pairs: Vec<(K, V), A>,
+    pairs: Vec<(u64, K, V), A>,
 ) -> Result<(), NoMemory>
 where
     Q::Runtime: Wait,
     requires { IsShardAmount (length locks.now) }
     ensures { MatchResult result
-        (λ _. All (WasPut K.eq S.BuildHasher S.Hasher.Hasher K.hash_input Q.ExclusiveGuard Q.Runtime Q.Party (record { locks = locks.now; hasher = hasher.now })) pairs.items)
-        (λ _. PutUpTo K.eq S.BuildHasher S.Hasher.Hasher K.hash_input Q.ExclusiveGuard Q.Runtime Q.Party (record { locks = locks.now; hasher = hasher.now }) pairs.items) }
+        (λ _. All (PutAt K.eq Q.ExclusiveGuard Q.Runtime Q.Party locks.now) pairs.items)
+        (λ _. PutUpTo K.eq Q.ExclusiveGuard Q.Runtime Q.Party locks.now pairs.items) }
 {
-    for (key, value) in pairs {
-        put_one(locks, hasher, td, key, value)?;
+    for (hash, key, value) in pairs {
+        put_one(locks, td, hash, key, value)?;
     }
     Ok(())
 }
