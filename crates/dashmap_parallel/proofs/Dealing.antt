@@ -1,5 +1,5 @@
 -- Items that are dealt out to lists, one after another.
-use Rattle.std.proofs.Common.{◌≡◌, ◌≢◌, ℕ, ◌<◌, Bool, true, false, cond, nat_eq, List, [], ◌∷◌, ◌++◌, length, filter, slice_index_or, slice_set, refl, sym, ap, ◌∙◌, subst, append-nil, inl, inr, eq-eqb, arith}
+use Rattle.std.proofs.Common.{◌≡◌, ℕ, ◌<◌, Bool, true, false, cond, nat_eq, List, [], ◌∷◌, ◌++◌, length, filter, slice_index_or, slice_set, refl, sym, ap, ◌∙◌, subst, append-nil, inl, inr, eq-eqb, arith}
 use Rattle.std.specs.Prelude.{All}
 use Rattle.std.specs.declared.vec.Vec.{Vec}
 use Rattle.std.proofs.lemmas.Bool.{cases_eq, ne_eqb, cond-true, cond-false}

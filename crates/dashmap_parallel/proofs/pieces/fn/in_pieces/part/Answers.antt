@@ -1,4 +1,4 @@
-use Rattle.std.proofs.Common.{sym, subst}
+use Rattle.std.proofs.Common.{subst}
 use Rattle.std.specs.Prelude.{All}
 use Rattle.dashmap_parallel.specs.Visits.{VisitsBy}
 use Rattle.dashmap_parallel.proofs.pieces.fn.in_pieces.part.Goals as goal

@@ -1,4 +1,4 @@
-use Rattle.std.proofs.Common.{subst, sym}
+use Rattle.std.proofs.Common.{subst}
 use Rattle.std.specs.Prelude.{All}
 use Rattle.dashmap_table.specs.Slots.{pairs_of}
 use Rattle.dashmap_rayon.specs.Calls.{AnswersOf}

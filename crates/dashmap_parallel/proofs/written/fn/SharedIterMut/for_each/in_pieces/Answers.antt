@@ -1,4 +1,4 @@
-use Rattle.std.proofs.Common.{subst, sym}
+use Rattle.std.proofs.Common.{subst}
 use Rattle.dashmap_rayon.specs.Calls.{WritesEach}
 use Rattle.dashmap_walks.specs.Held.{WhileHeld}
 use Rattle.dashmap_parallel.proofs.written.fn.SharedIterMut.for_each.in_pieces.Goals as goal
