@@ -2,7 +2,7 @@
 
 use crate::noted::{NotedLock, Numbers};
 use dashmap_map::{DashMap, NewFault};
-use dashmap_parallel::{NoThreadData, ParExtendFault, ParallelExtend, ParallelMap};
+use dashmap_parallel::{NoThreadData, ParExtendFault, ParallelMap, par_extend_shared};
 use std::hash::RandomState;
 use std::sync::atomic::AtomicU64;
 use std::test::Fail;
@@ -58,7 +58,7 @@ fn each_pair_goes_to_its_piece_in_order(rt: HostRuntime) -> Result<(), Fail> {
             .wrapping_mul(10)
             .wrapping_add(shard as u64 + 1);
     }
-    let mut right = map.par_extend_shared(&rt, pairs, &mut parties) == Ok(());
+    let mut right = par_extend_shared(&map, &rt, pairs, &mut parties) == Ok(());
     right &= parties == expected;
     for key in 0..16 {
         right &= map.remove(&key, &mut 0) == Some((key, key * 2));
@@ -74,11 +74,11 @@ fn a_later_pair_of_a_key_replaces_its_value(rt: HostRuntime) -> Result<(), Fail>
     let mut pairs = Vec::new(rt.alloc());
     pairs.push((1, 1))?;
     pairs.push((1, 2))?;
-    let mut right = map.par_extend_shared(&rt, pairs, &mut parties) == Ok(());
+    let mut right = par_extend_shared(&map, &rt, pairs, &mut parties) == Ok(());
     let values = map
         .par_iter(&mut parties)?
         .map_collect(&rt, rt.alloc(), |_: &u64, value: &u64| *value)?;
-    right &= values.as_slice() == [2];
+    right &= values.as_slice() == [2].as_slice();
     assert!(rt; right);
     Ok(())
 }
@@ -89,7 +89,7 @@ fn nobodys_data_is_refused(rt: HostRuntime) -> Result<(), Fail> {
     let refused = map.par_iter(&mut []).err();
     let mut right = refused == Some(NoThreadData) && NoThreadData.code() == 34;
     right &= map.par_iter_mut_shared(&mut []).err() == Some(NoThreadData);
-    let refused = map.par_extend_shared(&rt, doubles(rt, 16)?, &mut []);
+    let refused = par_extend_shared(&map, &rt, doubles(rt, 16)?, &mut []);
     right &= refused == Err(ParExtendFault::NoThreadData);
     right &= map.is_empty(&mut 0);
     right &= ParExtendFault::NoThreadData.code() == 34 && ParExtendFault::NoMemory.code() == 99;
@@ -98,7 +98,7 @@ fn nobodys_data_is_refused(rt: HostRuntime) -> Result<(), Fail> {
         ParExtendFault::NoThreadData,
         ParExtendFault::NoMemory
     )?;
-    right &= said == "NoThreadData NoThreadData NoMemory";
+    right &= said.as_str() == "NoThreadData NoThreadData NoMemory";
     assert!(rt; right);
     Ok(())
 }
