@@ -1,4 +1,4 @@
-//! Lists put one behind another.
+//! Lists put one behind another. For the layer above.
 ghost use Rattle.std.specs.Prelude.{◌≡◌, IfOk};
 ghost use Rattle.dashmap_rayon.specs.Calls.{AreJoined};
 
@@ -6,7 +6,7 @@ use dashmap_table::NoMemory;
 use std::alloc::Allocator;
 
 /// All lists as one, in their order, unless one of them is a refusal.
-pub(crate) fn joined<T: Drop, B: Allocator>(
+pub fn joined<T: Drop, B: Allocator>(
     lists: Vec<Result<Vec<T, B>, NoMemory>, B>,
     alloc: B,
 ) -> Result<Vec<T, B>, NoMemory>

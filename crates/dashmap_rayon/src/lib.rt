@@ -4,12 +4,12 @@
 //! that starts threads, at the call that does the work.
 #![tactic(auto)]
 
-mod join;
+pub mod join;
 mod lent;
 mod owned;
 mod pieces;
 mod view;
-mod visit;
+pub mod visit;
 mod written;
 
 pub use lent::Iter;

@@ -1,4 +1,4 @@
-//! What is done with the pairs of one shard, in the order of its slots.
+//! What is done with the pairs of one shard, in the order of its slots. For the layer above.
 ghost use Rattle.std.specs.Prelude.{◌≡◌, IfOk, IsSome, Some, All};
 ghost use Rattle.std.specs.List.{AllZip};
 ghost use Rattle.std.specs.Option.{option_map};
@@ -26,7 +26,7 @@ fn answer_at<K: Eq + Hash, V, A: Allocator, T, F: Fn(&K, &V) -> T>(
 }
 
 /// What a closure answers of each pair of a shard.
-pub(crate) fn answers_of<K: Eq + Hash, V, A: Allocator, B: Allocator, T: Drop, F: Fn(&K, &V) -> T>(
+pub fn answers_of<K: Eq + Hash, V, A: Allocator, B: Allocator, T: Drop, F: Fn(&K, &V) -> T>(
     shard: &Shard<K, V, A>,
     f: &F,
     alloc: B,
@@ -45,10 +45,7 @@ pub(crate) fn answers_of<K: Eq + Hash, V, A: Allocator, B: Allocator, T: Drop, F
 }
 
 /// Calls a closure once for each pair of a shard.
-pub(crate) fn visit_each<K: Eq + Hash, V, A: Allocator, F: Fn(&K, &V)>(
-    shard: &Shard<K, V, A>,
-    f: &F,
-)
+pub fn visit_each<K: Eq + Hash, V, A: Allocator, F: Fn(&K, &V)>(shard: &Shard<K, V, A>, f: &F)
     requires { F.IsAlwaysCallable f.now }
     ensures { All (λ p. AnswersOf F.Fn f.now p tt) (pairs_of shard.now.slots) }
 {
@@ -116,7 +113,7 @@ fn write_at<K: Eq + Hash, V, A: Allocator, F: Fn(&K, &mut V)>(
 }
 
 /// Lends a closure the value of each pair of a shard for writing.
-pub(crate) fn write_each<K: Eq + Hash, V, A: Allocator, F: Fn(&K, &mut V)>(
+pub fn write_each<K: Eq + Hash, V, A: Allocator, F: Fn(&K, &mut V)>(
     shard: &mut Shard<K, V, A>,
     f: &F,
 )

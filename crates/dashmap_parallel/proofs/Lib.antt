@@ -1,0 +1,4 @@
+mod Cutting
+mod Dealing
+mod Gathering
+mod Putting

@@ -1,0 +1,8 @@
+use Rattle.std.proofs.Common.{subst}
+use Rattle.dashmap_rayon.specs.Calls.{WritesEach}
+use Rattle.dashmap_walks.specs.Held.{WhileHeld}
+use Rattle.dashmap_parallel.proofs.written.fn.SharedIterMut.for_each.in_pieces.Goals as goal
+
+pub returns : goal.returns
+returns g c =
+    subst (λ lock. WhileHeld g.row.Q-ExclusiveGuard.Denot g.row.Q-Runtime.Denot g.row.Q-Party.Denot lock (WritesEach g.F.Fn c.captures.f.now)) c.deref.ensures c.write_behind.ensures

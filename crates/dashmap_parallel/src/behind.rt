@@ -1,0 +1,69 @@
+//! What is done with the pairs of the shard behind a lock, which is held meanwhile.
+ghost use Rattle.std.specs.Prelude.{◌≡◌, All, IfOk};
+ghost use Rattle.std.specs.List.{AllZip};
+ghost use Rattle.dashmap_table.specs.Slots.{pairs_of};
+ghost use Rattle.dashmap_rayon.specs.Calls.{AnswersOf, WritesEach};
+ghost use Rattle.dashmap_walks.specs.Held.{WhileHeld};
+ghost use Rattle.dashmap_parallel.specs.Visits.{WhileShared};
+
+use dashmap_rayon::visit::{answers_of, visit_each, write_each};
+use dashmap_table::{NoMemory, Shard};
+use lock_api_raw::RawRwLock;
+use lock_api_rw::RwLock;
+use std::alloc::Allocator;
+use std::hash::Hash;
+use std::sync::Wait;
+
+/// Calls a closure once for each pair of a shard, under a shared hold.
+pub(crate) fn visit_behind<K: Eq + Hash, V, Q: RawRwLock, A: Allocator, F: Fn(&K, &V)>(
+    lock: &RwLock<Q, Shard<K, V, A>>,
+    td: &mut Q::Party,
+    f: &F,
+)
+where
+    Q::Runtime: Wait,
+    requires { F.IsAlwaysCallable f.now }
+    ensures { WhileShared Q.SharedGuard Q.Runtime Q.Party lock.now (λ table. All (λ p. AnswersOf F.Fn f.now p tt) (pairs_of table.slots)) }
+{
+    let guard = lock.read(td);
+    visit_each(&*guard, f);
+}
+
+/// What a closure answers of each pair of a shard, under a shared hold.
+pub(crate) fn answers_behind<
+    K: Eq + Hash,
+    V,
+    Q: RawRwLock,
+    A: Allocator,
+    B: Allocator,
+    T: Drop,
+    F: Fn(&K, &V) -> T,
+>(
+    lock: &RwLock<Q, Shard<K, V, A>>,
+    td: &mut Q::Party,
+    f: &F,
+    alloc: B,
+) -> Result<Vec<T, B>, NoMemory>
+where
+    Q::Runtime: Wait,
+    requires { F.IsAlwaysCallable f.now }
+    ensures { IfOk result (λ v. WhileShared Q.SharedGuard Q.Runtime Q.Party lock.now (λ table. AllZip (AnswersOf F.Fn f.now) (pairs_of table.slots) v.items)) }
+{
+    let guard = lock.read(td);
+    answers_of(&*guard, f, alloc)
+}
+
+/// Lends a closure the value of each pair of a shard for writing, under an exclusive hold.
+pub(crate) fn write_behind<K: Eq + Hash, V, Q: RawRwLock, A: Allocator, F: Fn(&K, &mut V)>(
+    lock: &RwLock<Q, Shard<K, V, A>>,
+    td: &mut Q::Party,
+    f: &F,
+)
+where
+    Q::Runtime: Wait,
+    requires { F.IsAlwaysCallable f.now }
+    ensures { WhileHeld Q.ExclusiveGuard Q.Runtime Q.Party lock.now (WritesEach F.Fn f.now) }
+{
+    let mut guard = lock.write(td);
+    write_each(&mut *guard, f);
+}

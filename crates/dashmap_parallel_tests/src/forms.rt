@@ -1,0 +1,93 @@
+//! Each form on maps of two and eight shards, with one, two and three threads' data.
+
+use dashmap_map::DashMap;
+use dashmap_parallel::ParallelMap;
+use dashmap_table::MapFault;
+use mapworld_calls::SpreadState;
+use parking_lot_core::{ParkingLot, ThreadData};
+use parking_lot_locks::{LockTable, RawRwLock};
+use std::alloc::Global;
+use std::sync::Wait;
+use std::sync::atomic::{AtomicU64, Ordering};
+use std::test::Fail;
+use std::thread::Threads;
+
+/// A map of numbers over rows of a table.
+type Shared<'t, 'l, R> = DashMap<u64, u64, SpreadState, RawRwLock<'t, 'l, R, 0, Global>>;
+
+/// The data of so many threads of a lot.
+fn datas<R: Wait>(
+    lot: &ParkingLot<R>,
+    alloc: Global,
+    amount: usize,
+) -> Result<Vec<ThreadData<Global>>, Fail> {
+    let mut all = Vec::new(alloc);
+    for _ in 0..amount {
+        all.push(lot.thread_data()?)?;
+    }
+    Ok(all)
+}
+
+/// Puts in the keys below a hundred, each with its double, and tells whether none was refused.
+fn fills<R: Wait>(map: &Shared<'_, '_, R>, me: &mut ThreadData<Global>) -> bool {
+    let mut right = true;
+    for key in 0..100 {
+        right &= map.insert(key, key * 2, me).is_ok();
+    }
+    right
+}
+
+/// On so many shards, with so many threads' data: whether each form does what calls one by one do.
+fn agrees<R: Wait + Threads + Copy + Send + Sync + Drop>(
+    rt: R,
+    alloc: Global,
+    shards: usize,
+    threads: usize,
+) -> Result<bool, Fail> {
+    let lot = ParkingLot::new(rt, alloc, 4, 7)?;
+    let table = LockTable::new(alloc, &lot, shards)?;
+    let made: Result<Shared<'_, '_, R>, MapFault> = DashMap::with_hasher_and_shard_amount(
+        alloc,
+        SpreadState,
+        shards,
+        &table,
+    );
+    let map = made?;
+    let mut me = lot.thread_data()?;
+    let mut tds = datas(&lot, alloc, threads)?;
+    let mut right = fills(&map, &mut me);
+    let (visits, sum) = (AtomicU64::new(0), AtomicU64::new(0));
+    map.par_iter(&mut tds)?
+        .for_each(&rt, |key: &u64, value: &u64| {
+            visits.fetch_add(1, Ordering::SeqCst);
+            sum.fetch_add(key.wrapping_add(*value), Ordering::SeqCst);
+        });
+    right &= visits.load(Ordering::SeqCst) == 100 && sum.load(Ordering::SeqCst) == 14_850;
+    map.par_iter_mut_shared(&mut tds)?
+        .for_each(&rt, |key: &u64, value: &mut u64| {
+            *value = value.wrapping_add(*key);
+        });
+    let values = map
+        .par_iter(&mut tds)?
+        .map_collect(&rt, alloc, |key: &u64, value: &u64| { (*key, *value) })?;
+    right &= values.len() == 100;
+    let mut last = 0;
+    for (key, value) in &values {
+        let shard = map.determine_map(key);
+        right &= *value == *key * 3 && last <= shard;
+        last = shard;
+    }
+    Ok(right)
+}
+
+#[test]
+fn forms_do_what_calls_do(rt: HostRuntime) -> Result<(), Fail> {
+    let mut right = true;
+    for shards in [2, 8] {
+        for threads in [1, 2, 3] {
+            right &= agrees(rt, rt.alloc(), shards, threads)?;
+        }
+    }
+    assert!(rt; right);
+    Ok(())
+}
