@@ -1,4 +1,4 @@
-use Rattle.std.proofs.Common.{refl, of_calls, ◌∙◌, subst, sym}
+use Rattle.std.proofs.Common.{refl, of_calls, ◌∙◌}
 use denote.Param.Members.{was_Called}
 use Rattle.lock_api.proofs.Refusing.{handed_on, was_refused}
 use Rattle.lock_api.proofs.condvar.Condvar.wait_while.Goals as goal
