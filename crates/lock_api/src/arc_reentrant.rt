@@ -9,6 +9,7 @@ use crate::reentrant::ReentrantMutex;
 use lock_api_guards::{ArcGuard, ArcHold, FairHold, HasValue, Hold, ReentrantHold, lent};
 use lock_api_raw::{GetThreadId, GuardNoSend, RawMutex, RawMutexFair, RawMutexTimed};
 use std::alloc::{Allocator, Global};
+use std::marker::Model;
 use std::rt::Clock;
 use std::sync::{Arc, Wait};
 
@@ -24,7 +25,26 @@ where
 {
     lock: Arc<ReentrantMutex<R, G, T>, A>,
     token: GuardNoSend,
-    ghost ours: { token ≡ (arc_value lock).raw.number },
+}
+
+impl<
+    R: RawMutex + Drop,
+    G: GetThreadId<Party = R::Party> + Drop,
+    T,
+    A: Allocator,
+> Model for OwnedReentrant<R, G, T, A>
+where
+    R::Runtime: Wait,
+{
+    ghost use Rattle.std.specs.Prelude.{◌≡◌};
+    ghost use Rattle.std.specs.Arc.{arc_value};
+    ghost use Rattle.lock_api.specs.Nestings.{Nesting, Nested};
+
+    ghost Value = { Nested (Nesting R G) };
+
+    ghost view = { λ hold. record { lock = arc_value hold.lock; token = hold.token } };
+
+    ghost invariant = { λ hold. hold.token ≡ (arc_value hold.lock).number };
 }
 
 /// The guard of one nested hold that owns an Arc of its mutex.
@@ -42,7 +62,7 @@ where
         this: &Arc<ReentrantMutex<R, G, T>, A>,
         party: &mut R::Party,
     ) -> Result<ArcReentrantMutexGuard<R, G, T, A>, ReentrantArcFault>
-        ensures lock { IfOk result (λ guard. arc_value guard.hold.lock ≡ arc_value this.now) }
+        ensures lock { IfOk result (λ guard. guard.hold.lock ≡ arc_value this.now) }
         ensures refused { OnErr result (party.new ≡ party.old) }
     {
         let lock = Arc::try_clone(this)?;
@@ -57,7 +77,7 @@ where
         this: &Arc<ReentrantMutex<R, G, T>, A>,
         party: &R::Party,
     ) -> Result<Option<ArcReentrantMutexGuard<R, G, T, A>>, ReentrantArcFault>
-        ensures { IfOk result (λ some. IfSome some (λ guard. arc_value guard.hold.lock ≡ arc_value this.now)) }
+        ensures { IfOk result (λ some. IfSome some (λ guard. guard.hold.lock ≡ arc_value this.now)) }
     {
         let lock = Arc::try_clone(this)?;
         match lock.raw.try_lock(party)? {
@@ -78,7 +98,7 @@ where
     where
         R: RawMutexTimed,
         R::Duration: Drop,
-        ensures lock { IfOk result (λ some. IfSome some (λ guard. arc_value guard.hold.lock ≡ arc_value this.now)) }
+        ensures lock { IfOk result (λ some. IfSome some (λ guard. guard.hold.lock ≡ arc_value this.now)) }
         ensures refused { OnErr result (party.new ≡ party.old) }
     {
         let lock = Arc::try_clone(this)?;
@@ -100,7 +120,7 @@ where
     where
         R: RawMutexTimed,
         R::Instant: Drop,
-        ensures lock { IfOk result (λ some. IfSome some (λ guard. arc_value guard.hold.lock ≡ arc_value this.now)) }
+        ensures lock { IfOk result (λ some. IfSome some (λ guard. guard.hold.lock ≡ arc_value this.now)) }
         ensures refused { OnErr result (party.new ≡ party.old) }
     {
         let lock = Arc::try_clone(this)?;
@@ -126,7 +146,7 @@ where
 
     type Apart = Arc<ReentrantMutex<R, G, T>, A>;
 
-    ghost lock_of = { λ hold. arc_value hold.lock };
+    ghost lock_of = { λ hold. hold.lock };
 
     ghost apart_of = { λ lock. arc_value lock };
 

@@ -1,10 +1,10 @@
 //! The condition variable.
-ghost use Rattle.std.specs.Prelude.{◌≡◌, IfOk, OnOk};
+ghost use Rattle.std.specs.Prelude.{◌≡◌, ◌⊎◌, IfOk, IfErr, OnOk, true};
 ghost use Rattle.std.specs.Sync.Mutex.{mutex_guard_value};
 ghost use Rattle.std.specs.Sync.Condvar.{StoppedAt, AnsweredAt};
 ghost use Rattle.std.specs.Iterator.Runs.{CallKeepsClosure};
 ghost use Rattle.lock_api_raw.specs.Waits.{IsRefusedRightly};
-ghost use Rattle.lock_api.specs.Waits.{timed_answer};
+ghost use Rattle.lock_api.specs.Waits.{timed_answer, WasRefused, RanOut};
 
 use crate::mutex::{Mutex, MutexGuard};
 use crate::parted::{MutexPlace, Parted};
@@ -190,7 +190,9 @@ where
         mut condition: F,
     ) -> Result<(), WaitFault>
         requires { F.IsAlwaysCallable condition }
-        ensures { OnOk result (StoppedAt F.step (CallKeepsClosure F.FnMut condition) condition (mutex_guard_value guard.new.inner)) }
+        ensures value { OnOk result (StoppedAt F.step (CallKeepsClosure F.FnMut condition) condition (mutex_guard_value guard.new.inner)) }
+        ensures lock { guard.new.held.0.place ≡ guard.old.held.0.place }
+        ensures refused { IfErr result (WasRefused (C.same_lot self.now.raw guard.old.held.0.place.now) (C.waited self.now.raw)) }
     {
         for _ in mutex_of(guard).raw().runtime().forever() {
             if !condition(&mut **guard) {
@@ -260,7 +262,10 @@ where
     where
         <C::RawMutex as RawMutexTimed>::Instant: Copy,
         requires { F.IsAlwaysCallable condition }
-        ensures { IfOk result (λ answer. AnsweredAt F.step (CallKeepsClosure F.FnMut condition) condition answer.0 (mutex_guard_value guard.new.inner)) }
+        ensures value { IfOk result (λ answer. AnsweredAt F.step (CallKeepsClosure F.FnMut condition) condition answer.0 (mutex_guard_value guard.new.inner)) }
+        ensures lock { guard.new.held.0.place ≡ guard.old.held.0.place }
+        ensures late { IfOk result (λ answer. answer.0 ≡ true → RanOut (C.waited_in_time self.now.raw)) }
+        ensures refused { IfErr result (WasRefused (C.same_lot self.now.raw guard.old.held.0.place.now) (C.waited_in_time self.now.raw)) }
     {
         let mut ran_out = false;
         for _ in mutex_of(guard).raw().runtime().forever() {
@@ -285,7 +290,10 @@ where
     where
         <C::RawMutex as RawMutexTimed>::Instant: Copy,
         requires { F.IsAlwaysCallable condition }
-        ensures { IfOk result (λ answer. AnsweredAt F.step (CallKeepsClosure F.FnMut condition) condition answer.0 (mutex_guard_value guard.new.inner)) }
+        ensures value { IfOk result (λ answer. AnsweredAt F.step (CallKeepsClosure F.FnMut condition) condition answer.0 (mutex_guard_value guard.new.inner)) }
+        ensures lock { guard.new.held.0.place ≡ guard.old.held.0.place }
+        ensures late { IfOk result (λ answer. answer.0 ≡ true → RanOut (C.waited_in_time self.now.raw)) }
+        ensures refused { IfErr result (λ fault. WasRefused (C.same_lot self.now.raw guard.old.held.0.place.now) (C.waited self.now.raw) fault ⊎ WasRefused (C.same_lot self.now.raw guard.old.held.0.place.now) (C.waited_in_time self.now.raw) fault) }
     {
         match C::checked_duration_to_instant(clock, timeout) {
             Some(deadline) => self.wait_while_until(guard, deadline, clock, party, condition),

@@ -1,5 +1,6 @@
 //! The mutex.
 ghost use Rattle.std.specs.Prelude.{◌≡◌, IfSome, IfOk};
+ghost use Rattle.lock_api_raw.specs.Limits.{kept_limit};
 
 use lock_api_guards::{Guard, HasValue, HasValueMut, Mapped, lent, lent_mut};
 use lock_api_raw::{MakeLock, RawMutex, RawMutexTimed, TableFull};
@@ -50,6 +51,7 @@ impl<R: RawMutex, T> Mutex<R, T> {
     where
         R: MakeLock<S>,
         T: Drop,
+        ensures { IfOk result (λ mutex. R.limit mutex ≡ kept_limit R.own_limit 1) }
     {
         let raw = R::new(source, 1)?;
         Ok(Mutex::from_raw(raw, value))
@@ -60,6 +62,7 @@ impl<R: RawMutex, T> Mutex<R, T> {
     where
         R: MakeLock<S>,
         T: Default + Drop,
+        ensures { IfOk result (λ mutex. R.limit mutex ≡ kept_limit R.own_limit 1) }
     {
         Mutex::new(source, T::default())
     }

@@ -8,6 +8,7 @@ use lock_api_raw::{
     GetThreadId, GuardNoSend, MakeLock, RawMutex, RawMutexFair, RawMutexTimed, ReadersFull,
     TableFull,
 };
+use std::marker::Model;
 use std::rt::Clock;
 use std::snapshot::Snapshot;
 use std::sync::Wait;
@@ -42,7 +43,21 @@ where
     limit: u64,
     number: u64,
     slot: Counted<Option<Kept<R>>>,
-    ghost same: { R.number slot.value ≡ R.number raw },
+}
+
+impl<R: RawMutex + Drop, G: GetThreadId<Party = R::Party> + Drop> Model for RawReentrantMutex<R, G>
+where
+    R::Runtime: Wait,
+{
+    ghost use Rattle.std.specs.Prelude.{◌≡◌};
+    ghost use Rattle.lock_api.specs.Nestings.{Nesting};
+
+    ghost Value = { Nesting R G };
+
+    ghost view = { λ mutex. record { raw = mutex.raw; get_thread_id = mutex.get_thread_id; limit = mutex.limit; number = mutex.number } };
+
+    // The slot's token is one of the raw mutex below.
+    ghost invariant = { λ mutex. R.number mutex.slot.value ≡ R.number mutex.raw };
 }
 
 impl<R: RawMutex + Drop, G: GetThreadId<Party = R::Party> + Drop> Drop for RawReentrantMutex<R, G>
@@ -145,7 +160,7 @@ where
     /// The place of the raw token, which only the owner uses.
     fn claim(&self) -> Claim<'_, Option<Kept<R>>>
         ensures right { result.right ≡ 2 }
-        ensures tag { result.tag ≡ self.now.slot }
+        ensures tag { R.number result.tag.value ≡ R.number self.now.raw }
     {
         for _ in self.raw.runtime().forever() {
             let (found, claim) = self.slot.turn(FREE, TAKEN);

@@ -10,6 +10,7 @@ use lock_api_raw::{
     TableFull,
 };
 use std::fmt::Debug;
+use std::marker::Model;
 use std::rt::Clock;
 use std::sync::Wait;
 use std::{fmt, sync, thread};
@@ -26,6 +27,18 @@ where
     pub(crate) value: sync::RwLock<T>,
 }
 
+impl<R: RawMutex + Drop, G: GetThreadId<Party = R::Party> + Drop, T> Model
+    for ReentrantMutex<R, G, T>
+where
+    R::Runtime: Wait,
+{
+    ghost use Rattle.lock_api.specs.Nestings.{Nesting};
+
+    ghost Value = { Nesting R G };
+
+    ghost view = { λ mutex. mutex.raw };
+}
+
 /// One nested hold of a reentrant mutex: the mutex, and the token of the hold.
 pub struct LockedReentrant<'l, R: RawMutex + Drop, G: GetThreadId<Party = R::Party> + Drop, T>
 where
@@ -33,7 +46,21 @@ where
 {
     pub(crate) lock: &'l ReentrantMutex<R, G, T>,
     pub(crate) token: GuardNoSend,
-    pub(crate) ghost ours: { token ≡ lock.now.raw.number },
+}
+
+impl<'l, R: RawMutex + Drop, G: GetThreadId<Party = R::Party> + Drop, T> Model
+    for LockedReentrant<'l, R, G, T>
+where
+    R::Runtime: Wait,
+{
+    ghost use Rattle.std.specs.Prelude.{◌≡◌};
+    ghost use Rattle.lock_api.specs.Nestings.{Nesting, Nested};
+
+    ghost Value = { Nested (Nesting R G) };
+
+    ghost view = { λ hold. record { lock = hold.lock.now; token = hold.token } };
+
+    ghost invariant = { λ hold. hold.token ≡ hold.lock.now.number };
 }
 
 /// The guard of one nested hold, which lends the value to be read.
@@ -61,7 +88,7 @@ where
     where
         R: MakeLock<S>,
         T: Drop,
-        ensures { IfOk result (λ mutex. mutex.raw.limit ≡ kept_limit (2 ^ 64 - 1) readers) }
+        ensures { IfOk result (λ mutex. mutex.limit ≡ kept_limit (2 ^ 64 - 1) readers) }
     {
         let raw = RawReentrantMutex::new(source, readers)?;
         Ok(ReentrantMutex {
@@ -75,16 +102,16 @@ where
     where
         R: MakeLock<S>,
         T: Default + Drop,
-        ensures { IfOk result (λ mutex. mutex.raw.limit ≡ kept_limit (2 ^ 64 - 1) readers) }
+        ensures { IfOk result (λ mutex. mutex.limit ≡ kept_limit (2 ^ 64 - 1) readers) }
     {
         ReentrantMutex::new(source, readers, T::default())
     }
 
     /// Puts a value behind a raw mutex that exists and isn't held.
     pub fn from_raw(raw: R, readers: u64, get_thread_id: G, value: T) -> ReentrantMutex<R, G, T>
-        ensures limit { result.raw.limit ≡ kept_limit (2 ^ 64 - 1) readers }
-        ensures raw { result.raw.raw ≡ raw }
-        ensures helper { result.raw.get_thread_id ≡ get_thread_id }
+        ensures limit { result.limit ≡ kept_limit (2 ^ 64 - 1) readers }
+        ensures raw { result.raw ≡ raw }
+        ensures helper { result.get_thread_id ≡ get_thread_id }
     {
         ReentrantMutex {
             raw: RawReentrantMutex::over(raw, readers, get_thread_id),
@@ -101,8 +128,8 @@ where
 
     /// The raw mutex, what tells the parties apart, and the value.
     pub fn into_inner_with_raw(self) -> (R, G, T)
-        ensures raw { result.0 ≡ self.raw.raw }
-        ensures helper { result.1 ≡ self.raw.get_thread_id }
+        ensures raw { result.0 ≡ self.raw }
+        ensures helper { result.1 ≡ self.get_thread_id }
     {
         let ReentrantMutex { raw, value } = self;
         let (raw, get_thread_id) = raw.into_raw();
@@ -129,7 +156,7 @@ where
         &self,
         party: &mut R::Party,
     ) -> Result<ReentrantMutexGuard<'_, R, G, T>, ReadersFull>
-        ensures lock { IfOk result (λ guard. guard.held.0.lock.now ≡ self.now) }
+        ensures lock { IfOk result (λ guard. guard.held.0.lock ≡ self.now) }
         ensures refused { OnErr result (party.new ≡ party.old) }
     {
         let token = self.raw.lock(party)?;
@@ -138,8 +165,8 @@ where
 
     /// The guard of a hold.
     fn guard(&self, token: GuardNoSend) -> ReentrantMutexGuard<'_, R, G, T>
-        requires { token ≡ self.now.raw.number }
-        ensures { result.held.0.lock.now ≡ self.now }
+        requires { token ≡ self.now.number }
+        ensures { result.held.0.lock ≡ self.now }
     {
         Guard::under(LockedReentrant { lock: self, token })
     }
@@ -158,7 +185,7 @@ where
         &self,
         party: &R::Party,
     ) -> Result<Option<ReentrantMutexGuard<'_, R, G, T>>, ReadersFull>
-        ensures { IfOk result (λ some. IfSome some (λ guard. guard.held.0.lock.now ≡ self.now)) }
+        ensures { IfOk result (λ some. IfSome some (λ guard. guard.held.0.lock ≡ self.now)) }
     {
         let Some(inner) = self.value.try_read() else {
             return Ok(None);
@@ -179,7 +206,7 @@ where
     where
         R: RawMutexTimed,
         R::Duration: Drop,
-        ensures lock { IfOk result (λ some. IfSome some (λ guard. guard.held.0.lock.now ≡ self.now)) }
+        ensures lock { IfOk result (λ some. IfSome some (λ guard. guard.held.0.lock ≡ self.now)) }
         ensures refused { OnErr result (party.new ≡ party.old) }
     {
         match self.raw.try_lock_for(timeout, clock, party)? {
@@ -198,7 +225,7 @@ where
     where
         R: RawMutexTimed,
         R::Instant: Drop,
-        ensures lock { IfOk result (λ some. IfSome some (λ guard. guard.held.0.lock.now ≡ self.now)) }
+        ensures lock { IfOk result (λ some. IfSome some (λ guard. guard.held.0.lock ≡ self.now)) }
         ensures refused { OnErr result (party.new ≡ party.old) }
     {
         match self.raw.try_lock_until(deadline, clock, party)? {
@@ -209,7 +236,7 @@ where
 
     /// Waits for a hold. At a full count it yields and tries again until there is room.
     pub(crate) fn hold_again(&self, party: &mut R::Party) -> GuardNoSend
-        ensures { result ≡ self.now.raw.number }
+        ensures { result ≡ self.now.number }
     {
         for _ in self.raw.raw().runtime().forever() {
             match self.raw.lock(party) {
@@ -234,7 +261,7 @@ where
 
     type Apart = &'l ReentrantMutex<R, G, T>;
 
-    ghost lock_of = { λ hold. hold.lock.now };
+    ghost lock_of = { λ hold. hold.lock };
 
     ghost apart_of = { λ lock. lock.now };
 

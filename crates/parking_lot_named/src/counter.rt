@@ -90,3 +90,37 @@ impl<'m, 't, 'l, R: Wait, A: Allocator> Tally<'m, 't, 'l, R, A> {
         self.changed = true;
     }
 }
+
+/// A count behind any mutex that is being changed.
+#[derive(Drop)]
+pub struct AnyTally<'m, R: lock_api::RawMutex>
+where
+    R::Runtime: Wait,
+{
+    guard: MutexGuard<'m, R, u64>,
+    changed: bool,
+}
+
+impl<'m, R: lock_api::RawMutex> AnyTally<'m, R>
+where
+    R::Runtime: Wait,
+{
+    /// Waits until nobody else has the mutex.
+    pub fn open(counter: &'m Mutex<R, u64>, me: &mut R::Party) -> AnyTally<'m, R>
+        ensures lock { result.guard.held.0.place.now ≡ counter.now }
+        ensures fresh { result.changed ≡ false }
+    {
+        let guard = counter.lock(me);
+        let changed = false;
+        AnyTally { guard, changed }
+    }
+
+    /// Writes the count.
+    pub fn set(&mut self, any: u64)
+        ensures value { mutex_guard_value self.new.guard.inner ≡ any }
+        ensures changed { self.new.changed ≡ true }
+    {
+        *self.guard = any;
+        self.changed = true;
+    }
+}

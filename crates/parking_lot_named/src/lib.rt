@@ -11,6 +11,7 @@ mod nested;
 mod number;
 mod owned;
 mod part;
+mod pass;
 mod shown;
 mod ticks;
 mod turn;
@@ -19,18 +20,19 @@ pub use any_lock::{
     AnyEntry, any_overwrite, any_read, any_seen_by, any_write_and_look, any_writer_of,
 };
 pub use counter::{
-    Counter, CounterGuard, Tally, any_lock_and_look, count, counted_by, lock_and_look,
+    AnyTally, Counter, CounterGuard, Tally, any_lock_and_look, count, counted_by, lock_and_look,
 };
 pub use entry::Entry;
 pub use nested::{
-    Nested, NestedGuard, Stay, any_read_twice, keep_and_look, nest, nested_seen_by, read_again,
-    read_twice,
+    Nested, NestedGuard, NestedStay, Stay, any_lock_and_read_again, any_read_twice, keep_and_look,
+    lock_and_read_again, nest, nested_seen_by, read_again, read_twice,
 };
 pub use number::{
     Number, NumberReader, NumberWriter, add, overwrite, read, seen_by, write_and_look, writer_of,
 };
 pub use owned::{any_write_owned, write_owned};
 pub use part::{First, Numbers, any_write_first, write_first};
+pub use pass::{Pass, Reading, Writing};
 pub use shown::{
     any_shown_by, any_told_by, any_value_told_by, show, shown_by, told_by, value_shown_by,
 };

@@ -38,7 +38,7 @@ pub fn nest<'m, 't, 'l, R: Wait, A: Allocator>(
     mutex: &'m Nested<'t, 'l, R, A>,
     me: &mut ThreadData<A>,
 ) -> Result<NestedGuard<'m, 't, 'l, R, A>, ReadersFull>
-    ensures { IfOk result (λ guard. guard.held.0.lock.now ≡ mutex.now) }
+    ensures { IfOk result (λ guard. guard.held.0.lock ≡ mutex.now) }
 {
     mutex.lock(me)
 }
@@ -57,7 +57,31 @@ pub fn read_again<R: Wait, A: Allocator>(guard: NestedGuard<'_, '_, '_, R, A>) -
     (*guard, *guard)
 }
 
+/// Reads twice in a row under one guard.
+pub fn lock_and_read_again<R: Wait, A: Allocator>(
+    mutex: &Nested<'_, '_, R, A>,
+    me: &mut ThreadData<A>,
+) -> Result<(u64, u64), ReadersFull>
+    ensures { IfOk result (λ seen. seen.0 ≡ seen.1) }
+{
+    let held = mutex.lock(me)?;
+    Ok((*held, *held))
+}
+
 /// The same over any raw mutex.
+pub fn any_lock_and_read_again<
+    R: lock_api::RawMutex + Drop,
+    G: GetThreadId<Party = R::Party> + Drop,
+>(mutex: &ReentrantMutex<R, G, u64>, me: &mut R::Party) -> Result<(u64, u64), ReadersFull>
+where
+    R::Runtime: Wait,
+    ensures { IfOk result (λ seen. seen.0 ≡ seen.1) }
+{
+    let any = mutex.lock(me)?;
+    Ok((*any, *any))
+}
+
+/// Reads under two guards of the same thread at any raw mutex.
 pub fn any_read_twice<R: lock_api::RawMutex + Drop, G: GetThreadId<Party = R::Party> + Drop>(
     mutex: &ReentrantMutex<R, G, u64>,
     me: &mut R::Party,
@@ -119,4 +143,34 @@ pub fn keep_and_look<R: Wait, A: Allocator>(
     let stay = Stay::new(mutex.lock(me)?);
     let seen = stay.get();
     Ok(stay.close(seen))
+}
+
+/// A guard of a [`Nested`] that a program keeps, with the number that it lent at first.
+#[derive(Drop)]
+pub struct NestedStay<'m, 't, 'l, R: Wait, A: Allocator = Global> {
+    guard: NestedGuard<'m, 't, 'l, R, A>,
+    first: u64,
+}
+
+impl<'m, 't, 'l, R: Wait, A: Allocator> NestedStay<'m, 't, 'l, R, A> {
+    /// Waits for a hold, and keeps its guard.
+    pub fn open(
+        mutex: &'m Nested<'t, 'l, R, A>,
+        me: &mut ThreadData<A>,
+    ) -> Result<NestedStay<'m, 't, 'l, R, A>, ReadersFull>
+        ensures lock { IfOk result (λ stay. stay.guard.held.0.lock ≡ mutex.now) }
+        ensures first { IfOk result (λ stay. stay.first ≡ read_guard_value stay.guard.inner) }
+    {
+        let guard = mutex.lock(me)?;
+        let seen = *guard;
+        Ok(NestedStay { guard, first: seen })
+    }
+
+    /// Whether the guard lends what it lent at first.
+    pub fn is_as_at_first(&self) -> bool
+        ensures { result ≡ (read_guard_value self.now.guard.inner == self.now.first) }
+    {
+        let kept = &self.guard;
+        **kept == self.first
+    }
 }

@@ -4,13 +4,13 @@ use lock_api::{Mutex, ReadersFull, ReentrantMutex, RwLock};
 use parking_lot_core::ParkingLot;
 use parking_lot_locks::LockTable;
 use parking_lot_named::{
-    AnyEntry, Counter, Entry, Nested, Number, Numbers, Tally, Ticker, Ticks, Turn, add,
-    any_lock_and_look, any_overwrite, any_read, any_read_twice, any_seen_by, any_shown_by,
-    any_tick, any_tick_and_look, any_told_by, any_value_told_by, any_write_and_look,
-    any_write_first, any_write_owned, any_writer_of, count, counted_by, keep_and_look,
-    lock_and_look, nest, nested_seen_by, overwrite, read, read_again, read_twice, seen_by,
-    seen_in_turn, show, shown_by, take_and_put, tick, tick_and_look, told_by, value_shown_by,
-    write_and_look, write_first, write_owned, writer_of,
+    AnyEntry, AnyTally, Counter, Entry, Nested, NestedStay, Number, Numbers, Pass, Tally, Ticker,
+    Ticks, Turn, add, any_lock_and_look, any_lock_and_read_again, any_overwrite, any_read,
+    any_read_twice, any_seen_by, any_shown_by, any_tick, any_tick_and_look, any_told_by,
+    any_value_told_by, any_write_and_look, any_write_first, any_write_owned, any_writer_of, count,
+    counted_by, keep_and_look, lock_and_look, lock_and_read_again, nest, nested_seen_by, overwrite,
+    read, read_again, read_twice, seen_by, seen_in_turn, show, shown_by, take_and_put, tick,
+    tick_and_look, told_by, value_shown_by, write_and_look, write_first, write_owned, writer_of,
 };
 use std::sync::Arc;
 use std::test::Fail;
@@ -60,6 +60,37 @@ fn a_turn_reads_or_writes(rt: HostRuntime) -> Result<(), Fail> {
     right = right & (writes.get() == 6) & lock.is_locked_exclusive();
     drop(writes);
     assert!(rt; right & !lock.is_locked());
+    Ok(())
+}
+
+#[test]
+fn a_pass_reads_or_writes(rt: HostRuntime) -> Result<(), Fail> {
+    let lot = ParkingLot::new(rt, rt.alloc(), 1, 7)?;
+    let mut me = lot.thread_data()?;
+    let table = LockTable::new(rt.alloc(), &lot, 1)?;
+    let lock: Number<HostRuntime> = RwLock::new(&table, 5, 0)?;
+    let writes = Pass::take(&lock, &mut me, true).put(6);
+    let mut right = (writes.get() == 6) & lock.is_locked_exclusive();
+    drop(writes);
+    let reads = Pass::take(&lock, &mut me, false).put(7);
+    right = right & (reads.get() == 6) & !lock.is_locked_exclusive();
+    drop(reads);
+    assert!(rt; right & !lock.is_locked());
+    Ok(())
+}
+
+#[test]
+fn a_guard_of_any_mutex_lies_in_a_type(rt: HostRuntime) -> Result<(), Fail> {
+    let lot = ParkingLot::new(rt, rt.alloc(), 1, 7)?;
+    let mut me = lot.thread_data()?;
+    let table = LockTable::new(rt.alloc(), &lot, 1)?;
+    let counter: Counter<HostRuntime> = Mutex::new(&table, 1)?;
+    let mut tally = AnyTally::open(&counter, &mut me);
+    tally.set(2);
+    let held = counter.is_locked();
+    drop(tally);
+    let left = counted_by(&counter.lock(&mut me)) == 2;
+    assert!(rt; held & left & !counter.is_locked());
     Ok(())
 }
 
@@ -124,6 +155,11 @@ fn a_named_reentrant_guard_nests(rt: HostRuntime) -> Result<(), Fail> {
     let mut right = matches!(read_twice(&mutex, &mut me), Ok((5, 5)));
     right = right & matches!(any_read_twice(&mutex, &mut me), Ok((5, 5)));
     right = right & matches!(keep_and_look(&mutex, &mut me), Ok(true));
+    right = right & matches!(lock_and_read_again(&mutex, &mut me), Ok((5, 5)));
+    right = right & matches!(any_lock_and_read_again(&mutex, &mut me), Ok((5, 5)));
+    if let Ok(stay) = NestedStay::open(&mutex, &mut me) {
+        right = right & stay.is_as_at_first() & mutex.is_locked();
+    }
     let seen = match nest(&mutex, &mut me) {
         Ok(guard) => {
             let full = matches!(read_twice(&mutex, &mut me), Err(ReadersFull));
