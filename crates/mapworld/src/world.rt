@@ -251,13 +251,15 @@ where
         if step.thread >= self.core.places.len() {
             return Err(RunFault::NoSuchThread(done));
         }
-        if !matches!(steps::status(&self.core, step.thread), Status::Running) {
+        if !counts::fits(&self.core) {
+            return match steps::status(&self.core, step.thread) {
+                Status::Running => Err(RunFault::StepsShort(done)),
+                _ => Err(RunFault::CannotMove(done)),
+            };
+        }
+        if !steps::advance(&mut self.core, step) {
             return Err(RunFault::CannotMove(done));
         }
-        if !counts::fits(&self.core) {
-            return Err(RunFault::StepsShort(done));
-        }
-        steps::advance(&mut self.core, step);
         Ok(())
     }
 

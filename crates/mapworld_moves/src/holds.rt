@@ -1,5 +1,5 @@
 //! What steps ask of the holds: whether one is excluded, and to take, share and end one.
-ghost use Rattle.std.specs.Prelude.{◌≡◌, ◌<◌, None, length};
+ghost use Rattle.std.specs.Prelude.{◌≡◌, ◌<◌, true, MatchBool, None, is_some, length};
 ghost use Rattle.lock_api_desk.specs.Guards.{is_held, holds};
 ghost use Rattle.lock_api_desk.specs.Desk.{admitted, turned, released};
 ghost use Rattle.lock_api_desk.specs.declared.mode.Mode.TheVariants as desk_mode;
@@ -46,17 +46,18 @@ pub fn is_excluded<K, V, D, T, A: Allocator>(
     false
 }
 
-/// Takes a hold at the shard's desk, which nothing there excludes and which has room for it.
-pub fn take_hold<A: Allocator>(desk: &mut ShardDesk<A>, mode: Mode, party: u64, guard: u64)
-    requires granted { acquire_refusal WouldWait (at_desk mode) guard desk.old ≡ None }
+/// Takes a hold at the shard's desk, which has room for it: whether the desk granted it. A refused one changes nothing there.
+pub fn take_hold<A: Allocator>(desk: &mut ShardDesk<A>, mode: Mode, party: u64, guard: u64) -> bool
     requires room { length desk.old.guards < desk.old.room }
-    ensures { desk.new ≡ admitted (at_desk mode) party guard desk.old }
+    ensures { MatchBool result
+        ((acquire_refusal WouldWait (at_desk mode) guard desk.old ≡ None) × (desk.new ≡ admitted (at_desk mode) party guard desk.old))
+        ((is_some (acquire_refusal WouldWait (at_desk mode) guard desk.old) ≡ true) × (desk.new ≡ desk.old)) }
 {
     let taken = match mode {
         Mode::Shared => desk.read(party, guard),
         Mode::Exclusive => desk.write(party, guard),
     };
-    let Ok(()) = taken else { unreachable!() };
+    taken.is_ok()
 }
 
 /// Lets the guard, which the shard's desk lists as the party's and as held alone, share its shard.

@@ -1,7 +1,8 @@
 -- What a shard's desk answers a thread: it grants an admission that no thread's hold excludes, and gives up a hold that it lists.
-use Rattle.std.proofs.Common.{◌≡◌, ℕ, ◌<◌, get_or, Bool, true, false, ◌&&◌, not, nat_le, if◌then◌else◌, List, [], ◌∷◌, length, zero, suc, Some, None, slice_get, refl, ap, ap₂, sym, ◌∙◌, arith, eq-eqb, eqb-true}
+use Rattle.std.proofs.Common.{◌≡◌, ℕ, ◌<◌, get_or, Bool, true, false, ◌&&◌, not, nat_le, if◌then◌else◌, List, [], ◌∷◌, length, zero, suc, Option, Some, None, is_some, slice_get, refl, ap, ap₂, sym, ◌∙◌, arith, eq-eqb, eqb-true}
 use Rattle.std.proofs.lemmas.Bool.{false_from_ne_true, false≢true, and_parts, leb-true}
-use Rattle.std.proofs.lemmas.Option.{none-some, same_Some}
+use Rattle.std.proofs.lemmas.Option.{none-some, same_Some, slice_get_within, get_or_from_slice_get}
+use Rattle.std.proofs.lemmas.List.Folds.{list_any_at}
 use Rattle.std.proofs.lemmas.List.Sums.{count_by-le-length, length-filter}
 use Rattle.lock_api_desk.specs.declared.mode.Mode.TheVariants as desk_mode
 use Rattle.lock_api_desk.specs.declared.fault.DeskFault.{DeskFault}
@@ -16,7 +17,7 @@ use Rattle.mapworld_state.specs.Holds.{excludes, is_excluded, Desks, at_desk, gu
 use Rattle.mapworld_state.specs.Held.{HoldsMatch}
 use Rattle.mapworld_state.proofs.Finds.{find-Some, find-there}
 use Rattle.mapworld_moves.proofs.Facts.{read_at}
-use Rattle.mapworld_state.proofs.HoldsTable.{list_any-true, is_excluded-by}
+use Rattle.mapworld_state.proofs.HoldsTable.{list_any-true, is_excluded-by, is_excluded-true}
 
 -- modes exclude each other at a desk as in the world
 same_excludes : (a b : Mode) → desk_excludes (at_desk a) (at_desk b) ≡ excludes a b
@@ -24,6 +25,20 @@ same_excludes Shared Shared = refl
 same_excludes Shared Exclusive = refl
 same_excludes Exclusive Shared = refl
 same_excludes Exclusive Exclusive = refl
+
+-- two tests that imply each other are one
+same_bools : (a b : Bool) → (a ≡ true → b ≡ true) → (b ≡ true → a ≡ true) → a ≡ b
+same_bools true b to from = sym (to refl)
+same_bools false b to from = sym (false_from_ne_true b (λ e. false≢true (from e)))
+
+-- what a desk refuses tells whether the mode is excluded
+pub granted_where : (b : Bool) (denied : DeskFault) (o : Option DeskFault) → o ≡ (if b then Some denied else None) → o ≡ None → b ≡ false
+granted_where true denied o is none = absurd (none-some denied (sym none ∙ is))
+granted_where false denied o is none = refl
+
+pub denied_where : (b : Bool) (denied : DeskFault) (o : Option DeskFault) → o ≡ (if b then Some denied else None) → is_some o ≡ true → b ≡ true
+denied_where true denied o is some = refl
+denied_where false denied o is some = absurd (false≢true (ap is_some (sym is) ∙ some))
 
 -- the desk that was read at a shard that has one
 pub desk_read : (holds : Desks) (shard : ℕ) (desk read : DeskState (Unit {0})) → slice_get holds shard ≡ Some desk → read ≡ get_or holds shard read → slice_get holds shard ≡ Some read
@@ -54,16 +69,32 @@ module _ {K V D T A : Type 0} {places : List (Place K V D T A)} {holds : Desks} 
       let number-is = eqb-true r.1.number number r.3 in
       omega (arith, less, same, number-is))
 
-  -- where no thread's hold excludes the mode, no guard at the desk does
-  unexcluded : (mode : Mode) → is_excluded places shard mode ≡ false → excluded (at_desk mode) desk.guards ≡ false
-  unexcluded mode free = false_from_ne_true (excluded (at_desk mode) desk.guards) (λ some.
+  -- a guard at the desk that excludes the mode is the hold of some thread
+  at_the_desk : (mode : Mode) → excluded (at_desk mode) desk.guards ≡ true → is_excluded places shard mode ≡ true
+  at_the_desk mode some =
       let r = list_any-true (λ guard. is_held guard && desk_excludes guard.mode (at_desk mode)) desk.guards some in
       let o = match.owned shard r.0 desk r.1 there r.2 in
       let parts = and_parts (is_held r.1) (desk_excludes r.1.mode (at_desk mode)) r.3 in
       let excludes-is = sym (same_excludes o.1.mode mode) ∙ ap (λ (g : Guard). desk_excludes g.mode (at_desk mode)) (sym o.5) ∙ parts.1 in
-      false≢true (sym free ∙ is_excluded-by places shard mode r.1.party o.0 o.1 o.2 o.3 o.4 excludes-is))
+      is_excluded-by places shard mode r.1.party o.0 o.1 o.2 o.3 o.4 excludes-is
 
-  -- nor is the limit of readers reached
+  -- the hold of a thread that excludes the mode is a guard at the desk
+  among_threads : (mode : Mode) → is_excluded places shard mode ≡ true → excluded (at_desk mode) desk.guards ≡ true
+  among_threads mode some =
+      let r = is_excluded-true places shard mode some in
+      let l = match.listed r.0 r.1 r.2 r.3 r.4 in
+      let d : l.0 ≡ desk = same_Some l.0 desk (sym l.2 ∙ ap (λ s. slice_get holds s) r.5 ∙ there) in
+      let g = guard_for r.0 r.2 in
+      let at : slice_get desk.guards l.1 ≡ Some g = ap (λ (z : DeskState (Unit {0})). slice_get z.guards l.1) (sym d) ∙ l.3 in
+      let excludes-is : desk_excludes g.mode (at_desk mode) ≡ true = same_excludes r.2.mode mode ∙ r.6 in
+      list_any_at (λ guard. is_held guard && desk_excludes guard.mode (at_desk mode)) desk.guards l.1 g (slice_get_within desk.guards l.1 g at)
+      (ap (λ (z : Guard). is_held z && desk_excludes z.mode (at_desk mode)) (get_or_from_slice_get desk.guards l.1 g g at) ∙ excludes-is)
+
+  -- so the desk tells whether the hold of some thread excludes the mode
+  tells : (mode : Mode) → excluded (at_desk mode) desk.guards ≡ is_excluded places shard mode
+  tells mode = same_bools _ _ (at_the_desk mode) (among_threads mode)
+
+  -- the limit of readers isn't reached
   not_full : (mode : Mode) → length desk.guards < desk.limit → is_full desk.limit (at_desk mode) desk.guards ≡ false
   not_full mode lt = false_from_ne_true (is_full desk.limit (at_desk mode) desk.guards) (λ full.
       let parts = and_parts (is_reader (at_desk mode)) (nat_le desk.limit (readers desk.guards)) full in
@@ -71,10 +102,10 @@ module _ {K V D T A : Type 0} {places : List (Place K V D T A)} {holds : Desks} 
       let many = leb-true desk.limit (readers desk.guards) parts.1 in
       omega (arith, few, many))
 
-  -- so the desk grants the admission
-  pub granted : (denied : DeskFault) (mode : Mode) (number : ℕ) → ((u : ℕ) (q : Place K V D T A) (h : Hold) → slice_get places u ≡ Some q → q.hold ≡ Some h → h.guard < number)
-      → is_excluded places shard mode ≡ false → length desk.guards < desk.limit → acquire_refusal denied (at_desk mode) number desk ≡ None
-  granted denied mode number below free lt = rw (unused number below, unexcluded mode free, not_full mode lt) refl
+  -- so it grants an admission exactly where no thread's hold excludes it
+  pub asked : (denied : DeskFault) (mode : Mode) (number : ℕ) → ((u : ℕ) (q : Place K V D T A) (h : Hold) → slice_get places u ≡ Some q → q.hold ≡ Some h → h.guard < number)
+      → length desk.guards < desk.limit → acquire_refusal denied (at_desk mode) number desk ≡ (if is_excluded places shard mode then Some denied else None)
+  asked denied mode number below lt = rw (unused number below, tells mode, not_full mode lt) refl
 
   -- and it gives up the hold that a thread has
   pub given_up : (t : ℕ) (p : Place K V D T A) (h : Hold) → slice_get places t ≡ Some p → p.hold ≡ Some h → h.shard ≡ shard → guard_refusal is_held t h.guard desk ≡ None

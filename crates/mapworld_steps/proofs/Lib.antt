@@ -1,3 +1,4 @@
 pub mod Desks
 pub mod Afters
+pub mod Refused
 pub mod Running

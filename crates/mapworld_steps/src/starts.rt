@@ -1,10 +1,9 @@
 //! The steps that lead a thread to its shard.
-ghost use Rattle.std.specs.Prelude.{◌≡◌, ◌<◌, true, false, length, slice_get};
+ghost use Rattle.std.specs.Prelude.{◌≡◌, ◌<◌, true, MatchBool, length, slice_get};
 ghost use Rattle.mapworld_state.specs.declared.place.Phase.TheVariants as phase;
-ghost use Rattle.mapworld_state.specs.Running.{has_numbers};
+ghost use Rattle.mapworld_state.specs.declared.step.Status.TheVariants.{Asleep};
+ghost use Rattle.mapworld_state.specs.Running.{has_numbers, status_of};
 ghost use Rattle.mapworld_state.specs.Core.{state_of, Room, IsBefore, IsSoundCore, MakesStep};
-ghost use Rattle.mapworld_state.specs.Holds.{is_excluded};
-ghost use Rattle.mapworld_state.specs.Moves.{mode_of};
 ghost use Rattle.mapworld_state.specs.Steps.{Starts, Admits};
 
 use mapworld_calls::Deed;
@@ -50,35 +49,43 @@ pub(crate) fn start<
     core.steps = core.steps.appended(&step);
 }
 
-/// The admission to a shard.
+/// The admission to a shard, if the shard's desk grants it: whether it did. Otherwise the world stays as it is.
 pub(crate) fn admit<
     K: Eq + Hash + Drop,
     V: Drop,
     S: BuildHasher,
     D: Deed<K, V> + Drop,
     A: Allocator,
->(core: &mut Core<K, V, S, D, D::Answer, A>, step: Step)
+>(core: &mut Core<K, V, S, D, D::Answer, A>, step: Step) -> bool
     requires sound { IsSoundCore D.Deed S.BuildHasher S.Hasher.Hasher K.eq K.hash_input core.old }
     requires room { Room core.old }
     requires numbers { has_numbers (state_of core.old) ≡ true }
-    requires before { (request : _) × (b : IsBefore core.old.places.items step.thread (phase.Admit request)) × (is_excluded core.old.places.items b.place.shard (mode_of request) ≡ false) }
-    ensures step { MakesStep Admits D.Deed S.BuildHasher S.Hasher.Hasher K.eq K.hash_input core.old step core.new }
+    requires before { (request : _) × IsBefore core.old.places.items step.thread (phase.Admit request) }
+    ensures made { MatchBool result
+        (MakesStep Admits D.Deed S.BuildHasher S.Hasher.Hasher K.eq K.hash_input core.old step core.new)
+        ((state_of core.new ≡ state_of core.old) × (status_of (state_of core.old) step.thread ≡ Asleep)) }
     ensures room { Room core.new }
 {
     let place = &mut core.places[step.thread];
-    let Phase::Admit(request) = mem::replace(&mut place.phase, Phase::Rest) else {
+    let Phase::Admit(request) = &place.phase else {
         unreachable!()
     };
     let hold = Hold {
         shard: place.shard,
         guard: core.guards,
-        mode: mode_of(&request),
+        mode: mode_of(request),
+    };
+    let desk = &mut core.desks[hold.shard];
+    if !take_hold(desk, hold.mode, step.thread as u64, hold.guard) {
+        return false;
+    }
+    let Phase::Admit(request) = mem::replace(&mut place.phase, Phase::Rest) else {
+        unreachable!()
     };
     place.hold = Some(hold);
     enter(&mut place.phase, Phase::Find(request));
-    let desk = &mut core.desks[hold.shard];
-    take_hold(desk, hold.mode, step.thread as u64, hold.guard);
     core.guards += 1;
     core.count += 1;
     core.steps = core.steps.appended(&step);
+    true
 }

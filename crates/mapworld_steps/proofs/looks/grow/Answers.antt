@@ -1,4 +1,4 @@
-use Rattle.std.proofs.Common.{◌≡◌, ℕ, ◌+◌, true, length, Option, Some, None, subst, inl, inr, refl, sym, ap, ◌∙◌, arith, length-append, length-set}
+use Rattle.std.proofs.Common.{ℕ, ◌+◌, true, length, Option, Some, None, subst, inl, inr, refl, sym, ap, ◌∙◌, arith, length-append, length-set}
 use Rattle.std.proofs.lemmas.Option.{slice_get_within, same_Some}
 use Rattle.mapworld_moves.specs.declared.blocks.Started.{Started}
 use Rattle.mapworld_state.specs.Core.{state_of, owes, lists, adds}

@@ -1,58 +1,34 @@
+use Rattle.std.proofs.Common.{◌≡◌, ◌<◌, ◌==◌, length, false, refl, sym, ap, ◌∙◌, subst}
+use Rattle.std.proofs.lemmas.Option.{slice_get_read, same_Some}
 use Rattle.mapworld_state.specs.declared.place.Phase.TheVariants as phase
-use Rattle.mapworld_state.specs.Core.{state_of}
-use Rattle.mapworld_steps.proofs.Running.{is_before, asks_left, not_excluded}
+use Rattle.mapworld_state.specs.declared.place.Place.{Place}
+use Rattle.mapworld_moves.proofs.Facts.{phase_here}
+use Rattle.mapworld_steps.proofs.Running.{is_before, some_left}
 use Rattle.mapworld_steps.proofs.one_step.advance.Goals as goal
 
 pub start-requires-clause-before : goal.start-requires-clause-before
-start-requires-clause-before g c = is_before c.args.core.now.places.items c.args.step.thread c.index.result.now phase.Rest c.requires.thread c.index.ensures c.in-Rest.is
+start-requires-clause-before g c = is_before c.args.core.now.places.items c.args.step.thread c.index-place.result.now phase.Rest c.requires.thread c.index-place.ensures c.in-Rest.is
 
 pub start-requires-clause-left : goal.start-requires-clause-left
-start-requires-clause-left g c = asks_left (state_of c.args.core.now) c.args.step.thread c.requires.running (start-requires-clause-before g c)
+start-requires-clause-left g c p at =
+    let places = c.args.core.now.places.items in
+    let r = c.index-place.result.now in
+    let here = slice_get_read places (length places) c.args.step.thread r refl c.requires.thread c.index-place.ensures in
+    let same = same_Some r p (sym here ∙ at) in
+    let some : (length r.asks.items == 0) ≡ false = ap (λ n. n == 0) (sym r.asks.ok.0) ∙ sym c.is_empty.ensures ∙ c.if-is_empty.false in
+    subst (λ (q : Place g.row.K.Denot g.row.V.Denot g.row.D.Denot g.row.D-Answer.Denot g.row.A.Denot). 0 < length q.asks.items) same (some_left (length r.asks.items) some)
 
 pub admit-requires-clause-before : goal.admit-requires-clause-before
 admit-requires-clause-before g c =
-    let b = is_before c.args.core.now.places.items c.args.step.thread c.index.result.now (phase.Admit c.in-Admit.field-0) c.requires.thread c.index.ensures c.in-Admit.is in
-    (c.in-Admit.field-0, b, not_excluded (state_of c.args.core.now) c.args.step.thread c.requires.running c.in-Admit.field-0 b)
+    (c.in-Admit.field-0, is_before c.args.core.now.places.items c.args.step.thread c.index-place.result.now (phase.Admit c.in-Admit.field-0) c.requires.thread c.index-place.ensures c.in-Admit.is)
 
-pub find-requires-clause-before : goal.find-requires-clause-before
-find-requires-clause-before g c =
-    (c.in-Find.field-0, is_before c.args.core.now.places.items c.args.step.thread c.index.result.now (phase.Find c.in-Find.field-0) c.requires.thread c.index.ensures c.in-Find.is)
-
-pub grow-requires-clause-before : goal.grow-requires-clause-before
-grow-requires-clause-before g c =
-    (c.in-Grow.field-0, is_before c.args.core.now.places.items c.args.step.thread c.index.result.now (phase.Grow c.in-Grow.field-0) c.requires.thread c.index.ensures c.in-Grow.is)
-
-pub append-requires-clause-before : goal.append-requires-clause-before
-append-requires-clause-before g c =
-    (c.in-Append.field-0, c.in-Append.field-1, is_before c.args.core.now.places.items c.args.step.thread c.index.result.now (phase.Append c.in-Append.field-0 c.in-Append.field-1) c.requires.thread c.index.ensures c.in-Append.is)
-
-pub apply-requires-clause-before : goal.apply-requires-clause-before
-apply-requires-clause-before g c =
-    (c.in-Apply.field-0, c.in-Apply.field-1, is_before c.args.core.now.places.items c.args.step.thread c.index.result.now (phase.Apply c.in-Apply.field-0 c.in-Apply.field-1) c.requires.thread c.index.ensures c.in-Apply.is)
-
-pub read-requires-clause-before : goal.read-requires-clause-before
-read-requires-clause-before g c =
-    (c.in-Read.field-0, is_before c.args.core.now.places.items c.args.step.thread c.index.result.now (phase.Read c.in-Read.field-0) c.requires.thread c.index.ensures c.in-Read.is)
-
-pub change-requires-clause-before : goal.change-requires-clause-before
-change-requires-clause-before g c =
-    (c.in-Change.field-0, is_before c.args.core.now.places.items c.args.step.thread c.index.result.now (phase.Change c.in-Change.field-0) c.requires.thread c.index.ensures c.in-Change.is)
-
-pub fill-requires-clause-before : goal.fill-requires-clause-before
-fill-requires-clause-before g c =
-    (c.in-Fill.field-0, is_before c.args.core.now.places.items c.args.step.thread c.index.result.now (phase.Fill c.in-Fill.field-0) c.requires.thread c.index.ensures c.in-Fill.is)
-
-pub release-requires-clause-before : goal.release-requires-clause-before
-release-requires-clause-before g c =
-    (c.in-Release.field-0, is_before c.args.core.now.places.items c.args.step.thread c.index.result.now (phase.Release c.in-Release.field-0) c.requires.thread c.index.ensures c.in-Release.is)
-
-pub answer-requires-clause-before : goal.answer-requires-clause-before
-answer-requires-clause-before g c =
-    (c.in-Answer.field-0, is_before c.args.core.now.places.items c.args.step.thread c.index.result.now (phase.Answer c.in-Answer.field-0) c.requires.thread c.index.ensures c.in-Answer.is)
-
-pub view-requires-clause-before : goal.view-requires-clause-before
-view-requires-clause-before g c =
-    (c.in-View.field-0, c.in-View.field-1, c.in-View.field-2, is_before c.args.core.now.places.items c.args.step.thread c.index.result.now (phase.View c.in-View.field-0 c.in-View.field-1 c.in-View.field-2) c.requires.thread c.index.ensures c.in-View.is)
-
-pub downgrade-requires-clause-before : goal.downgrade-requires-clause-before
-downgrade-requires-clause-before g c = is_before c.args.core.now.places.items c.args.step.thread c.index.result.now phase.Downgrade c.requires.thread c.index.ensures c.in-Downgrade.is
+pub go_on-requires : goal.go_on-requires
+go_on-requires g c =
+    record {
+      sound = c.requires.sound;
+      room = c.requires.room;
+      numbers = c.requires.numbers;
+      thread = c.requires.thread;
+      begun = λ b. c.in_default.not-Rest (phase_here b c.index-place.result.now c.index-place.ensures);
+      admitted = λ request b. c.in_default.not-Admit request (phase_here b c.index-place.result.now c.index-place.ensures);
+    }
