@@ -25,6 +25,7 @@ pub use dashmap_guard::{SharedValue, map_in_place_2, ptr_size_bits};
 pub use dashmap_iter::LendingWalks;
 pub use dashmap_map::mapref::entry::{Entry, OccupiedEntry, VacantEntry};
 pub use dashmap_map::{Map, NewFault, TryReserveError};
+pub use dashmap_parallel::{NoThreadData, ParExtendFault, ParallelMap, par_extend_shared};
 pub use dashmap_plain::{ExtendShards, Plain, Unlocked};
 pub use dashmap_rayon::ParallelView;
 pub use dashmap_record::{

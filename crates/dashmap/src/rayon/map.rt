@@ -1,3 +1,4 @@
-//! Pairs of plain shards, side by side.
+//! Pairs of plain shards and of shared maps, side by side.
 
+pub use dashmap_parallel::{SharedIter, SharedIterMut};
 pub use dashmap_rayon::{Iter, OwningIter};
