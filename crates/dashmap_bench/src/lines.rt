@@ -3,7 +3,7 @@
 use crate::fault::Fault;
 use crate::keys::{Leaping, Onward, Round};
 use crate::threads::{Mix, Team, run};
-use crate::walks::{count_all, keep_all, read_all, write_all};
+use crate::walks::{count_all, keep_all, write_all};
 use crate::work::{Map, Shared, churn, enter_all, look_up_all, map_over, put_all, take_all};
 use dashmap_table_work::clock::report;
 use lock_api_raw::RawRwLock;
@@ -30,7 +30,6 @@ enum Deed {
     SmallMiss,
     SmallChurn,
     WalksFill,
-    Iter,
     IterMut,
     Retain,
     Len,
@@ -51,7 +50,6 @@ impl Deed {
             Deed::SmallMiss => "st.small_miss.dash_fold",
             Deed::SmallChurn => "st.small_churn.dash_fold",
             Deed::WalksFill => "st.walks_fill.dash_fold",
-            Deed::Iter => "st.iter.dash_fold",
             Deed::IterMut => "st.iter_mut.dash_fold",
             Deed::Retain => "st.retain.dash_fold",
             Deed::Len => "st.len.dash_fold",
@@ -91,7 +89,6 @@ impl Deed {
             Deed::SmallHit => Ok(look_up_all::<Round<0, 1_000>, Q>(map, me, calls)),
             Deed::SmallMiss => Ok(look_up_all::<Round<5_000, 1_000>, Q>(map, me, calls)),
             Deed::SmallChurn => churn::<Round<2_000, 1_000>, Q>(map, me, calls / 2),
-            Deed::Iter => read_all(map, me),
             Deed::IterMut => Ok(write_all(map, me, calls)),
             Deed::Retain => Ok(keep_all(map, me)),
             Deed::Len => Ok(count_all(map, me, calls)),
@@ -115,13 +112,7 @@ const DEEDS: [&[Deed]; 4] = [
         Deed::SmallMiss,
         Deed::SmallChurn,
     ],
-    &[
-        Deed::WalksFill,
-        Deed::Iter,
-        Deed::IterMut,
-        Deed::Retain,
-        Deed::Len,
-    ],
+    &[Deed::WalksFill, Deed::IterMut, Deed::Retain, Deed::Len],
 ];
 
 /// Makes the calls on a new map, and prints a line for each.

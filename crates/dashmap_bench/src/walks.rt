@@ -1,27 +1,10 @@
 //! The walks of one thread that are measured.
 
-use crate::fault::Fault;
 use crate::work::Map;
 use dashmap_iter::LendingWalks;
 use dashmap_walks::Walks;
 use lock_api_raw::RawRwLock;
 use std::sync::Wait;
-
-/// The sum over all pairs, which a walk lends to be read.
-#[inline(never)]
-pub fn read_all<Q: RawRwLock>(map: &Map<Q>, me: &mut Q::Party) -> Result<u64, Fault>
-where
-    Q::Runtime: Wait,
-{
-    let mut sum = 0u64;
-    for item in map.iter(me) {
-        let Ok(pair) = item else {
-            return Err(Fault);
-        };
-        sum = sum.wrapping_add(*pair.key() ^ *pair.value());
-    }
-    Ok(sum)
-}
 
 /// Counts each value up, which a walk lends to be written, and answers how many there were, of so many at most.
 #[inline(never)]
