@@ -2,7 +2,14 @@
 
 use crate::maps::{Map, map_of};
 use dashmap_iter::LendingWalks;
+use std::alloc::{AllocError, Global};
+use std::fmt::Debug;
 use std::test::Fail;
+
+/// What is printed of an item for one who looks for a fault.
+fn shown<T: Debug>(item: &T, alloc: Global) -> Result<String, AllocError> {
+    format!(in alloc; "{item:?}")
+}
 
 #[test]
 fn each_pair_is_written_once(rt: HostRuntime) -> Result<(), Fail> {
@@ -75,7 +82,7 @@ fn an_item_is_shown(rt: HostRuntime) -> Result<(), Fail> {
     let Some(pair) = walk.next_mut() else {
         return Err(Fail::from("no item"));
     };
-    let text = format!(in rt.alloc(); "{pair:?}")?;
+    let text = shown(&pair, rt.alloc())?;
     assert!(rt; text.as_str() == "RefMutMulti { k: 1, v: 2 }");
     Ok(())
 }
