@@ -20,7 +20,7 @@ fn eight(rt: HostRuntime) -> Result<Noted<HostRuntime>, NewFault> {
 fn doubles(rt: HostRuntime, amount: u64) -> Result<Vec<(u64, u64)>, Fail> {
     let mut pairs = Vec::new(rt.alloc());
     for key in 0..amount {
-        pairs.push((key, key * 2))?;
+        pairs.push((key, key.wrapping_mul(2)))?;
     }
     Ok(pairs)
 }
@@ -54,9 +54,8 @@ fn each_pair_goes_to_its_piece_in_order(rt: HostRuntime) -> Result<(), Fail> {
     for (key, _) in &pairs {
         let shard = map.determine_map(key);
         let piece = if shard < 6 { shard / 3 } else { 2 };
-        expected[piece] = expected[piece]
-            .wrapping_mul(10)
-            .wrapping_add(shard as u64 + 1);
+        let digits = expected[piece].wrapping_mul(10);
+        expected[piece] = digits.wrapping_add(shard as u64).wrapping_add(1);
     }
     let mut right = par_extend_shared(&map, &rt, pairs, &mut parties) == Ok(());
     right &= parties == expected;
