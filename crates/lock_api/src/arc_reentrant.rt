@@ -27,12 +27,8 @@ where
     token: GuardNoSend,
 }
 
-impl<
-    R: RawMutex + Drop,
-    G: GetThreadId<Party = R::Party> + Drop,
-    T,
-    A: Allocator,
-> Model for OwnedReentrant<R, G, T, A>
+impl<R: RawMutex + Drop, G: GetThreadId<Party = R::Party> + Drop, T, A: Allocator> Model
+    for OwnedReentrant<R, G, T, A>
 where
     R::Runtime: Wait,
 {
