@@ -74,7 +74,7 @@ fn agrees<R: Wait + Threads + Copy + Send + Sync + Drop>(
     let mut last = 0;
     for (key, value) in &values {
         let shard = map.determine_map(key);
-        right &= *value == *key * 3 && last <= shard;
+        right &= *value == key.wrapping_mul(3) && last <= shard;
         last = shard;
     }
     Ok(right)
