@@ -1,7 +1,7 @@
 //! Why a run can't be made.
 
-use dashmap_table::MapFault;
-use parking_lot_core::{LotFault, SizeFault};
+use dashmap_table::{MapFault, NoMemory};
+use parking_lot_core::{LotFault, SizeFault, ThreadData};
 use std::alloc::{AllocError, AllocFailed};
 use std::io;
 
@@ -41,6 +41,18 @@ impl From<io::Error> for Fault {
 
 impl From<AllocFailed<u64>> for Fault {
     fn from(_refused: AllocFailed<u64>) -> Fault {
+        Fault
+    }
+}
+
+impl From<AllocFailed<ThreadData>> for Fault {
+    fn from(_refused: AllocFailed<ThreadData>) -> Fault {
+        Fault
+    }
+}
+
+impl From<NoMemory> for Fault {
+    fn from(_refused: NoMemory) -> Fault {
         Fault
     }
 }

@@ -2,8 +2,9 @@
 
 use crate::fault::Fault;
 use crate::keys::{Leaping, Onward, Round};
+use crate::parallel::{TIMES, sum_often};
 use crate::threads::{Mix, Team, run};
-use crate::walks::{count_all, keep_all, write_all};
+use crate::walks::{count_all, keep_all, read_all, write_all};
 use crate::work::{Map, Shared, churn, enter_all, look_up_all, map_over, put_all, take_all};
 use dashmap_table_work::clock::report;
 use lock_api_raw::RawRwLock;
@@ -30,6 +31,7 @@ enum Deed {
     SmallMiss,
     SmallChurn,
     WalksFill,
+    Iter,
     IterMut,
     Retain,
     Len,
@@ -50,6 +52,7 @@ impl Deed {
             Deed::SmallMiss => "st.small_miss.dash_fold",
             Deed::SmallChurn => "st.small_churn.dash_fold",
             Deed::WalksFill => "st.walks_fill.dash_fold",
+            Deed::Iter => "st.iter.dash_fold",
             Deed::IterMut => "st.iter_mut.dash_fold",
             Deed::Retain => "st.retain.dash_fold",
             Deed::Len => "st.len.dash_fold",
@@ -89,6 +92,7 @@ impl Deed {
             Deed::SmallHit => Ok(look_up_all::<Round<0, 1_000>, Q>(map, me, calls)),
             Deed::SmallMiss => Ok(look_up_all::<Round<5_000, 1_000>, Q>(map, me, calls)),
             Deed::SmallChurn => churn::<Round<2_000, 1_000>, Q>(map, me, calls / 2),
+            Deed::Iter => read_all(map, me, calls),
             Deed::IterMut => Ok(write_all(map, me, calls)),
             Deed::Retain => Ok(keep_all(map, me)),
             Deed::Len => Ok(count_all(map, me, calls)),
@@ -112,7 +116,13 @@ const DEEDS: [&[Deed]; 4] = [
         Deed::SmallMiss,
         Deed::SmallChurn,
     ],
-    &[Deed::WalksFill, Deed::IterMut, Deed::Retain, Deed::Len],
+    &[
+        Deed::WalksFill,
+        Deed::Iter,
+        Deed::IterMut,
+        Deed::Retain,
+        Deed::Len,
+    ],
 ];
 
 /// Makes the calls on a new map, and prints a line for each.
@@ -157,6 +167,20 @@ pub fn print_teams<R: Wait + Threads + Clock + Sync + Copy + Drop>(
     Ok(())
 }
 
+/// Prints a line for the sum over all pairs by one, two and four threads.
+pub fn print_parallel<R: Wait + Threads + Clock + Sync + Copy + Drop>(
+    rt: &HostRuntime,
+    handle: R,
+) -> Result<(), Fault> {
+    for team in Team::ALL {
+        let told = sum_often(handle, rt.alloc(), team.count() as usize, u64::from(MANY))?;
+        let nanos = told.nanos / (f64::from(MANY) * f64::from(TIMES));
+        eprintln!(rt; "saw {}", told.saw)?;
+        println!(rt; "par.sum.t{}.dash_fold {nanos}", team.count())?;
+    }
+    Ok(())
+}
+
 /// Fills a map with so many keys, and answers how many pairs it has.
 pub fn fill<R: Wait + Copy + Drop>(alloc: Global, handle: R) -> Result<usize, Fault> {
     let lot = ParkingLot::new(handle, alloc, 1, 7)?;
@@ -191,6 +215,10 @@ pub fn small_run<R: Wait + Threads + Clock + Sync + Copy + Drop>(
 ) -> Result<(), Fault> {
     for deeds in DEEDS {
         print_sums(rt, handle, deeds)?;
+    }
+    for team in Team::ALL {
+        let told = sum_often(handle, rt.alloc(), team.count() as usize, 1_000)?;
+        println!(rt; "par.sum.t{} saw {}", team.count(), told.saw)?;
     }
     for mix in Mix::ALL {
         for team in Team::ALL {

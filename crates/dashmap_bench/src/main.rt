@@ -5,18 +5,20 @@
 //! - `st` prints a line for each call of one thread: its name and how many nanoseconds the call takes, with 1,000,000 keys and with
 //!   1,000.
 //! - `mt` prints a line for each mix of looks and insertions of one, two and four threads.
+//! - `par` prints a line for a sum over 1,000,000 pairs by one, two and four threads, side by side.
 //! - `mem` fills a map with 1,000,000 pairs and prints how many it has, for a tool that counts the memory that is asked for.
 #![tactic(auto)]
 
 mod fault;
 mod keys;
 mod lines;
+mod parallel;
 mod threads;
 mod walks;
 mod work;
 
 use fault::Fault;
-use lines::{fill, print_calls, print_teams, small_run};
+use lines::{fill, print_calls, print_parallel, print_teams, small_run};
 use std::env;
 use std::process::ExitCode;
 use std::sync::Wait;
@@ -28,6 +30,7 @@ enum Asked {
     Small,
     Calls,
     Teams,
+    Parallel,
     Memory,
 }
 
@@ -39,6 +42,7 @@ fn words_of(rt: &HostRuntime) -> Option<Asked> {
         Some(word) => match word.as_str() {
             "st" => Some(Asked::Calls),
             "mt" => Some(Asked::Teams),
+            "par" => Some(Asked::Parallel),
             "mem" => Some(Asked::Memory),
             _ => None,
         },
@@ -55,6 +59,7 @@ fn tell<R: Wait + Threads + Clock + Sync + Copy + Drop>(
         Asked::Small => small_run(rt, handle),
         Asked::Calls => print_calls(rt, handle),
         Asked::Teams => print_teams(rt, handle),
+        Asked::Parallel => print_parallel(rt, handle),
         Asked::Memory => {
             let pairs = fill(rt.alloc(), handle)?;
             println!(rt; "pairs {pairs}")?;
@@ -65,7 +70,7 @@ fn tell<R: Wait + Threads + Clock + Sync + Copy + Drop>(
 
 fn main(rt: HostRuntime) -> ExitCode {
     let Some(asked) = words_of(&rt) else {
-        let _ = eprintln!(rt; "st, mt, mem, or nothing");
+        let _ = eprintln!(rt; "st, mt, par, mem, or nothing");
         return ExitCode::FAILURE;
     };
     match tell(&rt, rt, asked) {

@@ -1,10 +1,32 @@
 //! The walks of one thread that are measured.
 
+use crate::fault::Fault;
 use crate::work::Map;
 use dashmap_iter::LendingWalks;
 use dashmap_walks::Walks;
 use lock_api_raw::RawRwLock;
 use std::sync::Wait;
+
+/// The sum of key and value, bit by bit, of so many pairs at most, which a walk lends.
+#[inline(never)]
+pub fn read_all<Q: RawRwLock>(map: &Map<Q>, me: &mut Q::Party, count: u64) -> Result<u64, Fault>
+where
+    Q::Runtime: Wait,
+{
+    let mut walk = {
+        let me = &mut *me;
+        map.iter(me)
+    };
+    let mut sum = 0u64;
+    for _ in 0..count {
+        match walk.next() {
+            Some(Ok(pair)) => sum = sum.wrapping_add(*pair.key() ^ *pair.value()),
+            Some(Err(_)) => return Err(Fault),
+            None => return Ok(sum),
+        }
+    }
+    Ok(sum)
+}
 
 /// Counts each value up, which a walk lends to be written, and answers how many there were, of so many at most.
 #[inline(never)]

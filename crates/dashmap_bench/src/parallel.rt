@@ -1,0 +1,84 @@
+//! A sum over all pairs by several threads, side by side.
+
+use crate::fault::Fault;
+use crate::keys::Onward;
+use crate::work::{Map, Shared, map_over, put_all};
+use dashmap_parallel::ParallelMap;
+use lock_api_raw::RawRwLock;
+use parking_lot_core::{ParkingLot, ThreadData};
+use parking_lot_locks::LockTable;
+use std::alloc::Global;
+use std::sync::Wait;
+use std::thread::Threads;
+use std::time::{Clock, Instant};
+
+/// How often the sum is taken.
+pub const TIMES: u32 = 8;
+
+/// What came of sums.
+#[derive(Clone, Copy)]
+pub struct Sums {
+    /// How many nanoseconds they took.
+    pub nanos: f64,
+    /// All of them together.
+    pub saw: u64,
+}
+
+/// The sum of key and value, bit by bit, of all pairs, by as many threads as data is handed in.
+fn sum_all<R: Threads + Sync, Q: RawRwLock + Sync>(
+    rt: &R,
+    alloc: Global,
+    map: &Map<Q>,
+    tds: &mut [Q::Party],
+) -> Result<u64, Fault>
+where
+    Q::Runtime: Wait,
+    Q::Party: Send,
+{
+    let Ok(pairs) = map.par_iter(tds) else {
+        return Err(Fault);
+    };
+    let answers = pairs.map_collect(rt, alloc, |key: &u64, value: &u64| *key ^ *value)?;
+    let mut sum = 0u64;
+    for answer in answers.iter() {
+        sum = sum.wrapping_add(*answer);
+    }
+    Ok(sum)
+}
+
+/// Data for so many threads.
+fn team<R: Wait>(
+    alloc: Global,
+    lot: &ParkingLot<R>,
+    threads: usize,
+) -> Result<Vec<ThreadData>, Fault> {
+    let mut tds = Vec::new(alloc);
+    for _ in 0..threads {
+        tds.push(lot.thread_data()?)?;
+    }
+    Ok(tds)
+}
+
+/// Fills a map with so many pairs, and has so many threads take the sum some times.
+pub fn sum_often<R: Wait + Threads + Clock + Sync + Copy + Drop>(
+    rt: R,
+    alloc: Global,
+    threads: usize,
+    count: u64,
+) -> Result<Sums, Fault> {
+    let lot = ParkingLot::new(rt, alloc, 5, 7)?;
+    let table = LockTable::new(alloc, &lot, 16)?;
+    let map: Shared<'_, '_, R> = map_over(alloc, &table)?;
+    let mut me = lot.thread_data()?;
+    put_all::<Onward<0>, _>(&map, &mut me, count)?;
+    let mut tds = team(alloc, &lot, threads)?;
+    let start = Instant::now(&rt)?;
+    let mut saw = 0u64;
+    for _ in 0..TIMES {
+        saw = saw.wrapping_add(sum_all(&rt, alloc, &map, &mut tds)?);
+    }
+    Ok(Sums {
+        nanos: start.elapsed(&rt)?.as_secs_f64() * 1e9,
+        saw,
+    })
+}
