@@ -42,6 +42,14 @@ impl<'m, 'd, K: Eq + Hash, Q: RawRwLock, A: Allocator> Iter<'m, 'd, K, Q, A> {
     }
 }
 
+/// Calls a closure at a key.
+fn lend_to<K, F: Fn(&K)>(key: &K, f: &F)
+    requires { F.IsAlwaysCallable f.now }
+    ensures { AnswersOfKey F.Fn f.now key.now tt }
+{
+    f(key);
+}
+
 impl<'m, 'd, K: Eq + Hash + Send + Sync, Q: RawRwLock + Sync, A: Allocator + Send + Sync> Iter<
     'm,
     'd,
@@ -65,7 +73,7 @@ where
             |key: &K, _: &()|
                 requires { F.IsAlwaysCallable f.now }
                 ensures { AnswersOfKey F.Fn f.entry.now key.now tt }
-            { f(key) },
+            { lend_to(key, f) },
         );
     }
 

@@ -51,7 +51,9 @@ impl<K: Eq + Hash + Send + Drop, A: Allocator + Clone + Send> OwningIter<K, A> {
             |key: K, _unit: ()|
                 requires { F.IsAlwaysCallable f.now }
                 ensures { MakesOfKey F.Fn f.entry.now key tt }
-            { f(key) },
+            {
+                f(key);
+            },
         );
     }
 
