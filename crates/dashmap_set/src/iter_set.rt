@@ -65,11 +65,7 @@ where
     ghost remaining = { λ w. at_most (left (λ g. read_guard_value g.inner) w) };
 
     fn next(&mut self) -> Option<Result<RefMulti<'m, 'd, K, Q, A>, NoMemory>> {
-        match self.walk.next() {
-            Some(Ok(pair)) => Some(Ok(RefMulti::of_pair(pair))),
-            Some(Err(fault)) => Some(Err(fault)),
-            None => None,
-        }
+        RefMulti::of_item(self.walk.next())
     }
 }
 

@@ -5,7 +5,7 @@ ghost use Rattle.dashmap_guard.specs.Guarded.{key_in};
 use dashmap_iter::multiple;
 use dashmap_table::Shard;
 use lock_api_guards::{Hold, Lender};
-use lock_api_raw::RawRwLock;
+use lock_api_raw::{NoMemory, RawRwLock};
 use lock_api_rw::{RawHold, RwLock, Shared};
 use std::alloc::{Allocator, Global};
 use std::hash::Hash;
@@ -82,11 +82,17 @@ impl<K: Eq + Hash, A: Allocator, W: Lender<Part = Shard<K, (), A>> + Drop, H: Ho
 where
     H::Runtime: Wait,
 {
-    /// The item of a pair's key.
-    pub(crate) fn of_pair(inner: multiple::MultiGuard<K, (), A, W, H, D>) -> KeyMulti<K, A, W, H, D>
-        ensures { result ≡ inner }
+    /// The item of a set's walk, where the map's walk gives this one.
+    pub(crate) fn of_item(
+        item: Option<Result<multiple::MultiGuard<K, (), A, W, H, D>, NoMemory>>,
+    ) -> Option<Result<KeyMulti<K, A, W, H, D>, NoMemory>>
+        ensures { result ≡ item }
     {
-        KeyMulti { inner }
+        match item {
+            Some(Ok(inner)) => Some(Ok(KeyMulti { inner })),
+            Some(Err(fault)) => Some(Err(fault)),
+            None => None,
+        }
     }
 
     /// The stored key.
