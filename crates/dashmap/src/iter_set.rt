@@ -1,3 +1,3 @@
-//! Keys of a set that is given up.
+//! Walks over the keys of a set.
 
-pub use dashmap_set::iter_set::OwningIter;
+pub use dashmap_set::iter_set::{Iter, OwningIter};

@@ -1,3 +1,4 @@
 //! Parallel forms.
 
 pub mod map;
+pub mod set;

@@ -1,3 +1,4 @@
 //! Guards of keys.
 
+pub mod multiple;
 pub mod one;

@@ -1,4 +1,4 @@
 mod Cutting
 mod Dealing
-mod Gathering
-mod Putting
+pub mod Gathering
+pub mod Putting

@@ -10,6 +10,7 @@ mod clone;
 pub mod iter_set;
 mod keyed;
 mod make;
+pub mod parallel;
 mod set;
 pub mod setref;
 mod show;

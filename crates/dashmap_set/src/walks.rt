@@ -1,11 +1,13 @@
 //! Walks over all shards of a set, each of which is held exclusively in its turn.
-ghost use Rattle.std.specs.Prelude.{◌≡◌, ℕ, None, IsSome, length};
+ghost use Rattle.std.specs.Prelude.{◌≡◌, ℕ, false, None, IsSome, length};
 ghost use Rattle.dashmap_table.specs.Slots.{at};
 ghost use Rattle.dashmap_walks.specs.Held.{EachHeld, WhileHeld};
 ghost use Rattle.dashmap_walks.specs.Visits.{AtFull, Walked};
 ghost use Rattle.dashmap_set.specs.Walks.{AnswersKey, KeepsKey};
 
+use crate::iter_set::Iter;
 use crate::set::DashSet;
+use dashmap_iter::LendingWalks;
 use dashmap_table::Shard;
 use dashmap_walks::{Walks, lock_behind};
 use lock_api_raw::RawRwLock;
@@ -80,6 +82,24 @@ where
 {
     let mut guard = lock.write(td);
     retain_in(&mut *guard, f)
+}
+
+impl<K: Eq + Hash, S: BuildHasher, Q: RawRwLock, A: Allocator> DashSet<K, S, Q, A>
+where
+    Q::Runtime: Wait,
+{
+    /// A walk that lends the keys, one by one. It holds nothing before its first item.
+    ///
+    /// ```text
+    /// for item in set.iter(&mut me) {
+    ///     let key = item?;                // an error where there was no memory
+    /// }
+    /// ```
+    pub fn iter<'m, 'd>(&'m self, td: &'d mut Q::Party) -> Iter<'m, 'd, K, Q, A>
+        ensures { result ≡ record { locks = self.now.locks; next = 0; held = None; from = 0; failed = false } }
+    {
+        Iter::of_walk(self.inner.iter(td))
+    }
 }
 
 impl<K: Eq + Hash + Drop, S: BuildHasher, Q: RawRwLock, A: Allocator> DashSet<K, S, Q, A>

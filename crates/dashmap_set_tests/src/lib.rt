@@ -6,8 +6,12 @@ mod keys;
 #[cfg(test)]
 mod making;
 #[cfg(test)]
+mod parallel;
+#[cfg(test)]
 mod sets;
 #[cfg(test)]
 mod threads;
+#[cfg(test)]
+mod walks;
 #[cfg(test)]
 mod whole;
