@@ -1,4 +1,4 @@
-//! Tests of walks that lend, over a raw lock of one word.
+//! Tests of walks that lend, over a raw lock of one word and over the locks of running threads.
 #![tactic(auto)]
 
 #[cfg(test)]
@@ -7,5 +7,7 @@ mod lent;
 mod maps;
 #[cfg(test)]
 mod refused;
+#[cfg(test)]
+mod threads;
 #[cfg(test)]
 mod written;

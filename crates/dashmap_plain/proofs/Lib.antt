@@ -1,1 +1,2 @@
 mod Regained
+pub mod Taken

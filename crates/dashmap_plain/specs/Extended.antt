@@ -1,5 +1,5 @@
 -- What plain shards become when pairs are put in, one after another.
-use Rattle.std.specs.Prelude.{◌≡◌, Bool, List, Option, Some, if◌then◌else◌}
+use Rattle.std.specs.Prelude.{◌≡◌, Bool, List, Some, if◌then◌else◌}
 use Rattle.std.specs.Hash.{HashWrites}
 use Rattle.std.specs.List.{FoldsTo}
 use Rattle.std.specs.declared.hash.BuildHasher as builder

@@ -6,12 +6,16 @@
 #![tactic(auto)]
 
 mod exchange;
+mod extend;
+mod iter_mut;
 mod parallel;
 mod plain;
 mod read_only;
 mod shards;
 mod unlocked;
 
+pub use extend::{from_par_iter, par_extend, par_extend_shards};
+pub use iter_mut::IterMut;
 pub use plain::Plain;
 pub use read_only::ReadOnlyView;
 pub use shards::ExtendShards;

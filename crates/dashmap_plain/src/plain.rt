@@ -2,6 +2,7 @@
 ghost use Rattle.std.specs.Prelude.{◌≡◌, length, IfOk, IfErr};
 ghost use Rattle.dashmap_map.specs.Locked.{Locked};
 
+use crate::iter_mut::IterMut;
 use crate::read_only::ReadOnlyView;
 use crate::unlocked::Unlocked;
 use dashmap_map::DashMap;
@@ -38,6 +39,11 @@ pub trait Plain<K: Eq + Hash, V, S: BuildHasher, Q, A: Allocator>: Sized {
         ensures view { IfOk result (λ v. (v.locks ≡ (seen self).locks) × (v.plain.hasher ≡ (seen self).hasher)) }
         ensures displaced { IfErr result (λ back. seen back ≡ seen self) };
 
+    /// All pairs, their values lent for writing.
+    fn par_iter_mut(&mut self) -> IterMut<'_, K, V, S, Q, A>
+        ensures same { result.map.ghost_name ≡ self.entry.ghost_name }
+        ensures value { result.map.now ≡ seen self.old };
+
     /// All pairs by value: the pairs of one shard are one piece of work, and shards go side by side. The locks go; their rows stay used.
     fn into_par_iter(self) -> dashmap_rayon::OwningIter<K, V, A>
         ensures { length result ≡ length (seen self).locks };
@@ -62,6 +68,10 @@ impl<K: Eq + Hash + Drop, V: Drop, S: BuildHasher + Drop, Q: Drop, A: Allocator>
 
     fn into_par_iter(self) -> dashmap_rayon::OwningIter<K, V, A> {
         Unlocked::of(self).into_par_iter()
+    }
+
+    fn par_iter_mut(&mut self) -> IterMut<'_, K, V, S, Q, A> {
+        IterMut::new(self)
     }
 
     fn into_read_only(

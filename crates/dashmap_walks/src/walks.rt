@@ -54,6 +54,26 @@ where
         K: Drop,
         V: Drop,
         ensures { EachHeld {K = K} {V = V} Q.ExclusiveGuard Q.Runtime Q.Party {F = Unit {0}} (seen self.now) (λ p q. (i : ℕ) → at q.1.slots i ≡ None) tt tt };
+
+    /// As `retain`.
+    fn _retain<F: FnMut(&K, &mut V) -> bool + Drop>(&self, f: F, td: &mut Q::Party)
+    where
+        K: Drop,
+        V: Drop,
+        requires { F.IsAlwaysCallable f }
+        ensures { (last : F) × EachHeld Q.ExclusiveGuard Q.Runtime Q.Party (seen self.now) (λ p q. Walked (AtFull (Keeps F.FnMut)) (length p.1.slots) p q) f last };
+
+    /// As `alter_all`.
+    fn _alter_all<F: FnMut(&K, V) -> V + Drop>(&self, f: F, td: &mut Q::Party)
+        requires { F.IsAlwaysCallable f }
+        ensures { (last : F) × EachHeld Q.ExclusiveGuard Q.Runtime Q.Party (seen self.now) (λ p q. Walked (AtFull (Alters F.FnMut)) (length p.1.slots) p q) f last };
+
+    /// As `clear`.
+    fn _clear(&self, td: &mut Q::Party)
+    where
+        K: Drop,
+        V: Drop,
+        ensures { EachHeld {K = K} {V = V} Q.ExclusiveGuard Q.Runtime Q.Party {F = Unit {0}} (seen self.now) (λ p q. (i : ℕ) → at q.1.slots i ≡ None) tt tt };
 }
 
 /// The lock of a shard. For the layer above.
@@ -151,5 +171,25 @@ where
         for shard in 0..locks.len() {
             clear_behind(lock_behind(locks, shard), td);
         }
+    }
+
+    fn _retain<F: FnMut(&K, &mut V) -> bool + Drop>(&self, f: F, td: &mut Q::Party)
+    where
+        K: Drop,
+        V: Drop,
+    {
+        self.retain(f, td);
+    }
+
+    fn _alter_all<F: FnMut(&K, V) -> V + Drop>(&self, f: F, td: &mut Q::Party) {
+        self.alter_all(f, td);
+    }
+
+    fn _clear(&self, td: &mut Q::Party)
+    where
+        K: Drop,
+        V: Drop,
+    {
+        self.clear(td);
     }
 }

@@ -93,3 +93,19 @@ fn a_map_is_cleared(rt: HostRuntime) -> Result<(), Fail> {
     assert!(rt; right & (map.capacity(&mut me) == 0));
     Ok(())
 }
+
+#[test]
+fn walks_by_their_underscored_names_do_the_same(rt: HostRuntime) -> Result<(), Fail> {
+    let map: Map<u64, u64> = map_of(rt, 8)?;
+    let mut me = 1;
+    for key in 0..100 {
+        let _ = map.insert(key, key, &mut me)?;
+    }
+    map._retain(|key, _| *key % 2 == 1, &mut me);
+    map._alter_all(|key, value| value.wrapping_add(*key), &mut me);
+    let mut right = (map.len(&mut me) == 50) & !map.contains_key(&10, &mut me);
+    right = right & (map.view(&11, |_, value| *value, &mut me) == Some(22));
+    map._clear(&mut me);
+    assert!(rt; right & map.is_empty(&mut me));
+    Ok(())
+}
