@@ -204,12 +204,16 @@ where
     }
 
     /// Takes the first waiter, and answers whether one was taken.
-    pub fn notify_one(&self) -> bool {
+    pub fn notify_one(&self) -> bool
+        ensures { C.notified_one self.now.raw result }
+    {
         self.raw.notify_one()
     }
 
     /// Takes all waiters, and answers how many there were.
-    pub fn notify_all(&self) -> usize {
+    pub fn notify_all(&self) -> usize
+        ensures { C.notified_all self.now.raw result }
+    {
         self.raw.notify_all()
     }
 }

@@ -100,7 +100,9 @@ impl<R: RawMutex, T> Mutex<R, T> {
     }
 
     /// Whether a hold was out at the moment of one look at the raw mutex.
-    pub fn is_locked(&self) -> bool {
+    pub fn is_locked(&self) -> bool
+        ensures { R.looked self.now result }
+    {
         self.raw.is_locked()
     }
 }

@@ -142,7 +142,9 @@ where
     }
 
     /// Whether a hold was out at the moment of one look at the raw mutex.
-    pub fn is_locked(&self) -> bool {
+    pub fn is_locked(&self) -> bool
+        ensures { R.looked self.now.raw result }
+    {
         self.raw.is_locked()
     }
 

@@ -84,11 +84,15 @@ pub trait DowngradeHold: Hold {
     /// The shared hold.
     type Down: Hold<Lock = Self::Lock>;
 
+    /// That a downgrade of the hold gave this one. Where the lock is of any type, a downgrade of it alone gives it.
+    ghost downgraded: { Self → Self.Down → Type 0 } = { λ _ _. ⊤ };
+
     /// Turns the hold into a shared one without letting go.
     fn downgrade(self) -> Self::Down
     where
         Self::Runtime: Wait,
-        ensures { Self.Down.lock_of result ≡ Self.lock_of self };
+        ensures lock { Self.Down.lock_of result ≡ Self.lock_of self }
+        ensures call { downgraded self result };
 }
 
 /// A hold that can become an upgradable one. For the layer above.

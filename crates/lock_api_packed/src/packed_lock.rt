@@ -1,5 +1,7 @@
 //! A raw reader-writer lock of one atomic word.
-ghost use Rattle.std.specs.Prelude.{◌≡◌, ◌-◌, ◌^◌, IfSome, min, max};
+ghost use Rattle.std.specs.Prelude.{◌≡◌, ◌-◌, ◌^◌, IfSome, min, max, true};
+ghost use Rattle.lock_api_packed.specs.Turns.{Made};
+ghost use Rattle.lock_api_packed.specs.declared.turn.Turn.TheVariants.{TakeShared, TakeExclusive, TakeUpgradable, GiveShared, GiveExclusive, GiveUpgradable, Downgrade};
 
 use crate::turn::Turn;
 use lock_api_raw::{
@@ -31,7 +33,9 @@ pub struct PackedLock<R: Drop> {
 
 impl<R: Drop> PackedLock<R> {
     /// Makes the change by an exchange, or answers false where it isn't admitted.
-    fn turn(&self, turn: Turn) -> bool {
+    fn turn(&self, turn: Turn) -> bool
+        ensures { result ≡ true → Made turn }
+    {
         let mut word = self.word.load(Ordering::SeqCst);
         for _ in 0..EXCHANGES {
             let Some(next) = turn.of(word, self.limit) else {
@@ -52,6 +56,7 @@ impl<R: Drop> PackedLock<R> {
     fn turn_at_last(&self, turn: Turn)
     where
         R: Wait,
+        ensures { Made turn }
     {
         for _ in self.rt.forever() {
             if self.turn(turn) {
@@ -145,6 +150,14 @@ impl<R: Drop> RawRwLock for PackedLock<R> {
 
     ghost runtime_of = { λ lock. lock.rt };
 
+    ghost shared_locked = { λ _. Made TakeShared };
+
+    ghost exclusive_locked = { λ _. Made TakeExclusive };
+
+    ghost shared_unlocked = { λ _. Made GiveShared };
+
+    ghost exclusive_unlocked = { λ _. Made GiveExclusive };
+
     fn runtime(&self) -> &R {
         &self.rt
     }
@@ -199,6 +212,10 @@ impl<R: Drop> RawRwLock for PackedLock<R> {
 }
 
 impl<R: Drop> RawRwLockFair for PackedLock<R> {
+    ghost shared_spent_fairly = { λ _. Made GiveShared };
+
+    ghost exclusive_spent_fairly = { λ _. Made GiveExclusive };
+
     fn unlock_shared_fair(&self, guard: GuardSend)
     where
         R: Wait,
@@ -229,6 +246,8 @@ impl<R: Drop> RawRwLockFair for PackedLock<R> {
 }
 
 impl<R: Drop> RawRwLockDowngrade for PackedLock<R> {
+    ghost downgraded = { λ _ _. Made Downgrade };
+
     fn downgrade(&self, guard: GuardSend) -> GuardSend
     where
         R: Wait,
@@ -297,6 +316,10 @@ impl<R: Drop> RawRwLockUpgrade for PackedLock<R> {
 
     ghost upgradable_by = { λ token. token };
 
+    ghost upgradable_locked = { λ _. Made TakeUpgradable };
+
+    ghost upgradable_unlocked = { λ _. Made GiveUpgradable };
+
     fn lock_upgradable(&self, _party: &mut u32) -> GuardSend
     where
         R: Wait,
@@ -335,6 +358,8 @@ impl<R: Drop> RawRwLockUpgrade for PackedLock<R> {
 }
 
 impl<R: Drop> RawRwLockUpgradeFair for PackedLock<R> {
+    ghost upgradable_spent_fairly = { λ _. Made GiveUpgradable };
+
     fn unlock_upgradable_fair(&self, guard: GuardSend)
     where
         R: Wait,

@@ -1,4 +1,6 @@
 //! A raw mutex of one atomic word.
+ghost use Rattle.lock_api_packed.specs.Turns.{Made};
+ghost use Rattle.lock_api_packed.specs.declared.turn.Turn.TheVariants.{TakeExclusive, GiveExclusive};
 
 use crate::packed_lock::PackedLock;
 use lock_api_raw::{
@@ -40,6 +42,10 @@ impl<R: Drop> RawMutex for PackedMutex<R> {
 
     ghost runtime_of = { λ mutex. mutex.lock.rt };
 
+    ghost locked = { λ _. Made TakeExclusive };
+
+    ghost unlocked = { λ _. Made GiveExclusive };
+
     fn runtime(&self) -> &R {
         self.lock.runtime()
     }
@@ -68,6 +74,8 @@ impl<R: Drop> RawMutex for PackedMutex<R> {
 }
 
 impl<R: Drop> RawMutexFair for PackedMutex<R> {
+    ghost spent_fairly = { λ _. Made GiveExclusive };
+
     fn unlock_fair(&self, guard: GuardSend)
     where
         R: Wait,

@@ -1,5 +1,5 @@
 //! Raw condition variables.
-ghost use Rattle.std.specs.Prelude.{◌≡◌, ⊤, Bool, Result};
+ghost use Rattle.std.specs.Prelude.{◌≡◌, ℕ, ⊤, Bool, Result};
 ghost use Rattle.lock_api_raw.specs.Waits.{IsRefusedRightly};
 ghost use Rattle.lock_api_raw.specs.declared.fault.WaitFault.{WaitFault};
 
@@ -18,6 +18,12 @@ pub trait RawCondvar {
 
     /// That a wait with the first token gave the second, and this answer. Of a variable of any type a wait alone gives it.
     ghost waited: { Self → Self.RawMutex.Guard → Self.RawMutex.Guard → Result (Unit {0}) WaitFault → Type 0 } = { λ _ _ _ _. ⊤ };
+
+    /// That a notification of one waiter answered so. Of a variable of any type such a call alone gives it.
+    ghost notified_one: { Self → Bool → Type 0 } = { λ _ _. ⊤ };
+
+    /// That a notification of all waiters answered so. Of a variable of any type such a call alone gives it.
+    ghost notified_all: { Self → ℕ → Type 0 } = { λ _ _. ⊤ };
 
     /// Joins the queue, then unlocks the mutex, sleeps until it is notified and locks the mutex again. It spends the
     /// token of the hold and answers the one that is out afterwards.
@@ -41,12 +47,14 @@ pub trait RawCondvar {
     /// whether one was taken.
     fn notify_one(&self) -> bool
     where
-        <Self::RawMutex as RawMutex>::Runtime: Wait;
+        <Self::RawMutex as RawMutex>::Runtime: Wait,
+        ensures { notified_one self.now result };
 
     /// Takes all waiters and answers how many there were.
     fn notify_all(&self) -> usize
     where
-        <Self::RawMutex as RawMutex>::Runtime: Wait;
+        <Self::RawMutex as RawMutex>::Runtime: Wait,
+        ensures { notified_all self.now result };
 }
 
 /// A condition variable whose wait can give up.

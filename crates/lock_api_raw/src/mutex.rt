@@ -1,5 +1,5 @@
 //! Raw locks with one kind of hold.
-ghost use Rattle.std.specs.Prelude.{◌≡◌, ℕ, ⊤, IfSome};
+ghost use Rattle.std.specs.Prelude.{◌≡◌, ℕ, ⊤, Bool, IfSome};
 
 use std::rt::Clock;
 use std::sync::Wait;
@@ -33,6 +33,15 @@ pub trait RawMutex {
     /// The runtime that the lock keeps.
     ghost runtime_of: { Self → Self.Runtime };
 
+    /// That a blocking call gave the token. Of a raw mutex of any type such a call alone gives it.
+    ghost locked: { Self.Guard → Type 0 } = { λ _. ⊤ };
+
+    /// That a plain release spent the token. Of a raw mutex of any type a plain release alone gives it.
+    ghost unlocked: { Self.Guard → Type 0 } = { λ _. ⊤ };
+
+    /// That one look answered so. Of a raw mutex of any type a look alone gives it.
+    ghost looked: { Self → Bool → Type 0 } = { λ _ _. ⊤ };
+
     /// The runtime, by which the layer above takes the lock that holds the value.
     fn runtime(&self) -> &Self::Runtime
         ensures { result.now ≡ runtime_of self.now };
@@ -41,7 +50,8 @@ pub trait RawMutex {
     fn lock(&self, party: &mut Self::Party) -> Self::Guard
     where
         Self::Runtime: Wait,
-        ensures { issued_by result ≡ number self.now };
+        ensures issued { issued_by result ≡ number self.now }
+        ensures call { locked result };
 
     /// A token if the lock can be had at once. It waits for nobody.
     fn try_lock(&self) -> Option<Self::Guard>
@@ -51,10 +61,12 @@ pub trait RawMutex {
     fn unlock(&self, guard: Self::Guard)
     where
         Self::Runtime: Wait,
-        requires { issued_by guard ≡ number self.now };
+        requires { issued_by guard ≡ number self.now }
+        ensures { unlocked guard };
 
     /// Whether a hold was out at the moment of one look.
-    fn is_locked(&self) -> bool;
+    fn is_locked(&self) -> bool
+        ensures { looked self.now result };
 }
 
 /// A mutex that can hand itself over.

@@ -1,5 +1,5 @@
 //! Raw locks with shared, exclusive and upgradable holds.
-ghost use Rattle.std.specs.Prelude.{◌≡◌, ℕ, ⊤, IfSome, MatchResult};
+ghost use Rattle.std.specs.Prelude.{◌≡◌, ℕ, ⊤, Bool, IfSome, MatchResult};
 
 use std::rt::Clock;
 use std::sync::Wait;
@@ -39,6 +39,24 @@ pub trait RawRwLock {
     /// The runtime that the lock keeps.
     ghost runtime_of: { Self → Self.Runtime };
 
+    /// That a blocking call gave the shared token. Of a raw lock of any type such a call alone gives it.
+    ghost shared_locked: { Self.SharedGuard → Type 0 } = { λ _. ⊤ };
+
+    /// That a blocking call gave the exclusive token. Of a raw lock of any type such a call alone gives it.
+    ghost exclusive_locked: { Self.ExclusiveGuard → Type 0 } = { λ _. ⊤ };
+
+    /// That a plain release spent the shared token. Of a raw lock of any type such a release alone gives it.
+    ghost shared_unlocked: { Self.SharedGuard → Type 0 } = { λ _. ⊤ };
+
+    /// That a plain release spent the exclusive token. Of a raw lock of any type such a release alone gives it.
+    ghost exclusive_unlocked: { Self.ExclusiveGuard → Type 0 } = { λ _. ⊤ };
+
+    /// That one look for any hold answered so. Of a raw lock of any type such a look alone gives it.
+    ghost looked: { Self → Bool → Type 0 } = { λ _ _. ⊤ };
+
+    /// That one look for an exclusive hold answered so. Of a raw lock of any type such a look alone gives it.
+    ghost looked_exclusive: { Self → Bool → Type 0 } = { λ _ _. ⊤ };
+
     /// The runtime, by which the layer above takes the lock that holds the value.
     fn runtime(&self) -> &Self::Runtime
         ensures { result.now ≡ runtime_of self.now };
@@ -47,7 +65,8 @@ pub trait RawRwLock {
     fn lock_shared(&self, party: &mut Self::Party) -> Self::SharedGuard
     where
         Self::Runtime: Wait,
-        ensures { shared_by result ≡ number self.now };
+        ensures issued { shared_by result ≡ number self.now }
+        ensures call { shared_locked result };
 
     /// A shared hold at once, or None, at a full count too. It waits for nobody.
     fn try_lock_shared(&self) -> Option<Self::SharedGuard>
@@ -57,13 +76,15 @@ pub trait RawRwLock {
     fn unlock_shared(&self, guard: Self::SharedGuard)
     where
         Self::Runtime: Wait,
-        requires { shared_by guard ≡ number self.now };
+        requires { shared_by guard ≡ number self.now }
+        ensures { shared_unlocked guard };
 
     /// Waits until no other hold is left.
     fn lock_exclusive(&self, party: &mut Self::Party) -> Self::ExclusiveGuard
     where
         Self::Runtime: Wait,
-        ensures { exclusive_by result ≡ number self.now };
+        ensures issued { exclusive_by result ≡ number self.now }
+        ensures call { exclusive_locked result };
 
     /// An exclusive hold at once, or None. It waits for nobody.
     fn try_lock_exclusive(&self) -> Option<Self::ExclusiveGuard>
@@ -73,13 +94,16 @@ pub trait RawRwLock {
     fn unlock_exclusive(&self, guard: Self::ExclusiveGuard)
     where
         Self::Runtime: Wait,
-        requires { exclusive_by guard ≡ number self.now };
+        requires { exclusive_by guard ≡ number self.now }
+        ensures { exclusive_unlocked guard };
 
     /// Whether any hold was out at the moment of one look.
-    fn is_locked(&self) -> bool;
+    fn is_locked(&self) -> bool
+        ensures { looked self.now result };
 
     /// Whether an exclusive hold was out at the moment of one look.
-    fn is_locked_exclusive(&self) -> bool;
+    fn is_locked_exclusive(&self) -> bool
+        ensures { looked_exclusive self.now result };
 }
 
 /// Fair releases.
@@ -133,12 +157,16 @@ pub trait RawRwLockFair: RawRwLock {
 
 /// From exclusive to shared.
 pub trait RawRwLockDowngrade: RawRwLock {
+    /// That a downgrade of the exclusive token gave the shared one. Of a raw lock of any type a downgrade alone gives it.
+    ghost downgraded: { Self.ExclusiveGuard → Self.SharedGuard → Type 0 } = { λ _ _. ⊤ };
+
     /// Turns the exclusive hold into a shared one without letting go, and wakes those who may now enter.
     fn downgrade(&self, guard: Self::ExclusiveGuard) -> Self::SharedGuard
     where
         Self::Runtime: Wait,
         requires { Self.exclusive_by guard ≡ Self.number self.now }
-        ensures { Self.shared_by result ≡ Self.number self.now };
+        ensures issued { Self.shared_by result ≡ Self.number self.now }
+        ensures call { downgraded guard result };
 }
 
 /// Holds whose wait can give up.
@@ -204,11 +232,18 @@ pub trait RawRwLockUpgrade: RawRwLock {
     /// The number of the lock that issued an upgradable token.
     ghost upgradable_by: { Self.UpgradableGuard → ℕ };
 
+    /// That a blocking call gave the upgradable token. Of a raw lock of any type such a call alone gives it.
+    ghost upgradable_locked: { Self.UpgradableGuard → Type 0 } = { λ _. ⊤ };
+
+    /// That a plain release spent the upgradable token. Of a raw lock of any type such a release alone gives it.
+    ghost upgradable_unlocked: { Self.UpgradableGuard → Type 0 } = { λ _. ⊤ };
+
     /// Waits for an upgradable hold. At a full count of readers it yields and tries again until there is room.
     fn lock_upgradable(&self, party: &mut Self::Party) -> Self::UpgradableGuard
     where
         Self::Runtime: Wait,
-        ensures { upgradable_by result ≡ Self.number self.now };
+        ensures issued { upgradable_by result ≡ Self.number self.now }
+        ensures call { upgradable_locked result };
 
     /// An upgradable hold at once, or None. It waits for nobody.
     fn try_lock_upgradable(&self) -> Option<Self::UpgradableGuard>
@@ -218,7 +253,8 @@ pub trait RawRwLockUpgrade: RawRwLock {
     fn unlock_upgradable(&self, guard: Self::UpgradableGuard)
     where
         Self::Runtime: Wait,
-        requires { upgradable_by guard ≡ Self.number self.now };
+        requires { upgradable_by guard ≡ Self.number self.now }
+        ensures { upgradable_unlocked guard };
 
     /// Keeps new readers out at once, and waits until the other readers are gone. Nobody else is exclusive in between.
     fn upgrade(&self, guard: Self::UpgradableGuard, party: &mut Self::Party) -> Self::ExclusiveGuard

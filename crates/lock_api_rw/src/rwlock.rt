@@ -233,12 +233,16 @@ impl<R: RawRwLock, T: Drop> RwLock<R, T> {
 
 impl<R: RawRwLock, T> RwLock<R, T> {
     /// Whether any hold was out at the moment of one look.
-    pub fn is_locked(&self) -> bool {
+    pub fn is_locked(&self) -> bool
+        ensures { R.looked self.now result }
+    {
         self.raw.is_locked()
     }
 
     /// Whether an exclusive hold was out at the moment of one look.
-    pub fn is_locked_exclusive(&self) -> bool {
+    pub fn is_locked_exclusive(&self) -> bool
+        ensures { R.looked_exclusive self.now result }
+    {
         self.raw.is_locked_exclusive()
     }
 }

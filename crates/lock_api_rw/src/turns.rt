@@ -16,6 +16,8 @@ where
 {
     type Down = RawHold<L, Shared>;
 
+    ghost downgraded = { λ hold down. R.downgraded hold.token down.token };
+
     fn downgrade(self) -> RawHold<L, Shared>
     where
         R::Runtime: Wait,

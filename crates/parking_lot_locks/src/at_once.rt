@@ -8,6 +8,7 @@ ghost use Rattle.parking_lot_protocol.specs.declared.act.CoreAnswer.TheVariants.
 
 use crate::call::Call;
 use crate::table::Row;
+use parking_lot_protocol::CoreAnswer;
 use std::alloc::Allocator;
 
 impl<R, A: Allocator> Row<'_, '_, R, A> {
@@ -56,14 +57,20 @@ impl<R, A: Allocator> Row<'_, '_, R, A> {
         }
     }
 
-    /// Makes the addition that a call begins with. Where the word before lacks the bit the call is over, and else the core is
-    /// to be told of that word.
+    /// Makes the addition that a call begins with. Where the word before lacks the bit the call is over, with this answer, and
+    /// else the core is to be told of that word.
     #[inline(always)]
-    pub(crate) fn ends_by_sum<K: Call>(&self, _call: K, by: u64, bit: u64) -> Result<(), u64>
+    pub(crate) fn ends_by_sum<K: Call>(
+        &self,
+        _call: K,
+        by: u64,
+        bit: u64,
+        answer: CoreAnswer,
+    ) -> Result<(), u64>
         requires bit { 0 < bit }
         requires first { K.Core.asks (K.Core.told K.begun Start) ≡ Add by }
-        requires last { (word : ℕ) → word / bit % 2 ≡ 0 → K.Core.asks (K.Core.told (K.Core.told K.begun Start) (Before word)) ≡ Done Released }
-        ensures { IfOk result (λ _. (answer : CoreAnswer) × Ended K.Core.told K.Core.asks K.begun answer) }
+        requires last { (word : ℕ) → word / bit % 2 ≡ 0 → K.Core.asks (K.Core.told (K.Core.told K.begun Start) (Before word)) ≡ Done answer }
+        ensures { IfOk result (λ _. Ended K.Core.told K.Core.asks K.begun answer) }
     {
         let word = self.add(by);
         if (word / bit) % 2 == 0 {

@@ -1,5 +1,5 @@
 //! The row that a call runs on.
-ghost use Rattle.std.specs.Prelude.{◌≡◌, ℕ, IfSome};
+ghost use Rattle.std.specs.Prelude.{◌≡◌, ◌+◌, ◌*◌, ◌%◌, ◌^◌, ◌==◌, ℕ, IfSome, if◌then◌else◌};
 ghost use Rattle.parking_lot_locks.specs.Runs.{passes};
 ghost use Rattle.parking_lot_protocol.specs.Acts.{Gives};
 ghost use Rattle.parking_lot_protocol.specs.declared.act.Act.TheVariants.{Exchange};
@@ -31,7 +31,9 @@ impl<R, A: Allocator> Place<'_, '_, '_, R, A> {
     }
 
     /// The key of that number: 0 is the row's first, 1 its second.
-    pub fn key(&self, number: u8) -> usize {
+    pub fn key(&self, number: u8) -> usize
+        ensures { result ≡ (if number == 0 then (self.now.row.now.table.now.first_key + 2 * self.now.row.now.number) % 2 ^ 64 else (self.now.row.now.table.now.first_key + 2 * self.now.row.now.number + 1) % 2 ^ 64) }
+    {
         if number == 0 {
             self.row.first_key()
         } else {

@@ -1,5 +1,5 @@
 //! The raw mutex.
-ghost use Rattle.std.specs.Prelude.{◌≡◌, ◌+◌, ◌*◌, ◌%◌, ◌^◌, IfOk, IfSome, true};
+ghost use Rattle.std.specs.Prelude.{◌≡◌, ◌+◌, ◌*◌, ◌%◌, ◌^◌, IfOk, IfSome, true, false};
 ghost use Rattle.parking_lot_locks.specs.Ends.{MutexEnded};
 ghost use Rattle.parking_lot_locks.specs.Runs.{Ended};
 ghost use Rattle.parking_lot_protocol.specs.declared.act.CoreAnswer.{CoreAnswer};
@@ -115,6 +115,10 @@ impl<'t, 'l, R, A: Allocator> lock_api_raw::RawMutex for RawMutex<'t, 'l, R, A> 
 
     ghost runtime_of = { λ mutex. mutex.row.table.now.lot.now.rt };
 
+    ghost locked = { λ _. MutexEnded Locking Owned };
+
+    ghost unlocked = { λ _. (answer : CoreAnswer) × MutexEnded (Unlocking false) answer };
+
     fn runtime(&self) -> &R {
         self.row.lot().runtime()
     }
@@ -124,9 +128,10 @@ impl<'t, 'l, R, A: Allocator> lock_api_raw::RawMutex for RawMutex<'t, 'l, R, A> 
     where
         R: Wait,
     {
-        if !self.row.owns_at_once(Lock, 0, 1) {
-            self.lock_slowly(party);
+        if self.row.owns_at_once(Lock, 0, 1) {
+            return self.token();
         }
+        self.lock_slowly(party);
         self.token()
     }
 

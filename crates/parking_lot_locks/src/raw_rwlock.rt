@@ -1,5 +1,5 @@
 //! The raw reader-writer lock.
-ghost use Rattle.std.specs.Prelude.{◌≡◌, ◌+◌, ◌-◌, ◌*◌, ◌/◌, ◌%◌, ◌^◌, ◌&&◌, ◌==◌, nat_lt, not, IfOk, IfSome, min, max, true};
+ghost use Rattle.std.specs.Prelude.{◌≡◌, ◌+◌, ◌-◌, ◌*◌, ◌/◌, ◌%◌, ◌^◌, ◌&&◌, ◌==◌, nat_lt, not, ◌≤◌, IfOk, IfSome, min, max, true, false};
 ghost use Rattle.lock_api_raw.specs.Limits.{kept_limit};
 ghost use Rattle.parking_lot_locks.specs.Ends.{RwEnded};
 ghost use Rattle.parking_lot_locks.specs.Runs.{Ended};
@@ -7,7 +7,7 @@ ghost use Rattle.parking_lot_protocol.specs.RwTable.{is_written};
 ghost use Rattle.parking_lot_protocol.specs.declared.act.CoreAnswer.{CoreAnswer};
 ghost use Rattle.parking_lot_protocol.specs.declared.act.CoreAnswer.TheVariants.{Owned};
 ghost use Rattle.parking_lot_protocol.specs.declared.rw_phase.LockMode.TheVariants.{Shared, Exclusive};
-ghost use Rattle.parking_lot_protocol.specs.declared.rw_phase.RwPhase.TheVariants.{Locking, UnlockingShared, UnlockingExclusive, BumpingShared, BumpingExclusive};
+ghost use Rattle.parking_lot_protocol.specs.declared.rw_phase.RwPhase.TheVariants.{Locking, UnlockingShared, UnlockingExclusive, Downgrading, BumpingShared, BumpingExclusive};
 
 use crate::call::{
     BumpReader, BumpWriter, Call, Downgrade, Read, StopReading, StopWriting, StopWritingFairly,
@@ -19,9 +19,10 @@ use lock_api_raw::{
     GuardSend, MakeLock, RawRwLock as _, RawRwLockDowngrade, RawRwLockFair, TableFull,
 };
 use parking_lot_core::{ThreadData, thread_yield};
-use parking_lot_protocol::word::{MAX_READERS, READER, WRITER, WRITER_PARKED};
+use parking_lot_protocol::word::{MAX_READERS, PARKED, READER, WRITER, WRITER_PARKED};
 use parking_lot_protocol::{ActResult, CoreAnswer, RwCore, word};
 use std::alloc::{Allocator, Global};
+use std::marker::Model;
 use std::sync::Wait;
 
 /// Whether a reader is admitted at once: no writer owns the lock or waits for readers to leave, and the word is less than one
@@ -33,6 +34,42 @@ fn is_open(word: u64, full: u64) -> bool
     !word::is_written(word) && word < full
 }
 
+/// The word at which no reader more is admitted: 16 times the most readers.
+#[derive(Drop)]
+struct Full {
+    word: u64,
+}
+
+impl Model for Full {
+    ghost use Rattle.std.specs.Prelude.{ℕ, ◌≤◌, ◌-◌, ◌^◌};
+
+    ghost Value = { ℕ };
+
+    ghost view = { λ full. full.word };
+
+    ghost invariant = { λ full. full.word ≤ 2 ^ 64 - 16 };
+}
+
+impl Full {
+    /// That of a lock with at most so many readers, where 0 counts as 1, or as many as a word can count.
+    fn of(readers: u64) -> Full
+        ensures { result / 16 ≡ kept_limit (2 ^ 60 - 1) readers }
+    {
+        Full {
+            word: readers.max(1).min(MAX_READERS) * READER,
+        }
+    }
+
+    /// The word.
+    #[inline(always)]
+    fn word(&self) -> u64
+        ensures value { result ≡ self.now }
+        ensures most { result ≤ 2 ^ 64 - 16 }
+    {
+        self.word
+    }
+}
+
 /// An unfair reader-writer lock on one row of a lock table. A writer that waits keeps new readers out; where `RECURSIVE` is 1
 /// a thread that reads may read again past it, and else `RECURSIVE` is 0.
 ///
@@ -41,8 +78,7 @@ fn is_open(word: u64, full: u64) -> bool
 #[derive(Drop)]
 pub struct RawRwLock<'t, 'l, R, const RECURSIVE: u8, A: Allocator = Global> {
     row: Row<'t, 'l, R, A>,
-    /// The word at which no reader more is admitted: 16 times the most readers.
-    full: u64,
+    full: Full,
 }
 
 impl<'t, 'l, R, const RECURSIVE: u8, A: Allocator> RawRwLock<'t, 'l, R, RECURSIVE, A> {
@@ -50,7 +86,7 @@ impl<'t, 'l, R, const RECURSIVE: u8, A: Allocator> RawRwLock<'t, 'l, R, RECURSIV
     fn place(&self) -> Place<'_, 't, 'l, R, A> {
         Place {
             row: &self.row,
-            limit: word::readers(self.full),
+            limit: word::readers(self.full.word()),
         }
     }
 
@@ -79,9 +115,15 @@ impl<'t, 'l, R, const RECURSIVE: u8, A: Allocator> RawRwLock<'t, 'l, R, RECURSIV
 
     /// Reads at once, where one exchange does it.
     #[inline(always)]
-    fn reads_at_once(&self) -> bool {
+    fn reads_at_once(&self) -> bool
+        ensures { result ≡ true → RwEnded (Locking (Shared (RECURSIVE == 1))) Owned }
+    {
         let word = self.row.load();
-        is_open(word, self.full) && self.row.exchange(word, word.wrapping_add(READER)).is_ok()
+        if !is_open(word, self.full.word()) {
+            return false;
+        }
+        self.row
+            .owns_at_once(Read::<RECURSIVE>, word, word.wrapping_add(READER))
     }
 }
 
@@ -105,7 +147,7 @@ impl<'t, 'l, R: Wait, const RECURSIVE: u8, A: Allocator> RawRwLock<'t, 'l, R, RE
     {
         self.own(call, party);
         for _call in self.runtime().forever() {
-            if word::readers(self.row.load()) <= word::readers(self.full) {
+            if word::readers(self.row.load()) <= word::readers(self.full.word()) {
                 return;
             }
             self.unlock_shared(self.token());
@@ -155,7 +197,9 @@ impl<'t, 'l, R: Wait, const RECURSIVE: u8, A: Allocator> RawRwLock<'t, 'l, R, RE
     /// The exclusive hold has become a shared one at this word, where threads may sleep: the core says whom to wake.
     #[cold]
     #[inline(never)]
-    fn downgrade_slowly(&self, word: u64) {
+    fn downgrade_slowly(&self, word: u64)
+        ensures { (answer : CoreAnswer) × RwEnded Downgrading answer }
+    {
         self.place().give_up(Downgrade, ActResult::Before(word));
     }
 }
@@ -172,7 +216,7 @@ impl<'t, 'l, R, const RECURSIVE: u8, A: Allocator> MakeLock<&'t LockTable<'l, R,
     ) -> Result<RawRwLock<'t, 'l, R, RECURSIVE, A>, TableFull> {
         Ok(RawRwLock {
             row: source.claim()?,
-            full: readers.max(1).min(MAX_READERS) * READER,
+            full: Full::of(readers),
         })
     }
 }
@@ -195,6 +239,14 @@ impl<'t, 'l, R, const RECURSIVE: u8, A: Allocator> lock_api_raw::RawRwLock
 
     ghost runtime_of = { λ lock. lock.row.table.now.lot.now.rt };
 
+    ghost shared_locked = { λ _. RwEnded (Locking (Shared (RECURSIVE == 1))) Owned };
+
+    ghost exclusive_locked = { λ _. RwEnded (Locking Exclusive) Owned };
+
+    ghost shared_unlocked = { λ _. (answer : CoreAnswer) × RwEnded UnlockingShared answer };
+
+    ghost exclusive_unlocked = { λ _. (answer : CoreAnswer) × RwEnded (UnlockingExclusive false) answer };
+
     fn runtime(&self) -> &R {
         self.row.lot().runtime()
     }
@@ -204,9 +256,10 @@ impl<'t, 'l, R, const RECURSIVE: u8, A: Allocator> lock_api_raw::RawRwLock
     where
         R: Wait,
     {
-        if !self.reads_at_once() {
-            self.read_slowly(party);
+        if self.reads_at_once() {
+            return self.token();
         }
+        self.read_slowly(party);
         self.token()
     }
 
@@ -223,8 +276,13 @@ impl<'t, 'l, R, const RECURSIVE: u8, A: Allocator> lock_api_raw::RawRwLock
         R: Wait,
     {
         guard.spend();
-        let word = self.row.add(READER.wrapping_neg());
-        if word::is_writer_parked(word) {
+        let ended = self.row.ends_by_sum(
+            StopReading,
+            READER.wrapping_neg(),
+            WRITER_PARKED,
+            CoreAnswer::Released,
+        );
+        if let Err(word) = ended {
             self.unread_slowly(word);
         }
     }
@@ -234,9 +292,10 @@ impl<'t, 'l, R, const RECURSIVE: u8, A: Allocator> lock_api_raw::RawRwLock
     where
         R: Wait,
     {
-        if !self.row.owns_after_a_look(Write, 0, WRITER) {
-            self.write_slowly(party);
+        if self.row.owns_after_a_look(Write, 0, WRITER) {
+            return self.token();
         }
+        self.write_slowly(party);
         self.token()
     }
 
@@ -282,13 +341,7 @@ impl<'t, 'l, R, const RECURSIVE: u8, A: Allocator> RawRwLockFair
     where
         R: Wait,
     {
-        guard.spend();
-        let ended = self
-            .row
-            .ends_by_sum(StopReading, READER.wrapping_neg(), WRITER_PARKED);
-        if let Err(word) = ended {
-            self.unread_slowly(word);
-        }
+        self.unlock_shared(guard);
     }
 
     #[inline(always)]
@@ -321,13 +374,18 @@ impl<'t, 'l, R, const RECURSIVE: u8, A: Allocator> RawRwLockFair
 
 impl<'t, 'l, R, const RECURSIVE: u8, A: Allocator> RawRwLockDowngrade
     for RawRwLock<'t, 'l, R, RECURSIVE, A> {
+    ghost downgraded = { λ _ _. (answer : CoreAnswer) × RwEnded Downgrading answer };
+
     fn downgrade(&self, guard: GuardSend) -> GuardSend
     where
         R: Wait,
     {
-        let word = self.row.add(READER - WRITER);
-        if word::is_parked(word) {
+        let kept = self
+            .row
+            .ends_by_sum(Downgrade, READER - WRITER, PARKED, CoreAnswer::Owned);
+        if let Err(word) = kept {
             self.downgrade_slowly(word);
+            return guard;
         }
         guard
     }

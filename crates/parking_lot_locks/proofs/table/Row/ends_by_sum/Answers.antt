@@ -2,7 +2,6 @@ use Rattle.std.proofs.Common.{◌∷◌, [], sym, subst, refl}
 use Rattle.parking_lot_locks.specs.Runs.{Ended}
 use Rattle.parking_lot_protocol.specs.Acts.{Gives}
 use Rattle.parking_lot_protocol.specs.declared.act.ActResult.TheVariants.{Before}
-use Rattle.parking_lot_protocol.specs.declared.act.CoreAnswer.TheVariants.{Released}
 use Rattle.parking_lot_locks.proofs.table.Row.ends_by_sum.Goals as goal
 
 -- the addition is the first act, and the last
@@ -10,6 +9,7 @@ pub returns-then-word-bit-eq0 : goal.returns-then-word-bit-eq0
 unfolding Ended
 returns-then-word-bit-eq0 g c =
     let word = c.add-word.result in (
-      Released,
-      (Before word ∷ [], ((word, subst (λ act. Gives act word (Before word)) (sym c.requires.first) refl), tt), c.requires.last word c.if-word-bit-eq0.true),
+      Before word ∷ [],
+      ((word, subst (λ act. Gives act word (Before word)) (sym c.requires.first) refl), tt),
+      c.requires.last word c.if-word-bit-eq0.true,
     )
