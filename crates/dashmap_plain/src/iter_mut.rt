@@ -1,5 +1,6 @@
 //! The values of a map, lent for writing to its one owner.
-ghost use Rattle.std.specs.Prelude.{◌≡◌};
+ghost use Rattle.std.specs.Prelude.{◌≡◌, length};
+ghost use Rattle.dashmap_plain.specs.Written.{WroteAll};
 
 use crate::unlocked::Unlocked;
 use core::mem;
@@ -32,7 +33,8 @@ impl<'m, K: Eq + Hash, V, S: BuildHasher, Q, A: Allocator> IterMut<'m, K, V, S, 
         V: Send,
         A: Send,
         requires { F.IsAlwaysCallable f }
-        ensures { self.exit.0.now ≡ self.entry.map.now }
+        ensures map { self.exit.0.now ≡ self.entry.map.now }
+        ensures written { WroteAll F.Fn f (length self.entry.map.now.locks) }
     {
         let IterMut { map } = self;
         write_map(map, rt, f);
@@ -50,14 +52,16 @@ fn write_map<
     F: Fn(&K, &mut V) + Sync,
 >(map: &mut DashMap<K, V, S, Q, A>, rt: &R, f: F)
     requires { F.IsAlwaysCallable f }
-    ensures { map.new ≡ map.old }
+    ensures map { map.new ≡ map.old }
+    ensures written { WroteAll F.Fn f (length map.old.locks) }
 {
     mem::replace_with(
         map,
         f,
         |map, f|
             requires { F.IsAlwaysCallable f }
-            ensures { result.0 ≡ map }
+            ensures map { result.0 ≡ map }
+            ensures written { WroteAll F.Fn f (length map.locks) }
         {
             let mut open = Unlocked::of(map);
             open.par_write(rt, f);
