@@ -1,6 +1,6 @@
 -- The deed of a keyed call: it changes one pair of a shard that is held alone, behind the last block of that shard.
 use Rattle.std.proofs.Common.{◌≡◌, ℕ, ◌+◌, ◌-◌, ◌≤◌, ◌⊎◌, inl, inr, ⊎_elim, Bool, true, false, if◌then◌else◌, List, length, take, drop, Option, Some, None, slice_get, slice_set, remove, refl, ap, sym, ◌∙◌, subst, arith}
-use Rattle.std.specs.declared.vec.Vec.{Vec}
+use Rattle.mapworld_state.specs.Shards.{ShardPairs}
 use Rattle.std.proofs.Math.ListN.{length-set}
 use Rattle.std.proofs.lemmas.Option.{same_Some}
 use Rattle.mapworld_calls.specs.declared.ask.Ask.{Ask}
@@ -23,7 +23,7 @@ use Rattle.mapworld_calls.proofs.Kept.{keeps-grown}
 use Rattle.mapworld_state.specs.declared.step.Step.{Step}
 use Rattle.mapworld_state.specs.declared.place.Phase.{Phase}
 use Rattle.mapworld_state.specs.declared.place.Phase.TheVariants as phase
-use Rattle.mapworld_state.specs.declared.place.Place.{Place}
+use Rattle.mapworld_state.specs.Places.{Place}
 use Rattle.mapworld_state.specs.State.{State, threads_of, started_of}
 use Rattle.mapworld_state.specs.Moves.{stepped, CountsIn, CountsCall}
 use Rattle.mapworld_state.specs.Steps.{put_back, Appends, Applies}
@@ -41,10 +41,10 @@ use Rattle.mapworld_sound.proofs.Growing.{own-grown}
 pub counted-block : {K : Type 0} (bs : List (Block K)) (o : Option ℕ) (i n : ℕ) (bs' : List (Block K)) → o ≡ Some i → CountsCall bs o n bs' → CountsCall bs (Some i) n bs'
 counted-block {K} bs o i n bs' same h = subst (λ (z : Option ℕ). CountsCall bs z n bs') same h
 
-module _ {K V S D T A : Type 0} (x : Setup K V D T) (laws : Laws x) (w : State K V S D T A) (s : Step) (sound : Sound x w)
-    (p : Place K V D T A) (at : slice_get w.places s.thread ≡ Some p) (k : Keyed K V D) (call : IsInCall x (threads_of w) s.thread p (ask.Keyed k))
+module _ {K V S D T : Type 0} (x : Setup K V D T) (laws : Laws x) (w : State K V S D T) (s : Step) (sound : Sound x w)
+    (p : Place K V D T) (at : slice_get w.places s.thread ≡ Some p) (k : Keyed K V D) (call : IsInCall x (threads_of w) s.thread p (ask.Keyed k))
     (key : K) (o : Option (K × V)) (d : IsBeforeDeed x w.blocks s.thread p key o)
-    (table : Vec (K × V) A) (held : slice_get w.tables p.shard ≡ Some table)
+    (table : ShardPairs K V) (held : slice_get w.tables p.shard ≡ Some table)
     (b c : Block K) (listed : slice_get w.blocks d.index ≡ Some b) (counts : CountsIn p.next b c) where
   abbrev pub st : Stands x (threads_of w) w.blocks w.replies w.tables s.thread p
   st = sound.stands s.thread p at
@@ -127,7 +127,7 @@ module _ {K V S D T A : Type 0} (x : Setup K V D T) (laws : Laws x) (w : State K
   }
 
   -- a changed list agrees with the replay where it has what the call leaves of its key, and what it had of all others
-  agrees : (changed : Vec (K × V) A)
+  agrees : (changed : ShardPairs K V)
       → ((q : K) → pair_of x.eq changed.items q ≡ (if x.eq key q then keyed_leaves x.deeds k o else pair_of x.eq table.items q))
       → AreDistinct x.eq changed.items
       → ((j : ℕ) (pair : K × V) → slice_get changed.items j ≡ Some pair → x.route pair.0 ≡ p.shard)
@@ -143,11 +143,11 @@ module _ {K V S D T A : Type 0} (x : Setup K V D T) (laws : Laws x) (w : State K
   done-kept st' (ask.Held g) e old = old
 
   -- the world behind the deed
-  pub sound-deed : (f : Phase K V D T) → p.phase ≡ f → is_resting f ≡ false → (changed : Vec (K × V) A)
+  pub sound-deed : (f : Phase K V D T) → p.phase ≡ f → is_resting f ≡ false → (changed : ShardPairs K V)
       → TablesAgree x (slice_set w.blocks d.index c) (slice_set w.tables p.shard changed)
       → Sound x (record (stepped w s (record p { phase = phase.Release (keyed_answer x.deeds k o) })) { tables = slice_set w.tables p.shard changed; holds = w.holds; blocks = slice_set w.blocks d.index c; replies = w.replies })
   sound-deed f before busy changed agree =
-      let p' : Place K V D T A = record p { phase = phase.Release (keyed_answer x.deeds k o) } in
+      let p' : Place K V D T = record p { phase = phase.Release (keyed_answer x.deeds k o) } in
       let outside = keyed-apart x laws w s w sound p st k call.asked in
       let closes : block_after p' ≡ None = ap (λ (z : Bool). if z then None else p.block) call.closes in
       let resting : is_resting p.phase ≡ false = ap is_resting before ∙ busy in
@@ -162,7 +162,7 @@ module _ {K V S D T A : Type 0} (x : Setup K V D T) (laws : Laws x) (w : State K
       (record {
         program = st.program;
         has = st.has;
-        asks_left = subst (λ (z : Bool). p.asks.items ≡ drop (if z then p.next else p.next + 1) st.program) resting st.asks_left;
+        asks_left = subst (λ (z : Bool). p.asks ≡ drop (if z then p.next else p.next + 1) st.program) resting st.asks_left;
         within = subst (λ (z : Bool). (if z then p.next else p.next + 1) ≤ length st.program) resting st.within;
         answered = st.answered;
         own_block = λ j mine. own-grown w.blocks d.index b c s.thread listed (counts.thread ∙ thread-is) p st.own_block j mine;
@@ -203,11 +203,11 @@ leaves-by deeds (keyed.Alter j d) p = inl (deeds.effect d p.0 p.1, refl)
 leaves-by deeds (keyed.View j d) p = inl (p.1, refl)
 leaves-by deeds (keyed.ContainsKey j) p = inl (p.1, refl)
 
-module _ {K V S D T A : Type 0} (x : Setup K V D T) (laws : Laws x) (w : State K V S D T A) (s : Step) (w' : State K V S D T A) (sound : Sound x w) where
-  pub eq-found : (table : Vec (K × V) A) (key : K) (pair : K × V) → pair_of x.eq table.items key ≡ Some pair → (q : K) → x.eq pair.0 q ≡ x.eq key q
+module _ {K V S D T : Type 0} (x : Setup K V D T) (laws : Laws x) (w : State K V S D T) (s : Step) (w' : State K V S D T) (sound : Sound x w) where
+  pub eq-found : (table : ShardPairs K V) (key : K) (pair : K × V) → pair_of x.eq table.items key ≡ Some pair → (q : K) → x.eq pair.0 q ≡ x.eq key q
   eq-found table key pair is q = laws.equivalence.congr pair.0 key q (pair_of-is x.eq laws.equivalence table.items key pair is).2
 
-  pub routed-at : (p : Place K V D T A) (table : Vec (K × V) A) → slice_get w.tables p.shard ≡ Some table → (j : ℕ) (pair : K × V) → slice_get table.items j ≡ Some pair → x.route pair.0 ≡ p.shard
+  pub routed-at : (p : Place K V D T) (table : ShardPairs K V) → slice_get w.tables p.shard ≡ Some table → (j : ℕ) (pair : K × V) → slice_get table.items j ≡ Some pair → x.route pair.0 ≡ p.shard
   routed-at p table held j pair h = sound.tables.routed p.shard j table pair held h
 
   pub sound-appends : Appends x w s w' → Sound x w'
@@ -240,7 +240,7 @@ module _ {K V S D T A : Type 0} (x : Setup K V D T) (laws : Laws x) (w : State K
       let d = cl.2 in
       let n = counted-block w.blocks p.block d.index p.next a.blocks d.mine a.counted in
       let distinct = sound.tables.distinct p.shard a.table a.held in
-      let there : slice_get a.table.items a.slot ≡ Some was = ap (λ (z : Vec (K × V) A). slice_get z.items a.slot) (same_Some a.table cl.3.table (sym a.held ∙ cl.3.held)) ∙ cl.3.pair_is in
+      let there : slice_get a.table.items a.slot ≡ Some was = ap (λ (z : ShardPairs K V). slice_get z.items a.slot) (same_Some a.table cl.3.table (sym a.held ∙ cl.3.held)) ∙ cl.3.pair_is in
       let pair : a.pair ≡ was = same_Some a.pair was (sym a.found ∙ there) in
       let is = pair-found x laws w s sound p a.stands a.call cl.1 key (Some was) d a.table a.held n.0 n.1 n.2 n.3 in
       let pairs : a.changed.items ≡ put_back a.table.items a.slot (keyed_leaves x.deeds a.call (Some was)) =

@@ -1,7 +1,7 @@
 -- The deeds of a session that holds its shard alone: a call does with the guarded pair what it does with a pair, or fills the
 -- place that a vacant guard keeps.
 use Rattle.std.proofs.Common.{◌≡◌, ℕ, ◌+◌, ◌-◌, ◌⊎◌, inl, inr, Bool, true, false, if◌then◌else◌, List, [], ◌∷◌, ◌++◌, length, Option, Some, None, slice_get, slice_set, remove, refl, ap, sym, ◌∙◌, subst}
-use Rattle.std.specs.declared.vec.Vec.{Vec}
+use Rattle.mapworld_state.specs.Shards.{ShardPairs}
 use Rattle.std.proofs.Math.ListN.{length-set}
 use Rattle.std.proofs.lemmas.Option.{same_Some, none-some}
 use Rattle.mapworld_calls.specs.declared.ask.Ask.TheVariants as ask
@@ -27,7 +27,7 @@ use Rattle.mapworld_state.specs.declared.place.Way.TheVariants as way
 use Rattle.mapworld_state.specs.declared.place.Guard.{Guard}
 use Rattle.mapworld_state.specs.declared.place.Guard.TheVariants as guard
 use Rattle.mapworld_state.specs.declared.place.Phase.TheVariants as phase
-use Rattle.mapworld_state.specs.declared.place.Place.{Place}
+use Rattle.mapworld_state.specs.Places.{Place}
 use Rattle.mapworld_state.specs.State.{State, threads_of, started_of}
 use Rattle.mapworld_state.specs.Moves.{stepped, way_mode, lent, is_change, ends_guard, changed_phase}
 use Rattle.mapworld_state.specs.Steps.{put_back, Changes, Fills}
@@ -80,9 +80,9 @@ changes-by deeds held.RemoveEntry (way.Occupied k) p is = inr (inl (refl, refl))
 changes-by deeds (held.ReplaceEntry v) (way.Occupied k) p is = inr (inr (k, v, refl, refl, refl))
 changes-by deeds h k p is = absurd (cc)
 
-module _ {K V S D T A : Type 0} (x : Setup K V D T) (laws : Laws x) (w : State K V S D T A) (s : Step) (w' : State K V S D T A) (sound : Sound x w) where
+module _ {K V S D T : Type 0} (x : Setup K V D T) (laws : Laws x) (w : State K V S D T) (s : Step) (w' : State K V S D T) (sound : Sound x w) where
   -- a shard's list agrees with the replay where a pair gave way to what a call left, under an equal key
-  agree-put : (key : K) (p : Place K V D T A) → p.shard ≡ x.route key → (table changed : Vec (K × V) A) → slice_get w.tables p.shard ≡ Some table
+  agree-put : (key : K) (p : Place K V D T) → p.shard ≡ x.route key → (table changed : ShardPairs K V) → slice_get w.tables p.shard ≡ Some table
       → (slot : ℕ) (pair : K × V) → slice_get table.items slot ≡ Some pair → pair_of x.eq table.items key ≡ Some pair
       → (o : Option (K × V)) → changed.items ≡ put_back table.items slot o → ((o ≡ None) ⊎ ((z : K × V) × (o ≡ Some z) × (x.eq pair.0 z.0 ≡ true)))
       → (bs' : List (Block K)) → ((q : K) → x.eq key q ≡ true → contents x bs' q ≡ o) → ((q : K) → x.eq key q ≡ false → contents x bs' q ≡ contents x w.blocks q)
@@ -171,7 +171,7 @@ module _ {K V S D T A : Type 0} (x : Setup K V D T) (laws : Laws x) (w : State K
       ∙ ap (λ (z : Bool). record (stepped w s (record p { guard = if z then None else p.guard; phase = changed_phase z r })) { tables = tables'; blocks = slice_set w.blocks i d }) e) in
       -- the guard ends
       let ended = λ (o : Option (K × V)) (e : ends_guard h ≡ true) (at : left ≡ free o) (agrees : TablesAgree x (slice_set w.blocks i d) tables').
-      let p' : Place K V D T A = record p { guard = None; phase = phase.Release r } in
+      let p' : Place K V D T = record p { guard = None; phase = phase.Release r } in
       let on = growing.session-on x laws w s sound p a.stands h call.asked c i inside session b d n.2 n.3 still tables' p' refl refl (o, leaves ∙ at) in
       subst (Sound x) (sym (after true e))
       (growing.sound-changed x laws w s sound p a.stands h call.asked c i inside session b d n.2 n.3 still p'
@@ -188,7 +188,7 @@ module _ {K V S D T A : Type 0} (x : Setup K V D T) (laws : Laws x) (w : State K
       (growing.owns-grown x laws w s sound p a.stands h call.asked c i inside session b d n.2 n.3 still p' refl (ap may_own a.before))) in
       -- or stays
       let stored = λ (u : Stores x.deeds h a.kind a.pair).
-      let p' : Place K V D T A = record p { phase = phase.Answer r } in
+      let p' : Place K V D T = record p { phase = phase.Answer r } in
       let now : pair_in left ≡ Some (a.pair.0, u.0) = ap pair_in u.2 ∙ pair-lent a.kind (a.pair.0, u.0) in
       let there : HasPair tables' p.shard a.slot (a.pair.0, u.0) = record {
         table = a.changed;
@@ -273,7 +273,7 @@ module _ {K V S D T A : Type 0} (x : Setup K V D T) (laws : Laws x) (w : State K
         | inr new ↦ ap (λ z. x.route z.0) new.1 ∙ sym here
       ]) in
       let tables' = slice_set w.tables p.shard a.changed in
-      let p' : Place K V D T A = record p { guard = Some (guard.Pair way.Exclusive (length a.table.items)); phase = phase.Answer answer.Held } in
+      let p' : Place K V D T = record p { guard = Some (guard.Pair way.Exclusive (length a.table.items)); phase = phase.Answer answer.Held } in
       let there : HasPair tables' p.shard (length a.table.items) (a.key, a.value) = record {
         table = a.changed;
         held = slice_get-set_same w.tables p.shard a.table a.changed a.held;

@@ -1,6 +1,6 @@
 -- A find lists the call's block at its position, or finds that the shard's list has to grow first.
 use Rattle.std.proofs.Common.{◌≡◌, ◌≢◌, ℕ, ◌+◌, ◌-◌, ◌<◌, ◌≤◌, inl, Bool, true, false, if◌then◌else◌, List, [], ◌∷◌, ◌++◌, length, drop, Option, Some, None, IsSome, slice_get, slice_set, vec_len, vec_capacity, refl, ap, sym, ◌∙◌, subst, arith, length-append}
-use Rattle.std.specs.declared.vec.Vec.{Vec}
+use Rattle.mapworld_state.specs.Shards.{ShardPairs}
 use Rattle.std.proofs.Math.ListN.{length-set}
 use Rattle.std.proofs.lemmas.Option.{same_Some, none-some, slice_get_within}
 use Rattle.std.proofs.lemmas.Bool.{false≢true, ltb-true, ltb-false}
@@ -32,11 +32,11 @@ use Rattle.mapworld_state.specs.declared.place.Growth.{Growth}
 use Rattle.mapworld_state.specs.declared.place.Growth.TheVariants as growth
 use Rattle.mapworld_state.specs.declared.place.Phase.{Phase}
 use Rattle.mapworld_state.specs.declared.place.Phase.TheVariants as phase
-use Rattle.mapworld_state.specs.declared.place.Place.{Place}
+use Rattle.mapworld_state.specs.Places.{Place}
 use Rattle.mapworld_state.specs.State.{State, threads_of, started_of}
 use Rattle.mapworld_state.specs.Moves.{ask_of, request_key, keyed_mode, opening_way, opening_mode, mode_of, lent, stepped, request_of, growth_key, found_phase, found_done, found_guard, block_behind, IsListed, ListsBlock}
-use Rattle.mapworld_state.specs.Steps.{slot_in, has_room, Finds, GrowsList, Views}
-use Rattle.mapworld_state.specs.Sound.{is_resting, may_own, block_after, GuardIs, HoldsShard, IsInCall, IsOnItsWay, IsBeforeDeed, HasSession, IsInSession, IsReady, HasList, TablesAgree, Sound}
+use Rattle.mapworld_state.specs.Steps.{slot_in, has_room, Finds, GrowsShard, Views}
+use Rattle.mapworld_state.specs.Sound.{is_resting, may_own, block_after, GuardIs, HoldsShard, IsInCall, IsOnItsWay, IsBeforeDeed, HasSession, IsInSession, IsReady, HasPairs, TablesAgree, Sound}
 use Rattle.mapworld_state.proofs.Finds.{find-position, find-no_position, position-Some_at}
 use Rattle.mapworld_sound.proofs.Others.{IsInCall-push}
 use Rattle.mapworld_sound.proofs.Timing.{placed-same}
@@ -52,16 +52,16 @@ last-new x bs d j e lt here = absurd (let within : j < length (bs ++ d ∷ []) =
 done-none : {K : Type 0} (d : Block K) (n : ℕ) → d.done.value ≡ n → n ≤ 1 → d.end ≡ None → IsKeyedDone d
 done-none d n done le end = record { once = rw done le; whole = λ h. absurd (let g : IsSome {T = ℕ} None = subst (λ (o : Option ℕ). IsSome o) end h in absurd cc) }
 
-module _ {K V S D T A : Type 0} (x : Setup K V D T) (laws : Laws x) (w : State K V S D T A) (s : Step) (sound : Sound x w)
-    (p : Place K V D T A) (at : slice_get w.places s.thread ≡ Some p) (a : Ask K V D) (call : IsInCall x (threads_of w) s.thread p a)
+module _ {K V S D T : Type 0} (x : Setup K V D T) (laws : Laws x) (w : State K V S D T) (s : Step) (sound : Sound x w)
+    (p : Place K V D T) (at : slice_get w.places s.thread ≡ Some p) (a : Ask K V D) (call : IsInCall x (threads_of w) s.thread p a)
     (key : K) (key_is : key_of a ≡ Some key) (shard : p.shard ≡ x.route key) (not_yet : may_own p.phase ≡ false)
-    (table : Vec (K × V) A) (held : slice_get w.tables p.shard ≡ Some table) (d : Block K) where
+    (table : ShardPairs K V) (held : slice_get w.tables p.shard ≡ Some table) (d : Block K) where
   has-now : contents x w.blocks key ≡ pair_of x.eq table.items key
   has-now = sym (sound.tables.contents_are key table (ap (λ n. slice_get w.tables n) (sym shard) ∙ held))
 
   -- the block of an exclusive call is listed before its deed
-  before-deed : (holds : HoldsShard p Exclusive) (listed : IsListed w s.thread p 0 d) (p' : Place K V D T A) (o : Option (K × V)) → pair_of x.eq table.items key ≡ o
-      → p'.next ≡ p.next → p'.shard ≡ p.shard → p'.guard ≡ None → p'.hold ≡ p.hold → p'.block ≡ Some (length w.blocks)
+  before-deed : (holds : HoldsShard p Exclusive) (listed : IsListed w s.thread p 0 d) (p' : Place K V D T) (o : Option (K × V)) → pair_of x.eq table.items key ≡ o
+      → p'.next ≡ p.next → p'.shard ≡ p.shard → p'.guard ≡ None → p'.holds ≡ p.holds → p'.block ≡ Some (length w.blocks)
       → IsBeforeDeed x (w.blocks ++ d ∷ []) s.thread p' key o
   before-deed holds listed p' o is next same slot hold mine = record {
     index = length w.blocks;
@@ -100,7 +100,7 @@ module _ {K V S D T A : Type 0} (x : Setup K V D T) (laws : Laws x) (w : State K
   reached-new listed o = rw (listed.thread, listed.call, listed.done) (reached-one x s.thread p.next a o call.asked)
 
   -- the session that an opening begins
-  session-new : (m : Mode) (holds : HoldsShard p m) (listed : IsListed w s.thread p 1 d) (tables' : List (Vec (K × V) A)) (p' : Place K V D T A) (o : Option (K × V)) → pair_of x.eq table.items key ≡ o
+  session-new : (m : Mode) (holds : HoldsShard p m) (listed : IsListed w s.thread p 1 d) (tables' : List (ShardPairs K V)) (p' : Place K V D T) (o : Option (K × V)) → pair_of x.eq table.items key ≡ o
       → p'.shard ≡ p.shard → GuardIs tables' p' p'.guard (after x.deeds a (free o))
       → HasSession x (w.blocks ++ d ∷ []) tables' s.thread p' (p.next + 1) p.next (length w.blocks)
   session-new m holds listed tables' p' o is same lends =
@@ -140,21 +140,21 @@ opening-some (begin.GetMut k) pair = refl
 opening-some (begin.Entry k) pair = refl
 
 -- an opening's block has done the opening at its position
-opened-done : {K V S D T A : Type 0} (x : Setup K V D T) (w : State K V S D T A) (s : Step) (p' : Place K V D T A) (d : Block K) → d.done.value ≡ 1 → IsSessionDone x (started_of (stepped w s p')) w.replies d
+opened-done : {K V S D T : Type 0} (x : Setup K V D T) (w : State K V S D T) (s : Step) (p' : Place K V D T) (d : Block K) → d.done.value ≡ 1 → IsSessionDone x (started_of (stepped w s p')) w.replies d
 opened-done x w s p' d done = record { opened = rw done (omega arith); calls = λ n pos lt. absurd (let lt' : n < 1 = subst (λ (k : ℕ). n < k) done lt in omega arith) }
 
-pub ready-inside : {K V D T A : Type 0} (x : Setup K V D T) (bs : List (Block K)) (tables : List (Vec (K × V) A)) (t : ℕ) (p : Place K V D T A) (n c i : ℕ) (block : Option ℕ)
+pub ready-inside : {K V D T : Type 0} (x : Setup K V D T) (bs : List (Block K)) (tables : List (ShardPairs K V)) (t : ℕ) (p : Place K V D T) (n c i : ℕ) (block : Option ℕ)
     → session_of x t n ≡ Some c → Some i ≡ block → HasSession x bs tables t p n c i → IsReady x bs tables t p n block
 ready-inside x bs tables t p n c i block inside mine h =
     subst (λ (o : Option ℕ). IsInSession x bs tables t p n o block) (sym inside) (subst (λ (o : Option ℕ). IsInSession x bs tables t p n (Some c) o) mine h)
 
-module _ {K V S D T A : Type 0} (x : Setup K V D T) (laws : Laws x) (w : State K V S D T A) (s : Step) (sound : Sound x w) where
+module _ {K V S D T : Type 0} (x : Setup K V D T) (laws : Laws x) (w : State K V S D T) (s : Step) (sound : Sound x w) where
   -- the world behind a find
-  abbrev pub Found : Place K V D T A → Request K V D → Option ℕ → Bool → List (Block K) → Type 0
+  abbrev pub Found : Place K V D T → Request K V D → Option ℕ → Bool → List (Block K) → Type 0
   Found p r slot room blocks =
       Sound x (record (stepped w s (record p { block = block_behind (found_done r slot room) (length w.blocks) p.block; guard = found_guard r slot room; phase = found_phase r slot room })) { blocks = blocks })
 
-  module _ (p : Place K V D T A) (at : slice_get w.places s.thread ≡ Some p) (table : Vec (K × V) A) (held : slice_get w.tables p.shard ≡ Some table) where
+  module _ (p : Place K V D T) (at : slice_get w.places s.thread ≡ Some p) (table : ShardPairs K V) (held : slice_get w.tables p.shard ≡ Some table) where
     -- a call on one key that has its deed to come
     found-deed : (k : Keyed K V D) → p.phase ≡ phase.Find (request.Keyed k) → keyed_mode k ≡ Exclusive → (i : ℕ) → slot_in x.eq table (keyed_key k) ≡ Some i
         → (blocks : List (Block K)) → ListsBlock w s.thread p (Some 0) blocks
@@ -167,7 +167,7 @@ module _ {K V S D T A : Type 0} (x : Setup K V D T) (laws : Laws x) (w : State K
         let holds : HoldsShard p Exclusive = subst (λ (m : Mode). HoldsShard p m) alone c.2 in
         let here = position-Some_at (has_key x.eq key) table.items i slot in
         let is : pair_of x.eq table.items key ≡ Some here.0 = find-position (has_key x.eq key) table.items i slot ∙ here.1 in
-        let p' : Place K V D T A = record p { block = Some (length w.blocks); guard = None; phase = phase.Apply i k } in
+        let p' : Place K V D T = record p { block = Some (length w.blocks); guard = None; phase = phase.Apply i k } in
         let not_yet : may_own p.phase ≡ false = ap may_own before in
         let l = listed.1 in
         subst (λ (z : List (Block K)). Sound x (record (stepped w s p') { blocks = z })) (sym listed.2)
@@ -193,7 +193,7 @@ module _ {K V S D T A : Type 0} (x : Setup K V D T) (laws : Laws x) (w : State K
     done-whole k f before busy unowned call way holds o is leaves a answered blocks listed =
         let key : K = keyed_key k in
         let st = sound.stands s.thread p at in
-        let p' : Place K V D T A = record p { block = Some (length w.blocks); guard = None; phase = phase.Release a } in
+        let p' : Place K V D T = record p { block = Some (length w.blocks); guard = None; phase = phase.Release a } in
         let not_yet : may_own p.phase ≡ false = ap may_own before ∙ unowned in
         let l = listed.1 in
         let outside = keyed-apart x laws w s (record (stepped w s p') { blocks = blocks }) sound p st k call.asked in
@@ -211,7 +211,7 @@ module _ {K V S D T A : Type 0} (x : Setup K V D T) (laws : Laws x) (w : State K
             ready-outside x (w.blocks ++ listed.0 ∷ []) w.tables s.thread p' (p.next + 1) (block_after p') outside.1 refl closes,
           ),
         )
-        (subst (λ (z : Bool). p.asks.items ≡ drop (if z then p.next else p.next + 1) st.program) busy
+        (subst (λ (z : Bool). p.asks ≡ drop (if z then p.next else p.next + 1) st.program) busy
         (taken-at x (threads_of w) w.blocks w.replies w.tables s.thread p f before st))
         (subst (λ (z : Bool). (if z then p.next else p.next + 1) ≤ length st.program) busy
         (within-at x (threads_of w) w.blocks w.replies w.tables s.thread p f before st))
@@ -244,7 +244,7 @@ module _ {K V S D T A : Type 0} (x : Setup K V D T) (laws : Laws x) (w : State K
         let way : IsOnItsWay x p (growth_key g) = subst (λ (k : K). IsOnItsWay x p k) key-is c.1 in
         let holds : HoldsShard p Exclusive = subst (λ (m : Mode). HoldsShard p m) alone c.2 in
         let is : pair_of x.eq table.items (growth_key g) ≡ None = find-no_position (has_key x.eq (growth_key g)) table.items slot in
-        let p' : Place K V D T A = record p { guard = None; phase = phase.Grow g } in
+        let p' : Place K V D T = record p { guard = None; phase = phase.Grow g } in
         subst (λ (z : List (Block K)). Sound x (record (stepped w s p') { blocks = z })) (sym listed)
         (sound-by x w s p p' at sound w.blocks w.tables w.holds w.replies _ (leaves-same x w s p p' at sound _)
         (record {
@@ -279,7 +279,7 @@ module _ {K V S D T A : Type 0} (x : Setup K V D T) (laws : Laws x) (w : State K
         let st = sound.stands s.thread p at in
         let c = claim-at x (threads_of w) w.blocks w.replies w.tables s.thread p (phase.Find r) before st in
         let is : pair_of x.eq table.items k ≡ None = find-no_position (has_key x.eq k) table.items slot in
-        let p' : Place K V D T A = record p { block = Some (length w.blocks); guard = None; phase = phase.Release answer.None } in
+        let p' : Place K V D T = record p { block = Some (length w.blocks); guard = None; phase = phase.Release answer.None } in
         let not_yet : may_own p.phase ≡ false = ap may_own before in
         let l = listed.1 in
         let inside = begin-apart x laws w s (record (stepped w s p') { blocks = blocks }) sound p st b c.0.asked in
@@ -308,16 +308,16 @@ module _ {K V S D T A : Type 0} (x : Setup K V D T) (laws : Laws x) (w : State K
     entered : (k : K) (f : Phase K V D T) → p.phase ≡ f → is_resting f ≡ false → may_own f ≡ false
         → IsInCall x (threads_of w) s.thread p (ask.Begin (begin.Entry k)) → IsOnItsWay x p k → HoldsShard p Exclusive
         → pair_of x.eq table.items k ≡ None → (blocks : List (Block K)) → ListsBlock w s.thread p (Some 1) blocks
-        → (tables' : List (Vec (K × V) A)) → length tables' ≡ length w.tables
-        → ((u : ℕ) (q : Place K V D T A) (m : Mode) → u ≢ s.thread → slice_get w.places u ≡ Some q → HoldsShard q m → slice_get tables' q.shard ≡ slice_get w.tables q.shard)
-        → HasList tables' p.shard (λ t. vec_len t < vec_capacity t)
+        → (tables' : List (ShardPairs K V)) → length tables' ≡ length w.tables
+        → ((u : ℕ) (q : Place K V D T) (m : Mode) → u ≢ s.thread → slice_get w.places u ≡ Some q → HoldsShard q m → slice_get tables' q.shard ≡ slice_get w.tables q.shard)
+        → HasPairs tables' p.shard (λ t. vec_len t < vec_capacity t)
         → ((d : Block K) → ((q : K) → contents x (w.blocks ++ d ∷ []) q ≡ contents x w.blocks q) → TablesAgree x (w.blocks ++ d ∷ []) tables')
         → Sound x (record (stepped w s (record p { block = Some (length w.blocks); guard = Some (guard.Vacant k); phase = phase.Answer answer.Vacant })) { tables = tables'; blocks = blocks })
     entered k f before busy unowned call way holds is blocks listed tables' shards kept roomy agree =
         let b : Begin K = begin.Entry k in
         let key : key_of {V = V} {D = D} (ask.Begin b) ≡ Some k = refl in
         let st = sound.stands s.thread p at in
-        let p' : Place K V D T A = record p { block = Some (length w.blocks); guard = Some (guard.Vacant k); phase = phase.Answer answer.Vacant } in
+        let p' : Place K V D T = record p { block = Some (length w.blocks); guard = Some (guard.Vacant k); phase = phase.Answer answer.Vacant } in
         let not_yet : may_own p.phase ≡ false = ap may_own before ∙ unowned in
         let l = listed.1 in
         let d = listed.0 in
@@ -334,7 +334,7 @@ module _ {K V S D T A : Type 0} (x : Setup K V D T) (laws : Laws x) (w : State K
           inl (told-new x laws w s sound p at _ call k key way.shard not_yet table held d Exclusive holds l None is),
           ready-inside x (w.blocks ++ d ∷ []) tables' s.thread p' (p.next + 1) p.next (length w.blocks) (block_after p') inside.1 stays session,
         )
-        (subst (λ (z : Bool). p.asks.items ≡ drop (if z then p.next else p.next + 1) st.program) busy
+        (subst (λ (z : Bool). p.asks ≡ drop (if z then p.next else p.next + 1) st.program) busy
         (taken-at x (threads_of w) w.blocks w.replies w.tables s.thread p f before st))
         (subst (λ (z : Bool). (if z then p.next else p.next + 1) ≤ length st.program) busy
         (within-at x (threads_of w) w.blocks w.replies w.tables s.thread p f before st))
@@ -350,7 +350,7 @@ module _ {K V S D T A : Type 0} (x : Setup K V D T) (laws : Laws x) (w : State K
         let st = sound.stands s.thread p at in
         let c = claim-at x (threads_of w) w.blocks w.replies w.tables s.thread p (phase.Find r) before st in
         let is : pair_of x.eq table.items k ≡ None = find-no_position (has_key x.eq k) table.items slot in
-        let p' : Place K V D T A = record p { block = Some (length w.blocks); guard = None; phase = phase.Append k v } in
+        let p' : Place K V D T = record p { block = Some (length w.blocks); guard = None; phase = phase.Append k v } in
         let not_yet : may_own p.phase ≡ false = ap may_own before in
         let l = listed.1 in
         subst (λ (z : List (Block K)). Sound x (record (stepped w s p') { blocks = z })) (sym listed.2)
@@ -382,7 +382,7 @@ module _ {K V S D T A : Type 0} (x : Setup K V D T) (laws : Laws x) (w : State K
         let st = sound.stands s.thread p at in
         let c = claim-at x (threads_of w) w.blocks w.replies w.tables s.thread p (phase.Find r) before st in
         let here = position-Some_at (has_key x.eq k) table.items i slot in
-        let p' : Place K V D T A = record p { guard = None; phase = phase.View i k d } in
+        let p' : Place K V D T = record p { guard = None; phase = phase.View i k d } in
         subst (λ (z : List (Block K)). Sound x (record (stepped w s p') { blocks = z })) (sym listed)
         (sound-by x w s p p' at sound w.blocks w.tables w.holds w.replies _ (leaves-same x w s p p' at sound _)
         (record {
@@ -420,7 +420,7 @@ module _ {K V S D T A : Type 0} (x : Setup K V D T) (laws : Laws x) (w : State K
         let c = claim-at x (threads_of w) w.blocks w.replies w.tables s.thread p (phase.Find r) before st in
         let here = position-Some_at (has_key x.eq k) table.items i slot in
         let is : pair_of x.eq table.items k ≡ Some here.0 = find-position (has_key x.eq k) table.items i slot ∙ here.1 in
-        let p' : Place K V D T A = record p { block = Some (length w.blocks); guard = Some (guard.Pair (opening_way b) i); phase = phase.Answer answer.Held } in
+        let p' : Place K V D T = record p { block = Some (length w.blocks); guard = Some (guard.Pair (opening_way b) i); phase = phase.Answer answer.Held } in
         let not_yet : may_own p.phase ≡ false = ap may_own before in
         let l = listed.1 in
         let inside = begin-apart x laws w s (record (stepped w s p') { blocks = blocks }) sound p st b c.0.asked in
@@ -452,7 +452,7 @@ module _ {K V S D T A : Type 0} (x : Setup K V D T) (laws : Laws x) (w : State K
         (record { table = table; held = held; so = ltb-true (vec_len table) (vec_capacity table) roomy })
         (λ d same. tables-same x w.blocks (w.blocks ++ d ∷ []) w.tables w.tables sound.tables same)
 
-  pub sound-finds : (w' : State K V S D T A) → Finds x w s w' → Sound x w'
+  pub sound-finds : (w' : State K V S D T) → Finds x w s w' → Sound x w'
   sound-finds w' f =
       subst (Sound x) (sym (f.after ∙ ap (λ (z : Option ℕ). record (stepped w s (record (f.place) {
         block = block_behind z (length w.blocks) f.place.block;
@@ -462,7 +462,7 @@ module _ {K V S D T A : Type 0} (x : Setup K V D T) (laws : Laws x) (w : State K
       (found-by f.place f.stands f.table f.held f.request f.before (slot_in x.eq f.table (request_key f.request)) refl (has_room f.table) refl f.blocks
       (subst (λ (z : Option ℕ). ListsBlock w s.thread f.place z f.blocks) f.done_is f.listed))
 
-  pub sound-views : (w' : State K V S D T A) → Views x w s w' → Sound x w'
+  pub sound-views : (w' : State K V S D T) → Views x w s w' → Sound x w'
   sound-views w' v =
       let p = v.place in
       let f : Phase K V D T = phase.View v.slot v.key v.deed in
@@ -470,12 +470,12 @@ module _ {K V S D T A : Type 0} (x : Setup K V D T) (laws : Laws x) (w : State K
       let a : Answer K V T = answer.Read (x.deeds.answer v.deed v.pair.0 v.pair.1) in
       let c = claim-at x (threads_of w) w.blocks w.replies w.tables s.thread p f v.before (sound.stands s.thread p v.stands) in
       let same : v.table ≡ c.4.table = same_Some v.table c.4.table (sym v.held ∙ c.4.held) in
-      let pair : v.pair ≡ c.0 = same_Some v.pair c.0 (sym v.found ∙ (ap (λ (z : Vec (K × V) A). slice_get z.items v.slot) same ∙ c.4.so.0)) in
-      let is : pair_of x.eq v.table.items v.key ≡ Some v.pair = ap (λ (z : Vec (K × V) A). pair_of x.eq z.items v.key) same ∙ c.4.so.1 ∙ ap Some (sym pair) in
+      let pair : v.pair ≡ c.0 = same_Some v.pair c.0 (sym v.found ∙ (ap (λ (z : ShardPairs K V). slice_get z.items v.slot) same ∙ c.4.so.0)) in
+      let is : pair_of x.eq v.table.items v.key ≡ Some v.pair = ap (λ (z : ShardPairs K V). pair_of x.eq z.items v.key) same ∙ c.4.so.1 ∙ ap Some (sym pair) in
       subst (Sound x) (sym (v.after ∙ ap (λ (z : Option (Guard K)). record (stepped w s (record p { block = Some (length w.blocks); guard = z; phase = phase.Release a })) { blocks = v.blocks }) c.2.guard))
       (done-whole p v.stands v.table v.held k f v.before refl refl c.1 c.2 c.3 (Some v.pair) is refl a refl v.blocks v.listed)
 
-  grown : (w' : State K V S D T A) (a : GrowsList x w s w') (c : Growth K V) → a.place.phase ≡ phase.Grow c → pair_of x.eq a.table.items (growth_key c) ≡ None
+  grown : (w' : State K V S D T) (a : GrowsShard x w s w') (c : Growth K V) → a.place.phase ≡ phase.Grow c → pair_of x.eq a.table.items (growth_key c) ≡ None
       → ListsBlock w s.thread a.place (found_done {D = D} (request_of c) None true) a.blocks
       → Sound x (record (stepped w s (record (a.place) { block = Some (length w.blocks); guard = found_guard {D = D} (request_of c) None true; phase = found_phase (request_of c) None true })) {
         tables = slice_set w.tables a.place.shard a.grown;
@@ -486,7 +486,7 @@ module _ {K V S D T A : Type 0} (x : Setup K V D T) (laws : Laws x) (w : State K
       let f : Phase K V D T = phase.Grow (growth.Insert k v) in
       let st = sound.stands s.thread p a.stands in
       let c = claim-at x (threads_of w) w.blocks w.replies w.tables s.thread p f before st in
-      let p' : Place K V D T A = record p { block = Some (length w.blocks); guard = None; phase = phase.Append k v } in
+      let p' : Place K V D T = record p { block = Some (length w.blocks); guard = None; phase = phase.Append k v } in
       let not_yet : may_own p.phase ≡ false = ap may_own before in
       let l = listed.1 in
       let d = listed.0 in
@@ -513,5 +513,5 @@ module _ {K V S D T A : Type 0} (x : Setup K V D T) (laws : Laws x) (w : State K
       (record { table = a.grown; held = slice_get-set_same w.tables p.shard a.table a.grown a.held; so = omega (arith, len, a.room) })
       (λ d same. tables-rewritten x w.blocks (w.blocks ++ d ∷ []) w.tables p.shard a.table a.grown a.held a.pairs sound.tables same)
 
-  pub sound-grows : (w' : State K V S D T A) → GrowsList x w s w' → Sound x w'
+  pub sound-grows : (w' : State K V S D T) → GrowsShard x w s w' → Sound x w'
   sound-grows w' a = subst (Sound x) (sym a.after) (grown w' a a.call a.before a.absent a.listed)

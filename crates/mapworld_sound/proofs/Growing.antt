@@ -1,6 +1,6 @@
 -- A call on a guard, or where a guard was, is counted in by the session's block.
 use Rattle.std.proofs.Common.{◌≡◌, ◌≢◌, ℕ, ◌+◌, ◌-◌, ◌≤◌, ◌⊎◌, inl, inr, ⊎_elim, false, List, [], ◌∷◌, ◌++◌, length, take, drop, Option, Some, None, IsSome, slice_get, slice_set, refl, ap, sym, ◌∙◌, subst, arith}
-use Rattle.std.specs.declared.vec.Vec.{Vec}
+use Rattle.mapworld_state.specs.Shards.{ShardPairs}
 use Rattle.std.proofs.lemmas.Option.{same_Some, none-some}
 use Rattle.std.proofs.lemmas.Bool.{cases_lt, cases_eq, false≢true}
 use Rattle.mapworld_calls.specs.declared.ask.Ask.{Ask}
@@ -25,7 +25,7 @@ use Rattle.mapworld_state.specs.declared.step.Step.{Step}
 use Rattle.mapworld_state.specs.Holds.{Desks}
 use Rattle.mapworld_state.specs.declared.holds.Mode.{Mode}
 use Rattle.mapworld_state.specs.declared.place.Guard.{Guard}
-use Rattle.mapworld_state.specs.declared.place.Place.{Place}
+use Rattle.mapworld_state.specs.Places.{Place}
 use Rattle.mapworld_state.specs.State.{State, threads_of, started_of}
 use Rattle.mapworld_state.specs.Moves.{stepped, CountsIn}
 use Rattle.mapworld_state.specs.Sound.{taken, may_own, HoldsShard, GuardIs, HasSession, IsInSession, Claim, OwnsBlocks, HasOwnBlock, Stands, TablesAgree, Sound}
@@ -63,7 +63,7 @@ same-reached : {K V D T : Type 0} (x : Setup K V D T) (t u c e n m : ℕ) (o : O
 same-reached x t u c e n m o ht hc hn = rw (ht, hc, hn)
 
 -- a thread's block stays its own where a block of the thread grows
-pub own-grown : {K V D T A : Type 0} (bs : List (Block K)) (i : ℕ) (b c : Block K) (t : ℕ) → slice_get bs i ≡ Some b → c.thread ≡ t → (p : Place K V D T A) → HasOwnBlock bs t p
+pub own-grown : {K V D T : Type 0} (bs : List (Block K)) (i : ℕ) (b c : Block K) (t : ℕ) → slice_get bs i ≡ Some b → c.thread ≡ t → (p : Place K V D T) → HasOwnBlock bs t p
     → (j : ℕ) → p.block ≡ Some j → (e : Block K) × (slice_get (slice_set bs i c) j ≡ Some e) × (e.thread ≡ t)
 own-grown bs i b c t at thread p own j mine = ⊎_elim
     (λ same. (c, ap (λ k. slice_get (slice_set bs i c) k) (sym same) ∙ slice_get-set_same bs i b c at, thread))
@@ -71,7 +71,7 @@ own-grown bs i b c t at thread p own j mine = ⊎_elim
     (cases_eq i j)
 
 -- a guard is one of a session with a block
-pub session-of-guard : {K V D T A : Type 0} (x : Setup K V D T) (bs : List (Block K)) (tables : List (Vec (K × V) A)) (t : ℕ) (p : Place K V D T A) (n : ℕ) (g : Guard K) (o block : Option ℕ)
+pub session-of-guard : {K V D T : Type 0} (x : Setup K V D T) (bs : List (Block K)) (tables : List (ShardPairs K V)) (t : ℕ) (p : Place K V D T) (n : ℕ) (g : Guard K) (o block : Option ℕ)
     → p.guard ≡ Some g → IsInSession x bs tables t p n o block → (c : ℕ) × (i : ℕ) × (o ≡ Some c) × (block ≡ Some i) × HasSession x bs tables t p n c i
 session-of-guard x bs tables t p n g None block guarded h = absurd (none-some g (sym h.0 ∙ guarded))
 session-of-guard x bs tables t p n g (Some c) None guarded h = absurd (none-some g (sym h.0 ∙ guarded))
@@ -84,8 +84,8 @@ IsSome-at : (o : Option ℕ) → IsSome o → (y : ℕ) × (o ≡ Some y)
 IsSome-at None h = absurd cc
 IsSome-at (Some y) h = (y, refl)
 
-module _ {K V S D T A : Type 0} (x : Setup K V D T) (laws : Laws x) (w : State K V S D T A) (s : Step) (sound : Sound x w)
-    (p : Place K V D T A) (at : slice_get w.places s.thread ≡ Some p) (h : Held V D) (asked : ask_at x s.thread p.next ≡ Some (ask.Held h)) (c i : ℕ) (inside : session_of x s.thread p.next ≡ Some c)
+module _ {K V S D T : Type 0} (x : Setup K V D T) (laws : Laws x) (w : State K V S D T) (s : Step) (sound : Sound x w)
+    (p : Place K V D T) (at : slice_get w.places s.thread ≡ Some p) (h : Held V D) (asked : ask_at x s.thread p.next ≡ Some (ask.Held h)) (c i : ℕ) (inside : session_of x s.thread p.next ≡ Some c)
     (session : HasSession x w.blocks w.tables s.thread p p.next c i) (b d : Block K) (listed : slice_get w.blocks i ≡ Some b) (counts : CountsIn p.next b d)
     (settled : LeavesPair x.deeds h (reached x s.thread c (p.next - c) (found x w.blocks i b)) ⊎ IsLastOnShard x w.blocks i b) where
   abbrev pub st : Stands x (threads_of w) w.blocks w.replies w.tables s.thread p
@@ -155,7 +155,7 @@ module _ {K V S D T A : Type 0} (x : Setup K V D T) (laws : Laws x) (w : State K
   }
 
   -- the session goes on behind the call, which may not come to hold its shard alone
-  pub session-goes-on : (tables' : List (Vec (K × V) A)) (p' : Place K V D T A) → (HoldsShard p' Exclusive → HoldsShard p Exclusive) → p'.shard ≡ p.shard → GuardIs tables' p' p'.guard (held_leaves x.deeds h was)
+  pub session-goes-on : (tables' : List (ShardPairs K V)) (p' : Place K V D T) → (HoldsShard p' Exclusive → HoldsShard p Exclusive) → p'.shard ≡ p.shard → GuardIs tables' p' p'.guard (held_leaves x.deeds h was)
       → HasSession x (slice_set w.blocks i d) tables' s.thread p' (p.next + 1) c i
   session-goes-on tables' p' alone shard guard =
       let below = session.below in
@@ -172,7 +172,7 @@ module _ {K V S D T A : Type 0} (x : Setup K V D T) (laws : Laws x) (w : State K
             alone shard ((effect-grow x laws w.blocks s.thread i b d grows thread-is).last i session.block session.listed tt) session.settled;
       }
 
-  pub session-on : (tables' : List (Vec (K × V) A)) (p' : Place K V D T A) → p'.hold ≡ p.hold → p'.shard ≡ p.shard → GuardIs tables' p' p'.guard (held_leaves x.deeds h was)
+  pub session-on : (tables' : List (ShardPairs K V)) (p' : Place K V D T) → p'.holds ≡ p.holds → p'.shard ≡ p.shard → GuardIs tables' p' p'.guard (held_leaves x.deeds h was)
       → HasSession x (slice_set w.blocks i d) tables' s.thread p' (p.next + 1) c i
   session-on tables' p' hold shard guard = session-goes-on tables' p' (alone-moved x p p' hold shard) shard guard
 
@@ -185,13 +185,13 @@ module _ {K V S D T A : Type 0} (x : Setup K V D T) (laws : Laws x) (w : State K
   pub opening-key : block_key x b ≡ Some (opening_key opening-asked.0)
   opening-key = opening-key_of x b s.thread c opening-asked.0 thread-is call-is opening-asked.1
 
-  own-block : (p' : Place K V D T A) → p'.block ≡ p.block ⊎ (p'.block ≡ None) → HasOwnBlock (slice_set w.blocks i d) s.thread p'
+  own-block : (p' : Place K V D T) → p'.block ≡ p.block ⊎ (p'.block ≡ None) → HasOwnBlock (slice_set w.blocks i d) s.thread p'
   own-block p' block j mine = elim block [
     | inl same ↦ own-grown w.blocks i b d s.thread listed (counts.thread ∙ thread-is) p st.own_block j (sym same ∙ mine)
     | inr none ↦ absurd (none-some j (sym none ∙ mine))
   ]
 
-  module _ (p' : Place K V D T A) (running : IsSome p'.started) (stays : (n : ℕ) → p.started ≡ Some n → p'.started ≡ Some n) where
+  module _ (p' : Place K V D T) (running : IsSome p'.started) (stays : (n : ℕ) → p.started ≡ Some n → p'.started ≡ Some n) where
     now : HasStarted (started_of (stepped w s p')) w.replies b.thread p.next
     now = inr (
       st.answered ∙ ap (answered_of w.replies) (sym thread-is),
@@ -227,8 +227,8 @@ module _ {K V S D T A : Type 0} (x : Setup K V D T) (laws : Laws x) (w : State K
     more-done (ask.Held g) e old = old
 
     -- the world behind a step that counts the call in, and may change the list of a shard that is held alone
-    pub sound-changed : (tables' : List (Vec (K × V) A)) → length tables' ≡ length w.tables
-        → ((u : ℕ) (q : Place K V D T A) (m : Mode) → u ≢ s.thread → slice_get w.places u ≡ Some q → HoldsShard q m → slice_get tables' q.shard ≡ slice_get w.tables q.shard)
+    pub sound-changed : (tables' : List (ShardPairs K V)) → length tables' ≡ length w.tables
+        → ((u : ℕ) (q : Place K V D T) (m : Mode) → u ≢ s.thread → slice_get w.places u ≡ Some q → HoldsShard q m → slice_get tables' q.shard ≡ slice_get w.tables q.shard)
         → TablesAgree x (slice_set w.blocks i d) tables'
         → (holds' : Desks) → p'.next ≡ p.next → p'.block ≡ p.block ⊎ (p'.block ≡ None)
         → Claim x (threads_of w ++ s.thread ∷ []) (slice_set w.blocks i d) tables' s.thread p' p'.phase
@@ -264,7 +264,7 @@ module _ {K V S D T A : Type 0} (x : Setup K V D T) (laws : Laws x) (w : State K
         (tables-same x w.blocks (slice_set w.blocks i d) w.tables w.tables sound.tables (λ q. contents-quiet x laws w.blocks i b d grows (quiet same) q))
 
   -- the thread's blocks are those that it had
-  pub owns-grown : (p' : Place K V D T A) → p'.next ≡ p.next → may_own p.phase ≡ false → OwnsBlocks (slice_set w.blocks i d) s.thread p'
+  pub owns-grown : (p' : Place K V D T) → p'.next ≡ p.next → may_own p.phase ≡ false → OwnsBlocks (slice_set w.blocks i d) s.thread p'
   owns-grown p' next not_yet j e here thread = elim (slice_get-set_cases w.blocks i j b e d listed here) [
     | inl own ↦ inl (rw (next, own.1, counts.call, call-is) session.below)
     | inr other ↦ elim (st.owns j e other.1 thread) [ inl below ↦ inl (rw next below) | inr mine ↦ absurd (false≢true (sym not_yet ∙ mine.2)) ]

@@ -11,33 +11,33 @@ use Rattle.lock_api_desk.specs.Desk.{DeskState, IsSound, admitted, turned, relea
 use Rattle.lock_api_desk.specs.Refusals.{acquire_refusal}
 use Rattle.mapworld_state.specs.declared.holds.Mode.TheVariants.{Shared, Exclusive}
 use Rattle.mapworld_state.specs.declared.holds.Hold.{Hold}
-use Rattle.mapworld_state.specs.declared.place.Place.{Place}
+use Rattle.mapworld_state.specs.Places.{Place}
 use Rattle.mapworld_state.specs.Holds.{is_excluded, Desks, at_desk, guard_for}
 use Rattle.mapworld_state.specs.Held.{HoldsMatch}
 use Rattle.mapworld_state.proofs.HoldsTable.{is_excluded-shared, without-kept, without-was}
 use Rattle.mapworld_sound.proofs.Orderly.{sound_admitted, sound_shared, one_place, sound_released}
 
-module _ {K V D T A : Type 0} (places : List (Place K V D T A)) (holds : Desks) (h : HoldsMatch places holds) where
+module _ {K V D T : Type 0} (places : List (Place K V D T)) (holds : Desks) (h : HoldsMatch places holds) where
   -- two threads that hold one shard share it
-  pub exclusion : (t u : ℕ) (p q : Place K V D T A) (a b : Hold) → t ≢ u → slice_get places t ≡ Some p → slice_get places u ≡ Some q
-      → p.hold ≡ Some a → q.hold ≡ Some b → a.shard ≡ b.shard → (a.mode ≡ Shared) × (b.mode ≡ Shared)
+  pub exclusion : (t u : ℕ) (p q : Place K V D T) (a b : Hold) → t ≢ u → slice_get places t ≡ Some p → slice_get places u ≡ Some q
+      → p.holds ≡ Some a → q.holds ≡ Some b → a.shard ≡ b.shard → (a.mode ≡ Shared) × (b.mode ≡ Shared)
   exclusion t u p q a b ne hp hq ha hb shard = h.compatible t u p q a b ne hp hq ha hb shard
 
-  module _ (t : ℕ) (p p' : Place K V D T A) (at : slice_get places t ≡ Some p) where
+  module _ (t : ℕ) (p p' : Place K V D T) (at : slice_get places t ≡ Some p) where
     -- a thread that another one's step leaves, and the one that made it
-    there : (u : ℕ) (q : Place K V D T A) → slice_get (slice_set places t p') u ≡ Some q → ((u ≡ t) × (q ≡ p')) ⊎ ((u ≢ t) × (slice_get places u ≡ Some q))
+    there : (u : ℕ) (q : Place K V D T) → slice_get (slice_set places t p') u ≡ Some q → ((u ≡ t) × (q ≡ p')) ⊎ ((u ≢ t) × (slice_get places u ≡ Some q))
     there u q hq = slice_get-set_cases places t u p q p' at hq
 
-    still : (u : ℕ) (q : Place K V D T A) → u ≢ t → slice_get places u ≡ Some q → slice_get (slice_set places t p') u ≡ Some q
+    still : (u : ℕ) (q : Place K V D T) → u ≢ t → slice_get places u ≡ Some q → slice_get (slice_set places t p') u ≡ Some q
     still u q ne hq = slice_get-set_other places t u p' (λ z. ne (sym z)) ∙ hq
 
     now : (u : ℕ) → u ≡ t → slice_get (slice_set places t p') u ≡ Some p'
     now u own = ap (λ v. slice_get (slice_set places t p') v) own ∙ slice_get-set_same places t p p' at
 
-    mine : (u : ℕ) (q : Place K V D T A) → u ≡ t → slice_get places u ≡ Some q → q ≡ p
+    mine : (u : ℕ) (q : Place K V D T) → u ≡ t → slice_get places u ≡ Some q → q ≡ p
     mine u q own hq = same_Some q p (sym hq ∙ ap (λ v. slice_get places v) own ∙ at)
 
-    pub holds-same : p'.hold ≡ p.hold → HoldsMatch (slice_set places t p') holds
+    pub holds-same : p'.holds ≡ p.holds → HoldsMatch (slice_set places t p') holds
     holds-same same = record {
       listed = λ u q a hq ha. let o = was u q a hq ha in h.listed u o.0 a o.1 o.2;
       owned = λ s i desk g hd hg.
@@ -53,13 +53,13 @@ module _ {K V D T A : Type 0} (places : List (Place K V D T A)) (holds : Desks) 
       sound = h.sound;
     }
       where
-        was : (u : ℕ) (q : Place K V D T A) (a : Hold) → slice_get (slice_set places t p') u ≡ Some q → q.hold ≡ Some a → (r : Place K V D T A) × (slice_get places u ≡ Some r) × (r.hold ≡ Some a)
+        was : (u : ℕ) (q : Place K V D T) (a : Hold) → slice_get (slice_set places t p') u ≡ Some q → q.holds ≡ Some a → (r : Place K V D T) × (slice_get places u ≡ Some r) × (r.holds ≡ Some a)
         was u q a hq ha = elim (there u q hq) [
           | inl own ↦ (p, ap (λ v. slice_get places v) own.0 ∙ at, sym same ∙ ap (λ z. z.hold) (sym own.1) ∙ ha)
           | inr other ↦ (q, other.1, ha)
         ]
 
-    pub holds-push : (a : Hold) → p.hold ≡ None → p'.hold ≡ Some a → ((u : ℕ) (q : Place K V D T A) (b : Hold) → slice_get places u ≡ Some q → q.hold ≡ Some b → b.guard ≢ a.guard)
+    pub holds-push : (a : Hold) → p.holds ≡ None → p'.holds ≡ Some a → ((u : ℕ) (q : Place K V D T) (b : Hold) → slice_get places u ≡ Some q → q.holds ≡ Some b → b.guard ≢ a.guard)
         → is_excluded places a.shard a.mode ≡ false → (desk : DeskState (Unit {0})) → slice_get holds a.shard ≡ Some desk
         → acquire_refusal WouldWait (at_desk a.mode) a.guard desk ≡ None
         → HoldsMatch (slice_set places t p') (slice_set holds a.shard (admitted (at_desk a.mode) t a.guard desk))
@@ -126,13 +126,13 @@ module _ {K V D T A : Type 0} (places : List (Place K V D T A)) (holds : Desks) 
         after : DeskState (Unit {0})
         after = admitted (at_desk a.mode) t a.guard desk
 
-        is-mine : (q : Place K V D T A) (b : Hold) → q ≡ p' → q.hold ≡ Some b → a ≡ b
+        is-mine : (q : Place K V D T) (b : Hold) → q ≡ p' → q.holds ≡ Some b → a ≡ b
         is-mine q b own hb = same_Some a b (sym taken ∙ ap (λ z. z.hold) (sym own) ∙ hb)
 
-        not-mine : (u : ℕ) (q : Place K V D T A) (b : Hold) → slice_get places u ≡ Some q → q.hold ≡ Some b → u ≢ t
+        not-mine : (u : ℕ) (q : Place K V D T) (b : Hold) → slice_get places u ≡ Some q → q.holds ≡ Some b → u ≢ t
         not-mine u q b hq hb own = none-some b (sym free ∙ ap (λ z. z.hold) (sym (mine u q own hq)) ∙ hb)
 
-    pub holds-remove : (a : Hold) → p.hold ≡ Some a → p'.hold ≡ None → (desk : DeskState (Unit {0})) → slice_get holds a.shard ≡ Some desk
+    pub holds-remove : (a : Hold) → p.holds ≡ Some a → p'.holds ≡ None → (desk : DeskState (Unit {0})) → slice_get holds a.shard ≡ Some desk
         → HoldsMatch (slice_set places t p') (slice_set holds a.shard (released a.guard desk))
     holds-remove a held free desk there-is = record {
       listed = λ u q b hq hb.
@@ -172,17 +172,17 @@ module _ {K V D T A : Type 0} (places : List (Place K V D T A)) (holds : Desks) 
         after : DeskState (Unit {0})
         after = released a.guard desk
 
-        is-mine : (u : ℕ) (q : Place K V D T A) (b : Hold) → u ≡ t → slice_get places u ≡ Some q → q.hold ≡ Some b → a ≡ b
+        is-mine : (u : ℕ) (q : Place K V D T) (b : Hold) → u ≡ t → slice_get places u ≡ Some q → q.holds ≡ Some b → a ≡ b
         is-mine u q b own hq hb = same_Some a b (sym held ∙ ap (λ z. z.hold) (sym (mine u q own hq)) ∙ hb)
 
-        other : (u : ℕ) (q : Place K V D T A) (b : Hold) → slice_get (slice_set places t p') u ≡ Some q → q.hold ≡ Some b → (u ≢ t) × (slice_get places u ≡ Some q)
+        other : (u : ℕ) (q : Place K V D T) (b : Hold) → slice_get (slice_set places t p') u ≡ Some q → q.holds ≡ Some b → (u ≢ t) × (slice_get places u ≡ Some q)
         other u q b hq hb = elim (there u q hq) [
           | inl own ↦ absurd (none-some b (sym free ∙ ap (λ z. z.hold) (sym own.1) ∙ hb))
           | inr old ↦ old
         ]
 
     -- a hold that was alone is shared, as the desk lists it
-    pub holds-shared : (a : Hold) → p.hold ≡ Some a → a.mode ≡ Exclusive → p'.hold ≡ Some (record a { mode = Shared }) → (desk : DeskState (Unit {0})) → slice_get holds a.shard ≡ Some desk
+    pub holds-shared : (a : Hold) → p.holds ≡ Some a → a.mode ≡ Exclusive → p'.holds ≡ Some (record a { mode = Shared }) → (desk : DeskState (Unit {0})) → slice_get holds a.shard ≡ Some desk
         → HoldsMatch (slice_set places t p') (slice_set holds a.shard (turned desk_mode.Shared a.guard desk))
     holds-shared a held alone taken desk there-is = record {
       listed = λ u q b hq hb. elim (there u q hq) [
@@ -263,11 +263,11 @@ module _ {K V D T A : Type 0} (places : List (Place K V D T A)) (holds : Desks) 
         guards-now : after.guards ≡ slice_set desk.guards place-is (guard_for t now-held)
         guards-now = amend_at (held_in desk_mode.Shared) a.guard desk.guards place-is (guard_for t a) (h.sound a.shard desk there-is).distinct mine-listed refl
 
-        is-mine : (u : ℕ) (q : Place K V D T A) (b : Hold) → u ≡ t → slice_get places u ≡ Some q → q.hold ≡ Some b → a ≡ b
+        is-mine : (u : ℕ) (q : Place K V D T) (b : Hold) → u ≡ t → slice_get places u ≡ Some q → q.holds ≡ Some b → a ≡ b
         is-mine u q b own hq hb = same_Some a b (sym held ∙ ap (λ z. z.hold) (sym (mine u q own hq)) ∙ hb)
 
-        was : (u : ℕ) (q : Place K V D T A) (b : Hold) → slice_get (slice_set places t p') u ≡ Some q → q.hold ≡ Some b
-            → (r : Place K V D T A) × (c : Hold) × (slice_get places u ≡ Some r) × (r.hold ≡ Some c) × (c.guard ≡ b.guard) × (c.shard ≡ b.shard) × (c.mode ≡ Shared → b.mode ≡ Shared)
+        was : (u : ℕ) (q : Place K V D T) (b : Hold) → slice_get (slice_set places t p') u ≡ Some q → q.holds ≡ Some b
+            → (r : Place K V D T) × (c : Hold) × (slice_get places u ≡ Some r) × (r.holds ≡ Some c) × (c.guard ≡ b.guard) × (c.shard ≡ b.shard) × (c.mode ≡ Shared → b.mode ≡ Shared)
         was u q b hq hb = elim (there u q hq) [
           | inl own ↦
               let same : now-held ≡ b = same_Some now-held b (sym taken ∙ ap (λ z. z.hold) (sym own.1) ∙ hb) in (

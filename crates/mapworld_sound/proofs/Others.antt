@@ -1,6 +1,6 @@
 -- What holds of a thread's place stays when another thread makes a step.
 use Rattle.std.proofs.Common.{◌≡◌, ◌≢◌, ℕ, ◌+◌, ◌-◌, ◌≤◌, if◌then◌else◌, List, [], ◌∷◌, ◌++◌, Option, Some, None, slice_get, ap, sym, ◌∙◌}
-use Rattle.std.specs.declared.vec.Vec.{Vec}
+use Rattle.mapworld_state.specs.Shards.{ShardPairs}
 use Rattle.mapworld_calls.specs.declared.ask.Ask.{Ask}
 use Rattle.mapworld_calls.specs.declared.block.Block.{Block}
 use Rattle.mapworld_calls.specs.declared.reply.Reply.{Reply}
@@ -20,25 +20,25 @@ use Rattle.mapworld_state.specs.declared.place.Phase.{Phase}
 use Rattle.mapworld_state.specs.declared.place.Phase.TheVariants as phase
 use Rattle.mapworld_state.specs.declared.place.Guard.{Guard}
 use Rattle.mapworld_state.specs.declared.place.Guard.TheVariants as guard
-use Rattle.mapworld_state.specs.declared.place.Place.{Place}
+use Rattle.mapworld_state.specs.Places.{Place}
 use Rattle.mapworld_state.specs.Moves.{way_mode}
-use Rattle.mapworld_state.specs.Sound.{HasPair, HoldsShard, GuardIs, IsOnShard, IsInSessionOf, IsInSession, IsReady, IsInCall, IsBeforeDeed, HasList, IsReleasing, Claim, Stands}
+use Rattle.mapworld_state.specs.Sound.{HasPair, HoldsShard, GuardIs, IsOnShard, IsInSessionOf, IsInSession, IsReady, IsInCall, IsBeforeDeed, HasPairs, IsReleasing, Claim, Stands}
 use Rattle.mapworld_sound.proofs.Effects.{Effect, keeps-other}
 
 pub IsStepOf-push : (threads : List ℕ) (s t n : ℕ) → IsStepOf threads t n → IsStepOf (threads ++ s ∷ []) t n
 IsStepOf-push threads s t n h = (h.0, slice_get-push_below threads (n - 1) t s h.1)
 
-module _ {K V D T A : Type 0} (x : Setup K V D T) (threads : List ℕ) (s : ℕ) (t : ℕ) (p : Place K V D T A) (a : Ask K V D) where
+module _ {K V D T : Type 0} (x : Setup K V D T) (threads : List ℕ) (s : ℕ) (t : ℕ) (p : Place K V D T) (a : Ask K V D) where
   pub IsInCall-push : IsInCall x threads t p a → IsInCall x (threads ++ s ∷ []) t p a
   IsInCall-push h = record { asked = h.asked; closes = h.closes; start = h.start; started = h.started; begun = IsStepOf-push threads s t h.start h.begun }
 
 -- where the effect of a step on a thread's own session is nothing but the growth of other blocks
-module _ {K V D T A : Type 0} (x : Setup K V D T) (bs bs' : List (Block K)) (tables tables' : List (Vec (K × V) A)) (t : ℕ) (p : Place K V D T A)
+module _ {K V D T : Type 0} (x : Setup K V D T) (bs bs' : List (Block K)) (tables tables' : List (ShardPairs K V)) (t : ℕ) (p : Place K V D T)
     (kept : (m : Mode) → HoldsShard p m → slice_get tables' p.shard ≡ slice_get tables p.shard) where
   pub pair-kept : (m : Mode) (i : ℕ) (pair : K × V) → HoldsShard p m → HasPair tables p.shard i pair → HasPair tables' p.shard i pair
   pair-kept m i pair h has = record { table = has.table; held = kept m h ∙ has.held; pair_is = has.pair_is }
 
-  pub list-kept : (m : Mode) (IsSo : Vec (K × V) A → Type 0) → HoldsShard p m → HasList tables p.shard IsSo → HasList tables' p.shard IsSo
+  pub list-kept : (m : Mode) (IsSo : ShardPairs K V → Type 0) → HoldsShard p m → HasPairs tables p.shard IsSo → HasPairs tables' p.shard IsSo
   list-kept m IsSo h has = record { table = has.table; held = kept m h ∙ has.held; so = has.so }
 
   pub guard-kept : (g : Option (Guard K)) (at at' : At K V) → at' ≡ at → GuardIs tables p g at → GuardIs tables' p g at'
@@ -73,8 +73,8 @@ module _ {K V D T A : Type 0} (x : Setup K V D T) (bs bs' : List (Block K)) (tab
   ready-kept n (Some c) block stays back lasts h = session-kept n c block stays back lasts h
   ready-kept n None block stays back lasts h = h
 
-module _ {K V D T A : Type 0} (x : Setup K V D T) (threads : List ℕ) (s : ℕ) (bs bs' : List (Block K)) (replies replies' : List (Reply K V T))
-    (tables tables' : List (Vec (K × V) A)) (t u : ℕ) (p : Place K V D T A) (F : Block K → Type 0)
+module _ {K V D T : Type 0} (x : Setup K V D T) (threads : List ℕ) (s : ℕ) (bs bs' : List (Block K)) (replies replies' : List (Reply K V T))
+    (tables tables' : List (ShardPairs K V)) (t u : ℕ) (p : Place K V D T) (F : Block K → Type 0)
     (effect : Effect x bs bs' t F) (other : u ≢ t) (count : answered_of replies' u ≡ answered_of replies u)
     (kept : (m : Mode) → HoldsShard p m → slice_get tables' p.shard ≡ slice_get tables p.shard)
     (foreign : (b : Block K) → HoldsShard p Exclusive → IsOnShard x p b → F b)

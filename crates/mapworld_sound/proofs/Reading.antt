@@ -1,6 +1,6 @@
 -- Steps of a session: a deed that reads the guarded pair, and the release of the guard or of a keyed call's hold.
 use Rattle.std.proofs.Common.{◌≡◌, ℕ, ◌+◌, ◌-◌, inl, inr, Bool, if◌then◌else◌, List, Option, Some, None, is_some, slice_get, slice_set, refl, ap, sym, ◌∙◌, subst, arith}
-use Rattle.std.specs.declared.vec.Vec.{Vec}
+use Rattle.mapworld_state.specs.Shards.{ShardPairs}
 use Rattle.std.proofs.lemmas.Option.{same_Some, none-some}
 use Rattle.mapworld_calls.specs.declared.ask.Ask.{Ask}
 use Rattle.mapworld_calls.specs.declared.ask.Ask.TheVariants as ask
@@ -21,7 +21,7 @@ use Rattle.mapworld_state.specs.declared.place.Way.TheVariants as way
 use Rattle.mapworld_state.specs.declared.place.Guard.{Guard}
 use Rattle.mapworld_state.specs.declared.place.Guard.TheVariants as guard
 use Rattle.mapworld_state.specs.declared.place.Phase.TheVariants as phase
-use Rattle.mapworld_state.specs.declared.place.Place.{Place}
+use Rattle.mapworld_state.specs.Places.{Place}
 use Rattle.mapworld_state.specs.State.{State, threads_of, started_of}
 use Rattle.mapworld_state.specs.Moves.{way_mode, lent, stepped, CountsCall}
 use Rattle.mapworld_state.specs.Steps.{Reads, Releases}
@@ -42,7 +42,7 @@ pub in-session : {K V D T : Type 0} (x : Setup K V D T) (bs : List (Block K)) (t
 in-session x bs t n c a inside told = subst (λ (o : Option ℕ). IsAnsweredInSession x bs t n o a) (sym inside) (inl told)
 
 -- a guard's session has come to it
-pub guard-at : {K V D T A : Type 0} (tables : List (Vec (K × V) A)) (p : Place K V D T A) (o : Option (Guard K)) (kind : Way K) (slot : ℕ) (at : At K V) → o ≡ Some (guard.Pair kind slot) → GuardIs tables p o at
+pub guard-at : {K V D T : Type 0} (tables : List (ShardPairs K V)) (p : Place K V D T) (o : Option (Guard K)) (kind : Way K) (slot : ℕ) (at : At K V) → o ≡ Some (guard.Pair kind slot) → GuardIs tables p o at
     → (pair : K × V) × (at ≡ lent kind pair) × HoldsShard p (way_mode kind) × HasPair tables p.shard slot pair
 guard-at {K} tables p o kind slot at same h = subst (λ (z : Option (Guard K)). GuardIs tables p z at) same h
 
@@ -63,16 +63,16 @@ module _ {D K V T : Type 0} (deeds : Deeds D K V T) (pair : K × V) where
   drop-lent way.Exclusive = refl
   drop-lent (way.Occupied k) = refl
 
-drop-told : {K V D T A : Type 0} (deeds : Deeds D K V T) (tables : List (Vec (K × V) A)) (p : Place K V D T A) (g : Guard K) (at : At K V) → GuardIs tables p (Some g) at → held_answer deeds held.Drop at ≡ answer.Done
+drop-told : {K V D T : Type 0} (deeds : Deeds D K V T) (tables : List (ShardPairs K V)) (p : Place K V D T) (g : Guard K) (at : At K V) → GuardIs tables p (Some g) at → held_answer deeds held.Drop at ≡ answer.Done
 drop-told deeds tables p (guard.Pair kind slot) at h = ap (held_answer deeds held.Drop) h.1 ∙ drop-lent deeds h.0 kind
 drop-told deeds tables p (guard.Vacant k) at h = ap (held_answer deeds held.Drop) h.0
 
-pub HasPair-is : {K V A : Type 0} (tables : List (Vec (K × V) A)) (shard slot : ℕ) (pair pair' : K × V) (table : Vec (K × V) A)
+pub HasPair-is : {K V : Type 0} (tables : List (ShardPairs K V)) (shard slot : ℕ) (pair pair' : K × V) (table : ShardPairs K V)
     → HasPair tables shard slot pair → slice_get tables shard ≡ Some table → slice_get table.items slot ≡ Some pair' → pair' ≡ pair
 HasPair-is {K} {V} {A} tables shard slot pair pair' table h held at =
-    same_Some pair' pair (sym at ∙ ap (λ (z : Vec (K × V) A). slice_get z.items slot) (same_Some table h.table (sym held ∙ h.held)) ∙ h.pair_is)
+    same_Some pair' pair (sym at ∙ ap (λ (z : ShardPairs K V). slice_get z.items slot) (same_Some table h.table (sym held ∙ h.held)) ∙ h.pair_is)
 
-module _ {K V S D T A : Type 0} (x : Setup K V D T) (laws : Laws x) (w : State K V S D T A) (s : Step) (w' : State K V S D T A) (sound : Sound x w) where
+module _ {K V S D T : Type 0} (x : Setup K V D T) (laws : Laws x) (w : State K V S D T) (s : Step) (w' : State K V S D T) (sound : Sound x w) where
   pub sound-reads : Reads x w s w' → Sound x w'
   sound-reads a =
       let p = a.place in
@@ -91,7 +91,7 @@ module _ {K V S D T A : Type 0} (x : Setup K V D T) (laws : Laws x) (w : State K
       let same = read-quiet x.deeds a.deed (reached x s.thread c (p.next - c) (found x w.blocks i b)) in
       let still = inl same in
       let r : Answer K V T = answer.Read (x.deeds.answer a.deed a.pair.0 a.pair.1) in
-      let p' : Place K V D T A = record p { phase = phase.Answer r } in
+      let p' : Place K V D T = record p { phase = phase.Answer r } in
       let told : held_answer x.deeds (held.Read a.deed) (reached x s.thread c (p.next - c) (found x w.blocks i b)) ≡ r =
       ap (held_answer x.deeds (held.Read a.deed)) stood ∙ read-told x.deeds lends.0 a.deed a.kind ∙ ap (λ (z : K × V). answer.Read (x.deeds.answer a.deed z.0 z.1)) (sym pair) in
       let leaves : held_leaves x.deeds (held.Read a.deed) (reached x s.thread c (p.next - c) (found x w.blocks i b)) ≡ lent a.kind lends.0 = ap (held_leaves x.deeds (held.Read a.deed)) stood ∙ read-stays x.deeds lends.0 a.deed a.kind in
@@ -117,7 +117,7 @@ module _ {K V S D T A : Type 0} (x : Setup K V D T) (laws : Laws x) (w : State K
       (growing.owns-grown x laws w s sound p a.stands (held.Read a.deed) call.asked c i inside session b d n.2 n.3 still p' refl (ap may_own a.before)))
 
   -- without a guard neither hold nor list counts
-  unguarded : (p p' : Place K V D T A) (n : ℕ) (o block : Option ℕ) → p.guard ≡ None → p'.guard ≡ None → p'.hold ≡ None → p'.shard ≡ p.shard → IsInSession x w.blocks w.tables s.thread p n o block → IsInSession x w.blocks w.tables s.thread p' n o block
+  unguarded : (p p' : Place K V D T) (n : ℕ) (o block : Option ℕ) → p.guard ≡ None → p'.guard ≡ None → p'.holds ≡ None → p'.shard ≡ p.shard → IsInSession x w.blocks w.tables s.thread p n o block → IsInSession x w.blocks w.tables s.thread p' n o block
   unguarded p p' n (Some c) (Some i) none none' free_ shard h = record {
     block = h.block;
     listed = h.listed;
@@ -127,7 +127,7 @@ module _ {K V S D T A : Type 0} (x : Setup K V D T) (laws : Laws x) (w : State K
     done = h.done;
     guard = subst (λ (z : Option (Guard K)). GuardIs w.tables p' z (reached x s.thread c (n - c) (found x w.blocks i h.block))) (sym none')
         (subst (λ (z : Option (Guard K)). GuardIs w.tables p z (reached x s.thread c (n - c) (found x w.blocks i h.block))) none h.guard);
-    settled = settled-moved x p p' w.blocks w.blocks i h.block h.block refl (λ alone. absurd (none-some alone.hold (sym free_ ∙ alone.has))) shard (λ z. z) h.settled;
+    settled = settled-moved x p p' w.blocks w.blocks i h.block h.block refl (λ alone. absurd (none-some alone.holds (sym free_ ∙ alone.has))) shard (λ z. z) h.settled;
   }
   unguarded p p' n (Some c) None none none' free_ shard h = (none', h.1)
   unguarded p p' n None block none none' free_ shard h = (none', h.1)
@@ -138,7 +138,7 @@ module _ {K V S D T A : Type 0} (x : Setup K V D T) (laws : Laws x) (w : State K
       let p = a.place in
       let st = sound.stands s.thread p a.stands in
       let cl = claim-at x (threads_of w) w.blocks w.replies w.tables s.thread p (phase.Release a.answer) a.before st in
-      let p' : Place K V D T A = record p { hold = None; guard = None; phase = phase.Answer a.answer } in
+      let p' : Place K V D T = record p { hold = None; guard = None; phase = phase.Answer a.answer } in
       let same : a.blocks ≡ w.blocks = subst (λ (z : Option (Guard K)). CountsCall w.blocks (if is_some z then p.block else None) p.next a.blocks) none a.counted in
       subst (Sound x) (sym (a.after ∙ ap (λ (z : List (Block K)). record (stepped w s p') { holds = slice_set w.holds a.hold.shard (without_guard a.hold.guard a.desk); blocks = z }) same))
       (sound-by x w s p p' a.stands sound w.blocks w.tables (slice_set w.holds a.hold.shard (without_guard a.hold.guard a.desk)) w.replies _ (leaves-same x w s p p' a.stands sound (slice_set w.holds a.hold.shard (without_guard a.hold.guard a.desk)))
@@ -159,7 +159,7 @@ module _ {K V S D T A : Type 0} (x : Setup K V D T) (laws : Laws x) (w : State K
         );
       })
       (tables-same x w.blocks w.blocks w.tables w.tables sound.tables (λ q. refl))
-      (holds-remove w.places w.holds sound.holds s.thread p p' a.stands a.hold a.holds refl a.desk a.at_shard)
+      (holds-remove w.places w.holds sound.holds s.thread p p' a.stands a.holds a.holds refl a.desk a.at_shard)
       (placed-same x (threads_of w) s.thread (started_of w) (started_of (stepped w s p')) w.blocks w.replies (started-stays x w s p p' a.stands (λ n z. z)) sound.placed)
       sound.replies)
   released a (Some own) has h =
@@ -178,7 +178,7 @@ module _ {K V S D T A : Type 0} (x : Setup K V D T) (laws : Laws x) (w : State K
       (subst (λ (z : Option (Guard K)). GuardIs w.tables p z (reached x s.thread c (p.next - c) (found x w.blocks i session.block))) has session.guard) in
       let same = drop-quiet x.deeds (reached x s.thread c (p.next - c) (found x w.blocks i b)) in
       let still = inl same in
-      let p' : Place K V D T A = record p { hold = None; guard = None; phase = phase.Answer a.answer } in
+      let p' : Place K V D T = record p { hold = None; guard = None; phase = phase.Answer a.answer } in
       let told : held_answer x.deeds held.Drop (reached x s.thread c (p.next - c) (found x w.blocks i b)) ≡ a.answer = drop-told x.deeds w.tables p own (reached x s.thread c (p.next - c) (found x w.blocks i b)) at-guard ∙ sym h.1 in
       let outside : session_of x s.thread (p.next + 1) ≡ None = session-next x s.thread st.program st.has p.next (ask.Held held.Drop) call.asked in
       let closes : block_after p' ≡ None = ap (λ (z : Bool). if z then None else p.block) call.closes in
@@ -195,7 +195,7 @@ module _ {K V S D T A : Type 0} (x : Setup K V D T) (laws : Laws x) (w : State K
       )
       (taken-at x (threads_of w) w.blocks w.replies w.tables s.thread p (phase.Release a.answer) a.before st)
       (within-at x (threads_of w) w.blocks w.replies w.tables s.thread p (phase.Release a.answer) a.before st)
-      (holds-remove w.places w.holds sound.holds s.thread p p' a.stands a.hold a.holds refl a.desk a.at_shard)
+      (holds-remove w.places w.holds sound.holds s.thread p p' a.stands a.holds a.holds refl a.desk a.at_shard)
       (λ j e here thread. elim (slice_get-set_cases w.blocks i j b e d n.2 here) [
         | inl own ↦ inl (rw (own.1, n.3.call) (let k = growing.call-is x laws w s sound p a.stands held.Drop call.asked c i inside session b d n.2 n.3 still in let lt = session.below in omega arith))
         | inr other ↦ elim (st.owns j e other.1 thread) [ inl below ↦ inl below | inr mine ↦ inr (mine.0, mine.1, refl) ]

@@ -21,7 +21,7 @@ use Rattle.mapworld_state.specs.declared.place.Way.TheVariants as way
 use Rattle.mapworld_state.specs.declared.place.Guard.{Guard}
 use Rattle.mapworld_state.specs.declared.place.Guard.TheVariants as guard
 use Rattle.mapworld_state.specs.declared.place.Phase.TheVariants as phase
-use Rattle.mapworld_state.specs.declared.place.Place.{Place}
+use Rattle.mapworld_state.specs.Places.{Place}
 use Rattle.mapworld_state.specs.State.{State, threads_of}
 use Rattle.mapworld_state.specs.Moves.{stepped}
 use Rattle.mapworld_state.specs.Steps.{Downgrades}
@@ -36,20 +36,20 @@ use Rattle.mapworld_sound.proofs.Growing.{downgrade-quiet}
 use Rattle.mapworld_sound.proofs.Growing as growing
 
 -- a hold that is shared isn't held alone
-never-alone : {K V D T A : Type 0} (p' : Place K V D T A) (hold : Hold) → p'.hold ≡ Some hold → hold.mode ≡ Shared → HoldsShard p' Exclusive → ⊥
+never-alone : {K V D T : Type 0} (p' : Place K V D T) (hold : Hold) → p'.holds ≡ Some hold → hold.mode ≡ Shared → HoldsShard p' Exclusive → ⊥
 never-alone p' hold has is h =
-    let same : Shared ≡ Exclusive = sym is ∙ ap (λ (z : Hold). z.mode) (same_Some hold h.hold (sym has ∙ h.has)) ∙ h.mode_is in
+    let same : Shared ≡ Exclusive = sym is ∙ ap (λ (z : Hold). z.mode) (same_Some hold h.holds (sym has ∙ h.has)) ∙ h.mode_is in
     absurd (cc)
 
-pub sound-downgrades : {K V S D T A : Type 0} (x : Setup K V D T) → Laws x → (w : State K V S D T A) (s : Step) (w' : State K V S D T A) → Sound x w → Downgrades x w s w' → Sound x w'
-sound-downgrades {K} {V} {S} {D} {T} {A} x laws w s w' sound a =
+pub sound-downgrades : {K V S D T : Type 0} (x : Setup K V D T) → Laws x → (w : State K V S D T) (s : Step) (w' : State K V S D T) → Sound x w → Downgrades x w s w' → Sound x w'
+sound-downgrades {K} {V} {S} {D} {T} x laws w s w' sound a =
     let p = a.place in
     let h : Held V D = held.Downgrade in
     let st = sound.stands s.thread p a.stands in
     let cl = claim-at x (threads_of w) w.blocks w.replies w.tables s.thread p phase.Downgrade a.before st in
     let call = cl.1 in
     let alone = cl.3 in
-    let hold-is : alone.hold ≡ a.hold = same_Some alone.hold a.hold (sym alone.has ∙ a.holds) in
+    let hold-is : alone.holds ≡ a.holds = same_Some alone.holds a.holds (sym alone.has ∙ a.holds) in
     let here : a.hold.shard ≡ p.shard = ap (λ (z : Hold). z.shard) (sym hold-is) ∙ alone.shard in
     let g = growing.session-of-guard x w.blocks w.tables s.thread p p.next (guard.Pair way.Exclusive a.slot) (session_of x s.thread p.next) p.block a.guarded cl.4 in
     let c = g.0 in let i = g.1 in let inside = g.2 in let session = g.4 in
@@ -64,7 +64,7 @@ sound-downgrades {K} {V} {S} {D} {T} {A} x laws w s w' sound a =
     let now-held : Hold = record (a.hold) { mode = Shared } in
     let holds' = slice_set w.holds a.hold.shard (turned desk_mode.Shared a.hold.guard a.desk) in
     let r : Answer K V T = answer.Held in
-    let p' : Place K V D T A = record p { hold = Some now-held; guard = Some (guard.Pair way.Shared a.slot); phase = phase.Answer r } in
+    let p' : Place K V D T = record p { hold = Some now-held; guard = Some (guard.Pair way.Shared a.slot); phase = phase.Answer r } in
     let told : held_answer x.deeds h (reached x s.thread c (p.next - c) (found x w.blocks i b)) ≡ r = ap (held_answer x.deeds h) stood in
     let leaves : held_leaves x.deeds h (reached x s.thread c (p.next - c) (found x w.blocks i b)) ≡ shared lends.0 = ap (held_leaves x.deeds h) stood in
     let holds : HoldsShard p' Shared = record { hold = now-held; has = refl; shard = here; mode_is = refl } in
@@ -86,5 +86,5 @@ sound-downgrades {K} {V} {S} {D} {T} {A} x laws w s w' sound a =
     )
     (taken-at x (threads_of w) w.blocks w.replies w.tables s.thread p phase.Downgrade a.before st)
     (within-at x (threads_of w) w.blocks w.replies w.tables s.thread p phase.Downgrade a.before st)
-    (holds-shared w.places w.holds sound.holds s.thread p p' a.stands a.hold a.holds a.alone refl a.desk a.at_shard)
+    (holds-shared w.places w.holds sound.holds s.thread p p' a.stands a.holds a.holds a.alone refl a.desk a.at_shard)
     (growing.owns-grown x laws w s sound p a.stands h call.asked c i inside session b d n.2 n.3 still p' refl (ap may_own a.before)))
