@@ -15,16 +15,16 @@ use Rattle.mapworld_state.specs.declared.place.Guard.TheVariants as guard
 use Rattle.mapworld_state.specs.declared.place.Phase.{Phase}
 use Rattle.mapworld_state.specs.declared.place.Phase.TheVariants as phase
 use Rattle.mapworld_state.specs.declared.place.Request.{Request}
-use Rattle.mapworld_state.specs.declared.place.Place.{Place}
+use Rattle.mapworld_state.specs.Places.{Place}
 use Rattle.mapworld_state.specs.State.{State, threads_of}
 use Rattle.mapworld_state.specs.Holds.{is_excluded}
 use Rattle.mapworld_state.specs.Moves.{mode_of, lent_slot, lent_pair, vacant_key}
-use Rattle.mapworld_state.specs.Sound.{Sound, Claim, GuardIs, HasPair, HasList, IsInSession, IsOnItsWay, IsBeforeDeed, IsReleasing, is_resting}
+use Rattle.mapworld_state.specs.Sound.{Sound, Claim, GuardIs, HasPair, HasPairs, IsInSession, IsOnItsWay, IsBeforeDeed, IsReleasing, is_resting}
 use Rattle.mapworld_state.specs.Core.{IsBefore}
 use Rattle.mapworld_moves.specs.Listing.{CanCount}
 
 -- the place that was read at the thread's number
-module _ {K V D T A : Type 0} {places : List (Place K V D T A)} {t : ℕ} {ph : Phase K V D T} (b : IsBefore places t ph) (r : Place K V D T A) (read : r ≡ get_or places t r) where
+module _ {K V D T : Type 0} {places : List (Place K V D T)} {t : ℕ} {ph : Phase K V D T} (b : IsBefore places t ph) (r : Place K V D T) (read : r ≡ get_or places t r) where
   pub read_is : r ≡ b.place
   read_is = read ∙ get_or_from_slice_get places t b.place r b.stands
 
@@ -32,13 +32,13 @@ module _ {K V D T A : Type 0} {places : List (Place K V D T A)} {t : ℕ} {ph : 
   stands_here = subst (λ q. slice_get places t ≡ Some q) (sym read_is) b.stands
 
   pub phase_here : r.phase ≡ ph
-  phase_here = subst (λ (q : Place K V D T A). q.phase ≡ ph) (sym read_is) b.before
+  phase_here = subst (λ (q : Place K V D T). q.phase ≡ ph) (sym read_is) b.before
 
 -- what was read at an index at which an element is known
 pub read_at : {X : Type 0} (xs : List X) (i : ℕ) (x r : X) → slice_get xs i ≡ Some x → r ≡ get_or xs i r → r ≡ x
 read_at xs i x r h e = e ∙ get_or_from_slice_get xs i x r h
 
-module _ {K V S D T A : Type 0} {x : Setup K V D T} {w : State K V S D T A} (sound : Sound x w) (t : ℕ) (p : Place K V D T A) (here : slice_get w.places t ≡ Some p) {ph : Phase K V D T} (before : p.phase ≡ ph) where
+module _ {K V S D T : Type 0} {x : Setup K V D T} {w : State K V S D T} (sound : Sound x w) (t : ℕ) (p : Place K V D T) (here : slice_get w.places t ≡ Some p) {ph : Phase K V D T} (before : p.phase ≡ ph) where
   pub claim_at : Claim x (threads_of w) w.blocks w.tables t p ph
   claim_at = subst (λ f. Claim x (threads_of w) w.blocks w.tables t p f) before (sound.stands t p here).claim
 
@@ -68,7 +68,7 @@ pub kept_block : (closes : Bool) (block : Option ℕ) (i : ℕ) → (if closes t
 kept_block true block i e = absurd (none-some i e)
 kept_block false block i e = e
 
-module _ {K V D T A : Type 0} (x : Setup K V D T) (bs : List (Block K)) (tables : List (Vec (K × V) A)) (t : ℕ) (p : Place K V D T A) where
+module _ {K V D T : Type 0} (x : Setup K V D T) (bs : List (Block K)) (tables : List (ShardPairs K V)) (t : ℕ) (p : Place K V D T) where
   -- the block of a session is of an earlier call than that
   pub session_counts : (n : ℕ) (session block : Option ℕ) → IsInSession x bs tables t p n session block → CanCount bs block n
   session_counts n None block h i e = absurd (none-some i (sym h.1 ∙ e))
@@ -88,7 +88,7 @@ module _ {K V D T A : Type 0} (x : Setup K V D T) (bs : List (Block K)) (tables 
   session_pair n session block kind slot h e = let g = guard_is n session block (guard.Pair kind slot) h e in (g.1.0, g.1.3)
 
   pub session_room : (n : ℕ) (session block : Option ℕ) (key : K) → IsInSession x bs tables t p n session block → p.guard ≡ Some (guard.Vacant key)
-      → HasList tables p.shard (λ table. vec_len table < vec_capacity table)
+      → HasPairs tables p.shard (λ table. vec_len table < vec_capacity table)
   session_room n session block key h e = let g = guard_is n session block (guard.Vacant key) h e in g.1.2
 
   -- the block of a deed is that of its call
@@ -102,21 +102,21 @@ module _ {K V D T A : Type 0} (x : Setup K V D T) (bs : List (Block K)) (tables 
   release_counts a r (Some s) h i e = session_counts p.next _ p.block h.2 i e
 
 -- the request that was read is the one that is admitted
-pub still_admitted : {K V D T A : Type 0} {places : List (Place K V D T A)} {t : ℕ} {request : Request K V D} (b : IsBefore places t (phase.Admit request)) (r : Place K V D T A)
+pub still_admitted : {K V D T : Type 0} {places : List (Place K V D T)} {t : ℕ} {request : Request K V D} (b : IsBefore places t (phase.Admit request)) (r : Place K V D T)
     → r ≡ get_or places t r → (read : Request K V D) → r.phase ≡ phase.Admit read
     → is_excluded places b.place.shard (mode_of request) ≡ false → is_excluded places r.shard (mode_of read) ≡ false
-still_admitted {K} {V} {D} {T} {A} {places = places} {request = request} b r at read is h =
+still_admitted {K} {V} {D} {T} {places = places} {request = request} b r at read is h =
     let same : read ≡ request = cc (is, phase_here b r at) in
     let place = read_is b r at in
-    rw same (subst (λ (p : Place K V D T A). is_excluded places p.shard (mode_of request) ≡ false) (sym place) h)
+    rw same (subst (λ (p : Place K V D T). is_excluded places p.shard (mode_of request) ≡ false) (sym place) h)
 
 -- a thread on its way to a pair has the number of a shard
-pub way_fits : {K V S D T A : Type 0} {x : Setup K V D T} {w : State K V S D T A} (sound : Sound x w) (p : Place K V D T A) (key : K) → IsOnItsWay x p key → p.shard < length w.tables
+pub way_fits : {K V S D T : Type 0} {x : Setup K V D T} {w : State K V S D T} (sound : Sound x w) (p : Place K V D T) (key : K) → IsOnItsWay x p key → p.shard < length w.tables
 way_fits {w = w} sound p key h = subst (λ n. n < length w.tables) (sym h.shard) (sound.routes key)
 
 -- the table that was read at a shard's number
-module _ {K V A : Type 0} (tables : List (Vec (K × V) A)) (shard : ℕ) (r : Vec (K × V) A) (read : r ≡ get_or tables shard r) where
-  pub list_read : (IsSo : Vec (K × V) A → Type 0) → HasList tables shard IsSo → (slice_get tables shard ≡ Some r) × IsSo r
+module _ {K V : Type 0} (tables : List (ShardPairs K V)) (shard : ℕ) (r : ShardPairs K V) (read : r ≡ get_or tables shard r) where
+  pub list_read : (IsSo : ShardPairs K V → Type 0) → HasPairs tables shard IsSo → (slice_get tables shard ≡ Some r) × IsSo r
   list_read IsSo h =
       let same = read_at tables shard h.table r h.held read in
       (subst (λ v. slice_get tables shard ≡ Some v) (sym same) h.held, subst IsSo (sym same) h.so)
@@ -124,10 +124,10 @@ module _ {K V A : Type 0} (tables : List (Vec (K × V) A)) (shard : ℕ) (r : Ve
   pub pair_read : (slot : ℕ) (pair : K × V) → HasPair tables shard slot pair → (slice_get tables shard ≡ Some r) × (slice_get r.items slot ≡ Some pair)
   pair_read slot pair h =
       let same = read_at tables shard h.table r h.held read in
-      (subst (λ v. slice_get tables shard ≡ Some v) (sym same) h.held, subst (λ (v : Vec (K × V) A). slice_get v.items slot ≡ Some pair) (sym same) h.pair_is)
+      (subst (λ v. slice_get tables shard ≡ Some v) (sym same) h.held, subst (λ (v : ShardPairs K V). slice_get v.items slot ≡ Some pair) (sym same) h.pair_is)
 
 -- the block that a release counts its call in
-pub release_listed : {K V S D T A : Type 0} {x : Setup K V D T} {w : State K V S D T A} (sound : Sound x w) (t : ℕ) (p : Place K V D T A) → slice_get w.places t ≡ Some p
+pub release_listed : {K V S D T : Type 0} {x : Setup K V D T} {w : State K V S D T} (sound : Sound x w) (t : ℕ) (p : Place K V D T) → slice_get w.places t ≡ Some p
     → (r : Answer K V T) → p.phase ≡ phase.Release r → CanCount w.blocks (if is_some p.guard then p.block else None) p.next
 release_listed {x = x} {w = w} sound t p here r before =
     let claim = claim_at sound t p here before in

@@ -6,7 +6,7 @@ use Rattle.std.proofs.lemmas.Bool.{false_from_ne_true}
 use Rattle.lock_api_desk.specs.Guards.{without}
 use Rattle.lock_api_desk.specs.Desk.{DeskState, admitted, released}
 use Rattle.mapworld_state.specs.Holds.{Desks, at_desk}
-use Rattle.mapworld_state.specs.declared.place.Place.{Place}
+use Rattle.mapworld_state.specs.Places.{Place}
 use Rattle.mapworld_state.specs.declared.world_core.Core.{Core}
 use Rattle.mapworld_state.specs.Route.{IsWorldAmount}
 use Rattle.mapworld_state.specs.State.{State, pairs_of}
@@ -14,7 +14,7 @@ use Rattle.mapworld_state.specs.Running.{has_numbers}
 use Rattle.mapworld_state.specs.Core.{state_of, owed, owes, may_list, lists, may_add, adds, unheld, unheld_at, HasDeskRoom, Room}
 
 -- what a step changes, in numbers: the place p of thread t is now p'
-pub record Shift {K V S D T A : Type 0} (c c' : Core K V S D T A) (t : ℕ) (p p' : Place K V D T A) : Type 0 where
+pub record Shift {K V S D T : Type 0} (c c' : Core K V S D T A) (t : ℕ) (p p' : Place K V D T) : Type 0 where
   pub here : slice_get c.places.items t ≡ Some p
   pub places : c'.places.items ≡ slice_set c.places.items t p'
   pub numbers : has_numbers (state_of c) ≡ true
@@ -22,7 +22,7 @@ pub record Shift {K V S D T A : Type 0} (c c' : Core K V S D T A) (t : ℕ) (p p
   pub count : c'.count ≡ c.count + 1
   pub programs : (state_of c').programs ≡ (state_of c).programs
   pub tables : length c'.tables.items ≡ length c.tables.items
-  pub guards : (h : Hold) → p'.hold ≡ Some h → h.guard < c'.guards
+  pub guards : (h : Hold) → p'.holds ≡ Some h → h.guard < c'.guards
   pub more_guards : c.guards ≤ c'.guards
   pub guards_fit : c'.guards ≤ c.guards + 1
   pub unanswered : c'.unanswered + owed p ≡ c.unanswered + owed p'
@@ -39,28 +39,28 @@ pub record Shift {K V S D T A : Type 0} (c c' : Core K V S D T A) (t : ℕ) (p p
   pub more_blocks : length c.blocks.items ≤ length c'.blocks.items
   pub listed : (i : ℕ) → p'.block ≡ Some i → i < length c'.blocks.items
 
-module _ {K V S D T A : Type 0} where
+module _ {K V S D T : Type 0} where
   -- a step number is left, with one to spare
-  pub one_more : (w : State K V S D T A) → has_numbers w ≡ true → length w.steps + 1 < 2 ^ 63
+  pub one_more : (w : State K V S D T) → has_numbers w ≡ true → length w.steps + 1 < 2 ^ 63
   one_more w h = let fits = leb-true _ _ h in omega arith
 
-  still_listed : (c c' : Core K V S D T A) (t : ℕ) (p p' : Place K V D T A) → Room c → Shift c c' t p p'
-      → (u : ℕ) (q : Place K V D T A) (i : ℕ) → slice_get c'.places.items u ≡ Some q → q.block ≡ Some i → i < length c'.blocks.items
+  still_listed : (c c' : Core K V S D T A) (t : ℕ) (p p' : Place K V D T) → Room c → Shift c c' t p p'
+      → (u : ℕ) (q : Place K V D T) (i : ℕ) → slice_get c'.places.items u ≡ Some q → q.block ≡ Some i → i < length c'.blocks.items
   still_listed c c' t p p' r s u q i at e =
       ⊎_elim
-      (λ same. s.listed i (ap (λ (x : Place K V D T A). x.block) (sym same.1) ∙ e))
+      (λ same. s.listed i (ap (λ (x : Place K V D T). x.block) (sym same.1) ∙ e))
       (λ other. let below = r.listed u q i other.1 e in omega (arith, below, s.more_blocks))
       (slice_get-set_cases c.places.items t u p q p' s.here (subst (λ ps. slice_get ps u ≡ Some q) s.places at))
 
-  still_below : (c c' : Core K V S D T A) (t : ℕ) (p p' : Place K V D T A) → Room c → Shift c c' t p p'
-      → (u : ℕ) (q : Place K V D T A) (h : Hold) → slice_get c'.places.items u ≡ Some q → q.hold ≡ Some h → h.guard < c'.guards
+  still_below : (c c' : Core K V S D T A) (t : ℕ) (p p' : Place K V D T) → Room c → Shift c c' t p p'
+      → (u : ℕ) (q : Place K V D T) (h : Hold) → slice_get c'.places.items u ≡ Some q → q.holds ≡ Some h → h.guard < c'.guards
   still_below c c' t p p' r s u q h at e =
       ⊎_elim
-      (λ same. s.guards h (ap (λ (x : Place K V D T A). x.hold) (sym same.1) ∙ e))
+      (λ same. s.guards h (ap (λ (x : Place K V D T). x.hold) (sym same.1) ∙ e))
       (λ other. let below = r.guards u q h other.1 e in omega (arith, below, s.more_guards))
       (slice_get-set_cases c.places.items t u p q p' s.here (subst (λ ps. slice_get ps u ≡ Some q) s.places at))
 
-  still_room : (c c' : Core K V S D T A) (t : ℕ) (p p' : Place K V D T A) → Room c → Shift c c' t p p'
+  still_room : (c c' : Core K V S D T A) (t : ℕ) (p p' : Place K V D T) → Room c → Shift c c' t p p'
       → (i : ℕ) (desk : DeskState (Unit {0})) → slice_get c'.desks.items i ≡ Some desk → HasDeskRoom c'.places.items i desk
   still_room c c' t p p' r s i desk at =
       let o = s.holding i desk at in
@@ -73,7 +73,7 @@ module _ {K V S D T A : Type 0} where
         limit = omega (arith, was.limit, o.4, threads);
       }
 
-  pub shifted : (c c' : Core K V S D T A) (t : ℕ) (p p' : Place K V D T A) → Room c → Shift c c' t p p' → Room c'
+  pub shifted : (c c' : Core K V S D T A) (t : ℕ) (p p' : Place K V D T) → Room c → Shift c c' t p p' → Room c'
   shifted c c' t p p' r s =
       let owing = subst (λ ps. sum_by owed ps + owed p ≡ sum_by owed c.places.items + owed p') (sym s.places) (sum_by-set owed c.places.items t p p' s.here) in
       let listing = subst (λ ps. sum_by may_list ps + may_list p ≡ sum_by may_list c.places.items + may_list p') (sym s.places) (sum_by-set may_list c.places.items t p p' s.here) in
@@ -101,7 +101,7 @@ module _ {K V S D T A : Type 0} where
         listed = still_listed c c' t p p' r s;
       }
 
-module _ {K V S D T A : Type 0} (c : Core K V S D T A) (t : ℕ) (p : Place K V D T A) (r : Room c) (here : slice_get c.places.items t ≡ Some p) where
+module _ {K V S D T : Type 0} (c : Core K V S D T A) (t : ℕ) (p : Place K V D T) (r : Room c) (here : slice_get c.places.items t ≡ Some p) where
   -- a call that isn't answered leaves room for its reply
   pub answer_left : owes p.phase ≡ 1 → (vec_len c.replies < vec_capacity c.replies) × (1 ≤ c.unanswered)
   answer_left one =
@@ -113,7 +113,7 @@ module _ {K V S D T A : Type 0} (c : Core K V S D T A) (t : ℕ) (p : Place K V 
   block_left one = let part = sum_by-at may_list c.places.items t p here in omega (arith, one, part, r.blocks, c.blocks.ok.0)
 
   -- a desk has room for the hold of a thread without one, and admits one more reader
-  pub hold_left : p.hold ≡ None → (i : ℕ) (desk : DeskState (Unit {0})) → slice_get c.desks.items i ≡ Some desk → (length desk.guards < desk.room) × (length desk.guards < desk.limit)
+  pub hold_left : p.holds ≡ None → (i : ℕ) (desk : DeskState (Unit {0})) → slice_get c.desks.items i ≡ Some desk → (length desk.guards < desk.room) × (length desk.guards < desk.limit)
   hold_left none i desk at =
       let room = r.desk_room i desk at in
       let part = sum_by-at (unheld i) c.places.items t p here in
@@ -140,13 +140,13 @@ unheld-most i (Some h) = at-most (h.shard == i)
     at-most true = omega arith
     at-most false = omega arith
 
-module _ {K V D T A : Type 0} (desks : Desks) (shard : ℕ) (desk : DeskState (Unit {0})) (there : slice_get desks shard ≡ Some desk) (desk' : DeskState (Unit {0})) (h : Hold) (here : h.shard ≡ shard)
-    (p' p : Place K V D T A) where
+module _ {K V D T : Type 0} (desks : Desks) (shard : ℕ) (desk : DeskState (Unit {0})) (there : slice_get desks shard ≡ Some desk) (desk' : DeskState (Unit {0})) (h : Hold) (here : h.shard ≡ shard)
+    (p' p : Place K V D T) where
   -- a desk as it was but for the hold that the thread takes or ends
   abbrev pub Held-at : ℕ → DeskState (Unit {0}) → Type 0
   Held-at i d' = (d : DeskState (Unit {0})) × (slice_get desks i ≡ Some d) × (length d'.guards + unheld i p' ≤ length d.guards + unheld i p) × (d'.room ≡ d.room) × (d'.limit ≡ d.limit)
 
-  pub one_taken : (party : ℕ) → p.hold ≡ None → p'.hold ≡ Some h → desk' ≡ admitted (at_desk h.mode) party h.guard desk
+  pub one_taken : (party : ℕ) → p.holds ≡ None → p'.holds ≡ Some h → desk' ≡ admitted (at_desk h.mode) party h.guard desk
       → (i : ℕ) (d' : DeskState (Unit {0})) → slice_get (slice_set desks shard desk') i ≡ Some d' → Held-at i d'
   one_taken party free taken is i d' at =
       let before : unheld i p ≡ 1 = ap (λ o. unheld_at i o) free in
@@ -156,10 +156,10 @@ module _ {K V D T A : Type 0} (desks : Desks) (shard : ℕ) (desk : DeskState (U
       let is' : d' ≡ admitted (at_desk h.mode) party h.guard desk = own.1 ∙ is in
       let longer = simp length-append at (ap (λ (z : DeskState (Unit {0})). length z.guards) is') in
       (desk, ap (λ k. slice_get desks k) own.0 ∙ there, omega (arith, before, after, longer), ap (λ (z : DeskState (Unit {0})). z.room) is', ap (λ (z : DeskState (Unit {0})). z.limit) is'))
-      (λ other. let most = unheld-most i p'.hold in (d', other.1, omega (arith, before, most), refl, refl))
+      (λ other. let most = unheld-most i p'.holds in (d', other.1, omega (arith, before, most), refl, refl))
       (slice_get-set_cases desks shard i desk d' desk' there at)
 
-  pub one_ended : p.hold ≡ Some h → p'.hold ≡ None → desk' ≡ released h.guard desk → length (without h.guard desk.guards) < length desk.guards
+  pub one_ended : p.holds ≡ Some h → p'.holds ≡ None → desk' ≡ released h.guard desk → length (without h.guard desk.guards) < length desk.guards
       → (i : ℕ) (d' : DeskState (Unit {0})) → slice_get (slice_set desks shard desk') i ≡ Some d' → Held-at i d'
   one_ended held free is fewer i d' at =
       let after : unheld i p' ≡ 1 = ap (λ o. unheld_at i o) free in
@@ -174,7 +174,7 @@ module _ {K V D T A : Type 0} (desks : Desks) (shard : ℕ) (desk : DeskState (U
       (slice_get-set_cases desks shard i desk d' desk' there at)
 
   -- a hold that is only in another mode
-  pub one_turned : p.hold ≡ Some h → (h' : Hold) → p'.hold ≡ Some h' → h'.shard ≡ h.shard → length desk'.guards ≡ length desk.guards → desk'.room ≡ desk.room → desk'.limit ≡ desk.limit
+  pub one_turned : p.holds ≡ Some h → (h' : Hold) → p'.holds ≡ Some h' → h'.shard ≡ h.shard → length desk'.guards ≡ length desk.guards → desk'.room ≡ desk.room → desk'.limit ≡ desk.limit
       → (i : ℕ) (d' : DeskState (Unit {0})) → slice_get (slice_set desks shard desk') i ≡ Some d' → Held-at i d'
   one_turned held h' held' same guards room limit i d' at =
       let stays : unheld i p' ≡ unheld i p = ap (λ o. unheld_at i o) held' ∙ ap (λ n. if n == i then 0 else 1) same ∙ sym (ap (λ o. unheld_at i o) held) in

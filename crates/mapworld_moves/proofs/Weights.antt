@@ -19,7 +19,7 @@ use Rattle.mapworld_state.specs.declared.place.Growth.TheVariants as growth
 use Rattle.mapworld_state.specs.declared.place.Phase.{Phase}
 use Rattle.mapworld_state.specs.declared.place.Request.{Request}
 use Rattle.mapworld_state.specs.declared.place.Request.TheVariants as request
-use Rattle.mapworld_state.specs.declared.place.Place.{Place}
+use Rattle.mapworld_state.specs.Places.{Place}
 use Rattle.mapworld_state.specs.State.{State, next_step}
 use Rattle.mapworld_state.specs.Moves.{start_phase, changed_phase, request_of, found_phase, found_done, block_behind, ListsBlock}
 use Rattle.mapworld_state.specs.Core.{owes, lists, adds}
@@ -144,7 +144,7 @@ module _ {K : Type 0} (bs : List (Block K)) (st : Started) (at : ℕ) (bs' : Lis
   behind_listed (Some done) n block h e old i is = let same = same_Some n i is in omega (arith, same, e, one_added done h)
 
 -- what is added is what a step of that place lists
-pub lists_block : {K V S D T A : Type 0} (w : State K V S D T A) (t : ℕ) (p : Place K V D T A) (done : Option ℕ) (st : Started) (at : ℕ) (bs' : List (Block K))
+pub lists_block : {K V S D T : Type 0} (w : State K V S D T) (t : ℕ) (p : Place K V D T) (done : Option ℕ) (st : Started) (at : ℕ) (bs' : List (Block K))
     → AddsBlock w.blocks done st at bs' → st.thread ≡ t → st.call ≡ p.next → p.started ≡ Some st.start → at ≡ next_step w → ListsBlock w t p done bs'
 lists_block w t p None st at bs' h thread call start now = h
 lists_block w t p (Some done) st at bs' h thread call start now = (

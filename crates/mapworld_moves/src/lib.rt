@@ -6,7 +6,6 @@ pub mod blocks;
 pub mod holds;
 pub mod moves;
 mod route;
-mod table;
+pub mod pairs;
 
 pub use route::{is_world_amount, shard_of};
-pub use table::{apply_at, change_at, slot_of};

@@ -28,17 +28,24 @@ phase_key f = None
 abbrev pub slot_key : {K V D T : Type 0} → Setup K V D T → List (Block K) → Place K V D T → Option K
 slot_key x bs p = if is_some (lent_way p.guard) then guarded_key x bs p.block else phase_key p.phase
 
--- a shard's slot has the key's pair
-pub record IsAt {K V : Type 0} (eq : K → K → Bool) (tables : List (Table K V)) (shard slot : ℕ) (key : K) : Type 0 where
-  pub table : Table K V
-  pub held : slice_get tables shard ≡ Some table
+-- each pair of a shard stands in its slot with its key's hash
+abbrev pub HasHashes : {K V : Type 0} → (K → ℕ) → Table K V → Type 0
+HasHashes {K} {V} hash table = (j : ℕ) (e : Entry K V) → at table.slots j ≡ Some e → e.hash ≡ hash e.key
+
+-- a slot has the key's pair
+pub record HasKeyAt {K V : Type 0} (eq : K → K → Bool) (table : Table K V) (slot : ℕ) (key : K) : Type 0 where
   pub entry : Entry K V
   pub there : at table.slots slot ≡ Some entry
   pub equal : eq entry.key key ≡ true
 
--- each pair stands in its slot with its key's hash, and each place's slot has its key's pair
+pub record IsAt {K V : Type 0} (eq : K → K → Bool) (tables : List (Table K V)) (shard slot : ℕ) (key : K) : Type 0 where
+  pub table : Table K V
+  pub held : slice_get tables shard ≡ Some table
+  pub has : HasKeyAt eq table slot key
+
+-- each place's slot has its key's pair
 pub record HasSlots {K V D T A : Type 0} (x : Setup K V D T) (hash : K → ℕ) (tables : List (Table K V)) (bs : List (Block K)) (places : List (KeptPlace K V D T A)) : Type 0 where
-  pub hashed : (i j : ℕ) (table : Table K V) (e : Entry K V) → slice_get tables i ≡ Some table → at table.slots j ≡ Some e → e.hash ≡ hash e.key
+  pub hashed : (i : ℕ) (table : Table K V) → slice_get tables i ≡ Some table → HasHashes hash table
   pub found : (t : ℕ) (p : KeptPlace K V D T A) (key : K) → slice_get places t ≡ Some p → slot_key x bs (place_of p) ≡ Some key → IsAt x.eq tables p.shard p.slot key
 
 -- the hash of a key

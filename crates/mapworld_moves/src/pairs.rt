@@ -1,31 +1,82 @@
-//! A shard's table: a plain list of pairs.
-ghost use Rattle.std.specs.Prelude.{◌≡◌, ◌+◌, ◌<◌, true, false, if◌then◌else◌, is_some, position, slice_get, slice_set, vec_len, vec_capacity, Some, None};
-ghost use Rattle.std.specs.Option.{option_and_then, option_map};
-ghost use Rattle.mapworld_calls.specs.Pairs.{has_key, pair_of};
+//! What steps do with a shard's pairs.
+ghost use Rattle.std.specs.Prelude.{◌≡◌, ◌+◌, true, false, if◌then◌else◌, is_some, length, IfSome, OnOk, OnErr, Some, None};
+ghost use Rattle.std.specs.Option.{option_map};
+ghost use Rattle.mapworld_calls.specs.Pairs.{pair_of};
+ghost use Rattle.mapworld_calls.specs.Programs.{keyed_key};
 ghost use Rattle.mapworld_calls.specs.Calls.{pair_in, keyed_answer, keyed_leaves, held_answer, held_leaves};
 ghost use Rattle.mapworld_state.specs.declared.place.Guard.TheVariants as guard;
+ghost use Rattle.mapworld_state.specs.declared.place.Way.TheVariants as way;
 ghost use Rattle.mapworld_state.specs.Moves.{lent, is_change, ends_guard, takes_pair};
-ghost use Rattle.mapworld_state.specs.Steps.{put_back};
+ghost use Rattle.mapworld_state.specs.Shards.{shard_pairs, has_room, Puts, Grown};
+ghost use Rattle.mapworld_state.specs.Slots.{HasHashes, HasKeyAt, key_hash};
 ghost use Rattle.mapworld_state.specs.World.{deeds_of};
 
 use crate::moves::takes_pair;
+use dashmap_table::Shard;
+use lock_api_raw::NoMemory;
 use mapworld_calls::{Answer, Deed, Held, Keyed};
 use mapworld_state::{Guard, Way};
 use std::alloc::Allocator;
+use std::hash::{BuildHasher, Hash};
+use std::mem;
 
-/// The first place at which a pair of the key stands.
-fn first_of<K: Eq, V>(pairs: &[(K, V)], key: &K) -> Option<usize>
-    ensures { result ≡ position (has_key K.eq key.now) pairs.now }
+/// The slot of the key's pair, if the shard has one.
+pub fn find_pair<K: Eq + Hash, V, S: BuildHasher, A: Allocator>(
+    shard: &Shard<K, V, A>,
+    hasher: &S,
+    key: &K,
+) -> Option<usize>
+    requires hashed { HasHashes (key_hash S.BuildHasher S.Hasher.Hasher K.hash_input hasher.now) shard.now }
+    ensures present { is_some result ≡ is_some (pair_of K.eq (shard_pairs shard.now).items key.now) }
+    ensures there { IfSome result (λ slot. HasKeyAt K.eq shard.now slot key.now) }
 {
-    pairs.iter().position(|pair| pair.0 == *key)
+    shard.find(hasher.hash_one(key), key)
 }
 
-/// The place of the key's pair in the table.
-pub fn slot_of<K: Eq, V>(pairs: &[(K, V)], key: &K) -> Option<usize>
-    ensures slot { result ≡ position (has_key K.eq key.now) pairs.now }
-    ensures pair { pair_of K.eq pairs.now key.now ≡ option_and_then (λ i. slice_get pairs.now i) result }
+/// Whether the shard has room for one pair more.
+pub fn has_room<K: Eq + Hash, V, A: Allocator>(shard: &Shard<K, V, A>) -> bool
+    ensures { result ≡ has_room (shard_pairs shard.now) }
 {
-    first_of(pairs, key)
+    shard.len() < shard.capacity()
+}
+
+/// The key's pair, which stands in that slot.
+pub fn pair_at<K: Eq + Hash, V, A: Allocator>(shard: &Shard<K, V, A>, slot: usize) -> (&K, &V)
+    requires { (key : _) × HasKeyAt K.eq shard.now slot key }
+    ensures { (key : _) → HasKeyAt K.eq shard.now slot key → pair_of K.eq (shard_pairs shard.now).items key ≡ Some (result.0.now, result.1.now) }
+{
+    match shard.pair(slot) {
+        Some(pair) => pair,
+        None => unreachable!(),
+    }
+}
+
+/// Puts the pair of an absent key in, for which there is room: the slot that it has got.
+pub fn add_pair<K: Eq + Hash + Drop, V: Drop, S: BuildHasher, A: Allocator>(
+    shard: &mut Shard<K, V, A>,
+    hasher: &S,
+    key: K,
+    value: V,
+) -> usize
+    requires hashed { HasHashes (key_hash S.BuildHasher S.Hasher.Hasher K.hash_input hasher.now) shard.old }
+    requires absent { pair_of K.eq (shard_pairs shard.old).items key ≡ None }
+    requires room { has_room (shard_pairs shard.old) ≡ true }
+    ensures puts { Puts K.eq (shard_pairs shard.old) (shard_pairs shard.new) key (Some (key, value)) }
+    ensures there { HasKeyAt K.eq shard.new result key }
+    ensures hashed { HasHashes (key_hash S.BuildHasher S.Hasher.Hasher K.hash_input hasher.now) shard.new }
+{
+    shard.add(hasher.hash_one(&key), key, value)
+}
+
+/// Makes room in a full shard, for twice as many pairs as there are and some more.
+pub fn grow<K: Eq + Hash + Drop, V: Drop, A: Allocator + Clone>(
+    shard: &mut Shard<K, V, A>,
+) -> Result<(), NoMemory>
+    ensures grown { OnOk result (Grown K.eq (shard_pairs shard.old) (shard_pairs shard.new)) }
+    ensures refused { OnErr result (shard.new ≡ shard.old) }
+{
+    let more = shard.len() + 4;
+    shard.reserve(more)
 }
 
 /// What a call on one key does with the pair that it finds: its answer, and the pair that it leaves, if it leaves one.
