@@ -100,7 +100,7 @@ module _ {K V D T : Type 0} (x : Setup K V D T) (p p' : Place K V D T) where
 
   pub guard-moved : (tables : List (ShardPairs K V)) (g : Option (Guard K)) (at : At K V) → p'.holds ≡ p.holds → p'.shard ≡ p.shard → GuardIs tables p g at → GuardIs tables p' g at
   guard-moved tables None at hold shard h = h
-  guard-moved tables (Some (guard.Pair kind i)) at hold shard h = (h.0, h.1, holds-moved (way_mode kind) hold shard h.2, rw shard h.3)
+  guard-moved tables (Some (guard.Pair kind)) at hold shard h = (h.0, h.1, holds-moved (way_mode kind) hold shard h.2)
   guard-moved tables (Some (guard.Vacant k)) at hold shard h = (h.0, holds-moved Exclusive hold shard h.1, rw shard h.2)
 
   pub settled-moved : (bs bs' : List (Block K)) (i : ℕ) (b c : Block K) → block_key x c ≡ block_key x b → (HoldsShard p' Exclusive → HoldsShard p Exclusive) → p'.shard ≡ p.shard
