@@ -127,7 +127,7 @@ module _ {K V D T : Type 0} (x : Setup K V D T) (laws : Laws x) (bs bs' : List (
 
 -- a session goes on where its block shows its end
 module _ {K V D T : Type 0} (x : Setup K V D T) (bs bs' : List (Block K)) (tables : List (ShardPairs K V)) (t m end : ℕ) (p p' : Place K V D T) (e : Ended x bs bs' t m end)
-    (hold : p'.holds ≡ p.hold) (shard : p'.shard ≡ p.shard) (slot : p'.guard ≡ p.guard) where
+    (hold : p'.holds ≡ p.holds) (shard : p'.shard ≡ p.shard) (slot : p'.guard ≡ p.guard) where
   ended-ready : (n : ℕ) (o block : Option ℕ) → IsInSession x bs tables t p n o block → IsInSession x bs' tables t p' n o block
   ended-ready n (Some c) (Some i) h =
       let k = e.comes i h.block h.listed h.thread in

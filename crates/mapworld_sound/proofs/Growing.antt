@@ -232,7 +232,7 @@ module _ {K V S D T : Type 0} (x : Setup K V D T) (laws : Laws x) (w : State K V
         → TablesAgree x (slice_set w.blocks i d) tables'
         → (holds' : Desks) → p'.next ≡ p.next → p'.block ≡ p.block ⊎ (p'.block ≡ None)
         → Claim x (threads_of w ++ s.thread ∷ []) (slice_set w.blocks i d) tables' s.thread p' p'.phase
-        → p'.asks.items ≡ drop (taken p') st.program → taken p' ≤ length st.program
+        → p'.asks ≡ drop (taken p') st.program → taken p' ≤ length st.program
         → HoldsMatch (slice_set w.places s.thread p') holds'
         → OwnsBlocks (slice_set w.blocks i d) s.thread p'
         → Sound x (record (stepped w s p') { tables = tables'; holds = holds'; blocks = slice_set w.blocks i d; replies = w.replies })
@@ -255,7 +255,7 @@ module _ {K V S D T : Type 0} (x : Setup K V D T) (laws : Laws x) (w : State K V
     -- where the call leaves its pair, no list changes
     pub sound-counted : LeavesPair x.deeds h was → (holds' : Desks) → p'.next ≡ p.next → p'.block ≡ p.block ⊎ (p'.block ≡ None)
         → Claim x (threads_of w ++ s.thread ∷ []) (slice_set w.blocks i d) w.tables s.thread p' p'.phase
-        → p'.asks.items ≡ drop (taken p') st.program → taken p' ≤ length st.program
+        → p'.asks ≡ drop (taken p') st.program → taken p' ≤ length st.program
         → HoldsMatch (slice_set w.places s.thread p') holds'
         → OwnsBlocks (slice_set w.blocks i d) s.thread p'
         → Sound x (record (stepped w s p') { tables = w.tables; holds = holds'; blocks = slice_set w.blocks i d; replies = w.replies })
