@@ -143,8 +143,8 @@ module _ {K V S D T : Type 0} (x : Setup K V D T) (w : State K V S D T) (s : Ste
   step-adds (admit h) = fixed-by _ w.tables _ w.blocks w.replies refl h.after (blocks-same w.blocks w.blocks refl) nothing
   step-adds (find h) = fixed-by _ w.tables w.holds h.blocks w.replies refl h.after (listed-stays x w sound s.thread h.place h.stands h.done h.blocks h.listed) nothing
   step-adds (find_grows h) = fixed-by _ (slice_set w.tables h.place.shard h.grown) w.holds h.blocks w.replies (length-set w.tables h.place.shard h.grown) h.after
-      (listed-stays x w sound s.thread h.place h.stands (found_done {D = D} (request_of h.call) None true) h.blocks h.listed) nothing
-  step-adds (find_refused h) = fixed-by _ (slice_set w.tables h.place.shard h.kept) w.holds w.blocks w.replies (length-set w.tables h.place.shard h.kept) h.after (blocks-same w.blocks w.blocks refl) nothing
+      (listed-stays x w sound s.thread h.place h.stands (found_done {D = D} (request_of h.call) false true) h.blocks h.listed) nothing
+  step-adds (find_refused h) = fixed-by _ w.tables w.holds w.blocks w.replies refl h.after (blocks-same w.blocks w.blocks refl) nothing
   step-adds (deed_appends h) = fixed-by _ (slice_set w.tables h.place.shard h.changed) w.holds h.blocks w.replies (length-set w.tables h.place.shard h.changed) h.after
       (counted-stays x w sound s.thread h.place h.stands h.place.block h.blocks (λ i e. e) h.counted) nothing
   step-adds (deed_applies h) = fixed-by _ (slice_set w.tables h.place.shard h.changed) w.holds h.blocks w.replies (length-set w.tables h.place.shard h.changed) h.after
