@@ -11,7 +11,7 @@ use Rattle.mapworld_calls.specs.declared.reply.Reply.{Reply}
 use Rattle.mapworld_calls.specs.declared.reply.Answer.{Answer}
 use Rattle.mapworld_calls.specs.Calls.{pair_in}
 use Rattle.mapworld_calls.specs.Setup.{Setup, Laws, ask_at, session_of}
-use Rattle.mapworld_calls.specs.Replay.{reached, at_key, found, contents}
+use Rattle.mapworld_calls.specs.Replay.{reached, block_key, at_key, found, contents}
 use Rattle.mapworld_calls.specs.Agrees.{HasNoBlock, IsAnsweredBy, IsAnswered}
 use Rattle.mapworld_calls.specs.Placed.{IsStepOf, IsKeyedDone, IsDoneWithin}
 use Rattle.mapworld_calls.proofs.Lists.{slice_get-set_same, slice_get-set_other, slice_get-set_cases, slice_get-push_cases}
@@ -140,6 +140,9 @@ module _ {K V D T : Type 0} (x : Setup K V D T) (bs bs' : List (Block K)) (table
         done = k.3 ∙ h.done;
         guard = subst (λ (f : Option (K × V)). GuardIs tables p' p'.guard (reached x t c (n - c) f)) (sym k.4)
             (subst (λ (z : Option (Guard K)). GuardIs tables p' z (reached x t c (n - c) (found x bs i h.block))) (sym slot) (guard-moved x p p' tables p.guard (reached x t c (n - c) (found x bs i h.block)) hold shard h.guard));
+        there = λ g key e' is.
+            let has = h.there g key (sym slot ∙ e') (let same : block_key x k.0 ≡ block_key x h.block = rw (k.2.thread, k.2.call) refl in sym same ∙ is) in
+            record { table = has.table; held = rw shard has.held; so = has.so ∙ ap (λ o. pair_in (reached x t c (n - c) o)) (sym k.4) };
         settled = settled-moved x p p' bs bs' i h.block k.0 (rw (k.2.thread, k.2.call) refl) (alone-moved x p p' hold shard) shard (e.effect.last i h.block h.listed tt) h.settled;
       }
   ended-ready n (Some c) None h = (slot ∙ h.0, e.none t c h.1)

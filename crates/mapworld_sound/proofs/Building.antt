@@ -46,7 +46,7 @@ drop-first (y ∷ ys) (suc n) a rest e =
     let r = drop-first ys n a rest e in
     (r.0, let same : suc n + 1 ≡ suc (n + 1) = omega arith in rw same r.1, let lt = r.2 in omega arith)
 
-and_then-at : {X Y : Type 0} (f : X → Option Y) (o : Option X) (v : X) → o ≡ Some v → option_and_then f o ≡ f v
+pub and_then-at : {X Y : Type 0} (f : X → Option Y) (o : Option X) (v : X) → o ≡ Some v → option_and_then f o ≡ f v
 and_then-at f o v e = rw e
 
 module _ {K V D T : Type 0} (x : Setup K V D T) (t : ℕ) (program : List (Ask K V D)) (has : slice_get x.programs t ≡ Some program) where
@@ -124,6 +124,7 @@ module _ {K V D T : Type 0} (x : Setup K V D T) (p p' : Place K V D T) where
     below = h.below;
     done = h.done;
     guard = subst (λ (o : Option (Guard K)). GuardIs tables p' o (reached x t c (n - c) (found x bs i h.block))) (sym slot) (guard-moved tables p.guard (reached x t c (n - c) (found x bs i h.block)) hold shard h.guard);
+    there = λ g key e is. let has = h.there g key (sym slot ∙ e) is in record { table = has.table; held = rw shard has.held; so = has.so };
     settled = settled-moved bs bs i h.block h.block refl (alone-moved hold shard) shard (λ z. z) h.settled;
   }
   session-moved bs tables t n c None hold shard slot h = (slot ∙ h.0, h.1)

@@ -36,7 +36,7 @@ use Rattle.mapworld_state.specs.Places.{Place}
 use Rattle.mapworld_state.specs.State.{State, threads_of, started_of}
 use Rattle.mapworld_state.specs.Moves.{ask_of, request_key, keyed_mode, opening_way, opening_mode, mode_of, lent, stepped, request_of, growth_key, found_phase, found_done, found_guard, block_behind, IsListed, ListsBlock}
 use Rattle.mapworld_state.specs.Steps.{Finds, GrowsShard, Views}
-use Rattle.mapworld_state.specs.Sound.{is_resting, may_own, block_after, GuardIs, HoldsShard, IsInCall, IsOnItsWay, IsBeforeDeed, HasSession, IsInSession, IsReady, HasPairs, TablesAgree, Sound}
+use Rattle.mapworld_state.specs.Sound.{is_resting, may_own, block_after, GuardIs, HoldsShard, IsInCall, IsOnItsWay, IsBeforeDeed, HasReached, HasSession, IsInSession, IsReady, HasPairs, TablesAgree, Sound}
 use Rattle.mapworld_sound.proofs.Others.{IsInCall-push}
 use Rattle.mapworld_sound.proofs.Timing.{placed-same}
 use Rattle.mapworld_sound.proofs.Holding.{holds-same}
@@ -100,11 +100,12 @@ module _ {K V S D T : Type 0} (x : Setup K V D T) (laws : Laws x) (w : State K V
 
   -- the session that an opening begins
   session-new : (m : Mode) (holds : HoldsShard p m) (listed : IsListed w s.thread p 1 d) (tables' : List (ShardPairs K V)) (p' : Place K V D T) (o : Option (K × V)) → pair_of x.eq table.items key ≡ o
-      → p'.shard ≡ p.shard → GuardIs tables' p' p'.guard (after x.deeds a (free o))
+      → p'.shard ≡ p.shard → GuardIs tables' p' p'.guard (after x.deeds a (free o)) → HasReached x tables' p' d (after x.deeds a (free o))
       → HasSession x (w.blocks ++ d ∷ []) tables' s.thread p' (p.next + 1) p.next (length w.blocks)
-  session-new m holds listed tables' p' o is same lends =
+  session-new m holds listed tables' p' o is same lends there =
       let one : p.next + 1 - p.next ≡ 1 = omega arith in
       let finds = new-finds x laws w s sound p at a call key key_is m holds shard not_yet 1 d listed ∙ has-now ∙ is in
+      let now : reached x s.thread p.next (p.next + 1 - p.next) (found x (w.blocks ++ d ∷ []) (length w.blocks) d) ≡ after x.deeds a (free o) = rw (one, finds) (reached-one x s.thread p.next a o call.asked) in
       record {
         block = d;
         listed = slice_get-push_at w.blocks d;
@@ -112,7 +113,8 @@ module _ {K V S D T : Type 0} (x : Setup K V D T) (laws : Laws x) (w : State K V
         call = listed.call;
         below = omega arith;
         done = listed.done ∙ sym one;
-        guard = rw (one, finds) (subst (λ (z : At K V). GuardIs tables' p' p'.guard z) (sym (reached-one x s.thread p.next a o call.asked)) lends);
+        guard = subst (λ (z : At K V). GuardIs tables' p' p'.guard z) (sym now) lends;
+        there = subst (λ (z : At K V). HasReached x tables' p' d z) (sym now) there;
         settled = record {
           here = λ k its. same ∙ shard ∙ ap x.route (same_Some key k (sym (new-key x laws w s sound p at a call key key_is m holds shard not_yet 1 d listed) ∙ its));
           last = λ alone. last-new x w.blocks d;
@@ -275,7 +277,7 @@ module _ {K V S D T : Type 0} (x : Setup K V D T) (laws : Laws x) (w : State K V
         let l = listed.1 in
         let inside = begin-apart x laws w s (record (stepped w s p') { blocks = blocks }) sound p st b c.0.asked in
         let stays : Some (length w.blocks) ≡ block_after p' = sym (ap (λ (b : Bool). if b then None else Some (length w.blocks)) c.0.closes) in
-        let session = session-new x laws w s sound p at _ c.0 k key c.1.shard not_yet table held listed.0 (mode_of r) c.2 l w.tables p' None is refl (None, leaves) in
+        let session = session-new x laws w s sound p at _ c.0 k key c.1.shard not_yet table held listed.0 (mode_of r) c.2 l w.tables p' None is refl (None, leaves) (λ g k' e own. absurd (none-some g e)) in
         subst (λ (z : List (Block K)). Sound x (record (stepped w s p') { blocks = z })) (sym listed.2)
         (sound-listed x laws w s sound p at _ c.0 k key (mode_of r) c.2 c.1.shard not_yet 1 listed.0 l p' refl refl refl refl refl
         (opened-done x w s p' listed.0 l.done) w.tables refl (λ u q m ne hq h. refl) (
@@ -301,7 +303,7 @@ module _ {K V S D T : Type 0} (x : Setup K V D T) (laws : Laws x) (w : State K V
         → pair_of x.eq table.items k ≡ None → (blocks : List (Block K)) → ListsBlock w s.thread p (Some 1) blocks
         → (tables' : List (ShardPairs K V)) → length tables' ≡ length w.tables
         → ((u : ℕ) (q : Place K V D T) (m : Mode) → u ≢ s.thread → slice_get w.places u ≡ Some q → HoldsShard q m → slice_get tables' q.shard ≡ slice_get w.tables q.shard)
-        → HasPairs tables' p.shard (λ t. has_room t ≡ true)
+        → HasPairs tables' p.shard (λ t. (has_room t ≡ true) × (pair_of x.eq t.items k ≡ None))
         → ((d : Block K) → ((q : K) → contents x (w.blocks ++ d ∷ []) q ≡ contents x w.blocks q) → TablesAgree x (w.blocks ++ d ∷ []) tables')
         → Sound x (record (stepped w s (record p { block = Some (length w.blocks); guard = Some (guard.Vacant k); phase = phase.Answer answer.Vacant })) { tables = tables'; blocks = blocks })
     entered k f before busy unowned call way holds is blocks listed tables' shards kept roomy agree =
@@ -315,7 +317,12 @@ module _ {K V S D T : Type 0} (x : Setup K V D T) (laws : Laws x) (w : State K V
         let inside = begin-apart x laws w s (record (stepped w s p') { blocks = blocks }) sound p st b call.asked in
         let stays : Some (length w.blocks) ≡ block_after p' = sym (ap (λ (b : Bool). if b then None else Some (length w.blocks)) call.closes) in
         let session = session-new x laws w s sound p at _ call k key way.shard not_yet table held d Exclusive holds l tables' p' None is refl
-        (refl, holds-moved x p p' Exclusive refl refl holds, roomy) in
+        (refl, holds-moved x p p' Exclusive refl refl holds, record { table = roomy.table; held = roomy.held; so = roomy.so.0 })
+        (λ g k' e own. record {
+          table = roomy.table;
+          held = roomy.held;
+          so = subst (λ (z : K). pair_of x.eq roomy.table.items z ≡ None) (same_Some k k' (sym (new-key x laws w s sound p at _ call k key Exclusive holds way.shard not_yet 1 d l) ∙ own)) roomy.so.1;
+        }) in
         subst (λ (z : List (Block K)). Sound x (record (stepped w s p') { tables = tables'; blocks = z })) (sym listed.2)
         (sound-listed x laws w s sound p at _ call k key Exclusive holds way.shard not_yet 1 d l p' refl refl refl refl refl
         (opened-done x w s p' d l.done) tables' shards kept (
@@ -412,7 +419,13 @@ module _ {K V S D T : Type 0} (x : Setup K V D T) (laws : Laws x) (w : State K V
         let inside = begin-apart x laws w s (record (stepped w s p') { blocks = blocks }) sound p st b c.0.asked in
         let stays : Some (length w.blocks) ≡ block_after p' = sym (ap (λ (b : Bool). if b then None else Some (length w.blocks)) c.0.closes) in
         let session = session-new x laws w s sound p at _ c.0 k key c.1.shard not_yet table held listed.0 (mode_of r) c.2 l w.tables p' (Some pair) is
-        refl (pair, opened-some b pair, holds-moved x p p' (mode_of r) refl refl c.2) in
+        refl (pair, opened-some b pair, holds-moved x p p' (mode_of r) refl refl c.2)
+        (λ g k' e own. record {
+          table = table;
+          held = held;
+          so = subst (λ (z : K). pair_of x.eq table.items z ≡ pair_in (opened b (Some pair))) (same_Some k k' (sym (new-key x laws w s sound p at _ c.0 k key (mode_of r) c.2 c.1.shard not_yet 1 listed.0 l) ∙ own))
+              (is ∙ sym (opened-quiet b (Some pair)));
+        }) in
         subst (λ (z : List (Block K)). Sound x (record (stepped w s p') { blocks = z })) (sym listed.2)
         (sound-listed x laws w s sound p at _ c.0 k key (mode_of r) c.2 c.1.shard not_yet 1 listed.0 l p' refl refl refl refl refl
         (opened-done x w s p' listed.0 l.done) w.tables refl (λ u q m ne hq h. refl) (
@@ -435,7 +448,7 @@ module _ {K V S D T : Type 0} (x : Setup K V D T) (laws : Laws x) (w : State K V
         let f : Phase K V D T = phase.Find (request.Begin (begin.Entry k)) in
         let c = claim-at x (threads_of w) w.blocks w.replies w.tables s.thread p f before (sound.stands s.thread p at) in
         entered k f before refl refl c.0 c.1 c.2 is blocks listed w.tables refl (λ u q m ne hq h. refl)
-        (record { table = table; held = held; so = roomy })
+        (record { table = table; held = held; so = (roomy, is) })
         (λ d same. tables-same x w.blocks (w.blocks ++ d ∷ []) w.tables w.tables sound.tables same)
 
   pub sound-finds : (w' : State K V S D T) → Finds x w s w' → Sound x w'
@@ -494,7 +507,7 @@ module _ {K V S D T : Type 0} (x : Setup K V D T) (laws : Laws x) (w : State K V
       let c = claim-at x (threads_of w) w.blocks w.replies w.tables s.thread p f before (sound.stands s.thread p a.stands) in
       entered p a.stands a.table a.held k f before refl refl c.0 c.1 c.2 absent a.blocks listed
       (slice_set w.tables p.shard a.grown) (length-set w.tables p.shard a.grown) (kept-alone x w s p a.stands sound a.grown c.2)
-      (record { table = a.grown; held = slice_get-set_same w.tables p.shard a.table a.grown a.held; so = roomy-grown a })
+      (record { table = a.grown; held = slice_get-set_same w.tables p.shard a.table a.grown a.held; so = (roomy-grown a, a.grows.found k ∙ absent) })
       (λ d same. tables-grown x laws w.blocks (w.blocks ++ d ∷ []) w.tables sound.tables p.shard a.table a.grown a.held a.grows same)
 
   pub sound-grows : (w' : State K V S D T) → GrowsShard x w s w' → Sound x w'

@@ -1,6 +1,6 @@
 -- A call on a guard, or where a guard was, is counted in by the session's block.
 use Rattle.std.proofs.Common.{◌≡◌, ◌≢◌, ℕ, ◌+◌, ◌-◌, ◌≤◌, ◌⊎◌, inl, inr, ⊎_elim, false, List, [], ◌∷◌, ◌++◌, length, take, drop, Option, Some, None, IsSome, slice_get, slice_set, refl, ap, sym, ◌∙◌, subst, arith}
-use Rattle.mapworld_state.specs.Shards.{ShardPairs}
+use Rattle.mapworld_state.specs.Shards.{ShardPairs, Puts}
 use Rattle.std.proofs.lemmas.Option.{same_Some, none-some}
 use Rattle.std.proofs.lemmas.Bool.{cases_lt, cases_eq, false≢true}
 use Rattle.mapworld_calls.specs.declared.ask.Ask.{Ask}
@@ -12,6 +12,7 @@ use Rattle.mapworld_calls.specs.declared.block.Block.{Block}
 use Rattle.mapworld_calls.specs.Deeds.{Deeds}
 use Rattle.mapworld_calls.specs.Calls.{At, free, shared, exclusive, occupied, vacant, pair_in, told, held_leaves}
 use Rattle.mapworld_calls.specs.Setup.{Setup, Laws, ask_at, session_of}
+use Rattle.mapworld_calls.specs.Pairs.{pair_of}
 use Rattle.mapworld_calls.specs.Replay.{reached, block_key, at_key, contents, found, IsLastOnShard}
 use Rattle.mapworld_calls.specs.Agrees.{IsToldBy}
 use Rattle.mapworld_calls.specs.Placed.{answered_of, HasStarted, IsDoneWithin}
@@ -28,7 +29,7 @@ use Rattle.mapworld_state.specs.declared.place.Guard.{Guard}
 use Rattle.mapworld_state.specs.Places.{Place}
 use Rattle.mapworld_state.specs.State.{State, threads_of, started_of}
 use Rattle.mapworld_state.specs.Moves.{stepped, CountsIn}
-use Rattle.mapworld_state.specs.Sound.{taken, may_own, HoldsShard, GuardIs, HasSession, IsInSession, Claim, OwnsBlocks, HasOwnBlock, Stands, TablesAgree, Sound}
+use Rattle.mapworld_state.specs.Sound.{taken, may_own, HoldsShard, HasPairs, GuardIs, HasReached, HasSession, IsInSession, Claim, OwnsBlocks, HasOwnBlock, Stands, TablesAgree, Sound}
 use Rattle.mapworld_state.specs.Held.{HoldsMatch}
 use Rattle.mapworld_sound.proofs.Effects.{effect-grow, Anyhow}
 use Rattle.mapworld_sound.proofs.Timing.{placed-grown}
@@ -156,10 +157,12 @@ module _ {K V S D T : Type 0} (x : Setup K V D T) (laws : Laws x) (w : State K V
 
   -- the session goes on behind the call, which may not come to hold its shard alone
   pub session-goes-on : (tables' : List (ShardPairs K V)) (p' : Place K V D T) → (HoldsShard p' Exclusive → HoldsShard p Exclusive) → p'.shard ≡ p.shard → GuardIs tables' p' p'.guard (held_leaves x.deeds h was)
+      → HasReached x tables' p' b (held_leaves x.deeds h was)
       → HasSession x (slice_set w.blocks i d) tables' s.thread p' (p.next + 1) c i
-  session-goes-on tables' p' alone shard guard =
+  session-goes-on tables' p' alone shard guard there =
       let below = session.below in
       let one : p.next + 1 - c ≡ p.next - c + 1 = omega arith in
+      let now : reached x s.thread c (p.next + 1 - c) (found x (slice_set w.blocks i d) i d) ≡ held_leaves x.deeds h was = rw (one, finds-same) reached-more in
       record {
         block = d;
         listed = slice_get-set_same w.blocks i b d listed;
@@ -167,14 +170,40 @@ module _ {K V S D T : Type 0} (x : Setup K V D T) (laws : Laws x) (w : State K V
         call = counts.call ∙ call-is;
         below = omega arith;
         done = more-is ∙ sym one;
-        guard = rw (one, finds-same) (subst (λ (z : At K V). GuardIs tables' p' p'.guard z) (sym reached-more) guard);
+        guard = subst (λ (z : At K V). GuardIs tables' p' p'.guard z) (sym now) guard;
+        there = λ g key e is. subst (λ (z : At K V). HasReached x tables' p' b z) (sym now) there g key e (sym (block_key-grown x laws w.blocks i b d grows) ∙ is);
         settled = settled-moved x p p' w.blocks (slice_set w.blocks i d) i session.block d (block_key-grown x laws w.blocks i b d grows ∙ ap (λ z. block_key x z) (sym its))
             alone shard ((effect-grow x laws w.blocks s.thread i b d grows thread-is).last i session.block session.listed tt) session.settled;
       }
 
   pub session-on : (tables' : List (ShardPairs K V)) (p' : Place K V D T) → p'.holds ≡ p.holds → p'.shard ≡ p.shard → GuardIs tables' p' p'.guard (held_leaves x.deeds h was)
+      → HasReached x tables' p' b (held_leaves x.deeds h was)
       → HasSession x (slice_set w.blocks i d) tables' s.thread p' (p.next + 1) c i
-  session-on tables' p' hold shard guard = session-goes-on tables' p' (alone-moved x p p' hold shard) shard guard
+  session-on tables' p' hold shard guard there = session-goes-on tables' p' (alone-moved x p p' hold shard) shard guard there
+
+  -- what the shard has of a guard's key is where the session has come to
+  pub there-was : (g : Guard K) (key : K) → p.guard ≡ Some g → block_key x b ≡ Some key → HasPairs w.tables p.shard (λ table. pair_of x.eq table.items key ≡ pair_in was)
+  there-was g key e is =
+      let has = session.there g key e (ap (λ z. block_key x z) its ∙ is) in
+      record { table = has.table; held = has.held; so = has.so ∙ ap (λ z. pair_in (reached x s.thread c (p.next - c) (found x w.blocks i z))) its }
+
+  -- it has it still where the call leaves its pair
+  pub there-still : LeavesPair x.deeds h was → (p' : Place K V D T) → p'.shard ≡ p.shard → ((g : Guard K) → p'.guard ≡ Some g → (own : Guard K) × (p.guard ≡ Some own))
+      → HasReached x w.tables p' b (held_leaves x.deeds h was)
+  there-still same p' shard guarded g key e is =
+      let has = there-was (guarded g e).0 key (guarded g e).1 is in
+      record { table = has.table; held = rw shard has.held; so = has.so ∙ sym same }
+
+  -- or where the pair gives way to what the call leaves
+  pub there-put : (key : K) → block_key x b ≡ Some key → (table changed : ShardPairs K V) → slice_get w.tables p.shard ≡ Some table
+      → Puts x.eq table changed key (pair_in (held_leaves x.deeds h was)) → (p' : Place K V D T) → p'.shard ≡ p.shard
+      → HasReached x (slice_set w.tables p.shard changed) p' b (held_leaves x.deeds h was)
+  there-put key key-is table changed held puts p' shard g k e is = record {
+    table = changed;
+    held = rw shard (slice_get-set_same w.tables p.shard table changed held);
+    so = subst (λ (z : K). pair_of x.eq changed.items z ≡ pair_in (held_leaves x.deeds h was)) (same_Some key k (sym key-is ∙ is))
+        (puts.found key ∙ rw (laws.equivalence.refl key) refl);
+  }
 
   pub opening-asked : (g : Begin K) × (ask_at x s.thread c ≡ Some (ask.Begin g))
   opening-asked =

@@ -1,11 +1,11 @@
 -- What holds of a thread's place stays when another thread makes a step.
-use Rattle.std.proofs.Common.{◌≡◌, ◌≢◌, ℕ, ◌+◌, ◌-◌, ◌≤◌, if◌then◌else◌, List, [], ◌∷◌, ◌++◌, Option, Some, None, slice_get, ap, sym, ◌∙◌}
+use Rattle.std.proofs.Common.{◌≡◌, ◌≢◌, ℕ, ◌+◌, ◌-◌, ◌≤◌, if◌then◌else◌, List, [], ◌∷◌, ◌++◌, Option, Some, None, slice_get, ap, sym, ◌∙◌, subst}
 use Rattle.mapworld_state.specs.Shards.{ShardPairs}
 use Rattle.mapworld_calls.specs.declared.ask.Ask.{Ask}
 use Rattle.mapworld_calls.specs.declared.block.Block.{Block}
 use Rattle.mapworld_calls.specs.declared.reply.Reply.{Reply}
 use Rattle.mapworld_calls.specs.declared.reply.Answer.{Answer}
-use Rattle.mapworld_calls.specs.Calls.{At}
+use Rattle.mapworld_calls.specs.Calls.{At, pair_in}
 use Rattle.mapworld_calls.specs.Programs.{keyed_key}
 use Rattle.mapworld_calls.specs.Setup.{Setup, session_of}
 use Rattle.std.proofs.lemmas.Option.{same_Some}
@@ -21,6 +21,7 @@ use Rattle.mapworld_state.specs.declared.place.Phase.TheVariants as phase
 use Rattle.mapworld_state.specs.declared.place.Guard.{Guard}
 use Rattle.mapworld_state.specs.declared.place.Guard.TheVariants as guard
 use Rattle.mapworld_state.specs.Places.{Place}
+use Rattle.mapworld_state.specs.Moves.{way_mode}
 use Rattle.mapworld_state.specs.Sound.{HoldsShard, GuardIs, IsOnShard, IsInSessionOf, IsInSession, IsReady, IsInCall, IsBeforeDeed, HasPairs, IsReleasing, Claim, Stands}
 use Rattle.mapworld_sound.proofs.Effects.{Effect, keeps-other}
 
@@ -42,6 +43,11 @@ module _ {K V D T : Type 0} (x : Setup K V D T) (bs bs' : List (Block K)) (table
   guard-kept (Some (guard.Pair kind)) at at' same h = (h.0, same ∙ h.1, h.2)
   guard-kept (Some (guard.Vacant k)) at at' same h = (same ∙ h.0, h.1, list-kept Exclusive _ h.1 h.2)
 
+  -- a guard's hold
+  guard-mode : (g : Guard K) (at : At K V) → GuardIs tables p (Some g) at → (m : Mode) × HoldsShard p m
+  guard-mode (guard.Pair kind) at h = (way_mode kind, h.2)
+  guard-mode (guard.Vacant k) at h = (Exclusive, h.1)
+
   session-kept : (n c : ℕ) (o : Option ℕ)
       → ((i : ℕ) (b : Block K) → slice_get bs i ≡ Some b → b.thread ≡ t → (slice_get bs' i ≡ Some b) × (found x bs' i b ≡ found x bs i b))
       → ((i : ℕ) (b : Block K) → slice_get bs' i ≡ Some b → b.thread ≡ t → slice_get bs i ≡ Some b)
@@ -57,6 +63,11 @@ module _ {K V D T : Type 0} (x : Setup K V D T) (bs bs' : List (Block K)) (table
         below = h.below;
         done = h.done;
         guard = guard-kept p.guard (reached x t c (n - c) (found x bs i h.block)) (reached x t c (n - c) (found x bs' i h.block)) (ap (λ o. reached x t c (n - c) o) both.1) h.guard;
+        there = λ g key e is.
+            let at : At K V = reached x t c (n - c) (found x bs i h.block) in
+            let holds = guard-mode g at (subst (λ (z : Option (Guard K)). GuardIs tables p z at) e h.guard) in
+            let has = list-kept holds.0 _ holds.1 (h.there g key e is) in
+            record { table = has.table; held = has.held; so = has.so ∙ ap (λ o. pair_in (reached x t c (n - c) o)) (sym both.1) };
         settled = record { here = h.settled.here; last = λ alone. lasts i h.block h.listed alone h.settled.here (h.settled.last alone) };
       }
   session-kept n c None stays back lasts h = (h.0, λ i b at thread call. h.1 i b (back i b at thread) thread call)
