@@ -1,5 +1,6 @@
 -- A call on a guard, or where a guard was, is counted in by the session's block.
 use Rattle.std.proofs.Common.{◌≡◌, ◌≢◌, ℕ, ◌+◌, ◌-◌, ◌≤◌, ◌⊎◌, inl, inr, ⊎_elim, false, List, [], ◌∷◌, ◌++◌, length, take, drop, Option, Some, None, IsSome, slice_get, slice_set, refl, ap, sym, ◌∙◌, subst, arith}
+use Rattle.std.specs.Option.{option_and_then}
 use Rattle.mapworld_state.specs.Shards.{ShardPairs, Puts}
 use Rattle.std.proofs.lemmas.Option.{same_Some, none-some}
 use Rattle.std.proofs.lemmas.Bool.{cases_lt, cases_eq, false≢true}
@@ -25,15 +26,19 @@ use Rattle.mapworld_state.specs.declared.holds.Mode.TheVariants.{Exclusive}
 use Rattle.mapworld_state.specs.declared.step.Step.{Step}
 use Rattle.mapworld_state.specs.Holds.{Desks}
 use Rattle.mapworld_state.specs.declared.holds.Mode.{Mode}
+use Rattle.mapworld_state.specs.declared.place.Way.{Way}
+use Rattle.mapworld_state.specs.declared.place.Way.TheVariants as way
 use Rattle.mapworld_state.specs.declared.place.Guard.{Guard}
+use Rattle.mapworld_state.specs.declared.place.Guard.TheVariants as guard
 use Rattle.mapworld_state.specs.Places.{Place}
 use Rattle.mapworld_state.specs.State.{State, threads_of, started_of}
-use Rattle.mapworld_state.specs.Moves.{stepped, CountsIn}
+use Rattle.mapworld_state.specs.Moves.{way_mode, lent, stepped, CountsIn}
+use Rattle.mapworld_state.specs.Steps.{guarded_key}
 use Rattle.mapworld_state.specs.Sound.{taken, may_own, HoldsShard, HasPairs, GuardIs, HasReached, HasSession, IsInSession, Claim, OwnsBlocks, HasOwnBlock, Stands, TablesAgree, Sound}
 use Rattle.mapworld_state.specs.Held.{HoldsMatch}
 use Rattle.mapworld_sound.proofs.Effects.{effect-grow, Anyhow}
 use Rattle.mapworld_sound.proofs.Timing.{placed-grown}
-use Rattle.mapworld_sound.proofs.Building.{started-own, started-stays, sound-by, replies-kept, asked-at, session-is, reached-next, told-next, settled-moved, alone-moved, tables-same}
+use Rattle.mapworld_sound.proofs.Building.{and_then-at, started-own, started-stays, sound-by, replies-kept, asked-at, session-is, reached-next, told-next, settled-moved, alone-moved, tables-same}
 
 -- a call on the guard of a session that stands there leaves its pair
 abbrev pub LeavesPair : {D K V T : Type 0} → Deeds D K V T → Held V D → At K V → Type 0
@@ -77,6 +82,21 @@ pub session-of-guard : {K V D T : Type 0} (x : Setup K V D T) (bs : List (Block 
 session-of-guard x bs tables t p n g None block guarded h = absurd (none-some g (sym h.0 ∙ guarded))
 session-of-guard x bs tables t p n g (Some c) None guarded h = absurd (none-some g (sym h.0 ∙ guarded))
 session-of-guard x bs tables t p n g (Some c) (Some i) guarded h = (c, i, refl, refl, h)
+
+-- a guard's session has come to it
+pub guard-at : {K V D T : Type 0} (tables : List (ShardPairs K V)) (p : Place K V D T) (o : Option (Guard K)) (kind : Way K) (at : At K V) → o ≡ Some (guard.Pair kind) → GuardIs tables p o at
+    → (pair : K × V) × (at ≡ lent kind pair) × HoldsShard p (way_mode kind)
+guard-at {K} tables p o kind at same h = subst (λ (z : Option (Guard K)). GuardIs tables p z at) same h
+
+pub pair-lent : {K V : Type 0} (k : Way K) (p : K × V) → pair_in (lent k p) ≡ Some p
+pair-lent way.Shared p = refl
+pair-lent way.Exclusive p = refl
+pair-lent (way.Occupied k) p = refl
+
+-- the key of a thread's session is that of its block
+key-at : {K V D T : Type 0} (x : Setup K V D T) (bs : List (Block K)) (o : Option ℕ) (i : ℕ) (b : Block K) (key : K) → o ≡ Some i → slice_get bs i ≡ Some b → guarded_key x bs o ≡ Some key → block_key x b ≡ Some key
+key-at x bs o i b key mine listed is =
+    sym (and_then-at (λ j. option_and_then (block_key x) (slice_get bs j)) o i mine ∙ and_then-at (block_key x) (slice_get bs i) b listed) ∙ is
 
 opening-key_of : {K V D T : Type 0} (x : Setup K V D T) (b : Block K) (t c : ℕ) (g : Begin K) → b.thread ≡ t → b.call ≡ c → ask_at x t c ≡ Some (ask.Begin g) → block_key x b ≡ Some (opening_key g)
 opening-key_of {K} {V} {D} x b t c g thread call asked = rw (thread, call, asked) refl
@@ -186,6 +206,19 @@ module _ {K V S D T : Type 0} (x : Setup K V D T) (laws : Laws x) (w : State K V
   there-was g key e is =
       let has = session.there g key e (ap (λ z. block_key x z) its ∙ is) in
       record { table = has.table; held = has.held; so = has.so ∙ ap (λ z. pair_in (reached x s.thread c (p.next - c) (found x w.blocks i z))) its }
+
+  -- so the pair that a step finds by the key of a guard that lends one is the one that it lends
+  pub lends-pair : (kind : Way K) → p.guard ≡ Some (guard.Pair kind) → p.block ≡ Some i → (key : K) → guarded_key x w.blocks p.block ≡ Some key
+      → (table : ShardPairs K V) → slice_get w.tables p.shard ≡ Some table → (pair : K × V) → pair_of x.eq table.items key ≡ Some pair
+      → (was ≡ lent kind pair) × HoldsShard p (way_mode kind) × (block_key x b ≡ Some key)
+  lends-pair kind guarded mine key is table held pair finds =
+      let key-is = key-at x w.blocks p.block i b key mine listed is in
+      let has = there-was (guard.Pair kind) key guarded key-is in
+      let lends = guard-at w.tables p p.guard kind (reached x s.thread c (p.next - c) (found x w.blocks i session.block)) guarded session.guard in
+      let stood : was ≡ lent kind lends.0 = ap (λ z. reached x s.thread c (p.next - c) (found x w.blocks i z)) (sym its) ∙ lends.1 in
+      let there : pair_of x.eq table.items key ≡ Some lends.0 =
+      ap (λ (z : ShardPairs K V). pair_of x.eq z.items key) (same_Some table has.table (sym held ∙ has.held)) ∙ has.so ∙ ap pair_in stood ∙ pair-lent kind lends.0 in
+      (stood ∙ ap (λ (z : K × V). lent kind z) (same_Some lends.0 pair (sym there ∙ finds)), lends.2, key-is)
 
   -- it has it still where the call leaves its pair
   pub there-still : LeavesPair x.deeds h was → (p' : Place K V D T) → p'.shard ≡ p.shard → ((g : Guard K) → p'.guard ≡ Some g → (own : Guard K) × (p.guard ≡ Some own))

@@ -17,6 +17,13 @@ use Rattle.mapworld_state.specs.Held.{HoldsMatch}
 use Rattle.mapworld_state.proofs.HoldsTable.{is_excluded-shared, only-first, none-there, first-there, without-kept, without-was}
 use Rattle.mapworld_sound.proofs.Orderly.{sound_admitted, sound_shared, one_place, sound_released}
 
+-- a thread that has one hold has no more
+pub no-more : (hs : List Hold) (a b : Hold) (more : List Hold) → hs ≡ a ∷ [] → hs ≡ b ∷ more → (a ≡ b) × (more ≡ []) × (hs ≡ b ∷ [])
+no-more hs a b more one has =
+    let same : a ∷ [] ≡ b ∷ more = sym one ∙ has in
+    let none : more ≡ [] = cc in
+    (cc, none, has ∙ ap (λ z. b ∷ z) none)
+
 module _ {K V D T : Type 0} (places : List (Place K V D T)) (holds : Desks) (h : HoldsMatch places holds) where
   -- two threads that hold one shard share it
   pub exclusion : (t u : ℕ) (p q : Place K V D T) (a b : Hold) → t ≢ u → slice_get places t ≡ Some p → slice_get places u ≡ Some q
