@@ -1,5 +1,5 @@
 -- The deed of a keyed call: it changes one pair of a shard that is held alone, behind the last block of that shard.
-use Rattle.std.proofs.Common.{◌≡◌, ℕ, ◌+◌, ◌-◌, ◌≤◌, ◌⊎◌, inl, inr, ⊎_elim, Bool, true, false, if◌then◌else◌, List, length, take, drop, Option, Some, None, slice_get, slice_set, remove, refl, ap, sym, ◌∙◌, subst, arith}
+use Rattle.std.proofs.Common.{◌≡◌, ℕ, ◌+◌, ◌-◌, ◌≤◌, inl, inr, Bool, true, false, if◌then◌else◌, List, length, take, drop, Option, Some, None, slice_get, slice_set, refl, ap, sym, ◌∙◌, subst, arith}
 use Rattle.mapworld_state.specs.Shards.{ShardPairs, Puts}
 use Rattle.std.proofs.Math.ListN.{length-set}
 use Rattle.std.proofs.lemmas.Option.{same_Some}
@@ -9,15 +9,14 @@ use Rattle.mapworld_calls.specs.declared.ask.Keyed.{Keyed}
 use Rattle.mapworld_calls.specs.declared.ask.Keyed.TheVariants as keyed
 use Rattle.mapworld_calls.specs.declared.block.Block.{Block}
 use Rattle.mapworld_calls.specs.declared.reply.Answer.TheVariants as answer
-use Rattle.mapworld_calls.specs.Deeds.{Deeds}
 use Rattle.mapworld_calls.specs.Programs.{keyed_key}
 use Rattle.mapworld_calls.specs.Calls.{free, pair_in, keyed_answer, keyed_leaves}
 use Rattle.mapworld_calls.specs.Setup.{Setup, Laws, ask_at}
-use Rattle.mapworld_calls.specs.Pairs.{pair_of, AreDistinct}
+use Rattle.mapworld_calls.specs.Pairs.{pair_of}
 use Rattle.mapworld_calls.specs.Replay.{reached, block_key, is_key, at_key, contents, found, IsLastOnShard}
 use Rattle.mapworld_calls.specs.Agrees.{IsToldBy}
 use Rattle.mapworld_calls.specs.Placed.{IsDoneWithin}
-use Rattle.mapworld_calls.proofs.Lists.{slice_get-set_same, slice_get-set_cases, slice_get-push_cases, slice_get-remove_is, stood_at}
+use Rattle.mapworld_calls.proofs.Lists.{slice_get-set_same, slice_get-set_cases}
 use Rattle.mapworld_calls.proofs.Grown.{Grows, found-grown, block_key-grown, contents-own, contents-were, contents-other}
 use Rattle.mapworld_calls.proofs.Kept.{keeps-grown}
 use Rattle.mapworld_state.specs.declared.step.Step.{Step}
@@ -93,7 +92,7 @@ module _ {K V S D T : Type 0} (x : Setup K V D T) (laws : Laws x) (w : State K V
       whole : (t e n : ℕ) (f : Option (K × V)) → t ≡ s.thread → e ≡ p.next → n ≡ 1 → f ≡ o → reached x t e n f ≡ free (keyed_leaves x.deeds k o)
       whole t e n f ht he hn hf = rw (ht, he, hn, hf) (reached-one x s.thread p.next (ask.Keyed k) o call.asked)
 
-  -- what the shard's list has of the key is what the block found
+  -- what the shard has of the key is what the block found
   pub pair-found : pair_of x.eq table.items key ≡ o
   pair-found =
       sound.tables.contents_are key table (ap (λ n. slice_get w.tables n) (sym d.shard) ∙ held)

@@ -11,7 +11,6 @@ use Rattle.mapworld_calls.specs.declared.reply.Reply.{Reply}
 use Rattle.mapworld_calls.specs.Setup.{Setup}
 use Rattle.mapworld_calls.specs.Placed.{answered_of, IsSessionDone, IsDoneWithin, StaysListed, OnlyAdds, WellPlaced}
 use Rattle.mapworld_calls.proofs.Lists.{slice_get-set_same, slice_get-set_other, slice_get-push_below}
-use Rattle.mapworld_state.specs.declared.place.Phase.{Phase}
 use Rattle.mapworld_state.specs.declared.step.Step.{Step}
 use Rattle.mapworld_state.specs.Places.{Place}
 use Rattle.mapworld_state.specs.State.{State, threads_of, started_of, next_step}
@@ -192,9 +191,6 @@ adds-more v w w' s h g = record {
       );
   replies_stay = (h.replies_stay.0 ++ g.replies.0, g.replies.1 ∙ ap (λ z. z ++ g.replies.0) h.replies_stay.1 ∙ append_assoc v.replies h.replies_stay.0 g.replies.0);
 }
-
-pub fixed-none : {K V S D T : Type 0} (w : State K V S D T) → StaysFixed w w
-fixed-none w = record { hasher = refl; shards = refl; opening = refl; programs = refl }
 
 pub fixed-more : {K V S D T : Type 0} (v w w' : State K V S D T) → StaysFixed v w → StaysFixed w w' → StaysFixed v w'
 fixed-more v w w' h g = record { hasher = g.hasher ∙ h.hasher; shards = g.shards ∙ h.shards; opening = g.opening ∙ h.opening; programs = g.programs ∙ h.programs }

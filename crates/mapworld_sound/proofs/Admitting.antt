@@ -12,7 +12,6 @@ use Rattle.mapworld_calls.specs.declared.reply.Answer.TheVariants as answer
 use Rattle.mapworld_calls.specs.Setup.{Setup, Laws, ask_at, session_of}
 use Rattle.mapworld_calls.specs.Agrees.{HasNoBlock}
 use Rattle.mapworld_calls.proofs.Programs.{one_guard_apart, one_guard_begin_apart}
-use Rattle.std.proofs.Math.ListN.{length-set}
 use Rattle.mapworld_calls.proofs.Lists.{slice_get-set_other}
 use Rattle.mapworld_state.specs.declared.holds.Mode.{Mode}
 use Rattle.mapworld_state.specs.declared.holds.Mode.TheVariants.{Exclusive}
@@ -50,7 +49,7 @@ leaves-same x w s p p' at sound holds' = record {
   shards = refl;
 }
 
--- an exclusive holder's change of its shard's list reaches no list that another thread holds
+-- an exclusive holder's change of its shard reaches no shard that another thread holds
 pub kept-alone : {K V S D T : Type 0} (x : Setup K V D T) (w : State K V S D T) (s : Step) (p : Place K V D T) (at : slice_get w.places s.thread ≡ Some p) (sound : Sound x w)
     (table : ShardPairs K V) → HoldsShard p Exclusive
     → (u : ℕ) (q : Place K V D T) (m : Mode) → u ≢ s.thread → slice_get w.places u ≡ Some q → HoldsShard q m → slice_get (slice_set w.tables p.shard table) q.shard ≡ slice_get w.tables q.shard
@@ -83,7 +82,7 @@ module _ {K V S D T : Type 0} (x : Setup K V D T) (laws : Laws x) (w : State K V
           record { hold = a.hold; has = one; shard = a.hold_is.0; mode_is = a.hold_is.1 },
         );
       })
-      (tables-same x w.blocks w.blocks w.tables w.tables sound.tables (λ q. refl))
+      (tables-same x w.blocks w.blocks w.tables sound.tables (λ q. refl))
       (holds-push w.places w.holds sound.holds s.thread p p' a.stands a.hold c.2 one a.fresh (rw (a.hold_is.0, a.hold_is.1) a.admitted) a.desk a.at_shard a.granted)
       (placed-same x (threads_of w) s.thread (started_of w) (started_of (stepped w s p')) w.blocks w.replies
       (started-stays x w s p p' a.stands (λ n h. h)) sound.placed)
@@ -159,7 +158,7 @@ module _ {K V S D T : Type 0} (x : Setup K V D T) (laws : Laws x) (w : State K V
               (refused-releasing p a.stands w.tables a.call a.before),
         );
       })
-      (tables-same x w.blocks w.blocks w.tables w.tables sound.tables (λ q. refl))
+      (tables-same x w.blocks w.blocks w.tables sound.tables (λ q. refl))
       (holds-same w.places w.holds sound.holds s.thread p p' a.stands refl)
       (placed-same x (threads_of w) s.thread (started_of w) (started_of (stepped w s p')) w.blocks w.replies
       (started-stays x w s p p' a.stands (λ n h. h)) sound.placed)

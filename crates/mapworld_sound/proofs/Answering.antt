@@ -209,7 +209,7 @@ module _ {K V S D T : Type 0} (x : Setup K V D T) (laws : Laws x) (w : State K V
             inl (rw o.2.call (elim (st.owns i o.0 o.1 (sym o.2.thread ∙ thread)) [ inl lt ↦ omega arith | inr mine ↦ let z = mine.0 in omega arith ]));
         claim = (refl, cl.2, ended-ready x w.blocks a.blocks w.tables s.thread p.next (next_step w) p p' e refl refl refl (p.next + 1) (session_of x s.thread (p.next + 1)) (block_after p) cl.4);
       })
-      (tables-same x w.blocks a.blocks w.tables w.tables sound.tables e.contents_stay)
+      (tables-same x w.blocks a.blocks w.tables sound.tables e.contents_stay)
       (holds-same w.places w.holds sound.holds s.thread p p' a.stands refl)
       (placed-answer x (threads_of w) (started_of w) (started_of (stepped w s p')) w.blocks a.blocks w.replies r
       (λ t ne. started-other x w s p p' a.stands t ne)

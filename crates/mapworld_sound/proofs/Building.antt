@@ -138,7 +138,7 @@ module _ {K V D T : Type 0} (x : Setup K V D T) (p p' : Place K V D T) where
       → IsReady x bs tables t p n block → IsReady x bs tables t p' n block
   ready-moved bs tables t n block hold shard slot h = in_session-moved bs tables t n (session_of x t n) block hold shard slot h
 
-module _ {K V D T : Type 0} (x : Setup K V D T) (bs bs' : List (Block K)) (tables tables' : List (ShardPairs K V)) (agree : TablesAgree x bs tables) where
+module _ {K V D T : Type 0} (x : Setup K V D T) (bs bs' : List (Block K)) (tables : List (ShardPairs K V)) (agree : TablesAgree x bs tables) where
   -- no key's contents change
   pub tables-same : ((q : K) → contents x bs' q ≡ contents x bs q) → TablesAgree x bs' tables
   tables-same same = record { routed = agree.routed; distinct = agree.distinct; contents_are = λ q table at. agree.contents_are q table at ∙ sym (same q) }

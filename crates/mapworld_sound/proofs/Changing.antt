@@ -1,6 +1,6 @@
 -- The deeds of a session that holds its shard alone: a call does with the guarded pair what it does with a pair, or fills the
 -- place that a vacant guard keeps.
-use Rattle.std.proofs.Common.{◌≡◌, ℕ, ◌+◌, ◌-◌, ◌⊎◌, inl, inr, Bool, true, false, if◌then◌else◌, List, [], ◌∷◌, ◌++◌, length, Option, Some, None, slice_get, slice_set, remove, refl, ap, sym, ◌∙◌, subst}
+use Rattle.std.proofs.Common.{◌≡◌, ◌+◌, ◌-◌, ◌⊎◌, inl, inr, Bool, true, false, if◌then◌else◌, List, Option, Some, None, slice_set, refl, ap, sym, ◌∙◌, subst}
 use Rattle.mapworld_state.specs.Shards.{Puts}
 use Rattle.std.proofs.Math.ListN.{length-set}
 use Rattle.std.proofs.lemmas.Option.{same_Some, none-some}
@@ -14,9 +14,8 @@ use Rattle.mapworld_calls.specs.Deeds.{Deeds}
 use Rattle.mapworld_calls.specs.Calls.{At, free, exclusive, vacant, pair_in, held_answer, held_leaves}
 use Rattle.mapworld_calls.specs.Programs.{is_drop, opening_key}
 use Rattle.mapworld_calls.specs.Setup.{Setup, Laws, session_of}
-use Rattle.mapworld_calls.specs.Replay.{reached, block_key, is_key, contents, found, IsLastOnShard}
+use Rattle.mapworld_calls.specs.Replay.{reached, block_key, is_key, found, IsLastOnShard}
 use Rattle.mapworld_calls.specs.Agrees.{IsToldBy}
-use Rattle.mapworld_calls.proofs.Lists.{slice_get-set_same, slice_get-push_at, slice_get-push_cases, slice_get-remove_is, stood_at}
 use Rattle.mapworld_calls.proofs.Grown.{contents-own, contents-other}
 use Rattle.mapworld_calls.proofs.Handed.{Handed, block-handed}
 use Rattle.mapworld_state.specs.declared.holds.Mode.TheVariants.{Exclusive}

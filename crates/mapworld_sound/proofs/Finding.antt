@@ -1,4 +1,4 @@
--- A find lists the call's block at its position, or finds that the shard's list has to grow first.
+-- A find lists the call's block at its position, or finds that the shard has to grow first.
 use Rattle.std.proofs.Common.{◌≡◌, ◌≢◌, ℕ, ◌+◌, ◌-◌, ◌<◌, ◌≤◌, inl, Bool, true, false, if◌then◌else◌, List, [], ◌∷◌, ◌++◌, length, drop, Option, Some, None, IsSome, is_some, slice_get, slice_set, refl, ap, sym, ◌∙◌, subst, arith, length-append}
 use Rattle.mapworld_state.specs.Shards.{ShardPairs, has_room}
 use Rattle.std.proofs.Math.ListN.{length-set}
@@ -13,7 +13,7 @@ use Rattle.mapworld_calls.specs.declared.ask.Begin.TheVariants as begin
 use Rattle.mapworld_calls.specs.declared.block.Block.{Block}
 use Rattle.mapworld_calls.specs.declared.reply.Answer.{Answer}
 use Rattle.mapworld_calls.specs.declared.reply.Answer.TheVariants as answer
-use Rattle.mapworld_calls.specs.Calls.{At, free, vacant, pair_in, told, after, keyed_answer, keyed_leaves, opening_answer, opened}
+use Rattle.mapworld_calls.specs.Calls.{At, free, pair_in, told, after, keyed_answer, keyed_leaves, opening_answer, opened}
 use Rattle.mapworld_calls.specs.Programs.{keyed_key, key_of}
 use Rattle.mapworld_calls.specs.Setup.{Setup, Laws, session_of}
 use Rattle.mapworld_calls.specs.Pairs.{pair_of}
@@ -34,7 +34,7 @@ use Rattle.mapworld_state.specs.declared.place.Phase.{Phase}
 use Rattle.mapworld_state.specs.declared.place.Phase.TheVariants as phase
 use Rattle.mapworld_state.specs.Places.{Place}
 use Rattle.mapworld_state.specs.State.{State, threads_of, started_of}
-use Rattle.mapworld_state.specs.Moves.{ask_of, request_key, keyed_mode, opening_way, opening_mode, mode_of, lent, stepped, request_of, growth_key, found_phase, found_done, found_guard, block_behind, IsListed, ListsBlock}
+use Rattle.mapworld_state.specs.Moves.{request_key, keyed_mode, opening_way, mode_of, lent, stepped, request_of, growth_key, found_phase, found_done, found_guard, block_behind, IsListed, ListsBlock}
 use Rattle.mapworld_state.specs.Steps.{Finds, GrowsShard, Views}
 use Rattle.mapworld_state.specs.Sound.{is_resting, may_own, block_after, GuardIs, HoldsShard, IsInCall, IsOnItsWay, IsBeforeDeed, HasReached, HasSession, IsInSession, IsReady, HasPairs, TablesAgree, Sound}
 use Rattle.mapworld_sound.proofs.Others.{IsInCall-push}
@@ -178,7 +178,7 @@ module _ {K V S D T : Type 0} (x : Setup K V D T) (laws : Laws x) (w : State K V
         )
         (taken-at x (threads_of w) w.blocks w.replies w.tables s.thread p (phase.Find r) before st)
         (within-at x (threads_of w) w.blocks w.replies w.tables s.thread p (phase.Find r) before st)
-        (tables-same x w.blocks (w.blocks ++ listed.0 ∷ []) w.tables w.tables sound.tables
+        (tables-same x w.blocks (w.blocks ++ listed.0 ∷ []) w.tables sound.tables
         (contents-listed x laws w s sound p at _ c.0 key refl Exclusive holds c.1.shard not_yet 0 listed.0 l (quiet-none x laws w s sound p at _ c.0 key refl c.1.shard not_yet table held listed.0 l))))
 
     -- a call on one key that this step has done, since it leaves what it found
@@ -213,7 +213,7 @@ module _ {K V S D T : Type 0} (x : Setup K V D T) (laws : Laws x) (w : State K V
         (taken-at x (threads_of w) w.blocks w.replies w.tables s.thread p f before st))
         (subst (λ (z : Bool). (if z then p.next else p.next + 1) ≤ length st.program) busy
         (within-at x (threads_of w) w.blocks w.replies w.tables s.thread p f before st))
-        (tables-same x w.blocks (w.blocks ++ listed.0 ∷ []) w.tables w.tables sound.tables
+        (tables-same x w.blocks (w.blocks ++ listed.0 ∷ []) w.tables sound.tables
         (contents-listed x laws w s sound p at _ call key refl (keyed_mode k) holds way.shard not_yet 1 listed.0 l
         (λ u h.
         let same : u ≡ o = sym h ∙ has-now x laws w s sound p at _ call key refl way.shard not_yet table held listed.0 ∙ is in
@@ -228,7 +228,7 @@ module _ {K V S D T : Type 0} (x : Setup K V D T) (laws : Laws x) (w : State K V
         let c = claim-at x (threads_of w) w.blocks w.replies w.tables s.thread p f before (sound.stands s.thread p at) in
         done-whole k f before refl refl c.0 c.1 c.2
 
-    -- a call whose pair the shard's list has no room for
+    -- a call whose pair the shard has no room for
     found-full : (g : Growth K V) → p.phase ≡ phase.Find (request_of g) → request_key (request_of {D = D} g) ≡ growth_key g → mode_of (request_of {D = D} g) ≡ Exclusive
         → pair_of x.eq table.items (growth_key g) ≡ None → has_room table ≡ false → (blocks : List (Block K)) → blocks ≡ w.blocks
         → Sound x (record (stepped w s (record p { guard = None; phase = phase.Grow g })) { blocks = blocks })
@@ -256,7 +256,7 @@ module _ {K V S D T : Type 0} (x : Setup K V D T) (laws : Laws x) (w : State K V
             record { table = table; held = held; so = (is, full) },
           );
         })
-        (tables-same x w.blocks w.blocks w.tables w.tables sound.tables (λ q. refl))
+        (tables-same x w.blocks w.blocks w.tables sound.tables (λ q. refl))
         (holds-same w.places w.holds sound.holds s.thread p p' at refl)
         (placed-same x (threads_of w) s.thread (started_of w) (started_of (stepped w s p')) w.blocks w.replies (started-stays x w s p p' at (λ n h. h)) sound.placed)
         sound.replies)
@@ -293,11 +293,11 @@ module _ {K V S D T : Type 0} (x : Setup K V D T) (laws : Laws x) (w : State K V
         )
         (taken-at x (threads_of w) w.blocks w.replies w.tables s.thread p (phase.Find r) before st)
         (within-at x (threads_of w) w.blocks w.replies w.tables s.thread p (phase.Find r) before st)
-        (tables-same x w.blocks (w.blocks ++ listed.0 ∷ []) w.tables w.tables sound.tables
+        (tables-same x w.blocks (w.blocks ++ listed.0 ∷ []) w.tables sound.tables
         (contents-listed x laws w s sound p at _ c.0 k key (mode_of r) c.2 c.1.shard not_yet 1 listed.0 l
         (λ o h. ap pair_in (reached-new x laws w s sound p at _ c.0 k key c.1.shard not_yet table held listed.0 l o) ∙ opened-quiet b o))))
 
-    -- an entry on an absent key for whose pair the shard's list has room, perhaps since it has grown
+    -- an entry on an absent key for whose pair the shard has room, perhaps since it has grown
     entered : (k : K) (f : Phase K V D T) → p.phase ≡ f → is_resting f ≡ false → may_own f ≡ false
         → IsInCall x (threads_of w) s.thread p (ask.Begin (begin.Entry k)) → IsOnItsWay x p k → HoldsShard p Exclusive
         → pair_of x.eq table.items k ≡ None → (blocks : List (Block K)) → ListsBlock w s.thread p (Some 1) blocks
@@ -359,7 +359,7 @@ module _ {K V S D T : Type 0} (x : Setup K V D T) (laws : Laws x) (w : State K V
         )
         (taken-at x (threads_of w) w.blocks w.replies w.tables s.thread p (phase.Find r) before st)
         (within-at x (threads_of w) w.blocks w.replies w.tables s.thread p (phase.Find r) before st)
-        (tables-same x w.blocks (w.blocks ++ listed.0 ∷ []) w.tables w.tables sound.tables
+        (tables-same x w.blocks (w.blocks ++ listed.0 ∷ []) w.tables sound.tables
         (contents-listed x laws w s sound p at _ c.0 k refl Exclusive c.2 c.1.shard not_yet 0 listed.0 l (quiet-none x laws w s sound p at _ c.0 k refl c.1.shard not_yet table held listed.0 l))))
     found-by (request.Keyed (keyed.Insert k v)) before None is false full blocks listed = found-full (growth.Insert k v) before refl refl is full blocks listed
     found-by (request.Keyed (keyed.Remove k)) before (Some pair) is room roomy blocks listed = found-deed (keyed.Remove k) before refl pair is blocks listed
@@ -397,7 +397,7 @@ module _ {K V S D T : Type 0} (x : Setup K V D T) (laws : Laws x) (w : State K V
             record { table = table; held = held; so = is },
           );
         })
-        (tables-same x w.blocks w.blocks w.tables w.tables sound.tables (λ q. refl))
+        (tables-same x w.blocks w.blocks w.tables sound.tables (λ q. refl))
         (holds-same w.places w.holds sound.holds s.thread p p' at refl)
         (placed-same x (threads_of w) s.thread (started_of w) (started_of (stepped w s p')) w.blocks w.replies (started-stays x w s p p' at (λ n h. h)) sound.placed)
         sound.replies)
@@ -438,7 +438,7 @@ module _ {K V S D T : Type 0} (x : Setup K V D T) (laws : Laws x) (w : State K V
         )
         (taken-at x (threads_of w) w.blocks w.replies w.tables s.thread p (phase.Find r) before st)
         (within-at x (threads_of w) w.blocks w.replies w.tables s.thread p (phase.Find r) before st)
-        (tables-same x w.blocks (w.blocks ++ listed.0 ∷ []) w.tables w.tables sound.tables
+        (tables-same x w.blocks (w.blocks ++ listed.0 ∷ []) w.tables sound.tables
         (contents-listed x laws w s sound p at _ c.0 k key (mode_of r) c.2 c.1.shard not_yet 1 listed.0 l
         (λ o h. ap pair_in (reached-new x laws w s sound p at _ c.0 k key c.1.shard not_yet table held listed.0 l o) ∙ opened-quiet b o))))
     found-by (request.Begin (begin.Get k)) before None is room roomy blocks listed = found-nothing (begin.Get k) before is refl refl blocks listed
@@ -449,7 +449,7 @@ module _ {K V S D T : Type 0} (x : Setup K V D T) (laws : Laws x) (w : State K V
         let c = claim-at x (threads_of w) w.blocks w.replies w.tables s.thread p f before (sound.stands s.thread p at) in
         entered k f before refl refl c.0 c.1 c.2 is blocks listed w.tables refl (λ u q m ne hq h. refl)
         (record { table = table; held = held; so = (roomy, is) })
-        (λ d same. tables-same x w.blocks (w.blocks ++ d ∷ []) w.tables w.tables sound.tables same)
+        (λ d same. tables-same x w.blocks (w.blocks ++ d ∷ []) w.tables sound.tables same)
 
   pub sound-finds : (w' : State K V S D T) → Finds x w s w' → Sound x w'
   sound-finds w' f =

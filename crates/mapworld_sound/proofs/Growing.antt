@@ -288,7 +288,7 @@ module _ {K V S D T : Type 0} (x : Setup K V D T) (laws : Laws x) (w : State K V
         absurd (let both : ◌≡◌ {A = Option (Ask K V D)} (Some (ask.Begin o.0)) (Some (ask.Keyed g)) = sym o.1 ∙ (let z : ask_at x s.thread c ≡ Some (ask.Keyed g) = rw (sym thread-is, sym call-is) e in z) in cc)
     more-done (ask.Held g) e old = old
 
-    -- the world behind a step that counts the call in, and may change the list of a shard that is held alone
+    -- the world behind a step that counts the call in, and may change a shard that is held alone
     pub sound-changed : (tables' : List (ShardPairs K V)) → length tables' ≡ length w.tables
         → ((u : ℕ) (q : Place K V D T) (m : Mode) → u ≢ s.thread → slice_get w.places u ≡ Some q → HoldsShard q m → slice_get tables' q.shard ≡ slice_get w.tables q.shard)
         → TablesAgree x (slice_set w.blocks i d) tables'
@@ -314,7 +314,7 @@ module _ {K V S D T : Type 0} (x : Setup K V D T) (laws : Laws x) (w : State K V
         (record { thread = counts.thread; call = counts.call; visit = counts.visit; start = counts.start; position = counts.position; visited = counts.visited }) counts.end more-done sound.placed)
         (replies-kept x w.blocks (slice_set w.blocks i d) w.replies (λ j r hr. keeps-grown x laws w.blocks i b d grows r.thread r.call) sound.replies)
 
-    -- where the call leaves its pair, no list changes
+    -- where the call leaves its pair, no shard changes
     pub sound-counted : LeavesPair x.deeds h was → (holds' : Desks) → p'.next ≡ p.next → p'.block ≡ p.block ⊎ (p'.block ≡ None)
         → Claim x (threads_of w ++ s.thread ∷ []) (slice_set w.blocks i d) w.tables s.thread p' p'.phase
         → p'.asks ≡ drop (taken p') st.program → taken p' ≤ length st.program
@@ -323,7 +323,7 @@ module _ {K V S D T : Type 0} (x : Setup K V D T) (laws : Laws x) (w : State K V
         → Sound x (record (stepped w s p') { tables = w.tables; holds = holds'; blocks = slice_set w.blocks i d; replies = w.replies })
     sound-counted same =
         sound-changed w.tables refl (λ u q m ne hq hh. refl)
-        (tables-same x w.blocks (slice_set w.blocks i d) w.tables w.tables sound.tables (λ q. contents-quiet x laws w.blocks i b d grows (quiet same) q))
+        (tables-same x w.blocks (slice_set w.blocks i d) w.tables sound.tables (λ q. contents-quiet x laws w.blocks i b d grows (quiet same) q))
 
   -- the thread's blocks are those that it had
   pub owns-grown : (p' : Place K V D T) → p'.next ≡ p.next → may_own p.phase ≡ false → OwnsBlocks (slice_set w.blocks i d) s.thread p'

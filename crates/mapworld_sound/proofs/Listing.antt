@@ -91,7 +91,7 @@ module _ {K V S D T : Type 0} (x : Setup K V D T) (laws : Laws x) (w : State K V
       shards = shards;
     }
 
-    -- the world behind a step that lists the block, and may rewrite the shard's list with the same pairs
+    -- the world behind a step that lists the block, and may let the shard grow
     pub sound-listed : Claim x (threads_of w ++ s.thread ∷ []) (w.blocks ++ d ∷ []) tables' s.thread p' p'.phase
         → p'.asks ≡ drop (taken p') st.program → taken p' ≤ length st.program
         → TablesAgree x (w.blocks ++ d ∷ []) tables'

@@ -1,5 +1,5 @@
 -- Steps of a session: a deed that reads the guarded pair, and the release of the guard or of a keyed call's hold.
-use Rattle.std.proofs.Common.{◌≡◌, ℕ, ◌+◌, ◌-◌, inl, inr, Bool, if◌then◌else◌, List, [], Option, Some, None, is_some, slice_get, slice_set, refl, ap, sym, ◌∙◌, subst, arith}
+use Rattle.std.proofs.Common.{◌≡◌, ℕ, ◌+◌, ◌-◌, inl, inr, Bool, if◌then◌else◌, List, [], Option, Some, None, is_some, slice_set, refl, ap, sym, ◌∙◌, subst, arith}
 use Rattle.mapworld_state.specs.Shards.{ShardPairs}
 use Rattle.std.proofs.lemmas.Option.{same_Some, none-some}
 use Rattle.mapworld_calls.specs.declared.ask.Ask.{Ask}
@@ -25,7 +25,7 @@ use Rattle.mapworld_state.specs.Places.{Place}
 use Rattle.mapworld_state.specs.State.{State, threads_of, started_of}
 use Rattle.mapworld_state.specs.Moves.{way_mode, lent, stepped, CountsCall}
 use Rattle.mapworld_state.specs.Steps.{Reads, Releases}
-use Rattle.mapworld_state.specs.Sound.{may_own, block_after, GuardIs, HoldsShard, IsInSession, IsInCall, IsReleasing, Sound}
+use Rattle.mapworld_state.specs.Sound.{may_own, block_after, GuardIs, IsInSession, IsInCall, IsReleasing, Sound}
 use Rattle.mapworld_state.proofs.HoldsTable.{none-there, first-there}
 use Rattle.mapworld_sound.proofs.Others.{IsInCall-push}
 use Rattle.mapworld_sound.proofs.Timing.{placed-same}
@@ -104,7 +104,7 @@ module _ {K V S D T : Type 0} (x : Setup K V D T) (laws : Laws x) (w : State K V
       (holds-same w.places w.holds sound.holds s.thread p p' a.stands refl)
       (growing.owns-grown x laws w s sound p a.stands (held.Read a.deed) call.asked c i inside session b d n.2 n.3 still p' refl (ap may_own a.before)))
 
-  -- without a guard neither hold nor list counts
+  -- without a guard neither hold nor shard counts
   unguarded : (p p' : Place K V D T) (n : ℕ) (o block : Option ℕ) → p.guard ≡ None → p'.guard ≡ None → p'.holds ≡ [] → p'.shard ≡ p.shard → IsInSession x w.blocks w.tables s.thread p n o block → IsInSession x w.blocks w.tables s.thread p' n o block
   unguarded p p' n (Some c) (Some i) none none' free_ shard h = record {
     block = h.block;
@@ -148,7 +148,7 @@ module _ {K V S D T : Type 0} (x : Setup K V D T) (laws : Laws x) (w : State K V
           unguarded p p' (p.next + 1) (session_of x s.thread (p.next + 1)) (block_after p) none refl only.1 refl h.1,
         );
       })
-      (tables-same x w.blocks w.blocks w.tables w.tables sound.tables (λ q. refl))
+      (tables-same x w.blocks w.blocks w.tables sound.tables (λ q. refl))
       (holds-remove w.places w.holds sound.holds s.thread p p' a.stands a.hold only.2 only.1 a.desk a.at_shard)
       (placed-same x (threads_of w) s.thread (started_of w) (started_of (stepped w s p')) w.blocks w.replies (started-stays x w s p p' a.stands (λ n z. z)) sound.placed)
       sound.replies)

@@ -12,7 +12,7 @@ use Rattle.mapworld_calls.specs.declared.ask.Held.TheVariants as held
 use Rattle.mapworld_calls.specs.declared.block.Block.{Block}
 use Rattle.mapworld_calls.specs.declared.reply.Answer.{Answer}
 use Rattle.mapworld_calls.specs.declared.reply.Answer.TheVariants as answer
-use Rattle.mapworld_calls.specs.Calls.{At, free, vacant, pair_in, held_answer, held_leaves}
+use Rattle.mapworld_calls.specs.Calls.{At, vacant, pair_in, held_answer, held_leaves}
 use Rattle.mapworld_calls.specs.Programs.{is_drop, keyed_key, opening_key}
 use Rattle.mapworld_calls.specs.Setup.{Setup, Laws, ask_at, session_of}
 use Rattle.mapworld_calls.specs.Replay.{reached, found}
@@ -23,7 +23,6 @@ use Rattle.mapworld_state.specs.declared.place.Way.{Way}
 use Rattle.mapworld_state.specs.declared.place.Way.TheVariants as way
 use Rattle.mapworld_state.specs.declared.place.Guard.{Guard}
 use Rattle.mapworld_state.specs.declared.place.Guard.TheVariants as guard
-use Rattle.mapworld_state.specs.declared.place.Phase.{Phase}
 use Rattle.mapworld_state.specs.declared.place.Phase.TheVariants as phase
 use Rattle.mapworld_state.specs.Places.{Place}
 use Rattle.mapworld_state.specs.State.{State, threads_of, started_of, next_step}
@@ -98,7 +97,7 @@ module _ {K V S D T : Type 0} (x : Setup K V D T) (laws : Laws x) (w : State K V
           owns = owns-on w.blocks s.thread p (begun a g) st.owns refl refl (λ own. absurd (false≢true (sym (ap may_own before) ∙ own)));
           claim = claim;
         })
-        (tables-same x w.blocks w.blocks w.tables w.tables sound.tables (λ q. refl))
+        (tables-same x w.blocks w.blocks w.tables sound.tables (λ q. refl))
         (holds-same w.places w.holds sound.holds s.thread p (begun a g) at refl)
         (placed-same x (threads_of w) s.thread (started_of w) (started_of (stepped w s (begun a g))) w.blocks w.replies (started-stays x w s p (begun a g) at (stays g)) sound.placed)
         sound.replies

@@ -1,5 +1,4 @@
 -- What every step of a world keeps, and what it adds.
-use Rattle.std.specs.Prelude.{ℕ}
 use Rattle.mapworld_calls.specs.Placed.{OnlyAdds}
 use Rattle.mapworld_calls.specs.Setup.{Setup, Laws}
 use Rattle.mapworld_state.specs.declared.step.Step.{Step}
