@@ -78,7 +78,7 @@ module _ {K V D T : Type 0} (x : Setup K V D T) (bs : List (Block K)) (tables : 
       (h.block, subst (λ k. slice_get bs k ≡ Some h.block) (same_Some j i e) h.listed, omega (arith, h.call, h.below))
 
   -- a guard lends a pair of its shard's list, or has room in it
-  guard_is : (n : ℕ) (session block : Option ℕ) (g : Guard K) → IsInSession x bs tables t p n session block → p.guard ≡ Some g → (at : At K V) × GuardIs tables p (Some g) at
+  pub guard_is : (n : ℕ) (session block : Option ℕ) (g : Guard K) → IsInSession x bs tables t p n session block → p.guard ≡ Some g → (at : At K V) × GuardIs tables p (Some g) at
   guard_is n None block g h e = absurd (none-some g (sym h.0 ∙ e))
   guard_is n (Some c) None g h e = absurd (none-some g (sym h.0 ∙ e))
   guard_is n (Some c) (Some j) g h e =
