@@ -3,3 +3,4 @@ pub mod Facts
 pub mod Rooms
 pub mod Weights
 pub mod Slots
+pub mod Keys
