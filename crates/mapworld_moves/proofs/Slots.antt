@@ -207,3 +207,14 @@ module _ {K V S D T A : Type 0} (x : Setup K V D T) (hash : K → ℕ) (c : Core
   slots-kept lends blocks free shard slot = slots-same (λ key is.
       let old = slots.found t p key here (slot-was lends blocks free key is) in
       record { table = old.table; held = ap (slice_get c.tables.items) shard ∙ old.held; has = subst (λ i. HasKeyAt x.eq old.table i key) (sym slot) old.has })
+
+  no-slot : p'.guard ≡ None → phase_key p'.phase ≡ None → (key : K) → ¬ (slot_key x bs' (place_of p') ≡ Some key)
+  no-slot guard free key is = none-some key (sym (slot-free x bs' (place_of p') guard free) ∙ is)
+
+  -- a step behind which the place has no slot
+  pub slots-same_free : p'.guard ≡ None → phase_key p'.phase ≡ None → HasSlots x hash c.tables.items bs' (slice_set c.places.items t p')
+  slots-same_free guard free = slots-same (λ key is. absurd (no-slot guard free key is))
+
+  pub slots-alone_free : HoldsShard (place_of p) Exclusive → (table table' : Table K V) → slice_get c.tables.items p.shard ≡ Some table → HasHashes hash table'
+      → p'.guard ≡ None → phase_key p'.phase ≡ None → HasSlots x hash (slice_set c.tables.items p.shard table') bs' (slice_set c.places.items t p')
+  slots-alone_free alone table table' held fresh guard free = slots-alone alone table table' held fresh (λ key is. absurd (no-slot guard free key is))
