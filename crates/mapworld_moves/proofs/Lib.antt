@@ -4,3 +4,4 @@ pub mod Rooms
 pub mod Weights
 pub mod Slots
 pub mod Keys
+pub mod Leaving

@@ -209,6 +209,13 @@ module _ {K V : Type 0} (eq : K → K → Bool) (laws : IsEquivalence eq) where
       | inr other ↦ hashed j e (sym (at-changed_other (giving_pair z.0 z.1) old.slots i j other) ∙ (ap (λ (t : Table K V). at t.slots j) (sym is) ∙ here))
     ]
 
+  -- a key that a slot has stays there under a pair that is left in it
+  pub key-kept : (old new : Table K V) (i : ℕ) (key : K) → AreDistinct eq (pairs_of old.slots) → (k : HasKeyAt eq old i key) (z : K × V) → eq k.entry.key z.0 ≡ true → LeavesAt old new i (Some z)
+      → (q : K) → HasKeyAt eq old i q → HasKeyAt eq new i q
+  key-kept old new i key distinct k z same is q has =
+      let one : k.entry ≡ has.entry = same_Some k.entry has.entry (sym k.there ∙ has.there) in
+      key-left old new i q distinct has z (ap (λ (e : Entry K V). eq e.key z.0) (sym one) ∙ same) is
+
   module _ (hash : K → ℕ) (alike : HashesAlike eq hash) where
     -- the pairs of distinct slots are distinct
     pub distinct-pairs : (t : Table K V) → AreApart eq t.slots → HasHashes hash t → AreDistinct eq (pairs_of t.slots)
