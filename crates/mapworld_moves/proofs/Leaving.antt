@@ -16,6 +16,7 @@ use Rattle.mapworld_calls.specs.Pairs.{pair_of, AreDistinct}
 use Rattle.mapworld_calls.specs.Calls.{pair_in, keyed_leaves, held_leaves}
 use Rattle.mapworld_state.specs.declared.place.Way.{Way}
 use Rattle.mapworld_state.specs.declared.place.Way.TheVariants as way
+use Rattle.mapworld_state.specs.declared.place.Phase.{Phase}
 use Rattle.mapworld_state.specs.declared.world_core.Core.{Core}
 use Rattle.mapworld_state.specs.declared.place.Guard.TheVariants as guard
 use Rattle.mapworld_state.specs.Places.{Place}
@@ -113,9 +114,9 @@ pub some-at : {X : Type 0} (P : X → Type 0) (o : Option X) (x : X) → o ≡ S
 some-at P o x is h = subst (λ z. IfSome z P) (sym is) h
 
 -- behind a change the place looks for nothing
-pub changed-free : {K V D T : Type 0} (ends : Bool) (a : Answer K V T) → phase_key {D = D} (changed_phase ends a) ≡ None
-changed-free true a = refl
-changed-free false a = refl
+pub changed-free : {K V D T : Type 0} (f : Phase K V D T) (ends : Bool) (a : Answer K V T) → f ≡ changed_phase ends a → phase_key f ≡ None
+changed-free f true a e = ap phase_key e
+changed-free f false a e = ap phase_key e
 
 -- while the guard goes on to lend its pair there is one
 pub held-stays : {D K V T : Type 0} (deeds : Deeds D K V T) (call : Held V D) (kind : Way K) → is_change call kind ≡ true → (k : Way K) → lent_way (if ends_guard call then None else Some (guard.Pair kind)) ≡ Some k
