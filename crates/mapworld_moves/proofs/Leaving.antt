@@ -1,7 +1,7 @@
 -- The pair in a place's slot, and what deeds leave there.
-use Rattle.std.proofs.Common.{◌≡◌, ℕ, ◌+◌, Bool, true, false, not, if◌then◌else◌, List, length, map, get_or, Option, Some, None, IsSome, IfSome, is_some, slice_get, refl, sym, ap, ◌∙◌, subst, arith}
+use Rattle.std.proofs.Common.{◌≡◌, ℕ, ◌+◌, Bool, true, false, not, if◌then◌else◌, List, map, get_or, Option, Some, None, IsSome, IfSome, is_some, slice_get, refl, sym, ap, ◌∙◌, subst}
 use Rattle.std.specs.Cmp.{IsEquivalence}
-use Rattle.std.proofs.lemmas.Option.{none-some, same_Some, slice_get_within}
+use Rattle.std.proofs.lemmas.Option.{none-some, same_Some}
 use Rattle.dashmap_table.specs.Slots.{at, pair_of as entry_pair, pairs_of}
 use Rattle.dashmap_table.specs.Table.{Table}
 use Rattle.mapworld_calls.specs.declared.ask.Keyed.{Keyed}

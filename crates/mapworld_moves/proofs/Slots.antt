@@ -1,12 +1,12 @@
 -- Slots go on to have their pairs: blocks keep their calls, and while a thread holds a shard alone no other thread has a slot there.
-use Rattle.std.proofs.Common.{◌≡◌, ◌≢◌, ℕ, ◌+◌, Bool, true, false, if◌then◌else◌, ◌==◌, List, [], ◌∷◌, ◌++◌, Option, Some, None, is_some, slice_get, slice_set, MatchBool, inl, inr, ⊎_elim, refl, sym, ap, ap₂, ◌∙◌, subst}
+use Rattle.std.proofs.Common.{◌≡◌, ◌≢◌, ℕ, ◌+◌, Bool, true, if◌then◌else◌, ◌==◌, List, [], ◌∷◌, ◌++◌, Option, Some, None, is_some, slice_get, slice_set, MatchBool, inl, inr, ⊎_elim, refl, sym, ap, ap₂, ◌∙◌, subst}
 use Rattle.std.specs.Option.{option_and_then}
 use Rattle.std.proofs.lemmas.Bool.{cases_Bool, cases_eq}
 use Rattle.std.proofs.lemmas.Option.{none-some, same_Some}
 use Rattle.dashmap_table.specs.Table.{Table}
 use Rattle.dashmap_table.proofs.Cases.{option_cases}
 use Rattle.mapworld_calls.specs.declared.block.Block.{Block}
-use Rattle.mapworld_calls.specs.Programs.{key_of, keyed_key}
+use Rattle.mapworld_calls.specs.Programs.{key_of}
 use Rattle.mapworld_calls.specs.Setup.{Setup, ask_at}
 use Rattle.mapworld_calls.specs.Replay.{block_key}
 use Rattle.mapworld_calls.proofs.Lists.{slice_get-set_same, slice_get-set_other, slice_get-set_cases, slice_get-push_below}

@@ -1,8 +1,7 @@
-use Rattle.std.proofs.Common.{◌≡◌, ◌+◌, ℕ, Bool, true, if◌then◌else◌, length, None, Some, is_some, refl, sym, ap, ap₂, ◌∙◌, subst, arith, length-append, length-set}
+use Rattle.std.proofs.Common.{◌≡◌, true, if◌then◌else◌, length, None, is_some, refl, sym, ap, ap₂, ◌∙◌, subst, arith, length-append, length-set}
 use Rattle.std.proofs.lemmas.Option.{slice_get_within}
 use Rattle.std.proofs.lemmas.List.{map-set}
 use Rattle.dashmap_table.specs.Slots.{pair_of as entry_pair}
-use Rattle.dashmap_table.specs.Table.{Table}
 use Rattle.mapworld_calls.specs.Calls.{pair_in, held_leaves}
 use Rattle.mapworld_state.specs.declared.place.Guard.TheVariants as guard
 use Rattle.mapworld_state.specs.declared.place.Way.{Way}

@@ -1,4 +1,4 @@
-use Rattle.std.proofs.Common.{◌≡◌, length, None, Some, refl, sym, ap, ap₂, ◌∙◌, subst, arith, length-append, length-set}
+use Rattle.std.proofs.Common.{◌≡◌, length, None, Some, refl, sym, ap, ◌∙◌, subst, arith, length-append, length-set}
 use Rattle.std.proofs.lemmas.List.{map-set}
 use Rattle.mapworld_calls.specs.Pairs.{pair_of}
 use Rattle.mapworld_calls.specs.Calls.{pair_in}

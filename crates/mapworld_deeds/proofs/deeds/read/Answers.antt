@@ -1,4 +1,4 @@
-use Rattle.std.proofs.Common.{◌≡◌, ◌+◌, length, Some, is_some, refl, sym, ap, ◌∙◌, arith, length-append}
+use Rattle.std.proofs.Common.{length, is_some, refl, sym, ap, ◌∙◌, arith, length-append}
 use Rattle.std.specs.Option.{option_map}
 use Rattle.std.proofs.lemmas.Option.{slice_get_within}
 use Rattle.std.proofs.lemmas.List.{map-set}
