@@ -1,4 +1,7 @@
-pub mod Rooms
+pub mod Slotted
 pub mod Facts
+pub mod Rooms
 pub mod Weights
-pub mod Rewriting
+pub mod Slots
+pub mod Keys
+pub mod Leaving

@@ -1,10 +1,11 @@
 //! What steps ask of the holds: whether one is excluded, and to take, share and end one.
-ghost use Rattle.std.specs.Prelude.{◌≡◌, ◌<◌, true, MatchBool, None, is_some, length};
+ghost use Rattle.std.specs.Prelude.{◌≡◌, ◌<◌, true, MatchBool, None, is_some, length, map};
 ghost use Rattle.lock_api_desk.specs.Guards.{is_held, holds};
 ghost use Rattle.lock_api_desk.specs.Desk.{admitted, turned, released};
 ghost use Rattle.lock_api_desk.specs.declared.mode.Mode.TheVariants as desk_mode;
 ghost use Rattle.lock_api_desk.specs.Refusals.{acquire_refusal, guard_refusal};
 ghost use Rattle.lock_api_desk.specs.declared.fault.DeskFault.TheVariants.{WouldWait};
+ghost use Rattle.mapworld_state.specs.Places.{place_of};
 ghost use Rattle.mapworld_state.specs.Holds.{excludes, is_in_the_way, is_excluded, at_desk};
 
 use mapworld_state::{Hold, Mode, Place, ShardDesk};
@@ -20,26 +21,28 @@ fn excludes(first: Mode, second: Mode) -> bool
     }
 }
 
-/// Whether a hold stands in the way of one more hold of the shard.
-fn is_in_the_way(hold: Option<Hold>, shard: usize, mode: Mode) -> bool
-    ensures { result ≡ is_in_the_way shard mode hold }
+/// Whether one of these holds stands in the way of one more hold of the shard.
+fn is_in_the_way(holds: &[Hold], shard: usize, mode: Mode) -> bool
+    ensures { result ≡ is_in_the_way shard mode holds.now }
 {
-    match hold {
-        Some(hold) => hold.shard == shard && excludes(hold.mode, mode),
-        None => false,
+    for hold in holds {
+        if hold.shard == shard && excludes(hold.mode, mode) {
+            return true;
+        }
     }
+    false
 }
 
-/// Whether the hold of some thread stands in the way of one more hold of the shard.
+/// Whether a hold of some thread stands in the way of one more hold of the shard.
 pub fn is_excluded<K, V, D, T, A: Allocator>(
     places: &[Place<K, V, D, T, A>],
     shard: usize,
     mode: Mode,
 ) -> bool
-    ensures { result ≡ is_excluded places.now shard mode }
+    ensures { result ≡ is_excluded (map place_of places.now) shard mode }
 {
     for place in places {
-        if is_in_the_way(place.hold, shard, mode) {
+        if is_in_the_way(place.holds.as_slice(), shard, mode) {
             return true;
         }
     }

@@ -3,10 +3,10 @@
 #![tactic(auto)]
 
 pub mod blocks;
+mod effect;
 pub mod holds;
 pub mod moves;
+pub mod pairs;
 mod route;
-mod table;
 
 pub use route::{is_world_amount, shard_of};
-pub use table::{apply_at, change_at, slot_of};

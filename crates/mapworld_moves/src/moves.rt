@@ -1,10 +1,10 @@
 //! Where each kind of step leads a thread.
-ghost use Rattle.std.specs.Prelude.{◌≡◌, is_some, true, if◌then◌else◌, Some, None};
+ghost use Rattle.std.specs.Prelude.{◌≡◌, is_some, true, false, if◌then◌else◌, Some, None};
 ghost use Rattle.mapworld_state.specs.declared.place.Request.TheVariants as request;
 ghost use Rattle.mapworld_state.specs.declared.place.Guard.TheVariants as own;
 ghost use Rattle.mapworld_calls.specs.Programs.{keyed_key, opening_key, is_drop};
 ghost use Rattle.mapworld_state.specs.Route.{IsWorldAmount, key_route};
-ghost use Rattle.mapworld_state.specs.Moves.{request_key, mode_of, is_last, lent_slot, lent_pair, vacant_key};
+ghost use Rattle.mapworld_state.specs.Moves.{request_key, mode_of, is_last, lent_way, vacant_key};
 ghost use Rattle.mapworld_state.specs.Moves.{shared_phase, exclusive_phase, occupied_phase, occupied_guard, vacant_phase, vacant_guard};
 ghost use Rattle.mapworld_state.specs.Moves.{held_phase, held_guard, start_phase, start_guard, start_shard, is_told, start_counts};
 ghost use Rattle.mapworld_state.specs.Moves.{ends_guard, takes_pair, changed_phase, growth_key, request_of};
@@ -92,22 +92,12 @@ pub fn is_last<K, V, D>(ask: &Ask<K, V, D>) -> bool
     }
 }
 
-/// The place of the pair that a guard lends, if it lends one.
-pub fn lent_slot<K>(guard: &Option<Guard<K>>) -> Option<usize>
-    ensures { result ≡ lent_slot guard.now }
+/// Takes a guard apart that lends a pair: how it does.
+pub fn lent_way<K: Drop>(guard: Option<Guard<K>>) -> Option<Way<K>>
+    ensures { result ≡ lent_way guard }
 {
     match guard {
-        Some(Guard::Pair(_, slot)) => Some(*slot),
-        _ => None,
-    }
-}
-
-/// Takes a guard apart that lends a pair: how, and the pair's place.
-pub fn lent_pair<K: Drop>(guard: Option<Guard<K>>) -> Option<(Way<K>, usize)>
-    ensures { result ≡ lent_pair guard }
-{
-    match guard {
-        Some(Guard::Pair(way, slot)) => Some((way, slot)),
+        Some(Guard::Pair(way)) => Some(way),
         _ => None,
     }
 }
@@ -150,13 +140,12 @@ fn exclusive_phase<K, V: Drop, D: Drop, T>(call: Held<V, D>) -> Phase<K, V, D, T
 fn start_occupied<K: Drop, V: Drop, D: Drop, T>(
     call: Held<V, D>,
     key: K,
-    slot: usize,
 ) -> (Phase<K, V, D, T>, Option<Guard<K>>)
-    ensures { result ≡ (occupied_phase call key, occupied_guard call key slot) }
+    ensures { result ≡ (occupied_phase call key, occupied_guard call key) }
 {
     let phase = match call {
         Held::IntoRef => {
-            let guard = Guard::Pair(Way::Exclusive, slot);
+            let guard = Guard::Pair(Way::Exclusive);
             return (Phase::Answer(Answer::Held), Some(guard));
         }
         Held::IntoKey => return (Phase::Release(Answer::Key(key)), None),
@@ -165,7 +154,7 @@ fn start_occupied<K: Drop, V: Drop, D: Drop, T>(
         Held::Drop => Phase::Release(Answer::Done),
         call => Phase::Change(call),
     };
-    (phase, Some(Guard::Pair(Way::Occupied(key), slot)))
+    (phase, Some(Guard::Pair(Way::Occupied(key))))
 }
 
 /// The phase behind the start of a call on a vacant guard, and the guard behind it.
@@ -188,18 +177,17 @@ fn start_vacant<K, V: Drop, D: Drop, T>(
 fn start_pair<K: Drop, V: Drop, D: Drop, T>(
     call: Held<V, D>,
     way: Way<K>,
-    slot: usize,
 ) -> (Phase<K, V, D, T>, Option<Guard<K>>)
-    ensures { result ≡ (held_phase (Some (own.Pair way slot)) call, held_guard (Some (own.Pair way slot)) call) }
+    ensures { result ≡ (held_phase (Some (own.Pair way)) call, held_guard (Some (own.Pair way)) call) }
 {
     match way {
-        Way::Occupied(key) => start_occupied(call, key, slot),
+        Way::Occupied(key) => start_occupied(call, key),
         Way::Exclusive => {
-            let guard = Guard::Pair(Way::Exclusive, slot);
+            let guard = Guard::Pair(Way::Exclusive);
             (exclusive_phase(call), Some(guard))
         }
         Way::Shared => {
-            let guard = Guard::Pair(Way::Shared, slot);
+            let guard = Guard::Pair(Way::Shared);
             (shared_phase(call), Some(guard))
         }
     }
@@ -215,7 +203,7 @@ fn start_held<K: Drop, V: Drop, D: Drop, T>(
     match guard {
         None => (Phase::Answer(Answer::NoGuard), None),
         Some(Guard::Vacant(key)) => start_vacant(call, key),
-        Some(Guard::Pair(way, slot)) => start_pair(call, way, slot),
+        Some(Guard::Pair(way)) => start_pair(call, way),
     }
 }
 
@@ -292,7 +280,7 @@ pub fn changed_phase<K, V, D, T>(ends: bool, answer: Answer<K, V, T>) -> Phase<K
     }
 }
 
-/// The call for which a shard's list grows.
+/// The call for which a shard grows.
 pub fn request_of<K, V, D>(call: Growth<K, V>) -> Request<K, V, D>
     ensures { result ≡ request_of call }
 {
@@ -303,22 +291,19 @@ pub fn request_of<K, V, D>(call: Growth<K, V>) -> Request<K, V, D>
 }
 
 /// The phase behind a find of a key that is present.
-fn present_phase<K: Drop, V: Drop, D: Drop, T>(
-    call: Keyed<K, V, D>,
-    slot: usize,
-) -> Phase<K, V, D, T>
-    ensures { (room : _) → result ≡ found_phase (request.Keyed call) (Some slot) room }
+fn present_phase<K: Drop, V: Drop, D: Drop, T>(call: Keyed<K, V, D>) -> Phase<K, V, D, T>
+    ensures { (room : _) → result ≡ found_phase (request.Keyed call) true room }
 {
     match call {
-        Keyed::View(key, deed) => Phase::View(slot, key, deed),
+        Keyed::View(key, deed) => Phase::View(key, deed),
         Keyed::ContainsKey(_) => Phase::Release(Answer::Flag(true)),
-        call => Phase::Apply(slot, call),
+        call => Phase::Apply(call),
     }
 }
 
 /// The phase behind a find of a key that is absent.
 fn absent_phase<K: Drop, V: Drop, D: Drop, T>(call: Keyed<K, V, D>, room: bool) -> Phase<K, V, D, T>
-    ensures { result ≡ found_phase (request.Keyed call) None room }
+    ensures { result ≡ found_phase (request.Keyed call) false room }
 {
     match call {
         Keyed::Insert(key, value) if room => Phase::Append(key, value),
@@ -345,7 +330,7 @@ fn find_nothing<K: Drop, V, D, T>(
     begin: Begin<K>,
     room: bool,
 ) -> (Phase<K, V, D, T>, Option<Guard<K>>)
-    ensures { result ≡ (found_phase (request.Begin begin) None room, found_guard {V = V} {D = D} (request.Begin begin) None room) }
+    ensures { result ≡ (found_phase (request.Begin begin) false room, found_guard {V = V} {D = D} (request.Begin begin) false room) }
 {
     match begin {
         Begin::Entry(key) if room => (Phase::Answer(Answer::Vacant), Some(Guard::Vacant(key))),
@@ -354,39 +339,35 @@ fn find_nothing<K: Drop, V, D, T>(
     }
 }
 
-/// The phase behind a find, and the guard that it gives.
+/// The phase behind a find, and the guard that it gives, by whether the key is present and whether there is room for it.
 pub fn found<K: Drop, V: Drop, D: Drop, T>(
     request: Request<K, V, D>,
-    slot: Option<usize>,
+    present: bool,
     room: bool,
 ) -> (Phase<K, V, D, T>, Option<Guard<K>>)
-    ensures { result ≡ (found_phase request slot room, found_guard request slot room) }
+    ensures { result ≡ (found_phase request present room, found_guard request present room) }
 {
-    match (request, slot) {
-        (Request::Keyed(call), Some(slot)) => (present_phase(call, slot), None),
-        (Request::Keyed(call), None) => (absent_phase(call, room), None),
-        (Request::Begin(begin), Some(slot)) => {
-            let guard = Guard::Pair(opening_way(begin), slot);
+    match (request, present) {
+        (Request::Keyed(call), true) => (present_phase(call), None),
+        (Request::Keyed(call), false) => (absent_phase(call, room), None),
+        (Request::Begin(begin), true) => {
+            let guard = Guard::Pair(opening_way(begin));
             (Phase::Answer(Answer::Held), Some(guard))
         }
-        (Request::Begin(begin), None) => find_nothing(begin, room),
+        (Request::Begin(begin), false) => find_nothing(begin, room),
     }
 }
 
 /// How many of its calls the block that a find lists has done, if it lists one.
-pub fn found_done<K, V, D>(
-    request: &Request<K, V, D>,
-    slot: Option<usize>,
-    room: bool,
-) -> Option<usize>
-    ensures { result ≡ found_done request.now slot room }
+pub fn found_done<K, V, D>(request: &Request<K, V, D>, present: bool, room: bool) -> Option<usize>
+    ensures { result ≡ found_done request.now present room }
 {
-    match (request, slot) {
+    match (request, present) {
         (Request::Keyed(Keyed::ContainsKey(_)), _) => Some(1),
-        (Request::Keyed(Keyed::View(_, _)), Some(_)) => None,
-        (Request::Keyed(Keyed::Insert(_, _)), None) => { if room { Some(0) } else { None } }
-        (Request::Keyed(_), Some(_)) => Some(0),
-        (Request::Begin(Begin::Entry(_)), None) => { if room { Some(1) } else { None } }
+        (Request::Keyed(Keyed::View(_, _)), true) => None,
+        (Request::Keyed(Keyed::Insert(_, _)), false) => { if room { Some(0) } else { None } }
+        (Request::Keyed(_), true) => Some(0),
+        (Request::Begin(Begin::Entry(_)), false) => { if room { Some(1) } else { None } }
         _ => Some(1),
     }
 }

@@ -11,9 +11,8 @@ use Rattle.mapworld_calls.specs.declared.reply.Reply.{Reply}
 use Rattle.mapworld_calls.specs.Setup.{Setup}
 use Rattle.mapworld_calls.specs.Placed.{answered_of, IsSessionDone, IsDoneWithin, StaysListed, OnlyAdds, WellPlaced}
 use Rattle.mapworld_calls.proofs.Lists.{slice_get-set_same, slice_get-set_other, slice_get-push_below}
-use Rattle.mapworld_state.specs.declared.place.Phase.{Phase}
 use Rattle.mapworld_state.specs.declared.step.Step.{Step}
-use Rattle.mapworld_state.specs.declared.place.Place.{Place}
+use Rattle.mapworld_state.specs.Places.{Place}
 use Rattle.mapworld_state.specs.State.{State, threads_of, started_of, next_step}
 use Rattle.mapworld_state.specs.Moves.{start_phase, start_counts, request_of, found_done, stepped, ListsBlock, CountsCall, EndsAt, EndsBlock}
 use Rattle.mapworld_state.specs.Steps.{IsStep, start, admit, find, find_grows, find_refused, deed_appends, deed_applies, deed_views, deed_reads, deed_changes, deed_fills, downgrade, release, answers}
@@ -60,7 +59,7 @@ done-below {K} {V} {D} x steps started bs replies h i b at = let g = h.placed i 
     below (ask.Begin g) s = last b.done.value refl s
     below (ask.Held g) s = absurd s
 
-module _ {K V S D T A : Type 0} (x : Setup K V D T) (w : State K V S D T A) (sound : Sound x w) (t : ℕ) (p : Place K V D T A) (at : slice_get w.places t ≡ Some p) where
+module _ {K V S D T : Type 0} (x : Setup K V D T) (w : State K V S D T) (sound : Sound x w) (t : ℕ) (p : Place K V D T) (at : slice_get w.places t ≡ Some p) where
   own : (i : ℕ) (b : Block K) → p.block ≡ Some i → slice_get w.blocks i ≡ Some b → b.thread ≡ t
   own i b mine listed = let o = (sound.stands t p at).own_block i mine in ap (λ z. z.thread) (same_Some b o.0 (sym listed ∙ o.1)) ∙ o.2
 
@@ -118,16 +117,16 @@ module _ {K V S D T A : Type 0} (x : Setup K V D T) (w : State K V S D T A) (sou
       (cases_Bool (h.0.call == p.next))) h.4
 
 -- what one step leaves of what was there
-pub record Step-adds {K V S D T A : Type 0} (w w' : State K V S D T A) (s : Step) : Type 0 where
+pub record Step-adds {K V S D T : Type 0} (w w' : State K V S D T) (s : Step) : Type 0 where
   pub steps : w'.steps ≡ w.steps ++ s ∷ []
   pub blocks : BlocksStay w.blocks w'.blocks
   pub replies : (more : List (Reply K V T)) × (w'.replies ≡ w.replies ++ more)
   pub fixed : StaysFixed w w'
 
-module _ {K V S D T A : Type 0} (x : Setup K V D T) (w : State K V S D T A) (s : Step) (w' : State K V S D T A) (sound : Sound x w) where
-  fixed-by : (p : Place K V D T A) (tables : _) (holds : _) (bs : List (Block K)) (rs : List (Reply K V T)) → length tables ≡ length w.tables
+module _ {K V S D T : Type 0} (x : Setup K V D T) (w : State K V S D T) (s : Step) (w' : State K V S D T) (sound : Sound x w) where
+  fixed-by : (p : Place K V D T) (tables : _) (holds : _) (bs : List (Block K)) (rs : List (Reply K V T)) → length tables ≡ length w.tables
       → w' ≡ record (stepped w s p) { tables = tables; holds = holds; blocks = bs; replies = rs } → BlocksStay w.blocks bs → (more : List (Reply K V T)) × (rs ≡ w.replies ++ more) → Step-adds w w' s
-  fixed-by p tables holds bs rs shards after blocks more = subst (λ (z : State K V S D T A). Step-adds w z s) (sym after) (record {
+  fixed-by p tables holds bs rs shards after blocks more = subst (λ (z : State K V S D T). Step-adds w z s) (sym after) (record {
     steps = refl;
     blocks = blocks;
     replies = more;
@@ -143,8 +142,8 @@ module _ {K V S D T A : Type 0} (x : Setup K V D T) (w : State K V S D T A) (s :
   step-adds (admit h) = fixed-by _ w.tables _ w.blocks w.replies refl h.after (blocks-same w.blocks w.blocks refl) nothing
   step-adds (find h) = fixed-by _ w.tables w.holds h.blocks w.replies refl h.after (listed-stays x w sound s.thread h.place h.stands h.done h.blocks h.listed) nothing
   step-adds (find_grows h) = fixed-by _ (slice_set w.tables h.place.shard h.grown) w.holds h.blocks w.replies (length-set w.tables h.place.shard h.grown) h.after
-      (listed-stays x w sound s.thread h.place h.stands (found_done {D = D} (request_of h.call) None true) h.blocks h.listed) nothing
-  step-adds (find_refused h) = fixed-by _ (slice_set w.tables h.place.shard h.kept) w.holds w.blocks w.replies (length-set w.tables h.place.shard h.kept) h.after (blocks-same w.blocks w.blocks refl) nothing
+      (listed-stays x w sound s.thread h.place h.stands (found_done {D = D} (request_of h.call) false true) h.blocks h.listed) nothing
+  step-adds (find_refused h) = fixed-by _ w.tables w.holds w.blocks w.replies refl h.after (blocks-same w.blocks w.blocks refl) nothing
   step-adds (deed_appends h) = fixed-by _ (slice_set w.tables h.place.shard h.changed) w.holds h.blocks w.replies (length-set w.tables h.place.shard h.changed) h.after
       (counted-stays x w sound s.thread h.place h.stands h.place.block h.blocks (λ i e. e) h.counted) nothing
   step-adds (deed_applies h) = fixed-by _ (slice_set w.tables h.place.shard h.changed) w.holds h.blocks w.replies (length-set w.tables h.place.shard h.changed) h.after
@@ -164,10 +163,10 @@ module _ {K V S D T A : Type 0} (x : Setup K V D T) (w : State K V S D T A) (s :
   step-adds (answers h) = fixed-by _ w.tables w.holds h.blocks (w.replies ++ _ ∷ []) refl h.after (ended-stays x w sound s.thread h.place h.stands h.place.block (next_step w) h.blocks refl h.ended) (_ ∷ [], refl)
 
 -- what is added over a run
-pub adds-none : {K V S D T A : Type 0} (w : State K V S D T A) → OnlyAdds (threads_of w) (threads_of w) w.blocks w.blocks w.replies w.replies
+pub adds-none : {K V S D T : Type 0} (w : State K V S D T) → OnlyAdds (threads_of w) (threads_of w) w.blocks w.blocks w.replies w.replies
 adds-none w = record { steps_added = ([], sym (append-nil (threads_of w))); blocks_stay = blocks-same w.blocks w.blocks refl; replies_stay = ([], sym (append-nil w.replies)) }
 
-pub adds-more : {K V S D T A : Type 0} (v w w' : State K V S D T A) (s : Step) → OnlyAdds (threads_of v) (threads_of w) v.blocks w.blocks v.replies w.replies → Step-adds w w' s
+pub adds-more : {K V S D T : Type 0} (v w w' : State K V S D T) (s : Step) → OnlyAdds (threads_of v) (threads_of w) v.blocks w.blocks v.replies w.replies → Step-adds w w' s
     → OnlyAdds (threads_of v) (threads_of w') v.blocks w'.blocks v.replies w'.replies
 adds-more v w w' s h g = record {
   steps_added = (
@@ -193,8 +192,5 @@ adds-more v w w' s h g = record {
   replies_stay = (h.replies_stay.0 ++ g.replies.0, g.replies.1 ∙ ap (λ z. z ++ g.replies.0) h.replies_stay.1 ∙ append_assoc v.replies h.replies_stay.0 g.replies.0);
 }
 
-pub fixed-none : {K V S D T A : Type 0} (w : State K V S D T A) → StaysFixed w w
-fixed-none w = record { hasher = refl; shards = refl; opening = refl; programs = refl }
-
-pub fixed-more : {K V S D T A : Type 0} (v w w' : State K V S D T A) → StaysFixed v w → StaysFixed w w' → StaysFixed v w'
+pub fixed-more : {K V S D T : Type 0} (v w w' : State K V S D T) → StaysFixed v w → StaysFixed w w' → StaysFixed v w'
 fixed-more v w w' h g = record { hasher = g.hasher ∙ h.hasher; shards = g.shards ∙ h.shards; opening = g.opening ∙ h.opening; programs = g.programs ∙ h.programs }

@@ -1,6 +1,6 @@
 -- The answer of a call, which ends it.
 use Rattle.std.proofs.Common.{◌≡◌, ℕ, ◌+◌, ◌-◌, ◌<◌, ◌≤◌, ◌⊎◌, ◌==◌, inl, inr, ⊎_elim, Bool, true, false, if◌then◌else◌, List, [], ◌∷◌, ◌++◌, length, take, Option, Some, None, slice_get, slice_set, MatchBool, refl, ap, sym, ◌∙◌, subst, arith}
-use Rattle.std.specs.declared.vec.Vec.{Vec}
+use Rattle.mapworld_state.specs.Shards.{ShardPairs}
 use Rattle.std.proofs.lemmas.Option.{same_Some, none-some}
 use Rattle.std.proofs.lemmas.Bool.{cases_eq, cases_Bool, eqb-true, eqb-false}
 use Rattle.mapworld_calls.specs.declared.ask.Ask.{Ask}
@@ -11,7 +11,7 @@ use Rattle.mapworld_calls.specs.declared.reply.Reply.{Reply}
 use Rattle.mapworld_calls.specs.declared.reply.Answer.{Answer}
 use Rattle.mapworld_calls.specs.Calls.{pair_in}
 use Rattle.mapworld_calls.specs.Setup.{Setup, Laws, ask_at, session_of}
-use Rattle.mapworld_calls.specs.Replay.{reached, at_key, found, contents}
+use Rattle.mapworld_calls.specs.Replay.{reached, block_key, at_key, found, contents}
 use Rattle.mapworld_calls.specs.Agrees.{HasNoBlock, IsAnsweredBy, IsAnswered}
 use Rattle.mapworld_calls.specs.Placed.{IsStepOf, IsKeyedDone, IsDoneWithin}
 use Rattle.mapworld_calls.proofs.Lists.{slice_get-set_same, slice_get-set_other, slice_get-set_cases, slice_get-push_cases}
@@ -20,7 +20,7 @@ use Rattle.mapworld_calls.proofs.Kept.{Keeps, none-grown, keeps-grown, answered-
 use Rattle.mapworld_state.specs.declared.step.Step.{Step}
 use Rattle.mapworld_state.specs.declared.place.Phase.TheVariants as phase
 use Rattle.mapworld_state.specs.declared.place.Guard.{Guard}
-use Rattle.mapworld_state.specs.declared.place.Place.{Place}
+use Rattle.mapworld_state.specs.Places.{Place}
 use Rattle.mapworld_state.specs.State.{State, threads_of, started_of, next_step}
 use Rattle.mapworld_state.specs.Moves.{stepped, EndsAt, EndsBlock}
 use Rattle.mapworld_state.specs.Steps.{Answers}
@@ -46,7 +46,7 @@ pub record Ended {K V D T : Type 0} (x : Setup K V D T) (bs bs' : List (Block K)
 same-call : {K : Type 0} (b : Block K) → SameCall b b
 same-call b = record { thread = refl; call = refl; visit = refl; start = refl; position = refl; visited = refl }
 
-module _ {K V D T A : Type 0} (x : Setup K V D T) (laws : Laws x) (bs bs' : List (Block K)) (t : ℕ) (p : Place K V D T A) (own : HasOwnBlock bs t p) (owns : OwnsBlocks bs t p) (end : ℕ) where
+module _ {K V D T : Type 0} (x : Setup K V D T) (laws : Laws x) (bs bs' : List (Block K)) (t : ℕ) (p : Place K V D T) (own : HasOwnBlock bs t p) (owns : OwnsBlocks bs t p) (end : ℕ) where
   ended-none : p.block ≡ None → bs' ≡ bs → Ended x bs bs' t p.next end
   ended-none none same = rw same (record {
     was = λ i c at. (
@@ -126,8 +126,8 @@ module _ {K V D T A : Type 0} (x : Setup K V D T) (laws : Laws x) (bs bs' : List
       (cases_Bool (h.0.call == p.next)))
 
 -- a session goes on where its block shows its end
-module _ {K V D T A : Type 0} (x : Setup K V D T) (bs bs' : List (Block K)) (tables : List (Vec (K × V) A)) (t m end : ℕ) (p p' : Place K V D T A) (e : Ended x bs bs' t m end)
-    (hold : p'.hold ≡ p.hold) (shard : p'.shard ≡ p.shard) (slot : p'.guard ≡ p.guard) where
+module _ {K V D T : Type 0} (x : Setup K V D T) (bs bs' : List (Block K)) (tables : List (ShardPairs K V)) (t m end : ℕ) (p p' : Place K V D T) (e : Ended x bs bs' t m end)
+    (hold : p'.holds ≡ p.holds) (shard : p'.shard ≡ p.shard) (slot : p'.guard ≡ p.guard) where
   ended-ready : (n : ℕ) (o block : Option ℕ) → IsInSession x bs tables t p n o block → IsInSession x bs' tables t p' n o block
   ended-ready n (Some c) (Some i) h =
       let k = e.comes i h.block h.listed h.thread in
@@ -140,14 +140,17 @@ module _ {K V D T A : Type 0} (x : Setup K V D T) (bs bs' : List (Block K)) (tab
         done = k.3 ∙ h.done;
         guard = subst (λ (f : Option (K × V)). GuardIs tables p' p'.guard (reached x t c (n - c) f)) (sym k.4)
             (subst (λ (z : Option (Guard K)). GuardIs tables p' z (reached x t c (n - c) (found x bs i h.block))) (sym slot) (guard-moved x p p' tables p.guard (reached x t c (n - c) (found x bs i h.block)) hold shard h.guard));
+        there = λ g key e' is.
+            let has = h.there g key (sym slot ∙ e') (let same : block_key x k.0 ≡ block_key x h.block = rw (k.2.thread, k.2.call) refl in sym same ∙ is) in
+            record { table = has.table; held = rw shard has.held; so = has.so ∙ ap (λ o. pair_in (reached x t c (n - c) o)) (sym k.4) };
         settled = settled-moved x p p' bs bs' i h.block k.0 (rw (k.2.thread, k.2.call) refl) (alone-moved x p p' hold shard) shard (e.effect.last i h.block h.listed tt) h.settled;
       }
   ended-ready n (Some c) None h = (slot ∙ h.0, e.none t c h.1)
   ended-ready n None block h = (slot ∙ h.0, h.1)
 
-module _ {K V S D T A : Type 0} (x : Setup K V D T) (laws : Laws x) (w : State K V S D T A) (s : Step) (w' : State K V S D T A) (sound : Sound x w) where
+module _ {K V S D T : Type 0} (x : Setup K V D T) (laws : Laws x) (w : State K V S D T) (s : Step) (w' : State K V S D T) (sound : Sound x w) where
   -- the block of a keyed call that is answered has done it
-  whole-done : (p : Place K V D T A) → slice_get w.places s.thread ≡ Some p → (a : Ask K V D) (r : Answer K V T) → IsAnsweredBy x w.blocks s.thread p.next a r → ask_at x s.thread p.next ≡ Some a
+  whole-done : (p : Place K V D T) → slice_get w.places s.thread ≡ Some p → (a : Ask K V D) (r : Answer K V T) → IsAnsweredBy x w.blocks s.thread p.next a r → ask_at x s.thread p.next ≡ Some a
       → (i : ℕ) (b : Block K) (k : Keyed K V D) → slice_get w.blocks i ≡ Some b → b.thread ≡ s.thread → b.call ≡ p.next → ask_at x b.thread b.call ≡ Some (ask.Keyed k) → b.done.value ≡ 1
   whole-done p at (ask.Keyed k') r h asked i b k hb thread call asked' =
       let st = sound.stands s.thread p at in
@@ -178,7 +181,7 @@ module _ {K V S D T A : Type 0} (x : Setup K V D T) (laws : Laws x) (w : State K
       let st = sound.stands s.thread p a.stands in
       let cl = claim-at x (threads_of w) w.blocks w.replies w.tables s.thread p (phase.Answer a.answer) a.before st in
       let call = cl.1 in
-      let p' : Place K V D T A = record p { next = p.next + 1; started = None; block = block_after p; phase = phase.Rest } in
+      let p' : Place K V D T = record p { next = p.next + 1; started = None; block = block_after p; phase = phase.Rest } in
       let r : Reply K V T = record { thread = s.thread; call = p.next; start = a.start; end = next_step w; answer = a.answer } in
       let e = ended-by x laws w.blocks a.blocks s.thread p st.own_block st.owns (next_step w) p.block refl a.ended in
       let number : next_step w ≡ length (threads_of w) + 1 = ap (λ k. k + 1) (sym (length-map (λ (z : Step). z.thread) w.steps)) in
@@ -206,7 +209,7 @@ module _ {K V S D T A : Type 0} (x : Setup K V D T) (laws : Laws x) (w : State K
             inl (rw o.2.call (elim (st.owns i o.0 o.1 (sym o.2.thread ∙ thread)) [ inl lt ↦ omega arith | inr mine ↦ let z = mine.0 in omega arith ]));
         claim = (refl, cl.2, ended-ready x w.blocks a.blocks w.tables s.thread p.next (next_step w) p p' e refl refl refl (p.next + 1) (session_of x s.thread (p.next + 1)) (block_after p) cl.4);
       })
-      (tables-same x w.blocks a.blocks w.tables w.tables sound.tables e.contents_stay)
+      (tables-same x w.blocks a.blocks w.tables sound.tables e.contents_stay)
       (holds-same w.places w.holds sound.holds s.thread p p' a.stands refl)
       (placed-answer x (threads_of w) (started_of w) (started_of (stepped w s p')) w.blocks a.blocks w.replies r
       (λ t ne. started-other x w s p p' a.stands t ne)

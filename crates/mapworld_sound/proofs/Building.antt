@@ -1,7 +1,7 @@
 -- A world behind a step is sound where its parts are. Facts that every kind of step needs.
 use Rattle.std.proofs.Common.{◌≡◌, ◌≢◌, ℕ, zero, suc, ◌+◌, ◌-◌, ◌<◌, ◌≤◌, inl, inr, ⊎_elim, Bool, true, false, if◌then◌else◌, ◌==◌, List, [], ◌∷◌, ◌++◌, length, drop, map, Option, Some, None, slice_get, slice_set, refl, ap, sym, ◌∙◌, subst, arith, add-one, add-zero}
 use Rattle.std.specs.Option.{option_and_then}
-use Rattle.std.specs.declared.vec.Vec.{Vec}
+use Rattle.mapworld_state.specs.Shards.{ShardPairs, Puts, Grown}
 use Rattle.std.proofs.lemmas.Bool.{cases_Bool, cases_eq, eq-eqb}
 use Rattle.mapworld_calls.specs.declared.ask.Ask.{Ask}
 use Rattle.mapworld_calls.specs.declared.block.Block.{Block}
@@ -23,11 +23,12 @@ use Rattle.mapworld_state.specs.declared.step.Step.{Step}
 use Rattle.mapworld_state.specs.declared.place.Phase.{Phase}
 use Rattle.mapworld_state.specs.declared.place.Guard.{Guard}
 use Rattle.mapworld_state.specs.declared.place.Guard.TheVariants as guard
-use Rattle.mapworld_state.specs.declared.place.Place.{Place}
+use Rattle.mapworld_state.specs.Places.{Place}
 use Rattle.mapworld_state.specs.State.{State, threads_of, started_of}
 use Rattle.mapworld_state.specs.Moves.{way_mode, stepped}
 use Rattle.mapworld_state.specs.Sound.{is_resting, block_after, HoldsShard, GuardIs, IsOnShard, IsSettled, IsInSessionOf, IsInSession, IsReady, IsInCall, Claim, Stands, TablesAgree, Sound}
 use Rattle.mapworld_state.specs.Held.{HoldsMatch}
+use Rattle.mapworld_state.proofs.Tables.{pair_of-is, pair_of-at}
 use Rattle.mapworld_sound.proofs.Effects.{Effect}
 use Rattle.mapworld_sound.proofs.Others.{stands-other}
 use Rattle.mapworld_sound.proofs.Timing.{count_by-before}
@@ -45,7 +46,7 @@ drop-first (y ∷ ys) (suc n) a rest e =
     let r = drop-first ys n a rest e in
     (r.0, let same : suc n + 1 ≡ suc (n + 1) = omega arith in rw same r.1, let lt = r.2 in omega arith)
 
-and_then-at : {X Y : Type 0} (f : X → Option Y) (o : Option X) (v : X) → o ≡ Some v → option_and_then f o ≡ f v
+pub and_then-at : {X Y : Type 0} (f : X → Option Y) (o : Option X) (v : X) → o ≡ Some v → option_and_then f o ≡ f v
 and_then-at f o v e = rw e
 
 module _ {K V D T : Type 0} (x : Setup K V D T) (t : ℕ) (program : List (Ask K V D)) (has : slice_get x.programs t ≡ Some program) where
@@ -90,17 +91,17 @@ last-of : {K V D T : Type 0} (x : Setup K V D T) (bs : List (Block K)) (i : ℕ)
 last-of x bs i b c key h j d lt at m n hm hn = h j d lt at m n (sym key ∙ hm) hn
 
 -- the facts of a place do not depend on what a step leaves alone
-module _ {K V D T A : Type 0} (x : Setup K V D T) (p p' : Place K V D T A) where
+module _ {K V D T : Type 0} (x : Setup K V D T) (p p' : Place K V D T) where
   pub in_call-moved : (threads : List ℕ) (t : ℕ) (a : Ask K V D) → p'.next ≡ p.next → p'.closes ≡ p.closes → p'.started ≡ p.started → IsInCall x threads t p a → IsInCall x threads t p' a
   in_call-moved threads t a next closes started h =
       record { asked = rw next h.asked; closes = closes ∙ h.closes; start = h.start; started = started ∙ h.started; begun = h.begun }
 
-  pub holds-moved : (m : Mode) → p'.hold ≡ p.hold → p'.shard ≡ p.shard → HoldsShard p m → HoldsShard p' m
+  pub holds-moved : (m : Mode) → p'.holds ≡ p.holds → p'.shard ≡ p.shard → HoldsShard p m → HoldsShard p' m
   holds-moved m hold shard h = record { hold = h.hold; has = hold ∙ h.has; shard = h.shard ∙ sym shard; mode_is = h.mode_is }
 
-  pub guard-moved : (tables : List (Vec (K × V) A)) (g : Option (Guard K)) (at : At K V) → p'.hold ≡ p.hold → p'.shard ≡ p.shard → GuardIs tables p g at → GuardIs tables p' g at
+  pub guard-moved : (tables : List (ShardPairs K V)) (g : Option (Guard K)) (at : At K V) → p'.holds ≡ p.holds → p'.shard ≡ p.shard → GuardIs tables p g at → GuardIs tables p' g at
   guard-moved tables None at hold shard h = h
-  guard-moved tables (Some (guard.Pair kind i)) at hold shard h = (h.0, h.1, holds-moved (way_mode kind) hold shard h.2, rw shard h.3)
+  guard-moved tables (Some (guard.Pair kind)) at hold shard h = (h.0, h.1, holds-moved (way_mode kind) hold shard h.2)
   guard-moved tables (Some (guard.Vacant k)) at hold shard h = (h.0, holds-moved Exclusive hold shard h.1, rw shard h.2)
 
   pub settled-moved : (bs bs' : List (Block K)) (i : ℕ) (b c : Block K) → block_key x c ≡ block_key x b → (HoldsShard p' Exclusive → HoldsShard p Exclusive) → p'.shard ≡ p.shard
@@ -110,10 +111,10 @@ module _ {K V D T A : Type 0} (x : Setup K V D T) (p p' : Place K V D T A) where
     last = λ holds. last-of x bs' i b c key (stays (h.last (alone holds)));
   }
 
-  pub alone-moved : p'.hold ≡ p.hold → p'.shard ≡ p.shard → HoldsShard p' Exclusive → HoldsShard p Exclusive
+  pub alone-moved : p'.holds ≡ p.holds → p'.shard ≡ p.shard → HoldsShard p' Exclusive → HoldsShard p Exclusive
   alone-moved hold shard h = record { hold = h.hold; has = sym hold ∙ h.has; shard = h.shard ∙ shard; mode_is = h.mode_is }
 
-  session-moved : (bs : List (Block K)) (tables : List (Vec (K × V) A)) (t n c : ℕ) (block : Option ℕ) → p'.hold ≡ p.hold → p'.shard ≡ p.shard → p'.guard ≡ p.guard
+  session-moved : (bs : List (Block K)) (tables : List (ShardPairs K V)) (t n c : ℕ) (block : Option ℕ) → p'.holds ≡ p.holds → p'.shard ≡ p.shard → p'.guard ≡ p.guard
       → IsInSessionOf x bs tables t p n c block → IsInSessionOf x bs tables t p' n c block
   session-moved bs tables t n c (Some i) hold shard slot h = record {
     block = h.block;
@@ -123,87 +124,88 @@ module _ {K V D T A : Type 0} (x : Setup K V D T) (p p' : Place K V D T A) where
     below = h.below;
     done = h.done;
     guard = subst (λ (o : Option (Guard K)). GuardIs tables p' o (reached x t c (n - c) (found x bs i h.block))) (sym slot) (guard-moved tables p.guard (reached x t c (n - c) (found x bs i h.block)) hold shard h.guard);
+    there = λ g key e is. let has = h.there g key (sym slot ∙ e) is in record { table = has.table; held = rw shard has.held; so = has.so };
     settled = settled-moved bs bs i h.block h.block refl (alone-moved hold shard) shard (λ z. z) h.settled;
   }
   session-moved bs tables t n c None hold shard slot h = (slot ∙ h.0, h.1)
 
-  in_session-moved : (bs : List (Block K)) (tables : List (Vec (K × V) A)) (t n : ℕ) (o : Option ℕ) (block : Option ℕ) → p'.hold ≡ p.hold → p'.shard ≡ p.shard → p'.guard ≡ p.guard
+  in_session-moved : (bs : List (Block K)) (tables : List (ShardPairs K V)) (t n : ℕ) (o : Option ℕ) (block : Option ℕ) → p'.holds ≡ p.holds → p'.shard ≡ p.shard → p'.guard ≡ p.guard
       → IsInSession x bs tables t p n o block → IsInSession x bs tables t p' n o block
   in_session-moved bs tables t n (Some c) block hold shard slot h = session-moved bs tables t n c block hold shard slot h
   in_session-moved bs tables t n None block hold shard slot h = (slot ∙ h.0, h.1)
 
-  pub ready-moved : (bs : List (Block K)) (tables : List (Vec (K × V) A)) (t n : ℕ) (block : Option ℕ) → p'.hold ≡ p.hold → p'.shard ≡ p.shard → p'.guard ≡ p.guard
+  pub ready-moved : (bs : List (Block K)) (tables : List (ShardPairs K V)) (t n : ℕ) (block : Option ℕ) → p'.holds ≡ p.holds → p'.shard ≡ p.shard → p'.guard ≡ p.guard
       → IsReady x bs tables t p n block → IsReady x bs tables t p' n block
   ready-moved bs tables t n block hold shard slot h = in_session-moved bs tables t n (session_of x t n) block hold shard slot h
 
-module _ {K V D T A : Type 0} (x : Setup K V D T) (bs bs' : List (Block K)) (tables tables' : List (Vec (K × V) A)) (agree : TablesAgree x bs tables) where
+module _ {K V D T : Type 0} (x : Setup K V D T) (bs bs' : List (Block K)) (tables : List (ShardPairs K V)) (agree : TablesAgree x bs tables) where
   -- no key's contents change
   pub tables-same : ((q : K) → contents x bs' q ≡ contents x bs q) → TablesAgree x bs' tables
   tables-same same = record { routed = agree.routed; distinct = agree.distinct; contents_are = λ q table at. agree.contents_are q table at ∙ sym (same q) }
 
-  -- one shard's list changes, and with it the contents of that shard alone
-  pub tables-set : (i : ℕ) (table changed : Vec (K × V) A) → slice_get tables i ≡ Some table
-      → ((j : ℕ) (pair : K × V) → slice_get changed.items j ≡ Some pair → x.route pair.0 ≡ i)
+module _ {K V D T : Type 0} (x : Setup K V D T) (laws : Laws x) (bs bs' : List (Block K)) (tables : List (ShardPairs K V)) (agree : TablesAgree x bs tables) where
+  -- one shard's pairs change, and with them the contents of that shard alone
+  tables-set : (i : ℕ) (table changed : ShardPairs K V) → slice_get tables i ≡ Some table
       → AreDistinct x.eq changed.items
       → ((q : K) → x.route q ≡ i → pair_of x.eq changed.items q ≡ contents x bs' q)
-      → ((q : K) → x.route q ≢ i → contents x bs' q ≡ contents x bs q)
+      → ((q : K) → x.route q ≢ i → (pair_of x.eq changed.items q ≡ pair_of x.eq table.items q) × (contents x bs' q ≡ contents x bs q))
       → TablesAgree x bs' (slice_set tables i changed)
-  tables-set i table changed at routed distinct here elsewhere = record {
+  tables-set i table changed at distinct here elsewhere = record {
     routed = λ j n other pair ht hp. elim (slice_get-set_cases tables i j table other changed at ht) [
       | inl own ↦ routed n pair (ap (λ z. slice_get z.items n) (sym own.1) ∙ hp) ∙ sym own.0
       | inr old ↦ agree.routed j n other pair old.1 hp
     ];
     distinct = λ j other ht. elim (slice_get-set_cases tables i j table other changed at ht) [
-      | inl own ↦ subst (λ (z : Vec (K × V) A). AreDistinct x.eq z.items) (sym own.1) distinct
+      | inl own ↦ subst (λ (z : ShardPairs K V). AreDistinct x.eq z.items) (sym own.1) distinct
       | inr old ↦ agree.distinct j other old.1
     ];
     contents_are = λ q other ht. elim (slice_get-set_cases tables i (x.route q) table other changed at ht) [
       | inl own ↦ ap (λ z. pair_of x.eq z.items q) own.1 ∙ here q own.0
-      | inr old ↦ agree.contents_are q other old.1 ∙ sym (elsewhere q old.0)
+      | inr old ↦ agree.contents_are q other old.1 ∙ sym (elsewhere q old.0).1
     ];
   }
+    where
+      -- a pair is found by its own key, so it is of the shard, or stood there before
+      routed : (n : ℕ) (pair : K × V) → slice_get changed.items n ≡ Some pair → x.route pair.0 ≡ i
+      routed n pair hp = ⊎_elim
+          (λ own. own)
+          (λ ne.
+          let finds = pair_of-at x.eq laws.equivalence changed.items n pair pair.0 distinct hp (laws.equivalence.refl pair.0) in
+          let old = pair_of-is x.eq laws.equivalence table.items pair.0 pair (sym (elsewhere pair.0 ne).0 ∙ finds) in
+          agree.routed i old.0 table pair at old.1)
+          (cases_eq (x.route pair.0) i)
 
-  -- one shard's list is another value with the same pairs
-  pub tables-rewritten' : (i : ℕ) (table changed : Vec (K × V) A) → slice_get tables i ≡ Some table → changed.items ≡ table.items
+  -- a shard has more room, and no key's contents change
+  pub tables-grown : (i : ℕ) (table changed : ShardPairs K V) → slice_get tables i ≡ Some table → Grown x.eq table changed
       → ((q : K) → contents x bs' q ≡ contents x bs q) → TablesAgree x bs' (slice_set tables i changed)
-  tables-rewritten' i table changed at same contents =
-      tables-set i table changed at
-      (λ j pair h. agree.routed i j table pair at (ap (λ z. slice_get z j) (sym same) ∙ h))
-      (subst (λ (z : List (K × V)). AreDistinct x.eq z) (sym same) (agree.distinct i table at))
-      (λ q here. ap (λ z. pair_of x.eq z q) same ∙ agree.contents_are q table (ap (λ n. slice_get tables n) here ∙ at) ∙ sym (contents q))
-      (λ q ne. contents q)
+  tables-grown i table changed at grown contents =
+      tables-set i table changed at grown.distinct
+      (λ q here. grown.found q ∙ agree.contents_are q table (ap (λ n. slice_get tables n) here ∙ at) ∙ sym (contents q))
+      (λ q ne. (grown.found q, contents q))
 
-pub tables-rewritten : {K V D T A : Type 0} (x : Setup K V D T) (bs bs' : List (Block K)) (tables : List (Vec (K × V) A)) (i : ℕ) (table changed : Vec (K × V) A) → slice_get tables i ≡ Some table → changed.items ≡ table.items
-    → TablesAgree x bs tables → ((q : K) → contents x bs' q ≡ contents x bs q) → TablesAgree x bs' (slice_set tables i changed)
-tables-rewritten x bs bs' tables i table changed at same agree contents = tables-rewritten' x bs bs' tables tables agree i table changed at same contents
-
--- a shard's changed list agrees with the replay where it has what a call leaves of its key, and what it had of all others
-pub tables-changed : {K V D T A : Type 0} (x : Setup K V D T) (laws : Laws x) (bs bs' : List (Block K)) (tables : List (Vec (K × V) A)) → TablesAgree x bs tables
-    → (key : K) (leaves : Option (K × V)) (i : ℕ) → i ≡ x.route key
-    → ((q : K) → x.eq key q ≡ true → contents x bs' q ≡ leaves) → ((q : K) → x.eq key q ≡ false → contents x bs' q ≡ contents x bs q)
-    → (table changed : Vec (K × V) A) → slice_get tables i ≡ Some table
-    → ((q : K) → pair_of x.eq changed.items q ≡ (if x.eq key q then leaves else pair_of x.eq table.items q))
-    → AreDistinct x.eq changed.items
-    → ((j : ℕ) (pair : K × V) → slice_get changed.items j ≡ Some pair → x.route pair.0 ≡ i)
-    → TablesAgree x bs' (slice_set tables i changed)
-tables-changed x laws bs bs' tables agree key leaves i here now still table changed held pairs distinct routed =
-    tables-set x bs bs' tables tables agree i table changed held routed distinct
-    (λ q at. ⊎_elim
-    (λ h. pairs q ∙ rw h (sym (now q h)))
-    (λ h. pairs q ∙ rw h (agree.contents_are q table (ap (λ n. slice_get tables n) at ∙ held) ∙ sym (still q h)))
-    (cases_Bool (x.eq key q)))
-    (λ q ne. ⊎_elim
-    (λ h. absurd (ne (sym (laws.routes key q h) ∙ sym here)))
-    (λ h. still q h)
-    (cases_Bool (x.eq key q)))
+  -- a shard agrees with the replay where it has what a call leaves of its key, and what it had of all others
+  pub tables-changed : (key : K) (leaves : Option (K × V)) (i : ℕ) → i ≡ x.route key
+      → ((q : K) → x.eq key q ≡ true → contents x bs' q ≡ leaves) → ((q : K) → x.eq key q ≡ false → contents x bs' q ≡ contents x bs q)
+      → (table changed : ShardPairs K V) → slice_get tables i ≡ Some table → Puts x.eq table changed key leaves
+      → TablesAgree x bs' (slice_set tables i changed)
+  tables-changed key leaves i here now still table changed held puts =
+      tables-set i table changed held puts.distinct
+      (λ q at. ⊎_elim
+      (λ h. puts.found q ∙ rw h (sym (now q h)))
+      (λ h. puts.found q ∙ rw h (agree.contents_are q table (ap (λ n. slice_get tables n) at ∙ held) ∙ sym (still q h)))
+      (cases_Bool (x.eq key q)))
+      (λ q ne. ⊎_elim
+      (λ h. absurd (ne (sym (laws.routes key q h) ∙ sym here)))
+      (λ h. (puts.found q ∙ rw h refl, still q h))
+      (cases_Bool (x.eq key q)))
 
 -- outside of every session
-pub ready-outside : {K V D T A : Type 0} (x : Setup K V D T) (bs : List (Block K)) (tables : List (Vec (K × V) A)) (t : ℕ) (p : Place K V D T A) (n : ℕ) (block : Option ℕ)
+pub ready-outside : {K V D T : Type 0} (x : Setup K V D T) (bs : List (Block K)) (tables : List (ShardPairs K V)) (t : ℕ) (p : Place K V D T) (n : ℕ) (block : Option ℕ)
     → session_of x t n ≡ None → p.guard ≡ None → block ≡ None → IsReady x bs tables t p n block
 ready-outside x bs tables t p n block outside slot none =
     subst (λ (o : Option ℕ). IsInSession x bs tables t p n o block) (sym outside) (slot, none)
 
-pub block_after-none : {K V D T A : Type 0} (p : Place K V D T A) → p.block ≡ None → block_after p ≡ None
+pub block_after-none : {K V D T : Type 0} (p : Place K V D T) → p.block ≡ None → block_after p ≡ None
 block_after-none p none = at p.closes
   where
     at : (b : Bool) → (if b then None else p.block) ≡ None
@@ -224,10 +226,10 @@ pub reply-below : {K V D T : Type 0} (x : Setup K V D T) (steps : List ℕ) (sta
 reply-below x steps started bs replies h i r at =
     rw (h.in_turn i r at) (count_by-before replies (λ z. z.thread == r.thread) i r at (eq-eqb r.thread r.thread refl))
 
-started-at : {K V D T A : Type 0} (o : Option (Place K V D T A)) (p : Place K V D T A) → o ≡ Some p → option_and_then (λ q. q.started) o ≡ p.started
+started-at : {K V D T : Type 0} (o : Option (Place K V D T)) (p : Place K V D T) → o ≡ Some p → option_and_then (λ q. q.started) o ≡ p.started
 started-at o p e = rw e
 
-module _ {K V S D T A : Type 0} (x : Setup K V D T) (w : State K V S D T A) (s : Step) (p p' : Place K V D T A) (at : slice_get w.places s.thread ≡ Some p) where
+module _ {K V S D T : Type 0} (x : Setup K V D T) (w : State K V S D T) (s : Step) (p p' : Place K V D T) (at : slice_get w.places s.thread ≡ Some p) where
   -- `started` shows the thread's place, and stays for all others
   pub started-own : started_of (stepped w s p') s.thread ≡ p'.started
   started-own = started-at (slice_get (slice_set w.places s.thread p') s.thread) p' (slice_get-set_same w.places s.thread p p' at)
@@ -244,14 +246,14 @@ module _ {K V S D T A : Type 0} (x : Setup K V D T) (w : State K V S D T A) (s :
       (λ ne. started-other t ne ∙ h)
       (cases_eq t s.thread)
 
-module _ {K V S D T A : Type 0} (x : Setup K V D T) (w : State K V S D T A) (s : Step) (p p' : Place K V D T A) (at : slice_get w.places s.thread ≡ Some p) (sound : Sound x w)
-    (bs' : List (Block K)) (tables' : List (Vec (K × V) A)) (holds' : Desks) (replies' : List (Reply K V T)) (F : Block K → Type 0) where
+module _ {K V S D T : Type 0} (x : Setup K V D T) (w : State K V S D T) (s : Step) (p p' : Place K V D T) (at : slice_get w.places s.thread ≡ Some p) (sound : Sound x w)
+    (bs' : List (Block K)) (tables' : List (ShardPairs K V)) (holds' : Desks) (replies' : List (Reply K V T)) (F : Block K → Type 0) where
   -- what a step leaves of other threads' facts
   pub record Leaves : Type 0 where
     pub effect : Effect x w.blocks bs' s.thread F
     pub count : (u : ℕ) → u ≢ s.thread → answered_of replies' u ≡ answered_of w.replies u
-    pub kept : (u : ℕ) (q : Place K V D T A) (m : Mode) → u ≢ s.thread → slice_get w.places u ≡ Some q → HoldsShard q m → slice_get tables' q.shard ≡ slice_get w.tables q.shard
-    pub foreign : (u : ℕ) (q : Place K V D T A) (b : Block K) → u ≢ s.thread → slice_get w.places u ≡ Some q → HoldsShard q Exclusive → IsOnShard x q b → F b
+    pub kept : (u : ℕ) (q : Place K V D T) (m : Mode) → u ≢ s.thread → slice_get w.places u ≡ Some q → HoldsShard q m → slice_get tables' q.shard ≡ slice_get w.tables q.shard
+    pub foreign : (u : ℕ) (q : Place K V D T) (b : Block K) → u ≢ s.thread → slice_get w.places u ≡ Some q → HoldsShard q Exclusive → IsOnShard x q b → F b
     pub shards : length tables' ≡ length w.tables
 
   pub sound-by : Leaves
@@ -279,13 +281,13 @@ module _ {K V S D T A : Type 0} (x : Setup K V D T) (w : State K V S D T A) (s :
       }
 
 -- a place's claim at the phase that it stands before
-module _ {K V D T A : Type 0} (x : Setup K V D T) (threads : List ℕ) (bs : List (Block K)) (replies : List (Reply K V T)) (tables : List (Vec (K × V) A)) (t : ℕ) (p : Place K V D T A)
+module _ {K V D T : Type 0} (x : Setup K V D T) (threads : List ℕ) (bs : List (Block K)) (replies : List (Reply K V T)) (tables : List (ShardPairs K V)) (t : ℕ) (p : Place K V D T)
     (f : Phase K V D T) (before : p.phase ≡ f) (h : Stands x threads bs replies tables t p) where
   pub claim-at : Claim x threads bs tables t p f
   claim-at = subst (λ (g : Phase K V D T). Claim x threads bs tables t p g) before h.claim
 
-  pub taken-at : p.asks.items ≡ drop (if is_resting f then p.next else p.next + 1) h.program
-  taken-at = subst (λ (g : Phase K V D T). p.asks.items ≡ drop (if is_resting g then p.next else p.next + 1) h.program) before h.asks_left
+  pub taken-at : p.asks ≡ drop (if is_resting f then p.next else p.next + 1) h.program
+  taken-at = subst (λ (g : Phase K V D T). p.asks ≡ drop (if is_resting g then p.next else p.next + 1) h.program) before h.asks_left
 
   pub within-at : (if is_resting f then p.next else p.next + 1) ≤ length h.program
   within-at = subst (λ (g : Phase K V D T). (if is_resting g then p.next else p.next + 1) ≤ length h.program) before h.within

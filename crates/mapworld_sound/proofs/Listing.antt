@@ -1,6 +1,6 @@
 -- A block that is listed at its position, at the end of the list.
 use Rattle.std.proofs.Common.{◌≡◌, ◌≢◌, ℕ, suc, ◌+◌, ◌<◌, ◌≤◌, inl, inr, ⊎_elim, true, false, List, [], ◌∷◌, ◌++◌, length, map, drop, Option, Some, slice_get, refl, ap, sym, ◌∙◌, arith}
-use Rattle.std.specs.declared.vec.Vec.{Vec}
+use Rattle.mapworld_state.specs.Shards.{ShardPairs}
 use Rattle.std.proofs.lemmas.Option.{same_Some}
 use Rattle.std.proofs.lemmas.Bool.{false≢true, cases_Bool}
 use Rattle.mapworld_calls.specs.declared.ask.Ask.{Ask}
@@ -16,7 +16,7 @@ use Rattle.mapworld_calls.proofs.Grown.{found-new}
 use Rattle.mapworld_calls.proofs.Kept.{keeps-push}
 use Rattle.mapworld_state.specs.declared.holds.Mode.{Mode}
 use Rattle.mapworld_state.specs.declared.step.Step.{Step}
-use Rattle.mapworld_state.specs.declared.place.Place.{Place}
+use Rattle.mapworld_state.specs.Places.{Place}
 use Rattle.mapworld_state.specs.State.{State, threads_of, started_of, next_step}
 use Rattle.mapworld_state.specs.Moves.{stepped, IsListed}
 use Rattle.mapworld_state.specs.Sound.{taken, may_own, HoldsShard, IsInCall, Claim, Stands, TablesAgree, Sound}
@@ -30,8 +30,8 @@ pub length-map : {X Y : Type 0} (f : X → Y) (xs : List X) → length (map f xs
 length-map f [] = refl
 length-map f (x ∷ xs) = ap suc (length-map f xs)
 
-module _ {K V S D T A : Type 0} (x : Setup K V D T) (laws : Laws x) (w : State K V S D T A) (s : Step) (sound : Sound x w)
-    (p : Place K V D T A) (at : slice_get w.places s.thread ≡ Some p) (a : Ask K V D) (call : IsInCall x (threads_of w) s.thread p a)
+module _ {K V S D T : Type 0} (x : Setup K V D T) (laws : Laws x) (w : State K V S D T) (s : Step) (sound : Sound x w)
+    (p : Place K V D T) (at : slice_get w.places s.thread ≡ Some p) (a : Ask K V D) (call : IsInCall x (threads_of w) s.thread p a)
     (key : K) (key_is : key_of a ≡ Some key) (m : Mode) (holds : HoldsShard p m) (shard : p.shard ≡ x.route key) (not_yet : may_own p.phase ≡ false)
     (n : ℕ) (d : Block K) (listed : IsListed w s.thread p n d) where
   abbrev pub st : Stands x (threads_of w) w.blocks w.replies w.tables s.thread p
@@ -56,11 +56,11 @@ module _ {K V S D T A : Type 0} (x : Setup K V D T) (laws : Laws x) (w : State K
     | inr mine ↦ absurd (false≢true (sym not_yet ∙ mine.2))
   ]
 
-  module _ (p' : Place K V D T A) (next : p'.next ≡ p.next) (started : p'.started ≡ p.started) (mine : p'.block ≡ Some (length w.blocks)) (hold : p'.hold ≡ p.hold)
+  module _ (p' : Place K V D T) (next : p'.next ≡ p.next) (started : p'.started ≡ p.started) (mine : p'.block ≡ Some (length w.blocks)) (hold : p'.holds ≡ p.holds)
       (own : may_own p'.phase ≡ true)
       (done : IsDoneWithin x (started_of (stepped w s p')) w.replies d a)
-      (tables' : List (Vec (K × V) A)) (shards : length tables' ≡ length w.tables)
-      (kept : (u : ℕ) (q : Place K V D T A) (k : Mode) → u ≢ s.thread → slice_get w.places u ≡ Some q → HoldsShard q k → slice_get tables' q.shard ≡ slice_get w.tables q.shard) where
+      (tables' : List (ShardPairs K V)) (shards : length tables' ≡ length w.tables)
+      (kept : (u : ℕ) (q : Place K V D T) (k : Mode) → u ≢ s.thread → slice_get w.places u ≡ Some q → HoldsShard q k → slice_get tables' q.shard ≡ slice_get w.tables q.shard) where
     new-placed : IsPlaced x (threads_of w ++ s.thread ∷ []) (started_of (stepped w s p')) w.replies d
     new-placed = record {
       ask = a;
@@ -91,9 +91,9 @@ module _ {K V S D T A : Type 0} (x : Setup K V D T) (laws : Laws x) (w : State K
       shards = shards;
     }
 
-    -- the world behind a step that lists the block, and may rewrite the shard's list with the same pairs
+    -- the world behind a step that lists the block, and may let the shard grow
     pub sound-listed : Claim x (threads_of w ++ s.thread ∷ []) (w.blocks ++ d ∷ []) tables' s.thread p' p'.phase
-        → p'.asks.items ≡ drop (taken p') st.program → taken p' ≤ length st.program
+        → p'.asks ≡ drop (taken p') st.program → taken p' ≤ length st.program
         → TablesAgree x (w.blocks ++ d ∷ []) tables'
         → Sound x (record (stepped w s p') { tables = tables'; holds = w.holds; blocks = w.blocks ++ d ∷ []; replies = w.replies })
     sound-listed claim left within agree =

@@ -13,7 +13,7 @@ use Rattle.mapworld_sound.proofs.Changing.{sound-changes, sound-fills}
 use Rattle.mapworld_sound.proofs.Sharing.{sound-downgrades}
 use Rattle.mapworld_sound.proofs.Answering.{sound-answers}
 
-pub sound-step : {K V S D T A : Type 0} (x : Setup K V D T) → Laws x → (w : State K V S D T A) (s : Step) (w' : State K V S D T A) → Sound x w → IsStep x w s w' → Sound x w'
+pub sound-step : {K V S D T : Type 0} (x : Setup K V D T) → Laws x → (w : State K V S D T) (s : Step) (w' : State K V S D T) → Sound x w → IsStep x w s w' → Sound x w'
 sound-step x laws w s w' sound (start h) = sound-starts x laws w s w' sound h
 sound-step x laws w s w' sound (admit h) = sound-admits x laws w s w' sound h
 sound-step x laws w s w' sound (find h) = sound-finds x laws w s sound w' h

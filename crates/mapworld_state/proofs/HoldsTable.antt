@@ -1,5 +1,5 @@
 -- What the holds of all threads say of a shard, and what its desk lists.
-use Rattle.std.proofs.Common.{◌≡◌, ◌≢◌, ℕ, zero, suc, ◌⊎◌, inl, inr, Bool, true, false, not, if◌then◌else◌, ◌==◌, List, [], ◌∷◌, Option, Some, None, slice_get, refl, sym, ap, ◌∙◌, eq-eqb, eqb-true}
+use Rattle.std.proofs.Common.{◌≡◌, ◌≢◌, ℕ, zero, suc, ◌⊎◌, inl, inr, Bool, true, false, not, ◌&&◌, if◌then◌else◌, ◌==◌, List, [], ◌∷◌, Some, slice_get, refl, sym, ap, ◌∙◌, eq-eqb, eqb-true}
 use Rattle.std.specs.List.{list_any}
 use Rattle.std.proofs.lemmas.Option.{none-some, same_Some, slice_get_within, get_or_from_slice_get, slice_get-get_or}
 use Rattle.std.proofs.lemmas.Bool.{false≢true, false_from_ne_true, and_from, and_parts}
@@ -7,16 +7,11 @@ use Rattle.std.proofs.lemmas.List.Folds.{list_any_at, Any-from_list_any}
 use Rattle.mapworld_state.specs.declared.holds.Mode.{Mode}
 use Rattle.mapworld_state.specs.declared.holds.Mode.TheVariants.{Shared, Exclusive}
 use Rattle.mapworld_state.specs.declared.holds.Hold.{Hold}
-use Rattle.mapworld_state.specs.declared.place.Place.{Place}
+use Rattle.mapworld_state.specs.Places.{Place}
 use Rattle.lock_api_desk.specs.Guards.{Guard, has_number, without}
 use Rattle.mapworld_state.specs.Holds.{excludes, is_in_the_way, is_excluded}
 
 module _ {X : Type 0} where
-  pub list_any-false : (p : X → Bool) (xs : List X) → list_any p xs ≡ false → (i : ℕ) (x : X) → slice_get xs i ≡ Some x → p x ≡ false
-  list_any-false p xs none i x at = false_from_ne_true (p x) (λ e.
-      let there = get_or_from_slice_get xs i x x at in
-      false≢true (sym none ∙ list_any_at p xs i x (slice_get_within xs i x at) (ap p there ∙ e)))
-
   pub list_any-true : (p : X → Bool) (xs : List X) → list_any p xs ≡ true → (i : ℕ) × (x : X) × (slice_get xs i ≡ Some x) × (p x ≡ true)
   list_any-true p xs some =
       let a = Any-from_list_any p xs some in
@@ -28,37 +23,54 @@ excludes-false Shared Shared h = (refl, refl)
 excludes-false Shared Exclusive h = absurd (false≢true (sym h))
 excludes-false Exclusive b h = absurd (false≢true (sym h))
 
-pub excludes-symm : (a b : Mode) → excludes a b ≡ excludes b a
-excludes-symm Shared Shared = refl
-excludes-symm Shared Exclusive = refl
-excludes-symm Exclusive Shared = refl
-excludes-symm Exclusive Exclusive = refl
+-- that a hold is in the way
+abbrev bars : ℕ → Mode → Hold → Bool
+bars shard mode h = h.shard == shard && excludes h.mode mode
 
-module _ {K V D T A : Type 0} (places : List (Place K V D T A)) (shard : ℕ) (mode : Mode) where
+module _ {K V D T : Type 0} (places : List (Place K V D T)) (shard : ℕ) (mode : Mode) where
   -- a hold in the way, if there is one
-  in_the_way : (o : Option Hold) → is_in_the_way shard mode o ≡ true → (h : Hold) × (o ≡ Some h) × (h.shard ≡ shard) × (excludes h.mode mode ≡ true)
-  in_the_way None e = absurd (false≢true e)
-  in_the_way (Some h) e = let parts = and_parts (h.shard == shard) (excludes h.mode mode) e in (h, refl, eqb-true h.shard shard parts.0, parts.1)
+  in_the_way : (hs : List Hold) → is_in_the_way shard mode hs ≡ true → (i : ℕ) × (h : Hold) × (slice_get hs i ≡ Some h) × (h.shard ≡ shard) × (excludes h.mode mode ≡ true)
+  in_the_way hs e =
+      let r = list_any-true (bars shard mode) hs e in
+      let parts = and_parts (r.1.shard == shard) (excludes r.1.mode mode) r.3 in
+      (r.0, r.1, r.2, eqb-true r.1.shard shard parts.0, parts.1)
 
   -- a hold of the shard that excludes the mode is in the way
-  pub is_excluded-by : (u : ℕ) (q : Place K V D T A) (h : Hold) → slice_get places u ≡ Some q → q.hold ≡ Some h → h.shard ≡ shard → excludes h.mode mode ≡ true → is_excluded places shard mode ≡ true
-  is_excluded-by u q h at held same e =
-      list_any_at (λ (p : Place K V D T A). is_in_the_way shard mode p.hold) places u q (slice_get_within places u q at)
-      (ap (λ (p : Place K V D T A). is_in_the_way shard mode p.hold) (get_or_from_slice_get places u q q at)
-      ∙ ap (λ o. is_in_the_way shard mode o) held
-      ∙ and_from (h.shard == shard) (excludes h.mode mode) (eq-eqb h.shard shard same) e)
+  pub is_excluded-by : (u i : ℕ) (q : Place K V D T) (h : Hold) → slice_get places u ≡ Some q → slice_get q.holds i ≡ Some h → h.shard ≡ shard → excludes h.mode mode ≡ true → is_excluded places shard mode ≡ true
+  is_excluded-by u i q h at held same e =
+      let one : is_in_the_way shard mode q.holds ≡ true =
+      list_any_at (bars shard mode) q.holds i h (slice_get_within q.holds i h held)
+      (ap (bars shard mode) (get_or_from_slice_get q.holds i h h held) ∙ and_from (h.shard == shard) (excludes h.mode mode) (eq-eqb h.shard shard same) e) in
+      list_any_at (λ (p : Place K V D T). is_in_the_way shard mode p.holds) places u q (slice_get_within places u q at)
+      (ap (λ (p : Place K V D T). is_in_the_way shard mode p.holds) (get_or_from_slice_get places u q q at) ∙ one)
 
   -- where nothing is in the way, each hold of the shard shares it, and so does the mode
-  pub is_excluded-shared : (u : ℕ) (q : Place K V D T A) (h : Hold) → is_excluded places shard mode ≡ false → slice_get places u ≡ Some q → q.hold ≡ Some h → h.shard ≡ shard → (h.mode ≡ Shared) × (mode ≡ Shared)
-  is_excluded-shared u q h free at held same =
-      excludes-false h.mode mode (false_from_ne_true (excludes h.mode mode) (λ e. false≢true (sym free ∙ is_excluded-by u q h at held same e)))
+  pub is_excluded-shared : (u i : ℕ) (q : Place K V D T) (h : Hold) → is_excluded places shard mode ≡ false → slice_get places u ≡ Some q → slice_get q.holds i ≡ Some h → h.shard ≡ shard → (h.mode ≡ Shared) × (mode ≡ Shared)
+  is_excluded-shared u i q h free at held same =
+      excludes-false h.mode mode (false_from_ne_true (excludes h.mode mode) (λ e. false≢true (sym free ∙ is_excluded-by u i q h at held same e)))
 
   -- where something is in the way, some thread's hold of the shard excludes the mode
-  pub is_excluded-true : is_excluded places shard mode ≡ true → (u : ℕ) × (q : Place K V D T A) × (h : Hold) × (slice_get places u ≡ Some q) × (q.hold ≡ Some h) × (h.shard ≡ shard) × (excludes h.mode mode ≡ true)
+  pub is_excluded-true : is_excluded places shard mode ≡ true
+      → (u : ℕ) × (i : ℕ) × (q : Place K V D T) × (h : Hold) × (slice_get places u ≡ Some q) × (slice_get q.holds i ≡ Some h) × (h.shard ≡ shard) × (excludes h.mode mode ≡ true)
   is_excluded-true some =
-      let r = list_any-true (λ (p : Place K V D T A). is_in_the_way shard mode p.hold) places some in
-      let w = in_the_way r.1.hold r.3 in
-      (r.0, r.1, w.0, r.2, w.1, w.2, w.3)
+      let r = list_any-true (λ (p : Place K V D T). is_in_the_way shard mode p.holds) places some in
+      let w = in_the_way r.1.holds r.3 in
+      (r.0, w.0, r.1, w.1, r.2, w.2, w.3, w.4)
+
+-- a list of one has nothing else
+pub only-first : {X : Type 0} (xs : List X) (x : X) (i : ℕ) (y : X) → xs ≡ x ∷ [] → slice_get xs i ≡ Some y → (i ≡ 0) × (x ≡ y)
+only-first {X} xs x i y is at = first i (sym (ap (λ (zs : List X). slice_get zs i) is) ∙ at)
+  where
+    first : (i : ℕ) → slice_get (x ∷ []) i ≡ Some y → (i ≡ 0) × (x ≡ y)
+    first zero h = (refl, same_Some x y h)
+    first (suc i) h = absurd (none-some y h)
+
+-- and an empty one nothing
+pub none-there : {X : Type 0} (xs : List X) (i : ℕ) (y : X) → xs ≡ [] → ¬ (slice_get xs i ≡ Some y)
+none-there {X} xs i y is at = none-some y (sym (ap (λ (zs : List X). slice_get zs i) is) ∙ at)
+
+pub first-there : {X : Type 0} (xs : List X) (x : X) (rest : List X) → xs ≡ x ∷ rest → slice_get xs 0 ≡ Some x
+first-there xs x rest is = ap (λ zs. slice_get zs 0) is
 
 -- what is left of a desk's guards without one number
 first-kept : (b : Bool) (g : Guard) (kept : List Guard) (k : ℕ) → slice_get kept k ≡ slice_get (if b then g ∷ kept else kept) (if b then suc k else k)

@@ -2,3 +2,4 @@ pub mod Finds
 pub mod Tables
 pub mod HoldsTable
 pub mod Owning
+pub mod Views

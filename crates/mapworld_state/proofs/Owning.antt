@@ -16,5 +16,5 @@ pub starts-own : {K V D T : Type 0} (f : Phase K V D T) (block : Option ℕ) (i 
 starts-own f block i h = if-own (is_told f) block i h
 
 -- a guard lends its pair in one way
-pub same-kind : {K : Type 0} (g : Option (Guard K)) (k k' : Way K) (i i' : ℕ) → g ≡ Some (guard.Pair k i) → g ≡ Some (guard.Pair k' i') → k ≡ k'
-same-kind g k k' i i' e f = let both : Some (guard.Pair k i) ≡ Some (guard.Pair k' i') = sym e ∙ f in cc
+pub same-kind : {K : Type 0} (g : Option (Guard K)) (k k' : Way K) → g ≡ Some (guard.Pair k) → g ≡ Some (guard.Pair k') → k ≡ k'
+same-kind g k k' e f = let both : Some (guard.Pair k) ≡ Some (guard.Pair k') = sym e ∙ f in cc

@@ -21,8 +21,8 @@ class_of (phase.Admit r) = waiting
 class_of (phase.Find r) = inside
 class_of (phase.Grow c) = inside
 class_of (phase.Append k v) = placed
-class_of (phase.Apply i k) = placed
-class_of (phase.View i k d) = inside
+class_of (phase.Apply k) = placed
+class_of (phase.View k d) = inside
 class_of (phase.Read d) = inside
 class_of (phase.Change h) = inside
 class_of (phase.Fill v) = inside
@@ -48,14 +48,14 @@ may_own_in placed = true
 may_own_in leaving = true
 may_own_in answering = true
 
--- whether it has a hold: from its admission to its release, and between two calls and before an answer where it has a guard
-abbrev pub holds_in : {G : Type 0} → Option G → Class → Bool
-holds_in guard resting = is_some guard
-holds_in guard waiting = false
-holds_in guard inside = true
-holds_in guard placed = true
-holds_in guard leaving = true
-holds_in guard answering = is_some guard
+-- how many holds it has: one from its admission to its release, and between two calls and before an answer one where it has a guard
+abbrev pub holds_in : {G : Type 0} → Option G → Class → ℕ
+holds_in guard resting = if is_some guard then 1 else 0
+holds_in guard waiting = 0
+holds_in guard inside = 1
+holds_in guard placed = 1
+holds_in guard leaving = 1
+holds_in guard answering = if is_some guard then 1 else 0
 
 -- how many answers it owes, and how many blocks and pairs it may add at the most
 abbrev pub answers_owed : Class → ℕ

@@ -1,5 +1,5 @@
 -- The desks: which shards are held, by which guards and how.
-use Rattle.std.specs.Prelude.{ℕ, Bool, true, false, ◌&&◌, ◌==◌, List, Option, Some, None}
+use Rattle.std.specs.Prelude.{ℕ, Bool, true, false, ◌&&◌, ◌==◌, List}
 use Rattle.std.specs.List.{list_any}
 use Rattle.lock_api_desk.specs.declared.mode.Mode.{Mode as DeskMode}
 use Rattle.lock_api_desk.specs.declared.mode.Mode.TheVariants as desk
@@ -8,7 +8,7 @@ use Rattle.lock_api_desk.specs.Desk.{DeskState}
 use Rattle.mapworld_state.specs.declared.holds.Mode.{Mode}
 use Rattle.mapworld_state.specs.declared.holds.Mode.TheVariants.{Shared, Exclusive}
 use Rattle.mapworld_state.specs.declared.holds.Hold.{Hold}
-use Rattle.mapworld_state.specs.declared.place.Place.{Place}
+use Rattle.mapworld_state.specs.Places.{Place}
 
 -- two holds of one shard can't be at one time, unless both share it
 abbrev pub excludes : Mode → Mode → Bool
@@ -16,14 +16,13 @@ excludes Shared Shared = false
 excludes Shared Exclusive = true
 excludes Exclusive m = true
 
--- the hold stands in the way of one more hold of the shard
-abbrev pub is_in_the_way : ℕ → Mode → Option Hold → Bool
-is_in_the_way shard mode None = false
-is_in_the_way shard mode (Some hold) = hold.shard == shard && excludes hold.mode mode
+-- one of these holds stands in the way of one more hold of the shard
+abbrev pub is_in_the_way : ℕ → Mode → List Hold → Bool
+is_in_the_way shard mode holds = list_any (λ hold. hold.shard == shard && excludes hold.mode mode) holds
 
--- the hold of some thread does
-abbrev pub is_excluded : {K V D T A : Type 0} → List (Place K V D T A) → ℕ → Mode → Bool
-is_excluded places shard mode = list_any (λ place. is_in_the_way shard mode place.hold) places
+-- one of the holds of some thread does
+abbrev pub is_excluded : {K V D T : Type 0} → List (Place K V D T) → ℕ → Mode → Bool
+is_excluded places shard mode = list_any (λ place. is_in_the_way shard mode place.holds) places
 
 -- one desk for each shard; the shard's pairs stand beside it
 abbrev pub Desks : Type 0

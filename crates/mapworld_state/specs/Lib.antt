@@ -1,3 +1,5 @@
+pub mod Places
+pub mod Shards
 pub mod State
 pub mod Holds
 pub mod Classes
@@ -9,4 +11,5 @@ pub mod Sound
 pub mod Running
 pub mod Route
 pub mod World
+pub mod Slots
 pub mod Core

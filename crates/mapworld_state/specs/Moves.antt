@@ -26,7 +26,7 @@ use Rattle.mapworld_state.specs.declared.place.Growth.{Growth}
 use Rattle.mapworld_state.specs.declared.place.Growth.TheVariants as growth
 use Rattle.mapworld_state.specs.declared.place.Phase.{Phase}
 use Rattle.mapworld_state.specs.declared.place.Phase.TheVariants as phase
-use Rattle.mapworld_state.specs.declared.place.Place.{Place}
+use Rattle.mapworld_state.specs.Places.{Place}
 use Rattle.mapworld_state.specs.State.{State, next_step}
 
 -- a request is a call on one key: the call, its key, and how it holds the shard
@@ -74,20 +74,15 @@ lent way.Shared p = shared p
 lent way.Exclusive p = exclusive p
 lent (way.Occupied k) p = occupied k p
 
--- where a guard's pair stands in its shard's list, if it lends one; and the handed-in key of one that lends none
-abbrev pub lent_slot : {K : Type 0} → Option (Guard K) → Option ℕ
-lent_slot None = None
-lent_slot (Some (guard.Pair kind slot)) = Some slot
-lent_slot (Some (guard.Vacant k)) = None
-
-abbrev pub lent_pair : {K : Type 0} → Option (Guard K) → Option (Way K × ℕ)
-lent_pair None = None
-lent_pair (Some (guard.Pair kind slot)) = Some (kind, slot)
-lent_pair (Some (guard.Vacant k)) = None
+-- how a guard lends its pair, if it lends one; and the handed-in key of one that lends none
+abbrev pub lent_way : {K : Type 0} → Option (Guard K) → Option (Way K)
+lent_way None = None
+lent_way (Some (guard.Pair kind)) = Some kind
+lent_way (Some (guard.Vacant k)) = None
 
 abbrev pub vacant_key : {K : Type 0} → Option (Guard K) → Option K
 vacant_key None = None
-vacant_key (Some (guard.Pair kind slot)) = None
+vacant_key (Some (guard.Pair kind)) = None
 vacant_key (Some (guard.Vacant k)) = Some k
 
 -- the phase behind the start of a call on a guard, by its kind: before a deed or a release, or, where it isn't for that kind
@@ -124,9 +119,9 @@ vacant_phase h key = phase.Answer answer.WrongGuard
 
 abbrev pub held_phase : {K V D T : Type 0} → Option (Guard K) → Held V D → Phase K V D T
 held_phase None h = phase.Answer answer.NoGuard
-held_phase (Some (guard.Pair way.Shared slot)) h = shared_phase h
-held_phase (Some (guard.Pair way.Exclusive slot)) h = exclusive_phase h
-held_phase (Some (guard.Pair (way.Occupied k) slot)) h = occupied_phase h k
+held_phase (Some (guard.Pair way.Shared)) h = shared_phase h
+held_phase (Some (guard.Pair way.Exclusive)) h = exclusive_phase h
+held_phase (Some (guard.Pair (way.Occupied k))) h = occupied_phase h k
 held_phase (Some (guard.Vacant k)) h = vacant_phase h k
 
 -- a start: before an admission, or as the guard has it
@@ -136,10 +131,10 @@ start_phase (ask.Begin b) g = phase.Admit (request.Begin b)
 start_phase (ask.Held h) g = held_phase g h
 
 -- the guard behind a start: an occupied one becomes exclusive, an entry's guard gives back its key and ends, and any other stays
-abbrev pub occupied_guard : {K V D : Type 0} → Held V D → K → ℕ → Option (Guard K)
-occupied_guard held.IntoRef k slot = Some (guard.Pair way.Exclusive slot)
-occupied_guard held.IntoKey k slot = None
-occupied_guard h k slot = Some (guard.Pair (way.Occupied k) slot)
+abbrev pub occupied_guard : {K V D : Type 0} → Held V D → K → Option (Guard K)
+occupied_guard held.IntoRef k = Some (guard.Pair way.Exclusive)
+occupied_guard held.IntoKey k = None
+occupied_guard h k = Some (guard.Pair (way.Occupied k))
 
 abbrev pub vacant_guard : {K V D : Type 0} → Held V D → K → Option (Guard K)
 vacant_guard held.IntoKey k = None
@@ -147,9 +142,9 @@ vacant_guard h k = Some (guard.Vacant k)
 
 abbrev pub held_guard : {K V D : Type 0} → Option (Guard K) → Held V D → Option (Guard K)
 held_guard None h = None
-held_guard (Some (guard.Pair way.Shared slot)) h = Some (guard.Pair way.Shared slot)
-held_guard (Some (guard.Pair way.Exclusive slot)) h = Some (guard.Pair way.Exclusive slot)
-held_guard (Some (guard.Pair (way.Occupied k) slot)) h = occupied_guard h k slot
+held_guard (Some (guard.Pair way.Shared)) h = Some (guard.Pair way.Shared)
+held_guard (Some (guard.Pair way.Exclusive)) h = Some (guard.Pair way.Exclusive)
+held_guard (Some (guard.Pair (way.Occupied k))) h = occupied_guard h k
 held_guard (Some (guard.Vacant k)) h = vacant_guard h k
 
 abbrev pub start_guard : {K V D : Type 0} → Ask K V D → Option (Guard K) → Option (Guard K)
@@ -207,60 +202,60 @@ abbrev pub growth_key : {K V : Type 0} → Growth K V → K
 growth_key (growth.Insert k v) = k
 growth_key (growth.Entry k) = k
 
--- a find: by the place of the key's pair in the shard's list, and whether the list has room for one more
-abbrev pub found_phase : {K V D T : Type 0} → Request K V D → Option ℕ → Bool → Phase K V D T
-found_phase (request.Keyed (keyed.Insert k v)) (Some i) room = phase.Apply i (keyed.Insert k v)
-found_phase (request.Keyed (keyed.Insert k v)) None true = phase.Append k v
-found_phase (request.Keyed (keyed.Insert k v)) None false = phase.Grow (growth.Insert k v)
-found_phase (request.Keyed (keyed.Remove k)) (Some i) room = phase.Apply i (keyed.Remove k)
-found_phase (request.Keyed (keyed.Remove k)) None room = phase.Release answer.None
-found_phase (request.Keyed (keyed.RemoveIf k d)) (Some i) room = phase.Apply i (keyed.RemoveIf k d)
-found_phase (request.Keyed (keyed.RemoveIf k d)) None room = phase.Release answer.None
-found_phase (request.Keyed (keyed.RemoveIfMut k d)) (Some i) room = phase.Apply i (keyed.RemoveIfMut k d)
-found_phase (request.Keyed (keyed.RemoveIfMut k d)) None room = phase.Release answer.None
-found_phase (request.Keyed (keyed.Alter k d)) (Some i) room = phase.Apply i (keyed.Alter k d)
-found_phase (request.Keyed (keyed.Alter k d)) None room = phase.Release answer.Done
-found_phase (request.Keyed (keyed.View k d)) (Some i) room = phase.View i k d
-found_phase (request.Keyed (keyed.View k d)) None room = phase.Release answer.None
-found_phase (request.Keyed (keyed.ContainsKey k)) (Some i) room = phase.Release (answer.Flag true)
-found_phase (request.Keyed (keyed.ContainsKey k)) None room = phase.Release (answer.Flag false)
-found_phase (request.Begin b) (Some i) room = phase.Answer answer.Held
-found_phase (request.Begin (begin.Get k)) None room = phase.Release answer.None
-found_phase (request.Begin (begin.GetMut k)) None room = phase.Release answer.None
-found_phase (request.Begin (begin.Entry k)) None true = phase.Answer answer.Vacant
-found_phase (request.Begin (begin.Entry k)) None false = phase.Grow (growth.Entry k)
+-- a find: by whether the key has a pair in the shard, and whether the shard has room for one more
+abbrev pub found_phase : {K V D T : Type 0} → Request K V D → Bool → Bool → Phase K V D T
+found_phase (request.Keyed (keyed.Insert k v)) true room = phase.Apply (keyed.Insert k v)
+found_phase (request.Keyed (keyed.Insert k v)) false true = phase.Append k v
+found_phase (request.Keyed (keyed.Insert k v)) false false = phase.Grow (growth.Insert k v)
+found_phase (request.Keyed (keyed.Remove k)) true room = phase.Apply (keyed.Remove k)
+found_phase (request.Keyed (keyed.Remove k)) false room = phase.Release answer.None
+found_phase (request.Keyed (keyed.RemoveIf k d)) true room = phase.Apply (keyed.RemoveIf k d)
+found_phase (request.Keyed (keyed.RemoveIf k d)) false room = phase.Release answer.None
+found_phase (request.Keyed (keyed.RemoveIfMut k d)) true room = phase.Apply (keyed.RemoveIfMut k d)
+found_phase (request.Keyed (keyed.RemoveIfMut k d)) false room = phase.Release answer.None
+found_phase (request.Keyed (keyed.Alter k d)) true room = phase.Apply (keyed.Alter k d)
+found_phase (request.Keyed (keyed.Alter k d)) false room = phase.Release answer.Done
+found_phase (request.Keyed (keyed.View k d)) true room = phase.View k d
+found_phase (request.Keyed (keyed.View k d)) false room = phase.Release answer.None
+found_phase (request.Keyed (keyed.ContainsKey k)) true room = phase.Release (answer.Flag true)
+found_phase (request.Keyed (keyed.ContainsKey k)) false room = phase.Release (answer.Flag false)
+found_phase (request.Begin b) true room = phase.Answer answer.Held
+found_phase (request.Begin (begin.Get k)) false room = phase.Release answer.None
+found_phase (request.Begin (begin.GetMut k)) false room = phase.Release answer.None
+found_phase (request.Begin (begin.Entry k)) false true = phase.Answer answer.Vacant
+found_phase (request.Begin (begin.Entry k)) false false = phase.Grow (growth.Entry k)
 
 -- how many of its calls the block that a find lists has done: none where a deed is to come, and one where the find is all
 -- that there is to do; where a growth is needed, or the pair is to be read, it lists none
-abbrev pub found_done : {K V D : Type 0} → Request K V D → Option ℕ → Bool → Option ℕ
-found_done (request.Keyed (keyed.Insert k v)) (Some i) room = Some 0
-found_done (request.Keyed (keyed.Insert k v)) None true = Some 0
-found_done (request.Keyed (keyed.Insert k v)) None false = None
-found_done (request.Keyed (keyed.Remove k)) (Some i) room = Some 0
-found_done (request.Keyed (keyed.Remove k)) None room = Some 1
-found_done (request.Keyed (keyed.RemoveIf k d)) (Some i) room = Some 0
-found_done (request.Keyed (keyed.RemoveIf k d)) None room = Some 1
-found_done (request.Keyed (keyed.RemoveIfMut k d)) (Some i) room = Some 0
-found_done (request.Keyed (keyed.RemoveIfMut k d)) None room = Some 1
-found_done (request.Keyed (keyed.Alter k d)) (Some i) room = Some 0
-found_done (request.Keyed (keyed.Alter k d)) None room = Some 1
-found_done (request.Keyed (keyed.View k d)) (Some i) room = None
-found_done (request.Keyed (keyed.View k d)) None room = Some 1
-found_done (request.Keyed (keyed.ContainsKey k)) slot room = Some 1
-found_done (request.Begin b) (Some i) room = Some 1
-found_done (request.Begin (begin.Get k)) None room = Some 1
-found_done (request.Begin (begin.GetMut k)) None room = Some 1
-found_done (request.Begin (begin.Entry k)) None true = Some 1
-found_done (request.Begin (begin.Entry k)) None false = None
+abbrev pub found_done : {K V D : Type 0} → Request K V D → Bool → Bool → Option ℕ
+found_done (request.Keyed (keyed.Insert k v)) true room = Some 0
+found_done (request.Keyed (keyed.Insert k v)) false true = Some 0
+found_done (request.Keyed (keyed.Insert k v)) false false = None
+found_done (request.Keyed (keyed.Remove k)) true room = Some 0
+found_done (request.Keyed (keyed.Remove k)) false room = Some 1
+found_done (request.Keyed (keyed.RemoveIf k d)) true room = Some 0
+found_done (request.Keyed (keyed.RemoveIf k d)) false room = Some 1
+found_done (request.Keyed (keyed.RemoveIfMut k d)) true room = Some 0
+found_done (request.Keyed (keyed.RemoveIfMut k d)) false room = Some 1
+found_done (request.Keyed (keyed.Alter k d)) true room = Some 0
+found_done (request.Keyed (keyed.Alter k d)) false room = Some 1
+found_done (request.Keyed (keyed.View k d)) true room = None
+found_done (request.Keyed (keyed.View k d)) false room = Some 1
+found_done (request.Keyed (keyed.ContainsKey k)) there room = Some 1
+found_done (request.Begin b) true room = Some 1
+found_done (request.Begin (begin.Get k)) false room = Some 1
+found_done (request.Begin (begin.GetMut k)) false room = Some 1
+found_done (request.Begin (begin.Entry k)) false true = Some 1
+found_done (request.Begin (begin.Entry k)) false false = None
 
 -- the guard that a find gives
-abbrev pub found_guard : {K V D : Type 0} → Request K V D → Option ℕ → Bool → Option (Guard K)
-found_guard (request.Keyed k) slot room = None
-found_guard (request.Begin b) (Some i) room = Some (guard.Pair (opening_way b) i)
-found_guard (request.Begin (begin.Get k)) None room = None
-found_guard (request.Begin (begin.GetMut k)) None room = None
-found_guard (request.Begin (begin.Entry k)) None true = Some (guard.Vacant k)
-found_guard (request.Begin (begin.Entry k)) None false = None
+abbrev pub found_guard : {K V D : Type 0} → Request K V D → Bool → Bool → Option (Guard K)
+found_guard (request.Keyed k) there room = None
+found_guard (request.Begin b) true room = Some (guard.Pair (opening_way b))
+found_guard (request.Begin (begin.Get k)) false room = None
+found_guard (request.Begin (begin.GetMut k)) false room = None
+found_guard (request.Begin (begin.Entry k)) false true = Some (guard.Vacant k)
+found_guard (request.Begin (begin.Entry k)) false false = None
 
 -- the block of a thread behind a step that may have listed one
 abbrev pub block_behind : Option ℕ → ℕ → Option ℕ → Option ℕ
@@ -268,11 +263,11 @@ block_behind None next block = block
 block_behind (Some done) next block = Some next
 
 -- the world with one more step, behind which its thread stands there
-abbrev pub stepped : {K V S D T A : Type 0} → State K V S D T A → Step → Place K V D T A → State K V S D T A
+abbrev pub stepped : {K V S D T : Type 0} → State K V S D T → Step → Place K V D T → State K V S D T
 stepped w s p = record w { steps = w.steps ++ s ∷ []; places = slice_set w.places s.thread p }
 
 -- a block that is listed with its call started, at this step
-pub record IsListed {K V S D T A : Type 0} (w : State K V S D T A) (t : ℕ) (p : Place K V D T A) (n : ℕ) (b : Block K) : Type 0 where
+pub record IsListed {K V S D T : Type 0} (w : State K V S D T) (t : ℕ) (p : Place K V D T) (n : ℕ) (b : Block K) : Type 0 where
   pub thread : b.thread ≡ t
   pub call : b.call ≡ p.next
   pub visit : b.visit ≡ 0
@@ -283,7 +278,7 @@ pub record IsListed {K V S D T A : Type 0} (w : State K V S D T A) (t : ℕ) (p 
   pub visited : b.visited.items ≡ []
 
 -- the blocks behind a step that may list one
-abbrev pub ListsBlock : {K V S D T A : Type 0} → State K V S D T A → ℕ → Place K V D T A → Option ℕ → List (Block K) → Type 0
+abbrev pub ListsBlock : {K V S D T : Type 0} → State K V S D T → ℕ → Place K V D T → Option ℕ → List (Block K) → Type 0
 ListsBlock w t p None blocks = blocks ≡ w.blocks
 ListsBlock {K} w t p (Some done) blocks = (b : Block K) × IsListed w t p done b × (blocks ≡ w.blocks ++ b ∷ [])
 

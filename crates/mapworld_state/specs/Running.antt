@@ -8,7 +8,7 @@ use Rattle.mapworld_state.specs.declared.step.Status.{Status}
 use Rattle.mapworld_state.specs.declared.step.Status.TheVariants as status
 use Rattle.mapworld_state.specs.declared.place.Phase.{Phase}
 use Rattle.mapworld_state.specs.declared.place.Phase.TheVariants as phase
-use Rattle.mapworld_state.specs.declared.place.Place.{Place}
+use Rattle.mapworld_state.specs.Places.{Place}
 use Rattle.mapworld_state.specs.Classes.{class_of, status_in}
 use Rattle.mapworld_state.specs.Holds.{is_excluded}
 use Rattle.mapworld_state.specs.State.{State, pairs_of}
@@ -18,30 +18,30 @@ use Rattle.mapworld_state.specs.Footprint.{HasFootprint}
 use Rattle.mapworld_faults.specs.Faults.{run_fault_done}
 
 -- how many calls aren't answered
-abbrev pub unanswered_of : {K V S D T A : Type 0} → State K V S D T A → ℕ
+abbrev pub unanswered_of : {K V S D T : Type 0} → State K V S D T → ℕ
 unanswered_of w = sum_by length w.programs - length w.replies
 
 -- how many steps are enough, for n threads, s shards, p pairs and c unanswered calls
 abbrev pub bound : ℕ → ℕ → ℕ → ℕ → ℕ
 bound n s p c = 256 * (n + 1) * (n + 1) * (c + 1) * (s + 1) + 2 * (c + 1) * (p + c + 1)
 
-abbrev pub bound_of : {K V S D T A : Type 0} → State K V S D T A → ℕ
+abbrev pub bound_of : {K V S D T : Type 0} → State K V S D T → ℕ
 bound_of w = bound (length w.programs) (length w.tables) (length (pairs_of w)) (unanswered_of w)
 
 -- whether a thread before that phase waits for a shard that another thread's hold keeps it out of
-abbrev pub is_kept_out : {K V D T A : Type 0} → List (Place K V D T A) → ℕ → Phase K V D T → Bool
+abbrev pub is_kept_out : {K V D T : Type 0} → List (Place K V D T) → ℕ → Phase K V D T → Bool
 is_kept_out places shard (phase.Admit r) = is_excluded places shard (mode_of r)
 is_kept_out places shard f = false
 
 -- where a thread stands that is before that phase, with that much of its program left
-abbrev pub status_before : {K V D T A : Type 0} → List (Place K V D T A) → ℕ → ℕ → Phase K V D T → Status
+abbrev pub status_before : {K V D T : Type 0} → List (Place K V D T) → ℕ → ℕ → Phase K V D T → Status
 status_before places left shard f = status_in (is_kept_out places shard f) left (class_of f)
 
-abbrev pub status_at : {K V D T A : Type 0} → List (Place K V D T A) → Option (Place K V D T A) → Status
+abbrev pub status_at : {K V D T : Type 0} → List (Place K V D T) → Option (Place K V D T) → Status
 status_at places None = status.Finished
-status_at places (Some p) = status_before places (length p.asks.items) p.shard p.phase
+status_at places (Some p) = status_before places (length p.asks) p.shard p.phase
 
-abbrev pub status_of : {K V S D T A : Type 0} → State K V S D T A → ℕ → Status
+abbrev pub status_of : {K V S D T : Type 0} → State K V S D T → ℕ → Status
 status_of w t = status_at w.places (slice_get w.places t)
 
 abbrev pub is_running : Status → Bool
@@ -50,11 +50,11 @@ is_running status.Asleep = false
 is_running status.Finished = false
 
 -- whether step numbers are left for one more step and all that must come after it
-abbrev pub has_numbers : {K V S D T A : Type 0} → State K V S D T A → Bool
+abbrev pub has_numbers : {K V S D T : Type 0} → State K V S D T → Bool
 has_numbers w = nat_le (length w.steps + 1 + bound_of w + 2 * (unanswered_of w + 1)) (2 ^ 63)
 
 -- why a step is refused where n steps of the run are done, tried in this order
-abbrev pub refusal : {K V S D T A : Type 0} → State K V S D T A → ℕ → Step → Option RunFault
+abbrev pub refusal : {K V S D T : Type 0} → State K V S D T → ℕ → Step → Option RunFault
 refusal w n s =
     if nat_lt s.thread (length w.programs)
     then (if is_running (status_of w s.thread)
@@ -63,10 +63,10 @@ refusal w n s =
     else Some (fault.NoSuchThread n)
 
 -- the steps lead from one world to the other, one after another, each one of a kind and within its footprint, and none refused
-abbrev pub Ran : {K V S D T A : Type 0} → Setup K V D T → ℕ → State K V S D T A → List Step → State K V S D T A → Type 0
+abbrev pub Ran : {K V S D T : Type 0} → Setup K V D T → ℕ → State K V S D T → List Step → State K V S D T → Type 0
 Ran x n w [] w' = w' ≡ w
-Ran {K} {V} {S} {D} {T} {A} x n w (s ∷ steps) w' =
-    (mid : State K V S D T A) × (refusal w n s ≡ None) × IsStep x w s mid × HasFootprint x.eq w s mid × Ran x (n + 1) mid steps w'
+Ran {K} {V} {S} {D} {T} x n w (s ∷ steps) w' =
+    (mid : State K V S D T) × (refusal w n s ≡ None) × IsStep x w s mid × HasFootprint x.eq w s mid × Ran x (n + 1) mid steps w'
 
 -- how many of n steps a run did
 abbrev pub steps_done : {X : Type 0} → Result X RunFault → ℕ → ℕ
@@ -74,11 +74,11 @@ steps_done (Ok x) n = n
 steps_done (Err f) n = run_fault_done f
 
 -- the step that a run stopped at is refused so, by the world that it left
-abbrev pub StopsAt : {K V S D T A : Type 0} → State K V S D T A → List Step → RunFault → Type 0
+abbrev pub StopsAt : {K V S D T : Type 0} → State K V S D T → List Step → RunFault → Type 0
 StopsAt w steps f = (step : Step) × (slice_get steps (run_fault_done f) ≡ Some step) × (refusal w (run_fault_done f) step ≡ Some f)
 
 -- what a run never changes
-pub record StaysFixed {K V S D T A : Type 0} (w w' : State K V S D T A) : Type 0 where
+pub record StaysFixed {K V S D T : Type 0} (w w' : State K V S D T) : Type 0 where
   pub hasher : w'.hasher ≡ w.hasher
   pub shards : length w'.tables ≡ length w.tables
   pub opening : w'.opening ≡ w.opening

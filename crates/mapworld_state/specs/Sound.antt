@@ -1,6 +1,5 @@
 -- What holds of a world between two steps, calls half done included.
-use Rattle.std.specs.Prelude.{◌≡◌, ℕ, ◌+◌, ◌-◌, ◌<◌, ◌≤◌, ◌⊎◌, Bool, true, false, if◌then◌else◌, List, length, drop, Option, Some, None, slice_get, vec_len, vec_capacity}
-use Rattle.std.specs.declared.vec.Vec.{Vec}
+use Rattle.std.specs.Prelude.{◌≡◌, ℕ, ◌+◌, ◌-◌, ◌<◌, ◌≤◌, ◌⊎◌, Bool, true, false, if◌then◌else◌, List, [], ◌∷◌, length, drop, Option, Some, None, slice_get}
 use Rattle.mapworld_calls.specs.declared.ask.Ask.{Ask}
 use Rattle.mapworld_calls.specs.declared.ask.Ask.TheVariants as ask
 use Rattle.mapworld_calls.specs.declared.ask.Keyed.TheVariants as keyed
@@ -10,7 +9,7 @@ use Rattle.mapworld_calls.specs.declared.reply.Reply.{Reply}
 use Rattle.mapworld_calls.specs.declared.reply.Answer.{Answer}
 use Rattle.mapworld_calls.specs.declared.reply.Answer.TheVariants as answer
 use Rattle.mapworld_calls.specs.Programs.{one_guard, keyed_key}
-use Rattle.mapworld_calls.specs.Calls.{At, free, vacant}
+use Rattle.mapworld_calls.specs.Calls.{At, free, vacant, pair_in}
 use Rattle.mapworld_calls.specs.Setup.{Setup, ask_at, session_of}
 use Rattle.mapworld_calls.specs.Pairs.{pair_of, AreDistinct}
 use Rattle.mapworld_calls.specs.Replay.{reached, block_key, contents, found, IsLastOnShard}
@@ -25,9 +24,10 @@ use Rattle.mapworld_state.specs.declared.place.Guard.{Guard}
 use Rattle.mapworld_state.specs.declared.place.Guard.TheVariants as guard
 use Rattle.mapworld_state.specs.declared.place.Phase.{Phase}
 use Rattle.mapworld_state.specs.declared.place.Phase.TheVariants as phase
-use Rattle.mapworld_state.specs.declared.place.Place.{Place}
+use Rattle.mapworld_state.specs.Places.{Place}
 use Rattle.mapworld_state.specs.Classes.{class_of, rests_in, may_own_in}
 use Rattle.mapworld_state.specs.Held.{HoldsMatch}
+use Rattle.mapworld_state.specs.Shards.{ShardPairs, has_room}
 use Rattle.mapworld_state.specs.State.{State, threads_of, started_of}
 use Rattle.mapworld_state.specs.Moves.{ask_of, request_key, mode_of, is_last, way_mode, lent, is_change, request_of, growth_key}
 
@@ -39,56 +39,54 @@ abbrev pub may_own : {K V D T : Type 0} → Phase K V D T → Bool
 may_own f = may_own_in (class_of f)
 
 -- how many calls a thread has taken from its program
-abbrev pub taken : {K V D T A : Type 0} → Place K V D T A → ℕ
+abbrev pub taken : {K V D T : Type 0} → Place K V D T → ℕ
 taken p = if is_resting p.phase then p.next else p.next + 1
 
 -- the block of a thread's session behind its call
-abbrev pub block_after : {K V D T A : Type 0} → Place K V D T A → Option ℕ
+abbrev pub block_after : {K V D T : Type 0} → Place K V D T → Option ℕ
 block_after p = if p.closes then None else p.block
 
--- the shard's list at that place has that pair
-pub record HasPair {K V A : Type 0} (tables : List (Vec (K × V) A)) (shard slot : ℕ) (pair : K × V) : Type 0 where
-  pub table : Vec (K × V) A
-  pub held : slice_get tables shard ≡ Some table
-  pub pair_is : slice_get table.items slot ≡ Some pair
-
--- the place has a hold of its shard, in that mode
-pub record HoldsShard {K V D T A : Type 0} (p : Place K V D T A) (mode : Mode) : Type 0 where
+-- the place has one hold, of its shard and in that mode
+pub record HoldsShard {K V D T : Type 0} (p : Place K V D T) (mode : Mode) : Type 0 where
   pub hold : Hold
-  pub has : p.hold ≡ Some hold
+  pub has : p.holds ≡ hold ∷ []
   pub shard : hold.shard ≡ p.shard
   pub mode_is : hold.mode ≡ mode
 
--- the shard's list, and what is so of it
-pub record HasList {K V A : Type 0} (tables : List (Vec (K × V) A)) (shard : ℕ) (IsSo : Vec (K × V) A → Type 0) : Type 0 where
-  pub table : Vec (K × V) A
+-- the shard's pairs, and what is so of them
+pub record HasPairs {K V : Type 0} (tables : List (ShardPairs K V)) (shard : ℕ) (IsSo : ShardPairs K V → Type 0) : Type 0 where
+  pub table : ShardPairs K V
   pub held : slice_get tables shard ≡ Some table
   pub so : IsSo table
 
 -- without a hold where there is no guard
-abbrev pub HoldsByGuard : {K V D T A : Type 0} → Place K V D T A → Type 0
-HoldsByGuard p = p.guard ≡ None → p.hold ≡ None
+abbrev pub HoldsByGuard : {K V D T : Type 0} → Place K V D T → Type 0
+HoldsByGuard p = p.guard ≡ None → p.holds ≡ []
 
 -- a guard lends the pair that its session has come to, or keeps room for the one that its key is to have; a session without a
 -- guard is free
-abbrev pub GuardIs : {K V D T A : Type 0} → List (Vec (K × V) A) → Place K V D T A → Option (Guard K) → At K V → Type 0
+abbrev pub GuardIs : {K V D T : Type 0} → List (ShardPairs K V) → Place K V D T → Option (Guard K) → At K V → Type 0
 GuardIs {K} {V} tables p None at = (o : Option (K × V)) × (at ≡ free o)
-GuardIs {K} {V} tables p (Some (guard.Pair kind slot)) at =
-    (pair : K × V) × (at ≡ lent kind pair) × HoldsShard p (way_mode kind) × HasPair tables p.shard slot pair
+GuardIs {K} {V} tables p (Some (guard.Pair kind)) at = (pair : K × V) × (at ≡ lent kind pair) × HoldsShard p (way_mode kind)
 GuardIs tables p (Some (guard.Vacant key)) at =
-    (at ≡ vacant key) × HoldsShard p Exclusive × HasList tables p.shard (λ table. vec_len table < vec_capacity table)
+    (at ≡ vacant key) × HoldsShard p Exclusive × HasPairs tables p.shard (λ table. has_room table ≡ true)
+
+-- while the place has a guard, its shard has at the block's key what the session has come to
+abbrev pub HasReached : {K V D T : Type 0} → Setup K V D T → List (ShardPairs K V) → Place K V D T → Block K → At K V → Type 0
+HasReached {K} x tables p b at =
+    (g : Guard K) (key : K) → p.guard ≡ Some g → block_key x b ≡ Some key → HasPairs tables p.shard (λ table. pair_of x.eq table.items key ≡ pair_in at)
 
 -- the block is of a key of the place's shard
-abbrev pub IsOnShard : {K V D T A : Type 0} → Setup K V D T → Place K V D T A → Block K → Type 0
+abbrev pub IsOnShard : {K V D T : Type 0} → Setup K V D T → Place K V D T → Block K → Type 0
 IsOnShard {K} x p b = (k : K) → block_key x b ≡ Some k → p.shard ≡ x.route k
 
 -- so it is, and it is the last one there while the place holds the shard alone
-pub record IsSettled {K V D T A : Type 0} (x : Setup K V D T) (bs : List (Block K)) (p : Place K V D T A) (i : ℕ) (b : Block K) : Type 0 where
+pub record IsSettled {K V D T : Type 0} (x : Setup K V D T) (bs : List (Block K)) (p : Place K V D T) (i : ℕ) (b : Block K) : Type 0 where
   pub here : IsOnShard x p b
   pub last : HoldsShard p Exclusive → IsLastOnShard x bs i b
 
 -- the session of the opening c has a block, which has done all calls of the session below n
-pub record HasSession {K V D T A : Type 0} (x : Setup K V D T) (bs : List (Block K)) (tables : List (Vec (K × V) A)) (t : ℕ) (p : Place K V D T A) (n c i : ℕ) : Type 0 where
+pub record HasSession {K V D T : Type 0} (x : Setup K V D T) (bs : List (Block K)) (tables : List (ShardPairs K V)) (t : ℕ) (p : Place K V D T) (n c i : ℕ) : Type 0 where
   pub block : Block K
   pub listed : slice_get bs i ≡ Some block
   pub thread : block.thread ≡ t
@@ -96,24 +94,25 @@ pub record HasSession {K V D T A : Type 0} (x : Setup K V D T) (bs : List (Block
   pub below : c < n
   pub done : block.done.value ≡ n - c
   pub guard : GuardIs tables p p.guard (reached x t c (n - c) (found x bs i block))
+  pub there : HasReached x tables p block (reached x t c (n - c) (found x bs i block))
   pub settled : IsSettled x bs p i block
 
-abbrev pub IsInSessionOf : {K V D T A : Type 0} → Setup K V D T → List (Block K) → List (Vec (K × V) A) → ℕ → Place K V D T A → ℕ → ℕ → Option ℕ → Type 0
+abbrev pub IsInSessionOf : {K V D T : Type 0} → Setup K V D T → List (Block K) → List (ShardPairs K V) → ℕ → Place K V D T → ℕ → ℕ → Option ℕ → Type 0
 IsInSessionOf x bs tables t p n c (Some i) = HasSession x bs tables t p n c i
 -- an opening without block gave no guard
 IsInSessionOf x bs tables t p n c None = (p.guard ≡ None) × HasNoBlock bs t c
 
-abbrev pub IsInSession : {K V D T A : Type 0} → Setup K V D T → List (Block K) → List (Vec (K × V) A) → ℕ → Place K V D T A → ℕ → Option ℕ → Option ℕ → Type 0
+abbrev pub IsInSession : {K V D T : Type 0} → Setup K V D T → List (Block K) → List (ShardPairs K V) → ℕ → Place K V D T → ℕ → Option ℕ → Option ℕ → Type 0
 IsInSession x bs tables t p n (Some c) block = IsInSessionOf x bs tables t p n c block
 -- outside of every session there is neither guard nor block
 IsInSession x bs tables t p n None block = (p.guard ≡ None) × (block ≡ None)
 
 -- between its calls, as call n is next
-abbrev pub IsReady : {K V D T A : Type 0} → Setup K V D T → List (Block K) → List (Vec (K × V) A) → ℕ → Place K V D T A → ℕ → Option ℕ → Type 0
+abbrev pub IsReady : {K V D T : Type 0} → Setup K V D T → List (Block K) → List (ShardPairs K V) → ℕ → Place K V D T → ℕ → Option ℕ → Type 0
 IsReady x bs tables t p n block = IsInSession x bs tables t p n (session_of x t n) block
 
 -- in that call, which has started
-pub record IsInCall {K V D T A : Type 0} (x : Setup K V D T) (threads : List ℕ) (t : ℕ) (p : Place K V D T A) (a : Ask K V D) : Type 0 where
+pub record IsInCall {K V D T : Type 0} (x : Setup K V D T) (threads : List ℕ) (t : ℕ) (p : Place K V D T) (a : Ask K V D) : Type 0 where
   pub asked : ask_at x t p.next ≡ Some a
   pub closes : p.closes ≡ is_last a
   pub start : ℕ
@@ -121,13 +120,13 @@ pub record IsInCall {K V D T A : Type 0} (x : Setup K V D T) (threads : List ℕ
   pub begun : IsStepOf threads t start
 
 -- on its way to a pair, without block or guard
-pub record IsOnItsWay {K V D T A : Type 0} (x : Setup K V D T) (p : Place K V D T A) (key : K) : Type 0 where
+pub record IsOnItsWay {K V D T : Type 0} (x : Setup K V D T) (p : Place K V D T) (key : K) : Type 0 where
   pub block : p.block ≡ None
   pub guard : p.guard ≡ None
   pub shard : p.shard ≡ x.route key
 
 -- before the deed of a keyed call: its block has found o and done nothing, is the last one on its shard, and the shard is held alone
-pub record IsBeforeDeed {K V D T A : Type 0} (x : Setup K V D T) (bs : List (Block K)) (t : ℕ) (p : Place K V D T A) (key : K) (o : Option (K × V)) : Type 0 where
+pub record IsBeforeDeed {K V D T : Type 0} (x : Setup K V D T) (bs : List (Block K)) (t : ℕ) (p : Place K V D T) (key : K) (o : Option (K × V)) : Type 0 where
   pub index : ℕ
   pub block : Block K
   pub mine : p.block ≡ Some index
@@ -143,68 +142,68 @@ pub record IsBeforeDeed {K V D T A : Type 0} (x : Setup K V D T) (bs : List (Blo
   pub alone : HoldsShard p Exclusive
 
 -- what a release has still to do: a guard's drop is counted in by it, and all else is told already
-abbrev pub IsReleasing : {K V D T A : Type 0} → Setup K V D T → List (Block K) → List (Vec (K × V) A) → ℕ → Place K V D T A → Ask K V D → Answer K V T → Option (Guard K) → Type 0
+abbrev pub IsReleasing : {K V D T : Type 0} → Setup K V D T → List (Block K) → List (ShardPairs K V) → ℕ → Place K V D T → Ask K V D → Answer K V T → Option (Guard K) → Type 0
 IsReleasing x bs tables t p a r (Some kept) = (a ≡ ask.Held held.Drop) × (r ≡ answer.Done) × IsReady x bs tables t p p.next p.block
 IsReleasing x bs tables t p a r None = IsAnsweredBy x bs t p.next a r × IsReady x bs tables t p (p.next + 1) (block_after p)
 
 -- what holds of a thread's place, by its next step
-abbrev pub Claim : {K V D T A : Type 0} → Setup K V D T → List ℕ → List (Block K) → List (Vec (K × V) A) → ℕ → Place K V D T A → Phase K V D T → Type 0
+abbrev pub Claim : {K V D T : Type 0} → Setup K V D T → List ℕ → List (Block K) → List (ShardPairs K V) → ℕ → Place K V D T → Phase K V D T → Type 0
 Claim x threads bs tables t p phase.Rest = (p.started ≡ None) × HoldsByGuard p × IsReady x bs tables t p p.next p.block
-Claim x threads bs tables t p (phase.Admit r) = IsInCall x threads t p (ask_of r) × IsOnItsWay x p (request_key r) × (p.hold ≡ None)
+Claim x threads bs tables t p (phase.Admit r) = IsInCall x threads t p (ask_of r) × IsOnItsWay x p (request_key r) × (p.holds ≡ [])
 Claim x threads bs tables t p (phase.Find r) = IsInCall x threads t p (ask_of r) × IsOnItsWay x p (request_key r) × HoldsShard p (mode_of r)
 Claim {K} {V} {D} x threads bs tables t p (phase.Grow c) =
     IsInCall x threads t p (ask_of (request_of {D = D} c)) × IsOnItsWay x p (growth_key c) × HoldsShard p Exclusive
-    × HasList tables p.shard (λ table. (pair_of x.eq table.items (growth_key c) ≡ None) × (vec_capacity table ≤ vec_len table))
+    × HasPairs tables p.shard (λ table. (pair_of x.eq table.items (growth_key c) ≡ None) × (has_room table ≡ false))
 Claim x threads bs tables t p (phase.Append k v) =
-    IsInCall x threads t p (ask.Keyed (keyed.Insert k v)) × IsBeforeDeed x bs t p k None × HasList tables p.shard (λ table. vec_len table < vec_capacity table)
-Claim {K} {V} x threads bs tables t p (phase.Apply slot k) =
-    (pair : K × V) × IsInCall x threads t p (ask.Keyed k) × IsBeforeDeed x bs t p (keyed_key k) (Some pair) × HasPair tables p.shard slot pair
-Claim {K} {V} x threads bs tables t p (phase.View slot k d) =
+    IsInCall x threads t p (ask.Keyed (keyed.Insert k v)) × IsBeforeDeed x bs t p k None × HasPairs tables p.shard (λ table. has_room table ≡ true)
+Claim {K} {V} x threads bs tables t p (phase.Apply k) =
+    (pair : K × V) × IsInCall x threads t p (ask.Keyed k) × IsBeforeDeed x bs t p (keyed_key k) (Some pair)
+Claim {K} {V} x threads bs tables t p (phase.View k d) =
     (pair : K × V) × IsInCall x threads t p (ask.Keyed (keyed.View k d)) × IsOnItsWay x p k × HoldsShard p Shared
-    × HasList tables p.shard (λ table. (slice_get table.items slot ≡ Some pair) × (pair_of x.eq table.items k ≡ Some pair))
+    × HasPairs tables p.shard (λ table. pair_of x.eq table.items k ≡ Some pair)
 Claim {K} x threads bs tables t p (phase.Read d) =
-    (kind : Way K) × (slot : ℕ) × IsInCall x threads t p (ask.Held (held.Read d)) × (p.guard ≡ Some (guard.Pair kind slot)) × IsReady x bs tables t p p.next p.block
+    (kind : Way K) × IsInCall x threads t p (ask.Held (held.Read d)) × (p.guard ≡ Some (guard.Pair kind)) × IsReady x bs tables t p p.next p.block
 Claim {K} x threads bs tables t p (phase.Change h) =
-    (kind : Way K) × (slot : ℕ) × IsInCall x threads t p (ask.Held h) × (p.guard ≡ Some (guard.Pair kind slot)) × (is_change h kind ≡ true)
+    (kind : Way K) × IsInCall x threads t p (ask.Held h) × (p.guard ≡ Some (guard.Pair kind)) × (is_change h kind ≡ true)
     × HoldsShard p Exclusive × IsReady x bs tables t p p.next p.block
 Claim {K} x threads bs tables t p (phase.Fill v) =
     (key : K) × IsInCall x threads t p (ask.Held (held.Insert v)) × (p.guard ≡ Some (guard.Vacant key)) × HoldsShard p Exclusive × IsReady x bs tables t p p.next p.block
 Claim x threads bs tables t p phase.Downgrade =
-    (slot : ℕ) × IsInCall x threads t p (ask.Held held.Downgrade) × (p.guard ≡ Some (guard.Pair way.Exclusive slot)) × HoldsShard p Exclusive × IsReady x bs tables t p p.next p.block
+    IsInCall x threads t p (ask.Held held.Downgrade) × (p.guard ≡ Some (guard.Pair way.Exclusive)) × HoldsShard p Exclusive × IsReady x bs tables t p p.next p.block
 Claim {K} {V} {D} x threads bs tables t p (phase.Release r) =
-    (a : Ask K V D) × (hold : Hold) × IsInCall x threads t p a × (p.hold ≡ Some hold) × IsReleasing x bs tables t p a r p.guard
+    (a : Ask K V D) × (hold : Hold) × IsInCall x threads t p a × (p.holds ≡ hold ∷ []) × IsReleasing x bs tables t p a r p.guard
 Claim {K} {V} {D} x threads bs tables t p (phase.Answer r) =
     (a : Ask K V D) × IsInCall x threads t p a × HoldsByGuard p × IsAnsweredBy x bs t p.next a r × IsReady x bs tables t p (p.next + 1) (block_after p)
 
 -- a thread's blocks are of the calls that it has answered, and perhaps of the one that it is in
-abbrev pub OwnsBlocks : {K V D T A : Type 0} → List (Block K) → ℕ → Place K V D T A → Type 0
+abbrev pub OwnsBlocks : {K V D T : Type 0} → List (Block K) → ℕ → Place K V D T → Type 0
 OwnsBlocks {K} bs t p =
     (i : ℕ) (b : Block K) → slice_get bs i ≡ Some b → b.thread ≡ t → (b.call < p.next) ⊎ ((b.call ≡ p.next) × (p.block ≡ Some i) × (may_own p.phase ≡ true))
 
 -- a place names a block of its own thread
-abbrev pub HasOwnBlock : {K V D T A : Type 0} → List (Block K) → ℕ → Place K V D T A → Type 0
+abbrev pub HasOwnBlock : {K V D T : Type 0} → List (Block K) → ℕ → Place K V D T → Type 0
 HasOwnBlock {K} bs t p = (i : ℕ) → p.block ≡ Some i → (b : Block K) × (slice_get bs i ≡ Some b) × (b.thread ≡ t)
 
-pub record Stands {K V D T A : Type 0} (x : Setup K V D T) (threads : List ℕ) (bs : List (Block K)) (replies : List (Reply K V T)) (tables : List (Vec (K × V) A)) (t : ℕ) (p : Place K V D T A) : Type 0 where
+pub record Stands {K V D T : Type 0} (x : Setup K V D T) (threads : List ℕ) (bs : List (Block K)) (replies : List (Reply K V T)) (tables : List (ShardPairs K V)) (t : ℕ) (p : Place K V D T) : Type 0 where
   pub program : List (Ask K V D)
   pub has : slice_get x.programs t ≡ Some program
-  pub asks_left : p.asks.items ≡ drop (taken p) program
+  pub asks_left : p.asks ≡ drop (taken p) program
   pub within : taken p ≤ length program
   pub answered : p.next ≡ answered_of replies t
   pub owns : OwnsBlocks bs t p
   pub own_block : HasOwnBlock bs t p
   pub claim : Claim x threads bs tables t p p.phase
 
--- each shard's list has the shard's keys, each once, with the pairs of the replay
-pub record TablesAgree {K V D T A : Type 0} (x : Setup K V D T) (bs : List (Block K)) (tables : List (Vec (K × V) A)) : Type 0 where
-  pub routed : (i j : ℕ) (table : Vec (K × V) A) (pair : K × V) → slice_get tables i ≡ Some table → slice_get table.items j ≡ Some pair → x.route pair.0 ≡ i
-  pub distinct : (i : ℕ) (table : Vec (K × V) A) → slice_get tables i ≡ Some table → AreDistinct x.eq table.items
-  pub contents_are : (q : K) (table : Vec (K × V) A) → slice_get tables (x.route q) ≡ Some table → pair_of x.eq table.items q ≡ contents x bs q
+-- each shard has its own keys, each once, with the pairs of the replay
+pub record TablesAgree {K V D T : Type 0} (x : Setup K V D T) (bs : List (Block K)) (tables : List (ShardPairs K V)) : Type 0 where
+  pub routed : (i j : ℕ) (table : ShardPairs K V) (pair : K × V) → slice_get tables i ≡ Some table → slice_get table.items j ≡ Some pair → x.route pair.0 ≡ i
+  pub distinct : (i : ℕ) (table : ShardPairs K V) → slice_get tables i ≡ Some table → AreDistinct x.eq table.items
+  pub contents_are : (q : K) (table : ShardPairs K V) → slice_get tables (x.route q) ≡ Some table → pair_of x.eq table.items q ≡ contents x bs q
 
-pub record Sound {K V S D T A : Type 0} (x : Setup K V D T) (w : State K V S D T A) : Type 0 where
+pub record Sound {K V S D T : Type 0} (x : Setup K V D T) (w : State K V S D T) : Type 0 where
   pub guarded : (t : ℕ) (program : List (Ask K V D)) → slice_get x.programs t ≡ Some program → one_guard false program ≡ true
   pub routes : (q : K) → x.route q < length w.tables
-  pub stands : (t : ℕ) (p : Place K V D T A) → slice_get w.places t ≡ Some p → Stands x (threads_of w) w.blocks w.replies w.tables t p
+  pub stands : (t : ℕ) (p : Place K V D T) → slice_get w.places t ≡ Some p → Stands x (threads_of w) w.blocks w.replies w.tables t p
   pub tables : TablesAgree x w.blocks w.tables
   pub holds : HoldsMatch w.places w.holds
   pub placed : WellPlaced x (threads_of w) (started_of w) w.blocks w.replies

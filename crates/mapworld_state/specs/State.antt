@@ -1,15 +1,15 @@
 -- A world as contracts see it.
 use Rattle.std.specs.Prelude.{ℕ, ◌+◌, List, length, map, flat_map, Option, slice_get}
 use Rattle.std.specs.Option.{option_and_then}
-use Rattle.std.specs.declared.vec.Vec.{Vec}
 use Rattle.mapworld_calls.specs.declared.ask.Ask.{Ask}
 use Rattle.mapworld_calls.specs.declared.block.Block.{Block}
 use Rattle.mapworld_calls.specs.declared.reply.Reply.{Reply}
 use Rattle.mapworld_state.specs.declared.step.Step.{Step}
-use Rattle.mapworld_state.specs.declared.place.Place.{Place}
+use Rattle.mapworld_state.specs.Places.{Place}
 use Rattle.mapworld_state.specs.Holds.{Desks}
+use Rattle.mapworld_state.specs.Shards.{ShardPairs}
 
-pub record State (K V S D T A : Type 0) : Type 0 where
+pub record State (K V S D T : Type 0) : Type 0 where
   pub hasher : S
   -- the pairs and programs that it was made with
   pub opening : List (K × V)
@@ -17,26 +17,26 @@ pub record State (K V S D T A : Type 0) : Type 0 where
   -- the steps so far
   pub steps : List Step
   -- where each thread stands
-  pub places : List (Place K V D T A)
+  pub places : List (Place K V D T)
   -- the pairs of each shard
-  pub tables : List (Vec (K × V) A)
+  pub tables : List (ShardPairs K V)
   -- the desk of each shard
   pub holds : Desks
   pub blocks : List (Block K)
   pub replies : List (Reply K V T)
 
 -- the thread of each step so far
-abbrev pub threads_of : {K V S D T A : Type 0} → State K V S D T A → List ℕ
+abbrev pub threads_of : {K V S D T : Type 0} → State K V S D T → List ℕ
 threads_of w = map (λ s. s.thread) w.steps
 
 -- the number of the next step: they are counted from 1
-abbrev pub next_step : {K V S D T A : Type 0} → State K V S D T A → ℕ
+abbrev pub next_step : {K V S D T : Type 0} → State K V S D T → ℕ
 next_step w = length w.steps + 1
 
 -- all pairs, shard by shard
-abbrev pub pairs_of : {K V S D T A : Type 0} → State K V S D T A → List (K × V)
+abbrev pub pairs_of : {K V S D T : Type 0} → State K V S D T → List (K × V)
 pairs_of w = flat_map (λ t. t.items) w.tables
 
 -- the start step of a thread's unanswered call, if it has one that started
-abbrev pub started_of : {K V S D T A : Type 0} → State K V S D T A → ℕ → Option ℕ
+abbrev pub started_of : {K V S D T : Type 0} → State K V S D T → ℕ → Option ℕ
 started_of w t = option_and_then (λ p. p.started) (slice_get w.places t)

@@ -1,16 +1,17 @@
 -- The kinds of steps: what each changes, of which thread, and that nothing else changes.
-use Rattle.std.specs.Prelude.{◌≡◌, ◌≢◌, ℕ, ◌+◌, ◌*◌, ◌≤◌, ◌⊎◌, Bool, true, false, if◌then◌else◌, nat_lt, List, [], ◌∷◌, ◌++◌, length, Option, Some, None, slice_get, slice_set, position, remove, vec_len, vec_capacity, is_some}
-use Rattle.std.specs.declared.vec.Vec.{Vec}
-use Rattle.std.specs.declared.collections.VecDeque.{VecDeque}
+use Rattle.std.specs.Prelude.{◌≡◌, ◌≢◌, ℕ, ◌+◌, ◌⊎◌, true, false, if◌then◌else◌, List, [], ◌∷◌, ◌++◌, length, Option, Some, None, slice_get, slice_set, is_some}
+use Rattle.std.specs.Option.{option_and_then}
 use Rattle.mapworld_calls.specs.declared.ask.Ask.{Ask}
 use Rattle.mapworld_calls.specs.declared.ask.Keyed.{Keyed}
 use Rattle.mapworld_calls.specs.declared.ask.Held.{Held}
 use Rattle.mapworld_calls.specs.declared.block.Block.{Block}
 use Rattle.mapworld_calls.specs.declared.reply.Answer.{Answer}
 use Rattle.mapworld_calls.specs.declared.reply.Answer.TheVariants as answer
+use Rattle.mapworld_calls.specs.Programs.{keyed_key}
+use Rattle.mapworld_calls.specs.Replay.{block_key}
 use Rattle.mapworld_calls.specs.Calls.{pair_in, keyed_answer, keyed_leaves, held_answer, held_leaves}
 use Rattle.mapworld_calls.specs.Setup.{Setup}
-use Rattle.mapworld_calls.specs.Pairs.{has_key, pair_of}
+use Rattle.mapworld_calls.specs.Pairs.{pair_of}
 use Rattle.lock_api_desk.specs.declared.mode.Mode.TheVariants as desk_mode
 use Rattle.mapworld_state.specs.declared.holds.Mode.TheVariants.{Shared, Exclusive}
 use Rattle.mapworld_state.specs.declared.holds.Hold.{Hold}
@@ -21,39 +22,28 @@ use Rattle.mapworld_state.specs.declared.place.Way.TheVariants as way
 use Rattle.mapworld_state.specs.declared.place.Guard.TheVariants as guard
 use Rattle.mapworld_state.specs.declared.place.Growth.{Growth}
 use Rattle.mapworld_state.specs.declared.place.Phase.TheVariants as phase
-use Rattle.mapworld_state.specs.declared.place.Place.{Place}
+use Rattle.mapworld_state.specs.Places.{Place}
 use Rattle.lock_api_desk.specs.declared.fault.DeskFault.TheVariants.{WouldWait}
 use Rattle.lock_api_desk.specs.Desk.{DeskState, admitted as with_guard, turned, released}
 use Rattle.lock_api_desk.specs.Refusals.{acquire_refusal}
 use Rattle.mapworld_state.specs.Holds.{is_excluded, at_desk}
+use Rattle.mapworld_state.specs.Shards.{ShardPairs, has_room, Puts, Grown}
 use Rattle.mapworld_state.specs.State.{State, next_step}
 use Rattle.mapworld_state.specs.Moves.{request_key, mode_of, is_last, lent, start_phase, start_guard, start_shard, start_counts, ends_guard, changed_phase, request_of, growth_key, found_phase, found_done, found_guard, block_behind, stepped, ListsBlock, CountsCall, EndsBlock}
 
--- where the key's pair stands in a shard's list, whether the list has room for one more, and for how many a full one of n
--- pairs has room behind a growth
-abbrev pub slot_in : {K V A : Type 0} → (K → K → Bool) → Vec (K × V) A → K → Option ℕ
-slot_in eq table k = position (has_key eq k) table.items
+-- the key of the session that a thread is in: that of its block
+abbrev pub guarded_key : {K V D T : Type 0} → Setup K V D T → List (Block K) → Option ℕ → Option K
+guarded_key x bs block = option_and_then (λ i. option_and_then (block_key x) (slice_get bs i)) block
 
-abbrev pub has_room : {X A : Type 0} → Vec X A → Bool
-has_room v = nat_lt (vec_len v) (vec_capacity v)
-
-abbrev pub grown_room : ℕ → ℕ
-grown_room n = 2 * n + 4
-
--- a list with another value at that place, or without the one there
-abbrev pub put_back : {X : Type 0} → List X → ℕ → Option X → List X
-put_back xs i None = remove xs i
-put_back xs i (Some y) = slice_set xs i y
-
-module _ {K V S D T A : Type 0} (x : Setup K V D T) (w : State K V S D T A) (s : Step) (w' : State K V S D T A) where
+module _ {K V S D T : Type 0} (x : Setup K V D T) (w : State K V S D T) (s : Step) (w' : State K V S D T) where
   -- a start takes the thread's next call and sets `started` to its number
   pub record Starts : Type 0 where
-    pub place : Place K V D T A
+    pub place : Place K V D T
     pub stands : slice_get w.places s.thread ≡ Some place
     pub before : place.phase ≡ phase.Rest
     pub ask : Ask K V D
-    pub rest : VecDeque (Ask K V D) A
-    pub asked : place.asks.items ≡ ask ∷ rest.items
+    pub rest : List (Ask K V D)
+    pub asked : place.asks ≡ ask ∷ rest
     pub blocks : List (Block K)
     pub counted : CountsCall w.blocks (start_counts (start_phase {T = T} ask place.guard) place.block) place.next blocks
     pub after : w' ≡ record (stepped w s (record place {
@@ -68,138 +58,131 @@ module _ {K V S D T A : Type 0} (x : Setup K V D T) (w : State K V S D T A) (s :
   -- an admission takes a hold that no other hold excludes, under a guard number that none of them has: the shard's desk grants
   -- and lists it
   pub record Admits : Type 0 where
-    pub place : Place K V D T A
+    pub place : Place K V D T
     pub stands : slice_get w.places s.thread ≡ Some place
     pub request : Request K V D
     pub before : place.phase ≡ phase.Admit request
     pub admitted : is_excluded w.places place.shard (mode_of request) ≡ false
     pub hold : Hold
     pub hold_is : (hold.shard ≡ place.shard) × (hold.mode ≡ mode_of request)
-    pub fresh : (u : ℕ) (q : Place K V D T A) (h : Hold) → slice_get w.places u ≡ Some q → q.hold ≡ Some h → h.guard ≢ hold.guard
+    pub fresh : (u : ℕ) (q : Place K V D T) (i : ℕ) (h : Hold) → slice_get w.places u ≡ Some q → slice_get q.holds i ≡ Some h → h.guard ≢ hold.guard
     pub desk : DeskState (Unit {0})
     pub at_shard : slice_get w.holds hold.shard ≡ Some desk
     pub granted : acquire_refusal WouldWait (at_desk hold.mode) hold.guard desk ≡ None
-    pub after : w' ≡ record (stepped w s (record place { hold = Some hold; phase = phase.Find request })) { holds = slice_set w.holds hold.shard (with_guard (at_desk hold.mode) s.thread hold.guard desk) }
+    pub after : w' ≡ record (stepped w s (record place { holds = place.holds ++ hold ∷ []; phase = phase.Find request })) { holds = slice_set w.holds hold.shard (with_guard (at_desk hold.mode) s.thread hold.guard desk) }
 
   -- a find looks for the key in the held shard; it is the position of the block that it lists
   pub record Finds : Type 0 where
-    pub place : Place K V D T A
+    pub place : Place K V D T
     pub stands : slice_get w.places s.thread ≡ Some place
     pub request : Request K V D
     pub before : place.phase ≡ phase.Find request
-    pub table : Vec (K × V) A
+    pub table : ShardPairs K V
     pub held : slice_get w.tables place.shard ≡ Some table
     pub done : Option ℕ
-    pub done_is : done ≡ found_done request (slot_in x.eq table (request_key request)) (has_room table)
+    pub done_is : done ≡ found_done request (is_some (pair_of x.eq table.items (request_key request))) (has_room table)
     pub blocks : List (Block K)
     pub listed : ListsBlock w s.thread place done blocks
     pub after : w' ≡ record (stepped w s (record place {
       block = block_behind done (length w.blocks) place.block;
-      guard = found_guard request (slot_in x.eq table (request_key request)) (has_room table);
-      phase = found_phase request (slot_in x.eq table (request_key request)) (has_room table);
+      guard = found_guard request (is_some (pair_of x.eq table.items (request_key request))) (has_room table);
+      phase = found_phase request (is_some (pair_of x.eq table.items (request_key request))) (has_room table);
     })) { blocks = blocks }
 
-  -- a find that grows the shard's list, which is full and has no pair of the key, and keeps its pairs; it leads where a find
-  -- leads that has room, and is the position of the block that it lists
-  pub record GrowsList : Type 0 where
-    pub place : Place K V D T A
+  -- a find that grows the shard, which is full and has no pair of the key, and keeps its pairs; it leads where a find leads
+  -- that has room, and is the position of the block that it lists
+  pub record GrowsShard : Type 0 where
+    pub place : Place K V D T
     pub stands : slice_get w.places s.thread ≡ Some place
     pub call : Growth K V
     pub before : place.phase ≡ phase.Grow call
-    pub table : Vec (K × V) A
+    pub table : ShardPairs K V
     pub held : slice_get w.tables place.shard ≡ Some table
-    pub grown : Vec (K × V) A
     pub absent : pair_of x.eq table.items (growth_key call) ≡ None
-    pub full : vec_capacity table ≤ vec_len table
-    pub pairs : grown.items ≡ table.items
-    pub room : vec_capacity grown ≡ grown_room (vec_len table)
+    pub full : has_room table ≡ false
+    pub grown : ShardPairs K V
+    pub grows : Grown x.eq table grown
     pub blocks : List (Block K)
-    pub listed : ListsBlock w s.thread place (found_done {D = D} (request_of call) None true) blocks
+    pub listed : ListsBlock w s.thread place (found_done {D = D} (request_of call) false true) blocks
     pub after : w' ≡ record (stepped w s (record place {
       block = Some (length w.blocks);
-      guard = found_guard {D = D} (request_of call) None true;
-      phase = found_phase (request_of call) None true;
+      guard = found_guard {D = D} (request_of call) false true;
+      phase = found_phase (request_of call) false true;
     })) { tables = slice_set w.tables place.shard grown; blocks = blocks }
 
-  -- a find whose growth is refused, of a list that is full and has no pair of the key: no block is listed, no pair changes, and
-  -- the call goes on to its release
+  -- a find whose growth is refused, of a shard that is full and has no pair of the key: no block is listed, the shard stays as
+  -- it is, and the call goes on to its release
   pub record IsRefusedGrowth : Type 0 where
-    pub place : Place K V D T A
+    pub place : Place K V D T
     pub stands : slice_get w.places s.thread ≡ Some place
     pub call : Growth K V
     pub before : place.phase ≡ phase.Grow call
-    pub table : Vec (K × V) A
+    pub table : ShardPairs K V
     pub held : slice_get w.tables place.shard ≡ Some table
-    pub kept : Vec (K × V) A
     pub absent : pair_of x.eq table.items (growth_key call) ≡ None
-    pub full : vec_capacity table ≤ vec_len table
-    pub pairs : kept.items ≡ table.items
-    pub room_stays : vec_capacity kept ≡ vec_capacity table
-    pub after : w' ≡ record (stepped w s (record place { phase = phase.Release answer.NoMemory })) { tables = slice_set w.tables place.shard kept }
+    pub full : has_room table ≡ false
+    pub after : w' ≡ stepped w s (record place { phase = phase.Release answer.NoMemory })
 
   -- a deed adds the pair
   pub record Appends : Type 0 where
-    pub place : Place K V D T A
+    pub place : Place K V D T
     pub stands : slice_get w.places s.thread ≡ Some place
     pub key : K
     pub value : V
     pub before : place.phase ≡ phase.Append key value
-    pub table : Vec (K × V) A
+    pub table : ShardPairs K V
     pub held : slice_get w.tables place.shard ≡ Some table
-    pub changed : Vec (K × V) A
-    pub pairs : changed.items ≡ table.items ++ (key, value) ∷ []
-    pub room_stays : vec_capacity changed ≡ vec_capacity table
+    pub changed : ShardPairs K V
+    pub puts : Puts x.eq table changed key (Some (key, value))
     pub blocks : List (Block K)
     pub counted : CountsCall w.blocks place.block place.next blocks
     pub after : w' ≡ record (stepped w s (record place { phase = phase.Release answer.None })) { tables = slice_set w.tables place.shard changed; blocks = blocks }
 
   -- a deed does with the found pair what the call does with it: its value is another, it goes, or it stays as it is
   pub record Applies : Type 0 where
-    pub place : Place K V D T A
+    pub place : Place K V D T
     pub stands : slice_get w.places s.thread ≡ Some place
-    pub slot : ℕ
     pub call : Keyed K V D
-    pub before : place.phase ≡ phase.Apply slot call
-    pub table : Vec (K × V) A
+    pub before : place.phase ≡ phase.Apply call
+    pub table : ShardPairs K V
     pub held : slice_get w.tables place.shard ≡ Some table
     pub pair : K × V
-    pub found : slice_get table.items slot ≡ Some pair
-    pub changed : Vec (K × V) A
-    pub pairs : changed.items ≡ put_back table.items slot (keyed_leaves x.deeds call (Some pair))
-    pub room_stays : vec_capacity changed ≡ vec_capacity table
+    pub found : pair_of x.eq table.items (keyed_key call) ≡ Some pair
+    pub changed : ShardPairs K V
+    pub puts : Puts x.eq table changed (keyed_key call) (keyed_leaves x.deeds call (Some pair))
     pub blocks : List (Block K)
     pub counted : CountsCall w.blocks place.block place.next blocks
     pub after : w' ≡ record (stepped w s (record place { phase = phase.Release (keyed_answer x.deeds call (Some pair)) })) { tables = slice_set w.tables place.shard changed; blocks = blocks }
 
   -- a deed reads the found pair; it is the position of the block that it lists
   pub record Views : Type 0 where
-    pub place : Place K V D T A
+    pub place : Place K V D T
     pub stands : slice_get w.places s.thread ≡ Some place
-    pub slot : ℕ
     pub key : K
     pub deed : D
-    pub before : place.phase ≡ phase.View slot key deed
-    pub table : Vec (K × V) A
+    pub before : place.phase ≡ phase.View key deed
+    pub table : ShardPairs K V
     pub held : slice_get w.tables place.shard ≡ Some table
     pub pair : K × V
-    pub found : slice_get table.items slot ≡ Some pair
+    pub found : pair_of x.eq table.items key ≡ Some pair
     pub blocks : List (Block K)
     pub listed : ListsBlock w s.thread place (Some 1) blocks
     pub after : w' ≡ record (stepped w s (record place { block = Some (length w.blocks); phase = phase.Release (answer.Read (x.deeds.answer deed pair.0 pair.1)) })) { blocks = blocks }
 
   -- a deed reads the guarded pair
   pub record Reads : Type 0 where
-    pub place : Place K V D T A
+    pub place : Place K V D T
     pub stands : slice_get w.places s.thread ≡ Some place
     pub deed : D
     pub before : place.phase ≡ phase.Read deed
-    pub table : Vec (K × V) A
+    pub table : ShardPairs K V
     pub held : slice_get w.tables place.shard ≡ Some table
     pub kind : Way K
-    pub slot : ℕ
-    pub guarded : place.guard ≡ Some (guard.Pair kind slot)
+    pub guarded : place.guard ≡ Some (guard.Pair kind)
+    pub key : K
+    pub key_is : guarded_key x w.blocks place.block ≡ Some key
     pub pair : K × V
-    pub found : slice_get table.items slot ≡ Some pair
+    pub found : pair_of x.eq table.items key ≡ Some pair
     pub blocks : List (Block K)
     pub counted : CountsCall w.blocks place.block place.next blocks
     pub after : w' ≡ record (stepped w s (record place { phase = phase.Answer (answer.Read (x.deeds.answer deed pair.0 pair.1)) })) { blocks = blocks }
@@ -207,20 +190,20 @@ module _ {K V S D T A : Type 0} (x : Setup K V D T) (w : State K V S D T A) (s :
   -- a deed does with the guarded pair what the call does with it: its value or its key is another, or it goes, and the guard
   -- ends or stays
   pub record Changes : Type 0 where
-    pub place : Place K V D T A
+    pub place : Place K V D T
     pub stands : slice_get w.places s.thread ≡ Some place
     pub call : Held V D
     pub before : place.phase ≡ phase.Change call
-    pub table : Vec (K × V) A
+    pub table : ShardPairs K V
     pub held : slice_get w.tables place.shard ≡ Some table
     pub kind : Way K
-    pub slot : ℕ
-    pub guarded : place.guard ≡ Some (guard.Pair kind slot)
+    pub guarded : place.guard ≡ Some (guard.Pair kind)
+    pub key : K
+    pub key_is : guarded_key x w.blocks place.block ≡ Some key
     pub pair : K × V
-    pub found : slice_get table.items slot ≡ Some pair
-    pub changed : Vec (K × V) A
-    pub pairs : changed.items ≡ put_back table.items slot (pair_in (held_leaves x.deeds call (lent kind pair)))
-    pub room_stays : vec_capacity changed ≡ vec_capacity table
+    pub found : pair_of x.eq table.items key ≡ Some pair
+    pub changed : ShardPairs K V
+    pub puts : Puts x.eq table changed key (pair_in (held_leaves x.deeds call (lent kind pair)))
     pub blocks : List (Block K)
     pub counted : CountsCall w.blocks place.block place.next blocks
     pub after : w' ≡ record (stepped w s (record place {
@@ -230,41 +213,40 @@ module _ {K V S D T A : Type 0} (x : Setup K V D T) (w : State K V S D T A) (s :
 
   -- a deed adds the pair of a vacant guard's key, and the guard is exclusive
   pub record Fills : Type 0 where
-    pub place : Place K V D T A
+    pub place : Place K V D T
     pub stands : slice_get w.places s.thread ≡ Some place
     pub value : V
     pub before : place.phase ≡ phase.Fill value
-    pub table : Vec (K × V) A
+    pub table : ShardPairs K V
     pub held : slice_get w.tables place.shard ≡ Some table
     pub key : K
     pub guarded : place.guard ≡ Some (guard.Vacant key)
-    pub changed : Vec (K × V) A
-    pub pairs : changed.items ≡ table.items ++ (key, value) ∷ []
-    pub room_stays : vec_capacity changed ≡ vec_capacity table
+    pub changed : ShardPairs K V
+    pub puts : Puts x.eq table changed key (Some (key, value))
     pub blocks : List (Block K)
     pub counted : CountsCall w.blocks place.block place.next blocks
-    pub after : w' ≡ record (stepped w s (record place { guard = Some (guard.Pair way.Exclusive (length table.items)); phase = phase.Answer answer.Held })) {
+    pub after : w' ≡ record (stepped w s (record place { guard = Some (guard.Pair way.Exclusive); phase = phase.Answer answer.Held })) {
       tables = slice_set w.tables place.shard changed;
       blocks = blocks;
     }
 
   -- a guard that held its shard alone shares it, and the shard's desk lists it so
   pub record Downgrades : Type 0 where
-    pub place : Place K V D T A
+    pub place : Place K V D T
     pub stands : slice_get w.places s.thread ≡ Some place
     pub before : place.phase ≡ phase.Downgrade
-    pub slot : ℕ
-    pub guarded : place.guard ≡ Some (guard.Pair way.Exclusive slot)
+    pub guarded : place.guard ≡ Some (guard.Pair way.Exclusive)
     pub hold : Hold
-    pub holds : place.hold ≡ Some hold
+    pub more : List Hold
+    pub holds : place.holds ≡ hold ∷ more
     pub alone : hold.mode ≡ Exclusive
     pub desk : DeskState (Unit {0})
     pub at_shard : slice_get w.holds hold.shard ≡ Some desk
     pub blocks : List (Block K)
     pub counted : CountsCall w.blocks place.block place.next blocks
     pub after : w' ≡ record (stepped w s (record place {
-      hold = Some (record hold { mode = Shared });
-      guard = Some (guard.Pair way.Shared slot);
+      holds = record hold { mode = Shared } ∷ more;
+      guard = Some (guard.Pair way.Shared);
       phase = phase.Answer answer.Held;
     })) {
       holds = slice_set w.holds hold.shard (turned desk_mode.Shared hold.guard desk);
@@ -273,21 +255,22 @@ module _ {K V S D T A : Type 0} (x : Setup K V D T) (w : State K V S D T A) (s :
 
   -- a release ends the thread's hold, and its guard with it, and the shard's desk lists it no more
   pub record Releases : Type 0 where
-    pub place : Place K V D T A
+    pub place : Place K V D T
     pub stands : slice_get w.places s.thread ≡ Some place
     pub answer : Answer K V T
     pub before : place.phase ≡ phase.Release answer
     pub hold : Hold
-    pub holds : place.hold ≡ Some hold
+    pub more : List Hold
+    pub holds : place.holds ≡ hold ∷ more
     pub desk : DeskState (Unit {0})
     pub at_shard : slice_get w.holds hold.shard ≡ Some desk
     pub blocks : List (Block K)
     pub counted : CountsCall w.blocks (if is_some place.guard then place.block else None) place.next blocks
-    pub after : w' ≡ record (stepped w s (record place { hold = None; guard = None; phase = phase.Answer answer })) { holds = slice_set w.holds hold.shard (released hold.guard desk); blocks = blocks }
+    pub after : w' ≡ record (stepped w s (record place { holds = more; guard = None; phase = phase.Answer answer })) { holds = slice_set w.holds hold.shard (released hold.guard desk); blocks = blocks }
 
   -- an answer carries the start into the reply
   pub record Answers : Type 0 where
-    pub place : Place K V D T A
+    pub place : Place K V D T
     pub stands : slice_get w.places s.thread ≡ Some place
     pub answer : Answer K V T
     pub before : place.phase ≡ phase.Answer answer
@@ -305,16 +288,16 @@ module _ {K V S D T A : Type 0} (x : Setup K V D T) (w : State K V S D T A) (s :
       replies = w.replies ++ record { thread = s.thread; call = place.next; start = start; end = next_step w; answer = answer } ∷ [];
     }
 
--- a find for which the shard's list has to grow: it grows, or that is refused
-abbrev pub Grows : {K V S D T A : Type 0} → Setup K V D T → State K V S D T A → Step → State K V S D T A → Type 0
-Grows x w s w' = GrowsList x w s w' ⊎ IsRefusedGrowth x w s w'
+-- a find for which the shard has to grow: it grows, or that is refused
+abbrev pub Grows : {K V S D T : Type 0} → Setup K V D T → State K V S D T → Step → State K V S D T → Type 0
+Grows x w s w' = GrowsShard x w s w' ⊎ IsRefusedGrowth x w s w'
 
 -- one step of a world, of one kind
-pub data IsStep {K V S D T A : Type 0} (x : Setup K V D T) (w : State K V S D T A) (s : Step) (w' : State K V S D T A) : Type 0 where
+pub data IsStep {K V S D T : Type 0} (x : Setup K V D T) (w : State K V S D T) (s : Step) (w' : State K V S D T) : Type 0 where
   start : Starts x w s w' → IsStep x w s w'
   admit : Admits x w s w' → IsStep x w s w'
   find : Finds x w s w' → IsStep x w s w'
-  find_grows : GrowsList x w s w' → IsStep x w s w'
+  find_grows : GrowsShard x w s w' → IsStep x w s w'
   find_refused : IsRefusedGrowth x w s w' → IsStep x w s w'
   deed_appends : Appends x w s w' → IsStep x w s w'
   deed_applies : Applies x w s w' → IsStep x w s w'

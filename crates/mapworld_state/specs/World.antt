@@ -16,7 +16,7 @@ use Rattle.mapworld_state.specs.State.{State, pairs_of, started_of, threads_of}
 abbrev pub deeds_of : {D K V T : Type 0} → deed.Ghosts D K V T → Deeds D K V T
 deeds_of d = record { answer = d.answer_of; keep = d.keeps; effect = d.effect_of }
 
-abbrev pub setup_of : {K V S H D T A : Type 0} → deed.Ghosts D K V T → builder.Ghosts S H → hasher.Ghosts H → (K → K → Bool) → (K → HashWrites) → State K V S D T A → Setup K V D T
+abbrev pub setup_of : {K V S H D T : Type 0} → deed.Ghosts D K V T → builder.Ghosts S H → hasher.Ghosts H → (K → K → Bool) → (K → HashWrites) → State K V S D T → Setup K V D T
 setup_of d b h eq writes w = record {
   eq = eq;
   route = key_route b h writes w.hasher (length w.tables);
@@ -26,17 +26,17 @@ setup_of d b h eq writes w = record {
 }
 
 -- the same with its programs as calls of every kind, which is what the theorem speaks of
-abbrev pub world_setup : {K V S H D T A : Type 0} → deed.Ghosts D K V T → builder.Ghosts S H → hasher.Ghosts H → (K → K → Bool) → (K → HashWrites) → State K V S D T A → every.Setup K V D T
+abbrev pub world_setup : {K V S H D T : Type 0} → deed.Ghosts D K V T → builder.Ghosts S H → hasher.Ghosts H → (K → K → Bool) → (K → HashWrites) → State K V S D T → every.Setup K V D T
 world_setup d b h eq writes w = as_setup (length w.tables) (setup_of d b h eq writes w)
 
 -- its replies and contents are those of one plain map that takes its blocks in their order
-abbrev pub AgreesWithBlocks : {K V S H D T A : Type 0} → deed.Ghosts D K V T → builder.Ghosts S H → hasher.Ghosts H → (K → K → Bool) → (K → HashWrites) → State K V S D T A → Type 0
+abbrev pub AgreesWithBlocks : {K V S H D T : Type 0} → deed.Ghosts D K V T → builder.Ghosts S H → hasher.Ghosts H → (K → K → Bool) → (K → HashWrites) → State K V S D T → Type 0
 AgreesWithBlocks d b h eq writes w = Agrees (world_setup d b h eq writes w) w.blocks (pairs_of w) (map as_reply w.replies)
 
 -- its blocks and replies stand at steps of their own threads, each of a call that was asked and has started
-abbrev pub HasPlacedBlocks : {K V S H D T A : Type 0} → deed.Ghosts D K V T → builder.Ghosts S H → hasher.Ghosts H → (K → K → Bool) → (K → HashWrites) → State K V S D T A → Type 0
+abbrev pub HasPlacedBlocks : {K V S H D T : Type 0} → deed.Ghosts D K V T → builder.Ghosts S H → hasher.Ghosts H → (K → K → Bool) → (K → HashWrites) → State K V S D T → Type 0
 HasPlacedBlocks d b h eq writes w = WellPlaced (world_setup d b h eq writes w) (threads_of w) (started_of w) w.blocks (map as_reply w.replies)
 
 -- steps, blocks and replies of the one world are still those of the other, which may have more of them
-abbrev pub OnlyAddsTo : {K V S D T A : Type 0} → State K V S D T A → State K V S D T A → Type 0
+abbrev pub OnlyAddsTo : {K V S D T : Type 0} → State K V S D T → State K V S D T → Type 0
 OnlyAddsTo w w' = OnlyAdds (threads_of w) (threads_of w') w.blocks w'.blocks (map as_reply w.replies) (map as_reply w'.replies)

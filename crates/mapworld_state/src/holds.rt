@@ -3,8 +3,9 @@
 use lock_api_desk::{Desk, TokenTable};
 
 /// How a guard holds its shard.
-#[derive(Clone, Copy, PartialEq, Eq, Debug)]
+#[derive(Clone, Copy, PartialEq, Eq, Debug, Default)]
 pub enum Mode {
+    #[default]
     /// Beside others that do so too.
     Shared,
     /// Alone.
@@ -12,7 +13,7 @@ pub enum Mode {
 }
 
 /// A guard's hold of a shard.
-#[derive(Clone, Copy, PartialEq, Eq, Debug)]
+#[derive(Clone, Copy, PartialEq, Eq, Debug, Default)]
 pub struct Hold {
     /// The shard that is held.
     pub shard: usize,

@@ -1,6 +1,7 @@
 //! Where a thread stands in its program.
 
 use crate::holds::Hold;
+use arrayvec::ArrayVec;
 use mapworld_calls::{Answer, Ask, Begin, Held, Keyed};
 use std::alloc::Allocator;
 use std::collections::VecDeque;
@@ -26,13 +27,13 @@ pub enum Way<K> {
 /// What a thread holds between its calls.
 #[derive(Drop)]
 pub enum Guard<K> {
-    /// The pair at that place of its shard's list.
-    Pair(Way<K>, usize),
+    /// The pair of its session's key.
+    Pair(Way<K>),
     /// The room for a pair of the key that an entry was handed, which is absent.
     Vacant(K),
 }
 
-/// A call on an absent key for whose pair the shard's list has to grow.
+/// A call on an absent key for whose pair the shard has to grow.
 #[derive(Drop)]
 pub enum Growth<K, V> {
     Insert(K, V),
@@ -48,14 +49,14 @@ pub enum Phase<K, V, D, T> {
     Admit(Request<K, V, D>),
     /// The look into the held shard.
     Find(Request<K, V, D>),
-    /// The growth of the held shard's list, which has no room for the new pair.
+    /// The growth of the held shard, which has no room for the new pair.
     Grow(Growth<K, V>),
     /// The new pair is added.
     Append(K, V),
-    /// The call does with the pair at that place of the list, which is its key's, what it does with a pair.
-    Apply(usize, Keyed<K, V, D>),
-    /// The pair at that place of the list, which is the key's, is read.
-    View(usize, K, D),
+    /// The call does with its key's pair what it does with a pair.
+    Apply(Keyed<K, V, D>),
+    /// The key's pair is read.
+    View(K, D),
     /// The guarded pair is read.
     Read(D),
     /// The call does with the guarded pair what it does with a pair.
@@ -83,8 +84,11 @@ pub struct Place<K, V, D, T, A: Allocator> {
     pub closes: bool,
     /// The shard of its call or session.
     pub shard: usize,
-    /// Its hold, from the admission to the release.
-    pub hold: Option<Hold>,
+    /// The slot of its shard at which the pair stands that its call has found or its guard lends, while there is one.
+    pub slot: usize,
+    /// Its holds, from the admission to the release: two at the most, as a walk has that takes the next shard before it gives the last one
+    /// back.
+    pub holds: ArrayVec<Hold, 2>,
     /// The block of its call or session, from the position on.
     pub block: Option<usize>,
     /// Its guard, while it has one.

@@ -3,14 +3,16 @@
 use crate::holds::ShardDesk;
 use crate::place::Place;
 use crate::step::Step;
+use dashmap_table::Shard;
 use mapworld_calls::{Ask, Block, Reply};
 use past::Past;
 use std::alloc::Allocator;
+use std::hash::Hash;
 use std::snapshot::Snapshot;
 
 /// A world's parts. Each step changes them by the definition of its kind.
 #[derive(Drop)]
-pub struct Core<K, V, S, D, T, A: Allocator> {
+pub struct Core<K: Eq + Hash, V, S, D, T, A: Allocator> {
     pub hasher: S,
     /// The pairs that it was made with, for contracts alone.
     pub opening: Snapshot<Vec<(K, V), A>>,
@@ -29,7 +31,7 @@ pub struct Core<K, V, S, D, T, A: Allocator> {
     /// Where each thread stands.
     pub places: Vec<Place<K, V, D, T, A>, A>,
     /// The pairs of each shard.
-    pub tables: Vec<Vec<(K, V), A>, A>,
+    pub tables: Vec<Shard<K, V, A>, A>,
     /// The desk of each shard.
     pub desks: Vec<ShardDesk<A>, A>,
     pub blocks: Vec<Block<K>, A>,
