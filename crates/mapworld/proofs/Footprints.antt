@@ -15,7 +15,7 @@ use Rattle.mapworld_calls.proofs.Folds.{fold-replaced}
 use Rattle.mapworld_calls.proofs.Lists.{slice_get-set_other}
 use Rattle.mapworld_calls.proofs.Replays.{left-untouched}
 use Rattle.mapworld_state.specs.declared.step.Step.{Step}
-use Rattle.mapworld_state.specs.declared.place.Place.{Place}
+use Rattle.mapworld_state.specs.Places.{Place}
 use Rattle.mapworld_state.specs.State.{State, pairs_of, started_of}
 use Rattle.mapworld_state.specs.Moves.{CountsIn, CountsCall}
 use Rattle.mapworld_state.specs.Steps.{IsStep, start, admit, find, find_grows, find_refused, deed_appends, deed_applies, deed_views, deed_reads, deed_changes, deed_fills, downgrade, release, answers}
@@ -39,7 +39,7 @@ asked_key x started replies b (ask.Keyed k) done = (keyed_key k, refl)
 asked_key x started replies b (ask.Begin g) done = (opening_key g, refl)
 asked_key x started replies b (ask.Held h) done = absurd done
 
-module _ {K V S D T A : Type 0} (x : Setup K V D T) (laws : Laws x) (w : State K V S D T A) (s : Step) (w' : State K V S D T A) (sound : Sound x w) where
+module _ {K V S D T : Type 0} (x : Setup K V D T) (laws : Laws x) (w : State K V S D T) (s : Step) (w' : State K V S D T) (sound : Sound x w) where
   block_has_key : (i : ℕ) (b : Block K) → slice_get w.blocks i ≡ Some b → (k : K) × (block_key x b ≡ Some k)
   block_has_key i b at =
       let placed = sound.placed.placed i b at in
@@ -79,88 +79,88 @@ module _ {K V S D T A : Type 0} (x : Setup K V D T) (laws : Laws x) (w : State K
               ∙ sym ((agrees x laws w sound).contents_are q))),
         )
 
-  stays_elsewhere : (p' : Place K V D T A) (t : ℕ) → t ≢ s.thread → slice_get (slice_set w.places s.thread p') t ≡ slice_get w.places t
+  stays_elsewhere : (p' : Place K V D T) (t : ℕ) → t ≢ s.thread → slice_get (slice_set w.places s.thread p') t ≡ slice_get w.places t
   stays_elsewhere p' t ne = slice_get-set_other w.places s.thread t p' (λ e. ne (sym e))
 
   pub step_footprint : IsStep x w s w' → HasFootprint x.eq w s w'
   step_footprint (start a) = record {
-    places = λ t ne. ap (λ (v : State K V S D T A). slice_get v.places t) a.after ∙ stays_elsewhere _ t ne;
-    touches = neither (ap pairs_of a.after) (ap (λ (v : State K V S D T A). v.holds) a.after);
-    replies = inl (ap (λ (v : State K V S D T A). v.replies) a.after);
+    places = λ t ne. ap (λ (v : State K V S D T). slice_get v.places t) a.after ∙ stays_elsewhere _ t ne;
+    touches = neither (ap pairs_of a.after) (ap (λ (v : State K V S D T). v.holds) a.after);
+    replies = inl (ap (λ (v : State K V S D T). v.replies) a.after);
   }
   step_footprint (admit a) = record {
-    places = λ t ne. ap (λ (v : State K V S D T A). slice_get v.places t) a.after ∙ stays_elsewhere _ t ne;
+    places = λ t ne. ap (λ (v : State K V S D T). slice_get v.places t) a.after ∙ stays_elsewhere _ t ne;
     touches = one_desk a.hold.shard (ap pairs_of a.after)
-        (λ i ne. ap (λ (v : State K V S D T A). slice_get v.holds i) a.after ∙ slice_get-set_other w.holds a.hold.shard i _ (λ e. ne (sym e)));
-    replies = inl (ap (λ (v : State K V S D T A). v.replies) a.after);
+        (λ i ne. ap (λ (v : State K V S D T). slice_get v.holds i) a.after ∙ slice_get-set_other w.holds a.hold.shard i _ (λ e. ne (sym e)));
+    replies = inl (ap (λ (v : State K V S D T). v.replies) a.after);
   }
   step_footprint (find a) = record {
-    places = λ t ne. ap (λ (v : State K V S D T A). slice_get v.places t) a.after ∙ stays_elsewhere _ t ne;
-    touches = neither (ap pairs_of a.after) (ap (λ (v : State K V S D T A). v.holds) a.after);
-    replies = inl (ap (λ (v : State K V S D T A). v.replies) a.after);
+    places = λ t ne. ap (λ (v : State K V S D T). slice_get v.places t) a.after ∙ stays_elsewhere _ t ne;
+    touches = neither (ap pairs_of a.after) (ap (λ (v : State K V S D T). v.holds) a.after);
+    replies = inl (ap (λ (v : State K V S D T). v.replies) a.after);
   }
   step_footprint (find_grows a) = record {
-    places = λ t ne. ap (λ (v : State K V S D T A). slice_get v.places t) a.after ∙ stays_elsewhere _ t ne;
-    touches = neither (ap pairs_of a.after ∙ same_pairs w.tables a.place.shard a.table a.grown a.held a.pairs) (ap (λ (v : State K V S D T A). v.holds) a.after);
-    replies = inl (ap (λ (v : State K V S D T A). v.replies) a.after);
+    places = λ t ne. ap (λ (v : State K V S D T). slice_get v.places t) a.after ∙ stays_elsewhere _ t ne;
+    touches = neither (ap pairs_of a.after ∙ same_pairs w.tables a.place.shard a.table a.grown a.held a.pairs) (ap (λ (v : State K V S D T). v.holds) a.after);
+    replies = inl (ap (λ (v : State K V S D T). v.replies) a.after);
   }
   step_footprint (find_refused a) = record {
-    places = λ t ne. ap (λ (v : State K V S D T A). slice_get v.places t) a.after ∙ stays_elsewhere _ t ne;
-    touches = neither (ap pairs_of a.after ∙ same_pairs w.tables a.place.shard a.table a.kept a.held a.pairs) (ap (λ (v : State K V S D T A). v.holds) a.after);
-    replies = inl (ap (λ (v : State K V S D T A). v.replies) a.after);
+    places = λ t ne. ap (λ (v : State K V S D T). slice_get v.places t) a.after ∙ stays_elsewhere _ t ne;
+    touches = neither (ap pairs_of a.after ∙ same_pairs w.tables a.place.shard a.table a.kept a.held a.pairs) (ap (λ (v : State K V S D T). v.holds) a.after);
+    replies = inl (ap (λ (v : State K V S D T). v.replies) a.after);
   }
   step_footprint (deed_appends a) =
-      let k = others_keep (deed_appends a) a.key a.place.block a.place.next a.blocks a.counted (ap (λ (v : State K V S D T A). v.blocks) a.after) in
+      let k = others_keep (deed_appends a) a.key a.place.block a.place.next a.blocks a.counted (ap (λ (v : State K V S D T). v.blocks) a.after) in
       record {
-        places = λ t ne. ap (λ (v : State K V S D T A). slice_get v.places t) a.after ∙ stays_elsewhere _ t ne;
-        touches = one_pair k.0 k.1 (ap (λ (v : State K V S D T A). v.holds) a.after);
-        replies = inl (ap (λ (v : State K V S D T A). v.replies) a.after);
+        places = λ t ne. ap (λ (v : State K V S D T). slice_get v.places t) a.after ∙ stays_elsewhere _ t ne;
+        touches = one_pair k.0 k.1 (ap (λ (v : State K V S D T). v.holds) a.after);
+        replies = inl (ap (λ (v : State K V S D T). v.replies) a.after);
       }
   step_footprint (deed_applies a) =
-      let k = others_keep (deed_applies a) a.pair.0 a.place.block a.place.next a.blocks a.counted (ap (λ (v : State K V S D T A). v.blocks) a.after) in
+      let k = others_keep (deed_applies a) a.pair.0 a.place.block a.place.next a.blocks a.counted (ap (λ (v : State K V S D T). v.blocks) a.after) in
       record {
-        places = λ t ne. ap (λ (v : State K V S D T A). slice_get v.places t) a.after ∙ stays_elsewhere _ t ne;
-        touches = one_pair k.0 k.1 (ap (λ (v : State K V S D T A). v.holds) a.after);
-        replies = inl (ap (λ (v : State K V S D T A). v.replies) a.after);
+        places = λ t ne. ap (λ (v : State K V S D T). slice_get v.places t) a.after ∙ stays_elsewhere _ t ne;
+        touches = one_pair k.0 k.1 (ap (λ (v : State K V S D T). v.holds) a.after);
+        replies = inl (ap (λ (v : State K V S D T). v.replies) a.after);
       }
   step_footprint (deed_views a) = record {
-    places = λ t ne. ap (λ (v : State K V S D T A). slice_get v.places t) a.after ∙ stays_elsewhere _ t ne;
-    touches = neither (ap pairs_of a.after) (ap (λ (v : State K V S D T A). v.holds) a.after);
-    replies = inl (ap (λ (v : State K V S D T A). v.replies) a.after);
+    places = λ t ne. ap (λ (v : State K V S D T). slice_get v.places t) a.after ∙ stays_elsewhere _ t ne;
+    touches = neither (ap pairs_of a.after) (ap (λ (v : State K V S D T). v.holds) a.after);
+    replies = inl (ap (λ (v : State K V S D T). v.replies) a.after);
   }
   step_footprint (deed_reads a) = record {
-    places = λ t ne. ap (λ (v : State K V S D T A). slice_get v.places t) a.after ∙ stays_elsewhere _ t ne;
-    touches = neither (ap pairs_of a.after) (ap (λ (v : State K V S D T A). v.holds) a.after);
-    replies = inl (ap (λ (v : State K V S D T A). v.replies) a.after);
+    places = λ t ne. ap (λ (v : State K V S D T). slice_get v.places t) a.after ∙ stays_elsewhere _ t ne;
+    touches = neither (ap pairs_of a.after) (ap (λ (v : State K V S D T). v.holds) a.after);
+    replies = inl (ap (λ (v : State K V S D T). v.replies) a.after);
   }
   step_footprint (deed_changes a) =
-      let k = others_keep (deed_changes a) a.pair.0 a.place.block a.place.next a.blocks a.counted (ap (λ (v : State K V S D T A). v.blocks) a.after) in
+      let k = others_keep (deed_changes a) a.pair.0 a.place.block a.place.next a.blocks a.counted (ap (λ (v : State K V S D T). v.blocks) a.after) in
       record {
-        places = λ t ne. ap (λ (v : State K V S D T A). slice_get v.places t) a.after ∙ stays_elsewhere _ t ne;
-        touches = one_pair k.0 k.1 (ap (λ (v : State K V S D T A). v.holds) a.after);
-        replies = inl (ap (λ (v : State K V S D T A). v.replies) a.after);
+        places = λ t ne. ap (λ (v : State K V S D T). slice_get v.places t) a.after ∙ stays_elsewhere _ t ne;
+        touches = one_pair k.0 k.1 (ap (λ (v : State K V S D T). v.holds) a.after);
+        replies = inl (ap (λ (v : State K V S D T). v.replies) a.after);
       }
   step_footprint (deed_fills a) =
-      let k = others_keep (deed_fills a) a.key a.place.block a.place.next a.blocks a.counted (ap (λ (v : State K V S D T A). v.blocks) a.after) in
+      let k = others_keep (deed_fills a) a.key a.place.block a.place.next a.blocks a.counted (ap (λ (v : State K V S D T). v.blocks) a.after) in
       record {
-        places = λ t ne. ap (λ (v : State K V S D T A). slice_get v.places t) a.after ∙ stays_elsewhere _ t ne;
-        touches = one_pair k.0 k.1 (ap (λ (v : State K V S D T A). v.holds) a.after);
-        replies = inl (ap (λ (v : State K V S D T A). v.replies) a.after);
+        places = λ t ne. ap (λ (v : State K V S D T). slice_get v.places t) a.after ∙ stays_elsewhere _ t ne;
+        touches = one_pair k.0 k.1 (ap (λ (v : State K V S D T). v.holds) a.after);
+        replies = inl (ap (λ (v : State K V S D T). v.replies) a.after);
       }
   step_footprint (downgrade a) = record {
-    places = λ t ne. ap (λ (v : State K V S D T A). slice_get v.places t) a.after ∙ stays_elsewhere _ t ne;
+    places = λ t ne. ap (λ (v : State K V S D T). slice_get v.places t) a.after ∙ stays_elsewhere _ t ne;
     touches = one_desk a.hold.shard (ap pairs_of a.after)
-        (λ i ne. ap (λ (v : State K V S D T A). slice_get v.holds i) a.after ∙ slice_get-set_other w.holds a.hold.shard i _ (λ e. ne (sym e)));
-    replies = inl (ap (λ (v : State K V S D T A). v.replies) a.after);
+        (λ i ne. ap (λ (v : State K V S D T). slice_get v.holds i) a.after ∙ slice_get-set_other w.holds a.hold.shard i _ (λ e. ne (sym e)));
+    replies = inl (ap (λ (v : State K V S D T). v.replies) a.after);
   }
   step_footprint (release a) = record {
-    places = λ t ne. ap (λ (v : State K V S D T A). slice_get v.places t) a.after ∙ stays_elsewhere _ t ne;
+    places = λ t ne. ap (λ (v : State K V S D T). slice_get v.places t) a.after ∙ stays_elsewhere _ t ne;
     touches = one_desk a.hold.shard (ap pairs_of a.after)
-        (λ i ne. ap (λ (v : State K V S D T A). slice_get v.holds i) a.after ∙ slice_get-set_other w.holds a.hold.shard i _ (λ e. ne (sym e)));
-    replies = inl (ap (λ (v : State K V S D T A). v.replies) a.after);
+        (λ i ne. ap (λ (v : State K V S D T). slice_get v.holds i) a.after ∙ slice_get-set_other w.holds a.hold.shard i _ (λ e. ne (sym e)));
+    replies = inl (ap (λ (v : State K V S D T). v.replies) a.after);
   }
   step_footprint (answers a) = record {
-    places = λ t ne. ap (λ (v : State K V S D T A). slice_get v.places t) a.after ∙ stays_elsewhere _ t ne;
-    touches = neither (ap pairs_of a.after) (ap (λ (v : State K V S D T A). v.holds) a.after);
-    replies = inr (_, refl, ap (λ (v : State K V S D T A). v.replies) a.after);
+    places = λ t ne. ap (λ (v : State K V S D T). slice_get v.places t) a.after ∙ stays_elsewhere _ t ne;
+    touches = neither (ap pairs_of a.after) (ap (λ (v : State K V S D T). v.holds) a.after);
+    replies = inr (_, refl, ap (λ (v : State K V S D T). v.replies) a.after);
   }

@@ -10,8 +10,8 @@ use Rattle.mapworld_state.specs.State.{State}
 use Rattle.mapworld_state.specs.World.{setup_of}
 use Rattle.mapworld.proofs.Routes.{key_route-equal}
 
-module _ {K V S H D T A : Type 0} (d : deed.Ghosts D K V T) (b : builder.Ghosts S H) (h : hasher.Ghosts H) (eq : K → K → Bool) (writes : K → HashWrites) where
-  pub setup-laws : (w : State K V S D T A) → IsEquivalence eq → ((j k : K) → IsTrue (eq j k) → writes j ≡ writes k) → Laws (setup_of d b h eq writes w)
+module _ {K V S H D T : Type 0} (d : deed.Ghosts D K V T) (b : builder.Ghosts S H) (h : hasher.Ghosts H) (eq : K → K → Bool) (writes : K → HashWrites) where
+  pub setup-laws : (w : State K V S D T) → IsEquivalence eq → ((j k : K) → IsTrue (eq j k) → writes j ≡ writes k) → Laws (setup_of d b h eq writes w)
   setup-laws w laws respects = record {
     equivalence = laws;
     routes = key_route-equal b h writes w.hasher (length w.tables) eq respects;

@@ -12,7 +12,7 @@ use Rattle.lock_api_desk.specs.Refusals.{acquire_refusal, guard_refusal, refusal
 use Rattle.mapworld_state.specs.declared.holds.Mode.{Mode}
 use Rattle.mapworld_state.specs.declared.holds.Mode.TheVariants.{Shared, Exclusive}
 use Rattle.mapworld_state.specs.declared.holds.Hold.{Hold}
-use Rattle.mapworld_state.specs.declared.place.Place.{Place}
+use Rattle.mapworld_state.specs.Places.{Place}
 use Rattle.mapworld_state.specs.Holds.{excludes, is_excluded, Desks, at_desk, guard_for}
 use Rattle.mapworld_state.specs.Held.{HoldsMatch}
 use Rattle.mapworld_state.proofs.Finds.{find-Some, find-there}
@@ -58,9 +58,9 @@ shorter n (z ∷ zs) (suc i) g at same = let less = shorter n zs i g at same in 
     at-most true less = omega arith
     at-most false less = omega arith
 
-module _ {K V D T A : Type 0} {places : List (Place K V D T A)} {holds : Desks} (match : HoldsMatch places holds) (shard : ℕ) (desk : DeskState (Unit {0})) (there : slice_get holds shard ≡ Some desk) where
+module _ {K V D T : Type 0} {places : List (Place K V D T)} {holds : Desks} (match : HoldsMatch places holds) (shard : ℕ) (desk : DeskState (Unit {0})) (there : slice_get holds shard ≡ Some desk) where
   -- a number above all that are given out isn't in use
-  unused : (number : ℕ) → ((u : ℕ) (q : Place K V D T A) (h : Hold) → slice_get places u ≡ Some q → q.hold ≡ Some h → h.guard < number) → is_in_use number desk.guards ≡ false
+  unused : (number : ℕ) → ((u : ℕ) (q : Place K V D T) (h : Hold) → slice_get places u ≡ Some q → q.holds ≡ Some h → h.guard < number) → is_in_use number desk.guards ≡ false
   unused number below = false_from_ne_true (is_in_use number desk.guards) (λ used.
       let r = list_any-true (has_number number) desk.guards used in
       let o = match.owned shard r.0 desk r.1 there r.2 in
@@ -103,12 +103,12 @@ module _ {K V D T A : Type 0} {places : List (Place K V D T A)} {holds : Desks} 
       omega (arith, few, many))
 
   -- so it grants an admission exactly where no thread's hold excludes it
-  pub asked : (denied : DeskFault) (mode : Mode) (number : ℕ) → ((u : ℕ) (q : Place K V D T A) (h : Hold) → slice_get places u ≡ Some q → q.hold ≡ Some h → h.guard < number)
+  pub asked : (denied : DeskFault) (mode : Mode) (number : ℕ) → ((u : ℕ) (q : Place K V D T) (h : Hold) → slice_get places u ≡ Some q → q.holds ≡ Some h → h.guard < number)
       → length desk.guards < desk.limit → acquire_refusal denied (at_desk mode) number desk ≡ (if is_excluded places shard mode then Some denied else None)
   asked denied mode number below lt = rw (unused number below, tells mode, not_full mode lt) refl
 
   -- and it gives up the hold that a thread has
-  pub given_up : (t : ℕ) (p : Place K V D T A) (h : Hold) → slice_get places t ≡ Some p → p.hold ≡ Some h → h.shard ≡ shard → guard_refusal is_held t h.guard desk ≡ None
+  pub given_up : (t : ℕ) (p : Place K V D T) (h : Hold) → slice_get places t ≡ Some p → p.holds ≡ Some h → h.shard ≡ shard → guard_refusal is_held t h.guard desk ≡ None
   given_up t p h here held at =
       let l = match.listed t p h here held in
       let d : l.0 ≡ desk = same_Some l.0 desk (sym l.2 ∙ ap (λ s. slice_get holds s) at ∙ there) in
@@ -122,14 +122,14 @@ module _ {K V D T A : Type 0} {places : List (Place K V D T A)} {holds : Desks} 
       ap (λ z. refusal_at is_held t z) found.1 ∙ rw (party, eq-eqb t t refl, held-is) refl
 
   -- so the desk has fewer guards behind it
-  pub fewer : (t : ℕ) (p : Place K V D T A) (h : Hold) → slice_get places t ≡ Some p → p.hold ≡ Some h → h.shard ≡ shard → length (without h.guard desk.guards) < length desk.guards
+  pub fewer : (t : ℕ) (p : Place K V D T) (h : Hold) → slice_get places t ≡ Some p → p.holds ≡ Some h → h.shard ≡ shard → length (without h.guard desk.guards) < length desk.guards
   fewer t p h here held at =
       let l = match.listed t p h here held in
       let d : l.0 ≡ desk = same_Some l.0 desk (sym l.2 ∙ ap (λ s. slice_get holds s) at ∙ there) in
       shorter h.guard desk.guards l.1 (guard_for t h) (ap (λ (z : DeskState (Unit {0})). slice_get z.guards l.1) (sym d) ∙ l.3) refl
 
   -- the guard of the hold that a thread has is the thread's
-  listed_as : (t : ℕ) (p : Place K V D T A) (h : Hold) → slice_get places t ≡ Some p → p.hold ≡ Some h → h.shard ≡ shard → guard_of h.guard desk.guards ≡ Some (guard_for t h)
+  listed_as : (t : ℕ) (p : Place K V D T) (h : Hold) → slice_get places t ≡ Some p → p.holds ≡ Some h → h.shard ≡ shard → guard_of h.guard desk.guards ≡ Some (guard_for t h)
   listed_as t p h here held at =
       let l = match.listed t p h here held in
       let d : l.0 ≡ desk = same_Some l.0 desk (sym l.2 ∙ ap (λ s. slice_get holds s) at ∙ there) in
@@ -140,11 +140,11 @@ module _ {K V D T A : Type 0} {places : List (Place K V D T A)} {holds : Desks} 
       let number : o.1.guard ≡ h.guard = sym (ap (λ (g : Guard). g.number) o.5) ∙ eqb-true g.number h.guard f.2 in
       let party : g.party ≡ t = match.apart g.party t o.0 p o.1 h o.2 here o.3 held number in
       let same : o.0 ≡ p = same_Some o.0 p (sym o.2 ∙ ap (λ u. slice_get places u) party ∙ here) in
-      let hold-is : o.1 ≡ h = same_Some o.1 h (sym o.3 ∙ ap (λ (q : Place K V D T A). q.hold) same ∙ held) in
+      let hold-is : o.1 ≡ h = same_Some o.1 h (sym o.3 ∙ ap (λ (q : Place K V D T). q.hold) same ∙ held) in
       found.1 ∙ ap (λ (z : Guard). Some z) (o.5 ∙ ap₂ (λ u z. guard_for u z) party hold-is)
 
   -- and it lets a guard share that is held alone
-  pub let_share : (t : ℕ) (p : Place K V D T A) (h : Hold) → slice_get places t ≡ Some p → p.hold ≡ Some h → h.shard ≡ shard → h.mode ≡ Exclusive
+  pub let_share : (t : ℕ) (p : Place K V D T) (h : Hold) → slice_get places t ≡ Some p → p.holds ≡ Some h → h.shard ≡ shard → h.mode ≡ Exclusive
       → guard_refusal (holds_in desk_mode.Exclusive) t h.guard desk ≡ None
   let_share t p h here held at alone =
       ap (λ z. refusal_at (holds_in desk_mode.Exclusive) t z) (listed_as t p h here held at) ∙ rw (alone, eq-eqb t t refl) refl

@@ -2,7 +2,7 @@
 use Rattle.std.proofs.Common.{◌≡◌, ℕ, List, Vec, length, get_or, slice_get, slice_set, ap, sym, ◌∙◌}
 use Rattle.std.proofs.lemmas.List.{set-get_or}
 use Rattle.lock_api_desk.specs.Desk.{DeskState}
-use Rattle.mapworld_state.specs.declared.place.Place.{Place}
+use Rattle.mapworld_state.specs.Places.{Place}
 use Rattle.mapworld_state.specs.declared.world_core.Core.{Core}
 use Rattle.mapworld_state.specs.Core.{Room}
 
@@ -11,10 +11,10 @@ pub put_back : {X : Type 0} (xs : List X) (i : ℕ) (x r : X) → x ≡ r → r 
 put_back xs i x r same read = ap (λ z. slice_set xs i z) (same ∙ read) ∙ set-get_or xs i r
 
 -- room is told by the lists' elements
-pub room_stays : {K V S D T A : Type 0} (c : Core K V S D T A) (places : Vec (Place K V D T A) A) (desks : Vec (DeskState (Unit {0})) A)
+pub room_stays : {K V S D T : Type 0} (c : Core K V S D T A) (places : Vec (Place K V D T) A) (desks : Vec (DeskState (Unit {0})) A)
     → places.items ≡ c.places.items → desks.items ≡ c.desks.items → Room c → Room (record c { places = places; desks = desks })
-room_stays {K} {V} {S} {D} {T} {A} c places desks same same_desks r =
-    let at = λ (t : ℕ). ap (λ (ps : List (Place K V D T A)). slice_get ps t) (sym same) in
+room_stays {K} {V} {S} {D} {T} c places desks same same_desks r =
+    let at = λ (t : ℕ). ap (λ (ps : List (Place K V D T)). slice_get ps t) (sym same) in
     record {
       count = r.count;
       count_fits = r.count_fits;

@@ -1,5 +1,5 @@
 use Rattle.std.proofs.Common.{length, refl, ap, sym, ◌∙◌, arith, length-append}
-use Rattle.mapworld_state.specs.declared.place.Place.{Place}
+use Rattle.mapworld_state.specs.Places.{Place}
 use Rattle.mapworld_state.specs.Core.{owed, owes, may_list, lists, may_add, adds}
 use Rattle.mapworld_moves.proofs.Rooms.{shifted, same_desks, answer_left}
 use Rattle.mapworld_moves.proofs.Facts.{stands_here, phase_here, claim_at, call_fits, kept_block}
@@ -81,7 +81,7 @@ returns-clause-room g c =
       listing = omega (arith, c.end_block.ensures.len, ap may_list after, ap lists before);
       blocks = c.end_block.ensures.capacity;
       desks = refl;
-      holding = same_desks c.args.core.now.desks.items p.hold c.leave_call-answer.new.place.hold (ap (λ (q : Place _ _ _ _ _). q.hold) after);
+      holding = same_desks c.args.core.now.desks.items p.holds c.leave_call-answer.new.place.holds (ap (λ (q : Place _ _ _ _ _). q.hold) after);
       adding = omega (arith, ap may_add after, ap adds before);
       pairs = c.requires.room.pairs;
       more_blocks = omega (arith, c.end_block.ensures.len);

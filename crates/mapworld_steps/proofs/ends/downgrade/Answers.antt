@@ -19,7 +19,7 @@ unreachable-requires g c =
     let p = c.index_mut-place.result.now in
     let here = stands_here b p c.index_mut-place.ensures.value in
     let claim = claim_at c.requires.sound c.args.step.thread p here (phase_here b p c.index_mut-place.ensures.value) in
-    c.in_default.not-Some claim.3.hold claim.3.has
+    c.in_default.not-Some claim.3.holds claim.3.has
 
 pub unreachable-requires-in_default-lent_slot : goal.unreachable-requires-in_default-lent_slot
 unreachable-requires-in_default-lent_slot g c =
@@ -34,7 +34,7 @@ index_mut-desk-requires g c =
     let b = c.requires.before in
     let p = c.index_mut-place.result.now in
     let here = stands_here b p c.index_mut-place.ensures.value in
-    let listed = c.requires.sound.holds.listed c.args.step.thread p c.in-Some.hold here c.in-Some.is in
+    let listed = c.requires.sound.holds.listed c.args.step.thread p c.in-Some.holds here c.in-Some.is in
     omega (arith, slice_get_within c.args.core.now.desks.items c.in-Some.hold.shard listed.0 listed.2, c.args.core.now.desks.ok.0)
 
 pub share_hold-requires : goal.share_hold-requires
@@ -43,10 +43,10 @@ share_hold-requires g c =
     let p = c.index_mut-place.result.now in
     let here = stands_here b p c.index_mut-place.ensures.value in
     let claim = claim_at c.requires.sound c.args.step.thread p here (phase_here b p c.index_mut-place.ensures.value) in
-    let alone = ap (λ (z : Hold). z.mode) (same_Some c.in-Some.hold claim.3.hold (sym c.in-Some.is ∙ claim.3.has)) ∙ claim.3.mode_is in
-    let listed = c.requires.sound.holds.listed c.args.step.thread p c.in-Some.hold here c.in-Some.is in
+    let alone = ap (λ (z : Hold). z.mode) (same_Some c.in-Some.holds claim.3.holds (sym c.in-Some.is ∙ claim.3.has)) ∙ claim.3.mode_is in
+    let listed = c.requires.sound.holds.listed c.args.step.thread p c.in-Some.holds here c.in-Some.is in
     let there = desk_read c.args.core.now.desks.items c.in-Some.hold.shard listed.0 c.index_mut-desk.result.now listed.2 c.index_mut-desk.ensures.value in
-    let_share c.requires.sound.holds c.in-Some.hold.shard c.index_mut-desk.result.now there c.args.step.thread p c.in-Some.hold here c.in-Some.is refl alone
+    let_share c.requires.sound.holds c.in-Some.hold.shard c.index_mut-desk.result.now there c.args.step.thread p c.in-Some.holds here c.in-Some.is refl alone
 
 pub count_in-requires-clause-listed : goal.count_in-requires-clause-listed
 count_in-requires-clause-listed g c =
@@ -80,9 +80,9 @@ returns-clause-step g c =
       guarded = claim.2 ∙ ap (λ z. Some (guard.Pair way.Exclusive z)) (same_Some claim.0 c.in-Some-lent_slot.slot (sym (c.lent_slot.ensures ∙ ap lent_slot claim.2) ∙ c.in-Some-lent_slot.is));
       hold = c.in-Some.hold;
       holds = c.in-Some.is;
-      alone = ap (λ (z : Hold). z.mode) (same_Some c.in-Some.hold claim.3.hold (sym c.in-Some.is ∙ claim.3.has)) ∙ claim.3.mode_is;
+      alone = ap (λ (z : Hold). z.mode) (same_Some c.in-Some.holds claim.3.holds (sym c.in-Some.is ∙ claim.3.has)) ∙ claim.3.mode_is;
       desk = c.index_mut-desk.result.now;
-      at_shard = let listed = c.requires.sound.holds.listed c.args.step.thread p c.in-Some.hold here c.in-Some.is in
+      at_shard = let listed = c.requires.sound.holds.listed c.args.step.thread p c.in-Some.holds here c.in-Some.is in
           desk_read c.args.core.now.desks.items c.in-Some.hold.shard listed.0 c.index_mut-desk.result.now listed.2 c.index_mut-desk.ensures.value;
       blocks = c.count_in.new.blocks.items;
       counted = c.count_in.ensures.counted;
@@ -95,7 +95,7 @@ returns-clause-room g c =
     let p = c.index_mut-place.result.now in
     let here = stands_here b p c.index_mut-place.ensures.value in
     let before = phase_here b p c.index_mut-place.ensures.value in
-    let listed = c.requires.sound.holds.listed c.args.step.thread p c.in-Some.hold here c.in-Some.is in
+    let listed = c.requires.sound.holds.listed c.args.step.thread p c.in-Some.holds here c.in-Some.is in
     let there = desk_read c.args.core.now.desks.items c.in-Some.hold.shard listed.0 c.index_mut-desk.result.now listed.2 c.index_mut-desk.ensures.value in
     let shared : Hold = record (c.in-Some.hold) { mode = Shared } in
     let after = record p { hold = Some shared; guard = Some (guard.Pair way.Shared c.in-Some-lent_slot.slot); phase = c.enter.new.phase } in
@@ -107,7 +107,7 @@ returns-clause-room g c =
       count = refl;
       programs = refl;
       tables = refl;
-      guards = λ h has. let same = same_Some shared h has in let was = c.requires.room.guards c.args.step.thread p c.in-Some.hold here c.in-Some.is in omega (arith, was, ap (λ (z : Hold). z.guard) same);
+      guards = λ h has. let same = same_Some shared h has in let was = c.requires.room.guards c.args.step.thread p c.in-Some.holds here c.in-Some.is in omega (arith, was, ap (λ (z : Hold). z.guard) same);
       more_guards = omega arith;
       guards_fit = omega arith;
       unanswered = omega (arith, ap owes c.enter.ensures, ap owes before);
@@ -116,7 +116,7 @@ returns-clause-room g c =
       listing = omega (arith, ap lists c.enter.ensures, ap lists before, c.count_in.ensures.len);
       blocks = c.count_in.ensures.capacity;
       desks = length-set c.args.core.now.desks.items c.in-Some.hold.shard c.share_hold.new.desk;
-      holding = one_turned c.args.core.now.desks.items c.in-Some.hold.shard c.index_mut-desk.result.now there c.share_hold.new.desk c.in-Some.hold refl after p c.in-Some.is shared refl refl
+      holding = one_turned c.args.core.now.desks.items c.in-Some.hold.shard c.index_mut-desk.result.now there c.share_hold.new.desk c.in-Some.holds refl after p c.in-Some.is shared refl refl
           (ap (λ (z : DeskState (Unit {0})). length z.guards) c.share_hold.ensures ∙ length-map c.index_mut-desk.result.now.guards _)
           (ap (λ (z : DeskState (Unit {0})). z.room) c.share_hold.ensures) (ap (λ (z : DeskState (Unit {0})). z.limit) c.share_hold.ensures);
       adding = omega (arith, ap adds c.enter.ensures, ap adds before);

@@ -19,7 +19,7 @@ index_mut-desk-requires g c =
     let b = c.requires.before.1 in
     let p = c.index_mut-place.result.now in
     let here = stands_here b p c.index_mut-place.ensures.value in
-    let listed = c.requires.sound.holds.listed c.args.step.thread p c.in-Some.hold here c.in-Some.is in
+    let listed = c.requires.sound.holds.listed c.args.step.thread p c.in-Some.holds here c.in-Some.is in
     omega (arith, slice_get_within c.args.core.now.desks.items c.in-Some.hold.shard listed.0 listed.2, c.args.core.now.desks.ok.0)
 
 pub end_hold-requires : goal.end_hold-requires
@@ -27,9 +27,9 @@ end_hold-requires g c =
     let b = c.requires.before.1 in
     let p = c.index_mut-place.result.now in
     let here = stands_here b p c.index_mut-place.ensures.value in
-    let listed = c.requires.sound.holds.listed c.args.step.thread p c.in-Some.hold here c.in-Some.is in
+    let listed = c.requires.sound.holds.listed c.args.step.thread p c.in-Some.holds here c.in-Some.is in
     let there = desk_read c.args.core.now.desks.items c.in-Some.hold.shard listed.0 c.index_mut-desk.result.now listed.2 c.index_mut-desk.ensures.value in
-    given_up c.requires.sound.holds c.in-Some.hold.shard c.index_mut-desk.result.now there c.args.step.thread p c.in-Some.hold here c.in-Some.is refl
+    given_up c.requires.sound.holds c.in-Some.hold.shard c.index_mut-desk.result.now there c.args.step.thread p c.in-Some.holds here c.in-Some.is refl
 
 pub unreachable-requires-in_default-replace : goal.unreachable-requires-in_default-replace
 unreachable-requires-in_default-replace g c =
@@ -69,7 +69,7 @@ returns-clause-step g c =
       hold = c.in-Some.hold;
       holds = c.in-Some.is;
       desk = c.index_mut-desk.result.now;
-      at_shard = let listed = c.requires.sound.holds.listed c.args.step.thread p c.in-Some.hold here c.in-Some.is in
+      at_shard = let listed = c.requires.sound.holds.listed c.args.step.thread p c.in-Some.holds here c.in-Some.is in
           desk_read c.args.core.now.desks.items c.in-Some.hold.shard listed.0 c.index_mut-desk.result.now listed.2 c.index_mut-desk.ensures.value;
       blocks = c.count_in.new.blocks.items;
       counted = rw c.release_counts-counts.ensures at c.count_in.ensures.counted;
@@ -83,7 +83,7 @@ returns-clause-room g c =
     let here = stands_here b p c.index_mut-place.ensures.value in
     let before = sym c.replace.ensures.value ∙ c.in-Release.is in
     let claim = claim_at c.requires.sound c.args.step.thread p here before in
-    let listed = c.requires.sound.holds.listed c.args.step.thread p c.in-Some.hold here c.in-Some.is in
+    let listed = c.requires.sound.holds.listed c.args.step.thread p c.in-Some.holds here c.in-Some.is in
     let there = desk_read c.args.core.now.desks.items c.in-Some.hold.shard listed.0 c.index_mut-desk.result.now listed.2 c.index_mut-desk.ensures.value in
     shifted _ _ c.args.step.thread p (record p { hold = None; guard = None; phase = c.enter.new.phase }) c.requires.room (record {
       here = here;
@@ -102,8 +102,8 @@ returns-clause-room g c =
       listing = omega (arith, ap lists c.enter.ensures, ap lists before, c.count_in.ensures.len);
       blocks = c.count_in.ensures.capacity;
       desks = length-set c.args.core.now.desks.items c.in-Some.hold.shard c.end_hold.new.desk;
-      holding = one_ended c.args.core.now.desks.items c.in-Some.hold.shard c.index_mut-desk.result.now there c.end_hold.new.desk c.in-Some.hold refl (record p { hold = None; guard = None; phase = c.enter.new.phase }) p c.in-Some.is refl c.end_hold.ensures
-          (fewer c.requires.sound.holds c.in-Some.hold.shard c.index_mut-desk.result.now there c.args.step.thread p c.in-Some.hold here c.in-Some.is refl);
+      holding = one_ended c.args.core.now.desks.items c.in-Some.hold.shard c.index_mut-desk.result.now there c.end_hold.new.desk c.in-Some.holds refl (record p { hold = None; guard = None; phase = c.enter.new.phase }) p c.in-Some.is refl c.end_hold.ensures
+          (fewer c.requires.sound.holds c.in-Some.hold.shard c.index_mut-desk.result.now there c.args.step.thread p c.in-Some.holds here c.in-Some.is refl);
       adding = omega (arith, ap adds c.enter.ensures, ap adds before);
       pairs = c.requires.room.pairs;
       more_blocks = omega (arith, c.count_in.ensures.len);

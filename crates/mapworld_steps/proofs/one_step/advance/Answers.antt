@@ -1,7 +1,7 @@
 use Rattle.std.proofs.Common.{◌≡◌, ◌<◌, ◌==◌, length, false, refl, sym, ap, ◌∙◌, subst}
 use Rattle.std.proofs.lemmas.Option.{slice_get_read, same_Some}
 use Rattle.mapworld_state.specs.declared.place.Phase.TheVariants as phase
-use Rattle.mapworld_state.specs.declared.place.Place.{Place}
+use Rattle.mapworld_state.specs.Places.{Place}
 use Rattle.mapworld_moves.proofs.Facts.{phase_here}
 use Rattle.mapworld_steps.proofs.Running.{is_before, some_left}
 use Rattle.mapworld_steps.proofs.one_step.advance.Goals as goal

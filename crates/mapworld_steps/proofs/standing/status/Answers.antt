@@ -12,7 +12,7 @@ returns-in-Some g c =
     let within : t < length list = ltb-true t (length list) (sym c.in-Some.ensures.lookup.0) in
     let here = slice_get_read list (length list) t p refl within c.in-Some.ensures.lookup.1 in
     c.status_at.ensures
-    ∙ ap (λ ps. status_before ps (length p.asks.items) p.shard p.phase) c.deref-in-Some.ensures.value
+    ∙ ap (λ ps. status_before ps (length p.asks) p.shard p.phase) c.deref-in-Some.ensures.value
     ∙ ap (λ o. status_at places o) (sym (ap (λ ps. slice_get ps t) (sym c.deref.ensures.value) ∙ here))
 
 pub returns-in-None : goal.returns-in-None
