@@ -1,5 +1,5 @@
 -- What the code knows of a thread's place between two steps.
-use Rattle.std.proofs.Common.{◌≡◌, ℕ, zero, suc, ◌+◌, ◌-◌, ◌<◌, ◌≤◌, Bool, true, false, ◌||◌, if◌then◌else◌, List, [], ◌∷◌, length, drop, get_or, Vec, Option, Some, None, is_some, slice_get, sum_by, vec_len, vec_capacity, refl, ap, sym, ◌∙◌, subst, arith}
+use Rattle.std.proofs.Common.{◌≡◌, ℕ, zero, suc, ◌+◌, ◌-◌, ◌<◌, ◌≤◌, Bool, true, false, ◌||◌, if◌then◌else◌, List, [], ◌∷◌, length, drop, map, get_or, Option, Some, None, is_some, slice_get, sum_by, refl, ap, sym, ◌∙◌, subst, arith}
 use Rattle.std.specs.List.{list_any}
 use Rattle.std.proofs.lemmas.Option.{get_or_from_slice_get, none-some, same_Some}
 use Rattle.mapworld_calls.specs.declared.ask.Ask.{Ask}
@@ -18,8 +18,9 @@ use Rattle.mapworld_state.specs.declared.place.Request.{Request}
 use Rattle.mapworld_state.specs.Places.{Place}
 use Rattle.mapworld_state.specs.State.{State, threads_of}
 use Rattle.mapworld_state.specs.Holds.{is_excluded}
-use Rattle.mapworld_state.specs.Moves.{mode_of, lent_slot, lent_pair, vacant_key}
-use Rattle.mapworld_state.specs.Sound.{Sound, Claim, GuardIs, HasPair, HasPairs, IsInSession, IsOnItsWay, IsBeforeDeed, IsReleasing, is_resting}
+use Rattle.mapworld_state.specs.Shards.{ShardPairs, has_room}
+use Rattle.mapworld_state.specs.Moves.{mode_of, lent_way, vacant_key}
+use Rattle.mapworld_state.specs.Sound.{Sound, Claim, GuardIs, HasPairs, IsInSession, IsOnItsWay, IsBeforeDeed, IsReleasing, is_resting}
 use Rattle.mapworld_state.specs.Core.{IsBefore}
 use Rattle.mapworld_moves.specs.Listing.{CanCount}
 
@@ -83,12 +84,8 @@ module _ {K V D T : Type 0} (x : Setup K V D T) (bs : List (Block K)) (tables : 
   guard_is n (Some c) (Some j) g h e =
       (reached x t c (n - c) (found x bs j h.block), subst (λ (z : Option (Guard K)). GuardIs tables p z (reached x t c (n - c) (found x bs j h.block))) e h.guard)
 
-  pub session_pair : (n : ℕ) (session block : Option ℕ) (kind : Way K) (slot : ℕ) → IsInSession x bs tables t p n session block → p.guard ≡ Some (guard.Pair kind slot)
-      → (pair : K × V) × HasPair tables p.shard slot pair
-  session_pair n session block kind slot h e = let g = guard_is n session block (guard.Pair kind slot) h e in (g.1.0, g.1.3)
-
   pub session_room : (n : ℕ) (session block : Option ℕ) (key : K) → IsInSession x bs tables t p n session block → p.guard ≡ Some (guard.Vacant key)
-      → HasPairs tables p.shard (λ table. vec_len table < vec_capacity table)
+      → HasPairs tables p.shard (λ table. has_room table ≡ true)
   session_room n session block key h e = let g = guard_is n session block (guard.Vacant key) h e in g.1.2
 
   -- the block of a deed is that of its call
@@ -121,11 +118,6 @@ module _ {K V : Type 0} (tables : List (ShardPairs K V)) (shard : ℕ) (r : Shar
       let same = read_at tables shard h.table r h.held read in
       (subst (λ v. slice_get tables shard ≡ Some v) (sym same) h.held, subst IsSo (sym same) h.so)
 
-  pub pair_read : (slot : ℕ) (pair : K × V) → HasPair tables shard slot pair → (slice_get tables shard ≡ Some r) × (slice_get r.items slot ≡ Some pair)
-  pair_read slot pair h =
-      let same = read_at tables shard h.table r h.held read in
-      (subst (λ v. slice_get tables shard ≡ Some v) (sym same) h.held, subst (λ (v : ShardPairs K V). slice_get v.items slot ≡ Some pair) (sym same) h.pair_is)
-
 -- the block that a release counts its call in
 pub release_listed : {K V S D T : Type 0} {x : Setup K V D T} {w : State K V S D T} (sound : Sound x w) (t : ℕ) (p : Place K V D T) → slice_get w.places t ≡ Some p
     → (r : Answer K V T) → p.phase ≡ phase.Release r → CanCount w.blocks (if is_some p.guard then p.block else None) p.next
@@ -134,29 +126,39 @@ release_listed {x = x} {w = w} sound t p here r before =
     release_counts x w.blocks w.tables t p claim.0 r p.guard claim.4
 
 -- what a guard is taken apart into tells which it was
-pub pair_is : {K : Type 0} (g : Option (Guard K)) (kind : Way K) (slot : ℕ) → lent_pair g ≡ Some (kind, slot) → g ≡ Some (guard.Pair kind slot)
-pair_is None kind slot e = cc
-pair_is (Some (guard.Pair k i)) kind slot e = ap (λ z. Some (guard.Pair z.0 z.1)) (same_Some (k, i) (kind, slot) e)
-pair_is (Some (guard.Vacant k)) kind slot e = cc
-
-pub slot_is : {K : Type 0} (g : Option (Guard K)) (slot : ℕ) → lent_slot g ≡ Some slot → (kind : Way K) × (g ≡ Some (guard.Pair kind slot))
-slot_is None slot e = cc
-slot_is (Some (guard.Pair k i)) slot e = (k, cc)
-slot_is (Some (guard.Vacant k)) slot e = cc
+pub way_is : {K : Type 0} (g : Option (Guard K)) (kind : Way K) → lent_way g ≡ Some kind → g ≡ Some (guard.Pair kind)
+way_is None kind e = cc
+way_is (Some (guard.Pair k)) kind e = ap (λ z. Some (guard.Pair z)) (same_Some k kind e)
+way_is (Some (guard.Vacant k)) kind e = cc
 
 pub vacant_is : {K : Type 0} (g : Option (Guard K)) (key : K) → vacant_key g ≡ Some key → g ≡ Some (guard.Vacant key)
 vacant_is None key e = cc
-vacant_is (Some (guard.Pair k i)) key e = cc
+vacant_is (Some (guard.Pair k)) key e = cc
 vacant_is (Some (guard.Vacant k)) key e = cc
 
--- what is left of a list of places, one place further
-pub any-drop : {X : Type 0} (f : X → Bool) (xs : List X) (i : ℕ) (x : X) → slice_get xs i ≡ Some x → list_any f (drop i xs) ≡ (f x || list_any f (drop (suc i) xs))
+-- what is left of a list, one element further
+any-drop : {X : Type 0} (f : X → Bool) (xs : List X) (i : ℕ) (x : X) → slice_get xs i ≡ Some x → list_any f (drop i xs) ≡ (f x || list_any f (drop (suc i) xs))
 any-drop f [] i x at = absurd (none-some x at)
 any-drop f (y ∷ ys) zero x at = ap (λ z. f z || list_any f ys) (same_Some y x at)
 any-drop f (y ∷ ys) (suc i) x at = any-drop f ys i x at
+
+pub any-next : {X : Type 0} (f : X → Bool) (xs : List X) (i : ℕ) (x : X) → slice_get xs i ≡ Some x → list_any f (drop i xs) ≡ (f x || list_any f (drop (i + 1) xs))
+any-next f xs i x at = let one : suc i ≡ i + 1 = omega arith in any-drop f xs i x at ∙ ap (λ n. f x || list_any f (drop n xs)) one
 
 pub any-end : {X : Type 0} (f : X → Bool) (xs : List X) (i : ℕ) → length xs ≤ i → list_any f (drop i xs) ≡ false
 any-end f [] zero le = refl
 any-end f [] (suc i) le = refl
 any-end f (y ∷ ys) zero le = absurd (omega (arith, le))
 any-end f (y ∷ ys) (suc i) le = any-end f ys i (omega (arith, le))
+
+pub any-map : {X Y : Type 0} (view : X → Y) (f : Y → Bool) (xs : List X) → list_any f (map view xs) ≡ list_any (λ x. f (view x)) xs
+any-map view f [] = refl
+any-map view f (x ∷ xs) = ap (λ b. f (view x) || b) (any-map view f xs)
+
+pub or-true : (a b : Bool) → a ≡ true → (a || b) ≡ true
+or-true true b is = is
+or-true false b is = cc
+
+pub or-false : (a b : Bool) → a ≡ false → (a || b) ≡ b
+or-false true b is = cc
+or-false false b is = refl

@@ -1,4 +1,4 @@
-pub mod Rooms
+pub mod Slotted
 pub mod Facts
+pub mod Rooms
 pub mod Weights
-pub mod Rewriting

@@ -1,5 +1,5 @@
 -- What each kind of step takes of the room that is left.
-use Rattle.std.proofs.Common.{◌≡◌, ℕ, ◌+◌, ◌<◌, ◌≤◌, Bool, true, false, List, length, Vec, Option, Some, None, slice_get, slice_set, flat_map, refl, sym, ap, ◌∙◌, arith, length-append}
+use Rattle.std.proofs.Common.{◌≡◌, ℕ, ◌+◌, ◌<◌, ◌≤◌, Bool, true, false, List, length, Option, Some, None, slice_get, slice_set, flat_map, refl, sym, ap, ◌∙◌, arith, length-append}
 use Rattle.std.proofs.lemmas.Option.{same_Some}
 use Rattle.std.proofs.lemmas.List.Concat.{length-flat_map}
 use Rattle.mapworld_calls.specs.declared.ask.Ask.{Ask}
@@ -20,6 +20,7 @@ use Rattle.mapworld_state.specs.declared.place.Phase.{Phase}
 use Rattle.mapworld_state.specs.declared.place.Request.{Request}
 use Rattle.mapworld_state.specs.declared.place.Request.TheVariants as request
 use Rattle.mapworld_state.specs.Places.{Place}
+use Rattle.mapworld_state.specs.Shards.{ShardPairs}
 use Rattle.mapworld_state.specs.State.{State, next_step}
 use Rattle.mapworld_state.specs.Moves.{start_phase, changed_phase, request_of, found_phase, found_done, block_behind, ListsBlock}
 use Rattle.mapworld_state.specs.Core.{owes, lists, adds}
@@ -31,36 +32,36 @@ module _ {K V D T : Type 0} where
   started_weighs (ask.Keyed k) g ph e = rw e (refl, omega arith, omega arith)
   started_weighs (ask.Begin b) g ph e = rw e (refl, omega arith, omega arith)
   started_weighs (ask.Held h) None ph e = rw e (refl, omega arith, omega arith)
-  started_weighs (ask.Held (held.Read d)) (Some (guard.Pair way.Shared i)) ph e = rw e (refl, omega arith, omega arith)
-  started_weighs (ask.Held (held.Write d)) (Some (guard.Pair way.Shared i)) ph e = rw e (refl, omega arith, omega arith)
-  started_weighs (ask.Held held.Downgrade) (Some (guard.Pair way.Shared i)) ph e = rw e (refl, omega arith, omega arith)
-  started_weighs (ask.Held (held.Insert v)) (Some (guard.Pair way.Shared i)) ph e = rw e (refl, omega arith, omega arith)
-  started_weighs (ask.Held held.IntoRef) (Some (guard.Pair way.Shared i)) ph e = rw e (refl, omega arith, omega arith)
-  started_weighs (ask.Held held.Remove) (Some (guard.Pair way.Shared i)) ph e = rw e (refl, omega arith, omega arith)
-  started_weighs (ask.Held held.RemoveEntry) (Some (guard.Pair way.Shared i)) ph e = rw e (refl, omega arith, omega arith)
-  started_weighs (ask.Held (held.ReplaceEntry v)) (Some (guard.Pair way.Shared i)) ph e = rw e (refl, omega arith, omega arith)
-  started_weighs (ask.Held held.IntoKey) (Some (guard.Pair way.Shared i)) ph e = rw e (refl, omega arith, omega arith)
-  started_weighs (ask.Held held.Drop) (Some (guard.Pair way.Shared i)) ph e = rw e (refl, omega arith, omega arith)
-  started_weighs (ask.Held (held.Read d)) (Some (guard.Pair way.Exclusive i)) ph e = rw e (refl, omega arith, omega arith)
-  started_weighs (ask.Held (held.Write d)) (Some (guard.Pair way.Exclusive i)) ph e = rw e (refl, omega arith, omega arith)
-  started_weighs (ask.Held held.Downgrade) (Some (guard.Pair way.Exclusive i)) ph e = rw e (refl, omega arith, omega arith)
-  started_weighs (ask.Held (held.Insert v)) (Some (guard.Pair way.Exclusive i)) ph e = rw e (refl, omega arith, omega arith)
-  started_weighs (ask.Held held.IntoRef) (Some (guard.Pair way.Exclusive i)) ph e = rw e (refl, omega arith, omega arith)
-  started_weighs (ask.Held held.Remove) (Some (guard.Pair way.Exclusive i)) ph e = rw e (refl, omega arith, omega arith)
-  started_weighs (ask.Held held.RemoveEntry) (Some (guard.Pair way.Exclusive i)) ph e = rw e (refl, omega arith, omega arith)
-  started_weighs (ask.Held (held.ReplaceEntry v)) (Some (guard.Pair way.Exclusive i)) ph e = rw e (refl, omega arith, omega arith)
-  started_weighs (ask.Held held.IntoKey) (Some (guard.Pair way.Exclusive i)) ph e = rw e (refl, omega arith, omega arith)
-  started_weighs (ask.Held held.Drop) (Some (guard.Pair way.Exclusive i)) ph e = rw e (refl, omega arith, omega arith)
-  started_weighs (ask.Held (held.Read d)) (Some (guard.Pair (way.Occupied k) i)) ph e = rw e (refl, omega arith, omega arith)
-  started_weighs (ask.Held (held.Write d)) (Some (guard.Pair (way.Occupied k) i)) ph e = rw e (refl, omega arith, omega arith)
-  started_weighs (ask.Held held.Downgrade) (Some (guard.Pair (way.Occupied k) i)) ph e = rw e (refl, omega arith, omega arith)
-  started_weighs (ask.Held (held.Insert v)) (Some (guard.Pair (way.Occupied k) i)) ph e = rw e (refl, omega arith, omega arith)
-  started_weighs (ask.Held held.IntoRef) (Some (guard.Pair (way.Occupied k) i)) ph e = rw e (refl, omega arith, omega arith)
-  started_weighs (ask.Held held.Remove) (Some (guard.Pair (way.Occupied k) i)) ph e = rw e (refl, omega arith, omega arith)
-  started_weighs (ask.Held held.RemoveEntry) (Some (guard.Pair (way.Occupied k) i)) ph e = rw e (refl, omega arith, omega arith)
-  started_weighs (ask.Held (held.ReplaceEntry v)) (Some (guard.Pair (way.Occupied k) i)) ph e = rw e (refl, omega arith, omega arith)
-  started_weighs (ask.Held held.IntoKey) (Some (guard.Pair (way.Occupied k) i)) ph e = rw e (refl, omega arith, omega arith)
-  started_weighs (ask.Held held.Drop) (Some (guard.Pair (way.Occupied k) i)) ph e = rw e (refl, omega arith, omega arith)
+  started_weighs (ask.Held (held.Read d)) (Some (guard.Pair way.Shared)) ph e = rw e (refl, omega arith, omega arith)
+  started_weighs (ask.Held (held.Write d)) (Some (guard.Pair way.Shared)) ph e = rw e (refl, omega arith, omega arith)
+  started_weighs (ask.Held held.Downgrade) (Some (guard.Pair way.Shared)) ph e = rw e (refl, omega arith, omega arith)
+  started_weighs (ask.Held (held.Insert v)) (Some (guard.Pair way.Shared)) ph e = rw e (refl, omega arith, omega arith)
+  started_weighs (ask.Held held.IntoRef) (Some (guard.Pair way.Shared)) ph e = rw e (refl, omega arith, omega arith)
+  started_weighs (ask.Held held.Remove) (Some (guard.Pair way.Shared)) ph e = rw e (refl, omega arith, omega arith)
+  started_weighs (ask.Held held.RemoveEntry) (Some (guard.Pair way.Shared)) ph e = rw e (refl, omega arith, omega arith)
+  started_weighs (ask.Held (held.ReplaceEntry v)) (Some (guard.Pair way.Shared)) ph e = rw e (refl, omega arith, omega arith)
+  started_weighs (ask.Held held.IntoKey) (Some (guard.Pair way.Shared)) ph e = rw e (refl, omega arith, omega arith)
+  started_weighs (ask.Held held.Drop) (Some (guard.Pair way.Shared)) ph e = rw e (refl, omega arith, omega arith)
+  started_weighs (ask.Held (held.Read d)) (Some (guard.Pair way.Exclusive)) ph e = rw e (refl, omega arith, omega arith)
+  started_weighs (ask.Held (held.Write d)) (Some (guard.Pair way.Exclusive)) ph e = rw e (refl, omega arith, omega arith)
+  started_weighs (ask.Held held.Downgrade) (Some (guard.Pair way.Exclusive)) ph e = rw e (refl, omega arith, omega arith)
+  started_weighs (ask.Held (held.Insert v)) (Some (guard.Pair way.Exclusive)) ph e = rw e (refl, omega arith, omega arith)
+  started_weighs (ask.Held held.IntoRef) (Some (guard.Pair way.Exclusive)) ph e = rw e (refl, omega arith, omega arith)
+  started_weighs (ask.Held held.Remove) (Some (guard.Pair way.Exclusive)) ph e = rw e (refl, omega arith, omega arith)
+  started_weighs (ask.Held held.RemoveEntry) (Some (guard.Pair way.Exclusive)) ph e = rw e (refl, omega arith, omega arith)
+  started_weighs (ask.Held (held.ReplaceEntry v)) (Some (guard.Pair way.Exclusive)) ph e = rw e (refl, omega arith, omega arith)
+  started_weighs (ask.Held held.IntoKey) (Some (guard.Pair way.Exclusive)) ph e = rw e (refl, omega arith, omega arith)
+  started_weighs (ask.Held held.Drop) (Some (guard.Pair way.Exclusive)) ph e = rw e (refl, omega arith, omega arith)
+  started_weighs (ask.Held (held.Read d)) (Some (guard.Pair (way.Occupied k))) ph e = rw e (refl, omega arith, omega arith)
+  started_weighs (ask.Held (held.Write d)) (Some (guard.Pair (way.Occupied k))) ph e = rw e (refl, omega arith, omega arith)
+  started_weighs (ask.Held held.Downgrade) (Some (guard.Pair (way.Occupied k))) ph e = rw e (refl, omega arith, omega arith)
+  started_weighs (ask.Held (held.Insert v)) (Some (guard.Pair (way.Occupied k))) ph e = rw e (refl, omega arith, omega arith)
+  started_weighs (ask.Held held.IntoRef) (Some (guard.Pair (way.Occupied k))) ph e = rw e (refl, omega arith, omega arith)
+  started_weighs (ask.Held held.Remove) (Some (guard.Pair (way.Occupied k))) ph e = rw e (refl, omega arith, omega arith)
+  started_weighs (ask.Held held.RemoveEntry) (Some (guard.Pair (way.Occupied k))) ph e = rw e (refl, omega arith, omega arith)
+  started_weighs (ask.Held (held.ReplaceEntry v)) (Some (guard.Pair (way.Occupied k))) ph e = rw e (refl, omega arith, omega arith)
+  started_weighs (ask.Held held.IntoKey) (Some (guard.Pair (way.Occupied k))) ph e = rw e (refl, omega arith, omega arith)
+  started_weighs (ask.Held held.Drop) (Some (guard.Pair (way.Occupied k))) ph e = rw e (refl, omega arith, omega arith)
   started_weighs (ask.Held (held.Read d)) (Some (guard.Vacant k)) ph e = rw e (refl, omega arith, omega arith)
   started_weighs (ask.Held (held.Write d)) (Some (guard.Vacant k)) ph e = rw e (refl, omega arith, omega arith)
   started_weighs (ask.Held held.Downgrade) (Some (guard.Vacant k)) ph e = rw e (refl, omega arith, omega arith)
@@ -78,27 +79,27 @@ module _ {K V D T : Type 0} where
   changed_weighs false r ph e = rw e (refl, refl, refl)
 
   -- the phase behind a find
-  pub found_weighs : (r : Request K V D) (slot : Option ℕ) (room : Bool) (ph : Phase K V D T) → ph ≡ found_phase r slot room → (owes ph ≡ 1) × (adds ph ≤ 1)
-  found_weighs (request.Keyed (keyed.Insert k v)) (Some i) room ph e = rw e (refl, omega arith)
-  found_weighs (request.Keyed (keyed.Insert k v)) None true ph e = rw e (refl, omega arith)
-  found_weighs (request.Keyed (keyed.Insert k v)) None false ph e = rw e (refl, omega arith)
-  found_weighs (request.Keyed (keyed.Remove k)) (Some i) room ph e = rw e (refl, omega arith)
-  found_weighs (request.Keyed (keyed.Remove k)) None room ph e = rw e (refl, omega arith)
-  found_weighs (request.Keyed (keyed.RemoveIf k d)) (Some i) room ph e = rw e (refl, omega arith)
-  found_weighs (request.Keyed (keyed.RemoveIf k d)) None room ph e = rw e (refl, omega arith)
-  found_weighs (request.Keyed (keyed.RemoveIfMut k d)) (Some i) room ph e = rw e (refl, omega arith)
-  found_weighs (request.Keyed (keyed.RemoveIfMut k d)) None room ph e = rw e (refl, omega arith)
-  found_weighs (request.Keyed (keyed.Alter k d)) (Some i) room ph e = rw e (refl, omega arith)
-  found_weighs (request.Keyed (keyed.Alter k d)) None room ph e = rw e (refl, omega arith)
-  found_weighs (request.Keyed (keyed.View k d)) (Some i) room ph e = rw e (refl, omega arith)
-  found_weighs (request.Keyed (keyed.View k d)) None room ph e = rw e (refl, omega arith)
-  found_weighs (request.Keyed (keyed.ContainsKey k)) (Some i) room ph e = rw e (refl, omega arith)
-  found_weighs (request.Keyed (keyed.ContainsKey k)) None room ph e = rw e (refl, omega arith)
-  found_weighs (request.Begin b) (Some i) room ph e = rw e (refl, omega arith)
-  found_weighs (request.Begin (begin.Get k)) None room ph e = rw e (refl, omega arith)
-  found_weighs (request.Begin (begin.GetMut k)) None room ph e = rw e (refl, omega arith)
-  found_weighs (request.Begin (begin.Entry k)) None true ph e = rw e (refl, omega arith)
-  found_weighs (request.Begin (begin.Entry k)) None false ph e = rw e (refl, omega arith)
+  pub found_weighs : (r : Request K V D) (there room : Bool) (ph : Phase K V D T) → ph ≡ found_phase r there room → (owes ph ≡ 1) × (adds ph ≤ 1)
+  found_weighs (request.Keyed (keyed.Insert k v)) true room ph e = rw e (refl, omega arith)
+  found_weighs (request.Keyed (keyed.Insert k v)) false true ph e = rw e (refl, omega arith)
+  found_weighs (request.Keyed (keyed.Insert k v)) false false ph e = rw e (refl, omega arith)
+  found_weighs (request.Keyed (keyed.Remove k)) true room ph e = rw e (refl, omega arith)
+  found_weighs (request.Keyed (keyed.Remove k)) false room ph e = rw e (refl, omega arith)
+  found_weighs (request.Keyed (keyed.RemoveIf k d)) true room ph e = rw e (refl, omega arith)
+  found_weighs (request.Keyed (keyed.RemoveIf k d)) false room ph e = rw e (refl, omega arith)
+  found_weighs (request.Keyed (keyed.RemoveIfMut k d)) true room ph e = rw e (refl, omega arith)
+  found_weighs (request.Keyed (keyed.RemoveIfMut k d)) false room ph e = rw e (refl, omega arith)
+  found_weighs (request.Keyed (keyed.Alter k d)) true room ph e = rw e (refl, omega arith)
+  found_weighs (request.Keyed (keyed.Alter k d)) false room ph e = rw e (refl, omega arith)
+  found_weighs (request.Keyed (keyed.View k d)) true room ph e = rw e (refl, omega arith)
+  found_weighs (request.Keyed (keyed.View k d)) false room ph e = rw e (refl, omega arith)
+  found_weighs (request.Keyed (keyed.ContainsKey k)) true room ph e = rw e (refl, omega arith)
+  found_weighs (request.Keyed (keyed.ContainsKey k)) false room ph e = rw e (refl, omega arith)
+  found_weighs (request.Begin b) true room ph e = rw e (refl, omega arith)
+  found_weighs (request.Begin (begin.Get k)) false room ph e = rw e (refl, omega arith)
+  found_weighs (request.Begin (begin.GetMut k)) false room ph e = rw e (refl, omega arith)
+  found_weighs (request.Begin (begin.Entry k)) false true ph e = rw e (refl, omega arith)
+  found_weighs (request.Begin (begin.Entry k)) false false ph e = rw e (refl, omega arith)
 
 module _ {K : Type 0} (bs : List (Block K)) (st : Started) (at : ℕ) (bs' : List (Block K)) where
   pub one_added : (done : ℕ) → AddsBlock bs (Some done) st at bs' → length bs' ≡ length bs + 1
@@ -109,31 +110,31 @@ module _ {K : Type 0} (bs : List (Block K)) (st : Started) (at : ℕ) (bs' : Lis
   none_lost (Some done) h = omega (arith, one_added done h)
 
   -- a find lists its block, or may do so later
-  pub found_lists : {V D T : Type 0} (r : Request K V D) (slot : Option ℕ) (room : Bool) (ph : Phase K V D T) → ph ≡ found_phase r slot room
-      → AddsBlock bs (found_done r slot room) st at bs' → length bs' + lists ph ≡ length bs + 1
-  found_lists (request.Keyed (keyed.Insert k v)) (Some i) room ph e h = omega (arith, ap lists e, one_added 0 h)
-  found_lists (request.Keyed (keyed.Insert k v)) None true ph e h = omega (arith, ap lists e, one_added 0 h)
-  found_lists (request.Keyed (keyed.Insert k v)) None false ph e h = omega (arith, ap lists e, ap length h)
-  found_lists (request.Keyed (keyed.Remove k)) (Some i) room ph e h = omega (arith, ap lists e, one_added 0 h)
-  found_lists (request.Keyed (keyed.Remove k)) None room ph e h = omega (arith, ap lists e, one_added 1 h)
-  found_lists (request.Keyed (keyed.RemoveIf k d)) (Some i) room ph e h = omega (arith, ap lists e, one_added 0 h)
-  found_lists (request.Keyed (keyed.RemoveIf k d)) None room ph e h = omega (arith, ap lists e, one_added 1 h)
-  found_lists (request.Keyed (keyed.RemoveIfMut k d)) (Some i) room ph e h = omega (arith, ap lists e, one_added 0 h)
-  found_lists (request.Keyed (keyed.RemoveIfMut k d)) None room ph e h = omega (arith, ap lists e, one_added 1 h)
-  found_lists (request.Keyed (keyed.Alter k d)) (Some i) room ph e h = omega (arith, ap lists e, one_added 0 h)
-  found_lists (request.Keyed (keyed.Alter k d)) None room ph e h = omega (arith, ap lists e, one_added 1 h)
-  found_lists (request.Keyed (keyed.View k d)) (Some i) room ph e h = omega (arith, ap lists e, ap length h)
-  found_lists (request.Keyed (keyed.View k d)) None room ph e h = omega (arith, ap lists e, one_added 1 h)
-  found_lists (request.Keyed (keyed.ContainsKey k)) (Some i) room ph e h = omega (arith, ap lists e, one_added 1 h)
-  found_lists (request.Keyed (keyed.ContainsKey k)) None room ph e h = omega (arith, ap lists e, one_added 1 h)
-  found_lists (request.Begin b) (Some i) room ph e h = omega (arith, ap lists e, one_added 1 h)
-  found_lists (request.Begin (begin.Get k)) None room ph e h = omega (arith, ap lists e, one_added 1 h)
-  found_lists (request.Begin (begin.GetMut k)) None room ph e h = omega (arith, ap lists e, one_added 1 h)
-  found_lists (request.Begin (begin.Entry k)) None true ph e h = omega (arith, ap lists e, one_added 1 h)
-  found_lists (request.Begin (begin.Entry k)) None false ph e h = omega (arith, ap lists e, ap length h)
+  pub found_lists : {V D T : Type 0} (r : Request K V D) (there room : Bool) (ph : Phase K V D T) → ph ≡ found_phase r there room
+      → AddsBlock bs (found_done r there room) st at bs' → length bs' + lists ph ≡ length bs + 1
+  found_lists (request.Keyed (keyed.Insert k v)) true room ph e h = omega (arith, ap lists e, one_added 0 h)
+  found_lists (request.Keyed (keyed.Insert k v)) false true ph e h = omega (arith, ap lists e, one_added 0 h)
+  found_lists (request.Keyed (keyed.Insert k v)) false false ph e h = omega (arith, ap lists e, ap length h)
+  found_lists (request.Keyed (keyed.Remove k)) true room ph e h = omega (arith, ap lists e, one_added 0 h)
+  found_lists (request.Keyed (keyed.Remove k)) false room ph e h = omega (arith, ap lists e, one_added 1 h)
+  found_lists (request.Keyed (keyed.RemoveIf k d)) true room ph e h = omega (arith, ap lists e, one_added 0 h)
+  found_lists (request.Keyed (keyed.RemoveIf k d)) false room ph e h = omega (arith, ap lists e, one_added 1 h)
+  found_lists (request.Keyed (keyed.RemoveIfMut k d)) true room ph e h = omega (arith, ap lists e, one_added 0 h)
+  found_lists (request.Keyed (keyed.RemoveIfMut k d)) false room ph e h = omega (arith, ap lists e, one_added 1 h)
+  found_lists (request.Keyed (keyed.Alter k d)) true room ph e h = omega (arith, ap lists e, one_added 0 h)
+  found_lists (request.Keyed (keyed.Alter k d)) false room ph e h = omega (arith, ap lists e, one_added 1 h)
+  found_lists (request.Keyed (keyed.View k d)) true room ph e h = omega (arith, ap lists e, ap length h)
+  found_lists (request.Keyed (keyed.View k d)) false room ph e h = omega (arith, ap lists e, one_added 1 h)
+  found_lists (request.Keyed (keyed.ContainsKey k)) true room ph e h = omega (arith, ap lists e, one_added 1 h)
+  found_lists (request.Keyed (keyed.ContainsKey k)) false room ph e h = omega (arith, ap lists e, one_added 1 h)
+  found_lists (request.Begin b) true room ph e h = omega (arith, ap lists e, one_added 1 h)
+  found_lists (request.Begin (begin.Get k)) false room ph e h = omega (arith, ap lists e, one_added 1 h)
+  found_lists (request.Begin (begin.GetMut k)) false room ph e h = omega (arith, ap lists e, one_added 1 h)
+  found_lists (request.Begin (begin.Entry k)) false true ph e h = omega (arith, ap lists e, one_added 1 h)
+  found_lists (request.Begin (begin.Entry k)) false false ph e h = omega (arith, ap lists e, ap length h)
 
-  pub grown_lists : {V D T : Type 0} (g : Growth K V) (ph : Phase K V D T) → ph ≡ found_phase (request_of g) None true
-      → AddsBlock bs (found_done {D = D} (request_of g) None true) st at bs' → (length bs' ≡ length bs + 1) × (lists ph ≡ 0)
+  pub grown_lists : {V D T : Type 0} (g : Growth K V) (ph : Phase K V D T) → ph ≡ found_phase (request_of g) false true
+      → AddsBlock bs (found_done {D = D} (request_of g) false true) st at bs' → (length bs' ≡ length bs + 1) × (lists ph ≡ 0)
   grown_lists (growth.Insert k v) ph e h = (one_added 0 h, ap lists e)
   grown_lists (growth.Entry k) ph e h = (one_added 1 h, ap lists e)
 
@@ -162,26 +163,26 @@ lists_block w t p (Some done) st at bs' h thread call start now = (
   h.2,
 )
 
--- how many pairs there are behind a change of one table
-pub pairs_set : {X A : Type 0} (tables : List (Vec X A)) (i : ℕ) (old new : Vec X A) → slice_get tables i ≡ Some old
-    → length (flat_map (λ (v : Vec X A). v.items) (slice_set tables i new)) + length old.items ≡ length (flat_map (λ (v : Vec X A). v.items) tables) + length new.items
-pairs_set {X} {A} tables i old new h =
-    let f : Vec X A → List X = λ v. v.items in
+-- how many pairs there are behind a change of one shard
+pub pairs_set : {K V : Type 0} (tables : List (ShardPairs K V)) (i : ℕ) (old new : ShardPairs K V) → slice_get tables i ≡ Some old
+    → length (flat_map (λ (t : ShardPairs K V). t.items) (slice_set tables i new)) + length old.items ≡ length (flat_map (λ (t : ShardPairs K V). t.items) tables) + length new.items
+pairs_set {K} {V} tables i old new h =
+    let f : ShardPairs K V → List (K × V) = λ t. t.items in
     let before = length-flat_map f tables in
     let after = length-flat_map f (slice_set tables i new) in
-    let change = sum_by-set (λ (v : Vec X A). length v.items) tables i old new h in
+    let change = sum_by-set (λ (t : ShardPairs K V). length t.items) tables i old new h in
     omega (arith, before, after, change)
 
--- where a table keeps its pairs, or their number, there are as many
-pub pairs_kept : {X A : Type 0} (tables : List (Vec X A)) (i : ℕ) (old new : Vec X A) → slice_get tables i ≡ Some old → length new.items ≡ length old.items
-    → length (flat_map (λ (v : Vec X A). v.items) (slice_set tables i new)) ≡ length (flat_map (λ (v : Vec X A). v.items) tables)
+-- where a shard keeps its pairs, or their number, there are as many
+pub pairs_kept : {K V : Type 0} (tables : List (ShardPairs K V)) (i : ℕ) (old new : ShardPairs K V) → slice_get tables i ≡ Some old → length new.items ≡ length old.items
+    → length (flat_map (λ (t : ShardPairs K V). t.items) (slice_set tables i new)) ≡ length (flat_map (λ (t : ShardPairs K V). t.items) tables)
 pairs_kept tables i old new h e = let change = pairs_set tables i old new h in omega (arith, change, e)
 
--- a table's pairs are among all
-pub pairs_at : {X A : Type 0} (tables : List (Vec X A)) (i : ℕ) (table : Vec X A) → slice_get tables i ≡ Some table
-    → length table.items ≤ length (flat_map (λ (v : Vec X A). v.items) tables)
-pairs_at {X} {A} tables i table h =
-    let f : Vec X A → List X = λ v. v.items in
+-- a shard's pairs are among all
+pub pairs_at : {K V : Type 0} (tables : List (ShardPairs K V)) (i : ℕ) (table : ShardPairs K V) → slice_get tables i ≡ Some table
+    → length table.items ≤ length (flat_map (λ (t : ShardPairs K V). t.items) tables)
+pairs_at {K} {V} tables i table h =
+    let f : ShardPairs K V → List (K × V) = λ t. t.items in
     let all = length-flat_map f tables in
-    let part = sum_by-at (λ (v : Vec X A). length v.items) tables i table h in
+    let part = sum_by-at (λ (t : ShardPairs K V). length t.items) tables i table h in
     omega (arith, all, part)

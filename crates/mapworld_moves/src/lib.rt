@@ -3,9 +3,10 @@
 #![tactic(auto)]
 
 pub mod blocks;
+mod effect;
 pub mod holds;
 pub mod moves;
-mod route;
 pub mod pairs;
+mod route;
 
 pub use route::{is_world_amount, shard_of};

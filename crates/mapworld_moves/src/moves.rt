@@ -1,5 +1,5 @@
 //! Where each kind of step leads a thread.
-ghost use Rattle.std.specs.Prelude.{◌≡◌, is_some, true, if◌then◌else◌, Some, None};
+ghost use Rattle.std.specs.Prelude.{◌≡◌, is_some, true, false, if◌then◌else◌, Some, None};
 ghost use Rattle.mapworld_state.specs.declared.place.Request.TheVariants as request;
 ghost use Rattle.mapworld_state.specs.declared.place.Guard.TheVariants as own;
 ghost use Rattle.mapworld_calls.specs.Programs.{keyed_key, opening_key, is_drop};
@@ -359,11 +359,7 @@ pub fn found<K: Drop, V: Drop, D: Drop, T>(
 }
 
 /// How many of its calls the block that a find lists has done, if it lists one.
-pub fn found_done<K, V, D>(
-    request: &Request<K, V, D>,
-    present: bool,
-    room: bool,
-) -> Option<usize>
+pub fn found_done<K, V, D>(request: &Request<K, V, D>, present: bool, room: bool) -> Option<usize>
     ensures { result ≡ found_done request.now present room }
 {
     match (request, present) {
