@@ -13,7 +13,7 @@ use lock_api_desk::{Desk, TokenTable};
 use lock_api_raw::NoMemory;
 use mapworld_calls::Ask;
 use mapworld_state::{Phase, Place, ShardDesk};
-use mapworld_moves::pairs::put_pair;
+use mapworld_moves::put::put_pair;
 use mapworld_steps::shard_of;
 use std::alloc::Allocator;
 use std::collections::VecDeque;

@@ -2,3 +2,4 @@ pub mod Slotted
 pub mod Facts
 pub mod Rooms
 pub mod Weights
+pub mod Putting
