@@ -1,9 +1,12 @@
 -- What the code knows of a thread's place between two steps.
-use Rattle.std.proofs.Common.{◌≡◌, ℕ, zero, suc, ◌+◌, ◌-◌, ◌<◌, ◌≤◌, Bool, true, false, ◌||◌, if◌then◌else◌, List, [], ◌∷◌, length, drop, map, get_or, Option, Some, None, is_some, slice_get, sum_by, refl, ap, sym, ◌∙◌, subst, arith}
+use Rattle.std.proofs.Common.{◌≡◌, ℕ, zero, suc, ◌+◌, ◌-◌, ◌<◌, ◌≤◌, Bool, true, false, ◌||◌, if◌then◌else◌, List, [], ◌∷◌, ◌++◌, length, drop, map, get_or, Option, Some, None, is_some, slice_get, slice_set, sum_by, refl, ap, sym, ◌∙◌, subst, arith}
 use Rattle.std.specs.List.{list_any}
-use Rattle.std.proofs.lemmas.Option.{get_or_from_slice_get, none-some, same_Some}
+use Rattle.std.proofs.lemmas.Option.{get_or_from_slice_get, none-some, same_Some, slice_get_within}
+use Rattle.std.proofs.lemmas.List.{map-set}
+use Rattle.dashmap_table.specs.Table.{Table}
 use Rattle.mapworld_calls.specs.declared.ask.Ask.{Ask}
 use Rattle.mapworld_calls.specs.declared.block.Block.{Block}
+use Rattle.mapworld_calls.specs.declared.reply.Reply.{Reply}
 use Rattle.mapworld_calls.specs.declared.reply.Answer.{Answer}
 use Rattle.mapworld_calls.specs.Calls.{At}
 use Rattle.mapworld_calls.specs.Replay.{reached, found}
@@ -15,13 +18,17 @@ use Rattle.mapworld_state.specs.declared.place.Guard.TheVariants as guard
 use Rattle.mapworld_state.specs.declared.place.Phase.{Phase}
 use Rattle.mapworld_state.specs.declared.place.Phase.TheVariants as phase
 use Rattle.mapworld_state.specs.declared.place.Request.{Request}
-use Rattle.mapworld_state.specs.Places.{Place}
+use Rattle.mapworld_state.specs.declared.place.Place.{Place as KeptPlace}
+use Rattle.mapworld_state.specs.declared.step.Step.{Step}
+use Rattle.mapworld_state.specs.declared.world_core.Core.{Core}
+use Rattle.mapworld_state.specs.Places.{Place, place_of}
 use Rattle.mapworld_state.specs.State.{State, threads_of}
-use Rattle.mapworld_state.specs.Holds.{is_excluded}
-use Rattle.mapworld_state.specs.Shards.{ShardPairs, has_room}
-use Rattle.mapworld_state.specs.Moves.{mode_of, lent_way, vacant_key}
+use Rattle.mapworld_state.specs.Holds.{Desks, is_excluded}
+use Rattle.mapworld_state.specs.Shards.{ShardPairs, shard_pairs, has_room}
+use Rattle.mapworld_state.specs.Moves.{mode_of, lent_way, vacant_key, stepped}
 use Rattle.mapworld_state.specs.Sound.{Sound, Claim, GuardIs, HasPairs, IsInSession, IsOnItsWay, IsBeforeDeed, IsReleasing, is_resting}
-use Rattle.mapworld_state.specs.Core.{IsBefore}
+use Rattle.mapworld_state.specs.Core.{state_of, IsBefore}
+use Rattle.mapworld_state.proofs.Views.{view-from}
 use Rattle.mapworld_moves.specs.Listing.{CanCount}
 
 -- the place that was read at the thread's number
@@ -78,7 +85,7 @@ module _ {K V D T : Type 0} (x : Setup K V D T) (bs : List (Block K)) (tables : 
       (h.block, subst (λ k. slice_get bs k ≡ Some h.block) (same_Some j i e) h.listed, omega (arith, h.call, h.below))
 
   -- a guard lends a pair of its shard's list, or has room in it
-  guard_is : (n : ℕ) (session block : Option ℕ) (g : Guard K) → IsInSession x bs tables t p n session block → p.guard ≡ Some g → (at : At K V) × GuardIs tables p (Some g) at
+  pub guard_is : (n : ℕ) (session block : Option ℕ) (g : Guard K) → IsInSession x bs tables t p n session block → p.guard ≡ Some g → (at : At K V) × GuardIs tables p (Some g) at
   guard_is n None block g h e = absurd (none-some g (sym h.0 ∙ e))
   guard_is n (Some c) None g h e = absurd (none-some g (sym h.0 ∙ e))
   guard_is n (Some c) (Some j) g h e =
@@ -162,3 +169,27 @@ or-true false b is = cc
 pub or-false : (a b : Bool) → a ≡ false → (a || b) ≡ b
 or-false true b is = cc
 or-false false b is = refl
+
+-- a shard of which contracts see the pairs is one that the code keeps
+module _ {K V : Type 0} (tables : List (Table K V)) (i : ℕ) (IsSo : ShardPairs K V → Type 0) (has : HasPairs (map shard_pairs tables) i IsSo) where
+  pub kept-within : i < length tables
+  kept-within = let v = view-from shard_pairs tables i has.table has.held in slice_get_within tables i v.0 v.1
+
+  pub kept-shard : (r : Table K V) → r ≡ get_or tables i r → (slice_get tables i ≡ Some r) × IsSo (shard_pairs r)
+  kept-shard r read =
+      let v = view-from shard_pairs tables i has.table has.held in
+      let same = read_at tables i v.0 r v.1 read in
+      (subst (λ (z : Table K V). slice_get tables i ≡ Some z) (sym same) v.1, subst IsSo (sym v.2 ∙ ap shard_pairs (sym same)) has.so)
+
+-- the world behind a step that leaves its thread there, with these shards
+pub stepped-by : {K V S D T A : Type 0} (c : Core K V S D T A) (s : Step) (p : KeptPlace K V D T A) (q : Place K V D T) (steps : List Step) (tables : List (Table K V)) (seen : List (ShardPairs K V)) (holds : Desks) (blocks : List (Block K)) (replies : List (Reply K V T))
+    → steps ≡ c.steps.items ++ s ∷ [] → place_of p ≡ q → map shard_pairs tables ≡ seen
+    → ◌≡◌ {A = State K V S D T} (record (state_of c) { steps = steps; places = map place_of (slice_set c.places.items s.thread p); tables = map shard_pairs tables; holds = holds; blocks = blocks; replies = replies })
+    (record (stepped (state_of c) s q) { tables = seen; holds = holds; blocks = blocks; replies = replies })
+stepped-by {K} {V} {S} {D} {T} c s p q steps tables seen holds blocks replies more stands sees =
+    by steps (map place_of (slice_set c.places.items s.thread p)) (map shard_pairs tables) more (map-set place_of c.places.items s.thread p ∙ ap (slice_set (state_of c).places s.thread) stands) sees
+  where
+    by : (ss : List Step) (ps : List (Place K V D T)) (ts : List (ShardPairs K V)) → ss ≡ c.steps.items ++ s ∷ [] → ps ≡ slice_set (state_of c).places s.thread q → ts ≡ seen
+        → ◌≡◌ {A = State K V S D T} (record (state_of c) { steps = ss; places = ps; tables = ts; holds = holds; blocks = blocks; replies = replies })
+        (record (stepped (state_of c) s q) { tables = seen; holds = holds; blocks = blocks; replies = replies })
+    by ss ps ts e1 e2 e3 = rw (e1, e2, e3) refl

@@ -3,3 +3,5 @@ pub mod Facts
 pub mod Rooms
 pub mod Weights
 pub mod Putting
+pub mod Slots
+pub mod Keys

@@ -1,6 +1,6 @@
 -- The deed of a keyed call: it changes one pair of a shard that is held alone, behind the last block of that shard.
-use Rattle.std.proofs.Common.{◌≡◌, ℕ, ◌+◌, ◌-◌, ◌≤◌, ◌⊎◌, inl, inr, ⊎_elim, Bool, true, false, if◌then◌else◌, List, length, take, drop, Option, Some, None, slice_get, slice_set, remove, refl, ap, sym, ◌∙◌, subst, arith}
-use Rattle.mapworld_state.specs.Shards.{ShardPairs}
+use Rattle.std.proofs.Common.{◌≡◌, ℕ, ◌+◌, ◌-◌, ◌≤◌, inl, inr, Bool, true, false, if◌then◌else◌, List, length, take, drop, Option, Some, None, slice_get, slice_set, refl, ap, sym, ◌∙◌, subst, arith}
+use Rattle.mapworld_state.specs.Shards.{ShardPairs, Puts}
 use Rattle.std.proofs.Math.ListN.{length-set}
 use Rattle.std.proofs.lemmas.Option.{same_Some}
 use Rattle.mapworld_calls.specs.declared.ask.Ask.{Ask}
@@ -9,15 +9,14 @@ use Rattle.mapworld_calls.specs.declared.ask.Keyed.{Keyed}
 use Rattle.mapworld_calls.specs.declared.ask.Keyed.TheVariants as keyed
 use Rattle.mapworld_calls.specs.declared.block.Block.{Block}
 use Rattle.mapworld_calls.specs.declared.reply.Answer.TheVariants as answer
-use Rattle.mapworld_calls.specs.Deeds.{Deeds}
 use Rattle.mapworld_calls.specs.Programs.{keyed_key}
 use Rattle.mapworld_calls.specs.Calls.{free, pair_in, keyed_answer, keyed_leaves}
 use Rattle.mapworld_calls.specs.Setup.{Setup, Laws, ask_at}
-use Rattle.mapworld_calls.specs.Pairs.{pair_of, AreDistinct}
+use Rattle.mapworld_calls.specs.Pairs.{pair_of}
 use Rattle.mapworld_calls.specs.Replay.{reached, block_key, is_key, at_key, contents, found, IsLastOnShard}
 use Rattle.mapworld_calls.specs.Agrees.{IsToldBy}
 use Rattle.mapworld_calls.specs.Placed.{IsDoneWithin}
-use Rattle.mapworld_calls.proofs.Lists.{slice_get-set_same, slice_get-set_cases, slice_get-push_cases, slice_get-remove_is, stood_at}
+use Rattle.mapworld_calls.proofs.Lists.{slice_get-set_same, slice_get-set_cases}
 use Rattle.mapworld_calls.proofs.Grown.{Grows, found-grown, block_key-grown, contents-own, contents-were, contents-other}
 use Rattle.mapworld_calls.proofs.Kept.{keeps-grown}
 use Rattle.mapworld_state.specs.declared.step.Step.{Step}
@@ -26,13 +25,12 @@ use Rattle.mapworld_state.specs.declared.place.Phase.TheVariants as phase
 use Rattle.mapworld_state.specs.Places.{Place}
 use Rattle.mapworld_state.specs.State.{State, threads_of, started_of}
 use Rattle.mapworld_state.specs.Moves.{stepped, CountsIn, CountsCall}
-use Rattle.mapworld_state.specs.Steps.{put_back, Appends, Applies}
+use Rattle.mapworld_state.specs.Steps.{Appends, Applies}
 use Rattle.mapworld_state.specs.Sound.{is_resting, IsReleasing, block_after, IsInCall, IsBeforeDeed, Stands, TablesAgree, Sound}
 use Rattle.mapworld_sound.proofs.Effects.{effect-grow, Anyhow}
 use Rattle.mapworld_sound.proofs.Others.{IsInCall-push}
 use Rattle.mapworld_sound.proofs.Timing.{placed-grown}
 use Rattle.mapworld_sound.proofs.Holding.{holds-same}
-use Rattle.mapworld_state.proofs.Tables.{pair_of-is, AreDistinct-push, pair_of-push, AreDistinct-set, pair_of-set, set-keys, AreDistinct-remove, pair_of-remove}
 use Rattle.mapworld_sound.proofs.Building.{in_call-moved, started-stays, sound-by, replies-kept, tables-changed, claim-at, reached-one, told-one, ready-outside}
 use Rattle.mapworld_sound.proofs.Admitting.{kept-alone, keyed-apart}
 use Rattle.mapworld_sound.proofs.Growing.{own-grown}
@@ -94,7 +92,7 @@ module _ {K V S D T : Type 0} (x : Setup K V D T) (laws : Laws x) (w : State K V
       whole : (t e n : ℕ) (f : Option (K × V)) → t ≡ s.thread → e ≡ p.next → n ≡ 1 → f ≡ o → reached x t e n f ≡ free (keyed_leaves x.deeds k o)
       whole t e n f ht he hn hf = rw (ht, he, hn, hf) (reached-one x s.thread p.next (ask.Keyed k) o call.asked)
 
-  -- what the shard's list has of the key is what the block found
+  -- what the shard has of the key is what the block found
   pub pair-found : pair_of x.eq table.items key ≡ o
   pair-found =
       sound.tables.contents_are key table (ap (λ n. slice_get w.tables n) (sym d.shard) ∙ held)
@@ -126,14 +124,9 @@ module _ {K V S D T : Type 0} (x : Setup K V D T) (laws : Laws x) (w : State K V
         ∙ ap (λ f. Some (keyed_answer x.deeds k f)) finds-same;
   }
 
-  -- a changed list agrees with the replay where it has what the call leaves of its key, and what it had of all others
-  agrees : (changed : ShardPairs K V)
-      → ((q : K) → pair_of x.eq changed.items q ≡ (if x.eq key q then keyed_leaves x.deeds k o else pair_of x.eq table.items q))
-      → AreDistinct x.eq changed.items
-      → ((j : ℕ) (pair : K × V) → slice_get changed.items j ≡ Some pair → x.route pair.0 ≡ p.shard)
-      → TablesAgree x (slice_set w.blocks d.index c) (slice_set w.tables p.shard changed)
-  agrees changed pairs distinct routed =
-      tables-changed x laws w.blocks (slice_set w.blocks d.index c) w.tables sound.tables key (keyed_leaves x.deeds k o) p.shard d.shard contents-now contents-still table changed held pairs distinct routed
+  agrees : (changed : ShardPairs K V) → Puts x.eq table changed key (keyed_leaves x.deeds k o) → TablesAgree x (slice_set w.blocks d.index c) (slice_set w.tables p.shard changed)
+  agrees changed puts =
+      tables-changed x laws w.blocks (slice_set w.blocks d.index c) w.tables sound.tables key (keyed_leaves x.deeds k o) p.shard d.shard contents-now contents-still table changed held puts
 
   done-kept : (st' : ℕ → Option ℕ) (a : Ask K V D) → ask_at x b.thread b.call ≡ Some a → IsDoneWithin x (started_of w) w.replies b a → IsDoneWithin x st' w.replies c a
   done-kept st' (ask.Keyed g) e old = record { once = let m = more-is in omega arith; whole = λ z. more-is }
@@ -185,31 +178,7 @@ module _ {K V S D T : Type 0} (x : Setup K V D T) (laws : Laws x) (w : State K V
       (record { thread = counts.thread; call = counts.call; visit = counts.visit; start = counts.start; position = counts.position; visited = counts.visited }) counts.end (done-kept (started_of (stepped w s p'))) sound.placed)
       (replies-kept x w.blocks (slice_set w.blocks d.index c) w.replies (λ j r hr. keeps-grown x laws w.blocks d.index b c grows r.thread r.call) sound.replies)
 
--- a call leaves of the pair that it finds another value under the stored key, or nothing
-abbrev LeavesBy : {D K V T : Type 0} → Deeds D K V T → Keyed K V D → K × V → Type 0
-LeavesBy {D} {K} {V} deeds k p = ((v : V) × (keyed_leaves deeds k (Some p) ≡ Some (p.0, v))) ⊎ (keyed_leaves deeds k (Some p) ≡ None)
-
-left-where : {K V : Type 0} (b : Bool) (p : K × V) (v : V)
-    → ((u : V) × (if◌then◌else◌ {A = Option (K × V)} b (Some (p.0, v)) None ≡ Some (p.0, u))) ⊎ (if◌then◌else◌ {A = Option (K × V)} b (Some (p.0, v)) None ≡ None)
-left-where true p v = inl (v, refl)
-left-where false p v = inr refl
-
-leaves-by : {D K V T : Type 0} (deeds : Deeds D K V T) (k : Keyed K V D) (p : K × V) → LeavesBy deeds k p
-leaves-by deeds (keyed.Insert j v) p = inl (v, refl)
-leaves-by deeds (keyed.Remove j) p = inr refl
-leaves-by deeds (keyed.RemoveIf j d) p = left-where (deeds.keep d p.0 p.1) p p.1
-leaves-by deeds (keyed.RemoveIfMut j d) p = left-where (deeds.keep d p.0 p.1) p (deeds.effect d p.0 p.1)
-leaves-by deeds (keyed.Alter j d) p = inl (deeds.effect d p.0 p.1, refl)
-leaves-by deeds (keyed.View j d) p = inl (p.1, refl)
-leaves-by deeds (keyed.ContainsKey j) p = inl (p.1, refl)
-
 module _ {K V S D T : Type 0} (x : Setup K V D T) (laws : Laws x) (w : State K V S D T) (s : Step) (w' : State K V S D T) (sound : Sound x w) where
-  pub eq-found : (table : ShardPairs K V) (key : K) (pair : K × V) → pair_of x.eq table.items key ≡ Some pair → (q : K) → x.eq pair.0 q ≡ x.eq key q
-  eq-found table key pair is q = laws.equivalence.congr pair.0 key q (pair_of-is x.eq laws.equivalence table.items key pair is).2
-
-  pub routed-at : (p : Place K V D T) (table : ShardPairs K V) → slice_get w.tables p.shard ≡ Some table → (j : ℕ) (pair : K × V) → slice_get table.items j ≡ Some pair → x.route pair.0 ≡ p.shard
-  routed-at p table held j pair h = sound.tables.routed p.shard j table pair held h
-
   pub sound-appends : Appends x w s w' → Sound x w'
   sound-appends a =
       let p = a.place in
@@ -217,53 +186,24 @@ module _ {K V S D T : Type 0} (x : Setup K V D T) (laws : Laws x) (w : State K V
       let cl = claim-at x (threads_of w) w.blocks w.replies w.tables s.thread p (phase.Append a.key a.value) a.before st in
       let d = cl.1 in
       let n = counted-block w.blocks p.block d.index p.next a.blocks d.mine a.counted in
-      let distinct = sound.tables.distinct p.shard a.table a.held in
       let k : Keyed K V D = keyed.Insert a.key a.value in
-      let none = pair-found x laws w s sound p a.stands k cl.0 a.key None d a.table a.held n.0 n.1 n.2 n.3 in
       subst (Sound x) (sym (a.after ∙ ap (λ (z : List (Block K)). record (stepped w s (record p { phase = phase.Release answer.None })) { tables = slice_set w.tables p.shard a.changed; blocks = z }) n.4))
       (sound-deed x laws w s sound p a.stands k cl.0 a.key None d a.table a.held n.0 n.1 n.2 n.3 (phase.Append a.key a.value) a.before refl a.changed
-      (agrees x laws w s sound p a.stands k cl.0 a.key None d a.table a.held n.0 n.1 n.2 n.3 a.changed
-      (λ q. ap (λ z. pair_of x.eq z q) a.pairs ∙ pair_of-push x.eq laws.equivalence a.table.items a.key a.value distinct none q)
-      (subst (λ (z : List (K × V)). AreDistinct x.eq z) (sym a.pairs) (AreDistinct-push x.eq laws.equivalence a.table.items a.key a.value distinct none))
-      (λ j pair h. elim (slice_get-push_cases a.table.items j pair (a.key, a.value) (ap (λ z. slice_get z j) (sym a.pairs) ∙ h)) [
-        | inl old ↦ routed-at p a.table a.held j pair old
-        | inr new ↦ ap (λ z. x.route z.0) new.1 ∙ sym d.shard
-      ])))
+      (agrees x laws w s sound p a.stands k cl.0 a.key None d a.table a.held n.0 n.1 n.2 n.3 a.changed a.puts))
 
   pub sound-applies : Applies x w s w' → Sound x w'
   sound-applies a =
       let p = a.place in
       let st = sound.stands s.thread p a.stands in
-      let cl = claim-at x (threads_of w) w.blocks w.replies w.tables s.thread p (phase.Apply a.slot a.call) a.before st in
+      let cl = claim-at x (threads_of w) w.blocks w.replies w.tables s.thread p (phase.Apply a.call) a.before st in
       let was : K × V = cl.0 in
       let key : K = keyed_key a.call in
       let d = cl.2 in
       let n = counted-block w.blocks p.block d.index p.next a.blocks d.mine a.counted in
-      let distinct = sound.tables.distinct p.shard a.table a.held in
-      let there : slice_get a.table.items a.slot ≡ Some was = ap (λ (z : ShardPairs K V). slice_get z.items a.slot) (same_Some a.table cl.3.table (sym a.held ∙ cl.3.held)) ∙ cl.3.pair_is in
-      let pair : a.pair ≡ was = same_Some a.pair was (sym a.found ∙ there) in
       let is = pair-found x laws w s sound p a.stands a.call cl.1 key (Some was) d a.table a.held n.0 n.1 n.2 n.3 in
-      let pairs : a.changed.items ≡ put_back a.table.items a.slot (keyed_leaves x.deeds a.call (Some was)) =
-      a.pairs ∙ ap (λ z. put_back a.table.items a.slot (keyed_leaves x.deeds a.call (Some z))) pair in
+      let pair : a.pair ≡ was = same_Some a.pair was (sym a.found ∙ is) in
       subst (Sound x) (sym (a.after ∙ (ap (λ (z : List (Block K)). record (stepped w s (record p { phase = phase.Release (keyed_answer x.deeds a.call (Some a.pair)) })) { tables = slice_set w.tables p.shard a.changed; blocks = z }) n.4
       ∙ ap (λ (z : K × V). record (stepped w s (record p { phase = phase.Release (keyed_answer x.deeds a.call (Some z)) })) { tables = slice_set w.tables p.shard a.changed; blocks = slice_set w.blocks d.index n.1 }) pair)))
-      (sound-deed x laws w s sound p a.stands a.call cl.1 key (Some was) d a.table a.held n.0 n.1 n.2 n.3 (phase.Apply a.slot a.call) a.before refl a.changed
-      (⊎_elim
-      (λ stored.
-      let now : a.changed.items ≡ slice_set a.table.items a.slot (was.0, stored.0) = pairs ∙ ap (λ z. put_back a.table.items a.slot z) stored.1 in
-      agrees x laws w s sound p a.stands a.call cl.1 key (Some was) d a.table a.held n.0 n.1 n.2 n.3 a.changed
-      (λ q. ap (λ z. pair_of x.eq z q) now ∙ pair_of-set x.eq laws.equivalence a.table.items a.slot was stored.0 distinct there q
-      ∙ ap (λ z. if z then Some (was.0, stored.0) else pair_of x.eq a.table.items q) (eq-found a.table key was is q)
-      ∙ ap (λ z. if x.eq key q then z else pair_of x.eq a.table.items q) (sym stored.1))
-      (subst (λ (z : List (K × V)). AreDistinct x.eq z) (sym now) (AreDistinct-set x.eq laws.equivalence a.table.items a.slot was stored.0 distinct there))
-      (λ j r h. let o = set-keys x.eq laws.equivalence a.table.items a.slot was stored.0 there j r (ap (λ z. slice_get z j) (sym now) ∙ h) in
-      ap x.route o.2 ∙ routed-at p a.table a.held j o.0 o.1))
-      (λ gone.
-      let now : a.changed.items ≡ remove a.table.items a.slot = pairs ∙ ap (λ z. put_back a.table.items a.slot z) gone in
-      agrees x laws w s sound p a.stands a.call cl.1 key (Some was) d a.table a.held n.0 n.1 n.2 n.3 a.changed
-      (λ q. ap (λ z. pair_of x.eq z q) now ∙ pair_of-remove x.eq laws.equivalence a.table.items a.slot was distinct there q
-      ∙ ap (λ z. if z then None else pair_of x.eq a.table.items q) (eq-found a.table key was is q)
-      ∙ ap (λ z. if x.eq key q then z else pair_of x.eq a.table.items q) (sym gone))
-      (subst (λ (z : List (K × V)). AreDistinct x.eq z) (sym now) (AreDistinct-remove x.eq laws.equivalence a.table.items a.slot distinct))
-      (λ j r h. routed-at p a.table a.held (stood_at a.slot j) r (sym (slice_get-remove_is a.table.items a.slot j) ∙ ap (λ z. slice_get z j) (sym now) ∙ h)))
-      (leaves-by x.deeds a.call was)))
+      (sound-deed x laws w s sound p a.stands a.call cl.1 key (Some was) d a.table a.held n.0 n.1 n.2 n.3 (phase.Apply a.call) a.before refl a.changed
+      (agrees x laws w s sound p a.stands a.call cl.1 key (Some was) d a.table a.held n.0 n.1 n.2 n.3 a.changed
+      (subst (λ (z : K × V). Puts x.eq a.table a.changed key (keyed_leaves x.deeds a.call (Some z))) pair a.puts)))

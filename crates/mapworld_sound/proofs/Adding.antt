@@ -11,7 +11,6 @@ use Rattle.mapworld_calls.specs.declared.reply.Reply.{Reply}
 use Rattle.mapworld_calls.specs.Setup.{Setup}
 use Rattle.mapworld_calls.specs.Placed.{answered_of, IsSessionDone, IsDoneWithin, StaysListed, OnlyAdds, WellPlaced}
 use Rattle.mapworld_calls.proofs.Lists.{slice_get-set_same, slice_get-set_other, slice_get-push_below}
-use Rattle.mapworld_state.specs.declared.place.Phase.{Phase}
 use Rattle.mapworld_state.specs.declared.step.Step.{Step}
 use Rattle.mapworld_state.specs.Places.{Place}
 use Rattle.mapworld_state.specs.State.{State, threads_of, started_of, next_step}
@@ -143,8 +142,8 @@ module _ {K V S D T : Type 0} (x : Setup K V D T) (w : State K V S D T) (s : Ste
   step-adds (admit h) = fixed-by _ w.tables _ w.blocks w.replies refl h.after (blocks-same w.blocks w.blocks refl) nothing
   step-adds (find h) = fixed-by _ w.tables w.holds h.blocks w.replies refl h.after (listed-stays x w sound s.thread h.place h.stands h.done h.blocks h.listed) nothing
   step-adds (find_grows h) = fixed-by _ (slice_set w.tables h.place.shard h.grown) w.holds h.blocks w.replies (length-set w.tables h.place.shard h.grown) h.after
-      (listed-stays x w sound s.thread h.place h.stands (found_done {D = D} (request_of h.call) None true) h.blocks h.listed) nothing
-  step-adds (find_refused h) = fixed-by _ (slice_set w.tables h.place.shard h.kept) w.holds w.blocks w.replies (length-set w.tables h.place.shard h.kept) h.after (blocks-same w.blocks w.blocks refl) nothing
+      (listed-stays x w sound s.thread h.place h.stands (found_done {D = D} (request_of h.call) false true) h.blocks h.listed) nothing
+  step-adds (find_refused h) = fixed-by _ w.tables w.holds w.blocks w.replies refl h.after (blocks-same w.blocks w.blocks refl) nothing
   step-adds (deed_appends h) = fixed-by _ (slice_set w.tables h.place.shard h.changed) w.holds h.blocks w.replies (length-set w.tables h.place.shard h.changed) h.after
       (counted-stays x w sound s.thread h.place h.stands h.place.block h.blocks (λ i e. e) h.counted) nothing
   step-adds (deed_applies h) = fixed-by _ (slice_set w.tables h.place.shard h.changed) w.holds h.blocks w.replies (length-set w.tables h.place.shard h.changed) h.after
@@ -192,9 +191,6 @@ adds-more v w w' s h g = record {
       );
   replies_stay = (h.replies_stay.0 ++ g.replies.0, g.replies.1 ∙ ap (λ z. z ++ g.replies.0) h.replies_stay.1 ∙ append_assoc v.replies h.replies_stay.0 g.replies.0);
 }
-
-pub fixed-none : {K V S D T : Type 0} (w : State K V S D T) → StaysFixed w w
-fixed-none w = record { hasher = refl; shards = refl; opening = refl; programs = refl }
 
 pub fixed-more : {K V S D T : Type 0} (v w w' : State K V S D T) → StaysFixed v w → StaysFixed w w' → StaysFixed v w'
 fixed-more v w w' h g = record { hasher = g.hasher ∙ h.hasher; shards = g.shards ∙ h.shards; opening = g.opening ∙ h.opening; programs = g.programs ∙ h.programs }

@@ -1,5 +1,5 @@
 -- A start of a keyed call or an opening aside, what leads a thread into its shard: admissions, and growths that are refused.
-use Rattle.std.proofs.Common.{◌≡◌, ◌≢◌, ℕ, ◌+◌, inl, inr, true, false, List, Option, Some, None, slice_get, slice_set, refl, ap, sym, ◌∙◌, subst, arith}
+use Rattle.std.proofs.Common.{◌≡◌, ◌≢◌, ℕ, ◌+◌, inl, inr, true, false, List, [], ◌∷◌, ◌++◌, Option, Some, None, slice_get, slice_set, refl, ap, sym, ◌∙◌, subst, arith}
 use Rattle.mapworld_state.specs.Shards.{ShardPairs}
 use Rattle.std.proofs.lemmas.Bool.{false≢true}
 use Rattle.mapworld_calls.specs.declared.block.Block.{Block}
@@ -12,7 +12,6 @@ use Rattle.mapworld_calls.specs.declared.reply.Answer.TheVariants as answer
 use Rattle.mapworld_calls.specs.Setup.{Setup, Laws, ask_at, session_of}
 use Rattle.mapworld_calls.specs.Agrees.{HasNoBlock}
 use Rattle.mapworld_calls.proofs.Programs.{one_guard_apart, one_guard_begin_apart}
-use Rattle.std.proofs.Math.ListN.{length-set}
 use Rattle.mapworld_calls.proofs.Lists.{slice_get-set_other}
 use Rattle.mapworld_state.specs.declared.holds.Mode.{Mode}
 use Rattle.mapworld_state.specs.declared.holds.Mode.TheVariants.{Exclusive}
@@ -29,7 +28,7 @@ use Rattle.mapworld_sound.proofs.Effects.{effect-same, Anyhow}
 use Rattle.mapworld_sound.proofs.Others.{IsInCall-push}
 use Rattle.mapworld_sound.proofs.Timing.{placed-same}
 use Rattle.mapworld_sound.proofs.Holding.{holds-same, holds-push, exclusion}
-use Rattle.mapworld_sound.proofs.Building.{in_call-moved, tables-same, started-stays, Leaves, sound-by, claim-at, taken-at, within-at, session-next, session-is, asked-from, tables-rewritten, ready-outside, block_after-none}
+use Rattle.mapworld_sound.proofs.Building.{in_call-moved, tables-same, started-stays, Leaves, sound-by, claim-at, taken-at, within-at, session-next, session-is, asked-from, ready-outside, block_after-none}
 
 -- a thread's blocks, where the phase that it goes to may own one
 pub owns-on : {K V D T : Type 0} (bs : List (Block K)) (t : ℕ) (p p' : Place K V D T) → OwnsBlocks bs t p → p'.next ≡ p.next → p'.block ≡ p.block
@@ -50,22 +49,23 @@ leaves-same x w s p p' at sound holds' = record {
   shards = refl;
 }
 
--- an exclusive holder's change of its shard's list reaches no list that another thread holds
+-- an exclusive holder's change of its shard reaches no shard that another thread holds
 pub kept-alone : {K V S D T : Type 0} (x : Setup K V D T) (w : State K V S D T) (s : Step) (p : Place K V D T) (at : slice_get w.places s.thread ≡ Some p) (sound : Sound x w)
     (table : ShardPairs K V) → HoldsShard p Exclusive
     → (u : ℕ) (q : Place K V D T) (m : Mode) → u ≢ s.thread → slice_get w.places u ≡ Some q → HoldsShard q m → slice_get (slice_set w.tables p.shard table) q.shard ≡ slice_get w.tables q.shard
 kept-alone x w s p at sound table alone u q m ne hq h =
     slice_get-set_other w.tables p.shard q.shard table (λ same.
-    let both = exclusion w.places w.holds sound.holds s.thread u p q alone.holds h.holds (λ z. ne (sym z)) at hq alone.has h.has (alone.shard ∙ same ∙ sym h.shard) in
+    let both = exclusion w.places w.holds sound.holds s.thread u p q alone.hold h.hold (λ z. ne (sym z)) at hq alone.has h.has (alone.shard ∙ same ∙ sym h.shard) in
     absurd (cc (both.0, alone.mode_is)))
 
 module _ {K V S D T : Type 0} (x : Setup K V D T) (laws : Laws x) (w : State K V S D T) (s : Step) (w' : State K V S D T) (sound : Sound x w) where
   pub sound-admits : Admits x w s w' → Sound x w'
   sound-admits a =
       let p = a.place in
-      let p' : Place K V D T = record p { hold = Some a.hold; phase = phase.Find a.request } in
+      let p' : Place K V D T = record p { holds = p.holds ++ a.hold ∷ []; phase = phase.Find a.request } in
       let st = sound.stands s.thread p a.stands in
       let c = claim-at x (threads_of w) w.blocks w.replies w.tables s.thread p (phase.Admit a.request) a.before st in
+      let one : p.holds ++ a.hold ∷ [] ≡ a.hold ∷ [] = ap (λ hs. hs ++ a.hold ∷ []) c.2 in
       subst (Sound x) (sym a.after) (sound-by x w s p p' a.stands sound w.blocks w.tables _ w.replies Anyhow
       (leaves-same x w s p p' a.stands sound _)
       (record {
@@ -79,11 +79,11 @@ module _ {K V S D T : Type 0} (x : Setup K V D T) (laws : Laws x) (w : State K V
         claim = (
           IsInCall-push x (threads_of w) s.thread s.thread p' _ (in_call-moved x p p' (threads_of w) s.thread _ refl refl refl c.0),
           record { block = c.1.block; guard = c.1.guard; shard = c.1.shard },
-          record { hold = a.hold; has = refl; shard = a.hold_is.0; mode_is = a.hold_is.1 },
+          record { hold = a.hold; has = one; shard = a.hold_is.0; mode_is = a.hold_is.1 },
         );
       })
-      (tables-same x w.blocks w.blocks w.tables w.tables sound.tables (λ q. refl))
-      (holds-push w.places w.holds sound.holds s.thread p p' a.stands a.holds c.2 refl a.fresh (rw (a.hold_is.0, a.hold_is.1) a.admitted) a.desk a.at_shard a.granted)
+      (tables-same x w.blocks w.blocks w.tables sound.tables (λ q. refl))
+      (holds-push w.places w.holds sound.holds s.thread p p' a.stands a.hold c.2 one a.fresh (rw (a.hold_is.0, a.hold_is.1) a.admitted) a.desk a.at_shard a.granted)
       (placed-same x (threads_of w) s.thread (started_of w) (started_of (stepped w s p')) w.blocks w.replies
       (started-stays x w s p p' a.stands (λ n h. h)) sound.placed)
       sound.replies)
@@ -139,14 +139,8 @@ module _ {K V S D T : Type 0} (x : Setup K V D T) (laws : Laws x) (w : State K V
       let p' : Place K V D T = record p { phase = phase.Release answer.NoMemory } in
       let st = sound.stands s.thread p a.stands in
       let c = claim-at x (threads_of w) w.blocks w.replies w.tables s.thread p (phase.Grow a.call) a.before st in
-      subst (Sound x) (sym a.after) (sound-by x w s p p' a.stands sound w.blocks (slice_set w.tables p.shard a.kept) w.holds w.replies Anyhow
-      (record {
-        effect = effect-same x w.blocks s.thread;
-        count = λ u ne. refl;
-        kept = kept-alone x w s p a.stands sound a.kept c.2;
-        foreign = λ u q k o ne hq d. tt;
-        shards = length-set w.tables p.shard a.kept;
-      })
+      subst (Sound x) (sym a.after) (sound-by x w s p p' a.stands sound w.blocks w.tables w.holds w.replies Anyhow
+      (leaves-same x w s p p' a.stands sound w.holds)
       (record {
         program = st.program;
         has = st.has;
@@ -160,11 +154,11 @@ module _ {K V S D T : Type 0} (x : Setup K V D T) (laws : Laws x) (w : State K V
           c.2.hold,
           IsInCall-push x (threads_of w) s.thread s.thread p' _ (in_call-moved x p p' (threads_of w) s.thread _ refl refl refl c.0),
           c.2.has,
-          subst (IsReleasing x w.blocks (slice_set w.tables p.shard a.kept) s.thread p' (ask_of (request_of {D = D} a.call)) answer.NoMemory) (sym c.1.guard)
-              (refused-releasing p a.stands (slice_set w.tables p.shard a.kept) a.call a.before),
+          subst (IsReleasing x w.blocks w.tables s.thread p' (ask_of (request_of {D = D} a.call)) answer.NoMemory) (sym c.1.guard)
+              (refused-releasing p a.stands w.tables a.call a.before),
         );
       })
-      (tables-rewritten x w.blocks w.blocks w.tables p.shard a.table a.kept a.held a.pairs sound.tables (λ q. refl))
+      (tables-same x w.blocks w.blocks w.tables sound.tables (λ q. refl))
       (holds-same w.places w.holds sound.holds s.thread p p' a.stands refl)
       (placed-same x (threads_of w) s.thread (started_of w) (started_of (stepped w s p')) w.blocks w.replies
       (started-stays x w s p p' a.stands (λ n h. h)) sound.placed)

@@ -11,7 +11,7 @@ use Rattle.mapworld_calls.specs.declared.reply.Reply.{Reply}
 use Rattle.mapworld_calls.specs.declared.reply.Answer.{Answer}
 use Rattle.mapworld_calls.specs.Calls.{pair_in}
 use Rattle.mapworld_calls.specs.Setup.{Setup, Laws, ask_at, session_of}
-use Rattle.mapworld_calls.specs.Replay.{reached, at_key, found, contents}
+use Rattle.mapworld_calls.specs.Replay.{reached, block_key, at_key, found, contents}
 use Rattle.mapworld_calls.specs.Agrees.{HasNoBlock, IsAnsweredBy, IsAnswered}
 use Rattle.mapworld_calls.specs.Placed.{IsStepOf, IsKeyedDone, IsDoneWithin}
 use Rattle.mapworld_calls.proofs.Lists.{slice_get-set_same, slice_get-set_other, slice_get-set_cases, slice_get-push_cases}
@@ -127,7 +127,7 @@ module _ {K V D T : Type 0} (x : Setup K V D T) (laws : Laws x) (bs bs' : List (
 
 -- a session goes on where its block shows its end
 module _ {K V D T : Type 0} (x : Setup K V D T) (bs bs' : List (Block K)) (tables : List (ShardPairs K V)) (t m end : ℕ) (p p' : Place K V D T) (e : Ended x bs bs' t m end)
-    (hold : p'.holds ≡ p.hold) (shard : p'.shard ≡ p.shard) (slot : p'.guard ≡ p.guard) where
+    (hold : p'.holds ≡ p.holds) (shard : p'.shard ≡ p.shard) (slot : p'.guard ≡ p.guard) where
   ended-ready : (n : ℕ) (o block : Option ℕ) → IsInSession x bs tables t p n o block → IsInSession x bs' tables t p' n o block
   ended-ready n (Some c) (Some i) h =
       let k = e.comes i h.block h.listed h.thread in
@@ -140,6 +140,9 @@ module _ {K V D T : Type 0} (x : Setup K V D T) (bs bs' : List (Block K)) (table
         done = k.3 ∙ h.done;
         guard = subst (λ (f : Option (K × V)). GuardIs tables p' p'.guard (reached x t c (n - c) f)) (sym k.4)
             (subst (λ (z : Option (Guard K)). GuardIs tables p' z (reached x t c (n - c) (found x bs i h.block))) (sym slot) (guard-moved x p p' tables p.guard (reached x t c (n - c) (found x bs i h.block)) hold shard h.guard));
+        there = λ g key e' is.
+            let has = h.there g key (sym slot ∙ e') (let same : block_key x k.0 ≡ block_key x h.block = rw (k.2.thread, k.2.call) refl in sym same ∙ is) in
+            record { table = has.table; held = rw shard has.held; so = has.so ∙ ap (λ o. pair_in (reached x t c (n - c) o)) (sym k.4) };
         settled = settled-moved x p p' bs bs' i h.block k.0 (rw (k.2.thread, k.2.call) refl) (alone-moved x p p' hold shard) shard (e.effect.last i h.block h.listed tt) h.settled;
       }
   ended-ready n (Some c) None h = (slot ∙ h.0, e.none t c h.1)
@@ -206,7 +209,7 @@ module _ {K V S D T : Type 0} (x : Setup K V D T) (laws : Laws x) (w : State K V
             inl (rw o.2.call (elim (st.owns i o.0 o.1 (sym o.2.thread ∙ thread)) [ inl lt ↦ omega arith | inr mine ↦ let z = mine.0 in omega arith ]));
         claim = (refl, cl.2, ended-ready x w.blocks a.blocks w.tables s.thread p.next (next_step w) p p' e refl refl refl (p.next + 1) (session_of x s.thread (p.next + 1)) (block_after p) cl.4);
       })
-      (tables-same x w.blocks a.blocks w.tables w.tables sound.tables e.contents_stay)
+      (tables-same x w.blocks a.blocks w.tables sound.tables e.contents_stay)
       (holds-same w.places w.holds sound.holds s.thread p p' a.stands refl)
       (placed-answer x (threads_of w) (started_of w) (started_of (stepped w s p')) w.blocks a.blocks w.replies r
       (λ t ne. started-other x w s p p' a.stands t ne)

@@ -1,7 +1,7 @@
 -- A world behind a step is sound where its parts are. Facts that every kind of step needs.
 use Rattle.std.proofs.Common.{◌≡◌, ◌≢◌, ℕ, zero, suc, ◌+◌, ◌-◌, ◌<◌, ◌≤◌, inl, inr, ⊎_elim, Bool, true, false, if◌then◌else◌, ◌==◌, List, [], ◌∷◌, ◌++◌, length, drop, map, Option, Some, None, slice_get, slice_set, refl, ap, sym, ◌∙◌, subst, arith, add-one, add-zero}
 use Rattle.std.specs.Option.{option_and_then}
-use Rattle.mapworld_state.specs.Shards.{ShardPairs}
+use Rattle.mapworld_state.specs.Shards.{ShardPairs, Puts, Grown}
 use Rattle.std.proofs.lemmas.Bool.{cases_Bool, cases_eq, eq-eqb}
 use Rattle.mapworld_calls.specs.declared.ask.Ask.{Ask}
 use Rattle.mapworld_calls.specs.declared.block.Block.{Block}
@@ -28,6 +28,7 @@ use Rattle.mapworld_state.specs.State.{State, threads_of, started_of}
 use Rattle.mapworld_state.specs.Moves.{way_mode, stepped}
 use Rattle.mapworld_state.specs.Sound.{is_resting, block_after, HoldsShard, GuardIs, IsOnShard, IsSettled, IsInSessionOf, IsInSession, IsReady, IsInCall, Claim, Stands, TablesAgree, Sound}
 use Rattle.mapworld_state.specs.Held.{HoldsMatch}
+use Rattle.mapworld_state.proofs.Tables.{pair_of-is, pair_of-at}
 use Rattle.mapworld_sound.proofs.Effects.{Effect}
 use Rattle.mapworld_sound.proofs.Others.{stands-other}
 use Rattle.mapworld_sound.proofs.Timing.{count_by-before}
@@ -45,7 +46,7 @@ drop-first (y ∷ ys) (suc n) a rest e =
     let r = drop-first ys n a rest e in
     (r.0, let same : suc n + 1 ≡ suc (n + 1) = omega arith in rw same r.1, let lt = r.2 in omega arith)
 
-and_then-at : {X Y : Type 0} (f : X → Option Y) (o : Option X) (v : X) → o ≡ Some v → option_and_then f o ≡ f v
+pub and_then-at : {X Y : Type 0} (f : X → Option Y) (o : Option X) (v : X) → o ≡ Some v → option_and_then f o ≡ f v
 and_then-at f o v e = rw e
 
 module _ {K V D T : Type 0} (x : Setup K V D T) (t : ℕ) (program : List (Ask K V D)) (has : slice_get x.programs t ≡ Some program) where
@@ -100,7 +101,7 @@ module _ {K V D T : Type 0} (x : Setup K V D T) (p p' : Place K V D T) where
 
   pub guard-moved : (tables : List (ShardPairs K V)) (g : Option (Guard K)) (at : At K V) → p'.holds ≡ p.holds → p'.shard ≡ p.shard → GuardIs tables p g at → GuardIs tables p' g at
   guard-moved tables None at hold shard h = h
-  guard-moved tables (Some (guard.Pair kind i)) at hold shard h = (h.0, h.1, holds-moved (way_mode kind) hold shard h.2, rw shard h.3)
+  guard-moved tables (Some (guard.Pair kind)) at hold shard h = (h.0, h.1, holds-moved (way_mode kind) hold shard h.2)
   guard-moved tables (Some (guard.Vacant k)) at hold shard h = (h.0, holds-moved Exclusive hold shard h.1, rw shard h.2)
 
   pub settled-moved : (bs bs' : List (Block K)) (i : ℕ) (b c : Block K) → block_key x c ≡ block_key x b → (HoldsShard p' Exclusive → HoldsShard p Exclusive) → p'.shard ≡ p.shard
@@ -123,6 +124,7 @@ module _ {K V D T : Type 0} (x : Setup K V D T) (p p' : Place K V D T) where
     below = h.below;
     done = h.done;
     guard = subst (λ (o : Option (Guard K)). GuardIs tables p' o (reached x t c (n - c) (found x bs i h.block))) (sym slot) (guard-moved tables p.guard (reached x t c (n - c) (found x bs i h.block)) hold shard h.guard);
+    there = λ g key e is. let has = h.there g key (sym slot ∙ e) is in record { table = has.table; held = rw shard has.held; so = has.so };
     settled = settled-moved bs bs i h.block h.block refl (alone-moved hold shard) shard (λ z. z) h.settled;
   }
   session-moved bs tables t n c None hold shard slot h = (slot ∙ h.0, h.1)
@@ -136,19 +138,19 @@ module _ {K V D T : Type 0} (x : Setup K V D T) (p p' : Place K V D T) where
       → IsReady x bs tables t p n block → IsReady x bs tables t p' n block
   ready-moved bs tables t n block hold shard slot h = in_session-moved bs tables t n (session_of x t n) block hold shard slot h
 
-module _ {K V D T : Type 0} (x : Setup K V D T) (bs bs' : List (Block K)) (tables tables' : List (ShardPairs K V)) (agree : TablesAgree x bs tables) where
+module _ {K V D T : Type 0} (x : Setup K V D T) (bs bs' : List (Block K)) (tables : List (ShardPairs K V)) (agree : TablesAgree x bs tables) where
   -- no key's contents change
   pub tables-same : ((q : K) → contents x bs' q ≡ contents x bs q) → TablesAgree x bs' tables
   tables-same same = record { routed = agree.routed; distinct = agree.distinct; contents_are = λ q table at. agree.contents_are q table at ∙ sym (same q) }
 
-  -- one shard's list changes, and with it the contents of that shard alone
-  pub tables-set : (i : ℕ) (table changed : ShardPairs K V) → slice_get tables i ≡ Some table
-      → ((j : ℕ) (pair : K × V) → slice_get changed.items j ≡ Some pair → x.route pair.0 ≡ i)
+module _ {K V D T : Type 0} (x : Setup K V D T) (laws : Laws x) (bs bs' : List (Block K)) (tables : List (ShardPairs K V)) (agree : TablesAgree x bs tables) where
+  -- one shard's pairs change, and with them the contents of that shard alone
+  tables-set : (i : ℕ) (table changed : ShardPairs K V) → slice_get tables i ≡ Some table
       → AreDistinct x.eq changed.items
       → ((q : K) → x.route q ≡ i → pair_of x.eq changed.items q ≡ contents x bs' q)
-      → ((q : K) → x.route q ≢ i → contents x bs' q ≡ contents x bs q)
+      → ((q : K) → x.route q ≢ i → (pair_of x.eq changed.items q ≡ pair_of x.eq table.items q) × (contents x bs' q ≡ contents x bs q))
       → TablesAgree x bs' (slice_set tables i changed)
-  tables-set i table changed at routed distinct here elsewhere = record {
+  tables-set i table changed at distinct here elsewhere = record {
     routed = λ j n other pair ht hp. elim (slice_get-set_cases tables i j table other changed at ht) [
       | inl own ↦ routed n pair (ap (λ z. slice_get z.items n) (sym own.1) ∙ hp) ∙ sym own.0
       | inr old ↦ agree.routed j n other pair old.1 hp
@@ -159,43 +161,43 @@ module _ {K V D T : Type 0} (x : Setup K V D T) (bs bs' : List (Block K)) (table
     ];
     contents_are = λ q other ht. elim (slice_get-set_cases tables i (x.route q) table other changed at ht) [
       | inl own ↦ ap (λ z. pair_of x.eq z.items q) own.1 ∙ here q own.0
-      | inr old ↦ agree.contents_are q other old.1 ∙ sym (elsewhere q old.0)
+      | inr old ↦ agree.contents_are q other old.1 ∙ sym (elsewhere q old.0).1
     ];
   }
+    where
+      -- a pair is found by its own key, so it is of the shard, or stood there before
+      routed : (n : ℕ) (pair : K × V) → slice_get changed.items n ≡ Some pair → x.route pair.0 ≡ i
+      routed n pair hp = ⊎_elim
+          (λ own. own)
+          (λ ne.
+          let finds = pair_of-at x.eq laws.equivalence changed.items n pair pair.0 distinct hp (laws.equivalence.refl pair.0) in
+          let old = pair_of-is x.eq laws.equivalence table.items pair.0 pair (sym (elsewhere pair.0 ne).0 ∙ finds) in
+          agree.routed i old.0 table pair at old.1)
+          (cases_eq (x.route pair.0) i)
 
-  -- one shard's list is another value with the same pairs
-  pub tables-rewritten' : (i : ℕ) (table changed : ShardPairs K V) → slice_get tables i ≡ Some table → changed.items ≡ table.items
+  -- a shard has more room, and no key's contents change
+  pub tables-grown : (i : ℕ) (table changed : ShardPairs K V) → slice_get tables i ≡ Some table → Grown x.eq table changed
       → ((q : K) → contents x bs' q ≡ contents x bs q) → TablesAgree x bs' (slice_set tables i changed)
-  tables-rewritten' i table changed at same contents =
-      tables-set i table changed at
-      (λ j pair h. agree.routed i j table pair at (ap (λ z. slice_get z j) (sym same) ∙ h))
-      (subst (λ (z : List (K × V)). AreDistinct x.eq z) (sym same) (agree.distinct i table at))
-      (λ q here. ap (λ z. pair_of x.eq z q) same ∙ agree.contents_are q table (ap (λ n. slice_get tables n) here ∙ at) ∙ sym (contents q))
-      (λ q ne. contents q)
+  tables-grown i table changed at grown contents =
+      tables-set i table changed at grown.distinct
+      (λ q here. grown.found q ∙ agree.contents_are q table (ap (λ n. slice_get tables n) here ∙ at) ∙ sym (contents q))
+      (λ q ne. (grown.found q, contents q))
 
-pub tables-rewritten : {K V D T : Type 0} (x : Setup K V D T) (bs bs' : List (Block K)) (tables : List (ShardPairs K V)) (i : ℕ) (table changed : ShardPairs K V) → slice_get tables i ≡ Some table → changed.items ≡ table.items
-    → TablesAgree x bs tables → ((q : K) → contents x bs' q ≡ contents x bs q) → TablesAgree x bs' (slice_set tables i changed)
-tables-rewritten x bs bs' tables i table changed at same agree contents = tables-rewritten' x bs bs' tables tables agree i table changed at same contents
-
--- a shard's changed list agrees with the replay where it has what a call leaves of its key, and what it had of all others
-pub tables-changed : {K V D T : Type 0} (x : Setup K V D T) (laws : Laws x) (bs bs' : List (Block K)) (tables : List (ShardPairs K V)) → TablesAgree x bs tables
-    → (key : K) (leaves : Option (K × V)) (i : ℕ) → i ≡ x.route key
-    → ((q : K) → x.eq key q ≡ true → contents x bs' q ≡ leaves) → ((q : K) → x.eq key q ≡ false → contents x bs' q ≡ contents x bs q)
-    → (table changed : ShardPairs K V) → slice_get tables i ≡ Some table
-    → ((q : K) → pair_of x.eq changed.items q ≡ (if x.eq key q then leaves else pair_of x.eq table.items q))
-    → AreDistinct x.eq changed.items
-    → ((j : ℕ) (pair : K × V) → slice_get changed.items j ≡ Some pair → x.route pair.0 ≡ i)
-    → TablesAgree x bs' (slice_set tables i changed)
-tables-changed x laws bs bs' tables agree key leaves i here now still table changed held pairs distinct routed =
-    tables-set x bs bs' tables tables agree i table changed held routed distinct
-    (λ q at. ⊎_elim
-    (λ h. pairs q ∙ rw h (sym (now q h)))
-    (λ h. pairs q ∙ rw h (agree.contents_are q table (ap (λ n. slice_get tables n) at ∙ held) ∙ sym (still q h)))
-    (cases_Bool (x.eq key q)))
-    (λ q ne. ⊎_elim
-    (λ h. absurd (ne (sym (laws.routes key q h) ∙ sym here)))
-    (λ h. still q h)
-    (cases_Bool (x.eq key q)))
+  -- a shard agrees with the replay where it has what a call leaves of its key, and what it had of all others
+  pub tables-changed : (key : K) (leaves : Option (K × V)) (i : ℕ) → i ≡ x.route key
+      → ((q : K) → x.eq key q ≡ true → contents x bs' q ≡ leaves) → ((q : K) → x.eq key q ≡ false → contents x bs' q ≡ contents x bs q)
+      → (table changed : ShardPairs K V) → slice_get tables i ≡ Some table → Puts x.eq table changed key leaves
+      → TablesAgree x bs' (slice_set tables i changed)
+  tables-changed key leaves i here now still table changed held puts =
+      tables-set i table changed held puts.distinct
+      (λ q at. ⊎_elim
+      (λ h. puts.found q ∙ rw h (sym (now q h)))
+      (λ h. puts.found q ∙ rw h (agree.contents_are q table (ap (λ n. slice_get tables n) at ∙ held) ∙ sym (still q h)))
+      (cases_Bool (x.eq key q)))
+      (λ q ne. ⊎_elim
+      (λ h. absurd (ne (sym (laws.routes key q h) ∙ sym here)))
+      (λ h. (puts.found q ∙ rw h refl, still q h))
+      (cases_Bool (x.eq key q)))
 
 -- outside of every session
 pub ready-outside : {K V D T : Type 0} (x : Setup K V D T) (bs : List (Block K)) (tables : List (ShardPairs K V)) (t : ℕ) (p : Place K V D T) (n : ℕ) (block : Option ℕ)

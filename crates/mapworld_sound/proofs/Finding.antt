@@ -1,9 +1,9 @@
--- A find lists the call's block at its position, or finds that the shard's list has to grow first.
-use Rattle.std.proofs.Common.{◌≡◌, ◌≢◌, ℕ, ◌+◌, ◌-◌, ◌<◌, ◌≤◌, inl, Bool, true, false, if◌then◌else◌, List, [], ◌∷◌, ◌++◌, length, drop, Option, Some, None, IsSome, slice_get, slice_set, vec_len, vec_capacity, refl, ap, sym, ◌∙◌, subst, arith, length-append}
-use Rattle.mapworld_state.specs.Shards.{ShardPairs}
+-- A find lists the call's block at its position, or finds that the shard has to grow first.
+use Rattle.std.proofs.Common.{◌≡◌, ◌≢◌, ℕ, ◌+◌, ◌-◌, ◌<◌, ◌≤◌, inl, Bool, true, false, if◌then◌else◌, List, [], ◌∷◌, ◌++◌, length, drop, Option, Some, None, IsSome, is_some, slice_get, slice_set, refl, ap, sym, ◌∙◌, subst, arith, length-append}
+use Rattle.mapworld_state.specs.Shards.{ShardPairs, has_room}
 use Rattle.std.proofs.Math.ListN.{length-set}
 use Rattle.std.proofs.lemmas.Option.{same_Some, none-some, slice_get_within}
-use Rattle.std.proofs.lemmas.Bool.{false≢true, ltb-true, ltb-false}
+use Rattle.std.proofs.lemmas.Bool.{false≢true, lt-ltb}
 use Rattle.mapworld_calls.specs.declared.ask.Ask.{Ask}
 use Rattle.mapworld_calls.specs.declared.ask.Ask.TheVariants as ask
 use Rattle.mapworld_calls.specs.declared.ask.Keyed.{Keyed}
@@ -13,10 +13,10 @@ use Rattle.mapworld_calls.specs.declared.ask.Begin.TheVariants as begin
 use Rattle.mapworld_calls.specs.declared.block.Block.{Block}
 use Rattle.mapworld_calls.specs.declared.reply.Answer.{Answer}
 use Rattle.mapworld_calls.specs.declared.reply.Answer.TheVariants as answer
-use Rattle.mapworld_calls.specs.Calls.{At, free, vacant, pair_in, told, after, keyed_answer, keyed_leaves, opening_answer, opened}
+use Rattle.mapworld_calls.specs.Calls.{At, free, pair_in, told, after, keyed_answer, keyed_leaves, opening_answer, opened}
 use Rattle.mapworld_calls.specs.Programs.{keyed_key, key_of}
 use Rattle.mapworld_calls.specs.Setup.{Setup, Laws, session_of}
-use Rattle.mapworld_calls.specs.Pairs.{has_key, pair_of}
+use Rattle.mapworld_calls.specs.Pairs.{pair_of}
 use Rattle.mapworld_calls.specs.Replay.{reached, contents, found, IsLastOnShard}
 use Rattle.mapworld_calls.specs.Agrees.{IsToldBy}
 use Rattle.mapworld_calls.specs.Placed.{IsKeyedDone, IsSessionDone}
@@ -34,14 +34,13 @@ use Rattle.mapworld_state.specs.declared.place.Phase.{Phase}
 use Rattle.mapworld_state.specs.declared.place.Phase.TheVariants as phase
 use Rattle.mapworld_state.specs.Places.{Place}
 use Rattle.mapworld_state.specs.State.{State, threads_of, started_of}
-use Rattle.mapworld_state.specs.Moves.{ask_of, request_key, keyed_mode, opening_way, opening_mode, mode_of, lent, stepped, request_of, growth_key, found_phase, found_done, found_guard, block_behind, IsListed, ListsBlock}
-use Rattle.mapworld_state.specs.Steps.{slot_in, has_room, Finds, GrowsShard, Views}
-use Rattle.mapworld_state.specs.Sound.{is_resting, may_own, block_after, GuardIs, HoldsShard, IsInCall, IsOnItsWay, IsBeforeDeed, HasSession, IsInSession, IsReady, HasPairs, TablesAgree, Sound}
-use Rattle.mapworld_state.proofs.Finds.{find-position, find-no_position, position-Some_at}
+use Rattle.mapworld_state.specs.Moves.{request_key, keyed_mode, opening_way, mode_of, lent, stepped, request_of, growth_key, found_phase, found_done, found_guard, block_behind, IsListed, ListsBlock}
+use Rattle.mapworld_state.specs.Steps.{Finds, GrowsShard, Views}
+use Rattle.mapworld_state.specs.Sound.{is_resting, may_own, block_after, GuardIs, HoldsShard, IsInCall, IsOnItsWay, IsBeforeDeed, HasReached, HasSession, IsInSession, IsReady, HasPairs, TablesAgree, Sound}
 use Rattle.mapworld_sound.proofs.Others.{IsInCall-push}
 use Rattle.mapworld_sound.proofs.Timing.{placed-same}
 use Rattle.mapworld_sound.proofs.Holding.{holds-same}
-use Rattle.mapworld_sound.proofs.Building.{in_call-moved, holds-moved, tables-same, tables-rewritten, started-stays, sound-by, claim-at, taken-at, within-at, reached-one, told-one, ready-outside}
+use Rattle.mapworld_sound.proofs.Building.{in_call-moved, holds-moved, tables-same, tables-grown, started-stays, sound-by, claim-at, taken-at, within-at, reached-one, told-one, ready-outside}
 use Rattle.mapworld_sound.proofs.Admitting.{leaves-same, kept-alone, owns-on, keyed-apart, begin-apart}
 use Rattle.mapworld_sound.proofs.Listing.{new-key, new-finds, sound-listed, contents-listed}
 
@@ -101,11 +100,12 @@ module _ {K V S D T : Type 0} (x : Setup K V D T) (laws : Laws x) (w : State K V
 
   -- the session that an opening begins
   session-new : (m : Mode) (holds : HoldsShard p m) (listed : IsListed w s.thread p 1 d) (tables' : List (ShardPairs K V)) (p' : Place K V D T) (o : Option (K × V)) → pair_of x.eq table.items key ≡ o
-      → p'.shard ≡ p.shard → GuardIs tables' p' p'.guard (after x.deeds a (free o))
+      → p'.shard ≡ p.shard → GuardIs tables' p' p'.guard (after x.deeds a (free o)) → HasReached x tables' p' d (after x.deeds a (free o))
       → HasSession x (w.blocks ++ d ∷ []) tables' s.thread p' (p.next + 1) p.next (length w.blocks)
-  session-new m holds listed tables' p' o is same lends =
+  session-new m holds listed tables' p' o is same lends there =
       let one : p.next + 1 - p.next ≡ 1 = omega arith in
       let finds = new-finds x laws w s sound p at a call key key_is m holds shard not_yet 1 d listed ∙ has-now ∙ is in
+      let now : reached x s.thread p.next (p.next + 1 - p.next) (found x (w.blocks ++ d ∷ []) (length w.blocks) d) ≡ after x.deeds a (free o) = rw (one, finds) (reached-one x s.thread p.next a o call.asked) in
       record {
         block = d;
         listed = slice_get-push_at w.blocks d;
@@ -113,7 +113,8 @@ module _ {K V S D T : Type 0} (x : Setup K V D T) (laws : Laws x) (w : State K V
         call = listed.call;
         below = omega arith;
         done = listed.done ∙ sym one;
-        guard = rw (one, finds) (subst (λ (z : At K V). GuardIs tables' p' p'.guard z) (sym (reached-one x s.thread p.next a o call.asked)) lends);
+        guard = subst (λ (z : At K V). GuardIs tables' p' p'.guard z) (sym now) lends;
+        there = subst (λ (z : At K V). HasReached x tables' p' d z) (sym now) there;
         settled = record {
           here = λ k its. same ∙ shard ∙ ap x.route (same_Some key k (sym (new-key x laws w s sound p at a call key key_is m holds shard not_yet 1 d listed) ∙ its));
           last = λ alone. last-new x w.blocks d;
@@ -150,37 +151,34 @@ ready-inside x bs tables t p n c i block inside mine h =
 
 module _ {K V S D T : Type 0} (x : Setup K V D T) (laws : Laws x) (w : State K V S D T) (s : Step) (sound : Sound x w) where
   -- the world behind a find
-  abbrev pub Found : Place K V D T → Request K V D → Option ℕ → Bool → List (Block K) → Type 0
-  Found p r slot room blocks =
-      Sound x (record (stepped w s (record p { block = block_behind (found_done r slot room) (length w.blocks) p.block; guard = found_guard r slot room; phase = found_phase r slot room })) { blocks = blocks })
+  abbrev pub Found : Place K V D T → Request K V D → Bool → Bool → List (Block K) → Type 0
+  Found p r there room blocks =
+      Sound x (record (stepped w s (record p { block = block_behind (found_done r there room) (length w.blocks) p.block; guard = found_guard r there room; phase = found_phase r there room })) { blocks = blocks })
 
   module _ (p : Place K V D T) (at : slice_get w.places s.thread ≡ Some p) (table : ShardPairs K V) (held : slice_get w.tables p.shard ≡ Some table) where
     -- a call on one key that has its deed to come
-    found-deed : (k : Keyed K V D) → p.phase ≡ phase.Find (request.Keyed k) → keyed_mode k ≡ Exclusive → (i : ℕ) → slot_in x.eq table (keyed_key k) ≡ Some i
+    found-deed : (k : Keyed K V D) → p.phase ≡ phase.Find (request.Keyed k) → keyed_mode k ≡ Exclusive → (pair : K × V) → pair_of x.eq table.items (keyed_key k) ≡ Some pair
         → (blocks : List (Block K)) → ListsBlock w s.thread p (Some 0) blocks
-        → Sound x (record (stepped w s (record p { block = Some (length w.blocks); guard = None; phase = phase.Apply i k })) { blocks = blocks })
-    found-deed k before alone i slot blocks listed =
+        → Sound x (record (stepped w s (record p { block = Some (length w.blocks); guard = None; phase = phase.Apply k })) { blocks = blocks })
+    found-deed k before alone pair is blocks listed =
         let r : Request K V D = request.Keyed k in
         let key : K = keyed_key k in
         let st = sound.stands s.thread p at in
         let c = claim-at x (threads_of w) w.blocks w.replies w.tables s.thread p (phase.Find r) before st in
         let holds : HoldsShard p Exclusive = subst (λ (m : Mode). HoldsShard p m) alone c.2 in
-        let here = position-Some_at (has_key x.eq key) table.items i slot in
-        let is : pair_of x.eq table.items key ≡ Some here.0 = find-position (has_key x.eq key) table.items i slot ∙ here.1 in
-        let p' : Place K V D T = record p { block = Some (length w.blocks); guard = None; phase = phase.Apply i k } in
+        let p' : Place K V D T = record p { block = Some (length w.blocks); guard = None; phase = phase.Apply k } in
         let not_yet : may_own p.phase ≡ false = ap may_own before in
         let l = listed.1 in
         subst (λ (z : List (Block K)). Sound x (record (stepped w s p') { blocks = z })) (sym listed.2)
         (sound-listed x laws w s sound p at _ c.0 key refl Exclusive holds c.1.shard not_yet 0 listed.0 l p' refl refl refl refl refl
         (done-none listed.0 0 l.done (omega arith) l.end) w.tables refl (λ u q m ne hq h. refl) (
-          here.0,
+          pair,
           IsInCall-push x (threads_of w) s.thread s.thread p' _ (in_call-moved x p p' (threads_of w) s.thread _ refl refl refl c.0),
-          before-deed x laws w s sound p at _ c.0 key refl c.1.shard not_yet table held listed.0 holds l p' (Some here.0) is refl refl refl refl refl,
-          record { table = table; held = held; pair_is = here.1 },
+          before-deed x laws w s sound p at _ c.0 key refl c.1.shard not_yet table held listed.0 holds l p' (Some pair) is refl refl refl refl refl,
         )
         (taken-at x (threads_of w) w.blocks w.replies w.tables s.thread p (phase.Find r) before st)
         (within-at x (threads_of w) w.blocks w.replies w.tables s.thread p (phase.Find r) before st)
-        (tables-same x w.blocks (w.blocks ++ listed.0 ∷ []) w.tables w.tables sound.tables
+        (tables-same x w.blocks (w.blocks ++ listed.0 ∷ []) w.tables sound.tables
         (contents-listed x laws w s sound p at _ c.0 key refl Exclusive holds c.1.shard not_yet 0 listed.0 l (quiet-none x laws w s sound p at _ c.0 key refl c.1.shard not_yet table held listed.0 l))))
 
     -- a call on one key that this step has done, since it leaves what it found
@@ -215,7 +213,7 @@ module _ {K V S D T : Type 0} (x : Setup K V D T) (laws : Laws x) (w : State K V
         (taken-at x (threads_of w) w.blocks w.replies w.tables s.thread p f before st))
         (subst (λ (z : Bool). (if z then p.next else p.next + 1) ≤ length st.program) busy
         (within-at x (threads_of w) w.blocks w.replies w.tables s.thread p f before st))
-        (tables-same x w.blocks (w.blocks ++ listed.0 ∷ []) w.tables w.tables sound.tables
+        (tables-same x w.blocks (w.blocks ++ listed.0 ∷ []) w.tables sound.tables
         (contents-listed x laws w s sound p at _ call key refl (keyed_mode k) holds way.shard not_yet 1 listed.0 l
         (λ u h.
         let same : u ≡ o = sym h ∙ has-now x laws w s sound p at _ call key refl way.shard not_yet table held listed.0 ∙ is in
@@ -230,20 +228,16 @@ module _ {K V S D T : Type 0} (x : Setup K V D T) (laws : Laws x) (w : State K V
         let c = claim-at x (threads_of w) w.blocks w.replies w.tables s.thread p f before (sound.stands s.thread p at) in
         done-whole k f before refl refl c.0 c.1 c.2
 
-    absent : (k : Keyed K V D) → slot_in x.eq table (keyed_key k) ≡ None → pair_of x.eq table.items (keyed_key k) ≡ None
-    absent k slot = find-no_position (has_key x.eq (keyed_key k)) table.items slot
-
-    -- a call whose pair the shard's list has no room for
+    -- a call whose pair the shard has no room for
     found-full : (g : Growth K V) → p.phase ≡ phase.Find (request_of g) → request_key (request_of {D = D} g) ≡ growth_key g → mode_of (request_of {D = D} g) ≡ Exclusive
-        → slot_in x.eq table (growth_key g) ≡ None → has_room table ≡ false → (blocks : List (Block K)) → blocks ≡ w.blocks
+        → pair_of x.eq table.items (growth_key g) ≡ None → has_room table ≡ false → (blocks : List (Block K)) → blocks ≡ w.blocks
         → Sound x (record (stepped w s (record p { guard = None; phase = phase.Grow g })) { blocks = blocks })
-    found-full g before key-is alone slot full blocks listed =
+    found-full g before key-is alone is full blocks listed =
         let f : Phase K V D T = phase.Find (request_of g) in
         let st = sound.stands s.thread p at in
         let c = claim-at x (threads_of w) w.blocks w.replies w.tables s.thread p f before st in
         let way : IsOnItsWay x p (growth_key g) = subst (λ (k : K). IsOnItsWay x p k) key-is c.1 in
         let holds : HoldsShard p Exclusive = subst (λ (m : Mode). HoldsShard p m) alone c.2 in
-        let is : pair_of x.eq table.items (growth_key g) ≡ None = find-no_position (has_key x.eq (growth_key g)) table.items slot in
         let p' : Place K V D T = record p { guard = None; phase = phase.Grow g } in
         subst (λ (z : List (Block K)). Sound x (record (stepped w s p') { blocks = z })) (sym listed)
         (sound-by x w s p p' at sound w.blocks w.tables w.holds w.replies _ (leaves-same x w s p p' at sound _)
@@ -259,32 +253,31 @@ module _ {K V S D T : Type 0} (x : Setup K V D T) (laws : Laws x) (w : State K V
             IsInCall-push x (threads_of w) s.thread s.thread p' _ (in_call-moved x p p' (threads_of w) s.thread _ refl refl refl c.0),
             record { block = way.block; guard = refl; shard = way.shard },
             holds-moved x p p' Exclusive refl refl holds,
-            record { table = table; held = held; so = (is, ltb-false (vec_len table) (vec_capacity table) full) },
+            record { table = table; held = held; so = (is, full) },
           );
         })
-        (tables-same x w.blocks w.blocks w.tables w.tables sound.tables (λ q. refl))
+        (tables-same x w.blocks w.blocks w.tables sound.tables (λ q. refl))
         (holds-same w.places w.holds sound.holds s.thread p p' at refl)
         (placed-same x (threads_of w) s.thread (started_of w) (started_of (stepped w s p')) w.blocks w.replies (started-stays x w s p p' at (λ n h. h)) sound.placed)
         sound.replies)
 
     -- an opening that gives no guard
-    found-nothing : (b : Begin K) → p.phase ≡ phase.Find (request.Begin b) → slot_in x.eq table (request_key {V = V} {D = D} (request.Begin b)) ≡ None
+    found-nothing : (b : Begin K) → p.phase ≡ phase.Find (request.Begin b) → pair_of x.eq table.items (request_key {V = V} {D = D} (request.Begin b)) ≡ None
         → opened {V = V} b None ≡ free None → opening_answer {V = V} {T = T} b None ≡ answer.None
         → (blocks : List (Block K)) → ListsBlock w s.thread p (Some 1) blocks
         → Sound x (record (stepped w s (record p { block = Some (length w.blocks); guard = None; phase = phase.Release answer.None })) { blocks = blocks })
-    found-nothing b before slot leaves answers blocks listed =
+    found-nothing b before is leaves answers blocks listed =
         let r : Request K V D = request.Begin b in
         let k = request_key r in
         let key : key_of {V = V} {D = D} (ask.Begin b) ≡ Some k = refl in
         let st = sound.stands s.thread p at in
         let c = claim-at x (threads_of w) w.blocks w.replies w.tables s.thread p (phase.Find r) before st in
-        let is : pair_of x.eq table.items k ≡ None = find-no_position (has_key x.eq k) table.items slot in
         let p' : Place K V D T = record p { block = Some (length w.blocks); guard = None; phase = phase.Release answer.None } in
         let not_yet : may_own p.phase ≡ false = ap may_own before in
         let l = listed.1 in
         let inside = begin-apart x laws w s (record (stepped w s p') { blocks = blocks }) sound p st b c.0.asked in
         let stays : Some (length w.blocks) ≡ block_after p' = sym (ap (λ (b : Bool). if b then None else Some (length w.blocks)) c.0.closes) in
-        let session = session-new x laws w s sound p at _ c.0 k key c.1.shard not_yet table held listed.0 (mode_of r) c.2 l w.tables p' None is refl (None, leaves) in
+        let session = session-new x laws w s sound p at _ c.0 k key c.1.shard not_yet table held listed.0 (mode_of r) c.2 l w.tables p' None is refl (None, leaves) (λ g k' e own. absurd (none-some g e)) in
         subst (λ (z : List (Block K)). Sound x (record (stepped w s p') { blocks = z })) (sym listed.2)
         (sound-listed x laws w s sound p at _ c.0 k key (mode_of r) c.2 c.1.shard not_yet 1 listed.0 l p' refl refl refl refl refl
         (opened-done x w s p' listed.0 l.done) w.tables refl (λ u q m ne hq h. refl) (
@@ -300,17 +293,17 @@ module _ {K V S D T : Type 0} (x : Setup K V D T) (laws : Laws x) (w : State K V
         )
         (taken-at x (threads_of w) w.blocks w.replies w.tables s.thread p (phase.Find r) before st)
         (within-at x (threads_of w) w.blocks w.replies w.tables s.thread p (phase.Find r) before st)
-        (tables-same x w.blocks (w.blocks ++ listed.0 ∷ []) w.tables w.tables sound.tables
+        (tables-same x w.blocks (w.blocks ++ listed.0 ∷ []) w.tables sound.tables
         (contents-listed x laws w s sound p at _ c.0 k key (mode_of r) c.2 c.1.shard not_yet 1 listed.0 l
         (λ o h. ap pair_in (reached-new x laws w s sound p at _ c.0 k key c.1.shard not_yet table held listed.0 l o) ∙ opened-quiet b o))))
 
-    -- an entry on an absent key for whose pair the shard's list has room, perhaps since it has grown
+    -- an entry on an absent key for whose pair the shard has room, perhaps since it has grown
     entered : (k : K) (f : Phase K V D T) → p.phase ≡ f → is_resting f ≡ false → may_own f ≡ false
         → IsInCall x (threads_of w) s.thread p (ask.Begin (begin.Entry k)) → IsOnItsWay x p k → HoldsShard p Exclusive
         → pair_of x.eq table.items k ≡ None → (blocks : List (Block K)) → ListsBlock w s.thread p (Some 1) blocks
         → (tables' : List (ShardPairs K V)) → length tables' ≡ length w.tables
         → ((u : ℕ) (q : Place K V D T) (m : Mode) → u ≢ s.thread → slice_get w.places u ≡ Some q → HoldsShard q m → slice_get tables' q.shard ≡ slice_get w.tables q.shard)
-        → HasPairs tables' p.shard (λ t. vec_len t < vec_capacity t)
+        → HasPairs tables' p.shard (λ t. (has_room t ≡ true) × (pair_of x.eq t.items k ≡ None))
         → ((d : Block K) → ((q : K) → contents x (w.blocks ++ d ∷ []) q ≡ contents x w.blocks q) → TablesAgree x (w.blocks ++ d ∷ []) tables')
         → Sound x (record (stepped w s (record p { block = Some (length w.blocks); guard = Some (guard.Vacant k); phase = phase.Answer answer.Vacant })) { tables = tables'; blocks = blocks })
     entered k f before busy unowned call way holds is blocks listed tables' shards kept roomy agree =
@@ -324,7 +317,12 @@ module _ {K V S D T : Type 0} (x : Setup K V D T) (laws : Laws x) (w : State K V
         let inside = begin-apart x laws w s (record (stepped w s p') { blocks = blocks }) sound p st b call.asked in
         let stays : Some (length w.blocks) ≡ block_after p' = sym (ap (λ (b : Bool). if b then None else Some (length w.blocks)) call.closes) in
         let session = session-new x laws w s sound p at _ call k key way.shard not_yet table held d Exclusive holds l tables' p' None is refl
-        (refl, holds-moved x p p' Exclusive refl refl holds, roomy) in
+        (refl, holds-moved x p p' Exclusive refl refl holds, record { table = roomy.table; held = roomy.held; so = roomy.so.0 })
+        (λ g k' e own. record {
+          table = roomy.table;
+          held = roomy.held;
+          so = subst (λ (z : K). pair_of x.eq roomy.table.items z ≡ None) (same_Some k k' (sym (new-key x laws w s sound p at _ call k key Exclusive holds way.shard not_yet 1 d l) ∙ own)) roomy.so.1;
+        }) in
         subst (λ (z : List (Block K)). Sound x (record (stepped w s p') { tables = tables'; blocks = z })) (sym listed.2)
         (sound-listed x laws w s sound p at _ call k key Exclusive holds way.shard not_yet 1 d l p' refl refl refl refl refl
         (opened-done x w s p' d l.done) tables' shards kept (
@@ -342,14 +340,13 @@ module _ {K V S D T : Type 0} (x : Setup K V D T) (laws : Laws x) (w : State K V
         (contents-listed x laws w s sound p at _ call k key Exclusive holds way.shard not_yet 1 d l
         (λ o h. ap pair_in (reached-new x laws w s sound p at _ call k key way.shard not_yet table held d l o) ∙ opened-quiet b o))))
 
-    found-by : (r : Request K V D) → p.phase ≡ phase.Find r → (slot : Option ℕ) → slot_in x.eq table (request_key r) ≡ slot → (room : Bool) → has_room table ≡ room
-        → (blocks : List (Block K)) → ListsBlock w s.thread p (found_done r slot room) blocks → Found p r slot room blocks
-    found-by (request.Keyed (keyed.Insert k v)) before (Some i) slot room roomy blocks listed = found-deed (keyed.Insert k v) before refl i slot blocks listed
-    found-by (request.Keyed (keyed.Insert k v)) before None slot true roomy blocks listed =
+    found-by : (r : Request K V D) → p.phase ≡ phase.Find r → (o : Option (K × V)) → pair_of x.eq table.items (request_key r) ≡ o → (room : Bool) → has_room table ≡ room
+        → (blocks : List (Block K)) → ListsBlock w s.thread p (found_done r (is_some o) room) blocks → Found p r (is_some o) room blocks
+    found-by (request.Keyed (keyed.Insert k v)) before (Some pair) is room roomy blocks listed = found-deed (keyed.Insert k v) before refl pair is blocks listed
+    found-by (request.Keyed (keyed.Insert k v)) before None is true roomy blocks listed =
         let r : Request K V D = request.Keyed (keyed.Insert k v) in
         let st = sound.stands s.thread p at in
         let c = claim-at x (threads_of w) w.blocks w.replies w.tables s.thread p (phase.Find r) before st in
-        let is : pair_of x.eq table.items k ≡ None = find-no_position (has_key x.eq k) table.items slot in
         let p' : Place K V D T = record p { block = Some (length w.blocks); guard = None; phase = phase.Append k v } in
         let not_yet : may_own p.phase ≡ false = ap may_own before in
         let l = listed.1 in
@@ -358,31 +355,30 @@ module _ {K V S D T : Type 0} (x : Setup K V D T) (laws : Laws x) (w : State K V
         (done-none listed.0 0 l.done (omega arith) l.end) w.tables refl (λ u q m ne hq h. refl) (
           IsInCall-push x (threads_of w) s.thread s.thread p' _ (in_call-moved x p p' (threads_of w) s.thread _ refl refl refl c.0),
           before-deed x laws w s sound p at _ c.0 k refl c.1.shard not_yet table held listed.0 c.2 l p' None is refl refl refl refl refl,
-          record { table = table; held = held; so = ltb-true (vec_len table) (vec_capacity table) roomy },
+          record { table = table; held = held; so = roomy },
         )
         (taken-at x (threads_of w) w.blocks w.replies w.tables s.thread p (phase.Find r) before st)
         (within-at x (threads_of w) w.blocks w.replies w.tables s.thread p (phase.Find r) before st)
-        (tables-same x w.blocks (w.blocks ++ listed.0 ∷ []) w.tables w.tables sound.tables
+        (tables-same x w.blocks (w.blocks ++ listed.0 ∷ []) w.tables sound.tables
         (contents-listed x laws w s sound p at _ c.0 k refl Exclusive c.2 c.1.shard not_yet 0 listed.0 l (quiet-none x laws w s sound p at _ c.0 k refl c.1.shard not_yet table held listed.0 l))))
-    found-by (request.Keyed (keyed.Insert k v)) before None slot false full blocks listed = found-full (growth.Insert k v) before refl refl slot full blocks listed
-    found-by (request.Keyed (keyed.Remove k)) before (Some i) slot room roomy blocks listed = found-deed (keyed.Remove k) before refl i slot blocks listed
-    found-by (request.Keyed (keyed.Remove k)) before None slot room roomy blocks listed =
-        found-whole (keyed.Remove k) before None (absent (keyed.Remove k) slot) refl answer.None refl blocks listed
-    found-by (request.Keyed (keyed.RemoveIf k d)) before (Some i) slot room roomy blocks listed = found-deed (keyed.RemoveIf k d) before refl i slot blocks listed
-    found-by (request.Keyed (keyed.RemoveIf k d)) before None slot room roomy blocks listed =
-        found-whole (keyed.RemoveIf k d) before None (absent (keyed.RemoveIf k d) slot) refl answer.None refl blocks listed
-    found-by (request.Keyed (keyed.RemoveIfMut k d)) before (Some i) slot room roomy blocks listed = found-deed (keyed.RemoveIfMut k d) before refl i slot blocks listed
-    found-by (request.Keyed (keyed.RemoveIfMut k d)) before None slot room roomy blocks listed =
-        found-whole (keyed.RemoveIfMut k d) before None (absent (keyed.RemoveIfMut k d) slot) refl answer.None refl blocks listed
-    found-by (request.Keyed (keyed.Alter k d)) before (Some i) slot room roomy blocks listed = found-deed (keyed.Alter k d) before refl i slot blocks listed
-    found-by (request.Keyed (keyed.Alter k d)) before None slot room roomy blocks listed =
-        found-whole (keyed.Alter k d) before None (absent (keyed.Alter k d) slot) refl answer.Done refl blocks listed
-    found-by (request.Keyed (keyed.View k d)) before (Some i) slot room roomy blocks listed =
+    found-by (request.Keyed (keyed.Insert k v)) before None is false full blocks listed = found-full (growth.Insert k v) before refl refl is full blocks listed
+    found-by (request.Keyed (keyed.Remove k)) before (Some pair) is room roomy blocks listed = found-deed (keyed.Remove k) before refl pair is blocks listed
+    found-by (request.Keyed (keyed.Remove k)) before None is room roomy blocks listed =
+        found-whole (keyed.Remove k) before None is refl answer.None refl blocks listed
+    found-by (request.Keyed (keyed.RemoveIf k d)) before (Some pair) is room roomy blocks listed = found-deed (keyed.RemoveIf k d) before refl pair is blocks listed
+    found-by (request.Keyed (keyed.RemoveIf k d)) before None is room roomy blocks listed =
+        found-whole (keyed.RemoveIf k d) before None is refl answer.None refl blocks listed
+    found-by (request.Keyed (keyed.RemoveIfMut k d)) before (Some pair) is room roomy blocks listed = found-deed (keyed.RemoveIfMut k d) before refl pair is blocks listed
+    found-by (request.Keyed (keyed.RemoveIfMut k d)) before None is room roomy blocks listed =
+        found-whole (keyed.RemoveIfMut k d) before None is refl answer.None refl blocks listed
+    found-by (request.Keyed (keyed.Alter k d)) before (Some pair) is room roomy blocks listed = found-deed (keyed.Alter k d) before refl pair is blocks listed
+    found-by (request.Keyed (keyed.Alter k d)) before None is room roomy blocks listed =
+        found-whole (keyed.Alter k d) before None is refl answer.Done refl blocks listed
+    found-by (request.Keyed (keyed.View k d)) before (Some pair) is room roomy blocks listed =
         let r : Request K V D = request.Keyed (keyed.View k d) in
         let st = sound.stands s.thread p at in
         let c = claim-at x (threads_of w) w.blocks w.replies w.tables s.thread p (phase.Find r) before st in
-        let here = position-Some_at (has_key x.eq k) table.items i slot in
-        let p' : Place K V D T = record p { guard = None; phase = phase.View i k d } in
+        let p' : Place K V D T = record p { guard = None; phase = phase.View k d } in
         subst (λ (z : List (Block K)). Sound x (record (stepped w s p') { blocks = z })) (sym listed)
         (sound-by x w s p p' at sound w.blocks w.tables w.holds w.replies _ (leaves-same x w s p p' at sound _)
         (record {
@@ -394,90 +390,93 @@ module _ {K V S D T : Type 0} (x : Setup K V D T) (laws : Laws x) (w : State K V
           own_block = st.own_block;
           owns = owns-on w.blocks s.thread p p' st.owns refl refl (λ own. absurd (false≢true (sym (ap may_own before) ∙ own)));
           claim = (
-            here.0,
+            pair,
             IsInCall-push x (threads_of w) s.thread s.thread p' _ (in_call-moved x p p' (threads_of w) s.thread _ refl refl refl c.0),
             record { block = c.1.block; guard = refl; shard = c.1.shard },
             holds-moved x p p' Shared refl refl c.2,
-            record { table = table; held = held; so = (here.1, find-position (has_key x.eq k) table.items i slot ∙ here.1) },
+            record { table = table; held = held; so = is },
           );
         })
-        (tables-same x w.blocks w.blocks w.tables w.tables sound.tables (λ q. refl))
+        (tables-same x w.blocks w.blocks w.tables sound.tables (λ q. refl))
         (holds-same w.places w.holds sound.holds s.thread p p' at refl)
         (placed-same x (threads_of w) s.thread (started_of w) (started_of (stepped w s p')) w.blocks w.replies (started-stays x w s p p' at (λ n h. h)) sound.placed)
         sound.replies)
-    found-by (request.Keyed (keyed.View k d)) before None slot room roomy blocks listed =
-        found-whole (keyed.View k d) before None (absent (keyed.View k d) slot) refl answer.None refl blocks listed
-    found-by (request.Keyed (keyed.ContainsKey k)) before (Some i) slot room roomy blocks listed =
-        let here = position-Some_at (has_key x.eq k) table.items i slot in
-        found-whole (keyed.ContainsKey k) before (Some here.0) (find-position (has_key x.eq k) table.items i slot ∙ here.1) refl (answer.Flag true) refl blocks listed
-    found-by (request.Keyed (keyed.ContainsKey k)) before None slot room roomy blocks listed =
-        found-whole (keyed.ContainsKey k) before None (absent (keyed.ContainsKey k) slot) refl (answer.Flag false) refl blocks listed
-    found-by (request.Begin b) before (Some i) slot room roomy blocks listed =
+    found-by (request.Keyed (keyed.View k d)) before None is room roomy blocks listed =
+        found-whole (keyed.View k d) before None is refl answer.None refl blocks listed
+    found-by (request.Keyed (keyed.ContainsKey k)) before (Some pair) is room roomy blocks listed =
+        found-whole (keyed.ContainsKey k) before (Some pair) is refl (answer.Flag true) refl blocks listed
+    found-by (request.Keyed (keyed.ContainsKey k)) before None is room roomy blocks listed =
+        found-whole (keyed.ContainsKey k) before None is refl (answer.Flag false) refl blocks listed
+    found-by (request.Begin b) before (Some pair) is room roomy blocks listed =
         let r : Request K V D = request.Begin b in
         let k = request_key r in
         let key : key_of {V = V} {D = D} (ask.Begin b) ≡ Some k = refl in
         let st = sound.stands s.thread p at in
         let c = claim-at x (threads_of w) w.blocks w.replies w.tables s.thread p (phase.Find r) before st in
-        let here = position-Some_at (has_key x.eq k) table.items i slot in
-        let is : pair_of x.eq table.items k ≡ Some here.0 = find-position (has_key x.eq k) table.items i slot ∙ here.1 in
-        let p' : Place K V D T = record p { block = Some (length w.blocks); guard = Some (guard.Pair (opening_way b) i); phase = phase.Answer answer.Held } in
+        let p' : Place K V D T = record p { block = Some (length w.blocks); guard = Some (guard.Pair (opening_way b)); phase = phase.Answer answer.Held } in
         let not_yet : may_own p.phase ≡ false = ap may_own before in
         let l = listed.1 in
         let inside = begin-apart x laws w s (record (stepped w s p') { blocks = blocks }) sound p st b c.0.asked in
         let stays : Some (length w.blocks) ≡ block_after p' = sym (ap (λ (b : Bool). if b then None else Some (length w.blocks)) c.0.closes) in
-        let session = session-new x laws w s sound p at _ c.0 k key c.1.shard not_yet table held listed.0 (mode_of r) c.2 l w.tables p' (Some here.0) is
-        refl (here.0, opened-some b here.0, holds-moved x p p' (mode_of r) refl refl c.2, record { table = table; held = held; pair_is = here.1 }) in
+        let session = session-new x laws w s sound p at _ c.0 k key c.1.shard not_yet table held listed.0 (mode_of r) c.2 l w.tables p' (Some pair) is
+        refl (pair, opened-some b pair, holds-moved x p p' (mode_of r) refl refl c.2)
+        (λ g k' e own. record {
+          table = table;
+          held = held;
+          so = subst (λ (z : K). pair_of x.eq table.items z ≡ pair_in (opened b (Some pair))) (same_Some k k' (sym (new-key x laws w s sound p at _ c.0 k key (mode_of r) c.2 c.1.shard not_yet 1 listed.0 l) ∙ own))
+              (is ∙ sym (opened-quiet b (Some pair)));
+        }) in
         subst (λ (z : List (Block K)). Sound x (record (stepped w s p') { blocks = z })) (sym listed.2)
         (sound-listed x laws w s sound p at _ c.0 k key (mode_of r) c.2 c.1.shard not_yet 1 listed.0 l p' refl refl refl refl refl
         (opened-done x w s p' listed.0 l.done) w.tables refl (λ u q m ne hq h. refl) (
           ask.Begin b,
           IsInCall-push x (threads_of w) s.thread s.thread p' _ (in_call-moved x p p' (threads_of w) s.thread _ refl refl refl c.0),
-          (λ h. absurd (none-some (guard.Pair (opening_way b) i) (sym h))),
-          inl (subst (λ (z : Answer K V T). IsToldBy x (w.blocks ++ listed.0 ∷ []) s.thread p.next 0 z) (opening-some b here.0)
-              (told-new x laws w s sound p at _ c.0 k key c.1.shard not_yet table held listed.0 (mode_of r) c.2 l (Some here.0) is)),
+          (λ h. absurd (none-some (guard.Pair (opening_way b)) (sym h))),
+          inl (subst (λ (z : Answer K V T). IsToldBy x (w.blocks ++ listed.0 ∷ []) s.thread p.next 0 z) (opening-some b pair)
+              (told-new x laws w s sound p at _ c.0 k key c.1.shard not_yet table held listed.0 (mode_of r) c.2 l (Some pair) is)),
           ready-inside x (w.blocks ++ listed.0 ∷ []) w.tables s.thread p' (p.next + 1) p.next (length w.blocks) (block_after p') inside.1 stays session,
         )
         (taken-at x (threads_of w) w.blocks w.replies w.tables s.thread p (phase.Find r) before st)
         (within-at x (threads_of w) w.blocks w.replies w.tables s.thread p (phase.Find r) before st)
-        (tables-same x w.blocks (w.blocks ++ listed.0 ∷ []) w.tables w.tables sound.tables
+        (tables-same x w.blocks (w.blocks ++ listed.0 ∷ []) w.tables sound.tables
         (contents-listed x laws w s sound p at _ c.0 k key (mode_of r) c.2 c.1.shard not_yet 1 listed.0 l
         (λ o h. ap pair_in (reached-new x laws w s sound p at _ c.0 k key c.1.shard not_yet table held listed.0 l o) ∙ opened-quiet b o))))
-    found-by (request.Begin (begin.Get k)) before None slot room roomy blocks listed = found-nothing (begin.Get k) before slot refl refl blocks listed
-    found-by (request.Begin (begin.GetMut k)) before None slot room roomy blocks listed = found-nothing (begin.GetMut k) before slot refl refl blocks listed
-    found-by (request.Begin (begin.Entry k)) before None slot false full blocks listed = found-full (growth.Entry k) before refl refl slot full blocks listed
-    found-by (request.Begin (begin.Entry k)) before None slot true roomy blocks listed =
+    found-by (request.Begin (begin.Get k)) before None is room roomy blocks listed = found-nothing (begin.Get k) before is refl refl blocks listed
+    found-by (request.Begin (begin.GetMut k)) before None is room roomy blocks listed = found-nothing (begin.GetMut k) before is refl refl blocks listed
+    found-by (request.Begin (begin.Entry k)) before None is false full blocks listed = found-full (growth.Entry k) before refl refl is full blocks listed
+    found-by (request.Begin (begin.Entry k)) before None is true roomy blocks listed =
         let f : Phase K V D T = phase.Find (request.Begin (begin.Entry k)) in
         let c = claim-at x (threads_of w) w.blocks w.replies w.tables s.thread p f before (sound.stands s.thread p at) in
-        entered k f before refl refl c.0 c.1 c.2 (find-no_position (has_key x.eq k) table.items slot) blocks listed w.tables refl (λ u q m ne hq h. refl)
-        (record { table = table; held = held; so = ltb-true (vec_len table) (vec_capacity table) roomy })
-        (λ d same. tables-same x w.blocks (w.blocks ++ d ∷ []) w.tables w.tables sound.tables same)
+        entered k f before refl refl c.0 c.1 c.2 is blocks listed w.tables refl (λ u q m ne hq h. refl)
+        (record { table = table; held = held; so = (roomy, is) })
+        (λ d same. tables-same x w.blocks (w.blocks ++ d ∷ []) w.tables sound.tables same)
 
   pub sound-finds : (w' : State K V S D T) → Finds x w s w' → Sound x w'
   sound-finds w' f =
       subst (Sound x) (sym (f.after ∙ ap (λ (z : Option ℕ). record (stepped w s (record (f.place) {
         block = block_behind z (length w.blocks) f.place.block;
-        guard = found_guard f.request (slot_in x.eq f.table (request_key f.request)) (has_room f.table);
-        phase = found_phase f.request (slot_in x.eq f.table (request_key f.request)) (has_room f.table);
+        guard = found_guard f.request (is_some (pair_of x.eq f.table.items (request_key f.request))) (has_room f.table);
+        phase = found_phase f.request (is_some (pair_of x.eq f.table.items (request_key f.request))) (has_room f.table);
       })) { blocks = f.blocks }) f.done_is))
-      (found-by f.place f.stands f.table f.held f.request f.before (slot_in x.eq f.table (request_key f.request)) refl (has_room f.table) refl f.blocks
+      (found-by f.place f.stands f.table f.held f.request f.before (pair_of x.eq f.table.items (request_key f.request)) refl (has_room f.table) refl f.blocks
       (subst (λ (z : Option ℕ). ListsBlock w s.thread f.place z f.blocks) f.done_is f.listed))
 
   pub sound-views : (w' : State K V S D T) → Views x w s w' → Sound x w'
   sound-views w' v =
       let p = v.place in
-      let f : Phase K V D T = phase.View v.slot v.key v.deed in
+      let f : Phase K V D T = phase.View v.key v.deed in
       let k : Keyed K V D = keyed.View v.key v.deed in
       let a : Answer K V T = answer.Read (x.deeds.answer v.deed v.pair.0 v.pair.1) in
       let c = claim-at x (threads_of w) w.blocks w.replies w.tables s.thread p f v.before (sound.stands s.thread p v.stands) in
-      let same : v.table ≡ c.4.table = same_Some v.table c.4.table (sym v.held ∙ c.4.held) in
-      let pair : v.pair ≡ c.0 = same_Some v.pair c.0 (sym v.found ∙ (ap (λ (z : ShardPairs K V). slice_get z.items v.slot) same ∙ c.4.so.0)) in
-      let is : pair_of x.eq v.table.items v.key ≡ Some v.pair = ap (λ (z : ShardPairs K V). pair_of x.eq z.items v.key) same ∙ c.4.so.1 ∙ ap Some (sym pair) in
       subst (Sound x) (sym (v.after ∙ ap (λ (z : Option (Guard K)). record (stepped w s (record p { block = Some (length w.blocks); guard = z; phase = phase.Release a })) { blocks = v.blocks }) c.2.guard))
-      (done-whole p v.stands v.table v.held k f v.before refl refl c.1 c.2 c.3 (Some v.pair) is refl a refl v.blocks v.listed)
+      (done-whole p v.stands v.table v.held k f v.before refl refl c.1 c.2 c.3 (Some v.pair) v.found refl a refl v.blocks v.listed)
+
+  roomy-grown : {w' : State K V S D T} (a : GrowsShard x w s w') → has_room a.grown ≡ true
+  roomy-grown a = let len = a.grows.counted in let room = a.grows.room in lt-ltb (length a.grown.items) a.grown.room (omega arith)
 
   grown : (w' : State K V S D T) (a : GrowsShard x w s w') (c : Growth K V) → a.place.phase ≡ phase.Grow c → pair_of x.eq a.table.items (growth_key c) ≡ None
-      → ListsBlock w s.thread a.place (found_done {D = D} (request_of c) None true) a.blocks
-      → Sound x (record (stepped w s (record (a.place) { block = Some (length w.blocks); guard = found_guard {D = D} (request_of c) None true; phase = found_phase (request_of c) None true })) {
+      → ListsBlock w s.thread a.place (found_done {D = D} (request_of c) false true) a.blocks
+      → Sound x (record (stepped w s (record (a.place) { block = Some (length w.blocks); guard = found_guard {D = D} (request_of c) false true; phase = found_phase (request_of c) false true })) {
         tables = slice_set w.tables a.place.shard a.grown;
         blocks = a.blocks;
       })
@@ -490,28 +489,26 @@ module _ {K V S D T : Type 0} (x : Setup K V D T) (laws : Laws x) (w : State K V
       let not_yet : may_own p.phase ≡ false = ap may_own before in
       let l = listed.1 in
       let d = listed.0 in
-      let len : vec_len a.grown ≡ vec_len a.table = a.grown.ok.0 ∙ (ap length a.pairs ∙ sym a.table.ok.0) in
       subst (λ (z : List (Block K)). Sound x (record (stepped w s p') { tables = slice_set w.tables p.shard a.grown; blocks = z })) (sym listed.2)
       (sound-listed x laws w s sound p a.stands _ c.0 k refl Exclusive c.2 c.1.shard not_yet 0 d l p' refl refl refl refl refl
       (done-none d 0 l.done (omega arith) l.end) (slice_set w.tables p.shard a.grown) (length-set w.tables p.shard a.grown)
       (kept-alone x w s p a.stands sound a.grown c.2) (
         IsInCall-push x (threads_of w) s.thread s.thread p' _ (in_call-moved x p p' (threads_of w) s.thread _ refl refl refl c.0),
         before-deed x laws w s sound p a.stands _ c.0 k refl c.1.shard not_yet a.table a.held d c.2 l p' None absent refl refl refl refl refl,
-        record { table = a.grown; held = slice_get-set_same w.tables p.shard a.table a.grown a.held; so = omega (arith, len, a.room) },
+        record { table = a.grown; held = slice_get-set_same w.tables p.shard a.table a.grown a.held; so = roomy-grown a },
       )
       (taken-at x (threads_of w) w.blocks w.replies w.tables s.thread p f before st)
       (within-at x (threads_of w) w.blocks w.replies w.tables s.thread p f before st)
-      (tables-rewritten x w.blocks (w.blocks ++ d ∷ []) w.tables p.shard a.table a.grown a.held a.pairs sound.tables
+      (tables-grown x laws w.blocks (w.blocks ++ d ∷ []) w.tables sound.tables p.shard a.table a.grown a.held a.grows
       (contents-listed x laws w s sound p a.stands _ c.0 k refl Exclusive c.2 c.1.shard not_yet 0 d l (quiet-none x laws w s sound p a.stands _ c.0 k refl c.1.shard not_yet a.table a.held d l))))
   grown w' a (growth.Entry k) before absent listed =
       let p = a.place in
       let f : Phase K V D T = phase.Grow (growth.Entry k) in
       let c = claim-at x (threads_of w) w.blocks w.replies w.tables s.thread p f before (sound.stands s.thread p a.stands) in
-      let len : vec_len a.grown ≡ vec_len a.table = a.grown.ok.0 ∙ (ap length a.pairs ∙ sym a.table.ok.0) in
       entered p a.stands a.table a.held k f before refl refl c.0 c.1 c.2 absent a.blocks listed
       (slice_set w.tables p.shard a.grown) (length-set w.tables p.shard a.grown) (kept-alone x w s p a.stands sound a.grown c.2)
-      (record { table = a.grown; held = slice_get-set_same w.tables p.shard a.table a.grown a.held; so = omega (arith, len, a.room) })
-      (λ d same. tables-rewritten x w.blocks (w.blocks ++ d ∷ []) w.tables p.shard a.table a.grown a.held a.pairs sound.tables same)
+      (record { table = a.grown; held = slice_get-set_same w.tables p.shard a.table a.grown a.held; so = (roomy-grown a, a.grows.found k ∙ absent) })
+      (λ d same. tables-grown x laws w.blocks (w.blocks ++ d ∷ []) w.tables sound.tables p.shard a.table a.grown a.held a.grows same)
 
   pub sound-grows : (w' : State K V S D T) → GrowsShard x w s w' → Sound x w'
   sound-grows w' a = subst (Sound x) (sym a.after) (grown w' a a.call a.before a.absent a.listed)

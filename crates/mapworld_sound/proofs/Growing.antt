@@ -1,6 +1,7 @@
 -- A call on a guard, or where a guard was, is counted in by the session's block.
 use Rattle.std.proofs.Common.{◌≡◌, ◌≢◌, ℕ, ◌+◌, ◌-◌, ◌≤◌, ◌⊎◌, inl, inr, ⊎_elim, false, List, [], ◌∷◌, ◌++◌, length, take, drop, Option, Some, None, IsSome, slice_get, slice_set, refl, ap, sym, ◌∙◌, subst, arith}
-use Rattle.mapworld_state.specs.Shards.{ShardPairs}
+use Rattle.std.specs.Option.{option_and_then}
+use Rattle.mapworld_state.specs.Shards.{ShardPairs, Puts}
 use Rattle.std.proofs.lemmas.Option.{same_Some, none-some}
 use Rattle.std.proofs.lemmas.Bool.{cases_lt, cases_eq, false≢true}
 use Rattle.mapworld_calls.specs.declared.ask.Ask.{Ask}
@@ -12,6 +13,7 @@ use Rattle.mapworld_calls.specs.declared.block.Block.{Block}
 use Rattle.mapworld_calls.specs.Deeds.{Deeds}
 use Rattle.mapworld_calls.specs.Calls.{At, free, shared, exclusive, occupied, vacant, pair_in, told, held_leaves}
 use Rattle.mapworld_calls.specs.Setup.{Setup, Laws, ask_at, session_of}
+use Rattle.mapworld_calls.specs.Pairs.{pair_of}
 use Rattle.mapworld_calls.specs.Replay.{reached, block_key, at_key, contents, found, IsLastOnShard}
 use Rattle.mapworld_calls.specs.Agrees.{IsToldBy}
 use Rattle.mapworld_calls.specs.Placed.{answered_of, HasStarted, IsDoneWithin}
@@ -24,15 +26,19 @@ use Rattle.mapworld_state.specs.declared.holds.Mode.TheVariants.{Exclusive}
 use Rattle.mapworld_state.specs.declared.step.Step.{Step}
 use Rattle.mapworld_state.specs.Holds.{Desks}
 use Rattle.mapworld_state.specs.declared.holds.Mode.{Mode}
+use Rattle.mapworld_state.specs.declared.place.Way.{Way}
+use Rattle.mapworld_state.specs.declared.place.Way.TheVariants as way
 use Rattle.mapworld_state.specs.declared.place.Guard.{Guard}
+use Rattle.mapworld_state.specs.declared.place.Guard.TheVariants as guard
 use Rattle.mapworld_state.specs.Places.{Place}
 use Rattle.mapworld_state.specs.State.{State, threads_of, started_of}
-use Rattle.mapworld_state.specs.Moves.{stepped, CountsIn}
-use Rattle.mapworld_state.specs.Sound.{taken, may_own, HoldsShard, GuardIs, HasSession, IsInSession, Claim, OwnsBlocks, HasOwnBlock, Stands, TablesAgree, Sound}
+use Rattle.mapworld_state.specs.Moves.{way_mode, lent, stepped, CountsIn}
+use Rattle.mapworld_state.specs.Steps.{guarded_key}
+use Rattle.mapworld_state.specs.Sound.{taken, may_own, HoldsShard, HasPairs, GuardIs, HasReached, HasSession, IsInSession, Claim, OwnsBlocks, HasOwnBlock, Stands, TablesAgree, Sound}
 use Rattle.mapworld_state.specs.Held.{HoldsMatch}
 use Rattle.mapworld_sound.proofs.Effects.{effect-grow, Anyhow}
 use Rattle.mapworld_sound.proofs.Timing.{placed-grown}
-use Rattle.mapworld_sound.proofs.Building.{started-own, started-stays, sound-by, replies-kept, asked-at, session-is, reached-next, told-next, settled-moved, alone-moved, tables-same}
+use Rattle.mapworld_sound.proofs.Building.{and_then-at, started-own, started-stays, sound-by, replies-kept, asked-at, session-is, reached-next, told-next, settled-moved, alone-moved, tables-same}
 
 -- a call on the guard of a session that stands there leaves its pair
 abbrev pub LeavesPair : {D K V T : Type 0} → Deeds D K V T → Held V D → At K V → Type 0
@@ -76,6 +82,21 @@ pub session-of-guard : {K V D T : Type 0} (x : Setup K V D T) (bs : List (Block 
 session-of-guard x bs tables t p n g None block guarded h = absurd (none-some g (sym h.0 ∙ guarded))
 session-of-guard x bs tables t p n g (Some c) None guarded h = absurd (none-some g (sym h.0 ∙ guarded))
 session-of-guard x bs tables t p n g (Some c) (Some i) guarded h = (c, i, refl, refl, h)
+
+-- a guard's session has come to it
+pub guard-at : {K V D T : Type 0} (tables : List (ShardPairs K V)) (p : Place K V D T) (o : Option (Guard K)) (kind : Way K) (at : At K V) → o ≡ Some (guard.Pair kind) → GuardIs tables p o at
+    → (pair : K × V) × (at ≡ lent kind pair) × HoldsShard p (way_mode kind)
+guard-at {K} tables p o kind at same h = subst (λ (z : Option (Guard K)). GuardIs tables p z at) same h
+
+pub pair-lent : {K V : Type 0} (k : Way K) (p : K × V) → pair_in (lent k p) ≡ Some p
+pair-lent way.Shared p = refl
+pair-lent way.Exclusive p = refl
+pair-lent (way.Occupied k) p = refl
+
+-- the key of a thread's session is that of its block
+key-at : {K V D T : Type 0} (x : Setup K V D T) (bs : List (Block K)) (o : Option ℕ) (i : ℕ) (b : Block K) (key : K) → o ≡ Some i → slice_get bs i ≡ Some b → guarded_key x bs o ≡ Some key → block_key x b ≡ Some key
+key-at x bs o i b key mine listed is =
+    sym (and_then-at (λ j. option_and_then (block_key x) (slice_get bs j)) o i mine ∙ and_then-at (block_key x) (slice_get bs i) b listed) ∙ is
 
 opening-key_of : {K V D T : Type 0} (x : Setup K V D T) (b : Block K) (t c : ℕ) (g : Begin K) → b.thread ≡ t → b.call ≡ c → ask_at x t c ≡ Some (ask.Begin g) → block_key x b ≡ Some (opening_key g)
 opening-key_of {K} {V} {D} x b t c g thread call asked = rw (thread, call, asked) refl
@@ -156,10 +177,12 @@ module _ {K V S D T : Type 0} (x : Setup K V D T) (laws : Laws x) (w : State K V
 
   -- the session goes on behind the call, which may not come to hold its shard alone
   pub session-goes-on : (tables' : List (ShardPairs K V)) (p' : Place K V D T) → (HoldsShard p' Exclusive → HoldsShard p Exclusive) → p'.shard ≡ p.shard → GuardIs tables' p' p'.guard (held_leaves x.deeds h was)
+      → HasReached x tables' p' b (held_leaves x.deeds h was)
       → HasSession x (slice_set w.blocks i d) tables' s.thread p' (p.next + 1) c i
-  session-goes-on tables' p' alone shard guard =
+  session-goes-on tables' p' alone shard guard there =
       let below = session.below in
       let one : p.next + 1 - c ≡ p.next - c + 1 = omega arith in
+      let now : reached x s.thread c (p.next + 1 - c) (found x (slice_set w.blocks i d) i d) ≡ held_leaves x.deeds h was = rw (one, finds-same) reached-more in
       record {
         block = d;
         listed = slice_get-set_same w.blocks i b d listed;
@@ -167,14 +190,53 @@ module _ {K V S D T : Type 0} (x : Setup K V D T) (laws : Laws x) (w : State K V
         call = counts.call ∙ call-is;
         below = omega arith;
         done = more-is ∙ sym one;
-        guard = rw (one, finds-same) (subst (λ (z : At K V). GuardIs tables' p' p'.guard z) (sym reached-more) guard);
+        guard = subst (λ (z : At K V). GuardIs tables' p' p'.guard z) (sym now) guard;
+        there = λ g key e is. subst (λ (z : At K V). HasReached x tables' p' b z) (sym now) there g key e (sym (block_key-grown x laws w.blocks i b d grows) ∙ is);
         settled = settled-moved x p p' w.blocks (slice_set w.blocks i d) i session.block d (block_key-grown x laws w.blocks i b d grows ∙ ap (λ z. block_key x z) (sym its))
             alone shard ((effect-grow x laws w.blocks s.thread i b d grows thread-is).last i session.block session.listed tt) session.settled;
       }
 
   pub session-on : (tables' : List (ShardPairs K V)) (p' : Place K V D T) → p'.holds ≡ p.holds → p'.shard ≡ p.shard → GuardIs tables' p' p'.guard (held_leaves x.deeds h was)
+      → HasReached x tables' p' b (held_leaves x.deeds h was)
       → HasSession x (slice_set w.blocks i d) tables' s.thread p' (p.next + 1) c i
-  session-on tables' p' hold shard guard = session-goes-on tables' p' (alone-moved x p p' hold shard) shard guard
+  session-on tables' p' hold shard guard there = session-goes-on tables' p' (alone-moved x p p' hold shard) shard guard there
+
+  -- what the shard has of a guard's key is where the session has come to
+  pub there-was : (g : Guard K) (key : K) → p.guard ≡ Some g → block_key x b ≡ Some key → HasPairs w.tables p.shard (λ table. pair_of x.eq table.items key ≡ pair_in was)
+  there-was g key e is =
+      let has = session.there g key e (ap (λ z. block_key x z) its ∙ is) in
+      record { table = has.table; held = has.held; so = has.so ∙ ap (λ z. pair_in (reached x s.thread c (p.next - c) (found x w.blocks i z))) its }
+
+  -- so the pair that a step finds by the key of a guard that lends one is the one that it lends
+  pub lends-pair : (kind : Way K) → p.guard ≡ Some (guard.Pair kind) → p.block ≡ Some i → (key : K) → guarded_key x w.blocks p.block ≡ Some key
+      → (table : ShardPairs K V) → slice_get w.tables p.shard ≡ Some table → (pair : K × V) → pair_of x.eq table.items key ≡ Some pair
+      → (was ≡ lent kind pair) × HoldsShard p (way_mode kind) × (block_key x b ≡ Some key)
+  lends-pair kind guarded mine key is table held pair finds =
+      let key-is = key-at x w.blocks p.block i b key mine listed is in
+      let has = there-was (guard.Pair kind) key guarded key-is in
+      let lends = guard-at w.tables p p.guard kind (reached x s.thread c (p.next - c) (found x w.blocks i session.block)) guarded session.guard in
+      let stood : was ≡ lent kind lends.0 = ap (λ z. reached x s.thread c (p.next - c) (found x w.blocks i z)) (sym its) ∙ lends.1 in
+      let there : pair_of x.eq table.items key ≡ Some lends.0 =
+      ap (λ (z : ShardPairs K V). pair_of x.eq z.items key) (same_Some table has.table (sym held ∙ has.held)) ∙ has.so ∙ ap pair_in stood ∙ pair-lent kind lends.0 in
+      (stood ∙ ap (λ (z : K × V). lent kind z) (same_Some lends.0 pair (sym there ∙ finds)), lends.2, key-is)
+
+  -- it has it still where the call leaves its pair
+  pub there-still : LeavesPair x.deeds h was → (p' : Place K V D T) → p'.shard ≡ p.shard → ((g : Guard K) → p'.guard ≡ Some g → (own : Guard K) × (p.guard ≡ Some own))
+      → HasReached x w.tables p' b (held_leaves x.deeds h was)
+  there-still same p' shard guarded g key e is =
+      let has = there-was (guarded g e).0 key (guarded g e).1 is in
+      record { table = has.table; held = rw shard has.held; so = has.so ∙ sym same }
+
+  -- or where the pair gives way to what the call leaves
+  pub there-put : (key : K) → block_key x b ≡ Some key → (table changed : ShardPairs K V) → slice_get w.tables p.shard ≡ Some table
+      → Puts x.eq table changed key (pair_in (held_leaves x.deeds h was)) → (p' : Place K V D T) → p'.shard ≡ p.shard
+      → HasReached x (slice_set w.tables p.shard changed) p' b (held_leaves x.deeds h was)
+  there-put key key-is table changed held puts p' shard g k e is = record {
+    table = changed;
+    held = rw shard (slice_get-set_same w.tables p.shard table changed held);
+    so = subst (λ (z : K). pair_of x.eq changed.items z ≡ pair_in (held_leaves x.deeds h was)) (same_Some key k (sym key-is ∙ is))
+        (puts.found key ∙ rw (laws.equivalence.refl key) refl);
+  }
 
   pub opening-asked : (g : Begin K) × (ask_at x s.thread c ≡ Some (ask.Begin g))
   opening-asked =
@@ -226,13 +288,13 @@ module _ {K V S D T : Type 0} (x : Setup K V D T) (laws : Laws x) (w : State K V
         absurd (let both : ◌≡◌ {A = Option (Ask K V D)} (Some (ask.Begin o.0)) (Some (ask.Keyed g)) = sym o.1 ∙ (let z : ask_at x s.thread c ≡ Some (ask.Keyed g) = rw (sym thread-is, sym call-is) e in z) in cc)
     more-done (ask.Held g) e old = old
 
-    -- the world behind a step that counts the call in, and may change the list of a shard that is held alone
+    -- the world behind a step that counts the call in, and may change a shard that is held alone
     pub sound-changed : (tables' : List (ShardPairs K V)) → length tables' ≡ length w.tables
         → ((u : ℕ) (q : Place K V D T) (m : Mode) → u ≢ s.thread → slice_get w.places u ≡ Some q → HoldsShard q m → slice_get tables' q.shard ≡ slice_get w.tables q.shard)
         → TablesAgree x (slice_set w.blocks i d) tables'
         → (holds' : Desks) → p'.next ≡ p.next → p'.block ≡ p.block ⊎ (p'.block ≡ None)
         → Claim x (threads_of w ++ s.thread ∷ []) (slice_set w.blocks i d) tables' s.thread p' p'.phase
-        → p'.asks.items ≡ drop (taken p') st.program → taken p' ≤ length st.program
+        → p'.asks ≡ drop (taken p') st.program → taken p' ≤ length st.program
         → HoldsMatch (slice_set w.places s.thread p') holds'
         → OwnsBlocks (slice_set w.blocks i d) s.thread p'
         → Sound x (record (stepped w s p') { tables = tables'; holds = holds'; blocks = slice_set w.blocks i d; replies = w.replies })
@@ -252,16 +314,16 @@ module _ {K V S D T : Type 0} (x : Setup K V D T) (laws : Laws x) (w : State K V
         (record { thread = counts.thread; call = counts.call; visit = counts.visit; start = counts.start; position = counts.position; visited = counts.visited }) counts.end more-done sound.placed)
         (replies-kept x w.blocks (slice_set w.blocks i d) w.replies (λ j r hr. keeps-grown x laws w.blocks i b d grows r.thread r.call) sound.replies)
 
-    -- where the call leaves its pair, no list changes
+    -- where the call leaves its pair, no shard changes
     pub sound-counted : LeavesPair x.deeds h was → (holds' : Desks) → p'.next ≡ p.next → p'.block ≡ p.block ⊎ (p'.block ≡ None)
         → Claim x (threads_of w ++ s.thread ∷ []) (slice_set w.blocks i d) w.tables s.thread p' p'.phase
-        → p'.asks.items ≡ drop (taken p') st.program → taken p' ≤ length st.program
+        → p'.asks ≡ drop (taken p') st.program → taken p' ≤ length st.program
         → HoldsMatch (slice_set w.places s.thread p') holds'
         → OwnsBlocks (slice_set w.blocks i d) s.thread p'
         → Sound x (record (stepped w s p') { tables = w.tables; holds = holds'; blocks = slice_set w.blocks i d; replies = w.replies })
     sound-counted same =
         sound-changed w.tables refl (λ u q m ne hq hh. refl)
-        (tables-same x w.blocks (slice_set w.blocks i d) w.tables w.tables sound.tables (λ q. contents-quiet x laws w.blocks i b d grows (quiet same) q))
+        (tables-same x w.blocks (slice_set w.blocks i d) w.tables sound.tables (λ q. contents-quiet x laws w.blocks i b d grows (quiet same) q))
 
   -- the thread's blocks are those that it had
   pub owns-grown : (p' : Place K V D T) → p'.next ≡ p.next → may_own p.phase ≡ false → OwnsBlocks (slice_set w.blocks i d) s.thread p'

@@ -56,7 +56,7 @@ module _ {K V S D T : Type 0} (x : Setup K V D T) (laws : Laws x) (w : State K V
     | inr mine ↦ absurd (false≢true (sym not_yet ∙ mine.2))
   ]
 
-  module _ (p' : Place K V D T) (next : p'.next ≡ p.next) (started : p'.started ≡ p.started) (mine : p'.block ≡ Some (length w.blocks)) (hold : p'.holds ≡ p.hold)
+  module _ (p' : Place K V D T) (next : p'.next ≡ p.next) (started : p'.started ≡ p.started) (mine : p'.block ≡ Some (length w.blocks)) (hold : p'.holds ≡ p.holds)
       (own : may_own p'.phase ≡ true)
       (done : IsDoneWithin x (started_of (stepped w s p')) w.replies d a)
       (tables' : List (ShardPairs K V)) (shards : length tables' ≡ length w.tables)
@@ -85,15 +85,15 @@ module _ {K V S D T : Type 0} (x : Setup K V D T) (laws : Laws x) (w : State K V
       kept = kept;
       foreign = λ u q b ne hq alone here. λ i j hi hj same.
           let mine' : key ≡ j = same_Some key j (sym new-key ∙ hj) in
-          let both = exclusion w.places w.holds sound.holds s.thread u p q holds.holds alone.holds (λ z. ne (sym z)) at hq holds.has alone.has
+          let both = exclusion w.places w.holds sound.holds s.thread u p q holds.hold alone.hold (λ z. ne (sym z)) at hq holds.has alone.has
           (holds.shard ∙ shard ∙ ap x.route mine' ∙ sym same ∙ sym (here i hi) ∙ sym alone.shard) in
           absurd (cc (both.1, alone.mode_is));
       shards = shards;
     }
 
-    -- the world behind a step that lists the block, and may rewrite the shard's list with the same pairs
+    -- the world behind a step that lists the block, and may let the shard grow
     pub sound-listed : Claim x (threads_of w ++ s.thread ∷ []) (w.blocks ++ d ∷ []) tables' s.thread p' p'.phase
-        → p'.asks.items ≡ drop (taken p') st.program → taken p' ≤ length st.program
+        → p'.asks ≡ drop (taken p') st.program → taken p' ≤ length st.program
         → TablesAgree x (w.blocks ++ d ∷ []) tables'
         → Sound x (record (stepped w s p') { tables = tables'; holds = w.holds; blocks = w.blocks ++ d ∷ []; replies = w.replies })
     sound-listed claim left within agree =

@@ -1,11 +1,11 @@
 -- What holds of a thread's place stays when another thread makes a step.
-use Rattle.std.proofs.Common.{◌≡◌, ◌≢◌, ℕ, ◌+◌, ◌-◌, ◌≤◌, if◌then◌else◌, List, [], ◌∷◌, ◌++◌, Option, Some, None, slice_get, ap, sym, ◌∙◌}
+use Rattle.std.proofs.Common.{◌≡◌, ◌≢◌, ℕ, ◌+◌, ◌-◌, ◌≤◌, if◌then◌else◌, List, [], ◌∷◌, ◌++◌, Option, Some, None, slice_get, ap, sym, ◌∙◌, subst}
 use Rattle.mapworld_state.specs.Shards.{ShardPairs}
 use Rattle.mapworld_calls.specs.declared.ask.Ask.{Ask}
 use Rattle.mapworld_calls.specs.declared.block.Block.{Block}
 use Rattle.mapworld_calls.specs.declared.reply.Reply.{Reply}
 use Rattle.mapworld_calls.specs.declared.reply.Answer.{Answer}
-use Rattle.mapworld_calls.specs.Calls.{At}
+use Rattle.mapworld_calls.specs.Calls.{At, pair_in}
 use Rattle.mapworld_calls.specs.Programs.{keyed_key}
 use Rattle.mapworld_calls.specs.Setup.{Setup, session_of}
 use Rattle.std.proofs.lemmas.Option.{same_Some}
@@ -22,7 +22,7 @@ use Rattle.mapworld_state.specs.declared.place.Guard.{Guard}
 use Rattle.mapworld_state.specs.declared.place.Guard.TheVariants as guard
 use Rattle.mapworld_state.specs.Places.{Place}
 use Rattle.mapworld_state.specs.Moves.{way_mode}
-use Rattle.mapworld_state.specs.Sound.{HasPair, HoldsShard, GuardIs, IsOnShard, IsInSessionOf, IsInSession, IsReady, IsInCall, IsBeforeDeed, HasPairs, IsReleasing, Claim, Stands}
+use Rattle.mapworld_state.specs.Sound.{HoldsShard, GuardIs, IsOnShard, IsInSessionOf, IsInSession, IsReady, IsInCall, IsBeforeDeed, HasPairs, IsReleasing, Claim, Stands}
 use Rattle.mapworld_sound.proofs.Effects.{Effect, keeps-other}
 
 pub IsStepOf-push : (threads : List ℕ) (s t n : ℕ) → IsStepOf threads t n → IsStepOf (threads ++ s ∷ []) t n
@@ -35,16 +35,18 @@ module _ {K V D T : Type 0} (x : Setup K V D T) (threads : List ℕ) (s : ℕ) (
 -- where the effect of a step on a thread's own session is nothing but the growth of other blocks
 module _ {K V D T : Type 0} (x : Setup K V D T) (bs bs' : List (Block K)) (tables tables' : List (ShardPairs K V)) (t : ℕ) (p : Place K V D T)
     (kept : (m : Mode) → HoldsShard p m → slice_get tables' p.shard ≡ slice_get tables p.shard) where
-  pub pair-kept : (m : Mode) (i : ℕ) (pair : K × V) → HoldsShard p m → HasPair tables p.shard i pair → HasPair tables' p.shard i pair
-  pair-kept m i pair h has = record { table = has.table; held = kept m h ∙ has.held; pair_is = has.pair_is }
-
   pub list-kept : (m : Mode) (IsSo : ShardPairs K V → Type 0) → HoldsShard p m → HasPairs tables p.shard IsSo → HasPairs tables' p.shard IsSo
   list-kept m IsSo h has = record { table = has.table; held = kept m h ∙ has.held; so = has.so }
 
   pub guard-kept : (g : Option (Guard K)) (at at' : At K V) → at' ≡ at → GuardIs tables p g at → GuardIs tables' p g at'
   guard-kept None at at' same h = (h.0, same ∙ h.1)
-  guard-kept (Some (guard.Pair kind i)) at at' same h = (h.0, same ∙ h.1, h.2, pair-kept (way_mode kind) i h.0 h.2 h.3)
+  guard-kept (Some (guard.Pair kind)) at at' same h = (h.0, same ∙ h.1, h.2)
   guard-kept (Some (guard.Vacant k)) at at' same h = (same ∙ h.0, h.1, list-kept Exclusive _ h.1 h.2)
+
+  -- a guard's hold
+  guard-mode : (g : Guard K) (at : At K V) → GuardIs tables p (Some g) at → (m : Mode) × HoldsShard p m
+  guard-mode (guard.Pair kind) at h = (way_mode kind, h.2)
+  guard-mode (guard.Vacant k) at h = (Exclusive, h.1)
 
   session-kept : (n c : ℕ) (o : Option ℕ)
       → ((i : ℕ) (b : Block K) → slice_get bs i ≡ Some b → b.thread ≡ t → (slice_get bs' i ≡ Some b) × (found x bs' i b ≡ found x bs i b))
@@ -61,6 +63,11 @@ module _ {K V D T : Type 0} (x : Setup K V D T) (bs bs' : List (Block K)) (table
         below = h.below;
         done = h.done;
         guard = guard-kept p.guard (reached x t c (n - c) (found x bs i h.block)) (reached x t c (n - c) (found x bs' i h.block)) (ap (λ o. reached x t c (n - c) o) both.1) h.guard;
+        there = λ g key e is.
+            let at : At K V = reached x t c (n - c) (found x bs i h.block) in
+            let holds = guard-mode g at (subst (λ (z : Option (Guard K)). GuardIs tables p z at) e h.guard) in
+            let has = list-kept holds.0 _ holds.1 (h.there g key e is) in
+            record { table = has.table; held = has.held; so = has.so ∙ ap (λ o. pair_in (reached x t c (n - c) o)) (sym both.1) };
         settled = record { here = h.settled.here; last = λ alone. lasts i h.block h.listed alone h.settled.here (h.settled.last alone) };
       }
   session-kept n c None stays back lasts h = (h.0, λ i b at thread call. h.1 i b (back i b at thread) thread call)
@@ -124,13 +131,12 @@ module _ {K V D T : Type 0} (x : Setup K V D T) (threads : List ℕ) (s : ℕ) (
   claim (phase.Find r) h = (in_call _ h.0, h.1, h.2)
   claim (phase.Grow c) h = (in_call _ h.0, h.1, h.2, list-kept x bs bs' tables tables' u p kept Exclusive _ h.2 h.3)
   claim (phase.Append k v) h = (in_call _ h.0, before_deed k None h.1, list-kept x bs bs' tables tables' u p kept Exclusive _ h.1.alone h.2)
-  claim (phase.Apply i k) h =
-      (h.0, in_call _ h.1, before_deed (keyed_key k) (Some h.0) h.2, pair-kept x bs bs' tables tables' u p kept Exclusive i h.0 h.2.alone h.3)
-  claim (phase.View i k d) h = (h.0, in_call _ h.1, h.2, h.3, list-kept x bs bs' tables tables' u p kept Shared _ h.3 h.4)
-  claim (phase.Read d) h = (h.0, h.1, in_call _ h.2, h.3, ready p.next p.block h.4)
-  claim (phase.Change k) h = (h.0, h.1, in_call _ h.2, h.3, h.4, h.5, ready p.next p.block h.6)
+  claim (phase.Apply k) h = (h.0, in_call _ h.1, before_deed (keyed_key k) (Some h.0) h.2)
+  claim (phase.View k d) h = (h.0, in_call _ h.1, h.2, h.3, list-kept x bs bs' tables tables' u p kept Shared _ h.3 h.4)
+  claim (phase.Read d) h = (h.0, in_call _ h.1, h.2, ready p.next p.block h.3)
+  claim (phase.Change k) h = (h.0, in_call _ h.1, h.2, h.3, h.4, ready p.next p.block h.5)
   claim (phase.Fill v) h = (h.0, in_call _ h.1, h.2, h.3, ready p.next p.block h.4)
-  claim phase.Downgrade h = (h.0, in_call _ h.1, h.2, h.3, ready p.next p.block h.4)
+  claim phase.Downgrade h = (in_call _ h.0, h.1, h.2, ready p.next p.block h.3)
   claim (phase.Release r) h = (h.0, h.1, in_call h.0 h.2, h.3, releasing h.0 r p.guard h.4)
   claim (phase.Answer r) h =
       (h.0, in_call h.0 h.1, h.2, answered p.next h.0 r h.3, ready (p.next + 1) (if p.closes then None else p.block) h.4)

@@ -1,5 +1,5 @@
 -- Steps of a session: a deed that reads the guarded pair, and the release of the guard or of a keyed call's hold.
-use Rattle.std.proofs.Common.{◌≡◌, ℕ, ◌+◌, ◌-◌, inl, inr, Bool, if◌then◌else◌, List, Option, Some, None, is_some, slice_get, slice_set, refl, ap, sym, ◌∙◌, subst, arith}
+use Rattle.std.proofs.Common.{◌≡◌, ℕ, ◌+◌, ◌-◌, inl, inr, Bool, if◌then◌else◌, List, [], Option, Some, None, is_some, slice_set, refl, ap, sym, ◌∙◌, subst, arith}
 use Rattle.mapworld_state.specs.Shards.{ShardPairs}
 use Rattle.std.proofs.lemmas.Option.{same_Some, none-some}
 use Rattle.mapworld_calls.specs.declared.ask.Ask.{Ask}
@@ -25,10 +25,11 @@ use Rattle.mapworld_state.specs.Places.{Place}
 use Rattle.mapworld_state.specs.State.{State, threads_of, started_of}
 use Rattle.mapworld_state.specs.Moves.{way_mode, lent, stepped, CountsCall}
 use Rattle.mapworld_state.specs.Steps.{Reads, Releases}
-use Rattle.mapworld_state.specs.Sound.{may_own, block_after, GuardIs, HasPair, HoldsShard, IsInSession, IsInCall, IsReleasing, Sound}
+use Rattle.mapworld_state.specs.Sound.{may_own, block_after, GuardIs, IsInSession, IsInCall, IsReleasing, Sound}
+use Rattle.mapworld_state.proofs.HoldsTable.{none-there, first-there}
 use Rattle.mapworld_sound.proofs.Others.{IsInCall-push}
 use Rattle.mapworld_sound.proofs.Timing.{placed-same}
-use Rattle.mapworld_sound.proofs.Holding.{holds-same, holds-remove}
+use Rattle.mapworld_sound.proofs.Holding.{no-more, holds-same, holds-remove}
 use Rattle.mapworld_sound.proofs.Building.{in_call-moved, holds-moved, settled-moved, session-next, tables-same, started-stays, sound-by, claim-at, taken-at, within-at, ready-outside}
 use Rattle.mapworld_sound.proofs.Admitting.{leaves-same, owns-on}
 use Rattle.mapworld_sound.proofs.Finding.{ready-inside}
@@ -40,11 +41,6 @@ use Rattle.mapworld_sound.proofs.Growing as growing
 pub in-session : {K V D T : Type 0} (x : Setup K V D T) (bs : List (Block K)) (t n c : ℕ) (a : Answer K V T) → session_of x t n ≡ Some c → IsToldBy x bs t c (n - c) a
     → IsAnsweredInSession x bs t n (session_of x t n) a
 in-session x bs t n c a inside told = subst (λ (o : Option ℕ). IsAnsweredInSession x bs t n o a) (sym inside) (inl told)
-
--- a guard's session has come to it
-pub guard-at : {K V D T : Type 0} (tables : List (ShardPairs K V)) (p : Place K V D T) (o : Option (Guard K)) (kind : Way K) (slot : ℕ) (at : At K V) → o ≡ Some (guard.Pair kind slot) → GuardIs tables p o at
-    → (pair : K × V) × (at ≡ lent kind pair) × HoldsShard p (way_mode kind) × HasPair tables p.shard slot pair
-guard-at {K} tables p o kind slot at same h = subst (λ (z : Option (Guard K)). GuardIs tables p z at) same h
 
 -- what a guard of any kind allows
 module _ {D K V T : Type 0} (deeds : Deeds D K V T) (pair : K × V) where
@@ -64,13 +60,8 @@ module _ {D K V T : Type 0} (deeds : Deeds D K V T) (pair : K × V) where
   drop-lent (way.Occupied k) = refl
 
 drop-told : {K V D T : Type 0} (deeds : Deeds D K V T) (tables : List (ShardPairs K V)) (p : Place K V D T) (g : Guard K) (at : At K V) → GuardIs tables p (Some g) at → held_answer deeds held.Drop at ≡ answer.Done
-drop-told deeds tables p (guard.Pair kind slot) at h = ap (held_answer deeds held.Drop) h.1 ∙ drop-lent deeds h.0 kind
+drop-told deeds tables p (guard.Pair kind) at h = ap (held_answer deeds held.Drop) h.1 ∙ drop-lent deeds h.0 kind
 drop-told deeds tables p (guard.Vacant k) at h = ap (held_answer deeds held.Drop) h.0
-
-pub HasPair-is : {K V : Type 0} (tables : List (ShardPairs K V)) (shard slot : ℕ) (pair pair' : K × V) (table : ShardPairs K V)
-    → HasPair tables shard slot pair → slice_get tables shard ≡ Some table → slice_get table.items slot ≡ Some pair' → pair' ≡ pair
-HasPair-is {K} {V} {A} tables shard slot pair pair' table h held at =
-    same_Some pair' pair (sym at ∙ ap (λ (z : ShardPairs K V). slice_get z.items slot) (same_Some table h.table (sym held ∙ h.held)) ∙ h.pair_is)
 
 module _ {K V S D T : Type 0} (x : Setup K V D T) (laws : Laws x) (w : State K V S D T) (s : Step) (w' : State K V S D T) (sound : Sound x w) where
   pub sound-reads : Reads x w s w' → Sound x w'
@@ -78,26 +69,23 @@ module _ {K V S D T : Type 0} (x : Setup K V D T) (laws : Laws x) (w : State K V
       let p = a.place in
       let st = sound.stands s.thread p a.stands in
       let cl = claim-at x (threads_of w) w.blocks w.replies w.tables s.thread p (phase.Read a.deed) a.before st in
-      let call = cl.2 in
-      let g = growing.session-of-guard x w.blocks w.tables s.thread p p.next (guard.Pair cl.0 cl.1) (session_of x s.thread p.next) p.block cl.3 cl.4 in
+      let call = cl.1 in
+      let g = growing.session-of-guard x w.blocks w.tables s.thread p p.next (guard.Pair cl.0) (session_of x s.thread p.next) p.block cl.2 cl.3 in
       let c = g.0 in let i = g.1 in let inside = g.2 in let session = g.4 in
       let n = counted-block w.blocks p.block i p.next a.blocks g.3 a.counted in
       let b = n.0 in let d = n.1 in
-      let its : session.block ≡ b = same_Some session.block b (sym session.listed ∙ n.2) in
-      let slot : p.guard ≡ Some (guard.Pair a.kind a.slot) = a.guarded in
-      let lends = guard-at w.tables p p.guard a.kind a.slot (reached x s.thread c (p.next - c) (found x w.blocks i session.block)) slot session.guard in
-      let stood : reached x s.thread c (p.next - c) (found x w.blocks i b) ≡ lent a.kind lends.0 = ap (λ z. reached x s.thread c (p.next - c) (found x w.blocks i z)) (sym its) ∙ lends.1 in
-      let pair : a.pair ≡ lends.0 = HasPair-is w.tables p.shard a.slot lends.0 a.pair a.table lends.3 a.held a.found in
       let same = read-quiet x.deeds a.deed (reached x s.thread c (p.next - c) (found x w.blocks i b)) in
       let still = inl same in
+      let lends = growing.lends-pair x laws w s sound p a.stands (held.Read a.deed) call.asked c i inside session b d n.2 n.3 still a.kind a.guarded g.3 a.key a.key_is a.table a.held a.pair a.found in
       let r : Answer K V T = answer.Read (x.deeds.answer a.deed a.pair.0 a.pair.1) in
       let p' : Place K V D T = record p { phase = phase.Answer r } in
       let told : held_answer x.deeds (held.Read a.deed) (reached x s.thread c (p.next - c) (found x w.blocks i b)) ≡ r =
-      ap (held_answer x.deeds (held.Read a.deed)) stood ∙ read-told x.deeds lends.0 a.deed a.kind ∙ ap (λ (z : K × V). answer.Read (x.deeds.answer a.deed z.0 z.1)) (sym pair) in
-      let leaves : held_leaves x.deeds (held.Read a.deed) (reached x s.thread c (p.next - c) (found x w.blocks i b)) ≡ lent a.kind lends.0 = ap (held_leaves x.deeds (held.Read a.deed)) stood ∙ read-stays x.deeds lends.0 a.deed a.kind in
+      ap (held_answer x.deeds (held.Read a.deed)) lends.0 ∙ read-told x.deeds a.pair a.deed a.kind in
+      let leaves : held_leaves x.deeds (held.Read a.deed) (reached x s.thread c (p.next - c) (found x w.blocks i b)) ≡ lent a.kind a.pair = ap (held_leaves x.deeds (held.Read a.deed)) lends.0 ∙ read-stays x.deeds a.pair a.deed a.kind in
       let on = growing.session-on x laws w s sound p a.stands (held.Read a.deed) call.asked c i inside session b d n.2 n.3 still w.tables p' refl refl
-      (subst (λ (o : Option (Guard K)). GuardIs w.tables p' o (held_leaves x.deeds (held.Read a.deed) (reached x s.thread c (p.next - c) (found x w.blocks i b)))) (sym slot)
-      (lends.0, leaves, holds-moved x p p' (way_mode a.kind) refl refl lends.2, lends.3)) in
+      (subst (λ (o : Option (Guard K)). GuardIs w.tables p' o (held_leaves x.deeds (held.Read a.deed) (reached x s.thread c (p.next - c) (found x w.blocks i b)))) (sym a.guarded)
+      (a.pair, leaves, holds-moved x p p' (way_mode a.kind) refl refl lends.1))
+      (growing.there-still x laws w s sound p a.stands (held.Read a.deed) call.asked c i inside session b d n.2 n.3 still same p' refl (λ own e. (own, e))) in
       let behind : session_of x s.thread (p.next + 1) ≡ Some c = session-next x s.thread st.program st.has p.next (ask.Held (held.Read a.deed)) call.asked ∙ inside in
       let stays : Some i ≡ block_after p' = sym g.3 ∙ sym (ap (λ (z : Bool). if z then None else p.block) call.closes) in
       subst (Sound x) (sym (a.after ∙ ap (λ (z : List (Block K)). record (stepped w s p') { blocks = z }) n.4))
@@ -105,7 +93,7 @@ module _ {K V S D T : Type 0} (x : Setup K V D T) (laws : Laws x) (w : State K V
       (rw call.started refl) (λ m h. h) same w.holds refl (inl refl) (
         ask.Held (held.Read a.deed),
         IsInCall-push x (threads_of w) s.thread s.thread p' _ (in_call-moved x p p' (threads_of w) s.thread _ refl refl refl call),
-        (λ h. absurd (none-some (guard.Pair a.kind a.slot) (sym h ∙ slot))),
+        (λ h. absurd (none-some (guard.Pair a.kind) (sym h ∙ a.guarded))),
         in-session x (slice_set w.blocks i d) s.thread p.next c r inside
             (subst (λ (z : Answer K V T). IsToldBy x (slice_set w.blocks i d) s.thread c (p.next - c) z) told
             (growing.told-more x laws w s sound p a.stands (held.Read a.deed) call.asked c i inside session b d n.2 n.3 still)),
@@ -116,8 +104,8 @@ module _ {K V S D T : Type 0} (x : Setup K V D T) (laws : Laws x) (w : State K V
       (holds-same w.places w.holds sound.holds s.thread p p' a.stands refl)
       (growing.owns-grown x laws w s sound p a.stands (held.Read a.deed) call.asked c i inside session b d n.2 n.3 still p' refl (ap may_own a.before)))
 
-  -- without a guard neither hold nor list counts
-  unguarded : (p p' : Place K V D T) (n : ℕ) (o block : Option ℕ) → p.guard ≡ None → p'.guard ≡ None → p'.holds ≡ None → p'.shard ≡ p.shard → IsInSession x w.blocks w.tables s.thread p n o block → IsInSession x w.blocks w.tables s.thread p' n o block
+  -- without a guard neither hold nor shard counts
+  unguarded : (p p' : Place K V D T) (n : ℕ) (o block : Option ℕ) → p.guard ≡ None → p'.guard ≡ None → p'.holds ≡ [] → p'.shard ≡ p.shard → IsInSession x w.blocks w.tables s.thread p n o block → IsInSession x w.blocks w.tables s.thread p' n o block
   unguarded p p' n (Some c) (Some i) none none' free_ shard h = record {
     block = h.block;
     listed = h.listed;
@@ -127,7 +115,8 @@ module _ {K V S D T : Type 0} (x : Setup K V D T) (laws : Laws x) (w : State K V
     done = h.done;
     guard = subst (λ (z : Option (Guard K)). GuardIs w.tables p' z (reached x s.thread c (n - c) (found x w.blocks i h.block))) (sym none')
         (subst (λ (z : Option (Guard K)). GuardIs w.tables p z (reached x s.thread c (n - c) (found x w.blocks i h.block))) none h.guard);
-    settled = settled-moved x p p' w.blocks w.blocks i h.block h.block refl (λ alone. absurd (none-some alone.holds (sym free_ ∙ alone.has))) shard (λ z. z) h.settled;
+    there = λ g key e is. absurd (none-some g (sym none' ∙ e));
+    settled = settled-moved x p p' w.blocks w.blocks i h.block h.block refl (λ alone. absurd (none-there p'.holds 0 alone.hold free_ (first-there p'.holds alone.hold [] alone.has))) shard (λ z. z) h.settled;
   }
   unguarded p p' n (Some c) None none none' free_ shard h = (none', h.1)
   unguarded p p' n None block none none' free_ shard h = (none', h.1)
@@ -138,7 +127,8 @@ module _ {K V S D T : Type 0} (x : Setup K V D T) (laws : Laws x) (w : State K V
       let p = a.place in
       let st = sound.stands s.thread p a.stands in
       let cl = claim-at x (threads_of w) w.blocks w.replies w.tables s.thread p (phase.Release a.answer) a.before st in
-      let p' : Place K V D T = record p { hold = None; guard = None; phase = phase.Answer a.answer } in
+      let p' : Place K V D T = record p { holds = a.more; guard = None; phase = phase.Answer a.answer } in
+      let only = no-more p.holds cl.1 a.hold a.more cl.3 a.holds in
       let same : a.blocks ≡ w.blocks = subst (λ (z : Option (Guard K)). CountsCall w.blocks (if is_some z then p.block else None) p.next a.blocks) none a.counted in
       subst (Sound x) (sym (a.after ∙ ap (λ (z : List (Block K)). record (stepped w s p') { holds = slice_set w.holds a.hold.shard (without_guard a.hold.guard a.desk); blocks = z }) same))
       (sound-by x w s p p' a.stands sound w.blocks w.tables (slice_set w.holds a.hold.shard (without_guard a.hold.guard a.desk)) w.replies _ (leaves-same x w s p p' a.stands sound (slice_set w.holds a.hold.shard (without_guard a.hold.guard a.desk)))
@@ -153,13 +143,13 @@ module _ {K V S D T : Type 0} (x : Setup K V D T) (laws : Laws x) (w : State K V
         claim = (
           cl.0,
           IsInCall-push x (threads_of w) s.thread s.thread p' _ (in_call-moved x p p' (threads_of w) s.thread _ refl refl refl cl.2),
-          (λ z. refl),
+          (λ z. only.1),
           h.0,
-          unguarded p p' (p.next + 1) (session_of x s.thread (p.next + 1)) (block_after p) none refl refl refl h.1,
+          unguarded p p' (p.next + 1) (session_of x s.thread (p.next + 1)) (block_after p) none refl only.1 refl h.1,
         );
       })
-      (tables-same x w.blocks w.blocks w.tables w.tables sound.tables (λ q. refl))
-      (holds-remove w.places w.holds sound.holds s.thread p p' a.stands a.holds a.holds refl a.desk a.at_shard)
+      (tables-same x w.blocks w.blocks w.tables sound.tables (λ q. refl))
+      (holds-remove w.places w.holds sound.holds s.thread p p' a.stands a.hold only.2 only.1 a.desk a.at_shard)
       (placed-same x (threads_of w) s.thread (started_of w) (started_of (stepped w s p')) w.blocks w.replies (started-stays x w s p p' a.stands (λ n z. z)) sound.placed)
       sound.replies)
   released a (Some own) has h =
@@ -178,7 +168,8 @@ module _ {K V S D T : Type 0} (x : Setup K V D T) (laws : Laws x) (w : State K V
       (subst (λ (z : Option (Guard K)). GuardIs w.tables p z (reached x s.thread c (p.next - c) (found x w.blocks i session.block))) has session.guard) in
       let same = drop-quiet x.deeds (reached x s.thread c (p.next - c) (found x w.blocks i b)) in
       let still = inl same in
-      let p' : Place K V D T = record p { hold = None; guard = None; phase = phase.Answer a.answer } in
+      let p' : Place K V D T = record p { holds = a.more; guard = None; phase = phase.Answer a.answer } in
+      let only = no-more p.holds cl.1 a.hold a.more cl.3 a.holds in
       let told : held_answer x.deeds held.Drop (reached x s.thread c (p.next - c) (found x w.blocks i b)) ≡ a.answer = drop-told x.deeds w.tables p own (reached x s.thread c (p.next - c) (found x w.blocks i b)) at-guard ∙ sym h.1 in
       let outside : session_of x s.thread (p.next + 1) ≡ None = session-next x s.thread st.program st.has p.next (ask.Held held.Drop) call.asked in
       let closes : block_after p' ≡ None = ap (λ (z : Bool). if z then None else p.block) call.closes in
@@ -187,7 +178,7 @@ module _ {K V S D T : Type 0} (x : Setup K V D T) (laws : Laws x) (w : State K V
       (rw call.started refl) (λ m z. z) same (slice_set w.holds a.hold.shard (without_guard a.hold.guard a.desk)) refl (inl refl) (
         ask.Held held.Drop,
         IsInCall-push x (threads_of w) s.thread s.thread p' _ (in_call-moved x p p' (threads_of w) s.thread _ refl refl refl call),
-        (λ z. refl),
+        (λ z. only.1),
         in-session x (slice_set w.blocks i d) s.thread p.next c a.answer inside
             (subst (λ (z : Answer K V T). IsToldBy x (slice_set w.blocks i d) s.thread c (p.next - c) z) told
             (growing.told-more x laws w s sound p a.stands held.Drop call.asked c i inside session b d n.2 n.3 still)),
@@ -195,7 +186,7 @@ module _ {K V S D T : Type 0} (x : Setup K V D T) (laws : Laws x) (w : State K V
       )
       (taken-at x (threads_of w) w.blocks w.replies w.tables s.thread p (phase.Release a.answer) a.before st)
       (within-at x (threads_of w) w.blocks w.replies w.tables s.thread p (phase.Release a.answer) a.before st)
-      (holds-remove w.places w.holds sound.holds s.thread p p' a.stands a.holds a.holds refl a.desk a.at_shard)
+      (holds-remove w.places w.holds sound.holds s.thread p p' a.stands a.hold only.2 only.1 a.desk a.at_shard)
       (λ j e here thread. elim (slice_get-set_cases w.blocks i j b e d n.2 here) [
         | inl own ↦ inl (rw (own.1, n.3.call) (let k = growing.call-is x laws w s sound p a.stands held.Drop call.asked c i inside session b d n.2 n.3 still in let lt = session.below in omega arith))
         | inr other ↦ elim (st.owns j e other.1 thread) [ inl below ↦ inl below | inr mine ↦ inr (mine.0, mine.1, refl) ]

@@ -1,7 +1,6 @@
 -- The start of a call.
 use Rattle.std.proofs.Common.{◌≡◌, ℕ, ◌+◌, ◌-◌, ◌<◌, ◌≤◌, inl, inr, Bool, true, false, if◌then◌else◌, List, [], ◌∷◌, ◌++◌, length, drop, Option, Some, None, slice_get, slice_set, refl, ap, sym, ◌∙◌, subst, arith}
 use Rattle.mapworld_state.specs.Shards.{ShardPairs}
-use Rattle.std.specs.declared.collections.VecDeque.{VecDeque}
 use Rattle.std.proofs.lemmas.Option.{same_Some, none-some}
 use Rattle.std.proofs.lemmas.Bool.{false≢true}
 use Rattle.mapworld_calls.specs.declared.ask.Ask.{Ask}
@@ -13,7 +12,7 @@ use Rattle.mapworld_calls.specs.declared.ask.Held.TheVariants as held
 use Rattle.mapworld_calls.specs.declared.block.Block.{Block}
 use Rattle.mapworld_calls.specs.declared.reply.Answer.{Answer}
 use Rattle.mapworld_calls.specs.declared.reply.Answer.TheVariants as answer
-use Rattle.mapworld_calls.specs.Calls.{At, free, vacant, pair_in, held_answer, held_leaves}
+use Rattle.mapworld_calls.specs.Calls.{At, vacant, pair_in, held_answer, held_leaves}
 use Rattle.mapworld_calls.specs.Programs.{is_drop, keyed_key, opening_key}
 use Rattle.mapworld_calls.specs.Setup.{Setup, Laws, ask_at, session_of}
 use Rattle.mapworld_calls.specs.Replay.{reached, found}
@@ -24,7 +23,6 @@ use Rattle.mapworld_state.specs.declared.place.Way.{Way}
 use Rattle.mapworld_state.specs.declared.place.Way.TheVariants as way
 use Rattle.mapworld_state.specs.declared.place.Guard.{Guard}
 use Rattle.mapworld_state.specs.declared.place.Guard.TheVariants as guard
-use Rattle.mapworld_state.specs.declared.place.Phase.{Phase}
 use Rattle.mapworld_state.specs.declared.place.Phase.TheVariants as phase
 use Rattle.mapworld_state.specs.Places.{Place}
 use Rattle.mapworld_state.specs.State.{State, threads_of, started_of, next_step}
@@ -36,7 +34,7 @@ use Rattle.mapworld_sound.proofs.Holding.{holds-same}
 use Rattle.mapworld_sound.proofs.Building.{drop-first, asked-at, session-next, holds-moved, guard-moved, ready-moved, tables-same, started-stays, sound-by, claim-at, taken-at, ready-outside, block_after-none}
 use Rattle.mapworld_sound.proofs.Admitting.{leaves-same, owns-on, keyed-apart, begin-apart}
 use Rattle.mapworld_sound.proofs.Listing.{length-map}
-use Rattle.mapworld_sound.proofs.Reading.{in-session, guard-at}
+use Rattle.mapworld_sound.proofs.Reading.{in-session}
 use Rattle.mapworld_sound.proofs.Growing as growing
 
 -- outside of every session there is neither guard nor block
@@ -50,8 +48,13 @@ shard-keyed D route k shard = refl
 shard-begin : {K : Type 0} (V D : Type 0) (route : K → ℕ) (b : Begin K) (shard : ℕ) → start_shard {V = V} {D = D} route (ask.Begin b) shard ≡ route (opening_key b)
 shard-begin V D route b shard = refl
 
+-- a call on a guard gives none where none is
+guarded-before : {K V D : Type 0} (h : Held V D) (g : Option (Guard K)) (own : Guard K) → held_guard g h ≡ Some own → (k : Guard K) × (g ≡ Some k)
+guarded-before h None own e = absurd (none-some own e)
+guarded-before h (Some k) own e = (k, refl)
+
 module _ {K V S D T : Type 0} (x : Setup K V D T) (laws : Laws x) (w : State K V S D T) (s : Step) (sound : Sound x w)
-    (p : Place K V D T) (at : slice_get w.places s.thread ≡ Some p) (before : p.phase ≡ phase.Rest) (rest : VecDeque (Ask K V D) A) where
+    (p : Place K V D T) (at : slice_get w.places s.thread ≡ Some p) (before : p.phase ≡ phase.Rest) (rest : List (Ask K V D)) where
   abbrev pub st : Stands x (threads_of w) w.blocks w.replies w.tables s.thread p
   st = sound.stands s.thread p at
 
@@ -62,9 +65,9 @@ module _ {K V S D T : Type 0} (x : Setup K V D T) (laws : Laws x) (w : State K V
   abbrev pub begun : Ask K V D → Option (Guard K) → Place K V D T
   begun a g = record p { asks = rest; started = Some (next_step w); closes = is_last a; shard = start_shard x.route a p.shard; guard = start_guard a g; phase = start_phase a g }
 
-  module _ (a : Ask K V D) (asks : p.asks ≡ a ∷ rest.items) where
-    first : (slice_get st.program p.next ≡ Some a) × (rest.items ≡ drop (p.next + 1) st.program) × (p.next < length st.program)
-    first = drop-first st.program p.next a rest.items (sym (taken-at x (threads_of w) w.blocks w.replies w.tables s.thread p phase.Rest before st) ∙ asks)
+  module _ (a : Ask K V D) (asks : p.asks ≡ a ∷ rest) where
+    first : (slice_get st.program p.next ≡ Some a) × (rest ≡ drop (p.next + 1) st.program) × (p.next < length st.program)
+    first = drop-first st.program p.next a rest (sym (taken-at x (threads_of w) w.blocks w.replies w.tables s.thread p phase.Rest before st) ∙ asks)
 
     pub asked : ask_at x s.thread p.next ≡ Some a
     asked = asked-at x s.thread st.program st.has p.next a first.0
@@ -94,7 +97,7 @@ module _ {K V S D T : Type 0} (x : Setup K V D T) (laws : Laws x) (w : State K V
           owns = owns-on w.blocks s.thread p (begun a g) st.owns refl refl (λ own. absurd (false≢true (sym (ap may_own before) ∙ own)));
           claim = claim;
         })
-        (tables-same x w.blocks w.blocks w.tables w.tables sound.tables (λ q. refl))
+        (tables-same x w.blocks w.blocks w.tables sound.tables (λ q. refl))
         (holds-same w.places w.holds sound.holds s.thread p (begun a g) at refl)
         (placed-same x (threads_of w) s.thread (started_of w) (started_of (stepped w s (begun a g))) w.blocks w.replies (started-stays x w s p (begun a g) at (stays g)) sound.placed)
         sound.replies
@@ -124,7 +127,7 @@ module _ {K V S D T : Type 0} (x : Setup K V D T) (laws : Laws x) (w : State K V
   still-none false o none = none
 
   -- a call that is told at its start: its session's block counts it in, where it has one
-  module _ (h : Held V D) (asks : p.asks ≡ ask.Held h ∷ rest.items) (g : Option (Guard K)) (e : p.guard ≡ g) (r : Answer K V T) (busy : is_resting (start_phase {K = K} {V = V} {T = T} (ask.Held h) g) ≡ false)
+  module _ (h : Held V D) (asks : p.asks ≡ ask.Held h ∷ rest) (g : Option (Guard K)) (e : p.guard ≡ g) (r : Answer K V T) (busy : is_resting (start_phase {K = K} {V = V} {T = T} (ask.Held h) g) ≡ false)
       (told-all : (at : At K V) → GuardIs w.tables p g at
       → (held_answer x.deeds h at ≡ r) × (pair_in (held_leaves x.deeds h at) ≡ pair_in at) × GuardIs w.tables p (start_guard (ask.Held h) g) (held_leaves x.deeds h at))
       (ended : is_drop h ≡ true → start_guard (ask.Held h) g ≡ None)
@@ -185,14 +188,15 @@ module _ {K V S D T : Type 0} (x : Setup K V D T) (laws : Laws x) (w : State K V
             let tells = told-all was at-guard in
             let same = tells.1 in
             let on = growing.session-on x laws w s sound p at h (asked a asks) c i inside session b d n.2 n.3 (inl same) w.tables p' refl refl
-            (guard-moved x p p' w.tables (start_guard a g) (held_leaves x.deeds h was) refl refl tells.2) in
+            (guard-moved x p p' w.tables (start_guard a g) (held_leaves x.deeds h was) refl refl tells.2)
+            (growing.there-still x laws w s sound p at h (asked a asks) c i inside session b d n.2 n.3 (inl same) same p' refl (λ own z. let k = guarded-before h g own z in (k.0, e ∙ k.1))) in
             subst (λ (z : List (Block K)). Begun a g z) (sym n.4)
             (growing.sound-counted x laws w s sound p at h (asked a asks) c i inside session b d n.2 n.3 (inl same) p' refl (stays a asks g) same w.holds refl (inl refl)
             (claim-of (slice_set w.blocks i d)
             (in-session x (slice_set w.blocks i d) s.thread p.next c r inside
             (subst (λ (z : Answer K V T). IsToldBy x (slice_set w.blocks i d) s.thread c (p.next - c) z) tells.0 (growing.told-more x laws w s sound p at h (asked a asks) c i inside session b d n.2 n.3 (inl same))))
             (ready-behind (slice_set w.blocks i d) c (Some i) inside mine (is_drop h) refl on))
-            (subst (λ (z : Bool). rest.items ≡ drop (if z then p.next else p.next + 1) st.program) (sym busy) (first a asks).1)
+            (subst (λ (z : Bool). rest ≡ drop (if z then p.next else p.next + 1) st.program) (sym busy) (first a asks).1)
             (subst (λ (z : Bool). (if z then p.next else p.next + 1) ≤ length st.program) (sym busy) (let lt = (first a asks).2 in let e : p.next + 1 ≤ length st.program = omega arith in e))
             (holds-same w.places w.holds sound.holds s.thread p p' at refl)
             (growing.owns-grown x laws w s sound p at h (asked a asks) c i inside session b d n.2 n.3 (inl same) p' refl (ap may_own before)))
@@ -203,7 +207,7 @@ module _ {K V S D T : Type 0} (x : Setup K V D T) (laws : Laws x) (w : State K V
     counted-by own is blocks (Some i) mine n = counted i mine blocks n
 
   -- where no guard is held
-  unguarded : (h : Held V D) (asks : p.asks ≡ ask.Held h ∷ rest.items) → p.guard ≡ None
+  unguarded : (h : Held V D) (asks : p.asks ≡ ask.Held h ∷ rest) → p.guard ≡ None
       → (blocks : List (Block K)) → (o : Option ℕ) → p.block ≡ o → CountsCall w.blocks o p.next blocks → Begun (ask.Held h) None blocks
   unguarded h asks none blocks o mine n = by-block o mine n
     where
@@ -224,7 +228,7 @@ module _ {K V S D T : Type 0} (x : Setup K V D T) (laws : Laws x) (w : State K V
       by-block (Some i) mine n = counted h asks None none answer.NoGuard refl told-none (λ z. refl) claim-none i mine blocks n
 
   -- a call that the guard isn't for
-  module _ (h : Held V D) (asks : p.asks ≡ ask.Held h ∷ rest.items) (own : Guard K) (e : p.guard ≡ Some own)
+  module _ (h : Held V D) (asks : p.asks ≡ ask.Held h ∷ rest) (own : Guard K) (e : p.guard ≡ Some own)
       (phase-is : held_phase {V = V} {D = D} {T = T} (Some own) h ≡ phase.Answer answer.WrongGuard) (keeps : held_guard (Some own) h ≡ Some own) (lasts : is_drop h ≡ false)
       (wrong : (at : At K V) → GuardIs w.tables p (Some own) at → (held_answer x.deeds h at ≡ answer.WrongGuard) × (held_leaves x.deeds h at ≡ at)) where
     wrong-guard : (blocks : List (Block K)) → (o : Option ℕ) → p.block ≡ o → CountsCall w.blocks o p.next blocks → Begun (ask.Held h) (Some own) blocks
@@ -240,15 +244,15 @@ module _ {K V S D T : Type 0} (x : Setup K V D T) (laws : Laws x) (w : State K V
         (ask.Held h, in_call (ask.Held h) asks (Some own), (λ z. absurd (none-some own (sym z ∙ keeps))), told, ready))
         own refl blocks o mine n
 
-  wrong-pair : (h : Held V D) (asks : p.asks ≡ ask.Held h ∷ rest.items) (kind : Way K) (i : ℕ) → p.guard ≡ Some (guard.Pair kind i)
-      → held_phase {V = V} {D = D} {T = T} (Some (guard.Pair kind i)) h ≡ phase.Answer answer.WrongGuard → held_guard (Some (guard.Pair kind i)) h ≡ Some (guard.Pair kind i) → is_drop h ≡ false
+  wrong-pair : (h : Held V D) (asks : p.asks ≡ ask.Held h ∷ rest) (kind : Way K) → p.guard ≡ Some (guard.Pair kind)
+      → held_phase {V = V} {D = D} {T = T} (Some (guard.Pair kind)) h ≡ phase.Answer answer.WrongGuard → held_guard (Some (guard.Pair kind)) h ≡ Some (guard.Pair kind) → is_drop h ≡ false
       → ((pair : K × V) → (held_answer x.deeds h (lent kind pair) ≡ answer.WrongGuard) × (held_leaves x.deeds h (lent kind pair) ≡ lent kind pair))
-      → (blocks : List (Block K)) → (o : Option ℕ) → p.block ≡ o → CountsCall w.blocks o p.next blocks → Begun (ask.Held h) (Some (guard.Pair kind i)) blocks
-  wrong-pair h asks kind i e phase-is keeps lasts wrong =
-      wrong-guard h asks (guard.Pair kind i) e phase-is keeps lasts
+      → (blocks : List (Block K)) → (o : Option ℕ) → p.block ≡ o → CountsCall w.blocks o p.next blocks → Begun (ask.Held h) (Some (guard.Pair kind)) blocks
+  wrong-pair h asks kind e phase-is keeps lasts wrong =
+      wrong-guard h asks (guard.Pair kind) e phase-is keeps lasts
       (λ at is. (ap (held_answer x.deeds h) is.1 ∙ (wrong is.0).0, ap (held_leaves x.deeds h) is.1 ∙ ((wrong is.0).1 ∙ sym is.1)))
 
-  wrong-vacant : (h : Held V D) (asks : p.asks ≡ ask.Held h ∷ rest.items) (k : K) → p.guard ≡ Some (guard.Vacant k)
+  wrong-vacant : (h : Held V D) (asks : p.asks ≡ ask.Held h ∷ rest) (k : K) → p.guard ≡ Some (guard.Vacant k)
       → held_phase {V = V} {D = D} {T = T} (Some (guard.Vacant k)) h ≡ phase.Answer answer.WrongGuard → held_guard (Some (guard.Vacant k)) h ≡ Some (guard.Vacant k) → is_drop h ≡ false
       → (held_answer x.deeds h (vacant k) ≡ answer.WrongGuard) × (held_leaves x.deeds h (vacant k) ≡ vacant k)
       → (blocks : List (Block K)) → (o : Option ℕ) → p.block ≡ o → CountsCall w.blocks o p.next blocks → Begun (ask.Held h) (Some (guard.Vacant k)) blocks
@@ -257,20 +261,20 @@ module _ {K V S D T : Type 0} (x : Setup K V D T) (laws : Laws x) (w : State K V
       (λ at is. (ap (held_answer x.deeds h) is.0 ∙ wrong.0, ap (held_leaves x.deeds h) is.0 ∙ (wrong.1 ∙ sym is.0)))
 
   -- an occupied guard becomes exclusive, and an entry's guard gives back its key
-  into-ref : (asks : p.asks ≡ ask.Held held.IntoRef ∷ rest.items) (k : K) (i : ℕ) → p.guard ≡ Some (guard.Pair (way.Occupied k) i)
-      → (blocks : List (Block K)) → CountsCall w.blocks p.block p.next blocks → Begun (ask.Held held.IntoRef) (Some (guard.Pair (way.Occupied k) i)) blocks
-  into-ref asks k i e blocks n =
-      let own : Guard K = guard.Pair (way.Occupied k) i in
+  into-ref : (asks : p.asks ≡ ask.Held held.IntoRef ∷ rest) (k : K) → p.guard ≡ Some (guard.Pair (way.Occupied k))
+      → (blocks : List (Block K)) → CountsCall w.blocks p.block p.next blocks → Begun (ask.Held held.IntoRef) (Some (guard.Pair (way.Occupied k))) blocks
+  into-ref asks k e blocks n =
+      let own : Guard K = guard.Pair (way.Occupied k) in
       counted-by held.IntoRef asks (Some own) e answer.Held refl
-      (λ at is. (ap (held_answer x.deeds held.IntoRef) is.1, ap (λ z. pair_in (held_leaves x.deeds held.IntoRef z)) is.1 ∙ sym (ap pair_in is.1), (is.0, ap (held_leaves x.deeds held.IntoRef) is.1, is.2, is.3)))
+      (λ at is. (ap (held_answer x.deeds held.IntoRef) is.1, ap (λ z. pair_in (held_leaves x.deeds held.IntoRef z)) is.1 ∙ sym (ap pair_in is.1), (is.0, ap (held_leaves x.deeds held.IntoRef) is.1, is.2)))
       (λ z. absurd cc)
-      (λ bs told ready. (ask.Held held.IntoRef, in_call (ask.Held held.IntoRef) asks (Some own), (λ z. absurd (none-some (guard.Pair way.Exclusive i) (sym z))), told, ready))
+      (λ bs told ready. (ask.Held held.IntoRef, in_call (ask.Held held.IntoRef) asks (Some own), (λ z. absurd (none-some (guard.Pair way.Exclusive) (sym z))), told, ready))
       own refl blocks p.block refl n
 
-  key-occupied : (asks : p.asks ≡ ask.Held held.IntoKey ∷ rest.items) (k : K) (i : ℕ) → p.guard ≡ Some (guard.Pair (way.Occupied k) i)
-      → (blocks : List (Block K)) → CountsCall w.blocks p.block p.next blocks → Begun (ask.Held held.IntoKey) (Some (guard.Pair (way.Occupied k) i)) blocks
-  key-occupied asks k i e blocks n =
-      let own : Guard K = guard.Pair (way.Occupied k) i in
+  key-occupied : (asks : p.asks ≡ ask.Held held.IntoKey ∷ rest) (k : K) → p.guard ≡ Some (guard.Pair (way.Occupied k))
+      → (blocks : List (Block K)) → CountsCall w.blocks p.block p.next blocks → Begun (ask.Held held.IntoKey) (Some (guard.Pair (way.Occupied k))) blocks
+  key-occupied asks k e blocks n =
+      let own : Guard K = guard.Pair (way.Occupied k) in
       let holds = (guard-of own e).1.2 in
       counted-by held.IntoKey asks (Some own) e (answer.Key k) refl
       (λ at is. (ap (held_answer x.deeds held.IntoKey) is.1, ap (λ z. pair_in (held_leaves x.deeds held.IntoKey z)) is.1 ∙ sym (ap pair_in is.1), (Some is.0, ap (held_leaves x.deeds held.IntoKey) is.1)))
@@ -278,7 +282,7 @@ module _ {K V S D T : Type 0} (x : Setup K V D T) (laws : Laws x) (w : State K V
       (λ bs told ready. (ask.Held held.IntoKey, holds.hold, in_call (ask.Held held.IntoKey) asks (Some own), holds.has, (told, ready)))
       own refl blocks p.block refl n
 
-  key-vacant : (asks : p.asks ≡ ask.Held held.IntoKey ∷ rest.items) (k : K) → p.guard ≡ Some (guard.Vacant k)
+  key-vacant : (asks : p.asks ≡ ask.Held held.IntoKey ∷ rest) (k : K) → p.guard ≡ Some (guard.Vacant k)
       → (blocks : List (Block K)) → CountsCall w.blocks p.block p.next blocks → Begun (ask.Held held.IntoKey) (Some (guard.Vacant k)) blocks
   key-vacant asks k e blocks n =
       let own : Guard K = guard.Vacant k in
@@ -294,34 +298,34 @@ module _ {K V S D T : Type 0} (x : Setup K V D T) (laws : Laws x) (w : State K V
       → IsReady x w.blocks w.tables s.thread (begun a g) p.next p.block
   ready-still a g e keeps shard = ready-moved x p (begun a g) w.blocks w.tables s.thread p.next p.block refl shard (keeps ∙ sym e) resting.2
 
-  to-read : (d : D) (asks : p.asks ≡ ask.Held (held.Read d) ∷ rest.items) (kind : Way K) (i : ℕ) → p.guard ≡ Some (guard.Pair kind i)
-      → start_phase {K = K} {V = V} {T = T} (ask.Held (held.Read d)) (Some (guard.Pair kind i)) ≡ phase.Read d
-      → start_guard {V = V} (ask.Held (held.Read d)) (Some (guard.Pair kind i)) ≡ Some (guard.Pair kind i)
-      → Begun (ask.Held (held.Read d)) (Some (guard.Pair kind i)) w.blocks
-  to-read d asks kind i e phase-is keeps =
+  to-read : (d : D) (asks : p.asks ≡ ask.Held (held.Read d) ∷ rest) (kind : Way K) → p.guard ≡ Some (guard.Pair kind)
+      → start_phase {K = K} {V = V} {T = T} (ask.Held (held.Read d)) (Some (guard.Pair kind)) ≡ phase.Read d
+      → start_guard {V = V} (ask.Held (held.Read d)) (Some (guard.Pair kind)) ≡ Some (guard.Pair kind)
+      → Begun (ask.Held (held.Read d)) (Some (guard.Pair kind)) w.blocks
+  to-read d asks kind e phase-is keeps =
       let a : Ask K V D = ask.Held (held.Read d) in
-      let g = Some (guard.Pair kind i) in
+      let g = Some (guard.Pair kind) in
       sound-begun a asks g (ap is_resting phase-is)
       (subst (λ f. Claim x (threads_of w ++ s.thread ∷ []) w.blocks w.tables s.thread (begun a g) f) (sym phase-is)
-      (kind, i, in_call a asks g, keeps, ready-still a g e keeps refl))
+      (kind, in_call a asks g, keeps, ready-still a g e keeps refl))
 
-  to-change : (h : Held V D) (asks : p.asks ≡ ask.Held h ∷ rest.items) (kind : Way K) (i : ℕ) → p.guard ≡ Some (guard.Pair kind i) → way_mode kind ≡ Exclusive → is_change h kind ≡ true
-      → start_phase {K = K} {V = V} {T = T} (ask.Held h) (Some (guard.Pair kind i)) ≡ phase.Change h
-      → start_guard (ask.Held h) (Some (guard.Pair kind i)) ≡ Some (guard.Pair kind i)
-      → Begun (ask.Held h) (Some (guard.Pair kind i)) w.blocks
-  to-change h asks kind i e alone changes phase-is keeps =
+  to-change : (h : Held V D) (asks : p.asks ≡ ask.Held h ∷ rest) (kind : Way K) → p.guard ≡ Some (guard.Pair kind) → way_mode kind ≡ Exclusive → is_change h kind ≡ true
+      → start_phase {K = K} {V = V} {T = T} (ask.Held h) (Some (guard.Pair kind)) ≡ phase.Change h
+      → start_guard (ask.Held h) (Some (guard.Pair kind)) ≡ Some (guard.Pair kind)
+      → Begun (ask.Held h) (Some (guard.Pair kind)) w.blocks
+  to-change h asks kind e alone changes phase-is keeps =
       let a : Ask K V D = ask.Held h in
-      let g = Some (guard.Pair kind i) in
-      let holds : HoldsShard p Exclusive = subst (λ m. HoldsShard p m) alone (guard-of (guard.Pair kind i) e).1.2 in
+      let g = Some (guard.Pair kind) in
+      let holds : HoldsShard p Exclusive = subst (λ m. HoldsShard p m) alone (guard-of (guard.Pair kind) e).1.2 in
       sound-begun a asks g (ap is_resting phase-is)
       (subst (λ f. Claim x (threads_of w ++ s.thread ∷ []) w.blocks w.tables s.thread (begun a g) f) (sym phase-is)
-      (kind, i, in_call a asks g, keeps, changes, holds-moved x p (begun a g) Exclusive refl refl holds, ready-still a g e keeps refl))
+      (kind, in_call a asks g, keeps, changes, holds-moved x p (begun a g) Exclusive refl refl holds, ready-still a g e keeps refl))
 
   guard-hold : (g : Guard K) → p.guard ≡ Some g → (m : _) × HoldsShard p m
-  guard-hold (guard.Pair kind i) e = (way_mode kind, (guard-of (guard.Pair kind i) e).1.2)
+  guard-hold (guard.Pair kind) e = (way_mode kind, (guard-of (guard.Pair kind) e).1.2)
   guard-hold (guard.Vacant k) e = (Exclusive, (guard-of (guard.Vacant k) e).1.1)
 
-  to-drop : (asks : p.asks ≡ ask.Held held.Drop ∷ rest.items) (own : Guard K) → p.guard ≡ Some own
+  to-drop : (asks : p.asks ≡ ask.Held held.Drop ∷ rest) (own : Guard K) → p.guard ≡ Some own
       → start_phase {K = K} {V = V} {D = D} {T = T} (ask.Held held.Drop) (Some own) ≡ phase.Release answer.Done
       → start_guard {V = V} {D = D} (ask.Held held.Drop) (Some own) ≡ Some own
       → Begun (ask.Held held.Drop) (Some own) w.blocks
@@ -338,7 +342,7 @@ module _ {K V S D T : Type 0} (x : Setup K V D T) (laws : Laws x) (w : State K V
         subst (IsReleasing x w.blocks w.tables s.thread p' a answer.Done) (sym keeps) (refl, refl, ready-still a (Some own) e keeps refl),
       ))
 
-  begun-by : (a : Ask K V D) → p.asks ≡ a ∷ rest.items → (g : Option (Guard K)) → p.guard ≡ g → (blocks : List (Block K)) → CountsCall w.blocks (start_counts (start_phase {T = T} a g) p.block) p.next blocks → Begun a g blocks
+  begun-by : (a : Ask K V D) → p.asks ≡ a ∷ rest → (g : Option (Guard K)) → p.guard ≡ g → (blocks : List (Block K)) → CountsCall w.blocks (start_counts (start_phase {T = T} a g) p.block) p.next blocks → Begun a g blocks
   begun-by (ask.Keyed k) asks g e blocks n =
       let a : Ask K V D = ask.Keyed k in
       let outside = keyed-apart x laws w s w sound p st k (asked a asks) in
@@ -352,53 +356,53 @@ module _ {K V S D T : Type 0} (x : Setup K V D T) (laws : Laws x) (w : State K V
       same-blocks a g blocks n (sound-begun a asks g refl
       (in_call a asks g, record { block = nothing.1; guard = sym e ∙ nothing.0; shard = shard-begin V D x.route b p.shard }, resting.1 nothing.0))
   begun-by (ask.Held h) asks None e blocks n = unguarded h asks e blocks p.block refl n
-  begun-by (ask.Held (held.Read d)) asks (Some (guard.Pair way.Shared i)) e blocks n = same-blocks (ask.Held (held.Read d)) (Some (guard.Pair way.Shared i)) blocks n (to-read d asks way.Shared i e refl refl)
-  begun-by (ask.Held (held.Read d)) asks (Some (guard.Pair way.Exclusive i)) e blocks n = same-blocks (ask.Held (held.Read d)) (Some (guard.Pair way.Exclusive i)) blocks n (to-read d asks way.Exclusive i e refl refl)
-  begun-by (ask.Held (held.Read d)) asks (Some (guard.Pair (way.Occupied k) i)) e blocks n = same-blocks (ask.Held (held.Read d)) (Some (guard.Pair (way.Occupied k) i)) blocks n (to-read d asks (way.Occupied k) i e refl refl)
+  begun-by (ask.Held (held.Read d)) asks (Some (guard.Pair way.Shared)) e blocks n = same-blocks (ask.Held (held.Read d)) (Some (guard.Pair way.Shared)) blocks n (to-read d asks way.Shared e refl refl)
+  begun-by (ask.Held (held.Read d)) asks (Some (guard.Pair way.Exclusive)) e blocks n = same-blocks (ask.Held (held.Read d)) (Some (guard.Pair way.Exclusive)) blocks n (to-read d asks way.Exclusive e refl refl)
+  begun-by (ask.Held (held.Read d)) asks (Some (guard.Pair (way.Occupied k))) e blocks n = same-blocks (ask.Held (held.Read d)) (Some (guard.Pair (way.Occupied k))) blocks n (to-read d asks (way.Occupied k) e refl refl)
   begun-by (ask.Held (held.Read d)) asks (Some (guard.Vacant k)) e blocks n = wrong-vacant (held.Read d) asks k e refl refl refl (refl, refl) blocks p.block refl n
-  begun-by (ask.Held (held.Write d)) asks (Some (guard.Pair way.Shared i)) e blocks n = wrong-pair (held.Write d) asks way.Shared i e refl refl refl (λ pair. (refl, refl)) blocks p.block refl n
-  begun-by (ask.Held (held.Write d)) asks (Some (guard.Pair way.Exclusive i)) e blocks n = same-blocks (ask.Held (held.Write d)) (Some (guard.Pair way.Exclusive i)) blocks n (to-change (held.Write d) asks way.Exclusive i e refl refl refl refl)
-  begun-by (ask.Held (held.Write d)) asks (Some (guard.Pair (way.Occupied k) i)) e blocks n = same-blocks (ask.Held (held.Write d)) (Some (guard.Pair (way.Occupied k) i)) blocks n (to-change (held.Write d) asks (way.Occupied k) i e refl refl refl refl)
+  begun-by (ask.Held (held.Write d)) asks (Some (guard.Pair way.Shared)) e blocks n = wrong-pair (held.Write d) asks way.Shared e refl refl refl (λ pair. (refl, refl)) blocks p.block refl n
+  begun-by (ask.Held (held.Write d)) asks (Some (guard.Pair way.Exclusive)) e blocks n = same-blocks (ask.Held (held.Write d)) (Some (guard.Pair way.Exclusive)) blocks n (to-change (held.Write d) asks way.Exclusive e refl refl refl refl)
+  begun-by (ask.Held (held.Write d)) asks (Some (guard.Pair (way.Occupied k))) e blocks n = same-blocks (ask.Held (held.Write d)) (Some (guard.Pair (way.Occupied k))) blocks n (to-change (held.Write d) asks (way.Occupied k) e refl refl refl refl)
   begun-by (ask.Held (held.Write d)) asks (Some (guard.Vacant k)) e blocks n = wrong-vacant (held.Write d) asks k e refl refl refl (refl, refl) blocks p.block refl n
-  begun-by (ask.Held held.Downgrade) asks (Some (guard.Pair way.Shared i)) e blocks n = wrong-pair held.Downgrade asks way.Shared i e refl refl refl (λ pair. (refl, refl)) blocks p.block refl n
-  begun-by (ask.Held held.Downgrade) asks (Some (guard.Pair way.Exclusive i)) e blocks n =
+  begun-by (ask.Held held.Downgrade) asks (Some (guard.Pair way.Shared)) e blocks n = wrong-pair held.Downgrade asks way.Shared e refl refl refl (λ pair. (refl, refl)) blocks p.block refl n
+  begun-by (ask.Held held.Downgrade) asks (Some (guard.Pair way.Exclusive)) e blocks n =
       let a : Ask K V D = ask.Held held.Downgrade in
-      let g = Some (guard.Pair way.Exclusive i) in
+      let g = Some (guard.Pair way.Exclusive) in
       same-blocks a g blocks n (sound-begun a asks g refl
-      (i, in_call a asks g, refl, holds-moved x p (begun a g) Exclusive refl refl (guard-of (guard.Pair way.Exclusive i) e).1.2, ready-still a g e refl refl))
-  begun-by (ask.Held held.Downgrade) asks (Some (guard.Pair (way.Occupied k) i)) e blocks n = wrong-pair held.Downgrade asks (way.Occupied k) i e refl refl refl (λ pair. (refl, refl)) blocks p.block refl n
+      (in_call a asks g, refl, holds-moved x p (begun a g) Exclusive refl refl (guard-of (guard.Pair way.Exclusive) e).1.2, ready-still a g e refl refl))
+  begun-by (ask.Held held.Downgrade) asks (Some (guard.Pair (way.Occupied k))) e blocks n = wrong-pair held.Downgrade asks (way.Occupied k) e refl refl refl (λ pair. (refl, refl)) blocks p.block refl n
   begun-by (ask.Held held.Downgrade) asks (Some (guard.Vacant k)) e blocks n = wrong-vacant held.Downgrade asks k e refl refl refl (refl, refl) blocks p.block refl n
-  begun-by (ask.Held (held.Insert v)) asks (Some (guard.Pair way.Shared i)) e blocks n = wrong-pair (held.Insert v) asks way.Shared i e refl refl refl (λ pair. (refl, refl)) blocks p.block refl n
-  begun-by (ask.Held (held.Insert v)) asks (Some (guard.Pair way.Exclusive i)) e blocks n = wrong-pair (held.Insert v) asks way.Exclusive i e refl refl refl (λ pair. (refl, refl)) blocks p.block refl n
-  begun-by (ask.Held (held.Insert v)) asks (Some (guard.Pair (way.Occupied k) i)) e blocks n = same-blocks (ask.Held (held.Insert v)) (Some (guard.Pair (way.Occupied k) i)) blocks n (to-change (held.Insert v) asks (way.Occupied k) i e refl refl refl refl)
+  begun-by (ask.Held (held.Insert v)) asks (Some (guard.Pair way.Shared)) e blocks n = wrong-pair (held.Insert v) asks way.Shared e refl refl refl (λ pair. (refl, refl)) blocks p.block refl n
+  begun-by (ask.Held (held.Insert v)) asks (Some (guard.Pair way.Exclusive)) e blocks n = wrong-pair (held.Insert v) asks way.Exclusive e refl refl refl (λ pair. (refl, refl)) blocks p.block refl n
+  begun-by (ask.Held (held.Insert v)) asks (Some (guard.Pair (way.Occupied k))) e blocks n = same-blocks (ask.Held (held.Insert v)) (Some (guard.Pair (way.Occupied k))) blocks n (to-change (held.Insert v) asks (way.Occupied k) e refl refl refl refl)
   begun-by (ask.Held (held.Insert v)) asks (Some (guard.Vacant k)) e blocks n =
       let a : Ask K V D = ask.Held (held.Insert v) in
       let g = Some (guard.Vacant k) in
       same-blocks a g blocks n (sound-begun a asks g refl
       (k, in_call a asks g, refl, holds-moved x p (begun a g) Exclusive refl refl (guard-of (guard.Vacant k) e).1.1, ready-still a g e refl refl))
-  begun-by (ask.Held held.IntoRef) asks (Some (guard.Pair way.Shared i)) e blocks n = wrong-pair held.IntoRef asks way.Shared i e refl refl refl (λ pair. (refl, refl)) blocks p.block refl n
-  begun-by (ask.Held held.IntoRef) asks (Some (guard.Pair way.Exclusive i)) e blocks n = wrong-pair held.IntoRef asks way.Exclusive i e refl refl refl (λ pair. (refl, refl)) blocks p.block refl n
-  begun-by (ask.Held held.IntoRef) asks (Some (guard.Pair (way.Occupied k) i)) e blocks n = into-ref asks k i e blocks n
+  begun-by (ask.Held held.IntoRef) asks (Some (guard.Pair way.Shared)) e blocks n = wrong-pair held.IntoRef asks way.Shared e refl refl refl (λ pair. (refl, refl)) blocks p.block refl n
+  begun-by (ask.Held held.IntoRef) asks (Some (guard.Pair way.Exclusive)) e blocks n = wrong-pair held.IntoRef asks way.Exclusive e refl refl refl (λ pair. (refl, refl)) blocks p.block refl n
+  begun-by (ask.Held held.IntoRef) asks (Some (guard.Pair (way.Occupied k))) e blocks n = into-ref asks k e blocks n
   begun-by (ask.Held held.IntoRef) asks (Some (guard.Vacant k)) e blocks n = wrong-vacant held.IntoRef asks k e refl refl refl (refl, refl) blocks p.block refl n
-  begun-by (ask.Held held.Remove) asks (Some (guard.Pair way.Shared i)) e blocks n = wrong-pair held.Remove asks way.Shared i e refl refl refl (λ pair. (refl, refl)) blocks p.block refl n
-  begun-by (ask.Held held.Remove) asks (Some (guard.Pair way.Exclusive i)) e blocks n = wrong-pair held.Remove asks way.Exclusive i e refl refl refl (λ pair. (refl, refl)) blocks p.block refl n
-  begun-by (ask.Held held.Remove) asks (Some (guard.Pair (way.Occupied k) i)) e blocks n = same-blocks (ask.Held held.Remove) (Some (guard.Pair (way.Occupied k) i)) blocks n (to-change held.Remove asks (way.Occupied k) i e refl refl refl refl)
+  begun-by (ask.Held held.Remove) asks (Some (guard.Pair way.Shared)) e blocks n = wrong-pair held.Remove asks way.Shared e refl refl refl (λ pair. (refl, refl)) blocks p.block refl n
+  begun-by (ask.Held held.Remove) asks (Some (guard.Pair way.Exclusive)) e blocks n = wrong-pair held.Remove asks way.Exclusive e refl refl refl (λ pair. (refl, refl)) blocks p.block refl n
+  begun-by (ask.Held held.Remove) asks (Some (guard.Pair (way.Occupied k))) e blocks n = same-blocks (ask.Held held.Remove) (Some (guard.Pair (way.Occupied k))) blocks n (to-change held.Remove asks (way.Occupied k) e refl refl refl refl)
   begun-by (ask.Held held.Remove) asks (Some (guard.Vacant k)) e blocks n = wrong-vacant held.Remove asks k e refl refl refl (refl, refl) blocks p.block refl n
-  begun-by (ask.Held held.RemoveEntry) asks (Some (guard.Pair way.Shared i)) e blocks n = wrong-pair held.RemoveEntry asks way.Shared i e refl refl refl (λ pair. (refl, refl)) blocks p.block refl n
-  begun-by (ask.Held held.RemoveEntry) asks (Some (guard.Pair way.Exclusive i)) e blocks n = wrong-pair held.RemoveEntry asks way.Exclusive i e refl refl refl (λ pair. (refl, refl)) blocks p.block refl n
-  begun-by (ask.Held held.RemoveEntry) asks (Some (guard.Pair (way.Occupied k) i)) e blocks n = same-blocks (ask.Held held.RemoveEntry) (Some (guard.Pair (way.Occupied k) i)) blocks n (to-change held.RemoveEntry asks (way.Occupied k) i e refl refl refl refl)
+  begun-by (ask.Held held.RemoveEntry) asks (Some (guard.Pair way.Shared)) e blocks n = wrong-pair held.RemoveEntry asks way.Shared e refl refl refl (λ pair. (refl, refl)) blocks p.block refl n
+  begun-by (ask.Held held.RemoveEntry) asks (Some (guard.Pair way.Exclusive)) e blocks n = wrong-pair held.RemoveEntry asks way.Exclusive e refl refl refl (λ pair. (refl, refl)) blocks p.block refl n
+  begun-by (ask.Held held.RemoveEntry) asks (Some (guard.Pair (way.Occupied k))) e blocks n = same-blocks (ask.Held held.RemoveEntry) (Some (guard.Pair (way.Occupied k))) blocks n (to-change held.RemoveEntry asks (way.Occupied k) e refl refl refl refl)
   begun-by (ask.Held held.RemoveEntry) asks (Some (guard.Vacant k)) e blocks n = wrong-vacant held.RemoveEntry asks k e refl refl refl (refl, refl) blocks p.block refl n
-  begun-by (ask.Held (held.ReplaceEntry v)) asks (Some (guard.Pair way.Shared i)) e blocks n = wrong-pair (held.ReplaceEntry v) asks way.Shared i e refl refl refl (λ pair. (refl, refl)) blocks p.block refl n
-  begun-by (ask.Held (held.ReplaceEntry v)) asks (Some (guard.Pair way.Exclusive i)) e blocks n = wrong-pair (held.ReplaceEntry v) asks way.Exclusive i e refl refl refl (λ pair. (refl, refl)) blocks p.block refl n
-  begun-by (ask.Held (held.ReplaceEntry v)) asks (Some (guard.Pair (way.Occupied k) i)) e blocks n = same-blocks (ask.Held (held.ReplaceEntry v)) (Some (guard.Pair (way.Occupied k) i)) blocks n (to-change (held.ReplaceEntry v) asks (way.Occupied k) i e refl refl refl refl)
+  begun-by (ask.Held (held.ReplaceEntry v)) asks (Some (guard.Pair way.Shared)) e blocks n = wrong-pair (held.ReplaceEntry v) asks way.Shared e refl refl refl (λ pair. (refl, refl)) blocks p.block refl n
+  begun-by (ask.Held (held.ReplaceEntry v)) asks (Some (guard.Pair way.Exclusive)) e blocks n = wrong-pair (held.ReplaceEntry v) asks way.Exclusive e refl refl refl (λ pair. (refl, refl)) blocks p.block refl n
+  begun-by (ask.Held (held.ReplaceEntry v)) asks (Some (guard.Pair (way.Occupied k))) e blocks n = same-blocks (ask.Held (held.ReplaceEntry v)) (Some (guard.Pair (way.Occupied k))) blocks n (to-change (held.ReplaceEntry v) asks (way.Occupied k) e refl refl refl refl)
   begun-by (ask.Held (held.ReplaceEntry v)) asks (Some (guard.Vacant k)) e blocks n = wrong-vacant (held.ReplaceEntry v) asks k e refl refl refl (refl, refl) blocks p.block refl n
-  begun-by (ask.Held held.IntoKey) asks (Some (guard.Pair way.Shared i)) e blocks n = wrong-pair held.IntoKey asks way.Shared i e refl refl refl (λ pair. (refl, refl)) blocks p.block refl n
-  begun-by (ask.Held held.IntoKey) asks (Some (guard.Pair way.Exclusive i)) e blocks n = wrong-pair held.IntoKey asks way.Exclusive i e refl refl refl (λ pair. (refl, refl)) blocks p.block refl n
-  begun-by (ask.Held held.IntoKey) asks (Some (guard.Pair (way.Occupied k) i)) e blocks n = key-occupied asks k i e blocks n
+  begun-by (ask.Held held.IntoKey) asks (Some (guard.Pair way.Shared)) e blocks n = wrong-pair held.IntoKey asks way.Shared e refl refl refl (λ pair. (refl, refl)) blocks p.block refl n
+  begun-by (ask.Held held.IntoKey) asks (Some (guard.Pair way.Exclusive)) e blocks n = wrong-pair held.IntoKey asks way.Exclusive e refl refl refl (λ pair. (refl, refl)) blocks p.block refl n
+  begun-by (ask.Held held.IntoKey) asks (Some (guard.Pair (way.Occupied k))) e blocks n = key-occupied asks k e blocks n
   begun-by (ask.Held held.IntoKey) asks (Some (guard.Vacant k)) e blocks n = key-vacant asks k e blocks n
-  begun-by (ask.Held held.Drop) asks (Some (guard.Pair way.Shared i)) e blocks n = same-blocks (ask.Held held.Drop) (Some (guard.Pair way.Shared i)) blocks n (to-drop asks (guard.Pair way.Shared i) e refl refl)
-  begun-by (ask.Held held.Drop) asks (Some (guard.Pair way.Exclusive i)) e blocks n = same-blocks (ask.Held held.Drop) (Some (guard.Pair way.Exclusive i)) blocks n (to-drop asks (guard.Pair way.Exclusive i) e refl refl)
-  begun-by (ask.Held held.Drop) asks (Some (guard.Pair (way.Occupied k) i)) e blocks n = same-blocks (ask.Held held.Drop) (Some (guard.Pair (way.Occupied k) i)) blocks n (to-drop asks (guard.Pair (way.Occupied k) i) e refl refl)
+  begun-by (ask.Held held.Drop) asks (Some (guard.Pair way.Shared)) e blocks n = same-blocks (ask.Held held.Drop) (Some (guard.Pair way.Shared)) blocks n (to-drop asks (guard.Pair way.Shared) e refl refl)
+  begun-by (ask.Held held.Drop) asks (Some (guard.Pair way.Exclusive)) e blocks n = same-blocks (ask.Held held.Drop) (Some (guard.Pair way.Exclusive)) blocks n (to-drop asks (guard.Pair way.Exclusive) e refl refl)
+  begun-by (ask.Held held.Drop) asks (Some (guard.Pair (way.Occupied k))) e blocks n = same-blocks (ask.Held held.Drop) (Some (guard.Pair (way.Occupied k))) blocks n (to-drop asks (guard.Pair (way.Occupied k)) e refl refl)
   begun-by (ask.Held held.Drop) asks (Some (guard.Vacant k)) e blocks n = same-blocks (ask.Held held.Drop) (Some (guard.Vacant k)) blocks n (to-drop asks (guard.Vacant k) e refl refl)
 
 pub sound-starts : {K V S D T : Type 0} (x : Setup K V D T) → Laws x → (w : State K V S D T) (s : Step) (w' : State K V S D T) → Sound x w → Starts x w s w' → Sound x w'

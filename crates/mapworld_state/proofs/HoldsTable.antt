@@ -1,5 +1,5 @@
 -- What the holds of all threads say of a shard, and what its desk lists.
-use Rattle.std.proofs.Common.{◌≡◌, ◌≢◌, ℕ, zero, suc, ◌⊎◌, inl, inr, Bool, true, false, not, ◌&&◌, if◌then◌else◌, ◌==◌, List, [], ◌∷◌, Option, Some, None, slice_get, refl, sym, ap, ◌∙◌, eq-eqb, eqb-true}
+use Rattle.std.proofs.Common.{◌≡◌, ◌≢◌, ℕ, zero, suc, ◌⊎◌, inl, inr, Bool, true, false, not, ◌&&◌, if◌then◌else◌, ◌==◌, List, [], ◌∷◌, Some, slice_get, refl, sym, ap, ◌∙◌, eq-eqb, eqb-true}
 use Rattle.std.specs.List.{list_any}
 use Rattle.std.proofs.lemmas.Option.{none-some, same_Some, slice_get_within, get_or_from_slice_get, slice_get-get_or}
 use Rattle.std.proofs.lemmas.Bool.{false≢true, false_from_ne_true, and_from, and_parts}
@@ -12,11 +12,6 @@ use Rattle.lock_api_desk.specs.Guards.{Guard, has_number, without}
 use Rattle.mapworld_state.specs.Holds.{excludes, is_in_the_way, is_excluded}
 
 module _ {X : Type 0} where
-  pub list_any-false : (p : X → Bool) (xs : List X) → list_any p xs ≡ false → (i : ℕ) (x : X) → slice_get xs i ≡ Some x → p x ≡ false
-  list_any-false p xs none i x at = false_from_ne_true (p x) (λ e.
-      let there = get_or_from_slice_get xs i x x at in
-      false≢true (sym none ∙ list_any_at p xs i x (slice_get_within xs i x at) (ap p there ∙ e)))
-
   pub list_any-true : (p : X → Bool) (xs : List X) → list_any p xs ≡ true → (i : ℕ) × (x : X) × (slice_get xs i ≡ Some x) × (p x ≡ true)
   list_any-true p xs some =
       let a = Any-from_list_any p xs some in
@@ -27,12 +22,6 @@ pub excludes-false : (a b : Mode) → excludes a b ≡ false → (a ≡ Shared) 
 excludes-false Shared Shared h = (refl, refl)
 excludes-false Shared Exclusive h = absurd (false≢true (sym h))
 excludes-false Exclusive b h = absurd (false≢true (sym h))
-
-pub excludes-symm : (a b : Mode) → excludes a b ≡ excludes b a
-excludes-symm Shared Shared = refl
-excludes-symm Shared Exclusive = refl
-excludes-symm Exclusive Shared = refl
-excludes-symm Exclusive Exclusive = refl
 
 -- that a hold is in the way
 abbrev bars : ℕ → Mode → Hold → Bool

@@ -12,10 +12,6 @@ use Rattle.mapworld_state.proofs.Finds.{same_option, find-Some, find-None, find-
 pub equal_by : {K : Type 0} (eq : K → K → Bool) → IsEquivalence eq → (j k q : K) → eq j q ≡ true → eq k q ≡ true → eq j k ≡ true
 equal_by eq laws j k q a b = laws.congr j q k a ∙ (laws.symm q k ∙ b)
 
--- a key that is equal to one of two that differ isn't equal to the other
-pub differs_by : {K : Type 0} (eq : K → K → Bool) → IsEquivalence eq → (j k q : K) → eq j q ≡ true → eq k q ≡ false → eq j k ≡ false
-differs_by eq laws j k q a b = laws.congr j q k a ∙ (laws.symm q k ∙ b)
-
 module _ {K V : Type 0} (eq : K → K → Bool) (laws : IsEquivalence eq) where
   -- equal keys find the same
   pub pair_of-same : (ps : List (K × V)) (j k : K) → eq j k ≡ true → pair_of eq ps j ≡ pair_of eq ps k

@@ -9,7 +9,7 @@ use Rattle.mapworld_calls.specs.declared.reply.Reply.{Reply}
 use Rattle.mapworld_calls.specs.declared.reply.Answer.{Answer}
 use Rattle.mapworld_calls.specs.declared.reply.Answer.TheVariants as answer
 use Rattle.mapworld_calls.specs.Programs.{one_guard, keyed_key}
-use Rattle.mapworld_calls.specs.Calls.{At, free, vacant}
+use Rattle.mapworld_calls.specs.Calls.{At, free, vacant, pair_in}
 use Rattle.mapworld_calls.specs.Setup.{Setup, ask_at, session_of}
 use Rattle.mapworld_calls.specs.Pairs.{pair_of, AreDistinct}
 use Rattle.mapworld_calls.specs.Replay.{reached, block_key, contents, found, IsLastOnShard}
@@ -71,6 +71,11 @@ GuardIs {K} {V} tables p (Some (guard.Pair kind)) at = (pair : K × V) × (at �
 GuardIs tables p (Some (guard.Vacant key)) at =
     (at ≡ vacant key) × HoldsShard p Exclusive × HasPairs tables p.shard (λ table. has_room table ≡ true)
 
+-- while the place has a guard, its shard has at the block's key what the session has come to
+abbrev pub HasReached : {K V D T : Type 0} → Setup K V D T → List (ShardPairs K V) → Place K V D T → Block K → At K V → Type 0
+HasReached {K} x tables p b at =
+    (g : Guard K) (key : K) → p.guard ≡ Some g → block_key x b ≡ Some key → HasPairs tables p.shard (λ table. pair_of x.eq table.items key ≡ pair_in at)
+
 -- the block is of a key of the place's shard
 abbrev pub IsOnShard : {K V D T : Type 0} → Setup K V D T → Place K V D T → Block K → Type 0
 IsOnShard {K} x p b = (k : K) → block_key x b ≡ Some k → p.shard ≡ x.route k
@@ -89,6 +94,7 @@ pub record HasSession {K V D T : Type 0} (x : Setup K V D T) (bs : List (Block K
   pub below : c < n
   pub done : block.done.value ≡ n - c
   pub guard : GuardIs tables p p.guard (reached x t c (n - c) (found x bs i block))
+  pub there : HasReached x tables p block (reached x t c (n - c) (found x bs i block))
   pub settled : IsSettled x bs p i block
 
 abbrev pub IsInSessionOf : {K V D T : Type 0} → Setup K V D T → List (Block K) → List (ShardPairs K V) → ℕ → Place K V D T → ℕ → ℕ → Option ℕ → Type 0

@@ -1,0 +1,84 @@
+-- What a shard has at the key of a deed, and at that of a guard's session.
+use Rattle.std.proofs.Common.{◌≡◌, ℕ, ◌-◌, ◌≤◌, true, Bool, length, Option, Some, None, slice_get, inr, refl, sym, ap, ◌∙◌, subst, arith}
+use Rattle.std.specs.Cmp.{IsEquivalence}
+use Rattle.std.specs.Hash.{HashWrites}
+use Rattle.std.specs.Option.{option_and_then}
+use Rattle.std.specs.declared.hash.BuildHasher as builder
+use Rattle.std.specs.declared.hash.Hasher as hasher
+use Rattle.std.proofs.lemmas.Option.{none-some, same_Some}
+use Rattle.dashmap_table.specs.Route.{route_of, hash_of}
+use Rattle.mapworld_calls.specs.declared.block.Block.{Block}
+use Rattle.mapworld_calls.specs.declared.deed.Deed as deed
+use Rattle.mapworld_calls.specs.Programs.{key_of}
+use Rattle.mapworld_calls.specs.Setup.{Setup, Laws, ask_at}
+use Rattle.mapworld_calls.specs.Pairs.{pair_of}
+use Rattle.mapworld_calls.specs.Calls.{At, pair_in}
+use Rattle.mapworld_calls.specs.Replay.{reached, block_key, is_key, found, contents}
+use Rattle.mapworld_calls.proofs.Grown.{Grows, contents-were}
+use Rattle.mapworld_calls.proofs.Handed.{Handed, of-block, block-handed}
+use Rattle.mapworld_state.specs.declared.place.Way.{Way}
+use Rattle.mapworld_state.specs.declared.place.Way.TheVariants as way
+use Rattle.mapworld_state.specs.declared.place.Guard.{Guard}
+use Rattle.mapworld_state.specs.Places.{Place}
+use Rattle.mapworld_state.specs.Shards.{ShardPairs}
+use Rattle.mapworld_state.specs.State.{State, threads_of, started_of}
+use Rattle.mapworld_state.specs.Moves.{lent}
+use Rattle.mapworld_state.specs.Steps.{guarded_key}
+use Rattle.mapworld_state.specs.Sound.{Sound, GuardIs, HasPairs, HasSession, IsInSession, IsBeforeDeed}
+use Rattle.mapworld_state.specs.World.{setup_of}
+
+-- the laws of a world's setup, by those of its keys
+pub setup-laws : {K V S H D T : Type 0} (d : deed.Ghosts D K V T) (b : builder.Ghosts S H) (h : hasher.Ghosts H) (eq : K → K → Bool) (writes : K → HashWrites) (w : State K V S D T)
+    → IsEquivalence eq → ((j k : K) → eq j k ≡ true → writes j ≡ writes k) → Laws (setup_of d b h eq writes w)
+setup-laws d b h eq writes w laws respects = record {
+  equivalence = laws;
+  routes = λ j k same. ap (λ z. route_of (hash_of b h w.hasher z) (length w.tables)) (respects j k same);
+}
+
+module _ {K V S D T : Type 0} (x : Setup K V D T) (w : State K V S D T) (sound : Sound x w) (t : ℕ) (p : Place K V D T) where
+  -- the shard has at a deed's key what the deed's block has found
+  pub deed-found : Laws x → (key : K) (o : Option (K × V)) → IsBeforeDeed x w.blocks t p key o → (table : ShardPairs K V) → slice_get w.tables p.shard ≡ Some table → pair_of x.eq table.items key ≡ o
+  deed-found laws key o d table held =
+      let b = d.block in
+      let grows : Grows x w.blocks d.index b b = record { listed = d.listed; thread = refl; call = refl; done = omega arith; settled = inr d.last } in
+      sound.tables.contents_are key table (ap (λ n. slice_get w.tables n) (sym d.shard) ∙ held)
+      ∙ (contents-were x laws w.blocks d.index b b grows d.last key (ap (λ z. is_key x.eq z key) d.key_is ∙ laws.equivalence.refl key)
+      ∙ (ap (λ n. pair_in (reached x b.thread b.call n (found x w.blocks d.index b))) d.done ∙ d.found_is))
+
+  -- the key of a guard's session, and what the session has come to
+  pub record Guards (g : Guard K) : Type 0 where
+    pub key : K
+    pub key_is : guarded_key x w.blocks p.block ≡ Some key
+    pub come : At K V
+    pub guard_is : GuardIs w.tables p (Some g) come
+    pub handed : Handed key come
+    pub there : HasPairs w.tables p.shard (λ table. pair_of x.eq table.items key ≡ pair_in come)
+
+  of-session : (g : Guard K) → p.guard ≡ Some g → (n c i : ℕ) → p.block ≡ Some i → HasSession x w.blocks w.tables t p n c i → Guards g
+  of-session g e n c i mine h =
+      let own = of-block x (threads_of w) (started_of w) w.blocks w.replies sound.placed i h.block h.listed in
+      let key-is : block_key x h.block ≡ Some own.key = ap (option_and_then key_of) own.asked ∙ own.key_is in
+      let come = reached x t c (n - c) (found x w.blocks i h.block) in
+      let was = block-handed x (threads_of w) (started_of w) w.blocks w.replies sound.placed i h.block h.listed own.key key-is (found x w.blocks i h.block) in
+      record {
+        key = own.key;
+        key_is = ap (guarded_key x w.blocks) mine ∙ (ap (option_and_then (block_key x)) h.listed ∙ key-is);
+        come = come;
+        guard_is = subst (λ (z : Option (Guard K)). GuardIs w.tables p z come) e h.guard;
+        handed = subst (Handed own.key) (same-reached h.block.thread t h.block.call c h.block.done.value (n - c) (found x w.blocks i h.block) h.thread h.call h.done) was;
+        there = h.there g own.key e key-is;
+      }
+    where
+      same-reached : (u v a e k m : ℕ) (o : Option (K × V)) → u ≡ v → a ≡ e → k ≡ m → reached x u a k o ≡ reached x v e m o
+      same-reached u v a e k m o hu ha hk = rw (hu, ha, hk)
+
+  pub guards : (g : Guard K) → p.guard ≡ Some g → (n : ℕ) (session block : Option ℕ) → p.block ≡ block → IsInSession x w.blocks w.tables t p n session block → Guards g
+  guards g e n None block mine h = absurd (none-some g (sym h.0 ∙ e))
+  guards g e n (Some c) None mine h = absurd (none-some g (sym h.0 ∙ e))
+  guards g e n (Some c) (Some i) mine h = of-session g e n c i mine h
+
+-- an entry's guard has the session's key
+pub handed-way : {K V : Type 0} (key : K) (kind : Way K) (pair : K × V) (k : K) → kind ≡ way.Occupied k → Handed key (lent kind pair) → k ≡ key
+handed-way key way.Shared pair k is h = cc
+handed-way key way.Exclusive pair k is h = cc
+handed-way key (way.Occupied j) pair k is h = let same : j ≡ k = cc in sym same ∙ h

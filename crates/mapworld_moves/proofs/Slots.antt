@@ -1,0 +1,209 @@
+-- Slots go on to have their pairs: blocks keep their calls, and while a thread holds a shard alone no other thread has a slot there.
+use Rattle.std.proofs.Common.{◌≡◌, ◌≢◌, ℕ, ◌+◌, Bool, true, false, if◌then◌else◌, ◌==◌, List, [], ◌∷◌, ◌++◌, Option, Some, None, is_some, slice_get, slice_set, MatchBool, inl, inr, ⊎_elim, refl, sym, ap, ap₂, ◌∙◌, subst}
+use Rattle.std.specs.Option.{option_and_then}
+use Rattle.std.proofs.lemmas.Bool.{cases_Bool, cases_eq}
+use Rattle.std.proofs.lemmas.Option.{none-some, same_Some}
+use Rattle.dashmap_table.specs.Table.{Table}
+use Rattle.dashmap_table.proofs.Cases.{option_cases}
+use Rattle.mapworld_calls.specs.declared.block.Block.{Block}
+use Rattle.mapworld_calls.specs.Programs.{key_of, keyed_key}
+use Rattle.mapworld_calls.specs.Setup.{Setup, ask_at}
+use Rattle.mapworld_calls.specs.Replay.{block_key}
+use Rattle.mapworld_calls.proofs.Lists.{slice_get-set_same, slice_get-set_other, slice_get-set_cases, slice_get-push_below}
+use Rattle.mapworld_state.specs.declared.holds.Mode.{Mode}
+use Rattle.mapworld_state.specs.declared.holds.Mode.TheVariants.{Shared, Exclusive}
+use Rattle.mapworld_state.specs.declared.place.Way.{Way}
+use Rattle.mapworld_state.specs.declared.place.Guard.{Guard}
+use Rattle.mapworld_state.specs.declared.place.Guard.TheVariants as guard
+use Rattle.mapworld_state.specs.declared.place.Phase.{Phase}
+use Rattle.mapworld_state.specs.declared.place.Phase.TheVariants as phase
+use Rattle.mapworld_state.specs.declared.place.Place.{Place as KeptPlace}
+use Rattle.mapworld_state.specs.declared.world_core.Core.{Core}
+use Rattle.mapworld_state.specs.Places.{Place, place_of}
+use Rattle.mapworld_state.specs.Shards.{ShardPairs}
+use Rattle.mapworld_state.specs.State.{State, threads_of}
+use Rattle.mapworld_state.specs.Moves.{lent_way, way_mode, CountsCall, EndsAt, EndsBlock}
+use Rattle.mapworld_state.specs.Steps.{guarded_key}
+use Rattle.mapworld_state.specs.Sound.{Sound, Claim, HoldsShard, IsInSession, IsReleasing}
+use Rattle.mapworld_state.specs.Slots.{phase_key, slot_key, HasHashes, HasKeyAt, IsAt, HasSlots}
+use Rattle.mapworld_state.specs.Core.{state_of}
+use Rattle.mapworld_state.proofs.Views.{view-at}
+use Rattle.mapworld_state.proofs.HoldsTable.{first-there}
+use Rattle.mapworld_moves.specs.declared.blocks.Started.{Started}
+use Rattle.mapworld_moves.specs.Listing.{AddsBlock}
+use Rattle.mapworld_moves.proofs.Facts.{guard_is, way_is}
+
+-- each block stays a block of its call
+abbrev pub KeepsCalls : {K : Type 0} → List (Block K) → List (Block K) → Type 0
+KeepsCalls {K} bs bs' = (i : ℕ) (b : Block K) → slice_get bs i ≡ Some b → (c : Block K) × (slice_get bs' i ≡ Some c) × (c.thread ≡ b.thread) × (c.call ≡ b.call)
+
+module _ {K : Type 0} (bs bs' : List (Block K)) where
+  pub calls-same : bs' ≡ bs → KeepsCalls bs bs'
+  calls-same same i b at = (b, ap (λ z. slice_get z i) same ∙ at, refl, refl)
+
+  calls-push : (d : Block K) → bs' ≡ bs ++ d ∷ [] → KeepsCalls bs bs'
+  calls-push d same i b at = (b, ap (λ z. slice_get z i) same ∙ slice_get-push_below bs i b d at, refl, refl)
+
+  calls-set : (i : ℕ) (b c : Block K) → slice_get bs i ≡ Some b → c.thread ≡ b.thread → c.call ≡ b.call → bs' ≡ slice_set bs i c → KeepsCalls bs bs'
+  calls-set i b c listed thread call same j e at = ⊎_elim
+      (λ here.
+      let its : b ≡ e = same_Some b e (sym listed ∙ (ap (λ k. slice_get bs k) here ∙ at)) in
+      (c, ap (λ z. slice_get z j) same ∙ (ap (λ k. slice_get (slice_set bs i c) k) (sym here) ∙ slice_get-set_same bs i b c listed), thread ∙ ap (λ (z : Block K). z.thread) its, call ∙ ap (λ (z : Block K). z.call) its))
+      (λ ne. (e, ap (λ z. slice_get z j) same ∙ (slice_get-set_other bs i j c ne ∙ at), refl, refl))
+      (cases_eq i j)
+
+  -- where calls are counted in, a block is listed, or a call is ended
+  pub calls-counted : (o : Option ℕ) (n : ℕ) → CountsCall bs o n bs' → KeepsCalls bs bs'
+  calls-counted None n h = calls-same h
+  calls-counted (Some i) n h = calls-set i h.0 h.1 h.2 h.3.thread h.3.call h.4
+
+  pub calls-listed : (done : Option ℕ) (st : Started) (at : ℕ) → AddsBlock bs done st at bs' → KeepsCalls bs bs'
+  calls-listed None st at h = calls-same h
+  calls-listed (Some n) st at h = calls-push h.0 h.2
+
+  pub calls-ended : (o : Option ℕ) (n end : ℕ) → EndsBlock bs o n end bs' → KeepsCalls bs bs'
+  calls-ended None n end h = calls-same h
+  calls-ended (Some i) n end h = ⊎_elim
+      (λ (yes_ : (h.0.call == n) ≡ true). let e : EndsAt end h.0 h.1 = subst (λ (z : Bool). MatchBool z (EndsAt end h.0 h.1) (h.1 ≡ h.0)) yes_ h.3 in calls-set i h.0 h.1 h.2 e.thread e.call h.4)
+      (λ no_. let e : h.1 ≡ h.0 = subst (λ (z : Bool). MatchBool z (EndsAt end h.0 h.1) (h.1 ≡ h.0)) no_ h.3 in
+      calls-set i h.0 h.1 h.2 (ap (λ (z : Block K). z.thread) e) (ap (λ (z : Block K). z.call) e) h.4)
+      (cases_Bool (h.0.call == n))
+
+module _ {K V D T : Type 0} (x : Setup K V D T) (bs bs' : List (Block K)) (calls : KeepsCalls bs bs') where
+  -- so a session's key stays
+  pub key-still : (o : Option ℕ) → ((i : ℕ) → o ≡ Some i → (b : Block K) × (slice_get bs i ≡ Some b)) → guarded_key x bs' o ≡ guarded_key x bs o
+  key-still None own = refl
+  key-still (Some i) own =
+      let b = own i refl in
+      let c = calls i b.0 b.1 in
+      let same : block_key x c.0 ≡ block_key x b.0 = ap₂ (λ t n. option_and_then key_of (ask_at x t n)) c.2 c.3 in
+      ap (option_and_then (block_key x)) c.1 ∙ (same ∙ sym (ap (option_and_then (block_key x)) b.1))
+
+  -- and so does the key of a place's slot
+  pub slot-still : (p : Place K V D T) → ((i : ℕ) → p.block ≡ Some i → (b : Block K) × (slice_get bs i ≡ Some b)) → slot_key x bs' p ≡ slot_key x bs p
+  slot-still p own = ap (λ k. if is_some (lent_way p.guard) then k else phase_key p.phase) (key-still p.block own)
+
+module _ {K V D T : Type 0} (x : Setup K V D T) (bs : List (Block K)) (p : Place K V D T) where
+  -- the key of a place's slot is its session's where its guard lends a pair, and else its call's
+  pub slot-lent : (kind : Way K) → lent_way p.guard ≡ Some kind → slot_key x bs p ≡ guarded_key x bs p.block
+  slot-lent kind e = ap (λ (g : Option (Way K)). if is_some g then guarded_key x bs p.block else phase_key p.phase) e
+
+  pub slot-unlent : lent_way p.guard ≡ None → slot_key x bs p ≡ phase_key p.phase
+  slot-unlent e = ap (λ (g : Option (Way K)). if is_some g then guarded_key x bs p.block else phase_key p.phase) e
+
+  -- a place has no slot without a guard and before a phase that needs none
+  pub slot-free : p.guard ≡ None → phase_key p.phase ≡ None → slot_key x bs p ≡ None
+  slot-free e f = slot-unlent (ap lent_way e) ∙ f
+
+module _ {K V D T : Type 0} (x : Setup K V D T) (threads : List ℕ) (bs : List (Block K)) (tables : List (ShardPairs K V)) (t : ℕ) (p : Place K V D T) where
+  session-holds : (n : ℕ) (session block : Option ℕ) (kind : Way K) → IsInSession x bs tables t p n session block → p.guard ≡ Some (guard.Pair kind) → HoldsShard p (way_mode kind)
+  session-holds n session block kind h e = (guard_is x bs tables t p n session block (guard.Pair kind) h e).1.2
+
+  -- a guard that lends a pair holds its shard, whatever the place is before
+  lends-holds : (f : Phase K V D T) → Claim x threads bs tables t p f → (kind : Way K) → p.guard ≡ Some (guard.Pair kind) → HoldsShard p (way_mode kind)
+  lends-holds phase.Rest h kind e = session-holds p.next _ p.block kind h.2 e
+  lends-holds (phase.Admit r) h kind e = absurd (none-some (guard.Pair kind) (sym h.1.guard ∙ e))
+  lends-holds (phase.Find r) h kind e = absurd (none-some (guard.Pair kind) (sym h.1.guard ∙ e))
+  lends-holds (phase.Grow r) h kind e = absurd (none-some (guard.Pair kind) (sym h.1.guard ∙ e))
+  lends-holds (phase.Append k v) h kind e = absurd (none-some (guard.Pair kind) (sym h.1.guard ∙ e))
+  lends-holds (phase.Apply k) h kind e = absurd (none-some (guard.Pair kind) (sym h.2.guard ∙ e))
+  lends-holds (phase.View k d) h kind e = absurd (none-some (guard.Pair kind) (sym h.2.guard ∙ e))
+  lends-holds (phase.Read d) h kind e = session-holds p.next _ p.block kind h.3 e
+  lends-holds (phase.Change c) h kind e = session-holds p.next _ p.block kind h.5 e
+  lends-holds (phase.Fill v) h kind e = session-holds p.next _ p.block kind h.4 e
+  lends-holds phase.Downgrade h kind e = session-holds p.next _ p.block kind h.3 e
+  lends-holds (phase.Release r) h kind e =
+      let releasing : IsReleasing x bs tables t p h.0 r (Some (guard.Pair kind)) = subst (λ (g : Option (Guard K)). IsReleasing x bs tables t p h.0 r g) e h.4 in
+      session-holds p.next _ p.block kind releasing.2 e
+  lends-holds (phase.Answer r) h kind e = session-holds (p.next + 1) _ _ kind h.4 e
+
+  -- and so does a call that has found its pair
+  finds-holds : (f : Phase K V D T) → Claim x threads bs tables t p f → (key : K) → phase_key f ≡ Some key → (m : Mode) × HoldsShard p m
+  finds-holds (phase.Apply k) h key e = (Exclusive, h.2.alone)
+  finds-holds (phase.View k d) h key e = (Shared, h.3)
+  finds-holds f h key e = absurd (cc)
+
+  pub slot-holds : Claim x threads bs tables t p p.phase → (key : K) → slot_key x bs p ≡ Some key → (m : Mode) × HoldsShard p m
+  slot-holds h key e = elim (option_cases (lent_way p.guard)) [
+    | inl none ↦ finds-holds p.phase h key (sym (slot-unlent x bs p none) ∙ e)
+    | inr some ↦ (way_mode some.0, lends-holds p.phase h some.0 (way_is p.guard some.0 some.1))
+  ]
+
+-- while a thread holds its shard alone no other thread has a slot there
+pub slots-apart : {K V S D T : Type 0} (x : Setup K V D T) (w : State K V S D T) → Sound x w → (t u : ℕ) (p q : Place K V D T) → t ≢ u → slice_get w.places t ≡ Some p → slice_get w.places u ≡ Some q
+    → HoldsShard p Exclusive → (key : K) → slot_key x w.blocks q ≡ Some key → p.shard ≢ q.shard
+slots-apart x w sound t u p q ne here there alone key is same =
+    let other = slot-holds x (threads_of w) w.blocks w.tables u q (sound.stands u q there).claim key is in
+    let both = sound.holds.compatible t u 0 0 p q alone.hold other.1.hold ne here there (first-there p.holds alone.hold [] alone.has) (first-there q.holds other.1.hold [] other.1.has) (alone.shard ∙ (same ∙ sym other.1.shard)) in
+    let shares : Exclusive ≡ Shared = sym alone.mode_is ∙ both.0 in
+    cc
+
+module _ {K V S D T A : Type 0} (x : Setup K V D T) (hash : K → ℕ) (c : Core K V S D T A) (sound : Sound x (state_of c)) (slots : HasSlots x hash c.tables.items c.blocks.items c.places.items)
+    (t : ℕ) (p p' : KeptPlace K V D T A) (here : slice_get c.places.items t ≡ Some p) (bs' : List (Block K)) (calls : KeepsCalls c.blocks.items bs') where
+  own-block : (u : ℕ) (q : KeptPlace K V D T A) → slice_get c.places.items u ≡ Some q → (i : ℕ) → q.block ≡ Some i → (b : Block K) × (slice_get c.blocks.items i ≡ Some b)
+  own-block u q at i e = let o = (sound.stands u (place_of q) (view-at place_of c.places.items u q at)).own_block i e in (o.0, o.1)
+
+  other-key : (u : ℕ) (q : KeptPlace K V D T A) → slice_get c.places.items u ≡ Some q → slot_key x bs' (place_of q) ≡ slot_key x c.blocks.items (place_of q)
+  other-key u q at = slot-still x c.blocks.items bs' calls (place_of q) (own-block u q at)
+
+  -- a step that changes no shard
+  pub slots-same : ((key : K) → slot_key x bs' (place_of p') ≡ Some key → IsAt x.eq c.tables.items p'.shard p'.slot key) → HasSlots x hash c.tables.items bs' (slice_set c.places.items t p')
+  slots-same own = record { hashed = slots.hashed; found = found }
+    where
+      found : (u : ℕ) (q : KeptPlace K V D T A) (key : K) → slice_get (slice_set c.places.items t p') u ≡ Some q → slot_key x bs' (place_of q) ≡ Some key → IsAt x.eq c.tables.items q.shard q.slot key
+      found u q key at is = elim (slice_get-set_cases c.places.items t u p q p' here at) [
+        | inl mine ↦ subst (λ (z : KeptPlace K V D T A). slot_key x bs' (place_of z) ≡ Some key → IsAt x.eq c.tables.items z.shard z.slot key) (sym mine.1) (own key) is
+        | inr other ↦ slots.found u q key other.1 (sym (other-key u q other.1) ∙ is)
+      ]
+
+  -- one that changes the shard which the thread holds alone
+  pub slots-alone : HoldsShard (place_of p) Exclusive → (table table' : Table K V) → slice_get c.tables.items p.shard ≡ Some table → HasHashes hash table'
+      → ((key : K) → slot_key x bs' (place_of p') ≡ Some key → (p'.shard ≡ p.shard) × HasKeyAt x.eq table' p'.slot key)
+      → HasSlots x hash (slice_set c.tables.items p.shard table') bs' (slice_set c.places.items t p')
+  slots-alone alone table table' held fresh own = record { hashed = hashed; found = found }
+    where
+      hashed : (i : ℕ) (z : Table K V) → slice_get (slice_set c.tables.items p.shard table') i ≡ Some z → HasHashes hash z
+      hashed i z at = elim (slice_get-set_cases c.tables.items p.shard i table z table' held at) [
+        | inl mine ↦ subst (HasHashes hash) (sym mine.1) fresh
+        | inr other ↦ slots.hashed i z other.1
+      ]
+
+      found : (u : ℕ) (q : KeptPlace K V D T A) (key : K) → slice_get (slice_set c.places.items t p') u ≡ Some q → slot_key x bs' (place_of q) ≡ Some key
+          → IsAt x.eq (slice_set c.tables.items p.shard table') q.shard q.slot key
+      found u q key at is = elim (slice_get-set_cases c.places.items t u p q p' here at) [
+        | inl mine ↦
+            let k = own key (subst (λ (z : KeptPlace K V D T A). slot_key x bs' (place_of z) ≡ Some key) mine.1 is) in
+            let at-shard = ap (λ (z : KeptPlace K V D T A). z.shard) mine.1 ∙ k.0 in
+            record {
+              table = table';
+              held = ap (slice_get (slice_set c.tables.items p.shard table')) at-shard ∙ slice_get-set_same c.tables.items p.shard table table' held;
+              has = subst (λ (z : KeptPlace K V D T A). HasKeyAt x.eq table' z.slot key) (sym mine.1) k.1;
+            }
+        | inr other ↦
+            let was = sym (other-key u q other.1) ∙ is in
+            let old = slots.found u q key other.1 was in
+            let apart = slots-apart x (state_of c) sound t u (place_of p) (place_of q) (λ e. other.0 (sym e)) (view-at place_of c.places.items t p here) (view-at place_of c.places.items u q other.1) alone key was in
+            record { table = old.table; held = slice_get-set_other c.tables.items p.shard q.shard table' apart ∙ old.held; has = old.has }
+      ]
+
+  -- the key of the place's slot was the same where a guard goes on to lend the pair, and nothing else is looked for
+  pub slot-was : ((kind : Way K) → lent_way p'.guard ≡ Some kind → is_some (lent_way p.guard) ≡ true) → ((i : ℕ) → p'.block ≡ Some i → p.block ≡ Some i) → phase_key p'.phase ≡ None
+      → (key : K) → slot_key x bs' (place_of p') ≡ Some key → slot_key x c.blocks.items (place_of p) ≡ Some key
+  slot-was lends blocks free key is = elim (option_cases (lent_way p'.guard)) [
+    | inl none ↦ absurd (none-some key (sym (slot-unlent x bs' (place_of p') none ∙ free) ∙ is))
+    | inr some ↦
+        let now : guarded_key x bs' p'.block ≡ Some key = sym (slot-lent x bs' (place_of p') some.0 some.1) ∙ is in
+        ap (λ b. if b then guarded_key x c.blocks.items p.block else phase_key p.phase) (lends some.0 some.1)
+        ∙ (sym (key-still x c.blocks.items bs' calls p.block (own-block t p here)) ∙ in-block p'.block blocks now)
+  ]
+    where
+      in-block : (o : Option ℕ) → ((i : ℕ) → o ≡ Some i → p.block ≡ Some i) → guarded_key x bs' o ≡ Some key → guarded_key x bs' p.block ≡ Some key
+      in-block None same at = absurd (none-some key at)
+      in-block (Some i) same at = ap (guarded_key x bs') (same i refl) ∙ at
+
+  -- a step that changes no shard, and leaves the place's slot
+  pub slots-kept : ((kind : Way K) → lent_way p'.guard ≡ Some kind → is_some (lent_way p.guard) ≡ true) → ((i : ℕ) → p'.block ≡ Some i → p.block ≡ Some i) → phase_key p'.phase ≡ None
+      → p'.shard ≡ p.shard → p'.slot ≡ p.slot → HasSlots x hash c.tables.items bs' (slice_set c.places.items t p')
+  slots-kept lends blocks free shard slot = slots-same (λ key is.
+      let old = slots.found t p key here (slot-was lends blocks free key is) in
+      record { table = old.table; held = ap (slice_get c.tables.items) shard ∙ old.held; has = subst (λ i. HasKeyAt x.eq old.table i key) (sym slot) old.has })
