@@ -1,7 +1,6 @@
 -- Where a thread stands, by the phase that it is before.
-use Rattle.std.proofs.Common.{◌≡◌, ℕ, zero, suc, ◌<◌, ◌==◌, Bool, false, if◌then◌else◌, List, length, get_or, Some, slice_get, refl, sym, ap, ◌∙◌, arith}
+use Rattle.std.proofs.Common.{◌≡◌, ℕ, zero, suc, ◌<◌, ◌==◌, Bool, false, if◌then◌else◌, List, length, Some, slice_get, refl, sym, ap, ◌∙◌, arith}
 use Rattle.std.proofs.lemmas.Bool.{false≢true}
-use Rattle.std.proofs.lemmas.Option.{slice_get_read}
 use Rattle.mapworld_state.specs.declared.step.Status.TheVariants as status
 use Rattle.mapworld_state.specs.declared.place.Phase.{Phase}
 use Rattle.mapworld_state.specs.declared.place.Phase.TheVariants as phase
@@ -11,12 +10,6 @@ use Rattle.mapworld_state.specs.Holds.{is_excluded}
 use Rattle.mapworld_state.specs.State.{State}
 use Rattle.mapworld_state.specs.Moves.{mode_of}
 use Rattle.mapworld_state.specs.Running.{status_of, status_at, status_before}
-use Rattle.mapworld_state.specs.Core.{IsBefore}
-
--- a place that was read, before its phase
-pub is_before : {K V D T : Type 0} (places : List (Place K V D T)) (t : ℕ) (r : Place K V D T) (ph : Phase K V D T)
-    → t < length places → r ≡ get_or places t r → r.phase ≡ ph → IsBefore places t ph
-is_before places t r ph within read before = record { place = r; stands = slice_get_read places (length places) t r refl within read; before = before }
 
 -- a list that isn't empty has an element
 pub some_left : (n : ℕ) → (n == 0) ≡ false → 0 < n
@@ -34,8 +27,8 @@ runs-otherwise places left shard (phase.Admit r) rest admit = absurd (admit r re
 runs-otherwise places left shard (phase.Find r) rest admit = refl
 runs-otherwise places left shard (phase.Grow c) rest admit = refl
 runs-otherwise places left shard (phase.Append k v) rest admit = refl
-runs-otherwise places left shard (phase.Apply i k) rest admit = refl
-runs-otherwise places left shard (phase.View i k d) rest admit = refl
+runs-otherwise places left shard (phase.Apply k) rest admit = refl
+runs-otherwise places left shard (phase.View k d) rest admit = refl
 runs-otherwise places left shard (phase.Read d) rest admit = refl
 runs-otherwise places left shard (phase.Change k) rest admit = refl
 runs-otherwise places left shard (phase.Fill v) rest admit = refl

@@ -1,10 +1,11 @@
 //! The steps that end a hold and a call.
-ghost use Rattle.std.specs.Prelude.{◌≡◌, ◌+◌, ◌<◌, ◌^◌, true, if◌then◌else◌};
+ghost use Rattle.std.specs.Prelude.{◌≡◌, ◌+◌, ◌<◌, ◌^◌, ◌∷◌, true, if◌then◌else◌};
 ghost use Rattle.mapworld_state.specs.declared.place.Phase.TheVariants as phase;
 ghost use Rattle.mapworld_state.specs.Running.{has_numbers};
 ghost use Rattle.mapworld_state.specs.Core.{state_of, Room, IsBefore, IsSoundCore, IsSlotted, MakesStep};
 ghost use Rattle.mapworld_state.specs.Steps.{Downgrades, Releases, Answers};
 
+use arrayvec::ArrayVec;
 use mapworld_calls::{Answer, Deed, Reply};
 use mapworld_moves::blocks::{count_in, end_block};
 use mapworld_moves::holds::{end_hold, share_hold};
@@ -32,6 +33,25 @@ fn leave_call<K, V, D, T, A: Allocator>(place: &mut Place<K, V, D, T, A>) -> Ans
     }
 }
 
+/// Lets the first of these holds share its shard, and answers it as it was.
+fn share_first(holds: &mut ArrayVec<Hold, 2>) -> Hold
+    requires { (hold : _) × (more : _) × (holds.old.items ≡ hold ∷ more) }
+    ensures { (more : _) × (holds.old.items ≡ result ∷ more) × (holds.new.items ≡ record result { mode = Mode.Shared } ∷ more) }
+{
+    let first = &mut holds[0];
+    let hold = *first;
+    first.mode = Mode::Shared;
+    hold
+}
+
+/// Takes the first of these holds out.
+fn take_first(holds: &mut ArrayVec<Hold, 2>) -> Hold
+    requires { (hold : _) × (more : _) × (holds.old.items ≡ hold ∷ more) }
+    ensures { holds.old.items ≡ result ∷ holds.new.items }
+{
+    holds.remove(0)
+}
+
 /// The step by which a guard that holds its shard alone shares it.
 pub(crate) fn downgrade<
     K: Eq + Hash + Drop,
@@ -50,12 +70,7 @@ pub(crate) fn downgrade<
     ensures slots { IsSlotted D.Deed S.BuildHasher S.Hasher.Hasher K.eq K.hash_input core.new }
 {
     let place = &mut core.places[step.thread];
-    let hold = place.holds[0];
-    place.holds[0] = Hold {
-        shard: hold.shard,
-        guard: hold.guard,
-        mode: Mode::Shared,
-    };
+    let hold = share_first(&mut place.holds);
     place.guard = Some(Guard::Pair(Way::Shared));
     enter(&mut place.phase, Phase::Answer(Answer::Held));
     let desk = &mut core.desks[hold.shard];
@@ -83,7 +98,7 @@ pub(crate) fn release<
     ensures slots { IsSlotted D.Deed S.BuildHasher S.Hasher.Hasher K.eq K.hash_input core.new }
 {
     let place = &mut core.places[step.thread];
-    let hold = place.holds.remove(0);
+    let hold = take_first(&mut place.holds);
     let Phase::Release(answer) = mem::replace(&mut place.phase, Phase::Rest) else {
         unreachable!()
     };

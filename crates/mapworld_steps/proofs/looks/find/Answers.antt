@@ -6,45 +6,52 @@ use Rattle.mapworld_moves.specs.declared.blocks.Started.{Started}
 use Rattle.mapworld_state.specs.Moves.{found_done, found_guard, found_phase, block_behind}
 use Rattle.mapworld_steps.proofs.Afters.{after_find}
 use Rattle.mapworld_moves.proofs.Rooms.{shifted, same_desks, block_left}
-use Rattle.mapworld_moves.proofs.Facts.{stands_here, phase_here, claim_at, way_fits}
+use Rattle.mapworld_state.specs.Places.{place_of}
+use Rattle.mapworld_moves.proofs.Facts.{claim_at, way_fits}
+use Rattle.mapworld_steps.proofs.Kept.{stands_here, phase_here}
 use Rattle.mapworld_moves.proofs.Weights.{found_weighs, found_lists, none_lost, behind_listed, lists_block}
 use Rattle.mapworld_steps.proofs.looks.find.Goals as goal
 
 pub unreachable-requires : goal.unreachable-requires
 unreachable-requires g c =
     let b = c.requires.before.1 in
-    let p = c.index_mut-place.result.now in
-    let here = stands_here b p c.index_mut-place.ensures.value in
-    let claim = claim_at c.requires.sound c.args.step.thread p here (phase_here b p c.index_mut-place.ensures.value) in
+    let r = c.index_mut-place.result.now in
+    let p = place_of r in
+    let here = stands_here c.args.core.now.places.items b r c.index_mut-place.ensures.value in
+    let claim = claim_at c.requires.sound c.args.step.thread p here (phase_here c.args.core.now.places.items b r c.index_mut-place.ensures.value) in
     c.in_default.not-Some claim.0.start claim.0.started
 
 pub unreachable-requires-in_default-replace : goal.unreachable-requires-in_default-replace
 unreachable-requires-in_default-replace g c =
     let b = c.requires.before.1 in
-    let p = c.index_mut-place.result.now in
-    c.in_default-replace.not-Find c.requires.before.0 (c.replace.ensures.value ∙ phase_here b p c.index_mut-place.ensures.value)
+    let r = c.index_mut-place.result.now in
+    let p = place_of r in
+    c.in_default-replace.not-Find c.requires.before.0 (c.replace.ensures.value ∙ phase_here c.args.core.now.places.items b r c.index_mut-place.ensures.value)
 
 pub index-table-requires : goal.index-table-requires
 index-table-requires g c =
     let b = c.requires.before.1 in
-    let p = c.index_mut-place.result.now in
-    let here = stands_here b p c.index_mut-place.ensures.value in
-    let claim = claim_at c.requires.sound c.args.step.thread p here (phase_here b p c.index_mut-place.ensures.value) in
+    let r = c.index_mut-place.result.now in
+    let p = place_of r in
+    let here = stands_here c.args.core.now.places.items b r c.index_mut-place.ensures.value in
+    let claim = claim_at c.requires.sound c.args.step.thread p here (phase_here c.args.core.now.places.items b r c.index_mut-place.ensures.value) in
     let fits = way_fits c.requires.sound p _ claim.1 in
     omega (arith, fits, c.args.core.now.tables.ok.0)
 
 pub list_block-requires : goal.list_block-requires
 list_block-requires g c =
     let b = c.requires.before.1 in
-    let p = c.index_mut-place.result.now in
-    let here = stands_here b p c.index_mut-place.ensures.value in
-    block_left c.args.core.now c.args.step.thread p c.requires.room here (ap lists (phase_here b p c.index_mut-place.ensures.value))
+    let r = c.index_mut-place.result.now in
+    let p = place_of r in
+    let here = stands_here c.args.core.now.places.items b r c.index_mut-place.ensures.value in
+    block_left c.args.core.now c.args.step.thread p c.requires.room here (ap lists (phase_here c.args.core.now.places.items b r c.index_mut-place.ensures.value))
 
 pub returns-clause-step : goal.returns-clause-step
 returns-clause-step g c =
     let b = c.requires.before.1 in
-    let p = c.index_mut-place.result.now in
-    let here = stands_here b p c.index_mut-place.ensures.value in
+    let r = c.index_mut-place.result.now in
+    let p = place_of r in
+    let here = stands_here c.args.core.now.places.items b r c.index_mut-place.ensures.value in
     let before = sym c.replace.ensures.value ∙ c.in-Find.is in
     let claim = claim_at c.requires.sound c.args.step.thread p here before in
     let fits : p.shard < vec_len c.args.core.now.tables = rw c.args.core.now.tables.ok.0 (way_fits c.requires.sound p _ claim.1) in
@@ -71,8 +78,9 @@ returns-clause-step g c =
 pub returns-clause-room : goal.returns-clause-room
 returns-clause-room g c =
     let b = c.requires.before.1 in
-    let p = c.index_mut-place.result.now in
-    let here = stands_here b p c.index_mut-place.ensures.value in
+    let r = c.index_mut-place.result.now in
+    let p = place_of r in
+    let here = stands_here c.args.core.now.places.items b r c.index_mut-place.ensures.value in
     let before = sym c.replace.ensures.value ∙ c.in-Find.is in
     let slot = c.slot_for-slot.result in
     let room = c.has_room-room.result in

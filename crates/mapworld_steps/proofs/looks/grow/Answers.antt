@@ -5,38 +5,44 @@ use Rattle.mapworld_state.specs.Core.{state_of, owes, lists, adds}
 use Rattle.mapworld_moves.specs.Listing.{AddsBlock}
 use Rattle.mapworld_state.specs.Moves.{request_of, found_phase, found_done, ListsBlock}
 use Rattle.mapworld_moves.proofs.Rooms.{shifted, same_desks, block_left}
-use Rattle.mapworld_moves.proofs.Facts.{stands_here, phase_here, claim_at, list_read}
+use Rattle.mapworld_state.specs.Places.{place_of}
+use Rattle.mapworld_moves.proofs.Facts.{claim_at, list_read}
+use Rattle.mapworld_steps.proofs.Kept.{stands_here, phase_here}
 use Rattle.mapworld_moves.proofs.Weights.{found_weighs, grown_lists, lists_block, pairs_kept, pairs_at}
 use Rattle.mapworld_steps.proofs.looks.grow.Goals as goal
 
 pub unreachable-requires : goal.unreachable-requires
 unreachable-requires g c =
     let b = c.requires.before.1 in
-    let p = c.index_mut-place.result.now in
-    let here = stands_here b p c.index_mut-place.ensures.value in
-    let claim = claim_at c.requires.sound c.args.step.thread p here (phase_here b p c.index_mut-place.ensures.value) in
+    let r = c.index_mut-place.result.now in
+    let p = place_of r in
+    let here = stands_here c.args.core.now.places.items b r c.index_mut-place.ensures.value in
+    let claim = claim_at c.requires.sound c.args.step.thread p here (phase_here c.args.core.now.places.items b r c.index_mut-place.ensures.value) in
     c.in_default.not-Some claim.0.start claim.0.started
 
 pub unreachable-requires-in_default-replace : goal.unreachable-requires-in_default-replace
 unreachable-requires-in_default-replace g c =
     let b = c.requires.before.1 in
-    let p = c.index_mut-place.result.now in
-    c.in_default-replace.not-Grow c.requires.before.0 (c.replace.ensures.value ∙ phase_here b p c.index_mut-place.ensures.value)
+    let r = c.index_mut-place.result.now in
+    let p = place_of r in
+    c.in_default-replace.not-Grow c.requires.before.0 (c.replace.ensures.value ∙ phase_here c.args.core.now.places.items b r c.index_mut-place.ensures.value)
 
 pub index_mut-table-requires : goal.index_mut-table-requires
 index_mut-table-requires g c =
     let b = c.requires.before.1 in
-    let p = c.index_mut-place.result.now in
-    let here = stands_here b p c.index_mut-place.ensures.value in
-    let claim = claim_at c.requires.sound c.args.step.thread p here (phase_here b p c.index_mut-place.ensures.value) in
+    let r = c.index_mut-place.result.now in
+    let p = place_of r in
+    let here = stands_here c.args.core.now.places.items b r c.index_mut-place.ensures.value in
+    let claim = claim_at c.requires.sound c.args.step.thread p here (phase_here c.args.core.now.places.items b r c.index_mut-place.ensures.value) in
     omega (arith, slice_get_within c.args.core.now.tables.items p.shard claim.3.table claim.3.held, c.args.core.now.tables.ok.0)
 
 pub more_room-requires : goal.more_room-requires
 more_room-requires g c =
     let b = c.requires.before.1 in
-    let p = c.index_mut-place.result.now in
-    let here = stands_here b p c.index_mut-place.ensures.value in
-    let claim = claim_at c.requires.sound c.args.step.thread p here (phase_here b p c.index_mut-place.ensures.value) in
+    let r = c.index_mut-place.result.now in
+    let p = place_of r in
+    let here = stands_here c.args.core.now.places.items b r c.index_mut-place.ensures.value in
+    let claim = claim_at c.requires.sound c.args.step.thread p here (phase_here c.args.core.now.places.items b r c.index_mut-place.ensures.value) in
     let table = list_read c.args.core.now.tables.items p.shard c.index_mut-table.result.now c.index_mut-table.ensures.value _ claim.3 in
     let part = pairs_at c.args.core.now.tables.items p.shard c.index_mut-table.result.now table.0 in
     omega (arith, part, c.requires.room.pairs, c.requires.room.pairs_fit, c.len.ensures, c.index_mut-table.result.now.ok.0)
@@ -44,15 +50,17 @@ more_room-requires g c =
 pub list_block-requires : goal.list_block-requires
 list_block-requires g c =
     let b = c.requires.before.1 in
-    let p = c.index_mut-place.result.now in
-    let here = stands_here b p c.index_mut-place.ensures.value in
-    block_left c.args.core.now c.args.step.thread p c.requires.room here (ap lists (phase_here b p c.index_mut-place.ensures.value))
+    let r = c.index_mut-place.result.now in
+    let p = place_of r in
+    let here = stands_here c.args.core.now.places.items b r c.index_mut-place.ensures.value in
+    block_left c.args.core.now c.args.step.thread p c.requires.room here (ap lists (phase_here c.args.core.now.places.items b r c.index_mut-place.ensures.value))
 
 pub returns-clause-step : goal.returns-clause-step
 returns-clause-step g c =
     let b = c.requires.before.1 in
-    let p = c.index_mut-place.result.now in
-    let here = stands_here b p c.index_mut-place.ensures.value in
+    let r = c.index_mut-place.result.now in
+    let p = place_of r in
+    let here = stands_here c.args.core.now.places.items b r c.index_mut-place.ensures.value in
     let before = sym c.replace.ensures.value ∙ c.in-Grow.is in
     let claim = claim_at c.requires.sound c.args.step.thread p here before in
     let table = list_read c.args.core.now.tables.items p.shard c.index_mut-table.result.now c.index_mut-table.ensures.value _ claim.3 in
@@ -80,8 +88,9 @@ returns-clause-step g c =
 pub returns-clause-room : goal.returns-clause-room
 returns-clause-room g c =
     let b = c.requires.before.1 in
-    let p = c.index_mut-place.result.now in
-    let here = stands_here b p c.index_mut-place.ensures.value in
+    let r = c.index_mut-place.result.now in
+    let p = place_of r in
+    let here = stands_here c.args.core.now.places.items b r c.index_mut-place.ensures.value in
     let before = sym c.replace.ensures.value ∙ c.in-Grow.is in
     let claim = claim_at c.requires.sound c.args.step.thread p here before in
     let held = (list_read c.args.core.now.tables.items p.shard c.index_mut-table.result.now c.index_mut-table.ensures.value _ claim.3).0 in
@@ -119,8 +128,9 @@ returns-clause-room g c =
 pub returns-in_default-reserve_exact-clause-step : goal.returns-in_default-reserve_exact-clause-step
 returns-in_default-reserve_exact-clause-step g c =
     let b = c.requires.before.1 in
-    let p = c.index_mut-place.result.now in
-    let here = stands_here b p c.index_mut-place.ensures.value in
+    let r = c.index_mut-place.result.now in
+    let p = place_of r in
+    let here = stands_here c.args.core.now.places.items b r c.index_mut-place.ensures.value in
     let before = sym c.replace.ensures.value ∙ c.in-Grow.is in
     let claim = claim_at c.requires.sound c.args.step.thread p here before in
     let table = list_read c.args.core.now.tables.items p.shard c.index_mut-table.result.now c.index_mut-table.ensures.value _ claim.3 in
@@ -142,8 +152,9 @@ returns-in_default-reserve_exact-clause-step g c =
 pub returns-in_default-reserve_exact-clause-room : goal.returns-in_default-reserve_exact-clause-room
 returns-in_default-reserve_exact-clause-room g c =
     let b = c.requires.before.1 in
-    let p = c.index_mut-place.result.now in
-    let here = stands_here b p c.index_mut-place.ensures.value in
+    let r = c.index_mut-place.result.now in
+    let p = place_of r in
+    let here = stands_here c.args.core.now.places.items b r c.index_mut-place.ensures.value in
     let before = sym c.replace.ensures.value ∙ c.in-Grow.is in
     let claim = claim_at c.requires.sound c.args.step.thread p here before in
     let held = (list_read c.args.core.now.tables.items p.shard c.index_mut-table.result.now c.index_mut-table.ensures.value _ claim.3).0 in
