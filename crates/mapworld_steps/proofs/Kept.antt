@@ -1,5 +1,8 @@
 -- The place that the code reads at a thread's number.
-use Rattle.std.proofs.Common.{◌≡◌, ℕ, ◌<◌, List, [], ◌∷◌, length, map, get_or, Some, slice_get, refl, sym, ap, ◌∙◌}
+use Rattle.std.proofs.Common.{◌≡◌, ℕ, ◌<◌, List, [], ◌∷◌, length, map, get_or, Some, slice_get, refl, sym, ap, ◌∙◌, subst}
+use Rattle.std.proofs.lemmas.List.{length-map}
+use Rattle.dashmap_table.specs.Table.{Table}
+use Rattle.mapworld_state.specs.Shards.{shard_pairs}
 use Rattle.std.proofs.lemmas.Option.{slice_get_read, same_Some}
 use Rattle.mapworld_state.specs.declared.holds.Hold.{Hold}
 use Rattle.mapworld_state.specs.declared.place.Phase.{Phase}
@@ -31,3 +34,7 @@ is_before places t r ph within read before =
 -- a hold is the only one where there is one
 pub only_hold : (hs : List Hold) (a b : Hold) (more : List Hold) → hs ≡ a ∷ more → hs ≡ b ∷ [] → (a ≡ b) × (more ≡ [])
 only_hold hs a b more first one = let both : a ∷ more ≡ b ∷ [] = sym first ∙ one in (cc, cc)
+
+-- the shard that was read at a number that is one's
+pub shard-read : {K V : Type 0} (tables : List (Table K V)) (i : ℕ) (r : Table K V) → i < length (map shard_pairs tables) → r ≡ get_or tables i r → slice_get tables i ≡ Some r
+shard-read tables i r fits read = slice_get_read tables (length tables) i r refl (subst (λ n. i < n) (length-map tables shard_pairs) fits) read

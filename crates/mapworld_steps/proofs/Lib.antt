@@ -3,3 +3,4 @@ pub mod Desks
 pub mod Refused
 pub mod Running
 pub mod Starting
+pub mod Finding
