@@ -16,12 +16,14 @@ use Rattle.mapworld_calls.proofs.Lists.{slice_get-push_at}
 use Rattle.mapworld_moves.specs.declared.blocks.Started.{Started}
 use Rattle.mapworld_moves.specs.Listing.{AddsBlock}
 use Rattle.mapworld_moves.proofs.Slots.{slot-lent, slot-unlent}
+use Rattle.mapworld_state.specs.declared.place.Growth.{Growth}
+use Rattle.mapworld_state.specs.declared.place.Growth.TheVariants as growth
 use Rattle.mapworld_state.specs.declared.place.Guard.{Guard}
 use Rattle.mapworld_state.specs.declared.place.Phase.{Phase}
 use Rattle.mapworld_state.specs.declared.place.Request.{Request}
 use Rattle.mapworld_state.specs.declared.place.Request.TheVariants as request
 use Rattle.mapworld_state.specs.Places.{Place}
-use Rattle.mapworld_state.specs.Moves.{ask_of, request_key, lent_way, opening_way, found_phase, found_guard, found_done, block_behind}
+use Rattle.mapworld_state.specs.Moves.{ask_of, request_of, request_key, lent_way, opening_way, found_phase, found_guard, found_done, block_behind}
 use Rattle.mapworld_state.specs.Slots.{phase_key, slot_key}
 use Rattle.mapworld_state.specs.Steps.{guarded_key}
 
@@ -91,3 +93,8 @@ module _ {K V D T : Type 0} (x : Setup K V D T) (bs bs' : List (Block K)) (n : �
   )
   found-key (request.Begin b) false room added asked mine lends goes key is =
       absurd (none-some key (sym (slot-unlent x bs' p (ap lent_way lends ∙ begin-lends V D T b room) ∙ (ap phase_key goes ∙ begin-free V D T b room)) ∙ is))
+
+-- a growth lists its block
+pub grown-block : {K V : Type 0} (D : Type 0) (call : Growth K V) (n : ℕ) (block : Option ℕ) → Some n ≡ block_behind (found_done {D = D} (request_of call) false true) n block
+grown-block D (growth.Insert k v) n block = refl
+grown-block D (growth.Entry k) n block = refl
