@@ -32,7 +32,7 @@ module _ {K V S H D T : Type 0} (d : deed.Ghosts D K V T) (b : builder.Ghosts S 
   made s n programs opening = record { eq = eq; route = key_route b h writes s n; deeds = deeds_of d; programs = programs; opening = opening }
 
   -- what a world was made with decides its setup
-  pub setup-fixed : {A : Type 0} (w w' : State K V S D T) → StaysFixed w w' → setup_of d b h eq writes w' ≡ setup_of d b h eq writes w
+  pub setup-fixed : (w w' : State K V S D T) → StaysFixed w w' → setup_of d b h eq writes w' ≡ setup_of d b h eq writes w
   setup-fixed w w' f =
       ap (λ s. made s (length w'.tables) w'.programs w'.opening) f.hasher
       ∙ ap (λ n. made w.hasher n w'.programs w'.opening) f.shards

@@ -2,7 +2,9 @@
 use Rattle.std.proofs.Common.{◌≡◌, ℕ, ◌+◌, ◌<◌, List, [], ◌∷◌, ◌++◌, length, get_or, take, map, Option, Some, slice_get, ap, ap₂, sym, ◌∙◌, subst, inl, inr}
 use Rattle.std.specs.List.{flat_map}
 use Rattle.std.specs.Option.{option_and_then, option_map}
-use Rattle.mapworld_state.specs.Shards.{ShardPairs}
+use Rattle.mapworld_state.specs.Shards.{ShardPairs, shard_pairs}
+use Rattle.dashmap_table.specs.Table.{Table}
+use Rattle.dashmap_view.specs.Views.{all_pairs}
 use Rattle.std.proofs.lemmas.Grind.{flat_map-append}
 use Rattle.std.proofs.lemmas.List.{take_more, append-nil}
 use Rattle.std.proofs.lemmas.List.Folds.{flat_map-map}
@@ -14,6 +16,10 @@ use Rattle.mapworld.specs.Tables.{joined, AreRouted, AreEachDistinct}
 use Rattle.mapworld_state.specs.Sound.{TablesAgree}
 use Rattle.dashmap_table.proofs.Cases.{option_cases}
 use Rattle.mapworld.proofs.Joins.{AreDistinct-joined, pair_of-joined}
+
+-- the pairs of all shards are those that contracts see
+pub seen-pairs : {K V : Type 0} (tables : List (Table K V)) → all_pairs tables ≡ flat_map (λ (t : ShardPairs K V). t.items) (map shard_pairs tables)
+seen-pairs {K} {V} tables = sym (flat_map-map (λ (t : ShardPairs K V). t.items) shard_pairs tables)
 
 -- a mapped list's elements
 pub map_at : {X Y : Type 0} (f : X → Y) (xs : List X) (i : ℕ) (y : Y) → slice_get (map f xs) i ≡ Some y → (x : X) × (slice_get xs i ≡ Some x) × (f x ≡ y)

@@ -1,7 +1,7 @@
 //! The pairs of all shards.
 ghost use Rattle.std.specs.Prelude.{◌≡◌, map, IfOk};
 ghost use Rattle.std.specs.Option.{option_map};
-ghost use Rattle.mapworld_calls.specs.Pairs.{pair_of};
+ghost use Rattle.mapworld_calls.specs.Pairs.{pair_of, AreDistinct};
 ghost use Rattle.mapworld_state.specs.Shards.{shard_pairs};
 ghost use Rattle.mapworld_state.specs.Slots.{HasHashes, key_hash};
 ghost use Rattle.dashmap_view.specs.Views.{all_pairs};
@@ -34,7 +34,8 @@ pub(crate) fn pair_in<'a, K: Eq + Hash, V, S: BuildHasher, A: Allocator>(
     hasher: &S,
     key: &K,
 ) -> Option<(&'a K, &'a V)>
-    requires { HasHashes (key_hash S.BuildHasher S.Hasher.Hasher K.hash_input hasher.now) shard.now }
+    requires hashed { HasHashes (key_hash S.BuildHasher S.Hasher.Hasher K.hash_input hasher.now) shard.now }
+    requires distinct { AreDistinct K.eq (shard_pairs shard.now).items }
     ensures { option_map shown result ≡ pair_of K.eq (shard_pairs shard.now).items key.now }
 {
     match find_pair(shard, hasher, key) {

@@ -55,13 +55,13 @@ impl<K: Eq + Hash, V, S: BuildHasher, D: Deed<K, V>, A: Allocator> Model
     for MapWorld<K, V, S, D, A> {
     ghost use Rattle.mapworld_state.specs.State.{State};
 
-    ghost Value = { State K V S D D.Answer A };
+    ghost Value = { State K V S D D.Answer };
 
-    ghost use Rattle.mapworld_state.specs.Core.{state_of, IsSoundCore, Room};
+    ghost use Rattle.mapworld_state.specs.Core.{state_of, IsSoundCore, IsSlotted, Room};
 
     ghost view = { λ w. state_of w.core };
 
-    ghost invariant = { λ w. IsSoundCore D.Deed S.BuildHasher S.Hasher.Hasher K.eq K.hash_input w.core × Room w.core };
+    ghost invariant = { λ w. IsSoundCore D.Deed S.BuildHasher S.Hasher.Hasher K.eq K.hash_input w.core × Room w.core × IsSlotted D.Deed S.BuildHasher S.Hasher.Hasher K.eq K.hash_input w.core };
 }
 
 impl<K: Eq + Hash, V, S: BuildHasher, D: Deed<K, V>, A: Allocator> MapWorld<K, V, S, D, A> {
@@ -86,7 +86,7 @@ impl<K: Eq + Hash, V, S: BuildHasher, D: Deed<K, V>, A: Allocator> MapWorld<K, V
         ensures { option_map shown result ≡ pair_of K.eq (pairs_of self.now) key.now }
     {
         let shard = steps::shard_of(&self.core.hasher, self.core.tables.len(), key);
-        contents::pair_in(&self.core.tables[shard], key)
+        contents::pair_in(&self.core.tables[shard], &self.core.hasher, key)
     }
 
     /// The pairs of the map as it is now, lent one after another, in any order. It takes no memory and cannot fail.
@@ -238,7 +238,7 @@ where
     V: Drop,
     S: BuildHasher,
     D: Deed<K, V> + Drop,
-    A: Allocator,
+    A: Allocator + Clone,
 {
     /// Makes a step, or says why not, where so many steps of the run are done.
     fn make_step(&mut self, step: Step, done: u64) -> Result<(), RunFault>
