@@ -2,15 +2,13 @@
 ghost use Rattle.std.specs.Prelude.{◌≡◌, ◌+◌, ◌≤◌, true, if◌then◌else◌};
 ghost use Rattle.mapworld_state.specs.declared.place.Phase.TheVariants as phase;
 ghost use Rattle.mapworld_state.specs.Running.{has_numbers};
-ghost use Rattle.mapworld_state.specs.Core.{state_of, Room, IsBefore, IsSoundCore, MakesStep};
+ghost use Rattle.mapworld_state.specs.Core.{state_of, Room, IsBefore, IsSoundCore, IsSlotted, MakesStep};
 ghost use Rattle.mapworld_state.specs.Steps.{Appends, Applies, Views, Reads, Changes, Fills};
 
 use mapworld_calls::{Answer, Deed};
 use mapworld_moves::blocks::{Started, count_in, list_block};
-use mapworld_moves::moves::{
-    changed_phase, ends_guard, enter, lent_pair, lent_slot, takes_pair, vacant_key,
-};
-use mapworld_moves::{apply_at, change_at};
+use mapworld_moves::moves::{changed_phase, ends_guard, enter, lent_way, takes_pair, vacant_key};
+use mapworld_moves::pairs::{add_pair, apply_at, change_at, pair_at};
 use mapworld_state::{Core, Guard, Phase, Step, Way};
 use std::alloc::Allocator;
 use std::hash::{BuildHasher, Hash};
@@ -22,10 +20,12 @@ pub fn append<K: Eq + Hash + Drop, V: Drop, S: BuildHasher, D: Deed<K, V> + Drop
     step: Step,
 )
     requires sound { IsSoundCore D.Deed S.BuildHasher S.Hasher.Hasher K.eq K.hash_input core.old }
+    requires slots { IsSlotted D.Deed S.BuildHasher S.Hasher.Hasher K.eq K.hash_input core.old }
     requires room { Room core.old }
     requires numbers { has_numbers (state_of core.old) ≡ true }
-    requires before { (key : _) × (value : _) × IsBefore core.old.places.items step.thread (phase.Append key value) }
+    requires before { (key : _) × (value : _) × IsBefore (state_of core.old).places step.thread (phase.Append key value) }
     ensures step { MakesStep Appends D.Deed S.BuildHasher S.Hasher.Hasher K.eq K.hash_input core.old step core.new }
+    ensures slots { IsSlotted D.Deed S.BuildHasher S.Hasher.Hasher K.eq K.hash_input core.new }
     ensures room { Room core.new }
 {
     let place = &mut core.places[step.thread];
@@ -33,8 +33,8 @@ pub fn append<K: Eq + Hash + Drop, V: Drop, S: BuildHasher, D: Deed<K, V> + Drop
     else {
         unreachable!()
     };
-    let table = &mut core.tables[place.shard];
-    table.push_reserved((key, value));
+    let shard = &mut core.tables[place.shard];
+    let _slot = add_pair(shard, &core.hasher, key, value);
     count_in(&mut core.blocks, place.block, place.next);
     core.pairs += 1;
     core.count += 1;
@@ -55,18 +55,20 @@ pub fn apply<K: Eq + Hash + Drop, V: Drop, S: BuildHasher, D: Deed<K, V> + Drop,
     step: Step,
 )
     requires sound { IsSoundCore D.Deed S.BuildHasher S.Hasher.Hasher K.eq K.hash_input core.old }
+    requires slots { IsSlotted D.Deed S.BuildHasher S.Hasher.Hasher K.eq K.hash_input core.old }
     requires room { Room core.old }
     requires numbers { has_numbers (state_of core.old) ≡ true }
-    requires before { (slot : _) × (call : _) × IsBefore core.old.places.items step.thread (phase.Apply slot call) }
+    requires before { (call : _) × IsBefore (state_of core.old).places step.thread (phase.Apply call) }
     ensures step { MakesStep Applies D.Deed S.BuildHasher S.Hasher.Hasher K.eq K.hash_input core.old step core.new }
+    ensures slots { IsSlotted D.Deed S.BuildHasher S.Hasher.Hasher K.eq K.hash_input core.new }
     ensures room { Room core.new }
 {
     let place = &mut core.places[step.thread];
-    let Phase::Apply(slot, call) = mem::replace(&mut place.phase, Phase::Rest) else {
+    let Phase::Apply(call) = mem::replace(&mut place.phase, Phase::Rest) else {
         unreachable!()
     };
-    let table = &mut core.tables[place.shard];
-    let (answer, gone) = apply_at(table, slot, call);
+    let shard = &mut core.tables[place.shard];
+    let (answer, gone) = apply_at(shard, place.slot, call);
     enter(&mut place.phase, Phase::Release(answer));
     count_in(&mut core.blocks, place.block, place.next);
     core.pairs = less_one(core.pairs, gone);
@@ -80,10 +82,12 @@ pub fn view<K: Eq + Hash + Drop, V: Drop, S: BuildHasher, D: Deed<K, V> + Drop, 
     step: Step,
 )
     requires sound { IsSoundCore D.Deed S.BuildHasher S.Hasher.Hasher K.eq K.hash_input core.old }
+    requires slots { IsSlotted D.Deed S.BuildHasher S.Hasher.Hasher K.eq K.hash_input core.old }
     requires room { Room core.old }
     requires numbers { has_numbers (state_of core.old) ≡ true }
-    requires before { (slot : _) × (key : _) × (deed : _) × IsBefore core.old.places.items step.thread (phase.View slot key deed) }
+    requires before { (key : _) × (deed : _) × IsBefore (state_of core.old).places step.thread (phase.View key deed) }
     ensures step { MakesStep Views D.Deed S.BuildHasher S.Hasher.Hasher K.eq K.hash_input core.old step core.new }
+    ensures slots { IsSlotted D.Deed S.BuildHasher S.Hasher.Hasher K.eq K.hash_input core.new }
     ensures room { Room core.new }
 {
     let number = core.count + 1;
@@ -92,14 +96,13 @@ pub fn view<K: Eq + Hash + Drop, V: Drop, S: BuildHasher, D: Deed<K, V> + Drop, 
     let Some(start) = place.started else {
         unreachable!()
     };
-    let Phase::View(slot, _, deed) = mem::replace(&mut place.phase, Phase::Rest) else {
+    let Phase::View(_, deed) = mem::replace(&mut place.phase, Phase::Rest) else {
         unreachable!()
     };
-    let table = &core.tables[place.shard];
-    let pair = &table[slot];
+    let (key, value) = pair_at(&core.tables[place.shard], place.slot);
     enter(
         &mut place.phase,
-        Phase::Release(Answer::Read(deed.answer(&pair.0, &pair.1))),
+        Phase::Release(Answer::Read(deed.answer(key, value))),
     );
     let started = Started {
         thread: step.thread,
@@ -118,24 +121,22 @@ pub fn read<K: Eq + Hash + Drop, V: Drop, S: BuildHasher, D: Deed<K, V> + Drop, 
     step: Step,
 )
     requires sound { IsSoundCore D.Deed S.BuildHasher S.Hasher.Hasher K.eq K.hash_input core.old }
+    requires slots { IsSlotted D.Deed S.BuildHasher S.Hasher.Hasher K.eq K.hash_input core.old }
     requires room { Room core.old }
     requires numbers { has_numbers (state_of core.old) ≡ true }
-    requires before { (deed : _) × IsBefore core.old.places.items step.thread (phase.Read deed) }
+    requires before { (deed : _) × IsBefore (state_of core.old).places step.thread (phase.Read deed) }
     ensures step { MakesStep Reads D.Deed S.BuildHasher S.Hasher.Hasher K.eq K.hash_input core.old step core.new }
+    ensures slots { IsSlotted D.Deed S.BuildHasher S.Hasher.Hasher K.eq K.hash_input core.new }
     ensures room { Room core.new }
 {
     let place = &mut core.places[step.thread];
     let Phase::Read(deed) = mem::replace(&mut place.phase, Phase::Rest) else {
         unreachable!()
     };
-    let Some(slot) = lent_slot(&place.guard) else {
-        unreachable!()
-    };
-    let table = &core.tables[place.shard];
-    let pair = &table[slot];
+    let (key, value) = pair_at(&core.tables[place.shard], place.slot);
     enter(
         &mut place.phase,
-        Phase::Answer(Answer::Read(deed.answer(&pair.0, &pair.1))),
+        Phase::Answer(Answer::Read(deed.answer(key, value))),
     );
     count_in(&mut core.blocks, place.block, place.next);
     core.count += 1;
@@ -148,23 +149,25 @@ pub fn change<K: Eq + Hash + Drop, V: Drop, S: BuildHasher, D: Deed<K, V> + Drop
     step: Step,
 )
     requires sound { IsSoundCore D.Deed S.BuildHasher S.Hasher.Hasher K.eq K.hash_input core.old }
+    requires slots { IsSlotted D.Deed S.BuildHasher S.Hasher.Hasher K.eq K.hash_input core.old }
     requires room { Room core.old }
     requires numbers { has_numbers (state_of core.old) ≡ true }
-    requires before { (call : _) × IsBefore core.old.places.items step.thread (phase.Change call) }
+    requires before { (call : _) × IsBefore (state_of core.old).places step.thread (phase.Change call) }
     ensures step { MakesStep Changes D.Deed S.BuildHasher S.Hasher.Hasher K.eq K.hash_input core.old step core.new }
+    ensures slots { IsSlotted D.Deed S.BuildHasher S.Hasher.Hasher K.eq K.hash_input core.new }
     ensures room { Room core.new }
 {
     let place = &mut core.places[step.thread];
     let Phase::Change(call) = mem::replace(&mut place.phase, Phase::Rest) else {
         unreachable!()
     };
-    let Some((way, slot)) = lent_pair(mem::replace(&mut place.guard, None)) else {
+    let Some(way) = lent_way(mem::replace(&mut place.guard, None)) else {
         unreachable!()
     };
     let ends = ends_guard(&call);
     let gone = takes_pair(&call);
-    let table = &mut core.tables[place.shard];
-    let (answer, guard) = change_at(table, slot, call, way);
+    let shard = &mut core.tables[place.shard];
+    let (answer, guard) = change_at(shard, place.slot, call, way);
     place.guard = guard;
     enter(&mut place.phase, changed_phase(ends, answer));
     count_in(&mut core.blocks, place.block, place.next);
@@ -179,10 +182,12 @@ pub fn fill<K: Eq + Hash + Drop, V: Drop, S: BuildHasher, D: Deed<K, V> + Drop, 
     step: Step,
 )
     requires sound { IsSoundCore D.Deed S.BuildHasher S.Hasher.Hasher K.eq K.hash_input core.old }
+    requires slots { IsSlotted D.Deed S.BuildHasher S.Hasher.Hasher K.eq K.hash_input core.old }
     requires room { Room core.old }
     requires numbers { has_numbers (state_of core.old) ≡ true }
-    requires before { (value : _) × IsBefore core.old.places.items step.thread (phase.Fill value) }
+    requires before { (value : _) × IsBefore (state_of core.old).places step.thread (phase.Fill value) }
     ensures step { MakesStep Fills D.Deed S.BuildHasher S.Hasher.Hasher K.eq K.hash_input core.old step core.new }
+    ensures slots { IsSlotted D.Deed S.BuildHasher S.Hasher.Hasher K.eq K.hash_input core.new }
     ensures room { Room core.new }
 {
     let place = &mut core.places[step.thread];
@@ -192,10 +197,9 @@ pub fn fill<K: Eq + Hash + Drop, V: Drop, S: BuildHasher, D: Deed<K, V> + Drop, 
     let Some(key) = vacant_key(mem::replace(&mut place.guard, None)) else {
         unreachable!()
     };
-    let table = &mut core.tables[place.shard];
-    place.guard = Some(Guard::Pair(Way::Exclusive, table.len()));
-    let pair = (key, value);
-    table.push_reserved(pair);
+    let shard = &mut core.tables[place.shard];
+    place.slot = add_pair(shard, &core.hasher, key, value);
+    place.guard = Some(Guard::Pair(Way::Exclusive));
     count_in(&mut core.blocks, place.block, place.next);
     core.pairs += 1;
     core.count += 1;

@@ -42,6 +42,24 @@ module _ {K V D T : Type 0} {places : List (Place K V D T)} {t : ℕ} {ph : Phas
   pub phase_here : r.phase ≡ ph
   phase_here = subst (λ (q : Place K V D T). q.phase ≡ ph) (sym read_is) b.before
 
+-- so of the place that the code keeps
+module _ {K V D T A : Type 0} (places : List (KeptPlace K V D T A)) {t : ℕ} {ph : Phase K V D T} (b : IsBefore (map place_of places) t ph) (r : KeptPlace K V D T A) (read : r ≡ get_or places t r) where
+  kept-is : (slice_get places t ≡ Some r) × (place_of r ≡ b.place)
+  kept-is =
+      let v = view-from place_of places t b.place b.stands in
+      let same : r ≡ v.0 = read ∙ get_or_from_slice_get places t v.0 r v.1 in
+      (v.1 ∙ ap (λ z. Some z) (sym same), ap place_of same ∙ v.2)
+
+  pub kept-here : slice_get places t ≡ Some r
+  kept-here = kept-is.0
+
+  -- as contracts see it
+  pub seen-here : slice_get (map place_of places) t ≡ Some (place_of r)
+  seen-here = b.stands ∙ ap (λ z. Some z) (sym kept-is.1)
+
+  pub kept-phase : r.phase ≡ ph
+  kept-phase = ap (λ (z : Place K V D T). z.phase) kept-is.1 ∙ b.before
+
 -- what was read at an index at which an element is known
 pub read_at : {X : Type 0} (xs : List X) (i : ℕ) (x r : X) → slice_get xs i ≡ Some x → r ≡ get_or xs i r → r ≡ x
 read_at xs i x r h e = e ∙ get_or_from_slice_get xs i x r h

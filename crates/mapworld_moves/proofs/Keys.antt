@@ -1,19 +1,18 @@
 -- What a shard has at the key of a deed, and at that of a guard's session.
-use Rattle.std.proofs.Common.{◌≡◌, ℕ, ◌-◌, ◌≤◌, true, Bool, length, Option, Some, None, slice_get, inr, refl, sym, ap, ◌∙◌, subst, arith}
+use Rattle.std.proofs.Common.{◌≡◌, ℕ, ◌-◌, true, Bool, length, Option, Some, None, slice_get, inr, refl, sym, ap, ◌∙◌, subst, arith}
 use Rattle.std.specs.Cmp.{IsEquivalence}
 use Rattle.std.specs.Hash.{HashWrites}
 use Rattle.std.specs.Option.{option_and_then}
 use Rattle.std.specs.declared.hash.BuildHasher as builder
 use Rattle.std.specs.declared.hash.Hasher as hasher
-use Rattle.std.proofs.lemmas.Option.{none-some, same_Some}
+use Rattle.std.proofs.lemmas.Option.{none-some}
 use Rattle.dashmap_table.specs.Route.{route_of, hash_of}
-use Rattle.mapworld_calls.specs.declared.block.Block.{Block}
 use Rattle.mapworld_calls.specs.declared.deed.Deed as deed
 use Rattle.mapworld_calls.specs.Programs.{key_of}
-use Rattle.mapworld_calls.specs.Setup.{Setup, Laws, ask_at}
+use Rattle.mapworld_calls.specs.Setup.{Setup, Laws}
 use Rattle.mapworld_calls.specs.Pairs.{pair_of}
 use Rattle.mapworld_calls.specs.Calls.{At, pair_in}
-use Rattle.mapworld_calls.specs.Replay.{reached, block_key, is_key, found, contents}
+use Rattle.mapworld_calls.specs.Replay.{reached, block_key, is_key, found}
 use Rattle.mapworld_calls.proofs.Grown.{Grows, contents-were}
 use Rattle.mapworld_calls.proofs.Handed.{Handed, of-block, block-handed}
 use Rattle.mapworld_state.specs.declared.place.Way.{Way}

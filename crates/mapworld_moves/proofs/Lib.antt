@@ -5,3 +5,4 @@ pub mod Weights
 pub mod Putting
 pub mod Slots
 pub mod Keys
+pub mod Leaving

@@ -1,5 +1,5 @@
 -- A step of one thread leaves room, if what its place may still take falls by as much as is taken.
-use Rattle.std.proofs.Common.{◌≡◌, ℕ, ◌+◌, ◌<◌, ◌≤◌, ◌^◌, Bool, true, false, ◌==◌, ◌||◌, if◌then◌else◌, List, [], ◌∷◌, length, length-append, eq-eqb, eqb-true, Option, Some, None, slice_get, slice_set, sum_by, vec_len, vec_capacity, refl, sym, ap, ◌∙◌, subst, arith, length-set, leb-true, ⊎_elim}
+use Rattle.std.proofs.Common.{◌≡◌, ℕ, ◌+◌, ◌<◌, ◌≤◌, ◌^◌, Bool, true, false, ◌==◌, ◌||◌, if◌then◌else◌, List, [], ◌∷◌, length, length-append, eq-eqb, eqb-true, Some, slice_get, slice_set, sum_by, vec_len, vec_capacity, refl, sym, ap, ◌∙◌, subst, arith, length-set, leb-true, ⊎_elim}
 use Rattle.mapworld_calls.proofs.Lists.{slice_get-set_cases, sum_by-set, sum_by-at}
 use Rattle.mapworld_state.specs.declared.holds.Hold.{Hold}
 use Rattle.std.proofs.lemmas.Bool.{false_from_ne_true}

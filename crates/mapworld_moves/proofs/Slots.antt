@@ -1,12 +1,12 @@
 -- Slots go on to have their pairs: blocks keep their calls, and while a thread holds a shard alone no other thread has a slot there.
-use Rattle.std.proofs.Common.{◌≡◌, ◌≢◌, ℕ, ◌+◌, Bool, true, false, if◌then◌else◌, ◌==◌, List, [], ◌∷◌, ◌++◌, Option, Some, None, is_some, slice_get, slice_set, MatchBool, inl, inr, ⊎_elim, refl, sym, ap, ap₂, ◌∙◌, subst}
+use Rattle.std.proofs.Common.{◌≡◌, ◌≢◌, ℕ, ◌+◌, Bool, true, if◌then◌else◌, ◌==◌, List, [], ◌∷◌, ◌++◌, Option, Some, None, is_some, slice_get, slice_set, MatchBool, inl, inr, ⊎_elim, refl, sym, ap, ap₂, ◌∙◌, subst}
 use Rattle.std.specs.Option.{option_and_then}
 use Rattle.std.proofs.lemmas.Bool.{cases_Bool, cases_eq}
 use Rattle.std.proofs.lemmas.Option.{none-some, same_Some}
 use Rattle.dashmap_table.specs.Table.{Table}
 use Rattle.dashmap_table.proofs.Cases.{option_cases}
 use Rattle.mapworld_calls.specs.declared.block.Block.{Block}
-use Rattle.mapworld_calls.specs.Programs.{key_of, keyed_key}
+use Rattle.mapworld_calls.specs.Programs.{key_of}
 use Rattle.mapworld_calls.specs.Setup.{Setup, ask_at}
 use Rattle.mapworld_calls.specs.Replay.{block_key}
 use Rattle.mapworld_calls.proofs.Lists.{slice_get-set_same, slice_get-set_other, slice_get-set_cases, slice_get-push_below}
@@ -207,3 +207,51 @@ module _ {K V S D T A : Type 0} (x : Setup K V D T) (hash : K → ℕ) (c : Core
   slots-kept lends blocks free shard slot = slots-same (λ key is.
       let old = slots.found t p key here (slot-was lends blocks free key is) in
       record { table = old.table; held = ap (slice_get c.tables.items) shard ∙ old.held; has = subst (λ i. HasKeyAt x.eq old.table i key) (sym slot) old.has })
+
+  no-slot : p'.guard ≡ None → phase_key p'.phase ≡ None → (key : K) → ¬ (slot_key x bs' (place_of p') ≡ Some key)
+  no-slot guard free key is = none-some key (sym (slot-free x bs' (place_of p') guard free) ∙ is)
+
+  -- a step behind which the place has no slot
+  pub slots-same_free : p'.guard ≡ None → phase_key p'.phase ≡ None → HasSlots x hash c.tables.items bs' (slice_set c.places.items t p')
+  slots-same_free guard free = slots-same (λ key is. absurd (no-slot guard free key is))
+
+  pub slots-alone_free : HoldsShard (place_of p) Exclusive → (table table' : Table K V) → slice_get c.tables.items p.shard ≡ Some table → HasHashes hash table'
+      → p'.guard ≡ None → phase_key p'.phase ≡ None → HasSlots x hash (slice_set c.tables.items p.shard table') bs' (slice_set c.places.items t p')
+  slots-alone_free alone table table' held fresh guard free = slots-alone alone table table' held fresh (λ key is. absurd (no-slot guard free key is))
+
+  -- one that changes the shard which the thread holds alone, behind which a guard may go on to lend the pair in the slot
+  pub slots-alone_lent : HoldsShard (place_of p) Exclusive → (table table' : Table K V) → slice_get c.tables.items p.shard ≡ Some table → HasHashes hash table'
+      → ((kind : Way K) → lent_way p'.guard ≡ Some kind → is_some (lent_way p.guard) ≡ true) → ((i : ℕ) → p'.block ≡ Some i → p.block ≡ Some i) → phase_key p'.phase ≡ None
+      → p'.shard ≡ p.shard → p'.slot ≡ p.slot → ((kind : Way K) → lent_way p'.guard ≡ Some kind → (key : K) → HasKeyAt x.eq table p.slot key → HasKeyAt x.eq table' p.slot key)
+      → HasSlots x hash (slice_set c.tables.items p.shard table') bs' (slice_set c.places.items t p')
+  slots-alone_lent alone table table' held fresh lends blocks free shard slot stays = slots-alone alone table table' held fresh own
+    where
+      own : (key : K) → slot_key x bs' (place_of p') ≡ Some key → (p'.shard ≡ p.shard) × HasKeyAt x.eq table' p'.slot key
+      own key is = elim (option_cases (lent_way p'.guard)) [
+        | inl none ↦ absurd (none-some key (sym (slot-unlent x bs' (place_of p') none ∙ free) ∙ is))
+        | inr some ↦
+            let old = slots.found t p key here (slot-was lends blocks free key is) in
+            let same : old.table ≡ table = same_Some old.table table (sym old.held ∙ held) in
+            (shard, subst (λ i. HasKeyAt x.eq table' i key) (sym slot) (stays some.0 some.1 key (subst (λ (z : Table K V). HasKeyAt x.eq z p.slot key) same old.has)))
+      ]
+
+  -- or a guard begins to lend the pair of its session's key, which has got that slot
+  pub slots-alone_begun : HoldsShard (place_of p) Exclusive → (table table' : Table K V) → slice_get c.tables.items p.shard ≡ Some table → HasHashes hash table'
+      → (kind : Way K) → lent_way p'.guard ≡ Some kind → p'.block ≡ p.block → p'.shard ≡ p.shard → (key : K) → guarded_key x c.blocks.items p.block ≡ Some key → HasKeyAt x.eq table' p'.slot key
+      → HasSlots x hash (slice_set c.tables.items p.shard table') bs' (slice_set c.places.items t p')
+  slots-alone_begun alone table table' held fresh kind lends block shard key key-is has = slots-alone alone table table' held fresh own
+    where
+      own : (q : K) → slot_key x bs' (place_of p') ≡ Some q → (p'.shard ≡ p.shard) × HasKeyAt x.eq table' p'.slot q
+      own q is =
+          let now : guarded_key x bs' p.block ≡ Some q = ap (guarded_key x bs') (sym block) ∙ (sym (slot-lent x bs' (place_of p') kind lends) ∙ is) in
+          let same : key ≡ q = same_Some key q (sym key-is ∙ (sym (key-still x c.blocks.items bs' calls p.block (own-block t p here)) ∙ now)) in
+          (shard, subst (HasKeyAt x.eq table' p'.slot) same has)
+
+-- where a call's pair, and a guard's, stands
+module _ {K V D T A : Type 0} {x : Setup K V D T} {hash : K → ℕ} {tables : List (Table K V)} {bs : List (Block K)} {places : List (KeptPlace K V D T A)} (slots : HasSlots x hash tables bs places)
+    (t : ℕ) (p : KeptPlace K V D T A) (here : slice_get places t ≡ Some p) where
+  pub call-slot : p.guard ≡ None → (key : K) → phase_key p.phase ≡ Some key → IsAt x.eq tables p.shard p.slot key
+  call-slot guard key is = slots.found t p key here (slot-unlent x bs (place_of p) (ap lent_way guard) ∙ is)
+
+  pub guard-slot : (kind : Way K) → p.guard ≡ Some (guard.Pair kind) → (key : K) → guarded_key x bs p.block ≡ Some key → IsAt x.eq tables p.shard p.slot key
+  guard-slot kind guard key is = slots.found t p key here (slot-lent x bs (place_of p) kind (ap lent_way guard) ∙ is)

@@ -1,19 +1,18 @@
 -- The slots of a shard and the list of its pairs: what a key finds in both, and what a call in one slot does to the list.
-use Rattle.std.proofs.Common.{◌≡◌, ℕ, zero, suc, ◌+◌, ◌*◌, ◌≤◌, ◌<◌, ◌^◌, Bool, true, false, cond, ◌==◌, ◌&&◌, if◌then◌else◌, List, [], ◌∷◌, length, Option, Some, None, IfSome, Result, Ok, Err, OnOk, is_some, slice_get, slice_set, slice_index_or, remove, find, count_by, refl, sym, ap, ◌∙◌, subst, inl, inr, IsTrue, arith, eq-eqb, length-set}
+use Rattle.std.proofs.Common.{◌≡◌, ℕ, zero, suc, ◌+◌, ◌≤◌, Bool, true, false, cond, ◌==◌, if◌then◌else◌, List, [], ◌∷◌, length, Option, Some, None, IfSome, Result, Ok, Err, OnOk, is_some, slice_get, slice_set, slice_index_or, remove, find, refl, sym, ap, ◌∙◌, subst, inl, inr, IsTrue, arith, eq-eqb, length-set}
 use Rattle.std.specs.Cmp.{IsEquivalence}
 use Rattle.std.specs.Hash.{HashWrites}
 use Rattle.std.specs.declared.hash.BuildHasher as builder
 use Rattle.std.specs.declared.hash.Hasher as hasher
-use Rattle.std.specs.List.{position}
 use Rattle.std.specs.Option.{option_map, option_and_then}
 use Rattle.std.proofs.lemmas.Bool.{cases_Bool, cases_eq, and_from, and_right, false≢true}
-use Rattle.std.proofs.lemmas.Option.{none-some, same_Some, slice_get_within, get_or_from_slice_get}
+use Rattle.std.proofs.lemmas.Option.{none-some, same_Some, slice_get_within}
 use Rattle.std.proofs.lemmas.List.Edits.{length-remove}
 use Rattle.std.proofs.lemmas.List.{set-get_or, get_or-set_other}
 use Rattle.dashmap_table.specs.declared.entry.Entry.{Entry}
 use Rattle.dashmap_table.specs.Route.{hash_of}
 use Rattle.dashmap_table.specs.Slots.{at, count, holds, slot_of, entry_of, pair_of as entry_pair, pairs_of, entry_with, giving_value, giving_pair, changed, AreDistinct as AreApart}
-use Rattle.dashmap_table.specs.Table.{Table, IsSound, Adds, Frees, SamePairs, with_value, with_pair}
+use Rattle.dashmap_table.specs.Table.{Table, IsSound, Adds, SamePairs, with_value, with_pair}
 use Rattle.dashmap_table.proofs.Cases.{option_cases}
 use Rattle.dashmap_table.proofs.Places.{at-set_same}
 use Rattle.dashmap_table.proofs.Changing.{at-changed, at-changed_other}
@@ -21,10 +20,10 @@ use Rattle.dashmap_table.proofs.Finding.{slot_of-is, slot_of-none}
 use Rattle.dashmap_table.proofs.Sounds.{length-pairs_of}
 use Rattle.dashmap_table.proofs.Effects.{finds-added, each-same, each-added}
 use Rattle.mapworld_calls.specs.Pairs.{has_key, pair_of, AreDistinct}
-use Rattle.mapworld_state.specs.Shards.{ShardPairs, shard_pairs, has_room, number_of, used, Puts, Grown}
+use Rattle.mapworld_state.specs.Shards.{shard_pairs, number_of, used, Puts, Grown}
 use Rattle.mapworld_state.specs.Slots.{HasHashes, HasKeyAt, key_hash}
 use Rattle.mapworld_state.proofs.Finds.{find_at_position, find-None, find-None_from}
-use Rattle.mapworld_state.proofs.Tables.{pair_of-at, pair_of-none, pair_of-put, AreDistinct-put, pair_of-remove, AreDistinct-remove}
+use Rattle.mapworld_state.proofs.Tables.{pair_of-at, pair_of-put, AreDistinct-put, pair_of-remove, AreDistinct-remove}
 use Rattle.mapworld_moves.specs.Slots.{LeavesAt, HashesAlike}
 
 module _ {K V : Type 0} where
@@ -208,6 +207,13 @@ module _ {K V : Type 0} (eq : K → K → Bool) (laws : IsEquivalence eq) where
           subst (λ (d : Entry K V). d.hash ≡ hash d.key) now (hashed i k.entry k.there ∙ alike k.entry.key z.0 (same z refl))
       | inr other ↦ hashed j e (sym (at-changed_other (giving_pair z.0 z.1) old.slots i j other) ∙ (ap (λ (t : Table K V). at t.slots j) (sym is) ∙ here))
     ]
+
+  -- a key that a slot has stays there under a pair that is left in it
+  pub key-kept : (old new : Table K V) (i : ℕ) (key : K) → AreDistinct eq (pairs_of old.slots) → (k : HasKeyAt eq old i key) (z : K × V) → eq k.entry.key z.0 ≡ true → LeavesAt old new i (Some z)
+      → (q : K) → HasKeyAt eq old i q → HasKeyAt eq new i q
+  key-kept old new i key distinct k z same is q has =
+      let one : k.entry ≡ has.entry = same_Some k.entry has.entry (sym k.there ∙ has.there) in
+      key-left old new i q distinct has z (ap (λ (e : Entry K V). eq e.key z.0) (sym one) ∙ same) is
 
   module _ (hash : K → ℕ) (alike : HashesAlike eq hash) where
     -- the pairs of distinct slots are distinct

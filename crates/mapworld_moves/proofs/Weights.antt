@@ -1,7 +1,9 @@
 -- What each kind of step takes of the room that is left.
-use Rattle.std.proofs.Common.{◌≡◌, ℕ, ◌+◌, ◌<◌, ◌≤◌, Bool, true, false, List, length, Option, Some, None, slice_get, slice_set, flat_map, refl, sym, ap, ◌∙◌, arith, length-append}
+use Rattle.std.proofs.Common.{◌≡◌, ℕ, ◌+◌, ◌<◌, ◌≤◌, Bool, true, false, List, length, map, Option, Some, None, slice_get, slice_set, flat_map, refl, sym, ap, ◌∙◌, arith, length-append}
 use Rattle.std.proofs.lemmas.Option.{same_Some}
+use Rattle.std.proofs.lemmas.List.{map-set}
 use Rattle.std.proofs.lemmas.List.Concat.{length-flat_map}
+use Rattle.dashmap_table.specs.Table.{Table}
 use Rattle.mapworld_calls.specs.declared.ask.Ask.{Ask}
 use Rattle.mapworld_calls.specs.declared.ask.Ask.TheVariants as ask
 use Rattle.mapworld_calls.specs.declared.ask.Keyed.TheVariants as keyed
@@ -20,7 +22,8 @@ use Rattle.mapworld_state.specs.declared.place.Phase.{Phase}
 use Rattle.mapworld_state.specs.declared.place.Request.{Request}
 use Rattle.mapworld_state.specs.declared.place.Request.TheVariants as request
 use Rattle.mapworld_state.specs.Places.{Place}
-use Rattle.mapworld_state.specs.Shards.{ShardPairs}
+use Rattle.mapworld_state.specs.Shards.{ShardPairs, shard_pairs}
+use Rattle.mapworld_state.proofs.Views.{view-at}
 use Rattle.mapworld_state.specs.State.{State, next_step}
 use Rattle.mapworld_state.specs.Moves.{start_phase, changed_phase, request_of, found_phase, found_done, block_behind, ListsBlock}
 use Rattle.mapworld_state.specs.Core.{owes, lists, adds}
@@ -172,6 +175,15 @@ pairs_set {K} {V} tables i old new h =
     let after = length-flat_map f (slice_set tables i new) in
     let change = sum_by-set (λ (t : ShardPairs K V). length t.items) tables i old new h in
     omega (arith, before, after, change)
+
+-- so of the shards that the code keeps
+pub pairs_put : {K V : Type 0} (tables : List (Table K V)) (i : ℕ) (old new : Table K V) → slice_get tables i ≡ Some old
+    → length (flat_map (λ (t : ShardPairs K V). t.items) (map shard_pairs (slice_set tables i new))) + length (shard_pairs old).items ≡ length (flat_map (λ (t : ShardPairs K V). t.items) (map shard_pairs tables)) + length (shard_pairs new).items
+pairs_put {K} {V} tables i old new h =
+    let set : length (flat_map (λ (t : ShardPairs K V). t.items) (map shard_pairs (slice_set tables i new))) ≡ length (flat_map (λ (t : ShardPairs K V). t.items) (slice_set (map shard_pairs tables) i (shard_pairs new))) =
+    ap (λ (ts : List (ShardPairs K V)). length (flat_map (λ (t : ShardPairs K V). t.items) ts)) (map-set shard_pairs tables i new) in
+    let change = pairs_set (map shard_pairs tables) i (shard_pairs old) (shard_pairs new) (view-at shard_pairs tables i old h) in
+    omega (arith, set, change)
 
 -- where a shard keeps its pairs, or their number, there are as many
 pub pairs_kept : {K V : Type 0} (tables : List (ShardPairs K V)) (i : ℕ) (old new : ShardPairs K V) → slice_get tables i ≡ Some old → length new.items ≡ length old.items

@@ -1,101 +1,172 @@
-use Rattle.std.proofs.Common.{length, refl, sym, ap, ◌∙◌, arith, length-append, length-set}
+use Rattle.std.proofs.Common.{length, Some, refl, sym, ap, ◌∙◌, arith, length-append, length-set}
 use Rattle.std.proofs.lemmas.Option.{slice_get_within}
-use Rattle.mapworld_state.specs.Core.{owes, lists, adds}
+use Rattle.std.proofs.lemmas.List.{map-set}
+use Rattle.dashmap_table.specs.Slots.{pair_of as entry_pair}
+use Rattle.mapworld_calls.specs.Calls.{keyed_leaves}
+use Rattle.mapworld_state.specs.declared.place.Phase.TheVariants as phase
+use Rattle.mapworld_state.specs.Places.{place_of}
+use Rattle.mapworld_state.specs.Shards.{shard_pairs, number_of}
+use Rattle.mapworld_state.specs.Slots.{phase_key}
+use Rattle.mapworld_state.specs.Core.{state_of, owes, lists, adds}
+use Rattle.mapworld_state.specs.World.{deeds_of}
 use Rattle.mapworld_moves.proofs.Rooms.{shifted, same_desks}
-use Rattle.mapworld_moves.proofs.Facts.{stands_here, phase_here, claim_at, next_fits, pair_read, deed_counts}
-use Rattle.mapworld_moves.proofs.Weights.{pairs_set, pairs_at}
+use Rattle.mapworld_moves.proofs.Facts.{kept-here, seen-here, kept-phase, claim_at, next_fits, deed_counts, stepped-by}
+use Rattle.mapworld_moves.proofs.Leaving.{at-some, stands-in, keyed-keeps, gone-number}
+use Rattle.mapworld_moves.proofs.Slots.{calls-counted, call-slot, slots-alone_free}
+use Rattle.mapworld_moves.proofs.Slotted.{hashes-alike, hashes-left, puts-left}
+use Rattle.mapworld_moves.proofs.Weights.{pairs_put, pairs_at}
 use Rattle.mapworld_deeds.proofs.deeds.apply.Goals as goal
 
-pub index_mut-table-requires : goal.index_mut-table-requires
-index_mut-table-requires g c =
-    let b = c.requires.before.2 in
+pub index_mut-shard-requires : goal.index_mut-shard-requires
+index_mut-shard-requires g c =
+    let core = c.args.core.now in
     let p = c.index_mut-place.result.now in
-    let here = stands_here b p c.index_mut-place.ensures.value in
-    let claim = claim_at c.requires.sound c.args.step.thread p here (phase_here b p c.index_mut-place.ensures.value) in
-    omega (arith, slice_get_within c.args.core.now.tables.items p.shard claim.3.table claim.3.held, c.args.core.now.tables.ok.0)
+    let here = kept-here core.places.items c.requires.before.1 p c.index_mut-place.ensures.value in
+    let seen = seen-here core.places.items c.requires.before.1 p c.index_mut-place.ensures.value in
+    let before = kept-phase core.places.items c.requires.before.1 p c.index_mut-place.ensures.value in
+    let claim = claim_at c.requires.sound c.args.step.thread (place_of p) seen before in
+    let is = call-slot c.requires.slots c.args.step.thread p here claim.2.guard _ (ap phase_key before) in
+    omega (arith, slice_get_within core.tables.items p.shard is.table is.held, core.tables.ok.0)
 
 pub apply_at-answer-requires : goal.apply_at-answer-requires
 apply_at-answer-requires g c =
-    let b = c.requires.before.2 in
+    let core = c.args.core.now in
     let p = c.index_mut-place.result.now in
-    let here = stands_here b p c.index_mut-place.ensures.value in
-    let before = sym c.replace.ensures.value ∙ c.in-Apply.is in
-    let claim = claim_at c.requires.sound c.args.step.thread p here before in
-    let table = pair_read c.args.core.now.tables.items p.shard c.index_mut-table.result.now c.index_mut-table.ensures.value c.in-Apply.slot claim.0 claim.3 in
-    omega (arith, slice_get_within c.index_mut-table.result.now.items c.in-Apply.slot claim.0 table.1, c.index_mut-table.result.now.ok.0)
+    let here = kept-here core.places.items c.requires.before.1 p c.index_mut-place.ensures.value in
+    let seen = seen-here core.places.items c.requires.before.1 p c.index_mut-place.ensures.value in
+    let before = kept-phase core.places.items c.requires.before.1 p c.index_mut-place.ensures.value in
+    let claim = claim_at c.requires.sound c.args.step.thread (place_of p) seen before in
+    let is = call-slot c.requires.slots c.args.step.thread p here claim.2.guard _ (ap phase_key before) in
+    let there = stands-in _ core c.requires.sound g.met.K.Eq.laws p.shard p.slot _ is c.index_mut-shard.result.now c.index_mut-shard.ensures.value in
+    record { full = there.full }
 
 pub count_in-requires-clause-listed : goal.count_in-requires-clause-listed
 count_in-requires-clause-listed g c =
-    let b = c.requires.before.2 in
+    let core = c.args.core.now in
     let p = c.index_mut-place.result.now in
-    let here = stands_here b p c.index_mut-place.ensures.value in
-    let before = sym c.replace.ensures.value ∙ c.in-Apply.is in
-    let claim = claim_at c.requires.sound c.args.step.thread p here before in
-    deed_counts _ _ c.args.core.now.tables.items _ p _ _ claim.2
+    let here = kept-here core.places.items c.requires.before.1 p c.index_mut-place.ensures.value in
+    let seen = seen-here core.places.items c.requires.before.1 p c.index_mut-place.ensures.value in
+    let before = kept-phase core.places.items c.requires.before.1 p c.index_mut-place.ensures.value in
+    let claim = claim_at c.requires.sound c.args.step.thread (place_of p) seen before in
+    deed_counts _ _ (state_of core).tables _ (place_of p) _ _ claim.2
 
 pub count_in-requires-clause-fits : goal.count_in-requires-clause-fits
 count_in-requires-clause-fits g c =
-    let b = c.requires.before.2 in
+    let core = c.args.core.now in
     let p = c.index_mut-place.result.now in
-    let here = stands_here b p c.index_mut-place.ensures.value in
-    let fits = next_fits c.requires.sound c.args.step.thread p here (phase_here b p c.index_mut-place.ensures.value) in
+    let seen = seen-here core.places.items c.requires.before.1 p c.index_mut-place.ensures.value in
+    let before = kept-phase core.places.items c.requires.before.1 p c.index_mut-place.ensures.value in
+    let fits = next_fits c.requires.sound c.args.step.thread (place_of p) seen before in
     omega (arith, fits, c.requires.room.calls_fit)
 
 pub less_one-core-requires : goal.less_one-core-requires
 less_one-core-requires g c =
-    let b = c.requires.before.2 in
+    let core = c.args.core.now in
     let p = c.index_mut-place.result.now in
-    let here = stands_here b p c.index_mut-place.ensures.value in
+    let here = kept-here core.places.items c.requires.before.1 p c.index_mut-place.ensures.value in
+    let seen = seen-here core.places.items c.requires.before.1 p c.index_mut-place.ensures.value in
     let before = sym c.replace.ensures.value ∙ c.in-Apply.is in
-    let claim = claim_at c.requires.sound c.args.step.thread p here before in
-    let table = pair_read c.args.core.now.tables.items p.shard c.index_mut-table.result.now c.index_mut-table.ensures.value c.in-Apply.slot claim.0 claim.3 in
-    let part = pairs_at c.args.core.now.tables.items p.shard c.index_mut-table.result.now table.0 in
-    omega (arith, c.apply_at-answer.ensures.len, part, c.requires.room.pairs, c.index_mut-table.result.now.ok.0)
+    let claim = claim_at c.requires.sound c.args.step.thread (place_of p) seen before in
+    let is = call-slot c.requires.slots c.args.step.thread p here claim.2.guard _ (ap phase_key before) in
+    let there = stands-in _ core c.requires.sound g.met.K.Eq.laws p.shard p.slot _ is c.index_mut-shard.result.now c.index_mut-shard.ensures.value in
+    let e = there.has.entry in
+    let deeds = deeds_of g.D.Deed in
+    let left = keyed_leaves deeds c.in-Apply.call (Some (entry_pair e)) in
+    let leaves = at-some _ _ e there.has.there c.apply_at-answer.ensures.leaves in
+    let keeps = keyed-keeps deeds g.K.PartialEq.eq g.met.K.Eq.laws c.in-Apply.call (entry_pair e) in
+    let puts = puts-left g.K.PartialEq.eq g.met.K.Eq.laws c.index_mut-shard.result.now c.apply_at-answer.new.shard p.slot _ there.distinct there.has left keeps leaves in
+    let gone = gone-number left c.apply_at-answer.result.1 (at-some _ _ e there.has.there c.apply_at-answer.ensures.gone) in
+    let was = ap number_of there.pair in
+    let part = pairs_at (state_of core).tables p.shard (shard_pairs c.index_mut-shard.result.now) there.seen in
+    omega (arith, puts.counted, gone, was, part, c.requires.room.pairs)
 
 pub returns-clause-step : goal.returns-clause-step
 returns-clause-step g c =
-    let b = c.requires.before.2 in
+    let core = c.args.core.now in
     let p = c.index_mut-place.result.now in
-    let here = stands_here b p c.index_mut-place.ensures.value in
+    let here = kept-here core.places.items c.requires.before.1 p c.index_mut-place.ensures.value in
+    let seen = seen-here core.places.items c.requires.before.1 p c.index_mut-place.ensures.value in
     let before = sym c.replace.ensures.value ∙ c.in-Apply.is in
-    let claim = claim_at c.requires.sound c.args.step.thread p here before in
-    let table = pair_read c.args.core.now.tables.items p.shard c.index_mut-table.result.now c.index_mut-table.ensures.value c.in-Apply.slot claim.0 claim.3 in
+    let claim = claim_at c.requires.sound c.args.step.thread (place_of p) seen before in
+    let is = call-slot c.requires.slots c.args.step.thread p here claim.2.guard _ (ap phase_key before) in
+    let there = stands-in _ core c.requires.sound g.met.K.Eq.laws p.shard p.slot _ is c.index_mut-shard.result.now c.index_mut-shard.ensures.value in
+    let e = there.has.entry in
+    let deeds = deeds_of g.D.Deed in
+    let left = keyed_leaves deeds c.in-Apply.call (Some (entry_pair e)) in
+    let leaves = at-some _ _ e there.has.there c.apply_at-answer.ensures.leaves in
+    let keeps = keyed-keeps deeds g.K.PartialEq.eq g.met.K.Eq.laws c.in-Apply.call (entry_pair e) in
+    let puts = puts-left g.K.PartialEq.eq g.met.K.Eq.laws c.index_mut-shard.result.now c.apply_at-answer.new.shard p.slot _ there.distinct there.has left keeps leaves in
     record {
-      place = p;
-      stands = here;
-      slot = c.in-Apply.slot;
+      place = place_of p;
+      stands = seen;
       call = c.in-Apply.call;
       before = before;
-      table = c.index_mut-table.result.now;
-      held = table.0;
-      pair = claim.0;
-      found = table.1;
-      changed = c.apply_at-answer.new.table;
-      pairs = c.apply_at-answer.ensures.items claim.0 table.1;
-      room_stays = c.apply_at-answer.ensures.capacity;
+      table = shard_pairs c.index_mut-shard.result.now;
+      held = there.seen;
+      pair = entry_pair e;
+      found = there.pair;
+      changed = shard_pairs c.apply_at-answer.new.shard;
+      puts = puts;
       blocks = c.count_in.new.blocks.items;
       counted = c.count_in.ensures.counted;
-      after = rw (c.appended-core.ensures, c.enter.ensures, c.apply_at-answer.ensures.answer claim.0 table.1) refl;
+      after = stepped-by core c.args.step (record p { phase = c.enter.new.phase }) _ c.appended-core.result.items _ _ core.desks.items c.count_in.new.blocks.items core.replies.items
+          c.appended-core.ensures (ap (λ f. record (place_of p) { phase = f }) (c.enter.ensures ∙ ap (λ a. phase.Release a) (at-some _ _ e there.has.there c.apply_at-answer.ensures.answer)))
+          (map-set shard_pairs core.tables.items p.shard c.apply_at-answer.new.shard);
     }
+
+pub returns-clause-slots : goal.returns-clause-slots
+returns-clause-slots g c =
+    let core = c.args.core.now in
+    let p = c.index_mut-place.result.now in
+    let here = kept-here core.places.items c.requires.before.1 p c.index_mut-place.ensures.value in
+    let seen = seen-here core.places.items c.requires.before.1 p c.index_mut-place.ensures.value in
+    let before = sym c.replace.ensures.value ∙ c.in-Apply.is in
+    let claim = claim_at c.requires.sound c.args.step.thread (place_of p) seen before in
+    let is = call-slot c.requires.slots c.args.step.thread p here claim.2.guard _ (ap phase_key before) in
+    let there = stands-in _ core c.requires.sound g.met.K.Eq.laws p.shard p.slot _ is c.index_mut-shard.result.now c.index_mut-shard.ensures.value in
+    let e = there.has.entry in
+    let deeds = deeds_of g.D.Deed in
+    let left = keyed_leaves deeds c.in-Apply.call (Some (entry_pair e)) in
+    let leaves = at-some _ _ e there.has.there c.apply_at-answer.ensures.leaves in
+    let keeps = keyed-keeps deeds g.K.PartialEq.eq g.met.K.Eq.laws c.in-Apply.call (entry_pair e) in
+    let puts = puts-left g.K.PartialEq.eq g.met.K.Eq.laws c.index_mut-shard.result.now c.apply_at-answer.new.shard p.slot _ there.distinct there.has left keeps leaves in
+    let hashes = hashes-left g.K.PartialEq.eq g.met.K.Eq.laws c.index_mut-shard.result.now c.apply_at-answer.new.shard p.slot _ there.distinct there.has _
+    (hashes-alike g.S.BuildHasher g.S.Hasher.Hasher g.K.Hash.hash_input core.hasher g.K.PartialEq.eq g.met.K.Hash.respects_eq) left keeps leaves (c.requires.slots.hashed p.shard c.index_mut-shard.result.now there.held) in
+    let blocks = c.count_in.new.blocks.items in
+    let kept = slots-alone_free _ _ core c.requires.sound c.requires.slots c.args.step.thread p (record p { phase = c.enter.new.phase }) here
+    blocks (calls-counted core.blocks.items blocks p.block p.next c.count_in.ensures.counted)
+    claim.2.alone c.index_mut-shard.result.now c.apply_at-answer.new.shard there.held hashes claim.2.guard (ap phase_key c.enter.ensures) in
+    record { hashed = kept.hashed; found = kept.found }
 
 pub returns-clause-room : goal.returns-clause-room
 returns-clause-room g c =
-    let b = c.requires.before.2 in
+    let core = c.args.core.now in
     let p = c.index_mut-place.result.now in
-    let here = stands_here b p c.index_mut-place.ensures.value in
+    let here = kept-here core.places.items c.requires.before.1 p c.index_mut-place.ensures.value in
+    let seen = seen-here core.places.items c.requires.before.1 p c.index_mut-place.ensures.value in
     let before = sym c.replace.ensures.value ∙ c.in-Apply.is in
-    let claim = claim_at c.requires.sound c.args.step.thread p here before in
-    let table = pair_read c.args.core.now.tables.items p.shard c.index_mut-table.result.now c.index_mut-table.ensures.value c.in-Apply.slot claim.0 claim.3 in
-    let change = pairs_set c.args.core.now.tables.items p.shard c.index_mut-table.result.now c.apply_at-answer.new.table table.0 in
-    shifted _ _ c.args.step.thread p (record p { phase = c.enter.new.phase }) c.requires.room (record {
-      here = here;
-      places = refl;
+    let claim = claim_at c.requires.sound c.args.step.thread (place_of p) seen before in
+    let is = call-slot c.requires.slots c.args.step.thread p here claim.2.guard _ (ap phase_key before) in
+    let there = stands-in _ core c.requires.sound g.met.K.Eq.laws p.shard p.slot _ is c.index_mut-shard.result.now c.index_mut-shard.ensures.value in
+    let e = there.has.entry in
+    let deeds = deeds_of g.D.Deed in
+    let left = keyed_leaves deeds c.in-Apply.call (Some (entry_pair e)) in
+    let leaves = at-some _ _ e there.has.there c.apply_at-answer.ensures.leaves in
+    let keeps = keyed-keeps deeds g.K.PartialEq.eq g.met.K.Eq.laws c.in-Apply.call (entry_pair e) in
+    let puts = puts-left g.K.PartialEq.eq g.met.K.Eq.laws c.index_mut-shard.result.now c.apply_at-answer.new.shard p.slot _ there.distinct there.has left keeps leaves in
+    let gone = gone-number left c.apply_at-answer.result.1 (at-some _ _ e there.has.there c.apply_at-answer.ensures.gone) in
+    let was = ap number_of there.pair in
+    let change = pairs_put core.tables.items p.shard c.index_mut-shard.result.now c.apply_at-answer.new.shard there.held in
+    let p' = record p { phase = c.enter.new.phase } in
+    shifted _ _ c.args.step.thread (place_of p) (place_of p') c.requires.room (record {
+      here = seen;
+      places = map-set place_of core.places.items c.args.step.thread p';
       numbers = c.requires.numbers;
       steps = simp length-append at (ap length c.appended-core.ensures);
       count = refl;
       programs = refl;
-      tables = length-set c.args.core.now.tables.items p.shard c.apply_at-answer.new.table;
-      guards = λ h has. c.requires.room.guards c.args.step.thread p h here has;
+      tables = length-set core.tables.items p.shard c.apply_at-answer.new.shard;
+      guards = λ i h has. c.requires.room.guards c.args.step.thread i (place_of p) h seen has;
       more_guards = omega arith;
       guards_fit = omega arith;
       unanswered = omega (arith, ap owes c.enter.ensures, ap owes before);
@@ -104,9 +175,9 @@ returns-clause-room g c =
       listing = omega (arith, ap lists c.enter.ensures, ap lists before, c.count_in.ensures.len);
       blocks = c.count_in.ensures.capacity;
       desks = refl;
-      holding = same_desks c.args.core.now.desks.items p.hold p.hold refl;
+      holding = same_desks core.desks.items p.holds.items p.holds.items refl;
       adding = omega (arith, ap adds c.enter.ensures, ap adds before, c.less_one-core.ensures);
-      pairs = omega (arith, c.requires.room.pairs, change, c.apply_at-answer.ensures.len, c.less_one-core.ensures, c.apply_at-answer.new.table.ok.0, c.index_mut-table.result.now.ok.0);
+      pairs = omega (arith, c.requires.room.pairs, change, puts.counted, gone, was, c.less_one-core.ensures);
       more_blocks = omega (arith, c.count_in.ensures.len);
-      listed = λ i e. let below = c.requires.room.listed c.args.step.thread p i here e in omega (arith, below, c.count_in.ensures.len);
+      listed = λ i e. let below = c.requires.room.listed c.args.step.thread (place_of p) i seen e in omega (arith, below, c.count_in.ensures.len);
     })

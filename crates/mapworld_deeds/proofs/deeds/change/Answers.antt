@@ -1,152 +1,243 @@
-use Rattle.std.proofs.Common.{◌≡◌, ℕ, ◌+◌, Bool, true, if◌then◌else◌, List, [], ◌∷◌, ◌++◌, length, Vec, Option, Some, None, slice_set, refl, sym, ap, ap₂, ◌∙◌, subst, arith, length-append, length-set}
+use Rattle.std.proofs.Common.{◌≡◌, true, if◌then◌else◌, length, None, is_some, refl, sym, ap, ap₂, ◌∙◌, subst, arith, length-append, length-set}
 use Rattle.std.proofs.lemmas.Option.{slice_get_within}
+use Rattle.std.proofs.lemmas.List.{map-set}
+use Rattle.dashmap_table.specs.Slots.{pair_of as entry_pair}
+use Rattle.mapworld_calls.specs.Calls.{pair_in, held_leaves}
+use Rattle.mapworld_state.specs.declared.place.Guard.TheVariants as guard
 use Rattle.mapworld_state.specs.declared.place.Way.{Way}
-use Rattle.mapworld_calls.specs.declared.block.Block.{Block}
-use Rattle.mapworld_state.specs.declared.step.Step.{Step}
-use Rattle.mapworld_state.specs.declared.place.Guard.{Guard}
-use Rattle.mapworld_state.specs.declared.place.Phase.{Phase}
-use Rattle.mapworld_state.specs.declared.place.Place.{Place}
-use Rattle.mapworld_state.specs.State.{State}
+use Rattle.mapworld_state.specs.Places.{place_of}
+use Rattle.mapworld_state.specs.Shards.{shard_pairs, number_of}
+use Rattle.mapworld_state.specs.Moves.{lent, lent_way, ends_guard, changed_phase, is_change}
 use Rattle.mapworld_state.specs.Core.{state_of, owes, lists, adds}
-use Rattle.mapworld_state.specs.Moves.{stepped, lent_pair, ends_guard, changed_phase, is_change}
-use Rattle.mapworld_moves.proofs.Rooms.{shifted, same_desks}
-use Rattle.mapworld_moves.proofs.Facts.{stands_here, phase_here, claim_at, next_fits, pair_read, session_counts, session_pair, pair_is}
-use Rattle.mapworld_moves.proofs.Weights.{pairs_set, pairs_at, changed_weighs}
+use Rattle.mapworld_state.specs.World.{deeds_of}
 use Rattle.mapworld_state.proofs.Owning.{same-kind}
+use Rattle.mapworld_moves.specs.Slots.{LeavesAt}
+use Rattle.mapworld_moves.proofs.Rooms.{shifted, same_desks}
+use Rattle.mapworld_moves.proofs.Facts.{kept-here, seen-here, kept-phase, claim_at, next_fits, session_counts, way_is, stepped-by}
+use Rattle.mapworld_moves.proofs.Keys.{guards}
+use Rattle.mapworld_moves.proofs.Leaving.{at-some, some-at, stands-in, held-keeps, held-gone, held-stays, handed-equal, changed-free, gone-number}
+use Rattle.mapworld_moves.proofs.Slots.{calls-counted, guard-slot, slots-alone_lent}
+use Rattle.mapworld_moves.proofs.Slotted.{hashes-alike, hashes-left, puts-left, key-kept}
+use Rattle.mapworld_moves.proofs.Weights.{pairs_put, pairs_at, changed_weighs}
 use Rattle.mapworld_deeds.proofs.deeds.change.Goals as goal
 
-module _ {K V S D T A : Type 0} (w : State K V S D T A) (s : Step) (p : Place K V D T A) where
-  after_change : (steps : List Step) (tables : List (Vec (K × V) A)) (blocks : List (Block K)) (a : Option (Guard K)) (f : Phase K V D T) (a' : Option (Guard K)) (f' : Phase K V D T)
-      → steps ≡ w.steps ++ s ∷ [] → a ≡ a' → f ≡ f'
-      → ◌≡◌ {A = State K V S D T A} (record w { steps = steps; places = slice_set w.places s.thread (record p { guard = a; phase = f }); tables = tables; blocks = blocks })
-      (record (stepped w s (record p { guard = a'; phase = f' })) { tables = tables; blocks = blocks })
-  after_change steps tables blocks a f a' f' e1 e2 e3 = rw (e1, e2, e3) refl
-
-pub unreachable-requires-in_default-lent_pair : goal.unreachable-requires-in_default-lent_pair
-unreachable-requires-in_default-lent_pair g c =
-    let b = c.requires.before.1 in
+pub unreachable-requires-in_default-lent_way : goal.unreachable-requires-in_default-lent_way
+unreachable-requires-in_default-lent_way g c =
+    let core = c.args.core.now in
     let p = c.index_mut-place.result.now in
-    let here = stands_here b p c.index_mut-place.ensures.value in
-    let claim = claim_at c.requires.sound c.args.step.thread p here (phase_here b p c.index_mut-place.ensures.value) in
-    c.in_default-lent_pair.not-Some (claim.0, claim.1) (c.lent_pair.ensures ∙ (ap lent_pair c.replace-2.ensures.value ∙ ap lent_pair claim.3))
+    let seen = seen-here core.places.items c.requires.before.1 p c.index_mut-place.ensures.value in
+    let before = kept-phase core.places.items c.requires.before.1 p c.index_mut-place.ensures.value in
+    let claim = claim_at c.requires.sound c.args.step.thread (place_of p) seen before in
+    c.in_default-lent_way.not-Some claim.0 (c.lent_way.ensures ∙ (ap lent_way c.replace-2.ensures.value ∙ ap lent_way claim.2))
 
-pub index_mut-table-requires : goal.index_mut-table-requires
-index_mut-table-requires g c =
-    let b = c.requires.before.1 in
+pub index_mut-shard-requires : goal.index_mut-shard-requires
+index_mut-shard-requires g c =
+    let core = c.args.core.now in
     let p = c.index_mut-place.result.now in
-    let here = stands_here b p c.index_mut-place.ensures.value in
+    let here = kept-here core.places.items c.requires.before.1 p c.index_mut-place.ensures.value in
+    let seen = seen-here core.places.items c.requires.before.1 p c.index_mut-place.ensures.value in
     let before = sym c.replace.ensures.value ∙ c.in-Change.is in
-    let claim = claim_at c.requires.sound c.args.step.thread p here before in
-    let own = pair_is p.guard c.in-Some.way c.in-Some.slot (sym (ap lent_pair c.replace-2.ensures.value) ∙ (sym c.lent_pair.ensures ∙ c.in-Some.is)) in
-    let lent = session_pair _ _ _ _ p p.next _ p.block c.in-Some.way c.in-Some.slot claim.6 own in
-    omega (arith, slice_get_within c.args.core.now.tables.items p.shard lent.1.table lent.1.held, c.args.core.now.tables.ok.0)
+    let claim = claim_at c.requires.sound c.args.step.thread (place_of p) seen before in
+    let mine = way_is p.guard c.in-Some.way (sym (ap lent_way c.replace-2.ensures.value) ∙ (sym c.lent_way.ensures ∙ c.in-Some.is)) in
+    let own = guards _ (state_of core) c.requires.sound c.args.step.thread (place_of p) (guard.Pair c.in-Some.way) mine p.next _ p.block refl claim.5 in
+    let is = guard-slot c.requires.slots c.args.step.thread p here c.in-Some.way mine own.key own.key_is in
+    omega (arith, slice_get_within core.tables.items p.shard is.table is.held, core.tables.ok.0)
 
-pub change_at-answer-requires-clause-within : goal.change_at-answer-requires-clause-within
-change_at-answer-requires-clause-within g c =
-    let b = c.requires.before.1 in
+pub change_at-answer-requires-clause-full : goal.change_at-answer-requires-clause-full
+change_at-answer-requires-clause-full g c =
+    let core = c.args.core.now in
     let p = c.index_mut-place.result.now in
-    let here = stands_here b p c.index_mut-place.ensures.value in
+    let here = kept-here core.places.items c.requires.before.1 p c.index_mut-place.ensures.value in
+    let seen = seen-here core.places.items c.requires.before.1 p c.index_mut-place.ensures.value in
     let before = sym c.replace.ensures.value ∙ c.in-Change.is in
-    let claim = claim_at c.requires.sound c.args.step.thread p here before in
-    let own = pair_is p.guard c.in-Some.way c.in-Some.slot (sym (ap lent_pair c.replace-2.ensures.value) ∙ (sym c.lent_pair.ensures ∙ c.in-Some.is)) in
-    let lent = session_pair _ _ _ _ p p.next _ p.block c.in-Some.way c.in-Some.slot claim.6 own in
-    let table = pair_read c.args.core.now.tables.items p.shard c.index_mut-table.result.now c.index_mut-table.ensures.value c.in-Some.slot lent.0 lent.1 in
-    omega (arith, slice_get_within c.index_mut-table.result.now.items c.in-Some.slot lent.0 table.1, c.index_mut-table.result.now.ok.0)
+    let claim = claim_at c.requires.sound c.args.step.thread (place_of p) seen before in
+    let mine = way_is p.guard c.in-Some.way (sym (ap lent_way c.replace-2.ensures.value) ∙ (sym c.lent_way.ensures ∙ c.in-Some.is)) in
+    let own = guards _ (state_of core) c.requires.sound c.args.step.thread (place_of p) (guard.Pair c.in-Some.way) mine p.next _ p.block refl claim.5 in
+    let is = guard-slot c.requires.slots c.args.step.thread p here c.in-Some.way mine own.key own.key_is in
+    let there = stands-in _ core c.requires.sound g.met.K.Eq.laws p.shard p.slot _ is c.index_mut-shard.result.now c.index_mut-shard.ensures.value in
+    there.full
 
 pub change_at-answer-requires-clause-change : goal.change_at-answer-requires-clause-change
 change_at-answer-requires-clause-change g c =
-    let b = c.requires.before.1 in
+    let core = c.args.core.now in
     let p = c.index_mut-place.result.now in
-    let here = stands_here b p c.index_mut-place.ensures.value in
+    let seen = seen-here core.places.items c.requires.before.1 p c.index_mut-place.ensures.value in
     let before = sym c.replace.ensures.value ∙ c.in-Change.is in
-    let claim = claim_at c.requires.sound c.args.step.thread p here before in
-    let own = pair_is p.guard c.in-Some.way c.in-Some.slot (sym (ap lent_pair c.replace-2.ensures.value) ∙ (sym c.lent_pair.ensures ∙ c.in-Some.is)) in
-    subst (λ (k : Way _). is_change c.in-Change.call k ≡ true) (same-kind p.guard claim.0 c.in-Some.way claim.1 c.in-Some.slot claim.3 own) claim.4
+    let claim = claim_at c.requires.sound c.args.step.thread (place_of p) seen before in
+    let mine = way_is p.guard c.in-Some.way (sym (ap lent_way c.replace-2.ensures.value) ∙ (sym c.lent_way.ensures ∙ c.in-Some.is)) in
+    let change = subst (λ (k : Way _). is_change c.in-Change.call k ≡ true) (same-kind p.guard claim.0 c.in-Some.way claim.2 mine) claim.3 in
+    change
+
+pub change_at-answer-requires-clause-equal : goal.change_at-answer-requires-clause-equal
+change_at-answer-requires-clause-equal g c =
+    let core = c.args.core.now in
+    let p = c.index_mut-place.result.now in
+    let here = kept-here core.places.items c.requires.before.1 p c.index_mut-place.ensures.value in
+    let seen = seen-here core.places.items c.requires.before.1 p c.index_mut-place.ensures.value in
+    let before = sym c.replace.ensures.value ∙ c.in-Change.is in
+    let claim = claim_at c.requires.sound c.args.step.thread (place_of p) seen before in
+    let mine = way_is p.guard c.in-Some.way (sym (ap lent_way c.replace-2.ensures.value) ∙ (sym c.lent_way.ensures ∙ c.in-Some.is)) in
+    let own = guards _ (state_of core) c.requires.sound c.args.step.thread (place_of p) (guard.Pair c.in-Some.way) mine p.next _ p.block refl claim.5 in
+    let is = guard-slot c.requires.slots c.args.step.thread p here c.in-Some.way mine own.key own.key_is in
+    let there = stands-in _ core c.requires.sound g.met.K.Eq.laws p.shard p.slot _ is c.index_mut-shard.result.now c.index_mut-shard.ensures.value in
+    let e = there.has.entry in
+    let equal = handed-equal _ (state_of core) c.requires.sound c.args.step.thread (place_of p) c.in-Some.way own e.key there.has.equal in
+    λ handed same. some-at _ _ e there.has.there (equal handed same)
 
 pub count_in-requires-clause-listed : goal.count_in-requires-clause-listed
 count_in-requires-clause-listed g c =
-    let b = c.requires.before.1 in
+    let core = c.args.core.now in
     let p = c.index_mut-place.result.now in
-    let here = stands_here b p c.index_mut-place.ensures.value in
-    let before = sym c.replace.ensures.value ∙ c.in-Change.is in
-    let claim = claim_at c.requires.sound c.args.step.thread p here before in
-    session_counts _ _ _ _ p p.next _ p.block claim.6
+    let seen = seen-here core.places.items c.requires.before.1 p c.index_mut-place.ensures.value in
+    let before = kept-phase core.places.items c.requires.before.1 p c.index_mut-place.ensures.value in
+    let claim = claim_at c.requires.sound c.args.step.thread (place_of p) seen before in
+    session_counts _ _ _ _ (place_of p) p.next _ p.block claim.5
 
 pub count_in-requires-clause-fits : goal.count_in-requires-clause-fits
 count_in-requires-clause-fits g c =
-    let b = c.requires.before.1 in
+    let core = c.args.core.now in
     let p = c.index_mut-place.result.now in
-    let here = stands_here b p c.index_mut-place.ensures.value in
-    let fits = next_fits c.requires.sound c.args.step.thread p here (phase_here b p c.index_mut-place.ensures.value) in
+    let seen = seen-here core.places.items c.requires.before.1 p c.index_mut-place.ensures.value in
+    let before = kept-phase core.places.items c.requires.before.1 p c.index_mut-place.ensures.value in
+    let fits = next_fits c.requires.sound c.args.step.thread (place_of p) seen before in
     omega (arith, fits, c.requires.room.calls_fit)
 
 pub less_one-core-requires : goal.less_one-core-requires
 less_one-core-requires g c =
-    let b = c.requires.before.1 in
+    let core = c.args.core.now in
     let p = c.index_mut-place.result.now in
-    let here = stands_here b p c.index_mut-place.ensures.value in
+    let here = kept-here core.places.items c.requires.before.1 p c.index_mut-place.ensures.value in
+    let seen = seen-here core.places.items c.requires.before.1 p c.index_mut-place.ensures.value in
     let before = sym c.replace.ensures.value ∙ c.in-Change.is in
-    let claim = claim_at c.requires.sound c.args.step.thread p here before in
-    let own = pair_is p.guard c.in-Some.way c.in-Some.slot (sym (ap lent_pair c.replace-2.ensures.value) ∙ (sym c.lent_pair.ensures ∙ c.in-Some.is)) in
-    let lent = session_pair _ _ _ _ p p.next _ p.block c.in-Some.way c.in-Some.slot claim.6 own in
-    let table = pair_read c.args.core.now.tables.items p.shard c.index_mut-table.result.now c.index_mut-table.ensures.value c.in-Some.slot lent.0 lent.1 in
-    let part = pairs_at c.args.core.now.tables.items p.shard c.index_mut-table.result.now table.0 in
-    omega (arith, c.change_at-answer.ensures.len, ap {B = ℕ} (λ (z : Bool). if◌then◌else◌ z 1 0) c.takes_pair-gone.ensures, part, c.requires.room.pairs, c.index_mut-table.result.now.ok.0)
+    let claim = claim_at c.requires.sound c.args.step.thread (place_of p) seen before in
+    let mine = way_is p.guard c.in-Some.way (sym (ap lent_way c.replace-2.ensures.value) ∙ (sym c.lent_way.ensures ∙ c.in-Some.is)) in
+    let own = guards _ (state_of core) c.requires.sound c.args.step.thread (place_of p) (guard.Pair c.in-Some.way) mine p.next _ p.block refl claim.5 in
+    let is = guard-slot c.requires.slots c.args.step.thread p here c.in-Some.way mine own.key own.key_is in
+    let there = stands-in _ core c.requires.sound g.met.K.Eq.laws p.shard p.slot _ is c.index_mut-shard.result.now c.index_mut-shard.ensures.value in
+    let e = there.has.entry in
+    let equal = handed-equal _ (state_of core) c.requires.sound c.args.step.thread (place_of p) c.in-Some.way own e.key there.has.equal in
+    let change = subst (λ (k : Way _). is_change c.in-Change.call k ≡ true) (same-kind p.guard claim.0 c.in-Some.way claim.2 mine) claim.3 in
+    let deeds = deeds_of g.D.Deed in
+    let left = pair_in (held_leaves deeds c.in-Change.call (lent c.in-Some.way (entry_pair e))) in
+    let leaves = at-some _ _ e there.has.there c.change_at-answer.ensures.leaves in
+    let keeps = held-keeps deeds g.K.PartialEq.eq g.met.K.Eq.laws c.in-Change.call c.in-Some.way change (entry_pair e) equal in
+    let puts = puts-left g.K.PartialEq.eq g.met.K.Eq.laws c.index_mut-shard.result.now c.change_at-answer.new.shard p.slot own.key there.distinct there.has left keeps leaves in
+    let gone = gone-number left c.takes_pair-gone.result (c.takes_pair-gone.ensures ∙ held-gone deeds c.in-Change.call c.in-Some.way change (entry_pair e)) in
+    let was = ap number_of there.pair in
+    let part = pairs_at (state_of core).tables p.shard (shard_pairs c.index_mut-shard.result.now) there.seen in
+    omega (arith, puts.counted, gone, was, part, c.requires.room.pairs)
 
 pub returns-clause-step : goal.returns-clause-step
 returns-clause-step g c =
-    let b = c.requires.before.1 in
+    let core = c.args.core.now in
     let p = c.index_mut-place.result.now in
-    let here = stands_here b p c.index_mut-place.ensures.value in
+    let here = kept-here core.places.items c.requires.before.1 p c.index_mut-place.ensures.value in
+    let seen = seen-here core.places.items c.requires.before.1 p c.index_mut-place.ensures.value in
     let before = sym c.replace.ensures.value ∙ c.in-Change.is in
-    let claim = claim_at c.requires.sound c.args.step.thread p here before in
-    let own = pair_is p.guard c.in-Some.way c.in-Some.slot (sym (ap lent_pair c.replace-2.ensures.value) ∙ (sym c.lent_pair.ensures ∙ c.in-Some.is)) in
-    let lent = session_pair _ _ _ _ p p.next _ p.block c.in-Some.way c.in-Some.slot claim.6 own in
-    let table = pair_read c.args.core.now.tables.items p.shard c.index_mut-table.result.now c.index_mut-table.ensures.value c.in-Some.slot lent.0 lent.1 in
+    let claim = claim_at c.requires.sound c.args.step.thread (place_of p) seen before in
+    let mine = way_is p.guard c.in-Some.way (sym (ap lent_way c.replace-2.ensures.value) ∙ (sym c.lent_way.ensures ∙ c.in-Some.is)) in
+    let own = guards _ (state_of core) c.requires.sound c.args.step.thread (place_of p) (guard.Pair c.in-Some.way) mine p.next _ p.block refl claim.5 in
+    let is = guard-slot c.requires.slots c.args.step.thread p here c.in-Some.way mine own.key own.key_is in
+    let there = stands-in _ core c.requires.sound g.met.K.Eq.laws p.shard p.slot _ is c.index_mut-shard.result.now c.index_mut-shard.ensures.value in
+    let e = there.has.entry in
+    let equal = handed-equal _ (state_of core) c.requires.sound c.args.step.thread (place_of p) c.in-Some.way own e.key there.has.equal in
+    let change = subst (λ (k : Way _). is_change c.in-Change.call k ≡ true) (same-kind p.guard claim.0 c.in-Some.way claim.2 mine) claim.3 in
+    let deeds = deeds_of g.D.Deed in
+    let left = pair_in (held_leaves deeds c.in-Change.call (lent c.in-Some.way (entry_pair e))) in
+    let leaves = at-some _ _ e there.has.there c.change_at-answer.ensures.leaves in
+    let keeps = held-keeps deeds g.K.PartialEq.eq g.met.K.Eq.laws c.in-Change.call c.in-Some.way change (entry_pair e) equal in
+    let puts = puts-left g.K.PartialEq.eq g.met.K.Eq.laws c.index_mut-shard.result.now c.change_at-answer.new.shard p.slot own.key there.distinct there.has left keeps leaves in
     record {
-      place = p;
-      stands = here;
+      place = place_of p;
+      stands = seen;
       call = c.in-Change.call;
       before = before;
-      table = c.index_mut-table.result.now;
-      held = table.0;
+      table = shard_pairs c.index_mut-shard.result.now;
+      held = there.seen;
       kind = c.in-Some.way;
-      slot = c.in-Some.slot;
-      guarded = own;
-      pair = lent.0;
-      found = table.1;
-      changed = c.change_at-answer.new.table;
-      pairs = c.change_at-answer.ensures.items lent.0 table.1;
-      room_stays = c.change_at-answer.ensures.capacity;
+      guarded = mine;
+      key = own.key;
+      key_is = own.key_is;
+      pair = entry_pair e;
+      found = there.pair;
+      changed = shard_pairs c.change_at-answer.new.shard;
+      puts = puts;
       blocks = c.count_in.new.blocks.items;
       counted = c.count_in.ensures.counted;
-      after = after_change (state_of c.args.core.now) c.args.step p c.appended-core.result.items (slice_set c.args.core.now.tables.items p.shard c.change_at-answer.new.table) c.count_in.new.blocks.items c.change_at-answer.result.1 c.enter.new.phase _ _
+      after = stepped-by core c.args.step (record p { guard = c.change_at-answer.result.1; phase = c.enter.new.phase }) _ c.appended-core.result.items _ _ core.desks.items c.count_in.new.blocks.items core.replies.items
           c.appended-core.ensures
-          (c.change_at-answer.ensures.guard ∙ ap (λ k. if ends_guard c.in-Change.call then None else k) (sym own))
-          (c.enter.ensures ∙ (c.changed_phase.ensures ∙ ap₂ changed_phase c.ends_guard-ends.ensures (c.change_at-answer.ensures.answer lent.0 table.1)));
+          (ap₂ (λ o f. record (place_of p) { guard = o; phase = f }) (c.change_at-answer.ensures.guard ∙ ap (λ k. if ends_guard c.in-Change.call then None else k) (sym mine))
+          (c.enter.ensures ∙ (c.changed_phase.ensures ∙ ap₂ changed_phase c.ends_guard-ends.ensures (at-some _ _ e there.has.there c.change_at-answer.ensures.answer))))
+          (map-set shard_pairs core.tables.items p.shard c.change_at-answer.new.shard);
     }
+
+pub returns-clause-slots : goal.returns-clause-slots
+returns-clause-slots g c =
+    let core = c.args.core.now in
+    let p = c.index_mut-place.result.now in
+    let here = kept-here core.places.items c.requires.before.1 p c.index_mut-place.ensures.value in
+    let seen = seen-here core.places.items c.requires.before.1 p c.index_mut-place.ensures.value in
+    let before = sym c.replace.ensures.value ∙ c.in-Change.is in
+    let claim = claim_at c.requires.sound c.args.step.thread (place_of p) seen before in
+    let mine = way_is p.guard c.in-Some.way (sym (ap lent_way c.replace-2.ensures.value) ∙ (sym c.lent_way.ensures ∙ c.in-Some.is)) in
+    let own = guards _ (state_of core) c.requires.sound c.args.step.thread (place_of p) (guard.Pair c.in-Some.way) mine p.next _ p.block refl claim.5 in
+    let is = guard-slot c.requires.slots c.args.step.thread p here c.in-Some.way mine own.key own.key_is in
+    let there = stands-in _ core c.requires.sound g.met.K.Eq.laws p.shard p.slot _ is c.index_mut-shard.result.now c.index_mut-shard.ensures.value in
+    let e = there.has.entry in
+    let equal = handed-equal _ (state_of core) c.requires.sound c.args.step.thread (place_of p) c.in-Some.way own e.key there.has.equal in
+    let change = subst (λ (k : Way _). is_change c.in-Change.call k ≡ true) (same-kind p.guard claim.0 c.in-Some.way claim.2 mine) claim.3 in
+    let deeds = deeds_of g.D.Deed in
+    let left = pair_in (held_leaves deeds c.in-Change.call (lent c.in-Some.way (entry_pair e))) in
+    let leaves = at-some _ _ e there.has.there c.change_at-answer.ensures.leaves in
+    let keeps = held-keeps deeds g.K.PartialEq.eq g.met.K.Eq.laws c.in-Change.call c.in-Some.way change (entry_pair e) equal in
+    let puts = puts-left g.K.PartialEq.eq g.met.K.Eq.laws c.index_mut-shard.result.now c.change_at-answer.new.shard p.slot own.key there.distinct there.has left keeps leaves in
+    let hashes = hashes-left g.K.PartialEq.eq g.met.K.Eq.laws c.index_mut-shard.result.now c.change_at-answer.new.shard p.slot own.key there.distinct there.has _
+    (hashes-alike g.S.BuildHasher g.S.Hasher.Hasher g.K.Hash.hash_input core.hasher g.K.PartialEq.eq g.met.K.Hash.respects_eq) left keeps leaves (c.requires.slots.hashed p.shard c.index_mut-shard.result.now there.held) in
+    let blocks = c.count_in.new.blocks.items in
+    let kept = slots-alone_lent _ _ core c.requires.sound c.requires.slots c.args.step.thread p (record p { guard = c.change_at-answer.result.1; phase = c.enter.new.phase }) here
+    blocks (calls-counted core.blocks.items blocks p.block p.next c.count_in.ensures.counted)
+    claim.4 c.index_mut-shard.result.now c.change_at-answer.new.shard there.held hashes (λ kind e. ap (λ o. is_some (lent_way o)) mine) (λ i e. e)
+    (changed-free c.enter.new.phase c.ends_guard-ends.result c.change_at-answer.result.0 (c.enter.ensures ∙ c.changed_phase.ensures)) refl refl
+    (λ kind lends.
+    let stays = held-stays deeds c.in-Change.call c.in-Some.way change kind (sym (ap lent_way c.change_at-answer.ensures.guard) ∙ lends) (entry_pair e) in
+    key-kept g.K.PartialEq.eq g.met.K.Eq.laws c.index_mut-shard.result.now c.change_at-answer.new.shard p.slot own.key there.distinct there.has stays.0 (keeps stays.0 stays.1)
+    (subst (LeavesAt c.index_mut-shard.result.now c.change_at-answer.new.shard p.slot) stays.1 leaves)) in
+    record { hashed = kept.hashed; found = kept.found }
 
 pub returns-clause-room : goal.returns-clause-room
 returns-clause-room g c =
-    let b = c.requires.before.1 in
+    let core = c.args.core.now in
     let p = c.index_mut-place.result.now in
-    let here = stands_here b p c.index_mut-place.ensures.value in
+    let here = kept-here core.places.items c.requires.before.1 p c.index_mut-place.ensures.value in
+    let seen = seen-here core.places.items c.requires.before.1 p c.index_mut-place.ensures.value in
     let before = sym c.replace.ensures.value ∙ c.in-Change.is in
-    let claim = claim_at c.requires.sound c.args.step.thread p here before in
-    let own = pair_is p.guard c.in-Some.way c.in-Some.slot (sym (ap lent_pair c.replace-2.ensures.value) ∙ (sym c.lent_pair.ensures ∙ c.in-Some.is)) in
-    let lent = session_pair _ _ _ _ p p.next _ p.block c.in-Some.way c.in-Some.slot claim.6 own in
-    let table = pair_read c.args.core.now.tables.items p.shard c.index_mut-table.result.now c.index_mut-table.ensures.value c.in-Some.slot lent.0 lent.1 in
-    let change = pairs_set c.args.core.now.tables.items p.shard c.index_mut-table.result.now c.change_at-answer.new.table table.0 in
+    let claim = claim_at c.requires.sound c.args.step.thread (place_of p) seen before in
+    let mine = way_is p.guard c.in-Some.way (sym (ap lent_way c.replace-2.ensures.value) ∙ (sym c.lent_way.ensures ∙ c.in-Some.is)) in
+    let own = guards _ (state_of core) c.requires.sound c.args.step.thread (place_of p) (guard.Pair c.in-Some.way) mine p.next _ p.block refl claim.5 in
+    let is = guard-slot c.requires.slots c.args.step.thread p here c.in-Some.way mine own.key own.key_is in
+    let there = stands-in _ core c.requires.sound g.met.K.Eq.laws p.shard p.slot _ is c.index_mut-shard.result.now c.index_mut-shard.ensures.value in
+    let e = there.has.entry in
+    let equal = handed-equal _ (state_of core) c.requires.sound c.args.step.thread (place_of p) c.in-Some.way own e.key there.has.equal in
+    let change = subst (λ (k : Way _). is_change c.in-Change.call k ≡ true) (same-kind p.guard claim.0 c.in-Some.way claim.2 mine) claim.3 in
+    let deeds = deeds_of g.D.Deed in
+    let left = pair_in (held_leaves deeds c.in-Change.call (lent c.in-Some.way (entry_pair e))) in
+    let leaves = at-some _ _ e there.has.there c.change_at-answer.ensures.leaves in
+    let keeps = held-keeps deeds g.K.PartialEq.eq g.met.K.Eq.laws c.in-Change.call c.in-Some.way change (entry_pair e) equal in
+    let puts = puts-left g.K.PartialEq.eq g.met.K.Eq.laws c.index_mut-shard.result.now c.change_at-answer.new.shard p.slot own.key there.distinct there.has left keeps leaves in
+    let gone = gone-number left c.takes_pair-gone.result (c.takes_pair-gone.ensures ∙ held-gone deeds c.in-Change.call c.in-Some.way change (entry_pair e)) in
+    let was = ap number_of there.pair in
+    let change_ = pairs_put core.tables.items p.shard c.index_mut-shard.result.now c.change_at-answer.new.shard there.held in
     let weights = changed_weighs c.ends_guard-ends.result c.change_at-answer.result.0 c.enter.new.phase (c.enter.ensures ∙ c.changed_phase.ensures) in
-    shifted _ _ c.args.step.thread p (record p { guard = c.change_at-answer.result.1; phase = c.enter.new.phase }) c.requires.room (record {
-      here = here;
-      places = refl;
+    let p' = record p { guard = c.change_at-answer.result.1; phase = c.enter.new.phase } in
+    shifted _ _ c.args.step.thread (place_of p) (place_of p') c.requires.room (record {
+      here = seen;
+      places = map-set place_of core.places.items c.args.step.thread p';
       numbers = c.requires.numbers;
       steps = simp length-append at (ap length c.appended-core.ensures);
       count = refl;
       programs = refl;
-      tables = length-set c.args.core.now.tables.items p.shard c.change_at-answer.new.table;
-      guards = λ h has. c.requires.room.guards c.args.step.thread p h here has;
+      tables = length-set core.tables.items p.shard c.change_at-answer.new.shard;
+      guards = λ i h has. c.requires.room.guards c.args.step.thread i (place_of p) h seen has;
       more_guards = omega arith;
       guards_fit = omega arith;
       unanswered = omega (arith, weights.0, ap owes before);
@@ -155,9 +246,9 @@ returns-clause-room g c =
       listing = omega (arith, weights.1, ap lists before, c.count_in.ensures.len);
       blocks = c.count_in.ensures.capacity;
       desks = refl;
-      holding = same_desks c.args.core.now.desks.items p.hold p.hold refl;
+      holding = same_desks core.desks.items p.holds.items p.holds.items refl;
       adding = omega (arith, weights.2, ap adds before, c.less_one-core.ensures);
-      pairs = omega (arith, c.requires.room.pairs, change, c.change_at-answer.ensures.len, c.less_one-core.ensures, ap {B = ℕ} (λ (z : Bool). if◌then◌else◌ z 1 0) c.takes_pair-gone.ensures, c.change_at-answer.new.table.ok.0, c.index_mut-table.result.now.ok.0);
+      pairs = omega (arith, c.requires.room.pairs, change_, puts.counted, gone, was, c.less_one-core.ensures);
       more_blocks = omega (arith, c.count_in.ensures.len);
-      listed = λ i e. let below = c.requires.room.listed c.args.step.thread p i here e in omega (arith, below, c.count_in.ensures.len);
+      listed = λ i e. let below = c.requires.room.listed c.args.step.thread (place_of p) i seen e in omega (arith, below, c.count_in.ensures.len);
     })

@@ -1,4 +1,4 @@
-use Rattle.std.proofs.Common.{◌≡◌, ◌<◌, ap, ◌∙◌, sym, subst, ltb-true, arith}
+use Rattle.std.proofs.Common.{ap, ◌∙◌, subst, ltb-true, arith}
 use Rattle.dashmap_table.specs.Slots.{slot_of, entry_with}
 use Rattle.dashmap_table.specs.Table.{Adds}
 use Rattle.dashmap_table.proofs.Sounds.{length-pairs_of}

@@ -1,4 +1,4 @@
-use Rattle.std.proofs.Common.{◌≡◌, Option, Some, None, IfSome, is_some, ap, ◌∙◌, sym}
+use Rattle.std.proofs.Common.{is_some, ap, ◌∙◌, sym}
 use Rattle.dashmap_table.specs.Slots.{slot_of}
 use Rattle.mapworld_moves.proofs.Slotted.{hashes-alike, slot-of_key, slot-present, if-some}
 use Rattle.mapworld_moves.proofs.pairs.find_pair.Goals as goal

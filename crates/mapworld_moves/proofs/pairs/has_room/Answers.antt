@@ -1,4 +1,4 @@
-use Rattle.std.proofs.Common.{◌≡◌, nat_lt, ap, ◌∙◌, sym}
+use Rattle.std.proofs.Common.{nat_lt, ap, ◌∙◌, sym}
 use Rattle.dashmap_table.proofs.Sounds.{length-pairs_of}
 use Rattle.mapworld_moves.proofs.pairs.has_room.Goals as goal
 
