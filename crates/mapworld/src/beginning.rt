@@ -8,12 +8,11 @@ ghost use Rattle.mapworld.specs.Beginning.{at_start, AreAtStart, AreFilled, pair
 
 use arrayvec::ArrayVec;
 use dashmap_table::Shard;
-
 use lock_api_desk::{Desk, TokenTable};
 use lock_api_raw::NoMemory;
 use mapworld_calls::Ask;
-use mapworld_state::{Phase, Place, ShardDesk};
 use mapworld_moves::put::put_pair;
+use mapworld_state::{Phase, Place, ShardDesk};
 use mapworld_steps::shard_of;
 use std::alloc::Allocator;
 use std::collections::VecDeque;

@@ -8,8 +8,8 @@ ghost use Rattle.dashmap_view.specs.Views.{all_pairs};
 ghost use Rattle.mapworld.specs.Views.{shown};
 
 use crate::pairs::pairs_of;
-use lock_api_raw::NoMemory;
 use dashmap_table::Shard;
+use lock_api_raw::NoMemory;
 use mapworld_moves::pairs::{find_pair, pair_at};
 use std::alloc::Allocator;
 use std::hash::{BuildHasher, Hash};

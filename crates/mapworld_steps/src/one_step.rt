@@ -50,10 +50,13 @@ fn go_on<K: Eq + Hash + Drop, V: Drop, S: BuildHasher, D: Deed<K, V> + Drop, A: 
 /// The step that the thread stands before, if it can move: whether it was made. Otherwise the world stays as it is.
 ///
 /// Whether a thread is kept out of its shard is asked of the shard's desk, so no step looks at the places of other threads.
-pub fn advance<K: Eq + Hash + Drop, V: Drop, S: BuildHasher, D: Deed<K, V> + Drop, A: Allocator + Clone>(
-    core: &mut Core<K, V, S, D, D::Answer, A>,
-    step: Step,
-) -> bool
+pub fn advance<
+    K: Eq + Hash + Drop,
+    V: Drop,
+    S: BuildHasher,
+    D: Deed<K, V> + Drop,
+    A: Allocator + Clone,
+>(core: &mut Core<K, V, S, D, D::Answer, A>, step: Step) -> bool
     requires sound { IsSoundCore D.Deed S.BuildHasher S.Hasher.Hasher K.eq K.hash_input core.old }
     requires room { Room core.old }
     requires slots { IsSlotted D.Deed S.BuildHasher S.Hasher.Hasher K.eq K.hash_input core.old }
