@@ -38,8 +38,7 @@ use std::marker::Model;
 ///
 /// `K` is a key, `V` a value, `S` makes the hasher that picks a key's shard, and `D` is what a program does with a pair
 /// that it is lent. The world keeps the allocator that it was made with, and takes all that it needs for its threads,
-/// their blocks and their replies when it is made. After that only a shard's list of pairs may grow; where memory is
-/// short then, the call is answered `NoMemory`, and nothing else is changed.
+/// their blocks and their replies when it is made. After that only a shard may grow; where memory is short then, the call is answered `NoMemory`, and nothing else is changed.
 ///
 /// ```text
 /// let mut world = MapWorld::new(alloc, 2, SpreadState, pairs, programs)?;
@@ -297,7 +296,7 @@ where
     /// - `CannotMove`: the thread is asleep or finished;
     /// - `StepsShort`: no step numbers are left for the step and all that must come after it.
     ///
-    /// It takes memory only where a shard's list of pairs grows. Where that is refused it is no error of `run`: the
+    /// It takes memory only where a shard grows. Where that is refused it is no error of `run`: the
     /// call is answered `NoMemory`.
     ///
     /// ```text
