@@ -42,7 +42,7 @@ use Rattle.mapworld.specs.Beginning.{at_start, AreAtStart, AreFilled, AreHashed,
 use Rattle.mapworld_sound.proofs.Orderly.{sound_empty}
 use Rattle.mapworld.proofs.Routes.{key_route-below}
 use Rattle.mapworld.proofs.Refusals.{sum_by-map}
-use Rattle.mapworld.proofs.Setups.{setup-laws}
+use Rattle.mapworld_moves.proofs.Keys.{setup-laws}
 use Rattle.mapworld.proofs.Outcomes.{element-at}
 use Rattle.mapworld.proofs.Viewing.{map_to, pair_at_route}
 

@@ -25,7 +25,7 @@ use Rattle.mapworld_state.specs.State.{State, pairs_of, threads_of, started_of}
 use Rattle.mapworld_state.specs.Held.{holds_before, HoldByPhase}
 use Rattle.mapworld_state.specs.Sound.{HoldsByGuard, IsInSession, Claim, Sound}
 use Rattle.mapworld_state.specs.World.{setup_of, world_setup}
-use Rattle.mapworld.proofs.Setups.{setup-laws}
+use Rattle.mapworld_moves.proofs.Keys.{setup-laws}
 use Rattle.mapworld.proofs.Viewing.{pairs_distinct, pair_at_route}
 
 -- an index below the length has an element

@@ -3,7 +3,7 @@ use Rattle.mapworld_state.specs.Core.{state_of}
 use Rattle.mapworld_state.specs.State.{State}
 use Rattle.mapworld_state.specs.World.{setup_of}
 use Rattle.mapworld_state.specs.Sound.{Sound}
-use Rattle.mapworld.proofs.Setups.{setup-laws}
+use Rattle.mapworld_moves.proofs.Keys.{setup-laws}
 use Rattle.mapworld_sound.proofs.Sounds.{sound-step}
 use Rattle.mapworld_sound.proofs.Adding.{step-adds}
 use Rattle.mapworld.proofs.Runs.{setup-fixed}
