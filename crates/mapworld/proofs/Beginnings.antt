@@ -1,11 +1,10 @@
 -- A new world is sound, has its opening pairs, and has room for all its calls.
-use Rattle.std.proofs.Common.{◌≡◌, ℕ, suc, ◌+◌, ◌≤◌, ◌^◌, Bool, true, false, List, [], ◌∷◌, length, Option, Some, None, slice_get, IsTrue, vec_capacity, refl, ap, ap₂, sym, ◌∙◌, subst, arith}
+use Rattle.std.proofs.Common.{◌≡◌, ℕ, suc, ◌+◌, ◌≤◌, ◌^◌, Bool, true, false, List, [], ◌∷◌, length, map, Option, Some, None, slice_get, IsTrue, vec_capacity, refl, ap, ap₂, sym, ◌∙◌, subst, arith}
 use Rattle.std.specs.List.{flat_map, sum_by, list_all}
 use Rattle.std.specs.Option.{option_and_then}
 use Rattle.std.specs.Hash.{HashWrites}
 use Rattle.std.specs.Cmp.{IsEquivalence}
-use Rattle.std.specs.declared.vec.Vec.{Vec}
-use Rattle.std.specs.declared.collections.VecDeque.{VecDeque}
+use Rattle.mapworld_state.specs.Shards.{ShardPairs}
 use Rattle.std.specs.declared.hash.BuildHasher as builder
 use Rattle.std.specs.declared.hash.Hasher as hasher
 use Rattle.std.proofs.lemmas.Bool.{true_from_ne_false, false≢true}
@@ -27,7 +26,10 @@ use Rattle.mapworld_state.specs.Holds.{Desks}
 use Rattle.mapworld_state.specs.declared.holds.Hold.{Hold}
 use Rattle.mapworld_state.specs.declared.place.Phase.{Phase}
 use Rattle.mapworld_state.specs.declared.place.Phase.TheVariants as phase
-use Rattle.mapworld_state.specs.declared.place.Place.{Place}
+use Rattle.mapworld_state.specs.Places.{Place, place_of}
+use Rattle.mapworld_state.specs.declared.place.Place.{Place as KeptPlace}
+use Rattle.mapworld_state.specs.Slots.{HasSlots, slot_key}
+use Rattle.mapworld_state.proofs.Views.{view-at}
 use Rattle.mapworld_state.specs.declared.world_core.Core.{Core}
 use Rattle.mapworld_state.specs.Route.{IsWorldAmount, key_route}
 use Rattle.mapworld_state.specs.State.{State, started_of}
@@ -35,11 +37,12 @@ use Rattle.mapworld_state.specs.World.{setup_of}
 use Rattle.mapworld_state.specs.Sound.{IsInSession, Stands, TablesAgree, Sound}
 use Rattle.mapworld_state.specs.Held.{HoldsMatch}
 use Rattle.mapworld_state.specs.Core.{state_of, owes, lists, adds, unheld, Room}
-use Rattle.mapworld.specs.Beginning.{at_start, AreAtStart, AreFilled, pairs_in, AreReady}
+use Rattle.dashmap_table.specs.Table.{Table}
+use Rattle.mapworld.specs.Beginning.{at_start, AreAtStart, AreFilled, AreHashed, pairs_in, AreReady}
 use Rattle.mapworld_sound.proofs.Orderly.{sound_empty}
 use Rattle.mapworld.proofs.Routes.{key_route-below}
 use Rattle.mapworld.proofs.Refusals.{sum_by-map}
-use Rattle.mapworld.proofs.Setups.{setup-laws}
+use Rattle.mapworld_moves.proofs.Keys.{setup-laws}
 use Rattle.mapworld.proofs.Outcomes.{element-at}
 use Rattle.mapworld.proofs.Viewing.{map_to, pair_at_route}
 
@@ -62,10 +65,10 @@ all-at p xs i x all at = true_from_ne_false (p x) (λ e.
 abbrev pub HasNoGuards : Desks → Type 0
 HasNoGuards holds = (i : ℕ) (desk : DeskState (Unit {0})) → slice_get holds i ≡ Some desk → (desk.guards ≡ []) × (1 ≤ desk.limit)
 
-module _ {K V D T A : Type 0} (x : Setup K V D T) (tables : List (Vec (K × V) A)) where
-  start_stands : (t : ℕ) (asks : VecDeque (Ask K V D) A) → slice_get x.programs t ≡ Some asks.items → Stands x [] [] [] tables t (at_start asks)
+module _ {K V D T : Type 0} (x : Setup K V D T) (tables : List (ShardPairs K V)) where
+  start_stands : (t : ℕ) (asks : List (Ask K V D)) → slice_get x.programs t ≡ Some asks → Stands x [] [] [] tables t (at_start asks)
   start_stands t asks has = record {
-    program = asks.items;
+    program = asks;
     has = has;
     asks_left = refl;
     within = omega arith;
@@ -79,22 +82,23 @@ module _ {K V D T A : Type 0} (x : Setup K V D T) (tables : List (Vec (K × V) A
     );
   }
 
-  all_stand : (places : List (Place K V D T A)) → AreAtStart x.programs places → (t : ℕ) (p : Place K V D T A) → slice_get places t ≡ Some p → Stands x [] [] [] tables t p
+  all_stand : (places : List (Place K V D T)) → AreAtStart x.programs places → (t : ℕ) (p : Place K V D T) → slice_get places t ≡ Some p → Stands x [] [] [] tables t p
   all_stand places start t p at =
-      subst (λ (q : Place K V D T A). Stands x [] [] [] tables t q) (sym (start.each t p at))
-      (start_stands t p.asks (ap (λ ps. slice_get ps t) (sym start.programs_are) ∙ map_to (λ (q : Place K V D T A). q.asks.items) places t p at))
+      subst (λ (q : Place K V D T). Stands x [] [] [] tables t q) (sym (start.each t p at))
+      (start_stands t p.asks (ap (λ ps. slice_get ps t) (sym start.programs_are) ∙ map_to (λ (q : Place K V D T). q.asks) places t p at))
 
-  nothing_held : (places : List (Place K V D T A)) (holds : Desks) → AreAtStart x.programs places → HasNoGuards holds → HoldsMatch places holds
+  nothing_held : (places : List (Place K V D T)) (holds : Desks) → AreAtStart x.programs places → HasNoGuards holds → HoldsMatch places holds
   nothing_held places holds start free = record {
-    listed = λ t p h at has. absurd (none t p h at has);
+    listed = λ t i p h at has. absurd (none t i p h at has);
     owned = λ s i desk g at listed. absurd (none-some g (ap (λ gs. slice_get gs i) (sym (free s desk at).0) ∙ listed));
-    apart = λ t u p q a b hp hq ha hb same. absurd (none t p a hp ha);
-    compatible = λ t u p q a b ne hp hq ha hb same. absurd (none t p a hp ha);
+    apart = λ t u i j p q a b hp hq ha hb same. absurd (none t i p a hp ha);
+    once = λ t i j p a b hp ha hb same. absurd (none t i p a hp ha);
+    compatible = λ t u i j p q a b ne hp hq ha hb same. absurd (none t i p a hp ha);
     sound = λ s desk at. sound_empty desk.limit desk.guards (free s desk at).1 (free s desk at).0;
   }
     where
-      none : (t : ℕ) (p : Place K V D T A) (h : Hold) → slice_get places t ≡ Some p → p.hold ≡ Some h → ⊥
-      none t p h at has = none-some h (sym (ap (λ (q : Place K V D T A). q.hold) (start.each t p at)) ∙ has)
+      none : (t i : ℕ) (p : Place K V D T) (h : Hold) → slice_get places t ≡ Some p → slice_get p.holds i ≡ Some h → ⊥
+      none t i p h at has = none-some h (sym (ap (λ (q : Place K V D T). slice_get q.holds i) (start.each t p at)) ∙ has)
 
   nothing_placed : (threads : List ℕ) (started : ℕ → Option ℕ) → WellPlaced x threads started [] []
   nothing_placed threads started = record {
@@ -107,20 +111,20 @@ module _ {K V D T A : Type 0} (x : Setup K V D T) (tables : List (Vec (K × V) A
   }
 
 -- a world in which nothing has happened
-pub record IsFresh {K V S D T A : Type 0} (w : State K V S D T A) : Type 0 where
+pub record IsFresh {K V S D T : Type 0} (w : State K V S D T) : Type 0 where
   pub steps : w.steps ≡ []
   pub holds : HasNoGuards w.holds
   pub blocks : w.blocks ≡ []
   pub replies : w.replies ≡ []
 
-module _ {K V S H D T A : Type 0} (d : deed.Ghosts D K V T) (b : builder.Ghosts S H) (h : hasher.Ghosts H) (eq : K → K → Bool) (writes : K → HashWrites) where
-  abbrev lists_of : State K V S D T A → List Step → List (Block K) → List (Reply K V T) → State K V S D T A
+module _ {K V S H D T : Type 0} (d : deed.Ghosts D K V T) (b : builder.Ghosts S H) (h : hasher.Ghosts H) (eq : K → K → Bool) (writes : K → HashWrites) where
+  abbrev lists_of : State K V S D T → List Step → List (Block K) → List (Reply K V T) → State K V S D T
   lists_of w steps blocks replies = record w { steps = steps; blocks = blocks; replies = replies }
 
-  agree : (w : State K V S D T A) → AreFilled eq (key_route b h writes w.hasher (length w.tables)) w.opening w.tables → TablesAgree (setup_of d b h eq writes w) [] w.tables
+  agree : (w : State K V S D T) → AreFilled eq (key_route b h writes w.hasher (length w.tables)) w.opening w.tables → TablesAgree (setup_of d b h eq writes w) [] w.tables
   agree w filled = record { routed = filled.routed; distinct = filled.distinct; contents_are = filled.contents_are }
 
-  sound_bare : (w : State K V S D T A) → IsWorldAmount (length w.tables) → list_all (one_guard false) w.programs ≡ true → AreAtStart w.programs w.places
+  sound_bare : (w : State K V S D T) → IsWorldAmount (length w.tables) → list_all (one_guard false) w.programs ≡ true → AreAtStart w.programs w.places
       → AreFilled eq (key_route b h writes w.hasher (length w.tables)) w.opening w.tables → HasNoGuards w.holds
       → Sound (setup_of d b h eq writes (lists_of w [] [] [])) (lists_of w [] [] [])
   sound_bare w amount guarded start filled free = record {
@@ -133,44 +137,44 @@ module _ {K V S H D T A : Type 0} (d : deed.Ghosts D K V T) (b : builder.Ghosts 
     replies = λ i r at. absurd (none-some r at);
   }
 
-  bare : (w : State K V S D T A) → IsFresh w → lists_of w [] [] [] ≡ w
+  bare : (w : State K V S D T) → IsFresh w → lists_of w [] [] [] ≡ w
   bare w fresh =
       ap (λ s. lists_of w s [] []) (sym fresh.steps)
       ∙ (ap (λ s. lists_of w w.steps s []) (sym fresh.blocks)
       ∙ ap (λ s. lists_of w w.steps w.blocks s) (sym fresh.replies))
 
-  pub new-sound : (w : State K V S D T A) → IsFresh w → IsWorldAmount (length w.tables) → list_all (one_guard false) w.programs ≡ true → AreAtStart w.programs w.places
+  pub new-sound : (w : State K V S D T) → IsFresh w → IsWorldAmount (length w.tables) → list_all (one_guard false) w.programs ≡ true → AreAtStart w.programs w.places
       → AreFilled eq (key_route b h writes w.hasher (length w.tables)) w.opening w.tables
       → Sound (setup_of d b h eq writes w) w
   new-sound w fresh amount guarded start filled =
-      subst (λ (v : State K V S D T A). Sound (setup_of d b h eq writes v) v) (bare w fresh) (sound_bare w amount guarded start filled fresh.holds)
+      subst (λ (v : State K V S D T). Sound (setup_of d b h eq writes v) v) (bare w fresh) (sound_bare w amount guarded start filled fresh.holds)
 
-  pub new-contents : (hasher : S) (pairs : List (K × V)) (tables : List (Vec (K × V) A)) → IsEquivalence eq → ((j k : K) → IsTrue (eq j k) → writes j ≡ writes k) → IsWorldAmount (length tables)
+  pub new-contents : (hasher : S) (pairs : List (K × V)) (tables : List (ShardPairs K V)) → IsEquivalence eq → ((j k : K) → IsTrue (eq j k) → writes j ≡ writes k) → IsWorldAmount (length tables)
       → AreFilled eq (key_route b h writes hasher (length tables)) pairs tables
       → (q : K) → pair_of eq (flat_map (λ table. table.items) tables) q ≡ opening_pair eq pairs q
   new-contents hasher pairs tables laws respects amount filled q =
-      let w : State K V S D T A = record { hasher = hasher; opening = pairs; programs = []; steps = []; places = []; tables = tables; holds = []; blocks = []; replies = [] } in
+      let w : State K V S D T = record { hasher = hasher; opening = pairs; programs = []; steps = []; places = []; tables = tables; holds = []; blocks = []; replies = [] } in
       let route = key_route-below b h writes hasher (length tables) amount q in
       let there = element-at tables (key_route b h writes hasher (length tables) q) route in
       pair_at_route (setup_of d b h eq writes w) [] tables (setup-laws d b h eq writes w laws respects) (agree w filled) q there.0 there.1
       ∙ filled.contents_are q there.0 there.1
 
-module _ {K V D T A : Type 0} (programs : List (List (Ask K V D))) (places : List (Place K V D T A)) (start : AreAtStart programs places) where
-  start_sum : (f : Phase K V D T → ℕ) → f phase.Rest ≡ 0 → sum_by (λ p. length p.asks.items + f p.phase) places ≡ sum_by length programs
+module _ {K V D T : Type 0} (programs : List (List (Ask K V D))) (places : List (Place K V D T)) (start : AreAtStart programs places) where
+  start_sum : (f : Phase K V D T → ℕ) → f phase.Rest ≡ 0 → sum_by (λ p. length p.asks + f p.phase) places ≡ sum_by length programs
   start_sum f none =
-      sum_by-alike (λ (p : Place K V D T A). length p.asks.items + f p.phase) (λ p. length p.asks.items) places (λ t p at.
-      let rests : f p.phase ≡ 0 = ap (λ (q : Place K V D T A). f q.phase) (start.each t p at) ∙ none in
+      sum_by-alike (λ (p : Place K V D T). length p.asks + f p.phase) (λ p. length p.asks) places (λ t p at.
+      let rests : f p.phase ≡ 0 = ap (λ (q : Place K V D T). f q.phase) (start.each t p at) ∙ none in
       omega (arith, rests))
-      ∙ (sym (sum_by-map length (λ (p : Place K V D T A). p.asks.items) places)
+      ∙ (sym (sum_by-map length (λ (p : Place K V D T). p.asks) places)
       ∙ ap (λ ps. sum_by length ps) start.programs_are)
 
   start_unheld : (i : ℕ) → sum_by (unheld i) places ≡ length places
   start_unheld i =
-      sum_by-alike (unheld i) (λ p. 1) places (λ t p at. ap (λ (q : Place K V D T A). unheld i q) (start.each t p at))
+      sum_by-alike (unheld i) (λ p. 1) places (λ t p at. ap (λ (q : Place K V D T). unheld i q) (start.each t p at))
       ∙ sum_by-ones places
 
   start_count : length places ≡ length programs
-  start_count = sym (length-map places (λ p. p.asks.items)) ∙ ap (λ ps. length ps) start.programs_are
+  start_count = sym (length-map places (λ p. p.asks)) ∙ ap (λ ps. length ps) start.programs_are
 
 -- what a new world's lists have room for
 pub record HasNewRoom {K V S D T A : Type 0} (c : Core K V S D T A) : Type 0 where
@@ -182,15 +186,15 @@ pub record HasNewRoom {K V S D T A : Type 0} (c : Core K V S D T A) : Type 0 whe
   pub blocks : sum_by length (state_of c).programs ≤ vec_capacity c.blocks
   pub desks : length c.desks.items ≡ length c.tables.items
   pub ready : AreReady (length (state_of c).programs) c.desks.items
-  pub pairs : c.pairs ≡ pairs_in c.tables.items
+  pub pairs : c.pairs ≡ pairs_in (state_of c).tables
   pub pairs_fit : c.pairs ≤ 2 ^ 31
   pub threads_fit : length (state_of c).programs ≤ 256
   pub shards : IsWorldAmount (length c.tables.items)
 
-pub new-room : {K V S D T A : Type 0} (c : Core K V S D T A) → IsFresh (state_of c) → AreAtStart (state_of c).programs c.places.items → HasNewRoom c → Room c
+pub new-room : {K V S D T A : Type 0} (c : Core K V S D T A) → IsFresh (state_of c) → AreAtStart (state_of c).programs (state_of c).places → HasNewRoom c → Room c
 new-room {K} {V} {S} {D} {T} {A} c fresh start room =
     let programs = (state_of c).programs in
-    let places = c.places.items in
+    let places = (state_of c).places in
     let owed_sum = start_sum programs places start owes refl in
     let list_sum = start_sum programs places start lists refl in
     let add_sum = start_sum programs places start adds refl in
@@ -201,7 +205,7 @@ new-room {K} {V} {S} {D} {T} {A} c fresh start room =
     record {
       count = omega (arith, room.count, no_steps);
       count_fits = omega (arith, room.count);
-      guards = λ t p h at has. absurd (none-some h (sym (ap (λ (q : Place K V D T A). q.hold) (start.each t p at)) ∙ has));
+      guards = λ t i p h at has. absurd (none-some h (sym (ap (λ (q : Place K V D T). slice_get q.holds i) (start.each t p at)) ∙ has));
       guards_fit = omega (arith, room.count, room.guards);
       unanswered = omega (arith, room.unanswered, no_replies);
       answers = omega (arith, no_replies, owed_sum);
@@ -219,5 +223,14 @@ new-room {K} {V} {S} {D} {T} {A} c fresh start room =
       places = same;
       threads_fit = omega (arith, same, room.threads_fit);
       shards = room.shards;
-      listed = λ t p i at has. absurd (none-some i (sym (ap (λ (q : Place K V D T A). q.block) (start.each t p at)) ∙ has));
+      listed = λ t p i at has. absurd (none-some i (sym (ap (λ (q : Place K V D T). q.block) (start.each t p at)) ∙ has));
     }
+
+-- the threads of a new world have found no pairs
+pub new-slotted : {K V D T A : Type 0} (x : Setup K V D T) (hash : K → ℕ) (tables : List (Table K V)) (bs : List (Block K)) (programs : List (List (Ask K V D))) (places : List (KeptPlace K V D T A))
+    → AreAtStart programs (map place_of places) → AreHashed hash tables → HasSlots x hash tables bs places
+new-slotted {K} {V} {D} {T} {A} x hash tables bs programs places start hashed = record {
+  hashed = hashed;
+  found = λ t p key at has.
+      absurd (none-some key (sym (ap (λ (q : Place K V D T). slot_key x bs q) (start.each t (place_of p) (view-at place_of places t p at))) ∙ has));
+}

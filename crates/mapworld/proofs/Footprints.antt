@@ -1,36 +1,29 @@
 -- Every step keeps to its footprint.
 use Rattle.std.proofs.Common.{◌≡◌, ◌≢◌, ℕ, zero, suc, inl, inr, false, List, [], ◌∷◌, ◌++◌, Option, Some, None, take, slice_get, slice_set, refl, ap, sym, ◌∙◌}
-use Rattle.std.specs.List.{flat_map}
-use Rattle.std.specs.declared.vec.Vec.{Vec}
+use Rattle.std.proofs.lemmas.Bool.{cases_eq}
 use Rattle.std.proofs.lemmas.Option.{same_Some}
 use Rattle.mapworld_calls.specs.declared.ask.Ask.{Ask}
 use Rattle.mapworld_calls.specs.declared.ask.Ask.TheVariants as ask
 use Rattle.mapworld_calls.specs.declared.block.Block.{Block}
 use Rattle.mapworld_calls.specs.Setup.{Setup, Laws}
-use Rattle.mapworld_calls.specs.Pairs.{opening_pair}
+use Rattle.mapworld_calls.specs.Pairs.{pair_of, opening_pair}
 use Rattle.mapworld_calls.specs.Programs.{keyed_key, opening_key, key_of}
 use Rattle.mapworld_calls.specs.Replay.{block_key, is_key, left, contents}
 use Rattle.mapworld_calls.specs.Placed.{IsDoneWithin}
 use Rattle.mapworld_calls.proofs.Folds.{fold-replaced}
-use Rattle.mapworld_calls.proofs.Lists.{slice_get-set_other}
+use Rattle.mapworld_calls.proofs.Lists.{slice_get-set_same, slice_get-set_other}
 use Rattle.mapworld_calls.proofs.Replays.{left-untouched}
 use Rattle.mapworld_state.specs.declared.step.Step.{Step}
-use Rattle.mapworld_state.specs.declared.place.Place.{Place}
+use Rattle.mapworld_state.specs.Places.{Place}
 use Rattle.mapworld_state.specs.State.{State, pairs_of, started_of}
 use Rattle.mapworld_state.specs.Moves.{CountsIn, CountsCall}
-use Rattle.mapworld_state.specs.Steps.{IsStep, start, admit, find, find_grows, find_refused, deed_appends, deed_applies, deed_views, deed_reads, deed_changes, deed_fills, downgrade, release, answers}
-use Rattle.mapworld_state.specs.Footprint.{OthersKeepPairs, neither, one_pair, one_desk, HasFootprint}
+use Rattle.mapworld_state.specs.Steps.{GrowsShard, IsStep, start, admit, find, find_grows, find_refused, deed_appends, deed_applies, deed_views, deed_reads, deed_changes, deed_fills, downgrade, release, answers}
+use Rattle.mapworld_state.specs.Footprint.{KeepsPairs, OthersKeepPairs, neither, one_pair, one_desk, HasFootprint}
 use Rattle.mapworld_state.specs.Sound.{Sound}
-use Rattle.mapworld.proofs.Outcomes.{agrees}
+use Rattle.mapworld_state.specs.Shards.{ShardPairs}
+use Rattle.mapworld.proofs.Viewing.{pair_at_route}
+use Rattle.mapworld.proofs.Outcomes.{agrees, element-at}
 use Rattle.mapworld_sound.proofs.Sounds.{sound-step}
-
--- a list that is another value with the same pairs
-same_pairs : {X A : Type 0} (tables : List (Vec X A)) (i : ℕ) (old new : Vec X A) → slice_get tables i ≡ Some old → new.items ≡ old.items
-    → flat_map (λ (v : Vec X A). v.items) (slice_set tables i new) ≡ flat_map (λ (v : Vec X A). v.items) tables
-same_pairs [] i old new at same = refl
-same_pairs {X} {A} (t ∷ ts) zero old new at same =
-    ap (λ xs. xs ++ flat_map (λ (v : Vec X A). v.items) ts) (same ∙ ap (λ (v : Vec X A). v.items) (sym (same_Some t old at)))
-same_pairs (t ∷ ts) (suc i) old new at same = ap (λ xs. t.items ++ xs) (same_pairs ts i old new at same)
 
 -- a call that has a block of its own is handed a key
 asked_key : {K V D T : Type 0} (x : Setup K V D T) (started : ℕ → Option ℕ) (replies : _) (b : Block K) (a : Ask K V D) → IsDoneWithin x started replies b a
@@ -39,7 +32,7 @@ asked_key x started replies b (ask.Keyed k) done = (keyed_key k, refl)
 asked_key x started replies b (ask.Begin g) done = (opening_key g, refl)
 asked_key x started replies b (ask.Held h) done = absurd done
 
-module _ {K V S D T A : Type 0} (x : Setup K V D T) (laws : Laws x) (w : State K V S D T A) (s : Step) (w' : State K V S D T A) (sound : Sound x w) where
+module _ {K V S D T : Type 0} (x : Setup K V D T) (laws : Laws x) (w : State K V S D T) (s : Step) (w' : State K V S D T) (sound : Sound x w) where
   block_has_key : (i : ℕ) (b : Block K) → slice_get w.blocks i ≡ Some b → (k : K) × (block_key x b ≡ Some k)
   block_has_key i b at =
       let placed = sound.placed.placed i b at in
@@ -79,88 +72,106 @@ module _ {K V S D T A : Type 0} (x : Setup K V D T) (laws : Laws x) (w : State K
               ∙ sym ((agrees x laws w sound).contents_are q))),
         )
 
-  stays_elsewhere : (p' : Place K V D T A) (t : ℕ) → t ≢ s.thread → slice_get (slice_set w.places s.thread p') t ≡ slice_get w.places t
+  -- a shard that grows keeps what each key has
+  grown_keep : GrowsShard x w s w' → KeepsPairs x.eq w w'
+  grown_keep a q =
+      let table = element-at w.tables (x.route q) (sound.routes q) in
+      let tables = ap (λ (v : State K V S D T). v.tables) a.after in
+      let now = sound-step x laws w s w' sound (find_grows a) in
+      let still : (t : ShardPairs K V) × (slice_get w'.tables (x.route q) ≡ Some t) × (pair_of x.eq t.items q ≡ pair_of x.eq table.0.items q) = elim (cases_eq a.place.shard (x.route q)) [
+        | inl here ↦
+            let own = same_Some a.table table.0 (sym a.held ∙ (ap (slice_get w.tables) here ∙ table.1)) in (
+              a.grown,
+              ap (λ (ts : List (ShardPairs K V)). slice_get ts (x.route q)) tables ∙ (ap (slice_get (slice_set w.tables a.place.shard a.grown)) (sym here) ∙ slice_get-set_same w.tables a.place.shard a.table a.grown a.held),
+              a.grows.found q ∙ ap (λ (t : ShardPairs K V). pair_of x.eq t.items q) own,
+            )
+        | inr other ↦ (table.0, ap (λ (ts : List (ShardPairs K V)). slice_get ts (x.route q)) tables ∙ (slice_get-set_other w.tables a.place.shard (x.route q) a.grown other ∙ table.1), refl)
+      ] in
+      pair_at_route x w'.blocks w'.tables laws now.tables q still.0 still.1
+      ∙ (still.2 ∙ sym (pair_at_route x w.blocks w.tables laws sound.tables q table.0 table.1))
+
+  stays_elsewhere : (p' : Place K V D T) (t : ℕ) → t ≢ s.thread → slice_get (slice_set w.places s.thread p') t ≡ slice_get w.places t
   stays_elsewhere p' t ne = slice_get-set_other w.places s.thread t p' (λ e. ne (sym e))
 
   pub step_footprint : IsStep x w s w' → HasFootprint x.eq w s w'
   step_footprint (start a) = record {
-    places = λ t ne. ap (λ (v : State K V S D T A). slice_get v.places t) a.after ∙ stays_elsewhere _ t ne;
-    touches = neither (ap pairs_of a.after) (ap (λ (v : State K V S D T A). v.holds) a.after);
-    replies = inl (ap (λ (v : State K V S D T A). v.replies) a.after);
+    places = λ t ne. ap (λ (v : State K V S D T). slice_get v.places t) a.after ∙ stays_elsewhere _ t ne;
+    touches = neither (λ q. ap (λ (v : State K V S D T). pair_of x.eq (pairs_of v) q) a.after) (ap (λ (v : State K V S D T). v.holds) a.after);
+    replies = inl (ap (λ (v : State K V S D T). v.replies) a.after);
   }
   step_footprint (admit a) = record {
-    places = λ t ne. ap (λ (v : State K V S D T A). slice_get v.places t) a.after ∙ stays_elsewhere _ t ne;
-    touches = one_desk a.hold.shard (ap pairs_of a.after)
-        (λ i ne. ap (λ (v : State K V S D T A). slice_get v.holds i) a.after ∙ slice_get-set_other w.holds a.hold.shard i _ (λ e. ne (sym e)));
-    replies = inl (ap (λ (v : State K V S D T A). v.replies) a.after);
+    places = λ t ne. ap (λ (v : State K V S D T). slice_get v.places t) a.after ∙ stays_elsewhere _ t ne;
+    touches = one_desk a.hold.shard (λ q. ap (λ (v : State K V S D T). pair_of x.eq (pairs_of v) q) a.after)
+        (λ i ne. ap (λ (v : State K V S D T). slice_get v.holds i) a.after ∙ slice_get-set_other w.holds a.hold.shard i _ (λ e. ne (sym e)));
+    replies = inl (ap (λ (v : State K V S D T). v.replies) a.after);
   }
   step_footprint (find a) = record {
-    places = λ t ne. ap (λ (v : State K V S D T A). slice_get v.places t) a.after ∙ stays_elsewhere _ t ne;
-    touches = neither (ap pairs_of a.after) (ap (λ (v : State K V S D T A). v.holds) a.after);
-    replies = inl (ap (λ (v : State K V S D T A). v.replies) a.after);
+    places = λ t ne. ap (λ (v : State K V S D T). slice_get v.places t) a.after ∙ stays_elsewhere _ t ne;
+    touches = neither (λ q. ap (λ (v : State K V S D T). pair_of x.eq (pairs_of v) q) a.after) (ap (λ (v : State K V S D T). v.holds) a.after);
+    replies = inl (ap (λ (v : State K V S D T). v.replies) a.after);
   }
   step_footprint (find_grows a) = record {
-    places = λ t ne. ap (λ (v : State K V S D T A). slice_get v.places t) a.after ∙ stays_elsewhere _ t ne;
-    touches = neither (ap pairs_of a.after ∙ same_pairs w.tables a.place.shard a.table a.grown a.held a.pairs) (ap (λ (v : State K V S D T A). v.holds) a.after);
-    replies = inl (ap (λ (v : State K V S D T A). v.replies) a.after);
+    places = λ t ne. ap (λ (v : State K V S D T). slice_get v.places t) a.after ∙ stays_elsewhere _ t ne;
+    touches = neither (grown_keep a) (ap (λ (v : State K V S D T). v.holds) a.after);
+    replies = inl (ap (λ (v : State K V S D T). v.replies) a.after);
   }
   step_footprint (find_refused a) = record {
-    places = λ t ne. ap (λ (v : State K V S D T A). slice_get v.places t) a.after ∙ stays_elsewhere _ t ne;
-    touches = neither (ap pairs_of a.after ∙ same_pairs w.tables a.place.shard a.table a.kept a.held a.pairs) (ap (λ (v : State K V S D T A). v.holds) a.after);
-    replies = inl (ap (λ (v : State K V S D T A). v.replies) a.after);
+    places = λ t ne. ap (λ (v : State K V S D T). slice_get v.places t) a.after ∙ stays_elsewhere _ t ne;
+    touches = neither (λ q. ap (λ (v : State K V S D T). pair_of x.eq (pairs_of v) q) a.after) (ap (λ (v : State K V S D T). v.holds) a.after);
+    replies = inl (ap (λ (v : State K V S D T). v.replies) a.after);
   }
   step_footprint (deed_appends a) =
-      let k = others_keep (deed_appends a) a.key a.place.block a.place.next a.blocks a.counted (ap (λ (v : State K V S D T A). v.blocks) a.after) in
+      let k = others_keep (deed_appends a) a.key a.place.block a.place.next a.blocks a.counted (ap (λ (v : State K V S D T). v.blocks) a.after) in
       record {
-        places = λ t ne. ap (λ (v : State K V S D T A). slice_get v.places t) a.after ∙ stays_elsewhere _ t ne;
-        touches = one_pair k.0 k.1 (ap (λ (v : State K V S D T A). v.holds) a.after);
-        replies = inl (ap (λ (v : State K V S D T A). v.replies) a.after);
+        places = λ t ne. ap (λ (v : State K V S D T). slice_get v.places t) a.after ∙ stays_elsewhere _ t ne;
+        touches = one_pair k.0 k.1 (ap (λ (v : State K V S D T). v.holds) a.after);
+        replies = inl (ap (λ (v : State K V S D T). v.replies) a.after);
       }
   step_footprint (deed_applies a) =
-      let k = others_keep (deed_applies a) a.pair.0 a.place.block a.place.next a.blocks a.counted (ap (λ (v : State K V S D T A). v.blocks) a.after) in
+      let k = others_keep (deed_applies a) a.pair.0 a.place.block a.place.next a.blocks a.counted (ap (λ (v : State K V S D T). v.blocks) a.after) in
       record {
-        places = λ t ne. ap (λ (v : State K V S D T A). slice_get v.places t) a.after ∙ stays_elsewhere _ t ne;
-        touches = one_pair k.0 k.1 (ap (λ (v : State K V S D T A). v.holds) a.after);
-        replies = inl (ap (λ (v : State K V S D T A). v.replies) a.after);
+        places = λ t ne. ap (λ (v : State K V S D T). slice_get v.places t) a.after ∙ stays_elsewhere _ t ne;
+        touches = one_pair k.0 k.1 (ap (λ (v : State K V S D T). v.holds) a.after);
+        replies = inl (ap (λ (v : State K V S D T). v.replies) a.after);
       }
   step_footprint (deed_views a) = record {
-    places = λ t ne. ap (λ (v : State K V S D T A). slice_get v.places t) a.after ∙ stays_elsewhere _ t ne;
-    touches = neither (ap pairs_of a.after) (ap (λ (v : State K V S D T A). v.holds) a.after);
-    replies = inl (ap (λ (v : State K V S D T A). v.replies) a.after);
+    places = λ t ne. ap (λ (v : State K V S D T). slice_get v.places t) a.after ∙ stays_elsewhere _ t ne;
+    touches = neither (λ q. ap (λ (v : State K V S D T). pair_of x.eq (pairs_of v) q) a.after) (ap (λ (v : State K V S D T). v.holds) a.after);
+    replies = inl (ap (λ (v : State K V S D T). v.replies) a.after);
   }
   step_footprint (deed_reads a) = record {
-    places = λ t ne. ap (λ (v : State K V S D T A). slice_get v.places t) a.after ∙ stays_elsewhere _ t ne;
-    touches = neither (ap pairs_of a.after) (ap (λ (v : State K V S D T A). v.holds) a.after);
-    replies = inl (ap (λ (v : State K V S D T A). v.replies) a.after);
+    places = λ t ne. ap (λ (v : State K V S D T). slice_get v.places t) a.after ∙ stays_elsewhere _ t ne;
+    touches = neither (λ q. ap (λ (v : State K V S D T). pair_of x.eq (pairs_of v) q) a.after) (ap (λ (v : State K V S D T). v.holds) a.after);
+    replies = inl (ap (λ (v : State K V S D T). v.replies) a.after);
   }
   step_footprint (deed_changes a) =
-      let k = others_keep (deed_changes a) a.pair.0 a.place.block a.place.next a.blocks a.counted (ap (λ (v : State K V S D T A). v.blocks) a.after) in
+      let k = others_keep (deed_changes a) a.pair.0 a.place.block a.place.next a.blocks a.counted (ap (λ (v : State K V S D T). v.blocks) a.after) in
       record {
-        places = λ t ne. ap (λ (v : State K V S D T A). slice_get v.places t) a.after ∙ stays_elsewhere _ t ne;
-        touches = one_pair k.0 k.1 (ap (λ (v : State K V S D T A). v.holds) a.after);
-        replies = inl (ap (λ (v : State K V S D T A). v.replies) a.after);
+        places = λ t ne. ap (λ (v : State K V S D T). slice_get v.places t) a.after ∙ stays_elsewhere _ t ne;
+        touches = one_pair k.0 k.1 (ap (λ (v : State K V S D T). v.holds) a.after);
+        replies = inl (ap (λ (v : State K V S D T). v.replies) a.after);
       }
   step_footprint (deed_fills a) =
-      let k = others_keep (deed_fills a) a.key a.place.block a.place.next a.blocks a.counted (ap (λ (v : State K V S D T A). v.blocks) a.after) in
+      let k = others_keep (deed_fills a) a.key a.place.block a.place.next a.blocks a.counted (ap (λ (v : State K V S D T). v.blocks) a.after) in
       record {
-        places = λ t ne. ap (λ (v : State K V S D T A). slice_get v.places t) a.after ∙ stays_elsewhere _ t ne;
-        touches = one_pair k.0 k.1 (ap (λ (v : State K V S D T A). v.holds) a.after);
-        replies = inl (ap (λ (v : State K V S D T A). v.replies) a.after);
+        places = λ t ne. ap (λ (v : State K V S D T). slice_get v.places t) a.after ∙ stays_elsewhere _ t ne;
+        touches = one_pair k.0 k.1 (ap (λ (v : State K V S D T). v.holds) a.after);
+        replies = inl (ap (λ (v : State K V S D T). v.replies) a.after);
       }
   step_footprint (downgrade a) = record {
-    places = λ t ne. ap (λ (v : State K V S D T A). slice_get v.places t) a.after ∙ stays_elsewhere _ t ne;
-    touches = one_desk a.hold.shard (ap pairs_of a.after)
-        (λ i ne. ap (λ (v : State K V S D T A). slice_get v.holds i) a.after ∙ slice_get-set_other w.holds a.hold.shard i _ (λ e. ne (sym e)));
-    replies = inl (ap (λ (v : State K V S D T A). v.replies) a.after);
+    places = λ t ne. ap (λ (v : State K V S D T). slice_get v.places t) a.after ∙ stays_elsewhere _ t ne;
+    touches = one_desk a.hold.shard (λ q. ap (λ (v : State K V S D T). pair_of x.eq (pairs_of v) q) a.after)
+        (λ i ne. ap (λ (v : State K V S D T). slice_get v.holds i) a.after ∙ slice_get-set_other w.holds a.hold.shard i _ (λ e. ne (sym e)));
+    replies = inl (ap (λ (v : State K V S D T). v.replies) a.after);
   }
   step_footprint (release a) = record {
-    places = λ t ne. ap (λ (v : State K V S D T A). slice_get v.places t) a.after ∙ stays_elsewhere _ t ne;
-    touches = one_desk a.hold.shard (ap pairs_of a.after)
-        (λ i ne. ap (λ (v : State K V S D T A). slice_get v.holds i) a.after ∙ slice_get-set_other w.holds a.hold.shard i _ (λ e. ne (sym e)));
-    replies = inl (ap (λ (v : State K V S D T A). v.replies) a.after);
+    places = λ t ne. ap (λ (v : State K V S D T). slice_get v.places t) a.after ∙ stays_elsewhere _ t ne;
+    touches = one_desk a.hold.shard (λ q. ap (λ (v : State K V S D T). pair_of x.eq (pairs_of v) q) a.after)
+        (λ i ne. ap (λ (v : State K V S D T). slice_get v.holds i) a.after ∙ slice_get-set_other w.holds a.hold.shard i _ (λ e. ne (sym e)));
+    replies = inl (ap (λ (v : State K V S D T). v.replies) a.after);
   }
   step_footprint (answers a) = record {
-    places = λ t ne. ap (λ (v : State K V S D T A). slice_get v.places t) a.after ∙ stays_elsewhere _ t ne;
-    touches = neither (ap pairs_of a.after) (ap (λ (v : State K V S D T A). v.holds) a.after);
-    replies = inr (_, refl, ap (λ (v : State K V S D T A). v.replies) a.after);
+    places = λ t ne. ap (λ (v : State K V S D T). slice_get v.places t) a.after ∙ stays_elsewhere _ t ne;
+    touches = neither (λ q. ap (λ (v : State K V S D T). pair_of x.eq (pairs_of v) q) a.after) (ap (λ (v : State K V S D T). v.holds) a.after);
+    replies = inr (_, refl, ap (λ (v : State K V S D T). v.replies) a.after);
   }

@@ -1,5 +1,4 @@
 pub mod Viewing
-pub mod Setups
 pub mod Outcomes
 pub mod Footprints
 pub mod Runs

@@ -7,6 +7,7 @@ use Rattle.std.proofs.lemmas.Bool.{cond-true, cond-false, cases_Bool}
 use Rattle.std.proofs.lemmas.List.{reverse-append}
 use Rattle.std.proofs.lemmas.List.Folds.{find-append}
 use Rattle.mapworld_calls.specs.Pairs.{has_key, pair_of, key_and_value, opening_pair}
+use Rattle.dashmap_table.specs.Shards.{put_over}
 use Rattle.dashmap_table.proofs.Cases.{choice}
 use Rattle.mapworld_state.proofs.Tables.{pair_of-same, pair_of-is}
 
@@ -87,7 +88,7 @@ module _ {K V : Type 0} (eq : K → K → Bool) (laws : IsEquivalence eq) where
       (last_pushed ps (k, v) q ∙ cond-true (eq k q) (Some (k, v)) (pair_of eq (reverse ps) q) e)
 
   -- the first pair of a key opens it
-  pub opening_pair-push_new : (ps : List (K × V)) (k : K) (v : V) → opening_pair eq ps k ≡ None → (q : K) → opening_pair eq (ps ++ (k, v) ∷ []) q ≡ (if eq k q then Some (k, v) else opening_pair eq ps q)
+  opening_pair-push_new : (ps : List (K × V)) (k : K) (v : V) → opening_pair eq ps k ≡ None → (q : K) → opening_pair eq (ps ++ (k, v) ∷ []) q ≡ (if eq k q then Some (k, v) else opening_pair eq ps q)
   opening_pair-push_new ps k v none q =
       choice (eq k q) (Some (k, v)) (opening_pair eq ps q) (opening_pair eq (ps ++ (k, v) ∷ []) q)
       (λ e.
@@ -96,7 +97,7 @@ module _ {K V : Type 0} (eq : K → K → Bool) (laws : IsEquivalence eq) where
       (λ e. push_other ps k v q e)
 
   -- each later one gives it its value
-  pub opening_pair-push_again : (ps : List (K × V)) (k : K) (v : V) (p : K × V) → opening_pair eq ps k ≡ Some p → (q : K) → opening_pair eq (ps ++ (k, v) ∷ []) q ≡ (if eq k q then Some (p.0, v) else opening_pair eq ps q)
+  opening_pair-push_again : (ps : List (K × V)) (k : K) (v : V) (p : K × V) → opening_pair eq ps k ≡ Some p → (q : K) → opening_pair eq (ps ++ (k, v) ∷ []) q ≡ (if eq k q then Some (p.0, v) else opening_pair eq ps q)
   opening_pair-push_again ps k v p some q =
       choice (eq k q) (Some (p.0, v)) (opening_pair eq ps q) (opening_pair eq (ps ++ (k, v) ∷ []) q)
       (λ e.
@@ -106,3 +107,9 @@ module _ {K V : Type 0} (eq : K → K → Bool) (laws : IsEquivalence eq) where
       ∙ (ap (λ (o : Option (K × V)). key_and_value (option_or o (Some (k, v))) (Some (k, v))) there
       ∙ ap (λ (x : K). Some (x, v)) a.2))
       (λ e. push_other ps k v q e)
+
+  -- so each pair more is put over what its key opened with
+  pub opening_pair-put : (ps : List (K × V)) (k : K) (v : V) (o : Option (K × V)) → opening_pair eq ps k ≡ o → (q : K)
+      → opening_pair eq (ps ++ (k, v) ∷ []) q ≡ (if eq k q then Some (put_over o k v) else opening_pair eq ps q)
+  opening_pair-put ps k v None at q = opening_pair-push_new ps k v at q
+  opening_pair-put ps k v (Some p) at q = opening_pair-push_again ps k v p at q

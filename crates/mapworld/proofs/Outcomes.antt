@@ -1,6 +1,6 @@
 -- What holds of every world: it agrees with the replay, and exactly the threads between admission and release hold.
-use Rattle.std.proofs.Common.{◌≡◌, ℕ, ◌+◌, ◌<◌, inl, inr, Bool, true, IsTrue, List, length, map, Option, Some, None, is_some, slice_get, refl, sym, ap, ◌∙◌, arith}
-use Rattle.std.specs.declared.vec.Vec.{Vec}
+use Rattle.std.proofs.Common.{◌≡◌, ℕ, ◌+◌, ◌<◌, inl, inr, Bool, IsTrue, if◌then◌else◌, List, [], ◌∷◌, length, map, Option, Some, None, is_some, slice_get, refl, sym, ap, ◌∙◌, arith}
+use Rattle.mapworld_state.specs.Shards.{ShardPairs}
 use Rattle.std.specs.Hash.{HashWrites}
 use Rattle.std.specs.Cmp.{IsEquivalence}
 use Rattle.std.specs.declared.hash.BuildHasher as builder
@@ -20,19 +20,19 @@ use Rattle.mapworld_state.specs.declared.place.Guard.{Guard}
 use Rattle.mapworld_state.specs.declared.place.Guard.TheVariants as guard
 use Rattle.mapworld_state.specs.declared.place.Phase.{Phase}
 use Rattle.mapworld_state.specs.declared.place.Phase.TheVariants as phase
-use Rattle.mapworld_state.specs.declared.place.Place.{Place}
+use Rattle.mapworld_state.specs.Places.{Place}
 use Rattle.mapworld_state.specs.State.{State, pairs_of, threads_of, started_of}
 use Rattle.mapworld_state.specs.Held.{holds_before, HoldByPhase}
 use Rattle.mapworld_state.specs.Sound.{HoldsByGuard, IsInSession, Claim, Sound}
 use Rattle.mapworld_state.specs.World.{setup_of, world_setup}
-use Rattle.mapworld.proofs.Setups.{setup-laws}
+use Rattle.mapworld_moves.proofs.Keys.{setup-laws}
 use Rattle.mapworld.proofs.Viewing.{pairs_distinct, pair_at_route}
 
 -- an index below the length has an element
 pub element-at : {X : Type 0} (xs : List X) (i : ℕ) → i < length xs → (y : X) × (slice_get xs i ≡ Some y)
 element-at xs i lt = elim (slice_get_cases xs i).1 [ inl here ↦ (here.0, here.2) | inr past ↦ absurd (let le = past.0 in omega arith) ]
 
-pub agrees : {K V S D T A : Type 0} (x : Setup K V D T) → Laws x → (w : State K V S D T A) → Sound x w → Agrees x w.blocks (pairs_of w) w.replies
+pub agrees : {K V S D T : Type 0} (x : Setup K V D T) → Laws x → (w : State K V S D T) → Sound x w → Agrees x w.blocks (pairs_of w) w.replies
 agrees x laws w sound = record {
   distinct = pairs_distinct x w.blocks w.tables laws sound.tables;
   contents_are = λ q.
@@ -42,51 +42,51 @@ agrees x laws w sound = record {
 }
 
 -- so it is with a world's own setup, and with its calls as calls of every kind
-module _ {K V S H D T A : Type 0} (d : deed.Ghosts D K V T) (b : builder.Ghosts S H) (h : hasher.Ghosts H) (eq : K → K → Bool) (writes : K → HashWrites) where
-  pub world-lawful : (w : State K V S D T A) → IsEquivalence eq → ((j k : K) → IsTrue (eq j k) → writes j ≡ writes k) → every_setup.Laws (world_setup d b h eq writes w)
+module _ {K V S H D T : Type 0} (d : deed.Ghosts D K V T) (b : builder.Ghosts S H) (h : hasher.Ghosts H) (eq : K → K → Bool) (writes : K → HashWrites) where
+  pub world-lawful : (w : State K V S D T) → IsEquivalence eq → ((j k : K) → IsTrue (eq j k) → writes j ≡ writes k) → every_setup.Laws (world_setup d b h eq writes w)
   world-lawful w lawful respects = let l = setup-laws d b h eq writes w lawful respects in record { equivalence = l.equivalence; routes = l.routes }
 
-  pub world-agrees : (w : State K V S D T A) → IsEquivalence eq → ((j k : K) → IsTrue (eq j k) → writes j ≡ writes k) → Sound (setup_of d b h eq writes w) w
+  pub world-agrees : (w : State K V S D T) → IsEquivalence eq → ((j k : K) → IsTrue (eq j k) → writes j ≡ writes k) → Sound (setup_of d b h eq writes w) w
       → every_agrees.Agrees (world_setup d b h eq writes w) w.blocks (pairs_of w) (map as_reply w.replies)
   world-agrees w lawful respects sound =
       agrees-as (setup_of d b h eq writes w) (length w.tables) (threads_of w) (started_of w) w.blocks w.replies sound.placed (pairs_of w)
       (agrees (setup_of d b h eq writes w) (setup-laws d b h eq writes w lawful respects) w sound)
 
-  pub world-placed : (w : State K V S D T A) → Sound (setup_of d b h eq writes w) w
+  pub world-placed : (w : State K V S D T) → Sound (setup_of d b h eq writes w) w
       → every_placed.WellPlaced (world_setup d b h eq writes w) (threads_of w) (started_of w) w.blocks (map as_reply w.replies)
   world-placed w sound = placed-as (setup_of d b h eq writes w) (length w.tables) (threads_of w) (started_of w) w.blocks w.replies sound.placed
 
--- a hold that is known
-has_hold : (o : Option Hold) (h : Hold) → o ≡ Some h → is_some o ≡ true
-has_hold o h is = ap is_some is
+-- one hold is one
+one_hold : (hs : List Hold) (h : Hold) → hs ≡ h ∷ [] → length hs ≡ 1
+one_hold hs h is = ap length is
 
-module _ {K V D T A : Type 0} (x : Setup K V D T) (threads : List ℕ) (bs : List (Block K)) (tables : List (Vec (K × V) A)) (t : ℕ) (p : Place K V D T A) where
+module _ {K V D T : Type 0} (x : Setup K V D T) (threads : List ℕ) (bs : List (Block K)) (tables : List (ShardPairs K V)) (t : ℕ) (p : Place K V D T) where
   -- a guard's thread holds its shard
-  guard_holds : (n : ℕ) (g : Guard K) (session block : Option ℕ) → p.guard ≡ Some g → IsInSession x bs tables t p n session block → (h : Hold) × (p.hold ≡ Some h)
+  guard_holds : (n : ℕ) (g : Guard K) (session block : Option ℕ) → p.guard ≡ Some g → IsInSession x bs tables t p n session block → length p.holds ≡ 1
   guard_holds n g None block guarded h = absurd (none-some g (sym h.0 ∙ guarded))
   guard_holds n g (Some c) None guarded h = absurd (none-some g (sym h.0 ∙ guarded))
-  guard_holds n (guard.Pair kind slot) (Some c) (Some i) guarded h = let g = rw guarded at h.guard in (g.2.hold, g.2.has)
-  guard_holds n (guard.Vacant k) (Some c) (Some i) guarded h = let g = rw guarded at h.guard in (g.1.hold, g.1.has)
+  guard_holds n (guard.Pair kind) (Some c) (Some i) guarded h = let g = rw guarded at h.guard in one_hold p.holds g.2.hold g.2.has
+  guard_holds n (guard.Vacant k) (Some c) (Some i) guarded h = let g = rw guarded at h.guard in one_hold p.holds g.1.hold g.1.has
 
   -- between two calls, and before an answer, a thread holds where it has a guard
-  by_guard : (n : ℕ) (session block : Option ℕ) (g : Option (Guard K)) → p.guard ≡ g → HoldsByGuard p → IsInSession x bs tables t p n session block → is_some p.hold ≡ is_some g
-  by_guard n session block None is free ready = ap is_some (free is)
-  by_guard n session block (Some g) is free ready = let h = guard_holds n g session block is ready in has_hold p.hold h.0 h.1
+  by_guard : (n : ℕ) (session block : Option ℕ) (g : Option (Guard K)) → p.guard ≡ g → HoldsByGuard p → IsInSession x bs tables t p n session block → length p.holds ≡ (if is_some g then 1 else 0)
+  by_guard n session block None is free ready = ap length (free is)
+  by_guard n session block (Some g) is free ready = guard_holds n g session block is ready
 
-  by_claim : (f : Phase K V D T) → Claim x threads bs tables t p f → is_some p.hold ≡ holds_before p.guard f
+  by_claim : (f : Phase K V D T) → Claim x threads bs tables t p f → length p.holds ≡ holds_before p.guard f
   by_claim phase.Rest c = by_guard p.next _ p.block p.guard refl c.1 c.2
-  by_claim (phase.Admit r) c = ap is_some c.2
-  by_claim (phase.Find r) c = has_hold p.hold c.2.hold c.2.has
-  by_claim (phase.Grow w) c = has_hold p.hold c.2.hold c.2.has
-  by_claim (phase.Append k v) c = has_hold p.hold c.1.alone.hold c.1.alone.has
-  by_claim (phase.Apply i k) c = has_hold p.hold c.2.alone.hold c.2.alone.has
-  by_claim (phase.View i k d) c = has_hold p.hold c.3.hold c.3.has
-  by_claim (phase.Read d) c = let h = guard_holds p.next (guard.Pair c.0 c.1) _ p.block c.3 c.4 in has_hold p.hold h.0 h.1
-  by_claim (phase.Change h) c = has_hold p.hold c.5.hold c.5.has
-  by_claim (phase.Fill v) c = has_hold p.hold c.3.hold c.3.has
-  by_claim phase.Downgrade c = has_hold p.hold c.3.hold c.3.has
-  by_claim (phase.Release r) c = has_hold p.hold c.1 c.3
+  by_claim (phase.Admit r) c = ap length c.2
+  by_claim (phase.Find r) c = one_hold p.holds c.2.hold c.2.has
+  by_claim (phase.Grow w) c = one_hold p.holds c.2.hold c.2.has
+  by_claim (phase.Append k v) c = one_hold p.holds c.1.alone.hold c.1.alone.has
+  by_claim (phase.Apply k) c = one_hold p.holds c.2.alone.hold c.2.alone.has
+  by_claim (phase.View k d) c = one_hold p.holds c.3.hold c.3.has
+  by_claim (phase.Read d) c = guard_holds p.next (guard.Pair c.0) _ p.block c.2 c.3
+  by_claim (phase.Change h) c = one_hold p.holds c.4.hold c.4.has
+  by_claim (phase.Fill v) c = one_hold p.holds c.3.hold c.3.has
+  by_claim phase.Downgrade c = one_hold p.holds c.2.hold c.2.has
+  by_claim (phase.Release r) c = one_hold p.holds c.1 c.3
   by_claim (phase.Answer r) c = by_guard (p.next + 1) _ _ p.guard refl c.2 c.4
 
-pub hold_by_phase : {K V S D T A : Type 0} (x : Setup K V D T) (w : State K V S D T A) → Sound x w → HoldByPhase w.places
+pub hold_by_phase : {K V S D T : Type 0} (x : Setup K V D T) (w : State K V S D T) → Sound x w → HoldByPhase w.places
 hold_by_phase x w sound t p at = by_claim x (threads_of w) w.blocks w.tables t p p.phase (sound.stands t p at).claim

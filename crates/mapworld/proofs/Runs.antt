@@ -15,13 +15,13 @@ use Rattle.mapworld_state.specs.Running.{refusal, Ran}
 use Rattle.mapworld_state.specs.World.{deeds_of, setup_of}
 use Rattle.mapworld_state.specs.Running.{StaysFixed}
 
-module _ {K V S D T A : Type 0} (x : Setup K V D T) where
-  pub Ran-more : (n : ℕ) (w : State K V S D T A) (steps : List Step) (w' : State K V S D T A) (s : Step) (w'' : State K V S D T A)
+module _ {K V S D T : Type 0} (x : Setup K V D T) where
+  pub Ran-more : (n : ℕ) (w : State K V S D T) (steps : List Step) (w' : State K V S D T) (s : Step) (w'' : State K V S D T)
       → Ran x n w steps w' → refusal w' (n + length steps) s ≡ None → IsStep x w' s w'' → HasFootprint x.eq w' s w''
       → Ran x n w (steps ++ s ∷ []) w''
   Ran-more n w [] w' s w'' ran free_ step footprint =
       let here : n + 0 ≡ n = omega arith in
-      subst (λ (v : State K V S D T A). Ran x n v (s ∷ []) w'') ran
+      subst (λ (v : State K V S D T). Ran x n v (s ∷ []) w'') ran
       (w'', ap (λ k. refusal w' k s) (sym here) ∙ free_, step, footprint, refl)
   Ran-more n w (t ∷ steps) w' s w'' ran free_ step footprint =
       let here : n + length (t ∷ steps) ≡ n + 1 + length steps = omega arith in
@@ -32,7 +32,7 @@ module _ {K V S H D T : Type 0} (d : deed.Ghosts D K V T) (b : builder.Ghosts S 
   made s n programs opening = record { eq = eq; route = key_route b h writes s n; deeds = deeds_of d; programs = programs; opening = opening }
 
   -- what a world was made with decides its setup
-  pub setup-fixed : {A : Type 0} (w w' : State K V S D T A) → StaysFixed w w' → setup_of d b h eq writes w' ≡ setup_of d b h eq writes w
+  pub setup-fixed : (w w' : State K V S D T) → StaysFixed w w' → setup_of d b h eq writes w' ≡ setup_of d b h eq writes w
   setup-fixed w w' f =
       ap (λ s. made s (length w'.tables) w'.programs w'.opening) f.hasher
       ∙ ap (λ n. made w.hasher n w'.programs w'.opening) f.shards

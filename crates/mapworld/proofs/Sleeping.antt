@@ -1,6 +1,6 @@
 -- A thread is asleep where another thread's hold excludes the admission that it is before, and finished where all its calls
 -- are answered.
-use Rattle.std.proofs.Common.{◌≡◌, ◌≢◌, ◌↔◌, ℕ, ◌+◌, ◌-◌, ◌≤◌, inl, inr, Bool, true, false, if◌then◌else◌, List, length, drop, Option, Some, None, slice_get, refl, ap, sym, ◌∙◌, subst, ◌==◌, arith, length-drop}
+use Rattle.std.proofs.Common.{◌≡◌, ◌≢◌, ◌↔◌, ℕ, ◌+◌, ◌-◌, ◌≤◌, inl, inr, Bool, true, false, if◌then◌else◌, List, [], length, drop, Option, Some, None, slice_get, refl, ap, sym, ◌∙◌, subst, ◌==◌, arith, length-drop}
 use Rattle.std.proofs.lemmas.Option.{none-some, same_Some, slice_get_within}
 use Rattle.std.proofs.lemmas.Bool.{cond-true, eqb-true}
 use Rattle.dashmap_table.proofs.Cases.{option_cases}
@@ -11,7 +11,7 @@ use Rattle.mapworld_state.specs.declared.step.Status.TheVariants as status
 use Rattle.mapworld_state.specs.declared.place.Request.{Request}
 use Rattle.mapworld_state.specs.declared.place.Phase.{Phase}
 use Rattle.mapworld_state.specs.declared.place.Phase.TheVariants as phase
-use Rattle.mapworld_state.specs.declared.place.Place.{Place}
+use Rattle.mapworld_state.specs.Places.{Place}
 use Rattle.mapworld_state.specs.Holds.{is_excluded}
 use Rattle.mapworld_state.specs.State.{State, threads_of}
 use Rattle.mapworld_state.specs.Moves.{mode_of}
@@ -20,7 +20,7 @@ use Rattle.mapworld_state.specs.Running.{is_kept_out, status_before, status_at, 
 use Rattle.mapworld_state.specs.Sound.{is_resting, Claim, Sound}
 use Rattle.mapworld.specs.Asleep.{IsAsleep, IsFinished}
 use Rattle.mapworld.proofs.Outcomes.{element-at}
-use Rattle.mapworld_state.proofs.HoldsTable.{is_excluded-true, is_excluded-by}
+use Rattle.mapworld_state.proofs.HoldsTable.{is_excluded-true, is_excluded-by, none-there}
 
 never : (b : Bool) → (if b then status.Finished else status.Running) ≡ status.Asleep → ⊥
 never true h = cc
@@ -30,15 +30,15 @@ sleeps : (b : Bool) → (if b then status.Asleep else status.Running) ≡ status
 sleeps true h = refl
 sleeps false h = cc
 
-module _ {K V D T A : Type 0} (places : List (Place K V D T A)) where
+module _ {K V D T : Type 0} (places : List (Place K V D T)) where
   before_admission : (left shard : ℕ) (f : Phase K V D T) → status_before places left shard f ≡ status.Asleep → (r : Request K V D) × (f ≡ phase.Admit r) × (is_excluded places shard (mode_of r) ≡ true)
   before_admission left shard phase.Rest h = absurd (never (left == 0) h)
   before_admission left shard (phase.Admit r) h = (r, refl, sleeps (is_excluded places shard (mode_of r)) h)
   before_admission left shard (phase.Find r) h = cc
   before_admission left shard (phase.Grow c) h = cc
   before_admission left shard (phase.Append k v) h = cc
-  before_admission left shard (phase.Apply i k) h = cc
-  before_admission left shard (phase.View i k d) h = cc
+  before_admission left shard (phase.Apply k) h = cc
+  before_admission left shard (phase.View k d) h = cc
   before_admission left shard (phase.Read d) h = cc
   before_admission left shard (phase.Change k) h = cc
   before_admission left shard (phase.Fill v) h = cc
@@ -46,13 +46,13 @@ module _ {K V D T A : Type 0} (places : List (Place K V D T A)) where
   before_admission left shard (phase.Release a) h = cc
   before_admission left shard (phase.Answer a) h = cc
 
-  at_admission : (o : Option (Place K V D T A)) → status_at places o ≡ status.Asleep → (p : Place K V D T A) × (r : Request K V D) × (o ≡ Some p) × (p.phase ≡ phase.Admit r) × (is_excluded places p.shard (mode_of r) ≡ true)
+  at_admission : (o : Option (Place K V D T)) → status_at places o ≡ status.Asleep → (p : Place K V D T) × (r : Request K V D) × (o ≡ Some p) × (p.phase ≡ phase.Admit r) × (is_excluded places p.shard (mode_of r) ≡ true)
   at_admission None h = cc
-  at_admission (Some p) h = let r = before_admission (length p.asks.items) p.shard p.phase h in (p, r.0, refl, r.1, r.2)
+  at_admission (Some p) h = let r = before_admission (length p.asks) p.shard p.phase h in (p, r.0, refl, r.1, r.2)
 
-module _ {K V S D T A : Type 0} (x : Setup K V D T) (w : State K V S D T A) (sound : Sound x w) (t : ℕ) where
+module _ {K V S D T : Type 0} (x : Setup K V D T) (w : State K V S D T) (sound : Sound x w) (t : ℕ) where
   -- a thread that is before an admission holds nothing
-  holds_nothing : (p : Place K V D T A) (r : Request K V D) → slice_get w.places t ≡ Some p → p.phase ≡ phase.Admit r → p.hold ≡ None
+  holds_nothing : (p : Place K V D T) (r : Request K V D) → slice_get w.places t ≡ Some p → p.phase ≡ phase.Admit r → p.holds ≡ []
   holds_nothing p r at before =
       (subst (λ (f : Phase K V D T). Claim x (threads_of w) w.blocks w.tables t p f) before (sound.stands t p at).claim).2
 
@@ -61,8 +61,8 @@ module _ {K V S D T A : Type 0} (x : Setup K V D T) (w : State K V S D T A) (sou
       let a = at_admission w.places (slice_get w.places t) h in
       let e = is_excluded-true w.places a.0.shard (mode_of a.1) a.4 in
       let another : e.0 ≢ t = λ same.
-      let one = same_Some e.1 a.0 (sym e.3 ∙ (ap (λ k. slice_get w.places k) same ∙ a.2)) in
-      none-some e.2 (sym (holds_nothing a.0 a.1 a.2 a.3) ∙ (ap (λ (p : Place K V D T A). p.hold) (sym one) ∙ e.4)) in
+      let one = same_Some e.2 a.0 (sym e.4 ∙ (ap (λ k. slice_get w.places k) same ∙ a.2)) in
+      none-there e.2.holds e.1 e.3 (ap (λ (p : Place K V D T). p.holds) one ∙ holds_nothing a.0 a.1 a.2 a.3) e.5 in
       record {
         place = a.0;
         stands = a.2;
@@ -70,20 +70,21 @@ module _ {K V S D T A : Type 0} (x : Setup K V D T) (w : State K V S D T A) (sou
         before = a.3;
         other = e.0;
         another = another;
-        holder = e.1;
-        there = e.3;
-        hold = e.2;
-        held = e.4;
-        same_shard = e.5;
-        excluded = e.6;
+        holder = e.2;
+        there = e.4;
+        hold = e.3;
+        index = e.1;
+        held = e.5;
+        same_shard = e.6;
+        excluded = e.7;
       }
 
   asleep_back : IsAsleep w t → status_of w t ≡ status.Asleep
   asleep_back a =
       ap (λ o. status_at w.places o) a.stands
-      ∙ (ap (λ f. status_before w.places (length a.place.asks.items) a.place.shard f) a.before
+      ∙ (ap (λ f. status_before w.places (length a.place.asks) a.place.shard f) a.before
       ∙ cond-true (is_excluded w.places a.place.shard (mode_of a.request)) status.Asleep status.Running
-      (is_excluded-by w.places a.place.shard (mode_of a.request) a.other a.holder a.hold a.there a.held a.same_shard a.excluded))
+      (is_excluded-by w.places a.place.shard (mode_of a.request) a.other a.index a.holder a.hold a.there a.held a.same_shard a.excluded))
 
   pub status-asleep : (r : Status) → r ≡ status_of w t → (r ≡ status.Asleep) ↔ IsAsleep w t
   status-asleep r is = (λ h. asleep_there (sym is ∙ h), λ h. is ∙ asleep_back h)
@@ -130,15 +131,15 @@ rests_within : (b : Bool) (next n : ℕ) → b ≡ true → (if b then next else
 rests_within true next n h within = within
 rests_within false next n h within = cc
 
-module _ {K V S D T A : Type 0} (x : Setup K V D T) (w : State K V S D T A) (sound : Sound x w) (same : x.programs ≡ w.programs) (t : ℕ)
-    (p : Place K V D T A) (at : slice_get w.places t ≡ Some p) where
-  status_there : status_of w t ≡ status_before w.places (length p.asks.items) p.shard p.phase
+module _ {K V S D T : Type 0} (x : Setup K V D T) (w : State K V S D T) (sound : Sound x w) (same : x.programs ≡ w.programs) (t : ℕ)
+    (p : Place K V D T) (at : slice_get w.places t ≡ Some p) where
+  status_there : status_of w t ≡ status_before w.places (length p.asks) p.shard p.phase
   status_there = ap (λ o. status_at w.places o) at
 
   finished_there : status_of w t ≡ status.Finished → IsFinished w t
   finished_there h =
       let st = sound.stands t p at in
-      let o = over (is_kept_out w.places p.shard p.phase) (length p.asks.items) (class_of p.phase) (sym status_there ∙ h) in
+      let o = over (is_kept_out w.places p.shard p.phase) (length p.asks) (class_of p.phase) (sym status_there ∙ h) in
       let left = ap length st.asks_left ∙ taken_at_rest (is_resting p.phase) p.next st.program o.0 in
       let within = rests_within (is_resting p.phase) p.next (length st.program) o.0 st.within in
       λ program has.
@@ -152,13 +153,13 @@ module _ {K V S D T A : Type 0} (x : Setup K V D T) (w : State K V S D T A) (sou
       let count : p.next ≡ length st.program = st.answered ∙ f st.program (ap (λ ps. slice_get ps t) (sym same) ∙ st.has) in
       let rests = rests_at_the_end (is_resting p.phase) p.next (length st.program) st.within count in
       let left = ap length st.asks_left ∙ taken_at_rest (is_resting p.phase) p.next st.program rests in
-      status_there ∙ over_at_rest (is_kept_out w.places p.shard p.phase) (length p.asks.items) (class_of p.phase) rests (omega (arith, left, count))
+      status_there ∙ over_at_rest (is_kept_out w.places p.shard p.phase) (length p.asks) (class_of p.phase) rests (omega (arith, left, count))
 
   pub status-finished : (r : Status) → r ≡ status_of w t → (r ≡ status.Finished) ↔ IsFinished w t
   status-finished r is = (λ h. finished_there (sym is ∙ h), λ h. is ∙ finished_back h)
 
 -- and a thread that the world doesn't have is finished, and has no program
-module _ {K V S D T A : Type 0} (x : Setup K V D T) (w : State K V S D T A) (sound : Sound x w) (same : x.programs ≡ w.programs) (long : length w.places ≡ length w.programs) (t : ℕ) where
+module _ {K V S D T : Type 0} (x : Setup K V D T) (w : State K V S D T) (sound : Sound x w) (same : x.programs ≡ w.programs) (long : length w.places ≡ length w.programs) (t : ℕ) where
   no_program : slice_get w.places t ≡ None → (program : List (Ask K V D)) → slice_get w.programs t ≡ Some program → ⊥
   no_program none program has =
       let within = slice_get_within w.programs t program has in

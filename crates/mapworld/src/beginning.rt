@@ -1,20 +1,26 @@
 //! How a new world's threads and tables begin.
 ghost use Rattle.std.specs.Prelude.{◌≡◌, ◌^◌, ◌≤◌, length, map, IfOk};
 ghost use Rattle.mapworld_state.specs.Route.{IsWorldAmount, key_route};
-ghost use Rattle.mapworld.specs.Beginning.{at_start, AreAtStart, IsPut, AreFilled, pairs_in, AreEmpty, IsReady, AreReady};
+ghost use Rattle.mapworld_state.specs.Places.{place_of};
+ghost use Rattle.mapworld_state.specs.Shards.{shard_pairs};
+ghost use Rattle.mapworld_state.specs.Slots.{key_hash};
+ghost use Rattle.mapworld.specs.Beginning.{at_start, AreAtStart, AreFilled, pairs_in, AreEmpty, AreHashed, IsReady, AreReady};
 
+use arrayvec::ArrayVec;
+use dashmap_table::Shard;
 use lock_api_desk::{Desk, TokenTable};
 use lock_api_raw::NoMemory;
 use mapworld_calls::Ask;
+use mapworld_moves::put::put_pair;
 use mapworld_state::{Phase, Place, ShardDesk};
-use mapworld_steps::{shard_of, slot_of};
+use mapworld_steps::shard_of;
 use std::alloc::Allocator;
 use std::collections::VecDeque;
 use std::hash::{BuildHasher, Hash};
 
 /// A thread before its first call.
 fn at_start<K, V, D, T, A: Allocator>(asks: VecDeque<Ask<K, V, D>, A>) -> Place<K, V, D, T, A>
-    ensures { result ≡ at_start asks }
+    ensures { place_of result ≡ at_start asks.items }
 {
     Place {
         asks,
@@ -22,7 +28,8 @@ fn at_start<K, V, D, T, A: Allocator>(asks: VecDeque<Ask<K, V, D>, A>) -> Place<
         started: None,
         closes: false,
         shard: 0,
-        hold: None,
+        slot: 0,
+        holds: ArrayVec::new(),
         block: None,
         guard: None,
         phase: Phase::Rest,
@@ -34,7 +41,7 @@ pub(crate) fn places_of<K: Drop, V: Drop, D: Drop, T: Drop, A: Allocator + Drop>
     alloc: A,
     programs: Vec<Vec<Ask<K, V, D>, A>, A>,
 ) -> Result<Vec<Place<K, V, D, T, A>, A>, NoMemory>
-    ensures { IfOk result (λ places. AreAtStart (map (λ program. program.items) programs.items) places.items) }
+    ensures { IfOk result (λ places. AreAtStart (map (λ program. program.items) programs.items) (map place_of places.items)) }
 {
     let mut places = Vec::with_capacity(alloc, programs.len())?;
     for program in programs {
@@ -43,16 +50,16 @@ pub(crate) fn places_of<K: Drop, V: Drop, D: Drop, T: Drop, A: Allocator + Drop>
     Ok(places)
 }
 
-/// A table for each shard, without pairs.
-pub(crate) fn empty_tables<K: Drop, V: Drop, A: Allocator + Clone + Drop>(
+/// Shards without pairs.
+pub(crate) fn empty_shards<K: Eq + Hash + Drop, V: Drop, A: Allocator + Clone + Drop>(
     alloc: A,
     shards: usize,
-) -> Result<Vec<Vec<(K, V), A>, A>, NoMemory>
+) -> Result<Vec<Shard<K, V, A>, A>, NoMemory>
     ensures { IfOk result (λ tables. (length tables.items ≡ shards) × AreEmpty tables.items) }
 {
     let mut tables = Vec::with_capacity(alloc.clone()?, shards)?;
     for _ in 0..shards {
-        tables.push(Vec::new(alloc.clone()?))?;
+        tables.push(Shard::new(alloc.clone()?))?;
     }
     Ok(tables)
 }
@@ -83,44 +90,24 @@ fn ready_desk<A: Allocator + Drop>(alloc: A, threads: usize) -> Result<ShardDesk
     }
 }
 
-/// Puts a pair into a table, and says whether it is a new one. A key that the table has stays, and gets the value.
-fn put<K: Eq + Drop, V: Drop, A: Allocator>(
-    table: &mut Vec<(K, V), A>,
-    key: K,
-    value: V,
-) -> Result<bool, NoMemory>
-    ensures { IfOk result (λ more. IsPut K.eq table.old.items key value more table.new.items) }
-{
-    match slot_of(table, &key) {
-        Some(slot) => {
-            let pair = &mut table[slot];
-            pair.1 = value;
-            Ok(false)
-        }
-        None => {
-            table.push((key, value))?;
-            Ok(true)
-        }
-    }
-}
-
-/// Puts the opening pairs into their shards' tables, and counts those that are there then.
-pub(crate) fn fill<K: Eq + Hash + Drop, V: Drop, S: BuildHasher, A: Allocator>(
-    tables: &mut Vec<Vec<(K, V), A>, A>,
+/// Puts the opening pairs into their shards, and counts those that are there then.
+pub(crate) fn fill<K: Eq + Hash + Drop, V: Drop, S: BuildHasher, A: Allocator + Clone>(
+    tables: &mut Vec<Shard<K, V, A>, A>,
     hasher: &S,
     pairs: Vec<(K, V), A>,
 ) -> Result<u64, NoMemory>
     requires shards { IsWorldAmount (length tables.old.items) }
     requires empty { AreEmpty tables.old.items }
     requires fits { length pairs.items ≤ 2 ^ 31 }
-    ensures filled { IfOk result (λ count. AreFilled K.eq (key_route S.BuildHasher S.Hasher.Hasher K.hash_input hasher.now (length tables.new.items)) pairs.items tables.new.items) }
-    ensures count { IfOk result (λ count. (count ≡ pairs_in tables.new.items) × (count ≤ length pairs.items)) }
+    ensures filled { IfOk result (λ count. AreFilled K.eq (key_route S.BuildHasher S.Hasher.Hasher K.hash_input hasher.now (length tables.new.items)) pairs.items (map shard_pairs tables.new.items)) }
+    ensures count { IfOk result (λ count. (count ≡ pairs_in (map shard_pairs tables.new.items)) × (count ≤ length pairs.items)) }
+    ensures hashed { IfOk result (λ _. AreHashed (key_hash S.BuildHasher S.Hasher.Hasher K.hash_input hasher.now) tables.new.items) }
     ensures shards { length tables.new.items ≡ length tables.old.items }
 {
     let mut count = 0;
     for (key, value) in pairs {
         let shard = shard_of(hasher, tables.len(), &key);
-        if put(&mut tables[shard], key, value)? {
+        if put_pair(&mut tables[shard], hasher, key, value)? {
             count += 1;
         }
     }

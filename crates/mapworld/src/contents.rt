@@ -1,37 +1,45 @@
-//! The pairs of all tables.
-ghost use Rattle.std.specs.Prelude.{◌≡◌, map, flat_map, IfOk};
+//! The pairs of all shards.
+ghost use Rattle.std.specs.Prelude.{◌≡◌, map, IfOk};
 ghost use Rattle.std.specs.Option.{option_map};
-ghost use Rattle.mapworld_calls.specs.Pairs.{pair_of};
+ghost use Rattle.mapworld_calls.specs.Pairs.{pair_of, AreDistinct};
+ghost use Rattle.mapworld_state.specs.Shards.{shard_pairs};
+ghost use Rattle.mapworld_state.specs.Slots.{HasHashes, key_hash};
+ghost use Rattle.dashmap_view.specs.Views.{all_pairs};
 ghost use Rattle.mapworld.specs.Views.{shown};
 
 use crate::pairs::pairs_of;
+use dashmap_table::Shard;
 use lock_api_raw::NoMemory;
-use mapworld_steps::slot_of;
+use mapworld_moves::pairs::{find_pair, pair_at};
 use std::alloc::Allocator;
+use std::hash::{BuildHasher, Hash};
 
-/// References to the pairs of all tables, in their order.
-pub(crate) fn pairs_in<'a, K, V, A: Allocator + Drop>(
-    tables: &'a [Vec<(K, V), A>],
+/// References to the pairs of all shards, in their order.
+pub(crate) fn pairs_in<'a, K: Eq + Hash, V, A: Allocator + Drop>(
+    shards: &'a [Shard<K, V, A>],
     alloc: A,
 ) -> Result<Vec<(&'a K, &'a V), A>, NoMemory>
-    ensures { IfOk result (λ pairs. map shown pairs.items ≡ flat_map (λ table. table.items) tables.now) }
+    ensures { IfOk result (λ pairs. map shown pairs.items ≡ all_pairs shards.now) }
 {
     let mut list = Vec::new(alloc);
-    for pair in pairs_of(tables) {
+    for pair in pairs_of(shards) {
         list.push(pair)?;
     }
     Ok(list)
 }
 
-/// References to the key's pair in a table, if there is one.
-pub(crate) fn pair_in<'a, K: Eq, V>(pairs: &'a [(K, V)], key: &K) -> Option<(&'a K, &'a V)>
-    ensures { option_map shown result ≡ pair_of K.eq pairs.now key.now }
+/// References to the key's pair in its shard, if there is one.
+pub(crate) fn pair_in<'a, K: Eq + Hash, V, S: BuildHasher, A: Allocator>(
+    shard: &'a Shard<K, V, A>,
+    hasher: &S,
+    key: &K,
+) -> Option<(&'a K, &'a V)>
+    requires hashed { HasHashes (key_hash S.BuildHasher S.Hasher.Hasher K.hash_input hasher.now) shard.now }
+    requires distinct { AreDistinct K.eq (shard_pairs shard.now).items }
+    ensures { option_map shown result ≡ pair_of K.eq (shard_pairs shard.now).items key.now }
 {
-    match slot_of(pairs, key) {
-        Some(slot) => {
-            let pair = &pairs[slot];
-            Some((&pair.0, &pair.1))
-        }
+    match find_pair(shard, hasher, key) {
+        Some(slot) => Some(pair_at(shard, slot)),
         None => None,
     }
 }

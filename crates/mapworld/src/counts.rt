@@ -5,6 +5,7 @@ ghost use Rattle.mapworld_state.specs.Core.{state_of, Room};
 
 use mapworld_state::Core;
 use std::alloc::Allocator;
+use std::hash::Hash;
 
 /// How many steps are enough for so many threads, shards, pairs and unanswered calls.
 fn bound_for(threads: u64, shards: u64, pairs: u64, calls: u64) -> u64
@@ -21,7 +22,7 @@ fn bound_for(threads: u64, shards: u64, pairs: u64, calls: u64) -> u64
 }
 
 /// How many steps are enough from here on.
-pub(crate) fn bound<K, V, S, D, T, A: Allocator>(core: &Core<K, V, S, D, T, A>) -> u64
+pub(crate) fn bound<K: Eq + Hash, V, S, D, T, A: Allocator>(core: &Core<K, V, S, D, T, A>) -> u64
     requires { Room core.now }
     ensures value { result ≡ bound_of (state_of core.now) }
     ensures fits { result ≤ 2 ^ 62 }
@@ -35,7 +36,7 @@ pub(crate) fn bound<K, V, S, D, T, A: Allocator>(core: &Core<K, V, S, D, T, A>) 
 }
 
 /// Whether step numbers are left for one more step and all that must come after it.
-pub(crate) fn fits<K, V, S, D, T, A: Allocator>(core: &Core<K, V, S, D, T, A>) -> bool
+pub(crate) fn fits<K: Eq + Hash, V, S, D, T, A: Allocator>(core: &Core<K, V, S, D, T, A>) -> bool
     requires { Room core.now }
     ensures { result ≡ has_numbers (state_of core.now) }
 {

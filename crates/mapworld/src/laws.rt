@@ -6,7 +6,6 @@ ghost use Rattle.mapworld_state.specs.State.{State};
 ghost use Rattle.mapworld_state.specs.World.{world_setup};
 
 use mapworld_calls::Deed;
-use std::alloc::Allocator;
 use std::hash::{BuildHasher, Hash};
 
 /// Equal keys are routed to one shard, by every lawful hasher and for every number of shards. So no two shards of a world
@@ -18,6 +17,6 @@ pub fn equal_keys_share_a_shard<K: Eq + Hash, S: BuildHasher>()
 
 /// The setup of every world is lawful: its keys are compared by an equivalence, and equal keys route to one shard. So the
 /// laws of the replay, which ask for that, hold of each world.
-pub fn setups_are_lawful<K: Eq + Hash, V, S: BuildHasher, D: Deed<K, V>, A: Allocator>()
-    ensures { (w : State K V S D D.Answer A) → Laws (world_setup D.Deed S.BuildHasher S.Hasher.Hasher K.eq K.hash_input w) }
+pub fn setups_are_lawful<K: Eq + Hash, V, S: BuildHasher, D: Deed<K, V>>()
+    ensures { (w : State K V S D D.Answer) → Laws (world_setup D.Deed S.BuildHasher S.Hasher.Hasher K.eq K.hash_input w) }
 {}

@@ -3,9 +3,9 @@ ghost use Rattle.std.specs.Prelude.{◌≡◌, ◌≤◌, ◌^◌, length, map, 
 ghost use Rattle.mapworld.specs.Making.{new_refusal, IsNew};
 ghost use Rattle.mapworld_state.specs.World.{AgreesWithBlocks, HasPlacedBlocks};
 ghost use Rattle.mapworld_state.specs.Held.{HoldsMatch};
-ghost use Rattle.mapworld_state.specs.Core.{state_of, IsSoundCore, Room};
+ghost use Rattle.mapworld_state.specs.Core.{state_of, IsSoundCore, IsSlotted, Room};
 
-use crate::beginning::{desks_of, empty_tables, fill, places_of};
+use crate::beginning::{desks_of, empty_shards, fill, places_of};
 use lock_api_raw::NoMemory;
 use mapworld_calls::{Ask, Deed};
 use mapworld_state::Core;
@@ -41,6 +41,7 @@ pub(crate) fn core_of<
         IfOk result (λ core. IsNew K.eq shards hasher pairs.items asked (state_of core)) }
     ensures sound { IfOk result (IsSoundCore D.Deed S.BuildHasher S.Hasher.Hasher K.eq K.hash_input) }
     ensures room { IfOk result Room }
+    ensures slots { IfOk result (IsSlotted D.Deed S.BuildHasher S.Hasher.Hasher K.eq K.hash_input) }
     ensures agrees { IfOk result (λ core. AgreesWithBlocks D.Deed S.BuildHasher S.Hasher.Hasher K.eq K.hash_input (state_of core)) }
     ensures placed { IfOk result (λ core. HasPlacedBlocks D.Deed S.BuildHasher S.Hasher.Hasher K.eq K.hash_input (state_of core)) }
     ensures held { IfOk result (λ core. HoldsMatch (state_of core).places (state_of core).holds) }
@@ -52,7 +53,7 @@ pub(crate) fn core_of<
     let places = places_of(alloc.clone()?, programs)?;
     let blocks = Vec::with_capacity(alloc.clone()?, calls)?;
     let replies = Vec::with_capacity(alloc.clone()?, calls)?;
-    let mut tables = empty_tables(alloc, shards)?;
+    let mut tables = empty_shards(alloc, shards)?;
     let count = fill(&mut tables, &hasher, pairs)?;
     Ok(Core {
         hasher,

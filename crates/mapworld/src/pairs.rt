@@ -1,8 +1,11 @@
 //! A walk over the pairs of a world, lent.
-ghost use Rattle.std.specs.Prelude.{◌≡◌, flat_map};
+ghost use Rattle.std.specs.Prelude.{◌≡◌};
 ghost use Rattle.std.specs.Iterator.{YieldsFirstBy, item_count};
+ghost use Rattle.dashmap_view.specs.Views.{all_pairs};
 
+use dashmap_table::Shard;
 use std::alloc::{Allocator, Global};
+use std::hash::Hash;
 use std::iter::FusedIterator;
 use std::marker::Model;
 
@@ -10,29 +13,32 @@ use std::marker::Model;
 ///
 /// It takes no memory. Each pair comes once, and behind the last it gives `None` for good.
 #[derive(Drop)]
-pub struct Pairs<'w, K, V, A: Allocator = Global> {
-    /// What is left of the list that it is in.
-    list: &'w [(K, V)],
-    /// The lists behind it.
-    lists: &'w [Vec<(K, V), A>],
+pub struct Pairs<'w, K: Eq + Hash, V, A: Allocator = Global> {
+    /// The shard that it is in, and those behind it.
+    shards: &'w [Shard<K, V, A>],
+    /// The first slot of that shard that it has not been at.
+    slot: usize,
 }
 
-impl<'w, K, V, A: Allocator> Model for Pairs<'w, K, V, A> {
-    ghost use Rattle.std.specs.Prelude.{List, flat_map, ◌++◌};
+impl<'w, K: Eq + Hash, V, A: Allocator> Model for Pairs<'w, K, V, A> {
+    ghost use Rattle.std.specs.Prelude.{List};
+    ghost use Rattle.dashmap_view.specs.Views.{pairs_from};
 
     ghost Value = { List (K × V) };
 
-    ghost view = { λ it. it.list.now ++ flat_map (λ list. list.items) it.lists.now };
+    ghost view = { λ it. pairs_from it.slot it.shards.now };
 }
 
-/// The pairs of these lists, one list after another.
-pub(crate) fn pairs_of<'w, K, V, A: Allocator>(lists: &'w [Vec<(K, V), A>]) -> Pairs<'w, K, V, A>
-    ensures { result ≡ flat_map (λ list. list.items) lists.now }
+/// The pairs of these shards, one shard after another.
+pub(crate) fn pairs_of<'w, K: Eq + Hash, V, A: Allocator>(
+    shards: &'w [Shard<K, V, A>],
+) -> Pairs<'w, K, V, A>
+    ensures { result ≡ all_pairs shards.now }
 {
-    Pairs { list: &[], lists }
+    Pairs { shards, slot: 0 }
 }
 
-impl<'w, K, V, A: Allocator> Iterator for Pairs<'w, K, V, A> {
+impl<'w, K: Eq + Hash, V, A: Allocator> Iterator for Pairs<'w, K, V, A> {
     type Item = (&'w K, &'w V);
 
     ghost next_gives = { YieldsFirstBy (λ p. (p.0.now, p.1.now)) (λ rest. rest) };
@@ -40,15 +46,16 @@ impl<'w, K, V, A: Allocator> Iterator for Pairs<'w, K, V, A> {
     ghost remaining = { item_count (λ rest. rest) };
 
     fn next(&mut self) -> Option<(&'w K, &'w V)> {
-        while self.list.is_empty() {
-            let (list, rest) = self.lists.split_first()?;
-            self.list = list;
-            self.lists = rest;
+        while let Some((shard, rest)) = self.shards.split_first() {
+            if let Some(slot) = shard.next_from(self.slot) {
+                self.slot = slot + 1;
+                return shard.pair(slot);
+            }
+            self.shards = rest;
+            self.slot = 0;
         }
-        let (pair, rest) = self.list.split_first()?;
-        self.list = rest;
-        Some((&pair.0, &pair.1))
+        None
     }
 }
 
-impl<K, V, A: Allocator> FusedIterator for Pairs<'_, K, V, A> {}
+impl<K: Eq + Hash, V, A: Allocator> FusedIterator for Pairs<'_, K, V, A> {}

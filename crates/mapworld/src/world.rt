@@ -38,8 +38,7 @@ use std::marker::Model;
 ///
 /// `K` is a key, `V` a value, `S` makes the hasher that picks a key's shard, and `D` is what a program does with a pair
 /// that it is lent. The world keeps the allocator that it was made with, and takes all that it needs for its threads,
-/// their blocks and their replies when it is made. After that only a shard's list of pairs may grow; where memory is
-/// short then, the call is answered `NoMemory`, and nothing else is changed.
+/// their blocks and their replies when it is made. After that only a shard may grow; where memory is short then, the call is answered `NoMemory`, and nothing else is changed.
 ///
 /// ```text
 /// let mut world = MapWorld::new(alloc, 2, SpreadState, pairs, programs)?;
@@ -55,13 +54,13 @@ impl<K: Eq + Hash, V, S: BuildHasher, D: Deed<K, V>, A: Allocator> Model
     for MapWorld<K, V, S, D, A> {
     ghost use Rattle.mapworld_state.specs.State.{State};
 
-    ghost Value = { State K V S D D.Answer A };
+    ghost Value = { State K V S D D.Answer };
 
-    ghost use Rattle.mapworld_state.specs.Core.{state_of, IsSoundCore, Room};
+    ghost use Rattle.mapworld_state.specs.Core.{state_of, IsSoundCore, IsSlotted, Room};
 
     ghost view = { λ w. state_of w.core };
 
-    ghost invariant = { λ w. IsSoundCore D.Deed S.BuildHasher S.Hasher.Hasher K.eq K.hash_input w.core × Room w.core };
+    ghost invariant = { λ w. IsSoundCore D.Deed S.BuildHasher S.Hasher.Hasher K.eq K.hash_input w.core × Room w.core × IsSlotted D.Deed S.BuildHasher S.Hasher.Hasher K.eq K.hash_input w.core };
 }
 
 impl<K: Eq + Hash, V, S: BuildHasher, D: Deed<K, V>, A: Allocator> MapWorld<K, V, S, D, A> {
@@ -86,7 +85,7 @@ impl<K: Eq + Hash, V, S: BuildHasher, D: Deed<K, V>, A: Allocator> MapWorld<K, V
         ensures { option_map shown result ≡ pair_of K.eq (pairs_of self.now) key.now }
     {
         let shard = steps::shard_of(&self.core.hasher, self.core.tables.len(), key);
-        contents::pair_in(&self.core.tables[shard], key)
+        contents::pair_in(&self.core.tables[shard], &self.core.hasher, key)
     }
 
     /// The pairs of the map as it is now, lent one after another, in any order. It takes no memory and cannot fail.
@@ -238,7 +237,7 @@ where
     V: Drop,
     S: BuildHasher,
     D: Deed<K, V> + Drop,
-    A: Allocator,
+    A: Allocator + Clone,
 {
     /// Makes a step, or says why not, where so many steps of the run are done.
     fn make_step(&mut self, step: Step, done: u64) -> Result<(), RunFault>
@@ -297,7 +296,7 @@ where
     /// - `CannotMove`: the thread is asleep or finished;
     /// - `StepsShort`: no step numbers are left for the step and all that must come after it.
     ///
-    /// It takes memory only where a shard's list of pairs grows. Where that is refused it is no error of `run`: the
+    /// It takes memory only where a shard grows. Where that is refused it is no error of `run`: the
     /// call is answered `NoMemory`.
     ///
     /// ```text

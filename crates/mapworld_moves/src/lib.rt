@@ -7,6 +7,7 @@ mod effect;
 pub mod holds;
 pub mod moves;
 pub mod pairs;
+pub mod put;
 mod route;
 
 pub use route::{is_world_amount, shard_of};

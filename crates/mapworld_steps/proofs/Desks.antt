@@ -12,7 +12,7 @@ use Rattle.lock_api_desk.specs.Refusals.{acquire_refusal, guard_refusal, refusal
 use Rattle.mapworld_state.specs.declared.holds.Mode.{Mode}
 use Rattle.mapworld_state.specs.declared.holds.Mode.TheVariants.{Shared, Exclusive}
 use Rattle.mapworld_state.specs.declared.holds.Hold.{Hold}
-use Rattle.mapworld_state.specs.declared.place.Place.{Place}
+use Rattle.mapworld_state.specs.Places.{Place}
 use Rattle.mapworld_state.specs.Holds.{excludes, is_excluded, Desks, at_desk, guard_for}
 use Rattle.mapworld_state.specs.Held.{HoldsMatch}
 use Rattle.mapworld_state.proofs.Finds.{find-Some, find-there}
@@ -58,14 +58,14 @@ shorter n (z ∷ zs) (suc i) g at same = let less = shorter n zs i g at same in 
     at-most true less = omega arith
     at-most false less = omega arith
 
-module _ {K V D T A : Type 0} {places : List (Place K V D T A)} {holds : Desks} (match : HoldsMatch places holds) (shard : ℕ) (desk : DeskState (Unit {0})) (there : slice_get holds shard ≡ Some desk) where
+module _ {K V D T : Type 0} {places : List (Place K V D T)} {holds : Desks} (match : HoldsMatch places holds) (shard : ℕ) (desk : DeskState (Unit {0})) (there : slice_get holds shard ≡ Some desk) where
   -- a number above all that are given out isn't in use
-  unused : (number : ℕ) → ((u : ℕ) (q : Place K V D T A) (h : Hold) → slice_get places u ≡ Some q → q.hold ≡ Some h → h.guard < number) → is_in_use number desk.guards ≡ false
+  unused : (number : ℕ) → ((u i : ℕ) (q : Place K V D T) (h : Hold) → slice_get places u ≡ Some q → slice_get q.holds i ≡ Some h → h.guard < number) → is_in_use number desk.guards ≡ false
   unused number below = false_from_ne_true (is_in_use number desk.guards) (λ used.
       let r = list_any-true (has_number number) desk.guards used in
       let o = match.owned shard r.0 desk r.1 there r.2 in
-      let less = below r.1.party o.0 o.1 o.2 o.3 in
-      let same = ap (λ (g : Guard). g.number) o.5 in
+      let less = below r.1.party o.1 o.0 o.2 o.3 o.4 in
+      let same = ap (λ (g : Guard). g.number) o.6 in
       let number-is = eqb-true r.1.number number r.3 in
       omega (arith, less, same, number-is))
 
@@ -75,18 +75,18 @@ module _ {K V D T A : Type 0} {places : List (Place K V D T A)} {holds : Desks} 
       let r = list_any-true (λ guard. is_held guard && desk_excludes guard.mode (at_desk mode)) desk.guards some in
       let o = match.owned shard r.0 desk r.1 there r.2 in
       let parts = and_parts (is_held r.1) (desk_excludes r.1.mode (at_desk mode)) r.3 in
-      let excludes-is = sym (same_excludes o.1.mode mode) ∙ ap (λ (g : Guard). desk_excludes g.mode (at_desk mode)) (sym o.5) ∙ parts.1 in
-      is_excluded-by places shard mode r.1.party o.0 o.1 o.2 o.3 o.4 excludes-is
+      let excludes-is = sym (same_excludes o.2.mode mode) ∙ ap (λ (g : Guard). desk_excludes g.mode (at_desk mode)) (sym o.6) ∙ parts.1 in
+      is_excluded-by places shard mode r.1.party o.1 o.0 o.2 o.3 o.4 o.5 excludes-is
 
   -- the hold of a thread that excludes the mode is a guard at the desk
   among_threads : (mode : Mode) → is_excluded places shard mode ≡ true → excluded (at_desk mode) desk.guards ≡ true
   among_threads mode some =
       let r = is_excluded-true places shard mode some in
-      let l = match.listed r.0 r.1 r.2 r.3 r.4 in
-      let d : l.0 ≡ desk = same_Some l.0 desk (sym l.2 ∙ ap (λ s. slice_get holds s) r.5 ∙ there) in
-      let g = guard_for r.0 r.2 in
+      let l = match.listed r.0 r.1 r.2 r.3 r.4 r.5 in
+      let d : l.0 ≡ desk = same_Some l.0 desk (sym l.2 ∙ ap (λ s. slice_get holds s) r.6 ∙ there) in
+      let g = guard_for r.0 r.3 in
       let at : slice_get desk.guards l.1 ≡ Some g = ap (λ (z : DeskState (Unit {0})). slice_get z.guards l.1) (sym d) ∙ l.3 in
-      let excludes-is : desk_excludes g.mode (at_desk mode) ≡ true = same_excludes r.2.mode mode ∙ r.6 in
+      let excludes-is : desk_excludes g.mode (at_desk mode) ≡ true = same_excludes r.3.mode mode ∙ r.7 in
       list_any_at (λ guard. is_held guard && desk_excludes guard.mode (at_desk mode)) desk.guards l.1 g (slice_get_within desk.guards l.1 g at)
       (ap (λ (z : Guard). is_held z && desk_excludes z.mode (at_desk mode)) (get_or_from_slice_get desk.guards l.1 g g at) ∙ excludes-is)
 
@@ -103,48 +103,48 @@ module _ {K V D T A : Type 0} {places : List (Place K V D T A)} {holds : Desks} 
       omega (arith, few, many))
 
   -- so it grants an admission exactly where no thread's hold excludes it
-  pub asked : (denied : DeskFault) (mode : Mode) (number : ℕ) → ((u : ℕ) (q : Place K V D T A) (h : Hold) → slice_get places u ≡ Some q → q.hold ≡ Some h → h.guard < number)
+  pub asked : (denied : DeskFault) (mode : Mode) (number : ℕ) → ((u i : ℕ) (q : Place K V D T) (h : Hold) → slice_get places u ≡ Some q → slice_get q.holds i ≡ Some h → h.guard < number)
       → length desk.guards < desk.limit → acquire_refusal denied (at_desk mode) number desk ≡ (if is_excluded places shard mode then Some denied else None)
   asked denied mode number below lt = rw (unused number below, tells mode, not_full mode lt) refl
 
   -- and it gives up the hold that a thread has
-  pub given_up : (t : ℕ) (p : Place K V D T A) (h : Hold) → slice_get places t ≡ Some p → p.hold ≡ Some h → h.shard ≡ shard → guard_refusal is_held t h.guard desk ≡ None
-  given_up t p h here held at =
-      let l = match.listed t p h here held in
+  pub given_up : (t i : ℕ) (p : Place K V D T) (h : Hold) → slice_get places t ≡ Some p → slice_get p.holds i ≡ Some h → h.shard ≡ shard → guard_refusal is_held t h.guard desk ≡ None
+  given_up t i p h here held at =
+      let l = match.listed t i p h here held in
       let d : l.0 ≡ desk = same_Some l.0 desk (sym l.2 ∙ ap (λ s. slice_get holds s) at ∙ there) in
       let found = find-there (has_number h.guard) desk.guards l.1 (guard_for t h) (ap (λ (z : DeskState (Unit {0})). slice_get z.guards l.1) (sym d) ∙ l.3) (eq-eqb h.guard h.guard refl) in
       let g = found.0 in
       let f = find-Some (has_number h.guard) desk.guards g found.1 in
       let o = match.owned shard f.0 desk g there f.1 in
-      let number : o.1.guard ≡ h.guard = sym (ap (λ (g : Guard). g.number) o.5) ∙ eqb-true g.number h.guard f.2 in
-      let party : g.party ≡ t = match.apart g.party t o.0 p o.1 h o.2 here o.3 held number in
-      let held-is : is_held g ≡ true = ap is_held o.5 in
-      ap (λ z. refusal_at is_held t z) found.1 ∙ rw (party, eq-eqb t t refl, held-is) refl
+      let number : o.2.guard ≡ h.guard = sym (ap (λ (g : Guard). g.number) o.6) ∙ eqb-true g.number h.guard f.2 in
+      let both : (g.party ≡ t) × (o.1 ≡ i) = match.apart g.party t o.1 i o.0 p o.2 h o.3 here o.4 held number in
+      let held-is : is_held g ≡ true = ap is_held o.6 in
+      ap (λ z. refusal_at is_held t z) found.1 ∙ rw (both.0, eq-eqb t t refl, held-is) refl
 
   -- so the desk has fewer guards behind it
-  pub fewer : (t : ℕ) (p : Place K V D T A) (h : Hold) → slice_get places t ≡ Some p → p.hold ≡ Some h → h.shard ≡ shard → length (without h.guard desk.guards) < length desk.guards
-  fewer t p h here held at =
-      let l = match.listed t p h here held in
+  pub fewer : (t i : ℕ) (p : Place K V D T) (h : Hold) → slice_get places t ≡ Some p → slice_get p.holds i ≡ Some h → h.shard ≡ shard → length (without h.guard desk.guards) < length desk.guards
+  fewer t i p h here held at =
+      let l = match.listed t i p h here held in
       let d : l.0 ≡ desk = same_Some l.0 desk (sym l.2 ∙ ap (λ s. slice_get holds s) at ∙ there) in
       shorter h.guard desk.guards l.1 (guard_for t h) (ap (λ (z : DeskState (Unit {0})). slice_get z.guards l.1) (sym d) ∙ l.3) refl
 
   -- the guard of the hold that a thread has is the thread's
-  listed_as : (t : ℕ) (p : Place K V D T A) (h : Hold) → slice_get places t ≡ Some p → p.hold ≡ Some h → h.shard ≡ shard → guard_of h.guard desk.guards ≡ Some (guard_for t h)
-  listed_as t p h here held at =
-      let l = match.listed t p h here held in
+  listed_as : (t i : ℕ) (p : Place K V D T) (h : Hold) → slice_get places t ≡ Some p → slice_get p.holds i ≡ Some h → h.shard ≡ shard → guard_of h.guard desk.guards ≡ Some (guard_for t h)
+  listed_as t i p h here held at =
+      let l = match.listed t i p h here held in
       let d : l.0 ≡ desk = same_Some l.0 desk (sym l.2 ∙ ap (λ s. slice_get holds s) at ∙ there) in
       let found = find-there (has_number h.guard) desk.guards l.1 (guard_for t h) (ap (λ (z : DeskState (Unit {0})). slice_get z.guards l.1) (sym d) ∙ l.3) (eq-eqb h.guard h.guard refl) in
       let g = found.0 in
       let f = find-Some (has_number h.guard) desk.guards g found.1 in
       let o = match.owned shard f.0 desk g there f.1 in
-      let number : o.1.guard ≡ h.guard = sym (ap (λ (g : Guard). g.number) o.5) ∙ eqb-true g.number h.guard f.2 in
-      let party : g.party ≡ t = match.apart g.party t o.0 p o.1 h o.2 here o.3 held number in
-      let same : o.0 ≡ p = same_Some o.0 p (sym o.2 ∙ ap (λ u. slice_get places u) party ∙ here) in
-      let hold-is : o.1 ≡ h = same_Some o.1 h (sym o.3 ∙ ap (λ (q : Place K V D T A). q.hold) same ∙ held) in
-      found.1 ∙ ap (λ (z : Guard). Some z) (o.5 ∙ ap₂ (λ u z. guard_for u z) party hold-is)
+      let number : o.2.guard ≡ h.guard = sym (ap (λ (g : Guard). g.number) o.6) ∙ eqb-true g.number h.guard f.2 in
+      let both : (g.party ≡ t) × (o.1 ≡ i) = match.apart g.party t o.1 i o.0 p o.2 h o.3 here o.4 held number in
+      let same : o.0 ≡ p = same_Some o.0 p (sym o.3 ∙ ap (λ u. slice_get places u) both.0 ∙ here) in
+      let hold-is : o.2 ≡ h = same_Some o.2 h (sym o.4 ∙ ap₂ (λ (q : Place K V D T) j. slice_get q.holds j) same both.1 ∙ held) in
+      found.1 ∙ ap (λ (z : Guard). Some z) (o.6 ∙ ap₂ (λ u z. guard_for u z) both.0 hold-is)
 
   -- and it lets a guard share that is held alone
-  pub let_share : (t : ℕ) (p : Place K V D T A) (h : Hold) → slice_get places t ≡ Some p → p.hold ≡ Some h → h.shard ≡ shard → h.mode ≡ Exclusive
+  pub let_share : (t i : ℕ) (p : Place K V D T) (h : Hold) → slice_get places t ≡ Some p → slice_get p.holds i ≡ Some h → h.shard ≡ shard → h.mode ≡ Exclusive
       → guard_refusal (holds_in desk_mode.Exclusive) t h.guard desk ≡ None
-  let_share t p h here held at alone =
-      ap (λ z. refusal_at (holds_in desk_mode.Exclusive) t z) (listed_as t p h here held at) ∙ rw (alone, eq-eqb t t refl) refl
+  let_share t i p h here held at alone =
+      ap (λ z. refusal_at (holds_in desk_mode.Exclusive) t z) (listed_as t i p h here held at) ∙ rw (alone, eq-eqb t t refl) refl

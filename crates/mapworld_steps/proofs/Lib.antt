@@ -1,4 +1,6 @@
+pub mod Kept
 pub mod Desks
-pub mod Afters
 pub mod Refused
 pub mod Running
+pub mod Starting
+pub mod Finding

@@ -1,14 +1,15 @@
 //! The steps that end a hold and a call.
-ghost use Rattle.std.specs.Prelude.{◌≡◌, ◌+◌, ◌<◌, ◌^◌, true, if◌then◌else◌};
+ghost use Rattle.std.specs.Prelude.{◌≡◌, ◌+◌, ◌<◌, ◌^◌, ◌∷◌, true, if◌then◌else◌};
 ghost use Rattle.mapworld_state.specs.declared.place.Phase.TheVariants as phase;
 ghost use Rattle.mapworld_state.specs.Running.{has_numbers};
-ghost use Rattle.mapworld_state.specs.Core.{state_of, Room, IsBefore, IsSoundCore, MakesStep};
+ghost use Rattle.mapworld_state.specs.Core.{state_of, Room, IsBefore, IsSoundCore, IsSlotted, MakesStep};
 ghost use Rattle.mapworld_state.specs.Steps.{Downgrades, Releases, Answers};
 
+use arrayvec::ArrayVec;
 use mapworld_calls::{Answer, Deed, Reply};
 use mapworld_moves::blocks::{count_in, end_block};
 use mapworld_moves::holds::{end_hold, share_hold};
-use mapworld_moves::moves::{enter, lent_slot, release_counts};
+use mapworld_moves::moves::{enter, release_counts};
 use mapworld_state::{Core, Guard, Hold, Mode, Phase, Place, Step, Way};
 use std::alloc::Allocator;
 use std::hash::{BuildHasher, Hash};
@@ -32,6 +33,25 @@ fn leave_call<K, V, D, T, A: Allocator>(place: &mut Place<K, V, D, T, A>) -> Ans
     }
 }
 
+/// Lets the first of these holds share its shard, and answers it as it was.
+fn share_first(holds: &mut ArrayVec<Hold, 2>) -> Hold
+    requires { (hold : _) × (more : _) × (holds.old.items ≡ hold ∷ more) }
+    ensures { (more : _) × (holds.old.items ≡ result ∷ more) × (holds.new.items ≡ record result { mode = Mode.Shared } ∷ more) }
+{
+    let first = &mut holds[0];
+    let hold = *first;
+    first.mode = Mode::Shared;
+    hold
+}
+
+/// Takes the first of these holds out.
+fn take_first(holds: &mut ArrayVec<Hold, 2>) -> Hold
+    requires { (hold : _) × (more : _) × (holds.old.items ≡ hold ∷ more) }
+    ensures { holds.old.items ≡ result ∷ holds.new.items }
+{
+    holds.remove(0)
+}
+
 /// The step by which a guard that holds its shard alone shares it.
 pub(crate) fn downgrade<
     K: Eq + Hash + Drop,
@@ -42,24 +62,16 @@ pub(crate) fn downgrade<
 >(core: &mut Core<K, V, S, D, D::Answer, A>, step: Step)
     requires sound { IsSoundCore D.Deed S.BuildHasher S.Hasher.Hasher K.eq K.hash_input core.old }
     requires room { Room core.old }
+    requires slots { IsSlotted D.Deed S.BuildHasher S.Hasher.Hasher K.eq K.hash_input core.old }
     requires numbers { has_numbers (state_of core.old) ≡ true }
-    requires before { IsBefore core.old.places.items step.thread phase.Downgrade }
+    requires before { IsBefore (state_of core.old).places step.thread phase.Downgrade }
     ensures step { MakesStep Downgrades D.Deed S.BuildHasher S.Hasher.Hasher K.eq K.hash_input core.old step core.new }
     ensures room { Room core.new }
+    ensures slots { IsSlotted D.Deed S.BuildHasher S.Hasher.Hasher K.eq K.hash_input core.new }
 {
     let place = &mut core.places[step.thread];
-    let Some(hold) = place.hold else {
-        unreachable!()
-    };
-    let Some(slot) = lent_slot(&place.guard) else {
-        unreachable!()
-    };
-    place.hold = Some(Hold {
-        shard: hold.shard,
-        guard: hold.guard,
-        mode: Mode::Shared,
-    });
-    place.guard = Some(Guard::Pair(Way::Shared, slot));
+    let hold = share_first(&mut place.holds);
+    place.guard = Some(Guard::Pair(Way::Shared));
     enter(&mut place.phase, Phase::Answer(Answer::Held));
     let desk = &mut core.desks[hold.shard];
     share_hold(desk, step.thread as u64, hold.guard);
@@ -78,20 +90,19 @@ pub(crate) fn release<
 >(core: &mut Core<K, V, S, D, D::Answer, A>, step: Step)
     requires sound { IsSoundCore D.Deed S.BuildHasher S.Hasher.Hasher K.eq K.hash_input core.old }
     requires room { Room core.old }
+    requires slots { IsSlotted D.Deed S.BuildHasher S.Hasher.Hasher K.eq K.hash_input core.old }
     requires numbers { has_numbers (state_of core.old) ≡ true }
-    requires before { (answer : _) × IsBefore core.old.places.items step.thread (phase.Release answer) }
+    requires before { (answer : _) × IsBefore (state_of core.old).places step.thread (phase.Release answer) }
     ensures step { MakesStep Releases D.Deed S.BuildHasher S.Hasher.Hasher K.eq K.hash_input core.old step core.new }
     ensures room { Room core.new }
+    ensures slots { IsSlotted D.Deed S.BuildHasher S.Hasher.Hasher K.eq K.hash_input core.new }
 {
     let place = &mut core.places[step.thread];
-    let Some(hold) = place.hold else {
-        unreachable!()
-    };
+    let hold = take_first(&mut place.holds);
     let Phase::Release(answer) = mem::replace(&mut place.phase, Phase::Rest) else {
         unreachable!()
     };
     let counts = release_counts(&place.guard, place.block);
-    place.hold = None;
     place.guard = None;
     enter(&mut place.phase, Phase::Answer(answer));
     let desk = &mut core.desks[hold.shard];
@@ -111,10 +122,12 @@ pub(crate) fn answer<
 >(core: &mut Core<K, V, S, D, D::Answer, A>, step: Step)
     requires sound { IsSoundCore D.Deed S.BuildHasher S.Hasher.Hasher K.eq K.hash_input core.old }
     requires room { Room core.old }
+    requires slots { IsSlotted D.Deed S.BuildHasher S.Hasher.Hasher K.eq K.hash_input core.old }
     requires numbers { has_numbers (state_of core.old) ≡ true }
-    requires before { (answer : _) × IsBefore core.old.places.items step.thread (phase.Answer answer) }
+    requires before { (answer : _) × IsBefore (state_of core.old).places step.thread (phase.Answer answer) }
     ensures step { MakesStep Answers D.Deed S.BuildHasher S.Hasher.Hasher K.eq K.hash_input core.old step core.new }
     ensures room { Room core.new }
+    ensures slots { IsSlotted D.Deed S.BuildHasher S.Hasher.Hasher K.eq K.hash_input core.new }
 {
     let end = core.count + 1;
     let place = &mut core.places[step.thread];

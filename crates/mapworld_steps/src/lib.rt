@@ -7,6 +7,6 @@ mod one_step;
 mod standing;
 mod starts;
 
-pub use mapworld_moves::{is_world_amount, shard_of, slot_of};
+pub use mapworld_moves::{is_world_amount, shard_of};
 pub use one_step::advance;
 pub use standing::status;

@@ -3,7 +3,7 @@ ghost use Rattle.std.specs.Prelude.{◌≡◌, ◌<◌, true, MatchBool, length,
 ghost use Rattle.mapworld_state.specs.declared.place.Phase.TheVariants as phase;
 ghost use Rattle.mapworld_state.specs.declared.step.Status.TheVariants.{Asleep};
 ghost use Rattle.mapworld_state.specs.Running.{has_numbers, status_of};
-ghost use Rattle.mapworld_state.specs.Core.{state_of, Room, IsBefore, IsSoundCore, MakesStep};
+ghost use Rattle.mapworld_state.specs.Core.{state_of, Room, IsBefore, IsSoundCore, IsSlotted, MakesStep};
 ghost use Rattle.mapworld_state.specs.Steps.{Starts, Admits};
 
 use mapworld_calls::Deed;
@@ -25,11 +25,13 @@ pub(crate) fn start<
 >(core: &mut Core<K, V, S, D, D::Answer, A>, step: Step)
     requires sound { IsSoundCore D.Deed S.BuildHasher S.Hasher.Hasher K.eq K.hash_input core.old }
     requires room { Room core.old }
+    requires slots { IsSlotted D.Deed S.BuildHasher S.Hasher.Hasher K.eq K.hash_input core.old }
     requires numbers { has_numbers (state_of core.old) ≡ true }
-    requires before { IsBefore core.old.places.items step.thread phase.Rest }
-    requires left { (p : _) → slice_get core.old.places.items step.thread ≡ Some p → 0 < length p.asks.items }
+    requires before { IsBefore (state_of core.old).places step.thread phase.Rest }
+    requires left { (p : _) → slice_get (state_of core.old).places step.thread ≡ Some p → 0 < length p.asks }
     ensures step { MakesStep Starts D.Deed S.BuildHasher S.Hasher.Hasher K.eq K.hash_input core.old step core.new }
     ensures room { Room core.new }
+    ensures slots { IsSlotted D.Deed S.BuildHasher S.Hasher.Hasher K.eq K.hash_input core.new }
 {
     let number = core.count + 1;
     let shards = core.tables.len();
@@ -59,12 +61,14 @@ pub(crate) fn admit<
 >(core: &mut Core<K, V, S, D, D::Answer, A>, step: Step) -> bool
     requires sound { IsSoundCore D.Deed S.BuildHasher S.Hasher.Hasher K.eq K.hash_input core.old }
     requires room { Room core.old }
+    requires slots { IsSlotted D.Deed S.BuildHasher S.Hasher.Hasher K.eq K.hash_input core.old }
     requires numbers { has_numbers (state_of core.old) ≡ true }
-    requires before { (request : _) × IsBefore core.old.places.items step.thread (phase.Admit request) }
+    requires before { (request : _) × IsBefore (state_of core.old).places step.thread (phase.Admit request) }
     ensures made { MatchBool result
         (MakesStep Admits D.Deed S.BuildHasher S.Hasher.Hasher K.eq K.hash_input core.old step core.new)
         ((state_of core.new ≡ state_of core.old) × (status_of (state_of core.old) step.thread ≡ Asleep)) }
     ensures room { Room core.new }
+    ensures slots { IsSlotted D.Deed S.BuildHasher S.Hasher.Hasher K.eq K.hash_input core.new }
 {
     let place = &mut core.places[step.thread];
     let Phase::Admit(request) = &place.phase else {
@@ -82,7 +86,7 @@ pub(crate) fn admit<
     let Phase::Admit(request) = mem::replace(&mut place.phase, Phase::Rest) else {
         unreachable!()
     };
-    place.hold = Some(hold);
+    place.holds.push(hold);
     enter(&mut place.phase, Phase::Find(request));
     core.guards += 1;
     core.count += 1;

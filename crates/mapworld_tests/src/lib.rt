@@ -28,6 +28,8 @@ mod scripts;
 #[cfg(test)]
 mod sessions;
 #[cfg(test)]
+mod shards;
+#[cfg(test)]
 mod text;
 #[cfg(test)]
 mod worlds;

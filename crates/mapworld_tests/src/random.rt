@@ -17,13 +17,17 @@ const WORLDS: u64 = 60;
 
 /// Numbers that follow no simple rule, and are the same at each run.
 #[derive(Drop)]
-struct Random {
+pub struct Random {
     state: u64,
 }
 
 impl Random {
+    pub fn new(seed: u64) -> Random {
+        Random { state: seed }
+    }
+
     /// The bits of the next number that the mask has.
-    fn next(&mut self, mask: u64) -> u64 {
+    pub fn next(&mut self, mask: u64) -> u64 {
         self.state = self
             .state
             .wrapping_mul(6364136223846793005)
@@ -78,7 +82,7 @@ fn opening(random: &mut Random) -> Call {
 }
 
 /// A program of calls on one key, and of openings that each have three more calls and their end behind them.
-fn program(alloc: Global, random: &mut Random) -> Option<Vec<Call>> {
+pub fn program(alloc: Global, random: &mut Random) -> Option<Vec<Call>> {
     let mut calls = Vec::new(alloc);
     for _ in 0..12 {
         if random.next(1) == 0 {
@@ -326,7 +330,7 @@ fn run_through(world: &mut World<Global>, random: &mut Random, calls: usize) -> 
 
 /// Whether a world of random programs, run at random, answers and leaves what the plain map does.
 fn world_agrees(alloc: Global, seed: u64) -> Option<bool> {
-    let mut random = Random { state: seed };
+    let mut random = Random::new(seed);
     let first = program(alloc, &mut random)?;
     let second = program(alloc, &mut random)?;
     let third = program(alloc, &mut random)?;

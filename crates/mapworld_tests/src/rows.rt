@@ -99,7 +99,7 @@ fn blocks_show_the_steps_of_their_calls(rt: HostRuntime) -> Result<(), Fail> {
     let is_done = step_through(&mut world, 0);
     let shown = world.blocks();
     assert!(rt; is_done && shown.len() == 2);
-    // The insert grows its shard's list: start, admit, find, growth, deed, release, answer.
+    // The insert grows its shard: start, admit, find, growth, deed, release, answer.
     let (first, second) = (&shown[0], &shown[1]);
     assert!(rt; first.call == 0 && first.start == 1 && first.position == 4 && first.end == Some(7));
     // The removal finds nothing: start, admit, find, release, answer.

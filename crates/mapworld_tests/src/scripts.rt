@@ -28,7 +28,7 @@ pub enum Line<'a> {
 }
 
 /// Whether a run of one step of each of these threads stops with that fault.
-fn stops<A: Allocator>(
+fn stops<A: Allocator + Clone>(
     alloc: Global,
     world: &mut World<A>,
     threads: &[usize],

@@ -161,7 +161,7 @@ pub fn step(thread: usize) -> Step {
 }
 
 /// Makes as many steps of the thread, and says whether all of them were done.
-pub fn step_times<A: Allocator>(world: &mut World<A>, thread: usize, times: usize) -> bool {
+pub fn step_times<A: Allocator + Clone>(world: &mut World<A>, thread: usize, times: usize) -> bool {
     let mut done = true;
     for _ in 0..times {
         done &= world.run(&[step(thread)]).is_ok();
@@ -170,7 +170,7 @@ pub fn step_times<A: Allocator>(world: &mut World<A>, thread: usize, times: usiz
 }
 
 /// Steps the thread while it can move, and says whether all steps were done.
-pub fn step_through<A: Allocator>(world: &mut World<A>, thread: usize) -> bool {
+pub fn step_through<A: Allocator + Clone>(world: &mut World<A>, thread: usize) -> bool {
     let mut done = true;
     for _ in 0..world.bound() {
         if !world.can_move(thread) {
@@ -183,10 +183,13 @@ pub fn step_through<A: Allocator>(world: &mut World<A>, thread: usize) -> bool {
 
 /// Steps the threads below that number in turn, each once if it can move, until none can, and says whether all steps
 /// were done.
-pub fn step_round<K: Eq + Hash + Drop, V: Drop, S: BuildHasher, D: Deed<K, V> + Drop, A: Allocator>(
-    world: &mut MapWorld<K, V, S, D, A>,
-    threads: usize,
-) -> bool {
+pub fn step_round<
+    K: Eq + Hash + Drop,
+    V: Drop,
+    S: BuildHasher,
+    D: Deed<K, V> + Drop,
+    A: Allocator + Clone,
+>(world: &mut MapWorld<K, V, S, D, A>, threads: usize) -> bool {
     let mut done = true;
     for _ in 0..world.bound() {
         let mut moved = false;

@@ -2,10 +2,13 @@ use Rattle.std.proofs.Common.{◌≡◌, ◌≤◌, ℕ, length, map, sum_by, fa
 use Rattle.std.specs.List.{list_all}
 use Rattle.std.proofs.lemmas.List.{length-map}
 use Rattle.mapworld_calls.specs.Programs.{one_guard}
+use Rattle.mapworld_state.specs.Places.{place_of}
+use Rattle.mapworld_state.specs.Shards.{shard_pairs}
 use Rattle.mapworld_state.specs.Route.{IsWorldAmount, key_route}
 use Rattle.mapworld.specs.Beginning.{AreAtStart, AreFilled, AreReady}
+use Rattle.mapworld.proofs.Filling.{AreFilled-seen}
 use Rattle.mapworld.proofs.Refusals.{accepted, sum_by-map}
-use Rattle.mapworld.proofs.Beginnings.{new-sound, new-contents, new-room}
+use Rattle.mapworld.proofs.Beginnings.{new-sound, new-contents, new-room, new-slotted}
 use Rattle.mapworld.proofs.Outcomes.{world-agrees, world-placed}
 use Rattle.mapworld.proofs.making.core_of.Goals as goal
 
@@ -29,11 +32,11 @@ returns-clause-sound g c =
     let some : 1 ≤ c.len.result = omega (arith, a.some, as_many, own, c.len.ensures) in
     new-sound g.D.Deed g.S.BuildHasher g.S.Hasher.Hasher g.K.PartialEq.eq g.K.Hash.hash_input _
     (record { steps = c.new.ensures; holds = λ i desk at. let r = c.in_ok-desks.ensures.1 i desk at in (r.free, omega (arith, r.limit, some)); blocks = c.in_ok-blocks.ensures.items; replies = c.in_ok-replies.ensures.items })
-    (subst (λ n. IsWorldAmount n) (sym shards) a.amount)
+    (subst (λ n. IsWorldAmount n) (sym (length-map c.fill.new.tables.items shard_pairs ∙ shards)) a.amount)
     (ap (λ ps. list_all (one_guard false) ps) kept ∙ a.guarded)
-    (subst (λ ps. AreAtStart ps c.in_ok-places.places.items) (sym kept) c.in_ok-places.ensures)
-    (subst (λ ps. AreFilled g.K.PartialEq.eq (key_route g.S.BuildHasher g.S.Hasher.Hasher g.K.Hash.hash_input c.args.hasher (length c.fill.new.tables.items)) ps c.fill.new.tables.items)
-    (sym (ap (λ v. v.items) c.of-opening.ensures)) c.in_ok-count.ensures.filled)
+    (subst (λ ps. AreAtStart ps (map place_of c.in_ok-places.places.items)) (sym kept) c.in_ok-places.ensures)
+    (subst (λ ps. AreFilled g.K.PartialEq.eq (key_route g.S.BuildHasher g.S.Hasher.Hasher g.K.Hash.hash_input c.args.hasher (length (map shard_pairs c.fill.new.tables.items))) ps (map shard_pairs c.fill.new.tables.items))
+    (sym (ap (λ v. v.items) c.of-opening.ensures)) (AreFilled-seen g.S.BuildHasher g.S.Hasher.Hasher g.K.Hash.hash_input c.args.hasher g.K.PartialEq.eq c.args.pairs.items c.fill.new.tables.items c.in_ok-count.ensures.filled))
 
 pub returns-clause-new : goal.returns-clause-new
 returns-clause-new g c =
@@ -41,11 +44,11 @@ returns-clause-new g c =
     let shards = c.in_ok-count.ensures.shards ∙ c.in_ok-tables.ensures.0 in
     record {
       hasher_is = refl;
-      shards_are = shards;
+      shards_are = length-map c.fill.new.tables.items shard_pairs ∙ shards;
       opening = ap (λ v. v.items) c.of-opening.ensures;
       programs_are = ap (λ v. map (λ program. program.items) v.items) c.of-kept.ensures;
-      contents_are = new-contents g.D.Deed g.S.BuildHasher g.S.Hasher.Hasher g.K.PartialEq.eq g.K.Hash.hash_input c.args.hasher c.args.pairs.items c.fill.new.tables.items
-          g.met.K.Eq.laws g.met.K.Hash.respects_eq (subst (λ n. IsWorldAmount n) (sym shards) a.amount) c.in_ok-count.ensures.filled;
+      contents_are = new-contents g.D.Deed g.S.BuildHasher g.S.Hasher.Hasher g.K.PartialEq.eq g.K.Hash.hash_input c.args.hasher c.args.pairs.items (map shard_pairs c.fill.new.tables.items)
+          g.met.K.Eq.laws g.met.K.Hash.respects_eq (subst (λ n. IsWorldAmount n) (sym (length-map c.fill.new.tables.items shard_pairs ∙ shards)) a.amount) (AreFilled-seen g.S.BuildHasher g.S.Hasher.Hasher g.K.Hash.hash_input c.args.hasher g.K.PartialEq.eq c.args.pairs.items c.fill.new.tables.items c.in_ok-count.ensures.filled);
       steps = c.new.ensures;
       places = c.in_ok-places.ensures;
       holds = record { count = c.in_ok-desks.ensures.0; free = λ i desk at. (c.in_ok-desks.ensures.1 i desk at).free };
@@ -68,7 +71,7 @@ returns-clause-room g c =
     let some : 1 ≤ c.len.result = omega (arith, a.some, as_many, own, c.len.ensures) in
     new-room _
     (record { steps = c.new.ensures; holds = λ i desk at. let r = c.in_ok-desks.ensures.1 i desk at in (r.free, omega (arith, r.limit, some)); blocks = c.in_ok-blocks.ensures.items; replies = c.in_ok-replies.ensures.items })
-    (subst (λ ps. AreAtStart ps c.in_ok-places.places.items) (sym kept) c.in_ok-places.ensures)
+    (subst (λ ps. AreAtStart ps (map place_of c.in_ok-places.places.items)) (sym kept) c.in_ok-places.ensures)
     (record {
       count = refl;
       guards = refl;
@@ -95,3 +98,7 @@ returns-clause-placed g c =
 
 pub returns-clause-held : goal.returns-clause-held
 returns-clause-held g c = (returns-clause-sound g c).holds
+
+pub returns-clause-slots : goal.returns-clause-slots
+returns-clause-slots g c =
+    new-slotted _ _ c.fill.new.tables.items c.in_ok-blocks.blocks.items (map (λ program. program.items) c.args.programs.items) c.in_ok-places.places.items c.in_ok-places.ensures c.in_ok-count.ensures.hashed

@@ -1,52 +1,64 @@
-use Rattle.std.proofs.Common.{length, refl, ap, sym, ◌∙◌, arith, length-append}
-use Rattle.mapworld_state.specs.declared.place.Place.{Place}
+use Rattle.std.proofs.Common.{length, slice_get, Option, Some, None, is_some, if◌then◌else◌, refl, ap, sym, ◌∙◌, arith, length-append}
+use Rattle.mapworld_state.specs.Places.{Place, place_of}
+use Rattle.std.proofs.lemmas.List.{map-set}
+use Rattle.mapworld_state.specs.Moves.{lent_way}
+use Rattle.mapworld_state.specs.Slots.{phase_key}
+use Rattle.mapworld_state.specs.declared.place.Place.{Place as KeptPlace}
+use Rattle.mapworld_moves.proofs.Slots.{calls-ended, slots-kept}
 use Rattle.mapworld_state.specs.Core.{owed, owes, may_list, lists, may_add, adds}
 use Rattle.mapworld_moves.proofs.Rooms.{shifted, same_desks, answer_left}
-use Rattle.mapworld_moves.proofs.Facts.{stands_here, phase_here, claim_at, call_fits, kept_block}
+use Rattle.mapworld_moves.proofs.Facts.{claim_at, call_fits, kept_block, stepped-by}
+use Rattle.mapworld_steps.proofs.Kept.{kept_here, stands_here, phase_here}
 use Rattle.mapworld_steps.proofs.ends.answer.Goals as goal
 
 pub unreachable-requires : goal.unreachable-requires
 unreachable-requires g c =
     let b = c.requires.before.1 in
-    let p = c.index_mut-place.result.now in
-    let here = stands_here b p c.index_mut-place.ensures.value in
-    let claim = claim_at c.requires.sound c.args.step.thread p here (phase_here b p c.index_mut-place.ensures.value) in
+    let r = c.index_mut-place.result.now in
+    let p = place_of r in
+    let here = stands_here c.args.core.now.places.items b r c.index_mut-place.ensures.value in
+    let claim = claim_at c.requires.sound c.args.step.thread p here (phase_here c.args.core.now.places.items b r c.index_mut-place.ensures.value) in
     c.in_default.not-Some claim.1.start claim.1.started
 
 pub leave_call-answer-requires-clause-before : goal.leave_call-answer-requires-clause-before
-leave_call-answer-requires-clause-before g c = (c.requires.before.0, phase_here c.requires.before.1 c.index_mut-place.result.now c.index_mut-place.ensures.value)
+leave_call-answer-requires-clause-before g c = (c.requires.before.0, phase_here c.args.core.now.places.items c.requires.before.1 c.index_mut-place.result.now c.index_mut-place.ensures.value)
 
 pub leave_call-answer-requires-clause-fits : goal.leave_call-answer-requires-clause-fits
 leave_call-answer-requires-clause-fits g c =
     let b = c.requires.before.1 in
-    let p = c.index_mut-place.result.now in
-    let here = stands_here b p c.index_mut-place.ensures.value in
-    let fits = call_fits c.requires.sound c.args.step.thread p here (phase_here b p c.index_mut-place.ensures.value) refl in
+    let r = c.index_mut-place.result.now in
+    let p = place_of r in
+    let here = stands_here c.args.core.now.places.items b r c.index_mut-place.ensures.value in
+    let fits = call_fits c.requires.sound c.args.step.thread p here (phase_here c.args.core.now.places.items b r c.index_mut-place.ensures.value) refl in
     omega (arith, fits, c.requires.room.calls_fit)
 
 pub end_block-requires : goal.end_block-requires
 end_block-requires g c i e =
-    let here = stands_here c.requires.before.1 c.index_mut-place.result.now c.index_mut-place.ensures.value in
-    c.requires.room.listed c.args.step.thread c.index_mut-place.result.now i here e
+    let r = c.index_mut-place.result.now in
+    let here = stands_here c.args.core.now.places.items c.requires.before.1 r c.index_mut-place.ensures.value in
+    c.requires.room.listed c.args.step.thread (place_of r) i here e
 
 pub push_reserved-requires : goal.push_reserved-requires
 push_reserved-requires g c =
-    let p = c.index_mut-place.result.now in
-    let here = stands_here c.requires.before.1 p c.index_mut-place.ensures.value in
+    let r = c.index_mut-place.result.now in
+    let p = place_of r in
+    let here = stands_here c.args.core.now.places.items c.requires.before.1 r c.index_mut-place.ensures.value in
     (answer_left c.args.core.now c.args.step.thread p c.requires.room here (ap owes c.leave_call-answer.ensures.answer)).0
 
 pub overflow_sub-core : goal.overflow_sub-core
 overflow_sub-core g c =
-    let p = c.index_mut-place.result.now in
-    let here = stands_here c.requires.before.1 p c.index_mut-place.ensures.value in
+    let r = c.index_mut-place.result.now in
+    let p = place_of r in
+    let here = stands_here c.args.core.now.places.items c.requires.before.1 r c.index_mut-place.ensures.value in
     (answer_left c.args.core.now c.args.step.thread p c.requires.room here (ap owes c.leave_call-answer.ensures.answer)).1
 
 pub returns-clause-step : goal.returns-clause-step
 returns-clause-step g c =
     let b = c.requires.before.1 in
-    let here = stands_here b c.index_mut-place.result.now c.index_mut-place.ensures.value in
+    let r = c.index_mut-place.result.now in
+    let here = stands_here c.args.core.now.places.items b r c.index_mut-place.ensures.value in
     record {
-      place = c.index_mut-place.result.now;
+      place = place_of r;
       stands = here;
       answer = c.leave_call-answer.result;
       before = c.leave_call-answer.ensures.answer;
@@ -54,25 +66,26 @@ returns-clause-step g c =
       begun = c.in-Some.is;
       blocks = c.end_block.new.blocks.items;
       ended = rw c.requires.room.count at c.end_block.ensures.ended;
-      after = rw (c.appended-core.ensures, c.leave_call-answer.ensures.after, c.push_reserved.ensures.items, c.requires.room.count) refl;
+      after = rw (c.push_reserved.ensures.items, c.requires.room.count) (stepped-by c.args.core.now c.args.step _ _ _ c.args.core.now.tables.items _ _ _ _ c.appended-core.ensures (ap place_of c.leave_call-answer.ensures.after) refl);
     }
 
 pub returns-clause-room : goal.returns-clause-room
 returns-clause-room g c =
-    let p = c.index_mut-place.result.now in
-    let here = stands_here c.requires.before.1 p c.index_mut-place.ensures.value in
+    let r = c.index_mut-place.result.now in
+    let p = place_of r in
+    let here = stands_here c.args.core.now.places.items c.requires.before.1 r c.index_mut-place.ensures.value in
     let before = c.leave_call-answer.ensures.answer in
-    let after = c.leave_call-answer.ensures.after in
+    let after = ap place_of c.leave_call-answer.ensures.after in
     let left = answer_left c.args.core.now c.args.step.thread p c.requires.room here (ap owes before) in
-    shifted _ _ c.args.step.thread p c.leave_call-answer.new.place c.requires.room (record {
+    shifted _ _ c.args.step.thread p (place_of c.leave_call-answer.new.place) c.requires.room (record {
       here = here;
-      places = refl;
+      places = map-set place_of c.args.core.now.places.items c.args.step.thread _;
       numbers = c.requires.numbers;
       steps = simp length-append at (ap length c.appended-core.ensures);
       count = refl;
       programs = refl;
       tables = refl;
-      guards = λ h has. c.requires.room.guards c.args.step.thread p h here (ap (λ (q : Place _ _ _ _ _). q.hold) (sym after) ∙ has);
+      guards = λ i h has. c.requires.room.guards c.args.step.thread i p h here (ap (λ (q : Place _ _ _ _). slice_get q.holds i) (sym after) ∙ has);
       more_guards = omega arith;
       guards_fit = omega arith;
       unanswered = omega (arith, left.1, ap owed after, ap owes before);
@@ -81,11 +94,21 @@ returns-clause-room g c =
       listing = omega (arith, c.end_block.ensures.len, ap may_list after, ap lists before);
       blocks = c.end_block.ensures.capacity;
       desks = refl;
-      holding = same_desks c.args.core.now.desks.items p.hold c.leave_call-answer.new.place.hold (ap (λ (q : Place _ _ _ _ _). q.hold) after);
+      holding = same_desks c.args.core.now.desks.items p.holds c.leave_call-answer.new.place.holds.items (ap (λ (q : Place _ _ _ _). q.holds) after);
       adding = omega (arith, ap may_add after, ap adds before);
       pairs = c.requires.room.pairs;
       more_blocks = omega (arith, c.end_block.ensures.len);
       listed = λ i e.
-          let below = c.requires.room.listed c.args.step.thread p i here (kept_block p.closes p.block i (ap (λ (q : Place _ _ _ _ _). q.block) (sym after) ∙ e)) in
+          let below = c.requires.room.listed c.args.step.thread p i here (kept_block p.closes p.block i (ap (λ (q : Place _ _ _ _). q.block) (sym after) ∙ e)) in
           omega (arith, below, c.end_block.ensures.len);
     })
+
+pub returns-clause-slots : goal.returns-clause-slots
+returns-clause-slots g c =
+    let r = c.index_mut-place.result.now in
+    let after = ap place_of c.leave_call-answer.ensures.after in
+    slots-kept _ _ c.args.core.now c.requires.sound c.requires.slots c.args.step.thread r c.leave_call-answer.new.place (kept_here c.args.core.now.places.items c.requires.before.1 r c.index_mut-place.ensures.value) _
+    (calls-ended _ _ _ _ _ c.end_block.ensures.ended)
+    (λ kind lends. ap is_some (ap (λ (q : Place _ _ _ _). lent_way q.guard) (sym after) ∙ lends))
+    (λ i e. kept_block r.closes r.block i (ap (λ (q : Place _ _ _ _). q.block) (sym after) ∙ e))
+    (ap (λ (q : Place _ _ _ _). phase_key q.phase) after) (ap (λ (q : Place _ _ _ _). q.shard) after) (ap (λ (z : KeptPlace _ _ _ _ _). z.slot) c.leave_call-answer.ensures.after)

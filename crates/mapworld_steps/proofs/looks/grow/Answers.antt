@@ -1,106 +1,138 @@
-use Rattle.std.proofs.Common.{ℕ, ◌+◌, true, length, Option, Some, None, subst, inl, inr, refl, sym, ap, ◌∙◌, arith, length-append, length-set}
-use Rattle.std.proofs.lemmas.Option.{slice_get_within, same_Some}
-use Rattle.mapworld_moves.specs.declared.blocks.Started.{Started}
+use Rattle.std.proofs.Common.{◌≡◌, ℕ, ◌+◌, Bool, true, false, length, flat_map, map, slice_get, slice_set, Option, Some, None, subst, inl, inr, refl, sym, ap, ◌∙◌, arith, length-append, length-set}
+use Rattle.std.proofs.lemmas.Bool.{false≢true}
+use Rattle.std.proofs.lemmas.List.{map-set}
+use Rattle.std.proofs.lemmas.Option.{none-some, same_Some}
+use Rattle.mapworld_calls.specs.Pairs.{pair_of}
+use Rattle.mapworld_state.specs.Places.{place_of}
+use Rattle.mapworld_state.specs.Shards.{ShardPairs, shard_pairs, has_room}
+use Rattle.mapworld_state.specs.Slots.{phase_key, IsAt}
 use Rattle.mapworld_state.specs.Core.{state_of, owes, lists, adds}
+use Rattle.mapworld_state.specs.Moves.{request_of, growth_key, lent_way, found_phase, found_guard, found_done, ListsBlock}
+use Rattle.mapworld_state.proofs.Views.{view-at}
+use Rattle.mapworld_moves.specs.declared.blocks.Started.{Started}
 use Rattle.mapworld_moves.specs.Listing.{AddsBlock}
-use Rattle.mapworld_state.specs.Moves.{request_of, found_phase, found_done, ListsBlock}
 use Rattle.mapworld_moves.proofs.Rooms.{shifted, same_desks, block_left}
-use Rattle.mapworld_moves.proofs.Facts.{stands_here, phase_here, claim_at, list_read}
-use Rattle.mapworld_moves.proofs.Weights.{found_weighs, grown_lists, lists_block, pairs_kept, pairs_at}
+use Rattle.mapworld_moves.proofs.Facts.{claim_at, kept-within, kept-shard, stepped-by}
+use Rattle.mapworld_moves.proofs.Slots.{calls-same, calls-listed, slots-kept, slots-alone}
+use Rattle.mapworld_moves.proofs.Slotted.{hashes-alike}
+use Rattle.mapworld_moves.proofs.Weights.{found_weighs, grown_lists, lists_block, pairs_kept}
+use Rattle.mapworld_state.specs.World.{setup_of}
+use Rattle.mapworld_steps.proofs.Kept.{kept_here, stands_here, phase_here}
+use Rattle.mapworld_steps.proofs.Finding.{stands-as, found-key, grown-block}
+use Rattle.mapworld_steps.proofs.Refused.{put_back}
 use Rattle.mapworld_steps.proofs.looks.grow.Goals as goal
 
 pub unreachable-requires : goal.unreachable-requires
 unreachable-requires g c =
     let b = c.requires.before.1 in
-    let p = c.index_mut-place.result.now in
-    let here = stands_here b p c.index_mut-place.ensures.value in
-    let claim = claim_at c.requires.sound c.args.step.thread p here (phase_here b p c.index_mut-place.ensures.value) in
+    let r = c.index_mut-place.result.now in
+    let p = place_of r in
+    let here = stands_here c.args.core.now.places.items b r c.index_mut-place.ensures.value in
+    let claim = claim_at c.requires.sound c.args.step.thread p here (phase_here c.args.core.now.places.items b r c.index_mut-place.ensures.value) in
     c.in_default.not-Some claim.0.start claim.0.started
 
 pub unreachable-requires-in_default-replace : goal.unreachable-requires-in_default-replace
 unreachable-requires-in_default-replace g c =
     let b = c.requires.before.1 in
-    let p = c.index_mut-place.result.now in
-    c.in_default-replace.not-Grow c.requires.before.0 (c.replace.ensures.value ∙ phase_here b p c.index_mut-place.ensures.value)
+    let r = c.index_mut-place.result.now in
+    let p = place_of r in
+    c.in_default-replace.not-Grow c.requires.before.0 (c.replace.ensures.value ∙ phase_here c.args.core.now.places.items b r c.index_mut-place.ensures.value)
 
-pub index_mut-table-requires : goal.index_mut-table-requires
-index_mut-table-requires g c =
+pub index_mut-requires : goal.index_mut-requires
+index_mut-requires g c =
+    let core = c.args.core.now in
     let b = c.requires.before.1 in
-    let p = c.index_mut-place.result.now in
-    let here = stands_here b p c.index_mut-place.ensures.value in
-    let claim = claim_at c.requires.sound c.args.step.thread p here (phase_here b p c.index_mut-place.ensures.value) in
-    omega (arith, slice_get_within c.args.core.now.tables.items p.shard claim.3.table claim.3.held, c.args.core.now.tables.ok.0)
+    let r = c.index_mut-place.result.now in
+    let p = place_of r in
+    let here = stands_here core.places.items b r c.index_mut-place.ensures.value in
+    let before = sym c.replace.ensures.value ∙ c.in-Grow.is in
+    let claim = claim_at c.requires.sound c.args.step.thread p here before in
+    omega (arith, kept-within core.tables.items p.shard _ claim.3, core.tables.ok.0)
 
-pub more_room-requires : goal.more_room-requires
-more_room-requires g c =
+pub grow-requires : goal.grow-requires
+grow-requires g c =
+    let core = c.args.core.now in
     let b = c.requires.before.1 in
-    let p = c.index_mut-place.result.now in
-    let here = stands_here b p c.index_mut-place.ensures.value in
-    let claim = claim_at c.requires.sound c.args.step.thread p here (phase_here b p c.index_mut-place.ensures.value) in
-    let table = list_read c.args.core.now.tables.items p.shard c.index_mut-table.result.now c.index_mut-table.ensures.value _ claim.3 in
-    let part = pairs_at c.args.core.now.tables.items p.shard c.index_mut-table.result.now table.0 in
-    omega (arith, part, c.requires.room.pairs, c.requires.room.pairs_fit, c.len.ensures, c.index_mut-table.result.now.ok.0)
+    let r = c.index_mut-place.result.now in
+    let p = place_of r in
+    let here = stands_here core.places.items b r c.index_mut-place.ensures.value in
+    let before = sym c.replace.ensures.value ∙ c.in-Grow.is in
+    let claim = claim_at c.requires.sound c.args.step.thread p here before in
+    let kept = kept-shard core.tables.items p.shard _ claim.3 c.index_mut.result.now c.index_mut.ensures.value in
+    record { hashed = (_, hashes-alike g.S.BuildHasher g.S.Hasher.Hasher g.K.Hash.hash_input core.hasher g.K.PartialEq.eq g.met.K.Hash.respects_eq, c.requires.slots.hashed p.shard c.index_mut.result.now kept.0) }
 
 pub list_block-requires : goal.list_block-requires
 list_block-requires g c =
     let b = c.requires.before.1 in
-    let p = c.index_mut-place.result.now in
-    let here = stands_here b p c.index_mut-place.ensures.value in
-    block_left c.args.core.now c.args.step.thread p c.requires.room here (ap lists (phase_here b p c.index_mut-place.ensures.value))
+    let r = c.index_mut-place.result.now in
+    let p = place_of r in
+    let here = stands_here c.args.core.now.places.items b r c.index_mut-place.ensures.value in
+    block_left c.args.core.now c.args.step.thread p c.requires.room here (ap lists (phase_here c.args.core.now.places.items b r c.index_mut-place.ensures.value))
 
 pub returns-clause-step : goal.returns-clause-step
 returns-clause-step g c =
+    let core = c.args.core.now in
     let b = c.requires.before.1 in
-    let p = c.index_mut-place.result.now in
-    let here = stands_here b p c.index_mut-place.ensures.value in
+    let r = c.index_mut-place.result.now in
+    let p = place_of r in
+    let here = stands_here core.places.items b r c.index_mut-place.ensures.value in
     let before = sym c.replace.ensures.value ∙ c.in-Grow.is in
     let claim = claim_at c.requires.sound c.args.step.thread p here before in
-    let table = list_read c.args.core.now.tables.items p.shard c.index_mut-table.result.now c.index_mut-table.ensures.value _ claim.3 in
+    let kept = kept-shard core.tables.items p.shard _ claim.3 c.index_mut.result.now c.index_mut.ensures.value in
+    let held = view-at shard_pairs core.tables.items p.shard c.index_mut.result.now kept.0 in
     inl (record {
       place = p;
       stands = here;
       call = c.in-Grow.call;
       before = before;
-      table = c.index_mut-table.result.now;
-      held = table.0;
-      grown = c.reserve_exact.new.self;
-      absent = table.1.0;
-      full = table.1.1;
-      pairs = c.reserve_exact.ensures.items;
-      room = omega (arith, c.in-Ok.ensures.capacity_exact, table.1.1, c.more_room.ensures, c.len.ensures);
+      table = shard_pairs c.index_mut.result.now;
+      held = held;
+      absent = kept.1.0;
+      full = kept.1.1;
+      grown = shard_pairs c.grow.new.shard;
+      grows = c.in-Ok.ensures.grown;
       blocks = c.list_block.new.blocks.items;
-      listed = subst (λ (o : Option ℕ). ListsBlock (state_of c.args.core.now) c.args.step.thread p o c.list_block.new.blocks.items)
-          (c.found_done-done.ensures ∙ ap (λ r. found_done r None true) c.request_of-request.ensures)
-          (lists_block (state_of c.args.core.now) c.args.step.thread p c.found_done-done.result
-          (record { thread = c.args.step.thread; call = p.next; start = c.in-Some.start }) (c.args.core.now.count + 1) c.list_block.new.blocks.items
+      listed = subst (λ (o : Option ℕ). ListsBlock (state_of core) c.args.step.thread p o c.list_block.new.blocks.items)
+          (c.found_done-done.ensures ∙ ap (λ z. found_done z false true) c.request_of-request.ensures)
+          (lists_block (state_of core) c.args.step.thread p c.found_done-done.result
+          (record { thread = c.args.step.thread; call = p.next; start = c.in-Some.start }) (core.count + 1) c.list_block.new.blocks.items
           c.list_block.ensures.listed refl refl c.in-Some.is (ap (λ n. n + 1) c.requires.room.count));
-      after = rw (c.appended-core.ensures, c.len-index.ensures, c.args.core.now.blocks.ok.0, c.enter-2.ensures, c.found-phase.ensures, c.request_of-request.ensures) refl;
+      after = stepped-by core c.args.step _ _ _ (slice_set core.tables.items p.shard c.grow.new.shard) _ _ _ _ c.appended-core.ensures
+          (stands-as p (Some c.len-index.result) _ c.found-phase.result.1 _ c.enter-2.new.phase _
+          (ap Some (c.len-index.ensures ∙ core.blocks.ok.0))
+          (ap (λ z. z.1) c.found-phase.ensures ∙ ap (λ z. found_guard z false true) c.request_of-request.ensures)
+          (c.enter-2.ensures ∙ (ap (λ z. z.0) c.found-phase.ensures ∙ ap (λ z. found_phase z false true) c.request_of-request.ensures)))
+          (map-set shard_pairs core.tables.items p.shard c.grow.new.shard);
     })
 
 pub returns-clause-room : goal.returns-clause-room
 returns-clause-room g c =
+    let core = c.args.core.now in
     let b = c.requires.before.1 in
-    let p = c.index_mut-place.result.now in
-    let here = stands_here b p c.index_mut-place.ensures.value in
+    let r = c.index_mut-place.result.now in
+    let p = place_of r in
+    let here = stands_here core.places.items b r c.index_mut-place.ensures.value in
     let before = sym c.replace.ensures.value ∙ c.in-Grow.is in
     let claim = claim_at c.requires.sound c.args.step.thread p here before in
-    let held = (list_read c.args.core.now.tables.items p.shard c.index_mut-table.result.now c.index_mut-table.ensures.value _ claim.3).0 in
+    let kept = kept-shard core.tables.items p.shard _ claim.3 c.index_mut.result.now c.index_mut.ensures.value in
+    let held = view-at shard_pairs core.tables.items p.shard c.index_mut.result.now kept.0 in
     let st : Started = record { thread = c.args.step.thread; call = p.next; start = c.in-Some.start } in
-    let entered = c.enter-2.ensures ∙ (ap (λ z. z.0) c.found-phase.ensures ∙ ap (λ r. found_phase r None true) c.request_of-request.ensures) in
-    let weights = found_weighs (request_of c.in-Grow.call) None true c.enter-2.new.phase entered in
-    let listing = grown_lists c.args.core.now.blocks.items st (c.args.core.now.count + 1) c.list_block.new.blocks.items c.in-Grow.call c.enter-2.new.phase entered
-    (subst (λ (o : Option ℕ). AddsBlock c.args.core.now.blocks.items o st (c.args.core.now.count + 1) c.list_block.new.blocks.items)
-    (c.found_done-done.ensures ∙ ap (λ r. found_done r None true) c.request_of-request.ensures) c.list_block.ensures.listed) in
-    let kept = pairs_kept c.args.core.now.tables.items p.shard c.index_mut-table.result.now c.reserve_exact.new.self held (ap length c.reserve_exact.ensures.items) in
+    let entered = c.enter-2.ensures ∙ (ap (λ z. z.0) c.found-phase.ensures ∙ ap (λ z. found_phase z false true) c.request_of-request.ensures) in
+    let weights = found_weighs (request_of c.in-Grow.call) false true c.enter-2.new.phase entered in
+    let listing = grown_lists core.blocks.items st (core.count + 1) c.list_block.new.blocks.items c.in-Grow.call c.enter-2.new.phase entered
+    (subst (λ (o : Option ℕ). AddsBlock core.blocks.items o st (core.count + 1) c.list_block.new.blocks.items)
+    (c.found_done-done.ensures ∙ ap (λ z. found_done z false true) c.request_of-request.ensures) c.list_block.ensures.listed) in
+    let many = pairs_kept (state_of core).tables p.shard (shard_pairs c.index_mut.result.now) (shard_pairs c.grow.new.shard) held c.in-Ok.ensures.grown.counted in
+    let seen = map-set shard_pairs core.tables.items p.shard c.grow.new.shard in
     shifted _ _ c.args.step.thread p (record p { block = Some c.len-index.result; guard = c.found-phase.result.1; phase = c.enter-2.new.phase }) c.requires.room (record {
       here = here;
-      places = refl;
+      places = map-set place_of core.places.items c.args.step.thread _;
       numbers = c.requires.numbers;
       steps = simp length-append at (ap length c.appended-core.ensures);
       count = refl;
       programs = refl;
-      tables = length-set c.args.core.now.tables.items p.shard c.reserve_exact.new.self;
-      guards = λ h has. c.requires.room.guards c.args.step.thread p h here has;
+      tables = length-set core.tables.items p.shard c.grow.new.shard;
+      guards = λ i h has. c.requires.room.guards c.args.step.thread i p h here has;
       more_guards = omega arith;
       guards_fit = omega arith;
       unanswered = omega (arith, weights.0, ap owes before);
@@ -109,54 +141,83 @@ returns-clause-room g c =
       listing = omega (arith, listing.0, listing.1, ap lists before);
       blocks = c.list_block.ensures.capacity;
       desks = refl;
-      holding = same_desks c.args.core.now.desks.items p.hold p.hold refl;
+      holding = same_desks core.desks.items p.holds p.holds refl;
       adding = omega (arith, weights.1, ap adds before);
-      pairs = c.requires.room.pairs ∙ sym kept;
+      pairs = c.requires.room.pairs ∙ (sym many ∙ sym (ap (λ ts. length (flat_map (λ (t : ShardPairs _ _). t.items) ts)) seen));
       more_blocks = omega (arith, listing.0);
-      listed = λ i e. omega (arith, same_Some c.len-index.result i e, c.len-index.ensures, c.args.core.now.blocks.ok.0, listing.0);
+      listed = λ i e. omega (arith, same_Some c.len-index.result i e, c.len-index.ensures, core.blocks.ok.0, listing.0);
     })
 
-pub returns-in_default-reserve_exact-clause-step : goal.returns-in_default-reserve_exact-clause-step
-returns-in_default-reserve_exact-clause-step g c =
+pub returns-clause-slots : goal.returns-clause-slots
+returns-clause-slots g c =
+    let core = c.args.core.now in
     let b = c.requires.before.1 in
-    let p = c.index_mut-place.result.now in
-    let here = stands_here b p c.index_mut-place.ensures.value in
+    let r = c.index_mut-place.result.now in
+    let p = place_of r in
+    let here = stands_here core.places.items b r c.index_mut-place.ensures.value in
     let before = sym c.replace.ensures.value ∙ c.in-Grow.is in
     let claim = claim_at c.requires.sound c.args.step.thread p here before in
-    let table = list_read c.args.core.now.tables.items p.shard c.index_mut-table.result.now c.index_mut-table.ensures.value _ claim.3 in
+    let kept = kept-shard core.tables.items p.shard _ claim.3 c.index_mut.result.now c.index_mut.ensures.value in
+    let st : Started = record { thread = c.args.step.thread; call = p.next; start = c.in-Some.start } in
+    let bs = core.blocks.items in
+    let bs' = c.list_block.new.blocks.items in
+    let q = record p { block = Some c.len-index.result; guard = c.found-phase.result.1; phase = c.enter-2.new.phase } in
+    let done = c.found_done-done.ensures ∙ ap (λ z. found_done z false true) c.request_of-request.ensures in
+    let added = subst (λ (o : Option ℕ). AddsBlock bs o st (core.count + 1) bs') done c.list_block.ensures.listed in
+    let x = setup_of g.D.Deed g.S.BuildHasher g.S.Hasher.Hasher g.K.PartialEq.eq g.K.Hash.hash_input (state_of core) in
+    let s = slots-alone _ _ core c.requires.sound c.requires.slots c.args.step.thread r _ (kept_here core.places.items b r c.index_mut-place.ensures.value) _
+    (calls-listed bs bs' _ _ _ c.list_block.ensures.listed) claim.2 c.index_mut.result.now c.grow.new.shard kept.0
+    (c.grow.ensures.hashed _ (c.requires.slots.hashed p.shard c.index_mut.result.now kept.0)) (λ key is.
+    let found = found-key x bs bs' c.len-index.result p.block st (core.count + 1) (c.len-index.ensures ∙ core.blocks.ok.0) q (request_of c.in-Grow.call) false true added claim.0.asked
+    (grown-block _ c.in-Grow.call c.len-index.result p.block)
+    (ap (λ z. z.1) c.found-phase.ensures ∙ ap (λ z. found_guard z false true) c.request_of-request.ensures)
+    (c.enter-2.ensures ∙ (ap (λ z. z.0) c.found-phase.ensures ∙ ap (λ z. found_phase z false true) c.request_of-request.ensures)) key is in
+    absurd (false≢true found.0)) in
+    record { hashed = s.hashed; found = s.found }
+
+pub returns-in_default-grow-clause-step : goal.returns-in_default-grow-clause-step
+returns-in_default-grow-clause-step g c =
+    let core = c.args.core.now in
+    let b = c.requires.before.1 in
+    let r = c.index_mut-place.result.now in
+    let p = place_of r in
+    let here = stands_here core.places.items b r c.index_mut-place.ensures.value in
+    let before = sym c.replace.ensures.value ∙ c.in-Grow.is in
+    let claim = claim_at c.requires.sound c.args.step.thread p here before in
+    let kept = kept-shard core.tables.items p.shard _ claim.3 c.index_mut.result.now c.index_mut.ensures.value in
+    let held = view-at shard_pairs core.tables.items p.shard c.index_mut.result.now kept.0 in
     inr (record {
       place = p;
       stands = here;
       call = c.in-Grow.call;
       before = before;
-      table = c.index_mut-table.result.now;
-      held = table.0;
-      kept = c.reserve_exact.new.self;
-      absent = table.1.0;
-      full = table.1.1;
-      pairs = c.reserve_exact.ensures.items;
-      room_stays = c.in_default-reserve_exact.ensures.err;
-      after = rw (c.appended-core.ensures, c.enter.ensures) refl;
+      table = shard_pairs c.index_mut.result.now;
+      held = held;
+      absent = kept.1.0;
+      full = kept.1.1;
+      after = rw c.enter.ensures (stepped-by core c.args.step _ _ _ (slice_set core.tables.items p.shard c.grow.new.shard) (state_of core).tables _ _ _ c.appended-core.ensures refl
+          (ap (map shard_pairs) (put_back core.tables.items p.shard c.grow.new.shard c.index_mut.result.now c.in_default-grow.ensures.refused c.index_mut.ensures.value)));
     })
 
-pub returns-in_default-reserve_exact-clause-room : goal.returns-in_default-reserve_exact-clause-room
-returns-in_default-reserve_exact-clause-room g c =
+pub returns-in_default-grow-clause-room : goal.returns-in_default-grow-clause-room
+returns-in_default-grow-clause-room g c =
+    let core = c.args.core.now in
     let b = c.requires.before.1 in
-    let p = c.index_mut-place.result.now in
-    let here = stands_here b p c.index_mut-place.ensures.value in
+    let r = c.index_mut-place.result.now in
+    let p = place_of r in
+    let here = stands_here core.places.items b r c.index_mut-place.ensures.value in
     let before = sym c.replace.ensures.value ∙ c.in-Grow.is in
     let claim = claim_at c.requires.sound c.args.step.thread p here before in
-    let held = (list_read c.args.core.now.tables.items p.shard c.index_mut-table.result.now c.index_mut-table.ensures.value _ claim.3).0 in
-    let kept = pairs_kept c.args.core.now.tables.items p.shard c.index_mut-table.result.now c.reserve_exact.new.self held (ap length c.reserve_exact.ensures.items) in
+    let put = put_back core.tables.items p.shard c.grow.new.shard c.index_mut.result.now c.in_default-grow.ensures.refused c.index_mut.ensures.value in
     shifted _ _ c.args.step.thread p (record p { phase = c.enter.new.phase }) c.requires.room (record {
       here = here;
-      places = refl;
+      places = map-set place_of core.places.items c.args.step.thread _;
       numbers = c.requires.numbers;
       steps = simp length-append at (ap length c.appended-core.ensures);
       count = refl;
       programs = refl;
-      tables = length-set c.args.core.now.tables.items p.shard c.reserve_exact.new.self;
-      guards = λ h has. c.requires.room.guards c.args.step.thread p h here has;
+      tables = length-set core.tables.items p.shard c.grow.new.shard;
+      guards = λ i h has. c.requires.room.guards c.args.step.thread i p h here has;
       more_guards = omega arith;
       guards_fit = omega arith;
       unanswered = omega (arith, ap owes c.enter.ensures, ap owes before);
@@ -165,9 +226,26 @@ returns-in_default-reserve_exact-clause-room g c =
       listing = omega (arith, ap lists c.enter.ensures, ap lists before);
       blocks = refl;
       desks = refl;
-      holding = same_desks c.args.core.now.desks.items p.hold p.hold refl;
+      holding = same_desks core.desks.items p.holds p.holds refl;
       adding = omega (arith, ap adds c.enter.ensures, ap adds before);
-      pairs = c.requires.room.pairs ∙ sym kept;
+      pairs = c.requires.room.pairs ∙ sym (ap (λ ts. length (flat_map (λ (t : ShardPairs _ _). t.items) (map shard_pairs ts))) put);
       more_blocks = omega arith;
       listed = λ i e. c.requires.room.listed c.args.step.thread p i here e;
     })
+
+pub returns-in_default-grow-clause-slots : goal.returns-in_default-grow-clause-slots
+returns-in_default-grow-clause-slots g c =
+    let core = c.args.core.now in
+    let b = c.requires.before.1 in
+    let r = c.index_mut-place.result.now in
+    let p = place_of r in
+    let here = stands_here core.places.items b r c.index_mut-place.ensures.value in
+    let before = sym c.replace.ensures.value ∙ c.in-Grow.is in
+    let claim = claim_at c.requires.sound c.args.step.thread p here before in
+    let put = put_back core.tables.items p.shard c.grow.new.shard c.index_mut.result.now c.in_default-grow.ensures.refused c.index_mut.ensures.value in
+    let s = slots-kept _ _ core c.requires.sound c.requires.slots c.args.step.thread r _ (kept_here core.places.items b r c.index_mut-place.ensures.value) _
+    (calls-same _ _ refl) (λ kind lends. absurd (none-some kind (sym (ap lent_way claim.1.guard) ∙ lends))) (λ i e. e) (ap phase_key c.enter.ensures) refl refl in
+    record {
+      hashed = λ i z at. s.hashed i z (ap (λ ts. slice_get ts i) (sym put) ∙ at);
+      found = λ u q key at is. subst (λ ts. IsAt g.K.PartialEq.eq ts q.shard q.slot key) (sym put) (s.found u q key at is);
+    }

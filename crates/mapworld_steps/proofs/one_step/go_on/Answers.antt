@@ -1,5 +1,5 @@
 use Rattle.mapworld_state.specs.declared.place.Phase.TheVariants as phase
-use Rattle.mapworld_steps.proofs.Running.{is_before}
+use Rattle.mapworld_steps.proofs.Kept.{is_before}
 use Rattle.mapworld_steps.proofs.one_step.go_on.Goals as goal
 
 pub unreachable-requires : goal.unreachable-requires
@@ -24,7 +24,7 @@ append-requires-clause-before g c =
 
 pub apply-requires-clause-before : goal.apply-requires-clause-before
 apply-requires-clause-before g c =
-    (c.in-Apply.field-0, c.in-Apply.field-1, is_before c.args.core.now.places.items c.args.step.thread c.index.result.now (phase.Apply c.in-Apply.field-0 c.in-Apply.field-1) c.requires.thread c.index.ensures c.in-Apply.is)
+    (c.in-Apply.field-0, is_before c.args.core.now.places.items c.args.step.thread c.index.result.now (phase.Apply c.in-Apply.field-0) c.requires.thread c.index.ensures c.in-Apply.is)
 
 pub read-requires-clause-before : goal.read-requires-clause-before
 read-requires-clause-before g c =
@@ -48,7 +48,7 @@ answer-requires-clause-before g c =
 
 pub view-requires-clause-before : goal.view-requires-clause-before
 view-requires-clause-before g c =
-    (c.in-View.field-0, c.in-View.field-1, c.in-View.field-2, is_before c.args.core.now.places.items c.args.step.thread c.index.result.now (phase.View c.in-View.field-0 c.in-View.field-1 c.in-View.field-2) c.requires.thread c.index.ensures c.in-View.is)
+    (c.in-View.field-0, c.in-View.field-1, is_before c.args.core.now.places.items c.args.step.thread c.index.result.now (phase.View c.in-View.field-0 c.in-View.field-1) c.requires.thread c.index.ensures c.in-View.is)
 
 pub downgrade-requires-clause-before : goal.downgrade-requires-clause-before
 downgrade-requires-clause-before g c = is_before c.args.core.now.places.items c.args.step.thread c.index.result.now phase.Downgrade c.requires.thread c.index.ensures c.in-Downgrade.is

@@ -1,49 +1,61 @@
 use Rattle.std.proofs.Common.{◌+◌, length, Some, refl, sym, ap, ◌∙◌, arith, length-append}
 use Rattle.mapworld_state.specs.Core.{owes, lists, adds}
+use Rattle.std.proofs.lemmas.List.{map-set, length-map}
+use Rattle.mapworld_state.specs.Shards.{shard_pairs}
 use Rattle.mapworld_moves.proofs.Rooms.{shifted, same_desks}
-use Rattle.mapworld_moves.proofs.Facts.{stands_here, phase_here, claim_at, next_fits, session_counts}
+use Rattle.mapworld_state.specs.Places.{place_of}
+use Rattle.mapworld_moves.proofs.Facts.{claim_at, next_fits, session_counts, stepped-by}
+use Rattle.mapworld_steps.proofs.Kept.{kept_here, stands_here, phase_here}
+use Rattle.mapworld_steps.proofs.Starting.{started-slots}
+use Rattle.mapworld_state.specs.Moves.{start_guard, start_phase}
+use Rattle.mapworld_moves.proofs.Slots.{calls-counted}
 use Rattle.mapworld_state.proofs.Owning.{starts-own}
 use Rattle.mapworld_moves.proofs.Weights.{started_weighs}
 use Rattle.mapworld_steps.proofs.starts.start.Goals as goal
 
 pub count_in-requires-clause-listed : goal.count_in-requires-clause-listed
 count_in-requires-clause-listed g c i e =
-    let p = c.index_mut-place.result.now in
-    let here = stands_here c.requires.before p c.index_mut-place.ensures.value in
-    let claim = claim_at c.requires.sound c.args.step.thread p here (phase_here c.requires.before p c.index_mut-place.ensures.value) in
+    let r = c.index_mut-place.result.now in
+    let p = place_of r in
+    let here = stands_here c.args.core.now.places.items c.requires.before r c.index_mut-place.ensures.value in
+    let claim = claim_at c.requires.sound c.args.step.thread p here (phase_here c.args.core.now.places.items c.requires.before r c.index_mut-place.ensures.value) in
     session_counts _ _ _ _ p p.next _ p.block claim.2 i (starts-own c.start_call-phase.result.0 p.block i (sym c.start_counts-counts.ensures ∙ e))
 
 pub count_in-requires-clause-fits : goal.count_in-requires-clause-fits
 count_in-requires-clause-fits g c =
-    let p = c.index_mut-place.result.now in
-    let here = stands_here c.requires.before p c.index_mut-place.ensures.value in
-    let fits = next_fits c.requires.sound c.args.step.thread p here (phase_here c.requires.before p c.index_mut-place.ensures.value) in
+    let r = c.index_mut-place.result.now in
+    let p = place_of r in
+    let here = stands_here c.args.core.now.places.items c.requires.before r c.index_mut-place.ensures.value in
+    let fits = next_fits c.requires.sound c.args.step.thread p here (phase_here c.args.core.now.places.items c.requires.before r c.index_mut-place.ensures.value) in
     omega (arith, fits, c.requires.room.calls_fit)
 
 pub returns-clause-step : goal.returns-clause-step
 returns-clause-step g c =
-    let p = c.index_mut-place.result.now in
+    let r = c.index_mut-place.result.now in
+    let p = place_of r in
     record {
       place = p;
-      stands = stands_here c.requires.before p c.index_mut-place.ensures.value;
-      before = phase_here c.requires.before p c.index_mut-place.ensures.value;
+      stands = stands_here c.args.core.now.places.items c.requires.before r c.index_mut-place.ensures.value;
+      before = phase_here c.args.core.now.places.items c.requires.before r c.index_mut-place.ensures.value;
       ask = c.in-Some.ask;
-      rest = c.pop_front.new.self;
+      rest = c.pop_front.new.self.items;
       asked = c.in-Some.ensures.items;
       blocks = c.count_in.new.blocks.items;
       counted = rw (c.start_counts-counts.ensures, c.start_call-phase.ensures, c.replace.ensures.value) at c.count_in.ensures.counted;
-      after = rw (c.appended-core.ensures, c.is_last-place.ensures, c.start_shard-place.ensures, c.len-shards.ensures, c.args.core.now.tables.ok.0, c.enter.ensures, c.start_call-phase.ensures, c.replace.ensures.value, c.requires.room.count) refl;
+      after = stepped-by c.args.core.now c.args.step _ _ _ c.args.core.now.tables.items _ _ _ _ c.appended-core.ensures
+          (rw (c.is_last-place.ensures, c.start_shard-place.ensures, c.len-shards.ensures, c.args.core.now.tables.ok.0, sym (length-map c.args.core.now.tables.items shard_pairs), c.enter.ensures, c.start_call-phase.ensures, c.replace.ensures.value, c.requires.room.count) refl) refl;
     }
 
 pub returns-clause-room : goal.returns-clause-room
 returns-clause-room g c =
-    let p = c.index_mut-place.result.now in
-    let here = stands_here c.requires.before p c.index_mut-place.ensures.value in
-    let before = phase_here c.requires.before p c.index_mut-place.ensures.value in
+    let r = c.index_mut-place.result.now in
+    let p = place_of r in
+    let here = stands_here c.args.core.now.places.items c.requires.before r c.index_mut-place.ensures.value in
+    let before = phase_here c.args.core.now.places.items c.requires.before r c.index_mut-place.ensures.value in
     let weights = started_weighs c.in-Some.ask c.replace.result c.enter.new.phase (c.enter.ensures ∙ ap (λ z. z.0) c.start_call-phase.ensures) in
     let asks = ap length c.in-Some.ensures.items in
     let after = record p {
-      asks = c.pop_front.new.self;
+      asks = c.pop_front.new.self.items;
       started = Some (c.args.core.now.count + 1);
       closes = c.is_last-place.result;
       shard = c.start_shard-place.result;
@@ -52,13 +64,13 @@ returns-clause-room g c =
     } in
     shifted _ _ c.args.step.thread p after c.requires.room (record {
       here = here;
-      places = refl;
+      places = map-set place_of c.args.core.now.places.items c.args.step.thread _;
       numbers = c.requires.numbers;
       steps = simp length-append at (ap length c.appended-core.ensures);
       count = refl;
       programs = refl;
       tables = refl;
-      guards = λ h has. c.requires.room.guards c.args.step.thread p h here has;
+      guards = λ i h has. c.requires.room.guards c.args.step.thread i p h here has;
       more_guards = omega arith;
       guards_fit = omega arith;
       unanswered = omega (arith, asks, weights.0, ap owes before);
@@ -67,9 +79,19 @@ returns-clause-room g c =
       listing = omega (arith, asks, weights.1, ap lists before, c.count_in.ensures.len);
       blocks = c.count_in.ensures.capacity;
       desks = refl;
-      holding = same_desks c.args.core.now.desks.items p.hold p.hold refl;
+      holding = same_desks c.args.core.now.desks.items p.holds p.holds refl;
       adding = omega (arith, asks, weights.2, ap adds before);
       pairs = c.requires.room.pairs;
       more_blocks = omega (arith, c.count_in.ensures.len);
       listed = λ i e. let below = c.requires.room.listed c.args.step.thread p i here e in omega (arith, below, c.count_in.ensures.len);
     })
+
+pub returns-clause-slots : goal.returns-clause-slots
+returns-clause-slots g c =
+    let core = c.args.core.now in
+    let r = c.index_mut-place.result.now in
+    started-slots _ _ core c.requires.sound c.requires.slots c.args.step.thread r _ (kept_here core.places.items c.requires.before r c.index_mut-place.ensures.value) (phase_here core.places.items c.requires.before r c.index_mut-place.ensures.value) _
+    (calls-counted _ _ _ _ c.count_in.ensures.counted) c.pop_front.new.self.items c.in-Some.ask c.in-Some.ensures.items
+    (ap (λ z. z.1) c.start_call-phase.ensures ∙ ap (start_guard c.in-Some.ask) c.replace.ensures.value)
+    (c.enter.ensures ∙ (ap (λ z. z.0) c.start_call-phase.ensures ∙ ap (start_phase c.in-Some.ask) c.replace.ensures.value)) refl refl
+    (rw (c.start_shard-place.ensures, c.len-shards.ensures, c.args.core.now.tables.ok.0, sym (length-map core.tables.items shard_pairs)) refl)

@@ -3,7 +3,7 @@ use Rattle.mapworld_state.specs.Core.{state_of}
 use Rattle.mapworld_state.specs.State.{State}
 use Rattle.mapworld_state.specs.World.{setup_of}
 use Rattle.mapworld_state.specs.Sound.{Sound}
-use Rattle.mapworld.proofs.Setups.{setup-laws}
+use Rattle.mapworld_moves.proofs.Keys.{setup-laws}
 use Rattle.mapworld_sound.proofs.Sounds.{sound-step}
 use Rattle.mapworld_sound.proofs.Adding.{step-adds}
 use Rattle.mapworld.proofs.Runs.{setup-fixed}
@@ -11,10 +11,11 @@ use Rattle.mapworld.proofs.world.MapWorld.make_step.Goals as goal
 
 pub invariant_of-self : goal.invariant_of-self
 invariant_of-self g c = (
-  subst (λ (w : State g.row.K.Denot g.row.V.Denot g.row.S.Denot g.row.D.Denot g.row.D-Answer.Denot g.row.A.Denot).
+  subst (λ (w : State g.row.K.Denot g.row.V.Denot g.row.S.Denot g.row.D.Denot g.row.D-Answer.Denot).
       Sound (setup_of g.D.Deed g.S.BuildHasher g.S.Hasher.Hasher g.K.PartialEq.eq g.K.Hash.hash_input w) w)
       (sym c.if-not-advance.ensures.made) c.self.invariant.0,
   c.advance.ensures.room,
+  c.advance.ensures.slots,
 )
 
 pub invariant_of-self-2 : goal.invariant_of-self-2
@@ -26,4 +27,4 @@ invariant_of-self-2 g c =
     let laws = setup-laws g.D.Deed g.S.BuildHasher g.S.Hasher.Hasher g.K.PartialEq.eq g.K.Hash.hash_input w g.met.K.Eq.laws g.met.K.Hash.respects_eq in
     let added = step-adds x w c.args.step w' c.self.invariant.0 step in
     let fixed = setup-fixed g.D.Deed g.S.BuildHasher g.S.Hasher.Hasher g.K.PartialEq.eq g.K.Hash.hash_input w w' added.fixed in
-    (subst (λ y. Sound y w') (sym fixed) (sound-step x laws w c.args.step w' c.self.invariant.0 step), c.advance.ensures.room)
+    (subst (λ y. Sound y w') (sym fixed) (sound-step x laws w c.args.step w' c.self.invariant.0 step), c.advance.ensures.room, c.advance.ensures.slots)

@@ -8,7 +8,7 @@ use Rattle.mapworld_state.specs.World.{setup_of}
 use Rattle.mapworld_faults.specs.Faults.{run_fault_done}
 use Rattle.mapworld_sound.proofs.Adding.{step-adds, adds-more, fixed-more}
 use Rattle.mapworld.proofs.Runs.{Ran-more, setup-fixed}
-use Rattle.mapworld.proofs.Setups.{setup-laws}
+use Rattle.mapworld_moves.proofs.Keys.{setup-laws}
 use Rattle.mapworld.proofs.Footprints.{step_footprint}
 use Rattle.mapworld.proofs.Faulting.{refusal-done}
 use Rattle.mapworld.proofs.world.MapWorld.make_steps.Goals as goal

@@ -1,7 +1,8 @@
 use Rattle.std.proofs.Common.{◌≡◌, ◌<◌, ◌≤◌, length, inl, inr, Some, None, slice_get, refl, ap, sym, ◌∙◌, arith, ltb-true, ltb-false}
-use Rattle.std.specs.Option.{option_and_then}
-use Rattle.std.proofs.lemmas.Option.{slice_get_read, slice_get_within, slice_get_cases}
-use Rattle.mapworld_state.specs.declared.place.Place.{Place}
+use Rattle.std.specs.Option.{option_and_then, option_map}
+use Rattle.std.proofs.lemmas.Option.{slice_get_read, slice_get_within, slice_get_cases, slice_get-map}
+use Rattle.mapworld_state.specs.Places.{Place, place_of}
+use Rattle.mapworld_state.proofs.Views.{view-at}
 use Rattle.mapworld.proofs.world.MapWorld.started.Goals as goal
 
 pub returns-in-Some : goal.returns-in-Some
@@ -11,7 +12,7 @@ returns-in-Some g c =
     let p = c.in-Some.place.now in
     let within : t < length list = ltb-true t (length list) (sym c.in-Some.ensures.lookup.0) in
     let here = slice_get_read list (length list) t p refl within c.in-Some.ensures.lookup.1 in
-    rw (← c.self.view_is) (sym (ap (λ o. option_and_then (λ (q : Place _ _ _ _ _). q.started) o) (ap (λ ps. slice_get ps t) (sym c.deref.ensures.value) ∙ here)))
+    rw (← c.self.view_is) (sym (ap (λ o. option_and_then (λ (q : Place _ _ _ _). q.started) o) (view-at place_of c.self.inside.core.places.items t p (ap (λ ps. slice_get ps t) (sym c.deref.ensures.value) ∙ here))))
 
 pub returns-in-None : goal.returns-in-None
 returns-in-None g c =
@@ -22,5 +23,5 @@ returns-in-None g c =
     let long = ap length c.deref.ensures.value in
     rw (← c.self.view_is) (elim (slice_get_cases places t).1 [
       | inl here ↦ absurd (let within = slice_get_within places t here.0 here.2 in omega (arith, within, past, long))
-      | inr none ↦ sym (ap (λ o. option_and_then (λ (q : Place _ _ _ _ _). q.started) o) none.1)
+      | inr none ↦ sym (ap (λ o. option_and_then (λ (q : Place _ _ _ _). q.started) o) (slice_get-map place_of places t ∙ ap (option_map place_of) none.1))
     ])
