@@ -1,5 +1,5 @@
 -- Every step keeps to its footprint.
-use Rattle.std.proofs.Common.{◌≡◌, ◌≢◌, ℕ, zero, suc, inl, inr, false, List, [], ◌∷◌, ◌++◌, Option, Some, None, take, slice_get, slice_set, refl, ap, sym, ◌∙◌}
+use Rattle.std.proofs.Common.{◌≡◌, ◌≢◌, ℕ, inl, inr, false, List, Option, Some, None, take, slice_get, slice_set, refl, ap, sym, ◌∙◌}
 use Rattle.std.proofs.lemmas.Bool.{cases_eq}
 use Rattle.std.proofs.lemmas.Option.{same_Some}
 use Rattle.mapworld_calls.specs.declared.ask.Ask.{Ask}

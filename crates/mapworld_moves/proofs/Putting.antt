@@ -1,17 +1,15 @@
 -- A pair that is put into a shard, whether its key is there or not.
-use Rattle.std.proofs.Common.{◌≡◌, ℕ, ◌+◌, ◌<◌, Bool, true, false, not, nat_lt, List, length, Option, Some, None, is_some, IfSome, IfNone, refl, sym, ap, ◌∙◌, subst, inl, inr, arith, ltb-true, ltb-false, lt-ltb, le-ltb}
+use Rattle.std.proofs.Common.{◌≡◌, ℕ, ◌+◌, Bool, true, false, not, nat_lt, Option, Some, None, is_some, IfSome, IfNone, refl, sym, ap, ◌∙◌, subst, inl, inr, arith, lt-ltb, le-ltb}
 use Rattle.std.specs.Cmp.{IsEquivalence}
-use Rattle.std.proofs.lemmas.Option.{none-some}
 use Rattle.std.proofs.lemmas.Bool.{false≢true}
-use Rattle.dashmap_table.specs.declared.entry.Entry.{Entry}
 use Rattle.dashmap_table.specs.Shards.{put_over}
-use Rattle.dashmap_table.specs.Slots.{at, count, slot_of, pair_of as entry_pair, pairs_of, entry_with}
+use Rattle.dashmap_table.specs.Slots.{count, slot_of, pairs_of, entry_with}
 use Rattle.dashmap_table.specs.Table.{Table, IsSound, Adds, with_value}
 use Rattle.dashmap_table.proofs.Cases.{option_cases}
 use Rattle.dashmap_table.proofs.Sounds.{length-pairs_of}
 use Rattle.mapworld_calls.specs.Pairs.{pair_of}
 use Rattle.mapworld_state.specs.Shards.{shard_pairs, number_of, Puts}
-use Rattle.mapworld_state.specs.Slots.{HasHashes, HasKeyAt}
+use Rattle.mapworld_state.specs.Slots.{HasHashes}
 use Rattle.mapworld_moves.specs.Slots.{LeavesAt, HashesAlike}
 use Rattle.mapworld_moves.proofs.Slotted.{value-left, slot-of_key, slot-present, pair-at_key, puts-left, hashes-left, distinct-pairs, hashes-added, puts-added}
 

@@ -1,5 +1,5 @@
 -- The slot of a place behind the start of a call: a call on the guard leaves it, and any other call starts without one.
-use Rattle.std.proofs.Common.{◌≡◌, ℕ, zero, suc, ◌+◌, Bool, true, if◌then◌else◌, List, [], ◌∷◌, drop, Option, Some, None, is_some, slice_get, slice_set, refl, sym, ap, ◌∙◌, subst}
+use Rattle.std.proofs.Common.{◌≡◌, ℕ, zero, suc, ◌+◌, true, if◌then◌else◌, List, [], ◌∷◌, drop, Option, Some, None, is_some, slice_get, slice_set, refl, sym, ap, ◌∙◌, subst}
 use Rattle.std.specs.Option.{option_and_then}
 use Rattle.std.proofs.lemmas.Option.{none-some}
 use Rattle.mapworld_calls.specs.declared.ask.Ask.{Ask}
@@ -14,7 +14,6 @@ use Rattle.mapworld_state.specs.declared.place.Way.{Way}
 use Rattle.mapworld_state.specs.declared.place.Way.TheVariants as way
 use Rattle.mapworld_state.specs.declared.place.Guard.{Guard}
 use Rattle.mapworld_state.specs.declared.place.Guard.TheVariants as guard
-use Rattle.mapworld_state.specs.declared.place.Phase.{Phase}
 use Rattle.mapworld_state.specs.declared.place.Phase.TheVariants as phase
 use Rattle.mapworld_state.specs.declared.place.Place.{Place as KeptPlace}
 use Rattle.mapworld_state.specs.declared.world_core.Core.{Core}
@@ -22,7 +21,7 @@ use Rattle.mapworld_state.specs.Places.{Place, place_of}
 use Rattle.mapworld_state.specs.Shards.{ShardPairs}
 use Rattle.mapworld_state.specs.Moves.{lent_way, held_phase, held_guard, start_phase, start_guard, start_shard}
 use Rattle.mapworld_state.specs.Sound.{Sound, IsInSession, is_resting}
-use Rattle.mapworld_state.specs.Slots.{phase_key, slot_key, HasSlots}
+use Rattle.mapworld_state.specs.Slots.{phase_key, HasSlots}
 use Rattle.mapworld_state.specs.Core.{state_of}
 use Rattle.mapworld_state.proofs.Views.{view-at}
 use Rattle.mapworld_moves.proofs.Facts.{claim_at}

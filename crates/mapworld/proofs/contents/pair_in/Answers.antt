@@ -1,4 +1,4 @@
-use Rattle.std.proofs.Common.{◌≡◌, Some, IfSome, sym, ap, ◌∙◌}
+use Rattle.std.proofs.Common.{sym, ap, ◌∙◌}
 use Rattle.std.specs.Option.{option_map}
 use Rattle.dashmap_table.specs.Slots.{pair_of as entry_pair}
 use Rattle.mapworld_moves.proofs.Slotted.{pair-at_key}

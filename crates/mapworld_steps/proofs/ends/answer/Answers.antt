@@ -1,4 +1,4 @@
-use Rattle.std.proofs.Common.{length, slice_get, Option, Some, None, is_some, if◌then◌else◌, refl, ap, sym, ◌∙◌, arith, length-append}
+use Rattle.std.proofs.Common.{length, slice_get, is_some, refl, ap, sym, ◌∙◌, arith, length-append}
 use Rattle.mapworld_state.specs.Places.{Place, place_of}
 use Rattle.std.proofs.lemmas.List.{map-set}
 use Rattle.mapworld_state.specs.Moves.{lent_way}

@@ -1,7 +1,7 @@
-use Rattle.std.proofs.Common.{◌≡◌, [], ◌∷◌, length, None, refl, sym, ap, ◌∙◌, subst, arith, length-append, length-set}
+use Rattle.std.proofs.Common.{◌≡◌, [], ◌∷◌, length, None, refl, sym, ap, ◌∙◌, arith, length-append, length-set}
 use Rattle.std.proofs.lemmas.Option.{none-some, slice_get_within}
 use Rattle.mapworld_state.specs.Places.{place_of}
-use Rattle.mapworld_state.specs.Core.{state_of, owes, lists, adds}
+use Rattle.mapworld_state.specs.Core.{owes, lists, adds}
 use Rattle.mapworld_state.proofs.HoldsTable.{first-there, none-there}
 use Rattle.std.proofs.lemmas.List.{map-set}
 use Rattle.mapworld_state.specs.Slots.{phase_key}

@@ -1,4 +1,4 @@
-use Rattle.std.proofs.Common.{◌<◌, ℕ, ◌+◌, length, Option, IfSome, is_some, refl, sym, ap, ap₂, ◌∙◌, subst, arith, length-append}
+use Rattle.std.proofs.Common.{ℕ, ◌+◌, length, Option, IfSome, is_some, refl, sym, ap, ap₂, ◌∙◌, subst, arith, length-append}
 use Rattle.mapworld_state.specs.Core.{state_of, owes, lists, adds}
 use Rattle.mapworld_moves.specs.Listing.{AddsBlock}
 use Rattle.mapworld_moves.specs.declared.blocks.Started.{Started}

@@ -1,13 +1,12 @@
-use Rattle.std.proofs.Common.{◌≡◌, ℕ, ◌+◌, Bool, true, false, length, flat_map, map, slice_get, slice_set, Option, Some, None, subst, inl, inr, refl, sym, ap, ◌∙◌, arith, length-append, length-set}
+use Rattle.std.proofs.Common.{ℕ, ◌+◌, true, false, length, flat_map, map, slice_get, slice_set, Option, Some, subst, inl, inr, refl, sym, ap, ◌∙◌, arith, length-append, length-set}
 use Rattle.std.proofs.lemmas.Bool.{false≢true}
 use Rattle.std.proofs.lemmas.List.{map-set}
 use Rattle.std.proofs.lemmas.Option.{none-some, same_Some}
-use Rattle.mapworld_calls.specs.Pairs.{pair_of}
 use Rattle.mapworld_state.specs.Places.{place_of}
-use Rattle.mapworld_state.specs.Shards.{ShardPairs, shard_pairs, has_room}
+use Rattle.mapworld_state.specs.Shards.{ShardPairs, shard_pairs}
 use Rattle.mapworld_state.specs.Slots.{phase_key, IsAt}
 use Rattle.mapworld_state.specs.Core.{state_of, owes, lists, adds}
-use Rattle.mapworld_state.specs.Moves.{request_of, growth_key, lent_way, found_phase, found_guard, found_done, ListsBlock}
+use Rattle.mapworld_state.specs.Moves.{request_of, lent_way, found_phase, found_guard, found_done, ListsBlock}
 use Rattle.mapworld_state.proofs.Views.{view-at}
 use Rattle.mapworld_moves.specs.declared.blocks.Started.{Started}
 use Rattle.mapworld_moves.specs.Listing.{AddsBlock}

@@ -1,4 +1,4 @@
-use Rattle.std.proofs.Common.{[], ◌∷◌, ◌++◌, length, map, true, Some, refl, sym, ap, ap₂, ◌∙◌, arith, length-append, length-set}
+use Rattle.std.proofs.Common.{[], ◌∷◌, ◌++◌, length, map, true, refl, sym, ap, ap₂, ◌∙◌, arith, length-append, length-set}
 use Rattle.std.proofs.lemmas.Option.{slice_get_read, none-some}
 use Rattle.lock_api_desk.specs.declared.fault.DeskFault.TheVariants.{WouldWait}
 use Rattle.mapworld_state.specs.declared.holds.Hold.{Hold}

@@ -1,5 +1,4 @@
-use Rattle.std.proofs.Common.{sym, ◌∙◌}
-use Rattle.mapworld_state.specs.Core.{state_of}
+use Rattle.std.proofs.Common.{◌∙◌}
 use Rattle.mapworld.proofs.Viewing.{seen-pairs}
 use Rattle.mapworld.proofs.world.MapWorld.pairs.Goals as goal
 

@@ -1,4 +1,4 @@
-use Rattle.std.proofs.Common.{◌≡◌, ◌<◌, ◌≤◌, length, inl, inr, Some, None, slice_get, refl, ap, sym, ◌∙◌, arith, ltb-true, ltb-false}
+use Rattle.std.proofs.Common.{◌<◌, ◌≤◌, length, inl, inr, slice_get, refl, ap, sym, ◌∙◌, arith, ltb-true, ltb-false}
 use Rattle.std.specs.Option.{option_and_then, option_map}
 use Rattle.std.proofs.lemmas.Option.{slice_get_read, slice_get_within, slice_get_cases, slice_get-map}
 use Rattle.mapworld_state.specs.Places.{Place, place_of}
