@@ -26,7 +26,9 @@ pub use dashmap_iter::LendingWalks;
 pub use dashmap_map::mapref::entry::{Entry, OccupiedEntry, VacantEntry};
 pub use dashmap_map::{Map, NewFault, TryReserveError};
 pub use dashmap_parallel::{NoThreadData, ParExtendFault, ParallelMap, par_extend_shared};
-pub use dashmap_plain::{ExtendShards, Plain, Unlocked};
+pub use dashmap_plain::{
+    ExtendShards, Plain, Unlocked, from_par_iter, par_extend, par_extend_shards,
+};
 pub use dashmap_rayon::ParallelView;
 pub use dashmap_record::{
     Call, CallReply, Caller, Entered, GatherFault, RecordFault, Recorded, gather, next_stamp,

@@ -1,4 +1,5 @@
 //! Pairs of plain shards and of shared maps, side by side.
 
 pub use dashmap_parallel::{SharedIter, SharedIterMut};
+pub use dashmap_plain::IterMut;
 pub use dashmap_rayon::{Iter, OwningIter};
