@@ -223,6 +223,18 @@ pub fn started<A: Allocator>(world: &World<A>, thread: usize, want: u64) -> bool
     world.started(thread) == Some(want)
 }
 
+/// Whether a walk over the pairs gives so many.
+fn walks_over<A: Allocator>(world: &World<A>, pairs: usize) -> bool {
+    let mut left = pairs;
+    for _ in world.pairs() {
+        match left.checked_sub(1) {
+            Some(less) => left = less,
+            None => return false,
+        }
+    }
+    left == 0
+}
+
 /// Whether the contents are these pairs and no others.
 pub fn has_pairs<A: Allocator + Clone + Drop>(world: &World<A>, want: &[(u64, u64)]) -> bool {
     let is_full = match world.contents() {
@@ -230,7 +242,7 @@ pub fn has_pairs<A: Allocator + Clone + Drop>(world: &World<A>, want: &[(u64, u6
         Err(_) => false,
     };
     is_full
-        && world.pairs().count() == want.len()
+        && walks_over(world, want.len())
         && want
             .iter()
             .all(|pair| world.pair(&pair.0) == Some((&pair.0, &pair.1)))
