@@ -1,0 +1,4 @@
+pub mod Aims
+pub mod Seats
+pub mod Views
+pub mod Fits
