@@ -1,0 +1,2 @@
+mod Aiming
+mod Owning
