@@ -1,2 +1,3 @@
 mod Aiming
 mod Owning
+mod Within
