@@ -1,3 +1,4 @@
 mod Aiming
 mod Owning
 mod Within
+mod Calls
