@@ -90,7 +90,7 @@ pub record GoesOn (a b : List (Option Call)) : Type 0 where
   pub rests : RestStay a b
   pub count : length b ≡ length a
 
-slot : (calls : List (Option Call)) (t : ℕ) (c : Call) → call_of calls t ≡ Some c → slice_get calls t ≡ Some (Some c)
+pub slot : (calls : List (Option Call)) (t : ℕ) (c : Call) → call_of calls t ≡ Some c → slice_get calls t ≡ Some (Some c)
 slot calls t c h = at (slice_get calls t) refl
   where
     at : (o : Option (Option Call)) → slice_get calls t ≡ o → slice_get calls t ≡ Some (Some c)

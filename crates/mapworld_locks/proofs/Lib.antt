@@ -2,3 +2,4 @@ mod Aiming
 mod Owning
 mod Within
 mod Calls
+mod Taking
