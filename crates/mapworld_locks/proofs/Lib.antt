@@ -3,3 +3,5 @@ mod Owning
 mod Within
 mod Calls
 mod Taking
+mod Lists
+mod Handing

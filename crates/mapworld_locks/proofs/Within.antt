@@ -229,6 +229,8 @@ pub record IsAwaited (n : ℕ) (at : QueuePosition) (us : List ℕ) (p : RwPhase
   pub token : ParkToken
   pub asleep : rw_stance p ≡ Asleep key token
   pub owner : owner_of (of_rw.owns n p) (of_rw.does (rw_spot at) us p) ≡ Reading n
+  -- whomever it has taken
+  pub chosen : (vs : List ℕ) → is_chosen (stand_of (of_rw.does (rw_spot at) vs p)) ≡ true
 
 pub chosen_sleeps : (n : ℕ) (at : QueuePosition) (us : List ℕ) (p : RwPhase) → is_chosen (stand_of (of_rw.does (rw_spot at) us p)) ≡ true → IsAwaited n at us p
 chosen_sleeps n at us (RwPhase.Locking want) is = absurd (false≢true is)
@@ -248,7 +250,7 @@ chosen_sleeps n at us (RwPhase.Retreats want woken) is = absurd (false≢true is
 chosen_sleeps n at us (RwPhase.Appends want) is = absurd (false≢true is)
 chosen_sleeps n at us (RwPhase.Rests want) is = absurd (false≢true is)
 chosen_sleeps n QueuePosition.Listed us (RwPhase.Sleeps want) is = absurd (false≢true is)
-chosen_sleeps n (QueuePosition.Off by WakeResult.Nothing) us (RwPhase.Sleeps want) is = record { by = by; off = refl; key = 0; token = _; asleep = refl; owner = refl }
+chosen_sleeps n (QueuePosition.Off by WakeResult.Nothing) us (RwPhase.Sleeps want) is = record { by = by; off = refl; key = 0; token = _; asleep = refl; owner = refl; chosen = λ vs. refl }
 chosen_sleeps n (QueuePosition.Off by WakeResult.TryAgain) us (RwPhase.Sleeps want) is = absurd (false≢true is)
 chosen_sleeps n (QueuePosition.Off by WakeResult.HandedOver) us (RwPhase.Sleeps want) is = absurd (false≢true is)
 chosen_sleeps n at us (RwPhase.DrainLoads d) is = absurd (false≢true is)

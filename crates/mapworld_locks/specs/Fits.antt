@@ -28,7 +28,7 @@ core_aim (core.Mutex c) = None
 
 -- of the machine alone
 pub record IsPlain (s : State) : Type 0 where
-  pub kinds : s.kinds ≡ replicate (length s.kinds) kind.Rw
+  pub kinds : All (λ k. k ≡ kind.Rw) s.kinds
   pub single : All (λ h. is_single h ≡ true) s.holds
   pub alone : (t : ℕ) (c : Call) → call_at s t ≡ Some c → c.others ≡ 0
 
