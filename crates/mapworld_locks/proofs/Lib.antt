@@ -5,3 +5,5 @@ mod Calls
 mod Taking
 mod Lists
 mod Handing
+mod Seating
+mod Counting
