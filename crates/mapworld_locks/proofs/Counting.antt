@@ -4,8 +4,8 @@ use Rattle.std.proofs.lemmas.Bool.{cases_Bool, cases_eq, cases_lt, eq-eqb, ne_eq
 use Rattle.std.proofs.lemmas.Option.{none-some}
 use Rattle.lock_api_desk.specs.declared.mode.Mode.{Mode}
 use Rattle.lock_api_desk.specs.Guards.{Guard}
-use Rattle.mapworld_locks.specs.Seats.{IsSeat, guards_of, held_guard, is_of}
-use Rattle.mapworld_locks.proofs.Seating.{AreHalfSeated, each_guard}
+use Rattle.mapworld_locks.specs.Seats.{AreHalfSeated, IsSeat, guards_of, held_guard, is_of}
+use Rattle.mapworld_locks.proofs.Seating.{each_guard}
 
 abbrev pub weigh : (Guard → ℕ) → List Guard → ℕ
 weigh w [] = 0

@@ -7,3 +7,5 @@ mod Lists
 mod Handing
 mod Seating
 mod Counting
+mod Desks
+mod Moving

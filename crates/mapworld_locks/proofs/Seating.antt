@@ -8,7 +8,7 @@ use Rattle.std.proofs.lemmas.Option.{none-some, same_Some}
 use Rattle.lock_api_desk.specs.declared.mode.Mode.{Mode}
 use Rattle.lock_api_desk.specs.Guards.{Guard, amend, excluded, excludes, guard_of, has_number, held_in, is_held, is_in_use, without}
 use Rattle.mapworld_locks.proofs.Lists.{all_at}
-use Rattle.mapworld_locks.specs.Seats.{AreSeated, IsNameOf, IsSeat, guards_of, held_guard, is_of}
+use Rattle.mapworld_locks.specs.Seats.{AreHalfSeated, AreSeated, GoTogether, IsNameOf, IsSeat, guards_of, held_guard, is_of}
 
 -- LISTS
 
@@ -53,6 +53,25 @@ module _ {X : Type 0} where
     | inl passes ↦ cond-true (p x) (Some x) (find p xs) passes ∙ sym (ap (λ ys. slice_get ys 0) (cond-true (p x) (x ∷ filter p xs) (filter p xs) passes))
     | inr fails ↦ cond-false (p x) (Some x) (find p xs) fails ∙ find_first p xs ∙ sym (ap (λ ys. slice_get ys 0) (cond-false (p x) (x ∷ filter p xs) (filter p xs) fails))
   ]
+
+  -- the first that passes two tests, where all that pass the one are known
+  pub find_both : (p q : X → Bool) (xs : List X) (x : X) → filter p xs ≡ x ∷ [] → q x ≡ true → find (λ y. p y && q y) xs ≡ Some x
+  find_both p q [] x e passes = absurd (none-some x (ap (λ ys. slice_get ys 0) e))
+  find_both p q (y ∷ ys) x e passes = by (p y) refl (λ f. find_both p q ys x f passes)
+    where
+      by : (b : Bool) → p y ≡ b → (filter p ys ≡ x ∷ [] → find (λ z. p z && q z) ys ≡ Some x) → cond (p y && q y) (Some y) (find (λ z. p z && q z) ys) ≡ Some x
+      by true f rest =
+          let same : y ≡ x = same_Some y x (ap (λ zs. slice_get zs 0) (sym (cond-true (p y) (y ∷ filter p ys) (filter p ys) f) ∙ e)) in
+          ap (λ b. cond (b && q y) (Some y) (find (λ z. p z && q z) ys)) f ∙ ap (λ b. cond b (Some y) (find (λ z. p z && q z) ys)) (ap q same ∙ passes) ∙ ap Some same
+      by false f rest = ap (λ b. cond (b && q y) (Some y) (find (λ z. p z && q z) ys)) f ∙ rest (sym (cond-false (p y) (y ∷ filter p ys) (filter p ys) f) ∙ e)
+
+  pub find_neither : (p q : X → Bool) (xs : List X) → filter p xs ≡ [] → find (λ y. p y && q y) xs ≡ None
+  find_neither p q [] e = refl
+  find_neither p q (y ∷ ys) e = by (p y) refl (λ f. find_neither p q ys f)
+    where
+      by : (b : Bool) → p y ≡ b → (filter p ys ≡ [] → find (λ z. p z && q z) ys ≡ None) → cond (p y && q y) (Some y) (find (λ z. p z && q z) ys) ≡ None
+      by true f rest = absurd (none-some y (sym (ap (λ zs. slice_get zs 0) e) ∙ ap (λ zs. slice_get zs 0) (cond-true (p y) (y ∷ filter p ys) (filter p ys) f)))
+      by false f rest = ap (λ b. cond (b && q y) (Some y) (find (λ z. p z && q z) ys)) f ∙ rest (sym (cond-false (p y) (y ∷ filter p ys) (filter p ys) f) ∙ e)
 
   pub any_passing : (p : X → Bool) (xs : List X) → filter p xs ≡ [] → list_any p xs ≡ false
   any_passing p [] e = refl
@@ -115,16 +134,8 @@ module _ {X : Type 0} where
 
 -- SEATS
 
--- Each party has the guard that it should, or none yet.
-abbrev pub AreHalfSeated : (ℕ → Option Mode) → List Guard → Type 0
-AreHalfSeated modes guards = (t : ℕ) → (guards_of t guards ≡ []) ⊎ IsSeat t (modes t) (guards_of t guards)
-
 pub half : (modes : ℕ → Option Mode) (guards : List Guard) → AreSeated modes guards → AreHalfSeated modes guards
 half modes guards h t = inr (h t)
-
--- who holds so may hold so at one time
-abbrev pub GoTogether : (ℕ → Option Mode) → Type 0
-GoTogether modes = (t v : ℕ) (a b : Mode) → t ≢ v → modes t ≡ Some a → modes v ≡ Some b → excludes a b ≡ false
 
 module _ (modes : ℕ → Option Mode) (guards : List Guard) (seats : AreHalfSeated modes guards) where
   -- each guard is held, and is what its party should have

@@ -43,7 +43,6 @@ pub record IsAsked (asks : List (Option Ask)) (t : ℕ) (c : Call) : Type 0 wher
 pub record AsksFit (s : State) (asks : List (Option Ask)) : Type 0 where
   pub count : length asks ≡ length s.calls
   pub asked : (t : ℕ) (c : Call) → call_at s t ≡ Some c → IsAsked asks t c
-  pub idle : (t : ℕ) → call_at s t ≡ None → ask_at asks t ≡ None
   pub apart : (t v : ℕ) (a b : Ask) → ask_at asks t ≡ Some a → ask_at asks v ≡ Some b → a.shard ≡ b.shard → a.guard ≡ b.guard → t ≡ v
 
 -- The desk beside a shard's word: its held guards are the lock's owners but pending ones, each the guard of its thread, and those that were

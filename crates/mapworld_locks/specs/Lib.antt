@@ -2,3 +2,4 @@ pub mod Aims
 pub mod Seats
 pub mod Views
 pub mod Fits
+pub mod Moves

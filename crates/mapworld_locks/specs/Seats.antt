@@ -1,8 +1,8 @@
 -- The guards of a desk by their parties.
-use Rattle.std.specs.Prelude.{◌≡◌, ℕ, Bool, false, ◌==◌, List, [], ◌∷◌, Option, Some, None, filter}
+use Rattle.std.specs.Prelude.{◌≡◌, ◌≢◌, ◌⊎◌, ℕ, Bool, false, ◌==◌, List, [], ◌∷◌, Option, Some, None, filter}
 use Rattle.std.specs.List.{All}
 use Rattle.lock_api_desk.specs.declared.mode.Mode.{Mode}
-use Rattle.lock_api_desk.specs.Guards.{Guard, has_number}
+use Rattle.lock_api_desk.specs.Guards.{Guard, excludes, has_number}
 
 -- the guard is the party's
 abbrev pub is_of : ℕ → Guard → Bool
@@ -27,3 +27,11 @@ AreSeated modes guards = (party : ℕ) → IsSeat party (modes party) (guards_of
 -- The number is that of the party's guard, where it has one, and of no other.
 abbrev pub IsNameOf : ℕ → ℕ → List Guard → Type 0
 IsNameOf number party guards = All (λ guard. has_number number guard ≡ is_of party guard) guards
+
+-- Each party has the guard that it should, or none yet.
+abbrev pub AreHalfSeated : (ℕ → Option Mode) → List Guard → Type 0
+AreHalfSeated modes guards = (party : ℕ) → (guards_of party guards ≡ []) ⊎ IsSeat party (modes party) (guards_of party guards)
+
+-- who holds so may hold so at one time
+abbrev pub GoTogether : (ℕ → Option Mode) → Type 0
+GoTogether modes = (t v : ℕ) (a b : Mode) → t ≢ v → modes t ≡ Some a → modes v ≡ Some b → excludes a b ≡ false
