@@ -233,6 +233,7 @@ module _ (s : State) (t : ℕ) (c : Call) (here : call_at s t ≡ Some c) where
       there : (x : Option (Option Call)) → slice_get (slice_set s.calls w o) t ≡ x → (d : Call) → call_of (slice_set (slice_set s.calls w o) t (Some (hears c k))) t ≡ Some d → hears c k ≡ d
       there (Some y) e d at = same_Some (hears c k) d (sym (ap (option_and_then (λ y. y)) (get-set_same (slice_set s.calls w o) t y (Some (hears c k)) e)) ∙ at)
       there None e d at = absurd (none-some d (sym (ap (option_and_then (λ y. y)) (set_nothing (slice_set s.calls w o) t (Some (hears c k)) e)) ∙ at))
+
       at_own : (v : ℕ) (d : Call) → v ≡ t → call_of (slice_set (slice_set s.calls w o) t (Some (hears c k))) v ≡ Some d → hears c k ≡ d
       at_own v d e at = there (slice_get (slice_set s.calls w o) t) refl d (ap (call_of (slice_set (slice_set s.calls w o) t (Some (hears c k)))) (sym e) ∙ at)
 

@@ -51,8 +51,8 @@ weigh_parts w n (g ∷ gs) low =
       arith,
       weigh_parts w n gs (λ k x e. low (suc k) x e),
       sum_more (λ t. weigh w (guards_of t gs)) (λ t. weigh w (guards_of t (g ∷ gs))) g.party (w g) n (low 0 g refl)
-      (ap (weigh w) (cond-true (is_of g.party g) (g ∷ guards_of g.party gs) (guards_of g.party gs) (eq-eqb g.party g.party refl)))
-      (λ t ne. ap (weigh w) (cond-false (is_of t g) (g ∷ guards_of t gs) (guards_of t gs) (ne_eqb g.party t (λ e. ne (sym e))))),
+          (ap (weigh w) (cond-true (is_of g.party g) (g ∷ guards_of g.party gs) (guards_of g.party gs) (eq-eqb g.party g.party refl)))
+          (λ t ne. ap (weigh w) (cond-false (is_of t g) (g ∷ guards_of t gs) (guards_of t gs) (ne_eqb g.party t (λ e. ne (sym e))))),
     )
 
 -- one of the places has nothing, and none has more than one

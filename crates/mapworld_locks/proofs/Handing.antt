@@ -92,9 +92,9 @@ module _ (s : State) (i v : ℕ) where
         lock = lock;
         nothing = ap (λ r. mode_standing (standing r)) role ∙ ap mode_of x.owner;
         again = λ w same.
-        ap (λ o. chosen_stand (rw_role_in i (taken_by w.wakes v) (hold_at w v i) o)) same
-        ∙ ap chosen_stand (cond-true (c.lock == i) (rw_core_role c.others c.spot (taken_by w.wakes v) c.core) (record { owns = owned_of (hold_at w v i); does = Idle }) (eq-eqb c.lock i lock))
-        ∙ ap (λ q. chosen_stand (rw_core_role c.others c.spot (taken_by w.wakes v) q)) core ∙ x.chosen (taken_by w.wakes v);
+            ap (λ o. chosen_stand (rw_role_in i (taken_by w.wakes v) (hold_at w v i) o)) same
+            ∙ ap chosen_stand (cond-true (c.lock == i) (rw_core_role c.others c.spot (taken_by w.wakes v) c.core) (record { owns = owned_of (hold_at w v i); does = Idle }) (eq-eqb c.lock i lock))
+            ∙ ap (λ q. chosen_stand (rw_core_role c.others c.spot (taken_by w.wakes v) q)) core ∙ x.chosen (taken_by w.wakes v);
       }
 
   by_call : (us : List ℕ) (h : Hold) (o : Option Call) → call_at s v ≡ o → rw_role_at s i v ≡ rw_role_in i us h o → chosen_stand (rw_role_in i us h o) ≡ true → IsChosenCall s i v

@@ -7,5 +7,6 @@ mod Lists
 mod Handing
 mod Seating
 mod Counting
-mod Desks
+mod Admitting
 mod Moving
+mod Taken

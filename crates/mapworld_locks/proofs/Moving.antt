@@ -12,7 +12,7 @@ use Rattle.mapworld_locks.specs.declared.ask.Ask.{Ask}
 use Rattle.mapworld_locks.specs.Moves.{CanSeat, MayAdmit, MayMove, own_moved}
 use Rattle.mapworld_locks.specs.Seats.{AreHalfSeated, AreSeated, GoTogether, IsNameOf, IsSeat, guards_of, held_guard}
 use Rattle.mapworld_locks.specs.Views.{ask_at}
-use Rattle.mapworld_locks.proofs.Desks
+use Rattle.mapworld_locks.proofs.Admitting
 use Rattle.mapworld_locks.proofs.Seating
 
 -- The desk of a shard before a step of thread t, which has asked for it, and what is known of holds before and after the step.
@@ -87,17 +87,16 @@ module _ (before after : ℕ → Option Mode) (asks : List (Option Ask)) (shard 
   comes mode was is =
       let none = seat_was None was in
       let seats = can desk (half desk.guards nobody_else (inl none)) m.named refl refl in
-      let new = Desks.is_new after asks shard threads desk seats t mode a is m.asked m.here none in
-      let granted = Desks.is_granted after asks shard threads desk seats t mode a is m.asked m.here none in
+      let new = Admitting.is_new after asks shard threads desk seats t mode a is m.asked m.here none in
+      let granted = Admitting.is_granted after asks shard threads desk seats t mode a is m.asked m.here none in
       let may : MayAdmit a.guard mode desk = record {
         new = new;
         granted = granted;
-        room = omega (arith, Desks.has_room after asks shard threads desk seats t mode a is m.asked m.here none, m.room);
-      } in
-      (
+        room = omega (arith, Admitting.has_room after asks shard threads desk seats t mode a is m.asked m.here none, m.room);
+      } in (
         record {
           may = subst (λ (o : Option Mode). MayMove a.guard t o (after t) desk) (sym was) (subst (λ (o : Option Mode). MayMove a.guard t None o desk) (sym is) may);
-          can = Desks.seat_more after asks shard threads desk seats t mode a is m.asked m.here none;
+          can = Admitting.seat_more after asks shard threads desk seats t mode a is m.asked m.here none;
           own = subst (λ (o : Option Mode). IsSeat t o (guards_of t (Seating.with_guard a.guard mode t desk.guards))) (sym is) (a.guard, Seating.first_guard a.guard mode t desk.guards none);
           others = other_seat (Seating.with_guard a.guard mode t desk.guards) (λ v ne. Seating.other_guards a.guard mode t desk.guards v ne);
         },

@@ -78,6 +78,7 @@ handed_over t a from here leaves v ne = at (slice_get a v) refl
   where
     other : slice_get (with_standing (map appointed a) t (Reading 0) Apart) v ≡ option_map appointed (slice_get a v)
     other = get-set_other (map appointed a) t v _ (λ e. ne (sym e)) ∙ slice_get-map appointed a v
+
     at : (o : Option Standing) → slice_get a v ≡ o → (owned_in (with_standing (map appointed a) t (Reading 0) Apart) v ≡ owned_in a v) ⊎ IsHanded t v a (with_standing (map appointed a) t (Reading 0) Apart)
     at None e = inl (ap (option_and_then mode_standing) (other ∙ ap (option_map appointed) e) ∙ sym (ap (option_and_then mode_standing) e))
     at (Some s) e = elim (appointed_one s s.stand refl) [

@@ -150,6 +150,7 @@ module _ (modes : ℕ → Option Mode) (guards : List Guard) (seats : AreHalfSea
       one : (n : ℕ) (m : Mode) (j : ℕ) → slice_get (held_guard n m g.party ∷ []) j ≡ Some g → held_guard n m g.party ≡ g
       one n m zero e = same_Some (held_guard n m g.party) g e
       one n m (suc j) e = absurd (none-some g e)
+
       by : (o : Option Mode) → modes g.party ≡ o → (j : ℕ) → slice_get (guards_of g.party guards) j ≡ Some g → IsSeat g.party o (guards_of g.party guards) → (modes g.party ≡ Some g.mode) × (g.is_aside ≡ false)
       by None e j there none = absurd (none-some g (sym (ap (λ gs. slice_get gs j) none) ∙ there))
       by (Some m) e j there (n, is) =

@@ -104,7 +104,7 @@ module _ (s : State) (h : FitsTogether s) (t : ℕ) (c : Call) (here : call_at s
   told_by r by off = elim (cases_eq by t) [
     | inl e ↦ inr e
     | inr ne ↦ inl (ap (λ p. record d { spot = p })
-          (ap (settled_spot t r) off ∙ ap (QueuePosition.Off by) (cond-false (by == t) r WakeResult.Nothing (ne_eqb by t ne)) ∙ sym off))
+        (ap (settled_spot t r) off ∙ ap (QueuePosition.Off by) (cond-false (by == t) r WakeResult.Nothing (ne_eqb by t ne)) ∙ sym off))
   ]
 
   taken_already : (by : ℕ) → d.spot ≡ QueuePosition.Off by WakeResult.Nothing → by ≡ t → HasTaken s.wakes t v
@@ -133,7 +133,7 @@ module _ (s : State) (h : FitsTogether s) (t : ℕ) (c : Call) (here : call_at s
   takes o p e own = elim (cases_eq v e.thread) [
     | inr ne ↦ inl (two e.thread o p ne)
     | inl eq ↦ inr (let (n, at) = at_end s.wakes e in
-          let (k, there) = has_taken (s.wakes ++ e ∷ []) t n e at own in (k, there ∙ ap Some (sym eq)))
+        let (k, there) = has_taken (s.wakes ++ e ∷ []) t n e at own in (k, there ∙ ap Some (sym eq)))
   ]
 
   wakes : (e : Wakeup) (d2 : Call) (token : UnparkToken) (o p : Option Call) (ws : List Wakeup) → IsDue s t e d2 token → ResultOf (slice_set (slice_set s.calls e.thread o) t p) ws
@@ -144,10 +144,13 @@ module _ (s : State) (h : FitsTogether s) (t : ℕ) (c : Call) (here : call_at s
     where
       taken_place : v ≡ e.thread → is_taken (place_at s.lot.places v) ≡ true
       taken_place eq = ap (λ n. is_taken (place_at s.lot.places n)) eq ∙ ap is_taken due.place
+
       low : v < length s.calls
       low = slice_get_within s.calls v (Some d) (slot s.calls v d x.there)
+
       stands : Stands v d.lock (stance d.core) d.spot (place_at s.lot.places v) s.lot.section
       stands = subst (λ (o : Option Call). Seated v o (place_at s.lot.places v) s.lot.section) x.there (h.lots.seated v low)
+
       off_list_place : IsAt (QueuePosition.Off x.by WakeResult.Nothing) (place_at s.lot.places v) s.lot.section (2 * d.lock + x.key)
       off_list_place = (subst (λ (at : QueuePosition). Stands v d.lock (Asleep x.key x.token) at (place_at s.lot.places v) s.lot.section) x.off
           (subst (λ (st : Stance). Stands v d.lock st d.spot (place_at s.lot.places v) s.lot.section) x.asleep stands)).0

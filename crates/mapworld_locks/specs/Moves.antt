@@ -1,10 +1,11 @@
 -- What a step of a thread makes of the desk of its shard.
-use Rattle.std.specs.Prelude.{◌≡◌, ◌≢◌, ℕ, ◌<◌, ◌≤◌, Bool, true, false, ◌&&◌, if◌then◌else◌, List, [], ◌∷◌, Option, Some, None, is_some, is_none, length}
+use Rattle.std.specs.Prelude.{◌≡◌, ◌≢◌, ℕ, ◌<◌, ◌≤◌, Bool, true, false, ◌&&◌, if◌then◌else◌, List, [], ◌∷◌, Option, Some, None, is_some, is_none, length, slice_get}
 use Rattle.lock_api_desk.specs.declared.mode.Mode.{Mode}
 use Rattle.lock_api_desk.specs.declared.mode.Mode.TheVariants as held
 use Rattle.lock_api_desk.specs.Guards.{granted, held_of, holds, is_held, is_in_use}
 use Rattle.lock_api_desk.specs.Desk.{DeskState, admitted, released, turned}
 use Rattle.lock_api_desk.specs.Refusals.{guard_refusal}
+use Rattle.parking_lot_world.specs.declared.seat.Wakeup.{Wakeup}
 use Rattle.mapworld_locks.specs.declared.ask.Ask.{Ask}
 use Rattle.mapworld_locks.specs.Seats.{AreHalfSeated, GoTogether, IsNameOf}
 use Rattle.mapworld_locks.specs.Views.{ask_at}
@@ -37,6 +38,12 @@ admitted_as v None ask desk = desk
 admitted_as v (Some mode) None desk = desk
 admitted_as v (Some mode) (Some ask) desk = if is_some (held_of ask.guard desk.guards) then desk else admitted mode v ask.guard desk
 
+-- The desk doesn't refuse that.
+abbrev pub MayAdmitAs : ℕ → Option Mode → Option Ask → DeskState (Unit {0}) → Type 0
+MayAdmitAs v None ask desk = Unit {0}
+MayAdmitAs v (Some mode) None desk = Unit {0}
+MayAdmitAs v (Some mode) (Some ask) desk = is_some (held_of ask.guard desk.guards) ≡ false → MayAdmit ask.guard mode desk
+
 -- those of a list that hold now are admitted, in order
 abbrev pub all_admitted : (ℕ → Option Mode) → List (Option Ask) → List ℕ → DeskState (Unit {0}) → DeskState (Unit {0})
 all_admitted modes asks [] desk = desk
@@ -62,3 +69,7 @@ pub record CanSeat (modes : ℕ → Option Mode) (asks : List (Option Ask)) (sha
   pub limit : threads ≤ desk.limit
   pub named : (v : ℕ) (a : Ask) → ask_at asks v ≡ Some a → a.shard ≡ shard → IsNameOf a.guard v desk.guards
   pub apart : (t v : ℕ) (a b : Ask) → ask_at asks t ≡ Some a → ask_at asks v ≡ Some b → a.shard ≡ b.shard → a.guard ≡ b.guard → t ≡ v
+
+-- Each that a thread is to wake has asked for this shard.
+abbrev pub HaveAsked : List (Option Ask) → ℕ → ℕ → List Wakeup → Type 0
+HaveAsked asks shard t wakes = (n : ℕ) (e : Wakeup) → slice_get wakes n ≡ Some e → e.by ≡ t → (a : Ask) × (ask_at asks e.thread ≡ Some a) × (a.shard ≡ shard)

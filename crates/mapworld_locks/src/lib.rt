@@ -2,5 +2,7 @@
 #![tactic(auto)]
 
 mod ask;
+mod desks;
 
 pub use ask::Ask;
+pub use desks::ShardDesk;

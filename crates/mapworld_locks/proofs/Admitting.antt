@@ -1,5 +1,5 @@
 -- A desk on which guards are admitted, given up and turned keeps its seats, and refuses none of them.
-use Rattle.std.proofs.Common.{◌≡◌, ◌≢◌, ℕ, zero, suc, ◌+◌, ◌<◌, ◌≤◌, inl, inr, ◌⊎◌, Bool, true, false, cond, not, ◌&&◌, ◌==◌, nat_le, List, [], ◌∷◌, length, Option, Some, None, is_some, is_none, slice_get, find, refl, sym, ap, ◌∙◌, subst, arith}
+use Rattle.std.proofs.Common.{◌≡◌, ◌≢◌, ℕ, zero, suc, ◌+◌, ◌<◌, ◌≤◌, inl, inr, ◌⊎◌, Bool, true, false, cond, not, ◌&&◌, ◌==◌, nat_le, List, [], ◌∷◌, ◌++◌, length, Option, Some, None, is_some, is_none, slice_get, find, refl, sym, ap, ◌∙◌, subst, arith}
 use Rattle.std.specs.List.{All, count_by}
 use Rattle.std.proofs.lemmas.Bool.{cases_Bool, cases_eq, false≢true, eq-eqb, eqb-true, ne_eqb, cond-true, cond-false, and_from, lt-leb}
 use Rattle.std.proofs.lemmas.List.Sums.{count_by-le-length}
@@ -9,7 +9,7 @@ use Rattle.lock_api_desk.specs.declared.mode.Mode.TheVariants as held
 use Rattle.lock_api_desk.specs.Guards.{Guard, excluded, excludes, granted, guard_of, has_number, held_of, is_full, is_held, is_in_use, is_reader, readers}
 use Rattle.lock_api_desk.specs.Desk.{DeskState, admitted, released, turned}
 use Rattle.mapworld_locks.specs.declared.ask.Ask.{Ask}
-use Rattle.mapworld_locks.specs.Moves.{CanSeat, admitted_as, all_admitted, own_moved}
+use Rattle.mapworld_locks.specs.Moves.{CanSeat, MayAdmit, MayAdmitAs, admitted_as, all_admitted, own_moved}
 use Rattle.mapworld_locks.specs.Seats.{AreHalfSeated, AreSeated, GoTogether, IsNameOf, IsSeat, guards_of, held_guard, is_of}
 use Rattle.mapworld_locks.specs.Views.{ask_at}
 use Rattle.mapworld_locks.proofs.Lists.{all_at}
@@ -22,6 +22,7 @@ not_full limit mode guards few = by (is_reader mode)
   where
     low : nat_le limit (readers guards) ≡ false
     low = lt-leb limit (readers guards) (omega (arith, few, count_by-le-length (λ g. is_held g && is_reader g.mode) guards))
+
     by : (b : Bool) → (b && nat_le limit (readers guards)) ≡ false
     by true = low
     by false = refl
@@ -66,6 +67,7 @@ held_found number t guards names m n is =
   where
     agree : All (λ g. (has_number number g && is_held g) ≡ (is_of t g && is_held g)) guards
     agree = Seating.all_from (λ g. (has_number number g && is_held g) ≡ (is_of t g && is_held g)) guards (λ k g at. ap (λ b. b && is_held g) (all_at (λ g. has_number number g ≡ is_of t g) guards k g names at))
+
     found_held : find (λ g. is_of t g && is_held g) guards ≡ Some (held_guard n m t)
     found_held = Seating.find_both (is_of t) is_held guards (held_guard n m t) is refl
 
@@ -138,9 +140,9 @@ module _ (modes : ℕ → Option Mode) (asks : List (Option Ask)) (shard threads
               own : modes t ≡ Some mode → guards_of t desk.guards ≡ [] → IsSeat t (modes t) (guards_of t (Seating.with_guard a.guard mode t desk.guards))
               own e none = subst (λ (o : Option Mode). IsSeat t o (guards_of t (Seating.with_guard a.guard mode t desk.guards))) (sym e) (a.guard, Seating.first_guard a.guard mode t desk.guards none)
 
-  -- each of the list has asked for this shard
-  abbrev pub HaveAsked : List ℕ → Type 0
-  HaveAsked us = (k v : ℕ) → slice_get us k ≡ Some v → (a : Ask) × (ask_at asks v ≡ Some a) × (a.shard ≡ shard)
+  -- each of a list has asked for this shard
+  abbrev pub AllHaveAsked : List ℕ → Type 0
+  AllHaveAsked us = (k v : ℕ) → slice_get us k ≡ Some v → (a : Ask) × (ask_at asks v ≡ Some a) × (a.shard ≡ shard)
 
   -- all of the list
   pub record AllSeated (us : List ℕ) (old new : DeskState (Unit {0})) : Type 0 where
@@ -148,7 +150,7 @@ module _ (modes : ℕ → Option Mode) (asks : List (Option Ask)) (shard threads
     pub stay : (v : ℕ) → IsSeat v (modes v) (guards_of v old.guards) → IsSeat v (modes v) (guards_of v new.guards)
     pub seat : (k v : ℕ) → slice_get us k ≡ Some v → IsSeat v (modes v) (guards_of v new.guards)
 
-  pub seats_all : (us : List ℕ) (desk : DeskState (Unit {0})) → CanSeat modes asks shard threads desk → HaveAsked us → AllSeated us desk (all_admitted modes asks us desk)
+  pub seats_all : (us : List ℕ) (desk : DeskState (Unit {0})) → CanSeat modes asks shard threads desk → AllHaveAsked us → AllSeated us desk (all_admitted modes asks us desk)
   seats_all [] desk can asked = record { can = can; stay = λ v seat. seat; seat = λ k v e. absurd (none-some v e) }
   seats_all (t ∷ us) desk can asked =
       let (a, there, here) = asked 0 t refl in
@@ -164,3 +166,26 @@ module _ (modes : ℕ → Option Mode) (asks : List (Option Ask)) (shard threads
           → AllSeated us (admitted_as t (modes t) (ask_at asks t) desk) (all_admitted modes asks us (admitted_as t (modes t) (ask_at asks t) desk)) → IsSeat v (modes v) (guards_of v (all_admitted modes asks us (admitted_as t (modes t) (ask_at asks t) desk)).guards)
       at zero v e one rest = subst (λ (n : ℕ). IsSeat n (modes n) (guards_of n (all_admitted modes asks us (admitted_as t (modes t) (ask_at asks t) desk)).guards)) (same_Some t v e) (rest.stay t one.seat)
       at (suc k) v e one rest = rest.seat k v e
+
+  -- and none is refused
+  pub may_admit : (desk : DeskState (Unit {0})) → CanSeat modes asks shard threads desk → (t : ℕ) (a : Ask) → ask_at asks t ≡ Some a → a.shard ≡ shard → MayAdmitAs t (modes t) (ask_at asks t) desk
+  may_admit desk can t a asked here = subst (λ (o : Option Ask). MayAdmitAs t (modes t) o desk) (sym asked) (by (modes t) refl)
+    where
+      by : (o : Option Mode) → modes t ≡ o → MayAdmitAs t o (Some a) desk
+      by None e = tt
+      by (Some mode) e = granted_now mode e
+        where
+          granted_now : (mode : Mode) → modes t ≡ Some mode → is_some (held_of a.guard desk.guards) ≡ false → MayAdmit a.guard mode desk
+          granted_now mode e missing =
+              let none = none_yet modes asks shard threads desk can t mode a e asked here missing in
+              record {
+                new = is_new modes asks shard threads desk can t mode a e asked here none;
+                granted = is_granted modes asks shard threads desk can t mode a e asked here none;
+                room = omega (arith, has_room modes asks shard threads desk can t mode a e asked here none, can.room);
+              }
+
+-- one more of a list
+pub admitted_more : (modes : ℕ → Option Mode) (asks : List (Option Ask)) (us : List ℕ) (t : ℕ) (desk : DeskState (Unit {0}))
+    → all_admitted modes asks (us ++ t ∷ []) desk ≡ admitted_as t (modes t) (ask_at asks t) (all_admitted modes asks us desk)
+admitted_more modes asks [] t desk = refl
+admitted_more modes asks (u ∷ us) t desk = admitted_more modes asks us t (admitted_as u (modes u) (ask_at asks u) desk)
