@@ -1,16 +1,15 @@
 -- A desk on which guards are admitted, given up and turned keeps its seats, and refuses none of them.
-use Rattle.std.proofs.Common.{◌≡◌, ◌≢◌, ℕ, zero, suc, ◌+◌, ◌<◌, ◌≤◌, inl, inr, ◌⊎◌, Bool, true, false, cond, not, ◌&&◌, ◌==◌, nat_le, List, [], ◌∷◌, ◌++◌, length, Option, Some, None, is_some, is_none, slice_get, find, refl, sym, ap, ◌∙◌, subst, arith}
-use Rattle.std.specs.List.{All, count_by}
-use Rattle.std.proofs.lemmas.Bool.{cases_Bool, cases_eq, false≢true, eq-eqb, eqb-true, ne_eqb, cond-true, cond-false, and_from, lt-leb}
+use Rattle.std.proofs.Common.{◌≡◌, ◌≢◌, ℕ, zero, suc, ◌<◌, inl, inr, Bool, true, false, cond, not, ◌&&◌, nat_le, List, [], ◌∷◌, ◌++◌, length, Option, Some, None, is_some, slice_get, find, refl, sym, ap, ◌∙◌, subst, arith}
+use Rattle.std.specs.List.{All}
+use Rattle.std.proofs.lemmas.Bool.{cases_eq, false≢true, and_from, lt-leb}
 use Rattle.std.proofs.lemmas.List.Sums.{count_by-le-length}
 use Rattle.std.proofs.lemmas.Option.{none-some, same_Some}
 use Rattle.lock_api_desk.specs.declared.mode.Mode.{Mode}
-use Rattle.lock_api_desk.specs.declared.mode.Mode.TheVariants as held
-use Rattle.lock_api_desk.specs.Guards.{Guard, excluded, excludes, granted, guard_of, has_number, held_of, is_full, is_held, is_in_use, is_reader, readers}
-use Rattle.lock_api_desk.specs.Desk.{DeskState, admitted, released, turned}
+use Rattle.lock_api_desk.specs.Guards.{Guard, excluded, granted, has_number, held_of, is_full, is_held, is_in_use, is_reader, readers}
+use Rattle.lock_api_desk.specs.Desk.{DeskState, admitted}
 use Rattle.mapworld_locks.specs.declared.ask.Ask.{Ask}
-use Rattle.mapworld_locks.specs.Moves.{CanSeat, MayAdmit, MayAdmitAs, admitted_as, all_admitted, own_moved}
-use Rattle.mapworld_locks.specs.Seats.{AreHalfSeated, AreSeated, GoTogether, IsNameOf, IsSeat, guards_of, held_guard, is_of}
+use Rattle.mapworld_locks.specs.Moves.{CanSeat, MayAdmit, MayAdmitAs, admitted_as, all_admitted}
+use Rattle.mapworld_locks.specs.Seats.{IsNameOf, IsSeat, guards_of, held_guard, is_of}
 use Rattle.mapworld_locks.specs.Views.{ask_at}
 use Rattle.mapworld_locks.proofs.Lists.{all_at}
 use Rattle.mapworld_locks.proofs.Counting.{room_for}

@@ -1,10 +1,9 @@
 -- How many guards there are, by their parties.
-use Rattle.std.proofs.Common.{◌≡◌, ◌≢◌, ℕ, zero, suc, ◌+◌, ◌<◌, ◌≤◌, inl, inr, ◌⊎◌, Bool, true, false, cond, ◌==◌, List, [], ◌∷◌, length, Option, Some, None, slice_get, refl, sym, ap, ◌∙◌, subst, arith}
-use Rattle.std.proofs.lemmas.Bool.{cases_Bool, cases_eq, cases_lt, eq-eqb, ne_eqb, cond-true, cond-false}
-use Rattle.std.proofs.lemmas.Option.{none-some}
+use Rattle.std.proofs.Common.{◌≡◌, ◌≢◌, ℕ, zero, suc, ◌+◌, ◌<◌, ◌≤◌, inl, inr, List, [], ◌∷◌, length, Option, Some, None, slice_get, refl, sym, ap, subst, arith}
+use Rattle.std.proofs.lemmas.Bool.{cases_eq, eq-eqb, ne_eqb, cond-true, cond-false}
 use Rattle.lock_api_desk.specs.declared.mode.Mode.{Mode}
 use Rattle.lock_api_desk.specs.Guards.{Guard}
-use Rattle.mapworld_locks.specs.Seats.{AreHalfSeated, IsSeat, guards_of, held_guard, is_of}
+use Rattle.mapworld_locks.specs.Seats.{AreHalfSeated, IsSeat, guards_of, is_of}
 use Rattle.mapworld_locks.proofs.Seating.{each_guard}
 
 abbrev pub weigh : (Guard → ℕ) → List Guard → ℕ

@@ -1,18 +1,17 @@
 -- How shards' holds change in a step of the machine.
-use Rattle.std.proofs.Common.{◌≡◌, ◌≢◌, ℕ, zero, suc, ◌+◌, ◌<◌, inl, inr, ◌⊎◌, Bool, true, false, cond, ◌==◌, List, map, length, Option, Some, None, slice_get, refl, sym, ap, ◌∙◌, subst, arith}
+use Rattle.std.proofs.Common.{◌≡◌, ◌≢◌, ℕ, zero, suc, inl, inr, ◌⊎◌, Bool, true, false, ◌==◌, List, length, Option, Some, None, slice_get, refl, sym, ap, ◌∙◌, subst, arith}
 use Rattle.std.specs.List.{All}
 use Rattle.std.specs.Option.{option_and_then, option_map}
-use Rattle.std.proofs.lemmas.Bool.{cases_eq, cases_Bool, false≢true, eq-eqb, eqb-true, cond-true, cond-false}
+use Rattle.std.proofs.lemmas.Bool.{cases_Bool, false≢true, eq-eqb, eqb-true, cond-true, cond-false}
 use Rattle.std.proofs.lemmas.Option.{none-some, same_Some, slice_get-map}
 use Rattle.lock_api_desk.specs.declared.mode.Mode.TheVariants as held
 use Rattle.parking_lot_protocol.specs.declared.act.CoreAnswer.{CoreAnswer}
 use Rattle.parking_lot_rules.specs.Any.{AnyLock, Rw}
 use Rattle.parking_lot_rules.specs.Lock.{Lock}
-use Rattle.parking_lot_rules.specs.Owners.{Owner, Reading, Upgrading, Awaiting, Writing, Stand, Apart, Chosen, Case, IsCase, Leaves, Owners, Standing, owners, standing}
+use Rattle.parking_lot_rules.specs.Owners.{Owner, Reading, Upgrading, Awaiting, Writing, Case, IsCase, Leaves, Standing, owners, standing}
 use Rattle.parking_lot_rules.specs.Roles.{Idle, Role}
 use Rattle.parking_lot_world.specs.declared.calls.LockKind.{LockKind}
 use Rattle.parking_lot_world.specs.declared.calls.LockKind.TheVariants as kind
-use Rattle.parking_lot_world.specs.declared.calls.OwnMode.{OwnMode}
 use Rattle.parking_lot_world.specs.declared.open_call.Call.{Call}
 use Rattle.parking_lot_world.specs.declared.seat.Core.{Core}
 use Rattle.parking_lot_world.specs.declared.seat.Hold.{Hold}
@@ -27,7 +26,7 @@ use Rattle.mapworld_locks.specs.Views.{held_as, held_at}
 use Rattle.mapworld_locks.proofs.Lists.{all_at, among_all}
 use Rattle.mapworld_locks.proofs.Owning.{IsHanded, mode_is_owned, mode_standing, others_stay, own_stays, owned_in}
 use Rattle.mapworld_locks.proofs.Taking.{HasTaken, IsUntold, untold_or_taken}
-use Rattle.mapworld_locks.proofs.Within.{IsAwaited, chosen_sleeps, is_chosen}
+use Rattle.mapworld_locks.proofs.Within.{chosen_sleeps, is_chosen}
 
 -- every lock is a reader-writer lock
 pub is_rw : (s : State) → All (λ k. k ≡ kind.Rw) s.kinds → (i : ℕ) → lock_at s i ≡ Rw (rw_lock_at s i)

@@ -1,12 +1,10 @@
 -- The guard of a thread that makes a step moves as the thread does, and the desk doesn't refuse it.
-use Rattle.std.proofs.Common.{◌≡◌, ◌≢◌, ℕ, ◌<◌, ◌≤◌, inl, inr, ◌⊎◌, Bool, true, false, List, [], ◌∷◌, length, Option, Some, None, refl, sym, ap, ◌∙◌, subst, arith}
+use Rattle.std.proofs.Common.{◌≡◌, ◌≢◌, ℕ, ◌<◌, ◌≤◌, inl, inr, ◌⊎◌, List, [], Option, Some, None, refl, sym, ◌∙◌, subst, arith}
 use Rattle.std.proofs.lemmas.Bool.{cases_eq}
-use Rattle.std.proofs.lemmas.Option.{none-some, same_Some}
 use Rattle.lock_api_desk.specs.declared.mode.Mode.{Mode}
 use Rattle.lock_api_desk.specs.declared.mode.Mode.TheVariants as held
 use Rattle.lock_api_desk.specs.Guards.{Guard, guard_of, holds, is_held}
 use Rattle.lock_api_desk.specs.Desk.{DeskState, admitted, released, turned}
-use Rattle.lock_api_desk.specs.Refusals.{guard_refusal}
 use Rattle.lock_api_desk.proofs.Refusing.{not_refused}
 use Rattle.mapworld_locks.specs.declared.ask.Ask.{Ask}
 use Rattle.mapworld_locks.specs.Moves.{CanSeat, MayAdmit, MayMove, own_moved}

@@ -1,15 +1,15 @@
 -- How the owners of a lock change in a step, by its case.
-use Rattle.std.proofs.Common.{◌≡◌, ◌≢◌, ℕ, zero, suc, ◌+◌, inl, inr, ◌⊎◌, Bool, true, false, List, map, Option, Some, None, slice_get, slice_set, refl, sym, ap, ◌∙◌, subst, arith}
+use Rattle.std.proofs.Common.{◌≡◌, ◌≢◌, ℕ, zero, suc, ◌+◌, inl, inr, ◌⊎◌, Bool, true, false, List, map, Option, Some, None, slice_get, slice_set, refl, sym, ap, ◌∙◌, subst}
 use Rattle.std.specs.Option.{option_and_then, option_map}
 use Rattle.std.proofs.lemmas.Bool.{cases_eq, false≢true}
-use Rattle.std.proofs.lemmas.Option.{none-some, same_Some, slice_get-map}
+use Rattle.std.proofs.lemmas.Option.{slice_get-map}
 use Rattle.lock_api_desk.specs.declared.mode.Mode.{Mode as HeldMode}
 use Rattle.lock_api_desk.specs.declared.mode.Mode.TheVariants as held
 use Rattle.mapworld_locks.specs.Views.{held_as}
 use Rattle.parking_lot_rules.specs.Lock.{Lock}
 use Rattle.parking_lot_rules.specs.Roles.{Mode, Role}
-use Rattle.parking_lot_rules.specs.Any.{AnyLock, Rw, Mx}
-use Rattle.parking_lot_rules.specs.Owners.{Owner, Reading, Upgrading, Awaiting, Writing, Stand, Apart, Waits, WaitsForReaders, Chosen, Standing, Owners, Case, IsCase, At, Leaves, Converts, appointed, dismissed, given, not_chosen, owner_given, owners, standing, with_standing}
+use Rattle.parking_lot_rules.specs.Any.{Rw}
+use Rattle.parking_lot_rules.specs.Owners.{Owner, Reading, Upgrading, Awaiting, Writing, Stand, Apart, Waits, WaitsForReaders, Chosen, Standing, Owners, Case, IsCase, Leaves, Converts, appointed, dismissed, given, not_chosen, owner_given, owners, standing, with_standing}
 use Rattle.parking_lot_rules.proofs.Indexed.{get-set_same, get-set_other}
 use Rattle.parking_lot_world.specs.declared.calls.OwnMode.{OwnMode}
 use Rattle.parking_lot_world.specs.CallViews.{mode_of, rw_mode}

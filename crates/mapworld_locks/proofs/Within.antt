@@ -1,9 +1,8 @@
 -- Within a call nobody holds more than the call is about.
-use Rattle.std.proofs.Common.{◌≡◌, ◌≢◌, ℕ, zero, suc, ◌+◌, Bool, true, false, List, Option, Some, None, refl, sym, ap, ◌∙◌, subst}
+use Rattle.std.proofs.Common.{◌≡◌, ◌≢◌, ℕ, zero, suc, ◌+◌, Bool, true, false, List, Some, None, refl, sym, ap, ◌∙◌}
 use Rattle.std.proofs.lemmas.Bool.{false≢true}
 use Rattle.parking_lot_core_lot.specs.declared.parking.ParkToken.{ParkToken}
 use Rattle.parking_lot_protocol.specs.declared.act.Act.{Act}
-use Rattle.parking_lot_protocol.specs.declared.act.CoreAnswer.{CoreAnswer}
 use Rattle.parking_lot_protocol.specs.declared.rw_phase.LockMode.{LockMode}
 use Rattle.parking_lot_protocol.specs.declared.rw_phase.AfterWake.{AfterWake}
 use Rattle.parking_lot_protocol.specs.declared.rw_phase.Outcome.{Outcome}
@@ -12,7 +11,7 @@ use Rattle.parking_lot_protocol.specs.RwRules as of_rw
 use Rattle.parking_lot_protocol.specs.declared.rw_phase.Scanning.{Scanning}
 use Rattle.parking_lot_protocol.specs.RwTable.{act_of}
 use Rattle.parking_lot_rules.specs.Roles as rules
-use Rattle.parking_lot_rules.specs.Owners.{Owner, Reading, Stand, Apart, Waits, WaitsForReaders, Chosen, owner_of, stand_of}
+use Rattle.parking_lot_rules.specs.Owners.{Reading, Stand, Chosen, owner_of, stand_of}
 use Rattle.parking_lot_rules.specs.Roles.{Mark, Open, Normal, Handed, Mode}
 use Rattle.parking_lot_world.specs.declared.calls.LockKind.TheVariants as kind
 use Rattle.parking_lot_world.specs.declared.seat.QueuePosition.{QueuePosition}
@@ -21,7 +20,7 @@ use Rattle.parking_lot_world.specs.CallViews.{mode_of, rw_mode}
 use Rattle.parking_lot_world.specs.RowActs.{rw_hold_after}
 use Rattle.parking_lot_world.specs.RowFits.{rw_keeps}
 use Rattle.parking_lot_world.specs.Rows.{rw_spot}
-use Rattle.parking_lot_world.specs.Stances.{Asleep, Stance, rw_stance}
+use Rattle.parking_lot_world.specs.Stances.{Asleep, rw_stance}
 use Rattle.parking_lot_world.specs.Worlds.{hold_mode, shared_mode}
 use Rattle.mapworld_locks.specs.Aims.{aim_after, aim_for, is_within, phase_aim}
 use Rattle.mapworld_locks.specs.Views.{held_as}

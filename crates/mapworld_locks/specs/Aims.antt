@@ -1,5 +1,5 @@
 -- What a thread is about in a call at a reader-writer lock, and how it may hold the lock then.
-use Rattle.std.specs.Prelude.{ℕ, Bool, true, false, Option, Some, None}
+use Rattle.std.specs.Prelude.{Bool, true, false, Option, Some, None}
 use Rattle.lock_api_desk.specs.declared.mode.Mode.{Mode}
 use Rattle.lock_api_desk.specs.declared.mode.Mode.TheVariants as held
 use Rattle.parking_lot_protocol.specs.declared.rw_phase.LockMode.{LockMode}

@@ -1,13 +1,12 @@
 -- What is seen of shards' locks.
-use Rattle.std.specs.Prelude.{ℕ, Bool, true, false, List, [], ◌∷◌, Option, Some, None, slice_get}
-use Rattle.std.specs.Option.{option_and_then, option_map_or}
+use Rattle.std.specs.Prelude.{ℕ, List, Option, Some, None, slice_get}
+use Rattle.std.specs.Option.{option_and_then}
 use Rattle.lock_api_desk.specs.declared.mode.Mode.{Mode}
 use Rattle.lock_api_desk.specs.declared.mode.Mode.TheVariants as held
-use Rattle.lock_api_desk.specs.Guards.{Guard}
 use Rattle.lock_api_desk.specs.Desk.{DeskState}
 use Rattle.parking_lot_world.specs.declared.calls.OwnMode.{OwnMode}
 use Rattle.parking_lot_world.specs.declared.calls.OwnMode.TheVariants as own
-use Rattle.parking_lot_world.specs.Rows.{Rows, State, lock_at, state}
+use Rattle.parking_lot_world.specs.Rows.{Rows, State, lock_at}
 use Rattle.parking_lot_world.specs.Worlds.{mode_in}
 use Rattle.mapworld_locks.specs.declared.ask.Ask.{Ask}
 
