@@ -10,3 +10,4 @@ mod Counting
 mod Admitting
 mod Moving
 mod Taken
+mod Keeping
