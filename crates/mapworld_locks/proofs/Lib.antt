@@ -11,3 +11,4 @@ mod Admitting
 mod Moving
 mod Taken
 mod Keeping
+mod Together
