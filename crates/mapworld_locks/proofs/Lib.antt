@@ -12,3 +12,4 @@ mod Moving
 mod Taken
 mod Keeping
 mod Together
+mod Ending
