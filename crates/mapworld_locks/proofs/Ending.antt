@@ -1,8 +1,9 @@
 -- Where a call is answered its thread holds the shard as it did in the call.
-use Rattle.std.proofs.Common.{◌≡◌, ◌≢◌, ℕ, zero, suc, ◌+◌, ◌*◌, ◌<◌, inl, inr, Bool, true, false, cond, ◌==◌, nat_lt, List, length, Option, Some, None, slice_get, slice_set, refl, sym, ap, ◌∙◌, subst, arith}
+use Rattle.std.proofs.Common.{◌≡◌, ◌≢◌, ℕ, zero, suc, ◌+◌, ◌*◌, ◌<◌, ◌≤◌, get_or, inl, inr, Bool, true, false, cond, ◌==◌, nat_lt, List, length, Option, Some, None, slice_get, slice_set, refl, sym, ap, ◌∙◌, subst, arith}
 use Rattle.std.specs.List.{All}
 use Rattle.std.specs.Option.{option_and_then, option_map, option_map_or}
 use Rattle.std.proofs.lemmas.Bool.{cases_eq, false≢true, eq-eqb, cond-true, cond-false, lt-ltb}
+use Rattle.std.proofs.lemmas.List.{length-set}
 use Rattle.std.proofs.lemmas.Option.{none-some, same_Some, slice_get-map, slice_get_within, slice_get-get_or}
 use Rattle.parking_lot_rules.specs.Owners.{Standing, owners, standing}
 use Rattle.parking_lot_rules.specs.Roles.{Idle, Role}
@@ -14,12 +15,12 @@ use Rattle.parking_lot_world.specs.declared.seat.Core.{Core}
 use Rattle.parking_lot_world.specs.declared.seat.Hold.{Hold}
 use Rattle.parking_lot_world.specs.CallViews.{rw_mode}
 use Rattle.parking_lot_world.specs.RowFits.{FitsTogether, IsOfKind, IsPrepared}
-use Rattle.parking_lot_world.specs.RowActs.{hold_after}
+use Rattle.parking_lot_world.specs.RowActs.{answered, hold_after}
 use Rattle.parking_lot_world.specs.Rows.{State, call_at, hold_at, owned_of, rw_core_role, rw_lock_at, rw_role_at, rw_role_in, rw_spot, taken_by}
 use Rattle.parking_lot_world.specs.Stances.{core_act}
 use Rattle.parking_lot_world.specs.Worlds.{hold_mode}
 use Rattle.mapworld_locks.specs.Views.{held_as, held_at}
-use Rattle.mapworld_locks.proofs.Calls.{slot}
+use Rattle.mapworld_locks.proofs.Calls.{set_here, slot}
 use Rattle.mapworld_locks.proofs.Handing.{held_is}
 use Rattle.mapworld_locks.proofs.Lists.{all_at, one_of_all}
 use Rattle.mapworld_locks.proofs.Owning.{mode_standing, owned_in}
@@ -50,3 +51,38 @@ done_mode s t c h rws here done = ap held_as (ap rw_mode role ∙ by c.core (h.r
     by : (k : Core) → IsOfKind (slice_get s.kinds c.lock) k → IsPrepared c.others k → is_done (core_act k) ≡ true → rw_mode (rw_core_role c.others c.spot (taken_by s.wakes t) k) ≡ hold_mode (Some kind.Rw) (hold_after c.others k)
     by (Core.Rw x) of_kind ready done = sym (done_hold c.others (rw_spot c.spot) (taken_by s.wakes t) x.phase ready.1 done)
     by (Core.Mutex x) of_kind ready done = absurd (is_rw (all_at (λ k. k ≡ kind.Rw) s.kinds c.lock kind.Mutex rws of_kind))
+
+rows_apart : (locks t threads : ℕ) → t < threads → t * locks + locks ≤ threads * locks
+rows_apart locks t zero b = absurd (omega (arith, b))
+rows_apart locks t (suc n) b = elim (cases_eq t n) [
+  | inl e ↦ subst (λ (k : ℕ). k * locks + locks ≤ suc n * locks) (sym e) (omega arith)
+  | inr ne ↦ omega (arith, rows_apart locks t n (omega (arith, b, ne)))
+]
+
+-- An answer changes nothing of what its thread holds.
+pub answered_holds : (s : State) (t : ℕ) (c : Call) → FitsTogether s → All (λ k. k ≡ kind.Rw) s.kinds → call_at s t ≡ Some c → is_done (core_act c.core) ≡ true → held_at (answered s t c) c.lock t ≡ held_at s c.lock t
+answered_holds s t c h rws here done =
+    held_by_role (answered s t c) c.lock t rws (omega (arith, low, length-set s.calls t none))
+    ∙ ap held_as (ap rw_mode role ∙ idle_mode now)
+    ∙ sym (held_by_role s c.lock t rws low ∙ done_mode s t c h rws here done)
+  where
+    none : Option Call
+    none = None
+    now : Hold
+    now = hold_after c.others c.core
+    low : t < length s.calls
+    low = slice_get_within s.calls t (Some c) (slot s.calls t c here)
+    lock_low : c.lock < length s.kinds
+    lock_low = of (c.core) (h.rules.kinds t c here)
+      where
+        of : (k : Core) → IsOfKind (slice_get s.kinds c.lock) k → c.lock < length s.kinds
+        of (Core.Rw x) e = slice_get_within s.kinds c.lock kind.Rw e
+        of (Core.Mutex x) e = slice_get_within s.kinds c.lock kind.Mutex e
+    cell_low : t * length s.kinds + c.lock < length s.holds
+    cell_low = omega (arith, rows_apart (length s.kinds) t (length s.calls) low, lock_low, h.rules.size_holds)
+    hold_now : hold_at (answered s t c) t c.lock ≡ now
+    hold_now =
+        ap (λ b. cond b (option_map_or (λ x. x) (slice_get (slice_set s.holds (t * length s.kinds + c.lock) now) (t * length s.kinds + c.lock)) (Hold.Shares 0)) (Hold.Shares 0)) (lt-ltb c.lock (length s.kinds) lock_low)
+        ∙ ap (λ o. option_map_or (λ x. x) o (Hold.Shares 0)) (get-set_same s.holds (t * length s.kinds + c.lock) (get_or s.holds (t * length s.kinds + c.lock) (Hold.Shares 0)) now (slice_get-get_or s.holds (t * length s.kinds + c.lock) (Hold.Shares 0) cell_low))
+    role : rw_role_at (answered s t c) c.lock t ≡ record { owns = owned_of now; does = Idle }
+    role = ap (rw_role_in c.lock (taken_by s.wakes t) (hold_at (answered s t c) t c.lock)) (set_here s.calls t c none here) ∙ ap (λ x. record { owns = owned_of x; does = Idle }) hold_now
