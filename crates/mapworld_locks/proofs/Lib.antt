@@ -13,3 +13,4 @@ mod Taken
 mod Keeping
 mod Together
 mod Ending
+mod Answering
