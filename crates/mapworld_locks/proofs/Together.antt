@@ -1,5 +1,5 @@
 -- Holds of a shard may stand at one time, and are of threads that there are.
-use Rattle.std.proofs.Common.{◌≡◌, ◌≢◌, ℕ, ◌<◌, true, false, List, length, Option, Some, None, slice_get, refl, sym, ap, ◌∙◌, subst}
+use Rattle.std.proofs.Common.{◌≡◌, ℕ, ◌<◌, true, false, length, Option, Some, None, slice_get, refl, sym, ap, ◌∙◌}
 use Rattle.std.specs.List.{All}
 use Rattle.std.specs.Option.{option_and_then, option_map}
 use Rattle.std.proofs.lemmas.Bool.{false≢true}
@@ -7,7 +7,7 @@ use Rattle.std.proofs.lemmas.Option.{none-some, same_Some, slice_get-map}
 use Rattle.lock_api_desk.specs.declared.mode.Mode.{Mode}
 use Rattle.lock_api_desk.specs.declared.mode.Mode.TheVariants as held
 use Rattle.lock_api_desk.specs.Guards.{excludes}
-use Rattle.parking_lot_rules.specs.Owners.{Standing, owners, standing}
+use Rattle.parking_lot_rules.specs.Owners.{owners, standing}
 use Rattle.parking_lot_rules.specs.Roles.{Role}
 use Rattle.parking_lot_world.specs.declared.calls.LockKind.TheVariants as kind
 use Rattle.parking_lot_world.specs.declared.calls.OwnMode.{OwnMode}
@@ -50,6 +50,7 @@ holders_are_threads s i rws v m e = at (slice_get (rw_lock_at s i).roles v) refl
   where
     known : held_as (owned_in (owners (rw_lock_at s i)).threads v) ≡ Some m
     known = sym (held_is s rws i v) ∙ e
+
     at : (o : Option Role) → slice_get (rw_lock_at s i).roles v ≡ o → v < length s.calls
     at None f = absurd (none-some m (sym (ap (λ x. held_as (option_and_then mode_standing x)) (slice_get-map standing (rw_lock_at s i).roles v ∙ ap (option_map standing) f)) ∙ known))
     at (Some r) f = (among_all (rw_role_at s i) (length s.calls) v r f).0
