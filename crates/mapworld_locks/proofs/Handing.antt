@@ -1,0 +1,150 @@
+-- How shards' holds change in a step of the machine.
+use Rattle.std.proofs.Common.{◌≡◌, ◌≢◌, ℕ, zero, suc, inl, inr, ◌⊎◌, Bool, true, false, ◌==◌, List, length, Option, Some, None, slice_get, refl, sym, ap, ◌∙◌, subst, arith}
+use Rattle.std.specs.List.{All}
+use Rattle.std.specs.Option.{option_and_then, option_map}
+use Rattle.std.proofs.lemmas.Bool.{cases_Bool, false≢true, eq-eqb, eqb-true, cond-true, cond-false}
+use Rattle.std.proofs.lemmas.Option.{none-some, same_Some, slice_get-map}
+use Rattle.lock_api_desk.specs.declared.mode.Mode.TheVariants as held
+use Rattle.parking_lot_protocol.specs.declared.act.CoreAnswer.{CoreAnswer}
+use Rattle.parking_lot_rules.specs.Any.{AnyLock, Rw}
+use Rattle.parking_lot_rules.specs.Lock.{Lock}
+use Rattle.parking_lot_rules.specs.Owners.{Owner, Reading, Upgrading, Awaiting, Writing, Case, IsCase, Leaves, Standing, owners, standing}
+use Rattle.parking_lot_rules.specs.Roles.{Idle, Role}
+use Rattle.parking_lot_world.specs.declared.calls.LockKind.{LockKind}
+use Rattle.parking_lot_world.specs.declared.calls.LockKind.TheVariants as kind
+use Rattle.parking_lot_world.specs.declared.open_call.Call.{Call}
+use Rattle.parking_lot_world.specs.declared.seat.Core.{Core}
+use Rattle.parking_lot_world.specs.declared.seat.Hold.{Hold}
+use Rattle.parking_lot_world.specs.CallViews.{mode_of}
+use Rattle.parking_lot_world.specs.Machines.{IsStepped}
+use Rattle.parking_lot_world.specs.RowFits.{FitsTogether}
+use Rattle.parking_lot_world.specs.Rows.{State, any_lock, call_at, hold_at, lock_at, owned_of, rw_core_role, rw_lock_at, rw_role_at, rw_role_in, taken_by}
+use Rattle.parking_lot_world.specs.SoundLaws.{IsCaseAt, IsStepAt, StepsAreCases}
+use Rattle.parking_lot_world.specs.Stances.{stance}
+use Rattle.parking_lot_world.specs.Worlds.{mode_in}
+use Rattle.mapworld_locks.specs.Views.{held_as, held_at}
+use Rattle.mapworld_locks.proofs.Lists.{all_at, among_all}
+use Rattle.mapworld_locks.proofs.Owning.{IsHanded, mode_is_owned, mode_standing, others_stay, own_stays, owned_in}
+use Rattle.mapworld_locks.proofs.Taking.{HasTaken, IsUntold, untold_or_taken}
+use Rattle.mapworld_locks.proofs.Within.{chosen_sleeps, is_chosen}
+
+-- every lock is a reader-writer lock
+pub is_rw : (s : State) → All (λ k. k ≡ kind.Rw) s.kinds → (i : ℕ) → lock_at s i ≡ Rw (rw_lock_at s i)
+is_rw s all i = at (slice_get s.kinds i) refl
+  where
+    at : (o : Option LockKind) → slice_get s.kinds i ≡ o → any_lock (slice_get s.kinds i) s i ≡ Rw (rw_lock_at s i)
+    at None e = ap (λ k. any_lock k s i) e
+    at (Some k) e = ap (λ k. any_lock k s i) (e ∙ ap Some (all_at (λ k. k ≡ kind.Rw) s.kinds i k all e))
+
+pub held_is : (s : State) → All (λ k. k ≡ kind.Rw) s.kinds → (i t : ℕ) → held_at s i t ≡ held_as (owned_in (owners (rw_lock_at s i)).threads t)
+held_is s all i t = ap (λ l. held_as (mode_in l t)) (is_rw s all i) ∙ ap held_as (mode_is_owned (rw_lock_at s i) t)
+
+-- a step at a lock, of which nothing but the lock is known
+rw_case : (t : ℕ) (l m : Lock) (a b : AnyLock) → a ≡ Rw l → b ≡ Rw m → IsCaseAt t a b → (case : Case) × IsCase false t case (owners l) (owners m)
+rw_case t l m a b e f h = subst (λ (y : AnyLock). IsCaseAt t (Rw l) y) f (subst (λ (x : AnyLock). IsCaseAt t x b) e h)
+
+-- what is left of what one holds that leaves
+held_left : (from : Owner) → Leaves from (Reading 0) → held_as (mode_of from) ≢ None
+held_left (Reading zero) h e = absurd (omega (arith, h))
+held_left (Reading (suc n)) h e = none-some held.Shared (sym e)
+held_left Upgrading h e = none-some held.Upgradable (sym e)
+held_left Awaiting h e = absurd h
+held_left Writing h e = none-some held.Exclusive (sym e)
+
+-- A thread was handed a lock: it held nothing, the one that handed it over has taken it, held the lock, and holds it no longer.
+pub record IsHandedOver (t i v : ℕ) (s u : State) : Type 0 where
+  pub nothing : held_at s i v ≡ None
+  pub taken : HasTaken u.wakes t v
+  pub before : held_at s i t ≢ None
+  pub after : held_at u i t ≡ None
+
+-- the standing of a thread is that of its role
+role_of : (s : State) (i v : ℕ) (x : Standing) → slice_get (owners (rw_lock_at s i)).threads v ≡ Some x → x ≡ standing (rw_role_at s i v)
+role_of s i v x e = at (slice_get (rw_lock_at s i).roles v) refl
+  where
+    at : (o : Option Role) → slice_get (rw_lock_at s i).roles v ≡ o → x ≡ standing (rw_role_at s i v)
+    at None f = absurd (none-some x (sym (slice_get-map standing (rw_lock_at s i).roles v ∙ ap (option_map standing) f) ∙ e))
+    at (Some r) f =
+        same_Some x (standing r) (sym e ∙ slice_get-map standing (rw_lock_at s i).roles v ∙ ap (option_map standing) f)
+        ∙ ap standing (among_all (rw_role_at s i) (length s.calls) v r f).1
+
+abbrev chosen_stand : Role → Bool
+chosen_stand r = is_chosen (standing r).stand
+
+-- what is known of a call whose thread was chosen
+record IsChosenCall (s : State) (i v : ℕ) : Type 0 where
+  call : Call
+  untold : IsUntold s v call
+  lock : call.lock ≡ i
+  nothing : mode_standing (standing (rw_role_at s i v)) ≡ mode_of (Reading call.others)
+  again : (w : State) → call_at w v ≡ Some call → chosen_stand (rw_role_at w i v) ≡ true
+
+module _ (s : State) (i v : ℕ) where
+  by_core : (us : List ℕ) (h : Hold) (c : Call) → call_at s v ≡ Some c → c.lock ≡ i → (k : Core) → c.core ≡ k → rw_role_at s i v ≡ rw_core_role c.others c.spot us k
+      → chosen_stand (rw_core_role c.others c.spot us k) ≡ true → IsChosenCall s i v
+  by_core us h c there lock (Core.Mutex k) core role is = absurd (false≢true is)
+  by_core us h c there lock (Core.Rw k) core role is =
+      let x = chosen_sleeps c.others c.spot us k.phase is in
+      record {
+        call = c;
+        untold = record { there = there; by = x.by; off = x.off; key = x.key; token = x.token; asleep = ap stance core ∙ x.asleep };
+        lock = lock;
+        nothing = ap (λ r. mode_standing (standing r)) role ∙ ap mode_of x.owner;
+        again = λ w same.
+            ap (λ o. chosen_stand (rw_role_in i (taken_by w.wakes v) (hold_at w v i) o)) same
+            ∙ ap chosen_stand (cond-true (c.lock == i) (rw_core_role c.others c.spot (taken_by w.wakes v) c.core) (record { owns = owned_of (hold_at w v i); does = Idle }) (eq-eqb c.lock i lock))
+            ∙ ap (λ q. chosen_stand (rw_core_role c.others c.spot (taken_by w.wakes v) q)) core ∙ x.chosen (taken_by w.wakes v);
+      }
+
+  by_call : (us : List ℕ) (h : Hold) (o : Option Call) → call_at s v ≡ o → rw_role_at s i v ≡ rw_role_in i us h o → chosen_stand (rw_role_in i us h o) ≡ true → IsChosenCall s i v
+  by_call us (Hold.Shares n) None there role is = absurd (false≢true is)
+  by_call us Hold.Excludes None there role is = absurd (false≢true is)
+  by_call us h (Some c) there role is = elim (cases_Bool (c.lock == i)) [
+    | inl here ↦
+        let reads : rw_role_in i us h (Some c) ≡ rw_core_role c.others c.spot us c.core = cond-true (c.lock == i) _ _ here in
+        by_core us h c there (eqb-true c.lock i here) c.core refl (role ∙ reads) (sym (ap chosen_stand reads) ∙ is)
+    | inr other ↦ absurd (false≢true (sym (ap chosen_stand (cond-false (c.lock == i) (rw_core_role c.others c.spot us c.core) (record { owns = owned_of h; does = Idle }) other)) ∙ is))
+  ]
+
+  chosen_call : chosen_stand (rw_role_at s i v) ≡ true → IsChosenCall s i v
+  chosen_call is = by_call (taken_by s.wakes v) (hold_at s v i) (call_at s v) refl refl is
+
+module _ (laws : StepsAreCases) (s u : State) (t : ℕ) (fair : Bool) (answer : Option CoreAnswer) (h : FitsTogether s) (rws : All (λ k. k ≡ kind.Rw) s.kinds) (next : All (λ k. k ≡ kind.Rw) u.kinds)
+    (alone : (v : ℕ) (c : Call) → call_at s v ≡ Some c → c.others ≡ 0) (x : IsStepped t fair answer s u) where
+  abbrev i : ℕ
+  i = x.call.lock
+
+  at_lock : IsStepAt t i s u
+  at_lock = laws.step s u t fair answer h x
+
+  the_case : (case : Case) × IsCase false t case (owners (rw_lock_at s i)) (owners (rw_lock_at u i))
+  the_case = rw_case t (rw_lock_at s i) (rw_lock_at u i) (lock_at s i) (lock_at u i) (is_rw s rws i) (is_rw u next i) at_lock.case
+
+  -- nothing changes at other locks
+  pub elsewhere : (j v : ℕ) → j ≢ i → held_at u j v ≡ held_at s j v
+  elsewhere j v ne = ap (λ l. held_as (mode_in l v)) (at_lock.elsewhere j ne)
+
+  handed : (v : ℕ) → v ≢ t → IsHanded t v (owners (rw_lock_at s i)).threads (owners (rw_lock_at u i)).threads → IsHandedOver t i v s u
+  handed v ne y =
+      let role = role_of s i v y.before y.was in
+      let z = chosen_call s i v (ap is_chosen (sym (ap (λ st. st.stand) role) ∙ y.chosen)) in
+      record {
+        nothing = held_is s rws i v ∙ ap held_as (ap (option_and_then mode_standing) y.was ∙ ap mode_standing role ∙ z.nothing ∙ ap (λ n. mode_of (Reading n)) (alone v z.call z.untold.there));
+        taken = elim (untold_or_taken s u t fair answer h x v z.call z.untold ne) [
+          | inr taken ↦ taken
+          | inl same ↦ absurd (false≢true (ap is_chosen (ap (λ st. st.stand) (role_of u i v _ y.after)) ∙ z.again u same))
+        ];
+        before = λ none. held_left y.from y.leaves (sym (ap held_as (ap (option_and_then mode_standing) y.left)) ∙ sym (held_is s rws i t) ∙ none);
+        after = held_is u next i t ∙ ap held_as (ap (option_and_then mode_standing) y.gone);
+      }
+
+  -- another thread holds the lock as before, or it was handed it
+  pub others : (v : ℕ) → v ≢ t → (held_at u i v ≡ held_at s i v) ⊎ IsHandedOver t i v s u
+  others v ne = elim (others_stay t the_case.0 (owners (rw_lock_at s i)) (owners (rw_lock_at u i)) the_case.1 v ne) [
+    | inl same ↦ inl (held_is u next i v ∙ ap held_as same ∙ sym (held_is s rws i v))
+    | inr y ↦ inr (handed v ne y)
+  ]
+
+  -- it doesn't turn a shared hold into the exclusive one
+  pub own : held_at s i t ≡ Some held.Shared → held_at u i t ≢ Some held.Exclusive
+  own was is = own_stays t the_case.0 (owners (rw_lock_at s i)) (owners (rw_lock_at u i)) the_case.1 (sym (held_is s rws i t) ∙ was) (sym (held_is u next i t) ∙ is)

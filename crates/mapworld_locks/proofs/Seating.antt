@@ -1,0 +1,268 @@
+-- The guards of a desk as they come, go and change, by their parties.
+use Rattle.std.proofs.Common.{◌≡◌, ◌≢◌, ℕ, zero, suc, inl, inr, Bool, true, false, cond, not, ◌&&◌, ◌||◌, ◌==◌, List, [], ◌∷◌, ◌++◌, map, filter, Option, Some, None, slice_get, find, refl, sym, ap, ◌∙◌, subst}
+use Rattle.std.specs.List.{All, list_any}
+use Rattle.std.proofs.lemmas.Bool.{cases_Bool, cases_eq, false≢true, eq-eqb, eqb-true, ne_eqb, cond-true, cond-false}
+use Rattle.std.proofs.lemmas.List.Elements.{All-cons, All-head, All-tail, All-nil, All-append, All-filter, All-map, filter-append}
+use Rattle.std.proofs.lemmas.List.Folds.{list_any_none}
+use Rattle.std.proofs.lemmas.Option.{none-some, same_Some}
+use Rattle.lock_api_desk.specs.declared.mode.Mode.{Mode}
+use Rattle.lock_api_desk.specs.Guards.{Guard, amend, excluded, excludes, guard_of, has_number, held_in, is_held, is_in_use, without}
+use Rattle.mapworld_locks.proofs.Lists.{all_at}
+use Rattle.mapworld_locks.specs.Seats.{AreHalfSeated, AreSeated, GoTogether, IsNameOf, IsSeat, guards_of, held_guard, is_of}
+
+-- LISTS
+
+module _ {X : Type 0} where
+  pub all_from : (P : X → Type 0) (xs : List X) → ((k : ℕ) (x : X) → slice_get xs k ≡ Some x → P x) → All P xs
+  all_from P [] h = All-nil P
+  all_from P (x ∷ xs) h = All-cons P x xs (h 0 x refl) (all_from P xs (λ k y e. h (suc k) y e))
+
+  -- an element that passes is among those that pass
+  pub among_passing : (test : X → Bool) (xs : List X) (k : ℕ) (x : X) → slice_get xs k ≡ Some x → test x ≡ true → (j : ℕ) × (slice_get (filter test xs) j ≡ Some x)
+  among_passing test [] k x e p = absurd (none-some x e)
+  among_passing test (y ∷ ys) zero x e p =
+      let same : y ≡ x = same_Some y x e in
+      (0, ap (λ zs. slice_get zs 0) (cond-true (test y) (y ∷ filter test ys) (filter test ys) (ap test same ∙ p)) ∙ ap Some same)
+  among_passing test (y ∷ ys) (suc k) x e p =
+      let (j, there) = among_passing test ys k x e p in
+      elim (cases_Bool (test y)) [
+        | inl passes ↦ (suc j, ap (λ zs. slice_get zs (suc j)) (cond-true (test y) (y ∷ filter test ys) (filter test ys) passes) ∙ there)
+        | inr fails ↦ (j, ap (λ zs. slice_get zs j) (cond-false (test y) (y ∷ filter test ys) (filter test ys) fails) ∙ there)
+      ]
+
+  -- tests that agree on each element find the same
+  pub find_agrees : (p q : X → Bool) (xs : List X) → All (λ x. p x ≡ q x) xs → find p xs ≡ find q xs
+  find_agrees p q [] h = refl
+  find_agrees p q (x ∷ xs) h =
+      ap (λ b. cond b (Some x) (find p xs)) (All-head (λ x. p x ≡ q x) x xs h) ∙ ap (λ o. cond (q x) (Some x) o) (find_agrees p q xs (All-tail (λ x. p x ≡ q x) x xs h))
+
+  pub any_agrees : (p q : X → Bool) (xs : List X) → All (λ x. p x ≡ q x) xs → list_any p xs ≡ list_any q xs
+  any_agrees p q [] h = refl
+  any_agrees p q (x ∷ xs) h =
+      ap (λ b. b || list_any p xs) (All-head (λ x. p x ≡ q x) x xs h) ∙ ap (λ o. q x || o) (any_agrees p q xs (All-tail (λ x. p x ≡ q x) x xs h))
+
+  pub filter_agrees : (p q : X → Bool) (xs : List X) → All (λ x. p x ≡ q x) xs → filter p xs ≡ filter q xs
+  filter_agrees p q [] h = refl
+  filter_agrees p q (x ∷ xs) h =
+      ap (λ b. cond b (x ∷ filter p xs) (filter p xs)) (All-head (λ x. p x ≡ q x) x xs h) ∙ ap (λ ys. cond (q x) (x ∷ ys) ys) (filter_agrees p q xs (All-tail (λ x. p x ≡ q x) x xs h))
+
+  -- the first that passes
+  pub find_first : (p : X → Bool) (xs : List X) → find p xs ≡ slice_get (filter p xs) 0
+  find_first p [] = refl
+  find_first p (x ∷ xs) = elim (cases_Bool (p x)) [
+    | inl passes ↦ cond-true (p x) (Some x) (find p xs) passes ∙ sym (ap (λ ys. slice_get ys 0) (cond-true (p x) (x ∷ filter p xs) (filter p xs) passes))
+    | inr fails ↦ cond-false (p x) (Some x) (find p xs) fails ∙ find_first p xs ∙ sym (ap (λ ys. slice_get ys 0) (cond-false (p x) (x ∷ filter p xs) (filter p xs) fails))
+  ]
+
+  -- the first that passes two tests, where all that pass the one are known
+  pub find_both : (p q : X → Bool) (xs : List X) (x : X) → filter p xs ≡ x ∷ [] → q x ≡ true → find (λ y. p y && q y) xs ≡ Some x
+  find_both p q [] x e passes = absurd (none-some x (ap (λ ys. slice_get ys 0) e))
+  find_both p q (y ∷ ys) x e passes = by (p y) refl (λ f. find_both p q ys x f passes)
+    where
+      by : (b : Bool) → p y ≡ b → (filter p ys ≡ x ∷ [] → find (λ z. p z && q z) ys ≡ Some x) → cond (p y && q y) (Some y) (find (λ z. p z && q z) ys) ≡ Some x
+      by true f rest =
+          let same : y ≡ x = same_Some y x (ap (λ zs. slice_get zs 0) (sym (cond-true (p y) (y ∷ filter p ys) (filter p ys) f) ∙ e)) in
+          ap (λ b. cond (b && q y) (Some y) (find (λ z. p z && q z) ys)) f ∙ ap (λ b. cond b (Some y) (find (λ z. p z && q z) ys)) (ap q same ∙ passes) ∙ ap Some same
+      by false f rest = ap (λ b. cond (b && q y) (Some y) (find (λ z. p z && q z) ys)) f ∙ rest (sym (cond-false (p y) (y ∷ filter p ys) (filter p ys) f) ∙ e)
+
+  pub find_neither : (p q : X → Bool) (xs : List X) → filter p xs ≡ [] → find (λ y. p y && q y) xs ≡ None
+  find_neither p q [] e = refl
+  find_neither p q (y ∷ ys) e = by (p y) refl (λ f. find_neither p q ys f)
+    where
+      by : (b : Bool) → p y ≡ b → (filter p ys ≡ [] → find (λ z. p z && q z) ys ≡ None) → cond (p y && q y) (Some y) (find (λ z. p z && q z) ys) ≡ None
+      by true f rest = absurd (none-some y (sym (ap (λ zs. slice_get zs 0) e) ∙ ap (λ zs. slice_get zs 0) (cond-true (p y) (y ∷ filter p ys) (filter p ys) f)))
+      by false f rest = ap (λ b. cond (b && q y) (Some y) (find (λ z. p z && q z) ys)) f ∙ rest (sym (cond-false (p y) (y ∷ filter p ys) (filter p ys) f) ∙ e)
+
+  pub any_passing : (p : X → Bool) (xs : List X) → filter p xs ≡ [] → list_any p xs ≡ false
+  any_passing p [] e = refl
+  any_passing p (x ∷ xs) e = elim (cases_Bool (p x)) [
+    | inl passes ↦ absurd (none-some x (sym (ap (λ ys. slice_get ys 0) e) ∙ ap (λ ys. slice_get ys 0) (cond-true (p x) (x ∷ filter p xs) (filter p xs) passes)))
+    | inr fails ↦ ap (λ b. b || list_any p xs) fails ∙ any_passing p xs (sym (cond-false (p x) (x ∷ filter p xs) (filter p xs) fails) ∙ e)
+  ]
+
+  pub append_nothing : (xs : List X) → xs ++ [] ≡ xs
+  append_nothing [] = refl
+  append_nothing (x ∷ xs) = ap (λ ys. x ∷ ys) (append_nothing xs)
+
+  -- of those that fail one test, those that pass another that excludes it
+  pub filter_apart : (p q : X → Bool) (xs : List X) → ((x : X) → q x ≡ true → p x ≡ false) → filter q (filter (λ x. not (p x)) xs) ≡ filter q xs
+  filter_apart p q [] h = refl
+  filter_apart p q (x ∷ xs) h = by (p x) (q x) refl refl (filter_apart p q xs h)
+    where
+      by : (a b : Bool) → p x ≡ a → q x ≡ b → filter q (filter (λ y. not (p y)) xs) ≡ filter q xs → filter q (cond (not (p x)) (x ∷ filter (λ y. not (p y)) xs) (filter (λ y. not (p y)) xs)) ≡ cond (q x) (x ∷ filter q xs) (filter q xs)
+      by true true e f rest = absurd (false≢true (sym (h x f) ∙ e))
+      by true false e f rest = ap (λ c. filter q (cond (not c) (x ∷ filter (λ y. not (p y)) xs) (filter (λ y. not (p y)) xs))) e ∙ rest ∙ sym (ap (λ c. cond c (x ∷ filter q xs) (filter q xs)) f)
+      by false b e f rest = ap (λ c. filter q (cond (not c) (x ∷ filter (λ y. not (p y)) xs) (filter (λ y. not (p y)) xs))) e ∙ ap (λ ys. cond (q x) (x ∷ ys) ys) rest
+
+  pub filter_none : (p : X → Bool) (xs : List X) → filter p (filter (λ x. not (p x)) xs) ≡ []
+  filter_none p [] = refl
+  filter_none p (x ∷ xs) = by (p x) refl (filter_none p xs)
+    where
+      by : (a : Bool) → p x ≡ a → filter p (filter (λ y. not (p y)) xs) ≡ [] → filter p (cond (not (p x)) (x ∷ filter (λ y. not (p y)) xs) (filter (λ y. not (p y)) xs)) ≡ []
+      by true e rest = ap (λ c. filter p (cond (not c) (x ∷ filter (λ y. not (p y)) xs) (filter (λ y. not (p y)) xs))) e ∙ rest
+      by false e rest =
+          ap (λ c. filter p (cond (not c) (x ∷ filter (λ y. not (p y)) xs) (filter (λ y. not (p y)) xs))) e
+          ∙ ap (λ c. cond c (x ∷ filter p (filter (λ y. not (p y)) xs)) (filter p (filter (λ y. not (p y)) xs))) e ∙ rest
+
+  pub map_agrees : (f g : X → X) (xs : List X) → All (λ x. f x ≡ g x) xs → map f xs ≡ map g xs
+  map_agrees f g [] h = refl
+  map_agrees f g (x ∷ xs) h = ap (λ y. y ∷ map f xs) (All-head (λ x. f x ≡ g x) x xs h) ∙ ap (λ ys. g x ∷ ys) (map_agrees f g xs (All-tail (λ x. f x ≡ g x) x xs h))
+
+  -- what is changed passes as before
+  pub filter_changed : (q : X → Bool) (f : X → X) (xs : List X) → ((x : X) → q (f x) ≡ q x) → filter q (map f xs) ≡ map f (filter q xs)
+  filter_changed q f [] h = refl
+  filter_changed q f (x ∷ xs) h = by (q x) refl (filter_changed q f xs h)
+    where
+      by : (b : Bool) → q x ≡ b → filter q (map f xs) ≡ map f (filter q xs) → cond (q (f x)) (f x ∷ filter q (map f xs)) (filter q (map f xs)) ≡ map f (cond (q x) (x ∷ filter q xs) (filter q xs))
+      by true e rest =
+          ap (λ b. cond b (f x ∷ filter q (map f xs)) (filter q (map f xs))) (h x ∙ e) ∙ ap (λ ys. f x ∷ ys) rest
+          ∙ sym (ap (λ b. map f (cond b (x ∷ filter q xs) (filter q xs))) e)
+      by false e rest =
+          ap (λ b. cond b (f x ∷ filter q (map f xs)) (filter q (map f xs))) (h x ∙ e) ∙ rest
+          ∙ sym (ap (λ b. map f (cond b (x ∷ filter q xs) (filter q xs))) e)
+
+  -- those that pass stay, where the others change
+  pub map_apart : (q : X → Bool) (f : X → X) (xs : List X) → ((x : X) → q x ≡ true → f x ≡ x) → map f (filter q xs) ≡ filter q xs
+  map_apart q f [] h = refl
+  map_apart q f (x ∷ xs) h = by (q x) refl (map_apart q f xs h)
+    where
+      by : (b : Bool) → q x ≡ b → map f (filter q xs) ≡ filter q xs → map f (cond (q x) (x ∷ filter q xs) (filter q xs)) ≡ cond (q x) (x ∷ filter q xs) (filter q xs)
+      by true e rest =
+          ap (λ b. map f (cond b (x ∷ filter q xs) (filter q xs))) e ∙ ap (λ y. y ∷ map f (filter q xs)) (h x e) ∙ ap (λ ys. x ∷ ys) rest
+          ∙ sym (ap (λ b. cond b (x ∷ filter q xs) (filter q xs)) e)
+      by false e rest = ap (λ b. map f (cond b (x ∷ filter q xs) (filter q xs))) e ∙ rest ∙ sym (ap (λ b. cond b (x ∷ filter q xs) (filter q xs)) e)
+
+-- SEATS
+
+pub half : (modes : ℕ → Option Mode) (guards : List Guard) → AreSeated modes guards → AreHalfSeated modes guards
+half modes guards h t = inr (h t)
+
+module _ (modes : ℕ → Option Mode) (guards : List Guard) (seats : AreHalfSeated modes guards) where
+  -- each guard is held, and is what its party should have
+  pub each_guard : (k : ℕ) (g : Guard) → slice_get guards k ≡ Some g → (modes g.party ≡ Some g.mode) × (g.is_aside ≡ false)
+  each_guard k g at =
+      let (j, there) = among_passing (is_of g.party) guards k g at (eq-eqb g.party g.party refl) in
+      elim (seats g.party) [
+        | inl none ↦ absurd (none-some g (sym (ap (λ gs. slice_get gs j) none) ∙ there))
+        | inr seat ↦ by (modes g.party) refl j there seat
+      ]
+    where
+      one : (n : ℕ) (m : Mode) (j : ℕ) → slice_get (held_guard n m g.party ∷ []) j ≡ Some g → held_guard n m g.party ≡ g
+      one n m zero e = same_Some (held_guard n m g.party) g e
+      one n m (suc j) e = absurd (none-some g e)
+
+      by : (o : Option Mode) → modes g.party ≡ o → (j : ℕ) → slice_get (guards_of g.party guards) j ≡ Some g → IsSeat g.party o (guards_of g.party guards) → (modes g.party ≡ Some g.mode) × (g.is_aside ≡ false)
+      by None e j there none = absurd (none-some g (sym (ap (λ gs. slice_get gs j) none) ∙ there))
+      by (Some m) e j there (n, is) =
+          let same = one n m j (sym (ap (λ gs. slice_get gs j) is) ∙ there) in
+          (e ∙ ap (λ x. Some x.mode) same, sym (ap (λ x. x.is_aside) same))
+
+  -- a party without a guard isn't kept out
+  pub not_excluded : GoTogether modes → (t : ℕ) (m : Mode) → modes t ≡ Some m → guards_of t guards ≡ [] → excluded m guards ≡ false
+  not_excluded together t m holds none = list_any_none (λ g. is_held g && excludes g.mode m) guards (all_from _ guards each)
+    where
+      each : (k : ℕ) (g : Guard) → slice_get guards k ≡ Some g → (is_held g && excludes g.mode m) ≡ false
+      each k g at =
+          let (is, up) = each_guard k g at in
+          let other : g.party ≢ t = λ e.
+          (let (j, there) = among_passing (is_of t) guards k g at (eq-eqb g.party t e) in none-some g (sym (ap (λ gs. slice_get gs j) none) ∙ there)) in
+          ap (λ b. not b && excludes g.mode m) up ∙ together g.party t g.mode m other is holds
+
+-- A GUARD COMES
+
+module _ (number : ℕ) (mode : Mode) (t : ℕ) (guards : List Guard) where
+  abbrev pub with_guard : List Guard
+  with_guard = guards ++ held_guard number mode t ∷ []
+
+  own_guard : guards_of t with_guard ≡ guards_of t guards ++ held_guard number mode t ∷ []
+  own_guard = filter-append (is_of t) guards (held_guard number mode t ∷ [])
+      ∙ ap (λ gs. guards_of t guards ++ gs) (cond-true (t == t) (held_guard number mode t ∷ []) [] (eq-eqb t t refl))
+
+  pub first_guard : guards_of t guards ≡ [] → guards_of t with_guard ≡ held_guard number mode t ∷ []
+  first_guard none = own_guard ∙ ap (λ gs. gs ++ held_guard number mode t ∷ []) none
+
+  pub other_guards : (v : ℕ) → v ≢ t → guards_of v with_guard ≡ guards_of v guards
+  other_guards v ne = filter-append (is_of v) guards (held_guard number mode t ∷ [])
+      ∙ ap (λ gs. guards_of v guards ++ gs) (cond-false (t == v) (held_guard number mode t ∷ []) [] (ne_eqb t v (λ e. ne (sym e)))) ∙ append_nothing (guards_of v guards)
+
+  pub half_with : (modes : ℕ → Option Mode) → AreHalfSeated modes guards → modes t ≡ Some mode → guards_of t guards ≡ [] → AreHalfSeated modes with_guard
+  half_with modes seats holds none v = elim (cases_eq v t) [
+    | inl e ↦ inr (subst (λ (n : ℕ). IsSeat n (modes n) (guards_of n with_guard)) (sym e) (subst (λ (o : Option Mode). IsSeat t o (guards_of t with_guard)) (sym holds) (number, first_guard none)))
+    | inr ne ↦ elim (seats v) [
+      | inl nothing ↦ inl (other_guards v ne ∙ nothing)
+      | inr seat ↦ inr (subst (IsSeat v (modes v)) (sym (other_guards v ne)) seat)
+    ]
+  ]
+
+  -- the names of others stay
+  pub named_with : (v n : ℕ) → IsNameOf n v guards → ((number ≡ n → t ≡ v) × (t ≡ v → number ≡ n)) → IsNameOf n v with_guard
+  named_with v n names same = All-append (λ g. has_number n g ≡ is_of v g) guards (held_guard number mode t ∷ []) names
+      (All-cons (λ g. has_number n g ≡ is_of v g) (held_guard number mode t) [] agrees (All-nil (λ g. has_number n g ≡ is_of v g)))
+    where
+      agrees : (number == n) ≡ (t == v)
+      agrees = elim (cases_eq t v) [
+        | inl e ↦ eq-eqb number n (same.1 e) ∙ sym (eq-eqb t v e)
+        | inr ne ↦ ne_eqb number n (λ e. ne (same.0 e)) ∙ sym (ne_eqb t v ne)
+      ]
+
+-- A GUARD GOES
+
+module _ (number t : ℕ) (guards : List Guard) (names : IsNameOf number t guards) where
+  pub without_is : without number guards ≡ filter (λ g. not (is_of t g)) guards
+  without_is = filter_agrees (λ g. not (has_number number g)) (λ g. not (is_of t g)) guards (all_from _ guards (λ k g at. ap not (all_at (λ g. has_number number g ≡ is_of t g) guards k g names at)))
+
+  pub own_gone : guards_of t (without number guards) ≡ []
+  own_gone = ap (guards_of t) without_is ∙ filter_none (is_of t) guards
+
+  pub others_left : (v : ℕ) → v ≢ t → guards_of v (without number guards) ≡ guards_of v guards
+  others_left v ne = ap (guards_of v) without_is ∙ filter_apart (is_of t) (is_of v) guards (λ g own. ne_eqb g.party t (λ e. ne (sym (eqb-true g.party v own) ∙ e)))
+
+  pub names_left : (v n : ℕ) → IsNameOf n v guards → IsNameOf n v (without number guards)
+  names_left v n h = All-filter (λ g. not (has_number number g)) (λ g. has_number n g ≡ is_of v g) guards h
+
+  -- LOOKING FOR A GUARD
+
+  pub found : (m : Mode) (n : ℕ) → guards_of t guards ≡ held_guard n m t ∷ [] → guard_of number guards ≡ Some (held_guard n m t)
+  found m n is = find_agrees (has_number number) (is_of t) guards names ∙ find_first (is_of t) guards ∙ ap (λ gs. slice_get gs 0) is
+
+  pub unused : guards_of t guards ≡ [] → is_in_use number guards ≡ false
+  unused none = any_agrees (has_number number) (is_of t) guards names ∙ any_passing (is_of t) guards none
+
+  -- A GUARD CHANGES ITS MODE
+
+  abbrev turns : Mode → Guard → Guard
+  turns mode g = cond (is_of t g) (held_in mode g) g
+
+  amend_is : (mode : Mode) → amend (held_in mode) number guards ≡ map (turns mode) guards
+  amend_is mode = map_agrees (λ g. cond (has_number number g) (held_in mode g) g) (turns mode) guards
+      (all_from (λ g. cond (has_number number g) (held_in mode g) g ≡ turns mode g) guards
+      (λ k g at. ap (λ b. cond b (held_in mode g) g) (all_at (λ g. has_number number g ≡ is_of t g) guards k g names at)))
+
+  party_kept : (mode : Mode) (v : ℕ) (g : Guard) → is_of v (turns mode g) ≡ is_of v g
+  party_kept mode v g = by (is_of t g)
+    where
+      by : (b : Bool) → is_of v (cond b (held_in mode g) g) ≡ is_of v g
+      by true = refl
+      by false = refl
+
+  number_kept : (mode : Mode) (n : ℕ) (g : Guard) → has_number n (turns mode g) ≡ has_number n g
+  number_kept mode n g = by (is_of t g)
+    where
+      by : (b : Bool) → has_number n (cond b (held_in mode g) g) ≡ has_number n g
+      by true = refl
+      by false = refl
+
+  pub own_turned : (a mode : Mode) (n : ℕ) → guards_of t guards ≡ held_guard n a t ∷ [] → guards_of t (amend (held_in mode) number guards) ≡ held_guard n mode t ∷ []
+  own_turned a mode n is =
+      ap (guards_of t) (amend_is mode) ∙ filter_changed (is_of t) (turns mode) guards (party_kept mode t) ∙ ap (map (turns mode)) is
+      ∙ ap (λ b. cond b (held_guard n mode t) (held_guard n a t) ∷ []) (eq-eqb t t refl)
+
+  pub others_kept : (mode : Mode) (v : ℕ) → v ≢ t → guards_of v (amend (held_in mode) number guards) ≡ guards_of v guards
+  others_kept mode v ne =
+      ap (guards_of v) (amend_is mode) ∙ filter_changed (is_of v) (turns mode) guards (party_kept mode v)
+      ∙ map_apart (is_of v) (turns mode) guards (λ g own. cond-false (is_of t g) (held_in mode g) g (ne_eqb g.party t (λ e. ne (sym (eqb-true g.party v own) ∙ e))))
+
+  pub names_kept : (mode : Mode) (v n : ℕ) → IsNameOf n v guards → IsNameOf n v (amend (held_in mode) number guards)
+  names_kept mode v n h = subst (IsNameOf n v) (sym (amend_is mode)) (All-map (λ g. has_number n g ≡ is_of v g) (turns mode) guards
+      (all_from (λ g. has_number n (turns mode g) ≡ is_of v (turns mode g)) guards
+      (λ k g at. number_kept mode n g ∙ all_at (λ g. has_number n g ≡ is_of v g) guards k g h at ∙ sym (party_kept mode v g))))
