@@ -28,7 +28,12 @@ impl<'v, K: Eq + Hash, V, A: Allocator> Model for ViewIter<'v, K, V, A> {
 }
 
 impl<'v, K: Eq + Hash, V, A: Allocator> ViewIter<'v, K, V, A> {
-    pub(crate) fn new(shards: &'v [Shard<K, V, A>]) -> ViewIter<'v, K, V, A>
+    /// The pairs of these shards, for whoever keeps plain shards of their own.
+    ///
+    /// ```text
+    /// let sum: u64 = ViewIter::new(&shards).map(|(_, value)| *value).sum();
+    /// ```
+    pub fn new(shards: &'v [Shard<K, V, A>]) -> ViewIter<'v, K, V, A>
         ensures { result ≡ all_pairs shards.now }
     {
         ViewIter { shards, slot: 0 }

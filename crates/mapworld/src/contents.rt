@@ -7,8 +7,8 @@ ghost use Rattle.mapworld_state.specs.Slots.{HasHashes, key_hash};
 ghost use Rattle.dashmap_view.specs.Views.{all_pairs};
 ghost use Rattle.mapworld.specs.Views.{shown};
 
-use crate::pairs::pairs_of;
 use dashmap_table::Shard;
+use dashmap_view::ViewIter;
 use lock_api_raw::NoMemory;
 use mapworld_moves::pairs::{find_pair, pair_at};
 use std::alloc::Allocator;
@@ -22,7 +22,7 @@ pub(crate) fn pairs_in<'a, K: Eq + Hash, V, A: Allocator + Drop>(
     ensures { IfOk result (λ pairs. map shown pairs.items ≡ all_pairs shards.now) }
 {
     let mut list = Vec::new(alloc);
-    for pair in pairs_of(shards) {
+    for pair in ViewIter::new(shards) {
         list.push(pair)?;
     }
     Ok(list)

@@ -7,9 +7,9 @@ mod counts;
 pub mod laws;
 mod limits;
 mod making;
-mod pairs;
 mod world;
 
+pub use dashmap_view::ViewIter as Pairs;
 pub use lock_api_raw::NoMemory;
 pub use mapworld_calls::{
     Answer, Ask, Begin, Block, Deed, Held, Keyed, Reply, SpreadHasher, SpreadState, guard_numbers,
@@ -17,5 +17,4 @@ pub use mapworld_calls::{
 };
 pub use mapworld_faults::{RunFault, WorldNewFault};
 pub use mapworld_state::{Status, Step};
-pub use pairs::Pairs;
 pub use world::MapWorld;

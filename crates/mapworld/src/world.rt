@@ -14,8 +14,8 @@ ghost use Rattle.mapworld_state.specs.Sound.{Sound};
 ghost use Rattle.mapworld_state.specs.Held.{HoldsMatch, HoldByPhase};
 ghost use Rattle.mapworld_calls.specs.Placed as today;
 
-use crate::pairs::Pairs;
-use crate::{contents, counts, limits, making, pairs};
+use crate::{contents, counts, limits, making};
+use dashmap_view::ViewIter;
 use lock_api_raw::NoMemory;
 use mapworld_calls::{Ask, Block, Deed, Reply};
 use mapworld_faults::{RunFault, WorldNewFault};
@@ -89,10 +89,10 @@ impl<K: Eq + Hash, V, S: BuildHasher, D: Deed<K, V>, A: Allocator> MapWorld<K, V
     }
 
     /// The pairs of the map as it is now, lent one after another, in any order. It takes no memory and cannot fail.
-    pub fn pairs(&self) -> Pairs<'_, K, V, A>
+    pub fn pairs(&self) -> ViewIter<'_, K, V, A>
         ensures { result ≡ pairs_of self.now }
     {
-        pairs::pairs_of(&self.core.tables)
+        ViewIter::new(&self.core.tables)
     }
 
     /// How many threads the world has: one for each program. Threads are numbered from 0.
