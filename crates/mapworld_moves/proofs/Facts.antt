@@ -1,6 +1,5 @@
 -- What the code knows of a thread's place between two steps.
-use Rattle.std.proofs.Common.{◌≡◌, ℕ, zero, suc, ◌+◌, ◌-◌, ◌<◌, ◌≤◌, Bool, true, false, ◌||◌, if◌then◌else◌, List, [], ◌∷◌, ◌++◌, length, drop, map, get_or, Option, Some, None, is_some, slice_get, slice_set, sum_by, refl, ap, sym, ◌∙◌, subst, arith}
-use Rattle.std.specs.List.{list_any}
+use Rattle.std.proofs.Common.{◌≡◌, ℕ, ◌+◌, ◌-◌, ◌<◌, ◌≤◌, true, if◌then◌else◌, List, [], ◌∷◌, ◌++◌, length, map, get_or, Option, Some, None, is_some, slice_get, slice_set, sum_by, refl, ap, sym, ◌∙◌, subst, arith}
 use Rattle.std.proofs.lemmas.Option.{get_or_from_slice_get, none-some, same_Some, slice_get_within}
 use Rattle.std.proofs.lemmas.List.{map-set}
 use Rattle.dashmap_table.specs.Table.{Table}
@@ -17,15 +16,14 @@ use Rattle.mapworld_state.specs.declared.place.Guard.{Guard}
 use Rattle.mapworld_state.specs.declared.place.Guard.TheVariants as guard
 use Rattle.mapworld_state.specs.declared.place.Phase.{Phase}
 use Rattle.mapworld_state.specs.declared.place.Phase.TheVariants as phase
-use Rattle.mapworld_state.specs.declared.place.Request.{Request}
 use Rattle.mapworld_state.specs.declared.place.Place.{Place as KeptPlace}
 use Rattle.mapworld_state.specs.declared.step.Step.{Step}
 use Rattle.mapworld_state.specs.declared.world_core.Core.{Core}
+use Rattle.mapworld_locks.specs.Views.{Shown}
 use Rattle.mapworld_state.specs.Places.{Place, place_of}
 use Rattle.mapworld_state.specs.State.{State, threads_of}
-use Rattle.mapworld_state.specs.Holds.{Desks, is_excluded}
 use Rattle.mapworld_state.specs.Shards.{ShardPairs, shard_pairs, has_room}
-use Rattle.mapworld_state.specs.Moves.{mode_of, lent_way, vacant_key, stepped}
+use Rattle.mapworld_state.specs.Moves.{lent_way, vacant_key, stepped}
 use Rattle.mapworld_state.specs.Sound.{Sound, Claim, GuardIs, HasPairs, IsInSession, IsOnItsWay, IsBeforeDeed, IsReleasing, is_resting}
 use Rattle.mapworld_state.specs.Core.{state_of, IsBefore}
 use Rattle.mapworld_state.proofs.Views.{view-from}
@@ -123,15 +121,6 @@ module _ {K V D T : Type 0} (x : Setup K V D T) (bs : List (Block K)) (tables : 
   release_counts a r None h i e = absurd (none-some i e)
   release_counts a r (Some s) h i e = session_counts p.next _ p.block h.2 i e
 
--- the request that was read is the one that is admitted
-pub still_admitted : {K V D T : Type 0} {places : List (Place K V D T)} {t : ℕ} {request : Request K V D} (b : IsBefore places t (phase.Admit request)) (r : Place K V D T)
-    → r ≡ get_or places t r → (read : Request K V D) → r.phase ≡ phase.Admit read
-    → is_excluded places b.place.shard (mode_of request) ≡ false → is_excluded places r.shard (mode_of read) ≡ false
-still_admitted {K} {V} {D} {T} {places = places} {request = request} b r at read is h =
-    let same : read ≡ request = cc (is, phase_here b r at) in
-    let place = read_is b r at in
-    rw same (subst (λ (p : Place K V D T). is_excluded places p.shard (mode_of request) ≡ false) (sym place) h)
-
 -- a thread on its way to a pair has the number of a shard
 pub way_fits : {K V S D T : Type 0} {x : Setup K V D T} {w : State K V S D T} (sound : Sound x w) (p : Place K V D T) (key : K) → IsOnItsWay x p key → p.shard < length w.tables
 way_fits {w = w} sound p key h = subst (λ n. n < length w.tables) (sym h.shard) (sound.routes key)
@@ -161,33 +150,6 @@ vacant_is None key e = cc
 vacant_is (Some (guard.Pair k)) key e = cc
 vacant_is (Some (guard.Vacant k)) key e = cc
 
--- what is left of a list, one element further
-any-drop : {X : Type 0} (f : X → Bool) (xs : List X) (i : ℕ) (x : X) → slice_get xs i ≡ Some x → list_any f (drop i xs) ≡ (f x || list_any f (drop (suc i) xs))
-any-drop f [] i x at = absurd (none-some x at)
-any-drop f (y ∷ ys) zero x at = ap (λ z. f z || list_any f ys) (same_Some y x at)
-any-drop f (y ∷ ys) (suc i) x at = any-drop f ys i x at
-
-pub any-next : {X : Type 0} (f : X → Bool) (xs : List X) (i : ℕ) (x : X) → slice_get xs i ≡ Some x → list_any f (drop i xs) ≡ (f x || list_any f (drop (i + 1) xs))
-any-next f xs i x at = let one : suc i ≡ i + 1 = omega arith in any-drop f xs i x at ∙ ap (λ n. f x || list_any f (drop n xs)) one
-
-pub any-end : {X : Type 0} (f : X → Bool) (xs : List X) (i : ℕ) → length xs ≤ i → list_any f (drop i xs) ≡ false
-any-end f [] zero le = refl
-any-end f [] (suc i) le = refl
-any-end f (y ∷ ys) zero le = absurd (omega (arith, le))
-any-end f (y ∷ ys) (suc i) le = any-end f ys i (omega (arith, le))
-
-pub any-map : {X Y : Type 0} (view : X → Y) (f : Y → Bool) (xs : List X) → list_any f (map view xs) ≡ list_any (λ x. f (view x)) xs
-any-map view f [] = refl
-any-map view f (x ∷ xs) = ap (λ b. f (view x) || b) (any-map view f xs)
-
-pub or-true : (a b : Bool) → a ≡ true → (a || b) ≡ true
-or-true true b is = is
-or-true false b is = cc
-
-pub or-false : (a b : Bool) → a ≡ false → (a || b) ≡ b
-or-false true b is = cc
-or-false false b is = refl
-
 -- a shard of which contracts see the pairs is one that the code keeps
 module _ {K V : Type 0} (tables : List (Table K V)) (i : ℕ) (IsSo : ShardPairs K V → Type 0) (has : HasPairs (map shard_pairs tables) i IsSo) where
   pub kept-within : i < length tables
@@ -200,14 +162,14 @@ module _ {K V : Type 0} (tables : List (Table K V)) (i : ℕ) (IsSo : ShardPairs
       (subst (λ (z : Table K V). slice_get tables i ≡ Some z) (sym same) v.1, subst IsSo (sym v.2 ∙ ap shard_pairs (sym same)) has.so)
 
 -- the world behind a step that leaves its thread there, with these shards
-pub stepped-by : {K V S D T A : Type 0} (c : Core K V S D T A) (s : Step) (p : KeptPlace K V D T A) (q : Place K V D T) (steps : List Step) (tables : List (Table K V)) (seen : List (ShardPairs K V)) (holds : Desks) (blocks : List (Block K)) (replies : List (Reply K V T))
+pub stepped-by : {K V S D T A : Type 0} (c : Core K V S D T A) (s : Step) (p : KeptPlace K V D T A) (q : Place K V D T) (steps : List Step) (tables : List (Table K V)) (seen : List (ShardPairs K V)) (locks : Shown) (blocks : List (Block K)) (replies : List (Reply K V T))
     → steps ≡ c.steps.items ++ s ∷ [] → place_of p ≡ q → map shard_pairs tables ≡ seen
-    → ◌≡◌ {A = State K V S D T} (record (state_of c) { steps = steps; places = map place_of (slice_set c.places.items s.thread p); tables = map shard_pairs tables; holds = holds; blocks = blocks; replies = replies })
-    (record (stepped (state_of c) s q) { tables = seen; holds = holds; blocks = blocks; replies = replies })
-stepped-by {K} {V} {S} {D} {T} c s p q steps tables seen holds blocks replies more stands sees =
+    → ◌≡◌ {A = State K V S D T} (record (state_of c) { steps = steps; places = map place_of (slice_set c.places.items s.thread p); tables = map shard_pairs tables; locks = locks; blocks = blocks; replies = replies })
+    (record (stepped (state_of c) s q) { tables = seen; locks = locks; blocks = blocks; replies = replies })
+stepped-by {K} {V} {S} {D} {T} c s p q steps tables seen locks blocks replies more stands sees =
     by steps (map place_of (slice_set c.places.items s.thread p)) (map shard_pairs tables) more (map-set place_of c.places.items s.thread p ∙ ap (slice_set (state_of c).places s.thread) stands) sees
   where
     by : (ss : List Step) (ps : List (Place K V D T)) (ts : List (ShardPairs K V)) → ss ≡ c.steps.items ++ s ∷ [] → ps ≡ slice_set (state_of c).places s.thread q → ts ≡ seen
-        → ◌≡◌ {A = State K V S D T} (record (state_of c) { steps = ss; places = ps; tables = ts; holds = holds; blocks = blocks; replies = replies })
-        (record (stepped (state_of c) s q) { tables = seen; holds = holds; blocks = blocks; replies = replies })
+        → ◌≡◌ {A = State K V S D T} (record (state_of c) { steps = ss; places = ps; tables = ts; locks = locks; blocks = blocks; replies = replies })
+        (record (stepped (state_of c) s q) { tables = seen; locks = locks; blocks = blocks; replies = replies })
     by ss ps ts e1 e2 e3 = rw (e1, e2, e3) refl

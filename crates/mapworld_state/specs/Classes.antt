@@ -1,5 +1,5 @@
 -- What is so of a thread by the class of the phase that it is before.
-use Rattle.std.specs.Prelude.{ℕ, Bool, true, false, if◌then◌else◌, ◌==◌, Option, is_some}
+use Rattle.std.specs.Prelude.{ℕ, Bool, true, false, not, if◌then◌else◌, ◌==◌, Option, is_some}
 use Rattle.mapworld_state.specs.declared.step.Status.{Status}
 use Rattle.mapworld_state.specs.declared.step.Status.TheVariants as status
 use Rattle.mapworld_state.specs.declared.place.Phase.{Phase}
@@ -82,11 +82,20 @@ pairs_left placed = 1
 pairs_left leaving = 0
 pairs_left answering = 0
 
--- where it stands, by whether another thread's hold excludes its admission and how much of its program is left
+-- where it stands, by whether it sleeps at a lock and how much of its program is left
 abbrev pub status_in : Bool → ℕ → Class → Status
-status_in excluded left resting = if left == 0 then status.Finished else status.Running
-status_in excluded left waiting = if excluded then status.Asleep else status.Running
-status_in excluded left inside = status.Running
-status_in excluded left placed = status.Running
-status_in excluded left leaving = status.Running
-status_in excluded left answering = status.Running
+status_in asleep left resting = if left == 0 then status.Finished else status.Running
+status_in asleep left waiting = if asleep then status.Asleep else status.Running
+status_in asleep left inside = status.Running
+status_in asleep left placed = status.Running
+status_in asleep left leaving = status.Running
+status_in asleep left answering = if asleep then status.Asleep else status.Running
+
+-- whether a step of it would be done, by whether it can go on at the lock that it is in a call of and how much of its program is left
+abbrev pub moves_in : Bool → ℕ → Class → Bool
+moves_in goes left resting = not (left == 0)
+moves_in goes left waiting = goes
+moves_in goes left inside = true
+moves_in goes left placed = true
+moves_in goes left leaving = true
+moves_in goes left answering = goes

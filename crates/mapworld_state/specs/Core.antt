@@ -1,12 +1,12 @@
 -- What the code keeps of a world, and how much room it has.
 use Rattle.std.specs.Prelude.{◌≡◌, ℕ, Bool, ◌+◌, ◌<◌, ◌≤◌, ◌^◌, if◌then◌else◌, List, length, map, Option, Some, None, ◌==◌, slice_get, sum_by, vec_capacity}
-use Rattle.std.specs.List.{list_any}
 use Rattle.std.specs.Hash.{HashWrites}
 use Rattle.std.specs.declared.hash.BuildHasher as builder
 use Rattle.std.specs.declared.hash.Hasher as hasher
 use Rattle.mapworld_calls.specs.declared.deed.Deed as deed
 use Rattle.mapworld_calls.specs.Setup.{Setup}
-use Rattle.lock_api_desk.specs.Desk.{DeskState}
+use Rattle.parking_lot_world.specs.Rows.{state}
+use Rattle.mapworld_locks.specs.Views.{Shown}
 use Rattle.mapworld_state.specs.declared.holds.Hold.{Hold}
 use Rattle.mapworld_state.specs.declared.place.Phase.{Phase}
 use Rattle.mapworld_state.specs.Places.{Place, place_of}
@@ -29,7 +29,7 @@ state_of c = record {
   steps = c.steps.items;
   places = map place_of c.places.items;
   tables = map shard_pairs c.tables.items;
-  holds = c.desks.items;
+  locks = c.locks;
   blocks = c.blocks.items;
   replies = c.replies.items;
 }
@@ -54,33 +54,23 @@ may_list p = length p.asks + lists p.phase
 abbrev pub may_add : {K V D T : Type 0} → Place K V D T → ℕ
 may_add p = length p.asks + adds p.phase
 
--- whether one of these holds is of that shard
-abbrev pub is_among : ℕ → List Hold → Bool
-is_among shard holds = list_any (λ hold. hold.shard == shard) holds
-
--- 1 without a hold of that shard
-abbrev pub unheld : {K V D T : Type 0} → ℕ → Place K V D T → ℕ
-unheld shard p = if is_among shard p.holds then 0 else 1
-
--- a desk has room for a guard of every thread, and admits as many readers
-pub record HasDeskRoom {K V D T : Type 0} (places : List (Place K V D T)) (shard : ℕ) (desk : DeskState (Unit {0})) : Type 0 where
-  pub guards : length desk.guards + sum_by (unheld shard) places ≤ length places
-  pub room : length places ≤ desk.room
-  pub limit : length places ≤ desk.limit
+-- the locks are those of the shards, each with a desk, and their threads those of the world
+pub record AreLocksOf (threads shards : ℕ) (locks : Shown) : Type 0 where
+  pub threads_are : length (state locks.rows).calls ≡ threads
+  pub shards_are : length (state locks.rows).kinds ≡ shards
+  pub desks_are : length locks.desks ≡ shards
 
 -- that the lists have room for all that is to come, and that the counts are right and fit
 pub record Room {K V S D T A : Type 0} (c : Core K V S D T A) : Type 0 where
   pub count : c.count ≡ length c.steps.items
   pub count_fits : c.count < 2 ^ 63
-  pub guards : (t i : ℕ) (p : Place K V D T) (h : Hold) → slice_get (state_of c).places t ≡ Some p → slice_get p.holds i ≡ Some h → h.guard < c.guards
-  pub guards_fit : c.guards ≤ c.count
   pub unanswered : c.unanswered ≡ unanswered_of (state_of c)
   pub answers : length c.replies.items + sum_by owed (state_of c).places ≡ sum_by length (state_of c).programs
   pub calls_fit : sum_by length (state_of c).programs ≤ 2 ^ 20
   pub replies : sum_by length (state_of c).programs ≤ vec_capacity c.replies
   pub blocks : length c.blocks.items + sum_by may_list (state_of c).places ≤ vec_capacity c.blocks
-  pub desks : length c.desks.items ≡ length c.tables.items
-  pub desk_room : (i : ℕ) (desk : DeskState (Unit {0})) → slice_get c.desks.items i ≡ Some desk → HasDeskRoom (state_of c).places i desk
+  pub held : (t i : ℕ) (p : Place K V D T) (h : Hold) → slice_get (state_of c).places t ≡ Some p → slice_get p.holds i ≡ Some h → h.shard < length c.tables.items
+  pub locks : AreLocksOf (length (state_of c).places) (length c.tables.items) (state_of c).locks
   pub pairs : c.pairs ≡ length (pairs_of (state_of c))
   pub pairs_fit : c.pairs + sum_by may_add (state_of c).places ≤ 2 ^ 31 + 2 ^ 20
   pub places : length (state_of c).places ≡ length (state_of c).programs

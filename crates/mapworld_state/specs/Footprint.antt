@@ -1,7 +1,9 @@
--- What one step reaches: the place of its thread, and at most one pair or one shard's desk.
+-- What one step reaches: the place of its thread, and at most one pair, one word or one queue.
 use Rattle.std.specs.Prelude.{◌≡◌, ◌≢◌, ℕ, ◌⊎◌, Bool, false, [], ◌∷◌, ◌++◌, slice_get}
+use Rattle.parking_lot_world.specs.Rows.{state, word_at, queue_at, first_key, second_key}
 use Rattle.mapworld_calls.specs.declared.reply.Reply.{Reply}
 use Rattle.mapworld_calls.specs.Pairs.{pair_of}
+use Rattle.mapworld_locks.specs.Views.{Shown}
 use Rattle.mapworld_state.specs.declared.step.Step.{Step}
 use Rattle.mapworld_state.specs.State.{State, pairs_of}
 
@@ -13,15 +15,33 @@ KeepsPairs {K} eq w w' = (q : K) → pair_of eq (pairs_of w') q ≡ pair_of eq (
 abbrev pub OthersKeepPairs : {K V S D T : Type 0} → (K → K → Bool) → State K V S D T → State K V S D T → K → Type 0
 OthersKeepPairs {K} eq w w' key = (q : K) → eq key q ≡ false → pair_of eq (pairs_of w') q ≡ pair_of eq (pairs_of w) q
 
--- all other shards' desks list what they listed
-abbrev pub OthersKeepHolds : {K V S D T : Type 0} → State K V S D T → State K V S D T → ℕ → Type 0
-OthersKeepHolds w w' shard = (s : ℕ) → s ≢ shard → slice_get w'.holds s ≡ slice_get w.holds s
+-- a shard's word, its queues, and the desk beside its word
+abbrev pub word_of : Shown → ℕ → ℕ
+word_of locks shard = word_at (state locks.rows) shard
 
--- of the map and its holds at most one pair is another, or one shard's desk, and never both
+abbrev pub KeepsQueue : Shown → Shown → ℕ → Type 0
+KeepsQueue locks locks' key = queue_at (state locks'.rows) key ≡ queue_at (state locks.rows) key
+
+pub record KeepsLock (locks locks' : Shown) (shard : ℕ) : Type 0 where
+  pub word : word_of locks' shard ≡ word_of locks shard
+  pub first : KeepsQueue locks locks' (first_key shard)
+  pub second : KeepsQueue locks locks' (second_key shard)
+  pub desk : slice_get locks'.desks shard ≡ slice_get locks.desks shard
+
+abbrev pub KeepsLocks : Shown → Shown → Type 0
+KeepsLocks locks locks' = (shard : ℕ) → KeepsLock locks locks' shard
+
+-- of a shard's word and its two queues at most one is another; where the word is, the desk may be
+pub data ChangesLock (locks locks' : Shown) (shard : ℕ) : Type 0 where
+  the_word : KeepsQueue locks locks' (first_key shard) → KeepsQueue locks locks' (second_key shard) → ChangesLock locks locks' shard
+  first_queue : word_of locks' shard ≡ word_of locks shard → KeepsQueue locks locks' (second_key shard) → ChangesLock locks locks' shard
+  second_queue : word_of locks' shard ≡ word_of locks shard → KeepsQueue locks locks' (first_key shard) → ChangesLock locks locks' shard
+
+-- of the map and its locks at most one pair is another, or one word, or one queue
 pub data Touches {K V S D T : Type 0} (eq : K → K → Bool) (w w' : State K V S D T) : Type 0 where
-  neither : KeepsPairs eq w w' → w'.holds ≡ w.holds → Touches eq w w'
-  one_pair : (key : K) → OthersKeepPairs eq w w' key → w'.holds ≡ w.holds → Touches eq w w'
-  one_desk : (shard : ℕ) → KeepsPairs eq w w' → OthersKeepHolds w w' shard → Touches eq w w'
+  neither : KeepsPairs eq w w' → KeepsLocks w.locks w'.locks → Touches eq w w'
+  one_pair : (key : K) → OthersKeepPairs eq w w' key → KeepsLocks w.locks w'.locks → Touches eq w w'
+  one_lock : (shard : ℕ) → KeepsPairs eq w w' → ((i : ℕ) → i ≢ shard → KeepsLock w.locks w'.locks i) → ChangesLock w.locks w'.locks shard → Touches eq w w'
 
 -- a step of its thread: no other thread's place is another, and none but its thread is replied to
 pub record HasFootprint {K V S D T : Type 0} (eq : K → K → Bool) (w : State K V S D T) (s : Step) (w' : State K V S D T) : Type 0 where

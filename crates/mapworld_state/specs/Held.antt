@@ -1,28 +1,58 @@
--- Which threads hold shards, and what the desks list of it.
-use Rattle.std.specs.Prelude.{◌≡◌, ◌≢◌, ℕ, List, length, Option, Some, slice_get}
-use Rattle.lock_api_desk.specs.Guards.{Guard}
-use Rattle.lock_api_desk.specs.Desk.{DeskState, IsSound}
+-- Which threads hold shards, and what the shards' locks know of it.
+use Rattle.std.specs.Prelude.{◌≡◌, ◌≢◌, ℕ, ◌⊎◌, Bool, false, List, [], ◌∷◌, length, Option, Some, None, slice_get}
+use Rattle.lock_api_desk.specs.declared.mode.Mode.{Mode as DeskMode}
+use Rattle.mapworld_locks.specs.Aims.{Aim, Gets, GivesUp, Turns}
+use Rattle.mapworld_locks.specs.Views.{Shown, owner_in}
+use Rattle.mapworld_locks.specs.Stands.{Stand, stand_in}
 use Rattle.mapworld_state.specs.declared.holds.Mode.TheVariants.{Shared}
 use Rattle.mapworld_state.specs.declared.holds.Hold.{Hold}
 use Rattle.mapworld_state.specs.declared.place.Guard.{Guard as PlaceGuard}
 use Rattle.mapworld_state.specs.declared.place.Phase.{Phase}
+use Rattle.mapworld_state.specs.declared.place.Phase.TheVariants as phase
 use Rattle.mapworld_state.specs.Places.{Place}
 use Rattle.mapworld_state.specs.Classes.{class_of, holds_in}
-use Rattle.mapworld_state.specs.Holds.{Desks, guard_for}
+use Rattle.mapworld_state.specs.Holds.{at_desk, IsAmong}
+use Rattle.mapworld_state.specs.Moves.{mode_of}
 
--- the guards at the desks are the holds of the threads and no others, each under a guard number of its own, no two threads'
--- holds exclude each other, and no thread holds a shard twice; and each desk is sound: it lists a number once, and its guards go together and are within its limit
-pub record HoldsMatch {K V D T : Type 0} (places : List (Place K V D T)) (holds : Desks) : Type 0 where
-  pub listed : (t i : ℕ) (p : Place K V D T) (h : Hold) → slice_get places t ≡ Some p → slice_get p.holds i ≡ Some h
-      → (desk : DeskState (Unit {0})) × (j : ℕ) × (slice_get holds h.shard ≡ Some desk) × (slice_get desk.guards j ≡ Some (guard_for t h))
-  pub owned : (s i : ℕ) (desk : DeskState (Unit {0})) (g : Guard) → slice_get holds s ≡ Some desk → slice_get desk.guards i ≡ Some g
-      → (p : Place K V D T) × (j : ℕ) × (h : Hold) × (slice_get places g.party ≡ Some p) × (slice_get p.holds j ≡ Some h) × (h.shard ≡ s) × (g ≡ guard_for g.party h)
-  pub apart : (t u i j : ℕ) (p q : Place K V D T) (a b : Hold) → slice_get places t ≡ Some p → slice_get places u ≡ Some q → slice_get p.holds i ≡ Some a → slice_get q.holds j ≡ Some b → a.guard ≡ b.guard
-      → (t ≡ u) × (i ≡ j)
+-- what is still done for a thread at a lock before its answer: it has given its hold up, or shares it now
+abbrev pub MayOwe : {K V D T : Type 0} → Place K V D T → ℕ → Aim → Type 0
+MayOwe p shard (Gets mode) = ⊥
+MayOwe p shard (GivesUp mode) = p.holds ≡ []
+MayOwe p shard Turns = (hold : Hold) × (p.holds ≡ hold ∷ []) × (hold.shard ≡ shard) × (hold.mode ≡ Shared)
+
+abbrev pub IsOwing : {K V D T : Type 0} → Place K V D T → Option Stand → Type 0
+IsOwing p None = Unit {0}
+IsOwing p (Some stand) = MayOwe p stand.shard stand.aim
+
+-- the call that a thread is in at a lock, by its phase: the admission that it waits for; what its release or its downgrade owes; and else none
+abbrev pub StandsBefore : {K V D T : Type 0} → Place K V D T → Phase K V D T → Option Stand → Type 0
+StandsBefore p phase.Rest stand = stand ≡ None
+StandsBefore p (phase.Admit r) stand = stand ≡ Some (record { shard = p.shard; aim = Gets (at_desk (mode_of r)); trying = false })
+StandsBefore p (phase.Find r) stand = stand ≡ None
+StandsBefore p (phase.Grow c) stand = stand ≡ None
+StandsBefore p (phase.Append k v) stand = stand ≡ None
+StandsBefore p (phase.Apply k) stand = stand ≡ None
+StandsBefore p (phase.View k d) stand = stand ≡ None
+StandsBefore p (phase.Read d) stand = stand ≡ None
+StandsBefore p (phase.Change h) stand = stand ≡ None
+StandsBefore p (phase.Fill v) stand = stand ≡ None
+StandsBefore p phase.Downgrade stand = stand ≡ None
+StandsBefore p (phase.Release a) stand = stand ≡ None
+StandsBefore p (phase.Answer a) stand = IsOwing p stand
+
+-- the thread is in a call at the shard's lock
+abbrev pub IsAt : Shown → ℕ → ℕ → Type 0
+IsAt locks t shard = (stand : Stand) × (stand_in locks t ≡ Some stand) × (stand.shard ≡ shard)
+
+-- A hold of a place is an owner's of its shard's lock, in that mode; and whoever owns a lock has such a hold, or is in a call there: it has been
+-- admitted and hasn't gone on yet, or hasn't given the lock up yet. No two threads' holds exclude each other, and no thread holds a shard twice.
+pub record HoldsMatch {K V D T : Type 0} (places : List (Place K V D T)) (locks : Shown) : Type 0 where
+  pub owned : (t i : ℕ) (p : Place K V D T) (h : Hold) → slice_get places t ≡ Some p → slice_get p.holds i ≡ Some h → owner_in locks h.shard t ≡ Some (at_desk h.mode)
+  pub known : (t shard : ℕ) (p : Place K V D T) (mode : DeskMode) → slice_get places t ≡ Some p → owner_in locks shard t ≡ Some mode → IsAmong shard mode p.holds ⊎ IsAt locks t shard
   pub once : (t i j : ℕ) (p : Place K V D T) (a b : Hold) → slice_get places t ≡ Some p → slice_get p.holds i ≡ Some a → slice_get p.holds j ≡ Some b → a.shard ≡ b.shard → i ≡ j
   pub compatible : (t u i j : ℕ) (p q : Place K V D T) (a b : Hold) → t ≢ u → slice_get places t ≡ Some p → slice_get places u ≡ Some q → slice_get p.holds i ≡ Some a → slice_get q.holds j ≡ Some b → a.shard ≡ b.shard
       → (a.mode ≡ Shared) × (b.mode ≡ Shared)
-  pub sound : (s : ℕ) (desk : DeskState (Unit {0})) → slice_get holds s ≡ Some desk → IsSound desk.limit desk.guards
+  pub stands : (t : ℕ) (p : Place K V D T) → slice_get places t ≡ Some p → StandsBefore p p.phase (stand_in locks t)
 
 -- how many holds a thread before that phase has
 abbrev pub holds_before : {K V D T : Type 0} → Option (PlaceGuard K) → Phase K V D T → ℕ

@@ -1,18 +1,18 @@
 -- Which steps are refused, and what a run of steps leads to.
-use Rattle.std.specs.Prelude.{◌≡◌, ℕ, ◌+◌, ◌-◌, ◌*◌, ◌^◌, Bool, true, false, if◌then◌else◌, nat_lt, nat_le, List, [], ◌∷◌, length, Option, Some, None, Result, Ok, Err, slice_get, sum_by, ◌==◌}
+use Rattle.std.specs.Prelude.{◌≡◌, ℕ, ◌+◌, ◌-◌, ◌*◌, ◌^◌, Bool, true, false, ◌||◌, is_none, if◌then◌else◌, nat_lt, nat_le, List, [], ◌∷◌, length, Option, Some, None, Result, Ok, Err, slice_get, sum_by, ◌==◌}
 use Rattle.mapworld_calls.specs.Setup.{Setup}
+use Rattle.parking_lot_world.specs.Rows.{state, call_at}
+use Rattle.parking_lot_world.specs.Machines.{can_move, is_asleep}
+use Rattle.mapworld_locks.specs.Views.{Shown}
 use Rattle.mapworld_faults.specs.declared.fault.RunFault.{RunFault}
 use Rattle.mapworld_faults.specs.declared.fault.RunFault.TheVariants as fault
 use Rattle.mapworld_state.specs.declared.step.Step.{Step}
 use Rattle.mapworld_state.specs.declared.step.Status.{Status}
 use Rattle.mapworld_state.specs.declared.step.Status.TheVariants as status
 use Rattle.mapworld_state.specs.declared.place.Phase.{Phase}
-use Rattle.mapworld_state.specs.declared.place.Phase.TheVariants as phase
 use Rattle.mapworld_state.specs.Places.{Place}
-use Rattle.mapworld_state.specs.Classes.{class_of, status_in}
-use Rattle.mapworld_state.specs.Holds.{is_excluded}
+use Rattle.mapworld_state.specs.Classes.{class_of, status_in, moves_in}
 use Rattle.mapworld_state.specs.State.{State, pairs_of}
-use Rattle.mapworld_state.specs.Moves.{mode_of}
 use Rattle.mapworld_state.specs.Steps.{IsStep}
 use Rattle.mapworld_state.specs.Footprint.{HasFootprint}
 use Rattle.mapworld_faults.specs.Faults.{run_fault_done}
@@ -28,26 +28,32 @@ bound n s p c = 256 * (n + 1) * (n + 1) * (c + 1) * (s + 1) + 2 * (c + 1) * (p +
 abbrev pub bound_of : {K V S D T : Type 0} → State K V S D T → ℕ
 bound_of w = bound (length w.programs) (length w.tables) (length (pairs_of w)) (unanswered_of w)
 
--- whether a thread before that phase waits for a shard that another thread's hold keeps it out of
-abbrev pub is_kept_out : {K V D T : Type 0} → List (Place K V D T) → ℕ → Phase K V D T → Bool
-is_kept_out places shard (phase.Admit r) = is_excluded places shard (mode_of r)
-is_kept_out places shard f = false
+-- where a thread stands that has that place
+abbrev pub status_before : {K V D T : Type 0} → Shown → ℕ → ℕ → Phase K V D T → Status
+status_before locks t left f = status_in (is_asleep (state locks.rows) t) left (class_of f)
 
--- where a thread stands that is before that phase, with that much of its program left
-abbrev pub status_before : {K V D T : Type 0} → List (Place K V D T) → ℕ → ℕ → Phase K V D T → Status
-status_before places left shard f = status_in (is_kept_out places shard f) left (class_of f)
-
-abbrev pub status_at : {K V D T : Type 0} → List (Place K V D T) → Option (Place K V D T) → Status
-status_at places None = status.Finished
-status_at places (Some p) = status_before places (length p.asks) p.shard p.phase
+abbrev pub status_at : {K V D T : Type 0} → Shown → ℕ → Option (Place K V D T) → Status
+status_at locks t None = status.Finished
+status_at locks t (Some p) = status_before locks t (length p.asks) p.phase
 
 abbrev pub status_of : {K V S D T : Type 0} → State K V S D T → ℕ → Status
-status_of w t = status_at w.places (slice_get w.places t)
+status_of w t = status_at w.locks t (slice_get w.places t)
 
-abbrev pub is_running : Status → Bool
-is_running status.Running = true
-is_running status.Asleep = false
-is_running status.Finished = false
+-- whether a thread is in no call at a lock, or can make a step of the one that it is in
+abbrev pub goes_on : Shown → ℕ → Bool
+goes_on locks t = is_none (call_at (state locks.rows) t) || can_move (state locks.rows) t
+
+abbrev pub moves_before : {K V D T : Type 0} → Shown → ℕ → ℕ → Phase K V D T → Bool
+moves_before locks t left f = moves_in (goes_on locks t) left (class_of f)
+
+abbrev pub moves_at : {K V D T : Type 0} → Shown → ℕ → Option (Place K V D T) → Bool
+moves_at locks t None = false
+moves_at locks t (Some p) = moves_before locks t (length p.asks) p.phase
+
+-- whether a step of a thread would be done: its calls aren't all answered, it isn't asleep, and it isn't before a queue's section that another
+-- thread has entered
+abbrev pub can_move_in : {K V S D T : Type 0} → State K V S D T → ℕ → Bool
+can_move_in w t = moves_at w.locks t (slice_get w.places t)
 
 -- whether step numbers are left for one more step and all that must come after it
 abbrev pub has_numbers : {K V S D T : Type 0} → State K V S D T → Bool
@@ -57,7 +63,7 @@ has_numbers w = nat_le (length w.steps + 1 + bound_of w + 2 * (unanswered_of w +
 abbrev pub refusal : {K V S D T : Type 0} → State K V S D T → ℕ → Step → Option RunFault
 refusal w n s =
     if nat_lt s.thread (length w.programs)
-    then (if is_running (status_of w s.thread)
+    then (if can_move_in w s.thread
     then (if has_numbers w then None else Some (fault.StepsShort n))
     else Some (fault.CannotMove n))
     else Some (fault.NoSuchThread n)

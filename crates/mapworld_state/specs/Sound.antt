@@ -205,6 +205,6 @@ pub record Sound {K V S D T : Type 0} (x : Setup K V D T) (w : State K V S D T) 
   pub routes : (q : K) → x.route q < length w.tables
   pub stands : (t : ℕ) (p : Place K V D T) → slice_get w.places t ≡ Some p → Stands x (threads_of w) w.blocks w.replies w.tables t p
   pub tables : TablesAgree x w.blocks w.tables
-  pub holds : HoldsMatch w.places w.holds
+  pub holds : HoldsMatch w.places w.locks
   pub placed : WellPlaced x (threads_of w) (started_of w) w.blocks w.replies
   pub replies : (i : ℕ) (r : Reply K V T) → slice_get w.replies i ≡ Some r → IsAnswered x w.blocks r.thread r.call r.answer

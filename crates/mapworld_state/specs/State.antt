@@ -4,9 +4,9 @@ use Rattle.std.specs.Option.{option_and_then}
 use Rattle.mapworld_calls.specs.declared.ask.Ask.{Ask}
 use Rattle.mapworld_calls.specs.declared.block.Block.{Block}
 use Rattle.mapworld_calls.specs.declared.reply.Reply.{Reply}
+use Rattle.mapworld_locks.specs.Views.{Shown}
 use Rattle.mapworld_state.specs.declared.step.Step.{Step}
 use Rattle.mapworld_state.specs.Places.{Place}
-use Rattle.mapworld_state.specs.Holds.{Desks}
 use Rattle.mapworld_state.specs.Shards.{ShardPairs}
 
 pub record State (K V S D T : Type 0) : Type 0 where
@@ -20,8 +20,8 @@ pub record State (K V S D T : Type 0) : Type 0 where
   pub places : List (Place K V D T)
   -- the pairs of each shard
   pub tables : List (ShardPairs K V)
-  -- the desk of each shard
-  pub holds : Desks
+  -- the locks of the shards: words, queues, the calls that threads are in there, and the desk beside each word
+  pub locks : Shown
   pub blocks : List (Block K)
   pub replies : List (Reply K V T)
 

@@ -12,7 +12,6 @@ use Rattle.mapworld_calls.specs.Replay.{block_key}
 use Rattle.mapworld_calls.specs.Calls.{pair_in, keyed_answer, keyed_leaves, held_answer, held_leaves}
 use Rattle.mapworld_calls.specs.Setup.{Setup}
 use Rattle.mapworld_calls.specs.Pairs.{pair_of}
-use Rattle.lock_api_desk.specs.declared.mode.Mode.TheVariants as desk_mode
 use Rattle.mapworld_state.specs.declared.holds.Mode.TheVariants.{Shared, Exclusive}
 use Rattle.mapworld_state.specs.declared.holds.Hold.{Hold}
 use Rattle.mapworld_state.specs.declared.step.Step.{Step}
@@ -21,12 +20,16 @@ use Rattle.mapworld_state.specs.declared.place.Way.{Way}
 use Rattle.mapworld_state.specs.declared.place.Way.TheVariants as way
 use Rattle.mapworld_state.specs.declared.place.Guard.TheVariants as guard
 use Rattle.mapworld_state.specs.declared.place.Growth.{Growth}
+use Rattle.mapworld_state.specs.declared.place.Phase.{Phase}
 use Rattle.mapworld_state.specs.declared.place.Phase.TheVariants as phase
 use Rattle.mapworld_state.specs.Places.{Place}
-use Rattle.lock_api_desk.specs.declared.fault.DeskFault.TheVariants.{WouldWait}
-use Rattle.lock_api_desk.specs.Desk.{DeskState, admitted as with_guard, turned, released}
-use Rattle.lock_api_desk.specs.Refusals.{acquire_refusal}
-use Rattle.mapworld_state.specs.Holds.{is_excluded, at_desk}
+use Rattle.parking_lot_protocol.specs.declared.act.CoreAnswer.{CoreAnswer}
+use Rattle.parking_lot_protocol.specs.declared.act.CoreAnswer.TheVariants as end
+use Rattle.parking_lot_world.specs.declared.calls.LockCall.TheVariants as call
+use Rattle.mapworld_locks.specs.Views.{Shown}
+use Rattle.mapworld_locks.specs.Stands.{stand_in}
+use Rattle.mapworld_locks.specs.Steps.{LockBegins, LockMoves, LockStarts, LockEnds}
+use Rattle.mapworld_state.specs.Holds.{asks_for, gives_up}
 use Rattle.mapworld_state.specs.Shards.{ShardPairs, has_room, Puts, Grown}
 use Rattle.mapworld_state.specs.State.{State, next_step}
 use Rattle.mapworld_state.specs.Moves.{request_key, mode_of, is_last, lent, start_phase, start_guard, start_shard, start_counts, ends_guard, changed_phase, request_of, growth_key, found_phase, found_done, found_guard, block_behind, stepped, ListsBlock, CountsCall, EndsBlock}
@@ -34,6 +37,46 @@ use Rattle.mapworld_state.specs.Moves.{request_key, mode_of, is_last, lent, star
 -- the key of the session that a thread is in: that of its block
 abbrev pub guarded_key : {K V D T : Type 0} → Setup K V D T → List (Block K) → Option ℕ → Option K
 guarded_key x bs block = option_and_then (λ i. option_and_then (block_key x) (slice_get bs i)) block
+
+-- a call that needs its shard begins the call of the shard's lock; one on a guard has its shard
+abbrev pub EntersBy : {K V D T : Type 0} → ℕ → ℕ → Phase K V D T → Shown → Shown → Type 0
+EntersBy t shard phase.Rest locks locks' = locks' ≡ locks
+EntersBy t shard (phase.Admit r) locks locks' = LockBegins t shard (asks_for (mode_of r)) locks locks'
+EntersBy t shard (phase.Find r) locks locks' = locks' ≡ locks
+EntersBy t shard (phase.Grow c) locks locks' = locks' ≡ locks
+EntersBy t shard (phase.Append k v) locks locks' = locks' ≡ locks
+EntersBy t shard (phase.Apply k) locks locks' = locks' ≡ locks
+EntersBy t shard (phase.View k d) locks locks' = locks' ≡ locks
+EntersBy t shard (phase.Read d) locks locks' = locks' ≡ locks
+EntersBy t shard (phase.Change h) locks locks' = locks' ≡ locks
+EntersBy t shard (phase.Fill v) locks locks' = locks' ≡ locks
+EntersBy t shard phase.Downgrade locks locks' = locks' ≡ locks
+EntersBy t shard (phase.Release a) locks locks' = locks' ≡ locks
+EntersBy t shard (phase.Answer a) locks locks' = locks' ≡ locks
+
+-- An admission is over: the call of the shard's lock is answered, and the place has the hold. It is part of the step that comes next.
+pub record Enters {K V S D T : Type 0} (w : State K V S D T) (t : ℕ) (w' : State K V S D T) : Type 0 where
+  pub place : Place K V D T
+  pub stands : slice_get w.places t ≡ Some place
+  pub request : Request K V D
+  pub before : place.phase ≡ phase.Admit request
+  pub locks : Shown
+  pub ends : LockEnds t end.Owned w.locks locks
+  pub after : w' ≡ record w {
+    places = slice_set w.places t (record place { holds = place.holds ++ record { shard = place.shard; mode = mode_of request } ∷ []; phase = phase.Find request });
+    locks = locks;
+  }
+
+-- What a release or a downgrade owed to the lock is done, and its call there is answered. It is part of the step that comes next.
+pub record Leaves {K V S D T : Type 0} (w : State K V S D T) (t : ℕ) (w' : State K V S D T) : Type 0 where
+  pub place : Place K V D T
+  pub stands : slice_get w.places t ≡ Some place
+  pub answer : Answer K V T
+  pub before : place.phase ≡ phase.Answer answer
+  pub locks : Shown
+  pub ended : CoreAnswer
+  pub ends : LockEnds t ended w.locks locks
+  pub after : w' ≡ record w { locks = locks }
 
 module _ {K V S D T : Type 0} (x : Setup K V D T) (w : State K V S D T) (s : Step) (w' : State K V S D T) where
   -- a start takes the thread's next call and sets `started` to its number
@@ -46,6 +89,8 @@ module _ {K V S D T : Type 0} (x : Setup K V D T) (w : State K V S D T) (s : Ste
     pub asked : place.asks ≡ ask ∷ rest
     pub blocks : List (Block K)
     pub counted : CountsCall w.blocks (start_counts (start_phase {T = T} ask place.guard) place.block) place.next blocks
+    pub locks : Shown
+    pub enters : EntersBy {T = T} s.thread (start_shard x.route ask place.shard) (start_phase ask place.guard) w.locks locks
     pub after : w' ≡ record (stepped w s (record place {
       asks = rest;
       started = Some (next_step w);
@@ -53,25 +98,17 @@ module _ {K V S D T : Type 0} (x : Setup K V D T) (w : State K V S D T) (s : Ste
       shard = start_shard x.route ask place.shard;
       guard = start_guard ask place.guard;
       phase = start_phase ask place.guard;
-    })) { blocks = blocks }
+    })) { blocks = blocks; locks = locks }
 
-  -- an admission takes a hold that no other hold excludes, under a guard number that none of them has: the shard's desk grants
-  -- and lists it
-  pub record Admits : Type 0 where
+  -- a thread that waits for its shard, or owes something to its lock, makes one step of the lock's call
+  pub record MovesLock : Type 0 where
     pub place : Place K V D T
     pub stands : slice_get w.places s.thread ≡ Some place
-    pub request : Request K V D
-    pub before : place.phase ≡ phase.Admit request
-    pub admitted : is_excluded w.places place.shard (mode_of request) ≡ false
-    pub hold : Hold
-    pub hold_is : (hold.shard ≡ place.shard) × (hold.mode ≡ mode_of request)
-    pub fresh : (u : ℕ) (q : Place K V D T) (i : ℕ) (h : Hold) → slice_get w.places u ≡ Some q → slice_get q.holds i ≡ Some h → h.guard ≢ hold.guard
-    pub desk : DeskState (Unit {0})
-    pub at_shard : slice_get w.holds hold.shard ≡ Some desk
-    pub granted : acquire_refusal WouldWait (at_desk hold.mode) hold.guard desk ≡ None
-    pub after : w' ≡ record (stepped w s (record place { holds = place.holds ++ hold ∷ []; phase = phase.Find request })) { holds = slice_set w.holds hold.shard (with_guard (at_desk hold.mode) s.thread hold.guard desk) }
+    pub locks : Shown
+    pub moves : LockMoves s.thread s.fair w.locks locks
+    pub after : w' ≡ record (stepped w s place) { locks = locks }
 
-  -- a find looks for the key in the held shard; it is the position of the block that it lists
+  -- a find looks for the key in the shard that is held now; it is the position of the block that it lists
   pub record Finds : Type 0 where
     pub place : Place K V D T
     pub stands : slice_get w.places s.thread ≡ Some place
@@ -230,7 +267,8 @@ module _ {K V S D T : Type 0} (x : Setup K V D T) (w : State K V S D T) (s : Ste
       blocks = blocks;
     }
 
-  -- a guard that held its shard alone shares it, and the shard's desk lists it so
+  -- a guard that held its shard alone shares it: the downgrade of the shard's lock begins and makes its first act, which leaves no moment
+  -- without a hold
   pub record Downgrades : Type 0 where
     pub place : Place K V D T
     pub stands : slice_get w.places s.thread ≡ Some place
@@ -240,8 +278,8 @@ module _ {K V S D T : Type 0} (x : Setup K V D T) (w : State K V S D T) (s : Ste
     pub more : List Hold
     pub holds : place.holds ≡ hold ∷ more
     pub alone : hold.mode ≡ Exclusive
-    pub desk : DeskState (Unit {0})
-    pub at_shard : slice_get w.holds hold.shard ≡ Some desk
+    pub locks : Shown
+    pub turns : LockStarts s.thread hold.shard call.Downgrade s.fair w.locks locks
     pub blocks : List (Block K)
     pub counted : CountsCall w.blocks place.block place.next blocks
     pub after : w' ≡ record (stepped w s (record place {
@@ -249,11 +287,11 @@ module _ {K V S D T : Type 0} (x : Setup K V D T) (w : State K V S D T) (s : Ste
       guard = Some (guard.Pair way.Shared);
       phase = phase.Answer answer.Held;
     })) {
-      holds = slice_set w.holds hold.shard (turned desk_mode.Shared hold.guard desk);
+      locks = locks;
       blocks = blocks;
     }
 
-  -- a release ends the thread's hold, and its guard with it, and the shard's desk lists it no more
+  -- a release ends the thread's hold, and its guard with it: the release of the shard's lock begins and makes its first act
   pub record Releases : Type 0 where
     pub place : Place K V D T
     pub stands : slice_get w.places s.thread ≡ Some place
@@ -262,11 +300,11 @@ module _ {K V S D T : Type 0} (x : Setup K V D T) (w : State K V S D T) (s : Ste
     pub hold : Hold
     pub more : List Hold
     pub holds : place.holds ≡ hold ∷ more
-    pub desk : DeskState (Unit {0})
-    pub at_shard : slice_get w.holds hold.shard ≡ Some desk
+    pub locks : Shown
+    pub gives : LockStarts s.thread hold.shard (gives_up hold.mode) s.fair w.locks locks
     pub blocks : List (Block K)
     pub counted : CountsCall w.blocks (if is_some place.guard then place.block else None) place.next blocks
-    pub after : w' ≡ record (stepped w s (record place { holds = more; guard = None; phase = phase.Answer answer })) { holds = slice_set w.holds hold.shard (released hold.guard desk); blocks = blocks }
+    pub after : w' ≡ record (stepped w s (record place { holds = more; guard = None; phase = phase.Answer answer })) { locks = locks; blocks = blocks }
 
   -- an answer carries the start into the reply
   pub record Answers : Type 0 where
@@ -276,6 +314,7 @@ module _ {K V S D T : Type 0} (x : Setup K V D T) (w : State K V S D T) (s : Ste
     pub before : place.phase ≡ phase.Answer answer
     pub start : ℕ
     pub begun : place.started ≡ Some start
+    pub out : stand_in w.locks s.thread ≡ None
     pub blocks : List (Block K)
     pub ended : EndsBlock w.blocks place.block place.next (next_step w) blocks
     pub after : w' ≡ record (stepped w s (record place {
@@ -292,11 +331,23 @@ module _ {K V S D T : Type 0} (x : Setup K V D T) (w : State K V S D T) (s : Ste
 abbrev pub Grows : {K V S D T : Type 0} → Setup K V D T → State K V S D T → Step → State K V S D T → Type 0
 Grows x w s w' = GrowsShard x w s w' ⊎ IsRefusedGrowth x w s w'
 
+-- a find: the admission before it ends with it
+pub record Looks {K V S D T : Type 0} (x : Setup K V D T) (w : State K V S D T) (s : Step) (w' : State K V S D T) : Type 0 where
+  pub mid : State K V S D T
+  pub enters : (mid ≡ w) ⊎ Enters w s.thread mid
+  pub finds : Finds x mid s w'
+
+-- an answer: what was owed to a lock before it ends with it
+pub record Replies {K V S D T : Type 0} (x : Setup K V D T) (w : State K V S D T) (s : Step) (w' : State K V S D T) : Type 0 where
+  pub mid : State K V S D T
+  pub leaves : (mid ≡ w) ⊎ Leaves w s.thread mid
+  pub answers : Answers x mid s w'
+
 -- one step of a world, of one kind
 pub data IsStep {K V S D T : Type 0} (x : Setup K V D T) (w : State K V S D T) (s : Step) (w' : State K V S D T) : Type 0 where
   start : Starts x w s w' → IsStep x w s w'
-  admit : Admits x w s w' → IsStep x w s w'
-  find : Finds x w s w' → IsStep x w s w'
+  lock : MovesLock x w s w' → IsStep x w s w'
+  find : Looks x w s w' → IsStep x w s w'
   find_grows : GrowsShard x w s w' → IsStep x w s w'
   find_refused : IsRefusedGrowth x w s w' → IsStep x w s w'
   deed_appends : Appends x w s w' → IsStep x w s w'
@@ -307,4 +358,4 @@ pub data IsStep {K V S D T : Type 0} (x : Setup K V D T) (w : State K V S D T) (
   deed_fills : Fills x w s w' → IsStep x w s w'
   downgrade : Downgrades x w s w' → IsStep x w s w'
   release : Releases x w s w' → IsStep x w s w'
-  answers : Answers x w s w' → IsStep x w s w'
+  answers : Replies x w s w' → IsStep x w s w'

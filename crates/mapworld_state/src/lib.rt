@@ -8,7 +8,7 @@ mod place;
 mod step;
 mod world_core;
 
-pub use holds::{Hold, Mode, ShardDesk};
+pub use holds::{Hold, Mode};
 pub use place::{Growth, Guard, Phase, Place, Request, Way};
 pub use step::{Status, Step};
 pub use world_core::Core;

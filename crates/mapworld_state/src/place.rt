@@ -45,9 +45,9 @@ pub enum Growth<K, V> {
 pub enum Phase<K, V, D, T> {
     /// Between two calls: the start of the next one, if there is one.
     Rest,
-    /// The admission to the shard.
+    /// The admission to the shard, by the shard's lock; and where the lock's call is over, the look into the shard.
     Admit(Request<K, V, D>),
-    /// The look into the held shard.
+    /// The look into the held shard. It is part of a step that ends an admission: no thread stays before it.
     Find(Request<K, V, D>),
     /// The growth of the held shard, which has no room for the new pair.
     Grow(Growth<K, V>),
@@ -65,9 +65,9 @@ pub enum Phase<K, V, D, T> {
     Fill(V),
     /// The guard becomes shared.
     Downgrade,
-    /// The hold ends, and the call is to be answered so.
+    /// The hold ends, by the shard's lock, and the call is to be answered so.
     Release(Answer<K, V, T>),
-    /// The call is answered.
+    /// The call is answered; and before that what a release still owes to the lock is done.
     Answer(Answer<K, V, T>),
 }
 

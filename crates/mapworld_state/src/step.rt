@@ -5,16 +5,16 @@
 pub struct Step {
     /// Who makes it.
     pub thread: usize,
-    /// Whether a release that stores in this step is fair. It has no effect yet.
+    /// Whether a release hands its shard over to a waiter, where it stores the lock's word in this step.
     pub fair: bool,
 }
 
 /// Where a thread stands.
 #[derive(Clone, Copy, PartialEq, Eq, Debug)]
 pub enum Status {
-    /// A step of it would be done.
+    /// It can go on, or is before a queue's section that another thread has entered.
     Running,
-    /// It is before an admission that another thread's hold excludes.
+    /// It waits in a queue of its shard, or was taken from it and isn't woken yet.
     Asleep,
     /// All its calls are answered.
     Finished,

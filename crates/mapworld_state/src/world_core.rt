@@ -1,10 +1,10 @@
 //! What the code keeps of a world.
 
-use crate::holds::ShardDesk;
 use crate::place::Place;
 use crate::step::Step;
 use dashmap_table::Shard;
 use mapworld_calls::{Ask, Block, Reply};
+use mapworld_locks::ShardLocks;
 use past::Past;
 use std::alloc::Allocator;
 use std::hash::Hash;
@@ -22,8 +22,6 @@ pub struct Core<K: Eq + Hash, V, S, D, T, A: Allocator> {
     pub steps: Past<Step>,
     /// How many steps there were.
     pub count: u64,
-    /// How many guard numbers were given out.
-    pub guards: u64,
     /// How many pairs all tables have.
     pub pairs: u64,
     /// How many calls aren't answered.
@@ -32,8 +30,8 @@ pub struct Core<K: Eq + Hash, V, S, D, T, A: Allocator> {
     pub places: Vec<Place<K, V, D, T, A>, A>,
     /// The pairs of each shard.
     pub tables: Vec<Shard<K, V, A>, A>,
-    /// The desk of each shard.
-    pub desks: Vec<ShardDesk<A>, A>,
+    /// The lock of each shard, and the desk beside its word.
+    pub locks: ShardLocks<A>,
     pub blocks: Vec<Block<K>, A>,
     pub replies: Vec<Reply<K, V, T>, A>,
 }

@@ -5,7 +5,8 @@ use Rattle.mapworld_state.specs.Shards.{shard_pairs, number_of}
 use Rattle.mapworld_state.specs.Slots.{phase_key}
 use Rattle.mapworld_state.specs.Core.{state_of, owes, lists, adds}
 use Rattle.mapworld_state.proofs.Views.{view-at}
-use Rattle.mapworld_moves.proofs.Rooms.{shifted, same_desks}
+use Rattle.mapworld_locks.proofs.Sizes.{same_size}
+use Rattle.mapworld_moves.proofs.Rooms.{shifted}
 use Rattle.mapworld_moves.proofs.Facts.{kept-here, seen-here, kept-phase, claim_at, next_fits, kept-within, kept-shard, deed_counts, stepped-by}
 use Rattle.mapworld_moves.proofs.Keys.{setup-laws, deed-found}
 use Rattle.mapworld_moves.proofs.Slots.{calls-counted, slots-alone_free}
@@ -79,7 +80,7 @@ returns-clause-step g c =
       puts = c.add_pair-slot.ensures.puts;
       blocks = c.count_in.new.blocks.items;
       counted = c.count_in.ensures.counted;
-      after = stepped-by core c.args.step (record p { phase = c.replace.new.dest }) _ c.appended-core.result.items _ _ core.desks.items c.count_in.new.blocks.items core.replies.items
+      after = stepped-by core c.args.step (record p { phase = c.replace.new.dest }) _ c.appended-core.result.items _ _ core.locks c.count_in.new.blocks.items core.replies.items
           c.appended-core.ensures (ap (λ f. record (place_of p) { phase = f }) c.replace.ensures.after) (map-set shard_pairs core.tables.items p.shard c.add_pair-slot.new.shard);
     }
 
@@ -119,16 +120,13 @@ returns-clause-room g c =
       count = refl;
       programs = refl;
       tables = length-set core.tables.items p.shard c.add_pair-slot.new.shard;
-      guards = λ i h has. c.requires.room.guards c.args.step.thread i (place_of p) h seen has;
-      more_guards = omega arith;
-      guards_fit = omega arith;
+      held = λ i h has. c.requires.room.held c.args.step.thread i (place_of p) h seen has;
+      locks = same_size;
       unanswered = omega (arith, ap owes c.replace.ensures.after, ap owes before);
       answers = omega (arith, ap owes c.replace.ensures.after, ap owes before);
       replies = refl;
       listing = omega (arith, ap lists c.replace.ensures.after, ap lists before, c.count_in.ensures.len);
       blocks = c.count_in.ensures.capacity;
-      desks = refl;
-      holding = same_desks core.desks.items p.holds.items p.holds.items refl;
       adding = omega (arith, ap adds c.replace.ensures.after, ap adds before);
       pairs = omega (arith, c.requires.room.pairs, change, c.add_pair-slot.ensures.puts.counted, ap number_of absent);
       more_blocks = omega (arith, c.count_in.ensures.len);

@@ -12,7 +12,8 @@ use Rattle.mapworld_state.specs.Core.{state_of, owes, lists, adds}
 use Rattle.mapworld_state.specs.World.{deeds_of}
 use Rattle.mapworld_state.proofs.Owning.{same-kind}
 use Rattle.mapworld_moves.specs.Slots.{LeavesAt}
-use Rattle.mapworld_moves.proofs.Rooms.{shifted, same_desks}
+use Rattle.mapworld_locks.proofs.Sizes.{same_size}
+use Rattle.mapworld_moves.proofs.Rooms.{shifted}
 use Rattle.mapworld_moves.proofs.Facts.{kept-here, seen-here, kept-phase, claim_at, next_fits, session_counts, way_is, stepped-by}
 use Rattle.mapworld_moves.proofs.Keys.{guards}
 use Rattle.mapworld_moves.proofs.Leaving.{at-some, some-at, stands-in, held-keeps, held-gone, held-stays, handed-equal, changed-free, gone-number}
@@ -164,7 +165,7 @@ returns-clause-step g c =
       puts = puts;
       blocks = c.count_in.new.blocks.items;
       counted = c.count_in.ensures.counted;
-      after = stepped-by core c.args.step (record p { guard = c.change_at-answer.result.1; phase = c.enter.new.phase }) _ c.appended-core.result.items _ _ core.desks.items c.count_in.new.blocks.items core.replies.items
+      after = stepped-by core c.args.step (record p { guard = c.change_at-answer.result.1; phase = c.enter.new.phase }) _ c.appended-core.result.items _ _ core.locks c.count_in.new.blocks.items core.replies.items
           c.appended-core.ensures
           (ap₂ (λ o f. record (place_of p) { guard = o; phase = f }) (c.change_at-answer.ensures.guard ∙ ap (λ k. if ends_guard c.in-Change.call then None else k) (sym mine))
           (c.enter.ensures ∙ (c.changed_phase.ensures ∙ ap₂ changed_phase c.ends_guard-ends.ensures (at-some _ _ e there.has.there c.change_at-answer.ensures.answer))))
@@ -237,16 +238,13 @@ returns-clause-room g c =
       count = refl;
       programs = refl;
       tables = length-set core.tables.items p.shard c.change_at-answer.new.shard;
-      guards = λ i h has. c.requires.room.guards c.args.step.thread i (place_of p) h seen has;
-      more_guards = omega arith;
-      guards_fit = omega arith;
+      held = λ i h has. c.requires.room.held c.args.step.thread i (place_of p) h seen has;
+      locks = same_size;
       unanswered = omega (arith, weights.0, ap owes before);
       answers = omega (arith, weights.0, ap owes before);
       replies = refl;
       listing = omega (arith, weights.1, ap lists before, c.count_in.ensures.len);
       blocks = c.count_in.ensures.capacity;
-      desks = refl;
-      holding = same_desks core.desks.items p.holds.items p.holds.items refl;
       adding = omega (arith, weights.2, ap adds before, c.less_one-core.ensures);
       pairs = omega (arith, c.requires.room.pairs, change_, puts.counted, gone, was, c.less_one-core.ensures);
       more_blocks = omega (arith, c.count_in.ensures.len);

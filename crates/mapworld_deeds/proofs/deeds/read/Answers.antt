@@ -10,7 +10,8 @@ use Rattle.mapworld_state.specs.Places.{place_of}
 use Rattle.mapworld_state.specs.Shards.{shard_pairs}
 use Rattle.mapworld_state.specs.Slots.{phase_key}
 use Rattle.mapworld_state.specs.Core.{state_of, owes, lists, adds}
-use Rattle.mapworld_moves.proofs.Rooms.{shifted, same_desks}
+use Rattle.mapworld_locks.proofs.Sizes.{same_size}
+use Rattle.mapworld_moves.proofs.Rooms.{shifted}
 use Rattle.mapworld_moves.proofs.Facts.{kept-here, seen-here, kept-phase, claim_at, next_fits, session_counts, stepped-by}
 use Rattle.mapworld_moves.proofs.Keys.{guards}
 use Rattle.mapworld_moves.proofs.Leaving.{stands-in}
@@ -86,7 +87,7 @@ returns-clause-step g c =
       found = there.pair ∙ (sym (ap (option_map entry_pair) there.has.there) ∙ c.pair_at.ensures);
       blocks = c.count_in.new.blocks.items;
       counted = c.count_in.ensures.counted;
-      after = stepped-by core c.args.step (record p { phase = c.enter.new.phase }) _ c.appended-core.result.items core.tables.items _ core.desks.items c.count_in.new.blocks.items core.replies.items
+      after = stepped-by core c.args.step (record p { phase = c.enter.new.phase }) _ c.appended-core.result.items core.tables.items _ core.locks c.count_in.new.blocks.items core.replies.items
           c.appended-core.ensures (ap (λ f. record (place_of p) { phase = f }) (c.enter.ensures ∙ ap (λ a. phase.Answer (answer.Read a)) c.answer.ensures)) refl;
     }
 
@@ -116,16 +117,13 @@ returns-clause-room g c =
       count = refl;
       programs = refl;
       tables = refl;
-      guards = λ i h has. c.requires.room.guards c.args.step.thread i (place_of p) h seen has;
-      more_guards = omega arith;
-      guards_fit = omega arith;
+      held = λ i h has. c.requires.room.held c.args.step.thread i (place_of p) h seen has;
+      locks = same_size;
       unanswered = omega (arith, ap owes c.enter.ensures, ap owes before);
       answers = omega (arith, ap owes c.enter.ensures, ap owes before);
       replies = refl;
       listing = omega (arith, ap lists c.enter.ensures, ap lists before, c.count_in.ensures.len);
       blocks = c.count_in.ensures.capacity;
-      desks = refl;
-      holding = same_desks core.desks.items p.holds.items p.holds.items refl;
       adding = omega (arith, ap adds c.enter.ensures, ap adds before);
       pairs = c.requires.room.pairs;
       more_blocks = omega (arith, c.count_in.ensures.len);

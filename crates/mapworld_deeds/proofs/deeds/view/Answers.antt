@@ -10,7 +10,8 @@ use Rattle.mapworld_state.specs.Shards.{shard_pairs}
 use Rattle.mapworld_state.specs.Slots.{phase_key}
 use Rattle.mapworld_state.specs.Core.{state_of, owes, lists, adds}
 use Rattle.mapworld_moves.specs.declared.blocks.Started.{Started}
-use Rattle.mapworld_moves.proofs.Rooms.{shifted, same_desks, block_left}
+use Rattle.mapworld_locks.proofs.Sizes.{same_size}
+use Rattle.mapworld_moves.proofs.Rooms.{shifted, block_left}
 use Rattle.mapworld_moves.proofs.Facts.{kept-here, seen-here, kept-phase, claim_at, stepped-by}
 use Rattle.mapworld_moves.proofs.Leaving.{stands-in}
 use Rattle.mapworld_moves.proofs.Slots.{calls-listed, call-slot, slots-same_free}
@@ -86,7 +87,7 @@ returns-clause-step g c =
       found = there.pair ∙ (sym (ap (option_map entry_pair) there.has.there) ∙ c.pair_at.ensures);
       blocks = blocks;
       listed = lists_block (state_of core) c.args.step.thread (place_of p) (Some 1) st (core.count + 1) blocks c.list_block.ensures.listed refl refl c.in-Some.is (ap (λ n. n + 1) c.requires.room.count);
-      after = stepped-by core c.args.step (record p { block = Some c.len-index.result; phase = c.enter.new.phase }) _ c.appended-core.result.items core.tables.items _ core.desks.items blocks core.replies.items
+      after = stepped-by core c.args.step (record p { block = Some c.len-index.result; phase = c.enter.new.phase }) _ c.appended-core.result.items core.tables.items _ core.locks blocks core.replies.items
           c.appended-core.ensures (ap₂ (λ n f. record (place_of p) { block = Some n; phase = f }) index (c.enter.ensures ∙ ap (λ a. phase.Release (answer.Read a)) c.answer.ensures)) refl;
     }
 
@@ -121,16 +122,13 @@ returns-clause-room g c =
       count = refl;
       programs = refl;
       tables = refl;
-      guards = λ i h has. c.requires.room.guards c.args.step.thread i (place_of p) h seen has;
-      more_guards = omega arith;
-      guards_fit = omega arith;
+      held = λ i h has. c.requires.room.held c.args.step.thread i (place_of p) h seen has;
+      locks = same_size;
       unanswered = omega (arith, ap owes c.enter.ensures, ap owes before);
       answers = omega (arith, ap owes c.enter.ensures, ap owes before);
       replies = refl;
       listing = omega (arith, added, ap lists c.enter.ensures, ap lists before);
       blocks = c.list_block.ensures.capacity;
-      desks = refl;
-      holding = same_desks core.desks.items p.holds.items p.holds.items refl;
       adding = omega (arith, ap adds c.enter.ensures, ap adds before);
       pairs = c.requires.room.pairs;
       more_blocks = omega (arith, added);
