@@ -9,7 +9,7 @@ ghost use Rattle.mapworld_state.specs.Steps.{Downgrades, Releases, Answers};
 use arrayvec::ArrayVec;
 use mapworld_calls::{Answer, Deed, Reply};
 use mapworld_moves::blocks::{count_in, end_block};
-use mapworld_locks::LockCall;
+use parking_lot_world::LockCall;
 use mapworld_moves::holds::gives_up;
 use mapworld_moves::moves::{enter, release_counts};
 use mapworld_state::{Core, Guard, Hold, Mode, Phase, Place, Step, Way};
