@@ -1,9 +1,11 @@
 -- A step of one thread leaves room, if what its place may still take falls by as much as is taken.
-use Rattle.std.proofs.Common.{◌≡◌, ℕ, ◌+◌, ◌<◌, ◌≤◌, ◌^◌, true, List, length, Some, slice_get, slice_set, sum_by, vec_len, vec_capacity, refl, sym, ap, ◌∙◌, subst, arith, length-set, leb-true, ⊎_elim}
+use Rattle.std.proofs.Common.{◌≡◌, ℕ, ◌+◌, ◌<◌, ◌≤◌, ◌^◌, true, List, Vec, length, map, Some, slice_get, slice_set, sum_by, vec_len, vec_capacity, refl, sym, ap, ◌∙◌, subst, arith, length-set, leb-true, ⊎_elim}
 use Rattle.mapworld_calls.proofs.Lists.{slice_get-set_cases, sum_by-set, sum_by-at}
+use Rattle.mapworld_locks.specs.Views.{Shown}
 use Rattle.mapworld_locks.proofs.Sizes.{KeepsSize}
 use Rattle.mapworld_state.specs.declared.holds.Hold.{Hold}
-use Rattle.mapworld_state.specs.Places.{Place}
+use Rattle.mapworld_state.specs.declared.place.Place.{Place as KeptPlace}
+use Rattle.mapworld_state.specs.Places.{Place, place_of}
 use Rattle.mapworld_state.specs.declared.world_core.Core.{Core}
 use Rattle.mapworld_state.specs.Route.{IsWorldAmount}
 use Rattle.mapworld_state.specs.State.{State, pairs_of}
@@ -82,6 +84,40 @@ module _ {K V S D T A : Type 0} where
         shards = subst IsWorldAmount (sym s.tables) r.shards;
         listed = still_listed c c' t p p' r s;
       }
+
+-- A place that owes, lists and adds as much as before, and locks of the same sizes, leave room: what ends with no step of its own.
+pub moved : {K V S D T A : Type 0} (c : Core K V S D T A) (places : Vec (KeptPlace K V D T A) A) (locks : Shown) (t : ℕ) (p p' : Place K V D T) → Room c
+    → slice_get (state_of c).places t ≡ Some p → map place_of places.items ≡ slice_set (state_of c).places t p' → owed p' ≡ owed p → may_list p' ≡ may_list p → may_add p' ≡ may_add p → p'.block ≡ p.block
+    → ((i : ℕ) (h : Hold) → slice_get p'.holds i ≡ Some h → h.shard < length c.tables.items) → KeepsSize c.locks locks → Room (record c { places = places; locks = locks })
+moved {K} {V} {S} {D} {T} {A} c places locks t p p' r here are owing listing adding block held sizes =
+    let old = (state_of c).places in
+    let cases = λ (u : ℕ) (q : Place K V D T) (at : slice_get (map place_of places.items) u ≡ Some q). slice_get-set_cases old t u p q p' here (subst (λ ps. slice_get ps u ≡ Some q) are at) in
+    let total = λ (f : Place K V D T → ℕ) (same : f p' ≡ f p).
+    let sums = subst (λ ps. sum_by f ps + f p ≡ sum_by f old + f p') (sym are) (sum_by-set f old t p p' here) in
+    let fact : sum_by f (map place_of places.items) ≡ sum_by f old = omega (arith, sums, same) in fact in
+    let owing' = total owed owing in let listing' = total may_list listing in let adding' = total may_add adding in
+    let threads = ap length are ∙ length-set old t p' in
+    record {
+      count = r.count;
+      count_fits = r.count_fits;
+      unanswered = r.unanswered;
+      answers = omega (arith, r.answers, owing');
+      calls_fit = r.calls_fit;
+      replies = r.replies;
+      blocks = omega (arith, r.blocks, listing');
+      held = λ u i q h at e. ⊎_elim (λ own. held i h (ap (λ (x : Place K V D T). slice_get x.holds i) (sym own.1) ∙ e)) (λ other. r.held u i q h other.1 e) (cases u q at);
+      locks = record {
+        threads_are = sizes.threads_are ∙ r.locks.threads_are ∙ sym threads;
+        shards_are = sizes.shards_are ∙ r.locks.shards_are;
+        desks_are = sizes.desks_are ∙ r.locks.desks_are;
+      };
+      pairs = r.pairs;
+      pairs_fit = omega (arith, r.pairs_fit, adding');
+      places = threads ∙ r.places;
+      threads_fit = omega (arith, threads, r.threads_fit);
+      shards = r.shards;
+      listed = λ u q i at e. ⊎_elim (λ own. r.listed t p i here (sym block ∙ ap (λ (x : Place K V D T). x.block) (sym own.1) ∙ e)) (λ other. r.listed u q i other.1 e) (cases u q at);
+    }
 
 module _ {K V S D T A : Type 0} (c : Core K V S D T A) (t : ℕ) (p : Place K V D T) (r : Room c) (here : slice_get (state_of c).places t ≡ Some p) where
   -- a call that isn't answered leaves room for its reply

@@ -1,6 +1,6 @@
 pub mod Kept
-pub mod Desks
-pub mod Refused
+pub mod PutBack
 pub mod Running
+pub mod Asking
 pub mod Starting
 pub mod Finding

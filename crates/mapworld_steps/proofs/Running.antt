@@ -1,54 +1,48 @@
--- Where a thread stands, by the phase that it is before.
-use Rattle.std.proofs.Common.{◌≡◌, ℕ, zero, suc, ◌<◌, ◌==◌, Bool, false, if◌then◌else◌, List, length, Some, slice_get, refl, sym, ap, ◌∙◌, arith}
+-- Where a thread stands, by the phase that it is before, and whether it can move.
+use Rattle.std.proofs.Common.{◌≡◌, ℕ, zero, suc, ◌<◌, ◌==◌, Bool, true, false, not, ◌||◌, if◌then◌else◌, Option, Some, None, is_some, is_none, refl, sym, ap, ◌∙◌, arith}
+use Rattle.std.specs.Option.{option_map}
 use Rattle.std.proofs.lemmas.Bool.{false≢true}
+use Rattle.parking_lot_world.specs.Rows.{state, call_at}
+use Rattle.mapworld_locks.specs.Views.{Shown}
+use Rattle.mapworld_locks.specs.Stands.{stand_in, stand_of}
 use Rattle.mapworld_state.specs.declared.step.Status.TheVariants as status
 use Rattle.mapworld_state.specs.declared.place.Phase.{Phase}
 use Rattle.mapworld_state.specs.declared.place.Phase.TheVariants as phase
 use Rattle.mapworld_state.specs.declared.place.Request.{Request}
-use Rattle.mapworld_state.specs.Places.{Place}
-use Rattle.mapworld_state.specs.Holds.{is_excluded}
-use Rattle.mapworld_state.specs.State.{State}
-use Rattle.mapworld_state.specs.Moves.{mode_of}
-use Rattle.mapworld_state.specs.Running.{status_of, status_at, status_before}
+use Rattle.mapworld_calls.specs.declared.reply.Answer.{Answer}
+use Rattle.mapworld_state.specs.Running.{status_before, moves_before}
 
 -- a list that isn't empty has an element
 pub some_left : (n : ℕ) → (n == 0) ≡ false → 0 < n
 some_left zero e = absurd (false≢true (sym e))
 some_left (suc n) e = omega arith
 
--- a phase is an admission of one request
-pub same_request : {K V D T : Type 0} (f : Phase K V D T) (a b : Request K V D) → f ≡ phase.Admit a → f ≡ phase.Admit b → b ≡ a
-same_request f a b is_a is_b = cc
+-- a thread that is neither between two calls nor at a lock runs, and can move
+module _ {K V D T : Type 0} (locks : Shown) (t left : ℕ) where
+  pub runs-otherwise : (f : Phase K V D T) → (f ≡ phase.Rest → ⊥) → ((r : Request K V D) → f ≡ phase.Admit r → ⊥) → ((a : Answer K V T) → f ≡ phase.Answer a → ⊥)
+      → (status.Running ≡ status_before locks t left f) × (true ≡ moves_before locks t left f)
+  runs-otherwise phase.Rest rest admit answer = absurd (rest refl)
+  runs-otherwise (phase.Admit r) rest admit answer = absurd (admit r refl)
+  runs-otherwise (phase.Find r) rest admit answer = (refl, refl)
+  runs-otherwise (phase.Grow c) rest admit answer = (refl, refl)
+  runs-otherwise (phase.Append k v) rest admit answer = (refl, refl)
+  runs-otherwise (phase.Apply k) rest admit answer = (refl, refl)
+  runs-otherwise (phase.View k d) rest admit answer = (refl, refl)
+  runs-otherwise (phase.Read d) rest admit answer = (refl, refl)
+  runs-otherwise (phase.Change k) rest admit answer = (refl, refl)
+  runs-otherwise (phase.Fill v) rest admit answer = (refl, refl)
+  runs-otherwise phase.Downgrade rest admit answer = (refl, refl)
+  runs-otherwise (phase.Release a) rest admit answer = (refl, refl)
+  runs-otherwise (phase.Answer a) rest admit answer = absurd (answer a refl)
 
--- a thread that is neither between two calls nor before an admission can move
-pub runs-otherwise : {K V D T : Type 0} (places : List (Place K V D T)) (left shard : ℕ) (f : Phase K V D T) → (f ≡ phase.Rest → ⊥) → ((r : Request K V D) → f ≡ phase.Admit r → ⊥) → status.Running ≡ status_before places left shard f
-runs-otherwise places left shard phase.Rest rest admit = absurd (rest refl)
-runs-otherwise places left shard (phase.Admit r) rest admit = absurd (admit r refl)
-runs-otherwise places left shard (phase.Find r) rest admit = refl
-runs-otherwise places left shard (phase.Grow c) rest admit = refl
-runs-otherwise places left shard (phase.Append k v) rest admit = refl
-runs-otherwise places left shard (phase.Apply k) rest admit = refl
-runs-otherwise places left shard (phase.View k d) rest admit = refl
-runs-otherwise places left shard (phase.Read d) rest admit = refl
-runs-otherwise places left shard (phase.Change k) rest admit = refl
-runs-otherwise places left shard (phase.Fill v) rest admit = refl
-runs-otherwise places left shard phase.Downgrade rest admit = refl
-runs-otherwise places left shard (phase.Release a) rest admit = refl
-runs-otherwise places left shard (phase.Answer a) rest admit = refl
+-- whether a thread is in a call at a lock
+none-mapped : {X Y : Type 0} (f : X → Y) (o : Option X) → is_none o ≡ not (is_some (option_map f o))
+none-mapped f None = refl
+none-mapped f (Some x) = refl
 
-module _ {K V S D T : Type 0} (w : State K V S D T) (t : ℕ) (p : Place K V D T) (here : slice_get w.places t ≡ Some p) where
-  -- the status is that of the phase
-  status_here : (f : Phase K V D T) → p.phase ≡ f → status_of w t ≡ status_before w.places (length p.asks) p.shard f
-  status_here f before = ap (λ o. status_at w.places o) here ∙ ap (λ z. status_before w.places (length p.asks) p.shard z) before
+pub in-no-call : (locks : Shown) (t : ℕ) → is_none (call_at (state locks.rows) t) ≡ not (is_some (stand_in locks t))
+in-no-call locks t = none-mapped stand_of (call_at (state locks.rows) t)
 
-  -- between two calls a thread is finished or can move, by whether a call is left
-  pub rests_at : (b : Bool) → p.phase ≡ phase.Rest → (length p.asks == 0) ≡ b → status_of w t ≡ (if b then status.Finished else status.Running)
-  rests_at b before none = status_here phase.Rest before ∙ ap (λ z. if z then status.Finished else status.Running) none
-
-  -- before an admission it is asleep or can move, by whether another thread's hold excludes it
-  pub waits_at : (b : Bool) (r : Request K V D) → p.phase ≡ phase.Admit r → is_excluded w.places p.shard (mode_of r) ≡ b → status_of w t ≡ (if b then status.Asleep else status.Running)
-  waits_at b r before excluded = status_here (phase.Admit r) before ∙ ap (λ z. if z then status.Asleep else status.Running) excluded
-
-  -- and otherwise it can move
-  pub goes_on_at : (p.phase ≡ phase.Rest → ⊥) → ((r : Request K V D) → p.phase ≡ phase.Admit r → ⊥) → status_of w t ≡ status.Running
-  goes_on_at rest admit = status_here p.phase refl ∙ sym (runs-otherwise w.places (length p.asks) p.shard p.phase rest admit)
+pub stand-none : {X : Type 0} (o : Option X) → is_some o ≡ false → o ≡ None
+stand-none None e = refl
+stand-none (Some x) e = absurd (false≢true (sym e))

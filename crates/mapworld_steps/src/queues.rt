@@ -1,12 +1,11 @@
 //! The steps at a shard's lock, and what ends them.
-ghost use Rattle.std.specs.Prelude.{◌≡◌, ◌<◌, true, Some, length, slice_get};
-ghost use Rattle.parking_lot_protocol.specs.declared.act.CoreAnswer.TheVariants as end;
+ghost use Rattle.std.specs.Prelude.{◌≡◌, true, Some, None, is_some, slice_get};
 ghost use Rattle.parking_lot_world.specs.Machines.{can_move, ended};
 ghost use Rattle.parking_lot_world.specs.Rows.{state};
 ghost use Rattle.mapworld_state.specs.declared.place.Phase.TheVariants as phase;
-ghost use Rattle.mapworld_state.specs.Running.{has_numbers};
+ghost use Rattle.mapworld_state.specs.Running.{has_numbers, goes_on};
 ghost use Rattle.mapworld_state.specs.Core.{state_of, Room, IsBefore, IsSoundCore, IsSlotted, MakesStep};
-ghost use Rattle.mapworld_state.specs.Steps.{Enters, Leaves, MovesLock, Looks, Replies};
+ghost use Rattle.mapworld_state.specs.Steps.{Enters, Leaves, MovesLock, IsStep};
 
 use crate::ends::answer;
 use crate::looks::find;
@@ -26,9 +25,9 @@ fn move_lock<K: Eq + Hash + Drop, V: Drop, S: BuildHasher, D: Deed<K, V> + Drop,
     requires room { Room core.old }
     requires slots { IsSlotted D.Deed S.BuildHasher S.Hasher.Hasher K.eq K.hash_input core.old }
     requires numbers { has_numbers (state_of core.old) ≡ true }
-    requires thread { step.thread < length core.old.places.items }
+    requires stands { (place : _) × (slice_get (state_of core.old).places step.thread ≡ Some place) }
     requires moves { can_move (state core.old.locks.rows) step.thread ≡ true }
-    requires goes_on { ended (state core.old.locks.rows) step.thread ≡ None }
+    requires open { ended (state core.old.locks.rows) step.thread ≡ None }
     ensures step { MakesStep MovesLock D.Deed S.BuildHasher S.Hasher.Hasher K.eq K.hash_input core.old step core.new }
     ensures room { Room core.new }
     ensures slots { IsSlotted D.Deed S.BuildHasher S.Hasher.Hasher K.eq K.hash_input core.new }
@@ -79,7 +78,6 @@ pub(crate) fn admit<
     requires room { Room core.old }
     requires slots { IsSlotted D.Deed S.BuildHasher S.Hasher.Hasher K.eq K.hash_input core.old }
     requires numbers { has_numbers (state_of core.old) ≡ true }
-    requires thread { step.thread < length core.old.places.items }
     requires before { (request : _) × IsBefore (state_of core.old).places step.thread (phase.Admit request) }
     requires moves { can_move (state core.old.locks.rows) step.thread ≡ true }
     ensures step { MakesStep IsStep D.Deed S.BuildHasher S.Hasher.Hasher K.eq K.hash_input core.old step core.new }
@@ -125,7 +123,6 @@ pub(crate) fn finish<
     requires room { Room core.old }
     requires slots { IsSlotted D.Deed S.BuildHasher S.Hasher.Hasher K.eq K.hash_input core.old }
     requires numbers { has_numbers (state_of core.old) ≡ true }
-    requires thread { step.thread < length core.old.places.items }
     requires before { (answer : _) × IsBefore (state_of core.old).places step.thread (phase.Answer answer) }
     requires moves { goes_on (state_of core.old).locks step.thread ≡ true }
     ensures step { MakesStep IsStep D.Deed S.BuildHasher S.Hasher.Hasher K.eq K.hash_input core.old step core.new }

@@ -23,12 +23,12 @@ fn ask_for_shard<K, V, D, T, A: Allocator>(
     locks: &mut ShardLocks<A>,
     thread: usize,
     shard: usize,
-    phase: &Phase<K, V, D, T>,
+    next: &Phase<K, V, D, T>,
 )
-    requires may { (request : _) → phase.now ≡ phase.Admit request → MayAsk thread shard (asks_for (mode_of request)) locks.old }
-    ensures { EntersBy thread shard phase.now locks.old locks.new }
+    requires may { (request : _) → next.now ≡ phase.Admit request → MayAsk thread shard (asks_for (mode_of request)) locks.old }
+    ensures { EntersBy thread shard next.now locks.old locks.new }
 {
-    if let Phase::Admit(request) = phase {
+    if let Phase::Admit(request) = next {
         locks.begin(thread, shard, asks_for(mode_of(request)));
     }
 }

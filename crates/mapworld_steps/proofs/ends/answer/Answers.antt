@@ -6,7 +6,8 @@ use Rattle.mapworld_state.specs.Slots.{phase_key}
 use Rattle.mapworld_state.specs.declared.place.Place.{Place as KeptPlace}
 use Rattle.mapworld_moves.proofs.Slots.{calls-ended, slots-kept}
 use Rattle.mapworld_state.specs.Core.{owed, owes, may_list, lists, may_add, adds}
-use Rattle.mapworld_moves.proofs.Rooms.{shifted, same_desks, answer_left}
+use Rattle.mapworld_locks.proofs.Sizes.{same_size}
+use Rattle.mapworld_moves.proofs.Rooms.{shifted, answer_left}
 use Rattle.mapworld_moves.proofs.Facts.{claim_at, call_fits, kept_block, stepped-by}
 use Rattle.mapworld_steps.proofs.Kept.{kept_here, stands_here, phase_here}
 use Rattle.mapworld_steps.proofs.ends.answer.Goals as goal
@@ -64,6 +65,7 @@ returns-clause-step g c =
       before = c.leave_call-answer.ensures.answer;
       start = c.in-Some.start;
       begun = c.in-Some.is;
+      out = c.requires.out;
       blocks = c.end_block.new.blocks.items;
       ended = rw c.requires.room.count at c.end_block.ensures.ended;
       after = rw (c.push_reserved.ensures.items, c.requires.room.count) (stepped-by c.args.core.now c.args.step _ _ _ c.args.core.now.tables.items _ _ _ _ c.appended-core.ensures (ap place_of c.leave_call-answer.ensures.after) refl);
@@ -85,16 +87,13 @@ returns-clause-room g c =
       count = refl;
       programs = refl;
       tables = refl;
-      guards = λ i h has. c.requires.room.guards c.args.step.thread i p h here (ap (λ (q : Place _ _ _ _). slice_get q.holds i) (sym after) ∙ has);
-      more_guards = omega arith;
-      guards_fit = omega arith;
+      held = λ i h has. c.requires.room.held c.args.step.thread i p h here (ap (λ (q : Place _ _ _ _). slice_get q.holds i) (sym after) ∙ has);
+      locks = same_size;
       unanswered = omega (arith, left.1, ap owed after, ap owes before);
       answers = omega (arith, simp length-append at (ap length c.push_reserved.ensures.items), ap owed after, ap owes before);
       replies = c.push_reserved.ensures.capacity;
       listing = omega (arith, c.end_block.ensures.len, ap may_list after, ap lists before);
       blocks = c.end_block.ensures.capacity;
-      desks = refl;
-      holding = same_desks c.args.core.now.desks.items p.holds c.leave_call-answer.new.place.holds.items (ap (λ (q : Place _ _ _ _). q.holds) after);
       adding = omega (arith, ap may_add after, ap adds before);
       pairs = c.requires.room.pairs;
       more_blocks = omega (arith, c.end_block.ensures.len);

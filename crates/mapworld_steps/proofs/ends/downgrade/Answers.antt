@@ -1,7 +1,7 @@
-use Rattle.std.proofs.Common.{◌≡◌, [], ◌∷◌, is_some, length, Some, refl, ap, ◌∙◌, arith, length-append, length-set}
+use Rattle.std.proofs.Common.{◌≡◌, [], ◌∷◌, is_some, length, Some, refl, ap, ◌∙◌, arith, length-append}
 use Rattle.std.proofs.lemmas.Option.{slice_get_within}
-use Rattle.std.proofs.lemmas.List.{length-map}
-use Rattle.lock_api_desk.specs.Desk.{DeskState}
+use Rattle.parking_lot_world.specs.declared.calls.LockCall.TheVariants as call
+use Rattle.mapworld_state.specs.declared.place.Phase.TheVariants as phase
 use Rattle.mapworld_state.specs.declared.holds.Mode.TheVariants.{Shared}
 use Rattle.mapworld_state.specs.declared.holds.Hold.{Hold}
 use Rattle.mapworld_state.specs.declared.place.Way.TheVariants as way
@@ -12,8 +12,9 @@ use Rattle.mapworld_state.specs.Slots.{phase_key}
 use Rattle.mapworld_state.proofs.HoldsTable.{first-there, only-first}
 use Rattle.mapworld_moves.proofs.Slots.{calls-counted, slots-kept}
 use Rattle.mapworld_state.specs.Core.{owes, lists, adds}
-use Rattle.mapworld_moves.proofs.Rooms.{shifted, one_turned}
-use Rattle.mapworld_steps.proofs.Desks.{desk_read, let_share}
+use Rattle.mapworld_locks.proofs.Sizes.{starts-size}
+use Rattle.mapworld_moves.proofs.Rooms.{shifted}
+use Rattle.mapworld_steps.proofs.Asking.{may-share, out-of-call}
 use Rattle.mapworld_state.specs.Places.{place_of}
 use Rattle.mapworld_moves.proofs.Facts.{claim_at, next_fits, session_counts, stepped-by}
 use Rattle.mapworld_steps.proofs.Kept.{kept_here, stands_here, phase_here, only_hold}
@@ -28,30 +29,20 @@ share_first-hold-requires g c =
     let claim = claim_at c.requires.sound c.args.step.thread p here (phase_here c.args.core.now.places.items b r c.index_mut-place.ensures.value) in
     (claim.2.hold, [], claim.2.has)
 
-pub index_mut-desk-requires : goal.index_mut-desk-requires
-index_mut-desk-requires g c =
+pub start-requires-clause-may : goal.start-requires-clause-may
+start-requires-clause-may g c =
     let b = c.requires.before in
     let r = c.index_mut-place.result.now in
     let p = place_of r in
     let here = stands_here c.args.core.now.places.items b r c.index_mut-place.ensures.value in
+    let before = phase_here c.args.core.now.places.items b r c.index_mut-place.ensures.value in
+    let claim = claim_at c.requires.sound c.args.step.thread p here before in
     let hold = c.share_first-hold.result in
     let mine = first-there p.holds hold _ c.share_first-hold.ensures.1 in
-    let listed = c.requires.sound.holds.listed c.args.step.thread 0 p hold here mine in
-    omega (arith, slice_get_within c.args.core.now.desks.items hold.shard listed.0 listed.2, c.args.core.now.desks.ok.0)
-
-pub share_hold-requires : goal.share_hold-requires
-share_hold-requires g c =
-    let b = c.requires.before in
-    let r = c.index_mut-place.result.now in
-    let p = place_of r in
-    let here = stands_here c.args.core.now.places.items b r c.index_mut-place.ensures.value in
-    let claim = claim_at c.requires.sound c.args.step.thread p here (phase_here c.args.core.now.places.items b r c.index_mut-place.ensures.value) in
-    let alone = ap (λ (z : Hold). z.mode) (only_hold p.holds c.share_first-hold.result claim.2.hold c.share_first-hold.ensures.0 c.share_first-hold.ensures.1 claim.2.has).0 ∙ claim.2.mode_is in
-    let hold = c.share_first-hold.result in
-    let mine = first-there p.holds hold _ c.share_first-hold.ensures.1 in
-    let listed = c.requires.sound.holds.listed c.args.step.thread 0 p hold here mine in
-    let there = desk_read c.args.core.now.desks.items hold.shard listed.0 c.index_mut-desk.result.now listed.2 c.index_mut-desk.ensures.value in
-    let_share c.requires.sound.holds hold.shard c.index_mut-desk.result.now there c.args.step.thread 0 p hold here mine refl alone
+    let alone = ap (λ (z : Hold). z.mode) (only_hold p.holds hold claim.2.hold c.share_first-hold.ensures.0 c.share_first-hold.ensures.1 claim.2.has).0 ∙ claim.2.mode_is in
+    let holds = c.requires.sound.holds in
+    let room = c.requires.room in
+    may-share holds _ _ room.locks c.args.step.thread p here (slice_get_within _ c.args.step.thread p here) (out-of-call holds c.args.step.thread p here phase.Downgrade before refl) 0 hold mine (room.held c.args.step.thread 0 p hold here mine) alone
 
 pub count_in-requires-clause-listed : goal.count_in-requires-clause-listed
 count_in-requires-clause-listed g c =
@@ -90,12 +81,11 @@ returns-clause-step g c =
       more = c.share_first-hold.ensures.0;
       holds = c.share_first-hold.ensures.1;
       alone = ap (λ (z : Hold). z.mode) (only_hold p.holds hold claim.2.hold c.share_first-hold.ensures.0 c.share_first-hold.ensures.1 claim.2.has).0 ∙ claim.2.mode_is;
-      desk = c.index_mut-desk.result.now;
-      at_shard = let mine = first-there p.holds hold _ c.share_first-hold.ensures.1 in let listed = c.requires.sound.holds.listed c.args.step.thread 0 p hold here mine in
-          desk_read c.args.core.now.desks.items hold.shard listed.0 c.index_mut-desk.result.now listed.2 c.index_mut-desk.ensures.value;
+      locks = c.start.new.self;
+      turns = c.start.ensures;
       blocks = c.count_in.new.blocks.items;
       counted = c.count_in.ensures.counted;
-      after = rw (c.enter.ensures, c.share_hold.ensures, c.share_first-hold.ensures.2) (stepped-by c.args.core.now c.args.step _ _ _ c.args.core.now.tables.items _ _ _ _ c.appended-core.ensures refl refl);
+      after = rw (c.enter.ensures, c.share_first-hold.ensures.2) (stepped-by c.args.core.now c.args.step _ _ _ c.args.core.now.tables.items _ _ _ _ c.appended-core.ensures refl refl);
     }
 
 pub returns-clause-room : goal.returns-clause-room
@@ -107,8 +97,6 @@ returns-clause-room g c =
     let before = phase_here c.args.core.now.places.items b r c.index_mut-place.ensures.value in
     let hold = c.share_first-hold.result in
     let mine = first-there p.holds hold _ c.share_first-hold.ensures.1 in
-    let listed = c.requires.sound.holds.listed c.args.step.thread 0 p hold here mine in
-    let there = desk_read c.args.core.now.desks.items hold.shard listed.0 c.index_mut-desk.result.now listed.2 c.index_mut-desk.ensures.value in
     let shared : Hold = record hold { mode = Shared } in
     let claim = claim_at c.requires.sound c.args.step.thread p here before in
     let more = c.share_first-hold.ensures.0 in
@@ -123,18 +111,13 @@ returns-clause-room g c =
       count = refl;
       programs = refl;
       tables = refl;
-      guards = λ i h has. let same = only-first c.share_first-hold.new.holds.items shared i h now has in let was = c.requires.room.guards c.args.step.thread 0 p hold here mine in omega (arith, was, ap (λ (z : Hold). z.guard) same.1);
-      more_guards = omega arith;
-      guards_fit = omega arith;
+      held = λ i h has. let same = only-first c.share_first-hold.new.holds.items shared i h now has in let was = c.requires.room.held c.args.step.thread 0 p hold here mine in omega (arith, was, ap (λ (z : Hold). z.shard) same.1);
+      locks = starts-size _ _ c.args.step.thread hold.shard call.Downgrade c.args.step.fair c.start.ensures;
       unanswered = omega (arith, ap owes c.enter.ensures, ap owes before);
       answers = omega (arith, ap owes c.enter.ensures, ap owes before);
       replies = refl;
       listing = omega (arith, ap lists c.enter.ensures, ap lists before, c.count_in.ensures.len);
       blocks = c.count_in.ensures.capacity;
-      desks = length-set c.args.core.now.desks.items hold.shard c.share_hold.new.desk;
-      holding = one_turned c.args.core.now.desks.items hold.shard c.index_mut-desk.result.now there c.share_hold.new.desk hold refl after p (c.share_first-hold.ensures.1 ∙ ap (λ hs. hold ∷ hs) none) shared now refl
-          (ap (λ (z : DeskState (Unit {0})). length z.guards) c.share_hold.ensures ∙ length-map c.index_mut-desk.result.now.guards _)
-          (ap (λ (z : DeskState (Unit {0})). z.room) c.share_hold.ensures) (ap (λ (z : DeskState (Unit {0})). z.limit) c.share_hold.ensures);
       adding = omega (arith, ap adds c.enter.ensures, ap adds before);
       pairs = c.requires.room.pairs;
       more_blocks = omega (arith, c.count_in.ensures.len);

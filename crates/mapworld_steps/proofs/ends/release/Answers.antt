@@ -1,14 +1,16 @@
-use Rattle.std.proofs.Common.{◌≡◌, [], ◌∷◌, length, None, refl, sym, ap, ◌∙◌, arith, length-append, length-set}
+use Rattle.std.proofs.Common.{◌≡◌, [], ◌∷◌, length, None, refl, sym, ap, ◌∙◌, arith, length-append}
 use Rattle.std.proofs.lemmas.Option.{none-some, slice_get_within}
+use Rattle.mapworld_state.specs.declared.place.Phase.TheVariants as phase
 use Rattle.mapworld_state.specs.Places.{place_of}
 use Rattle.mapworld_state.specs.Core.{owes, lists, adds}
 use Rattle.mapworld_state.proofs.HoldsTable.{first-there, none-there}
 use Rattle.std.proofs.lemmas.List.{map-set}
 use Rattle.mapworld_state.specs.Slots.{phase_key}
-use Rattle.mapworld_moves.proofs.Rooms.{shifted, one_ended}
+use Rattle.mapworld_locks.proofs.Sizes.{starts-size}
+use Rattle.mapworld_moves.proofs.Rooms.{shifted}
 use Rattle.mapworld_moves.proofs.Facts.{claim_at, next_fits, release_listed, stepped-by}
 use Rattle.mapworld_moves.proofs.Slots.{calls-counted, slots-kept}
-use Rattle.mapworld_steps.proofs.Desks.{desk_read, given_up, fewer}
+use Rattle.mapworld_steps.proofs.Asking.{may-leave, given-gives, out-of-call}
 use Rattle.mapworld_steps.proofs.Kept.{kept_here, stands_here, phase_here, only_hold}
 use Rattle.mapworld_steps.proofs.ends.release.Goals as goal
 
@@ -21,28 +23,21 @@ take_first-hold-requires g c =
     let claim = claim_at c.requires.sound c.args.step.thread p here (phase_here c.args.core.now.places.items b r c.index_mut-place.ensures.value) in
     (claim.1, [], claim.3)
 
-pub index_mut-desk-requires : goal.index_mut-desk-requires
-index_mut-desk-requires g c =
+pub start-requires-clause-may : goal.start-requires-clause-may
+start-requires-clause-may g c =
     let b = c.requires.before.1 in
     let r = c.index_mut-place.result.now in
     let p = place_of r in
     let here = stands_here c.args.core.now.places.items b r c.index_mut-place.ensures.value in
+    let before = phase_here c.args.core.now.places.items b r c.index_mut-place.ensures.value in
     let hold = c.take_first-hold.result in
     let mine = first-there p.holds hold _ c.take_first-hold.ensures in
-    let listed = c.requires.sound.holds.listed c.args.step.thread 0 p hold here mine in
-    omega (arith, slice_get_within c.args.core.now.desks.items hold.shard listed.0 listed.2, c.args.core.now.desks.ok.0)
+    let holds = c.requires.sound.holds in
+    let room = c.requires.room in
+    rw c.gives_up-call.ensures (may-leave holds _ _ room.locks c.args.step.thread p here (slice_get_within _ c.args.step.thread p here) (out-of-call holds c.args.step.thread p here (phase.Release c.requires.before.0) before refl) 0 hold mine (room.held c.args.step.thread 0 p hold here mine))
 
-pub end_hold-requires : goal.end_hold-requires
-end_hold-requires g c =
-    let b = c.requires.before.1 in
-    let r = c.index_mut-place.result.now in
-    let p = place_of r in
-    let here = stands_here c.args.core.now.places.items b r c.index_mut-place.ensures.value in
-    let hold = c.take_first-hold.result in
-    let mine = first-there p.holds hold _ c.take_first-hold.ensures in
-    let listed = c.requires.sound.holds.listed c.args.step.thread 0 p hold here mine in
-    let there = desk_read c.args.core.now.desks.items hold.shard listed.0 c.index_mut-desk.result.now listed.2 c.index_mut-desk.ensures.value in
-    given_up c.requires.sound.holds hold.shard c.index_mut-desk.result.now there c.args.step.thread 0 p hold here mine refl
+pub start-requires-clause-gives : goal.start-requires-clause-gives
+start-requires-clause-gives g c = rw c.gives_up-call.ensures (given-gives c.take_first-hold.result.mode)
 
 pub unreachable-requires : goal.unreachable-requires
 unreachable-requires g c =
@@ -76,7 +71,6 @@ returns-clause-step g c =
     let here = stands_here c.args.core.now.places.items b r c.index_mut-place.ensures.value in
     let before = sym c.replace.ensures.value ∙ c.in-Release.is in
     let hold = c.take_first-hold.result in
-    let mine = first-there p.holds hold _ c.take_first-hold.ensures in
     record {
       place = p;
       stands = here;
@@ -85,12 +79,11 @@ returns-clause-step g c =
       hold = hold;
       more = c.take_first-hold.new.holds.items;
       holds = c.take_first-hold.ensures;
-      desk = c.index_mut-desk.result.now;
-      at_shard = let listed = c.requires.sound.holds.listed c.args.step.thread 0 p hold here mine in
-          desk_read c.args.core.now.desks.items hold.shard listed.0 c.index_mut-desk.result.now listed.2 c.index_mut-desk.ensures.value;
+      locks = c.start.new.self;
+      gives = rw c.gives_up-call.ensures at c.start.ensures;
       blocks = c.count_in.new.blocks.items;
       counted = rw c.release_counts-counts.ensures at c.count_in.ensures.counted;
-      after = rw (c.enter.ensures, c.end_hold.ensures) (stepped-by c.args.core.now c.args.step _ _ _ c.args.core.now.tables.items _ _ _ _ c.appended-core.ensures refl refl);
+      after = rw c.enter.ensures (stepped-by c.args.core.now c.args.step _ _ _ c.args.core.now.tables.items _ _ _ _ c.appended-core.ensures refl refl);
     }
 
 pub returns-clause-room : goal.returns-clause-room
@@ -104,9 +97,6 @@ returns-clause-room g c =
     let hold = c.take_first-hold.result in
     let more = c.take_first-hold.new.holds.items in
     let none : more ≡ [] = (only_hold p.holds hold claim.1 more c.take_first-hold.ensures claim.3).1 in
-    let mine = first-there p.holds hold more c.take_first-hold.ensures in
-    let listed = c.requires.sound.holds.listed c.args.step.thread 0 p hold here mine in
-    let there = desk_read c.args.core.now.desks.items hold.shard listed.0 c.index_mut-desk.result.now listed.2 c.index_mut-desk.ensures.value in
     let after = record p { holds = more; guard = None; phase = c.enter.new.phase } in
     shifted _ _ c.args.step.thread p after c.requires.room (record {
       here = here;
@@ -116,17 +106,13 @@ returns-clause-room g c =
       count = refl;
       programs = refl;
       tables = refl;
-      guards = λ i h has. absurd (none-there more i h none has);
-      more_guards = omega arith;
-      guards_fit = omega arith;
+      held = λ i h has. absurd (none-there more i h none has);
+      locks = starts-size _ _ c.args.step.thread hold.shard c.gives_up-call.result c.args.step.fair c.start.ensures;
       unanswered = omega (arith, ap owes c.enter.ensures, ap owes before);
       answers = omega (arith, ap owes c.enter.ensures, ap owes before);
       replies = refl;
       listing = omega (arith, ap lists c.enter.ensures, ap lists before, c.count_in.ensures.len);
       blocks = c.count_in.ensures.capacity;
-      desks = length-set c.args.core.now.desks.items hold.shard c.end_hold.new.desk;
-      holding = one_ended c.args.core.now.desks.items hold.shard c.index_mut-desk.result.now there c.end_hold.new.desk hold refl after p (c.take_first-hold.ensures ∙ ap (λ hs. hold ∷ hs) none) none c.end_hold.ensures
-          (fewer c.requires.sound.holds hold.shard c.index_mut-desk.result.now there c.args.step.thread 0 p hold here mine refl);
       adding = omega (arith, ap adds c.enter.ensures, ap adds before);
       pairs = c.requires.room.pairs;
       more_blocks = omega (arith, c.count_in.ensures.len);

@@ -11,7 +11,8 @@ use Rattle.mapworld_state.specs.World.{setup_of}
 use Rattle.mapworld_state.proofs.Views.{view-at}
 use Rattle.std.proofs.lemmas.List.{map-set, length-map}
 use Rattle.mapworld_moves.proofs.Slots.{calls-listed, slots-same}
-use Rattle.mapworld_moves.proofs.Rooms.{shifted, same_desks, block_left}
+use Rattle.mapworld_moves.proofs.Rooms.{shifted, block_left}
+use Rattle.mapworld_locks.proofs.Sizes.{same_size}
 use Rattle.mapworld_state.specs.Places.{place_of}
 use Rattle.mapworld_moves.proofs.Facts.{claim_at, way_fits, stepped-by}
 use Rattle.mapworld_steps.proofs.Kept.{kept_here, stands_here, phase_here, shard-read}
@@ -118,16 +119,13 @@ returns-clause-room g c =
       count = refl;
       programs = refl;
       tables = refl;
-      guards = λ i h has. c.requires.room.guards c.args.step.thread i p h here has;
-      more_guards = omega arith;
-      guards_fit = omega arith;
+      held = λ i h has. c.requires.room.held c.args.step.thread i p h here has;
+      locks = same_size;
       unanswered = omega (arith, weights.0, ap owes before);
       answers = omega (arith, weights.0, ap owes before);
       replies = refl;
       listing = omega (arith, listing, ap lists before);
       blocks = c.list_block.ensures.capacity;
-      desks = refl;
-      holding = same_desks c.args.core.now.desks.items p.holds p.holds refl;
       adding = omega (arith, weights.1, ap adds before);
       pairs = c.requires.room.pairs;
       more_blocks = none_lost bs st at bs' c.found_done-done.result listed;

@@ -10,7 +10,8 @@ use Rattle.mapworld_state.specs.Moves.{request_of, lent_way, found_phase, found_
 use Rattle.mapworld_state.proofs.Views.{view-at}
 use Rattle.mapworld_moves.specs.declared.blocks.Started.{Started}
 use Rattle.mapworld_moves.specs.Listing.{AddsBlock}
-use Rattle.mapworld_moves.proofs.Rooms.{shifted, same_desks, block_left}
+use Rattle.mapworld_moves.proofs.Rooms.{shifted, block_left}
+use Rattle.mapworld_locks.proofs.Sizes.{same_size}
 use Rattle.mapworld_moves.proofs.Facts.{claim_at, kept-within, kept-shard, stepped-by}
 use Rattle.mapworld_moves.proofs.Slots.{calls-same, calls-listed, slots-kept, slots-alone}
 use Rattle.mapworld_moves.proofs.Slotted.{hashes-alike}
@@ -18,7 +19,7 @@ use Rattle.mapworld_moves.proofs.Weights.{found_weighs, grown_lists, lists_block
 use Rattle.mapworld_state.specs.World.{setup_of}
 use Rattle.mapworld_steps.proofs.Kept.{kept_here, stands_here, phase_here}
 use Rattle.mapworld_steps.proofs.Finding.{stands-as, found-key, grown-block}
-use Rattle.mapworld_steps.proofs.Refused.{put_back}
+use Rattle.mapworld_steps.proofs.PutBack.{put_back}
 use Rattle.mapworld_steps.proofs.looks.grow.Goals as goal
 
 pub unreachable-requires : goal.unreachable-requires
@@ -131,16 +132,13 @@ returns-clause-room g c =
       count = refl;
       programs = refl;
       tables = length-set core.tables.items p.shard c.grow.new.shard;
-      guards = λ i h has. c.requires.room.guards c.args.step.thread i p h here has;
-      more_guards = omega arith;
-      guards_fit = omega arith;
+      held = λ i h has. c.requires.room.held c.args.step.thread i p h here has;
+      locks = same_size;
       unanswered = omega (arith, weights.0, ap owes before);
       answers = omega (arith, weights.0, ap owes before);
       replies = refl;
       listing = omega (arith, listing.0, listing.1, ap lists before);
       blocks = c.list_block.ensures.capacity;
-      desks = refl;
-      holding = same_desks core.desks.items p.holds p.holds refl;
       adding = omega (arith, weights.1, ap adds before);
       pairs = c.requires.room.pairs ∙ (sym many ∙ sym (ap (λ ts. length (flat_map (λ (t : ShardPairs _ _). t.items) ts)) seen));
       more_blocks = omega (arith, listing.0);
@@ -216,16 +214,13 @@ returns-in_default-grow-clause-room g c =
       count = refl;
       programs = refl;
       tables = length-set core.tables.items p.shard c.grow.new.shard;
-      guards = λ i h has. c.requires.room.guards c.args.step.thread i p h here has;
-      more_guards = omega arith;
-      guards_fit = omega arith;
+      held = λ i h has. c.requires.room.held c.args.step.thread i p h here has;
+      locks = same_size;
       unanswered = omega (arith, ap owes c.enter.ensures, ap owes before);
       answers = omega (arith, ap owes c.enter.ensures, ap owes before);
       replies = refl;
       listing = omega (arith, ap lists c.enter.ensures, ap lists before);
       blocks = refl;
-      desks = refl;
-      holding = same_desks core.desks.items p.holds p.holds refl;
       adding = omega (arith, ap adds c.enter.ensures, ap adds before);
       pairs = c.requires.room.pairs ∙ sym (ap (λ ts. length (flat_map (λ (t : ShardPairs _ _). t.items) (map shard_pairs ts))) put);
       more_blocks = omega arith;

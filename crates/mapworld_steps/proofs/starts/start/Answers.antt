@@ -2,11 +2,13 @@ use Rattle.std.proofs.Common.{◌+◌, length, Some, refl, sym, ap, ◌∙◌, a
 use Rattle.mapworld_state.specs.Core.{owes, lists, adds}
 use Rattle.std.proofs.lemmas.List.{map-set, length-map}
 use Rattle.mapworld_state.specs.Shards.{shard_pairs}
-use Rattle.mapworld_moves.proofs.Rooms.{shifted, same_desks}
+use Rattle.mapworld_locks.proofs.Sizes.{same_size}
+use Rattle.mapworld_moves.proofs.Rooms.{shifted}
 use Rattle.mapworld_state.specs.Places.{place_of}
 use Rattle.mapworld_moves.proofs.Facts.{claim_at, next_fits, session_counts, stepped-by}
 use Rattle.mapworld_steps.proofs.Kept.{kept_here, stands_here, phase_here}
 use Rattle.mapworld_steps.proofs.Starting.{started-slots}
+use Rattle.mapworld_steps.proofs.Asking.{enters-size}
 use Rattle.mapworld_state.specs.Moves.{start_guard, start_phase}
 use Rattle.mapworld_moves.proofs.Slots.{calls-counted}
 use Rattle.mapworld_state.proofs.Owning.{starts-own}
@@ -42,6 +44,8 @@ returns-clause-step g c =
       asked = c.in-Some.ensures.items;
       blocks = c.count_in.new.blocks.items;
       counted = rw (c.start_counts-counts.ensures, c.start_call-phase.ensures, c.replace.ensures.value) at c.count_in.ensures.counted;
+      locks = c.ask_for_shard.new.locks;
+      enters = rw (c.start_shard-place.ensures, c.len-shards.ensures, c.args.core.now.tables.ok.0, sym (length-map c.args.core.now.tables.items shard_pairs), c.start_call-phase.ensures, c.replace.ensures.value) at c.ask_for_shard.ensures;
       after = stepped-by c.args.core.now c.args.step _ _ _ c.args.core.now.tables.items _ _ _ _ c.appended-core.ensures
           (rw (c.is_last-place.ensures, c.start_shard-place.ensures, c.len-shards.ensures, c.args.core.now.tables.ok.0, sym (length-map c.args.core.now.tables.items shard_pairs), c.enter.ensures, c.start_call-phase.ensures, c.replace.ensures.value, c.requires.room.count) refl) refl;
     }
@@ -70,16 +74,13 @@ returns-clause-room g c =
       count = refl;
       programs = refl;
       tables = refl;
-      guards = λ i h has. c.requires.room.guards c.args.step.thread i p h here has;
-      more_guards = omega arith;
-      guards_fit = omega arith;
+      held = λ i h has. c.requires.room.held c.args.step.thread i p h here has;
+      locks = enters-size _ _ c.args.step.thread c.start_shard-place.result c.start_call-phase.result.0 c.ask_for_shard.ensures;
       unanswered = omega (arith, asks, weights.0, ap owes before);
       answers = omega (arith, asks, weights.0, ap owes before);
       replies = refl;
       listing = omega (arith, asks, weights.1, ap lists before, c.count_in.ensures.len);
       blocks = c.count_in.ensures.capacity;
-      desks = refl;
-      holding = same_desks c.args.core.now.desks.items p.holds p.holds refl;
       adding = omega (arith, asks, weights.2, ap adds before);
       pairs = c.requires.room.pairs;
       more_blocks = omega (arith, c.count_in.ensures.len);

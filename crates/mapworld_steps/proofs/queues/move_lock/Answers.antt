@@ -1,0 +1,46 @@
+use Rattle.std.proofs.Common.{◌+◌, length, ◌++◌, ◌∷◌, [], refl, sym, ap, ap₂, ◌∙◌, arith, length-append}
+use Rattle.mapworld_locks.proofs.Sizes.{moves-size}
+use Rattle.mapworld_state.specs.Core.{state_of}
+use Rattle.mapworld_moves.proofs.Rooms.{shifted}
+use Rattle.mapworld_steps.proofs.PutBack.{put_there}
+use Rattle.mapworld_steps.proofs.queues.move_lock.Goals as goal
+
+pub returns-clause-step : goal.returns-clause-step
+returns-clause-step g c =
+    let w = state_of c.args.core.now in
+    let t = c.args.step.thread in
+    let p = c.requires.stands.0 in
+    record {
+      place = p;
+      stands = c.requires.stands.1;
+      locks = c.step.new.self;
+      moves = c.step.ensures;
+      after = ap₂ (λ ss ps. record w { steps = ss; places = ps; locks = c.step.new.self }) c.appended-core.ensures (sym (put_there w.places t p c.requires.stands.1));
+    }
+
+pub returns-clause-room : goal.returns-clause-room
+returns-clause-room g c =
+    let w = state_of c.args.core.now in
+    let t = c.args.step.thread in
+    let p = c.requires.stands.0 in
+    let here = c.requires.stands.1 in
+    shifted _ _ t p p c.requires.room (record {
+      here = here;
+      places = sym (put_there w.places t p here);
+      numbers = c.requires.numbers;
+      steps = simp length-append at (ap length c.appended-core.ensures);
+      count = refl;
+      programs = refl;
+      tables = refl;
+      held = λ i h has. c.requires.room.held t i p h here has;
+      locks = moves-size _ _ t c.args.step.fair c.step.ensures;
+      unanswered = refl;
+      answers = refl;
+      replies = refl;
+      listing = omega arith;
+      blocks = refl;
+      adding = omega arith;
+      pairs = c.requires.room.pairs;
+      more_blocks = omega arith;
+      listed = λ i e. c.requires.room.listed t p i here e;
+    })
