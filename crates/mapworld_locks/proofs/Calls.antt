@@ -19,7 +19,7 @@ use Rattle.parking_lot_world.specs.Machines.{Became, BecameInside, IsStepped}
 use Rattle.parking_lot_world.specs.RowActs.{hears, off_list, settled}
 use Rattle.parking_lot_world.specs.Rows.{State, call_at}
 use Rattle.parking_lot_world.specs.Stances.{core_act, core_next}
-use Rattle.mapworld_locks.specs.Fits.{core_aim}
+use Rattle.mapworld_locks.specs.Stands.{core_aim}
 use Rattle.mapworld_locks.proofs.Aiming.{next_aim}
 
 abbrev pub call_of : List (Option Call) → ℕ → Option Call
@@ -53,7 +53,7 @@ next_proper (Core.Rw c) told p = λ e. p (ap (λ q. next_phase q told) e)
 next_proper (Core.Mutex c) told p = tt
 
 next_keeps : (k : Core) (told : ActResult) → IsProper (core_next k told) → core_aim (core_next k told) ≡ core_aim k
-next_keeps (Core.Rw c) told p = ap Some (next_aim c.phase told p)
+next_keeps (Core.Rw c) told p = next_aim c.phase told p
 next_keeps (Core.Mutex c) told p = refl
 
 pub follows_told : (c d : Call) (told : ActResult) → d.lock ≡ c.lock → d.others ≡ c.others → d.core ≡ core_next c.core told → Follows c d

@@ -3,8 +3,8 @@ use Rattle.std.proofs.Common.{◌≡◌, ◌≢◌, ℕ, zero, suc, ◌+◌, ◌
 use Rattle.std.proofs.lemmas.Bool.{cases_eq, eq-eqb, ne_eqb, cond-true, cond-false}
 use Rattle.lock_api_desk.specs.declared.mode.Mode.{Mode}
 use Rattle.lock_api_desk.specs.Guards.{Guard}
-use Rattle.mapworld_locks.specs.Seats.{AreHalfSeated, IsSeat, guards_of, is_of}
-use Rattle.mapworld_locks.proofs.Seating.{each_guard}
+use Rattle.mapworld_locks.specs.Seats.{AreHalfSeated, guards_of, is_of, seat_of}
+use Rattle.mapworld_locks.proofs.Seating.{each_mode}
 
 abbrev pub weigh : (Guard → ℕ) → List Guard → ℕ
 weigh w [] = 0
@@ -68,9 +68,9 @@ few_of modes guards seats v = elim (seats v) [
   | inr seat ↦ by (modes v) seat
 ]
   where
-    by : (o : Option Mode) → IsSeat v o (guards_of v guards) → weigh one (guards_of v guards) ≤ 1
+    by : (o : Option Mode) → guards_of v guards ≡ seat_of v o → weigh one (guards_of v guards) ≤ 1
     by None none = omega (arith, ap (weigh one) none)
-    by (Some m) (n, is) = omega (arith, ap (weigh one) is)
+    by (Some m) is = omega (arith, ap (weigh one) is)
 
 -- Where a party has none, there is room for its guard.
 pub room_for : (modes : ℕ → Option Mode) (guards : List Guard) (n t : ℕ) → AreHalfSeated modes guards → ((v : ℕ) (m : Mode) → modes v ≡ Some m → v < n) → t < n → guards_of t guards ≡ [] → length guards < n
@@ -78,6 +78,6 @@ room_for modes guards n t seats low t_low none =
     omega (
       arith,
       ones guards,
-      weigh_parts one n guards (λ k g e. low g.party g.mode (each_guard modes guards seats k g e).0),
+      weigh_parts one n guards (λ k g e. low g.party g.mode (each_mode modes guards seats k g e)),
       less_than (λ v. weigh one (guards_of v guards)) t n t_low (ap (weigh one) none) (few_of modes guards seats),
     )

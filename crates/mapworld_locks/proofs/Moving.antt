@@ -1,25 +1,19 @@
 -- The guard of a thread that makes a step moves as the thread does, and the desk doesn't refuse it.
-use Rattle.std.proofs.Common.{◌≡◌, ◌≢◌, ℕ, ◌<◌, ◌≤◌, inl, inr, ◌⊎◌, List, [], Option, Some, None, refl, sym, ◌∙◌, subst, arith}
+use Rattle.std.proofs.Common.{◌≡◌, ◌≢◌, ℕ, ◌<◌, ◌≤◌, inl, inr, ◌⊎◌, List, [], Option, Some, None, refl, sym, ap, ◌∙◌, subst, arith}
 use Rattle.std.proofs.lemmas.Bool.{cases_eq}
 use Rattle.lock_api_desk.specs.declared.mode.Mode.{Mode}
 use Rattle.lock_api_desk.specs.declared.mode.Mode.TheVariants as held
 use Rattle.lock_api_desk.specs.Guards.{Guard, guard_of, holds, is_held}
 use Rattle.lock_api_desk.specs.Desk.{DeskState, admitted, released, turned}
 use Rattle.lock_api_desk.proofs.Refusing.{not_refused}
-use Rattle.mapworld_locks.specs.declared.ask.Ask.{Ask}
-use Rattle.mapworld_locks.specs.Moves.{CanSeat, MayAdmit, MayMove, own_moved}
-use Rattle.mapworld_locks.specs.Seats.{AreHalfSeated, AreSeated, GoTogether, IsNameOf, IsSeat, guards_of, held_guard}
-use Rattle.mapworld_locks.specs.Views.{ask_at}
-use Rattle.mapworld_locks.proofs.Admitting
+use Rattle.mapworld_locks.specs.Moves.{CanSeat, MayMove, own_moved}
+use Rattle.mapworld_locks.specs.Seats.{AreHalfSeated, AreSeated, GoTogether, guards_of, held_guard, seat_of}
+use Rattle.mapworld_locks.proofs.Admitting.{IsSeated, may_come, seat_more}
 use Rattle.mapworld_locks.proofs.Seating
 
--- The desk of a shard before a step of thread t, which has asked for it, and what is known of holds before and after the step.
-pub record Moves (before after : ℕ → Option Mode) (asks : List (Option Ask)) (shard threads t : ℕ) (a : Ask) (desk : DeskState (Unit {0})) : Type 0 where
+-- The desk of a shard before a step of thread t, and what is known of holds before and after the step.
+pub record Moves (before after : ℕ → Option Mode) (threads t : ℕ) (desk : DeskState (Unit {0})) : Type 0 where
   pub seated : AreSeated before desk.guards
-  pub named : (v : ℕ) (b : Ask) → ask_at asks v ≡ Some b → b.shard ≡ shard → IsNameOf b.guard v desk.guards
-  pub apart : (v w : ℕ) (b c : Ask) → ask_at asks v ≡ Some b → ask_at asks w ≡ Some c → b.shard ≡ c.shard → b.guard ≡ c.guard → v ≡ w
-  pub asked : ask_at asks t ≡ Some a
-  pub here : a.shard ≡ shard
   pub together : GoTogether after
   pub low : (v : ℕ) (mode : Mode) → after v ≡ Some mode → v < threads
   pub room : threads ≤ desk.room
@@ -30,123 +24,106 @@ pub record Moves (before after : ℕ → Option Mode) (asks : List (Option Ask))
   pub is_plain : after t ≢ Some held.Upgradable
 
 -- What is left: all that hold can be seated, the thread's own guard is as it should be, and so are those of whom nothing has changed.
-pub record Moved (before after : ℕ → Option Mode) (asks : List (Option Ask)) (shard threads t : ℕ) (number : ℕ) (old new : DeskState (Unit {0})) : Type 0 where
-  pub may : MayMove number t (before t) (after t) old
-  pub can : CanSeat after asks shard threads new
-  pub own : IsSeat t (after t) (guards_of t new.guards)
-  pub others : (v : ℕ) → v ≢ t → after v ≡ before v → IsSeat v (after v) (guards_of v new.guards)
+pub record Moved (before after : ℕ → Option Mode) (threads t : ℕ) (old new : DeskState (Unit {0})) : Type 0 where
+  pub may : MayMove t (before t) (after t) old
+  pub can : CanSeat after threads new
+  pub own : IsSeated after new.guards t
+  pub others : (v : ℕ) → v ≢ t → after v ≡ before v → IsSeated after new.guards v
 
-module _ (before after : ℕ → Option Mode) (asks : List (Option Ask)) (shard threads t : ℕ) (a : Ask) (desk : DeskState (Unit {0})) (m : Moves before after asks shard threads t a desk) where
-  names : IsNameOf a.guard t desk.guards
-  names = m.named t a m.asked m.here
+module _ (before after : ℕ → Option Mode) (threads t : ℕ) (desk : DeskState (Unit {0})) (m : Moves before after threads t desk) where
+  names : Seating.IsNamed t desk.guards
+  names = Seating.named before desk.guards (Seating.half before desk.guards m.seated) t
 
-  other_seat : (guards : List Guard) → ((v : ℕ) → v ≢ t → guards_of v guards ≡ guards_of v desk.guards) → (v : ℕ) → v ≢ t → after v ≡ before v → IsSeat v (after v) (guards_of v guards)
-  other_seat guards same v ne e = subst (IsSeat v (after v)) (sym (same v ne)) (subst (λ (o : Option Mode). IsSeat v o (guards_of v desk.guards)) (sym e) (m.seated v))
+  -- the guards of all others stay
+  abbrev OthersStay : List Guard → Type 0
+  OthersStay guards = (v : ℕ) → v ≢ t → guards_of v guards ≡ guards_of v desk.guards
 
-  half : (guards : List Guard) → ((v : ℕ) → v ≢ t → guards_of v guards ≡ guards_of v desk.guards) → (guards_of t guards ≡ []) ⊎ IsSeat t (after t) (guards_of t guards) → AreHalfSeated after guards
+  other_seat : (guards : List Guard) → OthersStay guards → (v : ℕ) → v ≢ t → after v ≡ before v → IsSeated after guards v
+  other_seat guards same v ne e = same v ne ∙ m.seated v ∙ ap (seat_of v) (sym e)
+
+  half : (guards : List Guard) → OthersStay guards → (guards_of t guards ≡ []) ⊎ IsSeated after guards t → AreHalfSeated after guards
   half guards same own v = elim (cases_eq v t) [
-    | inl e ↦ subst (λ (n : ℕ). (guards_of n guards ≡ []) ⊎ IsSeat n (after n) (guards_of n guards)) (sym e) own
+    | inl e ↦ subst (λ (n : ℕ). (guards_of n guards ≡ []) ⊎ IsSeated after guards n) (sym e) own
     | inr ne ↦ elim (m.others v ne) [
       | inl kept ↦ inr (other_seat guards same v ne kept)
-      | inr none ↦ inl (same v ne ∙ subst (λ (o : Option Mode). IsSeat v o (guards_of v desk.guards)) none (m.seated v))
+      | inr none ↦ inl (same v ne ∙ m.seated v ∙ ap (seat_of v) none)
     ]
   ]
 
-  can : (new : DeskState (Unit {0})) → AreHalfSeated after new.guards → ((v : ℕ) (b : Ask) → ask_at asks v ≡ Some b → b.shard ≡ shard → IsNameOf b.guard v new.guards) → new.room ≡ desk.room → new.limit ≡ desk.limit
-      → CanSeat after asks shard threads new
-  can new seats named room limit = record {
+  can : (new : DeskState (Unit {0})) → AreHalfSeated after new.guards → new.room ≡ desk.room → new.limit ≡ desk.limit → CanSeat after threads new
+  can new seats room limit = record {
     half = seats;
     together = m.together;
     low = m.low;
     room = omega (arith, m.room, room);
     limit = omega (arith, m.limit, limit);
-    named = named;
-    apart = m.apart;
   }
 
-  seat_was : (o : Option Mode) → before t ≡ o → IsSeat t o (guards_of t desk.guards)
-  seat_was o e = subst (λ (x : Option Mode). IsSeat t x (guards_of t desk.guards)) e (m.seated t)
+  -- it may move as its holds say
+  may : (o p : Option Mode) → before t ≡ o → after t ≡ p → MayMove t o p desk → MayMove t (before t) (after t) desk
+  may o p was is h = subst (λ (x : Option Mode). MayMove t x (after t) desk) (sym was) (subst (λ (y : Option Mode). MayMove t o y desk) (sym is) h)
 
-  nobody_else : (v : ℕ) → v ≢ t → guards_of v desk.guards ≡ guards_of v desk.guards
+  nobody_else : OthersStay desk.guards
   nobody_else v ne = refl
 
   -- it stays as it is
-  stays : (o : Option Mode) → before t ≡ o → after t ≡ o → MayMove a.guard t (before t) (after t) desk → Moved before after asks shard threads t a.guard desk desk
-  stays o was is may =
-      let own : IsSeat t (after t) (guards_of t desk.guards) = subst (λ (x : Option Mode). IsSeat t x (guards_of t desk.guards)) (sym is) (seat_was o was) in
+  stays : (o : Option Mode) → before t ≡ o → after t ≡ o → MayMove t o o desk → Moved before after threads t desk desk
+  stays o was is h =
+      let own : IsSeated after desk.guards t = m.seated t ∙ ap (seat_of t) (was ∙ sym is) in
       record {
-        may = may;
-        can = can desk (half desk.guards nobody_else (inr own)) m.named refl refl;
+        may = may o o was is h;
+        can = can desk (half desk.guards nobody_else (inr own)) refl refl;
         own = own;
         others = other_seat desk.guards nobody_else;
       }
 
-  comes : (mode : Mode) → before t ≡ None → after t ≡ Some mode → Moved before after asks shard threads t a.guard desk (admitted mode t a.guard desk) × MayAdmit a.guard mode desk
+  comes : (mode : Mode) → before t ≡ None → after t ≡ Some mode → Moved before after threads t desk (admitted mode t t desk)
   comes mode was is =
-      let none = seat_was None was in
-      let seats = can desk (half desk.guards nobody_else (inl none)) m.named refl refl in
-      let new = Admitting.is_new after asks shard threads desk seats t mode a is m.asked m.here none in
-      let granted = Admitting.is_granted after asks shard threads desk seats t mode a is m.asked m.here none in
-      let may : MayAdmit a.guard mode desk = record {
-        new = new;
-        granted = granted;
-        room = omega (arith, Admitting.has_room after asks shard threads desk seats t mode a is m.asked m.here none, m.room);
-      } in (
-        record {
-          may = subst (λ (o : Option Mode). MayMove a.guard t o (after t) desk) (sym was) (subst (λ (o : Option Mode). MayMove a.guard t None o desk) (sym is) may);
-          can = Admitting.seat_more after asks shard threads desk seats t mode a is m.asked m.here none;
-          own = subst (λ (o : Option Mode). IsSeat t o (guards_of t (Seating.with_guard a.guard mode t desk.guards))) (sym is) (a.guard, Seating.first_guard a.guard mode t desk.guards none);
-          others = other_seat (Seating.with_guard a.guard mode t desk.guards) (λ v ne. Seating.other_guards a.guard mode t desk.guards v ne);
-        },
-        may,
-      )
+      let none : guards_of t desk.guards ≡ [] = m.seated t ∙ ap (seat_of t) was in
+      let seats = can desk (half desk.guards nobody_else (inl none)) refl refl in
+      record {
+        may = may None (Some mode) was is (may_come after threads desk seats t mode is none);
+        can = seat_more after threads desk seats t mode is none;
+        own = Seating.first_guard mode t desk.guards none ∙ sym (ap (seat_of t) is);
+        others = other_seat (Seating.with_guard mode t desk.guards) (λ v ne. Seating.other_guards mode t desk.guards v ne);
+      }
 
-  leaves : (mode : Mode) → before t ≡ Some mode → after t ≡ None → Moved before after asks shard threads t a.guard desk (released a.guard desk)
+  leaves : (mode : Mode) → before t ≡ Some mode → after t ≡ None → Moved before after threads t desk (released t desk)
   leaves mode was is =
-      let (n, seat) = seat_was (Some mode) was in
-      let gone = Seating.own_gone a.guard t desk.guards names in
+      let seat : guards_of t desk.guards ≡ seat_of t (Some mode) = m.seated t ∙ ap (seat_of t) was in
+      let gone = Seating.own_gone t desk.guards names in
+      let same : OthersStay (released t desk).guards = λ v ne. Seating.others_left t desk.guards names v ne in
       record {
-        may = subst (λ (o : Option Mode). MayMove a.guard t o (after t) desk) (sym was) (subst (λ (o : Option Mode). MayMove a.guard t (Some mode) o desk) (sym is)
-            (not_refused is_held t (guard_of a.guard desk.guards) (held_guard n mode t) (Seating.found a.guard t desk.guards names mode n seat) refl refl));
-        can = can (released a.guard desk) (half (released a.guard desk).guards (λ v ne. Seating.others_left a.guard t desk.guards names v ne) (inl gone))
-            (λ v b there at. Seating.names_left a.guard t desk.guards names v b.guard (m.named v b there at)) refl refl;
-        own = subst (λ (o : Option Mode). IsSeat t o (guards_of t (released a.guard desk).guards)) (sym is) gone;
-        others = other_seat (released a.guard desk).guards (λ v ne. Seating.others_left a.guard t desk.guards names v ne);
+        may = may (Some mode) None was is (not_refused is_held t (guard_of t desk.guards) (held_guard mode t) (Seating.found t desk.guards names mode seat) refl refl);
+        can = can (released t desk) (half (released t desk).guards same (inl gone)) refl refl;
+        own = gone ∙ sym (ap (seat_of t) is);
+        others = other_seat (released t desk).guards same;
       }
 
-  turns : before t ≡ Some held.Exclusive → after t ≡ Some held.Shared → Moved before after asks shard threads t a.guard desk (turned held.Shared a.guard desk)
+  turns : before t ≡ Some held.Exclusive → after t ≡ Some held.Shared → Moved before after threads t desk (turned held.Shared t desk)
   turns was is =
-      let (n, seat) = seat_was (Some held.Exclusive) was in
-      let own : IsSeat t (after t) (guards_of t (turned held.Shared a.guard desk).guards) =
-      subst (λ (o : Option Mode). IsSeat t o (guards_of t (turned held.Shared a.guard desk).guards)) (sym is) (n, Seating.own_turned a.guard t desk.guards names held.Exclusive held.Shared n seat) in
+      let seat : guards_of t desk.guards ≡ seat_of t (Some held.Exclusive) = m.seated t ∙ ap (seat_of t) was in
+      let own : IsSeated after (turned held.Shared t desk).guards t = Seating.own_turned t desk.guards names held.Exclusive held.Shared seat ∙ sym (ap (seat_of t) is) in
+      let same : OthersStay (turned held.Shared t desk).guards = λ v ne. Seating.others_kept t desk.guards names held.Shared v ne in
       record {
-        may = subst (λ (o : Option Mode). MayMove a.guard t o (after t) desk) (sym was) (subst (λ (o : Option Mode). MayMove a.guard t (Some held.Exclusive) o desk) (sym is)
-            (not_refused (holds held.Exclusive) t (guard_of a.guard desk.guards) (held_guard n held.Exclusive t) (Seating.found a.guard t desk.guards names held.Exclusive n seat) refl refl));
-        can = can (turned held.Shared a.guard desk) (half (turned held.Shared a.guard desk).guards (λ v ne. Seating.others_kept a.guard t desk.guards names held.Shared v ne) (inr own))
-            (λ v b there at. Seating.names_kept a.guard t desk.guards names held.Shared v b.guard (m.named v b there at)) refl refl;
+        may = may (Some held.Exclusive) (Some held.Shared) was is
+            (not_refused (holds held.Exclusive) t (guard_of t desk.guards) (held_guard held.Exclusive t) (Seating.found t desk.guards names held.Exclusive seat) refl refl);
+        can = can (turned held.Shared t desk) (half (turned held.Shared t desk).guards same (inr own)) refl refl;
         own = own;
-        others = other_seat (turned held.Shared a.guard desk).guards (λ v ne. Seating.others_kept a.guard t desk.guards names held.Shared v ne);
+        others = other_seat (turned held.Shared t desk).guards same;
       }
 
-  Result : Option Mode → Option Mode → Type 0
-  Result o p = Moved before after asks shard threads t a.guard desk (own_moved a.guard t o p desk)
-
-  nothing_to_do : (o p : Option Mode) → before t ≡ o → after t ≡ p → MayMove a.guard t o p desk → MayMove a.guard t (before t) (after t) desk
-  nothing_to_do o p was is may = subst (λ (x : Option Mode). MayMove a.guard t x (after t) desk) (sym was) (subst (λ (y : Option Mode). MayMove a.guard t o y desk) (sym is) may)
-
-  by : (o p : Option Mode) → before t ≡ o → after t ≡ p → Result o p
-  unfolding Result
-  by None None was is = stays None was is (nothing_to_do None None was is tt)
-  by None (Some mode) was is = (comes mode was is).0
+  by : (o p : Option Mode) → before t ≡ o → after t ≡ p → Moved before after threads t desk (own_moved t o p desk)
+  by None None was is = stays None was is tt
+  by None (Some mode) was is = comes mode was is
   by (Some mode) None was is = leaves mode was is
-  by (Some held.Shared) (Some held.Shared) was is = stays (Some held.Shared) was is (nothing_to_do (Some held.Shared) (Some held.Shared) was is tt)
+  by (Some held.Shared) (Some held.Shared) was is = stays (Some held.Shared) was is tt
   by (Some held.Shared) (Some held.Exclusive) was is = absurd (m.own was is)
   by (Some held.Shared) (Some held.Upgradable) was is = absurd (m.is_plain is)
   by (Some held.Exclusive) (Some held.Shared) was is = turns was is
-  by (Some held.Exclusive) (Some held.Exclusive) was is = stays (Some held.Exclusive) was is (nothing_to_do (Some held.Exclusive) (Some held.Exclusive) was is tt)
+  by (Some held.Exclusive) (Some held.Exclusive) was is = stays (Some held.Exclusive) was is tt
   by (Some held.Exclusive) (Some held.Upgradable) was is = absurd (m.is_plain is)
   by (Some held.Upgradable) (Some mode) was is = absurd (m.was_plain was)
 
-  pub moved : Moved before after asks shard threads t a.guard desk (own_moved a.guard t (before t) (after t) desk)
-  unfolding Result
+  pub moved : Moved before after threads t desk (own_moved t (before t) (after t) desk)
   moved = by (before t) (after t) refl refl

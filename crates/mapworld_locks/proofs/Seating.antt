@@ -1,14 +1,14 @@
 -- The guards of a desk as they come, go and change, by their parties.
-use Rattle.std.proofs.Common.{◌≡◌, ◌≢◌, ℕ, zero, suc, inl, inr, Bool, true, false, cond, not, ◌&&◌, ◌||◌, ◌==◌, List, [], ◌∷◌, ◌++◌, map, filter, Option, Some, None, slice_get, find, refl, sym, ap, ◌∙◌, subst}
+use Rattle.std.proofs.Common.{◌≡◌, ◌≢◌, ℕ, zero, suc, inl, inr, Bool, true, false, cond, not, ◌&&◌, ◌||◌, ◌==◌, List, [], ◌∷◌, ◌++◌, map, filter, Option, Some, None, is_some, slice_get, find, refl, sym, ap, ◌∙◌, subst}
 use Rattle.std.specs.List.{All, list_any}
 use Rattle.std.proofs.lemmas.Bool.{cases_Bool, cases_eq, false≢true, eq-eqb, eqb-true, ne_eqb, cond-true, cond-false}
-use Rattle.std.proofs.lemmas.List.Elements.{All-cons, All-head, All-tail, All-nil, All-append, All-filter, All-map, filter-append}
+use Rattle.std.proofs.lemmas.List.Elements.{All-cons, All-head, All-tail, All-nil, filter-append}
 use Rattle.std.proofs.lemmas.List.Folds.{list_any_none}
 use Rattle.std.proofs.lemmas.Option.{none-some, same_Some}
 use Rattle.lock_api_desk.specs.declared.mode.Mode.{Mode}
-use Rattle.lock_api_desk.specs.Guards.{Guard, amend, excluded, excludes, guard_of, has_number, held_in, is_held, is_in_use, without}
+use Rattle.lock_api_desk.specs.Guards.{Guard, amend, excluded, excludes, guard_of, has_number, held_in, held_of, is_held, is_in_use, without}
 use Rattle.mapworld_locks.proofs.Lists.{all_at}
-use Rattle.mapworld_locks.specs.Seats.{AreHalfSeated, AreSeated, GoTogether, IsNameOf, IsSeat, guards_of, held_guard, is_of}
+use Rattle.mapworld_locks.specs.Seats.{AreHalfSeated, AreSeated, GoTogether, guards_of, held_guard, is_of, seat_of}
 
 -- LISTS
 
@@ -137,25 +137,30 @@ module _ {X : Type 0} where
 pub half : (modes : ℕ → Option Mode) (guards : List Guard) → AreSeated modes guards → AreHalfSeated modes guards
 half modes guards h t = inr (h t)
 
+-- the guards of party t are those of number t
+abbrev pub IsNamed : ℕ → List Guard → Type 0
+IsNamed t guards = All (λ guard. has_number t guard ≡ is_of t guard) guards
+
 module _ (modes : ℕ → Option Mode) (guards : List Guard) (seats : AreHalfSeated modes guards) where
-  -- each guard is held, and is what its party should have
-  pub each_guard : (k : ℕ) (g : Guard) → slice_get guards k ≡ Some g → (modes g.party ≡ Some g.mode) × (g.is_aside ≡ false)
+  -- each guard is the one that its party should have
+  pub each_guard : (k : ℕ) (g : Guard) → slice_get guards k ≡ Some g → (m : Mode) × (modes g.party ≡ Some m) × (held_guard m g.party ≡ g)
   each_guard k g at =
       let (j, there) = among_passing (is_of g.party) guards k g at (eq-eqb g.party g.party refl) in
       elim (seats g.party) [
         | inl none ↦ absurd (none-some g (sym (ap (λ gs. slice_get gs j) none) ∙ there))
-        | inr seat ↦ by (modes g.party) refl j there seat
+        | inr seat ↦ by (modes g.party) refl j (sym (ap (λ gs. slice_get gs j) seat) ∙ there)
       ]
     where
-      one : (n : ℕ) (m : Mode) (j : ℕ) → slice_get (held_guard n m g.party ∷ []) j ≡ Some g → held_guard n m g.party ≡ g
-      one n m zero e = same_Some (held_guard n m g.party) g e
-      one n m (suc j) e = absurd (none-some g e)
+      by : (o : Option Mode) → modes g.party ≡ o → (j : ℕ) → slice_get (seat_of g.party o) j ≡ Some g → (m : Mode) × (modes g.party ≡ Some m) × (held_guard m g.party ≡ g)
+      by None e j there = absurd (none-some g there)
+      by (Some m) e zero there = (m, e, same_Some (held_guard m g.party) g there)
+      by (Some m) e (suc j) there = absurd (none-some g there)
 
-      by : (o : Option Mode) → modes g.party ≡ o → (j : ℕ) → slice_get (guards_of g.party guards) j ≡ Some g → IsSeat g.party o (guards_of g.party guards) → (modes g.party ≡ Some g.mode) × (g.is_aside ≡ false)
-      by None e j there none = absurd (none-some g (sym (ap (λ gs. slice_get gs j) none) ∙ there))
-      by (Some m) e j there (n, is) =
-          let same = one n m j (sym (ap (λ gs. slice_get gs j) is) ∙ there) in
-          (e ∙ ap (λ x. Some x.mode) same, sym (ap (λ x. x.is_aside) same))
+  pub each_mode : (k : ℕ) (g : Guard) → slice_get guards k ≡ Some g → modes g.party ≡ Some g.mode
+  each_mode k g at = let (m, holds, is) = each_guard k g at in holds ∙ ap (λ x. Some x.mode) is
+
+  pub named : (t : ℕ) → IsNamed t guards
+  named t = all_from (λ g. has_number t g ≡ is_of t g) guards (λ k g at. (let (m, holds, is) = each_guard k g at in ap (λ n. n == t) (ap (λ x. x.number) (sym is))))
 
   -- a party without a guard isn't kept out
   pub not_excluded : GoTogether modes → (t : ℕ) (m : Mode) → modes t ≡ Some m → guards_of t guards ≡ [] → excluded m guards ≡ false
@@ -163,80 +168,76 @@ module _ (modes : ℕ → Option Mode) (guards : List Guard) (seats : AreHalfSea
     where
       each : (k : ℕ) (g : Guard) → slice_get guards k ≡ Some g → (is_held g && excludes g.mode m) ≡ false
       each k g at =
-          let (is, up) = each_guard k g at in
+          let (a, mode, is) = each_guard k g at in
           let other : g.party ≢ t = λ e.
           (let (j, there) = among_passing (is_of t) guards k g at (eq-eqb g.party t e) in none-some g (sym (ap (λ gs. slice_get gs j) none) ∙ there)) in
-          ap (λ b. not b && excludes g.mode m) up ∙ together g.party t g.mode m other is holds
+          ap (λ x. not x.is_aside && excludes x.mode m) (sym is) ∙ together g.party t a m other mode holds
 
 -- A GUARD COMES
 
-module _ (number : ℕ) (mode : Mode) (t : ℕ) (guards : List Guard) where
+module _ (mode : Mode) (t : ℕ) (guards : List Guard) where
   abbrev pub with_guard : List Guard
-  with_guard = guards ++ held_guard number mode t ∷ []
+  with_guard = guards ++ held_guard mode t ∷ []
 
-  own_guard : guards_of t with_guard ≡ guards_of t guards ++ held_guard number mode t ∷ []
-  own_guard = filter-append (is_of t) guards (held_guard number mode t ∷ [])
-      ∙ ap (λ gs. guards_of t guards ++ gs) (cond-true (t == t) (held_guard number mode t ∷ []) [] (eq-eqb t t refl))
+  own_guard : guards_of t with_guard ≡ guards_of t guards ++ held_guard mode t ∷ []
+  own_guard = filter-append (is_of t) guards (held_guard mode t ∷ [])
+      ∙ ap (λ gs. guards_of t guards ++ gs) (cond-true (t == t) (held_guard mode t ∷ []) [] (eq-eqb t t refl))
 
-  pub first_guard : guards_of t guards ≡ [] → guards_of t with_guard ≡ held_guard number mode t ∷ []
-  first_guard none = own_guard ∙ ap (λ gs. gs ++ held_guard number mode t ∷ []) none
+  pub first_guard : guards_of t guards ≡ [] → guards_of t with_guard ≡ held_guard mode t ∷ []
+  first_guard none = own_guard ∙ ap (λ gs. gs ++ held_guard mode t ∷ []) none
 
   pub other_guards : (v : ℕ) → v ≢ t → guards_of v with_guard ≡ guards_of v guards
-  other_guards v ne = filter-append (is_of v) guards (held_guard number mode t ∷ [])
-      ∙ ap (λ gs. guards_of v guards ++ gs) (cond-false (t == v) (held_guard number mode t ∷ []) [] (ne_eqb t v (λ e. ne (sym e)))) ∙ append_nothing (guards_of v guards)
+  other_guards v ne = filter-append (is_of v) guards (held_guard mode t ∷ [])
+      ∙ ap (λ gs. guards_of v guards ++ gs) (cond-false (t == v) (held_guard mode t ∷ []) [] (ne_eqb t v (λ e. ne (sym e)))) ∙ append_nothing (guards_of v guards)
 
   pub half_with : (modes : ℕ → Option Mode) → AreHalfSeated modes guards → modes t ≡ Some mode → guards_of t guards ≡ [] → AreHalfSeated modes with_guard
   half_with modes seats holds none v = elim (cases_eq v t) [
-    | inl e ↦ inr (subst (λ (n : ℕ). IsSeat n (modes n) (guards_of n with_guard)) (sym e) (subst (λ (o : Option Mode). IsSeat t o (guards_of t with_guard)) (sym holds) (number, first_guard none)))
+    | inl e ↦ inr (ap (λ n. guards_of n with_guard) e ∙ first_guard none ∙ sym (ap (λ n. seat_of n (modes n)) e ∙ ap (seat_of t) holds))
     | inr ne ↦ elim (seats v) [
       | inl nothing ↦ inl (other_guards v ne ∙ nothing)
-      | inr seat ↦ inr (subst (IsSeat v (modes v)) (sym (other_guards v ne)) seat)
+      | inr seat ↦ inr (other_guards v ne ∙ seat)
     ]
   ]
 
-  -- the names of others stay
-  pub named_with : (v n : ℕ) → IsNameOf n v guards → ((number ≡ n → t ≡ v) × (t ≡ v → number ≡ n)) → IsNameOf n v with_guard
-  named_with v n names same = All-append (λ g. has_number n g ≡ is_of v g) guards (held_guard number mode t ∷ []) names
-      (All-cons (λ g. has_number n g ≡ is_of v g) (held_guard number mode t) [] agrees (All-nil (λ g. has_number n g ≡ is_of v g)))
-    where
-      agrees : (number == n) ≡ (t == v)
-      agrees = elim (cases_eq t v) [
-        | inl e ↦ eq-eqb number n (same.1 e) ∙ sym (eq-eqb t v e)
-        | inr ne ↦ ne_eqb number n (λ e. ne (same.0 e)) ∙ sym (ne_eqb t v ne)
-      ]
+module _ (t : ℕ) (guards : List Guard) (names : IsNamed t guards) where
+  -- A GUARD GOES
 
--- A GUARD GOES
+  without_is : without t guards ≡ filter (λ g. not (is_of t g)) guards
+  without_is = filter_agrees (λ g. not (has_number t g)) (λ g. not (is_of t g)) guards (all_from _ guards (λ k g at. ap not (all_at (λ g. has_number t g ≡ is_of t g) guards k g names at)))
 
-module _ (number t : ℕ) (guards : List Guard) (names : IsNameOf number t guards) where
-  pub without_is : without number guards ≡ filter (λ g. not (is_of t g)) guards
-  without_is = filter_agrees (λ g. not (has_number number g)) (λ g. not (is_of t g)) guards (all_from _ guards (λ k g at. ap not (all_at (λ g. has_number number g ≡ is_of t g) guards k g names at)))
-
-  pub own_gone : guards_of t (without number guards) ≡ []
+  pub own_gone : guards_of t (without t guards) ≡ []
   own_gone = ap (guards_of t) without_is ∙ filter_none (is_of t) guards
 
-  pub others_left : (v : ℕ) → v ≢ t → guards_of v (without number guards) ≡ guards_of v guards
+  pub others_left : (v : ℕ) → v ≢ t → guards_of v (without t guards) ≡ guards_of v guards
   others_left v ne = ap (guards_of v) without_is ∙ filter_apart (is_of t) (is_of v) guards (λ g own. ne_eqb g.party t (λ e. ne (sym (eqb-true g.party v own) ∙ e)))
-
-  pub names_left : (v n : ℕ) → IsNameOf n v guards → IsNameOf n v (without number guards)
-  names_left v n h = All-filter (λ g. not (has_number number g)) (λ g. has_number n g ≡ is_of v g) guards h
 
   -- LOOKING FOR A GUARD
 
-  pub found : (m : Mode) (n : ℕ) → guards_of t guards ≡ held_guard n m t ∷ [] → guard_of number guards ≡ Some (held_guard n m t)
-  found m n is = find_agrees (has_number number) (is_of t) guards names ∙ find_first (is_of t) guards ∙ ap (λ gs. slice_get gs 0) is
+  pub found : (m : Mode) → guards_of t guards ≡ held_guard m t ∷ [] → guard_of t guards ≡ Some (held_guard m t)
+  found m is = find_agrees (has_number t) (is_of t) guards names ∙ find_first (is_of t) guards ∙ ap (λ gs. slice_get gs 0) is
 
-  pub unused : guards_of t guards ≡ [] → is_in_use number guards ≡ false
-  unused none = any_agrees (has_number number) (is_of t) guards names ∙ any_passing (is_of t) guards none
+  pub unused : guards_of t guards ≡ [] → is_in_use t guards ≡ false
+  unused none = any_agrees (has_number t) (is_of t) guards names ∙ any_passing (is_of t) guards none
+
+  -- whether one that is held has its number
+  held_agrees : All (λ g. (has_number t g && is_held g) ≡ (is_of t g && is_held g)) guards
+  held_agrees = all_from (λ g. (has_number t g && is_held g) ≡ (is_of t g && is_held g)) guards (λ k g at. ap (λ b. b && is_held g) (all_at (λ g. has_number t g ≡ is_of t g) guards k g names at))
+
+  pub held_found : (m : Mode) → guards_of t guards ≡ held_guard m t ∷ [] → is_some (held_of t guards) ≡ true
+  held_found m is = ap is_some (find_agrees (λ g. has_number t g && is_held g) (λ g. is_of t g && is_held g) guards held_agrees ∙ find_both (is_of t) is_held guards (held_guard m t) is refl)
+
+  pub held_none : guards_of t guards ≡ [] → is_some (held_of t guards) ≡ false
+  held_none none = ap is_some (find_agrees (λ g. has_number t g && is_held g) (λ g. is_of t g && is_held g) guards held_agrees ∙ find_neither (is_of t) is_held guards none)
 
   -- A GUARD CHANGES ITS MODE
 
   abbrev turns : Mode → Guard → Guard
   turns mode g = cond (is_of t g) (held_in mode g) g
 
-  amend_is : (mode : Mode) → amend (held_in mode) number guards ≡ map (turns mode) guards
-  amend_is mode = map_agrees (λ g. cond (has_number number g) (held_in mode g) g) (turns mode) guards
-      (all_from (λ g. cond (has_number number g) (held_in mode g) g ≡ turns mode g) guards
-      (λ k g at. ap (λ b. cond b (held_in mode g) g) (all_at (λ g. has_number number g ≡ is_of t g) guards k g names at)))
+  amend_is : (mode : Mode) → amend (held_in mode) t guards ≡ map (turns mode) guards
+  amend_is mode = map_agrees (λ g. cond (has_number t g) (held_in mode g) g) (turns mode) guards
+      (all_from (λ g. cond (has_number t g) (held_in mode g) g ≡ turns mode g) guards
+      (λ k g at. ap (λ b. cond b (held_in mode g) g) (all_at (λ g. has_number t g ≡ is_of t g) guards k g names at)))
 
   party_kept : (mode : Mode) (v : ℕ) (g : Guard) → is_of v (turns mode g) ≡ is_of v g
   party_kept mode v g = by (is_of t g)
@@ -245,24 +246,12 @@ module _ (number t : ℕ) (guards : List Guard) (names : IsNameOf number t guard
       by true = refl
       by false = refl
 
-  number_kept : (mode : Mode) (n : ℕ) (g : Guard) → has_number n (turns mode g) ≡ has_number n g
-  number_kept mode n g = by (is_of t g)
-    where
-      by : (b : Bool) → has_number n (cond b (held_in mode g) g) ≡ has_number n g
-      by true = refl
-      by false = refl
-
-  pub own_turned : (a mode : Mode) (n : ℕ) → guards_of t guards ≡ held_guard n a t ∷ [] → guards_of t (amend (held_in mode) number guards) ≡ held_guard n mode t ∷ []
-  own_turned a mode n is =
+  pub own_turned : (a mode : Mode) → guards_of t guards ≡ held_guard a t ∷ [] → guards_of t (amend (held_in mode) t guards) ≡ held_guard mode t ∷ []
+  own_turned a mode is =
       ap (guards_of t) (amend_is mode) ∙ filter_changed (is_of t) (turns mode) guards (party_kept mode t) ∙ ap (map (turns mode)) is
-      ∙ ap (λ b. cond b (held_guard n mode t) (held_guard n a t) ∷ []) (eq-eqb t t refl)
+      ∙ ap (λ b. cond b (held_guard mode t) (held_guard a t) ∷ []) (eq-eqb t t refl)
 
-  pub others_kept : (mode : Mode) (v : ℕ) → v ≢ t → guards_of v (amend (held_in mode) number guards) ≡ guards_of v guards
+  pub others_kept : (mode : Mode) (v : ℕ) → v ≢ t → guards_of v (amend (held_in mode) t guards) ≡ guards_of v guards
   others_kept mode v ne =
       ap (guards_of v) (amend_is mode) ∙ filter_changed (is_of v) (turns mode) guards (party_kept mode v)
       ∙ map_apart (is_of v) (turns mode) guards (λ g own. cond-false (is_of t g) (held_in mode g) g (ne_eqb g.party t (λ e. ne (sym (eqb-true g.party v own) ∙ e))))
-
-  pub names_kept : (mode : Mode) (v n : ℕ) → IsNameOf n v guards → IsNameOf n v (amend (held_in mode) number guards)
-  names_kept mode v n h = subst (IsNameOf n v) (sym (amend_is mode)) (All-map (λ g. has_number n g ≡ is_of v g) (turns mode) guards
-      (all_from (λ g. has_number n (turns mode g) ≡ is_of v (turns mode g)) guards
-      (λ k g at. number_kept mode n g ∙ all_at (λ g. has_number n g ≡ is_of v g) guards k g h at ∙ sym (party_kept mode v g))))

@@ -1,5 +1,7 @@
 pub mod Aims
 pub mod Seats
 pub mod Views
-pub mod Fits
+pub mod Stands
 pub mod Moves
+pub mod Fits
+pub mod Steps

@@ -1,8 +1,7 @@
 -- The guards of a desk by their parties.
 use Rattle.std.specs.Prelude.{◌≡◌, ◌≢◌, ◌⊎◌, ℕ, Bool, false, ◌==◌, List, [], ◌∷◌, Option, Some, None, filter}
-use Rattle.std.specs.List.{All}
 use Rattle.lock_api_desk.specs.declared.mode.Mode.{Mode}
-use Rattle.lock_api_desk.specs.Guards.{Guard, excludes, has_number}
+use Rattle.lock_api_desk.specs.Guards.{Guard, excludes}
 
 -- the guard is the party's
 abbrev pub is_of : ℕ → Guard → Bool
@@ -11,26 +10,22 @@ is_of party guard = guard.party == party
 abbrev pub guards_of : ℕ → List Guard → List Guard
 guards_of party guards = filter (is_of party) guards
 
--- a held guard
-abbrev pub held_guard : ℕ → Mode → ℕ → Guard
-held_guard number mode party = record { number = number; mode = mode; party = party; is_aside = false }
+-- A held guard. Its number is its party's: nobody holds a shard twice.
+abbrev pub held_guard : Mode → ℕ → Guard
+held_guard mode party = record { number = party; mode = mode; party = party; is_aside = false }
 
--- These are all guards of a party that holds so: one that is held in that mode, or none.
-abbrev pub IsSeat : ℕ → Option Mode → List Guard → Type 0
-IsSeat party None guards = guards ≡ []
-IsSeat party (Some mode) guards = (number : ℕ) × (guards ≡ held_guard number mode party ∷ [])
+-- the guards of a party that holds so
+abbrev pub seat_of : ℕ → Option Mode → List Guard
+seat_of party None = []
+seat_of party (Some mode) = held_guard mode party ∷ []
 
 -- each party has the guard that it should
 abbrev pub AreSeated : (ℕ → Option Mode) → List Guard → Type 0
-AreSeated modes guards = (party : ℕ) → IsSeat party (modes party) (guards_of party guards)
-
--- The number is that of the party's guard, where it has one, and of no other.
-abbrev pub IsNameOf : ℕ → ℕ → List Guard → Type 0
-IsNameOf number party guards = All (λ guard. has_number number guard ≡ is_of party guard) guards
+AreSeated modes guards = (party : ℕ) → guards_of party guards ≡ seat_of party (modes party)
 
 -- Each party has the guard that it should, or none yet.
 abbrev pub AreHalfSeated : (ℕ → Option Mode) → List Guard → Type 0
-AreHalfSeated modes guards = (party : ℕ) → (guards_of party guards ≡ []) ⊎ IsSeat party (modes party) (guards_of party guards)
+AreHalfSeated modes guards = (party : ℕ) → (guards_of party guards ≡ []) ⊎ (guards_of party guards ≡ seat_of party (modes party))
 
 -- who holds so may hold so at one time
 abbrev pub GoTogether : (ℕ → Option Mode) → Type 0

@@ -1,8 +1,8 @@
 //! The locks of shards: a word and two queues for each, and beside the word the guards of those that own it.
 #![tactic(auto)]
 
-mod ask;
 mod desks;
+mod shard_locks;
 
-pub use ask::Ask;
 pub use desks::ShardDesk;
+pub use shard_locks::ShardLocks;
