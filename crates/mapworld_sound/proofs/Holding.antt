@@ -47,7 +47,7 @@ pub owes-none : {K V D T : Type 0} (p : Place K V D T) (o : Option Stand) → o 
 owes-none p o none = subst (λ (z : Option Stand). IsOwing p z) (sym none) tt
 
 -- a thread that is in a lock's call waits for its admission, or owes something before its answer
-in-call : {K V D T : Type 0} (p : Place K V D T) (f : Phase K V D T) (stand : Stand) → StandsBefore p f (Some stand)
+pub in-call : {K V D T : Type 0} (p : Place K V D T) (f : Phase K V D T) (stand : Stand) → StandsBefore p f (Some stand)
     → ((r : Request K V D) × (f ≡ phase.Admit r) × (stand ≡ record { shard = p.shard; aim = Gets (at_desk (mode_of r)); trying = false }))
     ⊎ ((a : Answer K V T) × (f ≡ phase.Answer a) × MayOwe p stand.shard stand.aim)
 in-call p phase.Rest stand h = absurd (none-some stand (sym h))
