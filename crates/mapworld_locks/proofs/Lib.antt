@@ -14,3 +14,4 @@ mod Keeping
 mod Together
 mod Ending
 mod Answering
+pub mod Sizes

@@ -2,7 +2,7 @@
 ghost use Rattle.std.specs.Prelude.{◌≡◌};
 ghost use Rattle.mapworld_state.specs.Holds.{asks_for, gives_up};
 
-use mapworld_locks::LockCall;
+use parking_lot_world::LockCall;
 use mapworld_state::Mode;
 
 /// The call that asks for the lock so.

@@ -1,5 +1,6 @@
 //! The steps that end a hold and a call.
 ghost use Rattle.std.specs.Prelude.{◌≡◌, ◌+◌, ◌<◌, ◌^◌, ◌∷◌, true, if◌then◌else◌};
+ghost use Rattle.mapworld_locks.specs.Stands.{stand_in};
 ghost use Rattle.mapworld_state.specs.declared.place.Phase.TheVariants as phase;
 ghost use Rattle.mapworld_state.specs.Running.{has_numbers};
 ghost use Rattle.mapworld_state.specs.Core.{state_of, Room, IsBefore, IsSoundCore, IsSlotted, MakesStep};
@@ -8,7 +9,8 @@ ghost use Rattle.mapworld_state.specs.Steps.{Downgrades, Releases, Answers};
 use arrayvec::ArrayVec;
 use mapworld_calls::{Answer, Deed, Reply};
 use mapworld_moves::blocks::{count_in, end_block};
-use mapworld_moves::holds::{end_hold, share_hold};
+use parking_lot_world::LockCall;
+use mapworld_moves::holds::gives_up;
 use mapworld_moves::moves::{enter, release_counts};
 use mapworld_state::{Core, Guard, Hold, Mode, Phase, Place, Step, Way};
 use std::alloc::Allocator;
@@ -52,7 +54,7 @@ fn take_first(holds: &mut ArrayVec<Hold, 2>) -> Hold
     holds.remove(0)
 }
 
-/// The step by which a guard that holds its shard alone shares it.
+/// The step by which a guard that holds its shard alone shares it: the downgrade of the shard's lock begins, and makes its first act.
 pub(crate) fn downgrade<
     K: Eq + Hash + Drop,
     V: Drop,
@@ -73,14 +75,13 @@ pub(crate) fn downgrade<
     let hold = share_first(&mut place.holds);
     place.guard = Some(Guard::Pair(Way::Shared));
     enter(&mut place.phase, Phase::Answer(Answer::Held));
-    let desk = &mut core.desks[hold.shard];
-    share_hold(desk, step.thread as u64, hold.guard);
+    core.locks.start(step.thread, hold.shard, LockCall::Downgrade, step.fair);
     count_in(&mut core.blocks, place.block, place.next);
     core.count += 1;
     core.steps = core.steps.appended(&step);
 }
 
-/// The end of a hold, and of its guard.
+/// The end of a hold, and of its guard: the release of the shard's lock begins, and makes its first act.
 pub(crate) fn release<
     K: Eq + Hash + Drop,
     V: Drop,
@@ -105,8 +106,8 @@ pub(crate) fn release<
     let counts = release_counts(&place.guard, place.block);
     place.guard = None;
     enter(&mut place.phase, Phase::Answer(answer));
-    let desk = &mut core.desks[hold.shard];
-    end_hold(desk, step.thread as u64, hold.guard);
+    let call = gives_up(hold.mode);
+    core.locks.start(step.thread, hold.shard, call, step.fair);
     count_in(&mut core.blocks, counts, place.next);
     core.count += 1;
     core.steps = core.steps.appended(&step);
@@ -125,6 +126,7 @@ pub(crate) fn answer<
     requires slots { IsSlotted D.Deed S.BuildHasher S.Hasher.Hasher K.eq K.hash_input core.old }
     requires numbers { has_numbers (state_of core.old) ≡ true }
     requires before { (answer : _) × IsBefore (state_of core.old).places step.thread (phase.Answer answer) }
+    requires out { stand_in (state_of core.old).locks step.thread ≡ None }
     ensures step { MakesStep Answers D.Deed S.BuildHasher S.Hasher.Hasher K.eq K.hash_input core.old step core.new }
     ensures room { Room core.new }
     ensures slots { IsSlotted D.Deed S.BuildHasher S.Hasher.Hasher K.eq K.hash_input core.new }

@@ -4,9 +4,10 @@
 mod ends;
 mod looks;
 mod one_step;
+mod queues;
 mod standing;
 mod starts;
 
 pub use mapworld_moves::{is_world_amount, shard_of};
 pub use one_step::advance;
-pub use standing::status;
+pub use standing::{can_move, status};

@@ -1,21 +1,20 @@
 //! Where a thread stands.
-ghost use Rattle.std.specs.Prelude.{◌≡◌, length, map};
-ghost use Rattle.mapworld_state.specs.Running.{status_before, status_of};
+ghost use Rattle.std.specs.Prelude.{◌≡◌, length};
+ghost use Rattle.mapworld_state.specs.Running.{status_before, status_of, moves_before, can_move_in};
 ghost use Rattle.mapworld_state.specs.Core.{state_of};
-ghost use Rattle.mapworld_state.specs.Places.{place_of};
 
-use mapworld_moves::holds::is_excluded;
-use mapworld_moves::moves::mode_of;
+use mapworld_locks::ShardLocks;
 use mapworld_state::{Core, Phase, Place, Status};
 use std::alloc::Allocator;
 use std::hash::Hash;
 
 /// Where a thread stands that has that place.
 fn status_at<K, V, D, T, A: Allocator>(
-    places: &[Place<K, V, D, T, A>],
+    locks: &ShardLocks<A>,
+    thread: usize,
     place: &Place<K, V, D, T, A>,
 ) -> Status
-    ensures { result ≡ status_before (map place_of places.now) (length place.now.asks.items) place.now.shard place.now.phase }
+    ensures { result ≡ status_before locks.now thread (length place.now.asks.items) place.now.phase }
 {
     match &place.phase {
         Phase::Rest => {
@@ -25,8 +24,8 @@ fn status_at<K, V, D, T, A: Allocator>(
                 Status::Running
             }
         }
-        Phase::Admit(request) => {
-            if is_excluded(places, place.shard, mode_of(request)) {
+        Phase::Admit(_) | Phase::Answer(_) => {
+            if locks.is_asleep(thread) {
                 Status::Asleep
             } else {
                 Status::Running
@@ -44,7 +43,37 @@ pub fn status<K: Eq + Hash, V, S, D, T, A: Allocator>(
     ensures { result ≡ status_of (state_of core.now) thread }
 {
     match core.places.get(thread) {
-        Some(place) => status_at(&core.places, place),
+        Some(place) => status_at(&core.locks, thread, place),
         None => Status::Finished,
+    }
+}
+
+/// Whether a thread that has that place can make a step.
+fn moves_at<K, V, D, T, A: Allocator>(
+    locks: &ShardLocks<A>,
+    thread: usize,
+    place: &Place<K, V, D, T, A>,
+) -> bool
+    ensures { result ≡ moves_before locks.now thread (length place.now.asks.items) place.now.phase }
+{
+    match &place.phase {
+        Phase::Rest => !place.asks.is_empty(),
+        Phase::Admit(_) | Phase::Answer(_) => {
+            !locks.is_in_call(thread) || locks.can_move(thread)
+        }
+        _ => true,
+    }
+}
+
+/// Whether a step of a thread would be done. One of a thread that the world doesn't have would not.
+pub fn can_move<K: Eq + Hash, V, S, D, T, A: Allocator>(
+    core: &Core<K, V, S, D, T, A>,
+    thread: usize,
+) -> bool
+    ensures { result ≡ can_move_in (state_of core.now) thread }
+{
+    match core.places.get(thread) {
+        Some(place) => moves_at(&core.locks, thread, place),
+        None => false,
     }
 }

@@ -1,0 +1,143 @@
+//! The steps at a shard's lock, and what ends them.
+ghost use Rattle.std.specs.Prelude.{◌≡◌, ◌<◌, true, Some, length, slice_get};
+ghost use Rattle.parking_lot_protocol.specs.declared.act.CoreAnswer.TheVariants as end;
+ghost use Rattle.parking_lot_world.specs.Machines.{can_move, ended};
+ghost use Rattle.parking_lot_world.specs.Rows.{state};
+ghost use Rattle.mapworld_state.specs.declared.place.Phase.TheVariants as phase;
+ghost use Rattle.mapworld_state.specs.Running.{has_numbers};
+ghost use Rattle.mapworld_state.specs.Core.{state_of, Room, IsBefore, IsSoundCore, IsSlotted, MakesStep};
+ghost use Rattle.mapworld_state.specs.Steps.{Enters, Leaves, MovesLock, Looks, Replies};
+
+use crate::ends::answer;
+use crate::looks::find;
+use mapworld_calls::Deed;
+use mapworld_moves::moves::{enter, mode_of};
+use mapworld_state::{Core, Hold, Phase, Step};
+use std::alloc::Allocator;
+use std::hash::{BuildHasher, Hash};
+use std::mem;
+
+/// One step of the call of a shard's lock that a thread is in.
+fn move_lock<K: Eq + Hash + Drop, V: Drop, S: BuildHasher, D: Deed<K, V> + Drop, A: Allocator>(
+    core: &mut Core<K, V, S, D, D::Answer, A>,
+    step: Step,
+)
+    requires sound { IsSoundCore D.Deed S.BuildHasher S.Hasher.Hasher K.eq K.hash_input core.old }
+    requires room { Room core.old }
+    requires slots { IsSlotted D.Deed S.BuildHasher S.Hasher.Hasher K.eq K.hash_input core.old }
+    requires numbers { has_numbers (state_of core.old) ≡ true }
+    requires thread { step.thread < length core.old.places.items }
+    requires moves { can_move (state core.old.locks.rows) step.thread ≡ true }
+    requires goes_on { ended (state core.old.locks.rows) step.thread ≡ None }
+    ensures step { MakesStep MovesLock D.Deed S.BuildHasher S.Hasher.Hasher K.eq K.hash_input core.old step core.new }
+    ensures room { Room core.new }
+    ensures slots { IsSlotted D.Deed S.BuildHasher S.Hasher.Hasher K.eq K.hash_input core.new }
+{
+    core.locks.step(step.thread, step.fair);
+    core.count += 1;
+    core.steps = core.steps.appended(&step);
+}
+
+/// Ends an admission: the lock's call is answered, and the place has the hold. It is part of the step of the look.
+fn enter_shard<K: Eq + Hash + Drop, V: Drop, S: BuildHasher, D: Deed<K, V> + Drop, A: Allocator>(
+    core: &mut Core<K, V, S, D, D::Answer, A>,
+    thread: usize,
+)
+    requires sound { IsSoundCore D.Deed S.BuildHasher S.Hasher.Hasher K.eq K.hash_input core.old }
+    requires room { Room core.old }
+    requires slots { IsSlotted D.Deed S.BuildHasher S.Hasher.Hasher K.eq K.hash_input core.old }
+    requires before { (request : _) × IsBefore (state_of core.old).places thread (phase.Admit request) }
+    requires over { is_some (ended (state core.old.locks.rows) thread) ≡ true }
+    ensures enters { Enters (state_of core.old) thread (state_of core.new) }
+    ensures found { (request : _) × IsBefore (state_of core.new).places thread (phase.Find request) }
+    ensures sound { IsSoundCore D.Deed S.BuildHasher S.Hasher.Hasher K.eq K.hash_input core.new }
+    ensures room { Room core.new }
+    ensures slots { IsSlotted D.Deed S.BuildHasher S.Hasher.Hasher K.eq K.hash_input core.new }
+    ensures numbers { has_numbers (state_of core.new) ≡ has_numbers (state_of core.old) }
+{
+    let place = &mut core.places[thread];
+    let Phase::Admit(request) = mem::replace(&mut place.phase, Phase::Rest) else {
+        unreachable!()
+    };
+    place.holds.push(Hold {
+        shard: place.shard,
+        mode: mode_of(&request),
+    });
+    enter(&mut place.phase, Phase::Find(request));
+    core.locks.finish(thread);
+}
+
+/// A step of a thread that waits for its shard: one of the lock's call, or the look where that is over.
+pub(crate) fn admit<
+    K: Eq + Hash + Drop,
+    V: Drop,
+    S: BuildHasher,
+    D: Deed<K, V> + Drop,
+    A: Allocator,
+>(core: &mut Core<K, V, S, D, D::Answer, A>, step: Step)
+    requires sound { IsSoundCore D.Deed S.BuildHasher S.Hasher.Hasher K.eq K.hash_input core.old }
+    requires room { Room core.old }
+    requires slots { IsSlotted D.Deed S.BuildHasher S.Hasher.Hasher K.eq K.hash_input core.old }
+    requires numbers { has_numbers (state_of core.old) ≡ true }
+    requires thread { step.thread < length core.old.places.items }
+    requires before { (request : _) × IsBefore (state_of core.old).places step.thread (phase.Admit request) }
+    requires moves { can_move (state core.old.locks.rows) step.thread ≡ true }
+    ensures step { MakesStep IsStep D.Deed S.BuildHasher S.Hasher.Hasher K.eq K.hash_input core.old step core.new }
+    ensures room { Room core.new }
+    ensures slots { IsSlotted D.Deed S.BuildHasher S.Hasher.Hasher K.eq K.hash_input core.new }
+{
+    if core.locks.ended(step.thread).is_some() {
+        enter_shard(core, step.thread);
+        find(core, step);
+    } else {
+        move_lock(core, step);
+    }
+}
+
+/// Ends the call of a lock to which nothing more is owed. It is part of the step of the answer.
+fn leave_lock<K: Eq + Hash + Drop, V: Drop, S: BuildHasher, D: Deed<K, V> + Drop, A: Allocator>(
+    core: &mut Core<K, V, S, D, D::Answer, A>,
+    thread: usize,
+)
+    requires sound { IsSoundCore D.Deed S.BuildHasher S.Hasher.Hasher K.eq K.hash_input core.old }
+    requires room { Room core.old }
+    requires slots { IsSlotted D.Deed S.BuildHasher S.Hasher.Hasher K.eq K.hash_input core.old }
+    requires before { (answer : _) × IsBefore (state_of core.old).places thread (phase.Answer answer) }
+    requires over { is_some (ended (state core.old.locks.rows) thread) ≡ true }
+    ensures leaves { Leaves (state_of core.old) thread (state_of core.new) }
+    ensures sound { IsSoundCore D.Deed S.BuildHasher S.Hasher.Hasher K.eq K.hash_input core.new }
+    ensures room { Room core.new }
+    ensures slots { IsSlotted D.Deed S.BuildHasher S.Hasher.Hasher K.eq K.hash_input core.new }
+    ensures numbers { has_numbers (state_of core.new) ≡ has_numbers (state_of core.old) }
+{
+    core.locks.finish(thread);
+}
+
+/// A step of a thread whose call is to be answered: one of what is still owed to the lock, or the answer.
+pub(crate) fn finish<
+    K: Eq + Hash + Drop,
+    V: Drop,
+    S: BuildHasher,
+    D: Deed<K, V> + Drop,
+    A: Allocator,
+>(core: &mut Core<K, V, S, D, D::Answer, A>, step: Step)
+    requires sound { IsSoundCore D.Deed S.BuildHasher S.Hasher.Hasher K.eq K.hash_input core.old }
+    requires room { Room core.old }
+    requires slots { IsSlotted D.Deed S.BuildHasher S.Hasher.Hasher K.eq K.hash_input core.old }
+    requires numbers { has_numbers (state_of core.old) ≡ true }
+    requires thread { step.thread < length core.old.places.items }
+    requires before { (answer : _) × IsBefore (state_of core.old).places step.thread (phase.Answer answer) }
+    requires moves { goes_on (state_of core.old).locks step.thread ≡ true }
+    ensures step { MakesStep IsStep D.Deed S.BuildHasher S.Hasher.Hasher K.eq K.hash_input core.old step core.new }
+    ensures room { Room core.new }
+    ensures slots { IsSlotted D.Deed S.BuildHasher S.Hasher.Hasher K.eq K.hash_input core.new }
+{
+    if !core.locks.is_in_call(step.thread) {
+        answer(core, step);
+    } else if core.locks.ended(step.thread).is_some() {
+        leave_lock(core, step.thread);
+        answer(core, step);
+    } else {
+        move_lock(core, step);
+    }
+}
