@@ -1,4 +1,5 @@
 //! The locks of shards, with the desks that follow them.
+ghost use Rattle.std.specs.Option.{option_copied};
 ghost use Rattle.std.specs.Prelude.{◌≡◌, length, None, Some, true, is_some, slice_get, IfOk, IfErr};
 ghost use Rattle.parking_lot_core_lot.specs.declared.fault.SizeFault.TheVariants.{NoMemory};
 ghost use Rattle.parking_lot_world.specs.Machines.{can_move, ended, is_asleep};
@@ -153,7 +154,7 @@ impl<A: Allocator> ShardLocks<A> {
 
     /// The desk of a shard; `None` beyond the last.
     pub fn desk(&self, shard: usize) -> Option<&ShardDesk<A>>
-        ensures { result.now ≡ slice_get self.now.desks shard }
+        ensures { option_copied result ≡ slice_get self.now.desks shard }
     {
         self.desks.get(shard)
     }
