@@ -14,3 +14,5 @@ mod Keeping
 mod Together
 mod Ending
 mod Answering
+mod Standing
+mod Beginning
