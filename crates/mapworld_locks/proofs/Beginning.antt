@@ -81,7 +81,7 @@ mode_number (Some held.Exclusive) = 3
 differ : (a b : Option Mode) → mode_number a ≢ mode_number b → a ≢ b
 differ a b ne e = ne (ap mode_number e)
 
-is_rw : kind.Mutex ≢ kind.Rw
+pub is_rw : kind.Mutex ≢ kind.Rw
 is_rw e = false≢true (ap (λ k. elim k as (λ x. Bool) [ kind.Mutex ↦ false | kind.Rw ↦ true ]) e)
 
 -- one that holds as the call needs may make it

@@ -16,3 +16,5 @@ mod Ending
 mod Answering
 mod Standing
 mod Beginning
+mod Stepping
+mod Following

@@ -131,7 +131,7 @@ set_alike calls w v o same = elim (cases_eq v w) [
     at (Some y) e = ap (λ z. option_map stand_of (option_and_then (λ y. y) z)) (get-set_same calls w y o e) ∙ same
     at None e = ap (λ z. option_map stand_of (option_and_then (λ y. y) z)) (set_nothing calls w o e) ∙ sym (ap (λ z. option_map stand_of (option_and_then (λ y. y) z)) e)
 
-abbrev sleeps : Stance → Bool
+abbrev pub sleeps : Stance → Bool
 sleeps (Asleep key token) = true
 sleeps other = false
 

@@ -45,7 +45,6 @@ impl<A: Allocator> ShardLocks<A> {
         requires may { MayAsk thread shard call self.old }
         ensures { LockBegins thread shard call self.old self.new }
     {
-        laws::each_step_is_a_case();
         self.machine.begin(thread, shard, call);
     }
 
