@@ -18,3 +18,4 @@ mod Standing
 mod Beginning
 mod Stepping
 mod Following
+mod Finishing

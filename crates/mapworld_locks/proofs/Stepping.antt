@@ -55,7 +55,7 @@ call_holds s t c plain here =
     held_by_role s c.lock t plain.kinds (slice_get_within s.calls t (Some c) (slot s.calls t c here))
     ∙ ap (λ r. held_as (rw_mode r)) (call_role s t c here) ∙ ap (λ n. held_as (rw_mode (rw_core_role n c.spot (taken_by s.wakes t) c.core))) (plain.alone t c here)
 
-not_mutex : (s : State) (i : ℕ) → All (λ k. k ≡ kind.Rw) s.kinds → slice_get s.kinds i ≢ Some kind.Mutex
+pub not_mutex : (s : State) (i : ℕ) → All (λ k. k ≡ kind.Rw) s.kinds → slice_get s.kinds i ≢ Some kind.Mutex
 not_mutex s i rws e = is_rw (all_at (λ k. k ≡ kind.Rw) s.kinds i kind.Mutex rws e)
 
 -- it holds nothing beyond what it is about
