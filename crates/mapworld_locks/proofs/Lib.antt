@@ -19,3 +19,4 @@ mod Beginning
 mod Stepping
 mod Following
 mod Finishing
+mod Starting

@@ -57,6 +57,7 @@ impl<A: Allocator> ShardLocks<A> {
     {
         self.begin(thread, shard, call);
         self.step(thread, fair);
+        self.known();
     }
 
     /// A thread makes one step of its call. `fair` says whether it hands a lock over, where it stores in the section of an exclusive release.
