@@ -23,7 +23,7 @@ stepped_fits s u t fair None x = x.lawful.1.fits
 stepped_fits s u t fair (Some end) x = x.lawful.fits
 
 -- which act a step with an answer is
-is_answer : (s u : State) (t : ℕ) (fair : Bool) (c : Call) (end : CoreAnswer) (a : Act) → Some end ≡ end_of a → Became a t fair c s u → (u ≡ answered s t c) × (is_done a ≡ true)
+pub is_answer : (s u : State) (t : ℕ) (fair : Bool) (c : Call) (end : CoreAnswer) (a : Act) → Some end ≡ end_of a → Became a t fair c s u → (u ≡ answered s t c) × (is_done a ≡ true)
 is_answer s u t fair c end Act.Load e b = absurd (none-some end (sym e))
 is_answer s u t fair c end (Act.Exchange from to) e b = absurd (none-some end (sym e))
 is_answer s u t fair c end (Act.Add by) e b = absurd (none-some end (sym e))

@@ -52,7 +52,7 @@ next_proper : (k : Core) (told : ActResult) → IsProper (core_next k told) → 
 next_proper (Core.Rw c) told p = λ e. p (ap (λ q. next_phase q told) e)
 next_proper (Core.Mutex c) told p = tt
 
-next_keeps : (k : Core) (told : ActResult) → IsProper (core_next k told) → core_aim (core_next k told) ≡ core_aim k
+pub next_keeps : (k : Core) (told : ActResult) → IsProper (core_next k told) → core_aim (core_next k told) ≡ core_aim k
 next_keeps (Core.Rw c) told p = next_aim c.phase told p
 next_keeps (Core.Mutex c) told p = refl
 
@@ -134,7 +134,7 @@ goes_then a b c f g = record {
   count = g.count ∙ f.count;
 }
 
-map_of : (f : Call → Call) (calls : List (Option Call)) (v : ℕ) → call_of (map (option_map f) calls) v ≡ option_map f (call_of calls v)
+pub map_of : (f : Call → Call) (calls : List (Option Call)) (v : ℕ) → call_of (map (option_map f) calls) v ≡ option_map f (call_of calls v)
 map_of f calls v = ap (option_and_then (λ y. y)) (slice_get-map (option_map f) calls v) ∙ at (slice_get calls v)
   where
     at : (o : Option (Option Call)) → option_and_then (λ y. y) (option_map (option_map f) o) ≡ option_map f (option_and_then (λ y. y) o)
@@ -152,7 +152,7 @@ map_goes f calls follows = record {
     by None d e = absurd (none-some d e)
     by (Some c) d e = record { call = c; was = refl; follows = subst (Follows c) (same_Some (f c) d e) (follows c) }
 
-set_nothing : (calls : List (Option Call)) (w : ℕ) (o : Option Call) → slice_get calls w ≡ None → slice_get (slice_set calls w o) w ≡ None
+pub set_nothing : (calls : List (Option Call)) (w : ℕ) (o : Option Call) → slice_get calls w ≡ None → slice_get (slice_set calls w o) w ≡ None
 set_nothing [] w o e = refl
 set_nothing (c ∷ cs) zero o e = absurd (none-some c (sym e))
 set_nothing (c ∷ cs) (suc w) o e = set_nothing cs w o e

@@ -32,7 +32,7 @@ held_by_role s i t rws low =
     ∙ ap (λ o. held_as (option_and_then mode_standing o)) (slice_get-map standing (rw_lock_at s i).roles t ∙ ap (option_map standing) (one_of_all (rw_role_at s i) (length s.calls) t low))
 
 -- of one that is in no call its hold tells it
-idle_mode : (h : Hold) → rw_mode (record { owns = owned_of h; does = Idle }) ≡ hold_mode (Some kind.Rw) h
+pub idle_mode : (h : Hold) → rw_mode (record { owns = owned_of h; does = Idle }) ≡ hold_mode (Some kind.Rw) h
 idle_mode (Hold.Shares zero) = refl
 idle_mode (Hold.Shares (suc n)) = refl
 idle_mode Hold.Excludes = refl

@@ -5,6 +5,7 @@ use Rattle.std.specs.Option.{option_and_then, option_map}
 use Rattle.std.proofs.lemmas.Bool.{cases_Bool, false≢true, eq-eqb, eqb-true, cond-true, cond-false}
 use Rattle.std.proofs.lemmas.Option.{none-some, same_Some, slice_get-map}
 use Rattle.lock_api_desk.specs.declared.mode.Mode.TheVariants as held
+use Rattle.parking_lot_core_lot.specs.declared.parking.ParkToken.{ParkToken}
 use Rattle.parking_lot_protocol.specs.declared.act.CoreAnswer.{CoreAnswer}
 use Rattle.parking_lot_rules.specs.Any.{AnyLock, Rw}
 use Rattle.parking_lot_rules.specs.Lock.{Lock}
@@ -20,7 +21,7 @@ use Rattle.parking_lot_world.specs.Machines.{IsStepped}
 use Rattle.parking_lot_world.specs.RowFits.{FitsTogether}
 use Rattle.parking_lot_world.specs.Rows.{State, any_lock, call_at, hold_at, lock_at, owned_of, rw_core_role, rw_lock_at, rw_role_at, rw_role_in, taken_by}
 use Rattle.parking_lot_world.specs.SoundLaws.{IsCaseAt, IsStepAt, StepsAreCases}
-use Rattle.parking_lot_world.specs.Stances.{stance}
+use Rattle.parking_lot_world.specs.Stances.{Asleep, stance}
 use Rattle.parking_lot_world.specs.Worlds.{mode_in}
 use Rattle.mapworld_locks.specs.Views.{held_as, held_at}
 use Rattle.mapworld_locks.proofs.Lists.{all_at, among_all}
@@ -54,6 +55,13 @@ held_left Writing h e = none-some held.Exclusive (sym e)
 -- A thread was handed a lock: it held nothing, the one that handed it over has taken it, held the lock, and holds it no longer.
 pub record IsHandedOver (t i v : ℕ) (s u : State) : Type 0 where
   pub nothing : held_at s i v ≡ None
+  -- it sleeps at that lock
+  pub call : Call
+  pub there : call_at s v ≡ Some call
+  pub lock : call.lock ≡ i
+  pub key : ℕ
+  pub token : ParkToken
+  pub asleep : stance call.core ≡ Asleep key token
   pub taken : HasTaken u.wakes t v
   pub before : held_at s i t ≢ None
   pub after : held_at u i t ≡ None
@@ -130,6 +138,12 @@ module _ (laws : StepsAreCases) (s u : State) (t : ℕ) (fair : Bool) (answer : 
       let z = chosen_call s i v (ap is_chosen (sym (ap (λ st. st.stand) role) ∙ y.chosen)) in
       record {
         nothing = held_is s rws i v ∙ ap held_as (ap (option_and_then mode_standing) y.was ∙ ap mode_standing role ∙ z.nothing ∙ ap (λ n. mode_of (Reading n)) (alone v z.call z.untold.there));
+        call = z.call;
+        there = z.untold.there;
+        lock = z.lock;
+        key = z.untold.key;
+        token = z.untold.token;
+        asleep = z.untold.asleep;
         taken = elim (untold_or_taken s u t fair answer h x v z.call z.untold ne) [
           | inr taken ↦ taken
           | inl same ↦ absurd (false≢true (ap is_chosen (ap (λ st. st.stand) (role_of u i v _ y.after)) ∙ z.again u same))

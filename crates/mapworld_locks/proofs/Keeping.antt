@@ -115,12 +115,12 @@ IsSingle h = is_single h ≡ true
 -- nobody holds twice what it held once before
 module _ (s : State) (t : ℕ) (c : Call) (plain : IsPlain s) where
   record Keeps (u : State) : Type 0 where
-    kinds : All (λ k. k ≡ kind.Rw) u.kinds
+    kinds : u.kinds ≡ s.kinds
     single : All IsSingle u.holds
 
   same : (u : State) → u.kinds ≡ s.kinds → u.holds ≡ s.holds → Keeps u
   same u k h = record {
-    kinds = subst (All (λ k. k ≡ kind.Rw)) (sym k) plain.kinds;
+    kinds = k;
     single = subst (All IsSingle) (sym h) plain.single;
   }
 
@@ -152,7 +152,7 @@ module _ (s : State) (t : ℕ) (c : Call) (plain : IsPlain s) where
   goes here (Act.Section next) fair u b = inside next fair u b
   goes here Act.Sleep fair u b = absurd b
   goes here (Act.Done answer) fair u e = record {
-    kinds = subst (All (λ k. k ≡ kind.Rw)) (sym (ap (λ (x : State). x.kinds) e)) plain.kinds;
+    kinds = ap (λ (x : State). x.kinds) e;
     single = subst (All IsSingle) (sym (ap (λ (x : State). x.holds) e)) (all_set IsSingle s.holds (cell s t c.lock) (hold_after c.others c.core) plain.single (after c.core (plain.alone t c here)));
   }
     where
@@ -164,7 +164,11 @@ pub stepped_plain : (s u : State) (t : ℕ) (fair : Bool) (answer : Option CoreA
 stepped_plain s u t fair answer plain x =
     let k = goes s t x.call plain x.here (core_act x.call.core) fair u x.became in
     record {
-      kinds = k.kinds;
+      kinds = subst (All (λ k. k ≡ kind.Rw)) (sym k.kinds) plain.kinds;
       single = k.single;
       alone = λ v d at. (let from = (stepped_goes s u t fair answer x).comes v d at in from.follows.others ∙ plain.alone v from.call from.was);
     }
+
+-- the locks stay what they are
+pub stepped_kinds : (s u : State) (t : ℕ) (fair : Bool) (answer : Option CoreAnswer) → IsPlain s → IsStepped t fair answer s u → u.kinds ≡ s.kinds
+stepped_kinds s u t fair answer plain x = (goes s t x.call plain x.here (core_act x.call.core) fair u x.became).kinds

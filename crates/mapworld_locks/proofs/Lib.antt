@@ -14,4 +14,10 @@ mod Keeping
 mod Together
 mod Ending
 mod Answering
+mod Standing
+mod Beginning
+mod Stepping
+mod Following
+mod Finishing
+mod Starting
 pub mod Sizes

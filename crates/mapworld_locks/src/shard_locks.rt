@@ -1,4 +1,5 @@
 //! The locks of shards, with the desks that follow them.
+ghost use Rattle.std.specs.Option.{option_copied};
 ghost use Rattle.std.specs.Prelude.{◌≡◌, length, None, Some, true, is_some, slice_get, IfOk, IfErr};
 ghost use Rattle.parking_lot_core_lot.specs.declared.fault.SizeFault.TheVariants.{NoMemory};
 ghost use Rattle.parking_lot_world.specs.Machines.{can_move, ended, is_asleep};
@@ -44,7 +45,6 @@ impl<A: Allocator> ShardLocks<A> {
         requires may { MayAsk thread shard call self.old }
         ensures { LockBegins thread shard call self.old self.new }
     {
-        laws::each_step_is_a_case();
         self.machine.begin(thread, shard, call);
     }
 
@@ -57,6 +57,7 @@ impl<A: Allocator> ShardLocks<A> {
     {
         self.begin(thread, shard, call);
         self.step(thread, fair);
+        self.known();
     }
 
     /// A thread makes one step of its call. `fair` says whether it hands a lock over, where it stores in the section of an exclusive release.
@@ -153,7 +154,7 @@ impl<A: Allocator> ShardLocks<A> {
 
     /// The desk of a shard; `None` beyond the last.
     pub fn desk(&self, shard: usize) -> Option<&ShardDesk<A>>
-        ensures { result.now ≡ slice_get self.now.desks shard }
+        ensures { option_copied result ≡ slice_get self.now.desks shard }
     {
         self.desks.get(shard)
     }

@@ -19,6 +19,7 @@ use Rattle.mapworld_calls.specs.Placed.{IsDoneWithin}
 use Rattle.mapworld_calls.proofs.Lists.{slice_get-set_same, slice_get-set_cases}
 use Rattle.mapworld_calls.proofs.Grown.{Grows, found-grown, block_key-grown, contents-own, contents-were, contents-other}
 use Rattle.mapworld_calls.proofs.Kept.{keeps-grown}
+use Rattle.mapworld_locks.specs.Stands.{stand_in}
 use Rattle.mapworld_state.specs.declared.step.Step.{Step}
 use Rattle.mapworld_state.specs.declared.place.Phase.{Phase}
 use Rattle.mapworld_state.specs.declared.place.Phase.TheVariants as phase
@@ -30,7 +31,7 @@ use Rattle.mapworld_state.specs.Sound.{is_resting, IsReleasing, block_after, IsI
 use Rattle.mapworld_sound.proofs.Effects.{effect-grow, Anyhow}
 use Rattle.mapworld_sound.proofs.Others.{IsInCall-push}
 use Rattle.mapworld_sound.proofs.Timing.{placed-grown}
-use Rattle.mapworld_sound.proofs.Holding.{holds-same}
+use Rattle.mapworld_sound.proofs.Holding.{holds-same, stand-at}
 use Rattle.mapworld_sound.proofs.Building.{in_call-moved, started-stays, sound-by, replies-kept, tables-changed, claim-at, reached-one, told-one, ready-outside}
 use Rattle.mapworld_sound.proofs.Admitting.{kept-alone, keyed-apart}
 use Rattle.mapworld_sound.proofs.Growing.{own-grown}
@@ -136,15 +137,15 @@ module _ {K V S D T : Type 0} (x : Setup K V D T) (laws : Laws x) (w : State K V
   done-kept st' (ask.Held g) e old = old
 
   -- the world behind the deed
-  pub sound-deed : (f : Phase K V D T) → p.phase ≡ f → is_resting f ≡ false → (changed : ShardPairs K V)
+  pub sound-deed : (f : Phase K V D T) → p.phase ≡ f → is_resting f ≡ false → stand_in w.locks s.thread ≡ None → (changed : ShardPairs K V)
       → TablesAgree x (slice_set w.blocks d.index c) (slice_set w.tables p.shard changed)
-      → Sound x (record (stepped w s (record p { phase = phase.Release (keyed_answer x.deeds k o) })) { tables = slice_set w.tables p.shard changed; holds = w.holds; blocks = slice_set w.blocks d.index c; replies = w.replies })
-  sound-deed f before busy changed agree =
+      → Sound x (record (stepped w s (record p { phase = phase.Release (keyed_answer x.deeds k o) })) { tables = slice_set w.tables p.shard changed; locks = w.locks; blocks = slice_set w.blocks d.index c; replies = w.replies })
+  sound-deed f before busy out changed agree =
       let p' : Place K V D T = record p { phase = phase.Release (keyed_answer x.deeds k o) } in
       let outside = keyed-apart x laws w s w sound p st k call.asked in
       let closes : block_after p' ≡ None = ap (λ (z : Bool). if z then None else p.block) call.closes in
       let resting : is_resting p.phase ≡ false = ap is_resting before ∙ busy in
-      sound-by x w s p p' at sound (slice_set w.blocks d.index c) (slice_set w.tables p.shard changed) w.holds w.replies Anyhow
+      sound-by x w s p p' at sound (slice_set w.blocks d.index c) (slice_set w.tables p.shard changed) w.locks w.replies Anyhow
       (record {
         effect = effect-grow x laws w.blocks s.thread d.index b c grows thread-is;
         count = λ u ne. refl;
@@ -173,7 +174,7 @@ module _ {K V S D T : Type 0} (x : Setup K V D T) (laws : Laws x) (w : State K V
         );
       })
       agree
-      (holds-same w.places w.holds sound.holds s.thread p p' at refl)
+      (holds-same w.places w.locks sound.holds s.thread p p' at refl out)
       (placed-grown x (threads_of w) s.thread (started_of w) (started_of (stepped w s p')) w.blocks w.replies (started-stays x w s p p' at (λ n h. h)) d.index b c listed
       (record { thread = counts.thread; call = counts.call; visit = counts.visit; start = counts.start; position = counts.position; visited = counts.visited }) counts.end (done-kept (started_of (stepped w s p'))) sound.placed)
       (replies-kept x w.blocks (slice_set w.blocks d.index c) w.replies (λ j r hr. keeps-grown x laws w.blocks d.index b c grows r.thread r.call) sound.replies)
@@ -188,7 +189,8 @@ module _ {K V S D T : Type 0} (x : Setup K V D T) (laws : Laws x) (w : State K V
       let n = counted-block w.blocks p.block d.index p.next a.blocks d.mine a.counted in
       let k : Keyed K V D = keyed.Insert a.key a.value in
       subst (Sound x) (sym (a.after ∙ ap (λ (z : List (Block K)). record (stepped w s (record p { phase = phase.Release answer.None })) { tables = slice_set w.tables p.shard a.changed; blocks = z }) n.4))
-      (sound-deed x laws w s sound p a.stands k cl.0 a.key None d a.table a.held n.0 n.1 n.2 n.3 (phase.Append a.key a.value) a.before refl a.changed
+      (sound-deed x laws w s sound p a.stands k cl.0 a.key None d a.table a.held n.0 n.1 n.2 n.3 (phase.Append a.key a.value) a.before refl
+      (stand-at w.places w.locks sound.holds s.thread p a.stands (phase.Append a.key a.value) a.before) a.changed
       (agrees x laws w s sound p a.stands k cl.0 a.key None d a.table a.held n.0 n.1 n.2 n.3 a.changed a.puts))
 
   pub sound-applies : Applies x w s w' → Sound x w'
@@ -204,6 +206,7 @@ module _ {K V S D T : Type 0} (x : Setup K V D T) (laws : Laws x) (w : State K V
       let pair : a.pair ≡ was = same_Some a.pair was (sym a.found ∙ is) in
       subst (Sound x) (sym (a.after ∙ (ap (λ (z : List (Block K)). record (stepped w s (record p { phase = phase.Release (keyed_answer x.deeds a.call (Some a.pair)) })) { tables = slice_set w.tables p.shard a.changed; blocks = z }) n.4
       ∙ ap (λ (z : K × V). record (stepped w s (record p { phase = phase.Release (keyed_answer x.deeds a.call (Some z)) })) { tables = slice_set w.tables p.shard a.changed; blocks = slice_set w.blocks d.index n.1 }) pair)))
-      (sound-deed x laws w s sound p a.stands a.call cl.1 key (Some was) d a.table a.held n.0 n.1 n.2 n.3 (phase.Apply a.call) a.before refl a.changed
+      (sound-deed x laws w s sound p a.stands a.call cl.1 key (Some was) d a.table a.held n.0 n.1 n.2 n.3 (phase.Apply a.call) a.before refl
+      (stand-at w.places w.locks sound.holds s.thread p a.stands (phase.Apply a.call) a.before) a.changed
       (agrees x laws w s sound p a.stands a.call cl.1 key (Some was) d a.table a.held n.0 n.1 n.2 n.3 a.changed
       (subst (λ (z : K × V). Puts x.eq a.table a.changed key (keyed_leaves x.deeds a.call (Some z))) pair a.puts)))

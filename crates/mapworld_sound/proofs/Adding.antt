@@ -11,15 +11,17 @@ use Rattle.mapworld_calls.specs.declared.reply.Reply.{Reply}
 use Rattle.mapworld_calls.specs.Setup.{Setup}
 use Rattle.mapworld_calls.specs.Placed.{answered_of, IsSessionDone, IsDoneWithin, StaysListed, OnlyAdds, WellPlaced}
 use Rattle.mapworld_calls.proofs.Lists.{slice_get-set_same, slice_get-set_other, slice_get-push_below}
+use Rattle.mapworld_locks.specs.Views.{Shown}
 use Rattle.mapworld_state.specs.declared.step.Step.{Step}
 use Rattle.mapworld_state.specs.Places.{Place}
 use Rattle.mapworld_state.specs.State.{State, threads_of, started_of, next_step}
 use Rattle.mapworld_state.specs.Moves.{start_phase, start_counts, request_of, found_done, stepped, ListsBlock, CountsCall, EndsAt, EndsBlock}
-use Rattle.mapworld_state.specs.Steps.{IsStep, start, admit, find, find_grows, find_refused, deed_appends, deed_applies, deed_views, deed_reads, deed_changes, deed_fills, downgrade, release, answers}
+use Rattle.mapworld_state.specs.Steps.{Finds, Answers, IsStep, start, lock, find, find_grows, find_refused, deed_appends, deed_applies, deed_views, deed_reads, deed_changes, deed_fills, downgrade, release, answers}
 use Rattle.mapworld_state.specs.Running.{StaysFixed}
 use Rattle.mapworld_state.specs.Sound.{Sound}
 use Rattle.mapworld_state.proofs.Owning.{if-own, starts-own}
 use Rattle.mapworld_sound.proofs.Building.{map-push, reply-below}
+use Rattle.mapworld_sound.proofs.Admitting.{sound-entered, sound-left}
 
 abbrev pub BlocksStay : {K : Type 0} → List (Block K) → List (Block K) → Type 0
 BlocksStay {K} bs bs' = (i : ℕ) (b : Block K) → slice_get bs i ≡ Some b → (c : Block K) × (slice_get bs' i ≡ Some c) × StaysListed b c
@@ -123,44 +125,65 @@ pub record Step-adds {K V S D T : Type 0} (w w' : State K V S D T) (s : Step) : 
   pub replies : (more : List (Reply K V T)) × (w'.replies ≡ w.replies ++ more)
   pub fixed : StaysFixed w w'
 
-module _ {K V S D T : Type 0} (x : Setup K V D T) (w : State K V S D T) (s : Step) (w' : State K V S D T) (sound : Sound x w) where
-  fixed-by : (p : Place K V D T) (tables : _) (holds : _) (bs : List (Block K)) (rs : List (Reply K V T)) → length tables ≡ length w.tables
-      → w' ≡ record (stepped w s p) { tables = tables; holds = holds; blocks = bs; replies = rs } → BlocksStay w.blocks bs → (more : List (Reply K V T)) × (rs ≡ w.replies ++ more) → Step-adds w w' s
-  fixed-by p tables holds bs rs shards after blocks more = subst (λ (z : State K V S D T). Step-adds w z s) (sym after) (record {
+module _ {K V S D T : Type 0} (w : State K V S D T) (s : Step) (w' : State K V S D T) where
+  fixed-by : (p : Place K V D T) (tables : _) (locks : Shown) (bs : List (Block K)) (rs : List (Reply K V T)) → length tables ≡ length w.tables
+      → w' ≡ record (stepped w s p) { tables = tables; locks = locks; blocks = bs; replies = rs } → BlocksStay w.blocks bs → (more : List (Reply K V T)) × (rs ≡ w.replies ++ more) → Step-adds w w' s
+  fixed-by p tables locks bs rs shards after blocks more = subst (λ (z : State K V S D T). Step-adds w z s) (sym after) (record {
     steps = refl;
     blocks = blocks;
     replies = more;
     fixed = record { hasher = refl; shards = shards; opening = refl; programs = refl };
   })
 
-  nothing : (more : List (Reply K V T)) × (w.replies ≡ w.replies ++ more)
-  nothing = ([], sym (append-nil w.replies))
+nothing : {K V S D T : Type 0} (w : State K V S D T) → (more : List (Reply K V T)) × (w.replies ≡ w.replies ++ more)
+nothing w = ([], sym (append-nil w.replies))
 
+-- what comes before a step and is no step of its own adds nothing
+silent-adds : {K V S D T : Type 0} (w mid w' : State K V S D T) (s : Step) (places : List (Place K V D T)) (locks : Shown) → mid ≡ record w { places = places; locks = locks } → Step-adds mid w' s → Step-adds w w' s
+silent-adds {K} {V} {S} {D} {T} w mid w' s places locks is = subst (λ (z : State K V S D T). Step-adds z w' s → Step-adds w w' s) (sym is) (λ g. record {
+  steps = g.steps;
+  blocks = g.blocks;
+  replies = g.replies;
+  fixed = record { hasher = g.fixed.hasher; shards = g.fixed.shards; opening = g.fixed.opening; programs = g.fixed.programs };
+})
+
+module _ {K V S D T : Type 0} (x : Setup K V D T) (w : State K V S D T) (s : Step) (w' : State K V S D T) (sound : Sound x w) where
+  found-adds : Finds x w s w' → Step-adds w w' s
+  found-adds h = fixed-by w s w' _ w.tables w.locks h.blocks w.replies refl h.after (listed-stays x w sound s.thread h.place h.stands h.done h.blocks h.listed) (nothing w)
+
+  answered-adds : Answers x w s w' → Step-adds w w' s
+  answered-adds h = fixed-by w s w' _ w.tables w.locks h.blocks (w.replies ++ _ ∷ []) refl h.after (ended-stays x w sound s.thread h.place h.stands h.place.block (next_step w) h.blocks refl h.ended) (_ ∷ [], refl)
+
+module _ {K V S D T : Type 0} (x : Setup K V D T) (w : State K V S D T) (s : Step) (w' : State K V S D T) (sound : Sound x w) where
   pub step-adds : IsStep x w s w' → Step-adds w w' s
-  step-adds (start h) = fixed-by _ w.tables w.holds h.blocks w.replies refl h.after
-      (counted-stays x w sound s.thread h.place h.stands (start_counts (start_phase {T = T} h.ask h.place.guard) h.place.block) h.blocks (λ i e. starts-own (start_phase {T = T} h.ask h.place.guard) h.place.block i e) h.counted) nothing
-  step-adds (admit h) = fixed-by _ w.tables _ w.blocks w.replies refl h.after (blocks-same w.blocks w.blocks refl) nothing
-  step-adds (find h) = fixed-by _ w.tables w.holds h.blocks w.replies refl h.after (listed-stays x w sound s.thread h.place h.stands h.done h.blocks h.listed) nothing
-  step-adds (find_grows h) = fixed-by _ (slice_set w.tables h.place.shard h.grown) w.holds h.blocks w.replies (length-set w.tables h.place.shard h.grown) h.after
-      (listed-stays x w sound s.thread h.place h.stands (found_done {D = D} (request_of h.call) false true) h.blocks h.listed) nothing
-  step-adds (find_refused h) = fixed-by _ w.tables w.holds w.blocks w.replies refl h.after (blocks-same w.blocks w.blocks refl) nothing
-  step-adds (deed_appends h) = fixed-by _ (slice_set w.tables h.place.shard h.changed) w.holds h.blocks w.replies (length-set w.tables h.place.shard h.changed) h.after
-      (counted-stays x w sound s.thread h.place h.stands h.place.block h.blocks (λ i e. e) h.counted) nothing
-  step-adds (deed_applies h) = fixed-by _ (slice_set w.tables h.place.shard h.changed) w.holds h.blocks w.replies (length-set w.tables h.place.shard h.changed) h.after
-      (counted-stays x w sound s.thread h.place h.stands h.place.block h.blocks (λ i e. e) h.counted) nothing
-  step-adds (deed_views h) = fixed-by _ w.tables w.holds h.blocks w.replies refl h.after
-      (listed-stays x w sound s.thread h.place h.stands (Some 1) h.blocks h.listed) nothing
-  step-adds (deed_reads h) = fixed-by _ w.tables w.holds h.blocks w.replies refl h.after
-      (counted-stays x w sound s.thread h.place h.stands h.place.block h.blocks (λ i e. e) h.counted) nothing
-  step-adds (deed_changes h) = fixed-by _ (slice_set w.tables h.place.shard h.changed) w.holds h.blocks w.replies (length-set w.tables h.place.shard h.changed) h.after
-      (counted-stays x w sound s.thread h.place h.stands h.place.block h.blocks (λ i e. e) h.counted) nothing
-  step-adds (deed_fills h) = fixed-by _ (slice_set w.tables h.place.shard h.changed) w.holds h.blocks w.replies (length-set w.tables h.place.shard h.changed) h.after
-      (counted-stays x w sound s.thread h.place h.stands h.place.block h.blocks (λ i e. e) h.counted) nothing
-  step-adds (downgrade h) = fixed-by _ w.tables _ h.blocks w.replies refl h.after
-      (counted-stays x w sound s.thread h.place h.stands h.place.block h.blocks (λ i e. e) h.counted) nothing
-  step-adds (release h) = fixed-by _ w.tables _ h.blocks w.replies refl h.after
-      (counted-stays x w sound s.thread h.place h.stands (if is_some h.place.guard then h.place.block else None) h.blocks (λ i e. if-own (is_some h.place.guard) h.place.block i e) h.counted) nothing
-  step-adds (answers h) = fixed-by _ w.tables w.holds h.blocks (w.replies ++ _ ∷ []) refl h.after (ended-stays x w sound s.thread h.place h.stands h.place.block (next_step w) h.blocks refl h.ended) (_ ∷ [], refl)
+  step-adds (start h) = fixed-by w s w' _ w.tables h.locks h.blocks w.replies refl h.after
+      (counted-stays x w sound s.thread h.place h.stands (start_counts (start_phase {T = T} h.ask h.place.guard) h.place.block) h.blocks (λ i e. starts-own (start_phase {T = T} h.ask h.place.guard) h.place.block i e) h.counted) (nothing w)
+  step-adds (lock h) = fixed-by w s w' _ w.tables h.locks w.blocks w.replies refl h.after (blocks-same w.blocks w.blocks refl) (nothing w)
+  step-adds (find h) =
+      let g = found-adds x h.mid s w' (sound-entered x w s.thread h.mid sound h.enters) h.finds in
+      elim h.enters [ inl same ↦ silent-adds w h.mid w' s w.places w.locks same g | inr e ↦ silent-adds w h.mid w' s _ e.locks e.after g ]
+  step-adds (find_grows h) = fixed-by w s w' _ (slice_set w.tables h.place.shard h.grown) w.locks h.blocks w.replies (length-set w.tables h.place.shard h.grown) h.after
+      (listed-stays x w sound s.thread h.place h.stands (found_done {D = D} (request_of h.call) false true) h.blocks h.listed) (nothing w)
+  step-adds (find_refused h) = fixed-by w s w' _ w.tables w.locks w.blocks w.replies refl h.after (blocks-same w.blocks w.blocks refl) (nothing w)
+  step-adds (deed_appends h) = fixed-by w s w' _ (slice_set w.tables h.place.shard h.changed) w.locks h.blocks w.replies (length-set w.tables h.place.shard h.changed) h.after
+      (counted-stays x w sound s.thread h.place h.stands h.place.block h.blocks (λ i e. e) h.counted) (nothing w)
+  step-adds (deed_applies h) = fixed-by w s w' _ (slice_set w.tables h.place.shard h.changed) w.locks h.blocks w.replies (length-set w.tables h.place.shard h.changed) h.after
+      (counted-stays x w sound s.thread h.place h.stands h.place.block h.blocks (λ i e. e) h.counted) (nothing w)
+  step-adds (deed_views h) = fixed-by w s w' _ w.tables w.locks h.blocks w.replies refl h.after
+      (listed-stays x w sound s.thread h.place h.stands (Some 1) h.blocks h.listed) (nothing w)
+  step-adds (deed_reads h) = fixed-by w s w' _ w.tables w.locks h.blocks w.replies refl h.after
+      (counted-stays x w sound s.thread h.place h.stands h.place.block h.blocks (λ i e. e) h.counted) (nothing w)
+  step-adds (deed_changes h) = fixed-by w s w' _ (slice_set w.tables h.place.shard h.changed) w.locks h.blocks w.replies (length-set w.tables h.place.shard h.changed) h.after
+      (counted-stays x w sound s.thread h.place h.stands h.place.block h.blocks (λ i e. e) h.counted) (nothing w)
+  step-adds (deed_fills h) = fixed-by w s w' _ (slice_set w.tables h.place.shard h.changed) w.locks h.blocks w.replies (length-set w.tables h.place.shard h.changed) h.after
+      (counted-stays x w sound s.thread h.place h.stands h.place.block h.blocks (λ i e. e) h.counted) (nothing w)
+  step-adds (downgrade h) = fixed-by w s w' _ w.tables h.locks h.blocks w.replies refl h.after
+      (counted-stays x w sound s.thread h.place h.stands h.place.block h.blocks (λ i e. e) h.counted) (nothing w)
+  step-adds (release h) = fixed-by w s w' _ w.tables h.locks h.blocks w.replies refl h.after
+      (counted-stays x w sound s.thread h.place h.stands (if is_some h.place.guard then h.place.block else None) h.blocks (λ i e. if-own (is_some h.place.guard) h.place.block i e) h.counted) (nothing w)
+  step-adds (answers h) =
+      let g = answered-adds x h.mid s w' (sound-left x w s.thread h.mid sound h.leaves) h.answers in
+      elim h.leaves [ inl same ↦ silent-adds w h.mid w' s w.places w.locks same g | inr e ↦ silent-adds w h.mid w' s w.places e.locks e.after g ]
 
 -- what is added over a run
 pub adds-none : {K V S D T : Type 0} (w : State K V S D T) → OnlyAdds (threads_of w) (threads_of w) w.blocks w.blocks w.replies w.replies

@@ -189,7 +189,7 @@ module _ {K V S D T : Type 0} (x : Setup K V D T) (laws : Laws x) (w : State K V
       let begun : IsStepOf (threads_of w) s.thread a.start = subst (λ (z : ℕ). IsStepOf (threads_of w) s.thread z) start call.begun in
       let below = λ (b : ℕ) (h : session_of x s.thread p.next ≡ Some b). session-below x s.thread p.next b h in
       subst (Sound x) (sym a.after)
-      (sound-by x w s p p' a.stands sound a.blocks w.tables w.holds (w.replies ++ r ∷ []) Anyhow
+      (sound-by x w s p p' a.stands sound a.blocks w.tables w.locks (w.replies ++ r ∷ []) Anyhow
       (record {
         effect = e.effect;
         count = λ u ne. answered_of-other w.replies r u (λ z. ne (sym z));
@@ -210,7 +210,7 @@ module _ {K V S D T : Type 0} (x : Setup K V D T) (laws : Laws x) (w : State K V
         claim = (refl, cl.2, ended-ready x w.blocks a.blocks w.tables s.thread p.next (next_step w) p p' e refl refl refl (p.next + 1) (session_of x s.thread (p.next + 1)) (block_after p) cl.4);
       })
       (tables-same x w.blocks a.blocks w.tables sound.tables e.contents_stay)
-      (holds-same w.places w.holds sound.holds s.thread p p' a.stands refl)
+      (holds-same w.places w.locks sound.holds s.thread p p' a.stands refl a.out)
       (placed-answer x (threads_of w) (started_of w) (started_of (stepped w s p')) w.blocks a.blocks w.replies r
       (λ t ne. started-other x w s p p' a.stands t ne)
       (started-was x w s p p' a.stands ∙ a.begun)

@@ -18,7 +18,7 @@ use Rattle.mapworld_calls.proofs.Programs.{opening_below}
 use Rattle.mapworld_calls.proofs.Kept.{Keeps, answered-kept}
 use Rattle.mapworld_state.specs.declared.holds.Mode.{Mode}
 use Rattle.mapworld_state.specs.declared.holds.Mode.TheVariants.{Exclusive}
-use Rattle.mapworld_state.specs.Holds.{Desks}
+use Rattle.mapworld_locks.specs.Views.{Shown}
 use Rattle.mapworld_state.specs.declared.step.Step.{Step}
 use Rattle.mapworld_state.specs.declared.place.Phase.{Phase}
 use Rattle.mapworld_state.specs.declared.place.Guard.{Guard}
@@ -247,7 +247,7 @@ module _ {K V S D T : Type 0} (x : Setup K V D T) (w : State K V S D T) (s : Ste
       (cases_eq t s.thread)
 
 module _ {K V S D T : Type 0} (x : Setup K V D T) (w : State K V S D T) (s : Step) (p p' : Place K V D T) (at : slice_get w.places s.thread ≡ Some p) (sound : Sound x w)
-    (bs' : List (Block K)) (tables' : List (ShardPairs K V)) (holds' : Desks) (replies' : List (Reply K V T)) (F : Block K → Type 0) where
+    (bs' : List (Block K)) (tables' : List (ShardPairs K V)) (locks' : Shown) (replies' : List (Reply K V T)) (F : Block K → Type 0) where
   -- what a step leaves of other threads' facts
   pub record Leaves : Type 0 where
     pub effect : Effect x w.blocks bs' s.thread F
@@ -259,10 +259,10 @@ module _ {K V S D T : Type 0} (x : Setup K V D T) (w : State K V S D T) (s : Ste
   pub sound-by : Leaves
       → Stands x (threads_of w ++ s.thread ∷ []) bs' replies' tables' s.thread p'
       → TablesAgree x bs' tables'
-      → HoldsMatch (slice_set w.places s.thread p') holds'
+      → HoldsMatch (slice_set w.places s.thread p') locks'
       → WellPlaced x (threads_of w ++ s.thread ∷ []) (started_of (stepped w s p')) bs' replies'
       → ((i : ℕ) (r : Reply K V T) → slice_get replies' i ≡ Some r → IsAnswered x bs' r.thread r.call r.answer)
-      → Sound x (record (stepped w s p') { tables = tables'; holds = holds'; blocks = bs'; replies = replies' })
+      → Sound x (record (stepped w s p') { tables = tables'; locks = locks'; blocks = bs'; replies = replies' })
   sound-by leaves mine agree match placed answered =
       let threads = map-push (λ (z : Step). z.thread) w.steps s in
       record {

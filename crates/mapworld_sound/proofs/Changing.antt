@@ -32,7 +32,7 @@ use Rattle.mapworld_state.specs.Steps.{Changes, Fills}
 use Rattle.mapworld_state.specs.Sound.{may_own, block_after, GuardIs, Sound}
 use Rattle.mapworld_state.proofs.Owning.{same-kind}
 use Rattle.mapworld_sound.proofs.Others.{IsInCall-push}
-use Rattle.mapworld_sound.proofs.Holding.{holds-same}
+use Rattle.mapworld_sound.proofs.Holding.{holds-same, owes-none, stand-at}
 use Rattle.mapworld_sound.proofs.Building.{in_call-moved, holds-moved, session-next, tables-changed, claim-at, taken-at, within-at}
 use Rattle.mapworld_sound.proofs.Admitting.{kept-alone}
 use Rattle.mapworld_sound.proofs.Finding.{ready-inside}
@@ -119,7 +119,7 @@ module _ {K V S D T : Type 0} (x : Setup K V D T) (laws : Laws x) (w : State K V
       let on = growing.session-on x laws w s sound p a.stands h call.asked c i inside session b d n.2 n.3 still tables' p' refl refl (o, leaves ∙ at) (λ own k z. absurd (none-some own z)) in
       subst (Sound x) (sym (after true e))
       (growing.sound-changed x laws w s sound p a.stands h call.asked c i inside session b d n.2 n.3 still p'
-      (rw call.started refl) (λ m z. z) tables' (length-set w.tables p.shard a.changed) (kept-alone x w s p a.stands sound a.changed alone) agree w.holds refl (inl refl) (
+      (rw call.started refl) (λ m z. z) tables' (length-set w.tables p.shard a.changed) (kept-alone x w s p a.stands sound a.changed alone) agree w.locks refl (inl refl) (
         ask.Held h,
         alone.hold,
         IsInCall-push x (threads_of w) s.thread s.thread p' _ (in_call-moved x p p' (threads_of w) s.thread _ refl refl refl call),
@@ -128,7 +128,7 @@ module _ {K V S D T : Type 0} (x : Setup K V D T) (laws : Laws x) (w : State K V
       )
       (taken-at x (threads_of w) w.blocks w.replies w.tables s.thread p f a.before st)
       (within-at x (threads_of w) w.blocks w.replies w.tables s.thread p f a.before st)
-      (holds-same w.places w.holds sound.holds s.thread p p' a.stands refl)
+      (holds-same w.places w.locks sound.holds s.thread p p' a.stands refl (stand-at w.places w.locks sound.holds s.thread p a.stands f a.before))
       (growing.owns-grown x laws w s sound p a.stands h call.asked c i inside session b d n.2 n.3 still p' refl (ap may_own a.before))) in
       -- or stays
       let stored = λ (u : Stores x.deeds h a.kind a.pair).
@@ -140,7 +140,7 @@ module _ {K V S D T : Type 0} (x : Setup K V D T) (laws : Laws x) (w : State K V
       (subst (λ (z : At K V). Puts x.eq a.table a.changed a.key (pair_in z)) (sym leaves) a.puts) p' refl) in
       subst (Sound x) (sym (after false u.1))
       (growing.sound-changed x laws w s sound p a.stands h call.asked c i inside session b d n.2 n.3 still p'
-      (rw call.started refl) (λ m z. z) tables' (length-set w.tables p.shard a.changed) (kept-alone x w s p a.stands sound a.changed alone) agree w.holds refl (inl refl) (
+      (rw call.started refl) (λ m z. z) tables' (length-set w.tables p.shard a.changed) (kept-alone x w s p a.stands sound a.changed alone) agree w.locks refl (inl refl) (
         ask.Held h,
         IsInCall-push x (threads_of w) s.thread s.thread p' _ (in_call-moved x p p' (threads_of w) s.thread _ refl refl refl call),
         (λ z. absurd (none-some (guard.Pair a.kind) (sym z ∙ a.guarded))),
@@ -149,7 +149,7 @@ module _ {K V S D T : Type 0} (x : Setup K V D T) (laws : Laws x) (w : State K V
       )
       (taken-at x (threads_of w) w.blocks w.replies w.tables s.thread p f a.before st)
       (within-at x (threads_of w) w.blocks w.replies w.tables s.thread p f a.before st)
-      (holds-same w.places w.holds sound.holds s.thread p p' a.stands refl)
+      (holds-same w.places w.locks sound.holds s.thread p p' a.stands refl (owes-none p' _ (stand-at w.places w.locks sound.holds s.thread p a.stands f a.before)))
       (growing.owns-grown x laws w s sound p a.stands h call.asked c i inside session b d n.2 n.3 still p' refl (ap may_own a.before))) in
       elim (changes-by x.deeds h a.kind a.pair is-change) [ inl u ↦ stored u | inr e ↦ ended e.0 e.1 e.2 ]
 
@@ -200,7 +200,7 @@ module _ {K V S D T : Type 0} (x : Setup K V D T) (laws : Laws x) (w : State K V
       let stays : Some i ≡ block_after p' = sym g.3 ∙ sym (ap (λ (z : Bool). if z then None else p.block) call.closes) in
       subst (Sound x) (sym (a.after ∙ ap (λ (z : List (Block K)). record (stepped w s p') { tables = tables'; blocks = z }) n.4))
       (growing.sound-changed x laws w s sound p a.stands h call.asked c i inside session b d n.2 n.3 still p'
-      (rw call.started refl) (λ m z. z) tables' (length-set w.tables p.shard a.changed) (kept-alone x w s p a.stands sound a.changed alone) agree w.holds refl (inl refl) (
+      (rw call.started refl) (λ m z. z) tables' (length-set w.tables p.shard a.changed) (kept-alone x w s p a.stands sound a.changed alone) agree w.locks refl (inl refl) (
         ask.Held h,
         IsInCall-push x (threads_of w) s.thread s.thread p' _ (in_call-moved x p p' (threads_of w) s.thread _ refl refl refl call),
         (λ z. absurd (none-some (guard.Pair way.Exclusive) (sym z))),
@@ -211,5 +211,5 @@ module _ {K V S D T : Type 0} (x : Setup K V D T) (laws : Laws x) (w : State K V
       )
       (taken-at x (threads_of w) w.blocks w.replies w.tables s.thread p f a.before st)
       (within-at x (threads_of w) w.blocks w.replies w.tables s.thread p f a.before st)
-      (holds-same w.places w.holds sound.holds s.thread p p' a.stands refl)
+      (holds-same w.places w.locks sound.holds s.thread p p' a.stands refl (owes-none p' _ (stand-at w.places w.locks sound.holds s.thread p a.stands f a.before)))
       (growing.owns-grown x laws w s sound p a.stands h call.asked c i inside session b d n.2 n.3 still p' refl (ap may_own a.before)))

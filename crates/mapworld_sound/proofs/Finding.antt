@@ -39,7 +39,7 @@ use Rattle.mapworld_state.specs.Steps.{Finds, GrowsShard, Views}
 use Rattle.mapworld_state.specs.Sound.{is_resting, may_own, block_after, GuardIs, HoldsShard, IsInCall, IsOnItsWay, IsBeforeDeed, HasReached, HasSession, IsInSession, IsReady, HasPairs, TablesAgree, Sound}
 use Rattle.mapworld_sound.proofs.Others.{IsInCall-push}
 use Rattle.mapworld_sound.proofs.Timing.{placed-same}
-use Rattle.mapworld_sound.proofs.Holding.{holds-same}
+use Rattle.mapworld_sound.proofs.Holding.{holds-same, stand-at}
 use Rattle.mapworld_sound.proofs.Building.{in_call-moved, holds-moved, tables-same, tables-grown, started-stays, sound-by, claim-at, taken-at, within-at, reached-one, told-one, ready-outside}
 use Rattle.mapworld_sound.proofs.Admitting.{leaves-same, kept-alone, owns-on, keyed-apart, begin-apart}
 use Rattle.mapworld_sound.proofs.Listing.{new-key, new-finds, sound-listed, contents-listed}
@@ -240,7 +240,7 @@ module _ {K V S D T : Type 0} (x : Setup K V D T) (laws : Laws x) (w : State K V
         let holds : HoldsShard p Exclusive = subst (λ (m : Mode). HoldsShard p m) alone c.2 in
         let p' : Place K V D T = record p { guard = None; phase = phase.Grow g } in
         subst (λ (z : List (Block K)). Sound x (record (stepped w s p') { blocks = z })) (sym listed)
-        (sound-by x w s p p' at sound w.blocks w.tables w.holds w.replies _ (leaves-same x w s p p' at sound _)
+        (sound-by x w s p p' at sound w.blocks w.tables w.locks w.replies _ (leaves-same x w s p p' at sound _)
         (record {
           program = st.program;
           has = st.has;
@@ -257,7 +257,7 @@ module _ {K V S D T : Type 0} (x : Setup K V D T) (laws : Laws x) (w : State K V
           );
         })
         (tables-same x w.blocks w.blocks w.tables sound.tables (λ q. refl))
-        (holds-same w.places w.holds sound.holds s.thread p p' at refl)
+        (holds-same w.places w.locks sound.holds s.thread p p' at refl (stand-at w.places w.locks sound.holds s.thread p at f before))
         (placed-same x (threads_of w) s.thread (started_of w) (started_of (stepped w s p')) w.blocks w.replies (started-stays x w s p p' at (λ n h. h)) sound.placed)
         sound.replies)
 
@@ -380,7 +380,7 @@ module _ {K V S D T : Type 0} (x : Setup K V D T) (laws : Laws x) (w : State K V
         let c = claim-at x (threads_of w) w.blocks w.replies w.tables s.thread p (phase.Find r) before st in
         let p' : Place K V D T = record p { guard = None; phase = phase.View k d } in
         subst (λ (z : List (Block K)). Sound x (record (stepped w s p') { blocks = z })) (sym listed)
-        (sound-by x w s p p' at sound w.blocks w.tables w.holds w.replies _ (leaves-same x w s p p' at sound _)
+        (sound-by x w s p p' at sound w.blocks w.tables w.locks w.replies _ (leaves-same x w s p p' at sound _)
         (record {
           program = st.program;
           has = st.has;
@@ -398,7 +398,7 @@ module _ {K V S D T : Type 0} (x : Setup K V D T) (laws : Laws x) (w : State K V
           );
         })
         (tables-same x w.blocks w.blocks w.tables sound.tables (λ q. refl))
-        (holds-same w.places w.holds sound.holds s.thread p p' at refl)
+        (holds-same w.places w.locks sound.holds s.thread p p' at refl (stand-at w.places w.locks sound.holds s.thread p at (phase.Find r) before))
         (placed-same x (threads_of w) s.thread (started_of w) (started_of (stepped w s p')) w.blocks w.replies (started-stays x w s p p' at (λ n h. h)) sound.placed)
         sound.replies)
     found-by (request.Keyed (keyed.View k d)) before None is room roomy blocks listed =

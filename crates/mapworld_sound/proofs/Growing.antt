@@ -24,7 +24,7 @@ use Rattle.mapworld_calls.proofs.Grown.{Grows, IsQuiet, found-grown, block_key-g
 use Rattle.mapworld_calls.proofs.Kept.{keeps-grown}
 use Rattle.mapworld_state.specs.declared.holds.Mode.TheVariants.{Exclusive}
 use Rattle.mapworld_state.specs.declared.step.Step.{Step}
-use Rattle.mapworld_state.specs.Holds.{Desks}
+use Rattle.mapworld_locks.specs.Views.{Shown}
 use Rattle.mapworld_state.specs.declared.holds.Mode.{Mode}
 use Rattle.mapworld_state.specs.declared.place.Way.{Way}
 use Rattle.mapworld_state.specs.declared.place.Way.TheVariants as way
@@ -292,14 +292,14 @@ module _ {K V S D T : Type 0} (x : Setup K V D T) (laws : Laws x) (w : State K V
     pub sound-changed : (tables' : List (ShardPairs K V)) → length tables' ≡ length w.tables
         → ((u : ℕ) (q : Place K V D T) (m : Mode) → u ≢ s.thread → slice_get w.places u ≡ Some q → HoldsShard q m → slice_get tables' q.shard ≡ slice_get w.tables q.shard)
         → TablesAgree x (slice_set w.blocks i d) tables'
-        → (holds' : Desks) → p'.next ≡ p.next → p'.block ≡ p.block ⊎ (p'.block ≡ None)
+        → (locks' : Shown) → p'.next ≡ p.next → p'.block ≡ p.block ⊎ (p'.block ≡ None)
         → Claim x (threads_of w ++ s.thread ∷ []) (slice_set w.blocks i d) tables' s.thread p' p'.phase
         → p'.asks ≡ drop (taken p') st.program → taken p' ≤ length st.program
-        → HoldsMatch (slice_set w.places s.thread p') holds'
+        → HoldsMatch (slice_set w.places s.thread p') locks'
         → OwnsBlocks (slice_set w.blocks i d) s.thread p'
-        → Sound x (record (stepped w s p') { tables = tables'; holds = holds'; blocks = slice_set w.blocks i d; replies = w.replies })
-    sound-changed tables' shards kept agree holds' next block claim left within match owns =
-        sound-by x w s p p' at sound (slice_set w.blocks i d) tables' holds' w.replies Anyhow
+        → Sound x (record (stepped w s p') { tables = tables'; locks = locks'; blocks = slice_set w.blocks i d; replies = w.replies })
+    sound-changed tables' shards kept agree locks' next block claim left within match owns =
+        sound-by x w s p p' at sound (slice_set w.blocks i d) tables' locks' w.replies Anyhow
         (record {
           effect = effect-grow x laws w.blocks s.thread i b d grows thread-is;
           count = λ u ne. refl;
@@ -315,12 +315,12 @@ module _ {K V S D T : Type 0} (x : Setup K V D T) (laws : Laws x) (w : State K V
         (replies-kept x w.blocks (slice_set w.blocks i d) w.replies (λ j r hr. keeps-grown x laws w.blocks i b d grows r.thread r.call) sound.replies)
 
     -- where the call leaves its pair, no shard changes
-    pub sound-counted : LeavesPair x.deeds h was → (holds' : Desks) → p'.next ≡ p.next → p'.block ≡ p.block ⊎ (p'.block ≡ None)
+    pub sound-counted : LeavesPair x.deeds h was → (locks' : Shown) → p'.next ≡ p.next → p'.block ≡ p.block ⊎ (p'.block ≡ None)
         → Claim x (threads_of w ++ s.thread ∷ []) (slice_set w.blocks i d) w.tables s.thread p' p'.phase
         → p'.asks ≡ drop (taken p') st.program → taken p' ≤ length st.program
-        → HoldsMatch (slice_set w.places s.thread p') holds'
+        → HoldsMatch (slice_set w.places s.thread p') locks'
         → OwnsBlocks (slice_set w.blocks i d) s.thread p'
-        → Sound x (record (stepped w s p') { tables = w.tables; holds = holds'; blocks = slice_set w.blocks i d; replies = w.replies })
+        → Sound x (record (stepped w s p') { tables = w.tables; locks = locks'; blocks = slice_set w.blocks i d; replies = w.replies })
     sound-counted same =
         sound-changed w.tables refl (λ u q m ne hq hh. refl)
         (tables-same x w.blocks (slice_set w.blocks i d) w.tables sound.tables (λ q. contents-quiet x laws w.blocks i b d grows (quiet same) q))

@@ -1,7 +1,6 @@
 pub mod Effects
 pub mod Others
 pub mod Timing
-pub mod Orderly
 pub mod Holding
 pub mod Building
 pub mod Admitting

@@ -1,5 +1,5 @@
 -- A block that is listed at its position, at the end of the list.
-use Rattle.std.proofs.Common.{◌≡◌, ◌≢◌, ℕ, suc, ◌+◌, ◌<◌, ◌≤◌, inl, inr, ⊎_elim, true, false, List, [], ◌∷◌, ◌++◌, length, map, drop, Option, Some, slice_get, refl, ap, sym, ◌∙◌, arith}
+use Rattle.std.proofs.Common.{◌≡◌, ◌≢◌, ℕ, suc, ◌+◌, ◌<◌, ◌≤◌, inl, inr, ⊎_elim, true, false, List, [], ◌∷◌, ◌++◌, length, map, drop, Option, Some, None, slice_get, refl, ap, sym, ◌∙◌, arith}
 use Rattle.mapworld_state.specs.Shards.{ShardPairs}
 use Rattle.std.proofs.lemmas.Option.{same_Some}
 use Rattle.std.proofs.lemmas.Bool.{false≢true, cases_Bool}
@@ -14,21 +14,42 @@ use Rattle.mapworld_calls.proofs.Lists.{slice_get-push_at, slice_get-push_cases}
 use Rattle.mapworld_calls.proofs.Replays.{contents-push, contents-same, left-touched, left-untouched}
 use Rattle.mapworld_calls.proofs.Grown.{found-new}
 use Rattle.mapworld_calls.proofs.Kept.{keeps-push}
+use Rattle.mapworld_locks.specs.Stands.{Stand, stand_in}
 use Rattle.mapworld_state.specs.declared.holds.Mode.{Mode}
 use Rattle.mapworld_state.specs.declared.step.Step.{Step}
+use Rattle.mapworld_state.specs.declared.place.Phase.{Phase}
+use Rattle.mapworld_state.specs.declared.place.Phase.TheVariants as phase
 use Rattle.mapworld_state.specs.Places.{Place}
 use Rattle.mapworld_state.specs.State.{State, threads_of, started_of, next_step}
 use Rattle.mapworld_state.specs.Moves.{stepped, IsListed}
+use Rattle.mapworld_state.specs.Held.{StandsBefore}
 use Rattle.mapworld_state.specs.Sound.{taken, may_own, HoldsShard, IsInCall, Claim, Stands, TablesAgree, Sound}
+use Rattle.mapworld_state.proofs.HoldsTable.{none-there, first-there}
 use Rattle.mapworld_sound.proofs.Effects.{effect-push}
 use Rattle.mapworld_sound.proofs.Others.{IsStepOf-push}
 use Rattle.mapworld_sound.proofs.Timing.{IsStepOf-below, IsStepOf-next, placed-push}
-use Rattle.mapworld_sound.proofs.Holding.{holds-same, exclusion}
+use Rattle.mapworld_sound.proofs.Holding.{holds-same, owes-none, exclusion}
 use Rattle.mapworld_sound.proofs.Building.{started-own, started-stays, Leaves, sound-by, replies-kept, reply-below}
 
 pub length-map : {X Y : Type 0} (f : X → Y) (xs : List X) → length (map f xs) ≡ length xs
 length-map f [] = refl
 length-map f (x ∷ xs) = ap suc (length-map f xs)
+
+-- a thread whose call may have its block, and that is in no lock's call, may stand there
+placed-out : {K V D T : Type 0} (p : Place K V D T) (f : Phase K V D T) (o : Option Stand) → may_own f ≡ true → o ≡ None → StandsBefore p f o
+placed-out p phase.Rest o own none = none
+placed-out p (phase.Admit r) o own none = absurd (false≢true own)
+placed-out p (phase.Find r) o own none = none
+placed-out p (phase.Grow c) o own none = none
+placed-out p (phase.Append k v) o own none = none
+placed-out p (phase.Apply k) o own none = none
+placed-out p (phase.View k d) o own none = none
+placed-out p (phase.Read d) o own none = none
+placed-out p (phase.Change c) o own none = none
+placed-out p (phase.Fill v) o own none = none
+placed-out p phase.Downgrade o own none = none
+placed-out p (phase.Release a) o own none = none
+placed-out p (phase.Answer a) o own none = owes-none p o none
 
 module _ {K V S D T : Type 0} (x : Setup K V D T) (laws : Laws x) (w : State K V S D T) (s : Step) (sound : Sound x w)
     (p : Place K V D T) (at : slice_get w.places s.thread ≡ Some p) (a : Ask K V D) (call : IsInCall x (threads_of w) s.thread p a)
@@ -36,6 +57,22 @@ module _ {K V S D T : Type 0} (x : Setup K V D T) (laws : Laws x) (w : State K V
     (n : ℕ) (d : Block K) (listed : IsListed w s.thread p n d) where
   abbrev pub st : Stands x (threads_of w) w.blocks w.replies w.tables s.thread p
   st = sound.stands s.thread p at
+
+  -- it has been admitted, so it is in no lock's call
+  out : (f : Phase K V D T) → may_own f ≡ false → Claim x (threads_of w) w.blocks w.tables s.thread p f → StandsBefore p f (stand_in w.locks s.thread) → stand_in w.locks s.thread ≡ None
+  out phase.Rest own c stands = stands
+  out (phase.Admit r) own c stands = absurd (none-there p.holds 0 holds.hold c.2 (first-there p.holds holds.hold [] holds.has))
+  out (phase.Find r) own c stands = stands
+  out (phase.Grow g) own c stands = stands
+  out (phase.Append k v) own c stands = stands
+  out (phase.Apply k) own c stands = stands
+  out (phase.View k u) own c stands = stands
+  out (phase.Read u) own c stands = stands
+  out (phase.Change g) own c stands = stands
+  out (phase.Fill v) own c stands = stands
+  out phase.Downgrade own c stands = stands
+  out (phase.Release r) own c stands = stands
+  out (phase.Answer r) own c stands = absurd (false≢true (sym own))
 
   pub new-key : block_key x d ≡ Some key
   new-key = let here : ask_at x d.thread d.call ≡ Some a = rw (listed.thread, listed.call) call.asked in rw here key_is
@@ -78,14 +115,14 @@ module _ {K V S D T : Type 0} (x : Setup K V D T) (laws : Laws x) (w : State K V
       });
     }
 
-    leaves : Leaves x w s p p' at sound (w.blocks ++ d ∷ []) tables' w.holds w.replies (λ b. AreApart x b d)
+    leaves : Leaves x w s p p' at sound (w.blocks ++ d ∷ []) tables' w.locks w.replies (λ b. AreApart x b d)
     leaves = record {
       effect = effect-push x w.blocks s.thread d listed.thread;
       count = λ u ne. refl;
       kept = kept;
       foreign = λ u q b ne hq alone here. λ i j hi hj same.
           let mine' : key ≡ j = same_Some key j (sym new-key ∙ hj) in
-          let both = exclusion w.places w.holds sound.holds s.thread u p q holds.hold alone.hold (λ z. ne (sym z)) at hq holds.has alone.has
+          let both = exclusion w.places w.locks sound.holds s.thread u p q holds.hold alone.hold (λ z. ne (sym z)) at hq holds.has alone.has
           (holds.shard ∙ shard ∙ ap x.route mine' ∙ sym same ∙ sym (here i hi) ∙ sym alone.shard) in
           absurd (cc (both.1, alone.mode_is));
       shards = shards;
@@ -95,9 +132,9 @@ module _ {K V S D T : Type 0} (x : Setup K V D T) (laws : Laws x) (w : State K V
     pub sound-listed : Claim x (threads_of w ++ s.thread ∷ []) (w.blocks ++ d ∷ []) tables' s.thread p' p'.phase
         → p'.asks ≡ drop (taken p') st.program → taken p' ≤ length st.program
         → TablesAgree x (w.blocks ++ d ∷ []) tables'
-        → Sound x (record (stepped w s p') { tables = tables'; holds = w.holds; blocks = w.blocks ++ d ∷ []; replies = w.replies })
+        → Sound x (record (stepped w s p') { tables = tables'; locks = w.locks; blocks = w.blocks ++ d ∷ []; replies = w.replies })
     sound-listed claim left within agree =
-        sound-by x w s p p' at sound (w.blocks ++ d ∷ []) tables' w.holds w.replies (λ b. AreApart x b d) leaves
+        sound-by x w s p p' at sound (w.blocks ++ d ∷ []) tables' w.locks w.replies (λ b. AreApart x b d) leaves
         (record {
           program = st.program;
           has = st.has;
@@ -112,7 +149,8 @@ module _ {K V S D T : Type 0} (x : Setup K V D T) (laws : Laws x) (w : State K V
           claim = claim;
         })
         agree
-        (holds-same w.places w.holds sound.holds s.thread p p' at hold)
+        (holds-same w.places w.locks sound.holds s.thread p p' at hold
+        (placed-out p' p'.phase (stand_in w.locks s.thread) own (out p.phase not_yet st.claim (sound.holds.stands s.thread p at))))
         (placed-push x (threads_of w) s.thread (started_of w) (started_of (stepped w s p')) w.blocks w.replies
         (started-stays x w s p p' at (λ k h. started ∙ h)) d new-placed (listed.position ∙ number) earlier sound.placed)
         (replies-kept x w.blocks (w.blocks ++ d ∷ []) w.replies

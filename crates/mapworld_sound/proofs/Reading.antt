@@ -14,7 +14,7 @@ use Rattle.mapworld_calls.specs.Setup.{Setup, Laws, session_of}
 use Rattle.mapworld_calls.specs.Replay.{reached, found}
 use Rattle.mapworld_calls.specs.Agrees.{IsToldBy, IsAnsweredInSession}
 use Rattle.mapworld_calls.proofs.Lists.{slice_get-set_cases}
-use Rattle.lock_api_desk.specs.Desk.{released as without_guard}
+use Rattle.mapworld_state.specs.Holds.{gives_up}
 use Rattle.mapworld_state.specs.declared.step.Step.{Step}
 use Rattle.mapworld_state.specs.declared.place.Way.{Way}
 use Rattle.mapworld_state.specs.declared.place.Way.TheVariants as way
@@ -29,7 +29,7 @@ use Rattle.mapworld_state.specs.Sound.{may_own, block_after, GuardIs, IsInSessio
 use Rattle.mapworld_state.proofs.HoldsTable.{none-there, first-there}
 use Rattle.mapworld_sound.proofs.Others.{IsInCall-push}
 use Rattle.mapworld_sound.proofs.Timing.{placed-same}
-use Rattle.mapworld_sound.proofs.Holding.{no-more, holds-same, holds-remove}
+use Rattle.mapworld_sound.proofs.Holding.{no-more, holds-same, holds-given, owes-none, stand-at}
 use Rattle.mapworld_sound.proofs.Building.{in_call-moved, holds-moved, settled-moved, session-next, tables-same, started-stays, sound-by, claim-at, taken-at, within-at, ready-outside}
 use Rattle.mapworld_sound.proofs.Admitting.{leaves-same, owns-on}
 use Rattle.mapworld_sound.proofs.Finding.{ready-inside}
@@ -90,7 +90,7 @@ module _ {K V S D T : Type 0} (x : Setup K V D T) (laws : Laws x) (w : State K V
       let stays : Some i ≡ block_after p' = sym g.3 ∙ sym (ap (λ (z : Bool). if z then None else p.block) call.closes) in
       subst (Sound x) (sym (a.after ∙ ap (λ (z : List (Block K)). record (stepped w s p') { blocks = z }) n.4))
       (growing.sound-counted x laws w s sound p a.stands (held.Read a.deed) call.asked c i inside session b d n.2 n.3 still p'
-      (rw call.started refl) (λ m h. h) same w.holds refl (inl refl) (
+      (rw call.started refl) (λ m h. h) same w.locks refl (inl refl) (
         ask.Held (held.Read a.deed),
         IsInCall-push x (threads_of w) s.thread s.thread p' _ (in_call-moved x p p' (threads_of w) s.thread _ refl refl refl call),
         (λ h. absurd (none-some (guard.Pair a.kind) (sym h ∙ a.guarded))),
@@ -101,7 +101,8 @@ module _ {K V S D T : Type 0} (x : Setup K V D T) (laws : Laws x) (w : State K V
       )
       (taken-at x (threads_of w) w.blocks w.replies w.tables s.thread p (phase.Read a.deed) a.before st)
       (within-at x (threads_of w) w.blocks w.replies w.tables s.thread p (phase.Read a.deed) a.before st)
-      (holds-same w.places w.holds sound.holds s.thread p p' a.stands refl)
+      (holds-same w.places w.locks sound.holds s.thread p p' a.stands refl
+      (owes-none p' _ (stand-at w.places w.locks sound.holds s.thread p a.stands (phase.Read a.deed) a.before)))
       (growing.owns-grown x laws w s sound p a.stands (held.Read a.deed) call.asked c i inside session b d n.2 n.3 still p' refl (ap may_own a.before)))
 
   -- without a guard neither hold nor shard counts
@@ -130,8 +131,8 @@ module _ {K V S D T : Type 0} (x : Setup K V D T) (laws : Laws x) (w : State K V
       let p' : Place K V D T = record p { holds = a.more; guard = None; phase = phase.Answer a.answer } in
       let only = no-more p.holds cl.1 a.hold a.more cl.3 a.holds in
       let same : a.blocks ≡ w.blocks = subst (λ (z : Option (Guard K)). CountsCall w.blocks (if is_some z then p.block else None) p.next a.blocks) none a.counted in
-      subst (Sound x) (sym (a.after ∙ ap (λ (z : List (Block K)). record (stepped w s p') { holds = slice_set w.holds a.hold.shard (without_guard a.hold.guard a.desk); blocks = z }) same))
-      (sound-by x w s p p' a.stands sound w.blocks w.tables (slice_set w.holds a.hold.shard (without_guard a.hold.guard a.desk)) w.replies _ (leaves-same x w s p p' a.stands sound (slice_set w.holds a.hold.shard (without_guard a.hold.guard a.desk)))
+      subst (Sound x) (sym (a.after ∙ ap (λ (z : List (Block K)). record (stepped w s p') { locks = a.locks; blocks = z }) same))
+      (sound-by x w s p p' a.stands sound w.blocks w.tables a.locks w.replies _ (leaves-same x w s p p' a.stands sound a.locks)
       (record {
         program = st.program;
         has = st.has;
@@ -149,7 +150,8 @@ module _ {K V S D T : Type 0} (x : Setup K V D T) (laws : Laws x) (w : State K V
         );
       })
       (tables-same x w.blocks w.blocks w.tables sound.tables (λ q. refl))
-      (holds-remove w.places w.holds sound.holds s.thread p p' a.stands a.hold only.2 only.1 a.desk a.at_shard)
+      (holds-given w.places w.locks sound.holds s.thread p p' a.stands a.hold only.2
+      (stand-at w.places w.locks sound.holds s.thread p a.stands (phase.Release a.answer) a.before) (gives_up a.hold.mode) s.fair a.locks a.gives a.hold.mode refl only.1 a.answer refl)
       (placed-same x (threads_of w) s.thread (started_of w) (started_of (stepped w s p')) w.blocks w.replies (started-stays x w s p p' a.stands (λ n z. z)) sound.placed)
       sound.replies)
   released a (Some own) has h =
@@ -173,9 +175,9 @@ module _ {K V S D T : Type 0} (x : Setup K V D T) (laws : Laws x) (w : State K V
       let told : held_answer x.deeds held.Drop (reached x s.thread c (p.next - c) (found x w.blocks i b)) ≡ a.answer = drop-told x.deeds w.tables p own (reached x s.thread c (p.next - c) (found x w.blocks i b)) at-guard ∙ sym h.1 in
       let outside : session_of x s.thread (p.next + 1) ≡ None = session-next x s.thread st.program st.has p.next (ask.Held held.Drop) call.asked in
       let closes : block_after p' ≡ None = ap (λ (z : Bool). if z then None else p.block) call.closes in
-      subst (Sound x) (sym (a.after ∙ ap (λ (z : List (Block K)). record (stepped w s p') { holds = slice_set w.holds a.hold.shard (without_guard a.hold.guard a.desk); blocks = z }) n.4))
+      subst (Sound x) (sym (a.after ∙ ap (λ (z : List (Block K)). record (stepped w s p') { locks = a.locks; blocks = z }) n.4))
       (growing.sound-counted x laws w s sound p a.stands held.Drop call.asked c i inside session b d n.2 n.3 still p'
-      (rw call.started refl) (λ m z. z) same (slice_set w.holds a.hold.shard (without_guard a.hold.guard a.desk)) refl (inl refl) (
+      (rw call.started refl) (λ m z. z) same a.locks refl (inl refl) (
         ask.Held held.Drop,
         IsInCall-push x (threads_of w) s.thread s.thread p' _ (in_call-moved x p p' (threads_of w) s.thread _ refl refl refl call),
         (λ z. only.1),
@@ -186,7 +188,8 @@ module _ {K V S D T : Type 0} (x : Setup K V D T) (laws : Laws x) (w : State K V
       )
       (taken-at x (threads_of w) w.blocks w.replies w.tables s.thread p (phase.Release a.answer) a.before st)
       (within-at x (threads_of w) w.blocks w.replies w.tables s.thread p (phase.Release a.answer) a.before st)
-      (holds-remove w.places w.holds sound.holds s.thread p p' a.stands a.hold only.2 only.1 a.desk a.at_shard)
+      (holds-given w.places w.locks sound.holds s.thread p p' a.stands a.hold only.2
+      (stand-at w.places w.locks sound.holds s.thread p a.stands (phase.Release a.answer) a.before) (gives_up a.hold.mode) s.fair a.locks a.gives a.hold.mode refl only.1 a.answer refl)
       (λ j e here thread. elim (slice_get-set_cases w.blocks i j b e d n.2 here) [
         | inl own ↦ inl (rw (own.1, n.3.call) (let k = growing.call-is x laws w s sound p a.stands held.Drop call.asked c i inside session b d n.2 n.3 still in let lt = session.below in omega arith))
         | inr other ↦ elim (st.owns j e other.1 thread) [ inl below ↦ inl below | inr mine ↦ inr (mine.0, mine.1, refl) ]

@@ -11,8 +11,7 @@ use Rattle.mapworld_calls.specs.Calls.{shared, exclusive, held_answer, held_leav
 use Rattle.mapworld_calls.specs.Setup.{Setup, Laws, session_of}
 use Rattle.mapworld_calls.specs.Replay.{reached, found}
 use Rattle.mapworld_calls.specs.Agrees.{IsToldBy}
-use Rattle.lock_api_desk.specs.declared.mode.Mode.TheVariants as desk_mode
-use Rattle.lock_api_desk.specs.Desk.{turned}
+use Rattle.parking_lot_world.specs.declared.calls.LockCall.TheVariants as call_of
 use Rattle.mapworld_state.specs.declared.holds.Mode.TheVariants.{Shared, Exclusive}
 use Rattle.mapworld_state.specs.declared.holds.Hold.{Hold}
 use Rattle.mapworld_state.specs.declared.step.Step.{Step}
@@ -25,7 +24,7 @@ use Rattle.mapworld_state.specs.Moves.{stepped}
 use Rattle.mapworld_state.specs.Steps.{Downgrades}
 use Rattle.mapworld_state.specs.Sound.{may_own, block_after, HoldsShard, Sound}
 use Rattle.mapworld_sound.proofs.Others.{IsInCall-push}
-use Rattle.mapworld_sound.proofs.Holding.{no-more, holds-shared}
+use Rattle.mapworld_sound.proofs.Holding.{no-more, holds-shared, stand-at}
 use Rattle.mapworld_sound.proofs.Building.{in_call-moved, session-next, claim-at, taken-at, within-at}
 use Rattle.mapworld_sound.proofs.Finding.{ready-inside}
 use Rattle.mapworld_sound.proofs.Acting.{counted-block}
@@ -60,7 +59,6 @@ sound-downgrades {K} {V} {S} {D} {T} x laws w s w' sound a =
     let same = downgrade-quiet x.deeds (reached x s.thread c (p.next - c) (found x w.blocks i b)) in
     let still = inl same in
     let now-held : Hold = record (a.hold) { mode = Shared } in
-    let holds' = slice_set w.holds a.hold.shard (turned desk_mode.Shared a.hold.guard a.desk) in
     let r : Answer K V T = answer.Held in
     let p' : Place K V D T = record p { holds = now-held ∷ a.more; guard = Some (guard.Pair way.Shared); phase = phase.Answer r } in
     let one : now-held ∷ a.more ≡ now-held ∷ [] = ap (λ z. now-held ∷ z) only.1 in
@@ -73,9 +71,9 @@ sound-downgrades {K} {V} {S} {D} {T} x laws w s w' sound a =
     (growing.there-still x laws w s sound p a.stands h call.asked c i inside session b d n.2 n.3 still same p' refl (λ own e. (guard.Pair way.Exclusive, a.guarded))) in
     let behind : session_of x s.thread (p.next + 1) ≡ Some c = session-next x s.thread st.program st.has p.next (ask.Held h) call.asked ∙ inside in
     let stays : Some i ≡ block_after p' = sym g.3 ∙ sym (ap (λ (z : Bool). if z then None else p.block) call.closes) in
-    subst (Sound x) (sym (a.after ∙ ap (λ (z : List (Block K)). record (stepped w s p') { holds = holds'; blocks = z }) n.4))
+    subst (Sound x) (sym (a.after ∙ ap (λ (z : List (Block K)). record (stepped w s p') { locks = a.locks; blocks = z }) n.4))
     (growing.sound-counted x laws w s sound p a.stands h call.asked c i inside session b d n.2 n.3 still p'
-    (rw call.started refl) (λ m z. z) same holds' refl (inl refl) (
+    (rw call.started refl) (λ m z. z) same a.locks refl (inl refl) (
       ask.Held h,
       IsInCall-push x (threads_of w) s.thread s.thread p' _ (in_call-moved x p p' (threads_of w) s.thread _ refl refl refl call),
       (λ z. absurd (none-some (guard.Pair way.Shared) (sym z))),
@@ -86,5 +84,6 @@ sound-downgrades {K} {V} {S} {D} {T} x laws w s w' sound a =
     )
     (taken-at x (threads_of w) w.blocks w.replies w.tables s.thread p phase.Downgrade a.before st)
     (within-at x (threads_of w) w.blocks w.replies w.tables s.thread p phase.Downgrade a.before st)
-    (holds-shared w.places w.holds sound.holds s.thread p p' a.stands a.hold only.2 a.alone one a.desk a.at_shard)
+    (holds-shared w.places w.locks sound.holds s.thread p p' a.stands a.hold only.2
+    (stand-at w.places w.locks sound.holds s.thread p a.stands phase.Downgrade a.before) call_of.Downgrade s.fair a.locks a.turns refl one r refl)
     (growing.owns-grown x laws w s sound p a.stands h call.asked c i inside session b d n.2 n.3 still p' refl (ap may_own a.before)))

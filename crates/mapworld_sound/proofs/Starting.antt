@@ -17,6 +17,8 @@ use Rattle.mapworld_calls.specs.Programs.{is_drop, keyed_key, opening_key}
 use Rattle.mapworld_calls.specs.Setup.{Setup, Laws, ask_at, session_of}
 use Rattle.mapworld_calls.specs.Replay.{reached, found}
 use Rattle.mapworld_calls.specs.Agrees.{IsToldBy, IsAnsweredInSession}
+use Rattle.mapworld_locks.specs.Views.{Shown}
+use Rattle.mapworld_locks.specs.Stands.{stand_in}
 use Rattle.mapworld_state.specs.declared.holds.Mode.TheVariants.{Exclusive}
 use Rattle.mapworld_state.specs.declared.step.Step.{Step}
 use Rattle.mapworld_state.specs.declared.place.Way.{Way}
@@ -27,10 +29,10 @@ use Rattle.mapworld_state.specs.declared.place.Phase.TheVariants as phase
 use Rattle.mapworld_state.specs.Places.{Place}
 use Rattle.mapworld_state.specs.State.{State, threads_of, started_of, next_step}
 use Rattle.mapworld_state.specs.Moves.{is_last, way_mode, lent, is_change, held_phase, held_guard, start_phase, start_guard, start_shard, start_counts, stepped, CountsCall}
-use Rattle.mapworld_state.specs.Steps.{Starts}
+use Rattle.mapworld_state.specs.Steps.{EntersBy, Starts}
 use Rattle.mapworld_state.specs.Sound.{is_resting, may_own, block_after, GuardIs, HoldsShard, HasSession, IsInSessionOf, IsInSession, IsReady, IsInCall, IsReleasing, Claim, Stands, Sound}
 use Rattle.mapworld_sound.proofs.Timing.{IsStepOf-next, placed-same}
-use Rattle.mapworld_sound.proofs.Holding.{holds-same}
+use Rattle.mapworld_sound.proofs.Holding.{holds-entered, stand-at}
 use Rattle.mapworld_sound.proofs.Building.{drop-first, asked-at, session-next, holds-moved, guard-moved, ready-moved, tables-same, started-stays, sound-by, claim-at, taken-at, ready-outside, block_after-none}
 use Rattle.mapworld_sound.proofs.Admitting.{leaves-same, owns-on, keyed-apart, begin-apart}
 use Rattle.mapworld_sound.proofs.Listing.{length-map}
@@ -54,12 +56,16 @@ guarded-before h None own e = absurd (none-some own e)
 guarded-before h (Some k) own e = (k, refl)
 
 module _ {K V S D T : Type 0} (x : Setup K V D T) (laws : Laws x) (w : State K V S D T) (s : Step) (sound : Sound x w)
-    (p : Place K V D T) (at : slice_get w.places s.thread ≡ Some p) (before : p.phase ≡ phase.Rest) (rest : List (Ask K V D)) where
+    (p : Place K V D T) (at : slice_get w.places s.thread ≡ Some p) (before : p.phase ≡ phase.Rest) (rest : List (Ask K V D)) (locks' : Shown)
+    (enters : (a : Ask K V D) (g : Option (Guard K)) → p.asks ≡ a ∷ rest → p.guard ≡ g → EntersBy {T = T} s.thread (start_shard x.route a p.shard) (start_phase a g) w.locks locks') where
   abbrev pub st : Stands x (threads_of w) w.blocks w.replies w.tables s.thread p
   st = sound.stands s.thread p at
 
   abbrev pub resting : Claim x (threads_of w) w.blocks w.tables s.thread p phase.Rest
   resting = claim-at x (threads_of w) w.blocks w.replies w.tables s.thread p phase.Rest before st
+
+  out : stand_in w.locks s.thread ≡ None
+  out = stand-at w.places w.locks sound.holds s.thread p at phase.Rest before
 
   -- the place behind the start, by its guard
   abbrev pub begun : Ask K V D → Option (Guard K) → Place K V D T
@@ -82,11 +88,11 @@ module _ {K V S D T : Type 0} (x : Setup K V D T) (laws : Laws x) (w : State K V
     stays g n h = absurd (none-some n (sym resting.0 ∙ h))
 
     -- the world behind a start that counts no call in
-    sound-begun : (g : Option (Guard K)) → is_resting (start_phase {T = T} a g) ≡ false
+    sound-begun : (g : Option (Guard K)) → p.guard ≡ g → is_resting (start_phase {T = T} a g) ≡ false
         → Claim x (threads_of w ++ s.thread ∷ []) w.blocks w.tables s.thread (begun a g) (start_phase a g)
-        → Sound x (record (stepped w s (begun a g)) { tables = w.tables; holds = w.holds; blocks = w.blocks; replies = w.replies })
-    sound-begun g busy claim =
-        sound-by x w s p (begun a g) at sound w.blocks w.tables w.holds w.replies _ (leaves-same x w s p (begun a g) at sound w.holds)
+        → Sound x (record (stepped w s (begun a g)) { tables = w.tables; locks = locks'; blocks = w.blocks; replies = w.replies })
+    sound-begun g e busy claim =
+        sound-by x w s p (begun a g) at sound w.blocks w.tables locks' w.replies _ (leaves-same x w s p (begun a g) at sound locks')
         (record {
           program = st.program;
           has = st.has;
@@ -98,13 +104,13 @@ module _ {K V S D T : Type 0} (x : Setup K V D T) (laws : Laws x) (w : State K V
           claim = claim;
         })
         (tables-same x w.blocks w.blocks w.tables sound.tables (λ q. refl))
-        (holds-same w.places w.holds sound.holds s.thread p (begun a g) at refl)
+        (holds-entered w.places w.locks sound.holds s.thread p (begun a g) at refl out locks' (start_phase a g) refl (enters a g asks e))
         (placed-same x (threads_of w) s.thread (started_of w) (started_of (stepped w s (begun a g))) w.blocks w.replies (started-stays x w s p (begun a g) at (stays g)) sound.placed)
         sound.replies
 
   -- the world behind a start
   abbrev pub Begun : Ask K V D → Option (Guard K) → List (Block K) → Type 0
-  Begun a g blocks = Sound x (record (stepped w s (begun a g)) { blocks = blocks })
+  Begun a g blocks = Sound x (record (stepped w s (begun a g)) { blocks = blocks; locks = locks' })
 
   same-blocks : (a : Ask K V D) (g : Option (Guard K)) (blocks : List (Block K)) → blocks ≡ w.blocks → Begun a g w.blocks → Begun a g blocks
   same-blocks a g blocks same h = subst (λ (z : List (Block K)). Begun a g z) (sym same) h
@@ -153,7 +159,7 @@ module _ {K V S D T : Type 0} (x : Setup K V D T) (laws : Laws x) (w : State K V
 
     -- outside of a session, or in one whose opening has no block
     uncounted : p.block ≡ None → r ≡ answer.NoGuard → start_guard (ask.Held h) g ≡ None → Begun (ask.Held h) g w.blocks
-    uncounted free_ no-guard none = sound-begun (ask.Held h) asks g busy (claim-of w.blocks (told (session_of x s.thread p.next) refl) (ready (session_of x s.thread p.next) refl))
+    uncounted free_ no-guard none = sound-begun (ask.Held h) asks g e busy (claim-of w.blocks (told (session_of x s.thread p.next) refl) (ready (session_of x s.thread p.next) refl))
       where
         state : (o : Option ℕ) → session_of x s.thread p.next ≡ o → IsInSession x w.blocks w.tables s.thread p p.next o None
         state o inside = subst (λ (z : Option ℕ). IsInSession x w.blocks w.tables s.thread p p.next o z) free_ (subst (λ (z : Option ℕ). IsInSession x w.blocks w.tables s.thread p p.next z p.block) inside resting.2)
@@ -191,14 +197,14 @@ module _ {K V S D T : Type 0} (x : Setup K V D T) (laws : Laws x) (w : State K V
             (guard-moved x p p' w.tables (start_guard a g) (held_leaves x.deeds h was) refl refl tells.2)
             (growing.there-still x laws w s sound p at h (asked a asks) c i inside session b d n.2 n.3 (inl same) same p' refl (λ own z. let k = guarded-before h g own z in (k.0, e ∙ k.1))) in
             subst (λ (z : List (Block K)). Begun a g z) (sym n.4)
-            (growing.sound-counted x laws w s sound p at h (asked a asks) c i inside session b d n.2 n.3 (inl same) p' refl (stays a asks g) same w.holds refl (inl refl)
+            (growing.sound-counted x laws w s sound p at h (asked a asks) c i inside session b d n.2 n.3 (inl same) p' refl (stays a asks g) same locks' refl (inl refl)
             (claim-of (slice_set w.blocks i d)
             (in-session x (slice_set w.blocks i d) s.thread p.next c r inside
             (subst (λ (z : Answer K V T). IsToldBy x (slice_set w.blocks i d) s.thread c (p.next - c) z) tells.0 (growing.told-more x laws w s sound p at h (asked a asks) c i inside session b d n.2 n.3 (inl same))))
             (ready-behind (slice_set w.blocks i d) c (Some i) inside mine (is_drop h) refl on))
             (subst (λ (z : Bool). rest ≡ drop (if z then p.next else p.next + 1) st.program) (sym busy) (first a asks).1)
             (subst (λ (z : Bool). (if z then p.next else p.next + 1) ≤ length st.program) (sym busy) (let lt = (first a asks).2 in let e : p.next + 1 ≤ length st.program = omega arith in e))
-            (holds-same w.places w.holds sound.holds s.thread p p' at refl)
+            (holds-entered w.places w.locks sound.holds s.thread p p' at refl out locks' (start_phase a g) refl (enters a g asks e))
             (growing.owns-grown x laws w s sound p at h (asked a asks) c i inside session b d n.2 n.3 (inl same) p' refl (ap may_own before)))
 
     -- where there is a guard there is a block
@@ -305,7 +311,7 @@ module _ {K V S D T : Type 0} (x : Setup K V D T) (laws : Laws x) (w : State K V
   to-read d asks kind e phase-is keeps =
       let a : Ask K V D = ask.Held (held.Read d) in
       let g = Some (guard.Pair kind) in
-      sound-begun a asks g (ap is_resting phase-is)
+      sound-begun a asks g e (ap is_resting phase-is)
       (subst (λ f. Claim x (threads_of w ++ s.thread ∷ []) w.blocks w.tables s.thread (begun a g) f) (sym phase-is)
       (kind, in_call a asks g, keeps, ready-still a g e keeps refl))
 
@@ -317,7 +323,7 @@ module _ {K V S D T : Type 0} (x : Setup K V D T) (laws : Laws x) (w : State K V
       let a : Ask K V D = ask.Held h in
       let g = Some (guard.Pair kind) in
       let holds : HoldsShard p Exclusive = subst (λ m. HoldsShard p m) alone (guard-of (guard.Pair kind) e).1.2 in
-      sound-begun a asks g (ap is_resting phase-is)
+      sound-begun a asks g e (ap is_resting phase-is)
       (subst (λ f. Claim x (threads_of w ++ s.thread ∷ []) w.blocks w.tables s.thread (begun a g) f) (sym phase-is)
       (kind, in_call a asks g, keeps, changes, holds-moved x p (begun a g) Exclusive refl refl holds, ready-still a g e keeps refl))
 
@@ -333,7 +339,7 @@ module _ {K V S D T : Type 0} (x : Setup K V D T) (laws : Laws x) (w : State K V
       let a : Ask K V D = ask.Held held.Drop in
       let p' = begun a (Some own) in
       let h = guard-hold own e in
-      sound-begun a asks (Some own) (ap is_resting phase-is)
+      sound-begun a asks (Some own) e (ap is_resting phase-is)
       (subst (λ f. Claim x (threads_of w ++ s.thread ∷ []) w.blocks w.tables s.thread p' f) (sym phase-is) (
         a,
         h.1.hold,
@@ -347,13 +353,13 @@ module _ {K V S D T : Type 0} (x : Setup K V D T) (laws : Laws x) (w : State K V
       let a : Ask K V D = ask.Keyed k in
       let outside = keyed-apart x laws w s w sound p st k (asked a asks) in
       let nothing = outside-free x w.blocks w.tables s.thread p p.next p.block outside.0 resting.2 in
-      same-blocks a g blocks n (sound-begun a asks g refl
+      same-blocks a g blocks n (sound-begun a asks g e refl
       (in_call a asks g, record { block = nothing.1; guard = sym e ∙ nothing.0; shard = shard-keyed D x.route k p.shard }, resting.1 nothing.0))
   begun-by (ask.Begin b) asks g e blocks n =
       let a : Ask K V D = ask.Begin b in
       let outside = begin-apart x laws w s w sound p st b (asked a asks) in
       let nothing = outside-free x w.blocks w.tables s.thread p p.next p.block outside.0 resting.2 in
-      same-blocks a g blocks n (sound-begun a asks g refl
+      same-blocks a g blocks n (sound-begun a asks g e refl
       (in_call a asks g, record { block = nothing.1; guard = sym e ∙ nothing.0; shard = shard-begin V D x.route b p.shard }, resting.1 nothing.0))
   begun-by (ask.Held h) asks None e blocks n = unguarded h asks e blocks p.block refl n
   begun-by (ask.Held (held.Read d)) asks (Some (guard.Pair way.Shared)) e blocks n = same-blocks (ask.Held (held.Read d)) (Some (guard.Pair way.Shared)) blocks n (to-read d asks way.Shared e refl refl)
@@ -368,7 +374,7 @@ module _ {K V S D T : Type 0} (x : Setup K V D T) (laws : Laws x) (w : State K V
   begun-by (ask.Held held.Downgrade) asks (Some (guard.Pair way.Exclusive)) e blocks n =
       let a : Ask K V D = ask.Held held.Downgrade in
       let g = Some (guard.Pair way.Exclusive) in
-      same-blocks a g blocks n (sound-begun a asks g refl
+      same-blocks a g blocks n (sound-begun a asks g e refl
       (in_call a asks g, refl, holds-moved x p (begun a g) Exclusive refl refl (guard-of (guard.Pair way.Exclusive) e).1.2, ready-still a g e refl refl))
   begun-by (ask.Held held.Downgrade) asks (Some (guard.Pair (way.Occupied k))) e blocks n = wrong-pair held.Downgrade asks (way.Occupied k) e refl refl refl (λ pair. (refl, refl)) blocks p.block refl n
   begun-by (ask.Held held.Downgrade) asks (Some (guard.Vacant k)) e blocks n = wrong-vacant held.Downgrade asks k e refl refl refl (refl, refl) blocks p.block refl n
@@ -378,7 +384,7 @@ module _ {K V S D T : Type 0} (x : Setup K V D T) (laws : Laws x) (w : State K V
   begun-by (ask.Held (held.Insert v)) asks (Some (guard.Vacant k)) e blocks n =
       let a : Ask K V D = ask.Held (held.Insert v) in
       let g = Some (guard.Vacant k) in
-      same-blocks a g blocks n (sound-begun a asks g refl
+      same-blocks a g blocks n (sound-begun a asks g e refl
       (k, in_call a asks g, refl, holds-moved x p (begun a g) Exclusive refl refl (guard-of (guard.Vacant k) e).1.1, ready-still a g e refl refl))
   begun-by (ask.Held held.IntoRef) asks (Some (guard.Pair way.Shared)) e blocks n = wrong-pair held.IntoRef asks way.Shared e refl refl refl (λ pair. (refl, refl)) blocks p.block refl n
   begun-by (ask.Held held.IntoRef) asks (Some (guard.Pair way.Exclusive)) e blocks n = wrong-pair held.IntoRef asks way.Exclusive e refl refl refl (λ pair. (refl, refl)) blocks p.block refl n
@@ -406,5 +412,9 @@ module _ {K V S D T : Type 0} (x : Setup K V D T) (laws : Laws x) (w : State K V
   begun-by (ask.Held held.Drop) asks (Some (guard.Vacant k)) e blocks n = same-blocks (ask.Held held.Drop) (Some (guard.Vacant k)) blocks n (to-drop asks (guard.Vacant k) e refl refl)
 
 pub sound-starts : {K V S D T : Type 0} (x : Setup K V D T) → Laws x → (w : State K V S D T) (s : Step) (w' : State K V S D T) → Sound x w → Starts x w s w' → Sound x w'
-sound-starts x laws w s w' sound a =
-    subst (Sound x) (sym a.after) (begun-by x laws w s sound a.place a.stands a.before a.rest a.ask a.asked a.place.guard refl a.blocks a.counted)
+sound-starts {K} {V} {S} {D} {T} x laws w s w' sound a =
+    subst (Sound x) (sym a.after) (begun-by x laws w s sound a.place a.stands a.before a.rest a.locks (λ ask g asks e.
+    let same : ask ≡ a.ask = cc (asks, a.asked) in
+    subst (λ (z : Option (Guard K)). EntersBy {T = T} s.thread (start_shard x.route ask a.place.shard) (start_phase ask z) w.locks a.locks) e
+    (subst (λ (z : Ask K V D). EntersBy {T = T} s.thread (start_shard x.route z a.place.shard) (start_phase z a.place.guard) w.locks a.locks) (sym same) a.enters))
+    a.ask a.asked a.place.guard refl a.blocks a.counted)

@@ -99,6 +99,29 @@ module _ {K V D T : Type 0} (x : Setup K V D T) (steps : List ℕ) (s : ℕ) (st
     in_turn = h.in_turn;
   }
 
+  -- without a step
+  pub placed-silent : WellPlaced x steps started bs replies → WellPlaced x steps started' bs replies
+  placed-silent h = record {
+    placed = λ i b at.
+        let p = h.placed i b at in
+        record {
+          ask = p.ask;
+          asked = p.asked;
+          done = done-kept x steps s started started' replies replies b p.ask mono p.done;
+          visit = p.visit;
+          visited = p.visited;
+          start = p.start;
+          position = p.position;
+          order = p.order;
+          shown = shown-kept b p.shown;
+        };
+    rising = h.rising;
+    own_order = h.own_order;
+    timed = h.timed;
+    ends_rise = h.ends_rise;
+    in_turn = h.in_turn;
+  }
+
   -- one block has done more
   pub placed-grown : (i : ℕ) (b c : Block K) → slice_get bs i ≡ Some b → SameCall b c → c.end ≡ b.end
       → ((a : Ask K V D) → ask_at x b.thread b.call ≡ Some a → IsDoneWithin x started replies b a → IsDoneWithin x started' replies c a)

@@ -1,0 +1,93 @@
+-- A release or a downgrade that has begun makes its first act at once, and after the first act of a downgrade the hold is a shared one.
+use Rattle.std.proofs.Common.{◌≡◌, ◌≢◌, ℕ, ◌<◌, Bool, true, false, cond, List, length, Option, Some, None, slice_set, refl, sym, ap, ◌∙◌, subst}
+use Rattle.std.specs.Option.{option_and_then, option_map, option_map_or}
+use Rattle.std.proofs.lemmas.Bool.{false≢true}
+use Rattle.std.proofs.lemmas.Option.{same_Some}
+use Rattle.lock_api_desk.specs.declared.mode.Mode.TheVariants as held
+use Rattle.parking_lot_protocol.specs.declared.act.ActResult.{ActResult}
+use Rattle.parking_lot_protocol.specs.declared.rw_phase.Outcome.{Outcome}
+use Rattle.parking_lot_protocol.specs.declared.rw_phase.RwPhase.{RwPhase}
+use Rattle.parking_lot_protocol.specs.Acts.{word_before}
+use Rattle.parking_lot_protocol.specs.RwRules as of_rw
+use Rattle.parking_lot_protocol.specs.RwTable.{is_parked}
+use Rattle.parking_lot_world.specs.declared.calls.LockCall.{LockCall}
+use Rattle.parking_lot_world.specs.declared.open_call.Call.{Call}
+use Rattle.parking_lot_world.specs.declared.seat.Core.{Core}
+use Rattle.parking_lot_world.specs.Beginnings.{core_of}
+use Rattle.parking_lot_world.specs.CallViews.{rw_mode}
+use Rattle.parking_lot_world.specs.Machines.{IsBegun, IsStepped, call_for, can_move, can_move_in, end_of, ended, is_possible}
+use Rattle.parking_lot_world.specs.RowActs.{hears}
+use Rattle.parking_lot_world.specs.RowFits.{FitsTogether}
+use Rattle.parking_lot_world.specs.Rows.{State, call_at, rw_core_role, rw_spot, taken_by}
+use Rattle.parking_lot_world.specs.Stances.{core_act, core_next}
+use Rattle.mapworld_locks.specs.Fits.{IsPlain}
+use Rattle.mapworld_locks.specs.Stands.{gives}
+use Rattle.mapworld_locks.specs.Views.{held_as, held_at}
+use Rattle.mapworld_locks.proofs.Calls.{IsProper, call_of}
+use Rattle.mapworld_locks.proofs.Standing.{GoesOnBy, kept_proper, own_call, set_low}
+use Rattle.mapworld_locks.proofs.Stepping.{call_holds}
+
+-- the call that it is in once it has begun
+pub begun_call : (s u : State) (t i : ℕ) (call : LockCall) → t < length s.calls → IsBegun t i call s u → call_at u t ≡ Some (hears (call_for s t i call) ActResult.Start)
+begun_call s u t i call low x =
+    ap (λ (w : State). call_at w t) x.became ∙ set_low s.calls t (Some (hears (call_for s t i call) ActResult.Start)) low
+
+first_possible : (taken : ℕ → Bool) (call : LockCall) → gives call ≡ true → is_possible taken (core_act (core_next (core_of call) ActResult.Start)) ≡ true
+first_possible taken LockCall.Lock is = absurd (false≢true is)
+first_possible taken LockCall.TryLock is = absurd (false≢true is)
+first_possible taken LockCall.Unlock is = absurd (false≢true is)
+first_possible taken LockCall.Read is = absurd (false≢true is)
+first_possible taken LockCall.TryRead is = absurd (false≢true is)
+first_possible taken LockCall.UnlockRead is = refl
+first_possible taken LockCall.Write is = absurd (false≢true is)
+first_possible taken LockCall.TryWrite is = absurd (false≢true is)
+first_possible taken LockCall.UnlockWrite is = refl
+first_possible taken LockCall.Downgrade is = refl
+
+first_open : (call : LockCall) → gives call ≡ true → end_of (core_act (core_next (core_of call) ActResult.Start)) ≡ None
+first_open LockCall.Lock is = absurd (false≢true is)
+first_open LockCall.TryLock is = absurd (false≢true is)
+first_open LockCall.Unlock is = absurd (false≢true is)
+first_open LockCall.Read is = absurd (false≢true is)
+first_open LockCall.TryRead is = absurd (false≢true is)
+first_open LockCall.UnlockRead is = refl
+first_open LockCall.Write is = absurd (false≢true is)
+first_open LockCall.TryWrite is = absurd (false≢true is)
+first_open LockCall.UnlockWrite is = refl
+first_open LockCall.Downgrade is = refl
+
+module _ (s mid : State) (t i : ℕ) (call : LockCall) (low : t < length s.calls) (x : IsBegun t i call s mid) where
+  pub can_start : gives call ≡ true → can_move mid t ≡ true
+  can_start is = ap (can_move_in mid) (begun_call s mid t i call low x) ∙ first_possible _ call is
+
+  pub is_open : gives call ≡ true → ended mid t ≡ None
+  is_open is = ap (option_and_then (λ (c : Call). end_of (core_act c.core))) (begun_call s mid t i call low x) ∙ first_open call is
+
+-- A DOWNGRADE
+
+turned_mode : (at : of_rw.QueuePosition) (us : List ℕ) (seen : Option ℕ) (p : RwPhase)
+    → p ≡ option_map_or (λ q. q) (option_map (λ word. cond (is_parked word) RwPhase.EnterWakeSection (RwPhase.Ends Outcome.Downgraded)) seen) RwPhase.Invalid → p ≢ RwPhase.Invalid
+    → held_as (rw_mode (of_rw.role 0 at us p)) ≡ Some held.Shared
+turned_mode at us None p e ne = absurd (ne e)
+turned_mode at us (Some word) p e ne = ap (λ q. held_as (rw_mode (of_rw.role 0 at us q))) e ∙ by (is_parked word)
+  where
+    by : (b : Bool) → held_as (rw_mode (of_rw.role 0 at us (cond b RwPhase.EnterWakeSection (RwPhase.Ends Outcome.Downgraded)))) ≡ Some held.Shared
+    by true = refl
+    by false = refl
+
+core_turned : (at : _) (us : List ℕ) (k : Core) (told : ActResult) → k ≡ core_next (Core.Rw (record { phase = RwPhase.Downgrades })) told → IsProper k → held_as (rw_mode (rw_core_role 0 at us k)) ≡ Some held.Shared
+core_turned at us k told e proper =
+    ap (λ x. held_as (rw_mode (rw_core_role 0 at us x))) e
+    ∙ turned_mode (rw_spot at) us (word_before told) _ refl (subst IsProper e proper)
+
+pub start_turns : (s mid u : State) (t i : ℕ) (call : LockCall) (fair : Bool) → t < length s.calls → IsBegun t i call s mid → IsStepped t fair None mid u → FitsTogether u → IsPlain u → call ≡ LockCall.Downgrade
+    → held_at u i t ≡ Some held.Shared
+start_turns s mid u t i call fair low begins x fits plain is =
+    let own : GoesOnBy x.call (call_at u t) = own_call mid u t fair x in
+    let begun : hears (call_for s t i call) ActResult.Start ≡ x.call = same_Some _ x.call (sym (begun_call s mid t i call low begins) ∙ x.here) in
+    let lock : own.call.lock ≡ i = own.lock ∙ sym (ap (λ (c : Call). c.lock) begun) in
+    let core : own.call.core ≡ core_next (Core.Rw (record { phase = RwPhase.Downgrades })) own.told =
+    own.core ∙ ap (λ (c : Call). core_next c.core own.told) (sym begun) ∙ ap (λ k. core_next (core_next (core_of k) ActResult.Start) own.told) is in
+    ap (λ n. held_at u n t) (sym lock)
+    ∙ call_holds u t own.call plain own.there
+    ∙ core_turned own.call.spot (taken_by u.wakes t) own.call.core own.told core (kept_proper own.call.others own.call.core (fits.rules.prepared t own.call own.there))
