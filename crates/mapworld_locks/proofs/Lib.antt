@@ -20,3 +20,4 @@ mod Stepping
 mod Following
 mod Finishing
 mod Starting
+mod Making
