@@ -20,4 +20,5 @@ mod Stepping
 mod Following
 mod Finishing
 mod Starting
+mod Making
 pub mod Sizes

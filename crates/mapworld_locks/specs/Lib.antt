@@ -5,3 +5,4 @@ pub mod Stands
 pub mod Moves
 pub mod Fits
 pub mod Steps
+pub mod Fresh

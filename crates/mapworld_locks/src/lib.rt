@@ -2,6 +2,7 @@
 #![tactic(auto)]
 
 mod desks;
+mod new_locks;
 mod shard_locks;
 
 pub use desks::ShardDesk;

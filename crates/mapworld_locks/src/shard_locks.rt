@@ -23,9 +23,9 @@ use std::marker::Model;
 /// desk of a shard has a guard for each thread that holds the shard, in the same step in which it comes to hold it.
 #[derive(Drop)]
 pub struct ShardLocks<A: Allocator = Global> {
-    machine: RowMachine<A>,
+    pub(crate) machine: RowMachine<A>,
     /// By the number of the shard.
-    desks: Vec<ShardDesk<A>, A>,
+    pub(crate) desks: Vec<ShardDesk<A>, A>,
 }
 
 impl<A: Allocator> Model for ShardLocks<A> {
