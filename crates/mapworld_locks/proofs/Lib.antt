@@ -21,3 +21,4 @@ mod Following
 mod Finishing
 mod Starting
 mod Making
+mod Touching
