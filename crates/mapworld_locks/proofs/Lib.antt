@@ -22,3 +22,5 @@ mod Finishing
 mod Starting
 mod Making
 mod Touching
+mod Weighing
+mod Wording
