@@ -22,3 +22,6 @@ mod Finishing
 mod Starting
 mod Making
 pub mod Sizes
+mod Touching
+mod Weighing
+mod Wording
