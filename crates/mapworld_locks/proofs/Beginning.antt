@@ -266,6 +266,7 @@ module _ (old : Shown) (fit : LocksFit old) (t i : ℕ) (call : LockCall) (ask :
     pub begins : LockBegins t i call old new
     begins = record {
       became = x;
+      whole = record { threads = count; kinds = kinds_same };
       desks = refl;
       stand = ap (option_map stand_of) here ∙ ap Some (begun_stand i (holds_beside h) call ask.of_kind);
       others = λ v ne. ap (option_map stand_of) (apart v ne);

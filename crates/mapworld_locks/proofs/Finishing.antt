@@ -169,6 +169,7 @@ module _ (laws : StepsAreCases) (old : Shown) (fit : LocksFit old) (t : ℕ) (ro
     stood = ap (option_map stand_of) x.here;
     over = ap (option_and_then (λ (y : Call). end_of (core_act y.core))) x.here ∙ sym x.answers;
     steps = x;
+    whole = record { threads = (stepped_goes s u t false (Some answer) x).count; kinds = stepped_kinds s u t false (Some answer) fit.plain x };
     desks = refl;
     gone = ap (option_map stand_of) gone;
     others = λ v ne. others_stand s u t false (Some answer) fit.fits fits x v ne;

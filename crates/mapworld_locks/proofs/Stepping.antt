@@ -152,7 +152,7 @@ left_so None b ne none = absurd (ne refl)
 left_so (Some m) b ne none = ap is_none none
 
 -- the call that stands so
-called : (o : Option Call) (st : Stand) → option_map stand_of o ≡ Some st → (c : Call) × (o ≡ Some c) × (stand_of c ≡ st)
+pub called : (o : Option Call) (st : Stand) → option_map stand_of o ≡ Some st → (c : Call) × (o ≡ Some c) × (stand_of c ≡ st)
 called None st e = absurd (none-some st e)
 called (Some c) st e = (c, refl, same_Some (stand_of c) st e)
 
@@ -359,6 +359,7 @@ module _ (laws : StepsAreCases) (agree : Always OwnersAgree) (old : Shown) (fit 
         stand = stand_of c;
         stood = ap (option_map stand_of) x.here;
         steps = x;
+        whole = record { threads = count; kinds = kinds_same };
         desk = desk;
         at_shard = at;
         desks = is;
@@ -371,5 +372,6 @@ module _ (laws : StepsAreCases) (agree : Always OwnersAgree) (old : Shown) (fit 
         kept = kept;
         gained = gained;
         elsewhere = λ j ne. elsewhere_same j t ne;
+        apart = λ v j ne. elsewhere_same j v ne;
         turned = turned;
       }

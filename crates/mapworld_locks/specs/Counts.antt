@@ -8,8 +8,10 @@ use Rattle.parking_lot_world.specs.declared.calls.OwnMode.TheVariants as own
 use Rattle.parking_lot_world.specs.Rows.{State, lock_at, state, word_at}
 use Rattle.parking_lot_world.specs.SoundLaws.{ListsAreWaiters}
 use Rattle.parking_lot_world.specs.Worlds.{mode_in}
+use Rattle.mapworld_locks.specs.Aims.{is_within}
 use Rattle.mapworld_locks.specs.Fits.{LocksFit}
-use Rattle.mapworld_locks.specs.Views.{Shown}
+use Rattle.mapworld_locks.specs.Stands.{Stand, stand_in}
+use Rattle.mapworld_locks.specs.Views.{Shown, owner_in}
 
 -- nobody waits as the next writer for the readers to leave
 abbrev pub NobodyIsPending : State → ℕ → Type 0
@@ -23,6 +25,11 @@ pub record CountsAsWord (s : State) (i : ℕ) (desk : DeskState (Unit {0})) : Ty
 
 abbrev pub DesksCountAsWords : Type 0
 DesksCountAsWords = (sh : Shown) → LocksFit sh → (i : ℕ) (desk : DeskState (Unit {0})) → slice_get sh.desks i ≡ Some desk → CountsAsWord (state sh.rows) i desk
+
+-- In a call a thread holds its shard in no other way than the call is about: one that asks holds nothing or what it asks for, one that gives up
+-- holds that or nothing, and one that turns its hold holds it.
+abbrev pub CallsHoldWithin : Type 0
+CallsHoldWithin = (sh : Shown) → LocksFit sh → (t : ℕ) (st : Stand) → stand_in sh t ≡ Some st → is_within st.aim (owner_in sh st.shard t) ≡ true
 
 -- the queues of a shard's keys have exactly the threads that wait there, each once
 abbrev pub QueuesAreWaiters : Type 0

@@ -17,6 +17,11 @@ use Rattle.mapworld_locks.specs.Seats.{GoTogether}
 use Rattle.mapworld_locks.specs.Stands.{Stand, is_try, needs, stand_in}
 use Rattle.mapworld_locks.specs.Views.{Shown, owner_in}
 
+-- threads stay, and locks stay what they are
+pub record StaysWhole (old new : Shown) : Type 0 where
+  pub threads : length new.rows.calls ≡ length old.rows.calls
+  pub kinds : new.rows.kinds ≡ old.rows.kinds
+
 -- The thread may begin the call: it is in none, and holds the shard as the call needs it.
 pub record MayAsk (t shard : ℕ) (call : LockCall) (sh : Shown) : Type 0 where
   pub thread : t < length sh.rows.calls
@@ -28,6 +33,7 @@ pub record MayAsk (t shard : ℕ) (call : LockCall) (sh : Shown) : Type 0 where
 -- It has begun the call, and nobody's hold has changed.
 pub record LockBegins (t shard : ℕ) (call : LockCall) (old new : Shown) : Type 0 where
   pub became : IsBegun t shard call (state old.rows) (state new.rows)
+  pub whole : StaysWhole old new
   pub desks : new.desks ≡ old.desks
   pub stand : stand_in new t ≡ Some (record { shard = shard; aim = aim_of call; trying = is_try call })
   pub others : (v : ℕ) → v ≢ t → stand_in new v ≡ stand_in old v
@@ -38,6 +44,7 @@ pub record LockMoves (t : ℕ) (fair : Bool) (old new : Shown) : Type 0 where
   pub stand : Stand
   pub stood : stand_in old t ≡ Some stand
   pub steps : IsStepped t fair None (state old.rows) (state new.rows)
+  pub whole : StaysWhole old new
   -- the desk of its shard follows the owners there
   pub desk : DeskState (Unit {0})
   pub at_shard : slice_get old.desks stand.shard ≡ Some desk
@@ -52,6 +59,8 @@ pub record LockMoves (t : ℕ) (fair : Bool) (old new : Shown) : Type 0 where
   pub gained : (v i : ℕ) (m : Mode) → v ≢ t → owner_in new i v ≡ Some m
       → (owner_in old i v ≡ Some m) ⊎ ((sv : Stand) × (stand_in old v ≡ Some sv) × (sv.shard ≡ i) × (sv.aim ≡ Gets m))
   pub elsewhere : (i : ℕ) → i ≢ stand.shard → owner_in new i t ≡ owner_in old i t
+  -- at other shards nobody's hold changes
+  pub apart : (v i : ℕ) → i ≢ stand.shard → owner_in new i v ≡ owner_in old i v
   pub turned : stand.aim ≡ Turns → owner_in old stand.shard t ≡ Some held.Shared → owner_in new stand.shard t ≡ Some held.Shared
 
 -- It has begun to give its hold up or to turn it, and has made the first act of that.
@@ -67,6 +76,7 @@ pub record LockEnds (t : ℕ) (answer : CoreAnswer) (old new : Shown) : Type 0 w
   pub stood : stand_in old t ≡ Some stand
   pub over : ended (state old.rows) t ≡ Some answer
   pub steps : IsStepped t false (Some answer) (state old.rows) (state new.rows)
+  pub whole : StaysWhole old new
   pub desks : new.desks ≡ old.desks
   pub gone : stand_in new t ≡ None
   pub others : (v : ℕ) → v ≢ t → stand_in new v ≡ stand_in old v

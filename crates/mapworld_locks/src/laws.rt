@@ -1,5 +1,5 @@
 //! Laws of shards' locks.
-ghost use Rattle.mapworld_locks.specs.Counts.{DesksCountAsWords, QueuesAreWaiters};
+ghost use Rattle.mapworld_locks.specs.Counts.{CallsHoldWithin, DesksCountAsWords, QueuesAreWaiters};
 ghost use Rattle.mapworld_locks.specs.Footprints.{StepsTouchOneLock};
 
 use parking_lot_world::laws;
@@ -25,3 +25,9 @@ pub fn desks_count_as_words()
 {
     laws::modes_are_weighed();
 }
+
+/// In a call a thread holds its shard in no other way than the call is about: one that asks holds nothing or what it asks for, one that gives up
+/// holds that or nothing, and one that turns its hold holds it.
+pub fn calls_hold_within()
+    ensures { CallsHoldWithin }
+{}
