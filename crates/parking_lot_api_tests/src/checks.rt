@@ -3,7 +3,7 @@
 use lock_api_checks::{mutex_checks, reentrant_checks, rwlock_arc_checks, rwlock_checks};
 use lock_api_raw::{GetThreadId, MakeLock, RawMutexFair, RawRwLockDowngrade, RawRwLockFair};
 use parking_lot_core::ParkingLot;
-use parking_lot_locks::{LockTable, RawMutex, RawRwLock, RawThreadId};
+use parking_lot_locks::{LockTable, RawFairMutex, RawMutex, RawRwLock, RawThreadId};
 use std::alloc::Global;
 use std::sync::Wait;
 use std::test::Fail;
@@ -32,6 +32,23 @@ fn the_checks_of_the_mutex_pass(rt: HostRuntime) -> Result<(), Fail> {
     let mut other = lot.thread_data()?;
     let table = LockTable::new(rt.alloc(), &lot, 8)?;
     let passed = of_mutex::<RawMutex<HostRuntime>, HostRuntime, _>(
+        &rt,
+        rt.alloc(),
+        &table,
+        &mut one,
+        &mut other,
+    );
+    assert!(rt; passed);
+    Ok(())
+}
+
+#[test]
+fn the_checks_of_the_fair_mutex_pass(rt: HostRuntime) -> Result<(), Fail> {
+    let lot = ParkingLot::new(rt, rt.alloc(), 2, 7)?;
+    let mut one = lot.thread_data()?;
+    let mut other = lot.thread_data()?;
+    let table = LockTable::new(rt.alloc(), &lot, 8)?;
+    let passed = of_mutex::<RawFairMutex<HostRuntime>, HostRuntime, _>(
         &rt,
         rt.alloc(),
         &table,

@@ -5,6 +5,8 @@
 #[cfg(test)]
 mod beside;
 #[cfg(test)]
+mod deadlines;
+#[cfg(test)]
 mod guards;
 #[cfg(test)]
 mod mutex_calls;
