@@ -27,6 +27,7 @@ mod run;
 mod section;
 mod table;
 mod thread_id;
+mod timed_run;
 mod told;
 
 pub use deadline::to_deadline;

@@ -29,6 +29,8 @@ mod script;
 #[cfg(test)]
 mod sections;
 #[cfg(test)]
+mod timed;
+#[cfg(test)]
 mod waiting;
 #[cfg(test)]
 mod words;
