@@ -1,0 +1,2 @@
+pub mod NotifyTable
+pub mod WaitTable
