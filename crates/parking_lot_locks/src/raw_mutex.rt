@@ -27,6 +27,13 @@ pub struct RawMutex<'t, 'l, R, A: Allocator = Global> {
 }
 
 impl<'t, 'l, R, A: Allocator> RawMutex<'t, 'l, R, A> {
+    /// Its row. For the layer above: a condition variable moves waiters to the row's key, and announces them in its word.
+    pub fn row(&self) -> &Row<'t, 'l, R, A>
+        ensures { result.now ≡ self.now.row }
+    {
+        &self.row
+    }
+
     /// What its calls run on. It has no readers to limit.
     fn place(&self) -> Place<'_, 't, 'l, R, A> {
         Place {
