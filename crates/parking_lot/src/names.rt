@@ -3,6 +3,7 @@
 //! Of each, `T` is the type of the value, `R` the lot's runtime and `A` the lot's allocator; a guard's first lifetime is that of
 //! the lock, and the others are those of the lock table and of the lot.
 
+use parking_lot_condvar::RawCondvar;
 use parking_lot_locks::{RawFairMutex, RawMutex, RawRwLock, RawThreadId};
 use std::alloc::Global;
 
@@ -124,3 +125,6 @@ pub type ReentrantMutexGuard<'m, 't, 'l, T, R, A = Global> = lock_api::Reentrant
 /// A [`ReentrantMutexGuard`] that a projection of the type `P` narrows to a part of the value.
 pub type MappedReentrantMutexGuard<'m, 't, 'l, T, P, R, A = Global> =
     lock_api::MappedReentrantMutexGuard<'m, RawMutex<'t, 'l, R, A>, RawThreadId<A>, T, P>;
+
+/// A condition variable, for guards of a [`Mutex`].
+pub type Condvar<'t, 'l, R, A = Global> = lock_api::Condvar<RawCondvar<'t, 'l, R, A>>;
