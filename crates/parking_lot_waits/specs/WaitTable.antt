@@ -25,11 +25,11 @@ act_of (Checks mutex) = act.Check
 act_of Retreats = act.Leave
 act_of (Appends mutex) = act.Append
 act_of (Shows mutex) = act.Show (shown_by mutex)
-act_of Rests = act.Leave
-act_of Unlocks = act.UnlocksMutex
-act_of Sleeps = act.Sleep
-act_of Expires = act.Reenters
-act_of Quits = act.TakesItself
+act_of (Rests mutex) = act.Leave
+act_of (Unlocks mutex) = act.UnlocksMutex
+act_of (Sleeps mutex) = act.Sleep
+act_of (Expires mutex) = act.Reenters
+act_of (Quits mutex) = act.TakesItself
 act_of Forgets = act.Forgets
 act_of Masks = act.MasksMutex
 act_of (Leaves timed_out) = act.Leave
@@ -53,14 +53,14 @@ next_phase (Enters mutex) Made = Checks mutex
 next_phase (Checks mutex) (Word word) = (if (word == 0) || (word == shown_by mutex) then Appends mutex else Retreats)
 next_phase Retreats Made = Ends answer.WrongMutex
 next_phase (Appends mutex) Made = Shows mutex
-next_phase (Shows mutex) Made = Rests
-next_phase Rests Made = Unlocks
-next_phase Unlocks Made = Sleeps
-next_phase Sleeps (Woken token) = begins_again token
-next_phase Sleeps Expired = Expires
-next_phase Expires Made = Quits
-next_phase Quits (Quit here last) = (if last then (if here then Forgets else Masks) else Leaves here)
-next_phase Quits (WasTaken token) = Resumes token
+next_phase (Shows mutex) Made = Rests mutex
+next_phase (Rests mutex) Made = Unlocks mutex
+next_phase (Unlocks mutex) Made = Sleeps mutex
+next_phase (Sleeps mutex) (Woken token) = begins_again token
+next_phase (Sleeps mutex) Expired = Expires mutex
+next_phase (Expires mutex) Made = Quits mutex
+next_phase (Quits mutex) (Quit here last) = (if last then (if here then Forgets else Masks) else Leaves here)
+next_phase (Quits mutex) (WasTaken token) = Resumes token
 next_phase Forgets Made = Leaves true
 next_phase Masks Made = Leaves false
 next_phase (Leaves timed_out) Made = Locks timed_out
@@ -87,6 +87,12 @@ Gives act.TakesItself word (WasTaken token) = Unit {0}
 Gives act.Forgets word Made = Unit {0}
 Gives act.MasksMutex word Made = Unit {0}
 Gives act word seen = ⊥
+
+-- the word of the variable after an act that gave this
+abbrev pub word_after : WaitAct → WaitSeen → ℕ → ℕ
+word_after (act.Show shown) Made word = shown
+word_after act.Forgets Made word = 0
+word_after act seen word = word
 
 -- a core that was told so much more, and the act that one has asked for
 abbrev pub wait_told : WaitCore → WaitSeen → WaitCore

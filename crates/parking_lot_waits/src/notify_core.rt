@@ -1,5 +1,6 @@
 //! The call of a thread that notifies those that wait on a condition variable.
 ghost use Rattle.std.specs.Prelude.{◌≡◌, ◌+◌, ◌%◌, ◌^◌, ◌==◌, ◌&&◌, nat_lt, not, true, false, if◌then◌else◌, IfSome};
+ghost use Rattle.parking_lot_waits.specs.NotifyRules.{Follows};
 ghost use Rattle.parking_lot_waits.specs.NotifyTable.{act_of, fits, forgets_or, moved_to, next_phase, operation, wakes_or, Gives, notify_asks, notify_told};
 ghost use Rattle.parking_lot_waits.specs.declared.notify_act.NotifySeen.TheVariants as seen;
 ghost use Rattle.parking_lot_waits.specs.declared.notify_act.NotifyAct.TheVariants as act;
@@ -85,6 +86,7 @@ impl NotifyCore {
     pub fn next(&mut self, seen: NotifySeen) -> NotifyAct
         ensures phase { self.new.phase ≡ next_phase self.old.phase seen }
         ensures act { result ≡ act_of self.new.phase }
+        ensures rules { Follows self.old.phase seen }
     {
         self.phase = self.phase.after(seen);
         self.phase.act()

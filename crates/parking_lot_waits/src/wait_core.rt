@@ -1,5 +1,6 @@
 //! The call of a thread that waits on a condition variable.
 ghost use Rattle.std.specs.Prelude.{◌≡◌, ◌+◌, ◌%◌, ◌^◌, ◌==◌, ◌||◌, if◌then◌else◌, IfSome};
+ghost use Rattle.parking_lot_waits.specs.WaitRules.{Follows};
 ghost use Rattle.parking_lot_waits.specs.WaitTable.{act_of, begins_again, next_phase, shown_by, Gives, wait_asks, wait_told};
 ghost use Rattle.parking_lot_waits.specs.declared.wait_act.WaitAnswer.TheVariants.{Woken, TimedOut, WrongMutex, WrongLot};
 ghost use Rattle.parking_lot_waits.specs.declared.wait_act.WaitSeen.TheVariants as seen;
@@ -27,13 +28,13 @@ pub enum WaitPhase {
     Retreats,
     Appends(u64),
     Shows(u64),
-    Rests,
+    Rests(u64),
     /// It gives the mutex up and sleeps.
-    Unlocks,
-    Sleeps,
+    Unlocks(u64),
+    Sleeps(u64),
     /// Its moment has passed: it enters the section of the list in which it stands, and takes itself off that.
-    Expires,
-    Quits,
+    Expires(u64),
+    Quits(u64),
     /// It is off the list, and was the last there: the variable forgets the mutex, or the mutex's parked bit is masked off. It leaves.
     Forgets,
     Masks,
@@ -110,6 +111,7 @@ impl WaitCore {
     pub fn next(&mut self, seen: WaitSeen) -> WaitAct
         ensures phase { self.new.phase ≡ next_phase self.old.phase seen }
         ensures act { result ≡ act_of self.new.phase }
+        ensures rules { Follows self.old.phase seen }
     {
         self.phase = self.phase.after(seen);
         self.phase.act()
@@ -155,13 +157,13 @@ impl WaitPhase {
             WaitPhase::Looks => WaitAct::Load,
             WaitPhase::Enters(_) => WaitAct::Enter,
             WaitPhase::Checks(_) => WaitAct::Check,
-            WaitPhase::Retreats | WaitPhase::Rests => WaitAct::Leave,
+            WaitPhase::Retreats | WaitPhase::Rests(_) => WaitAct::Leave,
             WaitPhase::Appends(_) => WaitAct::Append,
             WaitPhase::Shows(mutex) => WaitAct::Show(shown_by(mutex)),
-            WaitPhase::Unlocks | WaitPhase::Yields => WaitAct::UnlocksMutex,
-            WaitPhase::Sleeps => WaitAct::Sleep,
-            WaitPhase::Expires => WaitAct::Reenters,
-            WaitPhase::Quits => WaitAct::TakesItself,
+            WaitPhase::Unlocks(_) | WaitPhase::Yields => WaitAct::UnlocksMutex,
+            WaitPhase::Sleeps(_) => WaitAct::Sleep,
+            WaitPhase::Expires(_) => WaitAct::Reenters,
+            WaitPhase::Quits(_) => WaitAct::TakesItself,
             WaitPhase::Forgets => WaitAct::Forgets,
             WaitPhase::Masks => WaitAct::MasksMutex,
             WaitPhase::Leaves(_) | WaitPhase::Resumes(_) => WaitAct::Leave,
@@ -184,14 +186,14 @@ impl WaitPhase {
             (WaitPhase::Checks(mutex), WaitSeen::Word(word)) => checks(mutex, word),
             (WaitPhase::Retreats, WaitSeen::Made) => WaitPhase::Ends(WaitAnswer::WrongMutex),
             (WaitPhase::Appends(mutex), WaitSeen::Made) => WaitPhase::Shows(mutex),
-            (WaitPhase::Shows(_), WaitSeen::Made) => WaitPhase::Rests,
-            (WaitPhase::Rests, WaitSeen::Made) => WaitPhase::Unlocks,
-            (WaitPhase::Unlocks, WaitSeen::Made) => WaitPhase::Sleeps,
-            (WaitPhase::Sleeps, WaitSeen::Woken(token)) => begins_again(token),
-            (WaitPhase::Sleeps, WaitSeen::Expired) => WaitPhase::Expires,
-            (WaitPhase::Expires, WaitSeen::Made) => WaitPhase::Quits,
-            (WaitPhase::Quits, WaitSeen::Quit { here, last }) => quits(here, last),
-            (WaitPhase::Quits, WaitSeen::WasTaken(token)) => WaitPhase::Resumes(token),
+            (WaitPhase::Shows(mutex), WaitSeen::Made) => WaitPhase::Rests(mutex),
+            (WaitPhase::Rests(mutex), WaitSeen::Made) => WaitPhase::Unlocks(mutex),
+            (WaitPhase::Unlocks(mutex), WaitSeen::Made) => WaitPhase::Sleeps(mutex),
+            (WaitPhase::Sleeps(_), WaitSeen::Woken(token)) => begins_again(token),
+            (WaitPhase::Sleeps(mutex), WaitSeen::Expired) => WaitPhase::Expires(mutex),
+            (WaitPhase::Expires(mutex), WaitSeen::Made) => WaitPhase::Quits(mutex),
+            (WaitPhase::Quits(_), WaitSeen::Quit { here, last }) => quits(here, last),
+            (WaitPhase::Quits(_), WaitSeen::WasTaken(token)) => WaitPhase::Resumes(token),
             (WaitPhase::Forgets, WaitSeen::Made) => WaitPhase::Leaves(true),
             (WaitPhase::Masks, WaitSeen::Made) => WaitPhase::Leaves(false),
             (WaitPhase::Leaves(timed_out), WaitSeen::Made) => WaitPhase::Locks(timed_out),
