@@ -150,3 +150,36 @@ fn the_checks_of_the_reentrant_mutex_pass(rt: HostRuntime) -> Result<(), Fail> {
     assert!(rt; is_first & is_second & passed);
     Ok(())
 }
+
+/// Whether timed calls of the reentrant mutex give up beside another party's hold, and nest for the owner.
+fn of_timed_reentrant<R, G: GetThreadId<Party = R::Party> + Drop, C: Clock, S>(
+    alloc: Global,
+    clock: &C,
+    source: S,
+    one: &mut R::Party,
+    other: &mut R::Party,
+) -> bool
+where
+    R: RawMutexTimed<Duration = Duration, Instant = Instant> + MakeLock<S> + Drop,
+    R::Runtime: Wait,
+{
+    reentrant_checks::gives_up_in_time::<R, G, C, Global, S>(alloc, source, clock, one, other)
+        .is_ok()
+}
+
+#[test]
+fn the_checks_of_the_timed_reentrant_mutex_pass(rt: HostRuntime) -> Result<(), Fail> {
+    let lot = ParkingLot::new(rt, rt.alloc(), 2, 7)?;
+    let mut one = lot.thread_data()?;
+    let mut other = lot.thread_data()?;
+    let table = LockTable::new(rt.alloc(), &lot, 1)?;
+    let passed = of_timed_reentrant::<RawMutex<HostRuntime>, RawThreadId, HostRuntime, _>(
+        rt.alloc(),
+        &rt,
+        &table,
+        &mut one,
+        &mut other,
+    );
+    assert!(rt; passed);
+    Ok(())
+}

@@ -7,6 +7,8 @@ mod calls;
 #[cfg(test)]
 mod counted;
 #[cfg(test)]
+mod guards;
+#[cfg(test)]
 mod refused;
 #[cfg(test)]
 mod timed;
