@@ -18,14 +18,22 @@
 
 mod names;
 
+pub use lock_api::WaitTimeoutResult;
 pub use names::{
-    MappedMutexGuard, MappedReentrantMutexGuard, MappedRwLockReadGuard, MappedRwLockWriteGuard,
-    Mutex, MutexGuard, ReentrantMutex, ReentrantMutexGuard, RwLock, RwLockReadGuard,
-    RwLockWriteGuard,
+    Condvar, FairMutex, FairMutexGuard, MappedFairMutexGuard, MappedMutexGuard,
+    MappedRecursiveRwLockReadGuard, MappedRecursiveRwLockWriteGuard, MappedReentrantMutexGuard,
+    MappedRwLockReadGuard, MappedRwLockWriteGuard, Mutex, MutexGuard, RawRwLockRecursive,
+    RecursiveRwLock, RecursiveRwLockReadGuard, RecursiveRwLockWriteGuard, ReentrantMutex,
+    ReentrantMutexGuard, RwLock, RwLockReadGuard, RwLockWriteGuard,
 };
+pub use parking_lot_condvar::RawCondvar;
 pub use parking_lot_locks::{
-    Act, ActResult, CoreAnswer, LockTable, MutexCore, RawMutex, RawRwLock, RawThreadId, Row,
-    RwCore, SectionAct, WordChange, laws, wake_sum,
+    Act, ActResult, CoreAnswer, LockTable, MutexCore, RawFairMutex, RawMutex, RawRwLock,
+    RawThreadId, Row, RwCore, SectionAct, WordChange, laws, to_deadline, wake_sum,
+};
+pub use parking_lot_timed::{TimedAct, TimedMutexCore, TimedSeen};
+pub use parking_lot_waits::{
+    NotifyAct, NotifyCore, NotifySeen, WaitAct, WaitAnswer, WaitCore, WaitSeen,
 };
 pub use parking_lot_world::{
     LockAnswer, LockCall, LockKind, OwnMode, World, WorldFault, WorldRefusal, WorldStep,

@@ -3,7 +3,8 @@
 //! Of each, `T` is the type of the value, `R` the lot's runtime and `A` the lot's allocator; a guard's first lifetime is that of
 //! the lock, and the others are those of the lock table and of the lot.
 
-use parking_lot_locks::{RawMutex, RawRwLock, RawThreadId};
+use parking_lot_condvar::RawCondvar;
+use parking_lot_locks::{RawFairMutex, RawMutex, RawRwLock, RawThreadId};
 use std::alloc::Global;
 
 /// A mutex and a value.
@@ -20,6 +21,24 @@ pub type MutexGuard<'m, 't, 'l, T, R, A = Global> = lock_api::MutexGuard<
 pub type MappedMutexGuard<'m, 't, 'l, T, P, R, A = Global> = lock_api::MappedMutexGuard<
     'm,
     RawMutex<'t, 'l, R, A>,
+    T,
+    P,
+>;
+
+/// A mutex that is handed over at each release to the first that waits, and a value.
+pub type FairMutex<'t, 'l, T, R, A = Global> = lock_api::Mutex<RawFairMutex<'t, 'l, R, A>, T>;
+
+/// The guard of a [`FairMutex`].
+pub type FairMutexGuard<'m, 't, 'l, T, R, A = Global> = lock_api::MutexGuard<
+    'm,
+    RawFairMutex<'t, 'l, R, A>,
+    T,
+>;
+
+/// A [`FairMutexGuard`] that a projection of the type `P` narrows to a part of the value.
+pub type MappedFairMutexGuard<'m, 't, 'l, T, P, R, A = Global> = lock_api::MappedMutexGuard<
+    'm,
+    RawFairMutex<'t, 'l, R, A>,
     T,
     P,
 >;
@@ -57,6 +76,37 @@ pub type MappedRwLockWriteGuard<'m, 't, 'l, T, P, R, A = Global> = lock_api::Map
     P,
 >;
 
+/// The raw lock of a [`RecursiveRwLock`].
+pub type RawRwLockRecursive<'t, 'l, R, A = Global> = RawRwLock<'t, 'l, R, 1, A>;
+
+/// A reader-writer lock whose readers may read again past a writer that waits, and a value.
+pub type RecursiveRwLock<'t, 'l, T, R, A = Global> = lock_api::RwLock<
+    RawRwLockRecursive<'t, 'l, R, A>,
+    T,
+>;
+
+/// The guard of a reader of a [`RecursiveRwLock`].
+pub type RecursiveRwLockReadGuard<'m, 't, 'l, T, R, A = Global> = lock_api::RwLockReadGuard<
+    'm,
+    RawRwLockRecursive<'t, 'l, R, A>,
+    T,
+>;
+
+/// The guard of a writer of a [`RecursiveRwLock`].
+pub type RecursiveRwLockWriteGuard<'m, 't, 'l, T, R, A = Global> = lock_api::RwLockWriteGuard<
+    'm,
+    RawRwLockRecursive<'t, 'l, R, A>,
+    T,
+>;
+
+/// A [`RecursiveRwLockReadGuard`] that a projection of the type `P` narrows to a part of the value.
+pub type MappedRecursiveRwLockReadGuard<'m, 't, 'l, T, P, R, A = Global> =
+    lock_api::MappedRwLockReadGuard<'m, RawRwLockRecursive<'t, 'l, R, A>, T, P>;
+
+/// A [`RecursiveRwLockWriteGuard`] that a projection of the type `P` narrows to a part of the value.
+pub type MappedRecursiveRwLockWriteGuard<'m, 't, 'l, T, P, R, A = Global> =
+    lock_api::MappedRwLockWriteGuard<'m, RawRwLockRecursive<'t, 'l, R, A>, T, P>;
+
 /// A mutex that its owner may take again, and a value that its guards read.
 pub type ReentrantMutex<'t, 'l, T, R, A = Global> = lock_api::ReentrantMutex<
     RawMutex<'t, 'l, R, A>,
@@ -75,3 +125,6 @@ pub type ReentrantMutexGuard<'m, 't, 'l, T, R, A = Global> = lock_api::Reentrant
 /// A [`ReentrantMutexGuard`] that a projection of the type `P` narrows to a part of the value.
 pub type MappedReentrantMutexGuard<'m, 't, 'l, T, P, R, A = Global> =
     lock_api::MappedReentrantMutexGuard<'m, RawMutex<'t, 'l, R, A>, RawThreadId<A>, T, P>;
+
+/// A condition variable, for guards of a [`Mutex`].
+pub type Condvar<'t, 'l, R, A = Global> = lock_api::Condvar<RawCondvar<'t, 'l, R, A>>;

@@ -1,13 +1,16 @@
 //! Each check of a mutex, a reader-writer lock and a reentrant mutex.
 
 use lock_api_checks::{mutex_checks, reentrant_checks, rwlock_arc_checks, rwlock_checks};
-use lock_api_raw::{GetThreadId, MakeLock, RawMutexFair, RawRwLockDowngrade, RawRwLockFair};
+use lock_api_raw::{
+    GetThreadId, MakeLock, RawMutexFair, RawMutexTimed, RawRwLockDowngrade, RawRwLockFair,
+};
 use parking_lot_core::ParkingLot;
-use parking_lot_locks::{LockTable, RawMutex, RawRwLock, RawThreadId};
+use parking_lot_locks::{LockTable, RawFairMutex, RawMutex, RawRwLock, RawThreadId};
 use std::alloc::Global;
 use std::sync::Wait;
 use std::test::Fail;
 use std::thread::Threads;
+use std::time::{Clock, Duration, Instant};
 
 /// Whether each check of the mutex finds what it must.
 fn of_mutex<R: RawMutexFair + MakeLock<S> + Drop + Sync, T: Threads + Sync, S>(
@@ -39,6 +42,43 @@ fn the_checks_of_the_mutex_pass(rt: HostRuntime) -> Result<(), Fail> {
         &mut other,
     );
     assert!(rt; passed);
+    Ok(())
+}
+
+#[test]
+fn the_checks_of_the_fair_mutex_pass(rt: HostRuntime) -> Result<(), Fail> {
+    let lot = ParkingLot::new(rt, rt.alloc(), 2, 7)?;
+    let mut one = lot.thread_data()?;
+    let mut other = lot.thread_data()?;
+    let table = LockTable::new(rt.alloc(), &lot, 8)?;
+    let passed = of_mutex::<RawFairMutex<HostRuntime>, HostRuntime, _>(
+        &rt,
+        rt.alloc(),
+        &table,
+        &mut one,
+        &mut other,
+    );
+    assert!(rt; passed);
+    Ok(())
+}
+
+/// Whether timed calls of the mutex give up beside a guard, and have a free mutex.
+fn of_timed_mutex<R, C: Clock, S>(clock: &C, source: S, party: &mut R::Party) -> bool
+where
+    R: RawMutexTimed<Duration = Duration, Instant = Instant> + MakeLock<S> + Drop,
+    R::Runtime: Wait,
+{
+    mutex_checks::gives_up_in_time::<R, C, S>(source, clock, party).is_ok()
+}
+
+#[test]
+fn the_checks_of_timed_mutexes_pass(rt: HostRuntime) -> Result<(), Fail> {
+    let lot = ParkingLot::new(rt, rt.alloc(), 2, 7)?;
+    let mut me = lot.thread_data()?;
+    let table = LockTable::new(rt.alloc(), &lot, 2)?;
+    let plain = of_timed_mutex::<RawMutex<HostRuntime>, HostRuntime, _>(&rt, &table, &mut me);
+    let fair = of_timed_mutex::<RawFairMutex<HostRuntime>, HostRuntime, _>(&rt, &table, &mut me);
+    assert!(rt; plain & fair);
     Ok(())
 }
 
@@ -108,5 +148,38 @@ fn the_checks_of_the_reentrant_mutex_pass(rt: HostRuntime) -> Result<(), Fail> {
         &mut other,
     );
     assert!(rt; is_first & is_second & passed);
+    Ok(())
+}
+
+/// Whether timed calls of the reentrant mutex give up beside another party's hold, and nest for the owner.
+fn of_timed_reentrant<R, G: GetThreadId<Party = R::Party> + Drop, C: Clock, S>(
+    alloc: Global,
+    clock: &C,
+    source: S,
+    one: &mut R::Party,
+    other: &mut R::Party,
+) -> bool
+where
+    R: RawMutexTimed<Duration = Duration, Instant = Instant> + MakeLock<S> + Drop,
+    R::Runtime: Wait,
+{
+    reentrant_checks::gives_up_in_time::<R, G, C, Global, S>(alloc, source, clock, one, other)
+        .is_ok()
+}
+
+#[test]
+fn the_checks_of_the_timed_reentrant_mutex_pass(rt: HostRuntime) -> Result<(), Fail> {
+    let lot = ParkingLot::new(rt, rt.alloc(), 2, 7)?;
+    let mut one = lot.thread_data()?;
+    let mut other = lot.thread_data()?;
+    let table = LockTable::new(rt.alloc(), &lot, 1)?;
+    let passed = of_timed_reentrant::<RawMutex<HostRuntime>, RawThreadId, HostRuntime, _>(
+        rt.alloc(),
+        &rt,
+        &table,
+        &mut one,
+        &mut other,
+    );
+    assert!(rt; passed);
     Ok(())
 }

@@ -15,21 +15,26 @@
 mod at_once;
 mod call;
 mod clock;
+mod deadline;
 mod decision;
 pub mod laws;
 mod looking;
 mod place;
+mod raw_fair_mutex;
 mod raw_mutex;
 mod raw_rwlock;
 mod run;
 mod section;
 mod table;
 mod thread_id;
+mod timed_run;
 mod told;
 
+pub use deadline::to_deadline;
 pub use parking_lot_protocol::{
     Act, ActResult, CoreAnswer, MutexCore, RwCore, SectionAct, WordChange, wake_sum,
 };
+pub use raw_fair_mutex::RawFairMutex;
 pub use raw_mutex::RawMutex;
 pub use raw_rwlock::RawRwLock;
 pub use table::{LockTable, Row};

@@ -1,19 +1,22 @@
 //! The raw mutex.
-ghost use Rattle.std.specs.Prelude.{◌≡◌, ◌+◌, ◌*◌, ◌%◌, ◌^◌, IfOk, IfSome, true, false};
-ghost use Rattle.parking_lot_locks.specs.Ends.{MutexEnded};
+ghost use Rattle.std.specs.Prelude.{◌≡◌, ◌+◌, ◌*◌, ◌%◌, ◌^◌, IfOk, IfSome, MatchOption, true, false};
+ghost use Rattle.parking_lot_locks.specs.Ends.{MutexEnded, OwnedInTime, TimedEnded};
 ghost use Rattle.parking_lot_locks.specs.Runs.{Ended};
 ghost use Rattle.parking_lot_protocol.specs.declared.act.CoreAnswer.{CoreAnswer};
 ghost use Rattle.parking_lot_protocol.specs.declared.act.CoreAnswer.TheVariants.{Owned};
 ghost use Rattle.parking_lot_protocol.specs.declared.mutex_phase.MutexPhase.TheVariants.{Locking, Unlocking, Bumping};
+ghost use Rattle.parking_lot_timed.specs.declared.timed_act.TimedAct.TheVariants.{GivesUp};
 
 use crate::call::{Bump, Call, Lock, Unlock, UnlockFairly};
+use crate::deadline::to_deadline;
 use crate::place::Place;
 use crate::table::{LockTable, Row};
-use lock_api_raw::{GuardSend, MakeLock, RawMutex as _, RawMutexFair, TableFull};
+use lock_api_raw::{GuardSend, MakeLock, RawMutex as _, RawMutexFair, RawMutexTimed, TableFull};
 use parking_lot_core::ThreadData;
 use parking_lot_protocol::{ActResult, CoreAnswer, MutexCore};
 use std::alloc::{Allocator, Global};
 use std::sync::Wait;
+use std::time::{Clock, Duration, Instant};
 
 /// An unfair mutex on one row of a lock table.
 ///
@@ -24,6 +27,13 @@ pub struct RawMutex<'t, 'l, R, A: Allocator = Global> {
 }
 
 impl<'t, 'l, R, A: Allocator> RawMutex<'t, 'l, R, A> {
+    /// Its row. For the layer above: a condition variable moves waiters to the row's key, and announces them in its word.
+    pub fn row(&self) -> &Row<'t, 'l, R, A>
+        ensures { result.now ≡ self.now.row }
+    {
+        &self.row
+    }
+
     /// What its calls run on. It has no readers to limit.
     fn place(&self) -> Place<'_, 't, 'l, R, A> {
         Place {
@@ -38,6 +48,14 @@ impl<'t, 'l, R, A: Allocator> RawMutex<'t, 'l, R, A> {
         ensures { result ≡ (self.now.row.table.now.first_key + 2 * self.now.row.number) % 2 ^ 64 }
     {
         GuardSend::new(&(self.row.first_key() as u64))
+    }
+
+    /// Locks a free mutex by one exchange.
+    #[inline(always)]
+    fn locks_at_once(&self) -> bool
+        ensures { result ≡ true → MutexEnded Locking Owned }
+    {
+        self.row.owns_at_once(Lock, 0, 1)
     }
 
     /// Tries again where the first exchange is lost.
@@ -66,6 +84,43 @@ impl<'t, 'l, R: Wait, A: Allocator> RawMutex<'t, 'l, R, A> {
             }
         }
         unreachable!()
+    }
+
+    /// Waits until the mutex is owned, or until the moment by the clock that is handed in: then it is off the list, and `None` is the
+    /// answer.
+    ///
+    /// The moment is looked at where the thread sleeps. So a mutex that can be had at once is had, also where the moment is past.
+    pub fn lock_until<C: Clock>(
+        &self,
+        deadline: Instant,
+        clock: &C,
+        party: &mut ThreadData<A>,
+    ) -> Option<GuardSend>
+        ensures issued { IfSome result (λ token. token ≡ (self.now.row.table.now.first_key + 2 * self.now.row.number) % 2 ^ 64) }
+        ensures call { MatchOption result (TimedEnded GivesUp) (λ _. OwnedInTime) }
+    {
+        if self.locks_at_once() || self.place().ask_in_time(deadline, clock, party) {
+            Some(self.token())
+        } else {
+            None
+        }
+    }
+
+    /// As [`lock_until`](RawMutex::lock_until), with the moment that lies `timeout` ahead. Where no moment can say that, it waits as long as
+    /// it takes.
+    pub fn lock_for<C: Clock>(
+        &self,
+        timeout: Duration,
+        clock: &C,
+        party: &mut ThreadData<A>,
+    ) -> Option<GuardSend>
+        ensures issued { IfSome result (λ token. token ≡ (self.now.row.table.now.first_key + 2 * self.now.row.number) % 2 ^ 64) }
+        ensures call { MatchOption result (TimedEnded GivesUp) (λ _. OwnedInTime) }
+    {
+        match to_deadline(clock, timeout) {
+            Some(deadline) => self.lock_until(deadline, clock, party),
+            None => Some(self.lock(party)),
+        }
     }
 
     /// Asks for the mutex where it isn't had at once.
@@ -128,7 +183,7 @@ impl<'t, 'l, R, A: Allocator> lock_api_raw::RawMutex for RawMutex<'t, 'l, R, A> 
     where
         R: Wait,
     {
-        if self.row.owns_at_once(Lock, 0, 1) {
+        if self.locks_at_once() {
             return self.token();
         }
         self.lock_slowly(party);
@@ -179,5 +234,35 @@ impl<'t, 'l, R, A: Allocator> RawMutexFair for RawMutex<'t, 'l, R, A> {
     {
         self.own(Bump, party);
         guard
+    }
+}
+
+impl<'t, 'l, R, A: Allocator> RawMutexTimed for RawMutex<'t, 'l, R, A> {
+    type Duration = Duration;
+
+    type Instant = Instant;
+
+    fn try_lock_for<C: Clock>(
+        &self,
+        timeout: Duration,
+        clock: &C,
+        party: &mut ThreadData<A>,
+    ) -> Option<GuardSend>
+    where
+        R: Wait,
+    {
+        self.lock_for(timeout, clock, party)
+    }
+
+    fn try_lock_until<C: Clock>(
+        &self,
+        deadline: Instant,
+        clock: &C,
+        party: &mut ThreadData<A>,
+    ) -> Option<GuardSend>
+    where
+        R: Wait,
+    {
+        self.lock_until(deadline, clock, party)
     }
 }

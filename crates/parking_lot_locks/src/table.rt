@@ -122,6 +122,18 @@ fn zeros<A: Allocator>(alloc: A, count: usize) -> Result<Vec<CachePadded<AtomicU
 }
 
 impl<'t, 'l, R, A: Allocator> Row<'t, 'l, R, A> {
+    /// The same row once more. For the layer above: a condition variable keeps the row of the mutex that it shows.
+    pub fn again(&self) -> Row<'t, 'l, R, A>
+        ensures table { result.table.now ≡ self.now.table.now }
+        ensures number { result.number ≡ self.now.number }
+    {
+        Row {
+            table: self.table,
+            number: self.number,
+            word: self.word,
+        }
+    }
+
     /// Its place in the table.
     pub fn number(&self) -> usize
         ensures { result ≡ self.now.number }

@@ -1,50 +1,16 @@
 //! A call under way.
-ghost use Rattle.std.specs.Prelude.{◌≡◌, IfSome};
+ghost use Rattle.std.specs.Prelude.{◌≡◌};
 ghost use Rattle.parking_lot_locks.specs.Runs.{Ended};
-ghost use Rattle.parking_lot_protocol.specs.Acts.{Gives};
-ghost use Rattle.parking_lot_protocol.specs.declared.act.Act.TheVariants.{Section, Done};
+ghost use Rattle.parking_lot_protocol.specs.declared.act.Act.TheVariants.{Done};
 ghost use Rattle.parking_lot_protocol.specs.declared.act.ActResult.TheVariants.{Start};
 
 use crate::call::Call;
 use crate::decision::DecisionCore;
 use parking_lot_core::UnparkToken;
-use parking_lot_protocol::{Act, ActResult, CoreAnswer, SectionAct};
+use parking_lot_protocol::{Act, ActResult, CoreAnswer};
+use parking_lot_timed::giving;
 use std::alloc::AllocError;
 use std::marker::Model;
-
-/// A word at which an act gives this, if there is one.
-fn giving(act: Act, seen: ActResult) -> Option<u64>
-    ensures { IfSome result (λ word. Gives act word seen) }
-{
-    match (act, seen) {
-        (Act::Load, ActResult::Word(word)) => Some(word),
-        (Act::Exchange(from, _), ActResult::Exchanged) => Some(from),
-        (Act::Exchange(from, _), ActResult::Word(word)) if word != from => Some(word),
-        (Act::Add(_), ActResult::Before(word)) => Some(word),
-        (Act::FetchAnd(_), ActResult::Before(word)) => Some(word),
-        (Act::Spin, ActResult::Spun(_)) => Some(0),
-        (Act::Enter(_), ActResult::Entered) => Some(0),
-        (Act::Sleep, ActResult::Woken(_)) => Some(0),
-        (Act::Section(act), seen) => giving_inside(act, seen),
-        _ => None,
-    }
-}
-
-/// The same of an act in a section, where each gives what it gives at any word.
-fn giving_inside(act: SectionAct, seen: ActResult) -> Option<u64>
-    ensures { IfSome result (λ word. Gives (Section act) word seen) }
-{
-    match (act, seen) {
-        (SectionAct::Check, ActResult::Word(word)) => Some(word),
-        (SectionAct::TakeFirst, ActResult::Took { .. }) => Some(0),
-        (SectionAct::TakeNext(_), ActResult::Took { .. }) => Some(0),
-        (SectionAct::Append(_), ActResult::Made) => Some(0),
-        (SectionAct::Store { .. }, ActResult::Stored { .. }) => Some(0),
-        (SectionAct::Leave, ActResult::Made) => Some(0),
-        (SectionAct::Wake, ActResult::Made) => Some(0),
-        _ => None,
-    }
-}
 
 /// A call that has begun: its core, which was told nothing but what the acts that it asked for can give.
 #[derive(Copy)]

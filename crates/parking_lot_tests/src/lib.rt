@@ -5,6 +5,8 @@
 #[cfg(test)]
 mod beside;
 #[cfg(test)]
+mod deadlines;
+#[cfg(test)]
 mod guards;
 #[cfg(test)]
 mod mutex_calls;
@@ -26,6 +28,8 @@ mod rw_words;
 mod script;
 #[cfg(test)]
 mod sections;
+#[cfg(test)]
+mod timed;
 #[cfg(test)]
 mod waiting;
 #[cfg(test)]

@@ -2,8 +2,8 @@
 
 use crate::words::has_come;
 use lock_api_raw::{MakeLock as _, RawMutex as _, RawMutexFair};
-use parking_lot_core::{DEFAULT_UNPARK_TOKEN, ParkingLot, ThreadData, unpark_one};
-use parking_lot_locks::{LockTable, RawMutex};
+use parking_lot_core::{DEFAULT_UNPARK_TOKEN, ParkingLot, unpark_one};
+use parking_lot_locks::{LockTable, RawFairMutex, RawMutex};
 use std::alloc::Global;
 use std::sync::Wait;
 use std::sync::atomic::{AtomicU64, Ordering};
@@ -121,13 +121,16 @@ fn a_try_that_is_refused_keeps_nothing(rt: HostRuntime) -> Result<(), Fail> {
 }
 
 /// Locks once another thread has locked, says that it has, and answers what was said before.
-fn locks_second<R: Wait + Clock>(
+fn locks_second<M: RawMutexFair, R: Clock>(
     rt: &R,
-    table: &LockTable<'_, R>,
-    mutex: &RawMutex<'_, '_, R>,
-    me: &mut ThreadData,
+    table: &LockTable<'_, M::Runtime>,
+    mutex: &M,
+    me: &mut M::Party,
     said: &AtomicU64,
-) -> u64 {
+) -> u64
+where
+    M::Runtime: Wait,
+{
     if !has_come(rt, table, 0, 1) {
         return 9;
     }
@@ -148,14 +151,17 @@ enum Lets {
 
 /// Locks, waits until the second thread is about to sleep, says so and lets it go; then it locks again. Answers whether the
 /// second was about to sleep, and what was said last.
-fn locks_first<R: Wait + Clock>(
+fn locks_first<M: RawMutexFair, R: Clock>(
     rt: &R,
-    table: &LockTable<'_, R>,
-    mutex: &RawMutex<'_, '_, R>,
-    me: &mut ThreadData,
+    table: &LockTable<'_, M::Runtime>,
+    mutex: &M,
+    me: &mut M::Party,
     said: &AtomicU64,
     lets: Lets,
-) -> (bool, u64) {
+) -> (bool, u64)
+where
+    M::Runtime: Wait,
+{
     let token = mutex.lock(me);
     let slept = has_come(rt, table, 0, 3);
     said.store(1, Ordering::SeqCst);
@@ -203,8 +209,35 @@ fn unpark_nobody<R: Wait>(lot: &ParkingLot<R>, times: u32) {
     }
 }
 
-/// Has two threads meet at a mutex, behind so many unparks of nobody. The second is a participant of a lot of that number, and
-/// the mutex stands on lot 7.
+/// Has two threads meet at a mutex.
+fn meet_at<M: RawMutexFair + Sync, R: Threads + Clock + Sync>(
+    rt: &R,
+    table: &LockTable<'_, M::Runtime>,
+    mutex: &M,
+    me: &mut M::Party,
+    other: &mut M::Party,
+    lets: Lets,
+) -> Met
+where
+    M::Party: Send,
+    M::Runtime: Wait + Sync,
+{
+    let said = AtomicU64::new(0);
+    let (before, (slept, last)) = thread::join(
+        rt,
+        || locks_second(rt, table, mutex, other, &said),
+        || locks_first(rt, table, mutex, me, &said, lets),
+    );
+    Met {
+        before,
+        slept,
+        last,
+        word: table.word(0),
+    }
+}
+
+/// Has two threads meet at an unfair mutex, behind so many unparks of nobody. The second is a participant of a lot of that
+/// number, and the mutex stands on lot 7.
 fn meet<R: Wait + Threads + Clock + Sync + Copy + Drop>(
     rt: R,
     alloc: Global,
@@ -223,18 +256,21 @@ fn meet<R: Wait + Threads + Clock + Sync + Copy + Drop>(
     };
     let table = LockTable::new(alloc, &lot, 1)?;
     let mutex = RawMutex::new(&table, 5)?;
-    let said = AtomicU64::new(0);
-    let (before, (slept, last)) = thread::join(
-        &rt,
-        || locks_second(&rt, &table, &mutex, &mut other, &said),
-        || locks_first(&rt, &table, &mutex, &mut me, &said, lets),
-    );
-    Ok(Met {
-        before,
-        slept,
-        last,
-        word: table.word(0),
-    })
+    Ok(meet_at(&rt, &table, &mutex, &mut me, &mut other, lets))
+}
+
+#[test]
+fn a_fair_mutex_is_handed_over_by_each_release(rt: HostRuntime) -> Result<(), Fail> {
+    for lets in [Lets::Unlocks, Lets::HandsOver, Lets::Bumps] {
+        let lot = ParkingLot::new(rt, rt.alloc(), 4, 7)?;
+        let mut me = lot.thread_data()?;
+        let mut other = lot.thread_data()?;
+        let table = LockTable::new(rt.alloc(), &lot, 1)?;
+        let mutex = RawFairMutex::new(&table, 5)?;
+        let met = meet_at(&rt, &table, &mutex, &mut me, &mut other, lets);
+        assert!(rt; met == HANDED_OVER);
+    }
+    Ok(())
 }
 
 #[test]

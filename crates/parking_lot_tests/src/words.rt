@@ -8,12 +8,12 @@ use std::time::{Clock, Duration};
 pub const TURNS: u32 = 10_000;
 
 /// Waits until the word of a row is so large, and answers whether it is.
-pub fn has_come<R: Clock>(rt: &R, table: &LockTable<'_, R>, row: usize, word: u64) -> bool {
+pub fn has_come<C: Clock, R>(clock: &C, table: &LockTable<'_, R>, row: usize, word: u64) -> bool {
     for _turn in 0..TURNS {
         if table.word(row) == Some(word) {
             return true;
         }
-        thread::sleep(rt, Duration::from_millis(1));
+        thread::sleep(clock, Duration::from_millis(1));
     }
     false
 }

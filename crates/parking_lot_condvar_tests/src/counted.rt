@@ -1,0 +1,62 @@
+//! A hundred thousand notifications between four threads, of which none may be lost: else a thread waits for ever.
+
+use lock_api::{Condvar, Mutex};
+use parking_lot_condvar::RawCondvar;
+use parking_lot_core::ParkingLot;
+use parking_lot_locks::{LockTable, RawMutex};
+use std::sync::Wait;
+use std::test::Fail;
+use std::thread;
+
+/// How often each thread hands something over, or takes it.
+const ROUNDS: u32 = 25_000;
+
+/// What the threads share: whether something lies there, and what they wait on.
+#[derive(Drop)]
+struct Shared<'t, 'l, R> {
+    full: Mutex<RawMutex<'t, 'l, R>, bool>,
+    filled: Condvar<RawCondvar<'t, 'l, R>>,
+    emptied: Condvar<RawCondvar<'t, 'l, R>>,
+    table: &'t LockTable<'l, R>,
+}
+
+/// Waits until nothing lies there, or something does, changes that and says so, many times. Answers how often that was.
+fn turns<'t, 'l, R: Wait>(shared: &Shared<'t, 'l, R>, gives: bool) -> u64 {
+    let Ok(mut me) = shared.table.lot().thread_data() else {
+        return 0;
+    };
+    let (awaited, told) = if gives {
+        (&shared.emptied, &shared.filled)
+    } else {
+        (&shared.filled, &shared.emptied)
+    };
+    let mut done = 0u64;
+    for _round in 0..ROUNDS {
+        let mut guard = shared.full.lock(&mut me);
+        let waited = awaited.wait_while(&mut guard, &mut me, |full| *full == gives);
+        if waited.is_ok() {
+            *guard = gives;
+            done = done.wrapping_add(1);
+        }
+        drop(guard);
+        told.notify_one();
+    }
+    done
+}
+
+#[test]
+fn no_notification_is_lost(rt: HostRuntime) -> Result<(), Fail> {
+    let lot = ParkingLot::new(rt, rt.alloc(), 4, 7)?;
+    let table = LockTable::new(rt.alloc(), &lot, 3)?;
+    let shared = Shared {
+        full: Mutex::new(&table, false)?,
+        filled: Condvar::new(&table)?,
+        emptied: Condvar::new(&table)?,
+        table: &table,
+    };
+    let two = || thread::join(&rt, || turns(&shared, true), || turns(&shared, false));
+    let done = thread::join(&rt, two, two) == ((25_000, 25_000), (25_000, 25_000));
+    let are_free = (table.word(0) == Some(0)) & (table.word(1) == Some(0));
+    assert!(rt; done & are_free & (table.word(2) == Some(0)));
+    Ok(())
+}

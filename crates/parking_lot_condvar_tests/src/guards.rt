@@ -1,0 +1,104 @@
+//! The generic condition variable and the fair mutex, with their guards named.
+ghost use Rattle.std.specs.Prelude.{◌≡◌};
+ghost use Rattle.std.specs.Sync.Mutex.{mutex_guard_value};
+
+use lock_api::{Condvar, Mutex, MutexGuard, WaitFault};
+use parking_lot_condvar::RawCondvar;
+use parking_lot_core::{ParkingLot, ThreadData};
+use parking_lot_locks::{LockTable, RawFairMutex, RawMutex};
+use std::sync::Wait;
+use std::test::Fail;
+use std::time::{Clock, Duration, Instant};
+
+/// What a guard of a fair mutex lends.
+fn lent_by<R: Wait>(guard: &MutexGuard<'_, RawFairMutex<'_, '_, R>, u64>) -> u64
+    ensures { result ≡ mutex_guard_value guard.now.inner }
+{
+    **guard
+}
+
+/// Writes through a guard of a fair mutex, and reads what it lends then.
+fn write_and_read<R: Wait>(
+    mutex: &Mutex<RawFairMutex<'_, '_, R>, u64>,
+    me: &mut ThreadData,
+    number: u64,
+) -> u64
+    ensures { result ≡ number }
+{
+    let mut guard = mutex.lock(me);
+    *guard = number;
+    lent_by(&guard)
+}
+
+#[test]
+fn a_guard_of_a_fair_mutex_lends_what_was_written(rt: HostRuntime) -> Result<(), Fail> {
+    let lot = ParkingLot::new(rt, rt.alloc(), 1, 7)?;
+    let mut me = lot.thread_data()?;
+    let table = LockTable::new(rt.alloc(), &lot, 1)?;
+    let mutex: Mutex<RawFairMutex<HostRuntime>, u64> = Mutex::new(&table, 0)?;
+    assert!(rt; (write_and_read(&mutex, &mut me, 6) == 6) & !mutex.is_locked());
+    Ok(())
+}
+
+/// Whether a wait with a guard is refused so, and the guard still writes.
+fn is_refused<'t, 'l, R: Wait>(
+    condvar: &Condvar<RawCondvar<'t, 'l, R>>,
+    mutex: &Mutex<RawMutex<'t, 'l, R>, u64>,
+    me: &mut ThreadData,
+    fault: WaitFault,
+) -> bool {
+    let mut guard = mutex.lock(me);
+    let answer = condvar.wait(&mut guard, me);
+    *guard = 7;
+    (answer == Err(fault)) & mutex.is_locked() & (*guard == 7)
+}
+
+#[test]
+fn a_refused_wait_keeps_its_guard(rt: HostRuntime) -> Result<(), Fail> {
+    let lot = ParkingLot::new(rt, rt.alloc(), 1, 7)?;
+    let other_lot = ParkingLot::new(rt, rt.alloc(), 1, 8)?;
+    let mut other = other_lot.thread_data()?;
+    let table = LockTable::new(rt.alloc(), &lot, 1)?;
+    let other_table = LockTable::new(rt.alloc(), &other_lot, 1)?;
+    let condvar: Condvar<RawCondvar<HostRuntime>> = Condvar::new(&table)?;
+    let strange = Mutex::new(&other_table, 0)?;
+    assert!(rt; is_refused(&condvar, &strange, &mut other, WaitFault::WrongLot));
+    assert!(rt; !strange.is_locked());
+    Ok(())
+}
+
+/// Whether timed waits of each form run out, and answer that they did.
+fn run_out<'t, 'l, R: Wait, C: Clock>(
+    clock: &C,
+    condvar: &Condvar<RawCondvar<'t, 'l, R>>,
+    mutex: &Mutex<RawMutex<'t, 'l, R>, u64>,
+    me: &mut ThreadData,
+    past: Instant,
+) -> bool {
+    let short = Duration::from_millis(1);
+    let mut guard = mutex.lock(me);
+    let until = condvar.wait_until(&mut guard, past, clock, me);
+    let timed = condvar.wait_for(&mut guard, short, clock, me);
+    let whiles = condvar.wait_while_for(&mut guard, short, clock, me, |_| true);
+    let is_late = match (until, timed, whiles) {
+        (Ok(one), Ok(two), Ok(three)) => one.timed_out() & two.timed_out() & three.timed_out(),
+        _ => false,
+    };
+    *guard = 3;
+    is_late & mutex.is_locked()
+}
+
+#[test]
+fn timed_waits_run_out(rt: HostRuntime) -> Result<(), Fail> {
+    let lot = ParkingLot::new(rt, rt.alloc(), 1, 7)?;
+    let mut me = lot.thread_data()?;
+    let table = LockTable::new(rt.alloc(), &lot, 2)?;
+    let condvar: Condvar<RawCondvar<HostRuntime>> = Condvar::new(&table)?;
+    let mutex = Mutex::new(&table, 0)?;
+    let past = Instant::now(&rt)?;
+    let is_late = run_out(&rt, &condvar, &mutex, &mut me, past);
+    let text = format!(in rt.alloc(); "{condvar:?}")?;
+    assert!(rt; is_late & !mutex.is_locked() & (mutex.into_inner() == 3));
+    assert!(rt; text.as_str() == "Condvar { .. }");
+    Ok(())
+}

@@ -1,0 +1,36 @@
+//! Looks at the words of a table.
+
+use parking_lot_locks::LockTable;
+use std::sync::atomic::{AtomicU64, Ordering};
+use std::thread;
+use std::time::{Clock, Duration};
+
+/// How many turns of one millisecond a word is awaited for.
+pub const TURNS: u32 = 10_000;
+
+/// Waits until the word of a row is so large, and answers whether it is.
+pub fn has_come<C: Clock, R>(clock: &C, table: &LockTable<'_, R>, row: usize, word: u64) -> bool {
+    for _turn in 0..TURNS {
+        if table.word(row) == Some(word) {
+            return true;
+        }
+        thread::sleep(clock, Duration::from_millis(1));
+    }
+    false
+}
+
+/// Whether the first words of a table are these.
+pub fn are_words<R>(table: &LockTable<'_, R>, words: [u64; 2]) -> bool {
+    (table.word(0) == Some(words[0])) & (table.word(1) == Some(words[1]))
+}
+
+/// Waits until so many have been counted.
+pub fn are_counted<C: Clock>(clock: &C, counted: &AtomicU64, count: u64) -> bool {
+    for _turn in 0..TURNS {
+        if counted.load(Ordering::SeqCst) == count {
+            return true;
+        }
+        thread::sleep(clock, Duration::from_millis(1));
+    }
+    false
+}

@@ -1,0 +1,191 @@
+//! Calls of mutexes that give up.
+ghost use Rattle.std.specs.Prelude.{◌≡◌, IfSome};
+
+use crate::waiting::has_begun;
+use crate::words::has_come;
+use lock_api_raw::{MakeLock as _, RawMutex as _, RawMutexTimed};
+use parking_lot_core::{ParkingLot, ThreadData};
+use parking_lot_locks::{LockTable, RawFairMutex, RawMutex};
+use std::sync::Wait;
+use std::sync::atomic::{AtomicU64, Ordering};
+use std::test::Fail;
+use std::thread;
+use std::thread::Threads;
+use std::time::{Clock, Duration, Instant};
+
+/// How often each of four threads asks.
+const ROUNDS: u32 = 2_000;
+
+/// Whether a call that gives up at the moment, and one that gives up after a millisecond, have the mutex.
+fn have_it<M: RawMutexTimed<Duration = Duration, Instant = Instant>, C: Clock>(
+    clock: &C,
+    mutex: &M,
+    moment: Instant,
+    party: &mut M::Party,
+) -> [bool; 2]
+where
+    M::Runtime: Wait,
+{
+    [
+        is_had(mutex, mutex.try_lock_until(moment, clock, party)),
+        is_had(
+            mutex,
+            mutex.try_lock_for(Duration::from_millis(1), clock, party),
+        ),
+    ]
+}
+
+/// Whether there is a token, which is spent.
+fn is_had<M: RawMutexTimed>(mutex: &M, token: Option<M::Guard>) -> bool
+where
+    M::Runtime: Wait,
+    requires { IfSome token (λ token. M.RawMutex.issued_by token ≡ M.RawMutex.number mutex.now) }
+{
+    let Some(token) = token else {
+        return false;
+    };
+    mutex.unlock(token);
+    true
+}
+
+/// Whether timed calls give up beside a holder, which leaves the word as it was, and have a free mutex. A length of time that no moment
+/// can say is none.
+fn gives_up<M: RawMutexTimed<Duration = Duration, Instant = Instant>, C: Clock>(
+    clock: &C,
+    table: &LockTable<'_, M::Runtime>,
+    mutex: &M,
+    one: &mut M::Party,
+    other: &mut M::Party,
+) -> Result<bool, Fail>
+where
+    M::Runtime: Wait,
+{
+    let past = Instant::now(clock)?;
+    let token = mutex.lock(one);
+    let beside = have_it(clock, mutex, past, other);
+    let is_left = table.word(0) == Some(1);
+    mutex.unlock(token);
+    let free = have_it(clock, mutex, past, other);
+    let always = is_had(mutex, mutex.try_lock_for(Duration::MAX, clock, other));
+    let is_answered = (beside == [false; 2]) & (free == [true; 2]) & always;
+    Ok(is_answered & is_left & (table.word(0) == Some(0)))
+}
+
+#[test]
+fn a_call_that_gives_up_leaves_the_word(rt: HostRuntime) -> Result<(), Fail> {
+    let lot = ParkingLot::new(rt, rt.alloc(), 4, 7)?;
+    let mut one = lot.thread_data()?;
+    let mut other = lot.thread_data()?;
+    let table = LockTable::new(rt.alloc(), &lot, 1)?;
+    let mutex = RawMutex::new(&table, 5)?;
+    assert!(rt; gives_up(&rt, &table, &mutex, &mut one, &mut other)?);
+    let fair_table = LockTable::new(rt.alloc(), &lot, 1)?;
+    let fair = RawFairMutex::new(&fair_table, 5)?;
+    assert!(rt; gives_up(&rt, &fair_table, &fair, &mut one, &mut other)?);
+    Ok(())
+}
+
+/// Sleeps at a mutex until it is had, and says so.
+fn sleeps<R: Wait>(mutex: &RawMutex<'_, '_, R>, me: &mut ThreadData, said: &AtomicU64) {
+    let token = mutex.lock(me);
+    said.store(1, Ordering::SeqCst);
+    mutex.unlock(token);
+}
+
+/// Beside one that sleeps gives up, and then lets the mutex go. Answers whether the other slept, whether the parked bit stayed, and
+/// whether the other had the mutex then.
+fn gives_up_beside_a_sleeper<R: Wait + Clock>(
+    rt: &R,
+    table: &LockTable<'_, R>,
+    mutex: &RawMutex<'_, '_, R>,
+    parties: (&mut ThreadData, &mut ThreadData),
+    said: &AtomicU64,
+) -> [bool; 4] {
+    let token = mutex.lock(parties.0);
+    said.store(2, Ordering::SeqCst);
+    let slept = has_come(rt, table, 0, 3);
+    thread::sleep(rt, Duration::from_millis(20));
+    let tried = mutex.try_lock_for(Duration::from_millis(1), rt, parties.1);
+    let gave_up = !is_had(mutex, tried);
+    let stays = table.word(0) == Some(3);
+    said.store(0, Ordering::SeqCst);
+    mutex.unlock(token);
+    [slept, gave_up, stays, has_begun(rt, said)]
+}
+
+#[test]
+fn the_bit_stays_where_others_sleep(rt: HostRuntime) -> Result<(), Fail> {
+    let lot = ParkingLot::new(rt, rt.alloc(), 4, 7)?;
+    let mut one = lot.thread_data()?;
+    let mut two = lot.thread_data()?;
+    let mut other = lot.thread_data()?;
+    let table = LockTable::new(rt.alloc(), &lot, 1)?;
+    let mutex = RawMutex::new(&table, 5)?;
+    let said = AtomicU64::new(0);
+    let (seen, _) = thread::join(
+        &rt,
+        || gives_up_beside_a_sleeper(&rt, &table, &mutex, (&mut one, &mut two), &said),
+        || {
+            if has_begun(&rt, &said) {
+                sleeps(&mutex, &mut other, &said);
+            }
+        },
+    );
+    assert!(rt; (seen == [true; 4]) & (table.word(0) == Some(0)));
+    Ok(())
+}
+
+/// Adds 1 in two steps under the mutex, as often as a short wait has it, and answers how often that was.
+fn adds_in_time<R: Wait + Clock>(
+    rt: &R,
+    table: &LockTable<'_, R>,
+    mutex: &RawMutex<'_, '_, R>,
+    count: &AtomicU64,
+) -> u64 {
+    let Ok(mut me) = table.lot().thread_data() else {
+        return 0;
+    };
+    let mut done = 0u64;
+    for _round in 0..ROUNDS {
+        if let Some(token) = mutex.try_lock_for(Duration::from_micros(20), rt, &mut me) {
+            let seen = count.load(Ordering::SeqCst);
+            thread::yield_now();
+            count.store(seen.wrapping_add(1), Ordering::SeqCst);
+            done = done.wrapping_add(1);
+            mutex.unlock(token);
+        }
+    }
+    done
+}
+
+/// The same of two threads together.
+fn two_add<R: Wait + Clock + Threads + Sync>(
+    rt: &R,
+    table: &LockTable<'_, R>,
+    mutex: &RawMutex<'_, '_, R>,
+    count: &AtomicU64,
+) -> u64 {
+    let (one, other) = thread::join(
+        rt,
+        || adds_in_time(rt, table, mutex, count),
+        || adds_in_time(rt, table, mutex, count),
+    );
+    one.wrapping_add(other)
+}
+
+#[test]
+fn four_threads_that_give_up_exclude_each_other(rt: HostRuntime) -> Result<(), Fail> {
+    let lot = ParkingLot::new(rt, rt.alloc(), 4, 7)?;
+    let table = LockTable::new(rt.alloc(), &lot, 1)?;
+    let mutex = RawMutex::new(&table, 5)?;
+    let count = AtomicU64::new(0);
+    let (two, others) = thread::join(
+        &rt,
+        || two_add(&rt, &table, &mutex, &count),
+        || two_add(&rt, &table, &mutex, &count),
+    );
+    let done = two.wrapping_add(others);
+    let is_counted = count.load(Ordering::SeqCst) == done;
+    assert!(rt; is_counted & (done > 0) & (table.word(0) == Some(0)));
+    Ok(())
+}

@@ -1,0 +1,2 @@
+mod NotifyFollowing
+mod WaitFollowing

@@ -1,0 +1,4 @@
+pub mod NotifyRules
+pub mod NotifyTable
+pub mod WaitRules
+pub mod WaitTable
