@@ -7,7 +7,7 @@ use Rattle.parking_lot_rules.specs.Lists.{occurs, at_index}
 use Rattle.parking_lot_rules.proofs.Indexed.{get-set_same, get-set_other}
 use Rattle.parking_lot_rules.proofs.Finding.{none_or}
 use Rattle.parking_lot_rules.proofs.Waiting.{listed, occurs-cons, counted-same}
-use Rattle.parking_lot_once_rules.specs.Once.{State, New, Poisoned, InProgress, Done, Wish, Role, Idle, Joined, Sleeps, Taken, Runs, Ends, Scans, Wakes, waits, may_run, in_progress, Class, Running, Inside, Listed, Unwilling, Patient, weight, total, taken_by, wakes_at, Once, IsSound, Begin, Start, Complete, Refuse, Flag, Enter, Check, Retreat, Rest, Return, Finish, Look, Store, Depart, Leave, Step, Alone, Join, Take, Wake, Allowed, after, unused}
+use Rattle.parking_lot_once_rules.specs.Once.{OnceState, New, Poisoned, InProgress, Done, Wish, Role, Idle, Joined, Sleeps, Taken, Runs, Ends, Scans, Wakes, waits, may_run, in_progress, Class, Running, Inside, Listed, Unwilling, Patient, weight, total, taken_by, wakes_at, Once, IsSound, Begin, Start, Complete, Refuse, Flag, Enter, Check, Retreat, Rest, Return, Finish, Look, Store, Depart, Leave, Step, Alone, Join, Take, Wake, Allowed, after, unused}
 use Rattle.parking_lot_once_rules.specs.OnceLaws.{WordTells, NothingIsLeft, sleeps_for, IsWaker, HasWaker, SomebodyRuns, SleepersAreKnown, NobodyIsForgotten, SleepersAreWoken, WakersCanGoOn, BeginsToRun, StateGoes, ThroughoutOnce}
 use Rattle.parking_lot_once_rules.proofs.Soundness.{total-at, total-none, idle_weighs, runs_sound, rest_sound}
 
@@ -19,7 +19,7 @@ somebody c (r ∷ rs) some = ⊎_elim
     (none_or (weight c r))
 
 -- a closure runs where the count of those that run one says so
-pub is_running : (s : State) → 0 < in_progress s → s ≡ InProgress
+pub is_running : (s : OnceState) → 0 < in_progress s → s ≡ InProgress
 is_running InProgress some = refl
 is_running New some = absurd (omega arith)
 is_running Poisoned some = absurd (omega arith)
@@ -29,7 +29,7 @@ pub two_at : (c : Class) (rs : List Role) (t u : ℕ) (r s : Role) → t ≢ u �
 two_at c rs t u r s ne at there = omega (arith, total-at rs t r at c, total-at (slice_set rs t Idle) u s (get-set_other rs t u Idle ne ∙ there) c)
 
 -- one that waits where nobody has begun
-waits_for_a_run : (runs force : Bool) (s : State) → waits (record { runs = runs; force = force }) s ≡ true → (s ≡ InProgress) ⊎ (runs ≡ false)
+waits_for_a_run : (runs force : Bool) (s : OnceState) → waits (record { runs = runs; force = force }) s ≡ true → (s ≡ InProgress) ⊎ (runs ≡ false)
 waits_for_a_run true force New waiting = absurd cc
 waits_for_a_run true true Poisoned waiting = absurd cc
 waits_for_a_run true false Poisoned waiting = absurd cc
@@ -44,7 +44,7 @@ module _ (m : Once) (sound : IsSound m) where
   pub word_tells : WordTells m
   word_tells = record { running = sound.fits.running; alone = λ t u ne some. two t u ne (slice_get m.roles t) refl (slice_get m.roles u) refl some }
     where
-      le : (s : State) → in_progress s ≤ 1
+      le : (s : OnceState) → in_progress s ≤ 1
       le InProgress = omega arith
       le _ = omega arith
 
@@ -154,7 +154,7 @@ module _ (m : Once) (sound : IsSound m) where
   pub runs_here : (t : ℕ) (r : Role) → slice_get m.roles t ≡ Some r → weight Running r ≡ 1 → m.word.state ≡ InProgress
   runs_here t r at one = is_running m.word.state (omega (arith, sound.fits.running, weighs_le Running t r at, one))
 
-  begins_to_run : (t : ℕ) (force : Bool) (before : State) → Allowed t (Alone (Start force before)) m → BeginsToRun t m (after t (Alone (Start force before)) m)
+  begins_to_run : (t : ℕ) (force : Bool) (before : OnceState) → Allowed t (Alone (Start force before)) m → BeginsToRun t m (after t (Alone (Start force before)) m)
   begins_to_run t force before may = (
     force,
     subst (λ s. IsTrue (may_run force s)) (sym may.1.0) may.1.1,

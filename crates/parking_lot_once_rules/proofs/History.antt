@@ -4,7 +4,7 @@ use Rattle.std.proofs.lemmas.List.Sums.{sum_by-cons}
 use Rattle.std.proofs.lemmas.Option.{same_Some}
 use Rattle.parking_lot_rules.specs.Classes.{bit}
 use Rattle.parking_lot_rules.proofs.Indexed.{get-set_other}
-use Rattle.parking_lot_once_rules.specs.Once.{State, New, Poisoned, InProgress, Done, Role, Seeks, Joined, Sleeps, Taken, Ends, Scans, Wakes, may_run, ended, in_progress, Class, Succeeding, Busy, weight, total, Once, IsSound, Plain, Begin, Start, Complete, Refuse, Flag, Enter, Check, Retreat, Rest, Return, Finish, Look, Store, Depart, Leave, from, to, May, written, Step, Alone, Join, Take, Wake, Allowed, after, IsRun, unused}
+use Rattle.parking_lot_once_rules.specs.Once.{OnceState, New, Poisoned, InProgress, Done, Role, Seeks, Joined, Sleeps, Taken, Ends, Scans, Wakes, may_run, ended, in_progress, Class, Succeeding, Busy, weight, total, Once, IsSound, Plain, Begin, Start, Complete, Refuse, Flag, Enter, Check, Retreat, Rest, Return, Finish, Look, Store, Depart, Leave, from, to, May, written, Step, Alone, Join, Take, Wake, Allowed, after, IsRun, unused}
 use Rattle.parking_lot_once_rules.specs.OnceLaws.{begins, returns, how_often, is_done, ClosuresAreCounted, DoneStays, AlwaysOfSteps}
 use Rattle.parking_lot_once_rules.proofs.Soundness.{counts_all, total-at, total-set, total-none, idle_weighs, step_sound, rest_sound, runs_sound, all_idle}
 use Rattle.parking_lot_once_rules.proofs.Following.{runs_here}
@@ -14,7 +14,7 @@ pub record StepCounts (step : Step) (old new : Once) : Type 0 where
   pub counted : begins step + total Busy old.roles ≡ returns true step + returns false step + total Busy new.roles
   pub last : returns true step + (is_done old.word.state + total Succeeding old.roles) ≡ is_done new.word.state + total Succeeding new.roles
 
-not_done : (force : Bool) (s : State) → IsTrue (may_run force s) → is_done s ≡ 0
+not_done : (force : Bool) (s : OnceState) → IsTrue (may_run force s) → is_done s ≡ 0
 not_done force New may = refl
 not_done force Poisoned may = refl
 not_done force InProgress may = refl
@@ -130,7 +130,7 @@ done_stays m sound done (e ∷ es) n run =
     let one = stays_done m sound e.0 e.1 run.0 done in
     let more = done_stays (after e.0 e.1 m) (step_sound e.0 e.1 m sound run.0) one.0 es n run.1 in (more.0, omega (arith, one.1, more.1, one_more begins e es))
 
-done_or : (s : State) → is_done s + in_progress s ≤ 1
+done_or : (s : OnceState) → is_done s + in_progress s ≤ 1
 done_or New = omega arith
 done_or Poisoned = omega arith
 done_or InProgress = omega arith

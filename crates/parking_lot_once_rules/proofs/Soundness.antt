@@ -8,7 +8,7 @@ use Rattle.parking_lot_rules.specs.Lists.{at_index, IsListOf}
 use Rattle.parking_lot_rules.proofs.Indexed.{get-set_same, get-set_other, sum_by-set_at}
 use Rattle.parking_lot_rules.proofs.Fitting.{zero_or}
 use Rattle.parking_lot_rules.proofs.Waiting.{lists-same, lists-push, lists-drop, counted-same, counted-other}
-use Rattle.parking_lot_once_rules.specs.Once.{State, New, Poisoned, InProgress, Done, Wish, Role, Idle, Seeks, Checked, Joined, Sleeps, Taken, Ends, Scans, Wakes, Word, waits, may_run, ended, in_progress, Class, Running, Listed, weight, total, Fits, Counts, taken_by, wakes, wakes_at, Once, Sound, IsSound, Plain, Begin, Start, Complete, Refuse, Flag, Enter, Check, Retreat, Rest, Return, Finish, Look, Store, Depart, Leave, from, to, May, written, Step, Alone, Join, Take, Wake, Allowed, after, IsRun, unused, AlwaysOfOnce}
+use Rattle.parking_lot_once_rules.specs.Once.{OnceState, New, Poisoned, InProgress, Done, Wish, Role, Idle, Seeks, Checked, Joined, Sleeps, Taken, Ends, Scans, Wakes, Word, waits, may_run, ended, in_progress, Class, Running, Listed, weight, total, Fits, Counts, taken_by, wakes, wakes_at, Once, Sound, IsSound, Plain, Begin, Start, Complete, Refuse, Flag, Enter, Check, Retreat, Rest, Return, Finish, Look, Store, Depart, Leave, from, to, May, written, Step, Alone, Join, Take, Wake, Allowed, after, IsRun, unused, AlwaysOfOnce}
 
 bit_le : (b : Bool) → bit b ≤ 1
 bit_le true = omega arith
@@ -51,13 +51,13 @@ pub same_counts : (P : (Class → ℕ) → Type 0) (m n : Class → ℕ) → ((c
 same_counts P m n e h = let p : m ≡ n = λ i c. e c i in subst P p h
 
 -- at a state at which a closure may be begun none runs
-pub none_runs : (force : Bool) (s : State) → IsTrue (may_run force s) → in_progress s ≡ 0
+pub none_runs : (force : Bool) (s : OnceState) → IsTrue (may_run force s) → in_progress s ≡ 0
 none_runs force New may = refl
 none_runs force Poisoned may = refl
 none_runs force InProgress may = absurd cc
 none_runs force Done may = absurd cc
 
-progress_le : (s : State) → in_progress s ≤ 1
+progress_le : (s : OnceState) → in_progress s ≤ 1
 progress_le InProgress = omega arith
 progress_le _ = omega arith
 
@@ -65,7 +65,7 @@ pub none_behind : (well : Bool) → in_progress (ended well) ≡ 0
 none_behind true = refl
 none_behind false = refl
 
-plain_fits : (k : Plain) (s : State) (p : ℕ) (rest : Class → ℕ) → Counts rest → let w : Word = record { state = s; parked = p } in
+plain_fits : (k : Plain) (s : OnceState) (p : ℕ) (rest : Class → ℕ) → Counts rest → let w : Word = record { state = s; parked = p } in
     Fits w (λ x. rest x + weight x (from k)) → May k w (λ x. rest x + weight x (from k)) → Fits (written k w) (λ x. rest x + weight x (to k))
 unfolding weight
 plain_fits (Begin wish) s p rest counts fits may = omega arith

@@ -3,18 +3,9 @@ use Rattle.std.specs.Prelude.{◌≡◌, ℕ, ◌+◌, ◌*◌, ◌<◌, ◌≤�
 use Rattle.std.specs.List.{sum_by, remove}
 use Rattle.parking_lot_rules.specs.Classes.{bit}
 use Rattle.parking_lot_rules.specs.Lists.{IsListOf}
-
--- how far it is: nobody ran a closure, the last one failed, one runs, or one succeeded
-pub data State : Type 0 where
-  New : State
-  Poisoned : State
-  InProgress : State
-  Done : State
-
--- What a call wants: to run its closure, or only to wait until it is done; and whether it goes on where the last closure failed.
-pub record Wish : Type 0 where
-  pub runs : Bool
-  pub force : Bool
+pub use Rattle.parking_lot_once_rules.specs.declared.once_state.OnceState.{OnceState}
+pub use Rattle.parking_lot_once_rules.specs.declared.once_state.OnceState.TheVariants.{New, Poisoned, InProgress, Done}
+pub use Rattle.parking_lot_once_rules.specs.declared.wish.Wish.{Wish}
 
 -- what a thread is doing there
 pub data Role : Type 0 where
@@ -27,7 +18,7 @@ pub data Role : Type 0 where
   Sleeps : (wish : Wish) → Role
   Taken : (wish : Wish) → (by : ℕ) → Role
   -- its closure runs, and was handed the state before; the closure has ended well or not
-  Runs : (before : State) → Role
+  Runs : (before : OnceState) → Role
   Ends : (well : Bool) → Role
   -- it goes through the list, with whom it has taken so far; has stored; and wakes them
   Scans : (well : Bool) → (taken : List ℕ) → Role
@@ -36,10 +27,10 @@ pub data Role : Type 0 where
 
 -- the word: the state, and 1 where callers may wait
 pub record Word : Type 0 where
-  pub state : State
+  pub state : OnceState
   pub parked : ℕ
 
-abbrev pub state_number : State → ℕ
+abbrev pub state_number : OnceState → ℕ
 state_number New = 0
 state_number Done = 1
 state_number Poisoned = 2
@@ -50,25 +41,25 @@ abbrev pub number : Word → ℕ
 number w = state_number w.state + 8 * w.parked
 
 -- a call waits at this state
-abbrev pub waits : Wish → State → Bool
+abbrev pub waits : Wish → OnceState → Bool
 waits wish New = not wish.runs
 waits wish Poisoned = (if wish.force then not wish.runs else false)
 waits wish InProgress = true
 waits wish Done = false
 
 -- one that is forced or not runs its closure at this state
-abbrev pub may_run : Bool → State → Bool
+abbrev pub may_run : Bool → OnceState → Bool
 may_run force New = true
 may_run force Poisoned = force
 may_run force InProgress = false
 may_run force Done = false
 
 -- the state behind a closure that has ended
-abbrev pub ended : Bool → State
+abbrev pub ended : Bool → OnceState
 ended true = Done
 ended false = Poisoned
 
-abbrev pub in_progress : State → ℕ
+abbrev pub in_progress : OnceState → ℕ
 in_progress InProgress = 1
 in_progress state = 0
 
@@ -82,8 +73,8 @@ pub data Class : Type 0 where
   Listed : Class
   Joining : Class
   -- at this state: one that stands in the list, or is about to, and doesn't wait; one in a call that waits
-  Unwilling : State → Class
-  Patient : State → Class
+  Unwilling : OnceState → Class
+  Patient : OnceState → Class
 
 unfoldable pub weight : Class → Role → ℕ
 weight Running (Runs before) = 1
@@ -128,7 +119,7 @@ pub record Fits (w : Word) (n : Class → ℕ) : Type 0 where
 -- what holds of any roles at all
 pub record Counts (n : Class → ℕ) : Type 0 where
   pub joining : n Joining ≤ n Inside
-  pub willing : (s : State) → n (Unwilling s) ≤ n Listed + n Joining
+  pub willing : (s : OnceState) → n (Unwilling s) ≤ n Listed + n Joining
   pub progress : n (Unwilling InProgress) ≡ 0
   pub succeeding : n Succeeding + n Busy ≤ n Running
 
@@ -167,7 +158,7 @@ IsSound m = Sound m.word m.roles m.queue
 pub data Plain : Type 0 where
   Begin : (wish : Wish) → Plain
   -- it sees that it is to run its closure, that the thing is done, or that the last closure failed
-  Start : (force : Bool) → (before : State) → Plain
+  Start : (force : Bool) → (before : OnceState) → Plain
   Complete : (wish : Wish) → Plain
   Refuse : (runs : Bool) → Plain
   -- it sets the parked bit, enters the section, looks at the word again, and leaves it, with or without a place in the list
@@ -177,7 +168,7 @@ pub data Plain : Type 0 where
   Retreat : (wish : Wish) → Plain
   Rest : (wish : Wish) → Plain
   -- its closure returns; it stores the end at once where nobody waits, or in a section when it has taken all that do
-  Return : (before : State) → (well : Bool) → Plain
+  Return : (before : OnceState) → (well : Bool) → Plain
   Finish : (well : Bool) → Plain
   Look : (well : Bool) → Plain
   Store : (well : Bool) → (taken : List ℕ) → Plain

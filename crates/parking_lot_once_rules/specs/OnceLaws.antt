@@ -3,7 +3,7 @@ use Rattle.std.specs.Prelude.{◌≡◌, ◌≢◌, ℕ, ◌+◌, ◌<◌, ◌�
 use Rattle.std.specs.List.{sum_by}
 use Rattle.parking_lot_rules.specs.Classes.{bit}
 use Rattle.parking_lot_rules.specs.Lists.{occurs, at_index}
-use Rattle.parking_lot_once_rules.specs.Once.{State, InProgress, Done, Wish, Role, Idle, Seeks, Sleeps, Taken, Runs, Ends, Scans, Wakes, waits, may_run, ended, in_progress, Running, Succeeding, Busy, Listed, weight, total, wakes, Once, Start, Return, Step, Alone, Allowed, after, IsRun, unused}
+use Rattle.parking_lot_once_rules.specs.Once.{OnceState, InProgress, Done, Wish, Role, Idle, Seeks, Sleeps, Taken, Runs, Ends, Scans, Wakes, waits, may_run, ended, in_progress, Running, Succeeding, Busy, Listed, weight, total, wakes, Once, Start, Return, Step, Alone, Allowed, after, IsRun, unused}
 
 -- The state says whether a closure runs, and one thread at most runs one.
 pub record WordTells (m : Once) : Type 0 where
@@ -86,7 +86,7 @@ returns well step = 0
 abbrev pub how_often : (Step → ℕ) → List (ℕ × Step) → ℕ
 how_often f steps = sum_by (λ (e : ℕ × Step). f e.1) steps
 
-abbrev pub is_done : State → ℕ
+abbrev pub is_done : OnceState → ℕ
 is_done Done = 1
 is_done state = 0
 
