@@ -1,0 +1,2 @@
+pub mod OnceTable
+pub mod OnceMoves
