@@ -1,5 +1,5 @@
 -- Which step of the rules each answer to a core is, and in which role its thread is.
-use Rattle.std.specs.Prelude.{◌≡◌, ◌<◌, ◌≤◌, ℕ, ◌+◌, ◌-◌, ◌^◌, ◌&&◌, Bool, true, false, if◌then◌else◌, List, [], ◌∷◌, ◌++◌, length, Option, Some, None}
+use Rattle.std.specs.Prelude.{◌≡◌, ◌<◌, ◌≤◌, ℕ, ◌-◌, ◌^◌, ◌&&◌, Bool, true, if◌then◌else◌, List, [], ◌∷◌, ◌++◌, length, Option, Some, None}
 use Rattle.parking_lot_protocol.specs.declared.act.ActResult.{ActResult}
 use Rattle.parking_lot_protocol.specs.declared.act.ActResult.TheVariants as seen
 use Rattle.parking_lot_protocol.specs.Acts.{Begins, Gives, word_after}
@@ -110,8 +110,10 @@ pub record IsPlain (k : rules.Plain) (old new : rules.Role) (w : rules.Word) (wo
   pub may : rules.May k w (λ c. 0)
   pub written : word ≡ rules.number (rules.written k w)
 
--- the count of a phase is that of those whom it has taken
+-- the count of a phase is that of those whom it has taken, and there are none before it scans
 abbrev pub Holds : List ℕ → OncePhase → Type 0
+Holds us (Returning well) = us ≡ []
+Holds us (Stores well) = us ≡ []
 Holds us (Looks well) = us ≡ []
 Holds us (Scans well taken) = length us ≡ taken
 Holds us (Clears well taken) = length us ≡ taken

@@ -174,8 +174,12 @@ impl Seeking {
         match state {
             OnceState::Done => OncePhase::Ends(OnceAnswer::Completed),
             OnceState::Poisoned if !self.wish.force => OncePhase::Ends(OnceAnswer::Poisoned),
-            OnceState::New | OnceState::Poisoned if self.wish.runs => OncePhase::Starts(self, state, parked),
-            OnceState::New | OnceState::Poisoned | OnceState::InProgress => self.waiting(state, parked),
+            OnceState::New | OnceState::Poisoned if self.wish.runs => OncePhase::Starts(
+                self, state, parked,
+            ),
+            OnceState::New | OnceState::Poisoned | OnceState::InProgress => self.waiting(
+                state, parked,
+            ),
         }
     }
 
@@ -270,15 +274,26 @@ impl OncePhase {
     {
         match self {
             OncePhase::Loads(_) => Act::Load,
-            OncePhase::Starts(_, before, parked) => Act::Exchange(word_of(before, parked), word_of(OnceState::InProgress, parked)),
+            OncePhase::Starts(_, before, parked) => Act::Exchange(
+                word_of(before, parked),
+                word_of(OnceState::InProgress, parked),
+            ),
             OncePhase::Spins(..) => Act::Spin,
-            OncePhase::Parks(_, state) => Act::Exchange(word_of(state, false), word_of(state, true)),
+            OncePhase::Parks(_, state) => Act::Exchange(
+                word_of(state, false),
+                word_of(state, true),
+            ),
             OncePhase::Enters(_) | OncePhase::Looks(_) => Act::Enter(0),
             OncePhase::Checks(_) => Act::Section(SectionAct::Check),
             OncePhase::Appends(_) => Act::Section(SectionAct::Append(DEFAULT_PARK_TOKEN)),
-            OncePhase::Retreats(_) | OncePhase::Rests(_) | OncePhase::Leaves(_) => Act::Section(SectionAct::Leave),
+            OncePhase::Retreats(_) | OncePhase::Rests(_) | OncePhase::Leaves(_) => Act::Section(
+                SectionAct::Leave,
+            ),
             OncePhase::Sleeps(_) => Act::Sleep,
-            OncePhase::Stores(well) => Act::Exchange(word_of(OnceState::InProgress, false), word_of(ended(well), false)),
+            OncePhase::Stores(well) => Act::Exchange(
+                word_of(OnceState::InProgress, false),
+                word_of(ended(well), false),
+            ),
             OncePhase::Scans(..) => Act::Section(SectionAct::TakeNext(0)),
             OncePhase::Clears(well, _) => Act::Section(SectionAct::Store {
                 plain: end_store(well),
@@ -287,7 +302,9 @@ impl OncePhase {
             OncePhase::Wakes(_) => Act::Section(SectionAct::Wake),
             OncePhase::Finishes => Act::Done(CoreAnswer::Released),
             OncePhase::Ends(answer) => Act::Done(answer.core_answer()),
-            OncePhase::Asking(_) | OncePhase::Returning(_) | OncePhase::Invalid => Act::Done(CoreAnswer::Refused),
+            OncePhase::Asking(_) | OncePhase::Returning(_) | OncePhase::Invalid => Act::Done(
+                CoreAnswer::Refused,
+            ),
         }
     }
 

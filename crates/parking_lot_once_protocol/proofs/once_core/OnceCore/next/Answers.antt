@@ -1,0 +1,5 @@
+use Rattle.parking_lot_once_protocol.proofs.OnceFollowing.{follows}
+use Rattle.parking_lot_once_protocol.proofs.once_core.OnceCore.next.Goals as goal
+
+pub returns-clause-rules : goal.returns-clause-rules
+returns-clause-rules c = follows _ _
