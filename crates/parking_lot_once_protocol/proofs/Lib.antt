@@ -1,1 +1,2 @@
 mod OnceFollowing
+pub mod OnceAnswering

@@ -1,2 +1,3 @@
 pub mod OnceTable
 pub mod OnceMoves
+pub mod OnceAnswers

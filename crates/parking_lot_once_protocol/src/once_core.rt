@@ -2,6 +2,7 @@
 ghost use Rattle.std.specs.Prelude.{◌≡◌, true, false};
 ghost use Rattle.parking_lot_core_lot.specs.declared.parking.UnparkToken.{UnparkToken};
 ghost use Rattle.parking_lot_once_protocol.specs.declared.once_phase.OncePhase.TheVariants.{Asking, Returning};
+ghost use Rattle.parking_lot_once_protocol.specs.OnceAnswers.{EndsByAnAnswer, KeepsToItsCall};
 ghost use Rattle.parking_lot_once_protocol.specs.OnceMoves.{Ended, Follows};
 ghost use Rattle.parking_lot_once_protocol.specs.OnceTable.{act_of, answer_of, next_phase};
 
@@ -89,7 +90,8 @@ impl OnceCore {
 
     /// How the call has ended, if it has.
     pub fn answer(&self) -> Option<OnceAnswer>
-        ensures { result ≡ answer_of self.now.phase }
+        ensures answer { result ≡ answer_of self.now.phase }
+        ensures ends { EndsByAnAnswer self.now.phase }
     {
         self.phase.answer()
     }
@@ -107,6 +109,7 @@ impl OnceCore {
         ensures act { result ≡ act_of self.new.phase }
         ensures rules { Follows self.old.phase seen }
         ensures end { Ended self.new.phase }
+        ensures answers { KeepsToItsCall self.old.phase seen }
     {
         self.phase = self.phase.after(seen).unwrap_or(OncePhase::Invalid);
         self.phase.act()
