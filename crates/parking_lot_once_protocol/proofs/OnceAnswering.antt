@@ -82,7 +82,7 @@ ends_on well (Rests same) s word e g = absurd e
 ends_on well (Sleeps same) s word e g = absurd e
 ends_on well p s word e g = absurd g
 
-goes_on : (begun p : OncePhase) (s : ActResult) (word : ℕ) → IsUnderWay begun p → Gives (act_of p) word s → IsUnderWay begun (next_phase p s)
+pub goes_on : (begun p : OncePhase) (s : ActResult) (word : ℕ) → IsUnderWay begun p → Gives (act_of p) word s → IsUnderWay begun (next_phase p s)
 goes_on (Asking wish) p s word e g = asks_on wish p s word e g
 goes_on (Returning well) p s word e g = ends_on well p s word e g
 goes_on begun p s word e g = absurd e

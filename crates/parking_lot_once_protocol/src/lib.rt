@@ -13,5 +13,5 @@ mod once_phase;
 mod seen;
 
 pub use once_core::OnceCore;
-pub use once_phase::{OnceAnswer, OncePhase, Seeking};
+pub use once_phase::{OnceAnswer, OncePhase, Seeking, state_of};
 pub use parking_lot_once_rules::{OnceState, Wish};

@@ -98,7 +98,7 @@ impl OnceCore {
 
     /// The token for those that a section has taken: they look again.
     pub fn wake_token(&self) -> UnparkToken
-        ensures { result.0 ≡ 0 }
+        ensures { result ≡ record { 0 = 0 } }
     {
         TRY_AGAIN
     }

@@ -67,7 +67,7 @@ pub enum OncePhase {
 }
 
 /// The state that a word has.
-fn state_of(word: u64) -> OnceState
+pub fn state_of(word: u64) -> OnceState
     ensures { result ≡ state_of word }
 {
     if word % 2 == 1 {
