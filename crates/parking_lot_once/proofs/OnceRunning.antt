@@ -49,6 +49,6 @@ ends c r end first was e =
     (subst (λ p. IsUnderWay c.core.phase p) (sym (ap (λ (x : RowCore). x.core.phase) was.2 ∙ same c was.0)) (stays c.core.phase was.0 first (runs c was.0 was.1))) e
 
 -- one look that shows that a closure has ended well
-pub completed : (wish : Wish) → Answered (Asking wish) Completed
+pub completed : (wish : Wish) (word : ℕ) → word ≡ 1 → Answered (Asking wish) Completed
 unfolding Answered
-completed wish = (Word 1 ∷ [], ((1, refl), tt), refl)
+completed wish word e = (Word word ∷ [], ((word, refl), tt), ap (λ n. answer_of (next_phase (next_phase (Asking wish) Start) (Word n))) e)

@@ -23,14 +23,24 @@ use std::sync::Wait;
 /// The word of one that is done.
 const DONE: u64 = 1;
 
-/// Runs one closure once, on one row of a lock table.
+/// Runs one closure once, on one row of a lock table. A closure answers a `Result`: its error poisons, and then only a forced call runs
+/// another. No call takes memory.
+///
+/// ```text
+/// let lot = ParkingLot::new(rt, alloc, 16, 7)?;
+/// let table = LockTable::new(alloc, &lot, 1)?;
+/// let mut me = lot.thread_data()?;
+/// let once = Once::new(&table)?;
+/// once.call_once(&mut me, || Ok::<(), u8>(()))?;
+/// assert_eq!(rt; once.state(), OnceState::Done);
+/// ```
 #[derive(Drop)]
 pub struct Once<'t, 'l, R, A: Allocator = Global> {
     row: Row<'t, 'l, R, A>,
 }
 
 impl<'t, 'l, R, A: Allocator> Once<'t, 'l, R, A> {
-    /// One for which no closure has run.
+    /// One for which no closure has run. [`TableFull`] where the table has no row left.
     pub fn new(table: &'t LockTable<'l, R, A>) -> Result<Once<'t, 'l, R, A>, TableFull>
         ensures { IfOk result (λ once. once.row.table.now ≡ table.now) }
     {
@@ -39,7 +49,7 @@ impl<'t, 'l, R, A: Allocator> Once<'t, 'l, R, A> {
         })
     }
 
-    /// One that is done from the beginning.
+    /// One that is done from the beginning. [`TableFull`] where the table has no row left.
     pub fn new_completed(table: &'t LockTable<'l, R, A>) -> Result<Once<'t, 'l, R, A>, TableFull>
         ensures { IfOk result (λ once. once.row.table.now ≡ table.now) }
     {
@@ -70,7 +80,8 @@ impl<'t, 'l, R, A: Allocator> Once<'t, 'l, R, A> {
     fn completed_at_once(&self) -> bool
         ensures { (wish : Wish) → result ≡ true → Answered (Asking wish) answer.Completed }
     {
-        self.row.load() == DONE
+        let word = self.row.load();
+        word == DONE
     }
 }
 

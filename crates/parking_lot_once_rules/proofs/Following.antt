@@ -8,7 +8,7 @@ use Rattle.parking_lot_rules.proofs.Indexed.{get-set_same, get-set_other}
 use Rattle.parking_lot_rules.proofs.Finding.{none_or}
 use Rattle.parking_lot_rules.proofs.Waiting.{listed, occurs-cons, counted-same}
 use Rattle.parking_lot_once_rules.specs.Once.{OnceState, New, Poisoned, InProgress, Done, Wish, Role, Idle, Joined, Sleeps, Taken, Runs, Ends, Scans, Wakes, waits, may_run, in_progress, Class, Running, Inside, Listed, Unwilling, Patient, weight, total, taken_by, wakes_at, Once, IsSound, Begin, Start, Complete, Refuse, Flag, Enter, Check, Retreat, Rest, Return, Finish, Look, Store, Depart, Leave, Step, Alone, Join, Take, Wake, Allowed, after, unused}
-use Rattle.parking_lot_once_rules.specs.OnceLaws.{WordTells, NothingIsLeft, sleeps_for, IsWaker, HasWaker, SomebodyRuns, SleepersAreKnown, NobodyIsForgotten, SleepersAreWoken, WakersCanGoOn, BeginsToRun, StateGoes, ThroughoutOnce}
+use Rattle.parking_lot_once_rules.specs.OnceLaws.{WordTells, NothingIsLeft, sleeps_for, IsWaker, HasWaker, SomebodyRuns, SleepersAreKnown, NobodyIsForgotten, SomebodyIsAtWork, is_at_work, SleepersAreWoken, WakersCanGoOn, BeginsToRun, StateGoes, ThroughoutOnce}
 use Rattle.parking_lot_once_rules.proofs.Soundness.{total-at, total-none, idle_weighs, runs_sound, rest_sound}
 
 somebody : (c : Class) (rs : List Role) → 0 < total c rs → (u : ℕ) × (r : Role) × (slice_get rs u ≡ Some r) × (0 < weight c r)
@@ -111,6 +111,25 @@ module _ (m : Once) (sound : IsSound m) where
       ⊎_elim (λ e. inl (somebody_runs e)) (λ e. inr (inl (e, waiting))) (waits_for_a_run wish.runs wish.force m.word.state waiting))
       (λ w. inr (inr w))
       (sleeper u wish x.0 x.1 x.2)
+
+  runner_works : (r : Role) → 0 < weight Running r → IsTrue (is_at_work r)
+  unfolding weight
+  runner_works (Runs before) some = refl
+  runner_works (Ends well) some = refl
+  runner_works (Scans well taken) some = refl
+  runner_works r some = absurd (omega arith)
+
+  waker_works : (u : ℕ) (r : Role) → 0 < occurs u (wakes r) → IsTrue (is_at_work r)
+  waker_works u (Scans well taken) some = refl
+  waker_works u (Stored taken) some = refl
+  waker_works u (Wakes taken) some = refl
+  waker_works u r some = absurd (omega arith)
+
+  pub somebody_is_at_work : SomebodyIsAtWork m
+  somebody_is_at_work u wish x = ⊎_elim
+      (λ run. inl (run.0, run.1, run.2, runner_works run.1 run.3))
+      (λ more. ⊎_elim (λ waiting. inr waiting) (λ w. inl (w.0, w.1.0, w.1.1, waker_works u w.1.0 w.1.2)) more)
+      (nobody_is_forgotten u wish x)
 
   taken_so : (t : ℕ) (o : Option Role) → 0 < at_index (taken_by t) o → (wish : Wish) × (o ≡ Some (Taken wish t))
   taken_so t None some = absurd (omega arith)

@@ -44,6 +44,17 @@ pub record SleepersAreKnown (m : Once) : Type 0 where
 abbrev pub NobodyIsForgotten : Once → Type 0
 NobodyIsForgotten m = (u : ℕ) (wish : Wish) → IsAsleep m u wish → SomebodyRuns m ⊎ (((wish.runs ≡ false) × IsTrue (waits wish m.word.state)) ⊎ HasWaker m u)
 
+-- a thread is in a call there, and awake: it can make a step, unless it stands before a section that another is in
+abbrev pub is_at_work : Role → Bool
+is_at_work Idle = false
+is_at_work (Sleeps wish) = false
+is_at_work (Taken wish by) = false
+is_at_work r = true
+
+-- where a thread sleeps another is at work; or it only waits, for a closure that nobody has begun
+abbrev pub SomebodyIsAtWork : Once → Type 0
+SomebodyIsAtWork m = (u : ℕ) (wish : Wish) → IsAsleep m u wish → ((v : ℕ) × (r : Role) × (slice_get m.roles v ≡ Some r) × IsTrue (is_at_work r)) ⊎ ((wish.runs ≡ false) × IsTrue (waits wish m.word.state))
+
 -- one that sleeps where it hasn't to wait any more is about to be woken
 abbrev pub SleepersAreWoken : Once → Type 0
 SleepersAreWoken m = (u : ℕ) (wish : Wish) → IsAsleep m u wish → waits wish m.word.state ≡ false → HasWaker m u

@@ -1,6 +1,6 @@
 //! Laws of a one-time initialization, for every schedule and any number of threads, whether it is new or done at the beginning.
 ghost use Rattle.parking_lot_once_rules.specs.Once.{AlwaysOfOnce, IsSound};
-ghost use Rattle.parking_lot_once_rules.specs.OnceLaws.{AlwaysOfSteps, ClosuresAreCounted, DoneStays, NobodyIsForgotten, NothingIsLeft, SleepersAreKnown, SleepersAreWoken, StateGoes, ThroughoutOnce, WakersCanGoOn, WordTells};
+ghost use Rattle.parking_lot_once_rules.specs.OnceLaws.{AlwaysOfSteps, ClosuresAreCounted, DoneStays, NobodyIsForgotten, NothingIsLeft, SleepersAreKnown, SleepersAreWoken, SomebodyIsAtWork, StateGoes, ThroughoutOnce, WakersCanGoOn, WordTells};
 
 /// It is sound at every moment: its word fits the thread that runs its closure and those that wait, its list holds exactly those that
 /// wait there, and each thread is to wake those that it has taken.
@@ -39,6 +39,11 @@ pub fn sleepers_at_a_once_are_known()
 /// One that sleeps is about to be woken, or a closure runs; or it only waits, for a closure that nobody has begun.
 pub fn no_sleeper_is_forgotten()
     ensures { AlwaysOfOnce NobodyIsForgotten }
+{}
+
+/// Where a thread sleeps another is at work there; or it only waits, for a closure that nobody has begun.
+pub fn somebody_is_at_work()
+    ensures { AlwaysOfOnce SomebodyIsAtWork }
 {}
 
 /// One that sleeps where it hasn't to wait any more was taken by a thread that is still to wake it: at the end of a closure everybody, but

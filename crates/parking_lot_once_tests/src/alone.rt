@@ -4,7 +4,9 @@ use lock_api_raw::TableFull;
 use parking_lot_core::{ParkingLot, ThreadData};
 use parking_lot_locks::LockTable;
 use parking_lot_once::{Once, OnceFault, OnceState, Poisoned};
+use std::alloc::Global;
 use std::cell::Cell;
+use std::fmt::Debug;
 use std::sync::Wait;
 use std::test::Fail;
 
@@ -129,15 +131,23 @@ fn a_closure_sees_that_it_runs(rt: HostRuntime) -> Result<(), Fail> {
     Ok(())
 }
 
+/// Whether this is how a thing is shown.
+fn is_shown<D: Debug>(alloc: Global, shown: &D, text: &str) -> bool {
+    match format!(in alloc; "{shown:?}") {
+        Ok(own) => own.as_str() == text,
+        Err(_) => false,
+    }
+}
+
 #[test]
 fn texts_and_codes(rt: HostRuntime) -> Result<(), Fail> {
     let lot = ParkingLot::new(rt, rt.alloc(), 4, 7)?;
     let table = LockTable::new(rt.alloc(), &lot, 2)?;
-    let new = format!(in rt.alloc(); "{:?}", Once::new(&table)?)?;
-    let done = format!(in rt.alloc(); "{:?}", Once::new_completed(&table)?)?;
-    assert!(rt;
-        (new.as_str() == "Once { state: New }") & (done.as_str() == "Once { state: Done }")
-    );
+    let once = Once::new(&table)?;
+    let over = Once::new_completed(&table)?;
+    let is_new = is_shown(rt.alloc(), &once, "Once { state: New }");
+    let is_done = is_shown(rt.alloc(), &over, "Once { state: Done }");
+    assert!(rt; is_new & is_done);
     let failed: OnceFault<u8> = OnceFault::Failed(5);
     let poisoned: OnceFault<u8> = OnceFault::Poisoned;
     let shown = format!(in rt.alloc(); "{failed} {poisoned} {Poisoned}")?;

@@ -122,21 +122,28 @@ fn a_forced_call_waits_and_runs_where_the_closure_failed(rt: HostRuntime) -> Res
     Ok(())
 }
 
-/// Waits, and then raises the flag.
+/// Waits, and then raises the flag; how the wait ended, and the word then.
 fn awaits<R: Wait>(
+    table: &LockTable<'_, R>,
     once: &Once<'_, '_, R>,
     me: &mut ThreadData,
     flag: &AtomicU64,
-) -> Result<(), Poisoned> {
+) -> (Result<(), Poisoned>, Option<u64>) {
     let ended = once.wait(me);
     flag.store(1, Ordering::SeqCst);
-    ended
+    (ended, table.word(0))
 }
 
-/// Waits whatever comes, and then raises the flag.
-fn awaits_force<R: Wait>(once: &Once<'_, '_, R>, me: &mut ThreadData, flag: &AtomicU64) {
+/// Waits whatever comes, and then raises the flag; the word then.
+fn awaits_force<R: Wait>(
+    table: &LockTable<'_, R>,
+    once: &Once<'_, '_, R>,
+    me: &mut ThreadData,
+    flag: &AtomicU64,
+) -> Option<u64> {
     once.wait_force(me);
     flag.store(1, Ordering::SeqCst);
+    table.word(0)
 }
 
 /// Runs a closure, which ends well or not, once somebody sleeps; whether somebody did, and nobody was awake before the end.
@@ -170,11 +177,14 @@ fn one_that_waits_is_woken_by_the_end(rt: HostRuntime) -> Result<(), Fail> {
         let (ran, ended) = thread::join(
             &rt,
             || runs_behind_a_sleeper(&rt, &table, &once, &mut a, &flag, well),
-            || awaits(&once, &mut b, &flag),
+            || awaits(&table, &once, &mut b, &flag),
         );
-        let is_told = ended == if well { Ok(()) } else { Err(Poisoned) };
-        let word = if well { 1 } else { 2 };
-        assert!(rt; ran & is_told & (table.word(0) == Some(word)), "{well}");
+        let told = if well {
+            (Ok(()), Some(1))
+        } else {
+            (Err(Poisoned), Some(2))
+        };
+        assert!(rt; ran & (ended == told), "{well}");
     }
     Ok(())
 }
@@ -201,12 +211,12 @@ fn a_forced_wait_goes_on_where_the_closure_failed(rt: HostRuntime) -> Result<(),
     let table = LockTable::new(rt.alloc(), &lot, 1)?;
     let once = Once::new(&table)?;
     let flag = AtomicU64::new(0);
-    let (mended, ()) = thread::join(
+    let (mended, word) = thread::join(
         &rt,
         || fails_and_mends(&rt, &table, &once, &mut a, &flag),
-        || awaits_force(&once, &mut b, &flag),
+        || awaits_force(&table, &once, &mut b, &flag),
     );
-    assert!(rt; mended & is_raised(&rt, &flag, 1) & (table.word(0) == Some(1)));
+    assert!(rt; mended & is_raised(&rt, &flag, 1) & (word == Some(1)));
     Ok(())
 }
 

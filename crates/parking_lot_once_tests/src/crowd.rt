@@ -11,38 +11,35 @@ use std::thread;
 /// How many things are initialized, each by four threads.
 const THINGS: usize = 2_500;
 
-/// Calls with a closure that adds 1 in two steps, and answers whether it has been run once by then.
-fn comes<R: Wait>(once: &Once<'_, '_, R>, table: &LockTable<'_, R>, count: &AtomicU64) -> bool {
+/// Calls at each thing with a closure that adds 1 in two steps, and answers whether one closure had run there by then.
+fn comes<R: Wait>(table: &LockTable<'_, R>, things: &[(Once<'_, '_, R>, AtomicU64)]) -> bool {
     let Ok(mut me) = table.lot().thread_data() else {
         return false;
     };
-    let ended = once.call_once(&mut me, || {
-        let seen = count.load(Ordering::SeqCst);
-        count.store(seen.wrapping_add(1), Ordering::SeqCst);
-        Ok::<(), u8>(())
-    });
-    let is_run = count.load(Ordering::SeqCst) == 1;
-    let _retired = table.lot().retire(me);
-    ended.is_ok() & is_run
+    let mut ok = true;
+    for (once, runs) in things {
+        let ended = once.call_once(&mut me, || {
+            let seen = runs.load(Ordering::SeqCst);
+            runs.store(seen.wrapping_add(1), Ordering::SeqCst);
+            Ok::<(), u8>(())
+        });
+        ok = ok & ended.is_ok() & (runs.load(Ordering::SeqCst) == 1);
+    }
+    ok
 }
 
 #[test]
-fn of_eight_threads_one_runs_its_closure(rt: HostRuntime) -> Result<(), Fail> {
-    let lot = ParkingLot::new(rt, rt.alloc(), 8, 7)?;
-    let table = LockTable::new(rt.alloc(), &lot, 1)?;
-    let once = Once::new(&table)?;
-    let count = AtomicU64::new(0);
-    let two = || thread::join(
-        &rt,
-        || comes(&once, &table, &count),
-        || comes(&once, &table, &count),
-    );
-    let four = || thread::join(&rt, two, two);
-    let ended = thread::join(&rt, four, four);
-    let all = ((true, true), (true, true));
-    assert!(rt;
-        (ended == (all, all)) & (count.load(Ordering::SeqCst) == 1) & (table.word(0) == Some(1))
-    );
+fn of_four_threads_one_runs_its_closure(rt: HostRuntime) -> Result<(), Fail> {
+    let lot = ParkingLot::new(rt, rt.alloc(), 4, 7)?;
+    let table = LockTable::new(rt.alloc(), &lot, THINGS)?;
+    let mut things = Vec::new(rt.alloc());
+    for _thing in 0..THINGS {
+        things.push((Once::new(&table)?, AtomicU64::new(0)))?;
+    }
+    let two = || thread::join(&rt, || comes(&table, &things), || comes(&table, &things));
+    let ended = thread::join(&rt, two, two) == ((true, true), (true, true));
+    let is_over = things.iter().all(|thing| thing.0.is_completed());
+    assert!(rt; ended & is_over);
     Ok(())
 }
 
