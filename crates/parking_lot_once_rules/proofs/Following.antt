@@ -7,7 +7,7 @@ use Rattle.parking_lot_rules.specs.Lists.{occurs, at_index}
 use Rattle.parking_lot_rules.proofs.Indexed.{get-set_same, get-set_other}
 use Rattle.parking_lot_rules.proofs.Finding.{none_or}
 use Rattle.parking_lot_rules.proofs.Waiting.{listed, occurs-cons, counted-same}
-use Rattle.parking_lot_once_rules.specs.Once.{OnceState, New, Poisoned, InProgress, Done, Wish, Role, Idle, Joined, Sleeps, Taken, Runs, Ends, Scans, Wakes, waits, may_run, in_progress, Class, Running, Inside, Listed, Unwilling, Patient, weight, total, taken_by, wakes_at, Once, IsSound, Begin, Start, Complete, Refuse, Flag, Enter, Check, Retreat, Rest, Return, Finish, Look, Store, Depart, Leave, Step, Alone, Join, Take, Wake, Allowed, after, unused}
+use Rattle.parking_lot_once_rules.specs.Once.{OnceState, New, Poisoned, InProgress, Done, Wish, Role, Idle, Joined, Sleeps, Taken, Runs, Ends, Scans, Stored, Wakes, waits, may_run, in_progress, Class, Running, Inside, Listed, Unwilling, Patient, weight, total, taken_by, wakes, wakes_at, Once, IsSound, Begin, Start, Complete, Refuse, Flag, Enter, Check, Retreat, Rest, Return, Finish, Look, Store, Depart, Leave, Step, Alone, Join, Take, Wake, Allowed, after, unused}
 use Rattle.parking_lot_once_rules.specs.OnceLaws.{WordTells, NothingIsLeft, sleeps_for, IsWaker, HasWaker, SomebodyRuns, SleepersAreKnown, NobodyIsForgotten, SomebodyIsAtWork, is_at_work, SleepersAreWoken, WakersCanGoOn, BeginsToRun, StateGoes, ThroughoutOnce}
 use Rattle.parking_lot_once_rules.proofs.Soundness.{total-at, total-none, idle_weighs, runs_sound, rest_sound}
 
