@@ -3,7 +3,9 @@
 //! The raw locks and the table are those of `parking_lot_locks`. Nothing is promised of a word, nor that a call comes back: what
 //! keeps two writers from one value is the std lock in which a generic lock keeps it.
 //!
-//! What the same calls do under every schedule can be tried in a [`World`], whose steps are told one by one.
+//! A [`Once`] of `parking_lot_once` runs one closure once.
+//!
+//! What the calls of locks do under every schedule can be tried in a [`World`], whose steps are told one by one.
 //!
 //! Calls that may sleep take the data of a participant of the table's lot.
 //!
@@ -35,6 +37,7 @@ pub use parking_lot_timed::{TimedAct, TimedMutexCore, TimedSeen};
 pub use parking_lot_waits::{
     NotifyAct, NotifyCore, NotifySeen, WaitAct, WaitAnswer, WaitCore, WaitSeen,
 };
+pub use parking_lot_once::{Once, OnceCore, OnceFault, OnceState, Poisoned};
 pub use parking_lot_world::{
     LockAnswer, LockCall, LockKind, OwnMode, World, WorldFault, WorldRefusal, WorldStep,
 };

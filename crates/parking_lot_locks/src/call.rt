@@ -8,7 +8,7 @@ use crate::decision::DecisionCore;
 use parking_lot_protocol::{MutexCore, RwCore};
 
 /// A kind of call: the core that it begins with. A type for each, so that whoever runs one shows by its type which.
-pub(crate) trait Call: Copy {
+pub trait Call: Copy {
     /// The core.
     type Core: DecisionCore;
 

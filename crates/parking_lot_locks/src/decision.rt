@@ -8,7 +8,7 @@ use parking_lot_core::UnparkToken;
 use parking_lot_protocol::{Act, ActResult, MutexCore, RwCore};
 
 /// One call of a lock as plain data: it is told what its last act gave, and answers the next one.
-pub(crate) trait DecisionCore: Copy {
+pub trait DecisionCore: Copy {
     /// What it is once it was told so much more.
     ghost told: { Self → ActResult → Self };
 

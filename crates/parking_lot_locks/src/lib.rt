@@ -29,8 +29,11 @@ mod table;
 mod thread_id;
 mod timed_run;
 mod told;
+mod whole_call;
 
+pub use call::Call;
 pub use deadline::to_deadline;
+pub use decision::DecisionCore;
 pub use parking_lot_protocol::{
     Act, ActResult, CoreAnswer, MutexCore, RwCore, SectionAct, WordChange, wake_sum,
 };
@@ -39,3 +42,4 @@ pub use raw_mutex::RawMutex;
 pub use raw_rwlock::RawRwLock;
 pub use table::{LockTable, Row};
 pub use thread_id::RawThreadId;
+pub use whole_call::run_to_its_end;

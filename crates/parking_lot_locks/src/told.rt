@@ -1,7 +1,8 @@
 //! A call under way.
-ghost use Rattle.std.specs.Prelude.{◌≡◌};
-ghost use Rattle.parking_lot_locks.specs.Runs.{Ended};
-ghost use Rattle.parking_lot_protocol.specs.declared.act.Act.TheVariants.{Done};
+ghost use Rattle.std.specs.Prelude.{◌≡◌, IfSome};
+ghost use Rattle.parking_lot_locks.specs.Runs.{Ended, WasTold};
+ghost use Rattle.parking_lot_protocol.specs.Acts.{Gives};
+ghost use Rattle.parking_lot_protocol.specs.declared.act.Act.TheVariants.{Section, Done};
 ghost use Rattle.parking_lot_protocol.specs.declared.act.ActResult.TheVariants.{Start};
 
 use crate::call::Call;
@@ -52,6 +53,14 @@ impl<K: Call<Core = C>, C: DecisionCore> Run<K, C> {
         ensures { result ≡ C.asks self.now.1 }
     {
         self.core.act()
+    }
+
+    /// Its core, which was told nothing but what the acts that it asked for can give.
+    pub fn core(&self) -> C
+        ensures core { result ≡ self.now.1 }
+        ensures told { WasTold C.told C.asks K.begun result }
+    {
+        self.core
     }
 
     /// The token for those that a section has taken, once it has stored.

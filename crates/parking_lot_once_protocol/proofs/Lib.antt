@@ -1,0 +1,2 @@
+mod OnceFollowing
+pub mod OnceAnswering

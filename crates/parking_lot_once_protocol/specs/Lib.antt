@@ -1,0 +1,3 @@
+pub mod OnceTable
+pub mod OnceMoves
+pub mod OnceAnswers

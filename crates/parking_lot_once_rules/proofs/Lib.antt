@@ -1,0 +1,4 @@
+pub mod Soundness
+pub mod Following
+pub mod History
+pub mod OnceExampleRun

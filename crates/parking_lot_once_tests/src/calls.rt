@@ -1,0 +1,108 @@
+//! Calls that are told one thing after another.
+
+use parking_lot_locks::{Act, ActResult, CoreAnswer, SectionAct, WordChange};
+use parking_lot_once_protocol::{OnceAnswer, OnceCore, OnceState};
+use std::test::Fail;
+
+/// Whether a core that is told these, one after another, asks for those acts.
+fn asks(mut core: OnceCore, script: &[(ActResult, Act)]) -> (bool, Option<OnceAnswer>) {
+    let mut ok = true;
+    for (seen, act) in script {
+        ok = ok & (core.next(*seen) == *act);
+    }
+    (ok, core.answer())
+}
+
+#[test]
+fn a_call_runs_a_new_one(rt: HostRuntime) -> Result<(), Fail> {
+    let told = asks(
+        OnceCore::call_once(),
+        &[
+            (ActResult::Start, Act::Load),
+            (ActResult::Word(0), Act::Exchange(0, 4)),
+            (ActResult::Word(8), Act::Exchange(8, 12)),
+            (ActResult::Exchanged, Act::Done(CoreAnswer::Owned)),
+        ],
+    );
+    assert!(rt; told == (true, Some(OnceAnswer::Runs(OnceState::New))));
+    Ok(())
+}
+
+#[test]
+fn a_call_waits_beside_a_closure(rt: HostRuntime) -> Result<(), Fail> {
+    let told = asks(
+        OnceCore::call_once(),
+        &[
+            (ActResult::Start, Act::Load),
+            (ActResult::Word(4), Act::Spin),
+            (ActResult::Spun(false), Act::Exchange(4, 12)),
+            (ActResult::Exchanged, Act::Enter(0)),
+            (ActResult::Entered, Act::Section(SectionAct::Check)),
+            (ActResult::Word(1), Act::Section(SectionAct::Leave)),
+            (ActResult::Made, Act::Load),
+            (ActResult::Word(1), Act::Done(CoreAnswer::Refused)),
+        ],
+    );
+    assert!(rt; told == (true, Some(OnceAnswer::Completed)));
+    Ok(())
+}
+
+#[test]
+fn an_end_takes_all_and_wakes_them(rt: HostRuntime) -> Result<(), Fail> {
+    let failed = WordChange { keep: 0, add: 2 };
+    let told = asks(
+        OnceCore::finish(false),
+        &[
+            (ActResult::Start, Act::Exchange(4, 2)),
+            (ActResult::Word(12), Act::Enter(0)),
+            (ActResult::Entered, Act::Section(SectionAct::TakeNext(0))),
+            (taken(true), Act::Section(SectionAct::TakeNext(0))),
+            (
+                taken(false),
+                Act::Section(SectionAct::Store {
+                    plain: failed,
+                    fair: failed,
+                }),
+            ),
+            (
+                ActResult::Stored { fair: true },
+                Act::Section(SectionAct::Leave),
+            ),
+            (ActResult::Made, Act::Section(SectionAct::Wake)),
+            (ActResult::Made, Act::Section(SectionAct::Wake)),
+            (ActResult::Made, Act::Done(CoreAnswer::Released)),
+        ],
+    );
+    assert!(rt; told == (true, Some(OnceAnswer::Finished)));
+    Ok(())
+}
+
+/// One waiter was taken, and others are left or not.
+fn taken(left: bool) -> ActResult {
+    ActResult::Took {
+        token: Some(parking_lot_core::DEFAULT_PARK_TOKEN),
+        left,
+    }
+}
+
+#[test]
+fn what_no_act_gives_has_no_answer(rt: HostRuntime) -> Result<(), Fail> {
+    let told = asks(
+        OnceCore::wait(),
+        &[
+            (ActResult::Start, Act::Load),
+            (ActResult::Made, Act::Done(CoreAnswer::Refused)),
+        ],
+    );
+    let forced = asks(
+        OnceCore::wait_force(),
+        &[
+            (ActResult::Start, Act::Load),
+            (ActResult::Word(2), Act::Spin),
+            (ActResult::Spun(true), Act::Load),
+            (ActResult::Word(10), Act::Enter(0)),
+        ],
+    );
+    assert!(rt; (told == (true, None)) & (forced == (true, None)));
+    Ok(())
+}

@@ -1,0 +1,89 @@
+//! Many threads at once.
+
+use parking_lot_core::ParkingLot;
+use parking_lot_locks::LockTable;
+use parking_lot_once::Once;
+use std::sync::Wait;
+use std::sync::atomic::{AtomicU64, Ordering};
+use std::test::Fail;
+use std::thread;
+
+/// How many things are initialized, each by four threads.
+const THINGS: usize = 2_500;
+
+/// Calls at each thing with a closure that adds 1 in two steps, and answers whether one closure had run there by then.
+fn comes<R: Wait>(table: &LockTable<'_, R>, things: &[(Once<'_, '_, R>, AtomicU64)]) -> bool {
+    let Ok(mut me) = table.lot().thread_data() else {
+        return false;
+    };
+    let mut ok = true;
+    for (once, runs) in things {
+        let ended = once.call_once(&mut me, || {
+            let seen = runs.load(Ordering::SeqCst);
+            runs.store(seen.wrapping_add(1), Ordering::SeqCst);
+            Ok::<(), u8>(())
+        });
+        ok = ok & ended.is_ok() & (runs.load(Ordering::SeqCst) == 1);
+    }
+    ok
+}
+
+#[test]
+fn of_four_threads_one_runs_its_closure(rt: HostRuntime) -> Result<(), Fail> {
+    let lot = ParkingLot::new(rt, rt.alloc(), 4, 7)?;
+    let table = LockTable::new(rt.alloc(), &lot, THINGS)?;
+    let mut things = Vec::new(rt.alloc());
+    for _thing in 0..THINGS {
+        things.push((Once::new(&table)?, AtomicU64::new(0)))?;
+    }
+    let two = || thread::join(&rt, || comes(&table, &things), || comes(&table, &things));
+    let ended = thread::join(&rt, two, two) == ((true, true), (true, true));
+    let is_over = things.iter().all(|thing| thing.0.is_completed());
+    assert!(rt; ended & is_over);
+    Ok(())
+}
+
+/// Forces a call at each thing, with a closure that fails unless two have failed there; how many of the calls have ended well.
+fn goes_through<R: Wait>(
+    table: &LockTable<'_, R>,
+    things: &[(Once<'_, '_, R>, AtomicU64)],
+) -> usize {
+    let Ok(mut me) = table.lot().thread_data() else {
+        return 0;
+    };
+    let mut well = 0usize;
+    for (once, runs) in things {
+        let ended = once.call_once_force(&mut me, |_before| {
+            let seen = runs.load(Ordering::SeqCst);
+            runs.store(seen.wrapping_add(1), Ordering::SeqCst);
+            if seen < 2 { Err(5u8) } else { Ok(()) }
+        });
+        if ended.is_ok() {
+            well = well.wrapping_add(1);
+        }
+    }
+    well
+}
+
+#[test]
+fn of_four_closures_two_fail_one_ends_well_and_one_is_left_out(
+    rt: HostRuntime,
+) -> Result<(), Fail> {
+    let lot = ParkingLot::new(rt, rt.alloc(), 4, 7)?;
+    let table = LockTable::new(rt.alloc(), &lot, THINGS)?;
+    let mut things = Vec::new(rt.alloc());
+    for _thing in 0..THINGS {
+        things.push((Once::new(&table)?, AtomicU64::new(0)))?;
+    }
+    let two = || thread::join(
+        &rt,
+        || goes_through(&table, &things),
+        || goes_through(&table, &things),
+    );
+    let ((a, b), (c, d)) = thread::join(&rt, two, two);
+    let well = a.wrapping_add(b).wrapping_add(c).wrapping_add(d);
+    let is_over = things.iter().all(|thing| thing.0.is_completed()
+        & (thing.1.load(Ordering::SeqCst) == 3));
+    assert!(rt; is_over & (well == 2 * THINGS));
+    Ok(())
+}
