@@ -1,5 +1,5 @@
 use Rattle.std.proofs.Common.{◌∷◌, [], sym, subst, refl}
-use Rattle.parking_lot_locks.specs.Runs.{Ended}
+use Rattle.parking_lot_timed.specs.Courses.{EndedAt}
 use Rattle.parking_lot_protocol.specs.Acts.{Gives}
 use Rattle.parking_lot_protocol.specs.declared.act.ActResult.TheVariants.{Exchanged}
 use Rattle.parking_lot_protocol.specs.declared.act.CoreAnswer.TheVariants.{Released}
@@ -7,7 +7,7 @@ use Rattle.parking_lot_locks.proofs.table.Row.ends_at_once.Goals as goal
 
 -- the exchange is the first act, and the last
 pub returns-in-Ok : goal.returns-in-Ok
-unfolding Ended
+unfolding EndedAt
 returns-in-Ok g c = (
   Released,
   (Exchanged ∷ [], ((c.args.from, subst (λ act. Gives act c.args.from Exchanged) (sym c.requires.first) refl), tt), c.requires.last),

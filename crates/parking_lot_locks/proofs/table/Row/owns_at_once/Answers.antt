@@ -1,12 +1,12 @@
 use Rattle.std.proofs.Common.{◌∷◌, [], sym, subst, refl}
-use Rattle.parking_lot_locks.specs.Runs.{Ended}
+use Rattle.parking_lot_timed.specs.Courses.{EndedAt}
 use Rattle.parking_lot_protocol.specs.Acts.{Gives}
 use Rattle.parking_lot_protocol.specs.declared.act.ActResult.TheVariants.{Word, Exchanged}
 use Rattle.parking_lot_locks.proofs.table.Row.owns_at_once.Goals as goal
 
 -- the core was told of the word, and that the exchange was won
 pub returns-then-is_ok : goal.returns-then-is_ok
-unfolding Ended
+unfolding EndedAt
 returns-then-is_ok g c =
     let word = c.args.word in
     λ _. (

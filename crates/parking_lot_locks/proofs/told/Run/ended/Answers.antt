@@ -1,10 +1,10 @@
 use Rattle.std.proofs.Common.{◌∙◌, ap, sym}
-use Rattle.parking_lot_locks.specs.Runs.{Ended}
+use Rattle.parking_lot_timed.specs.Courses.{EndedAt}
 use Rattle.parking_lot_locks.proofs.told.Run.ended.Goals as goal
 
 -- what the core was told is a run, after which it has asked for its end
 pub returns : goal.returns
-unfolding Ended
+unfolding EndedAt
 returns g c =
     let told = c.self.invariant in (
       told.0,
