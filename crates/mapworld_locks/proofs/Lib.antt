@@ -21,4 +21,5 @@ mod Following
 mod Finishing
 mod Starting
 mod Making
+mod Touching
 pub mod Sizes

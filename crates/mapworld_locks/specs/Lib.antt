@@ -6,3 +6,5 @@ pub mod Moves
 pub mod Fits
 pub mod Steps
 pub mod Fresh
+pub mod Footprints
+pub mod Counts

@@ -2,6 +2,7 @@
 #![tactic(auto)]
 
 mod desks;
+pub mod laws;
 mod new_locks;
 mod shard_locks;
 

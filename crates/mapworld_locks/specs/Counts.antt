@@ -1,0 +1,29 @@
+-- What words, owners, queues and desks say of each other.
+use Rattle.std.specs.Prelude.{◌≡◌, ◌≢◌, ◌↔◌, ℕ, ◌/◌, ◌≤◌, Bool, true, count_by, Option, Some, slice_get}
+use Rattle.lock_api_desk.specs.declared.mode.Mode.TheVariants as held
+use Rattle.lock_api_desk.specs.Desk.{DeskState}
+use Rattle.lock_api_desk.specs.Guards.{holds}
+use Rattle.parking_lot_protocol.specs.RwTable.{is_written}
+use Rattle.parking_lot_world.specs.declared.calls.OwnMode.TheVariants as own
+use Rattle.parking_lot_world.specs.Rows.{State, lock_at, state, word_at}
+use Rattle.parking_lot_world.specs.SoundLaws.{ListsAreWaiters}
+use Rattle.parking_lot_world.specs.Worlds.{mode_in}
+use Rattle.mapworld_locks.specs.Fits.{LocksFit}
+use Rattle.mapworld_locks.specs.Views.{Shown}
+
+-- nobody waits as the next writer for the readers to leave
+abbrev pub NobodyIsPending : State → ℕ → Type 0
+NobodyIsPending s i = (t : ℕ) → mode_in (lock_at s i) t ≢ Some own.Pending
+
+-- As many shared guards as the word counts readers, and an exclusive one exactly where the writer bit is set and nobody is pending.
+pub record CountsAsWord (s : State) (i : ℕ) (desk : DeskState (Unit {0})) : Type 0 where
+  pub readers : count_by (holds held.Shared) desk.guards ≡ word_at s i / 16
+  pub one : count_by (holds held.Exclusive) desk.guards ≤ 1
+  pub writer : (count_by (holds held.Exclusive) desk.guards ≡ 1) ↔ ((is_written (word_at s i) ≡ true) × NobodyIsPending s i)
+
+abbrev pub DesksCountAsWords : Type 0
+DesksCountAsWords = (sh : Shown) → LocksFit sh → (i : ℕ) (desk : DeskState (Unit {0})) → slice_get sh.desks i ≡ Some desk → CountsAsWord (state sh.rows) i desk
+
+-- the queues of a shard's keys have exactly the threads that wait there, each once
+abbrev pub QueuesAreWaiters : Type 0
+QueuesAreWaiters = (sh : Shown) → LocksFit sh → ListsAreWaiters (state sh.rows)
