@@ -23,7 +23,7 @@ use Rattle.mapworld_state.specs.declared.place.Phase.{Phase}
 use Rattle.mapworld_state.specs.declared.place.Phase.TheVariants as phase
 use Rattle.mapworld_state.specs.declared.step.Step.{Step}
 use Rattle.mapworld_state.specs.Places.{Place}
-use Rattle.mapworld_state.specs.State.{State, next_step, pairs_of, started_of}
+use Rattle.mapworld_state.specs.State.{State, next_step, started_of}
 use Rattle.mapworld_state.specs.Moves.{CountsIn, CountsCall}
 use Rattle.mapworld_state.specs.Steps.{GrowsShard, IsStep, Enters, Leaves, EntersBy, start, lock, find, find_grows, find_refused, deed_appends, deed_applies, deed_views, deed_reads, deed_changes, deed_fills, downgrade, release, answers}
 use Rattle.mapworld_state.specs.Footprint.{KeepsPairs, OthersKeepPairs, KeepsLocks, word_of, neither, one_pair, one_lock, HasFootprint}

@@ -1,5 +1,5 @@
 -- Which calls are applied, and which need room.
-use Rattle.std.proofs.Common.{◌≡◌, Bool, Option, Some, None, is_some, slice_get, refl, sym, ap, ◌∙◌, subst}
+use Rattle.std.proofs.Common.{◌≡◌, Bool, Some, None, is_some, slice_get, sym, ap, ◌∙◌, subst}
 use Rattle.mapworld_calls.specs.declared.ask.Keyed.TheVariants as keyed
 use Rattle.mapworld_calls.specs.Pairs.{pair_of}
 use Rattle.mapworld_calls.specs.Setup.{Setup, Laws}

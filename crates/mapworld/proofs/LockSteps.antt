@@ -1,5 +1,5 @@
 -- What the steps of a lock reach: one word or one queue, of one shard.
-use Rattle.std.proofs.Common.{◌≡◌, ◌≢◌, ◌⊎◌, ℕ, zero, suc, ◌*◌, ◌+◌, inl, inr, Bool, true, false, cond, List, [], ◌∷◌, length, nat_lt, Option, Some, None, slice_get, slice_set, refl, sym, ap, ◌∙◌, subst, arith}
+use Rattle.std.proofs.Common.{◌≡◌, ◌≢◌, ℕ, zero, suc, ◌*◌, ◌+◌, inl, inr, Bool, true, false, cond, List, [], ◌∷◌, length, nat_lt, Option, Some, None, slice_get, slice_set, refl, sym, ap, ◌∙◌, subst, arith}
 use Rattle.std.specs.List.{All}
 use Rattle.std.specs.Option.{option_and_then, option_map_or}
 use Rattle.std.proofs.lemmas.Bool.{cases_eq}
@@ -13,11 +13,11 @@ use Rattle.parking_lot_world.specs.declared.open_call.Call.{Call}
 use Rattle.parking_lot_world.specs.declared.seat.Hold.{Hold}
 use Rattle.parking_lot_world.specs.declared.seat.Hold.TheVariants as hold
 use Rattle.parking_lot_world.specs.Beginnings.{holds_beside}
-use Rattle.parking_lot_world.specs.Machines.{Became, IsStepped, call_for, end_of}
+use Rattle.parking_lot_world.specs.Machines.{Became, call_for, end_of}
 use Rattle.parking_lot_world.specs.RowActs.{answered, begun, hears}
-use Rattle.parking_lot_world.specs.Rows.{State, call_at, first_key, hold_at, queue_at, second_key, state, word_at}
+use Rattle.parking_lot_world.specs.Rows.{State, first_key, hold_at, queue_at, second_key, state, word_at}
 use Rattle.parking_lot_world.specs.Stances.{core_act}
-use Rattle.mapworld_locks.specs.Fits.{DeskFits, IsPlain, LocksFit, is_single}
+use Rattle.mapworld_locks.specs.Fits.{IsPlain, LocksFit, is_single}
 use Rattle.mapworld_locks.specs.Footprints.{StepsTouchOneLock, TouchesOnly}
 use Rattle.mapworld_locks.specs.Seats.{seat_of}
 use Rattle.mapworld_locks.specs.Steps.{LockBegins, LockEnds, LockMoves, LockStarts}

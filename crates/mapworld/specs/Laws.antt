@@ -1,5 +1,5 @@
 -- Laws of a world's steps.
-use Rattle.std.specs.Prelude.{◌≡◌, Option, Some, None, slice_get}
+use Rattle.std.specs.Prelude.{◌≡◌, Some, None, slice_get}
 use Rattle.mapworld_calls.specs.declared.ask.Keyed.TheVariants as keyed
 use Rattle.mapworld_calls.specs.Pairs.{pair_of}
 use Rattle.mapworld_calls.specs.Setup.{Setup, Laws}
