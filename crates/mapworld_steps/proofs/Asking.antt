@@ -1,10 +1,8 @@
 -- What a thread may ask of a shard's lock: for the lock where it has no hold, and to give it up where it has one.
-use Rattle.std.proofs.Common.{◌≡◌, ℕ, ◌<◌, inl, inr, Bool, true, false, List, [], ◌∷◌, length, Option, Some, None, slice_get, refl, sym, ap, ◌∙◌, subst}
+use Rattle.std.proofs.Common.{◌≡◌, ℕ, ◌<◌, inl, inr, Bool, true, false, List, [], Option, Some, None, slice_get, refl, sym, ap, ◌∙◌, subst}
 use Rattle.std.proofs.lemmas.Option.{none-some}
 use Rattle.std.proofs.lemmas.Bool.{false≢true}
 use Rattle.dashmap_table.proofs.Cases.{option_cases}
-use Rattle.lock_api_desk.specs.declared.mode.Mode.{Mode as DeskMode}
-use Rattle.parking_lot_world.specs.Rows.{state}
 use Rattle.parking_lot_world.specs.Calls.{kind_of}
 use Rattle.parking_lot_world.specs.declared.calls.LockCall.TheVariants as call
 use Rattle.parking_lot_world.specs.declared.calls.LockKind.TheVariants as kind

@@ -1,7 +1,8 @@
 -- The slot of a place behind the start of a call: a call on the guard leaves it, and any other call starts without one.
-use Rattle.std.proofs.Common.{◌≡◌, ℕ, zero, suc, ◌+◌, true, if◌then◌else◌, List, [], ◌∷◌, drop, Option, Some, None, is_some, slice_get, slice_set, refl, sym, ap, ◌∙◌, subst}
+use Rattle.std.proofs.Common.{◌≡◌, ℕ, zero, suc, ◌+◌, ◌<◌, Bool, true, false, if◌then◌else◌, List, [], ◌∷◌, length, drop, Option, Some, None, is_some, slice_get, slice_set, refl, sym, ap, ◌∙◌, subst}
 use Rattle.std.specs.Option.{option_and_then}
 use Rattle.std.proofs.lemmas.Option.{none-some}
+use Rattle.std.proofs.lemmas.Bool.{false≢true}
 use Rattle.mapworld_calls.specs.declared.ask.Ask.{Ask}
 use Rattle.mapworld_calls.specs.declared.ask.Ask.TheVariants as ask
 use Rattle.mapworld_calls.specs.declared.ask.Held.{Held}
@@ -14,6 +15,8 @@ use Rattle.mapworld_state.specs.declared.place.Way.{Way}
 use Rattle.mapworld_state.specs.declared.place.Way.TheVariants as way
 use Rattle.mapworld_state.specs.declared.place.Guard.{Guard}
 use Rattle.mapworld_state.specs.declared.place.Guard.TheVariants as guard
+use Rattle.mapworld_state.specs.declared.place.Request.{Request}
+use Rattle.mapworld_state.specs.declared.place.Phase.{Phase}
 use Rattle.mapworld_state.specs.declared.place.Phase.TheVariants as phase
 use Rattle.mapworld_state.specs.declared.place.Place.{Place as KeptPlace}
 use Rattle.mapworld_state.specs.declared.world_core.Core.{Core}
@@ -26,6 +29,22 @@ use Rattle.mapworld_state.specs.Core.{state_of}
 use Rattle.mapworld_state.proofs.Views.{view-at}
 use Rattle.mapworld_moves.proofs.Facts.{claim_at}
 use Rattle.mapworld_moves.proofs.Slots.{KeepsCalls, slot-free, slots-same, slots-kept}
+
+-- a thread is to be admitted to its shard
+abbrev waits : {K V D T : Type 0} → Phase K V D T → Bool
+waits phase.Rest = false
+waits (phase.Admit r) = true
+waits (phase.Find r) = false
+waits (phase.Grow c) = false
+waits (phase.Append k v) = false
+waits (phase.Apply k) = false
+waits (phase.View k d) = false
+waits (phase.Read d) = false
+waits (phase.Change h) = false
+waits (phase.Fill v) = false
+waits phase.Downgrade = false
+waits (phase.Release a) = false
+waits (phase.Answer a) = false
 
 module _ {K V D : Type 0} where
   vacant-lends : (h : Held V D) (k : K) (kind : Way K) → lent_way (held_guard (Some (guard.Vacant k)) h) ≡ Some kind → ⊥
@@ -47,48 +66,48 @@ module _ {K V D : Type 0} where
   held-lends h (Some (guard.Vacant k)) kind e = absurd (vacant-lends h k kind e)
 
   -- and its call looks for no pair
-  held-free : (T : Type 0) (h : Held V D) (g : Option (Guard K)) → phase_key (held_phase {K = K} {V = V} {D = D} {T = T} g h) ≡ None
-  held-free T h None = refl
-  held-free T (held.Read d) (Some (guard.Pair way.Shared)) = refl
-  held-free T (held.Write d) (Some (guard.Pair way.Shared)) = refl
-  held-free T held.Downgrade (Some (guard.Pair way.Shared)) = refl
-  held-free T (held.Insert v) (Some (guard.Pair way.Shared)) = refl
-  held-free T held.IntoRef (Some (guard.Pair way.Shared)) = refl
-  held-free T held.Remove (Some (guard.Pair way.Shared)) = refl
-  held-free T held.RemoveEntry (Some (guard.Pair way.Shared)) = refl
-  held-free T (held.ReplaceEntry v) (Some (guard.Pair way.Shared)) = refl
-  held-free T held.IntoKey (Some (guard.Pair way.Shared)) = refl
-  held-free T held.Drop (Some (guard.Pair way.Shared)) = refl
-  held-free T (held.Read d) (Some (guard.Pair way.Exclusive)) = refl
-  held-free T (held.Write d) (Some (guard.Pair way.Exclusive)) = refl
-  held-free T held.Downgrade (Some (guard.Pair way.Exclusive)) = refl
-  held-free T (held.Insert v) (Some (guard.Pair way.Exclusive)) = refl
-  held-free T held.IntoRef (Some (guard.Pair way.Exclusive)) = refl
-  held-free T held.Remove (Some (guard.Pair way.Exclusive)) = refl
-  held-free T held.RemoveEntry (Some (guard.Pair way.Exclusive)) = refl
-  held-free T (held.ReplaceEntry v) (Some (guard.Pair way.Exclusive)) = refl
-  held-free T held.IntoKey (Some (guard.Pair way.Exclusive)) = refl
-  held-free T held.Drop (Some (guard.Pair way.Exclusive)) = refl
-  held-free T (held.Read d) (Some (guard.Pair (way.Occupied k))) = refl
-  held-free T (held.Write d) (Some (guard.Pair (way.Occupied k))) = refl
-  held-free T held.Downgrade (Some (guard.Pair (way.Occupied k))) = refl
-  held-free T (held.Insert v) (Some (guard.Pair (way.Occupied k))) = refl
-  held-free T held.IntoRef (Some (guard.Pair (way.Occupied k))) = refl
-  held-free T held.Remove (Some (guard.Pair (way.Occupied k))) = refl
-  held-free T held.RemoveEntry (Some (guard.Pair (way.Occupied k))) = refl
-  held-free T (held.ReplaceEntry v) (Some (guard.Pair (way.Occupied k))) = refl
-  held-free T held.IntoKey (Some (guard.Pair (way.Occupied k))) = refl
-  held-free T held.Drop (Some (guard.Pair (way.Occupied k))) = refl
-  held-free T (held.Read d) (Some (guard.Vacant k)) = refl
-  held-free T (held.Write d) (Some (guard.Vacant k)) = refl
-  held-free T held.Downgrade (Some (guard.Vacant k)) = refl
-  held-free T (held.Insert v) (Some (guard.Vacant k)) = refl
-  held-free T held.IntoRef (Some (guard.Vacant k)) = refl
-  held-free T held.Remove (Some (guard.Vacant k)) = refl
-  held-free T held.RemoveEntry (Some (guard.Vacant k)) = refl
-  held-free T (held.ReplaceEntry v) (Some (guard.Vacant k)) = refl
-  held-free T held.IntoKey (Some (guard.Vacant k)) = refl
-  held-free T held.Drop (Some (guard.Vacant k)) = refl
+  held-free : (T : Type 0) (h : Held V D) (g : Option (Guard K)) → (phase_key (held_phase {K = K} {V = V} {D = D} {T = T} g h) ≡ None) × (waits (held_phase {K = K} {V = V} {D = D} {T = T} g h) ≡ false)
+  held-free T h None = (refl, refl)
+  held-free T (held.Read d) (Some (guard.Pair way.Shared)) = (refl, refl)
+  held-free T (held.Write d) (Some (guard.Pair way.Shared)) = (refl, refl)
+  held-free T held.Downgrade (Some (guard.Pair way.Shared)) = (refl, refl)
+  held-free T (held.Insert v) (Some (guard.Pair way.Shared)) = (refl, refl)
+  held-free T held.IntoRef (Some (guard.Pair way.Shared)) = (refl, refl)
+  held-free T held.Remove (Some (guard.Pair way.Shared)) = (refl, refl)
+  held-free T held.RemoveEntry (Some (guard.Pair way.Shared)) = (refl, refl)
+  held-free T (held.ReplaceEntry v) (Some (guard.Pair way.Shared)) = (refl, refl)
+  held-free T held.IntoKey (Some (guard.Pair way.Shared)) = (refl, refl)
+  held-free T held.Drop (Some (guard.Pair way.Shared)) = (refl, refl)
+  held-free T (held.Read d) (Some (guard.Pair way.Exclusive)) = (refl, refl)
+  held-free T (held.Write d) (Some (guard.Pair way.Exclusive)) = (refl, refl)
+  held-free T held.Downgrade (Some (guard.Pair way.Exclusive)) = (refl, refl)
+  held-free T (held.Insert v) (Some (guard.Pair way.Exclusive)) = (refl, refl)
+  held-free T held.IntoRef (Some (guard.Pair way.Exclusive)) = (refl, refl)
+  held-free T held.Remove (Some (guard.Pair way.Exclusive)) = (refl, refl)
+  held-free T held.RemoveEntry (Some (guard.Pair way.Exclusive)) = (refl, refl)
+  held-free T (held.ReplaceEntry v) (Some (guard.Pair way.Exclusive)) = (refl, refl)
+  held-free T held.IntoKey (Some (guard.Pair way.Exclusive)) = (refl, refl)
+  held-free T held.Drop (Some (guard.Pair way.Exclusive)) = (refl, refl)
+  held-free T (held.Read d) (Some (guard.Pair (way.Occupied k))) = (refl, refl)
+  held-free T (held.Write d) (Some (guard.Pair (way.Occupied k))) = (refl, refl)
+  held-free T held.Downgrade (Some (guard.Pair (way.Occupied k))) = (refl, refl)
+  held-free T (held.Insert v) (Some (guard.Pair (way.Occupied k))) = (refl, refl)
+  held-free T held.IntoRef (Some (guard.Pair (way.Occupied k))) = (refl, refl)
+  held-free T held.Remove (Some (guard.Pair (way.Occupied k))) = (refl, refl)
+  held-free T held.RemoveEntry (Some (guard.Pair (way.Occupied k))) = (refl, refl)
+  held-free T (held.ReplaceEntry v) (Some (guard.Pair (way.Occupied k))) = (refl, refl)
+  held-free T held.IntoKey (Some (guard.Pair (way.Occupied k))) = (refl, refl)
+  held-free T held.Drop (Some (guard.Pair (way.Occupied k))) = (refl, refl)
+  held-free T (held.Read d) (Some (guard.Vacant k)) = (refl, refl)
+  held-free T (held.Write d) (Some (guard.Vacant k)) = (refl, refl)
+  held-free T held.Downgrade (Some (guard.Vacant k)) = (refl, refl)
+  held-free T (held.Insert v) (Some (guard.Vacant k)) = (refl, refl)
+  held-free T held.IntoRef (Some (guard.Vacant k)) = (refl, refl)
+  held-free T held.Remove (Some (guard.Vacant k)) = (refl, refl)
+  held-free T held.RemoveEntry (Some (guard.Vacant k)) = (refl, refl)
+  held-free T (held.ReplaceEntry v) (Some (guard.Vacant k)) = (refl, refl)
+  held-free T held.IntoKey (Some (guard.Vacant k)) = (refl, refl)
+  held-free T held.Drop (Some (guard.Vacant k)) = (refl, refl)
 
 drop-first : {X : Type 0} (xs : List X) (n : ℕ) (x : X) (rest : List X) → drop n xs ≡ x ∷ rest → slice_get xs n ≡ Some x
 drop-first xs zero x rest is = ap (λ zs. slice_get zs 0) is
@@ -132,4 +151,14 @@ module _ {K V S D T A : Type 0} (x : Setup K V D T) (hash : K → ℕ) (c : Core
       let st = sound.stands t (place_of p) (view-at place_of c.places.items t p here) in
       apart (unguarded (session-none (one_guard_begin_apart st.program (sound.guarded t st.program st.has) p.next b (first (ask.Begin b) asks)))) lends (ap phase_key goes)
   started-slots (ask.Held h) asks lends goes block slot shard =
-      slots-kept x hash c sound slots t p p' here bs' calls (λ kind e. held-lends h p.guard kind (sym (ap lent_way lends) ∙ e)) (λ i e. sym block ∙ e) (ap phase_key goes ∙ held-free T h p.guard) shard slot
+      slots-kept x hash c sound slots t p p' here bs' calls (λ kind e. held-lends h p.guard kind (sym (ap lent_way lends) ∙ e)) (λ i e. sym block ∙ e) (ap phase_key goes ∙ (held-free T h p.guard).0) shard slot
+
+  -- a call that is to be admitted starts without a guard, and its shard is there
+  pub started-enters : (a : Ask K V D) → p.asks.items ≡ a ∷ rest → (r : Request K V D) → start_phase {T = T} a p.guard ≡ phase.Admit r → (p.guard ≡ None) × (start_shard x.route a p.shard < length (state_of c).tables)
+  started-enters (ask.Keyed k) asks r admits =
+      let st = sound.stands t (place_of p) (view-at place_of c.places.items t p here) in
+      (unguarded (session-none (one_guard_apart st.program (sound.guarded t st.program st.has) p.next k (first (ask.Keyed k) asks))), sound.routes _)
+  started-enters (ask.Begin b) asks r admits =
+      let st = sound.stands t (place_of p) (view-at place_of c.places.items t p here) in
+      (unguarded (session-none (one_guard_begin_apart st.program (sound.guarded t st.program st.has) p.next b (first (ask.Begin b) asks))), sound.routes _)
+  started-enters (ask.Held h) asks r admits = absurd (false≢true (sym (held-free T h p.guard).1 ∙ ap waits admits))

@@ -9,10 +9,10 @@ ghost use Rattle.mapworld_state.specs.Steps.{Downgrades, Releases, Answers};
 use arrayvec::ArrayVec;
 use mapworld_calls::{Answer, Deed, Reply};
 use mapworld_moves::blocks::{count_in, end_block};
-use parking_lot_world::LockCall;
 use mapworld_moves::holds::gives_up;
 use mapworld_moves::moves::{enter, release_counts};
 use mapworld_state::{Core, Guard, Hold, Mode, Phase, Place, Step, Way};
+use parking_lot_world::LockCall;
 use std::alloc::Allocator;
 use std::hash::{BuildHasher, Hash};
 use std::mem;
@@ -75,7 +75,8 @@ pub(crate) fn downgrade<
     let hold = share_first(&mut place.holds);
     place.guard = Some(Guard::Pair(Way::Shared));
     enter(&mut place.phase, Phase::Answer(Answer::Held));
-    core.locks.start(step.thread, hold.shard, LockCall::Downgrade, step.fair);
+    core.locks
+        .start(step.thread, hold.shard, LockCall::Downgrade, step.fair);
     count_in(&mut core.blocks, place.block, place.next);
     core.count += 1;
     core.steps = core.steps.appended(&step);

@@ -34,7 +34,9 @@ fn go_on<K: Eq + Hash + Drop, V: Drop, S: BuildHasher, D: Deed<K, V> + Drop, A: 
     ensures slots { IsSlotted D.Deed S.BuildHasher S.Hasher.Hasher K.eq K.hash_input core.new }
 {
     match &core.places[step.thread].phase {
-        Phase::Rest | Phase::Admit(_) | Phase::Answer(_) => unreachable!(),
+        Phase::Rest => unreachable!(),
+        Phase::Admit(_) => unreachable!(),
+        Phase::Answer(_) => unreachable!(),
         Phase::Find(_) => find(core, step),
         Phase::Grow(_) => grow(core, step),
         Phase::Append(_, _) => append(core, step),

@@ -1,27 +1,45 @@
-use Rattle.std.proofs.Common.{◌≡◌, ◌<◌, ◌==◌, length, false, refl, sym, ap, ◌∙◌, subst}
-use Rattle.std.proofs.lemmas.Option.{slice_get_read, same_Some}
+use Rattle.std.proofs.Common.{refl, sym, ◌∙◌}
 use Rattle.mapworld_state.specs.declared.place.Phase.TheVariants as phase
-use Rattle.mapworld_state.specs.Places.{Place, place_of}
-use Rattle.mapworld_state.proofs.Views.{view-at}
+use Rattle.mapworld_state.specs.Core.{state_of}
 use Rattle.mapworld_steps.proofs.Kept.{is_before, phase_here}
-use Rattle.mapworld_steps.proofs.Running.{some_left}
+use Rattle.mapworld_sound.proofs.Holding.{stand-at}
+use Rattle.mapworld_steps.proofs.Running.{has-calls, goes-on, can-move, same-phase}
 use Rattle.mapworld_steps.proofs.one_step.advance.Goals as goal
 
 pub start-requires-clause-before : goal.start-requires-clause-before
-start-requires-clause-before g c = is_before c.args.core.now.places.items c.args.step.thread c.index-place.result.now phase.Rest c.requires.thread c.index-place.ensures c.in-Rest.is
+start-requires-clause-before g c = is_before c.args.core.now.places.items c.args.step.thread c.index.result.now phase.Rest c.requires.thread c.index.ensures c.in-Rest.is
 
 pub start-requires-clause-left : goal.start-requires-clause-left
 start-requires-clause-left g c p at =
     let places = c.args.core.now.places.items in
-    let r = c.index-place.result.now in
-    let here = view-at place_of places c.args.step.thread r (slice_get_read places (length places) c.args.step.thread r refl c.requires.thread c.index-place.ensures) in
-    let same = same_Some (place_of r) p (sym here ∙ at) in
-    let some : (length r.asks.items == 0) ≡ false = ap (λ n. n == 0) (sym r.asks.ok.0) ∙ sym c.is_empty.ensures ∙ c.if-is_empty.false in
-    subst (λ (q : Place g.row.K.Denot g.row.V.Denot g.row.D.Denot g.row.D-Answer.Denot). 0 < length q.asks) same (some_left (length r.asks.items) some)
+    let b = is_before places c.args.step.thread c.index.result.now phase.Rest c.requires.thread c.index.ensures c.in-Rest.is in
+    let rest = same-phase (state_of c.args.core.now).places c.args.step.thread phase.Rest b p at in
+    has-calls (state_of c.args.core.now) c.args.step.thread p at (sym c.can_move.ensures ∙ c.if-not-can_move.false) rest
 
 pub admit-requires-clause-before : goal.admit-requires-clause-before
 admit-requires-clause-before g c =
-    (c.in-Admit.field-0, is_before c.args.core.now.places.items c.args.step.thread c.index-place.result.now (phase.Admit c.in-Admit.field-0) c.requires.thread c.index-place.ensures c.in-Admit.is)
+    (c.in-Admit.field-0, is_before c.args.core.now.places.items c.args.step.thread c.index.result.now (phase.Admit c.in-Admit.field-0) c.requires.thread c.index.ensures c.in-Admit.is)
+
+pub admit-requires-clause-moves : goal.admit-requires-clause-moves
+admit-requires-clause-moves g c =
+    let w = state_of c.args.core.now in
+    let t = c.args.step.thread in
+    let f = phase.Admit c.in-Admit.field-0 in
+    let b = is_before c.args.core.now.places.items t c.index.result.now f c.requires.thread c.index.ensures c.in-Admit.is in
+    can-move w.locks t _ (stand-at w.places w.locks c.requires.sound.holds t b.place b.stands f b.before)
+    (goes-on w t b.place b.stands (sym c.can_move.ensures ∙ c.if-not-can_move.false) f b.before (λ left. refl))
+
+pub finish-requires-clause-before : goal.finish-requires-clause-before
+finish-requires-clause-before g c =
+    (c.in-Answer.field-0, is_before c.args.core.now.places.items c.args.step.thread c.index.result.now (phase.Answer c.in-Answer.field-0) c.requires.thread c.index.ensures c.in-Answer.is)
+
+pub finish-requires-clause-moves : goal.finish-requires-clause-moves
+finish-requires-clause-moves g c =
+    let w = state_of c.args.core.now in
+    let t = c.args.step.thread in
+    let f = phase.Answer c.in-Answer.field-0 in
+    let b = is_before c.args.core.now.places.items t c.index.result.now f c.requires.thread c.index.ensures c.in-Answer.is in
+    goes-on w t b.place b.stands (sym c.can_move.ensures ∙ c.if-not-can_move.false) f b.before (λ left. refl)
 
 pub go_on-requires : goal.go_on-requires
 go_on-requires g c =
@@ -31,6 +49,7 @@ go_on-requires g c =
       slots = c.requires.slots;
       numbers = c.requires.numbers;
       thread = c.requires.thread;
-      begun = λ b. c.in_default.not-Rest (phase_here c.args.core.now.places.items b c.index-place.result.now c.index-place.ensures);
-      admitted = λ request b. c.in_default.not-Admit request (phase_here c.args.core.now.places.items b c.index-place.result.now c.index-place.ensures);
+      begun = λ b. c.in_default.not-Rest (phase_here c.args.core.now.places.items b c.index.result.now c.index.ensures);
+      admitted = λ request b. c.in_default.not-Admit request (phase_here c.args.core.now.places.items b c.index.result.now c.index.ensures);
+      owing = λ answer b. c.in_default.not-Answer answer (phase_here c.args.core.now.places.items b c.index.result.now c.index.ensures);
     }

@@ -1,4 +1,7 @@
+use Rattle.std.proofs.Common.{inl, refl}
 use Rattle.mapworld_state.specs.declared.place.Phase.TheVariants as phase
+use Rattle.mapworld_state.specs.Core.{state_of}
+use Rattle.mapworld_state.specs.Steps.{find, deed_fills}
 use Rattle.mapworld_steps.proofs.Kept.{is_before}
 use Rattle.mapworld_steps.proofs.one_step.go_on.Goals as goal
 
@@ -42,9 +45,9 @@ pub release-requires-clause-before : goal.release-requires-clause-before
 release-requires-clause-before g c =
     (c.in-Release.field-0, is_before c.args.core.now.places.items c.args.step.thread c.index.result.now (phase.Release c.in-Release.field-0) c.requires.thread c.index.ensures c.in-Release.is)
 
-pub answer-requires-clause-before : goal.answer-requires-clause-before
-answer-requires-clause-before g c =
-    (c.in-Answer.field-0, is_before c.args.core.now.places.items c.args.step.thread c.index.result.now (phase.Answer c.in-Answer.field-0) c.requires.thread c.index.ensures c.in-Answer.is)
+pub unreachable-requires-in-Answer : goal.unreachable-requires-in-Answer
+unreachable-requires-in-Answer g c =
+    c.requires.owing c.in-Answer.field-0 (is_before c.args.core.now.places.items c.args.step.thread c.index.result.now (phase.Answer c.in-Answer.field-0) c.requires.thread c.index.ensures c.in-Answer.is)
 
 pub view-requires-clause-before : goal.view-requires-clause-before
 view-requires-clause-before g c =
@@ -52,3 +55,9 @@ view-requires-clause-before g c =
 
 pub downgrade-requires-clause-before : goal.downgrade-requires-clause-before
 downgrade-requires-clause-before g c = is_before c.args.core.now.places.items c.args.step.thread c.index.result.now phase.Downgrade c.requires.thread c.index.ensures c.in-Downgrade.is
+
+pub returns-in-Find-clause-step : goal.returns-in-Find-clause-step
+returns-in-Find-clause-step g c = find (record { mid = state_of c.args.core.now; enters = inl refl; finds = c.find.ensures.step })
+
+pub returns-in-Fill-clause-step : goal.returns-in-Fill-clause-step
+returns-in-Fill-clause-step g c = deed_fills c.fill.ensures.step

@@ -1,4 +1,4 @@
-use Rattle.std.proofs.Common.{◌+◌, length, ◌++◌, ◌∷◌, [], refl, sym, ap, ap₂, ◌∙◌, arith, length-append}
+use Rattle.std.proofs.Common.{length, refl, sym, ap, ap₂, arith, length-append}
 use Rattle.mapworld_locks.proofs.Sizes.{moves-size}
 use Rattle.mapworld_state.specs.Core.{state_of}
 use Rattle.mapworld_moves.proofs.Rooms.{shifted}

@@ -1,16 +1,17 @@
 use Rattle.std.proofs.Common.{◌+◌, length, Some, refl, sym, ap, ◌∙◌, arith, length-append}
 use Rattle.mapworld_state.specs.Core.{owes, lists, adds}
 use Rattle.std.proofs.lemmas.List.{map-set, length-map}
+use Rattle.std.proofs.lemmas.Option.{slice_get_within}
+use Rattle.mapworld_state.specs.declared.place.Phase.TheVariants as phase
 use Rattle.mapworld_state.specs.Shards.{shard_pairs}
-use Rattle.mapworld_locks.proofs.Sizes.{same_size}
 use Rattle.mapworld_moves.proofs.Rooms.{shifted}
 use Rattle.mapworld_state.specs.Places.{place_of}
 use Rattle.mapworld_moves.proofs.Facts.{claim_at, next_fits, session_counts, stepped-by}
 use Rattle.mapworld_steps.proofs.Kept.{kept_here, stands_here, phase_here}
-use Rattle.mapworld_steps.proofs.Starting.{started-slots}
-use Rattle.mapworld_steps.proofs.Asking.{enters-size}
-use Rattle.mapworld_state.specs.Moves.{start_guard, start_phase}
-use Rattle.mapworld_moves.proofs.Slots.{calls-counted}
+use Rattle.mapworld_steps.proofs.Starting.{started-slots, started-enters}
+use Rattle.mapworld_steps.proofs.Asking.{may-enter, out-of-call, enters-size}
+use Rattle.mapworld_state.specs.Moves.{mode_of, start_guard, start_phase}
+use Rattle.mapworld_moves.proofs.Slots.{calls-same, calls-counted}
 use Rattle.mapworld_state.proofs.Owning.{starts-own}
 use Rattle.mapworld_moves.proofs.Weights.{started_weighs}
 use Rattle.mapworld_steps.proofs.starts.start.Goals as goal
@@ -96,3 +97,21 @@ returns-clause-slots g c =
     (ap (λ z. z.1) c.start_call-phase.ensures ∙ ap (start_guard c.in-Some.ask) c.replace.ensures.value)
     (c.enter.ensures ∙ (ap (λ z. z.0) c.start_call-phase.ensures ∙ ap (start_phase c.in-Some.ask) c.replace.ensures.value)) refl refl
     (rw (c.start_shard-place.ensures, c.len-shards.ensures, c.args.core.now.tables.ok.0, sym (length-map core.tables.items shard_pairs)) refl)
+
+pub ask_for_shard-requires : goal.ask_for_shard-requires
+ask_for_shard-requires g c =
+    let core = c.args.core.now in
+    let t = c.args.step.thread in
+    let r = c.index_mut-place.result.now in
+    let p = place_of r in
+    let here = stands_here core.places.items c.requires.before r c.index_mut-place.ensures.value in
+    let before = phase_here core.places.items c.requires.before r c.index_mut-place.ensures.value in
+    let claim = claim_at c.requires.sound t p here before in
+    let starts = ap (λ z. z.0) c.start_call-phase.ensures ∙ ap (start_phase c.in-Some.ask) c.replace.ensures.value in
+    let shards = sym (length-map core.tables.items shard_pairs) in
+    record {
+      may = λ request is.
+          let enters = started-enters _ _ core c.requires.sound c.requires.slots t r r (kept_here core.places.items c.requires.before r c.index_mut-place.ensures.value) before core.blocks.items (calls-same _ _ refl) c.pop_front.new.self.items c.in-Some.ask c.in-Some.ensures.items request (sym starts ∙ is) in
+          may-enter c.requires.sound.holds _ _ c.requires.room.locks t p here (slice_get_within _ t p here) (out-of-call c.requires.sound.holds t p here phase.Rest before refl) (claim.1 enters.0) c.start_shard-place.result
+          (rw (c.start_shard-place.ensures, c.len-shards.ensures, core.tables.ok.0, shards) enters.1) (mode_of request);
+    }
