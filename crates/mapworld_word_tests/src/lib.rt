@@ -4,6 +4,8 @@
 #[cfg(test)]
 mod fairness;
 #[cfg(test)]
+mod schedules;
+#[cfg(test)]
 mod scripts;
 #[cfg(test)]
 mod sections;
