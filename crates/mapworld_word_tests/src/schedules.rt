@@ -1,6 +1,7 @@
 //! All schedules of two threads of a world, each to its end.
 
 mod explorer;
+mod known;
 mod look;
 mod plain;
 mod progress;
@@ -20,7 +21,8 @@ pub struct Two<'a> {
     pub programs: [&'a [Call]; 2],
 }
 
-/// Makes all schedules of two programs, and answers what was found.
+/// Makes all schedules of two programs, and answers how many states there are. Were there fewer than before, different ones might have been
+/// taken for one.
 fn explore(rt: &(impl AllocGlobal + Abort), two: Two<'_>, waits: bool) -> Result<u64, Fail> {
     let found: Found = Explorer::explore(rt, two)?;
     assert!(rt; found.waited == waits, "{:?}: somebody waits", two.programs);
@@ -37,33 +39,6 @@ fn the_tests_know_the_shards(rt: HostRuntime) -> Result<(), Fail> {
     Ok(())
 }
 
-/// Makes all schedules of each two of these programs on one shard, and of each with itself.
-fn explore_all(rt: &(impl AllocGlobal + Abort), programs: &[&[Call]]) -> Result<u64, Fail> {
-    let mut states = 0u64;
-    for (i, first) in programs.iter().enumerate() {
-        states = states.saturating_add(explore_with(rt, first, &programs[i..])?);
-    }
-    Ok(states)
-}
-
-/// The same of one program with each of those.
-fn explore_with(
-    rt: &(impl AllocGlobal + Abort),
-    first: &[Call],
-    others: &[&[Call]],
-) -> Result<u64, Fail> {
-    let mut states = 0u64;
-    for second in others {
-        let two = Two {
-            pairs: &[(1, 5)],
-            programs: [first, second],
-        };
-        let waits = writes(first) || writes(second);
-        states = states.saturating_add(explore(rt, two, waits)?);
-    }
-    Ok(states)
-}
-
 /// Whether a call of the program wants its shard alone.
 fn writes(program: &[Call]) -> bool {
     program
@@ -71,27 +46,57 @@ fn writes(program: &[Call]) -> bool {
         .any(|call| matches!(call, Insert(..) | Remove(_) | GetMut(_)))
 }
 
+/// Makes all schedules of two programs whose keys are all on one shard: somebody waits there, but where both only read.
+fn explore_one_shard(rt: &(impl AllocGlobal + Abort), programs: [&[Call]; 2]) -> Result<u64, Fail> {
+    let two = Two {
+        pairs: &[(1, 5)],
+        programs,
+    };
+    explore(rt, two, writes(programs[0]) || writes(programs[1]))
+}
+
 #[test]
-fn every_schedule_of_calls_on_one_shard_keeps_the_rules(rt: HostRuntime) -> Result<(), Fail> {
-    let programs: [&[Call]; 3] = [
-        &[Insert(1, 6), Remove(1)],
-        &[Look(1), Insert(3, 7)],
-        &[Has(1), Look(3)],
-    ];
-    let states = explore_all(&rt, &programs)?;
-    assert!(rt; states >= 1_000, "{states} states");
+fn every_schedule_of_readers_keeps_the_rules(rt: HostRuntime) -> Result<(), Fail> {
+    let states = explore_one_shard(&rt, [&[Look(1), Has(3)], &[Has(1), Look(3)]])?;
+    assert!(rt; states >= 300, "{states} states");
     Ok(())
 }
 
 #[test]
-fn every_schedule_of_guards_on_one_shard_keeps_the_rules(rt: HostRuntime) -> Result<(), Fail> {
-    let programs: [&[Call]; 3] = [
-        &[Get(1), Leave],
-        &[GetMut(1), Leave],
-        &[GetMut(1), Share, Leave],
-    ];
-    let states = explore_all(&rt, &programs)?;
-    assert!(rt; states >= 1_000, "{states} states");
+fn every_schedule_of_a_reader_and_a_writer_keeps_the_rules(rt: HostRuntime) -> Result<(), Fail> {
+    let states = explore_one_shard(&rt, [&[Look(1), Has(3)], &[Insert(3, 7), Remove(1)]])?;
+    assert!(rt; states >= 4_000, "{states} states");
+    Ok(())
+}
+
+#[test]
+fn every_schedule_of_two_writers_keeps_the_rules(rt: HostRuntime) -> Result<(), Fail> {
+    let states = explore_one_shard(
+        &rt,
+        [&[Insert(1, 6), Remove(1)], &[Remove(1), Insert(1, 7)]],
+    )?;
+    assert!(rt; states >= 3_000, "{states} states");
+    Ok(())
+}
+
+#[test]
+fn every_schedule_of_guards_keeps_the_rules(rt: HostRuntime) -> Result<(), Fail> {
+    let alone: &[Call] = &[GetMut(1), Leave];
+    let states = explore_one_shard(&rt, [alone, alone])?
+        .saturating_add(explore_one_shard(&rt, [alone, &[Get(1), Leave]])?)
+        .saturating_add(explore_one_shard(&rt, [alone, &[Get(3), Leave]])?);
+    assert!(rt; states >= 1_500, "{states} states");
+    Ok(())
+}
+
+#[test]
+fn every_schedule_of_a_guard_that_is_shared_keeps_the_rules(rt: HostRuntime) -> Result<(), Fail> {
+    let shared: &[Call] = &[GetMut(1), Share, Leave];
+    let states = explore_one_shard(&rt, [shared, &[Look(1)]])?.saturating_add(explore_one_shard(
+        &rt,
+        [shared, &[Insert(1, 6)]],
+    )?);
+    assert!(rt; states >= 1_500, "{states} states");
     Ok(())
 }
 
@@ -106,6 +111,6 @@ fn every_schedule_of_calls_on_two_shards_keeps_the_rules(rt: HostRuntime) -> Res
         programs: [&[Insert(1, 6), Remove(2)], &[Insert(2, 7), Look(1)]],
     };
     let states = explore(&rt, apart, false)?.saturating_add(explore(&rt, crossed, true)?);
-    assert!(rt; states >= 1_000, "{states} states");
+    assert!(rt; states >= 3_000, "{states} states");
     Ok(())
 }

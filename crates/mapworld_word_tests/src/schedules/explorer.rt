@@ -2,9 +2,10 @@
 
 use super::super::worlds::{Call, World, world_of};
 use super::Two;
+use super::known::{Key, Known};
 use super::look::Look;
 use super::progress::{Progress, Seen, key_of};
-use super::rules::{broken_by_state, is_finished};
+use super::rules::{broken_by_state, can_move, is_finished};
 use mapworld::{RunFault, Step};
 use parking_lot_protocol::{Act, SectionAct};
 use std::process::Abort;
@@ -13,7 +14,7 @@ use std::test::Fail;
 /// More steps than any two programs of the tests make.
 const MOST_STEPS: u32 = 400;
 
-/// A world behind a schedule, as far as it can be told from others: how far its threads are, and what it shows.
+/// A world behind a schedule: how far its threads are, and what it shows.
 #[derive(Drop)]
 struct State {
     schedule: Vec<Step>,
@@ -24,7 +25,7 @@ struct State {
 /// What is found on the way through all schedules.
 #[derive(Drop)]
 pub struct Found {
-    /// How many states there are. One that is reached by several numbers of steps counts for each.
+    /// How many states there are.
     pub states: u64,
     /// How many of them are ends.
     pub ends: u64,
@@ -37,6 +38,7 @@ pub struct Found {
 pub struct Explorer<'r, 'p, R> {
     rt: &'r R,
     two: Two<'p>,
+    known: Known,
     found: Found,
 }
 
@@ -48,14 +50,20 @@ impl<'r, 'p, R: AllocGlobal + Abort> Explorer<'r, 'p, R> {
             ends: 0,
             waited: false,
         };
-        let mut explorer = Explorer { rt, two, found };
+        let known = Known::new(rt.alloc())?;
+        let mut explorer = Explorer {
+            rt,
+            two,
+            known,
+            found,
+        };
         explorer.make_all()?;
         Ok(explorer.found)
     }
 
     /// Goes from the states that so many steps lead to on to those of one step more, until there are none.
     fn make_all(&mut self) -> Result<(), Fail> {
-        let mut states = vec![in self.rt.alloc(); self.first()?]?;
+        let mut states = self.first()?;
         for _ in 0..MOST_STEPS {
             if states.is_empty() {
                 return Ok(());
@@ -65,15 +73,13 @@ impl<'r, 'p, R: AllocGlobal + Abort> Explorer<'r, 'p, R> {
         panic!(self.rt; "{:?} go on behind {MOST_STEPS} steps", self.two.programs)
     }
 
-    /// Before the first step.
-    fn first(&self) -> Result<State, Fail> {
+    /// The state before the first step.
+    fn first(&mut self) -> Result<Vec<State>, Fail> {
+        let mut states = Vec::new(self.rt.alloc());
         let schedule = Vec::new(self.rt.alloc());
-        let world = self.world_behind(&schedule)?;
-        Ok(State {
-            schedule,
-            threads: [Progress::FIRST, Progress::FIRST],
-            look: Look::of(self.rt.alloc(), &world)?,
-        })
+        let mut world = self.world_behind(&schedule)?;
+        self.look_at(&mut world, schedule, [Progress::FIRST; 2], &mut states)?;
+        Ok(states)
     }
 
     /// A world behind a schedule.
@@ -93,19 +99,74 @@ impl<'r, 'p, R: AllocGlobal + Abort> Explorer<'r, 'p, R> {
         Ok(next)
     }
 
-    /// Looks at a state, and adds those that one step leads to.
+    /// Adds the states that one step leads to from this one.
     fn visit(&mut self, state: &State, next: &mut Vec<State>) -> Result<(), Fail> {
-        let world = self.world_behind(&state.schedule)?;
-        let broken = broken_by_state(&world, &state.look, self.two, state.threads);
-        self.must_hold(broken, &state.schedule);
-        self.found.states = self.found.states.saturating_add(1);
-        self.found.waited = self.found.waited || state.look.has_waiters();
-        let is_over = (0..2).all(|thread| is_finished(self.two, thread, state.threads[thread & 1]));
-        if is_over {
-            self.found.ends = self.found.ends.saturating_add(1);
-        }
         for thread in 0..2 {
             self.make_each(state, thread, next)?;
+        }
+        Ok(())
+    }
+
+    /// Looks at a world behind a schedule, and adds its state, if it is new.
+    fn look_at(
+        &mut self,
+        world: &mut World,
+        schedule: Vec<Step>,
+        threads: [Progress; 2],
+        next: &mut Vec<State>,
+    ) -> Result<(), Fail> {
+        let look = Look::of(self.rt.alloc(), world)?;
+        let key = Key {
+            threads,
+            look: look.clone()?,
+        };
+        if !self.known.add(key)? {
+            return Ok(());
+        }
+        let broken = broken_by_state(world, &look, self.two, threads);
+        self.must_hold(broken, &schedule);
+        self.must_refuse_all(world, &look, &schedule)?;
+        self.count(&look, threads);
+        next.push(State {
+            schedule,
+            threads,
+            look,
+        })?;
+        Ok(())
+    }
+
+    /// Counts a state.
+    fn count(&mut self, look: &Look, threads: [Progress; 2]) {
+        self.found.states = self.found.states.saturating_add(1);
+        self.found.waited = self.found.waited || look.has_waiters();
+        if (0..2).all(|thread| is_finished(self.two, thread, threads[thread & 1])) {
+            self.found.ends = self.found.ends.saturating_add(1);
+        }
+    }
+
+    /// Makes a step of each thread that can't move: it is refused, and changes nothing.
+    fn must_refuse_all(
+        &self,
+        world: &mut World,
+        look: &Look,
+        schedule: &[Step],
+    ) -> Result<(), Fail> {
+        let mut is_kept = true;
+        for thread in 0..2 {
+            if !world.can_move(thread) {
+                let step = Step {
+                    thread,
+                    fair: false,
+                };
+                is_kept &= world.run(&[step]) == Err(RunFault::CannotMove(0));
+                is_kept &= Look::of(self.rt.alloc(), world)? == *look;
+            }
+        }
+        if !is_kept {
+            self.must_hold(
+                Some("a step that can't be made is refused, and changes nothing"),
+                schedule,
+            );
         }
         Ok(())
     }
@@ -128,26 +189,15 @@ impl<'r, 'p, R: AllocGlobal + Abort> Explorer<'r, 'p, R> {
             fair: false,
         };
         let Some(call) = self.call(state, thread) else {
-            return self.must_refuse(state, plain);
+            return Ok(());
         };
+        if !can_move(self.two, thread, state.threads) {
+            return Ok(());
+        }
         let act = state.threads[thread & 1].act(call);
         self.make(state, plain, call, next)?;
         if matches!(act, Some(Act::Section(SectionAct::Store { .. }))) {
             self.make(state, Step { thread, fair: true }, call, next)?;
-        }
-        Ok(())
-    }
-
-    /// Makes a step, which isn't allowed.
-    fn must_refuse(&self, state: &State, step: Step) -> Result<(), Fail> {
-        let mut world = self.world_behind(&state.schedule)?;
-        let is_refused = world.run(&[step]) == Err(RunFault::CannotMove(0));
-        let is_kept = Look::of(self.rt.alloc(), &world)? == state.look;
-        if !is_refused || !is_kept {
-            self.must_hold(
-                Some("a step that can't be made is refused, and changes nothing"),
-                &state.schedule,
-            );
         }
         Ok(())
     }
@@ -161,9 +211,6 @@ impl<'r, 'p, R: AllocGlobal + Abort> Explorer<'r, 'p, R> {
         next: &mut Vec<State>,
     ) -> Result<(), Fail> {
         let mut world = self.world_behind(&state.schedule)?;
-        if !world.can_move(step.thread) {
-            return self.must_refuse(state, step);
-        }
         let present = key_of(call).is_some_and(|key| world.pair(&key).is_some());
         world.run(&[step])?;
         let look = Look::of(self.rt.alloc(), &world)?;
@@ -183,14 +230,7 @@ impl<'r, 'p, R: AllocGlobal + Abort> Explorer<'r, 'p, R> {
         };
         let mut schedule = state.schedule.clone()?;
         schedule.push(step)?;
-        add(
-            next,
-            State {
-                schedule,
-                threads,
-                look,
-            },
-        )
+        self.look_at(&mut world, schedule, threads, next)
     }
 
     /// Ends the test where a rule is broken behind a schedule.
@@ -225,14 +265,4 @@ fn followed(
     } else {
         Some([beside, moved])
     }
-}
-
-/// Adds a state that isn't there.
-fn add(states: &mut Vec<State>, state: State) -> Result<(), Fail> {
-    let is_known = states.iter().any(|known| known.threads == state.threads
-        && known.look == state.look);
-    if !is_known {
-        states.push(state)?;
-    }
-    Ok(())
 }

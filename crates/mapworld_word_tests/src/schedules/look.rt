@@ -1,7 +1,7 @@
 //! What a world of two threads and two shards shows between two steps.
 
 use super::super::worlds::World;
-use std::alloc::Global;
+use std::alloc::{AllocError, Global};
 use std::test::Fail;
 
 /// The shard that a key is on, of two.
@@ -49,6 +49,14 @@ impl Look {
             words: [world.word(0), world.word(1)],
             waiting,
             blocks,
+        })
+    }
+
+    pub fn clone(&self) -> Result<Look, AllocError> {
+        Ok(Look {
+            words: self.words,
+            waiting: self.waiting.clone()?,
+            blocks: self.blocks.clone()?,
         })
     }
 
