@@ -1,6 +1,7 @@
 //! How a world is made.
 ghost use Rattle.std.specs.Prelude.{◌≡◌, ◌≤◌, ◌^◌, length, map, sum_by, IfOk};
 ghost use Rattle.mapworld.specs.Making.{new_refusal, IsNew};
+ghost use Rattle.mapworld_locks.specs.Fits.{LocksFit};
 ghost use Rattle.mapworld_locks.specs.Fresh.{AreFresh};
 ghost use Rattle.mapworld_state.specs.World.{AgreesWithBlocks, HasPlacedBlocks};
 ghost use Rattle.mapworld_state.specs.Held.{HoldsMatch};
@@ -61,6 +62,7 @@ pub(crate) fn core_of<
     ensures agrees { IfOk result (λ core. AgreesWithBlocks D.Deed S.BuildHasher S.Hasher.Hasher K.eq K.hash_input (state_of core)) }
     ensures placed { IfOk result (λ core. HasPlacedBlocks D.Deed S.BuildHasher S.Hasher.Hasher K.eq K.hash_input (state_of core)) }
     ensures held { IfOk result (λ core. HoldsMatch (state_of core).places (state_of core).locks) }
+    ensures fit { IfOk result (λ core. LocksFit (state_of core).locks) }
 {
     let opening = Snapshot::of(&pairs);
     let kept = Snapshot::of(&programs);
@@ -71,6 +73,7 @@ pub(crate) fn core_of<
     let replies = Vec::with_capacity(alloc.clone()?, calls)?;
     let mut tables = empty_shards(alloc, shards)?;
     let count = fill(&mut tables, &hasher, pairs)?;
+    locks.known();
     Ok(Core {
         hasher,
         opening,

@@ -12,10 +12,12 @@ ghost use Rattle.mapworld_state.specs.Steps.{IsStep};
 ghost use Rattle.mapworld_state.specs.World.{setup_of, AgreesWithBlocks, HasPlacedBlocks, OnlyAddsTo};
 ghost use Rattle.mapworld_state.specs.Sound.{Sound};
 ghost use Rattle.parking_lot_world.specs.Rows.{state, queue_at};
+ghost use Rattle.mapworld_locks.specs.Fits.{LocksFit};
 ghost use Rattle.mapworld_state.specs.Footprint.{word_of};
 ghost use Rattle.mapworld_state.specs.Held.{HoldsMatch, HoldByPhase};
 ghost use Rattle.mapworld_calls.specs.Placed as today;
 
+use crate::laws::{queues_are_waiters, steps_touch_one_lock};
 use crate::{contents, counts, limits, making};
 use dashmap_view::ViewIter;
 use lock_api_raw::NoMemory;
@@ -138,6 +140,8 @@ impl<K: Eq + Hash, V, S: BuildHasher, D: Deed<K, V>, A: Allocator> MapWorld<K, V
         ensures asleep { (result ≡ Status.Asleep) ↔ IsAsleep self.now thread }
         ensures finished { (result ≡ Status.Finished) ↔ IsFinished self.now thread }
     {
+        queues_are_waiters();
+        self.core.locks.known();
         steps::status(&self.core, thread)
     }
 
@@ -255,6 +259,7 @@ where
         ensures agrees { IfOk result (AgreesWithBlocks D.Deed S.BuildHasher S.Hasher.Hasher K.eq K.hash_input) }
         ensures placed { IfOk result (HasPlacedBlocks D.Deed S.BuildHasher S.Hasher.Hasher K.eq K.hash_input) }
         ensures held { IfOk result (λ world. HoldsMatch world.places world.locks) }
+        ensures fit { IfOk result (λ world. LocksFit world.locks) }
     {
         if let Some(fault) = limits::refusal(shards, pairs.len(), &programs) {
             return Err(fault);
@@ -277,11 +282,13 @@ where
     /// Makes a step, or says why not, where so many steps of the run are done.
     fn make_step(&mut self, step: Step, done: u64) -> Result<(), RunFault>
         ensures sound { Sound (setup_of D.Deed S.BuildHasher S.Hasher.Hasher K.eq K.hash_input self.old) self.old }
+        ensures fit { LocksFit self.old.locks }
         ensures made { let setup = setup_of D.Deed S.BuildHasher S.Hasher.Hasher K.eq K.hash_input self.old in
             MatchResult result
             (λ _. (refusal self.old done step ≡ None) × IsStep setup self.old step self.new)
             (λ fault. (self.new ≡ self.old) × (refusal self.old done step ≡ Some fault)) }
     {
+        self.core.locks.known();
         if step.thread >= self.core.places.len() {
             return Err(RunFault::NoSuchThread(done));
         }
@@ -307,6 +314,7 @@ where
             self.old.blocks self.new.blocks self.old.replies self.new.replies }
         ensures fixed { StaysFixed self.old self.new }
     {
+        steps_touch_one_lock();
         let mut done = 0;
         for step in steps {
             self.make_step(*step, done)?;
@@ -352,9 +360,10 @@ where
         ensures fixed { StaysFixed self.old self.new }
         ensures held { HoldsMatch self.new.places self.new.locks }
         ensures by_phase { HoldByPhase self.new.places }
+        ensures fit { LocksFit self.new.locks }
     {
         let result = self.make_steps(steps);
-        let _ = &self.core;
+        self.core.locks.known();
         result
     }
 }

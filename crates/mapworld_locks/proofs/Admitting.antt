@@ -1,13 +1,13 @@
 -- A desk on which guards are admitted, given up and turned keeps its seats, and refuses none of them.
-use Rattle.std.proofs.Common.{◌≡◌, ◌≢◌, ℕ, zero, suc, ◌<◌, inl, inr, Bool, true, false, cond, not, ◌&&◌, nat_le, List, [], ◌∷◌, ◌++◌, length, Option, Some, None, is_some, slice_get, refl, sym, ap, ◌∙◌, subst, arith}
+use Rattle.std.proofs.Common.{◌≡◌, ℕ, zero, suc, ◌<◌, inl, inr, Bool, true, false, cond, not, ◌&&◌, nat_le, List, [], ◌∷◌, ◌++◌, length, Option, Some, None, is_some, slice_get, refl, sym, ap, ◌∙◌, subst, arith}
 use Rattle.std.proofs.lemmas.Bool.{cases_eq, false≢true, and_from, lt-leb}
 use Rattle.std.proofs.lemmas.List.Sums.{count_by-le-length}
 use Rattle.std.proofs.lemmas.Option.{none-some, same_Some}
 use Rattle.lock_api_desk.specs.declared.mode.Mode.{Mode}
-use Rattle.lock_api_desk.specs.Guards.{Guard, excluded, granted, held_of, is_full, is_held, is_in_use, is_reader, readers}
+use Rattle.lock_api_desk.specs.Guards.{Guard, excluded, granted, held_of, is_full, is_held, is_reader, readers}
 use Rattle.lock_api_desk.specs.Desk.{DeskState, admitted}
 use Rattle.mapworld_locks.specs.Moves.{CanSeat, MayAdmit, MayAdmitAs, admitted_as, all_admitted}
-use Rattle.mapworld_locks.specs.Seats.{guards_of, held_guard, seat_of}
+use Rattle.mapworld_locks.specs.Seats.{guards_of, seat_of}
 use Rattle.mapworld_locks.proofs.Counting.{room_for}
 use Rattle.mapworld_locks.proofs.Seating
 

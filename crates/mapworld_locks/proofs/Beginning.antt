@@ -1,13 +1,12 @@
 -- A call that may be asked for may begin, and its beginning changes nobody's hold.
-use Rattle.std.proofs.Common.{◌≡◌, ◌≢◌, ℕ, zero, suc, ◌<◌, ◌≤◌, ◌+◌, ◌-◌, ◌*◌, ◌&&◌, inl, inr, Bool, true, false, cond, ◌==◌, nat_lt, List, length, Option, Some, None, is_none, get_or, slice_get, slice_set, refl, sym, ap, ◌∙◌, subst, arith}
+use Rattle.std.proofs.Common.{◌≡◌, ◌≢◌, ℕ, zero, suc, ◌<◌, ◌+◌, ◌-◌, ◌*◌, inl, inr, Bool, true, false, cond, ◌==◌, nat_lt, List, length, Option, Some, None, is_none, get_or, slice_get, slice_set, refl, sym, ap, ◌∙◌, subst, arith}
 use Rattle.std.specs.List.{All}
-use Rattle.std.specs.Option.{option_and_then, option_map, option_map_or}
-use Rattle.std.proofs.lemmas.Bool.{cases_Bool, cases_eq, cases_lt, false≢true, and_from, eq-eqb, eqb-true, cond-true, cond-false, lt-ltb}
+use Rattle.std.specs.Option.{option_map, option_map_or}
+use Rattle.std.proofs.lemmas.Bool.{cases_Bool, cases_eq, cases_lt, false≢true, and_from, eqb-true, cond-true, cond-false, lt-ltb}
 use Rattle.std.proofs.lemmas.List.{length-set}
 use Rattle.std.proofs.lemmas.Option.{none-some, same_Some, slice_get-get_or}
 use Rattle.lock_api_desk.specs.declared.mode.Mode.{Mode}
 use Rattle.lock_api_desk.specs.declared.mode.Mode.TheVariants as held
-use Rattle.lock_api_desk.specs.Desk.{DeskState}
 use Rattle.parking_lot_protocol.specs.declared.act.ActResult.{ActResult}
 use Rattle.parking_lot_rules.specs.Owners.{Reading}
 use Rattle.parking_lot_rules.specs.Roles.{Idle}
@@ -21,15 +20,15 @@ use Rattle.parking_lot_world.specs.Beginnings.{core_of, holds_beside, is_allowed
 use Rattle.parking_lot_world.specs.Calls.{kind_of}
 use Rattle.parking_lot_world.specs.CallViews.{mode_of, rw_mode}
 use Rattle.parking_lot_world.specs.Machines.{IsBegun, call_for, is_of_kind, may_begin}
-use Rattle.parking_lot_world.specs.RowActs.{begun, hears}
+use Rattle.parking_lot_world.specs.RowActs.{hears}
 use Rattle.parking_lot_world.specs.RowFits.{FitsTogether}
-use Rattle.parking_lot_world.specs.Rows.{Rows, State, call_at, hold_at, hold_in, owned_of, rw_core_role, rw_role_at, rw_role_in, state, taken_by}
+use Rattle.parking_lot_world.specs.Rows.{Rows, State, call_at, hold_at, owned_of, rw_core_role, rw_role_at, rw_role_in, state, taken_by}
 use Rattle.parking_lot_world.specs.Stances.{core_next}
 use Rattle.parking_lot_world.specs.Worlds.{hold_mode}
 use Rattle.mapworld_locks.specs.Aims.{aim_of}
-use Rattle.mapworld_locks.specs.Fits.{DeskFits, IsPlain, LocksFit, is_single}
+use Rattle.mapworld_locks.specs.Fits.{IsPlain, LocksFit, is_single}
 use Rattle.mapworld_locks.specs.Seats.{seat_of}
-use Rattle.mapworld_locks.specs.Stands.{Stand, is_try, needs, stand_of, stand_in}
+use Rattle.mapworld_locks.specs.Stands.{is_try, needs, stand_of}
 use Rattle.mapworld_locks.specs.Steps.{LockBegins, MayAsk}
 use Rattle.mapworld_locks.specs.Views.{Shown, held_as, held_at}
 use Rattle.mapworld_locks.proofs.Calls.{call_of, set_elsewhere}
@@ -53,7 +52,7 @@ held_so s u i v rws next count same = elim (cases_lt v (length s.calls)) [
 pub held_rest : (s : State) (i t : ℕ) → All (λ k. k ≡ kind.Rw) s.kinds → t < length s.calls → call_at s t ≡ None → held_at s i t ≡ held_as (hold_mode (Some kind.Rw) (hold_at s t i))
 held_rest s i t rws low free = held_by_role s i t rws low ∙ ap (λ o. held_as (rw_mode (rw_role_in i (taken_by s.wakes t) (hold_at s t i) o))) free ∙ ap held_as (idle_mode (hold_at s t i))
 
-single_hold : (s : State) (t i : ℕ) → All (λ h. is_single h ≡ true) s.holds → is_single (hold_at s t i) ≡ true
+pub single_hold : (s : State) (t i : ℕ) → All (λ h. is_single h ≡ true) s.holds → is_single (hold_at s t i) ≡ true
 single_hold s t i single = by (nat_lt i (length s.kinds))
   where
     at : (o : Option Hold) → slice_get s.holds (t * length s.kinds + i) ≡ o → is_single (option_map_or (λ h. h) o (Hold.Shares 0)) ≡ true
@@ -72,13 +71,13 @@ none_beside Hold.Excludes is = refl
 
 -- A MODE IS NOT ANOTHER
 
-abbrev mode_number : Option Mode → ℕ
+abbrev pub mode_number : Option Mode → ℕ
 mode_number None = 0
 mode_number (Some held.Shared) = 1
 mode_number (Some held.Upgradable) = 2
 mode_number (Some held.Exclusive) = 3
 
-differ : (a b : Option Mode) → mode_number a ≢ mode_number b → a ≢ b
+pub differ : (a b : Option Mode) → mode_number a ≢ mode_number b → a ≢ b
 differ a b ne e = ne (ap mode_number e)
 
 pub is_rw : kind.Mutex ≢ kind.Rw

@@ -21,11 +21,11 @@ ones : (gs : List Guard) → weigh one gs ≡ length gs
 ones [] = refl
 ones (g ∷ gs) = omega (arith, ones gs)
 
-sum_of_none : (f : ℕ → ℕ) (n : ℕ) → ((t : ℕ) → f t ≡ 0) → sum_to f n ≡ 0
+pub sum_of_none : (f : ℕ → ℕ) (n : ℕ) → ((t : ℕ) → f t ≡ 0) → sum_to f n ≡ 0
 sum_of_none f zero h = refl
 sum_of_none f (suc n) h = omega (arith, sum_of_none f n h, h n)
 
-sum_same : (f g : ℕ → ℕ) (n : ℕ) → ((t : ℕ) → t < n → g t ≡ f t) → sum_to g n ≡ sum_to f n
+pub sum_same : (f g : ℕ → ℕ) (n : ℕ) → ((t : ℕ) → t < n → g t ≡ f t) → sum_to g n ≡ sum_to f n
 sum_same f g zero h = refl
 sum_same f g (suc n) h = omega (arith, sum_same f g n (λ t low. h t (omega (arith, low))), h n (omega arith))
 

@@ -1,5 +1,5 @@
 -- How a call ends that is only to be answered, and that its answer changes nobody's hold.
-use Rattle.std.proofs.Common.{◌≡◌, ◌≢◌, ℕ, inl, inr, Bool, true, false, List, length, Option, Some, None, slice_get, refl, sym, ap, ◌∙◌, subst}
+use Rattle.std.proofs.Common.{◌≡◌, ℕ, inl, inr, Bool, true, false, List, Option, Some, None, slice_get, refl, sym, ap, ◌∙◌, subst}
 use Rattle.std.specs.Option.{option_and_then, option_map}
 use Rattle.std.proofs.lemmas.Bool.{cases_eq, false≢true}
 use Rattle.std.proofs.lemmas.Option.{slice_get_within}
@@ -15,7 +15,7 @@ use Rattle.parking_lot_protocol.specs.RwTable.{act_of}
 use Rattle.parking_lot_world.specs.declared.open_call.Call.{Call}
 use Rattle.parking_lot_world.specs.declared.seat.Core.{Core}
 use Rattle.parking_lot_world.specs.CallViews.{rw_mode}
-use Rattle.parking_lot_world.specs.Machines.{IsStepped, end_of, ended}
+use Rattle.parking_lot_world.specs.Machines.{IsStepped, end_of}
 use Rattle.parking_lot_world.specs.RowFits.{FitsTogether, IsOfKind, IsPrepared, rw_keeps}
 use Rattle.parking_lot_world.specs.Rows.{Rows, State, call_at, rw_core_role, rw_spot, state, taken_by}
 use Rattle.parking_lot_world.specs.SoundLaws.{StepsAreCases}
@@ -27,7 +27,7 @@ use Rattle.mapworld_locks.specs.Steps.{LockEnds}
 use Rattle.mapworld_locks.specs.Views.{Shown, held_as, held_at}
 use Rattle.mapworld_locks.proofs.Answering.{answer_leaves_holds, is_answer, stepped_fits}
 use Rattle.mapworld_locks.proofs.Beginning.{same_holds}
-use Rattle.mapworld_locks.proofs.Calls.{call_of, slot, stepped_goes}
+use Rattle.mapworld_locks.proofs.Calls.{slot, stepped_goes}
 use Rattle.mapworld_locks.proofs.Handing.{elsewhere}
 use Rattle.mapworld_locks.proofs.Keeping.{stepped_kinds, stepped_plain}
 use Rattle.mapworld_locks.proofs.Standing.{others_stand, set_low}

@@ -21,5 +21,7 @@ mod Following
 mod Finishing
 mod Starting
 mod Making
-mod Touching
 pub mod Sizes
+mod Touching
+mod Weighing
+mod Wording

@@ -1,5 +1,5 @@
 -- Shards' locks that are made fit together, and nobody has done anything.
-use Rattle.std.proofs.Common.{◌≡◌, ℕ, ◌+◌, ◌*◌, ◌<◌, inl, inr, Bool, true, false, cond, nat_lt, List, length, replicate, Option, Some, None, slice_get, refl, sym, ap, ◌∙◌, subst, arith}
+use Rattle.std.proofs.Common.{◌≡◌, ℕ, ◌+◌, ◌*◌, inl, inr, Bool, true, false, cond, nat_lt, List, length, replicate, Option, Some, None, slice_get, refl, sym, ap, ◌∙◌, subst, arith}
 use Rattle.std.specs.List.{All}
 use Rattle.std.specs.Option.{option_and_then, option_map, option_map_or}
 use Rattle.std.proofs.lemmas.Bool.{cases_lt}
@@ -18,7 +18,7 @@ use Rattle.mapworld_locks.specs.Fits.{IsPlain, LocksFit, is_single}
 use Rattle.mapworld_locks.specs.Fresh.{AreFresh, IsEmptyFor}
 use Rattle.mapworld_locks.specs.Seats.{guards_of, seat_of}
 use Rattle.mapworld_locks.specs.Stands.{stand_of}
-use Rattle.mapworld_locks.specs.Views.{Shown, held_as, held_at}
+use Rattle.mapworld_locks.specs.Views.{held_as, held_at}
 use Rattle.mapworld_locks.proofs.Beginning.{held_rest, not_some}
 use Rattle.mapworld_locks.proofs.Lists.{all_at}
 use Rattle.mapworld_locks.proofs.Together.{holders_are_threads}

@@ -1,5 +1,5 @@
 -- A release or a downgrade that has begun makes its first act at once, and after the first act of a downgrade the hold is a shared one.
-use Rattle.std.proofs.Common.{◌≡◌, ◌≢◌, ℕ, ◌<◌, Bool, true, false, cond, List, length, Option, Some, None, slice_set, refl, sym, ap, ◌∙◌, subst}
+use Rattle.std.proofs.Common.{◌≡◌, ◌≢◌, ℕ, ◌<◌, Bool, true, false, cond, List, length, Option, Some, None, refl, sym, ap, ◌∙◌, subst}
 use Rattle.std.specs.Option.{option_and_then, option_map, option_map_or}
 use Rattle.std.proofs.lemmas.Bool.{false≢true}
 use Rattle.std.proofs.lemmas.Option.{same_Some}
@@ -23,7 +23,7 @@ use Rattle.parking_lot_world.specs.Stances.{core_act, core_next}
 use Rattle.mapworld_locks.specs.Fits.{IsPlain}
 use Rattle.mapworld_locks.specs.Stands.{gives}
 use Rattle.mapworld_locks.specs.Views.{held_as, held_at}
-use Rattle.mapworld_locks.proofs.Calls.{IsProper, call_of}
+use Rattle.mapworld_locks.proofs.Calls.{IsProper}
 use Rattle.mapworld_locks.proofs.Standing.{GoesOnBy, kept_proper, own_call, set_low}
 use Rattle.mapworld_locks.proofs.Stepping.{call_holds}
 

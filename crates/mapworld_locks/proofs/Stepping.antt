@@ -1,10 +1,10 @@
 -- A step of a thread, with its desk: locks and desks fit together afterwards, and what has changed is what the step may change.
-use Rattle.std.proofs.Common.{◌≡◌, ◌≢◌, ℕ, zero, suc, ◌<◌, ◌≤◌, inl, inr, ◌⊎◌, Bool, true, false, cond, ◌==◌, List, length, Option, Some, None, is_some, is_none, get_or, slice_get, slice_set, refl, sym, ap, ◌∙◌, subst, arith}
+use Rattle.std.proofs.Common.{◌≡◌, ◌≢◌, ℕ, ◌<◌, inl, inr, ◌⊎◌, Bool, true, false, ◌==◌, List, length, Option, Some, None, is_none, slice_get, slice_set, refl, sym, ap, ◌∙◌, subst, arith}
 use Rattle.std.specs.List.{All}
 use Rattle.std.specs.Option.{option_and_then, option_map}
-use Rattle.std.proofs.lemmas.Bool.{cases_Bool, cases_eq, false≢true, eq-eqb, cond-true, cond-false}
+use Rattle.std.proofs.lemmas.Bool.{cases_eq, false≢true, eq-eqb, cond-true, cond-false}
 use Rattle.std.proofs.lemmas.List.{length-set}
-use Rattle.std.proofs.lemmas.Option.{none-some, same_Some, slice_get_within, slice_get-get_or}
+use Rattle.std.proofs.lemmas.Option.{none-some, same_Some, slice_get_within}
 use Rattle.lock_api_desk.specs.declared.mode.Mode.{Mode}
 use Rattle.lock_api_desk.specs.declared.mode.Mode.TheVariants as held
 use Rattle.lock_api_desk.specs.Desk.{DeskState}
@@ -25,7 +25,7 @@ use Rattle.parking_lot_world.specs.Stances.{core_act, rw_stance, stance}
 use Rattle.mapworld_locks.specs.Aims.{Aim, Gets, GivesUp, Turns, is_within, phase_aim}
 use Rattle.mapworld_locks.specs.Fits.{DeskFits, IsPlain, LocksFit}
 use Rattle.mapworld_locks.specs.Moves.{CanFollow, all_admitted, desk_after, has_left, own_moved}
-use Rattle.mapworld_locks.specs.Seats.{AreSeated, seat_of}
+use Rattle.mapworld_locks.specs.Seats.{seat_of}
 use Rattle.mapworld_locks.specs.Stands.{Stand, core_aim, core_tries, stand_of}
 use Rattle.mapworld_locks.specs.Steps.{LockMoves}
 use Rattle.mapworld_locks.specs.Views.{Shown, held_as, held_at}

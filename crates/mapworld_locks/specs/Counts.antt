@@ -1,5 +1,5 @@
 -- What words, owners, queues and desks say of each other.
-use Rattle.std.specs.Prelude.{◌≡◌, ◌≢◌, ◌↔◌, ℕ, ◌/◌, ◌≤◌, Bool, true, count_by, Option, Some, slice_get}
+use Rattle.std.specs.Prelude.{◌≡◌, ◌≢◌, ◌↔◌, ℕ, ◌/◌, ◌≤◌, true, count_by, Some, slice_get}
 use Rattle.lock_api_desk.specs.declared.mode.Mode.TheVariants as held
 use Rattle.lock_api_desk.specs.Desk.{DeskState}
 use Rattle.lock_api_desk.specs.Guards.{holds}

@@ -1,5 +1,5 @@
 -- What holds of shards' locks at every moment.
-use Rattle.std.specs.Prelude.{◌≡◌, ℕ, zero, suc, ◌≤◌, Bool, true, false, List, length, Option, Some, slice_get}
+use Rattle.std.specs.Prelude.{◌≡◌, ℕ, zero, suc, ◌≤◌, Bool, true, false, length, Some, slice_get}
 use Rattle.std.specs.List.{All}
 use Rattle.lock_api_desk.specs.Desk.{DeskState}
 use Rattle.parking_lot_world.specs.declared.calls.LockKind.TheVariants as kind

@@ -1,11 +1,13 @@
 //! The locks of shards, with the desks that follow them.
 ghost use Rattle.std.specs.Option.{option_copied};
-ghost use Rattle.std.specs.Prelude.{◌≡◌, length, None, Some, true, is_some, slice_get, IfOk, IfErr};
+ghost use Rattle.std.specs.Prelude.{◌≡◌, ◌↔◌, length, None, Some, true, is_some, slice_get, IfOk, IfErr, IsTrue};
 ghost use Rattle.parking_lot_core_lot.specs.declared.fault.SizeFault.TheVariants.{NoMemory};
+ghost use Rattle.parking_lot_world.specs.declared.calls.LockKind.TheVariants.{Rw};
+ghost use Rattle.parking_lot_world.specs.Calls.{kind_of};
 ghost use Rattle.parking_lot_world.specs.Machines.{can_move, ended, is_asleep};
 ghost use Rattle.parking_lot_world.specs.Rows.{queue_at, state, word_at};
 ghost use Rattle.mapworld_locks.specs.Fits.{LocksFit};
-ghost use Rattle.mapworld_locks.specs.Stands.{gives, stand_in};
+ghost use Rattle.mapworld_locks.specs.Stands.{gives, needs, stand_in};
 ghost use Rattle.mapworld_locks.specs.Steps.{LockBegins, LockEnds, LockMoves, LockStarts, MayAsk};
 ghost use Rattle.mapworld_locks.specs.Views.{owner_in};
 
@@ -96,6 +98,17 @@ impl<A: Allocator> ShardLocks<A> {
         let _ = &self.machine;
     }
 
+    /// Whether a thread may begin that call at a shard: it is in none, and holds the shard as the call needs it.
+    pub fn may_ask(&self, thread: usize, shard: usize, call: LockCall) -> bool
+        ensures { IsTrue result ↔ MayAsk thread shard call self.now }
+    {
+        thread < self.threads()
+            && shard < self.shards()
+            && is_of_shards(call)
+            && !self.is_in_call(thread)
+            && self.owner(thread, shard) == needed(call)
+    }
+
     /// How many threads there are.
     pub fn threads(&self) -> usize
         ensures { result ≡ length self.now.rows.calls }
@@ -157,6 +170,27 @@ impl<A: Allocator> ShardLocks<A> {
         ensures { option_copied result ≡ slice_get self.now.desks shard }
     {
         self.desks.get(shard)
+    }
+}
+
+/// Whether the call is one of reader-writer locks.
+fn is_of_shards(call: LockCall) -> bool
+    ensures { IsTrue result ↔ (kind_of call ≡ Rw) }
+{
+    match call {
+        LockCall::Lock | LockCall::TryLock | LockCall::Unlock => false,
+        _ => true,
+    }
+}
+
+/// How a thread has to hold a shard before the call.
+fn needed(call: LockCall) -> Option<Mode>
+    ensures { result ≡ needs call }
+{
+    match call {
+        LockCall::Unlock | LockCall::UnlockWrite | LockCall::Downgrade => Some(Mode::Exclusive),
+        LockCall::UnlockRead => Some(Mode::Shared),
+        _ => None,
     }
 }
 
