@@ -47,7 +47,8 @@ fn deeds_decide_what_stays(rt: HostRuntime) {
 #[test]
 fn a_look_waits_for_no_reader_and_a_removal_does(rt: HostRuntime) {
     const SCRIPT: &[Line<'_>] = &[
-        Line::Steps(0, 4),
+        // The opening: start, load, exchange, find, answer.
+        Line::Steps(0, 5),
         Line::Through(1),
         Line::Told(1, 0, Answer::Flag(true)),
         Line::Told(1, 1, Answer::Read(5)),

@@ -119,8 +119,8 @@ fn an_occupied_entry_stores_and_becomes_an_exclusive_guard(rt: HostRuntime) {
 #[test]
 fn a_vacant_entry_keeps_its_shard_to_itself(rt: HostRuntime) {
     const SCRIPT: &[Line<'_>] = &[
-        // The opening: start, admit, find, growth, answer.
-        Line::Steps(0, 5),
+        // The opening: start, load, exchange, look for readers, find, growth, answer.
+        Line::Steps(0, 7),
         Line::Told(0, 0, Answer::Vacant),
         Line::Through(1),
         Line::Stands(1, Status::Asleep),

@@ -9,7 +9,8 @@ use std::test::Fail;
 
 /// Whether thread 1 sleeps while thread 0 is in its insertion, and both are finished after it.
 fn runs_to_the_end(world: &mut World<&LocalHeap>) -> bool {
-    let is_done = step_times(world, 0, 2) & step_times(world, 1, 1);
+    // Start, load and exchange: the shard is thread 0's.
+    let is_done = step_times(world, 0, 3) & step_through(world, 1);
     let sleeps = stands(world, 1, Status::Asleep);
     let is_finished = step_through(world, 0) & step_round(world, 2);
     is_done & sleeps & is_finished & stands(world, 1, Status::Finished)
@@ -97,8 +98,9 @@ fn an_insert_on_a_present_key_needs_no_memory(rt: HostRuntime) -> Result<(), Fai
         // All the memory that is left goes to somebody else.
         let _hoard = hoard(&heap);
         let is_done = step_round(&mut world, 1) & told(&world, 0, 0, &Answer::Value(5));
+        // Start, load, exchange, look for readers, find, deed, release, answer: no step is a growth.
         assert!(rt;
-            is_done && world.pair(&1) == Some((&1, &6)),
+            is_done && world.steps() == 8 && world.pair(&1) == Some((&1, &6)),
             "of size {size}"
         );
         has_done = true;

@@ -42,13 +42,14 @@ fn an_opening_that_finds_nothing_gives_no_guard(rt: HostRuntime) {
 #[test]
 fn a_guard_reads_the_same_pair_until_it_is_dropped(rt: HostRuntime) {
     const SCRIPT: &[Line<'_>] = &[
-        Line::Steps(0, 7),
+        // The opening: start, load, exchange, find, answer; and the read: start, deed, answer.
+        Line::Steps(0, 8),
         Line::Told(0, 1, Answer::Read(5)),
-        Line::Through(1),
-        Line::Stands(1, Status::Asleep),
-        Line::Started(1, 8),
         Line::Through(2),
         Line::Told(2, 1, Answer::Read(5)),
+        Line::Through(1),
+        Line::Stands(1, Status::Asleep),
+        Line::Started(1, 20),
         Line::Through(0),
         Line::Told(0, 2, Answer::Read(5)),
         Line::Stands(1, Status::Running),
@@ -74,10 +75,11 @@ fn a_refused_step_leaves_those_before_it(rt: HostRuntime) {
     const SCRIPT: &[Line<'_>] = &[
         Line::Stops(&[9], RunFault::NoSuchThread(0)),
         Line::Stands(9, Status::Finished),
-        Line::Steps(0, 4),
-        Line::Steps(1, 1),
+        Line::Steps(0, 5),
+        Line::Through(1),
+        Line::Stands(1, Status::Asleep),
         Line::Stops(&[2, 2, 1], RunFault::CannotMove(2)),
-        Line::Started(2, 6),
+        Line::Started(2, 35),
         Line::Round,
         Line::Told(1, 0, Answer::Pair(1, 5)),
         Line::Told(2, 0, Answer::None),
@@ -99,12 +101,12 @@ fn blocks_show_the_steps_of_their_calls(rt: HostRuntime) -> Result<(), Fail> {
     let is_done = step_through(&mut world, 0);
     let shown = world.blocks();
     assert!(rt; is_done && shown.len() == 2);
-    // The insert grows its shard: start, admit, find, growth, deed, release, answer.
+    // The insert grows its shard: start, load, exchange, look for readers, find, growth, deed, release, answer.
     let (first, second) = (&shown[0], &shown[1]);
-    assert!(rt; first.call == 0 && first.start == 1 && first.position == 4 && first.end == Some(7));
-    // The removal finds nothing: start, admit, find, release, answer.
+    assert!(rt; first.call == 0 && first.start == 1 && first.position == 6 && first.end == Some(9));
+    // The removal finds nothing: start, load, exchange, look for readers, find, release, answer.
     assert!(rt;
-        second.call == 1 && second.start == 8 && second.position == 10 && second.end == Some(12)
+        second.call == 1 && second.start == 10 && second.position == 14 && second.end == Some(16)
     );
     Ok(())
 }

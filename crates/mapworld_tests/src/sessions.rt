@@ -29,8 +29,8 @@ fn of_two_sessions_that_add_one_reads_what_the_other_left(rt: HostRuntime) {
 #[test]
 fn a_session_reads_what_it_wrote_while_a_reader_waits(rt: HostRuntime) {
     const SCRIPT: &[Line<'_>] = &[
-        // The opening: start, admit, find, answer.
-        Line::Steps(0, 4),
+        // The opening: start, load, exchange, look for readers, find, answer.
+        Line::Steps(0, 6),
         Line::Through(1),
         Line::Stands(1, Status::Asleep),
         // The write and the read: start, deed, answer each.
@@ -77,12 +77,16 @@ fn a_shared_guard_writes_nothing(rt: HostRuntime) {
 fn a_guard_that_shares_lets_readers_in_and_keeps_its_pair(rt: HostRuntime) {
     const SCRIPT: &[Line<'_>] = &[
         // The opening, and the write: start, deed, answer.
-        Line::Steps(0, 7),
+        Line::Steps(0, 9),
         Line::Through(1),
         Line::Stands(1, Status::Asleep),
-        Line::Steps(0, 3),
+        // The downgrade: start, add, enter, take, store, leave, wake, answer.
+        Line::Steps(0, 8),
         Line::Told(0, 2, Answer::Held),
         Line::Stands(1, Status::Running),
+        // It is woken: load, exchange, find, answer.
+        Line::Steps(1, 4),
+        Line::Told(1, 0, Answer::Held),
         Line::Through(2),
         Line::Stands(2, Status::Asleep),
         Line::Through(1),
