@@ -15,6 +15,7 @@ use Rattle.mapworld_calls.specs.Every.Replay.{one, block_work, work_of, reached,
 use Rattle.mapworld_calls.specs.Every.Agrees.{Reply, IsToldBy, IsAnsweredInSession, IsAnsweredBy, IsAnswered}
 use Rattle.mapworld_calls.specs.Every.Placed.{IsDoneWithin}
 use Rattle.mapworld_laws.specs.Worlds.{IsWorld, IsBlockOf}
+use Rattle.mapworld_laws.proofs.Blocks.{own-ask, own-done, one-place}
 use Rattle.mapworld_laws.specs.Sessions.{IsReplyOf, IsCallOfSession, SessionsTellTheirOwn, reads_or_downgrades, IsReadBehindWrite, WritesAreReadBack}
 
 module _ {K V D T : Type 0} (w : Setup K V D T) where
@@ -23,41 +24,15 @@ module _ {K V D T : Type 0} (w : Setup K V D T) where
   told_in k t o n p = option_map (λ a. told w.deeds k a (reached w k t o n p)) (ask_at w t (o + n))
 
 module _ {K V D T : Type 0} (w : Setup K V D T) (bs : List (Block K)) (replies : List (Reply K V T)) (world : IsWorld w bs replies) (t o : ℕ) (g : Begin K) (asked : ask_at w t o ≡ Some (ask.Begin g)) where
-  no-visit : (started : ℕ → Option ℕ) (i : ℕ) (b : Block K) (a : Ask K V D) → a ≡ ask.Begin g → IsDoneWithin w started bs replies i b a → b.visit ≡ 0
-  no-visit started i b a is done = (subst (λ (x : Ask K V D). IsDoneWithin w started bs replies i b x) is done).1
-
-  own-ask : (b : Block K) (i : ℕ) → IsBlockOf bs i b t o → ask_at w b.thread b.call ≡ Some (ask.Begin g)
-  own-ask b i of = ap (λ x. ask_at w x b.call) of.thread ∙ ap (λ x. ask_at w t x) of.call ∙ asked
-
   is-first : (i : ℕ) (b : Block K) → IsBlockOf bs i b t o → b.visit ≡ 0
-  is-first i b of =
-      let placed = world.placed.placed i b of.listed in
-      no-visit world.started i b placed.ask (same_Some placed.ask (ask.Begin g) (sym placed.asked ∙ own-ask b i of)) placed.done
-
-  not-before : (i j : ℕ) (b c : Block K) → IsBlockOf bs i b t o → IsBlockOf bs j c t o → i < j → ⊥
-  not-before i j b c first second lt =
-      let calls : b.call ≡ c.call = first.call ∙ sym second.call in
-      let vb = is-first i b first in
-      let vc = is-first j c second in
-      ⊎_elim
-      (λ less. omega (arith, less, calls))
-      (λ visit. let less = visit.1 in omega (arith, less, vb, vc))
-      (world.placed.own_order i j b c first.listed second.listed lt (first.thread ∙ sym second.thread))
-
-  -- an opening has one block
-  one-place : (i j : ℕ) (b c : Block K) → IsBlockOf bs i b t o → IsBlockOf bs j c t o → i ≡ j
-  one-place i j b c first second =
-      ⊎_elim
-      (λ lt. absurd (not-before i j b c first second lt))
-      (λ le. ⊎_elim (λ lt. absurd (not-before j i c b second first lt)) (λ ge. omega arith) (cases_lt j i))
-      (cases_lt i j)
+  is-first i b of = (own-done w bs t o (ask.Begin g) asked replies world i b of).1
 
   -- and each answer of its session is told by that block
   told-here : (i : ℕ) (b : Block K) → IsBlockOf bs i b t o → (n : ℕ) (a : Answer K V T) → IsToldBy w bs t o n a → told_in w (opening_key g) t o n (before w bs i (opening_key g)) ≡ Some a
   told-here i b of n a told =
       let of' : IsBlockOf bs told.place told.block t o = record { listed = told.listed; thread = told.thread; call = told.call } in
-      let same : told.place ≡ i = one-place told.place i told.block b of' of in
-      let work : block_work w told.block ≡ one (opening_key g) = ap (λ x. work_of x) (own-ask told.block told.place of') in
+      let same : told.place ≡ i = one-place w bs replies world t o told.place i told.block b of' of (is-first told.place told.block of' ∙ sym (is-first i b of)) in
+      let work : block_work w told.block ≡ one (opening_key g) = ap (λ x. work_of x) (own-ask w bs t o (ask.Begin g) asked told.place told.block of') in
       let is : told_by w n told.block (before w bs told.place) ≡ told_in w (opening_key g) t o n (before w bs told.place (opening_key g))
       = ap (λ x. told_as w x told.block n (before w bs told.place)) work ∙ rw (told.thread, told.call) refl in
       ap (λ x. told_in w (opening_key g) t o n (before w bs x (opening_key g))) (sym same) ∙ sym is ∙ told.told
