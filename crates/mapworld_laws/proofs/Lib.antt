@@ -1,0 +1,4 @@
+pub mod Blocks
+pub mod Sessions
+pub mod Joined
+pub mod Walks

@@ -1,0 +1,4 @@
+pub mod Worlds
+pub mod Sessions
+pub mod Walks
+pub mod Counts

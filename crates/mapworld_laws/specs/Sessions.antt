@@ -1,0 +1,63 @@
+-- What the calls of a session are answered is told by the session: by what its key had at the session's place in the order
+-- of blocks, and by the session's own calls up to each of them.
+use Rattle.std.specs.Prelude.{◌≡◌, ℕ, ◌+◌, ◌<◌, ◌⊎◌, Bool, true, false, List, Option, Some, slice_get, IsTrue}
+use Rattle.mapworld_calls.specs.declared.block.Block.{Block}
+use Rattle.mapworld_calls.specs.Every.Ask.{Ask}
+use Rattle.mapworld_calls.specs.Every.Ask as ask
+use Rattle.mapworld_calls.specs.Every.Begin.{Begin}
+use Rattle.mapworld_calls.specs.Every.Held.{Held}
+use Rattle.mapworld_calls.specs.Every.Held as held
+use Rattle.mapworld_calls.specs.Every.Calls.{At, exclusive, effect_on, read_of}
+use Rattle.mapworld_calls.specs.Every.Setup.{Setup, ask_at, session_of, opening_key}
+use Rattle.mapworld_calls.specs.Every.Replay.{reached, before}
+use Rattle.mapworld_calls.specs.Every.Agrees.{Reply}
+use Rattle.mapworld_laws.specs.Worlds.{IsWorld, IsBlockOf}
+
+-- the reply to that call of the thread
+pub record IsReplyOf {K V T : Type 0} (replies : List (Reply K V T)) (r : Reply K V T) (t c : ℕ) : Type 0 where
+  pub place : ℕ
+  pub listed : slice_get replies place ≡ Some r
+  pub thread : r.thread ≡ t
+  pub call : r.call ≡ c
+
+-- the call is the session's opening, or a call on its guard
+abbrev pub IsCallOfSession : {K V D T : Type 0} → Setup K V D T → ℕ → ℕ → ℕ → Type 0
+IsCallOfSession {K} {V} {D} w t o c =
+    (c ≡ o) ⊎ ((h : Held V D) × (ask_at w t c ≡ Some (ask.Held h)) × (session_of w t c ≡ Some o))
+
+-- in two worlds that differ in nothing but how their threads were stepped, a session that found the same is answered the
+-- same, whatever other blocks are listed before it and behind it
+abbrev pub SessionsTellTheirOwn : Type 0 → Type 0 → Type 0 → Type 0 → Type 0
+SessionsTellTheirOwn K V D T =
+    (w : Setup K V D T) (bs bs' : List (Block K)) (replies replies' : List (Reply K V T))
+    → IsWorld w bs replies → IsWorld w bs' replies'
+    → (t o : ℕ) (g : Begin K) → ask_at w t o ≡ Some (ask.Begin g)
+    → (i i' : ℕ) (b b' : Block K) → IsBlockOf bs i b t o → IsBlockOf bs' i' b' t o
+    → before w bs i (opening_key g) ≡ before w bs' i' (opening_key g)
+    → (c : ℕ) → IsCallOfSession w t o c
+    → (r r' : Reply K V T) → IsReplyOf replies r t c → IsReplyOf replies' r' t c → r.answer ≡ r'.answer
+
+-- a call on the guard that reads, or makes the guard a shared one
+abbrev pub reads_or_downgrades : {K V D : Type 0} → Option (Ask K V D) → Bool
+reads_or_downgrades (Some (ask.Held (held.Read d))) = true
+reads_or_downgrades (Some (ask.Held held.Downgrade)) = true
+reads_or_downgrades a = false
+
+-- call n of the session writes by the deed e, on an exclusive guard of the pair p, and call m reads by the deed d; between
+-- them the session reads and downgrades only
+pub record IsReadBehindWrite {K V D T : Type 0} (w : Setup K V D T) (t o n m : ℕ) (e d : D) (found : At K V) (p : K × V) : Type 0 where
+  pub guard : found ≡ exclusive p
+  pub writes : ask_at w t (o + n) ≡ Some (ask.Held (held.Write e))
+  pub order : n < m
+  pub between : (j : ℕ) → n < j → j < m → IsTrue (reads_or_downgrades (ask_at w t (o + j)))
+  pub reads : ask_at w t (o + m) ≡ Some (ask.Held (held.Read d))
+  pub session : session_of w t (o + m) ≡ Some o
+
+-- the read gives what the write stored: the deed of the write, applied to the pair that the guard had
+abbrev pub WritesAreReadBack : Type 0 → Type 0 → Type 0 → Type 0 → Type 0
+WritesAreReadBack K V D T =
+    (w : Setup K V D T) (bs : List (Block K)) (replies : List (Reply K V T)) → IsWorld w bs replies
+    → (t o : ℕ) (g : Begin K) → ask_at w t o ≡ Some (ask.Begin g) → (i : ℕ) (b : Block K) → IsBlockOf bs i b t o
+    → (n m : ℕ) (e d : D) (p : K × V)
+    → IsReadBehindWrite w t o n m e d (reached w (opening_key g) t o n (before w bs i (opening_key g))) p
+    → (r : Reply K V T) → IsReplyOf replies r t (o + m) → r.answer ≡ read_of w.deeds d (effect_on w.deeds e p)

@@ -1,0 +1,34 @@
+//! The laws: each function's contract is one. They are for proofs, and do nothing when they run.
+ghost use Rattle.mapworld_laws.specs.Counts.{CountsAreNumbers};
+ghost use Rattle.mapworld_laws.specs.Sessions.{SessionsTellTheirOwn, WritesAreReadBack};
+ghost use Rattle.mapworld_laws.specs.Walks.{VisitsGiveEachOnce, WalksGiveEachOnce};
+
+use mapworld_calls::Deed;
+
+/// What a session's calls are answered is told by what its key had at the session's position and by the session's own
+/// calls: nothing that another block did later changes an answer.
+pub fn sessions_tell_their_own<K, V, D: Deed<K, V>>()
+    ensures { SessionsTellTheirOwn K V D D.Answer }
+{}
+
+/// What an exclusive guard wrote is what the same session reads afterwards, through a downgrade too, until it writes again.
+pub fn writes_are_read_back<K, V, D: Deed<K, V>>()
+    ensures { WritesAreReadBack K V D D.Answer }
+{}
+
+/// A walk that is answered and wasn't refused gives each key at most once. Where it goes to the end, it also gives each pair
+/// that was there before it and that no other block changes from its first visit to its last: so exactly once.
+pub fn walks_give_each_once<K, V, D: Deed<K, V>>()
+    ensures { WalksGiveEachOnce K V D D.Answer }
+{}
+
+/// The visits of a walk give each key at most once, also while the walk goes on, and where it is refused for memory.
+pub fn visits_give_each_once<K, V, D: Deed<K, V>>()
+    ensures { VisitsGiveEachOnce K V D D.Answer }
+{}
+
+/// Where no other block changes a pair between its visits, `len` is the number of pairs, saturating; `is_empty` says whether
+/// it is 0, and `capacity` is no less.
+pub fn counts_are_numbers<K, V, D: Deed<K, V>>()
+    ensures { CountsAreNumbers K V D D.Answer }
+{}
