@@ -47,12 +47,13 @@ fn turns<'t, 'l, R: Wait>(shared: &Shared<'t, 'l, R>, gives: bool) -> u64 {
 #[test]
 fn no_notification_is_lost(rt: HostRuntime) -> Result<(), Fail> {
     let lot = ParkingLot::new(rt, rt.alloc(), 4, 7)?;
-    let table = LockTable::new(rt.alloc(), &lot, 3)?;
+    let rows = LockTable::new(rt.alloc(), &lot, 3)?;
+    let table = &rows;
     let shared = Shared {
-        full: Mutex::new(&table, false)?,
-        filled: Condvar::new(&table)?,
-        emptied: Condvar::new(&table)?,
-        table: &table,
+        full: Mutex::new(table, false)?,
+        filled: Condvar::new(table)?,
+        emptied: Condvar::new(table)?,
+        table,
     };
     let two = || thread::join(&rt, || turns(&shared, true), || turns(&shared, false));
     let done = thread::join(&rt, two, two) == ((25_000, 25_000), (25_000, 25_000));
