@@ -1,8 +1,10 @@
 //! Waits that are refused, with the mutex still locked.
 
-use crate::lots::{Pair, two_lots, two_tables};
+use crate::lots::{Pair, Tables, two_lots, two_tables};
 use crate::words::{are_words, has_come};
-use lock_api_raw::{MakeCondvar as _, MakeLock as _, RawCondvar as _, RawMutex as _, WaitFault};
+use lock_api_raw::{
+    MakeCondvar as _, MakeLock as _, RawCondvar as _, RawMutex as _, TableFull, WaitFault,
+};
 use parking_lot_condvar::RawCondvar;
 use parking_lot_core::ThreadData;
 use parking_lot_locks::RawMutex;
@@ -31,6 +33,17 @@ struct Mutexes<'t, 'l, R> {
     pair: Pair<'t, 'l, R>,
     second: RawMutex<'t, 'l, R>,
     strange: RawMutex<'t, 'l, R>,
+}
+
+impl<'t, 'l, R> Mutexes<'t, 'l, R> {
+    /// On two tables of which no row was handed out.
+    fn on(tables: &'t Tables<'l, R>) -> Result<Mutexes<'t, 'l, R>, TableFull> {
+        Ok(Mutexes {
+            pair: Pair::new(&tables.one)?,
+            second: RawMutex::new(&tables.one, 1)?,
+            strange: RawMutex::new(&tables.other, 1)?,
+        })
+    }
 }
 
 /// Waits until it is notified.
@@ -80,11 +93,7 @@ fn a_second_mutex_is_refused(rt: HostRuntime) -> Result<(), Fail> {
     let mut other = lots.other.thread_data()?;
     let tables = two_tables(rt.alloc(), lots)?;
     let tables = &tables;
-    let all = Mutexes {
-        pair: Pair::new(&tables.one)?,
-        second: RawMutex::new(&tables.one, 1)?,
-        strange: RawMutex::new(&tables.other, 1)?,
-    };
+    let all = Mutexes::on(tables)?;
     let (waited, seen) = thread::join(
         &rt,
         || waits(&all, &mut one),
