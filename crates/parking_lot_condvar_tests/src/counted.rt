@@ -1,6 +1,6 @@
 //! A hundred thousand notifications between four threads, of which none may be lost: else a thread waits for ever.
 
-use lock_api::{Condvar, Mutex};
+use lock_api::{Condvar, Mutex, TableFull};
 use parking_lot_condvar::RawCondvar;
 use parking_lot_core::ParkingLot;
 use parking_lot_locks::{LockTable, RawMutex};
@@ -18,6 +18,21 @@ struct Shared<'t, 'l, R> {
     filled: Condvar<RawCondvar<'t, 'l, R>>,
     emptied: Condvar<RawCondvar<'t, 'l, R>>,
     table: &'t LockTable<'l, R>,
+}
+
+impl<'t, 'l, R> Shared<'t, 'l, R> {
+    /// On a table of which no row was handed out.
+    fn on(table: &'t LockTable<'l, R>) -> Result<Shared<'t, 'l, R>, TableFull>
+    where
+        R: Wait,
+    {
+        Ok(Shared {
+            full: Mutex::new(table, false)?,
+            filled: Condvar::new(table)?,
+            emptied: Condvar::new(table)?,
+            table,
+        })
+    }
 }
 
 /// Waits until nothing lies there, or something does, changes that and says so, many times. Answers how often that was.
@@ -48,12 +63,7 @@ fn turns<'t, 'l, R: Wait>(shared: &Shared<'t, 'l, R>, gives: bool) -> u64 {
 fn no_notification_is_lost(rt: HostRuntime) -> Result<(), Fail> {
     let lot = ParkingLot::new(rt, rt.alloc(), 4, 7)?;
     let table = LockTable::new(rt.alloc(), &lot, 3)?;
-    let shared = Shared {
-        full: Mutex::new(&table, false)?,
-        filled: Condvar::new(&table)?,
-        emptied: Condvar::new(&table)?,
-        table: &table,
-    };
+    let shared = Shared::on(&table)?;
     let two = || thread::join(&rt, || turns(&shared, true), || turns(&shared, false));
     let done = thread::join(&rt, two, two) == ((25_000, 25_000), (25_000, 25_000));
     let are_free = (table.word(0) == Some(0)) & (table.word(1) == Some(0));

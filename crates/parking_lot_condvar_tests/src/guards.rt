@@ -2,6 +2,7 @@
 ghost use Rattle.std.specs.Prelude.{◌≡◌};
 ghost use Rattle.std.specs.Sync.Mutex.{mutex_guard_value};
 
+use crate::lots::{two_lots, two_tables};
 use lock_api::{Condvar, Mutex, MutexGuard, WaitFault};
 use parking_lot_condvar::RawCondvar;
 use parking_lot_core::{ParkingLot, ThreadData};
@@ -55,15 +56,15 @@ fn is_refused<'t, 'l, R: Wait>(
 
 #[test]
 fn a_refused_wait_keeps_its_guard(rt: HostRuntime) -> Result<(), Fail> {
-    let lot = ParkingLot::new(rt, rt.alloc(), 1, 7)?;
-    let other_lot = ParkingLot::new(rt, rt.alloc(), 1, 8)?;
-    let mut other = other_lot.thread_data()?;
-    let table = LockTable::new(rt.alloc(), &lot, 1)?;
-    let other_table = LockTable::new(rt.alloc(), &other_lot, 1)?;
-    let condvar: Condvar<RawCondvar<HostRuntime>> = Condvar::new(&table)?;
-    let strange = Mutex::new(&other_table, 0)?;
-    assert!(rt; is_refused(&condvar, &strange, &mut other, WaitFault::WrongLot));
-    assert!(rt; !strange.is_locked());
+    let lots = two_lots(rt, rt.alloc())?;
+    let lots = &lots;
+    let mut other = lots.other.thread_data()?;
+    let tables = two_tables(rt.alloc(), lots)?;
+    let tables = &tables;
+    let condvar: Condvar<RawCondvar<HostRuntime>> = Condvar::new(&tables.one)?;
+    let strange = Mutex::new(&tables.other, 0)?;
+    let refused = is_refused(&condvar, &strange, &mut other, WaitFault::WrongLot);
+    assert!(rt; refused & !strange.is_locked());
     Ok(())
 }
 
@@ -93,8 +94,9 @@ fn timed_waits_run_out(rt: HostRuntime) -> Result<(), Fail> {
     let lot = ParkingLot::new(rt, rt.alloc(), 1, 7)?;
     let mut me = lot.thread_data()?;
     let table = LockTable::new(rt.alloc(), &lot, 2)?;
-    let condvar: Condvar<RawCondvar<HostRuntime>> = Condvar::new(&table)?;
-    let mutex = Mutex::new(&table, 0)?;
+    let rows = &table;
+    let condvar: Condvar<RawCondvar<HostRuntime>> = Condvar::new(rows)?;
+    let mutex = Mutex::new(rows, 0)?;
     let past = Instant::now(&rt)?;
     let is_late = run_out(&rt, &condvar, &mutex, &mut me, past);
     let text = format!(in rt.alloc(); "{condvar:?}")?;

@@ -9,6 +9,8 @@ mod counted;
 #[cfg(test)]
 mod guards;
 #[cfg(test)]
+mod lots;
+#[cfg(test)]
 mod refused;
 #[cfg(test)]
 mod timed;

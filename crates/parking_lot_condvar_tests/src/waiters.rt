@@ -1,10 +1,11 @@
 //! Which waiters are moved and woken, as the words tell.
 
+use crate::lots::Pair;
 use crate::words::{are_counted, are_words};
-use lock_api_raw::{MakeCondvar as _, MakeLock as _, RawCondvar as _, RawMutex as _};
+use lock_api_raw::{MakeCondvar as _, RawCondvar as _, RawMutex as _};
 use parking_lot_condvar::RawCondvar;
 use parking_lot_core::{ParkingLot, ThreadData};
-use parking_lot_locks::{LockTable, RawMutex};
+use parking_lot_locks::LockTable;
 use std::sync::Wait;
 use std::sync::atomic::{AtomicU64, Ordering};
 use std::test::Fail;
@@ -12,18 +13,17 @@ use std::thread;
 use std::time::{Clock, Duration};
 
 /// Waits once, after saying under the mutex that it is about to, and says when it has come back.
-fn waits<'t, 'l, R: Wait>(
-    condvar: &RawCondvar<'t, 'l, R>,
-    mutex: &RawMutex<'t, 'l, R>,
+fn waits<R: Wait>(
+    pair: &Pair<'_, '_, R>,
     me: &mut ThreadData,
     about: &AtomicU64,
     back: &AtomicU64,
 ) -> bool {
-    let token = mutex.lock(me);
+    let token = pair.mutex.lock(me);
     about.fetch_add(1, Ordering::SeqCst);
-    let (token, answer) = condvar.wait(mutex, token, me);
+    let (token, answer) = pair.condvar.wait(&pair.mutex, token, me);
     back.fetch_add(1, Ordering::SeqCst);
-    mutex.unlock(token);
+    pair.mutex.unlock(token);
     answer.is_ok()
 }
 
@@ -41,24 +41,24 @@ struct Told {
 }
 
 /// Has the mutex once both wait, notifies one, then all, and lets the mutex go.
-fn notifies<'t, 'l, R: Wait + Clock>(
+fn notifies<R: Wait + Clock>(
     rt: &R,
-    table: &LockTable<'l, R>,
-    condvar: &RawCondvar<'t, 'l, R>,
-    mutex: &RawMutex<'t, 'l, R>,
+    pair: &Pair<'_, '_, R>,
     me: &mut ThreadData,
-    said: (&AtomicU64, &AtomicU64),
+    about: &AtomicU64,
+    back: &AtomicU64,
 ) -> Told {
-    let waited = are_counted(rt, said.0, 2);
-    let token = mutex.lock(me);
+    let table = pair.table;
+    let waited = are_counted(rt, about, 2);
+    let token = pair.mutex.lock(me);
     let shown = table.word(0);
-    let one = condvar.notify_one();
+    let one = pair.condvar.notify_one();
     let moved = (table.word(0) == shown) & (table.word(1) == Some(3));
-    let all = condvar.notify_all();
+    let all = pair.condvar.notify_all();
     let forgotten = are_words(table, [0, 3]);
     thread::sleep(rt, Duration::from_millis(5));
-    let asleep = said.1.load(Ordering::SeqCst) == 0;
-    mutex.unlock(token);
+    let asleep = back.load(Ordering::SeqCst) == 0;
+    pair.mutex.unlock(token);
     Told {
         waited,
         one,
@@ -76,18 +76,17 @@ fn waiters_are_moved_and_woken_by_the_release(rt: HostRuntime) -> Result<(), Fai
     let mut two = lot.thread_data()?;
     let mut me = lot.thread_data()?;
     let table = LockTable::new(rt.alloc(), &lot, 2)?;
-    let condvar = RawCondvar::new(&table)?;
-    let mutex = RawMutex::new(&table, 1)?;
+    let pair = Pair::new(&table)?;
     let about = AtomicU64::new(0);
     let back = AtomicU64::new(0);
     let (waited, told) = thread::join(
         &rt,
         || thread::join(
             &rt,
-            || waits(&condvar, &mutex, &mut one, &about, &back),
-            || waits(&condvar, &mutex, &mut two, &about, &back),
+            || waits(&pair, &mut one, &about, &back),
+            || waits(&pair, &mut two, &about, &back),
         ),
-        || notifies(&rt, &table, &condvar, &mutex, &mut me, (&about, &back)),
+        || notifies(&rt, &pair, &mut me, &about, &back),
     );
     let expected = Told {
         waited: true,
@@ -103,19 +102,18 @@ fn waiters_are_moved_and_woken_by_the_release(rt: HostRuntime) -> Result<(), Fai
 }
 
 /// Notifies all once both wait, without the mutex, and answers how many that were.
-fn notifies_freely<'t, 'l, R: Wait + Clock>(
+fn notifies_freely<R: Wait + Clock>(
     rt: &R,
-    condvar: &RawCondvar<'t, 'l, R>,
-    mutex: &RawMutex<'t, 'l, R>,
+    pair: &Pair<'_, '_, R>,
     me: &mut ThreadData,
     about: &AtomicU64,
 ) -> usize {
     if !are_counted(rt, about, 2) {
         return 9;
     }
-    let token = mutex.lock(me);
-    mutex.unlock(token);
-    condvar.notify_all()
+    let token = pair.mutex.lock(me);
+    pair.mutex.unlock(token);
+    pair.condvar.notify_all()
 }
 
 #[test]
@@ -125,18 +123,17 @@ fn all_come_back_where_the_mutex_is_free(rt: HostRuntime) -> Result<(), Fail> {
     let mut two = lot.thread_data()?;
     let mut me = lot.thread_data()?;
     let table = LockTable::new(rt.alloc(), &lot, 2)?;
-    let condvar = RawCondvar::new(&table)?;
-    let mutex = RawMutex::new(&table, 1)?;
+    let pair = Pair::new(&table)?;
     let about = AtomicU64::new(0);
     let back = AtomicU64::new(0);
     let (waited, count) = thread::join(
         &rt,
         || thread::join(
             &rt,
-            || waits(&condvar, &mutex, &mut one, &about, &back),
-            || waits(&condvar, &mutex, &mut two, &about, &back),
+            || waits(&pair, &mut one, &about, &back),
+            || waits(&pair, &mut two, &about, &back),
         ),
-        || notifies_freely(&rt, &condvar, &mutex, &mut me, &about),
+        || notifies_freely(&rt, &pair, &mut me, &about),
     );
     assert!(rt; (waited == (true, true)) & (count == 2) & are_words(&table, [0, 0]));
     Ok(())

@@ -2,9 +2,11 @@
 ghost use Rattle.std.specs.Prelude.{◌≡◌, IfSome};
 
 use crate::waiting::has_begun;
-use crate::words::has_come;
+use crate::words::TURNS;
 use lock_api_raw::{MakeLock as _, RawMutex as _, RawMutexTimed};
-use parking_lot_core::{ParkingLot, ThreadData};
+use parking_lot_core::{
+    DEFAULT_UNPARK_TOKEN, FilterOp, ParkingLot, ThreadData, unpark_filter,
+};
 use parking_lot_locks::{LockTable, RawFairMutex, RawMutex};
 use std::sync::Wait;
 use std::sync::atomic::{AtomicU64, Ordering};
@@ -92,8 +94,20 @@ fn sleeps<R: Wait>(mutex: &RawMutex<'_, '_, R>, me: &mut ThreadData, said: &Atom
     mutex.unlock(token);
 }
 
-/// Beside one that sleeps gives up, and then lets the mutex go. Answers whether the other slept, whether the parked bit stayed, and
-/// whether the other had the mutex then.
+/// Waits until somebody stands in the list of a key.
+fn is_waited_for<R: Wait + Clock>(rt: &R, lot: &ParkingLot<R>, key: usize) -> bool {
+    for _turn in 0..TURNS {
+        let seen = unpark_filter(lot, key, |_| FilterOp::Stop, |_| DEFAULT_UNPARK_TOKEN);
+        if seen.have_more_threads {
+            return true;
+        }
+        thread::sleep(rt, Duration::from_millis(1));
+    }
+    false
+}
+
+/// Beside one that sleeps gives up, and then lets the mutex go. Answers whether the other slept, whether this one gave up, whether the
+/// parked bit stayed, and whether the other had the mutex then.
 fn gives_up_beside_a_sleeper<R: Wait + Clock>(
     rt: &R,
     table: &LockTable<'_, R>,
@@ -103,8 +117,7 @@ fn gives_up_beside_a_sleeper<R: Wait + Clock>(
 ) -> [bool; 4] {
     let token = mutex.lock(parties.0);
     said.store(2, Ordering::SeqCst);
-    let slept = has_come(rt, table, 0, 3);
-    thread::sleep(rt, Duration::from_millis(20));
+    let slept = is_waited_for(rt, table.lot(), mutex.row().first_key());
     let tried = mutex.try_lock_for(Duration::from_millis(1), rt, parties.1);
     let gave_up = !is_had(mutex, tried);
     let stays = table.word(0) == Some(3);
