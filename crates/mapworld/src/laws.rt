@@ -24,7 +24,7 @@ pub fn setups_are_lawful<K: Eq + Hash, V, S: BuildHasher, D: Deed<K, V>>()
 {}
 
 /// A step changes no other thread's place and replies to no other thread; and of the map and its locks it changes at most one key's pair, or
-/// the word of one shard's lock and the desk beside it, or one of the lock's two queues. All other keys, words and queues stay.
+/// of one shard's lock the word or one of its two queues, with the desk beside them. All other keys, words, queues and desks stay.
 pub fn steps_keep_to_their_footprints<K, V, S, D, T>()
     ensures { StepsHaveFootprints K V S D T }
 {
