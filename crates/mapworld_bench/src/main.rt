@@ -1,7 +1,7 @@
-//! What a step of a world of maps costs: threads that make calls on keys of their own, one step each in turn.
+//! What a step of a world of maps costs: threads that make calls on keys of their own, or on one key, one step each in turn.
 //!
 //! Without arguments it makes one small run and prints how many steps and replies there were. With two numbers it makes a world of so many
-//! threads with so many calls in all, and prints how many nanoseconds each step took.
+//! threads with so many calls in all, and prints how many nanoseconds each step took. With the word `one` behind them all threads call one key.
 #![tactic(auto)]
 
 mod worlds;
@@ -10,7 +10,7 @@ use std::alloc::Global;
 use std::env;
 use std::process::ExitCode;
 use std::time::{Clock, Instant};
-use worlds::{Fault, run_through, world_of};
+use worlds::{Fault, Keys, run_through, world_of};
 
 /// How many threads the small run has, and how many calls in all.
 const SMALL: (usize, usize) = (5, 200);
@@ -18,7 +18,7 @@ const SMALL: (usize, usize) = (5, 200);
 /// What the small run tells.
 fn small(alloc: Global) -> Result<String, Fault> {
     let (threads, calls) = SMALL;
-    let mut world = world_of(alloc, threads, calls)?;
+    let mut world = world_of(alloc, threads, calls, Keys::Apart)?;
     run_through(&mut world);
     Ok(format!(in alloc;
         "{} steps, {} replies",
@@ -27,9 +27,22 @@ fn small(alloc: Global) -> Result<String, Fault> {
     )?)
 }
 
-/// How long the steps of so many threads take, that make so many calls in all.
-fn timed<R: Clock>(rt: &R, alloc: Global, threads: usize, calls: usize) -> Result<String, Fault> {
-    let mut world = world_of(alloc, threads, calls)?;
+/// What is to be timed: so many threads that make so many calls in all.
+#[derive(Clone, Copy)]
+struct Sizes {
+    threads: usize,
+    calls: usize,
+    keys: Keys,
+}
+
+/// How long the steps take.
+fn timed<R: Clock>(rt: &R, alloc: Global, asked: Sizes) -> Result<String, Fault> {
+    let Sizes {
+        threads,
+        calls,
+        keys,
+    } = asked;
+    let mut world = world_of(alloc, threads, calls, keys)?;
     let start = Instant::now(rt).map_err(|_| Fault)?;
     run_through(&mut world);
     let took = start.elapsed(rt).map_err(|_| Fault)?;
@@ -40,16 +53,29 @@ fn timed<R: Clock>(rt: &R, alloc: Global, threads: usize, calls: usize) -> Resul
     )?)
 }
 
-/// How many threads and calls are asked for, if the arguments say so.
-fn asked(rt: &HostRuntime) -> Option<(usize, usize)> {
+/// Whether the third argument is the word that asks for one key.
+fn asks_for_one(rt: &HostRuntime) -> Option<bool> {
+    Some(env::args(rt).ok()?.nth(3)?.as_str() == "one")
+}
+
+/// What is asked for, if the arguments say so.
+fn asked(rt: &HostRuntime) -> Option<Sizes> {
     let threads = env::args(rt).ok()?.nth(1)?.parse().ok()?;
     let calls = env::args(rt).ok()?.nth(2)?.parse().ok()?;
-    Some((threads, calls))
+    let keys = match asks_for_one(rt) {
+        Some(true) => Keys::One,
+        _ => Keys::Apart,
+    };
+    Some(Sizes {
+        threads,
+        calls,
+        keys,
+    })
 }
 
 fn main(rt: HostRuntime) -> ExitCode {
     let told = match asked(&rt) {
-        Some((threads, calls)) => timed(&rt, rt.alloc(), threads, calls),
+        Some(asked) => timed(&rt, rt.alloc(), asked),
         None => small(rt.alloc()),
     };
     let Ok(line) = told else {

@@ -10,8 +10,30 @@ pub type World<A> = MapWorld<u64, u64, Fold, ReadValue, A>;
 
 type Program<A> = Vec<Ask<u64, u64, ReadValue>, A>;
 
-/// So many that few threads call one.
-const SHARDS: usize = 4096;
+/// Where the threads of a world call.
+#[derive(Clone, Copy, PartialEq, Eq)]
+pub enum Keys {
+    /// Each calls a key of its own, and there are so many shards that few threads call one.
+    Apart,
+    /// All call one key.
+    One,
+}
+
+impl Keys {
+    fn shards(self) -> usize {
+        match self {
+            Keys::Apart => 4096,
+            Keys::One => 2,
+        }
+    }
+
+    fn key(self, thread: usize) -> u64 {
+        match self {
+            Keys::Apart => thread as u64,
+            Keys::One => 0,
+        }
+    }
+}
 
 /// The world can't be made, run or told of.
 #[derive(Debug, Drop)]
@@ -82,19 +104,20 @@ fn program_on<A: Allocator>(alloc: A, key: u64, calls: usize) -> Result<Program<
     Ok(program)
 }
 
-/// A world of so many threads, which share so many calls; each thread calls a key of its own.
+/// A world of so many threads, which share so many calls.
 pub fn world_of<A: Allocator + Copy + Drop>(
     alloc: A,
     threads: usize,
     calls: usize,
+    keys: Keys,
 ) -> Result<World<A>, Fault> {
     let each = calls.checked_div(threads).unwrap_or(0);
     let mut programs = Vec::with_capacity(alloc, threads)?;
     for thread in 0..threads {
-        programs.push(program_on(alloc, thread as u64, each)?)?;
+        programs.push(program_on(alloc, keys.key(thread), each)?)?;
     }
     let hasher = Fold::new();
-    Ok(MapWorld::new(alloc, SHARDS, hasher, Vec::new(alloc), programs)?)
+    Ok(MapWorld::new(alloc, keys.shards(), hasher, Vec::new(alloc), programs)?)
 }
 
 /// Gives each thread one step, if it can move.
