@@ -2,3 +2,5 @@ pub mod Blocks
 pub mod Sessions
 pub mod Joined
 pub mod Walks
+pub mod Matched
+pub mod Counts
