@@ -32,6 +32,9 @@ module _ {K V D T : Type 0} (w : Setup K V D T) (laws : Laws w) (routed : RouteW
       let b = mapped-cases (λ (p : K × V). p.0) pairs n k hn in
       are.distinct m n a.0 b.0 a.1 b.1 (ap (λ x. w.eq x b.0.0) a.2 ∙ ap (λ x. w.eq j x) b.2 ∙ e)
 
+  is-there : (k : K) (i : ℕ) → before w bs i k ≡ before w bs first k → IsSome (before w bs i k) → IsSome (pair_of w.eq pairs k)
+  is-there k i same there = ap is_some (are.are k ∙ sym same) ∙ there
+
   -- each key that was given has a pair
   given-have : HasEach w.eq (keys_given w vs) the_keys
   given-have m k at =
@@ -39,7 +42,7 @@ module _ {K V D T : Type 0} (w : Setup K V D T) (laws : Laws w) (routed : RouteW
       let is = visited.are g.piece g.whole g.at in
       let of = of-visit w laws bs replies world t c f asked g.piece g.whole is in
       let same : before w bs g.whole.place k ≡ before w bs first k = found-first w laws bs replies world t c f asked first last stands k (alone k) g.whole.place g.whole.block of (sym (done-route w g.whole.block g.inner k g.inside)) in
-      let there : IsSome (pair_of w.eq pairs k) = ap is_some (are.are k ∙ sym same) ∙ done-there w laws bs replies world t c f asked g.whole.place g.whole.block of g.inner k g.inside in
+      let there : IsSome (pair_of w.eq pairs k) = is-there k g.whole.place same (done-there w laws bs replies world t c f asked g.whole.place g.whole.block of g.inner k g.inside) in
       let p = find-passes (has_key w.eq k) pairs there in
       (p.0, p.1.0, mapped-at (λ (p : K × V). p.0) pairs p.0 p.1 p.2, laws.equivalence.symm k p.1.0 ∙ p.3)
 

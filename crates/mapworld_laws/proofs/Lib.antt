@@ -4,3 +4,5 @@ pub mod Joined
 pub mod Walks
 pub mod Matched
 pub mod Counts
+pub mod Refusals
+pub mod Missed

@@ -2,3 +2,4 @@ pub mod Worlds
 pub mod Sessions
 pub mod Walks
 pub mod Counts
+pub mod Refusals
