@@ -6,3 +6,5 @@ pub mod Matched
 pub mod Counts
 pub mod Refusals
 pub mod Missed
+pub mod Swapped
+pub mod Rearranged

@@ -1,5 +1,5 @@
 -- The smallest world in which an insertion finds its key and is refused for memory all the same.
-use Rattle.std.proofs.Common.{◌≡◌, ℕ, zero, suc, ◌<◌, true, List, [], ◌∷◌, Option, Some, None, slice_get, take, refl, ap, sym, ◌∙◌, subst, inr, arith}
+use Rattle.std.proofs.Common.{◌≡◌, ℕ, zero, suc, true, List, [], ◌∷◌, Some, None, slice_get, take, refl, ap, sym, ◌∙◌, subst, inr, arith}
 use Rattle.std.proofs.lemmas.Option.{same_Some, none-some}
 use Rattle.mapworld_calls.specs.declared.block.Block.{Block}
 use Rattle.mapworld_calls.specs.Deeds.{Deeds}
@@ -7,10 +7,9 @@ use Rattle.mapworld_calls.specs.Every.Keyed as keyed
 use Rattle.mapworld_calls.specs.Every.Ask as ask
 use Rattle.mapworld_calls.specs.Every.Answer as answer
 use Rattle.mapworld_calls.specs.Every.Setup.{Setup, Laws}
-use Rattle.mapworld_calls.specs.Every.Replay.{contents, before}
+use Rattle.mapworld_calls.specs.Every.Replay.{before}
 use Rattle.mapworld_calls.specs.Every.Agrees.{Reply, IsAnswered, Agrees}
 use Rattle.mapworld_calls.specs.Every.Placed.{IsTimed, answered_of, WellPlaced}
-use Rattle.mapworld_laws.specs.Worlds.{IsWorld}
 use Rattle.mapworld_laws.specs.Refusals.{FindsAndIsRefused, RefusalsMayFindTheirKey}
 
 only-one : {X : Type 0} (x y : X) (i : ℕ) → slice_get (x ∷ []) i ≡ Some y → (i ≡ 0) × (x ≡ y)

@@ -1,6 +1,5 @@
 -- No block tells a refusal, so who is refused has none.
-use Rattle.std.proofs.Common.{◌≡◌, ℕ, zero, suc, ◌<◌, ◌≤◌, ◌⊎◌, inl, inr, ⊎_elim, Bool, true, false, if◌then◌else◌, List, [], ◌∷◌, Option, Some, None, slice_get, IsTrue, option_map, refl, ap, sym, ◌∙◌, subst, arith}
-use Rattle.std.proofs.lemmas.Bool.{cases_Bool}
+use Rattle.std.proofs.Common.{◌≡◌, ℕ, ◌⊎◌, inl, inr, ⊎_elim, Bool, true, false, if◌then◌else◌, List, Option, Some, None, slice_get, option_map, refl, ap, sym, ◌∙◌, subst}
 use Rattle.std.proofs.lemmas.Option.{same_Some, none-some}
 use Rattle.mapworld_calls.specs.declared.block.Block.{Block}
 use Rattle.mapworld_calls.specs.Deeds.{Deeds}
@@ -17,10 +16,10 @@ use Rattle.mapworld_calls.specs.Every.Walk as walk
 use Rattle.mapworld_calls.specs.Every.Answer.{Answer}
 use Rattle.mapworld_calls.specs.Every.Answer as answer
 use Rattle.mapworld_calls.specs.Every.Calls.{At, free, shared, exclusive, occupied, vacant, pair_in, keyed_answer, opening_answer, held_answer, visit_answer, told}
-use Rattle.mapworld_calls.specs.Every.Setup.{Setup, Laws, ask_at, session_of}
-use Rattle.mapworld_calls.specs.Every.Replay.{Work, one, visit, nothing, block_work, reached, done_keys, told_as, told_by, before}
-use Rattle.mapworld_calls.specs.Every.Agrees.{Reply, Visit, IsToldBy, HasNoBlock, IsWalkAnswer, IsAnsweredInSession, IsAnsweredBy, Agrees}
-use Rattle.mapworld_laws.specs.Refusals.{IsRefusedForMemory, RefusedForMemoryHasNoBlock, IsRefusedAsLocked, LockedHasNoBlock, HasNoGuard, NoGuardIsAnswered}
+use Rattle.mapworld_calls.specs.Every.Setup.{Setup, ask_at, session_of}
+use Rattle.mapworld_calls.specs.Every.Replay.{Work, one, visit, nothing, block_work, reached, done_keys, told_as, before}
+use Rattle.mapworld_calls.specs.Every.Agrees.{Visit, IsToldBy, HasNoBlock, IsWalkAnswer, IsAnsweredInSession, IsAnsweredBy}
+use Rattle.mapworld_laws.specs.Refusals.{IsRefusedForMemory, RefusedForMemoryHasNoBlock, IsRefusedAsLocked, LockedHasNoBlock, NoGuardIsAnswered}
 
 -- whether an answer is a refusal that only a call without a block is given
 abbrev pub refuses : {K V T : Type 0} → Answer K V T → Bool

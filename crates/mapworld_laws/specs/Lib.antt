@@ -3,3 +3,4 @@ pub mod Sessions
 pub mod Walks
 pub mod Counts
 pub mod Refusals
+pub mod Shards

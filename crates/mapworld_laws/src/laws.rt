@@ -2,6 +2,7 @@
 ghost use Rattle.mapworld_laws.specs.Counts.{CountsAreNumbers};
 ghost use Rattle.mapworld_laws.specs.Refusals.{LockedHasNoBlock, NoGuardIsAnswered, RefusalsMayFindTheirKey, RefusedForMemoryHasNoBlock};
 ghost use Rattle.mapworld_laws.specs.Sessions.{SessionsTellTheirOwn, WritesAreReadBack};
+ghost use Rattle.mapworld_laws.specs.Shards.{OtherShardsCommute};
 ghost use Rattle.mapworld_laws.specs.Walks.{VisitsGiveEachOnce, WalksGiveEachOnce};
 
 use mapworld_calls::Deed;
@@ -32,6 +33,12 @@ pub fn visits_give_each_once<K, V, D: Deed<K, V>>()
 /// it is 0, and `capacity` is no less.
 pub fn counts_are_numbers<K, V, D: Deed<K, V>>()
     ensures { CountsAreNumbers K V D D.Answer }
+{}
+
+/// Two neighbouring blocks on different shards may change places, walks' visits and sessions too: each block tells what it
+/// told, contents are the same, and so are all replies.
+pub fn other_shards_commute<K, V, D: Deed<K, V>>()
+    ensures { OtherShardsCommute K V D D.Answer }
 {}
 
 /// A call that was refused for memory has no block, so it changed no pair; of a walk stand the visits before the refused
