@@ -2,3 +2,9 @@ pub mod Blocks
 pub mod Sessions
 pub mod Joined
 pub mod Walks
+pub mod Matched
+pub mod Counts
+pub mod Refusals
+pub mod Missed
+pub mod Swapped
+pub mod Rearranged

@@ -1,6 +1,5 @@
 -- A session has one block, and each of its answers is told by that block.
-use Rattle.std.proofs.Common.{◌≡◌, ℕ, zero, suc, ◌+◌, ◌-◌, ◌<◌, ◌≤◌, ◌⊎◌, inl, inr, ⊎_elim, true, List, Option, Some, None, option_map, refl, ap, sym, ◌∙◌, subst, arith}
-use Rattle.std.proofs.lemmas.Bool.{cases_lt}
+use Rattle.std.proofs.Common.{◌≡◌, ℕ, zero, suc, ◌+◌, ◌-◌, ◌≤◌, ◌⊎◌, inl, inr, ⊎_elim, true, List, Option, Some, None, option_map, refl, ap, sym, ◌∙◌, subst, arith}
 use Rattle.std.proofs.lemmas.Option.{same_Some}
 use Rattle.mapworld_calls.specs.declared.block.Block.{Block}
 use Rattle.mapworld_calls.specs.Every.Ask.{Ask}
@@ -13,7 +12,6 @@ use Rattle.mapworld_calls.specs.Every.Calls.{At, shared, exclusive, effect_on, r
 use Rattle.mapworld_calls.specs.Every.Setup.{Setup, ask_at, session_of, opening_key}
 use Rattle.mapworld_calls.specs.Every.Replay.{one, block_work, work_of, reached, told_as, told_by, after_ask, before}
 use Rattle.mapworld_calls.specs.Every.Agrees.{Reply, IsToldBy, IsAnsweredInSession, IsAnsweredBy, IsAnswered}
-use Rattle.mapworld_calls.specs.Every.Placed.{IsDoneWithin}
 use Rattle.mapworld_laws.specs.Worlds.{IsWorld, IsBlockOf}
 use Rattle.mapworld_laws.proofs.Blocks.{own-ask, own-done, one-place}
 use Rattle.mapworld_laws.specs.Sessions.{IsReplyOf, IsCallOfSession, SessionsTellTheirOwn, reads_or_downgrades, IsReadBehindWrite, WritesAreReadBack}

@@ -1,7 +1,7 @@
 -- The visits of a walk do each key at most once, and each pair that is left alone.
-use Rattle.std.proofs.Common.{◌≡◌, ℕ, zero, suc, ◌+◌, ◌-◌, ◌<◌, ◌≤◌, ◌==◌, ◌⊎◌, inl, inr, ⊎_elim, true, List, [], ◌∷◌, ◌++◌, length, take, map, Option, Some, None, is_some, slice_get, IsSome, refl, ap, sym, ◌∙◌, subst, arith, eq-eqb}
+use Rattle.std.proofs.Common.{◌≡◌, ℕ, zero, suc, ◌+◌, ◌-◌, ◌<◌, ◌≤◌, ◌==◌, ◌⊎◌, ⊎_elim, true, List, [], ◌∷◌, ◌++◌, length, take, map, Option, Some, None, is_some, slice_get, IsSome, refl, ap, sym, ◌∙◌, subst, arith, eq-eqb}
 use Rattle.std.specs.List.{flat_map}
-use Rattle.std.proofs.lemmas.Bool.{cases_lt, cases_eq}
+use Rattle.std.proofs.lemmas.Bool.{cases_eq}
 use Rattle.std.proofs.lemmas.Option.{same_Some, none-some, slice_get_within, slice_get_cases, get_or_from_slice_get}
 use Rattle.std.proofs.lemmas.List.{take_more, take_all}
 use Rattle.mapworld_calls.specs.declared.block.Block.{Block}
@@ -12,16 +12,16 @@ use Rattle.mapworld_calls.specs.Every.Walk as walk
 use Rattle.mapworld_calls.specs.Every.Answer.{Answer}
 use Rattle.mapworld_calls.specs.Every.Answer as answer
 use Rattle.mapworld_calls.specs.Every.Calls.{visit_answer}
-use Rattle.mapworld_calls.specs.Every.Setup.{Setup, Laws, ask_at, stop_of}
-use Rattle.mapworld_calls.specs.Every.Replay.{visit, work_of, block_work, done_keys, shard_by, left, frame_of, contents, before}
-use Rattle.mapworld_calls.specs.Every.Agrees.{Reply, Visit, IsVisitOf, IsVisited, IsWalked, IsRefusedWalk, AreWhole, number_of, items_of, reads_of, IsAnsweredBy, IsAnswered}
+use Rattle.mapworld_calls.specs.Every.Setup.{Setup, Laws, ask_at}
+use Rattle.mapworld_calls.specs.Every.Replay.{work_of, done_keys, shard_by, left, frame_of, contents, before}
+use Rattle.mapworld_calls.specs.Every.Agrees.{Reply, Visit, IsVisitOf, IsVisited, IsWalked, IsRefusedWalk, AreWhole, number_of, items_of, reads_of, IsAnsweredBy}
 use Rattle.mapworld_calls.specs.Every.Placed.{IsVisitDone}
 use Rattle.mapworld_calls.proofs.Every.Frames.{contents-push}
 use Rattle.mapworld_calls.proofs.Every.Works.{filter-passes, keeps-to_shard, before-same}
-use Rattle.mapworld_laws.specs.Worlds.{IsWorld, RouteWithin, IsBlockOf, StandsBetween, IsLeftAlone}
+use Rattle.mapworld_laws.specs.Worlds.{IsWorld, IsBlockOf, StandsBetween, IsLeftAlone}
 use Rattle.mapworld_laws.specs.Walks.{keys_given, AreOnce, deed_read, IsGiven, GivesEachOnce, WalksGiveEachOnce, VisitsGiveEachOnce}
 use Rattle.mapworld_laws.proofs.Blocks.{own-ask, own-done, visits-rise}
-use Rattle.mapworld_laws.proofs.Joined.{IsInPiece, joined-at, joined-cases, length-mapped, mapped-at, mapped-cases, any-at, filter-all}
+use Rattle.mapworld_laws.proofs.Joined.{joined-at, joined-cases, length-mapped, mapped-at, mapped-cases, any-at, filter-all}
 
 module _ {K V D T : Type 0} (w : Setup K V D T) where
   -- what a key has behind the block at a place
@@ -90,11 +90,11 @@ module _ {K V D T : Type 0} (w : Setup K V D T) (laws : Laws w) (bs : List (Bloc
         let va = visited.are a.piece a.whole a.at in
         let vb = visited.are b.piece b.whole b.at in
         let pieces : a.piece ≡ b.piece =
-            sym va.visit ∙ sym (done-route w a.whole.block a.inner j a.inside) ∙ laws.routes j k e ∙ done-route w b.whole.block b.inner k b.inside ∙ vb.visit in
+        sym va.visit ∙ sym (done-route w a.whole.block a.inner j a.inside) ∙ laws.routes j k e ∙ done-route w b.whole.block b.inner k b.inside ∙ vb.visit in
         let wholes : b.whole ≡ a.whole = same_Some b.whole a.whole (sym b.at ∙ ap (λ x. slice_get vs x) (sym pieces) ∙ a.at) in
         let inners : a.inner ≡ b.inner =
-            done-once a.whole.place a.whole.block (of-visit a.piece a.whole va) a.inner b.inner j k a.inside
-            (ap (λ (v : Visit K). slice_get (done_keys w v.block) b.inner) (sym wholes) ∙ b.inside) e in
+        done-once a.whole.place a.whole.block (of-visit a.piece a.whole va) a.inner b.inner j k a.inside
+        (ap (λ (v : Visit K). slice_get (done_keys w v.block) b.inner) (sym wholes) ∙ b.inside) e in
         a.place
         ∙ ap (λ x. length (flat_map (λ v. done_keys w v.block) (take x vs)) + a.inner) pieces
         ∙ ap (λ x. length (flat_map (λ v. done_keys w v.block) (take b.piece vs)) + x) inners
@@ -178,9 +178,9 @@ module _ {K V D T : Type 0} (w : Setup K V D T) (laws : Laws w) (bs : List (Bloc
         let told : told_of v k ≡ visit_answer w.deeds f (Some p) = ap (λ o. visit_answer w.deeds f o) (before-same w laws bs v.place k q same ∙ there) in
         let place = length (flat_map (λ v. done_keys w v.block) (take n vs)) + m in
         let item : slice_get (items_of w bs f vs) place ≡ Some (visit_answer w.deeds f (Some p)) =
-            ap (λ x. slice_get (items_of w bs f vs) (x + m)) (sym (length-mapped (λ v. done_keys w v.block) told_of (take n vs)))
-            ∙ joined-at (λ v. map (told_of v) (done_keys w v.block)) vs n m v (told_of v k) at (mapped-at (told_of v) (done_keys w v.block) m k inside)
-            ∙ ap Some told in
+        ap (λ x. slice_get (items_of w bs f vs) (x + m)) (sym (length-mapped (λ v. done_keys w v.block) told_of (take n vs)))
+        ∙ joined-at (λ v. map (told_of v) (done_keys w v.block)) vs n m v (told_of v k) at (mapped-at (told_of v) (done_keys w v.block) m k inside)
+        ∙ ap Some told in
         record {
           place = place;
           key = k;

@@ -1,6 +1,8 @@
 //! The laws: each function's contract is one. They are for proofs, and do nothing when they run.
 ghost use Rattle.mapworld_laws.specs.Counts.{CountsAreNumbers};
+ghost use Rattle.mapworld_laws.specs.Refusals.{LockedHasNoBlock, NoGuardIsAnswered, RefusalsMayFindTheirKey, RefusedForMemoryHasNoBlock};
 ghost use Rattle.mapworld_laws.specs.Sessions.{SessionsTellTheirOwn, WritesAreReadBack};
+ghost use Rattle.mapworld_laws.specs.Shards.{OtherShardsCommute};
 ghost use Rattle.mapworld_laws.specs.Walks.{VisitsGiveEachOnce, WalksGiveEachOnce};
 
 use mapworld_calls::Deed;
@@ -31,4 +33,32 @@ pub fn visits_give_each_once<K, V, D: Deed<K, V>>()
 /// it is 0, and `capacity` is no less.
 pub fn counts_are_numbers<K, V, D: Deed<K, V>>()
     ensures { CountsAreNumbers K V D D.Answer }
+{}
+
+/// Two neighbouring blocks on different shards may change places, walks' visits and sessions too: each block tells what it
+/// told, contents are the same, and so are all replies.
+pub fn other_shards_commute<K, V, D: Deed<K, V>>()
+    ensures { OtherShardsCommute K V D D.Answer }
+{}
+
+/// A call that was refused for memory has no block, so it changed no pair; of a walk stand the visits before the refused
+/// one, each whole.
+pub fn refused_for_memory_has_no_block<K, V, D: Deed<K, V>>()
+    ensures { RefusedForMemoryHasNoBlock K V D D.Answer }
+{}
+
+/// A call that was answered `Locked` is a try, and has no block.
+pub fn locked_has_no_block<K, V, D: Deed<K, V>>()
+    ensures { LockedHasNoBlock K V D D.Answer }
+{}
+
+/// A call on a guard is answered `NoGuard` where it stands in no session, or in one whose opening was refused.
+pub fn no_guard_is_answered<K, V, D: Deed<K, V>>()
+    ensures { NoGuardIsAnswered K V D D.Answer }
+{}
+
+/// That an insertion which finds its key is never refused for memory doesn't follow: well placed blocks and replies of the
+/// replay allow a world in which one is.
+pub fn refusals_may_find_their_key<K, V, D: Deed<K, V>>()
+    ensures { RefusalsMayFindTheirKey K V D D.Answer }
 {}
