@@ -85,8 +85,16 @@ fn a_call_that_gives_up_leaves_the_word(rt: HostRuntime) -> Result<(), Fail> {
     Ok(())
 }
 
-/// Sleeps at a mutex until it is had, and says so.
-fn sleeps<R: Wait>(mutex: &RawMutex<'_, '_, R>, me: &mut ThreadData, said: &AtomicU64) {
+/// Sleeps at a mutex until it is had, once another has said that it has it, and says so.
+fn sleeps<R: Wait + Clock>(
+    rt: &R,
+    mutex: &RawMutex<'_, '_, R>,
+    me: &mut ThreadData,
+    said: &AtomicU64,
+) {
+    if !has_begun(rt, said) {
+        return;
+    }
     let token = mutex.lock(me);
     said.store(1, Ordering::SeqCst);
     mutex.unlock(token);
@@ -137,11 +145,7 @@ fn the_bit_stays_where_others_sleep(rt: HostRuntime) -> Result<(), Fail> {
     let (seen, _) = thread::join(
         &rt,
         || gives_up_beside_a_sleeper(&rt, &table, &mutex, &mut one, &mut two, &said),
-        || {
-            if has_begun(&rt, &said) {
-                sleeps(&mutex, &mut other, &said);
-            }
-        },
+        || sleeps(&rt, &mutex, &mut other, &said),
     );
     assert!(rt; (seen == [true; 4]) & (table.word(0) == Some(0)));
     Ok(())
