@@ -4,9 +4,7 @@ ghost use Rattle.std.specs.Prelude.{◌≡◌, IfSome};
 use crate::waiting::has_begun;
 use crate::words::TURNS;
 use lock_api_raw::{MakeLock as _, RawMutex as _, RawMutexTimed};
-use parking_lot_core::{
-    DEFAULT_UNPARK_TOKEN, FilterOp, ParkingLot, ThreadData, unpark_filter,
-};
+use parking_lot_core::{DEFAULT_UNPARK_TOKEN, FilterOp, ParkingLot, ThreadData, unpark_filter};
 use parking_lot_locks::{LockTable, RawFairMutex, RawMutex};
 use std::sync::Wait;
 use std::sync::atomic::{AtomicU64, Ordering};
@@ -87,8 +85,16 @@ fn a_call_that_gives_up_leaves_the_word(rt: HostRuntime) -> Result<(), Fail> {
     Ok(())
 }
 
-/// Sleeps at a mutex until it is had, and says so.
-fn sleeps<R: Wait>(mutex: &RawMutex<'_, '_, R>, me: &mut ThreadData, said: &AtomicU64) {
+/// Sleeps at a mutex until it is had, once another has said that it has it, and says so.
+fn sleeps<R: Wait + Clock>(
+    rt: &R,
+    mutex: &RawMutex<'_, '_, R>,
+    me: &mut ThreadData,
+    said: &AtomicU64,
+) {
+    if !has_begun(rt, said) {
+        return;
+    }
     let token = mutex.lock(me);
     said.store(1, Ordering::SeqCst);
     mutex.unlock(token);
@@ -112,13 +118,14 @@ fn gives_up_beside_a_sleeper<R: Wait + Clock>(
     rt: &R,
     table: &LockTable<'_, R>,
     mutex: &RawMutex<'_, '_, R>,
-    parties: (&mut ThreadData, &mut ThreadData),
+    me: &mut ThreadData,
+    party: &mut ThreadData,
     said: &AtomicU64,
 ) -> [bool; 4] {
-    let token = mutex.lock(parties.0);
+    let token = mutex.lock(me);
     said.store(2, Ordering::SeqCst);
     let slept = is_waited_for(rt, table.lot(), mutex.row().first_key());
-    let tried = mutex.try_lock_for(Duration::from_millis(1), rt, parties.1);
+    let tried = mutex.try_lock_for(Duration::from_millis(1), rt, party);
     let gave_up = !is_had(mutex, tried);
     let stays = table.word(0) == Some(3);
     said.store(0, Ordering::SeqCst);
@@ -137,12 +144,8 @@ fn the_bit_stays_where_others_sleep(rt: HostRuntime) -> Result<(), Fail> {
     let said = AtomicU64::new(0);
     let (seen, _) = thread::join(
         &rt,
-        || gives_up_beside_a_sleeper(&rt, &table, &mutex, (&mut one, &mut two), &said),
-        || {
-            if has_begun(&rt, &said) {
-                sleeps(&mutex, &mut other, &said);
-            }
-        },
+        || gives_up_beside_a_sleeper(&rt, &table, &mutex, &mut one, &mut two, &said),
+        || sleeps(&rt, &mutex, &mut other, &said),
     );
     assert!(rt; (seen == [true; 4]) & (table.word(0) == Some(0)));
     Ok(())
