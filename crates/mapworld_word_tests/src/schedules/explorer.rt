@@ -70,7 +70,8 @@ impl<'r, 'p, R: AllocGlobal + Abort> Explorer<'r, 'p, R> {
             }
             states = self.next_states(&states)?;
         }
-        panic!(self.rt; "{:?} go on behind {MOST_STEPS} steps", self.two.programs)
+        let programs = self.two.programs;
+        panic!(self.rt; "{programs:?} go on behind {MOST_STEPS} steps")
     }
 
     /// The state before the first step.
@@ -236,7 +237,8 @@ impl<'r, 'p, R: AllocGlobal + Abort> Explorer<'r, 'p, R> {
     /// Ends the test where a rule is broken behind a schedule.
     fn must_hold(&self, broken: Option<&'static str>, schedule: &[Step]) {
         if let Some(rule) = broken {
-            panic!(self.rt; "{rule}: {:?} by {schedule:?}", self.two.programs)
+            let programs = self.two.programs;
+            panic!(self.rt; "{rule}: {programs:?} by {schedule:?}")
         }
     }
 }
