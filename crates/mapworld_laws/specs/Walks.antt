@@ -1,5 +1,5 @@
 -- What a walk gives: each key at most once, and each pair that is left alone.
-use Rattle.std.specs.Prelude.{◌≡◌, ◌≢◌, ℕ, Bool, List, Option, Some, None, slice_get, flat_map, IsTrue}
+use Rattle.std.specs.Prelude.{◌≡◌, ◌≢◌, ℕ, Bool, List, Option, Some, None, slice_get, length, flat_map, IsTrue}
 use Rattle.mapworld_calls.specs.declared.block.Block.{Block}
 use Rattle.mapworld_calls.specs.Every.Ask as ask
 use Rattle.mapworld_calls.specs.Every.Walk.{Walk}
@@ -49,6 +49,8 @@ pub record GivesEachOnce {K V D T : Type 0} (w : Setup K V D T) (bs : List (Bloc
   pub visited : IsVisited w bs t c f visits
   pub answered : IsWalkAnswer w bs f visits a
   pub at_most_once : AreOnce w.eq (keys_given w visits)
+  -- a walk that reads is answered as many reads as it gave keys
+  pub as_many : (d : D) → deed_read f ≡ Some d → length (reads_of (items_of w bs f visits)) ≡ length (keys_given w visits)
   pub all : RouteWithin w → stop_of f ≡ None → GivesWhatIsLeftAlone w bs t c f visits
 
 -- a walk that is answered and wasn't refused gives each key at most once, and where it goes to the end, each pair that is left
