@@ -20,7 +20,7 @@ use Rattle.mapworld_calls.proofs.Every.Frames.{contents-push}
 use Rattle.mapworld_calls.proofs.Every.Works.{filter-passes, keeps-to_shard, before-same}
 use Rattle.mapworld_laws.specs.Worlds.{IsWorld, IsBlockOf, StandsBetween, IsLeftAlone}
 use Rattle.mapworld_laws.specs.Walks.{keys_given, AreOnce, deed_read, IsGiven, GivesEachOnce, WalksGiveEachOnce, VisitsGiveEachOnce}
-use Rattle.mapworld_laws.proofs.Blocks.{own-ask, own-done, visits-rise}
+use Rattle.mapworld_laws.proofs.Blocks.{own-ask, own-done, visits-rise, one-place}
 use Rattle.mapworld_laws.proofs.Joined.{joined-at, joined-cases, length-mapped, mapped-at, mapped-cases, any-at, filter-all}
 
 module _ {K V D T : Type 0} (w : Setup K V D T) where
@@ -212,7 +212,11 @@ module _ {K V D T : Type 0} (w : Setup K V D T) (laws : Laws w) (bs : List (Bloc
             given-at (w.route q) key.0 v key.1 q p at key.2 key.3 now
 
 pub visits-once : {K V D T : Type 0} → VisitsGiveEachOnce K V D T
-visits-once w laws bs replies world t c f asked vs visited = given-once w laws bs replies world t c f asked vs visited
+visits-once {K} w laws bs replies world t c f asked i j m n b d p q first second hp hq e =
+    let visits : b.visit ≡ d.visit = sym (done-route w b m p hp) ∙ laws.routes p q e ∙ done-route w d n q hq in
+    let places : i ≡ j = one-place w bs replies world t c i j b d first second visits in
+    let blocks : d ≡ b = same_Some d b (sym second.listed ∙ ap (λ x. slice_get bs x) (sym places) ∙ first.listed) in
+    (places, done-once w laws bs replies world t c f asked i b first m n p q hp (ap (λ (x : Block K). slice_get (done_keys w x) n) (sym blocks) ∙ hq) e)
 
 -- an answered walk that wasn't refused has ended
 pub walked : {K V D T : Type 0} (w : Setup K V D T) (bs : List (Block K)) (replies : List (Reply K V T)) → IsWorld w bs replies → (i : ℕ) (r : Reply K V T) → slice_get replies i ≡ Some r → (f : Walk D)

@@ -10,7 +10,7 @@ use Rattle.mapworld_calls.specs.Every.Calls.{visit_answer}
 use Rattle.mapworld_calls.specs.Every.Setup.{Setup, Laws, ask_at, stop_of}
 use Rattle.mapworld_calls.specs.Every.Replay.{done_keys, before}
 use Rattle.mapworld_calls.specs.Every.Agrees.{Reply, Visit, IsVisited, items_of, reads_of, IsWalkAnswer}
-use Rattle.mapworld_laws.specs.Worlds.{IsWorld, RouteWithin, StandsBetween, IsLeftAlone}
+use Rattle.mapworld_laws.specs.Worlds.{IsWorld, RouteWithin, IsBlockOf, StandsBetween, IsLeftAlone}
 
 -- the keys that the visits have done, in order of visits
 abbrev pub keys_given : {K V D T : Type 0} → Setup K V D T → List (Visit K) → List K
@@ -61,9 +61,11 @@ WalksGiveEachOnce K V D T =
     → (i : ℕ) (r : Reply K V T) → slice_get replies i ≡ Some r → r.answer ≢ answer.NoMemory
     → (f : Walk D) → ask_at w r.thread r.call ≡ Some (ask.Walk f) → GivesEachOnce w bs r.thread r.call f r.answer
 
--- and a walk that was refused, or that isn't answered yet, gave each key at most once too
+-- no two visits of a walk have done equal keys, and none has done one twice: also while the walk goes on, and where it was
+-- refused
 abbrev pub VisitsGiveEachOnce : Type 0 → Type 0 → Type 0 → Type 0 → Type 0
 VisitsGiveEachOnce K V D T =
     (w : Setup K V D T) → Laws w → (bs : List (Block K)) (replies : List (Reply K V T)) → IsWorld w bs replies
     → (t c : ℕ) (f : Walk D) → ask_at w t c ≡ Some (ask.Walk f)
-    → (vs : List (Visit K)) → IsVisited w bs t c f vs → AreOnce w.eq (keys_given w vs)
+    → (i j m n : ℕ) (b d : Block K) (p q : K) → IsBlockOf bs i b t c → IsBlockOf bs j d t c
+    → slice_get (done_keys w b) m ≡ Some p → slice_get (done_keys w d) n ≡ Some q → IsTrue (w.eq p q) → (i ≡ j) × (m ≡ n)

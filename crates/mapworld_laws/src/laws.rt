@@ -24,7 +24,8 @@ pub fn walks_give_each_once<K, V, D: Deed<K, V>>()
     ensures { WalksGiveEachOnce K V D D.Answer }
 {}
 
-/// The visits of a walk give each key at most once, also while the walk goes on, and where it is refused for memory.
+/// No two visits of a walk do equal keys, and none does one twice: also while the walk goes on, and where it is refused for
+/// memory.
 pub fn visits_give_each_once<K, V, D: Deed<K, V>>()
     ensures { VisitsGiveEachOnce K V D D.Answer }
 {}
