@@ -7,8 +7,8 @@ ghost use Rattle.mapworld_laws.specs.Walks.{VisitsGiveEachOnce, WalksGiveEachOnc
 
 use mapworld_calls::Deed;
 
-/// What a session's calls are answered is told by what its key had at the session's position and by the session's own
-/// calls: nothing that another block did later changes an answer.
+/// What a call of a session is answered is told by what its key had at the session's position and by the session's own
+/// calls up to it: nothing that another block did later changes an answer.
 pub fn sessions_tell_their_own<K, V, D: Deed<K, V>>()
     ensures { SessionsTellTheirOwn K V D D.Answer }
 {}
