@@ -16,7 +16,7 @@ use Rattle.mapworld_calls.specs.Every.Agrees.{Reply, Visit, IsVisited, IsWalked,
 use Rattle.mapworld_laws.specs.Worlds.{IsWorld, RouteWithin, StandsBetween, IsLeftAlone}
 use Rattle.mapworld_laws.specs.Walks.{keys_given, AreOnce}
 use Rattle.mapworld_laws.specs.Counts.{AreThePairs, CountsThem, CountsAreNumbers}
-use Rattle.mapworld_laws.proofs.Joined.{joined-cases, mapped-at, mapped-cases}
+use Rattle.mapworld_laws.proofs.Joined.{Passes, joined-cases, mapped-at, mapped-cases}
 use Rattle.mapworld_laws.proofs.Matched.{HasEach, length-le, find-passes, find-there, what-is_there, sum_by-le}
 use Rattle.mapworld_laws.proofs.Walks.{done-route, of-visit, done-there, given-once, found-first, given-alone, walked}
 
@@ -35,6 +35,11 @@ module _ {K V D T : Type 0} (w : Setup K V D T) (laws : Laws w) (routed : RouteW
   is-there : (k : K) (i : ℕ) → before w bs i k ≡ before w bs first k → IsSome (before w bs i k) → IsSome (pair_of w.eq pairs k)
   is-there k i same there = ap is_some (are.are k ∙ sym same) ∙ there
 
+  found-key : (k : K) → Passes (has_key w.eq k) pairs → Passes (λ j. w.eq k j) the_keys
+  found-key k p =
+      let same : w.eq k p.1.0 ≡ true = laws.equivalence.symm k p.1.0 ∙ p.3 in
+      (p.0, p.1.0, mapped-at (λ (p : K × V). p.0) pairs p.0 p.1 p.2, same)
+
   -- each key that was given has a pair
   given-have : HasEach w.eq (keys_given w vs) the_keys
   given-have m k at =
@@ -43,8 +48,7 @@ module _ {K V D T : Type 0} (w : Setup K V D T) (laws : Laws w) (routed : RouteW
       let of = of-visit w laws bs replies world t c f asked g.piece g.whole is in
       let same : before w bs g.whole.place k ≡ before w bs first k = found-first w laws bs replies world t c f asked first last stands k (alone k) g.whole.place g.whole.block of (sym (done-route w g.whole.block g.inner k g.inside)) in
       let there : IsSome (pair_of w.eq pairs k) = is-there k g.whole.place same (done-there w laws bs replies world t c f asked g.whole.place g.whole.block of g.inner k g.inside) in
-      let p = find-passes (has_key w.eq k) pairs there in
-      (p.0, p.1.0, mapped-at (λ (p : K × V). p.0) pairs p.0 p.1 p.2, laws.equivalence.symm k p.1.0 ∙ p.3)
+      found-key k (find-passes (has_key w.eq k) pairs there)
 
   -- and each pair's key was given
   pairs-given : HasEach w.eq the_keys (keys_given w vs)

@@ -2,6 +2,7 @@
 use Rattle.std.proofs.Common.{◌≡◌, ℕ, zero, suc, ◌+◌, ◌-◌, ◌≤◌, ◌⊎◌, inl, inr, ⊎_elim, true, List, Option, Some, None, option_map, refl, ap, sym, ◌∙◌, subst, arith}
 use Rattle.std.proofs.lemmas.Option.{same_Some}
 use Rattle.mapworld_calls.specs.declared.block.Block.{Block}
+use Rattle.mapworld_calls.specs.Deeds.{Deeds}
 use Rattle.mapworld_calls.specs.Every.Ask.{Ask}
 use Rattle.mapworld_calls.specs.Every.Ask as ask
 use Rattle.mapworld_calls.specs.Every.Begin.{Begin}
@@ -63,12 +64,37 @@ module _ {K V D T : Type 0} (w : Setup K V D T) (bs : List (Block K)) (replies :
       let own : IsAnswered w bs t c r.answer = subst (λ (x : ℕ). IsAnswered w bs x c r.answer) is.thread (subst (λ (x : ℕ). IsAnswered w bs r.thread x r.answer) is.call h) in
       told-here i b of (c - o) r.answer (told-reply i b of c call r.answer own)
 
+-- sessions that make the same calls and found the same are at the same after each of them
+module _ {K V D T : Type 0} (w w' : Setup K V D T) (deeds : w.deeds ≡ w'.deeds) (t t' o o' n : ℕ) (k : K) (p : Option (K × V)) (calls : (m : ℕ) → m ≤ n → ask_at w' t' (o' + m) ≡ ask_at w t (o + m)) where
+  reached-alike : (m : ℕ) → m ≤ n → reached w k t o m p ≡ reached w' k t' o' m p
+  reached-alike zero le = refl
+  reached-alike (suc m) le =
+      ap (λ (d : Deeds D K V T). after_ask d k (ask_at w t (o + m)) (reached w k t o m p)) deeds
+      ∙ ap (λ a. after_ask w'.deeds k a (reached w k t o m p)) (sym (calls m (omega arith)))
+      ∙ ap (λ s. after_ask w'.deeds k (ask_at w' t' (o' + m)) s) (reached-alike m (omega arith))
+
+  told-alike : told_in w k t o n p ≡ told_in w' k t' o' n p
+  told-alike =
+      ap (λ (d : Deeds D K V T). option_map (λ a. told d k a (reached w k t o n p)) (ask_at w t (o + n))) deeds
+      ∙ ap (λ s. option_map (λ a. told w'.deeds k a s) (ask_at w t (o + n))) (reached-alike n (omega arith))
+      ∙ ap (λ x. option_map (λ a. told w'.deeds k a (reached w' k t' o' n p)) x) (sym (calls n (omega arith)))
+
 pub tell-their-own : {K V D T : Type 0} → SessionsTellTheirOwn K V D T
-tell-their-own w bs bs' replies replies' world world' t o g asked i i' b b' of of' same c call r r' is is' =
+tell-their-own {K} {V} w w' deeds bs bs' replies replies' world world' t t' o o' n h call call' r r' is is' =
+    let k = opening_key h.opening in
+    let first : o + 0 ≡ o = omega arith in
+    let first' : o' + 0 ≡ o' = omega arith in
+    let asked' : ask_at w' t' o' ≡ Some (ask.Begin h.opening) =
+    ap (λ x. ask_at w' t' x) (sym first') ∙ h.calls 0 (omega arith) ∙ ap (λ x. ask_at w t x) first ∙ h.asked in
+    let back : o + n - o ≡ n = omega arith in
+    let back' : o' + n - o' ≡ n = omega arith in
     same_Some r.answer r'.answer
-    (sym (answer-told w bs replies world t o g asked i b of c call r is)
-    ∙ ap (λ p. told_in w (opening_key g) t o (c - o) p) same
-    ∙ answer-told w bs' replies' world' t o g asked i' b' of' c call r' is')
+    (sym (answer-told w bs replies world t o h.opening h.asked h.place h.block h.at (o + n) call r is)
+    ∙ ap (λ x. told_in w k t o x (before w bs h.place k)) back
+    ∙ told-alike w w' deeds t t' o o' n k (before w bs h.place k) h.calls
+    ∙ ap (λ (p : Option (K × V)). told_in w' k t' o' n p) h.found
+    ∙ ap (λ x. told_in w' k t' o' x (before w' bs' h.place' k)) (sym back')
+    ∙ answer-told w' bs' replies' world' t' o' h.opening asked' h.place' h.block' h.at' (o' + n) call' r' is')
 
 -- a guard of that pair, exclusive or shared
 abbrev IsGuardOf : {K V : Type 0} → At K V → K × V → Type 0

@@ -20,7 +20,7 @@ use Rattle.mapworld_calls.proofs.Every.Frames.{contents-push}
 use Rattle.mapworld_calls.proofs.Every.Works.{filter-passes, keeps-to_shard, before-same}
 use Rattle.mapworld_laws.specs.Worlds.{IsWorld, IsBlockOf, StandsBetween, IsLeftAlone}
 use Rattle.mapworld_laws.specs.Walks.{keys_given, AreOnce, deed_read, IsGiven, GivesEachOnce, WalksGiveEachOnce, VisitsGiveEachOnce}
-use Rattle.mapworld_laws.proofs.Blocks.{own-ask, own-done, visits-rise}
+use Rattle.mapworld_laws.proofs.Blocks.{own-ask, own-done, visits-rise, one-place}
 use Rattle.mapworld_laws.proofs.Joined.{joined-at, joined-cases, length-mapped, mapped-at, mapped-cases, any-at, filter-all}
 
 module _ {K V D T : Type 0} (w : Setup K V D T) where
@@ -61,6 +61,12 @@ reads-at (a ∷ items) zero x all at =
 reads-at (a ∷ items) (suc n) x all at =
     let r = all 0 a refl in
     ap (λ xs. slice_get xs (suc n)) (reads-cons a items r.0 r.1) ∙ reads-at items n x (λ m b h. all (suc m) b h) at
+
+reads-length : {K V T : Type 0} (items : List (Answer K V T)) → ((m : ℕ) (a : Answer K V T) → slice_get items m ≡ Some a → (y : T) × (a ≡ answer.Read y)) → length (reads_of items) ≡ length items
+reads-length [] all = refl
+reads-length (a ∷ items) all =
+    let r = all 0 a refl in
+    ap length (reads-cons a items r.0 r.1) ∙ ap (λ n. suc n) (reads-length items (λ m b h. all (suc m) b h))
 
 module _ {K V D T : Type 0} (w : Setup K V D T) (laws : Laws w) (bs : List (Block K)) (replies : List (Reply K V T)) (world : IsWorld w bs replies) (t c : ℕ) (f : Walk D) (asked : ask_at w t c ≡ Some (ask.Walk f)) where
   pub of-visit : (n : ℕ) (v : Visit K) → IsVisitOf bs t c n v → IsBlockOf bs v.place v.block t c
@@ -171,6 +177,9 @@ module _ {K V D T : Type 0} (w : Setup K V D T) (laws : Laws w) (bs : List (Bloc
         let of = of-visit p.piece p.whole (visited.are p.piece p.whole p.at) in
         item-read d is p.whole k.0 a k.2 (done-there p.whole.place p.whole.block of p.inner k.0 k.1)
 
+    pub reads-as_many : (d : D) → deed_read f ≡ Some d → length (reads_of (items_of w bs f vs)) ≡ length (keys_given w vs)
+    reads-as_many d is = reads-length (items_of w bs f vs) (items-read d is) ∙ length-mapped (λ v. done_keys w v.block) told_of vs
+
     -- a key that a visit has done was given, with what the walk tells of the pair that it had there
     pub given-at : (n m : ℕ) (v : Visit K) (k q : K) (p : K × V) → slice_get vs n ≡ Some v → slice_get (done_keys w v.block) m ≡ Some k → w.eq k q ≡ true → before w bs v.place q ≡ Some p
         → IsGiven w bs f vs q p
@@ -203,7 +212,11 @@ module _ {K V D T : Type 0} (w : Setup K V D T) (laws : Laws w) (bs : List (Bloc
             given-at (w.route q) key.0 v key.1 q p at key.2 key.3 now
 
 pub visits-once : {K V D T : Type 0} → VisitsGiveEachOnce K V D T
-visits-once w laws bs replies world t c f asked vs visited = given-once w laws bs replies world t c f asked vs visited
+visits-once {K} w laws bs replies world t c f asked i j m n b d p q first second hp hq e =
+    let visits : b.visit ≡ d.visit = sym (done-route w b m p hp) ∙ laws.routes p q e ∙ done-route w d n q hq in
+    let places : i ≡ j = one-place w bs replies world t c i j b d first second visits in
+    let blocks : d ≡ b = same_Some d b (sym second.listed ∙ ap (λ x. slice_get bs x) (sym places) ∙ first.listed) in
+    (places, done-once w laws bs replies world t c f asked i b first m n p q hp (ap (λ (x : Block K). slice_get (done_keys w x) n) (sym blocks) ∙ hq) e)
 
 -- an answered walk that wasn't refused has ended
 pub walked : {K V D T : Type 0} (w : Setup K V D T) (bs : List (Block K)) (replies : List (Reply K V T)) → IsWorld w bs replies → (i : ℕ) (r : Reply K V T) → slice_get replies i ≡ Some r → (f : Walk D)
@@ -223,6 +236,7 @@ walks-once {K} {V} {D} {T} w laws bs replies world i r at answered f asked =
           visited = h.visited;
           answered = h.answered;
           at_most_once = given-once w laws bs replies world r.thread r.call f asked h.visits h.visited;
+          as_many = reads-as_many w laws bs replies world r.thread r.call f asked h.visits h.visited;
           all = λ routed whole first last stands q p had alone.
               ⊎_elim
               (λ end. let all_shards = end.0 in

@@ -1,6 +1,6 @@
 -- What the calls of a session are answered is told by the session: by what its key had at the session's place in the order
 -- of blocks, and by the session's own calls up to each of them.
-use Rattle.std.specs.Prelude.{◌≡◌, ℕ, ◌+◌, ◌<◌, ◌⊎◌, Bool, true, false, List, Option, Some, slice_get, IsTrue}
+use Rattle.std.specs.Prelude.{◌≡◌, ℕ, ◌+◌, ◌<◌, ◌≤◌, ◌⊎◌, Bool, true, false, List, Option, Some, slice_get, IsTrue}
 use Rattle.mapworld_calls.specs.declared.block.Block.{Block}
 use Rattle.mapworld_calls.specs.Every.Ask.{Ask}
 use Rattle.mapworld_calls.specs.Every.Ask as ask
@@ -25,17 +25,27 @@ abbrev pub IsCallOfSession : {K V D T : Type 0} → Setup K V D T → ℕ → �
 IsCallOfSession {K} {V} {D} w t o c =
     (c ≡ o) ⊎ ((h : Held V D) × (ask_at w t c ≡ Some (ask.Held h)) × (session_of w t c ≡ Some o))
 
--- in two worlds that differ in nothing but how their threads were stepped, a session that found the same is answered the
--- same, whatever other blocks are listed before it and behind it
+-- two sessions, of any threads in any two worlds, that make the same calls up to their n-th and found the same
+pub record AreAlike {K V D T : Type 0} (w w' : Setup K V D T) (bs bs' : List (Block K)) (t t' o o' n : ℕ) : Type 0 where
+  pub opening : Begin K
+  pub asked : ask_at w t o ≡ Some (ask.Begin opening)
+  pub calls : (m : ℕ) → m ≤ n → ask_at w' t' (o' + m) ≡ ask_at w t (o + m)
+  pub place : ℕ
+  pub block : Block K
+  pub at : IsBlockOf bs place block t o
+  pub place' : ℕ
+  pub block' : Block K
+  pub at' : IsBlockOf bs' place' block' t' o'
+  pub found : before w bs place (opening_key opening) ≡ before w' bs' place' (opening_key opening)
+
+-- their n-th calls are answered the same, whatever other blocks are listed before them and behind them
 abbrev pub SessionsTellTheirOwn : Type 0 → Type 0 → Type 0 → Type 0 → Type 0
 SessionsTellTheirOwn K V D T =
-    (w : Setup K V D T) (bs bs' : List (Block K)) (replies replies' : List (Reply K V T))
-    → IsWorld w bs replies → IsWorld w bs' replies'
-    → (t o : ℕ) (g : Begin K) → ask_at w t o ≡ Some (ask.Begin g)
-    → (i i' : ℕ) (b b' : Block K) → IsBlockOf bs i b t o → IsBlockOf bs' i' b' t o
-    → before w bs i (opening_key g) ≡ before w bs' i' (opening_key g)
-    → (c : ℕ) → IsCallOfSession w t o c
-    → (r r' : Reply K V T) → IsReplyOf replies r t c → IsReplyOf replies' r' t c → r.answer ≡ r'.answer
+    (w w' : Setup K V D T) → w.deeds ≡ w'.deeds → (bs bs' : List (Block K)) (replies replies' : List (Reply K V T))
+    → IsWorld w bs replies → IsWorld w' bs' replies'
+    → (t t' o o' n : ℕ) → AreAlike w w' bs bs' t t' o o' n
+    → IsCallOfSession w t o (o + n) → IsCallOfSession w' t' o' (o' + n)
+    → (r r' : Reply K V T) → IsReplyOf replies r t (o + n) → IsReplyOf replies' r' t' (o' + n) → r.answer ≡ r'.answer
 
 -- a call on the guard that reads, or makes the guard a shared one
 abbrev pub reads_or_downgrades : {K V D : Type 0} → Option (Ask K V D) → Bool

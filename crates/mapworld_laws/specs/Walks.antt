@@ -1,5 +1,5 @@
 -- What a walk gives: each key at most once, and each pair that is left alone.
-use Rattle.std.specs.Prelude.{◌≡◌, ◌≢◌, ℕ, Bool, List, Option, Some, None, slice_get, flat_map, IsTrue}
+use Rattle.std.specs.Prelude.{◌≡◌, ◌≢◌, ℕ, Bool, List, Option, Some, None, slice_get, length, flat_map, IsTrue}
 use Rattle.mapworld_calls.specs.declared.block.Block.{Block}
 use Rattle.mapworld_calls.specs.Every.Ask as ask
 use Rattle.mapworld_calls.specs.Every.Walk.{Walk}
@@ -10,7 +10,7 @@ use Rattle.mapworld_calls.specs.Every.Calls.{visit_answer}
 use Rattle.mapworld_calls.specs.Every.Setup.{Setup, Laws, ask_at, stop_of}
 use Rattle.mapworld_calls.specs.Every.Replay.{done_keys, before}
 use Rattle.mapworld_calls.specs.Every.Agrees.{Reply, Visit, IsVisited, items_of, reads_of, IsWalkAnswer}
-use Rattle.mapworld_laws.specs.Worlds.{IsWorld, RouteWithin, StandsBetween, IsLeftAlone}
+use Rattle.mapworld_laws.specs.Worlds.{IsWorld, RouteWithin, IsBlockOf, StandsBetween, IsLeftAlone}
 
 -- the keys that the visits have done, in order of visits
 abbrev pub keys_given : {K V D T : Type 0} → Setup K V D T → List (Visit K) → List K
@@ -49,6 +49,8 @@ pub record GivesEachOnce {K V D T : Type 0} (w : Setup K V D T) (bs : List (Bloc
   pub visited : IsVisited w bs t c f visits
   pub answered : IsWalkAnswer w bs f visits a
   pub at_most_once : AreOnce w.eq (keys_given w visits)
+  -- a walk that reads is answered as many reads as it gave keys
+  pub as_many : (d : D) → deed_read f ≡ Some d → length (reads_of (items_of w bs f visits)) ≡ length (keys_given w visits)
   pub all : RouteWithin w → stop_of f ≡ None → GivesWhatIsLeftAlone w bs t c f visits
 
 -- a walk that is answered and wasn't refused gives each key at most once, and where it goes to the end, each pair that is left
@@ -59,9 +61,11 @@ WalksGiveEachOnce K V D T =
     → (i : ℕ) (r : Reply K V T) → slice_get replies i ≡ Some r → r.answer ≢ answer.NoMemory
     → (f : Walk D) → ask_at w r.thread r.call ≡ Some (ask.Walk f) → GivesEachOnce w bs r.thread r.call f r.answer
 
--- and a walk that was refused, or that isn't answered yet, gave each key at most once too
+-- no two visits of a walk have done equal keys, and none has done one twice: also while the walk goes on, and where it was
+-- refused
 abbrev pub VisitsGiveEachOnce : Type 0 → Type 0 → Type 0 → Type 0 → Type 0
 VisitsGiveEachOnce K V D T =
     (w : Setup K V D T) → Laws w → (bs : List (Block K)) (replies : List (Reply K V T)) → IsWorld w bs replies
     → (t c : ℕ) (f : Walk D) → ask_at w t c ≡ Some (ask.Walk f)
-    → (vs : List (Visit K)) → IsVisited w bs t c f vs → AreOnce w.eq (keys_given w vs)
+    → (i j m n : ℕ) (b d : Block K) (p q : K) → IsBlockOf bs i b t c → IsBlockOf bs j d t c
+    → slice_get (done_keys w b) m ≡ Some p → slice_get (done_keys w d) n ≡ Some q → IsTrue (w.eq p q) → (i ≡ j) × (m ≡ n)

@@ -7,8 +7,8 @@ ghost use Rattle.mapworld_laws.specs.Walks.{VisitsGiveEachOnce, WalksGiveEachOnc
 
 use mapworld_calls::Deed;
 
-/// What a session's calls are answered is told by what its key had at the session's position and by the session's own
-/// calls: nothing that another block did later changes an answer.
+/// What a call of a session is answered is told by what its key had at the session's position and by the session's own
+/// calls up to it: nothing that another block did later changes an answer.
 pub fn sessions_tell_their_own<K, V, D: Deed<K, V>>()
     ensures { SessionsTellTheirOwn K V D D.Answer }
 {}
@@ -24,7 +24,8 @@ pub fn walks_give_each_once<K, V, D: Deed<K, V>>()
     ensures { WalksGiveEachOnce K V D D.Answer }
 {}
 
-/// The visits of a walk give each key at most once, also while the walk goes on, and where it is refused for memory.
+/// No two visits of a walk do equal keys, and none does one twice: also while the walk goes on, and where it is refused for
+/// memory.
 pub fn visits_give_each_once<K, V, D: Deed<K, V>>()
     ensures { VisitsGiveEachOnce K V D D.Answer }
 {}
