@@ -1,0 +1,4 @@
+pub mod Sizes
+pub mod Left
+pub mod Rest
+pub mod Laws
