@@ -1,1 +1,3 @@
 pub mod Falling
+pub mod Bounding
+pub mod Turning

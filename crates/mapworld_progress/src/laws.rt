@@ -5,3 +5,16 @@ ghost use Rattle.mapworld_progress.specs.Laws.{EndsAtRest, OthersGoOn, SomebodyM
 pub fn steps_fall<K, V, S, D, T>()
     ensures { StepsFall K V S D T }
 {}
+
+/// Whichever thread is stepped, fewer steps are left than the bound, which goes by how many threads, shards, pairs and unanswered calls there
+/// are.
+pub fn steps_are_few<K, V, S, D, T>()
+    ensures { StepsAreFew K V S D T }
+{
+    parking_lot_world::laws::steps_are_few();
+}
+
+/// Where a thread can't move, any other may be stepped from there on, and no more steps are left.
+pub fn others_go_on<K, V, S, D, T>()
+    ensures { OthersGoOn K V S D T }
+{}
