@@ -1,3 +1,5 @@
 pub mod Falling
 pub mod Bounding
+pub mod Sessions
 pub mod Turning
+pub mod Moving

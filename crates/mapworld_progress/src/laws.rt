@@ -18,3 +18,17 @@ pub fn steps_are_few<K, V, S, D, T>()
 pub fn others_go_on<K, V, S, D, T>()
     ensures { OthersGoOn K V S D T }
 {}
+
+/// While a call is unanswered, some thread can move.
+pub fn somebody_moves<K, V, S, D, T>()
+    ensures { SomebodyMoves K V S D T }
+{
+    parking_lot_world::laws::somebody_can_move();
+}
+
+/// Where nobody can move, every call is answered, nobody holds anything or waits, no bit of a word is set, and no desk has a guard.
+pub fn ends_at_rest<K, V, S, D, T>()
+    ensures { EndsAtRest K V S D T }
+{
+    parking_lot_world::laws::somebody_can_move();
+}
