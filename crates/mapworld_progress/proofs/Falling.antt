@@ -1,7 +1,7 @@
 -- Each kind of step is paid for by the steps that are left.
-use Rattle.std.proofs.Common.{◌≡◌, ℕ, suc, ◌+◌, ◌*◌, ◌≤◌, ◌⊎◌, inl, inr, Bool, true, false, if◌then◌else◌, List, ◌∷◌, length, Option, None, Some, slice_get, slice_set, is_some, sum_by, refl, sym, ap, ◌∙◌, subst, arith, length-set}
+use Rattle.std.proofs.Common.{◌≡◌, ℕ, ◌+◌, ◌*◌, ◌≤◌, ◌⊎◌, inl, inr, Bool, true, false, List, length, Option, None, Some, slice_get, slice_set, is_some, sum_by, refl, ap, ◌∙◌, arith, length-set}
 use Rattle.std.proofs.Math.Nat.{mul-suc}
-use Rattle.mapworld_calls.proofs.Lists.{sum_by-set, slice_get-set_same}
+use Rattle.mapworld_calls.proofs.Lists.{sum_by-set}
 use Rattle.mapworld_calls.specs.declared.ask.Ask.{Ask}
 use Rattle.mapworld_calls.specs.declared.ask.Ask.TheVariants as ask
 use Rattle.mapworld_calls.specs.declared.ask.Begin.TheVariants as begin
@@ -14,7 +14,7 @@ use Rattle.parking_lot_world.specs.declared.calls.LockCall.{LockCall}
 use Rattle.parking_lot_world.specs.declared.calls.LockCall.TheVariants as call
 use Rattle.parking_lot_world.specs.Ranks.{cost, steps_left}
 use Rattle.parking_lot_world.specs.Rows.{state}
-use Rattle.mapworld_locks.specs.Steps.{LockMoves, LockStarts}
+use Rattle.mapworld_locks.specs.Steps.{LockStarts}
 use Rattle.mapworld_locks.specs.Views.{Shown}
 use Rattle.mapworld_state.specs.declared.holds.Mode.{Mode}
 use Rattle.mapworld_state.specs.declared.holds.Mode.TheVariants.{Shared, Exclusive}
@@ -35,7 +35,7 @@ use Rattle.mapworld_calls.specs.Calls.{held_answer}
 use Rattle.mapworld_state.specs.Moves.{ends_guard, lent, request_key, changed_phase, found_phase, held_phase, mode_of, request_of, start_phase, start_shard}
 use Rattle.mapworld_state.specs.Places.{Place}
 use Rattle.mapworld_state.specs.State.{State}
-use Rattle.mapworld_state.specs.Steps.{IsStep, start, lock, find, find_grows, find_refused, deed_appends, deed_applies, deed_views, deed_reads, deed_changes, deed_fills, downgrade, release, answers, Answers, Appends, Applies, Changes, Downgrades, Enters, EntersBy, Fills, Finds, GrowsShard, IsRefusedGrowth, Leaves, Looks, MovesLock, Reads, Releases, Replies, Starts, Views}
+use Rattle.mapworld_state.specs.Steps.{IsStep, start, lock, find, find_grows, find_refused, deed_appends, deed_applies, deed_views, deed_reads, deed_changes, deed_fills, downgrade, release, answers, Answers, Appends, Applies, Changes, Downgrades, Enters, EntersBy, Fills, Finds, GrowsShard, IsRefusedGrowth, Leaves, MovesLock, Reads, Releases, Starts, Views}
 use Rattle.mapworld_progress.specs.Left.{call_left, left, phase_left, place_left, release_left}
 use Rattle.mapworld_progress.specs.Sizes.{IsSized}
 

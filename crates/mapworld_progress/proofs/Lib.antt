@@ -3,3 +3,4 @@ pub mod Bounding
 pub mod Sessions
 pub mod Turning
 pub mod Moving
+pub mod Resting

@@ -1,7 +1,7 @@
 -- While a call is unanswered, some thread can move.
-use Rattle.std.proofs.Common.{◌≡◌, ◌≢◌, ℕ, zero, suc, ◌+◌, ◌-◌, ◌<◌, ◌≤◌, ◌==◌, ◌⊎◌, inl, inr, ◌||◌, Bool, true, false, not, List, [], ◌∷◌, drop, Option, None, Some, is_none, length, slice_get, sum_by, refl, sym, ap, ◌∙◌, subst, arith}
-use Rattle.std.specs.Option.{option_and_then, option_map}
-use Rattle.std.proofs.lemmas.Bool.{cases_lt, false≢true, ne_eqb}
+use Rattle.std.proofs.Common.{◌≡◌, ◌≢◌, ℕ, zero, suc, ◌+◌, ◌<◌, ◌==◌, inl, inr, ◌||◌, Bool, true, not, List, [], ◌∷◌, Option, None, Some, is_none, length, slice_get, sum_by, refl, sym, ap, ◌∙◌, arith}
+use Rattle.std.specs.Option.{option_map}
+use Rattle.std.proofs.lemmas.Bool.{cases_lt, ne_eqb}
 use Rattle.std.proofs.lemmas.List.{length-drop}
 use Rattle.std.proofs.lemmas.List.Sums.{sum_by-cons}
 use Rattle.std.proofs.lemmas.Option.{none-some, same_Some}
@@ -18,23 +18,20 @@ use Rattle.parking_lot_world.specs.SoundLaws.{Always, IsApart, SomebodyCanMove}
 use Rattle.parking_lot_world.specs.Worlds.{hold_mode}
 use Rattle.parking_lot_world.proofs.Viewing as viewing
 use Rattle.parking_lot_world.proofs.Viewing.{apart_owner}
-use Rattle.mapworld_calls.specs.declared.reply.Answer.{Answer}
-use Rattle.mapworld_calls.specs.Programs.{opening_before}
 use Rattle.mapworld_calls.specs.Setup.{Setup, session_of}
 use Rattle.mapworld_locks.specs.Aims.{Aim, Gets, GivesUp, Turns}
 use Rattle.mapworld_locks.specs.Stands.{Stand, stand_in, stand_of}
-use Rattle.mapworld_locks.specs.Views.{Shown, held_as, owner_in}
+use Rattle.mapworld_locks.specs.Views.{held_as, owner_in}
 use Rattle.mapworld_locks.proofs.Together.{holders_are_threads}
 use Rattle.mapworld_state.specs.declared.holds.Hold.{Hold}
 use Rattle.mapworld_state.specs.declared.place.Guard.{Guard}
 use Rattle.mapworld_state.specs.declared.place.Phase.{Phase}
 use Rattle.mapworld_state.specs.declared.place.Phase.TheVariants as phase
 use Rattle.mapworld_state.specs.Core.{owed, owes}
-use Rattle.mapworld_state.specs.Held.{IsAt, IsOwing, MayOwe, StandsBefore}
-use Rattle.mapworld_state.specs.Holds.{IsAmong}
+use Rattle.mapworld_state.specs.Held.{IsOwing, MayOwe}
 use Rattle.mapworld_state.specs.Places.{Place}
 use Rattle.mapworld_state.specs.Running.{can_move_in, goes_on, unanswered_of}
-use Rattle.mapworld_state.specs.Sound.{IsInSession, IsReady, Stands}
+use Rattle.mapworld_state.specs.Sound.{IsInSession, Stands}
 use Rattle.mapworld_state.specs.State.{State, threads_of}
 use Rattle.mapworld_state.proofs.HoldsTable.{none-there, only-first}
 use Rattle.mapworld_sound.proofs.Building.{claim-at, session-is, taken-at}

@@ -1,5 +1,5 @@
 -- What a thread can do in its world and at its lock.
-use Rattle.std.proofs.Common.{◌≡◌, ◌≢◌, ℕ, ◌<◌, ◌≤◌, ◌⊎◌, inl, inr, ◌||◌, Bool, true, false, not, List, Option, None, Some, is_none, is_some, length, slice_get, refl, sym, ap, ◌∙◌, subst, arith}
+use Rattle.std.proofs.Common.{◌≡◌, ℕ, ◌<◌, ◌≤◌, inl, inr, ◌||◌, Bool, true, false, List, Option, None, Some, is_none, length, slice_get, refl, sym, ap, ◌∙◌, subst, arith}
 use Rattle.std.specs.Option.{option_and_then, option_map}
 use Rattle.std.proofs.lemmas.Bool.{false≢true}
 use Rattle.std.proofs.lemmas.Option.{none-some, slice_get_cases}
@@ -9,16 +9,13 @@ use Rattle.parking_lot_world.specs.Machines.{can_move}
 use Rattle.parking_lot_world.specs.Machines as machine
 use Rattle.parking_lot_world.specs.Rows.{call_at, state}
 use Rattle.parking_lot_world.specs.Rows as rows
-use Rattle.mapworld_calls.specs.declared.reply.Answer.{Answer}
 use Rattle.mapworld_calls.specs.Setup.{Setup}
 use Rattle.mapworld_locks.specs.Stands.{Stand, stand_in, stand_of}
-use Rattle.mapworld_locks.specs.Views.{Shown}
 use Rattle.mapworld_state.specs.declared.place.Phase.{Phase}
 use Rattle.mapworld_state.specs.declared.place.Phase.TheVariants as phase
-use Rattle.mapworld_state.specs.declared.place.Request.{Request}
 use Rattle.mapworld_state.specs.Held.{HoldsMatch, StandsBefore}
 use Rattle.mapworld_state.specs.Places.{Place}
-use Rattle.mapworld_state.specs.Running.{can_move_in, goes_on, moves_at, moves_before}
+use Rattle.mapworld_state.specs.Running.{can_move_in, moves_at, moves_before}
 use Rattle.mapworld_state.specs.State.{State}
 use Rattle.mapworld_sound.proofs.Holding.{in-call, stand-at}
 use Rattle.mapworld_progress.specs.Left.{left}

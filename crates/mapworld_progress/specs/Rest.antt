@@ -1,5 +1,5 @@
 -- A world whose calls are all answered.
-use Rattle.std.specs.Prelude.{◌≡◌, ℕ, [], Option, None, Some, slice_get}
+use Rattle.std.specs.Prelude.{◌≡◌, ℕ, [], None, Some, slice_get}
 use Rattle.lock_api_desk.specs.Desk.{DeskState}
 use Rattle.parking_lot_world.specs.Rows.{state, inside, queue_at}
 use Rattle.mapworld_locks.specs.Stands.{stand_in}
