@@ -1,5 +1,5 @@
 -- A new world is sound, has its opening pairs, and has room for all its calls.
-use Rattle.std.proofs.Common.{◌≡◌, ℕ, suc, ◌+◌, ◌≤◌, ◌^◌, Bool, true, false, List, [], ◌∷◌, length, map, Option, Some, None, slice_get, IsTrue, vec_capacity, refl, ap, ap₂, sym, ◌∙◌, subst, arith}
+use Rattle.std.proofs.Common.{◌≡◌, ℕ, zero, suc, ◌+◌, ◌≤◌, ◌^◌, Bool, true, false, List, [], ◌∷◌, length, map, replicate, Option, Some, None, slice_get, IsTrue, vec_capacity, refl, ap, ap₂, sym, ◌∙◌, subst, arith}
 use Rattle.std.specs.List.{flat_map, sum_by, list_all}
 use Rattle.std.specs.Option.{option_and_then}
 use Rattle.std.specs.Hash.{HashWrites}
@@ -21,8 +21,11 @@ use Rattle.mapworld_calls.specs.Pairs.{pair_of, opening_pair}
 use Rattle.mapworld_calls.specs.Setup.{Setup}
 use Rattle.mapworld_calls.specs.Placed.{WellPlaced}
 use Rattle.mapworld_state.specs.declared.step.Step.{Step}
-use Rattle.lock_api_desk.specs.Desk.{DeskState}
-use Rattle.mapworld_state.specs.Holds.{Desks}
+use Rattle.parking_lot_world.specs.declared.calls.LockKind.TheVariants as kind
+use Rattle.parking_lot_world.specs.Rows as rows
+use Rattle.mapworld_locks.specs.Fresh.{AreFresh}
+use Rattle.mapworld_locks.specs.Stands.{stand_in}
+use Rattle.mapworld_locks.specs.Views.{Shown, owner_in}
 use Rattle.mapworld_state.specs.declared.holds.Hold.{Hold}
 use Rattle.mapworld_state.specs.declared.place.Phase.{Phase}
 use Rattle.mapworld_state.specs.declared.place.Phase.TheVariants as phase
@@ -35,11 +38,10 @@ use Rattle.mapworld_state.specs.Route.{IsWorldAmount, key_route}
 use Rattle.mapworld_state.specs.State.{State, started_of}
 use Rattle.mapworld_state.specs.World.{setup_of}
 use Rattle.mapworld_state.specs.Sound.{IsInSession, Stands, TablesAgree, Sound}
-use Rattle.mapworld_state.specs.Held.{HoldsMatch}
-use Rattle.mapworld_state.specs.Core.{state_of, owes, lists, adds, unheld, Room}
+use Rattle.mapworld_state.specs.Held.{HoldsMatch, StandsBefore}
+use Rattle.mapworld_state.specs.Core.{state_of, owes, lists, adds, AreLocksOf, Room}
 use Rattle.dashmap_table.specs.Table.{Table}
-use Rattle.mapworld.specs.Beginning.{at_start, AreAtStart, AreFilled, AreHashed, pairs_in, AreReady}
-use Rattle.mapworld_sound.proofs.Orderly.{sound_empty}
+use Rattle.mapworld.specs.Beginning.{at_start, AreAtStart, AreFilled, AreHashed, pairs_in}
 use Rattle.mapworld.proofs.Routes.{key_route-below}
 use Rattle.mapworld.proofs.Refusals.{sum_by-map}
 use Rattle.mapworld_moves.proofs.Keys.{setup-laws}
@@ -53,17 +55,14 @@ sum_by-alike f g (x ∷ xs) alike =
     ∙ (ap₂ (λ m n. m + n) (alike 0 x refl) (sum_by-alike f g xs (λ i y at. alike (suc i) y at))
     ∙ sym (sum_by-cons g x xs))
 
-sum_by-ones : {X : Type 0} (xs : List X) → sum_by (λ x. 1) xs ≡ length xs
-sum_by-ones [] = refl
-sum_by-ones {X} (x ∷ xs) = let a = sum_by-cons (λ (y : X). 1) x xs in let b = sum_by-ones xs in omega (arith, a, b)
-
 all-at : {X : Type 0} (p : X → Bool) (xs : List X) (i : ℕ) (x : X) → list_all p xs ≡ true → slice_get xs i ≡ Some x → p x ≡ true
 all-at p xs i x all at = true_from_ne_false (p x) (λ e.
     false≢true (sym (list_all_at p xs i x (slice_get_within xs i x at) (ap p (get_or_from_slice_get xs i x x at) ∙ e)) ∙ all))
 
--- no desk has a guard, and each admits readers
-abbrev pub HasNoGuards : Desks → Type 0
-HasNoGuards holds = (i : ℕ) (desk : DeskState (Unit {0})) → slice_get holds i ≡ Some desk → (desk.guards ≡ []) × (1 ≤ desk.limit)
+-- nobody is in a call at a lock, and nobody owns one
+pub record AreIdle (locks : Shown) : Type 0 where
+  pub free : (t : ℕ) → stand_in locks t ≡ None
+  pub unowned : (i t : ℕ) → owner_in locks i t ≡ None
 
 module _ {K V D T : Type 0} (x : Setup K V D T) (tables : List (ShardPairs K V)) where
   start_stands : (t : ℕ) (asks : List (Ask K V D)) → slice_get x.programs t ≡ Some asks → Stands x [] [] [] tables t (at_start asks)
@@ -87,14 +86,13 @@ module _ {K V D T : Type 0} (x : Setup K V D T) (tables : List (ShardPairs K V))
       subst (λ (q : Place K V D T). Stands x [] [] [] tables t q) (sym (start.each t p at))
       (start_stands t p.asks (ap (λ ps. slice_get ps t) (sym start.programs_are) ∙ map_to (λ (q : Place K V D T). q.asks) places t p at))
 
-  nothing_held : (places : List (Place K V D T)) (holds : Desks) → AreAtStart x.programs places → HasNoGuards holds → HoldsMatch places holds
-  nothing_held places holds start free = record {
-    listed = λ t i p h at has. absurd (none t i p h at has);
-    owned = λ s i desk g at listed. absurd (none-some g (ap (λ gs. slice_get gs i) (sym (free s desk at).0) ∙ listed));
-    apart = λ t u i j p q a b hp hq ha hb same. absurd (none t i p a hp ha);
+  nothing_held : (places : List (Place K V D T)) (locks : Shown) → AreAtStart x.programs places → AreIdle locks → HoldsMatch places locks
+  nothing_held places locks start idle = record {
+    owned = λ t i p h at has. absurd (none t i p h at has);
+    known = λ t shard p mode at owns. absurd (none-some mode (sym (idle.unowned shard t) ∙ owns));
     once = λ t i j p a b hp ha hb same. absurd (none t i p a hp ha);
     compatible = λ t u i j p q a b ne hp hq ha hb same. absurd (none t i p a hp ha);
-    sound = λ s desk at. sound_empty desk.limit desk.guards (free s desk at).1 (free s desk at).0;
+    stands = λ t p at. subst (λ (f : Phase K V D T). StandsBefore p f (stand_in locks t)) (sym (ap (λ (q : Place K V D T). q.phase) (start.each t p at))) (idle.free t);
   }
     where
       none : (t i : ℕ) (p : Place K V D T) (h : Hold) → slice_get places t ≡ Some p → slice_get p.holds i ≡ Some h → ⊥
@@ -110,10 +108,25 @@ module _ {K V D T : Type 0} (x : Setup K V D T) (tables : List (ShardPairs K V))
     in_turn = λ i r at. absurd (none-some r at);
   }
 
+-- the locks of a new world
+pub are_idle : (threads shards : ℕ) (locks : Shown) → AreFresh threads shards locks → AreIdle locks
+are_idle threads shards locks fresh = record { free = fresh.free; unowned = fresh.unowned }
+
+length-replicate : {X : Type 0} (n : ℕ) (x : X) → length (replicate n x) ≡ n
+length-replicate zero x = refl
+length-replicate (suc n) x = ap suc (length-replicate n x)
+
+pub are_locks : (threads shards : ℕ) (locks : Shown) → AreFresh threads shards locks → AreLocksOf threads shards locks
+are_locks threads shards locks fresh = record {
+  threads_are = ap (λ (s : rows.State). length s.calls) fresh.rows ∙ length-replicate threads None;
+  shards_are = ap (λ (s : rows.State). length s.kinds) fresh.rows ∙ length-replicate shards kind.Rw;
+  desks_are = fresh.count;
+}
+
 -- a world in which nothing has happened
 pub record IsFresh {K V S D T : Type 0} (w : State K V S D T) : Type 0 where
   pub steps : w.steps ≡ []
-  pub holds : HasNoGuards w.holds
+  pub locks : AreIdle w.locks
   pub blocks : w.blocks ≡ []
   pub replies : w.replies ≡ []
 
@@ -125,14 +138,14 @@ module _ {K V S H D T : Type 0} (d : deed.Ghosts D K V T) (b : builder.Ghosts S 
   agree w filled = record { routed = filled.routed; distinct = filled.distinct; contents_are = filled.contents_are }
 
   sound_bare : (w : State K V S D T) → IsWorldAmount (length w.tables) → list_all (one_guard false) w.programs ≡ true → AreAtStart w.programs w.places
-      → AreFilled eq (key_route b h writes w.hasher (length w.tables)) w.opening w.tables → HasNoGuards w.holds
+      → AreFilled eq (key_route b h writes w.hasher (length w.tables)) w.opening w.tables → AreIdle w.locks
       → Sound (setup_of d b h eq writes (lists_of w [] [] [])) (lists_of w [] [] [])
   sound_bare w amount guarded start filled free = record {
     guarded = λ t program at. all-at (one_guard false) w.programs t program guarded at;
     routes = λ q. key_route-below b h writes w.hasher (length w.tables) amount q;
     stands = λ t p at. all_stand (setup_of d b h eq writes w) w.tables w.places start t p at;
     tables = agree w filled;
-    holds = nothing_held (setup_of d b h eq writes w) w.tables w.places w.holds start free;
+    holds = nothing_held (setup_of d b h eq writes w) w.tables w.places w.locks start free;
     placed = nothing_placed (setup_of d b h eq writes w) w.tables [] (started_of w);
     replies = λ i r at. absurd (none-some r at);
   }
@@ -147,13 +160,13 @@ module _ {K V S H D T : Type 0} (d : deed.Ghosts D K V T) (b : builder.Ghosts S 
       → AreFilled eq (key_route b h writes w.hasher (length w.tables)) w.opening w.tables
       → Sound (setup_of d b h eq writes w) w
   new-sound w fresh amount guarded start filled =
-      subst (λ (v : State K V S D T). Sound (setup_of d b h eq writes v) v) (bare w fresh) (sound_bare w amount guarded start filled fresh.holds)
+      subst (λ (v : State K V S D T). Sound (setup_of d b h eq writes v) v) (bare w fresh) (sound_bare w amount guarded start filled fresh.locks)
 
-  pub new-contents : (hasher : S) (pairs : List (K × V)) (tables : List (ShardPairs K V)) → IsEquivalence eq → ((j k : K) → IsTrue (eq j k) → writes j ≡ writes k) → IsWorldAmount (length tables)
+  pub new-contents : (locks : Shown) (hasher : S) (pairs : List (K × V)) (tables : List (ShardPairs K V)) → IsEquivalence eq → ((j k : K) → IsTrue (eq j k) → writes j ≡ writes k) → IsWorldAmount (length tables)
       → AreFilled eq (key_route b h writes hasher (length tables)) pairs tables
       → (q : K) → pair_of eq (flat_map (λ table. table.items) tables) q ≡ opening_pair eq pairs q
-  new-contents hasher pairs tables laws respects amount filled q =
-      let w : State K V S D T = record { hasher = hasher; opening = pairs; programs = []; steps = []; places = []; tables = tables; holds = []; blocks = []; replies = [] } in
+  new-contents locks hasher pairs tables laws respects amount filled q =
+      let w : State K V S D T = record { hasher = hasher; opening = pairs; programs = []; steps = []; places = []; tables = tables; locks = locks; blocks = []; replies = [] } in
       let route = key_route-below b h writes hasher (length tables) amount q in
       let there = element-at tables (key_route b h writes hasher (length tables) q) route in
       pair_at_route (setup_of d b h eq writes w) [] tables (setup-laws d b h eq writes w laws respects) (agree w filled) q there.0 there.1
@@ -168,24 +181,17 @@ module _ {K V D T : Type 0} (programs : List (List (Ask K V D))) (places : List 
       ∙ (sym (sum_by-map length (λ (p : Place K V D T). p.asks) places)
       ∙ ap (λ ps. sum_by length ps) start.programs_are)
 
-  start_unheld : (i : ℕ) → sum_by (unheld i) places ≡ length places
-  start_unheld i =
-      sum_by-alike (unheld i) (λ p. 1) places (λ t p at. ap (λ (q : Place K V D T). unheld i q) (start.each t p at))
-      ∙ sum_by-ones places
-
   start_count : length places ≡ length programs
   start_count = sym (length-map places (λ p. p.asks)) ∙ ap (λ ps. length ps) start.programs_are
 
 -- what a new world's lists have room for
 pub record HasNewRoom {K V S D T A : Type 0} (c : Core K V S D T A) : Type 0 where
   pub count : c.count ≡ 0
-  pub guards : c.guards ≡ 0
   pub unanswered : c.unanswered ≡ sum_by length (state_of c).programs
   pub calls_fit : sum_by length (state_of c).programs ≤ 2 ^ 20
   pub replies : sum_by length (state_of c).programs ≤ vec_capacity c.replies
   pub blocks : sum_by length (state_of c).programs ≤ vec_capacity c.blocks
-  pub desks : length c.desks.items ≡ length c.tables.items
-  pub ready : AreReady (length (state_of c).programs) c.desks.items
+  pub locks : AreLocksOf (length (state_of c).programs) (length c.tables.items) (state_of c).locks
   pub pairs : c.pairs ≡ pairs_in (state_of c).tables
   pub pairs_fit : c.pairs ≤ 2 ^ 31
   pub threads_fit : length (state_of c).programs ≤ 256
@@ -205,19 +211,13 @@ new-room {K} {V} {S} {D} {T} {A} c fresh start room =
     record {
       count = omega (arith, room.count, no_steps);
       count_fits = omega (arith, room.count);
-      guards = λ t i p h at has. absurd (none-some h (sym (ap (λ (q : Place K V D T). slice_get q.holds i) (start.each t p at)) ∙ has));
-      guards_fit = omega (arith, room.count, room.guards);
+      held = λ t i p h at has. absurd (none-some h (sym (ap (λ (q : Place K V D T). slice_get q.holds i) (start.each t p at)) ∙ has));
       unanswered = omega (arith, room.unanswered, no_replies);
       answers = omega (arith, no_replies, owed_sum);
       calls_fit = room.calls_fit;
       replies = room.replies;
       blocks = omega (arith, no_blocks, list_sum, room.blocks);
-      desks = room.desks;
-      desk_room = λ i desk at.
-          let r = room.ready i desk at in
-          let free = ap (λ gs. length gs) r.free in
-          let unheld_sum = start_unheld programs places start i in
-          record { guards = omega (arith, free, unheld_sum); room = omega (arith, r.room, same); limit = omega (arith, r.limit, same) };
+      locks = subst (λ n. AreLocksOf n (length c.tables.items) (state_of c).locks) (sym same) room.locks;
       pairs = room.pairs;
       pairs_fit = omega (arith, add_sum, room.pairs_fit, room.calls_fit);
       places = same;

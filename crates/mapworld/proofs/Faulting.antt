@@ -6,7 +6,7 @@ use Rattle.mapworld_faults.specs.declared.fault.RunFault.TheVariants as fault
 use Rattle.mapworld_state.specs.declared.step.Step.{Step}
 use Rattle.mapworld_faults.specs.Faults.{run_fault_done}
 use Rattle.mapworld_state.specs.State.{State}
-use Rattle.mapworld_state.specs.Running.{status_of, is_running, has_numbers, refusal}
+use Rattle.mapworld_state.specs.Running.{can_move_in, has_numbers, refusal}
 
 done_of : (a b c : Bool) (n : ℕ) (f : RunFault) → (if a then (if b then (if c then None else Some (fault.StepsShort n)) else Some (fault.CannotMove n)) else Some (fault.NoSuchThread n)) ≡ Some f → run_fault_done f ≡ n
 done_of true true true n f h = absurd (none-some f h)
@@ -16,4 +16,4 @@ done_of false b c n f h = ap run_fault_done (sym (same_Some (fault.NoSuchThread 
 
 pub refusal-done : {K V S D T : Type 0} (w : State K V S D T) (n : ℕ) (s : Step) (f : RunFault) → refusal w n s ≡ Some f → run_fault_done f ≡ n
 refusal-done w n s f h =
-    done_of (nat_lt s.thread (length w.programs)) (is_running (status_of w s.thread)) (has_numbers w) n f h
+    done_of (nat_lt s.thread (length w.programs)) (can_move_in w s.thread) (has_numbers w) n f h

@@ -1,5 +1,7 @@
 pub mod Viewing
 pub mod Outcomes
+pub mod Sleepers
+pub mod LockSteps
 pub mod Footprints
 pub mod Runs
 pub mod Joins
@@ -11,4 +13,5 @@ pub mod Placing
 pub mod Filling
 pub mod Beginnings
 pub mod Faulting
+pub mod Growths
 pub mod Bounds

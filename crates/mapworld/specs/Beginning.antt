@@ -1,13 +1,11 @@
 -- How a new world's threads and tables begin.
-use Rattle.std.specs.Prelude.{◌≡◌, ◌≤◌, ℕ, Bool, false, List, [], length, map, flat_map, Some, None, slice_get}
+use Rattle.std.specs.Prelude.{◌≡◌, ℕ, Bool, false, List, [], length, map, flat_map, Some, None, slice_get}
 use Rattle.mapworld_state.specs.Shards.{ShardPairs}
 use Rattle.dashmap_table.specs.Table.{Table}
 use Rattle.mapworld_calls.specs.declared.ask.Ask.{Ask}
 use Rattle.mapworld_calls.specs.Pairs.{pair_of, opening_pair, AreDistinct}
-use Rattle.lock_api_desk.specs.Desk.{DeskState}
 use Rattle.mapworld_state.specs.declared.place.Phase.TheVariants as phase
 use Rattle.mapworld_state.specs.Places.{Place}
-use Rattle.mapworld_state.specs.Holds.{Desks}
 use Rattle.mapworld_state.specs.Slots.{HasHashes}
 
 -- before its first call a thread has neither started, nor does it hold anything
@@ -46,13 +44,3 @@ AreEmpty {K} {V} tables = (i : ℕ) (table : Table K V) → slice_get tables i �
 -- the pairs of each shard stand under their keys' hashes
 abbrev pub AreHashed : {K V : Type 0} → (K → ℕ) → List (Table K V) → Type 0
 AreHashed {K} {V} hash tables = (i : ℕ) (table : Table K V) → slice_get tables i ≡ Some table → HasHashes hash table
-
--- a desk without guards that admits that many readers, and has room for as many guards
-pub record IsReady (threads : ℕ) (desk : DeskState (Unit {0})) : Type 0 where
-  pub free : desk.guards ≡ []
-  pub room : threads ≤ desk.room
-  pub limit : threads ≤ desk.limit
-
--- such desks
-abbrev pub AreReady : ℕ → Desks → Type 0
-AreReady threads desks = (i : ℕ) (desk : DeskState (Unit {0})) → slice_get desks i ≡ Some desk → IsReady threads desk

@@ -3,3 +3,4 @@ pub mod Tables
 pub mod Asleep
 pub mod Views
 pub mod Beginning
+pub mod Laws

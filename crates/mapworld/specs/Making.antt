@@ -1,5 +1,5 @@
 -- Which worlds aren't made, and what a new one has.
-use Rattle.std.specs.Prelude.{◌≡◌, ℕ, ◌^◌, ◌⊎◌, Bool, false, ◌&&◌, ◌==◌, if◌then◌else◌, nat_lt, nat_le, List, [], length, slice_get, sum_by, Option, Some, None, Result, Err, IsOk}
+use Rattle.std.specs.Prelude.{◌≡◌, ℕ, ◌^◌, ◌⊎◌, Bool, false, ◌&&◌, ◌==◌, if◌then◌else◌, nat_lt, nat_le, List, [], length, sum_by, Option, Some, None, Result, Err, IsOk}
 use Rattle.std.specs.List.{list_all}
 use Rattle.mapworld_calls.specs.declared.ask.Ask.{Ask}
 use Rattle.mapworld_calls.specs.Programs.{one_guard, numbers_of}
@@ -7,8 +7,7 @@ use Rattle.mapworld_calls.specs.Pairs.{pair_of, opening_pair}
 use Rattle.mapworld_faults.specs.declared.fault.WorldNewFault.{WorldNewFault}
 use Rattle.mapworld_faults.specs.declared.fault.WorldNewFault.TheVariants as fault
 use Rattle.dashmap_table.specs.Route.{log2}
-use Rattle.lock_api_desk.specs.Desk.{DeskState}
-use Rattle.mapworld_state.specs.Holds.{Desks}
+use Rattle.mapworld_locks.specs.Fresh.{AreFresh}
 use Rattle.mapworld_state.specs.State.{State, pairs_of}
 use Rattle.mapworld.specs.Beginning.{AreAtStart}
 
@@ -38,13 +37,8 @@ abbrev pub IsMadeUnless : {W : Type 0} → Option WorldNewFault → Result W Wor
 IsMadeUnless (Some f) made = made ≡ Err f
 IsMadeUnless None made = IsOk made ⊎ (made ≡ Err fault.NoMemory)
 
--- as many desks, and no guard at any of them
-pub record AreFree (shards : ℕ) (holds : Desks) : Type 0 where
-  pub count : length holds ≡ shards
-  pub free : (i : ℕ) (desk : DeskState (Unit {0})) → slice_get holds i ≡ Some desk → desk.guards ≡ []
-
--- a new world has what it was made with, a thread for each program that is before the first of its calls, and nothing has
--- happened in it
+-- a new world has what it was made with, a thread for each program that is before the first of its calls, and a lock for each shard, which
+-- nobody holds or asks for; and nothing has happened in it
 pub record IsNew {K V S D T : Type 0} (eq : K → K → Bool) (shards : ℕ) (hasher : S) (pairs : List (K × V)) (programs : List (List (Ask K V D))) (w : State K V S D T) : Type 0 where
   pub hasher_is : w.hasher ≡ hasher
   pub shards_are : length w.tables ≡ shards
@@ -53,6 +47,6 @@ pub record IsNew {K V S D T : Type 0} (eq : K → K → Bool) (shards : ℕ) (ha
   pub contents_are : (q : K) → pair_of eq (pairs_of w) q ≡ opening_pair eq pairs q
   pub steps : w.steps ≡ []
   pub places : AreAtStart programs w.places
-  pub holds : AreFree shards w.holds
+  pub locks : AreFresh (length programs) shards w.locks
   pub blocks : w.blocks ≡ []
   pub replies : w.replies ≡ []

@@ -4,15 +4,14 @@ ghost use Rattle.mapworld_state.specs.Route.{IsWorldAmount, key_route};
 ghost use Rattle.mapworld_state.specs.Places.{place_of};
 ghost use Rattle.mapworld_state.specs.Shards.{shard_pairs};
 ghost use Rattle.mapworld_state.specs.Slots.{key_hash};
-ghost use Rattle.mapworld.specs.Beginning.{at_start, AreAtStart, AreFilled, pairs_in, AreEmpty, AreHashed, IsReady, AreReady};
+ghost use Rattle.mapworld.specs.Beginning.{at_start, AreAtStart, AreFilled, pairs_in, AreEmpty, AreHashed};
 
 use arrayvec::ArrayVec;
 use dashmap_table::Shard;
-use lock_api_desk::{Desk, TokenTable};
 use lock_api_raw::NoMemory;
 use mapworld_calls::Ask;
 use mapworld_moves::put::put_pair;
-use mapworld_state::{Phase, Place, ShardDesk};
+use mapworld_state::{Phase, Place};
 use mapworld_steps::shard_of;
 use std::alloc::Allocator;
 use std::collections::VecDeque;
@@ -62,32 +61,6 @@ pub(crate) fn empty_shards<K: Eq + Hash + Drop, V: Drop, A: Allocator + Clone + 
         tables.push(Shard::new(alloc.clone()?))?;
     }
     Ok(tables)
-}
-
-/// A desk for each shard, without guards, with room for a guard of every thread.
-pub(crate) fn desks_of<A: Allocator + Clone + Drop>(
-    alloc: A,
-    shards: usize,
-    threads: usize,
-) -> Result<Vec<ShardDesk<A>, A>, NoMemory>
-    ensures { IfOk result (λ desks. (length desks.items ≡ shards) × AreReady threads desks.items) }
-{
-    let mut desks = Vec::with_capacity(alloc.clone()?, shards)?;
-    for _ in 0..shards {
-        desks.push(ready_desk(alloc.clone()?, threads)?)?;
-    }
-    Ok(desks)
-}
-
-/// A desk without guards, with room for so many, of which as many may be readers.
-fn ready_desk<A: Allocator + Drop>(alloc: A, threads: usize) -> Result<ShardDesk<A>, NoMemory>
-    ensures { IfOk result (IsReady threads) }
-{
-    let mut desk = Desk::new(alloc, TokenTable::new(threads as u64), ());
-    match desk.reserve(threads) {
-        Ok(()) => Ok(desk),
-        Err(_) => Err(NoMemory),
-    }
 }
 
 /// Puts the opening pairs into their shards, and counts those that are there then.

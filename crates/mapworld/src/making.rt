@@ -1,13 +1,16 @@
 //! How a world is made.
 ghost use Rattle.std.specs.Prelude.{◌≡◌, ◌≤◌, ◌^◌, length, map, sum_by, IfOk};
 ghost use Rattle.mapworld.specs.Making.{new_refusal, IsNew};
+ghost use Rattle.mapworld_locks.specs.Fits.{LocksFit};
+ghost use Rattle.mapworld_locks.specs.Fresh.{AreFresh};
 ghost use Rattle.mapworld_state.specs.World.{AgreesWithBlocks, HasPlacedBlocks};
 ghost use Rattle.mapworld_state.specs.Held.{HoldsMatch};
 ghost use Rattle.mapworld_state.specs.Core.{state_of, IsSoundCore, IsSlotted, Room};
 
-use crate::beginning::{desks_of, empty_shards, fill, places_of};
+use crate::beginning::{empty_shards, fill, places_of};
 use lock_api_raw::NoMemory;
 use mapworld_calls::{Ask, Deed};
+use mapworld_locks::ShardLocks;
 use mapworld_state::Core;
 use past::Past;
 use std::alloc::Allocator;
@@ -20,6 +23,20 @@ fn calls_in<K, V, D, A: Allocator>(programs: &[Vec<Ask<K, V, D>, A>]) -> usize
     ensures { result ≡ sum_by (λ program. length program.items) programs.now }
 {
     programs.iter().map(|program| program.len()).sum()
+}
+
+/// The locks of so many shards, for so many threads, none of which has asked for anything.
+fn locks_of<A: Allocator + Clone + Drop>(
+    alloc: A,
+    threads: usize,
+    shards: usize,
+) -> Result<ShardLocks<A>, NoMemory>
+    ensures { IfOk result (λ locks. AreFresh threads shards locks) }
+{
+    match ShardLocks::new(alloc, threads, shards) {
+        Ok(locks) => Ok(locks),
+        Err(_) => Err(NoMemory),
+    }
 }
 
 /// The parts of a new world.
@@ -44,29 +61,30 @@ pub(crate) fn core_of<
     ensures slots { IfOk result (IsSlotted D.Deed S.BuildHasher S.Hasher.Hasher K.eq K.hash_input) }
     ensures agrees { IfOk result (λ core. AgreesWithBlocks D.Deed S.BuildHasher S.Hasher.Hasher K.eq K.hash_input (state_of core)) }
     ensures placed { IfOk result (λ core. HasPlacedBlocks D.Deed S.BuildHasher S.Hasher.Hasher K.eq K.hash_input (state_of core)) }
-    ensures held { IfOk result (λ core. HoldsMatch (state_of core).places (state_of core).holds) }
+    ensures held { IfOk result (λ core. HoldsMatch (state_of core).places (state_of core).locks) }
+    ensures fit { IfOk result (λ core. LocksFit (state_of core).locks) }
 {
     let opening = Snapshot::of(&pairs);
     let kept = Snapshot::of(&programs);
     let calls = calls_in(&programs);
-    let desks = desks_of(alloc.clone()?, shards, programs.len())?;
+    let locks = locks_of(alloc.clone()?, programs.len(), shards)?;
     let places = places_of(alloc.clone()?, programs)?;
     let blocks = Vec::with_capacity(alloc.clone()?, calls)?;
     let replies = Vec::with_capacity(alloc.clone()?, calls)?;
     let mut tables = empty_shards(alloc, shards)?;
     let count = fill(&mut tables, &hasher, pairs)?;
+    locks.known();
     Ok(Core {
         hasher,
         opening,
         programs: kept,
         steps: Past::new(),
         count: 0,
-        guards: 0,
         pairs: count,
         unanswered: calls as u64,
         places,
         tables,
-        desks,
+        locks,
         blocks,
         replies,
     })

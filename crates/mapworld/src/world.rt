@@ -4,16 +4,20 @@ ghost use Rattle.std.specs.Option.{option_map};
 ghost use Rattle.mapworld_calls.specs.Pairs.{pair_of};
 ghost use Rattle.mapworld_state.specs.State.{pairs_of, started_of, threads_of};
 ghost use Rattle.mapworld_state.specs.Route.{key_route};
-ghost use Rattle.mapworld_state.specs.Running.{status_of, is_running, bound_of, refusal, Ran, steps_done, StopsAt, StaysFixed};
+ghost use Rattle.mapworld_state.specs.Running.{status_of, can_move_in, bound_of, refusal, Ran, steps_done, StopsAt, StaysFixed};
 ghost use Rattle.mapworld.specs.Asleep.{IsAsleep, IsFinished};
 ghost use Rattle.mapworld.specs.Views.{shown};
 ghost use Rattle.mapworld.specs.Making.{new_refusal, IsMadeUnless, IsNew};
 ghost use Rattle.mapworld_state.specs.Steps.{IsStep};
 ghost use Rattle.mapworld_state.specs.World.{setup_of, AgreesWithBlocks, HasPlacedBlocks, OnlyAddsTo};
 ghost use Rattle.mapworld_state.specs.Sound.{Sound};
+ghost use Rattle.parking_lot_world.specs.Rows.{state, queue_at};
+ghost use Rattle.mapworld_locks.specs.Fits.{LocksFit};
+ghost use Rattle.mapworld_state.specs.Footprint.{word_of};
 ghost use Rattle.mapworld_state.specs.Held.{HoldsMatch, HoldByPhase};
 ghost use Rattle.mapworld_calls.specs.Placed as today;
 
+use crate::laws::{queues_are_waiters, steps_touch_one_lock};
 use crate::{contents, counts, limits, making};
 use dashmap_view::ViewIter;
 use lock_api_raw::NoMemory;
@@ -28,13 +32,18 @@ use std::marker::Model;
 /// A world: some threads, each with a finite program of map calls, and the one map that serves them all.
 ///
 /// It is deterministic. Nothing in it moves by itself: [`run`](MapWorld::run) is told which thread makes each step, and
-/// the same world with the same steps ends the same. A step is small, as the start of a call, the admission to a shard,
-/// a look for a key, one change of a pair, a release or an answer, and it is done whole; so every order in which the
-/// steps of real threads may fall can be written as a list of steps, and looked at.
+/// the same world with the same steps ends the same. A step is small, as the start of a call, one access to the word of
+/// a shard's lock, one act in the section of a queue, a look for a key, one change of a pair or an answer, and it is
+/// done whole; so every order in which the steps of real threads may fall can be written as a list of steps, and looked
+/// at.
+///
+/// Each shard has a lock of a word and two queues, as the locks of running maps are: threads take it, wait for it in a
+/// queue, are handed it or woken to try again, step by step, and the [`word`](MapWorld::word) and the
+/// [`queue`](MapWorld::queue)s can be looked at between any two steps.
 ///
 /// Contracts see a world as a `State`: what it was made with, the steps so far, where each thread stands, the pairs of
-/// each shard, the holds, and the blocks and replies so far. `run` says of it that its replies and its contents are
-/// those of one plain map that takes the blocks in their order.
+/// each shard, the locks of the shards, and the blocks and replies so far. `run` says of it that its replies and its
+/// contents are those of one plain map that takes the blocks in their order.
 ///
 /// `K` is a key, `V` a value, `S` makes the hasher that picks a key's shard, and `D` is what a program does with a pair
 /// that it is lent. The world keeps the allocator that it was made with, and takes all that it needs for its threads,
@@ -119,9 +128,11 @@ impl<K: Eq + Hash, V, S: BuildHasher, D: Deed<K, V>, A: Allocator> MapWorld<K, V
         steps::shard_of(&self.core.hasher, self.core.tables.len(), key)
     }
 
-    /// Where a thread stands: `Finished` where all its calls are answered, `Asleep` where it is before an admission
-    /// that another thread's hold excludes, and otherwise `Running`. A thread that is asleep is `Running` again once no
-    /// such hold is left. It takes no memory and cannot fail.
+    /// Where a thread stands: `Finished` where all its calls are answered, `Asleep` where it waits in a queue of its
+    /// shard, or was taken from it and isn't woken yet, and otherwise `Running`. A thread that is asleep is `Running`
+    /// again once another thread has woken it. One that is `Running` may still be before a queue's section that another
+    /// thread has entered; whether it can go on says [`can_move`](MapWorld::can_move). It takes no memory and cannot
+    /// fail.
     ///
     /// Threads are numbered from 0, one for each program. A thread that the world doesn't have is `Finished`.
     pub fn status(&self, thread: usize) -> Status
@@ -129,6 +140,8 @@ impl<K: Eq + Hash, V, S: BuildHasher, D: Deed<K, V>, A: Allocator> MapWorld<K, V
         ensures asleep { (result ≡ Status.Asleep) ↔ IsAsleep self.now thread }
         ensures finished { (result ≡ Status.Finished) ↔ IsFinished self.now thread }
     {
+        queues_are_waiters();
+        self.core.locks.known();
         steps::status(&self.core, thread)
     }
 
@@ -144,13 +157,24 @@ impl<K: Eq + Hash, V, S: BuildHasher, D: Deed<K, V>, A: Allocator> MapWorld<K, V
         }
     }
 
-    /// Whether a step of the thread would be done: it is `Running`. A thread that the world doesn't have can't move.
+    /// Whether a step of the thread would be done: it is `Running`, and isn't before a queue's section that another
+    /// thread has entered. All queues of the shards' locks are in one bucket, and only one thread at a time is in the
+    /// section of a bucket. A thread that the world doesn't have can't move.
     ///
-    /// It doesn't say that step numbers are left for it, which [`run`](MapWorld::run) tests too.
+    /// It doesn't say that step numbers are left for it, which [`run`](MapWorld::run) tests too. It takes no memory and
+    /// cannot fail.
     pub fn can_move(&self, thread: usize) -> bool
-        ensures { result ≡ is_running (status_of self.now thread) }
+        ensures { result ≡ can_move_in self.now thread }
     {
-        matches!(self.status(thread), Status::Running)
+        steps::can_move(&self.core, thread)
+    }
+
+    /// The word of a shard's lock, as the shard's lock has it now; 0 beyond the last shard. It takes no memory and
+    /// cannot fail.
+    pub fn word(&self, shard: usize) -> u64
+        ensures { result ≡ word_of self.now.locks shard }
+    {
+        self.core.locks.word(shard)
     }
 
     /// How many steps are to be enough from here, by the world's size alone: its threads, shards and pairs, and the
@@ -177,6 +201,21 @@ where
         ensures { IfOk result (λ pairs. map shown pairs.items ≡ pairs_of self.now) }
     {
         contents::pairs_in(&self.core.tables, self.core.tables.allocator().clone()?)
+    }
+
+    /// The threads that wait in a queue now, in the order in which they joined it. The lock of shard `i` has two
+    /// queues, of the keys `2 * i` and `2 * i + 1`: in the first wait those that ask for the shard, in the second a
+    /// writer that waits for the last readers to leave. Beyond the last key nobody waits.
+    ///
+    /// The list is on an allocator like the world's own, and has room for a number of each waiter. Where memory is
+    /// short it answers [`NoMemory`].
+    pub fn queue(&self, key: usize) -> Result<Vec<usize, A>, NoMemory>
+        ensures { IfOk result (λ threads. threads.items ≡ queue_at (state self.now.locks.rows) key) }
+    {
+        match self.core.locks.queue(key) {
+            Ok(threads) => Ok(threads),
+            Err(_) => Err(NoMemory),
+        }
     }
 }
 
@@ -219,7 +258,8 @@ where
             IfOk result (λ world. IsNew K.eq shards hasher pairs.items asked world) }
         ensures agrees { IfOk result (AgreesWithBlocks D.Deed S.BuildHasher S.Hasher.Hasher K.eq K.hash_input) }
         ensures placed { IfOk result (HasPlacedBlocks D.Deed S.BuildHasher S.Hasher.Hasher K.eq K.hash_input) }
-        ensures held { IfOk result (λ world. HoldsMatch world.places world.holds) }
+        ensures held { IfOk result (λ world. HoldsMatch world.places world.locks) }
+        ensures fit { IfOk result (λ world. LocksFit world.locks) }
     {
         if let Some(fault) = limits::refusal(shards, pairs.len(), &programs) {
             return Err(fault);
@@ -242,18 +282,21 @@ where
     /// Makes a step, or says why not, where so many steps of the run are done.
     fn make_step(&mut self, step: Step, done: u64) -> Result<(), RunFault>
         ensures sound { Sound (setup_of D.Deed S.BuildHasher S.Hasher.Hasher K.eq K.hash_input self.old) self.old }
+        ensures fit { LocksFit self.old.locks }
         ensures made { let setup = setup_of D.Deed S.BuildHasher S.Hasher.Hasher K.eq K.hash_input self.old in
             MatchResult result
             (λ _. (refusal self.old done step ≡ None) × IsStep setup self.old step self.new)
             (λ fault. (self.new ≡ self.old) × (refusal self.old done step ≡ Some fault)) }
     {
+        self.core.locks.known();
         if step.thread >= self.core.places.len() {
             return Err(RunFault::NoSuchThread(done));
         }
         if !counts::fits(&self.core) {
-            return match steps::status(&self.core, step.thread) {
-                Status::Running => Err(RunFault::StepsShort(done)),
-                _ => Err(RunFault::CannotMove(done)),
+            return if steps::can_move(&self.core, step.thread) {
+                Err(RunFault::StepsShort(done))
+            } else {
+                Err(RunFault::CannotMove(done))
             };
         }
         if !steps::advance(&mut self.core, step) {
@@ -271,6 +314,7 @@ where
             self.old.blocks self.new.blocks self.old.replies self.new.replies }
         ensures fixed { StaysFixed self.old self.new }
     {
+        steps_touch_one_lock();
         let mut done = 0;
         for step in steps {
             self.make_step(*step, done)?;
@@ -293,7 +337,7 @@ where
     /// in this order:
     ///
     /// - `NoSuchThread`: the world doesn't have the thread;
-    /// - `CannotMove`: the thread is asleep or finished;
+    /// - `CannotMove`: the thread is asleep or finished, or before a queue's section that another thread has entered;
     /// - `StepsShort`: no step numbers are left for the step and all that must come after it.
     ///
     /// It takes memory only where a shard grows. Where that is refused it is no error of `run`: the
@@ -314,11 +358,12 @@ where
         ensures placed { HasPlacedBlocks D.Deed S.BuildHasher S.Hasher.Hasher K.eq K.hash_input self.new }
         ensures adds { OnlyAddsTo self.old self.new }
         ensures fixed { StaysFixed self.old self.new }
-        ensures held { HoldsMatch self.new.places self.new.holds }
+        ensures held { HoldsMatch self.new.places self.new.locks }
         ensures by_phase { HoldByPhase self.new.places }
+        ensures fit { LocksFit self.new.locks }
     {
         let result = self.make_steps(steps);
-        let _ = &self.core;
+        self.core.locks.known();
         result
     }
 }

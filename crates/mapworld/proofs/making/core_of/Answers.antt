@@ -1,14 +1,16 @@
-use Rattle.std.proofs.Common.{◌≡◌, ◌≤◌, ℕ, length, map, sum_by, false, refl, ap, sym, ◌∙◌, subst, arith}
+use Rattle.std.proofs.Common.{◌≡◌, length, map, sum_by, false, refl, ap, sym, ◌∙◌, subst, arith}
 use Rattle.std.specs.List.{list_all}
 use Rattle.std.proofs.lemmas.List.{length-map}
 use Rattle.mapworld_calls.specs.Programs.{one_guard}
+use Rattle.mapworld_locks.specs.Fresh.{AreFresh}
+use Rattle.mapworld_state.specs.Core.{AreLocksOf}
 use Rattle.mapworld_state.specs.Places.{place_of}
 use Rattle.mapworld_state.specs.Shards.{shard_pairs}
 use Rattle.mapworld_state.specs.Route.{IsWorldAmount, key_route}
-use Rattle.mapworld.specs.Beginning.{AreAtStart, AreFilled, AreReady}
+use Rattle.mapworld.specs.Beginning.{AreAtStart, AreFilled}
 use Rattle.mapworld.proofs.Filling.{AreFilled-seen}
 use Rattle.mapworld.proofs.Refusals.{accepted, sum_by-map}
-use Rattle.mapworld.proofs.Beginnings.{new-sound, new-contents, new-room, new-slotted}
+use Rattle.mapworld.proofs.Beginnings.{are_idle, are_locks, new-sound, new-contents, new-room, new-slotted}
 use Rattle.mapworld.proofs.Outcomes.{world-agrees, world-placed}
 use Rattle.mapworld.proofs.making.core_of.Goals as goal
 
@@ -29,9 +31,8 @@ returns-clause-sound g c =
     let shards = c.in_ok-count.ensures.shards ∙ c.in_ok-tables.ensures.0 in
     let as_many = length-map c.args.programs.items (λ program. program.items) in
     let own = c.args.programs.ok.0 in
-    let some : 1 ≤ c.len.result = omega (arith, a.some, as_many, own, c.len.ensures) in
     new-sound g.D.Deed g.S.BuildHasher g.S.Hasher.Hasher g.K.PartialEq.eq g.K.Hash.hash_input _
-    (record { steps = c.new.ensures; holds = λ i desk at. let r = c.in_ok-desks.ensures.1 i desk at in (r.free, omega (arith, r.limit, some)); blocks = c.in_ok-blocks.ensures.items; replies = c.in_ok-replies.ensures.items })
+    (record { steps = c.new.ensures; locks = are_idle c.len.result c.args.shards c.in_ok-locks.locks c.in_ok-locks.ensures; blocks = c.in_ok-blocks.ensures.items; replies = c.in_ok-replies.ensures.items })
     (subst (λ n. IsWorldAmount n) (sym (length-map c.fill.new.tables.items shard_pairs ∙ shards)) a.amount)
     (ap (λ ps. list_all (one_guard false) ps) kept ∙ a.guarded)
     (subst (λ ps. AreAtStart ps (map place_of c.in_ok-places.places.items)) (sym kept) c.in_ok-places.ensures)
@@ -42,16 +43,18 @@ pub returns-clause-new : goal.returns-clause-new
 returns-clause-new g c =
     let a = accepted c.args.shards (length c.args.pairs.items) (map (λ program. program.items) c.args.programs.items) c.requires in
     let shards = c.in_ok-count.ensures.shards ∙ c.in_ok-tables.ensures.0 in
+    let as_many = length-map c.args.programs.items (λ program. program.items) in
+    let own = c.args.programs.ok.0 in
     record {
       hasher_is = refl;
       shards_are = length-map c.fill.new.tables.items shard_pairs ∙ shards;
       opening = ap (λ v. v.items) c.of-opening.ensures;
       programs_are = ap (λ v. map (λ program. program.items) v.items) c.of-kept.ensures;
-      contents_are = new-contents g.D.Deed g.S.BuildHasher g.S.Hasher.Hasher g.K.PartialEq.eq g.K.Hash.hash_input c.args.hasher c.args.pairs.items (map shard_pairs c.fill.new.tables.items)
+      contents_are = new-contents g.D.Deed g.S.BuildHasher g.S.Hasher.Hasher g.K.PartialEq.eq g.K.Hash.hash_input c.in_ok-locks.locks c.args.hasher c.args.pairs.items (map shard_pairs c.fill.new.tables.items)
           g.met.K.Eq.laws g.met.K.Hash.respects_eq (subst (λ n. IsWorldAmount n) (sym (length-map c.fill.new.tables.items shard_pairs ∙ shards)) a.amount) (AreFilled-seen g.S.BuildHasher g.S.Hasher.Hasher g.K.Hash.hash_input c.args.hasher g.K.PartialEq.eq c.args.pairs.items c.fill.new.tables.items c.in_ok-count.ensures.filled);
       steps = c.new.ensures;
       places = c.in_ok-places.ensures;
-      holds = record { count = c.in_ok-desks.ensures.0; free = λ i desk at. (c.in_ok-desks.ensures.1 i desk at).free };
+      locks = let count : c.len.result ≡ length (map (λ program. program.items) c.args.programs.items) = omega (arith, as_many, own, c.len.ensures) in subst (λ n. AreFresh n c.args.shards c.in_ok-locks.locks) count c.in_ok-locks.ensures;
       blocks = c.in_ok-blocks.ensures.items;
       replies = c.in_ok-replies.ensures.items;
     }
@@ -68,19 +71,17 @@ returns-clause-room g c =
     let threads : length programs ≡ length (map (λ program. program.items) c.args.programs.items) = ap (λ ps. length ps) kept in
     let as_many = length-map c.args.programs.items (λ program. program.items) in
     let own = c.args.programs.ok.0 in
-    let some : 1 ≤ c.len.result = omega (arith, a.some, as_many, own, c.len.ensures) in
     new-room _
-    (record { steps = c.new.ensures; holds = λ i desk at. let r = c.in_ok-desks.ensures.1 i desk at in (r.free, omega (arith, r.limit, some)); blocks = c.in_ok-blocks.ensures.items; replies = c.in_ok-replies.ensures.items })
+    (record { steps = c.new.ensures; locks = are_idle c.len.result c.args.shards c.in_ok-locks.locks c.in_ok-locks.ensures; blocks = c.in_ok-blocks.ensures.items; replies = c.in_ok-replies.ensures.items })
     (subst (λ ps. AreAtStart ps (map place_of c.in_ok-places.places.items)) (sym kept) c.in_ok-places.ensures)
     (record {
       count = refl;
-      guards = refl;
       unanswered = omega (arith, calls, counted, count);
       calls_fit = omega (arith, calls, a.calls);
       replies = omega (arith, calls, counted, count, c.in_ok-replies.ensures.exact);
       blocks = omega (arith, calls, counted, count, c.in_ok-blocks.ensures.exact);
-      desks = c.in_ok-desks.ensures.0 ∙ sym shards;
-      ready = let same : c.len.result ≡ length programs = omega (arith, threads, as_many, own, c.len.ensures) in subst (λ (n : ℕ). AreReady n c.in_ok-desks.desks.items) same c.in_ok-desks.ensures.1;
+      locks = let same : c.len.result ≡ length programs = omega (arith, threads, as_many, own, c.len.ensures) in
+          subst (λ n. AreLocksOf (length programs) n c.in_ok-locks.locks) (sym shards) (subst (λ n. AreLocksOf n c.args.shards c.in_ok-locks.locks) same (are_locks c.len.result c.args.shards c.in_ok-locks.locks c.in_ok-locks.ensures));
       pairs = c.in_ok-count.ensures.count.0;
       pairs_fit = omega (arith, a.pairs_fit, c.in_ok-count.ensures.count.1);
       threads_fit = omega (arith, threads, a.threads);

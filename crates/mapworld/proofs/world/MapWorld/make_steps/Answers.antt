@@ -44,7 +44,7 @@ loop-step-preserved g c =
     let added = step-adds (setup_of g.D.Deed g.S.BuildHasher g.S.Hasher.Hasher g.K.PartialEq.eq g.K.Hash.hash_input mid) mid step new c.in_ok-make_step.ensures.sound m.1 in
     let own = setup_of g.D.Deed g.S.BuildHasher g.S.Hasher.Hasher g.K.PartialEq.eq g.K.Hash.hash_input mid in
     let laws = setup-laws g.D.Deed g.S.BuildHasher g.S.Hasher.Hasher g.K.PartialEq.eq g.K.Hash.hash_input mid g.met.K.Eq.laws g.met.K.Hash.respects_eq in
-    let footprint = step_footprint own laws mid step new c.in_ok-make_step.ensures.sound m.1 in
+    let footprint = step_footprint own laws mid step new c.in_ok-make_step.ensures.sound c.steps_touch_one_lock.ensures c.in_ok-make_step.ensures.fit m.1 in
     let taken : length (take i steps) ≡ i = length-take-le i steps (omega arith) in
     let count : 0 + length (take i steps) ≡ c.loop-step.done = omega (arith, taken, c.loop-step.invariant.done) in
     record {

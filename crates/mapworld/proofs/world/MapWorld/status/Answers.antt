@@ -5,7 +5,7 @@ use Rattle.mapworld.proofs.world.MapWorld.status.Goals as goal
 
 pub returns-clause-asleep : goal.returns-clause-asleep
 returns-clause-asleep g c =
-    rw (← c.self.view_is) (status-asleep _ _ c.self.invariant.0 c.args.thread c.status.result c.status.ensures)
+    rw (← c.self.view_is) (status-asleep _ _ c.self.invariant.0 c.known.ensures c.queues_are_waiters.ensures c.args.thread c.status.result c.status.ensures)
 
 pub returns-clause-finished : goal.returns-clause-finished
 returns-clause-finished g c =
