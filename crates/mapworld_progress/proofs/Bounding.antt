@@ -2,7 +2,6 @@
 use Rattle.std.proofs.Common.{◌≡◌, ℕ, ◌+◌, ◌*◌, ◌<◌, ◌≤◌, List, [], ◌∷◌, length, sum_by, ap, ◌∙◌, arith}
 use Rattle.std.proofs.Math.Nat.{mul-add}
 use Rattle.std.proofs.lemmas.List.Sums.{sum_by-cons}
-use Rattle.parking_lot_world.specs.Ranks.{steps_left}
 use Rattle.parking_lot_world.specs.Rows.{state}
 use Rattle.parking_lot_world.specs.SoundLaws.{Always, StepsAreFew, most_steps}
 use Rattle.mapworld_locks.specs.Fits.{LocksFit}
@@ -10,9 +9,10 @@ use Rattle.mapworld_state.specs.declared.place.Phase.{Phase}
 use Rattle.mapworld_state.specs.declared.place.Phase.TheVariants as phase
 use Rattle.mapworld_state.specs.Core.{owed, owes}
 use Rattle.mapworld_state.specs.Places.{Place}
-use Rattle.mapworld_state.specs.Running.{bound, bound_of, unanswered_of}
+use Rattle.mapworld_state.specs.Running.{bound, unanswered_of}
 use Rattle.mapworld_state.specs.State.{State, pairs_of}
-use Rattle.mapworld_progress.specs.Left.{call_left, left, phase_left, place_left}
+use Rattle.mapworld_progress.specs.Laws.{FewAreLeft}
+use Rattle.mapworld_progress.specs.Left.{call_left, most_left, phase_left, place_left}
 use Rattle.mapworld_progress.specs.Sizes.{IsSized}
 
 -- a call that has started takes no more than one that hasn't
@@ -46,17 +46,19 @@ places_most n (p ∷ ps) =
       places_most n ps,
     )
 
--- what is left at the locks, and what places take, is less than the bound of as many
-enough : (n s p c : ℕ) → n * most_steps n + call_left n * c < bound n s p c
+-- the bound of as many threads and calls is greater, whatever shards and pairs there are
+pub enough : (n s p c : ℕ) → most_left n c + 1 < bound n s p c
 enough n s p c = omega arith
 
-pub steps_are_few : {K V S D T : Type 0} → Always StepsAreFew → (w : State K V S D T) → IsSized w → LocksFit w.locks → (t : ℕ) → left w t < bound_of w
-steps_are_few few w size fit t =
+pub steps_are_few : {K V S D T : Type 0} → Always StepsAreFew → (w : State K V S D T) → IsSized w → LocksFit w.locks → FewAreLeft w
+steps_are_few few w size fit =
     let n = length w.places in
     let c = unanswered_of w in
     let s = state w.locks.rows in
-    let at_locks : steps_left s t ≤ length s.calls * most_steps (length s.calls) = (few s fit.fits).all t in
     let threads : length s.calls * most_steps (length s.calls) ≡ length w.programs * most_steps (length w.programs) = ap (λ k. k * most_steps k) (size.locks.threads_are ∙ size.places) in
     let owing : sum_by owed w.places ≡ c = omega (arith, size.answers) in
     let calls : call_left n * sum_by owed w.places ≡ call_left (length w.programs) * c = ap (λ k. call_left n * k) owing ∙ ap (λ k. call_left k * c) size.places in
-    omega (arith, at_locks, threads, calls, places_most n w.places, enough (length w.programs) (length w.tables) (length (pairs_of w)) c)
+    record {
+      most = λ t. omega (arith, (few s fit.fits).all t, threads, calls, places_most n w.places);
+      bounded = enough (length w.programs) (length w.tables) (length (pairs_of w)) c;
+    }

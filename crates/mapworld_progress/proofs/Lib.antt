@@ -4,3 +4,5 @@ pub mod Sessions
 pub mod Turning
 pub mod Moving
 pub mod Resting
+pub mod Draining
+pub mod Timing

@@ -36,7 +36,7 @@ use Rattle.mapworld_state.specs.State.{State, threads_of}
 use Rattle.mapworld_state.proofs.HoldsTable.{none-there, only-first}
 use Rattle.mapworld_sound.proofs.Building.{claim-at, session-is, taken-at}
 use Rattle.mapworld_sound.proofs.Holding.{stand-at}
-use Rattle.mapworld_progress.specs.Laws.{IsWhole}
+use Rattle.mapworld_progress.specs.Whole.{IsWhole}
 use Rattle.mapworld_progress.proofs.Sessions.{none-at-end}
 use Rattle.mapworld_progress.proofs.Turning.{moves-as, moves-there, no-stand, place-there}
 

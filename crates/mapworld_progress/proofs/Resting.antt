@@ -41,7 +41,7 @@ use Rattle.mapworld_state.proofs.HoldsTable.{none-there}
 use Rattle.mapworld_calls.proofs.Lists.{sum_by-at}
 use Rattle.mapworld_sound.proofs.Building.{claim-at, taken-at}
 use Rattle.mapworld_sound.proofs.Holding.{stand-at}
-use Rattle.mapworld_progress.specs.Laws.{IsWhole}
+use Rattle.mapworld_progress.specs.Whole.{IsWhole}
 use Rattle.mapworld_progress.specs.Rest.{HasEnded, IsAtRest}
 use Rattle.mapworld_progress.proofs.Moving.{session-goes, somebody_moves}
 use Rattle.mapworld_progress.proofs.Turning.{beyond-no-call, no-stand, place-there}

@@ -19,7 +19,7 @@ use Rattle.mapworld_state.specs.Running.{can_move_in, moves_at, moves_before}
 use Rattle.mapworld_state.specs.State.{State}
 use Rattle.mapworld_sound.proofs.Holding.{in-call, stand-at}
 use Rattle.mapworld_progress.specs.Left.{left}
-use Rattle.mapworld_progress.specs.Laws.{IsWhole}
+use Rattle.mapworld_progress.specs.Whole.{IsWhole}
 
 or_false : (a b : Bool) → (a || b) ≡ false → b ≡ false
 or_false true b e = absurd (false≢true (sym e))

@@ -1,29 +1,28 @@
 -- That a world comes to its end.
-use Rattle.std.specs.Prelude.{◌≡◌, ℕ, ◌+◌, ◌<◌, ◌≤◌, true, false}
+use Rattle.std.specs.Prelude.{◌≡◌, ℕ, ◌+◌, ◌<◌, ◌≤◌, true, false, length}
 use Rattle.mapworld_calls.specs.Setup.{Setup}
 use Rattle.mapworld_locks.specs.Fits.{LocksFit}
 use Rattle.mapworld_state.specs.declared.step.Step.{Step}
 use Rattle.mapworld_state.specs.Running.{bound_of, can_move_in, unanswered_of}
-use Rattle.mapworld_state.specs.Sound.{Sound}
 use Rattle.mapworld_state.specs.State.{State}
 use Rattle.mapworld_state.specs.Steps.{IsStep}
-use Rattle.mapworld_progress.specs.Left.{left}
+use Rattle.mapworld_progress.specs.Left.{left, most_left}
 use Rattle.mapworld_progress.specs.Rest.{IsAtRest}
 use Rattle.mapworld_progress.specs.Sizes.{IsSized}
+use Rattle.mapworld_progress.specs.Whole.{IsWhole}
 
 -- a step lowers the steps that are left, where its thread is stepped on
 abbrev pub StepsFall : (K V S D T : Type 0) → Type 0
 StepsFall K V S D T = (x : Setup K V D T) (w : State K V S D T) (s : Step) (w' : State K V S D T) → IsSized w → IsStep x w s w' → left w' s.thread + 1 ≤ left w s.thread
 
--- they are fewer than the bound, whichever thread is stepped
-abbrev pub StepsAreFew : (K V S D T : Type 0) → Type 0
-StepsAreFew K V S D T = (w : State K V S D T) → IsSized w → LocksFit w.locks → (t : ℕ) → left w t < bound_of w
+-- Whichever thread is stepped, the steps that are left are no more than its threads and unanswered calls take at most, and fewer than the bound
+-- by more than one.
+pub record FewAreLeft {K V S D T : Type 0} (w : State K V S D T) : Type 0 where
+  pub most : (t : ℕ) → left w t ≤ most_left (length w.programs) (unanswered_of w)
+  pub bounded : most_left (length w.programs) (unanswered_of w) + 1 < bound_of w
 
--- what holds of a world at every moment
-pub record IsWhole {K V S D T : Type 0} (x : Setup K V D T) (w : State K V S D T) : Type 0 where
-  pub sound : Sound x w
-  pub locks : LocksFit w.locks
-  pub sizes : IsSized w
+abbrev pub StepsAreFew : (K V S D T : Type 0) → Type 0
+StepsAreFew K V S D T = (w : State K V S D T) → IsSized w → LocksFit w.locks → FewAreLeft w
 
 -- where a thread can't move, any other may be stepped from there on
 abbrev pub OthersGoOn : (K V S D T : Type 0) → Type 0

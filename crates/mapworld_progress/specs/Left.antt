@@ -2,6 +2,7 @@
 use Rattle.std.specs.Prelude.{ℕ, ◌+◌, ◌*◌, length, sum_by}
 use Rattle.parking_lot_world.specs.Ranks.{steps_left}
 use Rattle.parking_lot_world.specs.Rows.{state}
+use Rattle.parking_lot_world.specs.SoundLaws.{most_steps}
 use Rattle.mapworld_state.specs.declared.place.Phase.{Phase}
 use Rattle.mapworld_state.specs.declared.place.Phase.TheVariants as phase
 use Rattle.mapworld_state.specs.Places.{Place}
@@ -37,3 +38,7 @@ place_left n p = call_left n * length p.asks + phase_left n p.phase
 -- The steps of all threads, where thread t is stepped: those that are left at the locks, and those that places still take.
 abbrev pub left : {K V S D T : Type 0} → State K V S D T → ℕ → ℕ
 left w t = steps_left (state w.locks.rows) t + sum_by (place_left (length w.places)) w.places
+
+-- the most that is left, of n threads and c calls that aren't answered
+abbrev pub most_left : ℕ → ℕ → ℕ
+most_left n c = n * most_steps n + call_left n * c

@@ -6,8 +6,7 @@ pub fn steps_fall<K, V, S, D, T>()
     ensures { StepsFall K V S D T }
 {}
 
-/// Whichever thread is stepped, fewer steps are left than the bound, which goes by how many threads, shards, pairs and unanswered calls there
-/// are.
+/// Whichever thread is stepped, no more steps are left than the threads and the unanswered calls take at most, and fewer than the bound.
 pub fn steps_are_few<K, V, S, D, T>()
     ensures { StepsAreFew K V S D T }
 {
