@@ -15,3 +15,4 @@ pub mod Beginnings
 pub mod Faulting
 pub mod Growths
 pub mod Bounds
+pub mod Drains

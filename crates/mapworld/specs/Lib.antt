@@ -4,3 +4,4 @@ pub mod Asleep
 pub mod Views
 pub mod Beginning
 pub mod Laws
+pub mod Drained

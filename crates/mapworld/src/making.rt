@@ -5,6 +5,7 @@ ghost use Rattle.mapworld_locks.specs.Fits.{LocksFit};
 ghost use Rattle.mapworld_locks.specs.Fresh.{AreFresh};
 ghost use Rattle.mapworld_state.specs.World.{AgreesWithBlocks, HasPlacedBlocks};
 ghost use Rattle.mapworld_state.specs.Held.{HoldsMatch};
+ghost use Rattle.mapworld_progress.specs.Drains.{HasTime};
 ghost use Rattle.mapworld_state.specs.Core.{state_of, IsSoundCore, IsSlotted, Room};
 
 use crate::beginning::{empty_shards, fill, places_of};
@@ -12,6 +13,7 @@ use lock_api_raw::NoMemory;
 use mapworld_calls::{Ask, Deed};
 use mapworld_locks::ShardLocks;
 use mapworld_state::Core;
+use parking_lot_world::laws::steps_are_few;
 use past::Past;
 use std::alloc::Allocator;
 use std::hash::{BuildHasher, Hash};
@@ -63,7 +65,9 @@ pub(crate) fn core_of<
     ensures placed { IfOk result (λ core. HasPlacedBlocks D.Deed S.BuildHasher S.Hasher.Hasher K.eq K.hash_input (state_of core)) }
     ensures held { IfOk result (λ core. HoldsMatch (state_of core).places (state_of core).locks) }
     ensures fit { IfOk result (λ core. LocksFit (state_of core).locks) }
+    ensures time { IfOk result (λ core. HasTime (state_of core)) }
 {
+    steps_are_few();
     let opening = Snapshot::of(&pairs);
     let kept = Snapshot::of(&programs);
     let calls = calls_in(&programs);

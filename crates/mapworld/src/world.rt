@@ -15,6 +15,8 @@ ghost use Rattle.parking_lot_world.specs.Rows.{state, queue_at};
 ghost use Rattle.mapworld_locks.specs.Fits.{LocksFit};
 ghost use Rattle.mapworld_state.specs.Footprint.{word_of};
 ghost use Rattle.mapworld_state.specs.Held.{HoldsMatch, HoldByPhase};
+ghost use Rattle.mapworld_progress.specs.Rest.{IsAtRest};
+ghost use Rattle.mapworld.specs.Drained.{DrainedBy};
 ghost use Rattle.mapworld_calls.specs.Placed as today;
 
 use crate::laws::{queues_are_waiters, steps_touch_one_lock};
@@ -25,6 +27,7 @@ use mapworld_calls::{Ask, Block, Deed, Reply};
 use mapworld_faults::{RunFault, WorldNewFault};
 use mapworld_state::{Core, Status, Step};
 use mapworld_steps as steps;
+use parking_lot_world::laws::steps_are_few;
 use std::alloc::{Allocator, Global};
 use std::hash::{BuildHasher, Hash};
 use std::marker::Model;
@@ -66,10 +69,11 @@ impl<K: Eq + Hash, V, S: BuildHasher, D: Deed<K, V>, A: Allocator> Model
     ghost Value = { State K V S D D.Answer };
 
     ghost use Rattle.mapworld_state.specs.Core.{state_of, IsSoundCore, IsSlotted, Room};
+    ghost use Rattle.mapworld_progress.specs.Drains.{HasTime};
 
     ghost view = { λ w. state_of w.core };
 
-    ghost invariant = { λ w. IsSoundCore D.Deed S.BuildHasher S.Hasher.Hasher K.eq K.hash_input w.core × Room w.core × IsSlotted D.Deed S.BuildHasher S.Hasher.Hasher K.eq K.hash_input w.core };
+    ghost invariant = { λ w. IsSoundCore D.Deed S.BuildHasher S.Hasher.Hasher K.eq K.hash_input w.core × Room w.core × IsSlotted D.Deed S.BuildHasher S.Hasher.Hasher K.eq K.hash_input w.core × HasTime (state_of w.core) };
 }
 
 impl<K: Eq + Hash, V, S: BuildHasher, D: Deed<K, V>, A: Allocator> MapWorld<K, V, S, D, A> {
@@ -288,6 +292,7 @@ where
             (λ _. (refusal self.old done step ≡ None) × IsStep setup self.old step self.new)
             (λ fault. (self.new ≡ self.old) × (refusal self.old done step ≡ Some fault)) }
     {
+        steps_are_few();
         self.core.locks.known();
         if step.thread >= self.core.places.len() {
             return Err(RunFault::NoSuchThread(done));
@@ -302,6 +307,7 @@ where
         if !steps::advance(&mut self.core, step) {
             return Err(RunFault::CannotMove(done));
         }
+        self.core.locks.known();
         Ok(())
     }
 
@@ -365,5 +371,36 @@ where
         let result = self.make_steps(steps);
         self.core.locks.known();
         result
+    }
+
+    /// Runs the world until every call is answered and every section left, and answers how many steps that took: each thread is
+    /// stepped on as far as it can go, never fair, and then the next, until nobody can move. There are fewer than the
+    /// [`bound`](MapWorld::bound) at the call, and nobody waits behind it: every word is 0, every queue is empty, no shard is held and no
+    /// guard is left.
+    ///
+    /// It is never refused, and goes on from whatever state a [`run`](MapWorld::run) has left, calls half done included. It takes memory only
+    /// where a shard grows. A second one in a row has nothing left to do, and answers 0.
+    ///
+    /// ```text
+    /// world.run(&steps)?;
+    /// let more = world.drain();     // and every program is at its end
+    /// ```
+    pub fn drain(&mut self) -> u64
+        ensures ran { let setup = setup_of D.Deed S.BuildHasher S.Hasher.Hasher K.eq K.hash_input self.old in
+            DrainedBy setup self.old result self.new }
+        ensures few { result < bound_of self.old }
+        ensures rest { IsAtRest self.new }
+        ensures agrees { AgreesWithBlocks D.Deed S.BuildHasher S.Hasher.Hasher K.eq K.hash_input self.new }
+        ensures placed { HasPlacedBlocks D.Deed S.BuildHasher S.Hasher.Hasher K.eq K.hash_input self.new }
+        ensures adds { OnlyAddsTo self.old self.new }
+        ensures fixed { StaysFixed self.old self.new }
+        ensures held { HoldsMatch self.new.places self.new.locks }
+        ensures by_phase { HoldByPhase self.new.places }
+        ensures fit { LocksFit self.new.locks }
+    {
+        steps_touch_one_lock();
+        let steps = mapworld_progress::drain(&mut self.core);
+        self.core.locks.known();
+        steps
     }
 }

@@ -1,7 +1,7 @@
 //! The steps that change or read a pair.
 ghost use Rattle.std.specs.Prelude.{◌≡◌, ◌+◌, ◌≤◌, true, if◌then◌else◌};
 ghost use Rattle.mapworld_state.specs.declared.place.Phase.TheVariants as phase;
-ghost use Rattle.mapworld_state.specs.Running.{has_numbers};
+ghost use Rattle.mapworld_state.specs.Running.{has_next};
 ghost use Rattle.mapworld_state.specs.Core.{state_of, Room, IsBefore, IsSoundCore, IsSlotted, MakesStep};
 ghost use Rattle.mapworld_state.specs.Steps.{Appends, Applies, Views, Reads, Changes, Fills};
 
@@ -22,7 +22,7 @@ pub fn append<K: Eq + Hash + Drop, V: Drop, S: BuildHasher, D: Deed<K, V> + Drop
     requires sound { IsSoundCore D.Deed S.BuildHasher S.Hasher.Hasher K.eq K.hash_input core.old }
     requires slots { IsSlotted D.Deed S.BuildHasher S.Hasher.Hasher K.eq K.hash_input core.old }
     requires room { Room core.old }
-    requires numbers { has_numbers (state_of core.old) ≡ true }
+    requires numbers { has_next (state_of core.old) ≡ true }
     requires before { (key : _) × (value : _) × IsBefore (state_of core.old).places step.thread (phase.Append key value) }
     ensures step { MakesStep Appends D.Deed S.BuildHasher S.Hasher.Hasher K.eq K.hash_input core.old step core.new }
     ensures slots { IsSlotted D.Deed S.BuildHasher S.Hasher.Hasher K.eq K.hash_input core.new }
@@ -57,7 +57,7 @@ pub fn apply<K: Eq + Hash + Drop, V: Drop, S: BuildHasher, D: Deed<K, V> + Drop,
     requires sound { IsSoundCore D.Deed S.BuildHasher S.Hasher.Hasher K.eq K.hash_input core.old }
     requires slots { IsSlotted D.Deed S.BuildHasher S.Hasher.Hasher K.eq K.hash_input core.old }
     requires room { Room core.old }
-    requires numbers { has_numbers (state_of core.old) ≡ true }
+    requires numbers { has_next (state_of core.old) ≡ true }
     requires before { (call : _) × IsBefore (state_of core.old).places step.thread (phase.Apply call) }
     ensures step { MakesStep Applies D.Deed S.BuildHasher S.Hasher.Hasher K.eq K.hash_input core.old step core.new }
     ensures slots { IsSlotted D.Deed S.BuildHasher S.Hasher.Hasher K.eq K.hash_input core.new }
@@ -84,7 +84,7 @@ pub fn view<K: Eq + Hash + Drop, V: Drop, S: BuildHasher, D: Deed<K, V> + Drop, 
     requires sound { IsSoundCore D.Deed S.BuildHasher S.Hasher.Hasher K.eq K.hash_input core.old }
     requires slots { IsSlotted D.Deed S.BuildHasher S.Hasher.Hasher K.eq K.hash_input core.old }
     requires room { Room core.old }
-    requires numbers { has_numbers (state_of core.old) ≡ true }
+    requires numbers { has_next (state_of core.old) ≡ true }
     requires before { (key : _) × (deed : _) × IsBefore (state_of core.old).places step.thread (phase.View key deed) }
     ensures step { MakesStep Views D.Deed S.BuildHasher S.Hasher.Hasher K.eq K.hash_input core.old step core.new }
     ensures slots { IsSlotted D.Deed S.BuildHasher S.Hasher.Hasher K.eq K.hash_input core.new }
@@ -123,7 +123,7 @@ pub fn read<K: Eq + Hash + Drop, V: Drop, S: BuildHasher, D: Deed<K, V> + Drop, 
     requires sound { IsSoundCore D.Deed S.BuildHasher S.Hasher.Hasher K.eq K.hash_input core.old }
     requires slots { IsSlotted D.Deed S.BuildHasher S.Hasher.Hasher K.eq K.hash_input core.old }
     requires room { Room core.old }
-    requires numbers { has_numbers (state_of core.old) ≡ true }
+    requires numbers { has_next (state_of core.old) ≡ true }
     requires before { (deed : _) × IsBefore (state_of core.old).places step.thread (phase.Read deed) }
     ensures step { MakesStep Reads D.Deed S.BuildHasher S.Hasher.Hasher K.eq K.hash_input core.old step core.new }
     ensures slots { IsSlotted D.Deed S.BuildHasher S.Hasher.Hasher K.eq K.hash_input core.new }
@@ -151,7 +151,7 @@ pub fn change<K: Eq + Hash + Drop, V: Drop, S: BuildHasher, D: Deed<K, V> + Drop
     requires sound { IsSoundCore D.Deed S.BuildHasher S.Hasher.Hasher K.eq K.hash_input core.old }
     requires slots { IsSlotted D.Deed S.BuildHasher S.Hasher.Hasher K.eq K.hash_input core.old }
     requires room { Room core.old }
-    requires numbers { has_numbers (state_of core.old) ≡ true }
+    requires numbers { has_next (state_of core.old) ≡ true }
     requires before { (call : _) × IsBefore (state_of core.old).places step.thread (phase.Change call) }
     ensures step { MakesStep Changes D.Deed S.BuildHasher S.Hasher.Hasher K.eq K.hash_input core.old step core.new }
     ensures slots { IsSlotted D.Deed S.BuildHasher S.Hasher.Hasher K.eq K.hash_input core.new }
@@ -184,7 +184,7 @@ pub fn fill<K: Eq + Hash + Drop, V: Drop, S: BuildHasher, D: Deed<K, V> + Drop, 
     requires sound { IsSoundCore D.Deed S.BuildHasher S.Hasher.Hasher K.eq K.hash_input core.old }
     requires slots { IsSlotted D.Deed S.BuildHasher S.Hasher.Hasher K.eq K.hash_input core.old }
     requires room { Room core.old }
-    requires numbers { has_numbers (state_of core.old) ≡ true }
+    requires numbers { has_next (state_of core.old) ≡ true }
     requires before { (value : _) × IsBefore (state_of core.old).places step.thread (phase.Fill value) }
     ensures step { MakesStep Fills D.Deed S.BuildHasher S.Hasher.Hasher K.eq K.hash_input core.old step core.new }
     ensures slots { IsSlotted D.Deed S.BuildHasher S.Hasher.Hasher K.eq K.hash_input core.new }

@@ -3,15 +3,15 @@ mod Owning
 mod Within
 mod Calls
 mod Taking
-mod Lists
-mod Handing
+pub mod Lists
+pub mod Handing
 mod Seating
 mod Counting
 mod Admitting
 mod Moving
 mod Taken
 mod Keeping
-mod Together
+pub mod Together
 mod Ending
 mod Answering
 mod Standing

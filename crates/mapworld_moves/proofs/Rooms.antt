@@ -1,5 +1,6 @@
 -- A step of one thread leaves room, if what its place may still take falls by as much as is taken.
 use Rattle.std.proofs.Common.{◌≡◌, ℕ, ◌+◌, ◌<◌, ◌≤◌, ◌^◌, true, List, Vec, length, map, Some, slice_get, slice_set, sum_by, vec_len, vec_capacity, refl, sym, ap, ◌∙◌, subst, arith, length-set, leb-true, ⊎_elim}
+use Rattle.std.proofs.lemmas.Bool.{lt-ltb, ltb-true}
 use Rattle.mapworld_calls.proofs.Lists.{slice_get-set_cases, sum_by-set, sum_by-at}
 use Rattle.mapworld_locks.specs.Views.{Shown}
 use Rattle.mapworld_locks.proofs.Sizes.{KeepsSize}
@@ -9,14 +10,14 @@ use Rattle.mapworld_state.specs.Places.{Place, place_of}
 use Rattle.mapworld_state.specs.declared.world_core.Core.{Core}
 use Rattle.mapworld_state.specs.Route.{IsWorldAmount}
 use Rattle.mapworld_state.specs.State.{State, pairs_of}
-use Rattle.mapworld_state.specs.Running.{has_numbers}
+use Rattle.mapworld_state.specs.Running.{has_next, has_numbers}
 use Rattle.mapworld_state.specs.Core.{state_of, owed, owes, may_list, lists, may_add, adds, Room}
 
 -- what a step changes, in numbers: the place p of thread t is now p'
 pub record Shift {K V S D T A : Type 0} (c c' : Core K V S D T A) (t : ℕ) (p p' : Place K V D T) : Type 0 where
   pub here : slice_get (state_of c).places t ≡ Some p
   pub places : (state_of c').places ≡ slice_set (state_of c).places t p'
-  pub numbers : has_numbers (state_of c) ≡ true
+  pub numbers : has_next (state_of c) ≡ true
   pub steps : length c'.steps.items ≡ length c.steps.items + 1
   pub count : c'.count ≡ c.count + 1
   pub programs : (state_of c').programs ≡ (state_of c).programs
@@ -33,9 +34,13 @@ pub record Shift {K V S D T A : Type 0} (c c' : Core K V S D T A) (t : ℕ) (p p
   pub more_blocks : length c.blocks.items ≤ length c'.blocks.items
   pub listed : (i : ℕ) → p'.block ≡ Some i → i < length c'.blocks.items
 
--- a step number is left, with one to spare
-pub one_more : {K V S D T : Type 0} (w : State K V S D T) → has_numbers w ≡ true → length w.steps + 1 < 2 ^ 63
-one_more w h = let fits = leb-true _ _ h in omega arith
+-- a number is left for a step
+pub one_more : {K V S D T : Type 0} (w : State K V S D T) → has_next w ≡ true → length w.steps + 1 < 2 ^ 63
+one_more w h = ltb-true _ _ h
+
+-- so it is where numbers are left for that step and all that must come after it
+pub next_too : {K V S D T : Type 0} (w : State K V S D T) → has_numbers w ≡ true → has_next w ≡ true
+next_too w h = let fits = leb-true _ _ h in lt-ltb (length w.steps + 1) (2 ^ 63) (omega arith)
 
 module _ {K V S D T A : Type 0} where
   still_listed : (c c' : Core K V S D T A) (t : ℕ) (p p' : Place K V D T) → Room c → Shift c c' t p p'

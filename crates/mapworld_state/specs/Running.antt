@@ -55,6 +55,10 @@ moves_at locks t (Some p) = moves_before locks t (length p.asks) p.phase
 abbrev pub can_move_in : {K V S D T : Type 0} → State K V S D T → ℕ → Bool
 can_move_in w t = moves_at w.locks t (slice_get w.places t)
 
+-- whether a number is left for one more step
+abbrev pub has_next : {K V S D T : Type 0} → State K V S D T → Bool
+has_next w = nat_lt (length w.steps + 1) (2 ^ 63)
+
 -- whether step numbers are left for one more step and all that must come after it
 abbrev pub has_numbers : {K V S D T : Type 0} → State K V S D T → Bool
 has_numbers w = nat_le (length w.steps + 1 + bound_of w + 2 * (unanswered_of w + 1)) (2 ^ 63)

@@ -2,7 +2,7 @@
 ghost use Rattle.std.specs.Prelude.{◌≡◌, ◌+◌, ◌<◌, ◌^◌, ◌∷◌, true, if◌then◌else◌};
 ghost use Rattle.mapworld_locks.specs.Stands.{stand_in};
 ghost use Rattle.mapworld_state.specs.declared.place.Phase.TheVariants as phase;
-ghost use Rattle.mapworld_state.specs.Running.{has_numbers};
+ghost use Rattle.mapworld_state.specs.Running.{has_next};
 ghost use Rattle.mapworld_state.specs.Core.{state_of, Room, IsBefore, IsSoundCore, IsSlotted, MakesStep};
 ghost use Rattle.mapworld_state.specs.Steps.{Downgrades, Releases, Answers};
 
@@ -65,7 +65,7 @@ pub(crate) fn downgrade<
     requires sound { IsSoundCore D.Deed S.BuildHasher S.Hasher.Hasher K.eq K.hash_input core.old }
     requires room { Room core.old }
     requires slots { IsSlotted D.Deed S.BuildHasher S.Hasher.Hasher K.eq K.hash_input core.old }
-    requires numbers { has_numbers (state_of core.old) ≡ true }
+    requires numbers { has_next (state_of core.old) ≡ true }
     requires before { IsBefore (state_of core.old).places step.thread phase.Downgrade }
     ensures step { MakesStep Downgrades D.Deed S.BuildHasher S.Hasher.Hasher K.eq K.hash_input core.old step core.new }
     ensures room { Room core.new }
@@ -93,7 +93,7 @@ pub(crate) fn release<
     requires sound { IsSoundCore D.Deed S.BuildHasher S.Hasher.Hasher K.eq K.hash_input core.old }
     requires room { Room core.old }
     requires slots { IsSlotted D.Deed S.BuildHasher S.Hasher.Hasher K.eq K.hash_input core.old }
-    requires numbers { has_numbers (state_of core.old) ≡ true }
+    requires numbers { has_next (state_of core.old) ≡ true }
     requires before { (answer : _) × IsBefore (state_of core.old).places step.thread (phase.Release answer) }
     ensures step { MakesStep Releases D.Deed S.BuildHasher S.Hasher.Hasher K.eq K.hash_input core.old step core.new }
     ensures room { Room core.new }
@@ -125,7 +125,7 @@ pub(crate) fn answer<
     requires sound { IsSoundCore D.Deed S.BuildHasher S.Hasher.Hasher K.eq K.hash_input core.old }
     requires room { Room core.old }
     requires slots { IsSlotted D.Deed S.BuildHasher S.Hasher.Hasher K.eq K.hash_input core.old }
-    requires numbers { has_numbers (state_of core.old) ≡ true }
+    requires numbers { has_next (state_of core.old) ≡ true }
     requires before { (answer : _) × IsBefore (state_of core.old).places step.thread (phase.Answer answer) }
     requires out { stand_in (state_of core.old).locks step.thread ≡ None }
     ensures step { MakesStep Answers D.Deed S.BuildHasher S.Hasher.Hasher K.eq K.hash_input core.old step core.new }

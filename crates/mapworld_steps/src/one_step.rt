@@ -2,7 +2,7 @@
 ghost use Rattle.std.specs.Prelude.{◌≡◌, ◌<◌, true, MatchBool, length};
 ghost use Rattle.mapworld_state.specs.declared.place.Phase.TheVariants as phase;
 ghost use Rattle.mapworld_state.specs.Steps.{IsStep};
-ghost use Rattle.mapworld_state.specs.Running.{has_numbers, can_move_in};
+ghost use Rattle.mapworld_state.specs.Running.{has_next, can_move_in};
 ghost use Rattle.mapworld_state.specs.Core.{state_of, Room, IsBefore, IsSoundCore, IsSlotted, MakesStep};
 
 use crate::ends::{downgrade, release};
@@ -24,7 +24,7 @@ fn go_on<K: Eq + Hash + Drop, V: Drop, S: BuildHasher, D: Deed<K, V> + Drop, A: 
     requires sound { IsSoundCore D.Deed S.BuildHasher S.Hasher.Hasher K.eq K.hash_input core.old }
     requires room { Room core.old }
     requires slots { IsSlotted D.Deed S.BuildHasher S.Hasher.Hasher K.eq K.hash_input core.old }
-    requires numbers { has_numbers (state_of core.old) ≡ true }
+    requires numbers { has_next (state_of core.old) ≡ true }
     requires thread { step.thread < length core.old.places.items }
     requires begun { ¬ IsBefore (state_of core.old).places step.thread phase.Rest }
     requires admitted { (request : _) → ¬ IsBefore (state_of core.old).places step.thread (phase.Admit request) }
@@ -63,7 +63,7 @@ pub fn advance<
     requires sound { IsSoundCore D.Deed S.BuildHasher S.Hasher.Hasher K.eq K.hash_input core.old }
     requires room { Room core.old }
     requires slots { IsSlotted D.Deed S.BuildHasher S.Hasher.Hasher K.eq K.hash_input core.old }
-    requires numbers { has_numbers (state_of core.old) ≡ true }
+    requires numbers { has_next (state_of core.old) ≡ true }
     requires thread { step.thread < length core.old.places.items }
     ensures moves { result ≡ can_move_in (state_of core.old) step.thread }
     ensures made { MatchBool result

@@ -3,7 +3,7 @@ ghost use Rattle.std.specs.Prelude.{◌≡◌, true, Some, None, is_some, slice_
 ghost use Rattle.parking_lot_world.specs.Machines.{can_move, ended};
 ghost use Rattle.parking_lot_world.specs.Rows.{state};
 ghost use Rattle.mapworld_state.specs.declared.place.Phase.TheVariants as phase;
-ghost use Rattle.mapworld_state.specs.Running.{has_numbers, goes_on};
+ghost use Rattle.mapworld_state.specs.Running.{has_next, goes_on};
 ghost use Rattle.mapworld_state.specs.Core.{state_of, Room, IsBefore, IsSoundCore, IsSlotted, MakesStep};
 ghost use Rattle.mapworld_state.specs.Steps.{Enters, Leaves, MovesLock, IsStep};
 
@@ -24,7 +24,7 @@ fn move_lock<K: Eq + Hash + Drop, V: Drop, S: BuildHasher, D: Deed<K, V> + Drop,
     requires sound { IsSoundCore D.Deed S.BuildHasher S.Hasher.Hasher K.eq K.hash_input core.old }
     requires room { Room core.old }
     requires slots { IsSlotted D.Deed S.BuildHasher S.Hasher.Hasher K.eq K.hash_input core.old }
-    requires numbers { has_numbers (state_of core.old) ≡ true }
+    requires numbers { has_next (state_of core.old) ≡ true }
     requires stands { (place : _) × (slice_get (state_of core.old).places step.thread ≡ Some place) }
     requires moves { can_move (state core.old.locks.rows) step.thread ≡ true }
     requires open { ended (state core.old.locks.rows) step.thread ≡ None }
@@ -52,7 +52,7 @@ fn enter_shard<K: Eq + Hash + Drop, V: Drop, S: BuildHasher, D: Deed<K, V> + Dro
     ensures sound { IsSoundCore D.Deed S.BuildHasher S.Hasher.Hasher K.eq K.hash_input core.new }
     ensures room { Room core.new }
     ensures slots { IsSlotted D.Deed S.BuildHasher S.Hasher.Hasher K.eq K.hash_input core.new }
-    ensures numbers { has_numbers (state_of core.new) ≡ has_numbers (state_of core.old) }
+    ensures numbers { has_next (state_of core.new) ≡ has_next (state_of core.old) }
 {
     let place = &mut core.places[thread];
     let Phase::Admit(request) = mem::replace(&mut place.phase, Phase::Rest) else {
@@ -77,7 +77,7 @@ pub(crate) fn admit<
     requires sound { IsSoundCore D.Deed S.BuildHasher S.Hasher.Hasher K.eq K.hash_input core.old }
     requires room { Room core.old }
     requires slots { IsSlotted D.Deed S.BuildHasher S.Hasher.Hasher K.eq K.hash_input core.old }
-    requires numbers { has_numbers (state_of core.old) ≡ true }
+    requires numbers { has_next (state_of core.old) ≡ true }
     requires before { (request : _) × IsBefore (state_of core.old).places step.thread (phase.Admit request) }
     requires moves { can_move (state core.old.locks.rows) step.thread ≡ true }
     ensures step { MakesStep IsStep D.Deed S.BuildHasher S.Hasher.Hasher K.eq K.hash_input core.old step core.new }
@@ -106,7 +106,7 @@ fn leave_lock<K: Eq + Hash + Drop, V: Drop, S: BuildHasher, D: Deed<K, V> + Drop
     ensures sound { IsSoundCore D.Deed S.BuildHasher S.Hasher.Hasher K.eq K.hash_input core.new }
     ensures room { Room core.new }
     ensures slots { IsSlotted D.Deed S.BuildHasher S.Hasher.Hasher K.eq K.hash_input core.new }
-    ensures numbers { has_numbers (state_of core.new) ≡ has_numbers (state_of core.old) }
+    ensures numbers { has_next (state_of core.new) ≡ has_next (state_of core.old) }
 {
     core.locks.finish(thread);
 }
@@ -122,7 +122,7 @@ pub(crate) fn finish<
     requires sound { IsSoundCore D.Deed S.BuildHasher S.Hasher.Hasher K.eq K.hash_input core.old }
     requires room { Room core.old }
     requires slots { IsSlotted D.Deed S.BuildHasher S.Hasher.Hasher K.eq K.hash_input core.old }
-    requires numbers { has_numbers (state_of core.old) ≡ true }
+    requires numbers { has_next (state_of core.old) ≡ true }
     requires before { (answer : _) × IsBefore (state_of core.old).places step.thread (phase.Answer answer) }
     requires moves { goes_on (state_of core.old).locks step.thread ≡ true }
     ensures step { MakesStep IsStep D.Deed S.BuildHasher S.Hasher.Hasher K.eq K.hash_input core.old step core.new }

@@ -4,7 +4,7 @@ ghost use Rattle.mapworld_locks.specs.Steps.{MayAsk};
 ghost use Rattle.mapworld_state.specs.declared.place.Phase.TheVariants as phase;
 ghost use Rattle.mapworld_state.specs.Holds.{asks_for};
 ghost use Rattle.mapworld_state.specs.Moves.{mode_of};
-ghost use Rattle.mapworld_state.specs.Running.{has_numbers};
+ghost use Rattle.mapworld_state.specs.Running.{has_next};
 ghost use Rattle.mapworld_state.specs.Core.{state_of, Room, IsBefore, IsSoundCore, IsSlotted, MakesStep};
 ghost use Rattle.mapworld_state.specs.Steps.{EntersBy, Starts};
 
@@ -44,7 +44,7 @@ pub(crate) fn start<
     requires sound { IsSoundCore D.Deed S.BuildHasher S.Hasher.Hasher K.eq K.hash_input core.old }
     requires room { Room core.old }
     requires slots { IsSlotted D.Deed S.BuildHasher S.Hasher.Hasher K.eq K.hash_input core.old }
-    requires numbers { has_numbers (state_of core.old) ≡ true }
+    requires numbers { has_next (state_of core.old) ≡ true }
     requires before { IsBefore (state_of core.old).places step.thread phase.Rest }
     requires left { (p : _) → slice_get (state_of core.old).places step.thread ≡ Some p → 0 < length p.asks }
     ensures step { MakesStep Starts D.Deed S.BuildHasher S.Hasher.Hasher K.eq K.hash_input core.old step core.new }

@@ -70,4 +70,4 @@ pub mod Takings
 mod MutexPaying
 mod RwPaying
 mod Summing
-mod Paying
+pub mod Paying

@@ -7,6 +7,7 @@ use Rattle.mapworld_state.specs.Core.{AreLocksOf}
 use Rattle.mapworld_state.specs.Places.{place_of}
 use Rattle.mapworld_state.specs.Shards.{shard_pairs}
 use Rattle.mapworld_state.specs.Route.{IsWorldAmount, key_route}
+use Rattle.mapworld_progress.proofs.Timing.{time-first}
 use Rattle.mapworld.specs.Beginning.{AreAtStart, AreFilled}
 use Rattle.mapworld.proofs.Filling.{AreFilled-seen}
 use Rattle.mapworld.proofs.Refusals.{accepted, sum_by-map}
@@ -103,3 +104,6 @@ returns-clause-held g c = (returns-clause-sound g c).holds
 pub returns-clause-slots : goal.returns-clause-slots
 returns-clause-slots g c =
     new-slotted _ _ c.fill.new.tables.items c.in_ok-blocks.blocks.items (map (λ program. program.items) c.args.programs.items) c.in_ok-places.places.items c.in_ok-places.ensures c.in_ok-count.ensures.hashed
+
+pub returns-clause-time : goal.returns-clause-time
+returns-clause-time g c = time-first c.steps_are_few.ensures _ (returns-clause-room g c) c.known.ensures (ap length c.new.ensures)

@@ -1,11 +1,15 @@
-use Rattle.std.proofs.Common.{sym, subst}
+use Rattle.std.proofs.Common.{sym, subst, ◌∙◌}
 use Rattle.mapworld_state.specs.Core.{state_of}
 use Rattle.mapworld_state.specs.State.{State}
 use Rattle.mapworld_state.specs.World.{setup_of}
 use Rattle.mapworld_state.specs.Sound.{Sound}
 use Rattle.mapworld_moves.proofs.Keys.{setup-laws}
+use Rattle.mapworld_moves.proofs.Rooms.{next_too}
 use Rattle.mapworld_sound.proofs.Sounds.{sound-step}
 use Rattle.mapworld_sound.proofs.Adding.{step-adds}
+use Rattle.mapworld_progress.specs.Drains.{HasTime}
+use Rattle.mapworld_progress.proofs.Draining.{sized}
+use Rattle.mapworld_progress.proofs.Timing.{time-after}
 use Rattle.mapworld.proofs.Runs.{setup-fixed}
 use Rattle.mapworld.proofs.world.MapWorld.make_step.Goals as goal
 
@@ -16,6 +20,7 @@ invariant_of-self g c = (
       (sym c.if-not-advance.ensures.made) c.self.invariant.0,
   c.advance.ensures.room,
   c.advance.ensures.slots,
+  subst HasTime (sym c.if-not-advance.ensures.made) c.self.invariant.3,
 )
 
 pub invariant_of-self-2 : goal.invariant_of-self-2
@@ -27,4 +32,8 @@ invariant_of-self-2 g c =
     let laws = setup-laws g.D.Deed g.S.BuildHasher g.S.Hasher.Hasher g.K.PartialEq.eq g.K.Hash.hash_input w g.met.K.Eq.laws g.met.K.Hash.respects_eq in
     let added = step-adds x w c.args.step w' c.self.invariant.0 step in
     let fixed = setup-fixed g.D.Deed g.S.BuildHasher g.S.Hasher.Hasher g.K.PartialEq.eq g.K.Hash.hash_input w w' added.fixed in
-    (subst (λ y. Sound y w') (sym fixed) (sound-step x laws w c.args.step w' c.self.invariant.0 step), c.advance.ensures.room, c.advance.ensures.slots)
+    let time = time-after c.steps_are_few.ensures x w c.args.step w' c.self.invariant.0 step (sized c.advance.new.core c.advance.ensures.room) c.known-2.ensures (sym c.fits.ensures ∙ c.if-not-fits.false) in
+    (subst (λ y. Sound y w') (sym fixed) (sound-step x laws w c.args.step w' c.self.invariant.0 step), c.advance.ensures.room, c.advance.ensures.slots, time)
+
+pub advance-requires-clause-numbers : goal.advance-requires-clause-numbers
+advance-requires-clause-numbers g c = next_too (state_of c.self.inside.core) (sym c.fits.ensures ∙ c.if-not-fits.false)

@@ -1,0 +1,38 @@
+use Rattle.std.proofs.Common.{◌+◌, false, arith}
+use Rattle.std.proofs.lemmas.Bool.{MatchBool-at_true}
+use Rattle.mapworld_state.specs.Core.{state_of}
+use Rattle.mapworld_state.specs.World.{setup_of}
+use Rattle.mapworld_progress.proofs.Draining.{fixed-by, length-by, next-number, one-step, runs-on, same-places}
+use Rattle.mapworld_progress.proofs.Falling.{steps_fall}
+use Rattle.mapworld_progress.proofs.drains.step_on.Goals as goal
+
+pub step_once-requires-clause-next : goal.step_once-requires-clause-next
+step_once-requires-clause-next g c =
+    let w0 = state_of c.args.core.now in
+    let w = state_of c.on.core in
+    let x = setup_of g.D.Deed g.S.BuildHasher g.S.Hasher.Hasher g.K.PartialEq.eq g.K.Hash.hash_input w0 in
+    next-number w (omega (arith, c.on.invariant.falls, length-by x w0 c.on.made w c.on.invariant.by, c.requires.time))
+
+pub on-preserved : goal.on-preserved
+on-preserved g c =
+    let w0 = state_of c.args.core.now in
+    let w = state_of c.on.core in
+    let w' = state_of c.step_once.new.core in
+    let x = setup_of g.D.Deed g.S.BuildHasher g.S.Hasher.Hasher g.K.PartialEq.eq g.K.Hash.hash_input w0 in
+    let y = setup_of g.D.Deed g.S.BuildHasher g.S.Hasher.Hasher g.K.PartialEq.eq g.K.Hash.hash_input w in
+    let makes = MatchBool-at_true _ _ c.on-test.true c.step_once.ensures.made in
+    let by = runs-on g.D.Deed g.S.BuildHasher g.S.Hasher.Hasher g.K.PartialEq.eq g.K.Hash.hash_input w0 w w' c.on.made 1 c.on.invariant.by (one-step y w (record { thread = c.args.thread; fair = false }) w' makes) in
+    record {
+      by = by;
+      falls = omega (arith, c.on.invariant.falls, steps_fall y w (record { thread = c.args.thread; fair = false }) w' makes.whole.sizes makes.kind);
+      sound = c.step_once.ensures.sound;
+      room = c.step_once.ensures.room;
+      slots = c.step_once.ensures.slots;
+      places = same-places c.args.core.now c.step_once.new.core c.requires.room c.step_once.ensures.room (fixed-by x w0 (c.on.made + 1) w' by);
+    }
+
+pub on-smaller : goal.on-smaller
+on-smaller g c =
+    let w = state_of c.on.core in
+    let makes = MatchBool-at_true _ _ c.on-test.true c.step_once.ensures.made in
+    omega (arith, steps_fall (setup_of g.D.Deed g.S.BuildHasher g.S.Hasher.Hasher g.K.PartialEq.eq g.K.Hash.hash_input w) w _ (state_of c.step_once.new.core) makes.whole.sizes makes.kind)
