@@ -2,8 +2,8 @@
 ghost use Rattle.std.specs.Prelude.{◌≡◌};
 ghost use Rattle.mapworld_state.specs.Holds.{asks_for, gives_up};
 
-use parking_lot_world::LockCall;
 use mapworld_state::Mode;
+use parking_lot_world::LockCall;
 
 /// The call that asks for the lock so.
 pub fn asks_for(mode: Mode) -> LockCall

@@ -33,11 +33,11 @@ pub use parking_lot_locks::{
     Act, ActResult, CoreAnswer, LockTable, MutexCore, RawFairMutex, RawMutex, RawRwLock,
     RawThreadId, Row, RwCore, SectionAct, WordChange, laws, to_deadline, wake_sum,
 };
+pub use parking_lot_once::{Once, OnceCore, OnceFault, OnceState, Poisoned};
 pub use parking_lot_timed::{TimedAct, TimedMutexCore, TimedSeen};
 pub use parking_lot_waits::{
     NotifyAct, NotifyCore, NotifySeen, WaitAct, WaitAnswer, WaitCore, WaitSeen,
 };
-pub use parking_lot_once::{Once, OnceCore, OnceFault, OnceState, Poisoned};
 pub use parking_lot_world::{
     LockAnswer, LockCall, LockKind, OwnMode, World, WorldFault, WorldRefusal, WorldStep,
 };

@@ -163,8 +163,9 @@ where
     R: RawMutexTimed<Duration = Duration, Instant = Instant> + MakeLock<S> + Drop,
     R::Runtime: Wait,
 {
-    reentrant_checks::gives_up_in_time::<R, G, C, Global, S>(alloc, source, clock, one, other)
-        .is_ok()
+    reentrant_checks::gives_up_in_time::<R, G, C, Global, S>(
+        alloc, source, clock, one, other,
+    ).is_ok()
 }
 
 #[test]
