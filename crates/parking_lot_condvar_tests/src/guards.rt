@@ -7,6 +7,8 @@ use lock_api::{Condvar, Mutex, MutexGuard, WaitFault};
 use parking_lot_condvar::RawCondvar;
 use parking_lot_core::{ParkingLot, ThreadData};
 use parking_lot_locks::{LockTable, RawFairMutex, RawMutex};
+use std::alloc::Global;
+use std::fmt::Debug;
 use std::sync::Wait;
 use std::test::Fail;
 use std::time::{Clock, Duration, Instant};
@@ -89,6 +91,14 @@ fn run_out<'t, 'l, R: Wait, C: Clock>(
     is_late & mutex.is_locked()
 }
 
+/// Whether it is shown so.
+fn is_shown<D: Debug>(alloc: Global, shown: &D, text: &str) -> bool {
+    match format!(in alloc; "{shown:?}") {
+        Ok(written) => written.as_str() == text,
+        Err(_) => false,
+    }
+}
+
 #[test]
 fn timed_waits_run_out(rt: HostRuntime) -> Result<(), Fail> {
     let lot = ParkingLot::new(rt, rt.alloc(), 1, 7)?;
@@ -99,8 +109,7 @@ fn timed_waits_run_out(rt: HostRuntime) -> Result<(), Fail> {
     let mutex = Mutex::new(rows, 0)?;
     let past = Instant::now(&rt)?;
     let is_late = run_out(&rt, &condvar, &mutex, &mut me, past);
-    let text = format!(in rt.alloc(); "{condvar:?}")?;
     assert!(rt; is_late & !mutex.is_locked() & (mutex.into_inner() == 3));
-    assert!(rt; text.as_str() == "Condvar { .. }");
+    assert!(rt; is_shown(rt.alloc(), &condvar, "Condvar { .. }"));
     Ok(())
 }
