@@ -1,10 +1,8 @@
 //! Calls of mutexes that give up.
 ghost use Rattle.std.specs.Prelude.{◌≡◌, IfSome};
 
-use crate::waiting::has_begun;
-use crate::words::TURNS;
 use lock_api_raw::{MakeLock as _, RawMutex as _, RawMutexTimed};
-use parking_lot_core::{DEFAULT_UNPARK_TOKEN, FilterOp, ParkingLot, ThreadData, unpark_filter};
+use parking_lot_core::ParkingLot;
 use parking_lot_locks::{LockTable, RawFairMutex, RawMutex};
 use std::sync::Wait;
 use std::sync::atomic::{AtomicU64, Ordering};
@@ -82,72 +80,6 @@ fn a_call_that_gives_up_leaves_the_word(rt: HostRuntime) -> Result<(), Fail> {
     let fair_table = LockTable::new(rt.alloc(), &lot, 1)?;
     let fair = RawFairMutex::new(&fair_table, 5)?;
     assert!(rt; gives_up(&rt, &fair_table, &fair, &mut one, &mut other)?);
-    Ok(())
-}
-
-/// Sleeps at a mutex until it is had, once another has said that it has it, and says so.
-fn sleeps<R: Wait + Clock>(
-    rt: &R,
-    mutex: &RawMutex<'_, '_, R>,
-    me: &mut ThreadData,
-    said: &AtomicU64,
-) {
-    if !has_begun(rt, said) {
-        return;
-    }
-    let token = mutex.lock(me);
-    said.store(1, Ordering::SeqCst);
-    mutex.unlock(token);
-}
-
-/// Waits until somebody stands in the list of a key.
-fn is_waited_for<R: Wait + Clock>(rt: &R, lot: &ParkingLot<R>, key: usize) -> bool {
-    for _turn in 0..TURNS {
-        let seen = unpark_filter(lot, key, |_| FilterOp::Stop, |_| DEFAULT_UNPARK_TOKEN);
-        if seen.have_more_threads {
-            return true;
-        }
-        thread::sleep(rt, Duration::from_millis(1));
-    }
-    false
-}
-
-/// Beside one that sleeps gives up, and then lets the mutex go. Answers whether the other slept, whether this one gave up, whether the
-/// parked bit stayed, and whether the other had the mutex then.
-fn gives_up_beside_a_sleeper<R: Wait + Clock>(
-    rt: &R,
-    table: &LockTable<'_, R>,
-    mutex: &RawMutex<'_, '_, R>,
-    me: &mut ThreadData,
-    party: &mut ThreadData,
-    said: &AtomicU64,
-) -> [bool; 4] {
-    let token = mutex.lock(me);
-    said.store(2, Ordering::SeqCst);
-    let slept = is_waited_for(rt, table.lot(), mutex.row().first_key());
-    let tried = mutex.try_lock_for(Duration::from_millis(1), rt, party);
-    let gave_up = !is_had(mutex, tried);
-    let stays = table.word(0) == Some(3);
-    said.store(0, Ordering::SeqCst);
-    mutex.unlock(token);
-    [slept, gave_up, stays, has_begun(rt, said)]
-}
-
-#[test]
-fn the_bit_stays_where_others_sleep(rt: HostRuntime) -> Result<(), Fail> {
-    let lot = ParkingLot::new(rt, rt.alloc(), 4, 7)?;
-    let mut one = lot.thread_data()?;
-    let mut two = lot.thread_data()?;
-    let mut other = lot.thread_data()?;
-    let table = LockTable::new(rt.alloc(), &lot, 1)?;
-    let mutex = RawMutex::new(&table, 5)?;
-    let said = AtomicU64::new(0);
-    let (seen, _) = thread::join(
-        &rt,
-        || gives_up_beside_a_sleeper(&rt, &table, &mutex, &mut one, &mut two, &said),
-        || sleeps(&rt, &mutex, &mut other, &said),
-    );
-    assert!(rt; (seen == [true; 4]) & (table.word(0) == Some(0)));
     Ok(())
 }
 
