@@ -114,7 +114,10 @@ impl Fair {
     pub const NEVER: Fair = Fair(0);
 
     fn has(self, thread: usize) -> bool {
-        self.0.wrapping_shr(thread as u32) & 1 == 1
+        match u32::try_from(thread) {
+            Ok(bit) => self.0.wrapping_shr(bit) & 1 == 1,
+            Err(_) => false,
+        }
     }
 }
 

@@ -252,7 +252,7 @@ fn followed(
     seen: &Seen<'_>,
 ) -> Option<[Progress; 2]> {
     let own = threads[thread & 1];
-    let other = threads[(thread + 1) & 1];
+    let other = threads[(thread & 1) ^ 1];
     let act = own.act(call);
     if !seen.has_words_of(act, own.shard) {
         return None;

@@ -34,8 +34,8 @@ fn number_of(progress: Progress) -> u64 {
     let stage = match progress.stage {
         Stage::Rest => 2000,
         Stage::Asks(phase) => number_of_phase(phase),
-        Stage::Inside(steps) => u64::from(steps) + 3000,
-        Stage::Gives(phase) => number_of_phase(phase) + 4000,
+        Stage::Inside(steps) => u64::from(steps).wrapping_add(3000),
+        Stage::Gives(phase) => number_of_phase(phase).wrapping_add(4000),
         Stage::Answers => 6000,
     };
     (progress.call as u64)

@@ -20,7 +20,7 @@ pub fn is_finished(two: Two<'_>, thread: usize, progress: Progress) -> bool {
 /// Whether a thread can move, beside the other.
 pub fn can_move(two: Two<'_>, thread: usize, threads: [Progress; 2]) -> bool {
     let own = threads[thread & 1];
-    let other = threads[(thread + 1) & 1];
+    let other = threads[(thread & 1) ^ 1];
     let is_shut_out = own.enters() && other.is_inside();
     !(is_finished(two, thread, own) || own.sleeps() || is_shut_out)
 }
@@ -40,7 +40,7 @@ fn status(two: Two<'_>, thread: usize, own: Progress) -> Status {
 /// stands there, and nobody else does.
 fn stands_where_it_waits(look: &Look, thread: usize, threads: [Progress; 2]) -> bool {
     let own = threads[thread & 1];
-    let other = threads[(thread + 1) & 1];
+    let other = threads[(thread & 1) ^ 1];
     let is_waiting = look.places_of(thread) == 1 && look.waits_for(thread, own.shard);
     let is_out = look.places_of(thread) == 0;
     if own.sleeps() {
@@ -83,7 +83,7 @@ pub fn broken_by_state(
         Some("somebody can move while a call isn't answered")
     } else if is_over && !look.is_at_rest() {
         Some("where all is answered no word is held and nobody waits")
-    } else if is_over != (world.replies().len() == length(two, 0) + length(two, 1)) {
+    } else if is_over != (world.replies().len() == length(two, 0).wrapping_add(length(two, 1))) {
         Some("each call is answered once")
     } else if !is_plain(world, two, threads) {
         Some("replies and contents are those of the blocks")
