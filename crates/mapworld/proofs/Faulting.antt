@@ -14,6 +14,6 @@ done_of true true false n f h = ap run_fault_done (sym (same_Some (fault.StepsSh
 done_of true false c n f h = ap run_fault_done (sym (same_Some (fault.CannotMove n) f h))
 done_of false b c n f h = ap run_fault_done (sym (same_Some (fault.NoSuchThread n) f h))
 
-pub refusal-done : {K V S D T : Type 0} (w : State K V S D T) (n : ℕ) (s : Step) (f : RunFault) → refusal w n s ≡ Some f → run_fault_done f ≡ n
+pub refusal-done : {K V S D T A : Type 0} (w : State K V S D T A) (n : ℕ) (s : Step) (f : RunFault) → refusal w n s ≡ Some f → run_fault_done f ≡ n
 refusal-done w n s f h =
     done_of (nat_lt s.thread (length w.programs)) (can_move_in w s.thread) (has_numbers w) n f h

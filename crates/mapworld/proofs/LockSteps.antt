@@ -22,10 +22,13 @@ use Rattle.mapworld_locks.specs.Footprints.{StepsTouchOneLock, TouchesOnly}
 use Rattle.mapworld_locks.specs.Seats.{seat_of}
 use Rattle.mapworld_locks.specs.Steps.{LockBegins, LockEnds, LockMoves, LockStarts}
 use Rattle.mapworld_locks.specs.Views.{Shown}
+use Rattle.mapworld_locks.proofs.Answering.{stepped_fits}
+use Rattle.mapworld_locks.proofs.Beginning.{same_holds}
+use Rattle.mapworld_locks.proofs.Keeping.{stepped_plain}
 use Rattle.mapworld_calls.proofs.Lists.{slice_get-set_other}
 use Rattle.mapworld_state.specs.Footprint.{ChangesLock, KeepsLock, KeepsLocks, first_queue, second_queue, the_word}
 use Rattle.mapworld.proofs.Filling.{length-slice_set}
-use Rattle.mapworld.proofs.Sleepers.{all_at}
+use Rattle.mapworld_progress.proofs.Sleepers.{all_at}
 
 -- A CALL BEGINS: nothing is changed but who is in a call, and the locks fit together still
 
@@ -121,6 +124,13 @@ ends_keep t answer old new e i =
       desk = ap (λ (ds : List (DeskState _)). slice_get ds i) e.desks;
     }
 
+-- and the locks fit together still
+pub ends_fit : (t : ℕ) (answer : CoreAnswer) (old new : Shown) → LocksFit old → LockEnds t answer old new → LocksFit new
+ends_fit t answer old new fit e =
+    subst (λ (ds : List (DeskState _)). LocksFit (record { rows = new.rows; desks = ds })) (sym e.desks)
+    (same_holds old fit new.rows (stepped_fits (state old.rows) (state new.rows) t false (Some answer) e.steps) (stepped_plain (state old.rows) (state new.rows) t false (Some answer) fit.plain e.steps)
+    e.whole.kinds e.whole.threads (λ v i. e.holds v i))
+
 -- A CALL MOVES
 
 -- of the locks at most one word is another, or one queue, of one shard
@@ -163,12 +173,12 @@ changes_behind old mid new i a (the_word first second) = the_word (first ∙ a.f
 changes_behind old mid new i a (first_queue word second) = first_queue (word ∙ a.word) (second ∙ a.second)
 changes_behind old mid new i a (second_queue word first) = second_queue (word ∙ a.word) (first ∙ a.first)
 
+pub keeps_behind : (old mid new : Shown) → KeepsLocks old mid → KeepsLocks mid new → KeepsLocks old new
+keeps_behind old mid new a b i = keeps_both old mid new i (a i) (b i)
+
+pub touches_behind : (old mid new : Shown) → KeepsLocks old mid → TouchesLock mid new → TouchesLock old new
+touches_behind old mid new a b = record { shard = b.shard; others = λ i ne. keeps_both old mid new i (a i) (b.others i ne); here = changes_behind old mid new b.shard (a b.shard) b.here }
+
 pub starts_touch : StepsTouchOneLock → (t shard : ℕ) (call : LockCall) (fair : Bool) (old new : Shown) → LocksFit old → LockStarts t shard call fair old new → TouchesLock old new
 starts_touch touch t shard call fair old new fit x =
-    let begins = begins_keep t shard call old x.mid x.begins in
-    let moves = moves_touch touch t fair x.mid new (begins_fit t shard call old x.mid x.begins fit) x.moves in
-    record {
-      shard = moves.shard;
-      others = λ i ne. keeps_both old x.mid new i (begins i) (moves.others i ne);
-      here = changes_behind old x.mid new moves.shard (begins moves.shard) moves.here;
-    }
+    touches_behind old x.mid new (begins_keep t shard call old x.mid x.begins) (moves_touch touch t fair x.mid new (begins_fit t shard call old x.mid x.begins fit) x.moves)

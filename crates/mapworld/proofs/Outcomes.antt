@@ -1,5 +1,5 @@
 -- What holds of every world: it agrees with the replay, and exactly the threads between admission and release hold.
-use Rattle.std.proofs.Common.{◌≡◌, ℕ, ◌+◌, ◌<◌, inl, inr, Bool, IsTrue, if◌then◌else◌, List, [], ◌∷◌, length, map, Option, Some, None, is_some, slice_get, refl, sym, ap, ◌∙◌, arith}
+use Rattle.std.proofs.Common.{◌≡◌, ℕ, ◌+◌, ◌<◌, inl, inr, Bool, true, false, not, ◌&&◌, ◌==◌, MatchBool, IsTrue, if◌then◌else◌, List, [], ◌∷◌, length, map, Option, Some, None, is_some, slice_get, refl, sym, ap, ◌∙◌, arith}
 use Rattle.mapworld_state.specs.Shards.{ShardPairs}
 use Rattle.std.specs.Hash.{HashWrites}
 use Rattle.std.specs.Cmp.{IsEquivalence}
@@ -10,11 +10,7 @@ use Rattle.std.proofs.lemmas.Option.{slice_get_cases, none-some}
 use Rattle.mapworld_calls.specs.declared.block.Block.{Block}
 use Rattle.mapworld_calls.specs.Setup.{Setup, Laws}
 use Rattle.mapworld_calls.specs.Agrees.{Agrees}
-use Rattle.mapworld_calls.specs.Every.Agrees as every_agrees
-use Rattle.mapworld_calls.specs.Every.Placed as every_placed
-use Rattle.mapworld_calls.specs.Every.Setup as every_setup
-use Rattle.mapworld_calls.specs.Every.Today.{as_reply}
-use Rattle.mapworld_calls.proofs.Every.Today.{placed-as, agrees-as}
+use Rattle.mapworld_state.specs.declared.holds.Mode.{Mode}
 use Rattle.mapworld_state.specs.declared.holds.Hold.{Hold}
 use Rattle.mapworld_state.specs.declared.place.Guard.{Guard}
 use Rattle.mapworld_state.specs.declared.place.Guard.TheVariants as guard
@@ -23,8 +19,9 @@ use Rattle.mapworld_state.specs.declared.place.Phase.TheVariants as phase
 use Rattle.mapworld_state.specs.Places.{Place}
 use Rattle.mapworld_state.specs.State.{State, pairs_of, threads_of, started_of}
 use Rattle.mapworld_state.specs.Held.{holds_before, HoldByPhase}
-use Rattle.mapworld_state.specs.Sound.{HoldsByGuard, IsInSession, Claim, Sound}
-use Rattle.mapworld_state.specs.World.{setup_of, world_setup}
+use Rattle.mapworld_state.specs.Sound.{HoldsByGuard, HoldsShard, IsInSession, KeepsOver, Claim, Sound}
+use Rattle.mapworld_state.specs.Walks.{hands_over, walk_mode}
+use Rattle.mapworld_state.specs.World.{AgreesWithBlocks, setup_of}
 use Rattle.mapworld_moves.proofs.Keys.{setup-laws}
 use Rattle.mapworld.proofs.Viewing.{pairs_distinct, pair_at_route}
 
@@ -32,7 +29,7 @@ use Rattle.mapworld.proofs.Viewing.{pairs_distinct, pair_at_route}
 pub element-at : {X : Type 0} (xs : List X) (i : ℕ) → i < length xs → (y : X) × (slice_get xs i ≡ Some y)
 element-at xs i lt = elim (slice_get_cases xs i).1 [ inl here ↦ (here.0, here.2) | inr past ↦ absurd (let le = past.0 in omega arith) ]
 
-pub agrees : {K V S D T : Type 0} (x : Setup K V D T) → Laws x → (w : State K V S D T) → Sound x w → Agrees x w.blocks (pairs_of w) w.replies
+pub agrees : {K V S D T A : Type 0} (x : Setup K V D T) → Laws x → (w : State K V S D T A) → Sound x w → Agrees x w.blocks (pairs_of w) w.replies
 agrees x laws w sound = record {
   distinct = pairs_distinct x w.blocks w.tables laws sound.tables;
   contents_are = λ q.
@@ -41,26 +38,17 @@ agrees x laws w sound = record {
   replies_are = sound.replies;
 }
 
--- so it is with a world's own setup, and with its calls as calls of every kind
-module _ {K V S H D T : Type 0} (d : deed.Ghosts D K V T) (b : builder.Ghosts S H) (h : hasher.Ghosts H) (eq : K → K → Bool) (writes : K → HashWrites) where
-  pub world-lawful : (w : State K V S D T) → IsEquivalence eq → ((j k : K) → IsTrue (eq j k) → writes j ≡ writes k) → every_setup.Laws (world_setup d b h eq writes w)
-  world-lawful w lawful respects = let l = setup-laws d b h eq writes w lawful respects in record { equivalence = l.equivalence; routes = l.routes }
-
-  pub world-agrees : (w : State K V S D T) → IsEquivalence eq → ((j k : K) → IsTrue (eq j k) → writes j ≡ writes k) → Sound (setup_of d b h eq writes w) w
-      → every_agrees.Agrees (world_setup d b h eq writes w) w.blocks (pairs_of w) (map as_reply w.replies)
-  world-agrees w lawful respects sound =
-      agrees-as (setup_of d b h eq writes w) (length w.tables) (threads_of w) (started_of w) w.blocks w.replies sound.placed (pairs_of w)
-      (agrees (setup_of d b h eq writes w) (setup-laws d b h eq writes w lawful respects) w sound)
-
-  pub world-placed : (w : State K V S D T) → Sound (setup_of d b h eq writes w) w
-      → every_placed.WellPlaced (world_setup d b h eq writes w) (threads_of w) (started_of w) w.blocks (map as_reply w.replies)
-  world-placed w sound = placed-as (setup_of d b h eq writes w) (length w.tables) (threads_of w) (started_of w) w.blocks w.replies sound.placed
+-- so it is with a world's own setup
+pub world-agrees : {K V S H D T A : Type 0} (d : deed.Ghosts D K V T) (b : builder.Ghosts S H) (h : hasher.Ghosts H) (eq : K → K → Bool) (writes : K → HashWrites) (w : State K V S D T A) → IsEquivalence eq → ((j k : K) → IsTrue (eq j k) → writes j ≡ writes k)
+    → Sound (setup_of d b h eq writes w) w → AgreesWithBlocks d b h eq writes w
+world-agrees d b h eq writes w lawful respects sound =
+    agrees (setup_of d b h eq writes w) (setup-laws d b h eq writes w lawful respects) w sound
 
 -- one hold is one
 one_hold : (hs : List Hold) (h : Hold) → hs ≡ h ∷ [] → length hs ≡ 1
 one_hold hs h is = ap length is
 
-module _ {K V D T : Type 0} (x : Setup K V D T) (threads : List ℕ) (bs : List (Block K)) (tables : List (ShardPairs K V)) (t : ℕ) (p : Place K V D T) where
+module _ {K V D T A : Type 0} (x : Setup K V D T) (threads : List ℕ) (bs : List (Block K)) (tables : List (ShardPairs K V)) (t : ℕ) (p : Place K V D T A) where
   -- a guard's thread holds its shard
   guard_holds : (n : ℕ) (g : Guard K) (session block : Option ℕ) → p.guard ≡ Some g → IsInSession x bs tables t p n session block → length p.holds ≡ 1
   guard_holds n g None block guarded h = absurd (none-some g (sym h.0 ∙ guarded))
@@ -73,7 +61,16 @@ module _ {K V D T : Type 0} (x : Setup K V D T) (threads : List ℕ) (bs : List 
   by_guard n session block None is free ready = ap length (free is)
   by_guard n session block (Some g) is free ready = guard_holds n g session block is ready
 
-  by_claim : (f : Phase K V D T) → Claim x threads bs tables t p f → length p.holds ≡ holds_before p.guard f
+  -- a walk has as many holds beside the one that it asks for as it keeps over
+  kept : (mode : Mode) (b : Bool) → KeepsOver p mode (if b then 1 else 0) → length p.holds ≡ (if b then 1 else 0)
+  kept mode true c = one_hold p.holds c.0 c.1
+  kept mode false c = ap length c
+
+  between : (mode : Mode) (b : Bool) → MatchBool b (HoldsShard p mode) (p.holds ≡ []) → length p.holds ≡ (if b then 1 else 0)
+  between mode true c = one_hold p.holds c.hold c.has
+  between mode false c = ap length c
+
+  by_claim : (f : Phase K V D T A) → Claim x threads bs tables t p f → length p.holds ≡ holds_before p f
   by_claim phase.Rest c = by_guard p.next _ p.block p.guard refl c.1 c.2
   by_claim (phase.Admit r) c = ap length c.2
   by_claim (phase.Find r) c = one_hold p.holds c.2.hold c.2.has
@@ -85,8 +82,16 @@ module _ {K V D T : Type 0} (x : Setup K V D T) (threads : List ℕ) (bs : List 
   by_claim (phase.Change h) c = one_hold p.holds c.4.hold c.4.has
   by_claim (phase.Fill v) c = one_hold p.holds c.3.hold c.3.has
   by_claim phase.Downgrade c = one_hold p.holds c.2.hold c.2.has
+  by_claim (phase.Idle f) c = ap length c.2 ∙ sym (ap (λ (g : Option (Guard K)). if is_some g then 1 else 0) c.1.1)
+  by_claim (phase.Reach f) c = kept (walk_mode f) (hands_over f && not (p.shard == 0)) c.2
+  by_claim (phase.Part f) c = ap length c.2.2
+  by_claim (phase.Visit f) c = one_hold p.holds c.2.hold c.2.has
+  by_claim (phase.Seek f) c = one_hold p.holds c.2.hold c.2.has
+  by_claim (phase.Item f) c = one_hold p.holds c.2.hold c.2.has
+  by_claim (phase.Give f) c = one_hold p.holds c.2.hold c.2.has
+  by_claim (phase.Onward f) c = between (walk_mode f) (hands_over f) c.2
   by_claim (phase.Release r) c = one_hold p.holds c.1 c.3
   by_claim (phase.Answer r) c = by_guard (p.next + 1) _ _ p.guard refl c.2 c.4
 
-pub hold_by_phase : {K V S D T : Type 0} (x : Setup K V D T) (w : State K V S D T) → Sound x w → HoldByPhase w.places
+pub hold_by_phase : {K V S D T A : Type 0} (x : Setup K V D T) (w : State K V S D T A) → Sound x w → HoldByPhase w.places
 hold_by_phase x w sound t p at = by_claim x (threads_of w) w.blocks w.tables t p p.phase (sound.stands t p at).claim

@@ -1,10 +1,10 @@
 -- Which worlds aren't made, by the tests in their order.
-use Rattle.std.proofs.Common.{◌≡◌, ℕ, ◌+◌, ◌≤◌, ◌^◌, true, false, List, [], ◌∷◌, length, map, None, refl, ap, sym, ◌∙◌, arith}
+use Rattle.std.proofs.Common.{◌≡◌, ℕ, ◌+◌, ◌<◌, ◌≤◌, ◌^◌, true, false, List, [], ◌∷◌, length, map, None, refl, ap, sym, ◌∙◌, arith}
 use Rattle.std.specs.List.{sum_by, list_all}
 use Rattle.std.proofs.lemmas.Grind.{common_steps}
 use Rattle.std.proofs.lemmas.List.Sums.{sum_by-cons}
 use Rattle.mapworld_calls.specs.declared.ask.Ask.{Ask}
-use Rattle.mapworld_calls.specs.Programs.{one_guard}
+use Rattle.mapworld_calls.specs.Programs.{one_guard, numbers_of}
 use Rattle.mapworld_state.specs.Route.{IsWorldAmount}
 use Rattle.mapworld.specs.Making.{new_refusal}
 
@@ -23,6 +23,7 @@ pub record IsAccepted {K V D : Type 0} (shards pairs : ℕ) (programs : List (Li
   pub calls : sum_by length programs ≤ 2 ^ 20
   pub pairs_fit : pairs ≤ 2 ^ 31
   pub guarded : list_all (one_guard false) programs ≡ true
+  pub numbers : sum_by (λ program. sum_by (numbers_of shards) program) programs < 2 ^ 32
 
 module _ {K V D : Type 0} (shards pairs : ℕ) (programs : List (List (Ask K V D))) where
   pub accepted : new_refusal shards pairs programs ≡ None → IsAccepted shards pairs programs
@@ -33,4 +34,5 @@ module _ {K V D : Type 0} (shards pairs : ℕ) (programs : List (List (Ask K V D
     calls = grind (arith, common_steps);
     pairs_fit = grind (arith, common_steps);
     guarded = grind (arith, common_steps);
+    numbers = grind (arith, common_steps);
   }

@@ -1,114 +1,24 @@
--- What a thread sleeps on: one of the two keys of the lock that it asks for.
+-- Where a thread waits that sleeps: in one of the two queues of the lock that it asks for.
 use Rattle.std.proofs.Common.{◌≡◌, ◌≢◌, ◌⊎◌, ℕ, zero, suc, ◌+◌, ◌==◌, ◌&&◌, inl, inr, true, false, List, [], ◌∷◌, Option, Some, None, slice_get, refl, ap, ◌∙◌, subst, arith}
-use Rattle.std.specs.List.{All}
 use Rattle.std.specs.Option.{option_map_or}
 use Rattle.std.proofs.lemmas.Bool.{eq-eqb}
-use Rattle.std.proofs.lemmas.List.Elements.{All-head, All-tail}
-use Rattle.std.proofs.lemmas.Option.{none-some, same_Some}
 use Rattle.lock_api_desk.specs.declared.mode.Mode.{Mode}
-use Rattle.lock_api_desk.specs.declared.mode.Mode.TheVariants as held
 use Rattle.parking_lot_core_lot.specs.declared.parking.ParkToken.{ParkToken}
-use Rattle.parking_lot_protocol.specs.declared.rw_phase.AfterWake.{AfterWake}
-use Rattle.parking_lot_protocol.specs.declared.rw_phase.LockMode.{LockMode}
-use Rattle.parking_lot_protocol.specs.declared.rw_phase.RwPhase.{RwPhase}
-use Rattle.parking_lot_protocol.specs.RwTable.{act_of}
 use Rattle.parking_lot_rules.specs.Classes.{bit}
 use Rattle.parking_lot_rules.specs.Lists.{occurs}
-use Rattle.parking_lot_world.specs.declared.calls.LockKind.{LockKind}
-use Rattle.parking_lot_world.specs.declared.calls.LockKind.TheVariants as kind
 use Rattle.parking_lot_world.specs.declared.open_call.Call.{Call}
-use Rattle.parking_lot_world.specs.declared.seat.Core.{Core}
 use Rattle.parking_lot_world.specs.declared.seat.QueuePosition.{QueuePosition}
-use Rattle.parking_lot_world.specs.Machines.{is_asleep, sleeps}
-use Rattle.parking_lot_world.specs.RowFits.{IsOfKind}
+use Rattle.parking_lot_world.specs.Machines.{is_asleep}
 use Rattle.parking_lot_world.specs.Rows.{State, call_at, state, queue_at, first_key, second_key}
 use Rattle.parking_lot_world.specs.SoundLaws.{waits_as, waits_in}
-use Rattle.parking_lot_world.specs.Stances.{Stance, Asleep, core_act, rw_stance, stance}
-use Rattle.mapworld_locks.specs.Aims.{Aim, Gets, aim_for, phase_aim}
+use Rattle.parking_lot_world.specs.Stances.{Stance, Asleep, stance}
+use Rattle.mapworld_locks.specs.Aims.{Gets}
 use Rattle.mapworld_locks.specs.Counts.{QueuesAreWaiters}
 use Rattle.mapworld_locks.specs.Fits.{LocksFit}
 use Rattle.mapworld_locks.specs.Stands.{core_aim}
 use Rattle.mapworld_locks.specs.Views.{Shown}
+use Rattle.mapworld_progress.proofs.Sleepers.{sleeper as sleeps-on}
 use Rattle.mapworld.specs.Asleep.{IsWaiting}
-
--- what is so of all elements is so of each
-pub all_at : {X : Type 0} (P : X → Type 0) (xs : List X) (i : ℕ) (x : X) → All P xs → slice_get xs i ≡ Some x → P x
-all_at P [] i x all at = absurd (none-some x at)
-all_at P (y ∷ ys) zero x all at = subst P (same_Some y x at) (All-head P y ys all)
-all_at P (y ∷ ys) (suc i) x all at = all_at P ys i x (All-tail P y ys all) at
-
--- a thread that asks for a lock sleeps on one of its keys
-record SleepsOn (at : Stance) (aim : Aim) : Type 0 where
-  key : ℕ
-  low : (key ≡ 0) ⊎ (key ≡ 1)
-  token : ParkToken
-  stance_is : at ≡ Asleep key token
-  mode : Mode
-  aim_is : aim ≡ Gets mode
-
-asks : (want : LockMode) → (mode : Mode) × (aim_for want ≡ Gets mode)
-asks (LockMode.Shared recursive) = (held.Shared, refl)
-asks LockMode.Exclusive = (held.Exclusive, refl)
-
-awake : (rest : AfterWake) → sleeps (act_of (RwPhase.Finishes rest)) ≡ true → ⊥
-awake AfterWake.FreedShared h = cc
-awake AfterWake.FreedExclusive h = cc
-awake AfterWake.Downgraded h = cc
-awake AfterWake.AgainShared h = cc
-awake AfterWake.AgainExclusive h = cc
-
-sleeps_on : (p : RwPhase) → sleeps (act_of p) ≡ true → SleepsOn (rw_stance p) (phase_aim p)
-sleeps_on (RwPhase.Locking want) h = cc
-sleeps_on (RwPhase.Trying want) h = cc
-sleeps_on RwPhase.UnlockingShared h = cc
-sleeps_on (RwPhase.UnlockingExclusive fair) h = cc
-sleeps_on RwPhase.Downgrading h = cc
-sleeps_on RwPhase.BumpingShared h = cc
-sleeps_on RwPhase.BumpingExclusive h = cc
-sleeps_on (RwPhase.Loads a) h = cc
-sleeps_on (RwPhase.Admits a word) h = cc
-sleeps_on (RwPhase.Spins a) h = cc
-sleeps_on (RwPhase.SetParked a word) h = cc
-sleeps_on (RwPhase.Enters want woken) h = cc
-sleeps_on (RwPhase.Checks want woken) h = cc
-sleeps_on (RwPhase.Retreats want woken) h = cc
-sleeps_on (RwPhase.Appends want) h = cc
-sleeps_on (RwPhase.Rests want) h = cc
-sleeps_on (RwPhase.Sleeps want) h = record { key = 0; low = inl refl; token = _; stance_is = refl; mode = (asks want).0; aim_is = (asks want).1 }
-sleeps_on (RwPhase.DrainLoads d) h = cc
-sleeps_on (RwPhase.DrainSpins d) h = cc
-sleeps_on (RwPhase.DrainSetParked d word) h = cc
-sleeps_on (RwPhase.DrainEnters d) h = cc
-sleeps_on (RwPhase.DrainChecks d) h = cc
-sleeps_on (RwPhase.DrainRetreats d) h = cc
-sleeps_on (RwPhase.DrainAppends rounds) h = cc
-sleeps_on (RwPhase.DrainRests rounds) h = cc
-sleeps_on (RwPhase.DrainSleeps rounds) h = record { key = 1; low = inr refl; token = _; stance_is = refl; mode = held.Exclusive; aim_is = refl }
-sleeps_on (RwPhase.TryLoads want) h = cc
-sleeps_on (RwPhase.TryAdmits want word left) h = cc
-sleeps_on (RwPhase.Refuses want) h = cc
-sleeps_on (RwPhase.BumpLoads want) h = cc
-sleeps_on (RwPhase.Relocks want) h = cc
-sleeps_on (RwPhase.Unshares rest) h = cc
-sleeps_on (RwPhase.EnterWriterWakeSection rest) h = cc
-sleeps_on (RwPhase.TakeWriter rest) h = cc
-sleeps_on (RwPhase.ClearWriterParked rest taken) h = cc
-sleeps_on (RwPhase.LeaveWriterWakeSection rest taken) h = cc
-sleeps_on (RwPhase.Unlocks fair rest) h = cc
-sleeps_on (RwPhase.LooksExclusive fair rest) h = cc
-sleeps_on RwPhase.Downgrades h = cc
-sleeps_on RwPhase.EnterWakeSection h = cc
-sleeps_on (RwPhase.Scans s) h = cc
-sleeps_on (RwPhase.Stores s left) h = cc
-sleeps_on (RwPhase.Leaves rest count handed) h = cc
-sleeps_on (RwPhase.Wakes rest count) h = cc
-sleeps_on (RwPhase.Finishes rest) h = absurd (awake rest h)
-sleeps_on (RwPhase.Ends outcome) h = cc
-sleeps_on RwPhase.Invalid h = cc
-
-core_sleeps : (k : Core) (o : Option LockKind) → o ≢ Some kind.Mutex → IsOfKind o k → sleeps (core_act k) ≡ true → SleepsOn (stance k) (core_aim k)
-core_sleeps (Core.Rw c) o rw of_kind h = sleeps_on c.phase h
-core_sleeps (Core.Mutex c) o rw of_kind h = absurd (rw of_kind)
 
 -- the call in which a thread sleeps
 pub record Sleeper (locks : Shown) (t : ℕ) : Type 0 where
@@ -121,9 +31,6 @@ pub record Sleeper (locks : Shown) (t : ℕ) : Type 0 where
 module _ (lists : QueuesAreWaiters) (locks : Shown) (fit : LocksFit locks) (t : ℕ) where
   abbrev s : State
   s = state locks.rows
-
-  all_rw : (i : ℕ) → slice_get s.kinds i ≢ Some kind.Mutex
-  all_rw i e = let same = all_at (λ k. k ≡ kind.Rw) s.kinds i kind.Mutex fit.plain.kinds e in cc
 
   stands : (c : Call) (k key : ℕ) (token : ParkToken) → call_at s t ≡ Some c → c.spot ≡ QueuePosition.Listed → stance c.core ≡ Asleep key token
       → waits_in s c.lock k t ≡ (key == k)
@@ -149,11 +56,9 @@ module _ (lists : QueuesAreWaiters) (locks : Shown) (fit : LocksFit locks) (t : 
   waits_by c QueuePosition.Listed key token there spot asleep low = inl (listed_once c key token there spot asleep low)
   waits_by c (QueuePosition.Off by said) key token there spot asleep low = inr (by, fit.fits.wakes.off t by c said there spot)
 
-  asleep_by : (o : Option Call) → call_at s t ≡ o → option_map_or (λ c. sleeps (core_act c.core)) o false ≡ true → Sleeper locks t
-  asleep_by None there h = cc
-  asleep_by (Some c) there h =
-      let on = core_sleeps c.core (slice_get s.kinds c.lock) (all_rw c.lock) (fit.fits.rules.kinds t c there) h in
-      record { call = c; there = there; mode = on.mode; aim_is = on.aim_is; waits = waits_by c c.spot on.key on.token there refl on.stance_is on.low }
-
   pub sleeper : is_asleep (state locks.rows) t ≡ true → Sleeper locks t
-  sleeper h = asleep_by (call_at s t) refl h
+  sleeper h =
+      let a = sleeps-on locks fit t h in
+      let c = a.0 in
+      let on = a.2 in
+      record { call = c; there = a.1; mode = on.mode; aim_is = on.aim_is; waits = waits_by c c.spot on.key on.token a.1 refl on.stance_is on.low }

@@ -11,21 +11,19 @@ use Rattle.mapworld_locks.specs.Counts.{QueuesAreWaiters}
 use Rattle.mapworld_locks.specs.Fits.{LocksFit}
 use Rattle.mapworld_locks.specs.Stands.{Stand, stand_in, stand_of}
 use Rattle.mapworld_locks.specs.Views.{Shown}
-use Rattle.mapworld_calls.specs.declared.reply.Answer.{Answer}
-use Rattle.mapworld_state.specs.Held.{IsOwing, MayOwe, StandsBefore}
+use Rattle.mapworld_state.specs.Held.{MayOwe, StandsBefore}
 use Rattle.mapworld_calls.specs.declared.ask.Ask.{Ask}
 use Rattle.mapworld_calls.specs.Setup.{Setup}
 use Rattle.mapworld_state.specs.declared.step.Status.{Status}
 use Rattle.mapworld_state.specs.declared.step.Status.TheVariants as status
-use Rattle.mapworld_state.specs.declared.place.Request.{Request}
 use Rattle.mapworld_state.specs.declared.place.Phase.{Phase}
 use Rattle.mapworld_state.specs.declared.place.Phase.TheVariants as phase
 use Rattle.mapworld_state.specs.Places.{Place}
 use Rattle.mapworld_state.specs.State.{State}
-use Rattle.mapworld_state.specs.Classes.{Class, resting, waiting, inside, placed, leaving, answering, class_of, rests_in, status_in}
+use Rattle.mapworld_state.specs.Classes.{Class, resting, waiting, inside, placed, leaving, answering, reaching, parting, looking, visiting, pausing, class_of, rests_in, status_in}
 use Rattle.mapworld_state.specs.Running.{status_before, status_at, status_of}
 use Rattle.mapworld_state.specs.Sound.{is_resting, Sound}
-use Rattle.mapworld.specs.Asleep.{IsAsleep, IsFinished, IsWaiting}
+use Rattle.mapworld.specs.Asleep.{IsAsking, IsAsleep, IsFinished, IsWaiting}
 use Rattle.mapworld.proofs.Outcomes.{element-at}
 use Rattle.mapworld.proofs.Sleepers.{Sleeper, sleeper}
 
@@ -37,14 +35,15 @@ may_sleep : (b : Bool) → (if b then status.Asleep else status.Running) ≡ sta
 may_sleep true h = refl
 may_sleep false h = cc
 
--- a thread that sleeps is before an admission, or before an answer
-abbrev SleepsBefore : {K V D T : Type 0} → Bool → Phase K V D T → Type 0
-SleepsBefore {K} {V} {D} {T} asleep f = (asleep ≡ true) × (((r : Request K V D) × (f ≡ phase.Admit r)) ⊎ ((a : Answer K V T) × (f ≡ phase.Answer a)))
-
-module _ {K V D T : Type 0} (locks : Shown) (t left : ℕ) where
-  sleeps_before : (f : Phase K V D T) → status_before locks t left f ≡ status.Asleep → SleepsBefore (is_asleep (state locks.rows) t) f
+module _ {K V D T A : Type 0} (locks : Shown) (t left : ℕ) where
+  sleeps_before : (f : Phase K V D T A) → status_before locks t left f ≡ status.Asleep → is_asleep (state locks.rows) t ≡ true
   sleeps_before phase.Rest h = absurd (never (left == 0) h)
-  sleeps_before (phase.Admit r) h = (may_sleep (is_asleep (state locks.rows) t) h, inl (r, refl))
+  sleeps_before (phase.Admit r) h = may_sleep (is_asleep (state locks.rows) t) h
+  sleeps_before (phase.Idle f) h = may_sleep (is_asleep (state locks.rows) t) h
+  sleeps_before (phase.Reach f) h = may_sleep (is_asleep (state locks.rows) t) h
+  sleeps_before (phase.Visit f) h = may_sleep (is_asleep (state locks.rows) t) h
+  sleeps_before (phase.Onward f) h = may_sleep (is_asleep (state locks.rows) t) h
+  sleeps_before (phase.Answer a) h = may_sleep (is_asleep (state locks.rows) t) h
   sleeps_before (phase.Find r) h = cc
   sleeps_before (phase.Grow c) h = cc
   sleeps_before (phase.Append k v) h = cc
@@ -54,53 +53,67 @@ module _ {K V D T : Type 0} (locks : Shown) (t left : ℕ) where
   sleeps_before (phase.Change k) h = cc
   sleeps_before (phase.Fill v) h = cc
   sleeps_before phase.Downgrade h = cc
+  sleeps_before (phase.Part f) h = cc
+  sleeps_before (phase.Seek f) h = cc
+  sleeps_before (phase.Item f) h = cc
+  sleeps_before (phase.Give f) h = cc
   sleeps_before (phase.Release a) h = cc
-  sleeps_before (phase.Answer a) h = (may_sleep (is_asleep (state locks.rows) t) h, inr (a, refl))
 
-stands_there : {K V D T : Type 0} (locks : Shown) (t : ℕ) (o : Option (Place K V D T)) → status_at locks t o ≡ status.Asleep
-    → (p : Place K V D T) × (o ≡ Some p) × SleepsBefore (is_asleep (state locks.rows) t) p.phase
+  -- and a sleeper that is before an admission is asleep
+  sleeps_there : (f : Phase K V D T A) → IsAsking f → is_asleep (state locks.rows) t ≡ true → status_before locks t left f ≡ status.Asleep
+  sleeps_there f (inl (r, is)) h = ap (status_before locks t left) is ∙ cond-true (is_asleep (state locks.rows) t) status.Asleep status.Running h
+  sleeps_there f (inr (g, is)) h = ap (status_before locks t left) is ∙ cond-true (is_asleep (state locks.rows) t) status.Asleep status.Running h
+
+stands_there : {K V D T A : Type 0} (locks : Shown) (t : ℕ) (o : Option (Place K V D T A)) → status_at locks t o ≡ status.Asleep
+    → (p : Place K V D T A) × (o ≡ Some p) × (is_asleep (state locks.rows) t ≡ true)
 stands_there locks t None h = cc
 stands_there locks t (Some p) h = (p, refl, sleeps_before locks t (length p.asks) p.phase h)
 
-module _ {K V S D T : Type 0} (x : Setup K V D T) (w : State K V S D T) (sound : Sound x w) (fit : LocksFit w.locks) (lists : QueuesAreWaiters) (t : ℕ) where
+module _ {K V S D T A : Type 0} (x : Setup K V D T) (w : State K V S D T A) (sound : Sound x w) (fit : LocksFit w.locks) (lists : QueuesAreWaiters) (t : ℕ) where
   -- how a sleeper stands at the lock
   stand : (b : Sleeper w.locks t) → stand_in w.locks t ≡ Some (stand_of b.call)
   stand b = ap (option_map stand_of) b.there
 
-  -- one that only gives back doesn't sleep
-  gives_back : (p : Place K V D T) (a : Answer K V T) → slice_get w.places t ≡ Some p → p.phase ≡ phase.Answer a → Sleeper w.locks t → ⊥
-  gives_back p a at before b =
-      let owes = subst (λ (f : Phase K V D T). StandsBefore p f (stand_in w.locks t)) before (sound.holds.stands t p at) in
-      let owes_so = subst (λ o. IsOwing p o) (stand b) owes in
-      subst (λ (aim : Aim). MayOwe p b.call.lock aim) b.aim_is owes_so
-
-  -- one that asks does at its own shard
-  at_shard : (p : Place K V D T) (r : Request K V D) → slice_get w.places t ≡ Some p → p.phase ≡ phase.Admit r → (b : Sleeper w.locks t) → b.call.lock ≡ p.shard
-  at_shard p r at before b =
-      let stands = subst (λ (f : Phase K V D T). StandsBefore p f (stand_in w.locks t)) before (sound.holds.stands t p at) in
-      ap (λ (st : Stand). st.shard) (same_Some (stand_of b.call) _ (sym (stand b) ∙ stands))
+  -- one that sleeps is before an admission to its own shard: what is owed to a lock never sleeps
+  asks_by : (p : Place K V D T A) (b : Sleeper w.locks t) (f : Phase K V D T A) → StandsBefore p f (Some (stand_of b.call)) → IsAsking f × (b.call.lock ≡ p.shard)
+  asks_by p b (phase.Admit r) h = (inl (r, refl), ap (λ (st : Stand). st.shard) (same_Some (stand_of b.call) _ h.is))
+  asks_by p b (phase.Reach f) h = (inr (f, refl), ap (λ (st : Stand). st.shard) (same_Some (stand_of b.call) _ h.is))
+  asks_by p b (phase.Visit f) h = absurd (subst (λ (aim : Aim). MayOwe p b.call.lock aim) b.aim_is h)
+  asks_by p b (phase.Onward f) h = absurd (subst (λ (aim : Aim). MayOwe p b.call.lock aim) b.aim_is h)
+  asks_by p b (phase.Answer a) h = absurd (subst (λ (aim : Aim). MayOwe p b.call.lock aim) b.aim_is h)
+  asks_by p b phase.Rest h = absurd (none-some (stand_of b.call) (sym h))
+  asks_by p b (phase.Idle f) h = absurd (none-some (stand_of b.call) (sym h))
+  asks_by p b (phase.Find r) h = absurd (none-some (stand_of b.call) (sym h))
+  asks_by p b (phase.Grow c) h = absurd (none-some (stand_of b.call) (sym h))
+  asks_by p b (phase.Append k v) h = absurd (none-some (stand_of b.call) (sym h))
+  asks_by p b (phase.Apply k) h = absurd (none-some (stand_of b.call) (sym h))
+  asks_by p b (phase.View k d) h = absurd (none-some (stand_of b.call) (sym h))
+  asks_by p b (phase.Read d) h = absurd (none-some (stand_of b.call) (sym h))
+  asks_by p b (phase.Change k) h = absurd (none-some (stand_of b.call) (sym h))
+  asks_by p b (phase.Fill v) h = absurd (none-some (stand_of b.call) (sym h))
+  asks_by p b phase.Downgrade h = absurd (none-some (stand_of b.call) (sym h))
+  asks_by p b (phase.Part f) h = absurd (none-some (stand_of b.call) (sym h))
+  asks_by p b (phase.Seek f) h = absurd (none-some (stand_of b.call) (sym h))
+  asks_by p b (phase.Item f) h = absurd (none-some (stand_of b.call) (sym h))
+  asks_by p b (phase.Give f) h = absurd (none-some (stand_of b.call) (sym h))
+  asks_by p b (phase.Release a) h = absurd (none-some (stand_of b.call) (sym h))
 
   asleep_there : status_of w t ≡ status.Asleep → IsAsleep w t
   asleep_there h =
       let a = stands_there w.locks t (slice_get w.places t) h in
-      let b = sleeper lists w.locks fit t a.2.0 in
-      elim a.2.1 [
-        | inl asks ↦ record {
-          place = a.0;
-          stands = a.1;
-          request = asks.0;
-          before = asks.1;
-          sleeps = a.2.0;
-          waits = subst (λ shard. IsWaiting w.locks t shard) (at_shard a.0 asks.0 a.1 asks.1 b) b.waits;
-        }
-        | inr answers ↦ absurd (gives_back a.0 answers.0 a.1 answers.1 b)
-      ]
+      let b = sleeper lists w.locks fit t a.2 in
+      let asks = asks_by a.0 b a.0.phase (subst (λ (o : Option Stand). StandsBefore a.0 a.0.phase o) (stand b) (sound.holds.stands t a.0 a.1)) in
+      record {
+        place = a.0;
+        stands = a.1;
+        asks = asks.0;
+        sleeps = a.2;
+        waits = subst (λ shard. IsWaiting w.locks t shard) asks.1 b.waits;
+      }
 
   asleep_back : IsAsleep w t → status_of w t ≡ status.Asleep
   asleep_back a =
-      ap (λ o. status_at w.locks t o) a.stands
-      ∙ (ap (λ f. status_before w.locks t (length a.place.asks) f) a.before
-      ∙ cond-true (is_asleep (state w.locks.rows) t) status.Asleep status.Running a.sleeps)
+      ap (λ o. status_at w.locks t o) a.stands ∙ sleeps_there w.locks t (length a.place.asks) a.place.phase a.asks a.sleeps
 
   pub status-asleep : (r : Status) → r ≡ status_of w t → (r ≡ status.Asleep) ↔ IsAsleep w t
   status-asleep r is = (λ h. asleep_there (sym is ∙ h), λ h. is ∙ asleep_back h)
@@ -125,6 +138,11 @@ module _ (asleep : Bool) (left : ℕ) where
   over placed h = cc
   over leaving h = cc
   over answering h = absurd (not_over asleep h)
+  over reaching h = absurd (not_over asleep h)
+  over parting h = cc
+  over looking h = absurd (not_over asleep h)
+  over visiting h = cc
+  over pausing h = absurd (not_over asleep h)
 
   over_at_rest : (c : Class) → rests_in c ≡ true → left ≡ 0 → status_in asleep left c ≡ status.Finished
   over_at_rest resting h none = rw none refl
@@ -133,6 +151,11 @@ module _ (asleep : Bool) (left : ℕ) where
   over_at_rest placed h none = cc
   over_at_rest leaving h none = cc
   over_at_rest answering h none = cc
+  over_at_rest reaching h none = cc
+  over_at_rest parting h none = cc
+  over_at_rest looking h none = cc
+  over_at_rest visiting h none = cc
+  over_at_rest pausing h none = cc
 
 -- a thread that has taken its whole program is between two calls
 rests_at_the_end : (b : Bool) (next n : ℕ) → (if b then next else next + 1) ≤ n → next ≡ n → b ≡ true
@@ -147,8 +170,8 @@ rests_within : (b : Bool) (next n : ℕ) → b ≡ true → (if b then next else
 rests_within true next n h within = within
 rests_within false next n h within = cc
 
-module _ {K V S D T : Type 0} (x : Setup K V D T) (w : State K V S D T) (sound : Sound x w) (same : x.programs ≡ w.programs) (t : ℕ)
-    (p : Place K V D T) (at : slice_get w.places t ≡ Some p) where
+module _ {K V S D T A : Type 0} (x : Setup K V D T) (w : State K V S D T A) (sound : Sound x w) (same : x.programs ≡ w.programs) (t : ℕ)
+    (p : Place K V D T A) (at : slice_get w.places t ≡ Some p) where
   status_there : status_of w t ≡ status_before w.locks t (length p.asks) p.phase
   status_there = ap (λ o. status_at w.locks t o) at
 
@@ -175,7 +198,7 @@ module _ {K V S D T : Type 0} (x : Setup K V D T) (w : State K V S D T) (sound :
   status-finished r is = (λ h. finished_there (sym is ∙ h), λ h. is ∙ finished_back h)
 
 -- and a thread that the world doesn't have is finished, and has no program
-module _ {K V S D T : Type 0} (x : Setup K V D T) (w : State K V S D T) (sound : Sound x w) (same : x.programs ≡ w.programs) (long : length w.places ≡ length w.programs) (t : ℕ) where
+module _ {K V S D T A : Type 0} (x : Setup K V D T) (w : State K V S D T A) (sound : Sound x w) (same : x.programs ≡ w.programs) (long : length w.places ≡ length w.programs) (t : ℕ) where
   no_program : slice_get w.places t ≡ None → (program : List (Ask K V D)) → slice_get w.programs t ≡ Some program → ⊥
   no_program none program has =
       let within = slice_get_within w.programs t program has in

@@ -15,19 +15,19 @@ use Rattle.mapworld_state.specs.State.{State, pairs_of}
 use Rattle.mapworld_state.specs.Steps.{Finds, GrowsShard, IsRefusedGrowth, IsStep}
 
 -- a step of any kind reaches no more than its footprint
-abbrev pub StepsHaveFootprints : (K V S D T : Type 0) → Type 0
-StepsHaveFootprints K V S D T =
-    (x : Setup K V D T) → Laws x → (w : State K V S D T) (s : Step) (w' : State K V S D T) → Sound x w → LocksFit w.locks → IsStep x w s w' → HasFootprint x.eq w s w'
+abbrev pub StepsHaveFootprints : (K V S D T A : Type 0) → Type 0
+StepsHaveFootprints K V S D T A =
+    (x : Setup K V D T) → Laws x → (w : State K V S D T A) (s : Step) (w' : State K V S D T A) → Sound x w → LocksFit w.locks → IsStep x w s w' → HasFootprint x.eq w s w'
 
 -- an insertion whose look finds the key's pair goes on to its deed, and to nothing before it
-abbrev pub FoundInsertsAreApplied : (K V S D T : Type 0) → Type 0
-FoundInsertsAreApplied K V S D T =
-    (x : Setup K V D T) (w : State K V S D T) (s : Step) (w' : State K V S D T) (f : Finds x w s w') (k : K) (v : V) (pair : K × V)
+abbrev pub FoundInsertsAreApplied : (K V S D T A : Type 0) → Type 0
+FoundInsertsAreApplied K V S D T A =
+    (x : Setup K V D T) (w : State K V S D T A) (s : Step) (w' : State K V S D T A) (f : Finds x w s w') (k : K) (v : V) (pair : K × V)
     → f.request ≡ request.Keyed (keyed.Insert k v) → pair_of x.eq f.table.items k ≡ Some pair
-    → (p : Place K V D T) × (slice_get w'.places s.thread ≡ Some p) × (p.phase ≡ phase.Apply (keyed.Insert k v))
+    → (p : Place K V D T A) × (slice_get w'.places s.thread ≡ Some p) × (p.phase ≡ phase.Apply (keyed.Insert k v))
 
 -- where a shard has to grow, and where that is refused, the map has no pair of the call's key
-abbrev pub GrowthsAreForNewKeys : (K V S D T : Type 0) → Type 0
-GrowthsAreForNewKeys K V S D T =
-    (x : Setup K V D T) → Laws x → (w : State K V S D T) (s : Step) (w' : State K V S D T) → Sound x w
+abbrev pub GrowthsAreForNewKeys : (K V S D T A : Type 0) → Type 0
+GrowthsAreForNewKeys K V S D T A =
+    (x : Setup K V D T) → Laws x → (w : State K V S D T A) (s : Step) (w' : State K V S D T A) → Sound x w
     → ((g : GrowsShard x w s w') → pair_of x.eq (pairs_of w) (growth_key g.call) ≡ None) × ((g : IsRefusedGrowth x w s w') → pair_of x.eq (pairs_of w) (growth_key g.call) ≡ None)

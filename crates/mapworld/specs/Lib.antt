@@ -1,3 +1,4 @@
+pub mod Stops
 pub mod Making
 pub mod Tables
 pub mod Asleep

@@ -1,15 +1,17 @@
 //! How a new world's threads and tables begin.
-ghost use Rattle.std.specs.Prelude.{◌≡◌, ◌^◌, ◌≤◌, length, map, IfOk};
+ghost use Rattle.std.specs.Prelude.{◌≡◌, ◌^◌, ◌≤◌, true, [], length, map, sum_by, vec_capacity, IfOk};
+ghost use Rattle.std.specs.List.{list_any};
+ghost use Rattle.mapworld_state.specs.Core.{ask_lists, is_walk};
 ghost use Rattle.mapworld_state.specs.Route.{IsWorldAmount, key_route};
 ghost use Rattle.mapworld_state.specs.Places.{place_of};
 ghost use Rattle.mapworld_state.specs.Shards.{shard_pairs};
 ghost use Rattle.mapworld_state.specs.Slots.{key_hash};
-ghost use Rattle.mapworld.specs.Beginning.{at_start, AreAtStart, AreFilled, pairs_in, AreEmpty, AreHashed};
+ghost use Rattle.mapworld.specs.Beginning.{at_start, AreAtStart, AreFilled, HasLists, HaveLists, pairs_in, AreEmpty, AreHashed};
 
 use arrayvec::ArrayVec;
 use dashmap_table::Shard;
 use lock_api_raw::NoMemory;
-use mapworld_calls::Ask;
+use mapworld_calls::{Ask, Walk};
 use mapworld_moves::put::put_pair;
 use mapworld_state::{Phase, Place};
 use mapworld_steps::shard_of;
@@ -17,12 +19,84 @@ use std::alloc::Allocator;
 use std::collections::VecDeque;
 use std::hash::{BuildHasher, Hash};
 
-/// A thread before its first call.
-fn at_start<K, V, D, T, A: Allocator>(asks: VecDeque<Ask<K, V, D>, A>) -> Place<K, V, D, T, A>
-    ensures { place_of result ≡ at_start asks.items }
+/// Whether a call is a walk.
+fn is_walk<K, V, D>(ask: &Ask<K, V, D>) -> bool
+    ensures { result ≡ is_walk ask.now }
 {
-    Place {
-        asks,
+    match ask {
+        Ask::Walk(_) => true,
+        _ => false,
+    }
+}
+
+/// Whether a program has a walk.
+fn has_walk<K, V, D>(program: &[Ask<K, V, D>]) -> bool
+    ensures { result ≡ list_any is_walk program.now }
+{
+    program.iter().any(|ask| is_walk(ask))
+}
+
+/// How many lists a call may be answered with: one where it is a walk that reads.
+fn ask_lists<K, V, D>(ask: &Ask<K, V, D>) -> usize
+    ensures value { result ≡ ask_lists ask.now }
+    ensures one { result ≤ 1 }
+{
+    match ask {
+        Ask::Walk(Walk::Iter(_, _)) | Ask::Walk(Walk::IterMut(_, _)) => 1,
+        _ => 0,
+    }
+}
+
+/// How many lists a program's calls may be answered with.
+fn program_lists<K, V, D>(program: &[Ask<K, V, D>]) -> usize
+    ensures { result ≡ sum_by ask_lists program.now }
+{
+    let mut lists = 0;
+    for ask in program {
+        lists += ask_lists(ask);
+    }
+    lists
+}
+
+/// So many empty lists.
+fn empty_lists<T: Drop, A: Allocator + Clone + Drop>(
+    alloc: A,
+    count: usize,
+) -> Result<Vec<Vec<T, A>, A>, NoMemory>
+    ensures { IfOk result (λ lists. length lists.items ≡ count) }
+{
+    let mut lists = Vec::with_capacity(alloc.clone()?, count)?;
+    for _ in 0..count {
+        lists.push(Vec::new(alloc.clone()?))?;
+    }
+    Ok(lists)
+}
+
+/// A list without visits, with room for one of each shard where the thread may walk.
+fn visits_of<A: Allocator>(alloc: A, walks: bool, shards: usize) -> Result<Vec<usize, A>, NoMemory>
+    ensures none { IfOk result (λ visits. visits.items ≡ []) }
+    ensures room { IfOk result (λ visits. walks ≡ true → shards ≤ vec_capacity visits) }
+{
+    if walks {
+        Ok(Vec::with_capacity(alloc, shards)?)
+    } else {
+        Ok(Vec::new(alloc))
+    }
+}
+
+/// A thread before its first call.
+fn at_start<K: Drop, V: Drop, D: Drop, T: Drop, A: Allocator + Clone + Drop>(
+    alloc: A,
+    shards: usize,
+    program: Vec<Ask<K, V, D>, A>,
+) -> Result<Place<K, V, D, T, A>, NoMemory>
+    ensures start { IfOk result (λ place. place_of place ≡ at_start program.items) }
+    ensures lists { IfOk result (HasLists shards) }
+{
+    let visits = visits_of(alloc.clone()?, has_walk(&program), shards)?;
+    let lists = empty_lists(alloc.clone()?, program_lists(&program))?;
+    Ok(Place {
+        asks: VecDeque::from(program),
         next: 0,
         started: None,
         closes: false,
@@ -31,20 +105,26 @@ fn at_start<K, V, D, T, A: Allocator>(asks: VecDeque<Ask<K, V, D>, A>) -> Place<
         holds: ArrayVec::new(),
         block: None,
         guard: None,
+        visits,
+        reads: Vec::new(alloc),
+        lists,
+        count: 0,
         phase: Phase::Rest,
-    }
+    })
 }
 
 /// The threads of the programs, each before its first call.
-pub(crate) fn places_of<K: Drop, V: Drop, D: Drop, T: Drop, A: Allocator + Drop>(
+pub(crate) fn places_of<K: Drop, V: Drop, D: Drop, T: Drop, A: Allocator + Clone + Drop>(
     alloc: A,
+    shards: usize,
     programs: Vec<Vec<Ask<K, V, D>, A>, A>,
 ) -> Result<Vec<Place<K, V, D, T, A>, A>, NoMemory>
-    ensures { IfOk result (λ places. AreAtStart (map (λ program. program.items) programs.items) (map place_of places.items)) }
+    ensures start { IfOk result (λ places. AreAtStart (map (λ program. program.items) programs.items) (map place_of places.items)) }
+    ensures lists { IfOk result (λ places. HaveLists shards places.items) }
 {
-    let mut places = Vec::with_capacity(alloc, programs.len())?;
+    let mut places = Vec::with_capacity(alloc.clone()?, programs.len())?;
     for program in programs {
-        places.push(at_start(VecDeque::from(program)))?;
+        places.push(at_start(alloc.clone()?, shards, program)?)?;
     }
     Ok(places)
 }

@@ -25,26 +25,24 @@ pub(crate) fn calls_of<K, V, D, A: Allocator>(programs: &[Vec<Ask<K, V, D>, A>])
     Some(calls)
 }
 
-/// How many guard numbers the program takes.
-fn numbers_in<K, V, D, A: Allocator>(program: &Vec<Ask<K, V, D>, A>, shards: u64) -> u64
-    ensures { result ≡ sum_by numbers_of program.now.items }
-{
-    guard_numbers(program, shards)
-}
-
-/// Whether there are numbers for all guards that the programs take.
-fn has_guard_numbers<K, V, D, A: Allocator>(programs: &[Vec<Ask<K, V, D>, A>], shards: u64) -> bool
-    ensures { result ≡ nat_lt (sum_by (λ program. sum_by numbers_of program.items) programs.now) (2 ^ 32) }
+/// How many guard numbers all programs take on so many shards, if they aren't too many.
+pub(crate) fn numbers_in<K, V, D, A: Allocator>(
+    programs: &[Vec<Ask<K, V, D>, A>],
+    shards: u64,
+) -> Option<u64>
+    ensures { MatchOption result
+        (2 ^ 32 ≤ sum_by (λ program. sum_by (numbers_of shards) program.items) programs.now)
+        (λ numbers. (numbers ≡ sum_by (λ program. sum_by (numbers_of shards) program.items) programs.now) × (numbers < 2 ^ 32)) }
 {
     let mut numbers = 0;
     for program in programs {
-        let more = numbers_in(program, shards);
+        let more = guard_numbers(program, shards);
         if more >= (1 << 32) - numbers {
-            return false;
+            return None;
         }
         numbers += more;
     }
-    true
+    Some(numbers)
 }
 
 /// Whether each program holds one guard at a time.
@@ -84,7 +82,7 @@ pub(crate) fn refusal<K, V, D, A: Allocator>(
     if !are_guarded(programs) {
         return Some(WorldNewFault::AsksWhileHolding);
     }
-    if !has_guard_numbers(programs, shards as u64) {
+    if numbers_in(programs, shards as u64).is_none() {
         return Some(WorldNewFault::NoGuardNumbers);
     }
     None

@@ -1,14 +1,18 @@
 //! How a world is made.
-ghost use Rattle.std.specs.Prelude.{◌≡◌, ◌≤◌, ◌^◌, length, map, sum_by, IfOk};
+ghost use Rattle.std.specs.Prelude.{◌≡◌, ◌<◌, ◌≤◌, ◌^◌, length, map, sum_by, IfOk};
+ghost use Rattle.mapworld_calls.specs.Programs.{numbers_of};
 ghost use Rattle.mapworld.specs.Making.{new_refusal, IsNew};
 ghost use Rattle.mapworld_locks.specs.Fits.{LocksFit};
 ghost use Rattle.mapworld_locks.specs.Fresh.{AreFresh};
 ghost use Rattle.mapworld_state.specs.World.{AgreesWithBlocks, HasPlacedBlocks};
 ghost use Rattle.mapworld_state.specs.Held.{HoldsMatch};
-ghost use Rattle.mapworld_progress.specs.Drains.{HasTime};
+ghost use Rattle.mapworld_progress.specs.Drains.{IsInTime};
+ghost use Rattle.mapworld_causes.specs.World.{CoreHasCauses, TriesHaveCauses};
 ghost use Rattle.mapworld_state.specs.Core.{state_of, IsSoundCore, IsSlotted, Room};
 
 use crate::beginning::{empty_shards, fill, places_of};
+use crate::limits;
+use crate::stops::programs_fit;
 use lock_api_raw::NoMemory;
 use mapworld_calls::{Ask, Deed};
 use mapworld_locks::ShardLocks;
@@ -25,6 +29,17 @@ fn calls_in<K, V, D, A: Allocator>(programs: &[Vec<Ask<K, V, D>, A>]) -> usize
     ensures { result ≡ sum_by (λ program. length program.items) programs.now }
 {
     programs.iter().map(|program| program.len()).sum()
+}
+
+/// How many blocks all programs list on so many shards.
+fn blocks_in<K, V, D, A: Allocator>(programs: &[Vec<Ask<K, V, D>, A>], shards: u64) -> usize
+    requires { sum_by (λ program. sum_by (numbers_of shards) program.items) programs.now < 2 ^ 32 }
+    ensures { result ≡ sum_by (λ program. sum_by (numbers_of shards) program.items) programs.now }
+{
+    match limits::numbers_in(programs, shards) {
+        Some(numbers) => numbers as usize,
+        None => unreachable!(),
+    }
 }
 
 /// The locks of so many shards, for so many threads, none of which has asked for anything.
@@ -65,15 +80,19 @@ pub(crate) fn core_of<
     ensures placed { IfOk result (λ core. HasPlacedBlocks D.Deed S.BuildHasher S.Hasher.Hasher K.eq K.hash_input (state_of core)) }
     ensures held { IfOk result (λ core. HoldsMatch (state_of core).places (state_of core).locks) }
     ensures fit { IfOk result (λ core. LocksFit (state_of core).locks) }
-    ensures time { IfOk result (λ core. HasTime (state_of core)) }
+    ensures time { IfOk result (IsInTime D.Deed S.BuildHasher S.Hasher.Hasher K.eq K.hash_input) }
+    ensures causes { IfOk result (CoreHasCauses D.Deed S.BuildHasher S.Hasher.Hasher K.eq K.hash_input) }
+    ensures tries { IfOk result (λ core. TriesHaveCauses D.Deed S.BuildHasher S.Hasher.Hasher K.eq K.hash_input (state_of core)) }
 {
     steps_are_few();
     let opening = Snapshot::of(&pairs);
     let kept = Snapshot::of(&programs);
+    programs_fit(&programs);
     let calls = calls_in(&programs);
+    let numbers = blocks_in(&programs, shards as u64);
     let locks = locks_of(alloc.clone()?, programs.len(), shards)?;
-    let places = places_of(alloc.clone()?, programs)?;
-    let blocks = Vec::with_capacity(alloc.clone()?, calls)?;
+    let places = places_of(alloc.clone()?, shards, programs)?;
+    let blocks = Vec::with_capacity(alloc.clone()?, numbers)?;
     let replies = Vec::with_capacity(alloc.clone()?, calls)?;
     let mut tables = empty_shards(alloc, shards)?;
     let count = fill(&mut tables, &hasher, pairs)?;

@@ -17,7 +17,8 @@ ghost use Rattle.mapworld_state.specs.Footprint.{word_of};
 ghost use Rattle.mapworld_state.specs.Held.{HoldsMatch, HoldByPhase};
 ghost use Rattle.mapworld_progress.specs.Rest.{IsAtRest};
 ghost use Rattle.mapworld.specs.Drained.{DrainedBy};
-ghost use Rattle.mapworld_calls.specs.Placed as today;
+ghost use Rattle.mapworld_calls.specs.Placed.{OnlyAdds};
+ghost use Rattle.mapworld_causes.specs.World.{TriesHaveCauses, TakenShardsAreUsed, NobodyWaitsAlone};
 
 use crate::laws::{queues_are_waiters, steps_touch_one_lock};
 use crate::{contents, counts, limits, making};
@@ -50,7 +51,9 @@ use std::marker::Model;
 ///
 /// `K` is a key, `V` a value, `S` makes the hasher that picks a key's shard, and `D` is what a program does with a pair
 /// that it is lent. The world keeps the allocator that it was made with, and takes all that it needs for its threads,
-/// their blocks and their replies when it is made. After that only a shard may grow; where memory is short then, the call is answered `NoMemory`, and nothing else is changed.
+/// their blocks and their replies when it is made. After that only a shard may grow or shrink, and a walk that reads takes
+/// room for what it reads, shard by shard; where memory is short then, the call is answered `NoMemory`, and nothing else
+/// is changed.
 ///
 /// ```text
 /// let mut world = MapWorld::new(alloc, 2, SpreadState, pairs, programs)?;
@@ -66,26 +69,27 @@ impl<K: Eq + Hash, V, S: BuildHasher, D: Deed<K, V>, A: Allocator> Model
     for MapWorld<K, V, S, D, A> {
     ghost use Rattle.mapworld_state.specs.State.{State};
 
-    ghost Value = { State K V S D D.Answer };
+    ghost Value = { State K V S D D.Answer A };
 
     ghost use Rattle.mapworld_state.specs.Core.{state_of, IsSoundCore, IsSlotted, Room};
-    ghost use Rattle.mapworld_progress.specs.Drains.{HasTime};
+    ghost use Rattle.mapworld_progress.specs.Drains.{IsInTime};
+    ghost use Rattle.mapworld_causes.specs.World.{CoreHasCauses};
 
     ghost view = { λ w. state_of w.core };
 
-    ghost invariant = { λ w. IsSoundCore D.Deed S.BuildHasher S.Hasher.Hasher K.eq K.hash_input w.core × Room w.core × IsSlotted D.Deed S.BuildHasher S.Hasher.Hasher K.eq K.hash_input w.core × HasTime (state_of w.core) };
+    ghost invariant = { λ w. IsSoundCore D.Deed S.BuildHasher S.Hasher.Hasher K.eq K.hash_input w.core × Room w.core × IsSlotted D.Deed S.BuildHasher S.Hasher.Hasher K.eq K.hash_input w.core × IsInTime D.Deed S.BuildHasher S.Hasher.Hasher K.eq K.hash_input w.core × CoreHasCauses D.Deed S.BuildHasher S.Hasher.Hasher K.eq K.hash_input w.core };
 }
 
 impl<K: Eq + Hash, V, S: BuildHasher, D: Deed<K, V>, A: Allocator> MapWorld<K, V, S, D, A> {
     /// The answers so far, in the order in which they were given. It takes no memory and cannot fail.
-    pub fn replies(&self) -> &[Reply<K, V, D::Answer>]
+    pub fn replies(&self) -> &[Reply<K, V, D::Answer, A>]
         ensures { result.now ≡ self.now.replies }
     {
         &self.core.replies
     }
 
-    /// The blocks so far, in the order of their positions: the keyed calls, and the sessions of guards, each of which
-    /// the map takes whole. It takes no memory and cannot fail.
+    /// The blocks so far, in the order of their positions: the keyed calls, the sessions of guards, and the visits of
+    /// walks, a shard each, each of which the map takes whole. It takes no memory and cannot fail.
     pub fn blocks(&self) -> &[Block<K>]
         ensures { result.now ≡ self.now.blocks }
     {
@@ -245,8 +249,10 @@ where
     /// - `TooManyCalls`: the programs have more than 2^20 calls in all;
     /// - `TooManyPairs`: there are more than 2^31 opening pairs;
     /// - `AsksWhileHolding`: a program doesn't pass `holds_one_guard`;
-    /// - `NoGuardNumbers`: the programs take 2^32 guards or more;
-    /// - `NoMemory`: memory ran out. All that the world's threads, blocks and replies will ever need is taken here.
+    /// - `NoGuardNumbers`: the programs take 2^32 guards or more: one for each call on one key and each opening, and as
+    ///   many as there are shards for each walk;
+    /// - `NoMemory`: memory ran out. All that the world's threads, blocks and replies will ever need is taken here, but
+    ///   for what walks read.
     ///
     /// What was passed in is let go with the error.
     pub fn new(
@@ -264,6 +270,7 @@ where
         ensures placed { IfOk result (HasPlacedBlocks D.Deed S.BuildHasher S.Hasher.Hasher K.eq K.hash_input) }
         ensures held { IfOk result (λ world. HoldsMatch world.places world.locks) }
         ensures fit { IfOk result (λ world. LocksFit world.locks) }
+        ensures causes { IfOk result (TriesHaveCauses D.Deed S.BuildHasher S.Hasher.Hasher K.eq K.hash_input) }
     {
         if let Some(fault) = limits::refusal(shards, pairs.len(), &programs) {
             return Err(fault);
@@ -316,7 +323,7 @@ where
         ensures ran { let setup = setup_of D.Deed S.BuildHasher S.Hasher.Hasher K.eq K.hash_input self.old in
             Ran setup 0 self.old (take (steps_done result (length steps.now)) steps.now) self.new }
         ensures refused { IfErr result (StopsAt self.new steps.now) }
-        ensures adds { today.OnlyAdds (threads_of self.old) (threads_of self.new)
+        ensures adds { OnlyAdds (threads_of self.old) (threads_of self.new)
             self.old.blocks self.new.blocks self.old.replies self.new.replies }
         ensures fixed { StaysFixed self.old self.new }
     {
@@ -334,7 +341,8 @@ where
     /// Behind it, also behind an error, the replies and the contents are those of one plain map that takes the blocks
     /// in their order; each block stands at a step of its own thread between the start of its call and the answer; what
     /// was listed and answered before is still there; and no two holds of a shard are at one time, unless both share
-    /// it.
+    /// it. A try that was answered `Locked` had a cause: at some step of it a call of another thread was on its shard. A
+    /// word that isn't 0 and a thread that sleeps have one too: a call on that shard now, and of another thread.
     ///
     /// # Errors
     ///
@@ -346,8 +354,8 @@ where
     /// - `CannotMove`: the thread is asleep or finished, or before a queue's section that another thread has entered;
     /// - `StepsShort`: no step numbers are left for the step and all that must come after it.
     ///
-    /// It takes memory only where a shard grows. Where that is refused it is no error of `run`: the
-    /// call is answered `NoMemory`.
+    /// It takes memory only where a shard grows or shrinks, and for what a walk reads. Where that is refused it is no error
+    /// of `run`: the call is answered `NoMemory`.
     ///
     /// ```text
     /// match world.run(&steps) {
@@ -367,6 +375,9 @@ where
         ensures held { HoldsMatch self.new.places self.new.locks }
         ensures by_phase { HoldByPhase self.new.places }
         ensures fit { LocksFit self.new.locks }
+        ensures causes { TriesHaveCauses D.Deed S.BuildHasher S.Hasher.Hasher K.eq K.hash_input self.new }
+        ensures used { TakenShardsAreUsed D.Deed S.BuildHasher S.Hasher.Hasher K.eq K.hash_input self.new }
+        ensures waits { NobodyWaitsAlone D.Deed S.BuildHasher S.Hasher.Hasher K.eq K.hash_input self.new }
     {
         let result = self.make_steps(steps);
         self.core.locks.known();
@@ -379,7 +390,7 @@ where
     /// guard is left.
     ///
     /// It is never refused, and goes on from whatever state a [`run`](MapWorld::run) has left, calls half done included. It takes memory only
-    /// where a shard grows. A second one in a row has nothing left to do, and answers 0.
+    /// where a shard grows or shrinks, and for what a walk reads. A second one in a row has nothing left to do, and answers 0.
     ///
     /// ```text
     /// world.run(&steps)?;
@@ -397,6 +408,7 @@ where
         ensures held { HoldsMatch self.new.places self.new.locks }
         ensures by_phase { HoldByPhase self.new.places }
         ensures fit { LocksFit self.new.locks }
+        ensures causes { TriesHaveCauses D.Deed S.BuildHasher S.Hasher.Hasher K.eq K.hash_input self.new }
     {
         steps_touch_one_lock();
         let steps = mapworld_progress::drain(&mut self.core);

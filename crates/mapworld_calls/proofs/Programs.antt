@@ -7,8 +7,9 @@ use Rattle.mapworld_calls.specs.declared.ask.Held.{Held}
 use Rattle.mapworld_calls.specs.declared.ask.Held.TheVariants as held
 use Rattle.mapworld_calls.specs.declared.ask.Keyed.{Keyed}
 use Rattle.mapworld_calls.specs.declared.ask.Begin.{Begin}
+use Rattle.mapworld_calls.specs.declared.ask.Walk.{Walk}
 use Rattle.mapworld_calls.specs.Programs.{is_drop, session_behind, opening_before, IsBeforeDrop, HoldsOneGuard, one_guard}
-use Rattle.mapworld_calls.specs.Sessions.{TakesAGuardNumber}
+use Rattle.mapworld_calls.specs.Sessions.{TakesGuards}
 
 -- a call that is the guard's last is its drop
 pub is_drop_is : {V D : Type 0} (h : Held V D) → is_drop h ≡ true → h ≡ held.Drop
@@ -100,6 +101,8 @@ holds_within false (ask.Keyed k ∷ p) h = other_holds (ask.Keyed k) p (λ b e. 
 holds_within true (ask.Keyed k ∷ p) h = absurd (cc)
 holds_within false (ask.Begin b ∷ p) h = let r = holds_within true p h in opening_holds b p r.0 r.1
 holds_within true (ask.Begin b ∷ p) h = absurd (cc)
+holds_within false (ask.Walk f ∷ p) h = other_holds (ask.Walk f) p (λ b e. cc) (holds_within false p h)
+holds_within true (ask.Walk f ∷ p) h = absurd (cc)
 holds_within false (ask.Held g ∷ p) h = other_holds (ask.Held g) p (λ b e. cc) (holds_within false p h)
 holds_within true (ask.Held g ∷ p) h = held_within g p (is_drop g) refl (holds_within (not (is_drop g)) p h)
 
@@ -117,6 +120,9 @@ keyed_never k p c = elim (closes_by (ask.Keyed k) p c) [ inl e ↦ (cc) | inr r 
 opening_never : {K V D : Type 0} (b : Begin K) (p : List (Ask K V D)) → Closes (ask.Begin b ∷ p) → ⊥
 opening_never b p c = elim (closes_by (ask.Begin b) p c) [ inl e ↦ (cc) | inr r ↦ let e = r.0.1 in (cc) ]
 
+walk_never : {K V D : Type 0} (f : Walk D) (p : List (Ask K V D)) → Closes (ask.Walk f ∷ p) → ⊥
+walk_never f p c = elim (closes_by (ask.Walk f) p c) [ inl e ↦ (cc) | inr r ↦ let e = r.0.1 in (cc) ]
+
 empty_never : {K V D : Type 0} → Closes {K = K} {V = V} {D = D} [] → ⊥
 empty_never c = let e = c.last in (cc)
 
@@ -131,6 +137,8 @@ passes_within false (ask.Keyed k ∷ p) h = passes_within false p (rest_holds (a
 passes_within true (ask.Keyed k ∷ p) h = absurd (keyed_never k p h.1)
 passes_within false (ask.Begin b ∷ p) h = passes_within true p (rest_holds (ask.Begin b) p h, opening_closes b p h)
 passes_within true (ask.Begin b ∷ p) h = absurd (opening_never b p h.1)
+passes_within false (ask.Walk f ∷ p) h = passes_within false p (rest_holds (ask.Walk f) p h)
+passes_within true (ask.Walk f ∷ p) h = absurd (walk_never f p h.1)
 passes_within false (ask.Held g ∷ p) h = passes_within false p (rest_holds (ask.Held g) p h)
 passes_within true (ask.Held g ∷ p) h = passes_within (not (is_drop g)) p (stays_within g p (is_drop g) refl h.0 h.1)
 
@@ -184,6 +192,8 @@ passes_on c (Some (ask.Keyed k)) None rest h = h
 passes_on c (Some (ask.Keyed k)) (Some i) rest h = absurd (cc)
 passes_on c (Some (ask.Begin b)) None rest h = h
 passes_on c (Some (ask.Begin b)) (Some i) rest h = absurd (cc)
+passes_on c (Some (ask.Walk f)) None rest h = h
+passes_on c (Some (ask.Walk f)) (Some i) rest h = absurd (cc)
 passes_on c (Some (ask.Held g)) None rest h = subst (λ b. one_guard b rest ≡ true) (closed_stays (is_drop g)) h
 passes_on c (Some (ask.Held g)) (Some i) rest h = subst (λ b. one_guard b rest ≡ true) (open_stays (is_drop g) i) h
 
@@ -194,15 +204,16 @@ passes_from program h (suc c) =
     passes_on c (slice_get program c) (opening_before program c) (drop (suc c) program)
     (subst (λ xs. one_guard (is_open (opening_before program c)) xs ≡ true) (drop_split program c) (passes_from program h c))
 
-apart_here : {K V D : Type 0} (a : Ask K V D) (s : Option ℕ) (rest : List (Ask K V D)) → TakesAGuardNumber a → one_guard (is_open s) (a ∷ rest) ≡ true → s ≡ None
+apart_here : {K V D : Type 0} (a : Ask K V D) (s : Option ℕ) (rest : List (Ask K V D)) → TakesGuards a → one_guard (is_open s) (a ∷ rest) ≡ true → s ≡ None
 unfolding is_open
 apart_here a None rest t h = refl
 apart_here (ask.Keyed k) (Some i) rest t h = absurd (cc)
 apart_here (ask.Begin b) (Some i) rest t h = absurd (cc)
-apart_here (ask.Held g) (Some i) rest t h = absurd (omega arith)
+apart_here (ask.Walk f) (Some i) rest t h = absurd (cc)
+apart_here (ask.Held g) (Some i) rest t h = absurd (cc)
 
 -- no call that takes a guard of its own stands in a session
-pub sessions_apart : {K V D : Type 0} (program : List (Ask K V D)) → one_guard false program ≡ true → (c : ℕ) (a : Ask K V D) → slice_get program c ≡ Some a → TakesAGuardNumber a → opening_before program c ≡ None
+pub sessions_apart : {K V D : Type 0} (program : List (Ask K V D)) → one_guard false program ≡ true → (c : ℕ) (a : Ask K V D) → slice_get program c ≡ Some a → TakesGuards a → opening_before program c ≡ None
 unfolding onto
 sessions_apart program h c a e t =
     let P : List (Ask _ _ _) → Type 0 = λ xs. one_guard (is_open (opening_before program c)) xs ≡ true in
@@ -215,6 +226,9 @@ one_guard_apart program h c k e = sessions_apart program h c (ask.Keyed k) e ref
 pub one_guard_begin_apart : {K V D : Type 0} (program : List (Ask K V D)) → one_guard false program ≡ true → (c : ℕ) (b : Begin K) → slice_get program c ≡ Some (ask.Begin b) → opening_before program c ≡ None
 one_guard_begin_apart program h c b e = sessions_apart program h c (ask.Begin b) e refl
 
+pub one_guard_walk_apart : {K V D : Type 0} (program : List (Ask K V D)) → one_guard false program ≡ true → (c : ℕ) (f : Walk D) → slice_get program c ≡ Some (ask.Walk f) → opening_before program c ≡ None
+one_guard_walk_apart program h c f e = sessions_apart program h c (ask.Walk f) e refl
+
 still_open : (drops : Bool) (s : Option ℕ) (i : ℕ) → (if drops then None else s) ≡ Some i → s ≡ Some i
 still_open true s i e = absurd (cc)
 still_open false s i e = e
@@ -224,6 +238,7 @@ behind_by : {K V D : Type 0} (c i : ℕ) (o : Option (Ask K V D)) (s : Option �
 behind_by c i None s e = inr e
 behind_by c i (Some (ask.Keyed k)) s e = inr e
 behind_by c i (Some (ask.Begin b)) s e = inl ((cc), (b, refl))
+behind_by c i (Some (ask.Walk f)) s e = inr e
 behind_by c i (Some (ask.Held h)) s e = inr (still_open (is_drop h) s i e)
 
 -- the opening of a session stands before its calls

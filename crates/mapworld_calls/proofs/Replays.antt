@@ -1,84 +1,88 @@
--- What the replay gives at a key: equal keys have equal contents, and a block changes its own key alone.
-use Rattle.std.proofs.Common.{◌≡◌, ℕ, Bool, true, false, List, [], ◌∷◌, ◌++◌, Option, Some, None, take, reverse, fold, refl, ap, sym, ◌∙◌}
-use Rattle.std.specs.Cmp.{IsEquivalence}
-use Rattle.std.proofs.lemmas.Bool.{false_from_ne_true}
-use Rattle.std.proofs.lemmas.List.Sums.{fold_push}
+-- What the replay gives at a key: equal keys have equal contents, and a block with a key changes its own key alone.
+use Rattle.std.proofs.Common.{◌≡◌, ℕ, true, false, List, [], ◌∷◌, ◌++◌, Option, Some, None, take, fold, refl, ap, sym, ◌∙◌}
+use Rattle.std.specs.List.{list_any}
+use Rattle.std.specs.Option.{option_and_then}
+use Rattle.std.proofs.Math.Path.{fun_ext}
+use Rattle.std.proofs.lemmas.Option.{none-some, same_Some}
+use Rattle.mapworld_calls.specs.declared.ask.Ask.{Ask}
+use Rattle.mapworld_calls.specs.declared.ask.Ask.TheVariants as ask
+use Rattle.mapworld_calls.specs.declared.ask.Walk.{Walk}
 use Rattle.mapworld_calls.specs.declared.block.Block.{Block}
-use Rattle.mapworld_calls.specs.Setup.{Setup, Laws}
-use Rattle.mapworld_calls.specs.Pairs.{has_key, pair_of, key_and_value, opening_pair}
+use Rattle.mapworld_calls.specs.Pairs.{opening_pair}
+use Rattle.mapworld_calls.specs.Programs.{key_of}
 use Rattle.mapworld_calls.specs.Calls.{pair_in}
-use Rattle.mapworld_calls.specs.Replay.{reached, block_key, is_key, left, contents, at_key, found, AreApart}
-use Rattle.mapworld_calls.proofs.Folds.{find-same}
+use Rattle.mapworld_calls.specs.Setup.{Setup, Laws, ask_at}
+use Rattle.mapworld_calls.specs.Frame.{IsOn}
+use Rattle.mapworld_calls.specs.Replay.{Work, one, visit, nothing, work_of, reached, block_work, block_key, done_keys, works_on, left, frame_of, contents, before, at_key, found}
+use Rattle.mapworld_calls.specs.Laws.{ArePlain}
+use Rattle.mapworld_calls.proofs.Pairs.{eq-same_right, opening_pair-same}
+use Rattle.mapworld_calls.proofs.Frames as frames
+use Rattle.mapworld_calls.proofs.Works.{keeps-to_shard, looks-at_shard}
 
-module _ {K : Type 0} (eq : K → K → Bool) (e : IsEquivalence eq) where
-  pub eq-same_right : (a j k : K) → eq j k ≡ true → eq a j ≡ eq a k
-  eq-same_right a j k same = e.symm a j ∙ e.congr j k a same ∙ e.symm k a
+-- a call with a key works on that key
+key-work : {K V D : Type 0} (o : Option (Ask K V D)) (key : K) → option_and_then key_of o ≡ Some key → work_of o ≡ one key
+key-work None key is = absurd (none-some key is)
+key-work (Some (ask.Keyed k)) key is = ap one (same_Some _ key is)
+key-work (Some (ask.Begin b)) key is = ap one (same_Some _ key is)
+key-work (Some (ask.Held h)) key is = absurd (none-some key is)
+key-work (Some (ask.Walk f)) key is = absurd (none-some key is)
 
-  pub is_key-same : (o : Option K) (j k : K) → eq j k ≡ true → is_key eq o j ≡ is_key eq o k
-  is_key-same None j k same = refl
-  is_key-same (Some a) j k same = eq-same_right a j k same
-
-module _ {K V : Type 0} (eq : K → K → Bool) (e : IsEquivalence eq) where
-  pub pair_of-same : (pairs : List (K × V)) (j k : K) → eq j k ≡ true → pair_of eq pairs j ≡ pair_of eq pairs k
-  pair_of-same pairs j k same = find-same (has_key eq j) (has_key eq k) pairs (λ p. eq-same_right eq e p.0 j k same)
-
-  pub opening_pair-same : (pairs : List (K × V)) (j k : K) → eq j k ≡ true → opening_pair eq pairs j ≡ opening_pair eq pairs k
-  opening_pair-same pairs j k same =
-      ap (λ o. key_and_value o (pair_of eq (reverse pairs) j)) (pair_of-same pairs j k same)
-      ∙ ap (λ o. key_and_value (pair_of eq pairs k) o) (pair_of-same (reverse pairs) j k same)
+pub work-key : {K V D : Type 0} (o : Option (Ask K V D)) (key : K) → work_of o ≡ one key → option_and_then key_of o ≡ Some key
+work-key None key is = absurd cc
+work-key (Some (ask.Keyed k)) key is = ap Some (cc)
+work-key (Some (ask.Begin b)) key is = ap Some (cc)
+work-key (Some (ask.Held h)) key is = absurd cc
+work-key (Some (ask.Walk f)) key is = absurd cc
 
 module _ {K V D T : Type 0} (w : Setup K V D T) where
-  pub left-touched : (q : K) (o : Option (K × V)) (b : Block K) → is_key w.eq (block_key w b) q ≡ true
-      → left w q o b ≡ pair_in (reached w b.thread b.call b.done.value o)
-  left-touched q o b h = rw h
+  pub contents-push : (bs : List (Block K)) (b : Block K) (q : K) → contents w (bs ++ b ∷ []) q ≡ left w b q (contents w bs q)
+  contents-push bs b q = frames.contents-push (frame_of w) bs b q
 
-  pub left-untouched : (q : K) (o : Option (K × V)) (b : Block K) → is_key w.eq (block_key w b) q ≡ false → left w q o b ≡ o
-  left-untouched q o b h = rw h
+module _ {K V D T : Type 0} (w : Setup K V D T) (b : Block K) (key : K) (is : block_key w b ≡ Some key) where
+  pub works-on_key : block_work w b ≡ one key
+  works-on_key = key-work (ask_at w b.thread b.call) key is
 
-  pub contents-push : (bs : List (Block K)) (b : Block K) (q : K) → contents w (bs ++ b ∷ []) q ≡ left w q (contents w bs q) b
-  contents-push bs b q = fold_push (left w q) (opening_pair w.eq w.opening q) bs b
+  -- the block is of no walk's call
+  pub no-walk : (t c : ℕ) (f : Walk D) → ask_at w t c ≡ Some (ask.Walk f) → b.thread ≡ t → b.call ≡ c → ⊥
+  no-walk t c f asked thread call =
+      let at : ask_at w b.thread b.call ≡ Some (ask.Walk f) = ap (λ n. ask_at w n b.call) thread ∙ ap (λ n. ask_at w t n) call ∙ asked in
+      none-some key (sym (ap (option_and_then key_of) at) ∙ is)
+
+  -- the block is on its key's shard
+  pub on-shard : IsOn (frame_of w) b key
+  on-shard = rw works-on_key refl
+
+  pub found-is : (bs : List (Block K)) (i : ℕ) → found w bs i b ≡ before w bs i key
+  found-is bs i = ap (at_key (before w bs i)) is
+
+  pub left-touched : (q : K) (o : Option (K × V)) → w.eq key q ≡ true → left w b q o ≡ pair_in (reached w b.thread b.call b.done.value o)
+  left-touched q o e = rw works-on_key (rw e refl)
+
+  pub left-untouched : (q : K) (o : Option (K × V)) → w.eq key q ≡ false → left w b q o ≡ o
+  left-untouched q o e = rw works-on_key (rw e refl)
 
 module _ {K V D T : Type 0} (w : Setup K V D T) (laws : Laws w) where
-  left-same : (o : Option (K × V)) (b : Block K) (j k : K) → w.eq j k ≡ true → left w j o b ≡ left w k o b
-  left-same o b j k same = rw (is_key-same w.eq laws.equivalence (block_key w b) j k same)
+  works-same : (x : Work K D) (b : Block K) (j k : K) → w.eq j k ≡ true → works_on w x b j ≡ works_on w x b k
+  works-same (one a) b j k same = eq-same_right w.eq laws.equivalence a j k same
+  works-same (visit f) b j k same =
+      ap (λ test. list_any test (done_keys w b)) (fun_ext (λ a. eq-same_right w.eq laws.equivalence a j k same))
+  works-same nothing b j k same = refl
 
-  fold-same : (bs : List (Block K)) (o : Option (K × V)) (j k : K) → w.eq j k ≡ true → fold (left w j) o bs ≡ fold (left w k) o bs
+  left-same : (b : Block K) (o : Option (K × V)) (j k : K) → w.eq j k ≡ true → left w b j o ≡ left w b k o
+  left-same b o j k same = rw (works-same (block_work w b) b j k same)
+
+  fold-same : (bs : List (Block K)) (o : Option (K × V)) (j k : K) → w.eq j k ≡ true → fold (λ x b. left w b j x) o bs ≡ fold (λ x b. left w b k x) o bs
   fold-same [] o j k same = refl
-  fold-same (b ∷ bs) o j k same = ap (λ p. fold (left w j) p bs) (left-same o b j k same) ∙ fold-same bs (left w k o b) j k same
+  fold-same (b ∷ bs) o j k same = ap (λ p. fold (λ x d. left w d j x) p bs) (left-same b o j k same) ∙ fold-same bs (left w b k o) j k same
 
+  -- equal keys have equal contents
   pub contents-same : (bs : List (Block K)) (j k : K) → w.eq j k ≡ true → contents w bs j ≡ contents w bs k
   contents-same bs j k same =
-      ap (λ o. fold (left w j) o bs) (opening_pair-same w.eq laws.equivalence w.opening j k same)
+      ap (λ o. fold (λ x b. left w b j x) o bs) (opening_pair-same w.eq laws.equivalence w.opening j k same)
       ∙ fold-same bs (opening_pair w.eq w.opening k) j k same
 
-  at_key-found : (m : K → Option (K × V)) (o : Option K) (q : K) → ((j k : K) → w.eq j k ≡ true → m j ≡ m k) → is_key w.eq o q ≡ true → m q ≡ at_key m o
-  at_key-found m None q same h = absurd cc
-  at_key-found m (Some k) q same h = sym (same k q h)
+  pub before-same : (bs : List (Block K)) (i : ℕ) (j k : K) → w.eq j k ≡ true → before w bs i j ≡ before w bs i k
+  before-same bs i j k same = contents-same (take i bs) j k same
 
-  -- what a key has when a block of that key comes is what the block finds
-  pub contents-found : (bs : List (Block K)) (i : ℕ) (b : Block K) (q : K) → is_key w.eq (block_key w b) q ≡ true → contents w (take i bs) q ≡ found w bs i b
-  contents-found bs i b q h = at_key-found (contents w (take i bs)) (block_key w b) q (contents-same (take i bs)) h
-
-  apart-key : (o : Option K) (k : K) → ((j : K) → o ≡ Some j → w.route j ≡ w.route k → ⊥) → is_key w.eq o k ≡ false
-  apart-key None k apart = refl
-  apart-key (Some j) k apart = false_from_ne_true (w.eq j k) (λ same. apart j refl (laws.routes j k same))
-
-  -- a block leaves the keys of other shards alone
-  pub apart-untouched : (b d : Block K) (k : K) → AreApart w b d → block_key w d ≡ Some k → is_key w.eq (block_key w b) k ≡ false
-  apart-untouched b d k apart key = apart-key (block_key w b) k (λ j h. apart j k h key)
-
-  other-key : (o : Option K) (q k : K) → is_key w.eq o q ≡ true → ((j : K) → o ≡ Some j → w.route j ≡ w.route k → ⊥) → w.route q ≡ w.route k → ⊥
-  other-key None q k h apart same = absurd cc
-  other-key (Some j) q k h apart same = apart j refl (laws.routes j q h ∙ same)
-
-  key-route : (o : Option K) (q : K) → is_key w.eq o q ≡ true → (k : K) × (o ≡ Some k) × (w.route k ≡ w.route q)
-  key-route None q h = absurd cc
-  key-route (Some k) q h = (k, refl, laws.routes k q h)
-
-  -- a key that one of two blocks on different shards works on is none of the other's
-  pub apart-other : (b d : Block K) (q : K) → AreApart w b d → is_key w.eq (block_key w b) q ≡ true → is_key w.eq (block_key w d) q ≡ false
-  apart-other b d q apart h =
-      false_from_ne_true (is_key w.eq (block_key w d) q) (λ both.
-      let mine = key-route (block_key w b) q h in
-      let its = key-route (block_key w d) q both in
-      apart mine.0 its.0 mine.1 its.1 (mine.2 ∙ sym its.2))
+pub are-plain : {K V D T A : Type 0} (w : Setup K V D T) → Laws w → ArePlain A w
+are-plain w laws = record { keep = keeps-to_shard w laws; look = looks-at_shard w laws; alike = contents-same w laws }

@@ -9,4 +9,6 @@ pub mod Placed
 pub mod Laws
 pub mod Sessions
 pub mod Spread
-pub mod Every
+pub mod Frame
+pub mod Growth
+pub mod Shards

@@ -1,4 +1,4 @@
--- What stays fixed for good in a world: its keys, routes, deeds, programs and opening contents.
+-- What stays fixed for good in a world: its keys, shards, routes, deeds, programs and opening contents.
 use Rattle.std.specs.Prelude.{◌≡◌, ℕ, Bool, List, Option, slice_get, IsTrue}
 use Rattle.std.specs.Option.{option_and_then}
 use Rattle.std.specs.Cmp.{IsEquivalence}
@@ -8,6 +8,7 @@ use Rattle.mapworld_calls.specs.Programs.{opening_before}
 
 pub record Setup (K V D T : Type 0) : Type 0 where
   pub eq : K → K → Bool
+  pub shards : ℕ
   pub route : K → ℕ
   pub deeds : Deeds D K V T
   pub programs : List (List (Ask K V D))

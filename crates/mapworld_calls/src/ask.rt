@@ -9,6 +9,8 @@ pub enum Ask<K, V, D> {
     Begin(Begin<K>),
     /// A call on the guard.
     Held(Held<V, D>),
+    /// A call over all shards.
+    Walk(Walk<D>),
 }
 
 /// A call on one key.
@@ -46,6 +48,12 @@ pub enum Begin<K> {
     /// absent one a vacant one, answered `Vacant`, for which room is made. Where that room is refused it answers `NoMemory`,
     /// and there is no guard.
     Entry(K),
+    /// As `Get`, but it waits for nobody: where its shard can't be had it answers `Locked`, and there is no guard.
+    TryGet(K),
+    /// As `GetMut`, but it waits for nobody: where its shard can't be had it answers `Locked`, and there is no guard.
+    TryGetMut(K),
+    /// As `Entry`, but it waits for nobody: where its shard can't be had it answers `Locked`, and there is no guard.
+    TryEntry(K),
 }
 
 /// A call on the guard. Where no guard is held it answers `NoGuard`, and on a guard of a kind that it isn't for `WrongGuard`;
@@ -74,4 +82,35 @@ pub enum Held<V, D> {
     IntoKey,
     /// On any guard: answers `Done`; the guard ends.
     Drop,
+}
+
+/// A call over all shards, in the order of their numbers: a visit of each. Pairs that others add or take out on shards that it
+/// has visited, or hasn't reached, aren't seen, or are.
+///
+/// The number is how many items the walk gives before it is dropped, if it is dropped early; it visits no shard after that.
+/// The first four give each pair of a visited shard once, in an order that is open.
+#[derive(Clone, Debug, Drop, PartialEq, Eq)]
+pub enum Walk<D> {
+    /// Answers `Reads`: the deed's answers of all pairs, in the order of visits. It shares its shards, and takes the next one
+    /// before it gives one back. Where room for its answers is refused it answers `NoMemory`.
+    Iter(D, Option<u64>),
+    /// As `Iter`, but alone in its shards; each value becomes the deed's effect.
+    IterMut(D, Option<u64>),
+    /// Answers `Done`: each value becomes the deed's effect, and a pair goes that the deed doesn't keep. It is alone in a shard,
+    /// one at a time.
+    Retain(D),
+    /// Answers `Done`: each value becomes the deed's effect. It is alone in its shards, and takes the next one before it gives
+    /// one back.
+    AlterAll(D),
+    /// Answers `Done`: every pair goes. It is alone in a shard, one at a time.
+    Clear,
+    /// Answers `Count`: the sum of the shards' numbers of pairs, at most the greatest number. It shares a shard, one at a time.
+    Len,
+    /// Answers `Flag`: whether that sum is 0. It shares a shard, one at a time.
+    IsEmpty,
+    /// Answers `Count`: for how many pairs the shards have room, none fewer than it has pairs. It shares a shard, one at a time.
+    Capacity,
+    /// Answers `Done`: shards give back room that their pairs don't need. It is alone in a shard, one at a time. Where a smaller
+    /// table is refused it answers `NoMemory`.
+    ShrinkToFit,
 }

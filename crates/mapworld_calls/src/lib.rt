@@ -11,7 +11,7 @@ mod program;
 mod reply;
 mod spread;
 
-pub use ask::{Ask, Begin, Held, Keyed};
+pub use ask::{Ask, Begin, Held, Keyed, Walk};
 pub use block::Block;
 pub use deed::Deed;
 pub use program::{guard_numbers, holds_one_guard};

@@ -1,6 +1,6 @@
 //! Whether a program is fit to run, and how many guard numbers it takes.
 ghost use Rattle.std.specs.Prelude.{◌≡◌, ◌↔◌, ◌≤◌, IsTrue, false, sum_by};
-ghost use Rattle.mapworld_calls.specs.Programs.{HoldsOneGuard, is_drop, numbers_of, one_guard};
+ghost use Rattle.mapworld_calls.specs.Programs.{HoldsOneGuard, is_drop, numbers_of, one_guard, saturated};
 
 use crate::ask::{Ask, Held};
 
@@ -24,6 +24,7 @@ fn is_drop<V, D>(call: &Held<V, D>) -> bool
 /// holds_one_guard(&[Begin(Get(1)), Held(Read(d)), Held(Drop)])          // true
 /// holds_one_guard(&[Begin(Get(1)), Begin(Get(2)), Held(Drop)])          // false: a second opening
 /// holds_one_guard(&[Begin(Get(1)), Keyed(Remove(2)), Held(Drop)])       // false: a keyed call under a guard
+/// holds_one_guard(&[Begin(Get(1)), Walk(Len), Held(Drop)])              // false: a walk under a guard
 /// holds_one_guard(&[Begin(Get(1)), Held(Read(d))])                      // false: no drop
 /// ```
 pub fn holds_one_guard<K, V, D>(program: &[Ask<K, V, D>]) -> bool
@@ -33,7 +34,7 @@ pub fn holds_one_guard<K, V, D>(program: &[Ask<K, V, D>]) -> bool
     let mut held = false;
     for ask in program {
         match ask {
-            Ask::Keyed(_) => {
+            Ask::Keyed(_) | Ask::Walk(_) => {
                 if held {
                     return false;
                 }
@@ -51,32 +52,30 @@ pub fn holds_one_guard<K, V, D>(program: &[Ask<K, V, D>]) -> bool
 }
 
 /// How many guard numbers a call takes.
-fn numbers_of<K, V, D>(ask: &Ask<K, V, D>) -> u64
-    ensures value { result ≡ numbers_of ask.now }
-    ensures few { result ≤ 1 }
+fn numbers_of<K, V, D>(ask: &Ask<K, V, D>, shards: u64) -> u64
+    ensures value { result ≡ numbers_of shards ask.now }
 {
     match ask {
+        Ask::Keyed(_) | Ask::Begin(_) => 1,
         Ask::Held(_) => 0,
-        _ => 1,
+        Ask::Walk(_) => shards,
     }
 }
 
 /// How many guard numbers the program takes on a map of so many shards: one for each keyed call and each opening, since
-/// each takes a shard's guard once, and none for a call on the guard that is held.
+/// each takes a shard's guard once, as many as there are shards for each walk, and none for a call on the guard that is held.
 ///
-/// The number of shards has no effect yet. It stands here for the calls that go through all shards, which take that many.
-///
-/// It reads the program once, takes no memory and cannot fail. The number is exact, never cut off.
+/// It reads the program once, takes no memory and cannot fail. A number past the greatest stays at that.
 ///
 /// ```text
-/// guard_numbers(&[Keyed(Insert(1, 1)), Begin(Get(1)), Held(Read(d)), Held(Drop)], 2)          // 2
+/// guard_numbers(&[Keyed(Insert(1, 1)), Begin(Get(1)), Held(Read(d)), Held(Drop), Walk(Len)], 2)          // 4
 /// ```
-pub fn guard_numbers<K, V, D>(program: &[Ask<K, V, D>], _shards: u64) -> u64
-    ensures { result ≡ sum_by numbers_of program.now }
+pub fn guard_numbers<K, V, D>(program: &[Ask<K, V, D>], shards: u64) -> u64
+    ensures { result ≡ saturated (sum_by (numbers_of shards) program.now) }
 {
-    let mut numbers = 0;
+    let mut numbers: u64 = 0;
     for ask in program {
-        numbers += numbers_of(ask);
+        numbers = numbers.saturating_add(numbers_of(ask, shards));
     }
     numbers
 }

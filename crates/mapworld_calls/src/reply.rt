@@ -1,8 +1,10 @@
 //! What a thread's program is answered.
 
-/// What a call is answered. `T` is the answer of the program's deeds.
+use std::alloc::Allocator;
+
+/// What a call is answered. `T` is the answer of the program's deeds; a walk's list of them keeps the world's allocator `A`.
 #[derive(Debug, Drop, PartialEq, Eq)]
-pub enum Answer<K, V, T> {
+pub enum Answer<K, V, T, A: Allocator> {
     /// It is done.
     Done,
     /// The key was absent.
@@ -23,15 +25,21 @@ pub enum Answer<K, V, T> {
     NoGuard,
     /// A call that the guard's kind doesn't allow.
     WrongGuard,
-    /// Whether the key is present.
+    /// Whether the key is present, or of `IsEmpty` whether the map is empty.
     Flag(bool),
-    /// A growth was refused: code 99. The call changed no pair.
+    /// A number of pairs, or for how many there is room.
+    Count(usize),
+    /// What a walk's deed read, in the order of its visits.
+    Reads(Vec<T, A>),
+    /// A try could not have its shard.
+    Locked,
+    /// A growth was refused: code 99. The call changed no pair; of a walk the visits before stand.
     NoMemory,
 }
 
 /// The answer of one call of a program. Steps are numbered from 1 over the life of a world.
 #[derive(Debug, Drop, PartialEq, Eq)]
-pub struct Reply<K, V, T> {
+pub struct Reply<K, V, T, A: Allocator> {
     /// Whose call it is.
     pub thread: usize,
     /// Its place in the thread's program, counted from 0.
@@ -41,5 +49,5 @@ pub struct Reply<K, V, T> {
     /// The step at which it was answered.
     pub end: u64,
     /// What it was answered.
-    pub answer: Answer<K, V, T>,
+    pub answer: Answer<K, V, T, A>,
 }

@@ -42,7 +42,7 @@ pub fn append<K: Eq + Hash + Drop, V: Drop, S: BuildHasher, D: Deed<K, V> + Drop
 }
 
 /// How many pairs there are behind a deed that may have taken one out.
-fn less_one(pairs: u64, gone: bool) -> u64
+pub(crate) fn less_one(pairs: u64, gone: bool) -> u64
     requires { (if gone then 1 else 0) ≤ pairs }
     ensures { result + (if gone then 1 else 0) ≡ pairs }
 {

@@ -2,5 +2,7 @@
 #![tactic(auto)]
 
 mod deeds;
+mod items;
 
 pub use deeds::{append, apply, change, fill, read, view};
+pub use items::item;

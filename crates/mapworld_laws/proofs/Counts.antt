@@ -3,16 +3,18 @@ use Rattle.std.proofs.Common.{◌≡◌, ℕ, ◌≤◌, ◌==◌, ⊎_elim, tru
 use Rattle.std.proofs.lemmas.List.{length-map}
 use Rattle.std.proofs.lemmas.List.Concat.{length-flat_map}
 use Rattle.std.proofs.lemmas.Option.{none-some}
+use Rattle.mapworld_calls.specs.declared.reply.Reply.{Reply}
+use Rattle.mapworld_calls.specs.Programs.{stop_of, walk_may_grow, saturated}
 use Rattle.mapworld_calls.specs.declared.block.Block.{Block}
 use Rattle.mapworld_calls.specs.Pairs.{has_key, pair_of}
-use Rattle.mapworld_calls.specs.Every.Ask as ask
-use Rattle.mapworld_calls.specs.Every.Walk.{Walk}
-use Rattle.mapworld_calls.specs.Every.Walk as walk
-use Rattle.mapworld_calls.specs.Every.Answer.{Answer}
-use Rattle.mapworld_calls.specs.Every.Answer as answer
-use Rattle.mapworld_calls.specs.Every.Setup.{Setup, Laws, ask_at, stop_of, walk_may_grow}
-use Rattle.mapworld_calls.specs.Every.Replay.{done_keys, before}
-use Rattle.mapworld_calls.specs.Every.Agrees.{Reply, Visit, IsVisited, IsWalked, AreWhole, number_of, saturated, AreCapacities}
+use Rattle.mapworld_calls.specs.declared.ask.Ask.TheVariants as ask
+use Rattle.mapworld_calls.specs.declared.ask.Walk.{Walk}
+use Rattle.mapworld_calls.specs.declared.ask.Walk.TheVariants as walk
+use Rattle.mapworld_calls.specs.declared.reply.Answer.{Answer}
+use Rattle.mapworld_calls.specs.declared.reply.Answer.TheVariants as answer
+use Rattle.mapworld_calls.specs.Setup.{Setup, Laws, ask_at}
+use Rattle.mapworld_calls.specs.Replay.{done_keys, before}
+use Rattle.mapworld_calls.specs.Agrees.{Visit, IsVisited, IsWalked, AreWhole, number_of, AreCapacities}
 use Rattle.mapworld_laws.specs.Worlds.{IsWorld, RouteWithin, StandsBetween, IsLeftAlone}
 use Rattle.mapworld_laws.specs.Walks.{keys_given, AreOnce}
 use Rattle.mapworld_laws.specs.Counts.{AreThePairs, CountsThem, CountsAreNumbers}
@@ -20,7 +22,7 @@ use Rattle.mapworld_laws.proofs.Joined.{Passes, joined-cases, mapped-at, mapped-
 use Rattle.mapworld_laws.proofs.Matched.{HasEach, length-le, find-passes, find-there, what-is_there, sum_by-le}
 use Rattle.mapworld_laws.proofs.Walks.{done-route, of-visit, done-there, given-once, found-first, given-alone, walked}
 
-module _ {K V D T : Type 0} (w : Setup K V D T) (laws : Laws w) (routed : RouteWithin w) (bs : List (Block K)) (replies : List (Reply K V T)) (world : IsWorld w bs replies) (t c : ℕ) (f : Walk D) (asked : ask_at w t c ≡ Some (ask.Walk f))
+module _ {K V D T A : Type 0} (w : Setup K V D T) (laws : Laws w) (routed : RouteWithin w) (bs : List (Block K)) (replies : List (Reply K V T A)) (world : IsWorld w bs replies) (t c : ℕ) (f : Walk D) (asked : ask_at w t c ≡ Some (ask.Walk f))
     (first last : ℕ) (stands : StandsBetween bs t c first last) (alone : (q : K) → IsLeftAlone w bs t c first last q) (pairs : List (K × V)) (are : AreThePairs w bs first pairs)
     (vs : List (Visit K)) (visited : IsVisited w bs t c f vs) (all : length vs ≡ w.shards) (whole : AreWhole w bs vs) where
   abbrev pub the_keys : List K
@@ -68,7 +70,7 @@ module _ {K V D T : Type 0} (w : Setup K V D T) (laws : Laws w) (routed : RouteW
       let mapped = length-map pairs (λ (p : K × V). p.0) in
       omega (arith, up, down, joined, mapped)
 
-module _ {K V D T : Type 0} (w : Setup K V D T) (laws : Laws w) (routed : RouteWithin w) (bs : List (Block K)) (replies : List (Reply K V T)) (world : IsWorld w bs replies) (i : ℕ) (r : Reply K V T) (at : slice_get replies i ≡ Some r)
+module _ {K V D T A : Type 0} (w : Setup K V D T) (laws : Laws w) (routed : RouteWithin w) (bs : List (Block K)) (replies : List (Reply K V T A)) (world : IsWorld w bs replies) (i : ℕ) (r : Reply K V T A) (at : slice_get replies i ≡ Some r)
     (first last : ℕ) (stands : StandsBetween bs r.thread r.call first last) (alone : (q : K) → IsLeftAlone w bs r.thread r.call first last q) (pairs : List (K × V)) (are : AreThePairs w bs first pairs) where
   -- a walk that counts is never refused
   counted : (f : Walk D) → ask_at w r.thread r.call ≡ Some (ask.Walk f) → (walk_may_grow f ≡ true → ⊥) → IsWalked w bs r.thread r.call f r.answer
@@ -81,7 +83,7 @@ module _ {K V D T : Type 0} (w : Setup K V D T) (laws : Laws w) (routed : RouteW
       (λ stopped. absurd (none-some (number_of w h.visits) (sym whole ∙ stopped)))
       h.ended
 
-  capacity-no_less : (a : Answer K V T) → (vs : List (Visit K)) → number_of w vs ≡ length pairs → (ns : List ℕ) × AreCapacities w vs ns × (a ≡ answer.Count (saturated (sum ns))) → (n : ℕ) × (length pairs ≤ n) × (a ≡ answer.Count (saturated n))
+  capacity-no_less : (a : Answer K V T A) → (vs : List (Visit K)) → number_of w vs ≡ length pairs → (ns : List ℕ) × AreCapacities w vs ns × (a ≡ answer.Count (saturated (sum ns))) → (n : ℕ) × (length pairs ≤ n) × (a ≡ answer.Count (saturated n))
   capacity-no_less a vs same is =
       let less = sum_by-le (λ (v : Visit K). length (done_keys w v.block)) vs is.0 is.1.each is.1.hold in
       (sum is.0, omega (arith, less, same), is.2)
@@ -100,5 +102,5 @@ module _ {K V D T : Type 0} (w : Setup K V D T) (laws : Laws w) (routed : RouteW
             capacity-no_less r.answer h.visits (number walk.Capacity asked refl h) h.answered;
       }
 
-pub counts-numbers : {K V D T : Type 0} → CountsAreNumbers K V D T
+pub counts-numbers : {K V D T A : Type 0} → CountsAreNumbers K V D T A
 counts-numbers w laws routed bs replies world i r at first last stands alone pairs are = counts-them w laws routed bs replies world i r at first last stands alone pairs are

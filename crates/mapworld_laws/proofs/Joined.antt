@@ -2,7 +2,6 @@
 use Rattle.std.proofs.Common.{◌≡◌, ℕ, zero, suc, ◌+◌, inl, inr, ⊎_elim, Bool, true, List, [], ◌∷◌, ◌++◌, length, take, map, filter, Some, slice_get, refl, ap, sym, ◌∙◌, zero-add, length-append, arith}
 use Rattle.std.specs.List.{flat_map, list_any}
 use Rattle.std.proofs.lemmas.Bool.{cases_Bool}
-use Rattle.std.proofs.lemmas.List.{length-map}
 use Rattle.std.proofs.lemmas.Option.{same_Some, none-some}
 use Rattle.mapworld_calls.proofs.Lists.{slice_get-append_left, slice_get-append_right, slice_get-append_cases}
 
@@ -48,14 +47,28 @@ module _ {X A : Type 0} (f : X → List A) where
     | inr rest ↦ piece-behind z zs n rest.0 y rest.1 (joined-cases zs rest.0 y rest.2)
   ]
 
--- pieces that are mapped are as long
-pub length-mapped : {X A B : Type 0} (f : X → List A) (g : X → A → B) (xs : List X) → length (flat_map (λ x. map (g x) (f x)) xs) ≡ length (flat_map f xs)
-length-mapped f g [] = refl
-length-mapped f g (x ∷ xs) =
-    length-append (map (g x) (f x)) (flat_map (λ y. map (g y) (f y)) xs)
-    ∙ ap (λ n. n + length (flat_map (λ y. map (g y) (f y)) xs)) (length-map (f x) (g x))
-    ∙ ap (λ n. length (f x) + n) (length-mapped f g xs)
+-- pieces that are as long are as long together
+pub length-alike : {X A B : Type 0} (f : X → List A) (g : X → List B) (xs : List X) → ((n : ℕ) (x : X) → slice_get xs n ≡ Some x → length (g x) ≡ length (f x)) → length (flat_map g xs) ≡ length (flat_map f xs)
+length-alike f g [] same = refl
+length-alike f g (x ∷ xs) same =
+    length-append (g x) (flat_map g xs)
+    ∙ ap (λ n. n + length (flat_map g xs)) (same 0 x refl)
+    ∙ ap (λ n. length (f x) + n) (length-alike f g xs (λ n y at. same (suc n) y at))
     ∙ sym (length-append (f x) (flat_map f xs))
+
+pub length-singles : {X A : Type 0} (f : X → List A) (xs : List X) → ((n : ℕ) (x : X) → slice_get xs n ≡ Some x → length (f x) ≡ 1) → length (flat_map f xs) ≡ length xs
+length-singles f [] one = refl
+length-singles f (x ∷ xs) one =
+    let here = one 0 x refl in
+    let rest = length-singles f xs (λ n y at. one (suc n) y at) in
+    let both = length-append (f x) (flat_map f xs) in
+    omega (arith, here, rest, both)
+
+-- a front up to an element
+pub length_of_take : {X : Type 0} (xs : List X) (n : ℕ) (x : X) → slice_get xs n ≡ Some x → length (take n xs) ≡ n
+length_of_take [] n x at = absurd (none-some x at)
+length_of_take (z ∷ zs) zero x at = refl
+length_of_take (z ∷ zs) (suc n) x at = ap (λ m. suc m) (length_of_take zs n x at)
 
 pub mapped-at : {X Y : Type 0} (g : X → Y) (xs : List X) (n : ℕ) (x : X) → slice_get xs n ≡ Some x → slice_get (map g xs) n ≡ Some (g x)
 mapped-at g [] n x at = absurd (none-some x at)

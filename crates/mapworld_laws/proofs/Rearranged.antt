@@ -1,30 +1,28 @@
 -- Blocks that stand in another order, where each finds on its shard what it found: the replies are those of the new order too.
-use Rattle.std.proofs.Common.{◌≡◌, ℕ, suc, ◌≤◌, ◌+◌, ◌==◌, inl, inr, IsSome, List, [], ◌∷◌, ◌++◌, length, map, take, Option, Some, None, slice_get, refl, ap, sym, ◌∙◌, subst, arith}
+use Rattle.std.proofs.Common.{◌≡◌, ℕ, suc, ◌≤◌, ◌+◌, ◌==◌, inl, inr, IsSome, List, [], ◌∷◌, ◌++◌, length, map, flat_map, take, Option, Some, None, slice_get, refl, ap, sym, ◌∙◌, subst, arith}
 use Rattle.std.proofs.lemmas.List.{length-map, take-map}
 use Rattle.std.proofs.lemmas.List.Sums.{sum_by-cons}
+use Rattle.mapworld_calls.specs.declared.reply.Reply.{Reply}
+use Rattle.mapworld_calls.specs.Programs.{stop_of, saturated}
 use Rattle.mapworld_calls.specs.declared.block.Block.{Block}
-use Rattle.mapworld_calls.specs.Every.Ask.{Ask}
-use Rattle.mapworld_calls.specs.Every.Ask as ask
-use Rattle.mapworld_calls.specs.Every.Walk.{Walk}
-use Rattle.mapworld_calls.specs.Every.Walk as walk
-use Rattle.mapworld_calls.specs.Every.Answer.{Answer}
-use Rattle.mapworld_calls.specs.Every.Answer as answer
-use Rattle.mapworld_calls.specs.Every.Calls.{visit_answer}
-use Rattle.mapworld_calls.specs.Every.Setup.{Setup, Laws, ask_at, session_of, stop_of}
-use Rattle.mapworld_calls.specs.Every.Frame.{IsOn}
-use Rattle.mapworld_calls.specs.Every.Replay.{done_keys, told_by, frame_of, contents, before}
-use Rattle.mapworld_calls.specs.Every.Agrees.{Reply, IsToldBy, HasNoBlock, Visit, IsVisitOf, IsVisited, IsBelow, IsAtMost, IsWhole, AreWhole, number_of, items_of, reads_of, saturated, AreCapacities, IsWalkAnswer, IsWalked, IsRefusedWalk, IsAnsweredInSession, IsAnsweredBy, Agrees}
-use Rattle.mapworld_calls.proofs.Every.Frames.{contents-swapped}
-use Rattle.mapworld_calls.proofs.Every.Kept.{visit-shard}
-use Rattle.mapworld_calls.proofs.Every.Works.{keeps-to_shard, looks-at_shard}
+use Rattle.mapworld_calls.specs.declared.ask.Ask.{Ask}
+use Rattle.mapworld_calls.specs.declared.ask.Ask.TheVariants as ask
+use Rattle.mapworld_calls.specs.declared.ask.Walk.{Walk}
+use Rattle.mapworld_calls.specs.declared.ask.Walk.TheVariants as walk
+use Rattle.mapworld_calls.specs.declared.reply.Answer.{Answer}
+use Rattle.mapworld_calls.specs.declared.reply.Answer.TheVariants as answer
+use Rattle.mapworld_calls.specs.Calls.{visit_reads}
+use Rattle.mapworld_calls.specs.Setup.{Setup, Laws, ask_at, session_of}
+use Rattle.mapworld_calls.specs.Frame.{IsOn}
+use Rattle.mapworld_calls.specs.Replay.{done_keys, told_by, frame_of, contents, before}
+use Rattle.mapworld_calls.specs.Agrees.{IsToldBy, HasNoBlock, Visit, IsVisitOf, IsVisited, IsBelow, IsAtMost, IsWhole, AreWhole, number_of, reads_of, AreCapacities, IsWalkAnswer, IsWalked, IsRefusedWalk, IsAnsweredInSession, IsAnsweredBy, Agrees}
+use Rattle.mapworld_calls.proofs.Frames.{contents-swapped}
+use Rattle.mapworld_calls.proofs.Kept.{flat_map-same, read-kept, visit-shard}
+use Rattle.mapworld_calls.proofs.Works.{keeps-to_shard, looks-at_shard}
 use Rattle.mapworld_laws.specs.Shards.{swapped, OtherShardsCommute}
 use Rattle.mapworld_laws.proofs.Joined.{mapped-cases}
 use Rattle.mapworld_laws.proofs.Walks.{done-route}
 use Rattle.mapworld_laws.proofs.Swapped.{swapped-listed, swapped-finds}
-
-map-same : {X Y : Type 0} (g h : X → Y) (xs : List X) → ((n : ℕ) (x : X) → slice_get xs n ≡ Some x → g x ≡ h x) → map g xs ≡ map h xs
-map-same g h [] same = refl
-map-same g h (x ∷ xs) same = ap (λ y. y ∷ map g xs) (same 0 x refl) ∙ ap (λ ys. h x ∷ ys) (map-same g h xs (λ n z at. same (suc n) z at))
 
 -- the same blocks at other places
 pub record Rearranged {K V D T : Type 0} (w : Setup K V D T) (bs bs' : List (Block K)) (to : ℕ → ℕ) : Type 0 where
@@ -34,10 +32,10 @@ pub record Rearranged {K V D T : Type 0} (w : Setup K V D T) (bs bs' : List (Blo
   pub contents_stay : (q : K) → contents w bs' q ≡ contents w bs q
 
 module _ {K V D T : Type 0} (w : Setup K V D T) (laws : Laws w) (bs bs' : List (Block K)) (to : ℕ → ℕ) (re : Rearranged w bs bs' to) where
-  pub tells : (i m : ℕ) (d : Block K) → slice_get bs i ≡ Some d → told_by w m d (before w bs' (to i)) ≡ told_by w m d (before w bs i)
+  pub tells : {A : Type 0} (i m : ℕ) (d : Block K) → slice_get bs i ≡ Some d → told_by w {A = A} m d (before w bs' (to i)) ≡ told_by w m d (before w bs i)
   tells i m d at = looks-at_shard w laws m d (before w bs' (to i)) (before w bs i) (re.finds i d at)
 
-  told-moved : (t c n : ℕ) (a : Answer K V T) → IsToldBy w bs t c n a → IsToldBy w bs' t c n a
+  told-moved : {A : Type 0} (t c n : ℕ) (a : Answer K V T A) → IsToldBy w bs t c n a → IsToldBy w bs' t c n a
   told-moved t c n a h =
       record {
         place = to h.place;
@@ -82,18 +80,18 @@ module _ {K V D T : Type 0} (w : Setup K V D T) (laws : Laws w) (bs bs' : List (
     whole-moved : (n : ℕ) (v : Visit K) → IsVisitOf bs t c n v → IsWhole w bs v.place v.block → IsWhole w bs' (to v.place) v.block
     whole-moved n v is whole q on there = whole q on (subst (λ (o : Option (K × V)). IsSome o) (visit-finds n v is q on) there)
 
-    items-moved : (vs : List (Visit K)) (m : ℕ) → ((n : ℕ) (v : Visit K) → slice_get vs n ≡ Some v → IsVisitOf bs t c (m + n) v) → items_of w bs' f (map moved vs) ≡ items_of w bs f vs
-    items-moved [] m are = refl
-    items-moved (v ∷ vs) m are =
-        ap (λ ys. ys ++ items_of w bs' f (map moved vs))
-        (map-same (λ k. visit_answer w.deeds f (before w bs' (to v.place) k)) (λ k. visit_answer w.deeds f (before w bs v.place k)) (done_keys w v.block)
-        (λ n k at. ap (λ o. visit_answer w.deeds f o) (visit-finds (m + 0) v (are 0 v refl) k (done-route w v.block n k at))))
-        ∙ ap (λ ys. map (λ k. visit_answer w.deeds f (before w bs v.place k)) (done_keys w v.block) ++ ys)
-        (items-moved vs (suc m) (λ n x at. let next : m + suc n ≡ suc m + n = omega arith in subst (λ (i : ℕ). IsVisitOf bs t c i x) next (are (suc n) x at)))
+    reads-moved : (vs : List (Visit K)) (m : ℕ) → ((n : ℕ) (v : Visit K) → slice_get vs n ≡ Some v → IsVisitOf bs t c (m + n) v) → reads_of w bs' f (map moved vs) ≡ reads_of w bs f vs
+    reads-moved [] m are = refl
+    reads-moved (v ∷ vs) m are =
+        ap (λ ys. ys ++ reads_of w bs' f (map moved vs))
+        (flat_map-same (λ k. visit_reads w.deeds f (before w bs' (to v.place) k)) (λ k. visit_reads w.deeds f (before w bs v.place k)) (done_keys w v.block)
+        (λ n k at. ap (λ o. visit_reads w.deeds f o) (visit-finds (m + 0) v (are 0 v refl) k (done-route w v.block n k at))))
+        ∙ ap (λ ys. flat_map (λ k. visit_reads w.deeds f (before w bs v.place k)) (done_keys w v.block) ++ ys)
+        (reads-moved vs (suc m) (λ n x at. let next : m + suc n ≡ suc m + n = omega arith in subst (λ (i : ℕ). IsVisitOf bs t c i x) next (are (suc n) x at)))
 
     module _ (vs : List (Visit K)) (visited : IsVisited w bs t c f vs) where
-      all-items : items_of w bs' f (map moved vs) ≡ items_of w bs f vs
-      all-items = items-moved vs 0 (λ n x at. let same : n ≡ 0 + n = omega arith in subst (λ (i : ℕ). IsVisitOf bs t c i x) same (visited.are n x at))
+      all-reads : reads_of w bs' f (map moved vs) ≡ reads_of w bs f vs
+      all-reads = reads-moved vs 0 (λ n x at. let same : n ≡ 0 + n = omega arith in subst (λ (i : ℕ). IsVisitOf bs t c i x) same (visited.are n x at))
 
       each-whole : (n : ℕ) (v x : Visit K) → slice_get vs n ≡ Some v → moved v ≡ x → IsWhole w bs v.place v.block → IsWhole w bs' x.place x.block
       each-whole n v x at is whole = subst (λ (y : Visit K). IsWhole w bs' y.place y.block) is (whole-moved n v (visited.are n v at) whole)
@@ -114,9 +112,9 @@ module _ {K V D T : Type 0} (w : Setup K V D T) (laws : Laws w) (bs bs' : List (
       all-moved : AreWhole w bs vs → AreWhole w bs' (map moved vs)
       all-moved whole n v at = let x = mapped-cases moved vs n v at in each-whole n x.0 v x.1 x.2 (whole n x.0 x.1)
 
-    walk-answer : (g : Walk D) (vs : List (Visit K)) (a : Answer K V T) → items_of w bs' g (map moved vs) ≡ items_of w bs g vs → IsWalkAnswer w bs g vs a → IsWalkAnswer w bs' g (map moved vs) a
-    walk-answer (walk.Iter d s) vs a same h = h ∙ ap (λ (xs : List (Answer K V T)). answer.Reads (reads_of xs)) (sym same)
-    walk-answer (walk.IterMut d s) vs a same h = h ∙ ap (λ (xs : List (Answer K V T)). answer.Reads (reads_of xs)) (sym same)
+    walk-answer : {A : Type 0} (g : Walk D) (vs : List (Visit K)) (a : Answer K V T A) → reads_of w bs' g (map moved vs) ≡ reads_of w bs g vs → IsWalkAnswer w bs g vs a → IsWalkAnswer w bs' g (map moved vs) a
+    walk-answer (walk.Iter d s) vs a same h = read-kept (reads_of w bs (walk.Iter d s) vs) (reads_of w bs' (walk.Iter d s) (map moved vs)) a same h
+    walk-answer (walk.IterMut d s) vs a same h = read-kept (reads_of w bs (walk.IterMut d s) vs) (reads_of w bs' (walk.IterMut d s) (map moved vs)) a same h
     walk-answer (walk.Retain d) vs a same h = h
     walk-answer (walk.AlterAll d) vs a same h = h
     walk-answer walk.Clear vs a same h = h
@@ -125,7 +123,7 @@ module _ {K V D T : Type 0} (w : Setup K V D T) (laws : Laws w) (bs bs' : List (
     walk-answer walk.Capacity vs a same h = (h.0, capacities-moved vs h.0 h.1, h.2)
     walk-answer walk.ShrinkToFit vs a same h = h
 
-    walked-moved : (a : Answer K V T) → IsWalked w bs t c f a → IsWalked w bs' t c f a
+    walked-moved : {A : Type 0} (a : Answer K V T A) → IsWalked w bs t c f a → IsWalked w bs' t c f a
     walked-moved a h =
         record {
           visits = map moved h.visits;
@@ -134,7 +132,7 @@ module _ {K V D T : Type 0} (w : Setup K V D T) (laws : Laws w) (bs bs' : List (
             | inl whole ↦ inl (length-map h.visits moved ∙ whole.0, all-moved h.visits h.visited whole.1)
             | inr stop ↦ inr (stop ∙ ap Some (sym (number-moved h.visits)))
           ];
-          answered = walk-answer f h.visits a (all-items h.visits h.visited) h.answered;
+          answered = walk-answer f h.visits a (all-reads h.visits h.visited) h.answered;
         }
 
     refused-moved : IsRefusedWalk w bs t c f → IsRefusedWalk w bs' t c f
@@ -150,17 +148,17 @@ module _ {K V D T : Type 0} (w : Setup K V D T) (laws : Laws w) (bs bs' : List (
           goes_on = subst (λ (m : ℕ). IsBelow (stop_of f) m) (sym (number-moved h.visits)) h.goes_on;
         }
 
-  session-moved : (t c : ℕ) (s : Option ℕ) (a : Answer K V T) → IsAnsweredInSession w bs t c s a → IsAnsweredInSession w bs' t c s a
+  session-moved : {A : Type 0} (t c : ℕ) (s : Option ℕ) (a : Answer K V T A) → IsAnsweredInSession w bs t c s a → IsAnsweredInSession w bs' t c s a
   session-moved t c None a h = h
   session-moved t c (Some o) a h = elim h [ inl told ↦ inl (told-moved t o _ a told) | inr none ↦ inr (none.0, none-moved t o none.1) ]
 
-  answer-moved : (t c : ℕ) (x : Ask K V D) (a : Answer K V T) → ask_at w t c ≡ Some x → IsAnsweredBy w bs t c x a → IsAnsweredBy w bs' t c x a
+  answer-moved : {A : Type 0} (t c : ℕ) (x : Ask K V D) (a : Answer K V T A) → ask_at w t c ≡ Some x → IsAnsweredBy w bs t c x a → IsAnsweredBy w bs' t c x a
   answer-moved t c (ask.Keyed k) a asked h = elim h [ inl told ↦ inl (told-moved t c 0 a told) | inr none ↦ inr (none.0, none.1, none-moved t c none.2) ]
   answer-moved t c (ask.Begin b) a asked h = elim h [ inl told ↦ inl (told-moved t c 0 a told) | inr none ↦ inr (none.0, none-moved t c none.1) ]
   answer-moved t c (ask.Held g) a asked h = session-moved t c (session_of w t c) a h
   answer-moved t c (ask.Walk f) a asked h = elim h [ inl gave ↦ inl (walked-moved t c f asked a gave) | inr none ↦ inr (none.0, refused-moved t c f asked none.1) ]
 
-  pub agrees-moved : (pairs : List (K × V)) (replies : List (Reply K V T)) → Agrees w bs pairs replies → Agrees w bs' pairs replies
+  pub agrees-moved : {A : Type 0} (pairs : List (K × V)) (replies : List (Reply K V T A)) → Agrees w bs pairs replies → Agrees w bs' pairs replies
   agrees-moved pairs replies h =
       record {
         distinct = h.distinct;
@@ -170,7 +168,7 @@ module _ {K V D T : Type 0} (w : Setup K V D T) (laws : Laws w) (bs bs' : List (
             record { ask = is.ask; asked = is.asked; answered = answer-moved r.thread r.call is.ask r.answer is.asked is.answered };
       }
 
-pub other-shards_commute : {K V D T : Type 0} → OtherShardsCommute K V D T
+pub other-shards_commute : {K V D T A : Type 0} → OtherShardsCommute K V D T A
 other-shards_commute w laws front b c later apart =
     let f = frame_of w in
     let re : Rearranged w (front ++ b ∷ c ∷ later) (front ++ c ∷ b ∷ later) (swapped (length front)) =

@@ -1,8 +1,8 @@
 -- Two neighbours that change places: where each block stands, and what it finds there.
 use Rattle.std.proofs.Common.{◌≡◌, ℕ, zero, suc, List, [], ◌∷◌, ◌++◌, length, Some, slice_get, take, fold, refl, sym, subst}
 use Rattle.std.proofs.lemmas.Option.{same_Some}
-use Rattle.mapworld_calls.specs.Every.Frame.{Frame, IsOn, KeepsToShard, AreApart}
-use Rattle.mapworld_calls.proofs.Every.Frames.{apart-turned, apart-idle, contents-swapped}
+use Rattle.mapworld_calls.specs.Frame.{Frame, IsOn, KeepsToShard, AreApart}
+use Rattle.mapworld_calls.proofs.Frames.{apart-turned, apart-idle, contents-swapped}
 use Rattle.mapworld_laws.specs.Shards.{swapped}
 
 pub swapped-listed : {B : Type 0} (front : List B) (b c : B) (later : List B) (i : ℕ) (d : B) → slice_get (front ++ b ∷ c ∷ later) i ≡ Some d

@@ -1,27 +1,30 @@
 -- The visits of a walk do each key at most once, and each pair that is left alone.
-use Rattle.std.proofs.Common.{◌≡◌, ℕ, zero, suc, ◌+◌, ◌-◌, ◌<◌, ◌≤◌, ◌==◌, ◌⊎◌, ⊎_elim, true, List, [], ◌∷◌, ◌++◌, length, take, map, Option, Some, None, is_some, slice_get, IsSome, refl, ap, sym, ◌∙◌, subst, arith, eq-eqb}
+use Rattle.std.proofs.Common.{◌≡◌, ℕ, zero, suc, ◌+◌, ◌-◌, ◌<◌, ◌≤◌, ◌==◌, ◌⊎◌, ⊎_elim, true, List, [], ◌∷◌, ◌++◌, length, take, Option, Some, None, is_some, slice_get, IsSome, refl, ap, sym, ◌∙◌, subst, arith, eq-eqb}
 use Rattle.std.specs.List.{flat_map}
 use Rattle.std.proofs.lemmas.Bool.{cases_eq}
 use Rattle.std.proofs.lemmas.Option.{same_Some, none-some, slice_get_within, slice_get_cases, get_or_from_slice_get}
 use Rattle.std.proofs.lemmas.List.{take_more, take_all}
+use Rattle.mapworld_calls.specs.declared.reply.Reply.{Reply}
 use Rattle.mapworld_calls.specs.declared.block.Block.{Block}
-use Rattle.mapworld_calls.specs.Every.Ask.{Ask}
-use Rattle.mapworld_calls.specs.Every.Ask as ask
-use Rattle.mapworld_calls.specs.Every.Walk.{Walk}
-use Rattle.mapworld_calls.specs.Every.Walk as walk
-use Rattle.mapworld_calls.specs.Every.Answer.{Answer}
-use Rattle.mapworld_calls.specs.Every.Answer as answer
-use Rattle.mapworld_calls.specs.Every.Calls.{visit_answer}
-use Rattle.mapworld_calls.specs.Every.Setup.{Setup, Laws, ask_at}
-use Rattle.mapworld_calls.specs.Every.Replay.{work_of, done_keys, shard_by, left, frame_of, contents, before}
-use Rattle.mapworld_calls.specs.Every.Agrees.{Reply, Visit, IsVisitOf, IsVisited, IsWalked, IsRefusedWalk, AreWhole, number_of, items_of, reads_of, IsAnsweredBy}
-use Rattle.mapworld_calls.specs.Every.Placed.{IsVisitDone}
-use Rattle.mapworld_calls.proofs.Every.Frames.{contents-push}
-use Rattle.mapworld_calls.proofs.Every.Works.{filter-passes, keeps-to_shard, before-same}
+use Rattle.mapworld_calls.specs.declared.ask.Ask.{Ask}
+use Rattle.mapworld_calls.specs.declared.ask.Ask.TheVariants as ask
+use Rattle.mapworld_calls.specs.declared.ask.Walk.{Walk}
+use Rattle.mapworld_calls.specs.declared.ask.Walk.TheVariants as walk
+use Rattle.mapworld_calls.specs.declared.reply.Answer.TheVariants as answer
+use Rattle.mapworld_calls.specs.Deeds.{Deeds}
+use Rattle.mapworld_calls.specs.Calls.{visit_reads}
+use Rattle.mapworld_calls.specs.Setup.{Setup, Laws, ask_at}
+use Rattle.mapworld_calls.specs.Replay.{work_of, done_keys, shard_by, left, frame_of, contents, before}
+use Rattle.mapworld_calls.specs.Agrees.{Visit, IsVisitOf, IsVisited, IsWalked, IsRefusedWalk, AreWhole, number_of, reads_of, IsAnsweredBy}
+use Rattle.mapworld_calls.specs.Placed.{IsVisitDone}
+use Rattle.mapworld_calls.proofs.Frames.{contents-push}
+use Rattle.mapworld_calls.proofs.Folds.{slice_get-from_take}
+use Rattle.mapworld_calls.proofs.Works.{filter-passes, keeps-to_shard}
+use Rattle.mapworld_calls.proofs.Replays.{before-same}
 use Rattle.mapworld_laws.specs.Worlds.{IsWorld, IsBlockOf, StandsBetween, IsLeftAlone}
 use Rattle.mapworld_laws.specs.Walks.{keys_given, AreOnce, deed_read, IsGiven, GivesEachOnce, WalksGiveEachOnce, VisitsGiveEachOnce}
 use Rattle.mapworld_laws.proofs.Blocks.{own-ask, own-done, visits-rise, one-place}
-use Rattle.mapworld_laws.proofs.Joined.{joined-at, joined-cases, length-mapped, mapped-at, mapped-cases, any-at, filter-all}
+use Rattle.mapworld_laws.proofs.Joined.{joined-at, joined-cases, length-alike, length-singles, length_of_take, any-at, filter-all}
 
 module _ {K V D T : Type 0} (w : Setup K V D T) where
   -- what a key has behind the block at a place
@@ -45,30 +48,20 @@ module _ {K V D T : Type 0} (w : Setup K V D T) where
   pub done-all : (bs : List (Block K)) (i : ℕ) (b : Block K) (f : Walk D) → IsVisitDone w bs i b f → done_keys w b ≡ b.visited.items
   done-all bs i b f done = filter-all (λ k. w.route k == b.visit) b.visited.items (λ n k at. eq-eqb (w.route k) b.visit (done.routed n k at))
 
--- where all items are reads, what is read stands at the items' places
-reads-cons : {K V T : Type 0} (a : Answer K V T) (items : List (Answer K V T)) (x : T) → a ≡ answer.Read x → reads_of (a ∷ items) ≡ x ∷ reads_of items
-reads-cons a items x is = rw is refl
+module _ {D K V T : Type 0} (deeds : Deeds D K V T) where
+  -- a walk that reads reads each pair once, by its deed
+  reads-one : (g : Walk D) (d : D) → deed_read g ≡ Some d → (o : Option (K × V)) → IsSome o → length (visit_reads deeds g o) ≡ 1
+  reads-one g d is None there = absurd cc
+  reads-one (walk.Iter e stop) d is (Some p) there = refl
+  reads-one (walk.IterMut e stop) d is (Some p) there = refl
+  reads-one g d is (Some p) there = absurd (none-some d is)
 
-same_Read : {K V T : Type 0} (a : Answer K V T) (x y : T) → a ≡ answer.Read x → a ≡ answer.Read y → x ≡ y
-same_Read a x y h e = cc
+  reads-by : (g : Walk D) (d : D) → deed_read g ≡ Some d → (p : K × V) → slice_get (visit_reads deeds g (Some p)) 0 ≡ Some (deeds.answer d p.0 p.1)
+  reads-by (walk.Iter e stop) d is p = ap (λ x. Some (deeds.answer x p.0 p.1)) (same_Some e d is)
+  reads-by (walk.IterMut e stop) d is p = ap (λ x. Some (deeds.answer x p.0 p.1)) (same_Some e d is)
+  reads-by g d is p = absurd (none-some d is)
 
-reads-at : {K V T : Type 0} (items : List (Answer K V T)) (n : ℕ) (x : T) → ((m : ℕ) (a : Answer K V T) → slice_get items m ≡ Some a → (y : T) × (a ≡ answer.Read y))
-    → slice_get items n ≡ Some (answer.Read x) → slice_get (reads_of items) n ≡ Some x
-reads-at [] n x all at = absurd (none-some (answer.Read x) at)
-reads-at (a ∷ items) zero x all at =
-    let r = all 0 a refl in
-    ap (λ xs. slice_get xs 0) (reads-cons a items r.0 r.1) ∙ ap Some (same_Read a r.0 x r.1 (same_Some a (answer.Read x) at))
-reads-at (a ∷ items) (suc n) x all at =
-    let r = all 0 a refl in
-    ap (λ xs. slice_get xs (suc n)) (reads-cons a items r.0 r.1) ∙ reads-at items n x (λ m b h. all (suc m) b h) at
-
-reads-length : {K V T : Type 0} (items : List (Answer K V T)) → ((m : ℕ) (a : Answer K V T) → slice_get items m ≡ Some a → (y : T) × (a ≡ answer.Read y)) → length (reads_of items) ≡ length items
-reads-length [] all = refl
-reads-length (a ∷ items) all =
-    let r = all 0 a refl in
-    ap length (reads-cons a items r.0 r.1) ∙ ap (λ n. suc n) (reads-length items (λ m b h. all (suc m) b h))
-
-module _ {K V D T : Type 0} (w : Setup K V D T) (laws : Laws w) (bs : List (Block K)) (replies : List (Reply K V T)) (world : IsWorld w bs replies) (t c : ℕ) (f : Walk D) (asked : ask_at w t c ≡ Some (ask.Walk f)) where
+module _ {K V D T A : Type 0} (w : Setup K V D T) (laws : Laws w) (bs : List (Block K)) (replies : List (Reply K V T A)) (world : IsWorld w bs replies) (t c : ℕ) (f : Walk D) (asked : ask_at w t c ≡ Some (ask.Walk f)) where
   pub of-visit : (n : ℕ) (v : Visit K) → IsVisitOf bs t c n v → IsBlockOf bs v.place v.block t c
   of-visit n v is = record { listed = is.listed; thread = is.thread; call = is.call }
 
@@ -149,54 +142,50 @@ module _ {K V D T : Type 0} (w : Setup K V D T) (laws : Laws w) (bs : List (Bloc
       (λ x d its lt same. let rise = visits-rise w bs replies world t c x i d b its of lt in omega (arith, rise, same, on))
       (i - first) (omega (arith, from))
 
-  -- what the walk tells of a key that it visits
-  abbrev pub told_of : Visit K → K → Answer K V T
-  told_of v k = visit_answer w.deeds f (before w bs v.place k)
+  -- what the walk reads at a key that it visits, and of a visit
+  abbrev pub read_at : Visit K → K → List T
+  read_at v k = visit_reads w.deeds f (before w bs v.place k)
 
-  reads-pair : (g : Walk D) (d : D) → deed_read g ≡ Some d → (o : Option (K × V)) → IsSome o → (x : T) × (visit_answer w.deeds g o ≡ answer.Read x)
-  reads-pair g d is None there = absurd cc
-  reads-pair (walk.Iter e stop) d is (Some p) there = (w.deeds.answer e p.0 p.1, refl)
-  reads-pair (walk.IterMut e stop) d is (Some p) there = (w.deeds.answer e p.0 p.1, refl)
-  reads-pair g d is (Some p) there = absurd (none-some d is)
-
-  reads-by : (g : Walk D) (d : D) → deed_read g ≡ Some d → (p : K × V) → visit_answer w.deeds g (Some p) ≡ answer.Read (w.deeds.answer d p.0 p.1)
-  reads-by (walk.Iter e stop) d is p = ap (λ x. answer.Read (w.deeds.answer x p.0 p.1)) (same_Some e d is)
-  reads-by (walk.IterMut e stop) d is p = ap (λ x. answer.Read (w.deeds.answer x p.0 p.1)) (same_Some e d is)
-  reads-by g d is p = absurd (none-some d is)
+  abbrev pub read_by : Visit K → List T
+  read_by v = flat_map (read_at v) (done_keys w v.block)
 
   module _ (vs : List (Visit K)) (visited : IsVisited w bs t c f vs) where
-    item-read : (d : D) → deed_read f ≡ Some d → (v : Visit K) (k : K) (a : Answer K V T) → told_of v k ≡ a → IsSome (before w bs v.place k) → (x : T) × (a ≡ answer.Read x)
-    item-read d is v k a same there =
-        let r = reads-pair f d is (before w bs v.place k) there in
-        (r.0, sym same ∙ r.1)
+    read-one : (d : D) → deed_read f ≡ Some d → (n : ℕ) (v : Visit K) → slice_get vs n ≡ Some v → (m : ℕ) (k : K) → slice_get (done_keys w v.block) m ≡ Some k → length (read_at v k) ≡ 1
+    read-one d is n v at m k inside =
+        reads-one w.deeds f d is (before w bs v.place k) (done-there v.place v.block (of-visit n v (visited.are n v at)) m k inside)
 
-    items-read : (d : D) → deed_read f ≡ Some d → (n : ℕ) (a : Answer K V T) → slice_get (items_of w bs f vs) n ≡ Some a → (x : T) × (a ≡ answer.Read x)
-    items-read d is n a at =
-        let p = joined-cases (λ v. map (told_of v) (done_keys w v.block)) vs n a at in
-        let k = mapped-cases (told_of p.whole) (done_keys w p.whole.block) p.inner a p.inside in
-        let of = of-visit p.piece p.whole (visited.are p.piece p.whole p.at) in
-        item-read d is p.whole k.0 a k.2 (done-there p.whole.place p.whole.block of p.inner k.0 k.1)
+    read-each : (d : D) → deed_read f ≡ Some d → (n : ℕ) (v : Visit K) → slice_get vs n ≡ Some v → length (read_by v) ≡ length (done_keys w v.block)
+    read-each d is n v at = length-singles (read_at v) (done_keys w v.block) (read-one d is n v at)
 
-    pub reads-as_many : (d : D) → deed_read f ≡ Some d → length (reads_of (items_of w bs f vs)) ≡ length (keys_given w vs)
-    reads-as_many d is = reads-length (items_of w bs f vs) (items-read d is) ∙ length-mapped (λ v. done_keys w v.block) told_of vs
+    pub reads-as_many : (d : D) → deed_read f ≡ Some d → length (reads_of w bs f vs) ≡ length (keys_given w vs)
+    reads-as_many d is = length-alike (λ v. done_keys w v.block) read_by vs (read-each d is)
 
-    -- a key that a visit has done was given, with what the walk tells of the pair that it had there
+    -- what was read of a key that a visit has done stands where the key does
+    read-inside : (d : D) → deed_read f ≡ Some d → (n m : ℕ) (v : Visit K) (k : K) (p : K × V) → slice_get vs n ≡ Some v → slice_get (done_keys w v.block) m ≡ Some k → before w bs v.place k ≡ Some p
+        → slice_get (read_by v) m ≡ Some (w.deeds.answer d p.0 p.1)
+    read-inside d is n m v k p at inside there =
+        let front : length (flat_map (read_at v) (take m (done_keys w v.block))) + 0 ≡ m =
+        let singles = length-singles (read_at v) (take m (done_keys w v.block)) (λ j q here. read-one d is n v at j q (slice_get-from_take (done_keys w v.block) j m q here)) in
+        let short = length_of_take (done_keys w v.block) m k inside in
+        omega (arith, singles, short) in
+        ap (λ x. slice_get (read_by v) x) (sym front)
+        ∙ joined-at (read_at v) (done_keys w v.block) m 0 k (w.deeds.answer d p.0 p.1) inside
+        (ap (λ o. slice_get (visit_reads w.deeds f o) 0) there ∙ reads-by w.deeds f d is p)
+
+    -- a key that a visit has done was given, with the pair that it had there
     pub given-at : (n m : ℕ) (v : Visit K) (k q : K) (p : K × V) → slice_get vs n ≡ Some v → slice_get (done_keys w v.block) m ≡ Some k → w.eq k q ≡ true → before w bs v.place q ≡ Some p
         → IsGiven w bs f vs q p
     given-at n m v k q p at inside same there =
-        let told : told_of v k ≡ visit_answer w.deeds f (Some p) = ap (λ o. visit_answer w.deeds f o) (before-same w laws bs v.place k q same ∙ there) in
-        let place = length (flat_map (λ v. done_keys w v.block) (take n vs)) + m in
-        let item : slice_get (items_of w bs f vs) place ≡ Some (visit_answer w.deeds f (Some p)) =
-        ap (λ x. slice_get (items_of w bs f vs) (x + m)) (sym (length-mapped (λ v. done_keys w v.block) told_of (take n vs)))
-        ∙ joined-at (λ v. map (told_of v) (done_keys w v.block)) vs n m v (told_of v k) at (mapped-at (told_of v) (done_keys w v.block) m k inside)
-        ∙ ap Some told in
         record {
-          place = place;
+          place = length (flat_map (λ v. done_keys w v.block) (take n vs)) + m;
           key = k;
           listed = joined-at (λ v. done_keys w v.block) vs n m v k at inside;
           same = same;
-          item = item;
-          read = λ d is. reads-at (items_of w bs f vs) place (w.deeds.answer d p.0 p.1) (items-read d is) (item ∙ ap Some (reads-by f d is p));
+          read = λ d is.
+              ap (λ x. slice_get (reads_of w bs f vs) (x + m))
+              (sym (length-alike (λ v. done_keys w v.block) read_by (take n vs) (λ j u here. read-each d is j u (slice_get-from_take vs j n u here))))
+              ∙ joined-at read_by vs n m v (w.deeds.answer d p.0 p.1) at
+              (read-inside d is n m v k p at inside (before-same w laws bs v.place k q same ∙ there));
         }
 
     -- a walk that visits its shard to the end gives a pair that is left alone
@@ -211,7 +200,7 @@ module _ {K V D T : Type 0} (w : Setup K V D T) (laws : Laws w) (bs : List (Bloc
             let key = any-at (λ k. w.eq k q) (done_keys w v.block) (whole (w.route q) v at q (sym is.visit) (ap is_some now)) in
             given-at (w.route q) key.0 v key.1 q p at key.2 key.3 now
 
-pub visits-once : {K V D T : Type 0} → VisitsGiveEachOnce K V D T
+pub visits-once : {K V D T A : Type 0} → VisitsGiveEachOnce K V D T A
 visits-once {K} w laws bs replies world t c f asked i j m n b d p q first second hp hq e =
     let visits : b.visit ≡ d.visit = sym (done-route w b m p hp) ∙ laws.routes p q e ∙ done-route w d n q hq in
     let places : i ≡ j = one-place w bs replies world t c i j b d first second visits in
@@ -219,13 +208,13 @@ visits-once {K} w laws bs replies world t c f asked i j m n b d p q first second
     (places, done-once w laws bs replies world t c f asked i b first m n p q hp (ap (λ (x : Block K). slice_get (done_keys w x) n) (sym blocks) ∙ hq) e)
 
 -- an answered walk that wasn't refused has ended
-pub walked : {K V D T : Type 0} (w : Setup K V D T) (bs : List (Block K)) (replies : List (Reply K V T)) → IsWorld w bs replies → (i : ℕ) (r : Reply K V T) → slice_get replies i ≡ Some r → (f : Walk D)
+pub walked : {K V D T A : Type 0} (w : Setup K V D T) (bs : List (Block K)) (replies : List (Reply K V T A)) → IsWorld w bs replies → (i : ℕ) (r : Reply K V T A) → slice_get replies i ≡ Some r → (f : Walk D)
     → ask_at w r.thread r.call ≡ Some (ask.Walk f) → IsWalked w bs r.thread r.call f r.answer ⊎ ((r.answer ≡ answer.NoMemory) × IsRefusedWalk w bs r.thread r.call f)
 walked w bs replies world i r at f asked =
     let h = world.agrees.replies_are i r at in
     subst (λ (a : Ask _ _ _). IsAnsweredBy w bs r.thread r.call a r.answer) (same_Some h.ask (ask.Walk f) (sym h.asked ∙ asked)) h.answered
 
-pub walks-once : {K V D T : Type 0} → WalksGiveEachOnce K V D T
+pub walks-once : {K V D T A : Type 0} → WalksGiveEachOnce K V D T A
 walks-once {K} {V} {D} {T} w laws bs replies world i r at answered f asked =
     ⊎_elim gave (λ refused. absurd (answered refused.0)) (walked w bs replies world i r at f asked)
   where

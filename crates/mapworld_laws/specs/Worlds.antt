@@ -1,13 +1,14 @@
 -- A world of maps as the laws see it: nothing of how it is stepped.
 use Rattle.std.specs.Prelude.{◌≡◌, ℕ, ◌<◌, ◌≤◌, List, Option, Some, slice_get}
+use Rattle.mapworld_calls.specs.declared.reply.Reply.{Reply}
 use Rattle.mapworld_calls.specs.declared.block.Block.{Block}
-use Rattle.mapworld_calls.specs.Every.Setup.{Setup}
-use Rattle.mapworld_calls.specs.Every.Replay.{left, before}
-use Rattle.mapworld_calls.specs.Every.Agrees.{Reply, Agrees}
-use Rattle.mapworld_calls.specs.Every.Placed.{WellPlaced}
+use Rattle.mapworld_calls.specs.Setup.{Setup}
+use Rattle.mapworld_calls.specs.Replay.{left, before}
+use Rattle.mapworld_calls.specs.Agrees.{Agrees}
+use Rattle.mapworld_calls.specs.Placed.{WellPlaced}
 
 -- a world whose blocks are well placed, and whose contents and replies are those of its blocks
-pub record IsWorld {K V D T : Type 0} (w : Setup K V D T) (bs : List (Block K)) (replies : List (Reply K V T)) : Type 0 where
+pub record IsWorld {K V D T A : Type 0} (w : Setup K V D T) (bs : List (Block K)) (replies : List (Reply K V T A)) : Type 0 where
   pub steps : List ℕ
   pub started : ℕ → Option ℕ
   pub pairs : List (K × V)

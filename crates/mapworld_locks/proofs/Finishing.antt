@@ -1,5 +1,5 @@
 -- How a call ends that is only to be answered, and that its answer changes nobody's hold.
-use Rattle.std.proofs.Common.{◌≡◌, ℕ, inl, inr, Bool, true, false, List, Option, Some, None, slice_get, refl, sym, ap, ◌∙◌, subst}
+use Rattle.std.proofs.Common.{◌≡◌, ◌⊎◌, ℕ, inl, inr, Bool, true, false, List, Option, Some, None, slice_get, refl, sym, ap, ◌∙◌, subst}
 use Rattle.std.specs.Option.{option_and_then, option_map}
 use Rattle.std.proofs.lemmas.Bool.{cases_eq, false≢true}
 use Rattle.std.proofs.lemmas.Option.{slice_get_within}
@@ -129,6 +129,14 @@ ends_patient aim trying answer o h m e calm = by answer (subst (λ a. EndsSo a t
     by CoreAnswer.Refused k = absurd (false≢true (sym calm ∙ k.0))
     by CoreAnswer.Released k = absurd k
 
+ends_settled : (aim : Aim) (trying : Bool) (answer : CoreAnswer) (o : Option Mode) → EndsSo aim trying answer o → (m : Mode) → aim ≡ Gets m → (answer ≡ CoreAnswer.Owned) ⊎ (answer ≡ CoreAnswer.Refused)
+ends_settled aim trying answer o h m e = by answer (subst (λ a. EndsSo a trying answer o) e h)
+  where
+    by : (a : CoreAnswer) → EndsSo (Gets m) trying a o → (a ≡ CoreAnswer.Owned) ⊎ (a ≡ CoreAnswer.Refused)
+    by CoreAnswer.Owned k = inl refl
+    by CoreAnswer.Refused k = inr refl
+    by CoreAnswer.Released k = absurd k
+
 module _ (laws : StepsAreCases) (old : Shown) (fit : LocksFit old) (t : ℕ) (rows : Rows) (answer : CoreAnswer) (x : IsStepped t false (Some answer) (state old.rows) (state rows)) where
   abbrev s : State
   s = state old.rows
@@ -176,6 +184,7 @@ module _ (laws : StepsAreCases) (old : Shown) (fit : LocksFit old) (t : ℕ) (ro
     holds = holds;
     owned = ends_owned (core_aim c.core) (core_tries c.core) answer (held_at u c.lock t) how;
     patient = ends_patient (core_aim c.core) (core_tries c.core) answer (held_at u c.lock t) how;
+    settled = ends_settled (core_aim c.core) (core_tries c.core) answer (held_at u c.lock t) how;
     refused = ends_refused (core_aim c.core) (core_tries c.core) answer (held_at u c.lock t) how;
     freed = λ m e. subst (λ a. EndsSo a (core_tries c.core) answer (held_at u c.lock t)) e how;
     turned = λ e. subst (λ a. EndsSo a (core_tries c.core) answer (held_at u c.lock t)) e how;

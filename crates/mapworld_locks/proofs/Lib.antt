@@ -10,12 +10,12 @@ mod Counting
 mod Admitting
 mod Moving
 mod Taken
-mod Keeping
+pub mod Keeping
 pub mod Together
 mod Ending
-mod Answering
+pub mod Answering
 mod Standing
-mod Beginning
+pub mod Beginning
 mod Stepping
 mod Following
 mod Finishing

@@ -84,6 +84,7 @@ pub record LockEnds (t : ℕ) (answer : CoreAnswer) (old new : Shown) : Type 0 w
   -- it holds what it was about, unless it was refused: only a try is
   pub owned : (m : Mode) → stand.aim ≡ Gets m → answer ≡ Owned → owner_in new stand.shard t ≡ Some m
   pub patient : (m : Mode) → stand.aim ≡ Gets m → stand.trying ≡ false → answer ≡ Owned
+  pub settled : (m : Mode) → stand.aim ≡ Gets m → (answer ≡ Owned) ⊎ (answer ≡ Refused)
   pub refused : (m : Mode) → stand.aim ≡ Gets m → answer ≡ Refused → owner_in new stand.shard t ≡ None
   pub freed : (m : Mode) → stand.aim ≡ GivesUp m → owner_in new stand.shard t ≡ None
   pub turned : stand.aim ≡ Turns → owner_in new stand.shard t ≡ Some held.Shared

@@ -24,13 +24,13 @@ use Rattle.mapworld_state.specs.Places.{Place, place_of}
 use Rattle.mapworld_state.specs.State.{State, threads_of}
 use Rattle.mapworld_state.specs.Shards.{ShardPairs, shard_pairs, has_room}
 use Rattle.mapworld_state.specs.Moves.{lent_way, vacant_key, stepped}
-use Rattle.mapworld_state.specs.Sound.{Sound, Claim, GuardIs, HasPairs, IsInSession, IsOnItsWay, IsBeforeDeed, IsReleasing, is_resting}
+use Rattle.mapworld_state.specs.Sound.{Sound, Claim, Walks, GuardIs, HasPairs, IsInSession, IsOnItsWay, IsBeforeDeed, IsReleasing, is_resting}
 use Rattle.mapworld_state.specs.Core.{state_of, IsBefore}
 use Rattle.mapworld_state.proofs.Views.{view-from}
 use Rattle.mapworld_moves.specs.Listing.{CanCount}
 
 -- the place that was read at the thread's number
-module _ {K V D T : Type 0} {places : List (Place K V D T)} {t : ℕ} {ph : Phase K V D T} (b : IsBefore places t ph) (r : Place K V D T) (read : r ≡ get_or places t r) where
+module _ {K V D T A : Type 0} {places : List (Place K V D T A)} {t : ℕ} {ph : Phase K V D T A} (b : IsBefore places t ph) (r : Place K V D T A) (read : r ≡ get_or places t r) where
   pub read_is : r ≡ b.place
   read_is = read ∙ get_or_from_slice_get places t b.place r b.stands
 
@@ -38,10 +38,10 @@ module _ {K V D T : Type 0} {places : List (Place K V D T)} {t : ℕ} {ph : Phas
   stands_here = subst (λ q. slice_get places t ≡ Some q) (sym read_is) b.stands
 
   pub phase_here : r.phase ≡ ph
-  phase_here = subst (λ (q : Place K V D T). q.phase ≡ ph) (sym read_is) b.before
+  phase_here = subst (λ (q : Place K V D T A). q.phase ≡ ph) (sym read_is) b.before
 
 -- so of the place that the code keeps
-module _ {K V D T A : Type 0} (places : List (KeptPlace K V D T A)) {t : ℕ} {ph : Phase K V D T} (b : IsBefore (map place_of places) t ph) (r : KeptPlace K V D T A) (read : r ≡ get_or places t r) where
+module _ {K V D T A : Type 0} (places : List (KeptPlace K V D T A)) {t : ℕ} {ph : Phase K V D T A} (b : IsBefore (map place_of places) t ph) (r : KeptPlace K V D T A) (read : r ≡ get_or places t r) where
   kept-is : (slice_get places t ≡ Some r) × (place_of r ≡ b.place)
   kept-is =
       let v = view-from place_of places t b.place b.stands in
@@ -56,15 +56,18 @@ module _ {K V D T A : Type 0} (places : List (KeptPlace K V D T A)) {t : ℕ} {p
   seen-here = b.stands ∙ ap (λ z. Some z) (sym kept-is.1)
 
   pub kept-phase : r.phase ≡ ph
-  kept-phase = ap (λ (z : Place K V D T). z.phase) kept-is.1 ∙ b.before
+  kept-phase = ap (λ (z : Place K V D T A). z.phase) kept-is.1 ∙ b.before
 
 -- what was read at an index at which an element is known
 pub read_at : {X : Type 0} (xs : List X) (i : ℕ) (x r : X) → slice_get xs i ≡ Some x → r ≡ get_or xs i r → r ≡ x
 read_at xs i x r h e = e ∙ get_or_from_slice_get xs i x r h
 
-module _ {K V S D T : Type 0} {x : Setup K V D T} {w : State K V S D T} (sound : Sound x w) (t : ℕ) (p : Place K V D T) (here : slice_get w.places t ≡ Some p) {ph : Phase K V D T} (before : p.phase ≡ ph) where
+module _ {K V S D T A : Type 0} {x : Setup K V D T} {w : State K V S D T A} (sound : Sound x w) (t : ℕ) (p : Place K V D T A) (here : slice_get w.places t ≡ Some p) {ph : Phase K V D T A} (before : p.phase ≡ ph) where
   pub claim_at : Claim x (threads_of w) w.blocks w.tables t p ph
   claim_at = subst (λ f. Claim x (threads_of w) w.blocks w.tables t p f) before (sound.stands t p here).claim
+
+  pub walks_at : Walks x w.blocks w.tables t p ph
+  walks_at = subst (λ f. Walks x w.blocks w.tables t p f) before (sound.stands t p here).walks
 
   -- a call that has started is one of a program
   pub call_fits : is_resting ph ≡ false → p.next + 1 ≤ sum_by length x.programs
@@ -92,7 +95,7 @@ pub kept_block : (closes : Bool) (block : Option ℕ) (i : ℕ) → (if closes t
 kept_block true block i e = absurd (none-some i e)
 kept_block false block i e = e
 
-module _ {K V D T : Type 0} (x : Setup K V D T) (bs : List (Block K)) (tables : List (ShardPairs K V)) (t : ℕ) (p : Place K V D T) where
+module _ {K V D T A : Type 0} (x : Setup K V D T) (bs : List (Block K)) (tables : List (ShardPairs K V)) (t : ℕ) (p : Place K V D T A) where
   -- the block of a session is of an earlier call than that
   pub session_counts : (n : ℕ) (session block : Option ℕ) → IsInSession x bs tables t p n session block → CanCount bs block n
   session_counts n None block h i e = absurd (none-some i (sym h.1 ∙ e))
@@ -116,13 +119,13 @@ module _ {K V D T : Type 0} (x : Setup K V D T) (bs : List (Block K)) (tables : 
   deed_counts key o d i e =
       (d.block, subst (λ k. slice_get bs k ≡ Some d.block) (same_Some d.index i (sym d.mine ∙ e)) d.listed, omega (arith, d.call))
 
-  pub release_counts : (a : Ask K V D) (r : Answer K V T) (g : Option (Guard K)) → IsReleasing x bs tables t p a r g
+  pub release_counts : (a : Ask K V D) (r : Answer K V T A) (g : Option (Guard K)) → IsReleasing x bs tables t p a r g
       → CanCount bs (if is_some g then p.block else None) p.next
   release_counts a r None h i e = absurd (none-some i e)
   release_counts a r (Some s) h i e = session_counts p.next _ p.block h.2 i e
 
 -- a thread on its way to a pair has the number of a shard
-pub way_fits : {K V S D T : Type 0} {x : Setup K V D T} {w : State K V S D T} (sound : Sound x w) (p : Place K V D T) (key : K) → IsOnItsWay x p key → p.shard < length w.tables
+pub way_fits : {K V S D T A : Type 0} {x : Setup K V D T} {w : State K V S D T A} (sound : Sound x w) (p : Place K V D T A) (key : K) → IsOnItsWay x p key → p.shard < length w.tables
 way_fits {w = w} sound p key h = subst (λ n. n < length w.tables) (sym h.shard) (sound.routes key)
 
 -- the table that was read at a shard's number
@@ -133,8 +136,8 @@ module _ {K V : Type 0} (tables : List (ShardPairs K V)) (shard : ℕ) (r : Shar
       (subst (λ v. slice_get tables shard ≡ Some v) (sym same) h.held, subst IsSo (sym same) h.so)
 
 -- the block that a release counts its call in
-pub release_listed : {K V S D T : Type 0} {x : Setup K V D T} {w : State K V S D T} (sound : Sound x w) (t : ℕ) (p : Place K V D T) → slice_get w.places t ≡ Some p
-    → (r : Answer K V T) → p.phase ≡ phase.Release r → CanCount w.blocks (if is_some p.guard then p.block else None) p.next
+pub release_listed : {K V S D T A : Type 0} {x : Setup K V D T} {w : State K V S D T A} (sound : Sound x w) (t : ℕ) (p : Place K V D T A) → slice_get w.places t ≡ Some p
+    → (r : Answer K V T A) → p.phase ≡ phase.Release r → CanCount w.blocks (if is_some p.guard then p.block else None) p.next
 release_listed {x = x} {w = w} sound t p here r before =
     let claim = claim_at sound t p here before in
     release_counts x w.blocks w.tables t p claim.0 r p.guard claim.4
@@ -162,14 +165,14 @@ module _ {K V : Type 0} (tables : List (Table K V)) (i : ℕ) (IsSo : ShardPairs
       (subst (λ (z : Table K V). slice_get tables i ≡ Some z) (sym same) v.1, subst IsSo (sym v.2 ∙ ap shard_pairs (sym same)) has.so)
 
 -- the world behind a step that leaves its thread there, with these shards
-pub stepped-by : {K V S D T A : Type 0} (c : Core K V S D T A) (s : Step) (p : KeptPlace K V D T A) (q : Place K V D T) (steps : List Step) (tables : List (Table K V)) (seen : List (ShardPairs K V)) (locks : Shown) (blocks : List (Block K)) (replies : List (Reply K V T))
+pub stepped-by : {K V S D T A : Type 0} (c : Core K V S D T A) (s : Step) (p : KeptPlace K V D T A) (q : Place K V D T A) (steps : List Step) (tables : List (Table K V)) (seen : List (ShardPairs K V)) (locks : Shown) (blocks : List (Block K)) (replies : List (Reply K V T A))
     → steps ≡ c.steps.items ++ s ∷ [] → place_of p ≡ q → map shard_pairs tables ≡ seen
-    → ◌≡◌ {A = State K V S D T} (record (state_of c) { steps = steps; places = map place_of (slice_set c.places.items s.thread p); tables = map shard_pairs tables; locks = locks; blocks = blocks; replies = replies })
+    → ◌≡◌ {A = State K V S D T A} (record (state_of c) { steps = steps; places = map place_of (slice_set c.places.items s.thread p); tables = map shard_pairs tables; locks = locks; blocks = blocks; replies = replies })
     (record (stepped (state_of c) s q) { tables = seen; locks = locks; blocks = blocks; replies = replies })
-stepped-by {K} {V} {S} {D} {T} c s p q steps tables seen locks blocks replies more stands sees =
+stepped-by {K} {V} {S} {D} {T} {A} c s p q steps tables seen locks blocks replies more stands sees =
     by steps (map place_of (slice_set c.places.items s.thread p)) (map shard_pairs tables) more (map-set place_of c.places.items s.thread p ∙ ap (slice_set (state_of c).places s.thread) stands) sees
   where
-    by : (ss : List Step) (ps : List (Place K V D T)) (ts : List (ShardPairs K V)) → ss ≡ c.steps.items ++ s ∷ [] → ps ≡ slice_set (state_of c).places s.thread q → ts ≡ seen
-        → ◌≡◌ {A = State K V S D T} (record (state_of c) { steps = ss; places = ps; tables = ts; locks = locks; blocks = blocks; replies = replies })
+    by : (ss : List Step) (ps : List (Place K V D T A)) (ts : List (ShardPairs K V)) → ss ≡ c.steps.items ++ s ∷ [] → ps ≡ slice_set (state_of c).places s.thread q → ts ≡ seen
+        → ◌≡◌ {A = State K V S D T A} (record (state_of c) { steps = ss; places = ps; tables = ts; locks = locks; blocks = blocks; replies = replies })
         (record (stepped (state_of c) s q) { tables = seen; locks = locks; blocks = blocks; replies = replies })
     by ss ps ts e1 e2 e3 = rw (e1, e2, e3) refl

@@ -114,7 +114,7 @@ pub some-at : {X : Type 0} (P : X → Type 0) (o : Option X) (x : X) → o ≡ S
 some-at P o x is h = subst (λ z. IfSome z P) (sym is) h
 
 -- behind a change the place looks for nothing
-pub changed-free : {K V D T : Type 0} (f : Phase K V D T) (ends : Bool) (a : Answer K V T) → f ≡ changed_phase ends a → phase_key f ≡ None
+pub changed-free : {K V D T A : Type 0} (f : Phase K V D T A) (ends : Bool) (a : Answer K V T A) → f ≡ changed_phase ends a → phase_key f ≡ None
 changed-free f true a e = ap phase_key e
 changed-free f false a e = ap phase_key e
 
@@ -130,7 +130,7 @@ held-stays deeds (held.ReplaceEntry v) (way.Occupied j) is k e p = absurd (none-
 held-stays deeds call kind is k e p = absurd (cc)
 
 -- the key that an entry's guard has is equal to each that is equal to the session's
-pub handed-equal : {K V S D T : Type 0} (x : Setup K V D T) (w : State K V S D T) (sound : Sound x w) (t : ℕ) (p : Place K V D T) (kind : Way K) (own : Guards x w sound t p (guard.Pair kind)) (e : K)
+pub handed-equal : {K V S D T A : Type 0} (x : Setup K V D T) (w : State K V S D T A) (sound : Sound x w) (t : ℕ) (p : Place K V D T A) (kind : Way K) (own : Guards x w sound t p (guard.Pair kind)) (e : K)
     → x.eq e own.key ≡ true → (k : K) → kind ≡ way.Occupied k → x.eq e k ≡ true
 handed-equal x w sound t p kind own e equal k is =
     ap (x.eq e) (handed-way own.key kind own.guard_is.0 k is (subst (Handed own.key) own.guard_is.1 own.handed)) ∙ equal

@@ -20,7 +20,7 @@ use Rattle.dashmap_table.proofs.Finding.{slot_of-is, slot_of-none}
 use Rattle.dashmap_table.proofs.Sounds.{length-pairs_of}
 use Rattle.dashmap_table.proofs.Effects.{finds-added, each-same, each-added}
 use Rattle.mapworld_calls.specs.Pairs.{has_key, pair_of, AreDistinct}
-use Rattle.mapworld_state.specs.Shards.{shard_pairs, number_of, used, Puts, Grown}
+use Rattle.mapworld_state.specs.Shards.{shard_pairs, number_of, used, Puts, Grown, Shrunk}
 use Rattle.mapworld_state.specs.Slots.{HasHashes, HasKeyAt, key_hash}
 use Rattle.mapworld_state.proofs.Finds.{find_at_position, find-None, find-None_from}
 use Rattle.mapworld_state.proofs.Tables.{pair_of-at, pair_of-put, AreDistinct-put, pair_of-remove, AreDistinct-remove}
@@ -28,25 +28,41 @@ use Rattle.mapworld_moves.specs.Slots.{LeavesAt, HashesAlike}
 
 module _ {K V : Type 0} where
   -- how many pairs stand in the slots before one
-  abbrev rank : List (Option (Entry K V)) → ℕ → ℕ
+  abbrev pub rank : List (Option (Entry K V)) → ℕ → ℕ
   rank [] j = 0
   rank (x ∷ xs) zero = 0
   rank (None ∷ xs) (suc j) = rank xs j
   rank (Some e ∷ xs) (suc j) = suc (rank xs j)
 
   -- a slot's pair stands in the list, and what stands in the list has a slot
-  pairs-have : (xs : List (Option (Entry K V))) (j : ℕ) (e : Entry K V) → at xs j ≡ Some e → slice_get (pairs_of xs) (rank xs j) ≡ Some (entry_pair e)
+  pub pairs-have : (xs : List (Option (Entry K V))) (j : ℕ) (e : Entry K V) → at xs j ≡ Some e → slice_get (pairs_of xs) (rank xs j) ≡ Some (entry_pair e)
   pairs-have [] j e here = absurd (none-some e here)
   pairs-have (None ∷ xs) zero e here = absurd (none-some e here)
   pairs-have (None ∷ xs) (suc j) e here = pairs-have xs j e here
   pairs-have (Some d ∷ xs) zero e here = ap (λ (z : Entry K V). Some (entry_pair z)) (same_Some d e here)
   pairs-have (Some d ∷ xs) (suc j) e here = pairs-have xs j e here
 
-  pairs-from : (xs : List (Option (Entry K V))) (i : ℕ) (p : K × V) → slice_get (pairs_of xs) i ≡ Some p → (j : ℕ) × (e : Entry K V) × (at xs j ≡ Some e) × (entry_pair e ≡ p) × (rank xs j ≡ i)
+  pub pairs-from : (xs : List (Option (Entry K V))) (i : ℕ) (p : K × V) → slice_get (pairs_of xs) i ≡ Some p → (j : ℕ) × (e : Entry K V) × (at xs j ≡ Some e) × (entry_pair e ≡ p) × (rank xs j ≡ i)
   pairs-from [] i p h = absurd (none-some p h)
   pairs-from (None ∷ xs) i p h = let r = pairs-from xs i p h in (suc r.0, r.1, r.2, r.3, r.4)
   pairs-from (Some d ∷ xs) zero p h = (0, d, refl, same_Some (entry_pair d) p h, refl)
   pairs-from (Some d ∷ xs) (suc i) p h = let r = pairs-from xs i p h in (suc r.0, r.1, r.2, r.3, ap suc r.4)
+
+  -- two full slots before which there are as many pairs are one
+  rank-same : (xs : List (Option (Entry K V))) (i j : ℕ) (d e : Entry K V) → at xs i ≡ Some d → at xs j ≡ Some e → rank xs i ≡ rank xs j → i ≡ j
+  rank-same [] i j d e a b same = absurd (none-some d a)
+  rank-same (None ∷ xs) zero j d e a b same = absurd (none-some d a)
+  rank-same (None ∷ xs) (suc i) zero d e a b same = absurd (none-some e b)
+  rank-same (None ∷ xs) (suc i) (suc j) d e a b same = ap suc (rank-same xs i j d e a b same)
+  rank-same (Some c ∷ xs) zero zero d e a b same = refl
+  rank-same (Some c ∷ xs) zero (suc j) d e a b same = absurd (omega (arith, same))
+  rank-same (Some c ∷ xs) (suc i) zero d e a b same = absurd (omega (arith, same))
+  rank-same (Some c ∷ xs) (suc i) (suc j) d e a b same = ap suc (rank-same xs i j d e a b (omega (arith, same)))
+
+  -- of distinct keys each has one slot
+  pub one-slot : (eq : K → K → Bool) (xs : List (Option (Entry K V))) → AreDistinct eq (pairs_of xs) → (i j : ℕ) (d e : Entry K V) → at xs i ≡ Some d → at xs j ≡ Some e → eq d.key e.key ≡ true → i ≡ j
+  one-slot eq xs distinct i j d e a b same =
+      rank-same xs i j d e a b (distinct (rank xs i) (rank xs j) (entry_pair d) (entry_pair e) (pairs-have xs i d a) (pairs-have xs j e b) same)
 
   -- a slot that gets another pair, and one that is freed
   pairs-put : (xs : List (Option (Entry K V))) (i : ℕ) (d e : Entry K V) → at xs i ≡ Some d → pairs_of (slice_set xs i (Some e)) ≡ slice_set (pairs_of xs) (rank xs i) (entry_pair e)
@@ -289,6 +305,20 @@ module _ {K V : Type 0} (eq : K → K → Bool) (laws : IsEquivalence eq) where
           distinct = distinct-pairs new sound.distinct now;
           counted = omega (arith, before, after, counted);
           room = omega (arith, enough, before);
+        }
+
+    -- the same pairs, with no more room
+    pub shrunk-same : (old new : Table K V) → HasHashes hash old → IsSound eq new → SamePairs eq old new → new.room ≤ old.room → Shrunk eq (shard_pairs old) (shard_pairs new)
+    shrunk-same old new hashed sound same room =
+        let now = each-same eq laws (λ h k. h ≡ hash k) old new sound same hashed in
+        let before = length-pairs_of old.slots in
+        let after = length-pairs_of new.slots in
+        let counted = same.counted in
+        record {
+          found = λ q. pair-of_entry new now q ∙ (ap (option_map entry_pair) (same.found (hash q) q) ∙ sym (pair-of_entry old hashed q));
+          distinct = distinct-pairs new sound.distinct now;
+          counted = omega (arith, before, after, counted);
+          room = room;
         }
 
 -- equal keys write the same into a hasher, so they have one hash

@@ -1,7 +1,7 @@
 //! What steps do to the list of blocks.
-ghost use Rattle.std.specs.Prelude.{◌≡◌, ℕ, ◌+◌, ◌<◌, ◌^◌, length, vec_len, vec_capacity};
-ghost use Rattle.mapworld_state.specs.Moves.{CountsCall, EndsBlock};
-ghost use Rattle.mapworld_moves.specs.Listing.{CanCount, AddsBlock};
+ghost use Rattle.std.specs.Prelude.{◌≡◌, ℕ, ◌+◌, ◌<◌, ◌^◌, length, Some, slice_get, vec_len, vec_capacity};
+ghost use Rattle.mapworld_state.specs.Moves.{CountsCall, EndsBlock, EndsVisits, EndsCall, VisitsKey};
+ghost use Rattle.mapworld_moves.specs.Listing.{CanCount, AddsBlock, AddsVisit};
 
 use mapworld_calls::Block;
 use past::Past;
@@ -28,7 +28,7 @@ pub fn count_in<K: Drop, A: Allocator>(
 }
 
 /// Ends the block's call, if the block is that call's.
-pub fn end_block<K: Drop, A: Allocator>(
+fn end_block<K: Drop, A: Allocator>(
     blocks: &mut Vec<Block<K>, A>,
     index: Option<usize>,
     call: usize,
@@ -47,6 +47,39 @@ pub fn end_block<K: Drop, A: Allocator>(
     }
 }
 
+/// Ends the blocks of a walk's visits.
+fn end_visits<K: Drop, A: Allocator>(blocks: &mut Vec<Block<K>, A>, visits: &[usize], end: u64)
+    requires { (m i : ℕ) → slice_get visits.now m ≡ Some i → i < length blocks.old.items }
+    ensures ended { EndsVisits blocks.old.items visits.now end blocks.new.items }
+    ensures len { length blocks.new.items ≡ length blocks.old.items }
+    ensures capacity { vec_capacity blocks.new ≡ vec_capacity blocks.old }
+{
+    for &index in visits {
+        blocks[index].end = Some(end);
+    }
+}
+
+/// Ends the call of a block or those of a walk's visits.
+pub fn end_call<K: Drop, A: Allocator>(
+    blocks: &mut Vec<Block<K>, A>,
+    index: Option<usize>,
+    visits: &[usize],
+    call: usize,
+    end: u64,
+)
+    requires block { (i : ℕ) → index ≡ Some i → i < length blocks.old.items }
+    requires visits { (m i : ℕ) → slice_get visits.now m ≡ Some i → i < length blocks.old.items }
+    ensures ended { EndsCall blocks.old.items index visits.now call end blocks.new.items }
+    ensures len { length blocks.new.items ≡ length blocks.old.items }
+    ensures capacity { vec_capacity blocks.new ≡ vec_capacity blocks.old }
+{
+    if visits.is_empty() {
+        end_block(blocks, index, call, end);
+    } else {
+        end_visits(blocks, visits, end);
+    }
+}
+
 /// A call that has started, as the block that it lists shows it.
 #[derive(Clone, Copy)]
 pub struct Started {
@@ -54,6 +87,37 @@ pub struct Started {
     pub call: usize,
     /// The step at which it started.
     pub start: u64,
+}
+
+/// Lists the block of a walk's visit at that step, which has done these keys.
+pub fn list_visit<K, A: Allocator>(
+    blocks: &mut Vec<Block<K>, A>,
+    visit: usize,
+    keys: Past<K>,
+    started: Started,
+    position: u64,
+)
+    requires { vec_len blocks.old < vec_capacity blocks.old }
+    ensures listed { AddsVisit blocks.old.items visit keys.items started position blocks.new.items }
+    ensures capacity { vec_capacity blocks.new ≡ vec_capacity blocks.old }
+{
+    blocks.push_reserved(Block {
+        thread: started.thread,
+        call: started.call,
+        visit,
+        start: started.start,
+        position,
+        end: None,
+        done: Snapshot::of(&0),
+        visited: keys,
+    });
+}
+
+/// Notes in the block of a visit that it has done the key.
+pub fn note_key<K: Drop>(block: &mut Block<K>, key: &K)
+    ensures { VisitsKey key.now block.old block.new }
+{
+    block.visited = block.visited.appended(key);
 }
 
 /// Lists a block at that step, if it has done so many of its calls.

@@ -9,5 +9,6 @@ pub mod moves;
 pub mod pairs;
 pub mod put;
 mod route;
+pub mod walks;
 
 pub use route::{is_world_amount, shard_of};

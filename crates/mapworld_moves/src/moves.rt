@@ -1,18 +1,21 @@
 //! Where each kind of step leads a thread.
 ghost use Rattle.std.specs.Prelude.{◌≡◌, is_some, true, false, if◌then◌else◌, Some, None};
+ghost use Rattle.mapworld_calls.specs.declared.ask.Ask.TheVariants as ask;
 ghost use Rattle.mapworld_state.specs.declared.place.Request.TheVariants as request;
 ghost use Rattle.mapworld_state.specs.declared.place.Guard.TheVariants as own;
 ghost use Rattle.mapworld_calls.specs.Programs.{keyed_key, opening_key, is_drop};
 ghost use Rattle.mapworld_state.specs.Route.{IsWorldAmount, key_route};
-ghost use Rattle.mapworld_state.specs.Moves.{request_key, mode_of, is_last, lent_way, vacant_key};
+ghost use Rattle.mapworld_state.specs.Moves.{request_key, request_tries, mode_of, is_last, lent_way, vacant_key};
 ghost use Rattle.mapworld_state.specs.Moves.{shared_phase, exclusive_phase, occupied_phase, occupied_guard, vacant_phase, vacant_guard};
 ghost use Rattle.mapworld_state.specs.Moves.{held_phase, held_guard, start_phase, start_guard, start_shard, is_told, start_counts};
 ghost use Rattle.mapworld_state.specs.Moves.{ends_guard, takes_pair, changed_phase, growth_key, request_of};
 ghost use Rattle.mapworld_state.specs.Moves.{opening_way, opening_mode, found_phase, found_done, found_guard, block_behind};
 
 use crate::route::shard_of;
-use mapworld_calls::{Answer, Ask, Begin, Held, Keyed};
+use crate::walks::{stop_of, stops_at};
+use mapworld_calls::{Answer, Ask, Begin, Held, Keyed, Walk};
 use mapworld_state::{Growth, Guard, Mode, Phase, Request, Way};
+use std::alloc::Allocator;
 use std::hash::{BuildHasher, Hash};
 
 /// The key of a call on one key.
@@ -38,6 +41,9 @@ fn opening_key<K>(begin: &Begin<K>) -> &K
         Begin::Get(key) => key,
         Begin::GetMut(key) => key,
         Begin::Entry(key) => key,
+        Begin::TryGet(key) => key,
+        Begin::TryGetMut(key) => key,
+        Begin::TryEntry(key) => key,
     }
 }
 
@@ -56,9 +62,8 @@ fn opening_mode<K>(begin: &Begin<K>) -> Mode
     ensures { result ≡ opening_mode begin.now }
 {
     match begin {
-        Begin::Get(_) => Mode::Shared,
-        Begin::GetMut(_) => Mode::Exclusive,
-        Begin::Entry(_) => Mode::Exclusive,
+        Begin::Get(_) | Begin::TryGet(_) => Mode::Shared,
+        _ => Mode::Exclusive,
     }
 }
 
@@ -72,6 +77,16 @@ pub fn mode_of<K, V, D>(request: &Request<K, V, D>) -> Mode
         Request::Keyed(_) => Mode::Exclusive,
         Request::Begin(begin) => opening_mode(begin),
     }
+}
+
+/// Whether a call on one key waits for nobody.
+pub fn request_tries<K, V, D>(request: &Request<K, V, D>) -> bool
+    ensures { result ≡ request_tries request.now }
+{
+    matches!(
+        request,
+        Request::Begin(Begin::TryGet(_) | Begin::TryGetMut(_) | Begin::TryEntry(_))
+    )
 }
 
 /// Whether a call on the guard is its last.
@@ -89,6 +104,7 @@ pub fn is_last<K, V, D>(ask: &Ask<K, V, D>) -> bool
         Ask::Keyed(_) => true,
         Ask::Begin(_) => false,
         Ask::Held(call) => is_drop(call),
+        Ask::Walk(_) => true,
     }
 }
 
@@ -113,7 +129,7 @@ pub fn vacant_key<K: Drop>(guard: Option<Guard<K>>) -> Option<K>
 }
 
 /// The phase behind the start of a call on a shared guard.
-fn shared_phase<K, V: Drop, D: Drop, T>(call: Held<V, D>) -> Phase<K, V, D, T>
+fn shared_phase<K, V: Drop, D: Drop, T, A: Allocator>(call: Held<V, D>) -> Phase<K, V, D, T, A>
     ensures { result ≡ shared_phase call }
 {
     match call {
@@ -124,7 +140,7 @@ fn shared_phase<K, V: Drop, D: Drop, T>(call: Held<V, D>) -> Phase<K, V, D, T>
 }
 
 /// The phase behind the start of a call on an exclusive guard.
-fn exclusive_phase<K, V: Drop, D: Drop, T>(call: Held<V, D>) -> Phase<K, V, D, T>
+fn exclusive_phase<K, V: Drop, D: Drop, T, A: Allocator>(call: Held<V, D>) -> Phase<K, V, D, T, A>
     ensures { result ≡ exclusive_phase call }
 {
     match call {
@@ -137,10 +153,10 @@ fn exclusive_phase<K, V: Drop, D: Drop, T>(call: Held<V, D>) -> Phase<K, V, D, T
 }
 
 /// The phase behind the start of a call on an occupied guard, and the guard behind it.
-fn start_occupied<K: Drop, V: Drop, D: Drop, T>(
+fn start_occupied<K: Drop, V: Drop, D: Drop, T, A: Allocator>(
     call: Held<V, D>,
     key: K,
-) -> (Phase<K, V, D, T>, Option<Guard<K>>)
+) -> (Phase<K, V, D, T, A>, Option<Guard<K>>)
     ensures { result ≡ (occupied_phase call key, occupied_guard call key) }
 {
     let phase = match call {
@@ -158,10 +174,10 @@ fn start_occupied<K: Drop, V: Drop, D: Drop, T>(
 }
 
 /// The phase behind the start of a call on a vacant guard, and the guard behind it.
-fn start_vacant<K, V: Drop, D: Drop, T>(
+fn start_vacant<K, V: Drop, D: Drop, T, A: Allocator>(
     call: Held<V, D>,
     key: K,
-) -> (Phase<K, V, D, T>, Option<Guard<K>>)
+) -> (Phase<K, V, D, T, A>, Option<Guard<K>>)
     ensures { result ≡ (vacant_phase call key, vacant_guard call key) }
 {
     let phase = match call {
@@ -174,10 +190,10 @@ fn start_vacant<K, V: Drop, D: Drop, T>(
 }
 
 /// The phase behind the start of a call on a guard that lends a pair, and the guard behind it.
-fn start_pair<K: Drop, V: Drop, D: Drop, T>(
+fn start_pair<K: Drop, V: Drop, D: Drop, T, A: Allocator>(
     call: Held<V, D>,
     way: Way<K>,
-) -> (Phase<K, V, D, T>, Option<Guard<K>>)
+) -> (Phase<K, V, D, T, A>, Option<Guard<K>>)
     ensures { result ≡ (held_phase (Some (own.Pair way)) call, held_guard (Some (own.Pair way)) call) }
 {
     match way {
@@ -194,10 +210,10 @@ fn start_pair<K: Drop, V: Drop, D: Drop, T>(
 }
 
 /// The phase behind the start of a call on the guard, and the guard behind it.
-fn start_held<K: Drop, V: Drop, D: Drop, T>(
+fn start_held<K: Drop, V: Drop, D: Drop, T, A: Allocator>(
     call: Held<V, D>,
     guard: Option<Guard<K>>,
-) -> (Phase<K, V, D, T>, Option<Guard<K>>)
+) -> (Phase<K, V, D, T, A>, Option<Guard<K>>)
     ensures { result ≡ (held_phase guard call, held_guard guard call) }
 {
     match guard {
@@ -207,17 +223,29 @@ fn start_held<K: Drop, V: Drop, D: Drop, T>(
     }
 }
 
+/// The phase behind the start of a walk: one that is to give no item asks for no shard.
+fn start_walk<K, V, D, T, A: Allocator>(walk: Walk<D>) -> Phase<K, V, D, T, A>
+    ensures { result ≡ start_phase (ask.Walk walk) None }
+{
+    if stops_at(stop_of(&walk), 0) {
+        Phase::Idle(walk)
+    } else {
+        Phase::Reach(walk)
+    }
+}
+
 /// The phase behind a call's start, and the guard behind it.
-pub fn start_call<K: Drop, V: Drop, D: Drop, T>(
+pub fn start_call<K: Drop, V: Drop, D: Drop, T, A: Allocator>(
     ask: Ask<K, V, D>,
     guard: Option<Guard<K>>,
-) -> (Phase<K, V, D, T>, Option<Guard<K>>)
+) -> (Phase<K, V, D, T, A>, Option<Guard<K>>)
     ensures { result ≡ (start_phase ask guard, start_guard ask guard) }
 {
     match ask {
         Ask::Keyed(keyed) => (Phase::Admit(Request::Keyed(keyed)), guard),
         Ask::Begin(begin) => (Phase::Admit(Request::Begin(begin)), guard),
         Ask::Held(call) => start_held(call, guard),
+        Ask::Walk(walk) => (start_walk(walk), guard),
     }
 }
 
@@ -235,18 +263,22 @@ pub fn start_shard<K: Eq + Hash, V, D, S: BuildHasher>(
         Ask::Keyed(call) => shard_of(hasher, shards, keyed_key(call)),
         Ask::Begin(begin) => shard_of(hasher, shards, opening_key(begin)),
         Ask::Held(_) => shard,
+        Ask::Walk(_) => 0,
     }
 }
 
 /// Whether a call is told at its start, by the phase behind it.
-fn is_told<K, V, D, T>(phase: &Phase<K, V, D, T>) -> bool
+fn is_told<K, V, D, T, A: Allocator>(phase: &Phase<K, V, D, T, A>) -> bool
     ensures { result ≡ is_told phase.now }
 {
     matches!(phase, Phase::Answer(_) | Phase::Release(Answer::Key(_)))
 }
 
 /// The block that a start counts its call in, by the phase behind it.
-pub fn start_counts<K, V, D, T>(phase: &Phase<K, V, D, T>, block: Option<usize>) -> Option<usize>
+pub fn start_counts<K, V, D, T, A: Allocator>(
+    phase: &Phase<K, V, D, T, A>,
+    block: Option<usize>,
+) -> Option<usize>
     ensures { result ≡ start_counts phase.now block }
 {
     if is_told(phase) { block } else { None }
@@ -270,7 +302,10 @@ pub fn takes_pair<V, D>(call: &Held<V, D>) -> bool
 }
 
 /// The phase behind such a call's deed.
-pub fn changed_phase<K, V, D, T>(ends: bool, answer: Answer<K, V, T>) -> Phase<K, V, D, T>
+pub fn changed_phase<K, V, D, T, A: Allocator>(
+    ends: bool,
+    answer: Answer<K, V, T, A>,
+) -> Phase<K, V, D, T, A>
     ensures { result ≡ changed_phase ends answer }
 {
     if ends {
@@ -287,11 +322,14 @@ pub fn request_of<K, V, D>(call: Growth<K, V>) -> Request<K, V, D>
     match call {
         Growth::Insert(key, value) => Request::Keyed(Keyed::Insert(key, value)),
         Growth::Entry(key) => Request::Begin(Begin::Entry(key)),
+        Growth::TryEntry(key) => Request::Begin(Begin::TryEntry(key)),
     }
 }
 
 /// The phase behind a find of a key that is present.
-fn present_phase<K: Drop, V: Drop, D: Drop, T>(call: Keyed<K, V, D>) -> Phase<K, V, D, T>
+fn present_phase<K: Drop, V: Drop, D: Drop, T, A: Allocator>(
+    call: Keyed<K, V, D>,
+) -> Phase<K, V, D, T, A>
     ensures { (room : _) → result ≡ found_phase (request.Keyed call) true room }
 {
     match call {
@@ -302,7 +340,10 @@ fn present_phase<K: Drop, V: Drop, D: Drop, T>(call: Keyed<K, V, D>) -> Phase<K,
 }
 
 /// The phase behind a find of a key that is absent.
-fn absent_phase<K: Drop, V: Drop, D: Drop, T>(call: Keyed<K, V, D>, room: bool) -> Phase<K, V, D, T>
+fn absent_phase<K: Drop, V: Drop, D: Drop, T, A: Allocator>(
+    call: Keyed<K, V, D>,
+    room: bool,
+) -> Phase<K, V, D, T, A>
     ensures { result ≡ found_phase (request.Keyed call) false room }
 {
     match call {
@@ -319,32 +360,35 @@ fn opening_way<K: Drop>(begin: Begin<K>) -> Way<K>
     ensures { result ≡ opening_way begin }
 {
     match begin {
-        Begin::Get(_) => Way::Shared,
-        Begin::GetMut(_) => Way::Exclusive,
-        Begin::Entry(key) => Way::Occupied(key),
+        Begin::Get(_) | Begin::TryGet(_) => Way::Shared,
+        Begin::GetMut(_) | Begin::TryGetMut(_) => Way::Exclusive,
+        Begin::Entry(key) | Begin::TryEntry(key) => Way::Occupied(key),
     }
 }
 
 /// The phase behind an opening's find of a key that is absent, and the guard that the find gives.
-fn find_nothing<K: Drop, V, D, T>(
+fn find_nothing<K: Drop, V, D, T, A: Allocator>(
     begin: Begin<K>,
     room: bool,
-) -> (Phase<K, V, D, T>, Option<Guard<K>>)
+) -> (Phase<K, V, D, T, A>, Option<Guard<K>>)
     ensures { result ≡ (found_phase (request.Begin begin) false room, found_guard {V = V} {D = D} (request.Begin begin) false room) }
 {
     match begin {
-        Begin::Entry(key) if room => (Phase::Answer(Answer::Vacant), Some(Guard::Vacant(key))),
+        Begin::Entry(key) | Begin::TryEntry(key) if room => {
+            (Phase::Answer(Answer::Vacant), Some(Guard::Vacant(key)))
+        }
         Begin::Entry(key) => (Phase::Grow(Growth::Entry(key)), None),
-        Begin::Get(_) | Begin::GetMut(_) => (Phase::Release(Answer::None), None),
+        Begin::TryEntry(key) => (Phase::Grow(Growth::TryEntry(key)), None),
+        _ => (Phase::Release(Answer::None), None),
     }
 }
 
 /// The phase behind a find, and the guard that it gives, by whether the key is present and whether there is room for it.
-pub fn found<K: Drop, V: Drop, D: Drop, T>(
+pub fn found<K: Drop, V: Drop, D: Drop, T, A: Allocator>(
     request: Request<K, V, D>,
     present: bool,
     room: bool,
-) -> (Phase<K, V, D, T>, Option<Guard<K>>)
+) -> (Phase<K, V, D, T, A>, Option<Guard<K>>)
     ensures { result ≡ (found_phase request present room, found_guard request present room) }
 {
     match (request, present) {
@@ -367,7 +411,9 @@ pub fn found_done<K, V, D>(request: &Request<K, V, D>, present: bool, room: bool
         (Request::Keyed(Keyed::View(_, _)), true) => None,
         (Request::Keyed(Keyed::Insert(_, _)), false) => { if room { Some(0) } else { None } }
         (Request::Keyed(_), true) => Some(0),
-        (Request::Begin(Begin::Entry(_)), false) => { if room { Some(1) } else { None } }
+        (Request::Begin(Begin::Entry(_) | Begin::TryEntry(_)), false) => {
+            if room { Some(1) } else { None }
+        }
         _ => Some(1),
     }
 }
@@ -387,9 +433,9 @@ pub fn release_counts<K>(guard: &Option<Guard<K>>, block: Option<usize>) -> Opti
 }
 
 /// Puts a phase in the place of the one before.
-pub fn enter<K: Drop, V: Drop, D: Drop, T: Drop>(
-    phase: &mut Phase<K, V, D, T>,
-    next: Phase<K, V, D, T>,
+pub fn enter<K: Drop, V: Drop, D: Drop, T: Drop, A: Allocator>(
+    phase: &mut Phase<K, V, D, T, A>,
+    next: Phase<K, V, D, T, A>,
 )
     ensures { phase.new ≡ next }
 {

@@ -84,7 +84,10 @@ pub fn grow<K: Eq + Hash + Drop, V: Drop, A: Allocator + Clone>(
 }
 
 /// Takes the pair out of a full slot.
-fn take_pair<K: Eq + Hash, V, A: Allocator>(shard: &mut Shard<K, V, A>, slot: usize) -> (K, V)
+pub(crate) fn take_pair<K: Eq + Hash, V, A: Allocator>(
+    shard: &mut Shard<K, V, A>,
+    slot: usize,
+) -> (K, V)
     requires full { IsSome (at shard.old.slots slot) }
     ensures pair { option_map entry_pair (at shard.old.slots slot) ≡ Some result }
     ensures frees { Frees shard.old shard.new slot }
@@ -106,7 +109,7 @@ fn swap_value<K: Eq + Hash, V, A: Allocator>(shard: &mut Shard<K, V, A>, slot: u
 }
 
 /// Puts the deed's effect on the value of a full slot in its place.
-fn write_effect<K: Eq + Hash, V, D: Deed<K, V>, A: Allocator>(
+pub(crate) fn write_effect<K: Eq + Hash, V, D: Deed<K, V>, A: Allocator>(
     shard: &mut Shard<K, V, A>,
     slot: usize,
     deed: &D,
@@ -119,7 +122,7 @@ fn write_effect<K: Eq + Hash, V, D: Deed<K, V>, A: Allocator>(
 }
 
 /// Whether the deed is to keep the pair of a full slot.
-fn keeps<K: Eq + Hash, V, D: Deed<K, V>, A: Allocator>(
+pub(crate) fn keeps<K: Eq + Hash, V, D: Deed<K, V>, A: Allocator>(
     shard: &Shard<K, V, A>,
     slot: usize,
     deed: &D,
@@ -136,7 +139,7 @@ pub fn apply_at<K: Eq + Hash + Drop, V: Drop, D: Deed<K, V> + Drop, A: Allocator
     shard: &mut Shard<K, V, A>,
     slot: usize,
     call: Keyed<K, V, D>,
-) -> (Answer<K, V, D::Answer>, bool)
+) -> (Answer<K, V, D::Answer, A>, bool)
     requires full { IsSome (at shard.old.slots slot) }
     ensures answer { IfSome (at shard.old.slots slot) (λ e. result.0 ≡ keyed_answer (deeds_of D.Deed) call (Some (entry_pair e))) }
     ensures gone { IfSome (at shard.old.slots slot) (λ e. result.1 ≡ not (is_some (keyed_leaves (deeds_of D.Deed) call (Some (entry_pair e))))) }
@@ -200,7 +203,7 @@ pub fn change_at<K: Eq + Hash + Drop, V: Drop, D: Deed<K, V> + Drop, A: Allocato
     slot: usize,
     call: Held<V, D>,
     way: Way<K>,
-) -> (Answer<K, V, D::Answer>, Option<Guard<K>>)
+) -> (Answer<K, V, D::Answer, A>, Option<Guard<K>>)
     requires full { IsSome (at shard.old.slots slot) }
     requires change { is_change call way ≡ true }
     requires equal { (handed : K) → way ≡ Occupied handed → IfSome (at shard.old.slots slot) (λ e. IsTrue (K.eq e.key handed)) }

@@ -1,24 +1,20 @@
--- Each kind of step is paid for by the steps that are left.
-use Rattle.std.proofs.Common.{◌≡◌, ℕ, ◌+◌, ◌*◌, ◌≤◌, ◌⊎◌, inl, inr, Bool, true, false, List, length, Option, None, Some, slice_get, slice_set, is_some, sum_by, refl, ap, ◌∙◌, arith, length-set}
-use Rattle.std.proofs.Math.Nat.{mul-suc}
+-- What phases and calls at locks take, and how the sums of a step fall.
+use Rattle.std.proofs.Common.{◌≡◌, ℕ, ◌+◌, ◌-◌, ◌*◌, ◌≤◌, Bool, true, false, List, length, Option, None, Some, slice_get, slice_set, count_by, sum_by, refl, ap, ◌∙◌, arith, length-set}
 use Rattle.mapworld_calls.proofs.Lists.{sum_by-set}
 use Rattle.mapworld_calls.specs.declared.ask.Ask.{Ask}
-use Rattle.mapworld_calls.specs.declared.ask.Ask.TheVariants as ask
 use Rattle.mapworld_calls.specs.declared.ask.Begin.TheVariants as begin
 use Rattle.mapworld_calls.specs.declared.ask.Held.{Held}
 use Rattle.mapworld_calls.specs.declared.ask.Held.TheVariants as held
 use Rattle.mapworld_calls.specs.declared.ask.Keyed.TheVariants as keyed
 use Rattle.mapworld_calls.specs.declared.reply.Answer.{Answer}
-use Rattle.mapworld_calls.specs.Setup.{Setup}
+use Rattle.mapworld_calls.specs.Setup.{Setup, Laws}
 use Rattle.parking_lot_world.specs.declared.calls.LockCall.{LockCall}
-use Rattle.parking_lot_world.specs.declared.calls.LockCall.TheVariants as call
 use Rattle.parking_lot_world.specs.Ranks.{cost, steps_left}
 use Rattle.parking_lot_world.specs.Rows.{state}
 use Rattle.mapworld_locks.specs.Steps.{LockStarts}
 use Rattle.mapworld_locks.specs.Views.{Shown}
 use Rattle.mapworld_state.specs.declared.holds.Mode.{Mode}
 use Rattle.mapworld_state.specs.declared.holds.Mode.TheVariants.{Shared, Exclusive}
-use Rattle.mapworld_state.specs.declared.step.Step.{Step}
 use Rattle.mapworld_state.specs.declared.place.Growth.{Growth}
 use Rattle.mapworld_state.specs.declared.place.Growth.TheVariants as growth
 use Rattle.mapworld_state.specs.declared.place.Guard.{Guard}
@@ -28,251 +24,267 @@ use Rattle.mapworld_state.specs.declared.place.Request.{Request}
 use Rattle.mapworld_state.specs.declared.place.Request.TheVariants as request
 use Rattle.mapworld_state.specs.declared.place.Phase.{Phase}
 use Rattle.mapworld_state.specs.declared.place.Phase.TheVariants as phase
-use Rattle.mapworld_state.specs.Holds.{asks_for, gives_up}
-use Rattle.mapworld_state.specs.Shards.{has_room}
-use Rattle.mapworld_calls.specs.Pairs.{pair_of}
-use Rattle.mapworld_calls.specs.Calls.{held_answer}
-use Rattle.mapworld_state.specs.Moves.{ends_guard, lent, request_key, changed_phase, found_phase, held_phase, mode_of, request_of, start_phase, start_shard}
+use Rattle.mapworld_state.specs.Core.{is_walk, may_add}
+use Rattle.mapworld_state.specs.Holds.{asks_for, gives_up, wants_for}
+use Rattle.mapworld_state.specs.Moves.{changed_phase, found_phase, held_phase, mode_of, request_of, request_tries}
 use Rattle.mapworld_state.specs.Places.{Place}
 use Rattle.mapworld_state.specs.State.{State}
-use Rattle.mapworld_state.specs.Steps.{IsStep, start, lock, find, find_grows, find_refused, deed_appends, deed_applies, deed_views, deed_reads, deed_changes, deed_fills, downgrade, release, answers, Answers, Appends, Applies, Changes, Downgrades, Enters, EntersBy, Fills, Finds, GrowsShard, IsRefusedGrowth, Leaves, MovesLock, Reads, Releases, Starts, Views}
-use Rattle.mapworld_progress.specs.Left.{call_left, left, phase_left, place_left, release_left}
-use Rattle.mapworld_progress.specs.Sizes.{IsSized}
+use Rattle.mapworld_state.specs.Steps.{EntersBy}
+use Rattle.mapworld_progress.specs.Left.{ask_left, call_left, left, pairs_from, phase_left, phase_todo, place_left, place_todo, release_left, to_come}
+use Rattle.mapworld_progress.proofs.Coming.{TablesBy, StaysVisited, asks-todo, behind, phase-todo, place-todo, sum-but, tables-size}
 
 -- WHAT PHASES TAKE
 
 -- a call on a guard
-held_takes : {K V D : Type 0} (T : Type 0) (n : ℕ) (g : Option (Guard K)) (h : Held V D) → phase_left n (held_phase {T = T} g h) ≤ release_left n + 1
-held_takes T n None h = omega arith
-held_takes T n (Some (guard.Pair way.Shared)) (held.Read d) = omega arith
-held_takes T n (Some (guard.Pair way.Shared)) held.Drop = omega arith
-held_takes T n (Some (guard.Pair way.Shared)) h = omega arith
-held_takes T n (Some (guard.Pair way.Exclusive)) (held.Read d) = omega arith
-held_takes T n (Some (guard.Pair way.Exclusive)) (held.Write d) = omega arith
-held_takes T n (Some (guard.Pair way.Exclusive)) held.Downgrade = omega arith
-held_takes T n (Some (guard.Pair way.Exclusive)) held.Drop = omega arith
-held_takes T n (Some (guard.Pair way.Exclusive)) h = omega arith
-held_takes T n (Some (guard.Pair (way.Occupied k))) (held.Read d) = omega arith
-held_takes T n (Some (guard.Pair (way.Occupied k))) (held.Write d) = omega arith
-held_takes T n (Some (guard.Pair (way.Occupied k))) held.Downgrade = omega arith
-held_takes T n (Some (guard.Pair (way.Occupied k))) (held.Insert v) = omega arith
-held_takes T n (Some (guard.Pair (way.Occupied k))) held.IntoRef = omega arith
-held_takes T n (Some (guard.Pair (way.Occupied k))) held.Remove = omega arith
-held_takes T n (Some (guard.Pair (way.Occupied k))) held.RemoveEntry = omega arith
-held_takes T n (Some (guard.Pair (way.Occupied k))) (held.ReplaceEntry v) = omega arith
-held_takes T n (Some (guard.Pair (way.Occupied k))) held.IntoKey = omega arith
-held_takes T n (Some (guard.Pair (way.Occupied k))) held.Drop = omega arith
-held_takes T n (Some (guard.Vacant k)) (held.Insert v) = omega arith
-held_takes T n (Some (guard.Vacant k)) held.IntoKey = omega arith
-held_takes T n (Some (guard.Vacant k)) held.Drop = omega arith
-held_takes T n (Some (guard.Vacant k)) h = omega arith
+pub held_takes : {K V D : Type 0} (T A : Type 0) (n more : ℕ) (g : Option (Guard K)) (h : Held V D) → phase_left n more (held_phase {T = T} {A = A} g h) ≤ release_left n + 1
+held_takes T A n more None h = omega arith
+held_takes T A n more (Some (guard.Pair way.Shared)) (held.Read d) = omega arith
+held_takes T A n more (Some (guard.Pair way.Shared)) held.Drop = omega arith
+held_takes T A n more (Some (guard.Pair way.Shared)) h = omega arith
+held_takes T A n more (Some (guard.Pair way.Exclusive)) (held.Read d) = omega arith
+held_takes T A n more (Some (guard.Pair way.Exclusive)) (held.Write d) = omega arith
+held_takes T A n more (Some (guard.Pair way.Exclusive)) held.Downgrade = omega arith
+held_takes T A n more (Some (guard.Pair way.Exclusive)) held.Drop = omega arith
+held_takes T A n more (Some (guard.Pair way.Exclusive)) h = omega arith
+held_takes T A n more (Some (guard.Pair (way.Occupied k))) (held.Read d) = omega arith
+held_takes T A n more (Some (guard.Pair (way.Occupied k))) (held.Write d) = omega arith
+held_takes T A n more (Some (guard.Pair (way.Occupied k))) held.Downgrade = omega arith
+held_takes T A n more (Some (guard.Pair (way.Occupied k))) (held.Insert v) = omega arith
+held_takes T A n more (Some (guard.Pair (way.Occupied k))) held.IntoRef = omega arith
+held_takes T A n more (Some (guard.Pair (way.Occupied k))) held.Remove = omega arith
+held_takes T A n more (Some (guard.Pair (way.Occupied k))) held.RemoveEntry = omega arith
+held_takes T A n more (Some (guard.Pair (way.Occupied k))) (held.ReplaceEntry v) = omega arith
+held_takes T A n more (Some (guard.Pair (way.Occupied k))) held.IntoKey = omega arith
+held_takes T A n more (Some (guard.Pair (way.Occupied k))) held.Drop = omega arith
+held_takes T A n more (Some (guard.Vacant k)) (held.Insert v) = omega arith
+held_takes T A n more (Some (guard.Vacant k)) held.IntoKey = omega arith
+held_takes T A n more (Some (guard.Vacant k)) held.Drop = omega arith
+held_takes T A n more (Some (guard.Vacant k)) h = omega arith
 
 -- a find
-found_takes : {K V D : Type 0} (T : Type 0) (n : ℕ) (r : Request K V D) (there room : Bool) → phase_left n (found_phase {T = T} r there room) ≤ release_left n + 2
-found_takes T n (request.Keyed (keyed.Insert k v)) true room = omega arith
-found_takes T n (request.Keyed (keyed.Insert k v)) false true = omega arith
-found_takes T n (request.Keyed (keyed.Insert k v)) false false = omega arith
-found_takes T n (request.Keyed (keyed.Remove k)) true room = omega arith
-found_takes T n (request.Keyed (keyed.Remove k)) false room = omega arith
-found_takes T n (request.Keyed (keyed.RemoveIf k d)) true room = omega arith
-found_takes T n (request.Keyed (keyed.RemoveIf k d)) false room = omega arith
-found_takes T n (request.Keyed (keyed.RemoveIfMut k d)) true room = omega arith
-found_takes T n (request.Keyed (keyed.RemoveIfMut k d)) false room = omega arith
-found_takes T n (request.Keyed (keyed.Alter k d)) true room = omega arith
-found_takes T n (request.Keyed (keyed.Alter k d)) false room = omega arith
-found_takes T n (request.Keyed (keyed.View k d)) true room = omega arith
-found_takes T n (request.Keyed (keyed.View k d)) false room = omega arith
-found_takes T n (request.Keyed (keyed.ContainsKey k)) true room = omega arith
-found_takes T n (request.Keyed (keyed.ContainsKey k)) false room = omega arith
-found_takes T n (request.Begin b) true room = omega arith
-found_takes T n (request.Begin (begin.Get k)) false room = omega arith
-found_takes T n (request.Begin (begin.GetMut k)) false room = omega arith
-found_takes T n (request.Begin (begin.Entry k)) false true = omega arith
-found_takes T n (request.Begin (begin.Entry k)) false false = omega arith
+pub found_takes : {K V D : Type 0} (T A : Type 0) (n more : ℕ) (r : Request K V D) (there room : Bool) → phase_left n more (found_phase {T = T} {A = A} r there room) ≤ release_left n + 2
+found_takes T A n more (request.Keyed (keyed.Insert k v)) true room = omega arith
+found_takes T A n more (request.Keyed (keyed.Insert k v)) false true = omega arith
+found_takes T A n more (request.Keyed (keyed.Insert k v)) false false = omega arith
+found_takes T A n more (request.Keyed (keyed.Remove k)) true room = omega arith
+found_takes T A n more (request.Keyed (keyed.Remove k)) false room = omega arith
+found_takes T A n more (request.Keyed (keyed.RemoveIf k d)) true room = omega arith
+found_takes T A n more (request.Keyed (keyed.RemoveIf k d)) false room = omega arith
+found_takes T A n more (request.Keyed (keyed.RemoveIfMut k d)) true room = omega arith
+found_takes T A n more (request.Keyed (keyed.RemoveIfMut k d)) false room = omega arith
+found_takes T A n more (request.Keyed (keyed.Alter k d)) true room = omega arith
+found_takes T A n more (request.Keyed (keyed.Alter k d)) false room = omega arith
+found_takes T A n more (request.Keyed (keyed.View k d)) true room = omega arith
+found_takes T A n more (request.Keyed (keyed.View k d)) false room = omega arith
+found_takes T A n more (request.Keyed (keyed.ContainsKey k)) true room = omega arith
+found_takes T A n more (request.Keyed (keyed.ContainsKey k)) false room = omega arith
+found_takes T A n more (request.Begin b) true room = omega arith
+found_takes T A n more (request.Begin (begin.Get k)) false room = omega arith
+found_takes T A n more (request.Begin (begin.GetMut k)) false room = omega arith
+found_takes T A n more (request.Begin (begin.Entry k)) false true = omega arith
+found_takes T A n more (request.Begin (begin.Entry k)) false false = omega arith
+found_takes T A n more (request.Begin (begin.TryGet k)) false room = omega arith
+found_takes T A n more (request.Begin (begin.TryGetMut k)) false room = omega arith
+found_takes T A n more (request.Begin (begin.TryEntry k)) false true = omega arith
+found_takes T A n more (request.Begin (begin.TryEntry k)) false false = omega arith
 
 -- one whose growth was made
-grown_takes : {K V : Type 0} (D T : Type 0) (n : ℕ) (c : Growth K V) → phase_left n (found_phase {D = D} {T = T} (request_of c) false true) ≤ release_left n + 1
-grown_takes D T n (growth.Insert k v) = omega arith
-grown_takes D T n (growth.Entry k) = omega arith
+pub grown_takes : {K V : Type 0} (D T A : Type 0) (n more : ℕ) (c : Growth K V) → phase_left n more (found_phase {D = D} {T = T} {A = A} (request_of c) false true) ≤ release_left n + 1
+grown_takes D T A n more (growth.Insert k v) = omega arith
+grown_takes D T A n more (growth.Entry k) = omega arith
+grown_takes D T A n more (growth.TryEntry k) = omega arith
 
 -- a change of the guarded pair
-changed_takes : {K V T : Type 0} (D : Type 0) (n : ℕ) (ends : Bool) (a : Answer K V T) → phase_left n (changed_phase {D = D} ends a) ≤ release_left n
-changed_takes D n true a = omega arith
-changed_takes D n false a = omega arith
+pub changed_takes : {K V T A : Type 0} (D : Type 0) (n more : ℕ) (ends : Bool) (a : Answer K V T A) → phase_left n more (changed_phase {D = D} ends a) ≤ release_left n
+changed_takes D n more true a = omega arith
+changed_takes D n more false a = omega arith
+
+-- NONE OF THESE IS A WALK'S
+
+module _ {K V S D T A : Type 0} (x : Setup K V D T) (w : State K V S D T A) (p : Place K V D T A) where
+  pub held_plain : (g : Option (Guard K)) (h : Held V D) → phase_todo x w p (held_phase g h) ≡ 0
+  held_plain None h = refl
+  held_plain (Some (guard.Pair way.Shared)) (held.Read d) = refl
+  held_plain (Some (guard.Pair way.Shared)) held.Drop = refl
+  held_plain (Some (guard.Pair way.Shared)) h = refl
+  held_plain (Some (guard.Pair way.Exclusive)) (held.Read d) = refl
+  held_plain (Some (guard.Pair way.Exclusive)) (held.Write d) = refl
+  held_plain (Some (guard.Pair way.Exclusive)) held.Downgrade = refl
+  held_plain (Some (guard.Pair way.Exclusive)) held.Drop = refl
+  held_plain (Some (guard.Pair way.Exclusive)) h = refl
+  held_plain (Some (guard.Pair (way.Occupied k))) (held.Read d) = refl
+  held_plain (Some (guard.Pair (way.Occupied k))) (held.Write d) = refl
+  held_plain (Some (guard.Pair (way.Occupied k))) held.Downgrade = refl
+  held_plain (Some (guard.Pair (way.Occupied k))) (held.Insert v) = refl
+  held_plain (Some (guard.Pair (way.Occupied k))) held.IntoRef = refl
+  held_plain (Some (guard.Pair (way.Occupied k))) held.Remove = refl
+  held_plain (Some (guard.Pair (way.Occupied k))) held.RemoveEntry = refl
+  held_plain (Some (guard.Pair (way.Occupied k))) (held.ReplaceEntry v) = refl
+  held_plain (Some (guard.Pair (way.Occupied k))) held.IntoKey = refl
+  held_plain (Some (guard.Pair (way.Occupied k))) held.Drop = refl
+  held_plain (Some (guard.Vacant k)) (held.Insert v) = refl
+  held_plain (Some (guard.Vacant k)) held.IntoKey = refl
+  held_plain (Some (guard.Vacant k)) held.Drop = refl
+  held_plain (Some (guard.Vacant k)) h = refl
+
+  pub found_plain : (r : Request K V D) (there room : Bool) → phase_todo x w p (found_phase r there room) ≡ 0
+  found_plain (request.Keyed (keyed.Insert k v)) true room = refl
+  found_plain (request.Keyed (keyed.Insert k v)) false true = refl
+  found_plain (request.Keyed (keyed.Insert k v)) false false = refl
+  found_plain (request.Keyed (keyed.Remove k)) true room = refl
+  found_plain (request.Keyed (keyed.Remove k)) false room = refl
+  found_plain (request.Keyed (keyed.RemoveIf k d)) true room = refl
+  found_plain (request.Keyed (keyed.RemoveIf k d)) false room = refl
+  found_plain (request.Keyed (keyed.RemoveIfMut k d)) true room = refl
+  found_plain (request.Keyed (keyed.RemoveIfMut k d)) false room = refl
+  found_plain (request.Keyed (keyed.Alter k d)) true room = refl
+  found_plain (request.Keyed (keyed.Alter k d)) false room = refl
+  found_plain (request.Keyed (keyed.View k d)) true room = refl
+  found_plain (request.Keyed (keyed.View k d)) false room = refl
+  found_plain (request.Keyed (keyed.ContainsKey k)) true room = refl
+  found_plain (request.Keyed (keyed.ContainsKey k)) false room = refl
+  found_plain (request.Begin b) true room = refl
+  found_plain (request.Begin (begin.Get k)) false room = refl
+  found_plain (request.Begin (begin.GetMut k)) false room = refl
+  found_plain (request.Begin (begin.Entry k)) false true = refl
+  found_plain (request.Begin (begin.Entry k)) false false = refl
+  found_plain (request.Begin (begin.TryGet k)) false room = refl
+  found_plain (request.Begin (begin.TryGetMut k)) false room = refl
+  found_plain (request.Begin (begin.TryEntry k)) false true = refl
+  found_plain (request.Begin (begin.TryEntry k)) false false = refl
+
+  pub grown_plain : (c : Growth K V) → phase_todo x w p (found_phase (request_of c) false true) ≡ 0
+  grown_plain (growth.Insert k v) = refl
+  grown_plain (growth.Entry k) = refl
+  grown_plain (growth.TryEntry k) = refl
+
+  pub changed_plain : (ends : Bool) (a : Answer K V T A) → phase_todo x w p (changed_phase ends a) ≡ 0
+  changed_plain true a = refl
+  changed_plain false a = refl
 
 -- WHAT CALLS AT A LOCK COST
 
-asked_most : (n : ℕ) (m : Mode) → cost n (asks_for m) ≤ 108
+pub asked_most : (n : ℕ) (m : Mode) → cost n (asks_for m) ≤ 108
 asked_most n Shared = omega arith
 asked_most n Exclusive = omega arith
 
-given_most : (n : ℕ) (m : Mode) → cost n (gives_up m) + 1 ≤ release_left n
+pub wanted_most : (n : ℕ) (tries : Bool) (m : Mode) → cost n (wants_for tries m) ≤ 108
+wanted_most n false m = asked_most n m
+wanted_most n true Shared = omega arith
+wanted_most n true Exclusive = omega arith
+
+pub given_most : (n : ℕ) (m : Mode) → cost n (gives_up m) + 1 ≤ release_left n
 given_most n Shared = omega arith
 given_most n Exclusive = omega arith
 
 -- one that begins with its first act
-started_costs : (t shard : ℕ) (what : LockCall) (fair : Bool) (old new : Shown) → LockStarts t shard what fair old new
+pub started_costs : (t shard : ℕ) (what : LockCall) (fair : Bool) (old new : Shown) → LockStarts t shard what fair old new
     → steps_left (state new.rows) t + 1 ≤ steps_left (state old.rows) t + cost (length (state old.rows).calls) what
 started_costs t shard what fair old new h = omega (arith, h.begins.became.costs, h.moves.steps.pays)
 
--- what a start begins at a shard's lock, with the phase that it leads to
-entered_costs : {K V D T : Type 0} (t shard : ℕ) (f : Phase K V D T) (old new : Shown) → phase_left (length (state old.rows).calls) f ≤ release_left (length (state old.rows).calls) + 3 → EntersBy t shard f old new
-    → steps_left (state new.rows) t + phase_left (length (state old.rows).calls) f + 1 ≤ steps_left (state old.rows) t + call_left (length (state old.rows).calls)
-entered_costs t shard (phase.Admit r) old new few h = omega (arith, h.became.costs, asked_most (length (state old.rows).calls) (mode_of r))
-entered_costs t shard phase.Rest old new few same = omega (arith, ap (λ (l : Shown). steps_left (state l.rows) t) same)
-entered_costs t shard (phase.Find r) old new few same = omega (arith, few, ap (λ (l : Shown). steps_left (state l.rows) t) same)
-entered_costs t shard (phase.Grow c) old new few same = omega (arith, few, ap (λ (l : Shown). steps_left (state l.rows) t) same)
-entered_costs t shard (phase.Append k v) old new few same = omega (arith, few, ap (λ (l : Shown). steps_left (state l.rows) t) same)
-entered_costs t shard (phase.Apply k) old new few same = omega (arith, few, ap (λ (l : Shown). steps_left (state l.rows) t) same)
-entered_costs t shard (phase.View k d) old new few same = omega (arith, few, ap (λ (l : Shown). steps_left (state l.rows) t) same)
-entered_costs t shard (phase.Read d) old new few same = omega (arith, few, ap (λ (l : Shown). steps_left (state l.rows) t) same)
-entered_costs t shard (phase.Change h) old new few same = omega (arith, few, ap (λ (l : Shown). steps_left (state l.rows) t) same)
-entered_costs t shard (phase.Fill v) old new few same = omega (arith, few, ap (λ (l : Shown). steps_left (state l.rows) t) same)
-entered_costs t shard phase.Downgrade old new few same = omega (arith, few, ap (λ (l : Shown). steps_left (state l.rows) t) same)
-entered_costs t shard (phase.Release a) old new few same = omega (arith, few, ap (λ (l : Shown). steps_left (state l.rows) t) same)
-entered_costs t shard (phase.Answer a) old new few same = omega (arith, few, ap (λ (l : Shown). steps_left (state l.rows) t) same)
+-- what a start begins at a shard's lock, with the phase that it leads to, where that isn't a walk's
+pub entered_costs : {K V D T A : Type 0} (t shard more : ℕ) (f : Phase K V D T A) (old new : Shown) → phase_left (length (state old.rows).calls) more f ≤ release_left (length (state old.rows).calls) + 3 → EntersBy t shard f old new
+    → steps_left (state new.rows) t + phase_left (length (state old.rows).calls) more f + 1 ≤ steps_left (state old.rows) t + call_left (length (state old.rows).calls)
+entered_costs t shard more (phase.Admit r) old new few h = omega (arith, h.became.costs, wanted_most (length (state old.rows).calls) (request_tries r) (mode_of r))
+entered_costs t shard more (phase.Reach f) old new few h = absurd (omega (arith, few))
+entered_costs t shard more phase.Rest old new few same = omega (arith, few, ap (λ (l : Shown). steps_left (state l.rows) t) same)
+entered_costs t shard more (phase.Find r) old new few same = omega (arith, few, ap (λ (l : Shown). steps_left (state l.rows) t) same)
+entered_costs t shard more (phase.Grow c) old new few same = omega (arith, few, ap (λ (l : Shown). steps_left (state l.rows) t) same)
+entered_costs t shard more (phase.Append k v) old new few same = omega (arith, few, ap (λ (l : Shown). steps_left (state l.rows) t) same)
+entered_costs t shard more (phase.Apply k) old new few same = omega (arith, few, ap (λ (l : Shown). steps_left (state l.rows) t) same)
+entered_costs t shard more (phase.View k d) old new few same = omega (arith, few, ap (λ (l : Shown). steps_left (state l.rows) t) same)
+entered_costs t shard more (phase.Read d) old new few same = omega (arith, few, ap (λ (l : Shown). steps_left (state l.rows) t) same)
+entered_costs t shard more (phase.Change h) old new few same = omega (arith, few, ap (λ (l : Shown). steps_left (state l.rows) t) same)
+entered_costs t shard more (phase.Fill v) old new few same = omega (arith, few, ap (λ (l : Shown). steps_left (state l.rows) t) same)
+entered_costs t shard more phase.Downgrade old new few same = omega (arith, few, ap (λ (l : Shown). steps_left (state l.rows) t) same)
+entered_costs t shard more (phase.Idle f) old new few same = omega (arith, few, ap (λ (l : Shown). steps_left (state l.rows) t) same)
+entered_costs t shard more (phase.Part f) old new few same = omega (arith, few, ap (λ (l : Shown). steps_left (state l.rows) t) same)
+entered_costs t shard more (phase.Visit f) old new few same = omega (arith, few, ap (λ (l : Shown). steps_left (state l.rows) t) same)
+entered_costs t shard more (phase.Seek f) old new few same = omega (arith, few, ap (λ (l : Shown). steps_left (state l.rows) t) same)
+entered_costs t shard more (phase.Item f) old new few same = omega (arith, few, ap (λ (l : Shown). steps_left (state l.rows) t) same)
+entered_costs t shard more (phase.Give f) old new few same = omega (arith, few, ap (λ (l : Shown). steps_left (state l.rows) t) same)
+entered_costs t shard more (phase.Onward f) old new few same = omega (arith, few, ap (λ (l : Shown). steps_left (state l.rows) t) same)
+entered_costs t shard more (phase.Release a) old new few same = omega (arith, few, ap (λ (l : Shown). steps_left (state l.rows) t) same)
+entered_costs t shard more (phase.Answer a) old new few same = omega (arith, few, ap (λ (l : Shown). steps_left (state l.rows) t) same)
 
-start_takes : {K V D : Type 0} (T : Type 0) (n : ℕ) (a : Ask K V D) (g : Option (Guard K)) → phase_left n (start_phase {T = T} a g) ≤ release_left n + 3
-start_takes T n (ask.Keyed k) g = omega arith
-start_takes T n (ask.Begin b) g = omega arith
-start_takes T n (ask.Held h) g = omega (arith, held_takes T n g h)
+-- THE SUMS OF A STEP
 
--- EACH KIND OF STEP
-
--- the place p of thread t is now p', and the locks are other ones
-module _ {K V S D T : Type 0} (w w' : State K V S D T) (t : ℕ) (p p' : Place K V D T) (here : slice_get w.places t ≡ Some p) (are : w'.places ≡ slice_set w.places t p') where
+-- the place p of thread t is now p', a shard has at most d pairs more, which the place could have added, and the locks are other ones
+module _ {K V S D T A : Type 0} (x : Setup K V D T) (laws : Laws x) (w w' : State K V S D T A) (t : ℕ) (p p' : Place K V D T A) (here : slice_get w.places t ≡ Some p) (are : w'.places ≡ slice_set w.places t p')
+    (d : ℕ) (tables : TablesBy x.eq w.tables w'.tables d) (adding : may_add p' + d ≤ may_add p) (seen : StaysVisited x.eq w.blocks w'.blocks) where
   abbrev n : ℕ
   n = length w.places
+
+  abbrev m : ℕ
+  m = length w.tables
 
   same_size : length w'.places ≡ n
   same_size = ap length are ∙ length-set w.places t p'
 
-  sums : sum_by (place_left (length w'.places)) w'.places + place_left n p ≡ sum_by (place_left n) w.places + place_left n p'
-  sums =
-      let size : sum_by (place_left (length w'.places)) w'.places ≡ sum_by (place_left n) w'.places = ap (λ m. sum_by (place_left m) w'.places) same_size in
-      let list : sum_by (place_left n) w'.places ≡ sum_by (place_left n) (slice_set w.places t p') = ap (λ ps. sum_by (place_left n) ps) are in
-      omega (arith, size, list, sum_by-set (place_left n) w.places t p p' here)
+  pays : to_come w'.places + d ≤ to_come w.places
+  pays = omega (arith, adding, ap to_come are, sum_by-set may_add w.places t p p' here)
+
+  pub own-todo : (q : Place K V D T A) (f : Phase K V D T A) → phase_todo x w' q f ≤ phase_todo x w q f
+  own-todo q f = phase-todo x laws w w' d tables pays seen q f
+
+  -- what its pairs from one shard on, and those that may come, are no more
+  pub own-behind : (i : ℕ) → pairs_from w'.tables i + to_come w'.places ≤ pairs_from w.tables i + to_come w.places
+  own-behind i = behind x laws w w' d tables pays seen i
+
+  lefts : sum_by (place_left (length w'.places) (length w'.tables)) w'.places + place_left n m p ≡ sum_by (place_left n m) w.places + place_left n m p'
+  lefts =
+      let size : sum_by (place_left (length w'.places) (length w'.tables)) w'.places ≡ sum_by (place_left n m) w'.places =
+      ap (λ k. sum_by (place_left k (length w'.tables)) w'.places) same_size ∙ ap (λ k. sum_by (place_left n k) w'.places) (tables-size x.eq w.tables w'.tables d tables) in
+      let list : sum_by (place_left n m) w'.places ≡ sum_by (place_left n m) (slice_set w.places t p') = ap (λ ps. sum_by (place_left n m) ps) are in
+      omega (arith, size, list, sum_by-set (place_left n m) w.places t p p' here)
+
+  todos : sum_by (place_todo x w') w'.places + place_todo x w p ≤ sum_by (place_todo x w) w.places + place_todo x w' p'
+  todos =
+      let list : sum_by (place_todo x w') w'.places ≡ sum_by (place_todo x w') (slice_set w.places t p') = ap (λ ps. sum_by (place_todo x w') ps) are in
+      omega (
+        arith,
+        list,
+        sum_by-set (place_todo x w') w.places t p p' here,
+        sum-but (place_todo x w) (place_todo x w') w.places t p here (place-todo x laws w w' d tables pays seen),
+      )
 
   -- what the place takes less pays for the step, and for what the locks take more
-  falls : steps_left (state w'.locks.rows) t + place_left n p' + 1 ≤ steps_left (state w.locks.rows) t + place_left n p → left w' t + 1 ≤ left w t
-  falls paid = omega (arith, paid, sums)
+  pub falls : steps_left (state w'.locks.rows) t + place_left n m p' + 2 * place_todo x w' p' + 1 ≤ steps_left (state w.locks.rows) t + place_left n m p + 2 * place_todo x w p → left x w' t + 1 ≤ left x w t
+  falls paid = omega (arith, paid, lefts, todos)
 
   -- the calls that haven't started stay
-  falls_by : p'.asks ≡ p.asks → steps_left (state w'.locks.rows) t + phase_left n p'.phase + 1 ≤ steps_left (state w.locks.rows) t + phase_left n p.phase → left w' t + 1 ≤ left w t
-  falls_by asks paid = falls (omega (arith, paid, ap (λ (xs : List (Ask K V D)). call_left n * length xs) asks))
+  pub falls_by : p'.asks ≡ p.asks
+      → steps_left (state w'.locks.rows) t + phase_left n (m - (p'.shard + 1)) p'.phase + 2 * phase_todo x w' p' p'.phase + 1 ≤ steps_left (state w.locks.rows) t + phase_left n (m - (p.shard + 1)) p.phase + 2 * phase_todo x w p p.phase
+      → left x w' t + 1 ≤ left x w t
+  falls_by asks paid =
+      falls (omega (
+        arith,
+        paid,
+        ap (λ (xs : List (Ask K V D)). sum_by (ask_left n m) xs) asks,
+        ap (λ (xs : List (Ask K V D)). count_by is_walk xs * (pairs_from w'.tables 0 + to_come w'.places)) asks,
+        asks-todo x laws w w' d tables pays seen (count_by is_walk p.asks),
+      ))
 
-  -- a step that changes nothing of the locks
-  falls_beside : w'.locks ≡ w.locks → p'.asks ≡ p.asks → phase_left n p'.phase + 1 ≤ phase_left n p.phase → left w' t + 1 ≤ left w t
-  falls_beside locks asks paid = falls_by asks (omega (arith, paid, ap (λ (l : Shown). steps_left (state l.rows) t) locks))
+  -- what ends with no step of its own takes no more
+  pub keeps_by : p'.asks ≡ p.asks
+      → steps_left (state w'.locks.rows) t + phase_left n (m - (p'.shard + 1)) p'.phase + 2 * phase_todo x w' p' p'.phase ≤ steps_left (state w.locks.rows) t + phase_left n (m - (p.shard + 1)) p.phase + 2 * phase_todo x w p p.phase
+      → left x w' t ≤ left x w t
+  keeps_by asks paid =
+      omega (
+        arith,
+        paid,
+        lefts,
+        todos,
+        ap (λ (xs : List (Ask K V D)). sum_by (ask_left n m) xs) asks,
+        ap (λ (xs : List (Ask K V D)). count_by is_walk xs * (pairs_from w'.tables 0 + to_come w'.places)) asks,
+        asks-todo x laws w w' d tables pays seen (count_by is_walk p.asks),
+      )
 
--- what a step leaves of the places and of the locks
-places-are : {K V S D T : Type 0} (v u : State K V S D T) → v ≡ u → v.places ≡ u.places
-places-are {K} {V} {S} {D} {T} v u = ap (λ (z : State K V S D T). z.places)
+  -- a step that leads to no walk's phase
+  pub falls_plain : p'.asks ≡ p.asks → phase_todo x w' p' p'.phase ≡ 0 → steps_left (state w'.locks.rows) t + phase_left n (m - (p'.shard + 1)) p'.phase + 1 ≤ steps_left (state w.locks.rows) t + phase_left n (m - (p.shard + 1)) p.phase
+      → left x w' t + 1 ≤ left x w t
+  falls_plain asks plain paid = falls_by asks (omega (arith, paid, plain))
 
-locks-are : {K V S D T : Type 0} (v u : State K V S D T) → v ≡ u → v.locks ≡ u.locks
-locks-are {K} {V} {S} {D} {T} v u = ap (λ (z : State K V S D T). z.locks)
-
-at-lock : (t : ℕ) (old new : Shown) → new ≡ old → steps_left (state new.rows) t ≡ steps_left (state old.rows) t
-at-lock t old new = ap (λ (l : Shown). steps_left (state l.rows) t)
-
-module _ {K V S D T : Type 0} (x : Setup K V D T) (w : State K V S D T) (s : Step) (w' : State K V S D T) where
-  abbrev m : ℕ
-  m = length w.places
-
-  finds_fall : Finds x w s w' → left w' s.thread + 1 ≤ left w s.thread
-  finds_fall h =
-      let there : Bool = is_some (pair_of x.eq h.table.items (request_key h.request)) in
-      falls_beside w w' s.thread h.place _ h.stands (places-are w' _ h.after) (locks-are w' _ h.after) refl
-      (omega (arith, ap (phase_left m) h.before, found_takes T m h.request there (has_room h.table)))
-
-  grows_fall : GrowsShard x w s w' → left w' s.thread + 1 ≤ left w s.thread
-  grows_fall h =
-      falls_beside w w' s.thread h.place _ h.stands (places-are w' _ h.after) (locks-are w' _ h.after) refl
-      (omega (arith, ap (phase_left m) h.before, grown_takes D T m h.call))
-
-  refused_fall : IsRefusedGrowth x w s w' → left w' s.thread + 1 ≤ left w s.thread
-  refused_fall h = falls_beside w w' s.thread h.place _ h.stands (places-are w' _ h.after) (locks-are w' _ h.after) refl (omega (arith, ap (phase_left m) h.before))
-
-  appends_fall : Appends x w s w' → left w' s.thread + 1 ≤ left w s.thread
-  appends_fall h = falls_beside w w' s.thread h.place _ h.stands (places-are w' _ h.after) (locks-are w' _ h.after) refl (omega (arith, ap (phase_left m) h.before))
-
-  applies_fall : Applies x w s w' → left w' s.thread + 1 ≤ left w s.thread
-  applies_fall h = falls_beside w w' s.thread h.place _ h.stands (places-are w' _ h.after) (locks-are w' _ h.after) refl (omega (arith, ap (phase_left m) h.before))
-
-  views_fall : Views x w s w' → left w' s.thread + 1 ≤ left w s.thread
-  views_fall h = falls_beside w w' s.thread h.place _ h.stands (places-are w' _ h.after) (locks-are w' _ h.after) refl (omega (arith, ap (phase_left m) h.before))
-
-  reads_fall : Reads x w s w' → left w' s.thread + 1 ≤ left w s.thread
-  reads_fall h = falls_beside w w' s.thread h.place _ h.stands (places-are w' _ h.after) (locks-are w' _ h.after) refl (omega (arith, ap (phase_left m) h.before))
-
-  changes_fall : Changes x w s w' → left w' s.thread + 1 ≤ left w s.thread
-  changes_fall h =
-      falls_beside w w' s.thread h.place _ h.stands (places-are w' _ h.after) (locks-are w' _ h.after) refl
-      (omega (arith, ap (phase_left m) h.before, changed_takes D m (ends_guard h.call) (held_answer x.deeds h.call (lent h.kind h.pair))))
-
-  fills_fall : Fills x w s w' → left w' s.thread + 1 ≤ left w s.thread
-  fills_fall h = falls_beside w w' s.thread h.place _ h.stands (places-are w' _ h.after) (locks-are w' _ h.after) refl (omega (arith, ap (phase_left m) h.before))
-
-  moves_fall : MovesLock x w s w' → left w' s.thread + 1 ≤ left w s.thread
-  moves_fall h = falls_by w w' s.thread h.place _ h.stands (places-are w' _ h.after) refl (omega (arith, at-lock s.thread h.locks w'.locks (locks-are w' _ h.after), h.moves.steps.pays))
-
-  answers_fall : Answers x w s w' → left w' s.thread + 1 ≤ left w s.thread
-  answers_fall h = falls_beside w w' s.thread h.place _ h.stands (places-are w' _ h.after) (locks-are w' _ h.after) refl (omega (arith, ap (phase_left m) h.before))
-
-  -- those that begin a call at a lock, whose threads are the places
-  module _ (size : length (state w.locks.rows).calls ≡ m) where
-    starts_fall : Starts x w s w' → left w' s.thread + 1 ≤ left w s.thread
-    starts_fall h =
-        let n = length (state w.locks.rows).calls in
-        let f : Phase K V D T = start_phase h.ask h.place.guard in
-        let paid = entered_costs s.thread (start_shard x.route h.ask h.place.shard) f w.locks h.locks (start_takes T n h.ask h.place.guard) h.enters in
-        let same : phase_left n f ≡ phase_left m f = ap (λ k. phase_left k f) size in
-        let calls : call_left n ≡ call_left m = ap call_left size in
-        let asks : call_left m * length h.place.asks ≡ call_left m * length h.rest + call_left m = ap (λ (xs : List (Ask K V D)). call_left m * length xs) h.asked ∙ mul-suc (call_left m) (length h.rest) in
-        falls w w' s.thread h.place _ h.stands (places-are w' _ h.after)
-        (omega (arith, at-lock s.thread h.locks w'.locks (locks-are w' _ h.after), ap (phase_left m) h.before, paid, same, calls, asks))
-
-    downgrades_fall : Downgrades x w s w' → left w' s.thread + 1 ≤ left w s.thread
-    downgrades_fall h =
-        let n = length (state w.locks.rows).calls in
-        let paid = started_costs s.thread h.hold.shard call.Downgrade s.fair w.locks h.locks h.turns in
-        falls_by w w' s.thread h.place _ h.stands (places-are w' _ h.after) refl
-        (omega (arith, at-lock s.thread h.locks w'.locks (locks-are w' _ h.after), ap (phase_left m) h.before, paid, size))
-
-    releases_fall : Releases x w s w' → left w' s.thread + 1 ≤ left w s.thread
-    releases_fall h =
-        let n = length (state w.locks.rows).calls in
-        let paid = started_costs s.thread h.hold.shard (gives_up h.hold.mode) s.fair w.locks h.locks h.gives in
-        falls_by w w' s.thread h.place _ h.stands (places-are w' _ h.after) refl
-        (omega (arith, at-lock s.thread h.locks w'.locks (locks-are w' _ h.after), ap (phase_left m) h.before, paid, given_most n h.hold.mode, size))
-
--- what ends with no step of its own takes no more steps
-enters_fall : {K V S D T : Type 0} (w : State K V S D T) (t : ℕ) (mid : State K V S D T) → (mid ≡ w) ⊎ Enters w t mid → left mid t ≤ left w t
-enters_fall w t mid (inl same) = omega (arith, ap (λ v. left v t) same)
-enters_fall w t mid (inr h) =
-    let n = length w.places in
-    let less = falls_by w mid t h.place _ h.stands (places-are mid _ h.after) refl
-    (omega (arith, at-lock t h.locks mid.locks (locks-are mid _ h.after), ap (phase_left n) h.before, h.ends.steps.pays)) in
-    omega (arith, less)
-
-leaves_fall : {K V S D T : Type 0} (w : State K V S D T) (t : ℕ) (mid : State K V S D T) → (mid ≡ w) ⊎ Leaves w t mid → left mid t ≤ left w t
-leaves_fall w t mid (inl same) = omega (arith, ap (λ v. left v t) same)
-leaves_fall w t mid (inr h) =
-    let places : sum_by (place_left (length mid.places)) mid.places ≡ sum_by (place_left (length w.places)) w.places = ap (λ ps. sum_by (place_left (length ps)) ps) (places-are mid _ h.after) in
-    omega (arith, places, at-lock t h.locks mid.locks (locks-are mid _ h.after), h.ends.steps.pays)
-
-pub steps_fall : {K V S D T : Type 0} (x : Setup K V D T) (w : State K V S D T) (s : Step) (w' : State K V S D T) → IsSized w → IsStep x w s w' → left w' s.thread + 1 ≤ left w s.thread
-steps_fall x w s w' size (start h) = starts_fall x w s w' size.locks.threads_are h
-steps_fall x w s w' size (lock h) = moves_fall x w s w' h
-steps_fall x w s w' size (find h) = omega (arith, enters_fall w s.thread h.mid h.enters, finds_fall x h.mid s w' h.finds)
-steps_fall x w s w' size (find_grows h) = grows_fall x w s w' h
-steps_fall x w s w' size (find_refused h) = refused_fall x w s w' h
-steps_fall x w s w' size (deed_appends h) = appends_fall x w s w' h
-steps_fall x w s w' size (deed_applies h) = applies_fall x w s w' h
-steps_fall x w s w' size (deed_views h) = views_fall x w s w' h
-steps_fall x w s w' size (deed_reads h) = reads_fall x w s w' h
-steps_fall x w s w' size (deed_changes h) = changes_fall x w s w' h
-steps_fall x w s w' size (deed_fills h) = fills_fall x w s w' h
-steps_fall x w s w' size (downgrade h) = downgrades_fall x w s w' size.locks.threads_are h
-steps_fall x w s w' size (release h) = releases_fall x w s w' size.locks.threads_are h
-steps_fall x w s w' size (answers h) = omega (arith, leaves_fall w s.thread h.mid h.leaves, answers_fall x h.mid s w' h.answers)
+  -- and changes nothing of the locks
+  pub falls_beside : w'.locks ≡ w.locks → p'.asks ≡ p.asks → phase_todo x w' p' p'.phase ≡ 0 → phase_left n (m - (p'.shard + 1)) p'.phase + 1 ≤ phase_left n (m - (p.shard + 1)) p.phase → left x w' t + 1 ≤ left x w t
+  falls_beside locks asks plain paid = falls_plain asks plain (omega (arith, paid, ap (λ (l : Shown). steps_left (state l.rows) t) locks))

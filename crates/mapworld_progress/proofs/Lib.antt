@@ -1,7 +1,15 @@
+pub mod Counting
+pub mod Coming
 pub mod Falling
+pub mod Stepping
+pub mod Walking
+pub mod Visiting
+pub mod Ending
+pub mod Gaining
 pub mod Bounding
 pub mod Sessions
 pub mod Turning
+pub mod Sleepers
 pub mod Moving
 pub mod Resting
 pub mod Draining

@@ -1,5 +1,5 @@
 -- While a call is unanswered, some thread can move.
-use Rattle.std.proofs.Common.{◌≡◌, ◌≢◌, ℕ, zero, suc, ◌+◌, ◌<◌, ◌==◌, inl, inr, ◌||◌, Bool, true, not, List, [], ◌∷◌, Option, None, Some, is_none, length, slice_get, sum_by, refl, sym, ap, ◌∙◌, arith}
+use Rattle.std.proofs.Common.{◌≡◌, ℕ, zero, suc, ◌+◌, ◌<◌, ◌≤◌, ◌==◌, ◌⊎◌, inl, inr, ◌||◌, Bool, true, false, not, List, [], ◌∷◌, Option, None, Some, is_none, length, slice_get, sum_by, refl, sym, ap, ◌∙◌, subst, arith}
 use Rattle.std.specs.Option.{option_map}
 use Rattle.std.proofs.lemmas.Bool.{cases_lt, ne_eqb}
 use Rattle.std.proofs.lemmas.List.{length-drop}
@@ -11,34 +11,38 @@ use Rattle.parking_lot_world.specs.declared.calls.LockKind.{LockKind}
 use Rattle.parking_lot_world.specs.declared.calls.OwnMode.{OwnMode}
 use Rattle.parking_lot_world.specs.declared.seat.Hold.{Hold as LockHold}
 use Rattle.parking_lot_world.specs.declared.open_call.Call.{Call}
-use Rattle.parking_lot_world.specs.Machines.{can_move}
+use Rattle.parking_lot_world.specs.Machines.{can_move, is_asleep}
 use Rattle.parking_lot_world.specs.Rows.{call_at, hold_at, state}
 use Rattle.parking_lot_world.specs.Rows as rows
-use Rattle.parking_lot_world.specs.SoundLaws.{Always, IsApart, SomebodyCanMove}
+use Rattle.parking_lot_world.specs.SoundLaws.{Always, IsApart, SomebodyCanMove, SomebodyKeeps}
 use Rattle.parking_lot_world.specs.Worlds.{hold_mode}
 use Rattle.parking_lot_world.proofs.Viewing as viewing
 use Rattle.parking_lot_world.proofs.Viewing.{apart_owner}
+use Rattle.mapworld_calls.specs.declared.ask.Walk.{Walk}
 use Rattle.mapworld_calls.specs.Setup.{Setup, session_of}
-use Rattle.mapworld_locks.specs.Aims.{Aim, Gets, GivesUp, Turns}
+use Rattle.mapworld_locks.specs.Aims.{Aim}
 use Rattle.mapworld_locks.specs.Stands.{Stand, stand_in, stand_of}
 use Rattle.mapworld_locks.specs.Views.{held_as, owner_in}
 use Rattle.mapworld_locks.proofs.Together.{holders_are_threads}
+use Rattle.mapworld_state.specs.declared.holds.Mode.{Mode}
 use Rattle.mapworld_state.specs.declared.holds.Hold.{Hold}
 use Rattle.mapworld_state.specs.declared.place.Guard.{Guard}
 use Rattle.mapworld_state.specs.declared.place.Phase.{Phase}
 use Rattle.mapworld_state.specs.declared.place.Phase.TheVariants as phase
 use Rattle.mapworld_state.specs.Core.{owed, owes}
-use Rattle.mapworld_state.specs.Held.{IsOwing, MayOwe}
+use Rattle.mapworld_state.specs.Held.{IsAt, IsOwing, IsWanting, MayOwe}
 use Rattle.mapworld_state.specs.Places.{Place}
 use Rattle.mapworld_state.specs.Running.{can_move_in, goes_on, unanswered_of}
-use Rattle.mapworld_state.specs.Sound.{IsInSession, Stands}
+use Rattle.mapworld_state.specs.Sound.{IsBetweenVisits, IsInSession, KeepsOver, Stands, Walks}
 use Rattle.mapworld_state.specs.State.{State, threads_of}
+use Rattle.mapworld_state.specs.Walks.{kept_over, walk_mode}
 use Rattle.mapworld_state.proofs.HoldsTable.{none-there, only-first}
 use Rattle.mapworld_sound.proofs.Building.{claim-at, session-is, taken-at}
 use Rattle.mapworld_sound.proofs.Holding.{stand-at}
 use Rattle.mapworld_progress.specs.Whole.{IsWhole}
 use Rattle.mapworld_progress.proofs.Sessions.{none-at-end}
-use Rattle.mapworld_progress.proofs.Turning.{moves-as, moves-there, no-stand, place-there}
+use Rattle.mapworld_progress.proofs.Sleepers.{sleeper}
+use Rattle.mapworld_progress.proofs.Turning.{moves-as, moves-there, place-there}
 
 -- a sum that isn't 0 has a part that isn't
 abbrev HasPart : {X : Type 0} → (X → ℕ) → List X → Type 0
@@ -75,13 +79,13 @@ alone-goes : (o : Option Call) (b : Bool) → o ≡ None → (is_none o || b) �
 alone-goes None b e = refl
 alone-goes (Some c) b e = absurd (none-some c (sym e))
 
-module _ {K V S D T : Type 0} (x : Setup K V D T) (w : State K V S D T) (whole : IsWhole x w) where
+module _ {K V S D T A : Type 0} (x : Setup K V D T) (w : State K V S D T A) (whole : IsWhole x w) where
   abbrev s : rows.State
   s = state w.locks.rows
 
   -- A THREAD BETWEEN ITS CALLS THAT HOLDS A SHARD HAS A CALL LEFT
 
-  module _ (t : ℕ) (p : Place K V D T) (at : slice_get w.places t ≡ Some p) where
+  module _ (t : ℕ) (p : Place K V D T A) (at : slice_get w.places t ≡ Some p) where
     abbrev stands : Stands x (threads_of w) w.blocks w.replies w.tables t p
     stands = whole.sound.stands t p at
 
@@ -104,69 +108,129 @@ module _ {K V S D T : Type 0} (x : Setup K V D T) (w : State K V S D T) (whole :
         let below = guarded-goes (session_of x t p.next) g refl has claim.2 in
         omega (arith, below, ap (λ xs. length xs) left, length-drop p.next stands.program)
 
-    -- ONE THAT OWNS A LOCK WHERE IT IS IN NO CALL CAN MOVE
+    -- A WALK THAT KEEPS A SHARD WHILE IT WAITS WAITS FOR THE NEXT ONE
 
-    stands-apart : (shard : ℕ) → IsApart shard (call_at s t) → (stand : Stand) → stand_in w.locks t ≡ Some stand → stand.shard ≢ shard
-    stands-apart shard apart stand is same = by (call_at s t) apart is
+    keeps-shard : (mode : Mode) (n : ℕ) → KeepsOver p mode n → (i : ℕ) (a : Hold) → slice_get p.holds i ≡ Some a → a.shard + 1 ≡ p.shard
+    keeps-shard mode zero none i a there = absurd (none-there p.holds i a none there)
+    keeps-shard mode (suc n) one i a there = ap (λ (h : Hold). h.shard + 1) (sym (only-first p.holds one.0 i a one.1 there).1) ∙ one.2
+
+    pub reaches-next : (f : Walk D) → p.phase ≡ phase.Reach f → (i : ℕ) (a : Hold) → slice_get p.holds i ≡ Some a → a.shard + 1 ≡ p.shard
+    reaches-next f before i a there = keeps-shard (walk_mode f) (kept_over f p.shard) (claim-at x (threads_of w) w.blocks w.replies w.tables t p (phase.Reach f) before stands).2 i a there
+
+    pub reaches-within : (f : Walk D) → p.phase ≡ phase.Reach f → p.shard < length w.tables
+    reaches-within f before =
+        let between : IsBetweenVisits x w.blocks t p f p.shard = subst (λ (g : Phase K V D T A). Walks x w.blocks w.tables t p g) before stands.walks in
+        omega (arith, between.left, whole.sound.shards)
+
+    -- it is in a call there, or in none
+    wants-at : (mode : Mode) (tries : Bool) (c : Call) → call_at s t ≡ Some c → IsWanting p mode tries (stand_in w.locks t) → c.lock ≡ p.shard
+    wants-at mode tries c is h = ap (λ (z : Stand). z.shard) (same_Some (stand_of c) _ (sym (ap (option_map stand_of) is) ∙ h.is))
+
+    pub reaches-at : (f : Walk D) → p.phase ≡ phase.Reach f → (c : Call) → call_at s t ≡ Some c → c.lock ≡ p.shard
+    reaches-at f before c is = wants-at (walk_mode f) false c is (stand-at w.places w.locks whole.sound.holds t p at (phase.Reach f) before)
+
+    stands-apart : (shard : ℕ) → IsApart shard (call_at s t) → IsAt w.locks t shard → ⊥
+    stands-apart shard apart there = by (call_at s t) apart there.1
       where
-        by : (o : Option Call) → IsApart shard o → option_map stand_of o ≡ Some stand → ⊥
-        by None h e = none-some stand e
-        by (Some c) h e = h (ap (λ (z : Stand). z.shard) (same_Some (stand_of c) stand e) ∙ same)
+        by : (o : Option Call) → IsApart shard o → option_map stand_of o ≡ Some there.0 → ⊥
+        by None h e = none-some there.0 e
+        by (Some c) h e = h (ap (λ (z : Stand). z.shard) (same_Some (stand_of c) there.0 e) ∙ there.2)
 
-    owing-goes : (shard : ℕ) → (a : Hold) (i : ℕ) → slice_get p.holds i ≡ Some a → a.shard ≡ shard → (aim : Aim) (from : ℕ) → from ≢ shard → MayOwe p from aim → ⊥
-    owing-goes shard a i there of (Gets mode) from apart owes = owes
-    owing-goes shard a i there of (GivesUp mode) from apart owes = none-there p.holds i a owes there
-    owing-goes shard a i there of Turns from apart owes = apart (sym owes.2 ∙ (ap (λ (h : Hold). h.shard) (only-first p.holds owes.0 i a owes.1 there).1 ∙ of))
-
-    holder-answers : (shard : ℕ) (a : Hold) (i : ℕ) → slice_get p.holds i ≡ Some a → a.shard ≡ shard → IsApart shard (call_at s t) → (o : Option Stand) → stand_in w.locks t ≡ o → IsOwing p o → goes_on w.locks t ≡ true
-    holder-answers shard a i there of apart None is owes = alone-goes (call_at s t) (can_move s t) (no-stand x w whole t is)
-    holder-answers shard a i there of apart (Some stand) is owes = absurd (owing-goes shard a i there of stand.aim stand.shard (stands-apart shard apart stand is) owes)
-
-    holder-moves : (shard : ℕ) (a : Hold) (i : ℕ) → slice_get p.holds i ≡ Some a → a.shard ≡ shard → IsApart shard (call_at s t) → (f : Phase K V D T) → p.phase ≡ f → can_move_in w t ≡ true
-    holder-moves shard a i there of apart phase.Rest before = moves-as x w whole t p at phase.Rest before ∙ not-zero (length p.asks) (rest-goes before p.guard refl i a there)
-    holder-moves shard a i there of apart (phase.Admit r) before = absurd (none-there p.holds i a (claim-at x (threads_of w) w.blocks w.replies w.tables t p (phase.Admit r) before stands).2 there)
-    holder-moves shard a i there of apart (phase.Answer r) before =
-        moves-as x w whole t p at (phase.Answer r) before ∙ holder-answers shard a i there of apart (stand_in w.locks t) refl (stand-at w.places w.locks whole.sound.holds t p at (phase.Answer r) before)
-    holder-moves shard a i there of apart (phase.Find r) before = moves-as x w whole t p at (phase.Find r) before
-    holder-moves shard a i there of apart (phase.Grow c) before = moves-as x w whole t p at (phase.Grow c) before
-    holder-moves shard a i there of apart (phase.Append k v) before = moves-as x w whole t p at (phase.Append k v) before
-    holder-moves shard a i there of apart (phase.Apply k) before = moves-as x w whole t p at (phase.Apply k) before
-    holder-moves shard a i there of apart (phase.View k d) before = moves-as x w whole t p at (phase.View k d) before
-    holder-moves shard a i there of apart (phase.Read d) before = moves-as x w whole t p at (phase.Read d) before
-    holder-moves shard a i there of apart (phase.Change h) before = moves-as x w whole t p at (phase.Change h) before
-    holder-moves shard a i there of apart (phase.Fill v) before = moves-as x w whole t p at (phase.Fill v) before
-    holder-moves shard a i there of apart phase.Downgrade before = moves-as x w whole t p at phase.Downgrade before
-    holder-moves shard a i there of apart (phase.Release r) before = moves-as x w whole t p at (phase.Release r) before
-
-    owner-here : (shard : ℕ) (m : DeskMode) → owner_in w.locks shard t ≡ Some m → IsApart shard (call_at s t) → can_move_in w t ≡ true
-    owner-here shard m owns apart = elim (whole.sound.holds.known t shard p m at owns) [
-      | inl among ↦ holder-moves shard among.hold among.index among.there among.shard_is apart p.phase refl
-      | inr there ↦ absurd (stands-apart shard apart there.0 there.1 there.2)
-    ]
-
-  owner-moves : (t shard : ℕ) (m : DeskMode) → owner_in w.locks shard t ≡ Some m → IsApart shard (call_at s t) → can_move_in w t ≡ true
-  owner-moves t shard m owns apart =
-      let at = place-there w.places t (omega (arith, holders_are_threads s shard whole.locks.plain.kinds t m owns, whole.sizes.locks.threads_are)) in
-      owner-here t at.0 at.1 shard m owns apart
+    -- one that owes something to a lock doesn't sleep there
+    owing-awake : IsOwing p (stand_in w.locks t) → is_asleep s t ≡ true → ⊥
+    owing-awake owes asleep =
+        let on = sleeper w.locks whole.locks t asleep in
+        let owing : MayOwe p on.0.lock (stand_of on.0).aim = subst (λ (o : Option Stand). IsOwing p o) (ap (option_map stand_of) on.1) owes in
+        subst (λ (aim : Aim). MayOwe p on.0.lock aim) on.2.aim_is owing
 
   -- SOMEBODY CAN MOVE
 
+  abbrev Moves : Type 0
+  Moves = (u : ℕ) × (can_move_in w u ≡ true)
+
   module _ (machine : Always SomebodyCanMove) where
-    at-lock : (t : ℕ) → can_move_in w t ≡ goes_on w.locks t → (o : Option Call) → call_at s t ≡ o → (u : ℕ) × (can_move_in w u ≡ true)
-    at-lock t goes None is = (t, goes ∙ alone-goes (call_at s t) (can_move s t) is)
-    at-lock t goes (Some c) is = elim (machine s whole.locks.fits t c is) [
-      | inl some ↦ (some.0, moves-there x w whole some.0 some.1)
-      | inr kept ↦
-          let u = kept.1.0 in
-          let mode = held-apart (slice_get s.kinds c.lock) (hold_at s u c.lock) kept.1.1 (sym (apart_owner s u whole.locks.fits c.lock (apart c.lock (call_at s u) kept.1.3)) ∙ kept.1.2) in
-          (u, owner-moves u c.lock mode.0 (ap held_as kept.1.2 ∙ mode.1) kept.1.3)
+    -- somebody can, or the thread sleeps, and one that is in no call at its lock keeps that
+    by-machine : (t : ℕ) → can_move_in w t ≡ goes_on w.locks t → (o : Option Call) → call_at s t ≡ o → Moves ⊎ ((c : Call) × (call_at s t ≡ Some c) × (is_asleep s t ≡ true) × SomebodyKeeps s c.lock)
+    by-machine t goes None is = inl (t, goes ∙ alone-goes (call_at s t) (can_move s t) is)
+    by-machine t goes (Some c) is = elim (machine s whole.locks.fits t c is) [
+      | inl some ↦ inl (some.0, moves-there x w whole some.0 some.1)
+      | inr kept ↦ inr (c, is, kept.0, kept.1)
     ]
 
-    module _ (t : ℕ) (p : Place K V D T) (at : slice_get w.places t ≡ Some p) (some : 0 < owed p) where
-      by-phase : (f : Phase K V D T) → p.phase ≡ f → (u : ℕ) × (can_move_in w u ≡ true)
-      by-phase phase.Rest before = (t, moves-as x w whole t p at phase.Rest before ∙ not-zero (length p.asks) (omega (arith, some, ap (λ (f : Phase K V D T). length p.asks + owes f) before)))
-      by-phase (phase.Admit r) before = at-lock t (moves-as x w whole t p at (phase.Admit r) before) (call_at s t) refl
-      by-phase (phase.Answer a) before = at-lock t (moves-as x w whole t p at (phase.Answer a) before) (call_at s t) refl
+    -- one that owes
+    owing-moves : (t : ℕ) (p : Place K V D T A) → slice_get w.places t ≡ Some p → can_move_in w t ≡ goes_on w.locks t → IsOwing p (stand_in w.locks t) → Moves
+    owing-moves t p at goes owes = elim (by-machine t goes (call_at s t) refl) [
+      | inl some ↦ some
+      | inr asleep ↦ absurd (owing-awake t p at owes asleep.2)
+    ]
+
+    -- one that holds a shard: a walk may wait for the next one
+    module _ (t : ℕ) (p : Place K V D T A) (at : slice_get w.places t ≡ Some p) (a : Hold) (i : ℕ) (there : slice_get p.holds i ≡ Some a) (next : a.shard + 1 < length w.tables → SomebodyKeeps s (a.shard + 1) → Moves) where
+      reach-moves : (f : Walk D) → p.phase ≡ phase.Reach f → Moves
+      reach-moves f before = elim (by-machine t (moves-as x w whole t p at (phase.Reach f) before) (call_at s t) refl) [
+        | inl some ↦ some
+        | inr asleep ↦
+            let above : a.shard + 1 ≡ p.shard = reaches-next t p at f before i a there in
+            let lock : asleep.0.lock ≡ a.shard + 1 = reaches-at t p at f before asleep.0 asleep.1 ∙ sym above in
+            next (omega (arith, above, reaches-within t p at f before)) (subst (λ k. SomebodyKeeps s k) lock asleep.3)
+      ]
+
+      holder-moves : (f : Phase K V D T A) → p.phase ≡ f → Moves
+      holder-moves phase.Rest before = (t, moves-as x w whole t p at phase.Rest before ∙ not-zero (length p.asks) (rest-goes t p at before p.guard refl i a there))
+      holder-moves (phase.Admit r) before = absurd (none-there p.holds i a (claim-at x (threads_of w) w.blocks w.replies w.tables t p (phase.Admit r) before (stands t p at)).2 there)
+      holder-moves (phase.Idle f) before = absurd (none-there p.holds i a (claim-at x (threads_of w) w.blocks w.replies w.tables t p (phase.Idle f) before (stands t p at)).2 there)
+      holder-moves (phase.Reach f) before = reach-moves f before
+      holder-moves (phase.Visit f) before = owing-moves t p at (moves-as x w whole t p at (phase.Visit f) before) (stand-at w.places w.locks whole.sound.holds t p at (phase.Visit f) before)
+      holder-moves (phase.Onward f) before = owing-moves t p at (moves-as x w whole t p at (phase.Onward f) before) (stand-at w.places w.locks whole.sound.holds t p at (phase.Onward f) before)
+      holder-moves (phase.Answer r) before = owing-moves t p at (moves-as x w whole t p at (phase.Answer r) before) (stand-at w.places w.locks whole.sound.holds t p at (phase.Answer r) before)
+      holder-moves (phase.Find r) before = (t, moves-as x w whole t p at (phase.Find r) before)
+      holder-moves (phase.Grow c) before = (t, moves-as x w whole t p at (phase.Grow c) before)
+      holder-moves (phase.Append k v) before = (t, moves-as x w whole t p at (phase.Append k v) before)
+      holder-moves (phase.Apply k) before = (t, moves-as x w whole t p at (phase.Apply k) before)
+      holder-moves (phase.View k d) before = (t, moves-as x w whole t p at (phase.View k d) before)
+      holder-moves (phase.Read d) before = (t, moves-as x w whole t p at (phase.Read d) before)
+      holder-moves (phase.Change h) before = (t, moves-as x w whole t p at (phase.Change h) before)
+      holder-moves (phase.Fill v) before = (t, moves-as x w whole t p at (phase.Fill v) before)
+      holder-moves phase.Downgrade before = (t, moves-as x w whole t p at phase.Downgrade before)
+      holder-moves (phase.Part f) before = (t, moves-as x w whole t p at (phase.Part f) before)
+      holder-moves (phase.Seek f) before = (t, moves-as x w whole t p at (phase.Seek f) before)
+      holder-moves (phase.Item f) before = (t, moves-as x w whole t p at (phase.Item f) before)
+      holder-moves (phase.Give f) before = (t, moves-as x w whole t p at (phase.Give f) before)
+      holder-moves (phase.Release a) before = (t, moves-as x w whole t p at (phase.Release a) before)
+
+    -- one that keeps a lock where it is in no call
+    keeper-moves : (shard : ℕ) → SomebodyKeeps s shard → (shard + 1 < length w.tables → SomebodyKeeps s (shard + 1) → Moves) → Moves
+    keeper-moves shard kept next =
+        let u = kept.0 in
+        let mode = held-apart (slice_get s.kinds shard) (hold_at s u shard) kept.1 (sym (apart_owner s u whole.locks.fits shard (apart shard (call_at s u) kept.3)) ∙ kept.2) in
+        let owns : owner_in w.locks shard u ≡ Some mode.0 = ap held_as kept.2 ∙ mode.1 in
+        let here = place-there w.places u (omega (arith, holders_are_threads s shard whole.locks.plain.kinds u mode.0 owns, whole.sizes.locks.threads_are)) in
+        elim (whole.sound.holds.known u shard here.0 mode.0 here.1 owns) [
+          | inl among ↦
+              holder-moves u here.0 here.1 among.hold among.index among.there (subst (λ (k : ℕ). k + 1 < length w.tables → SomebodyKeeps s (k + 1) → Moves) (sym among.shard_is) next) here.0.phase refl
+          | inr there ↦ absurd (stands-apart u here.0 here.1 shard kept.3 there)
+        ]
+
+    -- The shards that walks wait for rise: with so many shards left above, one who keeps a lock can move, or waits for a higher one.
+    rising : (left shard : ℕ) → length w.tables ≤ shard + left → SomebodyKeeps s shard → Moves
+    rising zero shard past kept = keeper-moves shard kept (λ low above. absurd (omega (arith, past, low)))
+    rising (suc left) shard past kept = keeper-moves shard kept (λ low above. rising left (shard + 1) (omega (arith, past)) above)
+
+    asking-moves : (t : ℕ) → can_move_in w t ≡ goes_on w.locks t → Moves
+    asking-moves t goes = elim (by-machine t goes (call_at s t) refl) [
+      | inl some ↦ some
+      | inr asleep ↦ rising (length w.tables) asleep.0.lock (omega arith) asleep.3
+    ]
+
+    module _ (t : ℕ) (p : Place K V D T A) (at : slice_get w.places t ≡ Some p) (some : 0 < owed p) where
+      by-phase : (f : Phase K V D T A) → p.phase ≡ f → Moves
+      by-phase phase.Rest before = (t, moves-as x w whole t p at phase.Rest before ∙ not-zero (length p.asks) (omega (arith, some, ap (λ (f : Phase K V D T A). length p.asks + owes f) before)))
+      by-phase (phase.Admit r) before = asking-moves t (moves-as x w whole t p at (phase.Admit r) before)
+      by-phase (phase.Idle f) before = asking-moves t (moves-as x w whole t p at (phase.Idle f) before)
+      by-phase (phase.Reach f) before = asking-moves t (moves-as x w whole t p at (phase.Reach f) before)
+      by-phase (phase.Visit f) before = asking-moves t (moves-as x w whole t p at (phase.Visit f) before)
+      by-phase (phase.Onward f) before = asking-moves t (moves-as x w whole t p at (phase.Onward f) before)
+      by-phase (phase.Answer r) before = asking-moves t (moves-as x w whole t p at (phase.Answer r) before)
       by-phase (phase.Find r) before = (t, moves-as x w whole t p at (phase.Find r) before)
       by-phase (phase.Grow c) before = (t, moves-as x w whole t p at (phase.Grow c) before)
       by-phase (phase.Append k v) before = (t, moves-as x w whole t p at (phase.Append k v) before)
@@ -176,9 +240,13 @@ module _ {K V S D T : Type 0} (x : Setup K V D T) (w : State K V S D T) (whole :
       by-phase (phase.Change h) before = (t, moves-as x w whole t p at (phase.Change h) before)
       by-phase (phase.Fill v) before = (t, moves-as x w whole t p at (phase.Fill v) before)
       by-phase phase.Downgrade before = (t, moves-as x w whole t p at phase.Downgrade before)
+      by-phase (phase.Part f) before = (t, moves-as x w whole t p at (phase.Part f) before)
+      by-phase (phase.Seek f) before = (t, moves-as x w whole t p at (phase.Seek f) before)
+      by-phase (phase.Item f) before = (t, moves-as x w whole t p at (phase.Item f) before)
+      by-phase (phase.Give f) before = (t, moves-as x w whole t p at (phase.Give f) before)
       by-phase (phase.Release a) before = (t, moves-as x w whole t p at (phase.Release a) before)
 
-pub somebody_moves : {K V S D T : Type 0} → Always SomebodyCanMove → (x : Setup K V D T) (w : State K V S D T) → IsWhole x w → 0 < unanswered_of w → (t : ℕ) × (can_move_in w t ≡ true)
+pub somebody_moves : {K V S D T A : Type 0} → Always SomebodyCanMove → (x : Setup K V D T) (w : State K V S D T A) → IsWhole x w → 0 < unanswered_of w → (t : ℕ) × (can_move_in w t ≡ true)
 somebody_moves machine x w whole some =
     let part = some-part owed w.places (omega (arith, some, whole.sizes.answers)) in
     by-phase x w whole machine part.0 part.1 part.2 part.3 part.1.phase refl

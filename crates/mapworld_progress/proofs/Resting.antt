@@ -35,7 +35,7 @@ use Rattle.mapworld_state.specs.declared.place.Phase.TheVariants as phase
 use Rattle.mapworld_state.specs.Core.{owed, owes}
 use Rattle.mapworld_state.specs.Places.{Place}
 use Rattle.mapworld_state.specs.Running.{can_move_in, unanswered_of}
-use Rattle.mapworld_state.specs.Sound.{IsInSession, Stands}
+use Rattle.mapworld_state.specs.Sound.{HasNoWalk, IsInSession, Stands, Walks}
 use Rattle.mapworld_state.specs.State.{State, threads_of}
 use Rattle.mapworld_state.proofs.HoldsTable.{none-there}
 use Rattle.mapworld_calls.proofs.Lists.{sum_by-at}
@@ -47,7 +47,7 @@ use Rattle.mapworld_progress.proofs.Moving.{session-goes, somebody_moves}
 use Rattle.mapworld_progress.proofs.Turning.{beyond-no-call, no-stand, place-there}
 
 -- one that owes no answer is between two calls
-rests : {K V D T : Type 0} (f : Phase K V D T) → owes f ≡ 0 → f ≡ phase.Rest
+rests : {K V D T A : Type 0} (f : Phase K V D T A) → owes f ≡ 0 → f ≡ phase.Rest
 rests phase.Rest none = refl
 rests (phase.Admit r) none = absurd (omega (arith, none))
 rests (phase.Find r) none = absurd (omega (arith, none))
@@ -59,6 +59,14 @@ rests (phase.Read d) none = absurd (omega (arith, none))
 rests (phase.Change h) none = absurd (omega (arith, none))
 rests (phase.Fill v) none = absurd (omega (arith, none))
 rests phase.Downgrade none = absurd (omega (arith, none))
+rests (phase.Idle f) none = absurd (omega (arith, none))
+rests (phase.Reach f) none = absurd (omega (arith, none))
+rests (phase.Part f) none = absurd (omega (arith, none))
+rests (phase.Visit f) none = absurd (omega (arith, none))
+rests (phase.Seek f) none = absurd (omega (arith, none))
+rests (phase.Item f) none = absurd (omega (arith, none))
+rests (phase.Give f) none = absurd (omega (arith, none))
+rests (phase.Onward f) none = absurd (omega (arith, none))
 rests (phase.Release a) none = absurd (omega (arith, none))
 rests (phase.Answer a) none = absurd (omega (arith, none))
 
@@ -75,7 +83,7 @@ no-guards (g ∷ guards) none =
     let some : g ∷ guards_of g.party guards ≡ [] = sym (cond-true (is_of g.party g) (g ∷ guards_of g.party guards) (guards_of g.party guards) (eq-eqb g.party g.party refl)) ∙ none g.party in
     absurd cc
 
-module _ {K V S D T : Type 0} (machine : Always SomebodyCanMove) (x : Setup K V D T) (w : State K V S D T) (whole : IsWhole x w) (stops : (t : ℕ) → can_move_in w t ≡ false) where
+module _ {K V S D T A : Type 0} (machine : Always SomebodyCanMove) (x : Setup K V D T) (w : State K V S D T A) (whole : IsWhole x w) (stops : (t : ℕ) → can_move_in w t ≡ false) where
   abbrev s : rows.State
   s = state w.locks.rows
 
@@ -86,7 +94,7 @@ module _ {K V S D T : Type 0} (machine : Always SomebodyCanMove) (x : Setup K V 
   answered : unanswered_of w ≡ 0
   answered = none-left (unanswered_of w) refl
 
-  module _ (t : ℕ) (p : Place K V D T) (at : slice_get w.places t ≡ Some p) where
+  module _ (t : ℕ) (p : Place K V D T A) (at : slice_get w.places t ≡ Some p) where
     owes-none : owed p ≡ 0
     owes-none = omega (arith, sum_by-at owed w.places t p at, whole.sizes.answers, answered)
 
@@ -112,7 +120,8 @@ module _ {K V S D T : Type 0} (machine : Always SomebodyCanMove) (x : Setup K V 
     ended =
         let claim = claim-at x (threads_of w) w.blocks w.replies w.tables t p phase.Rest rests-here stands in
         let guard = outside (session_of x t p.next) refl claim.2 in
-        record { asks = no-asks; rests = rests-here; holds = claim.1 guard; guard = guard }
+        let walks : HasNoWalk p = subst (λ (f : Phase K V D T A). Walks x w.blocks w.tables t p f) rests-here stands.walks in
+        record { asks = no-asks; rests = rests-here; holds = claim.1 guard; guard = guard; visits = walks.visits; reads = walks.reads }
 
     stand-none : stand_in w.locks t ≡ None
     stand-none = stand-at w.places w.locks whole.sound.holds t p at phase.Rest rests-here

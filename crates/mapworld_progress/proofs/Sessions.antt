@@ -15,6 +15,7 @@ still-open false s c e = e
 before : {K V D : Type 0} (n c : ℕ) (o : Option (Ask K V D)) (s : Option ℕ) → c < n → session_behind n o s ≡ Some c → s ≡ Some c
 before n c None s later e = e
 before n c (Some (ask.Keyed k)) s later e = e
+before n c (Some (ask.Walk f)) s later e = e
 before n c (Some (ask.Begin b)) s later e = let same = same_Some n c e in absurd (omega (arith, later, same))
 before n c (Some (ask.Held h)) s later e = still-open (is_drop h) s c e
 

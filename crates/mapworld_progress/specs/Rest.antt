@@ -20,13 +20,15 @@ pub record AreFree (locks : Shown) : Type 0 where
   pub desks : (shard : ℕ) (desk : DeskState (Unit {0})) → slice_get locks.desks shard ≡ Some desk → desk.guards ≡ []
 
 -- a thread has no call left, and holds nothing
-pub record HasEnded {K V D T : Type 0} (p : Place K V D T) : Type 0 where
+pub record HasEnded {K V D T A : Type 0} (p : Place K V D T A) : Type 0 where
   pub asks : p.asks ≡ []
   pub rests : p.phase ≡ phase.Rest
   pub holds : p.holds ≡ []
   pub guard : p.guard ≡ None
+  pub visits : p.visits ≡ []
+  pub reads : p.reads ≡ []
 
-pub record IsAtRest {K V S D T : Type 0} (w : State K V S D T) : Type 0 where
+pub record IsAtRest {K V S D T A : Type 0} (w : State K V S D T A) : Type 0 where
   pub answered : unanswered_of w ≡ 0
-  pub places : (t : ℕ) (p : Place K V D T) → slice_get w.places t ≡ Some p → HasEnded p
+  pub places : (t : ℕ) (p : Place K V D T A) → slice_get w.places t ≡ Some p → HasEnded p
   pub locks : AreFree w.locks

@@ -5,7 +5,7 @@ use Rattle.mapworld_state.specs.Sound.{Sound}
 use Rattle.mapworld_state.specs.State.{State}
 use Rattle.mapworld_progress.specs.Sizes.{IsSized}
 
-pub record IsWhole {K V S D T : Type 0} (x : Setup K V D T) (w : State K V S D T) : Type 0 where
+pub record IsWhole {K V S D T A : Type 0} (x : Setup K V D T) (w : State K V S D T A) : Type 0 where
   pub sound : Sound x w
   pub locks : LocksFit w.locks
   pub sizes : IsSized w

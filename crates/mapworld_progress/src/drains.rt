@@ -3,8 +3,7 @@ ghost use Rattle.std.specs.Prelude.{◌≡◌, ◌+◌, ◌<◌, ◌≤◌, ◌^
 ghost use Rattle.mapworld_state.specs.Core.{state_of, Room, IsSoundCore, IsSlotted};
 ghost use Rattle.mapworld_state.specs.Running.{bound_of, can_move_in, has_next};
 ghost use Rattle.mapworld_state.specs.World.{setup_of};
-ghost use Rattle.mapworld_progress.specs.Drains.{DrainsBy, Makes, HasTime};
-ghost use Rattle.mapworld_progress.specs.Left.{left};
+ghost use Rattle.mapworld_progress.specs.Drains.{DrainsBy, IsInTime, Makes, core_left};
 ghost use Rattle.mapworld_progress.specs.Rest.{IsAtRest};
 
 use mapworld_calls::Deed;
@@ -54,11 +53,11 @@ fn step_on<
     requires sound { IsSoundCore D.Deed S.BuildHasher S.Hasher.Hasher K.eq K.hash_input core.old }
     requires room { Room core.old }
     requires slots { IsSlotted D.Deed S.BuildHasher S.Hasher.Hasher K.eq K.hash_input core.old }
-    requires time { length (state_of core.old).steps + left (state_of core.old) thread + 1 < 2 ^ 63 }
+    requires time { length (state_of core.old).steps + core_left D.Deed S.BuildHasher S.Hasher.Hasher K.eq K.hash_input core.old thread + 1 < 2 ^ 63 }
     requires thread { thread < length core.old.places.items }
     ensures ran { let setup = setup_of D.Deed S.BuildHasher S.Hasher.Hasher K.eq K.hash_input (state_of core.old) in
         DrainsBy setup (state_of core.old) result (state_of core.new) }
-    ensures falls { result + left (state_of core.new) thread ≤ left (state_of core.old) thread }
+    ensures falls { result + core_left D.Deed S.BuildHasher S.Hasher.Hasher K.eq K.hash_input core.new thread ≤ core_left D.Deed S.BuildHasher S.Hasher.Hasher K.eq K.hash_input core.old thread }
     ensures stops { can_move_in (state_of core.new) thread ≡ false }
     ensures sound { IsSoundCore D.Deed S.BuildHasher S.Hasher.Hasher K.eq K.hash_input core.new }
     ensures room { Room core.new }
@@ -78,10 +77,10 @@ fn pass<K: Eq + Hash + Drop, V: Drop, S: BuildHasher, D: Deed<K, V> + Drop, A: A
     requires sound { IsSoundCore D.Deed S.BuildHasher S.Hasher.Hasher K.eq K.hash_input core.old }
     requires room { Room core.old }
     requires slots { IsSlotted D.Deed S.BuildHasher S.Hasher.Hasher K.eq K.hash_input core.old }
-    requires time { HasTime (state_of core.old) }
+    requires time { IsInTime D.Deed S.BuildHasher S.Hasher.Hasher K.eq K.hash_input core.old }
     ensures ran { let setup = setup_of D.Deed S.BuildHasher S.Hasher.Hasher K.eq K.hash_input (state_of core.old) in
         DrainsBy setup (state_of core.old) result (state_of core.new) }
-    ensures falls { (most : ℕ) → ((u : ℕ) → left (state_of core.old) u < most) → (u : ℕ) → result + left (state_of core.new) u < most }
+    ensures falls { (most : ℕ) → ((u : ℕ) → core_left D.Deed S.BuildHasher S.Hasher.Hasher K.eq K.hash_input core.old u < most) → (u : ℕ) → result + core_left D.Deed S.BuildHasher S.Hasher.Hasher K.eq K.hash_input core.new u < most }
     ensures stops { result ≡ 0 → (t : ℕ) → can_move_in (state_of core.new) t ≡ false }
     ensures sound { IsSoundCore D.Deed S.BuildHasher S.Hasher.Hasher K.eq K.hash_input core.new }
     ensures room { Room core.new }
@@ -109,12 +108,12 @@ pub fn drain<
     requires sound { IsSoundCore D.Deed S.BuildHasher S.Hasher.Hasher K.eq K.hash_input core.old }
     requires room { Room core.old }
     requires slots { IsSlotted D.Deed S.BuildHasher S.Hasher.Hasher K.eq K.hash_input core.old }
-    requires time { HasTime (state_of core.old) }
+    requires time { IsInTime D.Deed S.BuildHasher S.Hasher.Hasher K.eq K.hash_input core.old }
     ensures ran { let setup = setup_of D.Deed S.BuildHasher S.Hasher.Hasher K.eq K.hash_input (state_of core.old) in
         DrainsBy setup (state_of core.old) result (state_of core.new) }
     ensures few { result < bound_of (state_of core.old) }
     ensures rest { IsAtRest (state_of core.new) }
-    ensures time { HasTime (state_of core.new) }
+    ensures time { IsInTime D.Deed S.BuildHasher S.Hasher.Hasher K.eq K.hash_input core.new }
     ensures sound { IsSoundCore D.Deed S.BuildHasher S.Hasher.Hasher K.eq K.hash_input core.new }
     ensures room { Room core.new }
     ensures slots { IsSlotted D.Deed S.BuildHasher S.Hasher.Hasher K.eq K.hash_input core.new }

@@ -118,7 +118,7 @@ pub fn report<R: Threads + Wait + Sync + Copy, A: Allocator + Clone + Drop, W: i
     let mut world = made(&alloc)?;
     run_once(&mut world, 0)?;
     run_through(&mut world, 1)?;
-    run_through(&mut world, 0)?;
+    let _ = world.drain();
     let mut text = told(&alloc, &world)?;
     writeln!(text, "gathered: {} entries", gathered(rt, shared)?)?;
     out.write_all(text.as_bytes())
@@ -203,7 +203,7 @@ fn told<A: Allocator + Clone + Drop>(
 
 fn tell_reply<A: Allocator>(
     text: &mut String<A>,
-    reply: &Reply<u64, u64, u64>,
+    reply: &Reply<u64, u64, u64, A>,
 ) -> Result<(), AllocError> {
     let thread = reply.thread;
     let call = reply.call;
@@ -220,6 +220,9 @@ fn tell_reply<A: Allocator>(
         Answer::NoGuard => writeln!(text, "no guard"),
         Answer::WrongGuard => writeln!(text, "wrong guard"),
         Answer::Flag(flag) => writeln!(text, "{flag}"),
+        Answer::Count(count) => writeln!(text, "{count}"),
+        Answer::Reads(values) => writeln!(text, "values {values:?}"),
+        Answer::Locked => writeln!(text, "locked"),
         Answer::NoMemory => writeln!(text, "no memory"),
     }
 }

@@ -14,7 +14,7 @@ use Rattle.mapworld_calls.specs.Deeds.{Deeds}
 use Rattle.mapworld_calls.specs.Calls.{At, free, exclusive, vacant, pair_in, held_answer, held_leaves}
 use Rattle.mapworld_calls.specs.Programs.{is_drop, opening_key}
 use Rattle.mapworld_calls.specs.Setup.{Setup, Laws, session_of}
-use Rattle.mapworld_calls.specs.Replay.{reached, block_key, is_key, found, IsLastOnShard}
+use Rattle.mapworld_calls.specs.Replay.{reached, block_key, found, IsLastOnShard}
 use Rattle.mapworld_calls.specs.Agrees.{IsToldBy}
 use Rattle.mapworld_calls.proofs.Grown.{contents-own, contents-other}
 use Rattle.mapworld_calls.proofs.Handed.{Handed, block-handed}
@@ -33,7 +33,7 @@ use Rattle.mapworld_state.specs.Sound.{may_own, block_after, GuardIs, Sound}
 use Rattle.mapworld_state.proofs.Owning.{same-kind}
 use Rattle.mapworld_sound.proofs.Others.{IsInCall-push}
 use Rattle.mapworld_sound.proofs.Holding.{holds-same, owes-none, stand-at}
-use Rattle.mapworld_sound.proofs.Building.{in_call-moved, holds-moved, session-next, tables-changed, claim-at, taken-at, within-at}
+use Rattle.mapworld_sound.proofs.Building.{Goes, in_call-moved, holds-moved, session-next, tables-changed, claim-at, taken-at, within-at, none-at}
 use Rattle.mapworld_sound.proofs.Admitting.{kept-alone}
 use Rattle.mapworld_sound.proofs.Finding.{ready-inside}
 use Rattle.mapworld_sound.proofs.Reading.{in-session}
@@ -68,14 +68,15 @@ changes-by deeds held.RemoveEntry (way.Occupied k) p is = inr (None, refl, refl)
 changes-by deeds (held.ReplaceEntry v) (way.Occupied k) p is = inr (Some (k, v), refl, refl)
 changes-by deeds h k p is = absurd (cc)
 
-module _ {K V S D T : Type 0} (x : Setup K V D T) (laws : Laws x) (w : State K V S D T) (s : Step) (w' : State K V S D T) (sound : Sound x w) where
-  pub sound-changes : Changes x w s w' → Sound x w'
+module _ {K V S D T A : Type 0} (x : Setup K V D T) (laws : Laws x) (w : State K V S D T A) (s : Step) (w' : State K V S D T A) (sound : Sound x w) where
+  pub sound-changes : Changes x w s w' → Goes x s.thread w w'
   sound-changes a =
       let p = a.place in
       let h : Held V D = a.call in
       let f = phase.Change h in
       let st = sound.stands s.thread p a.stands in
       let cl = claim-at x (threads_of w) w.blocks w.replies w.tables s.thread p f a.before st in
+      let none = none-at x (threads_of w) w.blocks w.replies w.tables s.thread p f a.before st refl in
       let call = cl.1 in
       let alone = cl.4 in
       let is-change : is_change h a.kind ≡ true = subst (λ (z : Way K). is_change h z ≡ true) (same-kind p.guard cl.0 a.kind cl.2 a.guarded) cl.3 in
@@ -91,7 +92,7 @@ module _ {K V S D T : Type 0} (x : Setup K V D T) (laws : Laws x) (w : State K V
       let lends = growing.lends-pair x laws w s sound p a.stands h call.asked c i inside session b d n.2 n.3 still a.kind a.guarded g.3 a.key a.key_is a.table a.held a.pair a.found in
       let was : At K V = reached x s.thread c (p.next - c) (found x w.blocks i b) in
       let left : At K V = held_leaves x.deeds h (lent a.kind a.pair) in
-      let r : Answer K V T = held_answer x.deeds h (lent a.kind a.pair) in
+      let r : Answer K V T A = held_answer x.deeds h (lent a.kind a.pair) in
       let leaves : held_leaves x.deeds h was ≡ left = ap (held_leaves x.deeds h) lends.0 in
       let told : held_answer x.deeds h was ≡ r = ap (held_answer x.deeds h) lends.0 in
       let grows = growing.grows x laws w s sound p a.stands h call.asked c i inside session b d n.2 n.3 still in
@@ -101,11 +102,11 @@ module _ {K V S D T : Type 0} (x : Setup K V D T) (laws : Laws x) (w : State K V
       ap pair_in (growing.reached-now x laws w s sound p a.stands h call.asked c i inside session b d n.2 n.3 still ∙ leaves) in
       let tables' = slice_set w.tables p.shard a.changed in
       let agree = tables-changed x laws w.blocks (slice_set w.blocks i d) w.tables sound.tables a.key (pair_in left) p.shard here
-      (λ q e. contents-own x laws w.blocks i b d grows last q (ap (λ z. is_key x.eq z q) key-is ∙ e) ∙ reached-now)
-      (λ q e. contents-other x laws w.blocks i b d grows q (ap (λ z. is_key x.eq z q) key-is ∙ e))
+      (λ q e. contents-own x laws w.blocks i b d grows last a.key key-is q e ∙ reached-now)
+      (λ q e. contents-other x laws w.blocks i b d grows a.key key-is q e)
       a.table a.changed a.held a.puts in
       let answered = in-session x (slice_set w.blocks i d) s.thread p.next c r inside
-      (subst (λ (z : Answer K V T). IsToldBy x (slice_set w.blocks i d) s.thread c (p.next - c) z) told
+      (subst (λ (z : Answer K V T A). IsToldBy x (slice_set w.blocks i d) s.thread c (p.next - c) z) told
       (growing.told-more x laws w s sound p a.stands h call.asked c i inside session b d n.2 n.3 still)) in
       let behind : session_of x s.thread (p.next + 1) ≡ Some c =
       session-next x s.thread st.program st.has p.next (ask.Held h) call.asked ∙ (ap (λ (z : Bool). if z then None else session_of x s.thread p.next) drops ∙ inside) in
@@ -115,9 +116,9 @@ module _ {K V S D T : Type 0} (x : Setup K V D T) (laws : Laws x) (w : State K V
       ∙ ap (λ (z : Bool). record (stepped w s (record p { guard = if z then None else p.guard; phase = changed_phase z r })) { tables = tables'; blocks = slice_set w.blocks i d }) e) in
       -- the guard ends
       let ended = λ (o : Option (K × V)) (e : ends_guard h ≡ true) (at : left ≡ free o).
-      let p' : Place K V D T = record p { guard = None; phase = phase.Release r } in
+      let p' : Place K V D T A = record p { guard = None; phase = phase.Release r } in
       let on = growing.session-on x laws w s sound p a.stands h call.asked c i inside session b d n.2 n.3 still tables' p' refl refl (o, leaves ∙ at) (λ own k z. absurd (none-some own z)) in
-      subst (Sound x) (sym (after true e))
+      subst (Goes x s.thread w) (sym (after true e))
       (growing.sound-changed x laws w s sound p a.stands h call.asked c i inside session b d n.2 n.3 still p'
       (rw call.started refl) (λ m z. z) tables' (length-set w.tables p.shard a.changed) (kept-alone x w s p a.stands sound a.changed alone) agree w.locks refl (inl refl) (
         ask.Held h,
@@ -126,19 +127,21 @@ module _ {K V S D T : Type 0} (x : Setup K V D T) (laws : Laws x) (w : State K V
         alone.has,
         (answered, ready-inside x (slice_set w.blocks i d) tables' s.thread p' (p.next + 1) c i (block_after p') behind stays on),
       )
+      none.visits
+      none.reads
       (taken-at x (threads_of w) w.blocks w.replies w.tables s.thread p f a.before st)
       (within-at x (threads_of w) w.blocks w.replies w.tables s.thread p f a.before st)
       (holds-same w.places w.locks sound.holds s.thread p p' a.stands refl (stand-at w.places w.locks sound.holds s.thread p a.stands f a.before))
       (growing.owns-grown x laws w s sound p a.stands h call.asked c i inside session b d n.2 n.3 still p' refl (ap may_own a.before))) in
       -- or stays
       let stored = λ (u : Stores x.deeds h a.kind a.pair).
-      let p' : Place K V D T = record p { phase = phase.Answer r } in
+      let p' : Place K V D T A = record p { phase = phase.Answer r } in
       let on = growing.session-on x laws w s sound p a.stands h call.asked c i inside session b d n.2 n.3 still tables' p' refl refl
       (subst (λ (z : Option (Guard K)). GuardIs tables' p' z (held_leaves x.deeds h (reached x s.thread c (p.next - c) (found x w.blocks i b)))) (sym a.guarded)
       ((a.pair.0, u.0), leaves ∙ u.2, holds-moved x p p' (way_mode a.kind) refl refl lends.1))
       (growing.there-put x laws w s sound p a.stands h call.asked c i inside session b d n.2 n.3 still a.key key-is a.table a.changed a.held
       (subst (λ (z : At K V). Puts x.eq a.table a.changed a.key (pair_in z)) (sym leaves) a.puts) p' refl) in
-      subst (Sound x) (sym (after false u.1))
+      subst (Goes x s.thread w) (sym (after false u.1))
       (growing.sound-changed x laws w s sound p a.stands h call.asked c i inside session b d n.2 n.3 still p'
       (rw call.started refl) (λ m z. z) tables' (length-set w.tables p.shard a.changed) (kept-alone x w s p a.stands sound a.changed alone) agree w.locks refl (inl refl) (
         ask.Held h,
@@ -147,19 +150,22 @@ module _ {K V S D T : Type 0} (x : Setup K V D T) (laws : Laws x) (w : State K V
         answered,
         ready-inside x (slice_set w.blocks i d) tables' s.thread p' (p.next + 1) c i (block_after p') behind stays on,
       )
+      none.visits
+      none.reads
       (taken-at x (threads_of w) w.blocks w.replies w.tables s.thread p f a.before st)
       (within-at x (threads_of w) w.blocks w.replies w.tables s.thread p f a.before st)
       (holds-same w.places w.locks sound.holds s.thread p p' a.stands refl (owes-none p' _ (stand-at w.places w.locks sound.holds s.thread p a.stands f a.before)))
       (growing.owns-grown x laws w s sound p a.stands h call.asked c i inside session b d n.2 n.3 still p' refl (ap may_own a.before))) in
       elim (changes-by x.deeds h a.kind a.pair is-change) [ inl u ↦ stored u | inr e ↦ ended e.0 e.1 e.2 ]
 
-  pub sound-fills : Fills x w s w' → Sound x w'
+  pub sound-fills : Fills x w s w' → Goes x s.thread w w'
   sound-fills a =
       let p = a.place in
       let h : Held V D = held.Insert a.value in
       let f = phase.Fill a.value in
       let st = sound.stands s.thread p a.stands in
       let cl = claim-at x (threads_of w) w.blocks w.replies w.tables s.thread p f a.before st in
+      let none = none-at x (threads_of w) w.blocks w.replies w.tables s.thread p f a.before st refl in
       let call = cl.1 in
       let alone = cl.3 in
       let g = growing.session-of-guard x w.blocks w.tables s.thread p p.next (guard.Vacant a.key) (session_of x s.thread p.next) p.block a.guarded cl.4 in
@@ -186,29 +192,31 @@ module _ {K V S D T : Type 0} (x : Setup K V D T) (laws : Laws x) (w : State K V
       subst (λ (z : At K V). Handed key z) was-at (block-handed x (threads_of w) (started_of w) w.blocks w.replies sound.placed i b n.2 key key-is (found x w.blocks i b)) in
       let own-key : block_key x b ≡ Some a.key = key-is ∙ ap (λ k. Some k) (sym mine) in
       let agree = tables-changed x laws w.blocks (slice_set w.blocks i d) w.tables sound.tables a.key (Some (a.key, a.value)) p.shard (here ∙ ap x.route (sym mine))
-      (λ q e. contents-own x laws w.blocks i b d grows last q (ap (λ z. is_key x.eq z q) own-key ∙ e)
+      (λ q e. contents-own x laws w.blocks i b d grows last a.key own-key q e
       ∙ ap pair_in (growing.reached-now x laws w s sound p a.stands h call.asked c i inside session b d n.2 n.3 still ∙ leaves))
-      (λ q e. contents-other x laws w.blocks i b d grows q (ap (λ z. is_key x.eq z q) own-key ∙ e))
+      (λ q e. contents-other x laws w.blocks i b d grows a.key own-key q e)
       a.table a.changed a.held a.puts in
       let tables' = slice_set w.tables p.shard a.changed in
-      let p' : Place K V D T = record p { guard = Some (guard.Pair way.Exclusive); phase = phase.Answer answer.Held } in
+      let p' : Place K V D T A = record p { guard = Some (guard.Pair way.Exclusive); phase = phase.Answer answer.Held } in
       let on = growing.session-on x laws w s sound p a.stands h call.asked c i inside session b d n.2 n.3 still tables' p' refl refl
       ((a.key, a.value), leaves, holds-moved x p p' Exclusive refl refl lends.1)
       (growing.there-put x laws w s sound p a.stands h call.asked c i inside session b d n.2 n.3 still a.key own-key a.table a.changed a.held
       (subst (λ (z : At K V). Puts x.eq a.table a.changed a.key (pair_in z)) (sym leaves) a.puts) p' refl) in
       let behind : session_of x s.thread (p.next + 1) ≡ Some c = session-next x s.thread st.program st.has p.next (ask.Held h) call.asked ∙ inside in
       let stays : Some i ≡ block_after p' = sym g.3 ∙ sym (ap (λ (z : Bool). if z then None else p.block) call.closes) in
-      subst (Sound x) (sym (a.after ∙ ap (λ (z : List (Block K)). record (stepped w s p') { tables = tables'; blocks = z }) n.4))
+      subst (Goes x s.thread w) (sym (a.after ∙ ap (λ (z : List (Block K)). record (stepped w s p') { tables = tables'; blocks = z }) n.4))
       (growing.sound-changed x laws w s sound p a.stands h call.asked c i inside session b d n.2 n.3 still p'
       (rw call.started refl) (λ m z. z) tables' (length-set w.tables p.shard a.changed) (kept-alone x w s p a.stands sound a.changed alone) agree w.locks refl (inl refl) (
         ask.Held h,
         IsInCall-push x (threads_of w) s.thread s.thread p' _ (in_call-moved x p p' (threads_of w) s.thread _ refl refl refl call),
         (λ z. absurd (none-some (guard.Pair way.Exclusive) (sym z))),
         in-session x (slice_set w.blocks i d) s.thread p.next c answer.Held inside
-            (subst (λ (z : Answer K V T). IsToldBy x (slice_set w.blocks i d) s.thread c (p.next - c) z) told
+            (subst (λ (z : Answer K V T A). IsToldBy x (slice_set w.blocks i d) s.thread c (p.next - c) z) told
             (growing.told-more x laws w s sound p a.stands h call.asked c i inside session b d n.2 n.3 still)),
         ready-inside x (slice_set w.blocks i d) tables' s.thread p' (p.next + 1) c i (block_after p') behind stays on,
       )
+      none.visits
+      none.reads
       (taken-at x (threads_of w) w.blocks w.replies w.tables s.thread p f a.before st)
       (within-at x (threads_of w) w.blocks w.replies w.tables s.thread p f a.before st)
       (holds-same w.places w.locks sound.holds s.thread p p' a.stands refl (owes-none p' _ (stand-at w.places w.locks sound.holds s.thread p a.stands f a.before)))

@@ -1,5 +1,5 @@
 -- A call on a guard, or where a guard was, is counted in by the session's block.
-use Rattle.std.proofs.Common.{◌≡◌, ◌≢◌, ℕ, ◌+◌, ◌-◌, ◌≤◌, ◌⊎◌, inl, inr, ⊎_elim, false, List, [], ◌∷◌, ◌++◌, length, take, drop, Option, Some, None, IsSome, slice_get, slice_set, refl, ap, sym, ◌∙◌, subst, arith}
+use Rattle.std.proofs.Common.{◌≡◌, ◌≢◌, ℕ, ◌+◌, ◌-◌, ◌≤◌, ◌⊎◌, inl, inr, ⊎_elim, false, List, [], ◌∷◌, ◌++◌, length, take, drop, Option, Some, None, IsSome, slice_get, slice_set, append-nil, refl, ap, sym, ◌∙◌, subst, arith}
 use Rattle.std.specs.Option.{option_and_then}
 use Rattle.mapworld_state.specs.Shards.{ShardPairs, Puts}
 use Rattle.std.proofs.lemmas.Option.{same_Some, none-some}
@@ -14,13 +14,15 @@ use Rattle.mapworld_calls.specs.Deeds.{Deeds}
 use Rattle.mapworld_calls.specs.Calls.{At, free, shared, exclusive, occupied, vacant, pair_in, told, held_leaves}
 use Rattle.mapworld_calls.specs.Setup.{Setup, Laws, ask_at, session_of}
 use Rattle.mapworld_calls.specs.Pairs.{pair_of}
-use Rattle.mapworld_calls.specs.Replay.{reached, block_key, at_key, contents, found, IsLastOnShard}
+use Rattle.mapworld_calls.specs.Frame as frame
+use Rattle.mapworld_calls.specs.Replay.{reached, block_key, frame_of, at_key, contents, before, found, IsLastOnShard}
 use Rattle.mapworld_calls.specs.Agrees.{IsToldBy}
-use Rattle.mapworld_calls.specs.Placed.{answered_of, HasStarted, IsDoneWithin}
+use Rattle.mapworld_calls.specs.Placed.{answered_of, HasStarted, IsSessionDone, IsDoneWithin}
+use Rattle.mapworld_calls.specs.Growth.{GoesOn}
 use Rattle.mapworld_calls.proofs.Lists.{slice_get-set_same, slice_get-set_other, slice_get-set_cases}
 use Rattle.mapworld_calls.specs.Programs.{opening_key}
-use Rattle.mapworld_calls.proofs.Programs.{opening_is}
-use Rattle.mapworld_calls.proofs.Grown.{Grows, IsQuiet, found-grown, block_key-grown, contents-quiet}
+use Rattle.mapworld_calls.proofs.Replays.{no-walk, found-is}
+use Rattle.mapworld_calls.proofs.Grown.{Grows, IsQuiet, goes-on, frame-grows, found-grown, block_key-grown, contents-quiet}
 use Rattle.mapworld_calls.proofs.Kept.{keeps-grown}
 use Rattle.mapworld_state.specs.declared.holds.Mode.TheVariants.{Exclusive}
 use Rattle.mapworld_state.specs.declared.step.Step.{Step}
@@ -34,11 +36,12 @@ use Rattle.mapworld_state.specs.Places.{Place}
 use Rattle.mapworld_state.specs.State.{State, threads_of, started_of}
 use Rattle.mapworld_state.specs.Moves.{way_mode, lent, stepped, CountsIn}
 use Rattle.mapworld_state.specs.Steps.{guarded_key}
-use Rattle.mapworld_state.specs.Sound.{taken, may_own, HoldsShard, HasPairs, GuardIs, HasReached, HasSession, IsInSession, Claim, OwnsBlocks, HasOwnBlock, Stands, TablesAgree, Sound}
+use Rattle.mapworld_state.specs.Sound.{taken, may_own, HoldsShard, HasPairs, GuardIs, HasReached, HasSession, IsInSession, Claim, Walks, OwnsBlocks, HasOwnBlock, Stands, TablesAgree, Sound}
 use Rattle.mapworld_state.specs.Held.{HoldsMatch}
-use Rattle.mapworld_sound.proofs.Effects.{effect-grow, Anyhow}
-use Rattle.mapworld_sound.proofs.Timing.{placed-grown}
-use Rattle.mapworld_sound.proofs.Building.{and_then-at, started-own, started-stays, sound-by, replies-kept, asked-at, session-is, reached-next, told-next, settled-moved, alone-moved, tables-same}
+use Rattle.mapworld_sound.proofs.Effects.{effect-grow, last-grown, Anyhow}
+use Rattle.mapworld_sound.proofs.Others.{session-opens, opening-key_of}
+use Rattle.mapworld_sound.proofs.Timing.{key-alone, placed-grown}
+use Rattle.mapworld_sound.proofs.Building.{Goes, and_then-at, started-own, started-stays, sound-by, replies-kept, no-visits, reached-next, told-next, settled-moved, alone-moved, tables-same}
 
 -- a call on the guard of a session that stands there leaves its pair
 abbrev pub LeavesPair : {D K V T : Type 0} → Deeds D K V T → Held V D → At K V → Type 0
@@ -69,7 +72,7 @@ same-reached : {K V D T : Type 0} (x : Setup K V D T) (t u c e n m : ℕ) (o : O
 same-reached x t u c e n m o ht hc hn = rw (ht, hc, hn)
 
 -- a thread's block stays its own where a block of the thread grows
-pub own-grown : {K V D T : Type 0} (bs : List (Block K)) (i : ℕ) (b c : Block K) (t : ℕ) → slice_get bs i ≡ Some b → c.thread ≡ t → (p : Place K V D T) → HasOwnBlock bs t p
+pub own-grown : {K V D T A : Type 0} (bs : List (Block K)) (i : ℕ) (b c : Block K) (t : ℕ) → slice_get bs i ≡ Some b → c.thread ≡ t → (p : Place K V D T A) → HasOwnBlock bs t p
     → (j : ℕ) → p.block ≡ Some j → (e : Block K) × (slice_get (slice_set bs i c) j ≡ Some e) × (e.thread ≡ t)
 own-grown bs i b c t at thread p own j mine = ⊎_elim
     (λ same. (c, ap (λ k. slice_get (slice_set bs i c) k) (sym same) ∙ slice_get-set_same bs i b c at, thread))
@@ -77,14 +80,14 @@ own-grown bs i b c t at thread p own j mine = ⊎_elim
     (cases_eq i j)
 
 -- a guard is one of a session with a block
-pub session-of-guard : {K V D T : Type 0} (x : Setup K V D T) (bs : List (Block K)) (tables : List (ShardPairs K V)) (t : ℕ) (p : Place K V D T) (n : ℕ) (g : Guard K) (o block : Option ℕ)
+pub session-of-guard : {K V D T A : Type 0} (x : Setup K V D T) (bs : List (Block K)) (tables : List (ShardPairs K V)) (t : ℕ) (p : Place K V D T A) (n : ℕ) (g : Guard K) (o block : Option ℕ)
     → p.guard ≡ Some g → IsInSession x bs tables t p n o block → (c : ℕ) × (i : ℕ) × (o ≡ Some c) × (block ≡ Some i) × HasSession x bs tables t p n c i
 session-of-guard x bs tables t p n g None block guarded h = absurd (none-some g (sym h.0 ∙ guarded))
 session-of-guard x bs tables t p n g (Some c) None guarded h = absurd (none-some g (sym h.0 ∙ guarded))
 session-of-guard x bs tables t p n g (Some c) (Some i) guarded h = (c, i, refl, refl, h)
 
 -- a guard's session has come to it
-pub guard-at : {K V D T : Type 0} (tables : List (ShardPairs K V)) (p : Place K V D T) (o : Option (Guard K)) (kind : Way K) (at : At K V) → o ≡ Some (guard.Pair kind) → GuardIs tables p o at
+pub guard-at : {K V D T A : Type 0} (tables : List (ShardPairs K V)) (p : Place K V D T A) (o : Option (Guard K)) (kind : Way K) (at : At K V) → o ≡ Some (guard.Pair kind) → GuardIs tables p o at
     → (pair : K × V) × (at ≡ lent kind pair) × HoldsShard p (way_mode kind)
 guard-at {K} tables p o kind at same h = subst (λ (z : Option (Guard K)). GuardIs tables p z at) same h
 
@@ -98,15 +101,12 @@ key-at : {K V D T : Type 0} (x : Setup K V D T) (bs : List (Block K)) (o : Optio
 key-at x bs o i b key mine listed is =
     sym (and_then-at (λ j. option_and_then (block_key x) (slice_get bs j)) o i mine ∙ and_then-at (block_key x) (slice_get bs i) b listed) ∙ is
 
-opening-key_of : {K V D T : Type 0} (x : Setup K V D T) (b : Block K) (t c : ℕ) (g : Begin K) → b.thread ≡ t → b.call ≡ c → ask_at x t c ≡ Some (ask.Begin g) → block_key x b ≡ Some (opening_key g)
-opening-key_of {K} {V} {D} x b t c g thread call asked = rw (thread, call, asked) refl
-
 IsSome-at : (o : Option ℕ) → IsSome o → (y : ℕ) × (o ≡ Some y)
 IsSome-at None h = absurd cc
 IsSome-at (Some y) h = (y, refl)
 
-module _ {K V S D T : Type 0} (x : Setup K V D T) (laws : Laws x) (w : State K V S D T) (s : Step) (sound : Sound x w)
-    (p : Place K V D T) (at : slice_get w.places s.thread ≡ Some p) (h : Held V D) (asked : ask_at x s.thread p.next ≡ Some (ask.Held h)) (c i : ℕ) (inside : session_of x s.thread p.next ≡ Some c)
+module _ {K V S D T A : Type 0} (x : Setup K V D T) (laws : Laws x) (w : State K V S D T A) (s : Step) (sound : Sound x w)
+    (p : Place K V D T A) (at : slice_get w.places s.thread ≡ Some p) (h : Held V D) (asked : ask_at x s.thread p.next ≡ Some (ask.Held h)) (c i : ℕ) (inside : session_of x s.thread p.next ≡ Some c)
     (session : HasSession x w.blocks w.tables s.thread p p.next c i) (b d : Block K) (listed : slice_get w.blocks i ≡ Some b) (counts : CountsIn p.next b d)
     (settled : LeavesPair x.deeds h (reached x s.thread c (p.next - c) (found x w.blocks i b)) ⊎ IsLastOnShard x w.blocks i b) where
   abbrev pub st : Stands x (threads_of w) w.blocks w.replies w.tables s.thread p
@@ -153,9 +153,27 @@ module _ {K V S D T : Type 0} (x : Setup K V D T) (laws : Laws x) (w : State K V
     listed = listed;
     thread = counts.thread;
     call = counts.call;
+    visit = counts.visit;
+    visited = counts.visited;
     done = let e = done-is in let m = more-is in omega arith;
     settled = elim settled [ inl same ↦ inl (quiet same) | inr last ↦ inr last ];
   }
+
+  pub opening-asked : (g : Begin K) × (ask_at x s.thread c ≡ Some (ask.Begin g))
+  opening-asked = session-opens x s.thread p.next c inside
+
+  -- the key of the session's block is its opening's
+  pub opening-key : block_key x b ≡ Some (opening_key opening-asked.0)
+  opening-key = opening-key_of x b s.thread c opening-asked.0 thread-is call-is opening-asked.1
+
+  grown-key : block_key x d ≡ Some (opening_key opening-asked.0)
+  grown-key = block_key-grown x laws w.blocks i b d grows ∙ opening-key
+
+  pub grows-there : frame.Grows (frame_of x) w.blocks i b d
+  grows-there = frame-grows x laws w.blocks i b d grows
+
+  pub goes-on-there : GoesOn b d
+  goes-on-there = goes-on x laws w.blocks i b d grows
 
   pub finds-same : found x (slice_set w.blocks i d) i d ≡ found x w.blocks i b
   finds-same =
@@ -163,7 +181,7 @@ module _ {K V S D T : Type 0} (x : Setup K V D T) (laws : Laws x) (w : State K V
       ∙ ap (λ k. at_key (contents x (take i w.blocks)) k) (block_key-grown x laws w.blocks i b d grows)
 
   -- the grown block tells the answer
-  pub told-more : IsToldBy x (slice_set w.blocks i d) s.thread c (p.next - c) (told x.deeds (ask.Held h) was)
+  pub told-more : IsToldBy {A = A} x (slice_set w.blocks i d) s.thread c (p.next - c) (told x.deeds (ask.Held h) was)
   told-more = record {
     place = i;
     block = d;
@@ -171,12 +189,13 @@ module _ {K V S D T : Type 0} (x : Setup K V D T) (laws : Laws x) (w : State K V
     thread = counts.thread ∙ thread-is;
     call = counts.call ∙ call-is;
     done = let m = more-is in omega arith;
-    told = told-next x s.thread c (ask.Held h) d (p.next - c) (found x (slice_set w.blocks i d) i d) (counts.thread ∙ thread-is) (counts.call ∙ call-is) asked-there
-        ∙ ap (λ o. Some (told x.deeds (ask.Held h) (reached x s.thread c (p.next - c) o))) finds-same;
+    told = told-next x s.thread c (ask.Held h) d (opening_key opening-asked.0) grown-key (counts.thread ∙ thread-is) (counts.call ∙ call-is) (before x (slice_set w.blocks i d) i) (p.next - c) asked-there
+        ∙ ap (λ o. Some (told x.deeds (ask.Held h) (reached x s.thread c (p.next - c) o)))
+        (sym (found-is x d (opening_key opening-asked.0) grown-key (slice_set w.blocks i d) i) ∙ finds-same);
   }
 
   -- the session goes on behind the call, which may not come to hold its shard alone
-  pub session-goes-on : (tables' : List (ShardPairs K V)) (p' : Place K V D T) → (HoldsShard p' Exclusive → HoldsShard p Exclusive) → p'.shard ≡ p.shard → GuardIs tables' p' p'.guard (held_leaves x.deeds h was)
+  pub session-goes-on : (tables' : List (ShardPairs K V)) (p' : Place K V D T A) → (HoldsShard p' Exclusive → HoldsShard p Exclusive) → p'.shard ≡ p.shard → GuardIs tables' p' p'.guard (held_leaves x.deeds h was)
       → HasReached x tables' p' b (held_leaves x.deeds h was)
       → HasSession x (slice_set w.blocks i d) tables' s.thread p' (p.next + 1) c i
   session-goes-on tables' p' alone shard guard there =
@@ -192,11 +211,11 @@ module _ {K V S D T : Type 0} (x : Setup K V D T) (laws : Laws x) (w : State K V
         done = more-is ∙ sym one;
         guard = subst (λ (z : At K V). GuardIs tables' p' p'.guard z) (sym now) guard;
         there = λ g key e is. subst (λ (z : At K V). HasReached x tables' p' b z) (sym now) there g key e (sym (block_key-grown x laws w.blocks i b d grows) ∙ is);
-        settled = settled-moved x p p' w.blocks (slice_set w.blocks i d) i session.block d (block_key-grown x laws w.blocks i b d grows ∙ ap (λ z. block_key x z) (sym its))
-            alone shard ((effect-grow x laws w.blocks s.thread i b d grows thread-is).last i session.block session.listed tt) session.settled;
+        settled = settled-moved x p p' w.blocks (slice_set w.blocks i d) i session.block d (counts.thread ∙ ap (λ z. z.thread) (sym its)) (counts.call ∙ ap (λ z. z.call) (sym its))
+            (counts.visit ∙ ap (λ z. z.visit) (sym its)) alone shard (last-grown A x w.blocks i b d grows-there i session.block) session.settled;
       }
 
-  pub session-on : (tables' : List (ShardPairs K V)) (p' : Place K V D T) → p'.holds ≡ p.holds → p'.shard ≡ p.shard → GuardIs tables' p' p'.guard (held_leaves x.deeds h was)
+  pub session-on : (tables' : List (ShardPairs K V)) (p' : Place K V D T A) → p'.holds ≡ p.holds → p'.shard ≡ p.shard → GuardIs tables' p' p'.guard (held_leaves x.deeds h was)
       → HasReached x tables' p' b (held_leaves x.deeds h was)
       → HasSession x (slice_set w.blocks i d) tables' s.thread p' (p.next + 1) c i
   session-on tables' p' hold shard guard there = session-goes-on tables' p' (alone-moved x p p' hold shard) shard guard there
@@ -221,7 +240,7 @@ module _ {K V S D T : Type 0} (x : Setup K V D T) (laws : Laws x) (w : State K V
       (stood ∙ ap (λ (z : K × V). lent kind z) (same_Some lends.0 pair (sym there ∙ finds)), lends.2, key-is)
 
   -- it has it still where the call leaves its pair
-  pub there-still : LeavesPair x.deeds h was → (p' : Place K V D T) → p'.shard ≡ p.shard → ((g : Guard K) → p'.guard ≡ Some g → (own : Guard K) × (p.guard ≡ Some own))
+  pub there-still : LeavesPair x.deeds h was → (p' : Place K V D T A) → p'.shard ≡ p.shard → ((g : Guard K) → p'.guard ≡ Some g → (own : Guard K) × (p.guard ≡ Some own))
       → HasReached x w.tables p' b (held_leaves x.deeds h was)
   there-still same p' shard guarded g key e is =
       let has = there-was (guarded g e).0 key (guarded g e).1 is in
@@ -229,7 +248,7 @@ module _ {K V S D T : Type 0} (x : Setup K V D T) (laws : Laws x) (w : State K V
 
   -- or where the pair gives way to what the call leaves
   pub there-put : (key : K) → block_key x b ≡ Some key → (table changed : ShardPairs K V) → slice_get w.tables p.shard ≡ Some table
-      → Puts x.eq table changed key (pair_in (held_leaves x.deeds h was)) → (p' : Place K V D T) → p'.shard ≡ p.shard
+      → Puts x.eq table changed key (pair_in (held_leaves x.deeds h was)) → (p' : Place K V D T A) → p'.shard ≡ p.shard
       → HasReached x (slice_set w.tables p.shard changed) p' b (held_leaves x.deeds h was)
   there-put key key-is table changed held puts p' shard g k e is = record {
     table = changed;
@@ -238,43 +257,40 @@ module _ {K V S D T : Type 0} (x : Setup K V D T) (laws : Laws x) (w : State K V
         (puts.found key ∙ rw (laws.equivalence.refl key) refl);
   }
 
-  pub opening-asked : (g : Begin K) × (ask_at x s.thread c ≡ Some (ask.Begin g))
-  opening-asked =
-      let o = opening_is st.program p.next c (sym (session-is x s.thread st.program st.has p.next) ∙ inside) in
-      (o.0, asked-at x s.thread st.program st.has c (ask.Begin o.0) o.1)
-
-  -- the key of the session's block is its opening's
-  pub opening-key : block_key x b ≡ Some (opening_key opening-asked.0)
-  opening-key = opening-key_of x b s.thread c opening-asked.0 thread-is call-is opening-asked.1
-
-  own-block : (p' : Place K V D T) → p'.block ≡ p.block ⊎ (p'.block ≡ None) → HasOwnBlock (slice_set w.blocks i d) s.thread p'
+  own-block : (p' : Place K V D T A) → p'.block ≡ p.block ⊎ (p'.block ≡ None) → HasOwnBlock (slice_set w.blocks i d) s.thread p'
   own-block p' block j mine = elim block [
     | inl same ↦ own-grown w.blocks i b d s.thread listed (counts.thread ∙ thread-is) p st.own_block j (sym same ∙ mine)
     | inr none ↦ absurd (none-some j (sym none ∙ mine))
   ]
 
-  module _ (p' : Place K V D T) (running : IsSome p'.started) (stays : (n : ℕ) → p.started ≡ Some n → p'.started ≡ Some n) where
+  module _ (p' : Place K V D T A) (running : IsSome p'.started) (stays : (n : ℕ) → p.started ≡ Some n → p'.started ≡ Some n) where
     now : HasStarted (started_of (stepped w s p')) w.replies b.thread p.next
     now = inr (
       st.answered ∙ ap (answered_of w.replies) (sym thread-is),
       subst (λ (o : Option ℕ). IsSome o) (sym (started-own x w s p p' at) ∙ ap (started_of (stepped w s p')) (sym thread-is)) running,
     )
 
-    more-done : (a : Ask K V D) → ask_at x b.thread b.call ≡ Some a → IsDoneWithin x (started_of w) w.replies b a → IsDoneWithin x (started_of (stepped w s p')) w.replies d a
-    more-done (ask.Begin g) e old = record {
+    more-session : IsSessionDone x (started_of w) w.replies b → IsSessionDone x (started_of (stepped w s p')) w.replies d
+    more-session old = record {
       opened = let m = more-is in omega arith;
       calls = λ n pos lt. ⊎_elim
           (λ below.
           let o = old.calls n pos below in
-          (o.0, rw (counts.thread, counts.call) o.1, rw (counts.thread, counts.call) o.2, rw (counts.thread, counts.call) (mono-started b.thread (b.call + n) o.3)))
+          record {
+            held = o.held;
+            asked = rw (counts.thread, counts.call) o.asked;
+            session = rw (counts.thread, counts.call) o.session;
+            begun = rw (counts.thread, counts.call) (mono-started b.thread (b.call + n) o.begun);
+          })
           (λ above.
           let m = more-is in let e' = done-is in let k = call-is in let under = session.below in
-          let last : b.call + n ≡ p.next = omega arith in (
-            h,
-            rw (counts.thread, counts.call, last, thread-is) asked,
-            rw (counts.thread, counts.call, last, thread-is) (inside ∙ ap (λ z. Some z) (sym call-is)),
-            rw (counts.thread, counts.call, last) now,
-          ))
+          let last : b.call + n ≡ p.next = omega arith in
+          record {
+            held = h;
+            asked = rw (counts.thread, counts.call, last, thread-is) asked;
+            session = rw (counts.thread, counts.call, last, thread-is) (inside ∙ ap (λ z. Some z) (sym call-is));
+            begun = rw (counts.thread, counts.call, last) now;
+          })
           (cases_lt n b.done.value);
     }
       where
@@ -283,50 +299,81 @@ module _ {K V S D T : Type 0} (x : Setup K V D T) (laws : Laws x) (w : State K V
           | inl before ↦ inl before
           | inr here ↦ inr (here.0, let o = IsSome-at (started_of w t) here.1 in rw (started-stays x w s p p' at stays t o.0 o.1) refl)
         ]
-    more-done (ask.Keyed g) e old =
-        let o = opening-asked in
-        absurd (let both : ◌≡◌ {A = Option (Ask K V D)} (Some (ask.Begin o.0)) (Some (ask.Keyed g)) = sym o.1 ∙ (let z : ask_at x s.thread c ≡ Some (ask.Keyed g) = rw (sym thread-is, sym call-is) e in z) in cc)
+
+    -- the call that began the session is an opening
+    is-opening : (a : Ask K V D) → ask_at x b.thread b.call ≡ Some a → a ≡ ask.Begin opening-asked.0
+    is-opening a e = same_Some a (ask.Begin opening-asked.0) (sym e ∙ ap (λ u. ask_at x u b.call) thread-is ∙ ap (λ n. ask_at x s.thread n) call-is ∙ opening-asked.1)
+
+    more-done : (a : Ask K V D) → ask_at x b.thread b.call ≡ Some a → IsDoneWithin x (started_of w) w.blocks w.replies i b a
+        → IsDoneWithin x (started_of (stepped w s p')) (slice_set w.blocks i d) w.replies i d a
+    more-done (ask.Begin g) e old = (more-session old.0, counts.visit ∙ old.1, counts.visited ∙ old.2)
+    more-done (ask.Keyed g) e old = let is : ask.Keyed g ≡ ask.Begin opening-asked.0 = is-opening (ask.Keyed g) e in absurd cc
     more-done (ask.Held g) e old = old
+    more-done (ask.Walk f) e old = let is : ask.Walk f ≡ ask.Begin opening-asked.0 = is-opening (ask.Walk f) e in absurd cc
 
     -- the world behind a step that counts the call in, and may change a shard that is held alone
     pub sound-changed : (tables' : List (ShardPairs K V)) → length tables' ≡ length w.tables
-        → ((u : ℕ) (q : Place K V D T) (m : Mode) → u ≢ s.thread → slice_get w.places u ≡ Some q → HoldsShard q m → slice_get tables' q.shard ≡ slice_get w.tables q.shard)
+        → ((u : ℕ) (q : Place K V D T A) (m : Mode) → u ≢ s.thread → slice_get w.places u ≡ Some q → HoldsShard q m → slice_get tables' q.shard ≡ slice_get w.tables q.shard)
         → TablesAgree x (slice_set w.blocks i d) tables'
         → (locks' : Shown) → p'.next ≡ p.next → p'.block ≡ p.block ⊎ (p'.block ≡ None)
         → Claim x (threads_of w ++ s.thread ∷ []) (slice_set w.blocks i d) tables' s.thread p' p'.phase
+        → p'.visits ≡ [] → Walks x (slice_set w.blocks i d) tables' s.thread p' p'.phase
         → p'.asks ≡ drop (taken p') st.program → taken p' ≤ length st.program
         → HoldsMatch (slice_set w.places s.thread p') locks'
         → OwnsBlocks (slice_set w.blocks i d) s.thread p'
-        → Sound x (record (stepped w s p') { tables = tables'; locks = locks'; blocks = slice_set w.blocks i d; replies = w.replies })
-    sound-changed tables' shards kept agree locks' next block claim left within match owns =
+        → Goes x s.thread w (record (stepped w s p') { tables = tables'; locks = locks'; blocks = slice_set w.blocks i d; replies = w.replies })
+    sound-changed tables' shards kept agree locks' next block claim none walks left within match owns =
         sound-by x w s p p' at sound (slice_set w.blocks i d) tables' locks' w.replies Anyhow
         (record {
-          effect = effect-grow x laws w.blocks s.thread i b d grows thread-is;
+          effect = effect-grow A x laws w.blocks s.thread i b d grows-there goes-on-there thread-is;
           count = λ u ne. refl;
           kept = kept;
           foreign = λ u q k ne hq alone here. tt;
           shards = shards;
         })
-        (record { program = st.program; has = st.has; asks_left = left; within = within; answered = next ∙ st.answered; owns = owns; own_block = own-block p' block; claim = claim })
+        (record {
+          program = st.program;
+          has = st.has;
+          asks_left = left;
+          within = within;
+          answered = next ∙ st.answered;
+          owns = owns;
+          own_block = own-block p' block;
+          own_visits = no-visits x (slice_set w.blocks i d) s.thread p' none;
+          claim = claim;
+          walks = walks;
+        })
         agree
         match
-        (placed-grown x (threads_of w) s.thread (started_of w) (started_of (stepped w s p')) w.blocks w.replies (started-stays x w s p p' at stays) i b d listed
-        (record { thread = counts.thread; call = counts.call; visit = counts.visit; start = counts.start; position = counts.position; visited = counts.visited }) counts.end more-done sound.placed)
-        (replies-kept x w.blocks (slice_set w.blocks i d) w.replies (λ j r hr. keeps-grown x laws w.blocks i b d grows r.thread r.call) sound.replies)
+        (placed-grown x (threads_of w) s.thread (started_of w) (started_of (stepped w s p')) w.blocks w.replies (started-stays x w s p p' at stays) laws i b d grows-there
+        (record {
+          thread = counts.thread;
+          call = counts.call;
+          visit = counts.visit;
+          start = counts.start;
+          position = counts.position;
+          done = grows.done;
+          visited = ([], counts.visited ∙ sym (append-nil b.visited.items));
+          end = λ e was. counts.end ∙ was;
+        })
+        counts.end (key-alone x (threads_of w) (started_of w) w.blocks w.replies sound.placed i b (opening_key opening-asked.0) opening-key listed) more-done sound.placed)
+        (replies-kept x w.blocks (slice_set w.blocks i d) w.replies
+        (λ j r hr. keeps-grown x laws w.blocks i b d grows-there goes-on-there r.thread r.call (no-walk x b (opening_key opening-asked.0) opening-key r.thread r.call)) sound.replies)
 
     -- where the call leaves its pair, no shard changes
     pub sound-counted : LeavesPair x.deeds h was → (locks' : Shown) → p'.next ≡ p.next → p'.block ≡ p.block ⊎ (p'.block ≡ None)
         → Claim x (threads_of w ++ s.thread ∷ []) (slice_set w.blocks i d) w.tables s.thread p' p'.phase
+        → p'.visits ≡ [] → Walks x (slice_set w.blocks i d) w.tables s.thread p' p'.phase
         → p'.asks ≡ drop (taken p') st.program → taken p' ≤ length st.program
         → HoldsMatch (slice_set w.places s.thread p') locks'
         → OwnsBlocks (slice_set w.blocks i d) s.thread p'
-        → Sound x (record (stepped w s p') { tables = w.tables; locks = locks'; blocks = slice_set w.blocks i d; replies = w.replies })
+        → Goes x s.thread w (record (stepped w s p') { tables = w.tables; locks = locks'; blocks = slice_set w.blocks i d; replies = w.replies })
     sound-counted same =
         sound-changed w.tables refl (λ u q m ne hq hh. refl)
         (tables-same x w.blocks (slice_set w.blocks i d) w.tables sound.tables (λ q. contents-quiet x laws w.blocks i b d grows (quiet same) q))
 
   -- the thread's blocks are those that it had
-  pub owns-grown : (p' : Place K V D T) → p'.next ≡ p.next → may_own p.phase ≡ false → OwnsBlocks (slice_set w.blocks i d) s.thread p'
+  pub owns-grown : (p' : Place K V D T A) → p'.next ≡ p.next → may_own p.phase ≡ false → OwnsBlocks (slice_set w.blocks i d) s.thread p'
   owns-grown p' next not_yet j e here thread = elim (slice_get-set_cases w.blocks i j b e d listed here) [
     | inl own ↦ inl (rw (next, own.1, counts.call, call-is) session.below)
     | inr other ↦ elim (st.owns j e other.1 thread) [ inl below ↦ inl (rw next below) | inr mine ↦ absurd (false≢true (sym not_yet ∙ mine.2)) ]

@@ -1,3 +1,4 @@
+pub mod Alike
 pub mod Effects
 pub mod Others
 pub mod Timing
@@ -10,7 +11,16 @@ pub mod Growing
 pub mod Acting
 pub mod Reading
 pub mod Sharing
+pub mod Ending
 pub mod Answering
+pub mod Walked
+pub mod Concluding
+pub mod Walking
+pub mod Sums
+pub mod Leading
+pub mod Doing
+pub mod Looked
+pub mod Looking
 pub mod Starting
 pub mod Sounds
 pub mod Adding

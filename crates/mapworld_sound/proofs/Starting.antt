@@ -1,5 +1,5 @@
 -- The start of a call.
-use Rattle.std.proofs.Common.{◌≡◌, ℕ, ◌+◌, ◌-◌, ◌<◌, ◌≤◌, inl, inr, Bool, true, false, if◌then◌else◌, List, [], ◌∷◌, ◌++◌, length, drop, Option, Some, None, slice_get, slice_set, refl, ap, sym, ◌∙◌, subst, arith}
+use Rattle.std.proofs.Common.{◌≡◌, ℕ, ◌+◌, ◌-◌, ◌<◌, ◌≤◌, inl, inr, Bool, true, false, ◌&&◌, if◌then◌else◌, List, [], ◌∷◌, ◌++◌, length, drop, Option, Some, None, slice_get, slice_set, refl, ap, sym, ◌∙◌, subst, arith}
 use Rattle.mapworld_state.specs.Shards.{ShardPairs}
 use Rattle.std.proofs.lemmas.Option.{same_Some, none-some}
 use Rattle.std.proofs.lemmas.Bool.{false≢true}
@@ -8,12 +8,13 @@ use Rattle.mapworld_calls.specs.declared.ask.Ask.TheVariants as ask
 use Rattle.mapworld_calls.specs.declared.ask.Keyed.{Keyed}
 use Rattle.mapworld_calls.specs.declared.ask.Begin.{Begin}
 use Rattle.mapworld_calls.specs.declared.ask.Held.{Held}
+use Rattle.mapworld_calls.specs.declared.ask.Walk.{Walk}
 use Rattle.mapworld_calls.specs.declared.ask.Held.TheVariants as held
 use Rattle.mapworld_calls.specs.declared.block.Block.{Block}
 use Rattle.mapworld_calls.specs.declared.reply.Answer.{Answer}
 use Rattle.mapworld_calls.specs.declared.reply.Answer.TheVariants as answer
 use Rattle.mapworld_calls.specs.Calls.{At, vacant, pair_in, held_answer, held_leaves}
-use Rattle.mapworld_calls.specs.Programs.{is_drop, keyed_key, opening_key}
+use Rattle.mapworld_calls.specs.Programs.{is_drop, keyed_key, opening_key, stop_of}
 use Rattle.mapworld_calls.specs.Setup.{Setup, Laws, ask_at, session_of}
 use Rattle.mapworld_calls.specs.Replay.{reached, found}
 use Rattle.mapworld_calls.specs.Agrees.{IsToldBy, IsAnsweredInSession}
@@ -25,22 +26,26 @@ use Rattle.mapworld_state.specs.declared.place.Way.{Way}
 use Rattle.mapworld_state.specs.declared.place.Way.TheVariants as way
 use Rattle.mapworld_state.specs.declared.place.Guard.{Guard}
 use Rattle.mapworld_state.specs.declared.place.Guard.TheVariants as guard
+use Rattle.mapworld_state.specs.declared.place.Phase.{Phase}
 use Rattle.mapworld_state.specs.declared.place.Phase.TheVariants as phase
 use Rattle.mapworld_state.specs.Places.{Place}
 use Rattle.mapworld_state.specs.State.{State, threads_of, started_of, next_step}
-use Rattle.mapworld_state.specs.Moves.{is_last, way_mode, lent, is_change, held_phase, held_guard, start_phase, start_guard, start_shard, start_counts, stepped, CountsCall}
+use Rattle.mapworld_state.specs.Moves.{is_last, way_mode, lent, is_change, shared_phase, exclusive_phase, occupied_phase, vacant_phase, held_phase, stops_at, held_guard, start_phase, start_guard, start_shard, start_counts, stepped, CountsCall}
+use Rattle.mapworld_state.specs.Walks.{walk_mode, hands_over, kept_over}
 use Rattle.mapworld_state.specs.Steps.{EntersBy, Starts}
-use Rattle.mapworld_state.specs.Sound.{is_resting, may_own, block_after, GuardIs, HoldsShard, HasSession, IsInSessionOf, IsInSession, IsReady, IsInCall, IsReleasing, Claim, Stands, Sound}
+use Rattle.mapworld_state.specs.Sound.{is_resting, may_own, block_after, GuardIs, HoldsShard, HasSession, IsInSessionOf, IsInSession, IsReady, IsInCall, IsReleasing, IsOutside, KeepsOver, Claim, HasVisited, HasNoWalk, Walks, Stands, Sound}
 use Rattle.mapworld_sound.proofs.Timing.{IsStepOf-next, placed-same}
 use Rattle.mapworld_sound.proofs.Holding.{holds-entered, stand-at}
-use Rattle.mapworld_sound.proofs.Building.{drop-first, asked-at, session-next, holds-moved, guard-moved, ready-moved, tables-same, started-stays, sound-by, claim-at, taken-at, ready-outside, block_after-none}
-use Rattle.mapworld_sound.proofs.Admitting.{leaves-same, owns-on, keyed-apart, begin-apart}
+use Rattle.mapworld_sound.proofs.Building.{Goes, drop-first, asked-at, session-next, holds-moved, guard-moved, ready-moved, tables-same, started-stays, sound-by, claim-at, walks-at, none-moved, no-visits, taken-at, ready-outside, block_after-none}
+use Rattle.mapworld_sound.proofs.Admitting.{leaves-same, owns-on, none-yet, keyed-apart, begin-apart, walk-apart}
+use Rattle.mapworld_sound.proofs.Walked.{stops-none, stops-below, none-counted}
+use Rattle.mapworld_calls.proofs.Walking.{none-visited}
 use Rattle.mapworld_sound.proofs.Listing.{length-map}
 use Rattle.mapworld_sound.proofs.Reading.{in-session}
 use Rattle.mapworld_sound.proofs.Growing as growing
 
 -- outside of every session there is neither guard nor block
-outside-free : {K V D T : Type 0} (x : Setup K V D T) (bs : List (Block K)) (tables : List (ShardPairs K V)) (t : ℕ) (p : Place K V D T) (n : ℕ) (block : Option ℕ)
+outside-free : {K V D T A : Type 0} (x : Setup K V D T) (bs : List (Block K)) (tables : List (ShardPairs K V)) (t : ℕ) (p : Place K V D T A) (n : ℕ) (block : Option ℕ)
     → session_of x t n ≡ None → IsReady x bs tables t p n block → (p.guard ≡ None) × (block ≡ None)
 outside-free x bs tables t p n block outside h = subst (λ (o : Option ℕ). IsInSession x bs tables t p n o block) outside h
 
@@ -55,9 +60,76 @@ guarded-before : {K V D : Type 0} (h : Held V D) (g : Option (Guard K)) (own : G
 guarded-before h None own e = absurd (none-some own e)
 guarded-before h (Some k) own e = (k, refl)
 
-module _ {K V S D T : Type 0} (x : Setup K V D T) (laws : Laws x) (w : State K V S D T) (s : Step) (sound : Sound x w)
-    (p : Place K V D T) (at : slice_get w.places s.thread ≡ Some p) (before : p.phase ≡ phase.Rest) (rest : List (Ask K V D)) (locks' : Shown)
-    (enters : (a : Ask K V D) (g : Option (Guard K)) → p.asks ≡ a ∷ rest → p.guard ≡ g → EntersBy {T = T} s.thread (start_shard x.route a p.shard) (start_phase a g) w.locks locks') where
+-- the phases of walks
+abbrev walks_in : {K V D T A : Type 0} → Phase K V D T A → Bool
+walks_in (phase.Idle f) = true
+walks_in (phase.Reach f) = true
+walks_in (phase.Part f) = true
+walks_in (phase.Visit f) = true
+walks_in (phase.Seek f) = true
+walks_in (phase.Item f) = true
+walks_in (phase.Give f) = true
+walks_in (phase.Onward f) = true
+walks_in f = false
+
+plain-walks : {K V D T A : Type 0} (x : Setup K V D T) (bs : List (Block K)) (tables : List (ShardPairs K V)) (t : ℕ) (p : Place K V D T A) (f : Phase K V D T A) → walks_in f ≡ false → HasNoWalk p → Walks x bs tables t p f
+plain-walks x bs tables t p phase.Rest own none = none
+plain-walks x bs tables t p (phase.Admit r) own none = none
+plain-walks x bs tables t p (phase.Find r) own none = none
+plain-walks x bs tables t p (phase.Grow c) own none = none
+plain-walks x bs tables t p (phase.Append k v) own none = none
+plain-walks x bs tables t p (phase.Apply k) own none = none
+plain-walks x bs tables t p (phase.View k d) own none = none
+plain-walks x bs tables t p (phase.Read d) own none = none
+plain-walks x bs tables t p (phase.Change c) own none = none
+plain-walks x bs tables t p (phase.Fill v) own none = none
+plain-walks x bs tables t p phase.Downgrade own none = none
+plain-walks x bs tables t p (phase.Idle f) own none = absurd (false≢true (sym own))
+plain-walks x bs tables t p (phase.Reach f) own none = absurd (false≢true (sym own))
+plain-walks x bs tables t p (phase.Part f) own none = absurd (false≢true (sym own))
+plain-walks x bs tables t p (phase.Visit f) own none = absurd (false≢true (sym own))
+plain-walks x bs tables t p (phase.Seek f) own none = absurd (false≢true (sym own))
+plain-walks x bs tables t p (phase.Item f) own none = absurd (false≢true (sym own))
+plain-walks x bs tables t p (phase.Give f) own none = absurd (false≢true (sym own))
+plain-walks x bs tables t p (phase.Onward f) own none = absurd (false≢true (sym own))
+plain-walks x bs tables t p (phase.Release a) own none = none.reads
+plain-walks x bs tables t p (phase.Answer a) own none = none.reads
+
+module _ {V D : Type 0} (K T A : Type 0) where
+  shared-plain : (h : Held V D) → walks_in (shared_phase {K = K} {T = T} {A = A} h) ≡ false
+  shared-plain (held.Read d) = refl
+  shared-plain h = refl
+
+  exclusive-plain : (h : Held V D) → walks_in (exclusive_phase {K = K} {T = T} {A = A} h) ≡ false
+  exclusive-plain (held.Read d) = refl
+  exclusive-plain h = refl
+
+  occupied-plain : (h : Held V D) (k : K) → walks_in (occupied_phase {T = T} {A = A} h k) ≡ false
+  occupied-plain (held.Read d) k = refl
+  occupied-plain h k = refl
+
+  vacant-plain : (h : Held V D) (k : K) → walks_in (vacant_phase {T = T} {A = A} h k) ≡ false
+  vacant-plain (held.Insert v) k = refl
+  vacant-plain h k = refl
+
+  held-plain : (h : Held V D) (g : Option (Guard K)) → walks_in (held_phase {T = T} {A = A} g h) ≡ false
+  held-plain h None = refl
+  held-plain h (Some (guard.Pair way.Shared)) = shared-plain h
+  held-plain h (Some (guard.Pair way.Exclusive)) = exclusive-plain h
+  held-plain h (Some (guard.Pair (way.Occupied k))) = occupied-plain h k
+  held-plain h (Some (guard.Vacant k)) = vacant-plain h k
+
+-- the first shard of a walk is taken with none beside it
+first-alone : {D : Type 0} (f : Walk D) → kept_over f 0 ≡ 0
+first-alone f = at (hands_over f)
+  where
+    at : (b : Bool) → ◌≡◌ {A = ℕ} (if b && false then 1 else 0) 0
+    at true = refl
+    at false = refl
+
+module _ {K V S D T A : Type 0} (x : Setup K V D T) (laws : Laws x) (w : State K V S D T A) (s : Step) (sound : Sound x w)
+    (p : Place K V D T A) (at : slice_get w.places s.thread ≡ Some p) (before : p.phase ≡ phase.Rest) (rest : List (Ask K V D)) (locks' : Shown)
+    (enters : (a : Ask K V D) (g : Option (Guard K)) → p.asks ≡ a ∷ rest → p.guard ≡ g → EntersBy {T = T} {A = A} s.thread (start_shard x.route a p.shard) (start_phase a g) w.locks locks') where
   abbrev pub st : Stands x (threads_of w) w.blocks w.replies w.tables s.thread p
   st = sound.stands s.thread p at
 
@@ -67,9 +139,19 @@ module _ {K V S D T : Type 0} (x : Setup K V D T) (laws : Laws x) (w : State K V
   out : stand_in w.locks s.thread ≡ None
   out = stand-at w.places w.locks sound.holds s.thread p at phase.Rest before
 
+  none : HasNoWalk p
+  none = walks-at x (threads_of w) w.blocks w.replies w.tables s.thread p phase.Rest before st
+
   -- the place behind the start, by its guard
-  abbrev pub begun : Ask K V D → Option (Guard K) → Place K V D T
+  abbrev pub begun : Ask K V D → Option (Guard K) → Place K V D T A
   begun a g = record p { asks = rest; started = Some (next_step w); closes = is_last a; shard = start_shard x.route a p.shard; guard = start_guard a g; phase = start_phase a g }
+
+  begun-none : (a : Ask K V D) (g : Option (Guard K)) → HasNoWalk (begun a g)
+  begun-none a g = none-moved p (begun a g) refl refl refl none
+
+  -- a start on a guard begins no walk
+  held-walks : (h : Held V D) (g : Option (Guard K)) (bs : List (Block K)) → Walks x bs w.tables s.thread (begun (ask.Held h) g) (start_phase (ask.Held h) g)
+  held-walks h g bs = plain-walks x bs w.tables s.thread (begun (ask.Held h) g) (held_phase g h) (held-plain K T A h g) (begun-none (ask.Held h) g)
 
   module _ (a : Ask K V D) (asks : p.asks ≡ a ∷ rest) where
     first : (slice_get st.program p.next ≡ Some a) × (rest ≡ drop (p.next + 1) st.program) × (p.next < length st.program)
@@ -88,10 +170,11 @@ module _ {K V S D T : Type 0} (x : Setup K V D T) (laws : Laws x) (w : State K V
     stays g n h = absurd (none-some n (sym resting.0 ∙ h))
 
     -- the world behind a start that counts no call in
-    sound-begun : (g : Option (Guard K)) → p.guard ≡ g → is_resting (start_phase {T = T} a g) ≡ false
+    sound-begun : (g : Option (Guard K)) → p.guard ≡ g → is_resting (start_phase {T = T} {A = A} a g) ≡ false
         → Claim x (threads_of w ++ s.thread ∷ []) w.blocks w.tables s.thread (begun a g) (start_phase a g)
-        → Sound x (record (stepped w s (begun a g)) { tables = w.tables; locks = locks'; blocks = w.blocks; replies = w.replies })
-    sound-begun g e busy claim =
+        → Walks x w.blocks w.tables s.thread (begun a g) (start_phase a g)
+        → Goes x s.thread w (record (stepped w s (begun a g)) { tables = w.tables; locks = locks'; blocks = w.blocks; replies = w.replies })
+    sound-begun g e busy claim walks =
         sound-by x w s p (begun a g) at sound w.blocks w.tables locks' w.replies _ (leaves-same x w s p (begun a g) at sound locks')
         (record {
           program = st.program;
@@ -100,8 +183,10 @@ module _ {K V S D T : Type 0} (x : Setup K V D T) (laws : Laws x) (w : State K V
           within = rw busy (let lt = first.2 in omega arith);
           answered = st.answered;
           own_block = st.own_block;
-          owns = owns-on w.blocks s.thread p (begun a g) st.owns refl refl (λ own. absurd (false≢true (sym (ap may_own before) ∙ own)));
+          own_visits = no-visits x w.blocks s.thread (begun a g) none.visits;
+          owns = owns-on w.blocks s.thread p (begun a g) st.owns refl refl refl (λ own. absurd (false≢true (sym (ap may_own before) ∙ own)));
           claim = claim;
+          walks = walks;
         })
         (tables-same x w.blocks w.blocks w.tables sound.tables (λ q. refl))
         (holds-entered w.places w.locks sound.holds s.thread p (begun a g) at refl out locks' (start_phase a g) refl (enters a g asks e))
@@ -110,7 +195,7 @@ module _ {K V S D T : Type 0} (x : Setup K V D T) (laws : Laws x) (w : State K V
 
   -- the world behind a start
   abbrev pub Begun : Ask K V D → Option (Guard K) → List (Block K) → Type 0
-  Begun a g blocks = Sound x (record (stepped w s (begun a g)) { blocks = blocks; locks = locks' })
+  Begun a g blocks = Goes x s.thread w (record (stepped w s (begun a g)) { blocks = blocks; locks = locks' })
 
   same-blocks : (a : Ask K V D) (g : Option (Guard K)) (blocks : List (Block K)) → blocks ≡ w.blocks → Begun a g w.blocks → Begun a g blocks
   same-blocks a g blocks same h = subst (λ (z : List (Block K)). Begun a g z) (sym same) h
@@ -133,14 +218,14 @@ module _ {K V S D T : Type 0} (x : Setup K V D T) (laws : Laws x) (w : State K V
   still-none false o none = none
 
   -- a call that is told at its start: its session's block counts it in, where it has one
-  module _ (h : Held V D) (asks : p.asks ≡ ask.Held h ∷ rest) (g : Option (Guard K)) (e : p.guard ≡ g) (r : Answer K V T) (busy : is_resting (start_phase {K = K} {V = V} {T = T} (ask.Held h) g) ≡ false)
+  module _ (h : Held V D) (asks : p.asks ≡ ask.Held h ∷ rest) (g : Option (Guard K)) (e : p.guard ≡ g) (r : Answer K V T A) (busy : is_resting (start_phase {K = K} {V = V} {T = T} {A = A} (ask.Held h) g) ≡ false)
       (told-all : (at : At K V) → GuardIs w.tables p g at
       → (held_answer x.deeds h at ≡ r) × (pair_in (held_leaves x.deeds h at) ≡ pair_in at) × GuardIs w.tables p (start_guard (ask.Held h) g) (held_leaves x.deeds h at))
       (ended : is_drop h ≡ true → start_guard (ask.Held h) g ≡ None)
       (claim-of : (bs : List (Block K)) → IsAnsweredInSession x bs s.thread p.next (session_of x s.thread p.next) r
       → IsReady x bs w.tables s.thread (begun (ask.Held h) g) (p.next + 1) (block_after (begun (ask.Held h) g))
       → Claim x (threads_of w ++ s.thread ∷ []) bs w.tables s.thread (begun (ask.Held h) g) (start_phase (ask.Held h) g)) where
-    abbrev told-place : Place K V D T
+    abbrev told-place : Place K V D T A
     told-place = begun (ask.Held h) g
 
     behind-is : session_of x s.thread (p.next + 1) ≡ (if is_drop h then None else session_of x s.thread p.next)
@@ -159,7 +244,7 @@ module _ {K V S D T : Type 0} (x : Setup K V D T) (laws : Laws x) (w : State K V
 
     -- outside of a session, or in one whose opening has no block
     uncounted : p.block ≡ None → r ≡ answer.NoGuard → start_guard (ask.Held h) g ≡ None → Begun (ask.Held h) g w.blocks
-    uncounted free_ no-guard none = sound-begun (ask.Held h) asks g e busy (claim-of w.blocks (told (session_of x s.thread p.next) refl) (ready (session_of x s.thread p.next) refl))
+    uncounted free_ no-guard none = sound-begun (ask.Held h) asks g e busy (claim-of w.blocks (told (session_of x s.thread p.next) refl) (ready (session_of x s.thread p.next) refl)) (held-walks h g w.blocks)
       where
         state : (o : Option ℕ) → session_of x s.thread p.next ≡ o → IsInSession x w.blocks w.tables s.thread p p.next o None
         state o inside = subst (λ (z : Option ℕ). IsInSession x w.blocks w.tables s.thread p p.next o z) free_ (subst (λ (z : Option ℕ). IsInSession x w.blocks w.tables s.thread p p.next z p.block) inside resting.2)
@@ -200,8 +285,10 @@ module _ {K V S D T : Type 0} (x : Setup K V D T) (laws : Laws x) (w : State K V
             (growing.sound-counted x laws w s sound p at h (asked a asks) c i inside session b d n.2 n.3 (inl same) p' refl (stays a asks g) same locks' refl (inl refl)
             (claim-of (slice_set w.blocks i d)
             (in-session x (slice_set w.blocks i d) s.thread p.next c r inside
-            (subst (λ (z : Answer K V T). IsToldBy x (slice_set w.blocks i d) s.thread c (p.next - c) z) tells.0 (growing.told-more x laws w s sound p at h (asked a asks) c i inside session b d n.2 n.3 (inl same))))
+            (subst (λ (z : Answer K V T A). IsToldBy x (slice_set w.blocks i d) s.thread c (p.next - c) z) tells.0 (growing.told-more x laws w s sound p at h (asked a asks) c i inside session b d n.2 n.3 (inl same))))
             (ready-behind (slice_set w.blocks i d) c (Some i) inside mine (is_drop h) refl on))
+            none.visits
+            (held-walks h g (slice_set w.blocks i d))
             (subst (λ (z : Bool). rest ≡ drop (if z then p.next else p.next + 1) st.program) (sym busy) (first a asks).1)
             (subst (λ (z : Bool). (if z then p.next else p.next + 1) ≤ length st.program) (sym busy) (let lt = (first a asks).2 in let e : p.next + 1 ≤ length st.program = omega arith in e))
             (holds-entered w.places w.locks sound.holds s.thread p p' at refl out locks' (start_phase a g) refl (enters a g asks e))
@@ -217,14 +304,14 @@ module _ {K V S D T : Type 0} (x : Setup K V D T) (laws : Laws x) (w : State K V
       → (blocks : List (Block K)) → (o : Option ℕ) → p.block ≡ o → CountsCall w.blocks o p.next blocks → Begun (ask.Held h) None blocks
   unguarded h asks none blocks o mine n = by-block o mine n
     where
-      told-none : (at : At K V) → GuardIs w.tables p None at → (held_answer x.deeds h at ≡ answer.NoGuard) × (pair_in (held_leaves x.deeds h at) ≡ pair_in at) × GuardIs w.tables p None (held_leaves x.deeds h at)
+      told-none : (at : At K V) → GuardIs w.tables p None at → (held_answer {A = A} x.deeds h at ≡ answer.NoGuard) × (pair_in (held_leaves x.deeds h at) ≡ pair_in at) × GuardIs w.tables p None (held_leaves x.deeds h at)
       told-none at is = (
-        ap (held_answer x.deeds h) is.1,
+        ap (held_answer {A = A} x.deeds h) is.1,
         ap (λ z. pair_in (held_leaves x.deeds h z)) is.1 ∙ sym (ap pair_in is.1),
         (is.0, ap (held_leaves x.deeds h) is.1),
       )
 
-      claim-none : (bs : List (Block K)) → IsAnsweredInSession x bs s.thread p.next (session_of x s.thread p.next) answer.NoGuard
+      claim-none : (bs : List (Block K)) → IsAnsweredInSession {A = A} x bs s.thread p.next (session_of x s.thread p.next) answer.NoGuard
           → IsReady x bs w.tables s.thread (begun (ask.Held h) None) (p.next + 1) (block_after (begun (ask.Held h) None))
           → Claim x (threads_of w ++ s.thread ∷ []) bs w.tables s.thread (begun (ask.Held h) None) (start_phase (ask.Held h) None)
       claim-none bs told ready = (ask.Held h, in_call (ask.Held h) asks None, (λ z. resting.1 none), told, ready)
@@ -235,8 +322,8 @@ module _ {K V S D T : Type 0} (x : Setup K V D T) (laws : Laws x) (w : State K V
 
   -- a call that the guard isn't for
   module _ (h : Held V D) (asks : p.asks ≡ ask.Held h ∷ rest) (own : Guard K) (e : p.guard ≡ Some own)
-      (phase-is : held_phase {V = V} {D = D} {T = T} (Some own) h ≡ phase.Answer answer.WrongGuard) (keeps : held_guard (Some own) h ≡ Some own) (lasts : is_drop h ≡ false)
-      (wrong : (at : At K V) → GuardIs w.tables p (Some own) at → (held_answer x.deeds h at ≡ answer.WrongGuard) × (held_leaves x.deeds h at ≡ at)) where
+      (phase-is : held_phase {V = V} {D = D} {T = T} {A = A} (Some own) h ≡ phase.Answer answer.WrongGuard) (keeps : held_guard (Some own) h ≡ Some own) (lasts : is_drop h ≡ false)
+      (wrong : (at : At K V) → GuardIs w.tables p (Some own) at → (held_answer {A = A} x.deeds h at ≡ answer.WrongGuard) × (held_leaves x.deeds h at ≡ at)) where
     wrong-guard : (blocks : List (Block K)) → (o : Option ℕ) → p.block ≡ o → CountsCall w.blocks o p.next blocks → Begun (ask.Held h) (Some own) blocks
     wrong-guard blocks o mine n =
         counted-by h asks (Some own) e answer.WrongGuard (ap is_resting phase-is)
@@ -251,20 +338,20 @@ module _ {K V S D T : Type 0} (x : Setup K V D T) (laws : Laws x) (w : State K V
         own refl blocks o mine n
 
   wrong-pair : (h : Held V D) (asks : p.asks ≡ ask.Held h ∷ rest) (kind : Way K) → p.guard ≡ Some (guard.Pair kind)
-      → held_phase {V = V} {D = D} {T = T} (Some (guard.Pair kind)) h ≡ phase.Answer answer.WrongGuard → held_guard (Some (guard.Pair kind)) h ≡ Some (guard.Pair kind) → is_drop h ≡ false
-      → ((pair : K × V) → (held_answer x.deeds h (lent kind pair) ≡ answer.WrongGuard) × (held_leaves x.deeds h (lent kind pair) ≡ lent kind pair))
+      → held_phase {V = V} {D = D} {T = T} {A = A} (Some (guard.Pair kind)) h ≡ phase.Answer answer.WrongGuard → held_guard (Some (guard.Pair kind)) h ≡ Some (guard.Pair kind) → is_drop h ≡ false
+      → ((pair : K × V) → (held_answer {A = A} x.deeds h (lent kind pair) ≡ answer.WrongGuard) × (held_leaves x.deeds h (lent kind pair) ≡ lent kind pair))
       → (blocks : List (Block K)) → (o : Option ℕ) → p.block ≡ o → CountsCall w.blocks o p.next blocks → Begun (ask.Held h) (Some (guard.Pair kind)) blocks
   wrong-pair h asks kind e phase-is keeps lasts wrong =
       wrong-guard h asks (guard.Pair kind) e phase-is keeps lasts
-      (λ at is. (ap (held_answer x.deeds h) is.1 ∙ (wrong is.0).0, ap (held_leaves x.deeds h) is.1 ∙ ((wrong is.0).1 ∙ sym is.1)))
+      (λ at is. (ap (held_answer {A = A} x.deeds h) is.1 ∙ (wrong is.0).0, ap (held_leaves x.deeds h) is.1 ∙ ((wrong is.0).1 ∙ sym is.1)))
 
   wrong-vacant : (h : Held V D) (asks : p.asks ≡ ask.Held h ∷ rest) (k : K) → p.guard ≡ Some (guard.Vacant k)
-      → held_phase {V = V} {D = D} {T = T} (Some (guard.Vacant k)) h ≡ phase.Answer answer.WrongGuard → held_guard (Some (guard.Vacant k)) h ≡ Some (guard.Vacant k) → is_drop h ≡ false
-      → (held_answer x.deeds h (vacant k) ≡ answer.WrongGuard) × (held_leaves x.deeds h (vacant k) ≡ vacant k)
+      → held_phase {V = V} {D = D} {T = T} {A = A} (Some (guard.Vacant k)) h ≡ phase.Answer answer.WrongGuard → held_guard (Some (guard.Vacant k)) h ≡ Some (guard.Vacant k) → is_drop h ≡ false
+      → (held_answer {A = A} x.deeds h (vacant k) ≡ answer.WrongGuard) × (held_leaves x.deeds h (vacant k) ≡ vacant k)
       → (blocks : List (Block K)) → (o : Option ℕ) → p.block ≡ o → CountsCall w.blocks o p.next blocks → Begun (ask.Held h) (Some (guard.Vacant k)) blocks
   wrong-vacant h asks k e phase-is keeps lasts wrong =
       wrong-guard h asks (guard.Vacant k) e phase-is keeps lasts
-      (λ at is. (ap (held_answer x.deeds h) is.0 ∙ wrong.0, ap (held_leaves x.deeds h) is.0 ∙ (wrong.1 ∙ sym is.0)))
+      (λ at is. (ap (held_answer {A = A} x.deeds h) is.0 ∙ wrong.0, ap (held_leaves x.deeds h) is.0 ∙ (wrong.1 ∙ sym is.0)))
 
   -- an occupied guard becomes exclusive, and an entry's guard gives back its key
   into-ref : (asks : p.asks ≡ ask.Held held.IntoRef ∷ rest) (k : K) → p.guard ≡ Some (guard.Pair (way.Occupied k))
@@ -272,7 +359,7 @@ module _ {K V S D T : Type 0} (x : Setup K V D T) (laws : Laws x) (w : State K V
   into-ref asks k e blocks n =
       let own : Guard K = guard.Pair (way.Occupied k) in
       counted-by held.IntoRef asks (Some own) e answer.Held refl
-      (λ at is. (ap (held_answer x.deeds held.IntoRef) is.1, ap (λ z. pair_in (held_leaves x.deeds held.IntoRef z)) is.1 ∙ sym (ap pair_in is.1), (is.0, ap (held_leaves x.deeds held.IntoRef) is.1, is.2)))
+      (λ at is. (ap (held_answer {A = A} x.deeds held.IntoRef) is.1, ap (λ z. pair_in (held_leaves x.deeds held.IntoRef z)) is.1 ∙ sym (ap pair_in is.1), (is.0, ap (held_leaves x.deeds held.IntoRef) is.1, is.2)))
       (λ z. absurd cc)
       (λ bs told ready. (ask.Held held.IntoRef, in_call (ask.Held held.IntoRef) asks (Some own), (λ z. absurd (none-some (guard.Pair way.Exclusive) (sym z))), told, ready))
       own refl blocks p.block refl n
@@ -305,7 +392,7 @@ module _ {K V S D T : Type 0} (x : Setup K V D T) (laws : Laws x) (w : State K V
   ready-still a g e keeps shard = ready-moved x p (begun a g) w.blocks w.tables s.thread p.next p.block refl shard (keeps ∙ sym e) resting.2
 
   to-read : (d : D) (asks : p.asks ≡ ask.Held (held.Read d) ∷ rest) (kind : Way K) → p.guard ≡ Some (guard.Pair kind)
-      → start_phase {K = K} {V = V} {T = T} (ask.Held (held.Read d)) (Some (guard.Pair kind)) ≡ phase.Read d
+      → start_phase {K = K} {V = V} {T = T} {A = A} (ask.Held (held.Read d)) (Some (guard.Pair kind)) ≡ phase.Read d
       → start_guard {V = V} (ask.Held (held.Read d)) (Some (guard.Pair kind)) ≡ Some (guard.Pair kind)
       → Begun (ask.Held (held.Read d)) (Some (guard.Pair kind)) w.blocks
   to-read d asks kind e phase-is keeps =
@@ -314,9 +401,10 @@ module _ {K V S D T : Type 0} (x : Setup K V D T) (laws : Laws x) (w : State K V
       sound-begun a asks g e (ap is_resting phase-is)
       (subst (λ f. Claim x (threads_of w ++ s.thread ∷ []) w.blocks w.tables s.thread (begun a g) f) (sym phase-is)
       (kind, in_call a asks g, keeps, ready-still a g e keeps refl))
+      (held-walks (held.Read d) g w.blocks)
 
   to-change : (h : Held V D) (asks : p.asks ≡ ask.Held h ∷ rest) (kind : Way K) → p.guard ≡ Some (guard.Pair kind) → way_mode kind ≡ Exclusive → is_change h kind ≡ true
-      → start_phase {K = K} {V = V} {T = T} (ask.Held h) (Some (guard.Pair kind)) ≡ phase.Change h
+      → start_phase {K = K} {V = V} {T = T} {A = A} (ask.Held h) (Some (guard.Pair kind)) ≡ phase.Change h
       → start_guard (ask.Held h) (Some (guard.Pair kind)) ≡ Some (guard.Pair kind)
       → Begun (ask.Held h) (Some (guard.Pair kind)) w.blocks
   to-change h asks kind e alone changes phase-is keeps =
@@ -326,13 +414,14 @@ module _ {K V S D T : Type 0} (x : Setup K V D T) (laws : Laws x) (w : State K V
       sound-begun a asks g e (ap is_resting phase-is)
       (subst (λ f. Claim x (threads_of w ++ s.thread ∷ []) w.blocks w.tables s.thread (begun a g) f) (sym phase-is)
       (kind, in_call a asks g, keeps, changes, holds-moved x p (begun a g) Exclusive refl refl holds, ready-still a g e keeps refl))
+      (held-walks h g w.blocks)
 
   guard-hold : (g : Guard K) → p.guard ≡ Some g → (m : _) × HoldsShard p m
   guard-hold (guard.Pair kind) e = (way_mode kind, (guard-of (guard.Pair kind) e).1.2)
   guard-hold (guard.Vacant k) e = (Exclusive, (guard-of (guard.Vacant k) e).1.1)
 
   to-drop : (asks : p.asks ≡ ask.Held held.Drop ∷ rest) (own : Guard K) → p.guard ≡ Some own
-      → start_phase {K = K} {V = V} {D = D} {T = T} (ask.Held held.Drop) (Some own) ≡ phase.Release answer.Done
+      → start_phase {K = K} {V = V} {D = D} {T = T} {A = A} (ask.Held held.Drop) (Some own) ≡ phase.Release answer.Done
       → start_guard {V = V} {D = D} (ask.Held held.Drop) (Some own) ≡ Some own
       → Begun (ask.Held held.Drop) (Some own) w.blocks
   to-drop asks own e phase-is keeps =
@@ -347,20 +436,76 @@ module _ {K V S D T : Type 0} (x : Setup K V D T) (laws : Laws x) (w : State K V
         h.1.has,
         subst (IsReleasing x w.blocks w.tables s.thread p' a answer.Done) (sym keeps) (refl, refl, ready-still a (Some own) e keeps refl),
       ))
+      (held-walks held.Drop (Some own) w.blocks)
 
-  begun-by : (a : Ask K V D) → p.asks ≡ a ∷ rest → (g : Option (Guard K)) → p.guard ≡ g → (blocks : List (Block K)) → CountsCall w.blocks (start_counts (start_phase {T = T} a g) p.block) p.next blocks → Begun a g blocks
+  -- a walk begins before its first shard, or before its answer where it is to give no item
+  abbrev walk-phase : Walk D → Bool → Phase K V D T A
+  walk-phase f stops = if stops then phase.Idle f else phase.Reach f
+
+  module _ (f : Walk D) (asks : p.asks ≡ ask.Walk f ∷ rest) (g : Option (Guard K)) (e : p.guard ≡ g) where
+    abbrev walker : Place K V D T A
+    walker = begun (ask.Walk f) g
+
+    outside : IsOutside walker × (p.holds ≡ [])
+    outside =
+        let apart = walk-apart x w s.thread sound p st f (asked (ask.Walk f) asks) in
+        let nothing = outside-free x w.blocks w.tables s.thread p p.next p.block apart.0 resting.2 in
+        ((nothing.1, sym e ∙ nothing.0), resting.1 nothing.0)
+
+    walk-claim : (stops : Bool) → Claim x (threads_of w ++ s.thread ∷ []) w.blocks w.tables s.thread walker (walk-phase f stops)
+    walk-claim true = (in_call (ask.Walk f) asks g, outside.0, outside.1)
+    walk-claim false = (in_call (ask.Walk f) asks g, outside.0, subst (λ (n : ℕ). KeepsOver walker (walk_mode f) n) (sym (first-alone f)) outside.1)
+
+    abbrev no-visit : HasVisited x w.blocks s.thread walker f
+    no-visit = record {
+      visits = [];
+      named = sym none.visits;
+      visited = none-visited x w.blocks s.thread p.next f (none-yet x w s.thread sound p at (ap may_own before));
+      reads = none.reads;
+      count = none-counted x f p.count none.count;
+    }
+
+    walk-walks : (stops : Bool) → stops_at (stop_of f) 0 ≡ stops → Walks x w.blocks w.tables s.thread walker (walk-phase f stops)
+    walk-walks true is = (begun-none (ask.Walk f) g, stops-none (stop_of f) is)
+    walk-walks false is = record {
+      so_far = no-visit;
+      number = refl;
+      whole = λ n v here. absurd (none-some v here);
+      left = sound.some;
+      goes_on = stops-below (stop_of f) 0 is;
+    }
+
+    walk-busy : (stops : Bool) → is_resting (walk-phase f stops) ≡ false
+    walk-busy true = refl
+    walk-busy false = refl
+
+    walk-uncounted : (stops : Bool) (blocks : List (Block K)) → CountsCall w.blocks (start_counts (walk-phase f stops) p.block) p.next blocks → blocks ≡ w.blocks
+    walk-uncounted true blocks n = n
+    walk-uncounted false blocks n = n
+
+    begun-walk : (stops : Bool) → stops_at (stop_of f) 0 ≡ stops → (blocks : List (Block K)) → CountsCall w.blocks (start_counts (walk-phase f (stops_at (stop_of f) 0)) p.block) p.next blocks → Begun (ask.Walk f) g blocks
+    begun-walk stops is blocks n =
+        same-blocks (ask.Walk f) g blocks
+        (walk-uncounted stops blocks (subst (λ (z : Bool). CountsCall w.blocks (start_counts (walk-phase f z) p.block) p.next blocks) is n))
+        (sound-begun (ask.Walk f) asks g e
+        (subst (λ (z : Bool). is_resting (walk-phase f z) ≡ false) (sym is) (walk-busy stops))
+        (subst (λ (z : Bool). Claim x (threads_of w ++ s.thread ∷ []) w.blocks w.tables s.thread walker (walk-phase f z)) (sym is) (walk-claim stops))
+        (subst (λ (z : Bool). Walks x w.blocks w.tables s.thread walker (walk-phase f z)) (sym is) (walk-walks stops is)))
+
+  begun-by : (a : Ask K V D) → p.asks ≡ a ∷ rest → (g : Option (Guard K)) → p.guard ≡ g → (blocks : List (Block K)) → CountsCall w.blocks (start_counts (start_phase {T = T} {A = A} a g) p.block) p.next blocks → Begun a g blocks
   begun-by (ask.Keyed k) asks g e blocks n =
       let a : Ask K V D = ask.Keyed k in
-      let outside = keyed-apart x laws w s w sound p st k (asked a asks) in
+      let outside = keyed-apart x w s.thread sound p st k (asked a asks) in
       let nothing = outside-free x w.blocks w.tables s.thread p p.next p.block outside.0 resting.2 in
       same-blocks a g blocks n (sound-begun a asks g e refl
-      (in_call a asks g, record { block = nothing.1; guard = sym e ∙ nothing.0; shard = shard-keyed D x.route k p.shard }, resting.1 nothing.0))
+      (in_call a asks g, record { block = nothing.1; guard = sym e ∙ nothing.0; shard = shard-keyed D x.route k p.shard }, resting.1 nothing.0) (begun-none a g))
   begun-by (ask.Begin b) asks g e blocks n =
       let a : Ask K V D = ask.Begin b in
-      let outside = begin-apart x laws w s w sound p st b (asked a asks) in
+      let outside = begin-apart x w s.thread sound p st b (asked a asks) in
       let nothing = outside-free x w.blocks w.tables s.thread p p.next p.block outside.0 resting.2 in
       same-blocks a g blocks n (sound-begun a asks g e refl
-      (in_call a asks g, record { block = nothing.1; guard = sym e ∙ nothing.0; shard = shard-begin V D x.route b p.shard }, resting.1 nothing.0))
+      (in_call a asks g, record { block = nothing.1; guard = sym e ∙ nothing.0; shard = shard-begin V D x.route b p.shard }, resting.1 nothing.0) (begun-none a g))
+  begun-by (ask.Walk f) asks g e blocks n = begun-walk f asks g e (stops_at (stop_of f) 0) refl blocks n
   begun-by (ask.Held h) asks None e blocks n = unguarded h asks e blocks p.block refl n
   begun-by (ask.Held (held.Read d)) asks (Some (guard.Pair way.Shared)) e blocks n = same-blocks (ask.Held (held.Read d)) (Some (guard.Pair way.Shared)) blocks n (to-read d asks way.Shared e refl refl)
   begun-by (ask.Held (held.Read d)) asks (Some (guard.Pair way.Exclusive)) e blocks n = same-blocks (ask.Held (held.Read d)) (Some (guard.Pair way.Exclusive)) blocks n (to-read d asks way.Exclusive e refl refl)
@@ -375,7 +520,7 @@ module _ {K V S D T : Type 0} (x : Setup K V D T) (laws : Laws x) (w : State K V
       let a : Ask K V D = ask.Held held.Downgrade in
       let g = Some (guard.Pair way.Exclusive) in
       same-blocks a g blocks n (sound-begun a asks g e refl
-      (in_call a asks g, refl, holds-moved x p (begun a g) Exclusive refl refl (guard-of (guard.Pair way.Exclusive) e).1.2, ready-still a g e refl refl))
+      (in_call a asks g, refl, holds-moved x p (begun a g) Exclusive refl refl (guard-of (guard.Pair way.Exclusive) e).1.2, ready-still a g e refl refl) (held-walks held.Downgrade g w.blocks))
   begun-by (ask.Held held.Downgrade) asks (Some (guard.Pair (way.Occupied k))) e blocks n = wrong-pair held.Downgrade asks (way.Occupied k) e refl refl refl (λ pair. (refl, refl)) blocks p.block refl n
   begun-by (ask.Held held.Downgrade) asks (Some (guard.Vacant k)) e blocks n = wrong-vacant held.Downgrade asks k e refl refl refl (refl, refl) blocks p.block refl n
   begun-by (ask.Held (held.Insert v)) asks (Some (guard.Pair way.Shared)) e blocks n = wrong-pair (held.Insert v) asks way.Shared e refl refl refl (λ pair. (refl, refl)) blocks p.block refl n
@@ -385,7 +530,7 @@ module _ {K V S D T : Type 0} (x : Setup K V D T) (laws : Laws x) (w : State K V
       let a : Ask K V D = ask.Held (held.Insert v) in
       let g = Some (guard.Vacant k) in
       same-blocks a g blocks n (sound-begun a asks g e refl
-      (k, in_call a asks g, refl, holds-moved x p (begun a g) Exclusive refl refl (guard-of (guard.Vacant k) e).1.1, ready-still a g e refl refl))
+      (k, in_call a asks g, refl, holds-moved x p (begun a g) Exclusive refl refl (guard-of (guard.Vacant k) e).1.1, ready-still a g e refl refl) (held-walks (held.Insert v) g w.blocks))
   begun-by (ask.Held held.IntoRef) asks (Some (guard.Pair way.Shared)) e blocks n = wrong-pair held.IntoRef asks way.Shared e refl refl refl (λ pair. (refl, refl)) blocks p.block refl n
   begun-by (ask.Held held.IntoRef) asks (Some (guard.Pair way.Exclusive)) e blocks n = wrong-pair held.IntoRef asks way.Exclusive e refl refl refl (λ pair. (refl, refl)) blocks p.block refl n
   begun-by (ask.Held held.IntoRef) asks (Some (guard.Pair (way.Occupied k))) e blocks n = into-ref asks k e blocks n
@@ -411,10 +556,10 @@ module _ {K V S D T : Type 0} (x : Setup K V D T) (laws : Laws x) (w : State K V
   begun-by (ask.Held held.Drop) asks (Some (guard.Pair (way.Occupied k))) e blocks n = same-blocks (ask.Held held.Drop) (Some (guard.Pair (way.Occupied k))) blocks n (to-drop asks (guard.Pair (way.Occupied k)) e refl refl)
   begun-by (ask.Held held.Drop) asks (Some (guard.Vacant k)) e blocks n = same-blocks (ask.Held held.Drop) (Some (guard.Vacant k)) blocks n (to-drop asks (guard.Vacant k) e refl refl)
 
-pub sound-starts : {K V S D T : Type 0} (x : Setup K V D T) → Laws x → (w : State K V S D T) (s : Step) (w' : State K V S D T) → Sound x w → Starts x w s w' → Sound x w'
-sound-starts {K} {V} {S} {D} {T} x laws w s w' sound a =
-    subst (Sound x) (sym a.after) (begun-by x laws w s sound a.place a.stands a.before a.rest a.locks (λ ask g asks e.
+pub sound-starts : {K V S D T A : Type 0} (x : Setup K V D T) → Laws x → (w : State K V S D T A) (s : Step) (w' : State K V S D T A) → Sound x w → Starts x w s w' → Goes x s.thread w w'
+sound-starts {K} {V} {S} {D} {T} {A} x laws w s w' sound a =
+    subst (Goes x s.thread w) (sym a.after) (begun-by x laws w s sound a.place a.stands a.before a.rest a.locks (λ ask g asks e.
     let same : ask ≡ a.ask = cc (asks, a.asked) in
-    subst (λ (z : Option (Guard K)). EntersBy {T = T} s.thread (start_shard x.route ask a.place.shard) (start_phase ask z) w.locks a.locks) e
-    (subst (λ (z : Ask K V D). EntersBy {T = T} s.thread (start_shard x.route z a.place.shard) (start_phase z a.place.guard) w.locks a.locks) (sym same) a.enters))
+    subst (λ (z : Option (Guard K)). EntersBy {T = T} {A = A} s.thread (start_shard x.route ask a.place.shard) (start_phase ask z) w.locks a.locks) e
+    (subst (λ (z : Ask K V D). EntersBy {T = T} {A = A} s.thread (start_shard x.route z a.place.shard) (start_phase z a.place.guard) w.locks a.locks) (sym same) a.enters))
     a.ask a.asked a.place.guard refl a.blocks a.counted)

@@ -1,27 +1,27 @@
 -- Blocks stay well placed as steps, replies and blocks are added.
-use Rattle.std.proofs.Common.{◌≡◌, ◌≢◌, ℕ, ◌+◌, ◌-◌, ◌<◌, ◌⊎◌, inl, inr, ⊎_elim, Bool, true, false, List, [], ◌∷◌, ◌++◌, length, take, Option, Some, None, IsSome, slice_get, slice_set, count_by, cond, ◌==◌, refl, ap, sym, ◌∙◌, subst, arith}
+use Rattle.std.proofs.Common.{◌≡◌, ◌≢◌, ℕ, suc, ◌+◌, ◌-◌, ◌<◌, ◌⊎◌, inl, inr, ⊎_elim, Bool, true, false, List, [], ◌∷◌, ◌++◌, length, take, Option, Some, None, IsSome, slice_get, slice_set, count_by, cond, ◌==◌, refl, ap, sym, ◌∙◌, subst, arith}
 use Rattle.std.proofs.lemmas.Bool.{cases_eq, eq-eqb, ne_eqb}
-use Rattle.std.proofs.lemmas.Option.{same_Some, slice_get_within, get_or_from_slice_get}
+use Rattle.std.proofs.lemmas.Option.{none-some, same_Some, slice_get_within, get_or_from_slice_get}
 use Rattle.std.proofs.lemmas.List.Sums.{count_by_more_yes, sum_by-take-le}
 use Rattle.std.proofs.lemmas.List.{take-append-le}
 use Rattle.std.proofs.Math.Seq.{take-append_seam}
+use Rattle.std.specs.Option.{option_and_then}
 use Rattle.mapworld_calls.specs.declared.ask.Ask.{Ask}
 use Rattle.mapworld_calls.specs.declared.ask.Ask.TheVariants as ask
+use Rattle.mapworld_calls.specs.declared.ask.Walk.{Walk}
 use Rattle.mapworld_calls.specs.declared.block.Block.{Block}
 use Rattle.mapworld_calls.specs.declared.reply.Reply.{Reply}
-use Rattle.mapworld_calls.specs.Setup.{Setup, ask_at}
-use Rattle.mapworld_calls.specs.Placed.{IsStepOf, answered_of, HasStarted, IsShownAnswered, IsShownStarted, IsDoneWithin, IsPlaced, IsTimed, WellPlaced}
-use Rattle.mapworld_calls.proofs.Lists.{slice_get-set_cases, slice_get-push_below, slice_get-push_at, slice_get-push_cases, count_by-push}
+use Rattle.mapworld_calls.specs.Programs.{key_of, stop_of}
+use Rattle.mapworld_calls.specs.Setup.{Setup, Laws, ask_at}
+use Rattle.mapworld_calls.specs.Frame.{Grows}
+use Rattle.mapworld_calls.specs.Replay.{block_key, frame_of}
+use Rattle.mapworld_calls.specs.Agrees.{IsWhole, IsBelow, IsAtMost}
+use Rattle.mapworld_calls.specs.Laws.{IsLastOfCall}
+use Rattle.mapworld_calls.specs.Placed.{IsStepOf, answered_of, HasStarted, IsShownAnswered, IsShownStarted, IsSessionDone, done_by_walk, IsVisitedBefore, IsVisitDone, IsDoneWithin, IsPlaced, IsTimed, IsEarlier, WellPlaced, StaysListed}
+use Rattle.mapworld_calls.proofs.Lists.{slice_get-push_below, slice_get-push_at, slice_get-push_cases, count_by-push}
+use Rattle.mapworld_calls.proofs.Placing.{well-placed_grown, well-placed_pushed}
+use Rattle.mapworld_sound.proofs.Alike.{Shows, AreAlike, alike-was, alike-comes, keys-alike, before-alike, counts-alike}
 use Rattle.mapworld_sound.proofs.Others.{IsStepOf-push}
-
--- a block and one that shows the same call at the same steps
-pub record SameCall {K : Type 0} (b c : Block K) : Type 0 where
-  pub thread : c.thread ≡ b.thread
-  pub call : c.call ≡ b.call
-  pub visit : c.visit ≡ b.visit
-  pub start : c.start ≡ b.start
-  pub position : c.position ≡ b.position
-  pub visited : c.visited.items ≡ b.visited.items
 
 IsSome-of : {X : Type 0} (o : Option X) → IsSome o → (y : X) × (o ≡ Some y)
 IsSome-of None h = absurd cc
@@ -33,52 +33,47 @@ IsStepOf-below steps t n h = let lt : n - 1 < length steps = slice_get_within st
 pub IsStepOf-next : (steps : List ℕ) (t : ℕ) → IsStepOf (steps ++ t ∷ []) t (length steps + 1)
 IsStepOf-next steps t = (omega arith, let same : length steps + 1 - 1 ≡ length steps = omega arith in rw same (slice_get-push_at steps t))
 
-module _ {K V D T : Type 0} (x : Setup K V D T) (steps : List ℕ) (s : ℕ) (started started' : ℕ → Option ℕ) (replies replies' : List (Reply K V T)) where
+module _ {K V D T A : Type 0} (x : Setup K V D T) (steps : List ℕ) (s : ℕ) (started started' : ℕ → Option ℕ) (replies replies' : List (Reply K V T A)) where
   -- what has started stays so
   abbrev pub StaysStarted : Type 0
   StaysStarted = (t c : ℕ) → HasStarted started replies t c → HasStarted started' replies' t c
 
-  done-kept : (b : Block K) (a : Ask K V D) → StaysStarted → IsDoneWithin x started replies b a → IsDoneWithin x started' replies' b a
-  done-kept b (ask.Keyed k) mono h = h
-  done-kept b (ask.Begin g) mono h =
-      record { opened = h.opened; calls = λ n pos lt. let r = h.calls n pos lt in (r.0, r.1, r.2, mono b.thread (b.call + n) r.3) }
-  done-kept b (ask.Held g) mono h = h
+  pub session-done : (b c : Block K) → StaysStarted → c.thread ≡ b.thread → c.call ≡ b.call → c.done.value ≡ b.done.value → IsSessionDone x started replies b → IsSessionDone x started' replies' c
+  session-done b c mono thread call done h = record {
+    opened = rw done h.opened;
+    calls = λ n pos lt.
+        let o = h.calls n pos (subst (λ (m : ℕ). n < m) done lt) in
+        record {
+          held = o.held;
+          asked = rw (thread, call) o.asked;
+          session = rw (thread, call) o.session;
+          begun = rw (thread, call) (mono b.thread (b.call + n) o.begun);
+        };
+  }
 
-  placed-kept : (b : Block K) → StaysStarted → IsShownAnswered replies' b ⊎ IsShownStarted started' replies' b → IsPlaced x steps started replies b
-      → IsPlaced x (steps ++ s ∷ []) started' replies' b
-  placed-kept b mono shown h = record {
+  done-kept : (bs : List (Block K)) (i : ℕ) (b : Block K) (a : Ask K V D) → StaysStarted → IsDoneWithin x started bs replies i b a → IsDoneWithin x started' bs replies' i b a
+  done-kept bs i b (ask.Keyed k) mono h = h
+  done-kept bs i b (ask.Begin g) mono h = (session-done b b mono refl refl refl h.0, h.1, h.2)
+  done-kept bs i b (ask.Held g) mono h = h
+  done-kept bs i b (ask.Walk f) mono h = h
+
+  placed-kept : (bs : List (Block K)) (i : ℕ) (b : Block K) → StaysStarted → IsShownAnswered replies' b ⊎ IsShownStarted started' replies' b → IsPlaced x steps started bs replies i b
+      → IsPlaced x (steps ++ s ∷ []) started' bs replies' i b
+  placed-kept bs i b mono shown h = record {
     ask = h.ask;
     asked = h.asked;
-    done = done-kept b h.ask mono h.done;
-    visit = h.visit;
-    visited = h.visited;
+    done = done-kept bs i b h.ask mono h.done;
     start = IsStepOf-push steps s b.thread b.start h.start;
     position = IsStepOf-push steps s b.thread b.position h.position;
     order = h.order;
     shown = shown;
   }
 
-  -- a block in the place of another of the same call
-  pub placed-changed : (b c : Block K) → SameCall b c → IsShownAnswered replies' c ⊎ IsShownStarted started' replies' c
-      → ((a : Ask K V D) → ask_at x b.thread b.call ≡ Some a → IsDoneWithin x started replies b a → IsDoneWithin x started' replies' c a)
-      → IsPlaced x steps started replies b → IsPlaced x (steps ++ s ∷ []) started' replies' c
-  placed-changed b c same shown done h = record {
-    ask = h.ask;
-    asked = rw (same.thread, same.call) h.asked;
-    done = done h.ask h.asked h.done;
-    visit = same.visit ∙ h.visit;
-    visited = same.visited ∙ h.visited;
-    start = rw (same.thread, same.start) (IsStepOf-push steps s b.thread b.start h.start);
-    position = rw (same.thread, same.position) (IsStepOf-push steps s b.thread b.position h.position);
-    order = rw (same.start, same.position) h.order;
-    shown = shown;
-  }
-
-  pub timed-kept : (r : Reply K V T) → IsTimed steps r → IsTimed (steps ++ s ∷ []) r
+  pub timed-kept : (r : Reply K V T A) → IsTimed steps r → IsTimed (steps ++ s ∷ []) r
   timed-kept r h = record { start = IsStepOf-push steps s r.thread r.start h.start; end = IsStepOf-push steps s r.thread r.end h.end; order = h.order }
 
 -- a step that adds no reply, behind which a call that had started still has
-module _ {K V D T : Type 0} (x : Setup K V D T) (steps : List ℕ) (s : ℕ) (started started' : ℕ → Option ℕ) (bs : List (Block K)) (replies : List (Reply K V T))
+module _ {K V D T A : Type 0} (x : Setup K V D T) (steps : List ℕ) (s : ℕ) (started started' : ℕ → Option ℕ) (bs : List (Block K)) (replies : List (Reply K V T A))
     (stays : (t n : ℕ) → started t ≡ Some n → started' t ≡ Some n) where
   mono : StaysStarted x steps s started started' replies replies
   mono t c h = elim h [
@@ -91,7 +86,7 @@ module _ {K V D T : Type 0} (x : Setup K V D T) (steps : List ℕ) (s : ℕ) (st
 
   pub placed-same : WellPlaced x steps started bs replies → WellPlaced x (steps ++ s ∷ []) started' bs replies
   placed-same h = record {
-    placed = λ i b at. let p = h.placed i b at in placed-kept x steps s started started' replies replies b mono (shown-kept b p.shown) p;
+    placed = λ i b at. let p = h.placed i b at in placed-kept x steps s started started' replies replies bs i b mono (shown-kept b p.shown) p;
     rising = h.rising;
     own_order = h.own_order;
     timed = λ i r at. timed-kept x steps s started started' replies replies r (h.timed i r at);
@@ -107,9 +102,7 @@ module _ {K V D T : Type 0} (x : Setup K V D T) (steps : List ℕ) (s : ℕ) (st
         record {
           ask = p.ask;
           asked = p.asked;
-          done = done-kept x steps s started started' replies replies b p.ask mono p.done;
-          visit = p.visit;
-          visited = p.visited;
+          done = done-kept x steps s started started' replies replies bs i b p.ask mono p.done;
           start = p.start;
           position = p.position;
           order = p.order;
@@ -122,77 +115,39 @@ module _ {K V D T : Type 0} (x : Setup K V D T) (steps : List ℕ) (s : ℕ) (st
     in_turn = h.in_turn;
   }
 
-  -- one block has done more
-  pub placed-grown : (i : ℕ) (b c : Block K) → slice_get bs i ≡ Some b → SameCall b c → c.end ≡ b.end
-      → ((a : Ask K V D) → ask_at x b.thread b.call ≡ Some a → IsDoneWithin x started replies b a → IsDoneWithin x started' replies c a)
+  -- one block, the last one of its call, has done more
+  pub placed-grown : Laws x → (i : ℕ) (b c : Block K) → Grows (frame_of x) bs i b c → StaysListed b c → c.end ≡ b.end → IsLastOfCall bs i b
+      → ((a : Ask K V D) → ask_at x b.thread b.call ≡ Some a → IsDoneWithin x started bs replies i b a → IsDoneWithin x started' (slice_set bs i c) replies i c a)
       → WellPlaced x steps started bs replies → WellPlaced x (steps ++ s ∷ []) started' (slice_set bs i c) replies
-  placed-grown i b c at same end done h = record {
-    placed = λ j d here. ⊎_elim
-        (λ own. subst (λ (z : Block K). IsPlaced x (steps ++ s ∷ []) started' replies z) (sym own.1)
-        (let p = h.placed i b at in placed-changed x steps s started started' replies replies b c same (shown-changed (shown-kept b p.shown)) done p))
-        (λ other. let p = h.placed j d other.1 in placed-kept x steps s started started' replies replies d mono (shown-kept d p.shown) p)
-        (slice_get-set_cases bs i j b d c at here);
-    rising = λ j k d e hd he lt.
-        let od = was j d hd in let oe = was k e he in
-        rw (od.1.position, oe.1.position) (h.rising j k od.0 oe.0 od.2 oe.2 lt);
-    own_order = λ j k d e hd he lt thread.
-        let od = was j d hd in let oe = was k e he in
-        rw (od.1.call, oe.1.call) (h.own_order j k od.0 oe.0 od.2 oe.2 lt (sym od.1.thread ∙ thread ∙ oe.1.thread));
-    timed = λ j r here. timed-kept x steps s started started' replies replies r (h.timed j r here);
-    ends_rise = h.ends_rise;
-    in_turn = h.in_turn;
-  }
-    where
-      shown-changed : IsShownAnswered replies b ⊎ IsShownStarted started' replies b → IsShownAnswered replies c ⊎ IsShownStarted started' replies c
-      shown-changed shown = elim shown [
-        | inl old ↦ inl (record {
-          place = old.place;
-          reply = old.reply;
-          listed = old.listed;
-          thread = old.thread ∙ sym same.thread;
-          call = old.call ∙ sym same.call;
-          start = same.start ∙ old.start;
-          end = end ∙ old.end;
-          before = rw same.position old.before;
-        })
-        | inr now ↦ inr (record { call = rw (same.call, same.thread) now.call; start = rw (same.thread, same.start) now.start; end = end ∙ now.end })
-      ]
-
-      was : (j : ℕ) (d : Block K) → slice_get (slice_set bs i c) j ≡ Some d → (e : Block K) × SameCall e d × (slice_get bs j ≡ Some e)
-      was j d here = ⊎_elim
-          (λ own. (b, subst (λ (z : Block K). SameCall b z) (sym own.1) same, ap (λ k. slice_get bs k) own.0 ∙ at))
-          (λ other. (d, record { thread = refl; call = refl; visit = refl; start = refl; position = refl; visited = refl }, other.1))
-          (slice_get-set_cases bs i j b d c at here)
+  placed-grown laws i b c g on end alone done h =
+      well-placed_grown x laws (steps ++ s ∷ []) started' replies bs i b c g on end alone (placed-same h) (λ a asked.
+      let p = h.placed i b g.listed in
+      done a asked (subst (λ (z : Ask K V D). IsDoneWithin x started bs replies i b z) (same_Some p.ask a (sym p.asked ∙ asked)) p.done))
 
   -- one block is added, at this step
-  pub placed-push : (d : Block K) → IsPlaced x (steps ++ s ∷ []) started' replies d → d.position ≡ length steps + 1
-      → ((i : ℕ) (b : Block K) → slice_get bs i ≡ Some b → b.thread ≡ d.thread → b.call < d.call)
+  pub placed-push : (d : Block K) → IsPlaced x (steps ++ s ∷ []) started' (bs ++ d ∷ []) replies (length bs) d → d.position ≡ length steps + 1
+      → ((i : ℕ) (b : Block K) → slice_get bs i ≡ Some b → b.thread ≡ d.thread → IsEarlier b d)
       → WellPlaced x steps started bs replies → WellPlaced x (steps ++ s ∷ []) started' (bs ++ d ∷ []) replies
-  placed-push d new position later h = record {
-    placed = λ i b at. ⊎_elim
-        (λ old. let p = h.placed i b old in placed-kept x steps s started started' replies replies b mono (shown-kept b p.shown) p)
-        (λ own. subst (λ (z : Block K). IsPlaced x (steps ++ s ∷ []) started' replies z) (sym own.1) new)
-        (slice_get-push_cases bs i b d at);
-    rising = λ i j b c hb hc lt. ⊎_elim
-        (λ old. ⊎_elim (λ older. h.rising i j b c older old lt)
-        (λ own. let within : j < length bs = slice_get_within bs j c old in let here = own.0 in absurd (omega arith)) (slice_get-push_cases bs i b d hb))
-        (λ own. ⊎_elim
-        (λ older. let p = h.placed i b older in let below = IsStepOf-below steps b.thread b.position p.position in rw (own.1, position) below)
-        (λ both. let hi = both.0 in let hj = own.0 in absurd (omega arith))
-        (slice_get-push_cases bs i b d hb))
-        (slice_get-push_cases bs j c d hc);
-    own_order = λ i j b c hb hc lt thread. ⊎_elim
-        (λ old. ⊎_elim (λ older. h.own_order i j b c older old lt thread)
-        (λ own. let within : j < length bs = slice_get_within bs j c old in let here = own.0 in absurd (omega arith)) (slice_get-push_cases bs i b d hb))
-        (λ own. ⊎_elim
-        (λ older. rw own.1 (later i b older (thread ∙ ap (λ z. z.thread) own.1)))
-        (λ both. let hi = both.0 in let hj = own.0 in absurd (omega arith))
-        (slice_get-push_cases bs i b d hb))
-        (slice_get-push_cases bs j c d hc);
-    timed = λ i r at. timed-kept x steps s started started' replies replies r (h.timed i r at);
-    ends_rise = h.ends_rise;
-    in_turn = h.in_turn;
-  }
+  placed-push d new position later h =
+      well-placed_pushed x (steps ++ s ∷ []) started' replies bs d (placed-same h) new
+      (λ i b at. let p = h.placed i b at in rw position (IsStepOf-below steps b.thread b.position p.position)) later
+
+-- a block with a key is the only one of its call
+module _ {K V D T A : Type 0} (x : Setup K V D T) (steps : List ℕ) (started : ℕ → Option ℕ) (bs : List (Block K)) (replies : List (Reply K V T A)) (h : WellPlaced x steps started bs replies) where
+  first-visit : (i : ℕ) (b : Block K) (a : Ask K V D) (key : K) → key_of a ≡ Some key → IsDoneWithin x started bs replies i b a → b.visit ≡ 0
+  first-visit i b (ask.Keyed k) key is done = done.1
+  first-visit i b (ask.Begin g) key is done = done.1
+  first-visit i b (ask.Held g) key is done = absurd done
+  first-visit i b (ask.Walk f) key is done = absurd (none-some key is)
+
+  key-visit : (i : ℕ) (b : Block K) (key : K) → block_key x b ≡ Some key → slice_get bs i ≡ Some b → b.visit ≡ 0
+  key-visit i b key is at = let p = h.placed i b at in first-visit i b p.ask key (sym (ap (option_and_then key_of) p.asked) ∙ is) p.done
+
+  pub key-alone : (i : ℕ) (b : Block K) (key : K) → block_key x b ≡ Some key → slice_get bs i ≡ Some b → IsLastOfCall bs i b
+  key-alone i b key is at j d lt here thread call =
+      let first = key-visit i b key is at in
+      let too = key-visit j d key (let same : block_key x d ≡ block_key x b = rw (thread, call) refl in same ∙ is) here in
+      ⊎_elim (λ less. omega (arith, less, call)) (λ both. let less = both.1 in omega (arith, first, too, less)) (h.own_order i j b d at here lt (sym thread))
 
 pub count_by-before : {X : Type 0} (xs : List X) (p : X → Bool) (j : ℕ) (q : X) → slice_get xs j ≡ Some q → p q ≡ true → count_by p (take j xs) < count_by p xs
 count_by-before xs p j q at passes =
@@ -201,7 +156,7 @@ count_by-before xs p j q at passes =
     let le = sum_by-take-le (λ z. cond (p z) 1 0) xs (j + 1) in
     omega (arith, more, le)
 
-module _ {K V T : Type 0} (replies : List (Reply K V T)) (r : Reply K V T) where
+module _ {K V T A : Type 0} (replies : List (Reply K V T A)) (r : Reply K V T A) where
   pub answered_of-other : (t : ℕ) → r.thread ≢ t → answered_of (replies ++ r ∷ []) t ≡ answered_of replies t
   answered_of-other t ne =
       let e : (r.thread == t) ≡ false = ne_eqb r.thread t ne in
@@ -212,19 +167,24 @@ module _ {K V T : Type 0} (replies : List (Reply K V T)) (r : Reply K V T) where
       let e : (r.thread == r.thread) ≡ true = eq-eqb r.thread r.thread refl in
       count_by-push (λ z. z.thread == r.thread) replies r ∙ rw e
 
--- an answer: one reply is added, of the thread's call that had started, and the block of that call, if it has one, shows its end
-module _ {K V D T : Type 0} (x : Setup K V D T) (steps : List ℕ) (started started' : ℕ → Option ℕ) (bs bs' : List (Block K)) (replies : List (Reply K V T)) (r : Reply K V T)
+-- an answer: one reply is added, of the thread's call that had started, and the blocks of that call, if it has any, show its end
+module _ {K V D T A : Type 0} (x : Setup K V D T) (steps : List ℕ) (started started' : ℕ → Option ℕ) (bs bs' : List (Block K)) (replies : List (Reply K V T A)) (r : Reply K V T A)
     (others : (t : ℕ) → t ≢ r.thread → started' t ≡ started t)
     (begun : started r.thread ≡ Some r.start)
     (start_is : IsStepOf steps r.thread r.start)
     (number : r.end ≡ length steps + 1)
     (turn : r.call ≡ answered_of replies r.thread)
     -- each block stands where it stood; those of the answered call show its end, and all others stay
-    (was : (i : ℕ) (c : Block K) → slice_get bs' i ≡ Some c
-    → (b : Block K) × (slice_get bs i ≡ Some b) × SameCall b c × (c.done.value ≡ b.done.value)
-    × (((b.thread ≡ r.thread) × (b.call ≡ r.call) × (c.end ≡ Some r.end)) ⊎ (((b.thread ≡ r.thread → b.call ≡ r.call → ⊥)) × (c.end ≡ b.end))))
+    (alike : AreAlike r.thread r.call r.end bs bs')
+    (all : (i : ℕ) (c : Block K) → slice_get bs' i ≡ Some c → c.thread ≡ r.thread → c.call ≡ r.call → c.end ≡ Some r.end)
     (whole : (i : ℕ) (b : Block K) (k : _) → slice_get bs i ≡ Some b → b.thread ≡ r.thread → b.call ≡ r.call → ask_at x b.thread b.call ≡ Some (ask.Keyed k) → b.done.value ≡ 1)
     (h : WellPlaced x steps started bs replies) where
+  abbrev pub Shown : Block K → Block K → Type 0
+  Shown b c = Shows r.thread r.call r.end b c
+
+  was : (i : ℕ) (c : Block K) → slice_get bs' i ≡ Some c → (b : Block K) × (slice_get bs i ≡ Some b) × Shown b c
+  was i c at = alike-was r.thread r.call r.end bs bs' alike i c at
+
   count-other : (t : ℕ) → t ≢ r.thread → answered_of (replies ++ r ∷ []) t ≡ answered_of replies t
   count-other t ne = answered_of-other replies r t (λ e. ne (sym e))
 
@@ -239,20 +199,8 @@ module _ {K V D T : Type 0} (x : Setup K V D T) (steps : List ℕ) (started star
       (λ ne. elim g [ inl old ↦ inl (rw (count-other t ne) old) | inr now ↦ inr (rw (count-other t ne) now.0, rw (others t ne) now.1) ])
       (cases_eq t r.thread)
 
-  shown-before : (b c : Block K) → SameCall b c → c.end ≡ b.end → IsShownAnswered replies b → IsShownAnswered (replies ++ r ∷ []) c
-  shown-before b c same end old = record {
-    place = old.place;
-    reply = old.reply;
-    listed = slice_get-push_below replies old.place old.reply r old.listed;
-    thread = old.thread ∙ sym same.thread;
-    call = old.call ∙ sym same.call;
-    start = same.start ∙ old.start;
-    end = end ∙ old.end;
-    before = rw same.position old.before;
-  }
-
   -- the answered call's block is shown by the new reply
-  shown-new : (i : ℕ) (b c : Block K) → slice_get bs i ≡ Some b → SameCall b c → b.thread ≡ r.thread → b.call ≡ r.call → c.end ≡ Some r.end → IsShownAnswered (replies ++ r ∷ []) c
+  shown-new : (i : ℕ) (b c : Block K) → slice_get bs i ≡ Some b → Shown b c → b.thread ≡ r.thread → b.call ≡ r.call → c.end ≡ Some r.end → IsShownAnswered (replies ++ r ∷ []) c
   shown-new i b c at same thread call end =
       let p = h.placed i b at in
       let below = IsStepOf-below steps b.thread b.position p.position in
@@ -270,53 +218,122 @@ module _ {K V D T : Type 0} (x : Setup K V D T) (steps : List ℕ) (started star
         before = rw (same.position, number) below;
       }
     where
-      in-turn-below : (j : ℕ) (q : Reply K V T) → slice_get replies j ≡ Some q → q.thread ≡ r.thread → q.call < answered_of replies r.thread
+      in-turn-below : (j : ℕ) (q : Reply K V T A) → slice_get replies j ≡ Some q → q.thread ≡ r.thread → q.call < answered_of replies r.thread
       in-turn-below j q at own = rw (h.in_turn j q at, own) (count_by-before replies (λ z. z.thread == r.thread) j q at (eq-eqb q.thread r.thread own))
+
+  shown-before : (b : Block K) → IsShownAnswered replies b → IsShownAnswered (replies ++ r ∷ []) b
+  shown-before b old = record {
+    place = old.place;
+    reply = old.reply;
+    listed = slice_get-push_below replies old.place old.reply r old.listed;
+    thread = old.thread;
+    call = old.call;
+    start = old.start;
+    end = old.end;
+    before = old.before;
+  }
+
+  -- and any other by what showed it
+  shown-other : (b : Block K) → (b.thread ≡ r.thread → b.call ≡ r.call → ⊥) → IsShownAnswered replies b ⊎ IsShownStarted started replies b
+      → IsShownAnswered (replies ++ r ∷ []) b ⊎ IsShownStarted started' (replies ++ r ∷ []) b
+  shown-other b apart shown = elim shown [
+    | inl old ↦ inl (shown-before b old)
+    | inr now ↦
+        let ne : b.thread ≢ r.thread = λ same. apart same (now.call ∙ ap (answered_of replies) same ∙ sym turn) in
+        inr (record { call = now.call ∙ sym (count-other b.thread ne); start = others b.thread ne ∙ now.start; end = now.end })
+  ]
 
   shown-answer : (i : ℕ) (c : Block K) → slice_get bs' i ≡ Some c → IsShownAnswered (replies ++ r ∷ []) c ⊎ IsShownStarted started' (replies ++ r ∷ []) c
   shown-answer i c at =
       let o = was i c at in
-      elim o.4 [
-        | inl own ↦ inl (shown-new i o.0 c o.1 o.2 own.0 own.1 own.2)
-        | inr other ↦ elim (h.placed i o.0 o.1).shown [
-          | inl old ↦ inl (shown-before o.0 c o.2 other.1 old)
-          | inr now ↦ inr (
-              let ne : o.0.thread ≢ r.thread = λ same. other.0 same (now.call ∙ ap (answered_of replies) same ∙ sym turn) in
-              record {
-                call = o.2.call ∙ now.call ∙ sym (count-other o.0.thread ne) ∙ ap (answered_of (replies ++ r ∷ [])) (sym o.2.thread);
-                start = ap started' o.2.thread ∙ others o.0.thread ne ∙ now.start ∙ ap (λ n. Some n) (sym o.2.start);
-                end = other.1 ∙ now.end;
-              })
-        ]
-      ]
+      ⊎_elim
+      (λ own. inl (shown-new i o.0 c o.1 o.2 own.0 own.1 own.2))
+      (λ same. ⊎_elim
+      (λ own. inl (shown-new i o.0 c o.1 o.2 own.0 own.1 (all i c at (o.2.thread ∙ own.0) (o.2.call ∙ own.1))))
+      (λ (apart : o.0.thread ≡ r.thread → o.0.call ≡ r.call → ⊥).
+      subst (λ (z : Block K). IsShownAnswered (replies ++ r ∷ []) z ⊎ IsShownStarted started' (replies ++ r ∷ []) z) (sym same) (shown-other o.0 apart (h.placed i o.0 o.1).shown))
+      (own-or-not o.0))
+      o.2.ended
+    where
+      own-or-not : (b : Block K) → ((b.thread ≡ r.thread) × (b.call ≡ r.call)) ⊎ (b.thread ≡ r.thread → b.call ≡ r.call → ⊥)
+      own-or-not b = ⊎_elim
+          (λ thread. ⊎_elim (λ call. inl (thread, call)) (λ ne. inr (λ u c. ne c)) (cases_eq b.call r.call))
+          (λ ne. inr (λ u c. ne u))
+          (cases_eq b.thread r.thread)
 
-  done-answer : (i : ℕ) (b c : Block K) → slice_get bs i ≡ Some b → SameCall b c → c.done.value ≡ b.done.value
-      → (((b.thread ≡ r.thread) × (b.call ≡ r.call) × (c.end ≡ Some r.end)) ⊎ (((b.thread ≡ r.thread → b.call ≡ r.call → ⊥)) × (c.end ≡ b.end)))
-      → (a : Ask K V D) → ask_at x b.thread b.call ≡ Some a → IsDoneWithin x started replies b a → IsDoneWithin x started' (replies ++ r ∷ []) c a
-  done-answer i b c at same done ends (ask.Keyed k) asked g = record {
-    once = rw done g.once;
-    whole = λ e. done ∙ elim ends [ inl own ↦ whole i b k at own.0 own.1 asked | inr other ↦ g.whole (subst (λ (o : Option ℕ). IsSome o) other.1 e) ];
+  whole-alike : (i j : ℕ) (b c : Block K) → Shown b c → IsWhole x bs j b → IsWhole x bs' j c
+  whole-alike i j b c same w q on there =
+      rw (keys-alike x r.thread r.call r.end b c same)
+      (w q (on ∙ same.visit) (subst (λ (o : Option (K × V)). IsSome o) (before-alike x r.thread r.call r.end bs bs' alike j q) there))
+
+  before-answer : (i : ℕ) (b c : Block K) → Shown b c → (m : ℕ) → IsVisitedBefore x bs i b m → IsVisitedBefore x bs' i c m
+  before-answer i b c same m v =
+      let n = alike-comes r.thread r.call r.end bs bs' alike v.place v.block v.listed in
+      record {
+        place = v.place;
+        block = n.0;
+        listed = n.1;
+        earlier = v.earlier;
+        thread = n.2.thread ∙ v.thread ∙ sym same.thread;
+        call = n.2.call ∙ v.call ∙ sym same.call;
+        visit = n.2.visit ∙ v.visit;
+        whole = whole-alike i v.place v.block n.0 n.2 v.whole;
+      }
+
+  visit-answer : (i : ℕ) (b c : Block K) (f : Walk D) → Shown b c → IsVisitDone x bs i b f → IsVisitDone x bs' i c f
+  visit-answer i b c f same g =
+      let counts = λ (m : ℕ). counts-alike x r.thread r.call r.end bs bs' alike m c.thread c.call ∙ (let e : done_by_walk x (take m bs) c.thread c.call ≡ done_by_walk x (take m bs) b.thread b.call = rw (same.thread, same.call) refl in e) in
+      let at = λ (m : ℕ) (k : K) (here : slice_get c.visited.items m ≡ Some k). (let e : slice_get b.visited.items m ≡ Some k = ap (λ ks. slice_get ks m) (sym same.visited) ∙ here in e) in
+      record {
+        within = rw same.visit g.within;
+        routed = λ m k here. g.routed m k (at m k here) ∙ sym same.visit;
+        once = λ m l j k hj hk e. g.once m l j k (at m j hj) (at l k hk) e;
+        there = λ m k here. subst (λ (o : Option (K × V)). IsSome o) (sym (before-alike x r.thread r.call r.end bs bs' alike i k)) (g.there m k (at m k here));
+        in_turn = λ m is. before-answer i b c same m (g.in_turn m (sym same.visit ∙ is));
+        begins = subst (λ (m : ℕ). IsBelow (stop_of f) m) (sym (counts i)) g.begins;
+        stops = subst (λ (m : ℕ). IsAtMost (stop_of f) m) (sym (counts (suc i))) g.stops;
+      }
+
+  -- what a block has done is within its call
+  done-answer : (i : ℕ) (b c : Block K) → slice_get bs i ≡ Some b → Shown b c → (a : Ask K V D) → ask_at x b.thread b.call ≡ Some a → IsDoneWithin x started bs replies i b a → IsDoneWithin x started' bs' (replies ++ r ∷ []) i c a
+  done-answer i b c at same (ask.Keyed k) asked g = (
+    record {
+      once = rw same.done g.0.once;
+      whole = λ e. same.done ∙ elim same.ended [ inl own ↦ whole i b k at own.0 own.1 asked | inr is ↦ g.0.whole (subst (λ (z : Block K). IsSome z.end) is e) ];
+    },
+    same.visit ∙ g.1,
+    same.visited ∙ g.2,
+  )
+  done-answer i b c at same (ask.Begin q) asked g =
+      (session-done x steps r.thread started started' replies (replies ++ r ∷ []) b c mono-answer same.thread same.call same.done g.0, same.visit ∙ g.1, same.visited ∙ g.2)
+  done-answer i b c at same (ask.Held q) asked g = g
+  done-answer i b c at same (ask.Walk f) asked g = (visit-answer i b c f same g.0, same.done ∙ g.1)
+
+  placed-one : (i : ℕ) (b c : Block K) → slice_get bs i ≡ Some b → Shown b c → IsShownAnswered (replies ++ r ∷ []) c ⊎ IsShownStarted started' (replies ++ r ∷ []) c → IsPlaced x steps started bs replies i b
+      → IsPlaced x (steps ++ r.thread ∷ []) started' bs' (replies ++ r ∷ []) i c
+  placed-one i b c at same shown p = record {
+    ask = p.ask;
+    asked = rw (same.thread, same.call) p.asked;
+    done = done-answer i b c at same p.ask p.asked p.done;
+    start = rw (same.thread, same.start) (IsStepOf-push steps r.thread b.thread b.start p.start);
+    position = rw (same.thread, same.position) (IsStepOf-push steps r.thread b.thread b.position p.position);
+    order = rw (same.start, same.position) p.order;
+    shown = shown;
   }
-  done-answer i b c at same done ends (ask.Begin q) asked g = record {
-    opened = rw done g.opened;
-    calls = λ n pos lt.
-        let o = g.calls n pos (subst (λ (m : ℕ). n < m) done lt) in
-        (o.0, rw (same.thread, same.call) o.1, rw (same.thread, same.call) o.2, rw (same.thread, same.call) (mono-answer b.thread (b.call + n) o.3));
-  }
-  done-answer i b c at same done ends (ask.Held q) asked g = g
+
+  earlier-answer : (b c d e : Block K) → Shown b d → Shown c e → IsEarlier b c → IsEarlier d e
+  earlier-answer b c d e f g h = rw (f.call, g.call, f.visit, g.visit) h
 
   pub placed-answer : WellPlaced x (steps ++ r.thread ∷ []) started' bs' (replies ++ r ∷ [])
   placed-answer = record {
-    placed = λ i c at.
-        let o = was i c at in
-        placed-changed x steps r.thread started started' replies (replies ++ r ∷ []) o.0 c o.2 (shown-answer i c at) (done-answer i o.0 c o.1 o.2 o.3 o.4) (h.placed i o.0 o.1);
-    rising = λ i j b c hb hc lt. let ob = was i b hb in let oc = was j c hc in rw (ob.2.position, oc.2.position) (h.rising i j ob.0 oc.0 ob.1 oc.1 lt);
+    placed = λ i c at. let o = was i c at in placed-one i o.0 c o.1 o.2 (shown-answer i c at) (h.placed i o.0 o.1);
+    rising = λ i j b c hb hc lt. let ob = was i b hb in let oc = was j c hc in later ob.0 oc.0 b c ob.2 oc.2 (h.rising i j ob.0 oc.0 ob.1 oc.1 lt);
     own_order = λ i j b c hb hc lt thread.
         let ob = was i b hb in let oc = was j c hc in
-        rw (ob.2.call, oc.2.call) (h.own_order i j ob.0 oc.0 ob.1 oc.1 lt (sym ob.2.thread ∙ thread ∙ oc.2.thread));
+        earlier-answer ob.0 oc.0 b c ob.2 oc.2 (h.own_order i j ob.0 oc.0 ob.1 oc.1 lt (sym ob.2.thread ∙ thread ∙ oc.2.thread));
     timed = λ i q at. ⊎_elim
         (λ old. timed-kept x steps r.thread started started' replies (replies ++ r ∷ []) q (h.timed i q old))
-        (λ new. subst (λ (z : Reply K V T). IsTimed (steps ++ r.thread ∷ []) z) (sym new.1) timed-new)
+        (λ new. subst (λ (z : Reply K V T A). IsTimed (steps ++ r.thread ∷ []) z) (sym new.1) timed-new)
         (slice_get-push_cases replies i q r at);
     ends_rise = λ i j q s hq hs lt. ⊎_elim
         (λ old. ⊎_elim (λ older. h.ends_rise i j q s older old lt)
@@ -332,6 +349,9 @@ module _ {K V D T : Type 0} (x : Setup K V D T) (steps : List ℕ) (started star
         (slice_get-push_cases replies i q r at);
   }
     where
+      later : (b c d e : Block K) → Shown b d → Shown c e → b.position < c.position → d.position < e.position
+      later b c d e f g lt = rw (f.position, g.position) lt
+
       timed-new : IsTimed (steps ++ r.thread ∷ []) r
       timed-new = record {
         start = IsStepOf-push steps r.thread r.thread r.start start_is;

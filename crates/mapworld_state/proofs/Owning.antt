@@ -12,7 +12,7 @@ pub if-own : (b : Bool) (block : Option ℕ) (i : ℕ) → (if b then block else
 if-own true block i h = h
 if-own false block i h = absurd (none-some i h)
 
-pub starts-own : {K V D T : Type 0} (f : Phase K V D T) (block : Option ℕ) (i : ℕ) → start_counts f block ≡ Some i → block ≡ Some i
+pub starts-own : {K V D T A : Type 0} (f : Phase K V D T A) (block : Option ℕ) (i : ℕ) → start_counts f block ≡ Some i → block ≡ Some i
 starts-own f block i h = if-own (is_told f) block i h
 
 -- a guard lends its pair in one way

@@ -1,17 +1,25 @@
 -- What the code keeps of a world, and how much room it has.
-use Rattle.std.specs.Prelude.{◌≡◌, ℕ, Bool, ◌+◌, ◌<◌, ◌≤◌, ◌^◌, if◌then◌else◌, List, length, map, Option, Some, None, ◌==◌, slice_get, sum_by, vec_capacity}
+use Rattle.std.specs.List.{list_any}
+use Rattle.std.specs.Prelude.{◌≡◌, ℕ, Bool, true, false, ◌||◌, ◌+◌, ◌-◌, ◌<◌, ◌≤◌, ◌^◌, if◌then◌else◌, List, length, map, Option, Some, None, ◌==◌, slice_get, sum_by, vec_capacity}
 use Rattle.std.specs.Hash.{HashWrites}
 use Rattle.std.specs.declared.hash.BuildHasher as builder
 use Rattle.std.specs.declared.hash.Hasher as hasher
 use Rattle.mapworld_calls.specs.declared.deed.Deed as deed
+use Rattle.mapworld_calls.specs.declared.ask.Ask.{Ask}
+use Rattle.mapworld_calls.specs.declared.ask.Ask.TheVariants as ask
+use Rattle.mapworld_calls.specs.declared.ask.Walk.{Walk}
+use Rattle.mapworld_calls.specs.Programs.{numbers_of}
 use Rattle.mapworld_calls.specs.Setup.{Setup}
 use Rattle.parking_lot_world.specs.Rows.{state}
 use Rattle.mapworld_locks.specs.Views.{Shown}
 use Rattle.mapworld_state.specs.declared.holds.Hold.{Hold}
 use Rattle.mapworld_state.specs.declared.place.Phase.{Phase}
+use Rattle.mapworld_state.specs.declared.place.Phase.TheVariants as phase
+use Rattle.mapworld_state.specs.declared.place.Place.{Place as KeptPlace}
 use Rattle.mapworld_state.specs.Places.{Place, place_of}
 use Rattle.mapworld_state.specs.declared.world_core.Core.{Core}
-use Rattle.mapworld_state.specs.Classes.{class_of, answers_owed, blocks_left, pairs_left}
+use Rattle.mapworld_state.specs.Classes.{class_of, walks_in, answers_owed, blocks_left, pairs_left}
+use Rattle.mapworld_state.specs.Walks.{gives_reads}
 use Rattle.mapworld_state.specs.Route.{IsWorldAmount}
 use Rattle.mapworld_state.specs.Shards.{shard_pairs}
 use Rattle.mapworld_state.specs.State.{State, pairs_of}
@@ -21,7 +29,7 @@ use Rattle.mapworld_state.specs.Sound.{Sound}
 use Rattle.mapworld_state.specs.Slots.{HasSlots, key_hash}
 use Rattle.mapworld_state.specs.World.{setup_of}
 
-abbrev pub state_of : {K V S D T A : Type 0} → Core K V S D T A → State K V S D T
+abbrev pub state_of : {K V S D T A : Type 0} → Core K V S D T A → State K V S D T A
 state_of c = record {
   hasher = c.hasher;
   opening = c.opening.value.items;
@@ -34,25 +42,60 @@ state_of c = record {
   replies = c.replies.items;
 }
 
--- whether a call before that phase isn't answered, may still list a block, and may still add a pair
-abbrev pub owes : {K V D T : Type 0} → Phase K V D T → ℕ
+-- whether a call before that phase isn't answered, and may still add a pair
+abbrev pub owes : {K V D T A : Type 0} → Phase K V D T A → ℕ
 owes f = answers_owed (class_of f)
 
-abbrev pub lists : {K V D T : Type 0} → Phase K V D T → ℕ
-lists f = blocks_left (class_of f)
-
-abbrev pub adds : {K V D T : Type 0} → Phase K V D T → ℕ
+abbrev pub adds : {K V D T A : Type 0} → Phase K V D T A → ℕ
 adds f = pairs_left (class_of f)
 
--- how many answers a thread owes, how many blocks it may list, and how many pairs it may add
-abbrev pub owed : {K V D T : Type 0} → Place K V D T → ℕ
+-- and how many blocks it may list, of a walk by how many shards are left behind the one that it is at: a call on a guard lists none
+abbrev pub lists : {K V D T A : Type 0} → ℕ → Phase K V D T A → ℕ
+lists more (phase.Read d) = 0
+lists more (phase.Change h) = 0
+lists more (phase.Fill v) = 0
+lists more phase.Downgrade = 0
+lists more f = blocks_left more (class_of f)
+
+-- how many answers a thread owes, how many blocks it may list in a world of so many shards, and how many pairs it may add
+abbrev pub owed : {K V D T A : Type 0} → Place K V D T A → ℕ
 owed p = length p.asks + owes p.phase
 
-abbrev pub may_list : {K V D T : Type 0} → Place K V D T → ℕ
-may_list p = length p.asks + lists p.phase
+abbrev pub may_list : {K V D T A : Type 0} → ℕ → Place K V D T A → ℕ
+may_list shards p = sum_by (numbers_of shards) p.asks + lists (shards - (p.shard + 1)) p.phase
 
-abbrev pub may_add : {K V D T : Type 0} → Place K V D T → ℕ
+abbrev pub may_add : {K V D T A : Type 0} → Place K V D T A → ℕ
 may_add p = length p.asks + adds p.phase
+
+-- whether a call is a walk, and whether a thread may still come to a shard in one
+abbrev pub is_walk : {K V D : Type 0} → Ask K V D → Bool
+is_walk (ask.Walk f) = true
+is_walk a = false
+
+abbrev pub may_walk : {K V D T A : Type 0} → Place K V D T A → Bool
+may_walk p = list_any is_walk p.asks || walks_in (class_of p.phase)
+
+-- how many lists of what they have read a thread's walks may still be answered with
+abbrev pub walk_lists : {D : Type 0} → Walk D → ℕ
+walk_lists f = if gives_reads f then 1 else 0
+
+abbrev pub ask_lists : {K V D : Type 0} → Ask K V D → ℕ
+ask_lists (ask.Walk f) = walk_lists f
+ask_lists a = 0
+
+abbrev pub phase_lists : {K V D T A : Type 0} → Phase K V D T A → ℕ
+phase_lists (phase.Idle f) = walk_lists f
+phase_lists (phase.Reach f) = walk_lists f
+phase_lists (phase.Part f) = walk_lists f
+phase_lists (phase.Visit f) = walk_lists f
+phase_lists (phase.Seek f) = walk_lists f
+phase_lists (phase.Item f) = walk_lists f
+phase_lists (phase.Give f) = walk_lists f
+phase_lists (phase.Onward f) = walk_lists f
+phase_lists f = 0
+
+abbrev pub lists_due : {K V D T A : Type 0} → Place K V D T A → ℕ
+lists_due p = sum_by ask_lists p.asks + phase_lists p.phase
 
 -- the locks are those of the shards, each with a desk, and their threads those of the world
 pub record AreLocksOf (threads shards : ℕ) (locks : Shown) : Type 0 where
@@ -68,19 +111,22 @@ pub record Room {K V S D T A : Type 0} (c : Core K V S D T A) : Type 0 where
   pub answers : length c.replies.items + sum_by owed (state_of c).places ≡ sum_by length (state_of c).programs
   pub calls_fit : sum_by length (state_of c).programs ≤ 2 ^ 20
   pub replies : sum_by length (state_of c).programs ≤ vec_capacity c.replies
-  pub blocks : length c.blocks.items + sum_by may_list (state_of c).places ≤ vec_capacity c.blocks
-  pub held : (t i : ℕ) (p : Place K V D T) (h : Hold) → slice_get (state_of c).places t ≡ Some p → slice_get p.holds i ≡ Some h → h.shard < length c.tables.items
+  pub blocks : length c.blocks.items + sum_by (may_list (length c.tables.items)) (state_of c).places ≤ vec_capacity c.blocks
+  pub blocks_fit : length c.blocks.items + sum_by (may_list (length c.tables.items)) (state_of c).places < 2 ^ 32
+  pub visits : (t : ℕ) (p : KeptPlace K V D T A) → slice_get c.places.items t ≡ Some p → may_walk (place_of p) ≡ true → length c.tables.items ≤ vec_capacity p.visits
+  pub lists : (t : ℕ) (p : KeptPlace K V D T A) → slice_get c.places.items t ≡ Some p → lists_due (place_of p) ≤ length p.lists.items
+  pub held : (t i : ℕ) (p : Place K V D T A) (h : Hold) → slice_get (state_of c).places t ≡ Some p → slice_get p.holds i ≡ Some h → h.shard < length c.tables.items
   pub locks : AreLocksOf (length (state_of c).places) (length c.tables.items) (state_of c).locks
   pub pairs : c.pairs ≡ length (pairs_of (state_of c))
   pub pairs_fit : c.pairs + sum_by may_add (state_of c).places ≤ 2 ^ 31 + 2 ^ 20
   pub places : length (state_of c).places ≡ length (state_of c).programs
   pub threads_fit : length (state_of c).places ≤ 256
   pub shards : IsWorldAmount (length c.tables.items)
-  pub listed : (t : ℕ) (p : Place K V D T) (i : ℕ) → slice_get (state_of c).places t ≡ Some p → p.block ≡ Some i → i < length c.blocks.items
+  pub listed : (t : ℕ) (p : Place K V D T A) (i : ℕ) → slice_get (state_of c).places t ≡ Some p → p.block ≡ Some i → i < length c.blocks.items
 
 -- a thread stands before that phase
-pub record IsBefore {K V D T : Type 0} (places : List (Place K V D T)) (t : ℕ) (ph : Phase K V D T) : Type 0 where
-  pub place : Place K V D T
+pub record IsBefore {K V D T A : Type 0} (places : List (Place K V D T A)) (t : ℕ) (ph : Phase K V D T A) : Type 0 where
+  pub place : Place K V D T A
   pub stands : slice_get places t ≡ Some place
   pub before : place.phase ≡ ph
 
@@ -93,6 +139,6 @@ abbrev pub IsSlotted : {K V S H D T A : Type 0} → deed.Ghosts D K V T → buil
 IsSlotted d b h eq writes c = HasSlots (setup_of d b h eq writes (state_of c)) (key_hash b h writes c.hasher) c.tables.items c.blocks.items c.places.items
 
 -- a step of that kind leads from the one to the other
-abbrev pub MakesStep : {K V S H D T A : Type 0} → (Setup K V D T → State K V S D T → Step → State K V S D T → Type 0)
+abbrev pub MakesStep : {K V S H D T A : Type 0} → (Setup K V D T → State K V S D T A → Step → State K V S D T A → Type 0)
     → deed.Ghosts D K V T → builder.Ghosts S H → hasher.Ghosts H → (K → K → Bool) → (K → HashWrites) → Core K V S D T A → Step → Core K V S D T A → Type 0
 MakesStep kind d b h eq writes c s c' = kind (setup_of d b h eq writes (state_of c)) (state_of c) s (state_of c')

@@ -1,5 +1,5 @@
 -- Holds of shards, as their locks see them.
-use Rattle.std.specs.Prelude.{◌≡◌, ℕ, List, Some, slice_get}
+use Rattle.std.specs.Prelude.{◌≡◌, ℕ, Bool, if◌then◌else◌, List, Some, slice_get}
 use Rattle.lock_api_desk.specs.declared.mode.Mode.{Mode as DeskMode}
 use Rattle.lock_api_desk.specs.declared.mode.Mode.TheVariants as desk
 use Rattle.parking_lot_world.specs.declared.calls.LockCall.{LockCall}
@@ -17,6 +17,14 @@ at_desk Exclusive = desk.Exclusive
 abbrev pub asks_for : Mode → LockCall
 asks_for Shared = call.Read
 asks_for Exclusive = call.Write
+
+-- and the one that waits for nobody
+abbrev pub tries_for : Mode → LockCall
+tries_for Shared = call.TryRead
+tries_for Exclusive = call.TryWrite
+
+abbrev pub wants_for : (tries : Bool) → Mode → LockCall
+wants_for tries mode = if tries then tries_for mode else asks_for mode
 
 abbrev pub gives_up : Mode → LockCall
 gives_up Shared = call.UnlockRead

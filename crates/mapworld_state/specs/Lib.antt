@@ -5,6 +5,7 @@ pub mod Holds
 pub mod Classes
 pub mod Held
 pub mod Moves
+pub mod Walks
 pub mod Steps
 pub mod Footprint
 pub mod Sound

@@ -6,7 +6,7 @@ use Rattle.mapworld_state.specs.declared.place.Guard.{Guard}
 use Rattle.mapworld_state.specs.declared.place.Phase.{Phase}
 use Rattle.mapworld_state.specs.declared.place.Place.{Place as KeptPlace}
 
-pub record Place (K V D T : Type 0) : Type 0 where
+pub record Place (K V D T A : Type 0) : Type 0 where
   -- the calls that have not started, in order
   pub asks : List (Ask K V D)
   -- the number of the call that it is in, or that is next
@@ -23,10 +23,15 @@ pub record Place (K V D T : Type 0) : Type 0 where
   pub block : Option ℕ
   -- its guard, while it has one
   pub guard : Option (Guard K)
+  -- the blocks of its walk's visits, in order
+  pub visits : List ℕ
+  -- what its walk has read so far, and how many pairs it has done or counted, or for how many its shards have room
+  pub reads : List T
+  pub count : ℕ
   -- what its next step is
-  pub phase : Phase K V D T
+  pub phase : Phase K V D T A
 
-abbrev pub place_of : {K V D T A : Type 0} → KeptPlace K V D T A → Place K V D T
+abbrev pub place_of : {K V D T A : Type 0} → KeptPlace K V D T A → Place K V D T A
 place_of p = record {
   asks = p.asks.items;
   next = p.next;
@@ -36,5 +41,8 @@ place_of p = record {
   holds = p.holds.items;
   block = p.block;
   guard = p.guard;
+  visits = p.visits.items;
+  reads = p.reads.items;
+  count = p.count;
   phase = p.phase;
 }

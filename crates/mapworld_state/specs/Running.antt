@@ -18,53 +18,53 @@ use Rattle.mapworld_state.specs.Footprint.{HasFootprint}
 use Rattle.mapworld_faults.specs.Faults.{run_fault_done}
 
 -- how many calls aren't answered
-abbrev pub unanswered_of : {K V S D T : Type 0} → State K V S D T → ℕ
+abbrev pub unanswered_of : {K V S D T A : Type 0} → State K V S D T A → ℕ
 unanswered_of w = sum_by length w.programs - length w.replies
 
 -- how many steps are enough, for n threads, s shards, p pairs and c unanswered calls
 abbrev pub bound : ℕ → ℕ → ℕ → ℕ → ℕ
 bound n s p c = 256 * (n + 1) * (n + 1) * (c + 1) * (s + 1) + 2 * (c + 1) * (p + c + 1)
 
-abbrev pub bound_of : {K V S D T : Type 0} → State K V S D T → ℕ
+abbrev pub bound_of : {K V S D T A : Type 0} → State K V S D T A → ℕ
 bound_of w = bound (length w.programs) (length w.tables) (length (pairs_of w)) (unanswered_of w)
 
 -- where a thread stands that has that place
-abbrev pub status_before : {K V D T : Type 0} → Shown → ℕ → ℕ → Phase K V D T → Status
+abbrev pub status_before : {K V D T A : Type 0} → Shown → ℕ → ℕ → Phase K V D T A → Status
 status_before locks t left f = status_in (is_asleep (state locks.rows) t) left (class_of f)
 
-abbrev pub status_at : {K V D T : Type 0} → Shown → ℕ → Option (Place K V D T) → Status
+abbrev pub status_at : {K V D T A : Type 0} → Shown → ℕ → Option (Place K V D T A) → Status
 status_at locks t None = status.Finished
 status_at locks t (Some p) = status_before locks t (length p.asks) p.phase
 
-abbrev pub status_of : {K V S D T : Type 0} → State K V S D T → ℕ → Status
+abbrev pub status_of : {K V S D T A : Type 0} → State K V S D T A → ℕ → Status
 status_of w t = status_at w.locks t (slice_get w.places t)
 
 -- whether a thread is in no call at a lock, or can make a step of the one that it is in
 abbrev pub goes_on : Shown → ℕ → Bool
 goes_on locks t = is_none (call_at (state locks.rows) t) || can_move (state locks.rows) t
 
-abbrev pub moves_before : {K V D T : Type 0} → Shown → ℕ → ℕ → Phase K V D T → Bool
+abbrev pub moves_before : {K V D T A : Type 0} → Shown → ℕ → ℕ → Phase K V D T A → Bool
 moves_before locks t left f = moves_in (goes_on locks t) left (class_of f)
 
-abbrev pub moves_at : {K V D T : Type 0} → Shown → ℕ → Option (Place K V D T) → Bool
+abbrev pub moves_at : {K V D T A : Type 0} → Shown → ℕ → Option (Place K V D T A) → Bool
 moves_at locks t None = false
 moves_at locks t (Some p) = moves_before locks t (length p.asks) p.phase
 
 -- whether a step of a thread would be done: its calls aren't all answered, it isn't asleep, and it isn't before a queue's section that another
 -- thread has entered
-abbrev pub can_move_in : {K V S D T : Type 0} → State K V S D T → ℕ → Bool
+abbrev pub can_move_in : {K V S D T A : Type 0} → State K V S D T A → ℕ → Bool
 can_move_in w t = moves_at w.locks t (slice_get w.places t)
 
 -- whether a number is left for one more step
-abbrev pub has_next : {K V S D T : Type 0} → State K V S D T → Bool
+abbrev pub has_next : {K V S D T A : Type 0} → State K V S D T A → Bool
 has_next w = nat_lt (length w.steps + 1) (2 ^ 63)
 
 -- whether step numbers are left for one more step and all that must come after it
-abbrev pub has_numbers : {K V S D T : Type 0} → State K V S D T → Bool
+abbrev pub has_numbers : {K V S D T A : Type 0} → State K V S D T A → Bool
 has_numbers w = nat_le (length w.steps + 1 + bound_of w + 2 * (unanswered_of w + 1)) (2 ^ 63)
 
 -- why a step is refused where n steps of the run are done, tried in this order
-abbrev pub refusal : {K V S D T : Type 0} → State K V S D T → ℕ → Step → Option RunFault
+abbrev pub refusal : {K V S D T A : Type 0} → State K V S D T A → ℕ → Step → Option RunFault
 refusal w n s =
     if nat_lt s.thread (length w.programs)
     then (if can_move_in w s.thread
@@ -73,10 +73,10 @@ refusal w n s =
     else Some (fault.NoSuchThread n)
 
 -- the steps lead from one world to the other, one after another, each one of a kind and within its footprint, and none refused
-abbrev pub Ran : {K V S D T : Type 0} → Setup K V D T → ℕ → State K V S D T → List Step → State K V S D T → Type 0
+abbrev pub Ran : {K V S D T A : Type 0} → Setup K V D T → ℕ → State K V S D T A → List Step → State K V S D T A → Type 0
 Ran x n w [] w' = w' ≡ w
-Ran {K} {V} {S} {D} {T} x n w (s ∷ steps) w' =
-    (mid : State K V S D T) × (refusal w n s ≡ None) × IsStep x w s mid × HasFootprint x.eq w s mid × Ran x (n + 1) mid steps w'
+Ran {K} {V} {S} {D} {T} {A} x n w (s ∷ steps) w' =
+    (mid : State K V S D T A) × (refusal w n s ≡ None) × IsStep x w s mid × HasFootprint x.eq w s mid × Ran x (n + 1) mid steps w'
 
 -- how many of n steps a run did
 abbrev pub steps_done : {X : Type 0} → Result X RunFault → ℕ → ℕ
@@ -84,11 +84,11 @@ steps_done (Ok x) n = n
 steps_done (Err f) n = run_fault_done f
 
 -- the step that a run stopped at is refused so, by the world that it left
-abbrev pub StopsAt : {K V S D T : Type 0} → State K V S D T → List Step → RunFault → Type 0
+abbrev pub StopsAt : {K V S D T A : Type 0} → State K V S D T A → List Step → RunFault → Type 0
 StopsAt w steps f = (step : Step) × (slice_get steps (run_fault_done f) ≡ Some step) × (refusal w (run_fault_done f) step ≡ Some f)
 
 -- what a run never changes
-pub record StaysFixed {K V S D T : Type 0} (w w' : State K V S D T) : Type 0 where
+pub record StaysFixed {K V S D T A : Type 0} (w w' : State K V S D T A) : Type 0 where
   pub hasher : w'.hasher ≡ w.hasher
   pub shards : length w'.tables ≡ length w.tables
   pub opening : w'.opening ≡ w.opening

@@ -43,3 +43,10 @@ pub record Grown {K V : Type 0} (eq : K → K → Bool) (old new : ShardPairs K 
   pub distinct : AreDistinct eq new.items
   pub counted : length new.items ≡ length old.items
   pub room : grown_room (length old.items) ≤ new.room
+
+-- the one shard is the other with no more room: every key has what it had
+pub record Shrunk {K V : Type 0} (eq : K → K → Bool) (old new : ShardPairs K V) : Type 0 where
+  pub found : (q : K) → pair_of eq new.items q ≡ pair_of eq old.items q
+  pub distinct : AreDistinct eq new.items
+  pub counted : length new.items ≡ length old.items
+  pub room : new.room ≤ old.room

@@ -9,7 +9,7 @@ use Rattle.mapworld_state.specs.declared.step.Step.{Step}
 use Rattle.mapworld_state.specs.Places.{Place}
 use Rattle.mapworld_state.specs.Shards.{ShardPairs}
 
-pub record State (K V S D T : Type 0) : Type 0 where
+pub record State (K V S D T A : Type 0) : Type 0 where
   pub hasher : S
   -- the pairs and programs that it was made with
   pub opening : List (K × V)
@@ -17,26 +17,26 @@ pub record State (K V S D T : Type 0) : Type 0 where
   -- the steps so far
   pub steps : List Step
   -- where each thread stands
-  pub places : List (Place K V D T)
+  pub places : List (Place K V D T A)
   -- the pairs of each shard
   pub tables : List (ShardPairs K V)
   -- the locks of the shards: words, queues, the calls that threads are in there, and the desk beside each word
   pub locks : Shown
   pub blocks : List (Block K)
-  pub replies : List (Reply K V T)
+  pub replies : List (Reply K V T A)
 
 -- the thread of each step so far
-abbrev pub threads_of : {K V S D T : Type 0} → State K V S D T → List ℕ
+abbrev pub threads_of : {K V S D T A : Type 0} → State K V S D T A → List ℕ
 threads_of w = map (λ s. s.thread) w.steps
 
 -- the number of the next step: they are counted from 1
-abbrev pub next_step : {K V S D T : Type 0} → State K V S D T → ℕ
+abbrev pub next_step : {K V S D T A : Type 0} → State K V S D T A → ℕ
 next_step w = length w.steps + 1
 
 -- all pairs, shard by shard
-abbrev pub pairs_of : {K V S D T : Type 0} → State K V S D T → List (K × V)
+abbrev pub pairs_of : {K V S D T A : Type 0} → State K V S D T A → List (K × V)
 pairs_of w = flat_map (λ t. t.items) w.tables
 
 -- the start step of a thread's unanswered call, if it has one that started
-abbrev pub started_of : {K V S D T : Type 0} → State K V S D T → ℕ → Option ℕ
+abbrev pub started_of : {K V S D T A : Type 0} → State K V S D T A → ℕ → Option ℕ
 started_of w t = option_and_then (λ p. p.started) (slice_get w.places t)

@@ -2,7 +2,7 @@
 
 use crate::holds::Hold;
 use arrayvec::ArrayVec;
-use mapworld_calls::{Answer, Ask, Begin, Held, Keyed};
+use mapworld_calls::{Answer, Ask, Begin, Held, Keyed, Walk};
 use std::alloc::Allocator;
 use std::collections::VecDeque;
 
@@ -38,11 +38,12 @@ pub enum Guard<K> {
 pub enum Growth<K, V> {
     Insert(K, V),
     Entry(K),
+    TryEntry(K),
 }
 
 /// What a thread's next step is.
 #[derive(Drop)]
-pub enum Phase<K, V, D, T> {
+pub enum Phase<K, V, D, T, A: Allocator> {
     /// Between two calls: the start of the next one, if there is one.
     Rest,
     /// The admission to the shard, by the shard's lock; and where the lock's call is over, the look into the shard.
@@ -65,10 +66,27 @@ pub enum Phase<K, V, D, T> {
     Fill(V),
     /// The guard becomes shared.
     Downgrade,
+    /// A walk that is to give no item: it is answered with an empty list.
+    Idle(Walk<D>),
+    /// A walk's admission to its next shard, by the shard's lock; the last one may be held beside.
+    Reach(Walk<D>),
+    /// The last shard is given back, where the next one is held. It is part of a step that ends an admission: no thread stays
+    /// before it.
+    Part(Walk<D>),
+    /// The look into the held shard with which a visit begins; and before that what is still owed to the last shard's lock.
+    Visit(Walk<D>),
+    /// A pair of the visit is found that isn't done.
+    Seek(Walk<D>),
+    /// The walk does with the found pair what it does with a pair.
+    Item(Walk<D>),
+    /// The visit is over, and its shard is given back before the walk asks for the next one.
+    Give(Walk<D>),
+    /// Between two visits: what is still owed to the last shard's lock, and then the next visit starts.
+    Onward(Walk<D>),
     /// The hold ends, by the shard's lock, and the call is to be answered so.
-    Release(Answer<K, V, T>),
+    Release(Answer<K, V, T, A>),
     /// The call is answered; and before that what a release still owes to the lock is done.
-    Answer(Answer<K, V, T>),
+    Answer(Answer<K, V, T, A>),
 }
 
 /// A thread's place: what is left of its program, and what belongs to its call or session.
@@ -93,5 +111,13 @@ pub struct Place<K, V, D, T, A: Allocator> {
     pub block: Option<usize>,
     /// Its guard, while it has one.
     pub guard: Option<Guard<K>>,
-    pub phase: Phase<K, V, D, T>,
+    /// The blocks of its walk's visits, in order, while it is in one.
+    pub visits: Vec<usize, A>,
+    /// What its walk has read so far.
+    pub reads: Vec<T, A>,
+    /// Empty lists for the walks that still are to be answered with one, since a list takes an allocator and an answer can't be refused.
+    pub lists: Vec<Vec<T, A>, A>,
+    /// How many pairs its walk has done or counted so far, or for how many its shards have room; at most the greatest number.
+    pub count: usize,
+    pub phase: Phase<K, V, D, T, A>,
 }

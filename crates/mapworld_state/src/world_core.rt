@@ -33,5 +33,5 @@ pub struct Core<K: Eq + Hash, V, S, D, T, A: Allocator> {
     /// The lock of each shard, and the desk beside its word.
     pub locks: ShardLocks<A>,
     pub blocks: Vec<Block<K>, A>,
-    pub replies: Vec<Reply<K, V, T>, A>,
+    pub replies: Vec<Reply<K, V, T, A>, A>,
 }

@@ -1,8 +1,10 @@
 -- What a thread may ask of a shard's lock: for the lock where it has no hold, and to give it up where it has one.
-use Rattle.std.proofs.Common.{◌≡◌, ℕ, ◌<◌, inl, inr, Bool, true, false, List, [], Option, Some, None, slice_get, refl, sym, ap, ◌∙◌, subst}
+use Rattle.std.proofs.Common.{◌≡◌, ◌≢◌, ◌⊎◌, ⊎_elim, ℕ, ◌<◌, inl, inr, Bool, true, false, List, [], Option, Some, None, slice_get, refl, sym, ap, ◌∙◌, subst}
 use Rattle.std.proofs.lemmas.Option.{none-some}
 use Rattle.std.proofs.lemmas.Bool.{false≢true}
 use Rattle.dashmap_table.proofs.Cases.{option_cases}
+use Rattle.parking_lot_protocol.specs.declared.act.CoreAnswer.{CoreAnswer}
+use Rattle.parking_lot_protocol.specs.declared.act.CoreAnswer.TheVariants.{Owned, Refused}
 use Rattle.parking_lot_world.specs.Calls.{kind_of}
 use Rattle.parking_lot_world.specs.declared.calls.LockCall.TheVariants as call
 use Rattle.parking_lot_world.specs.declared.calls.LockKind.TheVariants as kind
@@ -15,18 +17,21 @@ use Rattle.mapworld_state.specs.declared.holds.Hold.{Hold}
 use Rattle.mapworld_state.specs.declared.place.Phase.{Phase}
 use Rattle.mapworld_state.specs.declared.place.Phase.TheVariants as phase
 use Rattle.mapworld_state.specs.Places.{Place}
-use Rattle.mapworld_state.specs.Holds.{at_desk, asks_for, gives_up}
+use Rattle.mapworld_state.specs.Holds.{at_desk, asks_for, wants_for, gives_up}
 use Rattle.mapworld_state.specs.Held.{HoldsMatch, StandsBefore}
 use Rattle.mapworld_state.specs.Core.{AreLocksOf}
-use Rattle.mapworld_state.specs.Moves.{mode_of}
+use Rattle.mapworld_state.specs.Moves.{mode_of, request_tries}
+use Rattle.mapworld_state.specs.Walks.{walk_mode}
 use Rattle.mapworld_state.specs.Steps.{EntersBy}
 use Rattle.mapworld_state.proofs.HoldsTable.{none-there}
 use Rattle.mapworld_locks.proofs.Sizes.{KeepsSize, same_size, begins-size}
 
 -- what is asked of a lock, and what it needs
-asked-needs : (mode : Mode) → (kind_of (asks_for mode) ≡ kind.Rw) × (needs (asks_for mode) ≡ None)
-asked-needs Shared = (refl, refl)
-asked-needs Exclusive = (refl, refl)
+asked-needs : (tries : Bool) (mode : Mode) → (kind_of (wants_for tries mode) ≡ kind.Rw) × (needs (wants_for tries mode) ≡ None)
+asked-needs false Shared = (refl, refl)
+asked-needs false Exclusive = (refl, refl)
+asked-needs true Shared = (refl, refl)
+asked-needs true Exclusive = (refl, refl)
 
 given-needs : (mode : Mode) → (kind_of (gives_up mode) ≡ kind.Rw) × (needs (gives_up mode) ≡ Some (at_desk mode))
 given-needs Shared = (refl, refl)
@@ -36,26 +41,30 @@ pub given-gives : (mode : Mode) → gives (gives_up mode) ≡ true
 given-gives Shared = refl
 given-gives Exclusive = refl
 
-module _ {K V D T : Type 0} {places : List (Place K V D T)} {locks : Shown} (match : HoldsMatch places locks) (threads shards : ℕ) (sizes : AreLocksOf threads shards locks)
-    (t : ℕ) (p : Place K V D T) (here : slice_get places t ≡ Some p) (within : t < threads) (out : stand_in locks t ≡ None) where
-  -- without a hold, and in no call, it owns no lock
-  owns-nothing : p.holds ≡ [] → (shard : ℕ) → owner_in locks shard t ≡ None
-  owns-nothing none shard = elim (option_cases (owner_in locks shard t)) [
+module _ {K V D T A : Type 0} {places : List (Place K V D T A)} {locks : Shown} (match : HoldsMatch places locks) (threads shards : ℕ) (sizes : AreLocksOf threads shards locks)
+    (t : ℕ) (p : Place K V D T A) (here : slice_get places t ≡ Some p) (within : t < threads) (out : stand_in locks t ≡ None) where
+  -- without a hold of a shard, and in no call, it doesn't own its lock
+  owns-nothing : (shard : ℕ) → ((i : ℕ) (h : Hold) → slice_get p.holds i ≡ Some h → h.shard ≢ shard) → owner_in locks shard t ≡ None
+  owns-nothing shard apart = elim (option_cases (owner_in locks shard t)) [
     | inl free ↦ free
     | inr owns ↦ elim (match.known t shard p owns.0 here owns.1) [
-      | inl among ↦ absurd (none-there p.holds among.index among.hold none among.there)
+      | inl among ↦ absurd (apart among.index among.hold among.there among.shard_is)
       | inr at ↦ absurd (none-some at.0 (sym out ∙ at.1))
     ]
   ]
 
-  pub may-enter : p.holds ≡ [] → (shard : ℕ) → shard < shards → (mode : Mode) → MayAsk t shard (asks_for mode) locks
-  may-enter none shard fits mode = record {
+  pub may-enter : (shard : ℕ) → ((i : ℕ) (h : Hold) → slice_get p.holds i ≡ Some h → h.shard ≢ shard) → shard < shards → (tries : Bool) (mode : Mode) → MayAsk t shard (wants_for tries mode) locks
+  may-enter shard apart fits tries mode = record {
     thread = subst (λ n. t < n) (sym sizes.threads_are) within;
     there = subst (λ n. shard < n) (sym sizes.shards_are) fits;
-    of_kind = (asked-needs mode).0;
+    of_kind = (asked-needs tries mode).0;
     free = out;
-    holds = owns-nothing none shard ∙ sym (asked-needs mode).1;
+    holds = owns-nothing shard apart ∙ sym (asked-needs tries mode).1;
   }
+
+  -- it has no hold of any shard where it has none
+  pub no-hold : p.holds ≡ [] → (shard i : ℕ) (h : Hold) → slice_get p.holds i ≡ Some h → h.shard ≢ shard
+  no-hold none shard i h has is = none-there p.holds i h none has
 
   module _ (i : ℕ) (h : Hold) (held : slice_get p.holds i ≡ Some h) (fits : h.shard < shards) where
     pub may-leave : MayAsk t h.shard (gives_up h.mode) locks
@@ -77,7 +86,7 @@ module _ {K V D T : Type 0} {places : List (Place K V D T)} {locks : Shown} (mat
     }
 
 -- a thread before such a phase is in no call at a lock
-abbrev pub is_out : {K V D T : Type 0} → Phase K V D T → Bool
+abbrev pub is_out : {K V D T A : Type 0} → Phase K V D T A → Bool
 is_out phase.Rest = true
 is_out (phase.Admit r) = false
 is_out (phase.Find r) = true
@@ -89,10 +98,18 @@ is_out (phase.Read d) = true
 is_out (phase.Change h) = true
 is_out (phase.Fill v) = true
 is_out phase.Downgrade = true
+is_out (phase.Idle f) = true
+is_out (phase.Reach f) = false
+is_out (phase.Part f) = true
+is_out (phase.Visit f) = false
+is_out (phase.Seek f) = true
+is_out (phase.Item f) = true
+is_out (phase.Give f) = true
+is_out (phase.Onward f) = false
 is_out (phase.Release a) = true
 is_out (phase.Answer a) = false
 
-stands-out : {K V D T : Type 0} (p : Place K V D T) (f : Phase K V D T) (stand : Option Stand) → is_out f ≡ true → StandsBefore p f stand → stand ≡ None
+stands-out : {K V D T A : Type 0} (p : Place K V D T A) (f : Phase K V D T A) (stand : Option Stand) → is_out f ≡ true → StandsBefore p f stand → stand ≡ None
 stands-out p phase.Rest stand e h = h
 stands-out p (phase.Admit r) stand e h = absurd (false≢true e)
 stands-out p (phase.Find r) stand e h = h
@@ -104,18 +121,34 @@ stands-out p (phase.Read d) stand e h = h
 stands-out p (phase.Change x) stand e h = h
 stands-out p (phase.Fill v) stand e h = h
 stands-out p phase.Downgrade stand e h = h
+stands-out p (phase.Idle f) stand e h = h
+stands-out p (phase.Reach f) stand e h = absurd (false≢true e)
+stands-out p (phase.Part f) stand e h = h
+stands-out p (phase.Visit f) stand e h = absurd (false≢true e)
+stands-out p (phase.Seek f) stand e h = h
+stands-out p (phase.Item f) stand e h = h
+stands-out p (phase.Give f) stand e h = h
+stands-out p (phase.Onward f) stand e h = absurd (false≢true e)
 stands-out p (phase.Release a) stand e h = h
 stands-out p (phase.Answer a) stand e h = absurd (false≢true e)
 
-pub out-of-call : {K V D T : Type 0} {places : List (Place K V D T)} {locks : Shown} → HoldsMatch places locks → (t : ℕ) (p : Place K V D T) → slice_get places t ≡ Some p
-    → (f : Phase K V D T) → p.phase ≡ f → is_out f ≡ true → stand_in locks t ≡ None
-out-of-call {K} {V} {D} {T} {locks = locks} match t p here f before out =
-    stands-out p f (stand_in locks t) out (subst (λ (z : Phase K V D T). StandsBefore p z (stand_in locks t)) before (match.stands t p here))
+pub out-of-call : {K V D T A : Type 0} {places : List (Place K V D T A)} {locks : Shown} → HoldsMatch places locks → (t : ℕ) (p : Place K V D T A) → slice_get places t ≡ Some p
+    → (f : Phase K V D T A) → p.phase ≡ f → is_out f ≡ true → stand_in locks t ≡ None
+out-of-call {K} {V} {D} {T} {A} {locks = locks} match t p here f before out =
+    stands-out p f (stand_in locks t) out (subst (λ (z : Phase K V D T A). StandsBefore p z (stand_in locks t)) before (match.stands t p here))
 
 -- a start's locks have the sizes that they had
-pub enters-size : {K V D T : Type 0} (locks locks' : Shown) (t shard : ℕ) (f : Phase K V D T) → EntersBy t shard f locks locks' → KeepsSize locks locks'
+pub enters-size : {K V D T A : Type 0} (locks locks' : Shown) (t shard : ℕ) (f : Phase K V D T A) → EntersBy t shard f locks locks' → KeepsSize locks locks'
 enters-size locks locks' t shard phase.Rest h = rw h same_size
-enters-size locks locks' t shard (phase.Admit r) h = begins-size locks locks' t shard (asks_for (mode_of r)) h
+enters-size locks locks' t shard (phase.Admit r) h = begins-size locks locks' t shard (wants_for (request_tries r) (mode_of r)) h
+enters-size locks locks' t shard (phase.Reach f) h = begins-size locks locks' t shard (asks_for (walk_mode f)) h
+enters-size locks locks' t shard (phase.Idle f) h = rw h same_size
+enters-size locks locks' t shard (phase.Part f) h = rw h same_size
+enters-size locks locks' t shard (phase.Visit f) h = rw h same_size
+enters-size locks locks' t shard (phase.Seek f) h = rw h same_size
+enters-size locks locks' t shard (phase.Item f) h = rw h same_size
+enters-size locks locks' t shard (phase.Give f) h = rw h same_size
+enters-size locks locks' t shard (phase.Onward f) h = rw h same_size
 enters-size locks locks' t shard (phase.Find r) h = rw h same_size
 enters-size locks locks' t shard (phase.Grow c) h = rw h same_size
 enters-size locks locks' t shard (phase.Append k v) h = rw h same_size
@@ -127,3 +160,7 @@ enters-size locks locks' t shard (phase.Fill v) h = rw h same_size
 enters-size locks locks' t shard phase.Downgrade h = rw h same_size
 enters-size locks locks' t shard (phase.Release a) h = rw h same_size
 enters-size locks locks' t shard (phase.Answer a) h = rw h same_size
+
+-- an admission that wasn't refused is owned
+pub owned-unless : (a : CoreAnswer) → (a ≡ Owned) ⊎ (a ≡ Refused) → (a ≡ Refused → ⊥) → a ≡ Owned
+owned-unless a h other = ⊎_elim (λ won. won) (λ lost. absurd (other lost)) h

@@ -13,7 +13,7 @@ use Rattle.mapworld_state.proofs.Views.{view-at, view-from}
 use Rattle.mapworld_moves.proofs.Facts.{read_at}
 
 -- a thread that stands before a phase
-module _ {K V D T A : Type 0} (places : List (KeptPlace K V D T A)) {t : ℕ} {ph : Phase K V D T} (b : IsBefore (map place_of places) t ph) (r : KeptPlace K V D T A) (read : r ≡ get_or places t r) where
+module _ {K V D T A : Type 0} (places : List (KeptPlace K V D T A)) {t : ℕ} {ph : Phase K V D T A} (b : IsBefore (map place_of places) t ph) (r : KeptPlace K V D T A) (read : r ≡ get_or places t r) where
   pub kept_here : slice_get places t ≡ Some r
   kept_here =
       let v = view-from place_of places t b.place b.stands in
@@ -23,10 +23,10 @@ module _ {K V D T A : Type 0} (places : List (KeptPlace K V D T A)) {t : ℕ} {p
   stands_here = view-at place_of places t r kept_here
 
   pub phase_here : r.phase ≡ ph
-  phase_here = ap (λ (p : Place K V D T). p.phase) (same_Some (place_of r) b.place (sym stands_here ∙ b.stands)) ∙ b.before
+  phase_here = ap (λ (p : Place K V D T A). p.phase) (same_Some (place_of r) b.place (sym stands_here ∙ b.stands)) ∙ b.before
 
 -- a place that was read, before its phase
-pub is_before : {K V D T A : Type 0} (places : List (KeptPlace K V D T A)) (t : ℕ) (r : KeptPlace K V D T A) (ph : Phase K V D T)
+pub is_before : {K V D T A : Type 0} (places : List (KeptPlace K V D T A)) (t : ℕ) (r : KeptPlace K V D T A) (ph : Phase K V D T A)
     → t < length places → r ≡ get_or places t r → r.phase ≡ ph → IsBefore (map place_of places) t ph
 is_before places t r ph within read before =
     record { place = place_of r; stands = view-at place_of places t r (slice_get_read places (length places) t r refl within read); before = before }

@@ -5,3 +5,4 @@ pub mod Asking
 pub mod Setups
 pub mod Starting
 pub mod Finding
+pub mod Reaching

@@ -7,15 +7,12 @@ use Rattle.parking_lot_world.specs.Rows.{state, call_at}
 use Rattle.parking_lot_world.specs.Machines.{can_move}
 use Rattle.mapworld_locks.specs.Views.{Shown}
 use Rattle.mapworld_locks.specs.Stands.{Stand, stand_in, stand_of}
-use Rattle.mapworld_state.specs.declared.step.Status.TheVariants as status
 use Rattle.mapworld_state.specs.declared.place.Phase.{Phase}
 use Rattle.mapworld_state.specs.declared.place.Phase.TheVariants as phase
-use Rattle.mapworld_state.specs.declared.place.Request.{Request}
-use Rattle.mapworld_calls.specs.declared.reply.Answer.{Answer}
 use Rattle.mapworld_state.specs.Places.{Place}
 use Rattle.mapworld_state.specs.State.{State}
 use Rattle.mapworld_state.specs.Core.{IsBefore}
-use Rattle.mapworld_state.specs.Running.{status_before, moves_before, moves_at, goes_on, can_move_in}
+use Rattle.mapworld_state.specs.Running.{moves_before, moves_at, goes_on, can_move_in}
 
 not-true : (b : Bool) → not b ≡ true → b ≡ false
 not-true true e = absurd (false≢true e)
@@ -25,24 +22,6 @@ not-true false e = refl
 pub some_left : (n : ℕ) → (n == 0) ≡ false → 0 < n
 some_left zero e = absurd (false≢true (sym e))
 some_left (suc n) e = omega arith
-
--- a thread that is neither between two calls nor at a lock runs, and can move
-module _ {K V D T : Type 0} (locks : Shown) (t left : ℕ) where
-  pub runs-otherwise : (f : Phase K V D T) → (f ≡ phase.Rest → ⊥) → ((r : Request K V D) → f ≡ phase.Admit r → ⊥) → ((a : Answer K V T) → f ≡ phase.Answer a → ⊥)
-      → (status.Running ≡ status_before locks t left f) × (true ≡ moves_before locks t left f)
-  runs-otherwise phase.Rest rest admit answer = absurd (rest refl)
-  runs-otherwise (phase.Admit r) rest admit answer = absurd (admit r refl)
-  runs-otherwise (phase.Find r) rest admit answer = (refl, refl)
-  runs-otherwise (phase.Grow c) rest admit answer = (refl, refl)
-  runs-otherwise (phase.Append k v) rest admit answer = (refl, refl)
-  runs-otherwise (phase.Apply k) rest admit answer = (refl, refl)
-  runs-otherwise (phase.View k d) rest admit answer = (refl, refl)
-  runs-otherwise (phase.Read d) rest admit answer = (refl, refl)
-  runs-otherwise (phase.Change k) rest admit answer = (refl, refl)
-  runs-otherwise (phase.Fill v) rest admit answer = (refl, refl)
-  runs-otherwise phase.Downgrade rest admit answer = (refl, refl)
-  runs-otherwise (phase.Release a) rest admit answer = (refl, refl)
-  runs-otherwise (phase.Answer a) rest admit answer = absurd (answer a refl)
 
 -- whether a thread is in a call at a lock
 none-mapped : {X Y : Type 0} (f : X → Y) (o : Option X) → is_none o ≡ not (is_some (option_map f o))
@@ -56,8 +35,8 @@ pub stand-none : {X : Type 0} (o : Option X) → is_some o ≡ false → o ≡ N
 stand-none None e = refl
 stand-none (Some x) e = absurd (false≢true (sym e))
 
-module _ {K V S D T : Type 0} (w : State K V S D T) (t : ℕ) (p : Place K V D T) (here : slice_get w.places t ≡ Some p) (moves : can_move_in w t ≡ true) where
-  moves-here : (f : Phase K V D T) → p.phase ≡ f → moves_before w.locks t (length p.asks) f ≡ true
+module _ {K V S D T A : Type 0} (w : State K V S D T A) (t : ℕ) (p : Place K V D T A) (here : slice_get w.places t ≡ Some p) (moves : can_move_in w t ≡ true) where
+  moves-here : (f : Phase K V D T A) → p.phase ≡ f → moves_before w.locks t (length p.asks) f ≡ true
   moves-here f before = sym (ap (λ o. moves_at w.locks t o) here ∙ ap (λ z. moves_before w.locks t (length p.asks) z) before) ∙ moves
 
   -- one that can move between two calls has a call left
@@ -65,7 +44,7 @@ module _ {K V S D T : Type 0} (w : State K V S D T) (t : ℕ) (p : Place K V D T
   has-calls before = some_left (length p.asks) (not-true (length p.asks == 0) (moves-here phase.Rest before))
 
   -- one that can move at a lock can do so there
-  pub goes-on : (f : Phase K V D T) → p.phase ≡ f → ((left : ℕ) → moves_before w.locks t left f ≡ goes_on w.locks t) → goes_on w.locks t ≡ true
+  pub goes-on : (f : Phase K V D T A) → p.phase ≡ f → ((left : ℕ) → moves_before w.locks t left f ≡ goes_on w.locks t) → goes_on w.locks t ≡ true
   goes-on f before is = sym (is (length p.asks)) ∙ moves-here f before
 
 -- one that is in a call goes on as its lock says
@@ -76,5 +55,5 @@ or-is false b e none = e
 pub can-move : (locks : Shown) (t : ℕ) (stand : Stand) → stand_in locks t ≡ Some stand → goes_on locks t ≡ true → can_move (state locks.rows) t ≡ true
 can-move locks t stand at goes = or-is (is_none (call_at (state locks.rows) t)) (can_move (state locks.rows) t) goes (in-no-call locks t ∙ ap (λ o. not (is_some o)) at)
 
-pub same-phase : {K V D T : Type 0} (places : List (Place K V D T)) (t : ℕ) (f : Phase K V D T) (b : IsBefore places t f) (p : Place K V D T) → slice_get places t ≡ Some p → p.phase ≡ f
-same-phase {K} {V} {D} {T} places t f b p at = ap (λ (q : Place K V D T). q.phase) (same_Some p b.place (sym at ∙ b.stands)) ∙ b.before
+pub same-phase : {K V D T A : Type 0} (places : List (Place K V D T A)) (t : ℕ) (f : Phase K V D T A) (b : IsBefore places t f) (p : Place K V D T A) → slice_get places t ≡ Some p → p.phase ≡ f
+same-phase {K} {V} {D} {T} {A} places t f b p at = ap (λ (q : Place K V D T A). q.phase) (same_Some p b.place (sym at ∙ b.stands)) ∙ b.before

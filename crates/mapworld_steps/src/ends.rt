@@ -1,5 +1,5 @@
 //! The steps that end a hold and a call.
-ghost use Rattle.std.specs.Prelude.{◌≡◌, ◌+◌, ◌<◌, ◌^◌, ◌∷◌, true, if◌then◌else◌};
+ghost use Rattle.std.specs.Prelude.{◌≡◌, ◌+◌, ◌<◌, ◌^◌, [], ◌∷◌, true, if◌then◌else◌, vec_capacity};
 ghost use Rattle.mapworld_locks.specs.Stands.{stand_in};
 ghost use Rattle.mapworld_state.specs.declared.place.Phase.TheVariants as phase;
 ghost use Rattle.mapworld_state.specs.Running.{has_next};
@@ -8,7 +8,7 @@ ghost use Rattle.mapworld_state.specs.Steps.{Downgrades, Releases, Answers};
 
 use arrayvec::ArrayVec;
 use mapworld_calls::{Answer, Deed, Reply};
-use mapworld_moves::blocks::{count_in, end_block};
+use mapworld_moves::blocks::{count_in, end_call};
 use mapworld_moves::holds::gives_up;
 use mapworld_moves::moves::{enter, release_counts};
 use mapworld_state::{Core, Guard, Hold, Mode, Phase, Place, Step, Way};
@@ -18,14 +18,18 @@ use std::hash::{BuildHasher, Hash};
 use std::mem;
 
 /// Leads a place behind the answer of its call, which it gives back.
-fn leave_call<K, V, D, T, A: Allocator>(place: &mut Place<K, V, D, T, A>) -> Answer<K, V, T>
+fn leave_call<K, V, D, T, A: Allocator>(place: &mut Place<K, V, D, T, A>) -> Answer<K, V, T, A>
     requires before { (answer : _) × (place.old.phase ≡ phase.Answer answer) }
     requires fits { place.old.next < 2 ^ 63 }
     ensures answer { place.old.phase ≡ phase.Answer result }
-    ensures after { place.new ≡ record place.old { next = place.old.next + 1; started = None; block = if place.old.closes then None else place.old.block; phase = phase.Rest } }
+    ensures none { place.new.visits.items ≡ [] }
+    ensures capacity { vec_capacity place.new.visits ≡ vec_capacity place.old.visits }
+    ensures after { place.new ≡ record place.old { next = place.old.next + 1; started = None; block = if place.old.closes then None else place.old.block; visits = place.new.visits; count = 0; phase = phase.Rest } }
 {
     place.next += 1;
     place.started = None;
+    place.visits.clear();
+    place.count = 0;
     if place.closes {
         place.block = None;
     }
@@ -47,7 +51,7 @@ fn share_first(holds: &mut ArrayVec<Hold, 2>) -> Hold
 }
 
 /// Takes the first of these holds out.
-fn take_first(holds: &mut ArrayVec<Hold, 2>) -> Hold
+pub(crate) fn take_first(holds: &mut ArrayVec<Hold, 2>) -> Hold
     requires { (hold : _) × (more : _) × (holds.old.items ≡ hold ∷ more) }
     ensures { holds.old.items ≡ result ∷ holds.new.items }
 {
@@ -135,12 +139,11 @@ pub(crate) fn answer<
     let end = core.count + 1;
     let place = &mut core.places[step.thread];
     let call = place.next;
-    let block = place.block;
     let Some(start) = place.started else {
         unreachable!()
     };
+    end_call(&mut core.blocks, place.block, &place.visits, call, end);
     let answer = leave_call(place);
-    end_block(&mut core.blocks, block, call, end);
     core.replies.push_reserved(Reply {
         thread: step.thread,
         call,

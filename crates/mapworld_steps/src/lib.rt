@@ -7,6 +7,8 @@ mod one_step;
 mod queues;
 mod standing;
 mod starts;
+mod walking;
+mod walks;
 
 pub use mapworld_moves::{is_world_amount, shard_of};
 pub use one_step::advance;

@@ -1,6 +1,5 @@
 //! One step of a world, of the kind that its thread stands before.
 ghost use Rattle.std.specs.Prelude.{◌≡◌, ◌<◌, true, MatchBool, length};
-ghost use Rattle.mapworld_state.specs.declared.place.Phase.TheVariants as phase;
 ghost use Rattle.mapworld_state.specs.Steps.{IsStep};
 ghost use Rattle.mapworld_state.specs.Running.{has_next, can_move_in};
 ghost use Rattle.mapworld_state.specs.Core.{state_of, Room, IsBefore, IsSoundCore, IsSlotted, MakesStep};
@@ -10,13 +9,15 @@ use crate::looks::{find, grow};
 use crate::queues::{admit, finish};
 use crate::standing::can_move;
 use crate::starts::start;
+use crate::walking::{idle, onward, reach, visit};
+use crate::walks::{give, part, seek};
 use mapworld_calls::Deed;
-use mapworld_deeds::{append, apply, change, fill, read, view};
+use mapworld_deeds::{append, apply, change, fill, item, read, view};
 use mapworld_state::{Core, Phase, Step};
 use std::alloc::Allocator;
 use std::hash::{BuildHasher, Hash};
 
-/// The step of a thread that is in its shard.
+/// The step of the kind that its thread stands before. The thread can move.
 fn go_on<K: Eq + Hash + Drop, V: Drop, S: BuildHasher, D: Deed<K, V> + Drop, A: Allocator + Clone>(
     core: &mut Core<K, V, S, D, D::Answer, A>,
     step: Step,
@@ -26,17 +27,14 @@ fn go_on<K: Eq + Hash + Drop, V: Drop, S: BuildHasher, D: Deed<K, V> + Drop, A: 
     requires slots { IsSlotted D.Deed S.BuildHasher S.Hasher.Hasher K.eq K.hash_input core.old }
     requires numbers { has_next (state_of core.old) ≡ true }
     requires thread { step.thread < length core.old.places.items }
-    requires begun { ¬ IsBefore (state_of core.old).places step.thread phase.Rest }
-    requires admitted { (request : _) → ¬ IsBefore (state_of core.old).places step.thread (phase.Admit request) }
-    requires owing { (answer : _) → ¬ IsBefore (state_of core.old).places step.thread (phase.Answer answer) }
+    requires moves { can_move_in (state_of core.old) step.thread ≡ true }
     ensures step { MakesStep IsStep D.Deed S.BuildHasher S.Hasher.Hasher K.eq K.hash_input core.old step core.new }
     ensures room { Room core.new }
     ensures slots { IsSlotted D.Deed S.BuildHasher S.Hasher.Hasher K.eq K.hash_input core.new }
 {
     match &core.places[step.thread].phase {
-        Phase::Rest => unreachable!(),
-        Phase::Admit(_) => unreachable!(),
-        Phase::Answer(_) => unreachable!(),
+        Phase::Rest => start(core, step),
+        Phase::Admit(_) => admit(core, step),
         Phase::Find(_) => find(core, step),
         Phase::Grow(_) => grow(core, step),
         Phase::Append(_, _) => append(core, step),
@@ -46,7 +44,16 @@ fn go_on<K: Eq + Hash + Drop, V: Drop, S: BuildHasher, D: Deed<K, V> + Drop, A: 
         Phase::Change(_) => change(core, step),
         Phase::Fill(_) => fill(core, step),
         Phase::Downgrade => downgrade(core, step),
+        Phase::Idle(_) => idle(core, step),
+        Phase::Reach(_) => reach(core, step),
+        Phase::Part(_) => part(core, step),
+        Phase::Visit(_) => visit(core, step),
+        Phase::Seek(_) => seek(core, step),
+        Phase::Item(_) => item(core, step),
+        Phase::Give(_) => give(core, step),
+        Phase::Onward(_) => onward(core, step),
         Phase::Release(_) => release(core, step),
+        Phase::Answer(_) => finish(core, step),
     }
 }
 
@@ -75,11 +82,6 @@ pub fn advance<
     if !can_move(core, step.thread) {
         return false;
     }
-    match &core.places[step.thread].phase {
-        Phase::Rest => start(core, step),
-        Phase::Admit(_) => admit(core, step),
-        Phase::Answer(_) => finish(core, step),
-        _ => go_on(core, step),
-    }
+    go_on(core, step);
     true
 }

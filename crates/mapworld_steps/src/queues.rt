@@ -1,26 +1,33 @@
 //! The steps at a shard's lock, and what ends them.
-ghost use Rattle.std.specs.Prelude.{◌≡◌, true, Some, None, is_some, slice_get};
+ghost use Rattle.std.specs.Prelude.{◌≡◌, ◌≢◌, true, Some, None, is_some, slice_get};
 ghost use Rattle.parking_lot_world.specs.Machines.{can_move, ended};
 ghost use Rattle.parking_lot_world.specs.Rows.{state};
+ghost use Rattle.parking_lot_protocol.specs.declared.act.CoreAnswer.TheVariants.{Refused};
+ghost use Rattle.mapworld_locks.specs.Stands.{stand_in};
 ghost use Rattle.mapworld_state.specs.declared.place.Phase.TheVariants as phase;
 ghost use Rattle.mapworld_state.specs.Running.{has_next, goes_on};
 ghost use Rattle.mapworld_state.specs.Core.{state_of, Room, IsBefore, IsSoundCore, IsSlotted, MakesStep};
-ghost use Rattle.mapworld_state.specs.Steps.{Enters, Leaves, MovesLock, IsStep};
+ghost use Rattle.mapworld_state.specs.Classes.{class_of, owes_in};
+ghost use Rattle.mapworld_state.specs.Steps.{Enters, IsLocked, Leaves, MovesLock, IsStep};
 
 use crate::ends::answer;
 use crate::looks::find;
-use mapworld_calls::Deed;
+use mapworld_calls::{Answer, Deed};
 use mapworld_moves::moves::{enter, mode_of};
 use mapworld_state::{Core, Hold, Phase, Step};
+use parking_lot_protocol::CoreAnswer;
 use std::alloc::Allocator;
 use std::hash::{BuildHasher, Hash};
 use std::mem;
 
 /// One step of the call of a shard's lock that a thread is in.
-fn move_lock<K: Eq + Hash + Drop, V: Drop, S: BuildHasher, D: Deed<K, V> + Drop, A: Allocator>(
-    core: &mut Core<K, V, S, D, D::Answer, A>,
-    step: Step,
-)
+pub(crate) fn move_lock<
+    K: Eq + Hash + Drop,
+    V: Drop,
+    S: BuildHasher,
+    D: Deed<K, V> + Drop,
+    A: Allocator,
+>(core: &mut Core<K, V, S, D, D::Answer, A>, step: Step)
     requires sound { IsSoundCore D.Deed S.BuildHasher S.Hasher.Hasher K.eq K.hash_input core.old }
     requires room { Room core.old }
     requires slots { IsSlotted D.Deed S.BuildHasher S.Hasher.Hasher K.eq K.hash_input core.old }
@@ -47,6 +54,7 @@ fn enter_shard<K: Eq + Hash + Drop, V: Drop, S: BuildHasher, D: Deed<K, V> + Dro
     requires slots { IsSlotted D.Deed S.BuildHasher S.Hasher.Hasher K.eq K.hash_input core.old }
     requires before { (request : _) × IsBefore (state_of core.old).places thread (phase.Admit request) }
     requires over { is_some (ended (state core.old.locks.rows) thread) ≡ true }
+    requires owned { ended (state core.old.locks.rows) thread ≢ Some Refused }
     ensures enters { Enters (state_of core.old) thread (state_of core.new) }
     ensures found { (request : _) × IsBefore (state_of core.new).places thread (phase.Find request) }
     ensures sound { IsSoundCore D.Deed S.BuildHasher S.Hasher.Hasher K.eq K.hash_input core.new }
@@ -66,7 +74,31 @@ fn enter_shard<K: Eq + Hash + Drop, V: Drop, S: BuildHasher, D: Deed<K, V> + Dro
     core.locks.finish(thread);
 }
 
-/// A step of a thread that waits for its shard: one of the lock's call, or the look where that is over.
+/// Ends a try that could not have its shard: its call is to be answered so. It is part of the step of the answer.
+fn refuse_try<K: Eq + Hash + Drop, V: Drop, S: BuildHasher, D: Deed<K, V> + Drop, A: Allocator>(
+    core: &mut Core<K, V, S, D, D::Answer, A>,
+    thread: usize,
+)
+    requires sound { IsSoundCore D.Deed S.BuildHasher S.Hasher.Hasher K.eq K.hash_input core.old }
+    requires room { Room core.old }
+    requires slots { IsSlotted D.Deed S.BuildHasher S.Hasher.Hasher K.eq K.hash_input core.old }
+    requires before { (request : _) × IsBefore (state_of core.old).places thread (phase.Admit request) }
+    requires refused { ended (state core.old.locks.rows) thread ≡ Some Refused }
+    ensures locked { IsLocked (state_of core.old) thread (state_of core.new) }
+    ensures told { (answer : _) × IsBefore (state_of core.new).places thread (phase.Answer answer) }
+    ensures out { stand_in (state_of core.new).locks thread ≡ None }
+    ensures sound { IsSoundCore D.Deed S.BuildHasher S.Hasher.Hasher K.eq K.hash_input core.new }
+    ensures room { Room core.new }
+    ensures slots { IsSlotted D.Deed S.BuildHasher S.Hasher.Hasher K.eq K.hash_input core.new }
+    ensures numbers { has_next (state_of core.new) ≡ has_next (state_of core.old) }
+{
+    let place = &mut core.places[thread];
+    enter(&mut place.phase, Phase::Answer(Answer::Locked));
+    core.locks.finish(thread);
+}
+
+/// A step of a thread that waits for its shard: one of the lock's call, or where that is over the look, or of a try that could not have its
+/// shard the answer.
 pub(crate) fn admit<
     K: Eq + Hash + Drop,
     V: Drop,
@@ -84,23 +116,31 @@ pub(crate) fn admit<
     ensures room { Room core.new }
     ensures slots { IsSlotted D.Deed S.BuildHasher S.Hasher.Hasher K.eq K.hash_input core.new }
 {
-    if core.locks.ended(step.thread).is_some() {
-        enter_shard(core, step.thread);
-        find(core, step);
-    } else {
-        move_lock(core, step);
+    match core.locks.ended(step.thread) {
+        None => move_lock(core, step),
+        Some(CoreAnswer::Refused) => {
+            refuse_try(core, step.thread);
+            answer(core, step);
+        }
+        Some(_) => {
+            enter_shard(core, step.thread);
+            find(core, step);
+        }
     }
 }
 
-/// Ends the call of a lock to which nothing more is owed. It is part of the step of the answer.
-fn leave_lock<K: Eq + Hash + Drop, V: Drop, S: BuildHasher, D: Deed<K, V> + Drop, A: Allocator>(
-    core: &mut Core<K, V, S, D, D::Answer, A>,
-    thread: usize,
-)
+/// Ends the call of a lock to which nothing more is owed. It is part of the step that comes next.
+pub(crate) fn leave_lock<
+    K: Eq + Hash + Drop,
+    V: Drop,
+    S: BuildHasher,
+    D: Deed<K, V> + Drop,
+    A: Allocator,
+>(core: &mut Core<K, V, S, D, D::Answer, A>, thread: usize)
     requires sound { IsSoundCore D.Deed S.BuildHasher S.Hasher.Hasher K.eq K.hash_input core.old }
     requires room { Room core.old }
     requires slots { IsSlotted D.Deed S.BuildHasher S.Hasher.Hasher K.eq K.hash_input core.old }
-    requires before { (answer : _) × IsBefore (state_of core.old).places thread (phase.Answer answer) }
+    requires owes { (place : _) × (slice_get (state_of core.old).places thread ≡ Some place) × (owes_in (class_of place.phase) ≡ true) }
     requires over { is_some (ended (state core.old.locks.rows) thread) ≡ true }
     ensures leaves { Leaves (state_of core.old) thread (state_of core.new) }
     ensures sound { IsSoundCore D.Deed S.BuildHasher S.Hasher.Hasher K.eq K.hash_input core.new }

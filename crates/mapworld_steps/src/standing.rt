@@ -24,7 +24,12 @@ fn status_at<K, V, D, T, A: Allocator>(
                 Status::Running
             }
         }
-        Phase::Admit(_) | Phase::Answer(_) => {
+        Phase::Admit(_)
+        | Phase::Reach(_)
+        | Phase::Visit(_)
+        | Phase::Onward(_)
+        | Phase::Idle(_)
+        | Phase::Answer(_) => {
             if locks.is_asleep(thread) {
                 Status::Asleep
             } else {
@@ -58,9 +63,12 @@ fn moves_at<K, V, D, T, A: Allocator>(
 {
     match &place.phase {
         Phase::Rest => !place.asks.is_empty(),
-        Phase::Admit(_) | Phase::Answer(_) => {
-            !locks.is_in_call(thread) || locks.can_move(thread)
-        }
+        Phase::Admit(_)
+        | Phase::Reach(_)
+        | Phase::Visit(_)
+        | Phase::Onward(_)
+        | Phase::Idle(_)
+        | Phase::Answer(_) => { !locks.is_in_call(thread) || locks.can_move(thread) }
         _ => true,
     }
 }

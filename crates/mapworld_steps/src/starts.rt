@@ -2,8 +2,9 @@
 ghost use Rattle.std.specs.Prelude.{◌≡◌, ◌<◌, true, length, slice_get};
 ghost use Rattle.mapworld_locks.specs.Steps.{MayAsk};
 ghost use Rattle.mapworld_state.specs.declared.place.Phase.TheVariants as phase;
-ghost use Rattle.mapworld_state.specs.Holds.{asks_for};
-ghost use Rattle.mapworld_state.specs.Moves.{mode_of};
+ghost use Rattle.mapworld_state.specs.Holds.{asks_for, wants_for};
+ghost use Rattle.mapworld_state.specs.Moves.{mode_of, request_tries};
+ghost use Rattle.mapworld_state.specs.Walks.{walk_mode};
 ghost use Rattle.mapworld_state.specs.Running.{has_next};
 ghost use Rattle.mapworld_state.specs.Core.{state_of, Room, IsBefore, IsSoundCore, IsSlotted, MakesStep};
 ghost use Rattle.mapworld_state.specs.Steps.{EntersBy, Starts};
@@ -11,8 +12,11 @@ ghost use Rattle.mapworld_state.specs.Steps.{EntersBy, Starts};
 use mapworld_calls::Deed;
 use mapworld_locks::ShardLocks;
 use mapworld_moves::blocks::count_in;
-use mapworld_moves::holds::asks_for;
-use mapworld_moves::moves::{enter, is_last, mode_of, start_call, start_counts, start_shard};
+use mapworld_moves::holds::{asks_for, wants_for};
+use mapworld_moves::moves::{
+    enter, is_last, mode_of, request_tries, start_call, start_counts, start_shard,
+};
+use mapworld_moves::walks::walk_mode;
 use mapworld_state::{Core, Phase, Step};
 use std::alloc::Allocator;
 use std::hash::{BuildHasher, Hash};
@@ -23,13 +27,19 @@ fn ask_for_shard<K, V, D, T, A: Allocator>(
     locks: &mut ShardLocks<A>,
     thread: usize,
     shard: usize,
-    next: &Phase<K, V, D, T>,
+    next: &Phase<K, V, D, T, A>,
 )
-    requires may { (request : _) → next.now ≡ phase.Admit request → MayAsk thread shard (asks_for (mode_of request)) locks.old }
+    requires admit { (request : _) → next.now ≡ phase.Admit request → MayAsk thread shard (wants_for (request_tries request) (mode_of request)) locks.old }
+    requires reach { (walk : _) → next.now ≡ phase.Reach walk → MayAsk thread shard (asks_for (walk_mode walk)) locks.old }
     ensures { EntersBy thread shard next.now locks.old locks.new }
 {
-    if let Phase::Admit(request) = next {
-        locks.begin(thread, shard, asks_for(mode_of(request)));
+    match next {
+        Phase::Admit(request) => {
+            let call = wants_for(request_tries(request), mode_of(request));
+            locks.begin(thread, shard, call);
+        }
+        Phase::Reach(walk) => locks.begin(thread, shard, asks_for(walk_mode(walk))),
+        _ => {}
     }
 }
 

@@ -6,6 +6,7 @@ use mapworld_calls::{
     spread_hash,
 };
 use past::Past;
+use std::alloc::Global;
 use std::hash::BuildHasher;
 use std::snapshot::Snapshot;
 use std::test::Fail;
@@ -75,7 +76,7 @@ fn calls_are_shown(rt: HostRuntime) -> Result<(), Fail> {
     let want =
         "Keyed(Insert(2, 3)) Keyed(Remove(1)) Begin(Get(1)) Begin(GetMut(1)) Held(Read(0)) Held(Write(0)) Held(Drop)";
     assert!(rt; shown.as_str() == want);
-    let reply: Reply<u64, u64, u8> = Reply {
+    let reply: Reply<u64, u64, u8, Global> = Reply {
         thread: 0,
         call: 1,
         start: 2,

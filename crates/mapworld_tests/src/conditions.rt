@@ -2,24 +2,25 @@
 
 use super::scripts::{Line, failed_line};
 use super::worlds::Call::{AddOrTakeFrom, AddTo, Get, Has, Insert, Leave, Look, TakeFrom};
-use mapworld::{Answer, Status};
+use super::worlds::Said;
+use mapworld::Status;
 
 #[test]
 fn deeds_decide_what_stays(rt: HostRuntime) {
     const SCRIPT: &[Line<'_>] = &[
         Line::Round,
-        Line::Told(0, 0, Answer::Flag(true)),
-        Line::Told(0, 1, Answer::Flag(false)),
-        Line::Told(0, 2, Answer::None),
-        Line::Told(0, 3, Answer::Pair(2, 9)),
-        Line::Told(0, 4, Answer::None),
-        Line::Told(0, 5, Answer::None),
-        Line::Told(0, 6, Answer::Pair(1, 10)),
-        Line::Told(0, 7, Answer::Done),
-        Line::Told(0, 8, Answer::None),
-        Line::Told(0, 9, Answer::Done),
-        Line::Told(0, 10, Answer::Read(5)),
-        Line::Told(0, 11, Answer::None),
+        Line::Told(0, 0, Said::Flag(true)),
+        Line::Told(0, 1, Said::Flag(false)),
+        Line::Told(0, 2, Said::None),
+        Line::Told(0, 3, Said::Pair(2, 9)),
+        Line::Told(0, 4, Said::None),
+        Line::Told(0, 5, Said::None),
+        Line::Told(0, 6, Said::Pair(1, 10)),
+        Line::Told(0, 7, Said::Done),
+        Line::Told(0, 8, Said::None),
+        Line::Told(0, 9, Said::Done),
+        Line::Told(0, 10, Said::Read(5)),
+        Line::Told(0, 11, Said::None),
         Line::Pairs(&[(1, 5)]),
     ];
     let failed = failed_line(
@@ -50,12 +51,12 @@ fn a_look_waits_for_no_reader_and_a_removal_does(rt: HostRuntime) {
         // The opening: start, load, exchange, find, answer.
         Line::Steps(0, 5),
         Line::Through(1),
-        Line::Told(1, 0, Answer::Flag(true)),
-        Line::Told(1, 1, Answer::Read(5)),
+        Line::Told(1, 0, Said::Flag(true)),
+        Line::Told(1, 1, Said::Read(5)),
         Line::Through(2),
         Line::Stands(2, Status::Asleep),
         Line::Round,
-        Line::Told(2, 0, Answer::Pair(1, 5)),
+        Line::Told(2, 0, Said::Pair(1, 5)),
         Line::Pairs(&[]),
     ];
     let failed = failed_line(

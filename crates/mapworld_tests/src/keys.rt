@@ -3,6 +3,7 @@
 use super::worlds::Call::{Get, Insert, Leave, Read, Remove};
 use super::worlds::{program_of, step_round};
 use mapworld::{Answer, Ask, Begin, Deed, Held, Keyed, MapWorld, SpreadState};
+use std::alloc::Global;
 use std::hash::{BuildHasher, Hasher};
 use std::test::Fail;
 
@@ -102,7 +103,7 @@ fn equal_keys_are_one_key(rt: HostRuntime) -> Result<(), Fail> {
 }
 
 /// Whether the answer is the key of that letter, or a pair with it.
-fn shows_letter(answer: &Answer<Letter, u64, u8>, shown: u8) -> bool {
+fn shows_letter(answer: &Answer<Letter, u64, u8, Global>, shown: u8) -> bool {
     match answer {
         Answer::Key(key) => key.shown == shown,
         Answer::Pair(key, _) => key.shown == shown,

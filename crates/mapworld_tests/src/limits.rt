@@ -1,8 +1,8 @@
 //! Which worlds are made and which are refused, and worlds of the largest sizes.
 
 use super::worlds::Call::{Get, Insert, Leave, Read, Remove};
-use super::worlds::{Asked, Call, World, has_pairs, program_of, stands, step_round, told};
-use mapworld::{Answer, MapWorld, SpreadState, Status, WorldNewFault};
+use super::worlds::{Asked, Call, Said, World, has_pairs, program_of, stands, step_round, told};
+use mapworld::{MapWorld, SpreadState, Status, WorldNewFault};
 use std::alloc::Global;
 use std::test::Fail;
 
@@ -113,7 +113,7 @@ fn a_world_of_256_threads_runs_to_its_end(rt: HostRuntime) -> Result<(), Fail> {
     for thread in 0..256 {
         assert!(rt;
             stands(&world, thread, Status::Finished)
-                && told(&world, thread, 2, &Answer::Read(thread as u64)),
+                && told(&world, thread, 2, Said::Read(thread as u64)),
             "thread {thread}"
         );
     }
@@ -138,8 +138,8 @@ fn a_world_of_4096_shards_runs_to_its_end(rt: HostRuntime) -> Result<(), Fail> {
     let calls: [&[Call]; 2] = [&[Remove(0), Insert(255, 1)], &[Get(7), Read, Leave]];
     let mut world = wide_world(rt.alloc(), &calls).ok_or("no world")?;
     let is_done = step_round(&mut world, 2);
-    let mut right = told(&world, 0, 0, &Answer::Pair(0, 0));
-    right &= told(&world, 0, 1, &Answer::Value(255)) & told(&world, 1, 1, &Answer::Read(7));
+    let mut right = told(&world, 0, 0, Said::Pair(0, 0));
+    right &= told(&world, 0, 1, Said::Value(255)) & told(&world, 1, 1, Said::Read(7));
     assert!(rt; is_done && right);
     let count = world.contents()?.len();
     assert!(rt; count == 255 && !has_pairs(&world, &[(255, 1)]));

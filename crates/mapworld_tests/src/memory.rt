@@ -1,9 +1,11 @@
 //! Worlds on heaps of all small sizes.
 
 use super::worlds::Call::{Enter, Get, Insert, Leave, PutIn};
-use super::worlds::{World, ask_of, stands, step_round, step_through, step_times, told, world_of};
+use super::worlds::{
+    Said, World, ask_of, stands, step_round, step_through, step_times, told, what_is_said, world_of,
+};
 use linked_list_allocator::LocalHeap;
-use mapworld::{Answer, MapWorld, SpreadState, Status};
+use mapworld::{MapWorld, SpreadState, Status};
 use std::alloc::Global;
 use std::test::Fail;
 
@@ -19,8 +21,8 @@ fn runs_to_the_end(world: &mut World<&LocalHeap>) -> bool {
 /// Whether the refused insertion changed nothing, and thread 1 found no key.
 fn shows_no_insertion(world: &World<&LocalHeap>) -> bool {
     world.pair(&1).is_none()
-        & told(world, 1, 0, &Answer::None)
-        & told(world, 1, 1, &Answer::NoGuard)
+        & told(world, 1, 0, Said::None)
+        & told(world, 1, 1, Said::NoGuard)
         & world.blocks().iter().all(|block| block.thread == 1)
 }
 
@@ -35,15 +37,15 @@ fn a_refused_growth_changes_nothing_and_leaves_no_hold(rt: HostRuntime) -> Resul
             continue;
         };
         assert!(rt; runs_to_the_end(&mut world), "of size {size}");
-        if told(&world, 0, 0, &Answer::NoMemory) {
+        if told(&world, 0, 0, Said::NoMemory) {
             has_refused = true;
             assert!(rt; shows_no_insertion(&world), "of size {size}");
         } else {
             has_done = true;
             assert!(rt;
-                told(&world, 0, 0, &Answer::None)
-                    && told(&world, 1, 0, &Answer::Held)
-                    && told(&world, 1, 1, &Answer::Done),
+                told(&world, 0, 0, Said::None)
+                    && told(&world, 1, 0, Said::Held)
+                    && told(&world, 1, 1, Said::Done),
                 "of size {size}"
             );
         }
@@ -64,20 +66,20 @@ fn an_entry_that_is_refused_for_memory_gives_no_guard(rt: HostRuntime) -> Result
             continue;
         };
         assert!(rt; runs_to_the_end(&mut world), "of size {size}");
-        if told(&world, 0, 0, &Answer::NoMemory) {
+        if told(&world, 0, 0, Said::NoMemory) {
             has_refused = true;
             assert!(rt;
                 shows_no_insertion(&world)
-                    & told(&world, 0, 1, &Answer::NoGuard)
-                    & told(&world, 0, 2, &Answer::NoGuard),
+                    & told(&world, 0, 1, Said::NoGuard)
+                    & told(&world, 0, 2, Said::NoGuard),
                 "of size {size}"
             );
         } else {
             has_done = true;
             assert!(rt;
-                told(&world, 0, 0, &Answer::Vacant)
-                    & told(&world, 0, 1, &Answer::Held)
-                    & told(&world, 0, 2, &Answer::Done)
+                told(&world, 0, 0, Said::Vacant)
+                    & told(&world, 0, 1, Said::Held)
+                    & told(&world, 0, 2, Said::Done)
                     & (world.pair(&1) == Some((&1, &10))),
                 "of size {size}"
             );
@@ -97,7 +99,7 @@ fn an_insert_on_a_present_key_needs_no_memory(rt: HostRuntime) -> Result<(), Fai
         };
         // All the memory that is left goes to somebody else.
         let _hoard = hoard(&heap);
-        let is_done = step_round(&mut world, 1) & told(&world, 0, 0, &Answer::Value(5));
+        let is_done = step_round(&mut world, 1) & told(&world, 0, 0, Said::Value(5));
         // Start, load, exchange, look for readers, find, deed, release, answer: no step is a growth.
         assert!(rt;
             is_done && world.steps() == 8 && world.pair(&1) == Some((&1, &6)),
@@ -137,7 +139,7 @@ fn a_shard_grows_to_thousands_of_pairs(rt: HostRuntime) -> Result<(), Fail> {
     let are_added = world
         .replies()
         .iter()
-        .all(|reply| reply.answer == Answer::None);
+        .all(|reply| what_is_said(&reply.answer) == Said::None);
     let count = world.contents()?.len();
     assert!(rt; are_added && count == 3000 && world.pair(&5998) == Some((&5998, &2999)));
     Ok(())

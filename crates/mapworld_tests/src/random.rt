@@ -4,8 +4,8 @@ use super::worlds::Call::{
     Add, AddOrTakeFrom, AddTo, Enter, Get, GetMut, HandBack, Has, Insert, Leave, Lend, Look, PutIn,
     Read, Remove, Replace, Set, Share, TakeFrom, TakePair, TakeValue,
 };
-use super::worlds::{Answered, Call, World, step, told, world_of};
-use mapworld::{Answer, Block};
+use super::worlds::{Call, Said, World, step, told, world_of};
+use mapworld::Block;
 use std::alloc::Global;
 use std::test::Fail;
 
@@ -134,29 +134,29 @@ impl Plain {
     }
 
     /// Holds a guard of that pair.
-    fn lend(&mut self, key: u64, value: u64, kind: Kind) -> Answered {
+    fn lend(&mut self, key: u64, value: u64, kind: Kind) -> Said {
         self.guard = Some(Guard { value, key, kind });
-        Answer::Held
+        Said::Held
     }
 
     /// Leaves the value where the pair is kept, and takes the pair out otherwise.
-    fn leave(&mut self, key: u64, value: u64, keeps: bool) -> Answered {
+    fn leave(&mut self, key: u64, value: u64, keeps: bool) -> Said {
         if keeps {
             self.set(key, Some(value));
-            Answer::None
+            Said::None
         } else {
             self.set(key, None);
-            Answer::Pair(key, value)
+            Said::Pair(key, value)
         }
     }
 }
 
 /// What a call on a key that has this value is answered, and what it does.
-fn present_answer(plain: &mut Plain, call: Call, value: u64) -> Answered {
+fn present_answer(plain: &mut Plain, call: Call, value: u64) -> Said {
     match call {
         Insert(key, new) => {
             plain.set(key, Some(new));
-            Answer::Value(value)
+            Said::Value(value)
         }
         Remove(key) => plain.leave(key, value, false),
         TakeFrom(key, least) => plain.leave(key, value, value < least),
@@ -165,73 +165,73 @@ fn present_answer(plain: &mut Plain, call: Call, value: u64) -> Answered {
         }
         AddTo(key, more) => {
             plain.set(key, Some(value.wrapping_add(more)));
-            Answer::Done
+            Said::Done
         }
-        Look(_) => Answer::Read(value),
-        Has(_) => Answer::Flag(true),
+        Look(_) => Said::Read(value),
+        Has(_) => Said::Flag(true),
         Get(key) => plain.lend(key, value, Kind::Shared),
         GetMut(key) => plain.lend(key, value, Kind::Exclusive),
         Enter(key) => plain.lend(key, value, Kind::Occupied),
-        _ => Answer::NoGuard,
+        _ => Said::NoGuard,
     }
 }
 
 /// What a call on a key without a value is answered, and what it does.
-fn absent_answer(plain: &mut Plain, call: Call) -> Answered {
+fn absent_answer(plain: &mut Plain, call: Call) -> Said {
     match call {
         Insert(key, value) => {
             plain.set(key, Some(value));
-            Answer::None
+            Said::None
         }
-        AddTo(_, _) => Answer::Done,
-        Has(_) => Answer::Flag(false),
+        AddTo(_, _) => Said::Done,
+        Has(_) => Said::Flag(false),
         Enter(key) => {
             let _ = plain.lend(key, 0, Kind::Vacant);
-            Answer::Vacant
+            Said::Vacant
         }
         _ => {
             if key_of(call).is_some() {
-                Answer::None
+                Said::None
             } else {
-                Answer::NoGuard
+                Said::NoGuard
             }
         }
     }
 }
 
 /// What a call is answered that stores a value under an exclusive or an occupied guard.
-fn stored(plain: &mut Plain, guard: Guard, value: u64) -> Answered {
+fn stored(plain: &mut Plain, guard: Guard, value: u64) -> Said {
     plain.set(guard.key, Some(value));
     let _ = plain.lend(guard.key, value, guard.kind);
-    Answer::Done
+    Said::Done
 }
 
 /// What a call on an occupied guard is answered that is for no other kind, and what it does.
-fn occupied_answer(plain: &mut Plain, call: Call, guard: Guard) -> Answered {
+fn occupied_answer(plain: &mut Plain, call: Call, guard: Guard) -> Said {
     if matches!(call, Lend) {
         return plain.lend(guard.key, guard.value, Kind::Exclusive);
     }
     if let PutIn(value) = call {
         let _ = stored(plain, guard, value);
-        return Answer::Value(guard.value);
+        return Said::Value(guard.value);
     }
     plain.guard = None;
     match call {
         TakeValue => {
             plain.set(guard.key, None);
-            Answer::Value(guard.value)
+            Said::Value(guard.value)
         }
         TakePair => plain.leave(guard.key, guard.value, false),
         Replace(value) => {
             plain.set(guard.key, Some(value));
-            Answer::Pair(guard.key, guard.value)
+            Said::Pair(guard.key, guard.value)
         }
-        _ => Answer::Key(guard.key),
+        _ => Said::Key(guard.key),
     }
 }
 
 /// What a call on a vacant guard is answered, and what it does.
-fn vacant_answer(plain: &mut Plain, call: Call, guard: Guard) -> Answered {
+fn vacant_answer(plain: &mut Plain, call: Call, guard: Guard) -> Said {
     match call {
         PutIn(value) => {
             plain.set(guard.key, Some(value));
@@ -239,26 +239,26 @@ fn vacant_answer(plain: &mut Plain, call: Call, guard: Guard) -> Answered {
         }
         HandBack => {
             plain.guard = None;
-            Answer::Key(guard.key)
+            Said::Key(guard.key)
         }
-        _ => Answer::WrongGuard,
+        _ => Said::WrongGuard,
     }
 }
 
 /// What a call on this guard is answered, and what it does.
-fn held_answer(plain: &mut Plain, call: Call, guard: Guard) -> Answered {
+fn held_answer(plain: &mut Plain, call: Call, guard: Guard) -> Said {
     if matches!(call, Leave) {
         plain.guard = None;
-        return Answer::Done;
+        return Said::Done;
     }
     if guard.kind == Kind::Vacant {
         return vacant_answer(plain, call, guard);
     }
     if matches!(call, Read) {
-        return Answer::Read(guard.value);
+        return Said::Read(guard.value);
     }
     if guard.kind == Kind::Shared {
-        return Answer::WrongGuard;
+        return Said::WrongGuard;
     }
     let stores = match call {
         Add(more) => Some(guard.value.wrapping_add(more)),
@@ -272,7 +272,7 @@ fn held_answer(plain: &mut Plain, call: Call, guard: Guard) -> Answered {
         return plain.lend(guard.key, guard.value, Kind::Shared);
     }
     if matches!(call, Share) || guard.kind == Kind::Exclusive {
-        return Answer::WrongGuard;
+        return Said::WrongGuard;
     }
     occupied_answer(plain, call, guard)
 }
@@ -288,7 +288,7 @@ fn key_of(call: Call) -> Option<u64> {
 }
 
 /// What the call is answered by the plain map, and what it does.
-fn answer(plain: &mut Plain, call: Call) -> Answered {
+fn answer(plain: &mut Plain, call: Call) -> Said {
     if let Some(guard) = plain.guard {
         return held_answer(plain, call, guard);
     }
@@ -302,7 +302,7 @@ fn answer(plain: &mut Plain, call: Call) -> Answered {
 fn agrees(world: &World<Global>, plain: &mut Plain, block: &Block<u64>, calls: &[Call]) -> bool {
     for (i, call) in calls.iter().enumerate().skip(block.call) {
         let want = answer(plain, *call);
-        if !told(world, block.thread, i, &want) {
+        if !told(world, block.thread, i, want) {
             return false;
         }
         // A keyed call's block ends with it, and a session's with its drop.

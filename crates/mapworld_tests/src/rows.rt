@@ -2,8 +2,8 @@
 
 use super::scripts::{Line, failed_line};
 use super::worlds::Call::{Get, Insert, Leave, Read, Remove};
-use super::worlds::{step_through, world_of};
-use mapworld::{Answer, RunFault, Status};
+use super::worlds::{Said, step_through, world_of};
+use mapworld::{RunFault, Status};
 use std::test::Fail;
 
 #[test]
@@ -11,8 +11,8 @@ fn of_two_inserts_the_second_finds_the_first(rt: HostRuntime) {
     const SCRIPT: &[Line<'_>] = &[
         Line::Through(0),
         Line::Through(1),
-        Line::Told(0, 0, Answer::None),
-        Line::Told(1, 0, Answer::Value(10)),
+        Line::Told(0, 0, Said::None),
+        Line::Told(1, 0, Said::Value(10)),
         Line::Pairs(&[(1, 20)]),
         Line::Stands(0, Status::Finished),
         Line::Stands(1, Status::Finished),
@@ -30,9 +30,9 @@ fn of_two_inserts_the_second_finds_the_first(rt: HostRuntime) {
 fn an_opening_that_finds_nothing_gives_no_guard(rt: HostRuntime) {
     const SCRIPT: &[Line<'_>] = &[
         Line::Round,
-        Line::Told(0, 0, Answer::None),
-        Line::Told(0, 1, Answer::NoGuard),
-        Line::Told(0, 2, Answer::NoGuard),
+        Line::Told(0, 0, Said::None),
+        Line::Told(0, 1, Said::NoGuard),
+        Line::Told(0, 2, Said::NoGuard),
         Line::Pairs(&[(1, 5)]),
     ];
     let failed = failed_line(rt.alloc(), &[(1, 5)], &[&[Get(3), Read, Leave]], SCRIPT);
@@ -44,17 +44,17 @@ fn a_guard_reads_the_same_pair_until_it_is_dropped(rt: HostRuntime) {
     const SCRIPT: &[Line<'_>] = &[
         // The opening: start, load, exchange, find, answer; and the read: start, deed, answer.
         Line::Steps(0, 8),
-        Line::Told(0, 1, Answer::Read(5)),
+        Line::Told(0, 1, Said::Read(5)),
         Line::Through(2),
-        Line::Told(2, 1, Answer::Read(5)),
+        Line::Told(2, 1, Said::Read(5)),
         Line::Through(1),
         Line::Stands(1, Status::Asleep),
         Line::Started(1, 20),
         Line::Through(0),
-        Line::Told(0, 2, Answer::Read(5)),
+        Line::Told(0, 2, Said::Read(5)),
         Line::Stands(1, Status::Running),
         Line::Through(1),
-        Line::Told(1, 0, Answer::Value(5)),
+        Line::Told(1, 0, Said::Value(5)),
         Line::Pairs(&[(1, 6)]),
     ];
     let failed = failed_line(
@@ -81,8 +81,8 @@ fn a_refused_step_leaves_those_before_it(rt: HostRuntime) {
         Line::Stops(&[2, 2, 1], RunFault::CannotMove(2)),
         Line::Started(2, 35),
         Line::Round,
-        Line::Told(1, 0, Answer::Pair(1, 5)),
-        Line::Told(2, 0, Answer::None),
+        Line::Told(1, 0, Said::Pair(1, 5)),
+        Line::Told(2, 0, Said::None),
         Line::Stops(&[0], RunFault::CannotMove(0)),
     ];
     let failed = failed_line(

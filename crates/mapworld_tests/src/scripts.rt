@@ -1,7 +1,7 @@
 //! Scripts: what is done with a world, and what is to be seen of it, line by line.
 
 use super::worlds::{
-    Answered, Call, World, has_pairs, stands, started, step, step_round, step_through, step_times,
+    Call, Said, World, has_pairs, stands, started, step, step_round, step_through, step_times,
     told, world_of,
 };
 use mapworld::{RunFault, Status};
@@ -18,7 +18,7 @@ pub enum Line<'a> {
     /// A run of one step of each of these threads stops with that fault.
     Stops(&'a [usize], RunFault),
     /// The thread's call was answered so.
-    Told(usize, usize, Answered),
+    Told(usize, usize, Said),
     /// The thread stands so.
     Stands(usize, Status),
     /// The thread's call started at that step.
@@ -53,7 +53,7 @@ fn holds(alloc: Global, world: &mut World<Global>, line: &Line<'_>) -> bool {
             step_round(world, threads)
         }
         Line::Stops(threads, fault) => stops(alloc, world, threads, *fault),
-        Line::Told(thread, call, want) => told(world, *thread, *call, want),
+        Line::Told(thread, call, want) => told(world, *thread, *call, *want),
         Line::Stands(thread, want) => stands(world, *thread, *want),
         Line::Started(thread, want) => started(world, *thread, *want),
         Line::Pairs(want) => has_pairs(world, want),

@@ -2,8 +2,8 @@
 
 use super::scripts::{Line, Setting, failed_line};
 use super::worlds::Call::{Get, GetMut, Insert, Leave, Look, Read};
-use super::worlds::Fair;
-use mapworld::{Answer, Status};
+use super::worlds::{Fair, Said};
+use mapworld::Status;
 use std::alloc::Global;
 
 /// Plays a script on a writer that holds key 1, and has an insertion on the same shard left, beside a writer that waits for the shard.
@@ -31,7 +31,7 @@ fn a_writer_owns_the_shard_that_is_handed_over(rt: HostRuntime) {
         Line::Stands(1, Status::Asleep),
         // Leave, wake, answer; and the next call finds the shard taken and sleeps.
         Line::Steps(0, 3),
-        Line::Told(0, 1, Answer::Done),
+        Line::Told(0, 1, Said::Done),
         Line::Through(0),
         Line::Stands(0, Status::Asleep),
         Line::Waits(2, &[0]),
@@ -40,8 +40,8 @@ fn a_writer_owns_the_shard_that_is_handed_over(rt: HostRuntime) {
         Line::Steps(1, 3),
         Line::Word(9),
         Line::Round,
-        Line::Told(1, 0, Answer::Value(5)),
-        Line::Told(0, 2, Answer::None),
+        Line::Told(1, 0, Said::Value(5)),
+        Line::Told(0, 2, Said::None),
         Line::Pairs(&[(1, 7), (3, 8)]),
         Line::Word(0),
     ];
@@ -60,7 +60,7 @@ fn a_shard_that_is_not_handed_over_is_anybodys(rt: HostRuntime) {
         Line::Word(0),
         Line::Stands(1, Status::Asleep),
         Line::Steps(0, 3),
-        Line::Told(0, 1, Answer::Done),
+        Line::Told(0, 1, Said::Done),
         // The next call takes the shard, and thread 1 looks again and sleeps.
         Line::Steps(0, 3),
         Line::Word(8),
@@ -68,8 +68,8 @@ fn a_shard_that_is_not_handed_over_is_anybodys(rt: HostRuntime) {
         Line::Stands(1, Status::Asleep),
         Line::Waits(2, &[1]),
         Line::Round,
-        Line::Told(1, 0, Answer::Value(5)),
-        Line::Told(0, 2, Answer::None),
+        Line::Told(1, 0, Said::Value(5)),
+        Line::Told(0, 2, Said::None),
         Line::Pairs(&[(1, 7), (3, 8)]),
         Line::Word(0),
     ];
@@ -98,10 +98,10 @@ fn readers_own_the_shard_that_is_handed_over(rt: HostRuntime) {
         Line::Stands(0, Status::Asleep),
         Line::Waits(2, &[0]),
         Line::Round,
-        Line::Told(1, 1, Answer::Read(5)),
-        Line::Told(2, 0, Answer::Read(5)),
-        Line::Told(3, 0, Answer::Value(5)),
-        Line::Told(0, 2, Answer::Read(6)),
+        Line::Told(1, 1, Said::Read(5)),
+        Line::Told(2, 0, Said::Read(5)),
+        Line::Told(3, 0, Said::Value(5)),
+        Line::Told(0, 2, Said::Read(6)),
         Line::Pairs(&[(1, 6)]),
         Line::Word(0),
     ];

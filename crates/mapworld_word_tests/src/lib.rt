@@ -4,8 +4,6 @@
 #[cfg(test)]
 mod fairness;
 #[cfg(test)]
-mod schedules;
-#[cfg(test)]
 mod scripts;
 #[cfg(test)]
 mod sections;

@@ -1,6 +1,6 @@
 //! Scripts: what is done with a world, and what is to be seen of it, line by line.
 
-use super::worlds::{Answered, Call, Fair, Traced, world_of};
+use super::worlds::{Call, Fair, Said, Traced, world_of};
 use mapworld::{RunFault, Status};
 use std::alloc::Global;
 
@@ -17,7 +17,7 @@ pub enum Line<'a> {
     /// A step of the thread is refused as one that can't be made.
     Stops(usize),
     /// The thread's call was answered so.
-    Told(usize, usize, Answered),
+    Told(usize, usize, Said),
     /// The thread stands so.
     Stands(usize, Status),
     /// These threads wait in the queue of that key.
@@ -47,7 +47,7 @@ fn holds(traced: &mut Traced, line: &Line<'_>) -> bool {
             true
         }
         Line::Stops(thread) => stops(traced, *thread),
-        Line::Told(thread, call, want) => traced.told(*thread, *call, want),
+        Line::Told(thread, call, want) => traced.told(*thread, *call, *want),
         Line::Stands(thread, want) => traced.world.status(*thread) == *want,
         Line::Waits(key, want) => traced.waits(*key, want),
         Line::Word(want) => traced.word() == *want,

@@ -2,8 +2,8 @@
 
 use super::scripts::{Line, Setting, failed_line};
 use super::worlds::Call::{Get, GetMut, Insert, Leave, Remove};
-use super::worlds::{Fair, Traced, world_of};
-use mapworld::{Answer, Status};
+use super::worlds::{Fair, Said, Traced, world_of};
+use mapworld::Status;
 use std::test::Fail;
 
 #[test]
@@ -33,8 +33,8 @@ fn a_thread_that_sleeps_makes_no_step(rt: HostRuntime) {
         Line::Stands(2, Status::Running),
         Line::Round,
         Line::Stops(0),
-        Line::Told(1, 0, Answer::Held),
-        Line::Told(2, 0, Answer::Pair(1, 5)),
+        Line::Told(1, 0, Said::Held),
+        Line::Told(2, 0, Said::Pair(1, 5)),
         Line::Word(0),
     ];
     let failed = failed_line(
@@ -77,7 +77,7 @@ fn one_thread_at_a_time_is_in_a_section_of_any_shard(rt: HostRuntime) -> Result<
     assert!(rt; shut_out && first.waits(0, &[2]));
     assert!(rt; first.world.status(2) == Status::Asleep && first.world.can_move(3));
     first.step_round();
-    let told = first.told(2, 0, &Answer::Value(5)) & first.told(3, 0, &Answer::Value(5));
+    let told = first.told(2, 0, Said::Value(5)) & first.told(3, 0, Said::Value(5));
     assert!(rt; told && first.word() == 0 && first.world.word(8) == 0);
     Ok(())
 }

@@ -2,8 +2,8 @@
 
 use super::scripts::{Line, Setting, failed_line};
 use super::worlds::Call::{Get, GetMut, Insert, Leave, Read, Remove, Set, Share};
-use super::worlds::Fair;
-use mapworld::{Answer, Status};
+use super::worlds::{Fair, Said};
+use mapworld::Status;
 
 #[test]
 fn a_reader_waits_behind_a_writer_that_waits(rt: HostRuntime) {
@@ -18,13 +18,13 @@ fn a_reader_waits_behind_a_writer_that_waits(rt: HostRuntime) {
         Line::Stands(2, Status::Asleep),
         Line::Waits(2, &[2]),
         Line::Through(0),
-        Line::Told(0, 1, Answer::Read(5)),
-        Line::Told(0, 2, Answer::Read(5)),
+        Line::Told(0, 1, Said::Read(5)),
+        Line::Told(0, 2, Said::Read(5)),
         Line::Stands(1, Status::Running),
         Line::Stands(2, Status::Asleep),
         Line::Round,
-        Line::Told(1, 0, Answer::Pair(1, 5)),
-        Line::Told(2, 0, Answer::None),
+        Line::Told(1, 0, Said::Pair(1, 5)),
+        Line::Told(2, 0, Said::None),
         Line::Pairs(&[]),
         Line::Word(0),
         Line::Waits(2, &[]),
@@ -62,22 +62,22 @@ fn a_guard_that_is_shared_wakes_a_reader(rt: HostRuntime) {
         Line::Stands(1, Status::Asleep),
         // The downgrade: start, add, enter, take, store, leave, wake, answer.
         Line::Steps(0, 8),
-        Line::Told(0, 2, Answer::Held),
+        Line::Told(0, 2, Said::Held),
         Line::Stands(1, Status::Running),
         // It is woken: load, exchange, find, answer.
         Line::Steps(1, 4),
-        Line::Told(1, 0, Answer::Held),
+        Line::Told(1, 0, Said::Held),
         Line::Word(32),
         Line::Through(2),
         Line::Stands(2, Status::Asleep),
         Line::Waits(3, &[2]),
         Line::Through(1),
-        Line::Told(1, 1, Answer::Read(7)),
+        Line::Told(1, 1, Said::Read(7)),
         Line::Stands(2, Status::Asleep),
         Line::Through(0),
         Line::Stands(2, Status::Running),
         Line::Round,
-        Line::Told(2, 0, Answer::Value(7)),
+        Line::Told(2, 0, Said::Value(7)),
         Line::Pairs(&[(1, 9)]),
         Line::Waits(2, &[]),
         Line::Waits(3, &[]),
@@ -113,11 +113,11 @@ fn a_late_wake_finds_another_writer(rt: HostRuntime) {
         Line::Until(0, 10),
         Line::Through(1),
         Line::Stands(1, Status::Finished),
-        Line::Told(1, 0, Answer::Value(5)),
+        Line::Told(1, 0, Said::Value(5)),
         Line::Word(0),
         // Another reader opens and reads, and another writer waits for it.
         Line::Steps(2, 8),
-        Line::Told(2, 1, Answer::Read(6)),
+        Line::Told(2, 1, Said::Read(6)),
         Line::Through(3),
         Line::Stands(3, Status::Asleep),
         Line::Waits(3, &[3]),
@@ -131,7 +131,7 @@ fn a_late_wake_finds_another_writer(rt: HostRuntime) {
         Line::Through(2),
         Line::Stands(2, Status::Finished),
         Line::Round,
-        Line::Told(3, 0, Answer::Value(6)),
+        Line::Told(3, 0, Said::Value(6)),
         Line::Pairs(&[(1, 7)]),
         Line::Waits(2, &[]),
         Line::Waits(3, &[]),

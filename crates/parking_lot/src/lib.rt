@@ -25,8 +25,9 @@ pub use names::{
     Condvar, FairMutex, FairMutexGuard, MappedFairMutexGuard, MappedMutexGuard,
     MappedRecursiveRwLockReadGuard, MappedRecursiveRwLockWriteGuard, MappedReentrantMutexGuard,
     MappedRwLockReadGuard, MappedRwLockWriteGuard, Mutex, MutexGuard, RawRwLockRecursive,
-    RecursiveRwLock, RecursiveRwLockReadGuard, RecursiveRwLockWriteGuard, ReentrantMutex,
-    ReentrantMutexGuard, RwLock, RwLockReadGuard, RwLockWriteGuard,
+    RecursiveRwLock, RecursiveRwLockReadGuard, RecursiveRwLockUpgradableReadGuard,
+    RecursiveRwLockWriteGuard, ReentrantMutex, ReentrantMutexGuard, RwLock, RwLockReadGuard,
+    RwLockUpgradableReadGuard, RwLockWriteGuard,
 };
 pub use parking_lot_condvar::RawCondvar;
 pub use parking_lot_locks::{
@@ -34,7 +35,9 @@ pub use parking_lot_locks::{
     RawThreadId, Row, RwCore, SectionAct, WordChange, laws, to_deadline, wake_sum,
 };
 pub use parking_lot_once::{Once, OnceCore, OnceFault, OnceState, Poisoned};
+pub use parking_lot_rw_timed::TimedRwCore;
 pub use parking_lot_timed::{TimedAct, TimedMutexCore, TimedSeen};
+pub use parking_lot_upgrades::UpgradeCore;
 pub use parking_lot_waits::{
     NotifyAct, NotifyCore, NotifySeen, WaitAct, WaitAnswer, WaitCore, WaitSeen,
 };

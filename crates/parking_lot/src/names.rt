@@ -60,6 +60,10 @@ pub type RwLockWriteGuard<'m, 't, 'l, T, R, A = Global> = lock_api::RwLockWriteG
     T,
 >;
 
+/// The upgradable guard of an [`RwLock`]: it reads beside readers, and may be upgraded to write.
+pub type RwLockUpgradableReadGuard<'m, 't, 'l, T, R, A = Global> =
+    lock_api::RwLockUpgradableReadGuard<'m, RawRwLock<'t, 'l, R, 0, A>, T>;
+
 /// An [`RwLockReadGuard`] that a projection of the type `P` narrows to a part of the value.
 pub type MappedRwLockReadGuard<'m, 't, 'l, T, P, R, A = Global> = lock_api::MappedRwLockReadGuard<
     'm,
@@ -98,6 +102,10 @@ pub type RecursiveRwLockWriteGuard<'m, 't, 'l, T, R, A = Global> = lock_api::RwL
     RawRwLockRecursive<'t, 'l, R, A>,
     T,
 >;
+
+/// The upgradable guard of a [`RecursiveRwLock`].
+pub type RecursiveRwLockUpgradableReadGuard<'m, 't, 'l, T, R, A = Global> =
+    lock_api::RwLockUpgradableReadGuard<'m, RawRwLockRecursive<'t, 'l, R, A>, T>;
 
 /// A [`RecursiveRwLockReadGuard`] that a projection of the type `P` narrows to a part of the value.
 pub type MappedRecursiveRwLockReadGuard<'m, 't, 'l, T, P, R, A = Global> =

@@ -3,12 +3,15 @@ ghost use Rattle.std.specs.Prelude.{◌≡◌};
 
 use crate::fault::Fault;
 use lock_api::{Mutex, RwLock};
-use lock_api_raw::{MakeLock as _, RawMutex, RawRwLock as _};
+use lock_api_raw::{
+    MakeLock as _, RawMutex, RawRwLock as _, RawRwLockTimed as _, RawRwLockUpgrade as _,
+};
 use parking_lot_core::{ParkingLot, ThreadData};
 use parking_lot_locks::{LockTable, RawRwLock};
 use std::alloc::Global;
 use std::sync;
 use std::sync::Wait;
+use std::time::{Clock, Instant};
 
 /// What is locked and unlocked.
 #[derive(Clone, Copy)]
@@ -17,6 +20,12 @@ pub enum Pair {
     Mutex,
     Read,
     Write,
+    /// Their upgradable hold, and one that is upgraded.
+    Upgradable,
+    Upgrade,
+    /// Their calls that may give up.
+    ReadInTime,
+    WriteInTime,
     /// The generic locks over them.
     Guard,
     Reader,
@@ -29,10 +38,14 @@ pub enum Pair {
 
 impl Pair {
     /// All of them.
-    const ALL: [Pair; 9] = [
+    const ALL: [Pair; 13] = [
         Pair::Mutex,
         Pair::Read,
         Pair::Write,
+        Pair::Upgradable,
+        Pair::Upgrade,
+        Pair::ReadInTime,
+        Pair::WriteInTime,
         Pair::Guard,
         Pair::Reader,
         Pair::Writer,
@@ -52,6 +65,10 @@ impl Pair {
             Pair::Mutex => "mutex",
             Pair::Read => "read",
             Pair::Write => "write",
+            Pair::Upgradable => "upgradable",
+            Pair::Upgrade => "upgrade",
+            Pair::ReadInTime => "read-in-time",
+            Pair::WriteInTime => "write-in-time",
             Pair::Guard => "guard",
             Pair::Reader => "reader",
             Pair::Writer => "writer",
@@ -63,7 +80,11 @@ impl Pair {
 }
 
 /// Makes so many pairs of each kind, and answers the sum of what is left.
-pub fn all_pairs<R: Wait + Copy + Drop>(rt: R, alloc: Global, pairs: u32) -> Result<u64, Fault> {
+pub fn all_pairs<R: Wait + Clock + Copy + Drop>(
+    rt: R,
+    alloc: Global,
+    pairs: u32,
+) -> Result<u64, Fault> {
     let mut sum = 0u64;
     for pair in Pair::ALL {
         sum = sum.wrapping_add(pairs_of(rt, alloc, pair, pairs)?);
@@ -72,7 +93,7 @@ pub fn all_pairs<R: Wait + Copy + Drop>(rt: R, alloc: Global, pairs: u32) -> Res
 }
 
 /// Makes so many pairs, and answers the word that is left; of a lock of std the value.
-pub fn pairs_of<R: Wait + Copy + Drop>(
+pub fn pairs_of<R: Wait + Clock + Copy + Drop>(
     rt: R,
     alloc: Global,
     pair: Pair,
@@ -89,6 +110,16 @@ pub fn pairs_of<R: Wait + Copy + Drop>(
         ),
         Pair::Read => by_reading(&RawRwLock::new(&table, 100)?, &mut me, pairs),
         Pair::Write => by_writing(&RawRwLock::new(&table, 100)?, &mut me, pairs),
+        Pair::Upgradable => by_upgradable(&RawRwLock::new(&table, 100)?, &mut me, pairs),
+        Pair::Upgrade => by_upgrading(&RawRwLock::new(&table, 100)?, &mut me, pairs),
+        Pair::ReadInTime => {
+            let moment = Instant::now(&rt)?;
+            reads_in_time(&rt, &RawRwLock::new(&table, 100)?, moment, &mut me, pairs);
+        }
+        Pair::WriteInTime => {
+            let moment = Instant::now(&rt)?;
+            writes_in_time(&rt, &RawRwLock::new(&table, 100)?, moment, &mut me, pairs);
+        }
         Pair::Guard => by_guard::<parking_lot_locks::RawMutex<R>>(
             &Mutex::new(&table, 0)?,
             &mut me,
@@ -128,6 +159,55 @@ fn by_writing<R: Wait>(lock: &RawRwLock<'_, '_, R, 0>, me: &mut ThreadData, pair
     for _pair in 0..pairs {
         let token = lock.lock_exclusive(me);
         lock.unlock_exclusive(token);
+    }
+}
+
+#[inline(never)]
+fn by_upgradable<R: Wait>(lock: &RawRwLock<'_, '_, R, 0>, me: &mut ThreadData, pairs: u32) {
+    for _pair in 0..pairs {
+        let token = lock.lock_upgradable(me);
+        lock.unlock_upgradable(token);
+    }
+}
+
+#[inline(never)]
+fn by_upgrading<R: Wait>(lock: &RawRwLock<'_, '_, R, 0>, me: &mut ThreadData, pairs: u32) {
+    for _pair in 0..pairs {
+        let token = lock.lock_upgradable(me);
+        let token = lock.upgrade(token, me);
+        lock.unlock_exclusive(token);
+    }
+}
+
+/// Reads by calls that may give up at a moment. It is past, and no matter where nobody is in the way.
+#[inline(never)]
+fn reads_in_time<R: Wait + Clock>(
+    rt: &R,
+    lock: &RawRwLock<'_, '_, R, 0>,
+    moment: Instant,
+    me: &mut ThreadData,
+    pairs: u32,
+) {
+    for _pair in 0..pairs {
+        if let Some(token) = lock.try_lock_shared_until(moment, rt, me) {
+            lock.unlock_shared(token);
+        }
+    }
+}
+
+/// The same of calls that write.
+#[inline(never)]
+fn writes_in_time<R: Wait + Clock>(
+    rt: &R,
+    lock: &RawRwLock<'_, '_, R, 0>,
+    moment: Instant,
+    me: &mut ThreadData,
+    pairs: u32,
+) {
+    for _pair in 0..pairs {
+        if let Some(token) = lock.try_lock_exclusive_until(moment, rt, me) {
+            lock.unlock_exclusive(token);
+        }
     }
 }
 

@@ -12,19 +12,36 @@ use parking_lot_protocol::CoreAnswer;
 use std::alloc::Allocator;
 
 impl<R, A: Allocator> Row<'_, '_, R, A> {
-    /// Makes the exchange by which a call that has seen this word owns the lock, and answers whether it was won.
+    /// Makes the exchange by which a call that has seen this word ends so, and answers whether it was won.
     #[inline(always)]
-    pub(crate) fn owns_at_once<K: Call>(&self, _call: K, word: u64, to: u64) -> bool
+    pub(crate) fn ends_after_a_load<K: Call>(
+        &self,
+        _call: K,
+        word: u64,
+        to: u64,
+        answer: CoreAnswer,
+    ) -> bool
         requires first { K.Core.asks (K.Core.told K.begun Start) ≡ Load }
         requires then { K.Core.asks (K.Core.told (K.Core.told K.begun Start) (Word word)) ≡ Exchange word to }
-        requires last { K.Core.asks (K.Core.told (K.Core.told (K.Core.told K.begun Start) (Word word)) Exchanged) ≡ Done Owned }
-        ensures { result ≡ true → Ended K.Core.told K.Core.asks K.begun Owned }
+        requires last { K.Core.asks (K.Core.told (K.Core.told (K.Core.told K.begun Start) (Word word)) Exchanged) ≡ Done answer }
+        ensures { result ≡ true → Ended K.Core.told K.Core.asks K.begun answer }
     {
         if self.exchange(word, to).is_ok() {
             true
         } else {
             false
         }
+    }
+
+    /// The same of a call that owns the lock then.
+    #[inline(always)]
+    pub(crate) fn owns_at_once<K: Call>(&self, call: K, word: u64, to: u64) -> bool
+        requires first { K.Core.asks (K.Core.told K.begun Start) ≡ Load }
+        requires then { K.Core.asks (K.Core.told (K.Core.told K.begun Start) (Word word)) ≡ Exchange word to }
+        requires last { K.Core.asks (K.Core.told (K.Core.told (K.Core.told K.begun Start) (Word word)) Exchanged) ≡ Done Owned }
+        ensures { result ≡ true → Ended K.Core.told K.Core.asks K.begun Owned }
+    {
+        self.ends_after_a_load(call, word, to, CoreAnswer::Owned)
     }
 
     /// The same of a call that looks at the word once more, which is then as the exchange left it.

@@ -6,6 +6,7 @@ ghost use Rattle.parking_lot_protocol.specs.declared.act.ActResult.{ActResult};
 
 use parking_lot_core::UnparkToken;
 use parking_lot_protocol::{Act, ActResult, MutexCore, RwCore};
+use parking_lot_upgrades::UpgradeCore;
 
 /// One call of a lock as plain data: it is told what its last act gave, and answers the next one.
 pub trait DecisionCore: Copy {
@@ -73,5 +74,27 @@ impl DecisionCore for RwCore {
 
     fn wake_token(&self) -> UnparkToken {
         RwCore::wake_token(self)
+    }
+}
+
+impl DecisionCore for UpgradeCore {
+    ghost use Rattle.parking_lot_upgrades.specs.UpgradeTable.{upgrade_asks, upgrade_told, wakes_with};
+
+    ghost told = { upgrade_told };
+
+    ghost asks = { upgrade_asks };
+
+    ghost wakes = { λ core. wakes_with core.phase };
+
+    fn act(&self) -> Act {
+        UpgradeCore::act(self)
+    }
+
+    fn next(&mut self, seen: ActResult) -> Act {
+        UpgradeCore::next(self, seen)
+    }
+
+    fn wake_token(&self) -> UnparkToken {
+        UpgradeCore::wake_token(self)
     }
 }

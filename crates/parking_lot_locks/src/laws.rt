@@ -2,6 +2,7 @@
 ghost use Rattle.std.specs.Prelude.{◌≡◌, ◌≢◌, ◌<◌, ◌+◌, ◌*◌, ◌/◌, ◌%◌, ◌^◌, true};
 
 use parking_lot_protocol::{Act, ActResult, CoreAnswer, MutexCore, RwCore};
+use parking_lot_upgrades::UpgradeCore;
 
 /// The exchange from 0 to 1 is the way of a call that locks a free mutex: it is what the core asks for at 0, and once it is won
 /// the mutex is owned.
@@ -83,5 +84,46 @@ pub fn one_sum_downgrades(word: u64) -> bool
 {
     let mut core = RwCore::downgrade();
     core.next(ActResult::Start) == Act::Add(8)
+        && core.next(ActResult::Before(word)) == Act::Done(CoreAnswer::Owned)
+}
+
+/// Where neither a writer nor an upgradable owner is in the way, and one reader more can be counted, adding 20 to the word is the way of
+/// a call that asks for the upgradable hold.
+pub fn one_exchange_takes_the_upgradable_hold(word: u64) -> bool
+    requires unwritten { word / 8 % 2 ≡ 0 }
+    requires free { word / 4 % 2 ≡ 0 }
+    requires room { word / 16 + 1 < 2 ^ 60 }
+    ensures { result ≡ true }
+{
+    let mut core = UpgradeCore::lock();
+    core.next(ActResult::Start) == Act::Load
+        && core.next(ActResult::Word(word)) == Act::Exchange(word, word.wrapping_add(20))
+        && core.next(ActResult::Exchanged) == Act::Done(CoreAnswer::Owned)
+}
+
+/// Taking 20 off the word is the way of a call that gives the upgradable hold up, fairly or not, where nobody may sleep that wants the
+/// lock.
+pub fn one_exchange_gives_the_upgradable_hold_up(fair: bool, word: u64) -> bool
+    requires { word % 2 ≡ 0 }
+    ensures { result ≡ true }
+{
+    let mut core = if fair {
+        UpgradeCore::unlock_fair()
+    } else {
+        UpgradeCore::unlock()
+    };
+    let less = word.wrapping_add(20u64.wrapping_neg());
+    core.next(ActResult::Start) == Act::Load
+        && core.next(ActResult::Word(word)) == Act::Exchange(word, less)
+        && core.next(ActResult::Exchanged) == Act::Done(CoreAnswer::Released)
+}
+
+/// Adding 12 to the word is the way of a writer that becomes an upgradable owner, where nobody may sleep that wants the lock.
+pub fn one_sum_keeps_the_upgradable_hold(word: u64) -> bool
+    requires { word % 2 ≡ 0 }
+    ensures { result ≡ true }
+{
+    let mut core = UpgradeCore::downgrade_to_upgradable();
+    core.next(ActResult::Start) == Act::Add(12)
         && core.next(ActResult::Before(word)) == Act::Done(CoreAnswer::Owned)
 }

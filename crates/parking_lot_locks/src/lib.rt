@@ -23,12 +23,18 @@ mod place;
 mod raw_fair_mutex;
 mod raw_mutex;
 mod raw_rwlock;
+mod raw_rwlock_timed;
+mod raw_rwlock_upgrade;
 mod run;
 mod section;
 mod table;
 mod thread_id;
+mod timed_call;
 mod timed_run;
+mod timed_rw_run;
 mod told;
+mod under_way;
+mod upgrade_call;
 mod whole_call;
 
 pub use call::Call;

@@ -1,21 +1,19 @@
 //! A section that goes through the waiters of a key in order.
 
-use crate::call::Call;
-use crate::decision::DecisionCore;
-use crate::told::Run;
+use crate::under_way::UnderWay;
 use parking_lot_core::{FilterOp, ParkToken};
 use parking_lot_protocol::{Act, ActResult, SectionAct, wake_sum};
 
 /// A call that is shown one waiter after another. Of the last that it took it is told at the next one, or at the end: only
 /// then it is known whether others are left.
 #[derive(Clone, Copy)]
-pub(crate) struct Looking<K: Call<Core = C>, C: DecisionCore> {
-    pub run: Run<K, C>,
+pub(crate) struct Looking<U: UnderWay> {
+    pub run: U,
     /// The token of the last that was taken, as long as the call isn't told of it.
     pub taken: Option<ParkToken>,
 }
 
-impl<K: Call<Core = C>, C: DecisionCore> Looking<K, C> {
+impl<U: UnderWay> Looking<U> {
     /// Shows it a waiter, and answers what is to be done with it.
     pub fn shown(&mut self, token: ParkToken) -> FilterOp {
         self.told(true);

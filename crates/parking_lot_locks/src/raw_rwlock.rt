@@ -1,25 +1,28 @@
 //! The raw reader-writer lock.
-ghost use Rattle.std.specs.Prelude.{◌≡◌, ◌+◌, ◌-◌, ◌*◌, ◌/◌, ◌%◌, ◌^◌, ◌&&◌, ◌==◌, nat_lt, not, ◌≤◌, IfOk, IfSome, min, max, true, false};
+ghost use Rattle.std.specs.Prelude.{◌≡◌, ◌+◌, ◌-◌, ◌*◌, ◌/◌, ◌%◌, ◌^◌, ◌&&◌, ◌||◌, ◌==◌, nat_lt, not, ◌≤◌, IfOk, IfSome, min, max, true, false};
 ghost use Rattle.lock_api_raw.specs.Limits.{kept_limit};
-ghost use Rattle.parking_lot_locks.specs.Ends.{RwEnded};
+ghost use Rattle.parking_lot_locks.specs.Ends.{RwEnded, UpgradeEnded};
 ghost use Rattle.parking_lot_locks.specs.Runs.{Ended};
-ghost use Rattle.parking_lot_protocol.specs.RwTable.{is_written};
+ghost use Rattle.parking_lot_protocol.specs.RwTable.{is_upgradable, is_written};
 ghost use Rattle.parking_lot_protocol.specs.declared.act.CoreAnswer.{CoreAnswer};
 ghost use Rattle.parking_lot_protocol.specs.declared.act.CoreAnswer.TheVariants.{Owned};
 ghost use Rattle.parking_lot_protocol.specs.declared.rw_phase.LockMode.TheVariants.{Shared, Exclusive};
 ghost use Rattle.parking_lot_protocol.specs.declared.rw_phase.RwPhase.TheVariants.{Locking, UnlockingShared, UnlockingExclusive, Downgrading, BumpingShared, BumpingExclusive};
+ghost use Rattle.parking_lot_upgrades.specs.declared.upgrade_phase.UpgradePhase.TheVariants as call;
 
 use crate::call::{
     BumpReader, BumpWriter, Call, Downgrade, Read, StopReading, StopWriting, StopWritingFairly,
     Write,
 };
+use crate::decision::DecisionCore;
 use crate::place::Place;
 use crate::table::{LockTable, Row};
+use crate::upgrade_call::AskUpgradably;
 use lock_api_raw::{
     GuardSend, MakeLock, RawRwLock as _, RawRwLockDowngrade, RawRwLockFair, TableFull,
 };
 use parking_lot_core::{ThreadData, thread_yield};
-use parking_lot_protocol::word::{MAX_READERS, PARKED, READER, WRITER, WRITER_PARKED};
+use parking_lot_protocol::word::{MAX_READERS, PARKED, READER, UPGRADABLE, WRITER, WRITER_PARKED};
 use parking_lot_protocol::{ActResult, CoreAnswer, RwCore, word};
 use std::alloc::{Allocator, Global};
 use std::marker::Model;
@@ -32,6 +35,15 @@ fn is_open(word: u64, full: u64) -> bool
     ensures { result ≡ (not (is_written word) && nat_lt word full) }
 {
     !word::is_written(word) && word < full
+}
+
+/// Whether an upgradable owner is admitted at once: neither a writer nor another upgradable owner keeps it out, and the word is less
+/// than one with the most readers.
+#[inline(always)]
+fn is_open_to_upgradable(word: u64, full: u64) -> bool
+    ensures { result ≡ (not (is_written word || is_upgradable word) && nat_lt word full) }
+{
+    !(word::is_written(word) || word::is_upgradable(word)) && word < full
 }
 
 /// The word at which no reader more is admitted: 16 times the most readers.
@@ -73,8 +85,8 @@ impl Full {
 /// An unfair reader-writer lock on one row of a lock table. A writer that waits keeps new readers out; where `RECURSIVE` is 1
 /// a thread that reads may read again past it, and else `RECURSIVE` is 0.
 ///
-/// Its word is 16 for each reader, and 8 for a writer, also while that waits for readers to leave; where such a writer may
-/// sleep 2 is added, and where threads may sleep that want the lock, 1.
+/// Its word is 16 for each reader, 20 for an upgradable owner, and 8 for a writer, also while that waits for readers to leave; where
+/// such a writer may sleep 2 is added, and where threads may sleep that want the lock, 1.
 #[derive(Drop)]
 pub struct RawRwLock<'t, 'l, R, const RECURSIVE: u8, A: Allocator = Global> {
     row: Row<'t, 'l, R, A>,
@@ -82,8 +94,16 @@ pub struct RawRwLock<'t, 'l, R, const RECURSIVE: u8, A: Allocator = Global> {
 }
 
 impl<'t, 'l, R, const RECURSIVE: u8, A: Allocator> RawRwLock<'t, 'l, R, RECURSIVE, A> {
+    /// Its row.
+    #[inline(always)]
+    pub(crate) fn row(&self) -> &Row<'t, 'l, R, A>
+        ensures { result.now ≡ self.now.row }
+    {
+        &self.row
+    }
+
     /// What its calls run on.
-    fn place(&self) -> Place<'_, 't, 'l, R, A> {
+    pub(crate) fn place(&self) -> Place<'_, 't, 'l, R, A> {
         Place {
             row: &self.row,
             limit: word::readers(self.full.word()),
@@ -92,7 +112,7 @@ impl<'t, 'l, R, const RECURSIVE: u8, A: Allocator> RawRwLock<'t, 'l, R, RECURSIV
 
     /// A token of this lock.
     #[inline(always)]
-    fn token(&self) -> GuardSend
+    pub(crate) fn token(&self) -> GuardSend
         ensures { result ≡ (self.now.row.table.now.first_key + 2 * self.now.row.number) % 2 ^ 64 }
     {
         GuardSend::new(&(self.row.first_key() as u64))
@@ -100,7 +120,7 @@ impl<'t, 'l, R, const RECURSIVE: u8, A: Allocator> RawRwLock<'t, 'l, R, RECURSIV
 
     /// A token of this lock for a hold that was taken.
     #[inline(always)]
-    fn token_if(&self, taken: bool) -> Option<GuardSend>
+    pub(crate) fn token_if(&self, taken: bool) -> Option<GuardSend>
         ensures { IfSome result (λ token. token ≡ (self.now.row.table.now.first_key + 2 * self.now.row.number) % 2 ^ 64) }
     {
         if taken { Some(self.token()) } else { None }
@@ -109,13 +129,13 @@ impl<'t, 'l, R, const RECURSIVE: u8, A: Allocator> RawRwLock<'t, 'l, R, RECURSIV
     /// Tries again where the first exchange is lost.
     #[cold]
     #[inline(never)]
-    fn try_slowly(&self, core: RwCore) -> bool {
+    pub(crate) fn try_slowly<C: DecisionCore>(&self, core: C) -> bool {
         self.place().attempt(core)
     }
 
     /// Reads at once, where one exchange does it.
     #[inline(always)]
-    fn reads_at_once(&self) -> bool
+    pub(crate) fn reads_at_once(&self) -> bool
         ensures { result ≡ true → RwEnded (Locking (Shared (RECURSIVE == 1))) Owned }
     {
         let word = self.row.load();
@@ -125,11 +145,36 @@ impl<'t, 'l, R, const RECURSIVE: u8, A: Allocator> RawRwLock<'t, 'l, R, RECURSIV
         self.row
             .owns_at_once(Read::<RECURSIVE>, word, word.wrapping_add(READER))
     }
+
+    /// Writes at once, where one exchange does it.
+    #[inline(always)]
+    pub(crate) fn writes_at_once(&self) -> bool
+        ensures { result ≡ true → RwEnded (Locking Exclusive) Owned }
+    {
+        self.row.owns_after_a_look(Write, 0, WRITER)
+    }
+
+    /// Has the upgradable hold at once, where one exchange does it.
+    #[inline(always)]
+    pub(crate) fn upgradable_at_once(&self) -> bool
+        ensures { result ≡ true → UpgradeEnded call.Locking Owned }
+    {
+        let word = self.row.load();
+        if !is_open_to_upgradable(word, self.full.word()) {
+            return false;
+        }
+        self.row.owns_at_once(AskUpgradably, word, word.wrapping_add(READER + UPGRADABLE))
+    }
+
+    /// Whether there are more readers than may be.
+    pub(crate) fn is_overfull(&self) -> bool {
+        word::readers(self.row.load()) > word::readers(self.full.word())
+    }
 }
 
 impl<'t, 'l, R: Wait, const RECURSIVE: u8, A: Allocator> RawRwLock<'t, 'l, R, RECURSIVE, A> {
-    /// Asks until the lock is owned exclusively.
-    fn own<K: Call>(&self, call: K, party: &mut ThreadData<A>)
+    /// Asks until the call ends with a hold.
+    pub(crate) fn own<K: Call>(&self, call: K, party: &mut ThreadData<A>)
         ensures { Ended K.Core.told K.Core.asks K.begun Owned }
     {
         for _call in self.runtime().forever() {
@@ -147,7 +192,7 @@ impl<'t, 'l, R: Wait, const RECURSIVE: u8, A: Allocator> RawRwLock<'t, 'l, R, RE
     {
         self.own(call, party);
         for _call in self.runtime().forever() {
-            if word::readers(self.row.load()) <= word::readers(self.full.word()) {
+            if !self.is_overfull() {
                 return;
             }
             self.unlock_shared(self.token());
@@ -292,7 +337,7 @@ impl<'t, 'l, R, const RECURSIVE: u8, A: Allocator> lock_api_raw::RawRwLock
     where
         R: Wait,
     {
-        if self.row.owns_after_a_look(Write, 0, WRITER) {
+        if self.writes_at_once() {
             return self.token();
         }
         self.write_slowly(party);

@@ -1,10 +1,9 @@
 //! The sections of a call: a thread goes to sleep in one, or wakes others.
 
-use crate::call::Call;
 use crate::clock::StillClock;
 use crate::looking::Looking;
 use crate::place::Place;
-use crate::told::Run;
+use crate::under_way::UnderWay;
 use parking_lot_core::{
     DEFAULT_PARK_TOKEN, ParkResult, ParkToken, ThreadData, UnparkToken, park, thread_yield,
     unpark_filter, unpark_one,
@@ -17,7 +16,7 @@ use std::time::Instant;
 
 impl<R: Wait, A: Allocator> Place<'_, '_, '_, R, A> {
     /// Goes through the section that the call enters, and sleeps if it is to.
-    pub fn enter<K: Call>(&self, run: &mut Run<K, K::Core>, key: u8, party: &mut ThreadData<A>) {
+    pub fn enter<U: UnderWay>(&self, run: &mut U, key: u8, party: &mut ThreadData<A>) {
         match run.tell(ActResult::Entered) {
             Act::Section(SectionAct::Check) => self.sleep(run, self.key(key), party),
             _ => self.wake(run, self.key(key)),
@@ -25,7 +24,7 @@ impl<R: Wait, A: Allocator> Place<'_, '_, '_, R, A> {
     }
 
     /// Goes through a section in which others are woken, from its first act on.
-    pub fn wake<K: Call>(&self, run: &mut Run<K, K::Core>, key: usize) {
+    pub fn wake<U: UnderWay>(&self, run: &mut U, key: usize) {
         match run.act() {
             Act::Section(SectionAct::TakeFirst) => self.wake_first(run, key),
             _ => self.wake_in_order(run, key),
@@ -33,7 +32,7 @@ impl<R: Wait, A: Allocator> Place<'_, '_, '_, R, A> {
     }
 
     /// Sleeps until it is woken, unless the word tells it not to. Where it is seen so before the section, that isn't entered.
-    fn sleep<K: Call>(&self, run: &mut Run<K, K::Core>, key: usize, party: &mut ThreadData<A>) {
+    fn sleep<U: UnderWay>(&self, run: &mut U, key: usize, party: &mut ThreadData<A>) {
         let word = self.row.load();
         let mut ahead = *run;
         match ahead.tell(ActResult::Word(word)) {
@@ -44,9 +43,9 @@ impl<R: Wait, A: Allocator> Place<'_, '_, '_, R, A> {
 
     /// Parks, unless the word tells it not to. A participant of another lot can't sleep here: it lets other threads run, and
     /// the call is to look again, as if the word had been free.
-    fn park<K: Call>(
+    fn park<U: UnderWay>(
         &self,
-        run: &mut Run<K, K::Core>,
+        run: &mut U,
         key: usize,
         party: &mut ThreadData<A>,
         token: ParkToken,
@@ -85,7 +84,7 @@ impl<R: Wait, A: Allocator> Place<'_, '_, '_, R, A> {
 
 impl<R: Wait, A: Allocator> Place<'_, '_, '_, R, A> {
     /// Takes the first waiter of a key and wakes it.
-    fn wake_first<K: Call>(&self, run: &mut Run<K, K::Core>, key: usize) {
+    fn wake_first<U: UnderWay>(&self, run: &mut U, key: usize) {
         let takes = Cell::new(*run);
         unpark_one(self.row.lot(), key, |done| {
             let mut now = takes.get();
@@ -106,7 +105,7 @@ impl<R: Wait, A: Allocator> Place<'_, '_, '_, R, A> {
     }
 
     /// Takes the waiters of a key in order, as far as the call lets them go, and wakes them.
-    fn wake_in_order<K: Call>(&self, run: &mut Run<K, K::Core>, key: usize) {
+    fn wake_in_order<U: UnderWay>(&self, run: &mut U, key: usize) {
         let looks = Cell::new(Looking {
             run: *run,
             taken: None,
@@ -132,7 +131,7 @@ impl<R: Wait, A: Allocator> Place<'_, '_, '_, R, A> {
     }
 
     /// Changes the word in a section: by one of the two stores, or by a mask.
-    fn store<K: Call>(&self, run: &mut Run<K, K::Core>, be_fair: bool) {
+    fn store<U: UnderWay>(&self, run: &mut U, be_fair: bool) {
         match run.act() {
             Act::Section(SectionAct::Store { plain, fair }) => {
                 self.change(if be_fair { fair } else { plain });
@@ -146,7 +145,7 @@ impl<R: Wait, A: Allocator> Place<'_, '_, '_, R, A> {
 }
 
 /// Tells the call that it has joined the list, has left the section, and was woken with that token.
-fn woken<K: Call>(run: &mut Run<K, K::Core>, token: UnparkToken) {
+fn woken<U: UnderWay>(run: &mut U, token: UnparkToken) {
     run.tell(ActResult::Made);
     run.tell(ActResult::Made);
     run.tell(ActResult::Woken(token));

@@ -72,6 +72,12 @@ unsafe impl<T> Send for Past<T> {}
 
 unsafe impl<T> Sync for Past<T> {}
 
+/// What lists values of a type, for contracts alone: `Past::appended_all` notes them without a look at any.
+pub trait Listed<T> {
+    /// All of them, in their order.
+    ghost listed: { Self → List T };
+}
+
 impl<T> Past<T> {
     /// The history of what has just begun: nothing was noted. It is for the constructor of a value that
     /// keeps its history, takes no memory and does nothing at run time.
@@ -99,6 +105,17 @@ impl<T> Past<T> {
     /// what the program stores.
     pub fn appended(&self, last: &T) -> Past<T>
         ensures { result.items ≡ self.now.items ++ last.now ∷ [] }
+    {
+        Past { of: PhantomData }
+    }
+
+    /// This history with all that `all` lists noted at its end, in that order. It is for a function that has done
+    /// something to each of them at once, as one that has counted a table without a walk through it. It takes no
+    /// memory and does nothing at run time, however many they are.
+    ///
+    /// As with `appended`, that it happened to each of them is unconstrained.
+    pub fn appended_all<L: Listed<T>>(&self, all: &L) -> Past<T>
+        ensures { result.items ≡ self.now.items ++ L.listed all.now }
     {
         Past { of: PhantomData }
     }

@@ -4,7 +4,17 @@
 
 ghost use Rattle.std.specs.Prelude.{◌≡◌, ◌+◌, ◌<◌, ◌^◌, [], ◌∷◌, ◌++◌, sum};
 
-use past::Past;
+use past::{Listed, Past};
+
+/// Steps of a list, in its order.
+#[derive(Clone, Copy)]
+struct Several<'a> {
+    steps: &'a [u64],
+}
+
+impl<'a> Listed<u64> for Several<'a> {
+    ghost listed = { λ several. several.steps.now };
+}
 
 /// A counter that notes each of its steps.
 #[derive(Drop)]
@@ -33,6 +43,16 @@ impl Counter {
     {
         self.count += step;
         self.steps = self.steps.appended(&step);
+    }
+
+    /// Counts steps whose sum is known, and notes each.
+    pub fn add_all(&mut self, steps: &[u64], whole: u64)
+        requires sum { sum steps.now ≡ whole }
+        requires fits { self.old.count + whole < 2 ^ 64 }
+        ensures noted { self.new.steps.items ≡ self.old.steps.items ++ steps.now }
+    {
+        self.count += whole;
+        self.steps = self.steps.appended_all(&Several { steps });
     }
 
     /// The steps so far.

@@ -1,5 +1,5 @@
-use Rattle.mapworld_calls.proofs.Every.Growing.{last-call_agrees}
+use Rattle.mapworld_calls.proofs.Growing.{last-call_agrees}
 use Rattle.mapworld_calls.proofs.laws.last_calls_agree.Goals as goal
 
 pub returns : goal.returns
-returns g c = last-call_agrees
+returns g c = λ w laws bs i b c k a s. last-call_agrees w laws bs i b c k a s

@@ -1,4 +1,4 @@
-use Rattle.mapworld_calls.proofs.Every.Placing.{well-placed_grown}
+use Rattle.mapworld_calls.proofs.Placing.{well-placed_grown}
 use Rattle.mapworld_calls.proofs.laws.places_stay.Goals as goal
 
 pub returns : goal.returns

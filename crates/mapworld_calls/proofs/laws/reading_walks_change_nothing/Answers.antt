@@ -1,4 +1,4 @@
-use Rattle.mapworld_calls.proofs.Every.Tables.{reading-leaves}
+use Rattle.mapworld_calls.proofs.Tables.{reading-leaves}
 use Rattle.mapworld_calls.proofs.laws.reading_walks_change_nothing.Goals as goal
 
 pub returns : goal.returns

@@ -1,4 +1,4 @@
-use Rattle.mapworld_calls.proofs.Every.Frames.{contents-split}
+use Rattle.mapworld_calls.proofs.Frames.{contents-split}
 use Rattle.mapworld_calls.proofs.laws.replay_splits.Goals as goal
 
 pub returns : goal.returns

@@ -1,4 +1,4 @@
-use Rattle.mapworld_calls.proofs.Every.Settled.{settled-contents}
+use Rattle.mapworld_calls.proofs.Settled.{settled-contents}
 use Rattle.mapworld_calls.proofs.laws.settled_is_now.Goals as goal
 
 pub returns : goal.returns

@@ -1,4 +1,4 @@
-use Rattle.mapworld_calls.proofs.Every.Settled.{stays-settled}
+use Rattle.mapworld_calls.proofs.Settled.{stays-settled}
 use Rattle.mapworld_calls.proofs.laws.settled_stays.Goals as goal
 
 pub returns : goal.returns

@@ -1,4 +1,4 @@
-use Rattle.mapworld_calls.proofs.Every.Visiting.{visit-stays_done}
+use Rattle.mapworld_calls.proofs.Visiting.{visit-stays_done}
 use Rattle.mapworld_calls.proofs.laws.visits_stay_done.Goals as goal
 
 pub returns : goal.returns

@@ -1,4 +1,4 @@
-use Rattle.std.proofs.Common.{length, refl, sym, ap, ◌∙◌, arith, length-append, length-set}
+use Rattle.std.proofs.Common.{length, refl, sym, ap, ◌∙◌, arith, length-append, length-set, ◌+◌, ◌-◌}
 use Rattle.std.proofs.lemmas.List.{map-set}
 use Rattle.mapworld_state.specs.Places.{place_of}
 use Rattle.mapworld_state.specs.Shards.{shard_pairs, number_of}
@@ -9,6 +9,7 @@ use Rattle.mapworld_locks.proofs.Sizes.{same_size}
 use Rattle.mapworld_moves.proofs.Rooms.{shifted}
 use Rattle.mapworld_moves.proofs.Facts.{kept-here, seen-here, kept-phase, claim_at, next_fits, kept-within, kept-shard, deed_counts, stepped-by}
 use Rattle.mapworld_moves.proofs.Keys.{setup-laws, deed-found}
+use Rattle.mapworld_moves.proofs.Walking.{next-free, walking, plain-visits, plain-lists}
 use Rattle.mapworld_moves.proofs.Slots.{calls-counted, slots-alone_free}
 use Rattle.mapworld_moves.proofs.Weights.{pairs_put}
 use Rattle.mapworld_deeds.proofs.deeds.append.Goals as goal
@@ -95,15 +96,16 @@ returns-clause-slots g c =
     let p' = record p { phase = c.replace.new.dest } in
     let blocks = c.count_in.new.blocks.items in
     let kept = slots-alone_free _ _ core c.requires.sound c.requires.slots c.args.step.thread p p' (kept-here c.args.core.now.places.items c.requires.before.2 p c.index_mut-place.ensures.value)
-    blocks (calls-counted core.blocks.items blocks p.block p.next c.count_in.ensures.counted)
-    claim.1.alone c.index_mut-shard.result.now c.add_pair-slot.new.shard table.0 c.add_pair-slot.ensures.hashed claim.1.guard (ap phase_key c.replace.ensures.after) in
-    record { hashed = kept.hashed; found = kept.found }
+    blocks (calls-counted c.args.step.thread core.blocks.items blocks p.block p.next c.count_in.ensures.counted)
+    claim.1.alone c.index_mut-shard.result.now c.add_pair-slot.new.shard table.0 c.add_pair-slot.ensures.hashed claim.1.guard (ap phase_key c.replace.ensures.after) (next-free _ _ _ _ _ (ap walking c.replace.ensures.after)) in
+    record { hashed = kept.hashed; found = kept.found; next = kept.next }
 
 pub returns-clause-room : goal.returns-clause-room
 returns-clause-room g c =
     let core = c.args.core.now in
     let w = state_of core in
     let p = c.index_mut-place.result.now in
+    let here = kept-here core.places.items c.requires.before.2 p c.index_mut-place.ensures.value in
     let seen = seen-here c.args.core.now.places.items c.requires.before.2 p c.index_mut-place.ensures.value in
     let before = sym c.replace.ensures.value ∙ c.in-Append.is in
     let claim = claim_at c.requires.sound c.args.step.thread (place_of p) seen before in
@@ -111,10 +113,12 @@ returns-clause-room g c =
     let change = pairs_put core.tables.items p.shard c.index_mut-shard.result.now c.add_pair-slot.new.shard table.0 in
     let absent = deed-found _ w c.requires.sound c.args.step.thread (place_of p) (setup-laws g.D.Deed g.S.BuildHasher g.S.Hasher.Hasher g.K.PartialEq.eq g.K.Hash.hash_input w g.met.K.Eq.laws g.met.K.Hash.respects_eq)
     c.in-Append.key _ claim.1 (shard_pairs c.index_mut-shard.result.now) (view-at shard_pairs core.tables.items p.shard c.index_mut-shard.result.now table.0) in
+    let more = length core.tables.items - (p.shard + 1) in
     let p' = record p { phase = c.replace.new.dest } in
-    shifted _ _ c.args.step.thread (place_of p) (place_of p') c.requires.room (record {
-      here = seen;
-      places = map-set place_of core.places.items c.args.step.thread p';
+    let plain = ap walking c.replace.ensures.after in
+    shifted _ _ c.args.step.thread p p' c.requires.room (record {
+      here = here;
+      places = refl;
       numbers = c.requires.numbers;
       steps = simp length-append at (ap length c.appended-core.ensures);
       count = refl;
@@ -125,8 +129,11 @@ returns-clause-room g c =
       unanswered = omega (arith, ap owes c.replace.ensures.after, ap owes before);
       answers = omega (arith, ap owes c.replace.ensures.after, ap owes before);
       replies = refl;
-      listing = omega (arith, ap lists c.replace.ensures.after, ap lists before, c.count_in.ensures.len);
+      listing = omega (arith, ap (lists more) c.replace.ensures.after, ap (lists more) before, c.count_in.ensures.len);
       blocks = c.count_in.ensures.capacity;
+      visits = plain-visits (place_of p) (place_of p') refl plain;
+      capacity = refl;
+      lists = let due = plain-lists (place_of p) (place_of p') refl plain in omega (arith, due);
       adding = omega (arith, ap adds c.replace.ensures.after, ap adds before);
       pairs = omega (arith, c.requires.room.pairs, change, c.add_pair-slot.ensures.puts.counted, ap number_of absent);
       more_blocks = omega (arith, c.count_in.ensures.len);

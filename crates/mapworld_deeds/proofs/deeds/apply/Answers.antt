@@ -1,4 +1,4 @@
-use Rattle.std.proofs.Common.{length, Some, refl, sym, ap, ◌∙◌, arith, length-append, length-set}
+use Rattle.std.proofs.Common.{length, Some, refl, sym, ap, ◌∙◌, arith, length-append, length-set, ◌+◌, ◌-◌}
 use Rattle.std.proofs.lemmas.Option.{slice_get_within}
 use Rattle.std.proofs.lemmas.List.{map-set}
 use Rattle.dashmap_table.specs.Slots.{pair_of as entry_pair}
@@ -13,6 +13,7 @@ use Rattle.mapworld_locks.proofs.Sizes.{same_size}
 use Rattle.mapworld_moves.proofs.Rooms.{shifted}
 use Rattle.mapworld_moves.proofs.Facts.{kept-here, seen-here, kept-phase, claim_at, next_fits, deed_counts, stepped-by}
 use Rattle.mapworld_moves.proofs.Leaving.{at-some, stands-in, keyed-keeps, gone-number}
+use Rattle.mapworld_moves.proofs.Walking.{next-free, walking, plain-visits, plain-lists}
 use Rattle.mapworld_moves.proofs.Slots.{calls-counted, call-slot, slots-alone_free}
 use Rattle.mapworld_moves.proofs.Slotted.{hashes-alike, hashes-left, puts-left}
 use Rattle.mapworld_moves.proofs.Weights.{pairs_put, pairs_at}
@@ -135,9 +136,9 @@ returns-clause-slots g c =
     (hashes-alike g.S.BuildHasher g.S.Hasher.Hasher g.K.Hash.hash_input core.hasher g.K.PartialEq.eq g.met.K.Hash.respects_eq) left keeps leaves (c.requires.slots.hashed p.shard c.index_mut-shard.result.now there.held) in
     let blocks = c.count_in.new.blocks.items in
     let kept = slots-alone_free _ _ core c.requires.sound c.requires.slots c.args.step.thread p (record p { phase = c.enter.new.phase }) here
-    blocks (calls-counted core.blocks.items blocks p.block p.next c.count_in.ensures.counted)
-    claim.2.alone c.index_mut-shard.result.now c.apply_at-answer.new.shard there.held hashes claim.2.guard (ap phase_key c.enter.ensures) in
-    record { hashed = kept.hashed; found = kept.found }
+    blocks (calls-counted c.args.step.thread core.blocks.items blocks p.block p.next c.count_in.ensures.counted)
+    claim.2.alone c.index_mut-shard.result.now c.apply_at-answer.new.shard there.held hashes claim.2.guard (ap phase_key c.enter.ensures) (next-free _ _ _ _ _ (ap walking c.enter.ensures)) in
+    record { hashed = kept.hashed; found = kept.found; next = kept.next }
 
 pub returns-clause-room : goal.returns-clause-room
 returns-clause-room g c =
@@ -158,10 +159,12 @@ returns-clause-room g c =
     let gone = gone-number left c.apply_at-answer.result.1 (at-some _ _ e there.has.there c.apply_at-answer.ensures.gone) in
     let was = ap number_of there.pair in
     let change = pairs_put core.tables.items p.shard c.index_mut-shard.result.now c.apply_at-answer.new.shard there.held in
+    let more = length core.tables.items - (p.shard + 1) in
     let p' = record p { phase = c.enter.new.phase } in
-    shifted _ _ c.args.step.thread (place_of p) (place_of p') c.requires.room (record {
-      here = seen;
-      places = map-set place_of core.places.items c.args.step.thread p';
+    let plain = ap walking c.enter.ensures in
+    shifted _ _ c.args.step.thread p p' c.requires.room (record {
+      here = here;
+      places = refl;
       numbers = c.requires.numbers;
       steps = simp length-append at (ap length c.appended-core.ensures);
       count = refl;
@@ -172,8 +175,11 @@ returns-clause-room g c =
       unanswered = omega (arith, ap owes c.enter.ensures, ap owes before);
       answers = omega (arith, ap owes c.enter.ensures, ap owes before);
       replies = refl;
-      listing = omega (arith, ap lists c.enter.ensures, ap lists before, c.count_in.ensures.len);
+      listing = omega (arith, ap (lists more) c.enter.ensures, ap (lists more) before, c.count_in.ensures.len);
       blocks = c.count_in.ensures.capacity;
+      visits = plain-visits (place_of p) (place_of p') refl plain;
+      capacity = refl;
+      lists = let due = plain-lists (place_of p) (place_of p') refl plain in omega (arith, due);
       adding = omega (arith, ap adds c.enter.ensures, ap adds before, c.less_one-core.ensures);
       pairs = omega (arith, c.requires.room.pairs, change, puts.counted, gone, was, c.less_one-core.ensures);
       more_blocks = omega (arith, c.count_in.ensures.len);

@@ -1,4 +1,4 @@
-use Rattle.std.proofs.Common.{◌≡◌, true, if◌then◌else◌, length, None, is_some, refl, sym, ap, ap₂, ◌∙◌, subst, arith, length-append, length-set}
+use Rattle.std.proofs.Common.{◌≡◌, true, if◌then◌else◌, length, None, is_some, refl, sym, ap, ap₂, ◌∙◌, subst, arith, length-append, length-set, ◌+◌, ◌-◌}
 use Rattle.std.proofs.lemmas.Option.{slice_get_within}
 use Rattle.std.proofs.lemmas.List.{map-set}
 use Rattle.dashmap_table.specs.Slots.{pair_of as entry_pair}
@@ -17,6 +17,7 @@ use Rattle.mapworld_moves.proofs.Rooms.{shifted}
 use Rattle.mapworld_moves.proofs.Facts.{kept-here, seen-here, kept-phase, claim_at, next_fits, session_counts, way_is, stepped-by}
 use Rattle.mapworld_moves.proofs.Keys.{guards}
 use Rattle.mapworld_moves.proofs.Leaving.{at-some, some-at, stands-in, held-keeps, held-gone, held-stays, handed-equal, changed-free, gone-number}
+use Rattle.mapworld_moves.proofs.Walking.{plain-visits, plain-lists}
 use Rattle.mapworld_moves.proofs.Slots.{calls-counted, guard-slot, slots-alone_lent}
 use Rattle.mapworld_moves.proofs.Slotted.{hashes-alike, hashes-left, puts-left, key-kept}
 use Rattle.mapworld_moves.proofs.Weights.{pairs_put, pairs_at, changed_weighs}
@@ -196,14 +197,15 @@ returns-clause-slots g c =
     (hashes-alike g.S.BuildHasher g.S.Hasher.Hasher g.K.Hash.hash_input core.hasher g.K.PartialEq.eq g.met.K.Hash.respects_eq) left keeps leaves (c.requires.slots.hashed p.shard c.index_mut-shard.result.now there.held) in
     let blocks = c.count_in.new.blocks.items in
     let kept = slots-alone_lent _ _ core c.requires.sound c.requires.slots c.args.step.thread p (record p { guard = c.change_at-answer.result.1; phase = c.enter.new.phase }) here
-    blocks (calls-counted core.blocks.items blocks p.block p.next c.count_in.ensures.counted)
+    blocks (calls-counted c.args.step.thread core.blocks.items blocks p.block p.next c.count_in.ensures.counted)
     claim.4 c.index_mut-shard.result.now c.change_at-answer.new.shard there.held hashes (λ kind e. ap (λ o. is_some (lent_way o)) mine) (λ i e. e)
     (changed-free c.enter.new.phase c.ends_guard-ends.result c.change_at-answer.result.0 (c.enter.ensures ∙ c.changed_phase.ensures)) refl refl
     (λ kind lends.
     let stays = held-stays deeds c.in-Change.call c.in-Some.way change kind (sym (ap lent_way c.change_at-answer.ensures.guard) ∙ lends) (entry_pair e) in
     key-kept g.K.PartialEq.eq g.met.K.Eq.laws c.index_mut-shard.result.now c.change_at-answer.new.shard p.slot own.key there.distinct there.has stays.0 (keeps stays.0 stays.1)
-    (subst (LeavesAt c.index_mut-shard.result.now c.change_at-answer.new.shard p.slot) stays.1 leaves)) in
-    record { hashed = kept.hashed; found = kept.found }
+    (subst (LeavesAt c.index_mut-shard.result.now c.change_at-answer.new.shard p.slot) stays.1 leaves))
+    (changed_weighs c.ends_guard-ends.result c.change_at-answer.result.0 c.enter.new.phase (c.enter.ensures ∙ c.changed_phase.ensures)).3 in
+    record { hashed = kept.hashed; found = kept.found; next = kept.next }
 
 pub returns-clause-room : goal.returns-clause-room
 returns-clause-room g c =
@@ -229,10 +231,12 @@ returns-clause-room g c =
     let was = ap number_of there.pair in
     let change_ = pairs_put core.tables.items p.shard c.index_mut-shard.result.now c.change_at-answer.new.shard there.held in
     let weights = changed_weighs c.ends_guard-ends.result c.change_at-answer.result.0 c.enter.new.phase (c.enter.ensures ∙ c.changed_phase.ensures) in
+    let more = length core.tables.items - (p.shard + 1) in
     let p' = record p { guard = c.change_at-answer.result.1; phase = c.enter.new.phase } in
-    shifted _ _ c.args.step.thread (place_of p) (place_of p') c.requires.room (record {
-      here = seen;
-      places = map-set place_of core.places.items c.args.step.thread p';
+    let plain = weights.3 in
+    shifted _ _ c.args.step.thread p p' c.requires.room (record {
+      here = here;
+      places = refl;
       numbers = c.requires.numbers;
       steps = simp length-append at (ap length c.appended-core.ensures);
       count = refl;
@@ -243,8 +247,11 @@ returns-clause-room g c =
       unanswered = omega (arith, weights.0, ap owes before);
       answers = omega (arith, weights.0, ap owes before);
       replies = refl;
-      listing = omega (arith, weights.1, ap lists before, c.count_in.ensures.len);
+      listing = omega (arith, weights.1 more, ap (lists more) before, c.count_in.ensures.len);
       blocks = c.count_in.ensures.capacity;
+      visits = plain-visits (place_of p) (place_of p') refl plain;
+      capacity = refl;
+      lists = let due = plain-lists (place_of p) (place_of p') refl plain in omega (arith, due);
       adding = omega (arith, weights.2, ap adds before, c.less_one-core.ensures);
       pairs = omega (arith, c.requires.room.pairs, change_, puts.counted, gone, was, c.less_one-core.ensures);
       more_blocks = omega (arith, c.count_in.ensures.len);

@@ -1,4 +1,4 @@
-use Rattle.std.proofs.Common.{◌≡◌, length, None, Some, refl, sym, ap, ◌∙◌, subst, arith, length-append, length-set}
+use Rattle.std.proofs.Common.{◌≡◌, length, None, Some, refl, sym, ap, ◌∙◌, subst, arith, length-append, length-set, ◌+◌, ◌-◌}
 use Rattle.std.proofs.lemmas.List.{map-set}
 use Rattle.mapworld_calls.specs.Pairs.{pair_of}
 use Rattle.mapworld_calls.specs.Calls.{pair_in}
@@ -15,6 +15,7 @@ use Rattle.mapworld_locks.proofs.Sizes.{same_size}
 use Rattle.mapworld_moves.proofs.Rooms.{shifted}
 use Rattle.mapworld_moves.proofs.Facts.{kept-here, seen-here, kept-phase, claim_at, next_fits, kept-within, kept-shard, session_counts, vacant_is, stepped-by}
 use Rattle.mapworld_moves.proofs.Keys.{guards}
+use Rattle.mapworld_moves.proofs.Walking.{walking, plain-visits, plain-lists}
 use Rattle.mapworld_moves.proofs.Slots.{calls-counted, slots-alone_begun}
 use Rattle.mapworld_moves.proofs.Weights.{pairs_put}
 use Rattle.mapworld_deeds.proofs.deeds.fill.Goals as goal
@@ -135,15 +136,16 @@ returns-clause-slots g c =
     let same : c.in-Some.key ≡ own.key = subst (Handed own.key) own.guard_is.0 own.handed in
     let blocks = c.count_in.new.blocks.items in
     let kept = slots-alone_begun _ _ core c.requires.sound c.requires.slots c.args.step.thread p (record p { slot = c.add_pair-place.result; guard = Some (guard.Pair way.Exclusive); phase = c.replace.new.dest }) here
-    blocks (calls-counted core.blocks.items blocks p.block p.next c.count_in.ensures.counted)
+    blocks (calls-counted c.args.step.thread core.blocks.items blocks p.block p.next c.count_in.ensures.counted)
     claim.3 c.index_mut-shard.result.now c.add_pair-place.new.shard there.0 c.add_pair-place.ensures.hashed way.Exclusive refl refl refl own.key own.key_is
-    (subst (HasKeyAt g.K.PartialEq.eq c.add_pair-place.new.shard c.add_pair-place.result) same c.add_pair-place.ensures.there) in
-    record { hashed = kept.hashed; found = kept.found }
+    (subst (HasKeyAt g.K.PartialEq.eq c.add_pair-place.new.shard c.add_pair-place.result) same c.add_pair-place.ensures.there) (ap walking c.replace.ensures.after) in
+    record { hashed = kept.hashed; found = kept.found; next = kept.next }
 
 pub returns-clause-room : goal.returns-clause-room
 returns-clause-room g c =
     let core = c.args.core.now in
     let p = c.index_mut-place.result.now in
+    let here = kept-here core.places.items c.requires.before.1 p c.index_mut-place.ensures.value in
     let seen = seen-here core.places.items c.requires.before.1 p c.index_mut-place.ensures.value in
     let before = sym c.replace.ensures.value ∙ c.in-Fill.is in
     let claim = claim_at c.requires.sound c.args.step.thread (place_of p) seen before in
@@ -153,10 +155,12 @@ returns-clause-room g c =
     let same : c.in-Some.key ≡ own.key = subst (Handed own.key) own.guard_is.0 own.handed in
     let absent : pair_of g.K.PartialEq.eq (shard_pairs c.index_mut-shard.result.now).items c.in-Some.key ≡ None = ap (pair_of g.K.PartialEq.eq (shard_pairs c.index_mut-shard.result.now).items) same ∙ (there.1 ∙ ap pair_in own.guard_is.0) in
     let change = pairs_put core.tables.items p.shard c.index_mut-shard.result.now c.add_pair-place.new.shard there.0 in
+    let more = length core.tables.items - (p.shard + 1) in
     let p' = record p { slot = c.add_pair-place.result; guard = Some (guard.Pair way.Exclusive); phase = c.replace.new.dest } in
-    shifted _ _ c.args.step.thread (place_of p) (place_of p') c.requires.room (record {
-      here = seen;
-      places = map-set place_of core.places.items c.args.step.thread p';
+    let plain = ap walking c.replace.ensures.after in
+    shifted _ _ c.args.step.thread p p' c.requires.room (record {
+      here = here;
+      places = refl;
       numbers = c.requires.numbers;
       steps = simp length-append at (ap length c.appended-core.ensures);
       count = refl;
@@ -167,8 +171,11 @@ returns-clause-room g c =
       unanswered = omega (arith, ap owes c.replace.ensures.after, ap owes before);
       answers = omega (arith, ap owes c.replace.ensures.after, ap owes before);
       replies = refl;
-      listing = omega (arith, ap lists c.replace.ensures.after, ap lists before, c.count_in.ensures.len);
+      listing = omega (arith, ap (lists more) c.replace.ensures.after, ap (lists more) before, c.count_in.ensures.len);
       blocks = c.count_in.ensures.capacity;
+      visits = plain-visits (place_of p) (place_of p') refl plain;
+      capacity = refl;
+      lists = let due = plain-lists (place_of p) (place_of p') refl plain in omega (arith, due);
       adding = omega (arith, ap adds c.replace.ensures.after, ap adds before);
       pairs = omega (arith, c.requires.room.pairs, change, c.add_pair-place.ensures.puts.counted, ap number_of absent);
       more_blocks = omega (arith, c.count_in.ensures.len);

@@ -1,4 +1,4 @@
-use Rattle.std.proofs.Common.{length, is_some, refl, sym, ap, ◌∙◌, arith, length-append}
+use Rattle.std.proofs.Common.{length, is_some, refl, sym, ap, ◌∙◌, arith, length-append, ◌+◌, ◌-◌}
 use Rattle.std.specs.Option.{option_map}
 use Rattle.std.proofs.lemmas.Option.{slice_get_within}
 use Rattle.std.proofs.lemmas.List.{map-set}
@@ -15,6 +15,7 @@ use Rattle.mapworld_moves.proofs.Rooms.{shifted}
 use Rattle.mapworld_moves.proofs.Facts.{kept-here, seen-here, kept-phase, claim_at, next_fits, session_counts, stepped-by}
 use Rattle.mapworld_moves.proofs.Keys.{guards}
 use Rattle.mapworld_moves.proofs.Leaving.{stands-in}
+use Rattle.mapworld_moves.proofs.Walking.{walking, plain-visits, plain-lists}
 use Rattle.mapworld_moves.proofs.Slots.{calls-counted, guard-slot, slots-kept}
 use Rattle.mapworld_deeds.proofs.deeds.read.Goals as goal
 
@@ -100,18 +101,21 @@ returns-clause-slots g c =
     let before = sym c.replace.ensures.value ∙ c.in-Read.is in
     let blocks = c.count_in.new.blocks.items in
     slots-kept _ _ core c.requires.sound c.requires.slots c.args.step.thread p (record p { phase = c.enter.new.phase }) here
-    blocks (calls-counted core.blocks.items blocks p.block p.next c.count_in.ensures.counted) (λ kind e. ap is_some e) (λ i e. e) (ap phase_key c.enter.ensures) refl refl
+    blocks (calls-counted c.args.step.thread core.blocks.items blocks p.block p.next c.count_in.ensures.counted) (λ kind e. ap is_some e) (λ i e. e) (ap phase_key c.enter.ensures) refl refl (ap walking c.enter.ensures)
 
 pub returns-clause-room : goal.returns-clause-room
 returns-clause-room g c =
     let core = c.args.core.now in
     let p = c.index_mut-place.result.now in
+    let here = kept-here core.places.items c.requires.before.1 p c.index_mut-place.ensures.value in
     let seen = seen-here core.places.items c.requires.before.1 p c.index_mut-place.ensures.value in
     let before = sym c.replace.ensures.value ∙ c.in-Read.is in
+    let more = length core.tables.items - (p.shard + 1) in
     let p' = record p { phase = c.enter.new.phase } in
-    shifted _ _ c.args.step.thread (place_of p) (place_of p') c.requires.room (record {
-      here = seen;
-      places = map-set place_of core.places.items c.args.step.thread p';
+    let plain = ap walking c.enter.ensures in
+    shifted _ _ c.args.step.thread p p' c.requires.room (record {
+      here = here;
+      places = refl;
       numbers = c.requires.numbers;
       steps = simp length-append at (ap length c.appended-core.ensures);
       count = refl;
@@ -122,8 +126,11 @@ returns-clause-room g c =
       unanswered = omega (arith, ap owes c.enter.ensures, ap owes before);
       answers = omega (arith, ap owes c.enter.ensures, ap owes before);
       replies = refl;
-      listing = omega (arith, ap lists c.enter.ensures, ap lists before, c.count_in.ensures.len);
+      listing = omega (arith, ap (lists more) c.enter.ensures, ap (lists more) before, c.count_in.ensures.len);
       blocks = c.count_in.ensures.capacity;
+      visits = plain-visits (place_of p) (place_of p') refl plain;
+      capacity = refl;
+      lists = let due = plain-lists (place_of p) (place_of p') refl plain in omega (arith, due);
       adding = omega (arith, ap adds c.enter.ensures, ap adds before);
       pairs = c.requires.room.pairs;
       more_blocks = omega (arith, c.count_in.ensures.len);

@@ -1,4 +1,4 @@
-use Rattle.std.proofs.Common.{◌≡◌, ◌+◌, length, Some, refl, sym, ap, ap₂, ◌∙◌, arith, length-append}
+use Rattle.std.proofs.Common.{◌≡◌, ◌+◌, length, Some, refl, sym, ap, ap₂, ◌∙◌, arith, length-append, ◌-◌}
 use Rattle.std.specs.Option.{option_map}
 use Rattle.std.proofs.lemmas.Option.{slice_get_within, same_Some}
 use Rattle.std.proofs.lemmas.List.{map-set}
@@ -14,6 +14,7 @@ use Rattle.mapworld_locks.proofs.Sizes.{same_size}
 use Rattle.mapworld_moves.proofs.Rooms.{shifted, block_left}
 use Rattle.mapworld_moves.proofs.Facts.{kept-here, seen-here, kept-phase, claim_at, stepped-by}
 use Rattle.mapworld_moves.proofs.Leaving.{stands-in}
+use Rattle.mapworld_moves.proofs.Walking.{next-free, walking, plain-visits, plain-lists}
 use Rattle.mapworld_moves.proofs.Slots.{calls-listed, call-slot, slots-same_free}
 use Rattle.mapworld_moves.proofs.Weights.{one_added, lists_block}
 use Rattle.mapworld_deeds.proofs.deeds.view.Goals as goal
@@ -60,7 +61,7 @@ list_block-requires g c =
     let core = c.args.core.now in
     let p = c.index_mut-place.result.now in
     let seen = seen-here core.places.items c.requires.before.2 p c.index_mut-place.ensures.value in
-    block_left core c.args.step.thread (place_of p) c.requires.room seen (ap lists (kept-phase core.places.items c.requires.before.2 p c.index_mut-place.ensures.value))
+    block_left core c.args.step.thread (place_of p) c.requires.room seen (omega (arith, ap (lists (length core.tables.items - (p.shard + 1))) (kept-phase core.places.items c.requires.before.2 p c.index_mut-place.ensures.value)))
 
 pub returns-clause-step : goal.returns-clause-step
 returns-clause-step g c =
@@ -102,21 +103,24 @@ returns-clause-slots g c =
     let st : Started = record { thread = c.args.step.thread; call = p.next; start = c.in-Some.start } in
     let blocks = c.list_block.new.blocks.items in
     slots-same_free _ _ core c.requires.sound c.requires.slots c.args.step.thread p (record p { block = Some c.len-index.result; phase = c.enter.new.phase }) here
-    blocks (calls-listed core.blocks.items blocks (Some 1) st (core.count + 1) c.list_block.ensures.listed) claim.2.guard (ap phase_key c.enter.ensures)
+    blocks (calls-listed c.args.step.thread core.blocks.items blocks (Some 1) st (core.count + 1) c.list_block.ensures.listed) claim.2.guard (ap phase_key c.enter.ensures) (next-free _ _ _ _ _ (ap walking c.enter.ensures))
 
 pub returns-clause-room : goal.returns-clause-room
 returns-clause-room g c =
     let core = c.args.core.now in
     let p = c.index_mut-place.result.now in
+    let here = kept-here core.places.items c.requires.before.2 p c.index_mut-place.ensures.value in
     let seen = seen-here core.places.items c.requires.before.2 p c.index_mut-place.ensures.value in
     let before = sym c.replace.ensures.value ∙ c.in-View.is in
     let st : Started = record { thread = c.args.step.thread; call = p.next; start = c.in-Some.start } in
     let blocks = c.list_block.new.blocks.items in
     let added : length blocks ≡ length core.blocks.items + 1 = one_added core.blocks.items st (core.count + 1) blocks 1 c.list_block.ensures.listed in
+    let more = length core.tables.items - (p.shard + 1) in
     let p' = record p { block = Some c.len-index.result; phase = c.enter.new.phase } in
-    shifted _ _ c.args.step.thread (place_of p) (place_of p') c.requires.room (record {
-      here = seen;
-      places = map-set place_of core.places.items c.args.step.thread p';
+    let plain = ap walking c.enter.ensures in
+    shifted _ _ c.args.step.thread p p' c.requires.room (record {
+      here = here;
+      places = refl;
       numbers = c.requires.numbers;
       steps = simp length-append at (ap length c.appended-core.ensures);
       count = refl;
@@ -127,8 +131,11 @@ returns-clause-room g c =
       unanswered = omega (arith, ap owes c.enter.ensures, ap owes before);
       answers = omega (arith, ap owes c.enter.ensures, ap owes before);
       replies = refl;
-      listing = omega (arith, added, ap lists c.enter.ensures, ap lists before);
+      listing = omega (arith, added, ap (lists more) c.enter.ensures, ap (lists more) before);
       blocks = c.list_block.ensures.capacity;
+      visits = plain-visits (place_of p) (place_of p') refl plain;
+      capacity = refl;
+      lists = let due = plain-lists (place_of p) (place_of p') refl plain in omega (arith, due);
       adding = omega (arith, ap adds c.enter.ensures, ap adds before);
       pairs = c.requires.room.pairs;
       more_blocks = omega (arith, added);

@@ -2,6 +2,7 @@ use Rattle.std.proofs.Common.{◌+◌, arith}
 use Rattle.mapworld_state.specs.Core.{state_of}
 use Rattle.mapworld_state.specs.Running.{bound_of}
 use Rattle.mapworld_state.specs.World.{setup_of}
+use Rattle.mapworld_progress.specs.Drains.{core_left}
 use Rattle.mapworld_progress.proofs.Bounding.{steps_are_few}
 use Rattle.mapworld_progress.proofs.Draining.{length-by, runs-on, sized}
 use Rattle.mapworld_progress.proofs.Resting.{ends_at_rest}
@@ -13,7 +14,7 @@ pass-more-requires-clause-time g c =
     let w0 = state_of c.args.core.now in
     let w = state_of c.passes.core in
     let x = setup_of g.D.Deed g.S.BuildHasher g.S.Hasher.Hasher g.K.PartialEq.eq g.K.Hash.hash_input w0 in
-    λ t. time-behind w0 w c.passes.made t (length-by x w0 c.passes.made w c.passes.invariant.by) (c.passes.invariant.falls (spare w0) (in-time w0 c.requires.time) t)
+    λ t. time-behind (setup_of g.D.Deed g.S.BuildHasher g.S.Hasher.Hasher g.K.PartialEq.eq g.K.Hash.hash_input w) w0 w c.passes.made t (length-by x w0 c.passes.made w c.passes.invariant.by) (c.passes.invariant.falls (spare w0) (in-time (setup_of g.D.Deed g.S.BuildHasher g.S.Hasher.Hasher g.K.PartialEq.eq g.K.Hash.hash_input w0) w0 c.requires.time) t)
 
 pub passes-preserved : goal.passes-preserved
 passes-preserved g c =
@@ -22,7 +23,7 @@ passes-preserved g c =
     let w' = state_of c.pass-more.new.core in
     record {
       by = runs-on g.D.Deed g.S.BuildHasher g.S.Hasher.Hasher g.K.PartialEq.eq g.K.Hash.hash_input w0 w w' c.passes.made c.pass-more.result c.passes.invariant.by c.pass-more.ensures.ran;
-      falls = λ most few. falls-on w w' c.passes.made c.pass-more.result most (c.passes.invariant.falls most few) c.pass-more.ensures.falls;
+      falls = λ most few. falls-on (core_left g.D.Deed g.S.BuildHasher g.S.Hasher.Hasher g.K.PartialEq.eq g.K.Hash.hash_input c.passes.core) (core_left g.D.Deed g.S.BuildHasher g.S.Hasher.Hasher g.K.PartialEq.eq g.K.Hash.hash_input c.pass-more.new.core) c.passes.made c.pass-more.result most (c.passes.invariant.falls most few) c.pass-more.ensures.falls;
       sound = c.pass-more.ensures.sound;
       room = c.pass-more.ensures.room;
       slots = c.pass-more.ensures.slots;
@@ -33,7 +34,7 @@ overflow_add-made g c =
     let w0 = state_of c.args.core.now in
     let w = state_of c.passes.core in
     let w' = state_of c.pass-more.new.core in
-    let low = falls-on w w' c.passes.made c.pass-more.result (spare w0) (c.passes.invariant.falls (spare w0) (in-time w0 c.requires.time)) c.pass-more.ensures.falls 0 in
+    let low = falls-on (core_left g.D.Deed g.S.BuildHasher g.S.Hasher.Hasher g.K.PartialEq.eq g.K.Hash.hash_input c.passes.core) (core_left g.D.Deed g.S.BuildHasher g.S.Hasher.Hasher g.K.PartialEq.eq g.K.Hash.hash_input c.pass-more.new.core) c.passes.made c.pass-more.result (spare w0) (c.passes.invariant.falls (spare w0) (in-time (setup_of g.D.Deed g.S.BuildHasher g.S.Hasher.Hasher g.K.PartialEq.eq g.K.Hash.hash_input w0) w0 c.requires.time)) c.pass-more.ensures.falls 0 in
     omega (arith, few-made w0 (c.passes.made + c.pass-more.result) (omega (arith, low)))
 
 pub passes-smaller : goal.passes-smaller
@@ -41,8 +42,8 @@ passes-smaller g c =
     let w0 = state_of c.args.core.now in
     let w = state_of c.passes.core in
     let w' = state_of c.pass-more.new.core in
-    let few = steps_are_few c.steps_are_few.ensures w0 (sized c.args.core.now c.requires.room) c.known.ensures in
-    let low = falls-on w w' c.passes.made c.pass-more.result (bound_of w0) (c.passes.invariant.falls (bound_of w0) (λ u. omega (arith, few.most u, few.bounded))) c.pass-more.ensures.falls 0 in
+    let few = steps_are_few c.steps_are_few.ensures (setup_of g.D.Deed g.S.BuildHasher g.S.Hasher.Hasher g.K.PartialEq.eq g.K.Hash.hash_input w0) w0 (sized c.args.core.now c.requires.room) c.known.ensures in
+    let low = falls-on (core_left g.D.Deed g.S.BuildHasher g.S.Hasher.Hasher g.K.PartialEq.eq g.K.Hash.hash_input c.passes.core) (core_left g.D.Deed g.S.BuildHasher g.S.Hasher.Hasher g.K.PartialEq.eq g.K.Hash.hash_input c.pass-more.new.core) c.passes.made c.pass-more.result (bound_of w0) (c.passes.invariant.falls (bound_of w0) (λ u. omega (arith, few.most u, few.bounded))) c.pass-more.ensures.falls 0 in
     omega (arith, low, c.if-more-eq0.false)
 
 pub returns-clause-few : goal.returns-clause-few
@@ -50,8 +51,8 @@ returns-clause-few g c =
     let w0 = state_of c.args.core.now in
     let w = state_of c.passes.core in
     let w' = state_of c.pass-more.new.core in
-    let few = steps_are_few c.steps_are_few.ensures w0 (sized c.args.core.now c.requires.room) c.known.ensures in
-    let low = falls-on w w' c.passes.made c.pass-more.result (bound_of w0) (c.passes.invariant.falls (bound_of w0) (λ u. omega (arith, few.most u, few.bounded))) c.pass-more.ensures.falls 0 in
+    let few = steps_are_few c.steps_are_few.ensures (setup_of g.D.Deed g.S.BuildHasher g.S.Hasher.Hasher g.K.PartialEq.eq g.K.Hash.hash_input w0) w0 (sized c.args.core.now c.requires.room) c.known.ensures in
+    let low = falls-on (core_left g.D.Deed g.S.BuildHasher g.S.Hasher.Hasher g.K.PartialEq.eq g.K.Hash.hash_input c.passes.core) (core_left g.D.Deed g.S.BuildHasher g.S.Hasher.Hasher g.K.PartialEq.eq g.K.Hash.hash_input c.pass-more.new.core) c.passes.made c.pass-more.result (bound_of w0) (c.passes.invariant.falls (bound_of w0) (λ u. omega (arith, few.most u, few.bounded))) c.pass-more.ensures.falls 0 in
     omega (arith, low)
 
 pub returns-clause-ran : goal.returns-clause-ran
@@ -73,5 +74,5 @@ returns-clause-time g c =
     let w = state_of c.passes.core in
     let w' = state_of c.pass-more.new.core in
     let by = runs-on g.D.Deed g.S.BuildHasher g.S.Hasher.Hasher g.K.PartialEq.eq g.K.Hash.hash_input w0 w w' c.passes.made c.pass-more.result c.passes.invariant.by c.pass-more.ensures.ran in
-    λ t. time-behind w0 w' (c.passes.made + c.pass-more.result) t (length-by (setup_of g.D.Deed g.S.BuildHasher g.S.Hasher.Hasher g.K.PartialEq.eq g.K.Hash.hash_input w0) w0 (c.passes.made + c.pass-more.result) w' by)
-    (falls-on w w' c.passes.made c.pass-more.result (spare w0) (c.passes.invariant.falls (spare w0) (in-time w0 c.requires.time)) c.pass-more.ensures.falls t)
+    λ t. time-behind (setup_of g.D.Deed g.S.BuildHasher g.S.Hasher.Hasher g.K.PartialEq.eq g.K.Hash.hash_input w') w0 w' (c.passes.made + c.pass-more.result) t (length-by (setup_of g.D.Deed g.S.BuildHasher g.S.Hasher.Hasher g.K.PartialEq.eq g.K.Hash.hash_input w0) w0 (c.passes.made + c.pass-more.result) w' by)
+    (falls-on (core_left g.D.Deed g.S.BuildHasher g.S.Hasher.Hasher g.K.PartialEq.eq g.K.Hash.hash_input c.passes.core) (core_left g.D.Deed g.S.BuildHasher g.S.Hasher.Hasher g.K.PartialEq.eq g.K.Hash.hash_input c.pass-more.new.core) c.passes.made c.pass-more.result (spare w0) (c.passes.invariant.falls (spare w0) (in-time (setup_of g.D.Deed g.S.BuildHasher g.S.Hasher.Hasher g.K.PartialEq.eq g.K.Hash.hash_input w0) w0 c.requires.time)) c.pass-more.ensures.falls t)

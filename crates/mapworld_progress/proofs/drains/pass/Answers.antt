@@ -13,7 +13,8 @@ step_on-made-requires-clause-time g c =
     let w0 = state_of c.args.core.now in
     let w = state_of c.loop-thread.core in
     let x = setup_of g.D.Deed g.S.BuildHasher g.S.Hasher.Hasher g.K.PartialEq.eq g.K.Hash.hash_input w0 in
-    time-behind w0 w c.loop-thread.made c.loop-thread.thread (length-by x w0 c.loop-thread.made w c.loop-thread.invariant.by) (c.loop-thread.invariant.falls (spare w0) (in-time w0 c.requires.time) c.loop-thread.thread)
+    let y = setup_of g.D.Deed g.S.BuildHasher g.S.Hasher.Hasher g.K.PartialEq.eq g.K.Hash.hash_input w in
+    time-behind y w0 w c.loop-thread.made c.loop-thread.thread (length-by x w0 c.loop-thread.made w c.loop-thread.invariant.by) (c.loop-thread.invariant.falls (spare w0) (in-time x w0 c.requires.time) c.loop-thread.thread)
 
 pub loop-thread-preserved : goal.loop-thread-preserved
 loop-thread-preserved g c =
@@ -40,9 +41,10 @@ loop-thread-preserved g c =
 pub overflow_add-made : goal.overflow_add-made
 overflow_add-made g c =
     let w0 = state_of c.args.core.now in
+    let x = setup_of g.D.Deed g.S.BuildHasher g.S.Hasher.Hasher g.K.PartialEq.eq g.K.Hash.hash_input w0 in
     omega (
       arith,
-      few-made w0 (c.loop-thread.made + c.step_on-made.result) (omega (arith, c.loop-thread.invariant.falls (spare w0) (in-time w0 c.requires.time) c.loop-thread.thread, c.step_on-made.ensures.falls)),
+      few-made w0 (c.loop-thread.made + c.step_on-made.result) (omega (arith, c.loop-thread.invariant.falls (spare w0) (in-time x w0 c.requires.time) c.loop-thread.thread, c.step_on-made.ensures.falls)),
     )
 
 pub returns-clause-stops : goal.returns-clause-stops

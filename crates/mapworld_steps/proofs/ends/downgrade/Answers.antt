@@ -1,4 +1,4 @@
-use Rattle.std.proofs.Common.{◌≡◌, [], ◌∷◌, is_some, length, Some, refl, ap, ◌∙◌, arith, length-append}
+use Rattle.std.proofs.Common.{◌≡◌, [], ◌∷◌, is_some, length, Some, refl, ap, ◌∙◌, arith, length-append, ◌-◌, ◌+◌}
 use Rattle.std.proofs.lemmas.Option.{slice_get_within}
 use Rattle.parking_lot_world.specs.declared.calls.LockCall.TheVariants as call
 use Rattle.mapworld_state.specs.declared.place.Phase.TheVariants as phase
@@ -10,6 +10,7 @@ use Rattle.std.proofs.lemmas.List.{map-set}
 use Rattle.mapworld_state.specs.Moves.{lent_way}
 use Rattle.mapworld_state.specs.Slots.{phase_key}
 use Rattle.mapworld_state.proofs.HoldsTable.{first-there, only-first}
+use Rattle.mapworld_moves.proofs.Walking.{walking, plain-visits, plain-lists}
 use Rattle.mapworld_moves.proofs.Slots.{calls-counted, slots-kept}
 use Rattle.mapworld_state.specs.Core.{owes, lists, adds}
 use Rattle.mapworld_locks.proofs.Sizes.{starts-size}
@@ -102,10 +103,12 @@ returns-clause-room g c =
     let more = c.share_first-hold.ensures.0 in
     let none : more ≡ [] = (only_hold p.holds hold claim.2.hold more c.share_first-hold.ensures.1 claim.2.has).1 in
     let now = c.share_first-hold.ensures.2 ∙ ap (λ hs. shared ∷ hs) none in
-    let after = record p { holds = c.share_first-hold.new.holds.items; guard = Some (guard.Pair way.Shared); phase = c.enter.new.phase } in
-    shifted _ _ c.args.step.thread p after c.requires.room (record {
-      here = here;
-      places = map-set place_of c.args.core.now.places.items c.args.step.thread _;
+    let after = record r { holds = c.share_first-hold.new.holds; guard = Some (guard.Pair way.Shared); phase = c.enter.new.phase } in
+    let shards = length c.args.core.now.tables.items - (p.shard + 1) in
+    let plain = ap walking c.enter.ensures in
+    shifted _ _ c.args.step.thread r after c.requires.room (record {
+      here = kept_here c.args.core.now.places.items b r c.index_mut-place.ensures.value;
+      places = refl;
       numbers = c.requires.numbers;
       steps = simp length-append at (ap length c.appended-core.ensures);
       count = refl;
@@ -116,8 +119,11 @@ returns-clause-room g c =
       unanswered = omega (arith, ap owes c.enter.ensures, ap owes before);
       answers = omega (arith, ap owes c.enter.ensures, ap owes before);
       replies = refl;
-      listing = omega (arith, ap lists c.enter.ensures, ap lists before, c.count_in.ensures.len);
+      listing = omega (arith, ap (lists shards) c.enter.ensures, ap (lists shards) before, c.count_in.ensures.len);
       blocks = c.count_in.ensures.capacity;
+      visits = plain-visits p (place_of after) refl plain;
+      capacity = refl;
+      lists = let due = plain-lists p (place_of after) refl plain in omega (arith, due);
       adding = omega (arith, ap adds c.enter.ensures, ap adds before);
       pairs = c.requires.room.pairs;
       more_blocks = omega (arith, c.count_in.ensures.len);
@@ -132,4 +138,4 @@ returns-clause-slots g c =
     let here = stands_here c.args.core.now.places.items b r c.index_mut-place.ensures.value in
     let claim = claim_at c.requires.sound c.args.step.thread p here (phase_here c.args.core.now.places.items b r c.index_mut-place.ensures.value) in
     slots-kept _ _ c.args.core.now c.requires.sound c.requires.slots c.args.step.thread r _ (kept_here c.args.core.now.places.items b r c.index_mut-place.ensures.value) _
-    (calls-counted _ _ _ _ c.count_in.ensures.counted) (λ kind lends. ap (λ g. is_some (lent_way g)) claim.1) (λ i e. e) (ap phase_key c.enter.ensures) refl refl
+    (calls-counted c.args.step.thread _ _ _ _ c.count_in.ensures.counted) (λ kind lends. ap (λ g. is_some (lent_way g)) claim.1) (λ i e. e) (ap phase_key c.enter.ensures) refl refl (ap walking c.enter.ensures)

@@ -1,4 +1,4 @@
-use Rattle.std.proofs.Common.{◌≡◌, [], length, None, refl, sym, ap, ◌∙◌, arith, length-append}
+use Rattle.std.proofs.Common.{◌≡◌, [], length, None, refl, sym, ap, ◌∙◌, arith, length-append, ◌-◌, ◌+◌}
 use Rattle.std.proofs.lemmas.Option.{none-some, slice_get_within}
 use Rattle.mapworld_state.specs.declared.place.Phase.TheVariants as phase
 use Rattle.mapworld_state.specs.Places.{place_of}
@@ -7,6 +7,7 @@ use Rattle.mapworld_state.proofs.HoldsTable.{first-there, none-there}
 use Rattle.std.proofs.lemmas.List.{map-set}
 use Rattle.mapworld_state.specs.Slots.{phase_key}
 use Rattle.mapworld_locks.proofs.Sizes.{starts-size}
+use Rattle.mapworld_moves.proofs.Walking.{walking, plain-visits, plain-lists}
 use Rattle.mapworld_moves.proofs.Rooms.{shifted}
 use Rattle.mapworld_moves.proofs.Facts.{claim_at, next_fits, release_listed, stepped-by}
 use Rattle.mapworld_moves.proofs.Slots.{calls-counted, slots-kept}
@@ -97,10 +98,12 @@ returns-clause-room g c =
     let hold = c.take_first-hold.result in
     let more = c.take_first-hold.new.holds.items in
     let none : more ≡ [] = (only_hold p.holds hold claim.1 more c.take_first-hold.ensures claim.3).1 in
-    let after = record p { holds = more; guard = None; phase = c.enter.new.phase } in
-    shifted _ _ c.args.step.thread p after c.requires.room (record {
-      here = here;
-      places = map-set place_of c.args.core.now.places.items c.args.step.thread _;
+    let after = record r { holds = c.take_first-hold.new.holds; guard = None; phase = c.enter.new.phase } in
+    let shards = length c.args.core.now.tables.items - (p.shard + 1) in
+    let plain = ap walking c.enter.ensures in
+    shifted _ _ c.args.step.thread r after c.requires.room (record {
+      here = kept_here c.args.core.now.places.items b r c.index_mut-place.ensures.value;
+      places = refl;
       numbers = c.requires.numbers;
       steps = simp length-append at (ap length c.appended-core.ensures);
       count = refl;
@@ -111,8 +114,11 @@ returns-clause-room g c =
       unanswered = omega (arith, ap owes c.enter.ensures, ap owes before);
       answers = omega (arith, ap owes c.enter.ensures, ap owes before);
       replies = refl;
-      listing = omega (arith, ap lists c.enter.ensures, ap lists before, c.count_in.ensures.len);
+      listing = omega (arith, ap (lists shards) c.enter.ensures, ap (lists shards) before, c.count_in.ensures.len);
       blocks = c.count_in.ensures.capacity;
+      visits = plain-visits p (place_of after) refl plain;
+      capacity = refl;
+      lists = let due = plain-lists p (place_of after) refl plain in omega (arith, due);
       adding = omega (arith, ap adds c.enter.ensures, ap adds before);
       pairs = c.requires.room.pairs;
       more_blocks = omega (arith, c.count_in.ensures.len);
@@ -123,4 +129,4 @@ pub returns-clause-slots : goal.returns-clause-slots
 returns-clause-slots g c =
     let r = c.index_mut-place.result.now in
     slots-kept _ _ c.args.core.now c.requires.sound c.requires.slots c.args.step.thread r _ (kept_here c.args.core.now.places.items c.requires.before.1 r c.index_mut-place.ensures.value) _
-    (calls-counted _ _ _ _ c.count_in.ensures.counted) (λ kind lends. absurd (none-some kind lends)) (λ i e. e) (ap phase_key c.enter.ensures) refl refl
+    (calls-counted c.args.step.thread _ _ _ _ c.count_in.ensures.counted) (λ kind lends. absurd (none-some kind lends)) (λ i e. e) (ap phase_key c.enter.ensures) refl refl (ap walking c.enter.ensures)

@@ -1,4 +1,4 @@
-use Rattle.std.proofs.Common.{ℕ, ◌+◌, length, Option, IfSome, is_some, refl, sym, ap, ap₂, ◌∙◌, subst, arith, length-append}
+use Rattle.std.proofs.Common.{ℕ, ◌+◌, length, Option, IfSome, is_some, refl, sym, ap, ap₂, ◌∙◌, subst, arith, length-append, ◌-◌}
 use Rattle.mapworld_state.specs.Core.{state_of, owes, lists, adds}
 use Rattle.mapworld_moves.specs.Listing.{AddsBlock}
 use Rattle.mapworld_moves.specs.declared.blocks.Started.{Started}
@@ -10,6 +10,7 @@ use Rattle.mapworld_state.specs.Slots.{HasKeyAt}
 use Rattle.mapworld_state.specs.World.{setup_of}
 use Rattle.mapworld_state.proofs.Views.{view-at}
 use Rattle.std.proofs.lemmas.List.{map-set, length-map}
+use Rattle.mapworld_moves.proofs.Walking.{next-free, plain-visits, plain-lists}
 use Rattle.mapworld_moves.proofs.Slots.{calls-listed, slots-same}
 use Rattle.mapworld_moves.proofs.Rooms.{shifted, block_left}
 use Rattle.mapworld_locks.proofs.Sizes.{same_size}
@@ -51,7 +52,7 @@ list_block-requires g c =
     let r = c.index_mut-place.result.now in
     let p = place_of r in
     let here = stands_here c.args.core.now.places.items b r c.index_mut-place.ensures.value in
-    block_left c.args.core.now c.args.step.thread p c.requires.room here (ap lists (phase_here c.args.core.now.places.items b r c.index_mut-place.ensures.value))
+    block_left c.args.core.now c.args.step.thread p c.requires.room here (omega (arith, ap (lists (length c.args.core.now.tables.items - (p.shard + 1))) (phase_here c.args.core.now.places.items b r c.index_mut-place.ensures.value)))
 
 pub find_pair-slot-requires : goal.find_pair-slot-requires
 find_pair-slot-requires g c =
@@ -103,6 +104,7 @@ returns-clause-room g c =
     let there = c.is_some-present.result in
     let room = c.has_room-room.result in
     let entered = c.enter.ensures ∙ ap (λ z. z.0) c.found-phase.ensures in
+    let more = length c.args.core.now.tables.items - (p.shard + 1) in
     let weights = found_weighs c.in-Find.request there room c.enter.new.phase entered in
     let st : Started = record { thread = c.args.step.thread; call = p.next; start = c.in-Some.start } in
     let at = c.args.core.now.count + 1 in
@@ -110,10 +112,12 @@ returns-clause-room g c =
     let bs' = c.list_block.new.blocks.items in
     let listed : AddsBlock bs c.found_done-done.result st at bs' = c.list_block.ensures.listed in
     let added = subst (λ (o : Option ℕ). AddsBlock bs o st at bs') c.found_done-done.ensures listed in
-    let listing = found_lists bs st at bs' c.in-Find.request there room c.enter.new.phase entered added in
-    shifted _ _ c.args.step.thread p (record p { block = c.block_behind-place.result; guard = c.found-phase.result.1; phase = c.enter.new.phase }) c.requires.room (record {
-      here = here;
-      places = map-set place_of c.args.core.now.places.items c.args.step.thread _;
+    let listing = found_lists bs st at bs' more c.in-Find.request there room c.enter.new.phase entered added in
+    let after = record r { block = c.block_behind-place.result; slot = c.unwrap_or-place.result; guard = c.found-phase.result.1; phase = c.enter.new.phase } in
+    let plain = weights.2 in
+    shifted _ _ c.args.step.thread r after c.requires.room (record {
+      here = kept_here c.args.core.now.places.items b r c.index_mut-place.ensures.value;
+      places = refl;
       numbers = c.requires.numbers;
       steps = simp length-append at (ap length c.appended-core.ensures);
       count = refl;
@@ -124,8 +128,11 @@ returns-clause-room g c =
       unanswered = omega (arith, weights.0, ap owes before);
       answers = omega (arith, weights.0, ap owes before);
       replies = refl;
-      listing = omega (arith, listing, ap lists before);
+      listing = omega (arith, listing, ap (lists more) before);
       blocks = c.list_block.ensures.capacity;
+      visits = plain-visits p (place_of after) refl plain;
+      capacity = refl;
+      lists = let due = plain-lists p (place_of after) refl plain in omega (arith, due);
       adding = omega (arith, weights.1, ap adds before);
       pairs = c.requires.room.pairs;
       more_blocks = none_lost bs st at bs' c.found_done-done.result listed;
@@ -150,7 +157,7 @@ returns-clause-slots g c =
     let added = subst (λ (o : Option ℕ). AddsBlock bs o st (core.count + 1) bs') c.found_done-done.ensures c.list_block.ensures.listed in
     let x = setup_of g.D.Deed g.S.BuildHasher g.S.Hasher.Hasher g.K.PartialEq.eq g.K.Hash.hash_input (state_of core) in
     slots-same _ _ core c.requires.sound c.requires.slots c.args.step.thread r _ (kept_here core.places.items b r c.index_mut-place.ensures.value) _
-    (calls-listed bs bs' _ _ _ c.list_block.ensures.listed) (λ key is.
+    (calls-listed c.args.step.thread bs bs' _ _ _ c.list_block.ensures.listed) (λ key is.
     let found = found-key x bs bs' c.len-index.result p.block st (core.count + 1) (c.len-index.ensures ∙ core.blocks.ok.0) (record p { block = c.block_behind-place.result; guard = c.found-phase.result.1; phase = c.enter.new.phase }) c.in-Find.request there room added claim.0.asked
     (c.block_behind-place.ensures ∙ ap (λ o. block_behind o c.len-index.result p.block) c.found_done-done.ensures)
     (ap (λ z. z.1) c.found-phase.ensures) (c.enter.ensures ∙ ap (λ z. z.0) c.found-phase.ensures) key is in
@@ -161,3 +168,4 @@ returns-clause-slots g c =
           (of-found c.find_pair-slot.result r.slot (λ i. HasKeyAt g.K.PartialEq.eq c.index-shard.result.now i key) (sym c.is_some-present.ensures ∙ found.0)
           (subst (λ k. IfSome c.find_pair-slot.result (λ i. HasKeyAt g.K.PartialEq.eq c.index-shard.result.now i k)) (c.request_key.ensures ∙ found.1) c.find_pair-slot.ensures.there));
     })
+    (next-free _ _ _ _ _ (found_weighs c.in-Find.request there room c.enter.new.phase (c.enter.ensures ∙ ap (λ z. z.0) c.found-phase.ensures)).2)

@@ -1,4 +1,4 @@
-use Rattle.std.proofs.Common.{[], ◌∷◌, ◌++◌, length, slice_set, refl, sym, ap, ap₂, ◌∙◌, subst, arith}
+use Rattle.std.proofs.Common.{Some, ◌+◌, ◌-◌, [], ◌∷◌, ◌++◌, length, slice_set, refl, sym, ap, ap₂, ◌∙◌, subst, arith}
 use Rattle.std.proofs.lemmas.Option.{none-some, same_Some}
 use Rattle.std.proofs.lemmas.List.{map-set, length-map}
 use Rattle.mapworld_calls.proofs.Lists.{slice_get-set_same}
@@ -20,8 +20,10 @@ use Rattle.mapworld_sound.proofs.Admitting.{sound-enters}
 use Rattle.mapworld_sound.proofs.Holding.{stand-at}
 use Rattle.mapworld_moves.proofs.Slots.{calls-same, slots-kept}
 use Rattle.mapworld_moves.proofs.Rooms.{moved}
+use Rattle.mapworld_moves.proofs.Walking.{walking, plain-visits, plain-lists}
 use Rattle.mapworld_moves.proofs.Facts.{claim_at, way_fits}
 use Rattle.mapworld_steps.proofs.Kept.{kept_here, stands_here}
+use Rattle.mapworld_steps.proofs.Asking.{owned-unless}
 use Rattle.mapworld_steps.proofs.queues.enter_shard.Goals as goal
 
 pub push-requires : goal.push-requires
@@ -43,8 +45,8 @@ returns-clause-enters g c =
     let request = c.in-Admit.request in
     let before = sym c.replace.ensures.value ∙ c.in-Admit.is in
     let stand = stand-at _ _ c.requires.sound.holds t p here (phase.Admit request) before in
-    let its = same_Some c.finish.ensures.stand _ (sym c.finish.ensures.stood ∙ stand) in
-    let won = c.finish.ensures.patient (at_desk (mode_of request)) (ap (λ (s : Stand). s.aim) its) (ap (λ (s : Stand). s.trying) its) in
+    let its = same_Some c.finish.ensures.stand _ (sym c.finish.ensures.stood ∙ stand.is) in
+    let won = owned-unless c.finish.result (c.finish.ensures.settled (at_desk (mode_of request)) (ap (λ (s : Stand). s.aim) its)) (λ refused. c.requires.owned (c.finish.ensures.over ∙ ap (λ a. Some a) refused)) in
     record {
       place = p;
       stands = here;
@@ -77,10 +79,14 @@ returns-clause-room g c =
     let claim = claim_at c.requires.sound t p here before in
     let hold : Hold = record { shard = p.shard; mode = c.mode_of.result } in
     let one = c.push.ensures.items ∙ ap (λ hs. hs ++ hold ∷ []) claim.2 in
-    let after = record p { holds = c.push.new.self.items; phase = c.enter.new.phase } in
+    let after = record r { holds = c.push.new.self; phase = c.enter.new.phase } in
     let fits = way_fits c.requires.sound p _ claim.1 in
-    moved core _ c.finish.new.self t p after c.requires.room here (map-set place_of core.places.items t _)
-    (omega (arith, ap owes c.enter.ensures, ap owes before)) (omega (arith, ap lists c.enter.ensures, ap lists before)) (omega (arith, ap adds c.enter.ensures, ap adds before)) refl
+    let more = length core.tables.items - (p.shard + 1) in
+    let plain = ap walking c.enter.ensures in
+    let due = plain-lists p (place_of after) refl plain in
+    moved core _ c.finish.new.self t r after c.requires.room (kept_here core.places.items c.requires.before.1 r c.index_mut-place.ensures.value) refl
+    (omega (arith, ap owes c.enter.ensures, ap owes before)) (omega (arith, ap (lists more) c.enter.ensures, ap (lists more) before)) (omega (arith, ap adds c.enter.ensures, ap adds before)) refl
+    (plain-visits p (place_of after) refl plain) refl (omega (arith, due))
     (λ i h has. let same = ap (λ (z : Hold). z.shard) (only-first c.push.new.self.items hold i h one has).1 in omega (arith, same, fits, length-map core.tables.items shard_pairs))
     (ends-size _ _ t c.finish.result c.finish.ensures)
 
@@ -92,4 +98,4 @@ returns-clause-slots g c =
     let here = stands_here core.places.items c.requires.before.1 r c.index_mut-place.ensures.value in
     let claim = claim_at c.requires.sound c.args.thread p here (sym c.replace.ensures.value ∙ c.in-Admit.is) in
     slots-kept _ _ core c.requires.sound c.requires.slots c.args.thread r _ (kept_here core.places.items c.requires.before.1 r c.index_mut-place.ensures.value) _
-    (calls-same _ _ refl) (λ kind lends. absurd (none-some kind (sym (ap lent_way claim.1.guard) ∙ lends))) (λ i e. e) (ap phase_key c.enter.ensures) refl refl
+    (calls-same c.args.thread _ _ refl) (λ kind lends. absurd (none-some kind (sym (ap lent_way claim.1.guard) ∙ lends))) (λ i e. e) (ap phase_key c.enter.ensures) refl refl (ap walking c.enter.ensures)

@@ -1,7 +1,7 @@
 use Rattle.std.proofs.Common.{inl, inr, refl, subst}
 use Rattle.mapworld_calls.specs.Setup.{Setup}
 use Rattle.mapworld_state.specs.Core.{state_of}
-use Rattle.mapworld_state.specs.Steps.{Answers, answers}
+use Rattle.mapworld_state.specs.Steps.{Answers, answers, owed}
 use Rattle.mapworld_steps.proofs.Setups.{setup-left}
 use Rattle.mapworld_steps.proofs.queues.finish.Goals as goal
 
@@ -14,7 +14,7 @@ returns-then-is_some-clause-step g c =
     let leaves = c.leave_lock.ensures.leaves in
     answers (record {
       mid = mid;
-      leaves = inr leaves;
+      leaves = inr (owed leaves);
       answers = subst (λ (x : Setup _ _ _ _). Answers x mid c.args.step (state_of c.answer-then-is_some.new.core))
           (setup-left g.D.Deed g.S.BuildHasher g.S.Hasher.Hasher g.K.PartialEq.eq g.K.Hash.hash_input (state_of c.args.core.now) mid c.args.step.thread leaves) c.answer-then-is_some.ensures.step;
     })

@@ -1,6 +1,8 @@
 use Rattle.std.proofs.Common.{length, refl, sym, ap, ap₂, arith, length-append}
 use Rattle.mapworld_locks.proofs.Sizes.{moves-size}
+use Rattle.mapworld_state.specs.Places.{place_of}
 use Rattle.mapworld_state.specs.Core.{state_of}
+use Rattle.mapworld_state.proofs.Views.{view-at, view-from}
 use Rattle.mapworld_moves.proofs.Rooms.{shifted}
 use Rattle.mapworld_steps.proofs.PutBack.{put_there}
 use Rattle.mapworld_steps.proofs.queues.move_lock.Goals as goal
@@ -20,27 +22,31 @@ returns-clause-step g c =
 
 pub returns-clause-room : goal.returns-clause-room
 returns-clause-room g c =
-    let w = state_of c.args.core.now in
+    let core = c.args.core.now in
     let t = c.args.step.thread in
     let p = c.requires.stands.0 in
-    let here = c.requires.stands.1 in
-    shifted _ _ t p p c.requires.room (record {
-      here = here;
-      places = sym (put_there w.places t p here);
+    let v = view-from place_of core.places.items t p c.requires.stands.1 in
+    let here = view-at place_of core.places.items t v.0 v.1 in
+    shifted _ _ t v.0 v.0 c.requires.room (record {
+      here = v.1;
+      places = sym (put_there core.places.items t v.0 v.1);
       numbers = c.requires.numbers;
       steps = simp length-append at (ap length c.appended-core.ensures);
       count = refl;
       programs = refl;
       tables = refl;
-      held = λ i h has. c.requires.room.held t i p h here has;
+      held = λ i h has. c.requires.room.held t i (place_of v.0) h here has;
       locks = moves-size _ _ t c.args.step.fair c.step.ensures;
       unanswered = refl;
       answers = refl;
       replies = refl;
       listing = omega arith;
       blocks = refl;
+      visits = λ h. h;
+      capacity = refl;
+      lists = omega arith;
       adding = omega arith;
       pairs = c.requires.room.pairs;
       more_blocks = omega arith;
-      listed = λ i e. c.requires.room.listed t p i here e;
+      listed = λ i e. c.requires.room.listed t (place_of v.0) i here e;
     })

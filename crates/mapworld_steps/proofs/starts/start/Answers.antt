@@ -1,6 +1,6 @@
-use Rattle.std.proofs.Common.{◌+◌, length, Some, refl, sym, ap, ◌∙◌, arith, length-append}
-use Rattle.mapworld_state.specs.Core.{owes, lists, adds}
-use Rattle.std.proofs.lemmas.List.{map-set, length-map}
+use Rattle.std.proofs.Common.{◌+◌, length, Some, refl, sym, ap, ◌∙◌, arith, length-append, ◌≡◌, ◌<◌, ◌-◌, true, false, List, sum_by, subst}
+use Rattle.mapworld_state.specs.Core.{owes, lists, adds, ask_lists, phase_lists}
+use Rattle.std.proofs.lemmas.List.{length-map}
 use Rattle.std.proofs.lemmas.Option.{slice_get_within}
 use Rattle.mapworld_state.specs.declared.place.Phase.TheVariants as phase
 use Rattle.mapworld_state.specs.Shards.{shard_pairs}
@@ -8,12 +8,17 @@ use Rattle.mapworld_moves.proofs.Rooms.{shifted}
 use Rattle.mapworld_state.specs.Places.{place_of}
 use Rattle.mapworld_moves.proofs.Facts.{claim_at, next_fits, session_counts, stepped-by}
 use Rattle.mapworld_steps.proofs.Kept.{kept_here, stands_here, phase_here}
-use Rattle.mapworld_steps.proofs.Starting.{started-slots, started-enters}
+use Rattle.mapworld_steps.proofs.Starting.{waits, started-slots, started-enters, start-walks}
 use Rattle.mapworld_steps.proofs.Asking.{may-enter, out-of-call, enters-size}
-use Rattle.mapworld_state.specs.Moves.{mode_of, start_guard, start_phase}
+use Rattle.mapworld_state.specs.Moves.{mode_of, request_tries, start_guard, start_phase}
+use Rattle.mapworld_state.specs.Route.{key_route}
+use Rattle.mapworld_state.specs.Walks.{walk_mode}
+use Rattle.mapworld_state.proofs.HoldsTable.{none-there}
+use Rattle.mapworld_calls.specs.Programs.{numbers_of}
+use Rattle.std.proofs.lemmas.List.Sums.{sum_by-cons}
 use Rattle.mapworld_moves.proofs.Slots.{calls-same, calls-counted}
 use Rattle.mapworld_state.proofs.Owning.{starts-own}
-use Rattle.mapworld_moves.proofs.Weights.{started_weighs}
+use Rattle.mapworld_moves.proofs.Weights.{Weighs, started_weighs}
 use Rattle.mapworld_steps.proofs.starts.start.Goals as goal
 
 pub count_in-requires-clause-listed : goal.count_in-requires-clause-listed
@@ -57,19 +62,25 @@ returns-clause-room g c =
     let p = place_of r in
     let here = stands_here c.args.core.now.places.items c.requires.before r c.index_mut-place.ensures.value in
     let before = phase_here c.args.core.now.places.items c.requires.before r c.index_mut-place.ensures.value in
-    let weights = started_weighs c.in-Some.ask c.replace.result c.enter.new.phase (c.enter.ensures ∙ ap (λ z. z.0) c.start_call-phase.ensures) in
+    let n = length c.args.core.now.tables.items in
+    let some : 0 < n = let two = c.requires.room.shards.1 in omega (arith, two) in
+    let weights = subst (λ k. Weighs n (n - (k + 1)) c.in-Some.ask c.enter.new.phase) (sym c.start_shard-place.ensures)
+    (started_weighs n some (key_route g.S.BuildHasher g.S.Hasher.Hasher g.K.Hash.hash_input c.args.core.now.hasher c.len-shards.result) p.shard c.in-Some.ask c.replace.result c.enter.new.phase (c.enter.ensures ∙ ap (λ z. z.0) c.start_call-phase.ensures)) in
+    let whole = c.in-Some.ensures.items in
+    let listed = ap (λ (xs : List _). sum_by (numbers_of n) xs) whole ∙ sum_by-cons (numbers_of n) c.in-Some.ask c.pop_front.new.self.items in
+    let due = ap (λ (xs : List _). sum_by ask_lists xs) whole ∙ sum_by-cons ask_lists c.in-Some.ask c.pop_front.new.self.items in
     let asks = ap length c.in-Some.ensures.items in
-    let after = record p {
-      asks = c.pop_front.new.self.items;
+    let after = record r {
+      asks = c.pop_front.new.self;
       started = Some (c.args.core.now.count + 1);
       closes = c.is_last-place.result;
       shard = c.start_shard-place.result;
       guard = c.start_call-phase.result.1;
       phase = c.enter.new.phase;
     } in
-    shifted _ _ c.args.step.thread p after c.requires.room (record {
-      here = here;
-      places = map-set place_of c.args.core.now.places.items c.args.step.thread _;
+    shifted _ _ c.args.step.thread r after c.requires.room (record {
+      here = kept_here c.args.core.now.places.items c.requires.before r c.index_mut-place.ensures.value;
+      places = refl;
       numbers = c.requires.numbers;
       steps = simp length-append at (ap length c.appended-core.ensures);
       count = refl;
@@ -77,12 +88,15 @@ returns-clause-room g c =
       tables = refl;
       held = λ i h has. c.requires.room.held c.args.step.thread i p h here has;
       locks = enters-size _ _ c.args.step.thread c.start_shard-place.result c.start_call-phase.result.0 c.ask_for_shard.ensures;
-      unanswered = omega (arith, asks, weights.0, ap owes before);
-      answers = omega (arith, asks, weights.0, ap owes before);
+      unanswered = omega (arith, asks, weights.owing, ap owes before);
+      answers = omega (arith, asks, weights.owing, ap owes before);
       replies = refl;
-      listing = omega (arith, asks, weights.1, ap lists before, c.count_in.ensures.len);
+      listing = omega (arith, listed, weights.listing, ap (lists (n - (p.shard + 1))) before, c.count_in.ensures.len);
       blocks = c.count_in.ensures.capacity;
-      adding = omega (arith, asks, weights.2, ap adds before);
+      visits = start-walks p.asks c.pop_front.new.self.items c.in-Some.ask c.enter.new.phase _ whole weights.visits;
+      capacity = refl;
+      lists = omega (arith, due, weights.lists_are, ap phase_lists before);
+      adding = omega (arith, asks, weights.adding, ap adds before);
       pairs = c.requires.room.pairs;
       more_blocks = omega (arith, c.count_in.ensures.len);
       listed = λ i e. let below = c.requires.room.listed c.args.step.thread p i here e in omega (arith, below, c.count_in.ensures.len);
@@ -93,7 +107,7 @@ returns-clause-slots g c =
     let core = c.args.core.now in
     let r = c.index_mut-place.result.now in
     started-slots _ _ core c.requires.sound c.requires.slots c.args.step.thread r _ (kept_here core.places.items c.requires.before r c.index_mut-place.ensures.value) (phase_here core.places.items c.requires.before r c.index_mut-place.ensures.value) _
-    (calls-counted _ _ _ _ c.count_in.ensures.counted) c.pop_front.new.self.items c.in-Some.ask c.in-Some.ensures.items
+    (calls-counted c.args.step.thread _ _ _ _ c.count_in.ensures.counted) c.pop_front.new.self.items c.in-Some.ask c.in-Some.ensures.items
     (ap (λ z. z.1) c.start_call-phase.ensures ∙ ap (start_guard c.in-Some.ask) c.replace.ensures.value)
     (c.enter.ensures ∙ (ap (λ z. z.0) c.start_call-phase.ensures ∙ ap (start_phase c.in-Some.ask) c.replace.ensures.value)) refl refl
     (rw (c.start_shard-place.ensures, c.len-shards.ensures, c.args.core.now.tables.ok.0, sym (length-map core.tables.items shard_pairs)) refl)
@@ -109,9 +123,12 @@ ask_for_shard-requires g c =
     let claim = claim_at c.requires.sound t p here before in
     let starts = ap (λ z. z.0) c.start_call-phase.ensures ∙ ap (start_phase c.in-Some.ask) c.replace.ensures.value in
     let shards = sym (length-map core.tables.items shard_pairs) in
+    let enters = λ (is : waits c.start_call-phase.result.0 ≡ true).
+    started-enters _ _ core c.requires.sound c.requires.slots t r r (kept_here core.places.items c.requires.before r c.index_mut-place.ensures.value) before core.blocks.items (calls-same t _ _ refl) c.pop_front.new.self.items c.in-Some.ask c.in-Some.ensures.items (sym (ap waits starts) ∙ is) in
+    let asks = λ (is : waits c.start_call-phase.result.0 ≡ true).
+    may-enter c.requires.sound.holds _ _ c.requires.room.locks t p here (slice_get_within _ t p here) (out-of-call c.requires.sound.holds t p here phase.Rest before refl) c.start_shard-place.result (λ i h has same. none-there p.holds i h (claim.1 (enters is).0) has)
+    (rw (c.start_shard-place.ensures, c.len-shards.ensures, core.tables.ok.0, shards) (enters is).1) in
     record {
-      may = λ request is.
-          let enters = started-enters _ _ core c.requires.sound c.requires.slots t r r (kept_here core.places.items c.requires.before r c.index_mut-place.ensures.value) before core.blocks.items (calls-same _ _ refl) c.pop_front.new.self.items c.in-Some.ask c.in-Some.ensures.items request (sym starts ∙ is) in
-          may-enter c.requires.sound.holds _ _ c.requires.room.locks t p here (slice_get_within _ t p here) (out-of-call c.requires.sound.holds t p here phase.Rest before refl) (claim.1 enters.0) c.start_shard-place.result
-          (rw (c.start_shard-place.ensures, c.len-shards.ensures, core.tables.ok.0, shards) enters.1) (mode_of request);
+      admit = λ request is. asks (ap waits is) (request_tries request) (mode_of request);
+      reach = λ walk is. asks (ap waits is) false (walk_mode walk);
     }

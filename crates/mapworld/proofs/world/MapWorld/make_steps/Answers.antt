@@ -7,7 +7,8 @@ use Rattle.mapworld_state.specs.Steps.{IsStep}
 use Rattle.mapworld_state.specs.World.{setup_of}
 use Rattle.mapworld_faults.specs.Faults.{run_fault_done}
 use Rattle.mapworld_sound.proofs.Adding.{step-adds, adds-more, fixed-more}
-use Rattle.mapworld.proofs.Runs.{Ran-more, setup-fixed}
+use Rattle.mapworld.proofs.Runs.{Ran-more}
+use Rattle.mapworld_progress.proofs.Draining.{setup-fixed}
 use Rattle.mapworld_moves.proofs.Keys.{setup-laws}
 use Rattle.mapworld.proofs.Footprints.{step_footprint}
 use Rattle.mapworld.proofs.Faulting.{refusal-done}

@@ -1,7 +1,9 @@
+use Rattle.std.proofs.Common.{sym}
 use Rattle.mapworld_state.specs.Core.{state_of}
 use Rattle.mapworld_state.specs.World.{setup_of}
-use Rattle.mapworld_calls.proofs.Every.Today.{adds-as}
-use Rattle.mapworld.proofs.Outcomes.{world-agrees, world-placed, hold_by_phase}
+use Rattle.mapworld_causes.proofs.Meeting.{sleepers-have_company, words-have_calls}
+use Rattle.mapworld_progress.proofs.Draining.{sized}
+use Rattle.mapworld.proofs.Outcomes.{world-agrees, hold_by_phase}
 use Rattle.mapworld.proofs.world.MapWorld.run.Goals as goal
 
 pub returns-clause-agrees : goal.returns-clause-agrees
@@ -12,13 +14,28 @@ returns-clause-agrees g c =
 
 pub returns-clause-placed : goal.returns-clause-placed
 returns-clause-placed g c =
-    let w = state_of c.self.inside.core in
-    rw (← c.self.view_is) (world-placed g.D.Deed g.S.BuildHasher g.S.Hasher.Hasher g.K.PartialEq.eq g.K.Hash.hash_input w c.self.invariant.0)
+    rw (← c.self.view_is) c.self.invariant.0.placed
 
 pub returns-clause-adds : goal.returns-clause-adds
-returns-clause-adds g c = adds-as _ _ _ _ _ _ c.make_steps-result.ensures.adds
+returns-clause-adds g c = c.make_steps-result.ensures.adds
 
 pub returns-clause-by_phase : goal.returns-clause-by_phase
 returns-clause-by_phase g c =
     let w = state_of c.self.inside.core in
     rw (← c.self.view_is) (hold_by_phase (setup_of g.D.Deed g.S.BuildHasher g.S.Hasher.Hasher g.K.PartialEq.eq g.K.Hash.hash_input w) w c.self.invariant.0)
+
+pub returns-clause-causes : goal.returns-clause-causes
+returns-clause-causes g c =
+    rw (← c.self.view_is) c.self.invariant.4.locked
+
+pub returns-clause-used : goal.returns-clause-used
+returns-clause-used g c =
+    let w = state_of c.self.inside.core in
+    rw (← c.self.view_is)
+    (words-have_calls (setup_of g.D.Deed g.S.BuildHasher g.S.Hasher.Hasher g.K.PartialEq.eq g.K.Hash.hash_input w) w c.self.invariant.0 c.known.ensures (sym (sized c.self.inside.core c.self.invariant.1).locks.threads_are) c.self.invariant.4)
+
+pub returns-clause-waits : goal.returns-clause-waits
+returns-clause-waits g c =
+    let w = state_of c.self.inside.core in
+    rw (← c.self.view_is)
+    (sleepers-have_company (setup_of g.D.Deed g.S.BuildHasher g.S.Hasher.Hasher g.K.PartialEq.eq g.K.Hash.hash_input w) w c.self.invariant.0 c.known.ensures (sym (sized c.self.inside.core c.self.invariant.1).locks.threads_are) c.self.invariant.4)

@@ -1,5 +1,0 @@
-use Rattle.mapworld_calls.proofs.Commuting.{commute}
-use Rattle.mapworld_calls.proofs.laws.shards_commute.Goals as goal
-
-pub returns : goal.returns
-returns g c = commute

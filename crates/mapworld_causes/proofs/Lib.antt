@@ -1,0 +1,17 @@
+pub mod Noticing
+pub mod Looking
+pub mod Words
+pub mod Shapes
+pub mod Sessions
+pub mod Staying
+pub mod Being
+pub mod Locking
+pub mod Telling
+pub mod Between
+pub mod Going
+pub mod Sleeping
+pub mod Meeting
+pub mod OwnSteps
+pub mod EachStep
+pub mod Causing
+pub mod Keeping

@@ -1,0 +1,2 @@
+pub mod TimedRules
+pub mod TimedTable

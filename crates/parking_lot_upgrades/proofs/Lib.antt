@@ -1,0 +1,5 @@
+pub mod InnerFollowing
+pub mod SectionFollowing
+pub mod UpgradeFollowing
+pub mod UpgradeLooking
+pub mod UpgradeWords

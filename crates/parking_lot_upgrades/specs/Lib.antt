@@ -1,0 +1,5 @@
+pub mod UpgradeLooks
+pub mod UpgradeMoves
+pub mod UpgradeRoles
+pub mod UpgradeRules
+pub mod UpgradeTable
