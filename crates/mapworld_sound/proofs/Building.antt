@@ -290,20 +290,20 @@ module _ {K V S D T A : Type 0} (x : Setup K V D T) (w : State K V S D T A) (s :
         turns = (leaves.effect (suc s.thread) (λ e. omega (arith, e))).turns;
         back = λ u ne. (leaves.effect u ne).back;
         sound = record {
-        guarded = sound.guarded;
-        shards = sound.shards ∙ sym leaves.shards;
-        some = sound.some;
-        stops = sound.stops;
-        routes = λ q. rw leaves.shards (sound.routes q);
-        stands = λ u q hq. rw threads (elim (slice_get-set_cases w.places s.thread u p q p' at hq) [
-          | inl own ↦ rw (own.0, own.1) mine
-          | inr other ↦ stands-on x (threads_of w) s.thread w.blocks bs' w.replies replies' w.tables tables' u q F (leaves.effect u other.0)
-              (leaves.count u other.0) (λ m h. leaves.kept u q m other.0 other.1 h) (λ b alone here. leaves.foreign u q b other.0 other.1 alone here) (sound.stands u q other.1)
-        ]);
-        tables = agree;
-        holds = match;
-        placed = rw threads placed;
-        replies = answered;
+          guarded = sound.guarded;
+          shards = sound.shards ∙ sym leaves.shards;
+          some = sound.some;
+          stops = sound.stops;
+          routes = λ q. rw leaves.shards (sound.routes q);
+          stands = λ u q hq. rw threads (elim (slice_get-set_cases w.places s.thread u p q p' at hq) [
+            | inl own ↦ rw (own.0, own.1) mine
+            | inr other ↦ stands-on x (threads_of w) s.thread w.blocks bs' w.replies replies' w.tables tables' u q F (leaves.effect u other.0)
+                (leaves.count u other.0) (λ m h. leaves.kept u q m other.0 other.1 h) (λ b alone here. leaves.foreign u q b other.0 other.1 alone here) (sound.stands u q other.1)
+          ]);
+          tables = agree;
+          holds = match;
+          placed = rw threads placed;
+          replies = answered;
         };
       }
 

@@ -45,8 +45,7 @@ invariant_of-self g c =
     let w' = state_of c.drain-steps.new.core in
     let x = setup_of g.D.Deed g.S.BuildHasher g.S.Hasher.Hasher g.K.PartialEq.eq g.K.Hash.hash_input w in
     let laws = setup-laws g.D.Deed g.S.BuildHasher g.S.Hasher.Hasher g.K.PartialEq.eq g.K.Hash.hash_input w g.met.K.Eq.laws g.met.K.Hash.respects_eq in
-    let same = setup-fixed g.D.Deed g.S.BuildHasher g.S.Hasher.Hasher g.K.PartialEq.eq g.K.Hash.hash_input w w' (fixed-by x w c.drain-steps.result w' c.drain-steps.ensures.ran) in
-    (
+    let same = setup-fixed g.D.Deed g.S.BuildHasher g.S.Hasher.Hasher g.K.PartialEq.eq g.K.Hash.hash_input w w' (fixed-by x w c.drain-steps.result w' c.drain-steps.ensures.ran) in (
       c.drain-steps.ensures.sound,
       c.drain-steps.ensures.room,
       c.drain-steps.ensures.slots,
