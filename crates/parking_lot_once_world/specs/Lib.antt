@@ -1,0 +1,9 @@
+pub mod Entries
+pub mod OnceCalls
+pub mod Onces
+pub mod OnceActs
+pub mod OnceFits
+pub mod OnceRanks
+pub mod OnceSteps
+pub mod OnceDebts
+pub mod OnceMachineLaws
