@@ -1,3 +1,5 @@
 pub mod Listing
 pub mod Everybody
 pub mod Phases
+pub mod Acting
+pub mod Owning

@@ -103,3 +103,12 @@ pub stands : (k : ℕ) (es : List Entry) (n : ℕ) → IsFirst k es n → (e : E
 stands k [] n h = absurd h
 stands k (e ∷ es) zero h = (e, refl, refl)
 stands k (e ∷ es) (suc n) h = stands k es n h.1
+
+short_by : (b : Bool) (e : Entry) (es : List Entry) (n : ℕ) → length (threads es) ≤ n → length (threads (cond b (e ∷ es) es)) ≤ n + 1
+short_by true e es n h = omega (arith, h)
+short_by false e es n h = omega (arith, h)
+
+-- a list has no more threads than there are entries
+pub short : (k : ℕ) (es : List Entry) → length (list_of es k) ≤ length es
+short k [] = omega arith
+short k (e ∷ es) = omega (arith, short_by (is_in k e) e (filter (is_in k) es) (length es) (short k es))

@@ -1,0 +1,8 @@
+use Rattle.parking_lot_once_world.proofs.Owning.{fits_one}
+use Rattle.parking_lot_once_world.proofs.Acting.{sound_all}
+use Rattle.parking_lot_once_world.proofs.Phases.{leads}
+use Rattle.parking_lot_once_world.proofs.Listing.{stands}
+use Rattle.parking_lot_once_world.proofs.once_machine.OnceMachine.known.Goals as goal
+
+pub returns : goal.returns
+returns g c = ?
