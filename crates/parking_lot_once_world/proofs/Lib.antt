@@ -3,3 +3,4 @@ pub mod Everybody
 pub mod Phases
 pub mod Acting
 pub mod Owning
+pub mod OwnActs

@@ -1,5 +1,5 @@
 -- A step that changes one thread's call alone keeps what holds of the machine; and an act of a thread and its once alone is such a step.
-use Rattle.std.proofs.Common.{◌≡◌, ◌≢◌, ℕ, ◌+◌, ◌-◌, ◌^◌, ◌<◌, ◌≤◌, ◌⊎◌, inl, inr, Bool, true, false, cond, ◌==◌, List, [], ◌∷◌, length, Option, Some, None, slice_get, slice_set, refl, sym, ap, ◌∙◌, subst, arith, eqb-true, eq-eqb, count_by}
+use Rattle.std.proofs.Common.{◌≡◌, ◌≢◌, ℕ, ◌+◌, ◌-◌, ◌^◌, ◌<◌, ◌≤◌, ◌⊎◌, inl, inr, Bool, true, false, cond, ◌==◌, List, [], ◌∷◌, ◌++◌, length, Option, Some, None, slice_get, slice_set, refl, sym, ap, ◌∙◌, subst, arith, eqb-true, eq-eqb, count_by}
 use Rattle.std.proofs.lemmas.Bool.{cases_eq, ne_eqb}
 use Rattle.std.proofs.lemmas.List.{length-set, nil_from_length}
 use Rattle.std.proofs.lemmas.List.Sums.{count_by-le-length}
@@ -15,7 +15,7 @@ use Rattle.parking_lot_rules.specs.Classes.{bit}
 use Rattle.parking_lot_once_rules.specs.declared.once_state.OnceState.{OnceState}
 use Rattle.parking_lot_once_rules.specs.declared.once_state.OnceState.TheVariants.{New, Poisoned, InProgress, Done}
 use Rattle.parking_lot_once_rules.specs.declared.wish.Wish.{Wish}
-use Rattle.parking_lot_once_rules.specs.Once.{Role, Word, Once, Step, Plain, Alone, Begin, Start, Complete, Refuse, Flag, Enter, Check, Retreat, Rest, Return, Finish, Look, Store, Depart, Leave, Allowed, after, May, written, from, to, Class, Inside, Listed, weight, total, number, waits}
+use Rattle.parking_lot_once_rules.specs.Once.{Role, Checked, Joined, Word, Once, Step, Plain, Alone, Join, Begin, Start, Complete, Refuse, Flag, Enter, Check, Retreat, Rest, Return, Finish, Look, Store, Depart, Leave, Allowed, after, May, written, from, to, Class, Inside, Listed, weight, total, number, waits}
 use Rattle.parking_lot_once_rules.proofs.Soundness.{total-none}
 use Rattle.parking_lot_once_protocol.specs.declared.once_phase.OnceAnswer.TheVariants as end
 use Rattle.parking_lot_once_protocol.specs.declared.once_phase.OncePhase.{OncePhase}
@@ -150,4 +150,48 @@ module _ (s u : Onces) (t : ℕ) (c : OpenCall) (o : Option OpenCall) (fits : Fi
       count_by-set lies s.calls t (Some c) o (slot s.calls t c here),
     );
     small = omega (arith, fits.small, elsewhere.threads);
+  }
+
+-- WHICH STEP OF THE RULES IT IS
+
+module _ (s u : Onces) (t : ℕ) (c : OpenCall) (o : Option OpenCall) (fits : Fits s) (here : call_at s t ≡ Some c) (one : One s u t c.once o) (there : IsThere c.once o) where
+  abbrev us : List ℕ
+  us = list_of s.wakes t
+
+  its_before : role_at s c.once t ≡ plays c us
+  its_before = ap (role_in c.once us) here ∙ role_here c.once us c refl
+
+  beyond : (j : ℕ) → j ≢ c.once → once_at u j ≡ once_at s j
+  beyond = once_elsewhere c.once s u (elsewhere s u t c o fits here one there)
+
+  -- none, where the thread plays the same part
+  pub stays_one : plays c us ≡ role_in c.once us o → word_of (word_at u c.once) ≡ word_of (word_at s c.once) → list_of u.waiting c.once ≡ list_of s.waiting c.once → IsLawful t c.once None s u
+  stays_one e w q = record {
+    here = same_once _ _ _ _ _ _ w (roles_same c.once s u (elsewhere s u t c o fits here one there) (λ x. elim (cases_eq x t) [
+      | inl eq ↦ ap (role_at u c.once) eq ∙ its_role s u t c o fits here one there ∙ sym e ∙ sym its_before ∙ ap (role_at s c.once) (sym eq)
+      | inr ne ↦ other_role s u t c o fits here one there x ne
+    ])) q;
+    there = beyond;
+  }
+
+  -- one of the thread alone
+  pub makes_one : (k : Plain) → plays c us ≡ from k → role_in c.once us o ≡ to k → May k (word_of (word_at s c.once)) (λ x. total x (once_at s c.once).roles)
+      → word_of (word_at u c.once) ≡ written k (word_of (word_at s c.once)) → list_of u.waiting c.once ≡ list_of s.waiting c.once → IsLawful t c.once (Some (Alone k)) s u
+  makes_one k e f may w q = record {
+    here = (
+      (role_now s t c here ∙ ap Some e, may),
+      same_once _ _ _ _ _ _ w (roles_one c.once s u (elsewhere s u t c o fits here one there) t (to k) (within s.calls t c here) (other_role s u t c o fits here one there) (its_role s u t c o fits here one there ∙ f)) q,
+    );
+    there = beyond;
+  }
+
+  -- it joins the list
+  pub joins_one : (wish : Wish) → plays c us ≡ Checked wish → role_in c.once us o ≡ Joined wish → word_of (word_at u c.once) ≡ word_of (word_at s c.once)
+      → list_of u.waiting c.once ≡ list_of s.waiting c.once ++ t ∷ [] → IsLawful t c.once (Some (Join wish)) s u
+  joins_one wish e f w q = record {
+    here = (
+      role_now s t c here ∙ ap Some e,
+      same_once _ _ _ _ _ _ w (roles_one c.once s u (elsewhere s u t c o fits here one there) t (Joined wish) (within s.calls t c here) (other_role s u t c o fits here one there) (its_role s u t c o fits here one there ∙ f)) q,
+    );
+    there = beyond;
   }
