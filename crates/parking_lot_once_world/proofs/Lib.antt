@@ -4,3 +4,4 @@ pub mod Phases
 pub mod Acting
 pub mod Owning
 pub mod OwnActs
+pub mod Ending

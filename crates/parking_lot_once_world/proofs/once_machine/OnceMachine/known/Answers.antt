@@ -1,3 +1,4 @@
+use Rattle.parking_lot_once_world.proofs.Ending.{ends_so}
 use Rattle.parking_lot_once_world.proofs.OwnActs.{goes_so}
 use Rattle.parking_lot_once_world.proofs.Owning.{fits_one}
 use Rattle.parking_lot_once_world.proofs.Acting.{sound_all}
