@@ -5,3 +5,5 @@ pub mod Acting
 pub mod Owning
 pub mod OwnActs
 pub mod Ending
+pub mod Joining
+pub mod Finding

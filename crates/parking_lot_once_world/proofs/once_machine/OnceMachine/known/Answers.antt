@@ -1,3 +1,5 @@
+use Rattle.parking_lot_once_world.proofs.Finding.{finds_nobody}
+use Rattle.parking_lot_once_world.proofs.Joining.{joins_so}
 use Rattle.parking_lot_once_world.proofs.Ending.{ends_so}
 use Rattle.parking_lot_once_world.proofs.OwnActs.{goes_so}
 use Rattle.parking_lot_once_world.proofs.Owning.{fits_one}
