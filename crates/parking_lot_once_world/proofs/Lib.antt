@@ -7,3 +7,4 @@ pub mod OwnActs
 pub mod Ending
 pub mod Joining
 pub mod Finding
+pub mod Pairing
