@@ -8,3 +8,5 @@ pub mod Ending
 pub mod Joining
 pub mod Finding
 pub mod Pairing
+pub mod Playing
+pub mod Taking

@@ -1,3 +1,4 @@
+use Rattle.parking_lot_once_world.proofs.Taking.{takes_one}
 use Rattle.parking_lot_once_world.proofs.Pairing.{fits_two}
 use Rattle.parking_lot_once_world.proofs.Finding.{finds_nobody}
 use Rattle.parking_lot_once_world.proofs.Joining.{joins_so}
