@@ -10,3 +10,5 @@ pub mod Finding
 pub mod Pairing
 pub mod Playing
 pub mod Taking
+pub mod Waking
+pub mod Beginning

@@ -219,3 +219,7 @@ module _ (s : Onces) (t : ℕ) (c : OpenCall) (fits : Fits s) (here : call_at s 
   pub takes_one : Made t c (move_of s t c) s u
   takes_one = subst (λ (p : OncePhase). Made t c (move_by us c (given_by queue (shown (act_of c.core.phase) (word_at s c.once)) p) p) s u) (sym e)
       (subst (λ (vs : List ℕ). Made t c (move_by us c (given_by vs (shown (act_of c.core.phase) (word_at s c.once)) (Scans well taken)) (Scans well taken)) s u) (sym stands_first) takes_by)
+
+  -- whom it takes
+  pub whom : (b : OpenCall) × (call_at s v ≡ Some b) × (v ≢ t)
+  whom = (b, sleeper.1, apart)

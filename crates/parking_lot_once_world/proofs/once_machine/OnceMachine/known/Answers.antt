@@ -1,3 +1,5 @@
+use Rattle.parking_lot_once_world.proofs.Waking.{wakes_one}
+use Rattle.parking_lot_once_world.proofs.Beginning.{begins_so}
 use Rattle.parking_lot_once_world.proofs.Taking.{takes_one}
 use Rattle.parking_lot_once_world.proofs.Pairing.{fits_two}
 use Rattle.parking_lot_once_world.proofs.Finding.{finds_nobody}
