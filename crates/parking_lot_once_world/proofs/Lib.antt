@@ -12,3 +12,5 @@ pub mod Playing
 pub mod Taking
 pub mod Waking
 pub mod Beginning
+pub mod Summing
+pub mod Falling

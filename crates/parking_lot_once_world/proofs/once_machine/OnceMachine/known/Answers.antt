@@ -1,3 +1,5 @@
+use Rattle.parking_lot_once_world.proofs.Falling.{falls}
+use Rattle.parking_lot_once_world.proofs.Summing.{others_and_one}
 use Rattle.parking_lot_once_world.proofs.Waking.{wakes_one}
 use Rattle.parking_lot_once_world.proofs.Beginning.{begins_so}
 use Rattle.parking_lot_once_world.proofs.Taking.{takes_one}

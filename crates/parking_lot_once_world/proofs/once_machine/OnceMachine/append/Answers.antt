@@ -1,0 +1,19 @@
+use Rattle.std.proofs.Common.{rules, ◌≡◌, ◌≢◌, ℕ, Some, None, slice_get, ◌+◌, ◌-◌, ◌*◌, ◌<◌, ◌≤◌, length, ◌/◌, ◌%◌, Bool, true, false, nat_eq, nat_lt, List, [], ◌∷◌, ◌++◌, slice_index_or, slice_set, bit_and, bit_or, Fits, w8, w32, w64, Bor, MutBor}
+use Rattle.std.specs.Option.{option_and_then, option_map}
+use Rattle.parking_lot_protocol.specs.declared.act.Act.TheVariants as asks
+use Rattle.parking_lot_protocol.specs.declared.act.CoreAnswer.{CoreAnswer}
+use Rattle.parking_lot_protocol.specs.declared.act.SectionAct.TheVariants as section
+use Rattle.parking_lot_core_lot.specs.declared.parking.ParkToken.{ParkToken}
+use Rattle.parking_lot_once_protocol.specs.OnceTable.{act_of}
+use Rattle.parking_lot_once_world.specs.Onces.{call_at, call_in}
+use Rattle.parking_lot_once_world.specs.OnceActs.{acted, appended, ended, inside_after, off_list, replied, shown, took, woke, woken, written}
+use Rattle.parking_lot_once_world.specs.OnceSteps.{IsActOfItsOwn}
+use Rattle.parking_lot_once_world.proofs.once_machine.OnceMachine.append.Goals as goal
+
+-- src/acts.rt:107:9
+pub push_reserved-requires : goal.push_reserved-requires
+push_reserved-requires g c = ?
+
+-- src/acts.rt:101:5
+pub invariant_of-self : goal.invariant_of-self
+invariant_of-self g c = ?
