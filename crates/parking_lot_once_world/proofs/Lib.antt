@@ -14,3 +14,4 @@ pub mod Waking
 pub mod Beginning
 pub mod Summing
 pub mod Falling
+pub mod Ranking

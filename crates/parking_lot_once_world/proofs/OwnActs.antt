@@ -201,7 +201,7 @@ check_needs : (wish : Wish) (b : Bool) (all : Class → ℕ) → NeedsOf (cond b
 check_needs wish true all = tt
 check_needs wish false all = tt
 
-abbrev IsEntry : Act → Type 0 → Type 0
+abbrev pub IsEntry : Act → Type 0 → Type 0
 IsEntry (act.Enter key) X = X
 IsEntry a X = Unit {0}
 
@@ -252,7 +252,7 @@ insides (act.Enter key) t inside x ne free leave = ne_eqb t x (λ e. ne (sym e))
 insides (act.Section section.Leave) t inside x ne free leave = sym (not_another inside t x ne (leave refl))
 insides a t inside x ne free leave = refl
 
-leaves_section : (p : OncePhase) → act_of p ≡ act.Section section.Leave → is_in_section p ≡ true
+pub leaves_section : (p : OncePhase) → act_of p ≡ act.Section section.Leave → is_in_section p ≡ true
 leaves_section (Retreats wish) e = refl
 leaves_section (Rests wish) e = refl
 leaves_section (Leaves taken) e = refl

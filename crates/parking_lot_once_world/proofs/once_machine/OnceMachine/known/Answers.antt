@@ -1,3 +1,4 @@
+use Rattle.parking_lot_once_world.proofs.Ranking.{few_are_left}
 use Rattle.parking_lot_once_world.proofs.Falling.{falls}
 use Rattle.parking_lot_once_world.proofs.Summing.{others_and_one}
 use Rattle.parking_lot_once_world.proofs.Waking.{wakes_one}
