@@ -15,3 +15,5 @@ pub mod Beginning
 pub mod Summing
 pub mod Falling
 pub mod Ranking
+pub mod Holding
+pub mod Making

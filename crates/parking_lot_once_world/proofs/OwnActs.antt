@@ -30,7 +30,7 @@ use Rattle.parking_lot_once_world.specs.OnceActs as does
 use Rattle.parking_lot_once_world.specs.OnceActs.{shown, told, acted, inside_after}
 use Rattle.parking_lot_once_world.specs.OnceCalls.{wish_of, ends_well}
 use Rattle.parking_lot_once_world.specs.OnceFits.{Fits, Sits, GoesOn, Knows, is_in_section, is_listed, is_sleeping, is_the, lies, taken_count, rounds_of}
-use Rattle.parking_lot_once_world.specs.OnceSteps.{HasMade, IsActOfItsOwn, IsLawful, IsStepOf, given_by, move_by, move_of}
+use Rattle.parking_lot_once_world.specs.OnceSteps.{HasMade, IsActOfItsOwn, IsEntry, IsLawful, IsStepOf, given_by, move_by, move_of}
 use Rattle.parking_lot_once_world.specs.declared.open_call.OpenCall.{OpenCall}
 use Rattle.parking_lot_once_world.specs.Onces.{Onces, word_at, call_in, call_at, known_of, role_in, role_at, word_of, once_at}
 use Rattle.parking_lot_once_world.proofs.Acting.{IsThere, once_elsewhere, plays, role_here, role_now, roles_one, roles_same, same_once, shows_word, word_here, word_elsewhere, within}
@@ -200,10 +200,6 @@ seeing_needs wish Poisoned all = go wish.force
 check_needs : (wish : Wish) (b : Bool) (all : Class → ℕ) → NeedsOf (cond b (Makes (Check wish)) Stays) all
 check_needs wish true all = tt
 check_needs wish false all = tt
-
-abbrev pub IsEntry : Act → Type 0 → Type 0
-IsEntry (act.Enter key) X = X
-IsEntry a X = Unit {0}
 
 needs_so : (k : Known) (p : OncePhase) (s : ActResult) (n : ℕ) (queue : List ℕ) (all : Class → ℕ) → IsActOfItsOwn (act_of p) → Gives (act_of p) n s
     → IsEntry (act_of p) (all Inside ≡ 0) → Knows queue p → (queue ≡ [] → all Listed ≡ 0) → NeedsOf (move k p s) all

@@ -30,7 +30,7 @@ use Rattle.parking_lot_once_world.specs.OnceActs as does
 use Rattle.parking_lot_once_world.specs.OnceActs.{shown, told, acted, inside_after}
 use Rattle.parking_lot_once_world.specs.OnceCalls.{wish_of, ends_well}
 use Rattle.parking_lot_once_world.specs.OnceFits.{Fits, Sits, GoesOn, Knows, is_in_section, is_listed, is_sleeping, is_the, lies, taken_count, rounds_of}
-use Rattle.parking_lot_once_world.specs.OnceSteps.{HasMade, IsActOfItsOwn, IsLawful, IsStepOf, given_by, move_by, move_of}
+use Rattle.parking_lot_once_world.specs.OnceSteps.{HasMade, IsActOfItsOwn, IsEntry, IsLawful, IsStepOf, given_by, move_by, move_of}
 use Rattle.parking_lot_once_world.specs.declared.open_call.OpenCall.{OpenCall}
 use Rattle.parking_lot_once_world.specs.Onces.{Onces, word_at, call_in, call_at, known_of, role_in, role_at, word_of, once_at}
 use Rattle.parking_lot_once_world.proofs.Acting.{IsThere, once_elsewhere, plays, role_here, role_now, roles_one, roles_same, same_once, shows_word, word_here, word_elsewhere, within}
@@ -50,7 +50,7 @@ use Rattle.parking_lot_once_world.proofs.Acting.{call_here}
 use Rattle.parking_lot_once_world.proofs.Beginning.{May}
 use Rattle.parking_lot_once_world.proofs.Falling.{IsOpen, IsStuck, falls, few_steps, finds_falls, runs_less, sees_less, stuck_same, takes_falls, wakes_le}
 use Rattle.parking_lot_once_world.proofs.Listing.{IsFirst, out_same}
-use Rattle.parking_lot_once_world.proofs.OwnActs.{IsEntry, leaves_section}
+use Rattle.parking_lot_once_world.proofs.OwnActs.{leaves_section}
 use Rattle.parking_lot_once_world.proofs.Summing.{others_and_one, others_change, others_same}
 
 abbrev far : ℕ → List (Option OpenCall) → ℕ → ℕ

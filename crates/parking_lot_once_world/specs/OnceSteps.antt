@@ -31,6 +31,11 @@ IsActOfItsOwn (act.Section (section.Store plain fair)) = Unit {0}
 IsActOfItsOwn (act.Section section.Leave) = Unit {0}
 IsActOfItsOwn a = ⊥
 
+-- something holds, where an act enters a section
+abbrev pub IsEntry : Act → Type 0 → Type 0
+IsEntry (act.Enter key) X = X
+IsEntry a X = Unit {0}
+
 -- WHICH STEP OF THE RULES IT IS
 
 -- what its act gives a call, as far as its core's table asks: of a taking, whether somebody stands in the list

@@ -8,7 +8,7 @@ ghost use Rattle.parking_lot_core_lot.specs.declared.parking.ParkToken.{ParkToke
 ghost use Rattle.parking_lot_once_protocol.specs.OnceTable.{act_of};
 ghost use Rattle.parking_lot_once_world.specs.Onces.{call_at, call_in};
 ghost use Rattle.parking_lot_once_world.specs.OnceActs.{acted, appended, ended, inside_after, off_list, replied, shown, took, woke, woken, written};
-ghost use Rattle.parking_lot_once_world.specs.OnceSteps.{IsActOfItsOwn};
+ghost use Rattle.parking_lot_once_world.specs.OnceSteps.{IsActOfItsOwn, IsEntry};
 
 use crate::calls::OnceReply;
 use crate::entry::{Entry, first_of};
@@ -88,7 +88,7 @@ impl<A: Allocator> OnceMachine<A> {
         requires here { call_at self.old thread ≡ Some call }
         requires asked { act_of call.core.phase ≡ act }
         requires own { IsActOfItsOwn act }
-        requires free { (key : ℕ) → act ≡ asks.Enter key → self.old.inside ≡ None }
+        requires free { IsEntry act (self.old.inside ≡ None) }
         ensures { self.new ≡ acted self.old thread call }
     {
         let word = self.word(call.once);

@@ -1,23 +1,24 @@
-use Rattle.std.proofs.Common.{rules, ◌≡◌, ◌≢◌, ℕ, Some, None, slice_get, ◌+◌, ◌-◌, ◌*◌, ◌<◌, ◌≤◌, length, ◌/◌, ◌%◌, Bool, true, false, nat_eq, nat_lt, List, [], ◌∷◌, ◌++◌, slice_index_or, slice_set, bit_and, bit_or, Fits, w8, w32, w64, Bor, MutBor}
-use Rattle.std.specs.Option.{option_and_then, option_map}
-use Rattle.parking_lot_protocol.specs.declared.act.Act.TheVariants as asks
-use Rattle.parking_lot_protocol.specs.declared.act.CoreAnswer.{CoreAnswer}
-use Rattle.parking_lot_protocol.specs.declared.act.SectionAct.TheVariants as section
-use Rattle.parking_lot_core_lot.specs.declared.parking.ParkToken.{ParkToken}
-use Rattle.parking_lot_once_protocol.specs.OnceTable.{act_of}
-use Rattle.parking_lot_once_world.specs.Onces.{call_at, call_in}
-use Rattle.parking_lot_once_world.specs.OnceActs.{acted, appended, ended, inside_after, off_list, replied, shown, took, woke, woken, written}
-use Rattle.parking_lot_once_world.specs.OnceSteps.{IsActOfItsOwn}
+use Rattle.std.proofs.Common.{◌≡◌, length, sym, ap, ◌∙◌, subst, arith, rules}
+use Rattle.parking_lot_once_world.specs.OnceFits.{Fits}
+use Rattle.parking_lot_once_world.specs.OnceSteps.{IsActOfItsOwn, IsEntry}
+use Rattle.parking_lot_once_world.proofs.Holding.{low, room_set, word_low}
+use Rattle.parking_lot_once_world.proofs.OwnActs.{acts_so}
 use Rattle.parking_lot_once_world.proofs.once_machine.OnceMachine.act.Goals as goal
 
--- src/acts.rt:95:9
 pub index_mut-requires : goal.index_mut-requires
-index_mut-requires g c = ?
+index_mut-requires g c = omega (arith, word_low c.args.thread c.args.call c.self.view_is c.requires.here c.self.invariant.0, c.self.inside.words.ok.0)
 
--- src/acts.rt:96:9
 pub index_mut-requires-2 : goal.index_mut-requires-2
-index_mut-requires-2 g c = ?
+index_mut-requires-2 g c = omega (arith, low c.args.thread c.args.call c.self.view_is c.requires.here, c.self.inside.calls.ok.0)
 
--- src/acts.rt:87:5
+pub returns : goal.returns
+returns g c = search rules
+
 pub invariant_of-self : goal.invariant_of-self
-invariant_of-self g c = ?
+invariant_of-self g c = (
+  subst Fits (sym (returns g c))
+      (acts_so c.args.self.now c.args.thread c.args.call (subst Fits c.self.view_is c.self.invariant.0) c.requires.here (subst IsActOfItsOwn (sym c.requires.asked) c.requires.own)
+      (subst (λ a. IsEntry a (c.args.self.now.inside ≡ _)) (sym c.requires.asked) c.requires.free)).fits,
+  room_set _ _ _ _ c.self.invariant.1,
+  room_set _ _ _ _ c.self.invariant.2,
+)
