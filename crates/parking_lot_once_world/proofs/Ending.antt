@@ -17,6 +17,7 @@ use Rattle.parking_lot_once_rules.specs.declared.once_state.OnceState.TheVariant
 use Rattle.parking_lot_once_rules.specs.declared.wish.Wish.{Wish}
 use Rattle.parking_lot_once_rules.specs.Once.{Role, Idle, Word, Once, Step, Plain, Alone, Begin, Start, Complete, Refuse, Flag, Enter, Check, Retreat, Rest, Return, Finish, Look, Store, Depart, Leave, Allowed, after, May, written, from, to, Class, Inside, Listed, weight, total, number, waits}
 use Rattle.parking_lot_once_rules.proofs.Soundness.{total-none}
+use Rattle.parking_lot_once_protocol.specs.declared.once_phase.OnceAnswer.{OnceAnswer}
 use Rattle.parking_lot_once_protocol.specs.declared.once_phase.OnceAnswer.TheVariants as end
 use Rattle.parking_lot_once_protocol.specs.declared.once_phase.OncePhase.{OncePhase}
 use Rattle.parking_lot_once_protocol.specs.declared.once_phase.OncePhase.TheVariants.{Asking, Returning, Loads, Starts, Spins, Parks, Enters, Checks, Retreats, Appends, Rests, Sleeps, Stores, Looks, Scans, Clears, Leaves, Wakes, Finishes, Ends, Invalid}
@@ -152,3 +153,6 @@ module _ (s : Onces) (t : ℕ) (c : OpenCall) (fits : Fits s) (here : call_at s 
 
   pub ends_so : (answer : CoreAnswer) → act_of c.core.phase ≡ act.Done answer → Made t c (move_of s t c) s (ended s t c)
   ends_so answer asked = by_phase c.core.phase (given_by (list_of s.waiting c.once) (shown (act_of c.core.phase) (word_at s c.once)) c.core.phase) answer refl asked sits.goes
+
+  pub ended_fits : (answer : CoreAnswer) → act_of c.core.phase ≡ act.Done answer → (o : Option OnceAnswer) → answer_of c.core.phase ≡ o → Fits (ended_by o s t c)
+  ended_fits answer asked o e = subst (λ x. Fits (ended_by x s t c)) e (ends_so answer asked).fits

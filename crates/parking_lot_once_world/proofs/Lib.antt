@@ -17,3 +17,5 @@ pub mod Falling
 pub mod Ranking
 pub mod Holding
 pub mod Making
+pub mod Resting
+pub mod Promising
