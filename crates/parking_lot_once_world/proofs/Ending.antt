@@ -47,15 +47,15 @@ went_so : (before : OnceState) (call : OnceCall) (b : OnceState) → GoesOn call
 went_so before call b (inl h) = inr (refl, h)
 went_so before call b (inr h) = absurd h.0
 
-not_asking : (call : OnceCall) (b : OnceState) (wish : Wish) → GoesOn call b (Asking wish) → ⊥
+pub not_asking : (call : OnceCall) (b : OnceState) (wish : Wish) → GoesOn call b (Asking wish) → ⊥
 not_asking call b wish (inl h) = h
 not_asking call b wish (inr h) = h.0
 
-not_returning : (call : OnceCall) (b : OnceState) (well : Bool) → GoesOn call b (Returning well) → ⊥
+pub not_returning : (call : OnceCall) (b : OnceState) (well : Bool) → GoesOn call b (Returning well) → ⊥
 not_returning call b well (inl h) = h
 not_returning call b well (inr h) = h.0
 
-not_invalid : (call : OnceCall) (b : OnceState) → GoesOn call b Invalid → ⊥
+pub not_invalid : (call : OnceCall) (b : OnceState) → GoesOn call b Invalid → ⊥
 not_invalid call b (inl h) = h
 not_invalid call b (inr h) = h.0
 

@@ -19,3 +19,4 @@ pub mod Holding
 pub mod Making
 pub mod Resting
 pub mod Promising
+pub mod Stepping

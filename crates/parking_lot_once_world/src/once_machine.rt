@@ -1,5 +1,7 @@
 //! The machine of onces: words, lists and a call for each thread, moved one atomic step at a time.
-ghost use Rattle.std.specs.Prelude.{◌≡◌, length, slice_get, true};
+ghost use Rattle.std.specs.Prelude.{◌≡◌, length, None, Some, true};
+ghost use Rattle.parking_lot_protocol.specs.declared.act.Act.TheVariants as asks;
+ghost use Rattle.parking_lot_once_protocol.specs.OnceTable.{act_of};
 ghost use Rattle.parking_lot_once_world.specs.Onces.{call_at, word_at};
 ghost use Rattle.parking_lot_once_world.specs.OnceActs.{can_move, may_begin};
 ghost use Rattle.parking_lot_once_world.specs.OnceSteps.{IsBegun, IsStepped};
@@ -112,12 +114,25 @@ impl<A: Allocator> OnceMachine<A> {
         let _ = &self.words;
         let call = self.call(thread)?;
         match call.core.act() {
-            Act::Section(SectionAct::TakeNext(_)) => self.take(thread, call),
-            Act::Section(SectionAct::Append(_)) => self.append(thread, call),
-            Act::Section(SectionAct::Wake) => self.wake(thread, call),
+            Act::Section(next) => self.step_in_section(thread, call, next),
             Act::Done(_) => return self.end(thread, call),
             act => self.act(thread, call, act),
         }
         None
+    }
+
+    /// The same in a section, or after one.
+    fn step_in_section(&mut self, thread: usize, call: OpenCall, next: SectionAct)
+        requires here { call_at self.old thread ≡ Some call }
+        requires asked { act_of call.core.phase ≡ asks.Section next }
+        ensures { IsStepped thread None self.old self.new }
+    {
+        let _ = &self.words;
+        match next {
+            SectionAct::TakeNext(_) => self.take(thread, call),
+            SectionAct::Append(_) => self.append(thread, call),
+            SectionAct::Wake => self.wake(thread, call),
+            next => self.act(thread, call, Act::Section(next)),
+        }
     }
 }

@@ -1,25 +1,21 @@
-use Rattle.std.proofs.Common.{rules, ◌≡◌, length, slice_get, true, ℕ, ◌+◌, ◌-◌, ◌*◌, ◌<◌, ◌≤◌, ◌/◌, ◌%◌, Bool, false, nat_eq, nat_lt, List, [], ◌∷◌, ◌++◌, slice_index_or, slice_set, bit_and, bit_or, Fits, w8, w32, w64, Bor, MutBor}
-use Rattle.parking_lot_once_world.specs.Onces.{call_at, word_at}
-use Rattle.parking_lot_once_world.specs.OnceActs.{can_move, may_begin}
-use Rattle.parking_lot_once_world.specs.OnceSteps.{IsBegun, IsStepped}
+use Rattle.std.proofs.Common.{◌≡◌, None, Some, sym, ap, ◌∙◌, subst}
+use Rattle.parking_lot_once_world.specs.OnceActs.{ended, replied}
+use Rattle.parking_lot_once_world.specs.OnceFits.{Fits}
+use Rattle.parking_lot_once_world.specs.OnceSteps.{IsStepped}
+use Rattle.parking_lot_once_world.proofs.Stepping.{acts_stepped, ends_stepped, entry_so, own_so, possible}
 use Rattle.parking_lot_once_world.proofs.once_machine.OnceMachine.step.Goals as goal
 
--- src/once_machine.rt:118:29
 pub returns-in-Done : goal.returns-in-Done
-returns-in-Done g c = ?
+returns-in-Done g c =
+    let here = sym c.call.ensures ∙ c.in_ok-call.was in
+    subst (λ reply. IsStepped c.args.thread reply c.args.self.now c.end.new.self) (sym c.end.ensures.replies)
+    (subst (IsStepped c.args.thread (replied c.in_ok-call.call) c.args.self.now) (sym c.end.ensures.became)
+    (ends_stepped c.args.self.now c.args.thread c.in_ok-call.call (subst Fits c.self.view_is c.self.invariant.0) here c.in-Done.field-0 (sym c.act.ensures ∙ c.in-Done.is)))
 
--- src/once_machine.rt:108:5
-pub returns-in-Section-TakeNext : goal.returns-in-Section-TakeNext
-returns-in-Section-TakeNext g c = ?
-
--- src/once_machine.rt:108:5
-pub returns-in-Section-Append : goal.returns-in-Section-Append
-returns-in-Section-Append g c = ?
-
--- src/once_machine.rt:108:5
-pub returns-in-Section-Wake : goal.returns-in-Section-Wake
-returns-in-Section-Wake g c = ?
-
--- src/once_machine.rt:108:5
 pub returns-in_default : goal.returns-in_default
-returns-in_default g c = ?
+returns-in_default g c =
+    let here = sym c.call.ensures ∙ c.in_ok-call.was in
+    let can = possible c.args.self.now c.args.thread c.in_ok-call.call here c.requires.can in
+    let own = own_so _ c.in_ok-call.call.core.phase can (λ x e. c.in_default.not-Section x (c.act.ensures ∙ e)) (λ x e. c.in_default.not-Done x (c.act.ensures ∙ e)) in
+    subst (IsStepped c.args.thread None c.args.self.now) (sym c.act-in_default.ensures)
+    (acts_stepped c.args.self.now c.args.thread c.in_ok-call.call (subst Fits c.self.view_is c.self.invariant.0) here own (entry_so _ _ can))
