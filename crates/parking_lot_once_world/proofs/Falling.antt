@@ -105,7 +105,6 @@ retreat_le : (w first : ℕ) (shut : Bool) → shut ≡ false → parks (Sees w 
 retreat_le w first true e = absurd cc
 retreat_le w first false e = refl
 
-
 pub falls : (n : ℕ) (p : OncePhase) (w first : ℕ) (shut : Bool) → IsActOfItsOwn (act_of p) → IsReady p → word_of (state_of w) (is_parked w) ≡ w → IsOpen (act_of p) shut
     → phase_steps n (Sees (written (act_of p) w) first shut) (next_phase p (shown (act_of p) w)) + 1 ≤ phase_steps n (Sees w first shut) p
 falls n (Loads a) w first shut own r g o = omega (arith, sees_le n w first shut a g)

@@ -20,3 +20,4 @@ pub mod Making
 pub mod Resting
 pub mod Promising
 pub mod Stepping
+pub mod Lasting

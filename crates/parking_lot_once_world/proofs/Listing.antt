@@ -112,3 +112,12 @@ short_by false e es n h = omega (arith, h)
 pub short : (k : ℕ) (es : List Entry) → length (list_of es k) ≤ length es
 short k [] = omega arith
 short k (e ∷ es) = omega (arith, short_by (is_in k e) e (filter (is_in k) es) (length es) (short k es))
+
+-- an entry of the list, and one of another, behind those before it
+pub list_more : (es : List Entry) (e : Entry) (k : ℕ) → is_in k e ≡ true → list_of (es ++ e ∷ []) k ≡ list_of es k ++ e.thread ∷ []
+list_more [] e k h = ap (λ b. threads (cond b (e ∷ []) [])) h
+list_more (x ∷ es) e k h = push_cases (is_in k x) x x (filter (is_in k) es) (filter (is_in k) (es ++ e ∷ [])) e.thread (list_more es e k h)
+
+pub list_same : (es : List Entry) (e : Entry) (k : ℕ) → is_in k e ≡ false → list_of (es ++ e ∷ []) k ≡ list_of es k
+list_same [] e k h = ap (λ b. threads (cond b (e ∷ []) [])) h
+list_same (x ∷ es) e k h = same_cases (is_in k x) x (filter (is_in k) es) (filter (is_in k) (es ++ e ∷ [])) (list_same es e k h)

@@ -7,3 +7,4 @@ pub mod OnceRanks
 pub mod OnceSteps
 pub mod OnceDebts
 pub mod OnceMachineLaws
+pub mod OnceMachineLasting

@@ -36,10 +36,22 @@ impl OnceCall {
         ensures { result ≡ wish_of self }
     {
         match self {
-            OnceCall::CallOnce(_) => Wish { runs: true, force: false },
-            OnceCall::CallOnceForce(_) => Wish { runs: true, force: true },
-            OnceCall::OnceWait => Wish { runs: false, force: false },
-            OnceCall::OnceWaitForce => Wish { runs: false, force: true },
+            OnceCall::CallOnce(_) => Wish {
+                runs: true,
+                force: false,
+            },
+            OnceCall::CallOnceForce(_) => Wish {
+                runs: true,
+                force: true,
+            },
+            OnceCall::OnceWait => Wish {
+                runs: false,
+                force: false,
+            },
+            OnceCall::OnceWaitForce => Wish {
+                runs: false,
+                force: true,
+            },
         }
     }
 

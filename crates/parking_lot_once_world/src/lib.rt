@@ -4,6 +4,7 @@
 mod acts;
 mod calls;
 mod entry;
+pub mod laws;
 mod machine_views;
 mod new_machine;
 mod once_machine;

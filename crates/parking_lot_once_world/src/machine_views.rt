@@ -4,6 +4,7 @@ ghost use Rattle.parking_lot_core_lot.specs.declared.fault.SizeFault.TheVariants
 ghost use Rattle.parking_lot_once_world.specs.Entries.{list_of};
 ghost use Rattle.parking_lot_once_world.specs.OnceActs.{can_move, is_asleep};
 ghost use Rattle.parking_lot_once_world.specs.OnceDebts.{is_in_debt, owes};
+ghost use Rattle.parking_lot_once_world.specs.OnceFits.{Fits};
 ghost use Rattle.parking_lot_once_world.specs.OnceMachineLaws.{IsSoundMachine};
 ghost use Rattle.parking_lot_once_world.specs.OnceRanks.{AnyMayBeStepped};
 
@@ -62,7 +63,8 @@ impl<A: Allocator> OnceMachine<A> {
 
     /// What holds of the machine at every moment. It does nothing.
     pub fn known(&self)
-        ensures { IsSoundMachine self.now }
+        ensures fits { Fits self.now }
+        ensures promises { IsSoundMachine self.now }
     {
         let _ = &self.words;
     }
