@@ -1,2 +1,2 @@
-mod OnceFollowing
+pub mod OnceFollowing
 pub mod OnceAnswering

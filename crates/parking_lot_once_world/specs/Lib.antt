@@ -1,0 +1,10 @@
+pub mod Entries
+pub mod OnceCalls
+pub mod Onces
+pub mod OnceActs
+pub mod OnceFits
+pub mod OnceRanks
+pub mod OnceSteps
+pub mod OnceDebts
+pub mod OnceMachineLaws
+pub mod OnceMachineLasting
