@@ -1,17 +1,14 @@
 -- What becomes of the onces of the rules where calls, lists and a word change.
-use Rattle.std.proofs.Common.{◌≡◌, ◌≢◌, ℕ, ◌+◌, ◌*◌, ◌<◌, ◌≤◌, ◌⊎◌, inl, inr, Bool, true, false, cond, ◌==◌, List, [], ◌∷◌, length, Option, Some, None, slice_get, slice_set, refl, sym, ap, ◌∙◌, subst, arith, eq-eqb, zero, suc}
+use Rattle.std.proofs.Common.{◌≡◌, ◌≢◌, ℕ, ◌+◌, ◌*◌, ◌<◌, ◌≤◌, ◌⊎◌, inl, inr, cond, List, [], ◌∷◌, length, Option, Some, None, slice_get, slice_set, refl, sym, ap, ◌∙◌, subst, arith, eq-eqb, zero, suc}
 use Rattle.std.proofs.lemmas.Bool.{cases_eq, ne_eqb}
-use Rattle.std.proofs.lemmas.List.{length-set}
-use Rattle.std.proofs.lemmas.Option.{none-some, same_Some, slice_get_within}
+use Rattle.std.proofs.lemmas.Option.{none-some, slice_get_within}
 use Rattle.std.specs.Option.{option_and_then, option_map_or}
-use Rattle.parking_lot_rules.specs.Classes.{bit}
 use Rattle.parking_lot_rules.proofs.Indexed.{get-set_same, get-set_other}
 use Rattle.parking_lot_once_rules.specs.declared.once_state.OnceState.{OnceState}
 use Rattle.parking_lot_once_rules.specs.declared.once_state.OnceState.TheVariants.{New, Poisoned, InProgress, Done}
-use Rattle.parking_lot_once_rules.specs.Once.{Role, Idle, Word, Once, Step, Allowed, after, IsSound, number, state_number}
+use Rattle.parking_lot_once_rules.specs.Once.{Role, Idle, Word, Once, Step, IsSound, number, state_number}
 use Rattle.parking_lot_once_rules.proofs.Soundness.{step_sound}
 use Rattle.parking_lot_once_protocol.specs.OnceMoves.{role}
-use Rattle.parking_lot_once_protocol.specs.OnceTable.{state_of, is_parked}
 use Rattle.parking_lot_once_world.specs.Entries.{list_of}
 use Rattle.parking_lot_once_world.specs.Onces.{OpenCall, Onces, word_at, call_in, call_at, known_of, role_in, role_at, word_of, once_at}
 use Rattle.parking_lot_once_world.specs.OnceFits.{Fits}

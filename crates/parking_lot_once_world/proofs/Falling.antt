@@ -1,26 +1,24 @@
 -- Whatever a call's act gives, the steps that are left of the call fall.
-use Rattle.std.proofs.Common.{◌≡◌, ◌≢◌, ℕ, zero, suc, ◌+◌, ◌-◌, ◌*◌, ◌^◌, ◌<◌, ◌≤◌, Bool, true, false, not, cond, nat_lt, ◌==◌, ◌&&◌, min, List, [], ◌∷◌, length, Option, Some, None, refl, sym, ap, ◌∙◌, subst, arith, eqb-true, eq-eqb}
-use Rattle.std.proofs.lemmas.Bool.{ltb-true, ltb-false}
+use Rattle.std.proofs.Common.{◌≡◌, ℕ, suc, ◌+◌, ◌*◌, ◌≤◌, Bool, true, false, cond, nat_lt, ◌==◌, ◌&&◌, Some, None, refl, sym, ap, ◌∙◌, arith, eq-eqb}
+use Rattle.std.proofs.lemmas.Bool.{ltb-true}
 use Rattle.parking_lot_protocol.specs.declared.act.Act.{Act}
 use Rattle.parking_lot_protocol.specs.declared.act.Act.TheVariants as act
 use Rattle.parking_lot_protocol.specs.declared.act.SectionAct.TheVariants as section
-use Rattle.parking_lot_protocol.specs.declared.act.ActResult.{ActResult}
 use Rattle.parking_lot_protocol.specs.declared.act.ActResult.TheVariants as seen
-use Rattle.parking_lot_rules.specs.Classes.{bit}
 use Rattle.parking_lot_once_rules.specs.declared.once_state.OnceState.{OnceState}
 use Rattle.parking_lot_once_rules.specs.declared.once_state.OnceState.TheVariants.{New, Poisoned, InProgress, Done}
 use Rattle.parking_lot_once_rules.specs.declared.wish.Wish.{Wish}
-use Rattle.parking_lot_once_rules.specs.Once.{waits, number}
+use Rattle.parking_lot_once_rules.specs.Once.{waits}
 use Rattle.parking_lot_once_protocol.specs.declared.once_phase.OnceAnswer.{OnceAnswer}
 use Rattle.parking_lot_once_protocol.specs.declared.once_phase.OnceAnswer.TheVariants as end
 use Rattle.parking_lot_once_protocol.specs.declared.once_phase.Seeking.{Seeking}
 use Rattle.parking_lot_once_protocol.specs.declared.once_phase.OncePhase.{OncePhase}
 use Rattle.parking_lot_once_protocol.specs.declared.once_phase.OncePhase.TheVariants.{Asking, Returning, Loads, Starts, Spins, Parks, Enters, Checks, Retreats, Appends, Rests, Sleeps, Stores, Looks, Scans, Clears, Leaves, Wakes, Finishes, Ends, Invalid}
 use Rattle.parking_lot_once_protocol.specs.OnceMoves.{IsReady}
-use Rattle.parking_lot_once_protocol.specs.OnceTable.{state_of, is_parked, word_of, act_of, next_phase, waiting, seeks, sees, wakes, scans, with_taken}
+use Rattle.parking_lot_once_protocol.specs.OnceTable.{state_of, is_parked, word_of, act_of, next_phase, waiting, seeks, sees, wakes}
 use Rattle.parking_lot_once_world.specs.OnceActs.{shown, written}
 use Rattle.parking_lot_once_world.specs.OnceFits.{rounds_of, taken_count}
-use Rattle.parking_lot_once_world.specs.OnceRanks.{View, Unseen, Sees, is_at, keeps_waiting, parks, asks, in_hand, closing, phase_steps}
+use Rattle.parking_lot_once_world.specs.OnceRanks.{View, Unseen, Sees, keeps_waiting, parks, asks, in_hand, closing, phase_steps}
 use Rattle.parking_lot_once_world.specs.OnceSteps.{IsActOfItsOwn}
 
 parks_low : (shut : Bool) (w first : ℕ) → (4 ≤ parks (Sees w first shut)) × (parks (Sees w first shut) ≤ 29)

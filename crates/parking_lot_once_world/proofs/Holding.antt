@@ -1,5 +1,5 @@
 -- What a method of the machine knows while it holds the machine's parts.
-use Rattle.std.proofs.Common.{◌≡◌, ◌≢◌, ℕ, ◌+◌, ◌<◌, ◌≤◌, false, cond, count_by, List, length, Option, Some, None, slice_set, sym, ap, ◌∙◌, subst, arith}
+use Rattle.std.proofs.Common.{◌≡◌, ℕ, ◌+◌, ◌<◌, ◌≤◌, false, List, length, Option, Some, slice_set, sym, ap, ◌∙◌, subst, arith}
 use Rattle.std.proofs.lemmas.List.{length-set}
 use Rattle.parking_lot_core_lot.proofs.Numbers.{count_by-lt}
 use Rattle.parking_lot_once_world.specs.declared.open_call.OpenCall.{OpenCall}

@@ -1,17 +1,17 @@
 -- What is done stays done, and answers fit their calls.
-use Rattle.std.proofs.Common.{◌≡◌, ◌≢◌, ℕ, ◌⊎◌, inl, inr, Bool, true, false, cond, List, [], ◌∷◌, Option, Some, None, refl, sym, ap, ◌∙◌, subst}
+use Rattle.std.proofs.Common.{◌≡◌, ℕ, inl, inr, Bool, true, false, cond, [], ◌∷◌, Option, Some, None, refl, sym, ap, ◌∙◌, subst}
 use Rattle.std.specs.Option.{option_and_then}
 use Rattle.std.proofs.lemmas.Bool.{cases_eq}
 use Rattle.std.proofs.lemmas.Option.{none-some, same_Some}
 use Rattle.parking_lot_once_rules.specs.declared.once_state.OnceState.{OnceState}
 use Rattle.parking_lot_once_rules.specs.declared.once_state.OnceState.TheVariants.{Done}
-use Rattle.parking_lot_once_rules.specs.Once.{Once, Step, IsSound, Allowed, after}
+use Rattle.parking_lot_once_rules.specs.Once.{Once, Step, IsSound}
 use Rattle.parking_lot_once_rules.proofs.History as history
 use Rattle.parking_lot_once_protocol.specs.declared.once_phase.OnceAnswer.{OnceAnswer}
 use Rattle.parking_lot_once_protocol.specs.declared.once_phase.OnceAnswer.TheVariants as end
 use Rattle.parking_lot_once_protocol.specs.declared.once_phase.OncePhase.{OncePhase}
-use Rattle.parking_lot_once_protocol.specs.declared.once_phase.OncePhase.TheVariants.{Asking, Returning, Loads, Starts, Spins, Parks, Enters, Checks, Retreats, Appends, Rests, Sleeps, Stores, Looks, Scans, Clears, Leaves, Wakes, Finishes, Ends, Invalid}
-use Rattle.parking_lot_once_protocol.specs.OnceAnswers.{IsUnderWay, MayAnswer}
+use Rattle.parking_lot_once_protocol.specs.declared.once_phase.OncePhase.TheVariants.{Asking, Finishes, Ends}
+use Rattle.parking_lot_once_protocol.specs.OnceAnswers.{MayAnswer}
 use Rattle.parking_lot_once_protocol.specs.OnceTable.{answer_of}
 use Rattle.parking_lot_once_world.specs.declared.calls.OnceCall.{OnceCall}
 use Rattle.parking_lot_once_world.specs.declared.calls.OnceReply.{OnceReply}
@@ -20,9 +20,8 @@ use Rattle.parking_lot_once_world.specs.OnceActs.{replied}
 use Rattle.parking_lot_once_world.specs.OnceCalls.{ends_well, ran_or_failed, reply_by, wish_of}
 use Rattle.parking_lot_once_world.specs.OnceFits.{Fits, GoesOn}
 use Rattle.parking_lot_once_world.specs.OnceMachineLasting.{DoneStays, IsDone, MayReply, RepliesFit}
-use Rattle.parking_lot_once_world.specs.OnceSteps.{HasMade, IsLawful, IsStepped}
-use Rattle.parking_lot_once_world.specs.declared.open_call.OpenCall.{OpenCall}
-use Rattle.parking_lot_once_world.specs.Onces.{Onces, call_at, once_at}
+use Rattle.parking_lot_once_world.specs.OnceSteps.{HasMade, IsLawful}
+use Rattle.parking_lot_once_world.specs.Onces.{Onces, once_at}
 
 keeps : (t : ℕ) (step : Option Step) (m n : Once) → IsSound m → HasMade t step m n → m.word.state ≡ Done → n.word.state ≡ Done
 keeps t None m n sound made e = ap (λ (x : Once). x.word.state) made ∙ e

@@ -1,5 +1,5 @@
 -- What the code of taking and waking makes is what they leave of the machine.
-use Rattle.std.proofs.Common.{◌≡◌, ℕ, ◌<◌, List, length, remove, position, Option, Some, None, is_some, slice_get, slice_set, slice_index_or, refl, sym, ap, ◌∙◌}
+use Rattle.std.proofs.Common.{◌≡◌, ℕ, List, remove, position, Option, Some, slice_set, slice_index_or, sym, ap, ◌∙◌}
 use Rattle.std.specs.Option.{option_map}
 use Rattle.std.proofs.lemmas.Option.{same_Some, slice_get_within, slice_get-get_or}
 use Rattle.parking_lot_protocol.specs.declared.act.ActResult.TheVariants as seen

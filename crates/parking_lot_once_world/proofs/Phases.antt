@@ -1,5 +1,5 @@
 -- How a phase leads to the next, where its act is one of its own thread and its once alone.
-use Rattle.std.proofs.Common.{◌≡◌, ◌≢◌, ℕ, ◌+◌, ◌-◌, ◌<◌, ◌≤◌, Bool, true, false, not, cond, nat_lt, ◌==◌, ◌&&◌, List, [], ◌∷◌, length, Option, Some, None, is_some, refl, sym, ap, ◌∙◌, subst, arith, eqb-true, eq-eqb}
+use Rattle.std.proofs.Common.{◌≡◌, ℕ, ◌≤◌, Bool, true, false, cond, nat_lt, ◌==◌, ◌&&◌, List, Option, Some, refl, sym, ◌∙◌, arith, eqb-true, eq-eqb}
 use Rattle.std.proofs.lemmas.Bool.{ltb-true, ltb-false}
 use Rattle.parking_lot_protocol.specs.declared.act.Act.{Act}
 use Rattle.parking_lot_protocol.specs.declared.act.Act.TheVariants as act
@@ -9,7 +9,6 @@ use Rattle.parking_lot_protocol.specs.declared.act.ActResult.TheVariants as seen
 use Rattle.parking_lot_protocol.specs.Acts.{Gives, word_after}
 use Rattle.parking_lot_once_rules.specs.declared.once_state.OnceState.{OnceState}
 use Rattle.parking_lot_once_rules.specs.declared.once_state.OnceState.TheVariants.{New, Poisoned, InProgress, Done}
-use Rattle.parking_lot_once_rules.specs.declared.wish.Wish.{Wish}
 use Rattle.parking_lot_once_rules.specs.Once.{waits}
 use Rattle.parking_lot_once_protocol.specs.declared.once_phase.Seeking.{Seeking}
 use Rattle.parking_lot_once_protocol.specs.declared.once_phase.OncePhase.{OncePhase}

@@ -1,15 +1,14 @@
 -- A new machine fits together.
-use Rattle.std.proofs.Common.{◌≡◌, ℕ, zero, suc, ◌+◌, ◌≤◌, false, List, [], ◌∷◌, length, replicate, count_by, Option, Some, None, slice_get, refl, sym, ap, ◌∙◌, subst, arith}
-use Rattle.std.proofs.lemmas.List.Sums.{sum_by-cons}
+use Rattle.std.proofs.Common.{◌≡◌, ℕ, zero, suc, ◌+◌, ◌≤◌, false, [], ◌∷◌, length, replicate, count_by, Option, None, slice_get, refl, sym, ap, ◌∙◌, subst, arith}
 use Rattle.std.proofs.lemmas.Option.{none-some}
 use Rattle.std.specs.Option.{option_map_or}
 use Rattle.parking_lot_core_lot.proofs.Numbers.{count_by-cons}
-use Rattle.parking_lot_once_rules.specs.Once.{Role, Idle, Once, IsSound, number, unused}
+use Rattle.parking_lot_once_rules.specs.Once.{Role, Idle, IsSound, number, unused}
 use Rattle.parking_lot_once_rules.proofs.Soundness.{rest_sound}
 use Rattle.parking_lot_once_world.specs.declared.open_call.OpenCall.{OpenCall}
 use Rattle.parking_lot_once_world.specs.OnceActs.{at_rest}
 use Rattle.parking_lot_once_world.specs.OnceFits.{Fits, lies}
-use Rattle.parking_lot_once_world.specs.Onces.{Onces, call_in, once_at, role_at, role_in, word_at, word_of}
+use Rattle.parking_lot_once_world.specs.Onces.{Onces, call_in, once_at, role_at, role_in, word_of}
 use Rattle.parking_lot_once_world.proofs.Acting.{same_once}
 use Rattle.parking_lot_once_world.proofs.Everybody.{all}
 

@@ -1,5 +1,5 @@
 -- The steps of all threads but one, where calls have changed.
-use Rattle.std.proofs.Common.{◌≡◌, ℕ, zero, suc, ◌+◌, ◌≤◌, List, [], ◌∷◌, Option, Some, None, slice_set, sum_by, refl, ap, arith}
+use Rattle.std.proofs.Common.{◌≡◌, ℕ, zero, suc, ◌+◌, ◌≤◌, List, [], ◌∷◌, Option, None, slice_set, sum_by, refl, ap, arith}
 use Rattle.std.proofs.lemmas.List.Sums.{sum_by-cons}
 use Rattle.parking_lot_once_world.specs.declared.open_call.OpenCall.{OpenCall}
 use Rattle.parking_lot_once_world.specs.OnceRanks.{far_steps}

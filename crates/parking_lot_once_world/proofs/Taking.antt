@@ -1,43 +1,25 @@
 -- One that goes through the list takes the first of it.
-use Rattle.std.proofs.Common.{◌≡◌, ◌≢◌, ℕ, ◌+◌, ◌-◌, ◌^◌, ◌<◌, ◌≤◌, ◌⊎◌, inl, inr, Bool, true, false, cond, ◌==◌, ◌&&◌, List, [], ◌∷◌, length, Option, Some, None, is_none, slice_get, slice_set, refl, sym, ap, ◌∙◌, subst, arith, eqb-true, eq-eqb}
-use Rattle.std.proofs.lemmas.Bool.{cases_eq, ne_eqb}
-use Rattle.std.proofs.lemmas.List.{length-set, nil_from_length}
+use Rattle.std.proofs.Common.{◌≡◌, ◌≢◌, ℕ, ◌-◌, ◌^◌, ◌<◌, ◌≤◌, inr, Bool, true, false, cond, List, [], ◌∷◌, length, Some, None, slice_get, slice_set, refl, sym, ap, ◌∙◌, subst, arith}
 use Rattle.std.proofs.lemmas.List.Sums.{count_by-le-length}
-use Rattle.std.proofs.lemmas.Option.{none-some, same_Some}
-use Rattle.parking_lot_protocol.specs.declared.act.Act.{Act}
-use Rattle.parking_lot_protocol.specs.declared.act.Act.TheVariants as act
-use Rattle.parking_lot_protocol.specs.declared.act.SectionAct.TheVariants as section
+use Rattle.std.proofs.lemmas.Option.{same_Some}
 use Rattle.parking_lot_protocol.specs.declared.act.ActResult.{ActResult}
 use Rattle.parking_lot_protocol.specs.declared.act.ActResult.TheVariants as seen
-use Rattle.parking_lot_protocol.specs.Acts.{Gives, word_after}
-use Rattle.parking_lot_rules.specs.Classes.{bit}
-use Rattle.parking_lot_once_rules.specs.declared.once_state.OnceState.{OnceState}
-use Rattle.parking_lot_once_rules.specs.declared.once_state.OnceState.TheVariants.{New, Poisoned, InProgress, Done}
+use Rattle.parking_lot_protocol.specs.Acts.{Gives}
 use Rattle.parking_lot_once_rules.specs.declared.wish.Wish.{Wish}
 use Rattle.parking_lot_once_rules.specs.Once.{Role, Idle, Word, Once, Step, Plain, Alone, Begin, Start, Complete, Refuse, Flag, Enter, Check, Retreat, Rest, Return, Finish, Look, Store, Depart, Leave, Allowed, after, May, written, from, to, Class, Inside, Listed, weight, total, number, waits}
-use Rattle.parking_lot_once_rules.proofs.Soundness.{total-none}
-use Rattle.parking_lot_once_protocol.specs.declared.once_phase.OnceAnswer.TheVariants as end
 use Rattle.parking_lot_once_protocol.specs.declared.once_phase.OncePhase.{OncePhase}
-use Rattle.parking_lot_once_protocol.specs.declared.once_phase.OncePhase.TheVariants.{Asking, Returning, Loads, Starts, Spins, Parks, Enters, Checks, Retreats, Appends, Rests, Sleeps, Stores, Looks, Scans, Clears, Leaves, Wakes, Finishes, Ends, Invalid}
-use Rattle.parking_lot_once_protocol.specs.OnceAnswers.{IsUnderWay}
-use Rattle.parking_lot_once_protocol.specs.OnceMoves.{Known, Move, Stays, Makes, Joins, TakesOne, WakesOne, IsWoken, role, role_after, move, seeing, IsMove, IsReady, IsTold, Holds}
-use Rattle.parking_lot_once_protocol.specs.OnceTable.{state_of, is_parked, act_of, next_phase}
-use Rattle.parking_lot_once_protocol.proofs.OnceAnswering.{goes_on}
+use Rattle.parking_lot_once_protocol.specs.declared.once_phase.OncePhase.TheVariants.{Sleeps, Scans}
+use Rattle.parking_lot_once_protocol.specs.OnceMoves.{TakesOne, role, IsMove, IsReady, Holds}
+use Rattle.parking_lot_once_protocol.specs.OnceTable.{act_of, next_phase}
 use Rattle.parking_lot_once_protocol.proofs.OnceFollowing.{follows}
 use Rattle.parking_lot_once_world.specs.Entries.{list_of}
-use Rattle.parking_lot_once_world.specs.declared.calls.OnceCall.{OnceCall}
-use Rattle.parking_lot_once_world.specs.OnceActs as does
-use Rattle.parking_lot_once_world.specs.OnceActs.{shown, told, acted, inside_after}
-use Rattle.parking_lot_once_world.specs.OnceCalls.{wish_of, ends_well}
-use Rattle.parking_lot_once_world.specs.OnceFits.{Fits, Sits, GoesOn, Knows, is_in_section, is_listed, is_sleeping, is_the, lies, taken_count, rounds_of}
-use Rattle.parking_lot_once_world.specs.OnceSteps.{HasMade, IsActOfItsOwn, IsLawful, IsStepOf, given_by, move_by, move_of}
+use Rattle.parking_lot_once_world.specs.OnceActs.{shown, told}
+use Rattle.parking_lot_once_world.specs.OnceFits.{Fits, Sits, Knows, is_in_section, is_listed, is_sleeping, lies, taken_count, rounds_of}
+use Rattle.parking_lot_once_world.specs.OnceSteps.{IsLawful, given_by, move_by, move_of}
 use Rattle.parking_lot_once_world.specs.declared.open_call.OpenCall.{OpenCall}
-use Rattle.parking_lot_once_world.specs.Onces.{Onces, word_at, call_in, call_at, known_of, role_in, role_at, word_of, once_at}
-use Rattle.parking_lot_once_world.proofs.Acting.{IsThere, once_elsewhere, plays, role_here, role_now, roles_one, roles_same, same_once, shows_word, word_here, word_elsewhere, within}
-use Rattle.parking_lot_once_world.proofs.Everybody.{was-all, within-all}
+use Rattle.parking_lot_once_world.specs.Onces.{Onces, word_at, call_at, known_of, word_of, once_at}
+use Rattle.parking_lot_once_world.proofs.Acting.{plays, role_now, same_once}
 use Rattle.parking_lot_once_world.proofs.Listing.{short}
-use Rattle.parking_lot_once_world.proofs.Phases.{Led, in_after, leads, leaves, shows}
-use Rattle.parking_lot_once_world.proofs.Owning.{One, fits_one, makes_one, not_another, stays_one}
 use Rattle.std.proofs.Common.{◌++◌, remove}
 use Rattle.std.specs.Option.{option_map}
 use Rattle.parking_lot_once_rules.specs.Once as rules

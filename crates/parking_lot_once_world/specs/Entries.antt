@@ -1,5 +1,5 @@
 -- Many lists of threads, kept in one.
-use Rattle.std.specs.Prelude.{◌≡◌, ℕ, ◌==◌, Bool, List, [], ◌∷◌, ◌++◌, map, filter}
+use Rattle.std.specs.Prelude.{ℕ, ◌==◌, Bool, List, [], ◌∷◌, ◌++◌, map, filter}
 use Rattle.parking_lot_once_world.specs.declared.entry.Entry.{Entry}
 
 abbrev pub is_in : ℕ → Entry → Bool

@@ -2,7 +2,6 @@
 use Rattle.std.specs.Prelude.{ℕ, ◌==◌, ◌&&◌, Bool, true, false, is_some, is_none, nat_lt, if◌then◌else◌, List, [], length, remove, replicate, Option, Some, None, slice_get, slice_set}
 use Rattle.std.specs.List.{position}
 use Rattle.std.specs.Option.{option_map, option_and_then, option_map_or}
-use Rattle.parking_lot_core_lot.specs.declared.parking.UnparkToken.{UnparkToken}
 use Rattle.parking_lot_protocol.specs.declared.act.Act.{Act}
 use Rattle.parking_lot_protocol.specs.declared.act.Act.TheVariants as act
 use Rattle.parking_lot_protocol.specs.declared.act.SectionAct.TheVariants as section
@@ -19,7 +18,7 @@ use Rattle.parking_lot_once_world.specs.declared.calls.OnceCall.{OnceCall}
 use Rattle.parking_lot_once_world.specs.declared.calls.OnceReply.{OnceReply}
 use Rattle.parking_lot_once_world.specs.Entries.{is_in, joined}
 use Rattle.parking_lot_once_world.specs.OnceCalls.{ends_well, reply_by, wish_of}
-use Rattle.parking_lot_once_world.specs.Onces.{Entry, OpenCall, Onces, word_at, call_in, call_at}
+use Rattle.parking_lot_once_world.specs.Onces.{Entry, OpenCall, Onces, word_at, call_at}
 
 -- CALLS
 

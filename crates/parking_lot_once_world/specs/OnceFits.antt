@@ -1,12 +1,11 @@
 -- What holds of a machine of onces at every moment.
-use Rattle.std.specs.Prelude.{◌≡◌, ℕ, ◌+◌, ◌<◌, ◌≤◌, ◌==◌, ◌⊎◌, ◌^◌, Bool, true, false, count_by, List, [], length, Option, Some, None}
+use Rattle.std.specs.Prelude.{◌≡◌, ℕ, ◌+◌, ◌<◌, ◌≤◌, ◌==◌, ◌⊎◌, Bool, true, false, count_by, List, [], length, Option, Some, None}
 use Rattle.std.specs.Option.{option_map_or}
-use Rattle.parking_lot_once_rules.specs.declared.wish.Wish.{Wish}
 use Rattle.parking_lot_once_rules.specs.Once.{IsSound, number}
 use Rattle.parking_lot_once_rules.specs.declared.once_state.OnceState.{OnceState}
 use Rattle.parking_lot_once_protocol.specs.declared.once_phase.OnceAnswer.TheVariants as end
 use Rattle.parking_lot_once_protocol.specs.declared.once_phase.OncePhase.{OncePhase}
-use Rattle.parking_lot_once_protocol.specs.declared.once_phase.OncePhase.TheVariants.{Asking, Returning, Loads, Starts, Spins, Parks, Enters, Checks, Retreats, Appends, Rests, Sleeps, Stores, Looks, Scans, Clears, Leaves, Wakes, Finishes, Ends, Invalid}
+use Rattle.parking_lot_once_protocol.specs.declared.once_phase.OncePhase.TheVariants.{Asking, Returning, Loads, Starts, Spins, Parks, Checks, Retreats, Appends, Rests, Sleeps, Scans, Clears, Leaves, Wakes}
 use Rattle.parking_lot_once_protocol.specs.OnceAnswers.{IsUnderWay, MayAnswer}
 use Rattle.parking_lot_once_protocol.specs.OnceMoves.{IsReady}
 use Rattle.parking_lot_once_world.specs.declared.calls.OnceCall.{OnceCall}

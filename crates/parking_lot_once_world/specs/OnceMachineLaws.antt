@@ -1,14 +1,13 @@
 -- What holds of a machine of onces at every moment, in plain words.
-use Rattle.std.specs.Prelude.{◌≡◌, ◌≢◌, ℕ, ◌*◌, ◌<◌, ◌≤◌, ◌⊎◌, Bool, true, false, IsTrue, List, length, Option, Some, None, slice_get}
-use Rattle.parking_lot_rules.specs.Lists.{occurs, at_index}
+use Rattle.std.specs.Prelude.{◌≡◌, ◌≢◌, ℕ, ◌<◌, ◌⊎◌, true, false, IsTrue, length, Some}
+use Rattle.parking_lot_rules.specs.Lists.{occurs}
 use Rattle.parking_lot_once_rules.specs.declared.wish.Wish.{Wish}
-use Rattle.parking_lot_once_rules.specs.declared.once_state.OnceState.TheVariants.{InProgress, Done}
+use Rattle.parking_lot_once_rules.specs.declared.once_state.OnceState.TheVariants.{InProgress}
 use Rattle.parking_lot_once_rules.specs.Once.{Running, Listed, IsSound, weight, waits}
-use Rattle.parking_lot_once_rules.specs.OnceLaws.{SleepersAreKnown, SleepersAreWoken, WakersCanGoOn, WordTells}
+use Rattle.parking_lot_once_rules.specs.OnceLaws.{SleepersAreKnown, SleepersAreWoken}
 use Rattle.parking_lot_once_protocol.specs.declared.once_phase.OncePhase.TheVariants.{Sleeps}
 use Rattle.parking_lot_once_world.specs.Onces.{OpenCall, Onces, call_at, once_at, role_at}
-use Rattle.parking_lot_once_world.specs.OnceActs.{can_move, is_asleep}
-use Rattle.parking_lot_once_world.specs.OnceFits.{Fits}
+use Rattle.parking_lot_once_world.specs.OnceActs.{can_move}
 use Rattle.parking_lot_once_world.specs.OnceRanks.{FewAreLeft}
 
 -- one thread at most runs a closure of a once

@@ -1,8 +1,6 @@
 -- How many steps a thread still makes in its call, and all threads in theirs, where one of them is stepped until it can't move.
-use Rattle.std.specs.Prelude.{ℕ, ◌+◌, ◌-◌, ◌*◌, ◌≤◌, ◌==◌, ◌&&◌, not, Bool, false, is_none, if◌then◌else◌, length, Option, Some, None, slice_set}
+use Rattle.std.specs.Prelude.{ℕ, ◌+◌, ◌-◌, ◌*◌, ◌≤◌, ◌==◌, ◌&&◌, not, Bool, false, if◌then◌else◌, length, Option, Some, None, slice_set}
 use Rattle.std.specs.List.{sum_by}
-use Rattle.parking_lot_rules.specs.Classes.{bit}
-use Rattle.parking_lot_once_rules.specs.declared.once_state.OnceState.{OnceState}
 use Rattle.parking_lot_once_rules.specs.declared.wish.Wish.{Wish}
 use Rattle.parking_lot_once_rules.specs.Once.{waits}
 use Rattle.parking_lot_once_protocol.specs.declared.once_phase.OnceAnswer.{OnceAnswer}
@@ -13,7 +11,6 @@ use Rattle.parking_lot_once_protocol.specs.OnceTable.{state_of, is_parked, word_
 use Rattle.parking_lot_once_world.specs.declared.calls.OnceCall.{OnceCall}
 use Rattle.parking_lot_once_world.specs.OnceCalls.{wish_of}
 use Rattle.parking_lot_once_world.specs.Entries.{list_of}
-use Rattle.parking_lot_once_world.specs.OnceFits.{is_the}
 use Rattle.parking_lot_once_world.specs.Onces.{OpenCall, Onces, word_at, call_at}
 
 -- What counts of the machine for a thread's steps: nothing, where another thread is stepped, and all that it has seen may be out of date; else

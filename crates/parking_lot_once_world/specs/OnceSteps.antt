@@ -6,7 +6,7 @@ use Rattle.parking_lot_protocol.specs.declared.act.SectionAct.TheVariants as sec
 use Rattle.parking_lot_protocol.specs.declared.act.ActResult.{ActResult}
 use Rattle.parking_lot_protocol.specs.declared.act.ActResult.TheVariants as seen
 use Rattle.parking_lot_once_rules.specs.declared.wish.Wish.{Wish}
-use Rattle.parking_lot_once_rules.specs.Once.{Once, Step, Plain, Alone, Join, Take, Wake, Begin, Return, Leave, Allowed, after}
+use Rattle.parking_lot_once_rules.specs.Once.{Once, Step, Alone, Join, Take, Wake, Begin, Return, Leave, Allowed, after}
 use Rattle.parking_lot_once_protocol.specs.declared.once_phase.OnceAnswer.TheVariants as end
 use Rattle.parking_lot_once_protocol.specs.declared.once_phase.OncePhase.{OncePhase}
 use Rattle.parking_lot_once_protocol.specs.declared.once_phase.OncePhase.TheVariants.{Scans, Finishes, Ends}

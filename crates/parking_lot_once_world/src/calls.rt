@@ -35,24 +35,13 @@ impl OnceCall {
     pub fn wish(self) -> Wish
         ensures { result ≡ wish_of self }
     {
-        match self {
-            OnceCall::CallOnce(_) => Wish {
-                runs: true,
-                force: false,
-            },
-            OnceCall::CallOnceForce(_) => Wish {
-                runs: true,
-                force: true,
-            },
-            OnceCall::OnceWait => Wish {
-                runs: false,
-                force: false,
-            },
-            OnceCall::OnceWaitForce => Wish {
-                runs: false,
-                force: true,
-            },
-        }
+        let (runs, force) = match self {
+            OnceCall::CallOnce(_) => (true, false),
+            OnceCall::CallOnceForce(_) => (true, true),
+            OnceCall::OnceWait => (false, false),
+            OnceCall::OnceWaitForce => (false, true),
+        };
+        Wish { runs, force }
     }
 
     /// Whether its closure ends well, if it has one.

@@ -1,4 +1,4 @@
-use Rattle.std.proofs.Common.{◌≡◌, length, sym, ap, ◌∙◌, subst, arith, rules}
+use Rattle.std.proofs.Common.{◌≡◌, sym, subst, arith, rules}
 use Rattle.parking_lot_once_world.specs.OnceFits.{Fits}
 use Rattle.parking_lot_once_world.specs.OnceSteps.{IsActOfItsOwn, IsEntry}
 use Rattle.parking_lot_once_world.proofs.Holding.{low, room_set, word_low}

@@ -1,4 +1,4 @@
-use Rattle.std.proofs.Common.{◌≡◌, Some, slice_set, refl, sym, ap, ◌∙◌, subst}
+use Rattle.std.proofs.Common.{Some, slice_set, refl, sym, ap, ◌∙◌, subst}
 use Rattle.parking_lot_once_world.specs.declared.open_call.OpenCall.{OpenCall}
 use Rattle.parking_lot_once_world.specs.OnceActs.{begun}
 use Rattle.parking_lot_once_world.specs.OnceFits.{Fits}

@@ -1,4 +1,4 @@
-use Rattle.std.proofs.Common.{◌≡◌, None, Some, slice_set, sym, ap, ◌∙◌, subst, arith, rules}
+use Rattle.std.proofs.Common.{Some, slice_set, sym, ap, ◌∙◌, subst, arith}
 use Rattle.parking_lot_once_protocol.specs.declared.once_phase.OnceAnswer.TheVariants as end
 use Rattle.parking_lot_once_world.specs.OnceFits.{Fits}
 use Rattle.parking_lot_once_world.specs.Onces.{Onces}

@@ -1,5 +1,5 @@
-use Rattle.std.proofs.Common.{◌≡◌, None, Some, sym, ap, ◌∙◌, subst}
-use Rattle.parking_lot_once_world.specs.OnceActs.{ended, replied}
+use Rattle.std.proofs.Common.{None, sym, ◌∙◌, subst}
+use Rattle.parking_lot_once_world.specs.OnceActs.{replied}
 use Rattle.parking_lot_once_world.specs.OnceFits.{Fits}
 use Rattle.parking_lot_once_world.specs.OnceSteps.{IsStepped}
 use Rattle.parking_lot_once_world.proofs.Stepping.{acts_stepped, ends_stepped, entry_so, own_so, possible}

@@ -1,7 +1,7 @@
-use Rattle.std.proofs.Common.{◌≡◌, None, Some, sym, ap, ◌∙◌, subst}
+use Rattle.std.proofs.Common.{None, sym, ap, ◌∙◌, subst}
 use Rattle.parking_lot_protocol.specs.declared.act.Act.TheVariants as asks
 use Rattle.parking_lot_once_world.specs.OnceFits.{Fits}
-use Rattle.parking_lot_once_world.specs.OnceSteps.{IsActOfItsOwn, IsStepped}
+use Rattle.parking_lot_once_world.specs.OnceSteps.{IsStepped}
 use Rattle.parking_lot_once_world.proofs.Stepping.{acts_stepped, appends_stepped, inside_so, section_entry, takes_stepped, wakes_stepped}
 use Rattle.parking_lot_once_world.proofs.once_machine.OnceMachine.step_in_section.Goals as goal
 
