@@ -131,10 +131,10 @@ fn try_without(made: Made<'_>, when: When, tally: &mut Tally) -> Result<Broken, 
 }
 
 /// Runs the programs without memory at each of their steps, and in drains from each of them; and says how often a call was refused.
-fn try_each(
+fn try_each<'p>(
     rt: &(impl AllocGlobal + Abort),
-    pairs: &[(u64, u64)],
-    programs: &[&[Call]],
+    pairs: &'p [(u64, u64)],
+    programs: &'p [&'p [Call]],
     steps: u64,
 ) -> Result<Tally, Fail> {
     let made = Made {
@@ -159,24 +159,31 @@ fn try_each(
     Ok(tally)
 }
 
-#[test]
-fn a_refused_call_changes_nothing_and_leaves_no_hold(rt: HostRuntime) -> Result<(), Fail> {
-    let beside: &[Call] = &[Get(1), Leave];
-    for call in [Insert(1, 7), Enter(1), TryEnter(1)] {
-        let alone: &[Call] = if call == Insert(1, 7) {
-            &[Insert(1, 7)]
-        } else {
-            &[call, PutIn(7), Leave]
-        };
-        let tally = try_each(&rt, &[], &[alone, beside], 16)?;
-        assert!(rt; tally.refused > 0 && tally.done > 0, "{call:?}");
-    }
+/// The same of programs with a call that is refused at some of those steps, and not at others.
+fn is_refused_at_some<'p>(
+    rt: &(impl AllocGlobal + Abort),
+    pairs: &'p [(u64, u64)],
+    programs: &'p [&'p [Call]],
+    steps: u64,
+) -> Result<(), Fail> {
+    let tally = try_each(rt, pairs, programs, steps)?;
+    assert!(rt; tally.refused > 0 && tally.done > 0, "{programs:?}");
     Ok(())
 }
 
 #[test]
-fn a_refused_visit_leaves_those_before_it(rt: HostRuntime) -> Result<(), Fail> {
-    let pairs: &[(u64, u64)] = &[
+fn a_refused_call_changes_nothing_and_leaves_no_hold(rt: HostRuntime) -> Result<(), Fail> {
+    let inserts: [&[Call]; 2] = [&[Insert(1, 7)], &[Get(1), Leave]];
+    is_refused_at_some(&rt, &[], &inserts, 16)?;
+    let enters: [&[Call]; 2] = [&[Enter(1), PutIn(7), Leave], &[Get(1), Leave]];
+    is_refused_at_some(&rt, &[], &enters, 16)?;
+    let tries: [&[Call]; 2] = [&[TryEnter(1), PutIn(7), Leave], &[Get(1), Leave]];
+    is_refused_at_some(&rt, &[], &tries, 16)
+}
+
+/// The same of a walk over ten pairs.
+fn is_refused_in_a_walk(rt: &(impl AllocGlobal + Abort), walk: Call) -> Result<(), Fail> {
+    let pairs: [(u64, u64); 10] = [
         (2, 5),
         (1, 1),
         (3, 2),
@@ -188,18 +195,18 @@ fn a_refused_visit_leaves_those_before_it(rt: HostRuntime) -> Result<(), Fail> {
         (15, 8),
         (17, 9),
     ];
-    let beside: &[Call] = &[Remove(3), Get(2), Leave];
-    for walk in [
-        ReadAll(None),
-        ReadAll(Some(4)),
-        ReadAndAddToAll(1, None),
-        ReadAndAddToAll(1, Some(8)),
-        Shrink,
-    ] {
-        let tally = try_each(&rt, pairs, &[&[Remove(17), walk], beside], 50)?;
-        assert!(rt; tally.refused > 0 && tally.done > 0, "{walk:?}");
-    }
-    Ok(())
+    let walks: [Call; 2] = [Remove(17), walk];
+    let programs: [&[Call]; 2] = [&walks, &[Remove(3), Get(2), Leave]];
+    is_refused_at_some(rt, &pairs, &programs, 50)
+}
+
+#[test]
+fn a_refused_visit_leaves_those_before_it(rt: HostRuntime) -> Result<(), Fail> {
+    is_refused_in_a_walk(&rt, ReadAll(None))?;
+    is_refused_in_a_walk(&rt, ReadAll(Some(4)))?;
+    is_refused_in_a_walk(&rt, ReadAndAddToAll(1, None))?;
+    is_refused_in_a_walk(&rt, ReadAndAddToAll(1, Some(8)))?;
+    is_refused_in_a_walk(&rt, Shrink)
 }
 
 #[test]
