@@ -21,12 +21,12 @@ use Rattle.parking_lot_protocol.specs.MutexRules as of_mutex
 use Rattle.parking_lot_protocol.specs.declared.act.ActResult.{ActResult}
 use Rattle.parking_lot_protocol.specs.declared.mutex_core.MutexCore.{MutexCore}
 use Rattle.parking_lot_core_lot.specs.declared.place.Waiter.{Waiter}
-use Rattle.parking_lot_world.specs.declared.calls.LockKind.{LockKind}
+use Rattle.parking_lot_world.specs.Kinds.{AsMutex, AsRw, manner_of, Manner}
 use Rattle.parking_lot_world.specs.declared.seat.Hold.{Hold}
 use Rattle.parking_lot_world.specs.declared.seat.QueuePosition.{QueuePosition}
 use Rattle.parking_lot_world.specs.declared.seat.Core.{Core}
 use Rattle.parking_lot_world.specs.declared.open_call.Call.{Call}
-use Rattle.parking_lot_world.specs.Rows.{State, word_at, hold_at, call_at, is_by, taken_by, owned_of, rw_spot, rw_role_in, rw_role_at, rw_core_role, rw_lock_at, mutex_at, mutex_spot, first_of_all, any_lock}
+use Rattle.parking_lot_world.specs.Rows.{State, word_at, hold_at, call_at, is_by, taken_by, owned_of, rw_spot, rw_role_in, rw_role_at, rw_core_role, rw_lock_at, mutex_at, mutex_spot, first_of_all, lock_as}
 use Rattle.parking_lot_world.specs.Stances.{core_next, rw_taken, taken_count}
 use Rattle.parking_lot_world.specs.RowFits.{FitsTogether, is_away, IsOfKind, IsPrepared, KnowsList}
 use Rattle.parking_lot_world.specs.RwLaws.{Learns, Meets, count_shared}
@@ -92,11 +92,11 @@ module _ (s : State) (h : FitsTogether s) where
       go true = core_few c.others c.spot (taken_by s.wakes u) c.core (h.rules.beside u c e)
       go false = hold_few u i (hold_at s u i) refl
 
-  pub rw_sound : (i : ℕ) → slice_get s.kinds i ≡ Some LockKind.Rw → IsSound (rw_lock_at s i)
-  rw_sound i k = subst (λ (o : Option LockKind). AnySound (any_lock o s i)) k (h.rules.sound.sound i)
+  pub rw_sound : (i : ℕ) → manner_of (slice_get s.kinds i) ≡ Some AsRw → IsSound (rw_lock_at s i)
+  rw_sound i k = subst (λ (o : Option Manner). AnySound (lock_as o s i)) k (h.rules.sound.sound i)
 
-  pub mutex_sound : (i : ℕ) → slice_get s.kinds i ≡ Some LockKind.Mutex → mutex.IsSound (mutex_at s i)
-  mutex_sound i k = subst (λ (o : Option LockKind). AnySound (any_lock o s i)) k (h.rules.sound.sound i)
+  pub mutex_sound : (i : ℕ) → manner_of (slice_get s.kinds i) ≡ Some AsMutex → mutex.IsSound (mutex_at s i)
+  mutex_sound i k = subst (λ (o : Option Manner). AnySound (lock_as o s i)) k (h.rules.sound.sound i)
 
   -- thread t is in that call
   pub meets : (t : ℕ) (c : Call) (k : RwCore) → c.core ≡ Core.Rw k → call_at s t ≡ Some c

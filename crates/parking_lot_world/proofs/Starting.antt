@@ -1,7 +1,7 @@
 -- A call begins: its thread goes from no call to the first phase.
 use Rattle.std.proofs.Common.{◌≡◌, ◌≢◌, ℕ, ◌+◌, ◌*◌, ◌<◌, ◌≤◌, inl, inr, Bool, true, false, List, [], length, Option, Some, None, slice_get, slice_set, refl, sym, ap, ◌∙◌, subst, arith, zero, suc, ◌⊎◌, cond, nat_lt}
 use Rattle.std.proofs.lemmas.Bool.{cases_eq, both_ways, cases_lt, lt-ltb, ltb-true}
-use Rattle.std.proofs.lemmas.Option.{none-some, same_Some, slice_get-get_or, slice_get_within}
+use Rattle.std.proofs.lemmas.Option.{none-some, same_Some, slice_get-get_or}
 use Rattle.std.proofs.lemmas.List.{length-set}
 use Rattle.std.specs.Option.{option_and_then, option_map_or}
 use Rattle.std.specs.Prelude.{get_or}
@@ -14,6 +14,7 @@ use Rattle.parking_lot_protocol.specs.declared.act.Act.{Act}
 use Rattle.parking_lot_protocol.specs.Acts.{word_after}
 use Rattle.parking_lot_protocol.specs.declared.rw_core.RwCore.{RwCore}
 use Rattle.parking_lot_protocol.specs.declared.mutex_core.MutexCore.{MutexCore}
+use Rattle.parking_lot_world.specs.Kinds.{AsMutex, AsRw, manner_of}
 use Rattle.parking_lot_world.specs.declared.seat.Core.{Core}
 use Rattle.parking_lot_world.specs.declared.open_call.Call.{Call}
 use Rattle.parking_lot_world.specs.declared.seat.QueuePosition.{QueuePosition}
@@ -40,7 +41,7 @@ use Rattle.parking_lot_world.proofs.RwMoving.{answers_are_moves}
 use Rattle.parking_lot_world.proofs.RwKeeping.{calls_keep}
 use Rattle.parking_lot_world.proofs.RwCrossing.{lists_are_known}
 use Rattle.parking_lot_world.proofs.RwTaking.{begins_are_ready, ends_are_steps, answers_are_last}
-use Rattle.parking_lot_world.proofs.KindTable.{Kind, of_rws, of_mutexes, IsThere, Elsewhere, one_changed, role_at, role_now, role_stays, roles_at, same, shown}
+use Rattle.parking_lot_world.proofs.KindTable.{within_kinds, Kind, of_rws, of_mutexes, IsThere, Elsewhere, one_changed, role_at, role_now, role_stays, roles_at, same, shown}
 use Rattle.parking_lot_world.proofs.Everybody.{get-all, was-all, length-all}
 use Rattle.parking_lot_world.proofs.Making.{Crossed, TellsOf, move_sound, rw_goes, mutex_goes, RwLeadsBy, last_sound}
 use Rattle.parking_lot_world.proofs.Owning.{rw_leads, set-same}
@@ -60,7 +61,6 @@ use Rattle.parking_lot_protocol.specs.declared.act.ActResult.TheVariants as seen
 use Rattle.parking_lot_protocol.specs.RwRules as of_rw
 use Rattle.parking_lot_protocol.specs.MutexRules as of_mutex
 use Rattle.parking_lot_protocol.specs.RwTable as of_rw_table
-use Rattle.parking_lot_world.specs.declared.calls.LockKind.TheVariants as kind
 use Rattle.parking_lot_protocol.specs.MutexTable as of_mutex_table
 use Rattle.parking_lot_rules.specs.Family as crossing
 use Rattle.parking_lot_protocol.specs.declared.rw_phase.AfterWake.TheVariants as rest
@@ -147,7 +147,7 @@ module _ (s : State) (t : ℕ) (c : Call) (may : MayBegin s t c) (h : FitsTogeth
   abbrev x : ℕ
   x = word_at s c.lock
 
-  begin_rws : (k : RwCore) → c.core ≡ Core.Rw k → OwnsFor (hold_at s t c.lock) c.others (Core.Rw k) → slice_get s.kinds c.lock ≡ Some kind.Rw → Fitted s next t c seen.Start (Core.Rw k)
+  begin_rws : (k : RwCore) → c.core ≡ Core.Rw k → OwnsFor (hold_at s t c.lock) c.others (Core.Rw k) → manner_of (slice_get s.kinds c.lock) ≡ Some AsRw → Fitted s next t c seen.Start (Core.Rw k)
   begin_rws k e owns kind_is =
       let ready = begins_are_ready c.others (rw_spot c.spot) us k.phase x owns.0 in
       let well = begin_rw t c.others us k.phase (rw_lock_at s c.lock) (inside s) (s.lot.queues (2 * c.lock)) (s.lot.queues (2 * c.lock + 1)) owns.0 owns.1 in
@@ -168,7 +168,7 @@ module _ (s : State) (t : ℕ) (c : Call) (may : MayBegin s t c) (h : FitsTogeth
         h.rules.bits c.lock,
       )
 
-  begin_mutexes : (k : MutexCore) → c.core ≡ Core.Mutex k → OwnsFor (hold_at s t c.lock) c.others (Core.Mutex k) → slice_get s.kinds c.lock ≡ Some kind.Mutex → Fitted s next t c seen.Start (Core.Mutex k)
+  begin_mutexes : (k : MutexCore) → c.core ≡ Core.Mutex k → OwnsFor (hold_at s t c.lock) c.others (Core.Mutex k) → manner_of (slice_get s.kinds c.lock) ≡ Some AsMutex → Fitted s next t c seen.Start (Core.Mutex k)
   begin_mutexes k e owns kind_is =
       let v = first_of_all us in
       let well = begin_mutex v us k.phase (s.lot.queues (2 * c.lock)) owns.0 in
@@ -316,8 +316,8 @@ module _ (s : State) (h : FitsTogether s) (t : ℕ) (c : Call) (here : call_at s
   lock_within = go c.core refl
     where
       go : (x : Core) → c.core ≡ x → c.lock < length s.kinds
-      go (Core.Rw k) e = slice_get_within s.kinds c.lock _ (subst (IsOfKind (slice_get s.kinds c.lock)) e (h.rules.kinds t c here))
-      go (Core.Mutex k) e = slice_get_within s.kinds c.lock _ (subst (IsOfKind (slice_get s.kinds c.lock)) e (h.rules.kinds t c here))
+      go (Core.Rw k) e = within_kinds s.kinds c.lock _ (subst (IsOfKind (slice_get s.kinds c.lock)) e (h.rules.kinds t c here))
+      go (Core.Mutex k) e = within_kinds s.kinds c.lock _ (subst (IsOfKind (slice_get s.kinds c.lock)) e (h.rules.kinds t c here))
 
   hold_here : hold_at u t c.lock ≡ now
   hold_here =

@@ -30,13 +30,13 @@ use Rattle.parking_lot_world.proofs.MutexMoving.{steps}
 use Rattle.parking_lot_world.proofs.RwCrossing.{lists_are_known}
 use Rattle.parking_lot_world.proofs.RwTaking.{sleepers_at_a_lock_are_known, takes_are_steps, firsts_may_be_taken, writers_are_taken}
 use Rattle.parking_lot_world.proofs.TakeParts.{took_told, TakesSo, the_sleeper, list_here, list_there, first_there, took_list, took_after, took_elsewhere, waits_listed, waits_so}
+use Rattle.parking_lot_world.specs.Kinds.{AsRw, manner_of}
 use Rattle.parking_lot_world.specs.RowActs.{key_of, took}
 use Rattle.parking_lot_world.specs.RowFits.{FitsTogether, IsOfKind, IsPrepared, KnowsList}
 use Rattle.parking_lot_world.specs.Rows.{State, word_at, call_at, taken_by, rw_spot, rw_lock_at, first_of_all, mutex_spot, mutex_at}
 use Rattle.parking_lot_world.specs.RwLaws.{SleepsFirst, SleepsSecond}
 use Rattle.parking_lot_world.specs.Stances as stances
 use Rattle.parking_lot_world.specs.Stances.{Takes, In, rw_stance, mutex_stance, stance, taken_count, core_next}
-use Rattle.parking_lot_world.specs.declared.calls.LockKind.TheVariants as kind
 use Rattle.parking_lot_world.specs.declared.open_call.Call.{Call}
 use Rattle.parking_lot_world.specs.declared.seat.Core.{Core}
 
@@ -73,7 +73,7 @@ module _ (s : State) (t : ℕ) (c : Call) (k : ℕ) (w : Waiter) (from : stance 
   -- AT A READER-WRITER LOCK
 
   -- who waits there, and how it sleeps
-  rw_waits : slice_get s.kinds c.lock ≡ Some kind.Rw → (y : RwCore) × (z.core ≡ Core.Rw y) × (((k ≡ 0) × SleepsFirst z.others ws y.phase w.token) ⊎ ((k ≡ 1) × SleepsSecond z.others ws y.phase))
+  rw_waits : manner_of (slice_get s.kinds c.lock) ≡ Some AsRw → (y : RwCore) × (z.core ≡ Core.Rw y) × (((k ≡ 0) × SleepsFirst z.others ws y.phase w.token) ⊎ ((k ≡ 1) × SleepsSecond z.others ws y.phase))
   rw_waits is =
       let o = waits_so s t c k w from at h here of_rws is in
       let x = the_sleeper s t c k w from at h here in

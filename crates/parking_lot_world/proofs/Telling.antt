@@ -26,14 +26,14 @@ use Rattle.parking_lot_protocol.specs.declared.rw_phase.RwPhase.{RwPhase}
 use Rattle.parking_lot_rules.specs.Plain.{Mask2}
 use Rattle.parking_lot_rules.specs.Steps.{settle, ends_saying}
 use Rattle.parking_lot_rules.specs.Mutex as mutex
+use Rattle.parking_lot_world.specs.Kinds.{Manner, manner_of}
 use Rattle.parking_lot_world.specs.MutexLaws.{IsTelling}
 use Rattle.parking_lot_world.specs.RowActs.{settled_spot, settled, told_of}
-use Rattle.parking_lot_world.specs.RowFits.{FitsTogether, IsOfKind, IsPrepared, KnowsList}
+use Rattle.parking_lot_world.specs.RowFits.{FitsTogether, IsOfKind, IsPrepared, KnowsList, IsOfManner}
 use Rattle.parking_lot_world.specs.Rows.{State, word_at, call_at, hold_at, taken_by, mark_of, rw_spot, rw_lock_at, first_of_all, mutex_spot, mutex_at, queue_at}
 use Rattle.parking_lot_world.specs.RowSteps.{IsMutexMove}
 use Rattle.parking_lot_world.specs.RwLaws.{ending_of}
 use Rattle.parking_lot_world.specs.Stances.{Doing, In, Asleep, Stores, sign, mutex_stance, rw_stance, stance, taken_count, core_act, core_next, core_tells}
-use Rattle.parking_lot_world.specs.declared.calls.LockKind.{LockKind}
 use Rattle.parking_lot_world.specs.declared.open_call.Call.{Call}
 use Rattle.parking_lot_world.specs.declared.seat.Core.{Core}
 use Rattle.parking_lot_world.specs.declared.seat.QueuePosition.{QueuePosition}
@@ -90,7 +90,7 @@ module _ {C R L : Type 0} (K : Kind C R L) (s : State) (t : ℕ) (c : Call) (hea
       go (Some f) at = elim (cases_eq f.lock c.lock) [
         | inl there ↦
             let kind_is = K.of_kind (slice_get s.kinds c.lock) k (subst (IsOfKind (slice_get s.kinds c.lock)) e (h.rules.kinds t c here)) in
-            let j = K.only f.core (subst (λ (o : Option LockKind). IsOfKind o f.core) (ap (slice_get s.kinds) there ∙ kind_is) (h.rules.kinds x f at)) in
+            let j = K.only f.core (subst (λ (o : Option Manner). IsOfManner o f.core) (ap (λ j. manner_of (slice_get s.kinds j)) there ∙ kind_is) (h.rules.kinds x f at)) in
             let was = K.here c.lock (taken_by s.wakes x) (hold_at s x c.lock) f j.0 j.1 there in
             K.here c.lock (taken_by s.wakes x) (hold_at s x c.lock) (settled t (told_of token) f) j.0 j.1 there
             ∙ tells x f.others f.spot (taken_by s.wakes x) j.0 (get-all (role_at K s c.lock) (length s.calls) x low ∙ ap Some (ap (K.role_in c.lock (taken_by s.wakes x) (hold_at s x c.lock)) at ∙ was)) ∙ ap g (sym was)
