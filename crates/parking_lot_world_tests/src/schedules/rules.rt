@@ -69,7 +69,7 @@ fn broken_by_thread(at: Progress, thread: usize, shown: &Shown) -> Option<&'stat
         ]),
         Stage::Within(open) => first_broken(&[
             (
-                may_own(open.call, mode),
+                may_own(open.call, open.shares, mode),
                 "in a call a thread owns what it had or asks for",
             ),
             (answer.is_none(), "a call that goes on isn't answered"),

@@ -19,9 +19,9 @@ pub struct Shown {
 fn weight(kind: LockKind, mode: OwnMode) -> u64 {
     match (kind, mode) {
         (LockKind::Mutex | LockKind::FairMutex, _) => 1,
-        (LockKind::Rw, OwnMode::Exclusive | OwnMode::Pending) => 8,
-        (LockKind::Rw, OwnMode::Shared) => 16,
-        (LockKind::Rw, OwnMode::Upgradable) => 20,
+        (_, OwnMode::Exclusive | OwnMode::Pending) => 8,
+        (_, OwnMode::Shared) => 16,
+        (_, OwnMode::Upgradable) => 20,
     }
 }
 
@@ -29,7 +29,7 @@ fn weight(kind: LockKind, mode: OwnMode) -> u64 {
 fn parked_bits(kind: LockKind) -> (u64, u64) {
     match kind {
         LockKind::Mutex | LockKind::FairMutex => (2, 0),
-        LockKind::Rw => (1, 2),
+        LockKind::Rw | LockKind::RwRecursive => (1, 2),
     }
 }
 
