@@ -18,6 +18,7 @@ fn first_broken(rules: &[(bool, &'static str)]) -> Option<&'static str> {
 /// A rule of states that this one breaks.
 pub fn broken_by_state(threads: [Progress; 2], shown: &Shown) -> Option<&'static str> {
     broken_by_lock(shown)
+        .or(broken_by_holds(threads, shown))
         .or(broken_by_thread(threads[0], 0, shown))
         .or(broken_by_thread(threads[1], 1, shown))
 }
@@ -54,6 +55,17 @@ fn broken_by_lock(shown: &Shown) -> Option<&'static str> {
             "somebody is in debt where one that waits might go on",
         ),
     ])
+}
+
+/// The word counts the shared holds that threads have by their calls so far, and of a call that isn't answered what it adds or takes, or not yet.
+fn broken_by_holds(threads: [Progress; 2], shown: &Shown) -> Option<&'static str> {
+    let [first, second] = threads;
+    let (least, most) = first.holds();
+    let (less, more) = second.holds();
+    first_broken(&[(
+        shown.counts_holds(least.saturating_add(less), most.saturating_add(more)),
+        "the word counts the shared holds",
+    )])
 }
 
 fn broken_by_thread(at: Progress, thread: usize, shown: &Shown) -> Option<&'static str> {

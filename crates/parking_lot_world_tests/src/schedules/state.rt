@@ -161,6 +161,18 @@ impl Progress {
         }
     }
 
+    /// How many shared holds it has at least and at most.
+    pub fn holds(&self) -> (u64, u64) {
+        let before = u64::from(self.shares);
+        match self.stage {
+            Stage::Between(_) => (before, before),
+            Stage::Within(open) => {
+                let behind = u64::from(shares_behind(open.call, self.shares));
+                (before.min(behind), before.max(behind))
+            }
+        }
+    }
+
     /// How it ends, where it makes no further step.
     pub fn end(&self) -> End {
         match self.stage {
