@@ -65,7 +65,7 @@ single_hold s t i single = by (nat_lt i (length s.kinds))
     by true = at (slice_get s.holds (t * length s.kinds + i)) refl
     by false = refl
 
-single_less : (h : Hold) → is_single h ≡ true → shares_of h - 1 ≡ 0
+pub single_less : (h : Hold) → is_single h ≡ true → shares_of h - 1 ≡ 0
 single_less (Hold.Shares zero) is = refl
 single_less (Hold.Shares (suc zero)) is = refl
 single_less (Hold.Shares (suc (suc n))) is = absurd (false≢true is)

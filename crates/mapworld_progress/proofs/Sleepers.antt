@@ -12,7 +12,7 @@ use Rattle.parking_lot_protocol.specs.declared.rw_phase.LockMode.{LockMode}
 use Rattle.parking_lot_protocol.specs.declared.rw_phase.RwPhase.{RwPhase}
 use Rattle.parking_lot_protocol.specs.RwTable.{act_of}
 use Rattle.parking_lot_world.specs.declared.calls.LockKind.{LockKind}
-use Rattle.parking_lot_world.specs.declared.calls.LockKind.TheVariants as kind
+use Rattle.parking_lot_world.specs.Kinds.{AsMutex, manner_of}
 use Rattle.parking_lot_world.specs.declared.open_call.Call.{Call}
 use Rattle.parking_lot_world.specs.declared.seat.Core.{Core}
 use Rattle.parking_lot_world.specs.Machines.{is_asleep, sleeps}
@@ -23,12 +23,7 @@ use Rattle.mapworld_locks.specs.Aims.{Aim, Gets, aim_for, phase_aim}
 use Rattle.mapworld_locks.specs.Fits.{LocksFit}
 use Rattle.mapworld_locks.specs.Stands.{core_aim}
 use Rattle.mapworld_locks.specs.Views.{Shown}
-
--- what is so of all elements is so of each
-pub all_at : {X : Type 0} (P : X → Type 0) (xs : List X) (i : ℕ) (x : X) → All P xs → slice_get xs i ≡ Some x → P x
-all_at P [] i x all at = absurd (none-some x at)
-all_at P (y ∷ ys) zero x all at = subst P (same_Some y x at) (All-head P y ys all)
-all_at P (y ∷ ys) (suc i) x all at = all_at P ys i x (All-tail P y ys all) at
+use Rattle.mapworld_locks.proofs.Stepping.{not_mutex}
 
 -- a thread that asks for a lock sleeps on one of its keys
 pub record SleepsOn (at : Stance) (aim : Aim) : Type 0 where
@@ -99,7 +94,7 @@ sleeps_on (RwPhase.Finishes rest) h = absurd (awake rest h)
 sleeps_on (RwPhase.Ends outcome) h = cc
 sleeps_on RwPhase.Invalid h = cc
 
-core_sleeps : (k : Core) (o : Option LockKind) → o ≢ Some kind.Mutex → IsOfKind o k → sleeps (core_act k) ≡ true → SleepsOn (stance k) (core_aim k)
+core_sleeps : (k : Core) (o : Option LockKind) → manner_of o ≢ Some AsMutex → IsOfKind o k → sleeps (core_act k) ≡ true → SleepsOn (stance k) (core_aim k)
 core_sleeps (Core.Rw c) o rw of_kind h = sleeps_on c.phase h
 core_sleeps (Core.Mutex c) o rw of_kind h = absurd (rw of_kind)
 
@@ -107,13 +102,10 @@ module _ (locks : Shown) (fit : LocksFit locks) (t : ℕ) where
   abbrev s : State
   s = state locks.rows
 
-  all_rw : (i : ℕ) → slice_get s.kinds i ≢ Some kind.Mutex
-  all_rw i e = let same = all_at (λ k. k ≡ kind.Rw) s.kinds i kind.Mutex fit.plain.kinds e in cc
-
   -- the call in which a thread sleeps
   sleeper-by : (o : Option Call) → call_at s t ≡ o → option_map_or (λ c. sleeps (core_act c.core)) o false ≡ true → (c : Call) × (call_at s t ≡ Some c) × SleepsOn (stance c.core) (core_aim c.core)
   sleeper-by None there h = cc
-  sleeper-by (Some c) there h = (c, there, core_sleeps c.core (slice_get s.kinds c.lock) (all_rw c.lock) (fit.fits.rules.kinds t c there) h)
+  sleeper-by (Some c) there h = (c, there, core_sleeps c.core (slice_get s.kinds c.lock) (not_mutex s c.lock fit.plain.kinds) (fit.fits.rules.kinds t c there) h)
 
   pub sleeper : is_asleep s t ≡ true → (c : Call) × (call_at s t ≡ Some c) × SleepsOn (stance c.core) (core_aim c.core)
   sleeper h = sleeper-by (call_at s t) refl h
