@@ -1,7 +1,6 @@
 -- What the steps of a lock reach: one word or one queue, of one shard.
-use Rattle.std.proofs.Common.{◌≡◌, ◌≢◌, ℕ, zero, suc, ◌*◌, ◌+◌, inl, inr, Bool, true, false, cond, List, [], ◌∷◌, length, nat_lt, Option, Some, None, slice_get, slice_set, refl, sym, ap, ◌∙◌, subst, arith}
-use Rattle.std.specs.List.{All}
-use Rattle.std.specs.Option.{option_and_then, option_map_or}
+use Rattle.std.proofs.Common.{◌≡◌, ◌≢◌, ℕ, zero, suc, inl, inr, Bool, true, false, List, [], ◌∷◌, length, Option, Some, None, slice_get, slice_set, refl, sym, ap, ◌∙◌, subst, arith}
+use Rattle.std.specs.Option.{option_and_then, option_map}
 use Rattle.std.proofs.lemmas.Bool.{cases_eq}
 use Rattle.std.proofs.lemmas.Option.{none-some, same_Some}
 use Rattle.lock_api_desk.specs.Desk.{DeskState}
@@ -10,37 +9,24 @@ use Rattle.parking_lot_protocol.specs.declared.act.ActResult.TheVariants.{Start}
 use Rattle.parking_lot_protocol.specs.declared.act.CoreAnswer.{CoreAnswer}
 use Rattle.parking_lot_world.specs.declared.calls.LockCall.{LockCall}
 use Rattle.parking_lot_world.specs.declared.open_call.Call.{Call}
-use Rattle.parking_lot_world.specs.declared.seat.Hold.{Hold}
-use Rattle.parking_lot_world.specs.declared.seat.Hold.TheVariants as hold
-use Rattle.parking_lot_protocol.specs.declared.rw_phase.LockMode.TheVariants as want
-use Rattle.parking_lot_world.specs.declared.calls.LockKind.{LockKind}
-use Rattle.parking_lot_world.specs.Beginnings.{core_of, holds as shares_of, holds_beside}
-use Rattle.parking_lot_world.specs.Kinds.{is_recursive, kind_in, recursive_in}
-use Rattle.parking_lot_world.specs.RowFits.{Asks, IsPrepared}
 use Rattle.parking_lot_world.specs.Machines.{Became, call_for, end_of}
 use Rattle.parking_lot_world.specs.RowActs.{answered, begun, hears}
-use Rattle.parking_lot_world.specs.Rows.{State, call_at, first_key, hold_at, queue_at, second_key, state, word_at}
-use Rattle.parking_lot_world.specs.Stances.{core_act, core_next}
-use Rattle.mapworld_locks.specs.Fits.{IsPlain, LocksFit, is_single}
+use Rattle.parking_lot_world.specs.Rows.{State, call_at, first_key, queue_at, second_key, state, word_at}
+use Rattle.parking_lot_world.specs.Stances.{core_act}
+use Rattle.mapworld_locks.specs.Fits.{IsPlain, LocksFit}
 use Rattle.mapworld_locks.specs.Footprints.{StepsTouchOneLock, TouchesOnly}
 use Rattle.mapworld_locks.specs.Seats.{seat_of}
+use Rattle.mapworld_locks.specs.Stands.{Stand, stand_of}
 use Rattle.mapworld_locks.specs.Steps.{LockBegins, LockEnds, LockMoves, LockStarts}
 use Rattle.mapworld_locks.specs.Views.{Shown}
 use Rattle.mapworld_locks.proofs.Answering.{stepped_fits}
-use Rattle.mapworld_locks.proofs.Beginning.{same_holds, single_hold, single_less}
-use Rattle.mapworld_locks.proofs.Handing.{not_recursive}
+use Rattle.mapworld_locks.proofs.Beginning.{begun_alone, same_holds}
 use Rattle.mapworld_locks.proofs.Keeping.{stepped_plain}
 use Rattle.mapworld_calls.proofs.Lists.{slice_get-set_other}
 use Rattle.mapworld_state.specs.Footprint.{ChangesLock, KeepsLock, KeepsLocks, first_queue, second_queue, the_word}
 use Rattle.mapworld.proofs.Filling.{length-slice_set}
 
 -- A CALL BEGINS: nothing is changed but who is in a call, and the locks fit together still
-
--- one that has begun a call at a lock that isn't recursive has no hold beside
-begun_alone : (k : LockKind) (call : LockCall) (h : Hold) → is_recursive k ≡ false → is_single h ≡ true → IsPrepared false (holds_beside call h) (core_next (core_of k call) Start) → holds_beside call h ≡ 0
-begun_alone k LockCall.Read h plain single ready = subst (λ b. Asks false (shares_of h) (want.Shared b)) plain ready.1
-begun_alone k LockCall.TryRead h plain single ready = subst (λ b. Asks false (shares_of h) (want.Shared b)) plain ready.1
-begun_alone k call h plain single ready = single_less h single
 
 set_at : {X : Type 0} (xs : List X) (i : ℕ) (y z : X) → slice_get (slice_set xs i y) i ≡ Some z → z ≡ y
 set_at [] i y z at = absurd (none-some z at)
@@ -51,30 +37,27 @@ there : (o : Option (Option Call)) (d : Call) → option_and_then (λ c. c) o �
 there None d e = absurd (none-some d e)
 there (Some o) d e = ap Some e
 
-begun_plain : (s : State) (t : ℕ) (c : Call) → IsPlain s → (call_at (begun s t c) t ≡ Some (hears c Start) → c.others ≡ 0) → IsPlain (begun s t c)
-begun_plain s t c plain alone = record {
+begun_plain : (s : State) (t : ℕ) (c : Call) → IsPlain s → c.others ≡ 0 → IsPlain (begun s t c)
+begun_plain s t c plain none = record {
   kinds = plain.kinds;
   single = plain.single;
   alone = λ v d at. elim (cases_eq v t) [
     | inl e ↦
         let now : Call = hears c Start in
         let here = set_at s.calls t (Some now) (Some d) (ap (λ u. slice_get (slice_set s.calls t (Some now)) u) (sym e) ∙ there (slice_get (begun s t c).calls v) d at) in
-        ap (λ (b : Call). b.others) (same_Some d now here) ∙ alone (ap (call_at (begun s t c)) (sym e) ∙ at ∙ here)
+        ap (λ (b : Call). b.others) (same_Some d now here) ∙ none
     | inr ne ↦ plain.alone v d (ap (λ o. option_and_then (λ b. b) o) (sym (slice_get-set_other s.calls t v _ (λ e. ne (sym e)))) ∙ at)
   ];
 }
 
+-- the call that stands so
+called : (o : Option Call) (st : Stand) → option_map stand_of o ≡ Some st → (d : Call) × (o ≡ Some d)
+called None st e = absurd (none-some st e)
+called (Some d) st e = (d, refl)
+
 module _ (t shard : ℕ) (call : LockCall) (old mid : Shown) (b : LockBegins t shard call old mid) where
   abbrev s : State
   s = state old.rows
-
-  alone : LocksFit old → call_at (begun s t (call_for s t shard call)) t ≡ Some (hears (call_for s t shard call) Start) → holds_beside call (hold_at s t shard) ≡ 0
-  alone fit at =
-      let plain = not_recursive s shard fit.plain.kinds in
-      let now : Call = hears (call_for s t shard call) Start in
-      let ready = b.became.acts.fits.rules.prepared t now (ap (λ (u : State). call_at u t) b.became.became ∙ at) in
-      begun_alone (kind_in s.kinds shard) call (hold_at s t shard) plain (single_hold s t shard fit.plain.single)
-      (subst (λ r. IsPrepared r (holds_beside call (hold_at s t shard)) now.core) (ap (λ (u : State). recursive_in u.kinds shard) b.became.became ∙ plain) ready)
 
   pub begins_fit : LocksFit old → LocksFit mid
   begins_fit fit =
@@ -82,7 +65,7 @@ module _ (t shard : ℕ) (call : LockCall) (old mid : Shown) (b : LockBegins t s
       let calls = ap (λ (u : State). length u.calls) b.became.became ∙ length-slice_set s.calls t _ in
       record {
         fits = b.became.acts.fits;
-        plain = subst IsPlain (sym b.became.became) (begun_plain s t (call_for s t shard call) fit.plain (alone fit));
+        plain = subst IsPlain (sym b.became.became) (begun_plain s t (call_for s t shard call) fit.plain (begun_alone s (state mid.rows) t shard call fit.plain.kinds fit.plain.single (called (call_at (state mid.rows) t) _ b.stand).0 (called (call_at (state mid.rows) t) _ b.stand).1 b.became));
         count = ap length b.desks ∙ (fit.count ∙ sym kinds);
         desks_fit = λ i desk at.
             let d = fit.desks_fit i desk (ap (λ (ds : List (DeskState _)). slice_get ds i) (sym b.desks) ∙ at) in

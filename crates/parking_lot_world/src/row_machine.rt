@@ -134,7 +134,7 @@ impl<A: Allocator> RowMachine<A> {
     }
 
     /// Whether a thread may begin that call at a lock: it is in no call, the lock is of a kind that takes it, and it gives up what it owns there, or
-    /// asks for a lock of which it owns nothing.
+    /// asks for a lock of which it owns nothing, or reads once more under a recursive lock that it reads fewer than 255 times.
     pub fn may_begin(&self, thread: usize, lock: usize, call: LockCall) -> bool
         ensures { result ≡ may_begin (state self.now) thread lock call }
     {
