@@ -22,6 +22,7 @@ mod Indebting
 mod OwnActs
 mod WakesKept
 pub mod Stancing
+mod UpgradeStancing
 pub mod RwMoving
 pub mod RwTaking
 pub mod Carrying

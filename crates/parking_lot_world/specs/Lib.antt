@@ -23,3 +23,4 @@ pub mod Machines
 pub mod Worlds
 pub mod SoundLaws
 pub mod LostExchanges
+pub mod UpgradeStances

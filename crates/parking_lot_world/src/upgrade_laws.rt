@@ -1,0 +1,8 @@
+//! Laws of upgradable calls: how their acts move them between sections and lists.
+ghost use Rattle.parking_lot_world.specs.UpgradeStances.{UpgradesLead};
+
+/// What an act gives leads an upgradable call that is ready in or out of its section, from one thing that it does there to the next, to its
+/// sleep or out of it, as it leads other calls; and it counts whom it has taken.
+pub fn upgradable_calls_lead()
+    ensures { UpgradesLead }
+{}
