@@ -23,6 +23,7 @@ mod OwnActs
 mod WakesKept
 pub mod Stancing
 mod UpgradeStancing
+mod UpgradeMoving
 pub mod RwMoving
 pub mod RwTaking
 pub mod Carrying

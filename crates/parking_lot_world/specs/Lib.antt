@@ -24,3 +24,4 @@ pub mod Worlds
 pub mod SoundLaws
 pub mod LostExchanges
 pub mod UpgradeStances
+pub mod UpgradeLaws
