@@ -71,5 +71,6 @@ pub mod Woken
 pub mod Takings
 mod MutexPaying
 mod RwPaying
+mod UpgradePaying
 mod Summing
 pub mod Paying

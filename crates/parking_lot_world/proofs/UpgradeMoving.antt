@@ -306,7 +306,7 @@ module _ (recursive : Bool) (l : Lock) (t n : ℕ) (spot : QueuePosition) (us : 
   lead TakesWriter e m = subst (InSection recursive n us p s) e (section recursive n us p s h.prepared)
   lead (Tells end left) e m = tells end left e m
   lead WakesOne e m = wakes e
-  lead (IsWoken k) e m = tt
+  lead (IsWoken k) e m = λ by. let z = m by in (z.0, z.1)
 
 pub upgrades_are_steps : UpgradesAreSteps
 upgrades_are_steps recursive l t n spot us p x s h told = let m = moved recursive l t n spot us p x s h told in (lead recursive l t n spot us p x s h told (move n us p s) refl m.0, m.1)

@@ -25,3 +25,4 @@ pub mod SoundLaws
 pub mod LostExchanges
 pub mod UpgradeStances
 pub mod UpgradeLaws
+pub mod UpgradeRanks

@@ -7,7 +7,7 @@ use Rattle.parking_lot_rules.specs.Holds.{shared_holds}
 use Rattle.parking_lot_rules.specs.Lock.{Lock, IsSound}
 use Rattle.parking_lot_rules.specs.Steps.{Alone, List_changes, MayList, first_after, second_after, Scan, MayTake, Take1, IsOver, Store, ends_saying, settle, Waking, waking_from, waking_to, Wake}
 use Rattle.parking_lot_protocol.specs.Acts.{word_after}
-use Rattle.parking_lot_protocol.specs.RwRules.{Move, Stays, Makes, Joins, TakesOne, TakesWriter, Tells, WakesOne, IsWoken}
+use Rattle.parking_lot_protocol.specs.RwRules.{Move, Stays, Makes, Joins, TakesOne, TakesWriter, Tells, WakesOne, IsWoken, mark_for}
 use Rattle.parking_lot_protocol.specs.RwTable.{count_of}
 use Rattle.parking_lot_protocol.specs.Positions.{QueuePosition, Listed, Off}
 use Rattle.parking_lot_protocol.specs.declared.act.ActResult.{ActResult}
@@ -56,7 +56,7 @@ pub record MeetsUpgrade (l : Lock) (t n : ℕ) (spot : QueuePosition) (us : List
   pub few : (v : ℕ) (q : Role) → slice_get l.roles v ≡ Some q → shared_holds q.owns ≤ 256
 
 -- The move is a step of the rules at the lock, which leaves the thread in the role of its next phase and the word that its act leaves: where
--- it takes a waiter the rules may say at which index, and where it stores that nobody is left to take.
+-- it takes a waiter the rules may say at which index, and where it stores that nobody is left to take. One that sleeps is woken as it was told.
 abbrev pub UpgradeLeads : Bool → Move → ℕ → ℕ → QueuePosition → List ℕ → UpgradePhase → ActResult → ℕ → Lock → Type 0
 UpgradeLeads recursive Stays t n spot us p s x l = (role n spot us (next_phase p s) ≡ role n spot us p) × (word_after (act_of p) s x ≡ x)
 UpgradeLeads recursive (Makes k) t n spot us p s x l = Finds (act_of p) l → IsStep recursive t (Alone k) l (with_role l (word_after (act_of p) s x) t (role n Listed us (next_phase p s)))
@@ -72,7 +72,7 @@ UpgradeLeads recursive (Tells end left) t n spot us p s x l =
 UpgradeLeads recursive WakesOne t n spot us p s x l =
     (v : ℕ) (vs : List ℕ) (k : Waking) → us ≡ v ∷ vs → slice_get l.roles v ≡ Some (waking_from k t Asleep) → IsStep recursive t (Wake (owns n p) v vs k Asleep) l
     (record l { word = word_of x; roles = slice_set (slice_set l.roles v (waking_to k)) t (role n Listed vs (next_phase p s)) })
-UpgradeLeads recursive (IsWoken k) t n spot us p s x l = Unit {0}
+UpgradeLeads recursive (IsWoken k) t n spot us p s x l = (by : ℕ) → (role n (Off by (mark_for k)) us p ≡ waking_from k by Asleep) × (role n Listed us (next_phase p s) ≡ waking_to k)
 
 abbrev pub UpgradesAreSteps : Type 0
 UpgradesAreSteps = (recursive : Bool) (l : Lock) (t n : ℕ) (spot : QueuePosition) (us : List ℕ) (p : UpgradePhase) (x : ℕ) (s : ActResult) → MeetsUpgrade l t n spot us p x → IsTold p x s

@@ -1,5 +1,6 @@
 //! Laws of upgradable calls: how their acts move them between sections and lists.
 ghost use Rattle.parking_lot_world.specs.UpgradeLaws.{UpgradesAreSteps};
+ghost use Rattle.parking_lot_world.specs.UpgradeRanks.{UpgradeStepsFall};
 ghost use Rattle.parking_lot_world.specs.UpgradeStances.{UpgradesLead};
 
 /// What an act gives leads an upgradable call that is ready in or out of its section, from one thing that it does there to the next, to its
@@ -12,4 +13,9 @@ pub fn upgradable_calls_lead()
 /// that follows is ready again.
 pub fn upgradable_answers_are_steps()
     ensures { UpgradesAreSteps }
+{}
+
+/// Each act of an upgradable call lowers the steps that are left of it, whatever it gives, as long as no reader count is at its limit.
+pub fn upgrade_steps_fall()
+    ensures { UpgradeStepsFall }
 {}
