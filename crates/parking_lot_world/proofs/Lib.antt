@@ -24,6 +24,7 @@ mod WakesKept
 pub mod Stancing
 mod UpgradeStancing
 mod UpgradeMoving
+mod UpgradeKeeping
 pub mod RwMoving
 pub mod RwTaking
 pub mod Carrying

@@ -1,9 +1,8 @@
 -- What an upgradable call is told at a sound lock is the move that the table says, and a step of the rules.
-use Rattle.std.proofs.Common.{◌≡◌, ◌<◌, ◌≤◌, ℕ, ◌+◌, ◌-◌, ◌^◌, ◌==◌, ◌&&◌, Bool, true, false, cond, List, [], ◌∷◌, ◌++◌, length, map, remove, Some, slice_get, slice_set, refl, sym, ap, ◌∙◌, subst, arith}
-use Rattle.parking_lot_core_lot.specs.Results.{is_left}
+use Rattle.std.proofs.Common.{◌≡◌, ◌<◌, ℕ, ◌^◌, ◌&&◌, Bool, true, false, cond, List, [], length, map, remove, Some, slice_get, slice_set, refl, sym, ap, ◌∙◌, subst, arith}
 use Rattle.parking_lot_rules.specs.Roles.{Mode, Owned, Shares, Excludes, Upgrades, Role, FromUpgradable}
 use Rattle.parking_lot_rules.specs.Roles as rules
-use Rattle.parking_lot_rules.specs.Classes.{Upgraders, Writers, weight, total, bit}
+use Rattle.parking_lot_rules.specs.Classes.{Upgraders, Writers, weight, total}
 use Rattle.parking_lot_rules.specs.Clauses.{Word, number, word_of}
 use Rattle.parking_lot_rules.specs.Plain.{Plain, May, from, written}
 use Rattle.parking_lot_rules.specs.Lock.{Lock, IsSound}
@@ -21,11 +20,11 @@ use Rattle.parking_lot_upgrades.specs.declared.upgrade_phase.Hold.{Hold}
 use Rattle.parking_lot_upgrades.specs.declared.upgrade_phase.Release.{Release}
 use Rattle.parking_lot_protocol.specs.declared.act.CoreAnswer.{CoreAnswer}
 use Rattle.parking_lot_upgrades.specs.UpgradeMoves.{IsMove, move, seeks_move, drains_move, frees_move, owes_move}
-use Rattle.parking_lot_upgrades.specs.UpgradeRoles.{owns, owned, role, for_upgradable, for_upgrade, for_release}
+use Rattle.parking_lot_upgrades.specs.UpgradeRoles.{owned, role}
 use Rattle.parking_lot_upgrades.specs.UpgradeRules.{Fits, FitsFreeing, FitsOwing, HasUpgradable, HasWriter, IsReady, IsTold, IsSeeking, IsDraining, IsFreeing, IsOwing}
 use Rattle.parking_lot_upgrades.specs.UpgradeTable.{act_of, next_phase, seeks_act, frees_act, owes_act}
 use Rattle.parking_lot_upgrades.proofs.UpgradeFollowing.{upgrade_follows}
-use Rattle.parking_lot_world.specs.RwLaws.{Finds, IsStep}
+use Rattle.parking_lot_world.specs.RwLaws.{Finds}
 use Rattle.parking_lot_world.specs.UpgradeLaws.{MeetsUpgrade, upgrade_prepared, frees_prepared, owes_prepared, UpgradeLeads, UpgradesAreSteps}
 use Rattle.parking_lot_world.proofs.RwWaking.{stored_left}
 use Rattle.parking_lot_world.proofs.RwMoving.{Clears, MoveClears, IsOwn, may_all, number-word, same_word, sound_word, total_most}

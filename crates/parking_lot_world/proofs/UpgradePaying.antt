@@ -1,5 +1,5 @@
 -- Acts of an upgradable call lower the steps that are left of it.
-use Rattle.std.proofs.Common.{◌≡◌, ◌≢◌, ◌≤◌, ◌<◌, ℕ, ◌+◌, ◌-◌, ◌*◌, ◌/◌, ◌%◌, ◌^◌, ◌==◌, ◌&&◌, nat_lt, Bool, true, false, cond, Option, Some, None, refl, sym, ap, ◌∙◌, subst, arith}
+use Rattle.std.proofs.Common.{◌≡◌, ◌≢◌, ◌≤◌, ◌<◌, ℕ, ◌+◌, ◌-◌, ◌/◌, ◌%◌, ◌^◌, ◌==◌, nat_lt, Bool, true, false, cond, refl, sym, ap, subst, arith}
 use Rattle.std.proofs.lemmas.Bool.{both_ways, eq-eqb, ne_eqb}
 use Rattle.parking_lot_protocol.specs.Acts.{Gives, word_after}
 use Rattle.parking_lot_protocol.specs.RwTable as rt
@@ -12,8 +12,7 @@ use Rattle.parking_lot_protocol.specs.declared.rw_phase.Seeking.{Seeking}
 use Rattle.parking_lot_upgrades.specs.declared.upgrade_phase.Hold.{Hold}
 use Rattle.parking_lot_upgrades.specs.declared.upgrade_phase.Release.{Release}
 use Rattle.parking_lot_upgrades.specs.declared.upgrade_phase.UpgradePhase.{UpgradePhase}
-use Rattle.parking_lot_upgrades.specs.UpgradeRules.{IsReady, IsSeeking, IsDraining, IsFreeing, IsOwing}
-use Rattle.parking_lot_upgrades.specs.UpgradeRules as rules
+use Rattle.parking_lot_upgrades.specs.UpgradeRules.{IsReady, IsSeeking, IsFreeing, IsOwing}
 use Rattle.parking_lot_protocol.specs.RwRules as rw
 use Rattle.parking_lot_upgrades.specs.UpgradeTable as ut
 use Rattle.parking_lot_world.specs.Ranks.{View, Sees, comes_after, rw_steps, scan}

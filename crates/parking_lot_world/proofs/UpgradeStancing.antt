@@ -1,13 +1,11 @@
 -- Where an upgradable call stands, act by act.
-use Rattle.std.proofs.Common.{◌≡◌, ℕ, ◌+◌, ◌-◌, ◌%◌, ◌^◌, ◌==◌, ◌&&◌, ◌||◌, inl, inr, nat_lt, not, Bool, true, false, cond, Option, Some, None, refl, subst, arith}
-use Rattle.parking_lot_core_lot.specs.declared.parking.ParkToken.{ParkToken}
+use Rattle.std.proofs.Common.{◌≡◌, ℕ, ◌+◌, ◌-◌, ◌%◌, ◌^◌, ◌==◌, ◌&&◌, ◌||◌, inl, inr, nat_lt, not, Bool, true, false, cond, refl, arith}
 use Rattle.parking_lot_core_lot.specs.declared.parking.UnparkToken.{UnparkToken}
 use Rattle.parking_lot_protocol.specs.Acts.{Gives}
 use Rattle.parking_lot_protocol.specs.RwTable as rt
 use Rattle.parking_lot_protocol.specs.declared.act.Act.{Act}
 use Rattle.parking_lot_protocol.specs.declared.act.CoreAnswer.{CoreAnswer}
 use Rattle.parking_lot_protocol.specs.declared.act.ActResult.{ActResult}
-use Rattle.parking_lot_protocol.specs.declared.rw_phase.AfterWake.{AfterWake}
 use Rattle.parking_lot_protocol.specs.declared.rw_phase.LockMode.TheVariants as want
 use Rattle.parking_lot_protocol.specs.declared.rw_phase.LockMode.{LockMode}
 use Rattle.parking_lot_protocol.specs.declared.rw_phase.RwPhase.{RwPhase}
@@ -16,10 +14,10 @@ use Rattle.parking_lot_upgrades.specs.declared.upgrade_phase.Hold.{Hold}
 use Rattle.parking_lot_upgrades.specs.declared.upgrade_phase.Release.{Release}
 use Rattle.parking_lot_upgrades.specs.declared.upgrade_phase.UpgradePhase.{UpgradePhase}
 use Rattle.parking_lot_upgrades.specs.UpgradeTable as ut
-use Rattle.parking_lot_upgrades.specs.UpgradeRules.{IsReady, IsSeeking, IsDraining, IsFreeing, IsOwing}
-use Rattle.parking_lot_world.specs.Stances.{Stance, Out, In, Asleep, rw_stance, rw_taken}
-use Rattle.parking_lot_world.specs.StanceLaws.{Leads, IsOver, HasSmallKey}
-use Rattle.parking_lot_world.specs.UpgradeStances.{seeks_stance, upgrade_stance, upgrade_taken, UpgradesLead, UpgradesBegin, UpgradesEnd, UpgradesWake, UpgradeKeysAreTwo}
+use Rattle.parking_lot_upgrades.specs.UpgradeRules.{IsSeeking, IsDraining, IsFreeing, IsOwing}
+use Rattle.parking_lot_world.specs.Stances.{Out, rw_stance, rw_taken}
+use Rattle.parking_lot_world.specs.StanceLaws.{Leads}
+use Rattle.parking_lot_world.specs.UpgradeStances.{seeks_stance, upgrade_stance, upgrade_taken, UpgradesLead}
 use Rattle.parking_lot_world.proofs.Stancing.{rw_leads}
 
 -- what holds of both holds of either

@@ -1,7 +1,7 @@
 -- What an upgradable call is told at a sound lock is a step of the rules there.
-use Rattle.std.specs.Prelude.{◌≡◌, ◌<◌, ◌≤◌, ◌-◌, ◌^◌, ℕ, Bool, List, [], ◌∷◌, ◌++◌, length, map, remove, Some, slice_get, slice_set}
+use Rattle.std.specs.Prelude.{◌≡◌, ◌<◌, ◌≤◌, ◌-◌, ◌/◌, ◌^◌, ℕ, Bool, true, false, List, [], ◌∷◌, ◌++◌, length, map, remove, Some, slice_get, slice_set}
 use Rattle.parking_lot_core_lot.specs.Results.{is_left}
-use Rattle.parking_lot_rules.specs.Roles.{Shares, Asleep, Open, Taken1, Role}
+use Rattle.parking_lot_rules.specs.Roles.{Owned, Shares, Excludes, Asleep, Idle, Open, Taken1, Role}
 use Rattle.parking_lot_rules.specs.Clauses.{word_of}
 use Rattle.parking_lot_rules.specs.Holds.{shared_holds}
 use Rattle.parking_lot_rules.specs.Lock.{Lock, IsSound}
@@ -10,16 +10,20 @@ use Rattle.parking_lot_protocol.specs.Acts.{word_after}
 use Rattle.parking_lot_protocol.specs.RwRules.{Move, Stays, Makes, Joins, TakesOne, TakesWriter, Tells, WakesOne, IsWoken, mark_for}
 use Rattle.parking_lot_protocol.specs.RwTable.{count_of}
 use Rattle.parking_lot_protocol.specs.Positions.{QueuePosition, Listed, Off}
+use Rattle.parking_lot_protocol.specs.declared.act.Act.TheVariants.{Done}
 use Rattle.parking_lot_protocol.specs.declared.act.ActResult.{ActResult}
+use Rattle.parking_lot_protocol.specs.declared.act.ActResult.TheVariants as seen
+use Rattle.parking_lot_protocol.specs.declared.act.CoreAnswer.{CoreAnswer}
 use Rattle.parking_lot_protocol.specs.declared.rw_phase.RwPhase.{RwPhase}
 use Rattle.parking_lot_protocol.specs.declared.rw_phase.RwPhase.TheVariants as r
 use Rattle.parking_lot_upgrades.specs.declared.upgrade_phase.UpgradePhase.{UpgradePhase}
 use Rattle.parking_lot_upgrades.specs.declared.upgrade_phase.UpgradePhase.TheVariants as u
-use Rattle.parking_lot_upgrades.specs.UpgradeMoves.{move}
-use Rattle.parking_lot_upgrades.specs.UpgradeRoles.{owns, role}
+use Rattle.parking_lot_upgrades.specs.UpgradeMoves.{move, last_move}
+use Rattle.parking_lot_upgrades.specs.UpgradeRoles.{owned, owns, role}
 use Rattle.parking_lot_upgrades.specs.UpgradeRules.{IsReady, IsTold}
-use Rattle.parking_lot_upgrades.specs.UpgradeTable.{act_of, next_phase}
-use Rattle.parking_lot_world.specs.RwLaws.{Finds, IsStep, with_role, with_roles}
+use Rattle.parking_lot_upgrades.specs.UpgradeTable.{act_of, is_again, next_phase}
+use Rattle.parking_lot_world.specs.RwLaws.{Finds, IsLastStep, IsStep, with_role, with_roles}
+use Rattle.parking_lot_world.specs.UpgradeRanks.{IsOfWorld}
 
 -- What a phase needs of whom its thread has taken, where that doesn't follow from what the word says. Calls of shared and exclusive holds have
 -- a core of their own, and nobody gives up.
@@ -77,3 +81,46 @@ UpgradeLeads recursive (IsWoken k) t n spot us p s x l = (by : ℕ) → (role n 
 abbrev pub UpgradesAreSteps : Type 0
 UpgradesAreSteps = (recursive : Bool) (l : Lock) (t n : ℕ) (spot : QueuePosition) (us : List ℕ) (p : UpgradePhase) (x : ℕ) (s : ActResult) → MeetsUpgrade l t n spot us p x → IsTold p x s
     → UpgradeLeads recursive (move n us p s) t n spot us p s x l × IsReady (next_phase p s)
+
+-- WHERE IT ENDS, AND WHAT IT KEEPS
+
+-- what one owns whose call is answered
+abbrev pub upgrade_owned_after : UpgradePhase → Owned
+upgrade_owned_after (u.Drains core) = Excludes
+upgrade_owned_after (u.Owes hold answer core) = owned hold
+upgrade_owned_after (u.Ends hold answer) = owned hold
+upgrade_owned_after phase = Shares 0
+
+-- a call that was told that it begins
+abbrev pub upgrade_begun : UpgradePhase → Bool
+upgrade_begun u.Locking = false
+upgrade_begun u.Trying = false
+upgrade_begun (u.Unlocking release) = false
+upgrade_begun u.Bumping = false
+upgrade_begun u.Upgrading = false
+upgrade_begun u.TryingToUpgrade = false
+upgrade_begun u.DowngradingToShared = false
+upgrade_begun u.DowngradingToUpgradable = false
+upgrade_begun (u.GivingUp from) = false
+upgrade_begun phase = true
+
+-- The end of a call that has begun is a step of the rules or none, and leaves its thread with what it owns, in no call.
+abbrev pub UpgradesEnd : Type 0
+UpgradesEnd = (recursive : Bool) (l : Lock) (t n : ℕ) (spot : QueuePosition) (us : List ℕ) (p : UpgradePhase) (x : ℕ) (answer : CoreAnswer) → MeetsUpgrade l t n spot us p x → upgrade_begun p ≡ true → act_of p ≡ Done answer
+    → IsLastStep recursive (last_move n p) l t (role n spot us p) x (record { owns = upgrade_owned_after p; does = Idle })
+
+-- with what a call of a world may begin
+abbrev pub upgrade_begins : UpgradePhase → Type 0
+upgrade_begins u.Locking = Unit {0}
+upgrade_begins u.Trying = Unit {0}
+upgrade_begins (u.Unlocking release) = is_again release ≡ false
+upgrade_begins u.Upgrading = Unit {0}
+upgrade_begins u.TryingToUpgrade = Unit {0}
+upgrade_begins u.DowngradingToShared = Unit {0}
+upgrade_begins u.DowngradingToUpgradable = Unit {0}
+upgrade_begins phase = ⊥
+
+-- From its beginning to its end a call of a world stays one, and is ready.
+pub record UpgradesKeep : Type 0 where
+  pub begins : (p : UpgradePhase) → upgrade_begins p → IsOfWorld (next_phase p seen.Start) × IsReady (next_phase p seen.Start)
+  pub goes_on : (p : UpgradePhase) (x : ℕ) (s : ActResult) → upgrade_begun p ≡ true → IsReady p → IsOfWorld p → x / 16 < 2 ^ 60 - 1 → IsTold p x s → IsOfWorld (next_phase p s)

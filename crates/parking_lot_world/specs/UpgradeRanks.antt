@@ -1,17 +1,15 @@
 -- How many steps an upgradable call has left.
-use Rattle.std.specs.Prelude.{◌≡◌, ℕ, ◌+◌, ◌-◌, ◌*◌, ◌/◌, ◌^◌, ◌<◌, ◌≤◌, Bool, true, false, if◌then◌else◌}
-use Rattle.parking_lot_core_lot.specs.declared.parking.UnparkToken.{UnparkToken}
+use Rattle.std.specs.Prelude.{◌≡◌, ℕ, ◌+◌, ◌-◌, ◌/◌, ◌^◌, ◌<◌, ◌≤◌, Bool, true, false, if◌then◌else◌}
 use Rattle.parking_lot_protocol.specs.Acts.{Gives, word_after}
 use Rattle.parking_lot_protocol.specs.RwTable.{has_room}
 use Rattle.parking_lot_protocol.specs.declared.act.ActResult.{ActResult}
-use Rattle.parking_lot_protocol.specs.declared.act.ActResult.TheVariants as seen
 use Rattle.parking_lot_protocol.specs.declared.rw_phase.RwPhase.{RwPhase}
 use Rattle.parking_lot_protocol.specs.declared.rw_phase.RwPhase.TheVariants as r
 use Rattle.parking_lot_upgrades.specs.declared.upgrade_phase.UpgradePhase.{UpgradePhase}
 use Rattle.parking_lot_upgrades.specs.declared.upgrade_phase.UpgradePhase.TheVariants as u
 use Rattle.parking_lot_upgrades.specs.UpgradeRules.{IsReady}
 use Rattle.parking_lot_upgrades.specs.UpgradeTable.{act_of, is_again, next_phase}
-use Rattle.parking_lot_world.specs.Ranks.{View, Unseen, Sees, drains, is_at, rw_steps, scan, wake}
+use Rattle.parking_lot_world.specs.Ranks.{View, Sees, drains, is_at, rw_steps, scan}
 use Rattle.parking_lot_world.specs.RankLaws.{Can, Leaves}
 
 -- A release that finds others waiting goes through their list; so does one that keeps a hold and owes them a look.

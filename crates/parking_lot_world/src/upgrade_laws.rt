@@ -1,5 +1,5 @@
 //! Laws of upgradable calls: how their acts move them between sections and lists.
-ghost use Rattle.parking_lot_world.specs.UpgradeLaws.{UpgradesAreSteps};
+ghost use Rattle.parking_lot_world.specs.UpgradeLaws.{UpgradesAreSteps, UpgradesKeep};
 ghost use Rattle.parking_lot_world.specs.UpgradeRanks.{UpgradeStepsFall};
 ghost use Rattle.parking_lot_world.specs.UpgradeStances.{UpgradesLead};
 
@@ -18,4 +18,10 @@ pub fn upgradable_answers_are_steps()
 /// Each act of an upgradable call lowers the steps that are left of it, whatever it gives, as long as no reader count is at its limit.
 pub fn upgrade_steps_fall()
     ensures { UpgradeStepsFall }
+{}
+
+/// An upgradable call of a world begins ready, and stays one that a world runs: it asks where it has seen room for one reader more, and neither
+/// bumps nor gives up.
+pub fn upgradable_calls_keep()
+    ensures { UpgradesKeep }
 {}
