@@ -1,30 +1,244 @@
 -- Where an upgradable call ends, and what it keeps from its beginning on.
-use Rattle.std.proofs.Common.{◌≡◌, ◌<◌, ℕ, ◌+◌, ◌-◌, ◌/◌, ◌%◌, ◌==◌, ◌^◌, ◌&&◌, ◌||◌, nat_lt, not, Bool, true, false, cond, List, Some, slice_set, refl, sym, ap, ◌∙◌, subst}
+use Rattle.std.proofs.Common.{◌≡◌, ◌<◌, ℕ, ◌+◌, ◌-◌, ◌/◌, ◌%◌, ◌==◌, ◌^◌, ◌&&◌, ◌||◌, nat_lt, not, Bool, true, false, cond, List, [], Some, slice_get, slice_set, refl, sym, ap, ◌∙◌, subst}
 use Rattle.std.proofs.lemmas.Bool.{both_ways, lt-ltb}
-use Rattle.parking_lot_rules.specs.Roles.{Shares}
+use Rattle.parking_lot_rules.specs.Lock.{Lock}
+use Rattle.parking_lot_rules.specs.Roles.{Shares, Excludes}
 use Rattle.parking_lot_rules.specs.Roles as rules
 use Rattle.parking_lot_protocol.specs.RwTable as rt
 use Rattle.parking_lot_protocol.specs.RwRules as rw
 use Rattle.parking_lot_protocol.specs.declared.act.Act.{Act}
 use Rattle.parking_lot_protocol.specs.declared.act.ActResult.{ActResult}
 use Rattle.parking_lot_protocol.specs.declared.act.CoreAnswer.{CoreAnswer}
-use Rattle.parking_lot_protocol.specs.declared.rw_phase.Outcome.{Outcome}
 use Rattle.parking_lot_protocol.specs.declared.rw_phase.RwPhase.{RwPhase}
 use Rattle.parking_lot_protocol.specs.declared.rw_phase.Seeking.{Seeking}
 use Rattle.parking_lot_upgrades.specs.declared.upgrade_phase.Hold.{Hold}
 use Rattle.parking_lot_upgrades.specs.declared.upgrade_phase.Release.{Release}
 use Rattle.parking_lot_upgrades.specs.declared.upgrade_phase.UpgradePhase.{UpgradePhase}
 use Rattle.parking_lot_upgrades.specs.UpgradeRoles.{owned, role}
-use Rattle.parking_lot_upgrades.specs.UpgradeRules.{IsReady, IsSeeking, IsTold}
+use Rattle.parking_lot_upgrades.specs.UpgradeRules.{IsDraining, IsFreeing, IsOwing, IsReady, IsSeeking, IsTold}
 use Rattle.parking_lot_upgrades.specs.UpgradeTable as ut
 use Rattle.parking_lot_protocol.specs.Acts.{Gives}
-use Rattle.parking_lot_world.specs.UpgradeLaws.{MeetsUpgrade, UpgradesEnd, UpgradesKeep, upgrade_begins, upgrade_begun}
+use Rattle.parking_lot_protocol.specs.Positions.{QueuePosition}
+use Rattle.parking_lot_upgrades.specs.UpgradeMoves.{last_move}
+use Rattle.parking_lot_world.specs.RwLaws.{IsLastStep}
+use Rattle.parking_lot_world.specs.UpgradeLaws.{MeetsUpgrade, UpgradesEnd, UpgradesKeep, frees_prepared, owes_prepared, upgrade_begins, upgrade_begun, upgrade_owned_after}
 use Rattle.parking_lot_world.specs.UpgradeRanks.{IsOfWorld, seeks_room}
 
 -- what holds of both holds of either
 pick : {X : Type 0} (P : X → Type 0) (b : Bool) (x y : X) → P x → P y → P (cond b x y)
 pick P true x y h k = h
 pick P false x y h k = k
+
+-- WHERE IT ENDS
+
+abbrev IsDone : Act → Type 0
+IsDone (Act.Done answer) = Unit {0}
+IsDone a = ⊥
+
+seeks_on : (q : RwPhase) → IsSeeking q → IsDone (ut.seeks_act q) → ⊥
+seeks_on (RwPhase.Admits a from) i e = go (rt.has_room from) e
+  where
+    go : (b : Bool) → IsDone (cond b (Act.Exchange from ((from + 20) % 2 ^ 64)) Act.Load) → ⊥
+    go true e = e
+    go false e = e
+seeks_on (RwPhase.Locking want) i e = absurd i
+seeks_on (RwPhase.Trying want) i e = absurd i
+seeks_on RwPhase.UnlockingShared i e = absurd i
+seeks_on (RwPhase.UnlockingExclusive fair) i e = absurd i
+seeks_on RwPhase.Downgrading i e = absurd i
+seeks_on RwPhase.BumpingShared i e = absurd i
+seeks_on RwPhase.BumpingExclusive i e = absurd i
+seeks_on (RwPhase.DrainLoads d) i e = absurd i
+seeks_on (RwPhase.DrainSpins d) i e = absurd i
+seeks_on (RwPhase.DrainSetParked d from) i e = absurd i
+seeks_on (RwPhase.DrainEnters d) i e = absurd i
+seeks_on (RwPhase.DrainChecks d) i e = absurd i
+seeks_on (RwPhase.DrainRetreats d) i e = absurd i
+seeks_on (RwPhase.DrainAppends rounds) i e = absurd i
+seeks_on (RwPhase.DrainRests rounds) i e = absurd i
+seeks_on (RwPhase.DrainSleeps rounds) i e = absurd i
+seeks_on (RwPhase.TryLoads want) i e = absurd i
+seeks_on (RwPhase.TryAdmits want from left) i e = absurd i
+seeks_on (RwPhase.Refuses want) i e = absurd i
+seeks_on (RwPhase.BumpLoads want) i e = absurd i
+seeks_on (RwPhase.Relocks want) i e = absurd i
+seeks_on (RwPhase.Unshares rest) i e = absurd i
+seeks_on (RwPhase.EnterWriterWakeSection rest) i e = absurd i
+seeks_on (RwPhase.TakeWriter rest) i e = absurd i
+seeks_on (RwPhase.ClearWriterParked rest has) i e = absurd i
+seeks_on (RwPhase.LeaveWriterWakeSection rest has) i e = absurd i
+seeks_on (RwPhase.Unlocks fair rest) i e = absurd i
+seeks_on (RwPhase.LooksExclusive fair rest) i e = absurd i
+seeks_on RwPhase.Downgrades i e = absurd i
+seeks_on RwPhase.EnterWakeSection i e = absurd i
+seeks_on (RwPhase.Scans a) i e = absurd i
+seeks_on (RwPhase.Stores a left) i e = absurd i
+seeks_on (RwPhase.Leaves rest count handed) i e = absurd i
+seeks_on (RwPhase.Wakes rest count) i e = absurd i
+seeks_on (RwPhase.Finishes rest) i e = absurd i
+seeks_on (RwPhase.Ends outcome) i e = absurd i
+seeks_on RwPhase.Invalid i e = absurd i
+seeks_on q i e = e
+
+drains_end : (n : ℕ) (spot : QueuePosition) (us : List ℕ) (q : RwPhase) → IsDraining q → IsDone (rt.act_of q) → record { owns = Excludes; does = rules.Idle } ≡ role n spot us (UpgradePhase.Drains (record { phase = q }))
+drains_end n spot us (RwPhase.Ends end) i e = sym (ap (λ o. record { owns = rw.owned_after 0 o; does = rules.Idle }) i)
+drains_end n spot us (RwPhase.Locking want) i e = absurd i
+drains_end n spot us (RwPhase.Trying want) i e = absurd i
+drains_end n spot us RwPhase.UnlockingShared i e = absurd i
+drains_end n spot us (RwPhase.UnlockingExclusive fair) i e = absurd i
+drains_end n spot us RwPhase.Downgrading i e = absurd i
+drains_end n spot us RwPhase.BumpingShared i e = absurd i
+drains_end n spot us RwPhase.BumpingExclusive i e = absurd i
+drains_end n spot us (RwPhase.Loads a) i e = absurd i
+drains_end n spot us (RwPhase.Admits a from) i e = absurd i
+drains_end n spot us (RwPhase.Spins a) i e = absurd i
+drains_end n spot us (RwPhase.SetParked a from) i e = absurd i
+drains_end n spot us (RwPhase.Enters want woken) i e = absurd i
+drains_end n spot us (RwPhase.Checks want woken) i e = absurd i
+drains_end n spot us (RwPhase.Retreats want woken) i e = absurd i
+drains_end n spot us (RwPhase.Appends want) i e = absurd i
+drains_end n spot us (RwPhase.Rests want) i e = absurd i
+drains_end n spot us (RwPhase.Sleeps want) i e = absurd i
+drains_end n spot us (RwPhase.TryLoads want) i e = absurd i
+drains_end n spot us (RwPhase.TryAdmits want from left) i e = absurd i
+drains_end n spot us (RwPhase.Refuses want) i e = absurd i
+drains_end n spot us (RwPhase.BumpLoads want) i e = absurd i
+drains_end n spot us (RwPhase.Relocks want) i e = absurd i
+drains_end n spot us (RwPhase.Unshares rest) i e = absurd i
+drains_end n spot us (RwPhase.EnterWriterWakeSection rest) i e = absurd i
+drains_end n spot us (RwPhase.TakeWriter rest) i e = absurd i
+drains_end n spot us (RwPhase.ClearWriterParked rest has) i e = absurd i
+drains_end n spot us (RwPhase.LeaveWriterWakeSection rest has) i e = absurd i
+drains_end n spot us (RwPhase.Unlocks fair rest) i e = absurd i
+drains_end n spot us (RwPhase.LooksExclusive fair rest) i e = absurd i
+drains_end n spot us RwPhase.Downgrades i e = absurd i
+drains_end n spot us RwPhase.EnterWakeSection i e = absurd i
+drains_end n spot us (RwPhase.Scans a) i e = absurd i
+drains_end n spot us (RwPhase.Stores a left) i e = absurd i
+drains_end n spot us (RwPhase.Leaves rest count handed) i e = absurd i
+drains_end n spot us (RwPhase.Wakes rest count) i e = absurd i
+drains_end n spot us (RwPhase.Finishes rest) i e = absurd i
+drains_end n spot us RwPhase.Invalid i e = absurd i
+drains_end n spot us q i e = absurd e
+
+-- one whose wakes are done
+frees_end : (l : Lock) (t n : ℕ) (spot : QueuePosition) (us : List ℕ) (way : Release) (q : RwPhase) → IsFreeing q → frees_prepared us q → slice_get l.roles t ≡ Some (role n spot us (UpgradePhase.Frees way (record { phase = q }))) → IsDone (ut.frees_act way q)
+    → slice_get l.roles t ≡ Some (record { owns = Shares 0; does = rules.Wakes [] })
+frees_end l t n spot us way (RwPhase.Finishes rest) i m at e = at ∙ ap (λ vs. Some (record { owns = Shares 0; does = rules.Wakes vs })) m
+frees_end l t n spot us way (RwPhase.Locking want) i m at e = absurd i
+frees_end l t n spot us way (RwPhase.Trying want) i m at e = absurd i
+frees_end l t n spot us way RwPhase.UnlockingShared i m at e = absurd i
+frees_end l t n spot us way (RwPhase.UnlockingExclusive fair) i m at e = absurd i
+frees_end l t n spot us way RwPhase.Downgrading i m at e = absurd i
+frees_end l t n spot us way RwPhase.BumpingShared i m at e = absurd i
+frees_end l t n spot us way RwPhase.BumpingExclusive i m at e = absurd i
+frees_end l t n spot us way (RwPhase.Loads a) i m at e = absurd i
+frees_end l t n spot us way (RwPhase.Admits a from) i m at e = absurd i
+frees_end l t n spot us way (RwPhase.Spins a) i m at e = absurd i
+frees_end l t n spot us way (RwPhase.SetParked a from) i m at e = absurd i
+frees_end l t n spot us way (RwPhase.Enters want woken) i m at e = absurd i
+frees_end l t n spot us way (RwPhase.Checks want woken) i m at e = absurd i
+frees_end l t n spot us way (RwPhase.Retreats want woken) i m at e = absurd i
+frees_end l t n spot us way (RwPhase.Appends want) i m at e = absurd i
+frees_end l t n spot us way (RwPhase.Rests want) i m at e = absurd i
+frees_end l t n spot us way (RwPhase.Sleeps want) i m at e = absurd i
+frees_end l t n spot us way (RwPhase.DrainLoads d) i m at e = absurd i
+frees_end l t n spot us way (RwPhase.DrainSpins d) i m at e = absurd i
+frees_end l t n spot us way (RwPhase.DrainSetParked d from) i m at e = absurd i
+frees_end l t n spot us way (RwPhase.DrainEnters d) i m at e = absurd i
+frees_end l t n spot us way (RwPhase.DrainChecks d) i m at e = absurd i
+frees_end l t n spot us way (RwPhase.DrainRetreats d) i m at e = absurd i
+frees_end l t n spot us way (RwPhase.DrainAppends rounds) i m at e = absurd i
+frees_end l t n spot us way (RwPhase.DrainRests rounds) i m at e = absurd i
+frees_end l t n spot us way (RwPhase.DrainSleeps rounds) i m at e = absurd i
+frees_end l t n spot us way (RwPhase.TryLoads want) i m at e = absurd i
+frees_end l t n spot us way (RwPhase.TryAdmits want from left) i m at e = absurd i
+frees_end l t n spot us way (RwPhase.Refuses want) i m at e = absurd i
+frees_end l t n spot us way (RwPhase.BumpLoads want) i m at e = absurd i
+frees_end l t n spot us way (RwPhase.Relocks want) i m at e = absurd i
+frees_end l t n spot us way (RwPhase.Unshares rest) i m at e = absurd i
+frees_end l t n spot us way (RwPhase.EnterWriterWakeSection rest) i m at e = absurd i
+frees_end l t n spot us way (RwPhase.TakeWriter rest) i m at e = absurd i
+frees_end l t n spot us way (RwPhase.ClearWriterParked rest has) i m at e = absurd i
+frees_end l t n spot us way (RwPhase.LeaveWriterWakeSection rest has) i m at e = absurd i
+frees_end l t n spot us way (RwPhase.Unlocks fair rest) i m at e = absurd i
+frees_end l t n spot us way RwPhase.Downgrades i m at e = absurd i
+frees_end l t n spot us way RwPhase.EnterWakeSection i m at e = absurd i
+frees_end l t n spot us way (RwPhase.Ends outcome) i m at e = absurd i
+frees_end l t n spot us way RwPhase.Invalid i m at e = absurd i
+frees_end l t n spot us way q i m at e = absurd e
+
+owes_end : (l : Lock) (t n : ℕ) (spot : QueuePosition) (us : List ℕ) (hold : Hold) (end : CoreAnswer) (q : RwPhase) → IsOwing q → owes_prepared us q → slice_get l.roles t ≡ Some (role n spot us (UpgradePhase.Owes hold end (record { phase = q }))) → IsDone (ut.owes_act hold end q)
+    → slice_get l.roles t ≡ Some (record { owns = owned hold; does = rules.Wakes [] })
+owes_end l t n spot us hold end (RwPhase.Finishes rest) i m at e = at ∙ ap (λ vs. Some (record { owns = owned hold; does = rules.Wakes vs })) m
+owes_end l t n spot us hold end (RwPhase.Locking want) i m at e = absurd i
+owes_end l t n spot us hold end (RwPhase.Trying want) i m at e = absurd i
+owes_end l t n spot us hold end RwPhase.UnlockingShared i m at e = absurd i
+owes_end l t n spot us hold end (RwPhase.UnlockingExclusive fair) i m at e = absurd i
+owes_end l t n spot us hold end RwPhase.Downgrading i m at e = absurd i
+owes_end l t n spot us hold end RwPhase.BumpingShared i m at e = absurd i
+owes_end l t n spot us hold end RwPhase.BumpingExclusive i m at e = absurd i
+owes_end l t n spot us hold end (RwPhase.Loads a) i m at e = absurd i
+owes_end l t n spot us hold end (RwPhase.Admits a from) i m at e = absurd i
+owes_end l t n spot us hold end (RwPhase.Spins a) i m at e = absurd i
+owes_end l t n spot us hold end (RwPhase.SetParked a from) i m at e = absurd i
+owes_end l t n spot us hold end (RwPhase.Enters want woken) i m at e = absurd i
+owes_end l t n spot us hold end (RwPhase.Checks want woken) i m at e = absurd i
+owes_end l t n spot us hold end (RwPhase.Retreats want woken) i m at e = absurd i
+owes_end l t n spot us hold end (RwPhase.Appends want) i m at e = absurd i
+owes_end l t n spot us hold end (RwPhase.Rests want) i m at e = absurd i
+owes_end l t n spot us hold end (RwPhase.Sleeps want) i m at e = absurd i
+owes_end l t n spot us hold end (RwPhase.DrainLoads d) i m at e = absurd i
+owes_end l t n spot us hold end (RwPhase.DrainSpins d) i m at e = absurd i
+owes_end l t n spot us hold end (RwPhase.DrainSetParked d from) i m at e = absurd i
+owes_end l t n spot us hold end (RwPhase.DrainEnters d) i m at e = absurd i
+owes_end l t n spot us hold end (RwPhase.DrainChecks d) i m at e = absurd i
+owes_end l t n spot us hold end (RwPhase.DrainRetreats d) i m at e = absurd i
+owes_end l t n spot us hold end (RwPhase.DrainAppends rounds) i m at e = absurd i
+owes_end l t n spot us hold end (RwPhase.DrainRests rounds) i m at e = absurd i
+owes_end l t n spot us hold end (RwPhase.DrainSleeps rounds) i m at e = absurd i
+owes_end l t n spot us hold end (RwPhase.TryLoads want) i m at e = absurd i
+owes_end l t n spot us hold end (RwPhase.TryAdmits want from left) i m at e = absurd i
+owes_end l t n spot us hold end (RwPhase.Refuses want) i m at e = absurd i
+owes_end l t n spot us hold end (RwPhase.BumpLoads want) i m at e = absurd i
+owes_end l t n spot us hold end (RwPhase.Relocks want) i m at e = absurd i
+owes_end l t n spot us hold end (RwPhase.Unshares rest) i m at e = absurd i
+owes_end l t n spot us hold end (RwPhase.EnterWriterWakeSection rest) i m at e = absurd i
+owes_end l t n spot us hold end (RwPhase.TakeWriter rest) i m at e = absurd i
+owes_end l t n spot us hold end (RwPhase.ClearWriterParked rest has) i m at e = absurd i
+owes_end l t n spot us hold end (RwPhase.LeaveWriterWakeSection rest has) i m at e = absurd i
+owes_end l t n spot us hold end (RwPhase.Unlocks fair rest) i m at e = absurd i
+owes_end l t n spot us hold end (RwPhase.LooksExclusive fair rest) i m at e = absurd i
+owes_end l t n spot us hold end RwPhase.Downgrades i m at e = absurd i
+owes_end l t n spot us hold end (RwPhase.Ends outcome) i m at e = absurd i
+owes_end l t n spot us hold end RwPhase.Invalid i m at e = absurd i
+owes_end l t n spot us hold end q i m at e = absurd e
+
+ends_by : (recursive : Bool) (l : Lock) (t n : ℕ) (spot : QueuePosition) (us : List ℕ) (p : UpgradePhase) (x : ℕ) → MeetsUpgrade l t n spot us p x → upgrade_begun p ≡ true → IsDone (ut.act_of p)
+    → IsLastStep recursive (last_move n p) l t (role n spot us p) x (record { owns = upgrade_owned_after p; does = rules.Idle })
+ends_by recursive l t n spot us (UpgradePhase.Plain core) x h b e = absurd h.prepared
+ends_by recursive l t n spot us (UpgradePhase.Seeks core) x h b e = absurd (seeks_on core.phase h.ready.0 e)
+ends_by recursive l t n spot us (UpgradePhase.Drains core) x h b e = drains_end n spot us core.phase h.ready.0 e
+ends_by recursive l t n spot us (UpgradePhase.Frees way core) x h b e =
+    ((frees_end l t n spot us way core.phase h.ready h.prepared h.here e, tt), λ i. record l { word = h.word i; roles = slice_set l.roles t (record { owns = Shares 0; does = rules.Idle }) })
+ends_by recursive l t n spot us (UpgradePhase.Owes hold end core) x h b e =
+    ((owes_end l t n spot us hold end core.phase h.ready h.prepared h.here e, tt), λ i. record l { word = h.word i; roles = slice_set l.roles t (record { owns = owned hold; does = rules.Idle }) })
+ends_by recursive l t n spot us UpgradePhase.Refuses x h b e = ((h.here, tt), λ i. record l { word = h.word i; roles = slice_set l.roles t (record { owns = Shares 0; does = rules.Idle }) })
+ends_by recursive l t n spot us (UpgradePhase.Ends hold end) x h b e = refl
+ends_by recursive l t n spot us UpgradePhase.Invalid x h b e = refl
+ends_by recursive l t n spot us UpgradePhase.Locking x h b e = absurd (both_ways false refl b)
+ends_by recursive l t n spot us UpgradePhase.Trying x h b e = absurd (both_ways false refl b)
+ends_by recursive l t n spot us (UpgradePhase.Unlocking r) x h b e = absurd (both_ways false refl b)
+ends_by recursive l t n spot us UpgradePhase.Bumping x h b e = absurd (both_ways false refl b)
+ends_by recursive l t n spot us UpgradePhase.Upgrading x h b e = absurd (both_ways false refl b)
+ends_by recursive l t n spot us UpgradePhase.TryingToUpgrade x h b e = absurd (both_ways false refl b)
+ends_by recursive l t n spot us UpgradePhase.DowngradingToShared x h b e = absurd (both_ways false refl b)
+ends_by recursive l t n spot us UpgradePhase.DowngradingToUpgradable x h b e = absurd (both_ways false refl b)
+ends_by recursive l t n spot us (UpgradePhase.GivingUp from) x h b e = absurd (both_ways false refl b)
+ends_by recursive l t n spot us p x h b e = absurd e
+
+pub upgrades_end : UpgradesEnd
+upgrades_end recursive l t n spot us p x answer h b e = ends_by recursive l t n spot us p x h b (subst IsDone (sym e) tt)
 
 -- WHAT IT KEEPS
 

@@ -274,22 +274,27 @@ module _ (recursive : Bool) (l : Lock) (t n : ℕ) (spot : QueuePosition) (us : 
   takes : (mode : Mode) → move n us p s ≡ TakesOne mode → IsMove recursive (TakesOne mode) n us p q l.word (word_after (act_of p) s x) → UpgradeLeads recursive (TakesOne mode) t n spot us p s x l
   takes mode e m v =
       let z = m v in
-      let same : l.word ≡ word_of (word_after (act_of p) s x) = same_word l h.sound _ z.2 in
-      (z.0, λ i may. (
-        (h.here ∙ ap (λ r. Some r) (listed (TakesOne mode) e tt ∙ z.1.from), may),
-        λ j. record l { word = same j; roles = slice_set (slice_set l.roles t (sym z.1.to j)) v (record { owns = Shares 0; does = rules.Taken1 mode t rules.Open rules.Asleep }); first = remove l.first i },
-      ))
+      let same : l.word ≡ word_of (word_after (act_of p) s x) = same_word l h.sound _ z.2 in (
+        z.0,
+        λ i may. (
+          (h.here ∙ ap (λ r. Some r) (listed (TakesOne mode) e tt ∙ z.1.from), may),
+          λ j. record l { word = same j; roles = slice_set (slice_set l.roles t (sym z.1.to j)) v (record { owns = Shares 0; does = rules.Taken1 mode t rules.Open rules.Asleep }); first = remove l.first i },
+        ),
+      )
 
   tells : (end : Ending) (left : Bool) → move n us p s ≡ Tells end left → IsMove recursive (Tells end left) n us p q l.word (word_after (act_of p) s x) → UpgradeLeads recursive (Tells end left) t n spot us p s x l
   tells end left e m some_left =
       let scan : Scan = m.0 in
       let w = word_after (act_of p) s x in
-      let taken : scan.taken ≡ us = sym (ap taken_in m.1.from) ∙ subst (InSection recursive n us p s) e (section recursive n us p s h.prepared) in (scan, λ over.
-      let may : Allowed recursive t (Store end scan) l = (h.here ∙ ap (λ r. Some r) (listed (Tells end left) e tt ∙ m.1.from), m.1.cause, subst (MayEnd end) (sym taken) m.1.may, over) in
-      let to : role n Listed us q ≡ record { owns = scan.owns; does = rules.Stored1 scan.taken } = m.1.to ∙ ap (λ (vs : List ℕ). record { owns = scan.owns; does = rules.Stored1 vs }) (sym taken) in
-      let said : w ≡ number (stored end scan.shared scan.upgradable scan.writer (length l.first) l.word) = m.1.written ∙ ap number (stored_left end scan.shared scan.upgradable scan.writer l.first left l.word some_left) in
-      let word : stored end scan.shared scan.upgradable scan.writer (length l.first) l.word ≡ word_of w = same_word (after t (Store end scan) l) (step_sound recursive t (Store end scan) l h.sound may) w said in
-      (may, λ j. record l { word = word j; roles = slice_set (map (settle (ends_saying end)) l.roles) t (sym to j) }))
+      let taken : scan.taken ≡ us = sym (ap taken_in m.1.from) ∙ subst (InSection recursive n us p s) e (section recursive n us p s h.prepared) in (
+        scan,
+        λ over.
+            let may : Allowed recursive t (Store end scan) l = (h.here ∙ ap (λ r. Some r) (listed (Tells end left) e tt ∙ m.1.from), m.1.cause, subst (MayEnd end) (sym taken) m.1.may, over) in
+            let to : role n Listed us q ≡ record { owns = scan.owns; does = rules.Stored1 scan.taken } = m.1.to ∙ ap (λ (vs : List ℕ). record { owns = scan.owns; does = rules.Stored1 vs }) (sym taken) in
+            let said : w ≡ number (stored end scan.shared scan.upgradable scan.writer (length l.first) l.word) = m.1.written ∙ ap number (stored_left end scan.shared scan.upgradable scan.writer l.first left l.word some_left) in
+            let word : stored end scan.shared scan.upgradable scan.writer (length l.first) l.word ≡ word_of w = same_word (after t (Store end scan) l) (step_sound recursive t (Store end scan) l h.sound may) w said in
+            (may, λ j. record l { word = word j; roles = slice_set (map (settle (ends_saying end)) l.roles) t (sym to j) }),
+      )
 
   wakes : move n us p s ≡ WakesOne → UpgradeLeads recursive WakesOne t n spot us p s x l
   wakes e v vs k is from_k =

@@ -266,7 +266,7 @@ unlocks_idle r word = pick Idle (rt.is_parked word) _ _ (refl, refl) (refl, refl
 owes_idle : (hold : Hold) (end : CoreAnswer) (word : ℕ) → Idle (ut.owes hold end word)
 owes_idle hold end word = pick Idle (rt.is_parked word) _ _ (refl, refl) (refl, refl)
 
-upgrades_lead : UpgradesLead
+pub upgrades_lead : UpgradesLead
 upgrades_lead (UpgradePhase.Plain core) word s i g = rw_leads core.phase word s g
 upgrades_lead (UpgradePhase.Seeks core) word s i g = seeks_lead core.phase word s i.0 g
 upgrades_lead (UpgradePhase.Drains core) word s i g = drains_lead core.phase word s i.0 g
@@ -294,8 +294,3 @@ upgrades_lead (UpgradePhase.YieldLoads from) word (ActResult.Word w) i g = (refl
 upgrades_lead (UpgradePhase.Yields from tried) word ActResult.Exchanged i g = let x = owes_idle (ut.held_before from) CoreAnswer.Released tried in (refl, x.0, x.1)
 upgrades_lead (UpgradePhase.Yields from tried) word (ActResult.Word w) i g = (refl, refl, refl)
 upgrades_lead p word s i g = absurd g
-
--- BEGINNING, ENDING AND SLEEPING
-
-pub laws : UpgradesLead
-laws = upgrades_lead

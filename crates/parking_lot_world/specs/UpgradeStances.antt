@@ -44,18 +44,3 @@ LeadsUpgrade p s q = Leads (act_of p) s (upgrade_stance p) (upgrade_stance q) (u
 
 abbrev pub UpgradesLead : Type 0
 UpgradesLead = (p : UpgradePhase) (word : ℕ) (s : ActResult) → IsReady p → Gives (act_of p) word s → LeadsUpgrade p s (next_phase p s)
-
--- It begins outside, with nobody taken, and so it ends.
-abbrev pub UpgradesBegin : Type 0
-UpgradesBegin = (p : UpgradePhase) → (upgrade_stance (next_phase p seen.Start) ≡ Out) × (upgrade_taken (next_phase p seen.Start) ≡ 0)
-
-abbrev pub UpgradesEnd : Type 0
-UpgradesEnd = (p : UpgradePhase) → IsReady p → IsOver (act_of p) (upgrade_stance p) (upgrade_taken p)
-
--- One that sleeps has taken nobody, and stands outside once it is woken.
-abbrev pub UpgradesWake : Type 0
-UpgradesWake = (p : UpgradePhase) (k : ℕ) (token : ParkToken) (said : UnparkToken) → IsReady p → upgrade_stance p ≡ Asleep k token
-    → (upgrade_taken p ≡ 0) × (upgrade_stance (next_phase p (seen.Woken said)) ≡ Out) × (upgrade_taken (next_phase p (seen.Woken said)) ≡ 0)
-
-abbrev pub UpgradeKeysAreTwo : Type 0
-UpgradeKeysAreTwo = (p : UpgradePhase) → HasSmallKey (upgrade_stance p)

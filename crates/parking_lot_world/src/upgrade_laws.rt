@@ -1,5 +1,5 @@
 //! Laws of upgradable calls: how their acts move them between sections and lists.
-ghost use Rattle.parking_lot_world.specs.UpgradeLaws.{UpgradesAreSteps, UpgradesKeep};
+ghost use Rattle.parking_lot_world.specs.UpgradeLaws.{UpgradesAreSteps, UpgradesEnd, UpgradesKeep};
 ghost use Rattle.parking_lot_world.specs.UpgradeRanks.{UpgradeStepsFall};
 ghost use Rattle.parking_lot_world.specs.UpgradeStances.{UpgradesLead};
 
@@ -24,4 +24,9 @@ pub fn upgrade_steps_fall()
 /// bumps nor gives up.
 pub fn upgradable_calls_keep()
     ensures { UpgradesKeep }
+{}
+
+/// The end of an upgradable call is a step of the rules or none, and leaves its thread with what it owns.
+pub fn upgradable_ends_are_steps()
+    ensures { UpgradesEnd }
 {}
