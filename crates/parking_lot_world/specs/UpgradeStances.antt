@@ -1,10 +1,7 @@
 -- Where an upgradable call stands to the sections and lists of the lot, whom it has taken, and how many steps it has left.
-use Rattle.std.specs.Prelude.{◌≡◌, ℕ}
-use Rattle.parking_lot_core_lot.specs.declared.parking.ParkToken.{ParkToken}
-use Rattle.parking_lot_core_lot.specs.declared.parking.UnparkToken.{UnparkToken}
+use Rattle.std.specs.Prelude.{ℕ}
 use Rattle.parking_lot_protocol.specs.Acts.{Gives}
 use Rattle.parking_lot_protocol.specs.declared.act.ActResult.{ActResult}
-use Rattle.parking_lot_protocol.specs.declared.act.ActResult.TheVariants as seen
 use Rattle.parking_lot_protocol.specs.declared.rw_phase.RwPhase.{RwPhase}
 use Rattle.parking_lot_protocol.specs.declared.rw_phase.RwPhase.TheVariants as r
 use Rattle.parking_lot_upgrades.specs.declared.upgrade_phase.UpgradePhase.{UpgradePhase}
@@ -12,7 +9,7 @@ use Rattle.parking_lot_upgrades.specs.declared.upgrade_phase.UpgradePhase.TheVar
 use Rattle.parking_lot_upgrades.specs.UpgradeTable.{act_of, next_phase, wakes_with}
 use Rattle.parking_lot_upgrades.specs.UpgradeRules.{IsReady}
 use Rattle.parking_lot_world.specs.Stances.{Stance, Out, In, Asleep, Joins, Joined, rw_stance, rw_taken}
-use Rattle.parking_lot_world.specs.StanceLaws.{Leads, IsOver, HasSmallKey}
+use Rattle.parking_lot_world.specs.StanceLaws.{Leads}
 
 -- one that asks waits with a token of its own
 abbrev pub seeks_stance : RwPhase → Stance
