@@ -65,6 +65,7 @@ holds_beside hold.Excludes = 0
 -- Its role as the call begins is the one that it had.
 abbrev pub BeginsAs : Hold → Core → Type 0
 BeginsAs h (core.Mutex c) = (at : QueuePosition) (us : List ℕ) → mutex_core_role at us (core.Mutex c) ≡ record { owns = owns_mutex h; does = mutex.Idle }
+BeginsAs h (core.Late p) = ⊥
 BeginsAs h (core.Rw c) = (at : QueuePosition) (us : List ℕ) → rw_core_role (holds_beside h) at us (core.Rw c) ≡ record { owns = owned_of h; does = Idle }
 
 pub record BeginsWell (h : Hold) (k : LockCall) : Type 0 where

@@ -101,6 +101,7 @@ Awaits k token other = ⊥
 abbrev pub IsOfKind : Option LockKind → Core → Type 0
 IsOfKind k (core.Mutex c) = k ≡ Some kind.Mutex
 IsOfKind k (core.Rw c) = k ≡ Some kind.Rw
+IsOfKind k (core.Late p) = k ≡ Some kind.Mutex
 
 -- What a phase needs of what its thread owns beside and has taken, where that doesn't follow from what the word says.
 abbrev pub rw_prepared : ℕ → List ℕ → RwPhase → Type 0
@@ -170,6 +171,7 @@ rw_keeps n r.Invalid = ⊥
 abbrev pub IsPrepared : ℕ → Core → Type 0
 IsPrepared n (core.Mutex c) = n ≡ 0
 IsPrepared n (core.Rw c) = of_rw.IsReady c.phase × rw_keeps n c.phase
+IsPrepared n (core.Late p) = n ≡ 0
 
 -- What one that is to store knows of its list: it has taken a writer or all, and whether waiters are left.
 abbrev pub mutex_knows : MutexPhase → List Waiter → Type 0
@@ -185,6 +187,7 @@ rw_knows phase first second = Unit {0}
 abbrev pub KnowsList : Core → (ℕ → List Waiter) → ℕ → Type 0
 KnowsList (core.Mutex c) queues j = mutex_knows c.phase (queues (2 * j))
 KnowsList (core.Rw c) queues j = rw_knows c.phase (queues (2 * j)) (queues (2 * j + 1))
+KnowsList (core.Late p) queues j = Unit {0}
 
 -- Who was taken sleeps off its list, at the lock of its taker.
 pub record IsTaken (s : State) (e : Wakeup) : Type 0 where

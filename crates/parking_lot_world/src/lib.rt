@@ -34,6 +34,6 @@ pub use parking_lot_protocol::{
     wake_sum,
 };
 pub use row_machine::RowMachine;
-pub use seat::{Core, Hold, QueuePosition, WakeResult, Wakeup};
+pub use seat::{Core, Hold, LatePhase, QueuePosition, WakeResult, Wakeup};
 pub use step::WorldStep;
 pub use world::World;
