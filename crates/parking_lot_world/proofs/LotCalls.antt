@@ -149,7 +149,7 @@ lot_never_refuses = record {
       steps_in s t c x.0 x.1 l.0 Stores may_store l.1 (λ o come. come);
   masks = λ s t c keep x.
       let l = leads_by c.core (Act.FetchAnd keep) 0 (seen.Before 0) x.2 refl in
-      steps_in s t c x.0 x.1 1 Stores may_store l.0 (λ o come. come);
+      steps_in s t c x.0 x.1 l.0 Stores may_store l.1 (λ o come. come);
   leaves = leaves;
   inside = λ s t c k how h here from.
       let seat = seat_of s h t c (In k how) here from in

@@ -43,7 +43,7 @@ set_same [] i x h = refl
 set_same (y ∷ ys) zero x h = ap (λ z. z ∷ ys) (sym (same_Some y x h))
 set_same (y ∷ ys) (suc i) x h = ap (λ zs. y ∷ zs) (set_same ys i x h)
 
-total_of_nobody : (rs : List rules.Role) → ((u : ℕ) (r : rules.Role) → slice_get rs u ≡ Some r → rules.weight rules.Inside r ≡ 0) → rules.total rules.Inside rs ≡ 0
+pub total_of_nobody : (rs : List rules.Role) → ((u : ℕ) (r : rules.Role) → slice_get rs u ≡ Some r → rules.weight rules.Inside r ≡ 0) → rules.total rules.Inside rs ≡ 0
 total_of_nobody [] none = refl
 total_of_nobody (r ∷ rs) none = omega (arith, sum_by-cons (rules.weight rules.Inside) r rs, none 0 r refl, total_of_nobody rs (λ u. none (suc u)))
 

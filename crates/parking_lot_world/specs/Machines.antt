@@ -1,5 +1,5 @@
 -- What a machine of locks does, call by call.
-use Rattle.std.specs.Prelude.{◌≡◌, ℕ, ◌*◌, ◌&&◌, ◌⊎◌, Bool, true, false, not, nat_lt, if◌then◌else◌, List, [], ◌∷◌, ◌++◌, length, replicate, Option, Some, None, is_some, is_none, slice_get, slice_set}
+use Rattle.std.specs.Prelude.{◌≡◌, ℕ, ◌*◌, ◌&&◌, ◌||◌, ◌⊎◌, Bool, true, false, not, nat_lt, if◌then◌else◌, List, [], ◌∷◌, ◌++◌, length, replicate, Option, Some, None, is_some, is_none, slice_get, slice_set}
 use Rattle.std.specs.Option.{option_and_then, option_map, option_map_or, option_or}
 use Rattle.parking_lot_core_lot.specs.Runs.{fresh}
 use Rattle.parking_lot_core_lot.specs.declared.place.Place.TheVariants.{Running}
@@ -12,11 +12,16 @@ use Rattle.parking_lot_protocol.specs.declared.act.ActResult.{ActResult}
 use Rattle.parking_lot_protocol.specs.declared.act.ActResult.TheVariants as seen
 use Rattle.parking_lot_world.specs.declared.calls.LockCall.{LockCall}
 use Rattle.parking_lot_world.specs.declared.calls.LockKind.{LockKind}
-use Rattle.parking_lot_world.specs.declared.calls.LockKind.TheVariants as kind
 use Rattle.parking_lot_world.specs.declared.open_call.Call.{Call}
 use Rattle.parking_lot_world.specs.declared.seat.Hold.TheVariants as hold
+use Rattle.parking_lot_world.specs.declared.seat.QueuePosition.{QueuePosition}
 use Rattle.parking_lot_world.specs.declared.seat.QueuePosition.TheVariants as spot
-use Rattle.parking_lot_world.specs.Calls.{kind_of}
+use Rattle.parking_lot_world.specs.declared.seat.LatePhase.{LatePhase}
+use Rattle.parking_lot_world.specs.declared.seat.LatePhase.TheVariants as late
+use Rattle.parking_lot_world.specs.declared.seat.Core.{Core}
+use Rattle.parking_lot_world.specs.declared.seat.Core.TheVariants as core
+use Rattle.parking_lot_world.specs.Calls.{takes}
+use Rattle.parking_lot_world.specs.Kinds.{kind_in}
 use Rattle.parking_lot_world.specs.Beginnings.{core_of, holds_beside, is_allowed}
 use Rattle.parking_lot_world.specs.Rows.{State, call_at, hold_at, open_at}
 use Rattle.parking_lot_core_lot.specs.declared.parking.ParkToken.{ParkToken}
@@ -39,9 +44,20 @@ is_possible taken other = true
 abbrev pub is_taken : State → Call → ℕ → Bool
 is_taken s c k = is_some (open_at s (key_of c k))
 
+-- One whose moment has passed comes back from its list, where no section is taken, and takes itself out there. Where another has taken it in the
+-- meantime it waits for that one.
+abbrev pub late_goes : Bool → QueuePosition → LatePhase → Bool
+late_goes taken spot.Listed late.Expires = not taken
+late_goes taken at late.Quits = true
+late_goes taken at p = false
+
+abbrev pub goes_late : State → Call → Core → Bool
+goes_late s c (core.Late p) = late_goes (is_taken s c 0) c.spot p
+goes_late s c k = false
+
 abbrev pub can_move_in : State → Option Call → Bool
 can_move_in s None = false
-can_move_in s (Some c) = is_possible (is_taken s c) (core_act c.core)
+can_move_in s (Some c) = goes_late s c c.core || is_possible (is_taken s c) (core_act c.core)
 
 abbrev pub can_move : State → ℕ → Bool
 can_move s t = can_move_in s (call_at s t)
@@ -54,20 +70,14 @@ sleeps other = false
 abbrev pub is_asleep : State → ℕ → Bool
 is_asleep s t = option_map_or (λ c. sleeps (core_act c.core)) (call_at s t) false
 
-abbrev pub is_of_kind : Option LockKind → LockKind → Bool
-is_of_kind None k = false
-is_of_kind (Some kind.Mutex) kind.Mutex = true
-is_of_kind (Some kind.Rw) kind.Rw = true
-is_of_kind (Some other) k = false
-
--- whether a thread may begin a call: it is in none, the lock is of its kind, and what it owns there allows it
+-- whether a thread may begin a call: it is in none, the lock is of a kind that takes it, and what it owns there allows it
 abbrev pub may_begin : State → ℕ → ℕ → LockCall → Bool
 may_begin s t lock call =
-    nat_lt t (length s.calls) && (is_none (call_at s t) && (is_of_kind (slice_get s.kinds lock) (kind_of call) && is_allowed (hold_at s t lock) call))
+    nat_lt t (length s.calls) && (is_none (call_at s t) && (takes (slice_get s.kinds lock) call && is_allowed (hold_at s t lock) call))
 
 -- the call before it begins
 abbrev pub call_for : State → ℕ → ℕ → LockCall → Call
-call_for s t lock call = record { lock = lock; others = holds_beside (hold_at s t lock); core = core_of call; spot = spot.Listed }
+call_for s t lock call = record { lock = lock; others = holds_beside (hold_at s t lock); core = core_of (kind_in s.kinds lock) call; spot = spot.Listed }
 
 -- a machine where nobody has done anything
 abbrev pub at_rest : ℕ → List LockKind → State

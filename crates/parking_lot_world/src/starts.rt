@@ -1,20 +1,21 @@
 //! How calls begin.
 ghost use Rattle.std.specs.Prelude.{◌≡◌};
-ghost use Rattle.parking_lot_world.specs.Beginnings.{AllowedCallsBeginWell, core_of, excludes, holds_beside, is_allowed, owns_nothing, shares};
+ghost use Rattle.parking_lot_protocol.specs.declared.mutex_phase.MutexPhase.TheVariants.{Unlocking};
+ghost use Rattle.parking_lot_world.specs.Beginnings.{AllowedCallsBeginWell, core_of, excludes, holds_beside, is_allowed, is_fair, owns_nothing, shares};
 
-use crate::calls::LockCall;
+use crate::calls::{LockCall, LockKind};
 use crate::seat::{Core, Hold};
 use parking_lot_protocol::{MutexCore, RwCore};
 
 impl LockCall {
-    /// The core of such a call, before it begins.
-    pub(crate) fn core(&self) -> Core
-        ensures { result ≡ core_of self.now }
+    /// The core of such a call at a lock of that kind, before it begins.
+    pub(crate) fn core(&self, kind: LockKind) -> Core
+        ensures { result ≡ core_of kind self.now }
     {
         match self {
             LockCall::Lock => Core::Mutex(MutexCore::lock()),
             LockCall::TryLock => Core::Mutex(MutexCore::try_lock()),
-            LockCall::Unlock => Core::Mutex(MutexCore::unlock()),
+            LockCall::Unlock => Core::Mutex(unlock(kind)),
             LockCall::Read => Core::Rw(RwCore::lock_shared(false)),
             LockCall::TryRead => Core::Rw(RwCore::try_lock_shared(false)),
             LockCall::UnlockRead => Core::Rw(RwCore::unlock_shared()),
@@ -23,6 +24,16 @@ impl LockCall {
             LockCall::UnlockWrite => Core::Rw(RwCore::unlock_exclusive()),
             LockCall::Downgrade => Core::Rw(RwCore::downgrade()),
         }
+    }
+}
+
+/// The core of a call that gives a mutex up: a fair one hands it over.
+fn unlock(kind: LockKind) -> MutexCore
+    ensures { result ≡ record { phase = Unlocking (is_fair kind) } }
+{
+    match kind {
+        LockKind::FairMutex => MutexCore::unlock_fair(),
+        LockKind::Mutex | LockKind::Rw => MutexCore::unlock(),
     }
 }
 

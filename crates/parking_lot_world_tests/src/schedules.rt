@@ -92,6 +92,17 @@ fn every_schedule_at_a_mutex_keeps_the_rules(rt: HostRuntime) -> Result<(), Fail
 }
 
 #[test]
+fn every_schedule_at_a_fair_mutex_keeps_the_rules(rt: HostRuntime) -> Result<(), Fail> {
+    let programs = [
+        two(LockCall::Lock, LockCall::Unlock),
+        two(LockCall::TryLock, LockCall::Unlock),
+    ];
+    let states = explore_all(&rt, LockKind::FairMutex, &programs)?;
+    assert!(rt; states >= 1_500, "{states} states");
+    Ok(())
+}
+
+#[test]
 fn every_schedule_at_a_reader_writer_lock_keeps_the_rules(rt: HostRuntime) -> Result<(), Fail> {
     let programs = [
         two(LockCall::Read, LockCall::UnlockRead),

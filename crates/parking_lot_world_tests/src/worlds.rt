@@ -207,6 +207,23 @@ fn a_mutex_is_let_go(rt: HostRuntime) -> Result<(), Fail> {
     follow(&rt, 3, LockKind::Mutex, &TWO_SLEEP, &script)
 }
 
+#[test]
+fn a_fair_mutex_is_handed_over_whatever_the_schedule_says(rt: HostRuntime) -> Result<(), Fail> {
+    let script = [
+        Line::Calls(0, LockCall::Unlock),
+        Line::Answered(0, RELEASED),
+        Line::Word(3),
+        Line::Owners(&[(1, OwnMode::Exclusive)]),
+        Line::Queues(&[2], &[]),
+        Line::Debts(&[]),
+        Line::Calls(0, LockCall::TryLock),
+        Line::Answered(0, REFUSED),
+        Line::GoesOn(1),
+        Line::Answered(1, OWNED),
+    ];
+    follow(&rt, 3, LockKind::FairMutex, &TWO_SLEEP, &script)
+}
+
 /// The step is refused behind two that are done.
 fn is_refused(
     rt: &impl Abort,

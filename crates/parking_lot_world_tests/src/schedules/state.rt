@@ -252,6 +252,16 @@ impl Snapshot {
         }
     }
 
+    /// Whether a thread that gives the lock up has to hand it over: it has taken one that waits.
+    pub fn must_hand(&self, thread: usize) -> bool {
+        self.shown.is_fair()
+            && self
+                .wakes
+                .iter()
+                .flatten()
+                .any(|wakeup| wakeup.by == thread)
+    }
+
     /// How far one of the two threads is.
     pub fn progress(&self, thread: usize) -> Progress {
         let [first, second] = self.threads;
