@@ -347,6 +347,9 @@ module _ (s : State) (t : ℕ) (c : Call) (core : c.core ≡ Core.Late LatePhase
     quit_made : IsLateMove LatePhase.Quits heard c.lock t s quit_state
     quit_made = go left is own_quit quit_of quit_inside list_then
       where
+        left_by : (b : Bool) → others_left s t c ≡ b → is_left (remove q i) ≡ b
+        left_by b e = sym (ap is_left (updated_at s.lot.queues key (remove q i))) ∙ e
+
         here_back : slice_get (mutex_at s c.lock).roles t ≡ Some (mutex.doing (mutex.Queued Back))
         here_back = (plays_late s h t c LatePhase.Quits core here).here
 
@@ -356,13 +359,13 @@ module _ (s : State) (t : ℕ) (c : Call) (core : c.core ≡ Core.Late LatePhase
         go true e a a' same_inside then = (
           i,
           made of_mutexes s (quitted_as s t c true) t c.lock (own-there s (quitted_as s t c true) t c _ _ c.spot a) (own-elsewhere s (quitted_as s t c true) t c _ _ c.spot a) quit_kind (MxStep (mutex.Quit i))
-              (here_back, stood_there, omega (arith, as_many, some_left (remove q i) e))
+              (here_back, stood_there, omega (arith, as_many, some_left (remove q i) (left_by true e)))
               (ap Mx (own_after of_mutexes s (quitted_as s t c true) t c (seen.Took None true) (Late LatePhase.Leaves) c.spot a' (word_at s c.lock) refl ∙ same of_mutexes _ _ _ _ _ _ [] [] refl refl then refl)) same_inside,
         )
         go false e a a' same_inside then = (
           i,
           made of_mutexes s (quitted_as s t c false) t c.lock (own-there s (quitted_as s t c false) t c _ _ c.spot a) (own-elsewhere s (quitted_as s t c false) t c _ _ c.spot a) quit_kind (MxStep (mutex.QuitLast i))
-              (here_back, stood_there, omega (arith, as_many, none_left (remove q i) e))
+              (here_back, stood_there, omega (arith, as_many, none_left (remove q i) (left_by false e)))
               (ap Mx (own_after of_mutexes s (quitted_as s t c false) t c (seen.Took None false) (Late LatePhase.Masks) c.spot a' (word_at s c.lock) refl ∙ same of_mutexes _ _ _ _ _ _ [] [] refl refl then refl)) same_inside,
         )
 

@@ -73,3 +73,4 @@ mod Summing
 pub mod Paying
 pub mod LateLots
 pub mod LateActs
+pub mod LateCalls

@@ -404,6 +404,7 @@ own_few s h word j shut (Core.Rw c) is = of_rw.steps_fall.few (length s.calls) w
 costs_most : (n : ℕ) (k : LockKind) (c : LockCall) → core_steps n Unseen (core_next (core_of k c) seen.Start) ≤ cost n c
 costs_most n k LockCall.Lock = omega arith
 costs_most n k LockCall.TryLock = omega arith
+costs_most n k LockCall.LockUntil = omega arith
 costs_most n k LockCall.Unlock = omega arith
 costs_most n k LockCall.Read = omega arith
 costs_most n k LockCall.TryRead = omega arith

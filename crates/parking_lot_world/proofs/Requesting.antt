@@ -30,6 +30,7 @@ manner_is (Some AsRw) AsMutex h = absurd (both_ways false refl h)
 core_manner : (k : LockKind) (c : LockCall) → IsOfManner (Some (manner_for c)) (core_of k c)
 core_manner k LockCall.Lock = refl
 core_manner k LockCall.TryLock = refl
+core_manner k LockCall.LockUntil = refl
 core_manner k LockCall.Unlock = refl
 core_manner k LockCall.Read = refl
 core_manner k LockCall.TryRead = refl
@@ -49,6 +50,9 @@ owns k LockCall.Lock Hold.Excludes h = refused _ h
 owns k LockCall.TryLock (Hold.Shares zero) h = (refl, refl, refl)
 owns k LockCall.TryLock (Hold.Shares (suc n)) h = refused _ h
 owns k LockCall.TryLock Hold.Excludes h = refused _ h
+owns k LockCall.LockUntil (Hold.Shares zero) h = (refl, refl, refl)
+owns k LockCall.LockUntil (Hold.Shares (suc n)) h = refused _ h
+owns k LockCall.LockUntil Hold.Excludes h = refused _ h
 owns k LockCall.Unlock (Hold.Shares n) h = refused _ h
 owns k LockCall.Unlock Hold.Excludes h = (refl, refl, refl)
 owns k LockCall.Read (Hold.Shares zero) h = (refl, refl, refl)

@@ -6,7 +6,7 @@ use Rattle.parking_lot_world.specs.Kinds.{Manner, AsRw, AsMutex, manner_of}
 use Rattle.parking_lot_world.specs.declared.calls.LockCall.{LockCall}
 use Rattle.parking_lot_world.specs.Rows.{State, lock_as, lock_at, mutex_role_at, rw_role_at}
 use Rattle.parking_lot_world.specs.RowSteps.{IsQuiet, IsMade}
-use Rattle.parking_lot_world.specs.Machines.{IsBegun, IsStepped}
+use Rattle.parking_lot_world.specs.Machines.{IsBegun, IsExpired, IsStepped}
 use Rattle.parking_lot_world.proofs.Everybody.{length-all}
 use Rattle.parking_lot_world.proofs.Moves.{begins, stepped}
 
@@ -44,3 +44,6 @@ module _ (s u : State) where
 
   pub stepped_stays : (t : ℕ) (fair : Bool) (answer : Option CoreAnswer) → IsStepped t fair answer s u → length u.calls ≡ length s.calls
   stepped_stays = stepped s u (λ t j. Stay s u) (λ t j q. quiet q) (λ t j step m. made j t step m)
+
+  pub expired_stays : (t : ℕ) → IsExpired t s u → length u.calls ≡ length s.calls
+  expired_stays t x = made x.call.lock t _ x.lawful.goes

@@ -30,6 +30,7 @@ is_fair kind.Rw = false
 abbrev pub core_of : LockKind → LockCall → Core
 core_of k call.Lock = core.Mutex (record { phase = m.Locking })
 core_of k call.TryLock = core.Mutex (record { phase = m.Trying })
+core_of k call.LockUntil = core.Mutex (record { phase = m.Locking })
 core_of k call.Unlock = core.Mutex (record { phase = m.Unlocking (is_fair k) })
 core_of k call.Read = core.Rw (record { phase = r.Locking (want.Shared false) })
 core_of k call.TryRead = core.Rw (record { phase = r.Trying (want.Shared false) })
@@ -57,6 +58,7 @@ excludes hold.Excludes = true
 abbrev pub is_allowed : Hold → LockCall → Bool
 is_allowed h call.Lock = owns_nothing h
 is_allowed h call.TryLock = owns_nothing h
+is_allowed h call.LockUntil = owns_nothing h
 is_allowed h call.Unlock = excludes h
 is_allowed h call.Read = owns_nothing h
 is_allowed h call.TryRead = owns_nothing h

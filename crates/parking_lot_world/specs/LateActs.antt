@@ -1,8 +1,7 @@
 -- What the acts leave of the machine of a call whose moment has passed as it slept.
-use Rattle.std.specs.Prelude.{ℕ, Bool, false, if◌then◌else◌, remove, None}
-use Rattle.std.specs.List.{position_or_len}
+use Rattle.std.specs.Prelude.{ℕ, Bool, false, if◌then◌else◌, None}
 use Rattle.parking_lot_core_lot.specs.Machine as lot
-use Rattle.parking_lot_core_lot.specs.Machine.{Machine, given_up, in_phase, is_thread, stored}
+use Rattle.parking_lot_core_lot.specs.Machine.{Machine, given_up, in_phase, stored}
 use Rattle.parking_lot_core_lot.specs.Results.{is_left}
 use Rattle.parking_lot_core_lot.specs.declared.place.Phase.TheVariants as phase
 use Rattle.parking_lot_protocol.specs.declared.act.ActResult.TheVariants as seen
@@ -21,13 +20,12 @@ expired s t c = with_call s t (record c { core = core.Late late.Expires })
 abbrev pub returned : State → ℕ → Call → State
 returned s t c = with_lot (with_call s t (hears c seen.Entered)) (lot.returned s.lot t (key_of c 0))
 
--- whether others are left in its list once it has taken itself out
-abbrev pub others_left : State → ℕ → Call → Bool
-others_left s t c = is_left (remove (s.lot.queues (key_of c 0)) (position_or_len (is_thread t) (s.lot.queues (key_of c 0))))
-
--- the lot once it has taken itself out: where others are left there is nothing to be stored
+-- The lot once it has taken itself out, and whether others are left in its list. Then there is nothing to be stored.
 abbrev pub out_of_list : State → ℕ → Call → Machine
 out_of_list s t c = in_phase (given_up s.lot t (key_of c 0)) phase.Ended
+
+abbrev pub others_left : State → ℕ → Call → Bool
+others_left s t c = is_left ((out_of_list s t c).queues (key_of c 0))
 
 abbrev pub quitted_as : State → ℕ → Call → Bool → State
 quitted_as s t c left = with_lot (with_call s t (hears c (seen.Took None left))) (if left then stored (out_of_list s t c) (sign false) else out_of_list s t c)

@@ -216,6 +216,7 @@ Pays t s u = steps_left u t + 1 ≤ steps_left s t
 abbrev pub cost : ℕ → LockCall → ℕ
 cost n call.Lock = 51
 cost n call.TryLock = 3
+cost n call.LockUntil = 51
 cost n call.Unlock = 115
 cost n call.Read = 53
 cost n call.TryRead = 3

@@ -6,6 +6,7 @@ mod advance;
 mod call_views;
 mod calls;
 mod fault;
+mod late_acts;
 mod late_laws;
 pub mod laws;
 mod lot_calls;

@@ -1,6 +1,7 @@
 //! What a machine of locks keeps of each thread.
 ghost use Rattle.std.specs.Prelude.{◌≡◌, ◌≤◌, ℕ};
 ghost use Rattle.parking_lot_protocol.specs.declared.mutex_phase.MutexPhase.TheVariants.{Invalid, Sleeps};
+ghost use Rattle.parking_lot_world.specs.Machines.{is_back, is_listed, sleeps_in_time};
 ghost use Rattle.parking_lot_world.specs.Stances.{In, Takes, core_act, core_next, core_tells, late_act, late_next, stance};
 ghost use Rattle.parking_lot_world.specs.RowActs.{hold_after, mutex_hold_after, rw_hold_after, joins, settled_spot, told_of};
 
@@ -108,7 +109,42 @@ impl QueuePosition {
     }
 }
 
+impl QueuePosition {
+    /// Whether it is in its list.
+    pub(crate) fn is_listed(self) -> bool
+        ensures { result ≡ is_listed self }
+    {
+        match self {
+            QueuePosition::Listed => true,
+            QueuePosition::Off(_, _) => false,
+        }
+    }
+}
+
 impl Core {
+    /// Whether it sleeps at a mutex, and its moment hasn't passed.
+    pub(crate) fn sleeps_in_time(&self) -> bool
+        ensures { result ≡ sleeps_in_time self.now }
+    {
+        match self {
+            Core::Mutex(core) => match core.phase() {
+                MutexPhase::Sleeps => true,
+                _ => false,
+            },
+            _ => false,
+        }
+    }
+
+    /// Whether its moment has passed, and it is back in the section of its list to take itself out.
+    pub(crate) fn is_back(&self) -> bool
+        ensures { result ≡ is_back self.now }
+    {
+        match self {
+            Core::Late(LatePhase::Quits) => true,
+            _ => false,
+        }
+    }
+
     /// What it has asked for.
     pub(crate) fn act(&self) -> Act
         ensures { result ≡ core_act self.now }

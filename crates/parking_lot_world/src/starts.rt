@@ -15,6 +15,7 @@ impl LockCall {
         match self {
             LockCall::Lock => Core::Mutex(MutexCore::lock()),
             LockCall::TryLock => Core::Mutex(MutexCore::try_lock()),
+            LockCall::LockUntil => Core::Mutex(MutexCore::lock()),
             LockCall::Unlock => Core::Mutex(unlock(kind)),
             LockCall::Read => Core::Rw(RwCore::lock_shared(false)),
             LockCall::TryRead => Core::Rw(RwCore::try_lock_shared(false)),
@@ -43,7 +44,7 @@ impl Hold {
         ensures { result ≡ is_allowed self.now call }
     {
         match call {
-            LockCall::Lock | LockCall::TryLock => self.is_none(),
+            LockCall::Lock | LockCall::TryLock | LockCall::LockUntil => self.is_none(),
             LockCall::Read | LockCall::TryRead => self.is_none(),
             LockCall::Write | LockCall::TryWrite => self.is_none(),
             LockCall::UnlockRead => self.shares(),
