@@ -103,6 +103,20 @@ fn every_schedule_at_a_fair_mutex_keeps_the_rules(rt: HostRuntime) -> Result<(),
 }
 
 #[test]
+fn every_schedule_with_deadlines_keeps_the_rules(rt: HostRuntime) -> Result<(), Fail> {
+    let programs = [
+        two(LockCall::LockUntil, LockCall::Unlock),
+        two(LockCall::Lock, LockCall::Unlock),
+        two(LockCall::TryLock, LockCall::Unlock),
+    ];
+    let timed = programs[0];
+    let states = explore_with(&rt, LockKind::Mutex, timed, &programs)?;
+    let fair = explore_with(&rt, LockKind::FairMutex, timed, &programs)?;
+    assert!(rt; states >= 1_000 && fair >= 1_000, "{states} and {fair} states");
+    Ok(())
+}
+
+#[test]
 fn every_schedule_at_a_reader_writer_lock_keeps_the_rules(rt: HostRuntime) -> Result<(), Fail> {
     let programs = [
         two(LockCall::Read, LockCall::UnlockRead),

@@ -118,7 +118,7 @@ impl<'r, R: AllocGlobal + Abort> Explorer<'r, R> {
     fn make_each(
         &mut self,
         state: &State,
-        steps: [WorldStep; 2],
+        steps: [WorldStep; 3],
         next: &mut Vec<State>,
     ) -> Result<bool, Fail> {
         let mut is_moved = false;
@@ -141,7 +141,7 @@ impl<'r, R: AllocGlobal + Abort> Explorer<'r, R> {
             return Ok(None);
         }
         let shown = Shown::of(&world, self.kind)?;
-        let threads = both_followed(threads, step.thread(), &shown);
+        let threads = both_followed(threads, step, &shown);
         let snapshot = Snapshot::of(&world, threads, shown);
         let mut schedule = state.schedule.clone()?;
         schedule.push(step)?;
