@@ -102,17 +102,34 @@ fn every_schedule_at_a_fair_mutex_keeps_the_rules(rt: HostRuntime) -> Result<(),
     Ok(())
 }
 
+/// A locker with a deadline, in a pair.
+const TIMED: Program = [Some(LockCall::LockUntil), Some(LockCall::Unlock), None];
+
 #[test]
-fn every_schedule_with_deadlines_keeps_the_rules(rt: HostRuntime) -> Result<(), Fail> {
+fn every_schedule_of_two_deadlines_keeps_the_rules(rt: HostRuntime) -> Result<(), Fail> {
+    let states = explore(&rt, LockKind::Mutex, Pair(TIMED, TIMED))?;
+    assert!(rt; states >= 1_000, "{states} states");
+    Ok(())
+}
+
+#[test]
+fn every_schedule_of_one_deadline_keeps_the_rules(rt: HostRuntime) -> Result<(), Fail> {
     let programs = [
-        two(LockCall::LockUntil, LockCall::Unlock),
         two(LockCall::Lock, LockCall::Unlock),
         two(LockCall::TryLock, LockCall::Unlock),
     ];
-    let timed = programs[0];
-    let states = explore_with(&rt, LockKind::Mutex, timed, &programs)?;
-    let fair = explore_with(&rt, LockKind::FairMutex, timed, &programs)?;
-    assert!(rt; states >= 1_000 && fair >= 1_000, "{states} and {fair} states");
+    let states = explore_with(&rt, LockKind::Mutex, TIMED, &programs)?;
+    assert!(rt; states >= 1_000, "{states} states");
+    Ok(())
+}
+
+#[test]
+fn every_schedule_of_a_deadline_at_a_fair_mutex_keeps_the_rules(
+    rt: HostRuntime,
+) -> Result<(), Fail> {
+    let programs = [TIMED, two(LockCall::Lock, LockCall::Unlock)];
+    let states = explore_with(&rt, LockKind::FairMutex, TIMED, &programs)?;
+    assert!(rt; states >= 1_000, "{states} states");
     Ok(())
 }
 

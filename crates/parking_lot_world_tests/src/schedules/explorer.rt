@@ -118,11 +118,11 @@ impl<'r, R: AllocGlobal + Abort> Explorer<'r, R> {
     fn make_each(
         &mut self,
         state: &State,
-        steps: [WorldStep; 3],
+        steps: [Option<WorldStep>; 3],
         next: &mut Vec<State>,
     ) -> Result<bool, Fail> {
         let mut is_moved = false;
-        for step in steps {
+        for step in steps.into_iter().flatten() {
             if let Some(behind) = self.make(state, step)? {
                 is_moved = true;
                 add(next, behind)?;

@@ -102,13 +102,14 @@ impl Progress {
 
     /// What may be its next steps. Others are never allowed; these aren't where it is at the end, sleeps, or is before a section that
     /// another has entered.
-    pub fn steps(&self, thread: usize) -> [WorldStep; 3] {
+    pub fn steps(&self, thread: usize) -> [Option<WorldStep>; 3] {
         let goes = WorldStep::Go(thread, false);
         let other = match (self.stage, self.rest[0]) {
             (Stage::Between(_), Some(call)) => WorldStep::Begin(thread, 0, call),
             _ => WorldStep::Go(thread, true),
         };
-        [goes, other, WorldStep::Deadline(thread)]
+        let deadline = WorldStep::Deadline(thread);
+        [Some(goes), Some(other), Some(deadline).filter(|step| self.may_make(*step))]
     }
 
     /// Whether it is in a call where it goes on, in none where it begins one, and in a timed one where its deadline comes.
