@@ -33,6 +33,7 @@ pub record Ends (t : ℕ) (c : Call) (s u : State) : Type 0 where
 -- what a thread owns that begins a call
 abbrev pub OwnsFor : Hold → ℕ → Core → Type 0
 OwnsFor x n (core.Rw k) = (rw_begun k.phase ≡ false) × rw_begins n k.phase × (owned_of x ≡ of_rw.owns n k.phase)
+OwnsFor x n (core.Late p) = ⊥
 OwnsFor x n (core.Mutex k) = (mutex_begun k.phase ≡ false) × (n ≡ 0) × (owns_mutex x ≡ of_mutex.owns k.phase)
 
 pub record MayBegin (s : State) (t : ℕ) (c : Call) : Type 0 where

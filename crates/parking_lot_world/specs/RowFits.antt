@@ -26,7 +26,6 @@ use Rattle.parking_lot_protocol.specs.declared.rw_phase.RwPhase.{RwPhase}
 use Rattle.parking_lot_protocol.specs.declared.rw_phase.RwPhase.TheVariants as r
 use Rattle.parking_lot_rules.specs.Clauses.{word_of}
 use Rattle.parking_lot_world.specs.declared.calls.LockKind.{LockKind}
-use Rattle.parking_lot_world.specs.declared.calls.LockKind.TheVariants as kind
 use Rattle.parking_lot_world.specs.declared.seat.Hold.TheVariants as hold
 use Rattle.parking_lot_world.specs.declared.seat.WakeResult.{WakeResult}
 use Rattle.parking_lot_world.specs.declared.seat.WakeResult.TheVariants as told
@@ -36,6 +35,7 @@ use Rattle.parking_lot_world.specs.declared.seat.Core.{Core}
 use Rattle.parking_lot_world.specs.declared.seat.Core.TheVariants as core
 use Rattle.parking_lot_world.specs.declared.open_call.Call.{Call}
 use Rattle.parking_lot_world.specs.declared.seat.Wakeup.{Wakeup}
+use Rattle.parking_lot_world.specs.Kinds.{Manner, AsMutex, AsRw, manner_of}
 use Rattle.parking_lot_world.specs.Rows.{State, word_at, hold_at, call_at, taken_by, family, one_bucket}
 use Rattle.parking_lot_world.specs.Stances.{Doing, Looks, TurnsBack, Joins, Joined, Takes, Stores, Tells, Stance, Out, In, Asleep, stance, taken_count, core_act}
 use Rattle.parking_lot_world.specs.Rounds.{IsUnderWay}
@@ -98,9 +98,13 @@ Awaits k token other = ⊥
 -- WHAT THE PARTS OF THE MACHINE SAY TO EACH OTHER
 
 -- the call is of the lock's kind
+abbrev pub IsOfManner : Option Manner → Core → Type 0
+IsOfManner m (core.Mutex c) = m ≡ Some AsMutex
+IsOfManner m (core.Rw c) = m ≡ Some AsRw
+IsOfManner m (core.Late p) = m ≡ Some AsMutex
+
 abbrev pub IsOfKind : Option LockKind → Core → Type 0
-IsOfKind k (core.Mutex c) = k ≡ Some kind.Mutex
-IsOfKind k (core.Rw c) = k ≡ Some kind.Rw
+IsOfKind k c = IsOfManner (manner_of k) c
 
 -- What a phase needs of what its thread owns beside and has taken, where that doesn't follow from what the word says.
 abbrev pub rw_prepared : ℕ → List ℕ → RwPhase → Type 0
@@ -170,6 +174,7 @@ rw_keeps n r.Invalid = ⊥
 abbrev pub IsPrepared : ℕ → Core → Type 0
 IsPrepared n (core.Mutex c) = n ≡ 0
 IsPrepared n (core.Rw c) = of_rw.IsReady c.phase × rw_keeps n c.phase
+IsPrepared n (core.Late p) = n ≡ 0
 
 -- What one that is to store knows of its list: it has taken a writer or all, and whether waiters are left.
 abbrev pub mutex_knows : MutexPhase → List Waiter → Type 0
@@ -185,6 +190,7 @@ rw_knows phase first second = Unit {0}
 abbrev pub KnowsList : Core → (ℕ → List Waiter) → ℕ → Type 0
 KnowsList (core.Mutex c) queues j = mutex_knows c.phase (queues (2 * j))
 KnowsList (core.Rw c) queues j = rw_knows c.phase (queues (2 * j)) (queues (2 * j + 1))
+KnowsList (core.Late p) queues j = Unit {0}
 
 -- Who was taken sleeps off its list, at the lock of its taker.
 pub record IsTaken (s : State) (e : Wakeup) : Type 0 where
@@ -254,7 +260,7 @@ pub record RulesFit (s : State) : Type 0 where
   pub few : (t i n : ℕ) → hold_at s t i ≡ hold.Shares n → n ≤ 255
   pub beside : (t : ℕ) (c : Call) → call_at s t ≡ Some c → c.others ≤ 254
   -- each word has the bits of its kind
-  pub bits : (i : ℕ) → slice_get s.kinds i ≡ Some kind.Mutex → word_at s i < 4
+  pub bits : (i : ℕ) → manner_of (slice_get s.kinds i) ≡ Some AsMutex → word_at s i < 4
   -- the locks are sound
   pub sound : SoundFamilyOf AnySound any_inside one_bucket (family s)
   -- a call that is kept has begun, and has few rounds left to spin

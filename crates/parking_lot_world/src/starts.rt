@@ -1,20 +1,22 @@
 //! How calls begin.
 ghost use Rattle.std.specs.Prelude.{◌≡◌};
-ghost use Rattle.parking_lot_world.specs.Beginnings.{AllowedCallsBeginWell, core_of, excludes, holds_beside, is_allowed, owns_nothing, shares};
+ghost use Rattle.parking_lot_protocol.specs.declared.mutex_phase.MutexPhase.TheVariants.{Unlocking};
+ghost use Rattle.parking_lot_world.specs.Beginnings.{AllowedCallsBeginWell, core_of, excludes, holds_beside, is_allowed, is_fair, owns_nothing, shares};
 
-use crate::calls::LockCall;
+use crate::calls::{LockCall, LockKind};
 use crate::seat::{Core, Hold};
 use parking_lot_protocol::{MutexCore, RwCore};
 
 impl LockCall {
-    /// The core of such a call, before it begins.
-    pub(crate) fn core(&self) -> Core
-        ensures { result ≡ core_of self.now }
+    /// The core of such a call at a lock of that kind, before it begins.
+    pub(crate) fn core(&self, kind: LockKind) -> Core
+        ensures { result ≡ core_of kind self.now }
     {
         match self {
             LockCall::Lock => Core::Mutex(MutexCore::lock()),
             LockCall::TryLock => Core::Mutex(MutexCore::try_lock()),
-            LockCall::Unlock => Core::Mutex(MutexCore::unlock()),
+            LockCall::LockUntil => Core::Mutex(MutexCore::lock()),
+            LockCall::Unlock => Core::Mutex(unlock(kind)),
             LockCall::Read => Core::Rw(RwCore::lock_shared(false)),
             LockCall::TryRead => Core::Rw(RwCore::try_lock_shared(false)),
             LockCall::UnlockRead => Core::Rw(RwCore::unlock_shared()),
@@ -26,13 +28,23 @@ impl LockCall {
     }
 }
 
+/// The core of a call that gives a mutex up: a fair one hands it over.
+fn unlock(kind: LockKind) -> MutexCore
+    ensures { result ≡ record { phase = Unlocking (is_fair kind) } }
+{
+    match kind {
+        LockKind::FairMutex => MutexCore::unlock_fair(),
+        LockKind::Mutex | LockKind::Rw => MutexCore::unlock(),
+    }
+}
+
 impl Hold {
     /// Whether one that owns a lock so may ask that of it.
     pub fn allows(&self, call: LockCall) -> bool
         ensures { result ≡ is_allowed self.now call }
     {
         match call {
-            LockCall::Lock | LockCall::TryLock => self.is_none(),
+            LockCall::Lock | LockCall::TryLock | LockCall::LockUntil => self.is_none(),
             LockCall::Read | LockCall::TryRead => self.is_none(),
             LockCall::Write | LockCall::TryWrite => self.is_none(),
             LockCall::UnlockRead => self.shares(),

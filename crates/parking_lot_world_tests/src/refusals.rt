@@ -18,6 +18,7 @@ fn who_owns_a_lock_only_gives_it_up(rt: HostRuntime) {
     let table = [
         (LockCall::Lock, [false, false, true]),
         (LockCall::TryLock, [false, false, true]),
+        (LockCall::LockUntil, [false, false, true]),
         (LockCall::Read, [false, false, true]),
         (LockCall::TryRead, [false, false, true]),
         (LockCall::Write, [false, false, true]),

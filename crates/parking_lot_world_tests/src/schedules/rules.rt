@@ -91,6 +91,11 @@ pub fn hands_over(step: WorldStep, before: &Snapshot, behind: &Snapshot) -> bool
     before.shown.mode(other).is_none() && behind.shown.mode(other).is_some()
 }
 
+/// Whether a step takes its thread's hold.
+fn gives_up(thread: usize, before: &Snapshot, behind: &Snapshot) -> bool {
+    before.shown.mode(thread).is_some() && behind.shown.mode(thread).is_none()
+}
+
 /// A rule of steps that this one breaks.
 pub fn broken_by_step(
     step: WorldStep,
@@ -116,8 +121,12 @@ pub fn broken_by_step(
             "a step of one thread takes nothing from another",
         ),
         (
-            !is_handed || step == WorldStep::Go(thread, true),
+            !is_handed || step == WorldStep::Go(thread, true) || before.shown.is_fair(),
             "only a fair step hands the lock over to another",
+        ),
+        (
+            is_handed || !gives_up(thread, before, behind) || !before.must_hand(thread),
+            "a fair lock goes to whoever waits",
         ),
     ])
 }

@@ -18,7 +18,7 @@ pub struct Shown {
 /// What an owner adds to the lock's word.
 fn weight(kind: LockKind, mode: OwnMode) -> u64 {
     match (kind, mode) {
-        (LockKind::Mutex, _) => 1,
+        (LockKind::Mutex | LockKind::FairMutex, _) => 1,
         (LockKind::Rw, OwnMode::Exclusive | OwnMode::Pending) => 8,
         (LockKind::Rw, OwnMode::Shared) => 16,
         (LockKind::Rw, OwnMode::Upgradable) => 20,
@@ -28,7 +28,7 @@ fn weight(kind: LockKind, mode: OwnMode) -> u64 {
 /// The bits of the word which say that the first list, and the second, may have somebody.
 fn parked_bits(kind: LockKind) -> (u64, u64) {
     match kind {
-        LockKind::Mutex => (2, 0),
+        LockKind::Mutex | LockKind::FairMutex => (2, 0),
         LockKind::Rw => (1, 2),
     }
 }
@@ -116,6 +116,11 @@ impl Shown {
     pub fn owners_go_together(&self) -> bool {
         self.excluding() <= 1
             && (self.count(OwnMode::Exclusive) == 0 || self.count(OwnMode::Shared) == 0)
+    }
+
+    /// Whether each release hands the lock over, whatever the schedule says.
+    pub fn is_fair(&self) -> bool {
+        self.kind == LockKind::FairMutex
     }
 
     /// What the owners make of the word.
