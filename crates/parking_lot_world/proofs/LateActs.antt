@@ -35,7 +35,7 @@ use Rattle.parking_lot_world.specs.declared.seat.Core.{Core}
 use Rattle.parking_lot_world.specs.declared.seat.QueuePosition.{QueuePosition}
 use Rattle.parking_lot_world.specs.declared.open_call.Call.{Call}
 use Rattle.parking_lot_world.specs.ActLaws.{Acts, Keeps}
-use Rattle.parking_lot_world.specs.Kinds.{AsMutex, manner_of}
+use Rattle.parking_lot_world.specs.Kinds.{AsMutex, manner_of, recursive_in}
 use Rattle.parking_lot_world.specs.LateActs.{expired, others_left, out_of_list, quitted, quitted_as, returned}
 use Rattle.parking_lot_world.specs.LateLaws.{Expires, LateActsAreSteps}
 use Rattle.parking_lot_world.specs.Ranks.{Pays, core_steps, far_steps, late_steps, own_steps, steps_left, view_of}
@@ -126,7 +126,7 @@ module _ (s : State) (t : ℕ) (c : Call) (core : c.core ≡ sleeps) (listed : c
     holds = refl;
     words = refl;
     calls = λ v e is. calls-change (λ x f. CallFits s.kinds s.lot.queues f) s.calls t c late_call here (λ x f ne at. call_fits s h.rules x f at)
-        (record { kind = mutex_there; prepared = subst (IsPrepared c.others) core (h.rules.prepared t c here); knows = tt; beside = h.rules.beside t c here; begun = record { begun = refl; few = omega arith } }) v e is;
+        (record { kind = mutex_there; prepared = subst (IsPrepared (recursive_in s.kinds c.lock) c.others) core (h.rules.prepared t c here); knows = tt; beside = h.rules.beside t c here; begun = record { begun = refl; few = omega arith } }) v e is;
     few = h.rules.few;
     elsewhere = λ i ne. refl;
     bits = h.rules.bits c.lock;
@@ -202,7 +202,7 @@ module _ (s : State) (t : ℕ) (c : Call) (core : c.core ≡ Core.Late LatePhase
     made of_mutexes s back_state t c.lock (own-there s back_state t c seen.Entered _ c.spot back_of) (own-elsewhere s back_state t c seen.Entered _ c.spot back_of) back_kind (MxStep (mutex.Alone mutex.Reenter))
         ((plays_late s h t c LatePhase.Expires core here).here ∙ ap (λ at. Some (late_role (mutex_spot at) LatePhase.Expires)) listed, total_of_nobody (mutex_at s c.lock).roles (nobody_in_mutex s h nobody c.lock back_kind))
         (ap Mx (own_after of_mutexes s back_state t c seen.Entered (Late LatePhase.Quits) c.spot back_of (word_at s c.lock) refl)) (nobody, refl),
-    subst (IsPrepared c.others) core (h.rules.prepared t c here),
+    subst (IsPrepared (recursive_in s.kinds c.lock) c.others) core (h.rules.prepared t c here),
     tt,
     h.rules.bits c.lock,
   )
@@ -370,7 +370,7 @@ module _ (s : State) (t : ℕ) (c : Call) (core : c.core ≡ Core.Late LatePhase
         )
 
     quit_fitted : Fitted s quit_state t c heard (Core.Late LatePhase.Quits)
-    quit_fitted = (quit_made, subst (IsPrepared c.others) core (h.rules.prepared t c here), tt, h.rules.bits c.lock)
+    quit_fitted = (quit_made, subst (IsPrepared (recursive_in s.kinds c.lock) c.others) core (h.rules.prepared t c here), tt, h.rules.bits c.lock)
 
     quits_as : (told : ActResult) × Acts t c told s quit_state
     quits_as =

@@ -21,7 +21,7 @@ use Rattle.parking_lot_protocol.specs.MutexRules as of_mutex
 use Rattle.parking_lot_protocol.specs.declared.act.ActResult.{ActResult}
 use Rattle.parking_lot_protocol.specs.declared.mutex_core.MutexCore.{MutexCore}
 use Rattle.parking_lot_core_lot.specs.declared.place.Waiter.{Waiter}
-use Rattle.parking_lot_world.specs.Kinds.{AsMutex, AsRw, manner_of, Manner}
+use Rattle.parking_lot_world.specs.Kinds.{AsMutex, AsRw, manner_of, Manner, recursive_in}
 use Rattle.parking_lot_world.specs.declared.seat.Hold.{Hold}
 use Rattle.parking_lot_world.specs.declared.seat.QueuePosition.{QueuePosition}
 use Rattle.parking_lot_world.specs.declared.seat.LatePhase.{LatePhase}
@@ -34,7 +34,7 @@ use Rattle.parking_lot_world.specs.RwLaws.{Learns, Meets, count_shared}
 use Rattle.parking_lot_world.specs.MutexLaws.{Plays}
 use Rattle.parking_lot_world.proofs.MutexRoles.{words}
 use Rattle.parking_lot_world.proofs.RwCrossing.{lists_are_known}
-use Rattle.parking_lot_world.proofs.RwMoving.{answers_are_moves}
+use Rattle.parking_lot_world.proofs.RwMoving.{answers_are_moves, counted}
 use Rattle.parking_lot_world.proofs.RwKeeping.{calls_keep}
 use Rattle.parking_lot_world.proofs.Everybody.{was-all, length-all}
 use Rattle.parking_lot_world.proofs.KindTable.{Plain, Late, of_rws, of_mutexes, in_its_place}
@@ -102,16 +102,16 @@ module _ (s : State) (h : FitsTogether s) where
 
   -- thread t is in that call
   pub meets : (t : ℕ) (c : Call) (k : RwCore) → c.core ≡ Core.Rw k → call_at s t ≡ Some c
-      → Meets (rw_lock_at s c.lock) t c.others (rw_spot c.spot) (taken_by s.wakes t) k.phase (word_at s c.lock)
+      → Meets (recursive_in s.kinds c.lock) (rw_lock_at s c.lock) t c.others (rw_spot c.spot) (taken_by s.wakes t) k.phase (word_at s c.lock)
   meets t c k e here =
-      let ready = subst (IsPrepared c.others) e (h.rules.prepared t c here) in
+      let ready = subst (IsPrepared (recursive_in s.kinds c.lock) c.others) e (h.rules.prepared t c here) in
       let counted = h.lots.counted t c here ∙ ap taken_count e in
       record {
         sound = rw_sound c.lock (subst (IsOfKind (slice_get s.kinds c.lock)) e (h.rules.kinds t c here));
         word = refl;
         here = in_its_place of_rws s t c k (in_range s t c here) here e;
         ready = ready.0;
-        prepared = calls_keep.prepared c.others (taken_by s.wakes t) k.phase ready.1 counted (few_counted (taken_by s.wakes t) k.phase (few_taken s h t) counted);
+        prepared = calls_keep.prepared (recursive_in s.kinds c.lock) c.others (taken_by s.wakes t) k.phase ready.1 counted (few_counted (taken_by s.wakes t) k.phase (few_taken s h t) counted);
         threads = omega (arith, length-all (rw_role_at s c.lock) 0 (length s.calls), h.rules.small);
         few = λ u x at. subst (λ (q : Role). shared_holds q.owns ≤ 256) (sym (was-all (rw_role_at s c.lock) (length s.calls) u x at)) (role_few c.lock u (call_at s u) refl);
       }
@@ -130,11 +130,11 @@ module _ (s : State) (h : FitsTogether s) where
 
   -- a call at a reader-writer lock that hears what it may stands on what its next phase needs
   pub rw_hears : (t : ℕ) (c : Call) (k : RwCore) → c.core ≡ Core.Rw k → call_at s t ≡ Some c → (heard : ActResult) → of_rw.IsTold k.phase (word_at s c.lock) heard → (queues : ℕ → List Waiter) → Learns k.phase heard (queues (2 * c.lock)) (queues (2 * c.lock + 1))
-      → IsPrepared c.others (core_next (Core.Rw k) heard) × KnowsList (core_next (Core.Rw k) heard) queues c.lock
+      → IsPrepared (recursive_in s.kinds c.lock) c.others (core_next (Core.Rw k) heard) × KnowsList (core_next (Core.Rw k) heard) queues c.lock
   rw_hears t c k e here heard so queues learns = (
     (
-      (answers_are_moves (rw_lock_at s c.lock) t c.others (rw_spot c.spot) (taken_by s.wakes t) k.phase (word_at s c.lock) heard (meets t c k e here) so).2.1,
-      calls_keep.goes_on c.others k.phase (word_at s c.lock) heard (subst (IsPrepared c.others) e (h.rules.prepared t c here)).1 so,
+      (answers_are_moves (recursive_in s.kinds c.lock) (rw_lock_at s c.lock) t c.others (rw_spot c.spot) (taken_by s.wakes t) k.phase (word_at s c.lock) heard (meets t c k e here) so).2.1,
+      calls_keep.goes_on (recursive_in s.kinds c.lock) c.others k.phase (word_at s c.lock) heard (subst (IsPrepared (recursive_in s.kinds c.lock) c.others) e (h.rules.prepared t c here)).1 (counted (recursive_in s.kinds c.lock) (rw_lock_at s c.lock) t c.others (rw_spot c.spot) (taken_by s.wakes t) k.phase (word_at s c.lock) (meets t c k e here)) so,
     ),
     lists_are_known.learns k.phase (word_at s c.lock) heard (s.lot.queues (2 * c.lock)) (s.lot.queues (2 * c.lock + 1)) (queues (2 * c.lock)) (queues (2 * c.lock + 1)) so
         (subst (λ (x : Core). KnowsList x s.lot.queues c.lock) e (h.rules.knows t c here)) learns,

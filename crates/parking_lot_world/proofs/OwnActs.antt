@@ -18,7 +18,7 @@ use Rattle.parking_lot_protocol.specs.declared.rw_phase.RwPhase.{RwPhase}
 use Rattle.parking_lot_protocol.specs.Acts.{Gives, word_after}
 use Rattle.parking_lot_protocol.specs.RwTable as of_rw_table
 use Rattle.parking_lot_protocol.specs.RwRules as of_rw
-use Rattle.parking_lot_world.specs.Kinds.{AsMutex, AsRw, manner_of, Manner}
+use Rattle.parking_lot_world.specs.Kinds.{AsMutex, AsRw, manner_of, Manner, recursive_in}
 use Rattle.parking_lot_world.specs.declared.seat.LatePhase.{LatePhase}
 use Rattle.parking_lot_world.specs.declared.seat.Core.{Core}
 use Rattle.parking_lot_world.specs.declared.open_call.Call.{Call}
@@ -140,7 +140,7 @@ module _ (s u : State) (t : ℕ) (h : FitsTogether s) where
       let word : word_at u c.lock ≡ word_at s c.lock = a.word ∙ ap (λ y. word_after (core_act y) ActResult.Made (word_at s c.lock)) e in (
         made of_mutexes s u t c.lock (own-there s u t c ActResult.Made _ c.spot a) (own-elsewhere s u t c ActResult.Made _ c.spot a) kind_is (MxStep (mutex.Alone mutex.Leave)) ((plays_late s h t c LatePhase.Leaves e a.here).here, tt)
             (ap Mx (own_after of_mutexes s u t c ActResult.Made (Late LatePhase.GivesUp) c.spot a _ word ∙ same of_mutexes _ _ _ _ _ _ [] [] refl refl (ap threads_of (lists_same (2 * c.lock))) refl)) around,
-        subst (IsPrepared c.others) e (h.rules.prepared t c a.here),
+        subst (IsPrepared (recursive_in s.kinds c.lock) c.others) e (h.rules.prepared t c a.here),
         tt,
         λ m. subst (λ n. n < 4) (sym word) (h.rules.bits c.lock m),
       )
@@ -158,7 +158,7 @@ module _ (s u : State) (t : ℕ) (h : FitsTogether s) where
         let x = word_at s c.lock in
         let kind_is = subst (IsOfKind (slice_get s.kinds c.lock)) e (h.rules.kinds t c a.here) in
         let heard = rw_told k.phase x told (subst (λ (y : Core). has_begun y ≡ true) e (h.rules.begun t c a.here).begun) own gives in
-        let leads = rw_leads (rw_lock_at s c.lock) t c.others c.spot us k.phase x told (meets s h t c k e a.here) heard (finds (of_rw_table.act_of k.phase) c.lock own around kind_is) a.listed (inside s) (inside u)
+        let leads = rw_leads (recursive_in s.kinds c.lock) (rw_lock_at s c.lock) t c.others c.spot us k.phase x told (meets s h t c k e a.here) heard (finds (of_rw_table.act_of k.phase) c.lock own around kind_is) a.listed (inside s) (inside u)
         (own_moves t (inside s) (inside u) c.others us k.phase x told heard own around) in
         let well = rw_hears s h t c k e a.here told heard u.lot.queues (rw_learns k.phase told own (u.lot.queues (2 * c.lock)) (u.lot.queues (2 * c.lock + 1))) in (
           rw_goes s u t c.lock (of_rw.move c.others us k.phase told) _ (own-there s u t c told _ c.spot a) (own-elsewhere s u t c told _ c.spot a) kind_is leads.0
@@ -182,7 +182,7 @@ module _ (s u : State) (t : ℕ) (h : FitsTogether s) where
           mutex_goes s u t c.lock (first_of_all us) us _ (of_mutex.move (first_of_all us) k.phase told) (own-there s u t c told _ c.spot a) (own-elsewhere s u t c told _ c.spot a) kind_is step.leads
               (own_after of_mutexes s u t c told (Plain (record k { phase = of_mutex_table.next_phase k.phase told })) c.spot a _ word ∙ same of_mutexes _ _ _ _ _ _ [] [] refl refl (ap threads_of (lists_same (2 * c.lock))) refl)
               (subst (λ (y : Crossing). Crossed y t (inside s) (inside u)) (sym step.crossing) around) (own_tells (first_of_all us) us k.phase told own),
-          subst (IsPrepared c.others) e (h.rules.prepared t c a.here),
+          subst (IsPrepared (recursive_in s.kinds c.lock) c.others) e (h.rules.prepared t c a.here),
           mutex_learns (Core.Mutex k) (of_mutex_table.next_phase k.phase told) x told refl refl own gives (u.lot.queues (2 * c.lock)),
           λ m. subst (λ n. n < 4) (sym word) step.small,
         )

@@ -10,7 +10,7 @@ use Rattle.parking_lot_protocol.specs.declared.act.Act.{Act}
 use Rattle.parking_lot_protocol.specs.declared.act.ActResult.{ActResult}
 use Rattle.parking_lot_protocol.specs.Acts.{Gives, word_after, change_of}
 use Rattle.parking_lot_protocol.specs.RwRules.{IsReady}
-use Rattle.parking_lot_world.specs.Kinds.{AsRw, manner_of, kind_in}
+use Rattle.parking_lot_world.specs.Kinds.{AsRw, manner_of, kind_in, recursive_in}
 use Rattle.parking_lot_world.specs.declared.seat.LatePhase.{LatePhase}
 use Rattle.parking_lot_world.specs.declared.seat.Core.{Core}
 use Rattle.parking_lot_world.specs.declared.open_call.Call.{Call}
@@ -73,7 +73,7 @@ is_good s h t c here = by_core c.core refl
     by_core (Core.Mutex k) e = h.rules.bits c.lock (subst (IsOfKind (slice_get s.kinds c.lock)) e (h.rules.kinds t c here))
     by_core (Core.Late p) e = tt
     by_core (Core.Rw k) e =
-        (few_readers (rw_lock_at s c.lock) t c.others (rw_spot c.spot) (taken_by s.wakes t) k.phase (word_at s c.lock) (meets s h t c k e here), (subst (IsPrepared c.others) e (h.rules.prepared t c here)).0)
+        (few_readers (recursive_in s.kinds c.lock) (rw_lock_at s c.lock) t c.others (rw_spot c.spot) (taken_by s.wakes t) k.phase (word_at s c.lock) (meets s h t c k e here), (subst (IsPrepared (recursive_in s.kinds c.lock) c.others) e (h.rules.prepared t c here)).0)
 
 late_falls : (n : ℕ) (p : LatePhase) (x : ℕ) (told : ActResult) (v : View) (shut : Bool) → Gives (late_act p) x told → Can (late_act p) shut told → core_steps n v (late_next p told) + 1 ≤ late_steps p
 late_falls n LatePhase.Expires x told v shut gives can = absurd can

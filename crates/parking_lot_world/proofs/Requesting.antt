@@ -1,16 +1,19 @@
 -- A call that may begin begins as the rules ask.
-use Rattle.std.proofs.Common.{◌≡◌, ℕ, zero, suc, ◌≤◌, nat_lt, true, false, Option, Some, None, slice_get, refl, sym, ap, subst, arith}
+use Rattle.std.proofs.Common.{◌≡◌, ℕ, zero, suc, ◌-◌, ◌≤◌, nat_lt, true, false, Option, Some, None, slice_get, refl, sym, ap, subst, arith}
 use Rattle.std.proofs.lemmas.Bool.{both_ways, ltb-true}
 use Rattle.std.specs.Prelude.{is_none, length}
 use Rattle.parking_lot_rules.specs.Roles.{Shares}
+use Rattle.parking_lot_protocol.specs.declared.rw_phase.LockMode.TheVariants as want
+use Rattle.parking_lot_protocol.specs.declared.rw_phase.RwPhase.{RwPhase}
 use Rattle.parking_lot_protocol.proofs.RwWords.{both}
+use Rattle.parking_lot_world.specs.declared.seat.Core.{Core}
 use Rattle.parking_lot_world.specs.declared.calls.LockCall.{LockCall}
 use Rattle.parking_lot_world.specs.declared.calls.LockKind.{LockKind}
 use Rattle.parking_lot_world.specs.declared.seat.Hold.{Hold}
 use Rattle.parking_lot_world.specs.declared.open_call.Call.{Call}
 use Rattle.parking_lot_world.specs.Calls.{manner_for, takes}
-use Rattle.parking_lot_world.specs.Kinds.{Manner, AsMutex, AsRw, manner_of, is_manner, kind_in}
-use Rattle.parking_lot_world.specs.Beginnings.{core_of, holds_beside, is_allowed}
+use Rattle.parking_lot_world.specs.Kinds.{Manner, AsMutex, AsRw, manner_of, is_manner, is_recursive, kind_in}
+use Rattle.parking_lot_world.specs.Beginnings.{core_of, holds, holds_beside, is_allowed, may_share}
 use Rattle.parking_lot_world.specs.Rows.{State, call_at, hold_at}
 use Rattle.parking_lot_world.specs.RowFits.{RulesFit, IsOfManner}
 use Rattle.parking_lot_world.specs.ActLaws.{OwnsFor, MayBegin}
@@ -43,7 +46,21 @@ core_manner k LockCall.Downgrade = refl
 refused : (A : Type 0) → false ≡ true → A
 refused A h = absurd (both_ways false refl h)
 
-owns : (k : LockKind) (c : LockCall) (h : Hold) → is_allowed h c ≡ true → OwnsFor h (holds_beside h) (core_of k c)
+-- one that may read
+shares : (k : LockKind) (h : Hold) → may_share k h ≡ true → OwnsFor (is_recursive k) h (holds h) (Core.Rw (record { phase = RwPhase.Locking (want.Shared (is_recursive k)) }))
+shares LockKind.RwRecursive (Hold.Shares n) h = (refl, refl, refl)
+shares LockKind.RwRecursive Hold.Excludes h = refused _ h
+shares LockKind.Rw (Hold.Shares zero) h = (refl, refl, refl)
+shares LockKind.Rw (Hold.Shares (suc n)) h = refused _ h
+shares LockKind.Rw Hold.Excludes h = refused _ h
+shares LockKind.Mutex (Hold.Shares zero) h = (refl, refl, refl)
+shares LockKind.Mutex (Hold.Shares (suc n)) h = refused _ h
+shares LockKind.Mutex Hold.Excludes h = refused _ h
+shares LockKind.FairMutex (Hold.Shares zero) h = (refl, refl, refl)
+shares LockKind.FairMutex (Hold.Shares (suc n)) h = refused _ h
+shares LockKind.FairMutex Hold.Excludes h = refused _ h
+
+owns : (k : LockKind) (c : LockCall) (h : Hold) → is_allowed k h c ≡ true → OwnsFor (is_recursive k) h (holds_beside c h) (core_of k c)
 owns k LockCall.Lock (Hold.Shares zero) h = (refl, refl, refl)
 owns k LockCall.Lock (Hold.Shares (suc n)) h = refused _ h
 owns k LockCall.Lock Hold.Excludes h = refused _ h
@@ -55,12 +72,8 @@ owns k LockCall.LockUntil (Hold.Shares (suc n)) h = refused _ h
 owns k LockCall.LockUntil Hold.Excludes h = refused _ h
 owns k LockCall.Unlock (Hold.Shares n) h = refused _ h
 owns k LockCall.Unlock Hold.Excludes h = (refl, refl, refl)
-owns k LockCall.Read (Hold.Shares zero) h = (refl, refl, refl)
-owns k LockCall.Read (Hold.Shares (suc n)) h = refused _ h
-owns k LockCall.Read Hold.Excludes h = refused _ h
-owns k LockCall.TryRead (Hold.Shares zero) h = (refl, refl, refl)
-owns k LockCall.TryRead (Hold.Shares (suc n)) h = refused _ h
-owns k LockCall.TryRead Hold.Excludes h = refused _ h
+owns k LockCall.Read h may = shares k h may
+owns k LockCall.TryRead h may = let own = shares k h may in (refl, own.1, own.2)
 owns k LockCall.UnlockRead (Hold.Shares zero) h = refused _ h
 owns k LockCall.UnlockRead (Hold.Shares (suc n)) h = (refl, tt, ap (λ (k : ℕ). Shares k) (omega arith))
 owns k LockCall.UnlockRead Hold.Excludes h = refused _ h
@@ -75,9 +88,25 @@ owns k LockCall.UnlockWrite Hold.Excludes h = (refl, refl, refl)
 owns k LockCall.Downgrade (Hold.Shares n) h = refused _ h
 owns k LockCall.Downgrade Hold.Excludes h = (refl, tt, refl)
 
-beside : (h : Hold) → ((n : ℕ) → h ≡ Hold.Shares n → n ≤ 255) → holds_beside h ≤ 254
-beside (Hold.Shares n) few = omega (arith, few n refl)
-beside Hold.Excludes few = omega arith
+-- it has few holds beside
+less : (h : Hold) → ((n : ℕ) → h ≡ Hold.Shares n → n ≤ 255) → holds h - 1 ≤ 254
+less (Hold.Shares n) few = omega (arith, few n refl)
+less Hold.Excludes few = omega arith
+
+room : (k : LockKind) (h : Hold) → may_share k h ≡ true → holds h ≤ 254
+room LockKind.RwRecursive (Hold.Shares n) may = omega (arith, ltb-true n 255 may)
+room LockKind.Rw (Hold.Shares zero) may = omega arith
+room LockKind.Rw (Hold.Shares (suc n)) may = refused _ may
+room LockKind.Mutex (Hold.Shares zero) may = omega arith
+room LockKind.Mutex (Hold.Shares (suc n)) may = refused _ may
+room LockKind.FairMutex (Hold.Shares zero) may = omega arith
+room LockKind.FairMutex (Hold.Shares (suc n)) may = refused _ may
+room k Hold.Excludes may = omega arith
+
+beside : (k : LockKind) (c : LockCall) (h : Hold) → is_allowed k h c ≡ true → ((n : ℕ) → h ≡ Hold.Shares n → n ≤ 255) → holds_beside c h ≤ 254
+beside k LockCall.Read h may few = room k h may
+beside k LockCall.TryRead h may few = room k h may
+beside k c h may few = less h few
 
 pub may_begins : (s : State) (t lock : ℕ) (c : LockCall) → RulesFit s → may_begin s t lock c ≡ true → MayBegin s t (call_for s t lock c)
 may_begins s t lock c h may =
@@ -90,5 +119,5 @@ may_begins s t lock c h may =
       listed = refl;
       kind = subst (λ (o : Option Manner). IsOfManner o (core_of (kind_in s.kinds lock) c)) (sym (manner_is (manner_of (slice_get s.kinds lock)) (manner_for c) d.0)) (core_manner (kind_in s.kinds lock) c);
       owns = owns (kind_in s.kinds lock) c (hold_at s t lock) d.1;
-      beside = beside (hold_at s t lock) (λ n e. h.few t lock n e);
+      beside = beside (kind_in s.kinds lock) c (hold_at s t lock) d.1 (λ n e. h.few t lock n e);
     }

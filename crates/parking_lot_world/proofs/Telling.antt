@@ -27,7 +27,7 @@ use Rattle.parking_lot_rules.specs.Plain.{Mask2}
 use Rattle.parking_lot_rules.specs.Steps.{settle, ends_saying}
 use Rattle.parking_lot_rules.specs.Mutex as mutex
 use Rattle.parking_lot_rules.specs.Any.{Mx, MxStep}
-use Rattle.parking_lot_world.specs.Kinds.{Manner, manner_of}
+use Rattle.parking_lot_world.specs.Kinds.{Manner, manner_of, recursive_in}
 use Rattle.parking_lot_world.specs.MutexLaws.{IsTelling}
 use Rattle.parking_lot_world.specs.RowActs.{settled_spot, settled, told_of}
 use Rattle.parking_lot_world.specs.RowFits.{FitsTogether, IsOfKind, IsPrepared, KnowsList, IsOfManner}
@@ -158,7 +158,7 @@ module _ (s : State) (t : ℕ) (c : Call) (plain fair : WordChange) (is_fair : B
       let says : mark_of (told_of token) ≡ ends_saying (ending_of a is_fair) = ap (λ (x : Core). mark_of (told_of (core_tells (core_next x heard)))) e ∙ tokens_say a left is_fair in
       let well = rw_hears s h t c z e here heard tt s.lot.queues tt in (
         rw_goes s next t c.lock (of_rw.move c.others taken (RwPhase.Stores a left) heard) _ there (told_elsewhere s t c heard token word h here) kind_is
-            (of_rw.scan_of c.others a taken, stores_are_steps (rw_lock_at s c.lock) t c.others (rw_spot c.spot) taken a left (word_at s c.lock) is_fair met (left_threads (s.lot.queues (2 * c.lock)) ∙ knows.1) knows.2)
+            (of_rw.scan_of c.others a taken, stores_are_steps (recursive_in s.kinds c.lock) (rw_lock_at s c.lock) t c.others (rw_spot c.spot) taken a left (word_at s c.lock) is_fair met (left_threads (s.lot.queues (2 * c.lock)) ∙ knows.1) knows.2)
             (told_after of_rws s t c heard token word h here z (record z { phase = of_rw_table.next_phase (RwPhase.Stores a left) heard }) e (ap (λ (x : Core). core_next x heard) e) (λ at park w. in_asleep w) (settle (ends_saying (ending_of a is_fair))) (λ o. refl)
             (λ x n at vs p there_is. subst (λ v. of_rw.role n (rw_spot (settled_spot t (told_of token) at)) vs p.phase ≡ settle v (of_rw.role n (rw_spot at) vs p.phase)) says
             (stores_tell.here (rw_lock_at s c.lock) t x n at vs p.phase (of_rw.scan_of c.others a taken) (told_of token) met.sound met.here there_is))
@@ -188,7 +188,7 @@ module _ (s : State) (t : ℕ) (c : Call) (plain fair : WordChange) (is_fair : B
             (word_after (of_mutex_table.act_of (MutexPhase.Stores giving has left)) heard (word_at s c.lock)) written)
             (inside_stored token s.lot.section)
             (roles.taken (MutexPhase.Stores giving has left) taken telling.taken (h.lots.counted t c here ∙ ap taken_count e) telling.count)),
-        subst (IsPrepared c.others) e (h.rules.prepared t c here),
+        subst (IsPrepared (recursive_in s.kinds c.lock) c.others) e (h.rules.prepared t c here),
         tt,
         λ x. subst (λ n. n < 4) (sym (word-here s.words c.lock word (has_word s h t c here) ∙ written)) telling.small,
       )
@@ -221,7 +221,7 @@ module _ (s : State) (t : ℕ) (c : Call) (keep : ℕ) (asked : core_act c.core 
       let met = meets s h t c z e here in
       let well = rw_hears s h t c z e here before refl s.lot.queues tt in (
         rw_goes s mask_then t c.lock (of_rw.move c.others us q before) _ (subst (IsThere c.lock) (sym here) refl) (told_elsewhere s t c before (sign false) (bit_and (word_at s c.lock) keep) h here) kind_is
-            (makes_are_steps l t c.others (rw_spot c.spot) us q (word_at s c.lock) before (Mask2 c.others us) met refl refl (ap threads_of (subst (λ (x : Core). KnowsList x s.lot.queues c.lock) e (h.rules.knows t c here))))
+            (makes_are_steps (recursive_in s.kinds c.lock) l t c.others (rw_spot c.spot) us q (word_at s c.lock) before (Mask2 c.others us) met refl refl (ap threads_of (subst (λ (x : Core). KnowsList x s.lot.queues c.lock) e (h.rules.knows t c here))))
             (told_after of_rws s t c before (sign false) (bit_and (word_at s c.lock) keep) h here z (record z { phase = of_rw_table.next_phase q before }) e (ap (λ (x : Core). core_next x before) e) (λ at park w. in_asleep w) (λ x. x) (λ o. refl)
             (λ x n at vs p there_is. stores_tell.elsewhere l t x n at vs p.phase (of_rw.role c.others (rw_spot c.spot) us q) (told_of (sign false)) met.sound met.here refl there_is)
             (word_after (of_rw_table.act_of q) before (word_at s c.lock)) (ap (λ (x : Act). word_after x before (word_at s c.lock)) (sym asks))
@@ -254,7 +254,7 @@ module _ (s : State) (t : ℕ) (c : Call) (keep : ℕ) (asked : core_act c.core 
             ∙ ap (λ w. record { word = w; roles = slice_set (map (λ r. r) (mutex_at s c.lock).roles) t (mutex.doing mutex.Leaves); queue = (mutex_at s c.lock).queue }) off.0
             ∙ ap (λ rs. record { word = record (mutex_word_of x) { parked = 0 }; roles = slice_set rs t (mutex.doing mutex.Leaves); queue = (mutex_at s c.lock).queue }) (map_none (mutex_at s c.lock).roles)))
             (inside_stored (sign false) s.lot.section),
-        subst (IsPrepared c.others) e (h.rules.prepared t c here),
+        subst (IsPrepared (recursive_in s.kinds c.lock) c.others) e (h.rules.prepared t c here),
         tt,
         λ m. subst (λ n. n < 4) (sym (word-here s.words c.lock (bit_and x keep) (has_word s h t c here))) off.1,
       )

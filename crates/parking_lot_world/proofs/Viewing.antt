@@ -27,6 +27,11 @@ idle_rw Hold.Excludes = refl
 idle_rw (Hold.Shares zero) = refl
 idle_rw (Hold.Shares (suc n)) = refl
 
+idle_recursive : (h : Hold) → rw_mode (record { owns = owned_of h; does = Idle }) ≡ hold_mode (Some LockKind.RwRecursive) h
+idle_recursive Hold.Excludes = refl
+idle_recursive (Hold.Shares zero) = refl
+idle_recursive (Hold.Shares (suc n)) = refl
+
 idle_nowhere : (h : Hold) → rw_mode (record { owns = owned_of h; does = Idle }) ≡ hold_mode None h
 idle_nowhere Hold.Excludes = refl
 idle_nowhere (Hold.Shares zero) = refl
@@ -63,6 +68,7 @@ module _ (s : State) (t : ℕ) where
 
         go : (k : Option LockKind) → mode_in (any_lock k s i) t ≡ hold_mode k (hold_at s t i)
         go (Some LockKind.Rw) = reads ∙ idle_rw (hold_at s t i)
+        go (Some LockKind.RwRecursive) = reads ∙ idle_recursive (hold_at s t i)
         go None = reads ∙ idle_nowhere (hold_at s t i)
         go (Some LockKind.Mutex) = locks ∙ idle_mutex (hold_at s t i)
         go (Some LockKind.FairMutex) = locks ∙ idle_fair (hold_at s t i)
@@ -81,6 +87,7 @@ module _ (s : State) (t : ℕ) where
       where
         go : (k : Option LockKind) → mode_in (any_lock k s i) t ≡ hold_mode k (Hold.Shares 0)
         go (Some LockKind.Rw) = ap (option_and_then rw_mode) (past (rw_role_at s i) (length s.calls) t high)
+        go (Some LockKind.RwRecursive) = ap (option_and_then rw_mode) (past (rw_role_at s i) (length s.calls) t high)
         go None = ap (option_and_then rw_mode) (past (rw_role_at s i) (length s.calls) t high)
         go (Some LockKind.Mutex) = ap (option_and_then mutex_mode) (past (mutex_role_at s i) (length s.calls) t high)
         go (Some LockKind.FairMutex) = ap (option_and_then mutex_mode) (past (mutex_role_at s i) (length s.calls) t high)

@@ -13,6 +13,7 @@ abbrev pub manner : LockKind → Manner
 manner kind.Mutex = AsMutex
 manner kind.FairMutex = AsMutex
 manner kind.Rw = AsRw
+manner kind.RwRecursive = AsRw
 
 -- of the locks that there are
 abbrev pub manner_of : Option LockKind → Option Manner
@@ -27,3 +28,11 @@ is_manner other m = false
 -- Beyond the last number there are reader-writer locks, where nobody is.
 abbrev pub kind_in : List LockKind → ℕ → LockKind
 kind_in kinds i = unwrap_or (slice_get kinds i) kind.Rw
+
+-- whether a thread may read again that reads already, also past a writer
+abbrev pub is_recursive : LockKind → Bool
+is_recursive kind.RwRecursive = true
+is_recursive other = false
+
+abbrev pub recursive_in : List LockKind → ℕ → Bool
+recursive_in kinds i = is_recursive (kind_in kinds i)

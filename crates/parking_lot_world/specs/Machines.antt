@@ -82,11 +82,11 @@ is_asleep s t = option_map_or (λ c. sleeps (core_act c.core)) (call_at s t) fal
 -- whether a thread may begin a call: it is in none, the lock is of a kind that takes it, and what it owns there allows it
 abbrev pub may_begin : State → ℕ → ℕ → LockCall → Bool
 may_begin s t lock call =
-    nat_lt t (length s.calls) && (is_none (call_at s t) && (takes (slice_get s.kinds lock) call && is_allowed (hold_at s t lock) call))
+    nat_lt t (length s.calls) && (is_none (call_at s t) && (takes (slice_get s.kinds lock) call && is_allowed (kind_in s.kinds lock) (hold_at s t lock) call))
 
 -- the call before it begins
 abbrev pub call_for : State → ℕ → ℕ → LockCall → Call
-call_for s t lock call = record { lock = lock; others = holds_beside (hold_at s t lock); core = core_of (kind_in s.kinds lock) call; spot = spot.Listed; timed = is_timed call }
+call_for s t lock call = record { lock = lock; others = holds_beside call (hold_at s t lock); core = core_of (kind_in s.kinds lock) call; spot = spot.Listed; timed = is_timed call }
 
 -- a machine where nobody has done anything
 abbrev pub at_rest : ℕ → List LockKind → State

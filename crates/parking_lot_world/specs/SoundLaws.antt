@@ -14,7 +14,7 @@ use Rattle.parking_lot_world.specs.declared.calls.OwnMode.TheVariants as mode
 use Rattle.parking_lot_world.specs.declared.open_call.Call.{Call}
 use Rattle.parking_lot_world.specs.declared.seat.QueuePosition.{QueuePosition}
 use Rattle.parking_lot_world.specs.declared.seat.QueuePosition.TheVariants as spot
-use Rattle.parking_lot_world.specs.Kinds.{AsRw, manner_of}
+use Rattle.parking_lot_world.specs.Kinds.{AsRw, manner_of, recursive_in}
 use Rattle.parking_lot_world.specs.Ranks.{own_steps, steps_left}
 use Rattle.parking_lot_world.specs.Machines.{can_move, is_asleep, IsBegun, IsStepped}
 use Rattle.parking_lot_world.specs.RowFits.{FitsTogether}
@@ -116,15 +116,15 @@ pub record IsSoundMachine (s : State) : Type 0 where
 -- WHAT A STEP IS TO A LOCK
 
 -- What a step of thread t does to owners and lists of a lock is a case of a lock without a word.
-abbrev pub IsCaseAt : ℕ → AnyLock → AnyLock → Type 0
-IsCaseAt t (Rw l) (Rw m) = (case : rw.Case) × rw.IsCase false t case (rw.owners l) (rw.owners m)
-IsCaseAt t (Mx l) (Mx m) = (case : mutex.Case) × mutex.IsCase t case (mutex.owners l) (mutex.owners m)
-IsCaseAt t (Rw l) (Mx m) = ⊥
-IsCaseAt t (Mx l) (Rw m) = ⊥
+abbrev pub IsCaseAt : Bool → ℕ → AnyLock → AnyLock → Type 0
+IsCaseAt recursive t (Rw l) (Rw m) = (case : rw.Case) × rw.IsCase recursive t case (rw.owners l) (rw.owners m)
+IsCaseAt recursive t (Mx l) (Mx m) = (case : mutex.Case) × mutex.IsCase t case (mutex.owners l) (mutex.owners m)
+IsCaseAt recursive t (Rw l) (Mx m) = ⊥
+IsCaseAt recursive t (Mx l) (Rw m) = ⊥
 
 -- It is a case at lock j, and leaves every other lock as it was.
 pub record IsStepAt (t j : ℕ) (s u : State) : Type 0 where
-  pub case : IsCaseAt t (lock_at s j) (lock_at u j)
+  pub case : IsCaseAt (recursive_in s.kinds j) t (lock_at s j) (lock_at u j)
   pub elsewhere : (i : ℕ) → i ≢ j → lock_at u i ≡ lock_at s i
 
 -- So is each step of the machine, and each beginning of a call.

@@ -16,6 +16,8 @@ pub enum LockKind {
     FairMutex,
     /// One writer, or readers.
     Rw,
+    /// One writer, or readers, who may read again, also past a writer that waits.
+    RwRecursive,
 }
 
 /// What a thread asks of a lock.
@@ -78,7 +80,7 @@ impl LockKind {
     {
         match self {
             LockKind::Mutex | LockKind::FairMutex => call.is_of_mutexes(),
-            LockKind::Rw => !call.is_of_mutexes(),
+            LockKind::Rw | LockKind::RwRecursive => !call.is_of_mutexes(),
         }
     }
 }

@@ -3,6 +3,7 @@ ghost use Rattle.std.specs.Prelude.{◌≡◌, ◌<◌, ◌↔◌, ◌⊎◌, �
 ghost use Rattle.parking_lot_core_lot.specs.declared.fault.SizeFault.TheVariants.{BadSize, NoMemory};
 ghost use Rattle.parking_lot_protocol.specs.declared.act.Act.TheVariants as act;
 ghost use Rattle.parking_lot_world.specs.Calls.{takes};
+ghost use Rattle.parking_lot_world.specs.Kinds.{kind_in};
 ghost use Rattle.parking_lot_world.specs.Stances.{core_act};
 ghost use Rattle.parking_lot_world.specs.Rows.{call_at, hold_at, state, word_at};
 ghost use Rattle.parking_lot_world.specs.Machines.{at_rest, can_move, goes_late, may_expire, IsExpired, may_begin, IsBegun, IsStepped};
@@ -152,6 +153,13 @@ impl<A: Allocator> RowMachine<A> {
         }
     }
 
+    /// The kind of a lock; beyond the last that of readers and writers.
+    fn kind_or_rw(&self, lock: usize) -> LockKind
+        ensures { result ≡ kind_in (state self.now).kinds lock }
+    {
+        self.kind(lock).unwrap_or(LockKind::Rw)
+    }
+
     /// Whether a lock can be asked so; of those beyond the last none can.
     fn takes(&self, lock: usize, call: LockCall) -> bool
         ensures { result ≡ takes (slice_get (state self.now).kinds lock) call }
@@ -163,14 +171,14 @@ impl<A: Allocator> RowMachine<A> {
     }
 
     /// Whether a thread may begin that call at a lock: it is in no call, the lock is of a kind that takes it, and it gives up what it owns there, or
-    /// asks for a lock of which it owns nothing.
+    /// asks for a lock of which it owns nothing, or reads once more under a recursive lock that it reads fewer than 255 times.
     pub fn may_begin(&self, thread: usize, lock: usize, call: LockCall) -> bool
         ensures { result ≡ may_begin (state self.now) thread lock call }
     {
         thread < self.threads()
             && self.call(thread).is_none()
             && self.takes(lock, call)
-            && self.hold(thread, lock).allows(call)
+            && self.hold(thread, lock).allows(self.kind_or_rw(lock), call)
     }
 
     /// A thread begins a call at a lock. It is the call's first step, and adds to the steps that are left a number that depends on the call and
@@ -180,14 +188,13 @@ impl<A: Allocator> RowMachine<A> {
         ensures { IsBegun thread lock call (state self.old) (state self.new) }
     {
         let _ = &self.wakes;
-        let kind = self.kind(lock).unwrap_or(LockKind::Rw);
-        let others = self.hold(thread, lock).beside();
+        let others = self.hold(thread, lock).beside(call);
         self.begin_call(
             thread,
             Call {
                 lock,
                 others,
-                core: call.core(kind),
+                core: call.core(self.kind_or_rw(lock)),
                 spot: QueuePosition::Listed,
                 timed: call.is_timed(),
             },

@@ -151,3 +151,23 @@ fn every_schedule_at_a_reader_writer_lock_keeps_the_rules(rt: HostRuntime) -> Re
     assert!(rt; states >= 50_000, "{states} states");
     Ok(())
 }
+
+#[test]
+fn every_schedule_at_a_recursive_lock_keeps_the_rules(rt: HostRuntime) -> Result<(), Fail> {
+    let programs = [
+        two(LockCall::Read, LockCall::Read),
+        two(LockCall::TryRead, LockCall::TryRead),
+        [
+            Some(LockCall::Read),
+            Some(LockCall::TryRead),
+            Some(LockCall::UnlockRead),
+        ],
+        two(LockCall::Read, LockCall::UnlockRead),
+        two(LockCall::Write, LockCall::UnlockWrite),
+        two(LockCall::TryWrite, LockCall::UnlockWrite),
+        two(LockCall::Write, LockCall::Downgrade),
+    ];
+    let states = explore_all(&rt, LockKind::RwRecursive, &programs)?;
+    assert!(rt; states >= 50_000, "{states} states");
+    Ok(())
+}

@@ -19,9 +19,9 @@ pub struct Shown {
 fn weight(kind: LockKind, mode: OwnMode) -> u64 {
     match (kind, mode) {
         (LockKind::Mutex | LockKind::FairMutex, _) => 1,
-        (LockKind::Rw, OwnMode::Exclusive | OwnMode::Pending) => 8,
-        (LockKind::Rw, OwnMode::Shared) => 16,
-        (LockKind::Rw, OwnMode::Upgradable) => 20,
+        (_, OwnMode::Exclusive | OwnMode::Pending) => 8,
+        (_, OwnMode::Shared) => 16,
+        (_, OwnMode::Upgradable) => 20,
     }
 }
 
@@ -29,7 +29,7 @@ fn weight(kind: LockKind, mode: OwnMode) -> u64 {
 fn parked_bits(kind: LockKind) -> (u64, u64) {
     match kind {
         LockKind::Mutex | LockKind::FairMutex => (2, 0),
-        LockKind::Rw => (1, 2),
+        LockKind::Rw | LockKind::RwRecursive => (1, 2),
     }
 }
 
@@ -123,9 +123,29 @@ impl Shown {
         self.kind == LockKind::FairMutex
     }
 
+    /// How many holds readers have beside one each. Only a recursive lock counts such.
+    fn more_holds(&self) -> u64 {
+        let readers = self.count(OwnMode::Shared) as u64;
+        if self.kind == LockKind::RwRecursive && readers > 0 {
+            (self.word / 16).saturating_sub(readers)
+        } else {
+            0
+        }
+    }
+
+    /// Whether the word counts so many shared holds, from the least to the most.
+    pub fn counts_holds(&self, least: u64, most: u64) -> bool {
+        let holds = if self.is_mutex() { 0 } else { self.word / 16 };
+        least <= holds && holds <= most
+    }
+
+    fn is_mutex(&self) -> bool {
+        matches!(self.kind, LockKind::Mutex | LockKind::FairMutex)
+    }
+
     /// What the owners make of the word.
     fn weight(&self) -> u64 {
-        let mut sum = 0u64;
+        let mut sum = self.more_holds().wrapping_mul(16);
         for (_, mode) in &self.owners {
             sum = sum.wrapping_add(weight(self.kind, *mode));
         }

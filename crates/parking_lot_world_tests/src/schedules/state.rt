@@ -1,6 +1,6 @@
 //! What states of a world are told apart by.
 
-use super::program::{End, Program, is_timed, may_answer, mode_behind};
+use super::program::{End, Program, is_timed, may_answer, owned_behind, shares_behind};
 use super::shown::Shown;
 use parking_lot_core_lot::{Place, ThreadStatus};
 use parking_lot_protocol::{MutexPhase, RwPhase};
@@ -13,6 +13,8 @@ use parking_lot_world::{
 #[derive(Clone, Copy, PartialEq, Eq)]
 pub struct Open {
     pub call: LockCall,
+    /// How many shared holds its thread had as it began.
+    pub shares: u8,
     /// Whether the other has owned the lock.
     pub met: bool,
     /// Whether its thread has stood in the first list, and in the second.
@@ -23,9 +25,10 @@ pub struct Open {
 }
 
 impl Open {
-    fn of(call: LockCall) -> Open {
+    fn of(call: LockCall, shares: u8) -> Open {
         Open {
             call,
+            shares,
             met: false,
             first: false,
             second: false,
@@ -37,6 +40,7 @@ impl Open {
     fn seen(&self, thread: usize, shown: &Shown) -> Open {
         Open {
             call: self.call,
+            shares: self.shares,
             met: self.met || shown.mode(other(thread)).is_some(),
             first: self.first || shown.waits_first(thread),
             second: self.second || shown.waits_second(thread),
@@ -84,6 +88,8 @@ pub enum Stage {
 #[derive(Clone, Copy, PartialEq, Eq)]
 pub struct Progress {
     pub stage: Stage,
+    /// How many shared holds it has by its calls so far.
+    shares: u8,
     /// The calls that it hasn't begun.
     pub rest: Program,
     /// Whether its try was refused, or its deadline came first.
@@ -95,6 +101,7 @@ impl Progress {
     pub fn of(program: Program) -> Progress {
         Progress {
             stage: Stage::Between(None),
+            shares: 0,
             rest: program,
             refused: false,
         }
@@ -129,7 +136,8 @@ impl Progress {
         let [next, second, third] = self.rest;
         match next {
             Some(call) => Progress {
-                stage: Stage::Within(Open::of(call)),
+                stage: Stage::Within(Open::of(call, self.shares)),
+                shares: self.shares,
                 rest: [second, third, None],
                 refused: false,
             },
@@ -142,12 +150,14 @@ impl Progress {
         if matches!(answer, LockAnswer::Refused | LockAnswer::TimedOut) {
             Progress {
                 stage: Stage::Between(None),
+                shares: 0,
                 rest: [None; 3],
                 refused: true,
             }
         } else {
             Progress {
-                stage: Stage::Between(mode_behind(call)),
+                stage: Stage::Between(owned_behind(call, self.shares)),
+                shares: shares_behind(call, self.shares),
                 ..*self
             }
         }
@@ -191,6 +201,18 @@ impl Progress {
             (_, None) => true,
             (Stage::Between(_), Some(_)) => false,
             (Stage::Within(open), Some(answer)) => open.may_be_answered(answer),
+        }
+    }
+
+    /// How many shared holds it has at least and at most.
+    pub fn holds(&self) -> (u64, u64) {
+        let before = u64::from(self.shares);
+        match self.stage {
+            Stage::Between(_) => (before, before),
+            Stage::Within(open) => {
+                let behind = u64::from(shares_behind(open.call, self.shares));
+                (before.min(behind), before.max(behind))
+            }
         }
     }
 
