@@ -169,16 +169,17 @@ fn a_section_shows_on_from_where_it_was(rt: HostRuntime) -> Result<(), Fail> {
 #[test]
 fn a_sleeper_comes_back_and_takes_itself_out(rt: HostRuntime) -> Result<(), Fail> {
     let mut lot = lot_of(&rt, 3)?;
-    make(&rt, &mut lot, &[(Call::Park(1, 5), WAITS), (Call::Park(2, 5), WAITS)]);
+    make(
+        &rt,
+        &mut lot,
+        &[(Call::Park(1, 5), WAITS), (Call::Park(2, 5), WAITS)],
+    );
     let wrong = Err(LotFault::WrongStatus);
     let is_refused = (lot.come_back(0, 5) == wrong) & (lot.come_back(1, 6) == wrong);
     let is_early = lot.quit(1) == Err(LotFault::WrongStatus);
     let is_back = lot.come_back(1, 5) == Ok(());
     assert!(rt; is_refused & is_early & is_back);
-    let inside = [
-        (Call::IsQueue(5, &[1, 2]), IS),
-        (Call::Enter(0, 9), BUSY),
-    ];
+    let inside = [(Call::IsQueue(5, &[1, 2]), IS), (Call::Enter(0, 9), BUSY)];
     make(&rt, &mut lot, &inside);
     let is_shut_out = lot.come_back(2, 5) == Err(LotFault::Busy);
     let is_out = lot.quit(1) == Ok(None);

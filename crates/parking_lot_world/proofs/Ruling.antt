@@ -68,7 +68,6 @@ call_fits s h v e here = record { kind = h.kinds v e here; prepared = h.prepared
 pub knows_same : (f g : ℕ → List Waiter) → ((key : ℕ) → g key ≡ f key) → (x : Core) (j : ℕ) → KnowsList x f j → KnowsList x g j
 knows_same f g same (Core.Mutex k) j h = subst (mutex_knows k.phase) (sym (same (2 * j))) h
 knows_same f g same (Core.Rw k) j h = subst (λ (q : List Waiter). rw_knows k.phase q (g (2 * j + 1))) (sym (same (2 * j))) (subst (rw_knows k.phase (f (2 * j))) (sym (same (2 * j + 1))) h)
-
 knows_same f g same (Core.Late p) j h = tt
 
 late_kind : (p : LatePhase) (told : ActResult) (m : Option Manner) → m ≡ Some AsMutex → IsOfManner m (late_next p told)

@@ -51,7 +51,6 @@ module _ (s : State) (h : FitsTogether s) (t : ℕ) (c : Call) (here : call_at s
         where
           other_kind : Some AsMutex ≡ Some AsRw → ⊥
           other_kind e = cc
-
       of_rw (Core.Late y) e of here' = absurd (other_kind (sym of ∙ here'))
         where
           other_kind : Some AsMutex ≡ Some AsRw → ⊥

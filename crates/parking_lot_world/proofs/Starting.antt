@@ -424,7 +424,6 @@ module _ (s : State) (h : FitsTogether s) (t : ℕ) (c : Call) (here : call_at s
         mutex_goes s u t c.lock v [] _ (of_mutex.last_move k.phase) there_before ends_elsewhere (subst (IsOfKind (slice_get s.kinds c.lock)) e (h.rules.kinds t c here)) step.0
         (ended of_mutexes ∙ ap (λ (b : Bool). mutex_of (word_at s c.lock) (slice_set (mutex_at s c.lock).roles t (record { owns = b; does = mutex.Idle })) (mutex_at s c.lock).queue) (ap (λ (y : Core). owns_mutex (hold_after c.others y)) e ∙ shown_as.ends k.phase answer begun asked))
         (subst (λ (x : Crossing). Crossed x t (inside s) (inside u)) (sym step.1) refl) (last_tells v [] k.phase)
-
     last_of (Core.Late p) e asked = late_last p e asked
 
   -- WHAT STAYS

@@ -108,28 +108,32 @@ const TIMED: Program = [Some(LockCall::LockUntil), Some(LockCall::Unlock), None]
 #[test]
 fn every_schedule_of_two_deadlines_keeps_the_rules(rt: HostRuntime) -> Result<(), Fail> {
     let states = explore(&rt, LockKind::Mutex, Pair(TIMED, TIMED))?;
-    assert!(rt; states >= 1_000, "{states} states");
+    assert!(rt; states >= 500, "{states} states");
     Ok(())
 }
 
 #[test]
-fn every_schedule_of_one_deadline_keeps_the_rules(rt: HostRuntime) -> Result<(), Fail> {
-    let programs = [
-        two(LockCall::Lock, LockCall::Unlock),
-        two(LockCall::TryLock, LockCall::Unlock),
-    ];
-    let states = explore_with(&rt, LockKind::Mutex, TIMED, &programs)?;
-    assert!(rt; states >= 1_000, "{states} states");
+fn every_schedule_of_a_deadline_and_a_lock_keeps_the_rules(rt: HostRuntime) -> Result<(), Fail> {
+    let other = two(LockCall::Lock, LockCall::Unlock);
+    let states = explore(&rt, LockKind::Mutex, Pair(TIMED, other))?;
+    assert!(rt; states >= 500, "{states} states");
     Ok(())
 }
 
 #[test]
-fn every_schedule_of_a_deadline_at_a_fair_mutex_keeps_the_rules(
+fn every_schedule_of_a_deadline_and_a_try_keeps_the_rules(rt: HostRuntime) -> Result<(), Fail> {
+    let other = two(LockCall::TryLock, LockCall::Unlock);
+    let states = explore(&rt, LockKind::Mutex, Pair(TIMED, other))?;
+    assert!(rt; states >= 200, "{states} states");
+    Ok(())
+}
+
+#[test]
+fn every_schedule_of_deadlines_at_a_fair_mutex_keeps_the_rules(
     rt: HostRuntime,
 ) -> Result<(), Fail> {
-    let programs = [TIMED, two(LockCall::Lock, LockCall::Unlock)];
-    let states = explore_with(&rt, LockKind::FairMutex, TIMED, &programs)?;
-    assert!(rt; states >= 1_000, "{states} states");
+    let states = explore(&rt, LockKind::FairMutex, Pair(TIMED, TIMED))?;
+    assert!(rt; states >= 500, "{states} states");
     Ok(())
 }
 

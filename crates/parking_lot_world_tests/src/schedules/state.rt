@@ -116,7 +116,11 @@ impl Progress {
             _ => WorldStep::Go(thread, true),
         };
         let deadline = WorldStep::Deadline(thread);
-        [Some(goes), Some(other), Some(deadline).filter(|step| self.may_make(*step))]
+        [
+            Some(goes),
+            Some(other),
+            Some(deadline).filter(|step| self.may_make(*step)),
+        ]
     }
 
     /// Whether it is in a call where it goes on, in none where it begins one, and in a timed one where its deadline comes.
