@@ -97,7 +97,7 @@ is_answered (Act.FetchAnd keep) answer t fair c s u ends became = absurd (none-s
 is_answered Act.Spin answer t fair c s u ends became = absurd (none-some answer (sym ends))
 is_answered (Act.Enter key) answer t fair c s u ends became = absurd (none-some answer (sym ends))
 is_answered (Act.Section next) answer t fair c s u ends became = absurd (none-some answer (sym ends))
-is_answered Act.Sleep answer t fair c s u ends became = absurd became
+is_answered Act.Sleep answer t fair c s u ends became = absurd (none-some answer (sym ends))
 
 pub ends_keep : (t : ℕ) (answer : CoreAnswer) (old new : Shown) → LockEnds t answer old new → KeepsLocks old new
 ends_keep t answer old new e i =

@@ -54,6 +54,7 @@ module _ (t : ℕ) where
   start-unseen : (k : LockKind) (call : LockCall) → has_seen (core_next (core_of k call) ActResult.Start) ≡ false
   start-unseen k LockCall.Lock = refl
   start-unseen k LockCall.TryLock = refl
+  start-unseen k LockCall.LockUntil = refl
   start-unseen k LockCall.Unlock = refl
   start-unseen k LockCall.Read = refl
   start-unseen k LockCall.TryRead = refl
@@ -83,6 +84,7 @@ module _ (t : ℕ) where
 -- one that has seen its lock's word tries to get the lock
 pub seen-tries : (k : Core) → has_seen k ≡ true → core_tries k ≡ true
 seen-tries (Core.Mutex c) h = absurd (false≢true h)
+seen-tries (Core.Late c) h = absurd (false≢true h)
 seen-tries (Core.Rw c) h = by c.phase h
   where
     by : (p : RwPhase) → has_seen_in p ≡ true → is_trying p ≡ true
@@ -92,6 +94,7 @@ seen-tries (Core.Rw c) h = by c.phase h
 
 pub tries-gets : (k : Core) → core_tries k ≡ true → (m : _) × (core_aim k ≡ Gets m)
 tries-gets (Core.Mutex c) h = absurd (false≢true h)
+tries-gets (Core.Late c) h = absurd (false≢true h)
 tries-gets (Core.Rw c) h = by c.phase h
   where
     aim : (want : LockMode) → (m : _) × (aim_for want ≡ Gets m)

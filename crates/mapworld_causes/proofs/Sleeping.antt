@@ -85,6 +85,7 @@ module _ (sh : Shown) (fit : LocksFit sh) (t : ℕ) (c : Call) (here : call_at (
       by : (k : Core) → sleeps (core_act k) ≡ true → IsOfKind (slice_get s.kinds i) k → laws.is_asleep (rw_core_role c.others c.spot (taken_by s.wakes t) k).does ≡ true
       by (Core.Rw k) e is = phase-asleep c.spot (taken_by s.wakes t) k.phase e
       by (Core.Mutex k) e is = absurd (no-mutex is)
+      by (Core.Late k) e is = absurd (no-mutex is)
 
   low : t < length s.calls
   low = by (slice_get s.calls t) refl

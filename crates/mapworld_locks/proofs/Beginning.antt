@@ -19,7 +19,7 @@ use Rattle.parking_lot_world.specs.declared.open_call.Call.{Call}
 use Rattle.parking_lot_world.specs.declared.seat.Hold.{Hold}
 use Rattle.parking_lot_world.specs.declared.seat.QueuePosition.{QueuePosition}
 use Rattle.parking_lot_world.specs.Beginnings.{core_of, holds as shares_of, holds_beside, is_allowed, owns_nothing}
-use Rattle.parking_lot_world.specs.Calls.{manner_for, takes}
+use Rattle.parking_lot_world.specs.Calls.{is_timed, manner_for, takes}
 use Rattle.parking_lot_world.specs.CallViews.{mode_of, rw_mode}
 use Rattle.parking_lot_world.specs.Machines.{IsBegun, call_for, may_begin}
 use Rattle.parking_lot_world.specs.RowActs.{hears}
@@ -97,6 +97,7 @@ differ a b ne e = ne (ap mode_number e)
 allowed : (h : Hold) (call : LockCall) → manner_for call ≡ AsRw → held_as (hold_mode (Some kind.Rw) h) ≡ needs call → is_allowed kind.Rw h call ≡ true
 allowed h LockCall.Lock k e = absurd (no_mutex k)
 allowed h LockCall.TryLock k e = absurd (no_mutex k)
+allowed h LockCall.LockUntil k e = absurd (no_mutex k)
 allowed h LockCall.Unlock k e = absurd (no_mutex k)
 allowed (Hold.Shares zero) LockCall.Read k e = refl
 allowed (Hold.Shares (suc n)) LockCall.Read k e = absurd (differ _ _ (λ n. omega (arith, n)) e)
@@ -128,6 +129,7 @@ begun_mode : (x : LockKind) (h : Hold) (call : LockCall) (us : List ℕ) → man
     → rw_mode (rw_core_role (holds_beside call h) QueuePosition.Listed us (core_next (core_of x call) ActResult.Start)) ≡ rw_mode (record { owns = owned_of h; does = Idle })
 begun_mode x h LockCall.Lock us k e = absurd (no_mutex k)
 begun_mode x h LockCall.TryLock us k e = absurd (no_mutex k)
+begun_mode x h LockCall.LockUntil us k e = absurd (no_mutex k)
 begun_mode x h LockCall.Unlock us k e = absurd (no_mutex k)
 begun_mode x (Hold.Shares zero) LockCall.Read us k e = refl
 begun_mode x (Hold.Shares (suc n)) LockCall.Read us k e = absurd (false≢true e)
@@ -152,9 +154,10 @@ begun_mode x (Hold.Shares (suc n)) LockCall.Downgrade us k e = absurd (false≢t
 begun_mode x Hold.Excludes LockCall.Downgrade us k e = refl
 
 -- and is about what it is for
-begun_stand : (x : LockKind) (i n : ℕ) (call : LockCall) → manner_for call ≡ AsRw → stand_of (record { lock = i; others = n; core = core_next (core_of x call) ActResult.Start; spot = QueuePosition.Listed }) ≡ record { shard = i; aim = aim_of call; trying = is_try call }
+begun_stand : (x : LockKind) (i n : ℕ) (call : LockCall) → manner_for call ≡ AsRw → stand_of (record { lock = i; others = n; core = core_next (core_of x call) ActResult.Start; spot = QueuePosition.Listed; timed = is_timed call }) ≡ record { shard = i; aim = aim_of call; trying = is_try call }
 begun_stand x i n LockCall.Lock k = absurd (no_mutex k)
 begun_stand x i n LockCall.TryLock k = absurd (no_mutex k)
+begun_stand x i n LockCall.LockUntil k = absurd (no_mutex k)
 begun_stand x i n LockCall.Unlock k = absurd (no_mutex k)
 begun_stand x i n LockCall.Read k = refl
 begun_stand x i n LockCall.TryRead k = refl

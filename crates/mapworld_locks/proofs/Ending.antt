@@ -50,6 +50,7 @@ done_mode s t c h rws here done = ap held_as (ap rw_mode role ∙ by c.core (h.r
     by : (k : Core) → IsOfKind (slice_get s.kinds c.lock) k → IsPrepared (recursive_in s.kinds c.lock) c.others k → is_done (core_act k) ≡ true → rw_mode (rw_core_role c.others c.spot (taken_by s.wakes t) k) ≡ hold_mode (Some kind.Rw) (hold_after c.others k)
     by (Core.Rw x) of_kind ready done = sym (done_hold (recursive_in s.kinds c.lock) c.others (rw_spot c.spot) (taken_by s.wakes t) x.phase ready.1 done)
     by (Core.Mutex x) of_kind ready done = absurd (no_mutex (goes_by s c.lock AsMutex rws of_kind))
+    by (Core.Late x) of_kind ready done = absurd (no_mutex (goes_by s c.lock AsMutex rws of_kind))
 
 rows_apart : (locks t threads : ℕ) → t < threads → t * locks + locks ≤ threads * locks
 rows_apart locks t zero b = absurd (omega (arith, b))
@@ -80,6 +81,7 @@ answered_holds s t c h rws here done =
         of : (k : Core) → IsOfKind (slice_get s.kinds c.lock) k → c.lock < length s.kinds
         of (Core.Rw x) e = within_kinds s c.lock _ e
         of (Core.Mutex x) e = within_kinds s c.lock _ e
+        of (Core.Late x) e = within_kinds s c.lock _ e
 
     cell_low : t * length s.kinds + c.lock < length s.holds
     cell_low = omega (arith, rows_apart (length s.kinds) t (length s.calls) low, lock_low, h.rules.size_holds)

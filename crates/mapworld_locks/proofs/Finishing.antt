@@ -114,6 +114,7 @@ call_ends s t c answer h plain here over =
     by : (k : Core) → IsOfKind (slice_get s.kinds c.lock) k → IsPrepared (recursive_in s.kinds c.lock) 0 k → EndsBy (end_of (core_act k)) (core_aim k) (core_tries k) (held_as (rw_mode (rw_core_role 0 c.spot (taken_by s.wakes t) k)))
     by (Core.Rw x) of_kind ready = phase_ends (recursive_in s.kinds c.lock) (rw_spot c.spot) (taken_by s.wakes t) x.phase ready.1
     by (Core.Mutex x) of_kind ready = absurd (not_mutex s c.lock plain.kinds of_kind)
+    by (Core.Late x) of_kind ready = absurd (not_mutex s c.lock plain.kinds of_kind)
 
 -- what that says of each aim
 ends_owned : (aim : Aim) (trying : Bool) (answer : CoreAnswer) (o : Option Mode) → EndsSo aim trying answer o → (m : Mode) → aim ≡ Gets m → answer ≡ CoreAnswer.Owned → o ≡ Some m

@@ -118,6 +118,7 @@ module _ (s : State) (i v : ℕ) where
   by_core : (us : List ℕ) (h : Hold) (c : Call) → call_at s v ≡ Some c → c.lock ≡ i → (k : Core) → c.core ≡ k → rw_role_at s i v ≡ rw_core_role c.others c.spot us k
       → chosen_stand (rw_core_role c.others c.spot us k) ≡ true → IsChosenCall s i v
   by_core us h c there lock (Core.Mutex k) core role is = absurd (false≢true is)
+  by_core us h c there lock (Core.Late k) core role is = absurd (false≢true is)
   by_core us h c there lock (Core.Rw k) core role is =
       let x = chosen_sleeps c.others c.spot us k.phase is in
       record {

@@ -25,6 +25,7 @@ use Rattle.parking_lot_world.specs.Stances.{core_act, core_next}
 use Rattle.mapworld_locks.specs.Fits.{IsPlain}
 use Rattle.mapworld_locks.specs.Stands.{gives}
 use Rattle.mapworld_locks.specs.Views.{held_as, held_at}
+use Rattle.parking_lot_world.proofs.Serving.{or_else}
 use Rattle.mapworld_locks.proofs.Calls.{IsProper}
 use Rattle.mapworld_locks.proofs.Standing.{GoesOnBy, kept_proper, own_call, set_low}
 use Rattle.mapworld_locks.proofs.Stepping.{call_holds}
@@ -37,6 +38,7 @@ begun_call s u t i call low x =
 first_possible : (taken : ℕ → Bool) (x : LockKind) (call : LockCall) → gives call ≡ true → is_possible taken (core_act (core_next (core_of x call) ActResult.Start)) ≡ true
 first_possible taken x LockCall.Lock is = absurd (false≢true is)
 first_possible taken x LockCall.TryLock is = absurd (false≢true is)
+first_possible taken x LockCall.LockUntil is = absurd (false≢true is)
 first_possible taken x LockCall.Unlock is = absurd (false≢true is)
 first_possible taken x LockCall.Read is = absurd (false≢true is)
 first_possible taken x LockCall.TryRead is = absurd (false≢true is)
@@ -49,6 +51,7 @@ first_possible taken x LockCall.Downgrade is = refl
 first_open : (x : LockKind) (call : LockCall) → gives call ≡ true → end_of (core_act (core_next (core_of x call) ActResult.Start)) ≡ None
 first_open x LockCall.Lock is = absurd (false≢true is)
 first_open x LockCall.TryLock is = absurd (false≢true is)
+first_open x LockCall.LockUntil is = absurd (false≢true is)
 first_open x LockCall.Unlock is = absurd (false≢true is)
 first_open x LockCall.Read is = absurd (false≢true is)
 first_open x LockCall.TryRead is = absurd (false≢true is)
@@ -60,7 +63,7 @@ first_open x LockCall.Downgrade is = refl
 
 module _ (s mid : State) (t i : ℕ) (call : LockCall) (low : t < length s.calls) (x : IsBegun t i call s mid) where
   pub can_start : gives call ≡ true → can_move mid t ≡ true
-  can_start is = ap (can_move_in mid) (begun_call s mid t i call low x) ∙ first_possible _ (kind_in s.kinds i) call is
+  can_start is = ap (can_move_in mid) (begun_call s mid t i call low x) ∙ or_else _ (first_possible _ (kind_in s.kinds i) call is)
 
   pub is_open : gives call ≡ true → ended mid t ≡ None
   is_open is = ap (option_and_then (λ (c : Call). end_of (core_act c.core))) (begun_call s mid t i call low x) ∙ first_open (kind_in s.kinds i) call is

@@ -64,6 +64,7 @@ call_within s t c h plain here = ap (is_within (core_aim c.core)) (call_holds s 
     by : (k : Core) → IsOfKind (slice_get s.kinds c.lock) k → IsPrepared (recursive_in s.kinds c.lock) 0 k → is_within (core_aim k) (held_as (rw_mode (rw_core_role 0 c.spot (taken_by s.wakes t) k))) ≡ true
     by (Core.Rw x) of_kind ready = within (rw_spot c.spot) (taken_by s.wakes t) x.phase ready.0 (λ e. absurd (subst (λ p. IsPrepared (recursive_in s.kinds c.lock) 0 (Core.Rw (record { phase = p }))) e ready).1)
     by (Core.Mutex x) of_kind ready = absurd (not_mutex s c.lock plain.kinds of_kind)
+    by (Core.Late x) of_kind ready = absurd (not_mutex s c.lock plain.kinds of_kind)
 
 never_upgradable : (aim : Aim) → is_within aim (Some held.Upgradable) ≡ false
 never_upgradable (Gets held.Shared) = refl
@@ -144,6 +145,7 @@ asleep_gets RwPhase.Invalid m is fits = absurd (false≢true is)
 core_gets : (k : Core) (kinds : Option _) (m : Mode) → IsOfKind kinds k → manner_of kinds ≢ Some AsMutex → sleeps (stance k) ≡ true → is_within (core_aim k) (Some m) ≡ true → core_aim k ≡ Gets m
 core_gets (Core.Rw c) kinds m of_kind ne is fits = asleep_gets c.phase m is fits
 core_gets (Core.Mutex c) kinds m of_kind ne is fits = absurd (ne of_kind)
+core_gets (Core.Late c) kinds m of_kind ne is fits = absurd (ne of_kind)
 
 -- where it held and holds no longer
 left_so : (a b : Option Mode) → a ≢ None → b ≡ None → has_left a b ≡ true
@@ -212,6 +214,7 @@ module _ (laws : StepsAreCases) (agree : Always OwnersAgree) (old : Shown) (fit 
       of : (k : Core) → IsOfKind (slice_get s.kinds i) k → i < length s.kinds
       of (Core.Rw y) e = within_kinds s i _ e
       of (Core.Mutex y) e = within_kinds s i _ e
+      of (Core.Late y) e = within_kinds s i _ e
 
   other : (v : ℕ) → v ≢ t → (held_at u i v ≡ held_at s i v) ⊎ IsHandedOver t i v s u
   other v ne = others laws s u t fair None fit.fits fit.plain.kinds plain.kinds fit.plain.alone x v ne

@@ -178,7 +178,8 @@ fn is_of_shards(call: LockCall) -> bool
     ensures { IsTrue result ↔ (manner_for call ≡ AsRw) }
 {
     match call {
-        LockCall::Lock | LockCall::TryLock | LockCall::Unlock => false,
+        LockCall::Lock | LockCall::TryLock | LockCall::LockUntil => false,
+        LockCall::Unlock => false,
         _ => true,
     }
 }

@@ -103,6 +103,7 @@ sleeps_on RwPhase.Invalid h = cc
 core_sleeps : (k : Core) (o : Option LockKind) → manner_of o ≢ Some AsMutex → IsOfKind o k → sleeps (core_act k) ≡ true → SleepsOn (stance k) (core_aim k)
 core_sleeps (Core.Rw c) o rw of_kind h = sleeps_on c.phase h
 core_sleeps (Core.Mutex c) o rw of_kind h = absurd (rw of_kind)
+core_sleeps (Core.Late c) o rw of_kind h = absurd (rw of_kind)
 
 module _ (locks : Shown) (fit : LocksFit locks) (t : ℕ) where
   abbrev s : State
