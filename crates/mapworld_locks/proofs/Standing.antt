@@ -12,6 +12,7 @@ use Rattle.parking_lot_protocol.specs.declared.act.ActResult.{ActResult}
 use Rattle.parking_lot_protocol.specs.declared.act.CoreAnswer.{CoreAnswer}
 use Rattle.parking_lot_protocol.specs.declared.rw_phase.RwPhase.{RwPhase}
 use Rattle.parking_lot_rules.proofs.Indexed.{get-set_same}
+use Rattle.parking_lot_world.specs.Kinds.{recursive_in}
 use Rattle.parking_lot_world.specs.declared.open_call.Call.{Call}
 use Rattle.parking_lot_world.specs.declared.seat.Core.{Core}
 use Rattle.parking_lot_world.specs.declared.seat.QueuePosition.{QueuePosition}
@@ -28,9 +29,9 @@ use Rattle.mapworld_locks.proofs.Aiming.{next_patient}
 use Rattle.mapworld_locks.proofs.Calls.{IsProper, call_of, map_of, next_keeps, set_elsewhere, set_here, set_nothing, slot}
 
 -- a call that is kept isn't led astray
-pub kept_proper : (n : ℕ) (k : Core) → IsPrepared n k → IsProper k
-kept_proper n (Core.Rw c) ready = λ e. absurd (subst (λ p. IsPrepared n (Core.Rw (record { phase = p }))) e ready).1
-kept_proper n (Core.Mutex c) ready = tt
+pub kept_proper : (recursive : Bool) (n : ℕ) (k : Core) → IsPrepared recursive n k → IsProper k
+kept_proper recursive n (Core.Rw c) ready = λ e. absurd (subst (λ p. IsPrepared recursive n (Core.Rw (record { phase = p }))) e ready).1
+kept_proper recursive n (Core.Mutex c) ready = tt
 
 -- one that isn't a try doesn't become one
 pub core_patient : (k : Core) (told : ActResult) → core_tries k ≡ false → core_tries (core_next k told) ≡ false
@@ -258,7 +259,7 @@ module _ (s : State) (h : FitsTogether s) (t : ℕ) (c : Call) (v : ℕ) (other 
       there eq = ap (λ (x : State). call_at x v) is_it ∙ set_elsewhere (slice_set s.calls e.thread (Some woken)) t v _ other ∙ ap (call_of (slice_set s.calls e.thread (Some woken))) eq ∙ set_here s.calls e.thread d (Some woken) due.there
 
       proper : v ≡ e.thread → IsProper (core_next d.core (ActResult.Woken token))
-      proper eq = kept_proper d.others (core_next d.core (ActResult.Woken token)) (g.rules.prepared v woken (there eq))
+      proper eq = kept_proper (recursive_in u.kinds d.lock) d.others (core_next d.core (ActResult.Woken token)) (g.rules.prepared v woken (there eq))
 
   goes : (a : Act) (fair : Bool) (u : State) → FitsTogether u → Became a t fair c s u → Same u.calls
   goes Act.Load fair u g e = is u _ e (apart s.calls _)

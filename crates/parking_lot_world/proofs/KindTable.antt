@@ -1,6 +1,7 @@
 -- A kind of locks, as the machine shows one; and what a thread does at one lock leaves the other locks as they are.
 use Rattle.std.proofs.Common.{◌≡◌, ◌≢◌, ℕ, ◌+◌, ◌*◌, ◌<◌, ◌⊎◌, inl, inr, cond, List, length, Option, Some, None, slice_get, slice_set, refl, sym, ap, ◌∙◌, arith, eq-eqb}
 use Rattle.std.proofs.lemmas.Bool.{ne_eqb}
+use Rattle.std.proofs.lemmas.Option.{none-some, slice_get_within}
 use Rattle.parking_lot_core_lot.specs.Machine.{threads_of}
 use Rattle.parking_lot_core_lot.specs.declared.parking.ParkToken.{ParkToken}
 use Rattle.parking_lot_rules.specs.Roles.{Idle, Role}
@@ -19,18 +20,19 @@ use Rattle.parking_lot_world.specs.declared.open_call.Call.{Call}
 use Rattle.parking_lot_world.specs.declared.seat.Core.{Core}
 use Rattle.parking_lot_world.specs.declared.seat.Hold.{Hold}
 use Rattle.parking_lot_world.specs.declared.seat.QueuePosition.{QueuePosition}
-use Rattle.parking_lot_world.specs.RowFits.{IsOfKind}
-use Rattle.parking_lot_world.specs.Rows.{State, word_at, hold_at, call_at, everybody, taken_by, owned_of, owns_mutex, rw_spot, mutex_spot, first_of_all, rw_role_in, mutex_role_in, rw_core_role, mutex_core_role, mutex_word_of, any_lock, lock_at, queue_at}
+use Rattle.parking_lot_world.specs.Kinds.{Manner, AsMutex, AsRw, manner_of}
+use Rattle.parking_lot_world.specs.RowFits.{IsOfKind, IsOfManner}
+use Rattle.parking_lot_world.specs.Rows.{State, word_at, hold_at, call_at, everybody, taken_by, owned_of, owns_mutex, rw_spot, mutex_spot, first_of_all, rw_role_in, mutex_role_in, rw_core_role, mutex_core_role, mutex_word_of, any_lock, lock_as, lock_at, queue_at}
 use Rattle.parking_lot_world.specs.Stances.{Asleep, mutex_stance, rw_stance, stance}
 use Rattle.parking_lot_world.proofs.Everybody.{all, change-all, get-all, same-all}
 
 -- What the machine shows of a kind of locks. C is the core of a call at one, R what a thread is to it, and L the lock of the rules. A thread is
 -- what its call's core plays, beside so many other holds, at that place in the lists, with those taken; and else what it owns makes it.
 pub record Kind (C R L : Type 0) : Type 1 where
-  pub kind : LockKind
+  pub manner : Manner
   pub core : C → Core
-  pub of_kind : (o : Option LockKind) (k : C) → IsOfKind o (core k) → o ≡ Some kind
-  pub only : (x : Core) → IsOfKind (Some kind) x → (k : C) × (x ≡ core k)
+  pub of_kind : (o : Option LockKind) (k : C) → IsOfKind o (core k) → manner_of o ≡ Some manner
+  pub only : (x : Core) → IsOfManner (Some manner) x → (k : C) × (x ≡ core k)
   pub idle : Hold → R
   pub plays : ℕ → QueuePosition → List ℕ → C → R
   pub role_in : ℕ → List ℕ → Hold → Option Call → R
@@ -42,7 +44,7 @@ pub record Kind (C R L : Type 0) : Type 1 where
   -- the lock of a word, of what all are to it, and of its two lists
   pub lock : ℕ → List R → List ℕ → List ℕ → L
   pub any : L → AnyLock
-  pub shows : (s : State) (i : ℕ) (o : Option LockKind) → o ≡ Some kind
+  pub shows : (s : State) (i : ℕ) (o : Option LockKind) → manner_of o ≡ Some manner
       → any_lock o s i ≡ any (lock (word_at s i) (everybody (λ t. role_in i (taken_by s.wakes t) (hold_at s t i) (call_at s t)) s) (queue_at s (2 * i)) (queue_at s (2 * i + 1)))
 
 -- THE TWO KINDS
@@ -56,17 +58,17 @@ pub mutex_listed : (v : ℕ) (q : MutexPhase) (at : QueuePosition) → ((k : ℕ
 mutex_listed v MutexPhase.Sleeps at h = ap (λ x. of_mutex.role (mutex_spot x) v MutexPhase.Sleeps) (h _ _ refl)
 mutex_listed v q at h = refl
 
-pub rw_only : (x : Core) → IsOfKind (Some LockKind.Rw) x → (k : RwCore) × (x ≡ Core.Rw k)
+pub rw_only : (x : Core) → IsOfManner (Some AsRw) x → (k : RwCore) × (x ≡ Core.Rw k)
 rw_only (Core.Rw k) e = (k, refl)
 rw_only (Core.Mutex k) e = absurd cc
 
-pub mutex_only : (x : Core) → IsOfKind (Some LockKind.Mutex) x → (k : MutexCore) × (x ≡ Core.Mutex k)
+pub mutex_only : (x : Core) → IsOfManner (Some AsMutex) x → (k : MutexCore) × (x ≡ Core.Mutex k)
 mutex_only (Core.Mutex k) e = (k, refl)
 mutex_only (Core.Rw k) e = absurd cc
 
 abbrev pub of_rws : Kind RwCore Role Lock
 of_rws = record {
-  kind = LockKind.Rw;
+  manner = AsRw;
   core = Core.Rw;
   of_kind = λ o k e. e;
   only = rw_only;
@@ -79,12 +81,12 @@ of_rws = record {
   listed = λ n us k at h. rw_listed n us k.phase at h;
   lock = λ x rs first second. record { word = word_of x; roles = rs; first = first; second = second };
   any = Rw;
-  shows = λ s i o e. ap (λ (q : Option LockKind). any_lock q s i) e;
+  shows = λ s i o e. ap (λ (q : Option Manner). lock_as q s i) e;
 }
 
 abbrev pub of_mutexes : Kind MutexCore mutex.Role mutex.Mutex
 of_mutexes = record {
-  kind = LockKind.Mutex;
+  manner = AsMutex;
   core = Core.Mutex;
   of_kind = λ o k e. e;
   only = mutex_only;
@@ -97,7 +99,7 @@ of_mutexes = record {
   listed = λ n us k at h. mutex_listed (first_of_all us) k.phase at h;
   lock = λ x rs first second. record { word = mutex_word_of x; roles = rs; queue = first };
   any = Mx;
-  shows = λ s i o e. ap (λ (q : Option LockKind). any_lock q s i) e;
+  shows = λ s i o e. ap (λ (q : Option Manner). lock_as q s i) e;
 }
 
 -- ONE LOCK
@@ -168,10 +170,18 @@ module _ {C R L : Type 0} (K : Kind C R L) where
 
 -- ANOTHER LOCK, OF ANY KIND
 
-pub elsewhere : (j : ℕ) (s u : State) → Elsewhere j s u → (i : ℕ) → i ≢ j → lock_at u i ≡ lock_at s i
-elsewhere j s u h i ne = ap (λ ks. any_lock (slice_get ks i) u i) h.kinds ∙ go (slice_get s.kinds i)
+-- a lock of a kind is one that there is
+pub within_kinds : (kinds : List LockKind) (i : ℕ) (m : Manner) → manner_of (slice_get kinds i) ≡ Some m → i < length kinds
+within_kinds kinds i m e = go (slice_get kinds i) refl
   where
-    go : (o : Option LockKind) → any_lock o u i ≡ any_lock o s i
+    go : (o : Option LockKind) → slice_get kinds i ≡ o → i < length kinds
+    go (Some k) is = slice_get_within kinds i k is
+    go None is = absurd (none-some m (sym (ap manner_of is) ∙ e))
+
+pub elsewhere : (j : ℕ) (s u : State) → Elsewhere j s u → (i : ℕ) → i ≢ j → lock_at u i ≡ lock_at s i
+elsewhere j s u h i ne = ap (λ ks. any_lock (slice_get ks i) u i) h.kinds ∙ go (manner_of (slice_get s.kinds i))
+  where
+    go : (o : Option Manner) → lock_as o u i ≡ lock_as o s i
     go None = ap Rw (same_elsewhere of_rws j s u h i ne)
-    go (Some LockKind.Rw) = ap Rw (same_elsewhere of_rws j s u h i ne)
-    go (Some LockKind.Mutex) = ap Mx (same_elsewhere of_mutexes j s u h i ne)
+    go (Some AsRw) = ap Rw (same_elsewhere of_rws j s u h i ne)
+    go (Some AsMutex) = ap Mx (same_elsewhere of_mutexes j s u h i ne)

@@ -10,6 +10,7 @@ use Rattle.parking_lot_protocol.specs.declared.act.Act.{Act}
 use Rattle.parking_lot_protocol.specs.declared.act.ActResult.{ActResult}
 use Rattle.parking_lot_protocol.specs.Acts.{Gives, word_after, change_of}
 use Rattle.parking_lot_protocol.specs.RwRules.{IsReady}
+use Rattle.parking_lot_world.specs.Kinds.{AsRw, manner_of, kind_in, recursive_in}
 use Rattle.parking_lot_world.specs.declared.seat.Core.{Core}
 use Rattle.parking_lot_world.specs.declared.open_call.Call.{Call}
 use Rattle.parking_lot_world.specs.Rows.{State, word_at, call_at, first_key, inside, rw_lock_at, rw_spot, taken_by, rw_role_at}
@@ -17,6 +18,7 @@ use Rattle.parking_lot_world.specs.Stances.{core_act, core_next, mutex_stance, r
 use Rattle.parking_lot_world.specs.RowFits.{FitsTogether, IsOfKind, IsPrepared}
 use Rattle.parking_lot_world.specs.RankLaws.{Can, Leaves, StopsAt}
 use Rattle.parking_lot_world.specs.Ranks.{Sees, core_steps, far_steps, is_shut_to, own_steps, view_of, Pays, View, Unseen, wake, cost, Costs, AnyMayBeStepped}
+use Rattle.parking_lot_world.proofs.Ruling.{same_kind}
 use Rattle.parking_lot_world.proofs.Meeting.{meets, in_range, rw_sound}
 use Rattle.parking_lot_world.proofs.RwMoving.{few_readers}
 use Rattle.parking_lot_core_lot.specs.declared.parking.ParkToken.{ParkToken}
@@ -53,7 +55,7 @@ use Rattle.parking_lot_protocol.specs.MutexTable as mutex_table
 use Rattle.parking_lot_protocol.specs.RwTable as rw_table
 use Rattle.parking_lot_world.specs.declared.seat.QueuePosition.TheVariants as spot
 use Rattle.parking_lot_protocol.specs.declared.act.ActResult.TheVariants as seen
-use Rattle.parking_lot_world.specs.declared.calls.LockKind.TheVariants as kind
+use Rattle.parking_lot_world.specs.declared.calls.LockKind.{LockKind}
 
 -- ONE CALL
 
@@ -68,7 +70,7 @@ is_good s h t c here = by_core c.core refl
     by_core : (x : Core) → c.core ≡ x → IsGood x (word_at s c.lock)
     by_core (Core.Mutex k) e = h.rules.bits c.lock (subst (IsOfKind (slice_get s.kinds c.lock)) e (h.rules.kinds t c here))
     by_core (Core.Rw k) e =
-        (few_readers (rw_lock_at s c.lock) t c.others (rw_spot c.spot) (taken_by s.wakes t) k.phase (word_at s c.lock) (meets s h t c k e here), (subst (IsPrepared c.others) e (h.rules.prepared t c here)).0)
+        (few_readers (recursive_in s.kinds c.lock) (rw_lock_at s c.lock) t c.others (rw_spot c.spot) (taken_by s.wakes t) k.phase (word_at s c.lock) (meets s h t c k e here), (subst (IsPrepared (recursive_in s.kinds c.lock) c.others) e (h.rules.prepared t c here)).0)
 
 pub core_falls : (n : ℕ) (c : Core) (x : ℕ) (told : ActResult) (first after : ℕ) (shut : Bool) → IsGood c x → Gives (core_act c) x told → Can (core_act c) shut told → Leaves (core_act c) told first after
     → core_steps n (Sees (word_after (core_act c) told x) after shut) (core_next c told) + 1 ≤ core_steps n (Sees x first shut) c
@@ -347,7 +349,7 @@ ends_pay s t c answer here asked =
 
 -- NO MORE THAN WHERE ANOTHER IS STEPPED
 
-few_in_list : (s : State) → FitsTogether s → (j : ℕ) → slice_get s.kinds j ≡ Some kind.Rw → length (s.lot.queues (first_key j)) ≤ length s.calls
+few_in_list : (s : State) → FitsTogether s → (j : ℕ) → manner_of (slice_get s.kinds j) ≡ Some AsRw → length (s.lot.queues (first_key j)) ≤ length s.calls
 few_in_list s h j is =
     omega (arith, few1 false 0 (rw_lock_at s j) (rw_sound s h j is), length-map (s.lot.queues (first_key j)) (λ w. w.thread), length-all (rw_role_at s j) 0 (length s.calls))
 
@@ -357,31 +359,19 @@ own_few s h word j shut (Core.Rw c) is = of_rw.steps_fall.few (length s.calls) w
 
 -- BEGINNINGS
 
-costs_most : (n : ℕ) (c : LockCall) → core_steps n Unseen (core_next (core_of c) seen.Start) ≤ cost n c
-costs_most n LockCall.Lock = omega arith
-costs_most n LockCall.TryLock = omega arith
-costs_most n LockCall.Unlock = omega arith
-costs_most n LockCall.Read = omega arith
-costs_most n LockCall.TryRead = omega arith
-costs_most n LockCall.UnlockRead = omega arith
-costs_most n LockCall.Write = omega arith
-costs_most n LockCall.TryWrite = omega arith
-costs_most n LockCall.UnlockWrite = omega arith
-costs_most n LockCall.Downgrade = omega arith
+costs_most : (n : ℕ) (k : LockKind) (c : LockCall) → core_steps n Unseen (core_next (core_of k c) seen.Start) ≤ cost n c
+costs_most n k LockCall.Lock = omega arith
+costs_most n k LockCall.TryLock = omega arith
+costs_most n k LockCall.Unlock = omega arith
+costs_most n k LockCall.Read = omega arith
+costs_most n k LockCall.TryRead = omega arith
+costs_most n k LockCall.UnlockRead = omega arith
+costs_most n k LockCall.Write = omega arith
+costs_most n k LockCall.TryWrite = omega arith
+costs_most n k LockCall.UnlockWrite = omega arith
+costs_most n k LockCall.Downgrade = omega arith
 
-begun_kind : (k : _) (c : LockCall) → IsOfKind k (core_of c) → IsOfKind k (core_next (core_of c) seen.Start)
-begun_kind k LockCall.Lock is = is
-begun_kind k LockCall.TryLock is = is
-begun_kind k LockCall.Unlock is = is
-begun_kind k LockCall.Read is = is
-begun_kind k LockCall.TryRead is = is
-begun_kind k LockCall.UnlockRead is = is
-begun_kind k LockCall.Write is = is
-begun_kind k LockCall.TryWrite is = is
-begun_kind k LockCall.UnlockWrite is = is
-begun_kind k LockCall.Downgrade is = is
-
-pub begins_cost : (s : State) (t : ℕ) (c : Call) (what : LockCall) → FitsTogether s → MayBegin s t c → c.core ≡ core_of what → Costs t what s (begun s t c)
+pub begins_cost : (s : State) (t : ℕ) (c : Call) (what : LockCall) → FitsTogether s → MayBegin s t c → c.core ≡ core_of (kind_in s.kinds c.lock) what → Costs t what s (begun s t c)
 begins_cost s t c what h may is =
     let n = length s.calls in
     let u = begun s t c in
@@ -395,8 +385,8 @@ begins_cost s t c what h may is =
       ap (λ m. sum_by (far_steps m) (slice_set u.calls t None)) (length-set s.calls t (Some d)),
       others_same n s.calls t (Some d),
       ap (λ x. core_steps n sees (core_next x seen.Start)) is,
-      own_few s h (word_at u c.lock) c.lock (is_shut_to t (inside u)) (core_next (core_of what) seen.Start) (begun_kind (slice_get s.kinds c.lock) what (subst (IsOfKind (slice_get s.kinds c.lock)) is may.kind)),
-      costs_most n what,
+      own_few s h (word_at u c.lock) c.lock (is_shut_to t (inside u)) (core_next (core_of (kind_in s.kinds c.lock) what) seen.Start) (same_kind (core_of (kind_in s.kinds c.lock) what) seen.Start (slice_get s.kinds c.lock) (subst (IsOfKind (slice_get s.kinds c.lock)) is may.kind)),
+      costs_most n (kind_in s.kinds c.lock) what,
     )
 
 -- ANOTHER IS STEPPED

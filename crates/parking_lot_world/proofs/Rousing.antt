@@ -11,6 +11,7 @@ use Rattle.parking_lot_core_lot.specs.declared.place.Sleep.{Sleep}
 use Rattle.parking_lot_core_lot.proofs.Numbers.{flag, count_by-set}
 use Rattle.parking_lot_rules.proofs.Indexed.{get-set_other}
 use Rattle.parking_lot_protocol.specs.declared.act.ActResult.TheVariants as seen
+use Rattle.parking_lot_world.specs.Kinds.{recursive_in}
 use Rattle.parking_lot_world.specs.declared.seat.WakeResult.{WakeResult}
 use Rattle.parking_lot_world.specs.declared.seat.QueuePosition.{QueuePosition}
 use Rattle.parking_lot_world.specs.declared.open_call.Call.{Call}
@@ -18,7 +19,7 @@ use Rattle.parking_lot_world.specs.declared.seat.Wakeup.{Wakeup}
 use Rattle.parking_lot_world.specs.Rows.{State, word_at, hold_at, call_at, is_by, taken_by, mark_of, first_of_all, rw_spot, mutex_spot, rw_lock_at, mutex_at, queue_at}
 use Rattle.parking_lot_world.specs.Stances.{Out, Asleep, mutex_stance, rw_stance, stance, taken_count, core_act, core_next}
 use Rattle.parking_lot_world.specs.RowActs.{hears, woke, told_of}
-use Rattle.parking_lot_world.specs.RowFits.{FitsTogether, RulesFit, WakesFit, IsOfKind, IsTaken, IsPrepared, KnowsList, is_away, is_off, mutex_knows}
+use Rattle.parking_lot_world.specs.RowFits.{FitsTogether, RulesFit, WakesFit, IsOfKind, IsTaken, IsPrepared, KnowsList, is_away, is_off, mutex_knows, rw_prepared}
 use Rattle.parking_lot_world.specs.TellLaws.{IsDue}
 use Rattle.parking_lot_world.proofs.Calling.{slot}
 use Rattle.parking_lot_world.proofs.Carrying.{same_call}
@@ -226,7 +227,7 @@ module _ (s : State) (t : ℕ) (c : Call) (h : FitsTogether s) (here : call_at s
 
   -- what is left to be shown by the kind of the lock: of the one that wakes, and of what the woken one stands on
   abbrev pub Roused : Core → Core → Type 0
-  Roused x y = Fitted s woke_state t c seen.Made x × IsPrepared d.others (core_next y (seen.Woken token)) × KnowsList (core_next y (seen.Woken token)) s.lot.queues d.lock
+  Roused x y = Fitted s woke_state t c seen.Made x × IsPrepared (recursive_in s.kinds d.lock) d.others (core_next y (seen.Woken token)) × KnowsList (core_next y (seen.Woken token)) s.lot.queues d.lock
 
   pub rules_roused : Roused c.core d.core → RulesFit woke_state
   rules_roused (fit, ready, learns) = rules_after s woke_state c.lock h.rules (record {
@@ -331,12 +332,12 @@ module _ (s : State) (t : ℕ) (c : Call) (h : FitsTogether s) (here : call_at s
       let k' : RwCore = record y { phase = table.next_phase (RwPhase.Wakes rs count) seen.Made } in
       let q' : RwCore = record q { phase = table.next_phase q.phase (seen.Woken token) } in
       let its = meets s h v d q de due.there in
-      let met : Meets (rw_lock_at s c.lock) t c.others (rw_spot c.spot) (v ∷ vs) (RwPhase.Wakes rs count) (word_at s c.lock) =
-      subst (λ us. Meets (rw_lock_at s c.lock) t c.others (rw_spot c.spot) us (RwPhase.Wakes rs count) (word_at s c.lock)) (taken_mine s t c h here e d token due from) (meets s h t c k ce here) in
+      let met : Meets (recursive_in s.kinds c.lock) (rw_lock_at s c.lock) t c.others (rw_spot c.spot) (v ∷ vs) (RwPhase.Wakes rs count) (word_at s c.lock) =
+      subst (λ us. Meets (recursive_in s.kinds c.lock) (rw_lock_at s c.lock) t c.others (rw_spot c.spot) us (RwPhase.Wakes rs count) (word_at s c.lock)) (taken_mine s t c h here e d token due from) (meets s h t c k ce here) in
       let asleep : rw_stance q.phase ≡ Asleep off.0 off.1 = sym (ap stance de) ∙ off.3 in
       let after_is = λ (n : ℕ) (w : word_at s c.lock ≡ n). roused_after s t c h here e d token due from of_rws k q k' q' (ap (λ (x : Core). core_next x seen.Made) ce) de (ap (λ (x : Core). core_next x (seen.Woken token)) de) to n w in
-      let step = wakes_are_steps (rw_lock_at s c.lock) t c.others (rw_spot c.spot) v vs rs count (word_at s c.lock) d.others (mark_of (told_of token)) ws q.phase off.0 off.1 token met
-      (sleeps_off s t c h here e d token due from of_rws k q k' q' (ap (λ (x : Core). core_next x seen.Made) ce) de (ap (λ (x : Core). core_next x (seen.Woken token)) de) to) asleep its.prepared refl in
+      let step = wakes_are_steps (recursive_in s.kinds c.lock) (rw_lock_at s c.lock) t c.others (rw_spot c.spot) v vs rs count (word_at s c.lock) d.others (mark_of (told_of token)) ws q.phase off.0 off.1 token met
+      (sleeps_off s t c h here e d token due from of_rws k q k' q' (ap (λ (x : Core). core_next x seen.Made) ce) de (ap (λ (x : Core). core_next x (seen.Woken token)) de) to) asleep (subst (λ j. rw_prepared (recursive_in s.kinds j) d.others ws q.phase) (same_lock s t c h here e d token due from) its.prepared) refl in
       let kind_is = subst (IsOfKind (slice_get s.kinds c.lock)) ce (h.rules.kinds t c here) in
       let mine = rw_hears s h t c k ce here seen.Made tt s.lot.queues tt in
       let may = sleeper_hears q.phase off.0 off.1 (word_at s d.lock) token (s.lot.queues (2 * d.lock)) (s.lot.queues (2 * d.lock + 1)) asleep in
@@ -370,11 +371,11 @@ module _ (s : State) (t : ℕ) (c : Call) (h : FitsTogether s) (here : call_at s
               (roused_after s t c h here e d token due from of_mutexes k q k' q' mine de its to (word_at s c.lock) refl
               ∙ same of_mutexes _ _ _ _ _ _ [] [] refl (ap (λ x. slice_set (slice_set (roles_at of_mutexes s c.lock) v x) t (of_mutex.role of_mutex.Listed (first_of_all vs) k'.phase)) woken) refl refl)
               refl tt,
-          subst (IsPrepared c.others) ce (h.rules.prepared t c here),
+          subst (IsPrepared (recursive_in s.kinds c.lock) c.others) ce (h.rules.prepared t c here),
           tt,
           h.rules.bits c.lock,
         ),
-        subst (IsPrepared d.others) de (h.rules.prepared v d due.there),
+        subst (IsPrepared (recursive_in s.kinds d.lock) d.others) de (h.rules.prepared v d due.there),
         subst (λ p. mutex_knows (mutex_table.next_phase p (seen.Woken token)) (s.lot.queues (2 * d.lock))) (sym asleep) (woken_knows token (s.lot.queues (2 * d.lock))),
       )
 

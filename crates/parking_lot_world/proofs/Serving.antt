@@ -20,20 +20,20 @@ use Rattle.parking_lot_protocol.specs.MutexRules as rules_of_mutex
 use Rattle.parking_lot_protocol.specs.RwRules as rules_of_rw
 use Rattle.parking_lot_protocol.specs.MutexTable as of_mutex
 use Rattle.parking_lot_protocol.specs.RwTable as of_rw
+use Rattle.parking_lot_world.specs.Kinds.{AsMutex, AsRw, manner_of, Manner}
 use Rattle.parking_lot_world.specs.declared.calls.OwnMode.{OwnMode}
 use Rattle.parking_lot_world.specs.declared.seat.QueuePosition.{QueuePosition}
 use Rattle.parking_lot_world.specs.declared.seat.Core.{Core}
 use Rattle.parking_lot_world.specs.declared.open_call.Call.{Call}
 use Rattle.parking_lot_world.specs.CallViews.{mutex_mode, rw_mode}
 use Rattle.parking_lot_world.specs.Machines.{can_move, can_move_in, is_asleep, is_possible, is_taken, sleeps}
-use Rattle.parking_lot_world.specs.RowFits.{FitsTogether, IsOfKind, Stands, Seated}
-use Rattle.parking_lot_world.specs.Rows.{State, first_of_all, mutex_spot, rw_spot, any_lock, mutex_at, rw_lock_at, call_at, everybody, hold_at, lock_at, mutex_role_at, rw_role_at, taken_by}
+use Rattle.parking_lot_world.specs.RowFits.{FitsTogether, IsOfKind, IsOfManner, Stands, Seated}
+use Rattle.parking_lot_world.specs.Rows.{State, first_of_all, mutex_spot, rw_spot, lock_as, mutex_at, rw_lock_at, call_at, everybody, hold_at, lock_at, mutex_role_at, rw_role_at, taken_by}
 use Rattle.parking_lot_world.specs.SoundLaws.{IsApart, SomebodyCanMove, SomebodyKeeps}
 use Rattle.parking_lot_world.specs.Stances.{Stance, Out, In, Doing, core_act, mutex_stance, rw_stance, stance}
 use Rattle.parking_lot_world.specs.Stances as stances
 use Rattle.parking_lot_world.specs.Worlds.{mode_in}
 use Rattle.parking_lot_world.proofs.Everybody.{get-all, within-all, was-all}
-use Rattle.parking_lot_world.specs.declared.calls.LockKind.{LockKind}
 use Rattle.parking_lot_world.proofs.Viewing.{apart_role}
 use Rattle.parking_lot_world.proofs.KindTable.{Kind, of_mutexes, of_rws, role_at, role_now}
 use Rattle.parking_lot_world.proofs.Meeting.{in_range, mutex_sound, rw_sound}
@@ -192,20 +192,20 @@ module _ (s : State) (h : FitsTogether s) where
 
   -- the role of a sleeper, at a lock of a kind whose calls that sleep are asleep
   sleeper : {C R L : Type 0} (K : Kind C R L) (asleep : R → Bool) → ((n : ℕ) (at : QueuePosition) (us : List ℕ) (k : C) → sleeps (core_act (K.core k)) ≡ true → asleep (K.plays n at us k) ≡ true)
-      → (i v : ℕ) (d : Call) → slice_get s.kinds i ≡ Some K.kind → call_at s v ≡ Some d → d.lock ≡ i → sleeps (core_act d.core) ≡ true → asleep (role_at K s i v) ≡ true
+      → (i v : ℕ) (d : Call) → manner_of (slice_get s.kinds i) ≡ Some K.manner → call_at s v ≡ Some d → d.lock ≡ i → sleeps (core_act d.core) ≡ true → asleep (role_at K s i v) ≡ true
   sleeper K asleep so i v d of there same e =
-      let k = K.only d.core (subst (λ (o : Option LockKind). IsOfKind o d.core) (ap (slice_get s.kinds) same ∙ of) (h.rules.kinds v d there)) in
+      let k = K.only d.core (subst (λ (o : Option Manner). IsOfManner o d.core) (ap (λ j. manner_of (slice_get s.kinds j)) same ∙ of) (h.rules.kinds v d there)) in
       subst (λ j. asleep (role_at K s j v) ≡ true) same
       (ap asleep (role_now K s v (taken_by s.wakes v) d k.0 there refl k.1) ∙ so d.others d.spot (taken_by s.wakes v) k.0 (ap (λ x. sleeps (core_act x)) (sym k.1) ∙ e))
 
-  rw_sleeper : (i v : ℕ) (d : Call) → slice_get s.kinds i ≡ Some LockKind.Rw → call_at s v ≡ Some d → d.lock ≡ i → sleeps (core_act d.core) ≡ true → rw_laws.is_asleep (rw_role_at s i v).does ≡ true
+  rw_sleeper : (i v : ℕ) (d : Call) → manner_of (slice_get s.kinds i) ≡ Some AsRw → call_at s v ≡ Some d → d.lock ≡ i → sleeps (core_act d.core) ≡ true → rw_laws.is_asleep (rw_role_at s i v).does ≡ true
   rw_sleeper = sleeper of_rws (λ q. rw_laws.is_asleep q.does) (λ n at us k e. rw_sleeps at us k.phase e)
 
-  mutex_sleeper : (i v : ℕ) (d : Call) → slice_get s.kinds i ≡ Some LockKind.Mutex → call_at s v ≡ Some d → d.lock ≡ i → sleeps (core_act d.core) ≡ true → mutex_laws.is_asleep (mutex_role_at s i v).does ≡ true
+  mutex_sleeper : (i v : ℕ) (d : Call) → manner_of (slice_get s.kinds i) ≡ Some AsMutex → call_at s v ≡ Some d → d.lock ≡ i → sleeps (core_act d.core) ≡ true → mutex_laws.is_asleep (mutex_role_at s i v).does ≡ true
   mutex_sleeper = sleeper of_mutexes (λ q. mutex_laws.is_asleep q.does) (λ n at us k e. mutex_sleeps at us k.phase e)
 
   module _ (t : ℕ) (c : Call) (here : call_at s t ≡ Some c) where
-    rw_up : slice_get s.kinds c.lock ≡ Some LockKind.Rw → sleeps (core_act c.core) ≡ true → Moves ⊎ SomebodyKeeps s c.lock
+    rw_up : manner_of (slice_get s.kinds c.lock) ≡ Some AsRw → sleeps (core_act c.core) ≡ true → Moves ⊎ SomebodyKeeps s c.lock
     rw_up of asleep =
         let i = c.lock in
         let up = rw_follow.somebody_can_move (rw_lock_at s i) (rw_sound s h i of) t (rw_role_at s i t) (get-all (rw_role_at s i) (length s.calls) t (in_range s t c here)) (rw_sleeper i t c of here refl asleep) in
@@ -216,10 +216,10 @@ module _ (s : State) (h : FitsTogether s) where
         (λ v d there same e. rw_sleeper i v d of there same e)
         (λ v low owns.
         let held = keeps_rw (rw_role_at s i v).owns owns.1 in
-        (held.0, ap (λ o. mode_in (any_lock o s i) v) of ∙ ap (option_and_then rw_mode) (get-all (rw_role_at s i) (length s.calls) v low) ∙ ap (λ p. rw_mode (record { owns = (rw_role_at s i v).owns; does = p })) owns.0 ∙ held.1))
+        (held.0, ap (λ o. mode_in (lock_as o s i) v) of ∙ ap (option_and_then rw_mode) (get-all (rw_role_at s i) (length s.calls) v low) ∙ ap (λ p. rw_mode (record { owns = (rw_role_at s i v).owns; does = p })) owns.0 ∙ held.1))
         up.0 up.1 up.2 up.3
 
-    mutex_up : slice_get s.kinds c.lock ≡ Some LockKind.Mutex → sleeps (core_act c.core) ≡ true → Moves ⊎ SomebodyKeeps s c.lock
+    mutex_up : manner_of (slice_get s.kinds c.lock) ≡ Some AsMutex → sleeps (core_act c.core) ≡ true → Moves ⊎ SomebodyKeeps s c.lock
     mutex_up of asleep =
         let i = c.lock in
         let up = mutex_follow.somebody_can_move (mutex_at s i) (mutex_sound s h i of) t (mutex_role_at s i t) (get-all (mutex_role_at s i) (length s.calls) t (in_range s t c here)) (mutex_sleeper i t c of here refl asleep) in
@@ -229,7 +229,7 @@ module _ (s : State) (h : FitsTogether s) where
         (λ v away. ap (λ q. mutex_laws.is_at_work q.does) (apart_role of_mutexes i (taken_by s.wakes v) (hold_at s v i) (call_at s v) away))
         (λ v d there same e. mutex_sleeper i v d of there same e)
         (λ v low owns.
-        (OwnMode.Exclusive, ap (λ o. mode_in (any_lock o s i) v) of ∙ ap (option_and_then mutex_mode) (get-all (mutex_role_at s i) (length s.calls) v low) ∙ ap (λ p. mutex_mode (record { owns = (mutex_role_at s i v).owns; does = p })) owns.1 ∙ ap (λ b. mutex_mode (record { owns = b; does = mutex.Idle })) owns.0))
+        (OwnMode.Exclusive, ap (λ o. mode_in (lock_as o s i) v) of ∙ ap (option_and_then mutex_mode) (get-all (mutex_role_at s i) (length s.calls) v low) ∙ ap (λ p. mutex_mode (record { owns = (mutex_role_at s i v).owns; does = p })) owns.1 ∙ ap (λ b. mutex_mode (record { owns = b; does = mutex.Idle })) owns.0))
         up.0 up.1 up.2 up.3
 
     somebody : Moves ⊎ ((is_asleep s t ≡ true) × SomebodyKeeps s c.lock)

@@ -1,7 +1,7 @@
 -- A call begins: its thread goes from no call to the first phase.
 use Rattle.std.proofs.Common.{◌≡◌, ◌≢◌, ℕ, ◌+◌, ◌*◌, ◌<◌, ◌≤◌, inl, inr, Bool, true, false, List, [], length, Option, Some, None, slice_get, slice_set, refl, sym, ap, ◌∙◌, subst, arith, zero, suc, ◌⊎◌, cond, nat_lt}
 use Rattle.std.proofs.lemmas.Bool.{cases_eq, both_ways, cases_lt, lt-ltb, ltb-true}
-use Rattle.std.proofs.lemmas.Option.{none-some, same_Some, slice_get-get_or, slice_get_within}
+use Rattle.std.proofs.lemmas.Option.{none-some, same_Some, slice_get-get_or}
 use Rattle.std.proofs.lemmas.List.{length-set}
 use Rattle.std.specs.Option.{option_and_then, option_map_or}
 use Rattle.std.specs.Prelude.{get_or}
@@ -14,6 +14,7 @@ use Rattle.parking_lot_protocol.specs.declared.act.Act.{Act}
 use Rattle.parking_lot_protocol.specs.Acts.{word_after}
 use Rattle.parking_lot_protocol.specs.declared.rw_core.RwCore.{RwCore}
 use Rattle.parking_lot_protocol.specs.declared.mutex_core.MutexCore.{MutexCore}
+use Rattle.parking_lot_world.specs.Kinds.{AsMutex, AsRw, manner_of, recursive_in}
 use Rattle.parking_lot_world.specs.declared.seat.Core.{Core}
 use Rattle.parking_lot_world.specs.declared.open_call.Call.{Call}
 use Rattle.parking_lot_world.specs.declared.seat.QueuePosition.{QueuePosition}
@@ -40,7 +41,7 @@ use Rattle.parking_lot_world.proofs.RwMoving.{answers_are_moves}
 use Rattle.parking_lot_world.proofs.RwKeeping.{calls_keep}
 use Rattle.parking_lot_world.proofs.RwCrossing.{lists_are_known}
 use Rattle.parking_lot_world.proofs.RwTaking.{begins_are_ready, ends_are_steps, answers_are_last}
-use Rattle.parking_lot_world.proofs.KindTable.{Kind, of_rws, of_mutexes, IsThere, Elsewhere, one_changed, role_at, role_now, role_stays, roles_at, same, shown}
+use Rattle.parking_lot_world.proofs.KindTable.{within_kinds, Kind, of_rws, of_mutexes, IsThere, Elsewhere, one_changed, role_at, role_now, role_stays, roles_at, same, shown}
 use Rattle.parking_lot_world.proofs.Everybody.{get-all, was-all, length-all}
 use Rattle.parking_lot_world.proofs.Making.{Crossed, TellsOf, move_sound, rw_goes, mutex_goes, RwLeadsBy, last_sound}
 use Rattle.parking_lot_world.proofs.Owning.{rw_leads, set-same}
@@ -60,7 +61,6 @@ use Rattle.parking_lot_protocol.specs.declared.act.ActResult.TheVariants as seen
 use Rattle.parking_lot_protocol.specs.RwRules as of_rw
 use Rattle.parking_lot_protocol.specs.MutexRules as of_mutex
 use Rattle.parking_lot_protocol.specs.RwTable as of_rw_table
-use Rattle.parking_lot_world.specs.declared.calls.LockKind.TheVariants as kind
 use Rattle.parking_lot_protocol.specs.MutexTable as of_mutex_table
 use Rattle.parking_lot_rules.specs.Family as crossing
 use Rattle.parking_lot_protocol.specs.declared.rw_phase.AfterWake.TheVariants as rest
@@ -82,16 +82,16 @@ empty_slot calls t b h = go (slice_get calls t) refl
     go (Some (Some c)) e = absurd (none-some c (sym h ∙ ap (option_and_then (λ y. y)) e))
 
 -- What a phase in which a reader-writer call begins needs, finds and knows; and its start is a move of its own, or none.
-begin_rw : (t n : ℕ) (us : List ℕ) (p : RwPhase) (l : Lock) (o : Option ℕ) (f g : List Waiter) → rw_begun p ≡ false → rw_begins n p
-    → rw_prepared n us p × Finds (of_rw_table.act_of p) l × OwnMove (of_rw.move n us p seen.Start) t o o × Learns p seen.Start f g × rw_knows p f g
-begin_rw t n us (RwPhase.Locking q) l o f g b h = (h, tt, refl, tt, tt)
-begin_rw t n us (RwPhase.Trying q) l o f g b h = (h, tt, refl, tt, tt)
-begin_rw t n us RwPhase.UnlockingShared l o f g b h = (tt, tt, refl, tt, tt)
-begin_rw t n us (RwPhase.UnlockingExclusive fair) l o f g b h = (tt, tt, refl, tt, tt)
-begin_rw t n us RwPhase.Downgrading l o f g b h = (tt, tt, refl, tt, tt)
-begin_rw t n us RwPhase.BumpingShared l o f g b h = (tt, tt, refl, tt, tt)
-begin_rw t n us RwPhase.BumpingExclusive l o f g b h = (tt, tt, refl, tt, tt)
-begin_rw t n us p l o f g b h = absurd h
+begin_rw : (recursive : Bool) (t n : ℕ) (us : List ℕ) (p : RwPhase) (l : Lock) (o : Option ℕ) (f g : List Waiter) → rw_begun p ≡ false → rw_begins recursive n p
+    → rw_prepared recursive n us p × Finds (of_rw_table.act_of p) l × OwnMove (of_rw.move n us p seen.Start) t o o × Learns p seen.Start f g × rw_knows p f g
+begin_rw recursive t n us (RwPhase.Locking q) l o f g b h = (h, tt, refl, tt, tt)
+begin_rw recursive t n us (RwPhase.Trying q) l o f g b h = (h, tt, refl, tt, tt)
+begin_rw recursive t n us RwPhase.UnlockingShared l o f g b h = (tt, tt, refl, tt, tt)
+begin_rw recursive t n us (RwPhase.UnlockingExclusive fair) l o f g b h = (tt, tt, refl, tt, tt)
+begin_rw recursive t n us RwPhase.Downgrading l o f g b h = (tt, tt, refl, tt, tt)
+begin_rw recursive t n us RwPhase.BumpingShared l o f g b h = (tt, tt, refl, tt, tt)
+begin_rw recursive t n us RwPhase.BumpingExclusive l o f g b h = (tt, tt, refl, tt, tt)
+begin_rw recursive t n us p l o f g b h = absurd h
 
 -- and one in which a mutex's does
 begin_mutex : (v : ℕ) (us : List ℕ) (p : MutexPhase) (q : List Waiter) → mutex_begun p ≡ false → TellsOf (of_mutex.move v p seen.Start) us v × (crossing_of (of_mutex_table.act_of p) ≡ crossing.Stays) × mutex_knows (of_mutex_table.next_phase p seen.Start) q
@@ -147,11 +147,11 @@ module _ (s : State) (t : ℕ) (c : Call) (may : MayBegin s t c) (h : FitsTogeth
   abbrev x : ℕ
   x = word_at s c.lock
 
-  begin_rws : (k : RwCore) → c.core ≡ Core.Rw k → OwnsFor (hold_at s t c.lock) c.others (Core.Rw k) → slice_get s.kinds c.lock ≡ Some kind.Rw → Fitted s next t c seen.Start (Core.Rw k)
+  begin_rws : (k : RwCore) → c.core ≡ Core.Rw k → OwnsFor (recursive_in s.kinds c.lock) (hold_at s t c.lock) c.others (Core.Rw k) → manner_of (slice_get s.kinds c.lock) ≡ Some AsRw → Fitted s next t c seen.Start (Core.Rw k)
   begin_rws k e owns kind_is =
       let ready = begins_are_ready c.others (rw_spot c.spot) us k.phase x owns.0 in
-      let well = begin_rw t c.others us k.phase (rw_lock_at s c.lock) (inside s) (s.lot.queues (2 * c.lock)) (s.lot.queues (2 * c.lock + 1)) owns.0 owns.1 in
-      let met : Meets (rw_lock_at s c.lock) t c.others (rw_spot c.spot) us k.phase x = record {
+      let well = begin_rw (recursive_in s.kinds c.lock) t c.others us k.phase (rw_lock_at s c.lock) (inside s) (s.lot.queues (2 * c.lock)) (s.lot.queues (2 * c.lock + 1)) owns.0 owns.1 in
+      let met : Meets (recursive_in s.kinds c.lock) (rw_lock_at s c.lock) t c.others (rw_spot c.spot) us k.phase x = record {
         sound = rw_sound s h c.lock kind_is;
         word = refl;
         here = free_role of_rws ∙ ap Some (ap (λ (o : Owned). record { owns = o; does = Idle }) owns.2 ∙ sym ready.0);
@@ -160,15 +160,15 @@ module _ (s : State) (t : ℕ) (c : Call) (may : MayBegin s t c) (h : FitsTogeth
         threads = omega (arith, length-all (rw_role_at s c.lock) 0 (length s.calls), h.rules.small);
         few = λ y q at. subst (λ (z : Role). shared_holds z.owns ≤ 256) (sym (was-all (rw_role_at s c.lock) (length s.calls) y q at)) (role_few s h c.lock y (call_at s y) refl);
       } in
-      let leads = rw_leads (rw_lock_at s c.lock) t c.others c.spot us k.phase x seen.Start met ready.2 well.1 (λ key token z. may.listed) (inside s) (inside next) well.2 in (
+      let leads = rw_leads (recursive_in s.kinds c.lock) (rw_lock_at s c.lock) t c.others c.spot us k.phase x seen.Start met ready.2 well.1 (λ key token z. may.listed) (inside s) (inside next) well.2 in (
         rw_goes s next t c.lock (of_rw.move c.others us k.phase seen.Start) _ none_there begun_elsewhere kind_is leads.0
             (begun_after of_rws (record k { phase = of_rw_table.next_phase k.phase seen.Start }) (ap (λ (y : Core). core_next y seen.Start) e) ∙ same of_rws _ _ _ _ _ _ _ _ (ap (λ y. word_after (core_act y) seen.Start x) e) refl refl refl) leads.1,
-        ((answers_are_moves (rw_lock_at s c.lock) t c.others (rw_spot c.spot) us k.phase x seen.Start met ready.2).2.1, calls_keep.begins c.others k.phase owns.1),
+        ((answers_are_moves (recursive_in s.kinds c.lock) (rw_lock_at s c.lock) t c.others (rw_spot c.spot) us k.phase x seen.Start met ready.2).2.1, calls_keep.begins (recursive_in s.kinds c.lock) c.others k.phase owns.1),
         lists_are_known.learns k.phase x seen.Start (s.lot.queues (2 * c.lock)) (s.lot.queues (2 * c.lock + 1)) (s.lot.queues (2 * c.lock)) (s.lot.queues (2 * c.lock + 1)) ready.2 well.4 well.3,
         h.rules.bits c.lock,
       )
 
-  begin_mutexes : (k : MutexCore) → c.core ≡ Core.Mutex k → OwnsFor (hold_at s t c.lock) c.others (Core.Mutex k) → slice_get s.kinds c.lock ≡ Some kind.Mutex → Fitted s next t c seen.Start (Core.Mutex k)
+  begin_mutexes : (k : MutexCore) → c.core ≡ Core.Mutex k → OwnsFor (recursive_in s.kinds c.lock) (hold_at s t c.lock) c.others (Core.Mutex k) → manner_of (slice_get s.kinds c.lock) ≡ Some AsMutex → Fitted s next t c seen.Start (Core.Mutex k)
   begin_mutexes k e owns kind_is =
       let v = first_of_all us in
       let well = begin_mutex v us k.phase (s.lot.queues (2 * c.lock)) owns.0 in
@@ -183,8 +183,8 @@ module _ (s : State) (t : ℕ) (c : Call) (may : MayBegin s t c) (h : FitsTogeth
       )
 
   begin_so : (y : Core) → c.core ≡ y → Fitted s next t c seen.Start y × (has_begun y ≡ false)
-  begin_so (Core.Rw k) e = let owns = subst (OwnsFor (hold_at s t c.lock) c.others) e may.owns in (begin_rws k e owns (subst (IsOfKind (slice_get s.kinds c.lock)) e may.kind), owns.0)
-  begin_so (Core.Mutex k) e = let owns = subst (OwnsFor (hold_at s t c.lock) c.others) e may.owns in (begin_mutexes k e owns (subst (IsOfKind (slice_get s.kinds c.lock)) e may.kind), owns.0)
+  begin_so (Core.Rw k) e = let owns = subst (OwnsFor (recursive_in s.kinds c.lock) (hold_at s t c.lock) c.others) e may.owns in (begin_rws k e owns (subst (IsOfKind (slice_get s.kinds c.lock)) e may.kind), owns.0)
+  begin_so (Core.Mutex k) e = let owns = subst (OwnsFor (recursive_in s.kinds c.lock) (hold_at s t c.lock) c.others) e may.owns in (begin_mutexes k e owns (subst (IsOfKind (slice_get s.kinds c.lock)) e may.kind), owns.0)
 
   -- TOGETHER
 
@@ -316,8 +316,8 @@ module _ (s : State) (h : FitsTogether s) (t : ℕ) (c : Call) (here : call_at s
   lock_within = go c.core refl
     where
       go : (x : Core) → c.core ≡ x → c.lock < length s.kinds
-      go (Core.Rw k) e = slice_get_within s.kinds c.lock _ (subst (IsOfKind (slice_get s.kinds c.lock)) e (h.rules.kinds t c here))
-      go (Core.Mutex k) e = slice_get_within s.kinds c.lock _ (subst (IsOfKind (slice_get s.kinds c.lock)) e (h.rules.kinds t c here))
+      go (Core.Rw k) e = within_kinds s.kinds c.lock _ (subst (IsOfKind (slice_get s.kinds c.lock)) e (h.rules.kinds t c here))
+      go (Core.Mutex k) e = within_kinds s.kinds c.lock _ (subst (IsOfKind (slice_get s.kinds c.lock)) e (h.rules.kinds t c here))
 
   hold_here : hold_at u t c.lock ≡ now
   hold_here =
@@ -377,16 +377,16 @@ module _ (s : State) (h : FitsTogether s) (t : ℕ) (c : Call) (here : call_at s
   last_moves n (RwPhase.Refuses q) o = refl
   last_moves n p o = refl
 
-  last_leads : (m : of_rw.Move) (l : Lock) (x : ℕ) (old new : Role) (o : Option ℕ) → l.word ≡ word_of x → slice_get l.roles t ≡ Some old → OwnMove m t o o → IsLastStep m l t old x new → RwLeadsBy m t l (with_role l x t new) × Crossed (move_crossing m) t o o
-  last_leads of_rw.Stays l x old new o word is moves step =
+  last_leads : (recursive : Bool) (m : of_rw.Move) (l : Lock) (x : ℕ) (old new : Role) (o : Option ℕ) → l.word ≡ word_of x → slice_get l.roles t ≡ Some old → OwnMove m t o o → IsLastStep recursive m l t old x new → RwLeadsBy recursive m t l (with_role l x t new) × Crossed (move_crossing m) t o o
+  last_leads recursive of_rw.Stays l x old new o word is moves step =
       (ap (λ w. record { word = w; roles = slice_set l.roles t new; first = l.first; second = l.second }) (sym word) ∙ ap (λ rs. record l { roles = rs }) (ap (slice_set l.roles t) step ∙ set-same l.roles t old is), refl)
-  last_leads (of_rw.Makes k) l x old new o word is moves step = (step, moves)
-  last_leads (of_rw.Joins k) l x old new o word is moves step = absurd moves
-  last_leads (of_rw.TakesOne k) l x old new o word is moves step = absurd moves
-  last_leads of_rw.TakesWriter l x old new o word is moves step = absurd moves
-  last_leads (of_rw.Tells k left) l x old new o word is moves step = absurd moves
-  last_leads of_rw.WakesOne l x old new o word is moves step = absurd moves
-  last_leads (of_rw.IsWoken k) l x old new o word is moves step = absurd moves
+  last_leads recursive (of_rw.Makes k) l x old new o word is moves step = (step, moves)
+  last_leads recursive (of_rw.Joins k) l x old new o word is moves step = absurd moves
+  last_leads recursive (of_rw.TakesOne k) l x old new o word is moves step = absurd moves
+  last_leads recursive of_rw.TakesWriter l x old new o word is moves step = absurd moves
+  last_leads recursive (of_rw.Tells k left) l x old new o word is moves step = absurd moves
+  last_leads recursive of_rw.WakesOne l x old new o word is moves step = absurd moves
+  last_leads recursive (of_rw.IsWoken k) l x old new o word is moves step = absurd moves
 
   last_tells : (v : ℕ) (us : List ℕ) (p : MutexPhase) → TellsOf (of_mutex.last_move p) us v
   last_tells v us MutexPhase.Refuses = tt
@@ -397,8 +397,8 @@ module _ (s : State) (h : FitsTogether s) (t : ℕ) (c : Call) (here : call_at s
     last_of (Core.Rw k) e asked =
         let met = meets s h t c k e here in
         let last = answers_are_last k.phase answer (subst (λ (x : Core). has_begun x ≡ true) e (h.rules.begun t c here).begun) asked in
-        let leads = last_leads (of_rw.last_move c.others k.phase) (rw_lock_at s c.lock) (word_at s c.lock) _ _ (inside s) refl met.here (last_moves c.others k.phase (inside s))
-        (ends_are_steps (rw_lock_at s c.lock) t c.others (rw_spot c.spot) (taken_by s.wakes t) k.phase (word_at s c.lock) met last) in
+        let leads = last_leads (recursive_in s.kinds c.lock) (of_rw.last_move c.others k.phase) (rw_lock_at s c.lock) (word_at s c.lock) _ _ (inside s) refl met.here (last_moves c.others k.phase (inside s))
+        (ends_are_steps (recursive_in s.kinds c.lock) (rw_lock_at s c.lock) t c.others (rw_spot c.spot) (taken_by s.wakes t) k.phase (word_at s c.lock) met last) in
         rw_goes s u t c.lock (of_rw.last_move c.others k.phase) _ there_before ends_elsewhere (subst (IsOfKind (slice_get s.kinds c.lock)) e (h.rules.kinds t c here)) leads.0
         (ended of_rws ∙ ap (λ (y : Core). with_role (rw_lock_at s c.lock) (word_at s c.lock) t (record { owns = owned_of (hold_after c.others y); does = Idle })) e) leads.1
     last_of (Core.Mutex k) e asked =

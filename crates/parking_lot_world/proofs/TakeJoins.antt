@@ -14,6 +14,7 @@ use Rattle.parking_lot_protocol.specs.declared.rw_phase.RwPhase.{RwPhase}
 use Rattle.parking_lot_protocol.specs.declared.mutex_core.MutexCore.{MutexCore}
 use Rattle.parking_lot_protocol.specs.declared.mutex_phase.MutexPhase.{MutexPhase}
 use Rattle.parking_lot_rules.specs.Steps.{Join1, Join2}
+use Rattle.parking_lot_world.specs.Kinds.{recursive_in}
 use Rattle.parking_lot_world.specs.declared.seat.QueuePosition.{QueuePosition}
 use Rattle.parking_lot_world.specs.declared.seat.Core.{Core}
 use Rattle.parking_lot_world.specs.declared.open_call.Call.{Call}
@@ -116,11 +117,11 @@ module _ (s : State) (t : ℕ) (c : Call) (k : ℕ) (token : ParkToken) (asked :
       let a = own_of (Core.Rw z) e in
       let zero : 0 ≡ k = cc in (
         rw_goes s u t c.lock (of_rw.Joins (Join1 (of_rw.mode_of want))) _ (own-there s u t c ActResult.Made _ QueuePosition.Listed a) (own-elsewhere s u t c ActResult.Made _ QueuePosition.Listed a) (subst (IsOfKind (slice_get s.kinds c.lock)) e (h.rules.kinds t c here))
-            (joins_are_steps.first (rw_lock_at s c.lock) t c.others (rw_spot c.spot) owed want (word_at s c.lock) (meets s h t c z e here))
+            (joins_are_steps.first (recursive_in s.kinds c.lock) (rw_lock_at s c.lock) t c.others (rw_spot c.spot) owed want (word_at s c.lock) (meets s h t c z e here))
             (own_after of_rws s u t c ActResult.Made (record z { phase = of_rw_table.next_phase (RwPhase.Appends want) ActResult.Made }) QueuePosition.Listed a (word_at s c.lock) refl
             ∙ same of_rws _ _ _ _ _ _ _ _ refl refl (list_here (2 * c.lock) (omega (arith, zero))) (list_there (2 * c.lock + 1) (λ f. omega (arith, zero, f))))
             (still_inside s.lot.section phase.Joined),
-        (tt, (subst (IsPrepared c.others) e (h.rules.prepared t c here)).1),
+        (tt, (subst (IsPrepared (recursive_in s.kinds c.lock) c.others) e (h.rules.prepared t c here)).1),
         tt,
         h.rules.bits c.lock,
       )
@@ -129,11 +130,11 @@ module _ (s : State) (t : ℕ) (c : Call) (k : ℕ) (token : ParkToken) (asked :
       let a = own_of (Core.Rw z) e in
       let one : 1 ≡ k = cc in (
         rw_goes s u t c.lock (of_rw.Joins (Join2 false)) _ (own-there s u t c ActResult.Made _ QueuePosition.Listed a) (own-elsewhere s u t c ActResult.Made _ QueuePosition.Listed a) (subst (IsOfKind (slice_get s.kinds c.lock)) e (h.rules.kinds t c here))
-            (joins_are_steps.second (rw_lock_at s c.lock) t c.others (rw_spot c.spot) owed rounds (word_at s c.lock) (meets s h t c z e here))
+            (joins_are_steps.second (recursive_in s.kinds c.lock) (rw_lock_at s c.lock) t c.others (rw_spot c.spot) owed rounds (word_at s c.lock) (meets s h t c z e here))
             (own_after of_rws s u t c ActResult.Made (record z { phase = of_rw_table.next_phase (RwPhase.DrainAppends rounds) ActResult.Made }) QueuePosition.Listed a (word_at s c.lock) refl
             ∙ same of_rws _ _ _ _ _ _ _ _ refl refl (list_there (2 * c.lock) (λ f. omega (arith, one, f))) (list_here (2 * c.lock + 1) (omega (arith, one))))
             (still_inside s.lot.section phase.Joined),
-        (tt, (subst (IsPrepared c.others) e (h.rules.prepared t c here)).1),
+        (tt, (subst (IsPrepared (recursive_in s.kinds c.lock) c.others) e (h.rules.prepared t c here)).1),
         tt,
         h.rules.bits c.lock,
       )
@@ -150,7 +151,7 @@ module _ (s : State) (t : ℕ) (c : Call) (k : ℕ) (token : ParkToken) (asked :
             (steps.joins (mutex_at s c.lock) (word_at s c.lock) t (first_of_all owed) (mutex_spot c.spot) MutexPhase.Appends (record { 0 = 0 }) (plays s h t c z e here) refl).leads
             (own_after of_mutexes s u t c ActResult.Made (record z { phase = of_mutex_table.next_phase MutexPhase.Appends ActResult.Made }) QueuePosition.Listed a (word_at s c.lock) refl ∙ same of_mutexes _ _ _ _ _ _ [] [] refl refl (list_here (2 * c.lock) (omega (arith, zero))) refl)
             (still_inside s.lot.section phase.Joined) tt,
-        subst (IsPrepared c.others) e (h.rules.prepared t c here),
+        subst (IsPrepared (recursive_in s.kinds c.lock) c.others) e (h.rules.prepared t c here),
         tt,
         h.rules.bits c.lock,
       )
@@ -251,17 +252,17 @@ module _ (s : State) (t : ℕ) (c : Call) (k : ℕ) (from : stance c.core ≡ In
   stays_rw : (z : RwCore) → c.core ≡ Core.Rw z → of_rw.IsTold z.phase (word_at s c.lock) finds_none → Finds (of_rw_table.act_of z.phase) (rw_lock_at s c.lock) → OwnMove (of_rw.move c.others owed_here z.phase finds_none) t (inside s) (inside found_state) → IsRwMove (of_rw.move c.others owed_here z.phase finds_none) c.lock t s found_state
   stays_rw z e heard finds moves =
       let a = find_of (Core.Rw z) e in
-      let leads_on = rw_leads (rw_lock_at s c.lock) t c.others c.spot owed_here z.phase (word_at s c.lock) finds_none (meets s h t c z e here) heard finds a.listed (inside s) (inside found_state) moves in
+      let leads_on = rw_leads (recursive_in s.kinds c.lock) (rw_lock_at s c.lock) t c.others c.spot owed_here z.phase (word_at s c.lock) finds_none (meets s h t c z e here) heard finds a.listed (inside s) (inside found_state) moves in
       rw_goes s found_state t c.lock (of_rw.move c.others owed_here z.phase finds_none) _ (own-there s found_state t c finds_none _ c.spot a) (own-elsewhere s found_state t c finds_none _ c.spot a) (subst (IsOfKind (slice_get s.kinds c.lock)) e (h.rules.kinds t c here)) leads_on.0
       (own_after of_rws s found_state t c finds_none (record z { phase = of_rw_table.next_phase z.phase finds_none }) c.spot a _ (a.word ∙ ap (λ y. word_after (core_act y) finds_none (word_at s c.lock)) e)) leads_on.1
 
   finds_rw : (q : RwPhase) (y : RwCore) → c.core ≡ Core.Rw (record y { phase = q }) → rw_stance q ≡ In k Takes → Fitted s found_state t c finds_none (Core.Rw (record y { phase = q }))
   finds_rw (RwPhase.TakeWriter rest) y e at =
       let one : 1 ≡ k = cc in
-      (stays_rw (record y { phase = RwPhase.TakeWriter rest }) e tt tt (still_inside s.lot.section phase.Ended), subst (IsPrepared c.others) e (h.rules.prepared t c here), list_empty (2 * c.lock + 1) (omega (arith, one)), h.rules.bits c.lock)
+      (stays_rw (record y { phase = RwPhase.TakeWriter rest }) e tt tt (still_inside s.lot.section phase.Ended), subst (IsPrepared (recursive_in s.kinds c.lock) c.others) e (h.rules.prepared t c here), list_empty (2 * c.lock + 1) (omega (arith, one)), h.rules.bits c.lock)
   finds_rw (RwPhase.Scans b) y e at =
       let zero : 0 ≡ k = cc in
-      let ready = subst (IsPrepared c.others) e (h.rules.prepared t c here) in (
+      let ready = subst (IsPrepared (recursive_in s.kinds c.lock) c.others) e (h.rules.prepared t c here) in (
         stays_rw (record y { phase = RwPhase.Scans b }) e tt tt (still_inside s.lot.section phase.Ended),
         (ready.0, ready.1.0),
         (subst (λ (x : Core). KnowsList x s.lot.queues c.lock) e (h.rules.knows t c here), ap (λ n. is_left (s.lot.queues n)) (omega (arith, zero)), inr none_left),
@@ -279,7 +280,7 @@ module _ (s : State) (t : ℕ) (c : Call) (k : ℕ) (from : stance c.core ≡ In
         mutex_goes s found_state t c.lock (first_of_all owed_here) owed_here _ of_mutex.Stays (own-there s found_state t c finds_none _ c.spot a) (own-elsewhere s found_state t c finds_none _ c.spot a) (subst (IsOfKind (slice_get s.kinds c.lock)) e (h.rules.kinds t c here))
             (steps.takes_nobody (mutex_at s c.lock) (word_at s c.lock) t (first_of_all owed_here) (mutex_spot c.spot) (MutexPhase.Takes giving) left_over (plays s h t c z e here) refl).leads
             (own_after of_mutexes s found_state t c finds_none (record z { phase = of_mutex_table.next_phase (MutexPhase.Takes giving) finds_none }) c.spot a (word_at s c.lock) refl) (still_inside s.lot.section phase.Ended) tt,
-        subst (IsPrepared c.others) e (h.rules.prepared t c here),
+        subst (IsPrepared (recursive_in s.kinds c.lock) c.others) e (h.rules.prepared t c here),
         (ap (λ n. is_left (s.lot.queues n)) (omega (arith, zero)), λ f. none_left),
         h.rules.bits c.lock,
       )

@@ -26,14 +26,14 @@ use Rattle.parking_lot_protocol.specs.declared.rw_phase.RwPhase.{RwPhase}
 use Rattle.parking_lot_rules.specs.Plain.{Mask2}
 use Rattle.parking_lot_rules.specs.Steps.{settle, ends_saying}
 use Rattle.parking_lot_rules.specs.Mutex as mutex
+use Rattle.parking_lot_world.specs.Kinds.{Manner, manner_of, recursive_in}
 use Rattle.parking_lot_world.specs.MutexLaws.{IsTelling}
 use Rattle.parking_lot_world.specs.RowActs.{settled_spot, settled, told_of}
-use Rattle.parking_lot_world.specs.RowFits.{FitsTogether, IsOfKind, IsPrepared, KnowsList}
+use Rattle.parking_lot_world.specs.RowFits.{FitsTogether, IsOfKind, IsPrepared, KnowsList, IsOfManner}
 use Rattle.parking_lot_world.specs.Rows.{State, word_at, call_at, hold_at, taken_by, mark_of, rw_spot, rw_lock_at, first_of_all, mutex_spot, mutex_at, queue_at}
 use Rattle.parking_lot_world.specs.RowSteps.{IsMutexMove}
 use Rattle.parking_lot_world.specs.RwLaws.{ending_of}
 use Rattle.parking_lot_world.specs.Stances.{Doing, In, Asleep, Stores, sign, mutex_stance, rw_stance, stance, taken_count, core_act, core_next, core_tells}
-use Rattle.parking_lot_world.specs.declared.calls.LockKind.{LockKind}
 use Rattle.parking_lot_world.specs.declared.open_call.Call.{Call}
 use Rattle.parking_lot_world.specs.declared.seat.Core.{Core}
 use Rattle.parking_lot_world.specs.declared.seat.QueuePosition.{QueuePosition}
@@ -90,7 +90,7 @@ module _ {C R L : Type 0} (K : Kind C R L) (s : State) (t : ℕ) (c : Call) (hea
       go (Some f) at = elim (cases_eq f.lock c.lock) [
         | inl there ↦
             let kind_is = K.of_kind (slice_get s.kinds c.lock) k (subst (IsOfKind (slice_get s.kinds c.lock)) e (h.rules.kinds t c here)) in
-            let j = K.only f.core (subst (λ (o : Option LockKind). IsOfKind o f.core) (ap (slice_get s.kinds) there ∙ kind_is) (h.rules.kinds x f at)) in
+            let j = K.only f.core (subst (λ (o : Option Manner). IsOfManner o f.core) (ap (λ j. manner_of (slice_get s.kinds j)) there ∙ kind_is) (h.rules.kinds x f at)) in
             let was = K.here c.lock (taken_by s.wakes x) (hold_at s x c.lock) f j.0 j.1 there in
             K.here c.lock (taken_by s.wakes x) (hold_at s x c.lock) (settled t (told_of token) f) j.0 j.1 there
             ∙ tells x f.others f.spot (taken_by s.wakes x) j.0 (get-all (role_at K s c.lock) (length s.calls) x low ∙ ap Some (ap (K.role_in c.lock (taken_by s.wakes x) (hold_at s x c.lock)) at ∙ was)) ∙ ap g (sym was)
@@ -141,7 +141,7 @@ module _ (s : State) (t : ℕ) (c : Call) (plain fair : WordChange) (is_fair : B
       let says : mark_of (told_of token) ≡ ends_saying (ending_of a is_fair) = ap (λ (x : Core). mark_of (told_of (core_tells (core_next x heard)))) e ∙ tokens_say a left is_fair in
       let well = rw_hears s h t c z e here heard tt s.lot.queues tt in (
         rw_goes s next t c.lock (of_rw.move c.others taken (RwPhase.Stores a left) heard) _ there (told_elsewhere s t c heard token word h here) kind_is
-            (of_rw.scan_of c.others a taken, stores_are_steps (rw_lock_at s c.lock) t c.others (rw_spot c.spot) taken a left (word_at s c.lock) is_fair met (left_threads (s.lot.queues (2 * c.lock)) ∙ knows.1) knows.2)
+            (of_rw.scan_of c.others a taken, stores_are_steps (recursive_in s.kinds c.lock) (rw_lock_at s c.lock) t c.others (rw_spot c.spot) taken a left (word_at s c.lock) is_fair met (left_threads (s.lot.queues (2 * c.lock)) ∙ knows.1) knows.2)
             (told_after of_rws s t c heard token word h here z (record z { phase = of_rw_table.next_phase (RwPhase.Stores a left) heard }) e (ap (λ (x : Core). core_next x heard) e) (λ at park w. in_asleep w) (settle (ends_saying (ending_of a is_fair))) (λ o. refl)
             (λ x n at vs p there_is. subst (λ v. of_rw.role n (rw_spot (settled_spot t (told_of token) at)) vs p.phase ≡ settle v (of_rw.role n (rw_spot at) vs p.phase)) says
             (stores_tell.here (rw_lock_at s c.lock) t x n at vs p.phase (of_rw.scan_of c.others a taken) (told_of token) met.sound met.here there_is))
@@ -171,7 +171,7 @@ module _ (s : State) (t : ℕ) (c : Call) (plain fair : WordChange) (is_fair : B
             (word_after (of_mutex_table.act_of (MutexPhase.Stores giving has left)) heard (word_at s c.lock)) written)
             (inside_stored token s.lot.section)
             (roles.taken (MutexPhase.Stores giving has left) taken telling.taken (h.lots.counted t c here ∙ ap taken_count e) telling.count)),
-        subst (IsPrepared c.others) e (h.rules.prepared t c here),
+        subst (IsPrepared (recursive_in s.kinds c.lock) c.others) e (h.rules.prepared t c here),
         tt,
         λ x. subst (λ n. n < 4) (sym (word-here s.words c.lock word (has_word s h t c here) ∙ written)) telling.small,
       )
@@ -203,7 +203,7 @@ module _ (s : State) (t : ℕ) (c : Call) (keep : ℕ) (asked : core_act c.core 
       let met = meets s h t c z e here in
       let well = rw_hears s h t c z e here before refl s.lot.queues tt in (
         rw_goes s mask_then t c.lock (of_rw.move c.others us q before) _ (subst (IsThere c.lock) (sym here) refl) (told_elsewhere s t c before (sign false) (bit_and (word_at s c.lock) keep) h here) kind_is
-            (makes_are_steps l t c.others (rw_spot c.spot) us q (word_at s c.lock) before (Mask2 c.others us) met refl refl (ap threads_of (subst (λ (x : Core). KnowsList x s.lot.queues c.lock) e (h.rules.knows t c here))))
+            (makes_are_steps (recursive_in s.kinds c.lock) l t c.others (rw_spot c.spot) us q (word_at s c.lock) before (Mask2 c.others us) met refl refl (ap threads_of (subst (λ (x : Core). KnowsList x s.lot.queues c.lock) e (h.rules.knows t c here))))
             (told_after of_rws s t c before (sign false) (bit_and (word_at s c.lock) keep) h here z (record z { phase = of_rw_table.next_phase q before }) e (ap (λ (x : Core). core_next x before) e) (λ at park w. in_asleep w) (λ x. x) (λ o. refl)
             (λ x n at vs p there_is. stores_tell.elsewhere l t x n at vs p.phase (of_rw.role c.others (rw_spot c.spot) us q) (told_of (sign false)) met.sound met.here refl there_is)
             (word_after (of_rw_table.act_of q) before (word_at s c.lock)) (ap (λ (x : Act). word_after x before (word_at s c.lock)) (sym asks))

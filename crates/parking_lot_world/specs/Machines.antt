@@ -12,11 +12,11 @@ use Rattle.parking_lot_protocol.specs.declared.act.ActResult.{ActResult}
 use Rattle.parking_lot_protocol.specs.declared.act.ActResult.TheVariants as seen
 use Rattle.parking_lot_world.specs.declared.calls.LockCall.{LockCall}
 use Rattle.parking_lot_world.specs.declared.calls.LockKind.{LockKind}
-use Rattle.parking_lot_world.specs.declared.calls.LockKind.TheVariants as kind
 use Rattle.parking_lot_world.specs.declared.open_call.Call.{Call}
 use Rattle.parking_lot_world.specs.declared.seat.Hold.TheVariants as hold
 use Rattle.parking_lot_world.specs.declared.seat.QueuePosition.TheVariants as spot
-use Rattle.parking_lot_world.specs.Calls.{kind_of}
+use Rattle.parking_lot_world.specs.Calls.{takes}
+use Rattle.parking_lot_world.specs.Kinds.{kind_in}
 use Rattle.parking_lot_world.specs.Beginnings.{core_of, holds_beside, is_allowed}
 use Rattle.parking_lot_world.specs.Rows.{State, call_at, hold_at, open_at}
 use Rattle.parking_lot_core_lot.specs.declared.parking.ParkToken.{ParkToken}
@@ -54,20 +54,14 @@ sleeps other = false
 abbrev pub is_asleep : State → ℕ → Bool
 is_asleep s t = option_map_or (λ c. sleeps (core_act c.core)) (call_at s t) false
 
-abbrev pub is_of_kind : Option LockKind → LockKind → Bool
-is_of_kind None k = false
-is_of_kind (Some kind.Mutex) kind.Mutex = true
-is_of_kind (Some kind.Rw) kind.Rw = true
-is_of_kind (Some other) k = false
-
--- whether a thread may begin a call: it is in none, the lock is of its kind, and what it owns there allows it
+-- whether a thread may begin a call: it is in none, the lock is of a kind that takes it, and what it owns there allows it
 abbrev pub may_begin : State → ℕ → ℕ → LockCall → Bool
 may_begin s t lock call =
-    nat_lt t (length s.calls) && (is_none (call_at s t) && (is_of_kind (slice_get s.kinds lock) (kind_of call) && is_allowed (hold_at s t lock) call))
+    nat_lt t (length s.calls) && (is_none (call_at s t) && (takes (slice_get s.kinds lock) call && is_allowed (kind_in s.kinds lock) (hold_at s t lock) call))
 
 -- the call before it begins
 abbrev pub call_for : State → ℕ → ℕ → LockCall → Call
-call_for s t lock call = record { lock = lock; others = holds_beside (hold_at s t lock); core = core_of call; spot = spot.Listed }
+call_for s t lock call = record { lock = lock; others = holds_beside call (hold_at s t lock); core = core_of (kind_in s.kinds lock) call; spot = spot.Listed }
 
 -- a machine where nobody has done anything
 abbrev pub at_rest : ℕ → List LockKind → State

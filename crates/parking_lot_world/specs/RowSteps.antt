@@ -8,6 +8,7 @@ use Rattle.parking_lot_rules.specs.Family.{StepOf}
 use Rattle.parking_lot_protocol.specs.declared.act.ActResult.{ActResult}
 use Rattle.parking_lot_protocol.specs.MutexRules as of_mutex
 use Rattle.parking_lot_protocol.specs.RwRules as of_rw
+use Rattle.parking_lot_world.specs.Kinds.{recursive_in}
 use Rattle.parking_lot_world.specs.declared.seat.Core.{Core}
 use Rattle.parking_lot_world.specs.declared.seat.Core.TheVariants as core
 use Rattle.parking_lot_world.specs.declared.open_call.Call.{Call}
@@ -20,7 +21,7 @@ pub record IsQuiet (s u : State) : Type 0 where
 
 -- thread t makes a step of the rules at lock j, and nothing changes at the others
 abbrev pub IsMade : ℕ → ℕ → AnyStep → State → State → Type 0
-IsMade j t step s u = StepOf (any_rules (λ i. false)) one_bucket j t step (family s) (family u)
+IsMade j t step s u = StepOf (any_rules (recursive_in s.kinds)) one_bucket j t step (family s) (family u)
 
 -- and which step it is, by the move that the core's table names
 abbrev pub IsRwMove : of_rw.Move → ℕ → ℕ → State → State → Type 0

@@ -13,7 +13,6 @@ use Rattle.parking_lot_rules.specs.Family.{Family}
 use Rattle.parking_lot_protocol.specs.MutexRules as of_mutex
 use Rattle.parking_lot_protocol.specs.RwRules as of_rw
 use Rattle.parking_lot_world.specs.declared.calls.LockKind.{LockKind}
-use Rattle.parking_lot_world.specs.declared.calls.LockKind.TheVariants as kind
 use Rattle.parking_lot_world.specs.declared.seat.Hold.{Hold}
 use Rattle.parking_lot_world.specs.declared.seat.Hold.TheVariants as hold
 use Rattle.parking_lot_world.specs.declared.seat.WakeResult.{WakeResult}
@@ -23,6 +22,7 @@ use Rattle.parking_lot_world.specs.declared.seat.QueuePosition.TheVariants as sp
 use Rattle.parking_lot_world.specs.declared.seat.Core.{Core}
 use Rattle.parking_lot_world.specs.declared.seat.Core.TheVariants as core
 use Rattle.parking_lot_world.specs.declared.open_call.Call.{Call}
+use Rattle.parking_lot_world.specs.Kinds.{Manner, AsMutex, AsRw, manner_of}
 use Rattle.parking_lot_world.specs.declared.seat.Wakeup.{Wakeup}
 
 pub record State : Type 0 where
@@ -149,10 +149,13 @@ abbrev pub mutex_at : State → ℕ → mutex.Mutex
 mutex_at s i = record { word = mutex_word_of (word_at s i); roles = everybody (mutex_role_at s i) s; queue = queue_at s (first_key i) }
 
 -- beyond the last number there are locks too, where nobody is
+abbrev pub lock_as : Option Manner → State → ℕ → AnyLock
+lock_as (Some AsMutex) s i = Mx (mutex_at s i)
+lock_as (Some AsRw) s i = Rw (rw_lock_at s i)
+lock_as None s i = Rw (rw_lock_at s i)
+
 abbrev pub any_lock : Option LockKind → State → ℕ → AnyLock
-any_lock (Some kind.Mutex) s i = Mx (mutex_at s i)
-any_lock (Some kind.Rw) s i = Rw (rw_lock_at s i)
-any_lock None s i = Rw (rw_lock_at s i)
+any_lock k s i = lock_as (manner_of k) s i
 
 abbrev pub lock_at : State → ℕ → AnyLock
 lock_at s i = any_lock (slice_get s.kinds i) s i

@@ -76,7 +76,9 @@ shared_mode (suc n) = Some mode.Shared
 abbrev pub hold_mode : Option LockKind → Hold → Option OwnMode
 hold_mode k hold.Excludes = Some mode.Exclusive
 hold_mode (Some kind.Mutex) (hold.Shares n) = None
+hold_mode (Some kind.FairMutex) (hold.Shares n) = None
 hold_mode (Some kind.Rw) (hold.Shares n) = shared_mode n
+hold_mode (Some kind.RwRecursive) (hold.Shares n) = shared_mode n
 hold_mode None (hold.Shares n) = shared_mode n
 
 abbrev pub entry : ℕ → Option OwnMode → List (ℕ × OwnMode)

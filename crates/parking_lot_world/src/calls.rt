@@ -1,6 +1,8 @@
 //! What threads ask of the locks of a world.
 ghost use Rattle.std.specs.Prelude.{◌≡◌};
-ghost use Rattle.parking_lot_world.specs.Calls.{answer_of, given_up, kind_of};
+ghost use Rattle.std.specs.Prelude.{Some};
+ghost use Rattle.parking_lot_world.specs.Calls.{answer_of, given_up, manner_for, takes};
+ghost use Rattle.parking_lot_world.specs.Kinds.{is_manner, AsMutex};
 
 use parking_lot_protocol::CoreAnswer;
 
@@ -9,8 +11,12 @@ use parking_lot_protocol::CoreAnswer;
 pub enum LockKind {
     /// One owner at a time.
     Mutex,
+    /// One owner at a time, which hands the lock over to whoever waits longest.
+    FairMutex,
     /// One writer, or readers.
     Rw,
+    /// One writer, or readers, who may read again, also past a writer that waits.
+    RwRecursive,
 }
 
 /// What a thread asks of a lock.
@@ -62,16 +68,28 @@ pub enum LockAnswer {
     Released,
 }
 
-impl LockCall {
-    /// Which locks it can be asked of.
-    pub(crate) fn kind(&self) -> LockKind
-        ensures { result ≡ kind_of self.now }
+impl LockKind {
+    /// Whether a lock of this kind can be asked so.
+    pub fn takes(&self, call: LockCall) -> bool
+        ensures { result ≡ takes (Some self.now) call }
     {
         match self {
-            LockCall::Lock | LockCall::TryLock | LockCall::Unlock => LockKind::Mutex,
-            LockCall::Read | LockCall::TryRead | LockCall::UnlockRead => LockKind::Rw,
-            LockCall::Write | LockCall::TryWrite | LockCall::UnlockWrite => LockKind::Rw,
-            LockCall::Downgrade => LockKind::Rw,
+            LockKind::Mutex | LockKind::FairMutex => call.is_of_mutexes(),
+            LockKind::Rw | LockKind::RwRecursive => !call.is_of_mutexes(),
+        }
+    }
+}
+
+impl LockCall {
+    /// Whether it is for mutexes, and not for reader-writer locks.
+    fn is_of_mutexes(&self) -> bool
+        ensures { result ≡ is_manner (Some AsMutex) (manner_for self.now) }
+    {
+        match self {
+            LockCall::Lock | LockCall::TryLock | LockCall::Unlock => true,
+            LockCall::Read | LockCall::TryRead | LockCall::UnlockRead => false,
+            LockCall::Write | LockCall::TryWrite | LockCall::UnlockWrite => false,
+            LockCall::Downgrade => false,
         }
     }
 

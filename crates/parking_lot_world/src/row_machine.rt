@@ -2,6 +2,8 @@
 ghost use Rattle.std.specs.Prelude.{◌≡◌, ◌<◌, ◌↔◌, ◌⊎◌, ◌^◌, length, slice_get, Some, None, true, if◌then◌else◌, IsErrOf, IfOk, IfErr, IsTrue};
 ghost use Rattle.parking_lot_core_lot.specs.declared.fault.SizeFault.TheVariants.{BadSize, NoMemory};
 ghost use Rattle.parking_lot_protocol.specs.declared.act.Act.TheVariants as act;
+ghost use Rattle.parking_lot_world.specs.Calls.{takes};
+ghost use Rattle.parking_lot_world.specs.Kinds.{kind_in};
 ghost use Rattle.parking_lot_world.specs.Stances.{core_act};
 ghost use Rattle.parking_lot_world.specs.Rows.{call_at, hold_at, state, word_at};
 ghost use Rattle.parking_lot_world.specs.Machines.{at_rest, can_move, may_begin, IsBegun, IsStepped};
@@ -114,15 +116,32 @@ impl<A: Allocator> RowMachine<A> {
         }
     }
 
-    /// Whether a thread may begin that call at a lock: it is in no call, the lock is of the call's kind, and it gives up what it owns there, or
-    /// asks for a lock of which it owns nothing.
+    /// The kind of a lock; beyond the last that of readers and writers.
+    fn kind_or_rw(&self, lock: usize) -> LockKind
+        ensures { result ≡ kind_in (state self.now).kinds lock }
+    {
+        self.kind(lock).unwrap_or(LockKind::Rw)
+    }
+
+    /// Whether a lock can be asked so; of those beyond the last none can.
+    fn takes(&self, lock: usize, call: LockCall) -> bool
+        ensures { result ≡ takes (slice_get (state self.now).kinds lock) call }
+    {
+        match self.kind(lock) {
+            Some(kind) => kind.takes(call),
+            None => false,
+        }
+    }
+
+    /// Whether a thread may begin that call at a lock: it is in no call, the lock is of a kind that takes it, and it gives up what it owns there, or
+    /// asks for a lock of which it owns nothing, or reads once more under a recursive lock that it reads fewer than 255 times.
     pub fn may_begin(&self, thread: usize, lock: usize, call: LockCall) -> bool
         ensures { result ≡ may_begin (state self.now) thread lock call }
     {
         thread < self.threads()
             && self.call(thread).is_none()
-            && self.kind(lock) == Some(call.kind())
-            && self.hold(thread, lock).allows(call)
+            && self.takes(lock, call)
+            && self.hold(thread, lock).allows(self.kind_or_rw(lock), call)
     }
 
     /// A thread begins a call at a lock. It is the call's first step, and adds to the steps that are left a number that depends on the call and
@@ -132,13 +151,13 @@ impl<A: Allocator> RowMachine<A> {
         ensures { IsBegun thread lock call (state self.old) (state self.new) }
     {
         let _ = &self.wakes;
-        let others = self.hold(thread, lock).beside();
+        let others = self.hold(thread, lock).beside(call);
         self.begin_call(
             thread,
             Call {
                 lock,
                 others,
-                core: call.core(),
+                core: call.core(self.kind_or_rw(lock)),
                 spot: QueuePosition::Listed,
             },
         );

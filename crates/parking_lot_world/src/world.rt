@@ -136,7 +136,7 @@ impl<A: Allocator> World<A> {
     /// aren't tried. `NoSuchThread` where the world doesn't have the thread; else `CannotMove` where the step isn't allowed now:
     ///
     /// - `Begin` where the thread is in a call, the world has no such lock or it is of another kind, or the call gives up what the thread
-    ///   doesn't own or asks for a lock that it owns;
+    ///   doesn't own or asks for a lock that it owns, but for a reader of a recursive lock that reads again and has fewer than 255 holds;
     /// - `Go` where the thread is in no call, sleeps, or is before a section that another has entered.
     pub fn run(&mut self, steps: &[WorldStep]) -> Result<(), WorldFault>
         ensures ran { Ran self.old (take (steps_done result (length steps.now)) steps.now) self.new }

@@ -207,6 +207,84 @@ fn a_mutex_is_let_go(rt: HostRuntime) -> Result<(), Fail> {
     follow(&rt, 3, LockKind::Mutex, &TWO_SLEEP, &script)
 }
 
+#[test]
+fn a_fair_mutex_is_handed_over_whatever_the_schedule_says(rt: HostRuntime) -> Result<(), Fail> {
+    let script = [
+        Line::Calls(0, LockCall::Unlock),
+        Line::Answered(0, RELEASED),
+        Line::Word(3),
+        Line::Owners(&[(1, OwnMode::Exclusive)]),
+        Line::Queues(&[2], &[]),
+        Line::Debts(&[]),
+        Line::Calls(0, LockCall::TryLock),
+        Line::Answered(0, REFUSED),
+        Line::GoesOn(1),
+        Line::Answered(1, OWNED),
+    ];
+    follow(&rt, 3, LockKind::FairMutex, &TWO_SLEEP, &script)
+}
+
+#[test]
+fn readers_of_a_recursive_lock_pass_a_pending_writer(rt: HostRuntime) -> Result<(), Fail> {
+    let script = [
+        Line::Calls(0, LockCall::Read),
+        Line::Calls(1, LockCall::Write),
+        Line::Word(26),
+        Line::Calls(0, LockCall::Read),
+        Line::Answered(0, OWNED),
+        Line::Calls(2, LockCall::TryRead),
+        Line::Answered(2, OWNED),
+        Line::Word(58),
+        Line::Owners(&[
+            (0, OwnMode::Shared),
+            (1, OwnMode::Pending),
+            (2, OwnMode::Shared),
+        ]),
+        Line::Queues(&[], &[1]),
+        Line::Calls(0, LockCall::UnlockRead),
+        Line::Calls(2, LockCall::UnlockRead),
+        Line::Word(26),
+        Line::Owners(&[(0, OwnMode::Shared), (1, OwnMode::Pending)]),
+        Line::Calls(0, LockCall::UnlockRead),
+        Line::Answered(0, RELEASED),
+        Line::Word(8),
+        Line::GoesOn(1),
+        Line::Answered(1, OWNED),
+        Line::Owners(&[(1, OwnMode::Exclusive)]),
+        Line::Calls(0, LockCall::TryRead),
+        Line::Answered(0, REFUSED),
+    ];
+    follow(&rt, 3, LockKind::RwRecursive, &[], &script)
+}
+
+#[test]
+fn a_reader_has_at_most_255_holds(rt: HostRuntime) -> Result<(), Fail> {
+    let kinds = vec![in rt.alloc(); LockKind::RwRecursive]?;
+    let mut world = World::new(rt.alloc(), 1, kinds)?;
+    let mut is_served = true;
+    for _ in 0..255 {
+        is_served = is_served && call(&mut world, 0, LockCall::Read, false);
+    }
+    let cannot = Err(WorldFault {
+        done: 0,
+        fault: WorldRefusal::CannotMove,
+    });
+    let reads = world.run(&[WorldStep::Begin(0, 0, LockCall::Read)]) == cannot;
+    let tries = world.run(&[WorldStep::Begin(0, 0, LockCall::TryRead)]) == cannot;
+    let writes = world.run(&[WorldStep::Begin(0, 0, LockCall::TryWrite)]) == cannot;
+    assert!(rt; is_served & reads & tries & writes, "the 256th is refused");
+    assert!(rt; world.word(0) == 16 * 255, "the word counts them");
+    assert!(rt;
+        are_owners(&world, 0, &[(0, OwnMode::Shared)]),
+        "it is listed once"
+    );
+    for _ in 0..255 {
+        is_served = is_served && call(&mut world, 0, LockCall::UnlockRead, false);
+    }
+    assert!(rt; is_served & (world.word(0) == 0), "each is given up");
+    Ok(())
+}
+
 /// The step is refused behind two that are done.
 fn is_refused(
     rt: &impl Abort,

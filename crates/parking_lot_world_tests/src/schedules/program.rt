@@ -39,10 +39,38 @@ pub fn mode_behind(call: LockCall) -> Option<OwnMode> {
     }
 }
 
-/// Whether a thread may own the lock so within that call. Only a writer that may sleep is ever pending.
-pub fn may_own(call: LockCall, mode: Option<OwnMode>) -> bool {
-    mode == mode_before(call)
-        || mode == mode_behind(call)
+/// How many shared holds a thread has once that call is answered, and isn't refused, of so many before.
+pub fn shares_behind(call: LockCall, shares: u8) -> u8 {
+    match call {
+        LockCall::Read | LockCall::TryRead => shares.saturating_add(1),
+        LockCall::UnlockRead => shares.saturating_sub(1),
+        LockCall::Downgrade => 1,
+        _ => 0,
+    }
+}
+
+/// How a thread owns the lock then.
+pub fn owned_behind(call: LockCall, shares: u8) -> Option<OwnMode> {
+    if shares_behind(call, shares) > 0 {
+        Some(OwnMode::Shared)
+    } else {
+        mode_behind(call)
+    }
+}
+
+/// How a thread with so many shared holds owns the lock as it begins that call.
+fn owned_before(call: LockCall, shares: u8) -> Option<OwnMode> {
+    if shares > 0 {
+        Some(OwnMode::Shared)
+    } else {
+        mode_before(call)
+    }
+}
+
+/// Whether a thread that had so many shared holds may own the lock so within that call. Only a writer that may sleep is ever pending.
+pub fn may_own(call: LockCall, shares: u8, mode: Option<OwnMode>) -> bool {
+    mode == owned_before(call, shares)
+        || mode == owned_behind(call, shares)
         || call == LockCall::Write && mode == Some(OwnMode::Pending)
 }
 
@@ -72,10 +100,13 @@ fn excludes(program: Program) -> bool {
 
 /// Whether the program still owns the lock at its end.
 fn keeps(program: Program) -> bool {
-    match program.iter().flatten().last() {
-        Some(call) => mode_behind(*call).is_some(),
-        None => false,
+    let mut shares = 0u8;
+    let mut owned = None;
+    for call in program.iter().flatten() {
+        owned = owned_behind(*call, shares);
+        shares = shares_behind(*call, shares);
     }
+    owned.is_some()
 }
 
 /// Whether the program gives up the exclusive hold, and may hand it over.

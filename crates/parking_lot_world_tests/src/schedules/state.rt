@@ -1,6 +1,6 @@
 //! What states of a world are told apart by.
 
-use super::program::{End, Program, may_answer, mode_behind};
+use super::program::{End, Program, may_answer, owned_behind, shares_behind};
 use super::shown::Shown;
 use parking_lot_core_lot::{Place, ThreadStatus};
 use parking_lot_protocol::{MutexPhase, RwPhase};
@@ -12,6 +12,8 @@ use parking_lot_world::{
 #[derive(Clone, Copy, PartialEq, Eq)]
 pub struct Open {
     pub call: LockCall,
+    /// How many shared holds its thread had as it began.
+    pub shares: u8,
     /// Whether the other has owned the lock.
     pub met: bool,
     /// Whether its thread has stood in the first list, and in the second.
@@ -20,9 +22,10 @@ pub struct Open {
 }
 
 impl Open {
-    fn of(call: LockCall) -> Open {
+    fn of(call: LockCall, shares: u8) -> Open {
         Open {
             call,
+            shares,
             met: false,
             first: false,
             second: false,
@@ -33,6 +36,7 @@ impl Open {
     fn seen(&self, thread: usize, shown: &Shown) -> Open {
         Open {
             call: self.call,
+            shares: self.shares,
             met: self.met || shown.mode(other(thread)).is_some(),
             first: self.first || shown.waits_first(thread),
             second: self.second || shown.waits_second(thread),
@@ -58,6 +62,8 @@ pub enum Stage {
 #[derive(Clone, Copy, PartialEq, Eq)]
 pub struct Progress {
     pub stage: Stage,
+    /// How many shared holds it has by its calls so far.
+    shares: u8,
     /// The calls that it hasn't begun.
     pub rest: Program,
     /// Whether its try was refused.
@@ -69,6 +75,7 @@ impl Progress {
     pub fn of(program: Program) -> Progress {
         Progress {
             stage: Stage::Between(None),
+            shares: 0,
             rest: program,
             refused: false,
         }
@@ -97,7 +104,8 @@ impl Progress {
         let [next, second, third] = self.rest;
         match next {
             Some(call) => Progress {
-                stage: Stage::Within(Open::of(call)),
+                stage: Stage::Within(Open::of(call, self.shares)),
+                shares: self.shares,
                 rest: [second, third, None],
                 refused: false,
             },
@@ -110,12 +118,14 @@ impl Progress {
         if answer == LockAnswer::Refused {
             Progress {
                 stage: Stage::Between(None),
+                shares: 0,
                 rest: [None; 3],
                 refused: true,
             }
         } else {
             Progress {
-                stage: Stage::Between(mode_behind(call)),
+                stage: Stage::Between(owned_behind(call, self.shares)),
+                shares: shares_behind(call, self.shares),
                 ..*self
             }
         }
@@ -148,6 +158,18 @@ impl Progress {
             (Stage::Between(_), Some(_)) => false,
             (Stage::Within(open), Some(LockAnswer::Refused)) if !open.met => false,
             (Stage::Within(open), Some(answer)) => may_answer(open.call, answer),
+        }
+    }
+
+    /// How many shared holds it has at least and at most.
+    pub fn holds(&self) -> (u64, u64) {
+        let before = u64::from(self.shares);
+        match self.stage {
+            Stage::Between(_) => (before, before),
+            Stage::Within(open) => {
+                let behind = u64::from(shares_behind(open.call, self.shares));
+                (before.min(behind), before.max(behind))
+            }
         }
     }
 
@@ -250,6 +272,16 @@ impl Snapshot {
             seats: [Seat::of(world, 0), Seat::of(world, 1)],
             wakes: wakes_of(world),
         }
+    }
+
+    /// Whether a thread that gives the lock up has to hand it over: it has taken one that waits.
+    pub fn must_hand(&self, thread: usize) -> bool {
+        self.shown.is_fair()
+            && self
+                .wakes
+                .iter()
+                .flatten()
+                .any(|wakeup| wakeup.by == thread)
     }
 
     /// How far one of the two threads is.
