@@ -72,6 +72,13 @@ impl<A: Allocator> OnceMachine<A> {
         self.calls.get(thread).copied().flatten()
     }
 
+    /// Who is in the section that is open.
+    pub fn inside(&self) -> Option<usize>
+        ensures { result ≡ self.now.inside }
+    {
+        self.inside
+    }
+
     /// Whether a thread can make a step: it is in a call, doesn't sleep, and isn't before a section while one is open.
     pub fn can_move(&self, thread: usize) -> bool
         ensures { result ≡ can_move self.now thread }

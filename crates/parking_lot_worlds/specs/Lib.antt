@@ -1,0 +1,2 @@
+pub mod WorldCalls
+pub mod Worlds
