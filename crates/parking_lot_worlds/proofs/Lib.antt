@@ -1,2 +1,0 @@
-pub mod Scheduling
-pub mod Staying

@@ -1,2 +1,0 @@
-pub mod WorldCalls
-pub mod Worlds
