@@ -1,7 +1,6 @@
 -- What the steps of a lock reach: one word or one queue, of one shard.
-use Rattle.std.proofs.Common.{◌≡◌, ◌≢◌, ℕ, zero, suc, ◌*◌, ◌+◌, inl, inr, Bool, true, false, cond, List, [], ◌∷◌, length, nat_lt, Option, Some, None, slice_get, slice_set, refl, sym, ap, ◌∙◌, subst, arith}
-use Rattle.std.specs.List.{All}
-use Rattle.std.specs.Option.{option_and_then, option_map_or}
+use Rattle.std.proofs.Common.{◌≡◌, ◌≢◌, ℕ, zero, suc, inl, inr, Bool, true, false, List, [], ◌∷◌, length, Option, Some, None, slice_get, slice_set, refl, sym, ap, ◌∙◌, subst, arith}
+use Rattle.std.specs.Option.{option_and_then, option_map}
 use Rattle.std.proofs.lemmas.Bool.{cases_eq}
 use Rattle.std.proofs.lemmas.Option.{none-some, same_Some}
 use Rattle.lock_api_desk.specs.Desk.{DeskState}
@@ -10,20 +9,18 @@ use Rattle.parking_lot_protocol.specs.declared.act.ActResult.TheVariants.{Start}
 use Rattle.parking_lot_protocol.specs.declared.act.CoreAnswer.{CoreAnswer}
 use Rattle.parking_lot_world.specs.declared.calls.LockCall.{LockCall}
 use Rattle.parking_lot_world.specs.declared.open_call.Call.{Call}
-use Rattle.parking_lot_world.specs.declared.seat.Hold.{Hold}
-use Rattle.parking_lot_world.specs.declared.seat.Hold.TheVariants as hold
-use Rattle.parking_lot_world.specs.Beginnings.{holds_beside}
 use Rattle.parking_lot_world.specs.Machines.{Became, call_for, end_of}
 use Rattle.parking_lot_world.specs.RowActs.{answered, begun, hears}
-use Rattle.parking_lot_world.specs.Rows.{State, first_key, hold_at, queue_at, second_key, state, word_at}
+use Rattle.parking_lot_world.specs.Rows.{State, call_at, first_key, queue_at, second_key, state, word_at}
 use Rattle.parking_lot_world.specs.Stances.{core_act}
-use Rattle.mapworld_locks.specs.Fits.{IsPlain, LocksFit, is_single}
+use Rattle.mapworld_locks.specs.Fits.{IsPlain, LocksFit}
 use Rattle.mapworld_locks.specs.Footprints.{StepsTouchOneLock, TouchesOnly}
 use Rattle.mapworld_locks.specs.Seats.{seat_of}
+use Rattle.mapworld_locks.specs.Stands.{Stand, stand_of}
 use Rattle.mapworld_locks.specs.Steps.{LockBegins, LockEnds, LockMoves, LockStarts}
 use Rattle.mapworld_locks.specs.Views.{Shown}
 use Rattle.mapworld_locks.proofs.Answering.{stepped_fits}
-use Rattle.mapworld_locks.proofs.Beginning.{same_holds}
+use Rattle.mapworld_locks.proofs.Beginning.{begun_alone, same_holds}
 use Rattle.mapworld_locks.proofs.Keeping.{stepped_plain}
 use Rattle.mapworld_calls.proofs.Lists.{slice_get-set_other}
 use Rattle.mapworld_state.specs.Footprint.{ChangesLock, KeepsLock, KeepsLocks, first_queue, second_queue, the_word}
@@ -31,23 +28,6 @@ use Rattle.mapworld.proofs.Filling.{length-slice_set}
 use Rattle.mapworld_progress.proofs.Sleepers.{all_at}
 
 -- A CALL BEGINS: nothing is changed but who is in a call, and the locks fit together still
-
-single_at : (s : State) → All (λ h. is_single h ≡ true) s.holds → (t i : ℕ) → is_single (hold_at s t i) ≡ true
-single_at s single t i = by (nat_lt i (length s.kinds))
-  where
-    at : (o : Option Hold) → slice_get s.holds (t * length s.kinds + i) ≡ o → is_single (option_map_or (λ h. h) o (hold.Shares 0)) ≡ true
-    at None e = refl
-    at (Some h) e = all_at (λ h. is_single h ≡ true) s.holds (t * length s.kinds + i) h single e
-
-    by : (b : Bool) → is_single (cond b (option_map_or (λ h. h) (slice_get s.holds (t * length s.kinds + i)) (hold.Shares 0)) (hold.Shares 0)) ≡ true
-    by true = at (slice_get s.holds (t * length s.kinds + i)) refl
-    by false = refl
-
-none_beside : (h : Hold) → is_single h ≡ true → holds_beside h ≡ 0
-none_beside (hold.Shares zero) is = refl
-none_beside (hold.Shares (suc zero)) is = refl
-none_beside (hold.Shares (suc (suc n))) is = cc
-none_beside hold.Excludes is = refl
 
 set_at : {X : Type 0} (xs : List X) (i : ℕ) (y z : X) → slice_get (slice_set xs i y) i ≡ Some z → z ≡ y
 set_at [] i y z at = absurd (none-some z at)
@@ -71,6 +51,11 @@ begun_plain s t c plain none = record {
   ];
 }
 
+-- the call that stands so
+called : (o : Option Call) (st : Stand) → option_map stand_of o ≡ Some st → (d : Call) × (o ≡ Some d)
+called None st e = absurd (none-some st e)
+called (Some d) st e = (d, refl)
+
 module _ (t shard : ℕ) (call : LockCall) (old mid : Shown) (b : LockBegins t shard call old mid) where
   abbrev s : State
   s = state old.rows
@@ -81,7 +66,7 @@ module _ (t shard : ℕ) (call : LockCall) (old mid : Shown) (b : LockBegins t s
       let calls = ap (λ (u : State). length u.calls) b.became.became ∙ length-slice_set s.calls t _ in
       record {
         fits = b.became.acts.fits;
-        plain = subst IsPlain (sym b.became.became) (begun_plain s t (call_for s t shard call) fit.plain (none_beside (hold_at s t shard) (single_at s fit.plain.single t shard)));
+        plain = subst IsPlain (sym b.became.became) (begun_plain s t (call_for s t shard call) fit.plain (begun_alone s (state mid.rows) t shard call fit.plain.kinds fit.plain.single (called (call_at (state mid.rows) t) _ b.stand).0 (called (call_at (state mid.rows) t) _ b.stand).1 b.became));
         count = ap length b.desks ∙ (fit.count ∙ sym kinds);
         desks_fit = λ i desk at.
             let d = fit.desks_fit i desk (ap (λ (ds : List (DeskState _)). slice_get ds i) (sym b.desks) ∙ at) in
@@ -112,7 +97,7 @@ is_answered (Act.FetchAnd keep) answer t fair c s u ends became = absurd (none-s
 is_answered Act.Spin answer t fair c s u ends became = absurd (none-some answer (sym ends))
 is_answered (Act.Enter key) answer t fair c s u ends became = absurd (none-some answer (sym ends))
 is_answered (Act.Section next) answer t fair c s u ends became = absurd (none-some answer (sym ends))
-is_answered Act.Sleep answer t fair c s u ends became = absurd became
+is_answered Act.Sleep answer t fair c s u ends became = absurd (none-some answer (sym ends))
 
 pub ends_keep : (t : ℕ) (answer : CoreAnswer) (old new : Shown) → LockEnds t answer old new → KeepsLocks old new
 ends_keep t answer old new e i =

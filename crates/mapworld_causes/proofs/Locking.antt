@@ -7,7 +7,9 @@ use Rattle.parking_lot_protocol.specs.declared.act.ActResult.{ActResult}
 use Rattle.parking_lot_protocol.specs.declared.act.CoreAnswer.{CoreAnswer}
 use Rattle.parking_lot_protocol.specs.declared.rw_phase.LockMode.{LockMode}
 use Rattle.parking_lot_protocol.specs.declared.rw_phase.RwPhase.{RwPhase}
+use Rattle.parking_lot_world.specs.Kinds.{kind_in}
 use Rattle.parking_lot_world.specs.declared.calls.LockCall.{LockCall}
+use Rattle.parking_lot_world.specs.declared.calls.LockKind.{LockKind}
 use Rattle.parking_lot_world.specs.declared.seat.Core.{Core}
 use Rattle.parking_lot_world.specs.Beginnings.{core_of}
 use Rattle.parking_lot_world.specs.Machines.{call_for}
@@ -49,23 +51,24 @@ module _ (t : ℕ) where
   apart-starts shard call fair old new h = apart-then old h.mid new (apart-begins shard call old h.mid h.begins) (apart-moves fair h.mid new h.moves)
 
   -- a call that begins has seen nothing
-  start-unseen : (call : LockCall) → has_seen (core_next (core_of call) ActResult.Start) ≡ false
-  start-unseen LockCall.Lock = refl
-  start-unseen LockCall.TryLock = refl
-  start-unseen LockCall.Unlock = refl
-  start-unseen LockCall.Read = refl
-  start-unseen LockCall.TryRead = refl
-  start-unseen LockCall.UnlockRead = refl
-  start-unseen LockCall.Write = refl
-  start-unseen LockCall.TryWrite = refl
-  start-unseen LockCall.UnlockWrite = refl
-  start-unseen LockCall.Downgrade = refl
+  start-unseen : (k : LockKind) (call : LockCall) → has_seen (core_next (core_of k call) ActResult.Start) ≡ false
+  start-unseen k LockCall.Lock = refl
+  start-unseen k LockCall.TryLock = refl
+  start-unseen k LockCall.LockUntil = refl
+  start-unseen k LockCall.Unlock = refl
+  start-unseen k LockCall.Read = refl
+  start-unseen k LockCall.TryRead = refl
+  start-unseen k LockCall.UnlockRead = refl
+  start-unseen k LockCall.Write = refl
+  start-unseen k LockCall.TryWrite = refl
+  start-unseen k LockCall.UnlockWrite = refl
+  start-unseen k LockCall.Downgrade = refl
 
   pub begins-blind : (shard : ℕ) (call : LockCall) (old new : Shown) → LockBegins t shard call old new → sees (call_at (state new.rows) t) ≡ false
   begins-blind shard call old new h =
       ap (λ (u : State). sees (call_at u t)) h.became.became
       ∙ elim (set-here (state old.rows).calls t (Some (hears (call_for (state old.rows) t shard call) ActResult.Start))) [
-        | inl is ↦ ap sees is ∙ start-unseen call
+        | inl is ↦ ap sees is ∙ start-unseen (kind_in (state old.rows).kinds shard) call
         | inr none ↦ ap sees none
       ]
 
@@ -81,6 +84,7 @@ module _ (t : ℕ) where
 -- one that has seen its lock's word tries to get the lock
 pub seen-tries : (k : Core) → has_seen k ≡ true → core_tries k ≡ true
 seen-tries (Core.Mutex c) h = absurd (false≢true h)
+seen-tries (Core.Late c) h = absurd (false≢true h)
 seen-tries (Core.Rw c) h = by c.phase h
   where
     by : (p : RwPhase) → has_seen_in p ≡ true → is_trying p ≡ true
@@ -90,6 +94,7 @@ seen-tries (Core.Rw c) h = by c.phase h
 
 pub tries-gets : (k : Core) → core_tries k ≡ true → (m : _) × (core_aim k ≡ Gets m)
 tries-gets (Core.Mutex c) h = absurd (false≢true h)
+tries-gets (Core.Late c) h = absurd (false≢true h)
 tries-gets (Core.Rw c) h = by c.phase h
   where
     aim : (want : LockMode) → (m : _) × (aim_for want ≡ Gets m)

@@ -21,7 +21,8 @@ use Rattle.parking_lot_world.specs.Rows.{State, call_at, word_at}
 use Rattle.parking_lot_world.specs.Stances.{core_act, core_next}
 use Rattle.mapworld_locks.specs.Stands.{core_tries, is_trying}
 use Rattle.mapworld_causes.specs.Causes.{has_seen, has_seen_in}
-use Rattle.mapworld_causes.proofs.Noticing.{blind, looks_in, woken-unseen, seen-tries}
+use Rattle.mapworld_locks.proofs.Calls.{late_is}
+use Rattle.mapworld_causes.proofs.Noticing.{blind, late-unseen, looks_in, woken-unseen, seen-tries}
 
 abbrev pub call_of : List (Option Call) → ℕ → Option Call
 call_of calls t = option_and_then (λ c. c) (slice_get calls t)
@@ -110,7 +111,7 @@ module _ (s : State) (t : ℕ) (c : Call) (v : ℕ) (ne : v ≢ t) where
   kept Act.Spin fair u e = is u _ e (told _)
   kept (Act.Enter key) fair u e = is u _ e (told _)
   kept (Act.Section next) fair u b = kept-inside next fair u b
-  kept Act.Sleep fair u b = absurd b
+  kept Act.Sleep fair u b = let l = late_is s u t c c.core b in is u _ l.2 (told _)
   kept (Act.Done answer) fair u e = is u _ e (told None)
 
 -- in a step another's call sees nothing that it hadn't seen
@@ -178,7 +179,7 @@ module _ (s : State) (t : ℕ) (c : Call) where
   told-by Act.Spin fair u e = was u _ e (heard _ _)
   told-by (Act.Enter key) fair u e = was u _ e (heard _ _)
   told-by (Act.Section next) fair u b = told-inside next fair u b
-  told-by Act.Sleep fair u b = absurd b
+  told-by Act.Sleep fair u b = let l = late_is s u t c c.core b in was u _ l.2 (heard _ _)
   told-by (Act.Done answer) fair u e = was u _ e ends
 
   -- it saw that before, or tries and the word isn't 0 now
@@ -229,4 +230,5 @@ own-sees s u t fair x seen = by-core x.call.core refl
 
     by-core : (q : Core) → x.call.core ≡ q → Sees s t x.call
     by-core (Core.Mutex k) core = absurd (false≢true (sym (ap (λ q. has_seen (core_next q told.told)) core) ∙ told.seen))
+    by-core (Core.Late p) core = absurd (false≢true (sym (ap (λ q. has_seen (core_next q told.told)) core ∙ late-unseen p told.told) ∙ told.seen))
     by-core (Core.Rw k) core = by-phase k core k.phase refl

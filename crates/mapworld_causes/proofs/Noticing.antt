@@ -17,6 +17,7 @@ use Rattle.parking_lot_protocol.specs.Acts.{is_start, is_entered, is_made, word_
 use Rattle.parking_lot_rules.specs.Classes.{bit}
 use Rattle.parking_lot_protocol.specs.RwTable.{admits, after, begins, scans_for, is_admitted, is_barred, is_parked, is_writer_parked, is_written, is_tried, has_readers, asks_again, bumps, drains, goes_on, next_phase, once, over, scans, seeks, tries, wakes, with_taken, won_or}
 use Rattle.parking_lot_world.specs.declared.seat.Core.{Core}
+use Rattle.parking_lot_world.specs.declared.seat.LatePhase.{LatePhase}
 use Rattle.parking_lot_world.specs.Stances.{core_next}
 use Rattle.mapworld_causes.specs.Causes.{has_seen, has_seen_in}
 
@@ -161,9 +162,19 @@ next-unseen (Some q) h = h.is q refl
 pub blind : (p : RwPhase) (s : ActResult) → looks_in p ≡ false → has_seen_in (next_phase p s) ≡ false
 blind p s h = next-unseen (after p s) (unseen p s h)
 
+-- nor has one whose moment has passed
+pub late-unseen : (p : LatePhase) (told : ActResult) → has_seen (core_next (Core.Late p) told) ≡ false
+late-unseen LatePhase.Expires (ActResult.Woken token) = refl
+late-unseen LatePhase.Expires ActResult.Entered = refl
+late-unseen LatePhase.Quits (ActResult.Took token left) = refl
+late-unseen LatePhase.Masks (ActResult.Before word) = refl
+late-unseen LatePhase.Leaves ActResult.Made = refl
+late-unseen p told = refl
+
 -- nor has one that is woken
 pub woken-unseen : (k : Core) (token : UnparkToken) → has_seen (core_next k (ActResult.Woken token)) ≡ false
 woken-unseen (Core.Mutex c) token = refl
+woken-unseen (Core.Late p) token = late-unseen p (ActResult.Woken token)
 woken-unseen (Core.Rw c) token = elim (either-is (looks_in c.phase)) [
   | inl looks ↦ by c.phase looks
   | inr not ↦ blind c.phase (ActResult.Woken token) not

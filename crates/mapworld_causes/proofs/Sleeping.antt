@@ -15,6 +15,7 @@ use Rattle.parking_lot_rules.specs.Lock.{IsSound}
 use Rattle.parking_lot_rules.specs.Roles.{Excludes, Idle, Owned, Role, Shares}
 use Rattle.parking_lot_rules.specs.Roles as rules
 use Rattle.parking_lot_rules.proofs.Following.{somebody_can_move}
+use Rattle.parking_lot_world.specs.Kinds.{AsMutex, manner_of}
 use Rattle.parking_lot_world.specs.declared.open_call.Call.{Call}
 use Rattle.parking_lot_world.specs.declared.seat.Core.{Core}
 use Rattle.parking_lot_world.specs.declared.seat.Hold.{Hold}
@@ -22,13 +23,12 @@ use Rattle.parking_lot_world.specs.declared.seat.QueuePosition.{QueuePosition}
 use Rattle.parking_lot_world.specs.CallViews.{rw_mode}
 use Rattle.parking_lot_world.specs.Machines.{sleeps}
 use Rattle.parking_lot_world.specs.Rows.{State, call_at, hold_at, owned_of, rw_core_role, rw_lock_at, rw_role_at, rw_role_in, rw_spot, state, taken_by}
-use Rattle.parking_lot_world.specs.declared.calls.LockKind.TheVariants as kind
 use Rattle.parking_lot_world.specs.RowFits.{IsOfKind}
 use Rattle.parking_lot_world.specs.Stances.{core_act}
 use Rattle.parking_lot_world.specs.Worlds.{mode_in}
 use Rattle.mapworld_locks.specs.Fits.{LocksFit}
 use Rattle.mapworld_locks.specs.Views.{Shown, held_as, owner_in}
-use Rattle.mapworld_locks.proofs.Handing.{is_rw}
+use Rattle.mapworld_locks.proofs.Handing.{is_rw, goes_by, no_mutex}
 use Rattle.mapworld_locks.proofs.Lists.{all_at, among_all, one_of_all}
 
 -- a call at a reader-writer lock that sleeps is asleep to the rules
@@ -76,8 +76,8 @@ module _ (sh : Shown) (fit : LocksFit sh) (t : ℕ) (c : Call) (here : call_at (
       ∙ ap (λ b. cond b (rw_core_role c.others c.spot (taken_by s.wakes t) c.core) (record { owns = owned_of (hold_at s t i); does = Idle })) (eq-eqb i i refl)
 
   -- no lock is a mutex
-  no-mutex : slice_get s.kinds i ≡ Some kind.Mutex → ⊥
-  no-mutex e = let same : kind.Mutex ≡ kind.Rw = all_at (λ k. k ≡ kind.Rw) s.kinds i kind.Mutex fit.plain.kinds e in absurd cc
+  no-mutex : manner_of (slice_get s.kinds i) ≡ Some AsMutex → ⊥
+  no-mutex e = no_mutex (goes_by s i AsMutex fit.plain.kinds e)
 
   asleep : laws.is_asleep (rw_role_at s i t).does ≡ true
   asleep = ap (λ r. laws.is_asleep r.does) own-role ∙ by c.core sleeping (fit.fits.rules.kinds t c here)
@@ -85,6 +85,7 @@ module _ (sh : Shown) (fit : LocksFit sh) (t : ℕ) (c : Call) (here : call_at (
       by : (k : Core) → sleeps (core_act k) ≡ true → IsOfKind (slice_get s.kinds i) k → laws.is_asleep (rw_core_role c.others c.spot (taken_by s.wakes t) k).does ≡ true
       by (Core.Rw k) e is = phase-asleep c.spot (taken_by s.wakes t) k.phase e
       by (Core.Mutex k) e is = absurd (no-mutex is)
+      by (Core.Late k) e is = absurd (no-mutex is)
 
   low : t < length s.calls
   low = by (slice_get s.calls t) refl

@@ -1,27 +1,29 @@
 -- A call that may be asked for may begin, and its beginning changes nobody's hold.
 use Rattle.std.proofs.Common.{◌≡◌, ◌≢◌, ℕ, zero, suc, ◌<◌, ◌+◌, ◌-◌, ◌*◌, inl, inr, Bool, true, false, cond, ◌==◌, nat_lt, List, length, Option, Some, None, is_none, get_or, slice_get, slice_set, refl, sym, ap, ◌∙◌, subst, arith}
 use Rattle.std.specs.List.{All}
-use Rattle.std.specs.Option.{option_map, option_map_or}
+use Rattle.std.specs.Option.{option_map, option_map_or, unwrap_or}
 use Rattle.std.proofs.lemmas.Bool.{cases_Bool, cases_eq, cases_lt, false≢true, and_from, eqb-true, cond-true, cond-false, lt-ltb}
 use Rattle.std.proofs.lemmas.List.{length-set}
-use Rattle.std.proofs.lemmas.Option.{none-some, same_Some, slice_get-get_or}
+use Rattle.std.proofs.lemmas.Option.{none-some, same_Some, slice_get-get_or, slice_get_within}
 use Rattle.lock_api_desk.specs.declared.mode.Mode.{Mode}
 use Rattle.lock_api_desk.specs.declared.mode.Mode.TheVariants as held
 use Rattle.parking_lot_protocol.specs.declared.act.ActResult.{ActResult}
+use Rattle.parking_lot_protocol.specs.declared.rw_phase.LockMode.TheVariants as want
 use Rattle.parking_lot_rules.specs.Owners.{Reading}
 use Rattle.parking_lot_rules.specs.Roles.{Idle}
+use Rattle.parking_lot_world.specs.Kinds.{AsRw, is_manner, kind_in, recursive_in}
 use Rattle.parking_lot_world.specs.declared.calls.LockCall.{LockCall}
 use Rattle.parking_lot_world.specs.declared.calls.LockKind.{LockKind}
 use Rattle.parking_lot_world.specs.declared.calls.LockKind.TheVariants as kind
 use Rattle.parking_lot_world.specs.declared.open_call.Call.{Call}
 use Rattle.parking_lot_world.specs.declared.seat.Hold.{Hold}
 use Rattle.parking_lot_world.specs.declared.seat.QueuePosition.{QueuePosition}
-use Rattle.parking_lot_world.specs.Beginnings.{core_of, holds_beside, is_allowed}
-use Rattle.parking_lot_world.specs.Calls.{kind_of}
+use Rattle.parking_lot_world.specs.Beginnings.{core_of, holds as shares_of, holds_beside, is_allowed, owns_nothing}
+use Rattle.parking_lot_world.specs.Calls.{is_timed, manner_for, takes}
 use Rattle.parking_lot_world.specs.CallViews.{mode_of, rw_mode}
-use Rattle.parking_lot_world.specs.Machines.{IsBegun, call_for, is_of_kind, may_begin}
+use Rattle.parking_lot_world.specs.Machines.{IsBegun, call_for, may_begin}
 use Rattle.parking_lot_world.specs.RowActs.{hears}
-use Rattle.parking_lot_world.specs.RowFits.{FitsTogether}
+use Rattle.parking_lot_world.specs.RowFits.{FitsTogether, Asks, IsPrepared}
 use Rattle.parking_lot_world.specs.Rows.{Rows, State, call_at, hold_at, owned_of, rw_core_role, rw_role_at, rw_role_in, state, taken_by}
 use Rattle.parking_lot_world.specs.Stances.{core_next}
 use Rattle.parking_lot_world.specs.Worlds.{hold_mode}
@@ -31,8 +33,9 @@ use Rattle.mapworld_locks.specs.Seats.{seat_of}
 use Rattle.mapworld_locks.specs.Stands.{is_try, needs, stand_of}
 use Rattle.mapworld_locks.specs.Steps.{LockBegins, MayAsk}
 use Rattle.mapworld_locks.specs.Views.{Shown, held_as, held_at}
-use Rattle.mapworld_locks.proofs.Calls.{call_of, set_elsewhere}
+use Rattle.mapworld_locks.proofs.Calls.{call_of, set_elsewhere, slot}
 use Rattle.mapworld_locks.proofs.Ending.{held_by_role, idle_mode}
+use Rattle.mapworld_locks.proofs.Handing.{no_mutex, not_recursive}
 use Rattle.mapworld_locks.proofs.Lists.{all_at}
 use Rattle.mapworld_locks.proofs.Standing.{set_low}
 use Rattle.mapworld_locks.proofs.Together.{holders_are_threads}
@@ -63,11 +66,21 @@ single_hold s t i single = by (nat_lt i (length s.kinds))
     by true = at (slice_get s.holds (t * length s.kinds + i)) refl
     by false = refl
 
-none_beside : (h : Hold) → is_single h ≡ true → holds_beside h ≡ 0
-none_beside (Hold.Shares zero) is = refl
-none_beside (Hold.Shares (suc zero)) is = refl
-none_beside (Hold.Shares (suc (suc n))) is = absurd (false≢true is)
-none_beside Hold.Excludes is = refl
+single_less : (h : Hold) → is_single h ≡ true → shares_of h - 1 ≡ 0
+single_less (Hold.Shares zero) is = refl
+single_less (Hold.Shares (suc zero)) is = refl
+single_less (Hold.Shares (suc (suc n))) is = absurd (false≢true is)
+single_less Hold.Excludes is = refl
+
+none_held : (h : Hold) → owns_nothing h ≡ true → shares_of h ≡ 0
+none_held (Hold.Shares zero) may = refl
+none_held (Hold.Shares (suc n)) may = absurd (false≢true may)
+none_held Hold.Excludes may = refl
+
+none_beside : (call : LockCall) (h : Hold) → is_allowed kind.Rw h call ≡ true → is_single h ≡ true → holds_beside call h ≡ 0
+none_beside LockCall.Read h may is = none_held h may
+none_beside LockCall.TryRead h may is = none_held h may
+none_beside call h may is = single_less h is
 
 -- A MODE IS NOT ANOTHER
 
@@ -80,14 +93,12 @@ mode_number (Some held.Exclusive) = 3
 pub differ : (a b : Option Mode) → mode_number a ≢ mode_number b → a ≢ b
 differ a b ne e = ne (ap mode_number e)
 
-pub is_rw : kind.Mutex ≢ kind.Rw
-is_rw e = false≢true (ap (λ k. elim k as (λ x. Bool) [ kind.Mutex ↦ false | kind.Rw ↦ true ]) e)
-
 -- one that holds as the call needs may make it
-allowed : (h : Hold) (call : LockCall) → kind_of call ≡ kind.Rw → held_as (hold_mode (Some kind.Rw) h) ≡ needs call → is_allowed h call ≡ true
-allowed h LockCall.Lock k e = absurd (is_rw k)
-allowed h LockCall.TryLock k e = absurd (is_rw k)
-allowed h LockCall.Unlock k e = absurd (is_rw k)
+allowed : (h : Hold) (call : LockCall) → manner_for call ≡ AsRw → held_as (hold_mode (Some kind.Rw) h) ≡ needs call → is_allowed kind.Rw h call ≡ true
+allowed h LockCall.Lock k e = absurd (no_mutex k)
+allowed h LockCall.TryLock k e = absurd (no_mutex k)
+allowed h LockCall.LockUntil k e = absurd (no_mutex k)
+allowed h LockCall.Unlock k e = absurd (no_mutex k)
 allowed (Hold.Shares zero) LockCall.Read k e = refl
 allowed (Hold.Shares (suc n)) LockCall.Read k e = absurd (differ _ _ (λ n. omega (arith, n)) e)
 allowed Hold.Excludes LockCall.Read k e = absurd (differ _ _ (λ n. omega (arith, n)) e)
@@ -114,45 +125,47 @@ shares_again : (n : ℕ) → suc n - 1 + 1 ≡ suc n
 shares_again n = omega arith
 
 -- and holds the lock in its call as before
-begun_mode : (h : Hold) (call : LockCall) (us : List ℕ) → kind_of call ≡ kind.Rw → is_allowed h call ≡ true
-    → rw_mode (rw_core_role (holds_beside h) QueuePosition.Listed us (core_next (core_of call) ActResult.Start)) ≡ rw_mode (record { owns = owned_of h; does = Idle })
-begun_mode h LockCall.Lock us k e = absurd (is_rw k)
-begun_mode h LockCall.TryLock us k e = absurd (is_rw k)
-begun_mode h LockCall.Unlock us k e = absurd (is_rw k)
-begun_mode (Hold.Shares zero) LockCall.Read us k e = refl
-begun_mode (Hold.Shares (suc n)) LockCall.Read us k e = absurd (false≢true e)
-begun_mode Hold.Excludes LockCall.Read us k e = absurd (false≢true e)
-begun_mode (Hold.Shares zero) LockCall.TryRead us k e = refl
-begun_mode (Hold.Shares (suc n)) LockCall.TryRead us k e = absurd (false≢true e)
-begun_mode Hold.Excludes LockCall.TryRead us k e = absurd (false≢true e)
-begun_mode (Hold.Shares zero) LockCall.UnlockRead us k e = absurd (false≢true e)
-begun_mode (Hold.Shares (suc n)) LockCall.UnlockRead us k e = ap (λ m. mode_of (Reading m)) (shares_again n)
-begun_mode Hold.Excludes LockCall.UnlockRead us k e = absurd (false≢true e)
-begun_mode (Hold.Shares zero) LockCall.Write us k e = refl
-begun_mode (Hold.Shares (suc n)) LockCall.Write us k e = absurd (false≢true e)
-begun_mode Hold.Excludes LockCall.Write us k e = absurd (false≢true e)
-begun_mode (Hold.Shares zero) LockCall.TryWrite us k e = refl
-begun_mode (Hold.Shares (suc n)) LockCall.TryWrite us k e = absurd (false≢true e)
-begun_mode Hold.Excludes LockCall.TryWrite us k e = absurd (false≢true e)
-begun_mode (Hold.Shares zero) LockCall.UnlockWrite us k e = absurd (false≢true e)
-begun_mode (Hold.Shares (suc n)) LockCall.UnlockWrite us k e = absurd (false≢true e)
-begun_mode Hold.Excludes LockCall.UnlockWrite us k e = refl
-begun_mode (Hold.Shares zero) LockCall.Downgrade us k e = absurd (false≢true e)
-begun_mode (Hold.Shares (suc n)) LockCall.Downgrade us k e = absurd (false≢true e)
-begun_mode Hold.Excludes LockCall.Downgrade us k e = refl
+begun_mode : (x : LockKind) (h : Hold) (call : LockCall) (us : List ℕ) → manner_for call ≡ AsRw → is_allowed kind.Rw h call ≡ true
+    → rw_mode (rw_core_role (holds_beside call h) QueuePosition.Listed us (core_next (core_of x call) ActResult.Start)) ≡ rw_mode (record { owns = owned_of h; does = Idle })
+begun_mode x h LockCall.Lock us k e = absurd (no_mutex k)
+begun_mode x h LockCall.TryLock us k e = absurd (no_mutex k)
+begun_mode x h LockCall.LockUntil us k e = absurd (no_mutex k)
+begun_mode x h LockCall.Unlock us k e = absurd (no_mutex k)
+begun_mode x (Hold.Shares zero) LockCall.Read us k e = refl
+begun_mode x (Hold.Shares (suc n)) LockCall.Read us k e = absurd (false≢true e)
+begun_mode x Hold.Excludes LockCall.Read us k e = absurd (false≢true e)
+begun_mode x (Hold.Shares zero) LockCall.TryRead us k e = refl
+begun_mode x (Hold.Shares (suc n)) LockCall.TryRead us k e = absurd (false≢true e)
+begun_mode x Hold.Excludes LockCall.TryRead us k e = absurd (false≢true e)
+begun_mode x (Hold.Shares zero) LockCall.UnlockRead us k e = absurd (false≢true e)
+begun_mode x (Hold.Shares (suc n)) LockCall.UnlockRead us k e = ap (λ m. mode_of (Reading m)) (shares_again n)
+begun_mode x Hold.Excludes LockCall.UnlockRead us k e = absurd (false≢true e)
+begun_mode x (Hold.Shares zero) LockCall.Write us k e = refl
+begun_mode x (Hold.Shares (suc n)) LockCall.Write us k e = absurd (false≢true e)
+begun_mode x Hold.Excludes LockCall.Write us k e = absurd (false≢true e)
+begun_mode x (Hold.Shares zero) LockCall.TryWrite us k e = refl
+begun_mode x (Hold.Shares (suc n)) LockCall.TryWrite us k e = absurd (false≢true e)
+begun_mode x Hold.Excludes LockCall.TryWrite us k e = absurd (false≢true e)
+begun_mode x (Hold.Shares zero) LockCall.UnlockWrite us k e = absurd (false≢true e)
+begun_mode x (Hold.Shares (suc n)) LockCall.UnlockWrite us k e = absurd (false≢true e)
+begun_mode x Hold.Excludes LockCall.UnlockWrite us k e = refl
+begun_mode x (Hold.Shares zero) LockCall.Downgrade us k e = absurd (false≢true e)
+begun_mode x (Hold.Shares (suc n)) LockCall.Downgrade us k e = absurd (false≢true e)
+begun_mode x Hold.Excludes LockCall.Downgrade us k e = refl
 
 -- and is about what it is for
-begun_stand : (i n : ℕ) (call : LockCall) → kind_of call ≡ kind.Rw → stand_of (record { lock = i; others = n; core = core_next (core_of call) ActResult.Start; spot = QueuePosition.Listed }) ≡ record { shard = i; aim = aim_of call; trying = is_try call }
-begun_stand i n LockCall.Lock k = absurd (is_rw k)
-begun_stand i n LockCall.TryLock k = absurd (is_rw k)
-begun_stand i n LockCall.Unlock k = absurd (is_rw k)
-begun_stand i n LockCall.Read k = refl
-begun_stand i n LockCall.TryRead k = refl
-begun_stand i n LockCall.UnlockRead k = refl
-begun_stand i n LockCall.Write k = refl
-begun_stand i n LockCall.TryWrite k = refl
-begun_stand i n LockCall.UnlockWrite k = refl
-begun_stand i n LockCall.Downgrade k = refl
+begun_stand : (x : LockKind) (i n : ℕ) (call : LockCall) → manner_for call ≡ AsRw → stand_of (record { lock = i; others = n; core = core_next (core_of x call) ActResult.Start; spot = QueuePosition.Listed; timed = is_timed call }) ≡ record { shard = i; aim = aim_of call; trying = is_try call }
+begun_stand x i n LockCall.Lock k = absurd (no_mutex k)
+begun_stand x i n LockCall.TryLock k = absurd (no_mutex k)
+begun_stand x i n LockCall.LockUntil k = absurd (no_mutex k)
+begun_stand x i n LockCall.Unlock k = absurd (no_mutex k)
+begun_stand x i n LockCall.Read k = refl
+begun_stand x i n LockCall.TryRead k = refl
+begun_stand x i n LockCall.UnlockRead k = refl
+begun_stand x i n LockCall.Write k = refl
+begun_stand x i n LockCall.TryWrite k = refl
+begun_stand x i n LockCall.UnlockWrite k = refl
+begun_stand x i n LockCall.Downgrade k = refl
 
 none_of : (o : Option Call) → option_map stand_of o ≡ None → o ≡ None
 none_of None e = refl
@@ -186,14 +199,20 @@ module _ (old : Shown) (fit : LocksFit old) (t i : ℕ) (call : LockCall) (ask :
   free : call_at s t ≡ None
   free = none_of (call_at s t) ask.free
 
-  is_allowed_here : is_allowed h call ≡ true
+  here_rw : slice_get s.kinds i ≡ Some kind.Rw
+  here_rw = rw_at s.kinds i fit.plain.kinds ask.there
+
+  is_allowed_here : is_allowed kind.Rw h call ≡ true
   is_allowed_here = allowed h call ask.of_kind (sym (held_rest s i t fit.plain.kinds ask.thread free) ∙ ask.holds)
 
-  of_kind : is_of_kind (slice_get s.kinds i) (kind_of call) ≡ true
-  of_kind = ap (λ k. is_of_kind k (kind_of call)) (rw_at s.kinds i fit.plain.kinds ask.there) ∙ ap (is_of_kind (Some kind.Rw)) ask.of_kind
+  allowed_so : is_allowed (kind_in s.kinds i) h call ≡ true
+  allowed_so = ap (λ o. is_allowed (unwrap_or o kind.Rw) h call) here_rw ∙ is_allowed_here
+
+  of_kind : takes (slice_get s.kinds i) call ≡ true
+  of_kind = ap (λ k. takes k call) here_rw ∙ ap (is_manner (Some AsRw)) ask.of_kind
 
   pub may : may_begin s t i call ≡ true
-  may = and_from _ _ (lt-ltb t (length s.calls) ask.thread) (and_from _ _ (ap is_none free) (and_from _ _ of_kind is_allowed_here))
+  may = and_from _ _ (lt-ltb t (length s.calls) ask.thread) (and_from _ _ (ap is_none free) (and_from _ _ of_kind allowed_so))
 
   module _ (rows : Rows) (x : IsBegun t i call s (state rows)) where
     abbrev new : Shown
@@ -239,9 +258,9 @@ module _ (old : Shown) (fit : LocksFit old) (t i : ℕ) (call : LockCall) (ask :
         at : rw_mode (rw_role_in j (taken_by s.wakes t) (hold_at s t j) (Some c)) ≡ rw_mode (record { owns = owned_of (hold_at s t j); does = Idle })
         at = elim (cases_Bool (i == j)) [
           | inl e ↦
-              ap rw_mode (cond-true (i == j) (rw_core_role (holds_beside h) QueuePosition.Listed (taken_by s.wakes t) (core_next (core_of call) ActResult.Start)) (record { owns = owned_of (hold_at s t j); does = Idle }) e)
-              ∙ begun_mode h call (taken_by s.wakes t) ask.of_kind is_allowed_here ∙ ap (λ n. rw_mode (record { owns = owned_of (hold_at s t n); does = Idle })) (eqb-true i j e)
-          | inr e ↦ ap rw_mode (cond-false (i == j) (rw_core_role (holds_beside h) QueuePosition.Listed (taken_by s.wakes t) (core_next (core_of call) ActResult.Start)) (record { owns = owned_of (hold_at s t j); does = Idle }) e)
+              ap rw_mode (cond-true (i == j) (rw_core_role (holds_beside call h) QueuePosition.Listed (taken_by s.wakes t) (core_next (core_of (kind_in s.kinds i) call) ActResult.Start)) (record { owns = owned_of (hold_at s t j); does = Idle }) e)
+              ∙ begun_mode (kind_in s.kinds i) h call (taken_by s.wakes t) ask.of_kind is_allowed_here ∙ ap (λ n. rw_mode (record { owns = owned_of (hold_at s t n); does = Idle })) (eqb-true i j e)
+          | inr e ↦ ap rw_mode (cond-false (i == j) (rw_core_role (holds_beside call h) QueuePosition.Listed (taken_by s.wakes t) (core_next (core_of (kind_in s.kinds i) call) ActResult.Start)) (record { owns = owned_of (hold_at s t j); does = Idle }) e)
         ]
 
     holds : (v j : ℕ) → held_at u j v ≡ held_at s j v
@@ -255,7 +274,7 @@ module _ (old : Shown) (fit : LocksFit old) (t i : ℕ) (call : LockCall) (ask :
       kinds = next;
       single = subst (All (λ h. is_single h ≡ true)) (sym (ap (λ (w : State). w.holds) x.became)) fit.plain.single;
       alone = λ v d at. elim (cases_eq v t) [
-        | inl e ↦ ap (λ (y : Call). y.others) (same_Some d c (sym at ∙ ap (call_at u) e ∙ here)) ∙ none_beside h (single_hold s t i fit.plain.single)
+        | inl e ↦ ap (λ (y : Call). y.others) (same_Some d c (sym at ∙ ap (call_at u) e ∙ here)) ∙ none_beside call h is_allowed_here (single_hold s t i fit.plain.single)
         | inr ne ↦ fit.plain.alone v d (sym (apart v ne) ∙ at)
       ];
     }
@@ -268,7 +287,31 @@ module _ (old : Shown) (fit : LocksFit old) (t i : ℕ) (call : LockCall) (ask :
       became = x;
       whole = record { threads = count; kinds = kinds_same };
       desks = refl;
-      stand = ap (option_map stand_of) here ∙ ap Some (begun_stand i (holds_beside h) call ask.of_kind);
+      stand = ap (option_map stand_of) here ∙ ap Some (begun_stand (kind_in s.kinds i) i (holds_beside call h) call ask.of_kind);
       others = λ v ne. ap (option_map stand_of) (apart v ne);
       holds = holds;
     }
+
+-- Whoever begins a call has no hold beside the one that it is about: only a reader of a recursive lock asks for a further one.
+pub begun_alone : (s u : State) (t i : ℕ) (call : LockCall) → All (λ k. k ≡ kind.Rw) s.kinds → All (λ h. is_single h ≡ true) s.holds → (d : Call) → call_at u t ≡ Some d → IsBegun t i call s u → holds_beside call (hold_at s t i) ≡ 0
+begun_alone s u t i call rws single d at x = by call refl
+  where
+    h : Hold
+    h = hold_at s t i
+
+    low : t < length s.calls
+    low = subst (λ n. t < n) (ap (λ (w : State). length w.calls) x.became ∙ length-set s.calls t _) (slice_get_within u.calls t (Some d) (slot u.calls t d at))
+
+    here : call_at u t ≡ Some (hears (call_for s t i call) ActResult.Start)
+    here = ap (λ (w : State). call_at w t) x.became ∙ set_low s.calls t _ low
+
+    asks : (c : LockCall) → call ≡ c → IsPrepared (recursive_in u.kinds i) (holds_beside c h) (core_next (core_of (kind_in s.kinds i) c) ActResult.Start)
+    asks c e = subst (λ k. IsPrepared (recursive_in u.kinds i) (holds_beside k h) (core_next (core_of (kind_in s.kinds i) k) ActResult.Start)) e (x.acts.fits.rules.prepared t _ here)
+
+    alone : (r : Bool) → r ≡ false → Asks (recursive_in u.kinds i) (shares_of h) (want.Shared r) → shares_of h ≡ 0
+    alone r e a = subst (λ b. Asks (recursive_in u.kinds i) (shares_of h) (want.Shared b)) e a
+
+    by : (c : LockCall) → call ≡ c → holds_beside c h ≡ 0
+    by LockCall.Read e = alone (recursive_in s.kinds i) (not_recursive s i rws) (asks LockCall.Read e).1
+    by LockCall.TryRead e = alone (recursive_in s.kinds i) (not_recursive s i rws) (asks LockCall.TryRead e).1
+    by c e = single_less h (single_hold s t i single)

@@ -6,6 +6,7 @@ use Rattle.std.proofs.lemmas.Option.{none-some, same_Some, slice_get-map}
 use Rattle.std.proofs.lemmas.List.{length-set, length-map}
 use Rattle.parking_lot_protocol.specs.declared.act.Act.{Act}
 use Rattle.parking_lot_protocol.specs.declared.act.SectionAct.{SectionAct}
+use Rattle.parking_lot_core_lot.specs.Machine.{Machine}
 use Rattle.parking_lot_protocol.specs.declared.act.ActResult.{ActResult}
 use Rattle.parking_lot_protocol.specs.declared.act.CoreAnswer.{CoreAnswer}
 use Rattle.parking_lot_protocol.specs.declared.rw_phase.RwPhase.{RwPhase}
@@ -13,10 +14,11 @@ use Rattle.parking_lot_protocol.specs.RwTable.{next_phase}
 use Rattle.parking_lot_rules.proofs.Indexed.{get-set_same, get-set_other}
 use Rattle.parking_lot_world.specs.declared.open_call.Call.{Call}
 use Rattle.parking_lot_world.specs.declared.seat.Core.{Core}
+use Rattle.parking_lot_world.specs.declared.seat.LatePhase.{LatePhase}
 use Rattle.parking_lot_world.specs.declared.seat.QueuePosition.{QueuePosition}
 use Rattle.parking_lot_world.specs.declared.seat.WakeResult.{WakeResult}
-use Rattle.parking_lot_world.specs.Machines.{Became, BecameInside, IsStepped}
-use Rattle.parking_lot_world.specs.RowActs.{hears, off_list, settled}
+use Rattle.parking_lot_world.specs.Machines.{Became, BecameInside, BecameLate, IsStepped}
+use Rattle.parking_lot_world.specs.RowActs.{hears, off_list, settled, with_call, with_lot}
 use Rattle.parking_lot_world.specs.Rows.{State, call_at}
 use Rattle.parking_lot_world.specs.Stances.{core_act, core_next}
 use Rattle.mapworld_locks.specs.Stands.{core_aim}
@@ -25,10 +27,17 @@ use Rattle.mapworld_locks.proofs.Aiming.{next_aim}
 abbrev pub call_of : List (Option Call) → ℕ → Option Call
 call_of calls t = option_and_then (λ c. c) (slice_get calls t)
 
+-- What one leaves whose moment has passed, as it comes back or takes itself out: its call was told something, and the lot has changed.
+pub late_is : (s u : State) (t : ℕ) (c : Call) (k : Core) → BecameLate k t c s u → (told : ActResult) × (l : Machine) × (u ≡ with_lot (with_call s t (hears c told)) l)
+late_is s u t c (Core.Late LatePhase.Expires) e = (_, _, e)
+late_is s u t c (Core.Late LatePhase.Quits) e = (_, _, e)
+late_is s u t c k e = absurd e
+
 -- the core isn't led astray
 abbrev pub IsProper : Core → Type 0
 IsProper (Core.Rw c) = c.phase ≢ RwPhase.Invalid
 IsProper (Core.Mutex c) = Unit {0}
+IsProper (Core.Late c) = Unit {0}
 
 -- a call goes on as another: at the same lock, with the same holds beside and, unless it is led astray, the same aim
 pub record Follows (c d : Call) : Type 0 where
@@ -51,10 +60,20 @@ follows_then c d e f g = record {
 next_proper : (k : Core) (told : ActResult) → IsProper (core_next k told) → IsProper k
 next_proper (Core.Rw c) told p = λ e. p (ap (λ q. next_phase q told) e)
 next_proper (Core.Mutex c) told p = tt
+next_proper (Core.Late c) told p = tt
+
+late_keeps : (p : LatePhase) (told : ActResult) → core_aim (core_next (Core.Late p) told) ≡ core_aim (Core.Late p)
+late_keeps LatePhase.Expires (ActResult.Woken token) = refl
+late_keeps LatePhase.Expires ActResult.Entered = refl
+late_keeps LatePhase.Quits (ActResult.Took token left) = refl
+late_keeps LatePhase.Masks (ActResult.Before word) = refl
+late_keeps LatePhase.Leaves ActResult.Made = refl
+late_keeps p told = refl
 
 pub next_keeps : (k : Core) (told : ActResult) → IsProper (core_next k told) → core_aim (core_next k told) ≡ core_aim k
 next_keeps (Core.Rw c) told p = next_aim c.phase told p
 next_keeps (Core.Mutex c) told p = refl
+next_keeps (Core.Late p) told proper = late_keeps p told
 
 pub follows_told : (c d : Call) (told : ActResult) → d.lock ≡ c.lock → d.others ≡ c.others → d.core ≡ core_next c.core told → Follows c d
 follows_told c d told lock others core = record {
@@ -250,7 +269,7 @@ module _ (s : State) (t : ℕ) (c : Call) (here : call_at s t ≡ Some c) where
   goes Act.Spin fair u e = is u _ e (told _)
   goes (Act.Enter key) fair u e = is u _ e (told _)
   goes (Act.Section next) fair u b = goes_inside next fair u b
-  goes Act.Sleep fair u b = absurd b
+  goes Act.Sleep fair u b = let l = late_is s u t c c.core b in is u _ l.2 (told _)
   goes (Act.Done answer) fair u e = is u _ e (ends_goes s.calls t c here)
 
 pub stepped_goes : (s u : State) (t : ℕ) (fair : Bool) (answer : Option CoreAnswer) → IsStepped t fair answer s u → GoesOn s.calls u.calls

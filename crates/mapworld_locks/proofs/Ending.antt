@@ -1,13 +1,14 @@
 -- Where a call is answered its thread holds the shard as it did in the call.
-use Rattle.std.proofs.Common.{◌≡◌, ◌≢◌, ℕ, zero, suc, ◌+◌, ◌*◌, ◌<◌, ◌≤◌, get_or, inl, inr, Bool, true, false, cond, ◌==◌, length, Option, Some, None, slice_get, slice_set, refl, sym, ap, ◌∙◌, subst, arith}
+use Rattle.std.proofs.Common.{◌≡◌, ℕ, zero, suc, ◌+◌, ◌*◌, ◌<◌, ◌≤◌, get_or, inl, inr, true, cond, ◌==◌, length, Option, Some, None, slice_get, slice_set, refl, sym, ap, ◌∙◌, subst, arith}
 use Rattle.std.specs.List.{All}
 use Rattle.std.specs.Option.{option_and_then, option_map, option_map_or}
-use Rattle.std.proofs.lemmas.Bool.{cases_eq, false≢true, eq-eqb, cond-true, lt-ltb}
+use Rattle.std.proofs.lemmas.Bool.{cases_eq, eq-eqb, cond-true, lt-ltb}
 use Rattle.std.proofs.lemmas.List.{length-set}
 use Rattle.std.proofs.lemmas.Option.{slice_get-map, slice_get_within, slice_get-get_or}
 use Rattle.parking_lot_rules.specs.Owners.{standing}
 use Rattle.parking_lot_rules.specs.Roles.{Idle}
 use Rattle.parking_lot_rules.proofs.Indexed.{get-set_same}
+use Rattle.parking_lot_world.specs.Kinds.{AsMutex, recursive_in}
 use Rattle.parking_lot_world.specs.declared.calls.LockKind.TheVariants as kind
 use Rattle.parking_lot_world.specs.declared.open_call.Call.{Call}
 use Rattle.parking_lot_world.specs.declared.seat.Core.{Core}
@@ -20,8 +21,8 @@ use Rattle.parking_lot_world.specs.Stances.{core_act}
 use Rattle.parking_lot_world.specs.Worlds.{hold_mode}
 use Rattle.mapworld_locks.specs.Views.{held_as, held_at}
 use Rattle.mapworld_locks.proofs.Calls.{set_here, slot}
-use Rattle.mapworld_locks.proofs.Handing.{held_is}
-use Rattle.mapworld_locks.proofs.Lists.{all_at, one_of_all}
+use Rattle.mapworld_locks.proofs.Handing.{goes_by, held_is, no_mutex, within_kinds}
+use Rattle.mapworld_locks.proofs.Lists.{one_of_all}
 use Rattle.mapworld_locks.proofs.Owning.{mode_standing}
 use Rattle.mapworld_locks.proofs.Within.{done_hold, is_done}
 
@@ -46,12 +47,10 @@ done_mode s t c h rws here done = ap held_as (ap rw_mode role ∙ by c.core (h.r
     role = ap (rw_role_in c.lock (taken_by s.wakes t) (hold_at s t c.lock)) here
         ∙ cond-true (c.lock == c.lock) (rw_core_role c.others c.spot (taken_by s.wakes t) c.core) (record { owns = owned_of (hold_at s t c.lock); does = Idle }) (eq-eqb c.lock c.lock refl)
 
-    is_rw : kind.Mutex ≢ kind.Rw
-    is_rw e = false≢true (ap (λ k. elim k as (λ x. Bool) [ kind.Mutex ↦ false | kind.Rw ↦ true ]) e)
-
-    by : (k : Core) → IsOfKind (slice_get s.kinds c.lock) k → IsPrepared c.others k → is_done (core_act k) ≡ true → rw_mode (rw_core_role c.others c.spot (taken_by s.wakes t) k) ≡ hold_mode (Some kind.Rw) (hold_after c.others k)
-    by (Core.Rw x) of_kind ready done = sym (done_hold c.others (rw_spot c.spot) (taken_by s.wakes t) x.phase ready.1 done)
-    by (Core.Mutex x) of_kind ready done = absurd (is_rw (all_at (λ k. k ≡ kind.Rw) s.kinds c.lock kind.Mutex rws of_kind))
+    by : (k : Core) → IsOfKind (slice_get s.kinds c.lock) k → IsPrepared (recursive_in s.kinds c.lock) c.others k → is_done (core_act k) ≡ true → rw_mode (rw_core_role c.others c.spot (taken_by s.wakes t) k) ≡ hold_mode (Some kind.Rw) (hold_after c.others k)
+    by (Core.Rw x) of_kind ready done = sym (done_hold (recursive_in s.kinds c.lock) c.others (rw_spot c.spot) (taken_by s.wakes t) x.phase ready.1 done)
+    by (Core.Mutex x) of_kind ready done = absurd (no_mutex (goes_by s c.lock AsMutex rws of_kind))
+    by (Core.Late x) of_kind ready done = absurd (no_mutex (goes_by s c.lock AsMutex rws of_kind))
 
 rows_apart : (locks t threads : ℕ) → t < threads → t * locks + locks ≤ threads * locks
 rows_apart locks t zero b = absurd (omega (arith, b))
@@ -80,8 +79,9 @@ answered_holds s t c h rws here done =
     lock_low = of (c.core) (h.rules.kinds t c here)
       where
         of : (k : Core) → IsOfKind (slice_get s.kinds c.lock) k → c.lock < length s.kinds
-        of (Core.Rw x) e = slice_get_within s.kinds c.lock kind.Rw e
-        of (Core.Mutex x) e = slice_get_within s.kinds c.lock kind.Mutex e
+        of (Core.Rw x) e = within_kinds s c.lock _ e
+        of (Core.Mutex x) e = within_kinds s c.lock _ e
+        of (Core.Late x) e = within_kinds s c.lock _ e
 
     cell_low : t * length s.kinds + c.lock < length s.holds
     cell_low = omega (arith, rows_apart (length s.kinds) t (length s.calls) low, lock_low, h.rules.size_holds)

@@ -12,6 +12,7 @@ use Rattle.parking_lot_protocol.specs.declared.rw_phase.Outcome.{Outcome}
 use Rattle.parking_lot_protocol.specs.declared.rw_phase.RwPhase.{RwPhase}
 use Rattle.parking_lot_protocol.specs.RwRules as of_rw
 use Rattle.parking_lot_protocol.specs.RwTable.{act_of}
+use Rattle.parking_lot_world.specs.Kinds.{recursive_in}
 use Rattle.parking_lot_world.specs.declared.open_call.Call.{Call}
 use Rattle.parking_lot_world.specs.declared.seat.Core.{Core}
 use Rattle.parking_lot_world.specs.CallViews.{rw_mode}
@@ -46,73 +47,74 @@ abbrev EndsBy : Option CoreAnswer → Aim → Bool → Option Mode → Type 0
 EndsBy None aim trying o = Unit {0}
 EndsBy (Some answer) aim trying o = EndsSo aim trying answer o
 
-phase_ends : (at : of_rw.QueuePosition) (us : List ℕ) (p : RwPhase) → rw_keeps 0 p → EndsBy (end_of (act_of p)) (phase_aim p) (is_trying p) (held_as (rw_mode (of_rw.role 0 at us p)))
-phase_ends at us (RwPhase.Locking want) keeps = absurd keeps
-phase_ends at us (RwPhase.Trying want) keeps = absurd keeps
-phase_ends at us RwPhase.UnlockingShared keeps = absurd keeps
-phase_ends at us (RwPhase.UnlockingExclusive fair) keeps = absurd keeps
-phase_ends at us RwPhase.Downgrading keeps = absurd keeps
-phase_ends at us RwPhase.BumpingShared keeps = absurd keeps
-phase_ends at us RwPhase.BumpingExclusive keeps = absurd keeps
-phase_ends at us (RwPhase.Loads a) keeps = tt
-phase_ends at us (RwPhase.Admits a word) keeps = tt
-phase_ends at us (RwPhase.Spins a) keeps = tt
-phase_ends at us (RwPhase.SetParked a word) keeps = tt
-phase_ends at us (RwPhase.Enters want woken) keeps = tt
-phase_ends at us (RwPhase.Checks want woken) keeps = tt
-phase_ends at us (RwPhase.Retreats want woken) keeps = tt
-phase_ends at us (RwPhase.Appends want) keeps = tt
-phase_ends at us (RwPhase.Rests want) keeps = tt
-phase_ends at us (RwPhase.Sleeps want) keeps = tt
-phase_ends at us (RwPhase.DrainLoads d) keeps = tt
-phase_ends at us (RwPhase.DrainSpins d) keeps = tt
-phase_ends at us (RwPhase.DrainSetParked d word) keeps = tt
-phase_ends at us (RwPhase.DrainEnters d) keeps = tt
-phase_ends at us (RwPhase.DrainChecks d) keeps = tt
-phase_ends at us (RwPhase.DrainRetreats d) keeps = tt
-phase_ends at us (RwPhase.DrainAppends rounds) keeps = tt
-phase_ends at us (RwPhase.DrainRests rounds) keeps = tt
-phase_ends at us (RwPhase.DrainSleeps rounds) keeps = tt
-phase_ends at us (RwPhase.TryLoads want) keeps = tt
-phase_ends at us (RwPhase.TryAdmits want word left) keeps = tt
-phase_ends at us (RwPhase.Refuses (LockMode.Shared recursive)) keeps = (refl, refl)
-phase_ends at us (RwPhase.Refuses LockMode.Exclusive) keeps = (refl, refl)
-phase_ends at us (RwPhase.BumpLoads want) keeps = tt
-phase_ends at us (RwPhase.Relocks want) keeps = tt
-phase_ends at us (RwPhase.Unshares rest) keeps = tt
-phase_ends at us (RwPhase.EnterWriterWakeSection rest) keeps = tt
-phase_ends at us (RwPhase.TakeWriter rest) keeps = tt
-phase_ends at us (RwPhase.ClearWriterParked rest taken) keeps = tt
-phase_ends at us (RwPhase.LeaveWriterWakeSection rest taken) keeps = tt
-phase_ends at us (RwPhase.Unlocks fair rest) keeps = tt
-phase_ends at us (RwPhase.LooksExclusive fair rest) keeps = tt
-phase_ends at us RwPhase.Downgrades keeps = tt
-phase_ends at us RwPhase.EnterWakeSection keeps = tt
-phase_ends at us (RwPhase.Scans s) keeps = tt
-phase_ends at us (RwPhase.Stores s left) keeps = tt
-phase_ends at us (RwPhase.Leaves rest count handed) keeps = tt
-phase_ends at us (RwPhase.Wakes rest count) keeps = tt
-phase_ends at us (RwPhase.Finishes AfterWake.FreedShared) keeps = refl
-phase_ends at us (RwPhase.Finishes AfterWake.FreedExclusive) keeps = refl
-phase_ends at us (RwPhase.Finishes AfterWake.Downgraded) keeps = refl
-phase_ends at us (RwPhase.Finishes AfterWake.AgainShared) keeps = tt
-phase_ends at us (RwPhase.Finishes AfterWake.AgainExclusive) keeps = tt
-phase_ends at us (RwPhase.Ends Outcome.Shared) keeps = refl
-phase_ends at us (RwPhase.Ends Outcome.Exclusive) keeps = refl
-phase_ends at us (RwPhase.Ends Outcome.Downgraded) keeps = refl
-phase_ends at us (RwPhase.Ends Outcome.FreedShared) keeps = refl
-phase_ends at us (RwPhase.Ends Outcome.FreedExclusive) keeps = refl
-phase_ends at us RwPhase.Invalid keeps = absurd keeps
+phase_ends : (twice : Bool) (at : of_rw.QueuePosition) (us : List ℕ) (p : RwPhase) → rw_keeps twice 0 p → EndsBy (end_of (act_of p)) (phase_aim p) (is_trying p) (held_as (rw_mode (of_rw.role 0 at us p)))
+phase_ends twice at us (RwPhase.Locking want) keeps = absurd keeps
+phase_ends twice at us (RwPhase.Trying want) keeps = absurd keeps
+phase_ends twice at us RwPhase.UnlockingShared keeps = absurd keeps
+phase_ends twice at us (RwPhase.UnlockingExclusive fair) keeps = absurd keeps
+phase_ends twice at us RwPhase.Downgrading keeps = absurd keeps
+phase_ends twice at us RwPhase.BumpingShared keeps = absurd keeps
+phase_ends twice at us RwPhase.BumpingExclusive keeps = absurd keeps
+phase_ends twice at us (RwPhase.Loads a) keeps = tt
+phase_ends twice at us (RwPhase.Admits a word) keeps = tt
+phase_ends twice at us (RwPhase.Spins a) keeps = tt
+phase_ends twice at us (RwPhase.SetParked a word) keeps = tt
+phase_ends twice at us (RwPhase.Enters want woken) keeps = tt
+phase_ends twice at us (RwPhase.Checks want woken) keeps = tt
+phase_ends twice at us (RwPhase.Retreats want woken) keeps = tt
+phase_ends twice at us (RwPhase.Appends want) keeps = tt
+phase_ends twice at us (RwPhase.Rests want) keeps = tt
+phase_ends twice at us (RwPhase.Sleeps want) keeps = tt
+phase_ends twice at us (RwPhase.DrainLoads d) keeps = tt
+phase_ends twice at us (RwPhase.DrainSpins d) keeps = tt
+phase_ends twice at us (RwPhase.DrainSetParked d word) keeps = tt
+phase_ends twice at us (RwPhase.DrainEnters d) keeps = tt
+phase_ends twice at us (RwPhase.DrainChecks d) keeps = tt
+phase_ends twice at us (RwPhase.DrainRetreats d) keeps = tt
+phase_ends twice at us (RwPhase.DrainAppends rounds) keeps = tt
+phase_ends twice at us (RwPhase.DrainRests rounds) keeps = tt
+phase_ends twice at us (RwPhase.DrainSleeps rounds) keeps = tt
+phase_ends twice at us (RwPhase.TryLoads want) keeps = tt
+phase_ends twice at us (RwPhase.TryAdmits want word left) keeps = tt
+phase_ends twice at us (RwPhase.Refuses (LockMode.Shared recursive)) keeps = (refl, refl)
+phase_ends twice at us (RwPhase.Refuses LockMode.Exclusive) keeps = (refl, refl)
+phase_ends twice at us (RwPhase.BumpLoads want) keeps = tt
+phase_ends twice at us (RwPhase.Relocks want) keeps = tt
+phase_ends twice at us (RwPhase.Unshares rest) keeps = tt
+phase_ends twice at us (RwPhase.EnterWriterWakeSection rest) keeps = tt
+phase_ends twice at us (RwPhase.TakeWriter rest) keeps = tt
+phase_ends twice at us (RwPhase.ClearWriterParked rest taken) keeps = tt
+phase_ends twice at us (RwPhase.LeaveWriterWakeSection rest taken) keeps = tt
+phase_ends twice at us (RwPhase.Unlocks fair rest) keeps = tt
+phase_ends twice at us (RwPhase.LooksExclusive fair rest) keeps = tt
+phase_ends twice at us RwPhase.Downgrades keeps = tt
+phase_ends twice at us RwPhase.EnterWakeSection keeps = tt
+phase_ends twice at us (RwPhase.Scans s) keeps = tt
+phase_ends twice at us (RwPhase.Stores s left) keeps = tt
+phase_ends twice at us (RwPhase.Leaves rest count handed) keeps = tt
+phase_ends twice at us (RwPhase.Wakes rest count) keeps = tt
+phase_ends twice at us (RwPhase.Finishes AfterWake.FreedShared) keeps = refl
+phase_ends twice at us (RwPhase.Finishes AfterWake.FreedExclusive) keeps = refl
+phase_ends twice at us (RwPhase.Finishes AfterWake.Downgraded) keeps = refl
+phase_ends twice at us (RwPhase.Finishes AfterWake.AgainShared) keeps = tt
+phase_ends twice at us (RwPhase.Finishes AfterWake.AgainExclusive) keeps = tt
+phase_ends twice at us (RwPhase.Ends Outcome.Shared) keeps = refl
+phase_ends twice at us (RwPhase.Ends Outcome.Exclusive) keeps = refl
+phase_ends twice at us (RwPhase.Ends Outcome.Downgraded) keeps = refl
+phase_ends twice at us (RwPhase.Ends Outcome.FreedShared) keeps = refl
+phase_ends twice at us (RwPhase.Ends Outcome.FreedExclusive) keeps = refl
+phase_ends twice at us RwPhase.Invalid keeps = absurd keeps
 
 call_ends : (s : State) (t : ℕ) (c : Call) (answer : CoreAnswer) → FitsTogether s → IsPlain s → call_at s t ≡ Some c → end_of (core_act c.core) ≡ Some answer → EndsSo (core_aim c.core) (core_tries c.core) answer (held_at s c.lock t)
 call_ends s t c answer h plain here over =
     subst (EndsSo (core_aim c.core) (core_tries c.core) answer) (sym (call_holds s t c plain here))
     (subst (λ e. EndsBy e (core_aim c.core) (core_tries c.core) (held_as (rw_mode (rw_core_role 0 c.spot (taken_by s.wakes t) c.core)))) over
-    (by c.core (h.rules.kinds t c here) (subst (λ n. IsPrepared n c.core) (plain.alone t c here) (h.rules.prepared t c here))))
+    (by c.core (h.rules.kinds t c here) (subst (λ n. IsPrepared (recursive_in s.kinds c.lock) n c.core) (plain.alone t c here) (h.rules.prepared t c here))))
   where
-    by : (k : Core) → IsOfKind (slice_get s.kinds c.lock) k → IsPrepared 0 k → EndsBy (end_of (core_act k)) (core_aim k) (core_tries k) (held_as (rw_mode (rw_core_role 0 c.spot (taken_by s.wakes t) k)))
-    by (Core.Rw x) of_kind ready = phase_ends (rw_spot c.spot) (taken_by s.wakes t) x.phase ready.1
+    by : (k : Core) → IsOfKind (slice_get s.kinds c.lock) k → IsPrepared (recursive_in s.kinds c.lock) 0 k → EndsBy (end_of (core_act k)) (core_aim k) (core_tries k) (held_as (rw_mode (rw_core_role 0 c.spot (taken_by s.wakes t) k)))
+    by (Core.Rw x) of_kind ready = phase_ends (recursive_in s.kinds c.lock) (rw_spot c.spot) (taken_by s.wakes t) x.phase ready.1
     by (Core.Mutex x) of_kind ready = absurd (not_mutex s c.lock plain.kinds of_kind)
+    by (Core.Late x) of_kind ready = absurd (not_mutex s c.lock plain.kinds of_kind)
 
 -- what that says of each aim
 ends_owned : (aim : Aim) (trying : Bool) (answer : CoreAnswer) (o : Option Mode) → EndsSo aim trying answer o → (m : Mode) → aim ≡ Gets m → answer ≡ CoreAnswer.Owned → o ≡ Some m

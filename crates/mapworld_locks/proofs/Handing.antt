@@ -1,9 +1,9 @@
 -- How shards' holds change in a step of the machine.
-use Rattle.std.proofs.Common.{◌≡◌, ◌≢◌, ℕ, zero, suc, inl, inr, ◌⊎◌, Bool, true, false, ◌==◌, List, length, Option, Some, None, slice_get, refl, sym, ap, ◌∙◌, subst, arith}
+use Rattle.std.proofs.Common.{◌≡◌, ◌≢◌, ◌<◌, ℕ, zero, suc, inl, inr, ◌⊎◌, Bool, true, false, ◌==◌, List, length, Option, Some, None, slice_get, refl, sym, ap, ◌∙◌, subst, arith}
 use Rattle.std.specs.List.{All}
-use Rattle.std.specs.Option.{option_and_then, option_map}
+use Rattle.std.specs.Option.{option_and_then, option_map, unwrap_or}
 use Rattle.std.proofs.lemmas.Bool.{cases_Bool, false≢true, eq-eqb, eqb-true, cond-true, cond-false}
-use Rattle.std.proofs.lemmas.Option.{none-some, same_Some, slice_get-map}
+use Rattle.std.proofs.lemmas.Option.{none-some, same_Some, slice_get-map, slice_get_within}
 use Rattle.lock_api_desk.specs.declared.mode.Mode.TheVariants as held
 use Rattle.parking_lot_core_lot.specs.declared.parking.ParkToken.{ParkToken}
 use Rattle.parking_lot_protocol.specs.declared.act.CoreAnswer.{CoreAnswer}
@@ -11,6 +11,7 @@ use Rattle.parking_lot_rules.specs.Any.{AnyLock, Rw}
 use Rattle.parking_lot_rules.specs.Lock.{Lock}
 use Rattle.parking_lot_rules.specs.Owners.{Owner, Reading, Upgrading, Awaiting, Writing, Case, IsCase, Leaves, Standing, owners, standing}
 use Rattle.parking_lot_rules.specs.Roles.{Idle, Role}
+use Rattle.parking_lot_world.specs.Kinds.{Manner, AsMutex, AsRw, manner, manner_of, is_recursive, recursive_in}
 use Rattle.parking_lot_world.specs.declared.calls.LockKind.{LockKind}
 use Rattle.parking_lot_world.specs.declared.calls.LockKind.TheVariants as kind
 use Rattle.parking_lot_world.specs.declared.open_call.Call.{Call}
@@ -29,6 +30,32 @@ use Rattle.mapworld_locks.proofs.Owning.{IsHanded, mode_is_owned, mode_standing,
 use Rattle.mapworld_locks.proofs.Taking.{HasTaken, IsUntold, untold_or_taken}
 use Rattle.mapworld_locks.proofs.Within.{chosen_sleeps, is_chosen}
 
+pub no_mutex : AsMutex ≢ AsRw
+no_mutex e = false≢true (ap (λ m. elim m as (λ x. Bool) [ AsMutex ↦ false | AsRw ↦ true ]) e)
+
+-- a lock that goes by some rules goes by those of reader-writer locks, and isn't recursive
+pub goes_by : (s : State) (i : ℕ) (m : Manner) → All (λ k. k ≡ kind.Rw) s.kinds → manner_of (slice_get s.kinds i) ≡ Some m → m ≡ AsRw
+goes_by s i m all is = at (slice_get s.kinds i) refl
+  where
+    at : (o : Option LockKind) → slice_get s.kinds i ≡ o → m ≡ AsRw
+    at None e = absurd (none-some m (sym (ap manner_of e) ∙ is))
+    at (Some k) e = same_Some m AsRw (sym is ∙ ap manner_of e ∙ ap (λ x. Some (manner x)) (all_at (λ k. k ≡ kind.Rw) s.kinds i k all e))
+
+-- and is one that there is
+pub within_kinds : (s : State) (i : ℕ) (m : Manner) → manner_of (slice_get s.kinds i) ≡ Some m → i < length s.kinds
+within_kinds s i m is = at (slice_get s.kinds i) refl
+  where
+    at : (o : Option LockKind) → slice_get s.kinds i ≡ o → i < length s.kinds
+    at None e = absurd (none-some m (sym (ap manner_of e) ∙ is))
+    at (Some k) e = slice_get_within s.kinds i k e
+
+pub not_recursive : (s : State) (i : ℕ) → All (λ k. k ≡ kind.Rw) s.kinds → recursive_in s.kinds i ≡ false
+not_recursive s i all = at (slice_get s.kinds i) refl
+  where
+    at : (o : Option LockKind) → slice_get s.kinds i ≡ o → recursive_in s.kinds i ≡ false
+    at None e = ap (λ o. is_recursive (unwrap_or o kind.Rw)) e
+    at (Some k) e = ap (λ o. is_recursive (unwrap_or o kind.Rw)) e ∙ ap is_recursive (all_at (λ k. k ≡ kind.Rw) s.kinds i k all e)
+
 -- every lock is a reader-writer lock
 pub is_rw : (s : State) → All (λ k. k ≡ kind.Rw) s.kinds → (i : ℕ) → lock_at s i ≡ Rw (rw_lock_at s i)
 is_rw s all i = at (slice_get s.kinds i) refl
@@ -41,8 +68,8 @@ pub held_is : (s : State) → All (λ k. k ≡ kind.Rw) s.kinds → (i t : ℕ) 
 held_is s all i t = ap (λ l. held_as (mode_in l t)) (is_rw s all i) ∙ ap held_as (mode_is_owned (rw_lock_at s i) t)
 
 -- a step at a lock, of which nothing but the lock is known
-rw_case : (t : ℕ) (l m : Lock) (a b : AnyLock) → a ≡ Rw l → b ≡ Rw m → IsCaseAt t a b → (case : Case) × IsCase false t case (owners l) (owners m)
-rw_case t l m a b e f h = subst (λ (y : AnyLock). IsCaseAt t (Rw l) y) f (subst (λ (x : AnyLock). IsCaseAt t x b) e h)
+rw_case : (recursive : Bool) (t : ℕ) (l m : Lock) (a b : AnyLock) → recursive ≡ false → a ≡ Rw l → b ≡ Rw m → IsCaseAt recursive t a b → (case : Case) × IsCase false t case (owners l) (owners m)
+rw_case recursive t l m a b plain e f h = subst (λ (y : AnyLock). IsCaseAt false t (Rw l) y) f (subst (λ (x : AnyLock). IsCaseAt false t x b) e (subst (λ (r : Bool). IsCaseAt r t a b) plain h))
 
 -- what is left of what one holds that leaves
 held_left : (from : Owner) → Leaves from (Reading 0) → held_as (mode_of from) ≢ None
@@ -91,6 +118,7 @@ module _ (s : State) (i v : ℕ) where
   by_core : (us : List ℕ) (h : Hold) (c : Call) → call_at s v ≡ Some c → c.lock ≡ i → (k : Core) → c.core ≡ k → rw_role_at s i v ≡ rw_core_role c.others c.spot us k
       → chosen_stand (rw_core_role c.others c.spot us k) ≡ true → IsChosenCall s i v
   by_core us h c there lock (Core.Mutex k) core role is = absurd (false≢true is)
+  by_core us h c there lock (Core.Late k) core role is = absurd (false≢true is)
   by_core us h c there lock (Core.Rw k) core role is =
       let x = chosen_sleeps c.others c.spot us k.phase is in
       record {
@@ -126,7 +154,7 @@ module _ (laws : StepsAreCases) (s u : State) (t : ℕ) (fair : Bool) (answer : 
   at_lock = laws.step s u t fair answer h x
 
   the_case : (case : Case) × IsCase false t case (owners (rw_lock_at s i)) (owners (rw_lock_at u i))
-  the_case = rw_case t (rw_lock_at s i) (rw_lock_at u i) (lock_at s i) (lock_at u i) (is_rw s rws i) (is_rw u next i) at_lock.case
+  the_case = rw_case (recursive_in s.kinds i) t (rw_lock_at s i) (rw_lock_at u i) (lock_at s i) (lock_at u i) (not_recursive s i rws) (is_rw s rws i) (is_rw u next i) at_lock.case
 
   -- nothing changes at other locks
   pub elsewhere : (j v : ℕ) → j ≢ i → held_at u j v ≡ held_at s j v

@@ -17,7 +17,7 @@ use Rattle.parking_lot_world.specs.RowActs.{hold_after, mutex_hold_after, rw_hol
 use Rattle.parking_lot_world.specs.Rows.{State, call_at, cell}
 use Rattle.parking_lot_world.specs.Stances.{core_act}
 use Rattle.mapworld_locks.specs.Fits.{IsPlain, is_single}
-use Rattle.mapworld_locks.proofs.Calls.{stepped_goes}
+use Rattle.mapworld_locks.proofs.Calls.{late_is, stepped_goes}
 use Rattle.mapworld_locks.proofs.Lists.{all_set}
 
 single_phase : (p : RwPhase) → is_single (rw_hold_after 0 p) ≡ true
@@ -150,7 +150,7 @@ module _ (s : State) (t : ℕ) (c : Call) (plain : IsPlain s) where
   goes here Act.Spin fair u e = is u _ e refl refl
   goes here (Act.Enter key) fair u e = is u _ e refl refl
   goes here (Act.Section next) fair u b = inside next fair u b
-  goes here Act.Sleep fair u b = absurd b
+  goes here Act.Sleep fair u b = let l = late_is s u t c c.core b in is u _ l.2 refl refl
   goes here (Act.Done answer) fair u e = record {
     kinds = ap (λ (x : State). x.kinds) e;
     single = subst (All IsSingle) (sym (ap (λ (x : State). x.holds) e)) (all_set IsSingle s.holds (cell s t c.lock) (hold_after c.others c.core) plain.single (after c.core (plain.alone t c here)));
@@ -159,6 +159,7 @@ module _ (s : State) (t : ℕ) (c : Call) (plain : IsPlain s) where
       after : (k : Core) → c.others ≡ 0 → IsSingle (hold_after c.others k)
       after (Core.Rw x) none = ap (λ n. is_single (rw_hold_after n x.phase)) none ∙ single_phase x.phase
       after (Core.Mutex x) none = single_mutex x.phase
+      after (Core.Late p) none = refl
 
 pub stepped_plain : (s u : State) (t : ℕ) (fair : Bool) (answer : Option CoreAnswer) → IsPlain s → IsStepped t fair answer s u → IsPlain u
 stepped_plain s u t fair answer plain x =

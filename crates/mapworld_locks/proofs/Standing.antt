@@ -12,8 +12,10 @@ use Rattle.parking_lot_protocol.specs.declared.act.ActResult.{ActResult}
 use Rattle.parking_lot_protocol.specs.declared.act.CoreAnswer.{CoreAnswer}
 use Rattle.parking_lot_protocol.specs.declared.rw_phase.RwPhase.{RwPhase}
 use Rattle.parking_lot_rules.proofs.Indexed.{get-set_same}
+use Rattle.parking_lot_world.specs.Kinds.{recursive_in}
 use Rattle.parking_lot_world.specs.declared.open_call.Call.{Call}
 use Rattle.parking_lot_world.specs.declared.seat.Core.{Core}
+use Rattle.parking_lot_world.specs.declared.seat.LatePhase.{LatePhase}
 use Rattle.parking_lot_world.specs.declared.seat.QueuePosition.{QueuePosition}
 use Rattle.parking_lot_world.specs.declared.seat.WakeResult.{WakeResult}
 use Rattle.parking_lot_world.specs.declared.seat.Wakeup.{Wakeup}
@@ -25,17 +27,27 @@ use Rattle.parking_lot_world.specs.Stances.{Asleep, Stance, core_act, core_next,
 use Rattle.parking_lot_world.specs.TellLaws.{IsDue}
 use Rattle.mapworld_locks.specs.Stands.{Stand, core_aim, core_tries, is_trying, stand_of}
 use Rattle.mapworld_locks.proofs.Aiming.{next_patient}
-use Rattle.mapworld_locks.proofs.Calls.{IsProper, call_of, map_of, next_keeps, set_elsewhere, set_here, set_nothing, slot}
+use Rattle.mapworld_locks.proofs.Calls.{IsProper, call_of, late_is, map_of, next_keeps, set_elsewhere, set_here, set_nothing, slot}
 
 -- a call that is kept isn't led astray
-pub kept_proper : (n : ℕ) (k : Core) → IsPrepared n k → IsProper k
-kept_proper n (Core.Rw c) ready = λ e. absurd (subst (λ p. IsPrepared n (Core.Rw (record { phase = p }))) e ready).1
-kept_proper n (Core.Mutex c) ready = tt
+pub kept_proper : (recursive : Bool) (n : ℕ) (k : Core) → IsPrepared recursive n k → IsProper k
+kept_proper recursive n (Core.Rw c) ready = λ e. absurd (subst (λ p. IsPrepared recursive n (Core.Rw (record { phase = p }))) e ready).1
+kept_proper recursive n (Core.Mutex c) ready = tt
+kept_proper recursive n (Core.Late c) ready = tt
+
+late_patient : (p : LatePhase) (told : ActResult) → core_tries (core_next (Core.Late p) told) ≡ false
+late_patient LatePhase.Expires (ActResult.Woken token) = refl
+late_patient LatePhase.Expires ActResult.Entered = refl
+late_patient LatePhase.Quits (ActResult.Took token left) = refl
+late_patient LatePhase.Masks (ActResult.Before word) = refl
+late_patient LatePhase.Leaves ActResult.Made = refl
+late_patient p told = refl
 
 -- one that isn't a try doesn't become one
 pub core_patient : (k : Core) (told : ActResult) → core_tries k ≡ false → core_tries (core_next k told) ≡ false
 core_patient (Core.Rw c) told calm = next_patient c.phase told calm
 core_patient (Core.Mutex c) told calm = refl
+core_patient (Core.Late p) told calm = late_patient p told
 
 -- THE THREAD ITSELF
 
@@ -103,7 +115,7 @@ module _ (s : State) (t : ℕ) (c : Call) (low : t < length s.calls) where
   own_goes Act.Spin fair u none e = is_own u _ e (own_told _)
   own_goes (Act.Enter key) fair u none e = is_own u _ e (own_told _)
   own_goes (Act.Section next) fair u none b = own_inside next fair u b
-  own_goes Act.Sleep fair u none b = absurd b
+  own_goes Act.Sleep fair u none b = let l = late_is s u t c c.core b in is_own u _ l.2 (own_told _)
   own_goes (Act.Done answer) fair u none e = absurd (none-some answer (sym none))
 
 -- A step that isn't an answer leaves its thread in its call.
@@ -188,6 +200,7 @@ asleep_tries RwPhase.Invalid is = refl
 core_asleep_tries : (k : Core) → sleeps (stance k) ≡ true → core_tries k ≡ false
 core_asleep_tries (Core.Rw c) is = asleep_tries c.phase is
 core_asleep_tries (Core.Mutex c) is = refl
+core_asleep_tries (Core.Late c) is = refl
 
 -- a sleeper that is woken is about the same
 woken_stands : (d : Call) (token : UnparkToken) → IsProper (core_next d.core (ActResult.Woken token)) → sleeps (stance d.core) ≡ true
@@ -258,7 +271,7 @@ module _ (s : State) (h : FitsTogether s) (t : ℕ) (c : Call) (v : ℕ) (other 
       there eq = ap (λ (x : State). call_at x v) is_it ∙ set_elsewhere (slice_set s.calls e.thread (Some woken)) t v _ other ∙ ap (call_of (slice_set s.calls e.thread (Some woken))) eq ∙ set_here s.calls e.thread d (Some woken) due.there
 
       proper : v ≡ e.thread → IsProper (core_next d.core (ActResult.Woken token))
-      proper eq = kept_proper d.others (core_next d.core (ActResult.Woken token)) (g.rules.prepared v woken (there eq))
+      proper eq = kept_proper (recursive_in u.kinds d.lock) d.others (core_next d.core (ActResult.Woken token)) (g.rules.prepared v woken (there eq))
 
   goes : (a : Act) (fair : Bool) (u : State) → FitsTogether u → Became a t fair c s u → Same u.calls
   goes Act.Load fair u g e = is u _ e (apart s.calls _)
@@ -268,7 +281,7 @@ module _ (s : State) (h : FitsTogether s) (t : ℕ) (c : Call) (v : ℕ) (other 
   goes Act.Spin fair u g e = is u _ e (apart s.calls _)
   goes (Act.Enter key) fair u g e = is u _ e (apart s.calls _)
   goes (Act.Section next) fair u g b = goes_inside next fair u g b
-  goes Act.Sleep fair u g b = absurd b
+  goes Act.Sleep fair u g b = let l = late_is s u t c c.core b in is u _ l.2 (apart s.calls _)
   goes (Act.Done answer) fair u g e = is u _ e (apart s.calls _)
 
 -- In a step everybody else stays about the same.

@@ -10,6 +10,8 @@ use Rattle.parking_lot_protocol.specs.declared.rw_phase.RwPhase.{RwPhase}
 use Rattle.parking_lot_protocol.specs.Acts.{word_before}
 use Rattle.parking_lot_protocol.specs.RwRules as of_rw
 use Rattle.parking_lot_protocol.specs.RwTable.{is_parked}
+use Rattle.parking_lot_world.specs.declared.calls.LockKind.{LockKind}
+use Rattle.parking_lot_world.specs.Kinds.{kind_in, recursive_in}
 use Rattle.parking_lot_world.specs.declared.calls.LockCall.{LockCall}
 use Rattle.parking_lot_world.specs.declared.open_call.Call.{Call}
 use Rattle.parking_lot_world.specs.declared.seat.Core.{Core}
@@ -23,6 +25,7 @@ use Rattle.parking_lot_world.specs.Stances.{core_act, core_next}
 use Rattle.mapworld_locks.specs.Fits.{IsPlain}
 use Rattle.mapworld_locks.specs.Stands.{gives}
 use Rattle.mapworld_locks.specs.Views.{held_as, held_at}
+use Rattle.parking_lot_world.proofs.Serving.{or_else}
 use Rattle.mapworld_locks.proofs.Calls.{IsProper}
 use Rattle.mapworld_locks.proofs.Standing.{GoesOnBy, kept_proper, own_call, set_low}
 use Rattle.mapworld_locks.proofs.Stepping.{call_holds}
@@ -32,36 +35,38 @@ pub begun_call : (s u : State) (t i : ℕ) (call : LockCall) → t < length s.ca
 begun_call s u t i call low x =
     ap (λ (w : State). call_at w t) x.became ∙ set_low s.calls t (Some (hears (call_for s t i call) ActResult.Start)) low
 
-first_possible : (taken : ℕ → Bool) (call : LockCall) → gives call ≡ true → is_possible taken (core_act (core_next (core_of call) ActResult.Start)) ≡ true
-first_possible taken LockCall.Lock is = absurd (false≢true is)
-first_possible taken LockCall.TryLock is = absurd (false≢true is)
-first_possible taken LockCall.Unlock is = absurd (false≢true is)
-first_possible taken LockCall.Read is = absurd (false≢true is)
-first_possible taken LockCall.TryRead is = absurd (false≢true is)
-first_possible taken LockCall.UnlockRead is = refl
-first_possible taken LockCall.Write is = absurd (false≢true is)
-first_possible taken LockCall.TryWrite is = absurd (false≢true is)
-first_possible taken LockCall.UnlockWrite is = refl
-first_possible taken LockCall.Downgrade is = refl
+first_possible : (taken : ℕ → Bool) (x : LockKind) (call : LockCall) → gives call ≡ true → is_possible taken (core_act (core_next (core_of x call) ActResult.Start)) ≡ true
+first_possible taken x LockCall.Lock is = absurd (false≢true is)
+first_possible taken x LockCall.TryLock is = absurd (false≢true is)
+first_possible taken x LockCall.LockUntil is = absurd (false≢true is)
+first_possible taken x LockCall.Unlock is = absurd (false≢true is)
+first_possible taken x LockCall.Read is = absurd (false≢true is)
+first_possible taken x LockCall.TryRead is = absurd (false≢true is)
+first_possible taken x LockCall.UnlockRead is = refl
+first_possible taken x LockCall.Write is = absurd (false≢true is)
+first_possible taken x LockCall.TryWrite is = absurd (false≢true is)
+first_possible taken x LockCall.UnlockWrite is = refl
+first_possible taken x LockCall.Downgrade is = refl
 
-first_open : (call : LockCall) → gives call ≡ true → end_of (core_act (core_next (core_of call) ActResult.Start)) ≡ None
-first_open LockCall.Lock is = absurd (false≢true is)
-first_open LockCall.TryLock is = absurd (false≢true is)
-first_open LockCall.Unlock is = absurd (false≢true is)
-first_open LockCall.Read is = absurd (false≢true is)
-first_open LockCall.TryRead is = absurd (false≢true is)
-first_open LockCall.UnlockRead is = refl
-first_open LockCall.Write is = absurd (false≢true is)
-first_open LockCall.TryWrite is = absurd (false≢true is)
-first_open LockCall.UnlockWrite is = refl
-first_open LockCall.Downgrade is = refl
+first_open : (x : LockKind) (call : LockCall) → gives call ≡ true → end_of (core_act (core_next (core_of x call) ActResult.Start)) ≡ None
+first_open x LockCall.Lock is = absurd (false≢true is)
+first_open x LockCall.TryLock is = absurd (false≢true is)
+first_open x LockCall.LockUntil is = absurd (false≢true is)
+first_open x LockCall.Unlock is = absurd (false≢true is)
+first_open x LockCall.Read is = absurd (false≢true is)
+first_open x LockCall.TryRead is = absurd (false≢true is)
+first_open x LockCall.UnlockRead is = refl
+first_open x LockCall.Write is = absurd (false≢true is)
+first_open x LockCall.TryWrite is = absurd (false≢true is)
+first_open x LockCall.UnlockWrite is = refl
+first_open x LockCall.Downgrade is = refl
 
 module _ (s mid : State) (t i : ℕ) (call : LockCall) (low : t < length s.calls) (x : IsBegun t i call s mid) where
   pub can_start : gives call ≡ true → can_move mid t ≡ true
-  can_start is = ap (can_move_in mid) (begun_call s mid t i call low x) ∙ first_possible _ call is
+  can_start is = ap (can_move_in mid) (begun_call s mid t i call low x) ∙ or_else _ (first_possible _ (kind_in s.kinds i) call is)
 
   pub is_open : gives call ≡ true → ended mid t ≡ None
-  is_open is = ap (option_and_then (λ (c : Call). end_of (core_act c.core))) (begun_call s mid t i call low x) ∙ first_open call is
+  is_open is = ap (option_and_then (λ (c : Call). end_of (core_act c.core))) (begun_call s mid t i call low x) ∙ first_open (kind_in s.kinds i) call is
 
 -- A DOWNGRADE
 
@@ -87,7 +92,7 @@ start_turns s mid u t i call fair low begins x fits plain is =
     let begun : hears (call_for s t i call) ActResult.Start ≡ x.call = same_Some _ x.call (sym (begun_call s mid t i call low begins) ∙ x.here) in
     let lock : own.call.lock ≡ i = own.lock ∙ sym (ap (λ (c : Call). c.lock) begun) in
     let core : own.call.core ≡ core_next (Core.Rw (record { phase = RwPhase.Downgrades })) own.told =
-    own.core ∙ ap (λ (c : Call). core_next c.core own.told) (sym begun) ∙ ap (λ k. core_next (core_next (core_of k) ActResult.Start) own.told) is in
+    own.core ∙ ap (λ (c : Call). core_next c.core own.told) (sym begun) ∙ ap (λ k. core_next (core_next (core_of (kind_in s.kinds i) k) ActResult.Start) own.told) is in
     ap (λ n. held_at u n t) (sym lock)
     ∙ call_holds u t own.call plain own.there
-    ∙ core_turned own.call.spot (taken_by u.wakes t) own.call.core own.told core (kept_proper own.call.others own.call.core (fits.rules.prepared t own.call own.there))
+    ∙ core_turned own.call.spot (taken_by u.wakes t) own.call.core own.told core (kept_proper (recursive_in u.kinds own.call.lock) own.call.others own.call.core (fits.rules.prepared t own.call own.there))

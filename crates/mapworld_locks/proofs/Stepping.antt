@@ -13,6 +13,7 @@ use Rattle.parking_lot_protocol.specs.declared.rw_phase.LockMode.{LockMode}
 use Rattle.parking_lot_protocol.specs.declared.rw_phase.RwPhase.{RwPhase}
 use Rattle.parking_lot_rules.specs.Roles.{Idle}
 use Rattle.parking_lot_rules.proofs.Indexed.{get-set_same, get-set_other}
+use Rattle.parking_lot_world.specs.Kinds.{AsMutex, manner_of, recursive_in}
 use Rattle.parking_lot_world.specs.declared.calls.LockKind.TheVariants as kind
 use Rattle.parking_lot_world.specs.declared.open_call.Call.{Call}
 use Rattle.parking_lot_world.specs.declared.seat.Core.{Core}
@@ -31,12 +32,10 @@ use Rattle.mapworld_locks.specs.Steps.{LockMoves}
 use Rattle.mapworld_locks.specs.Views.{Shown, held_as, held_at}
 use Rattle.mapworld_locks.proofs.Admitting.{AllSeated, IsSeated, seats_all}
 use Rattle.mapworld_locks.proofs.Answering.{stepped_fits}
-use Rattle.mapworld_locks.proofs.Beginning.{is_rw}
 use Rattle.mapworld_locks.proofs.Calls.{IsProper, next_keeps, slot, stepped_goes}
 use Rattle.mapworld_locks.proofs.Ending.{held_by_role}
-use Rattle.mapworld_locks.proofs.Handing.{IsHandedOver, elsewhere, others, own}
+use Rattle.mapworld_locks.proofs.Handing.{IsHandedOver, elsewhere, others, own, goes_by, no_mutex, within_kinds}
 use Rattle.mapworld_locks.proofs.Keeping.{stepped_kinds, stepped_plain}
-use Rattle.mapworld_locks.proofs.Lists.{all_at}
 use Rattle.mapworld_locks.proofs.Moving.{Moved, Moves, moved}
 use Rattle.mapworld_locks.proofs.Standing.{GoesOnBy, core_patient, kept_proper, others_stand, own_call, sleeps}
 use Rattle.mapworld_locks.proofs.Together.{go_together, holders_are_threads}
@@ -55,16 +54,17 @@ call_holds s t c plain here =
     held_by_role s c.lock t plain.kinds (slice_get_within s.calls t (Some c) (slot s.calls t c here))
     ∙ ap (λ r. held_as (rw_mode r)) (call_role s t c here) ∙ ap (λ n. held_as (rw_mode (rw_core_role n c.spot (taken_by s.wakes t) c.core))) (plain.alone t c here)
 
-pub not_mutex : (s : State) (i : ℕ) → All (λ k. k ≡ kind.Rw) s.kinds → slice_get s.kinds i ≢ Some kind.Mutex
-not_mutex s i rws e = is_rw (all_at (λ k. k ≡ kind.Rw) s.kinds i kind.Mutex rws e)
+pub not_mutex : (s : State) (i : ℕ) → All (λ k. k ≡ kind.Rw) s.kinds → manner_of (slice_get s.kinds i) ≢ Some AsMutex
+not_mutex s i rws e = no_mutex (goes_by s i AsMutex rws e)
 
 -- it holds nothing beyond what it is about
 pub call_within : (s : State) (t : ℕ) (c : Call) → FitsTogether s → IsPlain s → call_at s t ≡ Some c → is_within (core_aim c.core) (held_at s c.lock t) ≡ true
-call_within s t c h plain here = ap (is_within (core_aim c.core)) (call_holds s t c plain here) ∙ by c.core (h.rules.kinds t c here) (subst (λ n. IsPrepared n c.core) (plain.alone t c here) (h.rules.prepared t c here))
+call_within s t c h plain here = ap (is_within (core_aim c.core)) (call_holds s t c plain here) ∙ by c.core (h.rules.kinds t c here) (subst (λ n. IsPrepared (recursive_in s.kinds c.lock) n c.core) (plain.alone t c here) (h.rules.prepared t c here))
   where
-    by : (k : Core) → IsOfKind (slice_get s.kinds c.lock) k → IsPrepared 0 k → is_within (core_aim k) (held_as (rw_mode (rw_core_role 0 c.spot (taken_by s.wakes t) k))) ≡ true
-    by (Core.Rw x) of_kind ready = within (rw_spot c.spot) (taken_by s.wakes t) x.phase ready.0 (λ e. absurd (subst (λ p. IsPrepared 0 (Core.Rw (record { phase = p }))) e ready).1)
+    by : (k : Core) → IsOfKind (slice_get s.kinds c.lock) k → IsPrepared (recursive_in s.kinds c.lock) 0 k → is_within (core_aim k) (held_as (rw_mode (rw_core_role 0 c.spot (taken_by s.wakes t) k))) ≡ true
+    by (Core.Rw x) of_kind ready = within (rw_spot c.spot) (taken_by s.wakes t) x.phase ready.0 (λ e. absurd (subst (λ p. IsPrepared (recursive_in s.kinds c.lock) 0 (Core.Rw (record { phase = p }))) e ready).1)
     by (Core.Mutex x) of_kind ready = absurd (not_mutex s c.lock plain.kinds of_kind)
+    by (Core.Late x) of_kind ready = absurd (not_mutex s c.lock plain.kinds of_kind)
 
 never_upgradable : (aim : Aim) → is_within aim (Some held.Upgradable) ≡ false
 never_upgradable (Gets held.Shared) = refl
@@ -142,9 +142,10 @@ asleep_gets (RwPhase.Finishes rest) m is fits = absurd (false≢true is)
 asleep_gets (RwPhase.Ends outcome) m is fits = absurd (false≢true is)
 asleep_gets RwPhase.Invalid m is fits = absurd (false≢true is)
 
-core_gets : (k : Core) (kinds : Option _) (m : Mode) → IsOfKind kinds k → kinds ≢ Some kind.Mutex → sleeps (stance k) ≡ true → is_within (core_aim k) (Some m) ≡ true → core_aim k ≡ Gets m
+core_gets : (k : Core) (kinds : Option _) (m : Mode) → IsOfKind kinds k → manner_of kinds ≢ Some AsMutex → sleeps (stance k) ≡ true → is_within (core_aim k) (Some m) ≡ true → core_aim k ≡ Gets m
 core_gets (Core.Rw c) kinds m of_kind ne is fits = asleep_gets c.phase m is fits
 core_gets (Core.Mutex c) kinds m of_kind ne is fits = absurd (ne of_kind)
+core_gets (Core.Late c) kinds m of_kind ne is fits = absurd (ne of_kind)
 
 -- where it held and holds no longer
 left_so : (a b : Option Mode) → a ≢ None → b ≡ None → has_left a b ≡ true
@@ -202,7 +203,7 @@ module _ (laws : StepsAreCases) (agree : Always OwnersAgree) (old : Shown) (fit 
   d = own_goes.call
 
   proper : IsProper d.core
-  proper = kept_proper d.others d.core (fits.rules.prepared t d own_goes.there)
+  proper = kept_proper (recursive_in u.kinds d.lock) d.others d.core (fits.rules.prepared t d own_goes.there)
 
   aim_same : core_aim d.core ≡ core_aim c.core
   aim_same = ap core_aim own_goes.core ∙ next_keeps c.core own_goes.told (subst IsProper own_goes.core proper)
@@ -211,8 +212,9 @@ module _ (laws : StepsAreCases) (agree : Always OwnersAgree) (old : Shown) (fit 
   in_range = omega (arith, of c.core (fit.fits.rules.kinds t c x.here), fit.count)
     where
       of : (k : Core) → IsOfKind (slice_get s.kinds i) k → i < length s.kinds
-      of (Core.Rw y) e = slice_get_within s.kinds i kind.Rw e
-      of (Core.Mutex y) e = slice_get_within s.kinds i kind.Mutex e
+      of (Core.Rw y) e = within_kinds s i _ e
+      of (Core.Mutex y) e = within_kinds s i _ e
+      of (Core.Late y) e = within_kinds s i _ e
 
   other : (v : ℕ) → v ≢ t → (held_at u i v ≡ held_at s i v) ⊎ IsHandedOver t i v s u
   other v ne = others laws s u t fair None fit.fits fit.plain.kinds plain.kinds fit.plain.alone x v ne

@@ -21,7 +21,7 @@ use Rattle.parking_lot_world.specs.RowFits.{FitsTogether, IsAt, Seated, Stands}
 use Rattle.parking_lot_world.specs.Rows.{State, call_at, is_by, taken_by}
 use Rattle.parking_lot_world.specs.Stances.{Asleep, Stance, core_act, stance}
 use Rattle.parking_lot_world.specs.TellLaws.{IsDue}
-use Rattle.mapworld_locks.proofs.Calls.{call_of, set_elsewhere, slot}
+use Rattle.mapworld_locks.proofs.Calls.{call_of, late_is, set_elsewhere, slot}
 
 -- a thread has taken another, and is to wake it
 abbrev pub HasTaken : List Wakeup → ℕ → ℕ → Type 0
@@ -173,7 +173,7 @@ module _ (s : State) (h : FitsTogether s) (t : ℕ) (c : Call) (here : call_at s
   goes Act.Spin fair u e = is u _ e (inl (apart _))
   goes (Act.Enter key) fair u e = is u _ e (inl (apart _))
   goes (Act.Section next) fair u b = goes_inside next fair u b
-  goes Act.Sleep fair u b = absurd b
+  goes Act.Sleep fair u b = let l = late_is s u t c c.core b in is u _ l.2 (inl (apart _))
   goes (Act.Done answer) fair u e = is u _ e (inl (apart _))
 
 pub untold_or_taken : (s u : State) (t : ℕ) (fair : Bool) (answer : Option CoreAnswer) → FitsTogether s → IsStepped t fair answer s u

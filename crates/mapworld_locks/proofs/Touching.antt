@@ -11,7 +11,10 @@ use Rattle.parking_lot_rules.specs.Any.{AnyLock, Mx, Rw}
 use Rattle.parking_lot_rules.specs.Lock.{Lock}
 use Rattle.parking_lot_rules.proofs.Indexed.{get-set_other}
 use Rattle.parking_lot_world.specs.declared.open_call.Call.{Call}
-use Rattle.parking_lot_world.specs.Machines.{Became, BecameInside, IsStepped}
+use Rattle.parking_lot_world.specs.declared.seat.Core.{Core}
+use Rattle.parking_lot_world.specs.declared.seat.LatePhase.{LatePhase}
+use Rattle.parking_lot_world.specs.LateActs.{others_left, quitted_as}
+use Rattle.parking_lot_world.specs.Machines.{Became, BecameInside, BecameLate, IsStepped}
 use Rattle.parking_lot_world.specs.RowActs.{key_of}
 use Rattle.parking_lot_world.specs.RowFits.{FitsTogether}
 use Rattle.parking_lot_world.specs.Rows.{State, first_key, queue_at, rw_lock_at, second_key, word_at}
@@ -61,6 +64,16 @@ module _ (s : State) (t : ℕ) (c : Call) where
   goes_inside SectionAct.Leave fair u e = is u _ e (inl nothing)
   goes_inside SectionAct.Wake fair u (e, d, token, due, is_it) = is u _ is_it (inl nothing)
 
+  -- one whose moment has passed takes itself out of its first list
+  late_lists : (k : Core) (u : State) → BecameLate k t c s u → Result u
+  late_lists (Core.Late LatePhase.Expires) u e = is u _ e (inl nothing)
+  late_lists (Core.Late LatePhase.Quits) u e = is u _ e (stays (others_left s t c))
+    where
+      stays : (left : Bool) → Result (quitted_as s t c left)
+      stays true = inr (0, λ j. refl, λ key ne. other_list 0 _ key ne)
+      stays false = inr (0, λ j. refl, λ key ne. other_list 0 _ key ne)
+  late_lists k u e = absurd e
+
   goes : (a : Act) (fair : Bool) (u : State) → Became a t fair c s u → Result u
   goes Act.Load fair u e = is u _ e (inl nothing)
   goes (Act.Exchange from to) fair u e = is u _ e (either _ _ _ (inl (λ j ne. word_set _ j ne, λ key. refl)) (inl nothing))
@@ -69,7 +82,7 @@ module _ (s : State) (t : ℕ) (c : Call) where
   goes Act.Spin fair u e = is u _ e (inl nothing)
   goes (Act.Enter key) fair u e = is u _ e (inl nothing)
   goes (Act.Section next) fair u b = goes_inside next fair u b
-  goes Act.Sleep fair u b = absurd b
+  goes Act.Sleep fair u b = late_lists c.core u b
   goes (Act.Done answer) fair u e = is u _ e (inl nothing)
 
 locks_are : (a b : Lock) (x y : AnyLock) → x ≡ Rw a → y ≡ Rw b → x ≡ y → a ≡ b

@@ -132,6 +132,7 @@ module _ (s : State) (h : FitsTogether s) (plain : IsPlain s) (i t : ℕ) where
   core_reads : (c : Call) → call_at s t ≡ Some c → (k : Core) → IsOfKind (slice_get s.kinds c.lock) k → weight Readers (rw_core_role 0 c.spot us k) ≤ 1
   core_reads c here (Core.Rw x) of_kind = phase_reads (rw_spot c.spot) us x.phase
   core_reads c here (Core.Mutex x) of_kind = absurd (not_mutex s c.lock plain.kinds of_kind)
+  core_reads c here (Core.Late x) of_kind = absurd (not_mutex s c.lock plain.kinds of_kind)
 
   reads_by : (o : Option Call) → call_at s t ≡ o → weight Readers (rw_role_in i us hold o) ≤ 1
   reads_by None e = idle_reads hold (single_hold s t i plain.single)

@@ -23,6 +23,7 @@ pub data Aim : Type 0 where
 abbrev pub aim_of : LockCall → Aim
 aim_of call.Lock = Gets held.Exclusive
 aim_of call.TryLock = Gets held.Exclusive
+aim_of call.LockUntil = Gets held.Exclusive
 aim_of call.Unlock = GivesUp held.Exclusive
 aim_of call.Read = Gets held.Shared
 aim_of call.TryRead = Gets held.Shared

@@ -32,10 +32,12 @@ is_trying other = false
 abbrev pub core_aim : Core → Aim
 core_aim (core.Rw c) = phase_aim c.phase
 core_aim (core.Mutex c) = Turns
+core_aim (core.Late p) = Turns
 
 abbrev pub core_tries : Core → Bool
 core_tries (core.Rw c) = is_trying c.phase
 core_tries (core.Mutex c) = false
+core_tries (core.Late p) = false
 
 abbrev pub stand_of : Call → Stand
 stand_of c = record { shard = c.lock; aim = core_aim c.core; trying = core_tries c.core }

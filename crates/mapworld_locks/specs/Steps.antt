@@ -7,8 +7,8 @@ use Rattle.parking_lot_protocol.specs.declared.act.CoreAnswer.{CoreAnswer}
 use Rattle.parking_lot_protocol.specs.declared.act.CoreAnswer.TheVariants.{Owned, Refused}
 use Rattle.parking_lot_world.specs.declared.calls.LockCall.{LockCall}
 use Rattle.parking_lot_world.specs.declared.calls.LockCall.TheVariants.{Downgrade}
-use Rattle.parking_lot_world.specs.declared.calls.LockKind.TheVariants as kind
-use Rattle.parking_lot_world.specs.Calls.{kind_of}
+use Rattle.parking_lot_world.specs.Calls.{manner_for}
+use Rattle.parking_lot_world.specs.Kinds.{AsRw}
 use Rattle.parking_lot_world.specs.Machines.{IsBegun, IsStepped, ended}
 use Rattle.parking_lot_world.specs.Rows.{state, taken_by}
 use Rattle.mapworld_locks.specs.Aims.{Gets, GivesUp, Turns, aim_of}
@@ -26,7 +26,7 @@ pub record StaysWhole (old new : Shown) : Type 0 where
 pub record MayAsk (t shard : ℕ) (call : LockCall) (sh : Shown) : Type 0 where
   pub thread : t < length sh.rows.calls
   pub there : shard < length sh.rows.kinds
-  pub of_kind : kind_of call ≡ kind.Rw
+  pub of_kind : manner_for call ≡ AsRw
   pub free : stand_in sh t ≡ None
   pub holds : owner_in sh shard t ≡ needs call
 

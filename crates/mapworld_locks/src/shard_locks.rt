@@ -2,8 +2,8 @@
 ghost use Rattle.std.specs.Option.{option_copied};
 ghost use Rattle.std.specs.Prelude.{◌≡◌, ◌↔◌, length, None, Some, true, is_some, slice_get, IfOk, IfErr, IsTrue};
 ghost use Rattle.parking_lot_core_lot.specs.declared.fault.SizeFault.TheVariants.{NoMemory};
-ghost use Rattle.parking_lot_world.specs.declared.calls.LockKind.TheVariants.{Rw};
-ghost use Rattle.parking_lot_world.specs.Calls.{kind_of};
+ghost use Rattle.parking_lot_world.specs.Kinds.{AsRw};
+ghost use Rattle.parking_lot_world.specs.Calls.{manner_for};
 ghost use Rattle.parking_lot_world.specs.Machines.{can_move, ended, is_asleep};
 ghost use Rattle.parking_lot_world.specs.Rows.{queue_at, state, word_at};
 ghost use Rattle.mapworld_locks.specs.Fits.{LocksFit};
@@ -175,10 +175,11 @@ impl<A: Allocator> ShardLocks<A> {
 
 /// Whether the call is one of reader-writer locks.
 fn is_of_shards(call: LockCall) -> bool
-    ensures { IsTrue result ↔ (kind_of call ≡ Rw) }
+    ensures { IsTrue result ↔ (manner_for call ≡ AsRw) }
 {
     match call {
-        LockCall::Lock | LockCall::TryLock | LockCall::Unlock => false,
+        LockCall::Lock | LockCall::TryLock | LockCall::LockUntil => false,
+        LockCall::Unlock => false,
         _ => true,
     }
 }

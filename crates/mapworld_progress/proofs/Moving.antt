@@ -63,8 +63,11 @@ held-apart k h OwnMode.Upgradable e = (held.Upgradable, refl)
 held-apart k h OwnMode.Exclusive e = (held.Exclusive, refl)
 held-apart k LockHold.Excludes OwnMode.Pending e = absurd cc
 held-apart (Some LockKind.Mutex) (LockHold.Shares n) OwnMode.Pending e = absurd cc
+held-apart (Some LockKind.FairMutex) (LockHold.Shares n) OwnMode.Pending e = absurd cc
 held-apart (Some LockKind.Rw) (LockHold.Shares zero) OwnMode.Pending e = absurd cc
 held-apart (Some LockKind.Rw) (LockHold.Shares (suc n)) OwnMode.Pending e = absurd cc
+held-apart (Some LockKind.RwRecursive) (LockHold.Shares zero) OwnMode.Pending e = absurd cc
+held-apart (Some LockKind.RwRecursive) (LockHold.Shares (suc n)) OwnMode.Pending e = absurd cc
 held-apart None (LockHold.Shares zero) OwnMode.Pending e = absurd cc
 held-apart None (LockHold.Shares (suc n)) OwnMode.Pending e = absurd cc
 

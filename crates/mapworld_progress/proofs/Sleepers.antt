@@ -11,14 +11,15 @@ use Rattle.parking_lot_protocol.specs.declared.rw_phase.AfterWake.{AfterWake}
 use Rattle.parking_lot_protocol.specs.declared.rw_phase.LockMode.{LockMode}
 use Rattle.parking_lot_protocol.specs.declared.rw_phase.RwPhase.{RwPhase}
 use Rattle.parking_lot_protocol.specs.RwTable.{act_of}
+use Rattle.parking_lot_world.specs.Kinds.{AsMutex, manner_of}
 use Rattle.parking_lot_world.specs.declared.calls.LockKind.{LockKind}
-use Rattle.parking_lot_world.specs.declared.calls.LockKind.TheVariants as kind
 use Rattle.parking_lot_world.specs.declared.open_call.Call.{Call}
 use Rattle.parking_lot_world.specs.declared.seat.Core.{Core}
 use Rattle.parking_lot_world.specs.Machines.{is_asleep, sleeps}
 use Rattle.parking_lot_world.specs.RowFits.{IsOfKind}
 use Rattle.parking_lot_world.specs.Rows.{State, call_at, state}
 use Rattle.parking_lot_world.specs.Stances.{Stance, Asleep, core_act, rw_stance, stance}
+use Rattle.mapworld_locks.proofs.Handing.{goes_by, no_mutex}
 use Rattle.mapworld_locks.specs.Aims.{Aim, Gets, aim_for, phase_aim}
 use Rattle.mapworld_locks.specs.Fits.{LocksFit}
 use Rattle.mapworld_locks.specs.Stands.{core_aim}
@@ -99,16 +100,17 @@ sleeps_on (RwPhase.Finishes rest) h = absurd (awake rest h)
 sleeps_on (RwPhase.Ends outcome) h = cc
 sleeps_on RwPhase.Invalid h = cc
 
-core_sleeps : (k : Core) (o : Option LockKind) → o ≢ Some kind.Mutex → IsOfKind o k → sleeps (core_act k) ≡ true → SleepsOn (stance k) (core_aim k)
+core_sleeps : (k : Core) (o : Option LockKind) → manner_of o ≢ Some AsMutex → IsOfKind o k → sleeps (core_act k) ≡ true → SleepsOn (stance k) (core_aim k)
 core_sleeps (Core.Rw c) o rw of_kind h = sleeps_on c.phase h
 core_sleeps (Core.Mutex c) o rw of_kind h = absurd (rw of_kind)
+core_sleeps (Core.Late c) o rw of_kind h = absurd (rw of_kind)
 
 module _ (locks : Shown) (fit : LocksFit locks) (t : ℕ) where
   abbrev s : State
   s = state locks.rows
 
-  all_rw : (i : ℕ) → slice_get s.kinds i ≢ Some kind.Mutex
-  all_rw i e = let same = all_at (λ k. k ≡ kind.Rw) s.kinds i kind.Mutex fit.plain.kinds e in cc
+  all_rw : (i : ℕ) → manner_of (slice_get s.kinds i) ≢ Some AsMutex
+  all_rw i e = no_mutex (goes_by s i AsMutex fit.plain.kinds e)
 
   -- the call in which a thread sleeps
   sleeper-by : (o : Option Call) → call_at s t ≡ o → option_map_or (λ c. sleeps (core_act c.core)) o false ≡ true → (c : Call) × (call_at s t ≡ Some c) × SleepsOn (stance c.core) (core_aim c.core)

@@ -5,9 +5,9 @@ use Rattle.std.proofs.lemmas.Bool.{false≢true}
 use Rattle.dashmap_table.proofs.Cases.{option_cases}
 use Rattle.parking_lot_protocol.specs.declared.act.CoreAnswer.{CoreAnswer}
 use Rattle.parking_lot_protocol.specs.declared.act.CoreAnswer.TheVariants.{Owned, Refused}
-use Rattle.parking_lot_world.specs.Calls.{kind_of}
+use Rattle.parking_lot_world.specs.Kinds.{AsRw}
+use Rattle.parking_lot_world.specs.Calls.{manner_for}
 use Rattle.parking_lot_world.specs.declared.calls.LockCall.TheVariants as call
-use Rattle.parking_lot_world.specs.declared.calls.LockKind.TheVariants as kind
 use Rattle.mapworld_locks.specs.Views.{Shown, owner_in}
 use Rattle.mapworld_locks.specs.Stands.{Stand, stand_in, needs, gives}
 use Rattle.mapworld_locks.specs.Steps.{MayAsk}
@@ -27,13 +27,13 @@ use Rattle.mapworld_state.proofs.HoldsTable.{none-there}
 use Rattle.mapworld_locks.proofs.Sizes.{KeepsSize, same_size, begins-size}
 
 -- what is asked of a lock, and what it needs
-asked-needs : (tries : Bool) (mode : Mode) → (kind_of (wants_for tries mode) ≡ kind.Rw) × (needs (wants_for tries mode) ≡ None)
+asked-needs : (tries : Bool) (mode : Mode) → (manner_for (wants_for tries mode) ≡ AsRw) × (needs (wants_for tries mode) ≡ None)
 asked-needs false Shared = (refl, refl)
 asked-needs false Exclusive = (refl, refl)
 asked-needs true Shared = (refl, refl)
 asked-needs true Exclusive = (refl, refl)
 
-given-needs : (mode : Mode) → (kind_of (gives_up mode) ≡ kind.Rw) × (needs (gives_up mode) ≡ Some (at_desk mode))
+given-needs : (mode : Mode) → (manner_for (gives_up mode) ≡ AsRw) × (needs (gives_up mode) ≡ Some (at_desk mode))
 given-needs Shared = (refl, refl)
 given-needs Exclusive = (refl, refl)
 

@@ -20,12 +20,12 @@ use Rattle.parking_lot_core_lot.specs.declared.place.Phase.{Phase}
 use Rattle.parking_lot_core_lot.specs.declared.place.Phase.TheVariants as phase
 use Rattle.parking_lot_core_lot.specs.declared.place.Waiter.{Waiter}
 use Rattle.parking_lot_core_lot.specs.Lists.{updated, without_first}
-use Rattle.parking_lot_core_lot.specs.Places.{place_at, changed, held, moved_to, late, roused, waits_at, is_held, is_due, passed_of, may_check, may_join, may_take, may_store}
+use Rattle.parking_lot_core_lot.specs.Places.{place_at, changed, held, moved_to, late, roused, waits_at, is_held, is_due, passed_of, may_check, may_join, may_take, may_store, may_return}
 use Rattle.parking_lot_core_lot.specs.Results.{is_take, is_skip, chosen_by, passed_by, woken_by, moved_by, left_by}
-use Rattle.parking_lot_core_lot.specs.Machine.{Machine, is_thread, is_of, section_of, any_phase, busy, step_fault, status_at, runs, token_of, changed_at, given_up, taken, moved, moved_first, unparked, requeued, opened, in_phase, stored, closed, joined}
+use Rattle.parking_lot_core_lot.specs.Machine.{Machine, is_thread, is_of, section_of, any_phase, busy, step_fault, status_at, runs, token_of, changed_at, given_up, resumed, returned, return_fault, taken, moved, moved_first, unparked, requeued, opened, in_phase, stored, closed, joined}
 use Rattle.parking_lot_core_lot.specs.Operations.{all_taken, is_abort}
 use Rattle.parking_lot_core_lot.specs.Sound.{Sound, times_at}
-use Rattle.parking_lot_core_lot.specs.Runs.{Operation, Register, Retire, Park, Resume, Deadline, Wake, UnparkOne, UnparkAll, UnparkFilter, UnparkRequeue, Acquire, Release, Enter, Check, TakeNext, Append, StoreDone, Leave, fault_of, resumed, taken_next, effect_of, unless_refused, after, after_all, fresh}
+use Rattle.parking_lot_core_lot.specs.Runs.{Operation, Register, Retire, Park, Resume, Deadline, Wake, UnparkOne, UnparkAll, UnparkFilter, UnparkRequeue, Acquire, Release, Enter, Check, TakeNext, Append, StoreDone, Leave, Return, Quit, fault_of, taken_next, effect_of, unless_refused, after, after_all, fresh}
 use Rattle.parking_lot_core_lot.proofs.Kept.{updated_at, updated_past, remove-seam, slice_get-seam}
 use Rattle.parking_lot_core_lot.proofs.Numbers.{flag, first_passes, slice_get_none}
 use Rattle.parking_lot_core_lot.proofs.Sounds.{by_eqb, some≢none, none≢some, place_at-set_same, place_at-set_other, sound_place, sound_owned, sound_retired, sound_joined, sound_left, sound_relisted, sound_opened, sound_section, sound_closed, waiter_place}
@@ -261,6 +261,14 @@ sound_resumed m t (Some (Waiting key s)) e h = sound_given_up m t key s h e
 sound_resumed m t (Some (Held s)) e h = h
 sound_resumed m t (Some (Taken token s b)) e h = sound_place m t (Taken token s b) Running h e (λ k. refl) (λ none. refl) (λ r. refl)
 
+pub sound_returned : (m : Machine) (t key : ℕ) → Sound m → Sound (returned m t key)
+sound_returned m t key h = record {
+  waits = h.waits;
+  held = λ none. absurd (some≢none none);
+  inside = λ s u is whose may. absurd (false≢true (ap (λ (o : Option Section). option_map_or (λ x. may_join x.phase) o true) is ∙ may));
+  owned = h.owned;
+}
+
 owning : (b : Bool) → cond b None (Some WrongStatus) ≡ None → b ≡ true
 owning true e = refl
 owning false e = absurd (some≢none e)
@@ -298,6 +306,8 @@ sound_effect m (TakeNext t answers) h e = sound_next m t answers (section_of m t
 sound_effect m (Append t token timed) h e = sound_appended m t token timed (section_of m t) refl e h
 sound_effect m (StoreDone t token) h e = sound_stored m token h
 sound_effect m (Leave t) h e = sound_closed m (token_of m) false h
+sound_effect m (Return t key) h e = sound_returned m t key h
+sound_effect m (Quit t) h e = sound_phase (resumed m t (place_at m.places t)) phase.Ended (sound_resumed m t (place_at m.places t) refl h) (λ s is may. absurd (false≢true may))
 
 sound_after : (m : Machine) (operation : Operation) → Sound m → Sound (after m operation)
 sound_after m operation h = by (fault_of m operation) refl

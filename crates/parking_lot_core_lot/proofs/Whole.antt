@@ -8,7 +8,7 @@ use Rattle.parking_lot_core_lot.specs.declared.place.Place.{Place}
 use Rattle.parking_lot_core_lot.specs.declared.place.Place.TheVariants.{Running, Waiting, Held, Taken}
 use Rattle.parking_lot_core_lot.specs.declared.place.Phase.TheVariants as phase
 use Rattle.parking_lot_core_lot.specs.Places.{place_at, told, status_of}
-use Rattle.parking_lot_core_lot.specs.Machine.{Machine, token_of, joined, opened, in_phase, taken, stored, closed, unparked}
+use Rattle.parking_lot_core_lot.specs.Machine.{Machine, token_of, joined, opened, in_phase, taken, stored, closed, unparked, returned, resumed, quitted}
 use Rattle.parking_lot_core_lot.specs.Operations.{all_taken}
 use Rattle.parking_lot_core_lot.specs.Sound.{Sound}
 use Rattle.parking_lot_core_lot.specs.InSteps.{ShowsSame}
@@ -30,6 +30,32 @@ pub invalid_in_steps : (m : Machine) (thread key : ℕ) → Sound m → m.sectio
 invalid_in_steps m thread key h free =
     ap (λ (ps : List (Option Place)). record m { places = ps; section = None }) (nobody_told (record { 0 = 0 }) false m.places (h.held free))
     ∙ ap (λ o. record m { section = o }) (sym free)
+
+-- one that goes on by itself comes back, quits and leaves
+pub going_on_in_steps : (m : Machine) (thread key : ℕ) → Sound m → m.section ≡ None → closed (quitted (returned m thread key) thread) false ≡ resumed m thread (place_at m.places thread)
+going_on_in_steps m thread key h free = go (place_at m.places thread)
+  where
+    told_so : Option Place → Option Place
+    told_so = option_map (told (record { 0 = 0 }) false)
+
+    none_told : map told_so m.places ≡ m.places
+    none_told = nobody_told (record { 0 = 0 }) false m.places (h.held free)
+
+    run_told : map told_so (slice_set m.places thread (Some Running)) ≡ slice_set m.places thread (Some Running)
+    run_told = map-set told_so m.places thread (Some Running) ∙ ap (λ (ps : List (Option Place)). slice_set ps thread (Some Running)) none_told
+
+    stays : closed (in_phase (returned m thread key) phase.Ended) false ≡ m
+    stays = ap (λ (ps : List (Option Place)). record m { places = ps; section = None }) none_told ∙ ap (λ o. record m { section = o }) (sym free)
+
+    runs : (n : Machine) → n.places ≡ slice_set m.places thread (Some Running) → n.section ≡ None → record n { places = map told_so n.places; section = None } ≡ n
+    runs n is none = ap (λ (ps : List (Option Place)). record n { places = ps; section = None }) (ap (map told_so) is ∙ run_told ∙ sym is) ∙ ap (λ o. record n { section = o }) (sym none)
+
+    go : (o : Option Place) → closed (in_phase (resumed (returned m thread key) thread o) phase.Ended) false ≡ resumed m thread o
+    go None = stays
+    go (Some Running) = stays
+    go (Some (Held sleep)) = stays
+    go (Some (Waiting at sleep)) = runs (resumed m thread (Some (Waiting at sleep))) refl free
+    go (Some (Taken token sleep woken)) = runs (resumed m thread (Some (Taken token sleep woken))) refl free
 
 -- whether those that a section took are woken isn't shown
 same_status : (token told_token : UnparkToken) (p : Place) → status_of token (told told_token false p) ≡ status_of token (told told_token true p)

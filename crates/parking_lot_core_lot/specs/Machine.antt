@@ -17,7 +17,7 @@ use Rattle.parking_lot_core_lot.specs.declared.place.Section.{Section}
 use Rattle.parking_lot_core_lot.specs.declared.place.Phase.{Phase}
 use Rattle.parking_lot_core_lot.specs.declared.place.Phase.TheVariants as phase
 use Rattle.parking_lot_core_lot.specs.Lists.{updated, without_first, lists_of}
-use Rattle.parking_lot_core_lot.specs.Places.{place_at, changed, all_changed, held, told, woken, moved_to, sleeps_timed, status_of, mark_of, passed_of}
+use Rattle.parking_lot_core_lot.specs.Places.{place_at, changed, all_changed, held, told, woken, moved_to, sleeps_timed, status_of, mark_of, passed_of, may_return, has_slept, has_joined, taken_with}
 use Rattle.parking_lot_core_lot.specs.declared.place.Taking.{Taking}
 use Rattle.parking_lot_core_lot.specs.declared.parking.FilterOp.{FilterOp}
 use Rattle.parking_lot_core_lot.specs.Results.{woken_by, moved_by, left_by, Answers, is_no_skip, is_take, is_skip}
@@ -134,6 +134,14 @@ resume_fault m thread = resume_fault_at (busy m) (place_at m.places thread)
 abbrev pub owner_fault : Machine → ℕ → Option LotFault
 owner_fault m thread = if is_some (place_at m.places thread) then None else Some WrongStatus
 
+-- it doesn't sleep where it could come back into a section of the key; or a section is open
+abbrev pub return_fault : Machine → ℕ → ℕ → Option LotFault
+return_fault m thread key = if option_map_or (may_return key) (place_at m.places thread) false then busy m else Some WrongStatus
+
+-- it isn't in a section in which it stands in the list, or stood there when it fell asleep
+abbrev pub quit_fault : Machine → ℕ → Option LotFault
+quit_fault m thread = if option_map_or (λ s. has_joined s.phase) (section_of m thread) false && option_map_or has_slept (place_at m.places thread) false then None else Some WrongStatus
+
 -- each section can be left
 abbrev pub any_phase : Phase → Bool
 any_phase ph = true
@@ -211,6 +219,14 @@ requeued m op from to token =
 abbrev pub given_up : Machine → ℕ → ℕ → Machine
 given_up m thread key = record m { queues = updated m.queues key (without_first (is_thread thread) (m.queues key)); places = slice_set m.places thread (Some Running) }
 
+-- a thread goes on from its place
+abbrev pub resumed : Machine → ℕ → Option Place → Machine
+resumed m thread None = m
+resumed m thread (Some Running) = m
+resumed m thread (Some (Waiting key sleep)) = given_up m thread key
+resumed m thread (Some (Held sleep)) = m
+resumed m thread (Some (Taken token sleep woken)) = record m { places = slice_set m.places thread (Some Running) }
+
 -- SECTIONS
 
 -- a section of the key is opened
@@ -228,6 +244,14 @@ taken m key nth =
       queues = updated m.queues key (remove (m.queues key) nth);
       places = option_map_or (λ w. changed held m.places w.thread) (slice_get (m.queues key) nth) m.places;
     }
+
+-- one that sleeps is back in a section of its key, awake by itself
+abbrev pub returned : Machine → ℕ → ℕ → Machine
+returned m thread key = in_phase (opened m (Some thread) key) phase.Joined
+
+-- It takes itself out of its list, or finds that it was taken: it runs, and takes nobody.
+abbrev pub quitted : Machine → ℕ → Machine
+quitted m thread = in_phase (resumed m thread (place_at m.places thread)) phase.Ended
 
 -- its store is said
 abbrev pub stored : Machine → UnparkToken → Machine
@@ -258,6 +282,10 @@ TakesInSection shows filter thread old result new = IsSomeAnd (section_of old th
 -- what the validation answered is said in the section, and answered
 abbrev pub Checks : Bool → Machine → Result Bool LotFault → Machine → Type 0
 Checks holds old result new = (result ≡ Ok holds) × (new ≡ in_phase old (if holds then phase.Valid else phase.Invalid))
+
+-- it quits, and is answered the token that it was taken with, where it was
+abbrev pub Quits : ℕ → Machine → Result (Option UnparkToken) LotFault → Machine → Type 0
+Quits thread old result new = (result ≡ Ok (option_and_then taken_with (place_at old.places thread))) × (new ≡ quitted old thread)
 
 -- the section's thread joins the end of its key's list
 abbrev pub Appends : {T : Type 0} → ℕ → ParkToken → Bool → Machine → Result T LotFault → Machine → Type 0

@@ -70,6 +70,27 @@ sleeps_timed (Held sleep) = sleep.timed && not sleep.late
 sleeps_timed (Taken token sleep false) = sleep.timed && not sleep.late
 sleeps_timed (Taken token sleep true) = false
 
+-- It sleeps, and may come back into a section of that key by itself: in its list, or taken and not woken yet.
+abbrev pub may_return : ℕ → Place → Bool
+may_return key Running = false
+may_return key (Waiting key' sleep) = key' == key
+may_return key (Held sleep) = false
+may_return key (Taken token sleep woken) = not woken
+
+-- it fell asleep, and doesn't run again yet
+abbrev pub has_slept : Place → Bool
+has_slept Running = false
+has_slept (Waiting key sleep) = true
+has_slept (Held sleep) = false
+has_slept (Taken token sleep woken) = true
+
+-- the token that it was taken with
+abbrev pub taken_with : Place → Option UnparkToken
+taken_with Running = None
+taken_with (Waiting key sleep) = None
+taken_with (Held sleep) = None
+taken_with (Taken token sleep woken) = Some token
+
 -- it was taken out of the sleep with that mark, and isn't woken
 abbrev pub is_due : ℕ → Place → Bool
 is_due mark Running = false
@@ -146,6 +167,16 @@ may_store phase.Joined = false
 may_store (phase.Taking passed) = true
 may_store phase.Ended = true
 may_store phase.Stored = false
+
+-- its thread stands in the list
+abbrev pub has_joined : Phase → Bool
+has_joined phase.Fresh = false
+has_joined phase.Valid = false
+has_joined phase.Invalid = false
+has_joined phase.Joined = true
+has_joined (phase.Taking passed) = false
+has_joined phase.Ended = false
+has_joined phase.Stored = false
 
 -- how many waiters it has passed
 abbrev pub passed_of : Phase → ℕ

@@ -14,7 +14,7 @@ use Rattle.parking_lot_core_lot.specs.declared.place.Phase.TheVariants as phase
 use Rattle.parking_lot_core_lot.specs.Lists.{updated, without_first}
 use Rattle.parking_lot_core_lot.specs.Places.{place_at, late, roused, is_due, may_check, may_join, may_take, may_store, passed_of}
 use Rattle.parking_lot_core_lot.specs.Results.{chosen_by, passed_by, is_take, is_skip}
-use Rattle.parking_lot_core_lot.specs.Machine.{Machine, section_of, any_phase, busy, register_fault, retire_fault, enter_fault, step_fault, deadline_fault, resume_fault, owner_fault, changed_at, registered, retired, recorded, forgotten, joined, unparked, requeued, given_up, opened, in_phase, taken, stored, closed}
+use Rattle.parking_lot_core_lot.specs.Machine.{Machine, section_of, any_phase, busy, register_fault, retire_fault, enter_fault, step_fault, deadline_fault, resume_fault, return_fault, quit_fault, owner_fault, changed_at, registered, retired, recorded, forgotten, joined, unparked, requeued, resumed, opened, in_phase, returned, quitted, taken, stored, closed}
 use Rattle.parking_lot_core_lot.specs.Operations.{is_abort}
 
 -- an operation, with what its closures answer
@@ -38,6 +38,8 @@ pub data Operation : Type 0 where
   Append : ℕ → ParkToken → Bool → Operation
   StoreDone : ℕ → UnparkToken → Operation
   Leave : ℕ → Operation
+  Return : ℕ → ℕ → Operation
+  Quit : ℕ → Operation
 
 -- why it is refused
 abbrev pub fault_of : Machine → Operation → Option LotFault
@@ -59,14 +61,8 @@ fault_of m (TakeNext thread answers) = step_fault may_take m thread
 fault_of m (Append thread token timed) = step_fault may_join m thread
 fault_of m (StoreDone thread token) = step_fault may_store m thread
 fault_of m (Leave thread) = step_fault any_phase m thread
-
--- a thread goes on from its place
-abbrev pub resumed : Machine → ℕ → Option Place → Machine
-resumed m thread None = m
-resumed m thread (Some Running) = m
-resumed m thread (Some (Waiting key sleep)) = given_up m thread key
-resumed m thread (Some (Held sleep)) = m
-resumed m thread (Some (Taken token sleep woken)) = record m { places = slice_set m.places thread (Some Running) }
+fault_of m (Return thread key) = return_fault m thread key
+fault_of m (Quit thread) = quit_fault m thread
 
 -- a section takes the next waiter by these answers of its filter
 abbrev pub taken_next : Machine → List FilterOp → Section → Machine
@@ -94,6 +90,8 @@ effect_of m (TakeNext thread answers) = option_map_or (taken_next m answers) (se
 effect_of m (Append thread token timed) = option_map_or (λ s. joined (in_phase m phase.Joined) thread s.key token timed) (section_of m thread) m
 effect_of m (StoreDone thread token) = stored m token
 effect_of m (Leave thread) = closed m false
+effect_of m (Return thread key) = returned m thread key
+effect_of m (Quit thread) = quitted m thread
 
 -- a refused one leaves all as it was
 abbrev pub unless_refused : Option LotFault → Machine → Machine → Machine

@@ -6,7 +6,8 @@ ghost use Rattle.parking_lot_core_lot.specs.Results.{is_take, chosen_by, passed_
 ghost use Rattle.parking_lot_core_lot.specs.declared.parking.ParkToken.{ParkToken};
 ghost use Rattle.parking_lot_core_lot.specs.declared.parking.UnparkToken.{UnparkToken};
 ghost use Rattle.parking_lot_core_lot.specs.declared.place.Phase.TheVariants as phase;
-ghost use Rattle.parking_lot_core_lot.specs.Machine.{Machine, joined, opened, in_phase, taken, stored, closed, unparked};
+ghost use Rattle.parking_lot_core_lot.specs.Machine.{Machine, joined, opened, in_phase, taken, stored, closed, unparked, returned, resumed, quitted};
+ghost use Rattle.parking_lot_core_lot.specs.Places.{place_at};
 ghost use Rattle.parking_lot_core_lot.specs.InSteps.{ShowsSame, takings, answers_of};
 ghost use Rattle.parking_lot_core_lot.specs.Sound.{Sound};
 ghost use Rattle.parking_lot_core_lot.specs.Runs.{Operation, after_all, fresh};
@@ -35,4 +36,10 @@ pub fn unpark_one_is_its_steps()
 /// of the lot is the same; but the whole operation has woken the threads, too.
 pub fn unpark_filter_is_its_steps()
     ensures { (m : Machine) (thread key : ℕ) (token : UnparkToken) (passes : List ℕ) (rest : List FilterOp) → Sound m → m.section ≡ None → list_any is_take rest ≡ false → ShowsSame (closed (stored (in_phase (takings (opened m (Some thread) key) key 0 passes) phase.Ended) token) false) (unparked m key (chosen_by (answers_of passes rest) (m.queues key)) (passed_by (answers_of passes rest) (m.queues key)) token) }
+{}
+
+/// A sleeper's going on by itself is its coming back into a section, its quitting and its leaving: a late one that stands in its list is off
+/// it then, and one that was taken has its token, and both run.
+pub fn going_on_is_its_steps()
+    ensures { (m : Machine) (thread key : ℕ) → Sound m → m.section ≡ None → closed (quitted (returned m thread key) thread) false ≡ resumed m thread (place_at m.places thread) }
 {}

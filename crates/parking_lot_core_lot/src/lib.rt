@@ -14,6 +14,7 @@ mod operations;
 mod parking;
 mod place;
 mod places;
+mod returns;
 mod sections;
 mod steps;
 

@@ -302,7 +302,7 @@ impl<A: Allocator> Lot<A> {
     }
 
     /// Takes a late thread out of its list, and has it run.
-    fn give_up(&mut self, thread: usize, key: usize)
+    pub(crate) fn give_up(&mut self, thread: usize, key: usize)
         requires { (sleep : _) × (place_at (machine self.old).places thread ≡ Some (Waiting key sleep)) }
         ensures { machine self.new ≡ given_up (machine self.old) thread key }
     {

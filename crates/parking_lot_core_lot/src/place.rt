@@ -1,6 +1,6 @@
 //! Where the threads of a lot stand, and what an open section has done.
 ghost use Rattle.std.specs.Prelude.{◌≡◌};
-ghost use Rattle.parking_lot_core_lot.specs.Places.{sleeps_timed, mark_of, is_due, roused, late, status_of, may_check, may_join, may_take, may_store, passed_of};
+ghost use Rattle.parking_lot_core_lot.specs.Places.{sleeps_timed, may_return, has_slept, taken_with, mark_of, is_due, roused, late, status_of, may_check, may_join, may_take, may_store, has_joined, passed_of};
 
 use crate::lists::Numbered;
 use crate::parking::{ParkToken, UnparkToken};
@@ -128,6 +128,34 @@ impl Place {
         }
     }
 
+    /// Whether the thread sleeps, and may come back into a section of that key.
+    pub(crate) fn may_return(self, key: usize) -> bool
+        ensures { result ≡ may_return key self }
+    {
+        match self {
+            Place::Waiting(list, _) => list == key,
+            Place::Taken(_, _, woken) => !woken,
+            _ => false,
+        }
+    }
+
+    /// Whether the thread fell asleep, and doesn't run again yet.
+    pub(crate) fn has_slept(self) -> bool
+        ensures { result ≡ has_slept self }
+    {
+        matches!(self, Place::Waiting(_, _) | Place::Taken(_, _, _))
+    }
+
+    /// The token that the thread was taken with.
+    pub(crate) fn taken_with(self) -> Option<UnparkToken>
+        ensures { result ≡ taken_with self }
+    {
+        match self {
+            Place::Taken(token, _, _) => Some(token),
+            _ => None,
+        }
+    }
+
     /// Whether the thread was taken out of the sleep with that mark, and isn't woken.
     pub(crate) fn is_due(self, mark: u64) -> bool
         ensures { result ≡ is_due mark self }
@@ -236,6 +264,13 @@ impl Phase {
             self,
             Phase::Fresh | Phase::Valid | Phase::Taking(_) | Phase::Ended
         )
+    }
+
+    /// Whether its thread stands in the list.
+    pub fn has_joined(self) -> bool
+        ensures { result ≡ has_joined self }
+    {
+        matches!(self, Phase::Joined)
     }
 
     /// How many waiters it has passed.

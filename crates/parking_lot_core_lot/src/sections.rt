@@ -28,7 +28,7 @@ impl<A: Allocator> Lot<A> {
     }
 
     /// The section that is open, where it is the thread's.
-    fn section_of(&self, thread: usize) -> Option<Section>
+    pub(crate) fn section_of(&self, thread: usize) -> Option<Section>
         ensures section { result ≡ section_of (machine self.now) thread }
         ensures runs { (s : _) → result ≡ Some s → may_join s.phase ≡ true → place_at (machine self.now).places thread ≡ Some Running }
     {

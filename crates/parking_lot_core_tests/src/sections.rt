@@ -1,7 +1,7 @@
 //! Sections of an exclusive lot, step by step.
 
 use crate::script::{Answer, BUSY, Call, Line, WRONG, follow, lot_of, make};
-use parking_lot_core::{FilterOp, Lot, ParkResult, ThreadStatus, UnparkToken};
+use parking_lot_core::{FilterOp, Lot, LotFault, ParkResult, ThreadStatus, UnparkToken};
 use std::test::Fail;
 
 const WAITS: Answer = Answer::Ended(None);
@@ -163,5 +163,51 @@ fn a_section_shows_on_from_where_it_was(rt: HostRuntime) -> Result<(), Fail> {
         (Call::IsQueue(5, &[1]), IS),
     ];
     make(&rt, &mut lot, &after);
+    Ok(())
+}
+
+#[test]
+fn a_sleeper_comes_back_and_takes_itself_out(rt: HostRuntime) -> Result<(), Fail> {
+    let mut lot = lot_of(&rt, 3)?;
+    make(
+        &rt,
+        &mut lot,
+        &[(Call::Park(1, 5), WAITS), (Call::Park(2, 5), WAITS)],
+    );
+    let wrong = Err(LotFault::WrongStatus);
+    let is_refused = (lot.come_back(0, 5) == wrong) & (lot.come_back(1, 6) == wrong);
+    let is_early = lot.quit(1) == Err(LotFault::WrongStatus);
+    let is_back = lot.come_back(1, 5) == Ok(());
+    assert!(rt; is_refused & is_early & is_back);
+    let inside = [(Call::IsQueue(5, &[1, 2]), IS), (Call::Enter(0, 9), BUSY)];
+    make(&rt, &mut lot, &inside);
+    let is_shut_out = lot.come_back(2, 5) == Err(LotFault::Busy);
+    let is_out = lot.quit(1) == Ok(None);
+    let is_out_once = lot.quit(1) == Err(LotFault::WrongStatus);
+    assert!(rt; is_shut_out & is_out & is_out_once);
+    let after = [
+        (Call::Leave(1), Answer::Done),
+        (Call::Status(1), Answer::Stands(Some(ThreadStatus::Running))),
+        (Call::IsQueue(5, &[2]), IS),
+    ];
+    make(&rt, &mut lot, &after);
+    Ok(())
+}
+
+#[test]
+fn a_sleeper_comes_back_to_find_itself_taken(rt: HostRuntime) -> Result<(), Fail> {
+    let mut lot = lot_of(&rt, 3)?;
+    make(&rt, &mut lot, &ENTERED);
+    let mark = mark_of_taken(&mut lot);
+    let leave = [
+        (Call::Store(0, 4), Answer::Done),
+        (Call::Leave(0), Answer::Done),
+    ];
+    make(&rt, &mut lot, &leave);
+    let is_back = lot.come_back(1, 5) == Ok(());
+    let is_told = lot.quit(1) == Ok(Some(UnparkToken(4)));
+    make(&rt, &mut lot, &[(Call::Leave(1), Answer::Done)]);
+    let is_woken = lot.wake(1, mark);
+    assert!(rt; is_back & is_told & !is_woken);
     Ok(())
 }

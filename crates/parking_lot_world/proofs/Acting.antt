@@ -2,7 +2,7 @@
 use Rattle.std.proofs.Common.{◌≡◌, ◌≢◌, ℕ, ◌+◌, ◌%◌, ◌^◌, ◌<◌, inl, inr, cond, Bool, true, false, List, length, Option, Some, None, slice_get, slice_set, refl, sym, ap, ◌∙◌, subst, eq-eqb}
 use Rattle.std.proofs.lemmas.Bool.{cases_eq, ne_eqb, both_ways}
 use Rattle.std.proofs.lemmas.List.{length-set}
-use Rattle.std.proofs.lemmas.Option.{slice_get_within, none-some, slice_get-get_or}
+use Rattle.std.proofs.lemmas.Option.{none-some, slice_get-get_or}
 use Rattle.std.specs.Prelude.{get_or}
 use Rattle.parking_lot_core_lot.specs.declared.place.Phase.{Phase}
 use Rattle.parking_lot_core_lot.specs.declared.place.Section.{Section}
@@ -23,6 +23,7 @@ use Rattle.parking_lot_world.specs.StanceLaws.{StaysOut, LeavesFor}
 use Rattle.parking_lot_world.specs.RowActs.{with_call, with_word, hears, loaded, exchanged, added, spun, entered, checked, left}
 use Rattle.parking_lot_world.specs.RowFits.{FitsTogether, LotFits, IsOfKind}
 use Rattle.parking_lot_world.specs.ActLaws.{ActsAreSteps, Acts, Keeps}
+use Rattle.parking_lot_world.proofs.KindTable.{within_kinds}
 use Rattle.parking_lot_world.proofs.Stancing.{leads_by}
 use Rattle.parking_lot_world.proofs.LotActs.{stays_out, same_parts, seat_of, entered_fits, checked_fits, left_fits}
 use Rattle.parking_lot_world.proofs.OwnMoves.{AfterAct, IsOwnAct}
@@ -44,8 +45,9 @@ pub has_word : (s : State) → FitsTogether s → (t : ℕ) (c : Call) → call_
 has_word s h t c here = subst (λ n. c.lock < n) (sym h.rules.size_words) (within c.core refl)
   where
     within : (x : Core) → c.core ≡ x → c.lock < length s.kinds
-    within (Core.Rw k) e = slice_get_within s.kinds c.lock _ (subst (IsOfKind (slice_get s.kinds c.lock)) e (h.rules.kinds t c here))
-    within (Core.Mutex k) e = slice_get_within s.kinds c.lock _ (subst (IsOfKind (slice_get s.kinds c.lock)) e (h.rules.kinds t c here))
+    within (Core.Rw k) e = within_kinds s.kinds c.lock _ (subst (IsOfKind (slice_get s.kinds c.lock)) e (h.rules.kinds t c here))
+    within (Core.Mutex k) e = within_kinds s.kinds c.lock _ (subst (IsOfKind (slice_get s.kinds c.lock)) e (h.rules.kinds t c here))
+    within (Core.Late p) e = within_kinds s.kinds c.lock _ (subst (IsOfKind (slice_get s.kinds c.lock)) e (h.rules.kinds t c here))
 
 pub word-here : (words : List ℕ) (j x : ℕ) → j < length words → option_map_or (λ w. w) (slice_get (slice_set words j x) j) 0 ≡ x
 word-here words j x b = go (slice_get words j) refl

@@ -14,8 +14,9 @@ use Rattle.parking_lot_protocol.specs.declared.rw_phase.Scanning.{Scanning}
 use Rattle.parking_lot_protocol.specs.MutexTable as of_mutex
 use Rattle.parking_lot_protocol.specs.RwTable as of_rw
 use Rattle.parking_lot_protocol.proofs.MutexFollowing.{either}
+use Rattle.parking_lot_world.specs.declared.seat.LatePhase.{LatePhase}
 use Rattle.parking_lot_world.specs.declared.seat.Core.{Core}
-use Rattle.parking_lot_world.specs.Stances.{mutex_begun, rw_begun, has_begun, core_next}
+use Rattle.parking_lot_world.specs.Stances.{mutex_begun, rw_begun, has_begun, core_next, late_next}
 use Rattle.parking_lot_rules.specs.Classes.{bit}
 
 -- A MUTEX
@@ -154,6 +155,16 @@ rw_on (RwPhase.Finishes AfterWake.AgainShared) (Word n) = refl
 rw_on (RwPhase.Finishes AfterWake.AgainExclusive) (Word n) = refl
 rw_on p s = refl
 
+late_on : (p : LatePhase) (s : ActResult) → has_begun (late_next p s) ≡ true
+late_on LatePhase.Expires (Woken token) = mutex_on MutexPhase.Sleeps (Woken token)
+late_on LatePhase.Expires Entered = refl
+late_on LatePhase.Quits (Took token left) = refl
+late_on LatePhase.Masks (Before word) = refl
+late_on LatePhase.Leaves Made = refl
+late_on LatePhase.GivesUp s = refl
+late_on p s = refl
+
 pub goes_on : (c : Core) (s : ActResult) → has_begun (core_next c s) ≡ true
 goes_on (Core.Mutex c) s = mutex_on c.phase s
 goes_on (Core.Rw c) s = rw_on c.phase s
+goes_on (Core.Late p) s = late_on p s

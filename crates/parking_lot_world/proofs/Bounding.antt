@@ -11,9 +11,10 @@ use Rattle.parking_lot_protocol.specs.declared.rw_phase.AfterWake.{AfterWake}
 use Rattle.parking_lot_protocol.specs.declared.rw_phase.LockMode.{LockMode}
 use Rattle.parking_lot_protocol.specs.declared.rw_phase.RwPhase.{RwPhase}
 use Rattle.parking_lot_rules.specs.Classes.{bit}
+use Rattle.parking_lot_world.specs.declared.seat.LatePhase.{LatePhase}
 use Rattle.parking_lot_world.specs.declared.seat.Core.{Core}
 use Rattle.parking_lot_world.specs.declared.open_call.Call.{Call}
-use Rattle.parking_lot_world.specs.Ranks.{Unseen, comes_after, core_steps, far_steps, mutex_asks, mutex_ends, mutex_steps, rw_ends, rw_steps, vain}
+use Rattle.parking_lot_world.specs.Ranks.{Unseen, comes_after, core_steps, late_steps, far_steps, mutex_asks, mutex_ends, mutex_steps, rw_ends, rw_steps, vain}
 use Rattle.parking_lot_world.specs.Rounds.{FewRounds, mutex_rounds, rw_rounds}
 use Rattle.parking_lot_world.specs.RowFits.{FitsTogether, is_away}
 use Rattle.parking_lot_world.specs.Rows.{State, call_at, is_by}
@@ -98,9 +99,17 @@ rw_most n (RwPhase.Wakes rs count) some h k = omega (arith, some, k, ends_most r
 rw_most n (RwPhase.Finishes rs) some h k = omega (arith, some, ends_most rs)
 rw_most n p some h k = omega (arith, some)
 
+late_most : (n : ℕ) (p : LatePhase) → late_steps p ≤ 219 * n + 200
+late_most n LatePhase.Expires = omega arith
+late_most n LatePhase.Quits = omega arith
+late_most n LatePhase.Masks = omega arith
+late_most n LatePhase.Leaves = omega arith
+late_most n LatePhase.GivesUp = omega arith
+
 pub core_most : (n : ℕ) (c : Core) → 1 ≤ n → FewRounds c → taken_count c ≤ n → core_steps n Unseen c ≤ 219 * n + 200
 core_most n (Core.Mutex c) some h k = omega (arith, some, mutex_most c.phase h)
 core_most n (Core.Rw c) some h k = rw_most n c.phase some h k
+core_most n (Core.Late p) some h k = late_most n p
 
 -- all of a list
 pub sum_most : {X : Type 0} (f : X → ℕ) (m : ℕ) (xs : List X) → ((i : ℕ) (x : X) → slice_get xs i ≡ Some x → f x ≤ m) → sum_by f xs ≤ length xs * m

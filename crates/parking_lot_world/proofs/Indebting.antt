@@ -17,19 +17,19 @@ use Rattle.parking_lot_rules.proofs.Families.{total-none}
 use Rattle.parking_lot_rules.proofs.Mutexes as mutexes
 use Rattle.parking_lot_rules.proofs.Paying as rw_pays
 use Rattle.parking_lot_rules.proofs.MutexPaying as mutex_pays
-use Rattle.parking_lot_world.specs.declared.calls.LockKind.{LockKind}
+use Rattle.parking_lot_world.specs.Kinds.{Manner, AsRw, AsMutex, manner_of}
 use Rattle.parking_lot_world.specs.declared.calls.OwnMode.{OwnMode}
 use Rattle.parking_lot_world.specs.declared.open_call.Call.{Call}
 use Rattle.parking_lot_world.specs.CallViews.{Weighs, call_looks, mutex_mode, mutex_mode_if, owning_of, rw_mode}
-use Rattle.parking_lot_world.specs.Machines.{can_move_in, is_taken, sleeps}
+use Rattle.parking_lot_world.specs.Machines.{can_move_in, goes_late, is_taken, sleeps}
 use Rattle.parking_lot_world.specs.RowFits.{FitsTogether}
-use Rattle.parking_lot_world.specs.Rows.{State, any_lock, call_at, first_key, hold_at, lock_at, mutex_at, queue_at, rw_lock_at, second_key, taken_by}
+use Rattle.parking_lot_world.specs.Rows.{State, lock_as, call_at, first_key, hold_at, lock_at, mutex_at, queue_at, rw_lock_at, second_key, taken_by}
 use Rattle.parking_lot_world.specs.SoundLaws.{AwakeCanMove, DebtsAreKept, IsApart, NoReaders, OnlyReaders, SomebodyIsInDebt}
 use Rattle.parking_lot_world.specs.Stances.{core_act}
 use Rattle.parking_lot_world.specs.Worlds.{in_debt_at, mode_in}
 use Rattle.parking_lot_world.proofs.Agreeing.{role_weighs}
 use Rattle.parking_lot_world.proofs.Everybody.{get-all, within-all}
-use Rattle.parking_lot_world.proofs.Serving.{by_call, possible_alone}
+use Rattle.parking_lot_world.proofs.Serving.{by_call, or_else, possible_alone}
 use Rattle.parking_lot_world.proofs.Viewing.{apart_role}
 use Rattle.parking_lot_world.proofs.KindTable.{Kind, of_mutexes, of_rws, role_at, roles_at}
 use Rattle.parking_lot_world.specs.declared.seat.Hold.{Hold}
@@ -119,7 +119,7 @@ module _ (s : State) (h : FitsTogether s) where
   pub awake_can_move : AwakeCanMove s
   awake_can_move t c here awake free =
       let up : sleeps (core_act c.core) ≡ false = sym (ap (λ o. option_map_or (λ (d : Call). sleeps (core_act d.core)) o false) here) ∙ awake in
-      ap (can_move_in s) here ∙ possible_alone (is_taken s c) (core_act c.core) up (λ k e. ap is_some (free k e))
+      ap (can_move_in s) here ∙ or_else (goes_late s c c.core) (possible_alone (is_taken s c) (core_act c.core) up (λ k e. ap is_some (free k e)))
 
   module _ (i : ℕ) where
     -- of a lock where one thread's role is in debt, that thread is in a call there
@@ -169,15 +169,15 @@ module _ (s : State) (h : FitsTogether s) where
           mutex_owes ((mutex_pays.debts_are_paid (mutex_at s i) mutex_is_sound).waiters some (unowned (mutex_at s i) mutex_is_sound (λ u a e. only u a (ap (λ l. mode_in l u) is ∙ e))))
 
     first_kept : 0 < length (queue_at s (first_key i)) → OnlyReaders s i → SomebodyIsInDebt s i
-    first_kept some only = go (slice_get s.kinds i) refl
+    first_kept some only = go (manner_of (slice_get s.kinds i)) refl
       where
-        go : (k : Option LockKind) → slice_get s.kinds i ≡ k → SomebodyIsInDebt s i
-        go (Some LockKind.Rw) of = rw_first (ap (λ k. any_lock k s i) of) some only
-        go None of = rw_first (ap (λ k. any_lock k s i) of) some only
-        go (Some LockKind.Mutex) of = mutex_first (ap (λ k. any_lock k s i) of) some only
+        go : (k : Option Manner) → manner_of (slice_get s.kinds i) ≡ k → SomebodyIsInDebt s i
+        go (Some AsRw) of = rw_first (ap (λ k. lock_as k s i) of) some only
+        go None of = rw_first (ap (λ k. lock_as k s i) of) some only
+        go (Some AsMutex) of = mutex_first (ap (λ k. lock_as k s i) of) some only
 
   pub debts_are_kept : DebtsAreKept s
   debts_are_kept = record {
     first = λ i some only. first_kept i some only;
-    second = λ i of some none. rw_second i (ap (λ k. any_lock k s i) of) some none;
+    second = λ i of some none. rw_second i (ap (λ k. lock_as k s i) of) some none;
   }

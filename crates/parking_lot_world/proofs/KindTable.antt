@@ -1,9 +1,16 @@
 -- A kind of locks, as the machine shows one; and what a thread does at one lock leaves the other locks as they are.
 use Rattle.std.proofs.Common.{◌≡◌, ◌≢◌, ℕ, ◌+◌, ◌*◌, ◌<◌, ◌⊎◌, inl, inr, cond, List, length, Option, Some, None, slice_get, slice_set, refl, sym, ap, ◌∙◌, arith, eq-eqb}
 use Rattle.std.proofs.lemmas.Bool.{ne_eqb}
+use Rattle.std.proofs.lemmas.Option.{none-some, slice_get_within}
 use Rattle.parking_lot_core_lot.specs.Machine.{threads_of}
 use Rattle.parking_lot_core_lot.specs.declared.parking.ParkToken.{ParkToken}
-use Rattle.parking_lot_rules.specs.Roles.{Idle, Role}
+use Rattle.parking_lot_rules.specs.Roles.{Idle, Role, Stay}
+use Rattle.parking_lot_rules.specs.Roles.{Asleep as AsleepStill, Late as LateStill}
+use Rattle.parking_lot_rules.specs.Classes.{inside as inside_of}
+use Rattle.parking_lot_core_lot.specs.declared.parking.UnparkToken.{UnparkToken}
+use Rattle.parking_lot_protocol.specs.declared.act.ActResult.{ActResult}
+use Rattle.parking_lot_protocol.specs.MutexTable as mutex_table
+use Rattle.parking_lot_world.specs.declared.seat.WakeResult.{WakeResult}
 use Rattle.parking_lot_rules.specs.Clauses.{word_of}
 use Rattle.parking_lot_rules.specs.Lock.{Lock}
 use Rattle.parking_lot_rules.specs.Mutex as mutex
@@ -16,21 +23,23 @@ use Rattle.parking_lot_protocol.specs.declared.rw_core.RwCore.{RwCore}
 use Rattle.parking_lot_protocol.specs.declared.rw_phase.RwPhase.{RwPhase}
 use Rattle.parking_lot_world.specs.declared.calls.LockKind.{LockKind}
 use Rattle.parking_lot_world.specs.declared.open_call.Call.{Call}
+use Rattle.parking_lot_world.specs.declared.seat.LatePhase.{LatePhase}
 use Rattle.parking_lot_world.specs.declared.seat.Core.{Core}
 use Rattle.parking_lot_world.specs.declared.seat.Hold.{Hold}
 use Rattle.parking_lot_world.specs.declared.seat.QueuePosition.{QueuePosition}
-use Rattle.parking_lot_world.specs.RowFits.{IsOfKind}
-use Rattle.parking_lot_world.specs.Rows.{State, word_at, hold_at, call_at, everybody, taken_by, owned_of, owns_mutex, rw_spot, mutex_spot, first_of_all, rw_role_in, mutex_role_in, rw_core_role, mutex_core_role, mutex_word_of, any_lock, lock_at, queue_at}
-use Rattle.parking_lot_world.specs.Stances.{Asleep, mutex_stance, rw_stance, stance}
+use Rattle.parking_lot_world.specs.Kinds.{Manner, AsMutex, AsRw, manner_of}
+use Rattle.parking_lot_world.specs.RowFits.{IsOfKind, IsOfManner}
+use Rattle.parking_lot_world.specs.Rows.{State, word_at, hold_at, call_at, everybody, taken_by, owned_of, owns_mutex, rw_spot, mutex_spot, first_of_all, mark_of, late_role, rw_role_in, mutex_role_in, rw_core_role, mutex_core_role, mutex_word_of, any_lock, lock_as, lock_at, queue_at}
+use Rattle.parking_lot_world.specs.Stances.{Asleep, core_next, late_next, late_stance, mutex_stance, rw_stance, stance}
 use Rattle.parking_lot_world.proofs.Everybody.{all, change-all, get-all, same-all}
 
 -- What the machine shows of a kind of locks. C is the core of a call at one, R what a thread is to it, and L the lock of the rules. A thread is
 -- what its call's core plays, beside so many other holds, at that place in the lists, with those taken; and else what it owns makes it.
 pub record Kind (C R L : Type 0) : Type 1 where
-  pub kind : LockKind
+  pub manner : Manner
   pub core : C → Core
-  pub of_kind : (o : Option LockKind) (k : C) → IsOfKind o (core k) → o ≡ Some kind
-  pub only : (x : Core) → IsOfKind (Some kind) x → (k : C) × (x ≡ core k)
+  pub of_kind : (o : Option LockKind) (k : C) → IsOfKind o (core k) → manner_of o ≡ Some manner
+  pub only : (x : Core) → IsOfManner (Some manner) x → (k : C) × (x ≡ core k)
   pub idle : Hold → R
   pub plays : ℕ → QueuePosition → List ℕ → C → R
   pub role_in : ℕ → List ℕ → Hold → Option Call → R
@@ -42,7 +51,7 @@ pub record Kind (C R L : Type 0) : Type 1 where
   -- the lock of a word, of what all are to it, and of its two lists
   pub lock : ℕ → List R → List ℕ → List ℕ → L
   pub any : L → AnyLock
-  pub shows : (s : State) (i : ℕ) (o : Option LockKind) → o ≡ Some kind
+  pub shows : (s : State) (i : ℕ) (o : Option LockKind) → manner_of o ≡ Some manner
       → any_lock o s i ≡ any (lock (word_at s i) (everybody (λ t. role_in i (taken_by s.wakes t) (hold_at s t i) (call_at s t)) s) (queue_at s (2 * i)) (queue_at s (2 * i + 1)))
 
 -- THE TWO KINDS
@@ -56,17 +65,48 @@ pub mutex_listed : (v : ℕ) (q : MutexPhase) (at : QueuePosition) → ((k : ℕ
 mutex_listed v MutexPhase.Sleeps at h = ap (λ x. of_mutex.role (mutex_spot x) v MutexPhase.Sleeps) (h _ _ refl)
 mutex_listed v q at h = refl
 
-pub rw_only : (x : Core) → IsOfKind (Some LockKind.Rw) x → (k : RwCore) × (x ≡ Core.Rw k)
+-- a call at a mutex, in time or late
+pub data MutexCall : Type 0 where
+  Plain : MutexCore → MutexCall
+  Late : LatePhase → MutexCall
+
+abbrev pub mutex_call : MutexCall → Core
+mutex_call (Plain k) = Core.Mutex k
+mutex_call (Late p) = Core.Late p
+
+abbrev pub mutex_plays : QueuePosition → List ℕ → MutexCall → mutex.Role
+mutex_plays at us (Plain k) = of_mutex.role (mutex_spot at) (first_of_all us) k.phase
+mutex_plays at us (Late p) = late_role (mutex_spot at) p
+
+pub plays_so : (at : QueuePosition) (us : List ℕ) (k : MutexCall) → mutex_core_role at us (mutex_call k) ≡ mutex_plays at us k
+plays_so at us (Plain k) = refl
+plays_so at us (Late p) = refl
+
+pub mutex_manner : (o : Option Manner) (k : MutexCall) → IsOfManner o (mutex_call k) → o ≡ Some AsMutex
+mutex_manner o (Plain k) e = e
+mutex_manner o (Late p) e = e
+
+late_listed : (p : LatePhase) (at : QueuePosition) → ((key : ℕ) (token : ParkToken) → late_stance p ≡ Asleep key token → at ≡ QueuePosition.Listed) → late_role (mutex_spot at) p ≡ late_role of_mutex.Listed p
+late_listed LatePhase.Expires at h = ap (λ x. late_role (mutex_spot x) LatePhase.Expires) (h _ _ refl)
+late_listed p at h = refl
+
+pub mutex_stays : (us : List ℕ) (k : MutexCall) (at : QueuePosition) → ((key : ℕ) (token : ParkToken) → stance (mutex_call k) ≡ Asleep key token → at ≡ QueuePosition.Listed) → mutex_plays at us k ≡ mutex_plays QueuePosition.Listed us k
+mutex_stays us (Plain k) at h = mutex_listed (first_of_all us) k.phase at h
+mutex_stays us (Late p) at h = late_listed p at h
+
+pub rw_only : (x : Core) → IsOfManner (Some AsRw) x → (k : RwCore) × (x ≡ Core.Rw k)
 rw_only (Core.Rw k) e = (k, refl)
 rw_only (Core.Mutex k) e = absurd cc
+rw_only (Core.Late p) e = absurd cc
 
-pub mutex_only : (x : Core) → IsOfKind (Some LockKind.Mutex) x → (k : MutexCore) × (x ≡ Core.Mutex k)
-mutex_only (Core.Mutex k) e = (k, refl)
+pub mutex_only : (x : Core) → IsOfManner (Some AsMutex) x → (k : MutexCall) × (x ≡ mutex_call k)
+mutex_only (Core.Mutex k) e = (Plain k, refl)
+mutex_only (Core.Late p) e = (Late p, refl)
 mutex_only (Core.Rw k) e = absurd cc
 
 abbrev pub of_rws : Kind RwCore Role Lock
 of_rws = record {
-  kind = LockKind.Rw;
+  manner = AsRw;
   core = Core.Rw;
   of_kind = λ o k e. e;
   only = rw_only;
@@ -79,26 +119,60 @@ of_rws = record {
   listed = λ n us k at h. rw_listed n us k.phase at h;
   lock = λ x rs first second. record { word = word_of x; roles = rs; first = first; second = second };
   any = Rw;
-  shows = λ s i o e. ap (λ (q : Option LockKind). any_lock q s i) e;
+  shows = λ s i o e. ap (λ (q : Option Manner). lock_as q s i) e;
 }
 
-abbrev pub of_mutexes : Kind MutexCore mutex.Role mutex.Mutex
+abbrev pub of_mutexes : Kind MutexCall mutex.Role mutex.Mutex
 of_mutexes = record {
-  kind = LockKind.Mutex;
-  core = Core.Mutex;
-  of_kind = λ o k e. e;
+  manner = AsMutex;
+  core = mutex_call;
+  of_kind = λ o k e. mutex_manner (manner_of o) k e;
   only = mutex_only;
   idle = λ h. record { owns = owns_mutex h; does = mutex.Idle };
-  plays = λ n at us k. of_mutex.role (mutex_spot at) (first_of_all us) k.phase;
+  plays = λ n at us k. mutex_plays at us k;
   role_in = mutex_role_in;
   none = λ i us h. refl;
-  here = λ i us h c k e at. ap (λ b. cond b (mutex_core_role c.spot us c.core) (record { owns = owns_mutex h; does = mutex.Idle })) (eq-eqb c.lock i at) ∙ ap (mutex_core_role c.spot us) e;
+  here = λ i us h c k e at. ap (λ b. cond b (mutex_core_role c.spot us c.core) (record { owns = owns_mutex h; does = mutex.Idle })) (eq-eqb c.lock i at) ∙ ap (mutex_core_role c.spot us) e ∙ plays_so c.spot us k;
   away = λ i us h c ne. ap (λ b. cond b (mutex_core_role c.spot us c.core) (record { owns = owns_mutex h; does = mutex.Idle })) (ne_eqb c.lock i ne);
-  listed = λ n us k at h. mutex_listed (first_of_all us) k.phase at h;
+  listed = λ n us k at h. mutex_stays us k at h;
   lock = λ x rs first second. record { word = mutex_word_of x; roles = rs; queue = first };
   any = Mx;
-  shows = λ s i o e. ap (λ (q : Option LockKind). any_lock q s i) e;
+  shows = λ s i o e. ap (λ (q : Option Manner). lock_as q s i) e;
 }
+
+-- one that sleeps at a mutex, in its list or off it, in time or late
+abbrev pub SleepsSo : MutexCall → Type 0
+SleepsSo k =
+    (stay : Stay) × (inside_of stay ≡ 0) × ((us : List ℕ) → mutex_plays QueuePosition.Listed us k ≡ mutex.doing (mutex.Queued stay))
+    × ((by : ℕ) (said : WakeResult) (us : List ℕ) → mutex_plays (QueuePosition.Off by said) us k ≡ mutex.doing (mutex.Taken by (mark_of said) stay))
+
+plain_sleeps : (p : MutexPhase) (key : ℕ) (token : ParkToken) → mutex_stance p ≡ Asleep key token → SleepsSo (Plain (record { phase = p }))
+plain_sleeps MutexPhase.Sleeps key token e = (AsleepStill, refl, λ us. refl, λ by said us. refl)
+plain_sleeps p key token e = absurd cc
+
+late_sleeps : (p : LatePhase) (key : ℕ) (token : ParkToken) → late_stance p ≡ Asleep key token → SleepsSo (Late p)
+late_sleeps LatePhase.Expires key token e = (LateStill, refl, λ us. refl, λ by said us. refl)
+late_sleeps p key token e = absurd cc
+
+pub sleeps_so : (k : MutexCall) (key : ℕ) (token : ParkToken) → stance (mutex_call k) ≡ Asleep key token → SleepsSo k
+sleeps_so (Plain k) key token e = plain_sleeps k.phase key token e
+sleeps_so (Late p) key token e = late_sleeps p key token e
+
+-- and what it is once it is woken
+abbrev pub woken_plain : UnparkToken → MutexCall
+woken_plain token = Plain (record { phase = mutex_table.next_phase MutexPhase.Sleeps (ActResult.Woken token) })
+
+plain_woken : (p : MutexPhase) (key : ℕ) (token : ParkToken) (said : UnparkToken) → mutex_stance p ≡ Asleep key token → core_next (Core.Mutex (record { phase = p })) (ActResult.Woken said) ≡ mutex_call (woken_plain said)
+plain_woken MutexPhase.Sleeps key token said e = refl
+plain_woken p key token said e = absurd cc
+
+late_woken : (p : LatePhase) (key : ℕ) (token : ParkToken) (said : UnparkToken) → late_stance p ≡ Asleep key token → late_next p (ActResult.Woken said) ≡ mutex_call (woken_plain said)
+late_woken LatePhase.Expires key token said e = refl
+late_woken p key token said e = absurd cc
+
+pub woken_so : (k : MutexCall) (key : ℕ) (token : ParkToken) (said : UnparkToken) → stance (mutex_call k) ≡ Asleep key token → core_next (mutex_call k) (ActResult.Woken said) ≡ mutex_call (woken_plain said)
+woken_so (Plain k) key token said e = plain_woken k.phase key token said e
+woken_so (Late p) key token said e = late_woken p key token said e
 
 -- ONE LOCK
 
@@ -168,10 +242,18 @@ module _ {C R L : Type 0} (K : Kind C R L) where
 
 -- ANOTHER LOCK, OF ANY KIND
 
-pub elsewhere : (j : ℕ) (s u : State) → Elsewhere j s u → (i : ℕ) → i ≢ j → lock_at u i ≡ lock_at s i
-elsewhere j s u h i ne = ap (λ ks. any_lock (slice_get ks i) u i) h.kinds ∙ go (slice_get s.kinds i)
+-- a lock of a kind is one that there is
+pub within_kinds : (kinds : List LockKind) (i : ℕ) (m : Manner) → manner_of (slice_get kinds i) ≡ Some m → i < length kinds
+within_kinds kinds i m e = go (slice_get kinds i) refl
   where
-    go : (o : Option LockKind) → any_lock o u i ≡ any_lock o s i
+    go : (o : Option LockKind) → slice_get kinds i ≡ o → i < length kinds
+    go (Some k) is = slice_get_within kinds i k is
+    go None is = absurd (none-some m (sym (ap manner_of is) ∙ e))
+
+pub elsewhere : (j : ℕ) (s u : State) → Elsewhere j s u → (i : ℕ) → i ≢ j → lock_at u i ≡ lock_at s i
+elsewhere j s u h i ne = ap (λ ks. any_lock (slice_get ks i) u i) h.kinds ∙ go (manner_of (slice_get s.kinds i))
+  where
+    go : (o : Option Manner) → lock_as o u i ≡ lock_as o s i
     go None = ap Rw (same_elsewhere of_rws j s u h i ne)
-    go (Some LockKind.Rw) = ap Rw (same_elsewhere of_rws j s u h i ne)
-    go (Some LockKind.Mutex) = ap Mx (same_elsewhere of_mutexes j s u h i ne)
+    go (Some AsRw) = ap Rw (same_elsewhere of_rws j s u h i ne)
+    go (Some AsMutex) = ap Mx (same_elsewhere of_mutexes j s u h i ne)

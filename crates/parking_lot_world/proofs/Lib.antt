@@ -71,3 +71,6 @@ mod MutexPaying
 mod RwPaying
 mod Summing
 pub mod Paying
+pub mod LateLots
+pub mod LateActs
+pub mod LateCalls

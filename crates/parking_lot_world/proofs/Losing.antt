@@ -1,8 +1,8 @@
 -- A word that is another than before was changed by one of the moves in between.
-use Rattle.std.proofs.Common.{◌≡◌, ℕ, ◌∷◌, [], List, inl, inr, ◌∙◌}
+use Rattle.std.proofs.Common.{◌∷◌, [], inl, inr, ◌∙◌}
 use Rattle.std.proofs.lemmas.Bool.{cases_eq}
-use Rattle.parking_lot_world.specs.LostExchanges.{AreOfOthers, IsLost, LostExchangesHaveCauses, SomeChanges, after_all}
-use Rattle.parking_lot_world.specs.Rows.{State, word_at}
+use Rattle.parking_lot_world.specs.LostExchanges.{LostExchangesHaveCauses}
+use Rattle.parking_lot_world.specs.Rows.{word_at}
 
 pub lost_exchanges_have_causes : LostExchangesHaveCauses
 lost_exchanges_have_causes t i from s [] was others lost = absurd (lost.lost was)

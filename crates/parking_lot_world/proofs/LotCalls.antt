@@ -42,14 +42,14 @@ may_enter m t free runs_now =
     ∙ ap (λ (o : Option Section). cond (runs (Some (cond (option_map_or (is_of t) o false) status.InSection status.Running))) (cond (is_some o) (Some Busy) None) (Some WrongStatus)) free
 
 -- a section is its thread's
-own_section : (m : Machine) (t : ℕ) (o : Section) → m.section ≡ Some o → o.thread ≡ Some t → section_of m t ≡ Some o
+pub own_section : (m : Machine) (t : ℕ) (o : Section) → m.section ≡ Some o → o.thread ≡ Some t → section_of m t ≡ Some o
 own_section m t o there whose =
     ap (option_and_then (λ (s : Section). cond (is_of t s) (Some s) None)) there
     ∙ (ap (λ (x : Option ℕ). cond (option_map_or (λ owner. owner == t) x false) (Some o) None) whose
     ∙ ap (λ (b : Bool). cond b (Some o) None) (eq-eqb t t refl))
 
 -- and makes the steps that it may make
-may_step : (m : Machine) (t : ℕ) (o : Section) (may : Phase → Bool) → m.section ≡ Some o → o.thread ≡ Some t → may o.phase ≡ true → step_fault may m t ≡ None
+pub may_step : (m : Machine) (t : ℕ) (o : Section) (may : Phase → Bool) → m.section ≡ Some o → o.thread ≡ Some t → may o.phase ≡ true → step_fault may m t ≡ None
 may_step m t o may there whose fits =
     ap (λ (x : Option Section). cond (option_map_or (λ s. may s.phase) x false) None (Some WrongStatus)) (own_section m t o there whose)
     ∙ ap (λ (b : Bool). cond b None (Some WrongStatus)) fits
@@ -149,7 +149,7 @@ lot_never_refuses = record {
       steps_in s t c x.0 x.1 l.0 Stores may_store l.1 (λ o come. come);
   masks = λ s t c keep x.
       let l = leads_by c.core (Act.FetchAnd keep) 0 (seen.Before 0) x.2 refl in
-      steps_in s t c x.0 x.1 1 Stores may_store l.0 (λ o come. come);
+      steps_in s t c x.0 x.1 l.0 Stores may_store l.1 (λ o come. come);
   leaves = leaves;
   inside = λ s t c k how h here from.
       let seat = seat_of s h t c (In k how) here from in

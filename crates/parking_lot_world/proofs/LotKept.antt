@@ -113,7 +113,7 @@ masks s t c keep h here is =
     let told = seen.Before (word_at s c.lock) in
     let x = leads_by c.core (Act.FetchAnd keep) (word_at s c.lock) told is refl in
     worded (with_lot (settles (with_call s t (hears c told)) t (told_of (sign false))) (masked s t c keep).lot) c.lock (bit_and (word_at s c.lock) keep)
-    (stores_fit s t c (hears c told) h here 1 (sign false) refl x.0 x.1 x.2 (wakes_some c.core told) (stored_sound s t c h here (sign false)))
+    (stores_fit s t c (hears c told) h here x.0 (sign false) refl x.1 x.2 x.3 (wakes_some c.core told) (stored_sound s t c h here (sign false)))
 
 leaves : (s : State) (t : ℕ) (c : Call) → Keeps s t c (Act.Section section.Leave) (left s t c)
 leaves s t c h here is = left_fits s t c h here (left_sound s t c h here) (leads_by c.core (Act.Section section.Leave) 0 seen.Made is tt)

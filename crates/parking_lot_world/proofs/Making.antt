@@ -10,13 +10,14 @@ use Rattle.parking_lot_rules.specs.Family.{Crossing, Stays, Comes, Goes, SoundFa
 use Rattle.parking_lot_protocol.specs.declared.act.ActResult.{ActResult}
 use Rattle.parking_lot_protocol.specs.MutexRules as of_mutex
 use Rattle.parking_lot_protocol.specs.RwRules as of_rw
+use Rattle.parking_lot_world.specs.Kinds.{AsMutex, AsRw, manner_of, Manner, recursive_in}
 use Rattle.parking_lot_world.specs.declared.calls.LockKind.{LockKind}
 use Rattle.parking_lot_world.specs.declared.seat.Core.{Core}
-use Rattle.parking_lot_world.specs.Rows.{State, call_at, hold_at, taken_by, rw_lock_at, mutex_at, any_lock, lock_at, inside, family, one_bucket}
+use Rattle.parking_lot_world.specs.Rows.{State, call_at, hold_at, taken_by, rw_lock_at, mutex_at, any_lock, lock_as, lock_at, inside, family, one_bucket}
 use Rattle.parking_lot_world.specs.MutexLaws as mutex_laws
 use Rattle.parking_lot_world.specs.RwLaws as rw_laws
 use Rattle.parking_lot_world.specs.RwLaws.{IsStep}
-use Rattle.parking_lot_world.specs.RowSteps.{IsLastOf, IsQuiet, IsMade, IsMoveOf, IsMutexMove, IsRwMove, store_step, wake_step}
+use Rattle.parking_lot_world.specs.RowSteps.{IsLastOf, IsQuiet, IsMade, IsMoveOf, IsMutexMove, IsRwMove, store_step, wake_step_of}
 use Rattle.parking_lot_rules.proofs.MutexCrossing.{families_stay_sound}
 use Rattle.parking_lot_world.proofs.Everybody.{was-all}
 use Rattle.parking_lot_world.proofs.KindTable.{Kind, of_rws, of_mutexes, IsThere, Elsewhere, elsewhere, idle_in, role_at, shown}
@@ -30,15 +31,15 @@ Crossed (Goes k) t old new = new ≡ None
 
 -- a thread that is at lock j does nothing at another
 idle_any : (s : State) (t j : ℕ) → IsThere j (call_at s t) → (i : ℕ) → i ≢ j → (o : Option LockKind) → IsIdleAt (any_lock o s i) t
-idle_any s t j there i ne o = go o
+idle_any s t j there i ne o = go (manner_of o)
   where
     idle_rw : (r : Role) → slice_get (rw_lock_at s i).roles t ≡ Some r → r.does ≡ Idle
     idle_rw r h = ap (λ (x : Role). x.does) (was-all (role_at of_rws s i) (length s.calls) t r h ∙ idle_in of_rws i j ne (taken_by s.wakes t) (hold_at s t i) (call_at s t) there)
 
-    go : (o : Option LockKind) → IsIdleAt (any_lock o s i) t
+    go : (o : Option Manner) → IsIdleAt (lock_as o s i) t
     go None = idle_rw
-    go (Some LockKind.Rw) = idle_rw
-    go (Some LockKind.Mutex) = λ r h. ap (λ (x : mutex.Role). x.does) (was-all (role_at of_mutexes s i) (length s.calls) t r h ∙ idle_in of_mutexes i j ne (taken_by s.wakes t) (hold_at s t i) (call_at s t) there)
+    go (Some AsRw) = idle_rw
+    go (Some AsMutex) = λ r h. ap (λ (x : mutex.Role). x.does) (was-all (role_at of_mutexes s i) (length s.calls) t r h ∙ idle_in of_mutexes i j ne (taken_by s.wakes t) (hold_at s t i) (call_at s t) there)
 
 free : (c : Crossing) (t j : ℕ) (s u : State) → Crossed c t (inside s) (inside u) → IsFree one_bucket (family s).entered j c
 free Stays t j s u h = tt
@@ -56,13 +57,13 @@ marks (Goes k) t j s u h b = elim (cases_eq b 0) [
   | inr ne ↦ ap (λ q. cond q (inside u) None) (ne_eqb b 0 ne) ∙ sym (ap (λ q. cond q None (cond q (inside s) None)) (ne_eqb b 0 ne))
 ]
 
-module _ {C R L : Type 0} (K : Kind C R L) (s u : State) (t j : ℕ) (there : IsThere j (call_at s t)) (others : Elsewhere j s u) (k : slice_get s.kinds j ≡ Some K.kind) where
+module _ {C R L : Type 0} (K : Kind C R L) (s u : State) (t j : ℕ) (there : IsThere j (call_at s t)) (others : Elsewhere j s u) (k : manner_of (slice_get s.kinds j) ≡ Some K.manner) where
   shown_after : lock_at u j ≡ K.any (shown K u j)
   shown_after = ap (λ ks. any_lock (slice_get ks j) u j) others.kinds ∙ K.shows u j (slice_get s.kinds j) k
 
-  pub made : (step : AnyStep) → (any_rules (λ i. false)).allowed j t step (K.any (shown K s j)) → K.any (shown K u j) ≡ any_after t step (K.any (shown K s j)) → Crossed (any_crossing step) t (inside s) (inside u) → IsMade j t step s u
+  pub made : (step : AnyStep) → (any_rules (recursive_in s.kinds)).allowed j t step (K.any (shown K s j)) → K.any (shown K u j) ≡ any_after t step (K.any (shown K s j)) → Crossed (any_crossing step) t (inside s) (inside u) → IsMade j t step s u
   made step allowed here crossed = record {
-    allowed = subst ((any_rules (λ i. false)).allowed j t step) (sym (K.shows s j (slice_get s.kinds j) k)) allowed;
+    allowed = subst ((any_rules (recursive_in s.kinds)).allowed j t step) (sym (K.shows s j (slice_get s.kinds j) k)) allowed;
     free = free (any_crossing step) t j s u crossed;
     idle = λ i ne. idle_any s t j there i ne (slice_get s.kinds i);
     here = shown_after ∙ here ∙ sym (ap (any_after t step) (K.shows s j (slice_get s.kinds j) k));
@@ -93,7 +94,7 @@ quiet_sound s u q sound = record {
 }
 
 pub made_sound : (s u : State) (t j : ℕ) (step : AnyStep) → IsMade j t step s u → IsSoundState s → IsSoundState u
-made_sound s u t j step made sound = families_stay_sound (λ i. false) one_bucket j t step (family s) (family u) sound made
+made_sound s u t j step made sound = families_stay_sound (recursive_in s.kinds) one_bucket j t step (family s) (family u) sound made
 
 -- whichever move it is
 pub move_sound : (s u : State) (x : Core) (n : ℕ) (us : List ℕ) (told : ActResult) (j t : ℕ) → IsMoveOf x n us told j t s u → IsSoundState s → IsSoundState u
@@ -105,17 +106,17 @@ last_sound s u x n j t h sound = ends s u (λ t j. IsSoundState u) (λ t j q. qu
 -- THE MOVES OF A READER-WRITER LOCK
 
 -- The move of thread t leads from the one lock to the other.
-abbrev pub RwLeadsBy : of_rw.Move → ℕ → Lock → Lock → Type 0
-RwLeadsBy of_rw.Stays t l n = n ≡ l
-RwLeadsBy (of_rw.Makes k) t l n = IsStep t (Alone k) l n
-RwLeadsBy (of_rw.Joins k) t l n = IsStep t (List_changes k) l n
-RwLeadsBy (of_rw.TakesOne mode) t l n = (scan : Scan) × (i v : ℕ) × IsStep t (Take1 scan i v mode Asleep) l n
-RwLeadsBy of_rw.TakesWriter t l n = (owns : Owned) × (v : ℕ) × IsStep t (Take2 owns v false Asleep) l n
-RwLeadsBy (of_rw.Tells end left) t l n = (scan : Scan) × IsStep t (Store end scan) l n
-RwLeadsBy of_rw.WakesOne t l n = (owns : Owned) × (v : ℕ) × (us : List ℕ) × (k : _) × IsStep t (Wake owns v us k Asleep) l n
-RwLeadsBy (of_rw.IsWoken k) t l n = ⊥
+abbrev pub RwLeadsBy : Bool → of_rw.Move → ℕ → Lock → Lock → Type 0
+RwLeadsBy recursive of_rw.Stays t l n = n ≡ l
+RwLeadsBy recursive (of_rw.Makes k) t l n = IsStep recursive t (Alone k) l n
+RwLeadsBy recursive (of_rw.Joins k) t l n = IsStep recursive t (List_changes k) l n
+RwLeadsBy recursive (of_rw.TakesOne mode) t l n = (scan : Scan) × (i v : ℕ) × IsStep recursive t (Take1 scan i v mode Asleep) l n
+RwLeadsBy recursive of_rw.TakesWriter t l n = (owns : Owned) × (v : ℕ) × IsStep recursive t (Take2 owns v false Asleep) l n
+RwLeadsBy recursive (of_rw.Tells end left) t l n = (scan : Scan) × IsStep recursive t (Store end scan) l n
+RwLeadsBy recursive of_rw.WakesOne t l n = (owns : Owned) × (v : ℕ) × (us : List ℕ) × (k : _) × IsStep recursive t (Wake owns v us k Asleep) l n
+RwLeadsBy recursive (of_rw.IsWoken k) t l n = ⊥
 
-pub rw_goes : (s u : State) (t j : ℕ) (m : of_rw.Move) (n : Lock) → IsThere j (call_at s t) → Elsewhere j s u → slice_get s.kinds j ≡ Some LockKind.Rw → RwLeadsBy m t (rw_lock_at s j) n → rw_lock_at u j ≡ n
+pub rw_goes : (s u : State) (t j : ℕ) (m : of_rw.Move) (n : Lock) → IsThere j (call_at s t) → Elsewhere j s u → manner_of (slice_get s.kinds j) ≡ Some AsRw → RwLeadsBy (recursive_in s.kinds j) m t (rw_lock_at s j) n → rw_lock_at u j ≡ n
     → Crossed (rw_laws.move_crossing m) t (inside s) (inside u) → IsRwMove m j t s u
 rw_goes s u t j of_rw.Stays n there others k leads here crossed = quiet of_rws s u t j there others k (here ∙ leads) crossed
 rw_goes s u t j (of_rw.Makes x) n there others k leads here crossed = made of_rws s u t j there others k (RwStep (Alone x)) leads.0 (ap Rw (here ∙ sym leads.1)) crossed
@@ -133,12 +134,12 @@ abbrev pub TellsOf : of_mutex.Move → List ℕ → ℕ → Type 0
 TellsOf (of_mutex.Tells taken handed left) us v = us ≡ of_mutex.taken_of v taken
 TellsOf m us v = Unit {0}
 
-pub mutex_goes : (s u : State) (t j v : ℕ) (us : List ℕ) (n : mutex.Mutex) (m : of_mutex.Move) → IsThere j (call_at s t) → Elsewhere j s u → slice_get s.kinds j ≡ Some LockKind.Mutex
+pub mutex_goes : (s u : State) (t j v : ℕ) (us : List ℕ) (n : mutex.Mutex) (m : of_mutex.Move) → IsThere j (call_at s t) → Elsewhere j s u → manner_of (slice_get s.kinds j) ≡ Some AsMutex
     → mutex_laws.LeadsBy m v t (mutex_at s j) n → mutex_at u j ≡ n → Crossed (mutex_laws.move_crossing m) t (inside s) (inside u) → TellsOf m us v → IsMutexMove m us j t s u
 mutex_goes s u t j v us n of_mutex.Stays there others k leads here crossed tells = quiet of_mutexes s u t j there others k (here ∙ leads) crossed
 mutex_goes s u t j v us n (of_mutex.Makes x) there others k leads here crossed tells = made of_mutexes s u t j there others k (MxStep (mutex.Alone x)) leads.0 (ap Mx (here ∙ sym leads.1)) crossed
 mutex_goes s u t j v us n of_mutex.Joins there others k leads here crossed tells = made of_mutexes s u t j there others k (MxStep mutex.Join) leads.0 (ap Mx (here ∙ sym leads.1)) crossed
-mutex_goes s u t j v us n of_mutex.TakesOne there others k leads here crossed tells = (v, made of_mutexes s u t j there others k (MxStep (mutex.Take v Asleep)) leads.0 (ap Mx (here ∙ sym leads.1)) crossed)
+mutex_goes s u t j v us n of_mutex.TakesOne there others k (stay, leads) here crossed tells = (v, stay, made of_mutexes s u t j there others k (MxStep (mutex.Take v stay)) leads.0 (ap Mx (here ∙ sym leads.1)) crossed)
 mutex_goes s u t j v us n (of_mutex.Tells taken handed left) there others k leads here crossed tells =
     subst (λ (vs : List ℕ). IsMade j t (MxStep (store_step handed vs)) s u) (sym tells)
     (made of_mutexes s u t j there others k (MxStep (store_step handed (of_mutex.taken_of v taken))) leads.0 (ap Mx (here ∙ sym leads.1)) (stores handed (of_mutex.taken_of v taken)))
@@ -148,9 +149,9 @@ mutex_goes s u t j v us n (of_mutex.Tells taken handed left) there others k lead
     stores true [] = crossed
     stores false vs = crossed
 mutex_goes s u t j v us n of_mutex.WakesOne there others k leads here crossed tells =
-    (leads.0, v, [], made of_mutexes s u t j there others k (MxStep (wake_step leads.0 v [])) leads.1.0 (ap Mx (here ∙ sym leads.1.1)) (wakes leads.0))
+    (leads.0, v, [], leads.1, made of_mutexes s u t j there others k (MxStep (wake_step_of leads.1 leads.0 v [])) leads.2.0 (ap Mx (here ∙ sym leads.2.1)) (wakes leads.0))
   where
-    wakes : (b : Bool) → Crossed (mutex_crossing (wake_step b v [])) t (inside s) (inside u)
+    wakes : (b : Bool) → Crossed (mutex_crossing (wake_step_of leads.1 b v [])) t (inside s) (inside u)
     wakes true = crossed
     wakes false = crossed
 mutex_goes s u t j v us n (of_mutex.IsWoken handed) there others k leads here crossed tells = absurd leads

@@ -21,22 +21,23 @@ use Rattle.parking_lot_protocol.specs.MutexRules as of_mutex
 use Rattle.parking_lot_protocol.specs.declared.act.ActResult.{ActResult}
 use Rattle.parking_lot_protocol.specs.declared.mutex_core.MutexCore.{MutexCore}
 use Rattle.parking_lot_core_lot.specs.declared.place.Waiter.{Waiter}
-use Rattle.parking_lot_world.specs.declared.calls.LockKind.{LockKind}
+use Rattle.parking_lot_world.specs.Kinds.{AsMutex, AsRw, manner_of, Manner, recursive_in}
 use Rattle.parking_lot_world.specs.declared.seat.Hold.{Hold}
 use Rattle.parking_lot_world.specs.declared.seat.QueuePosition.{QueuePosition}
+use Rattle.parking_lot_world.specs.declared.seat.LatePhase.{LatePhase}
 use Rattle.parking_lot_world.specs.declared.seat.Core.{Core}
 use Rattle.parking_lot_world.specs.declared.open_call.Call.{Call}
-use Rattle.parking_lot_world.specs.Rows.{State, word_at, hold_at, call_at, is_by, taken_by, owned_of, rw_spot, rw_role_in, rw_role_at, rw_core_role, rw_lock_at, mutex_at, mutex_spot, first_of_all, any_lock}
+use Rattle.parking_lot_world.specs.Rows.{State, word_at, hold_at, call_at, is_by, taken_by, owned_of, rw_spot, rw_role_in, rw_role_at, rw_core_role, rw_lock_at, mutex_at, mutex_spot, late_role, first_of_all, lock_as}
 use Rattle.parking_lot_world.specs.Stances.{core_next, rw_taken, taken_count}
 use Rattle.parking_lot_world.specs.RowFits.{FitsTogether, is_away, IsOfKind, IsPrepared, KnowsList}
 use Rattle.parking_lot_world.specs.RwLaws.{Learns, Meets, count_shared}
 use Rattle.parking_lot_world.specs.MutexLaws.{Plays}
 use Rattle.parking_lot_world.proofs.MutexRoles.{words}
 use Rattle.parking_lot_world.proofs.RwCrossing.{lists_are_known}
-use Rattle.parking_lot_world.proofs.RwMoving.{answers_are_moves}
+use Rattle.parking_lot_world.proofs.RwMoving.{answers_are_moves, counted}
 use Rattle.parking_lot_world.proofs.RwKeeping.{calls_keep}
 use Rattle.parking_lot_world.proofs.Everybody.{was-all, length-all}
-use Rattle.parking_lot_world.proofs.KindTable.{of_rws, of_mutexes, in_its_place}
+use Rattle.parking_lot_world.proofs.KindTable.{Plain, Late, of_rws, of_mutexes, in_its_place}
 
 -- who is in a call is a thread of the machine
 pub in_range : (s : State) (t : ℕ) (c : Call) → call_at s t ≡ Some c → t < length s.calls
@@ -83,6 +84,7 @@ module _ (s : State) (h : FitsTogether s) where
   core_few : (n : ℕ) (at : QueuePosition) (us : List ℕ) (x : Core) → n ≤ 254 → shared_holds (rw_core_role n at us x).owns ≤ 256
   core_few n at us (Core.Rw k) e = omega (arith, owns_few n k.phase, e)
   core_few n at us (Core.Mutex k) e = omega arith
+  core_few n at us (Core.Late p) e = omega arith
 
   pub role_few : (i u : ℕ) (o : Option Call) → call_at s u ≡ o → shared_holds (rw_role_in i (taken_by s.wakes u) (hold_at s u i) o).owns ≤ 256
   role_few i u None e = hold_few u i (hold_at s u i) refl
@@ -92,24 +94,24 @@ module _ (s : State) (h : FitsTogether s) where
       go true = core_few c.others c.spot (taken_by s.wakes u) c.core (h.rules.beside u c e)
       go false = hold_few u i (hold_at s u i) refl
 
-  pub rw_sound : (i : ℕ) → slice_get s.kinds i ≡ Some LockKind.Rw → IsSound (rw_lock_at s i)
-  rw_sound i k = subst (λ (o : Option LockKind). AnySound (any_lock o s i)) k (h.rules.sound.sound i)
+  pub rw_sound : (i : ℕ) → manner_of (slice_get s.kinds i) ≡ Some AsRw → IsSound (rw_lock_at s i)
+  rw_sound i k = subst (λ (o : Option Manner). AnySound (lock_as o s i)) k (h.rules.sound.sound i)
 
-  pub mutex_sound : (i : ℕ) → slice_get s.kinds i ≡ Some LockKind.Mutex → mutex.IsSound (mutex_at s i)
-  mutex_sound i k = subst (λ (o : Option LockKind). AnySound (any_lock o s i)) k (h.rules.sound.sound i)
+  pub mutex_sound : (i : ℕ) → manner_of (slice_get s.kinds i) ≡ Some AsMutex → mutex.IsSound (mutex_at s i)
+  mutex_sound i k = subst (λ (o : Option Manner). AnySound (lock_as o s i)) k (h.rules.sound.sound i)
 
   -- thread t is in that call
   pub meets : (t : ℕ) (c : Call) (k : RwCore) → c.core ≡ Core.Rw k → call_at s t ≡ Some c
-      → Meets (rw_lock_at s c.lock) t c.others (rw_spot c.spot) (taken_by s.wakes t) k.phase (word_at s c.lock)
+      → Meets (recursive_in s.kinds c.lock) (rw_lock_at s c.lock) t c.others (rw_spot c.spot) (taken_by s.wakes t) k.phase (word_at s c.lock)
   meets t c k e here =
-      let ready = subst (IsPrepared c.others) e (h.rules.prepared t c here) in
+      let ready = subst (IsPrepared (recursive_in s.kinds c.lock) c.others) e (h.rules.prepared t c here) in
       let counted = h.lots.counted t c here ∙ ap taken_count e in
       record {
         sound = rw_sound c.lock (subst (IsOfKind (slice_get s.kinds c.lock)) e (h.rules.kinds t c here));
         word = refl;
         here = in_its_place of_rws s t c k (in_range s t c here) here e;
         ready = ready.0;
-        prepared = calls_keep.prepared c.others (taken_by s.wakes t) k.phase ready.1 counted (few_counted (taken_by s.wakes t) k.phase (few_taken s h t) counted);
+        prepared = calls_keep.prepared (recursive_in s.kinds c.lock) c.others (taken_by s.wakes t) k.phase ready.1 counted (few_counted (taken_by s.wakes t) k.phase (few_taken s h t) counted);
         threads = omega (arith, length-all (rw_role_at s c.lock) 0 (length s.calls), h.rules.small);
         few = λ u x at. subst (λ (q : Role). shared_holds q.owns ≤ 256) (sym (was-all (rw_role_at s c.lock) (length s.calls) u x at)) (role_few c.lock u (call_at s u) refl);
       }
@@ -118,15 +120,21 @@ module _ (s : State) (h : FitsTogether s) where
   pub plays : (t : ℕ) (c : Call) (k : MutexCore) → c.core ≡ Core.Mutex k → call_at s t ≡ Some c → Plays (mutex_at s c.lock) (word_at s c.lock) t (of_mutex.role (mutex_spot c.spot) (first_of_all (taken_by s.wakes t)) k.phase)
   plays t c k e here =
       let kind_is = subst (IsOfKind (slice_get s.kinds c.lock)) e (h.rules.kinds t c here) in
-      record { sound = mutex_sound c.lock kind_is; word = sym (words.forth (word_at s c.lock) (h.rules.bits c.lock kind_is)); here = in_its_place of_mutexes s t c k (in_range s t c here) here e }
+      record { sound = mutex_sound c.lock kind_is; word = sym (words.forth (word_at s c.lock) (h.rules.bits c.lock kind_is)); here = in_its_place of_mutexes s t c (Plain k) (in_range s t c here) here e }
+
+  -- and so does one whose moment has passed
+  pub plays_late : (t : ℕ) (c : Call) (p : LatePhase) → c.core ≡ Core.Late p → call_at s t ≡ Some c → Plays (mutex_at s c.lock) (word_at s c.lock) t (late_role (mutex_spot c.spot) p)
+  plays_late t c p e here =
+      let kind_is = subst (IsOfKind (slice_get s.kinds c.lock)) e (h.rules.kinds t c here) in
+      record { sound = mutex_sound c.lock kind_is; word = sym (words.forth (word_at s c.lock) (h.rules.bits c.lock kind_is)); here = in_its_place of_mutexes s t c (Late p) (in_range s t c here) here e }
 
   -- a call at a reader-writer lock that hears what it may stands on what its next phase needs
   pub rw_hears : (t : ℕ) (c : Call) (k : RwCore) → c.core ≡ Core.Rw k → call_at s t ≡ Some c → (heard : ActResult) → of_rw.IsTold k.phase (word_at s c.lock) heard → (queues : ℕ → List Waiter) → Learns k.phase heard (queues (2 * c.lock)) (queues (2 * c.lock + 1))
-      → IsPrepared c.others (core_next (Core.Rw k) heard) × KnowsList (core_next (Core.Rw k) heard) queues c.lock
+      → IsPrepared (recursive_in s.kinds c.lock) c.others (core_next (Core.Rw k) heard) × KnowsList (core_next (Core.Rw k) heard) queues c.lock
   rw_hears t c k e here heard so queues learns = (
     (
-      (answers_are_moves (rw_lock_at s c.lock) t c.others (rw_spot c.spot) (taken_by s.wakes t) k.phase (word_at s c.lock) heard (meets t c k e here) so).2.1,
-      calls_keep.goes_on c.others k.phase (word_at s c.lock) heard (subst (IsPrepared c.others) e (h.rules.prepared t c here)).1 so,
+      (answers_are_moves (recursive_in s.kinds c.lock) (rw_lock_at s c.lock) t c.others (rw_spot c.spot) (taken_by s.wakes t) k.phase (word_at s c.lock) heard (meets t c k e here) so).2.1,
+      calls_keep.goes_on (recursive_in s.kinds c.lock) c.others k.phase (word_at s c.lock) heard (subst (IsPrepared (recursive_in s.kinds c.lock) c.others) e (h.rules.prepared t c here)).1 (counted (recursive_in s.kinds c.lock) (rw_lock_at s c.lock) t c.others (rw_spot c.spot) (taken_by s.wakes t) k.phase (word_at s c.lock) (meets t c k e here)) so,
     ),
     lists_are_known.learns k.phase (word_at s c.lock) heard (s.lot.queues (2 * c.lock)) (s.lot.queues (2 * c.lock + 1)) (queues (2 * c.lock)) (queues (2 * c.lock + 1)) so
         (subst (λ (x : Core). KnowsList x s.lot.queues c.lock) e (h.rules.knows t c here)) learns,

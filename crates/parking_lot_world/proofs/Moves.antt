@@ -6,10 +6,11 @@ use Rattle.parking_lot_protocol.specs.declared.act.CoreAnswer.{CoreAnswer}
 use Rattle.parking_lot_protocol.specs.MutexRules as of_mutex
 use Rattle.parking_lot_protocol.specs.RwRules as of_rw
 use Rattle.parking_lot_world.specs.declared.calls.LockCall.{LockCall}
+use Rattle.parking_lot_world.specs.declared.seat.LatePhase.{LatePhase}
 use Rattle.parking_lot_world.specs.declared.seat.Core.{Core}
 use Rattle.parking_lot_world.specs.Machines.{call_for, IsBegun, IsStepped}
 use Rattle.parking_lot_world.specs.Rows.{State, taken_by}
-use Rattle.parking_lot_world.specs.RowSteps.{IsLastOf, IsMade, IsMoveOf, IsMutexMove, IsQuiet, IsRwMove}
+use Rattle.parking_lot_world.specs.RowSteps.{IsLastOf, IsLateMove, IsMade, IsMoveOf, IsMutexMove, IsQuiet, IsRwMove}
 
 module _ (s u : State) (P : (t j : ℕ) → Type 0) (quiet : (t j : ℕ) → IsQuiet s u → P t j) (made : (t j : ℕ) (step : AnyStep) → IsMade j t step s u → P t j) where
   rw_moves : (k : of_rw.Move) (j t : ℕ) → IsRwMove k j t s u → P t j
@@ -26,18 +27,27 @@ module _ (s u : State) (P : (t j : ℕ) → Type 0) (quiet : (t j : ℕ) → IsQ
   mutex_moves of_mutex.Stays us j t h = quiet t j h
   mutex_moves (of_mutex.Makes k) us j t h = made t j _ h
   mutex_moves of_mutex.Joins us j t h = made t j _ h
-  mutex_moves of_mutex.TakesOne us j t (v, h) = made t j _ h
+  mutex_moves of_mutex.TakesOne us j t (v, stay, h) = made t j _ h
   mutex_moves (of_mutex.Tells taken handed left) us j t h = made t j _ h
-  mutex_moves of_mutex.WakesOne us j t (handed, v, rest, h) = made t j _ h
+  mutex_moves of_mutex.WakesOne us j t (handed, v, rest, stay, h) = made t j _ h
   mutex_moves (of_mutex.IsWoken handed) us j t h = absurd h
+
+  late_moves : (p : LatePhase) (told : ActResult) (j t : ℕ) → IsLateMove p told j t s u → P t j
+  late_moves LatePhase.Expires ActResult.Entered j t h = made t j _ h
+  late_moves LatePhase.Quits (ActResult.Took token left) j t (i, h) = made t j _ h
+  late_moves LatePhase.Masks (ActResult.Before word) j t h = made t j _ h
+  late_moves LatePhase.Leaves ActResult.Made j t h = made t j _ h
+  late_moves p told j t h = absurd h
 
   pub goes : (k : Core) (n : ℕ) (us : List ℕ) (told : ActResult) (j t : ℕ) → IsMoveOf k n us told j t s u → P t j
   goes (Core.Rw c) n us told j t h = rw_moves _ j t h
   goes (Core.Mutex c) n us told j t h = mutex_moves _ us j t h
+  goes (Core.Late p) n us told j t h = late_moves p told j t h
 
   pub ends : (k : Core) (n j t : ℕ) → IsLastOf k n j t s u → P t j
   ends (Core.Rw c) n j t h = rw_moves _ j t h
   ends (Core.Mutex c) n j t h = mutex_moves _ _ j t h
+  ends (Core.Late p) n j t h = quiet t j h
 
   pub stepped : (t : ℕ) (fair : Bool) (answer : Option CoreAnswer) (x : IsStepped t fair answer s u) → P t x.call.lock
   stepped t fair None x = goes x.call.core x.call.others (taken_by s.wakes t) x.lawful.0 x.call.lock t x.lawful.1.goes

@@ -7,7 +7,7 @@ use Rattle.parking_lot_core_lot.specs.declared.parking.UnparkToken.{UnparkToken}
 use Rattle.parking_lot_core_lot.specs.declared.place.Waiter.{Waiter}
 use Rattle.parking_lot_core_lot.specs.Machine.{threads_of}
 use Rattle.parking_lot_core_lot.specs.Results.{is_left}
-use Rattle.parking_lot_rules.specs.Roles.{Mark, Asleep}
+use Rattle.parking_lot_rules.specs.Roles.{Mark, Stay}
 use Rattle.parking_lot_rules.specs.Mutex as rules
 use Rattle.parking_lot_rules.specs.Family.{Crossing, Comes, Goes, First}
 use Rattle.parking_lot_rules.specs.Family as crossing
@@ -23,13 +23,13 @@ use Rattle.parking_lot_protocol.specs.declared.mutex_phase.MutexPhase.TheVariant
 use Rattle.parking_lot_protocol.specs.declared.mutex_phase.Giving.{Giving}
 use Rattle.parking_lot_protocol.specs.Acts.{Gives}
 use Rattle.parking_lot_protocol.specs.MutexTable.{act_of, next_phase, wakes_with}
-use Rattle.parking_lot_rules.specs.Classes.{bit}
+use Rattle.parking_lot_rules.specs.Classes.{bit, inside as is_inside}
 use Rattle.parking_lot_protocol.specs.MutexRules.{QueuePosition, Listed, Off, role, owns, owns_after, taken_of, Move, Stays, Makes, Joins, TakesOne, Tells, WakesOne, IsWoken, move, last_move, IsWord, IsPlain, IsMove, IsTold, mark_of}
 use Rattle.parking_lot_protocol.proofs.MutexFollowing.{either, follows}
 use Rattle.parking_lot_world.specs.Rows.{mutex_word_of}
 use Rattle.parking_lot_world.specs.Stances.{sign, mutex_begun}
 use Rattle.parking_lot_world.specs.RowFits.{mutex_knows}
-use Rattle.parking_lot_world.specs.RowSteps.{store_step, wake_step}
+use Rattle.parking_lot_world.specs.RowSteps.{store_step, wake_step_of}
 use Rattle.parking_lot_world.specs.MutexLaws.{Plays, NobodyIsInside, mutex_of, Leads, LeadsBy, is_own, crossing_of, move_crossing, woken_role, word_next, IsOwnStep, IsJoining, IsTaking, IsTelling, IsWaking, MutexAnswersAreSteps}
 use Rattle.parking_lot_world.proofs.MutexRoles.{back, small, sound_word, awake, woken}
 
@@ -43,7 +43,7 @@ set_same [] i x h = refl
 set_same (y ∷ ys) zero x h = ap (λ z. z ∷ ys) (sym (same_Some y x h))
 set_same (y ∷ ys) (suc i) x h = ap (λ zs. y ∷ zs) (set_same ys i x h)
 
-total_of_nobody : (rs : List rules.Role) → ((u : ℕ) (r : rules.Role) → slice_get rs u ≡ Some r → rules.weight rules.Inside r ≡ 0) → rules.total rules.Inside rs ≡ 0
+pub total_of_nobody : (rs : List rules.Role) → ((u : ℕ) (r : rules.Role) → slice_get rs u ≡ Some r → rules.weight rules.Inside r ≡ 0) → rules.total rules.Inside rs ≡ 0
 total_of_nobody [] none = refl
 total_of_nobody (r ∷ rs) none = omega (arith, sum_by-cons (rules.weight rules.Inside) r rs, none 0 r refl, total_of_nobody rs (λ u. none (suc u)))
 
@@ -199,13 +199,13 @@ joins m x t v at Appends token plays e =
 joins m x t v at (Finishes g) token plays e = absurd (finishing g.again 2 (omega arith) (omega arith) (ap tag e))
 joins m x t v at p token plays e = absurd (omega (arith, ap tag e))
 
-takes : (m : rules.Mutex) (x t v : ℕ) (at : QueuePosition) (p : MutexPhase) (token : ParkToken) (left : Bool) → Plays m x t (role at v p) → act_of p ≡ Act.Section section.TakeFirst
-    → slice_get m.queue 0 ≡ Some v → slice_get m.roles v ≡ Some (role Listed 0 Sleeps) → IsTaking m x t v p (Took (Some token) left)
-takes m x t v at (Takes g) token left plays e first there =
-    subst (λ (y : ℕ). IsTaking m y t v (Takes g) (Took (Some token) left)) (sym plays.word)
+takes : (m : rules.Mutex) (x t v : ℕ) (at : QueuePosition) (p : MutexPhase) (token : ParkToken) (left : Bool) (stay : Stay) → Plays m x t (role at v p) → act_of p ≡ Act.Section section.TakeFirst
+    → slice_get m.queue 0 ≡ Some v → slice_get m.roles v ≡ Some (rules.doing (rules.Queued stay)) → IsTaking m x t v p (Took (Some token) left) stay
+takes m x t v at (Takes g) token left stay plays e first there =
+    subst (λ (y : ℕ). IsTaking m y t v (Takes g) (Took (Some token) left) stay) (sym plays.word)
     (record { move = refl; leads = ((plays.here, first, there), same_mutex _ _ (word_back m plays.sound) refl refl); same = refl })
-takes m x t v at (Finishes g) token left plays e first there = absurd (finishing g.again 1 (omega arith) (omega arith) (ap tag e))
-takes m x t v at p token left plays e first there = absurd (omega (arith, ap tag e))
+takes m x t v at (Finishes g) token left stay plays e first there = absurd (finishing g.again 1 (omega arith) (omega arith) (ap tag e))
+takes m x t v at p token left stay plays e first there = absurd (omega (arith, ap tag e))
 
 -- what it says to those whom it has taken
 module _ (m : rules.Mutex) (t v word : ℕ) (left : Bool) (counted : rules.are_left (length m.queue) ≡ bit left) where
@@ -270,24 +270,24 @@ tells m x t v at (Stores g taken left) plain fair is_fair waiters plays e queue 
 tells m x t v at (Finishes g) plain fair is_fair waiters plays e queue knows = absurd (finishing g.again 3 (omega arith) (omega arith) (ap tag e))
 tells m x t v at p plain fair is_fair waiters plays e queue knows = absurd (omega (arith, ap tag e))
 
-wake : (m : rules.Mutex) (t v : ℕ) (mark : Mark) (handed : Bool) → slice_get m.roles t ≡ Some (rules.doing (rules.Wakes (v ∷ []))) → slice_get m.roles v ≡ Some (rules.doing (rules.Taken t mark Asleep)) → mark ≡ mark_of handed
-    → Leads t (wake_step handed v []) m (record m { roles = slice_set (slice_set m.roles v (woken_role handed)) t (rules.doing (rules.Wakes [])) })
-wake m t v mark true at there e = ((at, subst (λ (x : Mark). slice_get m.roles v ≡ Some (rules.doing (rules.Taken t x Asleep))) e there, refl), refl)
-wake m t v mark false at there e = ((at, subst (λ (x : Mark). slice_get m.roles v ≡ Some (rules.doing (rules.Taken t x Asleep))) e there, refl), refl)
+wake : (m : rules.Mutex) (t v : ℕ) (mark : Mark) (stay : Stay) (handed : Bool) → slice_get m.roles t ≡ Some (rules.doing (rules.Wakes (v ∷ []))) → slice_get m.roles v ≡ Some (rules.doing (rules.Taken t mark stay)) → is_inside stay ≡ 0 → mark ≡ mark_of handed
+    → Leads t (wake_step_of stay handed v []) m (record m { roles = slice_set (slice_set m.roles v (woken_role handed)) t (rules.doing (rules.Wakes [])) })
+wake m t v mark stay true at there out e = ((at, subst (λ (x : Mark). slice_get m.roles v ≡ Some (rules.doing (rules.Taken t x stay))) e there, out), refl)
+wake m t v mark stay false at there out e = ((at, subst (λ (x : Mark). slice_get m.roles v ≡ Some (rules.doing (rules.Taken t x stay))) e there, out), refl)
 
-wakes : (m : rules.Mutex) (x t v : ℕ) (at : QueuePosition) (p : MutexPhase) (mark : Mark) (token : UnparkToken) → Plays m x t (role at v p) → act_of p ≡ Act.Section section.Wake
-    → slice_get m.roles v ≡ Some (role (Off t mark) 0 Sleeps) → IsWaking m x t v p Made mark token
-wakes m x t v at (Wakes g) mark token plays e there =
-    subst (λ (y : ℕ). IsWaking m y t v (Wakes g) Made mark token) (sym plays.word)
+wakes : (m : rules.Mutex) (x t v : ℕ) (at : QueuePosition) (p : MutexPhase) (mark : Mark) (stay : Stay) (token : UnparkToken) → Plays m x t (role at v p) → act_of p ≡ Act.Section section.Wake
+    → slice_get m.roles v ≡ Some (rules.doing (rules.Taken t mark stay)) → is_inside stay ≡ 0 → IsWaking m x t v p Made mark stay token
+wakes m x t v at (Wakes g) mark stay token plays e there out =
+    subst (λ (y : ℕ). IsWaking m y t v (Wakes g) Made mark stay token) (sym plays.word)
     (record {
       move = refl;
       leads = λ told.
-          let k = wake m t v mark (token.0 == 1) plays.here there told in
+          let k = wake m t v mark stay (token.0 == 1) plays.here there out told in
           (k.0, k.1 ∙ same_mutex _ _ (word_back m plays.sound) (ap (λ r. slice_set (slice_set m.roles v r) t (rules.doing (rules.Wakes []))) (sym (woken Listed 0 token))) refl);
       same = refl;
     })
-wakes m x t v at (Finishes g) mark token plays e there = absurd (finishing g.again 4 (omega arith) (omega arith) (ap tag e))
-wakes m x t v at p mark token plays e there = absurd (omega (arith, ap tag e))
+wakes m x t v at (Finishes g) mark stay token plays e there out = absurd (finishing g.again 4 (omega arith) (omega arith) (ap tag e))
+wakes m x t v at p mark stay token plays e there out = absurd (omega (arith, ap tag e))
 
 -- THE END
 

@@ -1,9 +1,14 @@
 -- What the machine keeps of threads at a mutex is what the rules say of them.
-use Rattle.std.proofs.Common.{◌≡◌, ◌≢◌, ℕ, ◌/◌, ◌%◌, ◌-◌, nat_lt, ◌==◌, Bool, true, false, cond, List, [], Some, None, slice_get, refl, sym, ap, ◌∙◌, eq-eqb}
+use Rattle.std.proofs.Common.{◌≡◌, ◌≢◌, ◌<◌, subst, arith, ℕ, ◌/◌, ◌%◌, ◌-◌, nat_lt, ◌==◌, Bool, true, false, cond, List, [], Some, None, slice_get, refl, sym, ap, ◌∙◌, eq-eqb}
 use Rattle.parking_lot_core_lot.specs.declared.parking.ParkToken.{ParkToken}
 use Rattle.parking_lot_core_lot.specs.declared.place.Waiter.{Waiter}
 use Rattle.parking_lot_core_lot.specs.Results.{is_left}
-use Rattle.parking_lot_rules.specs.Roles.{Open, Asleep}
+use Rattle.parking_lot_rules.specs.Roles.{Open, Asleep, Late, Stay}
+use Rattle.parking_lot_rules.specs.Lists.{occurs}
+use Rattle.std.proofs.lemmas.Bool.{ne_eqb}
+use Rattle.std.proofs.lemmas.Option.{same_Some}
+use Rattle.parking_lot_world.proofs.KindTable.{MutexCall, Plain, mutex_plays}
+use Rattle.parking_lot_world.proofs.KindTable.{Late as CallLate}
 use Rattle.parking_lot_rules.specs.Mutex as rules
 use Rattle.parking_lot_protocol.specs.declared.act.Act.{Act}
 use Rattle.parking_lot_protocol.specs.declared.act.SectionAct.TheVariants as section
@@ -21,9 +26,10 @@ use Rattle.parking_lot_protocol.proofs.MutexFollowing.{either}
 use Rattle.parking_lot_world.specs.declared.seat.Hold.{Hold}
 use Rattle.parking_lot_world.specs.declared.seat.WakeResult.{WakeResult}
 use Rattle.parking_lot_world.specs.declared.seat.QueuePosition.{QueuePosition}
+use Rattle.parking_lot_world.specs.declared.seat.LatePhase.{LatePhase}
 use Rattle.parking_lot_world.specs.declared.seat.Core.{Core}
 use Rattle.parking_lot_world.specs.declared.open_call.Call.{Call}
-use Rattle.parking_lot_world.specs.Rows.{mark_of, mutex_spot, mutex_core_role, owns_mutex, first_of_all}
+use Rattle.parking_lot_world.specs.Rows.{mark_of, late_role, mutex_spot, mutex_core_role, owns_mutex, first_of_all}
 use Rattle.parking_lot_world.specs.RowActs.{settled_spot, mutex_hold_after}
 use Rattle.parking_lot_world.specs.RowFits.{mutex_knows}
 use Rattle.parking_lot_world.specs.MutexLaws.{TellingsSettle, HoldsAreAnswered, TakersKnow, MutexIsShown, settle_spot}
@@ -54,9 +60,22 @@ module _ (m : rules.Mutex) (t u : ℕ) (us vs : List ℕ) (said : WakeResult) (s
   tells_phase v at Sleeps there = ap (λ x. role x v Sleeps) (settles_spot t said at (sleeper_of m t u us v at sound here there)) ∙ sym (settled_role (mark_of said) (mutex_spot at) v Sleeps)
   tells_phase v at p there = refl
 
+  pub tells_late : (at : QueuePosition) (p : LatePhase) → slice_get m.roles u ≡ Some (late_role (mutex_spot at) p) → late_role (mutex_spot (settled_spot t said at)) p ≡ rules.settle (mark_of said) (late_role (mutex_spot at) p)
+  tells_late QueuePosition.Listed LatePhase.Expires there = refl
+  tells_late (QueuePosition.Off by WakeResult.Nothing) LatePhase.Expires there =
+      ap (λ b. rules.doing (rules.Taken by (mark_of (cond b said WakeResult.Nothing)) Late)) (eq-eqb by t (opener m t u by us (rules.doing (rules.Taken by Open Late)) sound here there refl))
+  tells_late (QueuePosition.Off by WakeResult.TryAgain) LatePhase.Expires there = refl
+  tells_late (QueuePosition.Off by WakeResult.HandedOver) LatePhase.Expires there = refl
+  tells_late at p there = refl
+
+  pub tells_call : (at : QueuePosition) (k : MutexCall) → slice_get m.roles u ≡ Some (mutex_plays at vs k) → mutex_plays (settled_spot t said at) vs k ≡ rules.settle (mark_of said) (mutex_plays at vs k)
+  tells_call at (Plain k) there = tells_phase (first_of_all vs) at k.phase there
+  tells_call at (CallLate p) there = tells_late at p there
+
   tells_core : (at : QueuePosition) (k : Core) → slice_get m.roles u ≡ Some (mutex_core_role at vs k) → mutex_core_role (settled_spot t said at) vs k ≡ rules.settle (mark_of said) (mutex_core_role at vs k)
   tells_core at (Core.Mutex c) there = tells_phase (first_of_all vs) at c.phase there
   tells_core at (Core.Rw c) there = refl
+  tells_core at (Core.Late p) there = tells_late at p there
 
   tells_here : (i : ℕ) (h : Hold) (c : Call) (b : Bool) → slice_get m.roles u ≡ Some (cond b (mutex_core_role c.spot vs c.core) (record { owns = owns_mutex h; does = rules.Idle }))
       → cond b (mutex_core_role (settled_spot t said c.spot) vs c.core) (record { owns = owns_mutex h; does = rules.Idle }) ≡ rules.settle (mark_of said) (cond b (mutex_core_role c.spot vs c.core) (record { owns = owns_mutex h; does = rules.Idle }))
@@ -175,3 +194,29 @@ takes = record {
 
 pub shown : MutexIsShown
 shown = record { tells = tells; ends = ends; knows = takes }
+
+-- one that masks the parked bit off has taken nobody, and tells nobody
+module _ (m : rules.Mutex) (t u : ℕ) (vs : List ℕ) (said : WakeResult) (sound : rules.IsSound m) (here : slice_get m.roles t ≡ Some (rules.doing rules.Masks)) where
+  none_of : (by : ℕ) (stay : Stay) → slice_get m.roles u ≡ Some (rules.doing (rules.Taken by Open stay)) → (by == t) ≡ false
+  none_of by stay there = ne_eqb by t (λ e.
+      let w = sound.noted u by (rules.doing (rules.Taken by Open stay)) Open there refl in
+      let same : w.0 ≡ rules.doing rules.Masks = same_Some _ _ (sym w.1 ∙ ap (slice_get m.roles) e ∙ here) in
+      absurd (omega (arith, subst (λ (r : rules.Role). 0 < occurs u (rules.wakes r Open)) same w.2)))
+
+  masks_plain : (v : ℕ) (at : QueuePosition) (p : MutexPhase) → slice_get m.roles u ≡ Some (role (mutex_spot at) v p) → role (mutex_spot (settled_spot t said at)) v p ≡ role (mutex_spot at) v p
+  masks_plain v QueuePosition.Listed Sleeps there = refl
+  masks_plain v (QueuePosition.Off by WakeResult.Nothing) Sleeps there = ap (λ b. rules.doing (rules.Taken by (mark_of (cond b said WakeResult.Nothing)) Asleep)) (none_of by Asleep there)
+  masks_plain v (QueuePosition.Off by WakeResult.TryAgain) Sleeps there = refl
+  masks_plain v (QueuePosition.Off by WakeResult.HandedOver) Sleeps there = refl
+  masks_plain v at p there = refl
+
+  masks_late : (at : QueuePosition) (p : LatePhase) → slice_get m.roles u ≡ Some (late_role (mutex_spot at) p) → late_role (mutex_spot (settled_spot t said at)) p ≡ late_role (mutex_spot at) p
+  masks_late QueuePosition.Listed LatePhase.Expires there = refl
+  masks_late (QueuePosition.Off by WakeResult.Nothing) LatePhase.Expires there = ap (λ b. rules.doing (rules.Taken by (mark_of (cond b said WakeResult.Nothing)) Late)) (none_of by Late there)
+  masks_late (QueuePosition.Off by WakeResult.TryAgain) LatePhase.Expires there = refl
+  masks_late (QueuePosition.Off by WakeResult.HandedOver) LatePhase.Expires there = refl
+  masks_late at p there = refl
+
+  pub masks_call : (at : QueuePosition) (k : MutexCall) → slice_get m.roles u ≡ Some (mutex_plays at vs k) → mutex_plays (settled_spot t said at) vs k ≡ mutex_plays at vs k
+  masks_call at (Plain k) there = masks_plain (first_of_all vs) at k.phase there
+  masks_call at (CallLate p) there = masks_late at p there

@@ -6,7 +6,7 @@ use Rattle.parking_lot_core_lot.specs.Machine.{threads_of}
 use Rattle.parking_lot_rules.specs.Lists.{at_index}
 use Rattle.parking_lot_rules.specs.Classes.{Inside1, Inside2, weighs}
 use Rattle.parking_lot_rules.specs.Mutex as mutex
-use Rattle.parking_lot_rules.specs.Any.{AnyLock, any_inside}
+use Rattle.parking_lot_rules.specs.Any.{AnyLock, Mx, MxStep, any_inside}
 use Rattle.parking_lot_rules.specs.Family.{Key, First, Second, Crossing}
 use Rattle.parking_lot_rules.proofs.MutexCrossing.{any_are_rules}
 use Rattle.parking_lot_protocol.specs.declared.act.Act.{Act}
@@ -18,11 +18,12 @@ use Rattle.parking_lot_protocol.specs.declared.rw_phase.RwPhase.{RwPhase}
 use Rattle.parking_lot_protocol.specs.Acts.{Gives, word_after}
 use Rattle.parking_lot_protocol.specs.RwTable as of_rw_table
 use Rattle.parking_lot_protocol.specs.RwRules as of_rw
-use Rattle.parking_lot_world.specs.declared.calls.LockKind.{LockKind}
+use Rattle.parking_lot_world.specs.Kinds.{AsMutex, AsRw, manner_of, Manner, recursive_in}
+use Rattle.parking_lot_world.specs.declared.seat.LatePhase.{LatePhase}
 use Rattle.parking_lot_world.specs.declared.seat.Core.{Core}
 use Rattle.parking_lot_world.specs.declared.open_call.Call.{Call}
-use Rattle.parking_lot_world.specs.Rows.{State, word_at, taken_by, first_of_all, mutex_spot, rw_lock_at, mutex_at, any_lock, lock_at, inside}
-use Rattle.parking_lot_world.specs.Stances.{has_begun, rw_begun, core_act, core_next}
+use Rattle.parking_lot_world.specs.Rows.{State, word_at, taken_by, first_of_all, mutex_spot, rw_lock_at, mutex_at, lock_as, lock_at, inside}
+use Rattle.parking_lot_world.specs.Stances.{has_begun, rw_begun, core_act, core_next, late_act}
 use Rattle.parking_lot_world.specs.RowFits.{FitsTogether, RulesFit, IsOfKind, IsPrepared}
 use Rattle.parking_lot_world.specs.RowSteps.{Goes}
 use Rattle.parking_lot_world.specs.RwLaws.{Finds, NobodyIs}
@@ -31,9 +32,9 @@ use Rattle.parking_lot_protocol.specs.declared.mutex_phase.MutexPhase.{MutexPhas
 use Rattle.parking_lot_protocol.specs.MutexRules as of_mutex
 use Rattle.parking_lot_world.specs.MutexLaws.{is_own}
 use Rattle.parking_lot_world.proofs.MutexMoving.{steps}
-use Rattle.parking_lot_world.proofs.KindTable.{of_rws, of_mutexes, same}
-use Rattle.parking_lot_world.proofs.Making.{Crossed, TellsOf, mutex_goes, rw_goes}
-use Rattle.parking_lot_world.proofs.Meeting.{meets, plays, rw_hears}
+use Rattle.parking_lot_world.proofs.KindTable.{Plain, Late, of_rws, of_mutexes, same}
+use Rattle.parking_lot_world.proofs.Making.{Crossed, TellsOf, made, mutex_goes, rw_goes}
+use Rattle.parking_lot_world.proofs.Meeting.{meets, plays, plays_late, rw_hears}
 use Rattle.parking_lot_world.proofs.OwnMoves.{AfterAct, IsOwnAct, own_moves}
 use Rattle.parking_lot_world.proofs.Owning.{OwnAct, own-there, own-elsewhere, own_after, rw_leads}
 use Rattle.parking_lot_world.proofs.Knowing.{rw_learns, mutex_learns}
@@ -49,30 +50,30 @@ module _ (s : State) (h : FitsTogether s) (free : inside s ≡ None) where
   at_most l u First = omega (arith, (any_are_rules (λ i. false)).one l u)
   at_most l u Second = omega (arith, (any_are_rules (λ i. false)).one l u)
 
-  none_inside : (i u : ℕ) (k : Key) (o : Option LockKind) → slice_get s.kinds i ≡ o → any_inside (any_lock o s i) k u ≡ 0
-  none_inside i u k o e = omega (arith, at_most (any_lock o s i) u k, λ (x : any_inside (any_lock o s i) k u ≡ 1). nobody_at i u k (ap (λ q. any_inside (any_lock q s i) k u) e ∙ x))
+  none_inside : (i u : ℕ) (k : Key) (o : Option Manner) → manner_of (slice_get s.kinds i) ≡ o → any_inside (lock_as o s i) k u ≡ 0
+  none_inside i u k o e = omega (arith, at_most (lock_as o s i) u k, λ (x : any_inside (lock_as o s i) k u ≡ 1). nobody_at i u k (ap (λ q. any_inside (lock_as q s i) k u) e ∙ x))
 
-  pub nobody_first : (i : ℕ) → slice_get s.kinds i ≡ Some LockKind.Rw → NobodyIs Inside1 (rw_lock_at s i).roles
-  nobody_first i e u r at = sym (ap (weighs Inside1) at) ∙ none_inside i u First (Some LockKind.Rw) e
+  pub nobody_first : (i : ℕ) → manner_of (slice_get s.kinds i) ≡ Some AsRw → NobodyIs Inside1 (rw_lock_at s i).roles
+  nobody_first i e u r at = sym (ap (weighs Inside1) at) ∙ none_inside i u First (Some AsRw) e
 
-  pub nobody_second : (i : ℕ) → slice_get s.kinds i ≡ Some LockKind.Rw → NobodyIs Inside2 (rw_lock_at s i).roles
-  nobody_second i e u r at = sym (ap (weighs Inside2) at) ∙ none_inside i u Second (Some LockKind.Rw) e
+  pub nobody_second : (i : ℕ) → manner_of (slice_get s.kinds i) ≡ Some AsRw → NobodyIs Inside2 (rw_lock_at s i).roles
+  nobody_second i e u r at = sym (ap (weighs Inside2) at) ∙ none_inside i u Second (Some AsRw) e
 
-  pub nobody_in_mutex : (i : ℕ) → slice_get s.kinds i ≡ Some LockKind.Mutex → (u : ℕ) (r : mutex.Role) → slice_get (mutex_at s i).roles u ≡ Some r → mutex.weight mutex.Inside r ≡ 0
-  nobody_in_mutex i e u r at = sym (ap (at_index (mutex.weight mutex.Inside)) at) ∙ none_inside i u First (Some LockKind.Mutex) e
+  pub nobody_in_mutex : (i : ℕ) → manner_of (slice_get s.kinds i) ≡ Some AsMutex → (u : ℕ) (r : mutex.Role) → slice_get (mutex_at s i).roles u ≡ Some r → mutex.weight mutex.Inside r ≡ 0
+  nobody_in_mutex i e u r at = sym (ap (at_index (mutex.weight mutex.Inside)) at) ∙ none_inside i u First (Some AsMutex) e
 
 no_start : false ≡ true → ⊥
 no_start e = both_ways false refl e
 
-is_rw : Option LockKind → Bool
+is_rw : Option Manner → Bool
 is_rw None = false
-is_rw (Some LockKind.Mutex) = false
-is_rw (Some LockKind.Rw) = true
+is_rw (Some AsMutex) = false
+is_rw (Some AsRw) = true
 
--- a lock is of one kind
-pub two_kinds : Some LockKind.Rw ≡ Some LockKind.Mutex → ⊥
+-- a lock goes by one of both rules
+pub two_kinds : Some AsRw ≡ Some AsMutex → ⊥
 unfolding is_rw
-two_kinds e = both_ways (is_rw (Some LockKind.Rw)) (ap is_rw e) refl
+two_kinds e = both_ways (is_rw (Some AsRw)) (ap is_rw e) refl
 
 -- AT A READER-WRITER LOCK
 
@@ -119,7 +120,7 @@ own_tells v us p s own = tt
 -- AT A LOCK OF EITHER KIND
 
 module _ (s u : State) (t : ℕ) (h : FitsTogether s) where
-  finds : (a : Act) (i : ℕ) → IsOwnAct a → AfterAct a t (inside s) (inside u) → slice_get s.kinds i ≡ Some LockKind.Rw → Finds a (rw_lock_at s i)
+  finds : (a : Act) (i : ℕ) → IsOwnAct a → AfterAct a t (inside s) (inside u) → manner_of (slice_get s.kinds i) ≡ Some AsRw → Finds a (rw_lock_at s i)
   finds (Act.Enter zero) i own around e = nobody_first s h around.0 i e
   finds (Act.Enter (suc key)) i own around e = nobody_second s h around.0 i e
   finds (Act.FetchAnd keep) i own around e = absurd own
@@ -131,6 +132,24 @@ module _ (s u : State) (t : ℕ) (h : FitsTogether s) where
   finds Act.Sleep i own around e = tt
   finds (Act.Done answer) i own around e = tt
 
+  -- whose moment has passed leaves its section
+  own_late : (c : Call) (p : LatePhase) (told : ActResult) → ((key : ℕ) → u.lot.queues key ≡ s.lot.queues key) → c.core ≡ Core.Late p → OwnAct s u t c told (core_next (Core.Late p) told) c.spot → Gives (late_act p) (word_at s c.lock) told → IsOwnAct (late_act p)
+      → AfterAct (late_act p) t (inside s) (inside u) → Fitted s u t c told (Core.Late p)
+  own_late c LatePhase.Leaves ActResult.Made lists_same e a gives own around =
+      let kind_is = subst (IsOfKind (slice_get s.kinds c.lock)) e (h.rules.kinds t c a.here) in
+      let word : word_at u c.lock ≡ word_at s c.lock = a.word ∙ ap (λ y. word_after (core_act y) ActResult.Made (word_at s c.lock)) e in (
+        made of_mutexes s u t c.lock (own-there s u t c ActResult.Made _ c.spot a) (own-elsewhere s u t c ActResult.Made _ c.spot a) kind_is (MxStep (mutex.Alone mutex.Leave)) ((plays_late s h t c LatePhase.Leaves e a.here).here, tt)
+            (ap Mx (own_after of_mutexes s u t c ActResult.Made (Late LatePhase.GivesUp) c.spot a _ word ∙ same of_mutexes _ _ _ _ _ _ [] [] refl refl (ap threads_of (lists_same (2 * c.lock))) refl)) around,
+        subst (IsPrepared (recursive_in s.kinds c.lock) c.others) e (h.rules.prepared t c a.here),
+        tt,
+        λ m. subst (λ n. n < 4) (sym word) (h.rules.bits c.lock m),
+      )
+  own_late c LatePhase.Expires told lists_same e a gives own around = absurd own
+  own_late c LatePhase.Quits told lists_same e a gives own around = absurd own
+  own_late c LatePhase.Masks told lists_same e a gives own around = absurd own
+  own_late c LatePhase.GivesUp told lists_same e a gives own around = absurd own
+  own_late c LatePhase.Leaves told lists_same e a gives own around = absurd gives
+
   module _ (c : Call) (told : ActResult) (lists_same : (key : ℕ) → u.lot.queues key ≡ s.lot.queues key) where
     own_rw : (k : RwCore) → c.core ≡ Core.Rw k → OwnAct s u t c told (core_next (Core.Rw k) told) c.spot → Gives (of_rw_table.act_of k.phase) (word_at s c.lock) told → IsOwnAct (of_rw_table.act_of k.phase) → AfterAct (of_rw_table.act_of k.phase) t (inside s) (inside u)
         → Fitted s u t c told (Core.Rw k)
@@ -139,7 +158,7 @@ module _ (s u : State) (t : ℕ) (h : FitsTogether s) where
         let x = word_at s c.lock in
         let kind_is = subst (IsOfKind (slice_get s.kinds c.lock)) e (h.rules.kinds t c a.here) in
         let heard = rw_told k.phase x told (subst (λ (y : Core). has_begun y ≡ true) e (h.rules.begun t c a.here).begun) own gives in
-        let leads = rw_leads (rw_lock_at s c.lock) t c.others c.spot us k.phase x told (meets s h t c k e a.here) heard (finds (of_rw_table.act_of k.phase) c.lock own around kind_is) a.listed (inside s) (inside u)
+        let leads = rw_leads (recursive_in s.kinds c.lock) (rw_lock_at s c.lock) t c.others c.spot us k.phase x told (meets s h t c k e a.here) heard (finds (of_rw_table.act_of k.phase) c.lock own around kind_is) a.listed (inside s) (inside u)
         (own_moves t (inside s) (inside u) c.others us k.phase x told heard own around) in
         let well = rw_hears s h t c k e a.here told heard u.lot.queues (rw_learns k.phase told own (u.lot.queues (2 * c.lock)) (u.lot.queues (2 * c.lock + 1))) in (
           rw_goes s u t c.lock (of_rw.move c.others us k.phase told) _ (own-there s u t c told _ c.spot a) (own-elsewhere s u t c told _ c.spot a) kind_is leads.0
@@ -161,9 +180,9 @@ module _ (s u : State) (t : ℕ) (h : FitsTogether s) where
         let step = steps.own (mutex_at s c.lock) x t (first_of_all us) (mutex_spot c.spot) k.phase told (plays s h t c k e a.here) gives (own_is (of_mutex_table.act_of k.phase) own)
         (λ key is. nobody_in_mutex s h (subst (λ (y : Act). AfterAct y t (inside s) (inside u)) is around).0 c.lock kind_is) in (
           mutex_goes s u t c.lock (first_of_all us) us _ (of_mutex.move (first_of_all us) k.phase told) (own-there s u t c told _ c.spot a) (own-elsewhere s u t c told _ c.spot a) kind_is step.leads
-              (own_after of_mutexes s u t c told (record k { phase = of_mutex_table.next_phase k.phase told }) c.spot a _ word ∙ same of_mutexes _ _ _ _ _ _ [] [] refl refl (ap threads_of (lists_same (2 * c.lock))) refl)
+              (own_after of_mutexes s u t c told (Plain (record k { phase = of_mutex_table.next_phase k.phase told })) c.spot a _ word ∙ same of_mutexes _ _ _ _ _ _ [] [] refl refl (ap threads_of (lists_same (2 * c.lock))) refl)
               (subst (λ (y : Crossing). Crossed y t (inside s) (inside u)) (sym step.crossing) around) (own_tells (first_of_all us) us k.phase told own),
-          subst (IsPrepared c.others) e (h.rules.prepared t c a.here),
+          subst (IsPrepared (recursive_in s.kinds c.lock) c.others) e (h.rules.prepared t c a.here),
           mutex_learns (Core.Mutex k) (of_mutex_table.next_phase k.phase told) x told refl refl own gives (u.lot.queues (2 * c.lock)),
           λ m. subst (λ n. n < 4) (sym word) step.small,
         )
@@ -171,6 +190,7 @@ module _ (s u : State) (t : ℕ) (h : FitsTogether s) where
     own_so : (x : Core) → c.core ≡ x → OwnAct s u t c told (core_next x told) c.spot → Gives (core_act x) (word_at s c.lock) told → IsOwnAct (core_act x) → AfterAct (core_act x) t (inside s) (inside u) → Fitted s u t c told x
     own_so (Core.Rw k) e = own_rw k e
     own_so (Core.Mutex k) e = own_mutex k e
+    own_so (Core.Late p) e = own_late c p told lists_same e
 
     pub own_fits : OwnAct s u t c told (core_next c.core told) c.spot → Gives (core_act c.core) (word_at s c.lock) told → IsOwnAct (core_act c.core) → AfterAct (core_act c.core) t (inside s) (inside u) → RulesFit u × Goes t c told s u
     own_fits a gives own around =

@@ -1,5 +1,5 @@
 -- Acts that change nothing but the word and the call of the thread that makes them.
-use Rattle.std.proofs.Common.{◌≡◌, ◌≢◌, ℕ, zero, suc, ◌+◌, ◌*◌, ◌<◌, inl, inr, List, [], ◌∷◌, length, Option, Some, slice_get, slice_set, refl, sym, ap, ◌∙◌, subst}
+use Rattle.std.proofs.Common.{Bool, ◌≡◌, ◌≢◌, ℕ, zero, suc, ◌+◌, ◌*◌, ◌<◌, inl, inr, List, [], ◌∷◌, length, Option, Some, slice_get, slice_set, refl, sym, ap, ◌∙◌, subst}
 use Rattle.std.proofs.lemmas.Bool.{cases_eq}
 use Rattle.std.proofs.lemmas.List.{length-set}
 use Rattle.std.proofs.lemmas.Option.{same_Some}
@@ -84,21 +84,21 @@ module _ {C R L : Type 0} (K : Kind C R L) where
 -- AT A READER-WRITER LOCK
 
 -- an act of its own leads from the lock to the one with its next role, and crosses what its move does
-module _ (l : Lock) (t n : ℕ) (at : QueuePosition) (us : List ℕ) (p : RwPhase) (x : ℕ) (told : ActResult) (here : Meets l t n (rw_spot at) us p x) (heard : of_rw.IsTold p x told) (found : Finds (act_of p) l)
+module _ (recursive : Bool) (l : Lock) (t n : ℕ) (at : QueuePosition) (us : List ℕ) (p : RwPhase) (x : ℕ) (told : ActResult) (here : Meets recursive l t n (rw_spot at) us p x) (heard : of_rw.IsTold p x told) (found : Finds (act_of p) l)
     (listed : (key : ℕ) (token : ParkToken) → rw_stance (next_phase p told) ≡ Asleep key token → at ≡ QueuePosition.Listed) (old new : Option ℕ) where
   abbrev next_lock : Lock
   next_lock = with_role l (word_after (act_of p) told x) t (of_rw.role n of_rw.Listed us (next_phase p told))
 
-  leads_by_move : (m : of_rw.Move) → of_rw.move n us p told ≡ m → OwnMove m t old new → RwLeadsBy m t l next_lock × Crossed (move_crossing m) t old new
+  leads_by_move : (m : of_rw.Move) → of_rw.move n us p told ≡ m → OwnMove m t old new → RwLeadsBy recursive m t l next_lock × Crossed (move_crossing m) t old new
   leads_by_move of_rw.Stays eq moves =
-      let kept = stays_are_steps l t n (rw_spot at) us p x told here heard eq in (
+      let kept = stays_are_steps recursive l t n (rw_spot at) us p x told here heard eq in (
         ap (λ y. with_role l y t (of_rw.role n of_rw.Listed us (next_phase p told))) kept.1
             ∙ ap (with_role l x t) (sym (rw_listed n us (next_phase p told) at listed) ∙ kept.0)
             ∙ ap (λ w. record { word = w; roles = slice_set l.roles t (of_rw.role n (rw_spot at) us p); first = l.first; second = l.second }) (sym here.word)
             ∙ ap (λ rs. record l { roles = rs }) (set-same l.roles t _ here.here),
         moves,
       )
-  leads_by_move (of_rw.Makes k) eq moves = (makes_are_steps l t n (rw_spot at) us p x told k here heard eq found, moves)
+  leads_by_move (of_rw.Makes k) eq moves = (makes_are_steps recursive l t n (rw_spot at) us p x told k here heard eq found, moves)
   leads_by_move (of_rw.Joins k) eq moves = absurd moves
   leads_by_move (of_rw.TakesOne k) eq moves = absurd moves
   leads_by_move of_rw.TakesWriter eq moves = absurd moves
@@ -106,5 +106,5 @@ module _ (l : Lock) (t n : ℕ) (at : QueuePosition) (us : List ℕ) (p : RwPhas
   leads_by_move of_rw.WakesOne eq moves = absurd moves
   leads_by_move (of_rw.IsWoken k) eq moves = absurd moves
 
-  pub rw_leads : OwnMove (of_rw.move n us p told) t old new → RwLeadsBy (of_rw.move n us p told) t l next_lock × Crossed (move_crossing (of_rw.move n us p told)) t old new
+  pub rw_leads : OwnMove (of_rw.move n us p told) t old new → RwLeadsBy recursive (of_rw.move n us p told) t l next_lock × Crossed (move_crossing (of_rw.move n us p told)) t old new
   rw_leads moves = leads_by_move (of_rw.move n us p told) refl moves

@@ -1,5 +1,5 @@
 -- Each act of the machine is paid for by the steps that are left.
-use Rattle.std.proofs.Common.{◌≡◌, ℕ, ◌+◌, ◌-◌, ◌/◌, ◌^◌, ◌<◌, ◌≤◌, Bool, length, Some, None, slice_get, slice_set, sum_by, refl, sym, ap, ◌∙◌, subst, arith, ◌≢◌, ◌%◌, ◌*◌, inl, inr, cond, true, false, List, map, remove, not, Option, option_map, eq-eqb, is_some}
+use Rattle.std.proofs.Common.{◌≡◌, ◌||◌, ℕ, ◌+◌, ◌-◌, ◌/◌, ◌^◌, ◌<◌, ◌≤◌, Bool, length, Some, None, slice_get, slice_set, sum_by, refl, sym, ap, ◌∙◌, subst, arith, ◌≢◌, ◌%◌, ◌*◌, inl, inr, cond, true, false, List, map, remove, not, Option, option_map, eq-eqb, is_some}
 use Rattle.std.specs.Prelude.{get_or, bit_and}
 use Rattle.std.specs.Option.{option_and_then}
 use Rattle.std.proofs.lemmas.Bool.{cases_eq, ne_eqb, both_ways}
@@ -10,13 +10,16 @@ use Rattle.parking_lot_protocol.specs.declared.act.Act.{Act}
 use Rattle.parking_lot_protocol.specs.declared.act.ActResult.{ActResult}
 use Rattle.parking_lot_protocol.specs.Acts.{Gives, word_after, change_of}
 use Rattle.parking_lot_protocol.specs.RwRules.{IsReady}
+use Rattle.parking_lot_world.specs.Kinds.{AsRw, manner_of, kind_in, recursive_in}
+use Rattle.parking_lot_world.specs.declared.seat.LatePhase.{LatePhase}
 use Rattle.parking_lot_world.specs.declared.seat.Core.{Core}
 use Rattle.parking_lot_world.specs.declared.open_call.Call.{Call}
 use Rattle.parking_lot_world.specs.Rows.{State, word_at, call_at, first_key, inside, rw_lock_at, rw_spot, taken_by, rw_role_at}
-use Rattle.parking_lot_world.specs.Stances.{core_act, core_next, mutex_stance, rw_stance, Doing, Joins, In, Takes, sign, stance, core_tells, Out, taken_count}
+use Rattle.parking_lot_world.specs.Stances.{core_act, core_next, late_act, late_next, late_stance, mutex_stance, rw_stance, Doing, Joins, In, Takes, sign, stance, core_tells, Out, taken_count}
 use Rattle.parking_lot_world.specs.RowFits.{FitsTogether, IsOfKind, IsPrepared}
 use Rattle.parking_lot_world.specs.RankLaws.{Can, Leaves, StopsAt}
-use Rattle.parking_lot_world.specs.Ranks.{Sees, core_steps, far_steps, is_shut_to, own_steps, view_of, Pays, View, Unseen, wake, cost, Costs, AnyMayBeStepped}
+use Rattle.parking_lot_world.specs.Ranks.{Sees, core_steps, late_steps, far_steps, is_shut_to, own_steps, view_of, Pays, View, Unseen, wake, cost, Costs, AnyMayBeStepped}
+use Rattle.parking_lot_world.proofs.Ruling.{same_kind}
 use Rattle.parking_lot_world.proofs.Meeting.{meets, in_range, rw_sound}
 use Rattle.parking_lot_world.proofs.RwMoving.{few_readers}
 use Rattle.parking_lot_core_lot.specs.declared.parking.ParkToken.{ParkToken}
@@ -43,7 +46,7 @@ use Rattle.parking_lot_rules.proofs.Ranking.{few1}
 use Rattle.parking_lot_world.specs.declared.calls.LockCall.{LockCall}
 use Rattle.parking_lot_world.specs.Beginnings.{core_of}
 use Rattle.parking_lot_world.specs.ActLaws.{MayBegin}
-use Rattle.parking_lot_world.specs.Machines.{can_move, can_move_in, is_possible, is_taken}
+use Rattle.parking_lot_world.specs.Machines.{can_move, can_move_in, goes_late, is_possible, is_taken}
 use Rattle.parking_lot_world.proofs.Everybody.{length-all}
 use Rattle.parking_lot_world.proofs.MutexPaying as of_mutex
 use Rattle.parking_lot_world.proofs.RwPaying as of_rw
@@ -53,13 +56,14 @@ use Rattle.parking_lot_protocol.specs.MutexTable as mutex_table
 use Rattle.parking_lot_protocol.specs.RwTable as rw_table
 use Rattle.parking_lot_world.specs.declared.seat.QueuePosition.TheVariants as spot
 use Rattle.parking_lot_protocol.specs.declared.act.ActResult.TheVariants as seen
-use Rattle.parking_lot_world.specs.declared.calls.LockKind.TheVariants as kind
+use Rattle.parking_lot_world.specs.declared.calls.LockKind.{LockKind}
 
 -- ONE CALL
 
 -- what the word and the phase are in time
 abbrev pub IsGood : Core → ℕ → Type 0
 IsGood (Core.Mutex k) x = x < 4
+IsGood (Core.Late p) x = Unit {0}
 IsGood (Core.Rw k) x = (x / 16 < 2 ^ 60 - 1) × IsReady k.phase
 
 pub is_good : (s : State) → FitsTogether s → (t : ℕ) (c : Call) → call_at s t ≡ Some c → IsGood c.core (word_at s c.lock)
@@ -67,12 +71,21 @@ is_good s h t c here = by_core c.core refl
   where
     by_core : (x : Core) → c.core ≡ x → IsGood x (word_at s c.lock)
     by_core (Core.Mutex k) e = h.rules.bits c.lock (subst (IsOfKind (slice_get s.kinds c.lock)) e (h.rules.kinds t c here))
+    by_core (Core.Late p) e = tt
     by_core (Core.Rw k) e =
-        (few_readers (rw_lock_at s c.lock) t c.others (rw_spot c.spot) (taken_by s.wakes t) k.phase (word_at s c.lock) (meets s h t c k e here), (subst (IsPrepared c.others) e (h.rules.prepared t c here)).0)
+        (few_readers (recursive_in s.kinds c.lock) (rw_lock_at s c.lock) t c.others (rw_spot c.spot) (taken_by s.wakes t) k.phase (word_at s c.lock) (meets s h t c k e here), (subst (IsPrepared (recursive_in s.kinds c.lock) c.others) e (h.rules.prepared t c here)).0)
+
+late_falls : (n : ℕ) (p : LatePhase) (x : ℕ) (told : ActResult) (v : View) (shut : Bool) → Gives (late_act p) x told → Can (late_act p) shut told → core_steps n v (late_next p told) + 1 ≤ late_steps p
+late_falls n LatePhase.Expires x told v shut gives can = absurd can
+late_falls n LatePhase.Quits x told v shut gives can = absurd can
+late_falls n LatePhase.Masks x (ActResult.Before word) v shut gives can = omega arith
+late_falls n LatePhase.Leaves x ActResult.Made v shut gives can = omega arith
+late_falls n p x told v shut gives can = absurd gives
 
 pub core_falls : (n : ℕ) (c : Core) (x : ℕ) (told : ActResult) (first after : ℕ) (shut : Bool) → IsGood c x → Gives (core_act c) x told → Can (core_act c) shut told → Leaves (core_act c) told first after
     → core_steps n (Sees (word_after (core_act c) told x) after shut) (core_next c told) + 1 ≤ core_steps n (Sees x first shut) c
 core_falls n (Core.Mutex k) x told first after shut good gives can leaves = of_mutex.steps_fall.falls k.phase told x first after shut good gives can
+core_falls n (Core.Late p) x told first after shut good gives can leaves = late_falls n p x told (Sees (word_after (late_act p) told x) after shut) shut gives can
 core_falls n (Core.Rw k) x told first after shut good gives can leaves = of_rw.steps_fall.falls n k.phase told x first after shut good.0 good.1 gives can leaves
 
 -- ALL THREADS
@@ -155,9 +168,17 @@ mutex_first : (p : MutexPhase) (sum k : ℕ) → mutex_table.act_of p ≡ Act.Se
 mutex_first (MutexPhase.Takes g) sum k e f = absurd cc
 mutex_first p sum k e f = absurd cc
 
+late_first : (p : LatePhase) (sum k : ℕ) → late_act p ≡ Act.Section (section.TakeNext sum) → late_stance p ≡ In k Takes → k ≡ 0
+late_first LatePhase.Expires sum k e f = absurd cc
+late_first LatePhase.Quits sum k e f = absurd cc
+late_first LatePhase.Masks sum k e f = absurd cc
+late_first LatePhase.Leaves sum k e f = absurd cc
+late_first LatePhase.GivesUp sum k e f = absurd cc
+
 first_list : (c : Core) (sum k : ℕ) → core_act c ≡ Act.Section (section.TakeNext sum) → stance c ≡ In k Takes → k ≡ 0
 first_list (Core.Mutex c) sum k e f = mutex_first c.phase sum k e f
 first_list (Core.Rw c) sum k e f = rw_first c.phase sum k e f
+first_list (Core.Late p) sum k e f = late_first p sum k e f
 
 -- one of it is gone
 one_less : (queues : ℕ → List Waiter) (key i : ℕ) (w : Waiter) → key ≡ i → slice_get (queues key) 0 ≡ Some w → length (queues i) ≡ length (updated queues key (remove (queues key) 0) i) + 1
@@ -303,21 +324,43 @@ module _ (s : State) (t : ℕ) (c : Call) (h : FitsTogether s) (here : call_at s
 
 -- ONE CALL, AT EITHER KIND OF LOCK
 
+late_wakes : (p : LatePhase) → late_act p ≡ Act.Section section.Wake → ⊥
+late_wakes LatePhase.Expires e = cc
+late_wakes LatePhase.Quits e = cc
+late_wakes LatePhase.Masks e = cc
+late_wakes LatePhase.Leaves e = cc
+late_wakes LatePhase.GivesUp e = cc
+
+late_woken : (n : ℕ) (p : LatePhase) (token : UnparkToken) → core_steps n Unseen (late_next p (seen.Woken token)) + 1 ≤ late_steps p + wake
+late_woken n LatePhase.Expires token = omega (arith, of_mutex.steps_fall.woken MutexPhase.Sleeps token)
+late_woken n p token = omega arith
+
+late_ends : (p : LatePhase) → 1 ≤ late_steps p
+late_ends LatePhase.Expires = omega arith
+late_ends LatePhase.Quits = omega arith
+late_ends LatePhase.Masks = omega arith
+late_ends LatePhase.Leaves = omega arith
+late_ends LatePhase.GivesUp = omega arith
+
 core_wakes : (n : ℕ) (c : Core) (v : View) → core_act c ≡ Act.Section section.Wake → 1 ≤ taken_count c → core_steps n v (core_next c seen.Made) + wake ≤ core_steps n v c
 core_wakes n (Core.Mutex c) v asked some = of_mutex.steps_fall.wakes c.phase v asked
 core_wakes n (Core.Rw c) v asked some = of_rw.steps_fall.wakes n c.phase v asked some
+core_wakes n (Core.Late p) v asked some = absurd (late_wakes p asked)
 
 core_woken : (n : ℕ) (c : Core) (token : UnparkToken) → core_steps n Unseen (core_next c (seen.Woken token)) + 1 ≤ core_steps n Unseen c + wake
 core_woken n (Core.Mutex c) token = of_mutex.steps_fall.woken c.phase token
 core_woken n (Core.Rw c) token = of_rw.steps_fall.woken n c.phase token
+core_woken n (Core.Late p) token = late_woken n p token
 
 core_ends : (n : ℕ) (c : Core) (v : View) (answer : CoreAnswer) → core_act c ≡ Act.Done answer → 1 ≤ core_steps n v c
 core_ends n (Core.Mutex c) v answer asked = of_mutex.steps_fall.ends c.phase v answer asked
 core_ends n (Core.Rw c) v answer asked = of_rw.steps_fall.ends n c.phase v answer asked
+core_ends n (Core.Late p) v answer asked = late_ends p
 
 core_stops : (n : ℕ) (c : Core) (word first : ℕ) (shut : Bool) → StopsAt (core_act c) shut → core_steps n Unseen c ≤ core_steps n (Sees word first shut) c
 core_stops n (Core.Mutex c) word first shut stops = of_mutex.steps_fall.stops c.phase word first shut stops
 core_stops n (Core.Rw c) word first shut stops = of_rw.steps_fall.stops n c.phase word first shut stops
+core_stops n (Core.Late p) word first shut stops = omega arith
 
 -- WAKES AND ANSWERS
 
@@ -347,41 +390,31 @@ ends_pay s t c answer here asked =
 
 -- NO MORE THAN WHERE ANOTHER IS STEPPED
 
-few_in_list : (s : State) → FitsTogether s → (j : ℕ) → slice_get s.kinds j ≡ Some kind.Rw → length (s.lot.queues (first_key j)) ≤ length s.calls
+few_in_list : (s : State) → FitsTogether s → (j : ℕ) → manner_of (slice_get s.kinds j) ≡ Some AsRw → length (s.lot.queues (first_key j)) ≤ length s.calls
 few_in_list s h j is =
     omega (arith, few1 false 0 (rw_lock_at s j) (rw_sound s h j is), length-map (s.lot.queues (first_key j)) (λ w. w.thread), length-all (rw_role_at s j) 0 (length s.calls))
 
 own_few : (s : State) → FitsTogether s → (word j : ℕ) (shut : Bool) (c : Core) → IsOfKind (slice_get s.kinds j) c → core_steps (length s.calls) (Sees word (length (s.lot.queues (first_key j))) shut) c ≤ core_steps (length s.calls) Unseen c
 own_few s h word j shut (Core.Mutex c) is = of_mutex.steps_fall.few c.phase (Sees word (length (s.lot.queues (first_key j))) shut)
+own_few s h word j shut (Core.Late p) is = omega arith
 own_few s h word j shut (Core.Rw c) is = of_rw.steps_fall.few (length s.calls) word (length (s.lot.queues (first_key j))) shut c.phase (few_in_list s h j is)
 
 -- BEGINNINGS
 
-costs_most : (n : ℕ) (c : LockCall) → core_steps n Unseen (core_next (core_of c) seen.Start) ≤ cost n c
-costs_most n LockCall.Lock = omega arith
-costs_most n LockCall.TryLock = omega arith
-costs_most n LockCall.Unlock = omega arith
-costs_most n LockCall.Read = omega arith
-costs_most n LockCall.TryRead = omega arith
-costs_most n LockCall.UnlockRead = omega arith
-costs_most n LockCall.Write = omega arith
-costs_most n LockCall.TryWrite = omega arith
-costs_most n LockCall.UnlockWrite = omega arith
-costs_most n LockCall.Downgrade = omega arith
+costs_most : (n : ℕ) (k : LockKind) (c : LockCall) → core_steps n Unseen (core_next (core_of k c) seen.Start) ≤ cost n c
+costs_most n k LockCall.Lock = omega arith
+costs_most n k LockCall.TryLock = omega arith
+costs_most n k LockCall.LockUntil = omega arith
+costs_most n k LockCall.Unlock = omega arith
+costs_most n k LockCall.Read = omega arith
+costs_most n k LockCall.TryRead = omega arith
+costs_most n k LockCall.UnlockRead = omega arith
+costs_most n k LockCall.Write = omega arith
+costs_most n k LockCall.TryWrite = omega arith
+costs_most n k LockCall.UnlockWrite = omega arith
+costs_most n k LockCall.Downgrade = omega arith
 
-begun_kind : (k : _) (c : LockCall) → IsOfKind k (core_of c) → IsOfKind k (core_next (core_of c) seen.Start)
-begun_kind k LockCall.Lock is = is
-begun_kind k LockCall.TryLock is = is
-begun_kind k LockCall.Unlock is = is
-begun_kind k LockCall.Read is = is
-begun_kind k LockCall.TryRead is = is
-begun_kind k LockCall.UnlockRead is = is
-begun_kind k LockCall.Write is = is
-begun_kind k LockCall.TryWrite is = is
-begun_kind k LockCall.UnlockWrite is = is
-begun_kind k LockCall.Downgrade is = is
-
-pub begins_cost : (s : State) (t : ℕ) (c : Call) (what : LockCall) → FitsTogether s → MayBegin s t c → c.core ≡ core_of what → Costs t what s (begun s t c)
+pub begins_cost : (s : State) (t : ℕ) (c : Call) (what : LockCall) → FitsTogether s → MayBegin s t c → c.core ≡ core_of (kind_in s.kinds c.lock) what → Costs t what s (begun s t c)
 begins_cost s t c what h may is =
     let n = length s.calls in
     let u = begun s t c in
@@ -395,11 +428,15 @@ begins_cost s t c what h may is =
       ap (λ m. sum_by (far_steps m) (slice_set u.calls t None)) (length-set s.calls t (Some d)),
       others_same n s.calls t (Some d),
       ap (λ x. core_steps n sees (core_next x seen.Start)) is,
-      own_few s h (word_at u c.lock) c.lock (is_shut_to t (inside u)) (core_next (core_of what) seen.Start) (begun_kind (slice_get s.kinds c.lock) what (subst (IsOfKind (slice_get s.kinds c.lock)) is may.kind)),
-      costs_most n what,
+      own_few s h (word_at u c.lock) c.lock (is_shut_to t (inside u)) (core_next (core_of (kind_in s.kinds c.lock) what) seen.Start) (same_kind (core_of (kind_in s.kinds c.lock) what) seen.Start (slice_get s.kinds c.lock) (subst (IsOfKind (slice_get s.kinds c.lock)) is may.kind)),
+      costs_most n (kind_in s.kinds c.lock) what,
     )
 
 -- ANOTHER IS STEPPED
+
+pub nor_else : (a : Bool) {b : Bool} → (a || b) ≡ false → b ≡ false
+nor_else true e = absurd cc
+nor_else false e = e
 
 module _ (s : State) (h : FitsTogether s) where
   pub none_more : (u : ℕ) (o : Option Call) → call_at s u ≡ o → own_steps s u o ≤ far_steps (length s.calls) o
@@ -425,7 +462,7 @@ module _ (s : State) (h : FitsTogether s) where
 
   none_less : (t : ℕ) (o : Option Call) → call_at s t ≡ o → can_move_in s o ≡ false → far_steps (length s.calls) o ≤ own_steps s t o
   none_less t None at cannot = omega arith
-  none_less t (Some c) at cannot = core_stops (length s.calls) c.core (word_at s c.lock) (length (s.lot.queues (first_key c.lock))) (is_shut_to t (inside s)) (stops_at t c at (core_act c.core) refl cannot)
+  none_less t (Some c) at cannot = core_stops (length s.calls) c.core (word_at s c.lock) (length (s.lot.queues (first_key c.lock))) (is_shut_to t (inside s)) (stops_at t c at (core_act c.core) refl (nor_else (goes_late s c c.core) cannot))
 
   pub any_may_be_stepped : (t : ℕ) → can_move s t ≡ false → AnyMayBeStepped s t
   any_may_be_stepped t cannot u =

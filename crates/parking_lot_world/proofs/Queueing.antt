@@ -15,16 +15,17 @@ use Rattle.parking_lot_protocol.specs.declared.mutex_phase.MutexPhase.{MutexPhas
 use Rattle.parking_lot_protocol.specs.declared.rw_phase.RwPhase.{RwPhase}
 use Rattle.parking_lot_protocol.specs.MutexRules as of_mutex
 use Rattle.parking_lot_protocol.specs.RwRules as of_rw
-use Rattle.parking_lot_world.specs.declared.calls.LockKind.{LockKind}
+use Rattle.parking_lot_world.specs.Kinds.{AsMutex, manner_of, Manner, AsRw}
 use Rattle.parking_lot_world.specs.declared.seat.Hold.{Hold}
 use Rattle.parking_lot_world.specs.declared.seat.QueuePosition.{QueuePosition}
+use Rattle.parking_lot_world.specs.declared.seat.LatePhase.{LatePhase}
 use Rattle.parking_lot_world.specs.declared.seat.Core.{Core}
 use Rattle.parking_lot_world.specs.declared.open_call.Call.{Call}
-use Rattle.parking_lot_world.specs.RowFits.{FitsTogether, IsOfKind, Awaits}
-use Rattle.parking_lot_world.specs.Rows.{State, any_lock, call_at, first_key, first_of_all, hold_at, lock_at, mutex_at, mutex_spot, owned_of, owns_mutex, queue_at, rw_lock_at, rw_spot, second_key, taken_by}
+use Rattle.parking_lot_world.specs.RowFits.{FitsTogether, IsOfKind, IsOfManner, Awaits}
+use Rattle.parking_lot_world.specs.Rows.{State, lock_as, call_at, first_key, first_of_all, hold_at, late_role, lock_at, mutex_at, mutex_spot, owned_of, owns_mutex, queue_at, rw_lock_at, rw_spot, second_key, taken_by}
 use Rattle.parking_lot_world.specs.SoundLaws.{ListsAreWaiters, waits_as, waits_in}
-use Rattle.parking_lot_world.specs.Stances.{mutex_stance, rw_stance, stance}
-use Rattle.parking_lot_world.proofs.KindTable.{Kind, of_mutexes, of_rws, role_at, roles_at}
+use Rattle.parking_lot_world.specs.Stances.{late_stance, mutex_stance, rw_stance, stance}
+use Rattle.parking_lot_world.proofs.KindTable.{Kind, MutexCall, Plain, Late, mutex_call, mutex_plays, of_mutexes, of_rws, role_at, roles_at}
 use Rattle.parking_lot_protocol.specs.declared.mutex_core.MutexCore.{MutexCore}
 use Rattle.parking_lot_protocol.specs.declared.rw_core.RwCore.{RwCore}
 use Rattle.parking_lot_world.proofs.Everybody.{get-all, past}
@@ -64,6 +65,35 @@ no_token MutexPhase.Rests token e = omega (arith, e.0)
 no_token MutexPhase.Sleeps token e = omega (arith, e.0)
 no_token p token e = e
 
+late_first : (at : QueuePosition) (p : LatePhase) → mutex.weight mutex.Waiting (late_role (mutex_spot at) p) ≡ bit (waits_as 0 at (late_stance p))
+unfolding mutex.weight
+late_first QueuePosition.Listed LatePhase.Expires = refl
+late_first (QueuePosition.Off by said) LatePhase.Expires = refl
+late_first at p = refl
+
+late_never : (at : QueuePosition) (p : LatePhase) → waits_as 1 at (late_stance p) ≡ false
+late_never QueuePosition.Listed LatePhase.Expires = refl
+late_never (QueuePosition.Off by said) LatePhase.Expires = refl
+late_never at p = refl
+
+late_token : (p : LatePhase) (token : ParkToken) → Awaits 1 token (late_stance p) → ⊥
+late_token LatePhase.Expires token e = omega (arith, e.0)
+late_token LatePhase.Quits token e = omega (arith, e.0)
+late_token p token e = e
+
+-- in time or late
+call_first : (at : QueuePosition) (us : List ℕ) (k : MutexCall) → mutex.weight mutex.Waiting (mutex_plays at us k) ≡ bit (waits_as 0 at (stance (mutex_call k)))
+call_first at us (Plain k) = mutex_first at (first_of_all us) k.phase
+call_first at us (Late p) = late_first at p
+
+call_never : (at : QueuePosition) (k : MutexCall) → waits_as 1 at (stance (mutex_call k)) ≡ false
+call_never at (Plain k) = mutex_never at k.phase
+call_never at (Late p) = late_never at p
+
+call_token : (k : MutexCall) (token : ParkToken) → Awaits 1 token (stance (mutex_call k)) → ⊥
+call_token (Plain k) token e = no_token k.phase token e
+call_token (Late p) token e = late_token p token e
+
 -- one that is in no call waits nowhere
 idle_first : (h : Hold) → weight Waiting1 (record { owns = owned_of h; does = Idle }) ≡ 0
 unfolding weight
@@ -101,10 +131,11 @@ module _ (s : State) (h : FitsTogether s) (i : ℕ) where
           ∙ sym (ap (λ o. bit (option_map_or (λ (c : Call). (c.lock == i) && waits_as k c.spot (stance c.core)) o false)) (ap (option_and_then (λ c. c)) (slice_get_past s.calls t high)))
     ]
 
-  module _ (is : lock_at s i ≡ Rw (rw_lock_at s i)) (of : slice_get s.kinds i ≢ Some LockKind.Mutex) where
+  module _ (is : lock_at s i ≡ Rw (rw_lock_at s i)) (of : manner_of (slice_get s.kinds i) ≢ Some AsMutex) where
     rw_only : (x : Core) → IsOfKind (slice_get s.kinds i) x → (q : RwCore) × (x ≡ Core.Rw q)
     rw_only (Core.Rw q) kinds = (q, refl)
     rw_only (Core.Mutex q) kinds = absurd (of kinds)
+    rw_only (Core.Late p) kinds = absurd (of kinds)
 
     rw_lists : (t : ℕ) → (occurs t (queue_at s (first_key i)) ≡ bit (waits_in s i 0 t)) × (occurs t (queue_at s (second_key i)) ≡ bit (waits_in s i 1 t))
     rw_lists t =
@@ -113,15 +144,15 @@ module _ (s : State) (h : FitsTogether s) (i : ℕ) where
           sound.waiting2.each t ∙ by_thread of_rws (weight Waiting2) 1 rw_only idle_second (λ n at us q. rw_second n at us q.phase) t,
         )
 
-  module _ (of : slice_get s.kinds i ≡ Some LockKind.Mutex) where
+  module _ (of : manner_of (slice_get s.kinds i) ≡ Some AsMutex) where
     -- a call at a mutex is a mutex's
-    mutex_only : (x : Core) → IsOfKind (slice_get s.kinds i) x → (q : MutexCore) × (x ≡ Core.Mutex q)
-    mutex_only x kinds = of_mutexes.only x (subst (λ (o : Option LockKind). IsOfKind o x) of kinds)
+    mutex_only : (x : Core) → IsOfKind (slice_get s.kinds i) x → (q : MutexCall) × (x ≡ mutex_call q)
+    mutex_only x kinds = of_mutexes.only x (subst (λ (o : Option Manner). IsOfManner o x) of kinds)
 
     mutex_list : (t : ℕ) → occurs t (queue_at s (first_key i)) ≡ bit (waits_in s i 0 t)
     mutex_list t =
-        let sound = subst AnySound (ap (λ k. any_lock k s i) of) (h.rules.sound.sound i) in
-        sound.waiting.each t ∙ by_thread of_mutexes (mutex.weight mutex.Waiting) 0 mutex_only idle_mutex (λ n at us q. mutex_first at (first_of_all us) q.phase) t
+        let sound = subst AnySound (ap (λ k. lock_as k s i) of) (h.rules.sound.sound i) in
+        sound.waiting.each t ∙ by_thread of_mutexes (mutex.weight mutex.Waiting) 0 mutex_only idle_mutex (λ n at us q. call_first at us q) t
 
     -- its second list is empty
     module _ (w : Waiter) (at : slice_get (s.lot.queues (second_key i)) 0 ≡ Some w) where
@@ -132,7 +163,7 @@ module _ (s : State) (h : FitsTogether s) (i : ℕ) where
       no_waiter =
           let its = h.lots.waits i 1 0 w (omega arith) at in
           let k = mutex_only waits.core (subst (λ j. IsOfKind (slice_get s.kinds j) waits.core) its.2 (h.rules.kinds w.thread waits its.1)) in
-          no_token k.0.phase w.token (subst (λ z. Awaits 1 w.token (stance z)) k.1 its.4)
+          call_token k.0 w.token (subst (λ z. Awaits 1 w.token (stance z)) k.1 its.4)
 
     empty : (ws : List Waiter) → s.lot.queues (second_key i) ≡ ws → ws ≡ []
     empty [] e = refl
@@ -145,26 +176,30 @@ module _ (s : State) (h : FitsTogether s) (i : ℕ) where
     mutex_second : (t : ℕ) → occurs t (queue_at s (second_key i)) ≡ bit (waits_in s i 1 t)
     mutex_second t =
         ap (λ q. occurs t (threads_of q)) (empty (s.lot.queues (second_key i)) refl) ∙ sym (nothing_weighs (slice_get (mutex_at s i).roles t))
-        ∙ by_thread of_mutexes (λ (x : mutex.Role). 0) 1 mutex_only (λ x. refl) (λ n at us q. sym (ap bit (mutex_never at q.phase))) t
+        ∙ by_thread of_mutexes (λ (x : mutex.Role). 0) 1 mutex_only (λ x. refl) (λ n at us q. sym (ap bit (call_never at q))) t
 
 pub lists_are_waiters : (s : State) → FitsTogether s → ListsAreWaiters s
-lists_are_waiters s h = record { first = λ i t. at_first i t (slice_get s.kinds i) refl; second = λ i t. at_second i t (slice_get s.kinds i) refl }
+lists_are_waiters s h = record { first = λ i t. at_first i t (manner_of (slice_get s.kinds i)) refl; second = λ i t. at_second i t (manner_of (slice_get s.kinds i)) refl }
   where
-    not_mutex : (k : Option LockKind) → k ≢ Some LockKind.Mutex → (o : Option LockKind) → o ≡ k → o ≢ Some LockKind.Mutex
+    not_mutex : (k : Option Manner) → k ≢ Some AsMutex → (o : Option Manner) → o ≡ k → o ≢ Some AsMutex
     not_mutex k ne o e f = ne (sym e ∙ f)
 
-    no_mutex : None ≢ Some LockKind.Mutex
+    no_mutex : None ≢ Some AsMutex
     no_mutex e = cc
 
-    rw_no_mutex : Some LockKind.Rw ≢ Some LockKind.Mutex
+    rw_no_mutex : Some AsRw ≢ Some AsMutex
     rw_no_mutex e = cc
 
-    at_first : (i t : ℕ) (k : Option LockKind) → slice_get s.kinds i ≡ k → occurs t (queue_at s (first_key i)) ≡ bit (waits_in s i 0 t)
-    at_first i t (Some LockKind.Rw) of = (rw_lists s h i (ap (λ k. any_lock k s i) of) (not_mutex (Some LockKind.Rw) rw_no_mutex (slice_get s.kinds i) of) t).0
-    at_first i t None of = (rw_lists s h i (ap (λ k. any_lock k s i) of) (not_mutex None no_mutex (slice_get s.kinds i) of) t).0
-    at_first i t (Some LockKind.Mutex) of = mutex_list s h i of t
+    rw_at : (i : ℕ) (m : Option Manner) → manner_of (slice_get s.kinds i) ≡ m → m ≢ Some AsMutex → lock_as m s i ≡ Rw (rw_lock_at s i)
+        → (t : ℕ) → (occurs t (queue_at s (first_key i)) ≡ bit (waits_in s i 0 t)) × (occurs t (queue_at s (second_key i)) ≡ bit (waits_in s i 1 t))
+    rw_at i m of ne is = rw_lists s h i (ap (λ k. lock_as k s i) of ∙ is) (not_mutex m ne (manner_of (slice_get s.kinds i)) of)
 
-    at_second : (i t : ℕ) (k : Option LockKind) → slice_get s.kinds i ≡ k → occurs t (queue_at s (second_key i)) ≡ bit (waits_in s i 1 t)
-    at_second i t (Some LockKind.Rw) of = (rw_lists s h i (ap (λ k. any_lock k s i) of) (not_mutex (Some LockKind.Rw) rw_no_mutex (slice_get s.kinds i) of) t).1
-    at_second i t None of = (rw_lists s h i (ap (λ k. any_lock k s i) of) (not_mutex None no_mutex (slice_get s.kinds i) of) t).1
-    at_second i t (Some LockKind.Mutex) of = mutex_second s h i of t
+    at_first : (i t : ℕ) (m : Option Manner) → manner_of (slice_get s.kinds i) ≡ m → occurs t (queue_at s (first_key i)) ≡ bit (waits_in s i 0 t)
+    at_first i t (Some AsRw) of = (rw_at i (Some AsRw) of rw_no_mutex refl t).0
+    at_first i t None of = (rw_at i None of no_mutex refl t).0
+    at_first i t (Some AsMutex) of = mutex_list s h i of t
+
+    at_second : (i t : ℕ) (m : Option Manner) → manner_of (slice_get s.kinds i) ≡ m → occurs t (queue_at s (second_key i)) ≡ bit (waits_in s i 1 t)
+    at_second i t (Some AsRw) of = (rw_at i (Some AsRw) of rw_no_mutex refl t).1
+    at_second i t None of = (rw_at i None of no_mutex refl t).1
+    at_second i t (Some AsMutex) of = mutex_second s h i of t

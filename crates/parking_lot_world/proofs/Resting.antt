@@ -16,10 +16,11 @@ use Rattle.parking_lot_rules.specs.Runs as rules
 use Rattle.parking_lot_rules.specs.World as many
 use Rattle.parking_lot_rules.proofs.Running.{all_away, rest_sound_family}
 use Rattle.parking_lot_rules.proofs.Mutexes as mutexes
+use Rattle.parking_lot_world.specs.Kinds.{Manner, AsRw, AsMutex, manner_of}
 use Rattle.parking_lot_world.specs.declared.calls.LockKind.{LockKind}
 use Rattle.parking_lot_world.specs.declared.open_call.Call.{Call}
 use Rattle.parking_lot_world.specs.declared.seat.Hold.{Hold}
-use Rattle.parking_lot_world.specs.Rows.{State, any_lock, call_at, family, hold_at, lock_at, mutex_at, mutex_role_at, mutex_role_in, mutex_word_of, one_bucket, rw_lock_at, rw_role_at, rw_role_in, word_at}
+use Rattle.parking_lot_world.specs.Rows.{State, lock_as, call_at, family, hold_at, lock_at, mutex_at, mutex_role_at, mutex_role_in, mutex_word_of, one_bucket, rw_lock_at, rw_role_at, rw_role_in, word_at}
 use Rattle.parking_lot_world.specs.RowFits.{FitsTogether}
 use Rattle.parking_lot_world.specs.LotLaws.{IsNew}
 use Rattle.parking_lot_world.specs.Machines.{at_rest}
@@ -83,14 +84,14 @@ module _ (n : ℕ) (ks : List LockKind) where
       ∙ ap (λ rs. record { word = mutex_word_of 0; roles = rs; queue = [] }) (same-all (λ t. mutex.away) (mutex_role_at s i) (length s.calls) (λ u low. mutex_role i u) ∙ ap (all (λ t. mutex.away) 0) threads_at_rest ∙ mutex_away_all 0 n)
 
   sound_at : (i : ℕ) → AnySound (lock_at s i)
-  sound_at i = go (slice_get ks i)
+  sound_at i = go (manner_of (slice_get ks i))
     where
       rw : IsSound (rw_lock_at s i)
       rw = subst IsSound (sym (rw_lock i)) ((rest_sound_family (λ k. k) n).sound i)
 
-      go : (k : Option LockKind) → AnySound (any_lock k s i)
-      go (Some LockKind.Mutex) = subst mutex.IsSound (sym (mutex_lock i)) (mutexes.rest_sound n)
-      go (Some LockKind.Rw) = rw
+      go : (k : Option Manner) → AnySound (lock_as k s i)
+      go (Some AsMutex) = subst mutex.IsSound (sym (mutex_lock i)) (mutexes.rest_sound n)
+      go (Some AsRw) = rw
       go None = rw
 
   nobody_in_mutex : (k : Key) (u : ℕ) → mutex_inside (mutex.unlocked n) k u ≡ 0
@@ -99,14 +100,14 @@ module _ (n : ℕ) (ks : List LockKind) where
   nobody_in_mutex Second u = refl
 
   outside : (i : ℕ) (x : Key) (u : ℕ) → any_inside (lock_at s i) x u ≡ 1 → ⊥
-  outside i x u = go (slice_get ks i)
+  outside i x u = go (manner_of (slice_get ks i))
     where
       rw : rw_inside (rw_lock_at s i) x u ≡ 1 → ⊥
       rw h = none-some u ((rest_sound_family (λ k. k) n).entered i x u (ap (λ l. rw_inside l x u) (sym (rw_lock i)) ∙ h))
 
-      go : (k : Option LockKind) → any_inside (any_lock k s i) x u ≡ 1 → ⊥
-      go (Some LockKind.Mutex) h = omega (arith, h, ap (λ m. mutex_inside m x u) (mutex_lock i), nobody_in_mutex x u)
-      go (Some LockKind.Rw) h = rw h
+      go : (k : Option Manner) → any_inside (lock_as k s i) x u ≡ 1 → ⊥
+      go (Some AsMutex) h = omega (arith, h, ap (λ m. mutex_inside m x u) (mutex_lock i), nobody_in_mutex x u)
+      go (Some AsRw) h = rw h
       go None h = rw h
 
   free : (b : Bool) (u : ℕ) → (if b then None else None) ≡ Some u → ⊥

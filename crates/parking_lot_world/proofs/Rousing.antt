@@ -11,19 +11,20 @@ use Rattle.parking_lot_core_lot.specs.declared.place.Sleep.{Sleep}
 use Rattle.parking_lot_core_lot.proofs.Numbers.{flag, count_by-set}
 use Rattle.parking_lot_rules.proofs.Indexed.{get-set_other}
 use Rattle.parking_lot_protocol.specs.declared.act.ActResult.TheVariants as seen
+use Rattle.parking_lot_world.specs.Kinds.{recursive_in}
 use Rattle.parking_lot_world.specs.declared.seat.WakeResult.{WakeResult}
 use Rattle.parking_lot_world.specs.declared.seat.QueuePosition.{QueuePosition}
 use Rattle.parking_lot_world.specs.declared.open_call.Call.{Call}
 use Rattle.parking_lot_world.specs.declared.seat.Wakeup.{Wakeup}
 use Rattle.parking_lot_world.specs.Rows.{State, word_at, hold_at, call_at, is_by, taken_by, mark_of, first_of_all, rw_spot, mutex_spot, rw_lock_at, mutex_at, queue_at}
-use Rattle.parking_lot_world.specs.Stances.{Out, Asleep, mutex_stance, rw_stance, stance, taken_count, core_act, core_next}
+use Rattle.parking_lot_world.specs.Stances.{Out, Asleep, late_act, mutex_stance, rw_stance, stance, taken_count, core_act, core_next}
 use Rattle.parking_lot_world.specs.RowActs.{hears, woke, told_of}
-use Rattle.parking_lot_world.specs.RowFits.{FitsTogether, RulesFit, WakesFit, IsOfKind, IsTaken, IsPrepared, KnowsList, is_away, is_off, mutex_knows}
+use Rattle.parking_lot_world.specs.RowFits.{FitsTogether, RulesFit, WakesFit, IsOfKind, IsTaken, IsPrepared, KnowsList, is_away, is_off, mutex_knows, rw_prepared}
 use Rattle.parking_lot_world.specs.TellLaws.{IsDue}
 use Rattle.parking_lot_world.proofs.Calling.{slot}
 use Rattle.parking_lot_world.proofs.Carrying.{same_call}
 use Rattle.parking_lot_world.proofs.Indexing.{kept_remove}
-use Rattle.parking_lot_world.proofs.KindTable.{Kind, of_rws, of_mutexes, IsThere, Elsewhere, in_its_place, role_at, role_now, role_stays, roles_at, same, shown}
+use Rattle.parking_lot_world.proofs.KindTable.{MutexCall, Plain, Late, mutex_call, sleeps_so, woken_so, woken_plain, Kind, of_rws, of_mutexes, IsThere, Elsewhere, in_its_place, role_at, role_now, role_stays, roles_at, same, shown}
 use Rattle.parking_lot_world.proofs.LotWakes.{woken_off, due_place, other, call_mine, call_woken, call_other, woke_length}
 use Rattle.parking_lot_world.proofs.Making.{move_sound, mutex_goes, rw_goes}
 use Rattle.parking_lot_world.proofs.Ruling.{CallFits, Fitted, call_fits, fits_next, rules_after}
@@ -49,6 +50,7 @@ use Rattle.parking_lot_protocol.specs.declared.rw_phase.AfterWake.{AfterWake}
 use Rattle.parking_lot_protocol.specs.declared.rw_phase.RwPhase.{RwPhase}
 use Rattle.parking_lot_world.specs.MutexLaws.{Plays}
 use Rattle.parking_lot_world.specs.RwLaws.{Meets, Learns}
+use Rattle.parking_lot_world.specs.declared.seat.LatePhase.{LatePhase}
 use Rattle.parking_lot_world.specs.declared.seat.Core.{Core}
 
 -- WHOM A THREAD IS TO WAKE
@@ -226,7 +228,7 @@ module _ (s : State) (t : ℕ) (c : Call) (h : FitsTogether s) (here : call_at s
 
   -- what is left to be shown by the kind of the lock: of the one that wakes, and of what the woken one stands on
   abbrev pub Roused : Core → Core → Type 0
-  Roused x y = Fitted s woke_state t c seen.Made x × IsPrepared d.others (core_next y (seen.Woken token)) × KnowsList (core_next y (seen.Woken token)) s.lot.queues d.lock
+  Roused x y = Fitted s woke_state t c seen.Made x × IsPrepared (recursive_in s.kinds d.lock) d.others (core_next y (seen.Woken token)) × KnowsList (core_next y (seen.Woken token)) s.lot.queues d.lock
 
   pub rules_roused : Roused c.core d.core → RulesFit woke_state
   rules_roused (fit, ready, learns) = rules_after s woke_state c.lock h.rules (record {
@@ -290,11 +292,6 @@ mutex_wakes (MutexPhase.Finishes g) e = absurd (finishes g.again e)
     finishes false e = cc
 mutex_wakes p e = absurd cc
 
--- one that sleeps
-mutex_sleeps : (p : MutexPhase) (key : ℕ) (park : ParkToken) → mutex_stance p ≡ Asleep key park → p ≡ MutexPhase.Sleeps
-mutex_sleeps MutexPhase.Sleeps key park e = refl
-mutex_sleeps p key park e = absurd cc
-
 -- what it knows once it was woken
 woken_knows : (token : UnparkToken) (waiters : List Waiter) → mutex_knows (mutex_table.next_phase MutexPhase.Sleeps (seen.Woken token)) waiters
 woken_knows token waiters = go (token.0 == 1)
@@ -302,6 +299,18 @@ woken_knows token waiters = go (token.0 == 1)
     go : (b : Bool) → mutex_knows (cond b (MutexPhase.Ends Owned) (MutexPhase.Loads (mutex_table.begins true))) waiters
     go true = tt
     go false = tt
+
+-- and stands on the same
+late_ready : (b : Bool) (n : ℕ) (q : MutexCall) → IsPrepared b n (mutex_call q) → n ≡ 0
+late_ready b n (Plain q) h = h
+late_ready b n (Late p) h = h
+
+late_wakes : (p : LatePhase) → late_act p ≡ act.Section section.Wake → ⊥
+late_wakes LatePhase.Expires e = cc
+late_wakes LatePhase.Quits e = cc
+late_wakes LatePhase.Masks e = cc
+late_wakes LatePhase.Leaves e = cc
+late_wakes LatePhase.GivesUp e = cc
 
 marks : (b : Bool) → mark_of (cond b WakeResult.HandedOver WakeResult.TryAgain) ≡ of_mutex.mark_of b
 marks true = refl
@@ -331,12 +340,12 @@ module _ (s : State) (t : ℕ) (c : Call) (h : FitsTogether s) (here : call_at s
       let k' : RwCore = record y { phase = table.next_phase (RwPhase.Wakes rs count) seen.Made } in
       let q' : RwCore = record q { phase = table.next_phase q.phase (seen.Woken token) } in
       let its = meets s h v d q de due.there in
-      let met : Meets (rw_lock_at s c.lock) t c.others (rw_spot c.spot) (v ∷ vs) (RwPhase.Wakes rs count) (word_at s c.lock) =
-      subst (λ us. Meets (rw_lock_at s c.lock) t c.others (rw_spot c.spot) us (RwPhase.Wakes rs count) (word_at s c.lock)) (taken_mine s t c h here e d token due from) (meets s h t c k ce here) in
+      let met : Meets (recursive_in s.kinds c.lock) (rw_lock_at s c.lock) t c.others (rw_spot c.spot) (v ∷ vs) (RwPhase.Wakes rs count) (word_at s c.lock) =
+      subst (λ us. Meets (recursive_in s.kinds c.lock) (rw_lock_at s c.lock) t c.others (rw_spot c.spot) us (RwPhase.Wakes rs count) (word_at s c.lock)) (taken_mine s t c h here e d token due from) (meets s h t c k ce here) in
       let asleep : rw_stance q.phase ≡ Asleep off.0 off.1 = sym (ap stance de) ∙ off.3 in
       let after_is = λ (n : ℕ) (w : word_at s c.lock ≡ n). roused_after s t c h here e d token due from of_rws k q k' q' (ap (λ (x : Core). core_next x seen.Made) ce) de (ap (λ (x : Core). core_next x (seen.Woken token)) de) to n w in
-      let step = wakes_are_steps (rw_lock_at s c.lock) t c.others (rw_spot c.spot) v vs rs count (word_at s c.lock) d.others (mark_of (told_of token)) ws q.phase off.0 off.1 token met
-      (sleeps_off s t c h here e d token due from of_rws k q k' q' (ap (λ (x : Core). core_next x seen.Made) ce) de (ap (λ (x : Core). core_next x (seen.Woken token)) de) to) asleep its.prepared refl in
+      let step = wakes_are_steps (recursive_in s.kinds c.lock) (rw_lock_at s c.lock) t c.others (rw_spot c.spot) v vs rs count (word_at s c.lock) d.others (mark_of (told_of token)) ws q.phase off.0 off.1 token met
+      (sleeps_off s t c h here e d token due from of_rws k q k' q' (ap (λ (x : Core). core_next x seen.Made) ce) de (ap (λ (x : Core). core_next x (seen.Woken token)) de) to) asleep (subst (λ j. rw_prepared (recursive_in s.kinds j) d.others ws q.phase) (same_lock s t c h here e d token due from) its.prepared) refl in
       let kind_is = subst (IsOfKind (slice_get s.kinds c.lock)) ce (h.rules.kinds t c here) in
       let mine = rw_hears s h t c k ce here seen.Made tt s.lot.queues tt in
       let may = sleeper_hears q.phase off.0 off.1 (word_at s d.lock) token (s.lot.queues (2 * d.lock)) (s.lot.queues (2 * d.lock + 1)) asleep in
@@ -351,31 +360,33 @@ module _ (s : State) (t : ℕ) (c : Call) (h : FitsTogether s) (here : call_at s
         others.1,
       )
 
-  wake_mutex : (g : Giving) (y q : MutexCore) → c.core ≡ Core.Mutex (record y { phase = MutexPhase.Wakes g }) → d.core ≡ Core.Mutex q → q.phase ≡ MutexPhase.Sleeps → Roused s t c h here e d token due from (Core.Mutex (record y { phase = MutexPhase.Wakes g })) (Core.Mutex q)
-  wake_mutex g y q ce de asleep =
+  wake_mutex : (g : Giving) (y : MutexCore) (q : MutexCall) → c.core ≡ Core.Mutex (record y { phase = MutexPhase.Wakes g }) → d.core ≡ mutex_call q → Roused s t c h here e d token due from (Core.Mutex (record y { phase = MutexPhase.Wakes g })) (mutex_call q)
+  wake_mutex g y q ce de =
       let k : MutexCore = record y { phase = MutexPhase.Wakes g } in
       let k' : MutexCore = record y { phase = mutex_table.next_phase (MutexPhase.Wakes g) seen.Made } in
-      let q' : MutexCore = record q { phase = mutex_table.next_phase q.phase (seen.Woken token) } in
       let us = taken_by s.wakes t in
+      let lies : stance (mutex_call q) ≡ Asleep off.0 off.1 = sym (ap stance de) ∙ off.3 in
+      let so = sleeps_so q off.0 off.1 lies in
+      let goes = woken_so q off.0 off.1 token lies in
       let first : first_of_all us ≡ v = ap first_of_all (taken_mine s t c h here e d token due from) in
       let mine = ap (λ (x : Core). core_next x seen.Made) ce in
-      let its = ap (λ (x : Core). core_next x (seen.Woken token)) de in
-      let sleeps = sleeps_off s t c h here e d token due from of_mutexes k q k' q' mine de its to ∙ ap (λ p. Some (of_mutex.role (of_mutex.Off t (mark_of (told_of token))) (first_of_all ws) p)) asleep in
-      let woken : of_mutex.role of_mutex.Listed (first_of_all ws) q'.phase ≡ of_mutex.role of_mutex.Listed 0 (mutex_table.next_phase MutexPhase.Sleeps (seen.Woken token)) =
-      ap (λ p. of_mutex.role of_mutex.Listed (first_of_all ws) (mutex_table.next_phase p (seen.Woken token))) asleep ∙ roles.woken of_mutex.Listed (first_of_all ws) token ∙ sym (roles.woken of_mutex.Listed 0 token) in
-      let waking = steps.wakes (mutex_at s c.lock) (word_at s c.lock) t v (mutex_spot c.spot) (MutexPhase.Wakes g) (mark_of (told_of token)) token
-      (subst (λ n. Plays (mutex_at s c.lock) (word_at s c.lock) t (of_mutex.role (mutex_spot c.spot) n (MutexPhase.Wakes g))) first (plays s h t c k ce here)) refl sleeps in (
+      let its = ap (λ (x : Core). core_next x (seen.Woken token)) de ∙ goes in
+      let sleeps = sleeps_off s t c h here e d token due from of_mutexes (Plain k) q (Plain k') (woken_plain token) mine de its to ∙ ap Some (so.3 t (told_of token) ws) in
+      let woken : of_mutex.role of_mutex.Listed (first_of_all ws) (mutex_table.next_phase MutexPhase.Sleeps (seen.Woken token)) ≡ of_mutex.role of_mutex.Listed 0 (mutex_table.next_phase MutexPhase.Sleeps (seen.Woken token)) =
+      roles.woken of_mutex.Listed (first_of_all ws) token ∙ sym (roles.woken of_mutex.Listed 0 token) in
+      let waking = steps.wakes (mutex_at s c.lock) (word_at s c.lock) t v (mutex_spot c.spot) (MutexPhase.Wakes g) (mark_of (told_of token)) so.0 token
+      (subst (λ n. Plays (mutex_at s c.lock) (word_at s c.lock) t (of_mutex.role (mutex_spot c.spot) n (MutexPhase.Wakes g))) first (plays s h t c k ce here)) refl sleeps so.1 in (
         (
-          mutex_goes s u t c.lock v us _ of_mutex.WakesOne (subst (IsThere c.lock) (sym here) refl) (woke_elsewhere s t c h here e d token due from) (subst (IsOfKind (slice_get s.kinds c.lock)) ce (h.rules.kinds t c here)) (token.0 == 1, waking.leads (marks (token.0 == 1)))
-              (roused_after s t c h here e d token due from of_mutexes k q k' q' mine de its to (word_at s c.lock) refl
+          mutex_goes s u t c.lock v us _ of_mutex.WakesOne (subst (IsThere c.lock) (sym here) refl) (woke_elsewhere s t c h here e d token due from) (subst (IsOfKind (slice_get s.kinds c.lock)) ce (h.rules.kinds t c here)) (token.0 == 1, so.0, waking.leads (marks (token.0 == 1)))
+              (roused_after s t c h here e d token due from of_mutexes (Plain k) q (Plain k') (woken_plain token) mine de its to (word_at s c.lock) refl
               ∙ same of_mutexes _ _ _ _ _ _ [] [] refl (ap (λ x. slice_set (slice_set (roles_at of_mutexes s c.lock) v x) t (of_mutex.role of_mutex.Listed (first_of_all vs) k'.phase)) woken) refl refl)
               refl tt,
-          subst (IsPrepared c.others) ce (h.rules.prepared t c here),
+          subst (IsPrepared (recursive_in s.kinds c.lock) c.others) ce (h.rules.prepared t c here),
           tt,
           h.rules.bits c.lock,
         ),
-        subst (IsPrepared d.others) de (h.rules.prepared v d due.there),
-        subst (λ p. mutex_knows (mutex_table.next_phase p (seen.Woken token)) (s.lot.queues (2 * d.lock))) (sym asleep) (woken_knows token (s.lot.queues (2 * d.lock))),
+        subst (IsPrepared (recursive_in s.kinds d.lock) d.others) (sym goes) (late_ready (recursive_in s.kinds d.lock) d.others q (subst (IsPrepared (recursive_in s.kinds d.lock) d.others) de (h.rules.prepared v d due.there))),
+        subst (λ x. KnowsList x s.lot.queues d.lock) (sym goes) (woken_knows token (s.lot.queues (2 * d.lock))),
       )
 
   of_one_kind : (x y : Core) → c.core ≡ x → d.core ≡ y → IsOfKind (slice_get s.kinds c.lock) x × IsOfKind (slice_get s.kinds c.lock) y
@@ -395,6 +406,12 @@ module _ (s : State) (t : ℕ) (c : Call) (h : FitsTogether s) (here : call_at s
       go (Core.Mutex k) (Core.Mutex q) ce de =
           let p = mutex_wakes k.phase (sym (ap core_act ce) ∙ asked) in
           let is : k ≡ record k { phase = MutexPhase.Wakes p.0 } = ap (λ (z : MutexPhase). record k { phase = z }) p.1 in
-          subst (λ (z : MutexCore). Roused s t c h here e d token due from (Core.Mutex z) (Core.Mutex q)) (sym is) (wake_mutex p.0 k q (ce ∙ ap Core.Mutex is) de (mutex_sleeps q.phase off.0 off.1 (sym (ap stance de) ∙ off.3)))
+          subst (λ (z : MutexCore). Roused s t c h here e d token due from (Core.Mutex z) (Core.Mutex q)) (sym is) (wake_mutex p.0 k (Plain q) (ce ∙ ap Core.Mutex is) de)
+      go (Core.Mutex k) (Core.Late q) ce de =
+          let p = mutex_wakes k.phase (sym (ap core_act ce) ∙ asked) in
+          let is : k ≡ record k { phase = MutexPhase.Wakes p.0 } = ap (λ (z : MutexPhase). record k { phase = z }) p.1 in
+          subst (λ (z : MutexCore). Roused s t c h here e d token due from (Core.Mutex z) (Core.Late q)) (sym is) (wake_mutex p.0 k (Late q) (ce ∙ ap Core.Mutex is) de)
+      go (Core.Late p) y ce de = absurd (late_wakes p (sym (ap core_act ce) ∙ asked))
+      go (Core.Rw k) (Core.Late q) ce de = let z = of_one_kind (Core.Rw k) (Core.Late q) ce de in absurd (two_kinds (sym z.0 ∙ z.1))
       go (Core.Mutex k) (Core.Rw q) ce de = let z = of_one_kind (Core.Mutex k) (Core.Rw q) ce de in absurd (two_kinds (sym z.1 ∙ z.0))
       go (Core.Rw k) (Core.Mutex q) ce de = let z = of_one_kind (Core.Rw k) (Core.Mutex q) ce de in absurd (two_kinds (sym z.0 ∙ z.1))

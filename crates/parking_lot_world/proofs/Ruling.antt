@@ -4,16 +4,18 @@ use Rattle.std.proofs.lemmas.Bool.{cases_eq}
 use Rattle.std.proofs.lemmas.List.{length-set}
 use Rattle.parking_lot_core_lot.specs.declared.place.Waiter.{Waiter}
 use Rattle.parking_lot_protocol.specs.declared.act.ActResult.{ActResult}
+use Rattle.parking_lot_world.specs.Kinds.{AsMutex, Manner, manner_of, recursive_in}
 use Rattle.parking_lot_world.specs.declared.calls.LockKind.{LockKind}
 use Rattle.parking_lot_world.specs.declared.seat.Hold.TheVariants as hold
 use Rattle.parking_lot_world.specs.declared.seat.QueuePosition.{QueuePosition}
+use Rattle.parking_lot_world.specs.declared.seat.LatePhase.{LatePhase}
 use Rattle.parking_lot_world.specs.declared.seat.Core.{Core}
 use Rattle.parking_lot_world.specs.declared.open_call.Call.{Call}
 use Rattle.parking_lot_world.specs.Rows.{State, word_at, hold_at, call_at, taken_by}
 use Rattle.parking_lot_world.specs.Rounds.{IsUnderWay}
-use Rattle.parking_lot_world.specs.RowFits.{FitsTogether, RulesFit, IsOfKind, IsPrepared, KnowsList, mutex_knows, rw_knows}
+use Rattle.parking_lot_world.specs.RowFits.{FitsTogether, RulesFit, IsOfKind, IsOfManner, IsPrepared, KnowsList, mutex_knows, rw_knows}
 use Rattle.parking_lot_world.specs.RowSteps.{Goes, IsMoveOf}
-use Rattle.parking_lot_world.specs.Stances.{core_next}
+use Rattle.parking_lot_world.specs.Stances.{core_next, late_next}
 use Rattle.parking_lot_world.proofs.Making.{IsSoundState, move_sound}
 use Rattle.parking_lot_world.proofs.Calling.{call_of, calls-change, same-holds}
 use Rattle.parking_lot_world.proofs.Owning.{OwnAct, call_after}
@@ -22,7 +24,7 @@ use Rattle.parking_lot_world.proofs.Spinning.{under_way}
 -- what holds of a call on the side of the rules
 pub record CallFits (kinds : List LockKind) (queues : ℕ → List Waiter) (e : Call) : Type 0 where
   pub kind : IsOfKind (slice_get kinds e.lock) e.core
-  pub prepared : IsPrepared e.others e.core
+  pub prepared : IsPrepared (recursive_in kinds e.lock) e.others e.core
   pub knows : KnowsList e.core queues e.lock
   pub beside : e.others ≤ 254
   pub begun : IsUnderWay e.core
@@ -36,7 +38,7 @@ pub record RulesAfter (s u : State) (j : ℕ) : Type 0 where
   pub calls : (v : ℕ) (e : Call) → call_at u v ≡ Some e → CallFits s.kinds u.lot.queues e
   pub few : (x i n : ℕ) → hold_at u x i ≡ hold.Shares n → n ≤ 255
   pub elsewhere : (i : ℕ) → i ≢ j → word_at u i ≡ word_at s i
-  pub bits : slice_get s.kinds j ≡ Some LockKind.Mutex → word_at u j < 4
+  pub bits : manner_of (slice_get s.kinds j) ≡ Some AsMutex → word_at u j < 4
   pub sound : IsSoundState u
 
 pub rules_after : (s u : State) (j : ℕ) → RulesFit s → RulesAfter s u j → RulesFit u
@@ -46,13 +48,13 @@ rules_after s u j h a = record {
   small = subst (λ n. n < 2 ^ 17) (sym a.threads) h.small;
   few_locks = subst (λ (ks : List LockKind). length ks < 2 ^ 21) (sym a.kinds) h.few_locks;
   kinds = λ v e here. subst (λ (ks : List LockKind). IsOfKind (slice_get ks e.lock) e.core) (sym a.kinds) (a.calls v e here).kind;
-  prepared = λ v e here. (a.calls v e here).prepared;
+  prepared = λ v e here. subst (λ (ks : List LockKind). IsPrepared (recursive_in ks e.lock) e.others e.core) (sym a.kinds) (a.calls v e here).prepared;
   knows = λ v e here. (a.calls v e here).knows;
   few = a.few;
   beside = λ v e here. (a.calls v e here).beside;
   bits = λ i k. elim (cases_eq i j) [
-    | inl e ↦ subst (λ n. word_at u n < 4) (sym e) (a.bits (sym (ap (slice_get s.kinds) e) ∙ sym (ap (λ ks. slice_get ks i) a.kinds) ∙ k))
-    | inr ne ↦ subst (λ n. n < 4) (sym (a.elsewhere i ne)) (h.bits i (sym (ap (λ ks. slice_get ks i) a.kinds) ∙ k))
+    | inl e ↦ subst (λ n. word_at u n < 4) (sym e) (a.bits (sym (ap (λ n. manner_of (slice_get s.kinds n)) e) ∙ sym (ap (λ ks. manner_of (slice_get ks i)) a.kinds) ∙ k))
+    | inr ne ↦ subst (λ n. n < 4) (sym (a.elsewhere i ne)) (h.bits i (sym (ap (λ ks. manner_of (slice_get ks i)) a.kinds) ∙ k))
   ];
   sound = a.sound;
   begun = λ v e here. (a.calls v e here).begun;
@@ -66,11 +68,22 @@ call_fits s h v e here = record { kind = h.kinds v e here; prepared = h.prepared
 pub knows_same : (f g : ℕ → List Waiter) → ((key : ℕ) → g key ≡ f key) → (x : Core) (j : ℕ) → KnowsList x f j → KnowsList x g j
 knows_same f g same (Core.Mutex k) j h = subst (mutex_knows k.phase) (sym (same (2 * j))) h
 knows_same f g same (Core.Rw k) j h = subst (λ (q : List Waiter). rw_knows k.phase q (g (2 * j + 1))) (sym (same (2 * j))) (subst (rw_knows k.phase (f (2 * j))) (sym (same (2 * j + 1))) h)
+knows_same f g same (Core.Late p) j h = tt
+
+late_kind : (p : LatePhase) (told : ActResult) (m : Option Manner) → m ≡ Some AsMutex → IsOfManner m (late_next p told)
+late_kind LatePhase.Expires (ActResult.Woken token) m h = h
+late_kind LatePhase.Quits (ActResult.Took token left) m h = h
+late_kind LatePhase.Expires ActResult.Entered m h = h
+late_kind LatePhase.Masks (ActResult.Before word) m h = h
+late_kind LatePhase.Leaves ActResult.Made m h = h
+late_kind LatePhase.GivesUp told m h = h
+late_kind p told m h = h
 
 -- a call stays of its kind
 pub same_kind : (x : Core) (told : ActResult) (k : Option LockKind) → IsOfKind k x → IsOfKind k (core_next x told)
 same_kind (Core.Rw c) told k h = h
 same_kind (Core.Mutex c) told k h = h
+same_kind (Core.Late p) told k h = late_kind p told (manner_of k) h
 
 module _ (s : State) (h : FitsTogether s) (t : ℕ) (c : Call) (here : call_at s t ≡ Some c) where
   -- it fits wherever it stands, with what it knows of the lists
@@ -78,7 +91,7 @@ module _ (s : State) (h : FitsTogether s) (t : ℕ) (c : Call) (here : call_at s
   fits_at queues at knows = record { kind = h.rules.kinds t c here; prepared = h.rules.prepared t c here; knows = knows; beside = h.rules.beside t c here; begun = h.rules.begun t c here }
 
   -- and once it was told what its act gave
-  pub fits_next : (told : ActResult) (queues : ℕ → List Waiter) (at : QueuePosition) → IsPrepared c.others (core_next c.core told) → KnowsList (core_next c.core told) queues c.lock
+  pub fits_next : (told : ActResult) (queues : ℕ → List Waiter) (at : QueuePosition) → IsPrepared (recursive_in s.kinds c.lock) c.others (core_next c.core told) → KnowsList (core_next c.core told) queues c.lock
       → CallFits s.kinds queues (record c { core = core_next c.core told; spot = at })
   fits_next told queues at prepared knows = record {
     kind = same_kind c.core told (slice_get s.kinds c.lock) (h.rules.kinds t c here);
@@ -92,7 +105,7 @@ module _ (s : State) (h : FitsTogether s) (t : ℕ) (c : Call) (here : call_at s
 -- needs, and a mutex's word stays one.
 abbrev pub Fitted : State → State → ℕ → Call → ActResult → Core → Type 0
 Fitted s u t c told x =
-    IsMoveOf x c.others (taken_by s.wakes t) told c.lock t s u × IsPrepared c.others (core_next x told) × KnowsList (core_next x told) u.lot.queues c.lock × (slice_get s.kinds c.lock ≡ Some LockKind.Mutex → word_at u c.lock < 4)
+    IsMoveOf x c.others (taken_by s.wakes t) told c.lock t s u × IsPrepared (recursive_in s.kinds c.lock) c.others (core_next x told) × KnowsList (core_next x told) u.lot.queues c.lock × (manner_of (slice_get s.kinds c.lock) ≡ Some AsMutex → word_at u c.lock < 4)
 
 module _ (s u : State) (t : ℕ) (c : Call) (told : ActResult) (at : QueuePosition) (a : OwnAct s u t c told (core_next c.core told) at) (h : FitsTogether s) where
   pub rules_own : ((v : ℕ) (e : Call) → v ≢ t → call_at s v ≡ Some e → KnowsList e.core u.lot.queues e.lock) → Fitted s u t c told c.core → RulesFit u × Goes t c told s u

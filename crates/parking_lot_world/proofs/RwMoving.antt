@@ -1,6 +1,5 @@
 -- What a core is told at a sound reader-writer lock is the move that the table says, and a step of the rules.
 use Rattle.std.proofs.Common.{◌≡◌, ◌≤◌, ◌<◌, ℕ, suc, ◌+◌, ◌-◌, ◌*◌, ◌/◌, ◌^◌, ◌==◌, ◌&&◌, Bool, true, false, cond, List, [], ◌∷◌, length, Some, slice_get, slice_set, refl, sym, ap, ◌∙◌, subst, arith, mul-suc, ◌++◌}
-use Rattle.std.proofs.lemmas.Bool.{both_ways}
 use Rattle.std.proofs.lemmas.List.Sums.{sum_by-cons}
 use Rattle.parking_lot_rules.specs.Roles.{Owned, Shares, Excludes, Upgrades, Role, away}
 use Rattle.parking_lot_rules.specs.Roles as rules
@@ -23,8 +22,8 @@ use Rattle.parking_lot_protocol.specs.RwTable.{act_of, next_phase, is_parked, is
 use Rattle.parking_lot_protocol.specs.RwRules.{QueuePosition, Listed, role, Move, Stays, Makes, IsWoken, move, admission, try_admission, mode_of, IsMove, IsReady, IsTold, MayAsk, Fits}
 use Rattle.parking_lot_protocol.proofs.RwWords.{parts}
 use Rattle.parking_lot_protocol.proofs.RwFollowing.{follows}
-use Rattle.parking_lot_world.specs.RowFits.{rw_prepared}
-use Rattle.parking_lot_world.specs.RwLaws.{WordsAreNumbers, Meets, IsMoved, AnswersAreMoves, NobodyIs, Finds, StaysAreSteps, MakesAreSteps, JoinsAreSteps}
+use Rattle.parking_lot_world.specs.RowFits.{Asks, rw_prepared}
+use Rattle.parking_lot_world.specs.RwLaws.{WordsAreNumbers, Meets, IsCounted, IsMoved, AnswersAreMoves, NobodyIs, Finds, StaysAreSteps, MakesAreSteps, JoinsAreSteps}
 
 -- WORDS AND NUMBERS
 
@@ -71,10 +70,21 @@ total_most k (r ∷ rs) few =
 
 -- WHAT FITS A PHASE
 
-asks : (n : ℕ) (want : LockMode) (w v : Word) → MayAsk false n want w → MayAsk false n want v
-asks n (LockMode.Shared true) w v m = absurd (both_ways false refl m.0)
-asks n (LockMode.Shared false) w v m = m
-asks n LockMode.Exclusive w v m = m
+holds_weigh : (n : ℕ) (o : Owned) (p : rules.Phase) → o ≡ Shares n → n ≤ weight Readers (record { owns = o; does = p })
+unfolding weight
+holds_weigh n o p e = omega (arith, ap (owned Readers) e)
+
+-- the word counts a reader's holds
+pub holds_counted : (l : Lock) (t n : ℕ) (r : Role) → IsSound l → slice_get l.roles t ≡ Some r → r.owns ≡ Shares n → n ≤ l.word.readers
+holds_counted l t n r h at e =
+    let f = h.fits in
+    let own = total-at l.roles t _ at Readers in
+    omega (arith, f.readers, own, holds_weigh n r.owns r.does e)
+
+asks : (recursive : Bool) (l : Lock) (t n : ℕ) (p : rules.Phase) (want : LockMode) → IsSound l → slice_get l.roles t ≡ Some (record { owns = Shares n; does = p }) → Asks recursive n want → MayAsk recursive n want l.word
+asks recursive l t n p (LockMode.Shared true) h at m = (m, holds_counted l t n (record { owns = Shares n; does = p }) h at refl)
+asks recursive l t n p (LockMode.Shared false) h at m = m
+asks recursive l t n p LockMode.Exclusive h at m = m
 
 shares_weigh : (n : ℕ) → weight Readers (record { owns = Shares (n + 1); does = rules.Idle }) ≡ n + 1
 unfolding weight
@@ -84,56 +94,62 @@ writes_weigh : weight Writers (record { owns = Excludes; does = rules.Idle }) �
 unfolding weight
 writes_weigh = refl
 
-fits_word : (l : Lock) (t n : ℕ) (spot : QueuePosition) (us : List ℕ) (p : RwPhase) → IsSound l → slice_get l.roles t ≡ Some (role n spot us p) → rw_prepared n us p → Fits false n us p l.word
-fits_word l t n spot us (Locking a) h at m = asks n a (word_of 0) l.word m
-fits_word l t n spot us (Trying a) h at m = asks n a (word_of 0) l.word m
-fits_word l t n spot us (Loads a) h at m = asks n a.want (word_of 0) l.word m
-fits_word l t n spot us (Admits a word) h at m = asks n a.want (word_of 0) l.word m
-fits_word l t n spot us (Spins a) h at m = asks n a.want (word_of 0) l.word m
-fits_word l t n spot us (SetParked a word) h at m = asks n a.want (word_of 0) l.word m
-fits_word l t n spot us (TryLoads a) h at m = asks n a (word_of 0) l.word m
-fits_word l t n spot us (TryAdmits a word left) h at m = asks n a (word_of 0) l.word m
-fits_word l t n spot us (Refuses a) h at m = asks n a (word_of 0) l.word m
-fits_word l t n spot us (Relocks a) h at m = asks n a (word_of 0) l.word m
-fits_word l t n spot us (Unshares rest) h at m =
+fits_word : (recursive : Bool) (l : Lock) (t n : ℕ) (spot : QueuePosition) (us : List ℕ) (p : RwPhase) → IsSound l → slice_get l.roles t ≡ Some (role n spot us p) → rw_prepared recursive n us p → Fits recursive n us p l.word
+fits_word recursive l t n spot us (Locking a) h at m = asks recursive l t n _ a h at m
+fits_word recursive l t n spot us (Trying a) h at m = asks recursive l t n _ a h at m
+fits_word recursive l t n spot us (Loads a) h at m = asks recursive l t n _ a.want h at m
+fits_word recursive l t n spot us (Admits a word) h at m = asks recursive l t n _ a.want h at m
+fits_word recursive l t n spot us (Spins a) h at m = asks recursive l t n _ a.want h at m
+fits_word recursive l t n spot us (SetParked a word) h at m = asks recursive l t n _ a.want h at m
+fits_word recursive l t n spot us (TryLoads a) h at m = asks recursive l t n _ a h at m
+fits_word recursive l t n spot us (TryAdmits a word left) h at m = asks recursive l t n _ a h at m
+fits_word recursive l t n spot us (Refuses a) h at m = asks recursive l t n _ a h at m
+fits_word recursive l t n spot us (Relocks a) h at m = asks recursive l t n _ a h at m
+fits_word recursive l t n spot us (Unshares rest) h at m =
     let f = h.fits in
     let own = total-at l.roles t _ at Readers in
     let one = shares_weigh n in
     omega (arith, f.readers, own, one)
-fits_word l t n spot us Downgrades h at m =
+fits_word recursive l t n spot us Downgrades h at m =
     let f = h.fits in
     let own = total-at l.roles t _ at Writers in
     omega (arith, f.writer, f.one, own, writes_weigh)
-fits_word l t n spot us p h at m = m
+fits_word recursive l t n spot us p h at m = m
 
-module _ (l : Lock) (t n : ℕ) (spot : QueuePosition) (us : List ℕ) (p : RwPhase) (x : ℕ) (h : Meets l t n spot us p x) where
+module _ (recursive : Bool) (l : Lock) (t n : ℕ) (spot : QueuePosition) (us : List ℕ) (p : RwPhase) (x : ℕ) (h : Meets recursive l t n spot us p x) where
   pub few_readers : l.word.readers < 2 ^ 60 - 1
   few_readers = let f = h.sound.fits in omega (arith, f.readers, f.upgradable, f.one, total_most 256 l.roles h.few, h.threads)
 
-  pub fits : Fits false n us p l.word
-  fits = fits_word l t n spot us p h.sound h.here h.prepared
+  pub fits : Fits recursive n us p l.word
+  fits = fits_word recursive l t n spot us p h.sound h.here h.prepared
 
   pub number_is : number l.word ≡ x
   number_is = ap number h.word ∙ number-word x
 
-  pub moved : (s : ActResult) → IsTold p x s → IsMoved l n us p x s
+  -- one that asks finds its holds counted
+  pub counted : IsCounted n p x
+  counted e =
+      let readers : l.word.readers ≡ x / 16 = ap (λ (w : Word). w.readers) h.word in
+      (omega (arith, readers, holds_counted l t n (role n spot us p) h.sound h.here e), omega (arith, readers, few_readers))
+
+  pub moved : (s : ActResult) → IsTold p x s → IsMoved recursive l n us p x s
   moved s told =
-      let P : ℕ → Type 0 = λ y. IsTold p y s → IsMove false (move n us p s) n us p (next_phase p s) l.word (word_after (act_of p) s y) × IsReady (next_phase p s) in
-      subst P number_is (follows p s false n us l.word h.ready (sound_word l h.sound) few_readers fits) told
+      let P : ℕ → Type 0 = λ y. IsTold p y s → IsMove recursive (move n us p s) n us p (next_phase p s) l.word (word_after (act_of p) s y) × IsReady (next_phase p s) in
+      subst P number_is (follows p s recursive n us l.word h.ready (sound_word l h.sound) few_readers fits) told
 
 pub answers_are_moves : AnswersAreMoves
-answers_are_moves l t n spot us p x s h told = (fits l t n spot us p x h, few_readers l t n spot us p x h, moved l t n spot us p x h s told)
+answers_are_moves recursive l t n spot us p x s h told = (fits recursive l t n spot us p x h, few_readers recursive l t n spot us p x h, moved recursive l t n spot us p x h s told)
 
 -- STEPS
 
 -- the move that is named is the one that is made
-pub named : (l : Lock) (n : ℕ) (us : List ℕ) (p : RwPhase) (x : ℕ) (s : ActResult) (m : Move) → move n us p s ≡ m → IsMoved l n us p x s → IsMove false m n us p (next_phase p s) l.word (word_after (act_of p) s x)
-named l n us p x s m e h = subst (λ k. IsMove false k n us p (next_phase p s) l.word (word_after (act_of p) s x)) e h.0
+pub named : (recursive : Bool) (l : Lock) (n : ℕ) (us : List ℕ) (p : RwPhase) (x : ℕ) (s : ActResult) (m : Move) → move n us p s ≡ m → IsMoved recursive l n us p x s → IsMove recursive m n us p (next_phase p s) l.word (word_after (act_of p) s x)
+named recursive l n us p x s m e h = subst (λ k. IsMove recursive k n us p (next_phase p s) l.word (word_after (act_of p) s x)) e h.0
 
 pub stays_are_steps : StaysAreSteps
-stays_are_steps l t n spot us p x s h told e =
-    let m = named l n us p x s Stays e (moved l t n spot us p x h s told) in
-    (m.0 spot, m.1 ∙ number_is l t n spot us p x h)
+stays_are_steps recursive l t n spot us p x s h told e =
+    let m = named recursive l n us p x s Stays e (moved recursive l t n spot us p x h s told) in
+    (m.0 spot, m.1 ∙ number_is recursive l t n spot us p x h)
 
 -- a move that the thread itself makes
 abbrev pub IsOwn : Move → Type 0
@@ -171,19 +187,19 @@ Clears LookUpgradable l = NobodyIs Inside1 l.roles
 Clears (LookOwed o) l = NobodyIs Inside1 l.roles
 Clears k l = Unit {0}
 
-may_all : (l : Lock) → IsSound l → (k : Plain) → May false k l.word (λ c. 0) → Clears k l → May false k l.word (λ c. total c l.roles)
-may_all l h (Enter1 m c) may clear = nobody Inside1 l.roles clear
-may_all l h (Reenter1 m) may clear = nobody Inside1 l.roles clear
-may_all l h (ReenterTaken1 m by how) may clear = nobody Inside1 l.roles clear
-may_all l h (Enter2 f c) may clear = nobody Inside2 l.roles clear
-may_all l h (Reenter2 f) may clear = nobody Inside2 l.roles clear
-may_all l h (ReenterTaken2 f by) may clear = nobody Inside2 l.roles clear
-may_all l h (Look2 n) may clear = nobody Inside2 l.roles clear
-may_all l h (Mask2 n us) may clear = sym h.waiting2.count ∙ ap (λ q. length q) clear
-may_all l h LookExclusive may clear = nobody Inside1 l.roles clear
-may_all l h LookUpgradable may clear = nobody Inside1 l.roles clear
-may_all l h (LookOwed o) may clear = nobody Inside1 l.roles clear
-may_all l h k may clear = may
+may_all : (recursive : Bool) (l : Lock) → IsSound l → (k : Plain) → May recursive k l.word (λ c. 0) → Clears k l → May recursive k l.word (λ c. total c l.roles)
+may_all recursive l h (Enter1 m c) may clear = nobody Inside1 l.roles clear
+may_all recursive l h (Reenter1 m) may clear = nobody Inside1 l.roles clear
+may_all recursive l h (ReenterTaken1 m by how) may clear = nobody Inside1 l.roles clear
+may_all recursive l h (Enter2 f c) may clear = nobody Inside2 l.roles clear
+may_all recursive l h (Reenter2 f) may clear = nobody Inside2 l.roles clear
+may_all recursive l h (ReenterTaken2 f by) may clear = nobody Inside2 l.roles clear
+may_all recursive l h (Look2 n) may clear = nobody Inside2 l.roles clear
+may_all recursive l h (Mask2 n us) may clear = sym h.waiting2.count ∙ ap (λ q. length q) clear
+may_all recursive l h LookExclusive may clear = nobody Inside1 l.roles clear
+may_all recursive l h LookUpgradable may clear = nobody Inside1 l.roles clear
+may_all recursive l h (LookOwed o) may clear = nobody Inside1 l.roles clear
+may_all recursive l h k may clear = may
 
 -- what the act finds is what the step asks for
 abbrev pub MoveClears : Move → Lock → Type 0
@@ -241,23 +257,23 @@ finds l n us (Stores a left) x (ActResult.Stored fair) told found = tt
 finds l n us p x s told found = tt
 
 pub makes_are_steps : MakesAreSteps
-makes_are_steps l t n spot us p x s k h told e found =
-    let m = named l n us p x s (Makes k) e (moved l t n spot us p x h s told) in
+makes_are_steps recursive l t n spot us p x s k h told e found =
+    let m = named recursive l n us p x s (Makes k) e (moved recursive l t n spot us p x h s told) in
     let q = next_phase p s in
     let w = word_after (act_of p) s x in
     let own : IsOwn (move n us p s) = subst IsOwn (sym e) tt in
     let from_k : slice_get l.roles t ≡ Some (from k) = h.here ∙ ap (λ r. Some r) (awake n spot us p x s told own ∙ m.from) in
-    let may : May false k l.word (λ c. total c l.roles) = may_all l h.sound k m.may (subst (λ c. MoveClears c l) e (finds l n us p x s told found)) in
-    let same : written k l.word ≡ word_of w = same_word (after t (Alone k) l) (step_sound false t (Alone k) l h.sound (from_k, may)) w m.written in
+    let may : May recursive k l.word (λ c. total c l.roles) = may_all recursive l h.sound k m.may (subst (λ c. MoveClears c l) e (finds l n us p x s told found)) in
+    let same : written k l.word ≡ word_of w = same_word (after t (Alone k) l) (step_sound recursive t (Alone k) l h.sound (from_k, may)) w m.written in
     ((from_k, may), λ i. record l { word = same i; roles = slice_set l.roles t (sym m.to i) })
 
 -- one that joins
 pub joins_are_steps : JoinsAreSteps
 joins_are_steps = record {
-  first = λ l t n spot us want x h.
-      let m = (moved l t n spot us (Appends want) x h ActResult.Made tt).0 in
+  first = λ recursive l t n spot us want x h.
+      let m = (moved recursive l t n spot us (Appends want) x h ActResult.Made tt).0 in
       ((h.here ∙ ap (λ r. Some r) m.0, tt), λ i. record l { word = h.word i; roles = slice_set l.roles t (sym m.1 i); first = l.first ++ t ∷ [] });
-  second = λ l t n spot us rounds x h.
-      let m = (moved l t n spot us (DrainAppends rounds) x h ActResult.Made tt).0 in
+  second = λ recursive l t n spot us rounds x h.
+      let m = (moved recursive l t n spot us (DrainAppends rounds) x h ActResult.Made tt).0 in
       ((h.here ∙ ap (λ r. Some r) m.0, tt), λ i. record l { word = h.word i; roles = slice_set l.roles t (sym m.1 i); second = l.second ++ t ∷ [] });
 }

@@ -1,5 +1,5 @@
 -- A thread that goes through a list takes a waiter: a step of the rules.
-use Rattle.std.proofs.Common.{◌≡◌, ℕ, false, List, [], ◌∷◌, ◌++◌, Some, slice_get, slice_set, remove, refl, sym, ap, ◌∙◌, subst, arith, inl, inr, ◌⊎◌}
+use Rattle.std.proofs.Common.{◌≡◌, ℕ, Bool, false, List, [], ◌∷◌, ◌++◌, Some, slice_get, slice_set, remove, refl, sym, ap, ◌∙◌, subst, arith, inl, inr, ◌⊎◌}
 use Rattle.parking_lot_rules.specs.Roles.{Mode, Shares, Role, Mark}
 use Rattle.parking_lot_rules.specs.Steps.{Scan, scanning, taking, holds_upgradable, look, Take, AreSkipped}
 use Rattle.parking_lot_protocol.specs.declared.rw_phase.AfterWake.{AfterWake}
@@ -50,8 +50,8 @@ scan_holds n a us = by_rest a.rest
     by_rest AgainExclusive = refl
 
 pub takes_are_steps : TakesAreSteps
-takes_are_steps l t n spot us a x token left i v h told may =
-    let m = (moved l t n spot us (Scans a) x h (seen.Took (Some token) left) told).0 v in
+takes_are_steps recursive l t n spot us a x token left i v h told may =
+    let m = (moved recursive l t n spot us (Scans a) x h (seen.Took (Some token) left) told).0 v in
     let is : m.0 ≡ scan_of n a us = same_scan m.0 (scan_of n a us) (sym m.1.from) in
     let s = scan_of n a us in
     let held = sym (scan_holds n a us) in
@@ -81,7 +81,7 @@ tokens_tell (want.Shared recursive) = (inl refl, refl)
 tokens_tell want.Exclusive = (inr (inl refl), refl)
 
 pub writers_are_taken : WritersAreTaken
-writers_are_taken l t n spot us rest x token left v h at waits =
+writers_are_taken recursive l t n spot us rest x token left v h at waits =
     let none : us ≡ [] = h.prepared in
     let here : slice_get l.roles t ≡ Some (record { owns = Shares n; does = rules.Scans2 [] }) = h.here in
     let to : role n Listed (us ++ v ∷ []) (next_phase (TakeWriter rest) (seen.Took (Some token) left)) ≡ record { owns = Shares n; does = rules.Scans2 (v ∷ []) } = ap (λ vs. record { owns = Shares n; does = rules.Scans2 (vs ++ v ∷ []) }) none in
@@ -97,15 +97,15 @@ sleeps_first n us (LockMode.Shared recursive) z = record {
 }
 sleeps_first n us LockMode.Exclusive z = record { listed = ap (λ k. role k Listed us (Sleeps LockMode.Exclusive)) z; off = λ t mark. ap (λ k. role k (Off t mark) us (Sleeps LockMode.Exclusive)) z; token = inr refl }
 
-stands : (n : ℕ) (us : List ℕ) (p : RwPhase) (key : ℕ) (park : ParkToken) → rw_prepared n us p → rw_stance p ≡ stance.Asleep key park → ((key ≡ 0) × SleepsFirst n us p park) ⊎ ((key ≡ 1) × SleepsSecond n us p)
-stands n us (Sleeps want) key park z e =
+stands : (recursive : Bool) (n : ℕ) (us : List ℕ) (p : RwPhase) (key : ℕ) (park : ParkToken) → rw_prepared recursive n us p → rw_stance p ≡ stance.Asleep key park → ((key ≡ 0) × SleepsFirst n us p park) ⊎ ((key ≡ 1) × SleepsSecond n us p)
+stands recursive n us (Sleeps want) key park z e =
     let there : key ≡ 0 = cc in
     let token : record { 0 = share_of want } ≡ park = cc in
     inl (there, subst (λ (t : ParkToken). SleepsFirst n us (Sleeps want) t) token (sleeps_first n us want z))
-stands n us (DrainSleeps rounds) key park z e =
+stands recursive n us (DrainSleeps rounds) key park z e =
     let there : key ≡ 1 = cc in
     inr (there, record { listed = ap (λ k. role k Listed us (DrainSleeps rounds)) z; off = λ t mark. ap (λ k. role k (Off t mark) us (DrainSleeps rounds)) z })
-stands n us p key park z e = absurd (cc)
+stands recursive n us p key park z e = absurd (cc)
 
 takes_first : (a : Scanning) (mode : rules.Mode) (token : ℕ) → wake_answer (sum_of a) token ≡ answer_to (look a.upgradable a.writer mode) → a.upgradable ≡ false → a.writer ≡ false → wake_answer (sum_of a) token ≡ Unpark
 takes_first a mode token e u w = e ∙ ap (λ b. answer_to (look b a.writer mode)) u ∙ ap (λ b. answer_to (look false b mode)) w
@@ -144,13 +144,13 @@ outcome_owned n Outcome.FreedShared = refl
 outcome_owned n Outcome.FreedExclusive = refl
 
 pub ends_are_steps : EndsAreSteps
-ends_are_steps l t n spot us (Refuses want) x h e = ((h.here, tt), λ i. record l { word = h.word i; roles = slice_set l.roles t (record { owns = Shares n; does = rules.Idle }) })
-ends_are_steps l t n spot us (Finishes rest) x h e =
+ends_are_steps recursive l t n spot us (Refuses want) x h e = ((h.here, tt), λ i. record l { word = h.word i; roles = slice_set l.roles t (record { owns = Shares n; does = rules.Idle }) })
+ends_are_steps recursive l t n spot us (Finishes rest) x h e =
     let o = rest_owned n rest in
     ((h.here ∙ ap (λ vs. Some (record { owns = owned_at_last n rest; does = rules.Wakes vs })) h.prepared.0, tt), λ i. record l { word = h.word i; roles = slice_set l.roles t (record { owns = sym o i; does = rules.Idle }) })
-ends_are_steps l t n spot us (Ends o) x h e = ap (λ k. record { owns = k; does = rules.Idle }) (outcome_owned n o)
-ends_are_steps l t n spot us Invalid x h e = refl
-ends_are_steps l t n spot us p x h e = absurd (cc)
+ends_are_steps recursive l t n spot us (Ends o) x h e = ap (λ k. record { owns = k; does = rules.Idle }) (outcome_owned n o)
+ends_are_steps recursive l t n spot us Invalid x h e = refl
+ends_are_steps recursive l t n spot us p x h e = absurd (cc)
 
 pub answers_are_last : AnswersAreLast
 answers_are_last (Refuses want) answer b e = refl

@@ -53,18 +53,18 @@ is_over l s left same (inl writer) = inl writer
 is_over l s left same (inr none) = let z = none_left l.first (same ∙ none) in inr (λ j u r below here there. absurd (omega arith))
 
 pub stores_are_steps : StoresAreSteps
-stores_are_steps l t n spot us a left x fair h same over =
+stores_are_steps recursive l t n spot us a left x fair h same over =
     let p = Stores a left in
     let e = ending_of a fair in
     let s = scan_of n a us in
     let w = word_after (act_of p) (seen.Stored fair) x in
-    let m = (moved l t n spot us p x h (seen.Stored fair) tt).0 in
+    let m = (moved recursive l t n spot us p x h (seen.Stored fair) tt).0 in
     let is : m.0 ≡ s = same_scan m.0 s (sym m.1.from) in
-    let may : Allowed false t (Store e s) l = (h.here, ap (λ (c : Scan). c.cause) (sym is) ∙ m.1.cause, m.1.may, is_over l s left same over) in
+    let may : Allowed recursive t (Store e s) l = (h.here, ap (λ (c : Scan). c.cause) (sym is) ∙ m.1.cause, m.1.may, is_over l s left same over) in
     let to : role n Listed us (next_phase p (seen.Stored fair)) ≡ record { owns = s.owns; does = rules.Stored1 us } = m.1.to ∙ ap (λ (c : Scan). record { owns = c.owns; does = rules.Stored1 us }) is in
     let said : w ≡ number (stored e s.shared s.upgradable s.writer (length l.first) l.word) =
     m.1.written ∙ ap (λ (c : Scan). number (stored e c.shared c.upgradable c.writer (bit left) l.word)) is ∙ ap number (stored_left e s.shared s.upgradable s.writer l.first left l.word same) in
-    let word : stored e s.shared s.upgradable s.writer (length l.first) l.word ≡ word_of w = same_word (after t (Store e s) l) (step_sound false t (Store e s) l h.sound may) w said in
+    let word : stored e s.shared s.upgradable s.writer (length l.first) l.word ≡ word_of w = same_word (after t (Store e s) l) (step_sound recursive t (Store e s) l h.sound may) w said in
     (may, λ j. record l { word = word j; roles = slice_set (map (settle (ends_saying e)) l.roles) t (sym to j) })
 
 pub tokens_say : TokensSay
@@ -98,25 +98,25 @@ after_wake want ws false = refl
 after_wake (LockMode.Shared recursive) ws true = refl
 after_wake LockMode.Exclusive ws true = refl
 
-wakes_one : (l : Lock) (t n : ℕ) (spot : QueuePosition) (v : ℕ) (vs : List ℕ) (rest : AfterWake) (count x : ℕ) (k : Waking) (r : Role) → Meets l t n spot (v ∷ vs) (Wakes rest count) x → slice_get l.roles v ≡ Some (waking_from k t rules.Asleep) → r ≡ waking_to k
-    → IsStep t (Wake (owned_at_last n rest) v vs k rules.Asleep) l
+wakes_one : (recursive : Bool) (l : Lock) (t n : ℕ) (spot : QueuePosition) (v : ℕ) (vs : List ℕ) (rest : AfterWake) (count x : ℕ) (k : Waking) (r : Role) → Meets recursive l t n spot (v ∷ vs) (Wakes rest count) x → slice_get l.roles v ≡ Some (waking_from k t rules.Asleep) → r ≡ waking_to k
+    → IsStep recursive t (Wake (owned_at_last n rest) v vs k rules.Asleep) l
     (record l { word = word_of x; roles = slice_set (slice_set l.roles v r) t (role n Listed vs (next_phase (Wakes rest count) seen.Made)) })
-wakes_one l t n spot v vs rest count x k r h from to =
+wakes_one recursive l t n spot v vs rest count x k r h from to =
     let own = wakes_role n vs rest count in
     ((h.here, from, refl), λ i. record l { word = h.word i; roles = slice_set (slice_set l.roles v (sym to i)) t (sym own i) })
 
 pub wakes_are_steps : WakesAreSteps
-wakes_are_steps l t n spot v vs rest count x m mark ws (Sleeps want) key park token h at asleep nothing said =
+wakes_are_steps recursive l t n spot v vs rest count x m mark ws (Sleeps want) key park token h at asleep nothing said =
     let b = token.0 == 1 in
     let from : role m (Off t mark) ws (Sleeps want) ≡ waking_from (waking want b) t rules.Asleep =
     ap (λ y. role y (Off t mark) ws (Sleeps want)) nothing ∙ ap (λ y. role 0 (Off t y) ws (Sleeps want)) said ∙ before_wake want t b in
     let to : role m Listed ws (next_phase (Sleeps want) (seen.Woken token)) ≡ waking_to (waking want b) = ap (λ y. role y Listed ws (next_phase (Sleeps want) (seen.Woken token))) nothing ∙ after_wake want ws b in
-    (waking want b, wakes_one l t n spot v vs rest count x (waking want b) _ h (at ∙ ap (λ r. Some r) from) to)
-wakes_are_steps l t n spot v vs rest count x m mark ws (DrainSleeps rounds) key park token h at asleep nothing said =
+    (waking want b, wakes_one recursive l t n spot v vs rest count x (waking want b) _ h (at ∙ ap (λ r. Some r) from) to)
+wakes_are_steps recursive l t n spot v vs rest count x m mark ws (DrainSleeps rounds) key park token h at asleep nothing said =
     let from : role m (Off t mark) ws (DrainSleeps rounds) ≡ waking_from (Recheck false) t rules.Asleep = ap (λ y. role y (Off t mark) ws (DrainSleeps rounds)) nothing in
     let to : role m Listed ws (next_phase (DrainSleeps rounds) (seen.Woken token)) ≡ waking_to (Recheck false) = ap (λ y. role y Listed ws (next_phase (DrainSleeps rounds) (seen.Woken token))) nothing in
-    (Recheck false, wakes_one l t n spot v vs rest count x (Recheck false) _ h (at ∙ ap (λ r. Some r) from) to)
-wakes_are_steps l t n spot v vs rest count x m mark ws q key park token h at asleep nothing said = absurd (cc)
+    (Recheck false, wakes_one recursive l t n spot v vs rest count x (Recheck false) _ h (at ∙ ap (λ r. Some r) from) to)
+wakes_are_steps recursive l t n spot v vs rest count x m mark ws q key park token h at asleep nothing said = absurd (cc)
 
 pub woken_are_told : WokenAreTold
 woken_are_told l t v own has us mode rules.Open sound waker there e =

@@ -5,7 +5,7 @@ use Rattle.parking_lot_core_lot.specs.declared.parking.ParkToken.{ParkToken}
 use Rattle.parking_lot_core_lot.specs.declared.place.Waiter.{Waiter}
 use Rattle.parking_lot_protocol.specs.declared.rw_phase.RwPhase.{RwPhase}
 use Rattle.parking_lot_protocol.specs.declared.rw_phase.LockMode.TheVariants as want
-use Rattle.parking_lot_world.specs.declared.calls.LockKind.TheVariants as kind
+use Rattle.parking_lot_world.specs.Kinds.{AsRw, manner_of, AsMutex, recursive_in}
 use Rattle.parking_lot_world.specs.declared.open_call.Call.{Call}
 use Rattle.parking_lot_world.specs.declared.seat.Core.{Core}
 use Rattle.parking_lot_world.specs.Rows.{State, call_at, is_by, taken_by}
@@ -45,22 +45,27 @@ module _ (s : State) (h : FitsTogether s) (t : ℕ) (c : Call) (here : call_at s
       z : Sleeper s t k c w
       z = sleeper s t c h.lots here k nth w (small_key c.core k Takes from) from at
 
-      of_rw : (y : Core) → stance y ≡ Asleep k w.token → IsOfKind (slice_get s.kinds c.lock) y → slice_get s.kinds c.lock ≡ Some kind.Rw → (w.token.0 ≡ 16) ⊎ (w.token.0 ≡ 8)
+      of_rw : (y : Core) → stance y ≡ Asleep k w.token → IsOfKind (slice_get s.kinds c.lock) y → manner_of (slice_get s.kinds c.lock) ≡ Some AsRw → (w.token.0 ≡ 16) ⊎ (w.token.0 ≡ 8)
       of_rw (Core.Rw y) e of here' = sleeper_token y.phase k w.token e
       of_rw (Core.Mutex y) e of here' = absurd (other_kind (sym of ∙ here'))
         where
-          other_kind : Some kind.Mutex ≡ Some kind.Rw → ⊥
+          other_kind : Some AsMutex ≡ Some AsRw → ⊥
+          other_kind e = cc
+      of_rw (Core.Late y) e of here' = absurd (other_kind (sym of ∙ here'))
+        where
+          other_kind : Some AsMutex ≡ Some AsRw → ⊥
           other_kind e = cc
 
-      by_phase : (p : RwPhase) → (rw_keeps c.others p) → taken_count c.core ≡ rw_taken p → ((w.token.0 ≡ 16) ⊎ (w.token.0 ≡ 8)) → rw_counts p w.token
+      by_phase : (p : RwPhase) → (rw_keeps (recursive_in s.kinds c.lock) c.others p) → taken_count c.core ≡ rw_taken p → ((w.token.0 ≡ 16) ⊎ (w.token.0 ≡ 8)) → rw_counts p w.token
       by_phase (RwPhase.Scans a) keeps count (inl e) = let less = few in inl (e, omega arith)
       by_phase (RwPhase.Scans a) keeps count (inr e) = inr (e, keeps.1)
       by_phase p keeps count token = tt
 
       by_core : (x : Core) → c.core ≡ x → Counts x w.token
       by_core (Core.Mutex x) e = tt
+      by_core (Core.Late p) e = tt
       by_core (Core.Rw x) e =
-          let ready = subst (IsPrepared c.others) e (h.rules.prepared t c here) in
+          let ready = subst (IsPrepared (recursive_in s.kinds c.lock) c.others) e (h.rules.prepared t c here) in
           by_phase x.phase ready.1 (ap taken_count e)
           (of_rw z.call.core z.asleep
           (subst (λ (j : ℕ). IsOfKind (slice_get s.kinds j) z.call.core) z.lock (h.rules.kinds w.thread z.call z.there))

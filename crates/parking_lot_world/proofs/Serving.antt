@@ -1,5 +1,5 @@
 -- Where threads wait, somebody is in debt; and where a thread is in a call, somebody can move.
-use Rattle.std.proofs.Common.{◌≡◌, ◌≢◌, ℕ, zero, suc, ◌<◌, ◌⊎◌, inl, inr, cond, Bool, true, false, not, List, length, Option, Some, None, slice_get, refl, sym, ap, ◌∙◌, subst}
+use Rattle.std.proofs.Common.{◌≡◌, ◌≢◌, ℕ, zero, suc, ◌<◌, ◌≤◌, ◌||◌, arith, ◌⊎◌, inl, inr, cond, Bool, true, false, not, List, length, Option, Some, None, slice_get, refl, sym, ap, ◌∙◌, subst}
 use Rattle.std.specs.Prelude.{IsTrue, is_some}
 use Rattle.std.specs.Option.{option_and_then, option_map_or}
 use Rattle.std.proofs.lemmas.Bool.{both_ways, cases_eq}
@@ -12,6 +12,7 @@ use Rattle.parking_lot_rules.specs.MutexLaws as mutex_laws
 use Rattle.parking_lot_rules.proofs.Following as rw_follow
 use Rattle.parking_lot_rules.proofs.MutexFollowing as mutex_follow
 use Rattle.parking_lot_protocol.specs.declared.act.Act.{Act}
+use Rattle.parking_lot_protocol.specs.declared.mutex_core.MutexCore.{MutexCore}
 use Rattle.parking_lot_protocol.specs.declared.mutex_phase.MutexPhase.{MutexPhase}
 use Rattle.parking_lot_protocol.specs.declared.rw_phase.RwPhase.{RwPhase}
 use Rattle.parking_lot_protocol.specs.declared.act.CoreAnswer.TheVariants as answer
@@ -20,25 +21,31 @@ use Rattle.parking_lot_protocol.specs.MutexRules as rules_of_mutex
 use Rattle.parking_lot_protocol.specs.RwRules as rules_of_rw
 use Rattle.parking_lot_protocol.specs.MutexTable as of_mutex
 use Rattle.parking_lot_protocol.specs.RwTable as of_rw
+use Rattle.parking_lot_world.specs.Kinds.{AsMutex, AsRw, manner_of, Manner}
 use Rattle.parking_lot_world.specs.declared.calls.OwnMode.{OwnMode}
 use Rattle.parking_lot_world.specs.declared.seat.QueuePosition.{QueuePosition}
+use Rattle.parking_lot_world.specs.declared.seat.LatePhase.{LatePhase}
 use Rattle.parking_lot_world.specs.declared.seat.Core.{Core}
 use Rattle.parking_lot_world.specs.declared.open_call.Call.{Call}
 use Rattle.parking_lot_world.specs.CallViews.{mutex_mode, rw_mode}
-use Rattle.parking_lot_world.specs.Machines.{can_move, can_move_in, is_asleep, is_possible, is_taken, sleeps}
-use Rattle.parking_lot_world.specs.RowFits.{FitsTogether, IsOfKind, Stands, Seated}
-use Rattle.parking_lot_world.specs.Rows.{State, first_of_all, mutex_spot, rw_spot, any_lock, mutex_at, rw_lock_at, call_at, everybody, hold_at, lock_at, mutex_role_at, rw_role_at, taken_by}
+use Rattle.parking_lot_world.specs.Machines.{can_move, can_move_in, goes_late, late_goes, is_asleep, is_possible, is_taken, sleeps}
+use Rattle.parking_lot_world.specs.RowFits.{FitsTogether, IsOfKind, IsOfManner, IsTaken, Stands, Seated}
+use Rattle.parking_lot_world.specs.Rows.{State, first_of_all, mutex_spot, rw_spot, lock_as, mutex_at, rw_lock_at, call_at, everybody, hold_at, lock_at, mutex_role_at, rw_role_at, taken_by}
 use Rattle.parking_lot_world.specs.SoundLaws.{IsApart, SomebodyCanMove, SomebodyKeeps}
-use Rattle.parking_lot_world.specs.Stances.{Stance, Out, In, Doing, core_act, mutex_stance, rw_stance, stance}
+use Rattle.parking_lot_world.specs.Stances.{Stance, Out, In, Doing, late_act, late_stance, taken_count, mutex_taken, rw_taken, core_act, mutex_stance, rw_stance, stance}
 use Rattle.parking_lot_world.specs.Stances as stances
 use Rattle.parking_lot_world.specs.Worlds.{mode_in}
 use Rattle.parking_lot_world.proofs.Everybody.{get-all, within-all, was-all}
-use Rattle.parking_lot_world.specs.declared.calls.LockKind.{LockKind}
 use Rattle.parking_lot_world.proofs.Viewing.{apart_role}
-use Rattle.parking_lot_world.proofs.KindTable.{Kind, of_mutexes, of_rws, role_at, role_now}
+use Rattle.parking_lot_world.proofs.KindTable.{MutexCall, Plain, Late, mutex_call, Kind, of_mutexes, of_rws, role_at, role_now}
+use Rattle.parking_lot_world.proofs.Carrying.{taken_some}
 use Rattle.parking_lot_world.proofs.Meeting.{in_range, mutex_sound, rw_sound}
 
 -- ACTS
+
+pub or_else : (a : Bool) {b : Bool} → b ≡ true → (a || b) ≡ true
+or_else true e = refl
+or_else false e = e
 
 pub possible_alone : (taken : ℕ → Bool) (a : Act) → sleeps a ≡ false → ((k : ℕ) → a ≡ Act.Enter k → taken k ≡ false) → is_possible taken a ≡ true
 possible_alone taken Act.Sleep e free = absurd cc
@@ -73,9 +80,20 @@ rw_inside (RwPhase.Stores s left) k how taken e = refl
 rw_inside (RwPhase.Leaves rest count handed) k how taken e = refl
 rw_inside p k how taken e = absurd cc
 
-inside_possible : (c : Core) (k : ℕ) (how : Doing) (taken : ℕ → Bool) → stance c ≡ In k how → is_possible taken (core_act c) ≡ true
-inside_possible (Core.Mutex c) k how taken e = mutex_inside c.phase k how taken e
-inside_possible (Core.Rw c) k how taken e = rw_inside c.phase k how taken e
+-- one whose moment has passed, too
+late_inside : (b : Bool) (at : QueuePosition) (p : LatePhase) (taken : ℕ → Bool) (k : ℕ) (how : Doing) → late_stance p ≡ In k how → (late_goes b at p || is_possible taken (late_act p)) ≡ true
+late_inside b QueuePosition.Listed LatePhase.Quits taken k how e = refl
+late_inside b (QueuePosition.Off by said) LatePhase.Quits taken k how e = refl
+late_inside b QueuePosition.Listed LatePhase.Masks taken k how e = refl
+late_inside b (QueuePosition.Off by said) LatePhase.Masks taken k how e = refl
+late_inside b QueuePosition.Listed LatePhase.Leaves taken k how e = refl
+late_inside b (QueuePosition.Off by said) LatePhase.Leaves taken k how e = refl
+late_inside b at p taken k how e = absurd cc
+
+inside_possible : (s : State) (d : Call) (c : Core) (k : ℕ) (how : Doing) → stance c ≡ In k how → (goes_late s d c || is_possible (is_taken s d) (core_act c)) ≡ true
+inside_possible s d (Core.Late p) k how e = late_inside (is_taken s d 0) d.spot p (is_taken s d) k how e
+inside_possible s d (Core.Mutex c) k how e = mutex_inside c.phase k how (is_taken s d) e
+inside_possible s d (Core.Rw c) k how e = rw_inside c.phase k how (is_taken s d) e
 
 -- A SLEEPER, AS THE RULES SEE IT
 
@@ -114,6 +132,27 @@ rw_rests (Queued2 from Asleep) e = refl
 rw_rests (Taken2 from by Asleep) e = refl
 rw_rests p e = absurd cc
 
+-- who has taken another doesn't sleep
+mutex_takers : (p : MutexPhase) → 1 ≤ mutex_taken p → sleeps (of_mutex.act_of p) ≡ false
+mutex_takers (MutexPhase.Stores giving took left) some = refl
+mutex_takers (MutexPhase.Leaves giving took handed) some = refl
+mutex_takers (MutexPhase.Wakes giving) some = refl
+mutex_takers p some = absurd (omega (arith, some))
+
+rw_takers : (p : RwPhase) → 1 ≤ rw_taken p → sleeps (of_rw.act_of p) ≡ false
+rw_takers (RwPhase.ClearWriterParked rest took) some = refl
+rw_takers (RwPhase.LeaveWriterWakeSection rest took) some = refl
+rw_takers (RwPhase.Scans s) some = refl
+rw_takers (RwPhase.Stores s left) some = refl
+rw_takers (RwPhase.Leaves rest count handed) some = refl
+rw_takers (RwPhase.Wakes rest count) some = refl
+rw_takers p some = absurd (omega (arith, some))
+
+takers_wake : (c : Core) → 1 ≤ taken_count c → sleeps (core_act c) ≡ false
+takers_wake (Core.Mutex c) some = mutex_takers c.phase some
+takers_wake (Core.Rw c) some = rw_takers c.phase some
+takers_wake (Core.Late p) some = absurd (omega (arith, some))
+
 -- one that owns a lock and does nothing there owns it in some mode
 keeps_rw : (o : Owned) → o ≢ Shares 0 → (a : OwnMode) × (rw_mode (record { owns = o; does = Idle }) ≡ Some a)
 keeps_rw (Shares zero) ne = absurd (ne refl)
@@ -132,9 +171,9 @@ module _ (s : State) (h : FitsTogether s) where
     abbrev whose : ℕ
     whose = (h.lots.opened o is).0
 
-    at_work : (c : Call) (a : Stance) → stance c.core ≡ a → Stands whose c.lock a c.spot (place_at s.lot.places whose) s.lot.section → is_possible (is_taken s c) (core_act c.core) ≡ true
+    at_work : (c : Call) (a : Stance) → stance c.core ≡ a → Stands whose c.lock a c.spot (place_at s.lot.places whose) s.lot.section → can_move_in s (Some c) ≡ true
     at_work c Out e st = absurd (st.1 o is (h.lots.opened o is).1)
-    at_work c (In k how) e st = inside_possible c.core k how (is_taken s c) e
+    at_work c (In k how) e st = inside_possible s c c.core k how e
     at_work c (stances.Asleep k token) e st = absurd (st.1 o is (h.lots.opened o is).1)
 
     goes_on : (call : Option Call) → Seated whose call (place_at s.lot.places whose) s.lot.section → can_move_in s call ≡ true
@@ -149,7 +188,7 @@ module _ (s : State) (h : FitsTogether s) where
   awake_moves t c here awake = go s.lot.section refl
     where
       go : (o : Option Section) → s.lot.section ≡ o → (u : ℕ) × (can_move s u ≡ true)
-      go None is = (t, ap (can_move_in s) here ∙ possible_alone (is_taken s c) (core_act c.core) awake (λ k e. ap is_some is))
+      go None is = (t, ap (can_move_in s) here ∙ or_else (goes_late s c c.core) (possible_alone (is_taken s c) (core_act c.core) awake (λ k e. ap is_some is)))
       go (Some o) is = inside_moves o is
 
   -- WHO IS UP AT A LOCK WHERE A THREAD SLEEPS
@@ -169,7 +208,7 @@ module _ (s : State) (h : FitsTogether s) where
       (rests : (q : R) → asleep q ≡ true → at_work_there q ≡ false)
       (idles : (q : R) → owner q → asleep q ≡ false)
       (apart : (v : ℕ) → IsApart i (call_at s v) → at_work_there (role_at v) ≡ false)
-      (sleeper : (v : ℕ) (d : Call) → call_at s v ≡ Some d → d.lock ≡ i → sleeps (core_act d.core) ≡ true → asleep (role_at v) ≡ true)
+      (sleeper : (v : ℕ) (d : Call) → call_at s v ≡ Some d → d.lock ≡ i → sleeps (core_act d.core) ≡ true → Moves ⊎ (asleep (role_at v) ≡ true))
       (keeps : (v : ℕ) → v < length s.calls → owner (role_at v) → (a : OwnMode) × (mode_in (lock_at s i) v ≡ Some a)) where
     up_there : (v : ℕ) (q : R) → slice_get (everybody role_at s) v ≡ Some q → (IsTrue (at_work_there q) ⊎ owner q) → Moves ⊎ SomebodyKeeps s i
     up_there v q at does = elim (by_call i v) [
@@ -185,27 +224,64 @@ module _ (s : State) (h : FitsTogether s) where
 
         go : (d : Call) → call_at s v ≡ Some d → d.lock ≡ i → (b : Bool) → sleeps (core_act d.core) ≡ b → Moves ⊎ SomebodyKeeps s i
         go d there same false e = inl (awake_moves v d there e)
-        go d there same true e = let rest : asleep q ≡ true = ap asleep is ∙ sleeper v d there same e in elim does [
-          | inl works ↦ absurd (both_ways (at_work_there q) (rests q rest) works)
-          | inr owns ↦ absurd (both_ways (asleep q) (idles q owns) rest)
+        go d there same true e = elim (sleeper v d there same e) [
+          | inl moves ↦ inl moves
+          | inr sleeps_there ↦
+              let rest : asleep q ≡ true = ap asleep is ∙ sleeps_there in
+              elim does [
+                | inl works ↦ absurd (both_ways (at_work_there q) (rests q rest) works)
+                | inr owns ↦ absurd (both_ways (asleep q) (idles q owns) rest)
+              ]
         ]
 
   -- the role of a sleeper, at a lock of a kind whose calls that sleep are asleep
   sleeper : {C R L : Type 0} (K : Kind C R L) (asleep : R → Bool) → ((n : ℕ) (at : QueuePosition) (us : List ℕ) (k : C) → sleeps (core_act (K.core k)) ≡ true → asleep (K.plays n at us k) ≡ true)
-      → (i v : ℕ) (d : Call) → slice_get s.kinds i ≡ Some K.kind → call_at s v ≡ Some d → d.lock ≡ i → sleeps (core_act d.core) ≡ true → asleep (role_at K s i v) ≡ true
+      → (i v : ℕ) (d : Call) → manner_of (slice_get s.kinds i) ≡ Some K.manner → call_at s v ≡ Some d → d.lock ≡ i → sleeps (core_act d.core) ≡ true → asleep (role_at K s i v) ≡ true
   sleeper K asleep so i v d of there same e =
-      let k = K.only d.core (subst (λ (o : Option LockKind). IsOfKind o d.core) (ap (slice_get s.kinds) same ∙ of) (h.rules.kinds v d there)) in
+      let k = K.only d.core (subst (λ (o : Option Manner). IsOfManner o d.core) (ap (λ j. manner_of (slice_get s.kinds j)) same ∙ of) (h.rules.kinds v d there)) in
       subst (λ j. asleep (role_at K s j v) ≡ true) same
       (ap asleep (role_now K s v (taken_by s.wakes v) d k.0 there refl k.1) ∙ so d.others d.spot (taken_by s.wakes v) k.0 (ap (λ x. sleeps (core_act x)) (sym k.1) ∙ e))
 
-  rw_sleeper : (i v : ℕ) (d : Call) → slice_get s.kinds i ≡ Some LockKind.Rw → call_at s v ≡ Some d → d.lock ≡ i → sleeps (core_act d.core) ≡ true → rw_laws.is_asleep (rw_role_at s i v).does ≡ true
+  rw_sleeper : (i v : ℕ) (d : Call) → manner_of (slice_get s.kinds i) ≡ Some AsRw → call_at s v ≡ Some d → d.lock ≡ i → sleeps (core_act d.core) ≡ true → rw_laws.is_asleep (rw_role_at s i v).does ≡ true
   rw_sleeper = sleeper of_rws (λ q. rw_laws.is_asleep q.does) (λ n at us k e. rw_sleeps at us k.phase e)
 
-  mutex_sleeper : (i v : ℕ) (d : Call) → slice_get s.kinds i ≡ Some LockKind.Mutex → call_at s v ≡ Some d → d.lock ≡ i → sleeps (core_act d.core) ≡ true → mutex_laws.is_asleep (mutex_role_at s i v).does ≡ true
-  mutex_sleeper = sleeper of_mutexes (λ q. mutex_laws.is_asleep q.does) (λ n at us k e. mutex_sleeps at us k.phase e)
+  -- one whose moment has passed can come back, or who took it can move, or the one inside a section
+  late_sleeps : (v : ℕ) (d : Call) (at : QueuePosition) → call_at s v ≡ Some d → d.core ≡ Core.Late LatePhase.Expires → d.spot ≡ at → Moves
+  late_sleeps v d QueuePosition.Listed there e listed = go s.lot.section refl
+    where
+      go : (o : Option Section) → s.lot.section ≡ o → Moves
+      go None is =
+          (v, ap (can_move_in s) there ∙ ap (λ x. goes_late s d x || is_possible (is_taken s d) (core_act x)) e ∙ ap (λ at. late_goes (is_taken s d 0) at LatePhase.Expires || false) listed ∙ ap (λ o. not (is_some o) || false) is)
+      go (Some o) is = inside_moves o is
+  late_sleeps v d (QueuePosition.Off by said) there e off =
+      let owed = h.wakes.off v by d said there off in
+      let taken : IsTaken s owed.1 = h.lots.woken owed.0 owed.1 owed.2 in
+      let some : 1 ≤ length (taken_by s.wakes owed.1.by) = taken_some s.wakes owed.0 owed.1 owed.2 in
+      awake_moves owed.1.by taken.taker taken.there (takers_wake taken.taker.core (omega (arith, some, h.lots.counted owed.1.by taken.taker taken.there)))
+
+  late_moves : (v : ℕ) (d : Call) (p : LatePhase) → call_at s v ≡ Some d → d.core ≡ Core.Late p → sleeps (late_act p) ≡ true → Moves
+  late_moves v d LatePhase.Expires there e asleep = late_sleeps v d d.spot there e refl
+  late_moves v d LatePhase.Quits there e asleep = (v, ap (can_move_in s) there ∙ ap (λ x. goes_late s d x || is_possible (is_taken s d) (core_act x)) e ∙ goes d.spot)
+    where
+      goes : (at : QueuePosition) → (late_goes (is_taken s d 0) at LatePhase.Quits || false) ≡ true
+      goes QueuePosition.Listed = refl
+      goes (QueuePosition.Off by said) = refl
+  late_moves v d p there e asleep = absurd cc
+
+  plain_sleeper : (i v : ℕ) (d : Call) (k : MutexCore) → call_at s v ≡ Some d → d.lock ≡ i → d.core ≡ Core.Mutex k → sleeps (core_act d.core) ≡ true → mutex_laws.is_asleep (mutex_role_at s i v).does ≡ true
+  plain_sleeper i v d k there same e asleep =
+      subst (λ j. mutex_laws.is_asleep (mutex_role_at s j v).does ≡ true) same
+      (ap (λ (q : mutex.Role). mutex_laws.is_asleep q.does) (role_now of_mutexes s v (taken_by s.wakes v) d (Plain k) there refl e) ∙ mutex_sleeps d.spot (taken_by s.wakes v) k.phase (ap (λ x. sleeps (core_act x)) (sym e) ∙ asleep))
+
+  mutex_sleeper : (i v : ℕ) (d : Call) → manner_of (slice_get s.kinds i) ≡ Some AsMutex → call_at s v ≡ Some d → d.lock ≡ i → sleeps (core_act d.core) ≡ true → Moves ⊎ (mutex_laws.is_asleep (mutex_role_at s i v).does ≡ true)
+  mutex_sleeper i v d of there same asleep = go (of_mutexes.only d.core (subst (λ (o : Option Manner). IsOfManner o d.core) (ap (λ j. manner_of (slice_get s.kinds j)) same ∙ of) (h.rules.kinds v d there)))
+    where
+      go : (k : MutexCall) × (d.core ≡ mutex_call k) → Moves ⊎ (mutex_laws.is_asleep (mutex_role_at s i v).does ≡ true)
+      go (Plain k, e) = inr (plain_sleeper i v d k there same e asleep)
+      go (Late p, e) = inl (late_moves v d p there e (ap (λ x. sleeps (core_act x)) (sym e) ∙ asleep))
 
   module _ (t : ℕ) (c : Call) (here : call_at s t ≡ Some c) where
-    rw_up : slice_get s.kinds c.lock ≡ Some LockKind.Rw → sleeps (core_act c.core) ≡ true → Moves ⊎ SomebodyKeeps s c.lock
+    rw_up : manner_of (slice_get s.kinds c.lock) ≡ Some AsRw → sleeps (core_act c.core) ≡ true → Moves ⊎ SomebodyKeeps s c.lock
     rw_up of asleep =
         let i = c.lock in
         let up = rw_follow.somebody_can_move (rw_lock_at s i) (rw_sound s h i of) t (rw_role_at s i t) (get-all (rw_role_at s i) (length s.calls) t (in_range s t c here)) (rw_sleeper i t c of here refl asleep) in
@@ -213,23 +289,23 @@ module _ (s : State) (h : FitsTogether s) where
         (λ q e. rw_rests q.does e)
         (λ q owns. ap rw_laws.is_asleep owns.0)
         (λ v away. ap (λ q. rw_laws.is_at_work q.does) (apart_role of_rws i (taken_by s.wakes v) (hold_at s v i) (call_at s v) away))
-        (λ v d there same e. rw_sleeper i v d of there same e)
+        (λ v d there same e. inr (rw_sleeper i v d of there same e))
         (λ v low owns.
         let held = keeps_rw (rw_role_at s i v).owns owns.1 in
-        (held.0, ap (λ o. mode_in (any_lock o s i) v) of ∙ ap (option_and_then rw_mode) (get-all (rw_role_at s i) (length s.calls) v low) ∙ ap (λ p. rw_mode (record { owns = (rw_role_at s i v).owns; does = p })) owns.0 ∙ held.1))
+        (held.0, ap (λ o. mode_in (lock_as o s i) v) of ∙ ap (option_and_then rw_mode) (get-all (rw_role_at s i) (length s.calls) v low) ∙ ap (λ p. rw_mode (record { owns = (rw_role_at s i v).owns; does = p })) owns.0 ∙ held.1))
         up.0 up.1 up.2 up.3
 
-    mutex_up : slice_get s.kinds c.lock ≡ Some LockKind.Mutex → sleeps (core_act c.core) ≡ true → Moves ⊎ SomebodyKeeps s c.lock
+    mutex_up : manner_of (slice_get s.kinds c.lock) ≡ Some AsMutex → mutex_laws.is_asleep (mutex_role_at s c.lock t).does ≡ true → Moves ⊎ SomebodyKeeps s c.lock
     mutex_up of asleep =
         let i = c.lock in
-        let up = mutex_follow.somebody_can_move (mutex_at s i) (mutex_sound s h i of) t (mutex_role_at s i t) (get-all (mutex_role_at s i) (length s.calls) t (in_range s t c here)) (mutex_sleeper i t c of here refl asleep) in
+        let up = mutex_follow.somebody_can_move (mutex_at s i) (mutex_sound s h i of) t (mutex_role_at s i t) (get-all (mutex_role_at s i) (length s.calls) t (in_range s t c here)) asleep in
         up_there i (mutex_role_at s i) (λ q. mutex_laws.is_asleep q.does) (λ q. mutex_laws.is_at_work q.does) (λ q. (q.owns ≡ true) × (q.does ≡ mutex.Idle))
         (λ q e. mutex_rests q.does e)
         (λ q owns. ap mutex_laws.is_asleep owns.1)
         (λ v away. ap (λ q. mutex_laws.is_at_work q.does) (apart_role of_mutexes i (taken_by s.wakes v) (hold_at s v i) (call_at s v) away))
         (λ v d there same e. mutex_sleeper i v d of there same e)
         (λ v low owns.
-        (OwnMode.Exclusive, ap (λ o. mode_in (any_lock o s i) v) of ∙ ap (option_and_then mutex_mode) (get-all (mutex_role_at s i) (length s.calls) v low) ∙ ap (λ p. mutex_mode (record { owns = (mutex_role_at s i v).owns; does = p })) owns.1 ∙ ap (λ b. mutex_mode (record { owns = b; does = mutex.Idle })) owns.0))
+        (OwnMode.Exclusive, ap (λ o. mode_in (lock_as o s i) v) of ∙ ap (option_and_then mutex_mode) (get-all (mutex_role_at s i) (length s.calls) v low) ∙ ap (λ p. mutex_mode (record { owns = (mutex_role_at s i v).owns; does = p })) owns.1 ∙ ap (λ b. mutex_mode (record { owns = b; does = mutex.Idle })) owns.0))
         up.0 up.1 up.2 up.3
 
     somebody : Moves ⊎ ((is_asleep s t ≡ true) × SomebodyKeeps s c.lock)
@@ -241,7 +317,8 @@ module _ (s : State) (h : FitsTogether s) where
 
         by_core : (k : Core) → c.core ≡ k → IsOfKind (slice_get s.kinds c.lock) k → sleeps (core_act c.core) ≡ true → Moves ⊎ SomebodyKeeps s c.lock
         by_core (Core.Rw k) e of asleep = rw_up of asleep
-        by_core (Core.Mutex k) e of asleep = mutex_up of asleep
+        by_core (Core.Mutex k) e of asleep = mutex_up of (plain_sleeper c.lock t c k here refl e asleep)
+        by_core (Core.Late p) e of asleep = inl (late_moves t c p here e (ap (λ x. sleeps (core_act x)) (sym e) ∙ asleep))
 
         go : (b : Bool) → sleeps (core_act c.core) ≡ b → Moves ⊎ ((is_asleep s t ≡ true) × SomebodyKeeps s c.lock)
         go false e = inl (awake_moves t c here e)

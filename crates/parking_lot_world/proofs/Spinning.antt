@@ -13,9 +13,10 @@ use Rattle.parking_lot_protocol.specs.declared.rw_phase.Draining.{Draining}
 use Rattle.parking_lot_protocol.specs.declared.rw_phase.Scanning.{Scanning}
 use Rattle.parking_lot_protocol.specs.MutexTable as of_mutex
 use Rattle.parking_lot_protocol.specs.RwTable as of_rw
+use Rattle.parking_lot_world.specs.declared.seat.LatePhase.{LatePhase}
 use Rattle.parking_lot_world.specs.declared.seat.Core.{Core}
 use Rattle.parking_lot_world.specs.Rounds.{FewRounds, IsUnderWay, mutex_rounds, rw_rounds}
-use Rattle.parking_lot_world.specs.Stances.{core_next, has_begun, mutex_begun, rw_begun}
+use Rattle.parking_lot_world.specs.Stances.{core_next, late_next, has_begun, mutex_begun, rw_begun}
 use Rattle.parking_lot_world.proofs.Beginning.{goes_on}
 use Rattle.parking_lot_rules.specs.Classes.{bit}
 
@@ -170,9 +171,19 @@ rw_on (RwPhase.Finishes AfterWake.AgainShared) (Word n) h = no_rounds
 rw_on (RwPhase.Finishes AfterWake.AgainExclusive) (Word n) h = no_rounds
 rw_on p s h = no_rounds
 
+late_on : (p : LatePhase) (s : ActResult) → FewRounds (late_next p s)
+late_on LatePhase.Expires (Woken token) = mutex_on MutexPhase.Sleeps (Woken token) no_rounds
+late_on LatePhase.Expires Entered = no_rounds
+late_on LatePhase.Quits (Took token left) = no_rounds
+late_on LatePhase.Masks (Before word) = no_rounds
+late_on LatePhase.Leaves Made = no_rounds
+late_on LatePhase.GivesUp s = no_rounds
+late_on p s = no_rounds
+
 pub spins_few : (c : Core) (s : ActResult) → FewRounds c → FewRounds (core_next c s)
 spins_few (Core.Mutex c) s h = mutex_on c.phase s h
 spins_few (Core.Rw c) s h = rw_on c.phase s h
+spins_few (Core.Late p) s h = late_on p s
 
 -- one that goes on is under way
 pub under_way : (c : Core) (s : ActResult) → FewRounds c → IsUnderWay (core_next c s)
@@ -205,3 +216,4 @@ rw_unbegun p e = no_rounds
 pub unbegun_few : (c : Core) → has_begun c ≡ false → FewRounds c
 unbegun_few (Core.Mutex c) e = mutex_unbegun c.phase e
 unbegun_few (Core.Rw c) e = rw_unbegun c.phase e
+unbegun_few (Core.Late p) e = no_rounds

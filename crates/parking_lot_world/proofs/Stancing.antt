@@ -20,8 +20,9 @@ use Rattle.parking_lot_protocol.specs.declared.rw_phase.RwPhase.{RwPhase}
 use Rattle.parking_lot_protocol.specs.declared.rw_phase.Scanning.{Scanning}
 use Rattle.parking_lot_protocol.specs.declared.rw_phase.Seeking.{Seeking}
 use Rattle.parking_lot_protocol.specs.declared.rw_phase.LockMode.{LockMode}
+use Rattle.parking_lot_world.specs.declared.seat.LatePhase.{LatePhase}
 use Rattle.parking_lot_world.specs.declared.seat.Core.{Core}
-use Rattle.parking_lot_world.specs.Stances.{Doing, Takes, Stores, Tells, Stance, Out, In, Asleep, sign, mutex_stance, rw_stance, stance, mutex_taken, rw_taken, taken_count, core_act, core_next}
+use Rattle.parking_lot_world.specs.Stances.{Doing, Takes, Stores, Tells, Stance, Out, In, Asleep, sign, mutex_stance, late_act, late_next, late_stance, rw_stance, stance, mutex_taken, rw_taken, taken_count, core_act, core_next}
 use Rattle.parking_lot_world.specs.StanceLaws.{Leads, LeadsCore, rw_counts, Counts, TakesOne, IsOver, HasSmallKey}
 use Rattle.parking_lot_rules.specs.Classes.{bit}
 
@@ -67,7 +68,7 @@ mutex_leads (MutexPhase.Retreats woken) word ActResult.Made g = inl (0, refl, re
 mutex_leads MutexPhase.Appends word ActResult.Made g = (0, omega arith, refl, refl, refl, refl)
 mutex_leads MutexPhase.Rests word ActResult.Made g = inr (inl (0, record { 0 = 0 }, refl, refl, refl, refl))
 mutex_leads MutexPhase.Sleeps word (ActResult.Woken token) g =
-    let i = pick Idle (token.0 == 1) (MutexPhase.Ends answer.Owned) (MutexPhase.Loads (mt.begins true)) (refl, refl) (refl, refl) in (0, record { 0 = 0 }, refl, i.0, refl, i.1)
+    let i = pick Idle (token.0 == 1) (MutexPhase.Ends answer.Owned) (MutexPhase.Loads (mt.begins true)) (refl, refl) (refl, refl) in (λ k park e. (i.0, refl, i.1))
 mutex_leads MutexPhase.TryLoads word (ActResult.Word w) g = let i = tries_idle 63 w in (refl, i.0, i.1)
 mutex_leads (MutexPhase.TryLocks waiters left) word ActResult.Exchanged g = (refl, refl, refl)
 mutex_leads (MutexPhase.TryLocks waiters left) word (ActResult.Word w) g = let i = retries_idle left w in (refl, i.0, i.1)
@@ -165,7 +166,7 @@ rw_leads (RwPhase.Retreats want woken) word ActResult.Made g = inl (0, refl, ref
 rw_leads (RwPhase.Appends want) word ActResult.Made g = (0, omega arith, refl, refl, refl, refl)
 rw_leads (RwPhase.Rests want) word ActResult.Made g = inr (inl (0, record { 0 = rt.share_of want }, refl, refl, refl, refl))
 rw_leads (RwPhase.Sleeps want) word (ActResult.Woken token) g =
-    let i = pick RwIdle (token.0 == 1) (rt.admits want true) (RwPhase.Loads (rt.begins want true)) (admits_idle want true) (refl, refl) in (0, record { 0 = rt.share_of want }, refl, i.0, refl, i.1)
+    let i = pick RwIdle (token.0 == 1) (rt.admits want true) (RwPhase.Loads (rt.begins want true)) (admits_idle want true) (refl, refl) in (λ k park e. (i.0, refl, i.1))
 rw_leads (RwPhase.DrainLoads d) word (ActResult.Word w) g = let i = drains_idle d w in (refl, i.0, i.1)
 rw_leads (RwPhase.DrainSpins d) word (ActResult.Spun spun) g = (refl, refl, refl)
 rw_leads (RwPhase.DrainSetParked d from) word ActResult.Exchanged g = (refl, refl, refl)
@@ -179,7 +180,7 @@ rw_leads (RwPhase.DrainChecks d) word (ActResult.Word w) g = go (rt.has_readers 
 rw_leads (RwPhase.DrainRetreats d) word ActResult.Made g = inl (1, refl, refl, refl, refl)
 rw_leads (RwPhase.DrainAppends rounds) word ActResult.Made g = (1, omega arith, refl, refl, refl, refl)
 rw_leads (RwPhase.DrainRests rounds) word ActResult.Made g = inr (inl (1, record { 0 = 8 }, refl, refl, refl, refl))
-rw_leads (RwPhase.DrainSleeps rounds) word (ActResult.Woken token) g = (1, record { 0 = 8 }, refl, refl, refl, refl)
+rw_leads (RwPhase.DrainSleeps rounds) word (ActResult.Woken token) g = (λ k park e. (refl, refl, refl))
 rw_leads (RwPhase.TryLoads want) word (ActResult.Word w) g = let i = rw_tries_idle want 63 w in (refl, i.0, i.1)
 rw_leads (RwPhase.TryAdmits want from left) word ActResult.Exchanged g = (refl, refl, refl)
 rw_leads (RwPhase.TryAdmits want from left) word (ActResult.Word w) g = let i = rw_retries_idle want left w in (refl, i.0, i.1)
@@ -189,7 +190,7 @@ rw_leads (RwPhase.Unshares rest) word (ActResult.Before w) g = let i = pick RwId
 rw_leads (RwPhase.EnterWriterWakeSection rest) word ActResult.Entered g = (refl, inr refl, refl)
 rw_leads (RwPhase.TakeWriter rest) word (ActResult.Took None left) g = (1, refl, (refl, refl))
 rw_leads (RwPhase.TakeWriter rest) word (ActResult.Took (Some token) left) g = (1, refl, tt)
-rw_leads (RwPhase.ClearWriterParked rest taken) word (ActResult.Before w) g = (refl, refl, refl)
+rw_leads (RwPhase.ClearWriterParked rest taken) word (ActResult.Before w) g = (1, refl, refl, refl)
 rw_leads (RwPhase.LeaveWriterWakeSection rest taken) word ActResult.Made g = let i = wakes_count rest (bit taken) in inr (inr (1, sign false, refl, i.0, i.1))
 rw_leads (RwPhase.Unlocks fair rest) word ActResult.Exchanged g = let i = over_idle rest in (refl, i.0, i.1)
 rw_leads (RwPhase.Unlocks fair rest) word (ActResult.Word w) g = (refl, refl, refl)
@@ -208,11 +209,21 @@ rw_leads (RwPhase.Wakes rest count) word ActResult.Made g = let i = wakes_count 
 rw_leads (RwPhase.Finishes rest) word s g = finishes rest word s g
 rw_leads p word s g = absurd g
 
+-- one whose moment has passed
+late_leads : (p : LatePhase) (word : ℕ) (s : ActResult) → Gives (late_act p) word s → LeadsCore (late_act p) s (Core.Late p) (late_next p s)
+late_leads LatePhase.Expires word (ActResult.Woken token) g =
+    let i = pick Idle (token.0 == 1) (MutexPhase.Ends answer.Owned) (MutexPhase.Loads (mt.begins true)) (refl, refl) (refl, refl) in (λ k park e. (i.0, refl, i.1))
+late_leads LatePhase.Quits word (ActResult.Woken token) g = λ k park e. (refl, refl, refl)
+late_leads LatePhase.Masks word (ActResult.Before w) g = (0, refl, refl, refl)
+late_leads LatePhase.Leaves word ActResult.Made g = inr (inr (0, sign false, refl, refl, refl))
+late_leads p word s g = absurd g
+
 -- CORES OF EITHER KIND
 
 pub acts_lead : (c : Core) (word : ℕ) (s : ActResult) → Gives (core_act c) word s → LeadsCore (core_act c) s c (core_next c s)
 acts_lead (Core.Mutex c) word s g = mutex_leads c.phase word s g
 acts_lead (Core.Rw c) word s g = rw_leads c.phase word s g
+acts_lead (Core.Late p) word s g = late_leads p word s g
 
 -- the same of an act that is known
 pub leads_by : (c : Core) (a : Act) (word : ℕ) (s : ActResult) → core_act c ≡ a → Gives a word s → LeadsCore a s c (core_next c s)
@@ -258,10 +269,19 @@ rw_takes (RwPhase.Scans a) word token left g h = scan_takes a token left h
 rw_takes (RwPhase.Finishes AfterWake.FreedShared) word token left g h = absurd g
 rw_takes p word token left g h = absurd g
 
+late_takes : (p : LatePhase) (word : ℕ) (token : ParkToken) (left : Bool) → let s = ActResult.Took (Some token) left in
+    Gives (late_act p) word s → TakesOne (late_stance p) (stance (late_next p s)) 0 (taken_count (late_next p s))
+late_takes LatePhase.Expires word token left g = absurd g
+late_takes LatePhase.Quits word token left g = absurd g
+late_takes LatePhase.Masks word token left g = absurd g
+late_takes LatePhase.Leaves word token left g = absurd g
+late_takes LatePhase.GivesUp word token left g = absurd g
+
 pub takings_count : (c : Core) (word : ℕ) (token : ParkToken) (left : Bool) → let s = ActResult.Took (Some token) left in
     Gives (core_act c) word s → Counts c token → TakesOne (stance c) (stance (core_next c s)) (taken_count c) (taken_count (core_next c s))
 takings_count (Core.Mutex c) word token left g h = mutex_takes c.phase word token left g
 takings_count (Core.Rw c) word token left g h = rw_takes c.phase word token left g h
+takings_count (Core.Late p) word token left g h = late_takes p word token left g
 
 -- WHERE CALLS BEGIN AND END
 
@@ -273,9 +293,17 @@ rw_begins : (p : RwPhase) → RwIdle (rt.next_phase p ActResult.Start)
 rw_begins (RwPhase.Finishes rest) = (refl, refl)
 rw_begins p = (refl, refl)
 
+late_begins : (p : LatePhase) → (stance (late_next p ActResult.Start) ≡ Out) × (taken_count (late_next p ActResult.Start) ≡ 0)
+late_begins LatePhase.Expires = (refl, refl)
+late_begins LatePhase.Quits = (refl, refl)
+late_begins LatePhase.Masks = (refl, refl)
+late_begins LatePhase.Leaves = (refl, refl)
+late_begins LatePhase.GivesUp = (refl, refl)
+
 pub calls_begin : (c : Core) → (stance (core_next c ActResult.Start) ≡ Out) × (taken_count (core_next c ActResult.Start) ≡ 0)
 calls_begin (Core.Mutex c) = mutex_begins c.phase
 calls_begin (Core.Rw c) = rw_begins c.phase
+calls_begin (Core.Late p) = late_begins p
 
 mutex_ends : (p : MutexPhase) → IsOver (mt.act_of p) (mutex_stance p) (mutex_taken p)
 mutex_ends (MutexPhase.Finishes a) = pick (λ (b : Act). IsOver b Out 0) a.again Act.Load (Act.Done answer.Released) tt (refl, refl)
@@ -304,9 +332,14 @@ rw_ends (RwPhase.Ends outcome) = (refl, refl)
 rw_ends RwPhase.Invalid = (refl, refl)
 rw_ends p = tt
 
+late_ends : (p : LatePhase) → IsOver (late_act p) (late_stance p) 0
+late_ends LatePhase.GivesUp = (refl, refl)
+late_ends p = tt
+
 pub calls_end : (c : Core) → IsOver (core_act c) (stance c) (taken_count c)
 calls_end (Core.Mutex c) = mutex_ends c.phase
 calls_end (Core.Rw c) = rw_ends c.phase
+calls_end (Core.Late p) = late_ends p
 
 -- SLEEPERS
 
@@ -326,10 +359,16 @@ rw_wakes (RwPhase.Sleeps want) k token said e = (refl, pick RwIdle (said.0 == 1)
 rw_wakes (RwPhase.DrainSleeps rounds) k token said e = (refl, (refl, refl))
 rw_wakes p k token said e = absurd (not_asleep {a = rw_stance p} tt e)
 
+late_wakes : (p : LatePhase) (k : ℕ) (token : ParkToken) (said : UnparkToken) → late_stance p ≡ Asleep k token
+    → (stance (late_next p (ActResult.Woken said)) ≡ Out) × (taken_count (late_next p (ActResult.Woken said)) ≡ 0)
+late_wakes LatePhase.Expires k token said e = pick Idle (said.0 == 1) (MutexPhase.Ends answer.Owned) (MutexPhase.Loads (mt.begins true)) (refl, refl) (refl, refl)
+late_wakes p k token said e = (refl, refl)
+
 pub sleepers_wake : (c : Core) (k : ℕ) (token : ParkToken) (said : UnparkToken) → stance c ≡ Asleep k token
     → (taken_count c ≡ 0) × (stance (core_next c (ActResult.Woken said)) ≡ Out) × (taken_count (core_next c (ActResult.Woken said)) ≡ 0)
 sleepers_wake (Core.Mutex c) k token said e = let x = mutex_wakes c.phase k token said e in (x.0, x.1.0, x.1.1)
 sleepers_wake (Core.Rw c) k token said e = let x = rw_wakes c.phase k token said e in (x.0, x.1.0, x.1.1)
+sleepers_wake (Core.Late p) k token said e = let x = late_wakes p k token said e in (refl, x.0, x.1)
 
 -- ONE THAT IS TO WAKE SOMEBODY HAS TAKEN SOMEBODY
 
@@ -465,9 +504,23 @@ rw_some (RwPhase.Wakes rest count) h e = h
 rw_some (RwPhase.Finishes AfterWake.FreedShared) h e = cc
 rw_some p h e = cc
 
+late_some : (p : LatePhase) (s : ActResult) → core_act (late_next p s) ≡ Act.Section section.Wake → 1 ≤ taken_count (late_next p s)
+late_some LatePhase.Expires (ActResult.Woken token) e = mutex_some (mt.next_phase MutexPhase.Sleeps (ActResult.Woken token)) e
+late_some LatePhase.Quits (ActResult.Took token left) e = go left e
+  where
+    go : (b : Bool) → late_act (cond b LatePhase.Leaves LatePhase.Masks) ≡ Act.Section section.Wake → 1 ≤ 0
+    go true e = cc
+    go false e = cc
+late_some LatePhase.Expires ActResult.Entered e = cc
+late_some LatePhase.Masks (ActResult.Before word) e = cc
+late_some LatePhase.Leaves ActResult.Made e = cc
+late_some LatePhase.GivesUp s e = cc
+late_some p s e = cc
+
 pub wakes_some : (c : Core) (s : ActResult) → core_act (core_next c s) ≡ Act.Section section.Wake → 1 ≤ taken_count (core_next c s)
 wakes_some (Core.Mutex c) s e = mutex_some (mt.next_phase c.phase s) e
 wakes_some (Core.Rw c) s e = rw_some (rt.next_phase c.phase s) (rw_next_some c.phase s) e
+wakes_some (Core.Late p) s e = late_some p s e
 
 -- A LOCK HAS TWO KEYS
 
@@ -501,9 +554,14 @@ rw_keys (RwPhase.Stores s left) = omega arith
 rw_keys (RwPhase.Leaves rest count handed) = omega arith
 rw_keys p = tt
 
+late_keys : (p : LatePhase) → HasSmallKey (late_stance p)
+late_keys LatePhase.GivesUp = tt
+late_keys p = omega arith
+
 pub keys_are_two : (c : Core) → HasSmallKey (stance c)
 keys_are_two (Core.Mutex c) = mutex_keys c.phase
 keys_are_two (Core.Rw c) = rw_keys c.phase
+keys_are_two (Core.Late p) = late_keys p
 
 pub small_key : (c : Core) (k : ℕ) (how : Doing) → stance c ≡ In k how → k < 2
 small_key c k how e = subst HasSmallKey e (keys_are_two c)

@@ -1,7 +1,7 @@
 -- A call begins: its thread goes from no call to the first phase.
 use Rattle.std.proofs.Common.{◌≡◌, ◌≢◌, ℕ, ◌+◌, ◌*◌, ◌<◌, ◌≤◌, inl, inr, Bool, true, false, List, [], length, Option, Some, None, slice_get, slice_set, refl, sym, ap, ◌∙◌, subst, arith, zero, suc, ◌⊎◌, cond, nat_lt}
 use Rattle.std.proofs.lemmas.Bool.{cases_eq, both_ways, cases_lt, lt-ltb, ltb-true}
-use Rattle.std.proofs.lemmas.Option.{none-some, same_Some, slice_get-get_or, slice_get_within}
+use Rattle.std.proofs.lemmas.Option.{none-some, same_Some, slice_get-get_or}
 use Rattle.std.proofs.lemmas.List.{length-set}
 use Rattle.std.specs.Option.{option_and_then, option_map_or}
 use Rattle.std.specs.Prelude.{get_or}
@@ -14,11 +14,13 @@ use Rattle.parking_lot_protocol.specs.declared.act.Act.{Act}
 use Rattle.parking_lot_protocol.specs.Acts.{word_after}
 use Rattle.parking_lot_protocol.specs.declared.rw_core.RwCore.{RwCore}
 use Rattle.parking_lot_protocol.specs.declared.mutex_core.MutexCore.{MutexCore}
+use Rattle.parking_lot_world.specs.Kinds.{AsMutex, AsRw, manner_of, recursive_in}
+use Rattle.parking_lot_world.specs.declared.seat.LatePhase.{LatePhase}
 use Rattle.parking_lot_world.specs.declared.seat.Core.{Core}
 use Rattle.parking_lot_world.specs.declared.open_call.Call.{Call}
 use Rattle.parking_lot_world.specs.declared.seat.QueuePosition.{QueuePosition}
 use Rattle.parking_lot_world.specs.Rows.{State, word_at, call_at, hold_at, taken_by, rw_spot, first_of_all, mutex_at, rw_role_at, rw_lock_at, queue_at, inside, owned_of, owns_mutex, mutex_spot}
-use Rattle.parking_lot_world.specs.Stances.{has_begun, rw_begun, mutex_begun, core_act, core_next, Stance, Out, In, Asleep, stance, taken_count}
+use Rattle.parking_lot_world.specs.Stances.{has_begun, rw_begun, mutex_begun, late_act, core_act, core_next, Stance, Out, In, Asleep, stance, taken_count}
 use Rattle.parking_lot_world.specs.RowActs.{hears, begun, answered, hold_after, rw_hold_after, mutex_hold_after}
 use Rattle.parking_lot_world.specs.RowFits.{FitsTogether, WakesFit, IsOfKind, rw_prepared, rw_knows, mutex_knows, is_off, is_away}
 use Rattle.parking_lot_rules.specs.Holds.{shared_holds}
@@ -33,16 +35,16 @@ use Rattle.parking_lot_world.proofs.LotActs.{begun_fits, same_parts, ended_fits}
 use Rattle.parking_lot_world.proofs.MutexMoving.{steps}
 use Rattle.parking_lot_world.proofs.MutexRoles.{words}
 use Rattle.parking_lot_world.proofs.Stancing.{calls_begin, calls_end}
-use Rattle.parking_lot_world.proofs.Meeting.{rw_sound, mutex_sound, role_few, in_range, meets, plays}
+use Rattle.parking_lot_world.proofs.Meeting.{rw_sound, mutex_sound, role_few, in_range, meets, plays, plays_late}
 use Rattle.parking_lot_world.proofs.OwnMoves.{OwnMove}
 use Rattle.parking_lot_world.proofs.Ruling.{CallFits, Fitted, call_fits, rules_after, same_kind}
 use Rattle.parking_lot_world.proofs.RwMoving.{answers_are_moves}
 use Rattle.parking_lot_world.proofs.RwKeeping.{calls_keep}
 use Rattle.parking_lot_world.proofs.RwCrossing.{lists_are_known}
 use Rattle.parking_lot_world.proofs.RwTaking.{begins_are_ready, ends_are_steps, answers_are_last}
-use Rattle.parking_lot_world.proofs.KindTable.{Kind, of_rws, of_mutexes, IsThere, Elsewhere, one_changed, role_at, role_now, role_stays, roles_at, same, shown}
+use Rattle.parking_lot_world.proofs.KindTable.{Plain, within_kinds, Kind, of_rws, of_mutexes, IsThere, Elsewhere, one_changed, role_at, role_now, role_stays, roles_at, same, shown}
 use Rattle.parking_lot_world.proofs.Everybody.{get-all, was-all, length-all}
-use Rattle.parking_lot_world.proofs.Making.{Crossed, TellsOf, move_sound, rw_goes, mutex_goes, RwLeadsBy, last_sound}
+use Rattle.parking_lot_world.proofs.Making.{Crossed, TellsOf, quiet, move_sound, rw_goes, mutex_goes, RwLeadsBy, last_sound}
 use Rattle.parking_lot_world.proofs.Owning.{rw_leads, set-same}
 use Rattle.parking_lot_protocol.specs.declared.mutex_phase.MutexPhase.{MutexPhase}
 use Rattle.parking_lot_world.proofs.Calling.{call_of, call-here, call-elsewhere, slot}
@@ -52,7 +54,7 @@ use Rattle.parking_lot_world.specs.declared.seat.Hold.{Hold}
 use Rattle.parking_lot_rules.specs.Clauses.{word_of}
 use Rattle.parking_lot_world.specs.StanceLaws.{IsOver}
 use Rattle.parking_lot_protocol.specs.declared.act.CoreAnswer.{CoreAnswer}
-use Rattle.parking_lot_world.specs.RowSteps.{IsLastOf}
+use Rattle.parking_lot_world.specs.RowSteps.{IsLastOf, IsQuiet}
 use Rattle.parking_lot_world.proofs.MutexTelling.{shown as shown_as}
 use Rattle.parking_lot_rules.specs.Mutex as mutex
 use Rattle.parking_lot_protocol.specs.declared.act.SectionAct.TheVariants as section
@@ -60,7 +62,6 @@ use Rattle.parking_lot_protocol.specs.declared.act.ActResult.TheVariants as seen
 use Rattle.parking_lot_protocol.specs.RwRules as of_rw
 use Rattle.parking_lot_protocol.specs.MutexRules as of_mutex
 use Rattle.parking_lot_protocol.specs.RwTable as of_rw_table
-use Rattle.parking_lot_world.specs.declared.calls.LockKind.TheVariants as kind
 use Rattle.parking_lot_protocol.specs.MutexTable as of_mutex_table
 use Rattle.parking_lot_rules.specs.Family as crossing
 use Rattle.parking_lot_protocol.specs.declared.rw_phase.AfterWake.TheVariants as rest
@@ -82,16 +83,16 @@ empty_slot calls t b h = go (slice_get calls t) refl
     go (Some (Some c)) e = absurd (none-some c (sym h ∙ ap (option_and_then (λ y. y)) e))
 
 -- What a phase in which a reader-writer call begins needs, finds and knows; and its start is a move of its own, or none.
-begin_rw : (t n : ℕ) (us : List ℕ) (p : RwPhase) (l : Lock) (o : Option ℕ) (f g : List Waiter) → rw_begun p ≡ false → rw_begins n p
-    → rw_prepared n us p × Finds (of_rw_table.act_of p) l × OwnMove (of_rw.move n us p seen.Start) t o o × Learns p seen.Start f g × rw_knows p f g
-begin_rw t n us (RwPhase.Locking q) l o f g b h = (h, tt, refl, tt, tt)
-begin_rw t n us (RwPhase.Trying q) l o f g b h = (h, tt, refl, tt, tt)
-begin_rw t n us RwPhase.UnlockingShared l o f g b h = (tt, tt, refl, tt, tt)
-begin_rw t n us (RwPhase.UnlockingExclusive fair) l o f g b h = (tt, tt, refl, tt, tt)
-begin_rw t n us RwPhase.Downgrading l o f g b h = (tt, tt, refl, tt, tt)
-begin_rw t n us RwPhase.BumpingShared l o f g b h = (tt, tt, refl, tt, tt)
-begin_rw t n us RwPhase.BumpingExclusive l o f g b h = (tt, tt, refl, tt, tt)
-begin_rw t n us p l o f g b h = absurd h
+begin_rw : (recursive : Bool) (t n : ℕ) (us : List ℕ) (p : RwPhase) (l : Lock) (o : Option ℕ) (f g : List Waiter) → rw_begun p ≡ false → rw_begins recursive n p
+    → rw_prepared recursive n us p × Finds (of_rw_table.act_of p) l × OwnMove (of_rw.move n us p seen.Start) t o o × Learns p seen.Start f g × rw_knows p f g
+begin_rw recursive t n us (RwPhase.Locking q) l o f g b h = (h, tt, refl, tt, tt)
+begin_rw recursive t n us (RwPhase.Trying q) l o f g b h = (h, tt, refl, tt, tt)
+begin_rw recursive t n us RwPhase.UnlockingShared l o f g b h = (tt, tt, refl, tt, tt)
+begin_rw recursive t n us (RwPhase.UnlockingExclusive fair) l o f g b h = (tt, tt, refl, tt, tt)
+begin_rw recursive t n us RwPhase.Downgrading l o f g b h = (tt, tt, refl, tt, tt)
+begin_rw recursive t n us RwPhase.BumpingShared l o f g b h = (tt, tt, refl, tt, tt)
+begin_rw recursive t n us RwPhase.BumpingExclusive l o f g b h = (tt, tt, refl, tt, tt)
+begin_rw recursive t n us p l o f g b h = absurd h
 
 -- and one in which a mutex's does
 begin_mutex : (v : ℕ) (us : List ℕ) (p : MutexPhase) (q : List Waiter) → mutex_begun p ≡ false → TellsOf (of_mutex.move v p seen.Start) us v × (crossing_of (of_mutex_table.act_of p) ≡ crossing.Stays) × mutex_knows (of_mutex_table.next_phase p seen.Start) q
@@ -147,11 +148,11 @@ module _ (s : State) (t : ℕ) (c : Call) (may : MayBegin s t c) (h : FitsTogeth
   abbrev x : ℕ
   x = word_at s c.lock
 
-  begin_rws : (k : RwCore) → c.core ≡ Core.Rw k → OwnsFor (hold_at s t c.lock) c.others (Core.Rw k) → slice_get s.kinds c.lock ≡ Some kind.Rw → Fitted s next t c seen.Start (Core.Rw k)
+  begin_rws : (k : RwCore) → c.core ≡ Core.Rw k → OwnsFor (recursive_in s.kinds c.lock) (hold_at s t c.lock) c.others (Core.Rw k) → manner_of (slice_get s.kinds c.lock) ≡ Some AsRw → Fitted s next t c seen.Start (Core.Rw k)
   begin_rws k e owns kind_is =
       let ready = begins_are_ready c.others (rw_spot c.spot) us k.phase x owns.0 in
-      let well = begin_rw t c.others us k.phase (rw_lock_at s c.lock) (inside s) (s.lot.queues (2 * c.lock)) (s.lot.queues (2 * c.lock + 1)) owns.0 owns.1 in
-      let met : Meets (rw_lock_at s c.lock) t c.others (rw_spot c.spot) us k.phase x = record {
+      let well = begin_rw (recursive_in s.kinds c.lock) t c.others us k.phase (rw_lock_at s c.lock) (inside s) (s.lot.queues (2 * c.lock)) (s.lot.queues (2 * c.lock + 1)) owns.0 owns.1 in
+      let met : Meets (recursive_in s.kinds c.lock) (rw_lock_at s c.lock) t c.others (rw_spot c.spot) us k.phase x = record {
         sound = rw_sound s h c.lock kind_is;
         word = refl;
         here = free_role of_rws ∙ ap Some (ap (λ (o : Owned). record { owns = o; does = Idle }) owns.2 ∙ sym ready.0);
@@ -160,22 +161,22 @@ module _ (s : State) (t : ℕ) (c : Call) (may : MayBegin s t c) (h : FitsTogeth
         threads = omega (arith, length-all (rw_role_at s c.lock) 0 (length s.calls), h.rules.small);
         few = λ y q at. subst (λ (z : Role). shared_holds z.owns ≤ 256) (sym (was-all (rw_role_at s c.lock) (length s.calls) y q at)) (role_few s h c.lock y (call_at s y) refl);
       } in
-      let leads = rw_leads (rw_lock_at s c.lock) t c.others c.spot us k.phase x seen.Start met ready.2 well.1 (λ key token z. may.listed) (inside s) (inside next) well.2 in (
+      let leads = rw_leads (recursive_in s.kinds c.lock) (rw_lock_at s c.lock) t c.others c.spot us k.phase x seen.Start met ready.2 well.1 (λ key token z. may.listed) (inside s) (inside next) well.2 in (
         rw_goes s next t c.lock (of_rw.move c.others us k.phase seen.Start) _ none_there begun_elsewhere kind_is leads.0
             (begun_after of_rws (record k { phase = of_rw_table.next_phase k.phase seen.Start }) (ap (λ (y : Core). core_next y seen.Start) e) ∙ same of_rws _ _ _ _ _ _ _ _ (ap (λ y. word_after (core_act y) seen.Start x) e) refl refl refl) leads.1,
-        ((answers_are_moves (rw_lock_at s c.lock) t c.others (rw_spot c.spot) us k.phase x seen.Start met ready.2).2.1, calls_keep.begins c.others k.phase owns.1),
+        ((answers_are_moves (recursive_in s.kinds c.lock) (rw_lock_at s c.lock) t c.others (rw_spot c.spot) us k.phase x seen.Start met ready.2).2.1, calls_keep.begins (recursive_in s.kinds c.lock) c.others k.phase owns.1),
         lists_are_known.learns k.phase x seen.Start (s.lot.queues (2 * c.lock)) (s.lot.queues (2 * c.lock + 1)) (s.lot.queues (2 * c.lock)) (s.lot.queues (2 * c.lock + 1)) ready.2 well.4 well.3,
         h.rules.bits c.lock,
       )
 
-  begin_mutexes : (k : MutexCore) → c.core ≡ Core.Mutex k → OwnsFor (hold_at s t c.lock) c.others (Core.Mutex k) → slice_get s.kinds c.lock ≡ Some kind.Mutex → Fitted s next t c seen.Start (Core.Mutex k)
+  begin_mutexes : (k : MutexCore) → c.core ≡ Core.Mutex k → OwnsFor (recursive_in s.kinds c.lock) (hold_at s t c.lock) c.others (Core.Mutex k) → manner_of (slice_get s.kinds c.lock) ≡ Some AsMutex → Fitted s next t c seen.Start (Core.Mutex k)
   begin_mutexes k e owns kind_is =
       let v = first_of_all us in
       let well = begin_mutex v us k.phase (s.lot.queues (2 * c.lock)) owns.0 in
       let step = steps.begins (mutex_at s c.lock) x t v k.phase owns.0
       (record { sound = mutex_sound s h c.lock kind_is; word = sym (words.forth x (h.rules.bits c.lock kind_is)); here = free_role of_mutexes ∙ ap Some (ap (λ (o : Bool). record { owns = o; does = mutex.Idle }) owns.2) }) in (
         mutex_goes s next t c.lock v us _ (of_mutex.move v k.phase seen.Start) none_there begun_elsewhere kind_is step.leads
-            (begun_after of_mutexes (record k { phase = of_mutex_table.next_phase k.phase seen.Start }) (ap (λ (y : Core). core_next y seen.Start) e) ∙ same of_mutexes _ _ _ _ _ _ [] [] (ap (λ y. word_after (core_act y) seen.Start x) e) refl refl refl)
+            (begun_after of_mutexes (Plain (record k { phase = of_mutex_table.next_phase k.phase seen.Start })) (ap (λ (y : Core). core_next y seen.Start) e) ∙ same of_mutexes _ _ _ _ _ _ [] [] (ap (λ y. word_after (core_act y) seen.Start x) e) refl refl refl)
             (subst (λ (y : Crossing). Crossed y t (inside s) (inside next)) (sym (step.crossing ∙ well.1)) refl) well.0,
         owns.1,
         well.2,
@@ -183,8 +184,9 @@ module _ (s : State) (t : ℕ) (c : Call) (may : MayBegin s t c) (h : FitsTogeth
       )
 
   begin_so : (y : Core) → c.core ≡ y → Fitted s next t c seen.Start y × (has_begun y ≡ false)
-  begin_so (Core.Rw k) e = let owns = subst (OwnsFor (hold_at s t c.lock) c.others) e may.owns in (begin_rws k e owns (subst (IsOfKind (slice_get s.kinds c.lock)) e may.kind), owns.0)
-  begin_so (Core.Mutex k) e = let owns = subst (OwnsFor (hold_at s t c.lock) c.others) e may.owns in (begin_mutexes k e owns (subst (IsOfKind (slice_get s.kinds c.lock)) e may.kind), owns.0)
+  begin_so (Core.Rw k) e = let owns = subst (OwnsFor (recursive_in s.kinds c.lock) (hold_at s t c.lock) c.others) e may.owns in (begin_rws k e owns (subst (IsOfKind (slice_get s.kinds c.lock)) e may.kind), owns.0)
+  begin_so (Core.Late p) e = absurd (subst (OwnsFor (recursive_in s.kinds c.lock) (hold_at s t c.lock) c.others) e may.owns)
+  begin_so (Core.Mutex k) e = let owns = subst (OwnsFor (recursive_in s.kinds c.lock) (hold_at s t c.lock) c.others) e may.owns in (begin_mutexes k e owns (subst (IsOfKind (slice_get s.kinds c.lock)) e may.kind), owns.0)
 
   -- TOGETHER
 
@@ -316,8 +318,9 @@ module _ (s : State) (h : FitsTogether s) (t : ℕ) (c : Call) (here : call_at s
   lock_within = go c.core refl
     where
       go : (x : Core) → c.core ≡ x → c.lock < length s.kinds
-      go (Core.Rw k) e = slice_get_within s.kinds c.lock _ (subst (IsOfKind (slice_get s.kinds c.lock)) e (h.rules.kinds t c here))
-      go (Core.Mutex k) e = slice_get_within s.kinds c.lock _ (subst (IsOfKind (slice_get s.kinds c.lock)) e (h.rules.kinds t c here))
+      go (Core.Rw k) e = within_kinds s.kinds c.lock _ (subst (IsOfKind (slice_get s.kinds c.lock)) e (h.rules.kinds t c here))
+      go (Core.Mutex k) e = within_kinds s.kinds c.lock _ (subst (IsOfKind (slice_get s.kinds c.lock)) e (h.rules.kinds t c here))
+      go (Core.Late p) e = within_kinds s.kinds c.lock _ (subst (IsOfKind (slice_get s.kinds c.lock)) e (h.rules.kinds t c here))
 
   hold_here : hold_at u t c.lock ≡ now
   hold_here =
@@ -377,28 +380,41 @@ module _ (s : State) (h : FitsTogether s) (t : ℕ) (c : Call) (here : call_at s
   last_moves n (RwPhase.Refuses q) o = refl
   last_moves n p o = refl
 
-  last_leads : (m : of_rw.Move) (l : Lock) (x : ℕ) (old new : Role) (o : Option ℕ) → l.word ≡ word_of x → slice_get l.roles t ≡ Some old → OwnMove m t o o → IsLastStep m l t old x new → RwLeadsBy m t l (with_role l x t new) × Crossed (move_crossing m) t o o
-  last_leads of_rw.Stays l x old new o word is moves step =
+  last_leads : (recursive : Bool) (m : of_rw.Move) (l : Lock) (x : ℕ) (old new : Role) (o : Option ℕ) → l.word ≡ word_of x → slice_get l.roles t ≡ Some old → OwnMove m t o o → IsLastStep recursive m l t old x new → RwLeadsBy recursive m t l (with_role l x t new) × Crossed (move_crossing m) t o o
+  last_leads recursive of_rw.Stays l x old new o word is moves step =
       (ap (λ w. record { word = w; roles = slice_set l.roles t new; first = l.first; second = l.second }) (sym word) ∙ ap (λ rs. record l { roles = rs }) (ap (slice_set l.roles t) step ∙ set-same l.roles t old is), refl)
-  last_leads (of_rw.Makes k) l x old new o word is moves step = (step, moves)
-  last_leads (of_rw.Joins k) l x old new o word is moves step = absurd moves
-  last_leads (of_rw.TakesOne k) l x old new o word is moves step = absurd moves
-  last_leads of_rw.TakesWriter l x old new o word is moves step = absurd moves
-  last_leads (of_rw.Tells k left) l x old new o word is moves step = absurd moves
-  last_leads of_rw.WakesOne l x old new o word is moves step = absurd moves
-  last_leads (of_rw.IsWoken k) l x old new o word is moves step = absurd moves
+  last_leads recursive (of_rw.Makes k) l x old new o word is moves step = (step, moves)
+  last_leads recursive (of_rw.Joins k) l x old new o word is moves step = absurd moves
+  last_leads recursive (of_rw.TakesOne k) l x old new o word is moves step = absurd moves
+  last_leads recursive of_rw.TakesWriter l x old new o word is moves step = absurd moves
+  last_leads recursive (of_rw.Tells k left) l x old new o word is moves step = absurd moves
+  last_leads recursive of_rw.WakesOne l x old new o word is moves step = absurd moves
+  last_leads recursive (of_rw.IsWoken k) l x old new o word is moves step = absurd moves
 
   last_tells : (v : ℕ) (us : List ℕ) (p : MutexPhase) → TellsOf (of_mutex.last_move p) us v
   last_tells v us MutexPhase.Refuses = tt
   last_tells v us p = tt
+
+  -- one that has given up owns nothing, and does nothing at the lock any more
+  late_last : {answer : CoreAnswer} (p : LatePhase) → c.core ≡ Core.Late p → late_act p ≡ Act.Done answer → IsQuiet s u
+  late_last LatePhase.GivesUp e asked =
+      quiet of_mutexes s u t c.lock there_before ends_elsewhere (subst (IsOfKind (slice_get s.kinds c.lock)) e (h.rules.kinds t c here))
+      (ended of_mutexes
+      ∙ same of_mutexes _ _ _ _ _ _ [] [] refl
+      (ap (λ (y : Core). slice_set (roles_at of_mutexes s c.lock) t (record { owns = owns_mutex (hold_after c.others y); does = mutex.Idle })) e ∙ set-same (roles_at of_mutexes s c.lock) t mutex.away (plays_late s h t c LatePhase.GivesUp e here).here) refl refl)
+      refl
+  late_last LatePhase.Expires e asked = absurd cc
+  late_last LatePhase.Quits e asked = absurd cc
+  late_last LatePhase.Masks e asked = absurd cc
+  late_last LatePhase.Leaves e asked = absurd cc
 
   module _ (answer : CoreAnswer) where
     last_of : (x : Core) → c.core ≡ x → core_act x ≡ Act.Done answer → IsLastOf x c.others c.lock t s u
     last_of (Core.Rw k) e asked =
         let met = meets s h t c k e here in
         let last = answers_are_last k.phase answer (subst (λ (x : Core). has_begun x ≡ true) e (h.rules.begun t c here).begun) asked in
-        let leads = last_leads (of_rw.last_move c.others k.phase) (rw_lock_at s c.lock) (word_at s c.lock) _ _ (inside s) refl met.here (last_moves c.others k.phase (inside s))
-        (ends_are_steps (rw_lock_at s c.lock) t c.others (rw_spot c.spot) (taken_by s.wakes t) k.phase (word_at s c.lock) met last) in
+        let leads = last_leads (recursive_in s.kinds c.lock) (of_rw.last_move c.others k.phase) (rw_lock_at s c.lock) (word_at s c.lock) _ _ (inside s) refl met.here (last_moves c.others k.phase (inside s))
+        (ends_are_steps (recursive_in s.kinds c.lock) (rw_lock_at s c.lock) t c.others (rw_spot c.spot) (taken_by s.wakes t) k.phase (word_at s c.lock) met last) in
         rw_goes s u t c.lock (of_rw.last_move c.others k.phase) _ there_before ends_elsewhere (subst (IsOfKind (slice_get s.kinds c.lock)) e (h.rules.kinds t c here)) leads.0
         (ended of_rws ∙ ap (λ (y : Core). with_role (rw_lock_at s c.lock) (word_at s c.lock) t (record { owns = owned_of (hold_after c.others y); does = Idle })) e) leads.1
     last_of (Core.Mutex k) e asked =
@@ -408,6 +424,7 @@ module _ (s : State) (h : FitsTogether s) (t : ℕ) (c : Call) (here : call_at s
         mutex_goes s u t c.lock v [] _ (of_mutex.last_move k.phase) there_before ends_elsewhere (subst (IsOfKind (slice_get s.kinds c.lock)) e (h.rules.kinds t c here)) step.0
         (ended of_mutexes ∙ ap (λ (b : Bool). mutex_of (word_at s c.lock) (slice_set (mutex_at s c.lock).roles t (record { owns = b; does = mutex.Idle })) (mutex_at s c.lock).queue) (ap (λ (y : Core). owns_mutex (hold_after c.others y)) e ∙ shown_as.ends k.phase answer begun asked))
         (subst (λ (x : Crossing). Crossed x t (inside s) (inside u)) (sym step.1) refl) (last_tells v [] k.phase)
+    last_of (Core.Late p) e asked = late_last p e asked
 
   -- WHAT STAYS
 
@@ -418,6 +435,7 @@ module _ (s : State) (h : FitsTogether s) (t : ℕ) (c : Call) (here : call_at s
   ]
 
   few_after : (i n : ℕ) (o : Core) → c.core ≡ o → now ≡ Hold.Shares n → n ≤ 255
+  few_after i n (Core.Late p) e is = omega (arith, same_shares 0 n (sym (ap (hold_after c.others) e) ∙ is))
   few_after i n (Core.Mutex k) e is = mutex_few k.phase n (sym (ap (hold_after c.others) e) ∙ is)
   few_after i n (Core.Rw k) e is = rw_few c.others k.phase n (h.rules.beside t c here) (sym (ap (hold_after c.others) e) ∙ is)
 

@@ -14,10 +14,11 @@ use Rattle.parking_lot_protocol.specs.declared.rw_phase.RwPhase.{RwPhase}
 use Rattle.parking_lot_protocol.specs.declared.mutex_phase.MutexPhase.{MutexPhase}
 use Rattle.parking_lot_protocol.specs.RwTable as of_rw
 use Rattle.parking_lot_protocol.specs.MutexTable as of_mutex
+use Rattle.parking_lot_world.specs.declared.seat.LatePhase.{LatePhase}
 use Rattle.parking_lot_world.specs.declared.seat.Core.{Core}
 use Rattle.parking_lot_world.specs.declared.open_call.Call.{Call}
 use Rattle.parking_lot_world.specs.Rows.{State, word_at, call_at, taken_by}
-use Rattle.parking_lot_world.specs.Stances.{Takes, Stores, Stance, In, Asleep, rw_stance, mutex_stance, stance, core_act}
+use Rattle.parking_lot_world.specs.Stances.{Takes, Stores, Stance, In, Asleep, rw_stance, mutex_stance, stance, late_act, core_act}
 use Rattle.parking_lot_world.specs.RowActs.{hears, key_of, off_list, took}
 use Rattle.parking_lot_world.specs.RowFits.{FitsTogether, LotFits, RulesFit}
 use Rattle.parking_lot_world.specs.ActLaws.{Acts}
@@ -102,6 +103,13 @@ pub scans_none : (q : MutexPhase) (k sum : ℕ) → mutex_stance q ≡ In k Take
 scans_none (MutexPhase.Takes giving) k sum is asked = absurd (cc)
 scans_none q k sum is asked = absurd (cc)
 
+pub late_scans : (p : LatePhase) (sum : ℕ) → late_act p ≡ act.Section (section.TakeNext sum) → ⊥
+late_scans LatePhase.Expires sum e = cc
+late_scans LatePhase.Quits sum e = cc
+late_scans LatePhase.Masks sum e = cc
+late_scans LatePhase.Leaves sum e = cc
+late_scans LatePhase.GivesUp sum e = cc
+
 module _ (s : State) (t : ℕ) (c : Call) (sum : ℕ) (w : Waiter) (h : FitsTogether s) (here : call_at s t ≡ Some c) (asked : core_act c.core ≡ act.Section (section.TakeNext sum)) (at : slice_get (s.lot.queues (key_of c 0)) 0 ≡ Some w) where
   stands : (k : ℕ) × (stance c.core ≡ In k Takes)
   stands = let l = leads_by c.core (act.Section (section.TakeNext sum)) 0 (ActResult.Took None false) asked tt in (l.0, l.1)
@@ -110,6 +118,7 @@ module _ (s : State) (t : ℕ) (c : Call) (sum : ℕ) (w : Waiter) (h : FitsToge
   go (Core.Rw y) e =
       let from : stance c.core ≡ In 0 Takes = ap stance e ∙ scans_first y.phase stands.0 sum (ap stance (sym e) ∙ stands.1) (ap core_act (sym e) ∙ asked) in
       rw_lets_go s t c 0 w from at h here y e sum (ap core_act (sym e) ∙ asked)
+  go (Core.Late p) e = absurd (late_scans p sum (ap core_act (sym e) ∙ asked))
   go (Core.Mutex y) e = absurd (scans_none y.phase stands.0 sum (ap stance (sym e) ∙ stands.1) (ap core_act (sym e) ∙ asked))
 
   pub lets_go : wake_answer sum w.token.0 ≡ Unpark

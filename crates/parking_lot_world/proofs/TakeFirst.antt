@@ -23,20 +23,22 @@ use Rattle.parking_lot_protocol.specs.declared.rw_phase.Scanning.{Scanning}
 use Rattle.parking_lot_rules.specs.Roles.{Shares, Asleep, Open, Taken1, Taken2}
 use Rattle.parking_lot_world.proofs.Acting.{still_inside}
 use Rattle.parking_lot_world.proofs.Carrying.{no_length}
-use Rattle.parking_lot_world.proofs.KindTable.{of_rws, of_mutexes, IsThere}
+use Rattle.parking_lot_world.proofs.KindTable.{Plain, of_rws, of_mutexes, sleeps_so, IsThere}
+use Rattle.parking_lot_world.proofs.TakeJoins.{late_takes}
+use Rattle.parking_lot_world.specs.declared.seat.WakeResult.{WakeResult}
 use Rattle.parking_lot_world.proofs.Making.{mutex_goes, rw_goes}
 use Rattle.parking_lot_world.proofs.Meeting.{meets, plays, rw_hears, rw_sound}
 use Rattle.parking_lot_world.proofs.MutexMoving.{steps}
 use Rattle.parking_lot_world.proofs.RwCrossing.{lists_are_known}
 use Rattle.parking_lot_world.proofs.RwTaking.{sleepers_at_a_lock_are_known, takes_are_steps, firsts_may_be_taken, writers_are_taken}
 use Rattle.parking_lot_world.proofs.TakeParts.{took_told, TakesSo, the_sleeper, list_here, list_there, first_there, took_list, took_after, took_elsewhere, waits_listed, waits_so}
+use Rattle.parking_lot_world.specs.Kinds.{AsRw, manner_of, recursive_in}
 use Rattle.parking_lot_world.specs.RowActs.{key_of, took}
 use Rattle.parking_lot_world.specs.RowFits.{FitsTogether, IsOfKind, IsPrepared, KnowsList}
 use Rattle.parking_lot_world.specs.Rows.{State, word_at, call_at, taken_by, rw_spot, rw_lock_at, first_of_all, mutex_spot, mutex_at}
 use Rattle.parking_lot_world.specs.RwLaws.{SleepsFirst, SleepsSecond}
 use Rattle.parking_lot_world.specs.Stances as stances
 use Rattle.parking_lot_world.specs.Stances.{Takes, In, rw_stance, mutex_stance, stance, taken_count, core_next}
-use Rattle.parking_lot_world.specs.declared.calls.LockKind.TheVariants as kind
 use Rattle.parking_lot_world.specs.declared.open_call.Call.{Call}
 use Rattle.parking_lot_world.specs.declared.seat.Core.{Core}
 
@@ -45,11 +47,6 @@ one_left : (q : List Waiter) → length (threads_of q) ≤ 1 → remove q 0 ≡ 
 one_left [] h = refl
 one_left (x ∷ []) h = refl
 one_left (x ∷ (y ∷ q)) h = absurd (omega (arith, h))
-
--- who sleeps at a mutex does nothing else
-sleeps : (q : MutexPhase) (k : ℕ) (park : ParkToken) → mutex_stance q ≡ stances.Asleep k park → (p : of_mutex.QueuePosition) (v : ℕ) → of_mutex.role p v q ≡ of_mutex.role p 0 MutexPhase.Sleeps
-sleeps MutexPhase.Sleeps k park e p v = refl
-sleeps q k park e p v = absurd (cc)
 
 module _ (s : State) (t : ℕ) (c : Call) (k : ℕ) (w : Waiter) (from : stance c.core ≡ In k Takes) (at : slice_get (s.lot.queues (key_of c k)) 0 ≡ Some w) (h : FitsTogether s) (here : call_at s t ≡ Some c) where
   abbrev u : State
@@ -73,11 +70,11 @@ module _ (s : State) (t : ℕ) (c : Call) (k : ℕ) (w : Waiter) (from : stance 
   -- AT A READER-WRITER LOCK
 
   -- who waits there, and how it sleeps
-  rw_waits : slice_get s.kinds c.lock ≡ Some kind.Rw → (y : RwCore) × (z.core ≡ Core.Rw y) × (((k ≡ 0) × SleepsFirst z.others ws y.phase w.token) ⊎ ((k ≡ 1) × SleepsSecond z.others ws y.phase))
+  rw_waits : manner_of (slice_get s.kinds c.lock) ≡ Some AsRw → (y : RwCore) × (z.core ≡ Core.Rw y) × (((k ≡ 0) × SleepsFirst z.others ws y.phase w.token) ⊎ ((k ≡ 1) × SleepsSecond z.others ws y.phase))
   rw_waits is =
       let o = waits_so s t c k w from at h here of_rws is in
       let x = the_sleeper s t c k w from at h here in
-      (o.0, o.1, sleepers_at_a_lock_are_known.stand z.others ws o.0.phase k w.token (meets s h v z o.0 o.1 x.there).prepared (ap stance (sym o.1) ∙ x.asleep))
+      (o.0, o.1, sleepers_at_a_lock_are_known.stand (recursive_in s.kinds z.lock) z.others ws o.0.phase k w.token (meets s h v z o.0 o.1 x.there).prepared (ap stance (sym o.1) ∙ x.asleep))
 
   scan_takes : (a : Scanning) (y : RwCore) (e : c.core ≡ Core.Rw (record y { phase = RwPhase.Scans a })) → 0 ≡ k → (o : RwCore) → z.core ≡ Core.Rw o → SleepsFirst z.others ws o.phase w.token → TakesSo s t c k w (Core.Rw (record y { phase = RwPhase.Scans a }))
   scan_takes a y e zero o its sleeps =
@@ -87,9 +84,9 @@ module _ (s : State) (t : ℕ) (c : Call) (k : ℕ) (w : Waiter) (from : stance 
       let first : 2 * c.lock ≡ key_of c k = omega (arith, zero) in
       let met = meets s h t c x e here in
       let knows : a.upgradable ≡ false = subst (λ (x : Core). KnowsList x s.lot.queues c.lock) e (h.rules.knows t c here) in
-      let writer : a.writer ≡ false = (subst (IsPrepared c.others) e (h.rules.prepared t c here)).1.1 in
+      let writer : a.writer ≡ false = (subst (IsPrepared (recursive_in s.kinds c.lock) c.others) e (h.rules.prepared t c here)).1.1 in
       let heard : of_rw.IsToken (Some w.token) = elim sleeps.token [ inl f ↦ inl f | inr f ↦ inr (inl f) ] in
-      let step = takes_are_steps (rw_lock_at s c.lock) t c.others (rw_spot c.spot) us a (word_at s c.lock) w.token (is_left (remove (s.lot.queues (key_of c k)) 0)) 0 v met heard
+      let step = takes_are_steps (recursive_in s.kinds c.lock) (rw_lock_at s c.lock) t c.others (rw_spot c.spot) us a (word_at s c.lock) w.token (is_left (remove (s.lot.queues (key_of c k)) 0)) 0 v met heard
       (firsts_may_be_taken (rw_lock_at s c.lock) a v mode (first_there s t c k w from at h here (2 * c.lock) first) (waits_listed s t c k w from at h here of_rws o its ∙ ap Some sleeps.listed) knows writer) in
       let well = rw_hears s h t c x e here (took_told s c k w) heard u.lot.queues (sleeps.token, ap is_left (took_list s t c k w from at h here (2 * c.lock) first)) in (
         (
@@ -111,7 +108,7 @@ module _ (s : State) (t : ℕ) (c : Call) (k : ℕ) (w : Waiter) (from : stance 
       let kind_is = subst (IsOfKind (slice_get s.kinds c.lock)) e (h.rules.kinds t c here) in
       let second : 2 * c.lock + 1 ≡ key_of c k = omega (arith, one) in
       let few : length (threads_of (s.lot.queues (2 * c.lock + 1))) ≤ 1 = lists_are_known.second (rw_lock_at s c.lock) (rw_sound s h c.lock kind_is) in
-      let step = writers_are_taken (rw_lock_at s c.lock) t c.others (rw_spot c.spot) us rest (word_at s c.lock) w.token (is_left (remove (s.lot.queues (key_of c k)) 0)) v (meets s h t c x e here)
+      let step = writers_are_taken (recursive_in s.kinds c.lock) (rw_lock_at s c.lock) t c.others (rw_spot c.spot) us rest (word_at s c.lock) w.token (is_left (remove (s.lot.queues (key_of c k)) 0)) v (meets s h t c x e here)
       (first_there s t c k w from at h here (2 * c.lock + 1) second) (waits_listed s t c k w from at h here of_rws o its ∙ ap Some sleeps.listed) in
       let none = took_list s t c k w from at h here (2 * c.lock + 1) second ∙ one_left (s.lot.queues (key_of c k)) (subst (λ n. length (threads_of (s.lot.queues n)) ≤ 1) second few) in
       let well = rw_hears s h t c x e here (took_told s c k w) tt u.lot.queues none in (
@@ -149,17 +146,17 @@ module _ (s : State) (t : ℕ) (c : Call) (k : ℕ) (w : Waiter) (from : stance 
       let first : 2 * c.lock ≡ key_of c k = omega (arith, zero) in
       let kind_is = subst (IsOfKind (slice_get s.kinds c.lock)) e (h.rules.kinds t c here) in
       let o = waits_so s t c k w from at h here of_mutexes kind_is in
-      let asleep = sleeps o.0.phase k w.token (ap stance (sym o.1) ∙ (the_sleeper s t c k w from at h here).asleep) in
+      let asleep = sleeps_so o.0 k w.token (ap stance (sym o.1) ∙ (the_sleeper s t c k w from at h here).asleep) in
       let nobody : us ≡ [] = no_length us (h.lots.counted t c here ∙ ap taken_count e) in
-      let step = steps.takes (mutex_at s c.lock) (word_at s c.lock) t v (mutex_spot c.spot) (MutexPhase.Takes giving) w.token left (plays s h t c x e here) refl (first_there s t c k w from at h here (2 * c.lock) first)
-      (waits_listed s t c k w from at h here of_mutexes o.0 o.1 ∙ ap Some (asleep of_mutex.Listed (first_of_all ws))) in (
+      let step = steps.takes (mutex_at s c.lock) (word_at s c.lock) t v (mutex_spot c.spot) (MutexPhase.Takes giving) w.token left asleep.0 (plays s h t c x e here) refl (first_there s t c k w from at h here (2 * c.lock) first)
+      (waits_listed s t c k w from at h here of_mutexes o.0 o.1 ∙ ap Some (asleep.2 ws)) in (
         (
-          mutex_goes s u t c.lock v us _ of_mutex.TakesOne there (took_elsewhere s t c k w from at h here) kind_is step.leads
-              (took_after s t c k w from at h here of_mutexes o.0 o.1 (record x { phase = of_mutex_table.next_phase (MutexPhase.Takes giving) (took_told s c k w) }) (ap (λ (x : Core). core_next x (took_told s c k w)) e)
-              (of_mutex.role of_mutex.Listed v (MutexPhase.Stores giving true left)) (ap (λ vs. of_mutex.role of_mutex.Listed (first_of_all (vs ++ v ∷ [])) (MutexPhase.Stores giving true left)) nobody) _ (asleep (of_mutex.Off t Open) (first_of_all ws)) _ _
+          mutex_goes s u t c.lock v us _ of_mutex.TakesOne there (took_elsewhere s t c k w from at h here) kind_is (asleep.0, step.leads)
+              (took_after s t c k w from at h here of_mutexes o.0 o.1 (Plain (record x { phase = of_mutex_table.next_phase (MutexPhase.Takes giving) (took_told s c k w) })) (ap (λ (x : Core). core_next x (took_told s c k w)) e)
+              (of_mutex.role of_mutex.Listed v (MutexPhase.Stores giving true left)) (ap (λ vs. of_mutex.role of_mutex.Listed (first_of_all (vs ++ v ∷ [])) (MutexPhase.Stores giving true left)) nobody) _ (asleep.3 t WakeResult.Nothing ws) _ _
               (list_here s t c k w from at h here (2 * c.lock) first) refl)
               (still_inside s.lot.section (phase.Taking 0)) tt,
-          subst (IsPrepared c.others) e (h.rules.prepared t c here),
+          subst (IsPrepared (recursive_in s.kinds c.lock) c.others) e (h.rules.prepared t c here),
           (ap is_left (took_list s t c k w from at h here (2 * c.lock) first), λ f. absurd (both_ways true f refl)),
           h.rules.bits c.lock,
         ),
@@ -171,6 +168,7 @@ module _ (s : State) (t : ℕ) (c : Call) (k : ℕ) (w : Waiter) (from : stance 
   pub takes_so : (x : Core) → c.core ≡ x → TakesSo s t c k w x
   takes_so (Core.Rw y) e = takes_rw y.phase y e (ap stance (sym e) ∙ from)
   takes_so (Core.Mutex y) e = takes_mutex y.phase y e (ap stance (sym e) ∙ from)
+  takes_so (Core.Late p) e = absurd (late_takes p k (ap stance (sym e) ∙ from))
 
   -- AND WHOEVER IS FIRST IS LET GO
 
@@ -182,7 +180,7 @@ module _ (s : State) (t : ℕ) (c : Call) (k : ℕ) (w : Waiter) (from : stance 
       let o = rw_waits (subst (IsOfKind (slice_get s.kinds c.lock)) e (h.rules.kinds t c here)) in
       elim o.2 [
         | inl x ↦ subst (λ n. wake_answer n w.token.0 ≡ Unpark) same
-            (sleepers_at_a_lock_are_known.taken a w.token.0 (subst (λ (x : Core). KnowsList x s.lot.queues c.lock) e (h.rules.knows t c here)) (subst (IsPrepared c.others) e (h.rules.prepared t c here)).1.1 x.1.token)
+            (sleepers_at_a_lock_are_known.taken a w.token.0 (subst (λ (x : Core). KnowsList x s.lot.queues c.lock) e (h.rules.knows t c here)) (subst (IsPrepared (recursive_in s.kinds c.lock) c.others) e (h.rules.prepared t c here)).1.1 x.1.token)
         | inr x ↦ absurd (omega (arith, zero, x.0))
       ]
   lets_go q y e is sum asked = absurd (cc)

@@ -14,11 +14,13 @@ use Rattle.parking_lot_protocol.specs.declared.rw_phase.RwPhase.{RwPhase}
 use Rattle.parking_lot_protocol.specs.declared.mutex_core.MutexCore.{MutexCore}
 use Rattle.parking_lot_protocol.specs.declared.mutex_phase.MutexPhase.{MutexPhase}
 use Rattle.parking_lot_rules.specs.Steps.{Join1, Join2}
+use Rattle.parking_lot_world.specs.Kinds.{recursive_in}
 use Rattle.parking_lot_world.specs.declared.seat.QueuePosition.{QueuePosition}
+use Rattle.parking_lot_world.specs.declared.seat.LatePhase.{LatePhase}
 use Rattle.parking_lot_world.specs.declared.seat.Core.{Core}
 use Rattle.parking_lot_world.specs.declared.open_call.Call.{Call}
 use Rattle.parking_lot_world.specs.Rows.{State, word_at, call_at, taken_by, first_of_all, rw_spot, mutex_spot, rw_lock_at, mutex_at, inside}
-use Rattle.parking_lot_world.specs.Stances.{Joins, In, rw_stance, mutex_stance, stance, core_act, core_next, Takes, Stores, taken_count}
+use Rattle.parking_lot_world.specs.Stances.{Joins, In, late_stance, rw_stance, mutex_stance, stance, core_act, core_next, Takes, Stores, taken_count}
 use Rattle.parking_lot_world.specs.RowActs.{key_of, appended, took_nobody}
 use Rattle.parking_lot_world.specs.RowFits.{FitsTogether, LotFits, WakesFit, IsOfKind, IsPrepared, KnowsList}
 use Rattle.parking_lot_world.specs.ActLaws.{Acts}
@@ -28,7 +30,7 @@ use Rattle.parking_lot_world.proofs.LotActs.{awake_by, up_by, took_nobody_fits}
 use Rattle.parking_lot_world.proofs.LotLists.{one_key, appended_fits}
 use Rattle.parking_lot_world.proofs.RwMoving.{joins_are_steps}
 use Rattle.parking_lot_world.proofs.MutexMoving.{steps}
-use Rattle.parking_lot_world.proofs.KindTable.{of_rws, of_mutexes, same}
+use Rattle.parking_lot_world.proofs.KindTable.{Plain, of_rws, of_mutexes, same}
 use Rattle.parking_lot_world.proofs.Making.{mutex_goes, rw_goes}
 use Rattle.parking_lot_world.proofs.Meeting.{meets, plays}
 use Rattle.parking_lot_world.proofs.Owning.{OwnAct, own-there, own-elsewhere, own_after, rw_leads}
@@ -49,6 +51,20 @@ use Rattle.parking_lot_protocol.specs.RwTable as of_rw_table
 use Rattle.parking_lot_protocol.specs.MutexTable as of_mutex_table
 use Rattle.parking_lot_protocol.specs.MutexRules as of_mutex
 use Rattle.parking_lot_world.specs.Stances as stances
+
+late_joins : (p : LatePhase) (k : ℕ) (token : ParkToken) → late_stance p ≡ In k (Joins token) → ⊥
+late_joins LatePhase.Expires k token e = cc
+late_joins LatePhase.Quits k token e = cc
+late_joins LatePhase.Masks k token e = cc
+late_joins LatePhase.Leaves k token e = cc
+late_joins LatePhase.GivesUp k token e = cc
+
+pub late_takes : (p : LatePhase) (k : ℕ) → late_stance p ≡ In k Takes → ⊥
+late_takes LatePhase.Expires k e = cc
+late_takes LatePhase.Quits k e = cc
+late_takes LatePhase.Masks k e = cc
+late_takes LatePhase.Leaves k e = cc
+late_takes LatePhase.GivesUp k e = cc
 
 module _ (s : State) (t : ℕ) (c : Call) (k : ℕ) (token : ParkToken) (asked : core_act c.core ≡ Act.Section (section.Append token)) (from : stance c.core ≡ In k (Joins token))
     (sound : lot.Sound (appended s t c (key_of c k) token).lot) (h : FitsTogether s) (here : call_at s t ≡ Some c) where
@@ -116,11 +132,11 @@ module _ (s : State) (t : ℕ) (c : Call) (k : ℕ) (token : ParkToken) (asked :
       let a = own_of (Core.Rw z) e in
       let zero : 0 ≡ k = cc in (
         rw_goes s u t c.lock (of_rw.Joins (Join1 (of_rw.mode_of want))) _ (own-there s u t c ActResult.Made _ QueuePosition.Listed a) (own-elsewhere s u t c ActResult.Made _ QueuePosition.Listed a) (subst (IsOfKind (slice_get s.kinds c.lock)) e (h.rules.kinds t c here))
-            (joins_are_steps.first (rw_lock_at s c.lock) t c.others (rw_spot c.spot) owed want (word_at s c.lock) (meets s h t c z e here))
+            (joins_are_steps.first (recursive_in s.kinds c.lock) (rw_lock_at s c.lock) t c.others (rw_spot c.spot) owed want (word_at s c.lock) (meets s h t c z e here))
             (own_after of_rws s u t c ActResult.Made (record z { phase = of_rw_table.next_phase (RwPhase.Appends want) ActResult.Made }) QueuePosition.Listed a (word_at s c.lock) refl
             ∙ same of_rws _ _ _ _ _ _ _ _ refl refl (list_here (2 * c.lock) (omega (arith, zero))) (list_there (2 * c.lock + 1) (λ f. omega (arith, zero, f))))
             (still_inside s.lot.section phase.Joined),
-        (tt, (subst (IsPrepared c.others) e (h.rules.prepared t c here)).1),
+        (tt, (subst (IsPrepared (recursive_in s.kinds c.lock) c.others) e (h.rules.prepared t c here)).1),
         tt,
         h.rules.bits c.lock,
       )
@@ -129,11 +145,11 @@ module _ (s : State) (t : ℕ) (c : Call) (k : ℕ) (token : ParkToken) (asked :
       let a = own_of (Core.Rw z) e in
       let one : 1 ≡ k = cc in (
         rw_goes s u t c.lock (of_rw.Joins (Join2 false)) _ (own-there s u t c ActResult.Made _ QueuePosition.Listed a) (own-elsewhere s u t c ActResult.Made _ QueuePosition.Listed a) (subst (IsOfKind (slice_get s.kinds c.lock)) e (h.rules.kinds t c here))
-            (joins_are_steps.second (rw_lock_at s c.lock) t c.others (rw_spot c.spot) owed rounds (word_at s c.lock) (meets s h t c z e here))
+            (joins_are_steps.second (recursive_in s.kinds c.lock) (rw_lock_at s c.lock) t c.others (rw_spot c.spot) owed rounds (word_at s c.lock) (meets s h t c z e here))
             (own_after of_rws s u t c ActResult.Made (record z { phase = of_rw_table.next_phase (RwPhase.DrainAppends rounds) ActResult.Made }) QueuePosition.Listed a (word_at s c.lock) refl
             ∙ same of_rws _ _ _ _ _ _ _ _ refl refl (list_there (2 * c.lock) (λ f. omega (arith, one, f))) (list_here (2 * c.lock + 1) (omega (arith, one))))
             (still_inside s.lot.section phase.Joined),
-        (tt, (subst (IsPrepared c.others) e (h.rules.prepared t c here)).1),
+        (tt, (subst (IsPrepared (recursive_in s.kinds c.lock) c.others) e (h.rules.prepared t c here)).1),
         tt,
         h.rules.bits c.lock,
       )
@@ -148,9 +164,9 @@ module _ (s : State) (t : ℕ) (c : Call) (k : ℕ) (token : ParkToken) (asked :
       let zero : 0 ≡ k = cc in (
         mutex_goes s u t c.lock (first_of_all owed) owed _ of_mutex.Joins (own-there s u t c ActResult.Made _ QueuePosition.Listed a) (own-elsewhere s u t c ActResult.Made _ QueuePosition.Listed a) (subst (IsOfKind (slice_get s.kinds c.lock)) e (h.rules.kinds t c here))
             (steps.joins (mutex_at s c.lock) (word_at s c.lock) t (first_of_all owed) (mutex_spot c.spot) MutexPhase.Appends (record { 0 = 0 }) (plays s h t c z e here) refl).leads
-            (own_after of_mutexes s u t c ActResult.Made (record z { phase = of_mutex_table.next_phase MutexPhase.Appends ActResult.Made }) QueuePosition.Listed a (word_at s c.lock) refl ∙ same of_mutexes _ _ _ _ _ _ [] [] refl refl (list_here (2 * c.lock) (omega (arith, zero))) refl)
+            (own_after of_mutexes s u t c ActResult.Made (Plain (record z { phase = of_mutex_table.next_phase MutexPhase.Appends ActResult.Made })) QueuePosition.Listed a (word_at s c.lock) refl ∙ same of_mutexes _ _ _ _ _ _ [] [] refl refl (list_here (2 * c.lock) (omega (arith, zero))) refl)
             (still_inside s.lot.section phase.Joined) tt,
-        subst (IsPrepared c.others) e (h.rules.prepared t c here),
+        subst (IsPrepared (recursive_in s.kinds c.lock) c.others) e (h.rules.prepared t c here),
         tt,
         h.rules.bits c.lock,
       )
@@ -159,6 +175,7 @@ module _ (s : State) (t : ℕ) (c : Call) (k : ℕ) (token : ParkToken) (asked :
   by_core : (x : Core) → c.core ≡ x → Fitted s u t c ActResult.Made x
   by_core (Core.Rw y) e = joins_rw y.phase y e (ap stance (sym e) ∙ from)
   by_core (Core.Mutex y) e = joins_mutex y.phase y e (ap stance (sym e) ∙ from)
+  by_core (Core.Late p) e = absurd (late_joins p k token (ap stance (sym e) ∙ from))
 
   pub appends : (told : ActResult) × Acts t c told s u
   appends = let both = rules_own s u t c ActResult.Made QueuePosition.Listed own h others (by_core c.core refl) in (ActResult.Made, record { fits = record { lots = leads.2; wakes = wakes; rules = both.0 }; goes = both.1 })
@@ -183,6 +200,7 @@ mutex_takes q y k e = absurd (cc)
 pub asks_to_take : (x : Core) (k : ℕ) → stance x ≡ In k Takes → AsksToTake (core_act x)
 asks_to_take (Core.Rw y) k e = rw_takes y.phase y k e
 asks_to_take (Core.Mutex y) k e = mutex_takes y.phase y k e
+asks_to_take (Core.Late p) k e = absurd (late_takes p k e)
 
 -- whatever it takes, the word stays
 pub takes_no_word : (a : Act) (told : ActResult) (x : ℕ) → AsksToTake a → word_after a told x ≡ x
@@ -251,17 +269,17 @@ module _ (s : State) (t : ℕ) (c : Call) (k : ℕ) (from : stance c.core ≡ In
   stays_rw : (z : RwCore) → c.core ≡ Core.Rw z → of_rw.IsTold z.phase (word_at s c.lock) finds_none → Finds (of_rw_table.act_of z.phase) (rw_lock_at s c.lock) → OwnMove (of_rw.move c.others owed_here z.phase finds_none) t (inside s) (inside found_state) → IsRwMove (of_rw.move c.others owed_here z.phase finds_none) c.lock t s found_state
   stays_rw z e heard finds moves =
       let a = find_of (Core.Rw z) e in
-      let leads_on = rw_leads (rw_lock_at s c.lock) t c.others c.spot owed_here z.phase (word_at s c.lock) finds_none (meets s h t c z e here) heard finds a.listed (inside s) (inside found_state) moves in
+      let leads_on = rw_leads (recursive_in s.kinds c.lock) (rw_lock_at s c.lock) t c.others c.spot owed_here z.phase (word_at s c.lock) finds_none (meets s h t c z e here) heard finds a.listed (inside s) (inside found_state) moves in
       rw_goes s found_state t c.lock (of_rw.move c.others owed_here z.phase finds_none) _ (own-there s found_state t c finds_none _ c.spot a) (own-elsewhere s found_state t c finds_none _ c.spot a) (subst (IsOfKind (slice_get s.kinds c.lock)) e (h.rules.kinds t c here)) leads_on.0
       (own_after of_rws s found_state t c finds_none (record z { phase = of_rw_table.next_phase z.phase finds_none }) c.spot a _ (a.word ∙ ap (λ y. word_after (core_act y) finds_none (word_at s c.lock)) e)) leads_on.1
 
   finds_rw : (q : RwPhase) (y : RwCore) → c.core ≡ Core.Rw (record y { phase = q }) → rw_stance q ≡ In k Takes → Fitted s found_state t c finds_none (Core.Rw (record y { phase = q }))
   finds_rw (RwPhase.TakeWriter rest) y e at =
       let one : 1 ≡ k = cc in
-      (stays_rw (record y { phase = RwPhase.TakeWriter rest }) e tt tt (still_inside s.lot.section phase.Ended), subst (IsPrepared c.others) e (h.rules.prepared t c here), list_empty (2 * c.lock + 1) (omega (arith, one)), h.rules.bits c.lock)
+      (stays_rw (record y { phase = RwPhase.TakeWriter rest }) e tt tt (still_inside s.lot.section phase.Ended), subst (IsPrepared (recursive_in s.kinds c.lock) c.others) e (h.rules.prepared t c here), list_empty (2 * c.lock + 1) (omega (arith, one)), h.rules.bits c.lock)
   finds_rw (RwPhase.Scans b) y e at =
       let zero : 0 ≡ k = cc in
-      let ready = subst (IsPrepared c.others) e (h.rules.prepared t c here) in (
+      let ready = subst (IsPrepared (recursive_in s.kinds c.lock) c.others) e (h.rules.prepared t c here) in (
         stays_rw (record y { phase = RwPhase.Scans b }) e tt tt (still_inside s.lot.section phase.Ended),
         (ready.0, ready.1.0),
         (subst (λ (x : Core). KnowsList x s.lot.queues c.lock) e (h.rules.knows t c here), ap (λ n. is_left (s.lot.queues n)) (omega (arith, zero)), inr none_left),
@@ -278,8 +296,8 @@ module _ (s : State) (t : ℕ) (c : Call) (k : ℕ) (from : stance c.core ≡ In
       let zero : 0 ≡ k = cc in (
         mutex_goes s found_state t c.lock (first_of_all owed_here) owed_here _ of_mutex.Stays (own-there s found_state t c finds_none _ c.spot a) (own-elsewhere s found_state t c finds_none _ c.spot a) (subst (IsOfKind (slice_get s.kinds c.lock)) e (h.rules.kinds t c here))
             (steps.takes_nobody (mutex_at s c.lock) (word_at s c.lock) t (first_of_all owed_here) (mutex_spot c.spot) (MutexPhase.Takes giving) left_over (plays s h t c z e here) refl).leads
-            (own_after of_mutexes s found_state t c finds_none (record z { phase = of_mutex_table.next_phase (MutexPhase.Takes giving) finds_none }) c.spot a (word_at s c.lock) refl) (still_inside s.lot.section phase.Ended) tt,
-        subst (IsPrepared c.others) e (h.rules.prepared t c here),
+            (own_after of_mutexes s found_state t c finds_none (Plain (record z { phase = of_mutex_table.next_phase (MutexPhase.Takes giving) finds_none })) c.spot a (word_at s c.lock) refl) (still_inside s.lot.section phase.Ended) tt,
+        subst (IsPrepared (recursive_in s.kinds c.lock) c.others) e (h.rules.prepared t c here),
         (ap (λ n. is_left (s.lot.queues n)) (omega (arith, zero)), λ f. none_left),
         h.rules.bits c.lock,
       )
@@ -287,6 +305,7 @@ module _ (s : State) (t : ℕ) (c : Call) (k : ℕ) (from : stance c.core ≡ In
 
   find_by_core : (x : Core) → c.core ≡ x → Fitted s found_state t c finds_none x
   find_by_core (Core.Rw y) e = finds_rw y.phase y e (ap stance (sym e) ∙ from)
+  find_by_core (Core.Late p) e = absurd (late_takes p k (ap stance (sym e) ∙ from))
   find_by_core (Core.Mutex y) e = finds_mutex y.phase y e (ap stance (sym e) ∙ from)
 
   pub takes_nobody : (what : ActResult) × Acts t c what s found_state

@@ -10,12 +10,13 @@ use Rattle.parking_lot_core_lot.specs.declared.parking.ParkToken.{ParkToken}
 use Rattle.parking_lot_core_lot.specs.declared.place.Waiter.{Waiter}
 use Rattle.parking_lot_protocol.specs.declared.mutex_phase.MutexPhase.{MutexPhase}
 use Rattle.parking_lot_protocol.specs.declared.rw_phase.RwPhase.{RwPhase}
+use Rattle.parking_lot_world.specs.Kinds.{Manner, manner_of}
 use Rattle.parking_lot_world.specs.declared.seat.QueuePosition.{QueuePosition}
 use Rattle.parking_lot_world.specs.declared.seat.Core.{Core}
 use Rattle.parking_lot_world.specs.declared.open_call.Call.{Call}
 use Rattle.parking_lot_world.specs.Rows.{State, call_at, word_at, taken_by, is_by, queue_at}
 use Rattle.parking_lot_world.specs.Stances.{Doing, Takes, Stores, Stance, In, Asleep, mutex_stance, rw_stance, stance, core_act, core_next}
-use Rattle.parking_lot_world.specs.RowFits.{FitsTogether, LotFits, KnowsList, mutex_knows, rw_knows, WakesFit, IsOfKind, is_away, is_off}
+use Rattle.parking_lot_world.specs.RowFits.{FitsTogether, LotFits, KnowsList, mutex_knows, rw_knows, WakesFit, is_away, is_off, IsOfManner}
 use Rattle.parking_lot_world.proofs.Carrying.{same_call, awake_sleeps}
 use Rattle.parking_lot_world.proofs.LotActs.{outside_of, seat_of, awake_by}
 use Rattle.parking_lot_core_lot.specs.Machine.{threads_of}
@@ -34,7 +35,6 @@ use Rattle.parking_lot_world.proofs.Indexing.{get_front}
 use Rattle.parking_lot_world.proofs.Everybody.{all, change-two}
 use Rattle.parking_lot_world.proofs.KindTable.{Kind, IsThere, Elsewhere, in_its_place, role_at, role_now, role_stays, roles_at, same, shown}
 use Rattle.parking_lot_world.proofs.Ruling.{Fitted}
-use Rattle.parking_lot_world.specs.declared.calls.LockKind.{LockKind}
 use Rattle.parking_lot_world.proofs.Meeting.{in_range}
 use Rattle.parking_lot_world.proofs.Calling.{call_of, slot, call-elsewhere}
 use Rattle.parking_lot_world.proofs.LotLists.{one_key}
@@ -55,6 +55,7 @@ rw_out (RwPhase.ClearWriterParked rest taken) first second out = absurd (out 1 S
 rw_out p first second out = tt
 
 pub out_knows : (x : Core) (queues : ℕ → List Waiter) (j : ℕ) → IsOut (stance x) → KnowsList x queues j
+out_knows (Core.Late p) queues j out = tt
 out_knows (Core.Mutex c) queues j out = mutex_out c.phase (queues (2 * j)) out
 out_knows (Core.Rw c) queues j out = rw_out c.phase (queues (2 * j)) (queues (2 * j + 1)) out
 
@@ -193,8 +194,8 @@ module _ (s : State) (t : ℕ) (c : Call) (k : ℕ) (w : Waiter) (from : stance 
 
   module _ {C R L : Type 0} (K : Kind C R L) where
     -- who waits there is in a call of the lock's kind
-    pub waits_so : slice_get s.kinds c.lock ≡ Some K.kind → (q : C) × (z.core ≡ K.core q)
-    waits_so is = K.only z.core (subst (λ (o : Option LockKind). IsOfKind o z.core) (ap (slice_get s.kinds) the_sleeper.lock ∙ is) (h.rules.kinds w.thread z the_sleeper.there))
+    pub waits_so : manner_of (slice_get s.kinds c.lock) ≡ Some K.manner → (q : C) × (z.core ≡ K.core q)
+    waits_so is = K.only z.core (subst (λ (o : Option Manner). IsOfManner o z.core) (ap (λ j. manner_of (slice_get s.kinds j)) the_sleeper.lock ∙ is) (h.rules.kinds w.thread z the_sleeper.there))
 
     module _ (q : C) (its : z.core ≡ K.core q) where
       -- it waits in its list

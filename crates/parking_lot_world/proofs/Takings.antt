@@ -29,7 +29,7 @@ use Rattle.parking_lot_world.specs.RowFits.{FitsTogether, LotFits, is_away, is_o
 use Rattle.parking_lot_world.specs.Stances.{In, Takes, stance, core_act}
 use Rattle.parking_lot_world.proofs.Calling.{slot}
 use Rattle.parking_lot_world.proofs.LotCalls.{lot_never_refuses}
-use Rattle.parking_lot_world.proofs.TakeActs.{scans_first, scans_none}
+use Rattle.parking_lot_world.proofs.TakeActs.{late_scans, scans_first, scans_none}
 use Rattle.parking_lot_world.proofs.TakeLaws.{laws}
 
 module _ (s : State) (t : ℕ) (c : Call) (k : ℕ) (from : stance c.core ≡ In k Takes) where
@@ -114,3 +114,4 @@ takes_fit s t c u x sound h here = elim x.2 [
 pub scan_key : (x : Core) (k sum : ℕ) → stance x ≡ In k Takes → core_act x ≡ act.Section (section.TakeNext sum) → k ≡ 0
 scan_key (Core.Rw y) k sum from asked = let e : In k Takes ≡ In 0 Takes = sym from ∙ scans_first y.phase k sum from asked in cc
 scan_key (Core.Mutex y) k sum from asked = absurd (scans_none y.phase k sum from asked)
+scan_key (Core.Late p) k sum from asked = absurd (late_scans p sum asked)

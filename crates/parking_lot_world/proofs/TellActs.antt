@@ -47,8 +47,8 @@ mask s t c keep asked sound h here =
     let heard = ActResult.Before (word_at s c.lock) in
     let word = bit_and (word_at s c.lock) keep in
     let leads = leads_by c.core (act.FetchAnd keep) (word_at s c.lock) heard asked refl in
-    let fit = mask_fits s t c keep asked h here 1 leads.0 in
-    (heard, record { fits = record { lots = lots_told s t c heard (sign false) word 1 h.lots here leads.0 leads.1 leads.2 sound; wakes = wakes_told s t c heard (sign false) word h here; rules = rules_told s t c heard (sign false) word h here fit }; goes = fit.0 })
+    let fit = mask_fits s t c keep asked h here leads.0 leads.1 in
+    (heard, record { fits = record { lots = lots_told s t c heard (sign false) word leads.0 h.lots here leads.1 leads.2 leads.3 sound; wakes = wakes_told s t c heard (sign false) word h here; rules = rules_told s t c heard (sign false) word h here fit }; goes = fit.0 })
 
 -- WAKING
 

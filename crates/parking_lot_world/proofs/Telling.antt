@@ -1,5 +1,5 @@
 -- Stores that tell those whom a thread has taken: steps of the rules at a lock of either kind.
-use Rattle.std.proofs.Common.{◌≡◌, ◌≢◌, ℕ, ◌+◌, ◌*◌, ◌<◌, inl, inr, cond, Bool, true, false, List, [], ◌∷◌, length, map, Option, Some, None, slice_get, slice_set, refl, sym, ap, ◌∙◌, subst}
+use Rattle.std.proofs.Common.{◌≡◌, ◌≢◌, ℕ, zero, suc, arith, ◌-◌, ◌^◌, ◌+◌, ◌*◌, ◌<◌, inl, inr, cond, Bool, true, false, List, [], ◌∷◌, length, map, Option, Some, None, slice_get, slice_set, refl, sym, ap, ◌∙◌, subst}
 use Rattle.std.proofs.lemmas.Bool.{cases_eq}
 use Rattle.std.specs.Option.{option_map, option_and_then}
 use Rattle.std.specs.Prelude.{bit_and}
@@ -26,25 +26,27 @@ use Rattle.parking_lot_protocol.specs.declared.rw_phase.RwPhase.{RwPhase}
 use Rattle.parking_lot_rules.specs.Plain.{Mask2}
 use Rattle.parking_lot_rules.specs.Steps.{settle, ends_saying}
 use Rattle.parking_lot_rules.specs.Mutex as mutex
+use Rattle.parking_lot_rules.specs.Any.{Mx, MxStep}
+use Rattle.parking_lot_world.specs.Kinds.{Manner, manner_of, recursive_in}
 use Rattle.parking_lot_world.specs.MutexLaws.{IsTelling}
 use Rattle.parking_lot_world.specs.RowActs.{settled_spot, settled, told_of}
-use Rattle.parking_lot_world.specs.RowFits.{FitsTogether, IsOfKind, IsPrepared, KnowsList}
-use Rattle.parking_lot_world.specs.Rows.{State, word_at, call_at, hold_at, taken_by, mark_of, rw_spot, rw_lock_at, first_of_all, mutex_spot, mutex_at, queue_at}
+use Rattle.parking_lot_world.specs.RowFits.{FitsTogether, IsOfKind, IsPrepared, KnowsList, IsOfManner}
+use Rattle.parking_lot_world.specs.Rows.{State, word_at, call_at, hold_at, taken_by, mark_of, rw_spot, rw_lock_at, first_of_all, mutex_spot, mutex_word_of, mutex_at, queue_at}
 use Rattle.parking_lot_world.specs.RowSteps.{IsMutexMove}
 use Rattle.parking_lot_world.specs.RwLaws.{ending_of}
-use Rattle.parking_lot_world.specs.Stances.{Doing, In, Asleep, Stores, sign, mutex_stance, rw_stance, stance, taken_count, core_act, core_next, core_tells}
-use Rattle.parking_lot_world.specs.declared.calls.LockKind.{LockKind}
+use Rattle.parking_lot_world.specs.Stances.{Doing, In, Asleep, Stores, sign, late_act, mutex_stance, rw_stance, stance, taken_count, core_act, core_next, core_tells}
 use Rattle.parking_lot_world.specs.declared.open_call.Call.{Call}
+use Rattle.parking_lot_world.specs.declared.seat.LatePhase.{LatePhase}
 use Rattle.parking_lot_world.specs.declared.seat.Core.{Core}
 use Rattle.parking_lot_world.specs.declared.seat.QueuePosition.{QueuePosition}
 use Rattle.parking_lot_world.proofs.Acting.{word-here, has_word}
 use Rattle.parking_lot_world.proofs.Everybody.{all, get-all, settle-all}
-use Rattle.parking_lot_world.proofs.KindTable.{Kind, of_rws, of_mutexes, IsThere, role_at, role_now, roles_at, same, shown}
-use Rattle.parking_lot_world.proofs.Making.{mutex_goes, rw_goes}
-use Rattle.parking_lot_world.proofs.Meeting.{in_range, meets, plays, rw_hears}
+use Rattle.parking_lot_world.proofs.KindTable.{Plain, Late, MutexCall, mutex_plays, Kind, of_rws, of_mutexes, IsThere, role_at, role_now, roles_at, same, shown}
+use Rattle.parking_lot_world.proofs.Making.{made, mutex_goes, rw_goes}
+use Rattle.parking_lot_world.proofs.Meeting.{in_range, meets, plays, plays_late, rw_hears}
 use Rattle.parking_lot_world.proofs.MutexMoving.{steps}
 use Rattle.parking_lot_world.proofs.MutexRoles.{roles}
-use Rattle.parking_lot_world.proofs.MutexTelling.{tells_phase}
+use Rattle.parking_lot_world.proofs.MutexTelling.{masks_call, tells_call}
 use Rattle.parking_lot_world.proofs.OwnActs.{two_kinds}
 use Rattle.parking_lot_world.proofs.Ruling.{Fitted}
 use Rattle.parking_lot_world.proofs.RwMoving.{makes_are_steps}
@@ -90,7 +92,7 @@ module _ {C R L : Type 0} (K : Kind C R L) (s : State) (t : ℕ) (c : Call) (hea
       go (Some f) at = elim (cases_eq f.lock c.lock) [
         | inl there ↦
             let kind_is = K.of_kind (slice_get s.kinds c.lock) k (subst (IsOfKind (slice_get s.kinds c.lock)) e (h.rules.kinds t c here)) in
-            let j = K.only f.core (subst (λ (o : Option LockKind). IsOfKind o f.core) (ap (slice_get s.kinds) there ∙ kind_is) (h.rules.kinds x f at)) in
+            let j = K.only f.core (subst (λ (o : Option Manner). IsOfManner o f.core) (ap (λ j. manner_of (slice_get s.kinds j)) there ∙ kind_is) (h.rules.kinds x f at)) in
             let was = K.here c.lock (taken_by s.wakes x) (hold_at s x c.lock) f j.0 j.1 there in
             K.here c.lock (taken_by s.wakes x) (hold_at s x c.lock) (settled t (told_of token) f) j.0 j.1 there
             ∙ tells x f.others f.spot (taken_by s.wakes x) j.0 (get-all (role_at K s c.lock) (length s.calls) x low ∙ ap Some (ap (K.role_in c.lock (taken_by s.wakes x) (hold_at s x c.lock)) at ∙ was)) ∙ ap g (sym was)
@@ -106,6 +108,21 @@ module _ {C R L : Type 0} (K : Kind C R L) (s : State) (t : ℕ) (c : Call) (hea
       (role_now K u t (taken_by s.wakes t) (settled t (told_of token) (next_call s t c heard token word)) q (told_here s t c heard token word h here) refl next
       ∙ K.listed c.others (taken_by s.wakes t) q (settled_spot t (told_of token) c.spot) (λ key park z. absurd (awake key park z))))
       refl refl
+
+late_stores : {plain fair : WordChange} (p : LatePhase) → late_act p ≡ Act.Section (section.Store plain fair) → ⊥
+late_stores LatePhase.Expires e = cc
+late_stores LatePhase.Quits e = cc
+late_stores LatePhase.Masks e = cc
+late_stores LatePhase.Leaves e = cc
+late_stores LatePhase.GivesUp e = cc
+
+-- the parked bit is off
+masks_word : (x : ℕ) → x < 4 → (mutex_word_of (bit_and x (2 ^ 64 - 3)) ≡ record (mutex_word_of x) { parked = 0 }) × (bit_and x (2 ^ 64 - 3) < 4)
+masks_word zero h = (refl, omega arith)
+masks_word (suc zero) h = (refl, omega arith)
+masks_word (suc (suc zero)) h = (refl, omega arith)
+masks_word (suc (suc (suc zero))) h = (refl, omega arith)
+masks_word (suc (suc (suc (suc x)))) h = absurd (omega (arith, h))
 
 -- THE END OF A SCAN, OR OF A RELEASE
 
@@ -141,7 +158,7 @@ module _ (s : State) (t : ℕ) (c : Call) (plain fair : WordChange) (is_fair : B
       let says : mark_of (told_of token) ≡ ends_saying (ending_of a is_fair) = ap (λ (x : Core). mark_of (told_of (core_tells (core_next x heard)))) e ∙ tokens_say a left is_fair in
       let well = rw_hears s h t c z e here heard tt s.lot.queues tt in (
         rw_goes s next t c.lock (of_rw.move c.others taken (RwPhase.Stores a left) heard) _ there (told_elsewhere s t c heard token word h here) kind_is
-            (of_rw.scan_of c.others a taken, stores_are_steps (rw_lock_at s c.lock) t c.others (rw_spot c.spot) taken a left (word_at s c.lock) is_fair met (left_threads (s.lot.queues (2 * c.lock)) ∙ knows.1) knows.2)
+            (of_rw.scan_of c.others a taken, stores_are_steps (recursive_in s.kinds c.lock) (rw_lock_at s c.lock) t c.others (rw_spot c.spot) taken a left (word_at s c.lock) is_fair met (left_threads (s.lot.queues (2 * c.lock)) ∙ knows.1) knows.2)
             (told_after of_rws s t c heard token word h here z (record z { phase = of_rw_table.next_phase (RwPhase.Stores a left) heard }) e (ap (λ (x : Core). core_next x heard) e) (λ at park w. in_asleep w) (settle (ends_saying (ending_of a is_fair))) (λ o. refl)
             (λ x n at vs p there_is. subst (λ v. of_rw.role n (rw_spot (settled_spot t (told_of token) at)) vs p.phase ≡ settle v (of_rw.role n (rw_spot at) vs p.phase)) says
             (stores_tell.here (rw_lock_at s c.lock) t x n at vs p.phase (of_rw.scan_of c.others a taken) (told_of token) met.sound met.here there_is))
@@ -165,13 +182,13 @@ module _ (s : State) (t : ℕ) (c : Call) (plain fair : WordChange) (is_fair : B
       let written : word ≡ word_after (of_mutex_table.act_of (MutexPhase.Stores giving has left)) heard (word_at s c.lock) = ap (λ (x : Act). word_after x heard (word_at s c.lock)) (sym asks) in (
         subst (λ (x : of_mutex.Move). IsMutexMove x taken c.lock t s next) (sym telling.move)
             (mutex_goes s next t c.lock first taken _ (of_mutex.Tells telling.taken telling.handed telling.left) there (told_elsewhere s t c heard token word h here) kind_is telling.leads
-            (told_after of_mutexes s t c heard token word h here z (record z { phase = of_mutex_table.next_phase (MutexPhase.Stores giving has left) heard }) e (ap (λ (x : Core). core_next x heard) e) (λ at park w. in_asleep w) (mutex.settle (of_mutex.mark_of telling.handed)) (λ o. refl)
-            (λ x n at vs p there_is. subst (λ v. of_mutex.role (mutex_spot (settled_spot t (told_of token) at)) (first_of_all vs) p.phase ≡ mutex.settle v (of_mutex.role (mutex_spot at) (first_of_all vs) p.phase)) says
-            (tells_phase (mutex_at s c.lock) t x (of_mutex.taken_of first has) vs (told_of token) playing.sound playing.here (first_of_all vs) at p.phase there_is))
+            (told_after of_mutexes s t c heard token word h here (Plain z) (Plain (record z { phase = of_mutex_table.next_phase (MutexPhase.Stores giving has left) heard })) e (ap (λ (x : Core). core_next x heard) e) (λ at park w. in_asleep w) (mutex.settle (of_mutex.mark_of telling.handed)) (λ o. refl)
+            (λ x n at vs p there_is. subst (λ v. mutex_plays (settled_spot t (told_of token) at) vs p ≡ mutex.settle v (mutex_plays at vs p)) says
+            (tells_call (mutex_at s c.lock) t x (of_mutex.taken_of first has) vs (told_of token) playing.sound playing.here at p there_is))
             (word_after (of_mutex_table.act_of (MutexPhase.Stores giving has left)) heard (word_at s c.lock)) written)
             (inside_stored token s.lot.section)
             (roles.taken (MutexPhase.Stores giving has left) taken telling.taken (h.lots.counted t c here ∙ ap taken_count e) telling.count)),
-        subst (IsPrepared c.others) e (h.rules.prepared t c here),
+        subst (IsPrepared (recursive_in s.kinds c.lock) c.others) e (h.rules.prepared t c here),
         tt,
         λ x. subst (λ n. n < 4) (sym (word-here s.words c.lock word (has_word s h t c here) ∙ written)) telling.small,
       )
@@ -182,6 +199,7 @@ module _ (s : State) (t : ℕ) (c : Call) (plain fair : WordChange) (is_fair : B
     where
       go : (x : Core) → c.core ≡ x → Fitted s next t c heard x
       go (Core.Rw y) e = store_rw y.phase y e (ap core_act (sym e) ∙ asked) key (ap stance (sym e) ∙ from)
+      go (Core.Late p) e = absurd (late_stores p (ap core_act (sym e) ∙ asked))
       go (Core.Mutex y) e = store_mutex y.phase y e (ap core_act (sym e) ∙ asked) key (ap stance (sym e) ∙ from)
 
 -- THE LAST READER TAKES THE MARK OF A PENDING WRITER OFF THE WORD
@@ -203,7 +221,7 @@ module _ (s : State) (t : ℕ) (c : Call) (keep : ℕ) (asked : core_act c.core 
       let met = meets s h t c z e here in
       let well = rw_hears s h t c z e here before refl s.lot.queues tt in (
         rw_goes s mask_then t c.lock (of_rw.move c.others us q before) _ (subst (IsThere c.lock) (sym here) refl) (told_elsewhere s t c before (sign false) (bit_and (word_at s c.lock) keep) h here) kind_is
-            (makes_are_steps l t c.others (rw_spot c.spot) us q (word_at s c.lock) before (Mask2 c.others us) met refl refl (ap threads_of (subst (λ (x : Core). KnowsList x s.lot.queues c.lock) e (h.rules.knows t c here))))
+            (makes_are_steps (recursive_in s.kinds c.lock) l t c.others (rw_spot c.spot) us q (word_at s c.lock) before (Mask2 c.others us) met refl refl (ap threads_of (subst (λ (x : Core). KnowsList x s.lot.queues c.lock) e (h.rules.knows t c here))))
             (told_after of_rws s t c before (sign false) (bit_and (word_at s c.lock) keep) h here z (record z { phase = of_rw_table.next_phase q before }) e (ap (λ (x : Core). core_next x before) e) (λ at park w. in_asleep w) (λ x. x) (λ o. refl)
             (λ x n at vs p there_is. stores_tell.elsewhere l t x n at vs p.phase (of_rw.role c.others (rw_spot c.spot) us q) (told_of (sign false)) met.sound met.here refl there_is)
             (word_after (of_rw_table.act_of q) before (word_at s c.lock)) (ap (λ (x : Act). word_after x before (word_at s c.lock)) (sym asks))
@@ -223,9 +241,36 @@ module _ (s : State) (t : ℕ) (c : Call) (keep : ℕ) (asked : core_act c.core 
   mask_mutex (MutexPhase.Stores giving has left) asks key is = cc
   mask_mutex q asks key is = cc
 
+  mask_late : (p : LatePhase) → c.core ≡ Core.Late p → late_act p ≡ Act.FetchAnd keep → Fitted s mask_then t c before (Core.Late p)
+  mask_late LatePhase.Masks e asks =
+      let kind_is = subst (IsOfKind (slice_get s.kinds c.lock)) e (h.rules.kinds t c here) in
+      let playing = plays_late s h t c LatePhase.Masks e here in
+      let x = word_at s c.lock in
+      let same_keep : 2 ^ 64 - 3 ≡ keep = ap keeps asks in
+      let off = subst (λ n. (mutex_word_of (bit_and x n) ≡ record (mutex_word_of x) { parked = 0 }) × (bit_and x n < 4)) same_keep (masks_word x (h.rules.bits c.lock kind_is)) in (
+        made of_mutexes s mask_then t c.lock (subst (IsThere c.lock) (sym here) refl) (told_elsewhere s t c before (sign false) (bit_and x keep) h here) kind_is (MxStep (mutex.Alone mutex.Mask)) (playing.here, tt)
+            (ap Mx (told_after of_mutexes s t c before (sign false) (bit_and x keep) h here (Late LatePhase.Masks) (Late LatePhase.Leaves) e (ap (λ (y : Core). core_next y before) e) (λ at park w. in_asleep w) (λ r. r) (λ o. refl)
+            (λ y n at vs p there_is. masks_call (mutex_at s c.lock) t y vs (told_of (sign false)) playing.sound playing.here at p there_is) (bit_and x keep) refl
+            ∙ ap (λ w. record { word = w; roles = slice_set (map (λ r. r) (mutex_at s c.lock).roles) t (mutex.doing mutex.Leaves); queue = (mutex_at s c.lock).queue }) off.0
+            ∙ ap (λ rs. record { word = record (mutex_word_of x) { parked = 0 }; roles = slice_set rs t (mutex.doing mutex.Leaves); queue = (mutex_at s c.lock).queue }) (map_none (mutex_at s c.lock).roles)))
+            (inside_stored (sign false) s.lot.section),
+        subst (IsPrepared (recursive_in s.kinds c.lock) c.others) e (h.rules.prepared t c here),
+        tt,
+        λ m. subst (λ n. n < 4) (sym (word-here s.words c.lock (bit_and x keep) (has_word s h t c here))) off.1,
+      )
+    where
+      keeps : Act → ℕ
+      keeps (Act.FetchAnd n) = n
+      keeps a = 0
+  mask_late LatePhase.Expires e asks = absurd cc
+  mask_late LatePhase.Quits e asks = absurd cc
+  mask_late LatePhase.Leaves e asks = absurd cc
+  mask_late LatePhase.GivesUp e asks = absurd cc
+
   pub mask_fits : (key : ℕ) → stance c.core ≡ In key Stores → Fitted s mask_then t c before c.core
   mask_fits key from = go c.core refl
     where
       go : (x : Core) → c.core ≡ x → Fitted s mask_then t c before x
       go (Core.Rw y) e = mask_rw y.phase y e (ap core_act (sym e) ∙ asked) key (ap stance (sym e) ∙ from)
+      go (Core.Late p) e = mask_late p e (ap core_act (sym e) ∙ asked)
       go (Core.Mutex y) e = absurd (mask_mutex y.phase (ap core_act (sym e) ∙ asked) key (ap stance (sym e) ∙ from))

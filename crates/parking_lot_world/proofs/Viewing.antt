@@ -13,12 +13,12 @@ use Rattle.parking_lot_world.specs.declared.calls.LockKind.{LockKind}
 use Rattle.parking_lot_world.specs.declared.seat.Hold.{Hold}
 use Rattle.parking_lot_world.specs.declared.seat.Core.{Core}
 use Rattle.parking_lot_world.specs.declared.open_call.Call.{Call}
-use Rattle.parking_lot_world.specs.Rows.{State, any_lock, call_at, cell, everybody, hold_at, lock_at, mutex_role_at, owned_of, owns_mutex, rw_role_at, taken_by}
+use Rattle.parking_lot_world.specs.Rows.{State, any_lock, lock_as, call_at, cell, everybody, hold_at, lock_at, mutex_role_at, owned_of, owns_mutex, rw_role_at, taken_by}
 use Rattle.parking_lot_world.specs.RowFits.{FitsTogether, IsOfKind}
 use Rattle.parking_lot_world.specs.CallViews.{call_in_debt, call_looks, call_mode, core_in_debt, core_mode, mutex_mode, rw_mode}
 use Rattle.parking_lot_world.specs.Worlds.{hold_mode, in_debt_at, is_indebted, mode_in}
 use Rattle.parking_lot_world.proofs.Everybody.{get-all, past}
-use Rattle.parking_lot_world.proofs.KindTable.{Kind, of_mutexes, of_rws, in_its_place}
+use Rattle.parking_lot_world.proofs.KindTable.{Plain, Late, Kind, of_mutexes, of_rws, in_its_place}
 use Rattle.parking_lot_world.proofs.Meeting.{in_range}
 
 -- one that is in no call at the lock owns what it holds
@@ -26,6 +26,11 @@ idle_rw : (h : Hold) → rw_mode (record { owns = owned_of h; does = Idle }) ≡
 idle_rw Hold.Excludes = refl
 idle_rw (Hold.Shares zero) = refl
 idle_rw (Hold.Shares (suc n)) = refl
+
+idle_recursive : (h : Hold) → rw_mode (record { owns = owned_of h; does = Idle }) ≡ hold_mode (Some LockKind.RwRecursive) h
+idle_recursive Hold.Excludes = refl
+idle_recursive (Hold.Shares zero) = refl
+idle_recursive (Hold.Shares (suc n)) = refl
 
 idle_nowhere : (h : Hold) → rw_mode (record { owns = owned_of h; does = Idle }) ≡ hold_mode None h
 idle_nowhere Hold.Excludes = refl
@@ -35,6 +40,10 @@ idle_nowhere (Hold.Shares (suc n)) = refl
 idle_mutex : (h : Hold) → mutex_mode (record { owns = owns_mutex h; does = mutex.Idle }) ≡ hold_mode (Some LockKind.Mutex) h
 idle_mutex Hold.Excludes = refl
 idle_mutex (Hold.Shares n) = refl
+
+idle_fair : (h : Hold) → mutex_mode (record { owns = owns_mutex h; does = mutex.Idle }) ≡ hold_mode (Some LockKind.FairMutex) h
+idle_fair Hold.Excludes = refl
+idle_fair (Hold.Shares n) = refl
 
 -- the thread is in no call at lock i
 abbrev pub IsApart : ℕ → Option Call → Type 0
@@ -54,12 +63,15 @@ module _ (s : State) (t : ℕ) where
         reads : option_and_then rw_mode (slice_get (everybody (rw_role_at s i) s) t) ≡ rw_mode (record { owns = owned_of (hold_at s t i); does = Idle })
         reads = ap (option_and_then rw_mode) (get-all (rw_role_at s i) (length s.calls) t low) ∙ ap rw_mode (apart_role of_rws i (taken_by s.wakes t) (hold_at s t i) (call_at s t) apart)
 
+        locks : option_and_then mutex_mode (slice_get (everybody (mutex_role_at s i) s) t) ≡ mutex_mode (record { owns = owns_mutex (hold_at s t i); does = mutex.Idle })
+        locks = ap (option_and_then mutex_mode) (get-all (mutex_role_at s i) (length s.calls) t low) ∙ ap mutex_mode (apart_role of_mutexes i (taken_by s.wakes t) (hold_at s t i) (call_at s t) apart)
+
         go : (k : Option LockKind) → mode_in (any_lock k s i) t ≡ hold_mode k (hold_at s t i)
         go (Some LockKind.Rw) = reads ∙ idle_rw (hold_at s t i)
+        go (Some LockKind.RwRecursive) = reads ∙ idle_recursive (hold_at s t i)
         go None = reads ∙ idle_nowhere (hold_at s t i)
-        go (Some LockKind.Mutex) =
-            ap (option_and_then mutex_mode) (get-all (mutex_role_at s i) (length s.calls) t low) ∙ ap mutex_mode (apart_role of_mutexes i (taken_by s.wakes t) (hold_at s t i) (call_at s t) apart)
-            ∙ idle_mutex (hold_at s t i)
+        go (Some LockKind.Mutex) = locks ∙ idle_mutex (hold_at s t i)
+        go (Some LockKind.FairMutex) = locks ∙ idle_fair (hold_at s t i)
 
   -- beyond the last thread
   module _ (fit : FitsTogether s) (high : length s.calls ≤ t) where
@@ -75,8 +87,10 @@ module _ (s : State) (t : ℕ) where
       where
         go : (k : Option LockKind) → mode_in (any_lock k s i) t ≡ hold_mode k (Hold.Shares 0)
         go (Some LockKind.Rw) = ap (option_and_then rw_mode) (past (rw_role_at s i) (length s.calls) t high)
+        go (Some LockKind.RwRecursive) = ap (option_and_then rw_mode) (past (rw_role_at s i) (length s.calls) t high)
         go None = ap (option_and_then rw_mode) (past (rw_role_at s i) (length s.calls) t high)
         go (Some LockKind.Mutex) = ap (option_and_then mutex_mode) (past (mutex_role_at s i) (length s.calls) t high)
+        go (Some LockKind.FairMutex) = ap (option_and_then mutex_mode) (past (mutex_role_at s i) (length s.calls) t high)
 
   -- between its calls, and beyond the last thread
   pub apart_owner : FitsTogether s → (i : ℕ) → IsApart i (call_at s t) → mode_in (lock_at s i) t ≡ hold_mode (slice_get s.kinds i) (hold_at s t i)
@@ -91,17 +105,20 @@ module _ (s : State) (t : ℕ) where
     call_owns = go c.core refl (fit.rules.kinds t c there)
       where
         go : (k : Core) → c.core ≡ k → IsOfKind (slice_get s.kinds c.lock) k → mode_in (lock_at s c.lock) t ≡ call_mode (taken_by s.wakes t) c
-        go (Core.Rw r) e of = ap (λ x. mode_in (any_lock x s c.lock) t) of ∙ ap (option_and_then rw_mode) (in_its_place of_rws s t c r (in_range s t c there) there e) ∙ sym (ap (core_mode c.others c.spot (taken_by s.wakes t)) e)
-        go (Core.Mutex m) e of = ap (λ x. mode_in (any_lock x s c.lock) t) of ∙ ap (option_and_then mutex_mode) (in_its_place of_mutexes s t c m (in_range s t c there) there e) ∙ sym (ap (core_mode c.others c.spot (taken_by s.wakes t)) e)
+        go (Core.Rw r) e of = ap (λ x. mode_in (lock_as x s c.lock) t) of ∙ ap (option_and_then rw_mode) (in_its_place of_rws s t c r (in_range s t c there) there e) ∙ sym (ap (core_mode c.others c.spot (taken_by s.wakes t)) e)
+        go (Core.Mutex m) e of = ap (λ x. mode_in (lock_as x s c.lock) t) of ∙ ap (option_and_then mutex_mode) (in_its_place of_mutexes s t c (Plain m) (in_range s t c there) there e) ∙ sym (ap (core_mode c.others c.spot (taken_by s.wakes t)) e)
+        go (Core.Late m) e of = ap (λ x. mode_in (lock_as x s c.lock) t) of ∙ ap (option_and_then mutex_mode) (in_its_place of_mutexes s t c (Late m) (in_range s t c there) there e) ∙ sym (ap (core_mode c.others c.spot (taken_by s.wakes t)) e)
 
     call_owes : in_debt_at (lock_at s c.lock) t ≡ call_in_debt (taken_by s.wakes t) c
     call_owes = go c.core refl (fit.rules.kinds t c there)
       where
         go : (k : Core) → c.core ≡ k → IsOfKind (slice_get s.kinds c.lock) k → in_debt_at (lock_at s c.lock) t ≡ call_in_debt (taken_by s.wakes t) c
         go (Core.Rw r) e of =
-            ap (λ x. in_debt_at (any_lock x s c.lock) t) of ∙ ap (λ o. option_map_or (λ (x : Role). rw_debts.is_in_debt x.does) o false) (in_its_place of_rws s t c r (in_range s t c there) there e) ∙ sym (ap (core_in_debt c.others c.spot (taken_by s.wakes t)) e)
+            ap (λ x. in_debt_at (lock_as x s c.lock) t) of ∙ ap (λ o. option_map_or (λ (x : Role). rw_debts.is_in_debt x.does) o false) (in_its_place of_rws s t c r (in_range s t c there) there e) ∙ sym (ap (core_in_debt c.others c.spot (taken_by s.wakes t)) e)
         go (Core.Mutex m) e of =
-            ap (λ x. in_debt_at (any_lock x s c.lock) t) of ∙ ap (λ o. option_map_or (λ (x : mutex.Role). mutex_debts.is_in_debt x.does) o false) (in_its_place of_mutexes s t c m (in_range s t c there) there e) ∙ sym (ap (core_in_debt c.others c.spot (taken_by s.wakes t)) e)
+            ap (λ x. in_debt_at (lock_as x s c.lock) t) of ∙ ap (λ o. option_map_or (λ (x : mutex.Role). mutex_debts.is_in_debt x.does) o false) (in_its_place of_mutexes s t c (Plain m) (in_range s t c there) there e) ∙ sym (ap (core_in_debt c.others c.spot (taken_by s.wakes t)) e)
+        go (Core.Late m) e of =
+            ap (λ x. in_debt_at (lock_as x s c.lock) t) of ∙ ap (λ o. option_map_or (λ (x : mutex.Role). mutex_debts.is_in_debt x.does) o false) (in_its_place of_mutexes s t c (Late m) (in_range s t c there) there e) ∙ sym (ap (core_in_debt c.others c.spot (taken_by s.wakes t)) e)
 
     pub owing : is_indebted s t ≡ (call_looks c.core || call_in_debt (taken_by s.wakes t) c)
     owing = ap (λ o. option_map_or (λ (d : Call). call_looks d.core || in_debt_at (lock_at s d.lock) t) o false) there ∙ ap (λ b. call_looks c.core || b) call_owes

@@ -1,5 +1,5 @@
 -- What each act of the machine keeps, and which step of the rules it is.
-use Rattle.std.specs.Prelude.{◌≡◌, ℕ, ◌<◌, ◌≤◌, false, length, None, Some, slice_get}
+use Rattle.std.specs.Prelude.{◌≡◌, ℕ, ◌<◌, ◌≤◌, Bool, false, length, None, Some, slice_get}
 use Rattle.parking_lot_core_lot.specs.Sound as lot
 use Rattle.parking_lot_protocol.specs.declared.act.Act.TheVariants as act
 use Rattle.parking_lot_protocol.specs.declared.act.SectionAct.TheVariants as section
@@ -13,6 +13,7 @@ use Rattle.parking_lot_world.specs.declared.seat.QueuePosition.TheVariants as sp
 use Rattle.parking_lot_world.specs.declared.seat.Core.{Core}
 use Rattle.parking_lot_world.specs.declared.seat.Core.TheVariants as core
 use Rattle.parking_lot_world.specs.declared.open_call.Call.{Call}
+use Rattle.parking_lot_world.specs.Kinds.{recursive_in}
 use Rattle.parking_lot_world.specs.Rows.{State, call_at, hold_at, owned_of, owns_mutex}
 use Rattle.parking_lot_world.specs.Stances.{core_act, rw_begun, mutex_begun}
 use Rattle.parking_lot_world.specs.RowActs.{loaded, exchanged, added, spun, entered, checked, left, begun, answered}
@@ -31,16 +32,17 @@ pub record Ends (t : ℕ) (c : Call) (s u : State) : Type 0 where
   pub goes : GoesAway t c s u
 
 -- what a thread owns that begins a call
-abbrev pub OwnsFor : Hold → ℕ → Core → Type 0
-OwnsFor x n (core.Rw k) = (rw_begun k.phase ≡ false) × rw_begins n k.phase × (owned_of x ≡ of_rw.owns n k.phase)
-OwnsFor x n (core.Mutex k) = (mutex_begun k.phase ≡ false) × (n ≡ 0) × (owns_mutex x ≡ of_mutex.owns k.phase)
+abbrev pub OwnsFor : Bool → Hold → ℕ → Core → Type 0
+OwnsFor recursive x n (core.Rw k) = (rw_begun k.phase ≡ false) × rw_begins recursive n k.phase × (owned_of x ≡ of_rw.owns n k.phase)
+OwnsFor recursive x n (core.Mutex k) = (mutex_begun k.phase ≡ false) × (n ≡ 0) × (owns_mutex x ≡ of_mutex.owns k.phase)
+OwnsFor recursive x n (core.Late p) = ⊥
 
 pub record MayBegin (s : State) (t : ℕ) (c : Call) : Type 0 where
   pub low : t < length s.calls
   pub free : call_at s t ≡ None
   pub listed : c.spot ≡ spot.Listed
   pub kind : IsOfKind (slice_get s.kinds c.lock) c.core
-  pub owns : OwnsFor (hold_at s t c.lock) c.others c.core
+  pub owns : OwnsFor (recursive_in s.kinds c.lock) (hold_at s t c.lock) c.others c.core
   pub beside : c.others ≤ 254
 
 -- of a machine that fits, where t is in that call

@@ -63,14 +63,17 @@ pub record ModesAreWeighed : Type 0 where
 abbrev pub core_mode : ℕ → QueuePosition → List ℕ → Core → Option OwnMode
 core_mode n at us (core.Mutex c) = mutex_mode (mutex_core_role at us (core.Mutex c))
 core_mode n at us (core.Rw c) = rw_mode (rw_core_role n at us (core.Rw c))
+core_mode n at us (core.Late p) = mutex_mode (mutex_core_role at us (core.Late p))
 
 abbrev pub core_in_debt : ℕ → QueuePosition → List ℕ → Core → Bool
 core_in_debt n at us (core.Mutex c) = mutex_debts.is_in_debt (mutex_core_role at us (core.Mutex c)).does
 core_in_debt n at us (core.Rw c) = rw_debts.is_in_debt (rw_core_role n at us (core.Rw c)).does
+core_in_debt n at us (core.Late p) = mutex_debts.is_in_debt (mutex_core_role at us (core.Late p)).does
 
 abbrev pub core_asleep : ℕ → QueuePosition → List ℕ → Core → Bool
 core_asleep n at us (core.Mutex c) = of_mutex.is_asleep (mutex_core_role at us (core.Mutex c)).does
 core_asleep n at us (core.Rw c) = of_rw.is_asleep (rw_core_role n at us (core.Rw c)).does
+core_asleep n at us (core.Late p) = of_mutex.is_asleep (mutex_core_role at us (core.Late p)).does
 
 abbrev pub call_mode : List ℕ → Call → Option OwnMode
 call_mode us c = core_mode c.others c.spot us c.core
@@ -93,3 +96,4 @@ rw_looks phase = false
 abbrev pub call_looks : Core → Bool
 call_looks (core.Mutex c) = mutex_looks c.phase
 call_looks (core.Rw c) = rw_looks c.phase
+call_looks (core.Late p) = false

@@ -1,3 +1,4 @@
+pub mod Kinds
 pub mod Rows
 pub mod Stances
 pub mod Rounds
@@ -22,3 +23,5 @@ pub mod Machines
 pub mod Worlds
 pub mod SoundLaws
 pub mod LostExchanges
+pub mod LateActs
+pub mod LateLaws

@@ -1,8 +1,10 @@
 -- What a machine of locks does, call by call.
-use Rattle.std.specs.Prelude.{◌≡◌, ℕ, ◌*◌, ◌&&◌, ◌⊎◌, Bool, true, false, not, nat_lt, if◌then◌else◌, List, [], ◌∷◌, ◌++◌, length, replicate, Option, Some, None, is_some, is_none, slice_get, slice_set}
+use Rattle.std.specs.Prelude.{◌≡◌, ℕ, ◌*◌, ◌&&◌, ◌||◌, ◌⊎◌, Bool, true, false, not, nat_lt, if◌then◌else◌, List, [], ◌∷◌, ◌++◌, length, replicate, Option, Some, None, is_some, is_none, slice_get, slice_set}
 use Rattle.std.specs.Option.{option_and_then, option_map, option_map_or, option_or}
 use Rattle.parking_lot_core_lot.specs.Runs.{fresh}
 use Rattle.parking_lot_core_lot.specs.declared.place.Place.TheVariants.{Running}
+use Rattle.parking_lot_protocol.specs.declared.mutex_phase.MutexPhase.{MutexPhase}
+use Rattle.parking_lot_protocol.specs.declared.mutex_phase.MutexPhase.TheVariants as m
 use Rattle.parking_lot_protocol.specs.declared.act.Act.{Act}
 use Rattle.parking_lot_protocol.specs.declared.act.Act.TheVariants as act
 use Rattle.parking_lot_protocol.specs.declared.act.SectionAct.{SectionAct}
@@ -12,11 +14,16 @@ use Rattle.parking_lot_protocol.specs.declared.act.ActResult.{ActResult}
 use Rattle.parking_lot_protocol.specs.declared.act.ActResult.TheVariants as seen
 use Rattle.parking_lot_world.specs.declared.calls.LockCall.{LockCall}
 use Rattle.parking_lot_world.specs.declared.calls.LockKind.{LockKind}
-use Rattle.parking_lot_world.specs.declared.calls.LockKind.TheVariants as kind
 use Rattle.parking_lot_world.specs.declared.open_call.Call.{Call}
 use Rattle.parking_lot_world.specs.declared.seat.Hold.TheVariants as hold
+use Rattle.parking_lot_world.specs.declared.seat.QueuePosition.{QueuePosition}
 use Rattle.parking_lot_world.specs.declared.seat.QueuePosition.TheVariants as spot
-use Rattle.parking_lot_world.specs.Calls.{kind_of}
+use Rattle.parking_lot_world.specs.declared.seat.LatePhase.{LatePhase}
+use Rattle.parking_lot_world.specs.declared.seat.LatePhase.TheVariants as late
+use Rattle.parking_lot_world.specs.declared.seat.Core.{Core}
+use Rattle.parking_lot_world.specs.declared.seat.Core.TheVariants as core
+use Rattle.parking_lot_world.specs.Calls.{is_timed, takes}
+use Rattle.parking_lot_world.specs.Kinds.{kind_in}
 use Rattle.parking_lot_world.specs.Beginnings.{core_of, holds_beside, is_allowed}
 use Rattle.parking_lot_world.specs.Rows.{State, call_at, hold_at, open_at}
 use Rattle.parking_lot_core_lot.specs.declared.parking.ParkToken.{ParkToken}
@@ -28,6 +35,8 @@ use Rattle.parking_lot_world.specs.Stances.{In, Joins, Takes, stance, core_act}
 use Rattle.parking_lot_world.specs.RowActs.{key_of, loaded, exchanged, added, masked, spun, entered, checked, appended, took, took_nobody, told_all, left, woke, begun, answered, off_list}
 use Rattle.parking_lot_world.specs.TellLaws.{IsDue}
 use Rattle.parking_lot_world.specs.ActLaws.{Acts, Ends}
+use Rattle.parking_lot_world.specs.LateActs.{expired, quitted, returned}
+use Rattle.parking_lot_world.specs.LateLaws.{Expires}
 use Rattle.parking_lot_world.specs.Ranks.{Costs, Pays}
 
 -- whether an act can be made: one that sleeps makes none, and a section of the lock's k-th key is entered only where none is taken in its bucket
@@ -39,9 +48,25 @@ is_possible taken other = true
 abbrev pub is_taken : State → Call → ℕ → Bool
 is_taken s c k = is_some (open_at s (key_of c k))
 
+-- One whose moment has passed comes back from its list, where no section is taken, and takes itself out there. Where another has taken it in the
+-- meantime it waits for that one.
+abbrev pub late_goes : Bool → QueuePosition → LatePhase → Bool
+late_goes taken spot.Listed late.Expires = not taken
+late_goes taken at late.Quits = true
+late_goes taken at p = false
+
+abbrev pub goes_late : State → Call → Core → Bool
+goes_late s c (core.Late p) = late_goes (is_taken s c 0) c.spot p
+goes_late s c k = false
+
+-- it is back in its section
+abbrev pub is_back : Core → Bool
+is_back (core.Late late.Quits) = true
+is_back k = false
+
 abbrev pub can_move_in : State → Option Call → Bool
 can_move_in s None = false
-can_move_in s (Some c) = is_possible (is_taken s c) (core_act c.core)
+can_move_in s (Some c) = goes_late s c c.core || is_possible (is_taken s c) (core_act c.core)
 
 abbrev pub can_move : State → ℕ → Bool
 can_move s t = can_move_in s (call_at s t)
@@ -54,20 +79,14 @@ sleeps other = false
 abbrev pub is_asleep : State → ℕ → Bool
 is_asleep s t = option_map_or (λ c. sleeps (core_act c.core)) (call_at s t) false
 
-abbrev pub is_of_kind : Option LockKind → LockKind → Bool
-is_of_kind None k = false
-is_of_kind (Some kind.Mutex) kind.Mutex = true
-is_of_kind (Some kind.Rw) kind.Rw = true
-is_of_kind (Some other) k = false
-
--- whether a thread may begin a call: it is in none, the lock is of its kind, and what it owns there allows it
+-- whether a thread may begin a call: it is in none, the lock is of a kind that takes it, and what it owns there allows it
 abbrev pub may_begin : State → ℕ → ℕ → LockCall → Bool
 may_begin s t lock call =
-    nat_lt t (length s.calls) && (is_none (call_at s t) && (is_of_kind (slice_get s.kinds lock) (kind_of call) && is_allowed (hold_at s t lock) call))
+    nat_lt t (length s.calls) && (is_none (call_at s t) && (takes (slice_get s.kinds lock) call && is_allowed (kind_in s.kinds lock) (hold_at s t lock) call))
 
 -- the call before it begins
 abbrev pub call_for : State → ℕ → ℕ → LockCall → Call
-call_for s t lock call = record { lock = lock; others = holds_beside (hold_at s t lock); core = core_of call; spot = spot.Listed }
+call_for s t lock call = record { lock = lock; others = holds_beside call (hold_at s t lock); core = core_of (kind_in s.kinds lock) call; spot = spot.Listed; timed = is_timed call }
 
 -- a machine where nobody has done anything
 abbrev pub at_rest : ℕ → List LockKind → State
@@ -113,6 +132,12 @@ BecameInside (section.Store plain handing) t fair c s u = u ≡ told_all s t c (
 BecameInside section.Leave t fair c s u = u ≡ left s t c
 BecameInside section.Wake t fair c s u = IsWoken t c s u
 
+-- One whose moment has passed goes on as it sleeps, or takes itself out of its list.
+abbrev pub BecameLate : Core → ℕ → Call → State → State → Type 0
+BecameLate (core.Late late.Expires) t c s u = u ≡ returned s t c
+BecameLate (core.Late late.Quits) t c s u = u ≡ quitted s t c
+BecameLate k t c s u = ⊥
+
 -- The machine after an act, whole: which words, lists and calls have changed, and that all else has stayed.
 abbrev pub Became : Act → ℕ → Bool → Call → State → State → Type 0
 Became act.Load t fair c s u = u ≡ loaded s t c
@@ -122,7 +147,7 @@ Became (act.FetchAnd keep) t fair c s u = u ≡ masked s t c keep
 Became act.Spin t fair c s u = u ≡ spun s t c
 Became (act.Enter key) t fair c s u = u ≡ entered s t c key
 Became (act.Section next) t fair c s u = BecameInside next t fair c s u
-Became act.Sleep t fair c s u = ⊥
+Became act.Sleep t fair c s u = BecameLate c.core t c s u
 Became (act.Done answer) t fair c s u = u ≡ answered s t c
 
 -- It has begun, and nothing else has changed: that is the step of the rules that its core's table names, and adds a stated number of steps at most.
@@ -130,6 +155,34 @@ pub record IsBegun (t lock : ℕ) (call : LockCall) (s u : State) : Type 0 where
   pub became : u ≡ begun s t (call_for s t lock call)
   pub acts : Acts t (call_for s t lock call) seen.Start s u
   pub costs : Costs t call s u
+
+-- it sleeps, and its moment hasn't passed
+abbrev pub is_sleeping : MutexPhase → Bool
+is_sleeping m.Sleeps = true
+is_sleeping p = false
+
+abbrev pub sleeps_in_time : Core → Bool
+sleeps_in_time (core.Mutex k) = is_sleeping k.phase
+sleeps_in_time k = false
+
+abbrev pub is_listed : QueuePosition → Bool
+is_listed spot.Listed = true
+is_listed (spot.Off by said) = false
+
+-- whether a thread's moment may pass: it is in a call that has one, and sleeps in its list
+abbrev pub may_expire_in : Option Call → Bool
+may_expire_in None = false
+may_expire_in (Some c) = c.timed && (is_listed c.spot && sleeps_in_time c.core)
+
+abbrev pub may_expire : State → ℕ → Bool
+may_expire s t = may_expire_in (call_at s t)
+
+-- Its moment has passed, and nothing else has changed: that is the step of the rules, and adds five steps at most, whoever is stepped.
+pub record IsExpired (t : ℕ) (s u : State) : Type 0 where
+  pub call : Call
+  pub here : call_at s t ≡ Some call
+  pub became : u ≡ expired s t call
+  pub lawful : Expires t call s u
 
 -- how a call ends, by the act that it asks for
 abbrev pub end_of : Act → Option CoreAnswer

@@ -6,8 +6,8 @@ use Rattle.parking_lot_core_lot.specs.declared.place.Waiter.{Waiter}
 use Rattle.parking_lot_core_lot.specs.Machine.{threads_of}
 use Rattle.parking_lot_core_lot.specs.Results.{is_left}
 use Rattle.std.specs.Option.{option_map}
-use Rattle.parking_lot_rules.specs.Roles.{Mark, Open, Asleep}
-use Rattle.parking_lot_rules.specs.Mutex.{Role, Word, Inside, weight, number, Mutex, IsSound, Idle, Seeks, Taken, Unlocks, Wakes, Step, Alone, Join, Take, Allowed, after, doing, note_of, settle}
+use Rattle.parking_lot_rules.specs.Roles.{Mark, Open, Asleep, Stay}
+use Rattle.parking_lot_rules.specs.Mutex.{Role, Word, Inside, weight, number, Mutex, IsSound, Idle, Seeks, Queued, Taken, Unlocks, Wakes, Step, Alone, Join, Take, Allowed, after, doing, note_of, settle}
 use Rattle.parking_lot_rules.specs.Family.{Crossing, Comes, Goes, First}
 use Rattle.parking_lot_rules.specs.Family as crossing
 use Rattle.parking_lot_rules.specs.Any.{mutex_crossing}
@@ -22,7 +22,7 @@ use Rattle.parking_lot_protocol.specs.declared.mutex_phase.MutexPhase.{MutexPhas
 use Rattle.parking_lot_protocol.specs.declared.mutex_phase.MutexPhase.TheVariants as phase
 use Rattle.parking_lot_protocol.specs.Acts.{word_after, Gives}
 use Rattle.parking_lot_protocol.specs.MutexTable.{act_of, next_phase, wakes_with}
-use Rattle.parking_lot_rules.specs.Classes.{bit}
+use Rattle.parking_lot_rules.specs.Classes.{bit, inside as is_inside}
 use Rattle.parking_lot_protocol.specs.MutexRules.{QueuePosition, Listed, Off, role, owns, owns_after, taken_of, Move, Stays, Makes, Joins, TakesOne, Tells, WakesOne, IsWoken, move, last_move, IsWord, mark_of}
 use Rattle.parking_lot_world.specs.declared.seat.Hold.{Hold}
 use Rattle.parking_lot_world.specs.declared.seat.WakeResult.{WakeResult}
@@ -32,7 +32,7 @@ use Rattle.parking_lot_world.specs.Rows.{mutex_word_of, first_of_all, owns_mutex
 use Rattle.parking_lot_world.specs.RowActs.{settled, mutex_hold_after}
 use Rattle.parking_lot_world.specs.Stances.{sign, mutex_taken, mutex_begun}
 use Rattle.parking_lot_world.specs.RowFits.{mutex_knows}
-use Rattle.parking_lot_world.specs.RowSteps.{store_step, wake_step}
+use Rattle.parking_lot_world.specs.RowSteps.{store_step, wake_step_of}
 
 -- Thread t plays that part at a sound mutex, and its word is that number.
 pub record Plays (m : Mutex) (x t : ℕ) (r : Role) : Type 0 where
@@ -56,9 +56,9 @@ abbrev pub LeadsBy : Move → ℕ → ℕ → Mutex → Mutex → Type 0
 LeadsBy Stays v t m n = n ≡ m
 LeadsBy (Makes k) v t m n = Leads t (Alone k) m n
 LeadsBy Joins v t m n = Leads t Join m n
-LeadsBy TakesOne v t m n = Leads t (Take v Asleep) m n
+LeadsBy TakesOne v t m n = (stay : Stay) × Leads t (Take v stay) m n
 LeadsBy (Tells taken handed left) v t m n = Leads t (store_step handed (taken_of v taken)) m n
-LeadsBy WakesOne v t m n = (handed : Bool) × Leads t (wake_step handed v []) m n
+LeadsBy WakesOne v t m n = (handed : Bool) × (stay : Stay) × Leads t (wake_step_of stay handed v []) m n
 LeadsBy (IsWoken handed) v t m n = ⊥
 
 -- acts that touch no list, and nobody else
@@ -140,9 +140,9 @@ pub record IsJoining (m : Mutex) (x t v : ℕ) (p : MutexPhase) (s : ActResult) 
   pub same : word_next p s x ≡ x
 
 -- It takes the first of the list.
-pub record IsTaking (m : Mutex) (x t v : ℕ) (p : MutexPhase) (s : ActResult) : Type 0 where
+pub record IsTaking (m : Mutex) (x t v : ℕ) (p : MutexPhase) (s : ActResult) (stay : Stay) : Type 0 where
   pub move : move v p s ≡ TakesOne
-  pub leads : Leads t (Take v Asleep) m (mutex_of (word_next p s x) (slice_set (slice_set m.roles t (role_next v p s)) v (role (Off t Open) 0 phase.Sleeps)) (remove m.queue 0))
+  pub leads : Leads t (Take v stay) m (mutex_of (word_next p s x) (slice_set (slice_set m.roles t (role_next v p s)) v (doing (Taken t Open stay))) (remove m.queue 0))
   pub same : word_next p s x ≡ x
 
 -- It stores, and those whom it has taken know whether they were handed the mutex.
@@ -157,10 +157,10 @@ pub record IsTelling (m : Mutex) (x t v : ℕ) (p : MutexPhase) (s : ActResult) 
   pub small : word_next p s x < 4
 
 -- It wakes the one that it has taken, with that token.
-pub record IsWaking (m : Mutex) (x t v : ℕ) (p : MutexPhase) (s : ActResult) (mark : Mark) (token : UnparkToken) : Type 0 where
+pub record IsWaking (m : Mutex) (x t v : ℕ) (p : MutexPhase) (s : ActResult) (mark : Mark) (stay : Stay) (token : UnparkToken) : Type 0 where
   pub move : move v p s ≡ WakesOne
   pub leads : mark ≡ mark_of (token.0 == 1)
-      → Leads t (wake_step (token.0 == 1) v []) m (mutex_of (word_next p s x) (slice_set (slice_set m.roles v (role Listed 0 (next_phase phase.Sleeps (seen.Woken token)))) t (role_next v p s)) m.queue)
+      → Leads t (wake_step_of stay (token.0 == 1) v []) m (mutex_of (word_next p s x) (slice_set (slice_set m.roles v (role Listed 0 (next_phase phase.Sleeps (seen.Woken token)))) t (role_next v p s)) m.queue)
   pub same : word_next p s x ≡ x
 
 pub record MutexAnswersAreSteps : Type 0 where
@@ -168,13 +168,13 @@ pub record MutexAnswersAreSteps : Type 0 where
   pub own : (m : Mutex) (x t v : ℕ) (at : QueuePosition) (p : MutexPhase) (s : ActResult) → Plays m x t (role at v p) → Gives (act_of p) x s → is_own (act_of p) ≡ true
       → ((key : ℕ) → act_of p ≡ act.Enter key → NobodyIsInside m) → IsOwnStep m x t v p s
   pub joins : (m : Mutex) (x t v : ℕ) (at : QueuePosition) (p : MutexPhase) (token : ParkToken) → Plays m x t (role at v p) → act_of p ≡ act.Section (section.Append token) → IsJoining m x t v p seen.Made
-  pub takes : (m : Mutex) (x t v : ℕ) (at : QueuePosition) (p : MutexPhase) (token : ParkToken) (left : Bool) → Plays m x t (role at v p) → act_of p ≡ act.Section section.TakeFirst
-      → slice_get m.queue 0 ≡ Some v → slice_get m.roles v ≡ Some (role Listed 0 phase.Sleeps) → IsTaking m x t v p (seen.Took (Some token) left)
+  pub takes : (m : Mutex) (x t v : ℕ) (at : QueuePosition) (p : MutexPhase) (token : ParkToken) (left : Bool) (stay : Stay) → Plays m x t (role at v p) → act_of p ≡ act.Section section.TakeFirst
+      → slice_get m.queue 0 ≡ Some v → slice_get m.roles v ≡ Some (doing (Queued stay)) → IsTaking m x t v p (seen.Took (Some token) left) stay
   pub takes_nobody : (m : Mutex) (x t v : ℕ) (at : QueuePosition) (p : MutexPhase) (left : Bool) → Plays m x t (role at v p) → act_of p ≡ act.Section section.TakeFirst → IsOwnStep m x t v p (seen.Took None left)
   pub tells : (m : Mutex) (x t v : ℕ) (at : QueuePosition) (p : MutexPhase) (plain fair : WordChange) (is_fair : Bool) (waiters : List Waiter) → Plays m x t (role at v p)
       → act_of p ≡ act.Section (section.Store plain fair) → m.queue ≡ threads_of waiters → mutex_knows p waiters → IsTelling m x t v p (seen.Stored is_fair)
-  pub wakes : (m : Mutex) (x t v : ℕ) (at : QueuePosition) (p : MutexPhase) (mark : Mark) (token : UnparkToken) → Plays m x t (role at v p) → act_of p ≡ act.Section section.Wake
-      → slice_get m.roles v ≡ Some (role (Off t mark) 0 phase.Sleeps) → IsWaking m x t v p seen.Made mark token
+  pub wakes : (m : Mutex) (x t v : ℕ) (at : QueuePosition) (p : MutexPhase) (mark : Mark) (stay : Stay) (token : UnparkToken) → Plays m x t (role at v p) → act_of p ≡ act.Section section.Wake
+      → slice_get m.roles v ≡ Some (doing (Taken t mark stay)) → is_inside stay ≡ 0 → IsWaking m x t v p seen.Made mark stay token
   -- a call begins, of a thread that owns the mutex where it is to give it up
   pub begins : (m : Mutex) (x t v : ℕ) (p : MutexPhase) → mutex_begun p ≡ false → Plays m x t (record { owns = owns p; does = Idle }) → IsOwnStep m x t v p seen.Start
   -- and ends, and the thread owns the mutex where the answer says so

@@ -13,6 +13,8 @@ use Rattle.parking_lot_protocol.specs.declared.rw_phase.LockMode.TheVariants as 
 use Rattle.parking_lot_protocol.specs.RwTable as of_rw
 use Rattle.parking_lot_world.specs.declared.calls.LockCall.{LockCall}
 use Rattle.parking_lot_world.specs.declared.calls.LockCall.TheVariants as call
+use Rattle.parking_lot_world.specs.declared.seat.LatePhase.{LatePhase}
+use Rattle.parking_lot_world.specs.declared.seat.LatePhase.TheVariants as late
 use Rattle.parking_lot_world.specs.declared.seat.Core.{Core}
 use Rattle.parking_lot_world.specs.declared.seat.Core.TheVariants as core
 use Rattle.parking_lot_world.specs.declared.open_call.Call.{Call}
@@ -168,11 +170,22 @@ rw_steps n v (r.Wakes rest count) = wake * count + 1 + rw_ends v rest
 rw_steps n v (r.Finishes rest) = rw_ends v rest
 rw_steps n v phase = 1
 
+-- ONE WHOSE MOMENT HAS PASSED
+
+-- it comes back, takes itself out, masks the parked bit off, leaves, and is answered
+abbrev pub late_steps : LatePhase → ℕ
+late_steps late.Expires = 5
+late_steps late.Quits = 4
+late_steps late.Masks = 3
+late_steps late.Leaves = 2
+late_steps late.GivesUp = 1
+
 -- ALL THREADS
 
 abbrev pub core_steps : ℕ → View → Core → ℕ
 core_steps n v (core.Mutex c) = mutex_steps v c.phase
 core_steps n v (core.Rw c) = rw_steps n v c.phase
+core_steps n v (core.Late p) = late_steps p
 
 -- the steps of a call whose thread isn't the one that is stepped
 abbrev pub far_steps : ℕ → Option Call → ℕ
@@ -203,6 +216,7 @@ Pays t s u = steps_left u t + 1 ≤ steps_left s t
 abbrev pub cost : ℕ → LockCall → ℕ
 cost n call.Lock = 51
 cost n call.TryLock = 3
+cost n call.LockUntil = 51
 cost n call.Unlock = 115
 cost n call.Read = 53
 cost n call.TryRead = 3

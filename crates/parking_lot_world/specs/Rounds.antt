@@ -34,6 +34,7 @@ rw_rounds phase = 0
 abbrev pub rounds : Core → ℕ
 rounds (core.Mutex c) = mutex_rounds c.phase
 rounds (core.Rw c) = rw_rounds c.phase
+rounds (core.Late p) = 0
 
 -- at most ten
 abbrev pub FewRounds : Core → Type 0

@@ -171,6 +171,7 @@ mutex_hold_after phase = hold.Shares 0
 abbrev pub hold_after : ℕ → Core → Hold
 hold_after n (core.Mutex c) = mutex_hold_after c.phase
 hold_after n (core.Rw c) = rw_hold_after n c.phase
+hold_after n (core.Late p) = hold.Shares 0
 
 abbrev pub answered : State → ℕ → Call → State
 answered s t c = record s { calls = slice_set s.calls t None; holds = slice_set s.holds (cell s t c.lock) (hold_after c.others c.core) }

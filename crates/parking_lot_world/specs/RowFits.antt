@@ -22,11 +22,12 @@ use Rattle.parking_lot_protocol.specs.declared.mutex_phase.MutexPhase.{MutexPhas
 use Rattle.parking_lot_protocol.specs.declared.mutex_phase.MutexPhase.TheVariants as m
 use Rattle.parking_lot_protocol.specs.declared.rw_phase.AfterWake.{AfterWake}
 use Rattle.parking_lot_protocol.specs.declared.rw_phase.AfterWake.TheVariants as rest
+use Rattle.parking_lot_protocol.specs.declared.rw_phase.LockMode.{LockMode}
+use Rattle.parking_lot_protocol.specs.declared.rw_phase.LockMode.TheVariants as want
 use Rattle.parking_lot_protocol.specs.declared.rw_phase.RwPhase.{RwPhase}
 use Rattle.parking_lot_protocol.specs.declared.rw_phase.RwPhase.TheVariants as r
 use Rattle.parking_lot_rules.specs.Clauses.{word_of}
 use Rattle.parking_lot_world.specs.declared.calls.LockKind.{LockKind}
-use Rattle.parking_lot_world.specs.declared.calls.LockKind.TheVariants as kind
 use Rattle.parking_lot_world.specs.declared.seat.Hold.TheVariants as hold
 use Rattle.parking_lot_world.specs.declared.seat.WakeResult.{WakeResult}
 use Rattle.parking_lot_world.specs.declared.seat.WakeResult.TheVariants as told
@@ -36,6 +37,7 @@ use Rattle.parking_lot_world.specs.declared.seat.Core.{Core}
 use Rattle.parking_lot_world.specs.declared.seat.Core.TheVariants as core
 use Rattle.parking_lot_world.specs.declared.open_call.Call.{Call}
 use Rattle.parking_lot_world.specs.declared.seat.Wakeup.{Wakeup}
+use Rattle.parking_lot_world.specs.Kinds.{Manner, AsMutex, AsRw, manner_of, recursive_in}
 use Rattle.parking_lot_world.specs.Rows.{State, word_at, hold_at, call_at, taken_by, family, one_bucket}
 use Rattle.parking_lot_world.specs.Stances.{Doing, Looks, TurnsBack, Joins, Joined, Takes, Stores, Tells, Stance, Out, In, Asleep, stance, taken_count, core_act}
 use Rattle.parking_lot_world.specs.Rounds.{IsUnderWay}
@@ -98,17 +100,37 @@ Awaits k token other = ⊥
 -- WHAT THE PARTS OF THE MACHINE SAY TO EACH OTHER
 
 -- the call is of the lock's kind
+abbrev pub IsOfManner : Option Manner → Core → Type 0
+IsOfManner m (core.Mutex c) = m ≡ Some AsMutex
+IsOfManner m (core.Rw c) = m ≡ Some AsRw
+IsOfManner m (core.Late p) = m ≡ Some AsMutex
+
 abbrev pub IsOfKind : Option LockKind → Core → Type 0
-IsOfKind k (core.Mutex c) = k ≡ Some kind.Mutex
-IsOfKind k (core.Rw c) = k ≡ Some kind.Rw
+IsOfKind k c = IsOfManner (manner_of k) c
+
+-- who may ask: one that has no other hold, or on a recursive lock a reader
+abbrev pub Asks : Bool → ℕ → LockMode → Type 0
+Asks recursive n (want.Shared true) = recursive ≡ true
+Asks recursive n (want.Shared false) = n ≡ 0
+Asks recursive n want.Exclusive = n ≡ 0
 
 -- What a phase needs of what its thread owns beside and has taken, where that doesn't follow from what the word says.
-abbrev pub rw_prepared : ℕ → List ℕ → RwPhase → Type 0
-rw_prepared n us (r.Unshares rest) = Unit {0}
-rw_prepared n us r.Downgrades = Unit {0}
-rw_prepared n us p = of_rw.Fits false n us p (word_of 0)
+abbrev pub rw_prepared : Bool → ℕ → List ℕ → RwPhase → Type 0
+rw_prepared recursive n us (r.Unshares rest) = Unit {0}
+rw_prepared recursive n us r.Downgrades = Unit {0}
+rw_prepared recursive n us (r.Locking want) = Asks recursive n want
+rw_prepared recursive n us (r.Trying want) = Asks recursive n want
+rw_prepared recursive n us (r.Loads a) = Asks recursive n a.want
+rw_prepared recursive n us (r.Admits a word) = Asks recursive n a.want
+rw_prepared recursive n us (r.Spins a) = Asks recursive n a.want
+rw_prepared recursive n us (r.SetParked a word) = Asks recursive n a.want
+rw_prepared recursive n us (r.TryLoads want) = Asks recursive n want
+rw_prepared recursive n us (r.TryAdmits want word left) = Asks recursive n want
+rw_prepared recursive n us (r.Refuses want) = Asks recursive n want
+rw_prepared recursive n us (r.Relocks want) = Asks recursive n want
+rw_prepared recursive n us p = of_rw.Fits recursive n us p (word_of 0)
 
--- What a call that has begun keeps of what its thread owns beside: one that asks may ask, and one that gives the exclusive hold up, or asks again
+-- What a call that has begun keeps of what its thread owns beside: one that asks may ask, one that goes to sleep has no other hold, and one that gives the exclusive hold up, or asks again
 -- for what it gave up, has no other. A scan that goes on has taken no writer.
 abbrev pub rest_keeps : ℕ → AfterWake → Type 0
 rest_keeps n rest.FreedShared = Unit {0}
@@ -117,59 +139,60 @@ rest_keeps n rest.Downgraded = Unit {0}
 rest_keeps n rest.AgainShared = n ≡ 0
 rest_keeps n rest.AgainExclusive = n ≡ 0
 
-abbrev pub rw_keeps : ℕ → RwPhase → Type 0
-rw_keeps n (r.Locking want) = ⊥
-rw_keeps n (r.Trying want) = ⊥
-rw_keeps n r.UnlockingShared = ⊥
-rw_keeps n (r.UnlockingExclusive fair) = ⊥
-rw_keeps n r.Downgrading = ⊥
-rw_keeps n r.BumpingShared = ⊥
-rw_keeps n r.BumpingExclusive = ⊥
-rw_keeps n (r.Loads a) = of_rw.MayAsk false n a.want (word_of 0)
-rw_keeps n (r.Admits a word) = of_rw.MayAsk false n a.want (word_of 0)
-rw_keeps n (r.Spins a) = of_rw.MayAsk false n a.want (word_of 0)
-rw_keeps n (r.SetParked a word) = of_rw.MayAsk false n a.want (word_of 0)
-rw_keeps n (r.Enters want woken) = of_rw.MayAsk false n want (word_of 0)
-rw_keeps n (r.Checks want woken) = of_rw.MayAsk false n want (word_of 0)
-rw_keeps n (r.Retreats want woken) = of_rw.MayAsk false n want (word_of 0)
-rw_keeps n (r.Appends want) = of_rw.MayAsk false n want (word_of 0)
-rw_keeps n (r.Rests want) = of_rw.MayAsk false n want (word_of 0)
-rw_keeps n (r.Sleeps want) = of_rw.MayAsk false n want (word_of 0)
-rw_keeps n (r.TryLoads want) = of_rw.MayAsk false n want (word_of 0)
-rw_keeps n (r.TryAdmits want word left) = of_rw.MayAsk false n want (word_of 0)
-rw_keeps n (r.Refuses want) = of_rw.MayAsk false n want (word_of 0)
-rw_keeps n (r.Relocks want) = of_rw.MayAsk false n want (word_of 0)
-rw_keeps n (r.DrainLoads d) = n ≡ 0
-rw_keeps n (r.DrainSpins d) = n ≡ 0
-rw_keeps n (r.DrainSetParked d word) = n ≡ 0
-rw_keeps n (r.DrainEnters d) = n ≡ 0
-rw_keeps n (r.DrainChecks d) = n ≡ 0
-rw_keeps n (r.DrainRetreats d) = n ≡ 0
-rw_keeps n (r.DrainAppends rounds) = n ≡ 0
-rw_keeps n (r.DrainRests rounds) = n ≡ 0
-rw_keeps n (r.DrainSleeps rounds) = n ≡ 0
-rw_keeps n (r.BumpLoads want) = n ≡ 0
-rw_keeps n (r.Unlocks fair rest) = n ≡ 0
-rw_keeps n (r.LooksExclusive fair rest) = n ≡ 0
-rw_keeps n (r.Unshares rest) = rest_keeps n rest
-rw_keeps n (r.EnterWriterWakeSection rest) = rest_keeps n rest
-rw_keeps n (r.TakeWriter rest) = rest_keeps n rest
-rw_keeps n (r.ClearWriterParked rest taken) = rest_keeps n rest
-rw_keeps n (r.LeaveWriterWakeSection rest taken) = rest_keeps n rest
-rw_keeps n (r.Scans s) = rest_keeps n s.rest × (s.writer ≡ false)
-rw_keeps n (r.Stores s left) = rest_keeps n s.rest
-rw_keeps n (r.Leaves rest count handed) = rest_keeps n rest
-rw_keeps n (r.Wakes rest count) = rest_keeps n rest
-rw_keeps n (r.Finishes rest) = rest_keeps n rest
-rw_keeps n r.Downgrades = Unit {0}
-rw_keeps n r.EnterWakeSection = Unit {0}
-rw_keeps n (r.Ends outcome) = Unit {0}
-rw_keeps n r.Invalid = ⊥
+abbrev pub rw_keeps : Bool → ℕ → RwPhase → Type 0
+rw_keeps recursive n (r.Locking want) = ⊥
+rw_keeps recursive n (r.Trying want) = ⊥
+rw_keeps recursive n r.UnlockingShared = ⊥
+rw_keeps recursive n (r.UnlockingExclusive fair) = ⊥
+rw_keeps recursive n r.Downgrading = ⊥
+rw_keeps recursive n r.BumpingShared = ⊥
+rw_keeps recursive n r.BumpingExclusive = ⊥
+rw_keeps recursive n (r.Loads a) = Asks recursive n a.want
+rw_keeps recursive n (r.Admits a word) = Asks recursive n a.want
+rw_keeps recursive n (r.Spins a) = Asks recursive n a.want
+rw_keeps recursive n (r.SetParked a word) = Asks recursive n a.want × (n ≡ 0)
+rw_keeps recursive n (r.Enters want woken) = Asks recursive n want × (n ≡ 0)
+rw_keeps recursive n (r.Checks want woken) = Asks recursive n want × (n ≡ 0)
+rw_keeps recursive n (r.Retreats want woken) = Asks recursive n want × (n ≡ 0)
+rw_keeps recursive n (r.Appends want) = Asks recursive n want × (n ≡ 0)
+rw_keeps recursive n (r.Rests want) = Asks recursive n want × (n ≡ 0)
+rw_keeps recursive n (r.Sleeps want) = Asks recursive n want × (n ≡ 0)
+rw_keeps recursive n (r.TryLoads want) = Asks recursive n want
+rw_keeps recursive n (r.TryAdmits want word left) = Asks recursive n want
+rw_keeps recursive n (r.Refuses want) = Asks recursive n want
+rw_keeps recursive n (r.Relocks want) = Asks recursive n want
+rw_keeps recursive n (r.DrainLoads d) = n ≡ 0
+rw_keeps recursive n (r.DrainSpins d) = n ≡ 0
+rw_keeps recursive n (r.DrainSetParked d word) = n ≡ 0
+rw_keeps recursive n (r.DrainEnters d) = n ≡ 0
+rw_keeps recursive n (r.DrainChecks d) = n ≡ 0
+rw_keeps recursive n (r.DrainRetreats d) = n ≡ 0
+rw_keeps recursive n (r.DrainAppends rounds) = n ≡ 0
+rw_keeps recursive n (r.DrainRests rounds) = n ≡ 0
+rw_keeps recursive n (r.DrainSleeps rounds) = n ≡ 0
+rw_keeps recursive n (r.BumpLoads want) = n ≡ 0
+rw_keeps recursive n (r.Unlocks fair rest) = n ≡ 0
+rw_keeps recursive n (r.LooksExclusive fair rest) = n ≡ 0
+rw_keeps recursive n (r.Unshares rest) = rest_keeps n rest
+rw_keeps recursive n (r.EnterWriterWakeSection rest) = rest_keeps n rest
+rw_keeps recursive n (r.TakeWriter rest) = rest_keeps n rest
+rw_keeps recursive n (r.ClearWriterParked rest taken) = rest_keeps n rest
+rw_keeps recursive n (r.LeaveWriterWakeSection rest taken) = rest_keeps n rest
+rw_keeps recursive n (r.Scans s) = rest_keeps n s.rest × (s.writer ≡ false)
+rw_keeps recursive n (r.Stores s left) = rest_keeps n s.rest
+rw_keeps recursive n (r.Leaves rest count handed) = rest_keeps n rest
+rw_keeps recursive n (r.Wakes rest count) = rest_keeps n rest
+rw_keeps recursive n (r.Finishes rest) = rest_keeps n rest
+rw_keeps recursive n r.Downgrades = Unit {0}
+rw_keeps recursive n r.EnterWakeSection = Unit {0}
+rw_keeps recursive n (r.Ends outcome) = Unit {0}
+rw_keeps recursive n r.Invalid = ⊥
 
 -- what a call that is kept stands on
-abbrev pub IsPrepared : ℕ → Core → Type 0
-IsPrepared n (core.Mutex c) = n ≡ 0
-IsPrepared n (core.Rw c) = of_rw.IsReady c.phase × rw_keeps n c.phase
+abbrev pub IsPrepared : Bool → ℕ → Core → Type 0
+IsPrepared recursive n (core.Mutex c) = n ≡ 0
+IsPrepared recursive n (core.Rw c) = of_rw.IsReady c.phase × rw_keeps recursive n c.phase
+IsPrepared recursive n (core.Late p) = n ≡ 0
 
 -- What one that is to store knows of its list: it has taken a writer or all, and whether waiters are left.
 abbrev pub mutex_knows : MutexPhase → List Waiter → Type 0
@@ -185,6 +208,7 @@ rw_knows phase first second = Unit {0}
 abbrev pub KnowsList : Core → (ℕ → List Waiter) → ℕ → Type 0
 KnowsList (core.Mutex c) queues j = mutex_knows c.phase (queues (2 * j))
 KnowsList (core.Rw c) queues j = rw_knows c.phase (queues (2 * j)) (queues (2 * j + 1))
+KnowsList (core.Late p) queues j = Unit {0}
 
 -- Who was taken sleeps off its list, at the lock of its taker.
 pub record IsTaken (s : State) (e : Wakeup) : Type 0 where
@@ -248,13 +272,13 @@ pub record RulesFit (s : State) : Type 0 where
   pub few_locks : length s.kinds < 2 ^ 21
   -- a call is of its lock's kind, and stands as its phase asks
   pub kinds : (t : ℕ) (c : Call) → call_at s t ≡ Some c → IsOfKind (slice_get s.kinds c.lock) c.core
-  pub prepared : (t : ℕ) (c : Call) → call_at s t ≡ Some c → IsPrepared c.others c.core
+  pub prepared : (t : ℕ) (c : Call) → call_at s t ≡ Some c → IsPrepared (recursive_in s.kinds c.lock) c.others c.core
   pub knows : (t : ℕ) (c : Call) → call_at s t ≡ Some c → KnowsList c.core s.lot.queues c.lock
   -- a thread has few shared holds of a lock
   pub few : (t i n : ℕ) → hold_at s t i ≡ hold.Shares n → n ≤ 255
   pub beside : (t : ℕ) (c : Call) → call_at s t ≡ Some c → c.others ≤ 254
   -- each word has the bits of its kind
-  pub bits : (i : ℕ) → slice_get s.kinds i ≡ Some kind.Mutex → word_at s i < 4
+  pub bits : (i : ℕ) → manner_of (slice_get s.kinds i) ≡ Some AsMutex → word_at s i < 4
   -- the locks are sound
   pub sound : SoundFamilyOf AnySound any_inside one_bucket (family s)
   -- a call that is kept has begun, and has few rounds left to spin

@@ -1,13 +1,17 @@
 -- Which steps of the rules the acts of the machine are.
-use Rattle.std.specs.Prelude.{◌≡◌, ℕ, Bool, true, false, List, [], ◌∷◌}
-use Rattle.parking_lot_rules.specs.Roles.{Owned, Asleep}
+use Rattle.std.specs.Prelude.{◌≡◌, ℕ, Bool, true, false, if◌then◌else◌, List, [], ◌∷◌}
+use Rattle.parking_lot_rules.specs.Roles.{Owned, Asleep, Stay}
 use Rattle.parking_lot_rules.specs.Steps.{Alone, List_changes, Take1, Take2, Store, Wake, Scan, Waking}
 use Rattle.parking_lot_rules.specs.Mutex as mutex
 use Rattle.parking_lot_rules.specs.Any.{AnyStep, RwStep, MxStep, any_rules}
 use Rattle.parking_lot_rules.specs.Family.{StepOf}
 use Rattle.parking_lot_protocol.specs.declared.act.ActResult.{ActResult}
+use Rattle.parking_lot_protocol.specs.declared.act.ActResult.TheVariants as seen
 use Rattle.parking_lot_protocol.specs.MutexRules as of_mutex
 use Rattle.parking_lot_protocol.specs.RwRules as of_rw
+use Rattle.parking_lot_world.specs.Kinds.{recursive_in}
+use Rattle.parking_lot_world.specs.declared.seat.LatePhase.{LatePhase}
+use Rattle.parking_lot_world.specs.declared.seat.LatePhase.TheVariants as late
 use Rattle.parking_lot_world.specs.declared.seat.Core.{Core}
 use Rattle.parking_lot_world.specs.declared.seat.Core.TheVariants as core
 use Rattle.parking_lot_world.specs.declared.open_call.Call.{Call}
@@ -20,7 +24,7 @@ pub record IsQuiet (s u : State) : Type 0 where
 
 -- thread t makes a step of the rules at lock j, and nothing changes at the others
 abbrev pub IsMade : ℕ → ℕ → AnyStep → State → State → Type 0
-IsMade j t step s u = StepOf (any_rules (λ i. false)) one_bucket j t step (family s) (family u)
+IsMade j t step s u = StepOf (any_rules (recursive_in s.kinds)) one_bucket j t step (family s) (family u)
 
 -- and which step it is, by the move that the core's table names
 abbrev pub IsRwMove : of_rw.Move → ℕ → ℕ → State → State → Type 0
@@ -40,23 +44,35 @@ store_step true [] = mutex.Free []
 store_step false us = mutex.Free us
 
 -- those that are woken own the mutex, or try again
+abbrev pub wake_step_of : Stay → Bool → ℕ → List ℕ → mutex.Step
+wake_step_of stay true v us = mutex.WakeOwner false v us stay
+wake_step_of stay false v us = mutex.Wake false v us stay
+
 abbrev pub wake_step : Bool → ℕ → List ℕ → mutex.Step
-wake_step true v us = mutex.WakeOwner false v us Asleep
-wake_step false v us = mutex.Wake false v us Asleep
+wake_step handed v us = wake_step_of Asleep handed v us
 
 abbrev pub IsMutexMove : of_mutex.Move → List ℕ → ℕ → ℕ → State → State → Type 0
 IsMutexMove of_mutex.Stays us j t s u = IsQuiet s u
 IsMutexMove (of_mutex.Makes k) us j t s u = IsMade j t (MxStep (mutex.Alone k)) s u
 IsMutexMove of_mutex.Joins us j t s u = IsMade j t (MxStep mutex.Join) s u
-IsMutexMove of_mutex.TakesOne us j t s u = (v : ℕ) × IsMade j t (MxStep (mutex.Take v Asleep)) s u
+IsMutexMove of_mutex.TakesOne us j t s u = (v : ℕ) × (stay : Stay) × IsMade j t (MxStep (mutex.Take v stay)) s u
 IsMutexMove (of_mutex.Tells taken handed left) us j t s u = IsMade j t (MxStep (store_step handed us)) s u
-IsMutexMove of_mutex.WakesOne us j t s u = (handed : Bool) × (v : ℕ) × (rest : List ℕ) × IsMade j t (MxStep (wake_step handed v rest)) s u
+IsMutexMove of_mutex.WakesOne us j t s u = (handed : Bool) × (v : ℕ) × (rest : List ℕ) × (stay : Stay) × IsMade j t (MxStep (wake_step_of stay handed v rest)) s u
 IsMutexMove (of_mutex.IsWoken handed) us j t s u = ⊥
+
+-- one whose moment has passed comes back, takes itself out, as the last one or as one of several, masks the parked bit off, and leaves
+abbrev pub IsLateMove : LatePhase → ActResult → ℕ → ℕ → State → State → Type 0
+IsLateMove late.Expires seen.Entered j t s u = IsMade j t (MxStep (mutex.Alone mutex.Reenter)) s u
+IsLateMove late.Quits (seen.Took token left) j t s u = (i : ℕ) × IsMade j t (MxStep (if left then mutex.Quit i else mutex.QuitLast i)) s u
+IsLateMove late.Masks (seen.Before word) j t s u = IsMade j t (MxStep (mutex.Alone mutex.Mask)) s u
+IsLateMove late.Leaves seen.Made j t s u = IsMade j t (MxStep (mutex.Alone mutex.Leave)) s u
+IsLateMove p told j t s u = ⊥
 
 -- A thread in a call at lock j is told this, and the machine's step is the one that the core's table names.
 abbrev pub IsMoveOf : Core → ℕ → List ℕ → ActResult → ℕ → ℕ → State → State → Type 0
 IsMoveOf (core.Rw c) n us told j t s u = IsRwMove (of_rw.move n us c.phase told) j t s u
 IsMoveOf (core.Mutex c) n us told j t s u = IsMutexMove (of_mutex.move (first_of_all us) c.phase told) us j t s u
+IsMoveOf (core.Late p) n us told j t s u = IsLateMove p told j t s u
 
 abbrev pub Goes : ℕ → Call → ActResult → State → State → Type 0
 Goes t c told s u = IsMoveOf c.core c.others (taken_by s.wakes t) told c.lock t s u
@@ -65,6 +81,7 @@ Goes t c told s u = IsMoveOf c.core c.others (taken_by s.wakes t) told c.lock t 
 abbrev pub IsLastOf : Core → ℕ → ℕ → ℕ → State → State → Type 0
 IsLastOf (core.Rw c) n j t s u = IsRwMove (of_rw.last_move n c.phase) j t s u
 IsLastOf (core.Mutex c) n j t s u = IsMutexMove (of_mutex.last_move c.phase) [] j t s u
+IsLastOf (core.Late p) n j t s u = IsQuiet s u
 
 abbrev pub GoesAway : ℕ → Call → State → State → Type 0
 GoesAway t c s u = IsLastOf c.core c.others c.lock t s u

@@ -4,7 +4,7 @@ use Rattle.std.specs.List.{range_with_len}
 use Rattle.std.specs.Option.{option_and_then, option_map_or}
 use Rattle.parking_lot_core_lot.specs.declared.place.Section.{Section}
 use Rattle.parking_lot_core_lot.specs.Machine.{Machine, Parts, machine, threads_of}
-use Rattle.parking_lot_rules.specs.Roles.{Owned, Shares, Excludes, Mark, Open, Normal, Handed, Idle, Role, away}
+use Rattle.parking_lot_rules.specs.Roles.{Owned, Shares, Excludes, Mark, Open, Normal, Handed, Idle, Late, Back, Role, away}
 use Rattle.parking_lot_rules.specs.Clauses.{word_of}
 use Rattle.parking_lot_rules.specs.Lock.{Lock}
 use Rattle.parking_lot_rules.specs.Mutex as mutex
@@ -13,16 +13,18 @@ use Rattle.parking_lot_rules.specs.Family.{Family}
 use Rattle.parking_lot_protocol.specs.MutexRules as of_mutex
 use Rattle.parking_lot_protocol.specs.RwRules as of_rw
 use Rattle.parking_lot_world.specs.declared.calls.LockKind.{LockKind}
-use Rattle.parking_lot_world.specs.declared.calls.LockKind.TheVariants as kind
 use Rattle.parking_lot_world.specs.declared.seat.Hold.{Hold}
 use Rattle.parking_lot_world.specs.declared.seat.Hold.TheVariants as hold
 use Rattle.parking_lot_world.specs.declared.seat.WakeResult.{WakeResult}
 use Rattle.parking_lot_world.specs.declared.seat.WakeResult.TheVariants as told
 use Rattle.parking_lot_world.specs.declared.seat.QueuePosition.{QueuePosition}
 use Rattle.parking_lot_world.specs.declared.seat.QueuePosition.TheVariants as spot
+use Rattle.parking_lot_world.specs.declared.seat.LatePhase.{LatePhase}
+use Rattle.parking_lot_world.specs.declared.seat.LatePhase.TheVariants as late
 use Rattle.parking_lot_world.specs.declared.seat.Core.{Core}
 use Rattle.parking_lot_world.specs.declared.seat.Core.TheVariants as core
 use Rattle.parking_lot_world.specs.declared.open_call.Call.{Call}
+use Rattle.parking_lot_world.specs.Kinds.{Manner, AsMutex, AsRw, manner_of}
 use Rattle.parking_lot_world.specs.declared.seat.Wakeup.{Wakeup}
 
 pub record State : Type 0 where
@@ -105,10 +107,27 @@ first_of_all (v ∷ us) = v
 abbrev pub rw_core_role : ℕ → QueuePosition → List ℕ → Core → Role
 rw_core_role n at us (core.Rw c) = of_rw.role n (rw_spot at) us c.phase
 rw_core_role n at us (core.Mutex c) = away
+rw_core_role n at us (core.Late p) = away
+
+-- one whose moment has passed
+abbrev pub late_waits : of_mutex.QueuePosition → mutex.Phase
+late_waits of_mutex.Listed = mutex.Queued Late
+late_waits (of_mutex.Off by mark) = mutex.Taken by mark Late
+
+abbrev pub late_does : of_mutex.QueuePosition → LatePhase → mutex.Phase
+late_does at late.Expires = late_waits at
+late_does at late.Quits = mutex.Queued Back
+late_does at late.Masks = mutex.Masks
+late_does at late.Leaves = mutex.Leaves
+late_does at late.GivesUp = mutex.Idle
+
+abbrev pub late_role : of_mutex.QueuePosition → LatePhase → mutex.Role
+late_role at p = mutex.doing (late_does at p)
 
 abbrev pub mutex_core_role : QueuePosition → List ℕ → Core → mutex.Role
 mutex_core_role at us (core.Mutex c) = of_mutex.role (mutex_spot at) (first_of_all us) c.phase
 mutex_core_role at us (core.Rw c) = mutex.away
+mutex_core_role at us (core.Late p) = late_role (mutex_spot at) p
 
 abbrev pub rw_role_in : ℕ → List ℕ → Hold → Option Call → Role
 rw_role_in i us h None = record { owns = owned_of h; does = Idle }
@@ -149,10 +168,13 @@ abbrev pub mutex_at : State → ℕ → mutex.Mutex
 mutex_at s i = record { word = mutex_word_of (word_at s i); roles = everybody (mutex_role_at s i) s; queue = queue_at s (first_key i) }
 
 -- beyond the last number there are locks too, where nobody is
+abbrev pub lock_as : Option Manner → State → ℕ → AnyLock
+lock_as (Some AsMutex) s i = Mx (mutex_at s i)
+lock_as (Some AsRw) s i = Rw (rw_lock_at s i)
+lock_as None s i = Rw (rw_lock_at s i)
+
 abbrev pub any_lock : Option LockKind → State → ℕ → AnyLock
-any_lock (Some kind.Mutex) s i = Mx (mutex_at s i)
-any_lock (Some kind.Rw) s i = Rw (rw_lock_at s i)
-any_lock None s i = Rw (rw_lock_at s i)
+any_lock k s i = lock_as (manner_of k) s i
 
 abbrev pub lock_at : State → ℕ → AnyLock
 lock_at s i = any_lock (slice_get s.kinds i) s i

@@ -1,5 +1,5 @@
 -- What a core is told at a sound reader-writer lock is a step of the rules there.
-use Rattle.std.specs.Prelude.{◌≡◌, ◌<◌, ◌≤◌, ℕ, zero, suc, ◌-◌, ◌^◌, false, List, [], length, Some, slice_get, slice_set, Bool, true, ◌++◌, ◌∷◌, remove, ◌⊎◌, ◌≢◌, ◌||◌, map, None}
+use Rattle.std.specs.Prelude.{◌≡◌, ◌<◌, ◌≤◌, ℕ, zero, suc, ◌-◌, ◌/◌, ◌^◌, false, List, [], length, Some, slice_get, slice_set, Bool, true, ◌++◌, ◌∷◌, remove, ◌⊎◌, ◌≢◌, ◌||◌, map, None}
 use Rattle.parking_lot_core_lot.specs.declared.parking.ParkToken.{ParkToken}
 use Rattle.parking_lot_rules.specs.Roles.{Mode, Shares, Asleep, Open, Queued1, Taken1, Queued2, Taken2, Role, Mark, Owned, Idle}
 use Rattle.parking_lot_rules.specs.Classes.{Class, Inside1, Inside2, weight}
@@ -19,8 +19,8 @@ use Rattle.parking_lot_protocol.specs.declared.rw_phase.RwPhase.{RwPhase}
 use Rattle.parking_lot_protocol.specs.declared.rw_phase.RwPhase.TheVariants.{TakeWriter, Scans, Appends, DrainAppends, Stores, Wakes}
 use Rattle.parking_lot_protocol.specs.Acts.{word_after}
 use Rattle.parking_lot_protocol.specs.RwTable.{act_of, next_phase, share_of, wakes_with, hands, sum_of}
-use Rattle.parking_lot_protocol.specs.RwRules.{QueuePosition, Listed, role, Stays, Makes, move, IsMove, IsReady, IsToken, IsTold, Fits, mode_of, mode_by, scan_of, ending, Off, owned_at_last, owned_at_last, owns, last_move, Move, MayAsk}
-use Rattle.parking_lot_world.specs.RowFits.{rw_prepared, rw_keeps, rw_knows}
+use Rattle.parking_lot_protocol.specs.RwRules.{QueuePosition, Listed, role, Stays, Makes, move, IsMove, IsReady, IsToken, IsTold, Fits, mode_of, mode_by, scan_of, ending, Off, owned_at_last, owned_at_last, owns, last_move, Move}
+use Rattle.parking_lot_world.specs.RowFits.{Asks, rw_prepared, rw_keeps, rw_knows}
 use Rattle.parking_lot_rules.specs.Roles as rules
 use Rattle.parking_lot_core_lot.specs.Results.{is_left}
 use Rattle.parking_lot_core_lot.specs.declared.parking.UnparkToken.{UnparkToken}
@@ -48,21 +48,21 @@ pub record WordsAreNumbers : Type 0 where
 
 -- Thread t is in that phase of a call at a sound lock whose word is the number x. It has n shared holds besides the one that the call is
 -- about, and has taken the threads us. Few threads have few holds each.
-pub record Meets (l : Lock) (t n : ℕ) (spot : QueuePosition) (us : List ℕ) (p : RwPhase) (x : ℕ) : Type 0 where
+pub record Meets (recursive : Bool) (l : Lock) (t n : ℕ) (spot : QueuePosition) (us : List ℕ) (p : RwPhase) (x : ℕ) : Type 0 where
   pub sound : IsSound l
   pub word : l.word ≡ word_of x
   pub here : slice_get l.roles t ≡ Some (role n spot us p)
   pub ready : IsReady p
-  pub prepared : rw_prepared n us p
+  pub prepared : rw_prepared recursive n us p
   pub threads : length l.roles < 2 ^ 17
   pub few : (u : ℕ) (r : Role) → slice_get l.roles u ≡ Some r → shared_holds r.owns ≤ 256
 
 -- what it is told is the move that the table says, and the next phase is ready
-abbrev pub IsMoved : Lock → ℕ → List ℕ → RwPhase → ℕ → ActResult → Type 0
-IsMoved l n us p x s = IsMove false (move n us p s) n us p (next_phase p s) l.word (word_after (act_of p) s x) × IsReady (next_phase p s)
+abbrev pub IsMoved : Bool → Lock → ℕ → List ℕ → RwPhase → ℕ → ActResult → Type 0
+IsMoved recursive l n us p x s = IsMove recursive (move n us p s) n us p (next_phase p s) l.word (word_after (act_of p) s x) × IsReady (next_phase p s)
 
 abbrev pub AnswersAreMoves : Type 0
-AnswersAreMoves = (l : Lock) (t n : ℕ) (spot : QueuePosition) (us : List ℕ) (p : RwPhase) (x : ℕ) (s : ActResult) → Meets l t n spot us p x → IsTold p x s → Fits false n us p l.word × (l.word.readers < 2 ^ 60 - 1) × IsMoved l n us p x s
+AnswersAreMoves = (recursive : Bool) (l : Lock) (t n : ℕ) (spot : QueuePosition) (us : List ℕ) (p : RwPhase) (x : ℕ) (s : ActResult) → Meets recursive l t n spot us p x → IsTold p x s → Fits recursive n us p l.word × (l.word.readers < 2 ^ 60 - 1) × IsMoved recursive l n us p x s
 
 -- no thread is of a class
 abbrev pub NobodyIs : Class → List Role → Type 0
@@ -77,27 +77,27 @@ Finds (FetchAnd keep) l = l.second ≡ []
 Finds act l = Unit {0}
 
 -- a step that may be made at a lock, and the lock after it
-abbrev pub IsStep : ℕ → Step → Lock → Lock → Type 0
-IsStep t step l m = Allowed false t step l × (after t step l ≡ m)
+abbrev pub IsStep : Bool → ℕ → Step → Lock → Lock → Type 0
+IsStep recursive t step l m = Allowed recursive t step l × (after t step l ≡ m)
 
 -- the lock with another word and another role of a thread
 abbrev pub with_role : Lock → ℕ → ℕ → Role → Lock
 with_role l x t r = record l { word = word_of x; roles = slice_set l.roles t r }
 
 abbrev pub StaysAreSteps : Type 0
-StaysAreSteps = (l : Lock) (t n : ℕ) (spot : QueuePosition) (us : List ℕ) (p : RwPhase) (x : ℕ) (s : ActResult) → Meets l t n spot us p x → IsTold p x s → move n us p s ≡ Stays
+StaysAreSteps = (recursive : Bool) (l : Lock) (t n : ℕ) (spot : QueuePosition) (us : List ℕ) (p : RwPhase) (x : ℕ) (s : ActResult) → Meets recursive l t n spot us p x → IsTold p x s → move n us p s ≡ Stays
     → (role n spot us (next_phase p s) ≡ role n spot us p) × (word_after (act_of p) s x ≡ x)
 
 abbrev pub MakesAreSteps : Type 0
-MakesAreSteps = (l : Lock) (t n : ℕ) (spot : QueuePosition) (us : List ℕ) (p : RwPhase) (x : ℕ) (s : ActResult) (k : Plain) → Meets l t n spot us p x → IsTold p x s → move n us p s ≡ Makes k → Finds (act_of p) l
-    → IsStep t (Alone k) l (with_role l (word_after (act_of p) s x) t (role n Listed us (next_phase p s)))
+MakesAreSteps = (recursive : Bool) (l : Lock) (t n : ℕ) (spot : QueuePosition) (us : List ℕ) (p : RwPhase) (x : ℕ) (s : ActResult) (k : Plain) → Meets recursive l t n spot us p x → IsTold p x s → move n us p s ≡ Makes k → Finds (act_of p) l
+    → IsStep recursive t (Alone k) l (with_role l (word_after (act_of p) s x) t (role n Listed us (next_phase p s)))
 
 -- One that goes to sleep joins the end of its list: the lock's first, or as a pending writer its second.
 pub record JoinsAreSteps : Type 0 where
-  pub first : (l : Lock) (t n : ℕ) (spot : QueuePosition) (us : List ℕ) (want : LockMode) (x : ℕ) → Meets l t n spot us (Appends want) x
-      → IsStep t (List_changes (Join1 (mode_of want))) l (record (with_role l x t (role n Listed us (next_phase (Appends want) seen.Made))) { first = l.first ++ t ∷ [] })
-  pub second : (l : Lock) (t n : ℕ) (spot : QueuePosition) (us : List ℕ) (rounds x : ℕ) → Meets l t n spot us (DrainAppends rounds) x
-      → IsStep t (List_changes (Join2 false)) l (record (with_role l x t (role n Listed us (next_phase (DrainAppends rounds) seen.Made))) { second = l.second ++ t ∷ [] })
+  pub first : (recursive : Bool) (l : Lock) (t n : ℕ) (spot : QueuePosition) (us : List ℕ) (want : LockMode) (x : ℕ) → Meets recursive l t n spot us (Appends want) x
+      → IsStep recursive t (List_changes (Join1 (mode_of want))) l (record (with_role l x t (role n Listed us (next_phase (Appends want) seen.Made))) { first = l.first ++ t ∷ [] })
+  pub second : (recursive : Bool) (l : Lock) (t n : ℕ) (spot : QueuePosition) (us : List ℕ) (rounds x : ℕ) → Meets recursive l t n spot us (DrainAppends rounds) x
+      → IsStep recursive t (List_changes (Join2 false)) l (record (with_role l x t (role n Listed us (next_phase (DrainAppends rounds) seen.Made))) { second = l.second ++ t ∷ [] })
 
 -- A thread that scans takes the waiter v at an index of the first list, by its token: it looks at it so, and those before it are skipped.
 pub record MayTakeOne (l : Lock) (a : Scanning) (i v : ℕ) (mode : Mode) : Type 0 where
@@ -111,8 +111,8 @@ abbrev pub with_roles : Lock → ℕ → ℕ → Role → ℕ → Role → Lock
 with_roles l x t r v q = record l { word = word_of x; roles = slice_set (slice_set l.roles t r) v q }
 
 abbrev pub TakesAreSteps : Type 0
-TakesAreSteps = (l : Lock) (t n : ℕ) (spot : QueuePosition) (us : List ℕ) (a : Scanning) (x : ℕ) (token : ParkToken) (left : Bool) (i v : ℕ) → Meets l t n spot us (Scans a) x → IsToken (Some token) → MayTakeOne l a i v (mode_by token)
-    → IsStep t (Take1 (scan_of n a us) i v (mode_by token) Asleep) l
+TakesAreSteps = (recursive : Bool) (l : Lock) (t n : ℕ) (spot : QueuePosition) (us : List ℕ) (a : Scanning) (x : ℕ) (token : ParkToken) (left : Bool) (i v : ℕ) → Meets recursive l t n spot us (Scans a) x → IsToken (Some token) → MayTakeOne l a i v (mode_by token)
+    → IsStep recursive t (Take1 (scan_of n a us) i v (mode_by token) Asleep) l
     (record (with_roles l x t (role n Listed (us ++ v ∷ []) (next_phase (Scans a) (seen.Took (Some token) left))) v (record { owns = Shares 0; does = Taken1 (mode_by token) t Open Asleep })) { first = remove l.first i })
 
 -- The first of the list may be taken where none was taken yet that wants more than a shared hold.
@@ -125,9 +125,9 @@ abbrev pub TokensTell : Type 0
 TokensTell = (want : LockMode) → IsToken (Some (record { 0 = share_of want })) × (mode_by (record { 0 = share_of want }) ≡ mode_of want)
 
 abbrev pub WritersAreTaken : Type 0
-WritersAreTaken = (l : Lock) (t n : ℕ) (spot : QueuePosition) (us : List ℕ) (rest : AfterWake) (x : ℕ) (token : ParkToken) (left : Bool) (v : ℕ) → Meets l t n spot us (TakeWriter rest) x → slice_get l.second 0 ≡ Some v
+WritersAreTaken = (recursive : Bool) (l : Lock) (t n : ℕ) (spot : QueuePosition) (us : List ℕ) (rest : AfterWake) (x : ℕ) (token : ParkToken) (left : Bool) (v : ℕ) → Meets recursive l t n spot us (TakeWriter rest) x → slice_get l.second 0 ≡ Some v
     → slice_get l.roles v ≡ Some (record { owns = Shares 0; does = Queued2 false Asleep })
-    → IsStep t (Take2 (Shares n) v false Asleep) l
+    → IsStep recursive t (Take2 (Shares n) v false Asleep) l
     (record (with_roles l x t (role n Listed (us ++ v ∷ []) (next_phase (TakeWriter rest) (seen.Took (Some token) left))) v (record { owns = Shares 0; does = Taken2 false t Asleep })) { second = remove l.second 0 })
 
 -- The end of the section: what it stores, and what it tells all that the thread has taken. It knows whether waiters are left, and has taken
@@ -136,8 +136,8 @@ abbrev pub ending_of : Scanning → Bool → Ending
 ending_of a fair = ending a.rest (hands a (a.fair || fair))
 
 abbrev pub StoresAreSteps : Type 0
-StoresAreSteps = (l : Lock) (t n : ℕ) (spot : QueuePosition) (us : List ℕ) (a : Scanning) (left : Bool) (x : ℕ) (fair : Bool) → Meets l t n spot us (Stores a left) x → is_left l.first ≡ left → (a.writer ≡ true) ⊎ (left ≡ false)
-    → IsStep t (Store (ending_of a fair) (scan_of n a us)) l
+StoresAreSteps = (recursive : Bool) (l : Lock) (t n : ℕ) (spot : QueuePosition) (us : List ℕ) (a : Scanning) (left : Bool) (x : ℕ) (fair : Bool) → Meets recursive l t n spot us (Stores a left) x → is_left l.first ≡ left → (a.writer ≡ true) ⊎ (left ≡ false)
+    → IsStep recursive t (Store (ending_of a fair) (scan_of n a us)) l
     (record l { word = word_of (word_after (act_of (Stores a left)) (seen.Stored fair) x); roles = slice_set (map (settle (ends_saying (ending_of a fair))) l.roles) t (role n Listed us (next_phase (Stores a left) (seen.Stored fair))) })
 
 -- the token with which it tells them says the same
@@ -146,9 +146,9 @@ TokensSay = (a : Scanning) (left fair : Bool) → mark_of (told_of (wakes_with (
 
 -- One that has taken others wakes the first of them, which sleeps and goes on as its token says.
 abbrev pub WakesAreSteps : Type 0
-WakesAreSteps = (l : Lock) (t n : ℕ) (spot : QueuePosition) (v : ℕ) (vs : List ℕ) (rest : AfterWake) (count x : ℕ) (m : ℕ) (mark : Mark) (ws : List ℕ) (q : RwPhase) (key : ℕ) (park : ParkToken) (token : UnparkToken)
-    → Meets l t n spot (v ∷ vs) (Wakes rest count) x → slice_get l.roles v ≡ Some (role m (Off t mark) ws q) → rw_stance q ≡ stance.Asleep key park → rw_prepared m ws q → mark ≡ mark_of (told_of token)
-    → (k : Waking) × IsStep t (Wake (owned_at_last n rest) v vs k Asleep) l
+WakesAreSteps = (recursive : Bool) (l : Lock) (t n : ℕ) (spot : QueuePosition) (v : ℕ) (vs : List ℕ) (rest : AfterWake) (count x : ℕ) (m : ℕ) (mark : Mark) (ws : List ℕ) (q : RwPhase) (key : ℕ) (park : ParkToken) (token : UnparkToken)
+    → Meets recursive l t n spot (v ∷ vs) (Wakes rest count) x → slice_get l.roles v ≡ Some (role m (Off t mark) ws q) → rw_stance q ≡ stance.Asleep key park → rw_prepared recursive m ws q → mark ≡ mark_of (told_of token)
+    → (k : Waking) × IsStep recursive t (Wake (owned_at_last n rest) v vs k Asleep) l
     (record l { word = word_of x; roles = slice_set (slice_set l.roles v (role m Listed ws (next_phase q (seen.Woken token)))) t (role n Listed vs (next_phase (Wakes rest count) seen.Made)) })
 
 -- Who is to be woken by one that wakes was told what it is to do.
@@ -173,13 +173,13 @@ abbrev pub BeginsAreReady : Type 0
 BeginsAreReady = (n : ℕ) (spot : QueuePosition) (us : List ℕ) (p : RwPhase) (x : ℕ) → rw_begun p ≡ false → (role n spot us p ≡ record { owns = owns n p; does = Idle }) × IsReady p × IsTold p x seen.Start
 
 -- the last step of a call, where there is one
-abbrev pub IsLastStep : Move → Lock → ℕ → Role → ℕ → Role → Type 0
-IsLastStep (Makes k) l t old x new = IsStep t (Alone k) l (with_role l x t new)
-IsLastStep move l t old x new = new ≡ old
+abbrev pub IsLastStep : Bool → Move → Lock → ℕ → Role → ℕ → Role → Type 0
+IsLastStep recursive (Makes k) l t old x new = IsStep recursive t (Alone k) l (with_role l x t new)
+IsLastStep recursive move l t old x new = new ≡ old
 
 -- One whose call is answered owns what the machine says, and is in no call.
 abbrev pub EndsAreSteps : Type 0
-EndsAreSteps = (l : Lock) (t n : ℕ) (spot : QueuePosition) (us : List ℕ) (p : RwPhase) (x : ℕ) → Meets l t n spot us p x → is_last p ≡ true → IsLastStep (last_move n p) l t (role n spot us p) x (record { owns = owned_of (rw_hold_after n p); does = Idle })
+EndsAreSteps = (recursive : Bool) (l : Lock) (t n : ℕ) (spot : QueuePosition) (us : List ℕ) (p : RwPhase) (x : ℕ) → Meets recursive l t n spot us p x → is_last p ≡ true → IsLastStep recursive (last_move n p) l t (role n spot us p) x (record { owns = owned_of (rw_hold_after n p); does = Idle })
 
 -- a call that has begun is answered in its last phase
 abbrev pub AnswersAreLast : Type 0
@@ -194,22 +194,26 @@ count_shared (r.Stores s left) = s.shared
 count_shared p = 0
 
 -- with what a call may begin
-abbrev pub rw_begins : ℕ → RwPhase → Type 0
-rw_begins n (r.Locking want) = MayAsk false n want (word_of 0)
-rw_begins n (r.Trying want) = MayAsk false n want (word_of 0)
-rw_begins n r.UnlockingShared = Unit {0}
-rw_begins n (r.UnlockingExclusive fair) = n ≡ 0
-rw_begins n r.Downgrading = Unit {0}
-rw_begins n r.BumpingShared = n ≡ 0
-rw_begins n r.BumpingExclusive = n ≡ 0
-rw_begins n phase = ⊥
+abbrev pub rw_begins : Bool → ℕ → RwPhase → Type 0
+rw_begins recursive n (r.Locking want) = Asks recursive n want
+rw_begins recursive n (r.Trying want) = Asks recursive n want
+rw_begins recursive n r.UnlockingShared = Unit {0}
+rw_begins recursive n (r.UnlockingExclusive fair) = n ≡ 0
+rw_begins recursive n r.Downgrading = Unit {0}
+rw_begins recursive n r.BumpingShared = n ≡ 0
+rw_begins recursive n r.BumpingExclusive = n ≡ 0
+rw_begins recursive n phase = ⊥
+
+-- one that asks finds the holds that it has in the word, and room for one more
+abbrev pub IsCounted : ℕ → RwPhase → ℕ → Type 0
+IsCounted n p x = owns n p ≡ Shares n → (n ≤ x / 16) × (x / 16 < 2 ^ 60 - 1)
 
 -- From its beginning to its end a call keeps what it may rely on. What its phase needs follows, where the thread has taken as many as it counts;
 -- and a scan counts no more readers than there are threads.
 pub record CallsKeep : Type 0 where
-  pub begins : (n : ℕ) (p : RwPhase) → rw_begins n p → rw_keeps n (next_phase p seen.Start)
-  pub goes_on : (n : ℕ) (p : RwPhase) (x : ℕ) (s : ActResult) → rw_keeps n p → IsTold p x s → rw_keeps n (next_phase p s)
-  pub prepared : (n : ℕ) (us : List ℕ) (p : RwPhase) → rw_keeps n p → length us ≡ rw_taken p → count_shared p ≤ 2 ^ 17 → rw_prepared n us p
+  pub begins : (recursive : Bool) (n : ℕ) (p : RwPhase) → rw_begins recursive n p → rw_keeps recursive n (next_phase p seen.Start)
+  pub goes_on : (recursive : Bool) (n : ℕ) (p : RwPhase) (x : ℕ) (s : ActResult) → rw_keeps recursive n p → IsCounted n p x → IsTold p x s → rw_keeps recursive n (next_phase p s)
+  pub prepared : (recursive : Bool) (n : ℕ) (us : List ℕ) (p : RwPhase) → rw_keeps recursive n p → length us ≡ rw_taken p → count_shared p ≤ 2 ^ 17 → rw_prepared recursive n us p
   pub few : (l : Lock) (t n : ℕ) (spot : QueuePosition) (us : List ℕ) (p : RwPhase) → IsSound l → slice_get l.roles t ≡ Some (role n spot us p) → count_shared p ≤ length l.roles
 
 -- SECTIONS AND LISTS
@@ -282,6 +286,6 @@ pub record SleepsSecond (n : ℕ) (us : List ℕ) (p : RwPhase) : Type 0 where
   pub off : (t : ℕ) (mark : Mark) → role n (Off t mark) us p ≡ record { owns = Shares 0; does = Taken2 false t Asleep }
 
 pub record SleepersAreKnown : Type 0 where
-  pub stand : (n : ℕ) (us : List ℕ) (p : RwPhase) (key : ℕ) (park : ParkToken) → rw_prepared n us p → rw_stance p ≡ stance.Asleep key park → ((key ≡ 0) × SleepsFirst n us p park) ⊎ ((key ≡ 1) × SleepsSecond n us p)
+  pub stand : (recursive : Bool) (n : ℕ) (us : List ℕ) (p : RwPhase) (key : ℕ) (park : ParkToken) → rw_prepared recursive n us p → rw_stance p ≡ stance.Asleep key park → ((key ≡ 0) × SleepsFirst n us p park) ⊎ ((key ≡ 1) × SleepsSecond n us p)
   -- a scan that has taken nobody but readers takes whoever is first
   pub taken : (a : Scanning) (token : ℕ) → a.upgradable ≡ false → a.writer ≡ false → (token ≡ 16) ⊎ (token ≡ 8) → wake_answer (sum_of a) token ≡ Unpark

@@ -9,12 +9,12 @@ use Rattle.parking_lot_rules.specs.Lists.{occurs}
 use Rattle.parking_lot_rules.specs.MutexOwners as mutex
 use Rattle.parking_lot_rules.specs.Owners as rw
 use Rattle.parking_lot_world.specs.declared.calls.LockCall.{LockCall}
-use Rattle.parking_lot_world.specs.declared.calls.LockKind.TheVariants as kind
 use Rattle.parking_lot_world.specs.declared.calls.OwnMode.{OwnMode}
 use Rattle.parking_lot_world.specs.declared.calls.OwnMode.TheVariants as mode
 use Rattle.parking_lot_world.specs.declared.open_call.Call.{Call}
 use Rattle.parking_lot_world.specs.declared.seat.QueuePosition.{QueuePosition}
 use Rattle.parking_lot_world.specs.declared.seat.QueuePosition.TheVariants as spot
+use Rattle.parking_lot_world.specs.Kinds.{AsRw, manner_of, recursive_in}
 use Rattle.parking_lot_world.specs.Ranks.{own_steps, steps_left}
 use Rattle.parking_lot_world.specs.Machines.{can_move, is_asleep, IsBegun, IsStepped}
 use Rattle.parking_lot_world.specs.RowFits.{FitsTogether}
@@ -53,7 +53,7 @@ SomebodyIsInDebt s i = (u : ℕ) × (c : Call) × (call_at s u ≡ Some c) × (c
 -- waits in the second and nobody reads, too.
 pub record DebtsAreKept (s : State) : Type 0 where
   pub first : (i : ℕ) → 0 < length (queue_at s (first_key i)) → OnlyReaders s i → SomebodyIsInDebt s i
-  pub second : (i : ℕ) → slice_get s.kinds i ≡ Some kind.Rw → 0 < length (queue_at s (second_key i)) → NoReaders s i → SomebodyIsInDebt s i
+  pub second : (i : ℕ) → manner_of (slice_get s.kinds i) ≡ Some AsRw → 0 < length (queue_at s (second_key i)) → NoReaders s i → SomebodyIsInDebt s i
 
 -- A thread in a call can move, but where it sleeps, and where it is before a section and another is in one of the same bucket.
 abbrev pub AwakeCanMove : State → Type 0
@@ -116,15 +116,15 @@ pub record IsSoundMachine (s : State) : Type 0 where
 -- WHAT A STEP IS TO A LOCK
 
 -- What a step of thread t does to owners and lists of a lock is a case of a lock without a word.
-abbrev pub IsCaseAt : ℕ → AnyLock → AnyLock → Type 0
-IsCaseAt t (Rw l) (Rw m) = (case : rw.Case) × rw.IsCase false t case (rw.owners l) (rw.owners m)
-IsCaseAt t (Mx l) (Mx m) = (case : mutex.Case) × mutex.IsCase t case (mutex.owners l) (mutex.owners m)
-IsCaseAt t (Rw l) (Mx m) = ⊥
-IsCaseAt t (Mx l) (Rw m) = ⊥
+abbrev pub IsCaseAt : Bool → ℕ → AnyLock → AnyLock → Type 0
+IsCaseAt recursive t (Rw l) (Rw m) = (case : rw.Case) × rw.IsCase recursive t case (rw.owners l) (rw.owners m)
+IsCaseAt recursive t (Mx l) (Mx m) = (case : mutex.Case) × mutex.IsCase t case (mutex.owners l) (mutex.owners m)
+IsCaseAt recursive t (Rw l) (Mx m) = ⊥
+IsCaseAt recursive t (Mx l) (Rw m) = ⊥
 
 -- It is a case at lock j, and leaves every other lock as it was.
 pub record IsStepAt (t j : ℕ) (s u : State) : Type 0 where
-  pub case : IsCaseAt t (lock_at s j) (lock_at u j)
+  pub case : IsCaseAt (recursive_in s.kinds j) t (lock_at s j) (lock_at u j)
   pub elsewhere : (i : ℕ) → i ≢ j → lock_at u i ≡ lock_at s i
 
 -- So is each step of the machine, and each beginning of a call.

@@ -35,7 +35,7 @@ abbrev pub Leads : Act → ActResult → Stance → Stance → ℕ → ℕ → U
 Leads act.Load s a b n m tells = StaysOut a b n m
 Leads (act.Exchange from to) s a b n m tells = StaysOut a b n m
 Leads (act.Add by) s a b n m tells = StaysOut a b n m
-Leads (act.FetchAnd keep) s a b n m tells = (a ≡ In 1 Stores) × (b ≡ In 1 (Tells (sign false))) × (m ≡ n)
+Leads (act.FetchAnd keep) s a b n m tells = (k : ℕ) × (a ≡ In k Stores) × (b ≡ In k (Tells (sign false))) × (m ≡ n)
 Leads act.Spin s a b n m tells = StaysOut a b n m
 Leads (act.Enter k) s a b n m tells = (a ≡ Out) × ((b ≡ In k Looks) ⊎ (b ≡ In k Takes)) × (m ≡ n)
 Leads (act.Section section.Check) s a b n m tells =
@@ -46,7 +46,7 @@ Leads (act.Section (section.Append token)) s a b n m tells = (k : ℕ) × (k < 2
 Leads (act.Section (section.Store plain fair)) s a b n m tells = (k : ℕ) × (a ≡ In k Stores) × (b ≡ In k (Tells tells)) × (m ≡ n)
 Leads (act.Section section.Leave) s a b n m tells = LeavesFor a b n m
 Leads (act.Section section.Wake) s a b n m tells = (a ≡ Out) × (b ≡ Out) × (m ≡ n - 1)
-Leads act.Sleep s a b n m tells = (k : ℕ) × (token : ParkToken) × (a ≡ Asleep k token) × (b ≡ Out) × (n ≡ 0) × (m ≡ 0)
+Leads act.Sleep s a b n m tells = (k : ℕ) (token : ParkToken) → a ≡ Asleep k token → (b ≡ Out) × (n ≡ 0) × (m ≡ 0)
 Leads (act.Done answer) s a b n m tells = ⊥
 
 abbrev pub LeadsCore : Act → ActResult → Core → Core → Type 0
@@ -64,6 +64,7 @@ rw_counts phase token = Unit {0}
 abbrev pub Counts : Core → ParkToken → Type 0
 Counts (core.Mutex c) token = Unit {0}
 Counts (core.Rw c) token = rw_counts c.phase token
+Counts (core.Late p) token = Unit {0}
 
 -- a taking that took somebody
 abbrev pub TakesOne : Stance → Stance → ℕ → ℕ → Type 0

@@ -1,8 +1,12 @@
 -- Where a call stands to the sections and lists of the lot, whatever the kind of its lock.
-use Rattle.std.specs.Prelude.{ℕ, Bool, true, false}
+use Rattle.std.specs.Prelude.{ℕ, ◌-◌, ◌^◌, Bool, true, false, if◌then◌else◌}
 use Rattle.parking_lot_core_lot.specs.declared.parking.ParkToken.{ParkToken}
 use Rattle.parking_lot_core_lot.specs.declared.parking.UnparkToken.{UnparkToken}
 use Rattle.parking_lot_protocol.specs.declared.act.Act.{Act}
+use Rattle.parking_lot_protocol.specs.declared.act.Act.TheVariants as act
+use Rattle.parking_lot_protocol.specs.declared.act.SectionAct.TheVariants as section
+use Rattle.parking_lot_protocol.specs.declared.act.ActResult.TheVariants as seen
+use Rattle.parking_lot_protocol.specs.declared.act.CoreAnswer.TheVariants as answer
 use Rattle.parking_lot_protocol.specs.declared.act.ActResult.{ActResult}
 use Rattle.parking_lot_protocol.specs.declared.mutex_phase.MutexPhase.{MutexPhase}
 use Rattle.parking_lot_protocol.specs.declared.mutex_phase.MutexPhase.TheVariants as m
@@ -10,6 +14,8 @@ use Rattle.parking_lot_protocol.specs.declared.rw_phase.RwPhase.{RwPhase}
 use Rattle.parking_lot_protocol.specs.declared.rw_phase.RwPhase.TheVariants as r
 use Rattle.parking_lot_protocol.specs.MutexTable as of_mutex
 use Rattle.parking_lot_protocol.specs.RwTable as of_rw
+use Rattle.parking_lot_world.specs.declared.seat.LatePhase.{LatePhase}
+use Rattle.parking_lot_world.specs.declared.seat.LatePhase.TheVariants as late
 use Rattle.parking_lot_world.specs.declared.seat.Core.{Core}
 use Rattle.parking_lot_world.specs.declared.seat.Core.TheVariants as core
 use Rattle.parking_lot_rules.specs.Classes.{bit}
@@ -66,9 +72,18 @@ rw_stance (r.Stores s left) = In 0 Stores
 rw_stance (r.Leaves rest count handed) = In 0 (Tells (sign handed))
 rw_stance phase = Out
 
+-- one whose moment has passed stands as one that sleeps, until it is back in its section, and then as one that has joined its list
+abbrev pub late_stance : LatePhase → Stance
+late_stance late.Expires = Asleep 0 (record { 0 = 0 })
+late_stance late.Quits = In 0 (Joined (record { 0 = 0 }))
+late_stance late.Masks = In 0 Stores
+late_stance late.Leaves = In 0 (Tells (sign false))
+late_stance late.GivesUp = Out
+
 abbrev pub stance : Core → Stance
 stance (core.Mutex c) = mutex_stance c.phase
 stance (core.Rw c) = rw_stance c.phase
+stance (core.Late p) = late_stance p
 
 -- how many it has taken and not woken yet
 abbrev pub mutex_taken : MutexPhase → ℕ
@@ -89,20 +104,42 @@ rw_taken phase = 0
 abbrev pub taken_count : Core → ℕ
 taken_count (core.Mutex c) = mutex_taken c.phase
 taken_count (core.Rw c) = rw_taken c.phase
+taken_count (core.Late p) = 0
+
+-- What one asks for whose moment has passed. It comes back into its section, and takes itself out there, by acts of its own.
+abbrev pub late_act : LatePhase → Act
+late_act late.Expires = act.Sleep
+late_act late.Quits = act.Sleep
+late_act late.Masks = act.FetchAnd (2 ^ 64 - 3)
+late_act late.Leaves = act.Section section.Leave
+late_act late.GivesUp = act.Done answer.Refused
+
+-- It was woken after all, or is back; it is told whether others are left where it stood; the parked bit is off, and the section left. What
+-- doesn't fit leads astray.
+abbrev pub late_next : LatePhase → ActResult → Core
+late_next late.Expires (seen.Woken token) = core.Mutex (record { phase = of_mutex.next_phase m.Sleeps (seen.Woken token) })
+late_next late.Expires seen.Entered = core.Late late.Quits
+late_next late.Quits (seen.Took token left) = core.Late (if left then late.Leaves else late.Masks)
+late_next late.Masks (seen.Before word) = core.Late late.Leaves
+late_next late.Leaves seen.Made = core.Late late.GivesUp
+late_next p s = core.Mutex (record { phase = m.Invalid })
 
 -- what a core asks for, and what follows what it is told
 abbrev pub core_act : Core → Act
 core_act (core.Mutex c) = of_mutex.act_of c.phase
 core_act (core.Rw c) = of_rw.act_of c.phase
+core_act (core.Late p) = late_act p
 
 abbrev pub core_next : Core → ActResult → Core
 core_next (core.Mutex c) seen = core.Mutex (record c { phase = of_mutex.next_phase c.phase seen })
 core_next (core.Rw c) seen = core.Rw (record c { phase = of_rw.next_phase c.phase seen })
+core_next (core.Late p) seen = late_next p seen
 
 -- the token for those whom the section took, once it has stored
 abbrev pub core_tells : Core → UnparkToken
 core_tells (core.Mutex c) = of_mutex.wakes_with c.phase
 core_tells (core.Rw c) = of_rw.wakes_with c.phase
+core_tells (core.Late p) = sign false
 
 -- Whether it was told that it begins. A call that is kept was.
 abbrev pub mutex_begun : MutexPhase → Bool
@@ -125,3 +162,4 @@ rw_begun phase = true
 abbrev pub has_begun : Core → Bool
 has_begun (core.Mutex c) = mutex_begun c.phase
 has_begun (core.Rw c) = rw_begun c.phase
+has_begun (core.Late p) = true

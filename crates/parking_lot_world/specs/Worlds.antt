@@ -17,10 +17,11 @@ use Rattle.parking_lot_world.specs.declared.step.WorldStep.{WorldStep}
 use Rattle.parking_lot_world.specs.declared.step.WorldStep.TheVariants as step
 use Rattle.parking_lot_world.specs.declared.seat.Hold.{Hold}
 use Rattle.parking_lot_world.specs.declared.seat.Hold.TheVariants as hold
+use Rattle.parking_lot_world.specs.declared.open_call.Call.{Call}
 use Rattle.parking_lot_world.specs.Rows.{Rows, State, state, lock_at, call_at}
-use Rattle.parking_lot_world.specs.Calls.{answer_of, step_thread}
+use Rattle.parking_lot_world.specs.Calls.{answer_by, answer_of, step_thread}
 use Rattle.parking_lot_world.specs.CallViews.{rw_mode, mutex_mode, call_looks}
-use Rattle.parking_lot_world.specs.Machines.{can_move, may_begin, IsBegun, IsStepped}
+use Rattle.parking_lot_world.specs.Machines.{can_move, may_begin, may_expire, IsBegun, IsExpired, IsStepped}
 
 pub record Shown : Type 0 where
   pub rows : Rows
@@ -33,6 +34,7 @@ pub record Shown : Type 0 where
 abbrev pub may_make : Shown → WorldStep → Bool
 may_make w (step.Begin thread lock call) = may_begin (state w.rows) thread lock call
 may_make w (step.Go thread fair) = can_move (state w.rows) thread
+may_make w (step.Deadline thread) = may_expire (state w.rows) thread
 
 -- why a step is refused, tried in this order
 abbrev pub refusal : Shown → WorldStep → Option WorldRefusal
@@ -42,14 +44,19 @@ refusal w s =
     else Some refused.NoSuchThread
 
 -- a call that goes on has no answer
-abbrev pub noted : ℕ → Option CoreAnswer → List (Option LockAnswer) → List (Option LockAnswer)
-noted thread None answers = answers
-noted thread (Some answer) answers = slice_set answers thread (Some (answer_of answer))
+abbrev pub said : Option Call → CoreAnswer → LockAnswer
+said None answer = answer_of answer
+said (Some c) answer = answer_by c.core answer
+
+abbrev pub noted : Option Call → ℕ → Option CoreAnswer → List (Option LockAnswer) → List (Option LockAnswer)
+noted c thread None answers = answers
+noted c thread (Some answer) answers = slice_set answers thread (Some (said c answer))
 
 -- the step is made: by the machine, and only it
 abbrev pub IsMade : WorldStep → Shown → Shown → Type 0
 IsMade (step.Begin thread lock call) w v = IsBegun thread lock call (state w.rows) (state v.rows) × (v.answers ≡ slice_set w.answers thread None)
-IsMade (step.Go thread fair) w v = (answer : Option CoreAnswer) × IsStepped thread fair answer (state w.rows) (state v.rows) × (v.answers ≡ noted thread answer w.answers)
+IsMade (step.Go thread fair) w v = (answer : Option CoreAnswer) × IsStepped thread fair answer (state w.rows) (state v.rows) × (v.answers ≡ noted (call_at (state w.rows) thread) thread answer w.answers)
+IsMade (step.Deadline thread) w v = IsExpired thread (state w.rows) (state v.rows) × (v.answers ≡ w.answers)
 
 -- the steps lead from one world to the other, one after another, and none is refused
 abbrev pub Ran : Shown → List WorldStep → Shown → Type 0
@@ -76,7 +83,9 @@ shared_mode (suc n) = Some mode.Shared
 abbrev pub hold_mode : Option LockKind → Hold → Option OwnMode
 hold_mode k hold.Excludes = Some mode.Exclusive
 hold_mode (Some kind.Mutex) (hold.Shares n) = None
+hold_mode (Some kind.FairMutex) (hold.Shares n) = None
 hold_mode (Some kind.Rw) (hold.Shares n) = shared_mode n
+hold_mode (Some kind.RwRecursive) (hold.Shares n) = shared_mode n
 hold_mode None (hold.Shares n) = shared_mode n
 
 abbrev pub entry : ℕ → Option OwnMode → List (ℕ × OwnMode)

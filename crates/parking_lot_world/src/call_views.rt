@@ -8,12 +8,12 @@ ghost use Rattle.parking_lot_protocol.specs.MutexRules as of_mutex;
 ghost use Rattle.parking_lot_protocol.specs.RwRules as of_rw;
 ghost use Rattle.parking_lot_protocol.specs.declared.rw_phase.RwPhase.TheVariants as phase;
 ghost use Rattle.parking_lot_world.specs.CallViews.{call_asleep, call_in_debt, call_looks, call_mode, mode_of, mutex_mode, rw_mode};
-ghost use Rattle.parking_lot_world.specs.Rows.{mutex_spot, rw_spot};
+ghost use Rattle.parking_lot_world.specs.Rows.{late_does, late_role, mutex_spot, rw_spot};
 ghost use Rattle.parking_lot_world.specs.Stances.{rw_taken, taken_count};
 
 use crate::calls::OwnMode;
 use crate::open_call::Call;
-use crate::seat::{Core, QueuePosition, WakeResult};
+use crate::seat::{Core, LatePhase, QueuePosition, WakeResult};
 use parking_lot_protocol::{AfterWake, CoreAnswer, LockMode, MutexPhase, Outcome, RwPhase};
 
 /// How one owns a lock that has so many shared holds of it.
@@ -180,6 +180,30 @@ fn rw_in_debt(phase: RwPhase) -> bool
     }
 }
 
+/// How one owns a mutex whose moment has passed: as one that was handed it, or not.
+fn late_mode(phase: LatePhase, spot: QueuePosition) -> Option<OwnMode>
+    ensures { result ≡ mutex_mode (late_role (mutex_spot spot) phase) }
+{
+    match (phase, spot) {
+        (LatePhase::Expires, QueuePosition::Off(_, WakeResult::HandedOver)) => {
+            Some(OwnMode::Exclusive)
+        }
+        _ => None,
+    }
+}
+
+/// Whether one is in debt at a mutex whose moment has passed: it is inside a section, or was taken, and not handed the mutex.
+fn late_in_debt(phase: LatePhase, spot: QueuePosition) -> bool
+    ensures { result ≡ mutex_debts.is_in_debt (late_does (mutex_spot spot) phase) }
+{
+    match (phase, spot) {
+        (LatePhase::Expires, QueuePosition::Off(_, WakeResult::HandedOver)) => false,
+        (LatePhase::Expires, QueuePosition::Off(_, _)) => true,
+        (LatePhase::Expires, QueuePosition::Listed) | (LatePhase::GivesUp, _) => false,
+        (LatePhase::Quits | LatePhase::Masks | LatePhase::Leaves, _) => true,
+    }
+}
+
 impl Call {
     /// How its thread owns the lock now. One that sleeps and was handed a hold owns it.
     pub fn owns(&self) -> Option<OwnMode>
@@ -188,6 +212,7 @@ impl Call {
         match &self.core {
             Core::Mutex(core) => mutex_mode(core.phase(), self.spot),
             Core::Rw(core) => rw_mode(core.phase(), self.spot, self.others),
+            Core::Late(phase) => late_mode(*phase, self.spot),
         }
     }
 
@@ -199,6 +224,7 @@ impl Call {
         match &self.core {
             Core::Mutex(core) => mutex_in_debt(core.phase()),
             Core::Rw(core) => rw_in_debt(core.phase()),
+            Core::Late(phase) => late_in_debt(*phase, self.spot),
         }
     }
 
@@ -215,6 +241,7 @@ impl Call {
                 RwPhase::Sleeps(_) | RwPhase::DrainSleeps(_) => true,
                 _ => false,
             },
+            Core::Late(_) => false,
         }
     }
 
@@ -231,6 +258,7 @@ impl Call {
                 RwPhase::LooksExclusive(_, _) => true,
                 _ => false,
             },
+            Core::Late(_) => false,
         }
     }
 }

@@ -1,7 +1,10 @@
 //! What threads ask of the locks of a world.
 ghost use Rattle.std.specs.Prelude.{◌≡◌};
-ghost use Rattle.parking_lot_world.specs.Calls.{answer_of, given_up, kind_of};
+ghost use Rattle.std.specs.Prelude.{Some};
+ghost use Rattle.parking_lot_world.specs.Calls.{answer_by, answer_of, is_timed, given_up, manner_for, takes};
+ghost use Rattle.parking_lot_world.specs.Kinds.{is_manner, AsMutex};
 
+use crate::seat::Core;
 use parking_lot_protocol::CoreAnswer;
 
 /// The kind of a lock.
@@ -9,8 +12,12 @@ use parking_lot_protocol::CoreAnswer;
 pub enum LockKind {
     /// One owner at a time.
     Mutex,
+    /// One owner at a time, which hands the lock over to whoever waits longest.
+    FairMutex,
     /// One writer, or readers.
     Rw,
+    /// One writer, or readers, who may read again, also past a writer that waits.
+    RwRecursive,
 }
 
 /// What a thread asks of a lock.
@@ -20,6 +27,8 @@ pub enum LockCall {
     Lock,
     /// It locks a mutex, and doesn't wait.
     TryLock,
+    /// It locks a mutex, and waits for it until its deadline.
+    LockUntil,
     /// It gives a mutex up.
     Unlock,
     /// It wants a shared hold, and waits for it.
@@ -60,18 +69,33 @@ pub enum LockAnswer {
     Refused,
     /// The thread owns the lock no more.
     Released,
+    /// The deadline came first, and the thread has given up. It owns nothing.
+    TimedOut,
+}
+
+impl LockKind {
+    /// Whether a lock of this kind can be asked so.
+    pub fn takes(&self, call: LockCall) -> bool
+        ensures { result ≡ takes (Some self.now) call }
+    {
+        match self {
+            LockKind::Mutex | LockKind::FairMutex => call.is_of_mutexes(),
+            LockKind::Rw | LockKind::RwRecursive => !call.is_of_mutexes(),
+        }
+    }
 }
 
 impl LockCall {
-    /// Which locks it can be asked of.
-    pub(crate) fn kind(&self) -> LockKind
-        ensures { result ≡ kind_of self.now }
+    /// Whether it is for mutexes, and not for reader-writer locks.
+    fn is_of_mutexes(&self) -> bool
+        ensures { result ≡ is_manner (Some AsMutex) (manner_for self.now) }
     {
         match self {
-            LockCall::Lock | LockCall::TryLock | LockCall::Unlock => LockKind::Mutex,
-            LockCall::Read | LockCall::TryRead | LockCall::UnlockRead => LockKind::Rw,
-            LockCall::Write | LockCall::TryWrite | LockCall::UnlockWrite => LockKind::Rw,
-            LockCall::Downgrade => LockKind::Rw,
+            LockCall::Lock | LockCall::TryLock | LockCall::LockUntil => true,
+            LockCall::Unlock => true,
+            LockCall::Read | LockCall::TryRead | LockCall::UnlockRead => false,
+            LockCall::Write | LockCall::TryWrite | LockCall::UnlockWrite => false,
+            LockCall::Downgrade => false,
         }
     }
 
@@ -83,14 +107,36 @@ impl LockCall {
             LockCall::Unlock | LockCall::UnlockWrite => Some(OwnMode::Exclusive),
             LockCall::Downgrade => Some(OwnMode::Exclusive),
             LockCall::UnlockRead => Some(OwnMode::Shared),
-            LockCall::Lock | LockCall::TryLock => None,
+            LockCall::Lock | LockCall::TryLock | LockCall::LockUntil => None,
             LockCall::Read | LockCall::TryRead => None,
             LockCall::Write | LockCall::TryWrite => None,
         }
     }
 }
 
+impl LockCall {
+    /// Whether its moment may pass as it sleeps.
+    pub(crate) fn is_timed(&self) -> bool
+        ensures { result ≡ is_timed self.now }
+    {
+        match self {
+            LockCall::LockUntil => true,
+            _ => false,
+        }
+    }
+}
+
 impl LockAnswer {
+    /// What a thread is answered whose call ends so at that core.
+    pub(crate) fn by(core: Core, answer: CoreAnswer) -> LockAnswer
+        ensures { result ≡ answer_by core answer }
+    {
+        match core {
+            Core::Late(_) => LockAnswer::TimedOut,
+            _ => LockAnswer::of_core(answer),
+        }
+    }
+
     /// What a thread is answered where its core says so.
     pub(crate) fn of_core(answer: CoreAnswer) -> LockAnswer
         ensures { result ≡ answer_of answer }

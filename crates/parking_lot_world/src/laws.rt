@@ -1,6 +1,7 @@
 //! Laws of the machine.
 ghost use Rattle.parking_lot_world.specs.ActLaws.{ActsAreSteps};
 
+pub use crate::late_laws::late_acts_are_steps;
 pub use crate::lot_laws::{
     acts_keep_places, firsts_are_taken, new_machines_hold_together, stances_follow_acts,
     the_lot_never_refuses,

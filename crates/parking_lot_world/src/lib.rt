@@ -6,6 +6,8 @@ mod advance;
 mod call_views;
 mod calls;
 mod fault;
+mod late_acts;
+mod late_laws;
 pub mod laws;
 mod lot_calls;
 mod lot_laws;
@@ -34,6 +36,6 @@ pub use parking_lot_protocol::{
     wake_sum,
 };
 pub use row_machine::RowMachine;
-pub use seat::{Core, Hold, QueuePosition, WakeResult, Wakeup};
+pub use seat::{Core, Hold, LatePhase, QueuePosition, WakeResult, Wakeup};
 pub use step::WorldStep;
 pub use world::World;

@@ -3,13 +3,14 @@ ghost use Rattle.std.specs.Prelude.{◌≡◌, None, Some, if◌then◌else◌, 
 ghost use Rattle.parking_lot_core_lot.specs.declared.place.Phase.TheVariants as phase;
 ghost use Rattle.parking_lot_core_lot.specs.declared.parking.FilterOp.TheVariants.{Unpark};
 ghost use Rattle.parking_lot_core_lot.specs.declared.parking.UnparkToken.{UnparkToken};
-ghost use Rattle.parking_lot_core_lot.specs.declared.place.Place.TheVariants.{Running, Taken};
+ghost use Rattle.parking_lot_core_lot.specs.declared.place.Place.TheVariants.{Running, Taken, Waiting};
 ghost use Rattle.parking_lot_core_lot.specs.declared.place.Section.{Section};
 ghost use Rattle.parking_lot_core_lot.specs.declared.place.Sleep.{Sleep};
 ghost use Rattle.parking_lot_core_lot.specs.declared.place.Waiter.{Waiter};
 ghost use Rattle.parking_lot_core_lot.specs.Places.{place_at, may_check, may_join, may_store, may_take, passed_of};
+ghost use Rattle.parking_lot_core_lot.specs.Results.{is_left};
 ghost use Rattle.parking_lot_core_lot.specs.Sound.{Sound};
-ghost use Rattle.parking_lot_core_lot.specs.Machine.{machine, any_phase, closed, enter_fault, in_phase, joined, opened, section_of, step_fault, stored};
+ghost use Rattle.parking_lot_core_lot.specs.Machine.{machine, given_up, quit_fault, quitted, return_fault, returned, any_phase, closed, enter_fault, in_phase, joined, opened, section_of, step_fault, stored};
 ghost use Rattle.parking_lot_protocol.specs.Wake.{wake_answer};
 ghost use Rattle.parking_lot_world.specs.FrontTakings.{FrontTaken};
 
@@ -67,6 +68,45 @@ pub(crate) fn append<A: Allocator>(lot: &mut Lot<A>, thread: usize, token: ParkT
 {
     let _ = lot.append(thread, token, false);
     lot.known();
+}
+
+/// Opens a section of the key of a thread that sleeps there.
+pub(crate) fn come_back<A: Allocator>(lot: &mut Lot<A>, thread: usize, key: usize)
+    requires free { return_fault (machine lot.old) thread key ≡ None }
+    ensures returned { machine lot.new ≡ returned (machine lot.old) thread key }
+    ensures sound { Sound (machine lot.new) }
+{
+    let _ = lot.come_back(thread, key);
+    lot.known();
+}
+
+/// Takes a thread that came back out of its list. Answers whether others are left there; then its section has nothing to store, and says so.
+pub(crate) fn quit<A: Allocator>(lot: &mut Lot<A>, thread: usize, key: usize) -> bool
+    requires there { quit_fault (machine lot.old) thread ≡ None }
+    requires waits { (sleep : Sleep) × (place_at (machine lot.old).places thread ≡ Some (Waiting key sleep)) }
+    requires inside { (s : Section) × ((machine lot.old).section ≡ Some s) × (s.thread ≡ Some thread) }
+    ensures left { result ≡ is_left ((in_phase (given_up (machine lot.old) thread key) phase.Ended).queues key) }
+    ensures out { machine lot.new ≡ (if result then stored (in_phase (given_up (machine lot.old) thread key) phase.Ended) (record { 0 = 0 }) else in_phase (given_up (machine lot.old) thread key) phase.Ended) }
+    ensures sound { Sound (machine lot.new) }
+{
+    quit_list(lot, thread, key);
+    let left = lot.has_waiters(key);
+    if left {
+        store(lot, thread, DEFAULT_UNPARK_TOKEN);
+    }
+    lot.known();
+    left
+}
+
+/// Takes a thread that came back out of its list.
+fn quit_list<A: Allocator>(lot: &mut Lot<A>, thread: usize, key: usize)
+    requires there { quit_fault (machine lot.old) thread ≡ None }
+    requires waits { (sleep : Sleep) × (place_at (machine lot.old).places thread ≡ Some (Waiting key sleep)) }
+    requires inside { (s : Section) × ((machine lot.old).section ≡ Some s) × (s.thread ≡ Some thread) }
+    ensures out { machine lot.new ≡ in_phase (given_up (machine lot.old) thread key) phase.Ended }
+    ensures store { step_fault may_store (machine lot.new) thread ≡ None }
+{
+    let _ = lot.quit(thread);
 }
 
 /// Takes the first waiter of the section's list, whatever it waits for. `None` where the list is empty.

@@ -22,7 +22,7 @@ impl Hold {
         match self {
             Hold::Excludes => Some(OwnMode::Exclusive),
             Hold::Shares(holds) => match kind {
-                Some(LockKind::Mutex) => None,
+                Some(LockKind::Mutex | LockKind::FairMutex) => None,
                 _ if *holds > 0 => Some(OwnMode::Shared),
                 _ => None,
             },

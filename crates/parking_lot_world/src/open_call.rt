@@ -19,6 +19,8 @@ pub struct Call {
     pub core: Core,
     /// Where it stands, while it sleeps.
     pub spot: QueuePosition,
+    /// Whether its moment may pass as it sleeps.
+    pub timed: bool,
 }
 
 impl Call {

@@ -2,13 +2,15 @@
 ghost use Rattle.std.specs.Prelude.{◌≡◌, ◌<◌, ◌↔◌, ◌⊎◌, ◌^◌, length, slice_get, Some, None, true, if◌then◌else◌, IsErrOf, IfOk, IfErr, IsTrue};
 ghost use Rattle.parking_lot_core_lot.specs.declared.fault.SizeFault.TheVariants.{BadSize, NoMemory};
 ghost use Rattle.parking_lot_protocol.specs.declared.act.Act.TheVariants as act;
+ghost use Rattle.parking_lot_world.specs.Calls.{takes};
+ghost use Rattle.parking_lot_world.specs.Kinds.{kind_in};
 ghost use Rattle.parking_lot_world.specs.Stances.{core_act};
 ghost use Rattle.parking_lot_world.specs.Rows.{call_at, hold_at, state, word_at};
-ghost use Rattle.parking_lot_world.specs.Machines.{at_rest, can_move, may_begin, IsBegun, IsStepped};
+ghost use Rattle.parking_lot_world.specs.Machines.{at_rest, can_move, goes_late, may_expire, IsExpired, may_begin, IsBegun, IsStepped};
 
 use crate::calls::{LockCall, LockKind};
 use crate::open_call::Call;
-use crate::seat::{Hold, QueuePosition, Wakeup};
+use crate::seat::{Core, Hold, LatePhase, QueuePosition, Wakeup};
 use parking_lot_core_lot::{Lot, SizeFault};
 use parking_lot_protocol::{Act, CoreAnswer, SectionAct, WordChange};
 use std::alloc::{Allocator, Global};
@@ -107,22 +109,76 @@ impl<A: Allocator> RowMachine<A> {
         let Some(call) = self.call(thread) else {
             return false;
         };
-        match call.core.act() {
-            Act::Sleep => false,
-            Act::Enter(_) => !self.lot.is_entered(call.lock),
-            _ => true,
+        self.goes_late(&call)
+            || match call.core.act() {
+                Act::Sleep => false,
+                Act::Enter(_) => !self.lot.is_entered(call.lock),
+                _ => true,
+            }
+    }
+
+    /// Whether a thread whose moment has passed comes back now, or takes itself out of its list.
+    fn goes_late(&self, call: &Call) -> bool
+        ensures { result ≡ goes_late (state self.now) call.now call.now.core }
+    {
+        match (call.core, call.spot) {
+            (Core::Late(LatePhase::Expires), QueuePosition::Listed) => {
+                !self.lot.is_entered(call.lock)
+            }
+            (Core::Late(LatePhase::Quits), _) => true,
+            _ => false,
         }
     }
 
-    /// Whether a thread may begin that call at a lock: it is in no call, the lock is of the call's kind, and it gives up what it owns there, or
-    /// asks for a lock of which it owns nothing.
+    /// Whether a thread's deadline may come: it sleeps in its list in a timed call, and it hasn't come before.
+    pub fn may_expire(&self, thread: usize) -> bool
+        ensures { result ≡ may_expire (state self.now) thread }
+    {
+        match self.call(thread) {
+            Some(call) => call.timed && call.spot.is_listed() && call.core.sleeps_in_time(),
+            None => false,
+        }
+    }
+
+    /// A thread's deadline comes as it sleeps. From then on it can move: it comes back into the section of its list, takes itself out there,
+    /// masks the parked bit off where it was the last, and is answered that it has given up. Where another takes it before it is back it waits
+    /// for that one, and goes on as it is woken.
+    pub fn deadline(&mut self, thread: usize)
+        requires may { may_expire (state self.old) thread ≡ true }
+        ensures { IsExpired thread (state self.old) (state self.new) }
+    {
+        let _ = &self.wakes;
+        if let Some(call) = self.call(thread) {
+            self.expire(thread, call);
+        }
+    }
+
+    /// The kind of a lock; beyond the last that of readers and writers.
+    fn kind_or_rw(&self, lock: usize) -> LockKind
+        ensures { result ≡ kind_in (state self.now).kinds lock }
+    {
+        self.kind(lock).unwrap_or(LockKind::Rw)
+    }
+
+    /// Whether a lock can be asked so; of those beyond the last none can.
+    fn takes(&self, lock: usize, call: LockCall) -> bool
+        ensures { result ≡ takes (slice_get (state self.now).kinds lock) call }
+    {
+        match self.kind(lock) {
+            Some(kind) => kind.takes(call),
+            None => false,
+        }
+    }
+
+    /// Whether a thread may begin that call at a lock: it is in no call, the lock is of a kind that takes it, and it gives up what it owns there, or
+    /// asks for a lock of which it owns nothing, or reads once more under a recursive lock that it reads fewer than 255 times.
     pub fn may_begin(&self, thread: usize, lock: usize, call: LockCall) -> bool
         ensures { result ≡ may_begin (state self.now) thread lock call }
     {
         thread < self.threads()
             && self.call(thread).is_none()
-            && self.kind(lock) == Some(call.kind())
-            && self.hold(thread, lock).allows(call)
+            && self.takes(lock, call)
+            && self.hold(thread, lock).allows(self.kind_or_rw(lock), call)
     }
 
     /// A thread begins a call at a lock. It is the call's first step, and adds to the steps that are left a number that depends on the call and
@@ -132,14 +188,15 @@ impl<A: Allocator> RowMachine<A> {
         ensures { IsBegun thread lock call (state self.old) (state self.new) }
     {
         let _ = &self.wakes;
-        let others = self.hold(thread, lock).beside();
+        let others = self.hold(thread, lock).beside(call);
         self.begin_call(
             thread,
             Call {
                 lock,
                 others,
-                core: call.core(),
+                core: call.core(self.kind_or_rw(lock)),
                 spot: QueuePosition::Listed,
+                timed: call.is_timed(),
             },
         );
     }
@@ -163,13 +220,28 @@ impl<A: Allocator> RowMachine<A> {
             Act::Spin => self.spin(thread, call),
             Act::Enter(which) => self.enter(thread, call, which),
             Act::Section(next) => self.step_in_section(thread, call, next, fair),
-            Act::Sleep => {}
+            Act::Sleep => self.step_late(thread, call, fair),
             Act::Done(answer) => {
                 self.answer(thread, call);
                 return Some(answer);
             }
         }
         None
+    }
+
+    /// The same of one whose moment has passed.
+    fn step_late(&mut self, thread: usize, call: Call, fair: bool)
+        requires here { call_at (state self.old) thread ≡ Some call }
+        requires asked { core_act call.core ≡ act.Sleep }
+        requires can { goes_late (state self.old) call call.core ≡ true }
+        ensures { IsStepped thread fair None (state self.old) (state self.new) }
+    {
+        let _ = &self.wakes;
+        if call.core.is_back() {
+            self.quit(thread, call);
+        } else {
+            self.come_back(thread, call);
+        }
     }
 
     /// The same in a section, or after one.

@@ -1,13 +1,20 @@
 //! What a machine of locks keeps of each thread.
 ghost use Rattle.std.specs.Prelude.{◌≡◌, ◌≤◌, ℕ};
-ghost use Rattle.parking_lot_world.specs.Stances.{In, Takes, core_act, core_next, core_tells, stance};
+ghost use Rattle.parking_lot_protocol.specs.declared.mutex_phase.MutexPhase.TheVariants.{Invalid, Sleeps};
+ghost use Rattle.parking_lot_world.specs.Machines.{is_back, is_listed, sleeps_in_time};
+ghost use Rattle.parking_lot_world.specs.Stances.{In, Takes, core_act, core_next, core_tells, late_act, late_next, stance};
 ghost use Rattle.parking_lot_world.specs.RowActs.{hold_after, mutex_hold_after, rw_hold_after, joins, settled_spot, told_of};
 
 use parking_lot_core_lot::UnparkToken;
 use parking_lot_protocol::{
     Act, ActResult, AfterWake, CoreAnswer, HAND_OVER, MutexCore, MutexPhase, Outcome, RwCore,
-    RwPhase, SectionAct,
+    RwPhase, SectionAct, TRY_AGAIN,
 };
+
+/// The bits of a mutex's word: it is locked, and threads wait for it.
+const LOCKED: u64 = 1;
+
+const PARKED: u64 = 2;
 
 /// What a thread owns of a lock between its calls: so many shared holds, or the exclusive one.
 #[derive(Clone, Copy, PartialEq, Eq, Debug)]
@@ -38,6 +45,21 @@ pub enum QueuePosition {
     Off(usize, WakeResult),
 }
 
+/// Where a call at a mutex stands whose moment has passed as it slept.
+#[derive(Clone, Copy, PartialEq, Eq, Debug)]
+pub enum LatePhase {
+    /// It comes back into the section of its list. It still stands there, or was taken in the meantime, and then waits for its waker.
+    Expires,
+    /// It takes itself out of its list.
+    Quits,
+    /// As the last one there it masks the parked bit off the word.
+    Masks,
+    /// It leaves the section.
+    Leaves,
+    /// It has given up, and owns nothing.
+    GivesUp,
+}
+
 /// The core of a call, by the kind of its lock.
 #[derive(Clone, Copy)]
 pub enum Core {
@@ -45,6 +67,8 @@ pub enum Core {
     Mutex(MutexCore),
     /// At a reader-writer lock.
     Rw(RwCore),
+    /// At a mutex, once its moment has passed.
+    Late(LatePhase),
 }
 
 /// A thread that another has taken off its list and is still to wake.
@@ -85,7 +109,42 @@ impl QueuePosition {
     }
 }
 
+impl QueuePosition {
+    /// Whether it is in its list.
+    pub(crate) fn is_listed(self) -> bool
+        ensures { result ≡ is_listed self }
+    {
+        match self {
+            QueuePosition::Listed => true,
+            QueuePosition::Off(_, _) => false,
+        }
+    }
+}
+
 impl Core {
+    /// Whether it sleeps at a mutex, and its moment hasn't passed.
+    pub(crate) fn sleeps_in_time(&self) -> bool
+        ensures { result ≡ sleeps_in_time self.now }
+    {
+        match self {
+            Core::Mutex(core) => match core.phase() {
+                MutexPhase::Sleeps => true,
+                _ => false,
+            },
+            _ => false,
+        }
+    }
+
+    /// Whether its moment has passed, and it is back in the section of its list to take itself out.
+    pub(crate) fn is_back(&self) -> bool
+        ensures { result ≡ is_back self.now }
+    {
+        match self {
+            Core::Late(LatePhase::Quits) => true,
+            _ => false,
+        }
+    }
+
     /// What it has asked for.
     pub(crate) fn act(&self) -> Act
         ensures { result ≡ core_act self.now }
@@ -93,6 +152,7 @@ impl Core {
         match self {
             Core::Mutex(core) => core.act(),
             Core::Rw(core) => core.act(),
+            Core::Late(phase) => phase.act(),
         }
     }
 
@@ -109,6 +169,7 @@ impl Core {
                 core.next(seen);
                 Core::Rw(core)
             }
+            Core::Late(phase) => phase.told(seen),
         }
     }
 
@@ -119,6 +180,7 @@ impl Core {
         match self {
             Core::Mutex(core) => core.wake_token(),
             Core::Rw(core) => core.wake_token(),
+            Core::Late(_) => TRY_AGAIN,
         }
     }
 
@@ -141,7 +203,7 @@ impl Core {
                 RwPhase::TakeWriter(_) => 1,
                 _ => 0,
             },
-            Core::Mutex(_) => 0,
+            Core::Mutex(_) | Core::Late(_) => 0,
         }
     }
 
@@ -153,8 +215,68 @@ impl Core {
         match self {
             Core::Mutex(core) => mutex_hold_after(core.phase()),
             Core::Rw(core) => rw_hold_after(core.phase(), others),
+            Core::Late(_) => Hold::Shares(0),
         }
     }
+}
+
+impl LatePhase {
+    /// What it asks for. It comes back, and takes itself out, by acts of its own.
+    pub(crate) fn act(self) -> Act
+        ensures { result ≡ late_act self }
+    {
+        match self {
+            LatePhase::Expires | LatePhase::Quits => Act::Sleep,
+            LatePhase::Masks => Act::FetchAnd(u64::MAX - PARKED),
+            LatePhase::Leaves => Act::Section(SectionAct::Leave),
+            LatePhase::GivesUp => Act::Done(CoreAnswer::Refused),
+        }
+    }
+
+    /// The core once it is told what its act gave.
+    pub(crate) fn told(self, seen: ActResult) -> Core
+        ensures { result ≡ late_next self seen }
+    {
+        match (self, seen) {
+            (LatePhase::Expires, ActResult::Woken(token)) => {
+                let mut core = sleeper();
+                core.next(ActResult::Woken(token));
+                Core::Mutex(core)
+            }
+            (LatePhase::Expires, ActResult::Entered) => Core::Late(LatePhase::Quits),
+            (LatePhase::Quits, ActResult::Took { token: _, left }) => Core::Late(if left {
+                LatePhase::Leaves
+            } else {
+                LatePhase::Masks
+            }),
+            (LatePhase::Masks, ActResult::Before(_)) => Core::Late(LatePhase::Leaves),
+            (LatePhase::Leaves, ActResult::Made) => Core::Late(LatePhase::GivesUp),
+            _ => Core::Mutex(astray()),
+        }
+    }
+}
+
+/// A mutex's core that sleeps: it was told all that leads there.
+fn sleeper() -> MutexCore
+    ensures { result.phase ≡ Sleeps }
+{
+    let mut core = MutexCore::lock();
+    core.next(ActResult::Start);
+    core.next(ActResult::Word(LOCKED | PARKED));
+    core.next(ActResult::Entered);
+    core.next(ActResult::Word(LOCKED | PARKED));
+    core.next(ActResult::Made);
+    core.next(ActResult::Made);
+    core
+}
+
+/// A mutex's core that was told what doesn't fit.
+fn astray() -> MutexCore
+    ensures { result.phase ≡ Invalid }
+{
+    let mut core = MutexCore::lock();
+    core.next(ActResult::Made);
+    core
 }
 
 /// What one owns whose call at a mutex ends.

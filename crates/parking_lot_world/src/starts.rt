@@ -1,22 +1,25 @@
 //! How calls begin.
 ghost use Rattle.std.specs.Prelude.{◌≡◌};
-ghost use Rattle.parking_lot_world.specs.Beginnings.{AllowedCallsBeginWell, core_of, excludes, holds_beside, is_allowed, owns_nothing, shares};
+ghost use Rattle.parking_lot_protocol.specs.declared.mutex_phase.MutexPhase.TheVariants.{Unlocking};
+ghost use Rattle.parking_lot_world.specs.Kinds.{is_recursive};
+ghost use Rattle.parking_lot_world.specs.Beginnings.{AllowedCallsBeginWell, core_of, excludes, holds, holds_beside, is_allowed, is_fair, may_share, owns_nothing, shares};
 
-use crate::calls::LockCall;
+use crate::calls::{LockCall, LockKind};
 use crate::seat::{Core, Hold};
 use parking_lot_protocol::{MutexCore, RwCore};
 
 impl LockCall {
-    /// The core of such a call, before it begins.
-    pub(crate) fn core(&self) -> Core
-        ensures { result ≡ core_of self.now }
+    /// The core of such a call at a lock of that kind, before it begins.
+    pub(crate) fn core(&self, kind: LockKind) -> Core
+        ensures { result ≡ core_of kind self.now }
     {
         match self {
             LockCall::Lock => Core::Mutex(MutexCore::lock()),
             LockCall::TryLock => Core::Mutex(MutexCore::try_lock()),
-            LockCall::Unlock => Core::Mutex(MutexCore::unlock()),
-            LockCall::Read => Core::Rw(RwCore::lock_shared(false)),
-            LockCall::TryRead => Core::Rw(RwCore::try_lock_shared(false)),
+            LockCall::LockUntil => Core::Mutex(MutexCore::lock()),
+            LockCall::Unlock => Core::Mutex(unlock(kind)),
+            LockCall::Read => Core::Rw(RwCore::lock_shared(kind.is_recursive())),
+            LockCall::TryRead => Core::Rw(RwCore::try_lock_shared(kind.is_recursive())),
             LockCall::UnlockRead => Core::Rw(RwCore::unlock_shared()),
             LockCall::Write => Core::Rw(RwCore::lock_exclusive()),
             LockCall::TryWrite => Core::Rw(RwCore::try_lock_exclusive()),
@@ -26,17 +29,49 @@ impl LockCall {
     }
 }
 
+impl LockKind {
+    /// Whether a thread may read again that reads already, also past a writer.
+    fn is_recursive(&self) -> bool
+        ensures { result ≡ is_recursive self.now }
+    {
+        match self {
+            LockKind::RwRecursive => true,
+            LockKind::Mutex | LockKind::FairMutex | LockKind::Rw => false,
+        }
+    }
+}
+
+/// The core of a call that gives a mutex up: a fair one hands it over.
+fn unlock(kind: LockKind) -> MutexCore
+    ensures { result ≡ record { phase = Unlocking (is_fair kind) } }
+{
+    match kind {
+        LockKind::FairMutex => MutexCore::unlock_fair(),
+        LockKind::Mutex | LockKind::Rw | LockKind::RwRecursive => MutexCore::unlock(),
+    }
+}
+
 impl Hold {
-    /// Whether one that owns a lock so may ask that of it.
-    pub fn allows(&self, call: LockCall) -> bool
-        ensures { result ≡ is_allowed self.now call }
+    /// Whether one that owns a lock of that kind so may ask that of it.
+    pub fn allows(&self, kind: LockKind, call: LockCall) -> bool
+        ensures { result ≡ is_allowed kind self.now call }
     {
         match call {
-            LockCall::Lock | LockCall::TryLock => self.is_none(),
-            LockCall::Read | LockCall::TryRead => self.is_none(),
+            LockCall::Lock | LockCall::TryLock | LockCall::LockUntil => self.is_none(),
+            LockCall::Read | LockCall::TryRead => self.may_share(kind),
             LockCall::Write | LockCall::TryWrite => self.is_none(),
             LockCall::UnlockRead => self.shares(),
             LockCall::Unlock | LockCall::UnlockWrite | LockCall::Downgrade => self.excludes(),
+        }
+    }
+
+    /// Whether one may read: it owns nothing, or reads already under a recursive lock, with room to count it once more.
+    fn may_share(&self, kind: LockKind) -> bool
+        ensures { result ≡ may_share kind self.now }
+    {
+        match (kind, self) {
+            (LockKind::RwRecursive, Hold::Shares(holds)) => *holds < 255,
+            _ => self.is_none(),
         }
     }
 
@@ -67,12 +102,21 @@ impl Hold {
         }
     }
 
-    /// How many shared holds it is beside one that is given up.
-    pub(crate) fn beside(&self) -> u8
-        ensures { result ≡ holds_beside self.now }
+    /// How many shared holds it is beside the one that a call gives up or asks for.
+    pub(crate) fn beside(&self, call: LockCall) -> u8
+        ensures { result ≡ holds_beside call self.now }
+    {
+        match call {
+            LockCall::Read | LockCall::TryRead => self.holds(),
+            _ => self.holds().saturating_sub(1),
+        }
+    }
+
+    fn holds(&self) -> u8
+        ensures { result ≡ holds self.now }
     {
         match self {
-            Hold::Shares(holds) => holds.saturating_sub(1),
+            Hold::Shares(holds) => *holds,
             Hold::Excludes => 0,
         }
     }

@@ -12,6 +12,8 @@ pub enum WorldStep {
     /// A thread makes one step of its call. Where it gives the lock up by a section and stores in this step, the release is fair if
     /// this says so.
     Go(usize, bool),
+    /// A thread's deadline comes, as it sleeps in the list of a timed call. It gives up from then on, unless it is woken first.
+    Deadline(usize),
 }
 
 impl WorldStep {
@@ -22,6 +24,7 @@ impl WorldStep {
         match self {
             WorldStep::Begin(thread, _, _) => *thread,
             WorldStep::Go(thread, _) => *thread,
+            WorldStep::Deadline(thread) => *thread,
         }
     }
 }

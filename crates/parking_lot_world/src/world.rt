@@ -6,13 +6,15 @@ ghost use Rattle.parking_lot_rules.specs.Family.{SoundFamilyOf};
 ghost use Rattle.parking_lot_world.specs.Rows.{family, one_bucket, state};
 ghost use Rattle.parking_lot_world.specs.Machines.{at_rest};
 ghost use Rattle.parking_lot_world.specs.SoundLaws.{IsSoundMachine};
-ghost use Rattle.parking_lot_world.specs.Worlds.{IsMade, Ran, may_make, refusal, steps_done};
+ghost use Rattle.parking_lot_world.specs.Worlds.{said, IsMade, Ran, may_make, refusal, steps_done};
 
 use crate::calls::{LockAnswer, LockKind};
 use crate::fault::{WorldFault, WorldRefusal};
+use crate::open_call::Call;
 use crate::row_machine::RowMachine;
 use crate::step::WorldStep;
 use parking_lot_core_lot::SizeFault;
+use parking_lot_protocol::CoreAnswer;
 use std::alloc::{Allocator, Global};
 use std::marker::Model;
 
@@ -73,6 +75,7 @@ impl<A: Allocator> World<A> {
         match step {
             WorldStep::Begin(thread, lock, call) => self.machine.may_begin(thread, lock, call),
             WorldStep::Go(thread, _) => self.machine.can_move(thread),
+            WorldStep::Deadline(thread) => self.machine.may_expire(thread),
         }
     }
 
@@ -87,10 +90,12 @@ impl<A: Allocator> World<A> {
                 self.answers[thread] = None;
             }
             WorldStep::Go(thread, fair) => {
+                let call = self.machine.call(thread);
                 if let Some(answer) = self.machine.step(thread, fair) {
-                    self.answers[thread] = Some(LockAnswer::of_core(answer));
+                    self.answers[thread] = Some(said(call, answer));
                 }
             }
+            WorldStep::Deadline(thread) => self.machine.deadline(thread),
         }
     }
 
@@ -136,8 +141,9 @@ impl<A: Allocator> World<A> {
     /// aren't tried. `NoSuchThread` where the world doesn't have the thread; else `CannotMove` where the step isn't allowed now:
     ///
     /// - `Begin` where the thread is in a call, the world has no such lock or it is of another kind, or the call gives up what the thread
-    ///   doesn't own or asks for a lock that it owns;
-    /// - `Go` where the thread is in no call, sleeps, or is before a section that another has entered.
+    ///   doesn't own or asks for a lock that it owns, but for a reader of a recursive lock that reads again and has fewer than 255 holds;
+    /// - `Go` where the thread is in no call, sleeps, or is before a section that another has entered;
+    /// - `Deadline` where the thread doesn't sleep in its list in a timed call, or its deadline has come before.
     pub fn run(&mut self, steps: &[WorldStep]) -> Result<(), WorldFault>
         ensures ran { Ran self.old (take (steps_done result (length steps.now)) steps.now) self.new }
         ensures refused { IfErr result (λ fault. (step : _) × (slice_get steps.now fault.done ≡ Some step) × (refusal self.new step ≡ Some fault.fault)) }
@@ -147,5 +153,15 @@ impl<A: Allocator> World<A> {
         let result = self.make_steps(steps);
         self.machine.known();
         result
+    }
+}
+
+/// What a thread is answered whose call ends so.
+fn said(call: Option<Call>, answer: CoreAnswer) -> LockAnswer
+    ensures { result ≡ said call answer }
+{
+    match call {
+        Some(call) => LockAnswer::by(call.core, answer),
+        None => LockAnswer::of_core(answer),
     }
 }

@@ -14,6 +14,7 @@ fn call_of(core: Core) -> Call {
         others: 0,
         core,
         spot: QueuePosition::Listed,
+        timed: false,
     }
 }
 

@@ -1,15 +1,15 @@
 //! What calls are refused, and how refusals are named.
 
-use parking_lot_world::{Hold, LockCall, WorldFault, WorldRefusal};
+use parking_lot_world::{Hold, LockCall, LockKind, WorldFault, WorldRefusal};
 use std::process::Abort;
 use std::test::Fail;
 
-/// Whether a reader, an owner and who owns nothing may ask that.
-fn may_ask(call: LockCall) -> [bool; 3] {
+/// Whether a reader, an owner and who owns nothing may ask that of such a lock.
+fn may_ask(kind: LockKind, call: LockCall) -> [bool; 3] {
     [
-        Hold::Shares(1).allows(call),
-        Hold::Excludes.allows(call),
-        Hold::Shares(0).allows(call),
+        Hold::Shares(1).allows(kind, call),
+        Hold::Excludes.allows(kind, call),
+        Hold::Shares(0).allows(kind, call),
     ]
 }
 
@@ -18,6 +18,7 @@ fn who_owns_a_lock_only_gives_it_up(rt: HostRuntime) {
     let table = [
         (LockCall::Lock, [false, false, true]),
         (LockCall::TryLock, [false, false, true]),
+        (LockCall::LockUntil, [false, false, true]),
         (LockCall::Read, [false, false, true]),
         (LockCall::TryRead, [false, false, true]),
         (LockCall::Write, [false, false, true]),
@@ -28,8 +29,28 @@ fn who_owns_a_lock_only_gives_it_up(rt: HostRuntime) {
         (LockCall::UnlockRead, [true, false, false]),
     ];
     for (call, may) in table {
-        assert!(rt; may_ask(call) == may, "{call:?}");
+        assert!(rt; may_ask(LockKind::Rw, call) == may, "{call:?}");
+        assert!(rt; may_ask(LockKind::FairMutex, call) == may, "{call:?}");
     }
+}
+
+#[test]
+fn readers_of_a_recursive_lock_read_again(rt: HostRuntime) {
+    let table = [
+        (LockCall::Read, [true, false, true]),
+        (LockCall::TryRead, [true, false, true]),
+        (LockCall::Write, [false, false, true]),
+        (LockCall::TryWrite, [false, false, true]),
+        (LockCall::UnlockWrite, [false, true, false]),
+        (LockCall::Downgrade, [false, true, false]),
+        (LockCall::UnlockRead, [true, false, false]),
+    ];
+    for (call, may) in table {
+        assert!(rt; may_ask(LockKind::RwRecursive, call) == may, "{call:?}");
+    }
+    let most = Hold::Shares(254).allows(LockKind::RwRecursive, LockCall::Read);
+    let more = Hold::Shares(255).allows(LockKind::RwRecursive, LockCall::Read);
+    assert!(rt; most & !more, "255 holds");
 }
 
 #[test]

@@ -92,6 +92,52 @@ fn every_schedule_at_a_mutex_keeps_the_rules(rt: HostRuntime) -> Result<(), Fail
 }
 
 #[test]
+fn every_schedule_at_a_fair_mutex_keeps_the_rules(rt: HostRuntime) -> Result<(), Fail> {
+    let programs = [
+        two(LockCall::Lock, LockCall::Unlock),
+        two(LockCall::TryLock, LockCall::Unlock),
+    ];
+    let states = explore_all(&rt, LockKind::FairMutex, &programs)?;
+    assert!(rt; states >= 1_500, "{states} states");
+    Ok(())
+}
+
+/// A locker with a deadline, in a pair.
+const TIMED: Program = [Some(LockCall::LockUntil), Some(LockCall::Unlock), None];
+
+#[test]
+fn every_schedule_of_two_deadlines_keeps_the_rules(rt: HostRuntime) -> Result<(), Fail> {
+    let states = explore(&rt, LockKind::Mutex, Pair(TIMED, TIMED))?;
+    assert!(rt; states >= 500, "{states} states");
+    Ok(())
+}
+
+#[test]
+fn every_schedule_of_a_deadline_and_a_lock_keeps_the_rules(rt: HostRuntime) -> Result<(), Fail> {
+    let other = two(LockCall::Lock, LockCall::Unlock);
+    let states = explore(&rt, LockKind::Mutex, Pair(TIMED, other))?;
+    assert!(rt; states >= 500, "{states} states");
+    Ok(())
+}
+
+#[test]
+fn every_schedule_of_a_deadline_and_a_try_keeps_the_rules(rt: HostRuntime) -> Result<(), Fail> {
+    let other = two(LockCall::TryLock, LockCall::Unlock);
+    let states = explore(&rt, LockKind::Mutex, Pair(TIMED, other))?;
+    assert!(rt; states >= 200, "{states} states");
+    Ok(())
+}
+
+#[test]
+fn every_schedule_of_deadlines_at_a_fair_mutex_keeps_the_rules(
+    rt: HostRuntime,
+) -> Result<(), Fail> {
+    let states = explore(&rt, LockKind::FairMutex, Pair(TIMED, TIMED))?;
+    assert!(rt; states >= 500, "{states} states");
+    Ok(())
+}
+
+#[test]
 fn every_schedule_at_a_reader_writer_lock_keeps_the_rules(rt: HostRuntime) -> Result<(), Fail> {
     let programs = [
         two(LockCall::Read, LockCall::UnlockRead),
@@ -106,6 +152,26 @@ fn every_schedule_at_a_reader_writer_lock_keeps_the_rules(rt: HostRuntime) -> Re
         ],
     ];
     let states = explore_all(&rt, LockKind::Rw, &programs)?;
+    assert!(rt; states >= 50_000, "{states} states");
+    Ok(())
+}
+
+#[test]
+fn every_schedule_at_a_recursive_lock_keeps_the_rules(rt: HostRuntime) -> Result<(), Fail> {
+    let programs = [
+        two(LockCall::Read, LockCall::Read),
+        two(LockCall::TryRead, LockCall::TryRead),
+        [
+            Some(LockCall::Read),
+            Some(LockCall::TryRead),
+            Some(LockCall::UnlockRead),
+        ],
+        two(LockCall::Read, LockCall::UnlockRead),
+        two(LockCall::Write, LockCall::UnlockWrite),
+        two(LockCall::TryWrite, LockCall::UnlockWrite),
+        two(LockCall::Write, LockCall::Downgrade),
+    ];
+    let states = explore_all(&rt, LockKind::RwRecursive, &programs)?;
     assert!(rt; states >= 50_000, "{states} states");
     Ok(())
 }

@@ -16,6 +16,10 @@ enum Line {
     CallsFairly(usize, LockCall),
     /// A thread goes on, to its answer or its sleep.
     GoesOn(usize),
+    /// Its deadline comes.
+    Expires(usize),
+    /// Its deadline can't come.
+    NeverExpires(usize),
     /// What its last call has answered.
     Answered(usize, Option<LockAnswer>),
     Word(u64),
@@ -61,6 +65,8 @@ fn holds(world: &mut World, line: Line) -> bool {
         Line::Calls(thread, asked) => call(world, thread, asked, false),
         Line::CallsFairly(thread, asked) => call(world, thread, asked, true),
         Line::GoesOn(thread) => go_on(world, thread, false),
+        Line::Expires(thread) => world.run(&[WorldStep::Deadline(thread)]).is_ok(),
+        Line::NeverExpires(thread) => world.run(&[WorldStep::Deadline(thread)]) == NO_MOVE,
         Line::Answered(thread, answer) => world.answer(thread) == answer,
         Line::Word(word) => world.word(0) == word,
         Line::Owners(owners) => are_owners(world, 0, owners),
@@ -88,7 +94,15 @@ fn follow(
     Ok(())
 }
 
+/// What a step is met by that isn't allowed.
+const NO_MOVE: Result<(), WorldFault> = Err(WorldFault {
+    done: 0,
+    fault: WorldRefusal::CannotMove,
+});
+
 const OWNED: Option<LockAnswer> = Some(LockAnswer::Owned);
+
+const TIMED_OUT: Option<LockAnswer> = Some(LockAnswer::TimedOut);
 
 const REFUSED: Option<LockAnswer> = Some(LockAnswer::Refused);
 
@@ -207,6 +221,84 @@ fn a_mutex_is_let_go(rt: HostRuntime) -> Result<(), Fail> {
     follow(&rt, 3, LockKind::Mutex, &TWO_SLEEP, &script)
 }
 
+#[test]
+fn a_fair_mutex_is_handed_over_whatever_the_schedule_says(rt: HostRuntime) -> Result<(), Fail> {
+    let script = [
+        Line::Calls(0, LockCall::Unlock),
+        Line::Answered(0, RELEASED),
+        Line::Word(3),
+        Line::Owners(&[(1, OwnMode::Exclusive)]),
+        Line::Queues(&[2], &[]),
+        Line::Debts(&[]),
+        Line::Calls(0, LockCall::TryLock),
+        Line::Answered(0, REFUSED),
+        Line::GoesOn(1),
+        Line::Answered(1, OWNED),
+    ];
+    follow(&rt, 3, LockKind::FairMutex, &TWO_SLEEP, &script)
+}
+
+#[test]
+fn readers_of_a_recursive_lock_pass_a_pending_writer(rt: HostRuntime) -> Result<(), Fail> {
+    let script = [
+        Line::Calls(0, LockCall::Read),
+        Line::Calls(1, LockCall::Write),
+        Line::Word(26),
+        Line::Calls(0, LockCall::Read),
+        Line::Answered(0, OWNED),
+        Line::Calls(2, LockCall::TryRead),
+        Line::Answered(2, OWNED),
+        Line::Word(58),
+        Line::Owners(&[
+            (0, OwnMode::Shared),
+            (1, OwnMode::Pending),
+            (2, OwnMode::Shared),
+        ]),
+        Line::Queues(&[], &[1]),
+        Line::Calls(0, LockCall::UnlockRead),
+        Line::Calls(2, LockCall::UnlockRead),
+        Line::Word(26),
+        Line::Owners(&[(0, OwnMode::Shared), (1, OwnMode::Pending)]),
+        Line::Calls(0, LockCall::UnlockRead),
+        Line::Answered(0, RELEASED),
+        Line::Word(8),
+        Line::GoesOn(1),
+        Line::Answered(1, OWNED),
+        Line::Owners(&[(1, OwnMode::Exclusive)]),
+        Line::Calls(0, LockCall::TryRead),
+        Line::Answered(0, REFUSED),
+    ];
+    follow(&rt, 3, LockKind::RwRecursive, &[], &script)
+}
+
+#[test]
+fn a_reader_has_at_most_255_holds(rt: HostRuntime) -> Result<(), Fail> {
+    let kinds = vec![in rt.alloc(); LockKind::RwRecursive]?;
+    let mut world = World::new(rt.alloc(), 1, kinds)?;
+    let mut is_served = true;
+    for _ in 0..255 {
+        is_served = is_served && call(&mut world, 0, LockCall::Read, false);
+    }
+    let cannot = Err(WorldFault {
+        done: 0,
+        fault: WorldRefusal::CannotMove,
+    });
+    let reads = world.run(&[WorldStep::Begin(0, 0, LockCall::Read)]) == cannot;
+    let tries = world.run(&[WorldStep::Begin(0, 0, LockCall::TryRead)]) == cannot;
+    let writes = world.run(&[WorldStep::Begin(0, 0, LockCall::TryWrite)]) == cannot;
+    assert!(rt; is_served & reads & tries & writes, "the 256th is refused");
+    assert!(rt; world.word(0) == 16 * 255, "the word counts them");
+    assert!(rt;
+        are_owners(&world, 0, &[(0, OwnMode::Shared)]),
+        "it is listed once"
+    );
+    for _ in 0..255 {
+        is_served = is_served && call(&mut world, 0, LockCall::UnlockRead, false);
+    }
+    assert!(rt; is_served & (world.word(0) == 0), "each is given up");
+    Ok(())
+}
+
 /// The step is refused behind two that are done.
 fn is_refused(
     rt: &impl Abort,
@@ -264,4 +356,88 @@ fn worlds_have_a_least_and_a_greatest_size(rt: HostRuntime) -> Result<(), Fail> 
         assert!(rt; is_refused, "{threads} threads, {locks} locks");
     }
     Ok(())
+}
+
+#[test]
+fn a_lone_locker_gives_up(rt: HostRuntime) -> Result<(), Fail> {
+    let script = [
+        Line::Calls(0, LockCall::Lock),
+        Line::Calls(1, LockCall::LockUntil),
+        Line::Answered(1, None),
+        Line::Word(3),
+        Line::Queues(&[1], &[]),
+        Line::GoesOn(1),
+        Line::Queues(&[1], &[]),
+        Line::Expires(1),
+        Line::NeverExpires(1),
+        Line::Answered(1, None),
+        Line::Word(3),
+        Line::Queues(&[1], &[]),
+        Line::Debts(&[]),
+        Line::GoesOn(1),
+        Line::Answered(1, TIMED_OUT),
+        Line::NeverExpires(1),
+        Line::Word(1),
+        Line::Owners(&[(0, OwnMode::Exclusive)]),
+        Line::Queues(&[], &[]),
+        Line::Debts(&[]),
+        Line::Calls(0, LockCall::Unlock),
+        Line::Word(0),
+        Line::Calls(1, LockCall::LockUntil),
+        Line::Answered(1, OWNED),
+    ];
+    follow(&rt, 2, LockKind::Mutex, &[], &script)
+}
+
+#[test]
+fn only_a_timed_sleeper_has_a_deadline(rt: HostRuntime) -> Result<(), Fail> {
+    let script = [
+        Line::NeverExpires(0),
+        Line::Calls(0, LockCall::LockUntil),
+        Line::Answered(0, OWNED),
+        Line::NeverExpires(0),
+        Line::Calls(1, LockCall::Lock),
+        Line::NeverExpires(1),
+        Line::Queues(&[1], &[]),
+    ];
+    follow(&rt, 2, LockKind::Mutex, &[], &script)
+}
+
+#[test]
+fn one_of_two_sleepers_gives_up(rt: HostRuntime) -> Result<(), Fail> {
+    let script = [
+        Line::Calls(0, LockCall::Lock),
+        Line::Calls(1, LockCall::LockUntil),
+        Line::Calls(2, LockCall::Lock),
+        Line::Queues(&[1, 2], &[]),
+        Line::Expires(1),
+        Line::GoesOn(1),
+        Line::Answered(1, TIMED_OUT),
+        Line::Word(3),
+        Line::Queues(&[2], &[]),
+        Line::Debts(&[]),
+        Line::Calls(0, LockCall::Unlock),
+        Line::Debts(&[2]),
+        Line::GoesOn(2),
+        Line::Answered(2, OWNED),
+        Line::Word(1),
+        Line::Queues(&[], &[]),
+    ];
+    follow(&rt, 3, LockKind::Mutex, &[], &script)
+}
+
+#[test]
+fn who_was_handed_the_lock_in_time_owns_it(rt: HostRuntime) -> Result<(), Fail> {
+    let script = [
+        Line::Calls(0, LockCall::Lock),
+        Line::Calls(1, LockCall::LockUntil),
+        Line::Expires(1),
+        Line::CallsFairly(0, LockCall::Unlock),
+        Line::Owners(&[(1, OwnMode::Exclusive)]),
+        Line::Queues(&[], &[]),
+        Line::GoesOn(1),
+        Line::Answered(1, OWNED),
+        Line::Word(1),
+    ];
+    follow(&rt, 2, LockKind::Mutex, &[], &script)
 }

@@ -118,11 +118,11 @@ impl<'r, R: AllocGlobal + Abort> Explorer<'r, R> {
     fn make_each(
         &mut self,
         state: &State,
-        steps: [WorldStep; 2],
+        steps: [Option<WorldStep>; 3],
         next: &mut Vec<State>,
     ) -> Result<bool, Fail> {
         let mut is_moved = false;
-        for step in steps {
+        for step in steps.into_iter().flatten() {
             if let Some(behind) = self.make(state, step)? {
                 is_moved = true;
                 add(next, behind)?;
@@ -141,7 +141,7 @@ impl<'r, R: AllocGlobal + Abort> Explorer<'r, R> {
             return Ok(None);
         }
         let shown = Shown::of(&world, self.kind)?;
-        let threads = both_followed(threads, step.thread(), &shown);
+        let threads = both_followed(threads, step, &shown);
         let snapshot = Snapshot::of(&world, threads, shown);
         let mut schedule = state.schedule.clone()?;
         schedule.push(step)?;

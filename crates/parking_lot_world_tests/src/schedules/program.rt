@@ -10,7 +10,7 @@ pub type Program = [Option<LockCall>; 3];
 pub enum End {
     /// Every call is answered, and none is refused.
     Served,
-    /// Its try is refused.
+    /// Its try is refused, or its deadline came first.
     Refused,
     /// It sleeps, since the other keeps the lock.
     Waits,
@@ -22,7 +22,7 @@ fn mode_before(call: LockCall) -> Option<OwnMode> {
         LockCall::Unlock | LockCall::UnlockWrite => Some(OwnMode::Exclusive),
         LockCall::Downgrade => Some(OwnMode::Exclusive),
         LockCall::UnlockRead => Some(OwnMode::Shared),
-        LockCall::Lock | LockCall::TryLock => None,
+        LockCall::Lock | LockCall::TryLock | LockCall::LockUntil => None,
         LockCall::Read | LockCall::TryRead => None,
         LockCall::Write | LockCall::TryWrite => None,
     }
@@ -31,7 +31,7 @@ fn mode_before(call: LockCall) -> Option<OwnMode> {
 /// How a thread owns the lock once that call is answered, and isn't refused.
 pub fn mode_behind(call: LockCall) -> Option<OwnMode> {
     match call {
-        LockCall::Lock | LockCall::TryLock => Some(OwnMode::Exclusive),
+        LockCall::Lock | LockCall::TryLock | LockCall::LockUntil => Some(OwnMode::Exclusive),
         LockCall::Write | LockCall::TryWrite => Some(OwnMode::Exclusive),
         LockCall::Read | LockCall::TryRead => Some(OwnMode::Shared),
         LockCall::Downgrade => Some(OwnMode::Shared),
@@ -39,16 +39,49 @@ pub fn mode_behind(call: LockCall) -> Option<OwnMode> {
     }
 }
 
-/// Whether a thread may own the lock so within that call. Only a writer that may sleep is ever pending.
-pub fn may_own(call: LockCall, mode: Option<OwnMode>) -> bool {
-    mode == mode_before(call)
-        || mode == mode_behind(call)
+/// How many shared holds a thread has once that call is answered, and isn't refused, of so many before.
+pub fn shares_behind(call: LockCall, shares: u8) -> u8 {
+    match call {
+        LockCall::Read | LockCall::TryRead => shares.saturating_add(1),
+        LockCall::UnlockRead => shares.saturating_sub(1),
+        LockCall::Downgrade => 1,
+        _ => 0,
+    }
+}
+
+/// How a thread owns the lock then.
+pub fn owned_behind(call: LockCall, shares: u8) -> Option<OwnMode> {
+    if shares_behind(call, shares) > 0 {
+        Some(OwnMode::Shared)
+    } else {
+        mode_behind(call)
+    }
+}
+
+/// How a thread with so many shared holds owns the lock as it begins that call.
+fn owned_before(call: LockCall, shares: u8) -> Option<OwnMode> {
+    if shares > 0 {
+        Some(OwnMode::Shared)
+    } else {
+        mode_before(call)
+    }
+}
+
+/// Whether a thread that had so many shared holds may own the lock so within that call. Only a writer that may sleep is ever pending.
+pub fn may_own(call: LockCall, shares: u8, mode: Option<OwnMode>) -> bool {
+    mode == owned_before(call, shares)
+        || mode == owned_behind(call, shares)
         || call == LockCall::Write && mode == Some(OwnMode::Pending)
 }
 
-/// Whether that call may sleep until it owns the lock.
+/// Whether that call may sleep until it owns the lock, or until its deadline.
 pub fn may_sleep(call: LockCall) -> bool {
-    matches!(call, LockCall::Lock | LockCall::Read | LockCall::Write)
+    matches!(call, LockCall::Lock | LockCall::Read | LockCall::Write) || is_timed(call)
+}
+
+/// Whether that call has a deadline.
+pub fn is_timed(call: LockCall) -> bool {
+    call == LockCall::LockUntil
 }
 
 /// Whether that call may be answered so.
@@ -57,12 +90,23 @@ pub fn may_answer(call: LockCall, answer: LockAnswer) -> bool {
         LockAnswer::Owned => mode_behind(call).is_some(),
         LockAnswer::Refused => mode_before(call).is_none() && !may_sleep(call),
         LockAnswer::Released => mode_behind(call).is_none(),
+        LockAnswer::TimedOut => is_timed(call),
     }
 }
 
 /// Whether the program asks for the lock by a call that may sleep.
 fn is_patient(program: Program) -> bool {
     program.iter().flatten().any(|call| may_sleep(*call))
+}
+
+/// Whether the program may be told that it doesn't get the lock.
+fn may_lose(program: Program) -> bool {
+    !is_patient(program) || has_deadline(program)
+}
+
+/// Whether the program asks for the lock by a call that has a deadline.
+fn has_deadline(program: Program) -> bool {
+    program.iter().flatten().any(|call| is_timed(*call))
 }
 
 /// Whether the program asks to own the lock alone.
@@ -72,10 +116,13 @@ fn excludes(program: Program) -> bool {
 
 /// Whether the program still owns the lock at its end.
 fn keeps(program: Program) -> bool {
-    match program.iter().flatten().last() {
-        Some(call) => mode_behind(*call).is_some(),
-        None => false,
+    let mut shares = 0u8;
+    let mut owned = None;
+    for call in program.iter().flatten() {
+        owned = owned_behind(*call, shares);
+        shares = shares_behind(*call, shares);
     }
+    owned.is_some()
 }
 
 /// Whether the program gives up the exclusive hold, and may hand it over.
@@ -107,8 +154,8 @@ impl Pair {
     fn first_may_end(self, end: End) -> bool {
         match end {
             End::Served => self.first_may_follow() || self.turned().first_may_follow(),
-            End::Refused => !is_patient(self.0) && self.conflicts(),
-            End::Waits => is_patient(self.0) && !self.first_may_follow(),
+            End::Refused => may_lose(self.0) && self.conflicts(),
+            End::Waits => !may_lose(self.0) && !self.first_may_follow(),
         }
     }
 

@@ -18,6 +18,7 @@ fn first_broken(rules: &[(bool, &'static str)]) -> Option<&'static str> {
 /// A rule of states that this one breaks.
 pub fn broken_by_state(threads: [Progress; 2], shown: &Shown) -> Option<&'static str> {
     broken_by_lock(shown)
+        .or(broken_by_holds(threads, shown))
         .or(broken_by_thread(threads[0], 0, shown))
         .or(broken_by_thread(threads[1], 1, shown))
 }
@@ -56,6 +57,17 @@ fn broken_by_lock(shown: &Shown) -> Option<&'static str> {
     ])
 }
 
+/// The word counts the shared holds that threads have by their calls so far, and of a call that isn't answered what it adds or takes, or not yet.
+fn broken_by_holds(threads: [Progress; 2], shown: &Shown) -> Option<&'static str> {
+    let [first, second] = threads;
+    let (least, most) = first.holds();
+    let (less, more) = second.holds();
+    first_broken(&[(
+        shown.counts_holds(least.saturating_add(less), most.saturating_add(more)),
+        "the word counts the shared holds",
+    )])
+}
+
 fn broken_by_thread(at: Progress, thread: usize, shown: &Shown) -> Option<&'static str> {
     let answer = shown.answer(thread);
     let mode = shown.mode(thread);
@@ -69,7 +81,7 @@ fn broken_by_thread(at: Progress, thread: usize, shown: &Shown) -> Option<&'stat
         ]),
         Stage::Within(open) => first_broken(&[
             (
-                may_own(open.call, mode),
+                may_own(open.call, open.shares, mode),
                 "in a call a thread owns what it had or asks for",
             ),
             (answer.is_none(), "a call that goes on isn't answered"),
@@ -89,6 +101,11 @@ fn broken_by_thread(at: Progress, thread: usize, shown: &Shown) -> Option<&'stat
 pub fn hands_over(step: WorldStep, before: &Snapshot, behind: &Snapshot) -> bool {
     let other = other(step.thread());
     before.shown.mode(other).is_none() && behind.shown.mode(other).is_some()
+}
+
+/// Whether a step takes its thread's hold.
+fn gives_up(thread: usize, before: &Snapshot, behind: &Snapshot) -> bool {
+    before.shown.mode(thread).is_some() && behind.shown.mode(thread).is_none()
 }
 
 /// A rule of steps that this one breaks.
@@ -116,8 +133,12 @@ pub fn broken_by_step(
             "a step of one thread takes nothing from another",
         ),
         (
-            !is_handed || step == WorldStep::Go(thread, true),
+            !is_handed || step == WorldStep::Go(thread, true) || before.shown.is_fair(),
             "only a fair step hands the lock over to another",
+        ),
+        (
+            is_handed || !gives_up(thread, before, behind) || !before.must_hand(thread),
+            "a fair lock goes to whoever waits",
         ),
     ])
 }

@@ -18,18 +18,18 @@ pub struct Shown {
 /// What an owner adds to the lock's word.
 fn weight(kind: LockKind, mode: OwnMode) -> u64 {
     match (kind, mode) {
-        (LockKind::Mutex, _) => 1,
-        (LockKind::Rw, OwnMode::Exclusive | OwnMode::Pending) => 8,
-        (LockKind::Rw, OwnMode::Shared) => 16,
-        (LockKind::Rw, OwnMode::Upgradable) => 20,
+        (LockKind::Mutex | LockKind::FairMutex, _) => 1,
+        (_, OwnMode::Exclusive | OwnMode::Pending) => 8,
+        (_, OwnMode::Shared) => 16,
+        (_, OwnMode::Upgradable) => 20,
     }
 }
 
 /// The bits of the word which say that the first list, and the second, may have somebody.
 fn parked_bits(kind: LockKind) -> (u64, u64) {
     match kind {
-        LockKind::Mutex => (2, 0),
-        LockKind::Rw => (1, 2),
+        LockKind::Mutex | LockKind::FairMutex => (2, 0),
+        LockKind::Rw | LockKind::RwRecursive => (1, 2),
     }
 }
 
@@ -118,9 +118,34 @@ impl Shown {
             && (self.count(OwnMode::Exclusive) == 0 || self.count(OwnMode::Shared) == 0)
     }
 
+    /// Whether each release hands the lock over, whatever the schedule says.
+    pub fn is_fair(&self) -> bool {
+        self.kind == LockKind::FairMutex
+    }
+
+    /// How many holds readers have beside one each. Only a recursive lock counts such.
+    fn more_holds(&self) -> u64 {
+        let readers = self.count(OwnMode::Shared) as u64;
+        if self.kind == LockKind::RwRecursive && readers > 0 {
+            (self.word / 16).saturating_sub(readers)
+        } else {
+            0
+        }
+    }
+
+    /// Whether the word counts so many shared holds, from the least to the most.
+    pub fn counts_holds(&self, least: u64, most: u64) -> bool {
+        let holds = if self.is_mutex() { 0 } else { self.word / 16 };
+        least <= holds && holds <= most
+    }
+
+    fn is_mutex(&self) -> bool {
+        matches!(self.kind, LockKind::Mutex | LockKind::FairMutex)
+    }
+
     /// What the owners make of the word.
     fn weight(&self) -> u64 {
-        let mut sum = 0u64;
+        let mut sum = self.more_holds().wrapping_mul(16);
         for (_, mode) in &self.owners {
             sum = sum.wrapping_add(weight(self.kind, *mode));
         }

@@ -1,31 +1,38 @@
 //! What states of a world are told apart by.
 
-use super::program::{End, Program, may_answer, mode_behind};
+use super::program::{End, Program, is_timed, may_answer, owned_behind, shares_behind};
 use super::shown::Shown;
 use parking_lot_core_lot::{Place, ThreadStatus};
 use parking_lot_protocol::{MutexPhase, RwPhase};
 use parking_lot_world::{
-    Call, Core, Hold, LockAnswer, LockCall, OwnMode, QueuePosition, Wakeup, World, WorldStep,
+    Call, Core, Hold, LatePhase, LockAnswer, LockCall, OwnMode, QueuePosition, Wakeup, World,
+    WorldStep,
 };
 
 /// A call that isn't answered, and what was seen since it began.
 #[derive(Clone, Copy, PartialEq, Eq)]
 pub struct Open {
     pub call: LockCall,
+    /// How many shared holds its thread had as it began.
+    pub shares: u8,
     /// Whether the other has owned the lock.
     pub met: bool,
     /// Whether its thread has stood in the first list, and in the second.
     pub first: bool,
     pub second: bool,
+    /// Whether its deadline has come.
+    pub late: bool,
 }
 
 impl Open {
-    fn of(call: LockCall) -> Open {
+    fn of(call: LockCall, shares: u8) -> Open {
         Open {
             call,
+            shares,
             met: false,
             first: false,
             second: false,
+            late: false,
         }
     }
 
@@ -33,15 +40,38 @@ impl Open {
     fn seen(&self, thread: usize, shown: &Shown) -> Open {
         Open {
             call: self.call,
+            shares: self.shares,
             met: self.met || shown.mode(other(thread)).is_some(),
             first: self.first || shown.waits_first(thread),
             second: self.second || shown.waits_second(thread),
+            late: self.late,
         }
     }
 
-    /// Whether its thread, which owns the lock so, was taken out of a list for nothing so far: it isn't what it waited there to be.
+    /// Whether its thread, which owns the lock so, was taken out of a list for nothing so far: it isn't what it waited there to be. One whose
+    /// deadline has come may have taken itself out.
     pub fn is_due(&self, mode: Option<OwnMode>) -> bool {
-        self.first && mode.is_none() || self.second && mode == Some(OwnMode::Pending)
+        let is_out = self.first && mode.is_none() || self.second && mode == Some(OwnMode::Pending);
+        is_out && !self.late
+    }
+
+    /// Once its deadline has come.
+    fn expired(&self) -> Open {
+        Open {
+            late: true,
+            ..*self
+        }
+    }
+
+    /// Whether it may be answered so: as fits it, refused only where the other has owned the lock meanwhile, and timed out only where its
+    /// deadline has come as it stood in a list.
+    fn may_be_answered(&self, answer: LockAnswer) -> bool {
+        let is_so = match answer {
+            LockAnswer::Refused => self.met,
+            LockAnswer::TimedOut => self.met && self.first && self.late,
+            LockAnswer::Owned | LockAnswer::Released => true,
+        };
+        is_so && may_answer(self.call, answer)
     }
 }
 
@@ -58,9 +88,11 @@ pub enum Stage {
 #[derive(Clone, Copy, PartialEq, Eq)]
 pub struct Progress {
     pub stage: Stage,
+    /// How many shared holds it has by its calls so far.
+    shares: u8,
     /// The calls that it hasn't begun.
     pub rest: Program,
-    /// Whether its try was refused.
+    /// Whether its try was refused, or its deadline came first.
     pub refused: bool,
 }
 
@@ -69,6 +101,7 @@ impl Progress {
     pub fn of(program: Program) -> Progress {
         Progress {
             stage: Stage::Between(None),
+            shares: 0,
             rest: program,
             refused: false,
         }
@@ -76,19 +109,29 @@ impl Progress {
 
     /// What may be its next steps. Others are never allowed; these aren't where it is at the end, sleeps, or is before a section that
     /// another has entered.
-    pub fn steps(&self, thread: usize) -> [WorldStep; 2] {
+    pub fn steps(&self, thread: usize) -> [Option<WorldStep>; 3] {
         let goes = WorldStep::Go(thread, false);
-        match (self.stage, self.rest[0]) {
-            (Stage::Between(_), Some(call)) => [goes, WorldStep::Begin(thread, 0, call)],
-            _ => [goes, WorldStep::Go(thread, true)],
-        }
+        let other = match (self.stage, self.rest[0]) {
+            (Stage::Between(_), Some(call)) => WorldStep::Begin(thread, 0, call),
+            _ => WorldStep::Go(thread, true),
+        };
+        let deadline = WorldStep::Deadline(thread);
+        [
+            Some(goes),
+            Some(other),
+            Some(deadline).filter(|step| self.may_make(*step)),
+        ]
     }
 
-    /// Whether it is in a call where it goes on, and in none where it begins one.
+    /// Whether it is in a call where it goes on, in none where it begins one, and in a timed one where its deadline comes.
     pub fn may_make(&self, step: WorldStep) -> bool {
         match step {
             WorldStep::Begin(_, _, _) => matches!(self.stage, Stage::Between(_)),
             WorldStep::Go(_, _) => matches!(self.stage, Stage::Within(_)),
+            WorldStep::Deadline(_) => match self.stage {
+                Stage::Between(_) => false,
+                Stage::Within(open) => is_timed(open.call),
+            },
         }
     }
 
@@ -97,7 +140,8 @@ impl Progress {
         let [next, second, third] = self.rest;
         match next {
             Some(call) => Progress {
-                stage: Stage::Within(Open::of(call)),
+                stage: Stage::Within(Open::of(call, self.shares)),
+                shares: self.shares,
                 rest: [second, third, None],
                 refused: false,
             },
@@ -107,26 +151,40 @@ impl Progress {
 
     /// Once its call is answered.
     fn answered(&self, call: LockCall, answer: LockAnswer) -> Progress {
-        if answer == LockAnswer::Refused {
+        if matches!(answer, LockAnswer::Refused | LockAnswer::TimedOut) {
             Progress {
                 stage: Stage::Between(None),
+                shares: 0,
                 rest: [None; 3],
                 refused: true,
             }
         } else {
             Progress {
-                stage: Stage::Between(mode_behind(call)),
+                stage: Stage::Between(owned_behind(call, self.shares)),
+                shares: shares_behind(call, self.shares),
                 ..*self
             }
         }
     }
 
+    /// Once its deadline has come.
+    fn expired(&self) -> Progress {
+        match self.stage {
+            Stage::Between(_) => *self,
+            Stage::Within(open) => Progress {
+                stage: Stage::Within(open.expired()),
+                ..*self
+            },
+        }
+    }
+
     /// Once it has made a step, behind which its last call is answered so.
-    fn after(&self, answer: Option<LockAnswer>) -> Progress {
-        match (self.stage, answer) {
-            (Stage::Between(_), _) => self.begun(),
-            (Stage::Within(_), None) => *self,
-            (Stage::Within(open), Some(answer)) => self.answered(open.call, answer),
+    fn after(&self, step: WorldStep, answer: Option<LockAnswer>) -> Progress {
+        match (step, self.stage, answer) {
+            (WorldStep::Deadline(_), _, _) => self.expired(),
+            (_, Stage::Between(_), _) => self.begun(),
+            (_, Stage::Within(_), None) => *self,
+            (_, Stage::Within(open), Some(answer)) => self.answered(open.call, answer),
         }
     }
 
@@ -141,13 +199,24 @@ impl Progress {
         }
     }
 
-    /// Whether its next step may leave its call answered so: as fits the call, and refused only where the other has owned the lock meanwhile.
+    /// Whether its next step may leave its call answered so.
     pub fn may_be_answered(&self, answer: Option<LockAnswer>) -> bool {
         match (self.stage, answer) {
             (_, None) => true,
             (Stage::Between(_), Some(_)) => false,
-            (Stage::Within(open), Some(LockAnswer::Refused)) if !open.met => false,
-            (Stage::Within(open), Some(answer)) => may_answer(open.call, answer),
+            (Stage::Within(open), Some(answer)) => open.may_be_answered(answer),
+        }
+    }
+
+    /// How many shared holds it has at least and at most.
+    pub fn holds(&self) -> (u64, u64) {
+        let before = u64::from(self.shares);
+        match self.stage {
+            Stage::Between(_) => (before, before),
+            Stage::Within(open) => {
+                let behind = u64::from(shares_behind(open.call, self.shares));
+                (before.min(behind), before.max(behind))
+            }
         }
     }
 
@@ -166,10 +235,10 @@ pub fn other(thread: usize) -> usize {
     if thread == 0 { 1 } else { 0 }
 }
 
-/// One of two threads once `mover` has made a step, behind which that is shown.
-fn followed(at: Progress, thread: usize, mover: usize, behind: &Shown) -> Progress {
-    let moved = if thread == mover {
-        at.after(behind.answer(thread))
+/// One of two threads behind a step, where that is shown.
+fn followed(at: Progress, thread: usize, step: WorldStep, behind: &Shown) -> Progress {
+    let moved = if thread == step.thread() {
+        at.after(step, behind.answer(thread))
     } else {
         at
     };
@@ -177,10 +246,10 @@ fn followed(at: Progress, thread: usize, mover: usize, behind: &Shown) -> Progre
 }
 
 /// Both of them.
-pub fn both_followed(threads: [Progress; 2], mover: usize, behind: &Shown) -> [Progress; 2] {
+pub fn both_followed(threads: [Progress; 2], step: WorldStep, behind: &Shown) -> [Progress; 2] {
     [
-        followed(threads[0], 0, mover, behind),
-        followed(threads[1], 1, mover, behind),
+        followed(threads[0], 0, step, behind),
+        followed(threads[1], 1, step, behind),
     ]
 }
 
@@ -189,6 +258,7 @@ pub fn both_followed(threads: [Progress; 2], mover: usize, behind: &Shown) -> [P
 enum Phase {
     Mutex(MutexPhase),
     Rw(RwPhase),
+    Late(LatePhase),
 }
 
 /// An unanswered call: where it stands, how many holds its thread has beside, and where it is while it sleeps.
@@ -200,6 +270,7 @@ impl Standing {
         let phase = match call.core {
             Core::Mutex(core) => Phase::Mutex(core.phase()),
             Core::Rw(core) => Phase::Rw(core.phase()),
+            Core::Late(phase) => Phase::Late(phase),
         };
         Standing(phase, call.others, call.spot)
     }
@@ -250,6 +321,16 @@ impl Snapshot {
             seats: [Seat::of(world, 0), Seat::of(world, 1)],
             wakes: wakes_of(world),
         }
+    }
+
+    /// Whether a thread that gives the lock up has to hand it over: it has taken one that waits.
+    pub fn must_hand(&self, thread: usize) -> bool {
+        self.shown.is_fair()
+            && self
+                .wakes
+                .iter()
+                .flatten()
+                .any(|wakeup| wakeup.by == thread)
     }
 
     /// How far one of the two threads is.

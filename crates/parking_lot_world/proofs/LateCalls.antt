@@ -1,0 +1,82 @@
+-- Calls on the lot of a thread whose moment has passed are never refused.
+use Rattle.std.proofs.Common.{◌≡◌, ℕ, ◌+◌, ◌*◌, ◌==◌, ◌&&◌, Bool, true, false, cond, not, List, [], ◌∷◌, Option, Some, None, is_some, Result, refl, sym, ap, ◌∙◌, subst, eq-eqb}
+use Rattle.std.specs.Option.{option_and_then, option_map, option_map_or}
+use Rattle.parking_lot_core_lot.specs.declared.fault.LotFault.{LotFault}
+use Rattle.parking_lot_core_lot.specs.declared.fault.LotFault.TheVariants.{Busy, WrongStatus}
+use Rattle.parking_lot_core_lot.specs.declared.place.Phase.{Phase}
+use Rattle.parking_lot_core_lot.specs.declared.place.Place.{Place}
+use Rattle.parking_lot_core_lot.specs.declared.place.Place.TheVariants.{Waiting}
+use Rattle.parking_lot_core_lot.specs.declared.place.Section.{Section}
+use Rattle.parking_lot_core_lot.specs.declared.place.Sleep.{Sleep}
+use Rattle.parking_lot_core_lot.specs.Machine.{Machine, Unless, busy, given_up, in_phase, quit_fault, quitted, resumed, return_fault, section_of, step_fault, stored}
+use Rattle.parking_lot_core_lot.specs.Runs.{Quit, StoreDone, unless_refused}
+use Rattle.parking_lot_core_lot.specs.Sound.{Sound}
+use Rattle.parking_lot_core_lot.specs.declared.parking.UnparkToken.{UnparkToken}
+use Rattle.parking_lot_core_lot.proofs.Sequences.{sound_after_all}
+use Rattle.parking_lot_core_lot.specs.Places.{has_joined, has_slept, may_return, may_store, place_at}
+use Rattle.parking_lot_world.specs.declared.seat.LatePhase.{LatePhase}
+use Rattle.parking_lot_world.specs.declared.seat.Core.{Core}
+use Rattle.parking_lot_world.specs.declared.seat.QueuePosition.{QueuePosition}
+use Rattle.parking_lot_world.specs.declared.open_call.Call.{Call}
+use Rattle.parking_lot_world.specs.Rows.{State, call_at}
+use Rattle.parking_lot_world.specs.RowActs.{key_of}
+use Rattle.parking_lot_world.specs.RowFits.{IsAt, LotFits, WaitsIn}
+use Rattle.parking_lot_world.specs.LateActs.{out_of_list, quitted_as}
+use Rattle.parking_lot_world.specs.Stances.{Asleep, In, Joined, sign, stance}
+use Rattle.parking_lot_world.proofs.LotActs.{seat_of}
+use Rattle.parking_lot_world.proofs.LotCalls.{may_step, own_section}
+
+-- what isn't refused is done
+pub unless_none : {T : Type 0} (f : Option LotFault) (result : Result T LotFault) (old new : Machine) (Done : Type 0) → f ≡ None → Unless f result old new Done → Done
+unless_none None result old new Done e h = h
+unless_none (Some fault) result old new Done e h = absurd cc
+
+-- one that waits comes back where nobody is in a section
+pub may_return_there : (m : Machine) (t key : ℕ) → m.section ≡ None → WaitsIn (place_at m.places t) key → return_fault m t key ≡ None
+may_return_there m t key free waits =
+    ap (λ (p : Option Place). cond (option_map_or (may_return key) p false) (busy m) (Some WrongStatus)) waits.1 ∙ ap (λ (b : Bool). cond b (busy m) (Some WrongStatus)) (eq-eqb key key refl)
+    ∙ ap (λ (o : Option Section). cond (is_some o) (Some Busy) None) free
+
+-- and takes itself out in its section
+pub may_quit : (m : Machine) (t key : ℕ) (o : Section) → m.section ≡ Some o → o.thread ≡ Some t → o.phase ≡ Phase.Joined → WaitsIn (place_at m.places t) key → quit_fault m t ≡ None
+may_quit m t key o there whose come waits =
+    ap (λ (x : Option Section). cond (option_map_or (λ s. has_joined s.phase) x false && option_map_or has_slept (place_at m.places t) false) None (Some WrongStatus)) (own_section m t o there whose)
+    ∙ ap (λ (ph : Phase). cond (has_joined ph && option_map_or has_slept (place_at m.places t) false) None (Some WrongStatus)) come
+    ∙ ap (λ (p : Option Place). cond (option_map_or has_slept p false) None (Some WrongStatus)) waits.1
+
+pub quits_out : (m : Machine) (t key : ℕ) (sleep : Sleep) → place_at m.places t ≡ Some (Waiting key sleep) → quitted m t ≡ in_phase (given_up m t key) Phase.Ended
+quits_out m t key sleep waits = ap (λ (p : Option Place). in_phase (resumed m t p) Phase.Ended) waits
+
+-- where its section may store
+pub quits_store : (m : Machine) (t key : ℕ) (o : Section) → m.section ≡ Some o → o.thread ≡ Some t → step_fault may_store (in_phase (given_up m t key) Phase.Ended) t ≡ None
+quits_store m t key o there whose = may_step (in_phase (given_up m t key) Phase.Ended) t (record o { phase = Phase.Ended }) may_store (ap (option_map {T = Section} (λ s. record s { phase = Phase.Ended })) there) whose refl
+
+-- what isn't refused keeps a lot sound
+sound_quit : (m : Machine) (t : ℕ) → Sound m → quit_fault m t ≡ None → Sound (quitted m t)
+sound_quit m t h e = subst (λ f. Sound (unless_refused f m (quitted m t))) e (sound_after_all (Quit t ∷ []) m h)
+
+sound_store : (m : Machine) (t : ℕ) (token : UnparkToken) → Sound m → step_fault may_store m t ≡ None → Sound (stored m token)
+sound_store m t token h e = subst (λ f. Sound (unless_refused f m (stored m token))) e (sound_after_all (StoreDone t token ∷ []) m h)
+
+-- THE MACHINE'S THREADS
+
+module _ (s : State) (h : LotFits s) (t : ℕ) (c : Call) (here : call_at s t ≡ Some c) where
+  pub sleeps_there : c.core ≡ Core.Late LatePhase.Expires → c.spot ≡ QueuePosition.Listed → WaitsIn (place_at s.lot.places t) (key_of c 0)
+  sleeps_there late listed = subst (λ (a : QueuePosition). IsAt a (place_at s.lot.places t) s.lot.section (key_of c 0)) listed (seat_of s h t c (Asleep 0 (record { 0 = 0 })) here (ap stance late)).0
+
+  pub stands_there : c.core ≡ Core.Late LatePhase.Quits → (o : Section) × (s.lot.section ≡ Some o) × (o.thread ≡ Some t) × (o.phase ≡ Phase.Joined) × WaitsIn (place_at s.lot.places t) (key_of c 0)
+  stands_there late = let seat = seat_of s h t c (In 0 (Joined (record { 0 = 0 }))) here (ap stance late) in (seat.0, seat.1, seat.2, seat.4, seat.5.1)
+
+  -- what is left of the lot is sound
+  pub quit_sound : c.core ≡ Core.Late LatePhase.Quits → (left : Bool) → Sound (quitted_as s t c left).lot
+  quit_sound late left = go left
+    where
+      at : (o : Section) × (s.lot.section ≡ Some o) × (o.thread ≡ Some t) × (o.phase ≡ Phase.Joined) × WaitsIn (place_at s.lot.places t) (key_of c 0)
+      at = stands_there late
+
+      out : Sound (out_of_list s t c)
+      out = subst Sound (quits_out s.lot t (key_of c 0) at.4.0 at.4.1) (sound_quit s.lot t h.sound (may_quit s.lot t (key_of c 0) at.0 at.1 at.2 at.3 at.4))
+
+      go : (b : Bool) → Sound (quitted_as s t c b).lot
+      go true = sound_store (out_of_list s t c) t (sign false) out (quits_store s.lot t (key_of c 0) at.0 at.1 at.2)
+      go false = out

@@ -1,0 +1,22 @@
+use Rattle.parking_lot_world.proofs.Calling.{room_set}
+use Rattle.std.proofs.Common.{sym, ap, subst, arith}
+use Rattle.parking_lot_world.specs.declared.seat.LatePhase.{LatePhase}
+use Rattle.parking_lot_world.specs.declared.seat.Core.{Core}
+use Rattle.parking_lot_world.specs.Rows.{Rows, state}
+use Rattle.parking_lot_world.specs.RowActs.{with_call}
+use Rattle.parking_lot_world.specs.RowFits.{FitsTogether}
+use Rattle.parking_lot_world.proofs.LateActs.{laws}
+use Rattle.parking_lot_world.proofs.Holding.{fits, low}
+use Rattle.parking_lot_world.proofs.row_machine.RowMachine.expire.Goals as goal
+
+pub index_mut-requires : goal.index_mut-requires
+index_mut-requires g c = omega (arith, low c.args.thread c.args.call c.self.view_is c.requires.here, c.self.inside.calls.ok.0)
+
+pub returns : goal.returns
+returns g c = ap (λ (m : Rows). with_call (state m) c.args.thread (record c.args.call { core = Core.Late LatePhase.Expires })) c.self.view_is
+
+pub invariant_of-self : goal.invariant_of-self
+invariant_of-self g c = (
+  subst FitsTogether (sym (returns g c)) (laws.expires (state c.args.self.now) c.args.thread c.args.call c.requires.asleep c.requires.listed (fits c.self.view_is c.self.invariant.0) c.requires.here).fits,
+  room_set _ _ _ _ c.self.invariant.1,
+)

@@ -1,0 +1,50 @@
+use Rattle.parking_lot_world.proofs.Calling.{room_set}
+use Rattle.std.proofs.Common.{◌≡◌, Bool, false, cond, Some, None, sym, ap, ◌∙◌, subst, arith}
+use Rattle.parking_lot_core_lot.specs.declared.place.Phase.TheVariants as phase
+use Rattle.parking_lot_core_lot.specs.declared.place.Place.TheVariants.{Waiting}
+use Rattle.parking_lot_core_lot.specs.declared.place.Sleep.{Sleep}
+use Rattle.parking_lot_core_lot.specs.Machine.{Machine, given_up, in_phase, machine, quit_fault, stored}
+use Rattle.parking_lot_core_lot.specs.Places.{place_at}
+use Rattle.parking_lot_core_lot.specs.Results.{is_left}
+use Rattle.parking_lot_core_lot.specs.Sound.{Sound}
+use Rattle.parking_lot_world.specs.declared.open_call.Call.{Call}
+use Rattle.parking_lot_world.specs.LateActs.{quitted_as}
+use Rattle.parking_lot_world.specs.Rows.{Rows, State, state}
+use Rattle.parking_lot_world.specs.RowActs.{with_call, with_lot, key_of}
+use Rattle.parking_lot_world.specs.RowFits.{FitsTogether}
+use Rattle.parking_lot_world.specs.Stances.{sign}
+use Rattle.parking_lot_world.proofs.LateActs.{laws}
+use Rattle.parking_lot_world.proofs.LateCalls.{may_quit, stands_there}
+use Rattle.parking_lot_world.proofs.Holding.{fits, held, low}
+use Rattle.parking_lot_world.proofs.row_machine.RowMachine.quit.Goals as goal
+
+pub quit-left-requires : goal.quit-left-requires
+quit-left-requires g c =
+    let at = stands_there _ c.self.invariant.0.lots c.args.thread c.args.call (held c.args.thread c.args.call c.self.view_is c.requires.here) c.requires.late in
+    record {
+      there = may_quit (machine c.self.inside.lot) c.args.thread (key_of c.args.call 0) at.0 at.1 at.2 at.3 at.4;
+      waits = subst (λ k. (sleep : Sleep) × (place_at (machine c.self.inside.lot).places c.args.thread ≡ Some (Waiting k sleep))) (sym c.key.ensures) (at.4.0, at.4.1);
+      inside = (at.0, at.1, at.2);
+    }
+
+pub index_mut-requires : goal.index_mut-requires
+index_mut-requires g c = omega (arith, low c.args.thread c.args.call c.self.view_is c.requires.here, c.self.inside.calls.ok.0)
+
+pub returns : goal.returns
+returns g c =
+    let s : State = state c.args.self.now in
+    let done : State → Call → Machine → State = λ s next m. with_lot (with_call s c.args.thread next) m in
+    let out : Machine → _ → Machine = λ m k. in_phase (given_up m c.args.thread k) phase.Ended in
+    let left : Machine → _ → Bool → Machine = λ m k b. cond b (stored (out m k) (sign false)) (out m k) in
+    ap (λ (m : Rows). done (state m) c.told.result (machine c.quit-left.new.lot)) c.self.view_is
+    ∙ ap (done s c.told.result) (c.quit-left.ensures.out ∙ ap (λ (m : Rows). left (machine m.lot) c.key.result c.quit-left.result) c.self.view_is ∙ ap (λ k. left s.lot k c.quit-left.result) c.key.ensures)
+    ∙ ap (λ next. done s next (left s.lot (key_of c.args.call 0) c.quit-left.result)) c.told.ensures
+    ∙ ap (quitted_as s c.args.thread c.args.call) (c.quit-left.ensures.left ∙ ap (λ (m : Rows). is_left ((out (machine m.lot) c.key.result).queues c.key.result)) c.self.view_is ∙ ap (λ k. is_left ((out s.lot k).queues k)) c.key.ensures)
+
+pub invariant_of-self : goal.invariant_of-self
+invariant_of-self g c = (
+  let e = returns g c in
+      subst FitsTogether (sym e)
+      (laws.quits (state c.args.self.now) c.args.thread c.args.call c.requires.late (subst Sound (ap (λ (s : State). s.lot) e) c.quit-left.ensures.sound) (fits c.self.view_is c.self.invariant.0) c.requires.here).1.fits,
+  room_set _ _ _ _ c.self.invariant.1,
+)
