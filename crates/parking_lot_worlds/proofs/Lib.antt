@@ -1,0 +1,10 @@
+pub mod Scheduling
+pub mod Coming
+pub mod RowsKept
+pub mod OncesKept
+pub mod Whole
+pub mod Sides
+pub mod Moving
+pub mod Casing
+pub mod Making
+pub mod Promising

@@ -1,0 +1,15 @@
+use Rattle.std.proofs.Common.{◌≡◌, None, arith, length, map, ap, replicate, ◌∙◌, rules}
+use Rattle.parking_lot_world.specs.Machines.{at_rest}
+use Rattle.parking_lot_once_world.specs.OnceActs as once
+use Rattle.parking_lot_worlds.specs.WorldCalls.{row_kind}
+use Rattle.parking_lot_worlds.proofs.Making.{new_whole}
+use Rattle.parking_lot_worlds.proofs.world.World.new.Goals as goal
+
+pub invariant_of-result : goal.invariant_of-result
+invariant_of-result g c =
+    let answers : c.in_ok-answers.answers.items ≡ replicate c.args.threads None = search rules in
+    let n : c.len.result ≡ length c.args.locks.items = omega (arith, c.len.ensures, c.args.locks.ok.0) in
+    new_whole _ c.args.threads
+    (c.in_ok-rows.ensures.made ∙ ap (at_rest c.args.threads) (c.in_ok-rows_of.ensures.ok ∙ ap (map row_kind) c.deref.ensures.value))
+    (c.in_ok-onces.ensures.made ∙ ap (once.at_rest c.args.threads) n)
+    answers

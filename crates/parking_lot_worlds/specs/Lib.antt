@@ -1,0 +1,3 @@
+pub mod WorldCalls
+pub mod Worlds
+pub mod WorldLaws

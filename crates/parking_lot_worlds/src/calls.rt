@@ -1,0 +1,175 @@
+//! What threads ask of the locks and onces of a world.
+ghost use Rattle.std.specs.Prelude.{◌≡◌};
+ghost use Rattle.parking_lot_worlds.specs.WorldCalls.{asked, is_once, of_core, of_reply, row_kind, said};
+
+use parking_lot_once_world::{OnceCall, OnceReply, OnceState};
+use parking_lot_protocol::CoreAnswer;
+use parking_lot_world::{Call, Core, LockCall as RowCall, LockKind as RowKind};
+
+/// The kind of a lock.
+#[derive(Clone, Copy, PartialEq, Eq, Debug)]
+pub enum LockKind {
+    /// One owner at a time.
+    Mutex,
+    /// One owner at a time, which hands the lock over to whoever waits longest.
+    FairMutex,
+    /// One writer, or readers.
+    Rw,
+    /// One writer, or readers, who may read again, also past a writer that waits.
+    RwRecursive,
+    /// A one-time initialization, which nobody owns.
+    Once,
+}
+
+/// What a thread asks of a lock.
+#[derive(Clone, Copy, PartialEq, Eq, Debug)]
+pub enum LockCall {
+    /// It locks a mutex, and waits for it.
+    Lock,
+    /// It locks a mutex, and doesn't wait.
+    TryLock,
+    /// It locks a mutex, and waits for it until its deadline.
+    LockUntil,
+    /// It gives a mutex up.
+    Unlock,
+    /// It wants a shared hold, and waits for it.
+    Read,
+    /// It wants a shared hold, and doesn't wait.
+    TryRead,
+    /// It gives its shared hold up.
+    UnlockRead,
+    /// It wants the exclusive hold, and waits for it.
+    Write,
+    /// It wants the exclusive hold, and doesn't wait.
+    TryWrite,
+    /// It gives its exclusive hold up.
+    UnlockWrite,
+    /// It makes its exclusive hold a shared one.
+    Downgrade,
+    /// At a once: it runs its closure where none has run, waits while one runs, and is refused where the last one has failed. This says whether
+    /// its closure ends well, if it is run.
+    CallOnce(bool),
+    /// The same, but it runs its closure also where the last one has failed.
+    CallOnceForce(bool),
+    /// It waits until a closure has ended well, and is refused where the last one has failed.
+    OnceWait,
+    /// The same, but it waits on where the last closure has failed.
+    OnceWaitForce,
+}
+
+/// A call, by what it is asked of: of a lock that is owned, or of a once.
+#[derive(Clone, Copy, PartialEq, Eq, Debug)]
+pub enum Asked {
+    /// Of a lock.
+    OfLock(RowCall),
+    /// Of a once.
+    OfOnce(OnceCall),
+}
+
+/// How a call ended.
+#[derive(Clone, Copy, PartialEq, Eq, Debug)]
+pub enum LockAnswer {
+    /// The thread owns the lock as it asked for it; after a downgrade as a reader.
+    Owned,
+    /// A try found the lock taken.
+    Refused,
+    /// The thread owns the lock no more.
+    Released,
+    /// The deadline came first, and the thread has given up. It owns nothing.
+    TimedOut,
+    /// At a once: its own closure ran and ended well; it was handed this state.
+    Ran(OnceState),
+    /// Its own closure ran and failed.
+    Failed,
+    /// The closure before had failed, and its own didn't run.
+    Poisoned,
+    /// A closure has ended well, and its own didn't run.
+    Completed,
+}
+
+impl LockKind {
+    /// Whether it is a once.
+    pub(crate) fn is_once(&self) -> bool
+        ensures { result ≡ is_once self.now }
+    {
+        match self {
+            LockKind::Once => true,
+            LockKind::Mutex | LockKind::FairMutex | LockKind::Rw | LockKind::RwRecursive => false,
+        }
+    }
+
+    /// The row of a machine of locks that a lock of this kind has: that of a once is a mutex, at which nobody is ever in a call.
+    pub(crate) fn row(&self) -> RowKind
+        ensures { result ≡ row_kind self.now }
+    {
+        match self {
+            LockKind::Mutex | LockKind::Once => RowKind::Mutex,
+            LockKind::FairMutex => RowKind::FairMutex,
+            LockKind::Rw => RowKind::Rw,
+            LockKind::RwRecursive => RowKind::RwRecursive,
+        }
+    }
+}
+
+impl LockCall {
+    /// What it is asked of.
+    pub fn asked(self) -> Asked
+        ensures { result ≡ asked self }
+    {
+        match self {
+            LockCall::Lock => Asked::OfLock(RowCall::Lock),
+            LockCall::TryLock => Asked::OfLock(RowCall::TryLock),
+            LockCall::LockUntil => Asked::OfLock(RowCall::LockUntil),
+            LockCall::Unlock => Asked::OfLock(RowCall::Unlock),
+            LockCall::Read => Asked::OfLock(RowCall::Read),
+            LockCall::TryRead => Asked::OfLock(RowCall::TryRead),
+            LockCall::UnlockRead => Asked::OfLock(RowCall::UnlockRead),
+            LockCall::Write => Asked::OfLock(RowCall::Write),
+            LockCall::TryWrite => Asked::OfLock(RowCall::TryWrite),
+            LockCall::UnlockWrite => Asked::OfLock(RowCall::UnlockWrite),
+            LockCall::Downgrade => Asked::OfLock(RowCall::Downgrade),
+            LockCall::CallOnce(well) => Asked::OfOnce(OnceCall::CallOnce(well)),
+            LockCall::CallOnceForce(well) => Asked::OfOnce(OnceCall::CallOnceForce(well)),
+            LockCall::OnceWait => Asked::OfOnce(OnceCall::OnceWait),
+            LockCall::OnceWaitForce => Asked::OfOnce(OnceCall::OnceWaitForce),
+        }
+    }
+}
+
+impl LockAnswer {
+    /// What a thread is answered whose call at a lock ends so.
+    pub(crate) fn said(call: Option<Call>, answer: CoreAnswer) -> LockAnswer
+        ensures { result ≡ said call answer }
+    {
+        match call {
+            Some(call) => match call.core {
+                Core::Late(_) => LockAnswer::TimedOut,
+                Core::Mutex(_) | Core::Rw(_) => LockAnswer::of_core(answer),
+            },
+            None => LockAnswer::of_core(answer),
+        }
+    }
+
+    /// What a thread is answered where its core at a lock says so.
+    fn of_core(answer: CoreAnswer) -> LockAnswer
+        ensures { result ≡ of_core answer }
+    {
+        match answer {
+            CoreAnswer::Owned => LockAnswer::Owned,
+            CoreAnswer::Refused => LockAnswer::Refused,
+            CoreAnswer::Released => LockAnswer::Released,
+        }
+    }
+
+    /// What a thread is answered where its call at a once has ended so.
+    pub(crate) fn of_reply(reply: OnceReply) -> LockAnswer
+        ensures { result ≡ of_reply reply }
+    {
+        match reply {
+            OnceReply::Ran(before) => LockAnswer::Ran(before),
+            OnceReply::Failed => LockAnswer::Failed,
+            OnceReply::Poisoned => LockAnswer::Poisoned,
+            OnceReply::Completed => LockAnswer::Completed,
+        }
+    }
+}

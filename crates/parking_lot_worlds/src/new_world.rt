@@ -1,0 +1,52 @@
+//! How a world is made.
+ghost use Rattle.std.specs.Prelude.{◌≡◌, ◌<◌, ◌↔◌, ◌⊎◌, ◌^◌, ◌≢◌, length, map, replicate, None, IsErrOf, IfErr, IfOk};
+ghost use Rattle.parking_lot_core_lot.specs.declared.fault.SizeFault.TheVariants.{BadSize, NoMemory};
+ghost use Rattle.parking_lot_once_world.specs.OnceActs as once;
+ghost use Rattle.parking_lot_world.specs.Machines as rows;
+ghost use Rattle.parking_lot_world.specs.Rows.{state};
+ghost use Rattle.parking_lot_worlds.specs.WorldCalls.{row_kind};
+
+use crate::calls::LockKind;
+use crate::world::World;
+use parking_lot_core_lot::SizeFault;
+use parking_lot_once_world::OnceMachine;
+use parking_lot_world::{LockKind as RowKind, RowMachine};
+use std::alloc::Allocator;
+
+impl<A: Allocator + Clone + Drop> World<A> {
+    /// So many threads, in no call, and locks of these kinds, which nobody owns: 1 to 65,536 threads, and 1 to 2^20 locks. Every word is 0, and
+    /// the onces are new.
+    ///
+    /// # Errors
+    ///
+    /// `BadSize` where there are too few or too many threads or locks, and else `NoMemory` where memory is short.
+    pub fn new(alloc: A, threads: usize, locks: Vec<LockKind, A>) -> Result<World<A>, SizeFault>
+        ensures size { IsErrOf result BadSize ↔ ((threads ≡ 0) ⊎ (65536 < threads) ⊎ (length locks.items ≡ 0) ⊎ (2 ^ 20 < length locks.items)) }
+        ensures kinds { IfOk result (λ world. world.kinds ≡ locks.items) }
+        ensures rows { IfOk result (λ world. state world.rows ≡ rows.at_rest threads (map row_kind locks.items)) }
+        ensures onces { IfOk result (λ world. world.onces ≡ once.at_rest threads (length locks.items)) }
+        ensures answers { IfOk result (λ world. world.answers ≡ replicate threads None) }
+    {
+        let onces = OnceMachine::new(&alloc, threads, locks.len())?;
+        let rows = RowMachine::new(&alloc, threads, rows_of(alloc.clone()?, &locks)?)?;
+        let answers = vec![in alloc; None; threads]?;
+        Ok(World {
+            kinds: locks,
+            rows,
+            onces,
+            answers,
+        })
+    }
+}
+
+/// The rows of locks of these kinds.
+fn rows_of<A: Allocator + Drop>(alloc: A, kinds: &[LockKind]) -> Result<Vec<RowKind, A>, SizeFault>
+    ensures ok { IfOk result (λ rows. rows.items ≡ map row_kind kinds.now) }
+    ensures err { IfErr result (λ fault. fault ≡ NoMemory) }
+{
+    let mut rows = Vec::with_capacity(alloc, kinds.len())?;
+    for kind in kinds {
+        rows.push_reserved(kind.row());
+    }
+    Ok(rows)
+}

@@ -1,0 +1,220 @@
+//! Worlds of locks and onces: threads at them, moved by a schedule.
+ghost use Rattle.std.specs.Prelude.{◌≡◌, length, take, slice_get, slice_set, None, Some, true, false, IfErr, MatchResult};
+ghost use Rattle.parking_lot_world.specs.Machines as rows;
+ghost use Rattle.parking_lot_world.specs.Rows.{state};
+ghost use Rattle.parking_lot_worlds.specs.declared.calls.Asked.TheVariants.{OfLock, OfOnce};
+ghost use Rattle.parking_lot_worlds.specs.WorldLaws.{DoneStays, IsSoundWorld};
+ghost use Rattle.parking_lot_worlds.specs.Worlds.{IsAsked, IsGone, IsLate, IsMade, IsWhole, Ran, is_in_once, may_ask, may_go, may_make, refusal, steps_done};
+
+use crate::calls::{Asked, LockAnswer, LockKind};
+use crate::step::WorldStep;
+use parking_lot_once_world::laws::what_is_done_stays_done;
+use parking_lot_once_world::{OnceCall, OnceMachine};
+use parking_lot_world::{
+    LockCall as RowCall, RowMachine, WorldFault, WorldRefusal, laws as of_locks,
+};
+use std::alloc::{Allocator, Global};
+use std::marker::Model;
+
+/// Threads, and locks and onces, stepped by a schedule.
+///
+/// It is deterministic. Nothing in it moves by itself: [`run`](World::run) is told which thread makes each step, and the same world with the
+/// same steps ends the same. A step is one atomic act of a thread's call, as a load of the lock's word, an exchange, entering a section, or
+/// running a closure, and it is done whole. At most one section is open in the whole world.
+///
+/// The locks have the numbers of their kinds in the list that the world is made with, and threads are numbered from 0. It takes all memory
+/// that its runs need where it is made.
+///
+/// ```text
+/// let mut world = World::new(alloc, 2, vec![in alloc; LockKind::Rw, LockKind::Once]?)?;
+/// world.run(&[WorldStep::Begin(0, 1, LockCall::CallOnce(true)), WorldStep::Go(0, false)])?;
+/// world.word(1)
+/// ```
+#[derive(Drop)]
+pub struct World<A: Allocator = Global> {
+    pub(crate) kinds: Vec<LockKind, A>,
+    pub(crate) rows: RowMachine<A>,
+    pub(crate) onces: OnceMachine<A>,
+    /// What each thread's last call answered; `None` while it isn't answered.
+    pub(crate) answers: Vec<Option<LockAnswer>, A>,
+}
+
+impl<A: Allocator> Model for World<A> {
+    ghost use Rattle.parking_lot_worlds.specs.Worlds.{IsWhole, Shown};
+
+    ghost Value = { Shown };
+
+    ghost view = { λ w. record { kinds = w.kinds.items; rows = w.rows; onces = w.onces; answers = w.answers.items } };
+
+    ghost invariant = { λ w. IsWhole (record { kinds = w.kinds.items; rows = w.rows; onces = w.onces; answers = w.answers.items }) };
+}
+
+impl<A: Allocator> World<A> {
+    /// What holds of the world at every moment. It does nothing.
+    pub fn known(&self)
+        ensures { IsSoundWorld self.now }
+    {
+        self.rows.known();
+        self.onces.known();
+        of_locks::owners_agree();
+        of_locks::lists_are_waiters();
+        of_locks::debts_are_kept();
+        of_locks::awake_can_move();
+        of_locks::somebody_can_move();
+        of_locks::steps_are_few();
+    }
+
+    /// A thread begins a call at a lock.
+    fn ask_lock(&mut self, thread: usize, lock: usize, call: RowCall)
+        requires allowed { may_ask self.old thread lock (OfLock call) ≡ true }
+        ensures asked { IsAsked thread lock (OfLock call) self.old self.new }
+        ensures answers { self.new.answers ≡ slice_set self.old.answers thread None }
+        ensures kinds { self.new.kinds ≡ self.old.kinds }
+    {
+        self.rows.begin(thread, lock, call);
+        self.answers[thread] = None;
+    }
+
+    /// A thread begins a call at a once.
+    fn ask_once(&mut self, thread: usize, lock: usize, call: OnceCall)
+        requires allowed { may_ask self.old thread lock (OfOnce call) ≡ true }
+        ensures asked { IsAsked thread lock (OfOnce call) self.old self.new }
+        ensures answers { self.new.answers ≡ slice_set self.old.answers thread None }
+        ensures kinds { self.new.kinds ≡ self.old.kinds }
+    {
+        self.onces.begin(thread, lock, call);
+        self.answers[thread] = None;
+    }
+
+    /// A thread makes a step of its call at a lock.
+    fn go_lock(&mut self, thread: usize, fair: bool)
+        requires there { is_in_once self.old thread ≡ false }
+        requires allowed { may_go self.old thread ≡ true }
+        ensures gone { IsGone false thread fair self.old self.new }
+        ensures kinds { self.new.kinds ≡ self.old.kinds }
+    {
+        let call = self.rows.call(thread);
+        if let Some(answer) = self.rows.step(thread, fair) {
+            self.answers[thread] = Some(LockAnswer::said(call, answer));
+        }
+    }
+
+    /// A thread makes a step of its call at a once.
+    fn go_once(&mut self, thread: usize, fair: bool)
+        requires there { is_in_once self.old thread ≡ true }
+        requires allowed { may_go self.old thread ≡ true }
+        ensures gone { IsGone true thread fair self.old self.new }
+        ensures kinds { self.new.kinds ≡ self.old.kinds }
+    {
+        let _ = fair;
+        if let Some(reply) = self.onces.step(thread) {
+            self.answers[thread] = Some(LockAnswer::of_reply(reply));
+        }
+    }
+
+    /// A thread's deadline comes.
+    fn expire(&mut self, thread: usize)
+        requires allowed { rows.may_expire (state self.old.rows) thread ≡ true }
+        ensures late { IsLate thread self.old self.new }
+        ensures kinds { self.new.kinds ≡ self.old.kinds }
+    {
+        self.rows.deadline(thread);
+    }
+
+    /// A thread begins a call.
+    fn ask(&mut self, thread: usize, lock: usize, call: Asked)
+        requires allowed { may_ask self.old thread lock call ≡ true }
+        ensures asked { IsAsked thread lock call self.old self.new }
+        ensures answers { self.new.answers ≡ slice_set self.old.answers thread None }
+        ensures kinds { self.new.kinds ≡ self.old.kinds }
+    {
+        match call {
+            Asked::OfLock(call) => self.ask_lock(thread, lock, call),
+            Asked::OfOnce(call) => self.ask_once(thread, lock, call),
+        }
+    }
+
+    /// A thread makes a step of its call.
+    fn go(&mut self, thread: usize, fair: bool)
+        requires allowed { may_go self.old thread ≡ true }
+        ensures gone { IsGone (is_in_once self.old thread) thread fair self.old self.new }
+        ensures kinds { self.new.kinds ≡ self.old.kinds }
+    {
+        if self.is_in_once(thread) {
+            self.go_once(thread, fair);
+        } else {
+            self.go_lock(thread, fair);
+        }
+    }
+
+    /// Makes a step.
+    fn make(&mut self, step: WorldStep)
+        requires allowed { may_make self.old step ≡ true }
+        ensures { IsMade step self.old self.new }
+    {
+        match step {
+            WorldStep::Begin(thread, lock, call) => self.ask(thread, lock, call.asked()),
+            WorldStep::Go(thread, fair) => self.go(thread, fair),
+            WorldStep::Deadline(thread) => self.expire(thread),
+        }
+    }
+
+    /// Makes a step, or says why not.
+    fn make_step(&mut self, step: WorldStep) -> Result<(), WorldRefusal>
+        ensures made { MatchResult result
+            (λ _. (refusal self.old step ≡ None) × IsMade step self.old self.new)
+            (λ fault. (self.new ≡ self.old) × (refusal self.old step ≡ Some fault)) }
+        ensures lasts { DoneStays self.old self.new }
+    {
+        self.onces.known();
+        what_is_done_stays_done();
+        if step.thread() >= self.answers.len() {
+            return Err(WorldRefusal::NoSuchThread);
+        }
+        if !self.may_make(step) {
+            return Err(WorldRefusal::CannotMove);
+        }
+        self.make(step);
+        Ok(())
+    }
+
+    /// Makes the steps, one after another, up to the first that is refused.
+    fn make_steps(&mut self, steps: &[WorldStep]) -> Result<(), WorldFault>
+        ensures ran { Ran self.old (take (steps_done result (length steps.now)) steps.now) self.new }
+        ensures refused { IfErr result (λ fault. (step : _) × (slice_get steps.now fault.done ≡ Some step) × (refusal self.new step ≡ Some fault.fault)) }
+        ensures lasts { DoneStays self.old self.new }
+    {
+        let mut done = 0;
+        for step in steps {
+            if let Err(fault) = self.make_step(*step) {
+                return Err(WorldFault { done, fault });
+            }
+            done += 1;
+        }
+        Ok(())
+    }
+
+    /// Makes the steps, one after another, up to the first that is refused. It takes no memory.
+    ///
+    /// Each is a step of the rules of the lock or once that the thread's call is at, and after it each is still sound.
+    ///
+    /// # Errors
+    ///
+    /// The steps before the refused one are done, and the fault has their number. The refused one changes nothing, and the steps behind it
+    /// aren't tried. `NoSuchThread` where the world doesn't have the thread; else `CannotMove` where the step isn't allowed now:
+    ///
+    /// - `Begin` where the thread is in a call, the world has no such lock or it is of another kind, or the call gives up what the thread
+    ///   doesn't own or asks for a lock that it owns, but for a reader of a recursive lock that reads again and has fewer than 255 holds;
+    /// - `Go` where the thread is in no call, sleeps, or is before a section while one is open;
+    /// - `Deadline` where the thread doesn't sleep in its list in a timed call, or its deadline has come before.
+    pub fn run(&mut self, steps: &[WorldStep]) -> Result<(), WorldFault>
+        ensures ran { Ran self.old (take (steps_done result (length steps.now)) steps.now) self.new }
+        ensures refused { IfErr result (λ fault. (step : _) × (slice_get steps.now fault.done ≡ Some step) × (refusal self.new step ≡ Some fault.fault)) }
+        ensures promises { IsSoundWorld self.new }
+        ensures lasts { DoneStays self.old self.new }
+    {
+        let result = self.make_steps(steps);
+        self.known();
+        result
+    }
+}
