@@ -1,5 +1,5 @@
 -- Each step of a world is a case at one lock, or a step of the rules at one once, and leaves all others as they were; and it is paid for.
-use Rattle.std.proofs.Common.{◌≡◌, ◌≢◌, ◌+◌, ◌≤◌, ℕ, Bool, true, false, cond, not, ◌&&◌, Option, Some, None, slice_get, refl, sym, ap, ◌∙◌, subst, arith}
+use Rattle.std.proofs.Common.{◌≡◌, ◌+◌, ◌≤◌, ℕ, Bool, true, false, cond, Option, slice_get, sym, ap, ◌∙◌, subst, arith}
 use Rattle.std.specs.Option.{option_map_or}
 use Rattle.parking_lot_once_rules.specs.Once.{Step}
 use Rattle.parking_lot_once_world.specs.OnceSteps.{IsLawful}

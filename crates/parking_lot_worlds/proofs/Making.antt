@@ -1,13 +1,11 @@
 -- A new world is whole.
-use Rattle.std.proofs.Common.{◌≡◌, ℕ, zero, suc, inl, map, length, replicate, Option, Some, None, slice_get, refl, sym, ap, ◌∙◌}
+use Rattle.std.proofs.Common.{◌≡◌, ℕ, zero, suc, inl, map, length, replicate, Option, None, slice_get, refl, sym, ap, ◌∙◌}
 use Rattle.std.specs.Option.{option_and_then}
-use Rattle.std.proofs.lemmas.List.{length-map, length-replicate}
+use Rattle.std.proofs.lemmas.List.{length-replicate}
 use Rattle.std.proofs.lemmas.Option.{none-some}
-use Rattle.parking_lot_once_world.specs.declared.open_call.OpenCall.{OpenCall}
 use Rattle.parking_lot_once_world.specs.OnceActs as once
 use Rattle.parking_lot_once_world.specs.Onces.{Onces}
 use Rattle.parking_lot_once_world.specs.Onces as onces
-use Rattle.parking_lot_world.specs.declared.open_call.Call.{Call}
 use Rattle.parking_lot_world.specs.Machines as rows
 use Rattle.parking_lot_world.specs.Rows.{State, call_at, state}
 use Rattle.parking_lot_worlds.specs.WorldCalls.{row_kind}

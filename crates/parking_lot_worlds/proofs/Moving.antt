@@ -1,8 +1,6 @@
 -- In a world somebody can move.
-use Rattle.std.proofs.Common.{◌≡◌, ◌⊎◌, ◌<◌, ℕ, inl, inr, Bool, true, false, not, cond, ◌&&◌, ◌||◌, is_some, is_none, Option, Some, None, refl, sym, ap, ◌∙◌, subst}
+use Rattle.std.proofs.Common.{◌≡◌, ℕ, inl, inr, Bool, true, false, cond, ◌||◌, is_some, is_none, Option, Some, None, refl, sym, ap, ◌∙◌}
 use Rattle.std.specs.Option.{option_map_or}
-use Rattle.std.proofs.lemmas.Option.{none-some}
-use Rattle.parking_lot_core_lot.specs.declared.place.Place.{Place}
 use Rattle.parking_lot_core_lot.specs.declared.place.Section.{Section}
 use Rattle.parking_lot_core_lot.specs.Places.{place_at}
 use Rattle.parking_lot_once_protocol.specs.declared.once_phase.OncePhase.{OncePhase}
@@ -25,13 +23,13 @@ use Rattle.parking_lot_world.specs.declared.seat.LatePhase.{LatePhase}
 use Rattle.parking_lot_world.specs.declared.seat.QueuePosition.{QueuePosition}
 use Rattle.parking_lot_world.specs.Machines as rows
 use Rattle.parking_lot_world.specs.Machines.{can_move, can_move_in, goes_late, is_possible, is_taken}
-use Rattle.parking_lot_world.specs.RowFits.{FitsTogether, IsOutside, Seated, Stands}
+use Rattle.parking_lot_world.specs.RowFits.{FitsTogether, Seated, Stands}
 use Rattle.parking_lot_world.specs.Rows.{State, call_at, state}
 use Rattle.parking_lot_world.specs.SoundLaws as row_laws
 use Rattle.parking_lot_world.specs.Stances.{Doing, In, Stance, core_act, mutex_stance, rw_stance, stance}
 use Rattle.parking_lot_world.specs.Stances as stances
 use Rattle.parking_lot_worlds.specs.WorldLaws.{Moves, SomebodyCanMove}
-use Rattle.parking_lot_worlds.specs.Worlds.{IsWhole, Shown, Side, core_enters, goes, is_entry, is_in_once, lock_enters, may_go, once_enters, once_side, row_side}
+use Rattle.parking_lot_worlds.specs.Worlds.{IsWhole, Shown, core_enters, goes, is_entry, is_in_once, lock_enters, may_go, once_enters, once_side, row_side}
 use Rattle.parking_lot_worlds.proofs.Sides.{IsOrderly, somebody_goes}
 
 -- AN ACT THAT IS NEITHER A SLEEP NOR AN ENTRY

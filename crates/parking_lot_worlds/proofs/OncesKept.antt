@@ -1,6 +1,6 @@
 -- What a step of the machine of onces leaves as it was: who is in a call at which once, how many there are, and that no section is open, where it
 -- enters none.
-use Rattle.std.proofs.Common.{◌≡◌, ℕ, Bool, true, false, length, Option, Some, None, option_map, slice_set, refl, sym, ap, ◌∙◌, subst}
+use Rattle.std.proofs.Common.{◌≡◌, ℕ, Bool, false, length, Option, Some, None, refl, sym, ap, ◌∙◌, subst}
 use Rattle.std.specs.List.{position}
 use Rattle.std.proofs.lemmas.List.{length-set}
 use Rattle.parking_lot_protocol.specs.declared.act.Act.{Act}
@@ -9,7 +9,7 @@ use Rattle.parking_lot_once_protocol.specs.declared.once_phase.OnceAnswer.{OnceA
 use Rattle.parking_lot_once_protocol.specs.OnceTable.{act_of, answer_of}
 use Rattle.parking_lot_once_world.specs.declared.calls.OnceReply.{OnceReply}
 use Rattle.parking_lot_once_world.specs.Entries.{is_in}
-use Rattle.parking_lot_once_world.specs.OnceActs.{acted, ended_by, inside_after, off_list, stepped, told, took_by, with_call, woke_by, woken}
+use Rattle.parking_lot_once_world.specs.OnceActs.{acted, ended_by, inside_after, off_list, stepped, took_by, with_call, woke_by, woken}
 use Rattle.parking_lot_once_world.specs.OnceSteps.{IsStepped}
 use Rattle.parking_lot_once_world.specs.declared.open_call.OpenCall.{OpenCall}
 use Rattle.parking_lot_once_world.specs.Onces.{Onces, call_at}

@@ -1,5 +1,5 @@
 -- All that is promised of a world, and what is done stays done there.
-use Rattle.std.proofs.Common.{◌≡◌, ◌≢◌, ◌+◌, ◌*◌, ◌≤◌, ℕ, Bool, true, false, cond, length, Option, Some, None, slice_get, refl, sym, ap, ◌∙◌, subst, arith}
+use Rattle.std.proofs.Common.{◌≡◌, ◌*◌, ◌≤◌, ℕ, Bool, true, false, cond, None, slice_get, refl, sym, ap, ◌∙◌, subst, arith}
 use Rattle.std.specs.Option.{option_map_or}
 use Rattle.std.proofs.lemmas.Option.{none-some}
 use Rattle.parking_lot_once_rules.specs.declared.once_state.OnceState.TheVariants.{Done}
@@ -8,7 +8,6 @@ use Rattle.parking_lot_once_world.specs.OnceMachineLasting as lasting
 use Rattle.parking_lot_once_world.specs.OnceMachineLaws as once_laws
 use Rattle.parking_lot_once_world.specs.OnceRanks as once_ranks
 use Rattle.parking_lot_once_world.specs.Onces.{Onces, once_at}
-use Rattle.parking_lot_world.specs.declared.calls.OwnMode.{OwnMode}
 use Rattle.parking_lot_world.specs.Ranks as row_ranks
 use Rattle.parking_lot_world.specs.RowFits.{FitsTogether}
 use Rattle.parking_lot_world.specs.Rows.{lock_at, state}
@@ -18,7 +17,7 @@ use Rattle.parking_lot_world.specs.Worlds.{mode_in}
 use Rattle.parking_lot_worlds.specs.declared.calls.Asked.{Asked}
 use Rattle.parking_lot_worlds.specs.declared.step.WorldStep.{WorldStep}
 use Rattle.parking_lot_worlds.specs.WorldCalls.{asked, is_once}
-use Rattle.parking_lot_worlds.specs.WorldLaws.{DoneStays, IsDone, IsSoundWorld, OwnersAgree, StepsAreFew}
+use Rattle.parking_lot_worlds.specs.WorldLaws.{DoneStays, IsSoundWorld, OwnersAgree, StepsAreFew}
 use Rattle.parking_lot_worlds.specs.Worlds.{IsAsked, IsGone, IsMade, IsWhole, Shown, is_in_once, is_once_at, mode_at}
 use Rattle.parking_lot_worlds.proofs.Moving.{somebody_can_move}
 

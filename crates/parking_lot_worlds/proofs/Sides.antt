@@ -1,5 +1,5 @@
 -- Two machines side by side: where somebody could make a step in one of them, somebody can in both together.
-use Rattle.std.proofs.Common.{◌≡◌, ◌⊎◌, ℕ, inl, inr, Bool, true, false, not, ◌&&◌, refl, sym, ap, ◌∙◌}
+use Rattle.std.proofs.Common.{◌≡◌, ◌⊎◌, ℕ, inl, inr, Bool, true, false, not, ◌&&◌, refl}
 use Rattle.parking_lot_worlds.specs.Worlds.{Side, goes}
 
 -- whoever can make a step is in a call, and one in an open section can, and enters none

@@ -1,5 +1,5 @@
 -- A world stays whole, whatever step is made.
-use Rattle.std.proofs.Common.{◌≡◌, ◌⊎◌, ℕ, inl, inr, Bool, true, false, not, cond, ◌&&◌, ◌||◌, is_some, is_none, List, map, length, Option, Some, None, option_map, slice_get, slice_set, refl, sym, ap, ◌∙◌, subst, arith}
+use Rattle.std.proofs.Common.{◌≡◌, ◌⊎◌, ℕ, inl, inr, Bool, true, false, not, cond, ◌&&◌, is_some, is_none, List, map, length, Option, Some, None, slice_get, slice_set, refl, sym, ap, ◌∙◌, subst}
 use Rattle.std.specs.Option.{option_map_or}
 use Rattle.std.proofs.lemmas.List.{length-set}
 use Rattle.std.proofs.lemmas.Option.{none-some, same_Some}
@@ -19,7 +19,7 @@ use Rattle.parking_lot_worlds.specs.declared.calls.Asked.{Asked}
 use Rattle.parking_lot_worlds.specs.declared.calls.LockAnswer.{LockAnswer}
 use Rattle.parking_lot_worlds.specs.WorldCalls.{is_once, row_kind}
 use Rattle.parking_lot_worlds.specs.Worlds.{IsAsked, IsGone, IsLate, IsWhole, Shown, core_enters, goes, is_entry, is_in_once, is_once_at, may_ask, may_go, noted, once_side, row_side}
-use Rattle.parking_lot_worlds.proofs.Coming.{Stays, Was, next_stays, set_cases}
+use Rattle.parking_lot_worlds.proofs.Coming.{Was, next_stays, set_cases}
 use Rattle.parking_lot_worlds.proofs.RowsKept as of_rows
 use Rattle.parking_lot_worlds.proofs.RowsKept.{lock_of}
 use Rattle.parking_lot_worlds.proofs.OncesKept as of_onces

@@ -1,5 +1,5 @@
 -- What holds of a world at every moment, and what each of its steps is to the locks and onces of the rules.
-use Rattle.std.specs.Prelude.{◌≡◌, ◌≢◌, ◌⊎◌, ℕ, ◌+◌, ◌*◌, ◌≤◌, ◌<◌, Bool, true, false, if◌then◌else◌, length, Option, Some}
+use Rattle.std.specs.Prelude.{◌≡◌, ◌≢◌, ◌⊎◌, ℕ, ◌+◌, ◌*◌, ◌≤◌, Bool, true, if◌then◌else◌, length, Option, Some}
 use Rattle.parking_lot_once_rules.specs.declared.once_state.OnceState.TheVariants.{Done}
 use Rattle.parking_lot_once_rules.specs.Once.{Once, Step}
 use Rattle.parking_lot_once_world.specs.OnceFits.{Fits}
@@ -12,7 +12,6 @@ use Rattle.parking_lot_once_world.specs.Onces.{once_at}
 use Rattle.parking_lot_once_world.specs.Onces as onces
 use Rattle.parking_lot_rules.specs.Any.{AnyLock}
 use Rattle.parking_lot_world.specs.declared.calls.OwnMode.{OwnMode}
-use Rattle.parking_lot_world.specs.declared.calls.OwnMode.TheVariants as mode
 use Rattle.parking_lot_world.specs.declared.open_call.Call.{Call}
 use Rattle.parking_lot_world.specs.Kinds.{recursive_in}
 use Rattle.parking_lot_world.specs.Machines.{is_asleep}

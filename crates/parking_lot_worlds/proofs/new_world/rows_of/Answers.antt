@@ -1,5 +1,4 @@
 use Rattle.std.proofs.Common.{◌++◌, ◌∷◌, [], length, map, take, slice_index_or, sym, ap, ◌∙◌, arith}
-use Rattle.std.specs.Prelude.{vec_capacity}
 use Rattle.std.proofs.lemmas.List.{length_push, take_more, take_all, map-append}
 use Rattle.parking_lot_worlds.specs.declared.calls.LockKind.{LockKind}
 use Rattle.parking_lot_worlds.specs.WorldCalls.{row_kind}

@@ -1,5 +1,4 @@
-use Rattle.std.proofs.Common.{◌≡◌, ◌∙◌, None, Some, false, true, ap, refl, slice_set, subst, sym}
-use Rattle.parking_lot_worlds.specs.WorldCalls.{said}
+use Rattle.std.proofs.Common.{◌≡◌, None, Some, true, ap, refl, slice_set, subst, sym}
 use Rattle.parking_lot_worlds.specs.Worlds.{Shown, is_in_once, may_go}
 use Rattle.parking_lot_worlds.proofs.Whole.{gone_whole}
 use Rattle.parking_lot_worlds.proofs.world.World.go_once.Goals as goal
