@@ -15,7 +15,6 @@ mod Serving
 mod Spinning
 mod Bounding
 mod Queueing
-mod Promising
 mod Moves
 mod Cases
 mod Indebting
@@ -26,7 +25,6 @@ pub mod RwMoving
 pub mod RwTaking
 pub mod Carrying
 pub mod Indexing
-pub mod Listing
 pub mod LotActs
 pub mod LotLists
 pub mod RwWaking
@@ -43,8 +41,6 @@ pub mod Viewing
 pub mod FirstTaken
 pub mod LotStarts
 pub mod ScanRoom
-pub mod Scheduling
-pub mod Seating
 pub mod RwKeeping
 pub mod RwCrossing
 mod Starting

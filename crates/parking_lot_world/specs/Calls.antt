@@ -1,19 +1,11 @@
 -- What calls are about: of which locks they can be asked, and what their callers have to own.
-use Rattle.std.specs.Prelude.{ℕ, Bool, true, false, Option, Some, None}
-use Rattle.parking_lot_protocol.specs.declared.act.CoreAnswer.{CoreAnswer}
-use Rattle.parking_lot_protocol.specs.declared.act.CoreAnswer.TheVariants as from_core
+use Rattle.std.specs.Prelude.{Bool, true, false, Option, Some, None}
 use Rattle.parking_lot_world.specs.declared.calls.LockKind.{LockKind}
 use Rattle.parking_lot_world.specs.declared.calls.LockCall.{LockCall}
 use Rattle.parking_lot_world.specs.declared.calls.LockCall.TheVariants as call
-use Rattle.parking_lot_world.specs.declared.calls.LockAnswer.{LockAnswer}
-use Rattle.parking_lot_world.specs.declared.calls.LockAnswer.TheVariants as answer
 use Rattle.parking_lot_world.specs.declared.calls.OwnMode.{OwnMode}
 use Rattle.parking_lot_world.specs.declared.calls.OwnMode.TheVariants as mode
-use Rattle.parking_lot_world.specs.declared.seat.Core.{Core}
-use Rattle.parking_lot_world.specs.declared.seat.Core.TheVariants as core
-use Rattle.parking_lot_world.specs.declared.step.WorldStep.{WorldStep}
 use Rattle.parking_lot_world.specs.Kinds.{Manner, AsMutex, AsRw, manner_of, is_manner}
-use Rattle.parking_lot_world.specs.declared.step.WorldStep.TheVariants as step
 
 abbrev pub manner_for : LockCall → Manner
 manner_for call.Lock = AsMutex
@@ -50,19 +42,3 @@ given_up call.Downgrade = Some mode.Exclusive
 abbrev pub is_timed : LockCall → Bool
 is_timed call.LockUntil = true
 is_timed c = false
-
-abbrev pub answer_of : CoreAnswer → LockAnswer
-answer_of from_core.Owned = answer.Owned
-answer_of from_core.Refused = answer.Refused
-answer_of from_core.Released = answer.Released
-
--- a call whose moment has passed ends as one that has given up
-abbrev pub answer_by : Core → CoreAnswer → LockAnswer
-answer_by (core.Late p) a = answer.TimedOut
-answer_by k a = answer_of a
-
--- who makes a step
-abbrev pub step_thread : WorldStep → ℕ
-step_thread (step.Begin thread lock call) = thread
-step_thread (step.Go thread fair) = thread
-step_thread (step.Deadline thread) = thread

@@ -14,7 +14,6 @@ pub mod StanceLaws
 pub mod LotLaws
 pub mod RwLaws
 pub mod MutexLaws
-pub mod Faults
 pub mod Calls
 pub mod CallViews
 pub mod FrontTakings

@@ -1,11 +1,8 @@
-//! What threads ask of the locks of a world.
+//! What threads ask of the locks of a machine.
 ghost use Rattle.std.specs.Prelude.{◌≡◌};
 ghost use Rattle.std.specs.Prelude.{Some};
-ghost use Rattle.parking_lot_world.specs.Calls.{answer_by, answer_of, is_timed, given_up, manner_for, takes};
+ghost use Rattle.parking_lot_world.specs.Calls.{is_timed, given_up, manner_for, takes};
 ghost use Rattle.parking_lot_world.specs.Kinds.{is_manner, AsMutex};
-
-use crate::seat::Core;
-use parking_lot_protocol::CoreAnswer;
 
 /// The kind of a lock.
 #[derive(Clone, Copy, PartialEq, Eq, Debug)]
@@ -60,19 +57,6 @@ pub enum OwnMode {
     Upgradable,
 }
 
-/// How a call ended.
-#[derive(Clone, Copy, PartialEq, Eq, Debug)]
-pub enum LockAnswer {
-    /// The thread owns the lock as it asked for it; after a downgrade as a reader.
-    Owned,
-    /// A try found the lock taken.
-    Refused,
-    /// The thread owns the lock no more.
-    Released,
-    /// The deadline came first, and the thread has given up. It owns nothing.
-    TimedOut,
-}
-
 impl LockKind {
     /// Whether a lock of this kind can be asked so.
     pub fn takes(&self, call: LockCall) -> bool
@@ -122,29 +106,6 @@ impl LockCall {
         match self {
             LockCall::LockUntil => true,
             _ => false,
-        }
-    }
-}
-
-impl LockAnswer {
-    /// What a thread is answered whose call ends so at that core.
-    pub(crate) fn by(core: Core, answer: CoreAnswer) -> LockAnswer
-        ensures { result ≡ answer_by core answer }
-    {
-        match core {
-            Core::Late(_) => LockAnswer::TimedOut,
-            _ => LockAnswer::of_core(answer),
-        }
-    }
-
-    /// What a thread is answered where its core says so.
-    pub(crate) fn of_core(answer: CoreAnswer) -> LockAnswer
-        ensures { result ≡ answer_of answer }
-    {
-        match answer {
-            CoreAnswer::Owned => LockAnswer::Owned,
-            CoreAnswer::Refused => LockAnswer::Refused,
-            CoreAnswer::Released => LockAnswer::Released,
         }
     }
 }

@@ -1,11 +1,10 @@
-//! Worlds of locks: threads' calls at locks, one atomic step at a time, by any schedule.
+//! The machine of locks: threads' calls at them, one atomic step at a time, in any order.
 #![tactic(auto)]
 
 mod acts;
 mod advance;
 mod call_views;
 mod calls;
-mod fault;
 mod late_acts;
 mod late_laws;
 pub mod laws;
@@ -21,15 +20,11 @@ mod rw_laws;
 mod seat;
 mod sound_laws;
 mod starts;
-mod step;
 mod take_laws;
 mod tell_laws;
 mod view_laws;
-mod world;
-mod world_views;
 
-pub use calls::{LockAnswer, LockCall, LockKind, OwnMode};
-pub use fault::{WorldFault, WorldRefusal};
+pub use calls::{LockCall, LockKind, OwnMode};
 pub use open_call::Call;
 pub use parking_lot_protocol::{
     Act, ActResult, CoreAnswer, HAND_OVER, MutexCore, RwCore, SectionAct, TRY_AGAIN, WordChange,
@@ -37,5 +32,3 @@ pub use parking_lot_protocol::{
 };
 pub use row_machine::RowMachine;
 pub use seat::{Core, Hold, LatePhase, QueuePosition, WakeResult, Wakeup};
-pub use step::WorldStep;
-pub use world::World;

@@ -8,3 +8,4 @@ pub mod Moving
 pub mod Casing
 pub mod Making
 pub mod Promising
+pub mod Listing

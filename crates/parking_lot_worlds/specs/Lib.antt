@@ -1,3 +1,4 @@
+pub mod Faults
 pub mod WorldCalls
 pub mod Worlds
 pub mod WorldLaws

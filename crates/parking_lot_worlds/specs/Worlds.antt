@@ -1,5 +1,5 @@
 -- What a world of locks and onces consists of, which steps of a schedule it makes, and what is seen of it.
-use Rattle.std.specs.Prelude.{◌≡◌, ◌⊎◌, ℕ, ◌/◌, ◌*◌, ◌==◌, Bool, true, false, not, ◌&&◌, ◌||◌, is_some, is_none, nat_lt, if◌then◌else◌, List, [], ◌∷◌, length, map, Option, Some, None, Result, Ok, Err, slice_get, slice_set}
+use Rattle.std.specs.Prelude.{◌≡◌, ◌⊎◌, ◌++◌, ℕ, zero, suc, ◌/◌, ◌*◌, ◌==◌, Bool, true, false, not, ◌&&◌, ◌||◌, is_some, is_none, nat_lt, if◌then◌else◌, List, [], ◌∷◌, length, map, Option, Some, None, Result, Ok, Err, slice_get, slice_set}
 use Rattle.std.specs.Option.{option_map, option_map_or}
 use Rattle.parking_lot_protocol.specs.declared.act.Act.{Act}
 use Rattle.parking_lot_protocol.specs.declared.act.Act.TheVariants as act
@@ -13,9 +13,9 @@ use Rattle.parking_lot_once_world.specs.OnceSteps as once_steps
 use Rattle.parking_lot_once_world.specs.declared.open_call.OpenCall.{OpenCall}
 use Rattle.parking_lot_once_world.specs.Onces.{Onces}
 use Rattle.parking_lot_once_world.specs.Onces as onces
-use Rattle.parking_lot_world.specs.declared.fault.WorldFault.{WorldFault}
-use Rattle.parking_lot_world.specs.declared.fault.WorldRefusal.{WorldRefusal}
-use Rattle.parking_lot_world.specs.declared.fault.WorldRefusal.TheVariants as refused
+use Rattle.parking_lot_worlds.specs.declared.fault.WorldFault.{WorldFault}
+use Rattle.parking_lot_worlds.specs.declared.fault.WorldRefusal.{WorldRefusal}
+use Rattle.parking_lot_worlds.specs.declared.fault.WorldRefusal.TheVariants as refused
 use Rattle.parking_lot_world.specs.declared.calls.OwnMode.{OwnMode}
 use Rattle.parking_lot_world.specs.declared.open_call.Call.{Call}
 use Rattle.parking_lot_world.specs.declared.seat.Core.{Core}
@@ -162,6 +162,20 @@ mode_at w i t = if is_once_at w i then None else of_locks.mode_in (row.lock_at (
 -- a once has the first of its two keys
 abbrev pub queue_at : Shown → ℕ → List ℕ
 queue_at w key = if is_once_at w (key / 2) then (if key == 2 * (key / 2) then list_of w.onces.waiting (key / 2) else []) else row.queue_at (state w.rows) key
+
+-- of so many threads those that own, and how, in the order of their numbers
+abbrev pub entry : ℕ → Option OwnMode → List (ℕ × OwnMode)
+entry t None = []
+entry t (Some m) = (t, m) ∷ []
+
+abbrev pub owners_below : (ℕ → Option OwnMode) → ℕ → List (ℕ × OwnMode)
+owners_below mode_of zero = []
+owners_below mode_of (suc n) = owners_below mode_of n ++ entry n (mode_of n)
+
+-- of so many threads those that pass a test, in the order of their numbers
+abbrev pub those_below : (ℕ → Bool) → ℕ → List ℕ
+those_below test zero = []
+those_below test (suc n) = those_below test n ++ (if test n then n ∷ [] else [])
 
 abbrev pub is_indebted : Shown → ℕ → Bool
 is_indebted w t = once_debts.is_in_debt w.onces t || of_locks.is_indebted (state w.rows) t

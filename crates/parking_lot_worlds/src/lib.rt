@@ -3,6 +3,7 @@
 
 mod allowed;
 mod calls;
+mod fault;
 pub mod laws;
 mod new_world;
 mod step;
@@ -10,8 +11,9 @@ mod world;
 mod world_views;
 
 pub use calls::{Asked, LockAnswer, LockCall, LockKind};
+pub use fault::{WorldFault, WorldRefusal};
 pub use parking_lot_core_lot::SizeFault;
 pub use parking_lot_once_world::{OnceCall, OnceMachine, OnceReply, OnceState};
-pub use parking_lot_world::{OwnMode, RowMachine, WorldFault, WorldRefusal};
+pub use parking_lot_world::{OwnMode, RowMachine};
 pub use step::WorldStep;
 pub use world::World;

@@ -7,12 +7,11 @@ ghost use Rattle.parking_lot_worlds.specs.WorldLaws.{DoneStays, IsSoundWorld};
 ghost use Rattle.parking_lot_worlds.specs.Worlds.{IsAsked, IsGone, IsLate, IsMade, IsWhole, Ran, is_in_once, may_ask, may_go, may_make, refusal, steps_done};
 
 use crate::calls::{Asked, LockAnswer, LockKind};
+use crate::fault::{WorldFault, WorldRefusal};
 use crate::step::WorldStep;
 use parking_lot_once_world::laws::what_is_done_stays_done;
 use parking_lot_once_world::{OnceCall, OnceMachine};
-use parking_lot_world::{
-    LockCall as RowCall, RowMachine, WorldFault, WorldRefusal, laws as of_locks,
-};
+use parking_lot_world::{LockCall as RowCall, RowMachine, laws as of_locks};
 use std::alloc::{Allocator, Global};
 use std::marker::Model;
 

@@ -2,8 +2,7 @@
 ghost use Rattle.std.specs.Prelude.{◌≡◌, length, slice_get, IfErr, IfOk};
 ghost use Rattle.std.specs.Option.{option_and_then};
 ghost use Rattle.parking_lot_core_lot.specs.declared.fault.SizeFault.TheVariants.{NoMemory};
-ghost use Rattle.parking_lot_world.specs.Worlds.{owners_below, those_below};
-ghost use Rattle.parking_lot_worlds.specs.Worlds.{is_indebted, mode_at, queue_at, word_at};
+ghost use Rattle.parking_lot_worlds.specs.Worlds.{is_indebted, mode_at, owners_below, queue_at, those_below, word_at};
 
 use crate::calls::{LockAnswer, LockKind};
 use crate::world::World;

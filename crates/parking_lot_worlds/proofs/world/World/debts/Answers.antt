@@ -1,7 +1,7 @@
 use Rattle.std.proofs.Common.{◌++◌, ◌∷◌, [], length, sym, ap, ◌∙◌, arith}
 use Rattle.std.specs.Prelude.{vec_capacity}
 use Rattle.std.proofs.lemmas.List.{length_push}
-use Rattle.parking_lot_world.proofs.Listing.{those_more, those_same}
+use Rattle.parking_lot_worlds.proofs.Listing.{those_more, those_same}
 use Rattle.parking_lot_worlds.specs.Worlds.{is_indebted}
 use Rattle.parking_lot_worlds.proofs.world.World.debts.Goals.{then-is_in_debt, else-is_in_debt}
 use Rattle.parking_lot_worlds.proofs.world.World.debts.Goals as goal

@@ -1,6 +1,6 @@
 use Rattle.std.proofs.Common.{◌≡◌, ◌≤◌, length}
 use Rattle.std.specs.Prelude.{vec_capacity}
-use Rattle.parking_lot_world.specs.Worlds.{those_below}
+use Rattle.parking_lot_worlds.specs.Worlds.{those_below}
 use Rattle.parking_lot_worlds.specs.Worlds.{is_indebted}
 use Rattle.parking_lot_worlds.proofs.world.World.debts.Given as goal
 

@@ -1,7 +1,7 @@
 use Rattle.std.proofs.Common.{◌++◌, ◌∷◌, [], length, sym, ap, ◌∙◌, arith}
 use Rattle.std.specs.Prelude.{vec_capacity}
 use Rattle.std.proofs.lemmas.List.{length_push}
-use Rattle.parking_lot_world.proofs.Listing.{owner_more, owner_same}
+use Rattle.parking_lot_worlds.proofs.Listing.{owner_more, owner_same}
 use Rattle.parking_lot_worlds.specs.Worlds.{mode_at}
 use Rattle.parking_lot_worlds.proofs.world.World.owners.Goals.{in-Some, in_default}
 use Rattle.parking_lot_worlds.proofs.world.World.owners.Goals as goal

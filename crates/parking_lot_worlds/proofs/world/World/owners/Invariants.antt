@@ -1,6 +1,6 @@
 use Rattle.std.proofs.Common.{◌≡◌, ◌≤◌, length}
 use Rattle.std.specs.Prelude.{vec_capacity}
-use Rattle.parking_lot_world.specs.Worlds.{owners_below}
+use Rattle.parking_lot_worlds.specs.Worlds.{owners_below}
 use Rattle.parking_lot_worlds.specs.Worlds.{mode_at}
 use Rattle.parking_lot_worlds.proofs.world.World.owners.Given as goal
 

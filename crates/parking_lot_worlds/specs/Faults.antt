@@ -1,7 +1,7 @@
 -- What the refusals of a run are called and numbered.
 use Rattle.std.specs.Prelude.{ℕ, List, codes}
-use Rattle.parking_lot_world.specs.declared.fault.WorldRefusal.{WorldRefusal}
-use Rattle.parking_lot_world.specs.declared.fault.WorldRefusal.TheVariants.{NoSuchThread, CannotMove}
+use Rattle.parking_lot_worlds.specs.declared.fault.WorldRefusal.{WorldRefusal}
+use Rattle.parking_lot_worlds.specs.declared.fault.WorldRefusal.TheVariants.{NoSuchThread, CannotMove}
 
 -- the number of a refusal
 abbrev pub refusal_code : WorldRefusal → ℕ

@@ -2,7 +2,7 @@
 use Rattle.std.proofs.Common.{◌≡◌, ℕ, suc, ◌+◌, Bool, true, false, [], ◌∷◌, ◌++◌, Option, None, Some, ap, sym, ◌∙◌, arith, if◌then◌else◌}
 use Rattle.std.proofs.lemmas.List.{append-nil}
 use Rattle.parking_lot_world.specs.declared.calls.OwnMode.{OwnMode}
-use Rattle.parking_lot_world.specs.Worlds.{entry, owners_below, those_below}
+use Rattle.parking_lot_worlds.specs.Worlds.{entry, owners_below, those_below}
 
 next : (n : ℕ) → n + 1 ≡ suc n
 next n = omega arith

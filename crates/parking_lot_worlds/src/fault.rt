@@ -1,6 +1,6 @@
 //! Why a run stops.
 ghost use Rattle.std.specs.Prelude.{◌≡◌};
-ghost use Rattle.parking_lot_world.specs.Faults.{refusal_code};
+ghost use Rattle.parking_lot_worlds.specs.Faults.{refusal_code};
 
 use std::error::Error;
 use std::fmt;
@@ -28,7 +28,7 @@ impl WorldRefusal {
 
 impl fmt::Display for WorldRefusal {
     ghost use Rattle.std.specs.Prelude.{Some};
-    ghost use Rattle.parking_lot_world.specs.Faults.{refusal_name};
+    ghost use Rattle.parking_lot_worlds.specs.Faults.{refusal_name};
 
     ghost output = { λ refusal. Some (refusal_name refusal) };
 
@@ -62,7 +62,7 @@ impl WorldFault {
 
 impl fmt::Display for WorldFault {
     ghost use Rattle.std.specs.Prelude.{Some};
-    ghost use Rattle.parking_lot_world.specs.Faults.{refusal_name};
+    ghost use Rattle.parking_lot_worlds.specs.Faults.{refusal_name};
 
     ghost output = { λ fault. Some (refusal_name fault.fault) };
 
