@@ -1,16 +1,10 @@
-//! Tests of worlds of locks, for what no clause of them says: schedules worked by hand and all those of two threads, calls told one
-//! thing after another, the printed text, and heaps that are full.
+//! Tests of the machine of locks, for what no clause of it says: calls told one thing after another, which calls are refused to whom, and the
+//! machine step by step.
 #![tactic(auto)]
 
 #[cfg(test)]
 mod calls;
 #[cfg(test)]
-mod heaps;
-#[cfg(test)]
 mod machine;
 #[cfg(test)]
 mod refusals;
-#[cfg(test)]
-mod schedules;
-#[cfg(test)]
-mod worlds;

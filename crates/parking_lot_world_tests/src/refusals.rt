@@ -1,8 +1,7 @@
-//! What calls are refused, and how refusals are named.
+//! Which calls are refused to whom.
 
-use parking_lot_world::{Hold, LockCall, LockKind, WorldFault, WorldRefusal};
+use parking_lot_world::{Hold, LockCall, LockKind};
 use std::process::Abort;
-use std::test::Fail;
 
 /// Whether a reader, an owner and who owns nothing may ask that of such a lock.
 fn may_ask(kind: LockKind, call: LockCall) -> [bool; 3] {
@@ -51,26 +50,4 @@ fn readers_of_a_recursive_lock_read_again(rt: HostRuntime) {
     let most = Hold::Shares(254).allows(LockKind::RwRecursive, LockCall::Read);
     let more = Hold::Shares(255).allows(LockKind::RwRecursive, LockCall::Read);
     assert!(rt; most & !more, "255 holds");
-}
-
-#[test]
-fn refusals_have_codes_and_names(rt: HostRuntime) -> Result<(), Fail> {
-    let table = [
-        (WorldRefusal::NoSuchThread, 61, "NoSuchThread"),
-        (WorldRefusal::CannotMove, 62, "CannotMove"),
-    ];
-    for (refusal, code, name) in table {
-        let fault = WorldFault {
-            done: 3,
-            fault: refusal,
-        };
-        let text = format!(in rt.alloc(); "{refusal} {fault}")?;
-        let both = format!(in rt.alloc(); "{name} {name}")?;
-        let is_named = text.as_str() == both.as_str();
-        assert!(rt;
-            is_named & (refusal.code() == code) & (fault.code() == code),
-            "{name}"
-        );
-    }
-    Ok(())
 }

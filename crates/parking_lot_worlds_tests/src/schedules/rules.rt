@@ -3,10 +3,10 @@
 use super::program::{End, may_own, may_sleep};
 use super::shown::Shown;
 use super::state::{Progress, Snapshot, Stage, other};
-use parking_lot_world::{OwnMode, WorldStep};
+use parking_lot_worlds::{OwnMode, WorldStep};
 
 /// The first rule that doesn't hold.
-fn first_broken(rules: &[(bool, &'static str)]) -> Option<&'static str> {
+pub fn first_broken(rules: &[(bool, &'static str)]) -> Option<&'static str> {
     for (holds, rule) in rules {
         if !*holds {
             return Some(*rule);

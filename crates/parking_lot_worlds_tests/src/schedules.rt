@@ -1,13 +1,19 @@
-//! All schedules of two threads at one lock, each to its end.
+//! All schedules of some threads at one lock, each to its end.
 
 mod explorer;
+mod locks;
+mod once_threads;
+mod once_watch;
+mod onces;
+mod plain_once;
 mod program;
 mod rules;
 mod shown;
 mod state;
 
-use explorer::{Explorer, Found};
-use parking_lot_world::{LockCall, LockKind};
+use explorer::Explorer;
+use locks::LockWatch;
+use parking_lot_worlds::{LockCall, LockKind};
 use program::{End, Pair, Program};
 use std::process::Abort;
 use std::test::Fail;
@@ -15,7 +21,7 @@ use std::test::Fail;
 const ENDS: [End; 3] = [End::Served, End::Refused, End::Waits];
 
 /// How often the two end so.
-fn times(found: &Found, first: End, second: End) -> usize {
+fn times(found: &LockWatch, first: End, second: End) -> usize {
     found
         .ends
         .iter()
@@ -24,7 +30,7 @@ fn times(found: &Found, first: End, second: End) -> usize {
 }
 
 /// The schedules of a pair end as they may, in each of those ways.
-fn ends_as_it_may(rt: &impl Abort, pair: Pair, found: &Found, first: End) {
+fn ends_as_it_may(rt: &impl Abort, pair: Pair, found: &LockWatch, first: End) {
     for second in ENDS {
         let is_found = times(found, first, second) > 0;
         let is_right = is_found == pair.may_end(first, second);
@@ -34,9 +40,11 @@ fn ends_as_it_may(rt: &impl Abort, pair: Pair, found: &Found, first: End) {
 
 /// Makes all schedules of a pair. Answers how many states there were.
 fn explore(rt: &(impl AllocGlobal + Abort), kind: LockKind, pair: Pair) -> Result<u64, Fail> {
-    let found = Explorer::explore(rt, kind, pair)?;
+    let watch = LockWatch::of(kind, pair, Vec::new(rt.alloc()));
+    let explorer = Explorer::explore(rt, watch)?;
+    let found = &explorer.watch;
     for first in ENDS {
-        ends_as_it_may(rt, pair, &found, first);
+        ends_as_it_may(rt, pair, found, first);
     }
     let waits = found.waited == pair.may_wait();
     let hands = found.handed == pair.may_hand();
@@ -44,7 +52,7 @@ fn explore(rt: &(impl AllocGlobal + Abort), kind: LockKind, pair: Pair) -> Resul
         waits & hands,
         "{pair:?}: waiting {waits} and handing over {hands} are as they may be"
     );
-    Ok(found.states)
+    Ok(explorer.states)
 }
 
 /// Makes all schedules of one program with each of those. Answers how many states there were.

@@ -1,7 +1,7 @@
 //! Each growth refused in turn, by heaps of all small sizes.
 use linked_list_allocator::LocalHeap;
 use parking_lot_core_lot::SizeFault;
-use parking_lot_world::{LockAnswer, LockCall, LockKind, World, WorldStep};
+use parking_lot_worlds::{LockAnswer, LockCall, LockKind, World, WorldStep};
 use std::alloc::{AllocError, Global};
 use std::test::Fail;
 

@@ -1,7 +1,7 @@
 //! Schedules worked by hand, with what is seen on the way.
 
 use parking_lot_core_lot::SizeFault;
-use parking_lot_world::{
+use parking_lot_worlds::{
     LockAnswer, LockCall, LockKind, OwnMode, World, WorldFault, WorldRefusal, WorldStep,
 };
 use std::process::Abort;
@@ -30,7 +30,7 @@ enum Line {
 }
 
 /// A thread goes on until its call is answered or it can't, 50 steps at most.
-fn go_on(world: &mut World, thread: usize, fair: bool) -> bool {
+pub fn go_on(world: &mut World, thread: usize, fair: bool) -> bool {
     for _ in 0..50 {
         if world.answer(thread).is_some() || world.run(&[WorldStep::Go(thread, fair)]).is_err() {
             return true;
@@ -40,19 +40,19 @@ fn go_on(world: &mut World, thread: usize, fair: bool) -> bool {
 }
 
 /// A thread makes a call, to its answer or its sleep. Answers whether it might.
-fn call(world: &mut World, thread: usize, call: LockCall, fair: bool) -> bool {
-    let is_begun = world.run(&[WorldStep::Begin(thread, 0, call)]).is_ok();
+pub fn call(world: &mut World, thread: usize, lock: usize, call: LockCall, fair: bool) -> bool {
+    let is_begun = world.run(&[WorldStep::Begin(thread, lock, call)]).is_ok();
     is_begun && go_on(world, thread, fair)
 }
 
-fn is_list(found: Result<Vec<usize>, SizeFault>, threads: &[usize]) -> bool {
+pub fn is_list(found: Result<Vec<usize>, SizeFault>, threads: &[usize]) -> bool {
     match found {
         Ok(found) => found.as_slice() == threads,
         Err(_) => false,
     }
 }
 
-fn are_owners(world: &World, lock: usize, owners: &[(usize, OwnMode)]) -> bool {
+pub fn are_owners(world: &World, lock: usize, owners: &[(usize, OwnMode)]) -> bool {
     match world.owners(lock) {
         Ok(found) => found.as_slice() == owners,
         Err(_) => false,
@@ -62,8 +62,8 @@ fn are_owners(world: &World, lock: usize, owners: &[(usize, OwnMode)]) -> bool {
 /// Does what a line says, or looks whether it is so. Answers whether it is.
 fn holds(world: &mut World, line: Line) -> bool {
     match line {
-        Line::Calls(thread, asked) => call(world, thread, asked, false),
-        Line::CallsFairly(thread, asked) => call(world, thread, asked, true),
+        Line::Calls(thread, asked) => call(world, thread, 0, asked, false),
+        Line::CallsFairly(thread, asked) => call(world, thread, 0, asked, true),
         Line::GoesOn(thread) => go_on(world, thread, false),
         Line::Expires(thread) => world.run(&[WorldStep::Deadline(thread)]).is_ok(),
         Line::NeverExpires(thread) => world.run(&[WorldStep::Deadline(thread)]) == NO_MOVE,
@@ -95,7 +95,7 @@ fn follow(
 }
 
 /// What a step is met by that isn't allowed.
-const NO_MOVE: Result<(), WorldFault> = Err(WorldFault {
+pub const NO_MOVE: Result<(), WorldFault> = Err(WorldFault {
     done: 0,
     fault: WorldRefusal::CannotMove,
 });
@@ -277,7 +277,7 @@ fn a_reader_has_at_most_255_holds(rt: HostRuntime) -> Result<(), Fail> {
     let mut world = World::new(rt.alloc(), 1, kinds)?;
     let mut is_served = true;
     for _ in 0..255 {
-        is_served = is_served && call(&mut world, 0, LockCall::Read, false);
+        is_served = is_served && call(&mut world, 0, 0, LockCall::Read, false);
     }
     let cannot = Err(WorldFault {
         done: 0,
@@ -293,7 +293,7 @@ fn a_reader_has_at_most_255_holds(rt: HostRuntime) -> Result<(), Fail> {
         "it is listed once"
     );
     for _ in 0..255 {
-        is_served = is_served && call(&mut world, 0, LockCall::UnlockRead, false);
+        is_served = is_served && call(&mut world, 0, 0, LockCall::UnlockRead, false);
     }
     assert!(rt; is_served & (world.word(0) == 0), "each is given up");
     Ok(())
@@ -312,7 +312,7 @@ fn is_refused(
     let refused = world.run(&other) == Err(WorldFault { done: 2, fault });
     assert!(rt; refused, "{name}");
     go_on(world, 2, false);
-    call(world, 2, LockCall::UnlockRead, false);
+    call(world, 2, 0, LockCall::UnlockRead, false);
 }
 
 #[test]

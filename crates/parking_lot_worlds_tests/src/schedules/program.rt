@@ -1,6 +1,6 @@
 //! What two threads call, and what has to come of it.
 
-use parking_lot_world::{LockAnswer, LockCall, OwnMode};
+use parking_lot_worlds::{LockAnswer, LockCall, OwnMode};
 
 /// The calls of a thread, one after another. It asks for the lock by the first; where that is refused, it calls no more.
 pub type Program = [Option<LockCall>; 3];
@@ -25,6 +25,8 @@ fn mode_before(call: LockCall) -> Option<OwnMode> {
         LockCall::Lock | LockCall::TryLock | LockCall::LockUntil => None,
         LockCall::Read | LockCall::TryRead => None,
         LockCall::Write | LockCall::TryWrite => None,
+        LockCall::CallOnce(_) | LockCall::CallOnceForce(_) => None,
+        LockCall::OnceWait | LockCall::OnceWaitForce => None,
     }
 }
 
@@ -36,6 +38,8 @@ pub fn mode_behind(call: LockCall) -> Option<OwnMode> {
         LockCall::Read | LockCall::TryRead => Some(OwnMode::Shared),
         LockCall::Downgrade => Some(OwnMode::Shared),
         LockCall::Unlock | LockCall::UnlockRead | LockCall::UnlockWrite => None,
+        LockCall::CallOnce(_) | LockCall::CallOnceForce(_) => None,
+        LockCall::OnceWait | LockCall::OnceWaitForce => None,
     }
 }
 
@@ -91,6 +95,8 @@ pub fn may_answer(call: LockCall, answer: LockAnswer) -> bool {
         LockAnswer::Refused => mode_before(call).is_none() && !may_sleep(call),
         LockAnswer::Released => mode_behind(call).is_none(),
         LockAnswer::TimedOut => is_timed(call),
+        LockAnswer::Ran(_) | LockAnswer::Failed => false,
+        LockAnswer::Poisoned | LockAnswer::Completed => false,
     }
 }
 

@@ -4,10 +4,8 @@ use super::program::{End, Program, is_timed, may_answer, owned_behind, shares_be
 use super::shown::Shown;
 use parking_lot_core_lot::{Place, ThreadStatus};
 use parking_lot_protocol::{MutexPhase, RwPhase};
-use parking_lot_world::{
-    Call, Core, Hold, LatePhase, LockAnswer, LockCall, OwnMode, QueuePosition, Wakeup, World,
-    WorldStep,
-};
+use parking_lot_world::{Call, Core, Hold, LatePhase, QueuePosition, Wakeup};
+use parking_lot_worlds::{LockAnswer, LockCall, OwnMode, World, WorldStep};
 
 /// A call that isn't answered, and what was seen since it began.
 #[derive(Clone, Copy, PartialEq, Eq)]
@@ -69,7 +67,7 @@ impl Open {
         let is_so = match answer {
             LockAnswer::Refused => self.met,
             LockAnswer::TimedOut => self.met && self.first && self.late,
-            LockAnswer::Owned | LockAnswer::Released => true,
+            _ => true,
         };
         is_so && may_answer(self.call, answer)
     }
@@ -287,7 +285,7 @@ struct Seat {
 
 impl Seat {
     fn of(world: &World, thread: usize) -> Seat {
-        let machine = world.machine();
+        let machine = world.rows();
         Seat {
             standing: machine.call(thread).map(Standing::of),
             hold: machine.hold(thread, 0),
@@ -299,7 +297,7 @@ impl Seat {
 
 /// Who is still to be woken: each of two threads at most once.
 fn wakes_of(world: &World) -> [Option<Wakeup>; 2] {
-    let wakes = world.machine().wakes();
+    let wakes = world.rows().wakes();
     [wakes.first().copied(), wakes.get(1).copied()]
 }
 
@@ -338,11 +336,4 @@ impl Snapshot {
         let [first, second] = self.threads;
         if thread == 0 { first } else { second }
     }
-}
-
-/// A state, and a schedule that leads there.
-#[derive(Drop)]
-pub struct State {
-    pub schedule: Vec<WorldStep>,
-    pub snapshot: Snapshot,
 }

@@ -1,6 +1,6 @@
 //! What a world shows of a state.
 
-use parking_lot_world::{LockAnswer, LockKind, OwnMode, World};
+use parking_lot_worlds::{LockAnswer, LockKind, OwnMode, World};
 use std::test::Fail;
 
 /// What a world of two threads and one lock shows.
@@ -30,6 +30,7 @@ fn parked_bits(kind: LockKind) -> (u64, u64) {
     match kind {
         LockKind::Mutex | LockKind::FairMutex => (2, 0),
         LockKind::Rw | LockKind::RwRecursive => (1, 2),
+        LockKind::Once => (8, 0),
     }
 }
 

@@ -1,0 +1,219 @@
+//! Every schedule of some programs, by the states to which they lead.
+
+use parking_lot_worlds::{LockKind, World, WorldFault, WorldRefusal, WorldStep};
+use std::fmt::Debug;
+use std::process::Abort;
+use std::test::Fail;
+
+/// More steps than any programs here make.
+const MOST_STEPS: u32 = 1000;
+
+/// What a step is met by that isn't allowed.
+const CANNOT_MOVE: WorldFault = WorldFault {
+    done: 0,
+    fault: WorldRefusal::CannotMove,
+};
+
+/// What is watched on the way through all schedules at one lock, and what has to hold there. A rule that doesn't hold is named.
+pub trait Watch: Drop {
+    /// What the threads call.
+    type Programs: Copy + Debug;
+    /// All that the further steps depend on, and all that is shown.
+    type Snapshot: PartialEq + Drop;
+
+    fn programs(&self) -> Self::Programs;
+
+    fn kind(&self) -> LockKind;
+
+    fn threads(&self) -> usize;
+
+    /// Before the first step.
+    fn first(&self, world: &World) -> Result<Self::Snapshot, Fail>;
+
+    /// Behind a step, or behind none.
+    fn behind(
+        &self,
+        before: &Self::Snapshot,
+        step: Option<WorldStep>,
+        world: &World,
+    ) -> Result<Self::Snapshot, Fail>;
+
+    /// What may be the next steps of a thread. Others are never allowed.
+    fn steps(&self, at: &Self::Snapshot, thread: usize) -> [Option<WorldStep>; 3];
+
+    /// Looks at a state.
+    fn look(&mut self, at: &Self::Snapshot) -> Option<&'static str>;
+
+    /// Looks at a step.
+    fn look_at_step(
+        &mut self,
+        before: &Self::Snapshot,
+        step: WorldStep,
+        behind: &Self::Snapshot,
+    ) -> Option<&'static str>;
+
+    /// Looks at a state without a further step.
+    fn look_at_end(&mut self, at: &Self::Snapshot) -> Result<Option<&'static str>, Fail>;
+}
+
+/// A state, and a schedule that leads there.
+#[derive(Drop)]
+struct State<S: Drop> {
+    schedule: Vec<WorldStep>,
+    snapshot: S,
+}
+
+/// One that goes through all schedules of some programs at one lock.
+#[derive(Drop)]
+pub struct Explorer<'r, R, W: Drop> {
+    rt: &'r R,
+    /// How many states there are. One that is reached by several numbers of steps counts for each.
+    pub states: u64,
+    pub watch: W,
+}
+
+impl<'r, R: AllocGlobal + Abort, W: Watch> Explorer<'r, R, W> {
+    /// Makes every schedule, to its end.
+    pub fn explore(rt: &'r R, watch: W) -> Result<Explorer<'r, R, W>, Fail> {
+        let mut explorer = Explorer {
+            rt,
+            states: 0,
+            watch,
+        };
+        explorer.make_all()?;
+        Ok(explorer)
+    }
+
+    /// Goes from the states that so many steps lead to on to those of one step more, until there are none.
+    fn make_all(&mut self) -> Result<(), Fail> {
+        let first = self.first()?;
+        let mut states = Vec::new(self.rt.alloc());
+        states.push(first)?;
+        for _ in 0..MOST_STEPS {
+            if states.is_empty() {
+                return Ok(());
+            }
+            states = self.next_states(&states)?;
+        }
+        panic!(self.rt; "{:?} goes on behind {MOST_STEPS} steps", self.watch.programs())
+    }
+
+    /// Before the first step.
+    fn first(&self) -> Result<State<W::Snapshot>, Fail> {
+        let schedule = Vec::new(self.rt.alloc());
+        let world = self.world_behind(&schedule)?;
+        let snapshot = self.watch.first(&world)?;
+        Ok(State { schedule, snapshot })
+    }
+
+    /// A world behind a schedule.
+    fn world_behind(&self, schedule: &[WorldStep]) -> Result<World, Fail> {
+        let kinds = vec![in self.rt.alloc(); self.watch.kind()]?;
+        let mut world = World::new(self.rt.alloc(), self.watch.threads(), kinds)?;
+        world.run(schedule)?;
+        Ok(world)
+    }
+
+    /// The states that one step leads to from these.
+    fn next_states(
+        &mut self,
+        states: &[State<W::Snapshot>],
+    ) -> Result<Vec<State<W::Snapshot>>, Fail> {
+        let mut next = Vec::new(self.rt.alloc());
+        for state in states {
+            self.visit(state, &mut next)?;
+        }
+        Ok(next)
+    }
+
+    /// Looks at a state, and adds those that one step leads to.
+    fn visit(
+        &mut self,
+        state: &State<W::Snapshot>,
+        next: &mut Vec<State<W::Snapshot>>,
+    ) -> Result<(), Fail> {
+        let broken = self.watch.look(&state.snapshot);
+        self.must_hold(broken, &state.schedule);
+        self.states = self.states.saturating_add(1);
+        let mut is_moved = false;
+        for thread in 0..self.watch.threads() {
+            let steps = self.watch.steps(&state.snapshot, thread);
+            is_moved = is_moved | self.make_each(state, steps, next)?;
+        }
+        if !is_moved {
+            let broken = self.watch.look_at_end(&state.snapshot)?;
+            self.must_hold(broken, &state.schedule);
+        }
+        Ok(())
+    }
+
+    /// Makes each of the steps from a state, and adds the states that they lead to. Answers whether one was allowed.
+    fn make_each(
+        &mut self,
+        state: &State<W::Snapshot>,
+        steps: [Option<WorldStep>; 3],
+        next: &mut Vec<State<W::Snapshot>>,
+    ) -> Result<bool, Fail> {
+        let mut is_moved = false;
+        for step in steps.into_iter().flatten() {
+            if let Some(behind) = self.make(state, step)? {
+                is_moved = true;
+                add(next, behind)?;
+            }
+        }
+        Ok(is_moved)
+    }
+
+    /// Makes a step from a state; `None` where it isn't allowed.
+    fn make(
+        &mut self,
+        state: &State<W::Snapshot>,
+        step: WorldStep,
+    ) -> Result<Option<State<W::Snapshot>>, Fail> {
+        let mut world = self.world_behind(&state.schedule)?;
+        if let Err(fault) = world.run(&[step]) {
+            let unmoved = self.watch.behind(&state.snapshot, None, &world)?;
+            self.look_at_refusal(state, fault, &unmoved);
+            return Ok(None);
+        }
+        let snapshot = self.watch.behind(&state.snapshot, Some(step), &world)?;
+        let mut schedule = state.schedule.clone()?;
+        schedule.push(step)?;
+        let broken = self.watch.look_at_step(&state.snapshot, step, &snapshot);
+        self.must_hold(broken, &schedule);
+        Ok(Some(State { schedule, snapshot }))
+    }
+
+    /// Ends the test where a rule is broken behind a schedule.
+    fn must_hold(&self, broken: Option<&'static str>, schedule: &[WorldStep]) {
+        if let Some(rule) = broken {
+            panic!(self.rt; "{rule}: {:?} by {schedule:?}", self.watch.programs())
+        }
+    }
+
+    /// Looks at a step that isn't allowed: it is refused as such, and changes nothing.
+    fn look_at_refusal(
+        &self,
+        before: &State<W::Snapshot>,
+        fault: WorldFault,
+        unmoved: &W::Snapshot,
+    ) {
+        let broken = if fault != CANNOT_MOVE {
+            Some("a step that isn't allowed is refused as such")
+        } else if *unmoved != before.snapshot {
+            Some("a step that is refused changes nothing")
+        } else {
+            None
+        };
+        self.must_hold(broken, &before.schedule);
+    }
+}
+
+/// Adds a state that isn't there.
+fn add<S: PartialEq + Drop>(states: &mut Vec<State<S>>, state: State<S>) -> Result<(), Fail> {
+    let is_known = states.iter().any(|known| known.snapshot == state.snapshot);
+    if !is_known {
+        states.push(state)?;
+    }
+    Ok(())
+}
