@@ -1,8 +1,10 @@
 -- All that is promised of a world, and what is done stays done there.
-use Rattle.std.proofs.Common.{◌≡◌, ◌*◌, ◌≤◌, ℕ, Bool, true, false, cond, None, slice_get, refl, sym, ap, ◌∙◌, subst, arith}
+use Rattle.std.proofs.Common.{◌≡◌, ◌+◌, ◌*◌, ◌/◌, ◌<◌, ◌≤◌, ◌==◌, ◌||◌, ℕ, Bool, true, false, cond, [], length, None, slice_get, refl, sym, ap, ◌∙◌, subst, arith}
 use Rattle.std.specs.Option.{option_map_or}
 use Rattle.std.proofs.lemmas.Option.{none-some}
 use Rattle.parking_lot_once_rules.specs.declared.once_state.OnceState.TheVariants.{Done}
+use Rattle.parking_lot_once_world.specs.Entries.{list_of}
+use Rattle.parking_lot_once_world.specs.OnceDebts as once_debts
 use Rattle.parking_lot_once_world.specs.OnceFits.{Fits}
 use Rattle.parking_lot_once_world.specs.OnceMachineLasting as lasting
 use Rattle.parking_lot_once_world.specs.OnceMachineLaws as once_laws
@@ -11,26 +13,44 @@ use Rattle.parking_lot_once_world.specs.Onces.{Onces, once_at}
 use Rattle.parking_lot_world.specs.Ranks as row_ranks
 use Rattle.parking_lot_world.specs.RowFits.{FitsTogether}
 use Rattle.parking_lot_world.specs.Rows.{lock_at, state}
+use Rattle.parking_lot_world.specs.Rows as rows
 use Rattle.parking_lot_world.specs.SoundLaws as row_laws
 use Rattle.parking_lot_world.specs.SoundLaws.{agrees, most_steps}
-use Rattle.parking_lot_world.specs.Worlds.{mode_in}
+use Rattle.parking_lot_world.specs.Worlds.{is_indebted, mode_in}
 use Rattle.parking_lot_worlds.specs.declared.calls.Asked.{Asked}
 use Rattle.parking_lot_worlds.specs.declared.step.WorldStep.{WorldStep}
 use Rattle.parking_lot_worlds.specs.WorldCalls.{asked, is_once}
-use Rattle.parking_lot_worlds.specs.WorldLaws.{DoneStays, IsSoundWorld, OwnersAgree, StepsAreFew}
-use Rattle.parking_lot_worlds.specs.Worlds.{IsAsked, IsGone, IsMade, IsWhole, Shown, is_in_once, is_once_at, mode_at}
+use Rattle.parking_lot_worlds.specs.WorldLaws.{DebtsAreKept, DoneStays, IsSoundWorld, OwnersAgree, SomebodyIsInDebt, StepsAreFew}
+use Rattle.parking_lot_worlds.specs.Worlds.{IsAsked, IsGone, IsMade, IsWhole, Shown, is_in_once, is_once_at, mode_at, queue_at}
 use Rattle.parking_lot_worlds.proofs.Moving.{somebody_can_move}
 
 module _ (w : Shown) (whole : IsWhole w) (locks : row_laws.IsSoundMachine (state w.rows)) (onces : once_laws.IsSoundMachine w.onces) where
+  -- at a lock the views of a world are those of the machine of locks
+  mode_there : (i : ℕ) → is_once_at w i ≡ false → (v : ℕ) → mode_at w i v ≡ mode_in (lock_at (state w.rows) i) v
+  mode_there i e v = ap (λ d. cond d None (mode_in (lock_at (state w.rows) i) v)) e
+
+  queue_there : (i key : ℕ) → key / 2 ≡ i → is_once_at w i ≡ false → queue_at w key ≡ rows.queue_at (state w.rows) key
+  queue_there i key half e = ap (λ d. cond d (cond (key == 2 * (key / 2)) (list_of w.onces.waiting (key / 2)) []) (rows.queue_at (state w.rows) key)) (ap (is_once_at w) half ∙ e)
+
   owners : OwnersAgree w
   owners i t u a b ne first second = go (is_once_at w i) refl
     where
-      at : (c : Bool) (v : ℕ) → is_once_at w i ≡ c → mode_at w i v ≡ cond c None (mode_in (lock_at (state w.rows) i) v)
-      at c v e = ap (λ d. cond d None (mode_in (lock_at (state w.rows) i) v)) e
-
       go : (c : Bool) → is_once_at w i ≡ c → agrees a b ≡ true
-      go true e = absurd (none-some a (sym (at true t e) ∙ first))
-      go false e = locks.owners i t u a b ne (sym (at false t e) ∙ first) (sym (at false u e) ∙ second)
+      go true e = absurd (none-some a (sym (ap (λ d. cond d None (mode_in (lock_at (state w.rows) i) t)) e) ∙ first))
+      go false e = locks.owners i t u a b ne (sym (mode_there i e t) ∙ first) (sym (mode_there i e u) ∙ second)
+
+  or_else : (a b : Bool) → b ≡ true → (a || b) ≡ true
+  or_else true b e = refl
+  or_else false b e = e
+
+  owed_there : (i : ℕ) → row_laws.SomebodyIsInDebt (state w.rows) i → SomebodyIsInDebt w i
+  owed_there i (u, c, here, there, owes) = (u, c, here, there, or_else (once_debts.is_in_debt w.onces u) (is_indebted (state w.rows) u) owes)
+
+  debts : DebtsAreKept w
+  debts = record {
+    first = λ i e some only. owed_there i (locks.debts.first i (subst (λ us. 0 < length us) (queue_there i (2 * i) (omega arith) e) some) (λ u a owns. only u a (mode_there i e u ∙ owns)));
+    second = λ i e kind some none. owed_there i (locks.debts.second i kind (subst (λ us. 0 < length us) (queue_there i (2 * i + 1) (omega arith) e) some) (λ u a owns. none u a (mode_there i e u ∙ owns)));
+  }
 
   few : StepsAreFew w
   few t = omega (
@@ -45,6 +65,7 @@ module _ (w : Shown) (whole : IsWhole w) (locks : row_laws.IsSoundMachine (state
     locks = locks;
     onces = onces;
     owners = owners;
+    debts = debts;
     moves = somebody_can_move w whole rows_fit onces_fit locks.moves onces.moves;
     few = few;
   }

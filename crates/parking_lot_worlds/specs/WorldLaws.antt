@@ -1,5 +1,5 @@
 -- What holds of a world at every moment, and what each of its steps is to the locks and onces of the rules.
-use Rattle.std.specs.Prelude.{◌≡◌, ◌≢◌, ◌⊎◌, ℕ, ◌+◌, ◌*◌, ◌≤◌, Bool, true, if◌then◌else◌, length, Option, Some}
+use Rattle.std.specs.Prelude.{◌≡◌, ◌≢◌, ◌⊎◌, ℕ, ◌+◌, ◌*◌, ◌≤◌, ◌<◌, Bool, true, false, if◌then◌else◌, length, Option, Some, slice_get}
 use Rattle.parking_lot_once_rules.specs.declared.once_state.OnceState.TheVariants.{Done}
 use Rattle.parking_lot_once_rules.specs.Once.{Once, Step}
 use Rattle.parking_lot_once_world.specs.OnceFits.{Fits}
@@ -12,8 +12,9 @@ use Rattle.parking_lot_once_world.specs.Onces.{once_at}
 use Rattle.parking_lot_once_world.specs.Onces as onces
 use Rattle.parking_lot_rules.specs.Any.{AnyLock}
 use Rattle.parking_lot_world.specs.declared.calls.OwnMode.{OwnMode}
+use Rattle.parking_lot_world.specs.declared.calls.OwnMode.TheVariants as mode
 use Rattle.parking_lot_world.specs.declared.open_call.Call.{Call}
-use Rattle.parking_lot_world.specs.Kinds.{recursive_in}
+use Rattle.parking_lot_world.specs.Kinds.{AsRw, manner_of, recursive_in}
 use Rattle.parking_lot_world.specs.Machines.{is_asleep}
 use Rattle.parking_lot_world.specs.Ranks as row_ranks
 use Rattle.parking_lot_world.specs.RowFits.{FitsTogether}
@@ -23,7 +24,7 @@ use Rattle.parking_lot_world.specs.SoundLaws.{SomebodyKeeps, agrees, most_steps}
 use Rattle.parking_lot_world.specs.SoundLaws as of_locks
 use Rattle.parking_lot_worlds.specs.declared.step.WorldStep.{WorldStep}
 use Rattle.parking_lot_worlds.specs.WorldCalls.{step_thread}
-use Rattle.parking_lot_worlds.specs.Worlds.{IsMade, IsWhole, Shown, is_once_at, may_go, may_make, mode_at}
+use Rattle.parking_lot_worlds.specs.Worlds.{IsMade, IsWhole, Shown, is_indebted, is_once_at, may_go, may_make, mode_at, queue_at}
 
 -- what every world keeps: it is whole, and each of its machines fits together
 pub record IsFit (w : Shown) : Type 0 where
@@ -57,11 +58,29 @@ StepsAreFew w = (t : ℕ) → steps_left w t ≤ length w.answers * most_steps (
 abbrev pub OwnersAgree : Shown → Type 0
 OwnersAgree w = (i t u : ℕ) (a b : OwnMode) → t ≢ u → mode_at w i t ≡ Some a → mode_at w i u ≡ Some b → agrees a b ≡ true
 
+-- nobody owns the lock, but by shared holds; and nobody reads under it, by a shared hold or the upgradable one
+abbrev pub OnlyReaders : Shown → ℕ → Type 0
+OnlyReaders w i = (u : ℕ) (a : OwnMode) → mode_at w i u ≡ Some a → a ≡ mode.Shared
+
+abbrev pub NoReaders : Shown → ℕ → Type 0
+NoReaders w i = (u : ℕ) (a : OwnMode) → mode_at w i u ≡ Some a → (a ≢ mode.Shared) × (a ≢ mode.Upgradable)
+
+-- some thread in a call at the lock is in debt
+abbrev pub SomebodyIsInDebt : Shown → ℕ → Type 0
+SomebodyIsInDebt w i = (u : ℕ) × (c : Call) × (row.call_at (state w.rows) u ≡ Some c) × (c.lock ≡ i) × (is_indebted w u ≡ true)
+
+-- Where somebody waits under a lock's first key and nobody owns the lock but by shared holds, somebody there is in debt. Where the pending writer
+-- waits under the second and nobody reads, too.
+pub record DebtsAreKept (w : Shown) : Type 0 where
+  pub first : (i : ℕ) → is_once_at w i ≡ false → 0 < length (queue_at w (2 * i)) → OnlyReaders w i → SomebodyIsInDebt w i
+  pub second : (i : ℕ) → is_once_at w i ≡ false → manner_of (slice_get w.rows.kinds i) ≡ Some AsRw → 0 < length (queue_at w (2 * i + 1)) → NoReaders w i → SomebodyIsInDebt w i
+
 pub record IsSoundWorld (w : Shown) : Type 0 where
   pub fit : IsFit w
   pub locks : of_locks.IsSoundMachine (state w.rows)
   pub onces : of_onces.IsSoundMachine w.onces
   pub owners : OwnersAgree w
+  pub debts : DebtsAreKept w
   pub moves : SomebodyCanMove w
   pub few : StepsAreFew w
 

@@ -95,7 +95,10 @@ impl<'r, R: AllocGlobal + Abort, W: Watch> Explorer<'r, R, W> {
             }
             states = self.next_states(&states)?;
         }
-        panic!(self.rt; "{:?} goes on behind {MOST_STEPS} steps", self.watch.programs())
+        panic!(self.rt;
+            "{:?} goes on behind {MOST_STEPS} steps",
+            self.watch.programs()
+        )
     }
 
     /// Before the first step.

@@ -35,6 +35,7 @@ impl LockWatch {
 
 impl Watch for LockWatch {
     type Programs = Pair;
+
     type Snapshot = Snapshot;
 
     fn programs(&self) -> Pair {

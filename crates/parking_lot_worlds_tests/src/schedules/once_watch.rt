@@ -117,13 +117,21 @@ impl OnceSnapshot {
 
     /// A thread stands in the list once at most, and only in a call.
     fn lists_callers(&self, thread: usize) -> bool {
-        let times = self.queue.iter().filter(|waiter| **waiter == thread).count();
+        let times = self
+            .queue
+            .iter()
+            .filter(|waiter| **waiter == thread)
+            .count();
         times == 0 || times == 1 && one(self.callers, thread).open.is_some()
     }
 
     /// It is in debt once at most, and only in a call.
     fn owes_in_a_call(&self, thread: usize) -> bool {
-        let times = self.debts.iter().filter(|debtor| **debtor == thread).count();
+        let times = self
+            .debts
+            .iter()
+            .filter(|debtor| **debtor == thread)
+            .count();
         times == 0 || times == 1 && one(self.callers, thread).open.is_some()
     }
 
@@ -206,11 +214,17 @@ fn may_be_answered(call: LockCall, answer: LockAnswer, met: bool, state: OnceSta
     let forced = matches!(call, LockCall::CallOnceForce(_) | LockCall::OnceWaitForce);
     match answer {
         LockAnswer::Ran(OnceState::New) => {
-            matches!(call, LockCall::CallOnce(true) | LockCall::CallOnceForce(true))
+            matches!(
+                call,
+                LockCall::CallOnce(true) | LockCall::CallOnceForce(true)
+            )
         }
         LockAnswer::Ran(OnceState::Poisoned) => call == LockCall::CallOnceForce(true),
         LockAnswer::Failed => {
-            matches!(call, LockCall::CallOnce(false) | LockCall::CallOnceForce(false))
+            matches!(
+                call,
+                LockCall::CallOnce(false) | LockCall::CallOnceForce(false)
+            )
         }
         LockAnswer::Poisoned => met && !forced,
         LockAnswer::Completed => state == OnceState::Done,
@@ -254,6 +268,7 @@ fn followed(callers: [Caller; 3], step: WorldStep, world: &World) -> [Caller; 3]
 
 impl Watch for OnceWatch {
     type Programs = Programs;
+
     type Snapshot = OnceSnapshot;
 
     fn programs(&self) -> Programs {

@@ -76,10 +76,12 @@ fn go_on(at: Plain, next: &mut Vec<Plain>, ends: &mut Vec<Answers>) -> Result<()
 pub fn ends(rt: &impl AllocGlobal, programs: Programs) -> Result<Vec<Answers>, Fail> {
     let [first, second, third] = programs;
     let mut ends = Vec::new(rt.alloc());
-    let mut states = vec![in rt.alloc(); Plain {
-        state: OnceState::New,
-        callers: [Caller::of(first), Caller::of(second), Caller::of(third)],
-    }]?;
+    let mut states = vec![in rt.alloc();
+        Plain {
+            state: OnceState::New,
+            callers: [Caller::of(first), Caller::of(second), Caller::of(third)],
+        },
+    ]?;
     for _call in 0..7u32 {
         let mut next = Vec::new(rt.alloc());
         for state in &states {
