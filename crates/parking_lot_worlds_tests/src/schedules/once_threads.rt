@@ -2,11 +2,37 @@
 
 use parking_lot_worlds::{LockAnswer, LockCall, OnceState};
 
-/// The calls of each of three threads, one after another.
-pub type Programs = [[Option<LockCall>; 2]; 3];
+/// The calls of a thread, one after another.
+#[derive(Clone, Copy, PartialEq, Eq, Debug)]
+pub struct Calls(pub Option<LockCall>, pub Option<LockCall>);
 
-/// What they were answered, in the same places; `None` for one that waits, and for those behind it.
-pub type Answers = [[Option<LockAnswer>; 2]; 3];
+/// What they were answered, in the same places; `None` for one that waits, and for that behind it.
+#[derive(Clone, Copy, PartialEq, Eq, Debug)]
+pub struct Answers(pub Option<LockAnswer>, pub Option<LockAnswer>);
+
+/// The same of each of three threads.
+#[derive(Clone, Copy, PartialEq, Eq, Debug)]
+pub struct Three<T>(pub T, pub T, pub T);
+
+impl<T: Copy> Three<T> {
+    /// That of one of the three.
+    pub fn of(self, thread: usize) -> T {
+        match thread {
+            0 => self.0,
+            1 => self.1,
+            _ => self.2,
+        }
+    }
+
+    /// The three, where that one has become another.
+    pub fn with(self, thread: usize, one: T) -> Three<T> {
+        match thread {
+            0 => Three(one, self.1, self.2),
+            1 => Three(self.0, one, self.2),
+            _ => Three(self.0, self.1, one),
+        }
+    }
+}
 
 /// How far a thread is.
 #[derive(Clone, Copy, PartialEq, Eq)]
@@ -14,29 +40,28 @@ pub struct Caller {
     /// The call that it is in.
     pub open: Option<LockCall>,
     /// Those that it hasn't begun.
-    pub rest: [Option<LockCall>; 2],
-    pub answers: [Option<LockAnswer>; 2],
+    pub rest: Calls,
+    pub answers: Answers,
     /// Whether the once has been poisoned since its call began.
     pub met: bool,
 }
 
 impl Caller {
     /// Before its first call.
-    pub fn of(program: [Option<LockCall>; 2]) -> Caller {
+    pub fn of(calls: Calls) -> Caller {
         Caller {
             open: None,
-            rest: program,
-            answers: [None; 2],
+            rest: calls,
+            answers: Answers(None, None),
             met: false,
         }
     }
 
     /// Once it has begun its next call.
     pub fn begun(self) -> Caller {
-        let [next, last] = self.rest;
         Caller {
-            open: next,
-            rest: [last, None],
+            open: self.rest.0,
+            rest: Calls(self.rest.1, None),
             met: false,
             ..self
         }
@@ -44,9 +69,10 @@ impl Caller {
 
     /// Once its call is answered.
     pub fn answered(self, answer: LockAnswer) -> Caller {
-        let answers = match self.answers {
-            [None, _] => [Some(answer), None],
-            [first, _] => [first, Some(answer)],
+        let answers = if self.answers.0.is_none() {
+            Answers(Some(answer), None)
+        } else {
+            Answers(self.answers.0, Some(answer))
         };
         Caller {
             open: None,
@@ -63,36 +89,24 @@ impl Caller {
 
     /// What its last call was answered, where it is in none.
     pub fn last(self) -> Option<LockAnswer> {
-        match (self.open, self.answers) {
-            (Some(_), _) => None,
-            (None, [first, None]) => first,
-            (None, [_, second]) => second,
+        if self.open.is_some() {
+            None
+        } else {
+            self.answers.1.or(self.answers.0)
         }
     }
 }
 
-/// One of three.
-pub fn one(callers: [Caller; 3], thread: usize) -> Caller {
-    let [first, second, third] = callers;
-    match thread {
-        0 => first,
-        1 => second,
-        _ => third,
-    }
+/// Three threads before their first calls.
+pub fn callers_of(programs: Three<Calls>) -> Three<Caller> {
+    Three(
+        Caller::of(programs.0),
+        Caller::of(programs.1),
+        Caller::of(programs.2),
+    )
 }
 
-/// The three, of whom that one has gone on.
-pub fn with(callers: [Caller; 3], thread: usize, caller: Caller) -> [Caller; 3] {
-    let [first, second, third] = callers;
-    match thread {
-        0 => [caller, second, third],
-        1 => [first, caller, third],
-        _ => [first, second, caller],
-    }
-}
-
-/// What all of them have been answered.
-pub fn answers_of(callers: [Caller; 3]) -> Answers {
-    let [first, second, third] = callers;
-    [first.answers, second.answers, third.answers]
+/// What three threads have been answered.
+pub fn answers_of(callers: Three<Caller>) -> Three<Answers> {
+    Three(callers.0.answers, callers.1.answers, callers.2.answers)
 }

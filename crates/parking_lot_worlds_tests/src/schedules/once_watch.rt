@@ -1,7 +1,7 @@
 //! What is watched of threads at one once.
 
 use super::explorer::Watch;
-use super::once_threads::{Answers, Caller, Programs, answers_of, one, with};
+use super::once_threads::{Answers, Caller, Calls, Three, answers_of, callers_of};
 use super::plain_once::waits;
 use super::rules::first_broken;
 use parking_lot_once_protocol::{OncePhase, state_of};
@@ -33,24 +33,58 @@ impl Seat {
 /// All that the further steps of three threads at one once depend on, and all that is shown of them.
 #[derive(PartialEq, Eq, Drop)]
 pub struct OnceSnapshot {
-    callers: [Caller; 3],
+    callers: Three<Caller>,
     word: u64,
     owners: usize,
     queue: Vec<usize>,
     second: Vec<usize>,
     debts: Vec<usize>,
-    answers: [Option<LockAnswer>; 3],
-    seats: [Option<Seat>; 3],
+    answers: Three<Option<LockAnswer>>,
+    seats: Three<Option<Seat>>,
     inside: Option<usize>,
-    /// Those that are off the list and not woken yet, in the order in which they were taken.
-    taken: [Option<usize>; 2],
+    taken: Taken,
 }
 
-/// One more in such an order.
-fn joined(order: [Option<usize>; 2], thread: usize) -> [Option<usize>; 2] {
-    match order {
-        [None, _] => [Some(thread), None],
-        [first, _] => [first, Some(thread)],
+/// Those that are off the list and not woken yet, in the order in which they were taken: two at most.
+#[derive(Clone, Copy, PartialEq, Eq)]
+struct Taken(Option<usize>, Option<usize>);
+
+impl Taken {
+    /// With one more behind them.
+    fn and(self, thread: usize) -> Taken {
+        if self.0.is_none() {
+            Taken(Some(thread), None)
+        } else {
+            Taken(self.0, Some(thread))
+        }
+    }
+
+    /// With that one, if it is among them and still taken.
+    fn still(self, thread: Option<usize>, world: &World) -> Taken {
+        match thread {
+            Some(thread) if is_taken(world, thread) => self.and(thread),
+            _ => self,
+        }
+    }
+
+    /// With that one, if it is newly taken.
+    fn newly(self, thread: usize, world: &World) -> Taken {
+        let is_known = self.0 == Some(thread) || self.1 == Some(thread);
+        if is_taken(world, thread) && !is_known {
+            self.and(thread)
+        } else {
+            self
+        }
+    }
+
+    /// Those that are taken now.
+    fn now(self, world: &World) -> Taken {
+        Taken(None, None)
+            .still(self.0, world)
+            .still(self.1, world)
+            .newly(0, world)
+            .newly(1, world)
+            .newly(2, world)
     }
 }
 
@@ -61,28 +95,8 @@ fn is_taken(world: &World, thread: usize) -> bool {
     }
 }
 
-/// Those that are taken now, where these were before.
-fn taken_now(before: [Option<usize>; 2], world: &World) -> [Option<usize>; 2] {
-    let mut order = [None; 2];
-    for thread in before.into_iter().flatten() {
-        if is_taken(world, thread) {
-            order = joined(order, thread);
-        }
-    }
-    for thread in 0..3 {
-        if is_taken(world, thread) && !before.contains(&Some(thread)) {
-            order = joined(order, thread);
-        }
-    }
-    order
-}
-
 impl OnceSnapshot {
-    fn of(
-        world: &World,
-        callers: [Caller; 3],
-        taken: [Option<usize>; 2],
-    ) -> Result<OnceSnapshot, Fail> {
+    fn of(world: &World, callers: Three<Caller>, taken: Taken) -> Result<OnceSnapshot, Fail> {
         Ok(OnceSnapshot {
             callers,
             word: world.word(0),
@@ -90,10 +104,10 @@ impl OnceSnapshot {
             queue: world.queue(0)?,
             second: world.queue(1)?,
             debts: world.debts()?,
-            answers: [world.answer(0), world.answer(1), world.answer(2)],
-            seats: [Seat::of(world, 0), Seat::of(world, 1), Seat::of(world, 2)],
+            answers: Three(world.answer(0), world.answer(1), world.answer(2)),
+            seats: Three(Seat::of(world, 0), Seat::of(world, 1), Seat::of(world, 2)),
             inside: world.onces().inside(),
-            taken: taken_now(taken, world),
+            taken: taken.now(world),
         })
     }
 
@@ -102,7 +116,7 @@ impl OnceSnapshot {
     }
 
     fn answer(&self, thread: usize) -> Option<LockAnswer> {
-        self.answers.get(thread).copied().flatten()
+        self.answers.of(thread)
     }
 
     /// The word is one of eight numbers.
@@ -122,7 +136,7 @@ impl OnceSnapshot {
             .iter()
             .filter(|waiter| **waiter == thread)
             .count();
-        times == 0 || times == 1 && one(self.callers, thread).open.is_some()
+        times == 0 || times == 1 && self.callers.of(thread).open.is_some()
     }
 
     /// It is in debt once at most, and only in a call.
@@ -132,17 +146,17 @@ impl OnceSnapshot {
             .iter()
             .filter(|debtor| **debtor == thread)
             .count();
-        times == 0 || times == 1 && one(self.callers, thread).open.is_some()
+        times == 0 || times == 1 && self.callers.of(thread).open.is_some()
     }
 
     /// It is shown what its last call was answered.
     fn shows_its_answer(&self, thread: usize) -> bool {
-        self.answer(thread) == one(self.callers, thread).last()
+        self.answer(thread) == self.callers.of(thread).last()
     }
 
     /// Whether its call has to wait at this state.
     fn must_wait(&self, thread: usize) -> bool {
-        match one(self.callers, thread).open {
+        match self.callers.of(thread).open {
             Some(call) => waits(call, self.state()),
             None => false,
         }
@@ -155,10 +169,10 @@ impl OnceSnapshot {
 
     /// A thread without a further step has made all its calls, or sleeps where it has to wait.
     fn has_ended(&self, thread: usize) -> bool {
-        let caller = one(self.callers, thread);
+        let caller = self.callers.of(thread);
         match caller.open {
             Some(_) => self.must_wait(thread) && self.queue.contains(&thread),
-            None => caller.rest[0].is_none(),
+            None => caller.rest.0.is_none(),
         }
     }
 
@@ -202,11 +216,26 @@ fn broken_by_once(at: &OnceSnapshot) -> Option<&'static str> {
 
 /// Whether one step may make that state of the other.
 fn may_become(before: OnceState, behind: OnceState) -> bool {
-    match (before, behind) {
-        (OnceState::New | OnceState::Poisoned, OnceState::InProgress) => true,
-        (OnceState::InProgress, OnceState::Done | OnceState::Poisoned) => true,
-        _ => before == behind,
+    match before {
+        OnceState::New | OnceState::Poisoned => behind == before || behind == OnceState::InProgress,
+        OnceState::InProgress => behind != OnceState::New,
+        OnceState::Done => behind == OnceState::Done,
     }
+}
+
+/// Whether a call isn't refused where the last closure has failed.
+fn is_forced(call: LockCall) -> bool {
+    matches!(call, LockCall::CallOnceForce(_) | LockCall::OnceWaitForce)
+}
+
+/// Whether a call has a closure that ends so.
+fn ends_so(call: LockCall, well: bool) -> bool {
+    call == LockCall::CallOnce(well) || call == LockCall::CallOnceForce(well)
+}
+
+/// Whether a closure may be handed that state.
+fn may_run(forced: bool, before: OnceState) -> bool {
+    before == OnceState::New || forced && before == OnceState::Poisoned
 }
 
 /// Whether a call may be answered so, at that state, and where it has met a poisoned one or not.
@@ -235,16 +264,16 @@ fn may_be_answered(call: LockCall, answer: LockAnswer, met: bool, state: OnceSta
 /// Threads at one once, and what is found on the way through all their schedules.
 #[derive(Drop)]
 pub struct OnceWatch {
-    programs: Programs,
+    programs: Three<Calls>,
     threads: usize,
     /// Whether somebody waited in the list.
     pub waited: bool,
     /// What all were answered, for each state without a further step, each once.
-    pub ends: Vec<Answers>,
+    pub ends: Vec<Three<Answers>>,
 }
 
 impl OnceWatch {
-    pub fn of(programs: Programs, threads: usize, ends: Vec<Answers>) -> OnceWatch {
+    pub fn of(programs: Three<Calls>, threads: usize, ends: Vec<Three<Answers>>) -> OnceWatch {
         OnceWatch {
             programs,
             threads,
@@ -255,23 +284,26 @@ impl OnceWatch {
 }
 
 /// The three, one of whom has made a step behind which that is shown.
-fn followed(callers: [Caller; 3], step: WorldStep, world: &World) -> [Caller; 3] {
+fn followed(callers: Three<Caller>, step: WorldStep, world: &World) -> Three<Caller> {
     let thread = step.thread();
-    let at = one(callers, thread);
-    let moved = match (step, world.answer(thread)) {
-        (WorldStep::Begin(_, _, _), _) => at.begun(),
-        (_, Some(answer)) => at.answered(answer),
-        (_, None) => at,
+    let at = callers.of(thread);
+    let moved = if at.open.is_none() {
+        at.begun()
+    } else {
+        match world.answer(thread) {
+            Some(answer) => at.answered(answer),
+            None => at,
+        }
     };
-    with(callers, thread, moved)
+    callers.with(thread, moved)
 }
 
 impl Watch for OnceWatch {
-    type Programs = Programs;
+    type Programs = Three<Calls>;
 
     type Snapshot = OnceSnapshot;
 
-    fn programs(&self) -> Programs {
+    fn programs(&self) -> Three<Calls> {
         self.programs
     }
 
@@ -284,9 +316,7 @@ impl Watch for OnceWatch {
     }
 
     fn first(&self, world: &World) -> Result<OnceSnapshot, Fail> {
-        let [first, second, third] = self.programs;
-        let callers = [Caller::of(first), Caller::of(second), Caller::of(third)];
-        OnceSnapshot::of(world, callers, [None; 2])
+        OnceSnapshot::of(world, callers_of(self.programs), Taken(None, None))
     }
 
     fn behind(
@@ -295,22 +325,27 @@ impl Watch for OnceWatch {
         step: Option<WorldStep>,
         world: &World,
     ) -> Result<OnceSnapshot, Fail> {
-        let [first, second, third] = match step {
+        let moved = match step {
             Some(step) => followed(before.callers, step, world),
             None => before.callers,
         };
         let state = state_of(world.word(0));
-        let callers = [first.seen(state), second.seen(state), third.seen(state)];
+        let callers = Three(
+            moved.0.seen(state),
+            moved.1.seen(state),
+            moved.2.seen(state),
+        );
         OnceSnapshot::of(world, callers, before.taken)
     }
 
     fn steps(&self, at: &OnceSnapshot, thread: usize) -> [Option<WorldStep>; 3] {
-        let caller = one(at.callers, thread);
-        let goes = Some(WorldStep::Go(thread, false));
-        match (caller.open, caller.rest[0]) {
-            (None, Some(call)) => [Some(WorldStep::Begin(thread, 0, call)), None, None],
-            _ => [goes, None, None],
-        }
+        let caller = at.callers.of(thread);
+        let goes = WorldStep::Go(thread, false);
+        let step = match caller.rest.0 {
+            Some(call) if caller.open.is_none() => WorldStep::Begin(thread, 0, call),
+            _ => goes,
+        };
+        [Some(step), None, None]
     }
 
     fn look(&mut self, at: &OnceSnapshot) -> Option<&'static str> {
@@ -327,7 +362,7 @@ impl Watch for OnceWatch {
         step: WorldStep,
         behind: &OnceSnapshot,
     ) -> Option<&'static str> {
-        let caller = one(before.callers, step.thread());
+        let caller = before.callers.of(step.thread());
         let fits = match (caller.open, behind.answer(step.thread())) {
             (Some(call), Some(answer)) => {
                 may_be_answered(call, answer, caller.met, behind.state())

@@ -1,7 +1,7 @@
 //! All schedules of threads at one once: they come to what calls come to that are made whole, one after another, and to nothing else.
 
 use super::explorer::Explorer;
-use super::once_threads::Programs;
+use super::once_threads::{Calls, Three};
 use super::once_watch::OnceWatch;
 use super::plain_once::ends;
 use parking_lot_worlds::LockCall;
@@ -20,7 +20,7 @@ const CALLS: [LockCall; 6] = [
 /// Makes all schedules of some threads. Answers how many states there were.
 fn explore(
     rt: &(impl AllocGlobal + Abort),
-    programs: Programs,
+    programs: Three<Calls>,
     threads: usize,
 ) -> Result<u64, Fail> {
     let watch = OnceWatch::of(programs, threads, Vec::new(rt.alloc()));
@@ -35,12 +35,12 @@ fn explore(
 /// Those of one program of two calls beside each that begins so.
 fn explore_beside(
     rt: &(impl AllocGlobal + Abort),
-    program: [Option<LockCall>; 2],
+    calls: Calls,
     other: LockCall,
 ) -> Result<u64, Fail> {
     let mut states = 0u64;
     for last in CALLS {
-        let programs = [program, [Some(other), Some(last)], [None; 2]];
+        let programs = Three(calls, Calls(Some(other), Some(last)), Calls(None, None));
         states = states.saturating_add(explore(rt, programs, 2)?);
     }
     Ok(states)
@@ -54,22 +54,33 @@ fn explore_two(
 ) -> Result<u64, Fail> {
     let mut states = 0u64;
     for last in CALLS {
-        let program = [Some(first), Some(last)];
-        states = states.saturating_add(explore_beside(rt, program, other)?);
+        let calls = Calls(Some(first), Some(last));
+        states = states.saturating_add(explore_beside(rt, calls, other)?);
     }
     Ok(states)
 }
 
 #[test]
 fn try_one(rt: HostRuntime) -> Result<(), Fail> {
-    let states = explore_two(&rt, LockCall::CallOnce(true), LockCall::CallOnce(false))?;
+    let states = explore(
+        &rt,
+        Three(
+            Calls(Some(LockCall::CallOnce(true)), Some(LockCall::OnceWait)),
+            Calls(
+                Some(LockCall::CallOnceForce(false)),
+                Some(LockCall::CallOnce(true)),
+            ),
+            Calls(None, None),
+        ),
+        2,
+    )?;
     assert!(rt; states >= 1_000_000_000, "{states} states");
     Ok(())
 }
 
 /// One call.
-fn alone(call: LockCall) -> [Option<LockCall>; 2] {
-    [Some(call), None]
+fn alone(call: LockCall) -> Calls {
+    Calls(Some(call), None)
 }
 
 /// Three threads with one call each, the first of whom makes this one.
@@ -77,7 +88,7 @@ fn explore_three(rt: &(impl AllocGlobal + Abort), first: LockCall) -> Result<u64
     let mut states = 0u64;
     for second in CALLS {
         for third in CALLS {
-            let programs = [alone(first), alone(second), alone(third)];
+            let programs = Three(alone(first), alone(second), alone(third));
             states = states.saturating_add(explore(rt, programs, 3)?);
         }
     }
@@ -86,7 +97,15 @@ fn explore_three(rt: &(impl AllocGlobal + Abort), first: LockCall) -> Result<u64
 
 #[test]
 fn try_three(rt: HostRuntime) -> Result<(), Fail> {
-    let states = explore_three(&rt, LockCall::CallOnce(true))?;
+    let states = explore(
+        &rt,
+        Three(
+            alone(LockCall::CallOnce(false)),
+            alone(LockCall::OnceWait),
+            alone(LockCall::CallOnceForce(true)),
+        ),
+        3,
+    )?;
     assert!(rt; states >= 1_000_000_000, "{states} states");
     Ok(())
 }

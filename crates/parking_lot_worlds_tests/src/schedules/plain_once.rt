@@ -1,29 +1,51 @@
 //! A once whose calls are made whole, one after another: what all schedules have to come to.
 
-use super::once_threads::{Answers, Caller, Programs, answers_of, one, with};
+use super::once_threads::{Answers, Caller, Calls, Three, answers_of, callers_of};
 use parking_lot_worlds::{LockAnswer, LockCall, OnceState};
 use std::test::Fail;
 
+/// A once, and what a call at it is answered that is made whole.
+type Made = Option<(OnceState, LockAnswer)>;
+
 /// A closure is run, that is handed this state.
-fn ran(well: bool, before: OnceState) -> (OnceState, LockAnswer) {
+fn ran(well: bool, before: OnceState) -> Made {
     if well {
-        (OnceState::Done, LockAnswer::Ran(before))
+        Some((OnceState::Done, LockAnswer::Ran(before)))
     } else {
-        (OnceState::Poisoned, LockAnswer::Failed)
+        Some((OnceState::Poisoned, LockAnswer::Failed))
     }
 }
 
-/// What a call leaves that is made whole, and its answer; `None` where it has to wait.
-fn made(call: LockCall, state: OnceState) -> Option<(OnceState, LockAnswer)> {
-    match (call, state) {
-        (_, OnceState::InProgress) => None,
-        (_, OnceState::Done) => Some((state, LockAnswer::Completed)),
-        (LockCall::CallOnce(well), OnceState::New) => Some(ran(well, state)),
-        (LockCall::CallOnceForce(well), _) => Some(ran(well, state)),
-        (LockCall::CallOnce(_) | LockCall::OnceWait, OnceState::Poisoned) => {
-            Some((state, LockAnswer::Poisoned))
-        }
+/// What a call comes to that may not run its closure on a poisoned once.
+fn poisoned() -> Made {
+    Some((OnceState::Poisoned, LockAnswer::Poisoned))
+}
+
+/// What a call leaves of a new once, and its answer; `None` where it has to wait.
+fn made_at_new(call: LockCall) -> Made {
+    match call {
+        LockCall::CallOnce(well) => ran(well, OnceState::New),
+        LockCall::CallOnceForce(well) => ran(well, OnceState::New),
         _ => None,
+    }
+}
+
+/// The same of a poisoned one.
+fn made_at_poisoned(call: LockCall) -> Made {
+    match call {
+        LockCall::CallOnceForce(well) => ran(well, OnceState::Poisoned),
+        LockCall::CallOnce(_) | LockCall::OnceWait => poisoned(),
+        _ => None,
+    }
+}
+
+/// The same of one in any state. While a closure runs, all have to wait.
+fn made(call: LockCall, state: OnceState) -> Made {
+    match state {
+        OnceState::New => made_at_new(call),
+        OnceState::Poisoned => made_at_poisoned(call),
+        OnceState::InProgress => None,
+        OnceState::Done => Some((OnceState::Done, LockAnswer::Completed)),
     }
 }
 
@@ -36,52 +58,45 @@ pub fn waits(call: LockCall, state: OnceState) -> bool {
 #[derive(Clone, Copy, PartialEq, Eq)]
 struct Plain {
     state: OnceState,
-    callers: [Caller; 3],
+    callers: Three<Caller>,
 }
 
 impl Plain {
     /// Once a thread has made its next call, if it may.
     fn after(self, thread: usize) -> Option<Plain> {
-        let caller = one(self.callers, thread).begun();
+        let caller = self.callers.of(thread).begun();
         let (state, answer) = made(caller.open?, self.state)?;
-        let callers = with(self.callers, thread, caller.answered(answer));
+        let callers = self.callers.with(thread, caller.answered(answer));
         Some(Plain { state, callers })
     }
 }
 
-/// Adds what isn't there.
-fn add<T: Copy + PartialEq>(all: &mut Vec<T>, one: T) -> Result<(), Fail> {
-    if !all.iter().any(|known| *known == one) {
-        all.push(one)?;
-    }
-    Ok(())
-}
-
 /// Goes from one state on to the next ones, or to an end.
-fn go_on(at: Plain, next: &mut Vec<Plain>, ends: &mut Vec<Answers>) -> Result<(), Fail> {
+fn go_on(at: Plain, next: &mut Vec<Plain>, ends: &mut Vec<Three<Answers>>) -> Result<(), Fail> {
     let mut is_last = true;
     for thread in 0..3 {
         if let Some(after) = at.after(thread) {
             is_last = false;
-            add(next, after)?;
+            if !next.iter().any(|known| *known == after) {
+                next.push(after)?;
+            }
         }
     }
-    if is_last {
-        add(ends, answers_of(at.callers))?;
+    let end = answers_of(at.callers);
+    if is_last && !ends.iter().any(|known| *known == end) {
+        ends.push(end)?;
     }
     Ok(())
 }
 
 /// What three threads can be answered, whose calls are made whole in any order. A call that waits is made later, or never.
-pub fn ends(rt: &impl AllocGlobal, programs: Programs) -> Result<Vec<Answers>, Fail> {
-    let [first, second, third] = programs;
+pub fn ends(rt: &impl AllocGlobal, programs: Three<Calls>) -> Result<Vec<Three<Answers>>, Fail> {
     let mut ends = Vec::new(rt.alloc());
-    let mut states = vec![in rt.alloc();
-        Plain {
-            state: OnceState::New,
-            callers: [Caller::of(first), Caller::of(second), Caller::of(third)],
-        },
-    ]?;
+    let mut states = Vec::new(rt.alloc());
+    states.push(Plain {
+        state: OnceState::New,
+        callers: callers_of(programs),
+    })?;
     for _call in 0..7u32 {
         let mut next = Vec::new(rt.alloc());
         for state in &states {
