@@ -1,5 +1,5 @@
 -- What holds of a machine of a condition variable, in plain words.
-use Rattle.std.specs.Prelude.{◌≡◌, ℕ, ◌<◌, ◌⊎◌, nat_lt, true, false, Option, Some, slice_get}
+use Rattle.std.specs.Prelude.{◌≡◌, ℕ, ◌+◌, ◌<◌, ◌⊎◌, nat_lt, true, false, Option, Some, slice_get}
 use Rattle.parking_lot_rules.specs.Lists.{occurs, at_index}
 use Rattle.parking_lot_rules.specs.Variable as rules
 use Rattle.parking_lot_condvar_world.specs.declared.calls.CondvarCall.TheVariants.{WaitUntil, NotifyOne, NotifyAll}
