@@ -1,0 +1,13 @@
+pub mod Slots
+pub mod Places
+pub mod Phases
+pub mod Acting
+pub mod WaitActs
+pub mod NotifyActs
+pub mod Taking
+pub mod Telling
+pub mod Paying
+pub mod Stepping
+pub mod Beginning
+pub mod Promising
+pub mod Making

@@ -1,0 +1,9 @@
+pub mod Calls
+pub mod Turns
+pub mod Machines
+pub mod OwnSteps
+pub mod Outsides
+pub mod Ranks
+pub mod Fitting
+pub mod Steps
+pub mod MachineLaws
