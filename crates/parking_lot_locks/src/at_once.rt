@@ -9,6 +9,7 @@ ghost use Rattle.parking_lot_protocol.specs.declared.act.CoreAnswer.TheVariants.
 use crate::call::Call;
 use crate::table::Row;
 use parking_lot_protocol::CoreAnswer;
+use parking_lot_protocol::word::READER;
 use std::alloc::Allocator;
 
 impl<R, A: Allocator> Row<'_, '_, R, A> {
@@ -91,6 +92,24 @@ impl<R, A: Allocator> Row<'_, '_, R, A> {
     {
         let word = self.add(by);
         if (word / bit) % 2 == 0 {
+            Ok(())
+        } else {
+            Err(word)
+        }
+    }
+
+    /// Makes the addition that a call begins with, which looks at the word then. Where that counts no reader the call owns the lock,
+    /// and else the core is to be told of the word before.
+    #[inline(always)]
+    pub(crate) fn owns_by_sum<K: Call>(&self, _call: K, by: u64) -> Result<(), u64>
+        requires first { K.Core.asks (K.Core.told K.begun Start) ≡ Add by }
+        requires look { (word : ℕ) → K.Core.asks (K.Core.told (K.Core.told K.begun Start) (Before word)) ≡ Load }
+        requires last { (word : ℕ) → (left : ℕ) → left / 16 ≡ 0 → K.Core.asks (K.Core.told (K.Core.told (K.Core.told K.begun Start) (Before word)) (Word left)) ≡ Done Owned }
+        ensures { IfOk result (λ _. Ended K.Core.told K.Core.asks K.begun Owned) }
+    {
+        let word = self.add(by);
+        let left = word.wrapping_add(by);
+        if left / READER == 0 {
             Ok(())
         } else {
             Err(word)

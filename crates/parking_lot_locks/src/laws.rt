@@ -118,6 +118,38 @@ pub fn one_exchange_gives_the_upgradable_hold_up(fair: bool, word: u64) -> bool
         && core.next(ActResult::Exchanged) == Act::Done(CoreAnswer::Released)
 }
 
+/// Adding 8 less 20 to the word is the way of an upgradable owner that becomes a writer: the core looks once more for readers, and
+/// where the owner was alone there is none.
+pub fn one_sum_upgrades(word: u64, left: u64) -> bool
+    requires { left / 16 ≡ 0 }
+    ensures { result ≡ true }
+{
+    let mut core = UpgradeCore::upgrade();
+    core.next(ActResult::Start) == Act::Add(8u64.wrapping_sub(20))
+        && core.next(ActResult::Before(word)) == Act::Load
+        && core.next(ActResult::Word(left)) == Act::Done(CoreAnswer::Owned)
+}
+
+/// The exchange from 20 to 8 is the way of a try to upgrade where nobody else reads, and nobody sleeps.
+pub fn one_exchange_upgrades() -> bool
+    ensures { result ≡ true }
+{
+    let mut core = UpgradeCore::try_upgrade();
+    core.next(ActResult::Start) == Act::Load
+        && core.next(ActResult::Word(20)) == Act::Exchange(20, 8)
+        && core.next(ActResult::Exchanged) == Act::Done(CoreAnswer::Owned)
+}
+
+/// Taking 4 off the word is the way of an upgradable owner that becomes a reader, where nobody may sleep that wants the lock.
+pub fn one_sum_gives_the_upgrade_up(word: u64) -> bool
+    requires { word % 2 ≡ 0 }
+    ensures { result ≡ true }
+{
+    let mut core = UpgradeCore::downgrade();
+    core.next(ActResult::Start) == Act::Add(4u64.wrapping_neg())
+        && core.next(ActResult::Before(word)) == Act::Done(CoreAnswer::Owned)
+}
+
 /// Adding 12 to the word is the way of a writer that becomes an upgradable owner, where nobody may sleep that wants the lock.
 pub fn one_sum_keeps_the_upgradable_hold(word: u64) -> bool
     requires { word % 2 ≡ 0 }

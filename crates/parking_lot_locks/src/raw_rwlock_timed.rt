@@ -16,6 +16,7 @@ use lock_api_raw::{
     GuardSend, RawRwLock as _, RawRwLockTimed, RawRwLockUpgrade as _, RawRwLockUpgradeTimed,
 };
 use parking_lot_core::{ThreadData, thread_yield};
+use parking_lot_protocol::ActResult;
 use std::alloc::Allocator;
 use std::sync::Wait;
 use std::time::{Clock, Duration, Instant};
@@ -187,9 +188,13 @@ impl<'t, 'l, R: Wait, const RECURSIVE: u8, A: Allocator> RawRwLock<'t, 'l, R, RE
         ensures token { MatchResult result (λ token. token ≡ guard) (λ token. token ≡ guard) }
         ensures call { MatchResult result (λ _. RwOwned (UpgradeEnded call.Upgrading Owned) upgrading_in_time) (λ _. TimedRwEnded upgrading_in_time GivesUp) }
     {
+        let Err(word) = self.upgrades_at_once() else {
+            return Ok(guard);
+        };
+        let first = ActResult::Before(word);
         if self
             .place()
-            .own_in_time(UpgradeInTime, deadline, clock, party)
+            .own_in_time_after(UpgradeInTime, first, deadline, clock, party)
         {
             Ok(guard)
         } else {

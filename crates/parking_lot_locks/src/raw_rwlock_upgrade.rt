@@ -1,5 +1,5 @@
 //! Upgradable holds of the raw reader-writer lock.
-ghost use Rattle.std.specs.Prelude.{◌≡◌, ◌+◌, ◌*◌, ◌%◌, ◌^◌, IfSome, MatchResult, true};
+ghost use Rattle.std.specs.Prelude.{◌≡◌, ◌+◌, ◌*◌, ◌%◌, ◌^◌, IfOk, IfSome, MatchResult, true};
 ghost use Rattle.parking_lot_locks.specs.Ends.{UpgradeEnded};
 ghost use Rattle.parking_lot_locks.specs.Runs.{Ended};
 ghost use Rattle.parking_lot_protocol.specs.declared.act.CoreAnswer.{CoreAnswer};
@@ -73,12 +73,27 @@ impl<'t, 'l, R: Wait, const RECURSIVE: u8, A: Allocator> RawRwLock<'t, 'l, R, RE
         self.place().give_up(call, ActResult::Before(word));
     }
 
+    /// The upgradable hold has become one that waits for readers at this word: the core says how.
+    #[cold]
+    #[inline(never)]
+    fn upgrade_slowly(&self, word: u64, party: &mut ThreadData<A>)
+        ensures { UpgradeEnded Upgrading Owned }
+    {
+        let first = ActResult::Before(word);
+        if self.place().ask_after(Upgrade, first, party) != CoreAnswer::Owned {
+            self.own(Upgrade, party);
+        }
+    }
+
     /// Makes the upgradable hold the exclusive one: new readers are kept out at once, and the others are waited for.
+    #[inline(always)]
     pub fn upgraded(&self, guard: GuardSend, party: &mut ThreadData<A>) -> GuardSend
         ensures token { result ≡ guard }
         ensures call { UpgradeEnded Upgrading Owned }
     {
-        self.own(Upgrade, party);
+        if let Err(word) = self.upgrades_at_once() {
+            self.upgrade_slowly(word, party);
+        }
         guard
     }
 
@@ -120,6 +135,16 @@ impl<'t, 'l, R: Wait, const RECURSIVE: u8, A: Allocator> RawRwLock<'t, 'l, R, RE
 }
 
 impl<'t, 'l, R, const RECURSIVE: u8, A: Allocator> RawRwLock<'t, 'l, R, RECURSIVE, A> {
+    /// Makes the upgradable hold the exclusive one at once, where nobody else reads. Else it is one that waits for readers now, and the
+    /// word before comes back.
+    #[inline(always)]
+    pub(crate) fn upgrades_at_once(&self) -> Result<(), u64>
+        ensures { IfOk result (λ _. UpgradeEnded Upgrading Owned) }
+    {
+        self.row()
+            .owns_by_sum(Upgrade, WRITER.wrapping_sub(READER + UPGRADABLE))
+    }
+
     /// Gives the upgradable hold up at once, where nobody sleeps and one exchange does it.
     #[inline(always)]
     fn disowns_at_once(&self) -> bool
@@ -188,6 +213,7 @@ impl<'t, 'l, R, const RECURSIVE: u8, A: Allocator> RawRwLockUpgrade
         }
     }
 
+    #[inline(always)]
     fn upgrade(&self, guard: GuardSend, party: &mut ThreadData<A>) -> GuardSend
     where
         R: Wait,
@@ -195,8 +221,12 @@ impl<'t, 'l, R, const RECURSIVE: u8, A: Allocator> RawRwLockUpgrade
         self.upgraded(guard, party)
     }
 
+    #[inline(always)]
     fn try_upgrade(&self, guard: GuardSend) -> Result<GuardSend, GuardSend> {
-        if self.try_slowly(UpgradeCore::try_upgrade()) {
+        let alone = READER + UPGRADABLE;
+        if self.row().exchange(alone, WRITER).is_ok()
+            || self.try_slowly(UpgradeCore::try_upgrade())
+        {
             Ok(guard)
         } else {
             Err(guard)

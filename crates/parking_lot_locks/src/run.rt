@@ -38,14 +38,39 @@ impl<R, A: Allocator> Place<'_, '_, '_, R, A> {
 }
 
 impl<R: Wait, A: Allocator> Place<'_, '_, '_, R, A> {
-    /// Runs a call that may sleep to its end. Where a reader more may not be admitted it lets other threads run, and looks
-    /// again.
-    #[inline(never)]
+    /// Runs a call that may sleep to its end.
     pub fn ask<K: Call>(&self, call: K, party: &mut ThreadData<A>) -> CoreAnswer
         ensures { Ended K.Core.told K.Core.asks K.begun result }
     {
-        let mut spin = SpinWait::new();
+        self.go_on(Run::begin(call), party)
+    }
+
+    /// The same of a call whose first act was made: it is handed what that has given.
+    pub fn ask_after<K: Call>(
+        &self,
+        call: K,
+        first: ActResult,
+        party: &mut ThreadData<A>,
+    ) -> CoreAnswer
+        ensures { Ended K.Core.told K.Core.asks K.begun result }
+    {
         let mut run = Run::begin(call);
+        run.tell(first);
+        self.go_on(run, party)
+    }
+
+    /// Runs a call that has begun to its end. Where a reader more may not be admitted it lets other threads run, and looks
+    /// again.
+    #[inline(never)]
+    fn go_on<K: Call<Core = C>, C: DecisionCore>(
+        &self,
+        begun: Run<K, C>,
+        party: &mut ThreadData<A>,
+    ) -> CoreAnswer
+        ensures { Ended C.told C.asks K.begun result }
+    {
+        let mut run = begun;
+        let mut spin = SpinWait::new();
         for _act in self.row.lot().runtime().forever() {
             match run.act() {
                 Act::Done(answer) => {

@@ -62,7 +62,6 @@ fn after_sleep<K: TimedCall>(run: &mut TimedRun<K>, ended: ParkResult, last: boo
 
 impl<R: Wait, A: Allocator> Place<'_, '_, '_, R, A> {
     /// Runs a call that may give up to its end, and answers whether it owns what it asked for.
-    #[inline(never)]
     pub fn own_in_time<K: TimedCall, C: Clock>(
         &self,
         call: K,
@@ -72,8 +71,38 @@ impl<R: Wait, A: Allocator> Place<'_, '_, '_, R, A> {
     ) -> bool
         ensures { MatchBool result (TimedRwEnded K.begun (Makes (Done Owned))) (TimedRwEnded K.begun GivesUp) }
     {
-        let mut spin = SpinWait::new();
+        self.go_on_in_time(TimedRun::begin(call), deadline, clock, party)
+    }
+
+    /// The same of a call whose first act was made: it is handed what that has given.
+    pub fn own_in_time_after<K: TimedCall, C: Clock>(
+        &self,
+        call: K,
+        first: ActResult,
+        deadline: Instant,
+        clock: &C,
+        party: &mut ThreadData<A>,
+    ) -> bool
+        ensures { MatchBool result (TimedRwEnded K.begun (Makes (Done Owned))) (TimedRwEnded K.begun GivesUp) }
+    {
         let mut run = TimedRun::begin(call);
+        run.tell(first);
+        self.go_on_in_time(run, deadline, clock, party)
+    }
+
+    /// Runs a call that has begun to its end.
+    #[inline(never)]
+    fn go_on_in_time<K: TimedCall, C: Clock>(
+        &self,
+        begun: TimedRun<K>,
+        deadline: Instant,
+        clock: &C,
+        party: &mut ThreadData<A>,
+    ) -> bool
+        ensures { MatchBool result (TimedRwEnded K.begun (Makes (Done Owned))) (TimedRwEnded K.begun GivesUp) }
+    {
+        let mut run = begun;
+        let mut spin = SpinWait::new();
         for _act in self.row.lot().runtime().forever() {
             match run.asked() {
                 TimedAct::GivesUp => {

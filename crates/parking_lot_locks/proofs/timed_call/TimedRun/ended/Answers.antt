@@ -1,6 +1,5 @@
-use Rattle.std.proofs.Common.{◌∙◌, ap, sym, subst}
+use Rattle.std.proofs.Common.{◌∙◌, ap, sym}
 use Rattle.parking_lot_timed.specs.Courses.{EndedAt}
-use Rattle.parking_lot_locks.specs.Ends.{TimedRwEnded}
 use Rattle.parking_lot_rw_timed.specs.TimedTable.{timed_asks}
 use Rattle.parking_lot_locks.proofs.timed_call.TimedRun.ended.Goals as goal
 
