@@ -22,6 +22,9 @@ mod Indebting
 mod OwnActs
 mod WakesKept
 pub mod Stancing
+mod UpgradeStancing
+mod UpgradeMoving
+mod UpgradeKeeping
 pub mod RwMoving
 pub mod RwTaking
 pub mod Carrying
@@ -69,6 +72,7 @@ pub mod Woken
 pub mod Takings
 mod MutexPaying
 mod RwPaying
+mod UpgradePaying
 mod Summing
 pub mod Paying
 pub mod LateLots

@@ -29,7 +29,7 @@ use Rattle.parking_lot_world.proofs.RwTaking.{same_scan}
 -- STORES
 
 -- how many are left doesn't matter, but whether some are
-stored_left : (e : Ending) (r : ℕ) (u x : Bool) (q : List ℕ) (left : Bool) (w : Word) → is_left q ≡ left → stored e r u x (bit left) w ≡ stored e r u x (length q) w
+pub stored_left : (e : Ending) (r : ℕ) (u x : Bool) (q : List ℕ) (left : Bool) (w : Word) → is_left q ≡ left → stored e r u x (bit left) w ≡ stored e r u x (length q) w
 stored_left e r u x q left w same = sym (ap (λ b. stored e r u x (bit b) w) same) ∙ some e q
   where
     some : (e : Ending) (q : List ℕ) → stored e r u x (bit (is_left q)) w ≡ stored e r u x (length q) w

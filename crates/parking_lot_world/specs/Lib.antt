@@ -25,3 +25,6 @@ pub mod SoundLaws
 pub mod LostExchanges
 pub mod LateActs
 pub mod LateLaws
+pub mod UpgradeStances
+pub mod UpgradeLaws
+pub mod UpgradeRanks

@@ -24,6 +24,7 @@ mod starts;
 mod step;
 mod take_laws;
 mod tell_laws;
+mod upgrade_laws;
 mod view_laws;
 mod world;
 mod world_views;
