@@ -1,5 +1,5 @@
 -- The acts of a call whose moment has passed: each keeps the machine fit, and is a step of the rules.
-use Rattle.std.proofs.Common.{◌≡◌, ◌≢◌, ℕ, zero, suc, ◌+◌, ◌*◌, ◌<◌, ◌≤◌, ◌==◌, inl, inr, Bool, true, false, cond, List, [], ◌∷◌, length, map, remove, Option, Some, None, slice_get, slice_set, sum_by, refl, sym, ap, ◌∙◌, subst, arith, eqb-true, eq-eqb}
+use Rattle.std.proofs.Common.{◌≡◌, ℕ, zero, suc, ◌+◌, ◌*◌, ◌≤◌, ◌==◌, inl, inr, Bool, true, false, cond, List, [], ◌∷◌, length, remove, Option, Some, None, slice_get, slice_set, sum_by, refl, sym, ap, ◌∙◌, subst, arith, eqb-true, eq-eqb}
 use Rattle.std.specs.List.{position_or_len}
 use Rattle.std.specs.Option.{option_and_then, option_map}
 use Rattle.std.proofs.lemmas.Bool.{cases_eq, ne_eqb}
@@ -8,7 +8,6 @@ use Rattle.std.proofs.lemmas.List.Edits.{length-remove}
 use Rattle.std.proofs.lemmas.Option.{slice_get-map, slice_get_within}
 use Rattle.parking_lot_core_lot.specs.declared.parking.ParkToken.{ParkToken}
 use Rattle.parking_lot_core_lot.specs.declared.place.Phase.{Phase}
-use Rattle.parking_lot_core_lot.specs.declared.place.Place.{Place}
 use Rattle.parking_lot_core_lot.specs.declared.place.Place.TheVariants.{Running, Waiting}
 use Rattle.parking_lot_core_lot.specs.declared.place.Section.{Section}
 use Rattle.parking_lot_core_lot.specs.declared.place.Waiter.{Waiter}
@@ -34,21 +33,20 @@ use Rattle.parking_lot_world.specs.declared.seat.LatePhase.{LatePhase}
 use Rattle.parking_lot_world.specs.declared.seat.Core.{Core}
 use Rattle.parking_lot_world.specs.declared.seat.QueuePosition.{QueuePosition}
 use Rattle.parking_lot_world.specs.declared.open_call.Call.{Call}
-use Rattle.parking_lot_world.specs.ActLaws.{Acts, Keeps}
+use Rattle.parking_lot_world.specs.ActLaws.{Acts}
 use Rattle.parking_lot_world.specs.Kinds.{AsMutex, manner_of, recursive_in}
 use Rattle.parking_lot_world.specs.LateActs.{expired, others_left, out_of_list, quitted, quitted_as, returned}
 use Rattle.parking_lot_world.specs.LateLaws.{Expires, LateActsAreSteps}
 use Rattle.parking_lot_world.specs.Ranks.{Pays, core_steps, far_steps, late_steps, own_steps, steps_left, view_of}
-use Rattle.parking_lot_world.specs.RowActs.{hears, key_of, with_call}
+use Rattle.parking_lot_world.specs.RowActs.{hears, key_of}
 use Rattle.parking_lot_world.specs.RowFits.{FitsTogether, IsOfKind, IsPrepared, LotFits, RulesFit, WaitsIn, WakesSome}
 use Rattle.parking_lot_world.specs.RowSteps.{IsLateMove, IsMade}
 use Rattle.parking_lot_world.specs.Rows.{State, call_at, first_of_all, inside, late_role, mutex_at, mutex_spot, queue_at, taken_by, word_at}
-use Rattle.parking_lot_world.specs.Stances.{Asleep, In, Joined, Stores, Tells, core_act, core_next, sign, stance, taken_count}
+use Rattle.parking_lot_world.specs.Stances.{In, Joined, Stores, Tells, core_act, core_next, sign, stance, taken_count}
 use Rattle.parking_lot_world.proofs.Calling.{call_of, call-elsewhere, calls-change}
-use Rattle.parking_lot_world.proofs.Carrying.{same_call}
-use Rattle.parking_lot_world.proofs.KindTable.{IsThere, Late, of_mutexes, same}
+use Rattle.parking_lot_world.proofs.KindTable.{Late, of_mutexes, same}
 use Rattle.parking_lot_world.proofs.LateLots.{expired_fits, quit_fits, returned_fits}
-use Rattle.parking_lot_world.proofs.LotActs.{same_section, seat_of}
+use Rattle.parking_lot_world.proofs.LotActs.{seat_of}
 use Rattle.parking_lot_world.proofs.LotLists.{one_key}
 use Rattle.parking_lot_world.proofs.Making.{made, made_sound}
 use Rattle.parking_lot_world.proofs.Meeting.{in_range, plays, plays_late}
@@ -56,7 +54,7 @@ use Rattle.parking_lot_world.proofs.MutexMoving.{total_of_nobody}
 use Rattle.parking_lot_world.proofs.OwnActs.{nobody_in_mutex}
 use Rattle.parking_lot_world.proofs.Owning.{OwnAct, own-elsewhere, own-there, own_after}
 use Rattle.parking_lot_world.proofs.Paying.{call-within, pays}
-use Rattle.parking_lot_world.proofs.Ruling.{CallFits, Fitted, call_fits, knows_same, rules_after, rules_own}
+use Rattle.parking_lot_world.proofs.Ruling.{CallFits, Fitted, call_fits, rules_after, rules_own}
 use Rattle.parking_lot_world.proofs.Summing.{others_change, others_same}
 use Rattle.parking_lot_world.proofs.TakeParts.{others_out, out_knows}
 use Rattle.parking_lot_world.proofs.WakesActs.{wakes_still}

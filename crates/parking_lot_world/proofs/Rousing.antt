@@ -17,7 +17,7 @@ use Rattle.parking_lot_world.specs.declared.seat.QueuePosition.{QueuePosition}
 use Rattle.parking_lot_world.specs.declared.open_call.Call.{Call}
 use Rattle.parking_lot_world.specs.declared.seat.Wakeup.{Wakeup}
 use Rattle.parking_lot_world.specs.Rows.{State, word_at, hold_at, call_at, is_by, taken_by, mark_of, first_of_all, rw_spot, mutex_spot, rw_lock_at, mutex_at, queue_at}
-use Rattle.parking_lot_world.specs.Stances.{Out, Asleep, late_act, mutex_stance, rw_stance, stance, taken_count, core_act, core_next}
+use Rattle.parking_lot_world.specs.Stances.{Out, Asleep, late_act, rw_stance, stance, taken_count, core_act, core_next}
 use Rattle.parking_lot_world.specs.RowActs.{hears, woke, told_of}
 use Rattle.parking_lot_world.specs.RowFits.{FitsTogether, RulesFit, WakesFit, IsOfKind, IsTaken, IsPrepared, KnowsList, is_away, is_off, mutex_knows, rw_prepared}
 use Rattle.parking_lot_world.specs.TellLaws.{IsDue}

@@ -4,7 +4,6 @@ use Rattle.std.proofs.lemmas.Bool.{both_ways}
 use Rattle.parking_lot_core_lot.specs.Machine.{threads_of}
 use Rattle.parking_lot_core_lot.specs.Results.{is_left}
 use Rattle.parking_lot_core_lot.specs.declared.parking.FilterOp.TheVariants.{Unpark}
-use Rattle.parking_lot_core_lot.specs.declared.parking.ParkToken.{ParkToken}
 use Rattle.parking_lot_core_lot.specs.declared.place.Phase.TheVariants as phase
 use Rattle.parking_lot_core_lot.specs.declared.place.Waiter.{Waiter}
 use Rattle.parking_lot_protocol.specs.MutexRules as of_mutex
@@ -37,7 +36,6 @@ use Rattle.parking_lot_world.specs.RowActs.{key_of, took}
 use Rattle.parking_lot_world.specs.RowFits.{FitsTogether, IsOfKind, IsPrepared, KnowsList}
 use Rattle.parking_lot_world.specs.Rows.{State, word_at, call_at, taken_by, rw_spot, rw_lock_at, first_of_all, mutex_spot, mutex_at}
 use Rattle.parking_lot_world.specs.RwLaws.{SleepsFirst, SleepsSecond}
-use Rattle.parking_lot_world.specs.Stances as stances
 use Rattle.parking_lot_world.specs.Stances.{Takes, In, rw_stance, mutex_stance, stance, taken_count, core_next}
 use Rattle.parking_lot_world.specs.declared.open_call.Call.{Call}
 use Rattle.parking_lot_world.specs.declared.seat.Core.{Core}

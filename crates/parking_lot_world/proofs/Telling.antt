@@ -41,7 +41,7 @@ use Rattle.parking_lot_world.specs.declared.seat.Core.{Core}
 use Rattle.parking_lot_world.specs.declared.seat.QueuePosition.{QueuePosition}
 use Rattle.parking_lot_world.proofs.Acting.{word-here, has_word}
 use Rattle.parking_lot_world.proofs.Everybody.{all, get-all, settle-all}
-use Rattle.parking_lot_world.proofs.KindTable.{Plain, Late, MutexCall, mutex_plays, Kind, of_rws, of_mutexes, IsThere, role_at, role_now, roles_at, same, shown}
+use Rattle.parking_lot_world.proofs.KindTable.{Plain, Late, mutex_plays, Kind, of_rws, of_mutexes, IsThere, role_at, role_now, roles_at, same, shown}
 use Rattle.parking_lot_world.proofs.Making.{made, mutex_goes, rw_goes}
 use Rattle.parking_lot_world.proofs.Meeting.{in_range, meets, plays, plays_late, rw_hears}
 use Rattle.parking_lot_world.proofs.MutexMoving.{steps}

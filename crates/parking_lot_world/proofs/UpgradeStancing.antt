@@ -76,7 +76,7 @@ seeks_lead (RwPhase.Checks want woken) word (ActResult.Word w) i g = go (rt.is_b
 seeks_lead (RwPhase.Retreats want woken) word ActResult.Made i g = inl (0, refl, refl, refl, refl)
 seeks_lead (RwPhase.Appends want) word ActResult.Made i g = (0, omega arith, refl, refl, refl, refl)
 seeks_lead (RwPhase.Rests want) word ActResult.Made i g = inr (inl (0, record { 0 = 20 }, refl, refl, refl, refl))
-seeks_lead (RwPhase.Sleeps want) word (ActResult.Woken token) i g = let x = woken_idle want token in (0, record { 0 = 20 }, refl, x.0, refl, x.1)
+seeks_lead (RwPhase.Sleeps want) word (ActResult.Woken token) i g = let x = woken_idle want token in (λ k park e. (x.0, refl, x.1))
 seeks_lead (RwPhase.DrainLoads d) word s i g = absurd i
 seeks_lead (RwPhase.DrainSpins d) word s i g = absurd i
 seeks_lead (RwPhase.DrainSetParked d from) word s i g = absurd i
