@@ -43,20 +43,25 @@ pub mod LotKept
 pub mod LotCalls
 pub mod WakesActs
 pub mod Viewing
-pub mod FirstTaken
+pub mod NextTaken
 pub mod LotStarts
 pub mod ScanRoom
 pub mod Scheduling
 pub mod Seating
 pub mod RwKeeping
 pub mod RwCrossing
+mod Passing
 mod Starting
 mod Acting
 mod Requesting
 mod Stepping
 mod TakeJoins
 mod TakeParts
+mod Wanting
+mod TakeSleepers
 mod TakeFirst
+mod TakeNext
+mod PassingOn
 mod TakeActs
 mod TakeLaws
 mod Settling

@@ -181,22 +181,22 @@ first_list (Core.Rw c) sum k e f = rw_first c.phase sum k e f
 first_list (Core.Late p) sum k e f = late_first p sum k e f
 
 -- one of it is gone
-one_less : (queues : ℕ → List Waiter) (key i : ℕ) (w : Waiter) → key ≡ i → slice_get (queues key) 0 ≡ Some w → length (queues i) ≡ length (updated queues key (remove (queues key) 0) i) + 1
-one_less queues key i w e at =
+one_less : (queues : ℕ → List Waiter) (key i nth : ℕ) (w : Waiter) → key ≡ i → slice_get (queues key) nth ≡ Some w → length (queues i) ≡ length (updated queues key (remove (queues key) nth) i) + 1
+one_less queues key i nth w e at =
     omega (
       arith,
       ap (λ j. length (queues j)) (sym e),
-      ap (λ j. length (updated queues key (remove (queues key) 0) j)) (sym e),
-      ap length (updated_at queues key (remove (queues key) 0)),
-      length-remove (queues key) 0 (slice_get_within (queues key) 0 w at),
+      ap (λ j. length (updated queues key (remove (queues key) nth) j)) (sym e),
+      ap length (updated_at queues key (remove (queues key) nth)),
+      length-remove (queues key) nth (slice_get_within (queues key) nth w at),
     )
 
-leaves_some : (a : Act) (c : Core) (queues : ℕ → List Waiter) (token : ParkToken) (left : Bool) (j k : ℕ) (w : Waiter) → core_act c ≡ a → IsTaking a → stance c ≡ In k Takes → slice_get (queues (2 * j + k)) 0 ≡ Some w
-    → Leaves a (ActResult.Took (Some token) left) (length (queues (2 * j))) (length (updated queues (2 * j + k) (remove (queues (2 * j + k)) 0) (2 * j)))
-leaves_some (Act.Section section.TakeFirst) c queues token left j k w asked x is at = tt
-leaves_some (Act.Section (section.TakeNext sum)) c queues token left j k w asked x is at =
-    one_less queues (2 * j + k) (2 * j) w (omega (arith, first_list c sum k asked is)) at
-leaves_some a c queues token left j k w asked x is at = absurd x
+leaves_some : (a : Act) (c : Core) (queues : ℕ → List Waiter) (token : ParkToken) (left : Bool) (j k nth : ℕ) (w : Waiter) → core_act c ≡ a → IsTaking a → stance c ≡ In k Takes → slice_get (queues (2 * j + k)) nth ≡ Some w
+    → Leaves a (ActResult.Took (Some token) left) (length (queues (2 * j))) (length (updated queues (2 * j + k) (remove (queues (2 * j + k)) nth) (2 * j)))
+leaves_some (Act.Section section.TakeFirst) c queues token left j k nth w asked x is at = tt
+leaves_some (Act.Section (section.TakeNext sum)) c queues token left j k nth w asked x is at =
+    one_less queues (2 * j + k) (2 * j) nth w (omega (arith, first_list c sum k asked is)) at
+leaves_some a c queues token left j k nth w asked x is at = absurd x
 
 -- whoever is off its list has as many steps as before
 off_far : (n t : ℕ) (o : Option Call) → far_steps n (option_map (off_list t) o) ≡ far_steps n o
@@ -279,18 +279,18 @@ module _ (s : State) (t : ℕ) (c : Call) (h : FitsTogether s) (here : call_at s
       let gives = gives_took a (word_at s c.lock) None (is_left (s.lot.queues (key_of c k))) taking in
       one (took_nobody s t c (key_of c k)) (hears c heard) heard refl refl refl a asked (sym gives.2) false free_now (ap (is_shut_to t) (still_inside s.lot.section _) ∙ free_now) gives.0 gives.1 (leaves_none a _ _ taking)
 
-  pub take : (k : ℕ) (w : Waiter) (a : Act) → core_act c.core ≡ a → IsTaking a → stance c.core ≡ In k Takes → slice_get (s.lot.queues (key_of c k)) 0 ≡ Some w → Pays t s (took s t c (key_of c k) 0 w)
-  take k w a asked taking is at =
+  pub take : (k nth : ℕ) (w : Waiter) (a : Act) → core_act c.core ≡ a → IsTaking a → stance c.core ≡ In k Takes → slice_get (s.lot.queues (key_of c k)) nth ≡ Some w → Pays t s (took s t c (key_of c k) nth w)
+  take k nth w a asked taking is at =
       let n = length s.calls in
-      let u = took s t c (key_of c k) 0 w in
-      let heard = ActResult.Took (Some w.token) (is_left (remove (s.lot.queues (key_of c k)) 0)) in
+      let u = took s t c (key_of c k) nth w in
+      let heard = ActResult.Took (Some w.token) (is_left (remove (s.lot.queues (key_of c k)) nth)) in
       let away = slice_set s.calls w.thread (option_map (off_list t) (call_at s w.thread)) in
       let free_now = inside_open k _ is in
-      let gives = gives_took a (word_at s c.lock) (Some w.token) (is_left (remove (s.lot.queues (key_of c k)) 0)) taking in
+      let gives = gives_took a (word_at s c.lock) (Some w.token) (is_left (remove (s.lot.queues (key_of c k)) nth)) taking in
       falls s u t c (hears c heard) heard h here (call-within away t (Some (hears c heard)) (subst (λ m. t < m) (sym (length-set s.calls w.thread _)) (in_range s t c here))) refl refl
       (length-set away t (Some (hears c heard)) ∙ length-set s.calls w.thread _)
       (omega (arith, others_same n away t (Some (hears c heard)), others_change n s.calls t w.thread 0 (option_map (off_list t) (call_at s w.thread)) (omega (arith, off_far n t (call_at s w.thread)))))
-      a asked (sym gives.2) false free_now (ap (is_shut_to t) (still_inside s.lot.section _) ∙ free_now) gives.0 gives.1 (leaves_some a c.core s.lot.queues w.token _ c.lock k w asked taking is at)
+      a asked (sym gives.2) false free_now (ap (is_shut_to t) (still_inside s.lot.section _) ∙ free_now) gives.0 gives.1 (leaves_some a c.core s.lot.queues w.token _ c.lock k nth w asked taking is at)
 
   -- it tells whom it has taken
   module _ (u : State) (heard : ActResult) (said : WakeResult) (calls : u.calls ≡ map (option_map (settled t said)) (slice_set s.calls t (Some (hears c heard)))) where

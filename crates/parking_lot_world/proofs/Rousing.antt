@@ -17,11 +17,13 @@ use Rattle.parking_lot_world.specs.declared.seat.QueuePosition.{QueuePosition}
 use Rattle.parking_lot_world.specs.declared.open_call.Call.{Call}
 use Rattle.parking_lot_world.specs.declared.seat.Wakeup.{Wakeup}
 use Rattle.parking_lot_world.specs.Rows.{State, word_at, hold_at, call_at, is_by, taken_by, mark_of, first_of_all, rw_spot, mutex_spot, rw_lock_at, mutex_at, queue_at}
-use Rattle.parking_lot_world.specs.Stances.{Out, Asleep, late_act, rw_stance, stance, taken_count, core_act, core_next}
+use Rattle.parking_lot_world.specs.Stances.{In, Takes, Out, Asleep, late_act, rw_stance, stance, taken_count, core_act, core_next}
 use Rattle.parking_lot_world.specs.RowActs.{hears, woke, told_of}
-use Rattle.parking_lot_world.specs.RowFits.{FitsTogether, RulesFit, WakesFit, IsOfKind, IsTaken, IsPrepared, KnowsList, is_away, is_off, mutex_knows, rw_prepared}
+use Rattle.parking_lot_world.specs.RowFits.{FitsTogether, LotFits, PassesFit, RulesFit, WakesFit, IsOfKind, IsTaken, IsPrepared, KnowsList, is_away, is_off, mutex_knows, rw_prepared}
 use Rattle.parking_lot_world.specs.TellLaws.{IsDue}
 use Rattle.parking_lot_world.proofs.Calling.{slot}
+use Rattle.parking_lot_world.proofs.Passing.{passes_after}
+use Rattle.parking_lot_world.proofs.Stancing.{sleepers_wake}
 use Rattle.parking_lot_world.proofs.Carrying.{same_call}
 use Rattle.parking_lot_world.proofs.Indexing.{kept_remove}
 use Rattle.parking_lot_world.proofs.KindTable.{MutexCall, Plain, Late, mutex_call, sleeps_so, woken_so, woken_plain, Kind, of_rws, of_mutexes, IsThere, Elsewhere, in_its_place, role_at, role_now, role_stays, roles_at, same, shown}
@@ -225,6 +227,22 @@ module _ (s : State) (t : ℕ) (c : Call) (h : FitsTogether s) (here : call_at s
         let was = h.wakes.room in
         omega arith;
   }
+
+  -- nobody takes anybody
+  pub passes_roused : stance (core_next c.core seen.Made) ≡ Out → LotFits woke_state → PassesFit woke_state
+  passes_roused to lots =
+      passes_after s woke_state t lots h.passes (inr (inr (refl, λ key. refl)))
+      (λ x z k nt at is. elim (cases_eq x e.thread) [
+        | inl f ↦ absurd (out_takes (sym woken_out ∙ ap (λ (y : Call). stance y.core) (same_call (sym at_v ∙ ap (call_at woke_state) (sym f) ∙ at)) ∙ is))
+        | inr nv ↦ (z, sym (at_others x nt nv) ∙ at, refl, refl)
+      ])
+      (λ z k o at is there. absurd (out_takes (sym to ∙ ap (λ (y : Call). stance y.core) (same_call (sym at_t ∙ at)) ∙ is)))
+    where
+      out_takes : {k : ℕ} → Out ≡ In k Takes → ⊥
+      out_takes q = cc
+
+      woken_out : stance woken_call.core ≡ Out
+      woken_out = (sleepers_wake d.core was_off.0 was_off.1 token was_off.3).1
 
   -- what is left to be shown by the kind of the lock: of the one that wakes, and of what the woken one stands on
   abbrev pub Roused : Core → Core → Type 0

@@ -9,7 +9,9 @@ use Rattle.parking_lot_world.specs.Kinds.{AsRw, manner_of, AsMutex, recursive_in
 use Rattle.parking_lot_world.specs.declared.open_call.Call.{Call}
 use Rattle.parking_lot_world.specs.declared.seat.Core.{Core}
 use Rattle.parking_lot_world.specs.Rows.{State, call_at, is_by, taken_by}
-use Rattle.parking_lot_world.specs.Stances.{Takes, In, Asleep, stance, rw_stance, rw_taken, taken_count}
+use Rattle.parking_lot_core_lot.specs.declared.parking.FilterOp.TheVariants.{Unpark}
+use Rattle.parking_lot_world.specs.Passes.{asks}
+use Rattle.parking_lot_world.specs.Stances.{Takes, In, Asleep, core_act, stance, rw_stance, rw_taken, taken_count}
 use Rattle.parking_lot_world.specs.StanceLaws.{Counts, rw_counts}
 use Rattle.parking_lot_world.specs.RowActs.{key_of}
 use Rattle.parking_lot_world.specs.RowFits.{FitsTogether, IsOfKind, IsPrepared, rw_keeps, is_away}
@@ -39,8 +41,8 @@ module _ (s : State) (h : FitsTogether s) (t : ℕ) (c : Call) (here : call_at s
       let small : length s.calls < 2 ^ 17 = h.rules.small in
       omega arith
 
-  pub scans_have_room : (k nth : ℕ) (w : Waiter) → stance c.core ≡ In k Takes → slice_get (s.lot.queues (key_of c k)) nth ≡ Some w → Counts c.core w.token
-  scans_have_room k nth w from at = by_core c.core refl
+  pub scans_have_room : (k nth : ℕ) (w : Waiter) → stance c.core ≡ In k Takes → slice_get (s.lot.queues (key_of c k)) nth ≡ Some w → asks (core_act c.core) w.token.0 ≡ Unpark → Counts c.core w.token
+  scans_have_room k nth w from at wanted = by_core c.core refl
     where
       z : Sleeper s t k c w
       z = sleeper s t c h.lots here k nth w (small_key c.core k Takes from) from at
@@ -58,7 +60,7 @@ module _ (s : State) (h : FitsTogether s) (t : ℕ) (c : Call) (here : call_at s
 
       by_phase : (p : RwPhase) → (rw_keeps (recursive_in s.kinds c.lock) c.others p) → taken_count c.core ≡ rw_taken p → ((w.token.0 ≡ 16) ⊎ (w.token.0 ≡ 8)) → rw_counts p w.token
       by_phase (RwPhase.Scans a) keeps count (inl e) = let less = few in inl (e, omega arith)
-      by_phase (RwPhase.Scans a) keeps count (inr e) = inr (e, keeps.1)
+      by_phase (RwPhase.Scans a) keeps count (inr e) = inr (inl (e, keeps.1))
       by_phase p keeps count token = tt
 
       by_core : (x : Core) → c.core ≡ x → Counts x w.token

@@ -1,6 +1,6 @@
 -- Where a call stands, act by act.
-use Rattle.std.proofs.Common.{◌≡◌, ◌≤◌, ◌<◌, ℕ, ◌+◌, ◌-◌, ◌/◌, ◌%◌, ◌^◌, ◌==◌, ◌&&◌, ◌||◌, inl, inr, nat_lt, not, min, Bool, true, false, cond, Option, Some, None, is_some, Result, Ok, Err, refl, sym, ap, ◌∙◌, subst, arith}
-use Rattle.std.proofs.lemmas.Bool.{eq-eqb, ne_eqb, ltb-true, ltb-false, cond-true, cond-false}
+use Rattle.std.proofs.Common.{◌≡◌, ◌≤◌, ◌<◌, ℕ, ◌+◌, ◌-◌, ◌/◌, ◌%◌, ◌^◌, ◌==◌, ◌&&◌, ◌||◌, inl, inr, nat_lt, not, min, Bool, true, false, cond, Option, Some, None, is_some, Result, Ok, Err, refl, sym, ap, subst, arith}
+use Rattle.std.proofs.lemmas.Bool.{ltb-true, ltb-false}
 use Rattle.std.specs.Option.{option_map, option_map_or, option_and_then}
 use Rattle.parking_lot_core_lot.specs.declared.parking.ParkToken.{ParkToken}
 use Rattle.parking_lot_core_lot.specs.declared.parking.UnparkToken.{UnparkToken}
@@ -246,21 +246,13 @@ mutex_takes p word token left g = absurd g
 goes : (left : Bool) (a b : Scanning) → rt.count_of b ≡ rt.count_of a + 1 → TakesOne (In 0 Takes) (rw_stance (rt.goes_on left b)) (rt.count_of a) (rw_taken (rt.goes_on left b))
 goes left a b e = pick (λ (p : RwPhase). TakesOne (In 0 Takes) (rw_stance p) (rt.count_of a) (rw_taken p)) (left && not b.writer) (RwPhase.Scans b) (RwPhase.Stores b left) (0, omega arith, refl, inl refl, e) (0, omega arith, refl, inr refl, e)
 
+abbrev CountsAt : Scanning → Bool → ℕ → Type 0
+CountsAt a left n = let q = option_map_or (λ p. p) (rt.scans a (Some (record { 0 = n })) left) RwPhase.Invalid in TakesOne (In 0 Takes) (rw_stance q) (rt.count_of a) (rw_taken q)
+
 scan_takes : (a : Scanning) (token : ParkToken) (left : Bool) → rw_counts (RwPhase.Scans a) token → let q = rt.next_phase (RwPhase.Scans a) (ActResult.Took (Some token) left) in TakesOne (In 0 Takes) (rw_stance q) (rt.count_of a) (rw_taken q)
-scan_takes a token left (inl h) =
-    let b : Scanning = record a { shared = min (a.shared + 1) (2 ^ 32 - 1) } in
-    let room : a.shared < 2 ^ 32 - 1 = h.1 in
-    subst (λ (o : Option Scanning). let q = option_map_or (λ p. p) (option_map (rt.goes_on left) o) RwPhase.Invalid in TakesOne (In 0 Takes) (rw_stance q) (rt.count_of a) (rw_taken q))
-    (sym (cond-true (token.0 == 16) (Some b) (cond (token.0 == 8) (Some (record a { writer = true })) (cond (token.0 == 20) (Some (record a { upgradable = true })) None)) (eq-eqb token.0 16 h.0)))
-    (goes left a b (omega arith))
-scan_takes a token left (inr h) =
-    let b : Scanning = record a { writer = true } in
-    let rest : Option Scanning = cond (token.0 == 20) (Some (record a { upgradable = true })) None in
-    let was : bit a.writer ≡ 0 = ap bit h.1 in
-    subst (λ (o : Option Scanning). let q = option_map_or (λ p. p) (option_map (rt.goes_on left) o) RwPhase.Invalid in TakesOne (In 0 Takes) (rw_stance q) (rt.count_of a) (rw_taken q))
-    (sym (cond-false (token.0 == 16) (Some (record a { shared = min (a.shared + 1) (2 ^ 32 - 1) })) (cond (token.0 == 8) (Some b) rest) (ne_eqb token.0 16 (λ e. absurd (let z = h.0 in omega arith)))
-    ∙ cond-true (token.0 == 8) (Some b) rest (eq-eqb token.0 8 h.0)))
-    (goes left a b (omega arith))
+scan_takes a token left (inl h) = subst (CountsAt a left) (sym h.0) (let room : a.shared < 2 ^ 32 - 1 = h.1 in goes left a (record a { shared = min (a.shared + 1) (2 ^ 32 - 1) }) (omega arith))
+scan_takes a token left (inr (inl h)) = subst (CountsAt a left) (sym h.0) (let was : bit a.writer ≡ 0 = ap bit h.1 in goes left a (record a { writer = true }) (omega arith))
+scan_takes a token left (inr (inr h)) = subst (CountsAt a left) (sym h.0) (let was : bit a.upgradable ≡ 0 = ap bit h.1 in goes left a (record a { upgradable = true }) (omega arith))
 
 rw_takes : (p : RwPhase) (word : ℕ) (token : ParkToken) (left : Bool) → let s = ActResult.Took (Some token) left in
     Gives (rt.act_of p) word s → rw_counts p token → TakesOne (rw_stance p) (rw_stance (rt.next_phase p s)) (rw_taken p) (rw_taken (rt.next_phase p s))

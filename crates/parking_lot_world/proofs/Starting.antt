@@ -20,7 +20,9 @@ use Rattle.parking_lot_world.specs.declared.seat.Core.{Core}
 use Rattle.parking_lot_world.specs.declared.open_call.Call.{Call}
 use Rattle.parking_lot_world.specs.declared.seat.QueuePosition.{QueuePosition}
 use Rattle.parking_lot_world.specs.Rows.{State, word_at, call_at, hold_at, taken_by, rw_spot, first_of_all, mutex_at, rw_role_at, rw_lock_at, queue_at, inside, owned_of, owns_mutex, mutex_spot}
-use Rattle.parking_lot_world.specs.Stances.{has_begun, rw_begun, mutex_begun, late_act, core_act, core_next, Stance, Out, In, Asleep, stance, taken_count}
+use Rattle.parking_lot_world.specs.Stances.{Takes, has_begun, rw_begun, mutex_begun, late_act, core_act, core_next, Stance, Out, In, Asleep, stance, taken_count}
+use Rattle.parking_lot_core_lot.specs.Places.{passed_of}
+use Rattle.parking_lot_world.specs.Passes.{ArePassed, asks}
 use Rattle.parking_lot_world.specs.RowActs.{hears, begun, answered, hold_after, rw_hold_after, mutex_hold_after}
 use Rattle.parking_lot_world.specs.RowFits.{FitsTogether, WakesFit, IsOfKind, rw_prepared, rw_knows, mutex_knows, is_off, is_away}
 use Rattle.parking_lot_rules.specs.Holds.{shared_holds}
@@ -101,6 +103,9 @@ begin_mutex v us MutexPhase.Trying q b = (tt, refl, tt)
 begin_mutex v us (MutexPhase.Unlocking fair) q b = (tt, refl, tt)
 begin_mutex v us MutexPhase.Bumping q b = (tt, refl, tt)
 begin_mutex v us p q b = absurd (both_ways true b refl)
+
+out_takes : {k : ℕ} → Out ≡ In k Takes → ⊥
+out_takes e = cc
 
 module _ (s : State) (t : ℕ) (c : Call) (may : MayBegin s t c) (h : FitsTogether s) where
   abbrev us : List ℕ
@@ -210,6 +215,8 @@ module _ (s : State) (t : ℕ) (c : Call) (may : MayBegin s t c) (h : FitsTogeth
       record {
         fits = record {
           lots = begun_fits s t c h.lots may.low may.free (calls_begin c.core).0 (calls_begin c.core).1;
+          passes = λ v d k o at is there. calls_begun (λ (n : ℕ) (y : Call). stance y.core ≡ In k Takes → ArePassed (asks (core_act y.core)) (s.lot.queues (2 * y.lock + k)) (passed_of o.phase))
+              (λ n y at_n takes. h.passes n y k o at_n takes there) (λ takes. absurd (out_takes (sym (calls_begin c.core).0 ∙ takes))) v d at is;
           wakes = wakes_begun;
           rules = rules_after s next c.lock h.rules (record {
             kinds = refl;
@@ -471,6 +478,7 @@ module _ (s : State) (h : FitsTogether s) (t : ℕ) (c : Call) (here : call_at s
         record {
           fits = record {
             lots = same_parts (record s { calls = slice_set s.calls t None }) u refl refl refl (ended_fits s t c h.lots here out.0 out.1);
+            passes = λ v d k o at is there. calls_ended (λ (n : ℕ) (y : Call). stance y.core ≡ In k Takes → ArePassed (asks (core_act y.core)) (s.lot.queues (2 * y.lock + k)) (passed_of o.phase)) (λ n y at_n takes. h.passes n y k o at_n takes there) v d at is;
             wakes = wakes_ended;
             rules = rules_after s u c.lock h.rules (record {
               kinds = refl;

@@ -80,7 +80,8 @@ module _ (s u : State) (t : ℕ) (c : Call) (fair : Bool) (h : FitsTogether s) (
 
   taken : (a : Act) → core_act c.core ≡ a → IsTaking a → end_of a ≡ None → Became a t fair c s u → IsTakenFrom t c s u → IsStepped t fair None s u
   taken a asked taking quiet became x = elim x.2 [
-    | inl y ↦ plain a asked quiet became (took s t c (key_of c x.0) 0 y.0) y.2 (takes.laws.take s t c x.0 y.0 x.1 y.1 (took_sound s t c h.lots here x.0 0 y.0 (small_key c.core x.0 Takes x.1) x.1 y.1)) (pays.take s t c h here x.0 y.0 a asked taking x.1 y.1)
+    | inl y ↦
+        plain a asked quiet became (took s t c (key_of c x.0) y.0 y.1) y.3 (takes.laws.take s t c x.0 y.0 y.1 x.1 y.2 (took_sound s t c h.lots here x.0 y.0 y.1 (small_key c.core x.0 Takes x.1) x.1 y.2.there)) (pays.take s t c h here x.0 y.0 y.1 a asked taking x.1 y.2.there)
     | inr y ↦ plain a asked quiet became (took_nobody s t c (key_of c x.0)) y.1 (takes.laws.take_nobody s t c x.0 x.1 y.0 (took_nobody_sound s t c h.lots here)) (pays.take_nobody s t c h here x.0 a asked taking x.1)
   ]
 

@@ -1,5 +1,5 @@
 -- A thread that joins a list: the machine stays fit, and it is a step of the rules.
-use Rattle.std.proofs.Common.{◌≡◌, ◌≢◌, ℕ, ◌+◌, ◌*◌, ◌<◌, false, List, [], ◌∷◌, ◌++◌, Some, slice_get, refl, sym, ap, ◌∙◌, subst, arith, ◌⊎◌, inl, inr, Bool, None}
+use Rattle.std.proofs.Common.{◌≡◌, ◌≢◌, ℕ, ◌+◌, ◌*◌, ◌<◌, false, List, [], ◌∷◌, ◌++◌, length, Some, slice_get, refl, sym, ap, ◌∙◌, subst, arith, ◌⊎◌, inl, inr, Bool, None}
 use Rattle.std.proofs.lemmas.Bool.{ne_eqb}
 use Rattle.std.proofs.lemmas.List.{map-append}
 use Rattle.parking_lot_core_lot.specs.declared.parking.ParkToken.{ParkToken}
@@ -37,9 +37,14 @@ use Rattle.parking_lot_world.proofs.Owning.{OwnAct, own-there, own-elsewhere, ow
 use Rattle.parking_lot_world.proofs.Ruling.{Fitted, rules_own}
 use Rattle.parking_lot_world.proofs.WakesKept.{wakes_own}
 use Rattle.parking_lot_world.proofs.Acting.{still_inside}
+use Rattle.parking_lot_world.proofs.Passing.{inside_mine, own_passes}
 use Rattle.parking_lot_world.proofs.TakeParts.{awake_listed, others_out, out_knows}
 use Rattle.parking_lot_core_lot.specs.Results.{is_left}
 use Rattle.parking_lot_protocol.specs.RwTable.{sum_of}
+use Rattle.parking_lot_protocol.specs.Wake.{wake_answer}
+use Rattle.parking_lot_core_lot.specs.declared.parking.FilterOp.TheVariants.{Unpark, Skip}
+use Rattle.parking_lot_world.specs.Passes.{ArePassed, asks}
+use Rattle.parking_lot_world.proofs.Wanting.{passed_as}
 use Rattle.parking_lot_world.specs.RowSteps.{IsRwMove}
 use Rattle.parking_lot_world.specs.RwLaws.{Finds}
 use Rattle.parking_lot_world.proofs.OwnMoves.{OwnMove}
@@ -178,7 +183,7 @@ module _ (s : State) (t : ℕ) (c : Call) (k : ℕ) (token : ParkToken) (asked :
   by_core (Core.Late p) e = absurd (late_joins p k token (ap stance (sym e) ∙ from))
 
   pub appends : (told : ActResult) × Acts t c told s u
-  appends = let both = rules_own s u t c ActResult.Made QueuePosition.Listed own h others (by_core c.core refl) in (ActResult.Made, record { fits = record { lots = leads.2; wakes = wakes; rules = both.0 }; goes = both.1 })
+  appends = let both = rules_own s u t c ActResult.Made QueuePosition.Listed own h others (by_core c.core refl) in (ActResult.Made, record { fits = record { lots = leads.2; passes = own_passes s u t c ActResult.Made (core_next c.core ActResult.Made) QueuePosition.Listed own leads.2 h.passes (inr (inl (still_inside s.lot.section phase.Joined ∙ inside_mine s h.lots t c here k (Joins token) from))) (λ l o e. absurd (let f : In k (stances.Joined token) ≡ In l Takes = sym leads.1 ∙ e in cc)); wakes = wakes; rules = both.0 }; goes = both.1 })
 
 -- A thread that takes waiters and finds nobody: the machine stays fit, and nothing changes at its lock.
 
@@ -207,7 +212,7 @@ pub takes_no_word : (a : Act) (told : ActResult) (x : ℕ) → AsksToTake a → 
 takes_no_word a told x (inl e) = ap (λ b. word_after b told x) e
 takes_no_word a told x (inr e) = ap (λ b. word_after b told x) e.1
 
-module _ (s : State) (t : ℕ) (c : Call) (k : ℕ) (from : stance c.core ≡ In k Takes) (empty : s.lot.queues (key_of c k) ≡ []) (sound : lot.Sound (took_nobody s t c (key_of c k)).lot)
+module _ (s : State) (t : ℕ) (c : Call) (k : ℕ) (from : stance c.core ≡ In k Takes) (passes : ArePassed (asks (core_act c.core)) (s.lot.queues (key_of c k)) (length (s.lot.queues (key_of c k)))) (sound : lot.Sound (took_nobody s t c (key_of c k)).lot)
     (h : FitsTogether s) (here : call_at s t ≡ Some c) where
   abbrev found_state : State
   found_state = took_nobody s t c (key_of c k)
@@ -255,11 +260,16 @@ module _ (s : State) (t : ℕ) (c : Call) (k : ℕ) (from : stance c.core ≡ In
   others_know : (v : ℕ) (e : Call) → v ≢ t → call_at s v ≡ Some e → KnowsList e.core found_state.lot.queues e.lock
   others_know v e ne at = out_knows e.core found_state.lot.queues e.lock (others_out s h.lots t c here k Takes from v e ne at)
 
-  list_empty : (key : ℕ) → key ≡ key_of c k → s.lot.queues key ≡ []
-  list_empty key e = ap s.lot.queues e ∙ empty
+  -- where whoever is first is taken nobody waits
+  is_empty : ((token : ℕ) → asks (core_act c.core) token ≡ Unpark) → s.lot.queues (key_of c k) ≡ []
+  is_empty all = go (s.lot.queues (key_of c k)) passes
+    where
+      unpark≢skip : Unpark ≡ Skip → ⊥
+      unpark≢skip e = cc
 
-  none_left : left_over ≡ false
-  none_left = ap is_left empty
+      go : (q : List Waiter) → ArePassed (asks (core_act c.core)) q (length q) → q ≡ []
+      go [] passed = refl
+      go (x ∷ q) passed = absurd (unpark≢skip (sym (all x.token.0) ∙ passed 0 x (omega arith) refl))
 
   abbrev owed_here : List ℕ
   owed_here = taken_by s.wakes t
@@ -276,13 +286,13 @@ module _ (s : State) (t : ℕ) (c : Call) (k : ℕ) (from : stance c.core ≡ In
   finds_rw : (q : RwPhase) (y : RwCore) → c.core ≡ Core.Rw (record y { phase = q }) → rw_stance q ≡ In k Takes → Fitted s found_state t c finds_none (Core.Rw (record y { phase = q }))
   finds_rw (RwPhase.TakeWriter rest) y e at =
       let one : 1 ≡ k = cc in
-      (stays_rw (record y { phase = RwPhase.TakeWriter rest }) e tt tt (still_inside s.lot.section phase.Ended), subst (IsPrepared (recursive_in s.kinds c.lock) c.others) e (h.rules.prepared t c here), list_empty (2 * c.lock + 1) (omega (arith, one)), h.rules.bits c.lock)
+      (stays_rw (record y { phase = RwPhase.TakeWriter rest }) e tt tt (still_inside s.lot.section phase.Ended), subst (IsPrepared (recursive_in s.kinds c.lock) c.others) e (h.rules.prepared t c here), ap s.lot.queues (omega (arith, one)) ∙ is_empty (λ token. ap (λ (x : Core). asks (core_act x) token) e), h.rules.bits c.lock)
   finds_rw (RwPhase.Scans b) y e at =
       let zero : 0 ≡ k = cc in
       let ready = subst (IsPrepared (recursive_in s.kinds c.lock) c.others) e (h.rules.prepared t c here) in (
         stays_rw (record y { phase = RwPhase.Scans b }) e tt tt (still_inside s.lot.section phase.Ended),
         (ready.0, ready.1.0),
-        (subst (λ (x : Core). KnowsList x s.lot.queues c.lock) e (h.rules.knows t c here), ap (λ n. is_left (s.lot.queues n)) (omega (arith, zero)), inr none_left),
+        (ap (λ n. is_left (s.lot.queues n)) (omega (arith, zero)), inr (subst (λ n. ArePassed (wake_answer (sum_of b)) (s.lot.queues n) (length (s.lot.queues n))) (omega (arith, zero)) (passed_as _ _ _ _ (λ token. ap (λ (x : Core). asks (core_act x) token) e) passes))),
         h.rules.bits c.lock,
       )
   finds_rw q y e at = absurd (cc)
@@ -298,7 +308,7 @@ module _ (s : State) (t : ℕ) (c : Call) (k : ℕ) (from : stance c.core ≡ In
             (steps.takes_nobody (mutex_at s c.lock) (word_at s c.lock) t (first_of_all owed_here) (mutex_spot c.spot) (MutexPhase.Takes giving) left_over (plays s h t c z e here) refl).leads
             (own_after of_mutexes s found_state t c finds_none (Plain (record z { phase = of_mutex_table.next_phase (MutexPhase.Takes giving) finds_none })) c.spot a (word_at s c.lock) refl) (still_inside s.lot.section phase.Ended) tt,
         subst (IsPrepared (recursive_in s.kinds c.lock) c.others) e (h.rules.prepared t c here),
-        (ap (λ n. is_left (s.lot.queues n)) (omega (arith, zero)), λ f. none_left),
+        (ap (λ n. is_left (s.lot.queues n)) (omega (arith, zero)), λ f. ap is_left (is_empty (λ token. ap (λ (x : Core). asks (core_act x) token) e))),
         h.rules.bits c.lock,
       )
   finds_mutex q y e at = absurd (cc)
@@ -311,4 +321,5 @@ module _ (s : State) (t : ℕ) (c : Call) (k : ℕ) (from : stance c.core ≡ In
   pub takes_nobody : (what : ActResult) × Acts t c what s found_state
   takes_nobody =
       let both = rules_own s found_state t c finds_none c.spot own_find h others_know (find_by_core c.core refl) in
-      (finds_none, record { fits = record { lots = took_nobody_fits s t c k h.lots here from leads_on.0 leads_on.1 sound; wakes = wakes_own s found_state t c finds_none (NextOf c.core) own_find h.wakes; rules = both.0 }; goes = both.1 })
+      let lots = took_nobody_fits s t c k h.lots here from leads_on.0 leads_on.1 sound in
+      (finds_none, record { fits = record { lots = lots; passes = own_passes s found_state t c finds_none (NextOf c.core) c.spot own_find lots h.passes (inr (inl (still_inside s.lot.section phase.Ended ∙ inside_mine s h.lots t c here k Takes from))) (λ l o e. absurd (let f : In k Stores ≡ In l Takes = sym leads_on.0 ∙ e in cc)); wakes = wakes_own s found_state t c finds_none (NextOf c.core) own_find h.wakes; rules = both.0 }; goes = both.1 })

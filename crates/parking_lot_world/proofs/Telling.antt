@@ -1,6 +1,7 @@
 -- Stores that tell those whom a thread has taken: steps of the rules at a lock of either kind.
-use Rattle.std.proofs.Common.{◌≡◌, ◌≢◌, ℕ, zero, suc, arith, ◌-◌, ◌^◌, ◌+◌, ◌*◌, ◌<◌, inl, inr, cond, Bool, true, false, List, [], ◌∷◌, length, map, Option, Some, None, slice_get, slice_set, refl, sym, ap, ◌∙◌, subst}
+use Rattle.std.proofs.Common.{◌≡◌, ◌≢◌, ℕ, zero, suc, arith, ◌-◌, ◌^◌, ◌+◌, ◌*◌, ◌<◌, ◌⊎◌, inl, inr, cond, Bool, true, false, List, [], ◌∷◌, length, map, Option, Some, None, slice_get, slice_set, refl, sym, ap, ◌∙◌, subst}
 use Rattle.std.proofs.lemmas.Bool.{cases_eq}
+use Rattle.std.proofs.lemmas.List.{length-map}
 use Rattle.std.specs.Option.{option_map, option_and_then}
 use Rattle.std.specs.Prelude.{bit_and}
 use Rattle.parking_lot_core_lot.specs.Machine.{threads_of}
@@ -52,6 +53,9 @@ use Rattle.parking_lot_world.proofs.Ruling.{Fitted}
 use Rattle.parking_lot_world.proofs.RwMoving.{makes_are_steps}
 use Rattle.parking_lot_world.proofs.RwTelling.{stores_tell}
 use Rattle.parking_lot_world.proofs.RwWaking.{stores_are_steps, tokens_say}
+use Rattle.parking_lot_rules.specs.Steps.{AreSkipped}
+use Rattle.parking_lot_world.proofs.RwTaking.{scans_go_by_tokens}
+use Rattle.parking_lot_world.proofs.Wanting.{passed_as, want_as_told}
 use Rattle.parking_lot_world.proofs.Settling.{told_state, next_call, told_here, told_others, told_threads, told_elsewhere}
 
 -- a store crosses no section
@@ -155,10 +159,15 @@ module _ (s : State) (t : ℕ) (c : Call) (plain fair : WordChange) (is_fair : B
       let kind_is = subst (IsOfKind (slice_get s.kinds c.lock)) e (h.rules.kinds t c here) in
       let met = meets s h t c z e here in
       let knows = subst (λ (x : Core). KnowsList x s.lot.queues c.lock) e (h.rules.knows t c here) in
+      let over : (a.writer ≡ true) ⊎ AreSkipped a.upgradable a.writer (rw_lock_at s c.lock).roles (rw_lock_at s c.lock).first (length (rw_lock_at s c.lock).first) = elim knows.1 [
+        | inl writer ↦ inl writer
+        | inr passed ↦ inr (subst (AreSkipped a.upgradable a.writer (rw_lock_at s c.lock).roles (rw_lock_at s c.lock).first) (sym (length-map (s.lot.queues (2 * c.lock)) (λ (w : Waiter). w.thread)))
+            (scans_go_by_tokens.skips (rw_lock_at s c.lock) a.upgradable a.writer (s.lot.queues (2 * c.lock)) (length (s.lot.queues (2 * c.lock))) refl (want_as_told s h c.lock kind_is) (passed_as _ _ _ _ (scans_go_by_tokens.sums a) passed)))
+      ] in
       let says : mark_of (told_of token) ≡ ends_saying (ending_of a is_fair) = ap (λ (x : Core). mark_of (told_of (core_tells (core_next x heard)))) e ∙ tokens_say a left is_fair in
       let well = rw_hears s h t c z e here heard tt s.lot.queues tt in (
         rw_goes s next t c.lock (of_rw.move c.others taken (RwPhase.Stores a left) heard) _ there (told_elsewhere s t c heard token word h here) kind_is
-            (of_rw.scan_of c.others a taken, stores_are_steps (recursive_in s.kinds c.lock) (rw_lock_at s c.lock) t c.others (rw_spot c.spot) taken a left (word_at s c.lock) is_fair met (left_threads (s.lot.queues (2 * c.lock)) ∙ knows.1) knows.2)
+            (of_rw.scan_of c.others a taken, stores_are_steps (recursive_in s.kinds c.lock) (rw_lock_at s c.lock) t c.others (rw_spot c.spot) taken a left (word_at s c.lock) is_fair met (left_threads (s.lot.queues (2 * c.lock)) ∙ knows.0) over)
             (told_after of_rws s t c heard token word h here z (record z { phase = of_rw_table.next_phase (RwPhase.Stores a left) heard }) e (ap (λ (x : Core). core_next x heard) e) (λ at park w. in_asleep w) (settle (ends_saying (ending_of a is_fair))) (λ o. refl)
             (λ x n at vs p there_is. subst (λ v. of_rw.role n (rw_spot (settled_spot t (told_of token) at)) vs p.phase ≡ settle v (of_rw.role n (rw_spot at) vs p.phase)) says
             (stores_tell.here (rw_lock_at s c.lock) t x n at vs p.phase (of_rw.scan_of c.others a taken) (told_of token) met.sound met.here there_is))

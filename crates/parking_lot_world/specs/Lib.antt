@@ -5,6 +5,7 @@ pub mod Rounds
 pub mod Ranks
 pub mod RankLaws
 pub mod RowActs
+pub mod Passes
 pub mod RowFits
 pub mod RowSteps
 pub mod ActLaws
@@ -17,7 +18,7 @@ pub mod MutexLaws
 pub mod Faults
 pub mod Calls
 pub mod CallViews
-pub mod FrontTakings
+pub mod NextTakings
 pub mod Beginnings
 pub mod Machines
 pub mod Worlds

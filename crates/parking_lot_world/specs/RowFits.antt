@@ -41,17 +41,20 @@ use Rattle.parking_lot_world.specs.Kinds.{Manner, AsMutex, AsRw, manner_of, recu
 use Rattle.parking_lot_world.specs.Rows.{State, word_at, hold_at, call_at, taken_by, family, one_bucket}
 use Rattle.parking_lot_world.specs.Stances.{Doing, Looks, TurnsBack, Joins, Joined, Takes, Stores, Tells, Stance, Out, In, Asleep, stance, taken_count, core_act}
 use Rattle.parking_lot_world.specs.Rounds.{IsUnderWay}
+use Rattle.parking_lot_protocol.specs.RwTable.{sum_of}
+use Rattle.parking_lot_protocol.specs.Wake.{wake_answer}
+use Rattle.parking_lot_world.specs.Passes.{ArePassed, asks}
 use Rattle.parking_lot_world.specs.RowActs.{told_of}
 
 -- THE LOT
 
--- how far the section has come in which a thread does so; one that takes has passed nobody
+-- how far the section has come in which a thread does so
 abbrev pub HasCome : Doing → Phase → UnparkToken → Type 0
 HasCome Looks ph token = ph ≡ phase.Fresh
 HasCome TurnsBack ph token = ph ≡ phase.Invalid
 HasCome (Joins park) ph token = ph ≡ phase.Valid
 HasCome (Joined park) ph token = ph ≡ phase.Joined
-HasCome Takes ph token = (may_take ph ≡ true) × (passed_of ph ≡ 0)
+HasCome Takes ph token = may_take ph ≡ true
 HasCome Stores ph token = may_store ph ≡ true
 HasCome (Tells said) ph token = (ph ≡ phase.Stored) × (token ≡ said)
 
@@ -194,14 +197,13 @@ IsPrepared recursive n (core.Mutex c) = n ≡ 0
 IsPrepared recursive n (core.Rw c) = of_rw.IsReady c.phase × rw_keeps recursive n c.phase
 IsPrepared recursive n (core.Late p) = n ≡ 0
 
--- What one that is to store knows of its list: it has taken a writer or all, and whether waiters are left.
+-- What one that is to store knows of its list: whether waiters are left, and that it has taken a writer or would pass all of them.
 abbrev pub mutex_knows : MutexPhase → List Waiter → Type 0
 mutex_knows (m.Stores giving taken left) queue = (is_left queue ≡ left) × (taken ≡ false → left ≡ false)
 mutex_knows phase queue = Unit {0}
 
 abbrev pub rw_knows : RwPhase → List Waiter → List Waiter → Type 0
-rw_knows (r.Scans s) first second = s.upgradable ≡ false
-rw_knows (r.Stores s left) first second = (s.upgradable ≡ false) × (is_left first ≡ left) × ((s.writer ≡ true) ⊎ (left ≡ false))
+rw_knows (r.Stores s left) first second = (is_left first ≡ left) × ((s.writer ≡ true) ⊎ ArePassed (wake_answer (sum_of s)) first (length first))
 rw_knows (r.ClearWriterParked rest taken) first second = second ≡ []
 rw_knows phase first second = Unit {0}
 
@@ -284,7 +286,13 @@ pub record RulesFit (s : State) : Type 0 where
   -- a call that is kept has begun, and has few rounds left to spin
   pub begun : (t : ℕ) (c : Call) → call_at s t ≡ Some c → IsUnderWay c.core
 
+-- Whom the section that is open has passed: those that its thread passes at its sum so far.
+abbrev pub PassesFit : State → Type 0
+PassesFit s =
+    (t : ℕ) (c : Call) (k : ℕ) (o : Section) → call_at s t ≡ Some c → stance c.core ≡ In k Takes → s.lot.section ≡ Some o → ArePassed (asks (core_act c.core)) (s.lot.queues (2 * c.lock + k)) (passed_of o.phase)
+
 pub record FitsTogether (s : State) : Type 0 where
   pub lots : LotFits s
+  pub passes : PassesFit s
   pub wakes : WakesFit s
   pub rules : RulesFit s

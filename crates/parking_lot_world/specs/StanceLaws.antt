@@ -58,7 +58,7 @@ ActsLead = (c : Core) (word : ℕ) (s : ActResult) → Gives (core_act c) word s
 
 -- a scan can count one more with that token
 abbrev pub rw_counts : RwPhase → ParkToken → Type 0
-rw_counts (r.Scans s) token = ((token.0 ≡ 16) × (s.shared < 2 ^ 32 - 1)) ⊎ ((token.0 ≡ 8) × (s.writer ≡ false))
+rw_counts (r.Scans s) token = ((token.0 ≡ 16) × (s.shared < 2 ^ 32 - 1)) ⊎ (((token.0 ≡ 8) × (s.writer ≡ false)) ⊎ ((token.0 ≡ 20) × (s.upgradable ≡ false)))
 rw_counts phase token = Unit {0}
 
 abbrev pub Counts : Core → ParkToken → Type 0
