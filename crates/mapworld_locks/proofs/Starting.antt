@@ -1,5 +1,5 @@
 -- A release or a downgrade that has begun makes its first act at once, and after the first act of a downgrade the hold is a shared one.
-use Rattle.std.proofs.Common.{◌≡◌, ◌≢◌, ℕ, ◌<◌, Bool, true, false, cond, List, length, Option, Some, None, refl, sym, ap, ◌∙◌, subst}
+use Rattle.std.proofs.Common.{◌≡◌, ◌≢◌, ℕ, ◌<◌, ◌||◌, Bool, true, false, cond, List, length, Option, Some, None, refl, sym, ap, ◌∙◌, subst}
 use Rattle.std.specs.Option.{option_and_then, option_map, option_map_or}
 use Rattle.std.proofs.lemmas.Bool.{false≢true}
 use Rattle.std.proofs.lemmas.Option.{same_Some}
@@ -25,10 +25,13 @@ use Rattle.parking_lot_world.specs.Stances.{core_act, core_next}
 use Rattle.mapworld_locks.specs.Fits.{IsPlain}
 use Rattle.mapworld_locks.specs.Stands.{gives}
 use Rattle.mapworld_locks.specs.Views.{held_as, held_at}
-use Rattle.parking_lot_world.proofs.Serving.{or_else}
 use Rattle.mapworld_locks.proofs.Calls.{IsProper}
 use Rattle.mapworld_locks.proofs.Standing.{GoesOnBy, kept_proper, own_call, set_low}
 use Rattle.mapworld_locks.proofs.Stepping.{call_holds}
+
+or_else : (a : Bool) {b : Bool} → b ≡ true → (a || b) ≡ true
+or_else true e = refl
+or_else false e = e
 
 -- the call that it is in once it has begun
 pub begun_call : (s u : State) (t i : ℕ) (call : LockCall) → t < length s.calls → IsBegun t i call s u → call_at u t ≡ Some (hears (call_for s t i call) ActResult.Start)
