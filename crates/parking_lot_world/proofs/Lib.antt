@@ -12,6 +12,7 @@ mod NthTaken
 mod Agreeing
 mod Losing
 mod Serving
+mod UpgradeViewing
 mod Spinning
 mod Bounding
 mod Queueing
@@ -19,12 +20,19 @@ mod Promising
 mod Moves
 mod Cases
 mod Indebting
+mod UpgradeOwning
+mod RwCalls
+mod RwScans
+mod RwTells
 mod OwnActs
 mod WakesKept
-pub mod Stancing
+mod PhaseStancing
 mod UpgradeStancing
+pub mod Stancing
 mod UpgradeMoving
 mod UpgradeKeeping
+mod UpgradeParts
+mod UpgradeGoing
 pub mod RwMoving
 pub mod RwTaking
 pub mod Carrying

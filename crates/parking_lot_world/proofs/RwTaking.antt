@@ -77,7 +77,7 @@ takes_are_steps recursive l t n spot us a x token left i v h told may =
 -- WHAT A SCAN DOES AT A WAITER
 
 -- what the bits of its sum say
-bits_of : (k : ℕ) (u w : Bool) → ((16 * k + 20 * bit u + 8 * bit w) / 4 % 2 ≡ bit u) × ((16 * k + 20 * bit u + 8 * bit w) / 8 % 2 ≡ bit w)
+pub bits_of : (k : ℕ) (u w : Bool) → ((16 * k + 20 * bit u + 8 * bit w) / 4 % 2 ≡ bit u) × ((16 * k + 20 * bit u + 8 * bit w) / 8 % 2 ≡ bit w)
 bits_of k true true = (omega arith, omega arith)
 bits_of k true false = (omega arith, omega arith)
 bits_of k false true = (omega arith, omega arith)
@@ -161,11 +161,11 @@ tokens_tell (want.Shared recursive) = (inl refl, refl)
 tokens_tell want.Exclusive = (inr (inl refl), refl)
 
 pub writers_are_taken : WritersAreTaken
-writers_are_taken recursive l t n spot us rest x token left v h at waits =
+writers_are_taken recursive l t n spot us rest x token left v from h at waits =
     let none : us ≡ [] = h.prepared in
     let here : slice_get l.roles t ≡ Some (record { owns = Shares n; does = rules.Scans2 [] }) = h.here in
     let to : role n Listed (us ++ v ∷ []) (next_phase (TakeWriter rest) (seen.Took (Some token) left)) ≡ record { owns = Shares n; does = rules.Scans2 (v ∷ []) } = ap (λ vs. record { owns = Shares n; does = rules.Scans2 (vs ++ v ∷ []) }) none in
-    ((here, at, waits), λ j. record l { word = h.word j; roles = slice_set (slice_set l.roles t (sym to j)) v (record { owns = Shares 0; does = rules.Taken2 false t rules.Asleep }); second = remove l.second 0 })
+    ((here, at, waits), λ j. record l { word = h.word j; roles = slice_set (slice_set l.roles t (sym to j)) v (record { owns = Shares 0; does = rules.Taken2 from t rules.Asleep }); second = remove l.second 0 })
 
 -- Who sleeps at a reader-writer lock.
 

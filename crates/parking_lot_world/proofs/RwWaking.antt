@@ -95,7 +95,7 @@ after_wake want ws false = refl
 after_wake (LockMode.Shared recursive) ws true = refl
 after_wake LockMode.Exclusive ws true = refl
 
-wakes_one : (recursive : Bool) (l : Lock) (t n : ℕ) (spot : QueuePosition) (v : ℕ) (vs : List ℕ) (rest : AfterWake) (count x : ℕ) (k : Waking) (r : Role) → Meets recursive l t n spot (v ∷ vs) (Wakes rest count) x → slice_get l.roles v ≡ Some (waking_from k t rules.Asleep) → r ≡ waking_to k
+pub wakes_one : (recursive : Bool) (l : Lock) (t n : ℕ) (spot : QueuePosition) (v : ℕ) (vs : List ℕ) (rest : AfterWake) (count x : ℕ) (k : Waking) (r : Role) → Meets recursive l t n spot (v ∷ vs) (Wakes rest count) x → slice_get l.roles v ≡ Some (waking_from k t rules.Asleep) → r ≡ waking_to k
     → IsStep recursive t (Wake (owned_at_last n rest) v vs k rules.Asleep) l
     (record l { word = word_of x; roles = slice_set (slice_set l.roles v r) t (role n Listed vs (next_phase (Wakes rest count) seen.Made)) })
 wakes_one recursive l t n spot v vs rest count x k r h from to =

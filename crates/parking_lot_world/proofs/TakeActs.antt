@@ -1,5 +1,5 @@
 -- A thread that takes one of a list: the machine stays fit, and it is a step of the rules.
-use Rattle.std.proofs.Common.{◌≡◌, ◌≢◌, ℕ, Bool, inl, inr, remove, Some, refl, sym, ap, ◌∙◌, subst}
+use Rattle.std.proofs.Common.{◌≡◌, ◌≢◌, ℕ, Bool, false, inl, inr, remove, Some, refl, sym, ap, ◌∙◌, subst}
 use Rattle.std.proofs.lemmas.Bool.{cases_eq}
 use Rattle.parking_lot_core_lot.specs.declared.parking.ParkToken.{ParkToken}
 use Rattle.parking_lot_core_lot.specs.declared.place.Waiter.{Waiter}
@@ -9,10 +9,12 @@ use Rattle.parking_lot_core_lot.specs.declared.parking.FilterOp.TheVariants.{Unp
 use Rattle.parking_lot_protocol.specs.declared.act.ActResult.{ActResult}
 use Rattle.parking_lot_protocol.specs.declared.rw_phase.RwPhase.{RwPhase}
 use Rattle.parking_lot_protocol.specs.RwTable as of_rw
+use Rattle.parking_lot_world.proofs.KindTable.{RwCall, Simple, Upgradable, rw_call}
+use Rattle.parking_lot_world.proofs.RwScans.{scanner, takes_where}
 use Rattle.parking_lot_world.specs.declared.seat.Core.{Core}
 use Rattle.parking_lot_world.specs.declared.open_call.Call.{Call}
 use Rattle.parking_lot_world.specs.Rows.{State, word_at, call_at, taken_by}
-use Rattle.parking_lot_world.specs.Stances.{Takes, Stores, Stance, In, Asleep, rw_stance, stance, core_act}
+use Rattle.parking_lot_world.specs.Stances.{Takes, Stores, Stance, In, Asleep, stance, core_act, core_next}
 use Rattle.parking_lot_world.specs.RowActs.{hears, key_of, off_list, took}
 use Rattle.parking_lot_world.specs.RowFits.{FitsTogether, IsPrepared, LotFits, PassesFit, RulesFit, rw_keeps}
 use Rattle.parking_lot_world.specs.ActLaws.{Acts}
@@ -28,7 +30,7 @@ use Rattle.parking_lot_world.proofs.TakeNext.{mutex_asks, takes_so}
 use Rattle.parking_lot_world.proofs.TakeJoins.{late_takes}
 use Rattle.parking_lot_world.proofs.RwTaking.{scans_go_by_tokens}
 use Rattle.parking_lot_world.proofs.Passing.{no_stop}
-use Rattle.parking_lot_world.proofs.PassingOn.{passes_taken}
+use Rattle.parking_lot_world.proofs.PassingOn.{going_of, passes_taken}
 use Rattle.parking_lot_world.specs.Kinds.{recursive_in}
 use Rattle.parking_lot_world.specs.Passes.{IsNext, asks}
 
@@ -90,28 +92,27 @@ module _ (s : State) (t : ℕ) (c : Call) (k nth : ℕ) (w : Waiter) (from : sta
       counts.4 sound
 
   passes : lot.Sound u.lot → PassesFit u
-  passes sound = passes_taken s t c k nth w from next h here (lots sound) so.1 so.2
+  passes sound = passes_taken s t c k nth w from next h here (lots sound) (going_of (recursive_in s.kinds c.lock) c.others (core_next c.core told) so.0.1) so.1 so.2
 
   pub takes : lot.Sound u.lot → (what : ActResult) × Acts t c what s u
   takes sound = (told, record { fits = record { lots = lots sound; passes = passes sound; wakes = wakes_after s t c k nth w from next.there h here; rules = rules }; goes = so.0.0 })
 
 -- WHO IS SHOWN
 
-rw_stops : (recursive : Bool) (n : ℕ) (q : RwPhase) (k token : ℕ) → rw_keeps recursive n q → rw_stance q ≡ In k Takes → asks (of_rw.act_of q) token ≢ Stop
-rw_stops recursive n (RwPhase.TakeWriter rest) k token keeps e is = absurd (unpark≢stop is)
-  where
-    unpark≢stop : Unpark ≡ Stop → ⊥
-    unpark≢stop e = cc
-rw_stops recursive n (RwPhase.Scans a) k token keeps e is = no_stop a.upgradable a.writer token keeps.1 (sym (scans_go_by_tokens.sums a token) ∙ is)
-rw_stops recursive n q k token keeps e is = absurd (cc)
+unpark≢stop : Unpark ≡ Stop → ⊥
+unpark≢stop e = cc
+
+rw_stops : (recursive : Bool) (n : ℕ) (y : RwCall) (k token : ℕ) → IsPrepared recursive n (rw_call y) → stance (rw_call y) ≡ In k Takes → asks (core_act (rw_call y)) token ≢ Stop
+rw_stops recursive n y k token ready e is = elim (takes_where recursive n y k ready e) [
+  | inl x ↦ let sc = scanner recursive n y x.0 ready in no_stop sc.sees false token refl (sym (sc.asks_so token) ∙ is)
+  | inr x ↦ unpark≢stop (sym (ap (λ (q : RwCall). asks (core_act (rw_call q)) token) x.1) ∙ is)
+]
 
 pub goes_on : (s : State) (t : ℕ) (c : Call) (k : ℕ) → FitsTogether s → call_at s t ≡ Some c → stance c.core ≡ In k Takes → (token : ℕ) → asks (core_act c.core) token ≢ Stop
 goes_on s t c k h here from token = go c.core refl
   where
-    unpark≢stop : Unpark ≡ Stop → ⊥
-    unpark≢stop e = cc
-
     go : (x : Core) → c.core ≡ x → asks (core_act c.core) token ≢ Stop
-    go (Core.Rw y) e is = rw_stops (recursive_in s.kinds c.lock) c.others y.phase k token (subst (IsPrepared (recursive_in s.kinds c.lock) c.others) e (h.rules.prepared t c here)).1 (ap stance (sym e) ∙ from) (ap (λ (x : Core). asks (core_act x) token) (sym e) ∙ is)
+    go (Core.Rw y) e is = rw_stops (recursive_in s.kinds c.lock) c.others (Simple y) k token (subst (IsPrepared (recursive_in s.kinds c.lock) c.others) e (h.rules.prepared t c here)) (ap stance (sym e) ∙ from) (ap (λ (x : Core). asks (core_act x) token) (sym e) ∙ is)
+    go (Core.Upgrade y) e is = rw_stops (recursive_in s.kinds c.lock) c.others (Upgradable y) k token (subst (IsPrepared (recursive_in s.kinds c.lock) c.others) e (h.rules.prepared t c here)) (ap stance (sym e) ∙ from) (ap (λ (x : Core). asks (core_act x) token) (sym e) ∙ is)
     go (Core.Mutex y) e is = unpark≢stop (sym (mutex_asks y.phase k token (ap stance (sym e) ∙ from)) ∙ ap (λ (x : Core). asks (core_act x) token) (sym e) ∙ is)
     go (Core.Late p) e is = late_takes p k (ap stance (sym e) ∙ from)

@@ -8,16 +8,16 @@ use Rattle.parking_lot_core_lot.specs.declared.place.Waiter.{Waiter}
 use Rattle.parking_lot_protocol.specs.MutexRules as of_mutex
 use Rattle.parking_lot_protocol.specs.MutexTable as of_mutex_table
 use Rattle.parking_lot_protocol.specs.RwRules as of_rw
-use Rattle.parking_lot_protocol.specs.RwTable.{next_phase}
 use Rattle.parking_lot_protocol.specs.declared.mutex_core.MutexCore.{MutexCore}
 use Rattle.parking_lot_protocol.specs.declared.mutex_phase.MutexPhase.{MutexPhase}
 use Rattle.parking_lot_protocol.specs.declared.rw_core.RwCore.{RwCore}
 use Rattle.parking_lot_protocol.specs.declared.rw_phase.AfterWake.{AfterWake}
 use Rattle.parking_lot_protocol.specs.declared.rw_phase.RwPhase.{RwPhase}
-use Rattle.parking_lot_rules.specs.Roles.{Shares, Asleep, Open, Taken2}
+use Rattle.parking_lot_rules.specs.Roles.{Shares, Asleep, Taken2}
 use Rattle.parking_lot_world.proofs.Acting.{still_inside}
 use Rattle.parking_lot_world.proofs.Carrying.{no_length}
-use Rattle.parking_lot_world.proofs.KindTable.{Plain, of_rws, of_mutexes, sleeps_so, IsThere}
+use Rattle.parking_lot_world.proofs.KindTable.{IsThere, Plain, RwCall, Simple, of_mutexes, of_rws, rw_call, rw_next, sleeps_so}
+use Rattle.parking_lot_world.proofs.RwCalls.{CallSleepsSecond, as_simple}
 use Rattle.parking_lot_world.specs.declared.seat.WakeResult.{WakeResult}
 use Rattle.parking_lot_world.proofs.Making.{mutex_goes, rw_goes}
 use Rattle.parking_lot_world.proofs.Meeting.{meets, plays, rw_hears, rw_sound}
@@ -30,7 +30,6 @@ use Rattle.parking_lot_world.specs.RowActs.{key_of, took}
 use Rattle.parking_lot_world.specs.RowFits.{FitsTogether, IsOfKind, IsPrepared}
 use Rattle.parking_lot_world.proofs.TakeSleepers.{rw_waits}
 use Rattle.parking_lot_world.specs.Rows.{State, word_at, call_at, taken_by, rw_spot, rw_lock_at, first_of_all, mutex_spot, mutex_at}
-use Rattle.parking_lot_world.specs.RwLaws.{SleepsSecond}
 use Rattle.parking_lot_world.specs.Stances.{Takes, In, mutex_stance, stance, taken_count, core_next}
 use Rattle.parking_lot_world.specs.declared.open_call.Call.{Call}
 use Rattle.parking_lot_world.specs.declared.seat.Core.{Core}
@@ -62,19 +61,20 @@ module _ (s : State) (t : ℕ) (c : Call) (k : ℕ) (w : Waiter) (from : stance 
 
   -- AT A READER-WRITER LOCK
 
-  writer_takes : (rest : AfterWake) (y : RwCore) (e : c.core ≡ Core.Rw (record y { phase = RwPhase.TakeWriter rest })) → 1 ≡ k → (o : RwCore) → z.core ≡ Core.Rw o → SleepsSecond z.others ws o.phase → TakesSo s t c k 0 w (Core.Rw (record y { phase = RwPhase.TakeWriter rest }))
-  writer_takes rest y e one o its sleeps =
-      let x : RwCore = record y { phase = RwPhase.TakeWriter rest } in
+  writer_takes : (rest : AfterWake) (e : c.core ≡ Core.Rw (record { phase = RwPhase.TakeWriter rest })) → 1 ≡ k → (o : RwCall) → z.core ≡ rw_call o → CallSleepsSecond z.others ws o → TakesSo s t c k 0 w (Core.Rw (record { phase = RwPhase.TakeWriter rest }))
+  writer_takes rest e one o its sleeps =
+      let x : RwCore = record { phase = RwPhase.TakeWriter rest } in
       let kind_is = subst (IsOfKind (slice_get s.kinds c.lock)) e (h.rules.kinds t c here) in
       let second : 2 * c.lock + 1 ≡ key_of c k = omega (arith, one) in
       let few : length (threads_of (s.lot.queues (2 * c.lock + 1))) ≤ 1 = lists_are_known.second (rw_lock_at s c.lock) (rw_sound s h c.lock kind_is) in
-      let step = writers_are_taken (recursive_in s.kinds c.lock) (rw_lock_at s c.lock) t c.others (rw_spot c.spot) us rest (word_at s c.lock) w.token (is_left (remove (s.lot.queues (key_of c k)) 0)) v (meets s h t c x e here)
+      let met = as_simple (recursive_in s.kinds c.lock) (rw_lock_at s c.lock) t c.others c.spot us x (word_at s c.lock) (meets s h t c (Simple x) e here) in
+      let step = writers_are_taken (recursive_in s.kinds c.lock) (rw_lock_at s c.lock) t c.others (rw_spot c.spot) us rest (word_at s c.lock) w.token (is_left (remove (s.lot.queues (key_of c k)) 0)) v sleeps.from met
       (nth_there s t c k 0 w from at h here (2 * c.lock + 1) second) (waits_listed s t c k 0 w from at h here of_rws o its ∙ ap Some sleeps.listed) in
       let none = took_list s t c k 0 w from at h here (2 * c.lock + 1) second ∙ one_left (s.lot.queues (key_of c k)) (subst (λ n. length (threads_of (s.lot.queues n)) ≤ 1) second few) in
-      let well = rw_hears s h t c x e here (took_told s c k 0 w) tt u.lot.queues none in (
+      let well = rw_hears s h t c (Simple x) e here (took_told s c k 0 w) tt refl u.lot.queues none in (
         (
-          rw_goes s u t c.lock of_rw.TakesWriter _ there (took_elsewhere s t c k 0 w from at h here) kind_is (Shares c.others, v, step)
-              (took_after s t c k 0 w from at h here of_rws o its (record x { phase = next_phase (RwPhase.TakeWriter rest) (took_told s c k 0 w) }) (ap (λ (x : Core). core_next x (took_told s c k 0 w)) e) _ refl (record { owns = Shares 0; does = Taken2 false t Asleep }) (sleeps.off t Open) _ _
+          rw_goes s u t c.lock of_rw.TakesWriter _ there (took_elsewhere s t c k 0 w from at h here) kind_is (Shares c.others, v, sleeps.from, step)
+              (took_after s t c k 0 w from at h here of_rws o its (rw_next (Simple x) (took_told s c k 0 w)) (ap (λ (x : Core). core_next x (took_told s c k 0 w)) e) _ refl (record { owns = Shares 0; does = Taken2 sleeps.from t Asleep }) (sleeps.off t WakeResult.Nothing) _ _
               (list_there s t c k 0 w from at h here (2 * c.lock) (λ f. omega (arith, one, f))) (list_here s t c k 0 w from at h here (2 * c.lock + 1) second))
               (still_inside s.lot.section (phase.Taking 0)),
           well.0,
@@ -85,11 +85,10 @@ module _ (s : State) (t : ℕ) (c : Call) (k : ℕ) (w : Waiter) (from : stance 
         tt,
       )
 
-  pub writes_first : (rest : AfterWake) (y : RwCore) → c.core ≡ Core.Rw (record y { phase = RwPhase.TakeWriter rest }) → In 1 Takes ≡ In k Takes → TakesSo s t c k 0 w (Core.Rw (record y { phase = RwPhase.TakeWriter rest }))
-  writes_first rest y e is =
-      let one : 1 ≡ k = cc in
+  pub writes_first : (rest : AfterWake) → c.core ≡ Core.Rw (record { phase = RwPhase.TakeWriter rest }) → 1 ≡ k → TakesSo s t c k 0 w (Core.Rw (record { phase = RwPhase.TakeWriter rest }))
+  writes_first rest e one =
       let o = rw_waits s t c k 0 w from at h here (subst (IsOfKind (slice_get s.kinds c.lock)) e (h.rules.kinds t c here)) in
-      elim o.2 [ inl x ↦ absurd (omega (arith, one, x.0)) | inr x ↦ writer_takes rest y e one o.0 o.1 x.1 ]
+      elim o.2 [ inl x ↦ absurd (omega (arith, one, x.0)) | inr x ↦ writer_takes rest e one o.0 o.1 x.1 ]
 
   pub takes_mutex : (q : MutexPhase) (y : MutexCore) → c.core ≡ Core.Mutex (record y { phase = q }) → mutex_stance q ≡ In k Takes → TakesSo s t c k 0 w (Core.Mutex (record y { phase = q }))
   takes_mutex (MutexPhase.Takes giving) y e is =

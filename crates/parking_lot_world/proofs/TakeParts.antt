@@ -10,6 +10,10 @@ use Rattle.parking_lot_core_lot.specs.declared.parking.ParkToken.{ParkToken}
 use Rattle.parking_lot_core_lot.specs.declared.place.Waiter.{Waiter}
 use Rattle.parking_lot_protocol.specs.declared.mutex_phase.MutexPhase.{MutexPhase}
 use Rattle.parking_lot_protocol.specs.declared.rw_phase.RwPhase.{RwPhase}
+use Rattle.parking_lot_upgrades.specs.declared.upgrade_phase.Hold.{Hold}
+use Rattle.parking_lot_upgrades.specs.declared.upgrade_phase.UpgradePhase.{UpgradePhase}
+use Rattle.parking_lot_world.specs.RowFits.{scan_knows, upgrade_knows}
+use Rattle.parking_lot_world.specs.Stances.{upgrade_stance}
 use Rattle.parking_lot_world.specs.Kinds.{Manner, manner_of}
 use Rattle.parking_lot_world.specs.declared.seat.QueuePosition.{QueuePosition}
 use Rattle.parking_lot_world.specs.declared.seat.Core.{Core}
@@ -53,8 +57,18 @@ rw_out (RwPhase.Stores a left) first second out = absurd (out 0 Stores refl)
 rw_out (RwPhase.ClearWriterParked rest taken) first second out = absurd (out 1 Stores refl)
 rw_out p first second out = tt
 
+part_out : (kept : Hold) (q : RwPhase) (first : List Waiter) → IsOut (rw_stance q) → scan_knows kept q first
+part_out kept (RwPhase.Stores a left) first out = absurd (out 0 Stores refl)
+part_out kept q first out = tt
+
+upgrade_out : (p : UpgradePhase) (first : List Waiter) → IsOut (upgrade_stance p) → upgrade_knows p first
+upgrade_out (UpgradePhase.Frees r core) first out = part_out Hold.Nothing core.phase first out
+upgrade_out (UpgradePhase.Owes kept end core) first out = part_out kept core.phase first out
+upgrade_out p first out = tt
+
 pub out_knows : (x : Core) (queues : ℕ → List Waiter) (j : ℕ) → IsOut (stance x) → KnowsList x queues j
 out_knows (Core.Late p) queues j out = tt
+out_knows (Core.Upgrade c) queues j out = upgrade_out c.phase (queues (2 * j)) out
 out_knows (Core.Mutex c) queues j out = mutex_out c.phase (queues (2 * j)) out
 out_knows (Core.Rw c) queues j out = rw_out c.phase (queues (2 * j)) (queues (2 * j + 1)) out
 

@@ -21,13 +21,10 @@ use Rattle.parking_lot_protocol.specs.Acts.{Gives}
 use Rattle.parking_lot_protocol.specs.Positions.{QueuePosition}
 use Rattle.parking_lot_upgrades.specs.UpgradeMoves.{last_move}
 use Rattle.parking_lot_world.specs.RwLaws.{IsLastStep}
-use Rattle.parking_lot_world.specs.UpgradeLaws.{MeetsUpgrade, UpgradesEnd, UpgradesKeep, frees_prepared, owes_prepared, upgrade_begins, upgrade_begun, upgrade_owned_after}
-use Rattle.parking_lot_world.specs.UpgradeRanks.{IsOfWorld, seeks_room}
-
--- what holds of both holds of either
-pick : {X : Type 0} (P : X → Type 0) (b : Bool) (x y : X) → P x → P y → P (cond b x y)
-pick P true x y h k = h
-pick P false x y h k = k
+use Rattle.parking_lot_world.specs.UpgradeLaws.{MeetsUpgrade, UpgradesEnd, upgrade_owned_after}
+use Rattle.parking_lot_world.specs.RowFits.{IsOfWorld, frees_prepared, owes_prepared, seeks_room, upgrade_begins}
+use Rattle.parking_lot_world.specs.Stances.{upgrade_begun}
+use Rattle.parking_lot_world.proofs.UpgradeParts.{pick}
 
 -- WHERE IT ENDS
 
@@ -324,7 +321,7 @@ asks_not : (r : Release) (q : RwPhase) (s : ActResult) → ut.is_again r ≡ fal
 asks_not r (RwPhase.Finishes rest) s k = ap (λ b. b && ut.is_word s) k
 asks_not r q s k = refl
 
-goes_on : (p : UpgradePhase) (x : ℕ) (s : ActResult) → upgrade_begun p ≡ true → IsReady p → IsOfWorld p → x / 16 < 2 ^ 60 - 1 → IsTold p x s → IsOfWorld (ut.next_phase p s)
+pub goes_on : (p : UpgradePhase) (x : ℕ) (s : ActResult) → upgrade_begun p ≡ true → IsReady p → IsOfWorld p → x / 16 < 2 ^ 60 - 1 → IsTold p x s → IsOfWorld (ut.next_phase p s)
 goes_on (UpgradePhase.Plain core) x s b i k few g = absurd k
 goes_on (UpgradePhase.Seeks core) x s b i k few g = seeks_keep core.phase x s i.0 few g
 goes_on (UpgradePhase.Drains core) x s b i k few g = tt
@@ -357,7 +354,7 @@ goes_on UpgradePhase.DowngradingToUpgradable x s b i k few g = absurd (both_ways
 goes_on (UpgradePhase.GivingUp from) x s b i k few g = absurd (both_ways false refl b)
 goes_on p x s b i k few g = absurd g
 
-begins : (p : UpgradePhase) → upgrade_begins p → IsOfWorld (ut.next_phase p ActResult.Start) × IsReady (ut.next_phase p ActResult.Start)
+pub begins : (p : UpgradePhase) → upgrade_begins p → IsOfWorld (ut.next_phase p ActResult.Start) × IsReady (ut.next_phase p ActResult.Start)
 begins UpgradePhase.Locking k = (tt, (refl, tt))
 begins UpgradePhase.Trying k = (tt, tt)
 begins (UpgradePhase.Unlocking r) k = (k, tt)
@@ -366,6 +363,3 @@ begins UpgradePhase.TryingToUpgrade k = (tt, tt)
 begins UpgradePhase.DowngradingToShared k = (tt, tt)
 begins UpgradePhase.DowngradingToUpgradable k = (tt, tt)
 begins p k = absurd k
-
-pub upgrades_keep : UpgradesKeep
-upgrades_keep = record { begins = begins; goes_on = goes_on }

@@ -25,7 +25,8 @@ use Rattle.parking_lot_upgrades.specs.UpgradeRules.{Fits, FitsFreeing, FitsOwing
 use Rattle.parking_lot_upgrades.specs.UpgradeTable.{act_of, next_phase, seeks_act, frees_act, owes_act}
 use Rattle.parking_lot_upgrades.proofs.UpgradeFollowing.{upgrade_follows}
 use Rattle.parking_lot_world.specs.RwLaws.{Finds}
-use Rattle.parking_lot_world.specs.UpgradeLaws.{MeetsUpgrade, upgrade_prepared, frees_prepared, owes_prepared, UpgradeLeads, UpgradesAreSteps}
+use Rattle.parking_lot_world.specs.UpgradeLaws.{MeetsUpgrade, UpgradeLeads, UpgradesAreSteps}
+use Rattle.parking_lot_world.specs.RowFits.{frees_prepared, owes_prepared, upgrade_prepared}
 use Rattle.parking_lot_world.proofs.RwWaking.{stored_left}
 use Rattle.parking_lot_world.proofs.RwMoving.{Clears, MoveClears, IsOwn, may_all, number-word, same_word, sound_word, total_most}
 
@@ -276,6 +277,7 @@ module _ (recursive : Bool) (l : Lock) (t n : ℕ) (spot : QueuePosition) (us : 
       let z = m v in
       let same : l.word ≡ word_of (word_after (act_of p) s x) = same_word l h.sound _ z.2 in (
         z.0,
+        z.1.from,
         λ i may. (
           (h.here ∙ ap (λ r. Some r) (listed (TakesOne mode) e tt ∙ z.1.from), may),
           λ j. record l { word = same j; roles = slice_set (slice_set l.roles t (sym z.1.to j)) v (record { owns = Shares 0; does = rules.Taken1 mode t rules.Open rules.Asleep }); first = remove l.first i },
@@ -288,6 +290,7 @@ module _ (recursive : Bool) (l : Lock) (t n : ℕ) (spot : QueuePosition) (us : 
       let w = word_after (act_of p) s x in
       let taken : scan.taken ≡ us = sym (ap taken_in m.1.from) ∙ subst (InSection recursive n us p s) e (section recursive n us p s h.prepared) in (
         scan,
+        m.1.from,
         λ over.
             let may : Allowed recursive t (Store end scan) l = (h.here ∙ ap (λ r. Some r) (listed (Tells end left) e tt ∙ m.1.from), m.1.cause, subst (MayEnd end) (sym taken) m.1.may, over) in
             let to : role n Listed us q ≡ record { owns = scan.owns; does = rules.Stored1 scan.taken } = m.1.to ∙ ap (λ (vs : List ℕ). record { owns = scan.owns; does = rules.Stored1 vs }) (sym taken) in

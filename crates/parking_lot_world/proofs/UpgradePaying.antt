@@ -1,5 +1,5 @@
 -- Acts of an upgradable call lower the steps that are left of it.
-use Rattle.std.proofs.Common.{◌≡◌, ◌≢◌, ◌≤◌, ◌<◌, ℕ, ◌+◌, ◌-◌, ◌/◌, ◌%◌, ◌^◌, ◌==◌, nat_lt, Bool, true, false, cond, refl, sym, ap, subst, arith}
+use Rattle.std.proofs.Common.{◌≡◌, ◌≢◌, ◌≤◌, ◌<◌, ℕ, ◌+◌, ◌-◌, ◌/◌, ◌%◌, ◌^◌, ◌==◌, nat_lt, not, Bool, true, false, cond, refl, sym, ap, ◌∙◌, subst, arith}
 use Rattle.std.proofs.lemmas.Bool.{both_ways, eq-eqb, ne_eqb}
 use Rattle.parking_lot_protocol.specs.Acts.{Gives, word_after}
 use Rattle.parking_lot_protocol.specs.RwTable as rt
@@ -12,13 +12,18 @@ use Rattle.parking_lot_protocol.specs.declared.rw_phase.Seeking.{Seeking}
 use Rattle.parking_lot_upgrades.specs.declared.upgrade_phase.Hold.{Hold}
 use Rattle.parking_lot_upgrades.specs.declared.upgrade_phase.Release.{Release}
 use Rattle.parking_lot_upgrades.specs.declared.upgrade_phase.UpgradePhase.{UpgradePhase}
-use Rattle.parking_lot_upgrades.specs.UpgradeRules.{IsReady, IsSeeking, IsFreeing, IsOwing}
+use Rattle.parking_lot_upgrades.specs.UpgradeRules.{IsDraining, IsFreeing, IsOwing, IsReady, IsSeeking}
 use Rattle.parking_lot_protocol.specs.RwRules as rw
 use Rattle.parking_lot_upgrades.specs.UpgradeTable as ut
-use Rattle.parking_lot_world.specs.Ranks.{View, Sees, comes_after, rw_steps, scan}
-use Rattle.parking_lot_world.specs.RankLaws.{Can, Leaves}
-use Rattle.parking_lot_world.specs.UpgradeRanks.{IsOfWorld, seeks_room, upgrade_steps, UpgradeStepsFall}
-use Rattle.parking_lot_world.proofs.RwPaying.{steps_fall}
+use Rattle.parking_lot_core_lot.specs.declared.parking.UnparkToken.{UnparkToken}
+use Rattle.parking_lot_protocol.specs.declared.act.SectionAct.TheVariants as section
+use Rattle.parking_lot_world.specs.Stances.{rw_taken, upgrade_taken}
+use Rattle.parking_lot_world.specs.Ranks.{Sees, Unseen, View, comes_after, rw_steps, scan, wake}
+use Rattle.parking_lot_world.specs.RankLaws.{Can, Leaves, StopsAt}
+use Rattle.parking_lot_world.specs.UpgradeRanks.{UpgradeStepsFall}
+use Rattle.parking_lot_world.specs.RowFits.{IsOfWorld, seeks_room}
+use Rattle.parking_lot_world.specs.Ranks.{upgrade_steps}
+use Rattle.parking_lot_world.proofs.RwPaying.{end_costs, steps_fall}
 
 -- one of two, where both are few
 either : (b : Bool) (x y c : ℕ) → x ≤ c → y ≤ c → cond b x y ≤ c
@@ -282,5 +287,138 @@ module _ (n word first after : ℕ) (shut : Bool) (room : word / 16 < 2 ^ 60 - 1
   falls (UpgradePhase.Yields from tried) s i k g c l = absurd k
   falls p s i k g c l = absurd g
 
+-- WHAT OTHERS SEE
+
+frees_wakes : (n : ℕ) (r : Release) (q : RwPhase) (v : View) → ut.frees_act r q ≡ Act.Section section.Wake → 1 ≤ rw_taken q → upgrade_steps n v (ut.next_phase (UpgradePhase.Frees r (record { phase = q })) ActResult.Made) + wake ≤ rw_steps n v q
+frees_wakes n r (RwPhase.Wakes rest count) v e some = steps_fall.wakes n (RwPhase.Wakes rest count) v refl some
+frees_wakes n r (RwPhase.Finishes rest) v e some = absurd (omega (arith, some))
+frees_wakes n r q v e some = absurd cc
+
+owes_wakes : (n : ℕ) (kept : Hold) (end : CoreAnswer) (q : RwPhase) (v : View) → ut.owes_act kept end q ≡ Act.Section section.Wake → 1 ≤ rw_taken q → upgrade_steps n v (ut.next_phase (UpgradePhase.Owes kept end (record { phase = q })) ActResult.Made) + wake ≤ rw_steps n v q
+owes_wakes n kept end (RwPhase.Wakes rest count) v e some = steps_fall.wakes n (RwPhase.Wakes rest count) v refl some
+owes_wakes n kept end q v e some = absurd cc
+
+seeks_none : (q : RwPhase) → IsSeeking q → rw_taken q ≡ 0
+seeks_none (RwPhase.ClearWriterParked rest has) i = absurd i
+seeks_none (RwPhase.LeaveWriterWakeSection rest has) i = absurd i
+seeks_none (RwPhase.Scans a) i = absurd i
+seeks_none (RwPhase.Stores a left) i = absurd i
+seeks_none (RwPhase.Leaves rest count handed) i = absurd i
+seeks_none (RwPhase.Wakes rest count) i = absurd i
+seeks_none q i = refl
+
+drains_none : (q : RwPhase) → IsDraining q → rw_taken q ≡ 0
+drains_none (RwPhase.ClearWriterParked rest has) i = absurd i
+drains_none (RwPhase.LeaveWriterWakeSection rest has) i = absurd i
+drains_none (RwPhase.Scans a) i = absurd i
+drains_none (RwPhase.Stores a left) i = absurd i
+drains_none (RwPhase.Leaves rest count handed) i = absurd i
+drains_none (RwPhase.Wakes rest count) i = absurd i
+drains_none q i = refl
+
+wakes : (n : ℕ) (p : UpgradePhase) (v : View) → IsReady p → IsOfWorld p → ut.act_of p ≡ Act.Section section.Wake → 1 ≤ upgrade_taken p → upgrade_steps n v (ut.next_phase p ActResult.Made) + wake ≤ upgrade_steps n v p
+wakes n (UpgradePhase.Plain core) v i k e some = absurd k
+wakes n (UpgradePhase.Seeks core) v i k e some = absurd (omega (arith, some, seeks_none core.phase i.0))
+wakes n (UpgradePhase.Drains core) v i k e some = absurd (omega (arith, some, drains_none core.phase i.0))
+wakes n (UpgradePhase.Frees r core) v i k e some = frees_wakes n r core.phase v e some
+wakes n (UpgradePhase.Owes kept end core) v i k e some = owes_wakes n kept end core.phase v e some
+wakes n p v i k e some = absurd (omega (arith, some))
+
+-- one more than the steps of either of two
+more_of : (n : ℕ) (b : Bool) (p q : UpgradePhase) (c : ℕ) → upgrade_steps n Unseen p + 1 ≤ c → upgrade_steps n Unseen q + 1 ≤ c → upgrade_steps n Unseen (cond b p q) + 1 ≤ c
+more_of n true p q c h k = h
+more_of n false p q c h k = k
+
+woken : (n : ℕ) (p : UpgradePhase) (token : UnparkToken) → IsReady p → IsOfWorld p → upgrade_steps n Unseen (ut.next_phase p (ActResult.Woken token)) + 1 ≤ upgrade_steps n Unseen p + wake
+woken n (UpgradePhase.Plain core) token i k = absurd k
+woken n (UpgradePhase.Seeks core) token i k = more_of n (ut.owns_now core.phase (ActResult.Woken token)) _ _ _ (omega arith) (steps_fall.woken n core.phase token)
+woken n (UpgradePhase.Drains core) token i k = steps_fall.woken n core.phase token
+woken n (UpgradePhase.Frees r core) token i k = more_of n (ut.asks_now r core.phase (ActResult.Woken token)) _ _ _ (omega arith) (steps_fall.woken n core.phase token)
+woken n (UpgradePhase.Owes kept end core) token i k = steps_fall.woken n core.phase token
+woken n p token i k = omega arith
+
+few_found : (n first : ℕ) (shut : Bool) → first ≤ n → cond shut n first ≤ n
+few_found n first true h = omega arith
+few_found n first false h = h
+
+few : (n word first : ℕ) (shut : Bool) (p : UpgradePhase) → first ≤ n → upgrade_steps n (Sees word first shut) p ≤ upgrade_steps n Unseen p
+few n word first shut (UpgradePhase.Plain core) h = steps_fall.few n word first shut core.phase h
+few n word first shut (UpgradePhase.Seeks core) h = steps_fall.few n word first shut core.phase h
+few n word first shut (UpgradePhase.Drains core) h = steps_fall.few n word first shut core.phase h
+few n word first shut (UpgradePhase.Frees r core) h = steps_fall.few n word first shut core.phase h
+few n word first shut (UpgradePhase.Owes kept end core) h = steps_fall.few n word first shut core.phase h
+few n word first shut (UpgradePhase.TryAdmits from left) h = either (word == from) 2 3 3 (omega arith) (omega arith)
+few n word first shut (UpgradePhase.TryUpgrades from left) h = either (word == from) 2 3 3 (omega arith) (omega arith)
+few n word first shut UpgradePhase.Upgrades h = omega (arith, either (not shut) 4 9 9 (omega arith) (omega arith))
+few n word first shut (UpgradePhase.UnlockLoads r) h = omega (arith, few_found n first shut h)
+few n word first shut (UpgradePhase.Unlocks r from) h = either (word == from) 2 (scan n (Sees word first shut) + 8) (scan n Unseen + 8) (omega arith) (omega (arith, few_found n first shut h))
+few n word first shut UpgradePhase.ToShared h = omega (arith, few_found n first shut h)
+few n word first shut UpgradePhase.ToUpgradable h = omega (arith, few_found n first shut h)
+few n word first shut p h = omega arith
+
+stops_not : (b : Bool) (x y : Act) (shut : Bool) → (StopsAt x shut → ⊥) → (StopsAt y shut → ⊥) → StopsAt (cond b x y) shut → ⊥
+stops_not true x y shut f g h = f h
+stops_not false x y shut f g h = g h
+
+seeks_stop : (n : ℕ) (q : RwPhase) (word first : ℕ) (shut : Bool) → StopsAt (ut.seeks_act q) shut → rw_steps n Unseen q ≤ rw_steps n (Sees word first shut) q
+seeks_stop n (RwPhase.Admits a from) word first shut h = absurd (stops_not (rt.has_room from) (Act.Exchange from ((from + 20) % 2 ^ 64)) Act.Load shut (λ x. x) (λ x. x) h)
+seeks_stop n (RwPhase.Appends want) word first shut h = absurd h
+seeks_stop n q word first shut h = steps_fall.stops n q word first shut h
+
+frees_stop : (n : ℕ) (r : Release) (q : RwPhase) (word first : ℕ) (shut : Bool) → StopsAt (ut.frees_act r q) shut → rw_steps n Unseen q ≤ rw_steps n (Sees word first shut) q
+frees_stop n r (RwPhase.Stores a left) word first shut h = absurd h
+frees_stop n r (RwPhase.Finishes rest) word first shut h = absurd (stops_not (ut.is_again r) Act.Load (Act.Done CoreAnswer.Released) shut (λ x. x) (λ x. x) h)
+frees_stop n r q word first shut h = steps_fall.stops n q word first shut h
+
+owes_stop : (n : ℕ) (kept : Hold) (end : CoreAnswer) (q : RwPhase) (word first : ℕ) (shut : Bool) → StopsAt (ut.owes_act kept end q) shut → rw_steps n Unseen q ≤ rw_steps n (Sees word first shut) q
+owes_stop n kept end (RwPhase.Scans a) word first shut h = absurd h
+owes_stop n kept end (RwPhase.Finishes rest) word first shut h = absurd h
+owes_stop n kept end q word first shut h = steps_fall.stops n q word first shut h
+
+stops : (n : ℕ) (p : UpgradePhase) (word first : ℕ) (shut : Bool) → StopsAt (ut.act_of p) shut → upgrade_steps n Unseen p ≤ upgrade_steps n (Sees word first shut) p
+stops n (UpgradePhase.Plain core) word first shut h = steps_fall.stops n core.phase word first shut h
+stops n (UpgradePhase.Seeks core) word first shut h = seeks_stop n core.phase word first shut h
+stops n (UpgradePhase.Drains core) word first shut h = steps_fall.stops n core.phase word first shut h
+stops n (UpgradePhase.Frees r core) word first shut h = frees_stop n r core.phase word first shut h
+stops n (UpgradePhase.Owes kept end core) word first shut h = owes_stop n kept end core.phase word first shut h
+stops n p word first shut h = absurd h
+
+abbrev is_answered : Act → Bool
+is_answered (Act.Done answer) = true
+is_answered a = false
+
+not_answered : (a : Act) (answer : CoreAnswer) → is_answered a ≡ false → a ≡ Act.Done answer → ⊥
+not_answered a answer f e = both_ways (is_answered a) f (ap is_answered e)
+
+seeks_end : (n : ℕ) (q : RwPhase) (v : View) (answer : CoreAnswer) → ut.seeks_act q ≡ Act.Done answer → 1 ≤ rw_steps n v q
+seeks_end n (RwPhase.Admits a from) v answer e = absurd (not_answered _ answer (by (rt.has_room from)) e)
+  where
+    by : (b : Bool) → is_answered (cond b (Act.Exchange from ((from + 20) % 2 ^ 64)) Act.Load) ≡ false
+    by true = refl
+    by false = refl
+seeks_end n (RwPhase.Appends want) v answer e = absurd cc
+seeks_end n q v answer e = steps_fall.ends n q v answer e
+
+frees_end : (n : ℕ) (r : Release) (q : RwPhase) (v : View) (answer : CoreAnswer) → ut.frees_act r q ≡ Act.Done answer → 1 ≤ rw_steps n v q
+frees_end n r (RwPhase.Stores a left) v answer e = absurd cc
+frees_end n r (RwPhase.Finishes rest) v answer e = end_costs n v rest
+frees_end n r q v answer e = steps_fall.ends n q v answer e
+
+owes_end : (n : ℕ) (kept : Hold) (end : CoreAnswer) (q : RwPhase) (v : View) (answer : CoreAnswer) → ut.owes_act kept end q ≡ Act.Done answer → 1 ≤ rw_steps n v q
+owes_end n kept end (RwPhase.Scans a) v answer e = absurd cc
+owes_end n kept end (RwPhase.Finishes rest) v answer e = end_costs n v rest
+owes_end n kept end q v answer e = steps_fall.ends n q v answer e
+
+ends : (n : ℕ) (p : UpgradePhase) (v : View) (answer : CoreAnswer) → ut.act_of p ≡ Act.Done answer → 1 ≤ upgrade_steps n v p
+ends n (UpgradePhase.Plain core) v answer e = steps_fall.ends n core.phase v answer e
+ends n (UpgradePhase.Seeks core) v answer e = seeks_end n core.phase v answer e
+ends n (UpgradePhase.Drains core) v answer e = steps_fall.ends n core.phase v answer e
+ends n (UpgradePhase.Frees r core) v answer e = frees_end n r core.phase v answer e
+ends n (UpgradePhase.Owes kept end core) v answer e = owes_end n kept end core.phase v answer e
+ends n (UpgradePhase.TryAdmits from left) v answer e = absurd cc
+ends n (UpgradePhase.TryUpgrades from left) v answer e = absurd cc
+ends n (UpgradePhase.Unlocks r from) v answer e = absurd cc
+ends n p v answer e = omega arith
+
 pub upgrade_steps_fall : UpgradeStepsFall
-upgrade_steps_fall n p s word first after shut room ready kept g c l = falls n word first after shut room p s ready kept g c l
+upgrade_steps_fall = record { falls = λ n p s word first after shut room ready kept g c l. falls n word first after shut room p s ready kept g c l; wakes = wakes; woken = woken; few = few; stops = stops; ends = ends }

@@ -26,6 +26,5 @@ pub mod SoundLaws
 pub mod LostExchanges
 pub mod LateActs
 pub mod LateLaws
-pub mod UpgradeStances
 pub mod UpgradeLaws
 pub mod UpgradeRanks

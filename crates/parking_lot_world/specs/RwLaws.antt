@@ -132,10 +132,10 @@ abbrev pub TokensTell : Type 0
 TokensTell = (want : LockMode) → IsToken (Some (record { 0 = share_of want })) × (mode_by (record { 0 = share_of want }) ≡ mode_of want)
 
 abbrev pub WritersAreTaken : Type 0
-WritersAreTaken = (recursive : Bool) (l : Lock) (t n : ℕ) (spot : QueuePosition) (us : List ℕ) (rest : AfterWake) (x : ℕ) (token : ParkToken) (left : Bool) (v : ℕ) → Meets recursive l t n spot us (TakeWriter rest) x → slice_get l.second 0 ≡ Some v
-    → slice_get l.roles v ≡ Some (record { owns = Shares 0; does = Queued2 false Asleep })
-    → IsStep recursive t (Take2 (Shares n) v false Asleep) l
-    (record (with_roles l x t (role n Listed (us ++ v ∷ []) (next_phase (TakeWriter rest) (seen.Took (Some token) left))) v (record { owns = Shares 0; does = Taken2 false t Asleep })) { second = remove l.second 0 })
+WritersAreTaken = (recursive : Bool) (l : Lock) (t n : ℕ) (spot : QueuePosition) (us : List ℕ) (rest : AfterWake) (x : ℕ) (token : ParkToken) (left : Bool) (v : ℕ) (from : Bool) → Meets recursive l t n spot us (TakeWriter rest) x → slice_get l.second 0 ≡ Some v
+    → slice_get l.roles v ≡ Some (record { owns = Shares 0; does = Queued2 from Asleep })
+    → IsStep recursive t (Take2 (Shares n) v from Asleep) l
+    (record (with_roles l x t (role n Listed (us ++ v ∷ []) (next_phase (TakeWriter rest) (seen.Took (Some token) left))) v (record { owns = Shares 0; does = Taken2 from t Asleep })) { second = remove l.second 0 })
 
 -- The end of the section: what it stores, and what it tells all that the thread has taken. It knows whether waiters are left, and has taken
 -- a writer, or skips all of them.

@@ -5,7 +5,7 @@ use Rattle.parking_lot_rules.specs.Roles.{Owned, Shares, Excludes, Asleep, Idle,
 use Rattle.parking_lot_rules.specs.Clauses.{word_of}
 use Rattle.parking_lot_rules.specs.Holds.{shared_holds}
 use Rattle.parking_lot_rules.specs.Lock.{Lock, IsSound}
-use Rattle.parking_lot_rules.specs.Steps.{Alone, List_changes, MayList, first_after, second_after, Scan, MayTake, Take1, IsOver, Store, ends_saying, settle, Waking, waking_from, waking_to, Wake}
+use Rattle.parking_lot_rules.specs.Steps.{Alone, List_changes, MayList, first_after, second_after, Scan, scanning, MayTake, Take1, IsOver, Store, ends_saying, settle, Waking, waking_from, waking_to, Wake}
 use Rattle.parking_lot_protocol.specs.Acts.{word_after}
 use Rattle.parking_lot_protocol.specs.RwRules.{Move, Stays, Makes, Joins, TakesOne, TakesWriter, Tells, WakesOne, IsWoken, mark_for}
 use Rattle.parking_lot_protocol.specs.RwTable.{count_of}
@@ -22,32 +22,12 @@ use Rattle.parking_lot_upgrades.specs.UpgradeMoves.{move, last_move}
 use Rattle.parking_lot_upgrades.specs.UpgradeRoles.{owned, owns, role}
 use Rattle.parking_lot_upgrades.specs.UpgradeRules.{IsReady, IsTold}
 use Rattle.parking_lot_upgrades.specs.UpgradeTable.{act_of, is_again, next_phase}
-use Rattle.parking_lot_world.specs.RwLaws.{Finds, IsLastStep, IsStep, with_role, with_roles}
-use Rattle.parking_lot_world.specs.UpgradeRanks.{IsOfWorld}
-
--- What a phase needs of whom its thread has taken, where that doesn't follow from what the word says. Calls of shared and exclusive holds have
--- a core of their own, and nobody gives up.
-abbrev pub frees_prepared : List ℕ → RwPhase → Type 0
-frees_prepared us (r.LooksExclusive fair rest) = us ≡ []
-frees_prepared us (r.Scans s) = s.shared < 2 ^ 32 - 1
-frees_prepared us (r.Stores s left) = (s.shared < 2 ^ 32) × (length us ≡ count_of s)
-frees_prepared us (r.Finishes rest) = us ≡ []
-frees_prepared us phase = Unit {0}
-
-abbrev pub owes_prepared : List ℕ → RwPhase → Type 0
-owes_prepared us r.EnterWakeSection = us ≡ []
-owes_prepared us (r.Scans s) = s.shared < 2 ^ 32 - 1
-owes_prepared us (r.Finishes rest) = us ≡ []
-owes_prepared us phase = Unit {0}
-
-abbrev pub upgrade_prepared : List ℕ → UpgradePhase → Type 0
-upgrade_prepared us (u.Plain core) = ⊥
-upgrade_prepared us (u.GivingUp from) = ⊥
-upgrade_prepared us (u.YieldLoads from) = ⊥
-upgrade_prepared us (u.Yields from word) = ⊥
-upgrade_prepared us (u.Frees release core) = frees_prepared us core.phase
-upgrade_prepared us (u.Owes hold answer core) = owes_prepared us core.phase
-upgrade_prepared us phase = Unit {0}
+use Rattle.parking_lot_world.specs.RwLaws.{count_shared, Finds, IsLastStep, IsStep, with_role, with_roles}
+use Rattle.parking_lot_world.specs.Stances.{upgrade_begun}
+use Rattle.parking_lot_core_lot.specs.declared.parking.FilterOp.TheVariants.{Unpark}
+use Rattle.parking_lot_world.specs.Passes.{asks}
+use Rattle.parking_lot_world.specs.Stances.{upgrade_taken}
+use Rattle.parking_lot_world.specs.RowFits.{IsOfWorld, upgrade_begins, upgrade_keeps, upgrade_prepared}
 
 -- Thread t is in that phase of an upgradable call at a sound lock whose word is the number x, and has taken the threads us.
 pub record MeetsUpgrade (l : Lock) (t n : ℕ) (spot : QueuePosition) (us : List ℕ) (p : UpgradePhase) (x : ℕ) : Type 0 where
@@ -67,11 +47,11 @@ UpgradeLeads recursive (Makes k) t n spot us p s x l = Finds (act_of p) l → Is
 UpgradeLeads recursive (Joins k) t n spot us p s x l =
     MayList k t l.first l.second → IsStep recursive t (List_changes k) l (record (with_role l (word_after (act_of p) s x) t (role n Listed us (next_phase p s))) { first = first_after k t l.first; second = second_after k t l.second })
 UpgradeLeads recursive (TakesOne mode) t n spot us p s x l =
-    (v : ℕ) → (scan : Scan) × ((i : ℕ) → MayTake scan i v mode Asleep l.roles l.first → IsStep recursive t (Take1 scan i v mode Asleep) l
+    (v : ℕ) → (scan : Scan) × (role n Listed us p ≡ scanning scan) × ((i : ℕ) → MayTake scan i v mode Asleep l.roles l.first → IsStep recursive t (Take1 scan i v mode Asleep) l
     (record (with_roles l (word_after (act_of p) s x) t (role n Listed (us ++ v ∷ []) (next_phase p s)) v (record { owns = Shares 0; does = Taken1 mode t Open Asleep })) { first = remove l.first i }))
 UpgradeLeads recursive TakesWriter t n spot us p s x l = ⊥
 UpgradeLeads recursive (Tells end left) t n spot us p s x l =
-    is_left l.first ≡ left → (scan : Scan) × (IsOver scan l.roles l.first → IsStep recursive t (Store end scan) l
+    is_left l.first ≡ left → (scan : Scan) × (role n Listed us p ≡ scanning scan) × (IsOver scan l.roles l.first → IsStep recursive t (Store end scan) l
     (record l { word = word_of (word_after (act_of p) s x); roles = slice_set (map (settle (ends_saying end)) l.roles) t (role n Listed us (next_phase p s)) }))
 UpgradeLeads recursive WakesOne t n spot us p s x l =
     (v : ℕ) (vs : List ℕ) (k : Waking) → us ≡ v ∷ vs → slice_get l.roles v ≡ Some (waking_from k t Asleep) → IsStep recursive t (Wake (owns n p) v vs k Asleep) l
@@ -91,36 +71,26 @@ upgrade_owned_after (u.Owes hold answer core) = owned hold
 upgrade_owned_after (u.Ends hold answer) = owned hold
 upgrade_owned_after phase = Shares 0
 
--- a call that was told that it begins
-abbrev pub upgrade_begun : UpgradePhase → Bool
-upgrade_begun u.Locking = false
-upgrade_begun u.Trying = false
-upgrade_begun (u.Unlocking release) = false
-upgrade_begun u.Bumping = false
-upgrade_begun u.Upgrading = false
-upgrade_begun u.TryingToUpgrade = false
-upgrade_begun u.DowngradingToShared = false
-upgrade_begun u.DowngradingToUpgradable = false
-upgrade_begun (u.GivingUp from) = false
-upgrade_begun phase = true
-
 -- The end of a call that has begun is a step of the rules or none, and leaves its thread with what it owns, in no call.
 abbrev pub UpgradesEnd : Type 0
 UpgradesEnd = (recursive : Bool) (l : Lock) (t n : ℕ) (spot : QueuePosition) (us : List ℕ) (p : UpgradePhase) (x : ℕ) (answer : CoreAnswer) → MeetsUpgrade l t n spot us p x → upgrade_begun p ≡ true → act_of p ≡ Done answer
     → IsLastStep recursive (last_move n p) l t (role n spot us p) x (record { owns = upgrade_owned_after p; does = Idle })
 
--- with what a call of a world may begin
-abbrev pub upgrade_begins : UpgradePhase → Type 0
-upgrade_begins u.Locking = Unit {0}
-upgrade_begins u.Trying = Unit {0}
-upgrade_begins (u.Unlocking release) = is_again release ≡ false
-upgrade_begins u.Upgrading = Unit {0}
-upgrade_begins u.TryingToUpgrade = Unit {0}
-upgrade_begins u.DowngradingToShared = Unit {0}
-upgrade_begins u.DowngradingToUpgradable = Unit {0}
-upgrade_begins phase = ⊥
+-- A scan is shown only whom it wants.
+abbrev pub WantsTaken : UpgradePhase → ActResult → Type 0
+WantsTaken p (seen.Took (Some token) left) = asks (act_of p) token.0 ≡ Unpark
+WantsTaken p s = Unit {0}
 
--- From its beginning to its end a call of a world stays one, and is ready.
+-- how many readers a phase counts
+abbrev pub upgrade_shared : UpgradePhase → ℕ
+upgrade_shared (u.Frees release core) = count_shared core.phase
+upgrade_shared (u.Owes kept answer core) = count_shared core.phase
+upgrade_shared phase = 0
+
+-- From its beginning to its end a call of a world stays one, and is ready. What its phase needs follows, where its thread has taken as many as
+-- it counts.
 pub record UpgradesKeep : Type 0 where
-  pub begins : (p : UpgradePhase) → upgrade_begins p → IsOfWorld (next_phase p seen.Start) × IsReady (next_phase p seen.Start)
+  pub begins : (p : UpgradePhase) → upgrade_begins p → (IsOfWorld p × IsReady p) × (IsOfWorld (next_phase p seen.Start) × IsReady (next_phase p seen.Start)) × upgrade_keeps (next_phase p seen.Start)
   pub goes_on : (p : UpgradePhase) (x : ℕ) (s : ActResult) → upgrade_begun p ≡ true → IsReady p → IsOfWorld p → x / 16 < 2 ^ 60 - 1 → IsTold p x s → IsOfWorld (next_phase p s)
+  pub keeps : (p : UpgradePhase) (x : ℕ) (s : ActResult) → IsReady p → IsOfWorld p → upgrade_keeps p → IsTold p x s → WantsTaken p s → upgrade_keeps (next_phase p s)
+  pub prepared : (us : List ℕ) (p : UpgradePhase) → IsOfWorld p → length us ≡ upgrade_taken p → upgrade_shared p ≤ 2 ^ 17 → upgrade_prepared us p

@@ -25,6 +25,7 @@ mod step;
 mod take_laws;
 mod tell_laws;
 mod upgrade_laws;
+mod upgrade_views;
 mod view_laws;
 mod world;
 mod world_views;

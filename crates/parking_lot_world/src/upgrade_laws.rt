@@ -1,13 +1,6 @@
 //! Laws of upgradable calls: how their acts move them between sections and lists.
 ghost use Rattle.parking_lot_world.specs.UpgradeLaws.{UpgradesAreSteps, UpgradesEnd, UpgradesKeep};
 ghost use Rattle.parking_lot_world.specs.UpgradeRanks.{UpgradeStepsFall};
-ghost use Rattle.parking_lot_world.specs.UpgradeStances.{UpgradesLead};
-
-/// What an act gives leads an upgradable call that is ready in or out of its section, from one thing that it does there to the next, to its
-/// sleep or out of it, as it leads other calls; and it counts whom it has taken.
-pub fn upgradable_calls_lead()
-    ensures { UpgradesLead }
-{}
 
 /// What an upgradable call is told at a sound lock, whose word counts its thread as its phase says, is a step of the rules there, and the phase
 /// that follows is ready again.

@@ -1,4 +1,4 @@
-use Rattle.parking_lot_world.proofs.UpgradeKeeping.{upgrades_keep}
+use Rattle.parking_lot_world.proofs.UpgradeGoing.{upgrades_keep}
 use Rattle.parking_lot_world.proofs.upgrade_laws.upgradable_calls_keep.Goals as goal
 
 pub returns : goal.returns
