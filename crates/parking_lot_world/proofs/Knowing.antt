@@ -6,14 +6,11 @@ use Rattle.parking_lot_protocol.specs.declared.act.Act.{Act}
 use Rattle.parking_lot_protocol.specs.declared.act.SectionAct.TheVariants as section
 use Rattle.parking_lot_protocol.specs.declared.act.ActResult.{ActResult}
 use Rattle.parking_lot_protocol.specs.declared.mutex_phase.MutexPhase.{MutexPhase}
-use Rattle.parking_lot_protocol.specs.declared.rw_phase.RwPhase.{RwPhase}
 use Rattle.parking_lot_protocol.specs.Acts.{Gives}
-use Rattle.parking_lot_protocol.specs.RwTable as of_rw
 use Rattle.parking_lot_world.specs.declared.seat.Core.{Core}
 use Rattle.parking_lot_world.specs.Stances.{Looks, TurnsBack, Joins, Joined, Takes, Stores, Tells, Stance, Out, In, Asleep, mutex_stance, stance, core_act, core_next}
 use Rattle.parking_lot_world.specs.StanceLaws.{Leads}
 use Rattle.parking_lot_world.specs.RowFits.{mutex_knows}
-use Rattle.parking_lot_world.specs.RwLaws.{Learns}
 use Rattle.parking_lot_world.proofs.OwnMoves.{IsOwnAct}
 use Rattle.parking_lot_world.proofs.Stancing.{leads_by}
 

@@ -26,7 +26,7 @@ use Rattle.parking_lot_world.specs.declared.seat.QueuePosition.{QueuePosition}
 use Rattle.parking_lot_world.specs.declared.seat.LatePhase.{LatePhase}
 use Rattle.parking_lot_world.specs.declared.seat.Core.{Core}
 use Rattle.parking_lot_world.specs.declared.open_call.Call.{Call}
-use Rattle.parking_lot_world.specs.Rows.{State, word_at, hold_at, call_at, is_by, taken_by, owned_of, rw_spot, rw_role_in, rw_role_at, rw_core_role, rw_lock_at, mutex_at, mutex_spot, late_role, first_of_all, lock_as}
+use Rattle.parking_lot_world.specs.Rows.{State, word_at, hold_at, call_at, is_by, taken_by, owned_of, rw_role_in, rw_role_at, rw_core_role, rw_lock_at, mutex_at, mutex_spot, late_role, first_of_all, lock_as}
 use Rattle.parking_lot_world.specs.Stances.{core_next, has_begun, taken_count}
 use Rattle.parking_lot_world.specs.RowFits.{FitsTogether, is_away, IsOfKind, IsPrepared, KnowsList}
 use Rattle.parking_lot_world.specs.MutexLaws.{Plays}
@@ -37,7 +37,7 @@ use Rattle.parking_lot_upgrades.specs.declared.upgrade_phase.Hold.TheVariants as
 use Rattle.parking_lot_upgrades.specs.declared.upgrade_phase.UpgradePhase.{UpgradePhase}
 use Rattle.parking_lot_world.proofs.RwCalls.{CallLearns, CallMeets, CallTold, CallWants, call_few, call_goes_on, call_knows, call_room, stands_prepared}
 use Rattle.parking_lot_world.proofs.Everybody.{was-all, length-all}
-use Rattle.parking_lot_world.proofs.KindTable.{Plain, Late, RwCall, in_its_place, next_is, of_mutexes, of_rws, rw_call, rw_next}
+use Rattle.parking_lot_world.proofs.KindTable.{Plain, Late, RwCall, in_its_place, next_is, of_mutexes, of_rws, rw_call}
 
 -- who is in a call is a thread of the machine
 pub in_range : (s : State) (t : ℕ) (c : Call) → call_at s t ≡ Some c → t < length s.calls

@@ -22,8 +22,8 @@ use Rattle.parking_lot_protocol.specs.declared.rw_phase.Seeking.{Seeking}
 use Rattle.parking_lot_protocol.specs.declared.rw_phase.LockMode.{LockMode}
 use Rattle.parking_lot_world.specs.declared.seat.LatePhase.{LatePhase}
 use Rattle.parking_lot_world.specs.declared.seat.Core.{Core}
-use Rattle.parking_lot_world.specs.Stances.{Doing, Takes, Stores, Tells, Stance, Out, In, Asleep, sign, mutex_stance, late_act, late_next, late_stance, rw_stance, stance, mutex_taken, rw_taken, taken_count, core_act, core_next}
-use Rattle.parking_lot_world.specs.StanceLaws.{Leads, LeadsCore, rw_counts, Counts, TakesOne, IsOver, HasSmallKey}
+use Rattle.parking_lot_world.specs.Stances.{Takes, Stores, Tells, Stance, Out, In, Asleep, sign, mutex_stance, late_act, late_next, late_stance, rw_stance, stance, mutex_taken, rw_taken, taken_count, core_act}
+use Rattle.parking_lot_world.specs.StanceLaws.{Leads, LeadsCore, rw_counts, TakesOne, IsOver, HasSmallKey}
 use Rattle.parking_lot_rules.specs.Classes.{bit}
 
 -- what holds of both holds of either
@@ -540,4 +540,3 @@ rw_keys p = tt
 pub late_keys : (p : LatePhase) → HasSmallKey (late_stance p)
 late_keys LatePhase.GivesUp = tt
 late_keys p = omega arith
-

@@ -34,7 +34,6 @@ use Rattle.parking_lot_world.specs.Rows.{State, lock_as, call_at, first_key, fir
 use Rattle.parking_lot_world.specs.SoundLaws.{ListsAreWaiters, waits_as, waits_in}
 use Rattle.parking_lot_world.specs.Stances.{late_stance, mutex_stance, rw_stance, stance}
 use Rattle.parking_lot_world.proofs.KindTable.{Kind, MutexCall, Plain, Late, mutex_call, mutex_plays, of_mutexes, of_rws, role_at, roles_at}
-use Rattle.parking_lot_protocol.specs.declared.rw_core.RwCore.{RwCore}
 use Rattle.parking_lot_world.proofs.Everybody.{get-all, past}
 
 -- BY PHASES

@@ -1,19 +1,17 @@
 -- A call at a reader-writer lock, of shared and exclusive holds or of the upgradable one: what the machine needs of either.
-use Rattle.std.proofs.Common.{◌≡◌, ◌≢◌, ◌<◌, ◌≤◌, ℕ, zero, suc, ◌+◌, ◌-◌, ◌*◌, ◌/◌, ◌%◌, ◌^◌, ◌==◌, ◌&&◌, ◌⊎◌, inl, inr, nat_lt, cond, Bool, true, false, List, [], ◌∷◌, ◌++◌, length, map, remove, Option, Some, None, slice_get, slice_set, refl, sym, ap, ◌∙◌, subst, arith}
+use Rattle.std.proofs.Common.{◌≡◌, ◌<◌, ◌≤◌, ℕ, ◌+◌, ◌-◌, ◌*◌, ◌/◌, ◌%◌, ◌^◌, ◌==◌, ◌⊎◌, inl, inr, cond, Bool, true, false, List, ◌∷◌, length, Option, Some, None, slice_get, slice_set, refl, sym, ap, ◌∙◌, subst, arith}
 use Rattle.std.proofs.lemmas.Bool.{both_ways}
-use Rattle.parking_lot_core_lot.specs.Results.{is_left}
-use Rattle.parking_lot_core_lot.specs.declared.parking.FilterOp.{FilterOp}
-use Rattle.parking_lot_core_lot.specs.declared.parking.FilterOp.TheVariants.{Unpark, Skip, Stop}
+use Rattle.parking_lot_core_lot.specs.declared.parking.FilterOp.TheVariants.{Unpark}
 use Rattle.parking_lot_core_lot.specs.declared.parking.ParkToken.{ParkToken}
 use Rattle.parking_lot_core_lot.specs.declared.parking.UnparkToken.{UnparkToken}
 use Rattle.parking_lot_core_lot.specs.declared.place.Waiter.{Waiter}
 use Rattle.parking_lot_rules.specs.Clauses.{Word, word_of}
 use Rattle.parking_lot_rules.specs.Holds.{shared_holds}
-use Rattle.parking_lot_rules.specs.Lock.{Lock, IsSound, On1, to_wake}
+use Rattle.parking_lot_rules.specs.Lock.{Lock, IsSound}
 use Rattle.parking_lot_rules.specs.Plain.{Plain}
 use Rattle.parking_lot_rules.specs.Roles.{Asleep, Idle, Open, Owned, Queued1, Queued2, Role, Shares, Taken1, Taken2}
 use Rattle.parking_lot_rules.specs.Roles as rules
-use Rattle.parking_lot_rules.specs.Steps.{Alone, AreSkipped, Ending, List_changes, MayList, Retry, OwnUpgradable, Recheck, Scan, Store, Take, Take1, Waking, Wake, ends_saying, first_after, holds_upgradable, look, scanning, second_after, settle, wants, waking_from, waking_to}
+use Rattle.parking_lot_rules.specs.Steps.{Alone, Retry, OwnUpgradable, Recheck, Waking, Wake, waking_from, waking_to}
 use Rattle.parking_lot_protocol.specs.Acts.{Gives, word_after}
 use Rattle.parking_lot_protocol.specs.RwRules as of_rw
 use Rattle.parking_lot_protocol.specs.RwRules.{IsToken, Move, mode_by, mode_of}
@@ -22,12 +20,10 @@ use Rattle.parking_lot_protocol.specs.declared.act.Act.{Act}
 use Rattle.parking_lot_protocol.specs.declared.act.SectionAct.TheVariants as section
 use Rattle.parking_lot_protocol.specs.declared.act.ActResult.{ActResult}
 use Rattle.parking_lot_protocol.specs.declared.act.CoreAnswer.{CoreAnswer}
-use Rattle.parking_lot_protocol.specs.declared.act.WordChange.{WordChange}
 use Rattle.parking_lot_protocol.specs.declared.rw_core.RwCore.{RwCore}
 use Rattle.parking_lot_protocol.specs.declared.rw_phase.AfterWake.{AfterWake}
 use Rattle.parking_lot_protocol.specs.declared.rw_phase.LockMode.{LockMode}
 use Rattle.parking_lot_protocol.specs.declared.rw_phase.RwPhase.{RwPhase}
-use Rattle.parking_lot_protocol.specs.declared.rw_phase.Scanning.{Scanning}
 use Rattle.parking_lot_upgrades.specs.UpgradeMoves as of_upgrade_moves
 use Rattle.parking_lot_upgrades.specs.UpgradeRoles as of_upgrade
 use Rattle.parking_lot_upgrades.specs.UpgradeRoles.{for_release, for_upgradable, for_upgrade}
@@ -38,16 +34,15 @@ use Rattle.parking_lot_upgrades.specs.declared.upgrade_phase.Hold as hold_type
 use Rattle.parking_lot_upgrades.specs.declared.upgrade_phase.Hold.TheVariants as upgrade_hold
 use Rattle.parking_lot_upgrades.specs.declared.upgrade_phase.Release.{Release}
 use Rattle.parking_lot_upgrades.specs.declared.upgrade_phase.UpgradePhase.{UpgradePhase}
-use Rattle.parking_lot_world.specs.Passes.{asks, look_by}
-use Rattle.parking_lot_world.specs.RowActs.{settled_spot, told_of}
+use Rattle.parking_lot_world.specs.Passes.{asks}
+use Rattle.parking_lot_world.specs.RowActs.{told_of}
 use Rattle.parking_lot_world.specs.RowFits.{IsPrepared, KnowsList, rw_prepared, upgrade_prepared}
 use Rattle.parking_lot_world.specs.RowSteps.{IsMoveOf, IsRwMove}
 use Rattle.parking_lot_world.specs.Rows.{State, mark_of, rw_core_role, rw_spot}
-use Rattle.parking_lot_world.specs.RwLaws.{Finds, IsStep, Learns, Meets, with_role, with_roles, count_shared}
+use Rattle.parking_lot_world.specs.RwLaws.{Finds, IsStep, Learns, Meets, with_role, count_shared}
 use Rattle.parking_lot_world.specs.Stances.{core_act, core_next, core_tells, has_begun, stance, taken_count}
 use Rattle.parking_lot_world.specs.Stances as stances
 use Rattle.parking_lot_world.specs.UpgradeLaws.{MeetsUpgrade, UpgradeLeads, WantsTaken, upgrade_shared}
-use Rattle.parking_lot_world.specs.declared.seat.Core.{Core}
 use Rattle.parking_lot_world.specs.declared.seat.QueuePosition.{QueuePosition}
 use Rattle.parking_lot_world.specs.declared.seat.WakeResult.{WakeResult}
 use Rattle.parking_lot_world.proofs.KindTable.{RwCall, Simple, Upgradable, rw_call, rw_next, rw_listed, upgrade_listed}

@@ -1,5 +1,5 @@
 -- A call at a reader-writer lock that goes through a list: whom it wants, whom it takes, and what it stores.
-use Rattle.std.proofs.Common.{◌≡◌, ◌<◌, ◌≤◌, ℕ, ◌+◌, ◌-◌, ◌*◌, ◌%◌, ◌^◌, ◌&&◌, ◌||◌, ◌⊎◌, inl, inr, nat_lt, cond, Bool, true, false, List, [], ◌∷◌, ◌++◌, length, map, remove, Some, None, slice_get, slice_set, refl, sym, ap, ◌∙◌, subst, arith}
+use Rattle.std.proofs.Common.{◌≡◌, ℕ, ◌+◌, ◌*◌, ◌%◌, ◌^◌, ◌&&◌, ◌||◌, ◌⊎◌, inl, inr, nat_lt, cond, Bool, true, false, List, [], ◌∷◌, ◌++◌, length, map, remove, Some, None, slice_get, slice_set, refl, sym, ap, ◌∙◌, subst}
 use Rattle.std.proofs.lemmas.Bool.{both_ways}
 use Rattle.parking_lot_core_lot.specs.Results.{is_left}
 use Rattle.parking_lot_core_lot.specs.declared.parking.FilterOp.{FilterOp}
@@ -8,7 +8,7 @@ use Rattle.parking_lot_rules.specs.Clauses.{word_of}
 use Rattle.parking_lot_rules.specs.Lock.{Lock}
 use Rattle.parking_lot_rules.specs.Roles.{Asleep, Cause, Open, Owned, Queued1, Role, Shares, Taken1}
 use Rattle.parking_lot_rules.specs.Roles as rules
-use Rattle.parking_lot_rules.specs.Steps.{AreSkipped, Ending, FreeUpgradable, HandUpgradable, Keep, Scan, Store, Take, Take1, ends_saying, holds_upgradable, look, scanning, settle}
+use Rattle.parking_lot_rules.specs.Steps.{AreSkipped, Ending, Keep, Scan, Store, Take, Take1, ends_saying, holds_upgradable, look, scanning, settle}
 use Rattle.parking_lot_protocol.specs.Acts.{word_after}
 use Rattle.parking_lot_protocol.specs.RwRules as of_rw
 use Rattle.parking_lot_protocol.specs.RwRules.{IsToken, mode_by}
@@ -224,8 +224,7 @@ call_takes recursive l t n at us (Upgradable k) x e ready token left i v h is wa
       role = waits;
       looks = ap (λ u. look u scan.writer (mode_by token)) sees ∙ ap (λ w. look z.sees w (mode_by token)) writes ∙ looks;
       skipped = subst (λ u. AreSkipped u scan.writer l.roles l.first i) (sym sees) (subst (λ w. AreSkipped z.sees w l.roles l.first i) (sym writes) skipped);
-    }) in
-    (
+    }) in (
       scan,
       (
         step.0,

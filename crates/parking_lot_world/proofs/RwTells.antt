@@ -1,13 +1,12 @@
 -- A call at a reader-writer lock, of shared and exclusive holds or of the upgradable one: who is told by a store, where it joins a list, and where it begins
 -- and ends.
-use Rattle.std.proofs.Common.{◌≡◌, ◌<◌, ◌≤◌, ℕ, ◌+◌, ◌*◌, ◌++◌, ◌∷◌, ◌⊎◌, inl, inr, Bool, true, false, List, [], Option, Some, None, slice_get, refl, sym, ap, ◌∙◌, subst}
+use Rattle.std.proofs.Common.{◌≡◌, ℕ, ◌+◌, ◌*◌, ◌++◌, ◌∷◌, ◌⊎◌, inl, inr, Bool, true, false, List, [], Option, Some, None, slice_get, refl, sym, ap, ◌∙◌, subst}
 use Rattle.parking_lot_core_lot.specs.declared.parking.ParkToken.{ParkToken}
 use Rattle.parking_lot_core_lot.specs.declared.place.Waiter.{Waiter}
 use Rattle.parking_lot_rules.specs.Lock.{Lock, IsSound, On1, to_wake}
 use Rattle.parking_lot_rules.specs.Roles.{Idle, Open, Role, Shares}
 use Rattle.parking_lot_rules.specs.Roles as rules
 use Rattle.parking_lot_rules.specs.Steps.{Join1, Join2, List_changes, Listing, Scan, scanning, settle}
-use Rattle.parking_lot_protocol.specs.Acts.{word_after}
 use Rattle.parking_lot_protocol.specs.RwRules as of_rw
 use Rattle.parking_lot_protocol.specs.RwRules.{Move}
 use Rattle.parking_lot_protocol.specs.RwTable as rw_table
@@ -25,11 +24,11 @@ use Rattle.parking_lot_upgrades.specs.declared.upgrade_phase.UpgradePhase.{Upgra
 use Rattle.parking_lot_upgrades.specs.UpgradeTable as upgrade_table
 use Rattle.parking_lot_world.specs.ActLaws.{OwnsFor}
 use Rattle.parking_lot_world.specs.RowActs.{hold_after, kept_hold, settled_spot, upgrade_hold_after}
-use Rattle.parking_lot_world.specs.RowFits.{IsPrepared, KnowsList, rw_knows, rw_prepared, upgrade_begins, upgrade_knows, upgrade_prepared}
+use Rattle.parking_lot_world.specs.RowFits.{IsPrepared, KnowsList, rw_knows, rw_prepared, upgrade_begins, upgrade_knows}
 use Rattle.parking_lot_world.specs.Rows.{mark_of, owned_of, rw_spot}
 use Rattle.parking_lot_world.specs.RwLaws.{Finds, IsLastStep, IsStep, Learns, Meets, rw_begins, with_role}
 use Rattle.parking_lot_world.specs.Stances.{In, Joins, core_act, has_begun, rw_begun, rw_stance, seeks_stance, stance, upgrade_stance}
-use Rattle.parking_lot_world.specs.UpgradeLaws.{UpgradeLeads, upgrade_owned_after}
+use Rattle.parking_lot_world.specs.UpgradeLaws.{upgrade_owned_after}
 use Rattle.parking_lot_world.specs.declared.seat.Hold.{Hold}
 use Rattle.parking_lot_world.specs.declared.seat.QueuePosition.{QueuePosition}
 use Rattle.parking_lot_world.specs.declared.seat.WakeResult.{WakeResult}

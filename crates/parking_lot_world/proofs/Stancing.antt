@@ -1,30 +1,16 @@
 -- Where a call stands, act by act.
-use Rattle.std.proofs.Common.{◌≡◌, ◌≤◌, ◌<◌, ℕ, ◌+◌, ◌-◌, ◌/◌, ◌%◌, ◌^◌, ◌==◌, ◌&&◌, ◌||◌, inl, inr, nat_lt, not, min, Bool, true, false, cond, Option, Some, None, is_some, Result, Ok, Err, refl, sym, ap, subst, arith}
-use Rattle.std.proofs.lemmas.Bool.{ltb-true, ltb-false}
-use Rattle.std.specs.Option.{option_map, option_map_or, option_and_then}
+use Rattle.std.proofs.Common.{◌≡◌, ◌≤◌, ◌<◌, ℕ, Bool, Some, refl, sym, subst}
 use Rattle.parking_lot_core_lot.specs.declared.parking.ParkToken.{ParkToken}
 use Rattle.parking_lot_core_lot.specs.declared.parking.UnparkToken.{UnparkToken}
-use Rattle.parking_lot_protocol.specs.Acts.{Gives, is_start, is_entered, is_made, word_seen, word_before, exchange_seen, spun_seen, took_seen, stored_seen, woken_seen}
+use Rattle.parking_lot_protocol.specs.Acts.{Gives}
 use Rattle.parking_lot_protocol.specs.MutexTable as mt
 use Rattle.parking_lot_protocol.specs.RwTable as rt
 use Rattle.parking_lot_protocol.specs.declared.act.Act.{Act}
-use Rattle.parking_lot_protocol.specs.declared.act.CoreAnswer.TheVariants as answer
 use Rattle.parking_lot_protocol.specs.declared.act.SectionAct.TheVariants as section
 use Rattle.parking_lot_protocol.specs.declared.act.ActResult.{ActResult}
-use Rattle.parking_lot_protocol.specs.declared.mutex_phase.Asking.{Asking}
-use Rattle.parking_lot_protocol.specs.declared.mutex_phase.MutexPhase.{MutexPhase}
-use Rattle.parking_lot_protocol.specs.declared.rw_phase.Draining.{Draining}
-use Rattle.parking_lot_protocol.specs.declared.rw_phase.Outcome.TheVariants as outcome
-use Rattle.parking_lot_protocol.specs.declared.rw_phase.AfterWake.{AfterWake}
-use Rattle.parking_lot_protocol.specs.declared.rw_phase.RwPhase.{RwPhase}
-use Rattle.parking_lot_protocol.specs.declared.rw_phase.Scanning.{Scanning}
-use Rattle.parking_lot_protocol.specs.declared.rw_phase.Seeking.{Seeking}
-use Rattle.parking_lot_protocol.specs.declared.rw_phase.LockMode.{LockMode}
-use Rattle.parking_lot_world.specs.declared.seat.LatePhase.{LatePhase}
 use Rattle.parking_lot_world.specs.declared.seat.Core.{Core}
-use Rattle.parking_lot_world.specs.Stances.{Doing, Takes, Stores, Tells, Stance, Out, In, Asleep, sign, mutex_stance, late_act, late_next, late_stance, rw_stance, stance, mutex_taken, rw_taken, taken_count, core_act, core_next}
-use Rattle.parking_lot_world.specs.StanceLaws.{Leads, LeadsCore, rw_counts, Counts, TakesOne, IsOver, HasSmallKey}
-use Rattle.parking_lot_rules.specs.Classes.{bit}
+use Rattle.parking_lot_world.specs.Stances.{Doing, Out, In, Asleep, stance, taken_count, core_act, core_next}
+use Rattle.parking_lot_world.specs.StanceLaws.{LeadsCore, Counts, TakesOne, IsOver, HasSmallKey}
 use Rattle.parking_lot_world.proofs.PhaseStancing.{mutex_leads, rw_leads, late_leads, mutex_takes, rw_takes, late_takes, mutex_begins, rw_begins, late_begins, mutex_ends, rw_ends, late_ends, mutex_wakes, rw_wakes, late_wakes, mutex_some, rw_some, rw_next_some, late_some, mutex_keys, rw_keys, late_keys}
 use Rattle.parking_lot_world.proofs.UpgradeStancing.{upgrade_leads, upgrade_takes, upgrade_begins, upgrade_ends, upgrade_wakes, upgrade_some, upgrade_keys}
 

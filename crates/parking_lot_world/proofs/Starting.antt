@@ -8,7 +8,7 @@ use Rattle.std.specs.Prelude.{get_or}
 use Rattle.std.proofs.Math.Nat.{suc-mul}
 use Rattle.parking_lot_core_lot.specs.declared.place.Waiter.{Waiter}
 use Rattle.parking_lot_core_lot.proofs.Numbers.{count_by-set, flag}
-use Rattle.parking_lot_rules.specs.Roles.{Role, Idle, Owned}
+use Rattle.parking_lot_rules.specs.Roles.{Role, Idle}
 use Rattle.parking_lot_rules.specs.Family.{IsFree, entered_after, Crossing}
 use Rattle.parking_lot_protocol.specs.declared.act.Act.{Act}
 use Rattle.parking_lot_protocol.specs.Acts.{word_after}

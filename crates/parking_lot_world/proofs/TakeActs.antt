@@ -7,8 +7,6 @@ use Rattle.parking_lot_core_lot.specs.Results.{is_left}
 use Rattle.parking_lot_core_lot.specs.Sound as lot
 use Rattle.parking_lot_core_lot.specs.declared.parking.FilterOp.TheVariants.{Unpark, Stop}
 use Rattle.parking_lot_protocol.specs.declared.act.ActResult.{ActResult}
-use Rattle.parking_lot_protocol.specs.declared.rw_phase.RwPhase.{RwPhase}
-use Rattle.parking_lot_protocol.specs.RwTable as of_rw
 use Rattle.parking_lot_world.proofs.KindTable.{RwCall, Simple, Upgradable, rw_call}
 use Rattle.parking_lot_world.proofs.RwScans.{scanner, takes_where}
 use Rattle.parking_lot_world.specs.declared.seat.Core.{Core}
@@ -16,7 +14,7 @@ use Rattle.parking_lot_world.specs.declared.open_call.Call.{Call}
 use Rattle.parking_lot_world.specs.Rows.{State, word_at, call_at, taken_by}
 use Rattle.parking_lot_world.specs.Stances.{Takes, Stores, Stance, In, Asleep, stance, core_act, core_next}
 use Rattle.parking_lot_world.specs.RowActs.{hears, key_of, off_list, took}
-use Rattle.parking_lot_world.specs.RowFits.{FitsTogether, IsPrepared, LotFits, PassesFit, RulesFit, rw_keeps}
+use Rattle.parking_lot_world.specs.RowFits.{FitsTogether, IsPrepared, LotFits, PassesFit, RulesFit}
 use Rattle.parking_lot_world.specs.ActLaws.{Acts}
 use Rattle.parking_lot_world.proofs.Stancing.{small_key, takings_count}
 use Rattle.parking_lot_world.specs.declared.seat.QueuePosition.TheVariants as spot
@@ -28,7 +26,6 @@ use Rattle.parking_lot_world.proofs.Ruling.{CallFits, fits_at, fits_next, rules_
 use Rattle.parking_lot_world.proofs.TakeParts.{IsOut, others_out, out_knows, took_told, TakesSo, the_sleeper, taker_after, sleeper_after, others_after, same_threads, wakes_after}
 use Rattle.parking_lot_world.proofs.TakeNext.{mutex_asks, takes_so}
 use Rattle.parking_lot_world.proofs.TakeJoins.{late_takes}
-use Rattle.parking_lot_world.proofs.RwTaking.{scans_go_by_tokens}
 use Rattle.parking_lot_world.proofs.Passing.{no_stop}
 use Rattle.parking_lot_world.proofs.PassingOn.{going_of, passes_taken}
 use Rattle.parking_lot_world.specs.Kinds.{recursive_in}

@@ -1,5 +1,5 @@
 -- A thread that takes whoever is first in a list makes a step of the rules, at a lock of either kind.
-use Rattle.std.proofs.Common.{◌≡◌, ◌≤◌, ℕ, ◌+◌, ◌*◌, inl, inr, true, false, List, [], ◌∷◌, ◌++◌, length, remove, Some, slice_get, refl, sym, ap, ◌∙◌, subst, arith}
+use Rattle.std.proofs.Common.{◌≡◌, ◌≤◌, ℕ, ◌+◌, ◌*◌, inl, inr, true, List, [], ◌∷◌, ◌++◌, length, remove, Some, slice_get, refl, sym, ap, ◌∙◌, subst, arith}
 use Rattle.std.proofs.lemmas.Bool.{both_ways}
 use Rattle.parking_lot_core_lot.specs.Machine.{threads_of}
 use Rattle.parking_lot_core_lot.specs.Results.{is_left}

@@ -1,5 +1,5 @@
 -- Who waits in a list of a reader-writer lock, and how it sleeps.
-use Rattle.std.proofs.Common.{◌≡◌, ℕ, ◌⊎◌, List, Some, slice_get, sym, ap, ◌∙◌}
+use Rattle.std.proofs.Common.{◌≡◌, ℕ, List, Some, slice_get, sym, ap, ◌∙◌}
 use Rattle.parking_lot_core_lot.specs.declared.place.Waiter.{Waiter}
 use Rattle.parking_lot_world.proofs.KindTable.{RwCall, of_rws, rw_call}
 use Rattle.parking_lot_world.proofs.Meeting.{meets}

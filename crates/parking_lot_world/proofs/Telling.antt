@@ -1,5 +1,5 @@
 -- Stores that tell those whom a thread has taken: steps of the rules at a lock of either kind.
-use Rattle.std.proofs.Common.{◌≡◌, ◌≢◌, ℕ, zero, suc, arith, ◌-◌, ◌^◌, ◌+◌, ◌*◌, ◌<◌, ◌⊎◌, inl, inr, cond, Bool, true, false, List, [], ◌∷◌, length, map, Option, Some, None, slice_get, slice_set, refl, sym, ap, ◌∙◌, subst}
+use Rattle.std.proofs.Common.{◌≡◌, ◌≢◌, ℕ, zero, suc, arith, ◌-◌, ◌^◌, ◌+◌, ◌*◌, ◌<◌, inl, inr, cond, Bool, true, false, List, [], ◌∷◌, length, map, Option, Some, None, slice_get, slice_set, refl, sym, ap, ◌∙◌, subst}
 use Rattle.std.proofs.lemmas.Bool.{cases_eq}
 use Rattle.std.proofs.lemmas.List.{length-map}
 use Rattle.std.specs.Option.{option_map, option_and_then}
@@ -159,7 +159,7 @@ module _ (s : State) (t : ℕ) (c : Call) (plain fair : WordChange) (is_fair : B
       let ready = subst (IsPrepared (recursive_in s.kinds c.lock) c.others) e (h.rules.prepared t c here) in
       let listed = awake_listed s h t c here (λ at park w. in_asleep (sym is ∙ ap stance (sym e) ∙ w)) in
       let skips = λ (u w : Bool) (passed : ArePassed (look_by u w) (s.lot.queues (2 * c.lock)) (length (s.lot.queues (2 * c.lock)))).
-          subst (AreSkipped u w l.roles l.first) (sym (length-map (s.lot.queues (2 * c.lock)) (λ (w : Waiter). w.thread))) (scans_go_by_tokens.skips l u w (s.lot.queues (2 * c.lock)) (length (s.lot.queues (2 * c.lock))) refl (want_as_told s h c.lock kind_is) passed) in
+      subst (AreSkipped u w l.roles l.first) (sym (length-map (s.lot.queues (2 * c.lock)) (λ (w : Waiter). w.thread))) (scans_go_by_tokens.skips l u w (s.lot.queues (2 * c.lock)) (length (s.lot.queues (2 * c.lock))) refl (want_as_told s h c.lock kind_is) passed) in
       let z = call_stores (recursive_in s.kinds c.lock) l t c.others c.spot taken y (word_at s c.lock) is_fair plain fair key c.lock s.lot.queues met ready listed is asks (left_threads (s.lot.queues (2 * c.lock))) skips (subst (λ (x : Core). KnowsList x s.lot.queues c.lock) e (h.rules.knows t c here)) in
       let says : mark_of (told_of token) ≡ ends_saying z.end = ap (λ (x : Core). mark_of (told_of (core_tells (core_next x heard)))) e ∙ z.says in
       let tells = leads_by (rw_call y) (Act.Section (section.Store plain fair)) (word_at s c.lock) heard asks tt in

@@ -1,6 +1,5 @@
 -- What an upgradable call keeps and knows from its beginning on.
-use Rattle.std.proofs.Common.{◌≡◌, ◌<◌, ◌≤◌, ℕ, ◌-◌, ◌^◌, nat_lt, Bool, true, false, cond, List, [], ◌∷◌, length, Some, None, refl, sym, ap, ◌∙◌, subst, arith}
-use Rattle.std.proofs.lemmas.Bool.{both_ways}
+use Rattle.std.proofs.Common.{◌≡◌, ◌≤◌, ℕ, ◌-◌, ◌^◌, nat_lt, List, [], ◌∷◌, length, Some, refl, sym, ◌∙◌, arith}
 use Rattle.parking_lot_core_lot.specs.declared.place.Waiter.{Waiter}
 use Rattle.parking_lot_protocol.specs.RwTable as rt
 use Rattle.parking_lot_protocol.specs.declared.act.ActResult.{ActResult}
@@ -16,7 +15,7 @@ use Rattle.parking_lot_world.specs.RwLaws.{count_shared}
 use Rattle.parking_lot_world.specs.Stances.{rw_taken, upgrade_taken}
 use Rattle.parking_lot_world.specs.UpgradeLaws.{UpgradesKeep, WantsTaken, upgrade_shared}
 use Rattle.parking_lot_world.proofs.UpgradeKeeping.{begins, goes_on}
-use Rattle.parking_lot_world.proofs.UpgradeParts.{PartLearns, PartTold, PartWants, frees_sums, frees_told, owes_sums, owes_told, part_keeps, part_knows, pick}
+use Rattle.parking_lot_world.proofs.UpgradeParts.{PartLearns, PartWants, frees_sums, frees_told, owes_sums, owes_told, part_keeps, part_knows, pick}
 
 -- OUTSIDE OF SECTIONS
 

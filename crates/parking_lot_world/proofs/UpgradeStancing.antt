@@ -19,7 +19,7 @@ use Rattle.parking_lot_protocol.specs.declared.act.SectionAct.TheVariants as sec
 use Rattle.parking_lot_protocol.specs.declared.rw_phase.AfterWake.{AfterWake}
 use Rattle.parking_lot_world.specs.Stances.{Out, Asleep, rw_stance, rw_taken, seeks_stance, upgrade_stance, upgrade_taken, upgrade_tells}
 use Rattle.parking_lot_world.specs.StanceLaws.{HasSmallKey, IsOver, Leads, TakesOne, rw_counts, upgrade_counts}
-use Rattle.parking_lot_world.proofs.PhaseStancing.{HasSome, IsEasy, IsPatient, IsUp, RwIdle, easy_some, next_so, not_asleep, pick, rw_begins, rw_ends, rw_keys, rw_leads, rw_next_some, rw_some, rw_takes, rw_wakes}
+use Rattle.parking_lot_world.proofs.PhaseStancing.{HasSome, IsEasy, IsPatient, easy_some, next_so, not_asleep, pick, rw_begins, rw_ends, rw_keys, rw_leads, rw_next_some, rw_some, rw_takes, rw_wakes}
 
 -- a phase outside, with nobody taken
 abbrev Idle : UpgradePhase → Type 0

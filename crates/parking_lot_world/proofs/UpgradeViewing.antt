@@ -1,6 +1,6 @@
 -- How the thread of an upgradable call owns its lock is what its role says.
-use Rattle.std.proofs.Common.{◌≡◌, ℕ, List, Some, None, refl, sym, ap, ◌∙◌}
-use Rattle.parking_lot_rules.specs.Roles.{Idle, Owed, Phase, Role, Scans1, Shares}
+use Rattle.std.proofs.Common.{◌≡◌, ℕ, List, None, refl, sym, ap, ◌∙◌}
+use Rattle.parking_lot_rules.specs.Roles.{Idle, Owed, Scans1, Shares}
 use Rattle.parking_lot_protocol.specs.Positions as positions
 use Rattle.parking_lot_protocol.specs.RwRules as rw
 use Rattle.parking_lot_protocol.specs.declared.rw_phase.RwPhase.{RwPhase}

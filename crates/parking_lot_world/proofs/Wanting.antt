@@ -1,5 +1,5 @@
 -- What those want that wait in a list.
-use Rattle.std.proofs.Common.{◌≡◌, ℕ, ◌*◌, inl, inr, List, Option, Some, slice_get, sym, ap, ◌∙◌, refl, subst, arith}
+use Rattle.std.proofs.Common.{◌≡◌, ℕ, ◌*◌, inr, List, Option, Some, slice_get, sym, ap, ◌∙◌, refl, subst, arith}
 use Rattle.std.proofs.lemmas.Option.{same_Some}
 use Rattle.parking_lot_core_lot.specs.declared.parking.FilterOp.{FilterOp}
 use Rattle.parking_lot_core_lot.specs.declared.parking.ParkToken.{ParkToken}

@@ -1,5 +1,5 @@
 -- What an upgradable call is told at a sound lock is a step of the rules there.
-use Rattle.std.specs.Prelude.{◌≡◌, ◌<◌, ◌≤◌, ◌-◌, ◌/◌, ◌^◌, ℕ, Bool, true, false, List, [], ◌∷◌, ◌++◌, length, map, remove, Some, slice_get, slice_set}
+use Rattle.std.specs.Prelude.{◌≡◌, ◌<◌, ◌≤◌, ◌-◌, ◌/◌, ◌^◌, ℕ, Bool, true, List, [], ◌∷◌, ◌++◌, length, map, remove, Some, slice_get, slice_set}
 use Rattle.parking_lot_core_lot.specs.Results.{is_left}
 use Rattle.parking_lot_rules.specs.Roles.{Owned, Shares, Excludes, Asleep, Idle, Open, Taken1, Role}
 use Rattle.parking_lot_rules.specs.Clauses.{word_of}
@@ -8,20 +8,17 @@ use Rattle.parking_lot_rules.specs.Lock.{Lock, IsSound}
 use Rattle.parking_lot_rules.specs.Steps.{Alone, List_changes, MayList, first_after, second_after, Scan, scanning, MayTake, Take1, IsOver, Store, ends_saying, settle, Waking, waking_from, waking_to, Wake}
 use Rattle.parking_lot_protocol.specs.Acts.{word_after}
 use Rattle.parking_lot_protocol.specs.RwRules.{Move, Stays, Makes, Joins, TakesOne, TakesWriter, Tells, WakesOne, IsWoken, mark_for}
-use Rattle.parking_lot_protocol.specs.RwTable.{count_of}
 use Rattle.parking_lot_protocol.specs.Positions.{QueuePosition, Listed, Off}
 use Rattle.parking_lot_protocol.specs.declared.act.Act.TheVariants.{Done}
 use Rattle.parking_lot_protocol.specs.declared.act.ActResult.{ActResult}
 use Rattle.parking_lot_protocol.specs.declared.act.ActResult.TheVariants as seen
 use Rattle.parking_lot_protocol.specs.declared.act.CoreAnswer.{CoreAnswer}
-use Rattle.parking_lot_protocol.specs.declared.rw_phase.RwPhase.{RwPhase}
-use Rattle.parking_lot_protocol.specs.declared.rw_phase.RwPhase.TheVariants as r
 use Rattle.parking_lot_upgrades.specs.declared.upgrade_phase.UpgradePhase.{UpgradePhase}
 use Rattle.parking_lot_upgrades.specs.declared.upgrade_phase.UpgradePhase.TheVariants as u
 use Rattle.parking_lot_upgrades.specs.UpgradeMoves.{move, last_move}
 use Rattle.parking_lot_upgrades.specs.UpgradeRoles.{owned, owns, role}
 use Rattle.parking_lot_upgrades.specs.UpgradeRules.{IsReady, IsTold}
-use Rattle.parking_lot_upgrades.specs.UpgradeTable.{act_of, is_again, next_phase}
+use Rattle.parking_lot_upgrades.specs.UpgradeTable.{act_of, next_phase}
 use Rattle.parking_lot_world.specs.RwLaws.{count_shared, Finds, IsLastStep, IsStep, with_role, with_roles}
 use Rattle.parking_lot_world.specs.Stances.{upgrade_begun}
 use Rattle.parking_lot_core_lot.specs.declared.parking.FilterOp.TheVariants.{Unpark}

@@ -26,8 +26,8 @@ pub use crate::starts::allowed_calls_begin_well;
 pub use crate::take_laws::takes_are_steps_of_the_machine;
 pub use crate::tell_laws::tells_are_steps;
 pub use crate::upgrade_laws::{
-    upgradable_answers_are_steps, upgradable_calls_keep,
-    upgradable_ends_are_steps, upgrade_steps_fall,
+    upgradable_answers_are_steps, upgradable_calls_keep, upgradable_ends_are_steps,
+    upgrade_steps_fall,
 };
 pub use crate::view_laws::modes_are_weighed;
 
