@@ -238,4 +238,5 @@ own-sees s u t fair x seen = by-core x.call.core refl
     by-core : (q : Core) → x.call.core ≡ q → Sees s t x.call
     by-core (Core.Mutex k) core = absurd (false≢true (sym (ap (λ q. has_seen (core_next q told.told)) core) ∙ told.seen))
     by-core (Core.Late p) core = absurd (false≢true (sym (ap (λ q. has_seen (core_next q told.told)) core ∙ late-unseen p told.told) ∙ told.seen))
+    by-core (Core.Upgrade k) core = absurd (false≢true (sym (ap (λ q. has_seen (core_next q told.told)) core) ∙ told.seen))
     by-core (Core.Rw k) core = by-phase k core k.phase refl
