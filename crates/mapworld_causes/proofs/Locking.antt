@@ -63,6 +63,13 @@ module _ (t : ℕ) where
   start-unseen k LockCall.TryWrite = refl
   start-unseen k LockCall.UnlockWrite = refl
   start-unseen k LockCall.Downgrade = refl
+  start-unseen k LockCall.UpgradableRead = refl
+  start-unseen k LockCall.TryUpgradableRead = refl
+  start-unseen k LockCall.UnlockUpgradable = refl
+  start-unseen k LockCall.Upgrade = refl
+  start-unseen k LockCall.TryUpgrade = refl
+  start-unseen k LockCall.DowngradeToUpgradable = refl
+  start-unseen k LockCall.DowngradeUpgradable = refl
 
   pub begins-blind : (shard : ℕ) (call : LockCall) (old new : Shown) → LockBegins t shard call old new → sees (call_at (state new.rows) t) ≡ false
   begins-blind shard call old new h =

@@ -136,6 +136,7 @@ module _ (sh : Shown) (fit : LocksFit sh) (t : ℕ) (c : Call) (here : call_at (
       by (Hold.Shares zero) some is = absurd (some refl)
       by (Hold.Shares (suc n)) some is = keeps held.Shared is
       by Hold.Excludes some is = keeps held.Exclusive is
+      by Hold.Upgrades some is = keeps held.Upgradable is
 
   pub around : IsAround sh i v
   around = by (call_at s v) refl
